@@ -1,0 +1,45 @@
+-- The laws of the fold that the code's own ways of folding rest on, and one of ranges.
+use Rattle.std.specs.Prelude.{◌≡◌, ℕ, List, [], ◌∷◌, ◌++◌, Option, Some, None, option_to_list, IfSome, IsTrue, filter_map, flat_map, ◌≤◌, nat_le, filter, ◌&&◌}
+use Rattle.std.specs.List.{AllByRecursion}
+use Rattle.std.specs.declared.ops.Bound.TheVariants.{Unbounded}
+use Rattle.slate_types.specs.declared.types.RowEntry.{RowEntry}
+use Rattle.slate_types.specs.declared.bytes_range.BytesRange.{BytesRange}
+use Rattle.slate_types.specs.Keys.{prefix_range, prefix_subrange, common_range, in_range}
+use Rattle.slate_types.specs.Rows.{is_base}
+use Rattle.slate_types.specs.Fold.{Combine, fold_rows, merge_all, IsShort, AreShort, IsLawful}
+
+-- Rows that stand together may be replaced by their fold, whatever older and newer rows there are.
+abbrev pub FoldsInPortions : Type 0
+FoldsInPortions = (c : Combine) → IsLawful c → (older middle newer : List RowEntry) → AreShort older → AreShort middle → AreShort newer →
+    fold_rows c (older ++ (middle ++ newer)) ≡ fold_rows c (older ++ (option_to_list (fold_rows c middle) ++ newer))
+
+-- Operands may be combined in pieces first, however they are cut.
+abbrev pub MergesInPieces : Type 0
+MergesInPieces = (c : Combine) → IsLawful c → (value : Option (List ℕ)) (pieces : List (List (List ℕ))) → IfSome value IsShort → AllByRecursion (λ p. AllByRecursion IsShort p) pieces →
+    merge_all c value (flat_map (λ p. p) pieces) ≡ merge_all c value (filter_map (λ p. merge_all c None p) pieces)
+
+-- A row that is no operand hides what is older.
+abbrev pub HidesOlder : Type 0
+HidesOlder = (c : Combine) (older newer : List RowEntry) (r : RowEntry) → IsTrue (is_base r) → fold_rows c (older ++ (r ∷ newer)) ≡ fold_rows c (r ∷ newer)
+
+-- No rows fold to none, and one row to itself.
+abbrev pub FoldsFew : Type 0
+FoldsFew = (c : Combine) → (fold_rows c [] ≡ None) × ((r : RowEntry) → fold_rows c (r ∷ []) ≡ Some r)
+
+-- The whole subrange of a prefix is the prefix's range.
+abbrev pub WholeIsThePrefix : Type 0
+WholeIsThePrefix = (p : List ℕ) → prefix_subrange p Unbounded Unbounded ≡ Some (prefix_range p)
+
+-- the rows at or below n
+abbrev pub rows_to : ℕ → List RowEntry → List RowEntry
+rows_to n rows = filter (λ r. nat_le r.seq n) rows
+
+-- Folding rows at or below a barrier changes nothing that is seen from the barrier on.
+abbrev pub FlushKeepsStates : Type 0
+FlushKeepsStates = (c : Combine) → IsLawful c → (barrier n : ℕ) → barrier ≤ n → (older low high : List RowEntry) → AreShort older → AreShort low → AreShort high →
+    AllByRecursion (λ r. r.seq ≤ barrier) low →
+    fold_rows c (rows_to n (older ++ (low ++ high))) ≡ fold_rows c (rows_to n (older ++ (option_to_list (fold_rows c low) ++ high)))
+
+-- A key is in the common range where it is in both.
+abbrev pub CommonIsBoth : Type 0
+CommonIsBoth = (a b r : BytesRange) (k : List ℕ) → common_range a b ≡ Some r → in_range r k ≡ (in_range a k && in_range b k)

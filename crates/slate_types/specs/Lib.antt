@@ -1,0 +1,7 @@
+pub mod Config
+pub mod Keys
+pub mod Rows
+pub mod Expiry
+pub mod Fold
+pub mod Join
+pub mod Laws

@@ -1,0 +1,8 @@
+//! The order in which rows are walked.
+
+/// By key upwards, or by key downwards.
+#[derive(Clone, Copy, Debug, PartialEq, Eq)]
+pub enum IterationOrder {
+    Ascending,
+    Descending,
+}

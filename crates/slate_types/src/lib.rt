@@ -1,0 +1,20 @@
+//! Rows, ranges, options and errors: the vocabulary that every crate above shares.
+#![tactic(auto)]
+
+pub mod bytes_range;
+pub mod config;
+pub mod error;
+pub mod filter_policy;
+pub mod iter;
+pub mod laws;
+pub mod types;
+
+pub use bytes_range::BytesRange;
+pub use config::{
+    BlockFormat, CompressionCodec, IsolationLevel, MergeOptions, Options, PutOptions, ReadOptions,
+    ScanOptions, Ttl, WriteOptions,
+};
+pub use error::SlateDBError;
+pub use filter_policy::{FilterContext, FilterQuery, PrefixTarget};
+pub use iter::IterationOrder;
+pub use types::{KeyValue, RowEntry, Ulid, ValueDeletable};
