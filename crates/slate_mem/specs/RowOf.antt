@@ -1,5 +1,5 @@
 -- The rows that operations make.
---     commit_row k n default now op      an operation of the commit n, made at `now`
+--     op_row k n default now op      an operation of the commit n, made at `now`
 --     own_row k op      an operation that is not committed: above all sequences, without stamps
 --     row_of c default n now ops k      the row of a commit for a key, and none where the batch does not hold it
 use Rattle.std.specs.Prelude.{ℕ, ◌-◌, ◌^◌, List, map, Option, Some, None, ℤ}
@@ -12,11 +12,11 @@ use Rattle.slate_mem.specs.Batch.{Ops, op_value, op_ttl, kept}
 abbrev pub op_expiry : Option ℕ → ℤ → WriteOp → Option ℤ
 op_expiry default_millis now op = expiry (op_ttl op) default_millis now
 
-abbrev pub commit_row : List ℕ → ℕ → Option ℕ → ℤ → WriteOp → RowEntry
-commit_row k n default_millis now op = record { key = k; value = op_value op; seq = n; create_ts = Some now; expire_ts = op_expiry default_millis now op }
+abbrev pub op_row : List ℕ → ℕ → Option ℕ → ℤ → WriteOp → RowEntry
+op_row k n default_millis now op = record { key = k; value = op_value op; seq = n; create_ts = Some now; expire_ts = op_expiry default_millis now op }
 
 abbrev pub own_row : List ℕ → WriteOp → RowEntry
 own_row k op = record { key = k; value = op_value op; seq = 2 ^ 64 - 1; create_ts = None; expire_ts = None }
 
 abbrev pub row_of : Combine → Option ℕ → ℕ → ℤ → Ops → List ℕ → Option RowEntry
-row_of c default_millis n now ops k = fold_rows c (map (commit_row k n default_millis now) (kept ops k))
+row_of c default_millis n now ops k = fold_rows c (map (op_row k n default_millis now) (kept ops k))

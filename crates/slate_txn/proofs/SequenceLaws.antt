@@ -17,7 +17,7 @@ use Rattle.slate_txn.specs.State.{Rules, Commit, Tx, State, last_of, is_open}
 use Rattle.slate_txn.specs.Conflict.{tracked_writes}
 use Rattle.slate_txn.specs.Refusals.{first_refusal, op_refusal, operator_refusal, commit_refusal, write_refusal}
 use Rattle.slate_txn.specs.Reply.{Reply, Committed, Written}
-use Rattle.slate_txn.specs.Step.{step, after, unless, on_tx, closed, Reader, reader, get, scan, operate, change, taken_on, replied, commit}
+use Rattle.slate_txn.specs.Step.{step, after, refused_or, of_open, closed, Reader, reader, get, scan, operate, change, as_commit, with_reply, commit}
 use Rattle.slate_txn.specs.Replay.{apply, apply_all, Allowed, LegalFrom, ids_of}
 use Rattle.slate_txn.specs.Laws.{Counts}
 
@@ -49,15 +49,15 @@ legal-counts n0 (e ∷ es) s used h legal = legal-counts n0 es (apply s e) (ids_
 abbrev Good : Rules → State × Reply → Type 0
 Good r p = Counts r.start_seq p.0.commits
 
-good-unless : (r : Rules) (e : Option SlateDBError) (s : State) (p : State × Reply) → Counts r.start_seq s.commits → Good r p → Good r (unless e s p)
-good-unless r None s p h g = g
-good-unless r (Some e) s p h g = h
+good-refused_or : (r : Rules) (e : Option SlateDBError) (s : State) (p : State × Reply) → Counts r.start_seq s.commits → Good r p → Good r (refused_or e s p)
+good-refused_or r None s p h g = g
+good-refused_or r (Some e) s p h g = h
 
 good-cond : (r : Rules) (b : Bool) (p q : State × Reply) → Good r p → Good r q → Good r (cond b p q)
 good-cond r true p q h g = h
 good-cond r false p q h g = g
 
-good-taken : (r : Rules) (s : State) (made : Option ℕ → Reply) (os : Ops) (tracked : List (List ℕ)) → Counts r.start_seq s.commits → Good r (replied made (taken_on r s os tracked))
+good-taken : (r : Rules) (s : State) (made : Option ℕ → Reply) (os : Ops) (tracked : List (List ℕ)) → Counts r.start_seq s.commits → Good r (with_reply made (as_commit r s os tracked))
 good-taken r s made [] tracked h = h
 good-taken r s made (o ∷ os) tracked h = counts-more r.start_seq s.commits _ h refl
 
@@ -79,9 +79,9 @@ good-change : (r : Rules) (s : State) (name : List ℕ) (f : Tx → Tx) (t : Opt
 good-change r s name f None h = h
 good-change r s name f (Some t) h = h
 
-good-commit : (r : Rules) (s : State) (name : List ℕ) (t : Option Tx) → Counts r.start_seq s.commits → Good r (on_tx s name t (commit r s name))
+good-commit : (r : Rules) (s : State) (name : List ℕ) (t : Option Tx) → Counts r.start_seq s.commits → Good r (of_open s name t (commit r s name))
 good-commit r s name None h = h
-good-commit r s name (Some t) h = good-unless r (commit_refusal r s t) (closed s name) _ h (good-taken r (closed s name) Committed t.ops (tracked_writes t) h)
+good-commit r s name (Some t) h = good-refused_or r (commit_refusal r s t) (closed s name) _ h (good-taken r (closed s name) Committed t.ops (tracked_writes t) h)
 
 step-counts : (r : Rules) (s : State) (l : Line) → Counts r.start_seq s.commits → Good r (step r s l)
 step-counts r s (lines.Now m) h = h
@@ -97,7 +97,7 @@ step-counts r s (lines.Mark name ks) h = good-change r s name _ (find_named name
 step-counts r s (lines.Unmark name ks) h = good-change r s name _ (find_named name s.txns) h
 step-counts r s (lines.Commit name) h = good-commit r s name (find_named name s.txns) h
 step-counts r s (lines.Rollback name) h = good-cond r (is_open s name) _ _ h h
-step-counts r s (lines.Write batch) h = good-unless r (write_refusal r s batch) s _ h (good-taken r s Written batch (batch_keys batch) h)
+step-counts r s (lines.Write batch) h = good-refused_or r (write_refusal r s batch) s _ h (good-taken r s Written batch (batch_keys batch) h)
 step-counts r s lines.Freeze h = h
 step-counts r s lines.Flush h = h
 step-counts r s lines.Journal h = h

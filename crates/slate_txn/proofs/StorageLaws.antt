@@ -15,7 +15,7 @@ use Rattle.slate_txn.specs.State.{Rules, Tx, State, is_open}
 use Rattle.slate_txn.specs.Conflict.{tracked_writes}
 use Rattle.slate_txn.specs.Refusals.{first_refusal, op_refusal, operator_refusal, commit_refusal, write_refusal}
 use Rattle.slate_txn.specs.Reply.{Reply, Committed, Written}
-use Rattle.slate_txn.specs.Step.{step, answers, unless, on_tx, closed, Reader, reader, get, scan, operate, change, taken_on, replied, commit}
+use Rattle.slate_txn.specs.Step.{step, answers, refused_or, of_open, closed, Reader, reader, get, scan, operate, change, as_commit, with_reply, commit}
 use Rattle.slate_txn.specs.Laws.{is_storage, other_answers}
 
 abbrev flushed_at : ℕ → State → State
@@ -25,17 +25,17 @@ flushed_at n s = record s { flushed = n }
 abbrev Alike : State × Reply → State × Reply → Type 0
 Alike p q = (p.1 ≡ q.1) × (m : ℕ) × (p.0 ≡ flushed_at m q.0)
 
-alike-unless : (e : Option SlateDBError) (n : ℕ) (s : State) (p q : State × Reply) → Alike p q → Alike (unless e (flushed_at n s) p) (unless e s q)
-alike-unless None n s p q h = h
-alike-unless (Some e) n s p q h = (refl, n, refl)
+alike-refused_or : (e : Option SlateDBError) (n : ℕ) (s : State) (p q : State × Reply) → Alike p q → Alike (refused_or e (flushed_at n s) p) (refused_or e s q)
+alike-refused_or None n s p q h = h
+alike-refused_or (Some e) n s p q h = (refl, n, refl)
 
 alike-cond : (b : Bool) (p q p' q' : State × Reply) → Alike p q → Alike p' q' → Alike (cond b p p') (cond b q q')
 alike-cond true p q p' q' h k = h
 alike-cond false p q p' q' h k = k
 
-alike-on_tx : (n : ℕ) (s : State) (name : List ℕ) (t : Option Tx) (f g : Tx → State × Reply) → ((u : Tx) → Alike (f u) (g u)) → Alike (on_tx (flushed_at n s) name t f) (on_tx s name t g)
-alike-on_tx n s name None f g h = (refl, n, refl)
-alike-on_tx n s name (Some u) f g h = h u
+alike-of_open : (n : ℕ) (s : State) (name : List ℕ) (t : Option Tx) (f g : Tx → State × Reply) → ((u : Tx) → Alike (f u) (g u)) → Alike (of_open (flushed_at n s) name t f) (of_open s name t g)
+alike-of_open n s name None f g h = (refl, n, refl)
+alike-of_open n s name (Some u) f g h = h u
 
 alike-get : (r : Rules) (n : ℕ) (s : State) (name k : List ℕ) (from : Option Reader) → Alike (get r (flushed_at n s) name k from) (get r s name k from)
 alike-get r n s name k None = (refl, n, refl)
@@ -47,14 +47,14 @@ alike-scan r n s name order range sts None = (refl, n, refl)
 alike-scan r n s name order None sts (Some from) = (refl, n, refl)
 alike-scan r n s name order (Some range) sts (Some from) = (refl, n, refl)
 
-alike-taken : (r : Rules) (n : ℕ) (s : State) (made : Option ℕ → Reply) (os : Ops) (tracked : List (List ℕ)) → Alike (replied made (taken_on r (flushed_at n s) os tracked)) (replied made (taken_on r s os tracked))
+alike-taken : (r : Rules) (n : ℕ) (s : State) (made : Option ℕ → Reply) (os : Ops) (tracked : List (List ℕ)) → Alike (with_reply made (as_commit r (flushed_at n s) os tracked)) (with_reply made (as_commit r s os tracked))
 alike-taken r n s made [] tracked = (refl, n, refl)
 alike-taken r n s made (o ∷ os) tracked = (refl, n, refl)
 
 alike-commit : (r : Rules) (n : ℕ) (s : State) (name : List ℕ) (t : Tx) → Alike (commit r (flushed_at n s) name t) (commit r s name t)
 alike-commit r n s name t =
-    alike-unless (commit_refusal r s t) n (closed s name) (replied Committed (taken_on r (closed (flushed_at n s) name) t.ops (tracked_writes t)))
-    (replied Committed (taken_on r (closed s name) t.ops (tracked_writes t))) (alike-taken r n (closed s name) Committed t.ops (tracked_writes t))
+    alike-refused_or (commit_refusal r s t) n (closed s name) (with_reply Committed (as_commit r (closed (flushed_at n s) name) t.ops (tracked_writes t)))
+    (with_reply Committed (as_commit r (closed s name) t.ops (tracked_writes t))) (alike-taken r n (closed s name) Committed t.ops (tracked_writes t))
 
 alike-operate : (n : ℕ) (s : State) (name k : List ℕ) (op : WriteOp) (e : Option SlateDBError) (t : Option Tx) → Alike (operate (flushed_at n s) name k op e t) (operate s name k op e t)
 alike-operate n s name k op e None = (refl, n, refl)
@@ -77,10 +77,10 @@ alike-step r n s (lines.Merge name k v ttl) = alike-operate n s name k _ (first_
 alike-step r n s (lines.Delete name k) = alike-operate n s name k _ (op_refusal k ops.Delete) (find_named name s.txns)
 alike-step r n s (lines.Mark name ks) = alike-change n s name _ (find_named name s.txns)
 alike-step r n s (lines.Unmark name ks) = alike-change n s name _ (find_named name s.txns)
-alike-step r n s (lines.Commit name) = alike-on_tx n s name (find_named name s.txns) (commit r (flushed_at n s) name) (commit r s name) (alike-commit r n s name)
+alike-step r n s (lines.Commit name) = alike-of_open n s name (find_named name s.txns) (commit r (flushed_at n s) name) (commit r s name) (alike-commit r n s name)
 alike-step r n s (lines.Rollback name) = alike-cond (is_open s name) _ _ _ _ (refl, n, refl) (refl, n, refl)
 alike-step r n s (lines.Write batch) =
-    alike-unless (write_refusal r s batch) n s (replied Written (taken_on r (flushed_at n s) batch (batch_keys batch))) (replied Written (taken_on r s batch (batch_keys batch)))
+    alike-refused_or (write_refusal r s batch) n s (with_reply Written (as_commit r (flushed_at n s) batch (batch_keys batch))) (with_reply Written (as_commit r s batch (batch_keys batch)))
     (alike-taken r n s Written batch (batch_keys batch))
 alike-step r n s lines.Freeze = (refl, n, refl)
 alike-step r n s lines.Flush = (refl, (step r s lines.Flush).0.flushed, refl)

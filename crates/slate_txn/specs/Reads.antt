@@ -24,14 +24,14 @@ use Rattle.slate_txn.specs.State.{Rules, Commit, combine_at}
 abbrev pub up_to : ℕ → List Commit → List Commit
 up_to n cs = filter (λ c. nat_le c.seq n) cs
 
-abbrev pub commit_rows : Rules → List ℕ → List Commit → List RowEntry
-commit_rows r k cs = filter_map (λ c. row_of (combine_at r k) r.default_millis c.seq c.now c.ops k) cs
+abbrev pub key_rows : Rules → List ℕ → List Commit → List RowEntry
+key_rows r k cs = filter_map (λ c. row_of (combine_at r k) r.default_millis c.seq c.now c.ops k) cs
 
 abbrev pub state_at : Rules → List Commit → ℕ → List ℕ → Option RowEntry
-state_at r cs n k = shown (combine_at r k) (commit_rows r k (up_to n cs))
+state_at r cs n k = shown (combine_at r k) (key_rows r k (up_to n cs))
 
 abbrev pub seen : Rules → List Commit → ℕ → Ops → List ℕ → Option RowEntry
-seen r cs n ops k = shown (combine_at r k) (commit_rows r k (up_to n cs) ++ map (own_row k) (kept ops k))
+seen r cs n ops k = shown (combine_at r k) (key_rows r k (up_to n cs) ++ map (own_row k) (kept ops k))
 
 abbrev pub keys_seen : List Commit → ℕ → Ops → List (List ℕ)
 keys_seen cs n ops = keys_set (flat_map (λ c. batch_keys c.ops) (up_to n cs) ++ batch_keys ops)

@@ -23,13 +23,13 @@ use Rattle.slate_txn.specs.Refusals.{first_refusal, op_refusal, operator_refusal
 use Rattle.slate_txn.specs.Reply.{Reply, Done, Refused, NowIs, Begun, SnapshotAt, Found, RowsAre, Committed, Written, Frozen, Flushed, JournalIs}
 
 -- A refusal leaves the state unchanged.
-abbrev pub unless : Option SlateDBError → State → State × Reply → State × Reply
-unless None s answer = answer
-unless (Some e) s answer = (s, Refused e)
+abbrev pub refused_or : Option SlateDBError → State → State × Reply → State × Reply
+refused_or None s answer = answer
+refused_or (Some e) s answer = (s, Refused e)
 
-abbrev pub on_tx : State → List ℕ → Option Tx → (Tx → State × Reply) → State × Reply
-on_tx s name None answer = (s, Refused (UnknownTransaction name))
-on_tx s name (Some t) answer = answer t
+abbrev pub of_open : State → List ℕ → Option Tx → (Tx → State × Reply) → State × Reply
+of_open s name None answer = (s, Refused (UnknownTransaction name))
+of_open s name (Some t) answer = answer t
 
 -- ---- names
 
@@ -89,7 +89,7 @@ abbrev pub with_op : List ℕ → WriteOp → Tx → Tx
 with_op k op t = record t { ops = t.ops ++ ((k, op) ∷ []); transcript = t.transcript ++ (steps.Own k op ∷ []) }
 
 abbrev pub operate : State → List ℕ → List ℕ → WriteOp → Option SlateDBError → Option Tx → State × Reply
-operate s name k op refusal t = on_tx s name t (λ _. unless refusal s
+operate s name k op refusal t = of_open s name t (λ _. refused_or refusal s
     (record s { txns = update_named name (with_op k op) s.txns }, Done))
 
 abbrev pub with_marks : List (List ℕ) → Tx → Tx
@@ -99,7 +99,7 @@ abbrev pub with_unmarks : List (List ℕ) → Tx → Tx
 with_unmarks ks t = record t { unmarked = t.unmarked ++ ks }
 
 abbrev pub change : State → List ℕ → (Tx → Tx) → Option Tx → State × Reply
-change s name f t = on_tx s name t (λ _. (record s { txns = update_named name f s.txns }, Done))
+change s name f t = of_open s name t (λ _. (record s { txns = update_named name f s.txns }, Done))
 
 -- ---- commits
 
@@ -107,19 +107,19 @@ abbrev pub with_commit : Rules → State → Ops → List (List ℕ) → State
 with_commit r s ops tracked = record s { commits = s.commits ++ (record { seq = last r s + 1; now = s.now; ops = kept_ops ops; tracked = tracked } ∷ []) }
 
 -- what a batch makes of the state, and its sequence; an empty one makes nothing
-abbrev pub taken_on : Rules → State → Ops → List (List ℕ) → State × Option ℕ
-taken_on r s [] tracked = (s, None)
-taken_on r s (o ∷ os) tracked = (with_commit r s (o ∷ os) tracked, Some (last r s + 1))
+abbrev pub as_commit : Rules → State → Ops → List (List ℕ) → State × Option ℕ
+as_commit r s [] tracked = (s, None)
+as_commit r s (o ∷ os) tracked = (with_commit r s (o ∷ os) tracked, Some (last r s + 1))
 
-abbrev pub replied : (Option ℕ → Reply) → State × Option ℕ → State × Reply
-replied made p = (p.0, made p.1)
+abbrev pub with_reply : (Option ℕ → Reply) → State × Option ℕ → State × Reply
+with_reply made p = (p.0, made p.1)
 
 -- A refused commit closes its transaction.
 abbrev pub commit : Rules → State → List ℕ → Tx → State × Reply
-commit r s name t = unless (commit_refusal r s t) (closed s name) (replied Committed (taken_on r (closed s name) t.ops (tracked_writes t)))
+commit r s name t = refused_or (commit_refusal r s t) (closed s name) (with_reply Committed (as_commit r (closed s name) t.ops (tracked_writes t)))
 
 abbrev pub write : Rules → State → Ops → State × Reply
-write r s ops = unless (write_refusal r s ops) s (replied Written (taken_on r s ops (batch_keys ops)))
+write r s ops = refused_or (write_refusal r s ops) s (with_reply Written (as_commit r s ops (batch_keys ops)))
 
 abbrev pub step : Rules → State → Line → State × Reply
 step r s (lines.Now m) = (record s { now = m }, NowIs m)
@@ -133,7 +133,7 @@ step r s (lines.Merge name k v ttl) = operate s name k (ops.Merge v (record { tt
 step r s (lines.Delete name k) = operate s name k ops.Delete (op_refusal k ops.Delete) (find_named name s.txns)
 step r s (lines.Mark name ks) = change s name (with_marks ks) (find_named name s.txns)
 step r s (lines.Unmark name ks) = change s name (with_unmarks ks) (find_named name s.txns)
-step r s (lines.Commit name) = on_tx s name (find_named name s.txns) (commit r s name)
+step r s (lines.Commit name) = of_open s name (find_named name s.txns) (commit r s name)
 step r s (lines.Rollback name) = if is_open s name then (closed s name, Done) else (s, Refused (UnknownTransaction name))
 step r s (lines.Write batch) = write r s batch
 step r s lines.Freeze = (s, Frozen (last r s))

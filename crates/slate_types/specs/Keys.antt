@@ -28,15 +28,15 @@ abbrev pub among : List ℕ → List (List ℕ) → Bool
 among k ks = list_any (λ x. bytes_eq x k) ks
 
 -- one of three, by an order
-abbrev pub by_order : {X : Type 0} → Ordering → X → X → X → X
-by_order Less x y z = x
-by_order Equal x y z = y
-by_order Greater x y z = z
+abbrev pub compare_by : {X : Type 0} → Ordering → X → X → X → X
+compare_by Less x y z = x
+compare_by Equal x y z = y
+compare_by Greater x y z = z
 
 -- ks with k, where ks rises
 abbrev pub insert_key : List ℕ → List (List ℕ) → List (List ℕ)
 insert_key k [] = k ∷ []
-insert_key k (x ∷ xs) = by_order (key_cmp k x) (k ∷ x ∷ xs) (x ∷ xs) (x ∷ insert_key k xs)
+insert_key k (x ∷ xs) = compare_by (key_cmp k x) (k ∷ x ∷ xs) (x ∷ xs) (x ∷ insert_key k xs)
 
 -- the keys in rising order, each once
 abbrev pub keys_set : List (List ℕ) → List (List ℕ)
