@@ -1,4 +1,5 @@
 pub mod Config
+pub mod Faults
 pub mod Keys
 pub mod Rows
 pub mod Expiry
