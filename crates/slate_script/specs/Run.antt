@@ -1,0 +1,74 @@
+-- What a run makes of a script.
+--     rules_of o      what the model knows of the options
+--     is_line l, first_other ls      a line that is silent or means something; the number, from 1, of the first that is neither
+--     lines_taken script      the lines that a run can take: of a script that is too long, the whole lines within the limit
+--     script_error script      the error that the script itself ends a run with
+--     HasAnswered r script said      what was written is the replies to the first lines
+--     HasBegun r script said      the same, and a front of one reply more
+use Rattle.std.specs.Prelude.{◌≡◌, ◌≢◌, ℕ, suc, ◌+◌, ◌-◌, ◌^◌, ◌<◌, ◌⊎◌, Bool, ◌||◌, if◌then◌else◌, nat_lt, List, [], ◌∷◌, ◌++◌, length, take, Option, Some, None, is_some, option_map, IsTrue}
+use Rattle.std.specs.List.{AllByRecursion}
+use Rattle.slate_types.specs.declared.config.Options.{Options}
+use Rattle.slate_types.specs.declared.error.SlateDBError.{SlateDBError}
+use Rattle.slate_types.specs.declared.error.SlateDBError.TheVariants.{ScriptSyntax, ScriptTooLong, OutOfMemory, ReadFault, WriteFault}
+use Rattle.slate_store.specs.Lines.{lines_of, whole_part, script_limit, HasNoEnd}
+use Rattle.slate_txn.specs.State.{Rules}
+use Rattle.slate_script.specs.Stage.{meaning}
+use Rattle.slate_script.specs.Replies.{is_silent, replies_to}
+
+abbrev pub rules_of : Options → Rules
+rules_of o = record { default_millis = o.default_ttl_millis; start_seq = o.start_seq; combine = None; segment = None }
+
+abbrev pub is_line : List ℕ → Bool
+is_line l = is_silent l || is_some (meaning l)
+
+abbrev pub first_other : List (List ℕ) → Option ℕ
+first_other [] = None
+first_other (l ∷ ls) = if is_line l then option_map suc (first_other ls) else Some 1
+
+abbrev pub is_too_long : List ℕ → Bool
+is_too_long script = nat_lt (script_limit - 1) (length script)
+
+abbrev pub lines_taken : List ℕ → List (List ℕ)
+lines_taken script = if is_too_long script then lines_of (whole_part (take script_limit script)) else lines_of script
+
+abbrev pub error_of : Option ℕ → Bool → Option SlateDBError
+error_of (Some n) long = Some (ScriptSyntax n)
+error_of None long = if long then Some ScriptTooLong else None
+
+abbrev pub script_error : List ℕ → Option SlateDBError
+script_error script = error_of (first_other (lines_taken script)) (is_too_long script)
+
+-- errors that a source, a sink or memory brings
+abbrev pub IsOutside : SlateDBError → Type 0
+IsOutside e = (e ≡ OutOfMemory) ⊎ (e ≡ ReadFault) ⊎ (e ≡ WriteFault)
+
+abbrev pub AreLines : List (List ℕ) → Type 0
+AreLines ls = AllByRecursion (λ l. IsTrue (is_line l)) ls
+
+-- done: the lines that were answered
+pub record HasAnswered (r : Rules) (script said : List ℕ) : Type 0 where
+  pub done : List (List ℕ)
+  pub later : List (List ℕ)
+  pub first : lines_of script ≡ done ++ later
+  pub meant : AreLines done
+  pub all : said ≡ replies_to meaning r done
+
+-- line: the one whose reply was being written
+pub record HasBegun (r : Rules) (script said : List ℕ) : Type 0 where
+  pub done : List (List ℕ)
+  pub line : List ℕ
+  pub later : List (List ℕ)
+  pub first : lines_of script ≡ done ++ (line ∷ later)
+  pub meant : AreLines (done ++ (line ∷ []))
+  pub missing : List ℕ
+  pub some : missing ≢ []
+  pub part : said ++ missing ≡ replies_to meaning r (done ++ (line ∷ []))
+  pub begun : List ℕ
+  pub before : said ≡ replies_to meaning r done ++ begun
+
+-- what a source that failed has given: all whole lines of it were answered
+pub record HasAnsweredAll (r : Rules) (script left said : List ℕ) : Type 0 where
+  pub given : List ℕ
+  pub split : script ≡ given ++ left
+  pub meant : AreLines (lines_of (whole_part given))
+  pub all : said ≡ replies_to meaning r (lines_of (whole_part given))
