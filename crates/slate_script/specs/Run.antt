@@ -66,9 +66,11 @@ pub record HasBegun (r : Rules) (script said : List ℕ) : Type 0 where
   pub begun : List ℕ
   pub before : said ≡ replies_to meaning r done ++ begun
 
--- what a source that failed has given: all whole lines of it were answered
+-- what a source that failed has given: all whole lines of it were answered, and a last one without LF only at its end
 pub record HasAnsweredAll (r : Rules) (script left said : List ℕ) : Type 0 where
   pub given : List ℕ
   pub split : script ≡ given ++ left
-  pub meant : AreLines (lines_of (whole_part given))
-  pub all : said ≡ replies_to meaning r (lines_of (whole_part given))
+  pub done : List ℕ
+  pub whole : (done ≡ whole_part given) ⊎ ((done ≡ given) × (left ≡ []))
+  pub meant : AreLines (lines_of done)
+  pub all : said ≡ replies_to meaning r (lines_of done)
