@@ -2,7 +2,7 @@
 --     Stands script done left      what was given of the script is whole lines, or all of it
 --     IsAt ..      all lines that were given are answered
 --     Took ..      a line was given, and isn't answered yet
-use Rattle.std.proofs.Common.{◌≡◌, ◌≢◌, ℕ, suc, ◌+◌, ◌-◌, ◌^◌, ◌≤◌, ◌<◌, Bool, true, false, cond, not, ◌&&◌, ◌||◌, ◌⊎◌, inl, inr, List, [], ◌∷◌, ◌++◌, length, take, drop, ltb, Option, Some, None, option_map, is_some, IsTrue, refl, sym, ap, subst, ◌∙◌, arith, append_assoc}
+use Rattle.std.proofs.Common.{◌≡◌, ◌≢◌, ℕ, suc, ◌+◌, ◌-◌, ◌^◌, ◌≤◌, ◌<◌, Bool, true, false, cond, not, ◌&&◌, ◌||◌, ◌⊎◌, inl, inr, List, [], ◌∷◌, ◌++◌, length, take, drop, ltb, Option, Some, None, option_map, is_some, MatchOption, IsTrue, refl, sym, ap, subst, ◌∙◌, arith, append_assoc}
 use Rattle.std.proofs.lemmas.List.{append-nil, length-append, take-append-drop, length-drop}
 use Rattle.std.proofs.lemmas.Bool.{lt-ltb, le-ltb, ltb-false}
 use Rattle.std.proofs.Math.Seq.{take-append_seam, take-append-add}
@@ -148,7 +148,7 @@ ends script done left rest old new h counts is =
     second [] b h = h
     second (x ∷ a) b h = cc
 
-first-empty : (a b : List ℕ) → a ++ b ≡ [] → a ≡ []
+pub first-empty : (a b : List ℕ) → a ++ b ≡ [] → a ≡ []
 first-empty [] b h = refl
 first-empty (x ∷ a) b h = cc
 
@@ -282,3 +282,22 @@ answer-it r script line source told sink after m number e new took is stands say
       ∙ ap Some (append_assoc before (replies_to meaning r (lines_of took.done)) (replies_from meaning r (after_lines meaning r opening (lines_of took.done)) (line ∷ []))
       ∙ ap (λ bs. before ++ bs) (sym (ap (replies_to meaning r) took.lines ∙ replies-append r opening (lines_of took.done) (line ∷ []) took.meant)));
 }
+
+-- ---- what the reader answered
+
+pub took-told : {V : Type 0} {r : Rules} {script : List ℕ} {source told sink : Option (List ℕ)} {old : LinesModel} {number : ℕ} {e : EngineModel} (items : V → List ℕ) (o : Option V) (v : V) (line : List ℕ) (after : Option (List ℕ)) (new : LinesModel)
+    → ((left : List ℕ) → source ≡ Some left → (rest : List ℕ) × (after ≡ Some rest) × MatchOption o (IsEnd old left new rest) (λ l. GivesLine (items l) old left new rest))
+    → new.given + length new.held ≤ script_limit → o ≡ Some v → line ≡ items v → IsAt r script source told sink old number e → Took r script after told sink new line (number + 1) e
+took-told {r = r} {script = script} {source = source} {told = told} {sink = sink} {old = old} {number = number} {e = e} items o v line after new tells within some is at =
+    let gave = tells at.left at.rest in
+    let gives : GivesLine line old at.left new gave.0 =
+        subst (λ l. GivesLine l old at.left new gave.0) (sym is) (subst (λ p. MatchOption p (IsEnd old at.left new gave.0) (λ l. GivesLine (items l) old at.left new gave.0)) some gave.2) in
+    let bound : new.given ≤ script_limit = omega arith in
+    take-line r script line source told sink after old new number e at gave.0 gave.1 gives bound
+
+pub end-told : {V : Type 0} {r : Rules} {script : List ℕ} {source told sink : Option (List ℕ)} {old : LinesModel} {number : ℕ} {e : EngineModel} (items : V → List ℕ) (o : Option V) (after : Option (List ℕ)) (new : LinesModel)
+    → ((left : List ℕ) → source ≡ Some left → (rest : List ℕ) × (after ≡ Some rest) × MatchOption o (IsEnd old left new rest) (λ l. GivesLine (items l) old left new rest))
+    → o ≡ None → (at : IsAt r script source told sink old number e) → (rest : List ℕ) × (after ≡ Some rest) × IsEnd old at.left new rest
+end-told {old = old} items o after new tells none at =
+    let gave = tells at.left at.rest in
+    (gave.0, gave.1, subst (λ p. MatchOption p (IsEnd old at.left new gave.0) (λ l. GivesLine (items l) old at.left new gave.0)) none gave.2)
