@@ -1,6 +1,7 @@
 -- How a run ends: at an error of the reader, at a line that isn't answered, and at the end of the script.
 use Rattle.std.proofs.Common.{◌≡◌, ◌≢◌, ℕ, ◌+◌, ◌≤◌, ◌<◌, true, false, ◌⊎◌, inl, inr, List, [], ◌∷◌, ◌++◌, length, take, drop, Option, Some, None, IsTrue, refl, sym, ap, subst, ◌∙◌, arith, append_assoc}
 use Rattle.std.proofs.lemmas.List.{append-nil, length-append, take-append-drop, length-drop}
+use Rattle.std.proofs.Math.Seq.{drop-append_seam}
 use Rattle.slate_types.specs.declared.error.SlateDBError.{SlateDBError}
 use Rattle.slate_types.specs.declared.error.SlateDBError.TheVariants.{ScriptSyntax, ScriptTooLong, OutOfMemory, ReadFault, WriteFault}
 use Rattle.slate_types.specs.Faults.{Rose}
@@ -9,7 +10,7 @@ use Rattle.slate_txn.specs.State.{Rules, State, opening}
 use Rattle.slate_script.specs.Stage.{meaning}
 use Rattle.slate_script.specs.Replies.{after_lines, replies_from, replies_to, replies, IsWellFormed}
 use Rattle.slate_script.specs.Engine.{EngineModel, StandsFor}
-use Rattle.slate_script.specs.Run.{is_line, first_other, is_too_long, lines_taken, error_of, script_error, IsOutside, AreLines, HasAnswered, HasBegun, HasAnsweredAll}
+use Rattle.slate_script.specs.Run.{is_line, first_other, is_too_long, lines_taken, error_of, script_error, IsOutside, IsScriptError, AreLines, HasAnswered, HasBegun, HasAnsweredAll}
 use Rattle.slate_script.proofs.LineCuts.{IsCut, whole-held}
 use Rattle.slate_script.proofs.Answered.{lines-more, replies-append, replies-stop, other-none, other-first, lines-built}
 use Rattle.slate_script.proofs.Taken.{Stands, IsAt, Took, taken-first, lines-begin, ends, first-empty, too-long, lines-no_error, formed-no_error}
@@ -97,6 +98,32 @@ reader-complete script error by cause formed no-read = complete-from script erro
     none e (inr (inl is)) was = cc
     none e (inr (inr is)) was = cc
 
+abbrev pub ReadOn : List ℕ → Option (List ℕ) → Type 0
+ReadOn script source = (n : ℕ) × (n ≤ script_limit) × (source ≡ Some (drop n script))
+
+read-on : (script done held rest : List ℕ) (source : Option (List ℕ)) → script ≡ done ++ (held ++ rest) → length done + length held ≤ script_limit → source ≡ Some rest → ReadOn script source
+read-on script done held rest source split within is =
+    (length (done ++ held), rw (length-append done held) within,
+    is ∙ ap Some (sym (ap (drop (length (done ++ held))) (split ∙ sym (append_assoc done held rest)) ∙ drop-append_seam (done ++ held) rest)))
+
+pub reader-read : {r : Rules} {script : List ℕ} {source told sink : Option (List ℕ)} {old : LinesModel} {number : ℕ} {e : EngineModel} (new : LinesModel) (rest : List ℕ) (after : Option (List ℕ)) (at : IsAt r script source told sink old number e)
+    → KeepsAll old at.left new rest → new.given + length new.held ≤ script_limit → after ≡ Some rest → ReadOn script after
+reader-read {script = script} new rest after at keeps within is =
+    read-on script at.done new.held rest after (at.stands.split ∙ ap (λ bs. at.done ++ bs) (sym keeps.bytes)) (omega (arith, keeps.counts, at.given)) is
+
+pub line-read : {r : Rules} {script line : List ℕ} {source told sink : Option (List ℕ)} {m : LinesModel} {number : ℕ} {e : EngineModel} (took : Took r script source told sink m line number e) → m.given + length m.held ≤ script_limit → ReadOn script source
+line-read {script = script} {source = source} {m = m} took within = read-on script took.more m.held took.left source took.stands.split (omega (arith, took.given)) took.rest
+
+pub end-read : {r : Rules} {script : List ℕ} {source told sink : Option (List ℕ)} {old : LinesModel} {number : ℕ} {e : EngineModel} (new : LinesModel) (rest : List ℕ) (after : Option (List ℕ)) (at : IsAt r script source told sink old number e)
+    → IsEnd old at.left new rest → new.given + length new.held ≤ script_limit → after ≡ Some rest → ReadOn script after
+end-read {script = script} new rest after at end within is =
+    read-on script at.done new.held rest after (at.stands.split ∙ ap (λ bs. at.done ++ bs) (end.nothing ∙ sym end.still)) (omega (arith, end.counts, at.given)) is
+
+pub reader-kinds : (error : SlateDBError) → ReaderError error → IsOutside error ⊎ IsScriptError error
+reader-kinds error (inl is) = inl (inl is)
+reader-kinds error (inr (inl is)) = inl (inr (inl is))
+reader-kinds error (inr (inr is)) = inr (inl is)
+
 -- ---- at a line that isn't answered
 
 abbrev pub LineError : ℕ → List ℕ → SlateDBError → Type 0
@@ -167,6 +194,11 @@ line-complete script line number error by cause formed no-write = complete-from 
       where
         clash : e ≡ ScriptSyntax number → e ≡ ReadFault → ⊥
         clash h k = cc
+
+pub line-kinds : (number : ℕ) (line : List ℕ) (error : SlateDBError) → LineError number line error → IsOutside error ⊎ IsScriptError error
+line-kinds number line error (inl is) = inl (inl is)
+line-kinds number line error (inr (inl is)) = inl (inr (inr is))
+line-kinds number line error (inr (inr is)) = inr (inr (number, is.0))
 
 -- nothing was written
 pub untouched : (error : SlateDBError) (sink after : Option (List ℕ)) → (error ≡ WriteFault) ⊎ (after ≡ sink) → error ≡ OutOfMemory → after ≡ sink

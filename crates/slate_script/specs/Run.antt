@@ -3,6 +3,7 @@
 --     is_line l, first_other ls      a line that is silent or means something; the number, from 1, of the first that is neither
 --     lines_taken script      the lines that a run can take: of a script that is too long, the whole lines within the limit
 --     script_error script      the error that the script itself ends a run with
+--     IsOutside e, IsScriptError e      the error comes from a source, a sink or memory, or from the script
 --     HasAnswered r script said      what was written is the replies to the first lines
 --     HasBegun r script said      the same, and a front of one reply more
 use Rattle.std.specs.Prelude.{◌≡◌, ◌≢◌, ℕ, suc, ◌+◌, ◌-◌, ◌^◌, ◌<◌, ◌⊎◌, Bool, ◌||◌, if◌then◌else◌, nat_lt, List, [], ◌∷◌, ◌++◌, length, take, Option, Some, None, is_some, option_map, IsTrue}
@@ -41,6 +42,10 @@ script_error script = error_of (first_other (lines_taken script)) (is_too_long s
 -- errors that a source, a sink or memory brings
 abbrev pub IsOutside : SlateDBError → Type 0
 IsOutside e = (e ≡ OutOfMemory) ⊎ (e ≡ ReadFault) ⊎ (e ≡ WriteFault)
+
+-- errors of the script itself
+abbrev pub IsScriptError : SlateDBError → Type 0
+IsScriptError e = (e ≡ ScriptTooLong) ⊎ ((n : ℕ) × (e ≡ ScriptSyntax n))
 
 abbrev pub AreLines : List (List ℕ) → Type 0
 AreLines ls = AllByRecursion (λ l. IsTrue (is_line l)) ls

@@ -1,12 +1,13 @@
 //! A run over a whole script.
-ghost use Rattle.std.specs.Prelude.{◌≡◌, ◌⊎◌, ◌≤◌, ◌<◌, ◌++◌, ◌∷◌, [], ℕ, List, Some, None, Ok, Err, OnOk, IfErr, IsOkUnless, IsTrue, false, take, length};
+ghost use Rattle.std.specs.Prelude.{◌≡◌, ◌⊎◌, ◌≤◌, ◌<◌, ◌++◌, ◌∷◌, [], ℕ, List, Some, None, Ok, Err, OnOk, IfErr, IsOkUnless, IsTrue, false, take, drop, length};
 ghost use Rattle.slate_types.specs.Config.{IsValid};
 ghost use Rattle.slate_types.specs.Faults.{Rose};
+ghost use Rattle.slate_store.specs.Lines.{script_limit};
 ghost use Rattle.slate_txn.specs.State.{State};
 ghost use Rattle.slate_script.specs.Engine.{StandsFor, engine_rules};
 ghost use Rattle.slate_script.specs.Replies.{replies, replies_to, after_lines, replies_from, IsWellFormed};
 ghost use Rattle.slate_script.specs.Stage.{meaning};
-ghost use Rattle.slate_script.specs.Run.{rules_of, is_line, script_error, lines_taken, IsOutside, HasAnswered, HasAnsweredAll, HasBegun};
+ghost use Rattle.slate_script.specs.Run.{rules_of, is_line, script_error, lines_taken, IsOutside, IsScriptError, HasAnswered, HasAnsweredAll, HasBegun};
 
 use crate::engine::Engine;
 use crate::parse::parse_line;
@@ -37,6 +38,7 @@ pub fn run_script<R: Source, W: Sink>(
     // which errors there are, and when
     ensures no_error { (script : List ℕ) → R.left source.old ≡ Some script → OnOk result (script_error script ≡ None) }
     ensures error { (script : List ℕ) → R.left source.old ≡ Some script → IfErr result (λ e. IsOutside e ⊎ (script_error script ≡ Some e)) }
+    ensures kinds { IfErr result (λ e. IsOutside e ⊎ IsScriptError e) }
     ensures read_fault { result ≡ Err SlateDBError.ReadFault → Rose (R.faults source.old) (R.faults source.new) }
     ensures write_fault { result ≡ Err SlateDBError.WriteFault → Rose (W.faults sink.old) (W.faults sink.new) }
     ensures complete { (script : List ℕ) → R.left source.old ≡ Some script → IsWellFormed script →
@@ -51,6 +53,9 @@ pub fn run_script<R: Source, W: Sink>(
         (said : List ℕ) × (W.content sink.new ≡ Some (before ++ said)) × HasBegun (rules_of options.now) script said }
     ensures by_memory { (script before : List ℕ) → R.left source.old ≡ Some script → W.content sink.old ≡ Some before → result ≡ Err SlateDBError.OutOfMemory →
         (said : List ℕ) × (W.content sink.new ≡ Some (before ++ said)) × HasAnswered (rules_of options.now) script said }
+
+    // what was read, whatever the answer
+    ensures taken { (script : List ℕ) → R.left source.old ≡ Some script → (n : ℕ) × (n ≤ script_limit) × (R.left source.new ≡ Some (drop n script)) }
     ensures later { (R.faults source.old ≤ R.faults source.new) × (W.faults sink.old ≤ W.faults sink.new) }
 {
     let mut lines = Lines::new(alloc);

@@ -9,7 +9,7 @@ use Rattle.slate_script.specs.Replies.{after_lines, replies_from, replies_to}
 use Rattle.slate_script.specs.Run.{rules_of}
 use Rattle.slate_store.specs.Lines.{lines_of}
 use Rattle.slate_script.proofs.Taken.{answer-it, took-told, end-told}
-use Rattle.slate_script.proofs.RunEnds.{rose-from, reader-error, reader-complete, line-complete, untouched, reader-script, reader-source, reader-memory, line-error, line-script, line-sink, line-memory, end-there, end-answered, end-formed, end-no_error}
+use Rattle.slate_script.proofs.RunEnds.{rose-from, reader-error, reader-complete, reader-kinds, reader-read, line-kinds, line-read, line-complete, untouched, reader-script, reader-source, reader-memory, line-error, line-script, line-sink, line-memory, end-there, end-read, end-answered, end-formed, end-no_error}
 use Rattle.slate_script.proofs.run.run_script.Goals as goal
 
 same-error : {T : Type 0} (e f : SlateDBError) (r : Result T SlateDBError) → r ≡ Err e → r ≡ Err f → e ≡ f
@@ -52,6 +52,17 @@ returns-in_err-line-clause-by_memory g c script before is told-is want =
     let at = c.loop-engine.invariant.told script is in
     (replies_to meaning (rules_of c.args.options.now) (lines_of at.done), at.said before told-is, reader-memory at)
 
+pub returns-in_err-line-clause-kinds : goal.returns-in_err-line-clause-kinds
+returns-in_err-line-clause-kinds g c =
+    let p = err_from_is_err_and c.from_residual.result c.from_residual.ensures.1 in
+    rw (p.1, p.2) (reader-kinds c.in_err-line.field-0.0 c.in_err-line.ensures.cause)
+
+pub returns-in_err-line-clause-taken : goal.returns-in_err-line-clause-taken
+returns-in_err-line-clause-taken g c script is =
+    let at = c.loop-engine.invariant.told script is in
+    let told = c.in_err-line.ensures.told at.left at.rest in
+    reader-read c.next.new.self told.0 (g.R.Source.left c.next.new.source) at told.2 c.in_err-line.ensures.within told.1
+
 -- ---- at a line that isn't answered
 
 pub returns-in_err-answer_line-clause-error : goal.returns-in_err-answer_line-clause-error
@@ -93,6 +104,16 @@ returns-in_err-answer_line-clause-by_memory g c script before is told-is want =
     let took = took-told (λ v. v.items) c.in_ok-line.field-0 c.in-Some.line c.as_slice.result.now (g.R.Source.left c.next.new.source) c.next.new.self c.in_ok-line.ensures.told c.in_ok-line.ensures.within c.in-Some.is c.as_slice.ensures.value (c.loop-engine.invariant.told script is) in
     (replies_to meaning (rules_of c.args.options.now) (lines_of took.done), untouched c.in_err-answer_line.field-0.0 (g.W.Sink.content c.loop-engine.sink) (g.W.Sink.content c.answer_line.new.sink) c.in_err-answer_line.ensures.unanswered kind ∙ took.said before told-is, line-memory took)
 
+pub returns-in_err-answer_line-clause-kinds : goal.returns-in_err-answer_line-clause-kinds
+returns-in_err-answer_line-clause-kinds g c =
+    let p = err_from_is_err_and c.from_residual-in_err-answer_line.result c.from_residual-in_err-answer_line.ensures.1 in
+    rw (p.1, p.2) (line-kinds (c.loop-engine.number + 1) c.as_slice.result.now c.in_err-answer_line.field-0.0 c.in_err-answer_line.ensures.cause)
+
+pub returns-in_err-answer_line-clause-taken : goal.returns-in_err-answer_line-clause-taken
+returns-in_err-answer_line-clause-taken g c script is =
+    let took = took-told (λ v. v.items) c.in_ok-line.field-0 c.in-Some.line c.as_slice.result.now (g.R.Source.left c.next.new.source) c.next.new.self c.in_ok-line.ensures.told c.in_ok-line.ensures.within c.in-Some.is c.as_slice.ensures.value (c.loop-engine.invariant.told script is) in
+    line-read took c.in_ok-line.ensures.within
+
 -- ---- the next turn
 
 pub loop-engine-preserved : goal.loop-engine-preserved
@@ -132,3 +153,9 @@ returns-clause-no_error g c script is =
     let at = c.loop-engine.invariant.told script is in
     let end = end-told (λ v. v.items) c.in_ok-line.field-0 (g.R.Source.left c.next.new.source) c.next.new.self c.in_ok-line.ensures.told c.in_default.is at in
     end-no_error c.next.new.self end.0 at end.2
+
+pub returns-clause-taken : goal.returns-clause-taken
+returns-clause-taken g c script is =
+    let at = c.loop-engine.invariant.told script is in
+    let end = end-told (λ v. v.items) c.in_ok-line.field-0 (g.R.Source.left c.next.new.source) c.next.new.self c.in_ok-line.ensures.told c.in_default.is at in
+    end-read c.next.new.self end.0 (g.R.Source.left c.next.new.source) at end.2 c.in_ok-line.ensures.within end.1
