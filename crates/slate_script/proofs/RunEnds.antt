@@ -6,14 +6,14 @@ use Rattle.slate_types.specs.declared.error.SlateDBError.{SlateDBError}
 use Rattle.slate_types.specs.declared.error.SlateDBError.TheVariants.{ScriptSyntax, ScriptTooLong, OutOfMemory, ReadFault, WriteFault}
 use Rattle.slate_types.specs.Faults.{Rose}
 use Rattle.slate_store.specs.Lines.{lines_of, whole_part, script_limit, HasNoEnd, LinesModel, IsEnd, KeepsAll}
+use Rattle.slate_store.proofs.LineLaws.{partial_line_is_not_whole}
 use Rattle.slate_txn.specs.State.{Rules, State, opening}
 use Rattle.slate_script.specs.Stage.{meaning}
 use Rattle.slate_script.specs.Replies.{after_lines, replies_from, replies_to, replies, IsWellFormed}
 use Rattle.slate_script.specs.Engine.{EngineModel, StandsFor}
 use Rattle.slate_script.specs.Run.{is_line, first_other, is_too_long, lines_taken, error_of, script_error, IsOutside, IsScriptError, AreLines, HasAnswered, HasBegun, HasAnsweredAll}
-use Rattle.slate_script.proofs.LineCuts.{IsCut, whole-held}
 use Rattle.slate_script.proofs.Answered.{lines-more, replies-append, replies-stop, other-none, other-first, lines-built}
-use Rattle.slate_script.proofs.Taken.{Stands, IsAt, Took, taken-first, lines-begin, ends, first-empty, too-long, lines-no_error, formed-no_error}
+use Rattle.slate_script.proofs.Taken.{IsCut, IsAt, Took, taken-first, lines-begin, ends, first-empty, too-long, lines-no_error, formed-no_error}
 
 -- ---- which errors
 
@@ -80,7 +80,7 @@ reader-source {r = r} {script = script} {old = old} new rest at keeps none = rec
 }
   where
     by : IsCut at.done ⊎ ((old.held ++ at.left ≡ []) × (length at.done < script_limit)) → (at.done ≡ whole_part (at.done ++ new.held)) ⊎ ((at.done ≡ at.done ++ new.held) × (rest ≡ []))
-    by (inl cut) = inl (sym (whole-held at.done new.held cut none))
+    by (inl cut) = inl (sym (partial_line_is_not_whole at.done new.held none cut))
     by (inr all) =
         let nothing : new.held ≡ [] = first-empty new.held rest (keeps.bytes ∙ all.0) in
         inr (sym (append-nil at.done) ∙ ap (λ bs. at.done ++ bs) (sym nothing), ap (λ bs. bs ++ rest) (sym nothing) ∙ keeps.bytes ∙ all.0)

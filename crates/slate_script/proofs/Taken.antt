@@ -1,4 +1,5 @@
 -- Where a run stands in a script.
+--     IsCut bytes      they are whole lines
 --     Stands script done left      what was given of the script is whole lines, or all of it
 --     IsAt ..      all lines that were given are answered
 --     Took ..      a line was given, and isn't answered yet
@@ -9,13 +10,20 @@ use Rattle.std.proofs.Math.Seq.{take-append_seam, take-append-add}
 use Rattle.slate_types.specs.declared.error.SlateDBError.{SlateDBError}
 use Rattle.slate_types.specs.declared.error.SlateDBError.TheVariants.{ScriptSyntax, ScriptTooLong}
 use Rattle.slate_store.specs.Lines.{lines_of, whole_part, script_limit, HasNoEnd, LinesModel, GivesLine, IsEnd, KeepsAll}
+use Rattle.slate_store.proofs.LineLaws.{taken_line_is_first, whole_lines_join, whole_parts_join, partial_line_is_not_whole, end_makes_whole}
 use Rattle.slate_txn.specs.State.{Rules, State, opening}
 use Rattle.slate_script.specs.Stage.{meaning}
 use Rattle.slate_script.specs.Replies.{after_lines, replies_from, replies_to, replies, IsWellFormed}
 use Rattle.slate_script.specs.Engine.{EngineModel, StandsFor}
 use Rattle.slate_script.specs.Run.{is_line, first_other, is_too_long, lines_taken, error_of, script_error, AreLines, HasAnswered, HasBegun, HasAnsweredAll}
-use Rattle.slate_script.proofs.LineCuts.{IsCut, lines-append, lines-first, lines-last, cut-append, cut-end, whole-append, whole-held}
 use Rattle.slate_script.proofs.Answered.{lines-more, replies-append, state-append, replies-stop, other-none, other-first, none-other, lines-built, built-lines}
+
+-- whole lines: the last has its LF
+abbrev pub IsCut : List ℕ → Type 0
+IsCut bytes = whole_part bytes ≡ bytes
+
+cut-append : (a b : List ℕ) → IsCut a → IsCut b → IsCut (a ++ b)
+cut-append a b h k = whole_parts_join a b h ∙ ap (λ c. a ++ c) k
 
 -- what is left; where the last line had no LF that is nothing
 pub record Stands (script done left : List ℕ) : Type 0 where
@@ -47,15 +55,15 @@ take-front n done left h =
 cut-lines : (n : ℕ) (done left : List ℕ) → IsCut done → length done ≤ n → lines_of (whole_part (take n (done ++ left))) ≡ lines_of done ++ lines_of (whole_part (take (n - length done) left))
 cut-lines n done left cut h =
     ap (λ bs. lines_of (whole_part bs)) (take-front n done left h)
-    ∙ ap lines_of (whole-append done (take (n - length done) left) cut)
-    ∙ lines-append done (whole_part (take (n - length done) left)) cut
+    ∙ ap lines_of (whole_parts_join done (take (n - length done) left) cut)
+    ∙ whole_lines_join done (whole_part (take (n - length done) left)) cut
 
 pub taken-first : (script done left : List ℕ) → Stands script done left → (later : List (List ℕ)) × (lines_taken script ≡ lines_of done ++ later)
 taken-first script done left h = by h.whole
   where
     cut-by : (t : Bool) → IsCut done → (later : List (List ℕ)) × (cond t (lines_of (whole_part (take script_limit script))) (lines_of script) ≡ lines_of done ++ later)
     cut-by true cut = (lines_of (whole_part (take (script_limit - length done) left)), ap (λ bs. lines_of (whole_part (take script_limit bs))) h.split ∙ cut-lines script_limit done left cut h.within)
-    cut-by false cut = (lines_of left, ap lines_of h.split ∙ lines-append done left cut)
+    cut-by false cut = (lines_of left, ap lines_of h.split ∙ whole_lines_join done left cut)
 
     by : IsCut done ⊎ ((left ≡ []) × (length done < script_limit)) → (later : List (List ℕ)) × (lines_taken script ≡ lines_of done ++ later)
     by (inl cut) = cut-by (is_too_long script) cut
@@ -68,7 +76,7 @@ pub lines-begin : (script done left : List ℕ) → Stands script done left → 
 lines-begin script done left h = by h.whole
   where
     by : IsCut done ⊎ ((left ≡ []) × (length done < script_limit)) → (later : List (List ℕ)) × (lines_of script ≡ lines_of done ++ later)
-    by (inl cut) = (lines_of left, ap lines_of h.split ∙ lines-append done left cut)
+    by (inl cut) = (lines_of left, ap lines_of h.split ∙ whole_lines_join done left cut)
     by (inr all) = ([], ap lines_of (h.split ∙ ap (λ bs. done ++ bs) all.0 ∙ append-nil done) ∙ sym (append-nil (lines_of done)))
 
 -- ---- one line more
@@ -103,9 +111,9 @@ grow script done line left rest old new h counts gives within = by h.whole gives
           stands = record {
             split = h.split ∙ ap (λ bs. done ++ bs) (is ∙ sym (append_assoc line (10 ∷ []) after)) ∙ sym (append_assoc done (line ++ (10 ∷ [])) after);
             within = omega arith;
-            whole = inl (cut-append done (line ++ (10 ∷ [])) cut (cut-end line));
+            whole = inl (cut-append done (line ++ (10 ∷ [])) cut (end_makes_whole line));
           };
-          lines = lines-append done (line ++ (10 ∷ [])) cut ∙ ap (λ ls. lines_of done ++ ls) (lines-first line [] gives.takes.0);
+          lines = whole_lines_join done (line ++ (10 ∷ [])) cut ∙ ap (λ ls. lines_of done ++ ls) (taken_line_is_first line (line ++ (10 ∷ [])) [] (gives.takes.0, inl refl));
           counts = given;
         }
 
@@ -122,7 +130,7 @@ grow script done line left rest old new h counts gives within = by h.whole gives
             within = omega arith;
             whole = inr (is.2, (rw (← given) (gives.below is.0)));
           };
-          lines = lines-append done line cut ∙ ap (λ ls. lines_of done ++ ls) (lines-last line gives.takes.0 is.1);
+          lines = whole_lines_join done line cut ∙ ap (λ ls. lines_of done ++ ls) (taken_line_is_first line line [] (gives.takes.0, inr (refl, is.1, refl)));
           counts = given;
         }
 
@@ -176,7 +184,7 @@ too-long script done left rest old new h counts keeps full none = by h.whole
 
     by : IsCut done ⊎ ((old.held ++ left ≡ []) × (length done < script_limit)) → (is_too_long script ≡ true) × (lines_taken script ≡ lines_of done)
     by (inl cut) =
-        (long, ap (λ t. cond t (lines_of (whole_part (take script_limit script))) (lines_of script)) long ∙ ap (λ bs. lines_of (whole_part bs)) taken ∙ ap lines_of (whole-held done held cut none))
+        (long, ap (λ t. cond t (lines_of (whole_part (take script_limit script))) (lines_of script)) long ∙ ap (λ bs. lines_of (whole_part bs)) taken ∙ ap lines_of (partial_line_is_not_whole done held none cut))
     by (inr all) =
         let nothing : length held ≡ 0 = ap length (first-empty held rest (keeps.bytes ∙ all.0)) in
         absurd (omega (arith, all.1, size, nothing))
