@@ -23,7 +23,7 @@ crates_of_slate() {
         [[ -z ${seen[$name]-} ]] || continue
         seen[$name]=1
         for word in ${needs[$name]-}; do
-            [[ -z ${needs[$word]-} ]] || left+=("$word")
+            [[ ! -v needs[$word] ]] || left+=("$word")
         done
     done
     printf '%s\n' "${!seen[@]}" | LC_ALL=C sort
