@@ -6,16 +6,16 @@ use Rattle.slate_types.specs.declared.types.RowEntry.{RowEntry}
 use Rattle.slate_types.specs.declared.bytes_range.BytesRange.{BytesRange}
 use Rattle.slate_types.specs.Keys.{prefix_range, prefix_subrange, common_range, in_range}
 use Rattle.slate_types.specs.Rows.{is_base}
-use Rattle.slate_types.specs.Fold.{Combine, fold_rows, merge_all, IsShort, AreShort, IsLawful}
+use Rattle.slate_types.specs.Fold.{Combine, fold_rows, merge_all, IsShort, AreShort, IsLawful, KeepsShort}
 
 -- Rows that stand together may be replaced by their fold, whatever older and newer rows there are.
 abbrev pub FoldsInPortions : Type 0
-FoldsInPortions = (c : Combine) → IsLawful c → (older middle newer : List RowEntry) → AreShort older → AreShort middle → AreShort newer →
+FoldsInPortions = (c : Combine) → IsLawful c → KeepsShort c → (older middle newer : List RowEntry) → AreShort older → AreShort middle → AreShort newer →
     fold_rows c (older ++ (middle ++ newer)) ≡ fold_rows c (older ++ (option_to_list (fold_rows c middle) ++ newer))
 
 -- Operands may be combined in pieces first, however they are cut.
 abbrev pub MergesInPieces : Type 0
-MergesInPieces = (c : Combine) → IsLawful c → (value : Option (List ℕ)) (pieces : List (List (List ℕ))) → IfSome value IsShort → AllByRecursion (λ p. AllByRecursion IsShort p) pieces →
+MergesInPieces = (c : Combine) → IsLawful c → KeepsShort c → (value : Option (List ℕ)) (pieces : List (List (List ℕ))) → IfSome value IsShort → AllByRecursion (λ p. AllByRecursion IsShort p) pieces →
     merge_all c value (flat_map (λ p. p) pieces) ≡ merge_all c value (filter_map (λ p. merge_all c None p) pieces)
 
 -- A row that is no operand hides what is older.
@@ -36,7 +36,7 @@ rows_to n rows = filter (λ r. nat_le r.seq n) rows
 
 -- Folding rows at or below a barrier changes nothing that is seen from the barrier on.
 abbrev pub FlushKeepsStates : Type 0
-FlushKeepsStates = (c : Combine) → IsLawful c → (barrier n : ℕ) → barrier ≤ n → (older low high : List RowEntry) → AreShort older → AreShort low → AreShort high →
+FlushKeepsStates = (c : Combine) → IsLawful c → KeepsShort c → (barrier n : ℕ) → barrier ≤ n → (older low high : List RowEntry) → AreShort older → AreShort low → AreShort high →
     AllByRecursion (λ r. r.seq ≤ barrier) low →
     fold_rows c (rows_to n (older ++ (low ++ high))) ≡ fold_rows c (rows_to n (older ++ (option_to_list (fold_rows c low) ++ high)))
 
