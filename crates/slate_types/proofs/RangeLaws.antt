@@ -7,10 +7,8 @@ use Rattle.std.proofs.lemmas.Slice.Eq.{bytes_eq-Decides}
 use Rattle.std.specs.declared.ops.Bound.{Bound}
 use Rattle.std.specs.declared.ops.Bound.TheVariants.{Included, Excluded, Unbounded}
 use Rattle.slate_types.specs.declared.bytes_range.BytesRange.{BytesRange}
+use Rattle.slate_types.proofs.KeyOrder.{same-key}
 use Rattle.slate_types.specs.Keys.{key_cmp, is_past_start, is_before_end, in_range, later_start, earlier_end, common_range, is_refused}
-
-same-key : (a b : List ℕ) → key_cmp a b ≡ Equal → a ≡ b
-same-key a b e = (bytes_eq-Decides a b).0 (sym (is_eq-slice_cmp a b) ∙ ap is_eq e)
 
 -- how three keys a, b, k may lie, by the orders of a and b, a and k, b and k
 abbrev Lie : Ordering → Ordering → Ordering → Type 0

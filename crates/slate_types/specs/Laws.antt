@@ -1,10 +1,11 @@
--- The laws of the fold that the code's own ways of folding rest on, and one of ranges.
+-- Laws of the definitions: of sets of keys, of ranges, of the orders, and of the fold.
 use Rattle.std.specs.Prelude.{◌≡◌, ℕ, List, [], ◌∷◌, ◌++◌, Option, Some, None, option_to_list, IfSome, IsTrue, filter_map, flat_map, ◌≤◌, nat_le, filter, ◌&&◌}
 use Rattle.std.specs.List.{AllByRecursion}
+use Rattle.std.specs.List.Sorted.{IsStrictlySortedBy}
 use Rattle.std.specs.declared.ops.Bound.TheVariants.{Unbounded}
 use Rattle.slate_types.specs.declared.types.RowEntry.{RowEntry}
 use Rattle.slate_types.specs.declared.bytes_range.BytesRange.{BytesRange}
-use Rattle.slate_types.specs.Keys.{prefix_range, prefix_subrange, common_range, in_range}
+use Rattle.slate_types.specs.Keys.{key_cmp, among, keys_set, prefix_range, prefix_subrange, common_range, in_range}
 use Rattle.slate_types.specs.Rows.{is_base}
 use Rattle.slate_types.specs.Fold.{Combine, fold_rows, merge_all, IsShort, AreShort, IsLawful, KeepsShort}
 
@@ -43,3 +44,11 @@ FlushKeepsStates = (c : Combine) → IsLawful c → KeepsShort c → (barrier n 
 -- A key is in the common range where it is in both.
 abbrev pub CommonIsBoth : Type 0
 CommonIsBoth = (a b r : BytesRange) (k : List ℕ) → common_range a b ≡ Some r → in_range r k ≡ (in_range a k && in_range b k)
+
+-- A set of keys rises strictly, so that each key stands once.
+abbrev pub SetRises : Type 0
+SetRises = (ks : List (List ℕ)) → IsStrictlySortedBy key_cmp (keys_set ks)
+
+-- It has the keys that it was made of.
+abbrev pub SetKeepsKeys : Type 0
+SetKeepsKeys = (ks : List (List ℕ)) (k : List ℕ) → among k (keys_set ks) ≡ among k ks
