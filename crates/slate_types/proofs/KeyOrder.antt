@@ -1,7 +1,7 @@
 -- The order of keys is total, and tests by it chain.
 use Rattle.std.proofs.Common.{◌≡◌, ℕ, Bool, true, false, List, refl, sym, ap, ◌∙◌, Ordering, Less, Equal, Greater}
 use Rattle.std.specs.Ordering.{is_eq, is_lt, is_le, ordering_reverse}
-use Rattle.std.proofs.lemmas.Cmp.{nat_list_cmp_total}
+use Rattle.std.proofs.lemmas.Cmp.{nat_list_cmp_total, tied_itself}
 use Rattle.std.proofs.lemmas.Map.Text.{is_eq-slice_cmp}
 use Rattle.std.proofs.lemmas.Slice.Eq.{bytes_eq-Decides}
 use Rattle.slate_types.specs.Keys.{key_cmp, key_lt, key_le}
@@ -67,3 +67,6 @@ not-lt-trans a b c h k = by (key_lt a c) refl
     by : (t : Bool) → key_lt a c ≡ t → t ≡ false
     by true e = sym (le-lt-trans b a c (not-lt a b h) e) ∙ k
     by false e = refl
+
+pub lt-irreflexive : {A : Type 0} (a : List ℕ) → key_lt a a ≡ true → A
+lt-irreflexive a h = let is : false ≡ true = sym (ap is_lt (tied_itself nat_list_cmp_total a)) ∙ h in cc

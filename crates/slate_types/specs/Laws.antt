@@ -1,11 +1,12 @@
 -- Laws of the definitions: of sets of keys, of ranges, of the orders, and of the fold.
-use Rattle.std.specs.Prelude.{◌≡◌, ℕ, List, [], ◌∷◌, ◌++◌, Option, Some, None, option_to_list, IfSome, IsTrue, filter_map, flat_map, ◌≤◌, nat_le, filter, ◌&&◌}
-use Rattle.std.specs.List.{AllByRecursion}
+use Rattle.std.specs.Prelude.{◌≡◌, ℕ, nat_eq, false, drop, length, List, [], ◌∷◌, ◌++◌, Option, Some, None, option_to_list, IfSome, IsTrue, filter_map, flat_map, ◌≤◌, nat_le, filter, ◌&&◌}
+use Rattle.std.specs.List.{AllByRecursion, starts_with}
 use Rattle.std.specs.List.Sorted.{IsStrictlySortedBy}
+use Rattle.std.specs.declared.ops.Bound.{Bound}
 use Rattle.std.specs.declared.ops.Bound.TheVariants.{Unbounded}
 use Rattle.slate_types.specs.declared.types.RowEntry.{RowEntry}
 use Rattle.slate_types.specs.declared.bytes_range.BytesRange.{BytesRange}
-use Rattle.slate_types.specs.Keys.{key_cmp, among, keys_set, prefix_range, prefix_subrange, common_range, in_range}
+use Rattle.slate_types.specs.Keys.{key_cmp, AreBytes, is_refused, among, keys_set, prefix_range, prefix_subrange, common_range, in_range}
 use Rattle.slate_types.specs.Rows.{is_base}
 use Rattle.slate_types.specs.Fold.{Combine, fold_rows, merge_all, IsShort, AreShort, IsLawful, KeepsShort}
 
@@ -52,3 +53,20 @@ SetRises = (ks : List (List ℕ)) → IsStrictlySortedBy key_cmp (keys_set ks)
 -- It has the keys that it was made of.
 abbrev pub SetKeepsKeys : Type 0
 SetKeepsKeys = (ks : List (List ℕ)) (k : List ℕ) → among k (keys_set ks) ≡ among k ks
+
+-- Bounds that leave no range hold no key.
+abbrev pub RefusedHoldNone : Type 0
+RefusedHoldNone = (start end : Bound (List ℕ)) (k : List ℕ) → IsTrue (is_refused start end) → in_range (record { start = start; end = end }) k ≡ false
+
+-- Where two ranges have no common range, no key is in both.
+abbrev pub NoneIsNone : Type 0
+NoneIsNone = (a b : BytesRange) (k : List ℕ) → common_range a b ≡ None → (in_range a k && in_range b k) ≡ false
+
+-- The range of a prefix has exactly the keys that begin with it.
+abbrev pub PrefixRangeBegins : Type 0
+PrefixRangeBegins = (p k : List ℕ) → AreBytes k → in_range (prefix_range p) k ≡ starts_with nat_eq k p
+
+-- A composed range has exactly the keys that are the prefix and then a key of the subrange.
+abbrev pub SubrangeIsBehind : Type 0
+SubrangeIsBehind = (p : List ℕ) (start end : Bound (List ℕ)) (r : BytesRange) (k : List ℕ) → prefix_subrange p start end ≡ Some r → AreBytes k →
+    in_range r k ≡ (starts_with nat_eq k p && in_range (record { start = start; end = end }) (drop (length p) k))
