@@ -2,12 +2,16 @@
 use Rattle.std.specs.Prelude.{◌≡◌, ℕ, nat_eq, false, drop, length, List, [], ◌∷◌, ◌++◌, Option, Some, None, option_to_list, IfSome, IsTrue, filter_map, flat_map, ◌≤◌, nat_le, filter, ◌&&◌}
 use Rattle.std.specs.List.{AllByRecursion, starts_with}
 use Rattle.std.specs.List.Sorted.{IsStrictlySortedBy}
+use Rattle.std.specs.Cmp.{IsTotalOrder}
+use Rattle.std.specs.Ordering.{is_lt}
+use Rattle.std.specs.declared.cmp.Ordering.TheVariants.{Equal}
 use Rattle.std.specs.declared.ops.Bound.{Bound}
 use Rattle.std.specs.declared.ops.Bound.TheVariants.{Unbounded}
 use Rattle.slate_types.specs.declared.types.RowEntry.{RowEntry}
+use Rattle.slate_types.specs.declared.sequenced_key.SequencedKey.{SequencedKey}
 use Rattle.slate_types.specs.declared.bytes_range.BytesRange.{BytesRange}
 use Rattle.slate_types.specs.Keys.{key_cmp, AreBytes, is_refused, among, keys_set, prefix_range, prefix_subrange, common_range, in_range}
-use Rattle.slate_types.specs.Rows.{is_base}
+use Rattle.slate_types.specs.Rows.{is_base, row_lt, sequenced, sequenced_cmp}
 use Rattle.slate_types.specs.Fold.{Combine, fold_rows, merge_all, IsShort, AreShort, IsLawful, KeepsShort}
 
 -- Rows that stand together may be replaced by their fold, whatever older and newer rows there are.
@@ -70,3 +74,15 @@ PrefixRangeBegins = (p k : List ℕ) → AreBytes k → in_range (prefix_range p
 abbrev pub SubrangeIsBehind : Type 0
 SubrangeIsBehind = (p : List ℕ) (start end : Bound (List ℕ)) (r : BytesRange) (k : List ℕ) → prefix_subrange p start end ≡ Some r → AreBytes k →
     in_range r k ≡ (starts_with nat_eq k p && in_range (record { start = start; end = end }) (drop (length p) k))
+
+-- The order of keys with sequences is total.
+abbrev pub SequencedIsTotal : Type 0
+SequencedIsTotal = IsTotalOrder sequenced_cmp
+
+-- What it calls equal is equal.
+abbrev pub SequencedTellsApart : Type 0
+SequencedTellsApart = (a b : SequencedKey) → sequenced_cmp a b ≡ Equal → a ≡ b
+
+-- The order of rows is that of their keys with their sequences.
+abbrev pub RowsAreSequenced : Type 0
+RowsAreSequenced = (r s : RowEntry) → row_lt r s ≡ is_lt (sequenced_cmp (sequenced r) (sequenced s))
