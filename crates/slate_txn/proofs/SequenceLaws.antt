@@ -33,8 +33,8 @@ apply-counts : (n0 : ℕ) (s : State) (used : List (List ℕ)) (e : Event) → C
 apply-counts n0 s used (events.Begin id level start) h a = h
 apply-counts n0 s used (events.End id) h a = h
 apply-counts n0 s used (events.Commit id None now os tracked ts) h a = counts-same n0 s.commits h
-apply-counts n0 s used (events.Commit id (Some n) now os tracked ts) h a = counts-more n0 s.commits _ h a.1
-apply-counts n0 s used (events.Write n now os) h a = counts-more n0 s.commits _ h a.0
+apply-counts n0 s used (events.Commit id (Some n) now os tracked ts) h a = counts-more n0 s.commits _ h a.1.0
+apply-counts n0 s used (events.Write n now os) h a = counts-more n0 s.commits _ h a.0.0
 apply-counts n0 s used events.Freeze h a = h
 apply-counts n0 s used (events.Install through tables) h a = h
 apply-counts n0 s used (events.Snapshot id n) h a = h
