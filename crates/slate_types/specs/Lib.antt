@@ -4,4 +4,6 @@ pub mod Rows
 pub mod Expiry
 pub mod Fold
 pub mod Join
+pub mod Lawful
+pub mod Faults
 pub mod Laws
