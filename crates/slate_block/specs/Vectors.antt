@@ -5,7 +5,7 @@
 --     Lengths      how long a row of version 1 is that leaves out bytes of its key
 --     WholeKeys      keys whose front was left out
 --     Fronts      how many bytes two keys share
-use Rattle.std.specs.Prelude.{◌≡◌, ℕ, true, false, List, length, ◌++◌, [], ◌∷◌, Some, None, pos, codes}
+use Rattle.std.specs.Prelude.{◌≡◌, ℕ, true, false, length, ◌++◌, [], ◌∷◌, Some, None, pos, codes}
 use Rattle.slate_types.specs.declared.types.ValueDeletable.{ValueDeletable}
 use Rattle.slate_types.specs.declared.types.ValueDeletable.TheVariants.{Value, Merge, Tombstone}
 use Rattle.slate_types.specs.declared.types.RowEntry.{RowEntry}
