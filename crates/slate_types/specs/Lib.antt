@@ -6,5 +6,4 @@ pub mod Expiry
 pub mod Fold
 pub mod Join
 pub mod Lawful
-pub mod Faults
 pub mod Laws

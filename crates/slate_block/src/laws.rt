@@ -1,0 +1,45 @@
+//! What the spellings of rows and blocks are for their readers, proved.
+ghost use Rattle.slate_block.specs.Laws.{
+  FlagsAreKnown,
+  RowsOfV1AreReadOneWay,
+  RowsOfV1DelimitThemselves,
+  RowsOfV2AreReadOneWay,
+  RowsOfV2DelimitThemselves,
+  VarintsAreSpelledOneWay,
+  VarintsDelimitThemselves,
+};
+
+/// The flags of a row are flags.
+pub fn flags_are_known()
+    ensures { FlagsAreKnown }
+{}
+
+/// No varint begins another, so that a reader knows where each ends.
+pub fn varints_delimit_themselves()
+    ensures { VarintsDelimitThemselves }
+{}
+
+/// Each number of 32 bits has one spelling, the shortest, and it is the computed one.
+pub fn varints_are_spelled_one_way()
+    ensures { VarintsAreSpelledOneWay }
+{}
+
+/// A row of version 1 is read back, whatever follows it.
+pub fn rows_of_v1_delimit_themselves()
+    ensures { RowsOfV1DelimitThemselves }
+{}
+
+/// A row of version 2 is read back, whatever follows it.
+pub fn rows_of_v2_delimit_themselves()
+    ensures { RowsOfV2DelimitThemselves }
+{}
+
+/// A byte string is at most one row of version 1.
+pub fn rows_of_v1_are_read_one_way()
+    ensures { RowsOfV1AreReadOneWay }
+{}
+
+/// A byte string is at most one row of version 2.
+pub fn rows_of_v2_are_read_one_way()
+    ensures { RowsOfV2AreReadOneWay }
+{}
