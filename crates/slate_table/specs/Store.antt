@@ -7,7 +7,8 @@
 --     HoldsAll os tables      the objects hold each of the tables
 --     Act, KeepsReads acts      a put, a read that was returned, or an answer of the length; the store tells them
 use Rattle.std.specs.Prelude.{◌≡◌, ℕ, ◌+◌, nat_le, if◌then◌else◌, List, [], ◌∷◌, length, take, drop, map, Contains, Option, Some, None, ◌⊎◌, bytes_eq}
-use Rattle.slate_types.specs.Keys.{key_cmp, compare_by}
+use Rattle.std.specs.BTreeMap.{insert_entry}
+use Rattle.slate_types.specs.Keys.{key_cmp}
 
 abbrev pub Objects : Type 0
 Objects = List (List ℕ × List ℕ)
@@ -17,8 +18,7 @@ object_at [] path = None
 object_at (o ∷ os) path = if bytes_eq o.0 path then Some o.1 else object_at os path
 
 abbrev pub with_object : Objects → List ℕ → List ℕ → Objects
-with_object [] path bytes = (path, bytes) ∷ []
-with_object (o ∷ os) path bytes = compare_by (key_cmp path o.0) ((path, bytes) ∷ o ∷ os) ((path, bytes) ∷ os) (o ∷ with_object os path bytes)
+with_object os path bytes = insert_entry key_cmp os path bytes
 
 abbrev pub part : ℕ → ℕ → List ℕ → List ℕ
 part at len bytes = take len (drop at bytes)

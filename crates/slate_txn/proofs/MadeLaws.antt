@@ -9,7 +9,8 @@ use Rattle.slate_txn.specs.State.{Rules, Commit, State}
 use Rattle.slate_txn.specs.Step.{after}
 use Rattle.slate_txn.specs.Replay.{apply, apply_all, Allowed, LegalFrom, ids_of, AreKeysOf}
 use Rattle.slate_txn.specs.Laws.{IsMade}
-use Rattle.slate_txn.proofs.BatchKeys.{some-length, some-kept, keys-kept, kept-again}
+use Rattle.slate_mem.proofs.BatchLaws.{keeps-keys, keeps-once}
+use Rattle.slate_txn.proofs.BatchKeys.{some-length, some-kept}
 use Rattle.slate_txn.proofs.StepLaws.{Keeps, after-keeps, all-pass}
 
 abbrev AreMade : List Commit → Type 0
@@ -40,7 +41,7 @@ legal-made n0 (e ∷ es) s used h legal = legal-made n0 es (apply s e) (ids_of e
 
 -- keys of a batch are keys of what it keeps
 keys-of-kept : (os : Ops) (tracked : List (List ℕ)) → AreKeysOf os tracked → AreKeysOf (kept_ops os) tracked
-keys-of-kept os tracked h = (h.0, h.1 ∙ ap (filter h.0) (sym (keys-kept os)))
+keys-of-kept os tracked h = (h.0, h.1 ∙ ap (filter h.0) (sym (keeps-keys os)))
 
 made : (r : Rules) → Keeps r (λ s. AreMade s.commits)
 made r = record {
@@ -51,7 +52,7 @@ made r = record {
   changed = λ s name f h. h;
   closes = λ s name h. h;
   commits = λ s o os tracked keys h.
-      made-more s.commits _ h (record { some = some-length (kept_ops (o ∷ os)) (some-kept o os); kept = kept-again (o ∷ os); keys = keys-of-kept (o ∷ os) tracked keys });
+      made-more s.commits _ h (record { some = some-length (kept_ops (o ∷ os)) (some-kept o os); kept = keeps-once (o ∷ os); keys = keys-of-kept (o ∷ os) tracked keys });
 }
 
 pub lines-made : (r : Rules) (ls : List Line) (s : State) → AreMade s.commits → AreMade (after r s ls).commits

@@ -12,7 +12,8 @@ use Rattle.slate_txn.specs.Refusals.{first_refusal, op_refusal, when, is_merge_o
 use Rattle.slate_txn.specs.Reply.{Written}
 use Rattle.slate_txn.specs.Step.{refused_or, with_reply}
 use Rattle.slate_txn.specs.Laws.{WritesWhatIsKept}
-use Rattle.slate_txn.proofs.BatchKeys.{HasSome, keys-kept, some-kept}
+use Rattle.slate_mem.proofs.BatchLaws.{keeps-keys}
+use Rattle.slate_txn.proofs.BatchKeys.{HasSome, some-kept}
 
 abbrev or_first : Option SlateDBError → Option SlateDBError → Option SlateDBError
 or_first None e = e
@@ -28,7 +29,7 @@ own_refusals ops = map (λ o. op_refusal o.0 o.1) ops
 
 -- operations that keep the same have the same keys, and keep the same of each
 same-keys : (ops others : Ops) → kept_ops ops ≡ kept_ops others → batch_keys ops ≡ batch_keys others
-same-keys ops others e = sym (keys-kept ops) ∙ ap batch_keys e ∙ keys-kept others
+same-keys ops others e = sym (keeps-keys ops) ∙ ap batch_keys e ∙ keeps-keys others
 
 same-kept : (ops others : Ops) (k : List ℕ) → kept_ops ops ≡ kept_ops others → kept ops k ≡ kept others k
 same-kept ops others k e = sym (keeps-kept ops k) ∙ ap (λ os. kept os k) e ∙ keeps-kept others k
