@@ -1,11 +1,11 @@
 -- What the row of a commit has of the commit.
-use Rattle.std.proofs.Common.{◌≡◌, ℕ, max, Bool, true, false, cond, List, [], ◌∷◌, map, Option, Some, None, unwrap_or, ℤ, refl, ap, subst, ◌∙◌, arith}
+use Rattle.std.proofs.Common.{◌≡◌, ℕ, max, Bool, true, false, cond, List, [], ◌∷◌, map, Option, Some, unwrap_or, ℤ, refl, ap, subst, ◌∙◌, arith}
 use Rattle.std.specs.Prelude.{int_lt}
 use Rattle.std.specs.Int.{int_max}
 use Rattle.std.specs.List.{list_any, AllByRecursion}
 use Rattle.slate_types.specs.declared.types.RowEntry.{RowEntry}
 use Rattle.slate_types.specs.Rows.{is_base, latest}
-use Rattle.slate_types.specs.Fold.{Combine, from_last, taken, fold_taken, value_of_taken, greatest_seq, latest_creation, earliest_expiry}
+use Rattle.slate_types.specs.Fold.{Combine, from_last, taken, fold_taken, greatest_seq, latest_creation}
 use Rattle.slate_mem.specs.declared.WriteOp.{WriteOp}
 use Rattle.slate_mem.specs.Batch.{Ops, kept}
 use Rattle.slate_mem.specs.RowOf.{op_row, row_of}
@@ -48,7 +48,7 @@ taken-has : (c : Combine) (k : List ℕ) (n : ℕ) (now : ℤ) (rows : List RowE
 taken-has c k n now [] r h e = cc
 taken-has c k n now (x ∷ xs) r h e =
     subst (Has k n now) (ap (λ o. unwrap_or o x) e)
-        (h.0.0, (ap (λ m. greatest_seq m xs) h.0.1.0 ∙ same-seq k n now xs h.1, ap (λ t. latest_creation t xs) h.0.1.1 ∙ same-creation k n now xs h.1))
+    (h.0.0, (ap (λ m. greatest_seq m xs) h.0.1.0 ∙ same-seq k n now xs h.1, ap (λ t. latest_creation t xs) h.0.1.1 ∙ same-creation k n now xs h.1))
 
 pub row-has : (c : Combine) (default_millis : Option ℕ) (n : ℕ) (now : ℤ) (ops : Ops) (k : List ℕ) (r : RowEntry) → row_of c default_millis n now ops k ≡ Some r → Has k n now r
 row-has c default_millis n now ops k r e =
