@@ -28,12 +28,16 @@ abbrev pub StaysAsItWas : Type 0
 StaysAsItWas = (r : Rules) (cs later : List Commit) (n : ℕ) (ops : Ops) (k : List ℕ) → AllByRecursion (λ c. n < c.seq) later →
     (state_at r (cs ++ later) n k ≡ state_at r cs n k) × (seen r (cs ++ later) n ops k ≡ seen r cs n ops k)
 
--- Nor do they change a scan.
+-- Later commits change no scan: no commit after its begin is among a reader's rows.
 abbrev pub ScansStay : Type 0
 ScansStay = (r : Rules) (cs later : List Commit) (n : ℕ) (ops : Ops) (order : IterationOrder) (range : BytesRange) → AllByRecursion (λ c. n < c.seq) later →
     rows_seen r (cs ++ later) n ops order range ≡ rows_seen r cs n ops order range
 
--- Nor does a transcript stop to be alone.
+-- A reader without operations of its own, as a snapshot's is, sees the state at its sequence.
+abbrev pub SeesTheState : Type 0
+SeesTheState = (r : Rules) (cs : List Commit) (n : ℕ) (k : List ℕ) → seen r cs n [] k ≡ state_at r cs n k
+
+-- Later commits leave a transcript alone.
 abbrev pub StaysAlone : Type 0
 StaysAlone = (r : Rules) (cs later : List Commit) (n : ℕ) (ts : List TranscriptStep) → AllByRecursion (λ c. n < c.seq) later → IsAlone r cs n ts → IsAlone r (cs ++ later) n ts
 
