@@ -161,7 +161,7 @@ once-end s name h = (once-without name s.txns h.0, h.1, λ k. apart-map (none-wi
 once-release : (s : State) (name : List ℕ) → NamesStandOnce s → NamesStandOnce (record s { snapshots = without name s.snapshots })
 once-release s name h = (h.0, once-without name s.snapshots h.1, λ k. apart-map (λ e. e) (none-without k name s.snapshots) (h.2 k))
 
-names : (r : Rules) → Keeps r NamesStandOnce
+pub names : (r : Rules) → Keeps r NamesStandOnce
 names r = record {
   moment = λ s m h. h;
   flush = λ s n h. h;

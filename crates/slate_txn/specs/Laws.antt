@@ -3,6 +3,7 @@ use Rattle.std.specs.Prelude.{◌≡◌, ℕ, ◌+◌, ◌≤◌, ◌<◌, Bool,
 use Rattle.std.specs.List.{AllByRecursion, list_any}
 use Rattle.slate_types.specs.declared.bytes_range.BytesRange.{BytesRange}
 use Rattle.slate_types.specs.declared.iter.IterationOrder.{IterationOrder}
+use Rattle.slate_types.specs.declared.types.Ulid.{Ulid}
 use Rattle.slate_types.specs.Fold.{IsShort}
 use Rattle.slate_mem.specs.Batch.{Ops, kept_ops}
 use Rattle.slate_txn.specs.declared.line.Line.{Line}
@@ -16,7 +17,8 @@ use Rattle.slate_txn.specs.Conflict.{conflict}
 use Rattle.slate_txn.specs.Refusals.{first_refusal, op_refusal, is_merge_op}
 use Rattle.slate_txn.specs.Reply.{Reply}
 use Rattle.slate_txn.specs.Step.{step, answers, after, write}
-use Rattle.slate_txn.specs.Replay.{replay, IsLegal, AreKept, AreKeysOf}
+use Rattle.slate_txn.specs.Replay.{apply_all, replay, IsLegal, AreKept, AreKeysOf}
+use Rattle.slate_txn.specs.Events.{as_replayed, line_events, all_events}
 use Rattle.slate_txn.specs.Alone.{IsAlone, AloneFrom, own_of, scans_left}
 
 -- Where nothing was committed since it began, a transaction has no conflict.
@@ -76,6 +78,12 @@ Counts n (c ∷ cs) = (c.seq ≡ n + 1) × Counts c.seq cs
 abbrev pub SequencesCount : Type 0
 SequencesCount = (r : Rules) → ((es : List Event) → IsLegal r.start_seq es → Counts r.start_seq (replay es).commits)
     × ((ls : List Line) → Counts r.start_seq (after r opening ls).commits)
+
+-- A line's events make of what a journal knows of the state what it knows of the state after the line. So they do for all lines from the start.
+abbrev pub EventsReplay : Type 0
+EventsReplay = (r : Rules) (tables : List (Ulid × List ℕ)) →
+    ((s : State) (l : Line) → NamesStandOnce s → apply_all (as_replayed s) (line_events tables s l (step r s l).1) ≡ as_replayed (step r s l).0)
+    × ((ls : List Line) → replay (all_events r tables opening ls) ≡ as_replayed (after r opening ls))
 
 -- A commit's operations are kept ones, at least one, and it tracks keys of theirs, rising, each once.
 pub record IsMade (c : Commit) : Type 0 where
