@@ -122,7 +122,7 @@ module _ (r : Rules) (tables : List (Ulid × List ℕ)) (s : State) (h : NamesSt
   agrees-of_open name None e = refl
   agrees-of_open name (Some t) e = agrees-committed name t (commit_refusal r s t) e
 
-  abbrev rolled_back : List ℕ → Option Tx → Option ℕ → State × Reply
+  abbrev pub rolled_back : List ℕ → Option Tx → Option ℕ → State × Reply
   rolled_back name t n = cond (is_some t || is_some n) (closed s name, Done) (s, Refused (UnknownTransaction name))
 
   agrees-rollback : (name : List ℕ) (t : Option Tx) (n : Option ℕ) → find_named name s.txns ≡ t → Agrees (rollback_events name t (rolled_back name t n).1) (rolled_back name t n).0
@@ -140,14 +140,14 @@ module _ (r : Rules) (tables : List (Ulid × List ℕ)) (s : State) (h : NamesSt
         now = pos 0;
       }
 
-  abbrev begun_at : List ℕ → IsolationLevel → Bool → State × Reply
+  abbrev pub begun_at : List ℕ → IsolationLevel → Bool → State × Reply
   begun_at name level b = cond b (s, Refused (DuplicateTransaction name)) (record s { txns = set_named name (begun level (last r s)) s.txns }, Begun name (last r s))
 
   agrees-begin : (name : List ℕ) (level : IsolationLevel) (b : Bool) → Agrees (line_events tables s (lines.Begin name level) (begun_at name level b).1) (begun_at name level b).0
   agrees-begin name level true = refl
   agrees-begin name level false = ap (λ ps. record s { txns = ps; now = pos 0 }) (bare-set name (begun level (last r s)) s.txns)
 
-  abbrev opened_at : List ℕ → Bool → State × Reply
+  abbrev pub opened_at : List ℕ → Bool → State × Reply
   opened_at name b = cond b (s, Refused (DuplicateTransaction name)) (record s { snapshots = set_named name (last r s) s.snapshots }, SnapshotAt name (last r s))
 
   agrees-snapshot : (name : List ℕ) (b : Bool) → Agrees (line_events tables s (lines.Snapshot name) (opened_at name b).1) (opened_at name b).0

@@ -164,7 +164,7 @@ once-release s name h = (h.0, once-without name s.snapshots h.1, λ k. apart-map
 pub names : (r : Rules) → Keeps r NamesStandOnce
 names r = record {
   moment = λ s m h. h;
-  flush = λ s n h. h;
+  flush = λ s h. h;
   begin = λ s name level e h. once-begin s name (begun level (last r s)) (no-tx s name e) (no-snapshot s name e) h;
   snapshot = λ s name e h. once-snapshot s name (last r s) (no-tx s name e) (no-snapshot s name e) h;
   changed = λ s name f h. (once-update name f s.txns h.0, h.1, λ k. apart-map (none-update k name f s.txns) (λ e. e) (h.2 k));

@@ -13,11 +13,12 @@ use Rattle.slate_txn.specs.declared.event.TranscriptStep.{TranscriptStep}
 use Rattle.slate_txn.specs.Named.{find_named}
 use Rattle.slate_txn.specs.State.{Rules, Commit, Tx, State, opening, operator_at, NamesStandOnce}
 use Rattle.slate_txn.specs.Reads.{state_at, seen, rows_seen}
-use Rattle.slate_txn.specs.Conflict.{conflict}
+use Rattle.slate_txn.specs.Conflict.{conflict, conflict_of}
+use Rattle.slate_txn.specs.Tracking.{Reading}
 use Rattle.slate_txn.specs.Refusals.{first_refusal, op_refusal, is_merge_op}
 use Rattle.slate_txn.specs.Reply.{Reply}
 use Rattle.slate_txn.specs.Step.{step, answers, after, write}
-use Rattle.slate_txn.specs.Replay.{apply_all, replay, IsLegal, AreKept, AreKeysOf}
+use Rattle.slate_txn.specs.Replay.{apply_all, replay, IsLegal, NewIds, AreKept, AreKeysOf}
 use Rattle.slate_txn.specs.Events.{as_replayed, line_events, all_events}
 use Rattle.slate_txn.specs.Alone.{IsAlone, AloneFrom, own_of, scans_left}
 
@@ -84,6 +85,14 @@ abbrev pub EventsReplay : Type 0
 EventsReplay = (r : Rules) (tables : List (Ulid × List ℕ)) →
     ((s : State) (l : Line) → NamesStandOnce s → apply_all (as_replayed s) (line_events tables s l (step r s l).1) ≡ as_replayed (step r s l).0)
     × ((ls : List Line) → replay (all_events r tables opening ls) ≡ as_replayed (after r opening ls))
+
+-- The events of lines are legal where no name is used twice.
+abbrev pub EventsAreLegal : Type 0
+EventsAreLegal = (r : Rules) (tables : List (Ulid × List ℕ)) (ls : List Line) → NewIds [] (all_events r tables opening ls) → IsLegal r.start_seq (all_events r tables opening ls)
+
+-- A transaction that conflicts by none of more keys conflicts by none of fewer.
+abbrev pub FewerKeysFewerConflicts : Type 0
+FewerKeysFewerConflicts = (cs : List Commit) (begin : ℕ) (keys more : List (List ℕ)) (read : Reading) → conflict_of cs begin (keys ++ more) read ≡ None → conflict_of cs begin keys read ≡ None
 
 -- A commit's operations are kept ones, at least one, and it tracks keys of theirs, rising, each once.
 pub record IsMade (c : Commit) : Type 0 where
