@@ -40,13 +40,13 @@ legal-made n0 [] s used h legal = h
 legal-made n0 (e ∷ es) s used h legal = legal-made n0 es (apply s e) (ids_of e ++ used) (made-apply n0 s used e h legal.0) legal.1
 
 -- keys of a batch are keys of what it keeps
-keys-of-kept : (os : Ops) (tracked : List (List ℕ)) → AreKeysOf os tracked → AreKeysOf (kept_ops os) tracked
+pub keys-of-kept : (os : Ops) (tracked : List (List ℕ)) → AreKeysOf os tracked → AreKeysOf (kept_ops os) tracked
 keys-of-kept os tracked h = (h.0, h.1 ∙ ap (filter h.0) (sym (keeps-keys os)))
 
 made : (r : Rules) → Keeps r (λ s. AreMade s.commits)
 made r = record {
   moment = λ s m h. h;
-  flush = λ s n h. h;
+  flush = λ s h. h;
   begin = λ s name level e h. h;
   snapshot = λ s name e h. h;
   changed = λ s name f h. h;

@@ -22,7 +22,7 @@ use Rattle.slate_txn.specs.Replay.{AreKeysOf}
 
 pub record Keeps (r : Rules) (P : State → Type 0) : Type 0 where
   pub moment : (s : State) (m : ℤ) → P s → P (record s { now = m })
-  pub flush : (s : State) (n : ℕ) → P s → P (record s { flushed = n })
+  pub flush : (s : State) → P s → P (record s { flushed = last r s })
   pub begin : (s : State) (name : List ℕ) (level : IsolationLevel) → is_open s name ≡ false → P s → P (record s { txns = set_named name (begun level (last r s)) s.txns })
   pub snapshot : (s : State) (name : List ℕ) → is_open s name ≡ false → P s → P (record s { snapshots = set_named name (last r s) s.snapshots })
   pub changed : (s : State) (name : List ℕ) (f : Tx → Tx) → P s → P (record s { txns = update_named name f s.txns })
@@ -94,7 +94,7 @@ module _ (r : Rules) (P : State → Type 0) (keeps : Keeps r P) where
       by false = h
   step-keeps s (lines.Write batch) h = refused-keeps (write_refusal r s batch) s _ h (made-keeps s Written batch (batch_keys batch) ((λ k. true), all-pass (batch_keys batch)) h)
   step-keeps s lines.Freeze h = h
-  step-keeps s lines.Flush h = keeps.flush s (last r s) h
+  step-keeps s lines.Flush h = keeps.flush s h
   step-keeps s lines.Journal h = h
 
   pub after-keeps : (ls : List Line) (s : State) → P s → P (after r s ls)
