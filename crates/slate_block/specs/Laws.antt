@@ -4,7 +4,6 @@
 --     RowsOfV1DelimitThemselves, RowsOfV2DelimitThemselves      a row is read back, whatever follows it
 --     RowsOfV1AreReadOneWay, RowsOfV2AreReadOneWay      a byte string is at most one row
 --     FlagsAreKnown      the flags of a row are flags
--- Not proved yet:
 --     LongestFrontsAreBlocks      what is spelled with longest fronts is a block of the rows, as they are read
 --     BlocksAreReadOneWay      a byte string is a block of at most one list of rows
 use Rattle.std.specs.Prelude.{◌≡◌, ℕ, ◌^◌, ◌<◌, ◌⊎◌, true, List, ◌++◌, map, Option, ℤ}
@@ -37,8 +36,6 @@ RowsOfV2AreReadOneWay = (bytes : List ℕ) (e f : SstRowEntryV2) → IsRowV2 byt
 
 abbrev pub FlagsAreKnown : Type 0
 FlagsAreKnown = (value : ValueDeletable) (expire create : Option ℤ) → are_flags (flags value expire create) ≡ true
-
--- ---- not proved yet
 
 abbrev pub LongestFrontsAreBlocks : Type 0
 LongestFrontsAreBlocks = (version : ℕ) (rows : List RowEntry) → (version ≡ 1) ⊎ (version ≡ 2) → FitsBlock version rows →
