@@ -1,5 +1,5 @@
 -- A block is read one way.
-use Rattle.std.proofs.Common.{◌≡◌, ℕ, ◌+◌, ◌*◌, ◌<◌, List, [], ◌∷◌, ◌++◌, length, take, drop, flat_map, inl, inr, refl, sym, subst, ap, ◌∙◌, arith, length-append}
+use Rattle.std.proofs.Common.{◌≡◌, ℕ, ◌+◌, ◌*◌, ◌<◌, ◌^◌, ◌<◌, List, [], ◌∷◌, ◌++◌, length, take, drop, flat_map, inl, inr, refl, sym, subst, ap, ◌∙◌, arith, length-append}
 use Rattle.std.proofs.lemmas.List.{take-append-drop}
 use Rattle.slate_types.specs.declared.types.RowEntry.{RowEntry}
 use Rattle.slate_block.specs.declared.row.SstRowEntry.{SstRowEntry}
@@ -8,7 +8,7 @@ use Rattle.slate_types.specs.Rows.{bytes_of}
 use Rattle.slate_block.specs.Varint.{varint}
 use Rattle.slate_block.specs.RowSpelling.{be16, meta_bytes, v2_bytes, as_read_v1, IsRowV1, IsRowV2}
 use Rattle.slate_block.specs.BlockSpelling.{entry_v1, entry_v2, Shares, SharesV1, SharesV2, shared_with, AreRows, IsBlock, block_spelling}
-use Rattle.slate_block.proofs.Pieces.{same_pieces, same_be16}
+use Rattle.slate_block.proofs.Pieces.{same_ends, same_be16}
 use Rattle.slate_block.proofs.RowLaws.{same_row_v1, same_row_v2}
 
 -- ---- a row of a block
@@ -18,12 +18,12 @@ same_key n m other k l p q number suffix =
     let front : take n k ≡ take m l = sym p.2 ∙ ap (λ j. take j other) number ∙ q.2 in
     sym (take-append-drop n k) ∙ (λ i. front i ++ suffix i) ∙ take-append-drop m l
 
-same_row_from_v1 : (n m : ℕ) (other : List ℕ) (r s : RowEntry) → Shares n other r.key → Shares m other s.key → entry_v1 n r ≡ entry_v1 m s → r ≡ s
+pub same_row_from_v1 : (n m : ℕ) (other : List ℕ) (r s : RowEntry) → Shares n other r.key → Shares m other s.key → entry_v1 n r ≡ entry_v1 m s → r ≡ s
 same_row_from_v1 n m other r s p q h =
     let key : r.key ≡ s.key = same_key n m other r.key s.key p q (ap (λ (e : SstRowEntry). e.key_prefix_len) h) (ap (λ (e : SstRowEntry). e.key_suffix) h) in
     λ i. record { key = key i; value = (h i).value; seq = (h i).seq; create_ts = (h i).create_ts; expire_ts = (h i).expire_ts }
 
-same_row_from_v2 : (n m : ℕ) (other : List ℕ) (r s : RowEntry) → Shares n other r.key → Shares m other s.key → entry_v2 n r ≡ entry_v2 m s → r ≡ s
+pub same_row_from_v2 : (n m : ℕ) (other : List ℕ) (r s : RowEntry) → Shares n other r.key → Shares m other s.key → entry_v2 n r ≡ entry_v2 m s → r ≡ s
 same_row_from_v2 n m other r s p q h =
     let key : r.key ≡ s.key = same_key n m other r.key s.key p q (ap (λ (e : SstRowEntryV2). e.shared_bytes) h) (ap (λ (e : SstRowEntryV2). e.key_suffix) h) in
     λ i. record { key = key i; value = (h i).value; seq = (h i).seq; create_ts = (h i).create_ts; expire_ts = (h i).expire_ts }
@@ -41,7 +41,7 @@ next_v2 a b x y e f s t h = same_row_v2 e f x y s.0 t.0 (ap (λ l. l ++ x) (sym 
 some_v1 : (b x : List ℕ) (e : SstRowEntry) → IsRowV1 b e → [] ≡ b ++ x → ⊥
 some_v1 b x e s h = let n = ap (λ l. length l) (h ∙ ap (λ l. l ++ x) s.2) in absurd (omega (arith, n))
 
-some_v2 : (b x : List ℕ) (e : SstRowEntryV2) → IsRowV2 b e → [] ≡ b ++ x → ⊥
+pub some_v2 : (b x : List ℕ) (e : SstRowEntryV2) → IsRowV2 b e → [] ≡ b ++ x → ⊥
 some_v2 b x e s h =
     let front = varint e.shared_bytes ++ varint (length e.key_suffix) ++ varint (length (bytes_of e.value)) ++ e.key_suffix ++ bytes_of e.value in
     let meta = meta_bytes e.seq e.value e.expire_ts e.create_ts in
@@ -91,7 +91,7 @@ same_rows_v2 i previous (b ∷ bs) (c ∷ cs) (r ∷ rs) (s ∷ ss) p q h =
 AreV1 : ℕ → List (List ℕ) → RowEntry → List RowEntry → Type 0
 AreV1 version bs r rs = (version ≡ 1) × (first : List ℕ) × (rest : List (List ℕ)) × (bs ≡ first ∷ rest) × IsRowV1 first (entry_v1 0 r) × SharesV1 r.key rest rs
 
-nothing_shared : (k : List ℕ) → Shares 0 [] k
+pub nothing_shared : (k : List ℕ) → Shares 0 [] k
 nothing_shared k = (omega arith, omega arith, refl)
 
 all_rows_v1 : (version : ℕ) (bs cs : List (List ℕ)) (r s : RowEntry) (rs ss : List RowEntry) → AreV1 version bs r rs → AreV1 version cs s ss →
@@ -116,19 +116,18 @@ same_rows version bs cs (r ∷ rs) (s ∷ ss) (inr p) (inr q) h = same_rows_v2 0
 
 -- ---- the bytes of a block
 
-same_ends : (a b x y : List ℕ) → length x ≡ length y → a ++ x ≡ b ++ y → (a ≡ b) × (x ≡ y)
-same_ends a b x y n h =
-    let whole : length (a ++ x) ≡ length (b ++ y) = ap (λ l. length l) h in
-    same_pieces a b x y (omega (arith, n, whole, length-append a x, length-append b y)) h
-
 two_bytes_each : (ats : List ℕ) → length (flat_map be16 ats) ≡ 2 * length ats
 two_bytes_each [] = refl
 two_bytes_each (at ∷ ats) = let rest = two_bytes_each ats in omega (arith, rest)
 
+pub same_body : (a b ats bts : List ℕ) → length ats < 2 ^ 16 → length bts < 2 ^ 16 → block_spelling a ats ≡ block_spelling b bts → a ≡ b
+same_body a b ats bts p q h =
+    let ends = same_ends (a ++ flat_map be16 ats) (b ++ flat_map be16 bts) (be16 (length ats)) (be16 (length bts)) refl h in
+    let count : length ats ≡ length bts = (same_be16 (length ats) (length bts) [] [] p q (ap (λ l. l ++ []) ends.1)).0 in
+    let parts = same_ends a b (flat_map be16 ats) (flat_map be16 bts) (two_bytes_each ats ∙ ap (λ n. 2 * n) count ∙ sym (two_bytes_each bts)) ends.0 in
+    parts.0
+
 pub blocks_one_way : (bytes : List ℕ) (version : ℕ) (rows other : List RowEntry) → IsBlock bytes version rows → IsBlock bytes version other → rows ≡ other
 blocks_one_way bytes version rows other s t =
-    let whole : block_spelling s.0 s.1 ≡ block_spelling t.0 t.1 = sym s.3 ∙ t.3 in
-    let ends = same_ends (s.0 ++ flat_map be16 s.1) (t.0 ++ flat_map be16 t.1) (be16 (length s.1)) (be16 (length t.1)) refl whole in
-    let count : length s.1 ≡ length t.1 = (same_be16 (length s.1) (length t.1) [] [] s.2.few t.2.few (ap (λ l. l ++ []) ends.1)).0 in
-    let parts = same_ends s.0 t.0 (flat_map be16 s.1) (flat_map be16 t.1) (two_bytes_each s.1 ∙ ap (λ n. 2 * n) count ∙ sym (two_bytes_each t.1)) ends.0 in
-    same_rows version s.2.pieces t.2.pieces rows other s.2.are_rows t.2.are_rows (sym s.2.is_body ∙ parts.0 ∙ t.2.is_body)
+    let body : s.0 ≡ t.0 = same_body s.0 t.0 s.1 t.1 s.2.few t.2.few (sym s.3 ∙ t.3) in
+    same_rows version s.2.pieces t.2.pieces rows other s.2.are_rows t.2.are_rows (sym s.2.is_body ∙ body ∙ t.2.is_body)

@@ -3,3 +3,4 @@ pub mod VarintLaws
 pub mod RowLaws
 pub mod LongestFronts
 pub mod BlockLaws
+pub mod WrittenLaws

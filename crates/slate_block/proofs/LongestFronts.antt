@@ -20,14 +20,14 @@ longest_stands (x ∷ a) (y ∷ b) = by (nat_eq x y) refl (longest_stands a b)
         ap (λ k. take k (x ∷ a)) more ∙ (λ i. same i ∷ rest i) ∙ sym (ap (λ k. take k (y ∷ b)) more)
     by false e rest = refl
 
-shares_longest : (a b : List ℕ) → Shares (longest a b) a b
+pub shares_longest : (a b : List ℕ) → Shares (longest a b) a b
 shares_longest a b = let within = common_prefix_len-le nat_eq a b in (within.0, within.1, longest_stands a b)
 
-fits_v1 : (n : ℕ) (r : RowEntry) → n ≤ length r.key → FitsRow r → FitsV1 (entry_v1 n r)
+pub fits_v1 : (n : ℕ) (r : RowEntry) → n ≤ length r.key → FitsRow r → FitsV1 (entry_v1 n r)
 fits_v1 n r p f = let suffix : length (drop n r.key) ≡ length r.key - n = length-drop n r.key in
     (omega (arith, p, f.key.1), omega (arith, suffix, f.key.1), f.value, f.seq, f.expire, f.create)
 
-fits_v2 : (n : ℕ) (r : RowEntry) → n ≤ length r.key → FitsRow r → FitsV2 (entry_v2 n r)
+pub fits_v2 : (n : ℕ) (r : RowEntry) → n ≤ length r.key → FitsRow r → FitsV2 (entry_v2 n r)
 fits_v2 n r p f = let suffix : length (drop n r.key) ≡ length r.key - n = length-drop n r.key in
     (omega (arith, p, f.key.1), omega (arith, suffix, f.key.1), f.value, f.seq, f.expire, f.create)
 

@@ -3,6 +3,7 @@ ghost use Rattle.slate_block.specs.Laws.{
   BlocksAreReadOneWay,
   FlagsAreKnown,
   LongestFrontsAreBlocks,
+  LongestFrontsAreSpelledOneWay,
   RowsOfV1AreReadOneWay,
   RowsOfV1DelimitThemselves,
   RowsOfV2AreReadOneWay,
@@ -54,4 +55,9 @@ pub fn longest_fronts_are_blocks()
 /// A byte string is a block of at most one list of rows.
 pub fn blocks_are_read_one_way()
     ensures { BlocksAreReadOneWay }
+{}
+
+/// What is spelled with longest fronts is spelled of one list of rows.
+pub fn longest_fronts_are_spelled_one_way()
+    ensures { LongestFrontsAreSpelledOneWay }
 {}
