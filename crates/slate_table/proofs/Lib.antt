@@ -3,3 +3,4 @@ pub mod IndexLaws
 pub mod FilterLaws
 pub mod TableLaws
 pub mod StoredLaws
+pub mod CutLaws
