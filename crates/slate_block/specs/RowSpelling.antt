@@ -1,13 +1,18 @@
 -- The bytes of a row in a block.
---     v1_bytes e, v2_bytes e      the layouts
+--     be16 n, be32 n, be64 n      numbers of 2, 4 and 8 bytes, the highest byte first
+--     flags value expire create      the byte that says what a row is and has; are_flags b      b is such a byte
+--     stamp_bytes z, meta_bytes ..      a stamp, and the sequence, the flags and the stamps of a row
+--     v1_bytes e, v2_bytes e      the layouts of a row in version 1 and 2
+--     FitsV1 e, FitsV2 e      the numbers fit their fields
+--     as_read_v1 e      the row that version 1 reads where e was written
 --     IsRowV1 bytes e, IsRowV2 bytes e      bytes is a row's spelling, and e the row that is read
-use Rattle.std.specs.Prelude.{◌≡◌, ℕ, ◌+◌, ◌^◌, ◌<◌, if◌then◌else◌, is_some, List, [], ◌∷◌, ◌++◌, length, Option, Some, None, IfSome, ℤ, FitsSigned}
+use Rattle.std.specs.Prelude.{◌≡◌, ℕ, ◌+◌, ◌%◌, ◌^◌, ◌<◌, Bool, not, ◌&&◌, ◌==◌, nat_lt, nat_le, if◌then◌else◌, is_some, List, [], ◌∷◌, ◌++◌, length, Option, Some, None, IfSome, ℤ, FitsSigned}
 use Rattle.std.specs.Int.{w16, w32, w64, to_be_bytes, cast_unsigned}
 use Rattle.slate_types.specs.declared.types.ValueDeletable.{ValueDeletable}
 use Rattle.slate_types.specs.declared.types.ValueDeletable.TheVariants.{Value, Merge, Tombstone}
 use Rattle.slate_types.specs.Rows.{bytes_of}
-use Rattle.slate_block.specs.declared.SstRowEntry.{SstRowEntry}
-use Rattle.slate_block.specs.declared.SstRowEntryV2.{SstRowEntryV2}
+use Rattle.slate_block.specs.declared.row.SstRowEntry.{SstRowEntry}
+use Rattle.slate_block.specs.declared.row.SstRowEntryV2.{SstRowEntryV2}
 use Rattle.slate_block.specs.Varint.{varint}
 
 abbrev pub be16 : ℕ → List ℕ
@@ -27,6 +32,10 @@ kind_bits Tombstone = 1
 -- 1 tombstone, 2 expiry, 4 creation, 8 merge
 abbrev pub flags : ValueDeletable → Option ℤ → Option ℤ → ℕ
 flags value expire create = kind_bits value + (if is_some expire then 2 else 0) + (if is_some create then 4 else 0)
+
+-- no other bits, and no tombstone that is a merge
+abbrev pub are_flags : ℕ → Bool
+are_flags b = nat_lt b 16 && not (b % 2 == 1 && nat_le 8 b)
 
 abbrev pub stamp_bytes : Option ℤ → List ℕ
 stamp_bytes None = []

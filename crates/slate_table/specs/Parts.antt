@@ -1,8 +1,11 @@
 -- The parts of a table.
+--     summed bytes, sum_fits bytes      the bytes with their checksum behind, and whether the last four bytes are the checksum of the rest
 --     section encode part      the transformed part and its checksum
---     separators previous blocks      a block's first key, cut one byte past its common front with the key before it
+--     first_key block, last_key k block      the first and the last key of a block's rows
+--     separators blocks      a block's first key, cut one byte past its common front with the key before it
+--     Place      where a section lies
 --     index_bytes, stats_bytes, info_bytes, filters_bytes      the layouts
-use Rattle.std.specs.Prelude.{ℕ, ◌+◌, Bool, if◌then◌else◌, List, [], ◌∷◌, ◌++◌, flat_map, length, take, sum_by, count_by, Option, Some, None, bytes_eq}
+use Rattle.std.specs.Prelude.{ℕ, ◌+◌, ◌-◌, Bool, if◌then◌else◌, List, [], ◌∷◌, ◌++◌, flat_map, length, take, drop, sum_by, count_by, Option, Some, None, bytes_eq}
 use Rattle.slate_types.specs.declared.types.ValueDeletable.{ValueDeletable}
 use Rattle.slate_types.specs.declared.types.ValueDeletable.TheVariants.{Value, Merge, Tombstone}
 use Rattle.slate_types.specs.declared.types.RowEntry.{RowEntry}
@@ -16,6 +19,9 @@ Encode = List ℕ → List ℕ
 
 abbrev pub summed : List ℕ → List ℕ
 summed bytes = bytes ++ be32 (crc32 bytes)
+
+abbrev pub sum_fits : List ℕ → Bool
+sum_fits bytes = bytes_eq (drop (length bytes - 4) bytes) (be32 (crc32 (take (length bytes - 4) bytes)))
 
 abbrev pub section : Encode → List ℕ → List ℕ
 section encode part = summed (encode part)
@@ -38,6 +44,7 @@ abbrev pub later_separators : List ℕ → List (List RowEntry) → List (List �
 later_separators previous [] = []
 later_separators previous (b ∷ bs) = separator previous (first_key b) ∷ later_separators (last_key previous b) bs
 
+-- of the first block it is the whole first key
 abbrev pub separators : List (List RowEntry) → List (List ℕ)
 separators [] = []
 separators (b ∷ bs) = first_key b ∷ later_separators (last_key [] b) bs

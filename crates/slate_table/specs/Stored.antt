@@ -1,5 +1,7 @@
 -- What a store's tables hold, without memory.
+--     IsNoTable encode bytes      bytes is a table of no rows, in no version
 --     HoldRows encode objects rows      rows are those of every object that is a table
+--     by_seq rows      rows by sequence upwards; of two with one sequence the one that stood first
 --     stored c rows k      the row of k that they fold to
 use Rattle.std.specs.Prelude.{◌≡◌, ℕ, ◌⊎◌, if◌then◌else◌, nat_lt, List, [], ◌∷◌, ◌++◌, filter, Option, bytes_eq}
 use Rattle.slate_types.specs.declared.types.RowEntry.{RowEntry}

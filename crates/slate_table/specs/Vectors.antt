@@ -1,11 +1,21 @@
 -- Tables, computed.
-use Rattle.std.specs.Prelude.{◌≡◌, ℕ, List, [], ◌∷◌, ◌++◌, take, drop, length, Some, None, pos, codes}
+--     Sums      checksums
+--     Separators      three separators
+--     table_e, OneRow      the whole table of one row, and its bytes
+--     OneRowIsTable, OneRowIsRead      it is a table, and of that row
+--     Places      where its sections lie
+--     FilterPart      the part with one filter
+--     SumsFit, DamageShows      the checksums of its sections fit, and no longer do where a byte of a section was changed
+--     DamagedEnds      what a reader finds at the end of a table that was cut, or whose last bytes were changed
+use Rattle.std.specs.Prelude.{◌≡◌, ℕ, ◌+◌, ◌-◌, true, false, List, [], ◌∷◌, ◌++◌, take, drop, length, Some, None, pos, codes}
+use Rattle.std.specs.Int.{w16, w64, from_be_bytes}
 use Rattle.slate_types.specs.declared.types.ValueDeletable.TheVariants.{Value}
 use Rattle.slate_types.specs.declared.types.RowEntry.{RowEntry}
 use Rattle.slate_block.specs.RowSpelling.{be16, be64}
 use Rattle.slate_table.specs.Checksum.{crc32}
-use Rattle.slate_table.specs.Parts.{separator, summed}
-use Rattle.slate_table.specs.Table.{table_bytes}
+use Rattle.slate_table.specs.Parts.{separator, summed, sum_fits, filters_bytes}
+use Rattle.slate_table.specs.Table.{table_bytes, IsTableOf, IsTable, table_places}
+use Rattle.slate_table.specs.Store.{part}
 
 -- the check value that CRC-32 is known by
 abbrev pub Sums : Type 0
@@ -29,3 +39,41 @@ OneRow = (length table_e ≡ 182)
     × (take 50 (drop 54 table_e) ≡ be64 1 ++ be64 0 ++ be64 0 ++ be64 1 ++ be64 1 ++ (0 ∷ 0 ∷ 0 ∷ 1 ∷ 0 ∷ 1 ∷ 0 ∷ 0 ∷ 0 ∷ 0 ∷ []))
     × (take 60 (drop 108 table_e) ≡ (0 ∷ 1 ∷ 1 ∷ 0 ∷ 1 ∷ 0x61 ∷ 1 ∷ 0 ∷ 1 ∷ 0x61 ∷ []) ++ be64 35 ++ be64 19 ++ be64 35 ++ be64 0 ++ be64 54 ++ be64 54 ++ (0 ∷ 1 ∷ []))
     × (drop 172 table_e ≡ be64 0x6c ++ be16 1)
+
+abbrev pub OneRowIsTable : Type 0
+OneRowIsTable = IsTableOf (λ bytes. bytes) table_e 1 ((row_a ∷ []) ∷ []) []
+
+abbrev pub OneRowIsRead : Type 0
+OneRowIsRead = IsTable (λ bytes. bytes) table_e 1 (row_a ∷ [])
+
+-- the block, the filters, which there are none of, the index, the statistics and the info
+abbrev pub Places : Type 0
+Places = table_places (λ bytes. bytes) 1 ((row_a ∷ []) ∷ []) []
+    ≡ record { at = 0; len = 35 } ∷ record { at = 35; len = 0 } ∷ record { at = 35; len = 19 } ∷ record { at = 54; len = 54 } ∷ record { at = 108; len = 64 } ∷ []
+
+abbrev pub FilterPart : Type 0
+FilterPart = filters_bytes ((codes "_bf:p=fixed4:wh=0", 0 ∷ 6 ∷ []) ∷ []) ≡ (0 ∷ 1 ∷ 0 ∷ 0x11 ∷ []) ++ codes "_bf:p=fixed4:wh=0" ++ be64 2 ++ (0 ∷ 6 ∷ [])
+
+abbrev pub changed : ℕ → ℕ → List ℕ → List ℕ
+changed at b bytes = take at bytes ++ (b ∷ drop (at + 1) bytes)
+
+abbrev pub SumsFit : Type 0
+SumsFit = (sum_fits (part 0 35 table_e) ≡ true) × (sum_fits (part 35 19 table_e) ≡ true) × (sum_fits (part 54 54 table_e) ≡ true) × (sum_fits (part 108 64 table_e) ≡ true)
+
+-- a byte of the key, of the separator, of the counts and of the version in the info
+abbrev pub DamageShows : Type 0
+DamageShows = (sum_fits (part 0 35 (changed 4 0x60 table_e)) ≡ false) × (sum_fits (part 35 19 (changed 49 0x62 table_e)) ≡ false)
+    × (sum_fits (part 54 54 (changed 61 2 table_e)) ≡ false) × (sum_fits (part 108 64 (changed 109 2 table_e)) ≡ false)
+
+abbrev pub footer_version : List ℕ → ℕ
+footer_version bytes = from_be_bytes w16 (drop (length bytes - 2) bytes)
+
+abbrev pub info_at : List ℕ → ℕ
+info_at bytes = from_be_bytes w64 (take 8 (drop (length bytes - 10) bytes))
+
+-- cut by a byte, with another version than the info has, and with an info that is empty
+abbrev pub DamagedEnds : Type 0
+DamagedEnds = (footer_version table_e ≡ 1) × (info_at table_e ≡ 108)
+    × (footer_version (take 181 table_e) ≡ 27648)
+    × (footer_version (changed 181 2 table_e) ≡ 2) × (take 2 (drop 108 (changed 181 2 table_e)) ≡ be16 1)
+    × (info_at (changed 179 168 table_e) ≡ 168) × (length (part 168 4 (changed 179 168 table_e)) ≡ 182 - 10 - 168)

@@ -1,7 +1,9 @@
 -- What a transcript's answers are, where nothing else happens after sequence n.
---     AloneFrom r cs n ops scans ts      each answer is that of a reader at n under its own operations; `scans` are the rows left
+--     own_of ts      the operations of one's own that stand in it
+--     scans_left r cs n ts      the scans that it opened, each with the rows that are left
+--     IsAlone r cs n ts      each answer is that of a reader at n under the own operations before it; a `Next` and a `Seek` name a scan that was opened before
 --     IsVouched r cs t      a transaction's transcript is so at its begin
-use Rattle.std.specs.Prelude.{◌≡◌, ℕ, List, [], ◌∷◌, ◌++◌, drop, Option, Some, None, option_map, slice_get, ⊤}
+use Rattle.std.specs.Prelude.{◌≡◌, ℕ, List, [], ◌∷◌, ◌++◌, drop, Option, Some, None, option_map, slice_get, IsSome, ⊤}
 use Rattle.slate_types.specs.declared.types.RowEntry.{RowEntry}
 use Rattle.slate_types.specs.declared.types.KeyValue.{KeyValue}
 use Rattle.slate_types.specs.declared.iter.IterationOrder.{IterationOrder}
@@ -17,17 +19,44 @@ use Rattle.slate_txn.specs.Reads.{seen, rows_seen, drop_before}
 abbrev pub Left : Type 0
 Left = IterationOrder × List RowEntry
 
-abbrev pub first_left : Option Left → Option KeyValue
-first_left None = None
-first_left (Some (order, [])) = None
-first_left (Some (order, r ∷ rs)) = Some (key_value r)
+abbrev pub own_of : List TranscriptStep → Ops
+own_of [] = []
+own_of (Own k op ∷ ts) = (k, op) ∷ own_of ts
+own_of (_ ∷ ts) = own_of ts
+
+abbrev pub advanced : Left → Left
+advanced s = (s.0, drop 1 s.1)
+
+abbrev pub sought : List ℕ → Left → Left
+sought k s = (s.0, drop_before s.0 k s.1)
+
+-- the scans that are left after steps, from those before them; each was fixed under the own operations before its opening
+abbrev pub scans_after : Rules → List Commit → ℕ → Ops → List Left → List TranscriptStep → List Left
+scans_after r cs n ops scans [] = scans
+scans_after r cs n ops scans (Scan order range ∷ ts) = scans_after r cs n ops (scans ++ ((order, rows_seen r cs n ops order range) ∷ [])) ts
+scans_after r cs n ops scans (Next i a ∷ ts) = scans_after r cs n ops (update_at i advanced scans) ts
+scans_after r cs n ops scans (Seek i k ∷ ts) = scans_after r cs n ops (update_at i (sought k) scans) ts
+scans_after r cs n ops scans (Own k op ∷ ts) = scans_after r cs n (ops ++ ((k, op) ∷ [])) scans ts
+scans_after r cs n ops scans (_ ∷ ts) = scans_after r cs n ops scans ts
+
+abbrev pub scans_left : Rules → List Commit → ℕ → List TranscriptStep → List Left
+scans_left r cs n ts = scans_after r cs n [] [] ts
+
+abbrev pub first_left : List RowEntry → Option KeyValue
+first_left [] = None
+first_left (r ∷ rs) = Some (key_value r)
+
+-- the scan that is named was opened, and the answer is the first of the rows that it has left
+abbrev pub IsNextOf : Option Left → Option KeyValue → Type 0
+IsNextOf None a = ⊥
+IsNextOf (Some s) a = a ≡ first_left s.1
 
 abbrev pub AloneFrom : Rules → List Commit → ℕ → Ops → List Left → List TranscriptStep → Type 0
 AloneFrom r cs n ops scans [] = ⊤
 AloneFrom r cs n ops scans (Get k a ∷ ts) = (a ≡ option_map key_value (seen r cs n ops k)) × AloneFrom r cs n ops scans ts
 AloneFrom r cs n ops scans (Scan order range ∷ ts) = AloneFrom r cs n ops (scans ++ ((order, rows_seen r cs n ops order range) ∷ [])) ts
-AloneFrom r cs n ops scans (Next i a ∷ ts) = (a ≡ first_left (slice_get scans i)) × AloneFrom r cs n ops (update_at i (λ s. (s.0, drop 1 s.1)) scans) ts
-AloneFrom r cs n ops scans (Seek i k ∷ ts) = AloneFrom r cs n ops (update_at i (λ s. (s.0, drop_before s.0 k s.1)) scans) ts
+AloneFrom r cs n ops scans (Next i a ∷ ts) = IsNextOf (slice_get scans i) a × AloneFrom r cs n ops (update_at i advanced scans) ts
+AloneFrom r cs n ops scans (Seek i k ∷ ts) = IsSome (slice_get scans i) × AloneFrom r cs n ops (update_at i (sought k) scans) ts
 AloneFrom r cs n ops scans (View range ∷ ts) = AloneFrom r cs n ops scans ts
 AloneFrom r cs n ops scans (Own k op ∷ ts) = AloneFrom r cs n (ops ++ ((k, op) ∷ [])) scans ts
 

@@ -1,3 +1,4 @@
+//! Lists that stand in events and lines. Contracts see each as the list of its items.
 ghost use Rattle.std.specs.Prelude.{◌≡◌};
 
 use bytes::Bytes;
@@ -5,9 +6,10 @@ use slate_mem::WriteOp;
 use slate_types::Ulid;
 use std::marker::Model;
 
-#[derive(Drop)]
+/// Keys, as a mark, an unmark and a commit hold them.
+#[derive(Clone, Drop)]
 pub struct KeyList {
-    keys: Vec<Bytes>,
+    items: Vec<Bytes>,
 }
 
 impl Model for KeyList {
@@ -15,21 +17,29 @@ impl Model for KeyList {
 
     ghost Value = { List (List ℕ) };
 
-    ghost view = { λ s. s.keys.items };
+    ghost view = { λ l. l.items.items };
 }
 
 impl KeyList {
-    /// The list of the items.
-    pub fn from_vec(keys: Vec<Bytes>) -> KeyList
-        ensures { result ≡ keys.items }
+    /// The list of these keys. Takes no memory.
+    pub fn from_vec(items: Vec<Bytes>) -> KeyList
+        ensures { result ≡ items.items }
     {
-        KeyList { keys }
+        KeyList { items }
+    }
+
+    /// The keys, in their order.
+    pub fn as_slice(&self) -> &[Bytes]
+        ensures { result.now ≡ self.now }
+    {
+        self.items.as_slice()
     }
 }
 
+/// Operations, each with its key, oldest first.
 #[derive(Drop)]
 pub struct OpList {
-    ops: Vec<(Bytes, WriteOp)>,
+    items: Vec<(Bytes, WriteOp)>,
 }
 
 impl Model for OpList {
@@ -37,21 +47,29 @@ impl Model for OpList {
 
     ghost Value = { Ops };
 
-    ghost view = { λ s. s.ops.items };
+    ghost view = { λ l. l.items.items };
 }
 
 impl OpList {
-    /// The list of the items.
-    pub fn from_vec(ops: Vec<(Bytes, WriteOp)>) -> OpList
-        ensures { result ≡ ops.items }
+    /// The list of these operations. Takes no memory.
+    pub fn from_vec(items: Vec<(Bytes, WriteOp)>) -> OpList
+        ensures { result ≡ items.items }
     {
-        OpList { ops }
+        OpList { items }
+    }
+
+    /// The operations, oldest first.
+    pub fn as_slice(&self) -> &[(Bytes, WriteOp)]
+        ensures { result.now ≡ self.now }
+    {
+        self.items.as_slice()
     }
 }
 
-#[derive(Drop)]
+/// Tables, each with its id and its bytes as they were put.
+#[derive(Clone, Drop)]
 pub struct TableList {
-    tables: Vec<(Ulid, Bytes)>,
+    items: Vec<(Ulid, Bytes)>,
 }
 
 impl Model for TableList {
@@ -60,14 +78,21 @@ impl Model for TableList {
 
     ghost Value = { List (Ulid × List ℕ) };
 
-    ghost view = { λ s. s.tables.items };
+    ghost view = { λ l. l.items.items };
 }
 
 impl TableList {
-    /// The list of the items.
-    pub fn from_vec(tables: Vec<(Ulid, Bytes)>) -> TableList
-        ensures { result ≡ tables.items }
+    /// The list of these tables. Takes no memory.
+    pub fn from_vec(items: Vec<(Ulid, Bytes)>) -> TableList
+        ensures { result ≡ items.items }
     {
-        TableList { tables }
+        TableList { items }
+    }
+
+    /// The tables, in the order in which they were put.
+    pub fn as_slice(&self) -> &[(Ulid, Bytes)]
+        ensures { result.now ≡ self.now }
+    {
+        self.items.as_slice()
     }
 }

@@ -5,7 +5,7 @@ use Rattle.std.proofs.lemmas.Bool.{le-leb}
 use Rattle.slate_types.specs.declared.types.ValueDeletable.{ValueDeletable}
 use Rattle.slate_types.specs.declared.types.ValueDeletable.TheVariants.{Value, Merge, Tombstone}
 use Rattle.slate_types.specs.declared.types.RowEntry.{RowEntry}
-use Rattle.slate_types.specs.Fold.{Combine, fold_rows, AreShort, IsLawful}
+use Rattle.slate_types.specs.Fold.{Combine, fold_rows, AreShort, IsLawful, KeepsShort}
 use Rattle.slate_types.specs.Join.{picked, join, joins}
 use Rattle.slate_types.specs.Laws.{rows_to}
 use Rattle.slate_types.proofs.FoldLaws.{fold-joins, fold-middle}
@@ -22,11 +22,11 @@ joins-upto : (c : Combine) (b : ℕ) (r : RowEntry) (rs : List RowEntry) → r.s
 joins-upto c b r [] h hs = h
 joins-upto c b r (s ∷ rs) h hs = joins-upto c b (join c r s) rs (picked-upto s.value b r.seq s.seq h hs.0) hs.1
 
-fold-upto : (c : Combine) → IsLawful c → (b : ℕ) (rows : List RowEntry) → AreShort rows → AreUpTo b rows → AreUpTo b (option_to_list (fold_rows c rows))
-fold-upto c law b [] short h = tt
-fold-upto c law b (r ∷ rs) short h =
+fold-upto : (c : Combine) → IsLawful c → KeepsShort c → (b : ℕ) (rows : List RowEntry) → AreShort rows → AreUpTo b rows → AreUpTo b (option_to_list (fold_rows c rows))
+fold-upto c law keeps b [] short h = tt
+fold-upto c law keeps b (r ∷ rs) short h =
     let P : Option RowEntry → Type 0 = λ o. AreUpTo b (option_to_list o) in
-    subst P (sym (fold-joins c law r rs short.0 short.1)) (joins-upto c b r rs h.0 h.1, tt)
+    subst P (sym (fold-joins c law keeps r rs short.0 short.1)) (joins-upto c b r rs h.0 h.1, tt)
 
 rows_to-append : (n : ℕ) (xs ys : List RowEntry) → rows_to n (xs ++ ys) ≡ rows_to n xs ++ rows_to n ys
 rows_to-append n [] ys = refl
@@ -54,9 +54,9 @@ parts b n below older low high h =
     rows_to-append n older (low ++ high)
     ∙ ap (λ rs. rows_to n older ++ rs) (rows_to-append n low high ∙ ap (λ rs. rs ++ rows_to n high) (rows_to-all b n below low h))
 
-pub flush-keeps : (c : Combine) → IsLawful c → (b n : ℕ) → b ≤ n → (older low high : List RowEntry) → AreShort older → AreShort low → AreShort high → AreUpTo b low →
+pub flush-keeps : (c : Combine) → IsLawful c → KeepsShort c → (b n : ℕ) → b ≤ n → (older low high : List RowEntry) → AreShort older → AreShort low → AreShort high → AreUpTo b low →
     fold_rows c (rows_to n (older ++ (low ++ high))) ≡ fold_rows c (rows_to n (older ++ (option_to_list (fold_rows c low) ++ high)))
-flush-keeps c law b n below older low high ho hl hh upto =
+flush-keeps c law keeps b n below older low high ho hl hh upto =
     ap (fold_rows c) (parts b n below older low high upto)
-    ∙ fold-middle c law (rows_to n older) low (rows_to n high) (rows_to-short n older ho) hl (rows_to-short n high hh)
-    ∙ sym (ap (fold_rows c) (parts b n below older (option_to_list (fold_rows c low)) high (fold-upto c law b low hl upto)))
+    ∙ fold-middle c law keeps (rows_to n older) low (rows_to n high) (rows_to-short n older ho) hl (rows_to-short n high hh)
+    ∙ sym (ap (fold_rows c) (parts b n below older (option_to_list (fold_rows c low)) high (fold-upto c law keeps b low hl upto)))

@@ -1,16 +1,12 @@
 -- The common range of two ranges is membership in both.
 use Rattle.std.proofs.Common.{◌≡◌, ℕ, Bool, true, false, cond, ◌&&◌, List, Some, None, unwrap_or, refl, sym, ap, ◌∙◌, Ordering, Less, Equal, Greater}
-use Rattle.std.specs.Ordering.{is_eq, is_lt, is_le, is_gt, ordering_reverse}
+use Rattle.std.specs.Ordering.{is_lt, is_le, is_gt, ordering_reverse}
 use Rattle.std.proofs.lemmas.Cmp.{nat_list_cmp_total}
-use Rattle.std.proofs.lemmas.Map.Text.{is_eq-slice_cmp}
-use Rattle.std.proofs.lemmas.Slice.Eq.{bytes_eq-Decides}
 use Rattle.std.specs.declared.ops.Bound.{Bound}
 use Rattle.std.specs.declared.ops.Bound.TheVariants.{Included, Excluded, Unbounded}
 use Rattle.slate_types.specs.declared.bytes_range.BytesRange.{BytesRange}
+use Rattle.slate_types.proofs.KeyOrder.{same-key, lt-le-trans, lt-trans, lt-irreflexive}
 use Rattle.slate_types.specs.Keys.{key_cmp, is_past_start, is_before_end, in_range, later_start, earlier_end, common_range, is_refused}
-
-same-key : (a b : List ℕ) → key_cmp a b ≡ Equal → a ≡ b
-same-key a b e = (bytes_eq-Decides a b).0 (sym (is_eq-slice_cmp a b) ∙ ap is_eq e)
 
 -- how three keys a, b, k may lie, by the orders of a and b, a and k, b and k
 abbrev Lie : Ordering → Ordering → Ordering → Type 0
@@ -235,3 +231,34 @@ common-is-both a b r k e =
     ap (λ q. in_range q k) (sym is)
     ∙ (λ i. start-both a.start b.start k i && end-both a.end b.end k i)
     ∙ and-swap (is_past_start a.start k) (is_past_start b.start k) (is_before_end a.end k) (is_before_end b.end k)
+
+-- ---- bounds that leave no range
+
+refused-none : (start end : Bound (List ℕ)) (k : List ℕ) → is_refused start end ≡ true → is_past_start start k ≡ true → is_before_end end k ≡ true → true ≡ false
+refused-none Unbounded end k h s e = cc
+refused-none (Included a) Unbounded k h s e = cc
+refused-none (Excluded a) Unbounded k h s e = cc
+refused-none (Included a) (Included b) k h s e = lt-irreflexive b (lt-le-trans b k b (lt-le-trans b a k h s) e)
+refused-none (Included a) (Excluded b) k h s e = lt-irreflexive k (lt-le-trans k a k (lt-le-trans k b a e h) s)
+refused-none (Excluded a) (Included b) k h s e = lt-irreflexive a (lt-le-trans a b a (lt-le-trans a k b s e) h)
+refused-none (Excluded a) (Excluded b) k h s e = lt-irreflexive a (lt-le-trans a b a (lt-trans a k b s e) h)
+
+both-false : (s t : Bool) → (s ≡ true → t ≡ true → true ≡ false) → (s && t) ≡ false
+both-false true true h = h refl refl
+both-false true false h = refl
+both-false false t h = refl
+
+pub refused-holds-none : (start end : Bound (List ℕ)) (k : List ℕ) → is_refused start end ≡ true → in_range (record { start = start; end = end }) k ≡ false
+refused-holds-none start end k h = both-false (is_past_start start k) (is_before_end end k) (refused-none start end k h)
+
+no-range : (t : Bool) (r : BytesRange) → cond t None (Some r) ≡ None → t ≡ true
+no-range true r e = refl
+no-range false r e = cc
+
+pub no-common-key : (a b : BytesRange) (k : List ℕ) → common_range a b ≡ None → (in_range a k && in_range b k) ≡ false
+no-common-key a b k e =
+    let start = later_start a.start b.start in
+    let end = earlier_end a.end b.end in
+    sym ((λ i. start-both a.start b.start k i && end-both a.end b.end k i)
+    ∙ and-swap (is_past_start a.start k) (is_past_start b.start k) (is_before_end a.end k) (is_before_end b.end k))
+    ∙ refused-holds-none start end k (no-range (is_refused start end) (record { start = start; end = end }) e)

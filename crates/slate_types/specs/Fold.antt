@@ -1,7 +1,8 @@
 -- The fold of the rows of one key, oldest first. `c` combines an operand onto a value, or onto none.
 --     fold_rows c rows      the row that stands for all
 --     shown c rows      the same for a reader, to whom a tombstone is no row
---     IsLawful c      c keeps a first operand and is associative, on values of at most 2 ^ 32 - 1 bytes
+--     KeepsShort c      of every operator: short values, of at most 2 ^ 32 - 1 bytes, give a short one
+--     IsLawful c      c keeps a first operand and is associative, on short values
 use Rattle.std.specs.Prelude.{◌≡◌, ℕ, ◌-◌, ◌^◌, ◌≤◌, max, Bool, if◌then◌else◌, List, [], ◌∷◌, length, Option, Some, None, IfSome, option_and_then, ℤ}
 use Rattle.std.specs.List.{list_any, AllByRecursion}
 use Rattle.slate_types.specs.declared.types.ValueDeletable.{ValueDeletable}
@@ -68,10 +69,12 @@ IsShort v = length v ≤ 2 ^ 32 - 1
 abbrev pub AreShort : List RowEntry → Type 0
 AreShort rows = AllByRecursion (λ r. IsShort (operand r)) rows
 
+abbrev pub KeepsShort : Combine → Type 0
+KeepsShort c = (u : Option (List ℕ)) (v : List ℕ) → IfSome u IsShort → IsShort v → IsShort (c u v)
+
 pub record IsLawful (c : Combine) : Type 0 where
   pub first : (v : List ℕ) → IsShort v → c None v ≡ v
   pub assoc : (u v w : List ℕ) → IsShort u → IsShort v → IsShort w → c (Some (c (Some u) v)) w ≡ c (Some u) (c (Some v) w)
-  pub short : (u : Option (List ℕ)) (v : List ℕ) → IfSome u IsShort → IsShort v → IsShort (c u v)
 
 -- `merge_batch`: the operands, oldest first, combined onto a value or none
 abbrev pub merge_all : Combine → Option (List ℕ) → List (List ℕ) → Option (List ℕ)

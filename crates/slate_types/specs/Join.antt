@@ -1,4 +1,5 @@
--- The join of two rows of a key, the older first: what a fold does with one row more.
+-- The join of two rows of a key, the older first: what a fold does with one row more. This is how code folds, row by row.
+-- Only lemmas and the clauses of private functions cite these words; a public clause says `fold_rows`.
 --     join c a b      the newer row, or, where it is an operand, what both make
 --     joins c r rs      a row, with the rows after it joined on one by one
 --     AreOf k rows      rows that can be folded

@@ -1,16 +1,17 @@
 -- Keys are lists of bytes in lexicographic order, and a range is two bounds.
 --     key_lt a b, key_le a b, among k ks      tests on keys
---     insert_key k ks, keys_set ks      keys in rising order, each once
+--     keys_set ks      the keys in rising order, each once
+--     AreBytes k      each number is below 256
 --     in_range r k      k passes both bounds of r
 --     is_refused start end, range_of start end      which bounds make no range, and the range of the others
 --     successor p      the least key past all that begin with p, where there is one
 --     prefix_range p, prefix_subrange p start end, common_range a b      the ranges that are made of others
-use Rattle.std.specs.Prelude.{ℕ, ◌+◌, Bool, true, false, ◌&&◌, if◌then◌else◌, ◌==◌, List, [], ◌∷◌, ◌++◌, Option, Some, None, bytes_eq}
+use Rattle.std.specs.Prelude.{ℕ, ◌+◌, ◌<◌, Bool, true, false, ◌&&◌, if◌then◌else◌, ◌==◌, List, [], ◌∷◌, ◌++◌, Option, Some, None, bytes_eq}
 use Rattle.std.specs.Ordering.{is_lt, is_le, nat_cmp}
 use Rattle.std.specs.Cmp.Lexicographic.{slice_cmp}
-use Rattle.std.specs.List.{list_any}
+use Rattle.std.specs.List.{list_any, AllByRecursion}
+use Rattle.std.specs.BTreeSet.{insert_key}
 use Rattle.std.specs.declared.cmp.Ordering.{Ordering}
-use Rattle.std.specs.declared.cmp.Ordering.TheVariants.{Less, Equal, Greater}
 use Rattle.std.specs.declared.ops.Bound.{Bound}
 use Rattle.std.specs.declared.ops.Bound.TheVariants.{Included, Excluded, Unbounded}
 use Rattle.slate_types.specs.declared.bytes_range.BytesRange.{BytesRange}
@@ -27,21 +28,13 @@ key_le a b = is_le (key_cmp a b)
 abbrev pub among : List ℕ → List (List ℕ) → Bool
 among k ks = list_any (λ x. bytes_eq x k) ks
 
--- one of three, by an order
-abbrev pub compare_by : {X : Type 0} → Ordering → X → X → X → X
-compare_by Less x y z = x
-compare_by Equal x y z = y
-compare_by Greater x y z = z
-
--- ks with k, where ks rises
-abbrev pub insert_key : List ℕ → List (List ℕ) → List (List ℕ)
-insert_key k [] = k ∷ []
-insert_key k (x ∷ xs) = compare_by (key_cmp k x) (k ∷ x ∷ xs) (x ∷ xs) (x ∷ insert_key k xs)
-
 -- the keys in rising order, each once
 abbrev pub keys_set : List (List ℕ) → List (List ℕ)
 keys_set [] = []
-keys_set (k ∷ ks) = insert_key k (keys_set ks)
+keys_set (k ∷ ks) = insert_key key_cmp (keys_set ks) k
+
+abbrev pub AreBytes : List ℕ → Type 0
+AreBytes k = AllByRecursion (λ b. b < 256) k
 
 abbrev pub is_past_start : Bound (List ℕ) → List ℕ → Bool
 is_past_start (Included a) k = key_le a k

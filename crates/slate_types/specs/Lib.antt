@@ -5,4 +5,5 @@ pub mod Rows
 pub mod Expiry
 pub mod Fold
 pub mod Join
+pub mod Lawful
 pub mod Laws

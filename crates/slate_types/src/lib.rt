@@ -7,6 +7,7 @@ pub mod error;
 pub mod filter_policy;
 pub mod iter;
 pub mod laws;
+pub mod sequenced_key;
 pub mod types;
 
 pub use bytes_range::BytesRange;
@@ -17,4 +18,5 @@ pub use config::{
 pub use error::SlateDBError;
 pub use filter_policy::{FilterContext, FilterQuery, PrefixTarget};
 pub use iter::IterationOrder;
+pub use sequenced_key::SequencedKey;
 pub use types::{KeyValue, RowEntry, Ulid, ValueDeletable};

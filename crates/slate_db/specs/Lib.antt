@@ -1,0 +1,4 @@
+pub mod Paths
+pub mod StoredTable
+pub mod Asked
+pub mod Vectors
