@@ -104,12 +104,12 @@ module _ (r : Rules) (cs : List Commit) (n : ℕ) (os : Ops) (i : ℕ) (order : 
   walk-alone [] left scans h = nexts-alone left [] (steps.Next i None ∷ []) scans (h ∙ ap (λ rows. Some (order, rows)) (sym (append-nil left))) (λ later e. end-alone [] later e (λ more d. tt))
   walk-alone (st ∷ sts) left scans h = steps-alone (st ∷ sts) left scans h
 
--- a scan's number is the count of the openings before it
 length-updated : {X : Type 0} (i : ℕ) (f : X → X) (xs : List X) → length (update_at i f xs) ≡ length xs
 length-updated i f [] = refl
 length-updated zero f (x ∷ xs) = refl
 length-updated (suc i) f (x ∷ xs) = ap suc (length-updated i f xs)
 
+-- a scan's number is the count of the openings before it
 count-scans : (r : Rules) (cs : List Commit) (n : ℕ) (os : Ops) (scans : List Left) (ts : List TranscriptStep) → length (scans_after r cs n os scans ts) ≡ length scans + count_by is_scan ts
 count-scans r cs n os scans [] = omega arith
 count-scans r cs n os scans (steps.Get k a ∷ ts) = count-scans r cs n os scans ts

@@ -1,4 +1,11 @@
--- Laws of conflicts, of reads, of states and of steps.
+-- Laws, each the contract of a function of `laws`.
+--     ConflictsNeedACommit, FewerKeysFewerConflicts      of conflicts
+--     StaysAsItWas, ScansStay, SeesTheState      of reads
+--     StaysAlone, AloneGoesOn, EachIsVouched      of transcripts
+--     StorageIsSilent, GoesOn, WritesWhatIsKept      of replies
+--     SequencesCount, CommitsAreMade, EachNameOnce, FindsEach      of states that lines and legal journals make
+--     EventsReplay, EventsAreLegal      of the events of lines
+--     NoOperatorIsLawful      of what stands where no operator is set
 use Rattle.std.specs.Prelude.{◌≡◌, ℕ, ◌+◌, ◌≤◌, ◌<◌, Bool, true, false, not, if◌then◌else◌, filter, map, length, List, [], ◌∷◌, ◌++◌, Option, Some, None}
 use Rattle.std.specs.List.{AllByRecursion, list_any}
 use Rattle.slate_types.specs.declared.bytes_range.BytesRange.{BytesRange}
