@@ -1,5 +1,5 @@
 -- Where line ends stand.
-use Rattle.std.proofs.Common.{◌≡◌, ◌+◌, ◌-◌, ◌<◌, ◌≤◌, ◌++◌, ◌∷◌, [], ℕ, zero, suc, Bool, true, false, not, ◌&&◌, eqb, List, Option, Some, None, Result, Ok, Err, MatchOption, IfOk, take, drop, length, get_or, ap, subst, sym, ◌∙◌, refl, append_assoc, arith, length-drop, length-take, add-one}
+use Rattle.std.proofs.Common.{◌≡◌, ◌+◌, ◌-◌, ◌<◌, ◌≤◌, ◌++◌, ◌∷◌, [], ℕ, zero, suc, Bool, true, false, not, ◌&&◌, List, Option, Some, None, Result, Ok, Err, MatchOption, IfOk, take, drop, length, get_or, ap, subst, sym, ◌∙◌, refl, append_assoc, arith, length-take, add-one}
 use Rattle.std.specs.Prelude.{slice_range, IsTrue}
 use Rattle.std.proofs.lemmas.Grind.{common_steps}
 use Rattle.std.proofs.lemmas.List.{drop-take, drop-drop, take-append-le, take-append-drop}

@@ -2,7 +2,7 @@
 use Rattle.std.proofs.Common.{◌≡◌, ◌+◌, ◌<◌, ◌++◌, ◌∷◌, [], ℕ, List, Option, Some, None, MatchOption, take, drop, length, ap, sym, ◌∙◌, refl, append_assoc, arith, length-append, inl, inr}
 use Rattle.std.specs.Prelude.{IfSome, IfNone}
 use Rattle.std.proofs.lemmas.List.{take-append-drop, append-nil}
-use Rattle.slate_store.specs.Lines.{HasNoEnd, TakesLine, LinesModel, GivesLine, IsEnd, KeepsAll, script_limit}
+use Rattle.slate_store.specs.Lines.{HasNoEnd, LinesModel, GivesLine, IsEnd, KeepsAll, script_limit}
 
 -- what is held behind a piece that was taken
 pub held_taken : (line before read held piece : List ℕ) → line ≡ before → before ≡ held → read ≡ piece → line ++ read ≡ held ++ piece

@@ -29,17 +29,17 @@ impl Faults {
 
 /// The calls that are to fail, by their numbers from 1.
 #[derive(Drop)]
-pub(crate) struct Plan {
+pub(crate) struct FaultPlan {
     failing: Vec<u64>,
     calls: u64,
     faults: Faults,
 }
 
-impl Plan {
-    pub(crate) fn new(failing: Vec<u64>) -> Plan
+impl FaultPlan {
+    pub(crate) fn new(failing: Vec<u64>) -> FaultPlan
         ensures { result.faults.count ≡ 0 }
     {
-        Plan {
+        FaultPlan {
             failing,
             calls: 0,
             faults: Faults::none(),

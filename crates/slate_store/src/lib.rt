@@ -2,6 +2,7 @@
 #![tactic(auto)]
 
 mod faults;
+pub mod laws;
 pub mod lines;
 pub mod memory;
 pub mod sink;
@@ -17,3 +18,6 @@ pub use stream::{ReaderSource, WriterSink};
 /// A source or a sink failed. Its count of faults has risen.
 #[derive(Clone, Copy, Debug, PartialEq, Eq)]
 pub struct Failed;
+
+#[cfg(test)]
+mod tests;

@@ -2,7 +2,7 @@
 ghost use Rattle.std.specs.Prelude.{◌≡◌, ◌≤◌, [], Some, drop};
 ghost use Rattle.slate_types.specs.Faults.{Rose};
 
-use crate::faults::Plan;
+use crate::faults::FaultPlan;
 use crate::{Failed, Sink, Source};
 use std::alloc::Global;
 use std::marker::Model;
@@ -12,7 +12,7 @@ use std::marker::Model;
 pub struct MemorySource {
     bytes: Vec<u8>,
     at: usize,
-    plan: Plan,
+    plan: FaultPlan,
 }
 
 impl Model for MemorySource {
@@ -35,7 +35,7 @@ impl MemorySource {
         MemorySource {
             bytes,
             at: 0,
-            plan: Plan::new(failing),
+            plan: FaultPlan::new(failing),
         }
     }
 }
@@ -59,7 +59,7 @@ impl Source for MemorySource {
 #[derive(Drop)]
 pub struct MemorySink {
     content: Vec<u8>,
-    plan: Plan,
+    plan: FaultPlan,
 }
 
 impl Model for MemorySink {
@@ -78,7 +78,7 @@ impl MemorySink {
     {
         MemorySink {
             content: Vec::new(alloc),
-            plan: Plan::new(failing),
+            plan: FaultPlan::new(failing),
         }
     }
 

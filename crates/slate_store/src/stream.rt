@@ -12,8 +12,11 @@ pub struct ReaderSource<R> {
     faults: Faults,
 }
 
-impl<R: Read> ReaderSource<R> {
-    pub fn new(reader: R) -> ReaderSource<R> {
+impl<R: Read + Drop> ReaderSource<R> {
+    /// A source with no fault yet.
+    pub fn new(reader: R) -> ReaderSource<R>
+        ensures { ⟦<ReaderSource<R> as Source>⟧.faults result ≡ 0 }
+    {
         ReaderSource {
             reader,
             faults: Faults::none(),
@@ -42,8 +45,11 @@ pub struct WriterSink<W> {
     faults: Faults,
 }
 
-impl<W: Write> WriterSink<W> {
-    pub fn new(writer: W) -> WriterSink<W> {
+impl<W: Write + Drop> WriterSink<W> {
+    /// A sink with no fault yet.
+    pub fn new(writer: W) -> WriterSink<W>
+        ensures { ⟦<WriterSink<W> as Sink>⟧.faults result ≡ 0 }
+    {
         WriterSink {
             writer,
             faults: Faults::none(),

@@ -1,4 +1,4 @@
-use Rattle.std.proofs.Common.{◌≡◌, ◌≤◌, length, IfOk, arith, length-take, take}
+use Rattle.std.proofs.Common.{arith, length-take, take}
 use Rattle.slate_store.proofs.Ends.{front_told}
 use Rattle.slate_store.proofs.lines.read_front.Goals as goal
 

@@ -1,4 +1,4 @@
-use Rattle.std.proofs.Common.{◌≡◌, ◌∙◌, ap, arith, Some}
+use Rattle.std.proofs.Common.{◌∙◌, ap, arith, Some}
 use Rattle.slate_store.proofs.Pieces.{taken_further, taken_within}
 use Rattle.slate_store.proofs.sink.write_all.Goals as goal
 

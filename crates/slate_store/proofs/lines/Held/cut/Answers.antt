@@ -1,4 +1,3 @@
-use Rattle.std.proofs.Common.{◌≡◌, ◌++◌}
 use Rattle.slate_store.proofs.Ends.{cut_told}
 use Rattle.slate_store.proofs.lines.Held.cut.Goals as goal
 

@@ -1,5 +1,5 @@
-use Rattle.std.proofs.Common.{◌≡◌, ◌+◌, ◌-◌, ◌<◌, ◌++◌, [], ℕ, List, length, vec_len, take, drop, arith, length-append, ap, sym}
-use Rattle.slate_store.specs.Lines.{LinesModel, script_limit}
+use Rattle.std.proofs.Common.{◌≡◌, ◌+◌, ◌<◌, ◌++◌, [], ℕ, length, take, drop, arith, length-append, ap}
+use Rattle.slate_store.specs.Lines.{script_limit}
 use Rattle.slate_store.specs.Held.{held_bytes, model_of, unread}
 use Rattle.slate_store.proofs.Steps.{gives_cut, gives_last, keeps_taken, held_taken}
 use Rattle.slate_store.proofs.lines.Held.next.Goals as goal
