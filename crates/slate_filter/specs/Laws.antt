@@ -1,7 +1,6 @@
 -- What filters are for their readers, and which names of policies are valid.
 --     AreValidNames names      the names that a list of policies may have
--- Not proved yet:
---     BloomIsLawful      no Bloom filter denies a query that one of its rows matches
+--     BloomIsLawful      no Bloom filter denies a query that one of its rows matches; proved by a function of src/laws.rt
 use Rattle.std.specs.Prelude.{◌≡◌, ℕ, ◌<◌, ◌≤◌, ◌^◌, List, [], ◌∷◌, length, map, false, IfSome}
 use Rattle.std.specs.List.{AllByRecursion}
 use Rattle.slate_types.specs.Keys.{among}
@@ -18,8 +17,6 @@ pub record AreValidNames (names : List (List ℕ)) : Type 0 where
   pub few : length names < 2 ^ 16
   pub short : AllByRecursion (λ n. length n < 2 ^ 16) names
   pub distinct : AreDistinct names
-
--- ---- not proved yet
 
 -- an extractor that is within its target and lawful makes a lawful policy, for one bit per key or more
 abbrev pub BloomIsLawful : Type 0
