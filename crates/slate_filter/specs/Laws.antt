@@ -1,12 +1,13 @@
--- What filters are for their readers, and which names of policies are valid.
+-- What filters are for their readers, and which names of policies are valid. A statement is proved by a function of src/laws.rt.
 --     AreValidNames names      the names that a list of policies may have
--- Not proved yet:
+--     ExtractorsAreLawful      the extractors that come with the store are within their targets and lawful
 --     BloomIsLawful      no Bloom filter denies a query that one of its rows matches
 use Rattle.std.specs.Prelude.{◌≡◌, ℕ, ◌<◌, ◌≤◌, ◌^◌, List, [], ◌∷◌, length, map, false, IfSome}
 use Rattle.std.specs.List.{AllByRecursion}
 use Rattle.slate_types.specs.Keys.{among}
 use Rattle.slate_filter.specs.Bloom.{Bloom, bloom_build, bloom_answers}
 use Rattle.slate_types.specs.Lawful.{IsWithinTarget, IsLawfulLengths}
+use Rattle.slate_filter.specs.Extractors.{fixed, colon, last_colon}
 use Rattle.slate_filter.specs.Policy.{IsLawfulPolicy}
 
 abbrev pub AreDistinct : List (List ℕ) → Type 0
@@ -19,7 +20,9 @@ pub record AreValidNames (names : List (List ℕ)) : Type 0 where
   pub short : AllByRecursion (λ n. length n < 2 ^ 16) names
   pub distinct : AreDistinct names
 
--- ---- not proved yet
+abbrev pub ExtractorsAreLawful : Type 0
+ExtractorsAreLawful = ((n : ℕ) → IsWithinTarget (fixed n) × IsLawfulLengths (fixed n))
+    × IsWithinTarget colon × IsLawfulLengths colon × IsWithinTarget last_colon × IsLawfulLengths last_colon
 
 -- an extractor that is within its target and lawful makes a lawful policy, for one bit per key or more
 abbrev pub BloomIsLawful : Type 0

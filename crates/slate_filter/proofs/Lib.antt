@@ -1,0 +1,2 @@
+pub mod BloomLaws
+pub mod ExtractorLaws
