@@ -7,6 +7,7 @@ use slate_types::SlateDBError;
 use std::alloc::Global;
 
 /// A byte token: `'` and the bytes where all are visible ASCII, else `0x` and their lower-case hex digits.
+#[tactic(auto, using(crate::proofs::TextLaws::hex_is))]
 pub fn show(alloc: Global, bytes: &[u8]) -> Result<Vec<u8>, SlateDBError>
     ensures text { IfOk result (λ v. v.items ≡ shown_bytes bytes.now) }
     ensures cause { IsOkUnless result SlateDBError.OutOfMemory }
@@ -15,10 +16,10 @@ pub fn show(alloc: Global, bytes: &[u8]) -> Result<Vec<u8>, SlateDBError>
     if is_visible(bytes) {
         text.push(b'\'')?;
         text.extend_from_slice(bytes)?;
-    } else {
-        text.extend_from_slice(b"0x")?;
-        text.extend_from_slice(hex::encode(alloc, bytes)?.as_bytes())?;
+        return Ok(text);
     }
+    text.extend_from_slice(b"0x")?;
+    text.extend_from_slice(hex::encode(alloc, bytes)?.as_bytes())?;
     Ok(text)
 }
 
