@@ -18,7 +18,7 @@ use Rattle.slate_filter.specs.Policy.{IsOf, IsLawfulPolicy}
 
 -- ---- elements
 
-Has : {X : Type 0} → List X → X → Type 0
+unfoldable pub Has : {X : Type 0} → List X → X → Type 0
 Has [] x = ⊥
 Has (y ∷ ys) x = (y ≡ x) ⊎ Has ys x
 
@@ -45,7 +45,7 @@ has_at [] k x p e = absurd (omega (arith, p))
 has_at (y ∷ xs) zero x p e = inl e
 has_at (y ∷ xs) (suc k) x p e = inr (has_at xs k x (omega (arith, p)) e)
 
-has_contained : {X : Type 0} (xs : List X) (x : X) → Contains xs x → Has xs x
+pub has_contained : {X : Type 0} (xs : List X) (x : X) → Contains xs x → Has xs x
 has_contained xs x c = has_at xs c.0 x c.1 c.2
 
 has_mapped : {X Y : Type 0} (f : X → Y) (xs : List X) (x : X) → Has xs x → Has (map f xs) (f x)

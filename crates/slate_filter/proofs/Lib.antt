@@ -1,2 +1,3 @@
 pub mod BloomLaws
 pub mod ExtractorLaws
+pub mod PolicyLaws
