@@ -1,10 +1,11 @@
 -- The lines that are built, read from their tokens.
---     read_text t, read_key t, read_value t      a text token: its bytes, where they are any bytes, a key, a value
 --     texts ts      the tokens' bytes
+--     is_name t      the token is a name
+--     read_text t, read_key t, read_value t      the bytes of a text token: any, those of a key, those of a value
 --     keyword t      the word that begins a line
 --     built_tokens ts      the line that the tokens mean
 -- `built_tokens` of a line's tokens is `meaning`, as proved in proofs/BuiltLaws.antt.
-use Rattle.std.specs.Prelude.{ℕ, ◌&&◌, if◌then◌else◌, ◌==◌, List, [], ◌∷◌, map, Option, Some, None, option_map, codes, bytes_eq}
+use Rattle.std.specs.Prelude.{ℕ, Bool, ◌&&◌, if◌then◌else◌, ◌==◌, nat_lt, nat_le, List, [], ◌∷◌, length, map, Option, Some, None, option_map, codes, bytes_eq}
 use Rattle.std.specs.List.{list_all}
 use Rattle.std.specs.Borrow.{Bor}
 use Rattle.slate_types.specs.declared.config.IsolationLevel.{IsolationLevel}
@@ -16,11 +17,15 @@ use Rattle.slate_txn.specs.declared.line.Line.TheVariants as lines
 use Rattle.slate_script.specs.declared.parse.Keyword.{Keyword}
 use Rattle.slate_script.specs.declared.parse.Keyword.TheVariants.{Begin, Get, Rollback, Write}
 use Rattle.slate_script.specs.Text.{is_visible}
+use Rattle.slate_script.specs.Grammar.{is_name_byte}
 use Rattle.slate_script.specs.Parse.{only_if, ◌>>=◌, both, read_name}
 use Rattle.slate_script.specs.Stage.{is_key, is_value}
 
 abbrev pub texts : List (Bor (List ℕ)) → List (List ℕ)
 texts ts = map (λ t. t.now) ts
+
+abbrev pub is_name : List ℕ → Bool
+is_name t = nat_lt 0 (length t) && nat_le (length t) 64 && list_all is_name_byte t
 
 abbrev pub read_text : List ℕ → Option (List ℕ)
 read_text [] = None
