@@ -37,8 +37,8 @@ read_key t = read_text t >>= λ k. only_if (is_key k) k
 abbrev pub read_value : List ℕ → Option (List ℕ)
 read_value t = read_text t >>= λ v. only_if (is_value v) v
 
-abbrev pub read_level : List ℕ → Option IsolationLevel
-read_level t = only_if (bytes_eq t (codes "si")) levels.Snapshot
+abbrev pub built_level : List ℕ → Option IsolationLevel
+built_level t = only_if (bytes_eq t (codes "si")) levels.Snapshot
 
 abbrev pub keyword : List ℕ → Option Keyword
 keyword t = if bytes_eq t (codes "begin") then Some Begin
@@ -47,7 +47,7 @@ keyword t = if bytes_eq t (codes "begin") then Some Begin
     else only_if (bytes_eq t (codes "write")) Write
 
 abbrev pub built_begin : List (List ℕ) → Option Line
-built_begin (n ∷ t ∷ []) = both lines.Begin (read_name n) (read_level t)
+built_begin (n ∷ t ∷ []) = both lines.Begin (read_name n) (built_level t)
 built_begin _ = None
 
 abbrev pub built_get : List (List ℕ) → Option Line

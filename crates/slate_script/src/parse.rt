@@ -1,9 +1,11 @@
 //! The meaning of a line.
 ghost use Rattle.std.specs.Prelude.{◌≡◌, ◌⊎◌, Ok, Some, None, IfOk, IfSome, IfErr, IsOkUnless, true, false};
+ghost use Rattle.std.specs.List.{list_all};
 ghost use Rattle.std.specs.Option.{option_copied};
+ghost use Rattle.slate_script.specs.Grammar.{is_name_byte};
 ghost use Rattle.slate_script.specs.Parse.{tokens_of, read_name};
 ghost use Rattle.slate_script.specs.Stage.{meaning};
-ghost use Rattle.slate_script.specs.Built.{texts, is_name, read_text, read_key, read_value, read_level, keyword, built_begin, built_get, built_rollback, built_write, built_tokens};
+ghost use Rattle.slate_script.specs.Built.{texts, is_name, read_text, read_key, read_value, built_level, keyword, built_begin, built_get, built_rollback, built_write, built_tokens};
 ghost use Rattle.slate_script.specs.Replies.{is_silent};
 
 use crate::text::is_visible;
@@ -160,7 +162,7 @@ fn read_write(alloc: Global, tokens: &[&[u8]]) -> Result<Option<Line>, SlateDBEr
 }
 
 fn read_level(token: &[u8]) -> Option<IsolationLevel>
-    ensures { result ≡ read_level token.now }
+    ensures { result ≡ built_level token.now }
 {
     match token {
         b"si" => Some(IsolationLevel::Snapshot),
@@ -178,9 +180,13 @@ fn read_name(token: &[u8]) -> Option<&[u8]>
 fn is_name(token: &[u8]) -> bool
     ensures { result ≡ is_name token.now }
 {
-    !token.is_empty()
-        && token.len() <= MAX_NAME_LEN
-        && token.iter().all(|byte| byte.is_ascii_alphanumeric())
+    !token.is_empty() && token.len() <= MAX_NAME_LEN && is_alphanumeric(token)
+}
+
+fn is_alphanumeric(bytes: &[u8]) -> bool
+    ensures { result ≡ list_all is_name_byte bytes.now }
+{
+    bytes.iter().all(|byte| byte.is_ascii_alphanumeric())
 }
 
 /// The key of a text token.
