@@ -17,7 +17,7 @@ use Rattle.slate_script.specs.Text.{is_visible, hex}
 use Rattle.slate_script.specs.Grammar.{IsBytes, IsTtl, Spells}
 use Rattle.slate_script.specs.Parse.{both, only_if, ◌>>=◌, split_by, tokens_of, read_name, parse}
 use Rattle.slate_script.specs.Stage.{is_key, is_value, is_built, is_spelled_plainly, IsBuiltLine, meaning}
-use Rattle.slate_script.specs.Built.{read_text, read_key, read_value, read_level, keyword, built_as, put_line, built_tokens}
+use Rattle.slate_script.specs.Built.{read_text, read_key, read_value, built_level, keyword, built_as, put_line, built_tokens}
 use Rattle.slate_script.proofs.ParseLaws.{and-both, name-read, parse-is}
 use Rattle.slate_script.proofs.ParseOnly.{None-is-Some, Some-is, only_if-some, map-some, bind-some, both-some, cond-either, and-first, and-second, same-bytes, join-tokens, name-only, tokens-only, parse-only}
 
@@ -114,7 +114,7 @@ as-only : (w : Keyword) (ts : List (List ℕ)) (line : Line) → built_as w ts �
 as-only Begin [] line e = None-is-Some line e
 as-only Begin (n ∷ []) line e = None-is-Some line e
 as-only Begin (n ∷ t ∷ []) line e =
-    let parts = both-some lines.Begin (read_name n) (read_level t) line e in
+    let parts = both-some lines.Begin (read_name n) (built_level t) line e in
     let name = name-only n parts.0 parts.2 in
     let level = only_if-some (bytes_eq t (codes "si")) levels.Snapshot parts.1 parts.3 in
     subst (Meets (codes "begin" ∷ n ∷ t ∷ [])) (ap (lines.Begin parts.0) level.1 ∙ parts.4)

@@ -1,12 +1,11 @@
 //! The meaning of a line.
-ghost use Rattle.std.specs.Prelude.{◌≡◌, ◌⊎◌, ◌&&◌, nat_lt, nat_le, length, Ok, Some, None, IfOk, IfSome, IfErr, IsOkUnless, true, false};
+ghost use Rattle.std.specs.Prelude.{◌≡◌, ◌⊎◌, Ok, Some, None, IfOk, IfSome, IfErr, IsOkUnless, true, false};
 ghost use Rattle.std.specs.List.{list_all};
 ghost use Rattle.std.specs.Option.{option_copied};
-ghost use Rattle.slate_script.specs.Text.{is_visible};
+ghost use Rattle.slate_script.specs.Grammar.{is_name_byte};
 ghost use Rattle.slate_script.specs.Parse.{tokens_of, read_name};
 ghost use Rattle.slate_script.specs.Stage.{meaning};
-ghost use Rattle.slate_script.specs.Built.{texts, read_text, read_key, read_value, read_level, keyword, built_begin, built_get, built_rollback, built_write, built_tokens};
-ghost use Rattle.slate_script.specs.Grammar.{is_name_byte};
+ghost use Rattle.slate_script.specs.Built.{texts, is_name, read_text, read_key, read_value, built_level, keyword, built_begin, built_get, built_rollback, built_write, built_tokens};
 ghost use Rattle.slate_script.specs.Replies.{is_silent};
 
 use crate::text::is_visible;
@@ -156,15 +155,14 @@ fn read_write(alloc: Global, tokens: &[&[u8]]) -> Result<Option<Line>, SlateDBEr
     };
     let key = Bytes::copy_from_slice(alloc, key)?;
     let value = Bytes::copy_from_slice(alloc, value)?;
-    let mut ops = Vec::new(alloc);
-    ops.push((key, WriteOp::Put(value, PutOptions { ttl: Ttl::Default })))?;
+    let put = WriteOp::Put(value, PutOptions { ttl: Ttl::Default });
     Ok(Some(Line::Write {
-        ops: OpList::from_vec(ops),
+        ops: OpList::from_vec(vec![in alloc; (key, put)]?),
     }))
 }
 
 fn read_level(token: &[u8]) -> Option<IsolationLevel>
-    ensures { result ≡ read_level token.now }
+    ensures { result ≡ built_level token.now }
 {
     match token {
         b"si" => Some(IsolationLevel::Snapshot),
@@ -180,11 +178,15 @@ fn read_name(token: &[u8]) -> Option<&[u8]>
 }
 
 fn is_name(token: &[u8]) -> bool
-    ensures { result ≡ (nat_lt 0 (length token.now) && nat_le (length token.now) 64 && list_all is_name_byte token.now) }
+    ensures { result ≡ is_name token.now }
 {
-    !token.is_empty()
-        && token.len() <= MAX_NAME_LEN
-        && token.iter().all(|byte| byte.is_ascii_alphanumeric())
+    !token.is_empty() && token.len() <= MAX_NAME_LEN && is_alphanumeric(token)
+}
+
+fn is_alphanumeric(bytes: &[u8]) -> bool
+    ensures { result ≡ list_all is_name_byte bytes.now }
+{
+    bytes.iter().all(|byte| byte.is_ascii_alphanumeric())
 }
 
 /// The key of a text token.
