@@ -44,7 +44,7 @@ and-second : (a b : Bool) → (a && b) ≡ true → b ≡ true
 and-second true b h = h
 and-second false b h = cc
 
-and-both : (a b : Bool) → a ≡ true → b ≡ true → (a && b) ≡ true
+pub and-both : (a b : Bool) → a ≡ true → b ≡ true → (a && b) ≡ true
 and-both true b h k = k
 and-both false b h k = h
 
@@ -209,7 +209,7 @@ moment-read t z h = (
 
 -- ---- names, levels, orders, bounds
 
-name-read : (t : List ℕ) → IsName t → Reads read_name t t
+pub name-read : (t : List ℕ) → IsName t → Reads read_name t t
 name-read t h = (
   ap (λ c. only_if c t) (and-both (ltb 0 (length t) && leb (length t) 64) (list_all is_name_byte t)
       (and-both (ltb 0 (length t)) (leb (length t) 64) (lt-ltb 0 (length t) h.0) (le-leb (length t) 64 h.1)) h.2),

@@ -131,7 +131,7 @@ below r = record {
   flush = λ s h. le-self (last r s);
   begin = λ s name level e h. h;
   snapshot = λ s name e h. h;
-  changed = λ s name f h. h;
+  changed = λ s name f g h. h;
   closes = λ s name h. h;
   commits = λ s o os tracked keys h. le-more s.flushed (last r s) _ h (last-more r.start_seq s.commits _);
 }

@@ -49,7 +49,7 @@ made r = record {
   flush = λ s h. h;
   begin = λ s name level e h. h;
   snapshot = λ s name e h. h;
-  changed = λ s name f h. h;
+  changed = λ s name f g h. h;
   closes = λ s name h. h;
   commits = λ s o os tracked keys h.
       made-more s.commits _ h (record { some = some-length (kept_ops (o ∷ os)) (some-kept o os); kept = keeps-once (o ∷ os); keys = keys-of-kept (o ∷ os) tracked keys });

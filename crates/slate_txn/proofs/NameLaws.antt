@@ -167,7 +167,7 @@ names r = record {
   flush = λ s h. h;
   begin = λ s name level e h. once-begin s name (begun level (last r s)) (no-tx s name e) (no-snapshot s name e) h;
   snapshot = λ s name e h. once-snapshot s name (last r s) (no-tx s name e) (no-snapshot s name e) h;
-  changed = λ s name f h. (once-update name f s.txns h.0, h.1, λ k. apart-map (none-update k name f s.txns) (λ e. e) (h.2 k));
+  changed = λ s name f g h. (once-update name f s.txns h.0, h.1, λ k. apart-map (none-update k name f s.txns) (λ e. e) (h.2 k));
   closes = λ s name h. once-release (record s { txns = without name s.txns }) name (once-end s name h);
   commits = λ s o os tracked keys h. h;
 }

@@ -40,7 +40,7 @@ sequences r = record {
   flush = λ s h. h;
   begin = λ s name level e h. h;
   snapshot = λ s name e h. h;
-  changed = λ s name f h. h;
+  changed = λ s name f g h. h;
   closes = λ s name h. h;
   commits = λ s o os tracked keys h. counts-more r.start_seq s.commits _ h refl;
 }

@@ -1,4 +1,11 @@
--- Laws of conflicts, of reads, of states and of steps.
+-- Laws, each the contract of a function of `laws`.
+--     ConflictsNeedACommit, FewerKeysFewerConflicts      of conflicts
+--     StaysAsItWas, ScansStay, SeesTheState      of reads
+--     StaysAlone, AloneGoesOn, EachIsVouched      of transcripts
+--     StorageIsSilent, GoesOn, WritesWhatIsKept      of replies
+--     SequencesCount, CommitsAreMade, EachNameOnce, FindsEach      of states that lines and legal journals make
+--     EventsReplay, EventsAreLegal      of the events of lines
+--     NoOperatorIsLawful      of what stands where no operator is set
 use Rattle.std.specs.Prelude.{◌≡◌, ℕ, ◌+◌, ◌≤◌, ◌<◌, Bool, true, false, not, if◌then◌else◌, filter, map, length, List, [], ◌∷◌, ◌++◌, Option, Some, None}
 use Rattle.std.specs.List.{AllByRecursion, list_any}
 use Rattle.slate_types.specs.declared.bytes_range.BytesRange.{BytesRange}
@@ -20,7 +27,7 @@ use Rattle.slate_txn.specs.Reply.{Reply}
 use Rattle.slate_txn.specs.Step.{step, answers, after, write}
 use Rattle.slate_txn.specs.Replay.{apply_all, replay, IsLegal, NewIds, AreKept, AreKeysOf}
 use Rattle.slate_txn.specs.Events.{as_replayed, line_events, all_events}
-use Rattle.slate_txn.specs.Alone.{IsAlone, AloneFrom, own_of, scans_left}
+use Rattle.slate_txn.specs.Alone.{IsAlone, IsVouched, AloneFrom, own_of, scans_left}
 
 -- Where nothing was committed since it began, a transaction has no conflict.
 abbrev pub ConflictsNeedACommit : Type 0
@@ -50,6 +57,10 @@ AloneGoesOn = (r : Rules) (cs : List Commit) (n : ℕ) (ts more : List Transcrip
     (IsAlone r cs n ts → AloneFrom r cs n (own_of ts) (scans_left r cs n ts) more → IsAlone r cs n (ts ++ more))
     × (IsAlone r cs n (ts ++ more) → IsAlone r cs n ts)
     × (IsAlone r cs n (ts ++ more) → AloneFrom r cs n (own_of ts) (scans_left r cs n ts) more)
+
+-- After any lines the transcript of each open transaction is vouched.
+abbrev pub EachIsVouched : Type 0
+EachIsVouched = (r : Rules) (ls : List Line) → AllByRecursion (λ p. IsVouched r (after r opening ls).commits p.1) (after r opening ls).txns
 
 -- a freeze or a flush
 abbrev pub is_storage : Line → Bool
