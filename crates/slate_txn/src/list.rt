@@ -47,6 +47,13 @@ impl OpList {
     {
         OpList { ops }
     }
+
+    /// The operations, oldest first. Takes no memory.
+    pub fn into_vec(self) -> Vec<(Bytes, WriteOp)>
+        ensures { result.items ≡ self }
+    {
+        self.ops
+    }
 }
 
 #[derive(Drop)]
