@@ -1,11 +1,11 @@
 -- Values under names: what is found after a name is given, changed or taken away, and that names stand once.
-use Rattle.std.proofs.Common.{◌≡◌, ℕ, Bool, true, false, cond, ◌||◌, List, [], ◌∷◌, ◌++◌, map, Option, Some, None, option_map, refl, sym, ap, ◌∙◌, subst}
+use Rattle.std.proofs.Common.{◌≡◌, ℕ, Bool, true, false, cond, List, [], ◌∷◌, ◌++◌, map, Option, Some, None, is_some, IfNone, option_map, refl, sym, ap, ◌∙◌, subst}
 use Rattle.std.specs.Ordering.{is_eq}
 use Rattle.std.specs.Str.{bytes_eq}
 use Rattle.std.specs.Map.{lookup}
 use Rattle.std.specs.BTreeMap.{is_at}
 use Rattle.std.specs.List.{AllByRecursion}
-use Rattle.std.proofs.lemmas.Bool.{cases_Bool, false_from_ne_true, or_from, or_parts}
+use Rattle.std.proofs.lemmas.Bool.{false_from_ne_true, or_from, or_parts}
 use Rattle.std.proofs.lemmas.Slice.Eq.{bytes_eq-Decides}
 use Rattle.std.proofs.lemmas.Map.Text.{is_eq-slice_cmp}
 use Rattle.slate_types.specs.Keys.{key_cmp, among}
@@ -220,3 +220,16 @@ each-found P q x (p ∷ ps) is hs = by (bytes_eq p.0 q) is (λ e. each-found P q
     by : (t : Bool) → cond t (Some p.1) (find_named q ps) ≡ Some x → (find_named q ps ≡ Some x → P x) → P x
     by true e later = let same : p.1 ≡ x = cc in subst P same hs.0
     by false e later = later e
+
+-- std's clause on a map that changed at one key, by what is found
+pub named-after : (name q : List ℕ) (w : Option ℕ) (old new : List (List ℕ × ℕ)) →
+    lookup (is_at (key_cmp q)) new ≡ cond (is_at (key_cmp name) q) w (lookup (is_at (key_cmp q)) old) → find_named q new ≡ cond (bytes_eq name q) w (find_named q old)
+named-after name q w old new h = find_named-lookup q new ∙ h ∙ (λ i. cond (is_eq-slice_cmp name q i) w (sym (find_named-lookup q old) i))
+
+pub none-found : {X : Type 0} (o : Option X) → is_some o ≡ false → o ≡ None
+none-found None h = refl
+none-found (Some x) h = cc
+
+pub if-none : {X P : Type 0} (o : Option X) → is_some o ≡ false → IfNone o P → P
+if-none None h p = p
+if-none (Some x) h p = cc

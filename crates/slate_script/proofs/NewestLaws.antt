@@ -1,12 +1,12 @@
 -- What a reader sees of commits of single puts: the last put of the key at or before its begin.
-use Rattle.std.proofs.Common.{◌≡◌, ℕ, zero, suc, ◌+◌, ◌-◌, ◌<◌, ◌≤◌, Bool, true, false, cond, List, [], ◌∷◌, ◌++◌, filter, take, drop, length, get_or, Option, Some, None, pos, refl, sym, ap, ◌∙◌, subst, arith, append-nil, add-one, length-take, get_or-take}
+use Rattle.std.proofs.Common.{◌≡◌, ℕ, zero, suc, ◌+◌, ◌-◌, ◌<◌, Bool, true, false, cond, List, [], ◌∷◌, ◌++◌, take, drop, length, get_or, Option, Some, None, pos, refl, sym, ap, ◌∙◌, subst, arith, append-nil, add-one, length-take, get_or-take}
 use Rattle.std.proofs.lemmas.Bool.Decides.{nat_tests}
 use Rattle.std.specs.Prelude.{nat_le}
 use Rattle.std.specs.List.{cons_option}
 use Rattle.slate_types.specs.declared.types.RowEntry.{RowEntry}
-use Rattle.slate_types.specs.Fold.{Combine, shown}
+use Rattle.slate_types.specs.Fold.{shown}
 use Rattle.slate_mem.specs.RowOf.{row_of}
-use Rattle.slate_txn.specs.State.{Rules, Commit, last_of, combine_at}
+use Rattle.slate_txn.specs.State.{last_of, combine_at}
 use Rattle.slate_txn.specs.Reads.{up_to, key_rows, seen}
 use Rattle.slate_script.specs.declared.engine.CommittedPut.{CommittedPut}
 use Rattle.slate_script.specs.Engine.{EngineModel, engine_rules, commit_of, commits_of, has_key, put_row, newest_row, NoneHas}

@@ -1,5 +1,5 @@
 -- The steps of the lines that are built, under what the engine stands for.
-use Rattle.std.proofs.Common.{◌≡◌, ℕ, ◌+◌, ◌-◌, ◌^◌, ◌==◌, Bool, true, false, cond, ◌&&◌, ◌||◌, List, [], ◌∷◌, ◌++◌, map, reverse, length, Option, Some, None, is_some, option_map, Ok, pos, refl, sym, ap, ◌∙◌, subst, arith}
+use Rattle.std.proofs.Common.{◌≡◌, ℕ, ◌+◌, ◌-◌, ◌^◌, ◌==◌, Bool, true, false, cond, ◌&&◌, ◌||◌, List, [], ◌∷◌, ◌++◌, map, reverse, length, Option, Some, None, is_some, option_map, Ok, refl, sym, ap, ◌∙◌, subst, arith}
 use Rattle.std.specs.Str.{bytes_eq}
 use Rattle.std.specs.Prelude.{nat_le, nat_lt}
 use Rattle.std.proofs.lemmas.Bool.{and_parts, eq-eqb, ne_eqb}
@@ -15,21 +15,20 @@ use Rattle.slate_types.specs.declared.config.PutOptions.{PutOptions}
 use Rattle.slate_types.specs.Fold.{from_last}
 use Rattle.slate_txn.specs.declared.event.TranscriptStep.{TranscriptStep}
 use Rattle.slate_txn.specs.declared.line.Line.TheVariants as lines
-use Rattle.slate_txn.specs.Named.{find_named, without, set_named, update_named}
-use Rattle.slate_txn.specs.State.{Rules, Tx, State, begun, last, last_of, is_open}
+use Rattle.slate_txn.specs.Named.{find_named, without, set_named}
+use Rattle.slate_txn.specs.State.{Tx, State, begun, last, last_of, is_open}
 use Rattle.slate_txn.specs.Reads.{seen}
 use Rattle.slate_txn.specs.Refusals.{first_refusal, when, op_refusal, ttl_refusal, exhausted_refusal, write_refusal}
 use Rattle.slate_txn.specs.Reply as replies
 use Rattle.slate_txn.specs.Reply.{Reply}
-use Rattle.slate_txn.specs.Step.{refused_or, with_reply, as_commit, with_commit, write, closed, noted, reader_or_snapshot, get, step}
+use Rattle.slate_txn.specs.Step.{refused_or, with_reply, as_commit, with_commit, write, closed, noted, reader_or_snapshot, get}
 use Rattle.slate_types.specs.declared.error.SlateDBError.TheVariants as errors
 use Rattle.slate_script.specs.declared.engine.CommittedPut.{CommittedPut}
-use Rattle.slate_script.specs.declared.reply.Answer.{Answer}
 use Rattle.slate_script.specs.declared.reply.Answer.TheVariants as answers
 use Rattle.slate_script.specs.declared.reply.Refusal.TheVariants as refusals
 use Rattle.slate_script.specs.Stage.{is_built_op, is_built_batch, is_key, is_value}
-use Rattle.slate_script.specs.Engine.{EngineModel, engine_rules, commit_of, commits_of, StandsFor, ArePlain, begin_of, IsStep, AnswersAs}
-use Rattle.slate_script.proofs.NamesLaws.{bytes_eq-refl, find_named-set, find_named-update, find_named-without, once-set, once-update, once-without, each-set, each-update, each-without, each-found}
+use Rattle.slate_script.specs.Engine.{EngineModel, engine_rules, commits_of, StandsFor, begin_of, IsStep, AnswersAs}
+use Rattle.slate_script.proofs.NamesLaws.{bytes_eq-refl, none-found, find_named-set, find_named-update, find_named-without, once-set, once-update, once-without, each-set, each-update, each-without, each-found}
 use Rattle.slate_script.proofs.NewestLaws.{last_of-commits, commits_of-push}
 
 -- ---- what the engine knows of the state
@@ -99,15 +98,15 @@ stands-begun e s names name t h none plain updates = record {
   moment = h.moment;
 }
 
-pub begin-opens : (e : EngineModel) (names : List (List ℕ × ℕ)) (name : List ℕ) (level : IsolationLevel) (n : ℕ) → n ≡ e.start + length e.commits → find_named name e.names ≡ None →
+pub begin-opens : (e : EngineModel) (names : List (List ℕ × ℕ)) (name : List ℕ) (level : IsolationLevel) (n : ℕ) → n ≡ e.start + length e.commits → is_some (find_named name e.names) ≡ false →
     ((q : List ℕ) → find_named q names ≡ cond (bytes_eq name q) (Some n) (find_named q e.names)) →
     AnswersAs e (with_names e names) (lines.Begin name level) (Ok (answers.Begun name n))
-begin-opens e names name level n is none updates s h =
+begin-opens e names name level n is shut updates s h =
+    let none : find_named name e.names ≡ None = none-found (find_named name e.names) shut in
     let lasts : n ≡ last (engine_rules e) s = is ∙ sym (last-is e s h) in
-    let shut : is_open s name ≡ false = open-is e s name h ∙ ap is_some none in
     subst (λ t. IsStep (with_names e names) (cond t (s, replies.Refused (errors.DuplicateTransaction name)) (record s { txns = set_named name (begun level (last (engine_rules e) s)) s.txns }, replies.Begun name (last (engine_rules e) s)))
         (answers.Begun name n))
-    (sym shut)
+    (sym (open-is e s name h ∙ shut))
     (subst (λ m. IsStep (with_names e names) (record s { txns = set_named name (begun level m) s.txns }, replies.Begun name m) (answers.Begun name n)) lasts
       (stands-begun e s names name (begun level n) h none refl updates, refl))
 
@@ -141,10 +140,10 @@ get-found e name k b row some is s h =
 
 -- ---- rollback
 
-pub rollback-refused : (e : EngineModel) (name : List ℕ) → find_named name e.names ≡ None → AnswersAs e e (lines.Rollback name) (Ok (answers.Refused (refusals.UnknownTransaction name)))
-rollback-refused e name none s h =
+pub rollback-refused : (e : EngineModel) (name : List ℕ) → is_some (find_named name e.names) ≡ false → AnswersAs e e (lines.Rollback name) (Ok (answers.Refused (refusals.UnknownTransaction name)))
+rollback-refused e name shut s h =
     subst (λ t. IsStep e (cond t (closed s name, replies.Done) (s, replies.Refused (errors.UnknownTransaction name))) (answers.Refused (refusals.UnknownTransaction name)))
-    (sym (open-is e s name h ∙ ap is_some none)) (h, refl)
+    (sym (open-is e s name h ∙ shut)) (h, refl)
 
 begin_of-without : (name q : List ℕ) (b : Bool) (o : Option Tx) → option_map (λ t. t.begin) (cond b None o) ≡ cond b None (option_map (λ t. t.begin) o)
 begin_of-without name q true o = refl
@@ -162,11 +161,11 @@ stands-closed e s names name h updates = record {
   moment = h.moment;
 }
 
-pub rollback-closes : (e : EngineModel) (names : List (List ℕ × ℕ)) (name : List ℕ) (b : ℕ) → find_named name e.names ≡ Some b →
+pub rollback-closes : (e : EngineModel) (names : List (List ℕ × ℕ)) (name : List ℕ) → is_some (find_named name e.names) ≡ true →
     ((q : List ℕ) → find_named q names ≡ cond (bytes_eq name q) None (find_named q e.names)) → AnswersAs e (with_names e names) (lines.Rollback name) (Ok answers.Done)
-rollback-closes e names name b some updates s h =
+rollback-closes e names name some updates s h =
     subst (λ t. IsStep (with_names e names) (cond t (closed s name, replies.Done) (s, replies.Refused (errors.UnknownTransaction name))) answers.Done)
-    (sym (open-is e s name h ∙ ap is_some some)) (stands-closed e s names name h updates, refl)
+    (sym (open-is e s name h ∙ some)) (stands-closed e s names name h updates, refl)
 
 -- ---- write
 

@@ -1,4 +1,4 @@
-use Rattle.std.proofs.Common.{◌≡◌, drop}
+use Rattle.std.proofs.Common.{drop}
 use Rattle.slate_script.specs.Engine.{NoneHas}
 use Rattle.slate_script.proofs.engine.newest_put.Given as goal
 

@@ -1,5 +1,5 @@
 -- The row that is made is that of the place that was found.
-use Rattle.std.proofs.Common.{◌≡◌, ◌+◌, ◌-◌, ◌<◌, true, None, Some, option_map, List, length, take, drop, get_or, pos, subst, sym, ap, ◌∙◌}
+use Rattle.std.proofs.Common.{◌≡◌, ◌+◌, ◌-◌, ◌<◌, true, Some, option_map, List, length, take, drop, get_or, pos, subst, sym, ap, ◌∙◌}
 use Rattle.slate_types.specs.Expiry.{expiry}
 use Rattle.slate_types.specs.Rows.{key_value}
 use Rattle.slate_script.specs.Engine.{has_key, NoneHas}
