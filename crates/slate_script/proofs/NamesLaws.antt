@@ -53,7 +53,7 @@ find_named-set name q x (p ∷ ps) none = by (bytes_eq p.0 name) refl (bytes_eq 
     by true e u f later = let bad : Some p.1 ≡ None = ap (λ t. cond t (Some p.1) (find_named name ps)) (sym e) ∙ none in cc
     by false e true f later =
         let apart : bytes_eq name q ≡ false = false_from_ne_true (bytes_eq name q) (λ g.
-            let same : bytes_eq p.0 name ≡ true = ap (λ z. bytes_eq p.0 z) (bytes_eq-is name q g) ∙ f in cc) in
+        let same : bytes_eq p.0 name ≡ true = ap (λ z. bytes_eq p.0 z) (bytes_eq-is name q g) ∙ f in cc) in
         ap (λ t. cond t (Some p.1) (find_named q (set_named name x ps))) f
         ∙ sym (ap (λ t. cond t (Some x) (cond (bytes_eq p.0 q) (Some p.1) (find_named q ps))) apart ∙ ap (λ t. cond t (Some p.1) (find_named q ps)) f)
     by false e false f later =
@@ -126,7 +126,7 @@ find_named-without name q (p ∷ ps) once = by (bytes_eq p.0 name) refl (bytes_e
         ∙ sym (ap (λ t. cond t None (find_named q (p ∷ ps))) apart ∙ ap (λ u. cond u (Some p.1) (find_named q ps)) g)
     by false e true g later =
         let apart : bytes_eq name q ≡ false = false_from_ne_true (bytes_eq name q) (λ h.
-            let same : bytes_eq p.0 name ≡ true = ap (λ z. bytes_eq p.0 z) (bytes_eq-is name q h) ∙ g in cc) in
+        let same : bytes_eq p.0 name ≡ true = ap (λ z. bytes_eq p.0 z) (bytes_eq-is name q h) ∙ g in cc) in
         ap (λ t. find_named q (cond t ps (p ∷ without name ps))) e ∙ ap (λ u. cond u (Some p.1) (find_named q (without name ps))) g
         ∙ sym (ap (λ t. cond t None (find_named q (p ∷ ps))) apart ∙ ap (λ u. cond u (Some p.1) (find_named q ps)) g)
     by false e false g later =
@@ -170,9 +170,10 @@ pub once-set : {X : Type 0} (name : List ℕ) (x : X) (ps : List (List ℕ × X)
 once-set name x [] none once = (refl, tt)
 once-set name x (p ∷ ps) none once =
     let parts : (bytes_eq p.0 name ≡ false) × (among name (map (λ r. r.0) ps) ≡ false) =
-        or_parts (bytes_eq p.0 name) (among name (map (λ r. r.0) ps)) (absent-from_none name (p ∷ ps) none) in
-    ( ap (among p.0) (names-set name x ps) ∙ among-push p.0 name (map (λ r. r.0) ps) once.0 (bytes_eq-sym name p.0 ∙ parts.0)
-    , once-set name x ps (find_named-absent name ps parts.1) once.1)
+    or_parts (bytes_eq p.0 name) (among name (map (λ r. r.0) ps)) (absent-from_none name (p ∷ ps) none) in (
+      ap (among p.0) (names-set name x ps) ∙ among-push p.0 name (map (λ r. r.0) ps) once.0 (bytes_eq-sym name p.0 ∙ parts.0),
+      once-set name x ps (find_named-absent name ps parts.1) once.1,
+    )
 
 pub once-update : {X : Type 0} (name : List ℕ) (f : X → X) (ps : List (List ℕ × X)) → StandOnce ps → StandOnce (update_named name f ps)
 once-update name f [] once = tt

@@ -124,4 +124,4 @@ seen-at e b k i c within at has none =
     let at-taken : c ≡ get_or (take (b - e.start) e.commits) i c = at ∙ sym same in
     seen-newest e b k
     ∙ newest-at e.default_millis k None e.start (take (b - e.start) e.commits) i c within at-taken (ap (has_key k) at-taken ∙ has)
-        (subst (λ m. NoneHas k (drop m (take (b - e.start) e.commits))) (add-one i) none)
+    (subst (λ m. NoneHas k (drop m (take (b - e.start) e.commits))) (add-one i) none)

@@ -73,7 +73,7 @@ pub begin-refused : (e : EngineModel) (name : List ℕ) (level : IsolationLevel)
     AnswersAs e e (lines.Begin name level) (Ok (answers.Refused (refusals.DuplicateTransaction name)))
 begin-refused e name level some s h =
     subst (λ t. IsStep e (cond t (s, replies.Refused (errors.DuplicateTransaction name)) (record s { txns = set_named name (begun level (last (engine_rules e) s)) s.txns }, replies.Begun name (last (engine_rules e) s)))
-        (answers.Refused (refusals.DuplicateTransaction name)))
+    (answers.Refused (refusals.DuplicateTransaction name)))
     (sym (open-is e s name h ∙ some)) (h, refl)
 
 abbrev pub with_names : EngineModel → List (List ℕ × ℕ) → EngineModel
@@ -105,10 +105,10 @@ begin-opens e names name level n is shut updates s h =
     let none : find_named name e.names ≡ None = none-found (find_named name e.names) shut in
     let lasts : n ≡ last (engine_rules e) s = is ∙ sym (last-is e s h) in
     subst (λ t. IsStep (with_names e names) (cond t (s, replies.Refused (errors.DuplicateTransaction name)) (record s { txns = set_named name (begun level (last (engine_rules e) s)) s.txns }, replies.Begun name (last (engine_rules e) s)))
-        (answers.Begun name n))
+    (answers.Begun name n))
     (sym (open-is e s name h ∙ shut))
     (subst (λ m. IsStep (with_names e names) (record s { txns = set_named name (begun level m) s.txns }, replies.Begun name m) (answers.Begun name n)) lasts
-      (stands-begun e s names name (begun level n) h none refl updates, refl))
+    (stands-begun e s names name (begun level n) h none refl updates, refl))
 
 -- ---- get
 
@@ -134,7 +134,7 @@ pub get-found : (e : EngineModel) (name k : List ℕ) (b : ℕ) (row : Option Ke
 get-found e name k b row some is s h =
     let tx : (t : Tx) × IsTx b s name t = the-tx e s name b h some in
     let sees : seen (engine_rules e) (commits_of e.start e.commits) b [] k ≡ seen (engine_rules e) s.commits tx.0.begin tx.0.ops k =
-        λ i. seen (engine_rules e) (sym h.commits i) (sym tx.1.begin i) (sym tx.1.plain i) k in
+    λ i. seen (engine_rules e) (sym h.commits i) (sym tx.1.begin i) (sym tx.1.plain i) k in
     subst (λ o. IsStep e (get (engine_rules e) s name k (reader_or_snapshot o (find_named name s.snapshots))) (answers.Found row)) (sym tx.1.is)
     (stands-noted e s name _ h, ap replies.Found (is ∙ ap (option_map key_value) sees))
 
@@ -192,7 +192,7 @@ write-refusal : (e : EngineModel) (s : State) (k v : List ℕ) (o : PutOptions) 
     write_refusal (engine_rules e) s ((k, Put v o) ∷ []) ≡ exhausted_refusal (engine_rules e) s
 write-refusal e s k v o built =
     (λ i. first_refusal (op-fine k v o built i ∷ exhausted_refusal (engine_rules e) s ∷ None
-        ∷ first_refusal (None ∷ ttl_refusal k (reverse (map (op_expiry e.default_millis s.now) (kept-one k (Put v o) i))) ∷ []) ∷ []))
+    ∷ first_refusal (None ∷ ttl_refusal k (reverse (map (op_expiry e.default_millis s.now) (kept-one k (Put v o) i))) ∷ []) ∷ []))
     ∙ by (last (engine_rules e) s == 2 ^ 64 - 2)
   where
     by : (t : Bool) → first_refusal (when t errors.SequenceExhausted ∷ None ∷ None ∷ []) ≡ when t errors.SequenceExhausted
@@ -209,8 +209,8 @@ write-refused e ops c is built full s h =
     let none-left : (last (engine_rules e) s == 2 ^ 64 - 2) ≡ true = eq-eqb _ _ (last-is e s h ∙ full) in
     subst (λ os. IsStep e (write (engine_rules e) s os) (answers.Refused refusals.SequenceExhausted)) (sym is)
     (subst (λ o. IsStep e (refused_or o s (with_reply replies.Written (as_commit (engine_rules e) s ((c.key, Put c.value c.options) ∷ []) (c.key ∷ [])))) (answers.Refused refusals.SequenceExhausted))
-      (sym (write-refusal e s c.key c.value c.options built-op ∙ ap (λ t. when t errors.SequenceExhausted) none-left))
-      (h, refl))
+    (sym (write-refusal e s c.key c.value c.options built-op ∙ ap (λ t. when t errors.SequenceExhausted) none-left))
+    (h, refl))
 
 stands-written : (e : EngineModel) (s : State) (c : CommittedPut) → StandsFor e s →
     StandsFor (with_commits e (e.commits ++ (c ∷ []))) (with_commit (engine_rules e) s ((c.key, Put c.value c.options) ∷ []) (c.key ∷ []))
@@ -231,5 +231,5 @@ write-commits e ops c n is built count left s h =
     let some-left : (last (engine_rules e) s == 2 ^ 64 - 2) ≡ false = ne_eqb _ _ (λ full. left (lasts ∙ full)) in
     subst (λ os. IsStep (with_commits e (e.commits ++ (c ∷ []))) (write (engine_rules e) s os) (answers.Written (Some (n + 1)))) (sym is)
     (subst (λ o. IsStep (with_commits e (e.commits ++ (c ∷ []))) (refused_or o s (with_reply replies.Written (as_commit (engine_rules e) s ((c.key, Put c.value c.options) ∷ []) (c.key ∷ [])))) (answers.Written (Some (n + 1))))
-      (sym (write-refusal e s c.key c.value c.options built-op ∙ ap (λ t. when t errors.SequenceExhausted) some-left))
-      (stands-written e s c h, ap (λ m. replies.Written (Some (m + 1))) lasts))
+    (sym (write-refusal e s c.key c.value c.options built-op ∙ ap (λ t. when t errors.SequenceExhausted) some-left))
+    (stands-written e s c h, ap (λ m. replies.Written (Some (m + 1))) lasts))

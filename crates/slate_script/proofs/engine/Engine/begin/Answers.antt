@@ -14,7 +14,7 @@ pub returns-then-contains_key-clause-step : goal.returns-then-contains_key-claus
 returns-then-contains_key-clause-step c =
     let names = c.self.inside.names.entries in
     let some : is_some (find_named c.args.name c.args.self.now.names) ≡ true =
-        sym (ap (λ v. is_some (find_named c.args.name v.names)) c.self.view_is) ∙ ap is_some (find_named-lookup c.args.name names) ∙ sym c.if-contains_key.ensures in
+    sym (ap (λ v. is_some (find_named c.args.name v.names)) c.self.view_is) ∙ ap is_some (find_named-lookup c.args.name names) ∙ sym c.if-contains_key.ensures in
     begin-refused c.args.self.now c.args.name c.args.level some
 
 pub returns-clause-step : goal.returns-clause-step
@@ -24,5 +24,5 @@ returns-clause-step c =
     let none : is_some (find_named c.args.name before.names) ≡ false = ap is_some (find_named-lookup c.args.name before.names) ∙ sym c.if-contains_key.ensures in
     subst (λ (v : EngineModel). AnswersAs v (with_names before names) (lines.Begin c.args.name c.args.level) (Ok (answers.Begun c.args.name c.last-start.result))) c.self.view_is
     (begin-opens before names c.args.name c.args.level c.last-start.result (c.last-start.ensures ∙ sym (ap (λ v. v.start + length v.commits) c.self.view_is)) none
-      (λ q. named-after c.args.name q (Some c.last-start.result) before.names names
-        (c.in_ok-insert.ensures.updates.0 q ∙ ap (λ k. cond (is_at (key_cmp k) q) (Some c.last-start.result) (lookup (is_at (key_cmp q)) before.names)) c.in_ok-clone.ensures.cases)))
+    (λ q. named-after c.args.name q (Some c.last-start.result) before.names names
+    (c.in_ok-insert.ensures.updates.0 q ∙ ap (λ k. cond (is_at (key_cmp k) q) (Some c.last-start.result) (lookup (is_at (key_cmp q)) before.names)) c.in_ok-clone.ensures.cases)))

@@ -20,9 +20,9 @@ returns-clause-row c =
     let within : place < length (take (c.args.seq - e.start) e.commits) = subst (λ (xs : List CommittedPut). place < length xs) c.commits_at.ensures c.in-Some.ensures.within in
     let at : put ≡ get_or e.commits place put = c.index-put.ensures ∙ ap (λ v. get_or v.commits place put) c.self.view_is in
     let has : has_key c.args.key (get_or (take (c.args.seq - e.start) e.commits) place put) ≡ true =
-        subst (λ (xs : List CommittedPut). has_key c.args.key (get_or xs place put) ≡ true) c.commits_at.ensures (c.in-Some.ensures.found put) in
+    subst (λ (xs : List CommittedPut). has_key c.args.key (get_or xs place put) ≡ true) c.commits_at.ensures (c.in-Some.ensures.found put) in
     let none : NoneHas c.args.key (drop (place + 1) (take (c.args.seq - e.start) e.commits)) =
-        subst (λ (xs : List CommittedPut). NoneHas c.args.key (drop (place + 1) xs)) c.commits_at.ensures c.in-Some.ensures.newest in
+    subst (λ (xs : List CommittedPut). NoneHas c.args.key (drop (place + 1) xs)) c.commits_at.ensures c.in-Some.ensures.newest in
     (λ i. Some (record {
       key = c.key.view_is i;
       value = c.in_ok-clone.ensures.cases i;

@@ -16,5 +16,5 @@ returns-clause-step c =
     let pushed : c.push.new.self.items ≡ before.commits ++ (c.single_put-put.result ∷ []) = c.in_ok-push.ensures.items in
     subst (λ (v : EngineModel). AnswersAs v (with_commits before c.push.new.self.items) (lines.Write c.args.ops) (Ok (answers.Written (Some (c.last-last.result + 1))))) c.self.view_is
     (subst (λ (cs : List CommittedPut). AnswersAs before (with_commits before cs) (lines.Write c.args.ops) (Ok (answers.Written (Some (c.last-last.result + 1))))) (sym pushed)
-      (write-commits before c.args.ops c.single_put-put.result c.last-last.result c.single_put-put.ensures c.requires
-        (c.last-last.ensures ∙ sym (ap (λ v. v.start + length v.commits) c.self.view_is)) c.if-last.false))
+    (write-commits before c.args.ops c.single_put-put.result c.last-last.result c.single_put-put.ensures c.requires
+    (c.last-last.ensures ∙ sym (ap (λ v. v.start + length v.commits) c.self.view_is)) c.if-last.false))
