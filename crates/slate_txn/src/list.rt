@@ -69,7 +69,7 @@ impl OpList {
     pub fn into_vec(self) -> Vec<(Bytes, WriteOp)>
         ensures { result.items ≡ self }
     {
-        self.ops
+        self.items
     }
 }
 
