@@ -8,9 +8,19 @@ use std::alloc::Global;
 
 const DAY: &[u8] = b"begin t si\nget t 'a\nwrite put 'a '1\nget t 'a\nrollback t\n";
 
-const DAY_REPLIES: [&[u8]; 5] = [b"begun t 0\n", b"none\n", b"written 1\n", b"none\n", b"ok\n"];
+const DAY_REPLIES: [&[u8]; 5] = [
+    b"begun t 0\n",
+    b"none\n",
+    b"written 1\n",
+    b"none\n",
+    b"ok\n",
+];
 
-fn source_of(alloc: Global, script: &[u8], failing: Vec<u64>) -> Result<MemorySource, SlateDBError> {
+fn source_of(
+    alloc: Global,
+    script: &[u8],
+    failing: Vec<u64>,
+) -> Result<MemorySource, SlateDBError> {
     let mut bytes = Vec::new(alloc);
     bytes.extend_from_slice(script)?;
     Ok(MemorySource::new(bytes, failing))
@@ -98,7 +108,10 @@ fn names_the_first_other_line(rt: HostRuntime) -> Result<(), SlateDBError> {
     ];
     for (script, line, replies) in cases {
         let (end, sink) = run(alloc, script, &Options::new())?;
-        assert!(rt; end == Err(SlateDBError::ScriptSyntax { line }), "at {script:?}");
+        assert!(rt;
+            end == Err(SlateDBError::ScriptSyntax { line }),
+            "at {script:?}"
+        );
         assert!(rt; sink.taken() == replies, "at {script:?}");
         let (status, sink) = run_plain(alloc, script)?;
         assert_eq!(rt; status, 3, "at {script:?}");
@@ -129,7 +142,11 @@ fn ends_at_a_read_fault(rt: HostRuntime) -> Result<(), SlateDBError> {
         let failing = vec![in alloc; call]?;
         let mut source = source_of(alloc, DAY, failing)?;
         let mut sink = MemorySink::new(alloc, Vec::new(alloc));
-        assert_eq!(rt; run_main(alloc, &[], &mut source, &mut sink), status, "at call {call}");
+        assert_eq!(rt;
+            run_main(alloc, &[], &mut source, &mut sink),
+            status,
+            "at call {call}"
+        );
         let replies = joined(alloc, &DAY_REPLIES[..answered])?;
         assert!(rt; sink.taken() == replies.as_slice(), "at call {call}");
     }
@@ -140,11 +157,22 @@ fn ends_at_a_read_fault(rt: HostRuntime) -> Result<(), SlateDBError> {
 #[test]
 fn ends_at_a_write_fault(rt: HostRuntime) -> Result<(), SlateDBError> {
     let alloc = rt.alloc();
-    for (call, status, answered) in [(1, 6, 0), (2, 6, 1), (3, 6, 2), (4, 6, 3), (5, 6, 4), (6, 0, 5)] {
+    for (call, status, answered) in [
+        (1, 6, 0),
+        (2, 6, 1),
+        (3, 6, 2),
+        (4, 6, 3),
+        (5, 6, 4),
+        (6, 0, 5),
+    ] {
         let mut source = source_of(alloc, DAY, Vec::new(alloc))?;
         let failing = vec![in alloc; call]?;
         let mut sink = MemorySink::new(alloc, failing);
-        assert_eq!(rt; run_main(alloc, &[], &mut source, &mut sink), status, "at call {call}");
+        assert_eq!(rt;
+            run_main(alloc, &[], &mut source, &mut sink),
+            status,
+            "at call {call}"
+        );
         let replies = joined(alloc, &DAY_REPLIES[..answered])?;
         assert!(rt; sink.taken() == replies.as_slice(), "at call {call}");
     }
