@@ -102,9 +102,11 @@ abbrev pub ReadOn : List ℕ → Option (List ℕ) → Type 0
 ReadOn script source = (n : ℕ) × (n ≤ script_limit) × (source ≡ Some (drop n script))
 
 read-on : (script done held rest : List ℕ) (source : Option (List ℕ)) → script ≡ done ++ (held ++ rest) → length done + length held ≤ script_limit → source ≡ Some rest → ReadOn script source
-read-on script done held rest source split within is =
-    (length (done ++ held), rw (length-append done held) within,
-    is ∙ ap Some (sym (ap (drop (length (done ++ held))) (split ∙ sym (append_assoc done held rest)) ∙ drop-append_seam (done ++ held) rest)))
+read-on script done held rest source split within is = (
+  length (done ++ held),
+  rw (length-append done held) within,
+  is ∙ ap Some (sym (ap (drop (length (done ++ held))) (split ∙ sym (append_assoc done held rest)) ∙ drop-append_seam (done ++ held) rest)),
+)
 
 pub reader-read : {r : Rules} {script : List ℕ} {source told sink : Option (List ℕ)} {old : LinesModel} {number : ℕ} {e : EngineModel} (new : LinesModel) (rest : List ℕ) (after : Option (List ℕ)) (at : IsAt r script source told sink old number e)
     → KeepsAll old at.left new rest → new.given + length new.held ≤ script_limit → after ≡ Some rest → ReadOn script after

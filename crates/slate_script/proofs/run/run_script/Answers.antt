@@ -93,8 +93,8 @@ returns-in_err-answer_line-clause-by_sink g c script before is told-is fault =
     let state = after_lines meaning (rules_of c.args.options.now) opening (lines_of took.done) in
     let reply = replies_from meaning (rules_of c.args.options.now) state (c.as_slice.result.now ∷ []) in
     let begun : (n : ℕ) × (n < length reply) × (g.W.Sink.content c.answer_line.new.sink ≡ Some ((before ++ done) ++ take n reply)) =
-        subst (λ r. (n : ℕ) × (n < length (replies_from meaning r state (c.as_slice.result.now ∷ []))) × (g.W.Sink.content c.answer_line.new.sink ≡ Some ((before ++ done) ++ take n (replies_from meaning r state (c.as_slice.result.now ∷ [])))))
-        c.loop-engine.invariant.rules (c.in_err-answer_line.ensures.begun state (before ++ done) took.engine (took.said before told-is) (ap Err kind)) in
+    subst (λ r. (n : ℕ) × (n < length (replies_from meaning r state (c.as_slice.result.now ∷ []))) × (g.W.Sink.content c.answer_line.new.sink ≡ Some ((before ++ done) ++ take n (replies_from meaning r state (c.as_slice.result.now ∷ [])))))
+    c.loop-engine.invariant.rules (c.in_err-answer_line.ensures.begun state (before ++ done) took.engine (took.said before told-is) (ap Err kind)) in
     (done ++ take begun.0 reply, begun.2 ∙ ap Some (append_assoc before done (take begun.0 reply)), line-sink begun.0 took (c.in_err-answer_line.ensures.write_fault (ap Err kind)).1 begun.1)
 
 pub returns-in_err-answer_line-clause-by_memory : goal.returns-in_err-answer_line-clause-by_memory
