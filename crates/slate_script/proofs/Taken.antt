@@ -299,7 +299,7 @@ pub took-told : {V : Type 0} {r : Rules} {script : List ℕ} {source told sink :
 took-told {r = r} {script = script} {source = source} {told = told} {sink = sink} {old = old} {number = number} {e = e} items o v line after new tells within some is at =
     let gave = tells at.left at.rest in
     let gives : GivesLine line old at.left new gave.0 =
-        subst (λ l. GivesLine l old at.left new gave.0) (sym is) (subst (λ p. MatchOption p (IsEnd old at.left new gave.0) (λ l. GivesLine (items l) old at.left new gave.0)) some gave.2) in
+    subst (λ l. GivesLine l old at.left new gave.0) (sym is) (subst (λ p. MatchOption p (IsEnd old at.left new gave.0) (λ l. GivesLine (items l) old at.left new gave.0)) some gave.2) in
     let bound : new.given ≤ script_limit = omega arith in
     take-line r script line source told sink after old new number e at gave.0 gave.1 gives bound
 

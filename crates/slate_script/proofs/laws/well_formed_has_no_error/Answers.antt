@@ -1,5 +1,4 @@
 use Rattle.slate_script.proofs.Taken.{formed-no_error, no_error-formed}
-
 use Rattle.slate_script.proofs.laws.well_formed_has_no_error.Goals as goal
 
 pub returns : goal.returns
