@@ -113,6 +113,13 @@ pub reader-read : {r : Rules} {script : List ℕ} {source told sink : Option (Li
 reader-read {script = script} new rest after at keeps within is =
     read-on script at.done new.held rest after (at.stands.split ∙ ap (λ bs. at.done ++ bs) (sym keeps.bytes)) (omega (arith, keeps.counts, at.given)) is
 
+pub reader-full : {r : Rules} {script : List ℕ} {source told sink : Option (List ℕ)} {old : LinesModel} {number : ℕ} {e : EngineModel} (new : LinesModel) (rest : List ℕ) (after : Option (List ℕ)) (at : IsAt r script source told sink old number e)
+    → KeepsAll old at.left new rest → new.given + length new.held ≡ script_limit → after ≡ Some rest → after ≡ Some (drop script_limit script)
+unfolding reader-read read-on
+reader-full {script = script} new rest after at keeps full is =
+    let count : length (at.done ++ new.held) ≡ script_limit = omega (arith, length-append at.done new.held, keeps.counts, at.given) in
+    (reader-read new rest after at keeps (omega arith) is).2 ∙ ap (λ n. Some (drop n script)) count
+
 pub line-read : {r : Rules} {script line : List ℕ} {source told sink : Option (List ℕ)} {m : LinesModel} {number : ℕ} {e : EngineModel} (took : Took r script source told sink m line number e) → m.given + length m.held ≤ script_limit → ReadOn script source
 line-read {script = script} {source = source} {m = m} took within = read-on script took.more m.held took.left source took.stands.split (omega (arith, took.given)) took.rest
 
@@ -201,6 +208,14 @@ pub line-kinds : (number : ℕ) (line : List ℕ) (error : SlateDBError) → Lin
 line-kinds number line error (inl is) = inl (inl is)
 line-kinds number line error (inr (inl is)) = inl (inr (inr is))
 line-kinds number line error (inr (inr is)) = inr (inr (number, is.0))
+
+pub line-not-long : (number : ℕ) (line : List ℕ) (error : SlateDBError) → LineError number line error → error ≡ ScriptTooLong → ⊥
+line-not-long number line error (inl is) long = cc
+line-not-long number line error (inr (inl is)) long = cc
+line-not-long number line error (inr (inr is)) long = clash is.0 long
+  where
+    clash : error ≡ ScriptSyntax number → error ≡ ScriptTooLong → ⊥
+    clash h k = cc
 
 -- nothing was written
 pub untouched : (error : SlateDBError) (sink after : Option (List ℕ)) → (error ≡ WriteFault) ⊎ (after ≡ sink) → error ≡ OutOfMemory → after ≡ sink

@@ -45,6 +45,10 @@ pub fn run_main<R: Source, W: Sink>(
     ensures complete { (script : List ℕ) → R.left source.old ≡ Some script → IsWellFormed script → words.now ≡ [] →
         (Rose (R.faults source.old) (R.faults source.new) → ⊥) → (Rose (W.faults sink.old) (W.faults sink.new) → ⊥) → (result ≡ 0) ⊎ (result ≡ 20) }
 
+    // no fault is passed over
+    ensures source_still { (result ≡ 5) ⊎ (R.faults source.new ≡ R.faults source.old) }
+    ensures sink_still { (result ≡ 6) ⊎ (W.faults sink.new ≡ W.faults sink.old) }
+
     // what the sink took then
     ensures by_script { (script before : List ℕ) → R.left source.old ≡ Some script → W.content sink.old ≡ Some before → (result ≡ 3) ⊎ (result ≡ 4) →
         W.content sink.new ≡ Some (before ++ replies_to meaning (rules_of defaults) (lines_taken script)) }
@@ -55,7 +59,8 @@ pub fn run_main<R: Source, W: Sink>(
     ensures by_memory { (script before : List ℕ) → R.left source.old ≡ Some script → W.content sink.old ≡ Some before → result ≡ 20 →
         (said : List ℕ) × (W.content sink.new ≡ Some (before ++ said)) × HasAnswered (rules_of defaults) script said }
 
-    // what was read, whatever the status
+    // what was read: all that a run can take of a script that is too long, and never more
+    ensures all { (script : List ℕ) → R.left source.old ≡ Some script → result ≡ 4 → R.left source.new ≡ Some (drop script_limit script) }
     ensures taken { (script : List ℕ) → R.left source.old ≡ Some script → (n : ℕ) × (n ≤ script_limit) × (R.left source.new ≡ Some (drop n script)) }
     ensures later { (R.faults source.old ≤ R.faults source.new) × (W.faults sink.old ≤ W.faults sink.new) }
 {

@@ -21,7 +21,8 @@ use std::alloc::Global;
 /// What is said of the script and of what was written holds where source and sink tell their bytes. An
 /// error of the script itself, `ScriptSyntax` or `ScriptTooLong`, comes exactly where `script_error` has it,
 /// unless a fault or want of memory came first. `ReadFault` and `WriteFault` come only where that object's
-/// count of faults rose in this call. The replies before an error are written.
+/// count of faults rose in this call, and a count that rose is never passed over. The replies before an
+/// error are written.
 pub fn run_script<R: Source, W: Sink>(
     alloc: Global,
     source: &mut R,
@@ -44,6 +45,10 @@ pub fn run_script<R: Source, W: Sink>(
     ensures complete { (script : List ℕ) → R.left source.old ≡ Some script → IsWellFormed script →
         (Rose (R.faults source.old) (R.faults source.new) → ⊥) → (Rose (W.faults sink.old) (W.faults sink.new) → ⊥) → IsOkUnless result SlateDBError.OutOfMemory }
 
+    // no fault is passed over
+    ensures source_still { (result ≡ Err SlateDBError.ReadFault) ⊎ (R.faults source.new ≡ R.faults source.old) }
+    ensures sink_still { (result ≡ Err SlateDBError.WriteFault) ⊎ (W.faults sink.new ≡ W.faults sink.old) }
+
     // what the sink took at an error
     ensures by_script { (script before : List ℕ) → R.left source.old ≡ Some script → W.content sink.old ≡ Some before →
         IfErr result (λ e. script_error script ≡ Some e → W.content sink.new ≡ Some (before ++ replies_to meaning (rules_of options.now) (lines_taken script))) }
@@ -54,7 +59,8 @@ pub fn run_script<R: Source, W: Sink>(
     ensures by_memory { (script before : List ℕ) → R.left source.old ≡ Some script → W.content sink.old ≡ Some before → result ≡ Err SlateDBError.OutOfMemory →
         (said : List ℕ) × (W.content sink.new ≡ Some (before ++ said)) × HasAnswered (rules_of options.now) script said }
 
-    // what was read, whatever the answer
+    // what was read: all that a run can take of a script that is too long, and never more
+    ensures too_long { (script : List ℕ) → R.left source.old ≡ Some script → result ≡ Err SlateDBError.ScriptTooLong → R.left source.new ≡ Some (drop script_limit script) }
     ensures taken { (script : List ℕ) → R.left source.old ≡ Some script → (n : ℕ) × (n ≤ script_limit) × (R.left source.new ≡ Some (drop n script)) }
     ensures later { (R.faults source.old ≤ R.faults source.new) × (W.faults sink.old ≤ W.faults sink.new) }
 {
@@ -88,6 +94,8 @@ fn answer_line<W: Sink>(
     ensures begun { (s : State) (before : List ℕ) → StandsFor engine.old s → W.content sink.old ≡ Some before → result ≡ Err SlateDBError.WriteFault →
         (n : ℕ) × (n < length (replies_from meaning (engine_rules engine.old) s (line.now ∷ [])))
         × (W.content sink.new ≡ Some (before ++ take n (replies_from meaning (engine_rules engine.old) s (line.now ∷ [])))) }
+    ensures still { OnOk result (W.faults sink.new ≡ W.faults sink.old) }
+    ensures uncounted { IfErr result (λ e. (e ≡ SlateDBError.WriteFault) ⊎ (W.faults sink.new ≡ W.faults sink.old)) }
     ensures unanswered { IfErr result (λ e. (e ≡ SlateDBError.WriteFault) ⊎ (W.content sink.new ≡ W.content sink.old)) }
     ensures later { W.faults sink.old ≤ W.faults sink.new }
 {

@@ -1,5 +1,5 @@
 //! Counts of faults.
-ghost use Rattle.std.specs.Prelude.{◌≡◌, ◌≤◌, OnErr};
+ghost use Rattle.std.specs.Prelude.{◌≡◌, ◌≤◌, OnOk, OnErr};
 ghost use Rattle.slate_types.specs.Faults.{Rose};
 
 use crate::Failed;
@@ -49,6 +49,7 @@ impl FaultPlan {
     /// Counts a call, and fails where its number is named.
     pub(crate) fn step(&mut self) -> Result<(), Failed>
         ensures later { self.old.faults.count ≤ self.new.faults.count }
+        ensures still { OnOk result (self.new.faults.count ≡ self.old.faults.count) }
         ensures cause { OnErr result (Rose self.old.faults.count self.new.faults.count) }
     {
         self.calls = self.calls.saturating_add(1);

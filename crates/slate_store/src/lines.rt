@@ -45,6 +45,7 @@ impl Held {
         ensures too_long { result ≡ Err SlateDBError.ScriptTooLong → (self.new.taken ≡ script_limit) × HasNoEnd (held_bytes self.new) }
         ensures cause { IfErr result (λ e. (e ≡ SlateDBError.OutOfMemory) ⊎ (e ≡ SlateDBError.ReadFault) ⊎ (e ≡ SlateDBError.ScriptTooLong)) }
         ensures later { R.faults source.old ≤ R.faults source.new }
+        ensures still { (result ≡ Err SlateDBError.ReadFault) ⊎ (R.faults source.new ≡ R.faults source.old) }
     {
         loop {
             if let Some(line) = self.cut(alloc)? {
@@ -94,6 +95,7 @@ impl Held {
         ensures too_long { result ≡ Err SlateDBError.ScriptTooLong → self.new.taken ≡ script_limit }
         ensures cause { IfErr result (λ e. (e ≡ SlateDBError.OutOfMemory) ⊎ (e ≡ SlateDBError.ReadFault) ⊎ (e ≡ SlateDBError.ScriptTooLong)) }
         ensures later { R.faults source.old ≤ R.faults source.new }
+        ensures still { (result ≡ Err SlateDBError.ReadFault) ⊎ (R.faults source.new ≡ R.faults source.old) }
     {
         if self.taken == LIMIT {
             return Err(SlateDBError::ScriptTooLong);
@@ -149,6 +151,7 @@ fn read_front<R: Source>(source: &mut R, piece: &mut [u8], room: usize) -> Resul
     ensures bytes { (left : List ℕ) → R.left source.old ≡ Some left → IfOk result (λ n. (take n piece.new ≡ take n left) × (n ≤ length left) × (R.left source.new ≡ Some (drop n left)) × (n ≡ 0 → left ≡ [])) }
     ensures failed { OnErr result (R.left source.new ≡ R.left source.old) }
     ensures later { R.faults source.old ≤ R.faults source.new }
+    ensures still { OnOk result (R.faults source.new ≡ R.faults source.old) }
     ensures cause { OnErr result (Rose (R.faults source.old) (R.faults source.new)) }
 {
     source.read(&mut piece[..room])
@@ -212,6 +215,7 @@ impl Lines {
         ensures too_long { result ≡ Err SlateDBError.ScriptTooLong → (self.new.given + length self.new.held ≡ script_limit) × HasNoEnd self.new.held }
         ensures cause { IfErr result (λ e. (e ≡ SlateDBError.OutOfMemory) ⊎ (e ≡ SlateDBError.ReadFault) ⊎ (e ≡ SlateDBError.ScriptTooLong)) }
         ensures later { R.faults source.old ≤ R.faults source.new }
+        ensures still { (result ≡ Err SlateDBError.ReadFault) ⊎ (R.faults source.new ≡ R.faults source.old) }
     {
         self.held.next(self.alloc, source)
     }

@@ -1,4 +1,6 @@
-use Rattle.std.proofs.Common.{◌≡◌, inl, inr, Err, Some, sym, ap, ◌∙◌}
+use Rattle.std.proofs.Common.{◌≡◌, ◌⊎◌, ℕ, inl, inr, Result, Err, Some, sym, ap, refl, ◌∙◌}
+use Rattle.slate_types.specs.declared.error.SlateDBError.{SlateDBError}
+use Rattle.slate_types.specs.declared.error.SlateDBError.TheVariants.{ReadFault, WriteFault}
 use Rattle.slate_script.specs.Program.{status}
 use Rattle.slate_script.specs.Run.{script_error}
 use Rattle.slate_script.proofs.Statuses.{is-status, is-ended, is-read, is-write, is-memory, is-too_long, is-syntax, its-own}
@@ -7,7 +9,23 @@ use Rattle.slate_script.proofs.program.run_main.Goals as goal
 pub returns-in-Ok-clause-no_error : goal.returns-in-Ok-clause-no_error
 returns-in-Ok-clause-no_error g c script is zero = c.in-Ok.ensures.no_error script is
 
+status-or : {B P : Type 0} (e f : SlateDBError) (n : ℕ) (run : Result B SlateDBError) → n ≡ status e → run ≡ Err e → (run ≡ Err f) ⊎ P → (n ≡ status f) ⊎ P
+status-or e f n run is was (inl h) = inl (is ∙ ap status same)
+  where
+    same : e ≡ f
+    same = cc
+status-or e f n run is was (inr h) = inr h
+
 -- ---- where an error ended the run
+
+pub returns-in-Err-clause-source_still : goal.returns-in-Err-clause-source_still
+returns-in-Err-clause-source_still g c = status-or c.in-Err.error ReadFault c.status_of.result _ c.status_of.ensures refl c.in-Err.ensures.source_still
+
+pub returns-in-Err-clause-sink_still : goal.returns-in-Err-clause-sink_still
+returns-in-Err-clause-sink_still g c = status-or c.in-Err.error WriteFault c.status_of.result _ c.status_of.ensures refl c.in-Err.ensures.sink_still
+
+pub returns-in-Err-clause-all : goal.returns-in-Err-clause-all
+returns-in-Err-clause-all g c script is four = c.in-Err.ensures.too_long script is (ap Err (is-too_long c.in-Err.error c.in-Err.ensures.kinds (sym c.status_of.ensures ∙ four)))
 
 pub returns-in-Err-clause-statuses : goal.returns-in-Err-clause-statuses
 returns-in-Err-clause-statuses g c = rw c.status_of.ensures (is-status c.in-Err.error c.in-Err.ensures.kinds)

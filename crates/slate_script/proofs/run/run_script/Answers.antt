@@ -1,4 +1,4 @@
-use Rattle.std.proofs.Common.{◌≡◌, ◌⊎◌, ◌≤◌, ◌<◌, ◌++◌, ◌∷◌, [], ℕ, List, IfSome, Some, Result, Ok, Err, take, length, ◌+◌, sym, ap, subst, ◌∙◌, arith, append_assoc}
+use Rattle.std.proofs.Common.{◌≡◌, ◌⊎◌, ◌≤◌, ◌<◌, ◌++◌, ◌∷◌, [], ℕ, List, IfSome, Some, Result, Ok, Err, take, length, ◌+◌, sym, ap, subst, ◌∙◌, arith, append_assoc, refl, inl, inr}
 use Rattle.std.proofs.lemmas.Result.{err_from_is_err_and}
 use Rattle.slate_types.specs.declared.error.SlateDBError.{SlateDBError}
 use Rattle.slate_types.specs.declared.error.SlateDBError.TheVariants.{ScriptTooLong, OutOfMemory, ReadFault, WriteFault}
@@ -9,13 +9,42 @@ use Rattle.slate_script.specs.Replies.{after_lines, replies_from, replies_to}
 use Rattle.slate_script.specs.Run.{rules_of}
 use Rattle.slate_store.specs.Lines.{lines_of}
 use Rattle.slate_script.proofs.Taken.{answer-it, took-told, end-told}
-use Rattle.slate_script.proofs.RunEnds.{rose-from, reader-error, reader-complete, reader-kinds, reader-read, line-kinds, line-read, line-complete, untouched, reader-script, reader-source, reader-memory, line-error, line-script, line-sink, line-memory, end-there, end-read, end-answered, end-formed, end-no_error}
+use Rattle.slate_script.proofs.RunEnds.{rose-from, reader-error, reader-complete, reader-kinds, reader-read, reader-full, line-not-long, line-kinds, line-read, line-complete, untouched, reader-script, reader-source, reader-memory, line-error, line-script, line-sink, line-memory, end-there, end-read, end-answered, end-formed, end-no_error}
 use Rattle.slate_script.proofs.run.run_script.Goals as goal
 
 same-error : {T : Type 0} (e f : SlateDBError) (r : Result T SlateDBError) → r ≡ Err e → r ≡ Err f → e ≡ f
 same-error e f r is was = cc
 
+unless-error : {T P : Type 0} (x : T) (e : SlateDBError) → (Ok x ≡ Err e) ⊎ P → P
+unless-error x e (inl is) = absurd (clash is)
+  where
+    clash : Ok x ≡ Err e → ⊥
+    clash h = cc
+unless-error x e (inr is) = is
+
+-- an error of a step is the run's, and else no count rose
+error-or : {A B P Q : Type 0} (e f : SlateDBError) (step : Result A SlateDBError) (run : Result B SlateDBError) → step ≡ Err e → run ≡ Err e → (step ≡ Err f) ⊎ P → (P → Q) → (run ≡ Err f) ⊎ Q
+error-or e f step run was is (inl h) next = inl (is ∙ ap Err (same-error e f step was h))
+error-or e f step run was is (inr h) next = inr (next h)
+
+error-is-or : {B P Q : Type 0} (e f : SlateDBError) (run : Result B SlateDBError) → run ≡ Err e → (e ≡ f) ⊎ P → (P → Q) → (run ≡ Err f) ⊎ Q
+error-is-or e f run is (inl h) next = inl (is ∙ ap Err h)
+error-is-or e f run is (inr h) next = inr (next h)
+
 -- ---- at an error of the reader
+
+pub returns-in_err-line-clause-source_still : goal.returns-in_err-line-clause-source_still
+returns-in_err-line-clause-source_still g c =
+    let p = err_from_is_err_and c.from_residual.result c.from_residual.ensures.1 in
+    error-or c.in_err-line.field-0.0 ReadFault _ c.from_residual.result refl (p.1 ∙ ap Err p.2) c.in_err-line.ensures.still (λ h. h ∙ c.loop-engine.invariant.source_still)
+
+pub returns-in_err-line-clause-too_long : goal.returns-in_err-line-clause-too_long
+returns-in_err-line-clause-too_long g c script is long =
+    let p = err_from_is_err_and c.from_residual.result c.from_residual.ensures.1 in
+    let kind : c.in_err-line.field-0.0 ≡ ScriptTooLong = same-error c.in_err-line.field-0.0 ScriptTooLong c.from_residual.result (p.1 ∙ ap Err p.2) long in
+    let at = c.loop-engine.invariant.told script is in
+    let told = c.in_err-line.ensures.told at.left at.rest in
+    reader-full c.next.new.self told.0 (g.R.Source.left c.next.new.source) at told.2 (c.in_err-line.ensures.too_long (ap Err kind)).0 told.1
 
 pub returns-in_err-line-clause-error : goal.returns-in_err-line-clause-error
 returns-in_err-line-clause-error g c script is =
@@ -64,6 +93,20 @@ returns-in_err-line-clause-taken g c script is =
     reader-read c.next.new.self told.0 (g.R.Source.left c.next.new.source) at told.2 c.in_err-line.ensures.within told.1
 
 -- ---- at a line that isn't answered
+
+pub returns-in_err-answer_line-clause-source_still : goal.returns-in_err-answer_line-clause-source_still
+returns-in_err-answer_line-clause-source_still g c = inr (unless-error c.in_ok-line.field-0 ReadFault c.in_ok-line.ensures.still ∙ c.loop-engine.invariant.source_still)
+
+pub returns-in_err-answer_line-clause-sink_still : goal.returns-in_err-answer_line-clause-sink_still
+returns-in_err-answer_line-clause-sink_still g c =
+    let p = err_from_is_err_and c.from_residual-in_err-answer_line.result c.from_residual-in_err-answer_line.ensures.1 in
+    error-is-or c.in_err-answer_line.field-0.0 WriteFault c.from_residual-in_err-answer_line.result (p.1 ∙ ap Err p.2) c.in_err-answer_line.ensures.uncounted (λ h. h ∙ c.loop-engine.invariant.sink_still)
+
+pub returns-in_err-answer_line-clause-too_long : goal.returns-in_err-answer_line-clause-too_long
+returns-in_err-answer_line-clause-too_long g c script is long =
+    let p = err_from_is_err_and c.from_residual-in_err-answer_line.result c.from_residual-in_err-answer_line.ensures.1 in
+    let kind : c.in_err-answer_line.field-0.0 ≡ ScriptTooLong = same-error c.in_err-answer_line.field-0.0 ScriptTooLong c.from_residual-in_err-answer_line.result (p.1 ∙ ap Err p.2) long in
+    absurd (line-not-long (c.loop-engine.number + 1) c.as_slice.result.now c.in_err-answer_line.field-0.0 c.in_err-answer_line.ensures.cause kind)
 
 pub returns-in_err-answer_line-clause-error : goal.returns-in_err-answer_line-clause-error
 returns-in_err-answer_line-clause-error g c script is =
@@ -132,6 +175,8 @@ loop-engine-preserved g c = record {
   rules = c.answer_line.ensures.rules ∙ c.loop-engine.invariant.rules;
   source_later = omega (arith, c.next.ensures.later);
   sink_later = omega (arith, c.answer_line.ensures.later);
+  source_still = unless-error c.in_ok-line.field-0 ReadFault c.in_ok-line.ensures.still ∙ c.loop-engine.invariant.source_still;
+  sink_still = c.in_ok-answer_line.ensures.still ∙ c.loop-engine.invariant.sink_still;
 }
 
 -- ---- the end
@@ -159,3 +204,6 @@ returns-clause-taken g c script is =
     let at = c.loop-engine.invariant.told script is in
     let end = end-told (λ v. v.items) c.in_ok-line.field-0 (g.R.Source.left c.next.new.source) c.next.new.self c.in_ok-line.ensures.told c.in_default.is at in
     end-read c.next.new.self end.0 (g.R.Source.left c.next.new.source) at end.2 c.in_ok-line.ensures.within end.1
+
+pub returns-clause-source_still : goal.returns-clause-source_still
+returns-clause-source_still g c = inr (unless-error c.in_ok-line.field-0 ReadFault c.in_ok-line.ensures.still ∙ c.loop-engine.invariant.source_still)

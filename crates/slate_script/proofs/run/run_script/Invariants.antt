@@ -14,6 +14,8 @@ invariant-loop-engine g l = record {
   rules : engine_rules l.engine ≡ rules_of l.options;
   source_later : g.R.Source.faults l.initial.source ≤ g.R.Source.faults l.source;
   sink_later : g.W.Sink.faults l.initial.sink ≤ g.W.Sink.faults l.sink;
+  source_still : g.R.Source.faults l.source ≡ g.R.Source.faults l.initial.source;
+  sink_still : g.W.Sink.faults l.sink ≡ g.W.Sink.faults l.initial.sink;
 }
 
 abbrev pub decreases-loop-engine : goal.decreases-loop-engine

@@ -1,8 +1,16 @@
-use Rattle.std.proofs.Common.{◌≡◌, ◌+◌, ◌<◌, ◌++◌, [], ℕ, length, take, drop, arith, length-append, ap}
+use Rattle.std.proofs.Common.{◌≡◌, ◌∙◌, ◌+◌, ◌<◌, ◌++◌, [], ℕ, length, take, drop, arith, length-append, ap, ◌⊎◌, inl, inr, Ok, Err}
+use Rattle.slate_types.specs.declared.error.SlateDBError.TheVariants.{ReadFault}
 use Rattle.slate_store.specs.Lines.{script_limit}
 use Rattle.slate_store.specs.Held.{held_bytes, model_of, unread}
 use Rattle.slate_store.proofs.Steps.{gives_cut, gives_last, keeps_taken, held_taken}
 use Rattle.slate_store.proofs.lines.Held.next.Goals as goal
+
+unless-fault : {P : Type 0} (n : ℕ) → (Ok n ≡ Err ReadFault) ⊎ P → P
+unless-fault n (inl is) = absurd (clash is)
+  where
+    clash : Ok n ≡ Err ReadFault → ⊥
+    clash h = cc
+unless-fault n (inr is) = is
 
 pub returns-in-Some-clause-told : goal.returns-in-Some-clause-told
 returns-in-Some-clause-told g c = λ left told.
@@ -43,5 +51,5 @@ loop-line-preserved g c =
           let bytes = c.in_ok-fill.ensures.bytes more is in
           let held : held_bytes c.fill.new.self ≡ held_bytes c.loop-line.self ++ take n more = held_taken _ _ _ _ _ c.in_ok-fill.ensures.line none.0 bytes.0 in
           (drop n more, bytes.1, keeps_taken (model_of c.args.self.now) (model_of c.loop-line.self) (model_of c.fill.new.self) left more n keeps held given);
-      later = omega arith;
+      still = unless-fault c.in_ok-fill.field-0 c.in_ok-fill.ensures.still ∙ c.loop-line.invariant.still;
     }

@@ -9,7 +9,7 @@ invariant-loop-line g l = record {
   given : (model_of l.self).given ≡ (model_of l.initial.self).given;
   told : (left : List ℕ) → g.R.Source.left l.initial.source ≡ Some left →
       (rest : List ℕ) × (g.R.Source.left l.source ≡ Some rest) × KeepsAll (model_of l.initial.self) left (model_of l.self) rest;
-  later : g.R.Source.faults l.initial.source ≤ g.R.Source.faults l.source;
+  still : g.R.Source.faults l.source ≡ g.R.Source.faults l.initial.source;
 }
 
 abbrev pub decreases-loop-line : goal.decreases-loop-line
