@@ -1,15 +1,14 @@
 -- Lists of lines that are answered in turn.
-use Rattle.std.proofs.Common.{◌≡◌, ℕ, suc, ◌+◌, ◌-◌, ◌≤◌, ◌<◌, Bool, true, false, cond, not, ◌&&◌, ◌||◌, ◌⊎◌, inl, inr, List, [], ◌∷◌, ◌++◌, length, Option, Some, None, option_map, is_some, IsTrue, refl, sym, ap, ◌∙◌, arith, append_assoc}
+use Rattle.std.proofs.Common.{◌≡◌, ℕ, suc, ◌+◌, Bool, true, false, cond, ◌&&◌, ◌||◌, ◌⊎◌, inl, inr, List, [], ◌∷◌, ◌++◌, length, Option, Some, None, option_map, is_some, IsTrue, refl, sym, ap, ◌∙◌, arith}
 use Rattle.std.specs.List.{AllByRecursion, flat_map}
 use Rattle.std.proofs.lemmas.List.{append-nil}
 use Rattle.std.proofs.lemmas.List.Concat.{flat_map-append}
 use Rattle.slate_txn.specs.declared.line.Line.{Line}
 use Rattle.slate_txn.specs.State.{Rules, State, opening}
-use Rattle.slate_txn.specs.Reply.{Reply}
 use Rattle.slate_txn.specs.Step.{step, answers, after}
 use Rattle.slate_script.specs.Parse.{parse, only_if, ◌>>=◌}
 use Rattle.slate_script.specs.Stage.{is_built, is_spelled_plainly, IsBuiltLine, meaning}
-use Rattle.slate_script.specs.Replies.{Read, is_silent, onto_meanings, meanings, reply_line, after_lines, replies_from, replies_to}
+use Rattle.slate_script.specs.Replies.{is_silent, onto_meanings, meanings, reply_line, after_lines, replies_from, replies_to}
 use Rattle.slate_script.specs.Run.{is_line, first_other, AreLines}
 use Rattle.slate_script.proofs.ParseLaws.{parse-is}
 use Rattle.slate_script.proofs.ParseOnly.{parse-only}

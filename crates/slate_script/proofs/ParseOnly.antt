@@ -23,7 +23,8 @@ use Rattle.slate_txn.specs.declared.line.Line.{Line}
 use Rattle.slate_txn.specs.declared.line.Line.TheVariants as lines
 use Rattle.slate_txn.specs.Named.{find_named}
 use Rattle.slate_script.specs.Text.{is_visible, hex_digit, hex}
-use Rattle.slate_script.specs.Grammar.{AreBytes, IsBytes, IsNumber, IsMoment, is_moment, is_name_byte, IsName, IsBound, level_word, order_word, Each, IsStep, IsTtl, IsPair, IsOp, AreOps, IsWay, Spells, IsLine}
+use Rattle.slate_types.specs.Keys.{AreBytes}
+use Rattle.slate_script.specs.Grammar.{IsBytes, IsNumber, IsMoment, is_moment, is_name_byte, IsName, IsBound, level_word, order_word, Each, IsStep, IsTtl, IsPair, IsOp, AreOps, IsWay, Spells, IsLine}
 use Rattle.slate_script.specs.Parse.{with_byte, both, three, only_if, ◌>>=◌, split_by, tokens_of, hex_value, unhex, read_hex, read_bytes, read_number, moment_value, read_moment, read_name, read_bound, read_level, read_order, read_step, read_all, read_ttl, read_pair, read_way, OpWord, PutWord, MergeWord, DeleteWord, op_word, op_as, group_token, grouped, ops_of_groups, named, keyed, many_keyed, Word, words, line_as, parse_tokens, parse, Now, Begin, Snapshot, Get, Scan, Prefix, Put, Merge, Delete, Mark, Unmark, Commit, Rollback, Write, Freeze, Flush, Journal}
 
 -- ---- options

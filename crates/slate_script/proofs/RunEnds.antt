@@ -1,5 +1,5 @@
 -- How a run ends: at an error of the reader, at a line that isn't answered, and at the end of the script.
-use Rattle.std.proofs.Common.{◌≡◌, ◌≢◌, ℕ, ◌+◌, ◌≤◌, ◌<◌, true, false, ◌⊎◌, inl, inr, List, [], ◌∷◌, ◌++◌, length, take, drop, Option, Some, None, IsTrue, refl, sym, ap, subst, ◌∙◌, arith, append_assoc}
+use Rattle.std.proofs.Common.{◌≡◌, ℕ, ◌+◌, ◌≤◌, ◌<◌, true, false, ◌⊎◌, inl, inr, List, [], ◌∷◌, ◌++◌, length, take, drop, Option, Some, None, IsTrue, refl, sym, ap, subst, ◌∙◌, arith, append_assoc}
 use Rattle.std.proofs.lemmas.List.{append-nil, length-append, take-append-drop, length-drop}
 use Rattle.std.proofs.Math.Seq.{drop-append_seam}
 use Rattle.slate_types.specs.declared.error.SlateDBError.{SlateDBError}
@@ -7,10 +7,10 @@ use Rattle.slate_types.specs.declared.error.SlateDBError.TheVariants.{ScriptSynt
 use Rattle.slate_types.specs.Faults.{Rose}
 use Rattle.slate_store.specs.Lines.{lines_of, whole_part, script_limit, HasNoEnd, LinesModel, IsEnd, KeepsAll}
 use Rattle.slate_store.proofs.LineLaws.{partial_line_is_not_whole}
-use Rattle.slate_txn.specs.State.{Rules, State, opening}
+use Rattle.slate_txn.specs.State.{Rules, opening}
 use Rattle.slate_script.specs.Stage.{meaning}
 use Rattle.slate_script.specs.Replies.{after_lines, replies_from, replies_to, replies, IsWellFormed}
-use Rattle.slate_script.specs.Engine.{EngineModel, StandsFor}
+use Rattle.slate_script.specs.Engine.{EngineModel}
 use Rattle.slate_script.specs.Run.{is_line, first_other, is_too_long, lines_taken, error_of, script_error, IsOutside, IsScriptError, AreLines, HasAnswered, HasBegun, HasAnsweredAll}
 use Rattle.slate_script.proofs.Answered.{lines-more, replies-append, replies-stop, other-none, other-first, lines-built}
 use Rattle.slate_script.proofs.Taken.{IsCut, IsAt, Took, taken-first, lines-begin, ends, first-empty, too-long, lines-no_error, formed-no_error}

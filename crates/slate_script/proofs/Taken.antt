@@ -3,20 +3,18 @@
 --     Stands script done left      what was given of the script is whole lines, or all of it
 --     IsAt ..      all lines that were given are answered
 --     Took ..      a line was given, and isn't answered yet
-use Rattle.std.proofs.Common.{◌≡◌, ◌≢◌, ℕ, suc, ◌+◌, ◌-◌, ◌^◌, ◌≤◌, ◌<◌, Bool, true, false, cond, not, ◌&&◌, ◌||◌, ◌⊎◌, inl, inr, List, [], ◌∷◌, ◌++◌, length, take, drop, ltb, Option, Some, None, option_map, is_some, MatchOption, IsTrue, refl, sym, ap, subst, ◌∙◌, arith, append_assoc}
-use Rattle.std.proofs.lemmas.List.{append-nil, length-append, take-append-drop, length-drop}
+use Rattle.std.proofs.Common.{◌≡◌, ℕ, suc, ◌+◌, ◌-◌, ◌≤◌, ◌<◌, Bool, true, false, cond, ◌⊎◌, inl, inr, List, [], ◌∷◌, ◌++◌, length, take, Option, Some, None, MatchOption, IsTrue, refl, sym, ap, subst, ◌∙◌, arith, append_assoc}
+use Rattle.std.proofs.lemmas.List.{append-nil, length-append}
 use Rattle.std.proofs.lemmas.Bool.{lt-ltb, le-ltb, ltb-false}
 use Rattle.std.proofs.Math.Seq.{take-append_seam, take-append-add}
-use Rattle.slate_types.specs.declared.error.SlateDBError.{SlateDBError}
-use Rattle.slate_types.specs.declared.error.SlateDBError.TheVariants.{ScriptSyntax, ScriptTooLong}
 use Rattle.slate_store.specs.Lines.{lines_of, whole_part, script_limit, HasNoEnd, LinesModel, GivesLine, IsEnd, KeepsAll}
 use Rattle.slate_store.proofs.LineLaws.{taken_line_is_first, whole_lines_join, whole_parts_join, partial_line_is_not_whole, end_makes_whole}
 use Rattle.slate_txn.specs.State.{Rules, State, opening}
 use Rattle.slate_script.specs.Stage.{meaning}
-use Rattle.slate_script.specs.Replies.{after_lines, replies_from, replies_to, replies, IsWellFormed}
+use Rattle.slate_script.specs.Replies.{after_lines, replies_from, replies_to, IsWellFormed}
 use Rattle.slate_script.specs.Engine.{EngineModel, StandsFor}
-use Rattle.slate_script.specs.Run.{is_line, first_other, is_too_long, lines_taken, error_of, script_error, AreLines, HasAnswered, HasBegun, HasAnsweredAll}
-use Rattle.slate_script.proofs.Answered.{lines-more, replies-append, state-append, replies-stop, other-none, other-first, none-other, lines-built, built-lines}
+use Rattle.slate_script.specs.Run.{is_line, first_other, is_too_long, lines_taken, error_of, script_error, AreLines}
+use Rattle.slate_script.proofs.Answered.{lines-more, replies-append, state-append, other-none, none-other, lines-built, built-lines}
 
 -- whole lines: the last has its LF
 abbrev pub IsCut : List ℕ → Type 0

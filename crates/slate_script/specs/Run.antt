@@ -6,12 +6,12 @@
 --     IsOutside e, IsScriptError e      the error comes from a source, a sink or memory, or from the script
 --     HasAnswered r script said      what was written is the replies to the first lines
 --     HasBegun r script said      the same, and a front of one reply more
-use Rattle.std.specs.Prelude.{◌≡◌, ◌≢◌, ℕ, suc, ◌+◌, ◌-◌, ◌^◌, ◌<◌, ◌⊎◌, Bool, ◌||◌, if◌then◌else◌, nat_lt, List, [], ◌∷◌, ◌++◌, length, take, Option, Some, None, is_some, option_map, IsTrue}
+use Rattle.std.specs.Prelude.{◌≡◌, ◌≢◌, ℕ, suc, ◌-◌, ◌⊎◌, Bool, ◌||◌, if◌then◌else◌, nat_lt, List, [], ◌∷◌, ◌++◌, length, take, Option, Some, None, is_some, option_map, IsTrue}
 use Rattle.std.specs.List.{AllByRecursion}
 use Rattle.slate_types.specs.declared.config.Options.{Options}
 use Rattle.slate_types.specs.declared.error.SlateDBError.{SlateDBError}
 use Rattle.slate_types.specs.declared.error.SlateDBError.TheVariants.{ScriptSyntax, ScriptTooLong, OutOfMemory, ReadFault, WriteFault}
-use Rattle.slate_store.specs.Lines.{lines_of, whole_part, script_limit, HasNoEnd}
+use Rattle.slate_store.specs.Lines.{lines_of, whole_part, script_limit}
 use Rattle.slate_txn.specs.State.{Rules}
 use Rattle.slate_script.specs.Stage.{meaning}
 use Rattle.slate_script.specs.Replies.{is_silent, replies_to}

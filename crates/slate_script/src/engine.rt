@@ -156,7 +156,7 @@ impl Engine {
             value: put.value.clone()?,
             seq: self.start_seq + place as u64 + 1,
             create_ts: 0,
-            expire_ts: expire_ts_of(put.options.ttl, self.default_ttl_millis),
+            expire_ts: put.options.expire_ts_from(self.default_ttl_millis, 0),
         }))
     }
 
@@ -202,13 +202,3 @@ fn single_put(ops: OpList) -> CommittedPut
     }
 }
 
-/// When a row of the moment 0 expires.
-fn expire_ts_of(ttl: Ttl, default: Option<u64>) -> Option<i64>
-    ensures { result ≡ expiry ttl default (pos 0) }
-{
-    match ttl {
-        Ttl::Default => 0i64.checked_add_unsigned(default?),
-        Ttl::NoExpiry => None,
-        Ttl::ExpireAfter(millis) => 0i64.checked_add_unsigned(millis),
-    }
-}

@@ -1,6 +1,5 @@
-use Rattle.std.proofs.Common.{◌≡◌, ◌<◌, ◌++◌, ◌∷◌, [], ℕ, List, Some, take, length, sym, ap, subst, ◌∙◌}
+use Rattle.std.proofs.Common.{◌≡◌, ◌<◌, ◌++◌, ◌∷◌, [], ℕ, Some, take, length, sym, ap, subst, ◌∙◌}
 use Rattle.std.proofs.lemmas.Result.{IfErr-at_err}
-use Rattle.slate_txn.specs.Step.{step}
 use Rattle.slate_script.specs.Engine.{engine_rules}
 use Rattle.slate_script.specs.Replies.{reply_line, replies_from}
 use Rattle.slate_script.specs.Stage.{meaning}

@@ -28,5 +28,5 @@ returns-clause-row c =
       value = c.in_ok-clone.ensures.cases i;
       seq = ap (λ v. v.start + place + 1) c.self.view_is i;
       create_ts = pos 0;
-      expire_ts = (c.expire_ts_of.ensures ∙ ap (λ v. expiry put.options.ttl v.default_millis (pos 0)) c.self.view_is) i;
+      expire_ts = (c.expire_ts_from.ensures ∙ ap (λ v. expiry put.options.ttl v.default_millis (pos 0)) c.self.view_is) i;
     })) ∙ sym (ap (option_map key_value) (seen-at e c.args.seq c.args.key place put within at has none))
