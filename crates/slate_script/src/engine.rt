@@ -201,4 +201,3 @@ fn single_put(ops: OpList) -> CommittedPut
         options,
     }
 }
-
