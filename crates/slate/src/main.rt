@@ -14,9 +14,9 @@ const HELP: &str = "Runs a script of transactions over a store in memory.
 Usage: slate - < SCRIPT
 
 Each line of the script is answered by a line on standard output; an empty line and a comment, which begins
-with #, are not. The status is 0 where every line was answered, 2 for words that are not known, 3 for a line
-that is none, 4 for a script of 4294967295 bytes or more, 5 and 6 where standard input or output failed, and
-20 for want of memory.";
+with #, are not. The status is 0 where every line was answered, 2 for words that are not known, 3 at the first
+line that is not in the language, 4 for a script of 4294967295 bytes or more, 5 and 6 where standard input or
+output failed, and 20 for want of memory.";
 
 const VERSION: &str = "slate 0.1.0, a port of slatedb 0.16.0's transaction path";
 
