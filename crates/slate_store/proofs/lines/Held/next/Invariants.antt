@@ -1,4 +1,4 @@
-use Rattle.std.proofs.Common.{◌≡◌, ◌≤◌, ◌-◌, List, ℕ, Some}
+use Rattle.std.proofs.Common.{◌≡◌, ◌-◌, List, ℕ, Some}
 use Rattle.slate_store.specs.Lines.{script_limit, KeepsAll, HasNoEnd}
 use Rattle.slate_store.specs.Held.{model_of, held_bytes, IsWhole}
 use Rattle.slate_store.proofs.lines.Held.next.Given as goal
