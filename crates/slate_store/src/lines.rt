@@ -39,6 +39,7 @@ impl Held {
         ensures whole { IsWhole self.new }
         ensures told { (left : List ℕ) → R.left source.old ≡ Some left → (rest : List ℕ) × (R.left source.new ≡ Some rest)
             × MatchResult result (λ o. MatchOption o (IsEnd (model_of self.old) left (model_of self.new) rest) (λ l. GivesLine l.items (model_of self.old) left (model_of self.new) rest)) (λ _. KeepsAll (model_of self.old) left (model_of self.new) rest) }
+        ensures at_once { (HasNoEnd (held_bytes self.old) → ⊥) → source.new ≡ source.old }
         ensures further { IfOk result (λ o. IfSome o (λ _. (model_of self.old).given < (model_of self.new).given)) }
         ensures kept { OnErr result ((model_of self.new).given ≡ (model_of self.old).given) }
         ensures read_fault { result ≡ Err SlateDBError.ReadFault → Rose (R.faults source.old) (R.faults source.new) × HasNoEnd (held_bytes self.new) }
@@ -204,10 +205,12 @@ impl Lines {
 
     /// The next line, without its LF; None exactly at the end of the source. `ReadFault` comes only where
     /// the source's count of faults rose, and `ScriptTooLong` exactly where 4294967295 bytes were taken
-    /// since `new` and all whole lines among them were given. A refused call loses no byte.
+    /// since `new` and all whole lines among them were given. A refused call loses no byte. A line that
+    /// is held is given without a read.
     pub fn next<R: Source>(&mut self, source: &mut R) -> Result<Option<Vec<u8>>, SlateDBError>
         ensures told { (left : List ℕ) → R.left source.old ≡ Some left → (rest : List ℕ) × (R.left source.new ≡ Some rest)
             × MatchResult result (λ o. MatchOption o (IsEnd self.old left self.new rest) (λ l. GivesLine l.items self.old left self.new rest)) (λ _. KeepsAll self.old left self.new rest) }
+        ensures at_once { (HasNoEnd self.old.held → ⊥) → source.new ≡ source.old }
         ensures further { IfOk result (λ o. IfSome o (λ _. self.old.given < self.new.given)) }
         ensures within { self.new.given + length self.new.held ≤ script_limit }
         ensures kept { OnErr result (self.new.given ≡ self.old.given) }

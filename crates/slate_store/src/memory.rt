@@ -30,7 +30,9 @@ impl MemorySource {
     /// A source that gives these bytes. `failing` numbers the calls that fail, from 1.
     pub fn new(bytes: Vec<u8>, failing: Vec<u64>) -> MemorySource
         ensures left { result.left ≡ bytes.items }
+        ensures told { ⟦<MemorySource as Source>⟧.left result ≡ Some bytes.items }
         ensures faults { result.faults ≡ 0 }
+        ensures counted { ⟦<MemorySource as Source>⟧.faults result ≡ 0 }
     {
         MemorySource {
             bytes,
@@ -74,7 +76,9 @@ impl MemorySink {
     /// A sink that holds nothing. `failing` numbers the calls that fail, from 1.
     pub fn new(alloc: Global, failing: Vec<u64>) -> MemorySink
         ensures content { result.content ≡ [] }
+        ensures told { ⟦<MemorySink as Sink>⟧.content result ≡ Some [] }
         ensures faults { result.faults ≡ 0 }
+        ensures counted { ⟦<MemorySink as Sink>⟧.faults result ≡ 0 }
     {
         MemorySink {
             content: Vec::new(alloc),
@@ -84,7 +88,8 @@ impl MemorySink {
 
     /// The bytes that were taken.
     pub fn taken(&self) -> &[u8]
-        ensures { result.now ≡ self.now.content }
+        ensures content { result.now ≡ self.now.content }
+        ensures told { ⟦<MemorySink as Sink>⟧.content self.now ≡ Some result.now }
     {
         &self.content
     }

@@ -1,6 +1,6 @@
-use Rattle.std.proofs.Common.{◌≡◌, ◌∙◌, ◌+◌, ◌<◌, ◌++◌, [], ℕ, length, take, drop, arith, length-append, ap, ◌⊎◌, inl, inr, Ok, Err}
+use Rattle.std.proofs.Common.{◌≡◌, ◌∙◌, ◌+◌, ◌<◌, ◌++◌, [], ℕ, length, take, drop, arith, length-append, ap, ◌⊎◌, inl, inr, Ok, Err, subst}
 use Rattle.slate_types.specs.declared.error.SlateDBError.TheVariants.{ReadFault}
-use Rattle.slate_store.specs.Lines.{script_limit}
+use Rattle.slate_store.specs.Lines.{script_limit, HasNoEnd}
 use Rattle.slate_store.specs.Held.{held_bytes, model_of, unread}
 use Rattle.slate_store.proofs.Steps.{gives_cut, gives_last, keeps_taken, held_taken}
 use Rattle.slate_store.proofs.lines.Held.next.Goals as goal
@@ -51,5 +51,6 @@ loop-line-preserved g c =
           let bytes = c.in_ok-fill.ensures.bytes more is in
           let held : held_bytes c.fill.new.self ≡ held_bytes c.loop-line.self ++ take n more = held_taken _ _ _ _ _ c.in_ok-fill.ensures.line none.0 bytes.0 in
           (drop n more, bytes.1, keeps_taken (model_of c.args.self.now) (model_of c.loop-line.self) (model_of c.fill.new.self) left more n keeps held given);
+      first = λ some. absurd (some (subst HasNoEnd (none.0 ∙ (c.loop-line.invariant.first some).1) c.in_ok-line.ensures.whole.partial));
       still = unless-fault c.in_ok-fill.field-0 c.in_ok-fill.ensures.still ∙ c.loop-line.invariant.still;
     }
