@@ -6,4 +6,6 @@ pub mod Expiry
 pub mod Fold
 pub mod Join
 pub mod Lawful
+pub mod Iteration
 pub mod Laws
+pub mod Outside

@@ -1,6 +1,7 @@
 //! Rows, ranges, options and errors: the vocabulary that every crate above shares.
 #![tactic(auto)]
 
+pub mod byte_range_bounds;
 pub mod bytes_range;
 pub mod config;
 pub mod error;
@@ -10,6 +11,7 @@ pub mod laws;
 pub mod sequenced_key;
 pub mod types;
 
+pub use byte_range_bounds::ByteRangeBounds;
 pub use bytes_range::BytesRange;
 pub use config::{
     BlockFormat, CompressionCodec, IsolationLevel, MergeOptions, Options, PutOptions, ReadOptions,
