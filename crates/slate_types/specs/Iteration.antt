@@ -3,6 +3,7 @@
 --     drop_before order key rows      the rows without the leading ones that the order puts before the key
 --     IsInOrder order rows      no row's key comes before an earlier one's
 --     TakesRow rows answer after      the answer is the first row, or there is none
+--     RowList      rows with an order
 use Rattle.std.specs.Prelude.{ℕ, ◌≡◌, List, [], ◌∷◌, Bool, false, if◌then◌else◌, Option, Some, None}
 use Rattle.slate_types.specs.declared.types.RowEntry.{RowEntry}
 use Rattle.slate_types.specs.declared.iter.IterationOrder.{IterationOrder}
@@ -29,3 +30,12 @@ IsInOrder order (row ∷ rows) = NoneBefore order row.key rows × IsInOrder orde
 abbrev pub TakesRow : List RowEntry → Option RowEntry → List RowEntry → Type 0
 TakesRow rows None after = (rows ≡ []) × (after ≡ [])
 TakesRow rows (Some row) after = rows ≡ row ∷ after
+
+-- the order puts the first row before a key
+abbrev pub begins_before : IterationOrder → List ℕ → List RowEntry → Bool
+begins_before order key [] = false
+begins_before order key (row ∷ rows) = comes_before order row.key key
+
+pub record RowList : Type 0 where
+  pub rows : List RowEntry
+  pub order : IterationOrder

@@ -5,8 +5,8 @@
 --     Counts      the counts of faults of the store, the operator and the transformer
 --     no_faults      where there are none
 --     IsLater before after      no count fell
---     Blames own before after e      what a call that answers e may blame: a fault that came in it, want of memory, or what is its own
-use Rattle.std.specs.Prelude.{◌≡◌, ◌⊎◌, ℕ, ◌≤◌, List, Option, None}
+--     IsOuter before after e      e is a fault that came between the counts, or want of memory
+use Rattle.std.specs.Prelude.{ℕ, ◌≤◌, List, Option, None}
 use Rattle.slate_types.specs.declared.error.SlateDBError.{SlateDBError}
 use Rattle.slate_types.specs.declared.error.SlateDBError.TheVariants.{StoreFault, Callback, BlockTransformError, OutOfMemory}
 use Rattle.slate_types.specs.Faults.{Rose}
@@ -37,12 +37,9 @@ pub record IsLater (before after : Counts) : Type 0 where
   pub operator : before.operator ≤ after.operator
   pub transformer : before.transformer ≤ after.transformer
 
--- refusals that come from outside
-abbrev pub IsOuter : SlateDBError → Type 0
-IsOuter e = (e ≡ OutOfMemory) ⊎ (e ≡ StoreFault) ⊎ ((m : List ℕ) × (e ≡ Callback m)) ⊎ (e ≡ BlockTransformError)
-
-pub record Blames (own : SlateDBError → Type 0) (before after : Counts) (e : SlateDBError) : Type 0 where
-  pub store : e ≡ StoreFault → Rose before.store after.store
-  pub operator : (m : List ℕ) → e ≡ Callback m → Rose before.operator after.operator
-  pub transformer : e ≡ BlockTransformError → Rose before.transformer after.transformer
-  pub other : IsOuter e ⊎ own e
+abbrev pub IsOuter : Counts → Counts → SlateDBError → Type 0
+IsOuter before after OutOfMemory = Unit {0}
+IsOuter before after StoreFault = Rose before.store after.store
+IsOuter before after (Callback m) = Rose before.operator after.operator
+IsOuter before after BlockTransformError = Rose before.transformer after.transformer
+IsOuter before after _ = ⊥

@@ -4,10 +4,12 @@
 pub mod byte_range_bounds;
 pub mod bytes_range;
 pub mod config;
+pub mod equality;
 pub mod error;
 pub mod filter_policy;
 pub mod iter;
 pub mod laws;
+pub mod rows_iterator;
 pub mod sequenced_key;
 pub mod types;
 
@@ -19,6 +21,28 @@ pub use config::{
 };
 pub use error::SlateDBError;
 pub use filter_policy::{FilterContext, FilterQuery, PrefixTarget};
-pub use iter::IterationOrder;
+pub use iter::{IterationOrder, Outside, RowEntryIterator, TrackedRowEntryIterator, collect_rows};
+pub use rows_iterator::RowsIterator;
 pub use sequenced_key::SequencedKey;
 pub use types::{KeyValue, RowEntry, Ulid, ValueDeletable};
+
+fn crosses<T: Send + Sync>() {}
+
+/// The types of this crate go to other threads, and are shared between them.
+pub fn types_cross_threads() {
+    crosses::<ValueDeletable>();
+    crosses::<RowEntry>();
+    crosses::<KeyValue>();
+    crosses::<SequencedKey>();
+    crosses::<BytesRange>();
+    crosses::<FilterQuery>();
+    crosses::<Ulid>();
+    crosses::<Options>();
+    crosses::<ReadOptions>();
+    crosses::<ScanOptions>();
+    crosses::<PutOptions>();
+    crosses::<MergeOptions>();
+    crosses::<WriteOptions>();
+    crosses::<SlateDBError>();
+    crosses::<RowsIterator>();
+}
