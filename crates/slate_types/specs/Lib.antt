@@ -2,6 +2,7 @@ pub mod Config
 pub mod Faults
 pub mod Keys
 pub mod Rows
+pub mod Equality
 pub mod Expiry
 pub mod Fold
 pub mod Join

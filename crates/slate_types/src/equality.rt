@@ -5,10 +5,18 @@ ghost use Rattle.std.specs.Prelude.{◌≡◌, ◌↔◌, IsTrue};
 use crate::bytes_range::BytesRange;
 use crate::config::{BlockFormat, IsolationLevel, MergeOptions, PutOptions, Ttl};
 use crate::filter_policy::PrefixTarget;
-use crate::types::{KeyValue, Ulid, ValueDeletable};
+use crate::types::{KeyValue, RowEntry, Ulid, ValueDeletable};
 
 /// Of what rows hold.
 pub fn equal_values(a: &ValueDeletable, b: &ValueDeletable) -> bool
+    ensures { IsTrue result ↔ (a.now ≡ b.now) }
+{
+    a == b
+}
+
+/// Of rows.
+#[tactic(auto, using(crate::specs::Equality::rows_decide))]
+pub fn equal_rows(a: &RowEntry, b: &RowEntry) -> bool
     ensures { IsTrue result ↔ (a.now ≡ b.now) }
 {
     a == b

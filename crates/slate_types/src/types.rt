@@ -1,6 +1,7 @@
 //! Rows, and what a reader gets of them.
 ghost use Rattle.std.specs.Prelude.{◌≡◌, ◌≤◌, ◌-◌, ◌^◌, ◌↔◌, min, length, IsTrue, option_copied};
 ghost use Rattle.slate_types.specs.Rows.{bytes_of, bytes_in, key_value};
+ghost use Rattle.slate_types.specs.Equality as equality;
 ghost use Rattle.slate_types.specs.Rows as rows;
 
 use bytes::Bytes;
@@ -59,8 +60,9 @@ impl ValueDeletable {
     }
 }
 
-/// A row, as it stands in a table or in memory. Stamps are milliseconds.
-#[derive(Clone, Debug, PartialEq, Eq, Drop)]
+/// A row, as it stands in a table or in memory. Stamps are milliseconds. Rows are equal exactly where
+/// their fields are.
+#[derive(Clone, Debug, Drop)]
 pub struct RowEntry {
     pub key: Bytes,
     pub value: ValueDeletable,
@@ -91,6 +93,43 @@ impl RowEntry {
         let fixed = 8 + stamp_size(self.create_ts) + stamp_size(self.expire_ts);
         (self.key.len() as u64 + fixed).saturating_add(self.value.len() as u64)
     }
+}
+
+impl PartialEq for RowEntry {
+    ghost use Rattle.slate_types.specs.Equality.{same_row, rows_equivalent};
+    ghost use Rattle.std.specs.Cmp.{partial_equiv_from_equiv};
+
+    ghost eq = { same_row };
+
+    ghost laws = { partial_equiv_from_equiv rows_equivalent };
+
+    fn eq(&self, other: &RowEntry) -> bool {
+        self.key == other.key
+            && same_value(&self.value, &other.value)
+            && self.seq == other.seq
+            && same_stamp(self.create_ts, other.create_ts)
+            && same_stamp(self.expire_ts, other.expire_ts)
+    }
+}
+
+impl Eq for RowEntry {
+    ghost use Rattle.slate_types.specs.Equality.{rows_equivalent};
+
+    ghost laws = { rows_equivalent };
+}
+
+/// Whether rows hold the same.
+fn same_value(a: &ValueDeletable, b: &ValueDeletable) -> bool
+    ensures { result ≡ equality.same_value a.now b.now }
+{
+    a == b
+}
+
+/// Whether stamps are the same.
+fn same_stamp(a: Option<i64>, b: Option<i64>) -> bool
+    ensures { result ≡ equality.same_stamp a b }
+{
+    a == b
 }
 
 /// The bytes that a stamp takes, where there is one.
