@@ -5,12 +5,14 @@
 --     operand r      the row's bytes, and none of a tombstone
 --     bytes_in v      the bytes of a value or an operand, where there are any
 --     key_value r      the row as a reader gets it, where it is no tombstone
+--     key_value_cmp r s      the order of what readers get, by key, value, sequence, creation and expiry
 --     latest a b, earliest a b      the greater and the lesser stamp; an absent one yields to a present one
 --     encoded_size prefix r      the bytes that a row is counted with where it shares that many bytes of its key
 --     estimated_size r      the bytes of key, value, sequence and stamps
 use Rattle.std.specs.Prelude.{ℕ, ◌+◌, ◌-◌, Bool, true, false, not, ◌&&◌, ◌||◌, nat_lt, List, [], length, Option, Some, None, ℤ, pos, unwrap_or, bytes_eq}
 use Rattle.std.specs.declared.cmp.Ordering.{Ordering}
-use Rattle.std.specs.Ordering.{nat_cmp, on, flip_args, then_cmp}
+use Rattle.std.specs.Ordering.{nat_cmp, int_cmp, on, flip_args, then_cmp}
+use Rattle.std.specs.Option.{option_cmp}
 use Rattle.std.specs.Int.{int_max, int_min}
 use Rattle.slate_types.specs.declared.types.ValueDeletable.{ValueDeletable}
 use Rattle.slate_types.specs.declared.types.ValueDeletable.TheVariants.{Value, Merge, Tombstone}
@@ -59,6 +61,9 @@ hide_tombstone Tombstone r = None
 
 abbrev pub key_value : RowEntry → KeyValue
 key_value r = record { key = r.key; value = operand r; seq = r.seq; create_ts = unwrap_or r.create_ts (pos 0); expire_ts = r.expire_ts }
+
+abbrev pub key_value_cmp : KeyValue → KeyValue → Ordering
+key_value_cmp = then_cmp (on (λ r. r.key) key_cmp) (then_cmp (on (λ r. r.value) key_cmp) (then_cmp (on (λ r. r.seq) nat_cmp) (then_cmp (on (λ r. r.create_ts) int_cmp) (on (λ r. r.expire_ts) (option_cmp int_cmp)))))
 
 abbrev pub latest : Option ℤ → Option ℤ → Option ℤ
 latest None b = b

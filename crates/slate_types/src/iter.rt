@@ -1,5 +1,5 @@
 //! Rows in an order, one at a time.
-ghost use Rattle.std.specs.Prelude.{◌≡◌, ◌⊎◌, ◌<◌, ◌≤◌, ℕ, List, [], IfOk, IfErr, IsSome, OnOk};
+ghost use Rattle.std.specs.Prelude.{◌≡◌, ◌⊎◌, ◌<◌, ◌≤◌, ℕ, List, [], Option, Some, None, IfOk, IfErr, IsSome, OnOk};
 ghost use Rattle.slate_types.specs.declared.error.SlateDBError.{SlateDBError};
 ghost use Rattle.slate_types.specs.declared.iter.IterationOrder.{IterationOrder};
 ghost use Rattle.slate_types.specs.declared.types.RowEntry.{RowEntry};
@@ -49,8 +49,8 @@ impl Outside for () {
 /// The rest of a list of rows in its order. `next` takes the first row off, and `seek` the rows that the
 /// order puts before a key.
 ///
-/// After a refusal an iterator stands where it stood, or it answers the same refusal again: which of
-/// these, each type says.
+/// After a refusal an iterator stands where it stood, or it answers the same refusal again: each type says
+/// which. So a refusal adds no cause of a later one but itself.
 pub trait RowEntryIterator<E: Outside>: Drop {
     /// The rows that are left.
     ghost rest: { Self → World → List RowEntry };
@@ -63,16 +63,18 @@ pub trait RowEntryIterator<E: Outside>: Drop {
     /// A number that falls at each row, whatever the outside answers.
     ghost bound: { Self → ℕ };
 
-    /// What it may refuse for, beside faults and want of memory.
-    ghost refuses: { Self → World → SlateDBError → Type 0 };
+    /// What it may refuse for, beside faults and want of memory: in a seek to a key, and, where there is no
+    /// key, in the other calls.
+    ghost refuses: { Self → World → Option (List ℕ) → SlateDBError → Type 0 };
 
-    /// Makes it ready for `next` and `seek`.
+    /// Makes it ready for `next` and `seek`, which may answer `IteratorNotInitialized` before.
     fn init(&mut self, alloc: Global, env: &mut E) -> Result<(), SlateDBError>
         ensures rows { sound self.old (E.told env.old) → OnOk result (rest self.new (E.told env.old) ≡ rest self.old (E.told env.old)) }
         ensures still { sound self.old (E.told env.old) → sound self.new (E.told env.old) }
-        ensures cause { IfErr result (λ e. IsOuter (E.faults env.old) (E.faults env.new) e ⊎ refuses self.old (E.told env.old) e) }
-        ensures fewer { OnOk result ((e : SlateDBError) → refuses self.new (E.told env.old) e → refuses self.old (E.told env.old) e) }
-        ensures again { IfErr result (λ refusal. (e : SlateDBError) → refuses self.new (E.told env.old) e → refuses self.old (E.told env.old) e ⊎ (e ≡ refusal)) }
+        ensures cause { IfErr result (λ e. IsOuter (E.faults env.old) (E.faults env.new) e ⊎ refuses self.old (E.told env.old) None e) }
+        ensures ready { OnOk result ((at : Option (List ℕ)) → ¬ refuses self.new (E.told env.old) at SlateDBError.IteratorNotInitialized) }
+        ensures fewer { OnOk result ((at : Option (List ℕ)) (e : SlateDBError) → refuses self.new (E.told env.old) at e → refuses self.old (E.told env.old) at e) }
+        ensures again { IfErr result (λ refusal. (at : Option (List ℕ)) (e : SlateDBError) → refuses self.new (E.told env.old) at e → refuses self.old (E.told env.old) at e ⊎ (e ≡ refusal)) }
         ensures no_larger { bound self.new ≤ bound self.old }
         ensures order { order self.new ≡ order self.old }
         ensures told { E.told env.new ≡ E.told env.old }
@@ -82,9 +84,9 @@ pub trait RowEntryIterator<E: Outside>: Drop {
     fn next(&mut self, alloc: Global, env: &mut E) -> Result<Option<RowEntry>, SlateDBError>
         ensures rows { sound self.old (E.told env.old) → IfOk result (λ answer. TakesRow (rest self.old (E.told env.old)) answer (rest self.new (E.told env.old))) }
         ensures still { sound self.old (E.told env.old) → sound self.new (E.told env.old) }
-        ensures cause { IfErr result (λ e. IsOuter (E.faults env.old) (E.faults env.new) e ⊎ refuses self.old (E.told env.old) e) }
-        ensures fewer { OnOk result ((e : SlateDBError) → refuses self.new (E.told env.old) e → refuses self.old (E.told env.old) e) }
-        ensures again { IfErr result (λ refusal. (e : SlateDBError) → refuses self.new (E.told env.old) e → refuses self.old (E.told env.old) e ⊎ (e ≡ refusal)) }
+        ensures cause { IfErr result (λ e. IsOuter (E.faults env.old) (E.faults env.new) e ⊎ refuses self.old (E.told env.old) None e) }
+        ensures fewer { OnOk result ((at : Option (List ℕ)) (e : SlateDBError) → refuses self.new (E.told env.old) at e → refuses self.old (E.told env.old) at e) }
+        ensures again { IfErr result (λ refusal. (at : Option (List ℕ)) (e : SlateDBError) → refuses self.new (E.told env.old) at e → refuses self.old (E.told env.old) at e ⊎ (e ≡ refusal)) }
         ensures smaller { IfOk result (λ answer. IsSome answer → bound self.new < bound self.old) }
         ensures no_larger { bound self.new ≤ bound self.old }
         ensures order { order self.new ≡ order self.old }
@@ -95,9 +97,9 @@ pub trait RowEntryIterator<E: Outside>: Drop {
     fn seek(&mut self, alloc: Global, key: &[u8], env: &mut E) -> Result<(), SlateDBError>
         ensures rows { sound self.old (E.told env.old) → OnOk result (rest self.new (E.told env.old) ≡ drop_before (order self.old) key.now (rest self.old (E.told env.old))) }
         ensures still { sound self.old (E.told env.old) → sound self.new (E.told env.old) }
-        ensures cause { IfErr result (λ e. IsOuter (E.faults env.old) (E.faults env.new) e ⊎ refuses self.old (E.told env.old) e) }
-        ensures fewer { OnOk result ((e : SlateDBError) → refuses self.new (E.told env.old) e → refuses self.old (E.told env.old) e) }
-        ensures again { IfErr result (λ refusal. (e : SlateDBError) → refuses self.new (E.told env.old) e → refuses self.old (E.told env.old) e ⊎ (e ≡ refusal)) }
+        ensures cause { IfErr result (λ e. IsOuter (E.faults env.old) (E.faults env.new) e ⊎ refuses self.old (E.told env.old) (Some key.now) e) }
+        ensures fewer { OnOk result ((at : Option (List ℕ)) (e : SlateDBError) → refuses self.new (E.told env.old) at e → refuses self.old (E.told env.old) at e) }
+        ensures again { IfErr result (λ refusal. (at : Option (List ℕ)) (e : SlateDBError) → refuses self.new (E.told env.old) at e → refuses self.old (E.told env.old) at e ⊎ (e ≡ refusal)) }
         ensures no_larger { bound self.new ≤ bound self.old }
         ensures order { order self.new ≡ order self.old }
         ensures told { E.told env.new ≡ E.told env.old }
@@ -124,7 +126,7 @@ pub fn collect_rows<E: Outside, I: RowEntryIterator<E>>(
 ) -> Result<Vec<RowEntry>, SlateDBError>
     ensures rows { I.sound rows.old (E.told env.old) → IfOk result (λ taken. taken.items ≡ I.rest rows.old (E.told env.old)) }
     ensures spent { I.sound rows.old (E.told env.old) → OnOk result (I.rest rows.new (E.told env.old) ≡ []) }
-    ensures cause { IfErr result (λ e. IsOuter (E.faults env.old) (E.faults env.new) e ⊎ I.refuses rows.old (E.told env.old) e) }
+    ensures cause { IfErr result (λ e. IsOuter (E.faults env.old) (E.faults env.new) e ⊎ I.refuses rows.old (E.told env.old) None e) }
     ensures told { E.told env.new ≡ E.told env.old }
     ensures later { IsLater (E.faults env.old) (E.faults env.new) }
 {

@@ -4,7 +4,7 @@
 pub mod byte_range_bounds;
 pub mod bytes_range;
 pub mod config;
-pub mod equality;
+pub mod derived;
 pub mod error;
 pub mod filter_policy;
 pub mod iter;

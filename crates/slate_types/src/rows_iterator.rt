@@ -64,7 +64,7 @@ impl<E: Outside> RowEntryIterator<E> for RowsIterator {
 
     ghost bound = { λ s. length s.rows };
 
-    ghost refuses = { λ _ _ _. ⊥ };
+    ghost refuses = { λ _ _ _ _. ⊥ };
 
     ghost rising = { λ _ _ h. h };
 

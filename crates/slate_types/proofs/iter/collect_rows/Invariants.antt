@@ -1,4 +1,4 @@
-use Rattle.std.proofs.Common.{◌≡◌, ◌++◌}
+use Rattle.std.proofs.Common.{◌≡◌, ◌++◌, ℕ, List, Option}
 use Rattle.slate_types.specs.declared.error.SlateDBError.{SlateDBError}
 use Rattle.slate_types.specs.Outside.{IsLater}
 use Rattle.slate_types.proofs.iter.collect_rows.Given as goal
@@ -12,7 +12,7 @@ invariant-loop-taken g l =
     record {
       still : sound l.initial.rows told → sound l.rows told;
       rows : sound l.initial.rows told → l.taken.items ++ rest l.rows told ≡ rest l.initial.rows told;
-      fewer : (e : SlateDBError) → refuses l.rows told e → refuses l.initial.rows told e;
+      fewer : (at : Option (List ℕ)) (e : SlateDBError) → refuses l.rows told at e → refuses l.initial.rows told at e;
       told : g.E.Outside.told l.env ≡ told;
       later : IsLater (g.E.Outside.faults l.initial.env) (g.E.Outside.faults l.env);
     }

@@ -1,11 +1,16 @@
-//! Values are equal exactly where their fields are. Each call compares two values of a type by `==`, and
-//! its contract says so of that type.
-ghost use Rattle.std.specs.Prelude.{◌≡◌, ◌↔◌, IsTrue};
+//! What derived calls answer. Values are equal exactly where their fields are; rows as readers get them
+//! are ordered by their fields in turn; and defaults are named. Each call here shows it of one type.
+ghost use Rattle.std.specs.Prelude.{◌≡◌, ◌↔◌, IsTrue, None};
+ghost use Rattle.slate_types.specs.Rows.{key_value_cmp};
 
 use crate::bytes_range::BytesRange;
-use crate::config::{BlockFormat, IsolationLevel, MergeOptions, PutOptions, Ttl};
+use crate::config::{
+    BlockFormat, IsolationLevel, MergeOptions, PutOptions, ReadOptions, ScanOptions, Ttl,
+};
 use crate::filter_policy::PrefixTarget;
+use crate::iter::IterationOrder;
 use crate::types::{KeyValue, RowEntry, Ulid, ValueDeletable};
+use std::cmp::Ordering;
 
 /// Of what rows hold.
 pub fn equal_values(a: &ValueDeletable, b: &ValueDeletable) -> bool
@@ -83,4 +88,47 @@ pub fn equal_ids(a: Ulid, b: Ulid) -> bool
     ensures { IsTrue result ↔ (a ≡ b) }
 {
     a == b
+}
+
+/// Of rows as readers get them: the order.
+pub fn compare_key_values(a: &KeyValue, b: &KeyValue) -> Ordering
+    ensures { result ≡ key_value_cmp a.now b.now }
+{
+    a.cmp(b)
+}
+
+/// A transaction is a snapshot unless it says otherwise.
+pub fn default_level() -> IsolationLevel
+    ensures { result ≡ IsolationLevel.Snapshot }
+{
+    IsolationLevel::default()
+}
+
+/// A put lives as long as the database says.
+pub fn default_put_options() -> PutOptions
+    ensures { result.ttl ≡ Ttl.Default }
+{
+    PutOptions::default()
+}
+
+/// So does a merge.
+pub fn default_merge_options() -> MergeOptions
+    ensures { result.ttl ≡ Ttl.Default }
+{
+    MergeOptions::default()
+}
+
+/// A get has no context.
+pub fn default_read_options() -> ReadOptions
+    ensures { result.filter_context ≡ None }
+{
+    ReadOptions::default()
+}
+
+/// A scan goes upwards and has no context.
+pub fn default_scan_options() -> ScanOptions
+    ensures order { result.order ≡ IterationOrder.Ascending }
+    ensures context { result.filter_context ≡ None }
+{
+    ScanOptions::default()
 }
