@@ -1,5 +1,5 @@
 -- What filters, seeks and steps do to rows in order.
-use Rattle.std.proofs.Common.{◌≡◌, ℕ, Bool, true, false, List, [], ◌∷◌, Option, Some, None, filter, drop, length, ◌<◌, arith, refl, sym, inl, inr, ◌⊎◌}
+use Rattle.std.proofs.Common.{◌≡◌, ℕ, Bool, true, false, List, [], ◌∷◌, Option, Some, None, filter, not, drop, length, ◌<◌, arith, refl, sym, ap, inl, inr, ◌⊎◌}
 use Rattle.slate_types.specs.declared.types.RowEntry.{RowEntry}
 use Rattle.slate_types.specs.declared.iter.IterationOrder.{IterationOrder}
 use Rattle.slate_types.specs.declared.iter.IterationOrder.TheVariants.{Ascending, Descending}
@@ -86,3 +86,16 @@ fewer_behind order key (row ∷ rows) b = omega arith
 pub drops_none : (order : IterationOrder) (key : List ℕ) (rows : List RowEntry) → begins_before order key rows ≡ false → drop_before order key rows ≡ rows
 drops_none order key [] b = refl
 drops_none order key (row ∷ rows) b = rw b refl
+
+kept : (order : IterationOrder) (key : List ℕ) (rows : List RowEntry) → NoneBefore order key rows → filter (λ r. not (comes_before order r.key key)) rows ≡ rows
+kept order key [] h = refl
+kept order key (row ∷ rows) h = rw h.0 (ap (λ rest. row ∷ rest) (kept order key rows h.1))
+
+-- of rows in order a seek leaves those that don't come before
+pub seek_filters : (order : IterationOrder) (key : List ℕ) (rows : List RowEntry) → IsInOrder order rows → drop_before order key rows ≡ filter (λ r. not (comes_before order r.key key)) rows
+seek_filters order key [] h = refl
+seek_filters order key (row ∷ rows) h =
+    elim (both (comes_before order row.key key)) as (λ _. drop_before order key (row ∷ rows) ≡ filter (λ r. not (comes_before order r.key key)) (row ∷ rows)) [
+      | inl before ↦ rw before (seek_filters order key rows h.1)
+      | inr after ↦ rw after (sym (ap (λ rest. row ∷ rest) (kept order key rows (none_before_earlier order key row.key rows after h.0))))
+    ]

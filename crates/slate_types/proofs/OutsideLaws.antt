@@ -1,5 +1,5 @@
 -- What a part may blame, the whole may blame.
-use Rattle.std.proofs.Common.{◌≡◌, ◌⊎◌, ℕ, ◌+◌, ◌-◌, ◌^◌, ◌≤◌, min, List, inl, inr, arith}
+use Rattle.std.proofs.Common.{◌⊎◌, ℕ, ◌≤◌, inl, inr, arith}
 use Rattle.slate_types.specs.declared.error.SlateDBError.{SlateDBError}
 use Rattle.slate_types.specs.declared.error.SlateDBError.TheVariants.{StoreFault, Callback, BlockTransformError, OutOfMemory}
 use Rattle.slate_types.specs.Faults.{Rose}

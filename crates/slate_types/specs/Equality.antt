@@ -2,7 +2,7 @@
 --     same_value v w, same_stamp x y, same_row r s      the tests
 --     rows_decide r s      rows pass exactly where they are equal
 --     rows_equivalent      so it is an equivalence
-use Rattle.std.proofs.Common.{◌≡◌, ℕ, Bool, true, false, ◌&&◌, ◌==◌, Option, Some, None, ℤ, refl, sym, ap, ◌∙◌, subst, bytes_eq}
+use Rattle.std.proofs.Common.{◌≡◌, Bool, true, false, ◌&&◌, ◌==◌, Option, Some, None, ℤ, refl, sym, ap, ◌∙◌, subst, bytes_eq}
 use Rattle.std.specs.Ordering.{int_eq}
 use Rattle.std.specs.Bool.{Decides, one_answer}
 use Rattle.std.specs.Cmp.{IsEquivalence}

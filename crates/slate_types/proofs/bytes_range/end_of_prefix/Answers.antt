@@ -1,4 +1,4 @@
-use Rattle.std.proofs.Common.{◌≡◌, ◌+◌, ◌-◌, Some, ap, sym, ◌∙◌, arith, take}
+use Rattle.std.proofs.Common.{◌≡◌, ◌+◌, ◌-◌, ap, sym, ◌∙◌, arith, take}
 use Rattle.std.specs.declared.ops.Bound.TheVariants.{Excluded}
 use Rattle.slate_types.specs.Keys.{successor, excluded_or_open}
 use Rattle.slate_types.proofs.Increment.{raised}
