@@ -6,11 +6,14 @@
 --     is_refused start end, range_of start end      which bounds make no range, and the range of the others
 --     successor p      the least key past all that begin with p, where there is one
 --     prefix_range p, prefix_subrange p start end, common_range a b      the ranges that are made of others
+--     whole, point_of r      the range of all keys, and the key of a range of one included key
+--     bound_now b      a bound on borrowed bytes
 use Rattle.std.specs.Prelude.{ℕ, ◌+◌, ◌<◌, Bool, true, false, ◌&&◌, if◌then◌else◌, ◌==◌, List, [], ◌∷◌, ◌++◌, Option, Some, None, bytes_eq}
 use Rattle.std.specs.Ordering.{is_lt, is_le, nat_cmp}
 use Rattle.std.specs.Cmp.Lexicographic.{slice_cmp}
 use Rattle.std.specs.List.{list_any, AllByRecursion}
 use Rattle.std.specs.BTreeSet.{insert_key}
+use Rattle.std.specs.Borrow.{Bor}
 use Rattle.std.specs.declared.cmp.Ordering.{Ordering}
 use Rattle.std.specs.declared.ops.Bound.{Bound}
 use Rattle.std.specs.declared.ops.Bound.TheVariants.{Included, Excluded, Unbounded}
@@ -116,3 +119,22 @@ earlier_end (Excluded a) Unbounded = Excluded a
 
 abbrev pub common_range : BytesRange → BytesRange → Option BytesRange
 common_range a b = range_of (later_start a.start b.start) (earlier_end a.end b.end)
+
+abbrev pub whole : BytesRange
+whole = record { start = Unbounded; end = Unbounded }
+
+-- the key where both bounds include the same
+abbrev pub point_between : Bound (List ℕ) → Bound (List ℕ) → Option (List ℕ)
+point_between (Included a) (Included b) = if bytes_eq a b then Some a else None
+point_between (Included a) (Excluded b) = None
+point_between (Included a) Unbounded = None
+point_between (Excluded a) end = None
+point_between Unbounded end = None
+
+abbrev pub point_of : BytesRange → Option (List ℕ)
+point_of r = point_between r.start r.end
+
+abbrev pub bound_now : Bound (Bor (List ℕ)) → Bound (List ℕ)
+bound_now (Included a) = Included a.now
+bound_now (Excluded a) = Excluded a.now
+bound_now Unbounded = Unbounded

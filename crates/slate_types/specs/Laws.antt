@@ -1,5 +1,5 @@
--- Laws of the definitions: of sets of keys, of ranges, of the orders, and of the fold.
-use Rattle.std.specs.Prelude.{◌≡◌, ℕ, nat_eq, false, drop, length, List, [], ◌∷◌, ◌++◌, Option, Some, None, option_to_list, IfSome, IsTrue, filter_map, flat_map, ◌≤◌, nat_le, filter, ◌&&◌}
+-- Laws of the definitions: of sets of keys, of ranges, of the orders, of seeks, and of the fold.
+use Rattle.std.specs.Prelude.{◌≡◌, ℕ, nat_eq, true, false, not, bytes_eq, drop, length, List, [], ◌∷◌, ◌++◌, Option, Some, None, option_to_list, IfSome, IsTrue, filter_map, flat_map, ◌≤◌, nat_le, filter, ◌&&◌}
 use Rattle.std.specs.List.{AllByRecursion, starts_with}
 use Rattle.std.specs.List.Sorted.{IsStrictlySortedBy}
 use Rattle.std.specs.Cmp.{IsTotalOrder}
@@ -10,7 +10,9 @@ use Rattle.std.specs.declared.ops.Bound.TheVariants.{Unbounded}
 use Rattle.slate_types.specs.declared.types.RowEntry.{RowEntry}
 use Rattle.slate_types.specs.declared.sequenced_key.SequencedKey.{SequencedKey}
 use Rattle.slate_types.specs.declared.bytes_range.BytesRange.{BytesRange}
-use Rattle.slate_types.specs.Keys.{key_cmp, AreBytes, is_refused, among, keys_set, prefix_range, prefix_subrange, common_range, in_range}
+use Rattle.slate_types.specs.declared.iter.IterationOrder.{IterationOrder}
+use Rattle.slate_types.specs.Iteration.{comes_before, drop_before, IsInOrder}
+use Rattle.slate_types.specs.Keys.{key_cmp, point_of, whole, AreBytes, is_refused, among, keys_set, prefix_range, prefix_subrange, common_range, in_range}
 use Rattle.slate_types.specs.Rows.{is_base, row_lt, sequenced, sequenced_cmp}
 use Rattle.slate_types.specs.Fold.{Combine, fold_rows, merge_all, IsShort, AreShort, IsLawful, KeepsShort}
 
@@ -86,3 +88,15 @@ SequencedTellsApart = (a b : SequencedKey) → sequenced_cmp a b ≡ Equal → a
 -- The order of rows is that of their keys with their sequences.
 abbrev pub RowsAreSequenced : Type 0
 RowsAreSequenced = (r s : RowEntry) → row_lt r s ≡ is_lt (sequenced_cmp (sequenced r) (sequenced s))
+
+-- A range of one included key has that key alone.
+abbrev pub PointHasItsKey : Type 0
+PointHasItsKey = (r : BytesRange) (p k : List ℕ) → point_of r ≡ Some p → in_range r k ≡ bytes_eq p k
+
+-- The range of all keys has each.
+abbrev pub WholeHasAll : Type 0
+WholeHasAll = (k : List ℕ) → in_range whole k ≡ true
+
+-- Of rows in order a seek leaves exactly those whose key doesn't come before the key that is sought.
+abbrev pub SeekKeepsTheRest : Type 0
+SeekKeepsTheRest = (order : IterationOrder) (key : List ℕ) (rows : List RowEntry) → IsInOrder order rows → drop_before order key rows ≡ filter (λ r. not (comes_before order r.key key)) rows

@@ -2,8 +2,11 @@ pub mod Config
 pub mod Faults
 pub mod Keys
 pub mod Rows
+pub mod Equality
 pub mod Expiry
 pub mod Fold
 pub mod Join
 pub mod Lawful
+pub mod Iteration
 pub mod Laws
+pub mod Outside

@@ -3,11 +3,16 @@
 --     sequenced r, sequenced_cmp a b      a row's key with its sequence, and the order of these
 --     is_operand r, is_base r      the row is a merge, or no merge
 --     operand r      the row's bytes, and none of a tombstone
+--     bytes_in v      the bytes of a value or an operand, where there are any
 --     key_value r      the row as a reader gets it, where it is no tombstone
+--     key_value_cmp r s      the order of what readers get, by key, value, sequence, creation and expiry
 --     latest a b, earliest a b      the greater and the lesser stamp; an absent one yields to a present one
-use Rattle.std.specs.Prelude.{ℕ, Bool, true, false, not, ◌&&◌, ◌||◌, nat_lt, List, [], Option, Some, None, ℤ, pos, unwrap_or, bytes_eq}
+--     encoded_size prefix r      the bytes that a row is counted with where it shares that many bytes of its key
+--     estimated_size r      the bytes of key, value, sequence and stamps
+use Rattle.std.specs.Prelude.{ℕ, ◌+◌, ◌-◌, Bool, true, false, not, ◌&&◌, ◌||◌, nat_lt, List, [], length, Option, Some, None, ℤ, pos, unwrap_or, bytes_eq}
 use Rattle.std.specs.declared.cmp.Ordering.{Ordering}
-use Rattle.std.specs.Ordering.{nat_cmp, on, flip_args, then_cmp}
+use Rattle.std.specs.Ordering.{nat_cmp, int_cmp, on, flip_args, then_cmp}
+use Rattle.std.specs.Option.{option_cmp}
 use Rattle.std.specs.Int.{int_max, int_min}
 use Rattle.slate_types.specs.declared.types.ValueDeletable.{ValueDeletable}
 use Rattle.slate_types.specs.declared.types.ValueDeletable.TheVariants.{Value, Merge, Tombstone}
@@ -41,6 +46,11 @@ bytes_of (Value v) = v
 bytes_of (Merge v) = v
 bytes_of Tombstone = []
 
+abbrev pub bytes_in : ValueDeletable → Option (List ℕ)
+bytes_in (Value v) = Some v
+bytes_in (Merge v) = Some v
+bytes_in Tombstone = None
+
 abbrev pub operand : RowEntry → List ℕ
 operand r = bytes_of r.value
 
@@ -52,6 +62,9 @@ hide_tombstone Tombstone r = None
 abbrev pub key_value : RowEntry → KeyValue
 key_value r = record { key = r.key; value = operand r; seq = r.seq; create_ts = unwrap_or r.create_ts (pos 0); expire_ts = r.expire_ts }
 
+abbrev pub key_value_cmp : KeyValue → KeyValue → Ordering
+key_value_cmp = then_cmp (on (λ r. r.key) key_cmp) (then_cmp (on (λ r. r.value) key_cmp) (then_cmp (on (λ r. r.seq) nat_cmp) (then_cmp (on (λ r. r.create_ts) int_cmp) (on (λ r. r.expire_ts) (option_cmp int_cmp)))))
+
 abbrev pub latest : Option ℤ → Option ℤ → Option ℤ
 latest None b = b
 latest (Some x) None = Some x
@@ -61,3 +74,20 @@ abbrev pub earliest : Option ℤ → Option ℤ → Option ℤ
 earliest None b = b
 earliest (Some x) None = Some x
 earliest (Some x) (Some y) = Some (int_min x y)
+
+abbrev pub stamp_size : Option ℤ → ℕ
+stamp_size None = 0
+stamp_size (Some z) = 8
+
+-- a value with its length
+abbrev pub value_size : ValueDeletable → ℕ
+value_size (Value v) = 4 + length v
+value_size (Merge v) = 4 + length v
+value_size Tombstone = 0
+
+-- the shared length, the length and the bytes of the rest of the key, the sequence, the flags, the stamps and the value
+abbrev pub encoded_size : ℕ → RowEntry → ℕ
+encoded_size prefix r = 2 + 2 + (length r.key - prefix) + 8 + 1 + stamp_size r.create_ts + stamp_size r.expire_ts + value_size r.value
+
+abbrev pub estimated_size : RowEntry → ℕ
+estimated_size r = length r.key + length (operand r) + 8 + stamp_size r.create_ts + stamp_size r.expire_ts

@@ -1,4 +1,5 @@
 //! What a filter is asked.
+ghost use Rattle.std.specs.Prelude.{◌≡◌, None};
 
 use bytes::Bytes;
 
@@ -21,4 +22,33 @@ pub enum PrefixTarget {
 pub struct FilterQuery {
     pub target: PrefixTarget,
     pub context: Option<FilterContext>,
+}
+
+impl FilterQuery {
+    /// Asks for one key, without a context.
+    pub fn point(key: Bytes) -> FilterQuery
+        ensures { result ≡ record { target = PrefixTarget.Point key; context = None } }
+    {
+        FilterQuery {
+            target: PrefixTarget::Point(key),
+            context: None,
+        }
+    }
+
+    /// Asks for the keys that begin with a prefix, without a context.
+    pub fn prefix(prefix: Bytes) -> FilterQuery
+        ensures { result ≡ record { target = PrefixTarget.Prefix prefix; context = None } }
+    {
+        FilterQuery {
+            target: PrefixTarget::Prefix(prefix),
+            context: None,
+        }
+    }
+
+    /// The same question with this context.
+    pub fn with_context(self, context: Option<FilterContext>) -> FilterQuery
+        ensures { result ≡ record { target = self.target; context = context } }
+    {
+        FilterQuery { context, ..self }
+    }
 }

@@ -1,15 +1,21 @@
 //! Rows, ranges, options and errors: the vocabulary that every crate above shares.
 #![tactic(auto)]
 
+pub mod byte_range_bounds;
 pub mod bytes_range;
 pub mod config;
+pub mod derived;
 pub mod error;
 pub mod filter_policy;
 pub mod iter;
 pub mod laws;
+pub mod rows_iterator;
 pub mod sequenced_key;
+#[cfg(test)]
+mod tests;
 pub mod types;
 
+pub use byte_range_bounds::ByteRangeBounds;
 pub use bytes_range::BytesRange;
 pub use config::{
     BlockFormat, CompressionCodec, IsolationLevel, MergeOptions, Options, PutOptions, ReadOptions,
@@ -17,6 +23,28 @@ pub use config::{
 };
 pub use error::SlateDBError;
 pub use filter_policy::{FilterContext, FilterQuery, PrefixTarget};
-pub use iter::IterationOrder;
+pub use iter::{IterationOrder, Outside, RowEntryIterator, TrackedRowEntryIterator, collect_rows};
+pub use rows_iterator::RowsIterator;
 pub use sequenced_key::SequencedKey;
 pub use types::{KeyValue, RowEntry, Ulid, ValueDeletable};
+
+fn crosses<T: Send + Sync>() {}
+
+/// The types of this crate go to other threads, and are shared between them.
+pub fn types_cross_threads() {
+    crosses::<ValueDeletable>();
+    crosses::<RowEntry>();
+    crosses::<KeyValue>();
+    crosses::<SequencedKey>();
+    crosses::<BytesRange>();
+    crosses::<FilterQuery>();
+    crosses::<Ulid>();
+    crosses::<Options>();
+    crosses::<ReadOptions>();
+    crosses::<ScanOptions>();
+    crosses::<PutOptions>();
+    crosses::<MergeOptions>();
+    crosses::<WriteOptions>();
+    crosses::<SlateDBError>();
+    crosses::<RowsIterator>();
+}
