@@ -3,3 +3,6 @@ pub mod VarintLaws
 pub mod Groups
 pub mod FlagLaws
 pub mod RowLaws
+pub mod FieldLaws
+pub mod ReadingLaws
+pub mod ReadingLawsV1

@@ -1,5 +1,5 @@
 //! The fields of a row, read where they stand. A field that fails is refused with the place of its first byte.
-ghost use Rattle.std.specs.Prelude.{◌≡◌, ◌≤◌, length, IfOk};
+ghost use Rattle.std.specs.Prelude.{◌≡◌, ◌≤◌, ◌<◌, ℕ, length, slice_index, IfOk};
 ghost use Rattle.std.specs.Int.{w16, w32, w64};
 ghost use Rattle.slate_block.specs.Damage.{
   varint_field,
@@ -18,11 +18,10 @@ ghost use Rattle.slate_block.specs.Damage.{
   AreWithin,
 };
 
-use bitflags::Flags;
-use slate_types::SlateDBError;
-
 use crate::flags::RowFlags;
 use crate::varint::decode_varint;
+use bitflags::Flags;
+use slate_types::SlateDBError;
 
 /// The fields of a row of version 2 up to the suffix of its key.
 #[derive(Clone, Copy)]
@@ -133,7 +132,9 @@ fn flags_field(bytes: &[u8], at: usize) -> Result<(RowFlags, usize), SlateDBErro
     };
     match RowFlags::from_byte(*byte) {
         Some(flags) => Ok((flags, at + 1)),
-        None => Err(SlateDBError::InvalidRowFlags { encoded_bits: *byte }),
+        None => Err(SlateDBError::InvalidRowFlags {
+            encoded_bits: *byte,
+        }),
     }
 }
 
@@ -187,11 +188,7 @@ fn has(flags: RowFlags, flag: RowFlags) -> bool
 }
 
 #[tactic(auto, unfolding(crate::specs::Damage::value_layout))]
-fn value_fields(
-    is_tombstone: bool,
-    bytes: &[u8],
-    at: usize,
-) -> Result<(usize, usize), SlateDBError>
+fn value_fields(is_tombstone: bool, bytes: &[u8], at: usize) -> Result<(usize, usize), SlateDBError>
     requires { at ≤ length bytes.now }
     ensures value { result ≡ value_layout is_tombstone bytes.now at }
     ensures within { IfOk result (λ field. (field.0 ≤ field.1) × (field.1 ≤ length bytes.now)) }
@@ -208,6 +205,7 @@ fn value_fields(
 pub fn fields_v1(bytes: &[u8]) -> Result<(u16, RowFields), SlateDBError>
     ensures value { result ≡ layout_v1 bytes.now }
     ensures within { IfOk result (λ row. AreWithin row.1 bytes.now) }
+    ensures bytes { IfOk result (λ _. (i : ℕ) → slice_index bytes.now i < 256) }
 {
     let (shared, at) = u16_field(bytes, 0)?;
     let (suffix_len, at) = u16_field(bytes, at)?;
@@ -234,6 +232,7 @@ pub fn fields_v1(bytes: &[u8]) -> Result<(u16, RowFields), SlateDBError>
 pub fn key_fields_v2(bytes: &[u8]) -> Result<KeyFields, SlateDBError>
     ensures value { result ≡ key_layout_v2 bytes.now }
     ensures within { IfOk result (λ key. (key.suffix_at ≤ key.suffix_end) × (key.suffix_end ≤ length bytes.now)) }
+    ensures bytes { IfOk result (λ _. (i : ℕ) → slice_index bytes.now i < 256) }
 {
     let (shared_bytes, at) = varint_field(bytes, 0)?;
     let (suffix_len, value_len_at) = varint_field(bytes, at)?;
@@ -263,6 +262,7 @@ fn agreed_flags(flags: RowFlags, key: &KeyFields) -> Result<RowFlags, SlateDBErr
 pub fn fields_v2(bytes: &[u8]) -> Result<(u32, RowFields), SlateDBError>
     ensures value { result ≡ layout_v2 bytes.now }
     ensures within { IfOk result (λ row. AreWithin row.1 bytes.now) }
+    ensures bytes { IfOk result (λ _. (i : ℕ) → slice_index bytes.now i < 256) }
 {
     let key = key_fields_v2(bytes)?;
     let (value_at, value_end) = block_field(key.value_len as usize, bytes, key.suffix_end)?;
