@@ -6,3 +6,5 @@ pub mod RowLaws
 pub mod FieldLaws
 pub mod ReadingLaws
 pub mod ReadingLawsV1
+pub mod Appending
+pub mod Prefixes

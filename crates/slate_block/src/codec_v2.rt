@@ -1,5 +1,5 @@
 //! Rows of version 2 as bytes.
-ghost use Rattle.std.specs.Prelude.{◌≡◌, ◌≤◌, ◌⊎◌, ◌++◌, ℕ, List, Some, Ok, Err, ◌<◌, slice_index, length, OnOk, OnErr, IfOk, IfErr, IsOkUnless};
+ghost use Rattle.std.specs.Prelude.{◌≡◌, ◌≤◌, ◌⊎◌, ◌++◌, ℕ, List, Some, Ok, Err, ◌<◌, slice_index, length, take, OnOk, OnErr, IfOk, IfErr, IsOkUnless};
 ghost use Rattle.slate_block.specs.declared.row.SstRowEntryV2.{SstRowEntryV2};
 ghost use Rattle.slate_block.specs.RowSpelling.{v2_bytes, FitsV2};
 ghost use Rattle.slate_block.specs.RowReading.{row_v2_of, key_v2_of, refusal, BeginsV2, BeginsKeyV2};
@@ -7,6 +7,8 @@ ghost use Rattle.slate_block.specs.RowReading.{row_v2_of, key_v2_of, refusal, Be
 use crate::fields::{fields_v2, key_fields_v2};
 use crate::row::SstRowEntryV2;
 use crate::value::value_of;
+use crate::varint::encode_varint;
+use crate::writing::{append_meta, value_bytes};
 use bytes::{Buf, Bytes};
 use slate_types::SlateDBError;
 
@@ -14,6 +16,21 @@ use slate_types::SlateDBError;
 pub struct SstRowCodecV2;
 
 impl SstRowCodecV2 {
+    /// Appends the row. `OutOfMemory` leaves `out` as it was.
+    pub fn encode(out: &mut Vec<u8>, row: &SstRowEntryV2) -> Result<(), SlateDBError>
+        requires { FitsV2 row.now }
+        ensures appended { OnOk result (out.new.items ≡ out.old.items ++ v2_bytes row.now) }
+        ensures unchanged { OnErr result (out.new.items ≡ out.old.items) }
+        ensures cause { IsOkUnless result SlateDBError.OutOfMemory }
+    {
+        let start = out.len();
+        let written = append_row(out, row);
+        if written.is_err() {
+            out.truncate(start);
+        }
+        written
+    }
+
     /// Takes the row off that begins the input; its suffix and its value share the input's buffer. An `Err` leaves the input
     /// as it was: `InvalidRowFlags` where the byte in the place of the flags is none, `CorruptTable` with the place of
     /// the first field that fails otherwise, or `OutOfMemory`.
@@ -74,4 +91,20 @@ fn read_key(input: &Bytes) -> Result<((u32, Bytes), usize), SlateDBError>
     let key = key_fields_v2(input.as_slice())?;
     let key_suffix = input.slice(key.suffix_at..key.suffix_end)?;
     Ok(((key.shared_bytes, key_suffix), key.suffix_end))
+}
+
+fn append_row(out: &mut Vec<u8>, row: &SstRowEntryV2) -> Result<(), SlateDBError>
+    requires { FitsV2 row.now }
+    ensures appended { OnOk result (out.new.items ≡ out.old.items ++ v2_bytes row.now) }
+    ensures kept { OnErr result (take (length out.old.items) out.new.items ≡ out.old.items) }
+    ensures cause { IsOkUnless result SlateDBError.OutOfMemory }
+{
+    let value = value_bytes(&row.value);
+    encode_varint(out, row.shared_bytes)?;
+    encode_varint(out, row.key_suffix.len() as u32)?;
+    encode_varint(out, value.len() as u32)?;
+    out.extend_from_slice(row.key_suffix.as_slice())?;
+    out.extend_from_slice(value)?;
+    append_meta(out, row.seq, &row.value, row.expire_ts, row.create_ts)?;
+    Ok(())
 }
