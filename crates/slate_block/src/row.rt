@@ -5,13 +5,11 @@ ghost use Rattle.slate_block.specs.RowSpelling.{flags};
 ghost use Rattle.slate_block.specs.BlockSpelling.{whole_key};
 ghost use Rattle.slate_block.specs.WholeKeys.{IsRestored};
 
-use std::alloc::Global;
-
-use bytes::Bytes;
-use slate_types::{SlateDBError, ValueDeletable};
-
 use crate::flags::RowFlags;
 use crate::keys::restored_key;
+use bytes::Bytes;
+use slate_types::{SlateDBError, ValueDeletable};
+use std::alloc::Global;
 
 /// A row of version 1. The front that is left out is the block's first key's.
 #[derive(Clone, Debug, PartialEq, Eq, Drop)]

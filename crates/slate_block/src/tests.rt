@@ -18,12 +18,25 @@ fn varints(rt: HostRuntime) -> Result<(), Fail> {
     let mut out = Vec::new(rt.alloc());
     encode_varint(&mut out, 300)?;
     encode_varint(&mut out, u32::MAX)?;
-    assert_eq!(rt; out.as_slice(), [0xac, 0x02, 0xff, 0xff, 0xff, 0xff, 0x0f].as_slice());
+    assert_eq!(rt;
+        out.as_slice(),
+        [0xac, 0x02, 0xff, 0xff, 0xff, 0xff, 0x0f].as_slice()
+    );
     assert_eq!(rt; varint_len(16384), 3);
     assert_eq!(rt; decode_varint(&out)?, (300, 2));
     assert_eq!(rt; decode_varint(&out[2..])?, (u32::MAX, 5));
-    assert!(rt; matches!(decode_varint(&[0x80, 0x00]), Err(SlateDBError::CorruptTable { place: 0 })));
-    assert!(rt; matches!(decode_varint(&[0xff, 0xff, 0xff, 0xff, 0x1f]), Err(SlateDBError::CorruptTable { place: 0 })));
+    assert!(rt;
+        matches!(
+            decode_varint(&[0x80, 0x00]),
+            Err(SlateDBError::CorruptTable { place: 0 })
+        )
+    );
+    assert!(rt;
+        matches!(
+            decode_varint(&[0xff, 0xff, 0xff, 0xff, 0x1f]),
+            Err(SlateDBError::CorruptTable { place: 0 })
+        )
+    );
     Ok(())
 }
 
@@ -37,7 +50,9 @@ fn row_of_v2(rt: HostRuntime) -> Result<(), Fail> {
     assert_eq!(rt; row.key_suffix.as_slice(), b"abc".as_slice());
     assert_eq!(rt; row.seq, 1);
     assert_eq!(rt; row.flags(), RowFlags(0));
-    assert!(rt; matches!(&row.value, ValueDeletable::Value(value) if value.as_slice() == b"xyz".as_slice()));
+    assert!(rt;
+        matches!(&row.value, ValueDeletable::Value(value) if value.as_slice() == b"xyz".as_slice())
+    );
     let mut out = Vec::new(rt.alloc());
     SstRowCodecV2::encode(&mut out, &row)?;
     assert_eq!(rt; out.as_slice(), ROW_OF_V2.as_slice());
@@ -56,7 +71,9 @@ fn row_of_v1(rt: HostRuntime) -> Result<(), Fail> {
     assert_eq!(rt; (row.key_prefix_len, row.seq), (5, 1));
     assert_eq!(rt; (row.expire_ts, row.create_ts), (Some(1), Some(2)));
     assert_eq!(rt; row.flags(), RowFlags(0x0e));
-    assert!(rt; matches!(&row.value, ValueDeletable::Merge(value) if value.as_slice() == b"value".as_slice()));
+    assert!(rt;
+        matches!(&row.value, ValueDeletable::Merge(value) if value.as_slice() == b"value".as_slice())
+    );
     let key = row.restore_full_key(rt.alloc(), b"happybeefdata")?;
     assert_eq!(rt; key.as_slice(), b"happymerge".as_slice());
     let mut out = Vec::new(rt.alloc());
@@ -71,10 +88,12 @@ fn no_flags(rt: HostRuntime) -> Result<(), Fail> {
         let mut bytes = ROW_OF_V1;
         bytes[17] = flags;
         let mut input = Bytes::copy_from_slice(rt.alloc(), &bytes)?;
-        assert!(rt; matches!(
+        assert!(rt;
+            matches!(
             SstRowCodecV0::decode(&mut input),
             Err(SlateDBError::InvalidRowFlags { encoded_bits }) if encoded_bits == flags
-        ));
+        )
+        );
         assert_eq!(rt; input.len(), 43);
     }
     Ok(())
