@@ -8,3 +8,4 @@ pub mod ReadingLaws
 pub mod ReadingLawsV1
 pub mod Appending
 pub mod Prefixes
+pub mod OffsetLaws

@@ -47,7 +47,8 @@ pub struct RowFields {
     pub end: usize,
 }
 
-fn corrupt(place: usize) -> SlateDBError
+/// Why a field at a place is refused.
+pub fn corrupt(place: usize) -> SlateDBError
     ensures { result ≡ SlateDBError.CorruptTable place }
 {
     SlateDBError::CorruptTable {
@@ -68,7 +69,7 @@ fn varint_field(bytes: &[u8], at: usize) -> Result<(u32, usize), SlateDBError>
 }
 
 #[tactic(auto, unfolding(crate::specs::Damage::number_field))]
-fn u16_field(bytes: &[u8], at: usize) -> Result<(u16, usize), SlateDBError>
+pub fn u16_field(bytes: &[u8], at: usize) -> Result<(u16, usize), SlateDBError>
     requires { at ≤ length bytes.now }
     ensures value { result ≡ number_field w16 bytes.now at }
     ensures within { IfOk result (λ field. field.1 ≤ length bytes.now) }

@@ -1,5 +1,6 @@
 //! What readers of numbers and rows find, proved.
 ghost use Rattle.slate_block.specs.ReadingLaws.{
+  BlocksComeApart,
   KeysOfV2AreFound,
   RowsOfV1AreFound,
   RowsOfV2AreFound,
@@ -24,4 +25,9 @@ pub fn rows_of_v2_are_found()
 /// The same of what stands before the value of a row of version 2.
 pub fn keys_of_v2_are_found()
     ensures { KeysOfV2AreFound }
+{}
+
+/// No rows' part with its offsets is refused, and nothing else is taken apart.
+pub fn blocks_come_apart()
+    ensures { BlocksComeApart }
 {}

@@ -121,3 +121,54 @@ fn fronts(rt: HostRuntime) {
     assert_eq!(rt; compute_prefix(b"1234567", b"123456789"), 7);
     assert_eq!(rt; compute_prefix(b"12345678_9", b"12345678_8"), 9);
 }
+
+/// A block of one row of version 1.
+const BLOCK: [u8; 31] = [
+    0, 0, 0, 1, b'a', 0, 0, 0, 0, 0, 0, 0, 1, 4, 0, 0, 0, 0, 0, 0, 0, 0, 0, 0, 0, 1, b'1', 0, 0, 0,
+    1,
+];
+
+#[test]
+fn one_block(rt: HostRuntime) -> Result<(), Fail> {
+    let bytes = Bytes::copy_from_slice(rt.alloc(), &BLOCK)?;
+    let mut block = Block::decode(rt.alloc(), bytes)?;
+    assert_eq!(rt; block.body.len(), 27);
+    assert_eq!(rt; block.offsets.as_slice(), [0].as_slice());
+    assert_eq!(rt; block.size(), 31);
+    assert_eq!(rt; block.encode(rt.alloc())?.as_slice(), BLOCK.as_slice());
+    let row = SstRowCodecV0::decode(&mut block.body)?;
+    assert_eq!(rt; row.key_suffix.as_slice(), b"a".as_slice());
+    assert_eq!(rt; Block::estimate_encoded_size(0, 0, 0), 0);
+    assert_eq!(rt; Block::estimate_encoded_size(1, 100, 1), 106);
+    Ok(())
+}
+
+#[test]
+fn no_block(rt: HostRuntime) -> Result<(), Fail> {
+    let cut = Bytes::copy_from_slice(rt.alloc(), &BLOCK[..1])?;
+    assert!(rt;
+        matches!(
+            Block::decode(rt.alloc(), cut),
+            Err(SlateDBError::CorruptTable { place: 0 })
+        )
+    );
+    let mut bytes = BLOCK;
+    bytes[30] = 0;
+    let uncounted = Bytes::copy_from_slice(rt.alloc(), &bytes)?;
+    assert!(rt;
+        matches!(
+            Block::decode(rt.alloc(), uncounted),
+            Err(SlateDBError::CorruptTable { place: 29 })
+        )
+    );
+    bytes[30] = 1;
+    bytes[28] = 1;
+    let late = Bytes::copy_from_slice(rt.alloc(), &bytes)?;
+    assert!(rt;
+        matches!(
+            Block::decode(rt.alloc(), late),
+            Err(SlateDBError::CorruptTable { place: 27 })
+        )
+    );
+    Ok(())
+}
