@@ -1,5 +1,5 @@
 -- Bytes that are the flags of a row.
-use Rattle.std.proofs.Common.{◌≡◌, ℕ, zero, suc, ◌<◌, ◌≤◌, ◌+◌, Bool, true, false, not, cond, ◌&&◌, eqb, ltb, bit_and, List, Option, Some, None, is_some, ℤ, refl, sym, ◌∙◌, inl, inr, arith}
+use Rattle.std.proofs.Common.{◌≡◌, ℕ, zero, suc, ◌<◌, ◌≤◌, ◌+◌, Bool, true, false, not, cond, eqb, bit_and, List, Option, Some, None, is_some, ℤ, refl, sym, ◌∙◌, inl, inr, arith}
 use Rattle.std.proofs.lemmas.Bool.{cases_lt, le-ltb, false≢true}
 use Rattle.std.proofs.lemmas.Nat.{and_le_r}
 use Rattle.slate_types.specs.declared.types.ValueDeletable.{ValueDeletable}

@@ -7,7 +7,7 @@ use Rattle.std.proofs.lemmas.List.{take_more_set, take-append-drop, at_drop_more
 use Rattle.std.proofs.lemmas.Bool.{ltb-true, ltb-false, le-ltb, lt-ltb}
 use Rattle.std.proofs.lemmas.Bool.Decides.{nat_tests}
 use Rattle.std.proofs.Math.Nat.{mul-le-mul, mul-le-mul_right}
-use Rattle.slate_block.specs.Varint.{SpellsVarint, IsVarint, varint, varint_within}
+use Rattle.slate_block.specs.Varint.{SpellsVarint, IsVarint, varint_within}
 use Rattle.slate_block.specs.Groups.{completed, weight_of, IsRest}
 use Rattle.slate_block.proofs.VarintLaws.{spells_group}
 use Rattle.slate_block.specs.Damage.{front_groups, before_high, of_32_bits, front_varint}

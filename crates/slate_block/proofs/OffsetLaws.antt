@@ -13,7 +13,7 @@ use Rattle.slate_block.specs.BlockSpelling.{block_spelling}
 use Rattle.slate_block.specs.Damage.{◌>>=◌, number_field}
 use Rattle.slate_block.specs.BlockReading.{Rise, AreOffsets, IsApart, counted_offsets, offset_field, offsets_from, offsets_of_block}
 use Rattle.slate_block.proofs.Groups.{IsBytes}
-use Rattle.slate_block.proofs.FieldLaws.{bind_ok, guard_ok, ok_is, Stands, behind, wide16, number_takes, number_again}
+use Rattle.slate_block.proofs.FieldLaws.{bind_ok, ok_is, Stands, behind, wide16, number_takes, number_again}
 use Rattle.slate_block.proofs.ReadingLaws.{then}
 
 -- ---- as a loop does

@@ -1,8 +1,8 @@
 -- What is read is spelled so, and what is spelled so is read.
-use Rattle.std.proofs.Common.{◌≡◌, ℕ, zero, suc, ◌+◌, ◌-◌, ◌^◌, ◌<◌, ◌≤◌, Bool, true, false, cond, not, ◌&&◌, ltb, eqb, List, [], ◌∷◌, ◌++◌, length, take, drop, bit_and, Option, Some, None, is_some, Result, Ok, Err, ℤ, refl, sym, ap, subst, ◌∙◌, ◌⊎◌, inl, inr, append_assoc, arith}
+use Rattle.std.proofs.Common.{◌≡◌, ℕ, ◌+◌, ◌^◌, ◌<◌, Bool, true, false, cond, ◌&&◌, ltb, List, [], ◌∷◌, ◌++◌, length, drop, Option, Some, None, is_some, Ok, Err, ℤ, refl, sym, ap, subst, ◌∙◌, ◌⊎◌, inl, inr, append_assoc, arith}
 use Rattle.std.specs.Prelude.{slice_range}
-use Rattle.std.specs.Int.{w16, w32, w64}
-use Rattle.std.proofs.lemmas.Bool.{false≢true, le-ltb, ltb-false}
+use Rattle.std.specs.Int.{w64}
+use Rattle.std.proofs.lemmas.Bool.{ltb-false}
 use Rattle.std.proofs.lemmas.List.{length-append, nil_from_length}
 use Rattle.slate_types.specs.declared.error.SlateDBError.{SlateDBError}
 use Rattle.slate_types.specs.declared.error.SlateDBError.TheVariants.{CorruptTable}
@@ -12,16 +12,15 @@ use Rattle.slate_types.specs.Rows.{bytes_of}
 use Rattle.slate_block.specs.declared.flags.RowFlags.{RowFlags}
 use Rattle.slate_block.specs.declared.fields.KeyFields.{KeyFields}
 use Rattle.slate_block.specs.declared.fields.RowFields.{RowFields}
-use Rattle.slate_block.specs.declared.row.SstRowEntry.{SstRowEntry}
 use Rattle.slate_block.specs.declared.row.SstRowEntryV2.{SstRowEntryV2}
 use Rattle.slate_block.specs.Varint.{IsVarint, varint}
-use Rattle.slate_block.specs.RowSpelling.{be16, be32, be64, are_flags, flags, kind_bits, stamp_bytes, meta_bytes, v1_bytes, v2_bytes, FitsStamp, FitsV1, FitsV2}
+use Rattle.slate_block.specs.RowSpelling.{be64, are_flags, flags, stamp_bytes, FitsStamp}
 use Rattle.slate_block.specs.Damage.{◌>>=◌, varint_field, number_field, block_field, row_flags, has, flags_field, stamp_field, head_layout, stamps_layout, key_layout_v2, length_agrees, layout_v2}
-use Rattle.slate_block.specs.RowReading.{value_of, fields_value, entry_of_v2, row_v2_of, key_v2_of, BeginsV2, BeginsKeyV2}
+use Rattle.slate_block.specs.RowReading.{value_of, entry_of_v2, row_v2_of, key_v2_of, BeginsV2, BeginsKeyV2}
 use Rattle.slate_block.proofs.Groups.{IsBytes}
 use Rattle.slate_block.proofs.VarintLaws.{varint_spells}
 use Rattle.slate_block.proofs.FlagLaws.{flags_sum, named}
-use Rattle.slate_block.proofs.FieldLaws.{bind_ok, guard_ok, ok_is, Stands, behind, wide16, wide32, wide64, varint_takes, varint_again, number_takes, number_again, block_takes, block_again, block_text, flags_takes, flags_again, stamp_takes, stamp_again}
+use Rattle.slate_block.proofs.FieldLaws.{bind_ok, guard_ok, ok_is, Stands, behind, wide64, varint_takes, varint_again, number_takes, number_again, block_takes, block_again, flags_takes, flags_again, stamp_takes, stamp_again}
 
 -- ---- one behind the other
 

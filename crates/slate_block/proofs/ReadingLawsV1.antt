@@ -1,7 +1,7 @@
 -- What is read of version 1 is spelled so, and what is spelled so is read.
-use Rattle.std.proofs.Common.{◌≡◌, ℕ, zero, suc, ◌+◌, ◌-◌, ◌^◌, ◌<◌, ◌≤◌, Bool, true, false, cond, ltb, eqb, List, [], ◌∷◌, ◌++◌, length, take, drop, bit_and, Option, Some, None, is_some, Result, Ok, Err, ℤ, refl, sym, ap, subst, ◌∙◌, ◌⊎◌, inl, inr, append_assoc, arith}
+use Rattle.std.proofs.Common.{◌≡◌, ℕ, ◌+◌, ◌^◌, ◌<◌, Bool, true, false, cond, List, [], ◌∷◌, ◌++◌, length, drop, Option, Some, None, Ok, Err, ℤ, refl, sym, ap, subst, ◌∙◌, ◌⊎◌, inl, inr, append_assoc, arith}
 use Rattle.std.specs.Prelude.{slice_range}
-use Rattle.std.specs.Int.{w16, w32, w64}
+use Rattle.std.specs.Int.{w16, w32}
 use Rattle.slate_types.specs.declared.error.SlateDBError.{SlateDBError}
 use Rattle.slate_types.specs.declared.types.ValueDeletable.{ValueDeletable}
 use Rattle.slate_types.specs.declared.types.ValueDeletable.TheVariants.{Value, Merge, Tombstone}
@@ -9,7 +9,7 @@ use Rattle.slate_types.specs.Rows.{bytes_of}
 use Rattle.slate_block.specs.declared.flags.RowFlags.{RowFlags}
 use Rattle.slate_block.specs.declared.fields.RowFields.{RowFields}
 use Rattle.slate_block.specs.declared.row.SstRowEntry.{SstRowEntry}
-use Rattle.slate_block.specs.RowSpelling.{be16, be32, be64, are_flags, flags, stamp_bytes, v1_value, v1_bytes, FitsV1, read_expiry, as_read_v1}
+use Rattle.slate_block.specs.RowSpelling.{be16, be32, be64, flags, stamp_bytes, v1_value, read_expiry}
 use Rattle.slate_block.specs.Damage.{◌>>=◌, number_field, block_field, row_flags, has, head_layout, stamps_layout, value_layout, layout_v1}
 use Rattle.slate_block.specs.RowReading.{value_of, expiry_of, entry_of_v1, row_v1_of, BeginsV1}
 use Rattle.slate_block.proofs.Groups.{IsBytes}

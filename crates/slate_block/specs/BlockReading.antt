@@ -4,7 +4,7 @@
 --     offset_field low high bytes at      an offset from low on and below high
 --     offsets_from count low high end bytes at      so many offsets, the first from low on and below high, each later one past the one before and below the end
 --     offsets_of_block bytes      the length of the rows' part and the offsets, or the refusal
-use Rattle.std.specs.Prelude.{◌≡◌, ℕ, zero, suc, ◌+◌, ◌-◌, ◌*◌, ◌^◌, ◌<◌, ◌≤◌, ◌&&◌, if◌then◌else◌, nat_lt, nat_le, ◌==◌, min, List, [], ◌∷◌, length, Result, Ok, Err}
+use Rattle.std.specs.Prelude.{◌≡◌, ℕ, zero, suc, ◌+◌, ◌-◌, ◌*◌, ◌^◌, ◌<◌, ◌≤◌, if◌then◌else◌, nat_lt, ◌==◌, min, List, [], ◌∷◌, length, Result, Ok, Err}
 use Rattle.std.specs.Int.{w16}
 use Rattle.slate_types.specs.declared.error.SlateDBError.{SlateDBError}
 use Rattle.slate_types.specs.declared.error.SlateDBError.TheVariants.{CorruptTable}

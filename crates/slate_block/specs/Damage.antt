@@ -5,7 +5,7 @@
 --     key_layout_v2, layout_v1, layout_v2      the fields of a row in their order
 --     refusal_v1 bytes, refusal_v2 bytes, key_refusal_v2 bytes      why no row begins the bytes; none where one does
 -- The place of a refusal is that of the field's first byte.
-use Rattle.std.specs.Prelude.{◌≡◌, ◌≤◌, ℕ, ◌+◌, ◌-◌, ◌*◌, ◌^◌, Bool, true, false, ◌&&◌, if◌then◌else◌, nat_lt, ◌==◌, bit_and, List, [], ◌∷◌, length, take, drop, slice_get, Option, Some, None, Result, Ok, Err, ℤ}
+use Rattle.std.specs.Prelude.{◌≤◌, ℕ, ◌+◌, ◌-◌, ◌*◌, ◌^◌, Bool, true, false, ◌&&◌, if◌then◌else◌, nat_lt, ◌==◌, bit_and, List, [], ◌∷◌, length, take, drop, slice_get, Option, Some, None, Result, Ok, Err, ℤ}
 use Rattle.std.specs.Int.{Width, w16, w32, w64, byte_len, from_be_bytes, cast_signed}
 use Rattle.slate_types.specs.declared.error.SlateDBError.{SlateDBError}
 use Rattle.slate_types.specs.declared.error.SlateDBError.TheVariants.{CorruptTable, InvalidRowFlags}

@@ -3,7 +3,7 @@
 --     VarintsAreFound      the number that is found is the one whose spelling begins the bytes; none is found where none does
 --     RowsOfV1AreFound, RowsOfV2AreFound, KeysOfV2AreFound      nothing is refused exactly where a row begins the bytes
 --     BlocksComeApart      nothing is refused exactly where the bytes are a rows' part and its offsets
-use Rattle.std.specs.Prelude.{◌≡◌, ◌↔◌, ℕ, ◌<◌, List, ◌++◌, length, slice_index, Option, Some, None}
+use Rattle.std.specs.Prelude.{◌≡◌, ◌↔◌, ℕ, ◌<◌, List, ◌++◌, length, slice_index, Some, None}
 use Rattle.slate_block.specs.declared.row.SstRowEntry.{SstRowEntry}
 use Rattle.slate_block.specs.declared.row.SstRowEntryV2.{SstRowEntryV2}
 use Rattle.slate_block.specs.Varint.{IsVarint}

@@ -10,12 +10,11 @@ use Rattle.slate_types.specs.declared.error.SlateDBError.{SlateDBError}
 use Rattle.slate_types.specs.declared.types.ValueDeletable.{ValueDeletable}
 use Rattle.slate_types.specs.declared.types.ValueDeletable.TheVariants.{Value, Merge, Tombstone}
 use Rattle.slate_block.specs.declared.flags.RowFlags.{RowFlags}
-use Rattle.slate_block.specs.declared.fields.KeyFields.{KeyFields}
 use Rattle.slate_block.specs.declared.fields.RowFields.{RowFields}
 use Rattle.slate_block.specs.declared.row.SstRowEntry.{SstRowEntry}
 use Rattle.slate_block.specs.declared.row.SstRowEntryV2.{SstRowEntryV2}
 use Rattle.slate_block.specs.Varint.{varint}
-use Rattle.slate_block.specs.RowSpelling.{v1_bytes, v2_bytes, FitsV1, FitsV2, as_read_v1, read_expiry}
+use Rattle.slate_block.specs.RowSpelling.{v1_bytes, v2_bytes, FitsV1, FitsV2, as_read_v1}
 use Rattle.slate_block.specs.Damage.{◌>>=◌, has, layout_v1, layout_v2, key_layout_v2}
 
 abbrev pub value_of : RowFlags → List ℕ → ValueDeletable

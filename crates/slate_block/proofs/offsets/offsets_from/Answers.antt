@@ -1,4 +1,4 @@
-use Rattle.std.proofs.Common.{◌≡◌, ◌++◌, ◌∷◌, [], min, subst, sym, inr, Result, List, ℕ}
+use Rattle.std.proofs.Common.{min, sym, inr}
 use Rattle.std.proofs.lemmas.Result.{err_from_is_err_and}
 use Rattle.slate_block.specs.BlockReading.{offsets_from}
 use Rattle.slate_block.proofs.OffsetLaws.{goes_on, stops, is_done}

@@ -1,4 +1,4 @@
-use Rattle.std.proofs.Common.{◌≡◌, ℕ, List, take, Option, Some, None, Result, Ok, Err, refl, ap}
+use Rattle.std.proofs.Common.{◌≡◌, ℕ, List, take, None, Result, Ok, Err, refl, ap}
 use Rattle.slate_types.specs.declared.error.SlateDBError.{SlateDBError}
 use Rattle.slate_block.specs.RowReading.{refusal}
 use Rattle.slate_block.specs.BlockReading.{IsApart, offsets_of_block}

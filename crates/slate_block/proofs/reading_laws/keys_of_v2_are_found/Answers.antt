@@ -1,4 +1,4 @@
-use Rattle.std.proofs.Common.{◌≡◌, ℕ, List, ◌++◌, length, drop, Option, Some, None, Result, Ok, Err, refl, sym, ap, ◌∙◌}
+use Rattle.std.proofs.Common.{◌≡◌, ℕ, List, drop, None, Result, Ok, Err, refl, ap}
 use Rattle.slate_types.specs.declared.error.SlateDBError.{SlateDBError}
 use Rattle.slate_block.specs.RowReading.{key_v2_of, refusal, BeginsKeyV2}
 use Rattle.slate_block.specs.ReadingLaws.{AreBytes}

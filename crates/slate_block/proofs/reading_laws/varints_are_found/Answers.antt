@@ -1,4 +1,4 @@
-use Rattle.std.proofs.Common.{◌≡◌, ℕ, List, ◌++◌, length, drop, Option, Some, None, Result, Ok, Err, refl, sym, ap, ◌∙◌}
+use Rattle.std.proofs.Common.{◌≡◌, ℕ, List, ◌++◌, length, Some, None, ap, ◌∙◌}
 use Rattle.slate_block.specs.Varint.{IsVarint}
 use Rattle.slate_block.specs.Damage.{front_varint}
 use Rattle.slate_block.proofs.Groups.{front_again}

@@ -1,4 +1,4 @@
-use Rattle.std.proofs.Common.{◌∙◌, ◌≡◌, ◌-◌, ◌+◌, ◌<◌, ◌++◌, take, List, ℕ, ap, arith, rules}
+use Rattle.std.proofs.Common.{◌∙◌, ◌++◌, List, ℕ, ap, arith, rules}
 use Rattle.slate_block.specs.Varint.{varint}
 use Rattle.slate_block.proofs.Groups.{rest_more, rest_len, group_written, last_written}
 use Rattle.slate_block.proofs.varint.encode_varint.Goals as goal

@@ -1,4 +1,4 @@
-use Rattle.std.proofs.Common.{◌∙◌, ◌+◌, ◌-◌, ◌*◌, ◌<◌, ◌≤◌, ◌^◌, arith}
+use Rattle.std.proofs.Common.{◌∙◌, arith}
 use Rattle.slate_block.proofs.Groups.{weight_small, goes_on, ends_at, cut_at, stops_at, low_more, worth_more}
 use Rattle.slate_block.proofs.varint.first_varint.Goals as goal
 

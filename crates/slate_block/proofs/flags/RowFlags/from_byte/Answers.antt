@@ -1,7 +1,6 @@
-use Rattle.std.proofs.Common.{rules, ◌≡◌, ◌∙◌, refl, sym, ap, not, eqb, bit_and, true, false, arith}
+use Rattle.std.proofs.Common.{◌∙◌, refl, sym, ap, not, eqb, bit_and}
 use Rattle.std.proofs.lemmas.Bool.{false≢true}
 use Rattle.bitflags.proofs.OnLiterals.{bitflags_on_literals}
-use Rattle.slate_block.specs.RowSpelling.{are_flags}
 use Rattle.slate_block.proofs.FlagLaws.{known_flags, other_bits}
 use Rattle.slate_block.proofs.flags.RowFlags.from_byte.Goals as goal
 
