@@ -1,10 +1,13 @@
--- Which bytes begin with a number or a row, field by field, and the refusal of the first field that fails.
+-- The fields of a row in its bytes, one behind the other, and the refusal of the first one that fails: with the place of its
+-- first byte, or with the byte that stands in the place of the flags and is none.
 --     front_varint bytes      the number whose spelling begins the bytes, and how many bytes it has; none where no spelling begins them
 --     Field A      what a field at a place holds, and the place behind it; or why it is refused
 --     varint_field, number_field, block_field, flags_field, stamp_field      the fields of a row
---     key_layout_v2, layout_v1, layout_v2      the fields of a row in their order
---     refusal_v1 bytes, refusal_v2 bytes, key_refusal_v2 bytes      why no row begins the bytes; none where one does
--- The place of a refusal is that of the field's first byte.
+--     head_layout, stamps_layout, value_layout      fields that stand together
+--     layout_v1 bytes, layout_v2 bytes      the fields of a row in their order, from the front of the bytes
+--     key_layout_v2 bytes      those up to the suffix of the key
+--     length_agrees flags key      a tombstone's value has the length 0
+--     AreWithin fields bytes      the places are in the bytes
 use Rattle.std.specs.Prelude.{◌≤◌, ℕ, ◌+◌, ◌-◌, ◌*◌, ◌^◌, Bool, true, false, ◌&&◌, if◌then◌else◌, nat_lt, ◌==◌, bit_and, List, [], ◌∷◌, length, take, drop, slice_get, Option, Some, None, Result, Ok, Err, ℤ}
 use Rattle.std.specs.Int.{Width, w16, w32, w64, byte_len, from_be_bytes, cast_signed}
 use Rattle.slate_types.specs.declared.error.SlateDBError.{SlateDBError}
