@@ -9,3 +9,6 @@ pub mod ReadingLawsV1
 pub mod Appending
 pub mod Prefixes
 pub mod OffsetLaws
+pub mod LongestFronts
+pub mod BlockLaws
+pub mod WrittenLaws

@@ -1,5 +1,5 @@
 -- Byte strings that stand one behind the other, and how they are told apart.
-use Rattle.std.proofs.Common.{◌≡◌, ℕ, ◌<◌, ◌^◌, List, [], ◌∷◌, ◌++◌, length, get_or, refl, sym, ap, ◌∙◌, arith}
+use Rattle.std.proofs.Common.{◌≡◌, ℕ, ◌<◌, ◌^◌, List, [], ◌∷◌, ◌++◌, length, get_or, refl, sym, ap, ◌∙◌, arith, length-append}
 use Rattle.std.specs.Int.{w16, w32, w64, from_be_bytes}
 use Rattle.std.proofs.lemmas.Nat.{from_be_bytes-to_be_bytes_2, from_be_bytes-to_be_bytes_4, from_be_bytes-to_be_bytes_8}
 use Rattle.slate_block.specs.RowSpelling.{be16, be32, be64}
@@ -24,6 +24,11 @@ same_pieces (p ∷ a) (q ∷ b) x y n h =
     let rest = same_pieces a b x y (omega (arith, n)) (same_tail p q (a ++ x) (b ++ y) h) in
     let first : p ≡ q = same_head p q (a ++ x) (b ++ y) h in
     ((λ i. first i ∷ rest.0 i), rest.1)
+
+pub same_ends : (a b x y : List ℕ) → length x ≡ length y → a ++ x ≡ b ++ y → (a ≡ b) × (x ≡ y)
+same_ends a b x y n h =
+    let whole : length (a ++ x) ≡ length (b ++ y) = ap (λ l. length l) h in
+    same_pieces a b x y (omega (arith, n, whole, length-append a x, length-append b y)) h
 
 pub same_whole : (a b : List ℕ) → a ≡ b → a ++ [] ≡ b ++ []
 same_whole a b h = ap (λ l. l ++ []) h

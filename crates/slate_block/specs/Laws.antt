@@ -4,8 +4,8 @@
 --     RowsOfV1DelimitThemselves, RowsOfV2DelimitThemselves      a row is read back, whatever follows it
 --     RowsOfV1AreReadOneWay, RowsOfV2AreReadOneWay      a byte string is at most one row
 --     FlagsAreKnown      the flags of a row are flags
--- Not proved yet:
 --     LongestFrontsAreBlocks      what is spelled with longest fronts is a block of the rows, as they are read
+--     LongestFrontsAreSpelledOneWay      of one list of rows as they were written
 --     BlocksAreReadOneWay      a byte string is a block of at most one list of rows
 use Rattle.std.specs.Prelude.{◌≡◌, ℕ, ◌^◌, ◌<◌, ◌⊎◌, true, List, ◌++◌, map, Option, ℤ}
 use Rattle.slate_types.specs.declared.types.ValueDeletable.{ValueDeletable}
@@ -38,11 +38,14 @@ RowsOfV2AreReadOneWay = (bytes : List ℕ) (e f : SstRowEntryV2) → IsRowV2 byt
 abbrev pub FlagsAreKnown : Type 0
 FlagsAreKnown = (value : ValueDeletable) (expire create : Option ℤ) → are_flags (flags value expire create) ≡ true
 
--- ---- not proved yet
-
 abbrev pub LongestFrontsAreBlocks : Type 0
 LongestFrontsAreBlocks = (version : ℕ) (rows : List RowEntry) → (version ≡ 1) ⊎ (version ≡ 2) → FitsBlock version rows →
     IsBlock (block_bytes version rows) version (map (as_read version) rows)
+
+-- also in version 1, where the expiry of a tombstone stands in the bytes and isn't read
+abbrev pub LongestFrontsAreSpelledOneWay : Type 0
+LongestFrontsAreSpelledOneWay = (version : ℕ) (rows other : List RowEntry) → (version ≡ 1) ⊎ (version ≡ 2) → FitsBlock version rows → FitsBlock version other →
+    block_bytes version rows ≡ block_bytes version other → rows ≡ other
 
 abbrev pub BlocksAreReadOneWay : Type 0
 BlocksAreReadOneWay = (bytes : List ℕ) (version : ℕ) (rows other : List RowEntry) → IsBlock bytes version rows → IsBlock bytes version other → rows ≡ other

@@ -1,6 +1,9 @@
 //! What the spellings of rows and blocks are for their readers, proved.
 ghost use Rattle.slate_block.specs.Laws.{
+  BlocksAreReadOneWay,
   FlagsAreKnown,
+  LongestFrontsAreBlocks,
+  LongestFrontsAreSpelledOneWay,
   RowsOfV1AreReadOneWay,
   RowsOfV1DelimitThemselves,
   RowsOfV2AreReadOneWay,
@@ -42,4 +45,19 @@ pub fn rows_of_v1_are_read_one_way()
 /// A byte string is at most one row of version 2.
 pub fn rows_of_v2_are_read_one_way()
     ensures { RowsOfV2AreReadOneWay }
+{}
+
+/// What is spelled with longest fronts is a block of the rows, as they are read.
+pub fn longest_fronts_are_blocks()
+    ensures { LongestFrontsAreBlocks }
+{}
+
+/// A byte string is a block of at most one list of rows.
+pub fn blocks_are_read_one_way()
+    ensures { BlocksAreReadOneWay }
+{}
+
+/// What is spelled with longest fronts is spelled of one list of rows.
+pub fn longest_fronts_are_spelled_one_way()
+    ensures { LongestFrontsAreSpelledOneWay }
 {}

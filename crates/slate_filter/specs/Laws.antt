@@ -1,13 +1,17 @@
--- What filters are for their readers, and which names of policies are valid.
+-- What filters are for their readers, and which names of policies are valid. A statement is proved by a function of src/laws.rt.
 --     AreValidNames names      the names that a list of policies may have
--- Not proved yet:
+--     ExtractorsAreLawful      the extractors that come with the store are within their targets and lawful
+--     FiltersDenyNothingGiven      no table is skipped for a query that one of its rows matches, by lawful policies of distinct names
 --     BloomIsLawful      no Bloom filter denies a query that one of its rows matches
-use Rattle.std.specs.Prelude.{◌≡◌, ℕ, ◌<◌, ◌≤◌, ◌^◌, List, [], ◌∷◌, length, map, false, IfSome}
+use Rattle.std.specs.Prelude.{◌≡◌, ℕ, ◌<◌, ◌≤◌, ◌^◌, List, [], ◌∷◌, length, map, false, IfSome, Contains}
 use Rattle.std.specs.List.{AllByRecursion}
+use Rattle.slate_types.specs.declared.types.RowEntry.{RowEntry}
+use Rattle.slate_types.specs.declared.filter_policy.FilterQuery.{FilterQuery}
 use Rattle.slate_types.specs.Keys.{among}
 use Rattle.slate_filter.specs.Bloom.{Bloom, bloom_build, bloom_answers}
 use Rattle.slate_types.specs.Lawful.{IsWithinTarget, IsLawfulLengths}
-use Rattle.slate_filter.specs.Policy.{IsLawfulPolicy}
+use Rattle.slate_filter.specs.Extractors.{fixed, colon, last_colon}
+use Rattle.slate_filter.specs.Policy.{Policy, IsOf, IsLawfulPolicy, filters_of, is_denied}
 
 abbrev pub AreDistinct : List (List ℕ) → Type 0
 AreDistinct [] = Unit {0}
@@ -19,7 +23,13 @@ pub record AreValidNames (names : List (List ℕ)) : Type 0 where
   pub short : AllByRecursion (λ n. length n < 2 ^ 16) names
   pub distinct : AreDistinct names
 
--- ---- not proved yet
+abbrev pub ExtractorsAreLawful : Type 0
+ExtractorsAreLawful = ((n : ℕ) → IsWithinTarget (fixed n) × IsLawfulLengths (fixed n))
+    × IsWithinTarget colon × IsLawfulLengths colon × IsWithinTarget last_colon × IsLawfulLengths last_colon
+
+abbrev pub FiltersDenyNothingGiven : Type 0
+FiltersDenyNothingGiven = (policies : List Policy) → AreDistinct (map (λ (p : Policy). p.name) policies) → AllByRecursion (λ (p : Policy). IsLawfulPolicy p.builds p.answers) policies →
+    (min : ℕ) (rows : List RowEntry) (row : RowEntry) (query : FilterQuery) → Contains rows row → IsOf query.target row.key → is_denied policies (filters_of policies min rows) query ≡ false
 
 -- an extractor that is within its target and lawful makes a lawful policy, for one bit per key or more
 abbrev pub BloomIsLawful : Type 0

@@ -5,4 +5,5 @@
 //! `specs/Policy.antt` says what is asked of a policy of one's own: that it denies no query that one of its rows matches.
 #![tactic(auto)]
 
+pub mod laws;
 pub mod vectors;

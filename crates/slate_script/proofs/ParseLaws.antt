@@ -25,7 +25,8 @@ use Rattle.slate_txn.specs.declared.line.Line.{Line}
 use Rattle.slate_txn.specs.declared.line.Line.TheVariants as lines
 use Rattle.slate_txn.specs.Named.{find_named}
 use Rattle.slate_script.specs.Text.{is_visible, hex_digit, hex}
-use Rattle.slate_script.specs.Grammar.{AreBytes, IsBytes, IsNumber, IsMoment, is_moment, is_name_byte, IsName, IsBound, level_word, order_word, Each, IsStep, IsTtl, IsPair, IsOp, AreOps, IsWay, Spells, IsLine}
+use Rattle.slate_types.specs.Keys.{AreBytes}
+use Rattle.slate_script.specs.Grammar.{IsBytes, IsNumber, IsMoment, is_moment, is_name_byte, IsName, IsBound, level_word, order_word, Each, IsStep, IsTtl, IsPair, IsOp, AreOps, IsWay, Spells, IsLine}
 use Rattle.slate_script.specs.Parse.{with_byte, both, three, only_if, ◌>>=◌, split_by, tokens_of, hex_value, unhex, read_bytes, read_number, moment_value, read_moment, read_name, read_bound, read_level, read_order, read_step, read_all, read_ttl, read_pair, read_way, OpWord, PutWord, MergeWord, DeleteWord, op_word, op_as, group_token, grouped, ops_of_groups, named, keyed, many_keyed, Word, words, line_as, parse_tokens, parse, Now, Begin, Snapshot, Get, Scan, Prefix, Put, Merge, Delete, Mark, Unmark, Commit, Rollback, Write, Freeze, Flush, Journal}
 
 -- ---- tokens have no space
@@ -44,7 +45,7 @@ and-second : (a b : Bool) → (a && b) ≡ true → b ≡ true
 and-second true b h = h
 and-second false b h = cc
 
-and-both : (a b : Bool) → a ≡ true → b ≡ true → (a && b) ≡ true
+pub and-both : (a b : Bool) → a ≡ true → b ≡ true → (a && b) ≡ true
 and-both true b h k = k
 and-both false b h k = h
 
@@ -209,7 +210,7 @@ moment-read t z h = (
 
 -- ---- names, levels, orders, bounds
 
-name-read : (t : List ℕ) → IsName t → Reads read_name t t
+pub name-read : (t : List ℕ) → IsName t → Reads read_name t t
 name-read t h = (
   ap (λ c. only_if c t) (and-both (ltb 0 (length t) && leb (length t) 64) (list_all is_name_byte t)
       (and-both (ltb 0 (length t)) (leb (length t) 64) (lt-ltb 0 (length t) h.0) (le-leb (length t) 64 h.1)) h.2),

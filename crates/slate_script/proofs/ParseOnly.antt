@@ -23,30 +23,31 @@ use Rattle.slate_txn.specs.declared.line.Line.{Line}
 use Rattle.slate_txn.specs.declared.line.Line.TheVariants as lines
 use Rattle.slate_txn.specs.Named.{find_named}
 use Rattle.slate_script.specs.Text.{is_visible, hex_digit, hex}
-use Rattle.slate_script.specs.Grammar.{AreBytes, IsBytes, IsNumber, IsMoment, is_moment, is_name_byte, IsName, IsBound, level_word, order_word, Each, IsStep, IsTtl, IsPair, IsOp, AreOps, IsWay, Spells, IsLine}
+use Rattle.slate_types.specs.Keys.{AreBytes}
+use Rattle.slate_script.specs.Grammar.{IsBytes, IsNumber, IsMoment, is_moment, is_name_byte, IsName, IsBound, level_word, order_word, Each, IsStep, IsTtl, IsPair, IsOp, AreOps, IsWay, Spells, IsLine}
 use Rattle.slate_script.specs.Parse.{with_byte, both, three, only_if, ◌>>=◌, split_by, tokens_of, hex_value, unhex, read_hex, read_bytes, read_number, moment_value, read_moment, read_name, read_bound, read_level, read_order, read_step, read_all, read_ttl, read_pair, read_way, OpWord, PutWord, MergeWord, DeleteWord, op_word, op_as, group_token, grouped, ops_of_groups, named, keyed, many_keyed, Word, words, line_as, parse_tokens, parse, Now, Begin, Snapshot, Get, Scan, Prefix, Put, Merge, Delete, Mark, Unmark, Commit, Rollback, Write, Freeze, Flush, Journal}
 
 -- ---- options
 
-None-is-Some : {A : Type 0} {Q : Type 0} (x : A) → None ≡ Some x → Q
+pub None-is-Some : {A : Type 0} {Q : Type 0} (x : A) → None ≡ Some x → Q
 None-is-Some x e = cc
 
-Some-is : {A : Type 0} (x y : A) → Some x ≡ Some y → x ≡ y
+pub Some-is : {A : Type 0} (x y : A) → Some x ≡ Some y → x ≡ y
 Some-is x y e = ap (λ o. unwrap_or o x) e
 
-only_if-some : {A : Type 0} (b : Bool) (x y : A) → only_if b x ≡ Some y → (b ≡ true) × (x ≡ y)
+pub only_if-some : {A : Type 0} (b : Bool) (x y : A) → only_if b x ≡ Some y → (b ≡ true) × (x ≡ y)
 only_if-some true x y e = (refl, Some-is x y e)
 only_if-some false x y e = None-is-Some y e
 
-map-some : {A B : Type 0} (f : A → B) (o : Option A) (y : B) → option_map f o ≡ Some y → (x : A) × (o ≡ Some x) × (f x ≡ y)
+pub map-some : {A B : Type 0} (f : A → B) (o : Option A) (y : B) → option_map f o ≡ Some y → (x : A) × (o ≡ Some x) × (f x ≡ y)
 map-some f None y e = None-is-Some y e
 map-some f (Some x) y e = (x, refl, Some-is (f x) y e)
 
-bind-some : {A B : Type 0} (o : Option A) (f : A → Option B) (y : B) → (o >>= f) ≡ Some y → (x : A) × (o ≡ Some x) × (f x ≡ Some y)
+pub bind-some : {A B : Type 0} (o : Option A) (f : A → Option B) (y : B) → (o >>= f) ≡ Some y → (x : A) × (o ≡ Some x) × (f x ≡ Some y)
 bind-some None f y e = None-is-Some y e
 bind-some (Some x) f y e = (x, refl, e)
 
-both-some : {A B C : Type 0} (make : A → B → C) (a : Option A) (b : Option B) (z : C) → both make a b ≡ Some z → (x : A) × (y : B) × (a ≡ Some x) × (b ≡ Some y) × (make x y ≡ z)
+pub both-some : {A B C : Type 0} (make : A → B → C) (a : Option A) (b : Option B) (z : C) → both make a b ≡ Some z → (x : A) × (y : B) × (a ≡ Some x) × (b ≡ Some y) × (make x y ≡ z)
 both-some make None b z e = None-is-Some z e
 both-some make (Some x) None z e = None-is-Some z e
 both-some make (Some x) (Some y) z e = (x, y, refl, refl, Some-is (make x y) z e)
@@ -58,22 +59,22 @@ three-some make (Some w) None c z e = None-is-Some z e
 three-some make (Some w) (Some x) None z e = None-is-Some z e
 three-some make (Some w) (Some x) (Some y) z e = (w, x, y, refl, refl, refl, Some-is (make w x y) z e)
 
-cond-either : {A : Type 0} (b : Bool) (x y z : A) → cond b x y ≡ z → ((b ≡ true) × (x ≡ z)) ⊎ ((b ≡ false) × (y ≡ z))
+pub cond-either : {A : Type 0} (b : Bool) (x y z : A) → cond b x y ≡ z → ((b ≡ true) × (x ≡ z)) ⊎ ((b ≡ false) × (y ≡ z))
 cond-either true x y z e = inl (refl, e)
 cond-either false x y z e = inr (refl, e)
 
-and-first : (a b : Bool) → (a && b) ≡ true → a ≡ true
+pub and-first : (a b : Bool) → (a && b) ≡ true → a ≡ true
 and-first true b h = refl
 and-first false b h = h
 
-and-second : (a b : Bool) → (a && b) ≡ true → b ≡ true
+pub and-second : (a b : Bool) → (a && b) ≡ true → b ≡ true
 and-second true b h = h
 and-second false b h = cc
 
 same-number : (a b : ℕ) → (a == b) ≡ true → a ≡ b
 same-number a b h = grind (arith, nat_tests)
 
-same-bytes : (a b : List ℕ) → bytes_eq a b ≡ true → a ≡ b
+pub same-bytes : (a b : List ℕ) → bytes_eq a b ≡ true → a ≡ b
 same-bytes a b h = (bytes_eq-Decides a b).0 h
 
 -- ---- tokens
@@ -87,7 +88,7 @@ join-split b (t ∷ ts) = by (b == 32) refl ts
     by false e [] = refl
     by false e (u ∷ us) = refl
 
-join-tokens : (bytes : List ℕ) → join_with_byte 32 (tokens_of bytes) ≡ bytes
+pub join-tokens : (bytes : List ℕ) → join_with_byte 32 (tokens_of bytes) ≡ bytes
 join-tokens [] = refl
 join-tokens (b ∷ bs) = join-split b (tokens_of bs) ∙ ap (λ cs. b ∷ cs) (join-tokens bs)
 
@@ -172,7 +173,7 @@ moment-only t z e =
       sym (same-bytes (signed_decimal (moment_value t)) t (and-first (bytes_eq (signed_decimal (moment_value t)) t) (is_moment (moment_value t)) some.0)) ∙ ap signed_decimal some.1,
     )
 
-name-only : (t name : List ℕ) → read_name t ≡ Some name → IsName name × (t ≡ name)
+pub name-only : (t name : List ℕ) → read_name t ≡ Some name → IsName name × (t ≡ name)
 name-only t name e =
     let some = only_if-some (ltb 0 (length t) && leb (length t) 64 && list_all is_name_byte t) t name e in
     let lengths = and-first (ltb 0 (length t) && leb (length t) 64) (list_all is_name_byte t) some.0 in (
@@ -481,7 +482,7 @@ line-only Flush (u ∷ us) line e = None-is-Some line e
 line-only Journal [] line e = subst (Spells (codes "journal" ∷ [])) (Some-is lines.Journal line e) refl
 line-only Journal (u ∷ us) line e = None-is-Some line e
 
-tokens-only : (ts : List (List ℕ)) (line : Line) → parse_tokens ts ≡ Some line → Spells ts line
+pub tokens-only : (ts : List (List ℕ)) (line : Line) → parse_tokens ts ≡ Some line → Spells ts line
 tokens-only [] line e = None-is-Some line e
 tokens-only (t ∷ ts) line e =
     let found = bind-some (find_named t words) (λ w. line_as w ts) line e in

@@ -3,7 +3,7 @@
 --     Spells ts line, IsLine bytes line      the tokens, and the bytes, of a line
 use Rattle.std.specs.Prelude.{◌≡◌, ℕ, ◌-◌, ◌^◌, ◌<◌, ◌≤◌, Bool, ◌&&◌, ◌||◌, ◌⊎◌, nat_le, List, [], ◌∷◌, ◌++◌, length, IsTrue, ⊤, ℤ, pos, negsuc, int_le, codes, decimal}
 use Rattle.std.specs.Fmt.{signed_decimal}
-use Rattle.std.specs.List.{list_all, join_with_byte, AllByRecursion}
+use Rattle.std.specs.List.{list_all, join_with_byte}
 use Rattle.std.specs.declared.ops.Bound.{Bound}
 use Rattle.std.specs.declared.ops.Bound.TheVariants.{Included, Excluded, Unbounded}
 use Rattle.slate_types.specs.declared.config.IsolationLevel.{IsolationLevel}
@@ -14,6 +14,7 @@ use Rattle.slate_types.specs.declared.config.Ttl.{Ttl}
 use Rattle.slate_types.specs.declared.config.Ttl.TheVariants.{Default, NoExpiry, ExpireAfter}
 use Rattle.slate_mem.specs.declared.WriteOp.{WriteOp}
 use Rattle.slate_mem.specs.declared.WriteOp.TheVariants as ops
+use Rattle.slate_types.specs.Keys.{AreBytes}
 use Rattle.slate_mem.specs.Batch.{Ops}
 use Rattle.slate_txn.specs.declared.line.ScanStep.{ScanStep}
 use Rattle.slate_txn.specs.declared.line.ScanStep.TheVariants.{Rows, Seek}
@@ -22,9 +23,6 @@ use Rattle.slate_txn.specs.declared.line.Line.TheVariants as lines
 use Rattle.slate_script.specs.Text.{is_visible, hex}
 
 -- ---- tokens
-
-abbrev pub AreBytes : List ℕ → Type 0
-AreBytes v = AllByRecursion (λ b. b < 256) v
 
 -- `'` and visible bytes, or `0x` and pairs of lower-case hex digits
 abbrev pub IsBytes : List ℕ → List ℕ → Type 0

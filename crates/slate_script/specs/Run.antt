@@ -3,14 +3,15 @@
 --     is_line l, first_other ls      a line that is silent or means something; the number, from 1, of the first that is neither
 --     lines_taken script      the lines that a run can take: of a script that is too long, the whole lines within the limit
 --     script_error script      the error that the script itself ends a run with
+--     IsOutside e, IsScriptError e      the error comes from a source, a sink or memory, or from the script
 --     HasAnswered r script said      what was written is the replies to the first lines
 --     HasBegun r script said      the same, and a front of one reply more
-use Rattle.std.specs.Prelude.{◌≡◌, ◌≢◌, ℕ, suc, ◌+◌, ◌-◌, ◌^◌, ◌<◌, ◌⊎◌, Bool, ◌||◌, if◌then◌else◌, nat_lt, List, [], ◌∷◌, ◌++◌, length, take, Option, Some, None, is_some, option_map, IsTrue}
+use Rattle.std.specs.Prelude.{◌≡◌, ◌≢◌, ℕ, suc, ◌-◌, ◌⊎◌, Bool, ◌||◌, if◌then◌else◌, nat_lt, List, [], ◌∷◌, ◌++◌, length, take, Option, Some, None, is_some, option_map, IsTrue}
 use Rattle.std.specs.List.{AllByRecursion}
 use Rattle.slate_types.specs.declared.config.Options.{Options}
 use Rattle.slate_types.specs.declared.error.SlateDBError.{SlateDBError}
 use Rattle.slate_types.specs.declared.error.SlateDBError.TheVariants.{ScriptSyntax, ScriptTooLong, OutOfMemory, ReadFault, WriteFault}
-use Rattle.slate_store.specs.Lines.{lines_of, whole_part, script_limit, HasNoEnd}
+use Rattle.slate_store.specs.Lines.{lines_of, whole_part, script_limit}
 use Rattle.slate_txn.specs.State.{Rules}
 use Rattle.slate_script.specs.Stage.{meaning}
 use Rattle.slate_script.specs.Replies.{is_silent, replies_to}
@@ -42,6 +43,10 @@ script_error script = error_of (first_other (lines_taken script)) (is_too_long s
 abbrev pub IsOutside : SlateDBError → Type 0
 IsOutside e = (e ≡ OutOfMemory) ⊎ (e ≡ ReadFault) ⊎ (e ≡ WriteFault)
 
+-- errors of the script itself
+abbrev pub IsScriptError : SlateDBError → Type 0
+IsScriptError e = (e ≡ ScriptTooLong) ⊎ ((n : ℕ) × (e ≡ ScriptSyntax n))
+
 abbrev pub AreLines : List (List ℕ) → Type 0
 AreLines ls = AllByRecursion (λ l. IsTrue (is_line l)) ls
 
@@ -66,9 +71,11 @@ pub record HasBegun (r : Rules) (script said : List ℕ) : Type 0 where
   pub begun : List ℕ
   pub before : said ≡ replies_to meaning r done ++ begun
 
--- what a source that failed has given: all whole lines of it were answered
+-- what a source that failed has given: all whole lines of it were answered, and a last one without LF only at its end
 pub record HasAnsweredAll (r : Rules) (script left said : List ℕ) : Type 0 where
   pub given : List ℕ
   pub split : script ≡ given ++ left
-  pub meant : AreLines (lines_of (whole_part given))
-  pub all : said ≡ replies_to meaning r (lines_of (whole_part given))
+  pub done : List ℕ
+  pub whole : (done ≡ whole_part given) ⊎ ((done ≡ given) × (left ≡ []))
+  pub meant : AreLines (lines_of done)
+  pub all : said ≡ replies_to meaning r (lines_of done)

@@ -1,2 +1,4 @@
 pub mod Held
+pub mod Laws
 pub mod Lines
+pub mod Memory

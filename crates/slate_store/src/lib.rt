@@ -1,14 +1,23 @@
 //! The outside world: where a script comes from and where its replies go.
 #![tactic(auto)]
 
+mod faults;
+pub mod laws;
 pub mod lines;
+pub mod memory;
 pub mod sink;
 pub mod source;
+pub mod stream;
 
 pub use lines::Lines;
+pub use memory::{MemorySink, MemorySource};
 pub use sink::{Sink, write_all};
 pub use source::Source;
+pub use stream::{ReaderSource, WriterSink};
 
 /// A source or a sink failed. Its count of faults has risen.
 #[derive(Clone, Copy, Debug, PartialEq, Eq)]
 pub struct Failed;
+
+#[cfg(test)]
+mod tests;

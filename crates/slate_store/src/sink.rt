@@ -10,7 +10,8 @@ pub trait Sink: Drop {
     /// The bytes that were taken, where the sink tells them.
     ghost content: { Self → Option (List ℕ) };
 
-    /// How many calls have failed. The count stands still at its type's end.
+    /// The count of faults: it rises with each call that fails, and with no other. It stands still at its
+    /// type's end.
     ghost faults: { Self → ℕ };
 
     /// Appends that many leading bytes of the piece: at least one of a piece that isn't empty. A failed
@@ -21,6 +22,7 @@ pub trait Sink: Drop {
         ensures appended { (before : List ℕ) → content self.old ≡ Some before → IfOk result (λ n. content self.new ≡ Some (before ++ take n piece.now)) }
         ensures failed { OnErr result (content self.new ≡ content self.old) }
         ensures later { faults self.old ≤ faults self.new }
+        ensures still { OnOk result (faults self.new ≡ faults self.old) }
         ensures cause { OnErr result (Rose (faults self.old) (faults self.new)) };
 }
 
@@ -30,6 +32,7 @@ pub fn write_all<W: Sink>(sink: &mut W, piece: &[u8]) -> Result<(), SlateDBError
     ensures ok { (before : List ℕ) → W.content sink.old ≡ Some before → OnOk result (W.content sink.new ≡ Some (before ++ piece.now)) }
     ensures part { (before : List ℕ) → W.content sink.old ≡ Some before → OnErr result ((n : ℕ) × (n < length piece.now) × (W.content sink.new ≡ Some (before ++ take n piece.now))) }
     ensures cause { IfErr result (λ e. (e ≡ SlateDBError.WriteFault) × Rose (W.faults sink.old) (W.faults sink.new)) }
+    ensures still { OnOk result (W.faults sink.new ≡ W.faults sink.old) }
     ensures later { W.faults sink.old ≤ W.faults sink.new }
 {
     let mut taken = 0;

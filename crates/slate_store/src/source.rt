@@ -1,5 +1,5 @@
 //! Where bytes come from.
-ghost use Rattle.std.specs.Prelude.{◌≡◌, ◌≤◌, ◌<◌, [], take, drop, length, ℕ, List, Option, Some, IfOk, OnErr};
+ghost use Rattle.std.specs.Prelude.{◌≡◌, ◌≤◌, ◌<◌, [], take, drop, length, ℕ, List, Option, Some, IfOk, OnOk, OnErr};
 ghost use Rattle.slate_types.specs.Faults.{Rose};
 
 use crate::Failed;
@@ -9,7 +9,8 @@ pub trait Source: Drop {
     /// The bytes that are left, where the source tells them.
     ghost left: { Self → Option (List ℕ) };
 
-    /// How many calls have failed. The count stands still at its type's end.
+    /// The count of faults: it rises with each call that fails, and with no other. It stands still at its
+    /// type's end.
     ghost faults: { Self → ℕ };
 
     /// Takes that many leading bytes of what is left into the front of the buffer. For a buffer that
@@ -21,5 +22,6 @@ pub trait Source: Drop {
         ensures end { 0 < length buf.old → (bytes : List ℕ) → left self.old ≡ Some bytes → result ≡ Ok 0 → bytes ≡ [] }
         ensures failed { OnErr result (left self.new ≡ left self.old) }
         ensures later { faults self.old ≤ faults self.new }
+        ensures still { OnOk result (faults self.new ≡ faults self.old) }
         ensures cause { OnErr result (Rose (faults self.old) (faults self.new)) };
 }

@@ -3,8 +3,9 @@
 --     IsIndex end bytes entries      offsets rise from 0 and don't pass the blocks' end, separators don't fall
 --     IsStats bytes stats      counts of rows, and sums of key bytes and value bytes
 --     IsInfo version bytes info      the first and the last key, and where the other sections lie
+--     SectionsLieBefore end info      they lie in the bytes before the end
 --     IsFilters bytes filters      filters by name and bytes
-use Rattle.std.specs.Prelude.{◌≡◌, ℕ, ◌^◌, ◌<◌, ◌≤◌, IsTrue, List, [], ◌∷◌, ◌++◌, length, flat_map, Option, IfSome}
+use Rattle.std.specs.Prelude.{◌≡◌, ℕ, ◌+◌, ◌^◌, ◌<◌, ◌≤◌, IsTrue, List, [], ◌∷◌, ◌++◌, length, flat_map, Option, IfSome}
 use Rattle.std.specs.List.{AllByRecursion}
 use Rattle.slate_types.specs.Keys.{key_le}
 use Rattle.slate_block.specs.RowSpelling.{be16, be32, be64}
@@ -86,6 +87,13 @@ pub record IsInfo (version : ℕ) (bytes : List ℕ) (i : Info) : Type 0 where
   pub filters : FitsPlace i.filters
   pub stats : FitsPlace i.stats
   pub is : bytes ≡ info_bytes version i.first i.last i.index i.filters i.stats
+
+-- every section lies before the info, which begins at the end
+abbrev pub LiesBefore : ℕ → Place → Type 0
+LiesBefore end p = p.at + p.len ≤ end
+
+abbrev pub SectionsLieBefore : ℕ → Info → Type 0
+SectionsLieBefore end i = LiesBefore end i.index × LiesBefore end i.filters × LiesBefore end i.stats
 
 -- ---- filters
 

@@ -40,16 +40,16 @@ legal-made n0 [] s used h legal = h
 legal-made n0 (e ∷ es) s used h legal = legal-made n0 es (apply s e) (ids_of e ++ used) (made-apply n0 s used e h legal.0) legal.1
 
 -- keys of a batch are keys of what it keeps
-keys-of-kept : (os : Ops) (tracked : List (List ℕ)) → AreKeysOf os tracked → AreKeysOf (kept_ops os) tracked
+pub keys-of-kept : (os : Ops) (tracked : List (List ℕ)) → AreKeysOf os tracked → AreKeysOf (kept_ops os) tracked
 keys-of-kept os tracked h = (h.0, h.1 ∙ ap (filter h.0) (sym (keeps-keys os)))
 
 made : (r : Rules) → Keeps r (λ s. AreMade s.commits)
 made r = record {
   moment = λ s m h. h;
-  flush = λ s n h. h;
+  flush = λ s h. h;
   begin = λ s name level e h. h;
   snapshot = λ s name e h. h;
-  changed = λ s name f h. h;
+  changed = λ s name f g h. h;
   closes = λ s name h. h;
   commits = λ s o os tracked keys h.
       made-more s.commits _ h (record { some = some-length (kept_ops (o ∷ os)) (some-kept o os); kept = keeps-once (o ∷ os); keys = keys-of-kept (o ∷ os) tracked keys });

@@ -161,13 +161,13 @@ once-end s name h = (once-without name s.txns h.0, h.1, λ k. apart-map (none-wi
 once-release : (s : State) (name : List ℕ) → NamesStandOnce s → NamesStandOnce (record s { snapshots = without name s.snapshots })
 once-release s name h = (h.0, once-without name s.snapshots h.1, λ k. apart-map (λ e. e) (none-without k name s.snapshots) (h.2 k))
 
-names : (r : Rules) → Keeps r NamesStandOnce
+pub names : (r : Rules) → Keeps r NamesStandOnce
 names r = record {
   moment = λ s m h. h;
-  flush = λ s n h. h;
+  flush = λ s h. h;
   begin = λ s name level e h. once-begin s name (begun level (last r s)) (no-tx s name e) (no-snapshot s name e) h;
   snapshot = λ s name e h. once-snapshot s name (last r s) (no-tx s name e) (no-snapshot s name e) h;
-  changed = λ s name f h. (once-update name f s.txns h.0, h.1, λ k. apart-map (none-update k name f s.txns) (λ e. e) (h.2 k));
+  changed = λ s name f g h. (once-update name f s.txns h.0, h.1, λ k. apart-map (none-update k name f s.txns) (λ e. e) (h.2 k));
   closes = λ s name h. once-release (record s { txns = without name s.txns }) name (once-end s name h);
   commits = λ s o os tracked keys h. h;
 }

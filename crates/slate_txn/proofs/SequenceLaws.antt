@@ -37,10 +37,10 @@ legal-counts n0 (e ∷ es) s used h legal = legal-counts n0 es (apply s e) (ids_
 sequences : (r : Rules) → Keeps r (λ s. Counts r.start_seq s.commits)
 sequences r = record {
   moment = λ s m h. h;
-  flush = λ s n h. h;
+  flush = λ s h. h;
   begin = λ s name level e h. h;
   snapshot = λ s name e h. h;
-  changed = λ s name f h. h;
+  changed = λ s name f g h. h;
   closes = λ s name h. h;
   commits = λ s o os tracked keys h. counts-more r.start_seq s.commits _ h refl;
 }

@@ -1,8 +1,16 @@
--- Laws of conflicts, of reads, of states and of steps.
+-- Laws, each the contract of a function of `laws`.
+--     ConflictsNeedACommit, FewerKeysFewerConflicts      of conflicts
+--     StaysAsItWas, ScansStay, SeesTheState      of reads
+--     StaysAlone, AloneGoesOn, EachIsVouched      of transcripts
+--     StorageIsSilent, GoesOn, WritesWhatIsKept      of replies
+--     SequencesCount, CommitsAreMade, EachNameOnce, FindsEach      of states that lines and legal journals make
+--     EventsReplay, EventsAreLegal      of the events of lines
+--     NoOperatorIsLawful      of what stands where no operator is set
 use Rattle.std.specs.Prelude.{◌≡◌, ℕ, ◌+◌, ◌≤◌, ◌<◌, Bool, true, false, not, if◌then◌else◌, filter, map, length, List, [], ◌∷◌, ◌++◌, Option, Some, None}
 use Rattle.std.specs.List.{AllByRecursion, list_any}
 use Rattle.slate_types.specs.declared.bytes_range.BytesRange.{BytesRange}
 use Rattle.slate_types.specs.declared.iter.IterationOrder.{IterationOrder}
+use Rattle.slate_types.specs.declared.types.Ulid.{Ulid}
 use Rattle.slate_types.specs.Fold.{IsShort}
 use Rattle.slate_mem.specs.Batch.{Ops, kept_ops}
 use Rattle.slate_txn.specs.declared.line.Line.{Line}
@@ -12,12 +20,14 @@ use Rattle.slate_txn.specs.declared.event.TranscriptStep.{TranscriptStep}
 use Rattle.slate_txn.specs.Named.{find_named}
 use Rattle.slate_txn.specs.State.{Rules, Commit, Tx, State, opening, operator_at, NamesStandOnce}
 use Rattle.slate_txn.specs.Reads.{state_at, seen, rows_seen}
-use Rattle.slate_txn.specs.Conflict.{conflict}
+use Rattle.slate_txn.specs.Conflict.{conflict, conflict_of}
+use Rattle.slate_txn.specs.Tracking.{Reading}
 use Rattle.slate_txn.specs.Refusals.{first_refusal, op_refusal, is_merge_op}
 use Rattle.slate_txn.specs.Reply.{Reply}
 use Rattle.slate_txn.specs.Step.{step, answers, after, write}
-use Rattle.slate_txn.specs.Replay.{replay, IsLegal, AreKept, AreKeysOf}
-use Rattle.slate_txn.specs.Alone.{IsAlone, AloneFrom, own_of, scans_left}
+use Rattle.slate_txn.specs.Replay.{apply_all, replay, IsLegal, NewIds, AreKept, AreKeysOf}
+use Rattle.slate_txn.specs.Events.{as_replayed, line_events, all_events}
+use Rattle.slate_txn.specs.Alone.{IsAlone, IsVouched, AloneFrom, own_of, scans_left}
 
 -- Where nothing was committed since it began, a transaction has no conflict.
 abbrev pub ConflictsNeedACommit : Type 0
@@ -28,12 +38,16 @@ abbrev pub StaysAsItWas : Type 0
 StaysAsItWas = (r : Rules) (cs later : List Commit) (n : ℕ) (ops : Ops) (k : List ℕ) → AllByRecursion (λ c. n < c.seq) later →
     (state_at r (cs ++ later) n k ≡ state_at r cs n k) × (seen r (cs ++ later) n ops k ≡ seen r cs n ops k)
 
--- Nor do they change a scan.
+-- Later commits change no scan: no commit after its begin is among a reader's rows.
 abbrev pub ScansStay : Type 0
 ScansStay = (r : Rules) (cs later : List Commit) (n : ℕ) (ops : Ops) (order : IterationOrder) (range : BytesRange) → AllByRecursion (λ c. n < c.seq) later →
     rows_seen r (cs ++ later) n ops order range ≡ rows_seen r cs n ops order range
 
--- Nor does a transcript stop to be alone.
+-- A reader without operations of its own, as a snapshot's is, sees the state at its sequence.
+abbrev pub SeesTheState : Type 0
+SeesTheState = (r : Rules) (cs : List Commit) (n : ℕ) (k : List ℕ) → seen r cs n [] k ≡ state_at r cs n k
+
+-- Later commits leave a transcript alone.
 abbrev pub StaysAlone : Type 0
 StaysAlone = (r : Rules) (cs later : List Commit) (n : ℕ) (ts : List TranscriptStep) → AllByRecursion (λ c. n < c.seq) later → IsAlone r cs n ts → IsAlone r (cs ++ later) n ts
 
@@ -43,6 +57,10 @@ AloneGoesOn = (r : Rules) (cs : List Commit) (n : ℕ) (ts more : List Transcrip
     (IsAlone r cs n ts → AloneFrom r cs n (own_of ts) (scans_left r cs n ts) more → IsAlone r cs n (ts ++ more))
     × (IsAlone r cs n (ts ++ more) → IsAlone r cs n ts)
     × (IsAlone r cs n (ts ++ more) → AloneFrom r cs n (own_of ts) (scans_left r cs n ts) more)
+
+-- After any lines the transcript of each open transaction is vouched.
+abbrev pub EachIsVouched : Type 0
+EachIsVouched = (r : Rules) (ls : List Line) → AllByRecursion (λ p. IsVouched r (after r opening ls).commits p.1) (after r opening ls).txns
 
 -- a freeze or a flush
 abbrev pub is_storage : Line → Bool
@@ -72,6 +90,20 @@ Counts n (c ∷ cs) = (c.seq ≡ n + 1) × Counts c.seq cs
 abbrev pub SequencesCount : Type 0
 SequencesCount = (r : Rules) → ((es : List Event) → IsLegal r.start_seq es → Counts r.start_seq (replay es).commits)
     × ((ls : List Line) → Counts r.start_seq (after r opening ls).commits)
+
+-- A line's events make of what a journal knows of the state what it knows of the state after the line. So they do for all lines from the start.
+abbrev pub EventsReplay : Type 0
+EventsReplay = (r : Rules) (tables : List (Ulid × List ℕ)) →
+    ((s : State) (l : Line) → NamesStandOnce s → apply_all (as_replayed s) (line_events tables s l (step r s l).1) ≡ as_replayed (step r s l).0)
+    × ((ls : List Line) → replay (all_events r tables opening ls) ≡ as_replayed (after r opening ls))
+
+-- The events of lines are legal where no name is used twice.
+abbrev pub EventsAreLegal : Type 0
+EventsAreLegal = (r : Rules) (tables : List (Ulid × List ℕ)) (ls : List Line) → NewIds [] (all_events r tables opening ls) → IsLegal r.start_seq (all_events r tables opening ls)
+
+-- A transaction that conflicts by none of more keys conflicts by none of fewer.
+abbrev pub FewerKeysFewerConflicts : Type 0
+FewerKeysFewerConflicts = (cs : List Commit) (begin : ℕ) (keys more : List (List ℕ)) (read : Reading) → conflict_of cs begin (keys ++ more) read ≡ None → conflict_of cs begin keys read ≡ None
 
 -- A commit's operations are kept ones, at least one, and it tracks keys of theirs, rising, each once.
 pub record IsMade (c : Commit) : Type 0 where

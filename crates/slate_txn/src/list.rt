@@ -64,6 +64,13 @@ impl OpList {
     {
         self.items.as_slice()
     }
+
+    /// The operations, oldest first. Takes no memory.
+    pub fn into_vec(self) -> Vec<(Bytes, WriteOp)>
+        ensures { result.items ≡ self }
+    {
+        self.items
+    }
 }
 
 /// Tables, each with its id and its bytes as they were put.

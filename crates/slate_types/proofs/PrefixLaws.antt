@@ -1,15 +1,14 @@
 -- What the range of a prefix holds: the keys that begin with it.
-use Rattle.std.proofs.Common.{◌≡◌, ℕ, ◌+◌, ◌<◌, Bool, true, false, cond, ◌&&◌, ◌||◌, not, ◌==◌, eqb, List, [], ◌∷◌, ◌++◌, length, take, drop, Option, Some, None, unwrap_or, refl, sym, ap, ◌∙◌, arith, ltb, Ordering, Less, Equal, Greater}
+use Rattle.std.proofs.Common.{◌≡◌, ℕ, ◌+◌, Bool, true, false, cond, ◌&&◌, ◌||◌, not, ◌==◌, List, [], ◌∷◌, ◌++◌, length, drop, Option, Some, None, unwrap_or, refl, sym, ap, ◌∙◌, arith, ltb, Ordering, Less, Equal, Greater}
 use Rattle.std.specs.Prelude.{nat_eq}
 use Rattle.std.specs.List.{starts_with}
-use Rattle.std.specs.Ordering.{is_lt, is_le, nat_cmp, ordering_then, ordering_reverse}
+use Rattle.std.specs.Ordering.{is_lt, is_le, ordering_then, ordering_reverse}
 use Rattle.std.proofs.lemmas.Bool.Decides.{nat_tests}
-use Rattle.std.proofs.lemmas.Cmp.{tied_itself, nat_list_cmp_total}
 use Rattle.std.specs.declared.ops.Bound.{Bound}
 use Rattle.std.specs.declared.ops.Bound.TheVariants.{Included, Excluded, Unbounded}
 use Rattle.slate_types.specs.declared.bytes_range.BytesRange.{BytesRange}
-use Rattle.slate_types.specs.Keys.{key_cmp, key_lt, key_le, AreBytes, carried, successor, is_past_start, is_before_end, in_range, is_refused, range_of, prefix_start, prefix_end, excluded_or_open, prefix_range, behind, prefix_subrange}
-use Rattle.slate_types.proofs.KeyOrder.{same-key, turned-key, lt-le, lt-irreflexive, lt-trans}
+use Rattle.slate_types.specs.Keys.{key_cmp, key_lt, AreBytes, carried, successor, is_past_start, is_before_end, in_range, is_refused, prefix_start, prefix_end, excluded_or_open, prefix_range, behind, prefix_subrange}
+use Rattle.slate_types.proofs.KeyOrder.{same-key, turned-key, lt-irreflexive, lt-trans}
 
 begins : List ℕ → List ℕ → Bool
 begins p k = starts_with nat_eq k p

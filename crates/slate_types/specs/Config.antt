@@ -1,7 +1,7 @@
 -- Options, and which are valid.
 --     defaults      the options that `Options::new` gives
 --     IsValid o      each number within its limits, and no codec
-use Rattle.std.specs.Prelude.{◌≡◌, ℕ, ◌-◌, ◌^◌, ◌<◌, ◌≤◌, None}
+use Rattle.std.specs.Prelude.{◌≡◌, ◌-◌, ◌^◌, ◌<◌, ◌≤◌, None}
 use Rattle.slate_types.specs.declared.config.Options.{Options}
 use Rattle.slate_types.specs.declared.config.BlockFormat.TheVariants.{Latest}
 

@@ -106,7 +106,7 @@ pub struct WriteOptions {
     pub now: i64,
 }
 
-/// Options of a database. The limits and defaults are in docs/SCRIPT.md, "Options".
+/// Options of a database. `new` has the defaults, and `is_valid` tests the limits.
 #[derive(Clone, Copy, Debug, PartialEq, Eq)]
 pub struct Options {
     /// The size in bytes that an encoded block is held to.

@@ -1,4 +1,4 @@
-use Rattle.std.proofs.Common.{◌≡◌, ◌∙◌, ap, arith, Some}
+use Rattle.std.proofs.Common.{◌∙◌, ap, arith, Some}
 use Rattle.slate_store.proofs.Pieces.{taken_further, taken_within}
 use Rattle.slate_store.proofs.sink.write_all.Goals as goal
 
@@ -7,5 +7,5 @@ loop-taken-preserved g c = record {
   bound = taken_within c.args.piece.now c.loop-taken.taken c.in-Ok.count (omega arith) c.in-Ok.ensures.bound;
   content = λ before told.
       c.in-Ok.ensures.appended _ (c.loop-taken.invariant.content before told) ∙ ap Some (taken_further before c.args.piece.now c.loop-taken.taken c.in-Ok.count);
-  later = omega arith;
+  still = c.in-Ok.ensures.still ∙ c.loop-taken.invariant.still;
 }

@@ -5,7 +5,7 @@ abbrev pub invariant-loop-taken : goal.invariant-loop-taken
 invariant-loop-taken g l = record {
   bound : l.taken ≤ length l.piece;
   content : (before : List ℕ) → g.W.Sink.content l.initial.sink ≡ Some before → g.W.Sink.content l.sink ≡ Some (before ++ take l.taken l.piece);
-  later : g.W.Sink.faults l.initial.sink ≤ g.W.Sink.faults l.sink;
+  still : g.W.Sink.faults l.sink ≡ g.W.Sink.faults l.initial.sink;
 }
 
 abbrev pub decreases-loop-taken : goal.decreases-loop-taken

@@ -1,0 +1,3 @@
+pub mod BloomLaws
+pub mod ExtractorLaws
+pub mod PolicyLaws

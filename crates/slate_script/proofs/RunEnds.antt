@@ -1,0 +1,250 @@
+-- How a run ends: at an error of the reader, at a line that isn't answered, and at the end of the script.
+use Rattle.std.proofs.Common.{◌≡◌, ℕ, ◌+◌, ◌≤◌, ◌<◌, true, false, ◌⊎◌, inl, inr, List, [], ◌∷◌, ◌++◌, length, take, drop, Option, Some, None, IsTrue, refl, sym, ap, subst, ◌∙◌, arith, append_assoc}
+use Rattle.std.proofs.lemmas.List.{append-nil, length-append, take-append-drop, length-drop}
+use Rattle.std.proofs.Math.Seq.{drop-append_seam}
+use Rattle.slate_types.specs.declared.error.SlateDBError.{SlateDBError}
+use Rattle.slate_types.specs.declared.error.SlateDBError.TheVariants.{ScriptSyntax, ScriptTooLong, OutOfMemory, ReadFault, WriteFault}
+use Rattle.slate_types.specs.Faults.{Rose}
+use Rattle.slate_store.specs.Lines.{lines_of, whole_part, script_limit, HasNoEnd, LinesModel, IsEnd, KeepsAll}
+use Rattle.slate_store.proofs.LineLaws.{partial_line_is_not_whole}
+use Rattle.slate_txn.specs.State.{Rules, opening}
+use Rattle.slate_script.specs.Stage.{meaning}
+use Rattle.slate_script.specs.Replies.{after_lines, replies_from, replies_to, replies, IsWellFormed}
+use Rattle.slate_script.specs.Engine.{EngineModel}
+use Rattle.slate_script.specs.Run.{is_line, first_other, is_too_long, lines_taken, error_of, script_error, IsOutside, IsScriptError, AreLines, HasAnswered, HasBegun, HasAnsweredAll}
+use Rattle.slate_script.proofs.Answered.{lines-more, replies-append, replies-stop, other-none, other-first, lines-built}
+use Rattle.slate_script.proofs.Taken.{IsCut, IsAt, Took, taken-first, lines-begin, ends, first-empty, too-long, lines-no_error, formed-no_error}
+
+-- ---- which errors
+
+error-kinds : (o : Option ℕ) (long : _) (e : SlateDBError) → error_of o long ≡ Some e → IsOutside e → ⊥
+error-kinds None true e h (inl is) = cc
+error-kinds None true e h (inr (inl is)) = cc
+error-kinds None true e h (inr (inr is)) = cc
+error-kinds None false e h is = cc
+error-kinds (Some n) long e h (inl is) = cc
+error-kinds (Some n) long e h (inr (inl is)) = cc
+error-kinds (Some n) long e h (inr (inr is)) = cc
+
+pub no-outside : (script : List ℕ) (e : SlateDBError) → script_error script ≡ Some e → IsOutside e → ⊥
+no-outside script e = error-kinds (first_other (lines_taken script)) (is_too_long script) e
+
+pub complete-from : (script : List ℕ) (e : SlateDBError) → IsOutside e ⊎ (script_error script ≡ Some e) → IsWellFormed script → (e ≡ ReadFault → ⊥) → (e ≡ WriteFault → ⊥) → e ≡ OutOfMemory
+complete-from script e (inl (inl is)) formed no-read no-write = is
+complete-from script e (inl (inr (inl is))) formed no-read no-write = absurd (no-read is)
+complete-from script e (inl (inr (inr is))) formed no-read no-write = absurd (no-write is)
+complete-from script e (inr is) formed no-read no-write = absurd (some (sym (formed-no_error script formed) ∙ is))
+  where
+    some : None ≡ Some e → ⊥
+    some h = cc
+
+-- a count that rose later rose
+pub rose-from : (a b n : ℕ) → a ≤ b → Rose b n → Rose a n
+rose-from a b n h k = omega arith
+
+-- ---- at an error of the reader
+
+abbrev pub ReaderError : SlateDBError → Type 0
+ReaderError e = (e ≡ OutOfMemory) ⊎ (e ≡ ReadFault) ⊎ (e ≡ ScriptTooLong)
+
+abbrev pub IsFull : LinesModel → Type 0
+IsFull m = (m.given + length m.held ≡ script_limit) × HasNoEnd m.held
+
+pub reader-error : {r : Rules} {script : List ℕ} {source told sink : Option (List ℕ)} {old : LinesModel} {number : ℕ} {e : EngineModel} (new : LinesModel) (rest : List ℕ) (error : SlateDBError) (at : IsAt r script source told sink old number e)
+    → KeepsAll old at.left new rest → (error ≡ ScriptTooLong → IsFull new) → ReaderError error → IsOutside error ⊎ (script_error script ≡ Some error)
+reader-error new rest error at keeps full (inl is) = inl (inl is)
+reader-error new rest error at keeps full (inr (inl is)) = inl (inr (inl is))
+reader-error {script = script} {old = old} new rest error at keeps full (inr (inr is)) =
+    let end = full is in
+    let long = too-long script at.done at.left rest old new at.stands at.given keeps end.0 end.1 in
+    inr ((λ i. error_of (first_other (long.1 i)) (long.0 i)) ∙ ap (λ o. error_of o true) (other-none (lines_of at.done) at.meant) ∙ ap Some (sym is))
+
+pub reader-script : {r : Rules} {script : List ℕ} {source told sink : Option (List ℕ)} {old : LinesModel} {number : ℕ} {e : EngineModel} (new : LinesModel) (rest before : List ℕ) (error : SlateDBError) (at : IsAt r script source told sink old number e)
+    → KeepsAll old at.left new rest → (error ≡ ScriptTooLong → IsFull new) → ReaderError error → told ≡ Some before → script_error script ≡ Some error → sink ≡ Some (before ++ replies_to meaning r (lines_taken script))
+reader-script {script = script} new rest before error at keeps full (inl is) told-is by = absurd (no-outside script error by (inl is))
+reader-script {script = script} new rest before error at keeps full (inr (inl is)) told-is by = absurd (no-outside script error by (inr (inl is)))
+reader-script {r = r} {script = script} {old = old} new rest before error at keeps full (inr (inr is)) told-is by =
+    let end = full is in
+    let long = too-long script at.done at.left rest old new at.stands at.given keeps end.0 end.1 in
+    at.said before told-is ∙ ap (λ ls. Some (before ++ replies_to meaning r ls)) (sym long.1)
+
+pub reader-source : {r : Rules} {script : List ℕ} {source told sink : Option (List ℕ)} {old : LinesModel} {number : ℕ} {e : EngineModel} (new : LinesModel) (rest : List ℕ) (at : IsAt r script source told sink old number e)
+    → KeepsAll old at.left new rest → HasNoEnd new.held → HasAnsweredAll r script rest (replies_to meaning r (lines_of at.done))
+reader-source {r = r} {script = script} {old = old} new rest at keeps none = record {
+  given = at.done ++ new.held;
+  split = at.stands.split ∙ ap (λ bs. at.done ++ bs) (sym keeps.bytes) ∙ sym (append_assoc at.done new.held rest);
+  done = at.done;
+  whole = by at.stands.whole;
+  meant = at.meant;
+  all = refl;
+}
+  where
+    by : IsCut at.done ⊎ ((old.held ++ at.left ≡ []) × (length at.done < script_limit)) → (at.done ≡ whole_part (at.done ++ new.held)) ⊎ ((at.done ≡ at.done ++ new.held) × (rest ≡ []))
+    by (inl cut) = inl (sym (partial_line_is_not_whole at.done new.held none cut))
+    by (inr all) =
+        let nothing : new.held ≡ [] = first-empty new.held rest (keeps.bytes ∙ all.0) in
+        inr (sym (append-nil at.done) ∙ ap (λ bs. at.done ++ bs) (sym nothing), ap (λ bs. bs ++ rest) (sym nothing) ∙ keeps.bytes ∙ all.0)
+
+pub reader-memory : {r : Rules} {script : List ℕ} {source told sink : Option (List ℕ)} {m : LinesModel} {number : ℕ} {e : EngineModel} (at : IsAt r script source told sink m number e) → HasAnswered r script (replies_to meaning r (lines_of at.done))
+reader-memory {script = script} {m = m} at =
+    let first = lines-begin script at.done (m.held ++ at.left) at.stands in
+    record { done = lines_of at.done; later = first.0; first = first.1; meant = at.meant; all = refl }
+
+pub reader-complete : (script : List ℕ) (error : SlateDBError) → IsOutside error ⊎ (script_error script ≡ Some error) → ReaderError error → IsWellFormed script → (error ≡ ReadFault → ⊥) → error ≡ OutOfMemory
+reader-complete script error by cause formed no-read = complete-from script error by formed no-read (none error cause)
+  where
+    none : (e : SlateDBError) → ReaderError e → e ≡ WriteFault → ⊥
+    none e (inl is) was = cc
+    none e (inr (inl is)) was = cc
+    none e (inr (inr is)) was = cc
+
+abbrev pub ReadOn : List ℕ → Option (List ℕ) → Type 0
+ReadOn script source = (n : ℕ) × (n ≤ script_limit) × (source ≡ Some (drop n script))
+
+read-on : (script done held rest : List ℕ) (source : Option (List ℕ)) → script ≡ done ++ (held ++ rest) → length done + length held ≤ script_limit → source ≡ Some rest → ReadOn script source
+read-on script done held rest source split within is = (
+  length (done ++ held),
+  rw (length-append done held) within,
+  is ∙ ap Some (sym (ap (drop (length (done ++ held))) (split ∙ sym (append_assoc done held rest)) ∙ drop-append_seam (done ++ held) rest)),
+)
+
+pub reader-read : {r : Rules} {script : List ℕ} {source told sink : Option (List ℕ)} {old : LinesModel} {number : ℕ} {e : EngineModel} (new : LinesModel) (rest : List ℕ) (after : Option (List ℕ)) (at : IsAt r script source told sink old number e)
+    → KeepsAll old at.left new rest → new.given + length new.held ≤ script_limit → after ≡ Some rest → ReadOn script after
+reader-read {script = script} new rest after at keeps within is =
+    read-on script at.done new.held rest after (at.stands.split ∙ ap (λ bs. at.done ++ bs) (sym keeps.bytes)) (omega (arith, keeps.counts, at.given)) is
+
+pub reader-full : {r : Rules} {script : List ℕ} {source told sink : Option (List ℕ)} {old : LinesModel} {number : ℕ} {e : EngineModel} (new : LinesModel) (rest : List ℕ) (after : Option (List ℕ)) (at : IsAt r script source told sink old number e)
+    → KeepsAll old at.left new rest → new.given + length new.held ≡ script_limit → after ≡ Some rest → after ≡ Some (drop script_limit script)
+unfolding reader-read read-on
+reader-full {script = script} new rest after at keeps full is =
+    let count : length (at.done ++ new.held) ≡ script_limit = omega (arith, length-append at.done new.held, keeps.counts, at.given) in
+    (reader-read new rest after at keeps (omega arith) is).2 ∙ ap (λ n. Some (drop n script)) count
+
+pub line-read : {r : Rules} {script line : List ℕ} {source told sink : Option (List ℕ)} {m : LinesModel} {number : ℕ} {e : EngineModel} (took : Took r script source told sink m line number e) → m.given + length m.held ≤ script_limit → ReadOn script source
+line-read {script = script} {source = source} {m = m} took within = read-on script took.more m.held took.left source took.stands.split (omega (arith, took.given)) took.rest
+
+pub end-read : {r : Rules} {script : List ℕ} {source told sink : Option (List ℕ)} {old : LinesModel} {number : ℕ} {e : EngineModel} (new : LinesModel) (rest : List ℕ) (after : Option (List ℕ)) (at : IsAt r script source told sink old number e)
+    → IsEnd old at.left new rest → new.given + length new.held ≤ script_limit → after ≡ Some rest → ReadOn script after
+end-read {script = script} new rest after at end within is =
+    read-on script at.done new.held rest after (at.stands.split ∙ ap (λ bs. at.done ++ bs) (end.nothing ∙ sym end.still)) (omega (arith, end.counts, at.given)) is
+
+pub reader-kinds : (error : SlateDBError) → ReaderError error → IsOutside error ⊎ IsScriptError error
+reader-kinds error (inl is) = inl (inl is)
+reader-kinds error (inr (inl is)) = inl (inr (inl is))
+reader-kinds error (inr (inr is)) = inr (inl is)
+
+-- ---- at a line that isn't answered
+
+abbrev pub LineError : ℕ → List ℕ → SlateDBError → Type 0
+LineError number line e = (e ≡ OutOfMemory) ⊎ (e ≡ WriteFault) ⊎ ((e ≡ ScriptSyntax number) × (is_line line ≡ false))
+
+-- the lines that a run can take, and those of the script, at the line
+taken-there : {r : Rules} {script line : List ℕ} {source told sink : Option (List ℕ)} {m : LinesModel} {number : ℕ} {e : EngineModel} (took : Took r script source told sink m line number e)
+    → (later : List (List ℕ)) × (lines_taken script ≡ lines_of took.done ++ (line ∷ later))
+taken-there {script = script} {line = line} {m = m} took =
+    let first = taken-first script took.more (m.held ++ took.left) took.stands in
+    (first.0, first.1 ∙ ap (λ ls. ls ++ first.0) took.lines ∙ append_assoc (lines_of took.done) (line ∷ []) first.0)
+
+lines-there : {r : Rules} {script line : List ℕ} {source told sink : Option (List ℕ)} {m : LinesModel} {number : ℕ} {e : EngineModel} (took : Took r script source told sink m line number e)
+    → (later : List (List ℕ)) × (lines_of script ≡ lines_of took.done ++ (line ∷ later))
+lines-there {script = script} {line = line} {m = m} took =
+    let first = lines-begin script took.more (m.held ++ took.left) took.stands in
+    (first.0, first.1 ∙ ap (λ ls. ls ++ first.0) took.lines ∙ append_assoc (lines_of took.done) (line ∷ []) first.0)
+
+pub line-error : {r : Rules} {script line : List ℕ} {source told sink : Option (List ℕ)} {m : LinesModel} {number : ℕ} {e : EngineModel} (error : SlateDBError) → Took r script source told sink m line number e
+    → LineError number line error → IsOutside error ⊎ (script_error script ≡ Some error)
+line-error error took (inl is) = inl (inl is)
+line-error error took (inr (inl is)) = inl (inr (inr is))
+line-error {script = script} {line = line} error took (inr (inr is)) =
+    let there = taken-there took in
+    inr (ap (λ o. error_of o (is_too_long script)) (ap first_other there.1 ∙ other-first (lines_of took.done) line there.0 took.meant is.1)
+    ∙ ap (λ n. Some (ScriptSyntax n)) (sym took.count) ∙ ap Some (sym is.0))
+
+pub line-script : {r : Rules} {script line : List ℕ} {source told sink : Option (List ℕ)} {m : LinesModel} {number : ℕ} {e : EngineModel} (after : Option (List ℕ)) (before : List ℕ) (error : SlateDBError) → Took r script source told sink m line number e
+    → LineError number line error → ((error ≡ WriteFault) ⊎ (after ≡ sink)) → told ≡ Some before → script_error script ≡ Some error → after ≡ Some (before ++ replies_to meaning r (lines_taken script))
+line-script {script = script} after before error took (inl is) same told-is by = absurd (no-outside script error by (inl is))
+line-script {script = script} after before error took (inr (inl is)) same told-is by = absurd (no-outside script error by (inr (inr is)))
+line-script {script = script} after before error took (inr (inr is)) (inl fault) told-is by = absurd (no-outside script error by (inr (inr fault)))
+line-script {r = r} {script = script} {line = line} after before error took (inr (inr is)) (inr same) told-is by =
+    let there = taken-there took in
+    same ∙ took.said before told-is
+    ∙ ap (λ bs. Some (before ++ bs)) (sym (ap (replies_to meaning r) there.1 ∙ replies-stop r (lines_of took.done) line there.0 took.meant is.1))
+
+pub line-sink : {r : Rules} {script line : List ℕ} {source told sink : Option (List ℕ)} {m : LinesModel} {number : ℕ} {e : EngineModel} (n : ℕ) (took : Took r script source told sink m line number e)
+    → IsTrue (is_line line) → n < length (replies_from meaning r (after_lines meaning r opening (lines_of took.done)) (line ∷ []))
+    → HasBegun r script (replies_to meaning r (lines_of took.done) ++ take n (replies_from meaning r (after_lines meaning r opening (lines_of took.done)) (line ∷ [])))
+line-sink {r = r} {line = line} n took is short =
+    let there = lines-there took in
+    record {
+      done = lines_of took.done;
+      line = line;
+      later = there.0;
+      first = there.1;
+      meant = lines-more (lines_of took.done) (line ∷ []) took.meant (is, tt);
+      missing = drop n reply;
+      some = λ none. let zero : length (drop n reply) ≡ 0 = ap length none in omega (arith, short, length-drop n reply, zero);
+      part =
+          append_assoc (replies_to meaning r (lines_of took.done)) (take n reply) (drop n reply) ∙ ap (λ bs. replies_to meaning r (lines_of took.done) ++ bs) (take-append-drop n reply)
+          ∙ sym (replies-append r opening (lines_of took.done) (line ∷ []) took.meant);
+      begun = take n reply;
+      before = refl;
+    }
+  where
+    reply : List ℕ
+    reply = replies_from meaning r (after_lines meaning r opening (lines_of took.done)) (line ∷ [])
+
+pub line-complete : (script line : List ℕ) (number : ℕ) (error : SlateDBError) → IsOutside error ⊎ (script_error script ≡ Some error) → LineError number line error → IsWellFormed script → (error ≡ WriteFault → ⊥) → error ≡ OutOfMemory
+line-complete script line number error by cause formed no-write = complete-from script error by formed (none error cause) no-write
+  where
+    none : (e : SlateDBError) → LineError number line e → e ≡ ReadFault → ⊥
+    none e (inl is) was = cc
+    none e (inr (inl is)) was = cc
+    none e (inr (inr is)) was = clash is.0 was
+      where
+        clash : e ≡ ScriptSyntax number → e ≡ ReadFault → ⊥
+        clash h k = cc
+
+pub line-kinds : (number : ℕ) (line : List ℕ) (error : SlateDBError) → LineError number line error → IsOutside error ⊎ IsScriptError error
+line-kinds number line error (inl is) = inl (inl is)
+line-kinds number line error (inr (inl is)) = inl (inr (inr is))
+line-kinds number line error (inr (inr is)) = inr (inr (number, is.0))
+
+pub line-not-long : (number : ℕ) (line : List ℕ) (error : SlateDBError) → LineError number line error → error ≡ ScriptTooLong → ⊥
+line-not-long number line error (inl is) long = cc
+line-not-long number line error (inr (inl is)) long = cc
+line-not-long number line error (inr (inr is)) long = clash is.0 long
+  where
+    clash : error ≡ ScriptSyntax number → error ≡ ScriptTooLong → ⊥
+    clash h k = cc
+
+-- nothing was written
+pub untouched : (error : SlateDBError) (sink after : Option (List ℕ)) → (error ≡ WriteFault) ⊎ (after ≡ sink) → error ≡ OutOfMemory → after ≡ sink
+untouched error sink after (inl fault) want = cc
+untouched error sink after (inr same) want = same
+
+pub line-memory : {r : Rules} {script line : List ℕ} {source told sink : Option (List ℕ)} {m : LinesModel} {number : ℕ} {e : EngineModel} (took : Took r script source told sink m line number e) → HasAnswered r script (replies_to meaning r (lines_of took.done))
+line-memory {line = line} took =
+    let there = lines-there took in
+    record { done = lines_of took.done; later = line ∷ there.0; first = there.1; meant = took.meant; all = refl }
+
+-- ---- at the end of the script
+
+pub end-there : {r : Rules} {script : List ℕ} {source told sink : Option (List ℕ)} {old : LinesModel} {number : ℕ} {e : EngineModel} (new : LinesModel) (rest : List ℕ) (at : IsAt r script source told sink old number e)
+    → IsEnd old at.left new rest → (script ≡ at.done) × (length script < script_limit) × (rest ≡ [])
+end-there {script = script} {old = old} new rest at is = ends script at.done at.left rest old new at.stands at.given is
+
+pub end-lines : {r : Rules} {script : List ℕ} {source told sink : Option (List ℕ)} {old : LinesModel} {number : ℕ} {e : EngineModel} (new : LinesModel) (rest : List ℕ) (at : IsAt r script source told sink old number e)
+    → IsEnd old at.left new rest → AreLines (lines_of script)
+end-lines {script = script} new rest at is = subst (λ bs. AreLines (lines_of bs)) (sym (end-there new rest at is).0) at.meant
+
+pub end-answered : {r : Rules} {script : List ℕ} {source told sink : Option (List ℕ)} {old : LinesModel} {number : ℕ} {e : EngineModel} (new : LinesModel) (rest before : List ℕ) (at : IsAt r script source told sink old number e)
+    → IsEnd old at.left new rest → told ≡ Some before → sink ≡ Some (before ++ replies r script)
+end-answered {r = r} new rest before at is told-is = at.said before told-is ∙ ap (λ bs. Some (before ++ replies r bs)) (sym (end-there new rest at is).0)
+
+pub end-formed : {r : Rules} {script : List ℕ} {source told sink : Option (List ℕ)} {old : LinesModel} {number : ℕ} {e : EngineModel} (new : LinesModel) (rest : List ℕ) (at : IsAt r script source told sink old number e)
+    → IsEnd old at.left new rest → IsWellFormed script
+end-formed {script = script} new rest at is = ((end-there new rest at is).1, lines-built (lines_of script) (end-lines new rest at is))
+
+pub end-no_error : {r : Rules} {script : List ℕ} {source told sink : Option (List ℕ)} {old : LinesModel} {number : ℕ} {e : EngineModel} (new : LinesModel) (rest : List ℕ) (at : IsAt r script source told sink old number e)
+    → IsEnd old at.left new rest → script_error script ≡ None
+end-no_error {script = script} new rest at is = lines-no_error script (end-there new rest at is).1 (end-lines new rest at is)

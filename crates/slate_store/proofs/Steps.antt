@@ -1,0 +1,48 @@
+-- What a call of the line reader makes of the bytes that are left, from what its steps do.
+use Rattle.std.proofs.Common.{◌≡◌, ◌+◌, ◌<◌, ◌++◌, ◌∷◌, [], ℕ, List, Option, Some, None, MatchOption, take, drop, length, ap, sym, ◌∙◌, refl, append_assoc, arith, length-append, inl, inr}
+use Rattle.std.specs.Prelude.{IfSome, IfNone}
+use Rattle.std.proofs.lemmas.List.{take-append-drop, append-nil}
+use Rattle.slate_store.specs.Lines.{HasNoEnd, LinesModel, GivesLine, IsEnd, KeepsAll, script_limit}
+
+-- what is held behind a piece that was taken
+pub held_taken : (line before read held piece : List ℕ) → line ≡ before → before ≡ held → read ≡ piece → line ++ read ≡ held ++ piece
+held_taken line before read held piece a b c = rw (a, b, c) refl
+
+-- a piece that was taken is held
+pub keeps_taken : (old mid new : LinesModel) (left more : List ℕ) (n : ℕ) → KeepsAll old left mid more → new.held ≡ mid.held ++ take n more → new.given ≡ mid.given →
+    KeepsAll old left new (drop n more)
+keeps_taken old mid new left more n h e g = record {
+  bytes = ap (λ ys. ys ++ drop n more) e ∙ append_assoc mid.held (take n more) (drop n more) ∙ ap (λ ys. mid.held ++ ys) (take-append-drop n more) ∙ h.bytes;
+  counts = g ∙ h.counts;
+}
+
+-- a line that was cut out is given
+pub gives_cut : (old mid new : LinesModel) (left rest line : List ℕ) → KeepsAll old left mid rest → HasNoEnd line → mid.held ≡ line ++ (10 ∷ new.held) →
+    new.given + length new.held ≡ mid.given + length mid.held → GivesLine line old left new rest
+gives_cut old mid new left rest line h none parts counts =
+    let stream : old.held ++ left ≡ line ++ (10 ∷ (new.held ++ rest)) = sym h.bytes ∙ ap (λ ys. ys ++ rest) parts ∙ append_assoc line (10 ∷ new.held) rest in
+    let before : length (old.held ++ left) ≡ length mid.held + length rest = ap length (sym h.bytes) ∙ length-append mid.held rest in
+    let lines : length (old.held ++ left) ≡ length line + length (10 ∷ (new.held ++ rest)) = ap length stream ∙ length-append line (10 ∷ (new.held ++ rest)) in
+    record {
+      takes = (none, inl stream);
+      counts = omega (arith, length-append new.held rest, h.counts);
+      below = λ e. absurd (omega (arith, ap length e));
+    }
+
+-- at the end of the source, the last line is given, or there is none
+pub gives_last : {V : Type 0} (items : V → List ℕ) (o : Option V) (old mid new : LinesModel) (left rest : List ℕ) → KeepsAll old left mid rest → rest ≡ [] → new.held ≡ [] →
+    new.given + length new.held ≡ mid.given + length mid.held → new.given < script_limit → IfSome o (λ l. (items l ≡ mid.held) × (0 < length (items l)) × HasNoEnd (items l)) →
+    IfNone o (mid.held ≡ []) → MatchOption o (IsEnd old left new rest) (λ l. GivesLine (items l) old left new rest)
+gives_last items None old mid new left rest h e held counts below some none = record {
+  nothing = sym h.bytes ∙ rw (none, e) refl;
+  still = rw (held, e) refl;
+  counts = omega (arith, ap length none, ap length held, h.counts);
+  below = below;
+}
+gives_last items (Some l) old mid new left rest h e held counts below some none =
+    let stream : old.held ++ left ≡ items l = sym h.bytes ∙ rw (e, some.0) (append-nil mid.held) in
+    record {
+      takes = (some.2, inr (stream, some.1, rw (held, e) refl));
+      counts = rw e (omega (arith, length-append new.held [], ap length held, ap length stream, ap length some.0, h.counts));
+      below = λ _. below;
+    }

@@ -1,0 +1,34 @@
+-- The laws of lines that a reader of scripts rests on.
+--     TakenLineIsFirst, LinesHaveNoEnd      on the lines of bytes
+--     WholeLinesJoin, WholePartsJoin, WholePartIsWhole, PartialLineIsNotWhole, EndMakesWhole      on the bytes up to the last end
+use Rattle.std.specs.Prelude.{◌≡◌, ℕ, List, [], ◌∷◌, ◌++◌}
+use Rattle.std.specs.List.{AllByRecursion}
+use Rattle.slate_store.specs.Lines.{lines_of, whole_part, HasNoEnd, TakesLine}
+
+-- What a call takes as a line is the first of the lines that are left.
+abbrev pub TakenLineIsFirst : Type 0
+TakenLineIsFirst = (line before after : List ℕ) → TakesLine line before after → lines_of before ≡ line ∷ lines_of after
+
+-- Behind whole lines the lines go on.
+abbrev pub WholeLinesJoin : Type 0
+WholeLinesJoin = (a b : List ℕ) → whole_part a ≡ a → lines_of (a ++ b) ≡ lines_of a ++ lines_of b
+
+-- Behind whole lines the whole part goes on.
+abbrev pub WholePartsJoin : Type 0
+WholePartsJoin = (a b : List ℕ) → whole_part a ≡ a → whole_part (a ++ b) ≡ a ++ whole_part b
+
+-- The whole part is whole.
+abbrev pub WholePartIsWhole : Type 0
+WholePartIsWhole = (a : List ℕ) → whole_part (whole_part a) ≡ whole_part a
+
+-- A partial line adds nothing to the whole part.
+abbrev pub PartialLineIsNotWhole : Type 0
+PartialLineIsNotWhole = (a b : List ℕ) → HasNoEnd b → whole_part a ≡ a → whole_part (a ++ b) ≡ a
+
+-- An end makes all before it whole.
+abbrev pub EndMakesWhole : Type 0
+EndMakesWhole = (a : List ℕ) → whole_part (a ++ (10 ∷ [])) ≡ a ++ (10 ∷ [])
+
+-- No line has an end in it.
+abbrev pub LinesHaveNoEnd : Type 0
+LinesHaveNoEnd = (bytes : List ℕ) → AllByRecursion HasNoEnd (lines_of bytes)

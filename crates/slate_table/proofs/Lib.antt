@@ -1,0 +1,6 @@
+pub mod FrameLaws
+pub mod IndexLaws
+pub mod FilterLaws
+pub mod TableLaws
+pub mod StoredLaws
+pub mod CutLaws

@@ -1,0 +1,9 @@
+//! Tests that cross crates: scripts, and what they are answered.
+#![tactic(auto)]
+
+#[cfg(test)]
+mod lists;
+#[cfg(test)]
+mod runs;
+#[cfg(test)]
+mod texts;
