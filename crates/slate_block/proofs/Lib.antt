@@ -1,6 +1,14 @@
 pub mod Pieces
 pub mod VarintLaws
+pub mod Groups
+pub mod FlagLaws
 pub mod RowLaws
+pub mod FieldLaws
+pub mod ReadingLaws
+pub mod ReadingLawsV1
+pub mod Appending
+pub mod Prefixes
+pub mod OffsetLaws
 pub mod LongestFronts
 pub mod BlockLaws
 pub mod WrittenLaws

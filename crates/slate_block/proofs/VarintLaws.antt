@@ -29,7 +29,7 @@ varints_alone a b x y m n s t h = spells_alone a b x y m n s.1 t.1 h
 
 -- ---- the computed spelling
 
-spells_group : (b : ℕ) (rest : List ℕ) (high n : ℕ) → 128 ≤ b → b < 256 → 0 < high → n + 128 ≡ b + 128 * high → SpellsVarint rest high → SpellsVarint (b ∷ rest) n
+pub spells_group : (b : ℕ) (rest : List ℕ) (high n : ℕ) → 128 ≤ b → b < 256 → 0 < high → n + 128 ≡ b + 128 * high → SpellsVarint rest high → SpellsVarint (b ∷ rest) n
 spells_group b [] high n p q r e s = absurd s
 spells_group b (c ∷ cs) high n p q r e s = (p, q, high, r, e, s)
 

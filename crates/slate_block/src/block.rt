@@ -1,6 +1,14 @@
 //! Blocks, and what is counted of them.
+ghost use Rattle.std.specs.Prelude.{◌≡◌, ◌≤◌, ◌+◌, ◌*◌, ◌<◌, ◌^◌, ◌++◌, ◌⊎◌, ℕ, List, Some, length, flat_map, OnOk, IfOk, IfErr, IsOkUnless};
+ghost use Rattle.slate_block.specs.RowSpelling.{be16};
+ghost use Rattle.slate_block.specs.RowReading.{refusal};
+ghost use Rattle.slate_block.specs.BlockReading.{IsApart, offsets_of_block};
+ghost use Rattle.slate_block.specs.BlockSpelling.{block_spelling};
 
+use crate::offsets::read_offsets;
 use bytes::Bytes;
+use slate_types::SlateDBError;
+use std::alloc::Global;
 
 /// A block of rows, taken apart: the rows' bytes, and where rows begin in them. In version 1 these are all rows, in
 /// version 2 every sixteenth from the first on.
@@ -8,6 +16,70 @@ use bytes::Bytes;
 pub struct Block {
     pub body: Bytes,
     pub offsets: Vec<u16>,
+}
+
+impl Block {
+    /// The rows' bytes, the offsets, and their count. The one error is `OutOfMemory`.
+    pub fn encode(&self, alloc: Global) -> Result<Bytes, SlateDBError>
+        requires { length self.now.offsets.items < 2 ^ 16 }
+        ensures spelling { IfOk result (λ bytes. bytes ≡ block_spelling self.now.body self.now.offsets.items) }
+        ensures cause { IsOkUnless result SlateDBError.OutOfMemory }
+    {
+        let mut out = Vec::new(alloc);
+        out.extend_from_slice(self.body.as_slice())?;
+        append_offsets(&mut out, &self.offsets)?;
+        Ok(Bytes::from_vec(out)?)
+    }
+
+    /// Takes a block's bytes apart; the rows share their buffer. `CorruptTable` exactly where they are no rows' part and
+    /// offsets that begin at 0, rise, and stand in the rows' part: with the place of the count, or of the first offset
+    /// that fails; or `OutOfMemory`.
+    pub fn decode(alloc: Global, bytes: Bytes) -> Result<Block, SlateDBError>
+        ensures found { IfOk result (λ block. IsApart block.body block.offsets.items bytes) }
+        ensures only { (body offsets : List ℕ) → IsApart body offsets bytes → IsOkUnless result SlateDBError.OutOfMemory }
+        ensures cause { IfErr result (λ e. (e ≡ SlateDBError.OutOfMemory) ⊎ (refusal (offsets_of_block bytes) ≡ Some e)) }
+    {
+        let (end, offsets) = read_offsets(alloc, bytes.as_slice())?;
+        let body = bytes.slice(0..end)?;
+        Ok(Block { body, offsets })
+    }
+
+    /// How many bytes `encode` gives.
+    #[tactic(auto, using(crate::proofs::OffsetLaws::block_len))]
+    pub fn size(&self) -> u64
+        ensures { result ≡ length (block_spelling self.now.body self.now.offsets.items) }
+    {
+        self.body.len() as u64 + offsets_size(&self.offsets)
+    }
+
+    /// The size of a table's blocks: so many bytes of rows, with their offsets and the blocks' checksums.
+    pub fn estimate_encoded_size(entries: u64, bytes: u64, blocks: u64) -> u64
+        requires { bytes + 2 * entries + 4 * blocks < 2 ^ 64 }
+        ensures { result ≡ bytes + 2 * entries + 4 * blocks }
+    {
+        bytes + 2 * entries + 4 * blocks
+    }
+}
+
+/// Appends the offsets and their count.
+fn append_offsets(out: &mut Vec<u8>, offsets: &[u16]) -> Result<(), SlateDBError>
+    requires { length offsets.now < 2 ^ 16 }
+    ensures appended { OnOk result (out.new.items ≡ out.old.items ++ (flat_map be16 offsets.now ++ be16 (length offsets.now))) }
+    ensures cause { IsOkUnless result SlateDBError.OutOfMemory }
+{
+    for offset in offsets {
+        out.extend_from_slice(&offset.to_be_bytes())?;
+    }
+    out.extend_from_slice(&(offsets.len() as u16).to_be_bytes())?;
+    Ok(())
+}
+
+/// How many bytes the offsets and their count have.
+fn offsets_size(offsets: &[u16]) -> u64
+    ensures value { result ≡ length (flat_map be16 offsets.now ++ be16 (length offsets.now)) }
+    ensures bound { result ≤ 2 ^ 63 }
+{
+    2 * offsets.len() as u64 + 2
 }
 
 /// How many rows of each kind a block has.

@@ -1,7 +1,15 @@
 //! Rows as a block holds them: each leaves out a front of its key that stands elsewhere.
 
+ghost use Rattle.std.specs.Prelude.{◌≡◌, ◌⊎◌, OnOk, IfOk, IfErr, IsOkUnless};
+ghost use Rattle.slate_block.specs.RowSpelling.{flags};
+ghost use Rattle.slate_block.specs.BlockSpelling.{whole_key};
+ghost use Rattle.slate_block.specs.WholeKeys.{IsRestored};
+
+use crate::flags::RowFlags;
+use crate::keys::restored_key;
 use bytes::Bytes;
-use slate_types::ValueDeletable;
+use slate_types::{SlateDBError, ValueDeletable};
+use std::alloc::Global;
 
 /// A row of version 1. The front that is left out is the block's first key's.
 #[derive(Clone, Debug, PartialEq, Eq, Drop)]
@@ -17,6 +25,27 @@ pub struct SstRowEntry {
     pub value: ValueDeletable,
 }
 
+impl SstRowEntry {
+    /// What the row is and has.
+    pub fn flags(&self) -> RowFlags
+        ensures { result.0 ≡ flags self.now.value self.now.expire_ts self.now.create_ts }
+    {
+        RowFlags::of_row(&self.value, self.expire_ts, self.create_ts)
+    }
+
+    /// The row's key, by the block's first key. `CorruptTable` at 0 exactly where the front that is left out is longer than that
+    /// key, and where the whole is empty or longer than 65535 bytes; or `OutOfMemory`.
+    pub fn restore_full_key(&self, alloc: Global, first: &[u8]) -> Result<Bytes, SlateDBError>
+        ensures key { IfOk result (λ key. key ≡ whole_key self.now.key_prefix_len first.now self.now.key_suffix) }
+        ensures valid { OnOk result (IsRestored self.now.key_prefix_len first.now self.now.key_suffix) }
+        ensures only { IsRestored self.now.key_prefix_len first.now self.now.key_suffix → IsOkUnless result SlateDBError.OutOfMemory }
+        ensures cause { IfErr result (λ e. (e ≡ SlateDBError.OutOfMemory) ⊎ (e ≡ SlateDBError.CorruptTable 0)) }
+    {
+        let shared = self.key_prefix_len as usize;
+        restored_key(alloc, shared, first, self.key_suffix.as_slice())
+    }
+}
+
 /// A row of version 2. The front that is left out is the key's before it, and none at a restart.
 #[derive(Clone, Debug, PartialEq, Eq, Drop)]
 pub struct SstRowEntryV2 {
@@ -29,4 +58,25 @@ pub struct SstRowEntryV2 {
     /// Milliseconds.
     pub create_ts: Option<i64>,
     pub value: ValueDeletable,
+}
+
+impl SstRowEntryV2 {
+    /// What the row is and has.
+    pub fn flags(&self) -> RowFlags
+        ensures { result.0 ≡ flags self.now.value self.now.expire_ts self.now.create_ts }
+    {
+        RowFlags::of_row(&self.value, self.expire_ts, self.create_ts)
+    }
+
+    /// The row's key, by the key before it. `CorruptTable` at 0 exactly where the front that is left out is longer than that
+    /// key, and where the whole is empty or longer than 65535 bytes; or `OutOfMemory`.
+    pub fn restore_full_key(&self, alloc: Global, previous: &[u8]) -> Result<Bytes, SlateDBError>
+        ensures key { IfOk result (λ key. key ≡ whole_key self.now.shared_bytes previous.now self.now.key_suffix) }
+        ensures valid { OnOk result (IsRestored self.now.shared_bytes previous.now self.now.key_suffix) }
+        ensures only { IsRestored self.now.shared_bytes previous.now self.now.key_suffix → IsOkUnless result SlateDBError.OutOfMemory }
+        ensures cause { IfErr result (λ e. (e ≡ SlateDBError.OutOfMemory) ⊎ (e ≡ SlateDBError.CorruptTable 0)) }
+    {
+        let shared = self.shared_bytes as usize;
+        restored_key(alloc, shared, previous, self.key_suffix.as_slice())
+    }
 }

@@ -1,0 +1,12 @@
+-- What stood in a list before it grew.
+use Rattle.std.proofs.Common.{◌≡◌, ℕ, ◌≤◌, List, ◌++◌, length, take, take-take, refl, sym, ap, ◌∙◌, arith}
+use Rattle.std.proofs.lemmas.List.{take_at, length-append}
+
+front_of : (a x : List ℕ) → take (length a) (a ++ x) ≡ a
+front_of a x = take_at a x (length a) refl
+
+-- a front of a front
+pub kept_step : (a x b c : List ℕ) → b ≡ a ++ x → take (length b) c ≡ b → take (length a) c ≡ a
+kept_step a x b c grown kept =
+    let le : length a ≤ length b = omega (arith, ap length grown, length-append a x) in
+    sym (take-take (length a) (length b) c le) ∙ ap (take (length a)) (kept ∙ grown) ∙ front_of a x

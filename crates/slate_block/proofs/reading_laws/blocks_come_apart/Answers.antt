@@ -1,0 +1,17 @@
+use Rattle.std.proofs.Common.{◌≡◌, ℕ, List, take, None, Result, Ok, Err, refl, ap}
+use Rattle.slate_types.specs.declared.error.SlateDBError.{SlateDBError}
+use Rattle.slate_block.specs.RowReading.{refusal}
+use Rattle.slate_block.specs.BlockReading.{IsApart, offsets_of_block}
+use Rattle.slate_block.specs.ReadingLaws.{AreBytes}
+use Rattle.slate_block.proofs.OffsetLaws.{block_takes_apart, block_again_apart}
+use Rattle.slate_block.proofs.reading_laws.blocks_come_apart.Goals as goal
+
+found : (bytes : List ℕ) → AreBytes bytes → refusal (offsets_of_block bytes) ≡ None → (body : List ℕ) × (offsets : List ℕ) × IsApart body offsets bytes
+found bytes fits e = by (offsets_of_block bytes) refl e
+  where
+    by : (r : Result (ℕ × List ℕ) SlateDBError) → offsets_of_block bytes ≡ r → refusal r ≡ None → (body : List ℕ) × (offsets : List ℕ) × IsApart body offsets bytes
+    by (Ok x) is g = (take x.0 bytes, x.1, block_takes_apart bytes x.0 x.1 fits is)
+    by (Err d) is g = absurd cc
+
+pub returns : goal.returns
+returns c = λ bytes fits. (found bytes fits, λ b. ap refusal (block_again_apart b.0 b.1 bytes b.2).1)

@@ -1,0 +1,33 @@
+//! What readers of numbers and rows find, proved.
+ghost use Rattle.slate_block.specs.ReadingLaws.{
+  BlocksComeApart,
+  KeysOfV2AreFound,
+  RowsOfV1AreFound,
+  RowsOfV2AreFound,
+  VarintsAreFound,
+};
+
+/// The number whose spelling begins bytes is found, and none where no spelling begins them.
+pub fn varints_are_found()
+    ensures { VarintsAreFound }
+{}
+
+/// No row of version 1 is refused, and nothing else is read.
+pub fn rows_of_v1_are_found()
+    ensures { RowsOfV1AreFound }
+{}
+
+/// No row of version 2 is refused, and nothing else is read.
+pub fn rows_of_v2_are_found()
+    ensures { RowsOfV2AreFound }
+{}
+
+/// The same of what stands before the value of a row of version 2.
+pub fn keys_of_v2_are_found()
+    ensures { KeysOfV2AreFound }
+{}
+
+/// No rows' part with its offsets is refused, and nothing else is taken apart.
+pub fn blocks_come_apart()
+    ensures { BlocksComeApart }
+{}
