@@ -1,5 +1,5 @@
 -- What readers find. Each statement is proved by a function of src/reading_laws.rt.
---     AreBytes bytes      each number is a byte
+--     EachIsAByte bytes      each number is a byte
 --     VarintsAreFound      the number that is found is the one whose spelling begins the bytes; none is found where none does
 --     RowsOfV1AreFound, RowsOfV2AreFound, KeysOfV2AreFound      nothing is refused exactly where a row begins the bytes
 --     BlocksComeApart      nothing is refused exactly where the bytes are a rows' part and its offsets
@@ -11,21 +11,21 @@ use Rattle.slate_block.specs.Damage.{front_varint}
 use Rattle.slate_block.specs.BlockReading.{IsApart, offsets_of_block}
 use Rattle.slate_block.specs.RowReading.{row_v1_of, row_v2_of, key_v2_of, refusal, BeginsV1, BeginsV2, BeginsKeyV2}
 
-abbrev pub AreBytes : List ℕ → Type 0
-AreBytes bytes = (i : ℕ) → slice_index bytes i < 256
+abbrev pub EachIsAByte : List ℕ → Type 0
+EachIsAByte bytes = (i : ℕ) → slice_index bytes i < 256
 
 abbrev pub VarintsAreFound : Type 0
 VarintsAreFound = ((text rest : List ℕ) (n : ℕ) → IsVarint text n → front_varint (text ++ rest) ≡ Some (n, length text))
     × ((bytes text rest : List ℕ) (n : ℕ) → front_varint bytes ≡ None → IsVarint text n → bytes ≡ text ++ rest → ⊥)
 
 abbrev pub RowsOfV1AreFound : Type 0
-RowsOfV1AreFound = (bytes : List ℕ) → AreBytes bytes → (refusal (row_v1_of bytes) ≡ None) ↔ ((row : SstRowEntry) × (rest : List ℕ) × BeginsV1 row bytes rest)
+RowsOfV1AreFound = (bytes : List ℕ) → EachIsAByte bytes → (refusal (row_v1_of bytes) ≡ None) ↔ ((row : SstRowEntry) × (rest : List ℕ) × BeginsV1 row bytes rest)
 
 abbrev pub RowsOfV2AreFound : Type 0
-RowsOfV2AreFound = (bytes : List ℕ) → AreBytes bytes → (refusal (row_v2_of bytes) ≡ None) ↔ ((row : SstRowEntryV2) × (rest : List ℕ) × BeginsV2 row bytes rest)
+RowsOfV2AreFound = (bytes : List ℕ) → EachIsAByte bytes → (refusal (row_v2_of bytes) ≡ None) ↔ ((row : SstRowEntryV2) × (rest : List ℕ) × BeginsV2 row bytes rest)
 
 abbrev pub KeysOfV2AreFound : Type 0
-KeysOfV2AreFound = (bytes : List ℕ) → AreBytes bytes → (refusal (key_v2_of bytes) ≡ None) ↔ ((key : ℕ × List ℕ) × (rest : List ℕ) × BeginsKeyV2 key bytes rest)
+KeysOfV2AreFound = (bytes : List ℕ) → EachIsAByte bytes → (refusal (key_v2_of bytes) ≡ None) ↔ ((key : ℕ × List ℕ) × (rest : List ℕ) × BeginsKeyV2 key bytes rest)
 
 abbrev pub BlocksComeApart : Type 0
-BlocksComeApart = (bytes : List ℕ) → AreBytes bytes → (refusal (offsets_of_block bytes) ≡ None) ↔ ((body : List ℕ) × (offsets : List ℕ) × IsApart body offsets bytes)
+BlocksComeApart = (bytes : List ℕ) → EachIsAByte bytes → (refusal (offsets_of_block bytes) ≡ None) ↔ ((body : List ℕ) × (offsets : List ℕ) × IsApart body offsets bytes)

@@ -9,9 +9,7 @@
 use Rattle.std.specs.Prelude.{◌≡◌, ℕ, ◌+◌, nat_le, if◌then◌else◌, List, [], ◌∷◌, length, take, drop, map, Contains, Option, Some, None, ◌⊎◌, bytes_eq}
 use Rattle.std.specs.BTreeMap.{insert_entry}
 use Rattle.slate_types.specs.Keys.{key_cmp}
-
-abbrev pub Objects : Type 0
-Objects = List (List ℕ × List ℕ)
+use Rattle.slate_types.specs.Outside.{Objects}
 
 abbrev pub object_at : Objects → List ℕ → Option (List ℕ)
 object_at [] path = None

@@ -2,11 +2,11 @@ use Rattle.std.proofs.Common.{◌≡◌, ℕ, List, take, None, Result, Ok, Err,
 use Rattle.slate_types.specs.declared.error.SlateDBError.{SlateDBError}
 use Rattle.slate_block.specs.RowReading.{refusal}
 use Rattle.slate_block.specs.BlockReading.{IsApart, offsets_of_block}
-use Rattle.slate_block.specs.ReadingLaws.{AreBytes}
+use Rattle.slate_block.specs.ReadingLaws.{EachIsAByte}
 use Rattle.slate_block.proofs.OffsetLaws.{block_takes_apart, block_again_apart}
 use Rattle.slate_block.proofs.reading_laws.blocks_come_apart.Goals as goal
 
-found : (bytes : List ℕ) → AreBytes bytes → refusal (offsets_of_block bytes) ≡ None → (body : List ℕ) × (offsets : List ℕ) × IsApart body offsets bytes
+found : (bytes : List ℕ) → EachIsAByte bytes → refusal (offsets_of_block bytes) ≡ None → (body : List ℕ) × (offsets : List ℕ) × IsApart body offsets bytes
 found bytes fits e = by (offsets_of_block bytes) refl e
   where
     by : (r : Result (ℕ × List ℕ) SlateDBError) → offsets_of_block bytes ≡ r → refusal r ≡ None → (body : List ℕ) × (offsets : List ℕ) × IsApart body offsets bytes

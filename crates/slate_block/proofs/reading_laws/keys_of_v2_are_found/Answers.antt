@@ -1,11 +1,11 @@
 use Rattle.std.proofs.Common.{◌≡◌, ℕ, List, drop, None, Result, Ok, Err, refl, ap}
 use Rattle.slate_types.specs.declared.error.SlateDBError.{SlateDBError}
 use Rattle.slate_block.specs.RowReading.{key_v2_of, refusal, BeginsKeyV2}
-use Rattle.slate_block.specs.ReadingLaws.{AreBytes}
+use Rattle.slate_block.specs.ReadingLaws.{EachIsAByte}
 use Rattle.slate_block.proofs.ReadingLaws.{key_v2_begins, key_v2_again}
 use Rattle.slate_block.proofs.reading_laws.keys_of_v2_are_found.Goals as goal
 
-found : (bytes : List ℕ) → AreBytes bytes → refusal (key_v2_of bytes) ≡ None → (row : ℕ × List ℕ) × (rest : List ℕ) × BeginsKeyV2 row bytes rest
+found : (bytes : List ℕ) → EachIsAByte bytes → refusal (key_v2_of bytes) ≡ None → (row : ℕ × List ℕ) × (rest : List ℕ) × BeginsKeyV2 row bytes rest
 found bytes fits e = by (key_v2_of bytes) refl e
   where
     by : (r : Result ((ℕ × List ℕ) × ℕ) SlateDBError) → key_v2_of bytes ≡ r → refusal r ≡ None → (row : ℕ × List ℕ) × (rest : List ℕ) × BeginsKeyV2 row bytes rest
