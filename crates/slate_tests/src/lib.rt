@@ -2,7 +2,11 @@
 #![tactic(auto)]
 
 #[cfg(test)]
+mod blocks;
+#[cfg(test)]
 mod lists;
+#[cfg(test)]
+mod rows;
 #[cfg(test)]
 mod runs;
 #[cfg(test)]

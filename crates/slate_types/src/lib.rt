@@ -11,8 +11,6 @@ pub mod iter;
 pub mod laws;
 pub mod rows_iterator;
 pub mod sequenced_key;
-#[cfg(test)]
-mod tests;
 pub mod types;
 
 pub use byte_range_bounds::ByteRangeBounds;

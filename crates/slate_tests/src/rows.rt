@@ -1,10 +1,10 @@
-//! Vectors, and that calls succeed.
+// Rows, ranges and options: sizes, prefixes, and that calls succeed.
 
-use crate::{
+use bytes::Bytes;
+use slate_types::{
     BytesRange, IterationOrder, Options, RowEntry, RowEntryIterator, RowsIterator, ValueDeletable,
     collect_rows,
 };
-use bytes::Bytes;
 use std::ops::Bound;
 use std::test::Fail;
 
