@@ -1,8 +1,6 @@
-//! Tests that cross crates: scripts, and what they are answered.
+//! Tests that cross crates: scripts and what they are answered, and vectors and first calls of the crates below.
 #![tactic(auto)]
 
-#[cfg(test)]
-mod blocks;
 #[cfg(test)]
 mod lists;
 #[cfg(test)]

@@ -1,11 +1,8 @@
-// Spellings that were written elsewhere, and each call once where it succeeds.
+//! Spellings that were written elsewhere, and each call once where it succeeds.
+use super::*;
 use bytes::Bytes;
-use slate_block::{
-    Block, RowFlags, SstRowCodecV0, SstRowCodecV2, SstRowEntryV2, compute_prefix, decode_varint,
-    encode_varint, varint_len,
-};
 use slate_types::{SlateDBError, ValueDeletable};
-use std::test::Fail;
+use std::test::*;
 
 const ROW_OF_V2: [u8; 18] = [
     3, 3, 3, b'a', b'b', b'c', b'x', b'y', b'z', 0, 0, 0, 0, 0, 0, 0, 1, 0,
