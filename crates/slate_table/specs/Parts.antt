@@ -6,10 +6,8 @@
 --     Place      where a section lies
 --     index_bytes, stats_bytes, info_bytes, filters_bytes      the layouts
 use Rattle.std.specs.Prelude.{ℕ, ◌+◌, ◌-◌, Bool, if◌then◌else◌, List, [], ◌∷◌, ◌++◌, flat_map, length, take, drop, sum_by, count_by, Option, Some, None, bytes_eq}
-use Rattle.slate_types.specs.declared.types.ValueDeletable.{ValueDeletable}
-use Rattle.slate_types.specs.declared.types.ValueDeletable.TheVariants.{Value, Merge, Tombstone}
 use Rattle.slate_types.specs.declared.types.RowEntry.{RowEntry}
-use Rattle.slate_types.specs.Rows.{operand, is_operand}
+use Rattle.slate_types.specs.Rows.{operand, is_operand, is_put, is_tombstone}
 use Rattle.slate_block.specs.RowSpelling.{be16, be32, be64}
 use Rattle.slate_block.specs.BlockSpelling.{longest}
 use Rattle.slate_table.specs.Checksum.{crc32}
@@ -58,22 +56,6 @@ index_entries (at ∷ ats) (k ∷ ks) = be64 at ++ be16 (length k) ++ k ++ index
 
 abbrev pub index_bytes : List ℕ → List (List ℕ) → List ℕ
 index_bytes ats ks = be32 (length ats) ++ index_entries ats ks
-
-abbrev pub is_tombstone : RowEntry → Bool
-is_tombstone r = by r.value
-  where
-    by : ValueDeletable → Bool
-    by (Value v) = Bool.false
-    by (Merge v) = Bool.false
-    by Tombstone = Bool.true
-
-abbrev pub is_put : RowEntry → Bool
-is_put r = by r.value
-  where
-    by : ValueDeletable → Bool
-    by (Value v) = Bool.true
-    by (Merge v) = Bool.false
-    by Tombstone = Bool.false
 
 abbrev pub counts : (ℕ → List ℕ) → List RowEntry → List ℕ
 counts be rows = be (count_by is_put rows) ++ be (count_by is_tombstone rows) ++ be (count_by is_operand rows)

@@ -2,6 +2,7 @@
 --     row_lt r s      r stands before s: by key upwards, then by sequence downwards
 --     sequenced r, sequenced_cmp a b      a row's key with its sequence, and the order of these
 --     is_operand r, is_base r      the row is a merge, or no merge
+--     is_put r, is_tombstone r      the row holds a value, or is a deletion
 --     operand r      the row's bytes, and none of a tombstone
 --     bytes_in v      the bytes of a value or an operand, where there are any
 --     key_value r      the row as a reader gets it, where it is no tombstone
@@ -40,6 +41,22 @@ is_operand r = is_merge r.value
 
 abbrev pub is_base : RowEntry → Bool
 is_base r = not (is_operand r)
+
+abbrev pub is_value : ValueDeletable → Bool
+is_value (Value v) = true
+is_value (Merge v) = false
+is_value Tombstone = false
+
+abbrev pub is_deletion : ValueDeletable → Bool
+is_deletion (Value v) = false
+is_deletion (Merge v) = false
+is_deletion Tombstone = true
+
+abbrev pub is_put : RowEntry → Bool
+is_put r = is_value r.value
+
+abbrev pub is_tombstone : RowEntry → Bool
+is_tombstone r = is_deletion r.value
 
 abbrev pub bytes_of : ValueDeletable → List ℕ
 bytes_of (Value v) = v

@@ -1,0 +1,101 @@
+-- A block's rows, read one behind the other.
+--     moved at e      the refusal of a field, with its place in the rows' part, where a row's bytes begin at a place
+--     row_in version body other from upto      the row at a place of the rows' part, whose key leaves out a front of the other key, and the place behind it; or the refusal
+--     next_place end ats      where the next row, or the next restart, begins
+--     rows_v1 body first ats end      the rows of version 1 at these places, each up to the next place
+--     group_v2 n body previous at end last      so many rows of version 2 up to the end; in the last group there may be fewer
+--     rows_v2 body ats end      the groups of rows that begin at these places
+--     block_rows version body offsets      the rows of a block, or the refusal of the first field that fails
+use Rattle.std.specs.Prelude.{ℕ, zero, suc, ◌+◌, ◌^◌, Bool, true, false, ◌&&◌, if◌then◌else◌, nat_lt, nat_le, ◌==◌, List, [], ◌∷◌, ◌++◌, length, slice_range, Result, Ok, Err}
+use Rattle.slate_types.specs.declared.error.SlateDBError.{SlateDBError}
+use Rattle.slate_types.specs.declared.error.SlateDBError.TheVariants.{CorruptTable}
+use Rattle.slate_types.specs.declared.types.RowEntry.{RowEntry}
+use Rattle.slate_block.specs.declared.row.SstRowEntry.{SstRowEntry}
+use Rattle.slate_block.specs.declared.row.SstRowEntryV2.{SstRowEntryV2}
+use Rattle.slate_block.specs.BlockSpelling.{whole_key}
+use Rattle.slate_block.specs.Damage.{◌>>=◌}
+use Rattle.slate_block.specs.RowReading.{row_v1_of, row_v2_of}
+
+abbrev pub moved : ℕ → SlateDBError → SlateDBError
+moved at (CorruptTable place) = CorruptTable (at + place)
+moved at e = e
+
+abbrev pub moved_result : {A : Type 0} → ℕ → Result A SlateDBError → Result A SlateDBError
+moved_result at (Ok x) = Ok x
+moved_result at (Err e) = Err (moved at e)
+
+-- the front is there, and the whole is a key
+abbrev pub is_restored : ℕ → List ℕ → List ℕ → Bool
+is_restored n other suffix = nat_le n (length other) && nat_lt 0 (n + length suffix) && nat_lt (n + length suffix) (2 ^ 16)
+
+abbrev pub whole_v1 : List ℕ → SstRowEntry → RowEntry
+whole_v1 other e = record { key = whole_key e.key_prefix_len other e.key_suffix; value = e.value; seq = e.seq; create_ts = e.create_ts; expire_ts = e.expire_ts }
+
+abbrev pub whole_v2 : List ℕ → SstRowEntryV2 → RowEntry
+whole_v2 other e = record { key = whole_key e.shared_bytes other e.key_suffix; value = e.value; seq = e.seq; create_ts = e.create_ts; expire_ts = e.expire_ts }
+
+-- the bytes between two places, where they are places of the rows' part
+unfoldable pub between : List ℕ → ℕ → ℕ → Result (List ℕ) SlateDBError
+between body from upto = if nat_le from upto && nat_le upto (length body) then Ok (slice_range body from upto) else Err (CorruptTable from)
+
+unfoldable pub row_v1_in : List ℕ → List ℕ → ℕ → ℕ → Result (RowEntry × ℕ) SlateDBError
+row_v1_in body other from upto = do
+  bytes ← between body from upto
+  found ← moved_result from (row_v1_of bytes)
+  if is_restored found.0.key_prefix_len other found.0.key_suffix then Ok (whole_v1 other found.0, from + found.1) else Err (CorruptTable from)
+
+unfoldable pub row_v2_in : List ℕ → List ℕ → ℕ → ℕ → Result (RowEntry × ℕ) SlateDBError
+row_v2_in body other from upto = do
+  bytes ← between body from upto
+  found ← moved_result from (row_v2_of bytes)
+  if is_restored found.0.shared_bytes other found.0.key_suffix then Ok (whole_v2 other found.0, from + found.1) else Err (CorruptTable from)
+
+abbrev pub next_place : ℕ → List ℕ → ℕ
+next_place end [] = end
+next_place end (at ∷ ats) = at
+
+-- ---- version 1: each row ends where the next begins; the first shares with nothing, the others with the first
+
+unfoldable pub row_upto : List ℕ → List ℕ → ℕ → ℕ → Result RowEntry SlateDBError
+row_upto body other at upto = row_v1_in body other at upto >>= λ found. if found.1 == upto then Ok found.0 else Err (CorruptTable found.1)
+
+unfoldable pub rows_v1 : List ℕ → List ℕ → List ℕ → ℕ → Result (List RowEntry) SlateDBError
+rows_v1 body first [] end = Ok []
+rows_v1 body first (at ∷ ats) end = row_upto body first at (next_place end ats) >>= λ row. rows_v1 body first ats end >>= λ rows. Ok (row ∷ rows)
+
+unfoldable pub block_rows_v1 : List ℕ → List ℕ → Result (List RowEntry) SlateDBError
+block_rows_v1 body [] = Err (CorruptTable 0)
+block_rows_v1 body (at ∷ ats) = row_upto body [] at (next_place (length body) ats) >>= λ row. rows_v1 body row.key ats (length body) >>= λ rows. Ok (row ∷ rows)
+
+-- ---- version 2: a group of 16 rows begins at each restart, and ends where the next begins; the last may have fewer
+
+unfoldable pub group_v2 : ℕ → List ℕ → List ℕ → ℕ → ℕ → Bool → Result (List RowEntry) SlateDBError
+group_v2 zero body previous at end last = if at == end then Ok [] else Err (CorruptTable at)
+group_v2 (suc n) body previous at end last = if last && at == end then Ok []
+    else (row_v2_in body previous at end >>= λ found. group_v2 n body found.0.key found.1 end last >>= λ rows. Ok (found.0 ∷ rows))
+
+-- the first row of a group shares nothing
+unfoldable pub restart_v2 : List ℕ → ℕ → ℕ → Bool → Result (List RowEntry) SlateDBError
+restart_v2 body at end last = row_v2_in body [] at end >>= λ found. group_v2 15 body found.0.key found.1 end last >>= λ rows. Ok (found.0 ∷ rows)
+
+abbrev pub is_none_left : List ℕ → Bool
+is_none_left [] = true
+is_none_left (at ∷ ats) = false
+
+unfoldable pub rows_v2 : List ℕ → List ℕ → ℕ → Result (List RowEntry) SlateDBError
+rows_v2 body [] end = Ok []
+rows_v2 body (at ∷ ats) end = restart_v2 body at (next_place end ats) (is_none_left ats) >>= λ group. rows_v2 body ats end >>= λ rows. Ok (group ++ rows)
+
+unfoldable pub block_rows_v2 : List ℕ → List ℕ → Result (List RowEntry) SlateDBError
+block_rows_v2 body [] = Err (CorruptTable 0)
+block_rows_v2 body (at ∷ ats) = rows_v2 body (at ∷ ats) (length body)
+
+-- ---- a block names its rows from the first on, and their number fits its field
+
+abbrev pub begins_at_zero : List ℕ → Bool
+begins_at_zero [] = false
+begins_at_zero (at ∷ ats) = at == 0
+
+unfoldable pub block_rows : ℕ → List ℕ → List ℕ → Result (List RowEntry) SlateDBError
+block_rows version body offsets = if begins_at_zero offsets && nat_lt (length offsets) (2 ^ 16)
+    then (if version == 1 then block_rows_v1 body offsets else block_rows_v2 body offsets) else Err (CorruptTable 0)
