@@ -11,3 +11,4 @@ pub mod Iteration
 pub mod Laws
 pub mod Outside
 pub mod Refusals
+pub mod Partitions

@@ -11,6 +11,7 @@ pub mod filter_policy;
 pub mod iter;
 pub mod laws;
 pub mod merge_operator;
+pub mod partitioned_keyspace;
 pub mod rows_iterator;
 pub mod sequenced_key;
 pub mod types;
@@ -26,6 +27,11 @@ pub use error::SlateDBError;
 pub use filter_policy::{FilterContext, FilterQuery, PrefixTarget};
 pub use iter::{IterationOrder, Outside, RowEntryIterator, TrackedRowEntryIterator, collect_rows};
 pub use merge_operator::{MergeOperator, MergeOperatorError};
+pub use partitioned_keyspace::{
+    RangePartitionedKeySpace, first_partition_including_key,
+    first_partition_including_or_after_key, last_partition_including_key, partition_point,
+    partitions_covering_range,
+};
 pub use rows_iterator::RowsIterator;
 pub use sequenced_key::SequencedKey;
 pub use types::{KeyValue, RowEntry, Ulid, ValueDeletable};
