@@ -1,5 +1,5 @@
 -- How many first keys pass a test, and where the partitions are that can hold a key.
-use Rattle.std.proofs.Common.{◌≡◌, ℕ, zero, suc, ◌+◌, ◌-◌, ◌<◌, ◌≤◌, ◌⊎◌, inl, inr, Bool, true, false, cond, ◌&&◌, nat_lt, List, [], ◌∷◌, length, get_or, slice_get, count_by, bytes_eq, Option, Some, None, IfSome, IsSomeAnd, unwrap_or, IsSorted, refl, sym, ap, ◌∙◌, subst, arith}
+use Rattle.std.proofs.Common.{◌≡◌, ℕ, zero, suc, ◌+◌, ◌-◌, ◌<◌, ◌≤◌, ◌⊎◌, inl, inr, Bool, true, false, cond, ◌&&◌, nat_lt, List, [], ◌∷◌, length, get_or, slice_get, count_by, Option, Some, None, IfSome, IsSomeAnd, unwrap_or, IsSorted, refl, sym, ap, ◌∙◌, subst, arith}
 use Rattle.std.specs.Ordering.{is_lt, is_le, is_gt}
 use Rattle.std.specs.declared.cmp.Ordering.{Ordering}
 use Rattle.std.specs.declared.cmp.Ordering.TheVariants.{Less, Equal, Greater}
@@ -12,9 +12,8 @@ use Rattle.std.proofs.lemmas.List.Sorted.{ranks_by, sorted_far}
 use Rattle.std.proofs.lemmas.List.Sums.{sum_by-cons, count_by-le-length}
 use Rattle.std.proofs.lemmas.Option.{slice_get_within, slice_get-get_or, get_or_from_slice_get}
 use Rattle.std.proofs.lemmas.Slice.Eq.{bytes_eq-Decides}
-use Rattle.slate_types.specs.declared.bytes_range.BytesRange.{BytesRange}
 use Rattle.slate_types.specs.Keys.{key_cmp, key_lt, key_le, is_past_start, is_before_end, in_range, is_refused}
-use Rattle.slate_types.specs.Partitions.{CanHold, IsLeast, IsGreatest, count_below, count_upto, is_key, begins_at, last_of, first_including, last_including, covering_start, past, past_unless_at, covering_end}
+use Rattle.slate_types.specs.Partitions.{CanHold, IsLeast, IsGreatest, count_below, count_upto, is_key, begins_at, last_of, first_including, covering_start, past, past_unless_at, covering_end}
 use Rattle.slate_types.specs.Laws.{FirstIncludingIsFirst, LastIncludingIsLast}
 use Rattle.slate_types.proofs.KeyOrder.{same-key, lt-le, not-lt, not-le, le-lt-trans, lt-irreflexive}
 
@@ -83,8 +82,10 @@ count-splits p (x ∷ xs) front i a e = by (p x) refl i e (λ j g. count-splits 
   where
     tail : Front p xs
     tail = λ i j a b h g f t. front (suc i) (suc j) a b (omega arith) g f t
+
     none : p x ≡ false → 0 ≡ count_by p xs
     none t = count-is p xs 0 (omega arith) (λ i a h g. absurd (omega arith)) (λ i a h g. behind-fails p (x ∷ xs) front 0 (suc i) x a (omega arith) refl g t)
+
     by : (t : Bool) → p x ≡ t → (i : ℕ) → slice_get (x ∷ xs) i ≡ Some a → ((j : ℕ) → slice_get xs j ≡ Some a → Splits p (count_by p xs) j a) → Splits p (count_by p (x ∷ xs)) i a
     by true t zero e rest = let c = count-cons p x xs true t in (λ h. cc, λ h. absurd (omega (arith, c)))
     by true t (suc i) e rest = let c = count-cons p x xs true t in (λ h. (rest i e).0 (omega (arith, c)), λ h. (rest i e).1 (omega (arith, c)))
@@ -285,8 +286,10 @@ first-is-first keys k up = by (nat_lt 0 (count_below keys k)) refl (begins_at ke
   where
     some : nat_lt 0 (count_below keys k) ≡ true → 0 < count_below keys k
     some t = grind (arith, nat_tests)
+
     none : nat_lt 0 (count_below keys k) ≡ false → count_below keys k ≡ 0
     none t = grind (arith, nat_tests)
+
     by : (t : Bool) → nat_lt 0 (count_below keys k) ≡ t → (b : Bool) → begins_at keys 0 k ≡ b → IsLeast (λ i. CanHold keys i k) (cond t (Some (count_below keys k - 1)) (cond b (Some 0) None))
     by true t b e = (first-below keys up k (some t), λ i hold. start-reached keys up i k k hold (le-itself k))
     by false t true e = (begins-first keys up k e, λ i hold. omega arith)
@@ -307,8 +310,10 @@ last-is-last keys k up = by (nat_lt 0 (count_upto keys k)) refl
   where
     some : nat_lt 0 (count_upto keys k) ≡ true → 0 < count_upto keys k
     some t = grind (arith, nat_tests)
+
     none : nat_lt 0 (count_upto keys k) ≡ false → count_upto keys k ≡ 0
     none t = grind (arith, nat_tests)
+
     by : (t : Bool) → nat_lt 0 (count_upto keys k) ≡ t → IsGreatest (λ i. CanHold keys i k) (cond t (Some (count_upto keys k - 1)) None)
     by true t = (last-holds keys up k (some t), λ i hold. let h = end-reached keys up i k k hold (le-itself k) in omega (arith, h))
     by false t = λ i hold. let h = end-reached keys up i k k hold (le-itself k) in omega (arith, h, none t)

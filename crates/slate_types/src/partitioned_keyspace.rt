@@ -1,6 +1,6 @@
 //! Keys in partitions, as the rows of a table in its blocks, and searches by the partitions' first keys.
 //! Each search reads a number of first keys that grows with the logarithm of the number of partitions.
-ghost use Rattle.std.specs.Prelude.{◌≡◌, ◌<◌, ◌≤◌, ℕ, Bool, true, false, List, length, slice_get, Some, IfSome, unwrap_or, IsSorted};
+ghost use Rattle.std.specs.Prelude.{◌≡◌, ◌<◌, ◌≤◌, ℕ, Bool, true, false, List, length, slice_get, Some, unwrap_or, IsSorted};
 ghost use Rattle.slate_types.specs.Keys.{bound_now, in_range, is_refused, key_cmp, key_le, key_lt};
 ghost use Rattle.slate_types.specs.Partitions as partitions;
 ghost use Rattle.slate_types.specs.Partitions.{CanHold, covering_end, covering_start, first_including, last_including, past_unless_at};
@@ -116,11 +116,7 @@ fn first_covering<K: RangePartitionedKeySpace>(space: &K, start: Bound<&[u8]>) -
 }
 
 /// The number one past the partitions that can hold keys before the end, or the first one's where there is none.
-fn end_covering<K: RangePartitionedKeySpace>(
-    space: &K,
-    first: usize,
-    end: Bound<&[u8]>,
-) -> usize
+fn end_covering<K: RangePartitionedKeySpace>(space: &K, first: usize, end: Bound<&[u8]>) -> usize
     ensures { result ≡ covering_end (K.first_keys space.now) first (bound_now end.entry) }
 {
     match end {

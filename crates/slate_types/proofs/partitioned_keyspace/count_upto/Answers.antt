@@ -1,4 +1,4 @@
-use Rattle.std.proofs.Common.{Bor, sym, refl, ◌∙◌}
+use Rattle.std.proofs.Common.{sym, refl, ◌∙◌}
 use Rattle.slate_types.specs.Keys.{key_le}
 use Rattle.slate_types.proofs.PartitionLaws.{upto-front, count-is}
 use Rattle.slate_types.proofs.partitioned_keyspace.count_upto.Goals as goal
@@ -11,5 +11,5 @@ pub returns : goal.returns
 returns g c =
     let point = c.partition_point.ensures in
     count-is (λ first. key_le first c.args.key.now) _ _ point.within
-        (λ i a h at_i. point.before i (record { ref_ptr = (0, 0); now = a }) (key_le a c.args.key.now) h at_i refl)
-        (λ i a h at_i. point.behind i (record { ref_ptr = (0, 0); now = a }) (key_le a c.args.key.now) h at_i refl)
+    (λ i a h at_i. point.before i (record { ref_ptr = (0, 0); now = a }) (key_le a c.args.key.now) h at_i refl)
+    (λ i a h at_i. point.behind i (record { ref_ptr = (0, 0); now = a }) (key_le a c.args.key.now) h at_i refl)

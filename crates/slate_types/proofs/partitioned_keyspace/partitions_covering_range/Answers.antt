@@ -1,4 +1,4 @@
-use Rattle.std.proofs.Common.{◌≡◌, ◌≤◌, ◌<◌, ℕ, ap, ◌∙◌, arith}
+use Rattle.std.proofs.Common.{◌≡◌, ap, ◌∙◌, arith}
 use Rattle.slate_types.specs.Keys.{bound_now}
 use Rattle.slate_types.specs.Partitions.{covering_start, covering_end}
 use Rattle.slate_types.proofs.PartitionLaws.{ordered, covers}
