@@ -54,5 +54,7 @@ pub fn types_cross_threads() {
     crosses::<MergeOptions>();
     crosses::<WriteOptions>();
     crosses::<SlateDBError>();
+    crosses::<MergeOperatorError>();
+    crosses::<TransformError>();
     crosses::<RowsIterator>();
 }
