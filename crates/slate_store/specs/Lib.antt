@@ -2,3 +2,4 @@ pub mod Held
 pub mod Laws
 pub mod Lines
 pub mod Memory
+pub mod Store

@@ -5,14 +5,20 @@ mod faults;
 pub mod laws;
 pub mod lines;
 pub mod memory;
+pub mod memory_store;
+pub mod path_text;
 pub mod sink;
 pub mod source;
+pub mod store;
 pub mod stream;
 
 pub use lines::Lines;
 pub use memory::{MemorySink, MemorySource};
+pub use memory_store::MemoryStore;
+pub use path_text::PathText;
 pub use sink::{Sink, write_all};
 pub use source::Source;
+pub use store::{Store, StoreError};
 pub use stream::{ReaderSource, WriterSink};
 
 /// A source or a sink failed. Its count of faults has risen.
