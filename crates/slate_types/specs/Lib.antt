@@ -10,3 +10,4 @@ pub mod Lawful
 pub mod Iteration
 pub mod Laws
 pub mod Outside
+pub mod Refusals
