@@ -3,3 +3,4 @@ pub mod Laws
 pub mod Lines
 pub mod Memory
 pub mod Store
+pub mod Env

@@ -2,14 +2,16 @@
 --     object_at os path, with_object os path bytes      objects by their paths, rising
 --     part at len bytes, part_of object start len      a range of bytes, and of an object where both are there
 --     AnswersRead, AnswersLen, AnswersList      the answers of a store that tells its objects
+--     IsRising paths      the paths rise in byte order, each once
 --     TakesPut, RefusesPut      what a put that is taken or refused leaves, as the store then tells it
 --     IsHonest objects, IsEmpty objects      premises on a store's objects, as it tells them
 --     HoldsAll os tables      the objects hold each of the tables
 --     Act, KeepsReads acts      a put, a read that was returned, or an answer of the length; the store tells them
 --     AddsAct before act after      what a store tells of its acts, after one more
---     outer_error e      a store's error as the one error type has it
+--     of_store e      a store's error as the one error type has it
 use Rattle.std.specs.Prelude.{◌≡◌, ℕ, ◌+◌, nat_le, if◌then◌else◌, List, [], ◌∷◌, ◌++◌, length, take, drop, map, Contains, Option, Some, None, ◌⊎◌, bytes_eq}
 use Rattle.std.specs.BTreeMap.{insert_entry}
+use Rattle.std.specs.List.Sorted.{IsStrictlySortedBy}
 use Rattle.slate_types.specs.declared.error.SlateDBError.{SlateDBError}
 use Rattle.slate_types.specs.declared.error.SlateDBError.TheVariants.{StoreFault, OutOfMemory}
 use Rattle.slate_types.specs.Keys.{key_cmp}
@@ -47,6 +49,9 @@ AnswersLen os path answer = answer ≡ len_of (object_at os path)
 abbrev pub AnswersList : Objects → List (List ℕ) → Type 0
 AnswersList os answer = answer ≡ map (λ o. o.0) os
 
+abbrev pub IsRising : List (List ℕ) → Type 0
+IsRising paths = IsStrictlySortedBy key_cmp paths
+
 -- after: what the store tells then
 abbrev pub TakesPut : Objects → List ℕ → List ℕ → Option Objects → Type 0
 TakesPut os path bytes after = after ≡ Some (with_object os path bytes)
@@ -81,8 +86,6 @@ KeepsReads acts = (known : List Act) × (acts ≡ Some known)
 abbrev pub AddsAct : Option (List Act) → Act → Option (List Act) → Type 0
 AddsAct before act after = (known : List Act) → before ≡ Some known → after ≡ Some (known ++ (act ∷ []))
 
--- ---- its errors
-
-abbrev pub outer_error : StoreError → SlateDBError
-outer_error Failed = StoreFault
-outer_error NoMemory = OutOfMemory
+abbrev pub of_store : StoreError → SlateDBError
+of_store Failed = StoreFault
+of_store NoMemory = OutOfMemory

@@ -1,6 +1,7 @@
 //! The outside world: where a script comes from and where its replies go.
 #![tactic(auto)]
 
+pub mod env;
 mod faults;
 pub mod laws;
 pub mod lines;
@@ -12,6 +13,7 @@ pub mod source;
 pub mod store;
 pub mod stream;
 
+pub use env::Env;
 pub use lines::Lines;
 pub use memory::{MemorySink, MemorySource};
 pub use memory_store::MemoryStore;

@@ -2,7 +2,7 @@
 ghost use Rattle.std.specs.Prelude.{◌≡◌, [], Some, None, IfOk, IsOkUnless};
 ghost use Rattle.std.specs.BTreeMap.{keys};
 ghost use Rattle.std.specs.Option.{option_copied};
-ghost use Rattle.slate_store.specs.Store.{object_at, part_of};
+ghost use Rattle.slate_store.specs.Store.{object_at, part_of, IsRising};
 
 use crate::faults::FaultPlan;
 use crate::{PathText, Store, StoreError};
@@ -115,6 +115,7 @@ fn paths_of(
     objects: &BTreeMap<ByteStr, Bytes>,
 ) -> Result<Vec<PathText>, StoreError>
     ensures paths { IfOk result (λ paths. paths.items ≡ keys objects.now) }
+    ensures order { IfOk result (λ paths. IsRising paths.items) }
     ensures memory { IsOkUnless result StoreError.OutOfMemory }
 {
     let mut paths = Vec::new(alloc);

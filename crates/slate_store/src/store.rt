@@ -2,12 +2,13 @@
 ghost use Rattle.std.specs.Prelude.{◌≡◌, ◌≤◌, ◌⊎◌, ℕ, List, Option, Some, IfOk, OnOk, OnErr};
 ghost use Rattle.slate_types.specs.Faults.{Rose};
 ghost use Rattle.slate_types.specs.Outside.{Objects};
-ghost use Rattle.slate_store.specs.Store.{Act, AddsAct, AnswersLen, AnswersList, AnswersRead, RefusesPut, TakesPut};
+ghost use Rattle.slate_store.specs.Store.{Act, AddsAct, AnswersLen, AnswersList, AnswersRead, IsRising, RefusesPut, TakesPut};
 
 use crate::{Failed, PathText};
 use bytes::Bytes;
 use slate_types::SlateDBError;
 use std::alloc::{AllocError, AllocFailed, Global};
+use thiserror::Error;
 
 /// Keeps objects, each at its path: bytes that are put whole and read in ranges.
 ///
@@ -65,6 +66,7 @@ pub trait Store: Drop {
     /// The paths of all objects, in byte order.
     fn list(&mut self, alloc: Global) -> Result<Vec<PathText>, StoreError>
         ensures answer { (os : Objects) → objects self.old ≡ Some os → IfOk result (λ paths. AnswersList os paths.items) }
+        ensures order { (os : Objects) → objects self.old ≡ Some os → IfOk result (λ paths. IsRising paths.items) }
         ensures objects { objects self.new ≡ objects self.old }
         ensures acts { acts self.new ≡ acts self.old }
         ensures later { faults self.old ≤ faults self.new }
@@ -73,11 +75,13 @@ pub trait Store: Drop {
 }
 
 /// Why a store refused a call.
-#[derive(Clone, Copy, Debug, PartialEq, Eq)]
+#[derive(Clone, Copy, Debug, PartialEq, Eq, Error)]
 pub enum StoreError {
-    /// The store failed. Its count of faults has risen.
+    /// It failed. Its count of faults has risen.
+    #[error("the store failed")]
     Failed,
-    /// Want of memory.
+    /// Memory is wanting.
+    #[error("out of memory")]
     OutOfMemory,
 }
 
@@ -116,12 +120,12 @@ impl<T: Drop> From<AllocFailed<T>> for StoreError {
 
 impl From<StoreError> for SlateDBError {
     ghost use Rattle.std.specs.Prelude.{◌≡◌};
-    ghost use Rattle.slate_store.specs.Store.{outer_error};
+    ghost use Rattle.slate_store.specs.Store.{of_store};
 
-    ghost from_gives = { λ cause e. e ≡ outer_error cause };
+    ghost from_gives = { λ error e. e ≡ of_store error };
 
-    fn from(cause: StoreError) -> SlateDBError {
-        match cause {
+    fn from(error: StoreError) -> SlateDBError {
+        match error {
             StoreError::Failed => SlateDBError::StoreFault,
             StoreError::OutOfMemory => SlateDBError::OutOfMemory,
         }
