@@ -3,6 +3,7 @@
 
 pub mod env;
 mod faults;
+pub mod file_store;
 pub mod laws;
 pub mod lines;
 pub mod memory;
@@ -14,6 +15,7 @@ pub mod store;
 pub mod stream;
 
 pub use env::Env;
+pub use file_store::FileStore;
 pub use lines::Lines;
 pub use memory::{MemorySink, MemorySource};
 pub use memory_store::MemoryStore;
