@@ -110,10 +110,7 @@ fn range_of(object: &Bytes, start: u64, len: u64) -> Result<Option<Bytes>, Alloc
 }
 
 /// The paths of all objects, rising.
-fn paths_of(
-    alloc: Global,
-    objects: &BTreeMap<ByteStr, Bytes>,
-) -> Result<Vec<PathText>, StoreError>
+fn paths_of(alloc: Global, objects: &BTreeMap<ByteStr, Bytes>) -> Result<Vec<PathText>, StoreError>
     ensures paths { IfOk result (λ paths. paths.items ≡ keys objects.now) }
     ensures order { IfOk result (λ paths. IsRising paths.items) }
     ensures memory { IsOkUnless result StoreError.OutOfMemory }
