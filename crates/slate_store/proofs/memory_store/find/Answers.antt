@@ -1,5 +1,5 @@
 -- A map's look-up by a path finds the object.
-use Rattle.std.proofs.Common.{sym, ap, ◌∙◌}
+use Rattle.std.proofs.Common.{ap, ◌∙◌}
 use Rattle.slate_store.specs.Store.{object_at}
 use Rattle.slate_store.proofs.StoreLaws.{found_object}
 use Rattle.slate_store.proofs.memory_store.find.Goals as goal
