@@ -1,8 +1,11 @@
--- The laws of lines that a reader of scripts rests on.
+-- The laws of lines that a reader of scripts rests on, and those of objects.
 --     TakenLineIsFirst, LinesHaveNoEnd      on the lines of bytes
 --     WholeLinesJoin, WholePartsJoin, WholePartIsWhole, PartialLineIsNotWhole, EndMakesWhole      on the bytes up to the last end
-use Rattle.std.specs.Prelude.{◌≡◌, ℕ, List, [], ◌∷◌, ◌++◌}
+--     PutIsThere, OthersStay      on objects after a put
+use Rattle.std.specs.Prelude.{◌≡◌, ℕ, List, [], ◌∷◌, ◌++◌, Some}
 use Rattle.std.specs.List.{AllByRecursion}
+use Rattle.slate_types.specs.Outside.{Objects}
+use Rattle.slate_store.specs.Store.{object_at, with_object}
 use Rattle.slate_store.specs.Lines.{lines_of, whole_part, HasNoEnd, TakesLine}
 
 -- What a call takes as a line is the first of the lines that are left.
@@ -32,3 +35,11 @@ EndMakesWhole = (a : List ℕ) → whole_part (a ++ (10 ∷ [])) ≡ a ++ (10 �
 -- No line has an end in it.
 abbrev pub LinesHaveNoEnd : Type 0
 LinesHaveNoEnd = (bytes : List ℕ) → AllByRecursion HasNoEnd (lines_of bytes)
+
+-- What was put stands at its path.
+abbrev pub PutIsThere : Type 0
+PutIsThere = (os : Objects) (path bytes : List ℕ) → object_at (with_object os path bytes) path ≡ Some bytes
+
+-- A put changes no other object.
+abbrev pub OthersStay : Type 0
+OthersStay = (os : Objects) (path bytes other : List ℕ) → ¬ (path ≡ other) → object_at (with_object os path bytes) other ≡ object_at os other

@@ -1,5 +1,5 @@
-// The laws of lines. Each is proved of all bytes, and no call does anything.
-ghost use Rattle.slate_store.specs.Laws.{EndMakesWhole, LinesHaveNoEnd, PartialLineIsNotWhole, TakenLineIsFirst, WholeLinesJoin, WholePartIsWhole, WholePartsJoin};
+// The laws of lines and of objects. Each is proved of all bytes, and no call does anything.
+ghost use Rattle.slate_store.specs.Laws.{EndMakesWhole, LinesHaveNoEnd, OthersStay, PartialLineIsNotWhole, PutIsThere, TakenLineIsFirst, WholeLinesJoin, WholePartIsWhole, WholePartsJoin};
 
 /// What a call takes as a line is the first of the lines that are left.
 pub fn taken_line_is_first()
@@ -34,4 +34,14 @@ pub fn end_makes_whole()
 /// No line has an end in it.
 pub fn lines_have_no_end()
     ensures { LinesHaveNoEnd }
+{}
+
+/// What was put stands at its path.
+pub fn put_is_there()
+    ensures { PutIsThere }
+{}
+
+/// A put changes no other object.
+pub fn others_stay()
+    ensures { OthersStay }
 {}

@@ -1,18 +1,28 @@
 //! The outside world: where a script comes from and where its replies go.
 #![tactic(auto)]
 
+pub mod env;
 mod faults;
+pub mod file_store;
 pub mod laws;
 pub mod lines;
 pub mod memory;
+pub mod memory_store;
+pub mod path_text;
 pub mod sink;
 pub mod source;
+pub mod store;
 pub mod stream;
 
+pub use env::Env;
+pub use file_store::FileStore;
 pub use lines::Lines;
 pub use memory::{MemorySink, MemorySource};
+pub use memory_store::MemoryStore;
+pub use path_text::PathText;
 pub use sink::{Sink, write_all};
 pub use source::Source;
+pub use store::{Store, StoreError};
 pub use stream::{ReaderSource, WriterSink};
 
 /// A source or a sink failed. Its count of faults has risen.

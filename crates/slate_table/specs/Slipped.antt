@@ -5,7 +5,7 @@ use Rattle.std.specs.Prelude.{◌≡◌, ◌≢◌, ℕ, ◌+◌, ◌-◌, ◌�
 use Rattle.slate_types.specs.declared.types.RowEntry.{RowEntry}
 use Rattle.slate_table.specs.Parts.{Encode, Place, sum_fits}
 use Rattle.slate_table.specs.Table.{IsTableOf, table_places}
-use Rattle.slate_table.specs.Store.{Act, part}
+use Rattle.slate_store.specs.Store.{Act, part}
 
 abbrev pub last_put : List ℕ → Option (List ℕ) → List Act → Option (List ℕ)
 last_put path found [] = found

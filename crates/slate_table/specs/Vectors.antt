@@ -15,7 +15,7 @@ use Rattle.slate_block.specs.RowSpelling.{be16, be64}
 use Rattle.slate_table.specs.Checksum.{crc32}
 use Rattle.slate_table.specs.Parts.{separator, summed, sum_fits, filters_bytes}
 use Rattle.slate_table.specs.Table.{table_bytes, IsTableOf, IsTable, table_places}
-use Rattle.slate_table.specs.Store.{part}
+use Rattle.slate_store.specs.Store.{part}
 
 -- the check value that CRC-32 is known by
 abbrev pub Sums : Type 0

@@ -13,3 +13,5 @@ mod rows;
 mod runs;
 #[cfg(test)]
 mod texts;
+#[cfg(test)]
+mod stores;

@@ -1,15 +1,23 @@
 -- What is known of a store, and what its calls answer.
 --     object_at os path, with_object os path bytes      objects by their paths, rising
 --     part at len bytes, part_of object start len      a range of bytes, and of an object where both are there
---     AnswersRead, AnswersLen, AnswersList      the answers of an honest store
---     TakesPut, RefusesPut      what a put that is taken or refused leaves
+--     AnswersRead, AnswersLen, AnswersList      the answers of a store that tells its objects
+--     IsRising paths      the paths rise in byte order, each once
+--     TakesPut, RefusesPut      what a put that is taken or refused leaves, as the store then tells it
 --     IsHonest objects, IsEmpty objects      premises on a store's objects, as it tells them
 --     HoldsAll os tables      the objects hold each of the tables
 --     Act, KeepsReads acts      a put, a read that was returned, or an answer of the length; the store tells them
-use Rattle.std.specs.Prelude.{◌≡◌, ℕ, ◌+◌, nat_le, if◌then◌else◌, List, [], ◌∷◌, length, take, drop, map, Contains, Option, Some, None, ◌⊎◌, bytes_eq}
+--     AddsAct before act after      what a store tells of its acts, after one more
+--     of_store e      a store's error as the one error type has it
+use Rattle.std.specs.Prelude.{◌≡◌, ℕ, ◌+◌, nat_le, if◌then◌else◌, List, [], ◌∷◌, ◌++◌, length, take, drop, map, Contains, Option, Some, None, ◌⊎◌, bytes_eq}
 use Rattle.std.specs.BTreeMap.{insert_entry}
+use Rattle.std.specs.List.Sorted.{IsStrictlySortedBy}
+use Rattle.slate_types.specs.declared.error.SlateDBError.{SlateDBError}
+use Rattle.slate_types.specs.declared.error.SlateDBError.TheVariants.{StoreFault, OutOfMemory}
 use Rattle.slate_types.specs.Keys.{key_cmp}
 use Rattle.slate_types.specs.Outside.{Objects}
+use Rattle.slate_store.specs.declared.store.StoreError.{StoreError}
+use Rattle.slate_store.specs.declared.store.StoreError.TheVariants.{Failed, OutOfMemory as NoMemory}
 
 abbrev pub object_at : Objects → List ℕ → Option (List ℕ)
 object_at [] path = None
@@ -30,7 +38,7 @@ abbrev pub len_of : Option (List ℕ) → Option ℕ
 len_of None = None
 len_of (Some bytes) = Some (length bytes)
 
--- ---- an honest store tells its objects, and these are its answers where they are Ok
+-- ---- the answers that are Ok, where the store tells its objects
 
 abbrev pub AnswersRead : Objects → List ℕ → ℕ → ℕ → Option (List ℕ) → Type 0
 AnswersRead os path start len answer = answer ≡ part_of (object_at os path) start len
@@ -41,13 +49,18 @@ AnswersLen os path answer = answer ≡ len_of (object_at os path)
 abbrev pub AnswersList : Objects → List (List ℕ) → Type 0
 AnswersList os answer = answer ≡ map (λ o. o.0) os
 
-abbrev pub TakesPut : Objects → List ℕ → List ℕ → Objects → Type 0
-TakesPut old path bytes new = new ≡ with_object old path bytes
+abbrev pub IsRising : List (List ℕ) → Type 0
+IsRising paths = IsStrictlySortedBy key_cmp paths
 
-abbrev pub RefusesPut : Objects → List ℕ → List ℕ → Objects → Type 0
-RefusesPut old path bytes new = (new ≡ old) ⊎ TakesPut old path bytes new
+-- after: what the store tells then
+abbrev pub TakesPut : Objects → List ℕ → List ℕ → Option Objects → Type 0
+TakesPut os path bytes after = after ≡ Some (with_object os path bytes)
 
--- objects: what the store tells, and none where it doesn't
+abbrev pub RefusesPut : Objects → List ℕ → List ℕ → Option Objects → Type 0
+RefusesPut os path bytes after = (after ≡ Some os) ⊎ TakesPut os path bytes after
+
+-- objects: what the store tells, and none where it doesn't. A store that tells its objects answers by them, as the
+-- calls of every store have it. So one that answers otherwise tells none.
 abbrev pub IsHonest : Option Objects → Type 0
 IsHonest objects = (os : Objects) × (objects ≡ Some os)
 
@@ -65,6 +78,14 @@ pub data Act : Type 0 where
   read : (path : List ℕ) (start len : ℕ) (answer : Option (List ℕ)) → Act
   len : (path : List ℕ) (answer : Option ℕ) → Act
 
--- acts: what the store tells, and none where it doesn't
+-- acts: what the store tells, oldest first, and none where it doesn't
 abbrev pub KeepsReads : Option (List Act) → Type 0
 KeepsReads acts = (known : List Act) × (acts ≡ Some known)
+
+-- nothing is asked of a store that doesn't tell its acts
+abbrev pub AddsAct : Option (List Act) → Act → Option (List Act) → Type 0
+AddsAct before act after = (known : List Act) → before ≡ Some known → after ≡ Some (known ++ (act ∷ []))
+
+abbrev pub of_store : StoreError → SlateDBError
+of_store Failed = StoreFault
+of_store NoMemory = OutOfMemory

@@ -1,0 +1,208 @@
+//! A store over a folder of the file system, which tells no objects.
+ghost use Rattle.std.specs.Prelude.{◌≡◌, ◌≤◌, ◌⊎◌, None, IfOk, IsOkUnless};
+ghost use Rattle.slate_types.specs.Faults.{Rose};
+
+use crate::faults::Faults;
+use crate::{PathText, Store, StoreError};
+use bytes::Bytes;
+use slate_types::SlateDBError;
+use std::alloc::Global;
+use std::fs::{self, File, OpenFile};
+use std::io::{self, ErrorKind, Read, Seek, SeekFrom, Write};
+use std::rt::Files;
+
+/// What the name of a file ends with that is being written. No object has such a path.
+const UNFINISHED: &str = ".tmp";
+
+/// Keeps each object as a file of a folder, at the object's path from there.
+///
+/// A path is names with a slash between two: a call of another one, as of one that leaves the folder, fails.
+#[derive(Drop)]
+pub struct FileStore<R> {
+    rt: R,
+    folder: String,
+    faults: Faults,
+}
+
+impl<R: Files + AllocGlobal + Clone + Drop> FileStore<R> {
+    /// A store over the folder. Opens nothing and makes nothing: the first `put` makes the folder. Can fail
+    /// only for want of memory.
+    pub fn new(alloc: Global, rt: R, folder: &str) -> Result<FileStore<R>, SlateDBError>
+        ensures memory { IsOkUnless result SlateDBError.OutOfMemory }
+        ensures faults { IfOk result (λ store. ⟦<FileStore<R> as Store>⟧.faults store ≡ 0) }
+    {
+        Ok(FileStore {
+            rt,
+            folder: String::from_str(alloc, folder)?,
+            faults: Faults::none(),
+        })
+    }
+
+    /// What a call answers: each error is a fault, save want of memory.
+    fn answer<V: Drop>(&mut self, outcome: io::Result<V>) -> Result<V, StoreError>
+        ensures later { self.old.faults.count ≤ self.new.faults.count }
+        ensures still { (result ≡ Err StoreError.Failed) ⊎ (self.new.faults.count ≡ self.old.faults.count) }
+        ensures cause { result ≡ Err StoreError.Failed → Rose self.old.faults.count self.new.faults.count }
+    {
+        match outcome {
+            Ok(value) => Ok(value),
+            Err(error) if error.kind() == ErrorKind::OutOfMemory => Err(StoreError::OutOfMemory),
+            Err(_) => Err(self.faults.raise().into()),
+        }
+    }
+}
+
+impl<R: Files + AllocGlobal + Clone + Drop> Store for FileStore<R> {
+    ghost objects = { λ _. None };
+
+    ghost acts = { λ _. None };
+
+    ghost faults = { λ s. s.faults.count };
+
+    /// Writes beside the object and renames, so that a reader meets the old object or the new one.
+    fn put(&mut self, alloc: Global, path: &str, bytes: &[u8]) -> Result<(), StoreError> {
+        let done = put_file(alloc, &self.rt, &self.folder, path, bytes);
+        self.answer(done)
+    }
+
+    fn read_range(
+        &mut self,
+        alloc: Global,
+        path: &str,
+        start: u64,
+        len: u64,
+    ) -> Result<Option<Bytes>, StoreError> {
+        let range = read_file(alloc, &self.rt, &self.folder, path, start, len);
+        self.answer(range)
+    }
+
+    fn len(&mut self, alloc: Global, path: &str) -> Result<Option<u64>, StoreError> {
+        let len = len_of_file(alloc, &self.rt, &self.folder, path);
+        self.answer(len)
+    }
+
+    fn list(&mut self, alloc: Global) -> Result<Vec<PathText>, StoreError> {
+        let paths = list_files(alloc, &self.rt, &self.folder);
+        self.answer(paths)
+    }
+}
+
+fn put_file(
+    alloc: Global,
+    files: &impl Files,
+    folder: &str,
+    path: &str,
+    bytes: &[u8],
+) -> io::Result<()> {
+    let target = place_of(alloc, folder, path)?;
+    if let Some((parent, _)) = target.rsplit_once('/') {
+        fs::create_dir_all(files, parent)?;
+    }
+    let beside = format!(in alloc; "{target}{UNFINISHED}")?;
+    write_file(files, &beside, bytes)?;
+    fs::rename(files, &beside, &target)
+}
+
+fn write_file<R: Files>(files: &R, path: &str, bytes: &[u8]) -> io::Result<()> {
+    let mut file = File::create(files, path)?;
+    file.write_all(bytes)?;
+    file.sync_all()
+}
+
+fn read_file<R: Files>(
+    alloc: Global,
+    files: &R,
+    folder: &str,
+    path: &str,
+    start: u64,
+    len: u64,
+) -> io::Result<Option<Bytes>> {
+    let Some(whole) = len_of_file(alloc, files, folder, path)? else {
+        return Ok(None);
+    };
+    if start > whole || len > whole - start {
+        return Ok(None);
+    }
+    let mut file = File::open(files, &place_of(alloc, folder, path)?)?;
+    file.seek(SeekFrom::Start(start))?;
+    let mut bytes = vec![in alloc; 0; len as usize]?;
+    file.read_exact(&mut bytes)?;
+    Ok(Some(Bytes::from_vec(bytes)?))
+}
+
+fn len_of_file(
+    alloc: Global,
+    files: &impl Files,
+    folder: &str,
+    path: &str,
+) -> io::Result<Option<u64>> {
+    match fs::symlink_metadata(files, &place_of(alloc, folder, path)?) {
+        Ok(metadata) if metadata.is_file() => Ok(Some(metadata.len())),
+        Ok(_) => Ok(None),
+        Err(error) if is_missing(&error) => Ok(None),
+        Err(error) => Err(error),
+    }
+}
+
+/// The paths of all files, folder by folder.
+fn list_files<R: Files + AllocGlobal + Clone + Drop>(
+    alloc: Global,
+    rt: &R,
+    folder: &str,
+) -> io::Result<Vec<PathText>> {
+    let mut paths = Vec::new(alloc);
+    let mut inner = Vec::new(alloc);
+    inner.push(String::new(alloc))?;
+    for _ in 0..u64::MAX {
+        match inner.pop() {
+            Some(names) => list_folder(alloc, rt, folder, &names, &mut inner, &mut paths)?,
+            None => break,
+        }
+    }
+    paths.sort()?;
+    let paths = paths.into_iter().map(PathText::from_string);
+    Ok(paths.collect(alloc)?)
+}
+
+/// Adds what one folder has to the folders and the paths.
+fn list_folder<R: Files + AllocGlobal + Clone + Drop>(
+    alloc: Global,
+    rt: &R,
+    folder: &str,
+    names: &str,
+    inner: &mut Vec<String>,
+    paths: &mut Vec<String>,
+) -> io::Result<()> {
+    let entries = match fs::read_dir(rt, &format!(in alloc; "{folder}/{names}")?) {
+        Ok(entries) => entries,
+        Err(error) if is_missing(&error) => return Ok(()),
+        Err(error) => return Err(error),
+    };
+    for entry in entries {
+        let entry = entry?;
+        let name = entry.file_name();
+        let kind = entry.file_type()?;
+        if kind.is_dir() {
+            inner.push(format!(in alloc; "{names}{name}/")?)?;
+        } else if kind.is_file() && !name.ends_with(UNFINISHED) {
+            paths.push(format!(in alloc; "{names}{name}")?)?;
+        }
+    }
+    Ok(())
+}
+
+/// Where the file of an object is.
+fn place_of(alloc: Global, folder: &str, path: &str) -> io::Result<String> {
+    if folder.is_empty() || path.ends_with(UNFINISHED) || !path.split('/').all(is_name) {
+        return Err(ErrorKind::InvalidInput.into());
+    }
+    Ok(format!(in alloc; "{folder}/{path}")?)
+}
+
+fn is_name(name: &str) -> bool {
+    !name.is_empty() && name != "." && name != ".."
+}
+
+fn is_missing(error: &io::Error) -> bool {
+    matches!(error.kind(), ErrorKind::NotFound | ErrorKind::NotADirectory)
+}

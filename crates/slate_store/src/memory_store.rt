@@ -1,0 +1,124 @@
+//! A store in memory, whose calls fail where they are told to.
+ghost use Rattle.std.specs.Prelude.{◌≡◌, [], Some, None, IfOk, IsOkUnless};
+ghost use Rattle.std.specs.BTreeMap.{keys};
+ghost use Rattle.std.specs.Option.{option_copied};
+ghost use Rattle.slate_store.specs.Store.{object_at, part_of, IsRising};
+
+use crate::faults::FaultPlan;
+use crate::{PathText, Store, StoreError};
+use bytes::{ByteStr, Bytes};
+use std::alloc::{AllocError, Global};
+use std::collections::BTreeMap;
+use std::marker::Model;
+
+/// Keeps objects in memory. A call that fails changes nothing.
+#[derive(Drop)]
+pub struct MemoryStore {
+    objects: BTreeMap<ByteStr, Bytes>,
+    plan: FaultPlan,
+}
+
+impl Model for MemoryStore {
+    ghost use Rattle.slate_store.specs.Memory.{MemoryStoreModel};
+
+    ghost Value = { MemoryStoreModel };
+
+    ghost view = { λ s. record { objects = s.objects.entries; faults = s.plan.faults.count } };
+}
+
+impl MemoryStore {
+    /// A store with no object. `failing` numbers the calls that fail, from 1.
+    pub fn new(alloc: Global, failing: Vec<u64>) -> MemoryStore
+        ensures objects { result.objects ≡ [] }
+        ensures told { ⟦<MemoryStore as Store>⟧.objects result ≡ Some [] }
+        ensures faults { result.faults ≡ 0 }
+        ensures counted { ⟦<MemoryStore as Store>⟧.faults result ≡ 0 }
+    {
+        MemoryStore {
+            objects: BTreeMap::new(alloc),
+            plan: FaultPlan::new(failing),
+        }
+    }
+}
+
+impl Store for MemoryStore {
+    ghost objects = { λ s. Some s.objects };
+
+    ghost acts = { λ _. None };
+
+    ghost faults = { λ s. s.faults };
+
+    fn put(&mut self, alloc: Global, path: &str, bytes: &[u8]) -> Result<(), StoreError> {
+        self.plan.step()?;
+        let path = ByteStr::copy_from_str(alloc, path)?;
+        let bytes = Bytes::copy_from_slice(alloc, bytes)?;
+        self.objects.insert(path, bytes)?;
+        Ok(())
+    }
+
+    /// Copies no byte of the object: the answer shares its memory.
+    fn read_range(
+        &mut self,
+        alloc: Global,
+        path: &str,
+        start: u64,
+        len: u64,
+    ) -> Result<Option<Bytes>, StoreError> {
+        self.plan.step()?;
+        match find(alloc, &self.objects, path)? {
+            Some(object) => Ok(range_of(object, start, len)?),
+            None => Ok(None),
+        }
+    }
+
+    fn len(&mut self, alloc: Global, path: &str) -> Result<Option<u64>, StoreError> {
+        self.plan.step()?;
+        match find(alloc, &self.objects, path)? {
+            Some(object) => Ok(Some(object.len() as u64)),
+            None => Ok(None),
+        }
+    }
+
+    fn list(&mut self, alloc: Global) -> Result<Vec<PathText>, StoreError> {
+        self.plan.step()?;
+        paths_of(alloc, &self.objects)
+    }
+}
+
+/// The object at a path.
+fn find<'a>(
+    alloc: Global,
+    objects: &'a BTreeMap<ByteStr, Bytes>,
+    path: &str,
+) -> Result<Option<&'a Bytes>, AllocError>
+    ensures { IfOk result (λ object. option_copied object ≡ object_at objects.now.entries path.now) }
+{
+    let path = ByteStr::copy_from_str(alloc, path)?;
+    Ok(objects.get(&path))
+}
+
+/// A range of an object, and none past its end.
+fn range_of(object: &Bytes, start: u64, len: u64) -> Result<Option<Bytes>, AllocError>
+    ensures { IfOk result (λ range. range ≡ part_of (Some object.now) start len) }
+{
+    let whole = object.len() as u64;
+    if start > whole || len > whole - start {
+        return Ok(None);
+    }
+    let (start, end) = (start as usize, (start + len) as usize);
+    Ok(Some(object.slice(start..end)?))
+}
+
+/// The paths of all objects, rising.
+fn paths_of(alloc: Global, objects: &BTreeMap<ByteStr, Bytes>) -> Result<Vec<PathText>, StoreError>
+    ensures paths { IfOk result (λ paths. paths.items ≡ keys objects.now) }
+    ensures order { IfOk result (λ paths. IsRising paths.items) }
+    ensures memory { IsOkUnless result StoreError.OutOfMemory }
+{
+    let mut paths = Vec::new(alloc);
+    for path in objects.keys() {
+        let text = String::from_str(alloc, path.as_str())?;
+        paths.push(PathText::from_string(text))?;
+    }
+    Ok(paths)
+}
