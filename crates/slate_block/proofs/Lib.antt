@@ -15,3 +15,4 @@ pub mod WrittenLaws
 pub mod HeldOnce
 pub mod RowMore
 pub mod RowSizes
+pub mod HeldLaws

@@ -184,7 +184,7 @@ named_fits version n at h = by (is_named version n)
     by true = (h, tt)
     by false = tt
 
-joined_more : (version : ℕ) (rows : List RowEntry) (r : RowEntry) → flat_map (λ b. b) (spelled version (rows ++ r ∷ [])) ≡ flat_map (λ b. b) (spelled version rows) ++ row_bytes version (longest (front_key version rows) r.key) r
+pub joined_more : (version : ℕ) (rows : List RowEntry) (r : RowEntry) → flat_map (λ b. b) (spelled version (rows ++ r ∷ [])) ≡ flat_map (λ b. b) (spelled version rows) ++ row_bytes version (longest (front_key version rows) r.key) r
 unfolding joined
 joined_more version rows r =
     let b = row_bytes version (longest (front_key version rows) r.key) r in

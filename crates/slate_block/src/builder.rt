@@ -1,7 +1,7 @@
 //! Blocks, built row by row.
 ghost use Rattle.std.specs.Prelude.{◌≡◌, ◌≤◌, ◌<◌, ◌^◌, ◌↔◌, ◌⊎◌, ◌==◌, [], true, false, Ok, Err, length, map, IfOk, IfErr, OnOk, OnErr, IsOkUnless};
-ghost use Rattle.slate_block.specs.BlockSpelling.{IsBlockOf, FitsBlock, block_spelling, block_bytes, as_read, offsets_of, spelled};
-ghost use Rattle.slate_block.specs.Building.{number, Held, Held-prop, CanTake, Building, with_row};
+ghost use Rattle.slate_block.specs.BlockSpelling.{IsBlockOf, FitsBlock, block_spelling, block_bytes, as_read, longest};
+ghost use Rattle.slate_block.specs.Building.{number, front_key, Held, Held-prop, CanTake, Building, with_row};
 ghost use Rattle.slate_block.specs.Fitting.{fits_in};
 
 use crate::block::Block;
@@ -84,7 +84,23 @@ impl BlockBuilder {
         requires { CanTake entry.now }
         ensures { result ≡ fits_in self.now.size self.now.version self.now.rows entry.now }
     {
-        let shared = compute_prefix(self.part.front_key.as_slice(), entry.key.as_slice());
+        self.has_room(self.shared(entry), entry)
+    }
+
+    /// How many bytes of its key a row leaves out.
+    fn shared(&self, entry: &RowEntry) -> usize
+        ensures front { result ≡ longest (front_key self.now.version self.now.rows) entry.now.key }
+        ensures within { result ≤ length entry.now.key }
+    {
+        compute_prefix(self.part.front_key.as_slice(), entry.key.as_slice())
+    }
+
+    fn has_room(&self, shared: usize, entry: &RowEntry) -> bool
+        requires lengths { CanTake entry.now }
+        requires front { shared ≡ longest (front_key self.now.version self.now.rows) entry.now.key }
+        requires within { shared ≤ length entry.now.key }
+        ensures { result ≡ fits_in self.now.size self.now.version self.now.rows entry.now }
+    {
         self.part.has_room(self.block_size, shared, entry)
     }
 
@@ -103,14 +119,14 @@ impl BlockBuilder {
         ensures taken { result ≡ Ok true → self.new ≡ with_row self.old entry }
         ensures refused { result ≡ Ok false → self.new ≡ self.old }
         ensures unchanged { OnErr result (self.new ≡ self.old) }
-        ensures few { length self.new.rows < 2 ^ 16 }
+        ensures few { result ≡ Ok true → length self.new.rows < 2 ^ 16 }
         ensures cause { IfErr result (λ e. (e ≡ SlateDBError.EmptyKey) ⊎ (e ≡ SlateDBError.OutOfMemory)) }
     {
         if entry.key.is_empty() {
             return Err(SlateDBError::EmptyKey);
         }
-        let shared = compute_prefix(self.part.front_key.as_slice(), entry.key.as_slice());
-        if !self.part.has_room(self.block_size, shared, &entry) {
+        let shared = self.shared(&entry);
+        if !self.has_room(shared, &entry) {
             return Ok(false);
         }
         self.part.append(shared, entry)?;
