@@ -1,15 +1,13 @@
 -- A block's bytes come apart into its rows' part and its offsets, and into nothing else.
-use Rattle.std.proofs.Common.{◌≡◌, ℕ, zero, suc, ◌+◌, ◌*◌, ◌<◌, ◌≤◌, ◌^◌, ◌⊎◌, inl, inr, Bool, true, false, cond, List, [], ◌∷◌, ◌++◌, length, flat_map, refl, sym, subst, ap, ◌∙◌, arith, length-append}
+use Rattle.std.proofs.Common.{◌≡◌, ℕ, ◌+◌, ◌*◌, ◌<◌, ◌≤◌, ◌^◌, inl, inr, Bool, true, false, cond, List, [], ◌∷◌, ◌++◌, length, flat_map, refl, sym, subst, ap, ◌∙◌, arith, length-append}
 use Rattle.std.specs.List.{AllByRecursion}
 use Rattle.std.proofs.lemmas.List.Concat.{flat_map-cons}
 use Rattle.slate_types.specs.declared.types.RowEntry.{RowEntry}
-use Rattle.slate_block.specs.declared.row.SstRowEntry.{SstRowEntry}
-use Rattle.slate_block.specs.declared.row.SstRowEntryV2.{SstRowEntryV2}
-use Rattle.slate_block.specs.RowSpelling.{be16, IsRowV1, IsRowV2}
+use Rattle.slate_block.specs.RowSpelling.{be16}
 use Rattle.slate_block.specs.BlockSpelling.{entry_v1, entry_v2, SharesV1, SharesV2, is_restart, AreRows, places, restarts, offsets_of, IsBlockOf, IsBlock, block_spelling}
 use Rattle.slate_block.specs.BlockReading.{Rise, AreOffsets, IsApart}
 use Rattle.slate_block.proofs.Pieces.{same_ends, same_be16}
-use Rattle.slate_block.proofs.BlockLaws.{some_v1, some_v2, same_body, two_bytes_each}
+use Rattle.slate_block.proofs.BlockLaws.{some_v1, some_v2, two_bytes_each}
 
 -- ---- no piece is empty
 
@@ -52,6 +50,7 @@ restarts_rise low i at end (b ∷ bs) some small p q =
   where
     later : List ℕ
     later = restarts (i + 1) (places (at + length b) bs)
+
     by : (t : Bool) → length (b ++ flat_map (λ b. b) bs) ≡ length b + length (flat_map (λ b. b) bs)
         → ((l : ℕ) → AreSmall later → l ≤ at + length b → at + length b + length (flat_map (λ b. b) bs) ≤ end → Rise l end later)
         → AreSmall (cond t (at ∷ []) [] ++ later) → Rise low end (cond t (at ∷ []) [] ++ later)

@@ -1,5 +1,5 @@
 -- What a builder keeps, and which row fits behind it.
-use Rattle.std.proofs.Common.{◌≡◌, ℕ, suc, ◌+◌, ◌*◌, ◌<◌, ◌≤◌, ◌^◌, Bool, true, false, cond, List, [], ◌∷◌, ◌++◌, length, flat_map, refl, sym, subst, ap, ◌∙◌, arith, length-append}
+use Rattle.std.proofs.Common.{◌≡◌, ℕ, ◌+◌, ◌<◌, ◌≤◌, ◌^◌, Bool, true, false, cond, List, [], ◌∷◌, ◌++◌, length, flat_map, refl, sym, subst, ap, ◌∙◌, arith, length-append}
 use Rattle.std.specs.List.{AllByRecursion}
 use Rattle.std.specs.Prelude.{map, ◌==◌, nat_le, ◌||◌, Result, Ok, Err, OnOk, OnErr}
 use Rattle.std.proofs.lemmas.Bool.Decides.{nat_tests}
@@ -37,13 +37,17 @@ counted_is version n offsets rows r e f = ap (λ (l : List ℕ). cond (version =
   where
     before : List ℕ
     before = offsets_of version (spelled version rows)
+
     at : ℕ
     at = length (flat_map (λ b. b) (spelled version rows))
+
     grown : offsets_of version (spelled version (rows ++ r ∷ [])) ≡ before ++ named version n at
     grown = ap (offsets_of version) (spelled_more version rows r) ∙ offsets_more version n at (spelled version rows) (row_bytes version (longest (front_key version rows) r.key) r) (e ∙ sym (length_spelled version rows)) refl
+
     last : (s : Bool) → length (before ++ cond s (at ∷ []) []) ≡ length before + cond s 1 0
     last true = length-append before (at ∷ [])
     last false = length-append before []
+
     by : (t : Bool) → cond t (length before) (length (before ++ cond (cond t true (is_restart n)) (at ∷ []) [])) ≡ length before + cond t 0 (cond (is_restart n) 1 0)
     by true = omega arith
     by false = last (is_restart n)

@@ -1,12 +1,12 @@
 -- A row more behind rows that are spelled.
-use Rattle.std.proofs.Common.{◌≡◌, ℕ, suc, ◌+◌, ◌*◌, ◌-◌, ◌<◌, ◌≤◌, ◌^◌, Bool, true, false, cond, List, [], ◌∷◌, ◌++◌, length, flat_map, refl, sym, subst, ap, ◌∙◌, append_assoc, arith, length-append, length-drop}
-use Rattle.std.specs.Prelude.{◌==◌, nat_le, ◌||◌, drop}
+use Rattle.std.proofs.Common.{◌≡◌, ℕ, suc, ◌+◌, ◌<◌, ◌≤◌, ◌^◌, Bool, true, false, cond, List, [], ◌∷◌, ◌++◌, length, flat_map, refl, sym, ap, ◌∙◌, append_assoc, arith, length-append}
+use Rattle.std.specs.Prelude.{◌==◌}
 use Rattle.std.specs.List.{AllByRecursion}
 use Rattle.std.proofs.lemmas.Bool.Decides.{nat_tests}
 use Rattle.std.proofs.lemmas.Grind.{flat_map-append}
 use Rattle.std.proofs.lemmas.List.{append-nil}
 use Rattle.slate_types.specs.declared.types.RowEntry.{RowEntry}
-use Rattle.slate_types.specs.Rows.{bytes_of, encoded_size}
+use Rattle.slate_types.specs.Rows.{bytes_of}
 use Rattle.slate_block.specs.Varint.{varint}
 use Rattle.slate_block.specs.RowSpelling.{v1_bytes, v2_bytes, meta_bytes}
 use Rattle.slate_block.specs.BlockSpelling.{entry_v1, entry_v2, is_restart, shared_with, places, restarts, offsets_of, longest, spelled, spelled_v1, spelled_v2, FitsRow}
@@ -39,8 +39,8 @@ spelled_more version (s ∷ ss) r = by (version == 1)
   where
     by : (t : Bool) → cond t (v1_bytes (entry_v1 0 s) ∷ spelled_v1 s.key (ss ++ r ∷ [])) (spelled_v2 0 [] (s ∷ (ss ++ r ∷ [])))
         ≡ cond t (v1_bytes (entry_v1 0 s) ∷ spelled_v1 s.key ss) (spelled_v2 0 [] (s ∷ ss))
-            ++ (cond t (v1_bytes (entry_v1 (longest (cond t s.key (shared_with (length (s ∷ ss)) (last_key [] (s ∷ ss)))) r.key) r))
-                (v2_bytes (entry_v2 (longest (cond t s.key (shared_with (length (s ∷ ss)) (last_key [] (s ∷ ss)))) r.key) r)) ∷ [])
+        ++ (cond t (v1_bytes (entry_v1 (longest (cond t s.key (shared_with (length (s ∷ ss)) (last_key [] (s ∷ ss)))) r.key) r))
+        (v2_bytes (entry_v2 (longest (cond t s.key (shared_with (length (s ∷ ss)) (last_key [] (s ∷ ss)))) r.key) r)) ∷ [])
     by true = ap (λ (l : List (List ℕ)). v1_bytes (entry_v1 0 s) ∷ l) (more_v1 s.key ss r)
     by false = more_v2 0 (length (s ∷ ss)) [] (s ∷ ss) r (omega arith)
 
@@ -70,6 +70,7 @@ offsets_more version n at bs b e f = by (version == 1)
   where
     placed : places 0 (bs ++ b ∷ []) ≡ places 0 bs ++ (at ∷ [])
     placed = more_places 0 at bs b (omega (arith, f))
+
     by : (t : Bool) → cond t (places 0 (bs ++ b ∷ [])) (restarts 0 (places 0 (bs ++ b ∷ []))) ≡ cond t (places 0 bs) (restarts 0 (places 0 bs)) ++ cond (cond t true (is_restart n)) (at ∷ []) []
     by true = placed
     by false = ap (restarts 0) placed ∙ more_restarts 0 n (places 0 bs) at (omega (arith, e, length_places 0 bs))
@@ -199,7 +200,7 @@ holds_more version body offsets n front rows r h fits small few =
       each = all_more FitsRow rows (r ∷ []) h.each (fits, tt);
       is_body = (λ i. h.is_body i ++ row_bytes version (longest (h.front_is i) r.key) r) ∙ sym (joined_more version rows r);
       are_offsets = ap (λ (l : List ℕ). l ++ named version n (length body)) h.are_offsets ∙ sym (ap (offsets_of version) (spelled_more version rows r)
-        ∙ offsets_more version n (length body) (spelled version rows) b (h.counted ∙ sym (length_spelled version rows)) (ap length h.is_body));
+          ∙ offsets_more version n (length body) (spelled version rows) b (h.counted ∙ sym (length_spelled version rows)) (ap length h.is_body));
       fit = all_more (λ p. p < 2 ^ 16) offsets (named version n (length body)) h.fit (named_fits version n (length body) small);
       counted = grown;
       few = omega (arith, grown, few);

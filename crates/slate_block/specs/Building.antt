@@ -11,7 +11,7 @@
 --     IsSamePart old new, IsLongerPart old n r new      the same is kept, or that with a row more, the first n bytes of its key left out
 --     Building      what a builder is seen as: the version, the block size, and the rows that it took
 --     with_row b r      the same with a row more
-use Rattle.std.specs.Prelude.{◌≡◌, ℕ, ◌+◌, ◌*◌, ◌^◌, ◌<◌, ◌≤◌, Bool, true, if◌then◌else◌, ◌==◌, ◌||◌, nat_le, List, [], ◌∷◌, ◌++◌, length, flat_map}
+use Rattle.std.specs.Prelude.{◌≡◌, ℕ, ◌+◌, ◌*◌, ◌^◌, ◌<◌, Bool, true, if◌then◌else◌, ◌==◌, ◌||◌, nat_le, List, [], ◌∷◌, ◌++◌, length, flat_map}
 use Rattle.std.specs.List.{AllByRecursion}
 use mathlib.Core.Equiv.{IsContr, IsContr-prop}
 use Rattle.slate_types.specs.declared.types.RowEntry.{RowEntry}

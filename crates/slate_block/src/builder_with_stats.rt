@@ -93,9 +93,18 @@ fn stats_of_row(entry: &RowEntry) -> BlockStats
 {
     let none = BlockStats::default();
     match entry.value {
-        ValueDeletable::Value(_) => BlockStats { num_puts: 1, ..none },
-        ValueDeletable::Tombstone => BlockStats { num_deletes: 1, ..none },
-        ValueDeletable::Merge(_) => BlockStats { num_merges: 1, ..none },
+        ValueDeletable::Value(_) => BlockStats {
+            num_puts: 1,
+            ..none
+        },
+        ValueDeletable::Tombstone => BlockStats {
+            num_deletes: 1,
+            ..none
+        },
+        ValueDeletable::Merge(_) => BlockStats {
+            num_merges: 1,
+            ..none
+        },
     }
 }
 

@@ -1,11 +1,11 @@
-use Rattle.std.proofs.Common.{◌≡◌, ◌<◌, ◌≤◌, ◌^◌, ◌∙◌, ◌+◌, true, sym, ap, subst, length, arith, rules}
+use Rattle.std.proofs.Common.{◌≡◌, ◌<◌, ◌^◌, ◌∙◌, ◌+◌, true, sym, ap, length, arith, rules}
 use Rattle.std.proofs.lemmas.Bool.Decides.{nat_tests}
 use Rattle.std.proofs.lemmas.Result.{err_from_is_err_and}
 use Rattle.slate_block.specs.RowSpelling.{FitsStamp}
 use Rattle.slate_block.specs.BlockSpelling.{FitsRow, longest}
 use Rattle.slate_block.specs.Building.{Building, number, front_key, with_row}
 use Rattle.slate_block.specs.Fitting.{fits_in}
-use Rattle.slate_block.proofs.HeldLaws.{Leaves, held_room, tried_held, seen_same, seen_longer}
+use Rattle.slate_block.proofs.HeldLaws.{PartHeld, Leaves, held_room, tried_held, seen_same, seen_longer}
 use Rattle.slate_block.proofs.builder.BlockBuilder.add.Goals as goal
 
 -- what is known where the row is taken
@@ -40,9 +40,12 @@ invariant_of-self-inside c =
 pub returns-in_err-append-clause-unchanged : goal.returns-in_err-append-clause-unchanged
 returns-in_err-append-clause-unchanged c =
     let p = err_from_is_err_and c.from_residual.result c.from_residual.ensures.1 in
-    rw p.1 (seen_same c.self.inside.block_size c.self.inside.part c.append.new.self c.self.inside.held c.self-1.given.0 c.in_err-append.ensures.unchanged ∙ c.self.view_is)
+    let same = λ (k : PartHeld c.append.new.self). seen_same c.self.inside.block_size c.self.inside.part c.append.new.self c.self.inside.held k c.in_err-append.ensures.unchanged ∙ c.self.view_is in
+    rw p.1 (search (rules, same))
 
 pub returns-clause-taken : goal.returns-clause-taken
-returns-clause-taken c = λ _. seen_longer c.self.inside.block_size c.shared-shared.result c.self.inside.part c.append.new.self c.args.entry c.self.inside.held c.self-1.given.0
+returns-clause-taken c =
+    let longer = λ (k : PartHeld c.append.new.self). seen_longer c.self.inside.block_size c.shared-shared.result c.self.inside.part c.append.new.self c.args.entry c.self.inside.held k
     (leaves c.before.before.before.before) (fits_row c.before.before.before.before) (space c.before.before.before.before) c.in_ok-append.ensures.appended
-    ∙ ap (λ (b : Building). with_row b c.args.entry) c.self.view_is
+    ∙ ap (λ (b : Building). with_row b c.args.entry) c.self.view_is in
+    λ _. search (rules, longer)

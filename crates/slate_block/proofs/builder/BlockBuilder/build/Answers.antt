@@ -1,7 +1,7 @@
-use Rattle.std.proofs.Common.{◌≡◌, ◌<◌, ◌^◌, ◌∙◌, sym, ap, subst, map, arith}
-use Rattle.slate_block.specs.BlockSpelling.{IsBlockOf, FitsBlock, as_read, block_spelling, block_bytes}
+use Rattle.std.proofs.Common.{◌<◌, subst, map, arith}
+use Rattle.slate_block.specs.BlockSpelling.{IsBlockOf, FitsBlock, as_read}
 use Rattle.slate_block.specs.Building.{Building}
-use Rattle.slate_block.proofs.HeldLaws.{held_fits, held_block, held_bytes}
+use Rattle.slate_block.proofs.HeldLaws.{held_fits, held_block}
 use Rattle.slate_block.proofs.builder.BlockBuilder.build.Goals as goal
 
 pub returns-clause-block : goal.returns-clause-block

@@ -1,5 +1,5 @@
-use Rattle.std.proofs.Common.{◌≡◌, List, [], refl, sym, subst, ap, ℕ}
-use Rattle.slate_block.specs.Building.{number, Holds, Held}
+use Rattle.std.proofs.Common.{◌≡◌, List, [], sym, subst, ℕ}
+use Rattle.slate_block.specs.Building.{number, Holds}
 use Rattle.slate_block.proofs.HeldOnce.{held_alone}
 use Rattle.slate_block.proofs.HeldLaws.{nothing_held}
 use Rattle.slate_block.proofs.builder.BlockBuilder.of_version.Goals as goal

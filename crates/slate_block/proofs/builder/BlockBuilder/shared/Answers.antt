@@ -1,4 +1,4 @@
-use Rattle.std.proofs.Common.{nat_eq, arith}
+use Rattle.std.proofs.Common.{nat_eq}
 use Rattle.std.proofs.lemmas.List.Sums.{common_prefix_len-le}
 use Rattle.slate_block.proofs.builder.BlockBuilder.shared.Goals as goal
 
