@@ -1,4 +1,4 @@
-//! The fields of a row, read where they stand. A field that fails is refused with the place of its first byte.
+//! Fields of rows and of what stands beside them, read where they stand. A field that fails is refused with the place of its first byte.
 ghost use Rattle.std.specs.Prelude.{◌≡◌, ◌≤◌, ◌<◌, ℕ, length, slice_index, IfOk};
 ghost use Rattle.std.specs.Int.{w16, w32, w64};
 ghost use Rattle.slate_block.specs.Damage.{
@@ -68,6 +68,7 @@ fn varint_field(bytes: &[u8], at: usize) -> Result<(u32, usize), SlateDBError>
     }
 }
 
+/// A number of two bytes, and the place behind it. `CorruptTable` with the place where the bytes end before.
 #[tactic(auto, unfolding(crate::specs::Damage::number_field))]
 pub fn u16_field(bytes: &[u8], at: usize) -> Result<(u16, usize), SlateDBError>
     requires { at ≤ length bytes.now }
@@ -81,8 +82,9 @@ pub fn u16_field(bytes: &[u8], at: usize) -> Result<(u16, usize), SlateDBError>
     Ok((u16::from_be_bytes([rest[0], rest[1]]), at + 2))
 }
 
+/// A number of four bytes, and the place behind it. `CorruptTable` with the place where the bytes end before.
 #[tactic(auto, unfolding(crate::specs::Damage::number_field))]
-fn u32_field(bytes: &[u8], at: usize) -> Result<(u32, usize), SlateDBError>
+pub fn u32_field(bytes: &[u8], at: usize) -> Result<(u32, usize), SlateDBError>
     requires { at ≤ length bytes.now }
     ensures value { result ≡ number_field w32 bytes.now at }
     ensures within { IfOk result (λ field. field.1 ≤ length bytes.now) }
@@ -95,8 +97,9 @@ fn u32_field(bytes: &[u8], at: usize) -> Result<(u32, usize), SlateDBError>
     Ok((number, at + 4))
 }
 
+/// A number of eight bytes, and the place behind it. `CorruptTable` with the place where the bytes end before.
 #[tactic(auto, unfolding(crate::specs::Damage::number_field))]
-fn u64_field(bytes: &[u8], at: usize) -> Result<(u64, usize), SlateDBError>
+pub fn u64_field(bytes: &[u8], at: usize) -> Result<(u64, usize), SlateDBError>
     requires { at ≤ length bytes.now }
     ensures value { result ≡ number_field w64 bytes.now at }
     ensures within { IfOk result (λ field. field.1 ≤ length bytes.now) }
@@ -111,8 +114,9 @@ fn u64_field(bytes: &[u8], at: usize) -> Result<(u64, usize), SlateDBError>
     Ok((number, at + 8))
 }
 
+/// So many bytes: their place, and the place behind them. `CorruptTable` with the place where the bytes end before.
 #[tactic(auto, unfolding(crate::specs::Damage::block_field))]
-fn block_field(len: usize, bytes: &[u8], at: usize) -> Result<(usize, usize), SlateDBError>
+pub fn block_field(len: usize, bytes: &[u8], at: usize) -> Result<(usize, usize), SlateDBError>
     requires { at ≤ length bytes.now }
     ensures value { result ≡ block_field len bytes.now at }
     ensures within { IfOk result (λ field. (field.0 ≤ field.1) × (field.1 ≤ length bytes.now)) }
