@@ -12,3 +12,4 @@ pub mod OffsetLaws
 pub mod LongestFronts
 pub mod BlockLaws
 pub mod WrittenLaws
+pub mod WalkLaws
