@@ -1,6 +1,6 @@
 //! Rows of version 1 where they stand in a block's rows' part.
-ghost use Rattle.std.specs.Prelude.{◌≡◌, ◌≤◌, ◌+◌, ◌<◌, ◌^◌, ◌⊎◌, ℕ, true, false, Some, Ok, Err, length, drop, slice_get, IfOk, IfErr};
-ghost use Rattle.slate_block.specs.Walks.{moved, moved_result, between, next_place, row_v1_in, row_upto, whole_v1, is_restored, reads_v1, first_key_v1};
+ghost use Rattle.std.specs.Prelude.{◌≡◌, ◌≤◌, ◌+◌, ◌<◌, ◌^◌, ◌⊎◌, ◌&&◌, nat_lt, ℕ, true, false, Some, Ok, Err, length, drop, slice_get, IfOk, IfErr};
+ghost use Rattle.slate_block.specs.Walks.{moved, moved_result, between, next_place, row_v1_in, row_upto, whole_v1, is_restored, reads_v1, first_key_v1, begins_at_zero, block_reads_v1, block_rows, all_ok};
 ghost use Rattle.slate_block.specs.RowReading.{row_v1_of};
 ghost use Rattle.slate_block.specs.BlockWalks.{IsDamage};
 
@@ -10,6 +10,9 @@ use crate::row::SstRowEntry;
 use bytes::Bytes;
 use slate_types::{RowEntry, SlateDBError};
 use std::alloc::Global;
+
+/// The greatest number of rows that a block names.
+const MAX_ROWS: usize = 65535;
 
 /// A refusal of bytes that begin at a place, with its place in the whole.
 pub fn moved(at: usize, error: SlateDBError) -> SlateDBError
@@ -156,4 +159,28 @@ pub fn first_key(alloc: Global, body: &Bytes, offsets: &[u16]) -> Result<Bytes, 
     let upto = place_behind(body.len(), offsets, 0);
     let row = row_upto(alloc, body, &[], offsets[0] as usize, upto)?;
     Ok(row.key)
+}
+
+/// Whether the offsets are as many as a block can name, and begin at 0.
+fn are_named(offsets: &[u16]) -> bool
+    ensures { result ≡ (begins_at_zero offsets.now && nat_lt (length offsets.now) (2 ^ 16)) }
+{
+    match offsets.first() {
+        Some(first) => *first == 0 && offsets.len() <= MAX_ROWS,
+        None => false,
+    }
+}
+
+/// The key by which all rows of the block are read, its first.
+#[tactic(auto, unfolding(crate::specs::Walks::block_reads_v1, crate::specs::Walks::block_rows_v1, crate::specs::Walks::block_rows))]
+pub fn block_key(alloc: Global, body: &Bytes, offsets: &[u16]) -> Result<Bytes, SlateDBError>
+    ensures reads { IfOk result (λ key. block_reads_v1 body.now offsets.now ≡ Ok (reads_v1 body.now key offsets.now (length body.now))) }
+    ensures rows { IfOk result (λ key. block_rows 1 body.now offsets.now ≡ all_ok (reads_v1 body.now key offsets.now (length body.now))) }
+    ensures cause { IfErr result (λ e. (e ≡ SlateDBError.OutOfMemory) ⊎ (block_rows 1 body.now offsets.now ≡ Err e)) }
+    ensures damage { IfErr result (λ e. (e ≡ SlateDBError.OutOfMemory) ⊎ IsDamage e) }
+{
+    if !are_named(offsets) {
+        return Err(corrupt(0));
+    }
+    first_key(alloc, body, offsets)
 }
