@@ -13,3 +13,4 @@ pub mod LongestFronts
 pub mod BlockLaws
 pub mod WrittenLaws
 pub mod WalkLaws
+pub mod SeekLaws

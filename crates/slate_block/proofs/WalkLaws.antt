@@ -12,7 +12,7 @@ use Rattle.slate_types.specs.declared.iter.IterationOrder.TheVariants.{Ascending
 use Rattle.slate_types.specs.Iteration.{IsInOrder}
 use Rattle.slate_block.specs.Damage.{◌>>=◌}
 use Rattle.slate_block.specs.Walks.{next_place, row_upto, RowRead, reads_v1, all_ok, before}
-use Rattle.slate_block.specs.BlockWalks.{in_order, place_in, rows_of, IsRising}
+use Rattle.slate_block.specs.BlockWalks.{in_order, place_in, rows_of, IsDamage, Refuses, IsRising}
 
 -- the row at an index is read up to the next place
 pub read_at : (body first ats : List ℕ) (end i : ℕ) → i < length ats → slice_get (reads_v1 body first ats end) i ≡ Some (row_upto body first (get_or ats i 0) (next_place end (drop (i + 1) ats)))
@@ -82,12 +82,12 @@ reverse_slice_drop xs start end n le within =
     let e = length-reverse rest in
     let f = length-drop n (reverse part) in
     same_lists (drop n (reverse part)) (reverse rest) (omega (arith, a, b, c, e, f, le)) (λ k d lt.
-        let i = length part - 1 - (n + k) in
-        let j = length rest - 1 - k in
-        let same : start + i ≡ start + j = omega (arith, a, b, c, f, lt, le) in
-        get_or-drop n (reverse part) k d ∙ get_or-reverse part (n + k) d (omega (arith, a, c, f, lt)) ∙ get_or_slice xs start end i d (omega (arith, a, c, f, lt))
-        ∙ ap (λ (p : ℕ). get_or xs p d) same
-        ∙ sym (get_or_slice xs start (end - n) j d (omega (arith, a, b, c, f, lt, le))) ∙ sym (get_or-reverse rest k d (omega (arith, a, b, c, f, lt, le))))
+    let i = length part - 1 - (n + k) in
+    let j = length rest - 1 - k in
+    let same : start + i ≡ start + j = omega (arith, a, b, c, f, lt, le) in
+    get_or-drop n (reverse part) k d ∙ get_or-reverse part (n + k) d (omega (arith, a, c, f, lt)) ∙ get_or_slice xs start end i d (omega (arith, a, c, f, lt))
+    ∙ ap (λ (p : ℕ). get_or xs p d) same
+    ∙ sym (get_or_slice xs start (end - n) j d (omega (arith, a, b, c, f, lt, le))) ∙ sym (get_or-reverse rest k d (omega (arith, a, b, c, f, lt, le))))
 
 pub whole_slice : {A : Type 0} (xs : List A) (n : ℕ) → n ≡ length xs → slice_range xs 0 n ≡ xs
 whole_slice xs n e = take_all (n - 0) xs (omega (arith, e))
@@ -98,24 +98,24 @@ in_order_twice Descending xs = reverse-reverse xs
 
 -- ---- rows of which none is refused
 
-abbrev ok_read : RowEntry → RowRead
+abbrev pub ok_read : RowEntry → RowRead
 ok_read row = Ok row
 
 pub all_ok_map : (rows : List RowEntry) → all_ok (map ok_read rows) ≡ Ok rows
 all_ok_map [] = refl
 all_ok_map (row ∷ rows) = ap (before row) (all_ok_map rows)
 
+ok_before : (row : RowEntry) (reads : List RowRead) (rest : Result (List RowEntry) SlateDBError) (rows : List RowEntry) → ((more : List RowEntry) → rest ≡ Ok more → reads ≡ map ok_read more) → before row rest ≡ Ok rows → Ok row ∷ reads ≡ map ok_read rows
+ok_before row reads (Ok more) rows h e =
+    let same : row ∷ more ≡ rows = cc in
+    subst (λ (l : List RowEntry). Ok row ∷ reads ≡ map ok_read l) same (ap (λ (l : List RowRead). Ok row ∷ l) (h more refl))
+ok_before row reads (Err d) rows h e = absurd cc
+
 pub reads_of_ok : (reads : List RowRead) (rows : List RowEntry) → all_ok reads ≡ Ok rows → reads ≡ map ok_read rows
 reads_of_ok [] [] e = refl
 reads_of_ok [] (row ∷ rows) e = absurd cc
 reads_of_ok (Err d ∷ reads) rows e = absurd cc
-reads_of_ok (Ok row ∷ reads) rows e = by (all_ok reads) refl e
-  where
-    by : (r : Result (List RowEntry) SlateDBError) → all_ok reads ≡ r → before row r ≡ Ok rows → Ok row ∷ reads ≡ map ok_read rows
-    by (Ok more) is f =
-        let same : row ∷ more ≡ rows = cc in
-        subst (λ (l : List RowEntry). Ok row ∷ reads ≡ map ok_read l) same (ap (λ (l : List RowRead). Ok row ∷ l) (reads_of_ok reads more is))
-    by (Err d) is f = absurd cc
+reads_of_ok (Ok row ∷ reads) rows e = ok_before row reads (all_ok reads) rows (λ more. reads_of_ok reads more) e
 
 map_reverse : {A B : Type 0} (f : A → B) (xs : List A) → map f (reverse xs) ≡ reverse (map f xs)
 map_reverse f [] = refl
@@ -126,3 +126,24 @@ all_ok_in_order Ascending reads rows e = e
 all_ok_in_order Descending reads rows e =
     let turned : reads ≡ map ok_read (reverse rows) = sym (reverse-reverse reads) ∙ ap (λ (l : List RowRead). reverse l) (reads_of_ok (reverse reads) rows e) ∙ sym (map_reverse ok_read rows) in
     ap all_ok turned ∙ all_ok_map (reverse rows)
+
+-- ---- refusals
+
+first_refused : (reads : List RowRead) (e : SlateDBError) → slice_get reads 0 ≡ Some (Err e) → all_ok reads ≡ Err e
+first_refused [] e h = absurd cc
+first_refused (read ∷ reads) e h = let same : read ≡ Err e = cc in ap (λ (r : RowRead). r >>= λ row. before row (all_ok reads)) same
+
+pub refused_at : (reads : List RowRead) (i : ℕ) (e m : SlateDBError) → (e ≡ m) ⊎ (slice_get reads i ≡ Some (Err e)) → (e ≡ m) ⊎ IsDamage e → (e ≡ m) ⊎ Refuses reads e
+refused_at reads i e m (inl h) d = inl h
+refused_at reads i e m (inr h) (inl d) = inl d
+refused_at reads i e m (inr h) (inr d) = inr (d, (i, h))
+
+pub refused_first : (reads : List RowRead) (e m : SlateDBError) → (e ≡ m) ⊎ (slice_get reads 0 ≡ Some (Err e)) → (e ≡ m) ⊎ IsDamage e → (e ≡ m) ⊎ ((all_ok reads ≡ Err e) × Refuses reads e)
+refused_first reads e m (inl h) d = inl h
+refused_first reads e m (inr h) (inl d) = inl d
+refused_first reads e m (inr h) (inr d) = inr (first_refused reads e h, (d, (0, h)))
+
+pub refuses_dropped : (n : ℕ) (reads : List RowRead) (e : SlateDBError) → Refuses (drop n reads) e → Refuses reads e
+refuses_dropped zero reads e h = h
+refuses_dropped (suc n) [] e h = h
+refuses_dropped (suc n) (read ∷ reads) e h = let rest = refuses_dropped n reads e h in (rest.0, (suc rest.1.0, rest.1.1))

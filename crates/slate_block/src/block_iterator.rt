@@ -1,7 +1,8 @@
 //! The rows of a block of version 1, one at a time.
-ghost use Rattle.std.specs.Prelude.{◌≡◌, ◌↔◌, ◌+◌, ◌≤◌, ◌<◌, ◌⊎◌, ℕ, List, [], Ok, Err, Some, length, drop, slice_get, IsTrue, IfOk, IfErr, OnErr};
+ghost use Rattle.std.specs.Prelude.{◌≡◌, ◌↔◌, ◌+◌, ◌≤◌, ◌<◌, ◌⊎◌, ℕ, List, [], Ok, Err, Some, length, drop, true, false, slice_get, IsTrue, IfOk, IfErr, OnOk, OnErr};
+ghost use Rattle.slate_types.specs.declared.error.SlateDBError.{SlateDBError};
 ghost use Rattle.slate_types.specs.declared.types.RowEntry.{RowEntry};
-ghost use Rattle.slate_types.specs.Iteration.{drop_before};
+ghost use Rattle.slate_types.specs.Iteration.{drop_before, NoneBefore};
 ghost use Rattle.slate_block.specs.Walks.{all_ok, block_reads_v1, block_rows};
 ghost use Rattle.slate_block.specs.BlockWalks.{in_order, left, place_in, rows_of, IsDamage, IsRising, Refuses, TakesLeft, TakesRead, rising_rows};
 
@@ -125,5 +126,81 @@ impl<B: BlockLike> BlockIterator<B> {
         let row = self.row(alloc, 0)?;
         self.skip(1);
         Ok(Some(row))
+    }
+
+    /// How many leading rows the order puts before the key, where the rows come in the order.
+    #[tactic(auto, using(crate::proofs::SeekLaws::passed, crate::proofs::SeekLaws::reached, crate::proofs::SeekLaws::none_behind, crate::proofs::SeekLaws::found))]
+    fn rows_before(&self, alloc: Global, key: &[u8]) -> Result<usize, SlateDBError>
+        ensures within { IfOk result (λ count. count ≤ length self.now.reads) }
+        ensures exact { IfOk result (λ count. IsRising self.now.order (left self.now) → drop count (rows_of (left self.now)) ≡ drop_before self.now.order key.now (rows_of (left self.now))) }
+        ensures cause { IfErr result (λ e. (e ≡ SlateDBError.OutOfMemory) ⊎ Refuses self.now.reads e) }
+    {
+        let mut low = 0;
+        let mut high = self.rows_left();
+        while low < high {
+            let middle = low + (high - low) / 2;
+            if self.is_before(alloc, middle, key)? {
+                low = middle + 1;
+            } else {
+                high = middle;
+            }
+        }
+        Ok(low)
+    }
+
+    /// Whether the order puts the row at an index before the key.
+    fn is_before(&self, alloc: Global, index: usize, key: &[u8]) -> Result<bool, SlateDBError>
+        requires { index < length self.now.reads }
+        ensures passed { IfOk result (λ before. before ≡ true → IsRising self.now.order (left self.now) → drop_before self.now.order key.now (drop (index + 1) (rows_of (left self.now))) ≡ drop_before self.now.order key.now (rows_of (left self.now))) }
+        ensures reached { IfOk result (λ before. before ≡ false → IsRising self.now.order (left self.now) → NoneBefore self.now.order key.now (drop index (rows_of (left self.now)))) }
+        ensures cause { IfErr result (λ e. (e ≡ SlateDBError.OutOfMemory) ⊎ Refuses self.now.reads e) }
+    {
+        let row = self.row(alloc, index)?;
+        Ok(self.order.puts_before(row.key.as_slice(), key))
+    }
+
+    /// Takes off exactly the leading rows that the order puts before the key, where the rows come in the order. A
+    /// refusal is one of the rows that are left.
+    fn skip_before(&mut self, alloc: Global, key: &[u8]) -> Result<(), SlateDBError>
+        ensures rows { IsRising self.old.order (left self.old) → OnOk result (left self.new ≡ Ok (drop_before self.old.order key.now (rows_of (left self.old)))) }
+        ensures fewer { (e : SlateDBError) → Refuses self.new.reads e → Refuses self.old.reads e }
+        ensures smaller { length self.new.reads ≤ length self.old.reads }
+        ensures order { self.new.order ≡ self.old.order }
+        ensures cause { IfErr result (λ e. (e ≡ SlateDBError.OutOfMemory) ⊎ Refuses self.old.reads e) }
+        ensures unchanged { OnErr result (self.new ≡ self.old) }
+    {
+        let count = self.rows_before(alloc, key)?;
+        self.skip(count);
+        Ok(())
+    }
+}
+
+impl<E: Outside, B: BlockLike> RowEntryIterator<E> for BlockIterator<B> {
+    ghost rest = { λ it _. rows_of (left it) };
+
+    ghost sound = { λ it _. IsRising it.order (left it) };
+
+    ghost order = { λ it. it.order };
+
+    ghost bound = { λ it. length it.reads };
+
+    ghost refuses = { λ it _ _ e. Refuses it.reads e };
+
+    ghost rising = { λ it _ h. rising_rows it.order (left it) h };
+
+    fn init(&mut self, _alloc: Global, _env: &mut E) -> Result<(), SlateDBError> {
+        Ok(())
+    }
+
+    #[tactic(auto, using(crate::proofs::SeekLaws::step_rows, crate::proofs::SeekLaws::step_rising, crate::proofs::SeekLaws::step_fewer, crate::proofs::SeekLaws::step_smaller, crate::proofs::SeekLaws::step_no_larger))]
+    fn next(&mut self, alloc: Global, _env: &mut E) -> Result<Option<RowEntry>, SlateDBError> {
+        let answer = self.next_row(alloc)?;
+        Ok(answer)
+    }
+
+    #[tactic(auto, using(crate::proofs::SeekLaws::sought_rising))]
+    fn seek(&mut self, alloc: Global, key: &[u8], _env: &mut E) -> Result<(), SlateDBError> {
+        self.skip_before(alloc, key)?;
+        Ok(())
     }
 }
