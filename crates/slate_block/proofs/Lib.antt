@@ -14,3 +14,4 @@ pub mod BlockLaws
 pub mod WrittenLaws
 pub mod WalkLaws
 pub mod SeekLaws
+pub mod WalkedBlocks
