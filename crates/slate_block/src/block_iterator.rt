@@ -6,12 +6,14 @@ ghost use Rattle.slate_types.specs.Iteration.{drop_before, NoneBefore};
 ghost use Rattle.slate_block.specs.Walks.{all_ok, block_reads_v1, block_rows};
 ghost use Rattle.slate_block.specs.BlockWalks.{in_order, left, place_in, rows_of, IsDamage, IsRising, Refuses, TakesLeft, TakesRead, rising_rows};
 
+use crate::block::Block;
 use crate::block_like::BlockLike;
 use crate::places::{block_key, row_at};
 use bytes::Bytes;
 use slate_types::{IterationOrder, Outside, RowEntry, RowEntryIterator, SlateDBError};
 use std::alloc::Global;
 use std::marker::Model;
+use std::sync::Arc;
 
 /// The rows of a block of version 1 that are left, in an order. After a refusal it stands where it stood.
 #[derive(Drop)]
@@ -203,4 +205,12 @@ impl<E: Outside, B: BlockLike> RowEntryIterator<E> for BlockIterator<B> {
         self.skip_before(alloc, key)?;
         Ok(())
     }
+}
+
+fn crosses<T: Send + Sync>() {}
+
+/// An iterator goes to other threads, and is shared between them, as its block does.
+pub fn block_iterators_cross_threads() {
+    crosses::<BlockIterator<Block>>();
+    crosses::<BlockIterator<Arc<Block>>>();
 }
