@@ -1,5 +1,5 @@
 -- A walk over a block of version 1 is refused nowhere exactly where the bytes are those of a block.
-use Rattle.std.proofs.Common.{◌≡◌, ℕ, zero, suc, ◌+◌, ◌-◌, ◌^◌, ◌<◌, ◌≤◌, Bool, true, false, cond, ◌&&◌, eqb, ltb, leb, List, [], ◌∷◌, ◌++◌, length, take, drop, flat_map, Result, Ok, Err, refl, sym, ap, subst, ◌∙◌, arith, inl, inr}
+use Rattle.std.proofs.Common.{◌≡◌, ℕ, ◌+◌, ◌-◌, ◌^◌, ◌<◌, ◌≤◌, Bool, true, false, cond, ◌&&◌, eqb, ltb, leb, List, [], ◌∷◌, ◌++◌, length, take, drop, flat_map, Result, Ok, Err, refl, sym, ap, subst, ◌∙◌, arith, inl, inr}
 use Rattle.std.specs.Prelude.{slice_range}
 use Rattle.std.specs.List.{AllByRecursion}
 use Rattle.std.proofs.lemmas.Bool.{leb-true, le-leb, ltb-true, lt-ltb, eqb-true, eq-eqb, and_from}
@@ -10,10 +10,10 @@ use Rattle.slate_types.specs.declared.error.SlateDBError.TheVariants.{CorruptTab
 use Rattle.slate_types.specs.declared.types.RowEntry.{RowEntry}
 use Rattle.slate_block.specs.declared.row.SstRowEntry.{SstRowEntry}
 use Rattle.slate_block.specs.RowSpelling.{v1_bytes, IsRowV1}
-use Rattle.slate_block.specs.BlockSpelling.{IsKey, entry_v1, Shares, SharesV1, AreRows, places, offsets_of, IsBlockOf}
+use Rattle.slate_block.specs.BlockSpelling.{IsKey, entry_v1, Shares, SharesV1, AreRows, places, IsBlockOf}
 use Rattle.slate_block.specs.RowReading.{row_v1_of, BeginsV1}
 use Rattle.slate_block.specs.Damage.{◌>>=◌}
-use Rattle.slate_block.specs.Walks.{moved, moved_result, between, is_restored, whole_v1, row_v1_in, row_upto, next_place, RowRead, all_ok, before, reads_v1, first_key_v1, block_reads_v1, block_rows_v1, begins_at_zero, block_rows}
+use Rattle.slate_block.specs.Walks.{moved_result, between, is_restored, whole_v1, row_v1_in, row_upto, next_place, RowRead, all_ok, before, reads_v1, first_key_v1, block_reads_v1, block_rows_v1, block_rows}
 use Rattle.slate_block.proofs.Groups.{IsBytes}
 use Rattle.slate_block.proofs.FieldLaws.{IsBytes-take, IsBytes-drop, bind_ok, ok_is, behind, block_text}
 use Rattle.slate_block.proofs.ReadingLawsV1.{row_v1_begins, row_v1_within, row_v1_again}
