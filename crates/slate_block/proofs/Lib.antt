@@ -17,3 +17,6 @@ pub mod RowMore
 pub mod RowSizes
 pub mod HeldLaws
 pub mod ApartLaws
+pub mod WalkLaws
+pub mod SeekLaws
+pub mod WalkedBlocks

@@ -7,6 +7,7 @@ ghost use Rattle.slate_block.specs.ReadingLaws.{
   RowsOfV1AreFound,
   RowsOfV2AreFound,
   VarintsAreFound,
+  WalkedRowsAreBlocks1,
 };
 
 /// The number whose spelling begins bytes is found, and none where no spelling begins them.
@@ -42,4 +43,9 @@ pub fn blocks_are_taken_apart()
 /// Bytes come apart in one way, so that a decoded block is the one that was encoded.
 pub fn bytes_come_apart_once()
     ensures { BytesComeApartOnce }
+{}
+
+/// A walk over a block of version 1 is refused nowhere exactly where it is one, and reads its rows.
+pub fn blocks_of_v1_are_walked()
+    ensures { WalkedRowsAreBlocks1 }
 {}

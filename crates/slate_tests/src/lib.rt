@@ -4,6 +4,8 @@
 #[cfg(test)]
 mod blocks;
 #[cfg(test)]
+mod block_iterators;
+#[cfg(test)]
 mod lists;
 #[cfg(test)]
 mod partitions;
