@@ -18,6 +18,7 @@ use std::marker::Model;
 pub struct BlockBuilder {
     block_size: u32,
     part: RowsPart,
+    // These are the bytes and the offsets of one list of rows alone, so that contracts can name it.
     ghost held: { Held (number part.version) part.body.items part.offsets.items part.num_rows part.front_key } by { Held-prop (number part.version) part.body.items part.offsets.items part.num_rows part.front_key },
 }
 
