@@ -15,3 +15,4 @@ pub mod WrittenLaws
 pub mod WalkLaws
 pub mod SeekLaws
 pub mod WalkedBlocks
+pub mod PartLaws
