@@ -20,3 +20,4 @@ pub mod ApartLaws
 pub mod WalkLaws
 pub mod SeekLaws
 pub mod WalkedBlocks
+pub mod PartLaws

@@ -140,3 +140,32 @@ behind_fewer before after e b h = refuses_dropped b.0 before e (subst (λ (l : L
 
 pub behind_no_larger : (before after : List RowRead) → IsBehind before after → length after ≤ length before
 behind_no_larger before after b = let n : length after ≡ length (drop b.0 before) = ap (λ (l : List RowRead). length l) b.1 in omega (arith, n, length-drop b.0 before)
+
+-- where the rows come in the order, each is read
+get_map : (rows : List RowEntry) (i : ℕ) → i < length (map ok_read rows) → (row : RowEntry) × (slice_get (map ok_read rows) i ≡ Some (Ok row))
+get_map [] i lt = absurd (omega (arith, lt))
+get_map (row ∷ rows) zero lt = (row, refl)
+get_map (row ∷ rows) (suc i) lt = get_map rows i (omega (arith, lt))
+
+pub read_there : (order : IterationOrder) (reads : List RowRead) (i : ℕ) → i < length reads → IsRising order (all_ok reads) → (row : RowEntry) × (slice_get reads i ≡ Some (Ok row))
+read_there order reads i lt rising = by (all_ok reads) refl rising
+  where
+    by : (r : Result (List RowEntry) SlateDBError) → all_ok reads ≡ r → IsRising order r → (row : RowEntry) × (slice_get reads i ≡ Some (Ok row))
+    by (Ok rows) is h =
+        let same = reads_of_ok reads rows is in
+        let n : length reads ≡ length (map ok_read rows) = ap (λ (l : List RowRead). length l) same in
+        let there = get_map rows i (omega (arith, lt, n)) in
+        (there.0, ap (λ (l : List RowRead). slice_get l i) same ∙ there.1)
+    by (Err e) is h = absurd h
+
+pub passed_by : (order : IterationOrder) (key : List ℕ) (reads : List RowRead) (i : ℕ) (before : Bool) → i < length reads → ((row : RowEntry) → slice_get reads i ≡ Some (Ok row) → before ≡ comes_before order row.key key) →
+    before ≡ true → IsRising order (all_ok reads) → drop_before order key (drop (i + 1) (rows_of (all_ok reads))) ≡ drop_before order key (rows_of (all_ok reads))
+passed_by order key reads i before lt tells e rising =
+    let there = read_there order reads i lt rising in
+    passed order key reads i there.0 there.1 (sym (tells there.0 there.1) ∙ e) rising
+
+pub reached_by : (order : IterationOrder) (key : List ℕ) (reads : List RowRead) (i : ℕ) (before : Bool) → i < length reads → ((row : RowEntry) → slice_get reads i ≡ Some (Ok row) → before ≡ comes_before order row.key key) →
+    before ≡ false → IsRising order (all_ok reads) → NoneBefore order key (drop i (rows_of (all_ok reads)))
+reached_by order key reads i before lt tells e rising =
+    let there = read_there order reads i lt rising in
+    reached order key reads i there.0 there.1 (sym (tells there.0 there.1) ∙ e) rising

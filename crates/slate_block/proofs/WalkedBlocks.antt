@@ -92,9 +92,19 @@ restored n other suffix e =
       drop_at (take n other) suffix n front,
     )
 
-row_found : (body other : List ℕ) (at upto : ℕ) (row : RowEntry) → IsBytes body → row_upto body other at upto ≡ Ok row → RowStands body other at upto row
+pub record RowRuns (body : List ℕ) (other : List ℕ) (at : ℕ) (upto : ℕ) (row : RowEntry) : Type 0 where
+  pub entry : SstRowEntry
+  pub len : ℕ
+  pub ordered : at ≤ upto
+  pub within : upto ≤ length body
+  pub read : row_v1_of (slice_range body at upto) ≡ Ok (entry, len)
+  pub end : at + len ≡ upto
+  pub fine : is_restored entry.key_prefix_len other entry.key_suffix ≡ true
+  pub same : whole_v1 other entry ≡ row
+
+pub row_runs : (body other : List ℕ) (at upto : ℕ) (row : RowEntry) → row_upto body other at upto ≡ Ok row → RowRuns body other at upto row
 unfolding row_upto row_v1_in between
-row_found body other at upto row fits e =
+row_runs body other at upto row e =
     let a = bind_ok (row_v1_in body other at upto) (λ found. cond (eqb found.1 upto) (Ok found.0) (Err (CorruptTable found.1))) row e in
     let b = passed (eqb a.0.1 upto) (CorruptTable a.0.1) a.0.0 row a.2 in
     let c = bind_ok (between body at upto) (λ bytes. moved_result at (row_v1_of bytes) >>= λ found. cond (is_restored found.0.key_prefix_len other found.0.key_suffix) (Ok (whole_v1 other found.0, at + found.1)) (Err (CorruptTable at))) a.0 a.1 in
@@ -105,24 +115,36 @@ row_found body other at upto row fits e =
     let bytes = slice_range body at upto in
     let g = passed (leb at upto && leb upto (length body)) (CorruptTable at) bytes c.0 c.1 in
     let h = both_true (leb at upto) (leb upto (length body)) g.0 in
-    let ordered : at ≤ upto = leb-true _ _ h.0 in
-    let within : upto ≤ length body = leb-true _ _ h.1 in
     let read : row_v1_of bytes ≡ Ok d.0 = ap row_v1_of g.1 ∙ unmoved at (row_v1_of c.0) d.0 d.1 in
-    let k = restored entry.key_prefix_len other entry.key_suffix f.0 in
-    let end : at + d.0.1 ≡ upto = ap (λ (p : RowEntry × ℕ). p.1) f.1 ∙ eqb-true _ _ b.0 in
-    let size = length_between body at upto ordered within in
-    let spelled : IsRowV1 bytes entry = filled bytes entry d.0.1 (IsBytes-between body at upto fits) read (omega (arith, size, end, ordered)) in
-    let same : whole_v1 other entry ≡ row = ap (λ (p : RowEntry × ℕ). p.0) f.1 ∙ b.1 in
+    record {
+      entry = entry;
+      len = d.0.1;
+      ordered = leb-true _ _ h.0;
+      within = leb-true _ _ h.1;
+      read = read;
+      end = ap (λ (p : RowEntry × ℕ). p.1) f.1 ∙ eqb-true _ _ b.0;
+      fine = f.0;
+      same = ap (λ (p : RowEntry × ℕ). p.0) f.1 ∙ b.1;
+    }
+
+row_found : (body other : List ℕ) (at upto : ℕ) (row : RowEntry) → IsBytes body → row_upto body other at upto ≡ Ok row → RowStands body other at upto row
+row_found body other at upto row fits e =
+    let r = row_runs body other at upto row e in
+    let entry = r.entry in
+    let bytes = slice_range body at upto in
+    let k = restored entry.key_prefix_len other entry.key_suffix r.fine in
+    let size = length_between body at upto r.ordered r.within in
+    let spelled : IsRowV1 bytes entry = filled bytes entry r.len (IsBytes-between body at upto fits) r.read (omega (arith, size, r.end, r.ordered)) in
     let shorter : entry ≡ entry_v1 entry.key_prefix_len (whole_v1 other entry) = λ i. record { key_prefix_len = entry.key_prefix_len; key_suffix = sym k.2 i; seq = entry.seq; expire_ts = entry.expire_ts; create_ts = entry.create_ts; value = entry.value } in
     let stands : RowStands body other at upto (whole_v1 other entry) = record {
-      ordered = ordered;
-      within = within;
+      ordered = r.ordered;
+      within = r.within;
       shared = entry.key_prefix_len;
       shares = k.0;
       spelled = subst (λ (x : SstRowEntry). IsRowV1 bytes x) shorter spelled;
       key = k.1;
     } in
-    subst (λ (r : RowEntry). RowStands body other at upto r) same stands
+    subst (λ (r : RowEntry). RowStands body other at upto r) r.same stands
 
 row_again : (body other : List ℕ) (at upto : ℕ) (row : RowEntry) → IsBytes body → RowStands body other at upto row → row_upto body other at upto ≡ Ok row
 unfolding row_upto row_v1_in between

@@ -5,7 +5,7 @@
 --     varint_field, number_field, block_field, flags_field, stamp_field      the fields of a row
 --     head_layout, stamps_layout, value_layout      fields that stand together
 --     layout_v1 bytes, layout_v2 bytes      the fields of a row in their order, from the front of the bytes
---     key_layout_v2 bytes      those up to the suffix of the key
+--     key_layout_v1 bytes, key_layout_v2 bytes      those up to the suffix of the key
 --     length_agrees flags key      a tombstone's value has the length 0
 --     AreWithin fields bytes      the places are in the bytes
 --     IsDamageIn n e      a refusal for damage, whose place is at most n
@@ -107,6 +107,13 @@ layout_v1 bytes = do
   stamps ← stamps_layout head.0.1 bytes head.1
   value ← value_layout (has 1 head.0.1) bytes stamps.1
   Ok (shared.0, record { suffix_at = suffix.0; suffix_end = suffix.1; value_at = value.0; value_end = value.1; seq = head.0.0; flags = head.0.1; expire_ts = stamps.0.0; create_ts = stamps.0.1; end = value.1 })
+
+unfoldable pub key_layout_v1 : List ℕ → Result (ℕ × (ℕ × ℕ)) SlateDBError
+key_layout_v1 bytes = do
+  shared ← number_field w16 bytes 0
+  suffix_len ← number_field w16 bytes shared.1
+  suffix ← block_field suffix_len.0 bytes suffix_len.1
+  Ok (shared.0, suffix)
 
 unfoldable pub key_layout_v2 : List ℕ → Result KeyFields SlateDBError
 key_layout_v2 bytes = do

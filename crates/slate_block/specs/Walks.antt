@@ -1,11 +1,12 @@
 -- A block's rows, read one behind the other.
 --     moved at e      the refusal of a field, with its place in the rows' part, where a row's bytes begin at a place
---     row_in version body other from upto      the row at a place of the rows' part, whose key leaves out a front of the other key, and the place behind it; or the refusal
+--     row_v1_in, row_v2_in body other from upto      the row at a place of the rows' part, whose key leaves out a front of the other key, and the place behind it; or the refusal
 --     before row left, joined first second      a row before others, and rows before others, or the first refusal
 --     next_place end ats      where the next row, or the next restart, begins
+--     row_upto body other at upto      the row of version 1 between two places, which it fills
 --     all_ok reads      what was read, or the first refusal
 --     reads_v1 body first ats end      what each row of version 1 at these places is read as, up to the next place
---     block_reads_v1 body offsets      the same of a block's rows; or why its first row is refused
+--     first_key_v1 body offsets, block_reads_v1 body offsets      a block's first key, and what each of its rows is read as; or why its first row is refused
 --     group_v2 n body previous at end last      so many rows of version 2 up to the end; in the last group there may be fewer
 --     rows_v2 body ats end      the groups of rows that begin at these places
 --     block_rows version body offsets      the rows of a block, or the refusal of the first field that fails

@@ -1,13 +1,14 @@
 //! The rows of a block of version 1, one at a time.
-ghost use Rattle.std.specs.Prelude.{◌≡◌, ◌↔◌, ◌+◌, ◌≤◌, ◌<◌, ◌⊎◌, ℕ, List, [], Ok, Err, Some, length, drop, true, false, slice_get, IsTrue, IfOk, IfErr, OnOk, OnErr};
+ghost use Rattle.std.specs.Prelude.{◌≡◌, ◌↔◌, ◌+◌, ◌≤◌, ◌<◌, ◌⊎◌, ℕ, List, [], Ok, Err, Some, length, drop, true, false, slice_get, IsTrue, IfOk, IfErr, IfSome, OnOk, OnErr};
 ghost use Rattle.slate_types.specs.declared.error.SlateDBError.{SlateDBError};
 ghost use Rattle.slate_types.specs.declared.types.RowEntry.{RowEntry};
-ghost use Rattle.slate_types.specs.Iteration.{drop_before, NoneBefore};
+ghost use Rattle.slate_types.specs.Iteration.{comes_before, drop_before, NoneBefore};
 ghost use Rattle.slate_block.specs.Walks.{all_ok, block_reads_v1, block_rows};
 ghost use Rattle.slate_block.specs.BlockWalks.{in_order, left, place_in, rows_of, IsBehind, IsDamage, IsRising, Refuses, TakesLeft, TakesRead, rising_rows};
 
 use crate::block::Block;
 use crate::block_like::BlockLike;
+use crate::key_parts::is_before_at;
 use crate::places::{block_key, row_at};
 use bytes::Bytes;
 use slate_types::{IterationOrder, Outside, RowEntry, RowEntryIterator, SlateDBError};
@@ -150,15 +151,30 @@ impl<B: BlockLike> BlockIterator<B> {
         Ok(low)
     }
 
-    /// Whether the order puts the row at an index before the key.
+    /// Whether the order puts the row at an index before the key. Only where its key doesn't tell, the whole row is read.
     fn is_before(&self, alloc: Global, index: usize, key: &[u8]) -> Result<bool, SlateDBError>
         requires { index < length self.now.reads }
         ensures passed { IfOk result (λ before. before ≡ true → IsRising self.now.order (left self.now) → drop_before self.now.order key.now (drop (index + 1) (rows_of (left self.now))) ≡ drop_before self.now.order key.now (rows_of (left self.now))) }
         ensures reached { IfOk result (λ before. before ≡ false → IsRising self.now.order (left self.now) → NoneBefore self.now.order key.now (drop index (rows_of (left self.now)))) }
         ensures cause { IfErr result (λ e. (e ≡ SlateDBError.OutOfMemory) ⊎ Refuses self.now.reads e) }
     {
+        if let Some(before) = self.key_is_before(index, key) {
+            return Ok(before);
+        }
         let row = self.row(alloc, index)?;
         Ok(self.order.puts_before(row.key.as_slice(), key))
+    }
+
+    /// The same by the key alone, where it stands.
+    #[tactic(auto, using(crate::proofs::WalkLaws::reads_left, crate::proofs::WalkLaws::read_in_order, crate::proofs::WalkLaws::as_many_reads))]
+    fn key_is_before(&self, index: usize, key: &[u8]) -> Option<bool>
+        requires { index < length self.now.reads }
+        ensures { IfSome result (λ before. (row : RowEntry) → slice_get self.now.reads index ≡ Some (Ok row) → before ≡ comes_before self.now.order row.key key.now) }
+    {
+        let place = place_in(self.order, self.start, self.end, index);
+        let first = self.first_key.as_slice();
+        let offsets = self.block.offsets();
+        is_before_at(self.order, self.block.body(), first, offsets, place, key)
     }
 
     /// Takes off exactly the leading rows that the order puts before the key, where the rows come in the order; else some

@@ -11,6 +11,7 @@ ghost use Rattle.slate_block.specs.Damage.{
   stamps_layout,
   value_layout,
   layout_v1,
+  key_layout_v1,
   key_layout_v2,
   layout_v2,
   length_agrees,
@@ -243,6 +244,19 @@ pub fn fields_v1(bytes: &[u8]) -> Result<(u16, RowFields), SlateDBError>
         end: value_end,
     };
     Ok((shared, fields))
+}
+
+/// The fields of the row of version 1 that begins the bytes, up to the suffix of its key: the length that it shares, and
+/// where the suffix stands.
+#[tactic(auto, unfolding(crate::specs::Damage::key_layout_v1))]
+pub fn key_fields_v1(bytes: &[u8]) -> Result<(u16, (usize, usize)), SlateDBError>
+    ensures value { result ≡ key_layout_v1 bytes.now }
+    ensures within { IfOk result (λ key. (key.1.0 ≤ key.1.1) × (key.1.1 ≤ length bytes.now)) }
+{
+    let (shared, at) = u16_field(bytes, 0)?;
+    let (suffix_len, at) = u16_field(bytes, at)?;
+    let suffix = block_field(suffix_len as usize, bytes, at)?;
+    Ok((shared, suffix))
 }
 
 /// The fields of the row of version 2 that begins the bytes, up to the suffix of its key.

@@ -118,7 +118,7 @@ pub fn row_upto(
 }
 
 /// Where the row behind the one at an index begins.
-fn place_behind(end: usize, offsets: &[u16], index: usize) -> usize
+pub fn place_behind(end: usize, offsets: &[u16], index: usize) -> usize
     requires { index < length offsets.now }
     ensures { result ≡ next_place end (drop (index + 1) offsets.now) }
 {

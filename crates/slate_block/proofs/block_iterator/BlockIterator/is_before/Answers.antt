@@ -1,7 +1,7 @@
 use Rattle.std.proofs.Common.{◌≡◌, true, false, ap}
 use Rattle.slate_types.specs.Iteration.{comes_before}
 use Rattle.slate_block.specs.BlockWalks.{ReadsLeft}
-use Rattle.slate_block.proofs.SeekLaws.{passed, reached}
+use Rattle.slate_block.proofs.SeekLaws.{passed, reached, passed_by, reached_by}
 use Rattle.slate_block.proofs.block_iterator.BlockIterator.is_before.Goals as goal
 
 pub returns-clause-passed : goal.returns-clause-passed
@@ -15,3 +15,9 @@ returns-clause-reached g c = λ after rising.
     let order : c.self.inside.order ≡ c.args.self.now.order = ap (λ (it : ReadsLeft). it.order) c.self.view_is in
     let later : comes_before c.args.self.now.order c.in_ok-row.row.key c.args.key.now ≡ false = cc in
     reached c.args.self.now.order c.args.key.now c.args.self.now.reads c.args.index c.in_ok-row.row c.in_ok-row.ensures.found later rising
+
+pub returns-in-Some-clause-passed : goal.returns-in-Some-clause-passed
+returns-in-Some-clause-passed g c = passed_by c.args.self.now.order c.args.key.now c.args.self.now.reads c.args.index c.in-Some.before c.requires c.in-Some.ensures
+
+pub returns-in-Some-clause-reached : goal.returns-in-Some-clause-reached
+returns-in-Some-clause-reached g c = reached_by c.args.self.now.order c.args.key.now c.args.self.now.reads c.args.index c.in-Some.before c.requires c.in-Some.ensures
