@@ -1,6 +1,7 @@
 pub mod Pieces
 pub mod VarintLaws
 pub mod Groups
+pub mod GroupSteps
 pub mod FlagLaws
 pub mod RowLaws
 pub mod FieldLaws

@@ -8,6 +8,7 @@
 --     key_layout_v2 bytes      those up to the suffix of the key
 --     length_agrees flags key      a tombstone's value has the length 0
 --     AreWithin fields bytes      the places are in the bytes
+--     IsDamageIn n e      a refusal for damage, whose place is at most n
 use Rattle.std.specs.Prelude.{◌≤◌, ℕ, ◌+◌, ◌-◌, ◌*◌, ◌^◌, Bool, true, false, ◌&&◌, if◌then◌else◌, nat_lt, ◌==◌, bit_and, List, [], ◌∷◌, length, take, drop, slice_get, Option, Some, None, Result, Ok, Err, ℤ}
 use Rattle.std.specs.Int.{Width, w16, w32, w64, byte_len, from_be_bytes, cast_signed}
 use Rattle.slate_types.specs.declared.error.SlateDBError.{SlateDBError}
@@ -135,3 +136,8 @@ pub record AreWithin (fields : RowFields) (bytes : List ℕ) : Type 0 where
   pub suffix_in : fields.suffix_end ≤ length bytes
   pub value_in : fields.value_end ≤ length bytes
   pub end_in : fields.end ≤ length bytes
+
+abbrev pub IsDamageIn : ℕ → SlateDBError → Type 0
+IsDamageIn n (CorruptTable place) = place ≤ n
+IsDamageIn n (InvalidRowFlags b) = Unit {0}
+IsDamageIn n e = ⊥

@@ -1,6 +1,8 @@
 -- A block's rows, read one behind the other.
 --     moved at e      the refusal of a field, with its place in the rows' part, where a row's bytes begin at a place
---     row_in version body other from upto      the row at a place of the rows' part, whose key leaves out a front of the other key, and the place behind it; or the refusal
+--     entry_v2_in body from upto      the fields of the row at a place of the rows' part; or the refusal
+--     row_v1_in body other from upto, row_v2_in      the row at a place of the rows' part, whose key leaves out a front of the other key, and the place behind it; or the refusal
+--     before row left, joined first second      a row before others, and rows before others, or the first refusal
 --     next_place end ats      where the next row, or the next restart, begins
 --     rows_v1 body first ats end      the rows of version 1 at these places, each up to the next place
 --     group_v2 n body previous at end last      so many rows of version 2 up to the end; in the last group there may be fewer
@@ -44,15 +46,23 @@ row_v1_in body other from upto = do
   found ← moved_result from (row_v1_of bytes)
   if is_restored found.0.key_prefix_len other found.0.key_suffix then Ok (whole_v1 other found.0, from + found.1) else Err (CorruptTable from)
 
+unfoldable pub entry_v2_in : List ℕ → ℕ → ℕ → Result (SstRowEntryV2 × ℕ) SlateDBError
+entry_v2_in body from upto = between body from upto >>= λ bytes. moved_result from (row_v2_of bytes)
+
 unfoldable pub row_v2_in : List ℕ → List ℕ → ℕ → ℕ → Result (RowEntry × ℕ) SlateDBError
-row_v2_in body other from upto = do
-  bytes ← between body from upto
-  found ← moved_result from (row_v2_of bytes)
-  if is_restored found.0.shared_bytes other found.0.key_suffix then Ok (whole_v2 other found.0, from + found.1) else Err (CorruptTable from)
+row_v2_in body other from upto = entry_v2_in body from upto >>= λ found.
+    if is_restored found.0.shared_bytes other found.0.key_suffix then Ok (whole_v2 other found.0, from + found.1) else Err (CorruptTable from)
 
 abbrev pub next_place : ℕ → List ℕ → ℕ
 next_place end [] = end
 next_place end (at ∷ ats) = at
+
+-- a row before others, and rows before others, where nothing is refused
+abbrev pub before : RowEntry → Result (List RowEntry) SlateDBError → Result (List RowEntry) SlateDBError
+before row left = left >>= λ rows. Ok (row ∷ rows)
+
+abbrev pub joined : Result (List RowEntry) SlateDBError → Result (List RowEntry) SlateDBError → Result (List RowEntry) SlateDBError
+joined first second = first >>= λ rows. second >>= λ more. Ok (rows ++ more)
 
 -- ---- version 1: each row ends where the next begins; the first shares with nothing, the others with the first
 
@@ -72,11 +82,11 @@ block_rows_v1 body (at ∷ ats) = row_upto body [] at (next_place (length body) 
 unfoldable pub group_v2 : ℕ → List ℕ → List ℕ → ℕ → ℕ → Bool → Result (List RowEntry) SlateDBError
 group_v2 zero body previous at end last = if at == end then Ok [] else Err (CorruptTable at)
 group_v2 (suc n) body previous at end last = if last && at == end then Ok []
-    else (row_v2_in body previous at end >>= λ found. group_v2 n body found.0.key found.1 end last >>= λ rows. Ok (found.0 ∷ rows))
+    else (row_v2_in body previous at end >>= λ found. before found.0 (group_v2 n body found.0.key found.1 end last))
 
 -- the first row of a group shares nothing
 unfoldable pub restart_v2 : List ℕ → ℕ → ℕ → Bool → Result (List RowEntry) SlateDBError
-restart_v2 body at end last = row_v2_in body [] at end >>= λ found. group_v2 15 body found.0.key found.1 end last >>= λ rows. Ok (found.0 ∷ rows)
+restart_v2 body at end last = row_v2_in body [] at end >>= λ found. before found.0 (group_v2 15 body found.0.key found.1 end last)
 
 abbrev pub is_none_left : List ℕ → Bool
 is_none_left [] = true
@@ -84,7 +94,7 @@ is_none_left (at ∷ ats) = false
 
 unfoldable pub rows_v2 : List ℕ → List ℕ → ℕ → Result (List RowEntry) SlateDBError
 rows_v2 body [] end = Ok []
-rows_v2 body (at ∷ ats) end = restart_v2 body at (next_place end ats) (is_none_left ats) >>= λ group. rows_v2 body ats end >>= λ rows. Ok (group ++ rows)
+rows_v2 body (at ∷ ats) end = joined (restart_v2 body at (next_place end ats) (is_none_left ats)) (rows_v2 body ats end)
 
 unfoldable pub block_rows_v2 : List ℕ → List ℕ → Result (List RowEntry) SlateDBError
 block_rows_v2 body [] = Err (CorruptTable 0)

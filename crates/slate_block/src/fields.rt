@@ -1,5 +1,5 @@
 //! The fields of a row, read where they stand. A field that fails is refused with the place of its first byte.
-ghost use Rattle.std.specs.Prelude.{◌≡◌, ◌≤◌, ◌<◌, ℕ, length, slice_index, IfOk};
+ghost use Rattle.std.specs.Prelude.{◌≡◌, ◌≤◌, ◌<◌, ℕ, length, slice_index, IfOk, IfErr};
 ghost use Rattle.std.specs.Int.{w16, w32, w64};
 ghost use Rattle.slate_block.specs.Damage.{
   varint_field,
@@ -16,6 +16,7 @@ ghost use Rattle.slate_block.specs.Damage.{
   length_agrees,
   has,
   AreWithin,
+  IsDamageIn,
 };
 
 use crate::flags::RowFlags;
@@ -60,6 +61,7 @@ pub fn corrupt(place: usize) -> SlateDBError
 fn varint_field(bytes: &[u8], at: usize) -> Result<(u32, usize), SlateDBError>
     requires { at ≤ length bytes.now }
     ensures value { result ≡ varint_field bytes.now at }
+    ensures damage { IfErr result (IsDamageIn (length bytes.now)) }
     ensures within { IfOk result (λ field. field.1 ≤ length bytes.now) }
 {
     match decode_varint(&bytes[at..]) {
@@ -72,6 +74,7 @@ fn varint_field(bytes: &[u8], at: usize) -> Result<(u32, usize), SlateDBError>
 pub fn u16_field(bytes: &[u8], at: usize) -> Result<(u16, usize), SlateDBError>
     requires { at ≤ length bytes.now }
     ensures value { result ≡ number_field w16 bytes.now at }
+    ensures damage { IfErr result (IsDamageIn (length bytes.now)) }
     ensures within { IfOk result (λ field. field.1 ≤ length bytes.now) }
 {
     let rest = &bytes[at..];
@@ -85,6 +88,7 @@ pub fn u16_field(bytes: &[u8], at: usize) -> Result<(u16, usize), SlateDBError>
 fn u32_field(bytes: &[u8], at: usize) -> Result<(u32, usize), SlateDBError>
     requires { at ≤ length bytes.now }
     ensures value { result ≡ number_field w32 bytes.now at }
+    ensures damage { IfErr result (IsDamageIn (length bytes.now)) }
     ensures within { IfOk result (λ field. field.1 ≤ length bytes.now) }
 {
     let rest = &bytes[at..];
@@ -99,6 +103,7 @@ fn u32_field(bytes: &[u8], at: usize) -> Result<(u32, usize), SlateDBError>
 fn u64_field(bytes: &[u8], at: usize) -> Result<(u64, usize), SlateDBError>
     requires { at ≤ length bytes.now }
     ensures value { result ≡ number_field w64 bytes.now at }
+    ensures damage { IfErr result (IsDamageIn (length bytes.now)) }
     ensures within { IfOk result (λ field. field.1 ≤ length bytes.now) }
 {
     let rest = &bytes[at..];
@@ -115,6 +120,7 @@ fn u64_field(bytes: &[u8], at: usize) -> Result<(u64, usize), SlateDBError>
 fn block_field(len: usize, bytes: &[u8], at: usize) -> Result<(usize, usize), SlateDBError>
     requires { at ≤ length bytes.now }
     ensures value { result ≡ block_field len bytes.now at }
+    ensures damage { IfErr result (IsDamageIn (length bytes.now)) }
     ensures within { IfOk result (λ field. (field.0 ≤ field.1) × (field.1 ≤ length bytes.now)) }
 {
     if bytes.len() - at < len {
@@ -125,7 +131,9 @@ fn block_field(len: usize, bytes: &[u8], at: usize) -> Result<(usize, usize), Sl
 
 #[tactic(auto, unfolding(crate::specs::Damage::flags_field))]
 fn flags_field(bytes: &[u8], at: usize) -> Result<(RowFlags, usize), SlateDBError>
+    requires { at ≤ length bytes.now }
     ensures value { result ≡ flags_field bytes.now at }
+    ensures damage { IfErr result (IsDamageIn (length bytes.now)) }
     ensures within { IfOk result (λ field. field.1 ≤ length bytes.now) }
 {
     let Some(byte) = bytes.get(at) else {
@@ -147,6 +155,7 @@ fn stamp_field(
 ) -> Result<(Option<i64>, usize), SlateDBError>
     requires { at ≤ length bytes.now }
     ensures value { result ≡ stamp_field is_there bytes.now at }
+    ensures damage { IfErr result (IsDamageIn (length bytes.now)) }
     ensures within { IfOk result (λ field. field.1 ≤ length bytes.now) }
 {
     if !is_there {
@@ -160,6 +169,7 @@ fn stamp_field(
 fn head_fields(bytes: &[u8], at: usize) -> Result<((u64, RowFlags), usize), SlateDBError>
     requires { at ≤ length bytes.now }
     ensures value { result ≡ head_layout bytes.now at }
+    ensures damage { IfErr result (IsDamageIn (length bytes.now)) }
     ensures within { IfOk result (λ field. field.1 ≤ length bytes.now) }
 {
     let (seq, at) = u64_field(bytes, at)?;
@@ -175,6 +185,7 @@ fn stamp_fields(
 ) -> Result<((Option<i64>, Option<i64>), usize), SlateDBError>
     requires { at ≤ length bytes.now }
     ensures value { result ≡ stamps_layout flags bytes.now at }
+    ensures damage { IfErr result (IsDamageIn (length bytes.now)) }
     ensures within { IfOk result (λ field. field.1 ≤ length bytes.now) }
 {
     let (expire_ts, at) = stamp_field(has(flags, RowFlags::HAS_EXPIRE_TS), bytes, at)?;
@@ -192,6 +203,7 @@ fn has(flags: RowFlags, flag: RowFlags) -> bool
 fn value_fields(is_tombstone: bool, bytes: &[u8], at: usize) -> Result<(usize, usize), SlateDBError>
     requires { at ≤ length bytes.now }
     ensures value { result ≡ value_layout is_tombstone bytes.now at }
+    ensures damage { IfErr result (IsDamageIn (length bytes.now)) }
     ensures within { IfOk result (λ field. (field.0 ≤ field.1) × (field.1 ≤ length bytes.now)) }
 {
     if is_tombstone {
@@ -205,6 +217,7 @@ fn value_fields(is_tombstone: bool, bytes: &[u8], at: usize) -> Result<(usize, u
 #[tactic(auto, unfolding(crate::specs::Damage::layout_v1))]
 pub fn fields_v1(bytes: &[u8]) -> Result<(u16, RowFields), SlateDBError>
     ensures value { result ≡ layout_v1 bytes.now }
+    ensures damage { IfErr result (IsDamageIn (length bytes.now)) }
     ensures within { IfOk result (λ row. AreWithin row.1 bytes.now) }
     ensures bytes { IfOk result (λ _. (i : ℕ) → slice_index bytes.now i < 256) }
 {
@@ -232,7 +245,9 @@ pub fn fields_v1(bytes: &[u8]) -> Result<(u16, RowFields), SlateDBError>
 #[tactic(auto, unfolding(crate::specs::Damage::key_layout_v2))]
 pub fn key_fields_v2(bytes: &[u8]) -> Result<KeyFields, SlateDBError>
     ensures value { result ≡ key_layout_v2 bytes.now }
+    ensures damage { IfErr result (IsDamageIn (length bytes.now)) }
     ensures within { IfOk result (λ key. (key.suffix_at ≤ key.suffix_end) × (key.suffix_end ≤ length bytes.now)) }
+    ensures value_within { IfOk result (λ key. key.value_len_at ≤ length bytes.now) }
     ensures bytes { IfOk result (λ _. (i : ℕ) → slice_index bytes.now i < 256) }
 {
     let (shared_bytes, at) = varint_field(bytes, 0)?;
@@ -250,7 +265,8 @@ pub fn key_fields_v2(bytes: &[u8]) -> Result<KeyFields, SlateDBError>
 
 #[tactic(auto, unfolding(crate::specs::Damage::length_agrees))]
 fn agreed_flags(flags: RowFlags, key: &KeyFields) -> Result<RowFlags, SlateDBError>
-    ensures { result ≡ length_agrees flags key.now }
+    ensures value { result ≡ length_agrees flags key.now }
+    ensures damage { IfErr result (IsDamageIn key.now.value_len_at) }
 {
     if has(flags, RowFlags::TOMBSTONE) && key.value_len > 0 {
         return Err(corrupt(key.value_len_at));
@@ -262,6 +278,7 @@ fn agreed_flags(flags: RowFlags, key: &KeyFields) -> Result<RowFlags, SlateDBErr
 #[tactic(auto, unfolding(crate::specs::Damage::layout_v2))]
 pub fn fields_v2(bytes: &[u8]) -> Result<(u32, RowFields), SlateDBError>
     ensures value { result ≡ layout_v2 bytes.now }
+    ensures damage { IfErr result (IsDamageIn (length bytes.now)) }
     ensures within { IfOk result (λ row. AreWithin row.1 bytes.now) }
     ensures bytes { IfOk result (λ _. (i : ℕ) → slice_index bytes.now i < 256) }
 {
