@@ -8,7 +8,8 @@ use Rattle.slate_block.specs.declared.row_groups.RowGroup.{RowGroup}
 use Rattle.slate_block.specs.declared.walk_v2.BlockPlace.{BlockPlace}
 use Rattle.slate_block.specs.Damage.{◌>>=◌, IsDamageIn}
 use Rattle.slate_block.specs.Walks.{moved, before, joined, between, group_v2, restart_v2, rows_v2}
-use Rattle.slate_block.specs.GroupWalks.{Left, IsDamage, restart_at, group_left, is_over, left_v2}
+use Rattle.slate_block.specs.BlockWalks.{IsDamage}
+use Rattle.slate_block.specs.GroupWalks.{Left, restart_at, group_left, is_over, left_v2}
 
 -- ---- rows before others
 

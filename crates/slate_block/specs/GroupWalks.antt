@@ -1,8 +1,6 @@
 -- What is left of a walk over a block.
---     IsDamage e      a refusal for damage
---     IsRefused left, rows_of left      whether the walk is refused, and its rows where it is not
+--     IsRefused left      the walk is refused
 --     TakesLeft left answer after      the answer is the first row, and the others are left; or none was left
---     IsRising order left      the walk is refused nowhere, and its rows come in the order
 --     dropped order key left      the walk without the leading rows that the order puts before the key
 --     Walk      what is left of a walk, in its order
 --     group_end body offsets n, restart_at body offsets n      where the group that begins at a restart ends, and its rows
@@ -12,10 +10,9 @@
 --     BeginsBefore order body offsets n key      the order puts a group's first key before the key
 use Rattle.std.specs.Prelude.{◌≡◌, ℕ, ◌+◌, ◌-◌, ◌*◌, Bool, true, ◌&&◌, ◌||◌, ◌==◌, List, [], ◌∷◌, length, drop, slice_index, Option, Some, None, Result, Ok, Err}
 use Rattle.slate_types.specs.declared.error.SlateDBError.{SlateDBError}
-use Rattle.slate_types.specs.declared.error.SlateDBError.TheVariants.{CorruptTable, InvalidRowFlags}
 use Rattle.slate_types.specs.declared.types.RowEntry.{RowEntry}
 use Rattle.slate_types.specs.declared.iter.IterationOrder.{IterationOrder}
-use Rattle.slate_types.specs.Iteration.{comes_before, drop_before, IsInOrder}
+use Rattle.slate_types.specs.Iteration.{comes_before, drop_before}
 use Rattle.slate_block.specs.declared.row_groups.RowGroup.{RowGroup}
 use Rattle.slate_block.specs.declared.walk_v2.BlockPlace.{BlockPlace}
 use Rattle.slate_block.specs.Damage.{◌>>=◌}
@@ -24,26 +21,13 @@ use Rattle.slate_block.specs.Walks.{before, joined, next_place, group_v2, restar
 abbrev pub Left : Type 0
 Left = Result (List RowEntry) SlateDBError
 
-abbrev pub IsDamage : SlateDBError → Type 0
-IsDamage (CorruptTable place) = Unit {0}
-IsDamage (InvalidRowFlags b) = Unit {0}
-IsDamage e = ⊥
-
 abbrev pub IsRefused : Left → Type 0
 IsRefused (Ok rows) = ⊥
 IsRefused (Err e) = Unit {0}
 
-abbrev pub rows_of : Left → List RowEntry
-rows_of (Ok rows) = rows
-rows_of (Err e) = []
-
 abbrev pub TakesLeft : Left → Option RowEntry → Left → Type 0
 TakesLeft left None after = (left ≡ Ok []) × (after ≡ Ok [])
 TakesLeft left (Some row) after = left ≡ before row after
-
-abbrev pub IsRising : IterationOrder → Left → Type 0
-IsRising order (Ok rows) = IsInOrder order rows
-IsRising order (Err e) = ⊥
 
 abbrev pub dropped : IterationOrder → List ℕ → Left → Left
 dropped order key left = left >>= λ rows. Ok (drop_before order key rows)

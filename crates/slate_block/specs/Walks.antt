@@ -4,7 +4,9 @@
 --     row_v1_in body other from upto, row_v2_in      the row at a place of the rows' part, whose key leaves out a front of the other key, and the place behind it; or the refusal
 --     before row left, joined first second      a row before others, and rows before others, or the first refusal
 --     next_place end ats      where the next row, or the next restart, begins
---     rows_v1 body first ats end      the rows of version 1 at these places, each up to the next place
+--     all_ok reads      what was read, or the first refusal
+--     reads_v1 body first ats end      what each row of version 1 at these places is read as, up to the next place
+--     block_reads_v1 body offsets      the same of a block's rows; or why its first row is refused
 --     group_v2 n body previous at end last      so many rows of version 2 up to the end; in the last group there may be fewer
 --     rows_v2 body ats end      the groups of rows that begin at these places
 --     block_rows version body offsets      the rows of a block, or the refusal of the first field that fails
@@ -69,13 +71,26 @@ joined first second = first >>= λ rows. second >>= λ more. Ok (rows ++ more)
 unfoldable pub row_upto : List ℕ → List ℕ → ℕ → ℕ → Result RowEntry SlateDBError
 row_upto body other at upto = row_v1_in body other at upto >>= λ found. if found.1 == upto then Ok found.0 else Err (CorruptTable found.1)
 
-unfoldable pub rows_v1 : List ℕ → List ℕ → List ℕ → ℕ → Result (List RowEntry) SlateDBError
-rows_v1 body first [] end = Ok []
-rows_v1 body first (at ∷ ats) end = row_upto body first at (next_place end ats) >>= λ row. rows_v1 body first ats end >>= λ rows. Ok (row ∷ rows)
+abbrev pub RowRead : Type 0
+RowRead = Result RowEntry SlateDBError
+
+abbrev pub all_ok : List RowRead → Result (List RowEntry) SlateDBError
+all_ok [] = Ok []
+all_ok (read ∷ reads) = read >>= λ row. before row (all_ok reads)
+
+abbrev pub reads_v1 : List ℕ → List ℕ → List ℕ → ℕ → List RowRead
+reads_v1 body first [] end = []
+reads_v1 body first (at ∷ ats) end = row_upto body first at (next_place end ats) ∷ reads_v1 body first ats end
+
+unfoldable pub first_key_v1 : List ℕ → List ℕ → Result (List ℕ) SlateDBError
+first_key_v1 body [] = Err (CorruptTable 0)
+first_key_v1 body (at ∷ ats) = row_upto body [] at (next_place (length body) ats) >>= λ row. Ok row.key
+
+unfoldable pub block_reads_v1 : List ℕ → List ℕ → Result (List RowRead) SlateDBError
+block_reads_v1 body offsets = first_key_v1 body offsets >>= λ first. Ok (reads_v1 body first offsets (length body))
 
 unfoldable pub block_rows_v1 : List ℕ → List ℕ → Result (List RowEntry) SlateDBError
-block_rows_v1 body [] = Err (CorruptTable 0)
-block_rows_v1 body (at ∷ ats) = row_upto body [] at (next_place (length body) ats) >>= λ row. rows_v1 body row.key ats (length body) >>= λ rows. Ok (row ∷ rows)
+block_rows_v1 body offsets = block_reads_v1 body offsets >>= all_ok
 
 -- ---- version 2: a group of 16 rows begins at each restart, and ends where the next begins; the last may have fewer
 

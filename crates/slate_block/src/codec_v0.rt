@@ -1,6 +1,7 @@
 //! Rows of version 1 as bytes.
 ghost use Rattle.std.specs.Prelude.{◌≡◌, ◌≤◌, ◌<◌, ◌⊎◌, ◌++◌, ℕ, List, Some, Ok, Err, length, take, slice_index, OnOk, OnErr, IfOk, IfErr, IsOkUnless};
 ghost use Rattle.slate_block.specs.declared.row.SstRowEntry.{SstRowEntry};
+ghost use Rattle.slate_block.specs.Damage.{IsDamageIn};
 ghost use Rattle.slate_block.specs.RowSpelling.{v1_bytes, FitsV1};
 ghost use Rattle.slate_block.specs.RowReading.{row_v1_of, refusal, BeginsV1, expiry_of};
 
@@ -47,10 +48,12 @@ impl SstRowCodecV0 {
     }
 }
 
+/// The row that begins the input, and how many bytes it has.
 #[tactic(auto, unfolding(crate::specs::RowReading::row_v1_of))]
-fn read_row(input: &Bytes) -> Result<(SstRowEntry, usize), SlateDBError>
+pub(crate) fn read_row(input: &Bytes) -> Result<(SstRowEntry, usize), SlateDBError>
     ensures found { IfOk result (λ found. row_v1_of input.now ≡ Ok found) }
     ensures cause { IfErr result (λ e. (e ≡ SlateDBError.OutOfMemory) ⊎ (row_v1_of input.now ≡ Err e)) }
+    ensures damage { IfErr result (λ e. (e ≡ SlateDBError.OutOfMemory) ⊎ IsDamageIn (length input.now) e) }
     ensures within { IfOk result (λ found. found.1 ≤ length input.now) }
     ensures bytes { IfOk result (λ _. (i : ℕ) → slice_index input.now i < 256) }
 {

@@ -4,10 +4,12 @@ ghost use Rattle.slate_block.specs.Walks.{moved, moved_result, between, next_pla
 ghost use Rattle.slate_block.specs.RowReading.{row_v1_of};
 ghost use Rattle.slate_block.specs.BlockWalks.{IsDamage};
 
+use crate::codec_v0::read_row;
 use crate::fields::corrupt;
 use crate::row::SstRowEntry;
 use bytes::Bytes;
-use slate_types::SlateDBError;
+use slate_types::{RowEntry, SlateDBError};
+use std::alloc::Global;
 
 /// A refusal of bytes that begin at a place, with its place in the whole.
 pub fn moved(at: usize, error: SlateDBError) -> SlateDBError
@@ -32,4 +34,18 @@ pub fn between(body: &Bytes, from: usize, upto: usize) -> Result<Bytes, SlateDBE
         return Ok(body.slice(from..upto)?);
     }
     Err(corrupt(from))
+}
+
+/// The row that begins bytes, which begin at a place, and how many bytes it has.
+fn read_row_at(from: usize, bytes: &Bytes) -> Result<(SstRowEntry, usize), SlateDBError>
+    requires { from + length bytes.now < 2 ^ 64 }
+    ensures found { IfOk result (λ found. moved_result from (row_v1_of bytes.now) ≡ Ok found) }
+    ensures within { IfOk result (λ found. found.1 ≤ length bytes.now) }
+    ensures cause { IfErr result (λ e. (e ≡ SlateDBError.OutOfMemory) ⊎ (moved_result from (row_v1_of bytes.now) ≡ Err e)) }
+    ensures damage { IfErr result (λ e. (e ≡ SlateDBError.OutOfMemory) ⊎ IsDamage e) }
+{
+    match read_row(bytes) {
+        Ok(found) => Ok(found),
+        Err(error) => Err(moved(from, error)),
+    }
 }

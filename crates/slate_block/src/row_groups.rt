@@ -1,9 +1,10 @@
 //! Rows of version 2, read where they stand. A group of up to 16 rows begins at each restart.
-ghost use Rattle.std.specs.Prelude.{◌≡◌, ◌≤◌, ◌<◌, ◌+◌, ◌⊎◌, ◌&&◌, ◌||◌, ◌==◌, Bool, true, false, Ok, Err, IfOk, IfErr, IfSome, length};
-ghost use Rattle.slate_block.specs.Damage.{IsDamageIn};
+ghost use Rattle.std.specs.Prelude.{◌≡◌, ◌≤◌, ◌<◌, ◌+◌, ◌^◌, [], ◌⊎◌, ◌&&◌, ◌||◌, ◌==◌, Bool, true, false, Ok, Err, IfOk, IfErr, IfSome, length};
 ghost use Rattle.slate_block.specs.BlockSpelling.{whole_key};
-ghost use Rattle.slate_block.specs.Walks.{before, entry_v2_in, is_restored, row_v2_in};
-ghost use Rattle.slate_block.specs.GroupWalks.{group_left, is_over, restart_at, IsDamage, IsNextOfGroup};
+ghost use Rattle.slate_block.specs.Walks.{before, entry_v2_in, is_restored, moved_result, row_v2_in};
+ghost use Rattle.slate_block.specs.RowReading.{row_v2_of};
+ghost use Rattle.slate_block.specs.BlockWalks.{IsDamage};
+ghost use Rattle.slate_block.specs.GroupWalks.{group_end, group_left, is_over, restart_at, IsNextOfGroup};
 
 use crate::codec_v2::read_row;
 use crate::fields::corrupt;
@@ -149,14 +150,29 @@ fn row_at(
 
 /// The fields of the row between two places, and how many bytes it has.
 #[tactic(auto, unfolding(crate::specs::Walks::entry_v2_in))]
-fn entry_at(body: &Bytes, from: usize, upto: usize) -> Result<(SstRowEntryV2, usize), SlateDBError>
+fn entry_at(
+    body: &Bytes,
+    from: usize,
+    upto: usize,
+) -> Result<(SstRowEntryV2, usize), SlateDBError>
     ensures found { IfOk result (λ found. entry_v2_in body.now from upto ≡ Ok found) }
-    ensures within { IfOk result (λ found. from + found.1 ≤ length body.now) }
+    ensures within { IfOk result (λ found. from + found.1 < 2 ^ 64) }
     ensures cause { IfErr result (λ e. (e ≡ SlateDBError.OutOfMemory) ⊎ (entry_v2_in body.now from upto ≡ Err e)) }
     ensures damage { IfErr result (λ e. (e ≡ SlateDBError.OutOfMemory) ⊎ IsDamage e) }
 {
     let bytes = between(body, from, upto)?;
-    match read_row(&bytes) {
+    read_entry(from, &bytes)
+}
+
+/// The fields of the row that begins bytes, which begin at a place, and how many bytes it has.
+fn read_entry(from: usize, bytes: &Bytes) -> Result<(SstRowEntryV2, usize), SlateDBError>
+    requires { from + length bytes.now < 2 ^ 64 }
+    ensures found { IfOk result (λ found. moved_result from (row_v2_of bytes.now) ≡ Ok found) }
+    ensures within { IfOk result (λ found. found.1 ≤ length bytes.now) }
+    ensures cause { IfErr result (λ e. (e ≡ SlateDBError.OutOfMemory) ⊎ (moved_result from (row_v2_of bytes.now) ≡ Err e)) }
+    ensures damage { IfErr result (λ e. (e ≡ SlateDBError.OutOfMemory) ⊎ IsDamage e) }
+{
+    match read_row(bytes) {
         Ok(found) => Ok(found),
         Err(error) => Err(moved(from, error)),
     }

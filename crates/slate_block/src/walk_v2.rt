@@ -3,16 +3,14 @@ ghost use Rattle.std.specs.Prelude.{◌≡◌, ◌≤◌, ◌<◌, ◌⊎◌, �
 ghost use Rattle.slate_types.specs.declared.types.RowEntry.{RowEntry};
 ghost use Rattle.slate_types.specs.Iteration.{comes_before};
 ghost use Rattle.slate_block.specs.Walks.{rows_v2};
+ghost use Rattle.slate_block.specs.BlockWalks.{IsDamage};
 ghost use Rattle.slate_block.specs.GroupWalks.{
   bound_v2,
   dropped,
   left_v2,
   restart_at,
   BeginsBefore,
-  IsDamage,
   IsNextV2,
-  IsRefused,
-  IsRising,
 };
 
 use crate::fields::key_fields_v2;
