@@ -150,11 +150,7 @@ fn row_at(
 
 /// The fields of the row between two places, and how many bytes it has.
 #[tactic(auto, unfolding(crate::specs::Walks::entry_v2_in))]
-fn entry_at(
-    body: &Bytes,
-    from: usize,
-    upto: usize,
-) -> Result<(SstRowEntryV2, usize), SlateDBError>
+fn entry_at(body: &Bytes, from: usize, upto: usize) -> Result<(SstRowEntryV2, usize), SlateDBError>
     ensures found { IfOk result (λ found. entry_v2_in body.now from upto ≡ Ok found) }
     ensures within { IfOk result (λ found. from + found.1 < 2 ^ 64) }
     ensures cause { IfErr result (λ e. (e ≡ SlateDBError.OutOfMemory) ⊎ (entry_v2_in body.now from upto ≡ Err e)) }
