@@ -2,6 +2,7 @@ pub mod Pieces
 pub mod VarintLaws
 pub mod Groups
 pub mod GroupSteps
+pub mod SeekSteps
 pub mod FlagLaws
 pub mod RowLaws
 pub mod FieldLaws

@@ -83,7 +83,7 @@ pub fn first_of_group(
 }
 
 /// Where the group that begins at a restart ends: at the next restart, or with the rows' part.
-fn group_end(body: &Bytes, offsets: &[u16], number: usize) -> usize
+pub fn group_end(body: &Bytes, offsets: &[u16], number: usize) -> usize
     requires { number < length offsets.now }
     ensures { result ≡ group_end body.now offsets.now number }
 {
