@@ -14,3 +14,5 @@ pub mod OffsetLaws
 pub mod LongestFronts
 pub mod BlockLaws
 pub mod WrittenLaws
+pub mod WalkLaws
+pub mod SeekLaws

@@ -1,0 +1,206 @@
+//! The rows of a block of version 1, one at a time.
+ghost use Rattle.std.specs.Prelude.{◌≡◌, ◌↔◌, ◌+◌, ◌≤◌, ◌<◌, ◌⊎◌, ℕ, List, [], Ok, Err, Some, length, drop, true, false, slice_get, IsTrue, IfOk, IfErr, OnOk, OnErr};
+ghost use Rattle.slate_types.specs.declared.error.SlateDBError.{SlateDBError};
+ghost use Rattle.slate_types.specs.declared.types.RowEntry.{RowEntry};
+ghost use Rattle.slate_types.specs.Iteration.{drop_before, NoneBefore};
+ghost use Rattle.slate_block.specs.Walks.{all_ok, block_reads_v1, block_rows};
+ghost use Rattle.slate_block.specs.BlockWalks.{in_order, left, place_in, rows_of, IsDamage, IsRising, Refuses, TakesLeft, TakesRead, rising_rows};
+
+use crate::block_like::BlockLike;
+use crate::places::{block_key, row_at};
+use bytes::Bytes;
+use slate_types::{IterationOrder, Outside, RowEntry, RowEntryIterator, SlateDBError};
+use std::alloc::Global;
+use std::marker::Model;
+
+/// The rows of a block of version 1 that are left, in an order. After a refusal it stands where it stood.
+#[derive(Drop)]
+pub struct BlockIterator<B: BlockLike> {
+    block: B,
+    first_key: Bytes,
+    /// The rows that are left are those from `start` on and before `end`.
+    start: usize,
+    end: usize,
+    order: IterationOrder,
+}
+
+impl<B: BlockLike> Model for BlockIterator<B> {
+    ghost use Rattle.std.specs.Prelude.{◌≤◌, length, slice_range};
+    ghost use Rattle.slate_block.specs.Walks.{reads_v1};
+    ghost use Rattle.slate_block.specs.BlockWalks.{in_order, ReadsLeft};
+
+    ghost Value = { ReadsLeft };
+
+    ghost view = { λ it. record { reads = in_order it.order (slice_range (reads_v1 (B.body_bytes it.block) it.first_key (B.row_offsets it.block) (length (B.body_bytes it.block))) it.start it.end); order = it.order } };
+
+    ghost invariant = { λ it. (it.start ≤ it.end) × (it.end ≤ length (B.row_offsets it.block)) };
+}
+
+/// Where in a block the row stands that is at an index of those from the start on and before the end.
+fn place_in(order: IterationOrder, start: usize, end: usize, index: usize) -> usize
+    requires { start + index < end }
+    ensures { result ≡ place_in order start end index }
+{
+    match order {
+        IterationOrder::Ascending => start + index,
+        IterationOrder::Descending => end - 1 - index,
+    }
+}
+
+impl<B: BlockLike> BlockIterator<B> {
+    #[tactic(auto, using(crate::proofs::WalkLaws::whole_slice, crate::proofs::WalkLaws::in_order_twice, crate::proofs::WalkLaws::as_many_reads, crate::proofs::WalkLaws::all_ok_in_order))]
+    /// All rows of the block, in the order. `CorruptTable` or `InvalidRowFlags` where the first row, by whose key the
+    /// others are read, isn't one that shares nothing, and `CorruptTable` where the offsets don't begin at 0 or are
+    /// more than 65535; or `OutOfMemory`.
+    pub fn new(alloc: Global, block: B, order: IterationOrder) -> Result<Self, SlateDBError>
+        ensures reads { IfOk result (λ it. block_reads_v1 (B.body_bytes block) (B.row_offsets block) ≡ Ok (in_order order it.reads)) }
+        ensures rows { IfOk result (λ it. block_rows 1 (B.body_bytes block) (B.row_offsets block) ≡ all_ok (in_order order it.reads)) }
+        ensures left { IfOk result (λ it. (rows : List RowEntry) → block_rows 1 (B.body_bytes block) (B.row_offsets block) ≡ Ok rows → left it ≡ Ok (in_order order rows)) }
+        ensures order { IfOk result (λ it. it.order ≡ order) }
+        ensures cause { IfErr result (λ e. (e ≡ SlateDBError.OutOfMemory) ⊎ (block_rows 1 (B.body_bytes block) (B.row_offsets block) ≡ Err e)) }
+        ensures damage { IfErr result (λ e. (e ≡ SlateDBError.OutOfMemory) ⊎ IsDamage e) }
+    {
+        let first_key = block_key(alloc, block.body(), block.offsets())?;
+        let end = block.offsets().len();
+        Ok(BlockIterator {
+            block,
+            first_key,
+            start: 0,
+            end,
+            order,
+        })
+    }
+
+    /// Whether no row is left.
+    pub fn is_empty(&self) -> bool
+        ensures { IsTrue result ↔ (self.now.reads ≡ []) }
+    {
+        self.rows_left() == 0
+    }
+
+    #[tactic(auto, using(crate::proofs::WalkLaws::reads_left))]
+    fn rows_left(&self) -> usize
+        ensures { result ≡ length self.now.reads }
+    {
+        self.end - self.start
+    }
+
+    /// The row at an index of those that are left.
+    #[tactic(auto, using(crate::proofs::WalkLaws::reads_left, crate::proofs::WalkLaws::read_in_order, crate::proofs::WalkLaws::as_many_reads))]
+    fn row(&self, alloc: Global, index: usize) -> Result<RowEntry, SlateDBError>
+        requires { index < length self.now.reads }
+        ensures found { IfOk result (λ row. slice_get self.now.reads index ≡ Some (Ok row)) }
+        ensures cause { IfErr result (λ e. (e ≡ SlateDBError.OutOfMemory) ⊎ (slice_get self.now.reads index ≡ Some (Err e))) }
+        ensures damage { IfErr result (λ e. (e ≡ SlateDBError.OutOfMemory) ⊎ IsDamage e) }
+    {
+        let place = place_in(self.order, self.start, self.end, index);
+        let first = self.first_key.as_slice();
+        row_at(alloc, self.block.body(), first, self.block.offsets(), place)
+    }
+
+    /// Takes so many rows off.
+    #[tactic(auto, using(crate::proofs::WalkLaws::reads_left, crate::proofs::WalkLaws::slice_drop, crate::proofs::WalkLaws::reverse_slice_drop, crate::proofs::WalkLaws::as_many_reads))]
+    fn skip(&mut self, count: usize)
+        requires { count ≤ length self.old.reads }
+        ensures reads { self.new.reads ≡ drop count self.old.reads }
+        ensures order { self.new.order ≡ self.old.order }
+    {
+        match self.order {
+            IterationOrder::Ascending => self.start += count,
+            IterationOrder::Descending => self.end -= count,
+        }
+    }
+
+    /// The first row of those that are left, which is taken off, or `None` where none is left. `CorruptTable` with the
+    /// place of the first field that fails in the rows' part, or `InvalidRowFlags`; or `OutOfMemory`.
+    pub fn next_row(&mut self, alloc: Global) -> Result<Option<RowEntry>, SlateDBError>
+        ensures read { IfOk result (λ answer. TakesRead self.old.reads answer self.new.reads) }
+        ensures rows { IfOk result (λ answer. TakesLeft (left self.old) answer (left self.new)) }
+        ensures order { self.new.order ≡ self.old.order }
+        ensures cause { IfErr result (λ e. (e ≡ SlateDBError.OutOfMemory) ⊎ ((left self.old ≡ Err e) × Refuses self.old.reads e)) }
+        ensures unchanged { OnErr result (self.new ≡ self.old) }
+    {
+        if self.is_empty() {
+            return Ok(None);
+        }
+        let row = self.row(alloc, 0)?;
+        self.skip(1);
+        Ok(Some(row))
+    }
+
+    /// How many leading rows the order puts before the key, where the rows come in the order.
+    #[tactic(auto, using(crate::proofs::SeekLaws::passed, crate::proofs::SeekLaws::reached, crate::proofs::SeekLaws::none_behind, crate::proofs::SeekLaws::found))]
+    fn rows_before(&self, alloc: Global, key: &[u8]) -> Result<usize, SlateDBError>
+        ensures within { IfOk result (λ count. count ≤ length self.now.reads) }
+        ensures exact { IfOk result (λ count. IsRising self.now.order (left self.now) → drop count (rows_of (left self.now)) ≡ drop_before self.now.order key.now (rows_of (left self.now))) }
+        ensures cause { IfErr result (λ e. (e ≡ SlateDBError.OutOfMemory) ⊎ Refuses self.now.reads e) }
+    {
+        let mut low = 0;
+        let mut high = self.rows_left();
+        while low < high {
+            let middle = low + (high - low) / 2;
+            if self.is_before(alloc, middle, key)? {
+                low = middle + 1;
+            } else {
+                high = middle;
+            }
+        }
+        Ok(low)
+    }
+
+    /// Whether the order puts the row at an index before the key.
+    fn is_before(&self, alloc: Global, index: usize, key: &[u8]) -> Result<bool, SlateDBError>
+        requires { index < length self.now.reads }
+        ensures passed { IfOk result (λ before. before ≡ true → IsRising self.now.order (left self.now) → drop_before self.now.order key.now (drop (index + 1) (rows_of (left self.now))) ≡ drop_before self.now.order key.now (rows_of (left self.now))) }
+        ensures reached { IfOk result (λ before. before ≡ false → IsRising self.now.order (left self.now) → NoneBefore self.now.order key.now (drop index (rows_of (left self.now)))) }
+        ensures cause { IfErr result (λ e. (e ≡ SlateDBError.OutOfMemory) ⊎ Refuses self.now.reads e) }
+    {
+        let row = self.row(alloc, index)?;
+        Ok(self.order.puts_before(row.key.as_slice(), key))
+    }
+
+    /// Takes off exactly the leading rows that the order puts before the key, where the rows come in the order. A
+    /// refusal is one of the rows that are left.
+    fn skip_before(&mut self, alloc: Global, key: &[u8]) -> Result<(), SlateDBError>
+        ensures rows { IsRising self.old.order (left self.old) → OnOk result (left self.new ≡ Ok (drop_before self.old.order key.now (rows_of (left self.old)))) }
+        ensures fewer { (e : SlateDBError) → Refuses self.new.reads e → Refuses self.old.reads e }
+        ensures smaller { length self.new.reads ≤ length self.old.reads }
+        ensures order { self.new.order ≡ self.old.order }
+        ensures cause { IfErr result (λ e. (e ≡ SlateDBError.OutOfMemory) ⊎ Refuses self.old.reads e) }
+        ensures unchanged { OnErr result (self.new ≡ self.old) }
+    {
+        let count = self.rows_before(alloc, key)?;
+        self.skip(count);
+        Ok(())
+    }
+}
+
+impl<E: Outside, B: BlockLike> RowEntryIterator<E> for BlockIterator<B> {
+    ghost rest = { λ it _. rows_of (left it) };
+
+    ghost sound = { λ it _. IsRising it.order (left it) };
+
+    ghost order = { λ it. it.order };
+
+    ghost bound = { λ it. length it.reads };
+
+    ghost refuses = { λ it _ _ e. Refuses it.reads e };
+
+    ghost rising = { λ it _ h. rising_rows it.order (left it) h };
+
+    fn init(&mut self, _alloc: Global, _env: &mut E) -> Result<(), SlateDBError> {
+        Ok(())
+    }
+
+    #[tactic(auto, using(crate::proofs::SeekLaws::step_rows, crate::proofs::SeekLaws::step_rising, crate::proofs::SeekLaws::step_fewer, crate::proofs::SeekLaws::step_smaller, crate::proofs::SeekLaws::step_no_larger))]
+    fn next(&mut self, alloc: Global, _env: &mut E) -> Result<Option<RowEntry>, SlateDBError> {
+        let answer = self.next_row(alloc)?;
+        Ok(answer)
+    }
+
+    #[tactic(auto, using(crate::proofs::SeekLaws::sought_rising))]
+    fn seek(&mut self, alloc: Global, key: &[u8], _env: &mut E) -> Result<(), SlateDBError> {
+        self.skip_before(alloc, key)?;
+        Ok(())
+    }
+}
