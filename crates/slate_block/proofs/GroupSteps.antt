@@ -1,14 +1,16 @@
 -- Steps of a walk over rows of version 2.
-use Rattle.std.proofs.Common.{◌≡◌, ℕ, zero, suc, ◌+◌, ◌<◌, ◌≤◌, Bool, true, false, ◌&&◌, ◌||◌, cond, nat_eq, List, [], ◌∷◌, ◌++◌, length, get_or, drop, Result, Ok, Err, refl, sym, ap, ◌∙◌, arith, ◌⊎◌, inl, inr}
+use Rattle.std.proofs.Common.{◌≡◌, ℕ, zero, suc, ◌+◌, ◌<◌, ◌≤◌, Bool, true, false, ◌&&◌, ◌||◌, cond, nat_eq, List, [], ◌∷◌, ◌++◌, length, get_or, drop, Result, Ok, Err, refl, sym, ap, ◌∙◌, arith, ◌⊎◌, inl, inr, ltb, ◌^◌}
 use Rattle.std.proofs.Math.Dec.{eqb-suc-zero, eqb-zero-suc, eqb-suc-suc}
 use Rattle.std.proofs.lemmas.List.{at_drop_more, drop_all}
+use Rattle.slate_block.proofs.FieldLaws.{bind_ok}
+use Rattle.std.proofs.lemmas.Bool.{cases_lt}
 use Rattle.slate_types.specs.declared.error.SlateDBError.{SlateDBError}
 use Rattle.slate_types.specs.declared.error.SlateDBError.TheVariants.{CorruptTable, InvalidRowFlags}
 use Rattle.slate_types.specs.declared.types.RowEntry.{RowEntry}
 use Rattle.slate_block.specs.declared.row_groups.RowGroup.{RowGroup}
 use Rattle.slate_block.specs.declared.walk_v2.BlockPlace.{BlockPlace}
 use Rattle.slate_block.specs.Damage.{◌>>=◌, IsDamageIn}
-use Rattle.slate_block.specs.Walks.{moved, before, joined, between, group_v2, restart_v2, rows_v2, row_v2_in, is_none_left}
+use Rattle.slate_block.specs.Walks.{moved, before, joined, between, group_v2, restart_v2, rows_v2, row_v2_in, is_none_left, begins_at_zero, block_rows, block_rows_v2}
 use Rattle.slate_block.specs.BlockWalks.{IsDamage}
 use Rattle.slate_block.specs.GroupWalks.{Left, group_end, restart_at, group_left, is_over, left_v2}
 
@@ -175,3 +177,55 @@ pub refused_behind_group : (body offsets : List ℕ) (place : BlockPlace) (e : S
 refused_behind_group body offsets place e h in_block r =
     left_at_restart body offsets place h ∙ rows_from body offsets place.next in_block
     ∙ ap (λ (g : Left). joined g (rows_v2 body (drop (place.next + 1) offsets) (length body))) r
+
+-- ---- whole blocks
+
+pub named_rows : (body offsets : List ℕ) → (begins_at_zero offsets && ltb (length offsets) (2 ^ 16)) ≡ true → block_rows 2 body offsets ≡ rows_v2 body offsets (length body)
+unfolding block_rows block_rows_v2
+named_rows body [] h = absurd cc
+named_rows body (at ∷ ats) h = ap (λ (b : Bool). cond b (rows_v2 body (at ∷ ats) (length body)) (Err (CorruptTable 0))) h
+
+pub unnamed_rows : (body offsets : List ℕ) → (begins_at_zero offsets && ltb (length offsets) (2 ^ 16)) ≡ false → block_rows 2 body offsets ≡ Err (CorruptTable 0)
+unfolding block_rows
+unnamed_rows body offsets h = ap (λ (b : Bool). cond b (block_rows_v2 body offsets) (Err (CorruptTable 0))) h
+
+never_none : (row : RowEntry) (left : Left) → before row left ≡ Ok [] → ⊥
+never_none row (Ok rows) e = cc
+never_none row (Err d) e = cc
+
+group_some : (body : List ℕ) (group : RowGroup) → is_over group ≡ false → group_left body group ≡ Ok [] → ⊥
+group_some body group h e = by group.room refl
+  where
+    by : (n : ℕ) → group.room ≡ n → ⊥
+    by zero size = let full = full_left body group h size in cc
+    by (suc n) size =
+        let a = bind_ok (row_v2_in body group.previous group.at group.end) (λ found. before found.0 (group_v2 n body found.0.key found.1 group.end group.is_last)) [] (sym (next_left body group n h size) ∙ e) in
+        never_none a.0.0 (group_v2 n body a.0.0.key a.0.1 group.end group.is_last) a.2
+
+restart_never_none : (body offsets : List ℕ) (n : ℕ) → restart_at body offsets n ≡ Ok [] → ⊥
+unfolding restart_at restart_v2
+restart_never_none body offsets n e =
+    let end = group_end body offsets n in
+    let last = is_none_left (drop (n + 1) offsets) in
+    let a = bind_ok (row_v2_in body [] (get_or offsets n 0) end) (λ found. before found.0 (group_v2 15 body found.0.key found.1 end last)) [] e in
+    never_none a.0.0 (group_v2 15 body a.0.0.key a.0.1 end last) a.2
+
+joined_none : (first second : Left) → joined first second ≡ Ok [] → (first ≡ Ok []) × (second ≡ Ok [])
+joined_none (Ok []) (Ok []) e = (refl, refl)
+joined_none (Ok []) (Ok (row ∷ rows)) e = absurd cc
+joined_none (Ok (row ∷ rows)) (Ok more) e = absurd cc
+joined_none (Ok rows) (Err d) e = absurd cc
+joined_none (Err d) second e = absurd cc
+
+pub left_none : (body offsets : List ℕ) (place : BlockPlace) → left_v2 body offsets place ≡ Ok [] → (is_over place.group ≡ true) × (length offsets ≤ place.next)
+unfolding left_v2
+left_none body offsets place e =
+    let j = joined_none (group_left body place.group) (rows_v2 body (drop place.next offsets) (length body)) e in
+    (over (is_over place.group) refl j.0, past (cases_lt place.next (length offsets)) j.1)
+  where
+    over : (b : Bool) → is_over place.group ≡ b → group_left body place.group ≡ Ok [] → is_over place.group ≡ true
+    over true h g = h
+    over false h g = absurd (group_some body place.group h g)
+    past : (place.next < length offsets) ⊎ (length offsets ≤ place.next) → rows_v2 body (drop place.next offsets) (length body) ≡ Ok [] → length offsets ≤ place.next
+    past (inl lt) g = absurd (restart_never_none body offsets place.next (joined_none (restart_at body offsets place.next) (rows_v2 body (drop (place.next + 1) offsets) (length body)) (sym (rows_from body offsets place.next lt) ∙ g)).0)
+    past (inr le) g = le

@@ -1,21 +1,27 @@
 -- A seek in a walk over rows of version 2.
-use Rattle.std.proofs.Common.{◌≡◌, ℕ, ◌+◌, ◌<◌, ◌≤◌, Bool, true, false, ◌&&◌, cond, List, [], ◌∷◌, ◌++◌, Option, ℤ, length, get_or, take, drop, Result, Ok, Err, refl, sym, ap, ◌∙◌, subst, leb, arith}
+use Rattle.std.proofs.Common.{◌≡◌, ℕ, ◌+◌, ◌<◌, ◌≤◌, Bool, true, false, ◌&&◌, cond, List, [], ◌∷◌, ◌++◌, Option, ℤ, length, get_or, take, drop, Result, Ok, Err, refl, sym, ap, ◌∙◌, subst, leb, arith, ◌⊎◌, inl, inr, zero, suc, ◌-◌, append_assoc}
 use Rattle.std.specs.Prelude.{slice_range}
 use Rattle.slate_types.specs.declared.error.SlateDBError.{SlateDBError}
 use Rattle.slate_types.specs.declared.error.SlateDBError.TheVariants.{CorruptTable}
 use Rattle.slate_types.specs.declared.types.RowEntry.{RowEntry}
 use Rattle.slate_types.specs.declared.iter.IterationOrder.{IterationOrder}
-use Rattle.slate_types.specs.Iteration.{comes_before, drop_before}
+use Rattle.slate_types.specs.Iteration.{comes_before, drop_before, NoneBefore, IsInOrder}
+use Rattle.slate_types.specs.declared.iter.IterationOrder.TheVariants.{Ascending}
+use Rattle.slate_types.proofs.IterationLaws.{not_before}
 use Rattle.slate_block.specs.declared.fields.KeyFields.{KeyFields}
 use Rattle.slate_block.specs.declared.fields.RowFields.{RowFields}
 use Rattle.slate_block.specs.declared.row.SstRowEntryV2.{SstRowEntryV2}
 use Rattle.slate_block.specs.Damage.{◌>>=◌, key_layout_v2, layout_v2, block_field, head_layout, length_agrees, stamps_layout}
 use Rattle.slate_block.specs.RowReading.{row_v2_of, entry_of_v2}
-use Rattle.slate_block.specs.Walks.{before, moved_result, between, entry_v2_in, row_v2_in, restart_v2, group_v2, is_none_left, is_restored, whole_v2}
-use Rattle.slate_block.specs.GroupWalks.{Left, dropped, group_end, restart_at}
+use Rattle.slate_block.specs.Walks.{before, joined, next_place, rows_v2, moved_result, between, entry_v2_in, row_v2_in, restart_v2, group_v2, is_none_left, is_restored, whole_v2}
+use Rattle.slate_block.specs.BlockWalks.{rows_of, IsRising}
+use Rattle.slate_block.specs.GroupWalks.{Left, dropped, group_end, restart_at, group_left, left_v2, BeginsBefore, IsRefused}
+use Rattle.slate_block.specs.declared.walk_v2.BlockPlace.{BlockPlace}
 use Rattle.slate_block.proofs.FieldLaws.{bind_ok, ok_is}
 use Rattle.std.proofs.Math.Seq.{take-nil}
-use Rattle.std.proofs.lemmas.Bool.{leb-true}
+use Rattle.std.proofs.lemmas.Bool.{leb-true, false≢true}
+use Rattle.std.proofs.lemmas.List.{drop-drop}
+use Rattle.slate_block.proofs.GroupSteps.{rows_from}
 use Rattle.slate_block.specs.declared.flags.RowFlags.{RowFlags}
 
 -- ---- the walk within
@@ -125,3 +131,125 @@ restart_key body offsets n row rows e =
     let same : a.0.0 ≡ row = before_ok a.0.0 (group_v2 15 body a.0.0.key a.0.1 end last) row rows a.2 in
     subst (λ (r : RowEntry). RestartKey body from end r.key) same (row_in_key body from end a.0 a.1)
 
+-- ---- groups that a seek goes past
+
+both : (b : Bool) → (b ≡ true) ⊎ (b ≡ false)
+both true = inl refl
+both false = inr refl
+
+none_at : (order : IterationOrder) (key : List ℕ) (front behind : List RowEntry) (row : RowEntry) → NoneBefore order key (front ++ (row ∷ behind)) → comes_before order row.key key ≡ false
+none_at order key [] behind row h = h.0
+none_at order key (first ∷ front) behind row h = none_at order key front behind row h.1
+
+-- rows in order that stand before one that a seek goes past
+pub dropped_front : (order : IterationOrder) (key : List ℕ) (front behind : List RowEntry) (row : RowEntry) → IsInOrder order (front ++ (row ∷ behind)) → comes_before order row.key key ≡ true →
+    drop_before order key (front ++ (row ∷ behind)) ≡ drop_before order key (row ∷ behind)
+dropped_front order key [] behind row h b = refl
+dropped_front order key (first ∷ front) behind row h b =
+    elim (both (comes_before order first.key key)) as (λ _. drop_before order key (first ∷ (front ++ (row ∷ behind))) ≡ drop_before order key (row ∷ behind)) [
+      | inl before ↦ rw before (dropped_front order key front behind row h.1 b)
+      | inr after ↦
+          let other : comes_before order row.key key ≡ false = not_before order key first.key row.key after (none_at order first.key front behind row h.0) in
+          absurd (false≢true (sym other ∙ b))
+    ]
+
+record Splits (body : List ℕ) (ats : List ℕ) (k : ℕ) (rows : List RowEntry) : Type 0 where
+  pub front : List RowEntry
+  pub behind : List RowEntry
+  pub read : rows_v2 body (drop k ats) (length body) ≡ Ok behind
+  pub parts : rows ≡ front ++ behind
+
+joined_ok : (first second : Left) (rows : List RowEntry) → joined first second ≡ Ok rows → (front : List RowEntry) × (behind : List RowEntry) × (first ≡ Ok front) × (second ≡ Ok behind) × (rows ≡ front ++ behind)
+joined_ok (Ok front) (Ok behind) rows e = (front, behind, refl, refl, sym (ok_is (front ++ behind) rows e))
+joined_ok (Ok front) (Err d) rows e = absurd cc
+joined_ok (Err d) second rows e = absurd cc
+
+rows_split : (body ats : List ℕ) (k : ℕ) (rows : List RowEntry) → rows_v2 body ats (length body) ≡ Ok rows → Splits body ats k rows
+unfolding rows_v2
+rows_split body ats zero rows e = record { front = []; behind = rows; read = e; parts = refl }
+rows_split body [] (suc k) rows e = record { front = []; behind = rows; read = e; parts = refl }
+rows_split body (at ∷ ats) (suc k) rows e =
+    let j = joined_ok (restart_v2 body at (next_place (length body) ats) (is_none_left ats)) (rows_v2 body ats (length body)) rows e in
+    let s = rows_split body ats k j.1 j.3 in
+    record { front = j.0 ++ s.front; behind = s.behind; read = s.read; parts = j.4 ∙ ap (λ (l : List RowEntry). j.0 ++ l) s.parts ∙ sym (append_assoc j.0 s.front s.behind) }
+
+record Jumps (body offsets : List ℕ) (n : ℕ) (rows : List RowEntry) : Type 0 where
+  pub front : List RowEntry
+  pub behind : List RowEntry
+  pub read : rows_v2 body (drop n offsets) (length body) ≡ Ok behind
+  pub parts : rows ≡ front ++ behind
+
+left_jumps : (body offsets : List ℕ) (place : BlockPlace) (n : ℕ) (rows : List RowEntry) → place.next ≤ n → left_v2 body offsets place ≡ Ok rows → Jumps body offsets n rows
+unfolding left_v2
+left_jumps body offsets place n rows le e =
+    let j = joined_ok (group_left body place.group) (rows_v2 body (drop place.next offsets) (length body)) rows e in
+    let s = rows_split body (drop place.next offsets) (n - place.next) j.1 j.3 in
+    let at : drop (n - place.next) (drop place.next offsets) ≡ drop n offsets = drop-drop (n - place.next) place.next offsets ∙ ap (λ (k : ℕ). drop k offsets) (omega arith) in
+    record { front = j.0 ++ s.front; behind = s.behind; read = ap (λ (l : List ℕ). rows_v2 body l (length body)) (sym at) ∙ s.read; parts = j.4 ∙ ap (λ (l : List RowEntry). j.0 ++ l) s.parts ∙ sym (append_assoc j.0 s.front s.behind) }
+
+before_some : (row : RowEntry) (left : Left) (rows : List RowEntry) → before row left ≡ Ok rows → (more : List RowEntry) × (rows ≡ row ∷ more)
+before_some row (Ok more) rows e = (more, sym (ok_is (row ∷ more) rows e))
+before_some row (Err d) rows e = absurd cc
+
+-- a group that can be read has a first row
+pub restart_some : (body offsets : List ℕ) (n : ℕ) (rows : List RowEntry) → restart_at body offsets n ≡ Ok rows → (row : RowEntry) × (more : List RowEntry) × (rows ≡ row ∷ more)
+unfolding restart_at restart_v2
+restart_some body offsets n rows e =
+    let end = group_end body offsets n in
+    let last = is_none_left (drop (n + 1) offsets) in
+    let a = bind_ok (row_v2_in body [] (get_or offsets n 0) end) (λ found. before found.0 (group_v2 15 body found.0.key found.1 end last)) rows e in
+    let b = before_some a.0.0 (group_v2 15 body a.0.0.key a.0.1 end last) rows a.2 in
+    (a.0.0, b.0, b.1)
+
+record BeginsGroup (order : IterationOrder) (key : List ℕ) (rows : List RowEntry) : Type 0 where
+  pub row : RowEntry
+  pub more : List RowEntry
+  pub parts : rows ≡ row ∷ more
+  pub before : comes_before order row.key key ≡ true
+
+behind_begins : (order : IterationOrder) (body offsets : List ℕ) (n : ℕ) (key : List ℕ) (rows : List RowEntry) → n < length offsets → rows_v2 body (drop n offsets) (length body) ≡ Ok rows →
+    BeginsBefore order body offsets n key → BeginsGroup order key rows
+behind_begins order body offsets n key rows in_block e b =
+    let j = joined_ok (restart_at body offsets n) (rows_v2 body (drop (n + 1) offsets) (length body)) rows (sym (rows_from body offsets n in_block) ∙ e) in
+    let r = restart_some body offsets n j.0 j.2 in
+    record { row = r.0; more = r.1 ++ j.1; parts = j.4 ∙ ap (λ (l : List RowEntry). l ++ j.1) r.2; before = b r.0 r.1 (j.2 ∙ ap done r.2) }
+
+jump_rows : (body offsets : List ℕ) (place : BlockPlace) (n : ℕ) (key : List ℕ) (rows : List RowEntry) → left_v2 body offsets place ≡ Ok rows → IsInOrder Ascending rows → place.next ≤ n → n < length offsets →
+    BeginsBefore Ascending body offsets n key → dropped Ascending key (rows_v2 body (drop n offsets) (length body)) ≡ Ok (drop_before Ascending key rows)
+jump_rows body offsets place n key rows e h le in_block b =
+    let j = left_jumps body offsets place n rows le e in
+    let g = behind_begins Ascending body offsets n key j.behind in_block j.read b in
+    let parts : rows ≡ j.front ++ (g.row ∷ g.more) = j.parts ∙ ap (λ (l : List RowEntry). j.front ++ l) g.parts in
+    let read : rows_v2 body (drop n offsets) (length body) ≡ Ok (g.row ∷ g.more) = j.read ∙ ap done g.parts in
+    ap (dropped Ascending key) read ∙ ap done (sym (dropped_front Ascending key j.front g.more g.row (subst (IsInOrder Ascending) parts h) g.before) ∙ ap (drop_before Ascending key) (sym parts))
+
+pub jump_dropped : (body offsets : List ℕ) (place start : BlockPlace) (n : ℕ) (key : List ℕ) → left_v2 body offsets start ≡ rows_v2 body (drop n offsets) (length body) → IsRising Ascending (left_v2 body offsets place) →
+    place.next ≤ n → n < length offsets → BeginsBefore Ascending body offsets n key → dropped Ascending key (left_v2 body offsets start) ≡ dropped Ascending key (left_v2 body offsets place)
+jump_dropped body offsets place start n key s h le in_block b = ap (dropped Ascending key) s ∙ by (left_v2 body offsets place) refl h
+  where
+    by : (left : Left) → left_v2 body offsets place ≡ left → IsRising Ascending left → dropped Ascending key (rows_v2 body (drop n offsets) (length body)) ≡ dropped Ascending key left
+    by (Ok rows) e r = jump_rows body offsets place n key rows e r le in_block b
+    by (Err d) e r = absurd r
+
+pub jump_refused : (body offsets : List ℕ) (place start : BlockPlace) (n : ℕ) → left_v2 body offsets start ≡ rows_v2 body (drop n offsets) (length body) → place.next ≤ n →
+    IsRefused (left_v2 body offsets start) → IsRefused (left_v2 body offsets place)
+jump_refused body offsets place start n s le h = by (left_v2 body offsets place) refl
+  where
+    by : (left : Left) → left_v2 body offsets place ≡ left → IsRefused left
+    by (Ok rows) e = let j = left_jumps body offsets place n rows le e in subst IsRefused (s ∙ j.read) h
+    by (Err d) e = tt
+
+-- ---- the whole seek
+
+pub sought_left : (order : IterationOrder) (key : List ℕ) (after start left : Left) → after ≡ dropped order key start → (IsRising order left → dropped order key start ≡ dropped order key left) → IsRising order left →
+    after ≡ Ok (drop_before order key (rows_of left))
+sought_left order key after start (Ok rows) e same h = e ∙ same h
+sought_left order key after start (Err d) e same h = absurd h
+
+pub sought_refused : (order : IterationOrder) (key : List ℕ) (after start : Left) → after ≡ dropped order key start → IsRefused after → IsRefused start
+sought_refused order key after (Ok rows) e h = subst IsRefused e h
+sought_refused order key after (Err d) e h = tt
+
+pub refused_is : (left : Left) (e : SlateDBError) → left ≡ Err e → IsRefused left
+refused_is (Ok rows) e h = absurd cc
+refused_is (Err d) e h = tt

@@ -1,6 +1,5 @@
 -- What is left of a walk over a block.
 --     IsRefused left      the walk is refused
---     TakesLeft left answer after      the answer is the first row, and the others are left; or none was left
 --     dropped order key left      the walk without the leading rows that the order puts before the key
 --     Walk      what is left of a walk, in its order
 --     group_end body offsets n, restart_at body offsets n      where the group that begins at a restart ends, and its rows
@@ -24,10 +23,6 @@ Left = Result (List RowEntry) SlateDBError
 abbrev pub IsRefused : Left → Type 0
 IsRefused (Ok rows) = ⊥
 IsRefused (Err e) = Unit {0}
-
-abbrev pub TakesLeft : Left → Option RowEntry → Left → Type 0
-TakesLeft left None after = (left ≡ Ok []) × (after ≡ Ok [])
-TakesLeft left (Some row) after = left ≡ before row after
 
 abbrev pub dropped : IterationOrder → List ℕ → Left → Left
 dropped order key left = left >>= λ rows. Ok (drop_before order key rows)

@@ -1,13 +1,13 @@
 //! A walk over the rows of a block of version 2, from its front to its end.
-ghost use Rattle.std.specs.Prelude.{◌≡◌, ◌≤◌, ◌<◌, ◌⊎◌, ℕ, List, ◌∷◌, Ok, Err, IfOk, IfErr, IfSome, length, drop};
+ghost use Rattle.std.specs.Prelude.{◌≡◌, ◌≤◌, ◌<◌, ◌⊎◌, ℕ, List, ◌∷◌, Ok, Err, IfOk, IfErr, IfSome, IsOkUnless, length, drop};
 ghost use Rattle.slate_types.specs.declared.types.RowEntry.{RowEntry};
-ghost use Rattle.slate_types.specs.Iteration.{comes_before};
+ghost use Rattle.slate_types.specs.Iteration.{comes_before, drop_before};
 ghost use Rattle.slate_block.specs.Walks.{rows_v2};
-ghost use Rattle.slate_block.specs.BlockWalks.{IsDamage};
-ghost use Rattle.slate_block.specs.GroupWalks.{bound_v2, dropped, left_v2, restart_at, BeginsBefore, IsNextV2};
+ghost use Rattle.slate_block.specs.BlockWalks.{rows_of, IsDamage, IsRising};
+ghost use Rattle.slate_block.specs.GroupWalks.{bound_v2, dropped, left_v2, restart_at, BeginsBefore, IsNextV2, IsRefused};
 
 use crate::fields::key_fields_v2;
-use crate::row_groups::{first_of_group, group_end, next_of_group, RowGroup};
+use crate::row_groups::{RowGroup, first_of_group, group_end, next_of_group};
 use bytes::Bytes;
 use slate_types::{IterationOrder, RowEntry, SlateDBError};
 use std::alloc::Global;
@@ -85,6 +85,45 @@ pub fn behind_key(
     Ok(place)
 }
 
+/// The place behind all rows that come before a key, where the rows come in order. It is found by the groups' first keys,
+/// and from there row by row.
+#[tactic(auto, using(crate::proofs::SeekSteps::sought_left, crate::proofs::SeekSteps::sought_refused, crate::proofs::SeekSteps::refused_is))]
+pub fn seek_key(
+    alloc: Global,
+    body: &Bytes,
+    offsets: &[u16],
+    place: &BlockPlace,
+    key: &[u8],
+) -> Result<BlockPlace, SlateDBError>
+    ensures left { IfOk result (λ after. IsRising IterationOrder.Ascending (left_v2 body.now offsets.now place.now) → left_v2 body.now offsets.now after ≡ Ok (drop_before IterationOrder.Ascending key.now (rows_of (left_v2 body.now offsets.now place.now)))) }
+    ensures fewer { IfOk result (λ after. IsRefused (left_v2 body.now offsets.now after) → IsRefused (left_v2 body.now offsets.now place.now)) }
+    ensures bound { IfOk result (λ after. bound_v2 offsets.now after ≤ bound_v2 offsets.now place.now) }
+    ensures cause { IfErr result (λ e. (e ≡ SlateDBError.OutOfMemory) ⊎ IsRefused (left_v2 body.now offsets.now place.now)) }
+    ensures damage { IfErr result (λ e. (e ≡ SlateDBError.OutOfMemory) ⊎ IsDamage e) }
+{
+    let start = start_of_seek(body, offsets, place, key)?;
+    behind_key(alloc, body, offsets, start, key)
+}
+
+/// A place from which a seek can go row by row: before the last group whose first key comes before the key, or where it
+/// stands. The one error is `OutOfMemory`.
+fn start_of_seek(
+    body: &Bytes,
+    offsets: &[u16],
+    place: &BlockPlace,
+    key: &[u8],
+) -> Result<BlockPlace, SlateDBError>
+    ensures same { IfOk result (λ start. IsRising IterationOrder.Ascending (left_v2 body.now offsets.now place.now) → dropped IterationOrder.Ascending key.now (left_v2 body.now offsets.now start) ≡ dropped IterationOrder.Ascending key.now (left_v2 body.now offsets.now place.now)) }
+    ensures fewer { IfOk result (λ start. IsRefused (left_v2 body.now offsets.now start) → IsRefused (left_v2 body.now offsets.now place.now)) }
+    ensures bound { IfOk result (λ start. bound_v2 offsets.now start ≤ bound_v2 offsets.now place.now) }
+    ensures cause { IsOkUnless result SlateDBError.OutOfMemory }
+{
+    match last_before(body, offsets, place.next, key) {
+        Some(number) => Ok(BlockPlace::before_group(number)),
+        None => Ok(place.clone()?),
+    }
+}
+
 /// The number of a group, from one on, whose first key comes before the key: the last one, where the groups' keys rise.
 /// `None` where there is none.
 pub fn last_before(body: &Bytes, offsets: &[u16], from: usize, key: &[u8]) -> Option<usize>
@@ -101,11 +140,7 @@ pub fn last_before(body: &Bytes, offsets: &[u16], from: usize, key: &[u8]) -> Op
             high = middle;
         }
     }
-    if low > from {
-        Some(low - 1)
-    } else {
-        None
-    }
+    if low > from { Some(low - 1) } else { None }
 }
 
 /// Whether the order puts a group's first key before the key. A group whose first key can't be read counts as not before
