@@ -210,7 +210,7 @@ restart_never_none body offsets n e =
     let a = bind_ok (row_v2_in body [] (get_or offsets n 0) end) (λ found. before found.0 (group_v2 15 body found.0.key found.1 end last)) [] e in
     never_none a.0.0 (group_v2 15 body a.0.0.key a.0.1 end last) a.2
 
-joined_none : (first second : Left) → joined first second ≡ Ok [] → (first ≡ Ok []) × (second ≡ Ok [])
+pub joined_none : (first second : Left) → joined first second ≡ Ok [] → (first ≡ Ok []) × (second ≡ Ok [])
 joined_none (Ok []) (Ok []) e = (refl, refl)
 joined_none (Ok []) (Ok (row ∷ rows)) e = absurd cc
 joined_none (Ok (row ∷ rows)) (Ok more) e = absurd cc
@@ -226,6 +226,7 @@ left_none body offsets place e =
     over : (b : Bool) → is_over place.group ≡ b → group_left body place.group ≡ Ok [] → is_over place.group ≡ true
     over true h g = h
     over false h g = absurd (group_some body place.group h g)
+
     past : (place.next < length offsets) ⊎ (length offsets ≤ place.next) → rows_v2 body (drop place.next offsets) (length body) ≡ Ok [] → length offsets ≤ place.next
     past (inl lt) g = absurd (restart_never_none body offsets place.next (joined_none (restart_at body offsets place.next) (rows_v2 body (drop (place.next + 1) offsets) (length body)) (sym (rows_from body offsets place.next lt) ∙ g)).0)
     past (inr le) g = le

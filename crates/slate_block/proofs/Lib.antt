@@ -3,6 +3,8 @@ pub mod VarintLaws
 pub mod Groups
 pub mod GroupSteps
 pub mod SeekSteps
+pub mod BackSteps
+pub mod BackLaws
 pub mod FlagLaws
 pub mod RowLaws
 pub mod FieldLaws

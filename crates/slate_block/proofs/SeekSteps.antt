@@ -159,7 +159,7 @@ record Splits (body : List ℕ) (ats : List ℕ) (k : ℕ) (rows : List RowEntry
   pub read : rows_v2 body (drop k ats) (length body) ≡ Ok behind
   pub parts : rows ≡ front ++ behind
 
-joined_ok : (first second : Left) (rows : List RowEntry) → joined first second ≡ Ok rows → (front : List RowEntry) × (behind : List RowEntry) × (first ≡ Ok front) × (second ≡ Ok behind) × (rows ≡ front ++ behind)
+pub joined_ok : (first second : Left) (rows : List RowEntry) → joined first second ≡ Ok rows → (front : List RowEntry) × (behind : List RowEntry) × (first ≡ Ok front) × (second ≡ Ok behind) × (rows ≡ front ++ behind)
 joined_ok (Ok front) (Ok behind) rows e = (front, behind, refl, refl, sym (ok_is (front ++ behind) rows e))
 joined_ok (Ok front) (Err d) rows e = absurd cc
 joined_ok (Err d) second rows e = absurd cc

@@ -6,16 +6,20 @@
 --     group_left body group      what is left of a group; is_over group      nothing is
 --     left_v2 body offsets place      what is left of a block of version 2
 --     bound_v2 offsets place      no fewer than the rows that are left
+--     rows_back n body offsets      the rows of so many groups, the last first; or the first refusal of the last of these groups that fails
+--     block_rows_back body offsets      the same of a whole block
+--     left_back body offsets groups rows      what is left before a group's rows and behind so many groups
 --     BeginsBefore order body offsets n key      the order puts a group's first key before the key
-use Rattle.std.specs.Prelude.{◌≡◌, ℕ, ◌+◌, ◌-◌, ◌*◌, Bool, true, ◌&&◌, ◌||◌, ◌==◌, List, [], ◌∷◌, length, drop, slice_index, Option, Some, None, Result, Ok, Err}
+use Rattle.std.specs.Prelude.{◌≡◌, ℕ, zero, suc, ◌^◌, nat_lt, if◌then◌else◌, reverse, ◌+◌, ◌-◌, ◌*◌, Bool, true, ◌&&◌, ◌||◌, ◌==◌, List, [], ◌∷◌, length, drop, slice_index, Option, Some, None, Result, Ok, Err}
 use Rattle.slate_types.specs.declared.error.SlateDBError.{SlateDBError}
+use Rattle.slate_types.specs.declared.error.SlateDBError.TheVariants.{CorruptTable}
 use Rattle.slate_types.specs.declared.types.RowEntry.{RowEntry}
 use Rattle.slate_types.specs.declared.iter.IterationOrder.{IterationOrder}
 use Rattle.slate_types.specs.Iteration.{comes_before, drop_before}
 use Rattle.slate_block.specs.declared.row_groups.RowGroup.{RowGroup}
 use Rattle.slate_block.specs.declared.walk_v2.BlockPlace.{BlockPlace}
 use Rattle.slate_block.specs.Damage.{◌>>=◌}
-use Rattle.slate_block.specs.Walks.{before, joined, next_place, group_v2, restart_v2, is_none_left, rows_v2}
+use Rattle.slate_block.specs.Walks.{before, joined, next_place, begins_at_zero, group_v2, restart_v2, is_none_left, rows_v2}
 
 abbrev pub Left : Type 0
 Left = Result (List RowEntry) SlateDBError
@@ -64,3 +68,18 @@ IsNextOfGroup body left (Some found) = left ≡ before found.0 (group_left body 
 abbrev pub IsNextV2 : List ℕ → List ℕ → BlockPlace → Option (RowEntry × BlockPlace) → Type 0
 IsNextV2 body offsets place None = left_v2 body offsets place ≡ Ok []
 IsNextV2 body offsets place (Some found) = left_v2 body offsets place ≡ before found.0 (left_v2 body offsets found.1)
+
+-- ---- version 2 from the end
+
+abbrev pub turned : Left → Left
+turned left = left >>= λ rows. Ok (reverse rows)
+
+unfoldable pub rows_back : ℕ → List ℕ → List ℕ → Left
+rows_back zero body offsets = Ok []
+rows_back (suc n) body offsets = joined (turned (restart_at body offsets n)) (rows_back n body offsets)
+
+unfoldable pub block_rows_back : List ℕ → List ℕ → Left
+block_rows_back body offsets = if begins_at_zero offsets && nat_lt (length offsets) (2 ^ 16) then rows_back (length offsets) body offsets else Err (CorruptTable 0)
+
+unfoldable pub left_back : List ℕ → List ℕ → ℕ → List RowEntry → Left
+left_back body offsets groups rows = joined (Ok (reverse rows)) (rows_back groups body offsets)

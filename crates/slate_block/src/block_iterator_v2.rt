@@ -8,7 +8,7 @@ ghost use Rattle.slate_block.specs.GroupWalks.{IsRefused};
 use crate::block_like::BlockLike;
 use crate::fields::corrupt;
 use crate::places::are_named;
-use crate::walk_v2::{next_of_block, seek_key, BlockPlace};
+use crate::walk_v2::{BlockPlace, next_of_block, seek_key};
 use slate_types::{IterationOrder, RowEntry, SlateDBError};
 use std::alloc::Global;
 use std::marker::Model;
