@@ -1,6 +1,7 @@
 -- What a walk from the end of a block of version 2 reads, and what its seeks leave.
-use Rattle.std.proofs.Common.{◌≡◌, ℕ, zero, suc, ◌+◌, ◌-◌, ◌^◌, ◌<◌, ◌≤◌, Bool, true, false, ◌&&◌, cond, ltb, List, [], ◌∷◌, ◌++◌, length, drop, reverse, Result, Ok, Err, refl, sym, ap, ◌∙◌, subst, arith, append_assoc, ◌⊎◌, inl, inr}
-use Rattle.std.proofs.lemmas.Bool.{cases_lt}
+use Rattle.std.proofs.Common.{◌≡◌, ℕ, zero, suc, ◌+◌, ◌-◌, ◌^◌, ◌<◌, ◌≤◌, Bool, true, false, ◌&&◌, cond, ltb, List, [], ◌∷◌, ◌++◌, length, drop, reverse, Result, Ok, Err, refl, sym, ap, ◌∙◌, subst, arith, append_assoc, ◌⊎◌, inl, inr, nat_eq, rules}
+use Rattle.std.proofs.lemmas.Bool.{cases_lt, eqb-true, eq-eqb}
+use Rattle.std.specs.Prelude.{IsTrue}
 use Rattle.std.proofs.lemmas.List.{append-nil, reverse-append, reverse-reverse, length-reverse, nil_from_length, drop_all}
 use Rattle.slate_types.specs.declared.error.SlateDBError.{SlateDBError}
 use Rattle.slate_types.specs.declared.types.RowEntry.{RowEntry}
@@ -253,3 +254,19 @@ sought_back_refused body offsets groups n key rows after le e h = by (rows_back 
     by : (left : Left) → rows_back n body offsets ≡ left → IsRefused left → IsRefused (left_back body offsets groups rows)
     by (Ok behind) r k = absurd k
     by (Err d) r k = back_refused_is body offsets groups n rows d le r
+
+-- ---- whether a row is left
+
+pub empty_tells : (body offsets : List ℕ) (groups n : ℕ) (rows : List RowEntry) (b : Bool) → groups ≡ 0 → n ≡ length rows → b ≡ nat_eq n 0 →
+    (IsTrue b → left_back body offsets groups rows ≡ Ok []) × (left_back body offsets groups rows ≡ Ok [] → IsTrue b)
+empty_tells body offsets groups n rows b none size e =
+    let zero_is : nat_eq n 0 ≡ true → rows ≡ [] = λ h. nil_from_length rows (sym size ∙ eqb-true n 0 h) in
+    let is_zero : rows ≡ [] → nat_eq n 0 ≡ true = λ h. eq-eqb n 0 (size ∙ ap length h) in
+    (λ t. no_rows_back body offsets groups rows none (zero_is (sym e ∙ true_is b t)), λ h. is_true b (e ∙ is_zero (rows_back_none body offsets groups rows h).1))
+  where
+    true_is : (b : Bool) → IsTrue b → b ≡ true
+    true_is true t = refl
+    true_is false t = absurd cc
+    is_true : (b : Bool) → b ≡ true → IsTrue b
+    is_true true h = search rules
+    is_true false h = absurd cc

@@ -40,7 +40,7 @@ impl<B: BlockLike> Model for DescendingBlockIteratorV2<B> {
 impl<B: BlockLike> DescendingBlockIteratorV2<B> {
     /// All rows of the block. `CorruptTable` at 0 where the offsets don't begin at 0, or are more than 65535. What else
     /// fails is refused when the walk comes to its group: the first field of the last group that fails.
-    #[tactic(auto, using(crate::proofs::BackLaws::named_back, crate::proofs::BackLaws::unnamed_back, crate::proofs::BackLaws::read_back, crate::proofs::BackLaws::back_is_read))]
+    #[tactic(auto, using(crate::proofs::BackLaws::named_back, crate::proofs::GroupSteps::unnamed_rows, crate::proofs::BackLaws::read_back, crate::proofs::BackLaws::back_is_read))]
     pub fn new(alloc: Global, block: B) -> Result<Self, SlateDBError>
         ensures left { IfOk result (λ it. it.left ≡ block_rows_back (B.body_bytes block) (B.row_offsets block)) }
         ensures rows { IfOk result (λ it. (rows : List RowEntry) → block_rows 2 (B.body_bytes block) (B.row_offsets block) ≡ Ok rows → it.left ≡ Ok (reverse rows)) }
@@ -96,7 +96,7 @@ impl<B: BlockLike> DescendingBlockIteratorV2<B> {
 
     /// Takes off exactly the leading rows that come after the key, where the rows come in order. It refuses as `next_row`
     /// does, where the walk is refused.
-    #[tactic(auto, using(crate::proofs::BackLaws::kept_left, crate::proofs::BackLaws::kept_refused, crate::proofs::BackLaws::sought_back, crate::proofs::BackLaws::sought_back_refused, crate::proofs::BackLaws::back_refused_is))]
+    #[tactic(auto, using(crate::proofs::BackLaws::kept_left, crate::proofs::SeekSteps::sought_left, crate::proofs::SeekSteps::sought_refused, crate::proofs::BackLaws::sought_back, crate::proofs::BackLaws::sought_back_refused, crate::proofs::BackLaws::back_refused_is))]
     pub fn skip_before(&mut self, alloc: Global, key: &[u8]) -> Result<(), SlateDBError>
         ensures rows { IsRising self.old.order self.old.left → OnOk result (self.new.left ≡ Ok (drop_before self.old.order key.now (rows_of self.old.left))) }
         ensures fewer { IsRefused self.new.left → IsRefused self.old.left }
