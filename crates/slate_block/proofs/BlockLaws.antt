@@ -29,7 +29,7 @@ same_row_from_v2 n m other r s p q h =
     λ i. record { key = key i; value = (h i).value; seq = (h i).seq; create_ts = (h i).create_ts; expire_ts = (h i).expire_ts }
 
 -- two rows, each at the front of the same bytes
-next_v1 : (a b x y : List ℕ) (e f : SstRowEntry) → IsRowV1 a e → IsRowV1 b f → a ++ x ≡ b ++ y → (e ≡ f) × (x ≡ y)
+pub next_v1 : (a b x y : List ℕ) (e f : SstRowEntry) → IsRowV1 a e → IsRowV1 b f → a ++ x ≡ b ++ y → (e ≡ f) × (x ≡ y)
 next_v1 a b x y e f s t h =
     let both = same_row_v1 s.0 t.0 x y s.1 t.1 (ap (λ l. l ++ x) (sym s.2) ∙ h ∙ ap (λ l. l ++ y) t.2) in
     (s.3 ∙ ap as_read_v1 both.0 ∙ sym t.3, both.1)

@@ -18,3 +18,4 @@ pub mod BlockLaws
 pub mod WrittenLaws
 pub mod WalkLaws
 pub mod SeekLaws
+pub mod WalkedBlocks

@@ -1,5 +1,6 @@
 -- What is read of version 1 is spelled so, and what is spelled so is read.
-use Rattle.std.proofs.Common.{◌≡◌, ℕ, ◌+◌, ◌^◌, ◌<◌, Bool, true, false, cond, List, [], ◌∷◌, ◌++◌, length, drop, Option, Some, None, Ok, Err, ℤ, refl, sym, ap, subst, ◌∙◌, ◌⊎◌, inl, inr, append_assoc, arith}
+use Rattle.std.proofs.Common.{◌≡◌, ℕ, ◌+◌, ◌^◌, ◌<◌, ◌≤◌, Bool, true, false, cond, List, [], ◌∷◌, ◌++◌, length, drop, Option, Some, None, Ok, Err, ℤ, refl, sym, ap, subst, ◌∙◌, ◌⊎◌, inl, inr, append_assoc, arith}
+use Rattle.std.proofs.lemmas.List.{length-append, length-drop}
 use Rattle.std.specs.Prelude.{slice_range}
 use Rattle.std.specs.Int.{w16, w32}
 use Rattle.slate_types.specs.declared.error.SlateDBError.{SlateDBError}
@@ -65,7 +66,7 @@ regrouped : (a b x c h g z s t v : List ℕ) → b ≡ x → g ≡ z → a ++ (b
 regrouped a b x c h g z s t v p q = in_order a b c h g s t v ∙ (λ i. (((a ++ p i) ++ c) ++ (((h ++ q i) ++ s) ++ t)) ++ v)
 
 abbrev IsTakenV1 : List ℕ → ℕ → RowFields → Type 0
-IsTakenV1 bytes shared fields = BeginsV1 (entry_of_v1 bytes shared fields) bytes (drop fields.end bytes)
+IsTakenV1 bytes shared fields = BeginsV1 (entry_of_v1 bytes shared fields) bytes (drop fields.end bytes) × (fields.end ≤ length bytes)
 
 taken_v1 : ℕ → ℕ → ℕ → ℕ → ℕ → RowFlags → Option ℤ → Option ℤ → RowFields
 taken_v1 from to start stop seq f expire create = record { suffix_at = from; suffix_end = to; value_at = start; value_end = stop; seq = seq; flags = f; expire_ts = expire; create_ts = create; end = stop }
@@ -87,12 +88,14 @@ row_v1_takes bytes shared one len two from to seq f three expire create four sta
     let e1 = then bytes one (be16 len) two (suffix ++ (head_text ++ (stamp_text ++ v1_value value))) stop t1.0 e2 in
     let e0 = then bytes 0 (be16 shared) one (be16 len ++ (suffix ++ (head_text ++ (stamp_text ++ v1_value value)))) stop t0.0 e1 in
     let order = regrouped (be16 shared) (be16 len) (be16 (length suffix)) suffix (be64 seq) (f.0 ∷ []) (flags value expire create ∷ []) (stamp_bytes expire) (stamp_bytes create) (v1_value value) (ap be16 (sym t2.1)) flag in
-    let written : SstRowEntry = record { key_prefix_len = shared; key_suffix = suffix; seq = seq; expire_ts = expire; create_ts = create; value = value } in (
+    let written : SstRowEntry = record { key_prefix_len = shared; key_suffix = suffix; seq = seq; expire_ts = expire; create_ts = create; value = value } in
+    let begins : BeginsV1 (entry_of_v1 bytes shared (taken_v1 from to start stop seq f expire create)) bytes (drop stop bytes) = (
       written,
       (t0.1, omega (arith, t1.1, t2.1), val.fits, head.fits, stamps.fits_expire, stamps.fits_create),
       e0.parts ∙ ap (λ (l : List ℕ). l ++ drop stop bytes) order,
       ap (λ (x : Option ℤ). record { key_prefix_len = shared; key_suffix = suffix; seq = seq; expire_ts = x; create_ts = create; value = value }) (expiry_is f text expire),
-    )
+    ) in
+    (begins, omega (arith, e0.place, ap (λ (l : List ℕ). length l) e0.parts, length-append (be16 shared ++ (be16 len ++ (suffix ++ (head_text ++ (stamp_text ++ v1_value value))))) (drop stop bytes), length-drop stop bytes))
 
 layout_v1_takes : (bytes : List ℕ) (x : ℕ × RowFields) → IsBytes bytes → layout_v1 bytes ≡ Ok x → IsTakenV1 bytes x.0 x.1
 unfolding layout_v1 taken_v1
@@ -109,12 +112,18 @@ layout_v1_takes bytes x fits e =
     (number_takes w16 (2 ^ 16) wide16 bytes 0 a.0.0 a.0.1 fits a.1) (number_takes w16 (2 ^ 16) wide16 bytes a.0.1 b.0.0 b.0.1 fits b.1) (block_takes bytes b.0.0 b.0.1 c.0.0 c.0.1 c.1)
     (head_takes bytes c.0.1 d.0 fits d.1) (stamps_take d.0.0.1 bytes d.0.1 f.0 fits f.1) (value_takes d.0.0.1 bytes f.0.1 g.0.0 g.0.1 fits g.1))
 
-pub row_v1_begins : (bytes : List ℕ) (row : SstRowEntry) (end : ℕ) → IsBytes bytes → row_v1_of bytes ≡ Ok (row, end) → BeginsV1 row bytes (drop end bytes)
+row_v1_taken : (bytes : List ℕ) (row : SstRowEntry) (end : ℕ) → IsBytes bytes → row_v1_of bytes ≡ Ok (row, end) → BeginsV1 row bytes (drop end bytes) × (end ≤ length bytes)
 unfolding row_v1_of
-row_v1_begins bytes row end fits e =
+row_v1_taken bytes row end fits e =
     let a = bind_ok (layout_v1 bytes) (λ x. Ok (entry_of_v1 bytes x.0 x.1, x.1.end)) (row, end) e in
     let made : SstRowEntry × ℕ = (entry_of_v1 bytes a.0.0 a.0.1, a.0.1.end) in
-    subst (λ (y : SstRowEntry × ℕ). BeginsV1 y.0 bytes (drop y.1 bytes)) (ok_is made (row, end) a.2) (layout_v1_takes bytes a.0 fits a.1)
+    subst (λ (y : SstRowEntry × ℕ). BeginsV1 y.0 bytes (drop y.1 bytes) × (y.1 ≤ length bytes)) (ok_is made (row, end) a.2) (layout_v1_takes bytes a.0 fits a.1)
+
+pub row_v1_begins : (bytes : List ℕ) (row : SstRowEntry) (end : ℕ) → IsBytes bytes → row_v1_of bytes ≡ Ok (row, end) → BeginsV1 row bytes (drop end bytes)
+row_v1_begins bytes row end fits e = (row_v1_taken bytes row end fits e).0
+
+pub row_v1_within : (bytes : List ℕ) (row : SstRowEntry) (end : ℕ) → IsBytes bytes → row_v1_of bytes ≡ Ok (row, end) → end ≤ length bytes
+row_v1_within bytes row end fits e = (row_v1_taken bytes row end fits e).1
 
 -- ---- what is spelled is read
 

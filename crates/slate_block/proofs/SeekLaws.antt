@@ -1,15 +1,15 @@
 -- What a search in rows in their order finds.
 use Rattle.std.proofs.Common.{◌≡◌, ℕ, zero, suc, ◌+◌, ◌<◌, ◌≤◌, Bool, true, false, List, [], ◌∷◌, length, drop, map, Option, Some, None, Result, Ok, Err, refl, sym, ap, subst, ◌∙◌, arith, add-one}
 use Rattle.std.specs.Prelude.{slice_get, IsSome}
-use Rattle.std.proofs.lemmas.List.{drop_all, length-map}
+use Rattle.std.proofs.lemmas.List.{drop_all, length-drop, length-map}
 use Rattle.slate_types.specs.declared.error.SlateDBError.{SlateDBError}
 use Rattle.slate_types.specs.declared.types.RowEntry.{RowEntry}
 use Rattle.slate_types.specs.declared.iter.IterationOrder.{IterationOrder}
 use Rattle.slate_types.specs.Iteration.{comes_before, drop_before, IsInOrder, NoneBefore, TakesRow}
 use Rattle.slate_types.proofs.IterationLaws.{not_before, none_before_earlier, drop_before_none, in_order_dropped}
 use Rattle.slate_block.specs.Walks.{RowRead, all_ok, before as put}
-use Rattle.slate_block.specs.BlockWalks.{rows_of, IsRising, TakesRead, Refuses}
-use Rattle.slate_block.proofs.WalkLaws.{ok_read, reads_of_ok, all_ok_map}
+use Rattle.slate_block.specs.BlockWalks.{rows_of, IsRising, TakesRead, IsBehind, Refuses}
+use Rattle.slate_block.proofs.WalkLaws.{ok_read, reads_of_ok, all_ok_map, refuses_dropped}
 
 not_before_at : (order : IterationOrder) (key : List ℕ) (rows : List RowEntry) (i : ℕ) (row : RowEntry) → NoneBefore order key rows → slice_get rows i ≡ Some row → comes_before order row.key key ≡ false
 not_before_at order key [] i row h at = absurd cc
@@ -134,3 +134,9 @@ step_no_larger before after (Some row) t = let n = ap (λ (l : List RowRead). le
 pub sought_rising : (order : IterationOrder) (key : List ℕ) (before after : Result (List RowEntry) SlateDBError) → after ≡ Ok (drop_before order key (rows_of before)) → IsRising order before → IsRising order after
 sought_rising order key (Ok rows) after e h = subst (λ (r : Result (List RowEntry) SlateDBError). IsRising order r) (sym e) (in_order_dropped order key rows h)
 sought_rising order key (Err d) after e h = absurd h
+
+pub behind_fewer : (before after : List RowRead) (e : SlateDBError) → IsBehind before after → Refuses after e → Refuses before e
+behind_fewer before after e b h = refuses_dropped b.0 before e (subst (λ (l : List RowRead). Refuses l e) b.1 h)
+
+pub behind_no_larger : (before after : List RowRead) → IsBehind before after → length after ≤ length before
+behind_no_larger before after b = let n : length after ≡ length (drop b.0 before) = ap (λ (l : List RowRead). length l) b.1 in omega (arith, n, length-drop b.0 before)

@@ -1,7 +1,7 @@
 -- What a walk over a block of version 1 reads.
-use Rattle.std.proofs.Common.{◌≡◌, ℕ, zero, suc, ◌+◌, ◌-◌, ◌<◌, ◌≤◌, Bool, true, false, List, [], ◌∷◌, ◌++◌, length, get_or, take, drop, reverse, map, min, Option, Some, None, Result, Ok, Err, refl, sym, ap, subst, ◌∙◌, arith, add-one, ◌⊎◌, inl, inr}
+use Rattle.std.proofs.Common.{◌≡◌, ℕ, zero, suc, ◌+◌, ◌-◌, ◌<◌, ◌≤◌, List, [], ◌∷◌, ◌++◌, length, get_or, take, drop, reverse, map, Some, Result, Ok, Err, refl, sym, ap, subst, ◌∙◌, arith, add-one, ◌⊎◌, inl, inr}
 use Rattle.std.specs.Prelude.{slice_get, slice_range}
-use Rattle.std.proofs.lemmas.List.{map-append, length-take, length-drop, drop-take, same_lists, take_all, get_or-drop, get_or-take, get_or-reverse, length-reverse, drop-drop, reverse-append, drop_at, take-append-drop, reverse-reverse}
+use Rattle.std.proofs.lemmas.List.{map-append, length-take, length-drop, drop-take, same_lists, take_all, get_or-drop, get_or-take, get_or-reverse, length-reverse, drop-drop, reverse-reverse}
 use Rattle.std.proofs.lemmas.Grind.{reverse_onto}
 use Rattle.std.proofs.lemmas.Option.{slice_get-get_or}
 use Rattle.slate_types.specs.declared.error.SlateDBError.{SlateDBError}
@@ -9,10 +9,9 @@ use Rattle.slate_types.specs.declared.error.SlateDBError.TheVariants.{OutOfMemor
 use Rattle.slate_types.specs.declared.types.RowEntry.{RowEntry}
 use Rattle.slate_types.specs.declared.iter.IterationOrder.{IterationOrder}
 use Rattle.slate_types.specs.declared.iter.IterationOrder.TheVariants.{Ascending, Descending}
-use Rattle.slate_types.specs.Iteration.{IsInOrder}
 use Rattle.slate_block.specs.Damage.{◌>>=◌}
 use Rattle.slate_block.specs.Walks.{next_place, row_upto, RowRead, reads_v1, all_ok, before}
-use Rattle.slate_block.specs.BlockWalks.{in_order, place_in, rows_of, IsDamage, Refuses, IsRising}
+use Rattle.slate_block.specs.BlockWalks.{in_order, place_in, IsDamage, Refuses}
 
 -- the row at an index is read up to the next place
 pub read_at : (body first ats : List ℕ) (end i : ℕ) → i < length ats → slice_get (reads_v1 body first ats end) i ≡ Some (row_upto body first (get_or ats i 0) (next_place end (drop (i + 1) ats)))

@@ -5,10 +5,11 @@
 --     left it      the rows that are left, or the first refusal
 --     TakesRead reads answer after      the answer is what the first row is read as, and the others are left; or none was left
 --     TakesLeft before answer after      the same of the rows that are left
+--     IsBehind before after      some first rows are taken off
 --     IsDamage e      a refusal for damage
 --     Refuses reads e      one of the rows is refused so
 --     rows_of left, IsRising order left      the rows of a walk that is refused nowhere; it is none, and they come in the order
-use Rattle.std.specs.Prelude.{◌≡◌, ℕ, ◌+◌, ◌-◌, List, [], ◌∷◌, reverse, slice_get, Option, Some, None, Result, Ok, Err}
+use Rattle.std.specs.Prelude.{◌≡◌, ℕ, ◌+◌, ◌-◌, List, [], ◌∷◌, reverse, drop, slice_get, Option, Some, None, Result, Ok, Err}
 use Rattle.slate_types.specs.declared.error.SlateDBError.{SlateDBError}
 use Rattle.slate_types.specs.declared.error.SlateDBError.TheVariants.{CorruptTable, InvalidRowFlags}
 use Rattle.slate_types.specs.declared.types.RowEntry.{RowEntry}
@@ -39,6 +40,9 @@ TakesRead reads (Some row) after = reads ≡ Ok row ∷ after
 abbrev pub TakesLeft : Result (List RowEntry) SlateDBError → Option RowEntry → Result (List RowEntry) SlateDBError → Type 0
 TakesLeft rows None after = (rows ≡ Ok []) × (after ≡ Ok [])
 TakesLeft rows (Some row) after = rows ≡ before row after
+
+abbrev pub IsBehind : List RowRead → List RowRead → Type 0
+IsBehind before after = (count : ℕ) × (after ≡ drop count before)
 
 abbrev pub IsDamage : SlateDBError → Type 0
 IsDamage (CorruptTable place) = Unit {0}

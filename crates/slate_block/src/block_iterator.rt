@@ -4,14 +4,16 @@ ghost use Rattle.slate_types.specs.declared.error.SlateDBError.{SlateDBError};
 ghost use Rattle.slate_types.specs.declared.types.RowEntry.{RowEntry};
 ghost use Rattle.slate_types.specs.Iteration.{drop_before, NoneBefore};
 ghost use Rattle.slate_block.specs.Walks.{all_ok, block_reads_v1, block_rows};
-ghost use Rattle.slate_block.specs.BlockWalks.{in_order, left, place_in, rows_of, IsDamage, IsRising, Refuses, TakesLeft, TakesRead, rising_rows};
+ghost use Rattle.slate_block.specs.BlockWalks.{in_order, left, place_in, rows_of, IsBehind, IsDamage, IsRising, Refuses, TakesLeft, TakesRead, rising_rows};
 
+use crate::block::Block;
 use crate::block_like::BlockLike;
 use crate::places::{block_key, row_at};
 use bytes::Bytes;
 use slate_types::{IterationOrder, Outside, RowEntry, RowEntryIterator, SlateDBError};
 use std::alloc::Global;
 use std::marker::Model;
+use std::sync::Arc;
 
 /// The rows of a block of version 1 that are left, in an order. After a refusal it stands where it stood.
 #[derive(Drop)]
@@ -159,12 +161,11 @@ impl<B: BlockLike> BlockIterator<B> {
         Ok(self.order.puts_before(row.key.as_slice(), key))
     }
 
-    /// Takes off exactly the leading rows that the order puts before the key, where the rows come in the order. A
-    /// refusal is one of the rows that are left.
-    fn skip_before(&mut self, alloc: Global, key: &[u8]) -> Result<(), SlateDBError>
+    /// Takes off exactly the leading rows that the order puts before the key, where the rows come in the order; else some
+    /// leading rows. An `Err` takes none off: it is the refusal of a row that is left, or `OutOfMemory`.
+    pub fn skip_before(&mut self, alloc: Global, key: &[u8]) -> Result<(), SlateDBError>
         ensures rows { IsRising self.old.order (left self.old) → OnOk result (left self.new ≡ Ok (drop_before self.old.order key.now (rows_of (left self.old)))) }
-        ensures fewer { (e : SlateDBError) → Refuses self.new.reads e → Refuses self.old.reads e }
-        ensures smaller { length self.new.reads ≤ length self.old.reads }
+        ensures behind { IsBehind self.old.reads self.new.reads }
         ensures order { self.new.order ≡ self.old.order }
         ensures cause { IfErr result (λ e. (e ≡ SlateDBError.OutOfMemory) ⊎ Refuses self.old.reads e) }
         ensures unchanged { OnErr result (self.new ≡ self.old) }
@@ -198,9 +199,17 @@ impl<E: Outside, B: BlockLike> RowEntryIterator<E> for BlockIterator<B> {
         Ok(answer)
     }
 
-    #[tactic(auto, using(crate::proofs::SeekLaws::sought_rising))]
+    #[tactic(auto, using(crate::proofs::SeekLaws::sought_rising, crate::proofs::SeekLaws::behind_fewer, crate::proofs::SeekLaws::behind_no_larger))]
     fn seek(&mut self, alloc: Global, key: &[u8], _env: &mut E) -> Result<(), SlateDBError> {
         self.skip_before(alloc, key)?;
         Ok(())
     }
+}
+
+fn crosses<T: Send + Sync>() {}
+
+/// An iterator goes to other threads, and is shared between them, as its block does.
+pub fn block_iterators_cross_threads() {
+    crosses::<BlockIterator<Block>>();
+    crosses::<BlockIterator<Arc<Block>>>();
 }

@@ -5,6 +5,7 @@ ghost use Rattle.slate_block.specs.ReadingLaws.{
   RowsOfV1AreFound,
   RowsOfV2AreFound,
   VarintsAreFound,
+  WalkedRowsAreBlocks1,
 };
 
 /// The number whose spelling begins bytes is found, and none where no spelling begins them.
@@ -30,4 +31,9 @@ pub fn keys_of_v2_are_found()
 /// No rows' part with its offsets is refused, and nothing else is taken apart.
 pub fn blocks_come_apart()
     ensures { BlocksComeApart }
+{}
+
+/// A walk over a block of version 1 is refused nowhere exactly where it is one, and reads its rows.
+pub fn blocks_of_v1_are_walked()
+    ensures { WalkedRowsAreBlocks1 }
 {}

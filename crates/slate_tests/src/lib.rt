@@ -2,6 +2,8 @@
 #![tactic(auto)]
 
 #[cfg(test)]
+mod block_iterators;
+#[cfg(test)]
 mod lists;
 #[cfg(test)]
 mod rows;

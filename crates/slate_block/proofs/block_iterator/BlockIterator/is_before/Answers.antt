@@ -1,5 +1,4 @@
 use Rattle.std.proofs.Common.{◌≡◌, true, false, ap}
-use Rattle.slate_types.specs.declared.iter.IterationOrder.{IterationOrder}
 use Rattle.slate_types.specs.Iteration.{comes_before}
 use Rattle.slate_block.specs.BlockWalks.{ReadsLeft}
 use Rattle.slate_block.proofs.SeekLaws.{passed, reached}
