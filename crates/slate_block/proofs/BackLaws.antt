@@ -267,6 +267,7 @@ empty_tells body offsets groups n rows b none size e =
     true_is : (b : Bool) → IsTrue b → b ≡ true
     true_is true t = refl
     true_is false t = absurd cc
+
     is_true : (b : Bool) → b ≡ true → IsTrue b
     is_true true h = search rules
     is_true false h = absurd cc

@@ -1,11 +1,11 @@
 -- A seek in a walk over rows of version 2.
-use Rattle.std.proofs.Common.{◌≡◌, ℕ, ◌+◌, ◌<◌, ◌≤◌, Bool, true, false, ◌&&◌, cond, List, [], ◌∷◌, ◌++◌, Option, ℤ, length, get_or, take, drop, Result, Ok, Err, refl, sym, ap, ◌∙◌, subst, leb, arith, ◌⊎◌, inl, inr, zero, suc, ◌-◌, append_assoc}
+use Rattle.std.proofs.Common.{◌≡◌, ℕ, ◌+◌, ◌<◌, ◌≤◌, Bool, true, false, ◌&&◌, cond, List, [], ◌∷◌, ◌++◌, Option, ℤ, length, get_or, take, drop, Result, Ok, Err, refl, sym, ap, ◌∙◌, subst, leb, arith, ◌⊎◌, inl, inr, zero, suc, ◌-◌, append_assoc, Some, None}
 use Rattle.std.specs.Prelude.{slice_range}
 use Rattle.slate_types.specs.declared.error.SlateDBError.{SlateDBError}
 use Rattle.slate_types.specs.declared.error.SlateDBError.TheVariants.{CorruptTable}
 use Rattle.slate_types.specs.declared.types.RowEntry.{RowEntry}
 use Rattle.slate_types.specs.declared.iter.IterationOrder.{IterationOrder}
-use Rattle.slate_types.specs.Iteration.{comes_before, drop_before, NoneBefore, IsInOrder}
+use Rattle.slate_types.specs.Iteration.{comes_before, drop_before, NoneBefore, IsInOrder, TakesRow}
 use Rattle.slate_types.specs.declared.iter.IterationOrder.TheVariants.{Ascending}
 use Rattle.slate_types.proofs.IterationLaws.{not_before}
 use Rattle.slate_block.specs.declared.fields.KeyFields.{KeyFields}
@@ -14,7 +14,7 @@ use Rattle.slate_block.specs.declared.row.SstRowEntryV2.{SstRowEntryV2}
 use Rattle.slate_block.specs.Damage.{◌>>=◌, key_layout_v2, layout_v2, block_field, head_layout, length_agrees, stamps_layout}
 use Rattle.slate_block.specs.RowReading.{row_v2_of, entry_of_v2}
 use Rattle.slate_block.specs.Walks.{before, joined, next_place, rows_v2, moved_result, between, entry_v2_in, row_v2_in, restart_v2, group_v2, is_none_left, is_restored, whole_v2}
-use Rattle.slate_block.specs.BlockWalks.{rows_of, IsRising}
+use Rattle.slate_block.specs.BlockWalks.{rows_of, IsRising, TakesLeft}
 use Rattle.slate_block.specs.GroupWalks.{Left, dropped, group_end, restart_at, group_left, left_v2, BeginsBefore, IsRefused}
 use Rattle.slate_block.specs.declared.walk_v2.BlockPlace.{BlockPlace}
 use Rattle.slate_block.proofs.FieldLaws.{bind_ok, ok_is}
@@ -253,3 +253,29 @@ sought_refused order key after (Err d) e h = tt
 pub refused_is : (left : Left) (e : SlateDBError) → left ≡ Err e → IsRefused left
 refused_is (Ok rows) e h = absurd cc
 refused_is (Err d) e h = tt
+
+-- ---- an iterator's steps
+
+pub walk_rows : (order : IterationOrder) (left after : Left) (answer : Option RowEntry) → TakesLeft left answer after → IsRising order left → TakesRow (rows_of left) answer (rows_of after)
+walk_rows order left after None t h = (ap rows_of t.0, ap rows_of t.1)
+walk_rows order left after (Some row) t h = ap rows_of t ∙ by after (subst (IsRising order) t h)
+  where
+    by : (r : Left) → IsRising order (before row r) → rows_of (before row r) ≡ row ∷ rows_of r
+    by (Ok rows) g = refl
+    by (Err e) g = absurd g
+
+pub walk_rising : (order : IterationOrder) (left after : Left) (answer : Option RowEntry) → TakesLeft left answer after → IsRising order left → IsRising order after
+walk_rising order left after None t h = subst (IsRising order) (t.0 ∙ sym t.1) h
+walk_rising order left after (Some row) t h = by after (subst (IsRising order) t h)
+  where
+    by : (r : Left) → IsRising order (before row r) → IsRising order r
+    by (Ok rows) g = g.1
+    by (Err e) g = absurd g
+
+pub walk_fewer : (left after : Left) (answer : Option RowEntry) → TakesLeft left answer after → IsRefused after → IsRefused left
+walk_fewer left after None t h = subst IsRefused (t.1 ∙ sym t.0) h
+walk_fewer left after (Some row) t h = subst IsRefused (sym t) (by after h)
+  where
+    by : (r : Left) → IsRefused r → IsRefused (before row r)
+    by (Ok rows) g = absurd g
+    by (Err e) g = tt

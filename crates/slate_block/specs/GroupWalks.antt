@@ -9,17 +9,19 @@
 --     rows_back n body offsets      the rows of so many groups, the last first; or the first refusal of the last of these groups that fails
 --     block_rows_back body offsets      the same of a whole block
 --     left_back body offsets groups rows      what is left before a group's rows and behind so many groups
+--     walk_in order body offsets      a block of version 2 in an order
 --     BeginsBefore order body offsets n key      the order puts a group's first key before the key
 use Rattle.std.specs.Prelude.{◌≡◌, ℕ, zero, suc, ◌^◌, nat_lt, if◌then◌else◌, reverse, ◌+◌, ◌-◌, ◌*◌, Bool, true, ◌&&◌, ◌||◌, ◌==◌, List, [], ◌∷◌, length, drop, slice_index, Option, Some, None, Result, Ok, Err}
 use Rattle.slate_types.specs.declared.error.SlateDBError.{SlateDBError}
 use Rattle.slate_types.specs.declared.error.SlateDBError.TheVariants.{CorruptTable}
 use Rattle.slate_types.specs.declared.types.RowEntry.{RowEntry}
 use Rattle.slate_types.specs.declared.iter.IterationOrder.{IterationOrder}
+use Rattle.slate_types.specs.declared.iter.IterationOrder.TheVariants.{Ascending, Descending}
 use Rattle.slate_types.specs.Iteration.{comes_before, drop_before}
 use Rattle.slate_block.specs.declared.row_groups.RowGroup.{RowGroup}
 use Rattle.slate_block.specs.declared.walk_v2.BlockPlace.{BlockPlace}
 use Rattle.slate_block.specs.Damage.{◌>>=◌}
-use Rattle.slate_block.specs.Walks.{before, joined, next_place, begins_at_zero, group_v2, restart_v2, is_none_left, rows_v2}
+use Rattle.slate_block.specs.Walks.{before, joined, next_place, begins_at_zero, block_rows, group_v2, restart_v2, is_none_left, rows_v2}
 
 abbrev pub Left : Type 0
 Left = Result (List RowEntry) SlateDBError
@@ -83,3 +85,9 @@ block_rows_back body offsets = if begins_at_zero offsets && nat_lt (length offse
 
 unfoldable pub left_back : List ℕ → List ℕ → ℕ → List RowEntry → Left
 left_back body offsets groups rows = joined (Ok (reverse rows)) (rows_back groups body offsets)
+
+-- ---- version 2 in either order
+
+abbrev pub walk_in : IterationOrder → List ℕ → List ℕ → Left
+walk_in Ascending body offsets = block_rows 2 body offsets
+walk_in Descending body offsets = block_rows_back body offsets

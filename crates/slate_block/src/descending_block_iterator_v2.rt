@@ -119,3 +119,33 @@ impl<B: BlockLike> DescendingBlockIteratorV2<B> {
         Ok(())
     }
 }
+
+impl<E: Outside, B: BlockLike> RowEntryIterator<E> for DescendingBlockIteratorV2<B> {
+    ghost rest = { λ it _. rows_of it.left };
+
+    ghost sound = { λ it _. IsRising it.order it.left };
+
+    ghost order = { λ it. it.order };
+
+    ghost bound = { λ it. it.bound };
+
+    ghost refuses = { λ it _ _ e. IsRefused it.left × IsDamage e };
+
+    ghost rising = { λ it _ h. rising_rows it.order it.left h };
+
+    fn init(&mut self, _alloc: Global, _env: &mut E) -> Result<(), SlateDBError> {
+        Ok(())
+    }
+
+    #[tactic(auto, using(crate::proofs::SeekSteps::walk_rows, crate::proofs::SeekSteps::walk_rising, crate::proofs::SeekSteps::walk_fewer, crate::proofs::SeekSteps::refused_is))]
+    fn next(&mut self, alloc: Global, _env: &mut E) -> Result<Option<RowEntry>, SlateDBError> {
+        let answer = self.next_row(alloc)?;
+        Ok(answer)
+    }
+
+    #[tactic(auto, using(crate::proofs::SeekLaws::sought_rising))]
+    fn seek(&mut self, alloc: Global, key: &[u8], _env: &mut E) -> Result<(), SlateDBError> {
+        self.skip_before(alloc, key)?;
+        Ok(())
+    }
+}
