@@ -80,10 +80,11 @@ read_back body offsets rows h e =
     let all : rows ≡ r.front = r.parts ∙ ap (λ (l : List RowEntry). r.front ++ l) none ∙ append-nil r.front in
     joined_nothing (rows_back (length offsets) body offsets) ∙ r.back ∙ ap (λ (l : List RowEntry). found (reverse l)) (sym all)
 
-pub back_is_read : (body offsets : List ℕ) (rows : List RowEntry) → (begins_at_zero offsets && ltb (length offsets) (2 ^ 16)) ≡ true → left_back body offsets (length offsets) [] ≡ Ok rows → block_rows 2 body offsets ≡ Ok (reverse rows)
+pub back_is_read : (body offsets : List ℕ) (rows : List RowEntry) → (begins_at_zero offsets && ltb (length offsets) (2 ^ 16)) ≡ true → left_back body offsets (length offsets) [] ≡ Ok (reverse rows) → block_rows 2 body offsets ≡ Ok rows
 unfolding left_back
 back_is_read body offsets rows h e =
-    named_rows body offsets h ∙ back_to body offsets (length offsets) rows [] (omega arith) (sym (joined_nothing (rows_back (length offsets) body offsets)) ∙ e) (none_behind body offsets) ∙ ap found (append-nil (reverse rows))
+    named_rows body offsets h ∙ back_to body offsets (length offsets) (reverse rows) [] (omega arith) (sym (joined_nothing (rows_back (length offsets) body offsets)) ∙ e) (none_behind body offsets)
+    ∙ ap found (append-nil (reverse (reverse rows)) ∙ reverse-reverse rows)
 
 -- ---- a step back
 

@@ -44,7 +44,7 @@ impl<B: BlockLike> DescendingBlockIteratorV2<B> {
     pub fn new(alloc: Global, block: B) -> Result<Self, SlateDBError>
         ensures left { IfOk result (λ it. it.left ≡ block_rows_back (B.body_bytes block) (B.row_offsets block)) }
         ensures rows { IfOk result (λ it. (rows : List RowEntry) → block_rows 2 (B.body_bytes block) (B.row_offsets block) ≡ Ok rows → it.left ≡ Ok (reverse rows)) }
-        ensures only { IfOk result (λ it. (rows : List RowEntry) → it.left ≡ Ok rows → block_rows 2 (B.body_bytes block) (B.row_offsets block) ≡ Ok (reverse rows)) }
+        ensures only { IfOk result (λ it. (rows : List RowEntry) → it.left ≡ Ok (reverse rows) → block_rows 2 (B.body_bytes block) (B.row_offsets block) ≡ Ok rows) }
         ensures order { IfOk result (λ it. it.order ≡ IterationOrder.Descending) }
         ensures cause { IfErr result (λ e. block_rows 2 (B.body_bytes block) (B.row_offsets block) ≡ Err e) }
         ensures damage { IfErr result IsDamage }
