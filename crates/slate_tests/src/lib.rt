@@ -4,6 +4,8 @@
 #[cfg(test)]
 mod block_iterators;
 #[cfg(test)]
+mod block_iterators_v2;
+#[cfg(test)]
 mod lists;
 #[cfg(test)]
 mod rows;
