@@ -13,7 +13,7 @@ use Rattle.slate_block.specs.declared.fields.RowFields.{RowFields}
 use Rattle.slate_block.specs.declared.row.SstRowEntryV2.{SstRowEntryV2}
 use Rattle.slate_block.specs.Damage.{◌>>=◌, key_layout_v2, layout_v2, block_field, head_layout, length_agrees, stamps_layout}
 use Rattle.slate_block.specs.RowReading.{row_v2_of, entry_of_v2}
-use Rattle.slate_block.specs.Walks.{before, joined, next_place, rows_v2, moved_result, between, entry_v2_in, row_v2_in, restart_v2, group_v2, is_none_left, is_restored, whole_v2}
+use Rattle.slate_block.specs.Walks.{all_ok, before, joined, RowRead, next_place, rows_v2, moved_result, between, entry_v2_in, row_v2_in, restart_v2, group_v2, is_none_left, is_restored, whole_v2}
 use Rattle.slate_block.specs.BlockWalks.{rows_of, IsRising, TakesLeft}
 use Rattle.slate_block.specs.GroupWalks.{Left, dropped, group_end, restart_at, group_left, left_v2, BeginsBefore, IsRefused}
 use Rattle.slate_block.specs.declared.walk_v2.BlockPlace.{BlockPlace}
@@ -279,3 +279,13 @@ walk_fewer left after (Some row) t h = subst IsRefused (sym t) (by after h)
     by : (r : Left) → IsRefused r → IsRefused (before row r)
     by (Ok rows) g = absurd g
     by (Err e) g = tt
+
+-- rows that were read each by itself
+pub all_ok_none : (reads : List RowRead) → all_ok reads ≡ Ok [] → reads ≡ []
+all_ok_none [] e = refl
+all_ok_none (Ok row ∷ reads) e = by (all_ok reads) e
+  where
+    by : (r : Left) → before row r ≡ Ok [] → (Ok row ∷ reads) ≡ []
+    by (Ok rows) g = absurd cc
+    by (Err d) g = absurd cc
+all_ok_none (Err d ∷ reads) e = absurd cc

@@ -101,7 +101,7 @@ pub struct BlockIteratorV2<B: BlockLike> {
 
 impl<B: BlockLike> Model for BlockIteratorV2<B> {
     ghost use Rattle.slate_block.specs.GroupWalks.{Walk};
-    ghost use Rattle.slate_block.specs.EitherWalk.{walk_of};
+    ghost use Rattle.slate_block.specs.EitherOrder.{walk_of};
 
     ghost Value = { Walk };
 

@@ -4,7 +4,7 @@ ghost use Rattle.slate_types.specs.declared.types.RowEntry.{RowEntry};
 ghost use Rattle.slate_types.specs.Iteration.{drop_before};
 ghost use Rattle.slate_block.specs.Walks.{block_rows};
 ghost use Rattle.slate_block.specs.BlockWalks.{in_order, rising_rows, rows_of, IsDamage, IsRising, TakesLeft};
-ghost use Rattle.slate_block.specs.EitherWalk.{bound_of, left_of, order_of, refuses_of};
+ghost use Rattle.slate_block.specs.EitherVersion.{bound_of, left_of, order_of, refuses_of};
 
 use crate::block_iterator::BlockIterator;
 use crate::block_iterator_v2::BlockIteratorV2;
@@ -44,6 +44,7 @@ impl<B: BlockLike> DataBlockIterator<B> {
     }
 
     /// Whether no row is left.
+    #[tactic(auto, using(crate::proofs::SeekSteps::all_ok_none))]
     pub fn is_empty(&self) -> bool
         ensures { IsTrue result ↔ (left_of self.now ≡ Ok []) }
     {

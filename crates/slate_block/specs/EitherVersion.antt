@@ -1,20 +1,13 @@
--- What is left of a walk over a block, whichever it is.
---     walk_of inner      of version 2, up or down
---     left_of it, order_of it, bound_of it      of either version: the rows or the first refusal, their order, and a number that falls at each row
+-- What is left of a walk over a block of either version.
+--     left_of it, order_of it, bound_of it      the rows or the first refusal, their order, and a number that falls at each row
 --     refuses_of it e      why it can be refused
 use Rattle.std.specs.Prelude.{ℕ, length}
 use Rattle.slate_types.specs.declared.error.SlateDBError.{SlateDBError}
 use Rattle.slate_types.specs.declared.iter.IterationOrder.{IterationOrder}
-use Rattle.slate_block.specs.declared.block_iterator_v2.BlockIteratorInner.{BlockIteratorInner}
-use Rattle.slate_block.specs.declared.block_iterator_v2.BlockIteratorInner.TheVariants.{Ascending, Descending}
 use Rattle.slate_block.specs.declared.data_block_iterator.DataBlockIterator.{DataBlockIterator}
 use Rattle.slate_block.specs.declared.data_block_iterator.DataBlockIterator.TheVariants.{V1, V2}
 use Rattle.slate_block.specs.BlockWalks.{left, IsDamage, Refuses}
-use Rattle.slate_block.specs.GroupWalks.{Left, Walk, IsRefused}
-
-abbrev pub walk_of : {B : Type 0} → BlockIteratorInner B → Walk
-walk_of (Ascending state) = state
-walk_of (Descending rows) = rows
+use Rattle.slate_block.specs.GroupWalks.{Left, IsRefused}
 
 abbrev pub left_of : {B : Type 0} → DataBlockIterator B → Left
 left_of (V1 it) = left it
