@@ -1,6 +1,10 @@
 pub mod Pieces
 pub mod VarintLaws
 pub mod Groups
+pub mod GroupSteps
+pub mod SeekSteps
+pub mod BackSteps
+pub mod BackLaws
 pub mod FlagLaws
 pub mod RowLaws
 pub mod FieldLaws

@@ -1,5 +1,6 @@
 -- A block's rows, read one behind the other.
 --     moved at e      the refusal of a field, with its place in the rows' part, where a row's bytes begin at a place
+--     entry_v2_in body from upto      the fields of the row of version 2 at a place of the rows' part; or the refusal
 --     row_v1_in, row_v2_in body other from upto      the row at a place of the rows' part, whose key leaves out a front of the other key, and the place behind it; or the refusal
 --     before row left, joined first second      a row before others, and rows before others, or the first refusal
 --     next_place end ats      where the next row, or the next restart, begins
@@ -48,11 +49,12 @@ row_v1_in body other from upto = do
   found ← moved_result from (row_v1_of bytes)
   if is_restored found.0.key_prefix_len other found.0.key_suffix then Ok (whole_v1 other found.0, from + found.1) else Err (CorruptTable from)
 
+unfoldable pub entry_v2_in : List ℕ → ℕ → ℕ → Result (SstRowEntryV2 × ℕ) SlateDBError
+entry_v2_in body from upto = between body from upto >>= λ bytes. moved_result from (row_v2_of bytes)
+
 unfoldable pub row_v2_in : List ℕ → List ℕ → ℕ → ℕ → Result (RowEntry × ℕ) SlateDBError
-row_v2_in body other from upto = do
-  bytes ← between body from upto
-  found ← moved_result from (row_v2_of bytes)
-  if is_restored found.0.shared_bytes other found.0.key_suffix then Ok (whole_v2 other found.0, from + found.1) else Err (CorruptTable from)
+row_v2_in body other from upto = entry_v2_in body from upto >>= λ found.
+    if is_restored found.0.shared_bytes other found.0.key_suffix then Ok (whole_v2 other found.0, from + found.1) else Err (CorruptTable from)
 
 abbrev pub next_place : ℕ → List ℕ → ℕ
 next_place end [] = end
@@ -96,11 +98,11 @@ block_rows_v1 body offsets = block_reads_v1 body offsets >>= all_ok
 unfoldable pub group_v2 : ℕ → List ℕ → List ℕ → ℕ → ℕ → Bool → Result (List RowEntry) SlateDBError
 group_v2 zero body previous at end last = if at == end then Ok [] else Err (CorruptTable at)
 group_v2 (suc n) body previous at end last = if last && at == end then Ok []
-    else (row_v2_in body previous at end >>= λ found. group_v2 n body found.0.key found.1 end last >>= λ rows. Ok (found.0 ∷ rows))
+    else (row_v2_in body previous at end >>= λ found. before found.0 (group_v2 n body found.0.key found.1 end last))
 
 -- the first row of a group shares nothing
 unfoldable pub restart_v2 : List ℕ → ℕ → ℕ → Bool → Result (List RowEntry) SlateDBError
-restart_v2 body at end last = row_v2_in body [] at end >>= λ found. group_v2 15 body found.0.key found.1 end last >>= λ rows. Ok (found.0 ∷ rows)
+restart_v2 body at end last = row_v2_in body [] at end >>= λ found. before found.0 (group_v2 15 body found.0.key found.1 end last)
 
 abbrev pub is_none_left : List ℕ → Bool
 is_none_left [] = true
@@ -108,7 +110,7 @@ is_none_left (at ∷ ats) = false
 
 unfoldable pub rows_v2 : List ℕ → List ℕ → ℕ → Result (List RowEntry) SlateDBError
 rows_v2 body [] end = Ok []
-rows_v2 body (at ∷ ats) end = restart_v2 body at (next_place end ats) (is_none_left ats) >>= λ group. rows_v2 body ats end >>= λ rows. Ok (group ++ rows)
+rows_v2 body (at ∷ ats) end = joined (restart_v2 body at (next_place end ats) (is_none_left ats)) (rows_v2 body ats end)
 
 unfoldable pub block_rows_v2 : List ℕ → List ℕ → Result (List RowEntry) SlateDBError
 block_rows_v2 body [] = Err (CorruptTable 0)

@@ -1,6 +1,7 @@
 //! Rows of version 2 as bytes.
 ghost use Rattle.std.specs.Prelude.{◌≡◌, ◌≤◌, ◌⊎◌, ◌++◌, ℕ, List, Some, Ok, Err, ◌<◌, slice_index, length, take, OnOk, OnErr, IfOk, IfErr, IsOkUnless};
 ghost use Rattle.slate_block.specs.declared.row.SstRowEntryV2.{SstRowEntryV2};
+ghost use Rattle.slate_block.specs.Damage.{IsDamageIn};
 ghost use Rattle.slate_block.specs.RowSpelling.{v2_bytes, FitsV2};
 ghost use Rattle.slate_block.specs.RowReading.{row_v2_of, key_v2_of, refusal, BeginsV2, BeginsKeyV2};
 
@@ -60,10 +61,12 @@ impl SstRowCodecV2 {
     }
 }
 
+/// The row that begins the input, and how many bytes it has.
 #[tactic(auto, unfolding(crate::specs::RowReading::row_v2_of))]
-fn read_row(input: &Bytes) -> Result<(SstRowEntryV2, usize), SlateDBError>
+pub(crate) fn read_row(input: &Bytes) -> Result<(SstRowEntryV2, usize), SlateDBError>
     ensures found { IfOk result (λ found. row_v2_of input.now ≡ Ok found) }
     ensures cause { IfErr result (λ e. (e ≡ SlateDBError.OutOfMemory) ⊎ (row_v2_of input.now ≡ Err e)) }
+    ensures damage { IfErr result (λ e. (e ≡ SlateDBError.OutOfMemory) ⊎ IsDamageIn (length input.now) e) }
     ensures within { IfOk result (λ found. found.1 ≤ length input.now) }
     ensures bytes { IfOk result (λ _. (i : ℕ) → slice_index input.now i < 256) }
 {

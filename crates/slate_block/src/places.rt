@@ -162,7 +162,7 @@ pub fn first_key(alloc: Global, body: &Bytes, offsets: &[u16]) -> Result<Bytes, 
 }
 
 /// Whether the offsets are as many as a block can name, and begin at 0.
-fn are_named(offsets: &[u16]) -> bool
+pub fn are_named(offsets: &[u16]) -> bool
     ensures { result ≡ (begins_at_zero offsets.now && nat_lt (length offsets.now) (2 ^ 16)) }
 {
     match offsets.first() {

@@ -6,6 +6,8 @@ mod blocks;
 #[cfg(test)]
 mod block_iterators;
 #[cfg(test)]
+mod block_iterators_v2;
+#[cfg(test)]
 mod lists;
 #[cfg(test)]
 mod partitions;

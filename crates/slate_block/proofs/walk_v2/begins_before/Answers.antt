@@ -1,0 +1,30 @@
+use Rattle.std.proofs.Common.{◌≡◌, List, ℕ, Ok, get_or, refl, arith, sym, ◌∙◌}
+use Rattle.std.specs.Prelude.{slice_range}
+use Rattle.slate_block.specs.GroupWalks.{group_end}
+use Rattle.slate_block.proofs.FieldLaws.{ok_is}
+use Rattle.slate_block.proofs.SeekSteps.{restart_key}
+use Rattle.slate_block.proofs.walk_v2.begins_before.Goals.{then-from-end-via-then-from-end, then-from-end-via-else-from-end+then-end-len}
+use Rattle.slate_block.proofs.walk_v2.begins_before.Goals as goal
+
+pub returns-then-from-end : goal.returns-then-from-end
+returns-then-from-end c = λ row rows e.
+    let k = restart_key c.args.body.now c.args.offsets.now c.args.number row rows e in
+    elim c.then-from-end.branch [
+      | then-from-end-via-then-from-end w ↦ absurd (omega (arith, k.begins, c.group_end-end.ensures))
+      | then-from-end-via-else-from-end+then-end-len w ↦ absurd (omega (arith, k.ends, c.group_end-end.ensures))
+    ]
+
+pub returns-in_default : goal.returns-in_default
+returns-in_default c = λ row rows e.
+    let k = restart_key c.args.body.now c.args.offsets.now c.args.number row rows e in
+    let read : c.key_fields_v2.result ≡ Ok k.fields = rw (c.key_fields_v2.ensures.value, c.as_slice.ensures, c.group_end-end.ensures) k.read in
+    absurd (c.in_default.not-Ok k.fields read)
+
+pub returns : goal.returns
+returns c = λ row rows e.
+    let k = restart_key c.args.body.now c.args.offsets.now c.args.number row rows e in
+    let read : c.key_fields_v2.result ≡ Ok k.fields = rw (c.key_fields_v2.ensures.value, c.as_slice.ensures, c.group_end-end.ensures) k.read in
+    let same : c.in-Ok.fields ≡ k.fields = ok_is c.in-Ok.fields k.fields (sym c.in-Ok.is ∙ read) in
+    let bytes = slice_range c.args.body.now (get_or c.args.offsets.now c.args.number 0) (group_end c.args.body.now c.args.offsets.now c.args.number) in
+    let key : slice_range bytes c.in-Ok.fields.suffix_at c.in-Ok.fields.suffix_end ≡ row.key = (λ i. slice_range bytes (same i).suffix_at (same i).suffix_end) ∙ sym k.suffix in
+    rw (c.puts_before.ensures, c.as_slice.ensures, c.group_end-end.ensures, key) refl

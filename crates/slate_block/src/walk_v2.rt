@@ -1,0 +1,168 @@
+//! A walk over the rows of a block of version 2, from its front to its end.
+ghost use Rattle.std.specs.Prelude.{◌≡◌, ◌≤◌, ◌<◌, ◌⊎◌, ℕ, List, ◌∷◌, Ok, Err, IfOk, IfErr, IfSome, IsOkUnless, length, drop};
+ghost use Rattle.slate_types.specs.declared.types.RowEntry.{RowEntry};
+ghost use Rattle.slate_types.specs.Iteration.{comes_before, drop_before};
+ghost use Rattle.slate_block.specs.Walks.{rows_v2};
+ghost use Rattle.slate_block.specs.BlockWalks.{rows_of, IsDamage, IsRising};
+ghost use Rattle.slate_block.specs.GroupWalks.{bound_v2, dropped, left_v2, restart_at, BeginsBefore, IsNextV2, IsRefused};
+
+use crate::fields::key_fields_v2;
+use crate::row_groups::{RowGroup, first_of_group, group_end, next_of_group};
+use bytes::Bytes;
+use slate_types::{IterationOrder, RowEntry, SlateDBError};
+use std::alloc::Global;
+
+/// A place between two rows.
+#[derive(Clone, Drop)]
+pub struct BlockPlace {
+    /// What is left of the group that was begun.
+    pub group: RowGroup,
+    /// The number of the next group.
+    pub next: usize,
+}
+
+impl BlockPlace {
+    /// The place before the first row of a group.
+    #[tactic(auto, using(crate::proofs::GroupSteps::left_at_restart, crate::proofs::GroupSteps::over_left))]
+    pub fn before_group(number: usize) -> BlockPlace
+        ensures left { (body offsets : List ℕ) → left_v2 body offsets result ≡ rows_v2 body (drop number offsets) (length body) }
+        ensures next { result.next ≡ number }
+        ensures room { result.group.room ≡ 0 }
+    {
+        BlockPlace {
+            group: RowGroup::spent(),
+            next: number,
+        }
+    }
+}
+
+/// The row behind a place, and the place behind that row.
+#[tactic(auto, using(crate::proofs::GroupSteps::left_in_group, crate::proofs::GroupSteps::left_behind_group, crate::proofs::GroupSteps::left_behind_block, crate::proofs::GroupSteps::refused_in_group, crate::proofs::GroupSteps::refused_behind_group))]
+pub fn next_of_block(
+    alloc: Global,
+    body: &Bytes,
+    offsets: &[u16],
+    place: &BlockPlace,
+) -> Result<Option<(RowEntry, BlockPlace)>, SlateDBError>
+    ensures found { IfOk result (IsNextV2 body.now offsets.now place.now) }
+    ensures bound { IfOk result (λ answer. IfSome answer (λ found. bound_v2 offsets.now found.1 < bound_v2 offsets.now place.now)) }
+    ensures cause { IfErr result (λ e. (e ≡ SlateDBError.OutOfMemory) ⊎ (left_v2 body.now offsets.now place.now ≡ Err e)) }
+    ensures damage { IfErr result (λ e. (e ≡ SlateDBError.OutOfMemory) ⊎ IsDamage e) }
+{
+    if let Some((row, group)) = next_of_group(alloc, body, &place.group)? {
+        let next = place.next;
+        return Ok(Some((row, BlockPlace { group, next })));
+    }
+    if place.next >= offsets.len() {
+        return Ok(None);
+    }
+    let (row, group) = first_of_group(alloc, body, offsets, place.next)?;
+    let next = place.next + 1;
+    Ok(Some((row, BlockPlace { group, next })))
+}
+
+/// The place behind the leading rows that come before a key.
+#[tactic(auto, using(crate::proofs::SeekSteps::step_dropped, crate::proofs::SeekSteps::step_refused, crate::proofs::SeekSteps::stop_dropped, crate::proofs::SeekSteps::end_dropped))]
+pub fn behind_key(
+    alloc: Global,
+    body: &Bytes,
+    offsets: &[u16],
+    place: BlockPlace,
+    key: &[u8],
+) -> Result<BlockPlace, SlateDBError>
+    ensures left { IfOk result (λ after. left_v2 body.now offsets.now after ≡ dropped IterationOrder.Ascending key.now (left_v2 body.now offsets.now place)) }
+    ensures bound { IfOk result (λ after. bound_v2 offsets.now after ≤ bound_v2 offsets.now place) }
+    ensures cause { IfErr result (λ e. (e ≡ SlateDBError.OutOfMemory) ⊎ (left_v2 body.now offsets.now place ≡ Err e)) }
+    ensures damage { IfErr result (λ e. (e ≡ SlateDBError.OutOfMemory) ⊎ IsDamage e) }
+{
+    let mut place = place;
+    while let Some((row, after)) = next_of_block(alloc, body, offsets, &place)? {
+        if !IterationOrder::Ascending.puts_before(row.key.as_slice(), key) {
+            return Ok(place);
+        }
+        place = after;
+    }
+    Ok(place)
+}
+
+/// The place behind all rows that come before a key, where the rows come in order. It is found by the groups' first keys,
+/// and from there row by row.
+#[tactic(auto, using(crate::proofs::SeekSteps::sought_left, crate::proofs::SeekSteps::sought_refused, crate::proofs::SeekSteps::refused_is))]
+pub fn seek_key(
+    alloc: Global,
+    body: &Bytes,
+    offsets: &[u16],
+    place: &BlockPlace,
+    key: &[u8],
+) -> Result<BlockPlace, SlateDBError>
+    ensures left { IfOk result (λ after. IsRising IterationOrder.Ascending (left_v2 body.now offsets.now place.now) → left_v2 body.now offsets.now after ≡ Ok (drop_before IterationOrder.Ascending key.now (rows_of (left_v2 body.now offsets.now place.now)))) }
+    ensures fewer { IfOk result (λ after. IsRefused (left_v2 body.now offsets.now after) → IsRefused (left_v2 body.now offsets.now place.now)) }
+    ensures bound { IfOk result (λ after. bound_v2 offsets.now after ≤ bound_v2 offsets.now place.now) }
+    ensures cause { IfErr result (λ e. (e ≡ SlateDBError.OutOfMemory) ⊎ IsRefused (left_v2 body.now offsets.now place.now)) }
+    ensures damage { IfErr result (λ e. (e ≡ SlateDBError.OutOfMemory) ⊎ IsDamage e) }
+{
+    let start = start_of_seek(body, offsets, place, key)?;
+    behind_key(alloc, body, offsets, start, key)
+}
+
+/// A place from which a seek can go row by row: before the last group whose first key comes before the key, or where it
+/// stands. The one error is `OutOfMemory`.
+fn start_of_seek(
+    body: &Bytes,
+    offsets: &[u16],
+    place: &BlockPlace,
+    key: &[u8],
+) -> Result<BlockPlace, SlateDBError>
+    ensures same { IfOk result (λ start. IsRising IterationOrder.Ascending (left_v2 body.now offsets.now place.now) → dropped IterationOrder.Ascending key.now (left_v2 body.now offsets.now start) ≡ dropped IterationOrder.Ascending key.now (left_v2 body.now offsets.now place.now)) }
+    ensures fewer { IfOk result (λ start. IsRefused (left_v2 body.now offsets.now start) → IsRefused (left_v2 body.now offsets.now place.now)) }
+    ensures bound { IfOk result (λ start. bound_v2 offsets.now start ≤ bound_v2 offsets.now place.now) }
+    ensures cause { IsOkUnless result SlateDBError.OutOfMemory }
+{
+    match last_before(body, offsets, place.next, key) {
+        Some(number) => Ok(BlockPlace::before_group(number)),
+        None => Ok(place.clone()?),
+    }
+}
+
+/// The number of a group, from one on, whose first key comes before the key: the last one, where the groups' keys rise.
+/// `None` where there is none.
+pub fn last_before(body: &Bytes, offsets: &[u16], from: usize, key: &[u8]) -> Option<usize>
+    ensures within { IfSome result (λ number. (from ≤ number) × (number < length offsets.now)) }
+    ensures before { IfSome result (λ number. BeginsBefore IterationOrder.Ascending body.now offsets.now number key.now) }
+{
+    let mut low = from;
+    let mut high = offsets.len();
+    while low < high {
+        let middle = low + (high - low) / 2;
+        if begins_before(IterationOrder::Ascending, body, offsets, middle, key) {
+            low = middle + 1;
+        } else {
+            high = middle;
+        }
+    }
+    if low > from { Some(low - 1) } else { None }
+}
+
+/// Whether the order puts a group's first key before the key. A group whose first key can't be read counts as not before
+/// it: the walk refuses it when it comes there.
+pub fn begins_before(
+    order: IterationOrder,
+    body: &Bytes,
+    offsets: &[u16],
+    number: usize,
+    key: &[u8],
+) -> bool
+    requires { number < length offsets.now }
+    ensures { (row : RowEntry) (rows : List RowEntry) → restart_at body.now offsets.now number ≡ Ok (row ∷ rows) → result ≡ comes_before order row.key key.now }
+{
+    let from = offsets[number] as usize;
+    let end = group_end(body, offsets, number);
+    if from > end || end > body.len() {
+        return false;
+    }
+    let bytes = &body.as_slice()[from..end];
+    let Ok(fields) = key_fields_v2(bytes) else {
+        return false;
+    };
+    order.puts_before(&bytes[fields.suffix_at..fields.suffix_end], key)
+}
