@@ -4,3 +4,4 @@ pub mod FilterLaws
 pub mod TableLaws
 pub mod StoredLaws
 pub mod CutLaws
+mod CrcLaws
