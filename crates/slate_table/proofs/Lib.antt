@@ -5,3 +5,5 @@ pub mod TableLaws
 pub mod StoredLaws
 pub mod CutLaws
 mod CrcLaws
+mod Grown
+mod StatsReads
