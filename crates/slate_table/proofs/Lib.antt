@@ -7,3 +7,4 @@ pub mod CutLaws
 mod CrcLaws
 mod Grown
 mod StatsReads
+mod InfoReads
