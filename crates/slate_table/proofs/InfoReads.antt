@@ -171,3 +171,90 @@ info_reads version end bytes i fits h =
       is = record { known = tv.fits; first = tf.fits; last = tl.fits; index = tx.fits; filters = ty.fits; stats = tz.fits; is = text };
       before = (tx.before, ty.before, tz.before);
     })
+
+-- ---- what is spelled is read
+
+front_byte : (bytes : List ℕ) (at b : ℕ) (rest : List ℕ) → drop at bytes ≡ b ∷ rest → slice_get bytes at ≡ Some b
+front_byte [] zero b rest h = absurd cc
+front_byte [] (suc at) b rest h = absurd cc
+front_byte (x ∷ bytes) zero b rest h = ap Some (ap (λ (l : List ℕ). get_or l 0 0) h)
+front_byte (x ∷ bytes) (suc at) b rest h = front_byte bytes at b rest h
+
+byte_again : (bytes : List ℕ) (at b : ℕ) (rest : List ℕ) → drop at bytes ≡ b ∷ rest → byte_field bytes at ≡ Ok (b, at + 1)
+unfolding byte_field
+byte_again bytes at b rest h = ap (byte_at at) (front_byte bytes at b rest h)
+
+version_again : (version : ℕ) (bytes rest : List ℕ) → version < 2 ^ 16 → bytes ≡ be16 version ++ rest → version_field version bytes ≡ Ok (version, 2)
+unfolding version_field
+version_again version bytes rest lt h =
+    let same : eqb version version ≡ true = eq-eqb version version refl in
+    rw (number_again w16 (2 ^ 16) wide16 bytes rest 0 version lt h, same) refl
+
+text_again : (bytes key rest : List ℕ) (at : ℕ) → length key < 2 ^ 16 → drop at bytes ≡ be16 (length key) ++ (key ++ rest) → key_text bytes at ≡ Ok (key, at + 2 + length key)
+unfolding key_text
+text_again bytes key rest at lt h =
+    let tail : drop (at + 2) bytes ≡ key ++ rest = behind bytes (be16 (length key)) (key ++ rest) at h in
+    rw (number_again w16 (2 ^ 16) wide16 bytes (key ++ rest) at (length key) lt h, block_again bytes key rest (at + 2) (length key) refl tail, block_text bytes key rest (at + 2) tail) refl
+
+key_again : (bytes rest : List ℕ) (at : ℕ) (key : Option (List ℕ)) → FitsShort key → drop at bytes ≡ key_bytes key ++ rest → key_field bytes at ≡ Ok (key, at + length (key_bytes key))
+unfolding key_field
+key_again bytes rest at None fits h = rw (byte_again bytes at 0 rest h) refl
+key_again bytes rest at (Some key) fits h =
+    let parts : drop at bytes ≡ (1 ∷ []) ++ (be16 (length key) ++ (key ++ rest)) = h ∙ append_assoc (1 ∷ be16 (length key)) key rest in
+    let tail : drop (at + 1) bytes ≡ be16 (length key) ++ (key ++ rest) = behind bytes (1 ∷ []) (be16 (length key) ++ (key ++ rest)) at parts in
+    let place : at + 1 + 2 + length key ≡ at + length (key_bytes (Some key)) = omega arith in
+    rw (byte_again bytes at 1 (be16 (length key) ++ (key ++ rest)) parts, text_again bytes key rest (at + 1) fits tail) (ap (λ (k : ℕ). Ok (Some key, k)) place)
+
+place_again : (end : ℕ) (bytes rest : List ℕ) (at : ℕ) (p : Place) → FitsPlace p → LiesBefore end p → drop at bytes ≡ place_bytes p ++ rest → place_field end bytes at ≡ Ok ((p.at, p.len), at + 16)
+unfolding place_field
+place_again end bytes rest at p fits before h =
+    let parts : drop at bytes ≡ be64 p.at ++ (be64 p.len ++ rest) = h ∙ append_assoc (be64 p.at) (be64 p.len) rest in
+    let tail : drop (at + 8) bytes ≡ be64 p.len ++ rest = behind bytes (be64 p.at) (be64 p.len ++ rest) at parts in
+    let begins : ltb end p.at ≡ false = le-ltb end p.at (omega (arith, before)) in
+    let ends : ltb (end - p.at) p.len ≡ false = le-ltb (end - p.at) p.len (omega (arith, before)) in
+    let place : at + 8 + 8 ≡ at + 16 = omega arith in
+    rw (number_again w64 (2 ^ 64) wide64 bytes (be64 p.len ++ rest) at p.at fits.0 parts, begins, number_again w64 (2 ^ 64) wide64 bytes rest (at + 8) p.len fits.1 tail, ends)
+    (ap (λ (k : ℕ). Ok ((p.at, p.len), k)) place)
+
+ending_again : (bytes : List ℕ) (at : ℕ) → drop at bytes ≡ 0 ∷ 1 ∷ [] → ending bytes at ≡ Ok tt
+unfolding ending
+ending_again bytes at h =
+    let tail : drop (at + 1) bytes ≡ 1 ∷ [] = behind bytes (0 ∷ []) (1 ∷ []) at h in
+    let size : 2 ≡ length bytes - at = sym (ap length h) ∙ length-drop at bytes in
+    let whole : ltb (at + 1 + 1) (length bytes) ≡ false = le-ltb (at + 1 + 1) (length bytes) (omega (arith, size)) in
+    rw (byte_again bytes at 0 (1 ∷ []) h, byte_again bytes (at + 1) 1 [] tail, whole) refl
+
+pub info_again : (version end : ℕ) (bytes : List ℕ) (i : Info) → InfoTakes version end bytes i → info_in version end bytes ≡ Ok i
+unfolding info_in
+info_again version end bytes i t =
+    let v = be16 version in
+    let f = key_bytes i.first in
+    let l = key_bytes i.last in
+    let x = place_bytes i.index in
+    let y = place_bytes i.filters in
+    let z = place_bytes i.stats in
+    let e : List ℕ = 0 ∷ 1 ∷ [] in
+    let p0 : bytes ≡ v ++ (f ++ (l ++ (x ++ (y ++ (z ++ e))))) =
+    t.is.is ∙ append_assoc (v ++ f ++ l ++ x ++ y) z e ∙ append_assoc (v ++ f ++ l ++ x) y (z ++ e) ∙ append_assoc (v ++ f ++ l) x (y ++ (z ++ e))
+    ∙ append_assoc (v ++ f) l (x ++ (y ++ (z ++ e))) ∙ append_assoc v f (l ++ (x ++ (y ++ (z ++ e)))) in
+    let a1 = 2 + length f in
+    let a2 = a1 + length l in
+    let p1 : drop 2 bytes ≡ f ++ (l ++ (x ++ (y ++ (z ++ e)))) = behind bytes v (f ++ (l ++ (x ++ (y ++ (z ++ e))))) 0 p0 in
+    let p2 : drop a1 bytes ≡ l ++ (x ++ (y ++ (z ++ e))) = behind bytes f (l ++ (x ++ (y ++ (z ++ e)))) 2 p1 in
+    let p3 : drop a2 bytes ≡ x ++ (y ++ (z ++ e)) = behind bytes l (x ++ (y ++ (z ++ e))) a1 p2 in
+    let p4 : drop (a2 + 16) bytes ≡ y ++ (z ++ e) = behind bytes x (y ++ (z ++ e)) a2 p3 in
+    let p5 : drop (a2 + 16 + 16) bytes ≡ z ++ e = behind bytes y (z ++ e) (a2 + 16) p4 in
+    let p6 : drop (a2 + 16 + 16 + 16) bytes ≡ e = behind bytes z e (a2 + 16 + 16) p5 in
+    rw (version_again version bytes (f ++ (l ++ (x ++ (y ++ (z ++ e))))) t.is.known p0,
+        key_again bytes (l ++ (x ++ (y ++ (z ++ e)))) 2 i.first t.is.first p1,
+        key_again bytes (x ++ (y ++ (z ++ e))) a1 i.last t.is.last p2,
+        place_again end bytes (y ++ (z ++ e)) a2 i.index t.is.index t.before.0 p3,
+        place_again end bytes (z ++ e) (a2 + 16) i.filters t.is.filters t.before.1 p4,
+        place_again end bytes e (a2 + 16 + 16) i.stats t.is.stats t.before.2 p5,
+        ending_again bytes (a2 + 16 + 16 + 16) p6) refl
+
+pub refused_info : (version end : ℕ) (i : Info) (bytes : List ℕ) (d m : SlateDBError) → (d ≡ m) ⊎ (info_in version end bytes ≡ Err d) → IsInfo version bytes i → SectionsLieBefore end i → d ≡ m
+refused_info version end i bytes d m (inl h) is before = h
+refused_info version end i bytes d m (inr h) is before =
+    let read : info_in version end bytes ≡ Ok i = info_again version end bytes i (record { is = is; before = before }) in
+    let clash : Ok i ≡ Err d = sym read ∙ h in absurd cc
