@@ -8,3 +8,4 @@ mod CrcLaws
 mod Grown
 mod StatsReads
 mod InfoReads
+mod SectionReads
