@@ -1,15 +1,17 @@
 -- A part and its checksum are read exactly where they are spelled.
 use Rattle.std.proofs.Common.{◌≡◌, ℕ, zero, suc, ◌+◌, ◌-◌, ◌/◌, ◌%◌, ◌^◌, ◌<◌, ◌≤◌, Bool, true, false, cond, eqb, ltb, List, [], ◌∷◌, ◌++◌, length, get_or, take, drop, Result, Ok, Err, refl, sym, ap, subst, ◌∙◌, ◌⊎◌, inl, inr, arith}
 use Rattle.std.specs.Prelude.{bit_xor}
-use Rattle.std.specs.Int.{w32, from_be_bytes}
+use Rattle.std.specs.Int.{w16, w32, w64, from_be_bytes}
 use Rattle.std.proofs.lemmas.Bool.{eqb-true, eq-eqb, ltb-false, le-ltb}
-use Rattle.std.proofs.lemmas.List.{append-nil, length-append, length-drop, length-take, take-append-drop, take_at, drop_at, get_or_append_left, get_or_past}
+use Rattle.std.proofs.lemmas.List.{append-nil, length-append, length-drop, length-take, take-append-drop, take_at, drop_at, nil_from_length}
 use Rattle.std.proofs.lemmas.Nat.{xor_lt}
 use Rattle.slate_types.specs.declared.error.SlateDBError.{SlateDBError}
 use Rattle.slate_types.specs.declared.error.SlateDBError.TheVariants.{CorruptTable, ChecksumMismatch}
-use Rattle.slate_block.specs.RowSpelling.{be32}
+use Rattle.slate_block.specs.RowSpelling.{be16, be32, be64}
+use Rattle.slate_block.specs.Damage.{number_field}
 use Rattle.slate_block.proofs.Groups.{IsBytes}
-use Rattle.slate_block.proofs.FieldLaws.{IsBytes-drop, ok_is, wide32}
+use Rattle.slate_block.proofs.FieldLaws.{IsBytes-drop, ok_is, wide16, wide32, wide64, number_takes}
+use Rattle.slate_block.proofs.ReadingLaws.{then}
 use Rattle.slate_table.specs.Checksum.{crc_bit, crc_bits, crc_from, crc32}
 use Rattle.slate_table.specs.Parts.{summed}
 use Rattle.slate_table.specs.SectionReading.{part_of_sum, stored_sum, part_in}
@@ -80,3 +82,14 @@ part_again bytes part fits h =
 pub refused_part : (bytes slice part : List ℕ) (d m : SlateDBError) → IsBytes slice → slice ≡ bytes → part_in slice ≡ Err d → bytes ≡ summed part → d ≡ m
 refused_part bytes slice part d m fits same h is =
     let clash : Ok part ≡ Err d = sym (part_again slice part fits (same ∙ is)) ∙ h in absurd cc
+
+-- ---- the last bytes
+
+pub footer_spelled : (bytes : List ℕ) (offset at version next : ℕ) → IsBytes bytes → length bytes ≡ 10 → number_field w64 bytes 0 ≡ Ok (offset, at) → number_field w16 bytes at ≡ Ok (version, next) →
+    bytes ≡ be64 offset ++ be16 version
+footer_spelled bytes offset at version next fits size first second =
+    let t0 = number_takes w64 (2 ^ 64) wide64 bytes 0 offset at fits first in
+    let t1 = number_takes w16 (2 ^ 16) wide16 bytes at version next fits second in
+    let whole = then bytes 0 (be64 offset) at (be16 version) next t0.0 t1.0 in
+    let nothing : drop next bytes ≡ [] = nil_from_length (drop next bytes) (omega (arith, length-drop next bytes, whole.place)) in
+    whole.parts ∙ ap (λ (l : List ℕ). (be64 offset ++ be16 version) ++ l) nothing

@@ -5,12 +5,13 @@
 --     IsTransformFault before after e      want of memory, or a failure that raised the transformer's count of faults
 --     footer_bytes offset version      the last bytes of a table
 --     footer_in size bytes      what they say, or the refusal, for an object of a size
-use Rattle.std.specs.Prelude.{◌≡◌, ℕ, ◌-◌, ◌⊎◌, not, ◌&&◌, if◌then◌else◌, nat_lt, ◌==◌, List, ◌++◌, length, take, drop, Option, Some, None, Result, Ok, Err}
+use Rattle.std.specs.Prelude.{◌≡◌, ℕ, ◌-◌, ◌⊎◌, ◌||◌, if◌then◌else◌, nat_lt, ◌==◌, List, ◌++◌, length, take, drop, Option, Some, None, Result, Ok, Err}
 use Rattle.std.specs.Int.{w16, w32, w64, from_be_bytes}
 use Rattle.slate_types.specs.declared.error.SlateDBError.{SlateDBError}
 use Rattle.slate_types.specs.declared.error.SlateDBError.TheVariants.{CorruptTable, ChecksumMismatch, InvalidVersion, BlockTransformError, OutOfMemory}
 use Rattle.slate_types.specs.Faults.{Rose}
 use Rattle.slate_block.specs.RowSpelling.{be16, be64}
+use Rattle.slate_block.specs.Damage.{◌>>=◌, number_field}
 use Rattle.slate_table.specs.Checksum.{crc32}
 
 abbrev pub part_of_sum : List ℕ → List ℕ
@@ -34,12 +35,7 @@ IsTransformFault before after e = (e ≡ OutOfMemory) ⊎ ((e ≡ BlockTransform
 abbrev pub footer_bytes : ℕ → ℕ → List ℕ
 footer_bytes offset version = be64 offset ++ be16 version
 
--- their version first, then the place
+-- the version is tested before the place
 unfoldable pub footer_in : ℕ → List ℕ → Result (ℕ × ℕ) SlateDBError
-footer_in size bytes = if not (version == 1) && not (version == 2) then Err (InvalidVersion version)
-    else (if nat_lt (size - 10) offset then Err (CorruptTable 0) else Ok (offset, version))
-  where
-    offset : ℕ
-    offset = from_be_bytes w64 (take 8 bytes)
-    version : ℕ
-    version = from_be_bytes w16 (drop 8 bytes)
+footer_in size bytes = number_field w64 bytes 0 >>= λ offset. number_field w16 bytes offset.1 >>= λ version.
+    if version.0 == 1 || (version.0 == 2) then (if nat_lt (size - 10) offset.0 then Err (CorruptTable 0) else Ok (offset.0, version.0)) else Err (InvalidVersion version.0)

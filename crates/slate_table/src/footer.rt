@@ -3,7 +3,7 @@ ghost use Rattle.std.specs.Prelude.{◌≡◌, ◌+◌, ◌<◌, ◌≤◌, ◌+
 ghost use Rattle.slate_table.specs.SectionReading.{footer_bytes, footer_in};
 
 use crate::writing::{append_u16, append_u64};
-use slate_block::fields::corrupt;
+use slate_block::fields::{corrupt, u16_field, u64_field};
 use slate_types::SlateDBError;
 
 /// How many bytes they are.
@@ -30,17 +30,17 @@ impl Footer {
     /// The last bytes of an object of so many bytes. `InvalidVersion` exactly where the version isn't 1 or 2; then
     /// `CorruptTable` at 0 exactly where the info begins past what stands before these bytes.
     #[tactic(auto, unfolding(crate::specs::SectionReading::footer_in))]
-    pub fn decode(bytes: [u8; FOOTER_SIZE], len: u64) -> Result<Footer, SlateDBError>
-        requires { 10 < len }
-        ensures found { IfOk result (λ footer. bytes.entry ≡ footer_bytes footer.info_offset footer.version) }
+    pub fn decode(bytes: &[u8], len: u64) -> Result<Footer, SlateDBError>
+        requires whole { length bytes.now ≡ 10 }
+        requires longer { 10 < len }
+        ensures found { IfOk result (λ footer. bytes.now ≡ footer_bytes footer.info_offset footer.version) }
         ensures known { IfOk result (λ footer. (footer.version ≡ 1) ⊎ (footer.version ≡ 2)) }
         ensures within { IfOk result (λ footer. footer.info_offset + 10 ≤ len) }
-        ensures read { IfOk result (λ footer. footer_in len bytes.entry ≡ Ok (footer.info_offset, footer.version)) }
-        ensures cause { IfErr result (λ e. footer_in len bytes.entry ≡ Err e) }
+        ensures read { IfOk result (λ footer. footer_in len bytes.now ≡ Ok (footer.info_offset, footer.version)) }
+        ensures cause { IfErr result (λ e. footer_in len bytes.now ≡ Err e) }
     {
-        let [o0, o1, o2, o3, o4, o5, o6, o7, v0, v1] = bytes;
-        let info_offset = u64::from_be_bytes([o0, o1, o2, o3, o4, o5, o6, o7]);
-        let version = u16::from_be_bytes([v0, v1]);
+        let (info_offset, at) = u64_field(bytes, 0)?;
+        let (version, _) = u16_field(bytes, at)?;
         if version != 1 && version != 2 {
             return Err(SlateDBError::InvalidVersion {
                 actual_version: version,

@@ -61,6 +61,11 @@ pub struct SsTableFormat {
 }
 
 impl Default for SsTableFormat {
+    ghost use Rattle.std.specs.Prelude.{◌≡◌};
+    ghost use Rattle.slate_table.specs.TableFormat.{default_format};
+
+    ghost is_default = { λ format. format ≡ default_format };
+
     fn default() -> SsTableFormat {
         SsTableFormat {
             block_size: 4096,
