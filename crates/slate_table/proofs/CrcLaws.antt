@@ -1,5 +1,5 @@
 -- The checksum's step is linear, so bytes can be taken by tables.
-use Rattle.std.proofs.Common.{◌≡◌, ℕ, zero, suc, ◌+◌, ◌*◌, ◌/◌, ◌%◌, ◌^◌, ◌<◌, ◌≤◌, Bool, true, false, cond, eqb, ◌&&◌, List, [], ◌∷◌, length, get_or, refl, sym, ap, ◌∙◌, arith, inl, inr, ◌⊎◌}
+use Rattle.std.proofs.Common.{◌≡◌, ℕ, zero, suc, ◌+◌, ◌*◌, ◌/◌, ◌%◌, ◌^◌, ◌<◌, Bool, true, false, cond, eqb, ◌&&◌, List, [], ◌∷◌, length, get_or, refl, sym, ap, ◌∙◌, arith}
 use Rattle.std.specs.Prelude.{bit_xor}
 use Rattle.std.specs.Int.{w32, to_le_bytes}
 use Rattle.std.specs.Int.Bits.{xor_assoc, xor_self, xor_zero_l}
@@ -195,7 +195,7 @@ eight_are c low bs r0 r1 r2 r3 r4 r5 r6 r7 lt is n fits h =
     sym (grouped r0 r1 r2 r3 r4 r5 r6 r7)
     ∙ (λ i. bit_xor (e0 i) (bit_xor (e1 i) (bit_xor (e2 i) (bit_xor (e3 i) (bit_xor (h.is4 i) (bit_xor (h.is5 i) (bit_xor (h.is6 i) (h.is7 i))))))))
     ∙ ap (λ (y : ℕ). bit_xor (crc_bits 64 (bit_xor (c % 256) (at 0))) (bit_xor (crc_bits 56 (bit_xor (c / 256 % 256) (at 1)))
-        (bit_xor (crc_bits 48 (bit_xor (c / 65536 % 256) (at 2))) (bit_xor (crc_bits 40 (bit_xor (c / 16777216 % 256) (at 3))) y)))) (sym by_last)
+    (bit_xor (crc_bits 48 (bit_xor (c / 65536 % 256) (at 2))) (bit_xor (crc_bits 40 (bit_xor (c / 16777216 % 256) (at 3))) y)))) (sym by_last)
     ∙ sym by_four ∙ ap (crc_from c) (sym (eight_items bs n))
 
 -- ---- tables

@@ -1,5 +1,5 @@
 -- Statistics that are read are those that are spelled.
-use Rattle.std.proofs.Common.{◌≡◌, ℕ, zero, suc, ◌+◌, ◌-◌, ◌*◌, ◌^◌, ◌<◌, ◌≤◌, Bool, true, false, cond, ltb, List, [], ◌∷◌, ◌++◌, length, map, take, drop, Result, Ok, Err, refl, sym, ap, subst, ◌∙◌, ◌⊎◌, inl, inr, append_assoc, arith}
+use Rattle.std.proofs.Common.{◌≡◌, ℕ, zero, suc, ◌+◌, ◌-◌, ◌^◌, ◌<◌, ◌≤◌, false, cond, ltb, List, [], ◌∷◌, ◌++◌, length, map, drop, Result, Ok, Err, refl, sym, ap, subst, ◌∙◌, ◌⊎◌, inl, inr, append_assoc, arith}
 use Rattle.std.specs.List.{flat_map, AllByRecursion}
 use Rattle.std.specs.Int.{Width, w16, w32, w64, byte_len, to_be_bytes}
 use Rattle.std.proofs.lemmas.Bool.{ltb-false, le-ltb}
@@ -14,7 +14,7 @@ use Rattle.slate_block.proofs.Groups.{IsBytes}
 use Rattle.slate_block.proofs.FieldLaws.{bind_ok, guard_ok, ok_is, Stands, behind, IsWide, wide16, wide32, wide64, number_takes, number_again}
 use Rattle.slate_block.proofs.ReadingLaws.{then}
 use Rattle.slate_table.specs.Decoded.{Counts, Stats, FitCounts, counts_bytes, IsStats}
-use Rattle.slate_table.specs.StatsReading.{counts_of, totals_bytes, three_numbers, block_stats_field, block_stats_from, stats_in}
+use Rattle.slate_table.specs.StatsReading.{counts_of, three_numbers, block_stats_field, block_stats_from, stats_in}
 
 -- ---- counts that were read, and those that are still to be read
 
@@ -220,11 +220,15 @@ stats_again bytes s i =
     let p5 : drop 44 bytes ≡ counts ++ [] = behind bytes count counts 40 p4 ∙ sym (append-nil counts) in
     let size : 44 + length counts ≡ length bytes = omega (arith, ap length p1) in
     let whole : ltb (length bytes) (length bytes) ≡ false = le-ltb (length bytes) (length bytes) (omega arith) in
-    rw (three_again w64 (2 ^ 64) wide64 bytes (keys ++ (values ++ (count ++ counts))) 0 s.all.puts s.all.deletes s.all.merges i.all.0 i.all.1 i.all.2 p1,
-        number_again w64 (2 ^ 64) wide64 bytes (values ++ (count ++ counts)) 24 s.key_bytes i.keys p2,
-        number_again w64 (2 ^ 64) wide64 bytes (count ++ counts) 32 s.value_bytes i.values p3,
-        number_again w32 (2 ^ 32) wide32 bytes counts 40 (length s.blocks) i.few p4,
-        blocks_again s.blocks bytes [] 44 i.each p5, size, whole)
+    rw (
+      three_again w64 (2 ^ 64) wide64 bytes (keys ++ (values ++ (count ++ counts))) 0 s.all.puts s.all.deletes s.all.merges i.all.0 i.all.1 i.all.2 p1,
+      number_again w64 (2 ^ 64) wide64 bytes (values ++ (count ++ counts)) 24 s.key_bytes i.keys p2,
+      number_again w64 (2 ^ 64) wide64 bytes (count ++ counts) 32 s.value_bytes i.values p3,
+      number_again w32 (2 ^ 32) wide32 bytes counts 40 (length s.blocks) i.few p4,
+      blocks_again s.blocks bytes [] 44 i.each p5,
+      size,
+      whole,
+    )
     (ap (λ (l : List Counts). Ok (record { all = s.all; key_bytes = s.key_bytes; value_bytes = s.value_bytes; blocks = l })) (same_counts s.blocks))
 
 pub refused_stats : (s : Stats) (bytes slice : List ℕ) (d m : SlateDBError) → slice ≡ bytes → (d ≡ m) ⊎ (stats_in slice ≡ Err d) → IsStats bytes s → d ≡ m
