@@ -12,4 +12,6 @@ mod rows;
 #[cfg(test)]
 mod runs;
 #[cfg(test)]
+mod tables;
+#[cfg(test)]
 mod texts;
