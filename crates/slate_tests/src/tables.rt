@@ -13,8 +13,8 @@ const STATS: [u8; 50] = [
 ];
 
 const INFO: [u8; 60] = [
-    0, 1, 1, 0, 1, 0x61, 1, 0, 1, 0x61, 0, 0, 0, 0, 0, 0, 0, 35, 0, 0, 0, 0, 0, 0, 0, 19, 0, 0, 0, 0,
-    0, 0, 0, 35, 0, 0, 0, 0, 0, 0, 0, 0, 0, 0, 0, 0, 0, 0, 0, 54, 0, 0, 0, 0, 0, 0, 0, 54, 0, 1,
+    0, 1, 1, 0, 1, 0x61, 1, 0, 1, 0x61, 0, 0, 0, 0, 0, 0, 0, 35, 0, 0, 0, 0, 0, 0, 0, 19, 0, 0, 0,
+    0, 0, 0, 0, 35, 0, 0, 0, 0, 0, 0, 0, 0, 0, 0, 0, 0, 0, 0, 0, 54, 0, 0, 0, 0, 0, 0, 0, 54, 0, 1,
 ];
 
 const FOOTER: [u8; 10] = [0, 0, 0, 0, 0, 0, 0, 108, 0, 1];
@@ -49,7 +49,10 @@ fn checksums(rt: HostRuntime) {
 fn stats_of_one_row(rt: HostRuntime) -> Result<(), Fail> {
     let bytes = Bytes::copy_from_slice(rt.alloc(), &STATS)?;
     let stats = SstStats::decode(rt.alloc(), bytes)?;
-    assert_eq!(rt; (stats.num_puts, stats.num_deletes, stats.num_merges), (1, 0, 0));
+    assert_eq!(rt;
+        (stats.num_puts, stats.num_deletes, stats.num_merges),
+        (1, 0, 0)
+    );
     assert_eq!(rt; (stats.raw_key_size, stats.raw_val_size), (1, 1));
     assert_eq!(rt; stats.num_rows(), 1);
     let block = BlockStats {
@@ -163,7 +166,10 @@ fn sections(rt: HostRuntime) -> Result<(), Fail> {
     assert!(rt;
         matches!(
             open_section(rt.alloc(), &damaged, &mut plain),
-            Err(SlateDBError::ChecksumMismatch { stored: 0xcbf4_3926, .. })
+            Err(SlateDBError::ChecksumMismatch {
+                stored: 0xcbf4_3926,
+                ..
+            })
         )
     );
     Ok(())
