@@ -4,3 +4,8 @@ pub mod FilterLaws
 pub mod TableLaws
 pub mod StoredLaws
 pub mod CutLaws
+mod CrcLaws
+mod Grown
+mod StatsReads
+mod InfoReads
+mod SectionReads
