@@ -1,7 +1,7 @@
 -- The entries that a batch keeps are what is kept of the operations that it took.
-use Rattle.std.proofs.Common.{◌≡◌, ℕ, ◌+◌, ◌<◌, Bool, true, false, cond, ◌||◌, length-append, List, [], ◌∷◌, ◌++◌, suc, map, flat_map, length, bytes_eq, refl, sym, ap, subst, ◌∙◌, arith, Ordering, Less, Equal, Greater}
+use Rattle.std.proofs.Common.{◌≡◌, ℕ, ◌+◌, ◌<◌, Bool, true, false, cond, ◌||◌, length-append, List, [], ◌∷◌, ◌++◌, suc, map, filter_map, flat_map, Option, ℤ, length, bytes_eq, refl, sym, ap, subst, ◌∙◌, arith, Ordering, Less, Equal, Greater}
 use Rattle.std.specs.Ordering.{is_eq, ordering_reverse, match_ordering}
-use Rattle.std.specs.List.{list_any, sum_by, AllByRecursion, AllZip}
+use Rattle.std.specs.List.{list_any, sum_by, cons_option, AllByRecursion, AllZip}
 use Rattle.std.specs.List.Sorted.{IsStrictlySortedBy}
 use Rattle.std.specs.Map.{keys_of, values_of}
 use Rattle.std.specs.BTreeMap.{insert_entry}
@@ -10,14 +10,17 @@ use Rattle.std.proofs.lemmas.Map.Text.{is_eq-slice_cmp}
 use Rattle.std.proofs.lemmas.Slice.Eq.{bytes_eq-Decides}
 use Rattle.smallvec.specs.SmallVec.{SmallVec}
 use Rattle.slate_types.specs.Keys.{key_cmp, among}
-use Rattle.slate_types.specs.Fold.{from_last}
+use Rattle.slate_types.specs.declared.types.RowEntry.{RowEntry}
+use Rattle.slate_types.specs.Fold.{Combine, from_last, fold_rows}
 use Rattle.slate_types.proofs.KeyOrder.{same-key, turned-key}
 use Rattle.slate_types.proofs.KeySetLaws.{set-rises, same-set, AllAbove}
 use Rattle.slate_mem.specs.declared.WriteOp.{WriteOp}
 use Rattle.slate_mem.specs.declared.WriteOp.TheVariants.{Put, Delete, Merge}
 use Rattle.slate_mem.specs.Batch.{Ops, replaces, ops_of, kept, batch_keys, kept_ops}
 use Rattle.slate_mem.specs.BatchModel.{BatchModel, is_merge_op, holds_merge, with_op, IsBatchOf}
-use Rattle.slate_mem.specs.Kept.{Entries, listed, IsKept, AreKept, IsSingle, IsWhole}
+use Rattle.slate_mem.specs.RowOf.{op_row}
+use Rattle.slate_mem.specs.CommitRows.{commit_rows}
+use Rattle.slate_mem.specs.Kept.{Entries, listed, IsKept, AreKept, IsSingle, IsWhole, single_row, single_rows}
 use Rattle.slate_mem.proofs.BatchLaws.{ops_of-append, ops_of-one, append-nil, some_of, none-left, among-keys, from_last-again, some-kept, ops_of-kept}
 
 -- ---- keys
@@ -327,3 +330,27 @@ copied-whole Same s es fs held h w = record {
   kept = copied-all Same s IsKept es fs h w.kept;
   told = λ none. copied-all Same s IsSingle es fs h (w.told none);
 }
+
+-- ---- rows
+
+-- a key's one operation makes its row
+row-single : (c : Combine) (default_millis : Option ℕ) (n : ℕ) (now : ℤ) (k : List ℕ) (ops : List WriteOp) → IsSingle ops →
+    fold_rows c (map (op_row k n default_millis now) ops) ≡ single_row default_millis n now k ops
+row-single c default_millis n now k ops (op, is, r) = subst (λ os. fold_rows c (map (op_row k n default_millis now) os) ≡ single_row default_millis n now k os) (sym is) refl
+
+rows-by : (f : List ℕ → Option RowEntry) (default_millis : Option ℕ) (n : ℕ) (now : ℤ) (es : Entries) → AllByRecursion (λ e. f e.0 ≡ single_row default_millis n now e.0 e.1.items) es →
+    filter_map f (keys_of es) ≡ single_rows default_millis n now es
+rows-by f default_millis n now [] h = refl
+rows-by f default_millis n now (e ∷ es) h = λ i. cons_option (h.0 i) (rows-by f default_millis n now es h.1 i)
+
+-- at each entry the batch keeps that entry's operations
+each-kept : (f : List ℕ → List WriteOp) (c : List ℕ → Combine) (default_millis : Option ℕ) (n : ℕ) (now : ℤ) (es : Entries) → Gives f es → AllByRecursion (λ e. IsSingle e.1.items) es →
+    AllByRecursion (λ e. fold_rows (c e.0) (map (op_row e.0 n default_millis now) (f e.0)) ≡ single_row default_millis n now e.0 e.1.items) es
+each-kept f c default_millis n now [] g h = tt
+each-kept f c default_millis n now (e ∷ es) g h =
+    (ap (λ ops. fold_rows (c e.0) (map (op_row e.0 n default_millis now) ops)) g.0 ∙ row-single (c e.0) default_millis n now e.0 e.1.items h.0, each-kept f c default_millis n now es g.1 h.1)
+
+pub rows-listed : (c : List ℕ → Combine) (default_millis : Option ℕ) (n : ℕ) (now : ℤ) (es : Entries) → IsWhole es false → commit_rows c default_millis n now (listed es) ≡ single_rows default_millis n now es
+rows-listed c default_millis n now es w =
+    (λ i. filter_map (λ k. fold_rows (c k) (map (op_row k n default_millis now) (kept-listed es k w.rising w.kept i))) (keys-listed es w.rising w.kept i))
+    ∙ rows-by (λ k. fold_rows (c k) (map (op_row k n default_millis now) (items_at es k))) default_millis n now es (each-kept (items_at es) c default_millis n now es (gives-each es w.rising) (w.told refl))

@@ -1,5 +1,5 @@
 //! A batch of operations, which are to become one commit.
-ghost use Rattle.std.specs.Prelude.{◌≡◌, ◌⊎◌, ◌-◌, ◌^◌, ◌↔◌, ◌++◌, ◌∷◌, [], true, min, length, Some, None, IsTrue, OnOk, OnErr, IfOk, IfErr, IsOkUnless};
+ghost use Rattle.std.specs.Prelude.{◌≡◌, ◌⊎◌, ◌-◌, ◌^◌, ◌↔◌, ◌++◌, ◌∷◌, ℕ, List, [], true, false, min, length, Some, None, IsTrue, OnOk, OnErr, IfOk, IfErr, IsOkUnless};
 ghost use Rattle.std.specs.BTreeMap as map;
 ghost use Rattle.std.specs.BTreeMap.{insert_entry, IsUnchanged};
 ghost use Rattle.slate_types.specs.declared.error.SlateDBError.{SlateDBError};
@@ -7,11 +7,13 @@ ghost use Rattle.slate_types.specs.Keys.{key_cmp};
 ghost use Rattle.slate_mem.specs.Batch.{Ops, replaces, batch_keys};
 ghost use Rattle.slate_mem.specs.Refusals.{first_refusal, key_refusals, value_refusal, op_refusal};
 ghost use Rattle.slate_mem.specs.BatchModel.{no_ops, with_op, plain_put, IsBatchOf};
-ghost use Rattle.slate_mem.specs.Kept.{listed};
+ghost use Rattle.slate_types.specs.Fold.{Combine};
+ghost use Rattle.slate_mem.specs.CommitRows.{commit_rows, row_bytes};
+ghost use Rattle.slate_mem.specs.Kept.{listed, single_rows};
 
 use crate::WriteOp;
 use bytes::Bytes;
-use slate_types::{PutOptions, SlateDBError};
+use slate_types::{PutOptions, RowEntry, SlateDBError};
 use smallvec::SmallVec;
 use std::alloc::Global;
 use std::collections::BTreeMap;
@@ -166,6 +168,26 @@ impl WriteBatch {
         keys_of(self.alloc, &self.ops)
     }
 
+    /// The rows of the batch as the commit `seq` of the moment `now`, by key, and how many bytes their keys and
+    /// values have, or the greatest number where they are more. `default_ttl_millis` is the database's time to
+    /// live. No merge may have been taken. The one error is `OutOfMemory`.
+    pub fn extract_entries(
+        &self,
+        alloc: Global,
+        seq: u64,
+        now: i64,
+        default_ttl_millis: Option<u64>,
+    ) -> Result<(Vec<RowEntry>, u64), SlateDBError>
+        requires { self.now.held_merge ≡ false }
+        ensures rows { IfOk result (λ e. (c : List ℕ → Combine) → e.0.items ≡ commit_rows c default_ttl_millis seq now self.now.ops) }
+        ensures bytes { IfOk result (λ e. e.1 ≡ min (row_bytes e.0.items) (2 ^ 64 - 1)) }
+        ensures cause { IsOkUnless result SlateDBError.OutOfMemory }
+    {
+        let rows = rows_of(alloc, &self.ops, seq, now, default_ttl_millis)?;
+        let bytes = bytes_of(&rows);
+        Ok((rows, bytes))
+    }
+
     /// Takes a put or a delete, in place of all operations of its key.
     fn replace(&mut self, key: Bytes, op: WriteOp) -> Result<(), SlateDBError>
         requires { replaces op ≡ true }
@@ -259,4 +281,37 @@ fn keys_of(
         keys.push(key.clone()?)?;
     }
     Ok(keys)
+}
+
+/// The rows of keys that have one operation each.
+fn rows_of(
+    alloc: Global,
+    ops: &BTreeMap<Bytes, SmallVec<WriteOp, 1>>,
+    seq: u64,
+    now: i64,
+    default_ttl_millis: Option<u64>,
+) -> Result<Vec<RowEntry>, SlateDBError>
+    ensures rows { IfOk result (λ rows. rows.items ≡ single_rows default_ttl_millis seq now ops.now.entries) }
+    ensures cause { IsOkUnless result SlateDBError.OutOfMemory }
+{
+    let mut rows = Vec::new(alloc);
+    for (key, list) in ops {
+        if let Some(op) = list.as_slice().first() {
+            rows.push(op.to_row(key, seq, now, default_ttl_millis)?)?;
+        }
+    }
+    Ok(rows)
+}
+
+/// The bytes of keys and values, or the greatest number where they are more.
+fn bytes_of(rows: &[RowEntry]) -> u64
+    ensures { result ≡ min (row_bytes rows.now) (2 ^ 64 - 1) }
+{
+    let mut bytes = 0u64;
+    for row in rows {
+        bytes = bytes
+            .saturating_add(row.key.len() as u64)
+            .saturating_add(row.value.len() as u64);
+    }
+    bytes
 }
