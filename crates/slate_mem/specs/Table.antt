@@ -1,0 +1,37 @@
+-- Rows in memory, in their order: by key upwards, and within a key by sequence downwards.
+--     MemTableModel      what contracts see of a table: its rows, and the segment prefixes that it recorded, rising
+--     no_rows      the table without rows and prefixes
+--     put_row rows row      the rows with one more, in place of one of the same key and sequence
+--     put_rows rows more      the same of several, one after another
+--     of_key k rows      the rows of a key
+--     newest k n rows      those of a key that make what a reader at the sequence n sees: the newest up to n, to the first that is no operand
+use Rattle.std.specs.Prelude.{ℕ, nat_le, ◌&&◌, if◌then◌else◌, List, [], ◌∷◌, filter, bytes_eq}
+use Rattle.std.specs.Ordering.{match_ordering}
+use Rattle.slate_types.specs.declared.types.RowEntry.{RowEntry}
+use Rattle.slate_types.specs.Rows.{sequenced, sequenced_cmp, is_base}
+
+pub record MemTableModel : Type 0 where
+  pub rows : List RowEntry
+  pub segments : List (List ℕ)
+
+abbrev pub no_rows : MemTableModel
+no_rows = record { rows = []; segments = [] }
+
+abbrev pub put_row : List RowEntry → RowEntry → List RowEntry
+put_row [] row = row ∷ []
+put_row (r ∷ rs) row = match_ordering (sequenced_cmp (sequenced row) (sequenced r)) (row ∷ r ∷ rs) (row ∷ rs) (r ∷ put_row rs row)
+
+abbrev pub put_rows : List RowEntry → List RowEntry → List RowEntry
+put_rows rows [] = rows
+put_rows rows (m ∷ more) = put_rows (put_row rows m) more
+
+abbrev pub of_key : List ℕ → List RowEntry → List RowEntry
+of_key k rows = filter (λ r. bytes_eq r.key k) rows
+
+-- to the first that is no operand
+abbrev pub to_base : List RowEntry → List RowEntry
+to_base [] = []
+to_base (r ∷ rs) = if is_base r then r ∷ [] else r ∷ to_base rs
+
+abbrev pub newest : List ℕ → ℕ → List RowEntry → List RowEntry
+newest k n rows = to_base (filter (λ r. bytes_eq r.key k && nat_le r.seq n) rows)
