@@ -179,7 +179,7 @@ any-last test (y ∷ ys) x h = by (test y) (any-last test ys x h)
     by false later = later
 
 -- a last one that passes stands alone
-from-last-passes : {A : Type 0} (test : A → Bool) (xs : List A) (x : A) → test x ≡ true → from_last test (xs ++ (x ∷ [])) ≡ x ∷ []
+pub from-last-passes : {A : Type 0} (test : A → Bool) (xs : List A) (x : A) → test x ≡ true → from_last test (xs ++ (x ∷ [])) ≡ x ∷ []
 from-last-passes test [] x h = refl
 from-last-passes test (y ∷ ys) x h =
     ap (λ b. cond b (from_last test (ys ++ (x ∷ []))) (y ∷ (ys ++ (x ∷ [])))) (any-last test ys x h) ∙ from-last-passes test ys x h

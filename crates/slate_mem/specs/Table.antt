@@ -4,7 +4,8 @@
 --     put_row rows row      the rows with one more, in place of one of the same key and sequence
 --     put_rows rows more      the same of several, one after another
 --     of_key k rows      the rows of a key
---     newest k n rows      those of a key that make what a reader at the sequence n sees: the newest up to n, to the first that is no operand
+--     up_to k n rows      those with sequences of at most n
+--     newest k n rows      of these the first ones, to the first that is no operand: what a reader at n sees is their fold
 use Rattle.std.specs.Prelude.{ℕ, nat_le, ◌&&◌, if◌then◌else◌, List, [], ◌∷◌, filter, bytes_eq}
 use Rattle.std.specs.Ordering.{match_ordering}
 use Rattle.slate_types.specs.declared.types.RowEntry.{RowEntry}
@@ -33,5 +34,8 @@ abbrev pub to_base : List RowEntry → List RowEntry
 to_base [] = []
 to_base (r ∷ rs) = if is_base r then r ∷ [] else r ∷ to_base rs
 
+abbrev pub up_to : List ℕ → ℕ → List RowEntry → List RowEntry
+up_to k n rows = filter (λ r. bytes_eq r.key k && nat_le r.seq n) rows
+
 abbrev pub newest : List ℕ → ℕ → List RowEntry → List RowEntry
-newest k n rows = to_base (filter (λ r. bytes_eq r.key k && nat_le r.seq n) rows)
+newest k n rows = to_base (up_to k n rows)
