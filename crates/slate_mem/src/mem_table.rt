@@ -1,18 +1,26 @@
 //! Rows in memory, until a flush.
-ghost use Rattle.std.specs.Prelude.{◌≡◌, ◌<◌, ◌^◌, ◌++◌, ◌↔◌, ◌&&◌, nat_le, bytes_eq, filter, List, [], ◌∷◌, length, IsTrue, OnOk, OnErr, IfOk, IsOkUnless, Ok};
+ghost use Rattle.std.specs.Prelude.{◌≡◌, ◌<◌, ◌^◌, ◌++◌, ◌↔◌, ◌&&◌, nat_le, bytes_eq, filter, List, [], ◌∷◌, length, IsTrue, OnOk, OnErr, IfOk, IsOkUnless, Ok, ℕ, ◌-◌, ◌==◌, min, not};
 ghost use Rattle.std.specs.BTreeMap.{IsUnchanged};
 ghost use Rattle.std.specs.BTreeMap.{is_at};
+ghost use Rattle.std.specs.BTreeMap as map;
 ghost use Rattle.std.specs.BTreeSet as set;
-ghost use Rattle.std.specs.Map.{set_value};
+ghost use Rattle.std.specs.List.{sum_by};
+ghost use Rattle.std.specs.Map.{set_value, values_of};
 ghost use Rattle.slate_types.specs.declared.error.SlateDBError.{SlateDBError};
-ghost use Rattle.slate_types.specs.Rows.{sequenced, sequenced_cmp};
-ghost use Rattle.slate_types.specs.Keys.{key_cmp, keys_set};
-ghost use Rattle.slate_mem.specs.Table.{no_rows, put_rows, newest, to_base};
+ghost use Rattle.slate_types.specs.Rows.{sequenced, sequenced_cmp, estimated_size};
+ghost use Rattle.slate_types.specs.Keys.{key_cmp, keys_set, among};
+ghost use Rattle.slate_types.specs.Fold.{greatest_seq};
+ghost use Rattle.slate_types.specs.Iteration.{IsInOrder};
+ghost use Rattle.slate_mem.specs.Table.{no_rows, put_rows, of_key, ranged, newest, last_tick, first_seq};
 ghost use Rattle.slate_mem.specs.Tied.{IsRows, insert_row, insert_rows, undone, all_undone, newest_entries};
 
+use crate::metadata::{KVTableMetadata, count_rows};
 use bytes::Bytes;
-use slate_types::{RowEntry, SequencedKey, SlateDBError, ValueDeletable};
+use slate_types::{
+    BytesRange, IterationOrder, RowEntry, RowsIterator, SequencedKey, SlateDBError, ValueDeletable,
+};
 use std::alloc::Global;
+use std::cmp::Ordering;
 use std::collections::{BTreeMap, BTreeSet};
 use std::marker::Model;
 use std::mem;
@@ -90,6 +98,24 @@ impl MemTable {
         newest_of(alloc, &self.rows, key, max_seq)
     }
 
+    /// The rows whose keys are in the range, keys in the order, and newest first within a key in both orders. They
+    /// share keys and values. The one error is `OutOfMemory`.
+    pub fn range(
+        &self,
+        alloc: Global,
+        range: &BytesRange,
+        order: IterationOrder,
+    ) -> Result<MemTableIterator, SlateDBError>
+        ensures rows { IfOk result (λ it. (k : List ℕ) → of_key k it.rows ≡ of_key k (ranged range.now self.now.rows)) }
+        ensures in_order { IfOk result (λ it. IsInOrder order it.rows) }
+        ensures order { IfOk result (λ it. it.order ≡ order) }
+        ensures cause { IsOkUnless result SlateDBError.OutOfMemory }
+    {
+        let rows = rows_in(alloc, &self.rows, range)?;
+        let rows = ordered(rows, order)?;
+        Ok(RowsIterator::new(rows, order))
+    }
+
     /// Moves the rows and the recorded prefixes into a table that stays as it is, and leaves none. It takes no memory.
     pub fn freeze(&mut self) -> Result<ImmutableMemtable, SlateDBError>
         ensures frozen { result ≡ Ok self.old }
@@ -106,6 +132,29 @@ impl MemTable {
         ensures { result.now.keys ≡ self.now.segments }
     {
         &self.segments
+    }
+
+    /// The number of rows, the sum of their estimated sizes or the greatest number where it is more, their greatest
+    /// creation or the least moment where there is none, and their last and first sequence, each 0 where there is
+    /// none. It goes over all rows.
+    pub fn metadata(&self) -> KVTableMetadata
+        ensures entries { result.entry_num ≡ length self.now.rows }
+        ensures bytes { result.entries_size_in_bytes ≡ min (sum_by estimated_size self.now.rows) (2 ^ 64 - 1) }
+        ensures tick { result.last_tick ≡ last_tick self.now.rows }
+        ensures last { result.last_seq ≡ greatest_seq 0 self.now.rows }
+        ensures first { result.first_seq ≡ first_seq self.now.rows }
+    {
+        count_rows(&self.rows)
+    }
+
+    /// Drops the rows of a sequence, and drops the prefixes from the recorded ones: so a commit that is refused after
+    /// its `put_all` is undone. It takes no memory.
+    pub fn take_back(&mut self, seq: u64, segments: &BTreeSet<Bytes>)
+        ensures rows { self.new.rows ≡ filter (λ r. not (r.seq == seq)) self.old.rows }
+        ensures segments { self.new.segments ≡ filter (λ p. not (among p segments.now.keys)) self.old.segments }
+    {
+        drop_rows(&mut self.rows, seq);
+        drop_prefixes(&mut self.segments, segments);
     }
 }
 
@@ -137,13 +186,42 @@ impl ImmutableMemtable {
         self.table.rows_of_key(alloc, key, max_seq)
     }
 
+    /// As `MemTable::range`.
+    pub fn range(
+        &self,
+        alloc: Global,
+        range: &BytesRange,
+        order: IterationOrder,
+    ) -> Result<MemTableIterator, SlateDBError>
+        ensures rows { IfOk result (λ it. (k : List ℕ) → of_key k it.rows ≡ of_key k (ranged range.now self.now.rows)) }
+        ensures in_order { IfOk result (λ it. IsInOrder order it.rows) }
+        ensures order { IfOk result (λ it. it.order ≡ order) }
+        ensures cause { IsOkUnless result SlateDBError.OutOfMemory }
+    {
+        self.table.range(alloc, range, order)
+    }
+
     /// The recorded prefixes.
     pub fn touched_segments(&self) -> &BTreeSet<Bytes>
         ensures { result.now.keys ≡ self.now.segments }
     {
         self.table.touched_segments()
     }
+
+    /// As `MemTable::metadata`.
+    pub fn metadata(&self) -> KVTableMetadata
+        ensures entries { result.entry_num ≡ length self.now.rows }
+        ensures bytes { result.entries_size_in_bytes ≡ min (sum_by estimated_size self.now.rows) (2 ^ 64 - 1) }
+        ensures tick { result.last_tick ≡ last_tick self.now.rows }
+        ensures last { result.last_seq ≡ greatest_seq 0 self.now.rows }
+        ensures first { result.first_seq ≡ first_seq self.now.rows }
+    {
+        self.table.metadata()
+    }
 }
+
+/// An iterator over rows of a table, which it owns.
+pub type MemTableIterator = RowsIterator;
 
 /// What one put did: what stood at its place before.
 #[derive(Drop)]
@@ -276,4 +354,77 @@ fn newest_of(
         }
     }
     Ok(found)
+}
+
+/// Copies of the rows whose keys are in the range.
+fn rows_in(
+    alloc: Global,
+    rows: &BTreeMap<SequencedKey, RowEntry>,
+    range: &BytesRange,
+) -> Result<Vec<RowEntry>, SlateDBError>
+    ensures rows { IfOk result (λ found. found.items ≡ ranged range.now (values_of rows.now.entries)) }
+    ensures cause { IsOkUnless result SlateDBError.OutOfMemory }
+{
+    let mut found = Vec::new(alloc);
+    for row in rows.values() {
+        if range.contains(row.key.as_slice()) {
+            found.push(row.clone()?)?;
+        }
+    }
+    Ok(found)
+}
+
+/// Rows whose keys ascend, in the order.
+fn ordered(mut rows: Vec<RowEntry>, order: IterationOrder) -> Result<Vec<RowEntry>, SlateDBError>
+    requires { IsInOrder IterationOrder.Ascending rows.items }
+    ensures keys { IfOk result (λ all. (k : List ℕ) → of_key k all.items ≡ of_key k rows.items) }
+    ensures in_order { IfOk result (λ all. IsInOrder order all.items) }
+    ensures cause { IsOkUnless result SlateDBError.OutOfMemory }
+{
+    match order {
+        IterationOrder::Ascending => Ok(rows),
+        IterationOrder::Descending => {
+            fall(&mut rows)?;
+            Ok(rows)
+        }
+    }
+}
+
+/// Sorts rows by key downwards. Those of a key stay in their order.
+fn fall(rows: &mut Vec<RowEntry>) -> Result<(), SlateDBError>
+    ensures keys { OnOk result ((k : List ℕ) → of_key k rows.new.items ≡ of_key k rows.old.items) }
+    ensures in_order { OnOk result (IsInOrder IterationOrder.Descending rows.new.items) }
+    ensures cause { IsOkUnless result SlateDBError.OutOfMemory }
+{
+    rows.sort_by(|a, b| -> Ordering
+        ensures { result ≡ key_cmp b.now.key a.now.key }
+    {
+        b.key.cmp(&a.key)
+    })?;
+    Ok(())
+}
+
+/// Drops the rows of a sequence.
+fn drop_rows(rows: &mut BTreeMap<SequencedKey, RowEntry>, seq: u64)
+    ensures rows { rows.new.entries ≡ filter (λ e. not (e.1.seq == seq)) rows.old.entries }
+    ensures rising { map.IsOrdered sequenced_cmp rows.new }
+{
+    rows.retain(|_key, row| -> bool
+        ensures same { row.new ≡ row.old }
+        ensures test { result ≡ not (row.old.seq == seq) }
+    {
+        row.seq != seq
+    });
+}
+
+/// Drops the prefixes of the other set.
+fn drop_prefixes(prefixes: &mut BTreeSet<Bytes>, others: &BTreeSet<Bytes>)
+    ensures prefixes { prefixes.new.keys ≡ filter (λ p. not (among p others.now.keys)) prefixes.old.keys }
+    ensures rising { set.IsOrdered key_cmp prefixes.new }
+{
+    prefixes.retain(|prefix| -> bool
+        ensures { result ≡ not (set.contains key_cmp others.now prefix.now) }
+    {
+        !others.contains(prefix)
+    });
 }
