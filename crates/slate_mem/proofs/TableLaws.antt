@@ -218,3 +218,30 @@ newest-listed k n es keyed = ap to_base (values-filtered test (is_up_to k n) es 
     each : (fs : TableEntries) → AreKeyed fs → AllByRecursion (λ e. test e.0 ≡ is_up_to k n e.1) fs
     each [] h = tt
     each (f ∷ fs) h = (ap test h.0 ∙ between k n f.1, each fs h.1)
+
+-- ---- what is dropped
+
+pub tied-filtered : (p : SequencedKey × RowEntry → Bool) (es : TableEntries) → AreTied es → AreTied (filter p es)
+tied-filtered p [] t = tt
+tied-filtered p (e ∷ es) t = by (p e) (tied-filtered p es t.1)
+  where
+    by : (b : Bool) → AreTied (filter p es) → AreTied (cond b (e ∷ filter p es) (filter p es))
+    by true later = (t.0, later)
+    by false later = later
+
+pub values-kept : (p : RowEntry → Bool) (es : TableEntries) → values_of (filter (λ e. p e.1) es) ≡ filter p (values_of es)
+values-kept p [] = refl
+values-kept p (e ∷ es) = by (p e.1) (values-kept p es)
+  where
+    by : (b : Bool) → values_of (filter (λ f. p f.1) es) ≡ filter p (values_of es) →
+        values_of (cond b (e ∷ filter (λ f. p f.1) es) (filter (λ f. p f.1) es)) ≡ cond b (e.1 ∷ filter p (values_of es)) (filter p (values_of es))
+    by true later = ap (λ rs. e.1 ∷ rs) later
+    by false later = later
+
+turned-is : (o : Ordering) → is_eq (ordering_reverse o) ≡ is_eq o
+turned-is Less = refl
+turned-is Equal = refl
+turned-is Greater = refl
+
+pub among-is : (k : List ℕ) (ks : List (List ℕ)) → list_any (is_at (key_cmp k)) ks ≡ among k ks
+among-is k ks = λ i. list_any (λ x. (ap is_eq (turned-key k x) ∙ turned-is (key_cmp x k) ∙ is_eq-slice_cmp x k) i) ks

@@ -409,7 +409,7 @@ fn drop_rows(rows: &mut BTreeMap<SequencedKey, RowEntry>, seq: u64)
     ensures rows { rows.new.entries ≡ filter (λ e. not (e.1.seq == seq)) rows.old.entries }
     ensures rising { map.IsOrdered sequenced_cmp rows.new }
 {
-    rows.retain(|_key, row| -> bool
+    rows.retain(move |_key, row| -> bool
         ensures same { row.new ≡ row.old }
         ensures test { result ≡ not (row.old.seq == seq) }
     {
@@ -423,7 +423,7 @@ fn drop_prefixes(prefixes: &mut BTreeSet<Bytes>, others: &BTreeSet<Bytes>)
     ensures rising { set.IsOrdered key_cmp prefixes.new }
 {
     prefixes.retain(|prefix| -> bool
-        ensures { result ≡ not (set.contains key_cmp others.now prefix.now) }
+        ensures { result ≡ not (set.contains key_cmp others.entry.now prefix.now) }
     {
         !others.contains(prefix)
     });

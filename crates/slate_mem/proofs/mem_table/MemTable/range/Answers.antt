@@ -7,7 +7,7 @@ use Rattle.slate_mem.specs.Table.{MemTableModel, of_key, ranged}
 use Rattle.slate_mem.proofs.OrderLaws.{rows-ascend}
 use Rattle.slate_mem.proofs.mem_table.MemTable.range.Goals as goal
 
-pub ordered-requires : goal.ordered-rows-2-requires
+pub ordered-requires : goal.ordered-requires
 ordered-requires c =
     subst (IsInOrder Ascending) (sym c.in_ok-rows.ensures.rows)
     (in_order_filtered Ascending (λ r. in_range c.args.range.now r.key) _ (rows-ascend _ c.self.invariant.rows))
