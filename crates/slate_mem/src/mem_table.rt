@@ -1,6 +1,8 @@
 //! Rows in memory, until a flush.
 ghost use Rattle.std.specs.Prelude.{◌≡◌, ◌<◌, ◌^◌, ◌++◌, ◌↔◌, ◌&&◌, nat_le, bytes_eq, filter, List, [], ◌∷◌, length, IsTrue, OnOk, OnErr, IfOk, IsOkUnless, Ok, ℕ, ◌-◌, ◌==◌, min, not};
 ghost use Rattle.std.specs.BTreeMap.{IsUnchanged};
+ghost use Rattle.std.specs.BTreeMap.Range.{IsLeBy, IsLtBy, entries_between};
+ghost use Rattle.std.specs.Range.Bound.{IsForward};
 ghost use Rattle.std.specs.BTreeMap.{is_at};
 ghost use Rattle.std.specs.BTreeMap as map;
 ghost use Rattle.std.specs.BTreeSet as set;
@@ -8,12 +10,13 @@ ghost use Rattle.std.specs.List.{sum_by};
 ghost use Rattle.std.specs.Map.{set_value, values_of};
 ghost use Rattle.slate_types.specs.declared.error.SlateDBError.{SlateDBError};
 ghost use Rattle.slate_types.specs.Rows.{sequenced, sequenced_cmp, estimated_size};
-ghost use Rattle.slate_types.specs.Keys.{key_cmp, keys_set, among};
+ghost use Rattle.slate_types.specs.Keys.{key_cmp, keys_set, among, is_refused};
 ghost use Rattle.slate_types.specs.Fold.{greatest_seq};
 ghost use Rattle.slate_types.specs.Iteration.{IsInOrder};
 ghost use Rattle.slate_mem.specs.Table.{no_rows, put_rows, of_key, ranged, newest, last_tick, first_seq};
 ghost use Rattle.slate_mem.specs.Tied.{IsRows, insert_row, insert_rows, undone, all_undone, newest_entries};
 
+use crate::key_range::KVTableInternalKeyRange;
 use crate::metadata::{KVTableMetadata, count_rows};
 use bytes::Bytes;
 use slate_types::{
@@ -362,14 +365,44 @@ fn rows_in(
     rows: &BTreeMap<SequencedKey, RowEntry>,
     range: &BytesRange,
 ) -> Result<Vec<RowEntry>, SlateDBError>
+    requires { IsRows rows.now.entries }
     ensures rows { IfOk result (λ found. found.items ≡ ranged range.now (values_of rows.now.entries)) }
     ensures cause { IsOkUnless result SlateDBError.OutOfMemory }
 {
+    if holds_none(range) {
+        return Ok(Vec::new(alloc));
+    }
+    let KVTableInternalKeyRange { start, end } = KVTableInternalKeyRange::from_range(range)?;
+    rows_between(alloc, rows, start, end)
+}
+
+/// Whether the bounds of the range leave no key.
+fn holds_none(range: &BytesRange) -> bool
+    ensures { result ≡ is_refused range.now.start range.now.end }
+{
+    match (&range.start, &range.end) {
+        (Bound::Included(start), Bound::Included(end)) => end.cmp(start).is_lt(),
+        (Bound::Included(start), Bound::Excluded(end)) => end.cmp(start).is_le(),
+        (Bound::Excluded(start), Bound::Included(end)) => end.cmp(start).is_le(),
+        (Bound::Excluded(start), Bound::Excluded(end)) => end.cmp(start).is_le(),
+        _ => false,
+    }
+}
+
+/// Copies of the rows between two bounds.
+fn rows_between(
+    alloc: Global,
+    rows: &BTreeMap<SequencedKey, RowEntry>,
+    start: Bound<SequencedKey>,
+    end: Bound<SequencedKey>,
+) -> Result<Vec<RowEntry>, SlateDBError>
+    requires { IsForward (IsLeBy sequenced_cmp) (IsLtBy sequenced_cmp) start end }
+    ensures rows { IfOk result (λ found. found.items ≡ values_of (entries_between sequenced_cmp start end rows.now.entries)) }
+    ensures cause { IsOkUnless result SlateDBError.OutOfMemory }
+{
     let mut found = Vec::new(alloc);
-    for row in rows.values() {
-        if range.contains(row.key.as_slice()) {
-            found.push(row.clone()?)?;
-        }
+    for (_, row) in rows.range((start, end)) {
+        found.push(row.clone()?)?;
     }
     Ok(found)
 }
