@@ -2,24 +2,26 @@
 #![tactic(auto)]
 
 #[cfg(test)]
-mod blocks;
-#[cfg(test)]
 mod block_iterators;
 #[cfg(test)]
 mod block_iterators_v2;
 #[cfg(test)]
+mod blocks;
+#[cfg(test)]
 mod lists;
 #[cfg(test)]
-mod partitions;
+mod memory;
 #[cfg(test)]
-mod parts;
+mod pitions.rt;
+#[cfg(test)]
+mod ps.rt;
 #[cfg(test)]
 mod rows;
 #[cfg(test)]
 mod runs;
 #[cfg(test)]
+mod stores;
+#[cfg(test)]
 mod tables;
 #[cfg(test)]
 mod texts;
-#[cfg(test)]
-mod stores;

@@ -1,0 +1,18 @@
+use Rattle.std.proofs.Common.{◌≡◌, ◌∙◌, ap, sym, rules}
+use Rattle.slate_mem.specs.declared.WriteOp.{WriteOp}
+use Rattle.slate_mem.specs.declared.WriteOp.TheVariants.{Put, Delete, Merge}
+use Rattle.slate_mem.specs.contracts.WriteOpClone.TheImpl.{ghosts}
+use Rattle.slate_mem.specs.BatchModel.{BatchModel}
+use Rattle.slate_mem.proofs.KeptLaws.{AreSame, copied-listed, copied-whole}
+use Rattle.slate_mem.proofs.batch.WriteBatch.try_clone.Goals as goal
+
+same-op : AreSame ghosts.is_clone
+same-op a b h = search rules
+
+pub invariant_of-result : goal.invariant_of-result
+invariant_of-result c = copied-whole ghosts.is_clone same-op _ _ _ c.in_ok-clone.ensures.cases c.self.invariant
+
+pub returns-clause-copy : goal.returns-clause-copy
+returns-clause-copy c =
+    let ops = copied-listed ghosts.is_clone same-op _ _ c.in_ok-clone.ensures.cases in
+    ap (λ o. let b : BatchModel = record { ops = o; held_merge = c.self.inside.has_merge_ops } in b) ops ∙ c.self.view_is

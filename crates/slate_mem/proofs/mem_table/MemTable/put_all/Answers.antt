@@ -1,0 +1,10 @@
+use Rattle.std.proofs.Common.{◌≡◌, ◌∙◌, ap, sym}
+use Rattle.std.specs.Map.{values_of}
+use Rattle.slate_mem.specs.Table.{MemTableModel, put_rows}
+use Rattle.slate_mem.proofs.TableLaws.{rows-put-all, tied-keyed}
+use Rattle.slate_mem.proofs.mem_table.MemTable.put_all.Goals as goal
+
+pub returns-clause-rows : goal.returns-clause-rows
+returns-clause-rows c =
+    let es = c.self.inside.rows.entries in
+    ap values_of c.in_ok-put_each.ensures.put ∙ rows-put-all c.args.rows.items es (tied-keyed es c.self.invariant.rows.tied) ∙ ap (λ (t : MemTableModel). put_rows t.rows c.args.rows.items) c.self.view_is

@@ -1,0 +1,21 @@
+use Rattle.std.proofs.Common.{◌≡◌, ◌∙◌, ◌++◌, ap, sym}
+use Rattle.slate_types.specs.Keys.{keys_set}
+use Rattle.std.specs.BTreeSet.{insert_key}
+use Rattle.slate_mem.proofs.TableLaws.{set-moved, set-of-set}
+use Rattle.slate_mem.proofs.mem_table.join.Goals as goal
+
+pub loop-prefix-preserved : goal.loop-prefix-preserved
+loop-prefix-preserved c =
+    let e = c.in_ok-insert.ensures in
+    let was = c.loop-prefix.invariant in
+    let keys = rw c.in_ok-clone.ensures.cases at e.keys in
+    let left = c.in-Some.ensures.steps in
+    record {
+      both = ap (λ ks. keys_set (c.next.new.self ++ ks)) keys ∙ set-moved c.in-Some.prefix.now c.next.new.self c.loop-prefix.more.keys was.rising ∙ ap (λ ps. keys_set (ps ++ c.loop-prefix.more.keys)) (sym left) ∙ was.both;
+      rising = e.ordered;
+    }
+
+pub returns-clause-both : goal.returns-clause-both
+returns-clause-both c =
+    let was = c.loop-prefix.invariant in
+    sym (set-of-set _ was.rising) ∙ rw c.in-None.ensures.steps.0 at was.both

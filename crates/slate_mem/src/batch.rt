@@ -1,0 +1,317 @@
+//! A batch of operations, which are to become one commit.
+ghost use Rattle.std.specs.Prelude.{◌≡◌, ◌⊎◌, ◌-◌, ◌^◌, ◌↔◌, ◌++◌, ◌∷◌, ℕ, List, [], true, false, min, length, Some, None, IsTrue, OnOk, OnErr, IfOk, IfErr, IsOkUnless};
+ghost use Rattle.std.specs.BTreeMap as map;
+ghost use Rattle.std.specs.BTreeMap.{insert_entry, IsUnchanged};
+ghost use Rattle.slate_types.specs.declared.error.SlateDBError.{SlateDBError};
+ghost use Rattle.slate_types.specs.Keys.{key_cmp};
+ghost use Rattle.slate_mem.specs.Batch.{Ops, replaces, batch_keys};
+ghost use Rattle.slate_mem.specs.Refusals.{first_refusal, key_refusals, value_refusal, op_refusal};
+ghost use Rattle.slate_mem.specs.BatchModel.{no_ops, with_op, plain_put, IsBatchOf};
+ghost use Rattle.slate_types.specs.Fold.{Combine};
+ghost use Rattle.slate_mem.specs.CommitRows.{commit_rows, row_bytes};
+ghost use Rattle.slate_mem.specs.Kept.{listed, single_rows};
+
+use crate::WriteOp;
+use bytes::Bytes;
+use slate_types::{PutOptions, RowEntry, SlateDBError};
+use smallvec::SmallVec;
+use std::alloc::Global;
+use std::collections::BTreeMap;
+use std::marker::Model;
+
+/// Operations that are applied together. Of a key it keeps those from the last put or delete on, oldest first.
+/// After a refusal it is as it was.
+#[derive(Drop)]
+pub struct WriteBatch {
+    alloc: Global,
+    ops: BTreeMap<Bytes, SmallVec<WriteOp, 1>>,
+    has_merge_ops: bool,
+}
+
+impl Model for WriteBatch {
+    ghost use Rattle.slate_mem.specs.BatchModel.{BatchModel};
+    ghost use Rattle.slate_mem.specs.Kept.{listed, IsWhole};
+
+    ghost Value = { BatchModel };
+
+    ghost view = { λ b. record { ops = listed b.ops.entries; held_merge = b.has_merge_ops } };
+
+    ghost invariant = { λ b. IsWhole b.ops.entries b.has_merge_ops };
+}
+
+impl WriteBatch {
+    /// A batch without operations.
+    pub fn new(alloc: Global) -> WriteBatch
+        ensures { result ≡ no_ops }
+    {
+        WriteBatch {
+            alloc,
+            ops: BTreeMap::new(alloc),
+            has_merge_ops: false,
+        }
+    }
+
+    /// Puts a value with the default options, in place of all operations of the key. Refuses by `EmptyKey`,
+    /// by `KeyTooLong` above 65535 bytes, by `ValueTooLong` above 2^32 - 1 bytes, in this order, and by
+    /// `OutOfMemory`.
+    pub fn put(&mut self, key: &[u8], value: &[u8]) -> Result<(), SlateDBError>
+        ensures refused { (e : SlateDBError) → op_refusal key.now (plain_put value.now) ≡ Some e → result ≡ Err e }
+        ensures cause { IfErr result (λ e. (e ≡ SlateDBError.OutOfMemory) ⊎ (op_refusal key.now (plain_put value.now) ≡ Some e)) }
+        ensures taken { OnOk result (self.new ≡ with_op self.old key.now (plain_put value.now)) }
+        ensures means { (ops : Ops) → IsBatchOf ops self.old → OnOk result (IsBatchOf (ops ++ ((key.now, plain_put value.now) ∷ [])) self.new) }
+        ensures same { OnErr result (self.new ≡ self.old) }
+    {
+        self.put_with_options(key, value, &PutOptions::default())
+    }
+
+    /// Puts a value, in place of all operations of the key. Refuses as `put` does.
+    pub fn put_with_options(
+        &mut self,
+        key: &[u8],
+        value: &[u8],
+        options: &PutOptions,
+    ) -> Result<(), SlateDBError>
+        ensures refused { (e : SlateDBError) → op_refusal key.now (WriteOp.Put value.now options.now) ≡ Some e → result ≡ Err e }
+        ensures cause { IfErr result (λ e. (e ≡ SlateDBError.OutOfMemory) ⊎ (op_refusal key.now (WriteOp.Put value.now options.now) ≡ Some e)) }
+        ensures taken { OnOk result (self.new ≡ with_op self.old key.now (WriteOp.Put value.now options.now)) }
+        ensures means { (ops : Ops) → IsBatchOf ops self.old → OnOk result (IsBatchOf (ops ++ ((key.now, WriteOp.Put value.now options.now) ∷ [])) self.new) }
+        ensures same { OnErr result (self.new ≡ self.old) }
+    {
+        test_key(key)?;
+        test_value(value)?;
+        let key = Bytes::copy_from_slice(self.alloc, key)?;
+        let value = Bytes::copy_from_slice(self.alloc, value)?;
+        self.replace(key, WriteOp::Put(value, *options))
+    }
+
+    /// Puts a value that is held already, with the default options, and copies nothing. Refuses as `put` does.
+    pub fn put_bytes(&mut self, key: Bytes, value: Bytes) -> Result<(), SlateDBError>
+        ensures refused { (e : SlateDBError) → op_refusal key (plain_put value) ≡ Some e → result ≡ Err e }
+        ensures cause { IfErr result (λ e. (e ≡ SlateDBError.OutOfMemory) ⊎ (op_refusal key (plain_put value) ≡ Some e)) }
+        ensures taken { OnOk result (self.new ≡ with_op self.old key (plain_put value)) }
+        ensures means { (ops : Ops) → IsBatchOf ops self.old → OnOk result (IsBatchOf (ops ++ ((key, plain_put value) ∷ [])) self.new) }
+        ensures same { OnErr result (self.new ≡ self.old) }
+    {
+        self.put_bytes_with_options(key, value, &PutOptions::default())
+    }
+
+    /// Puts a value that is held already, and copies nothing. Refuses as `put` does.
+    pub fn put_bytes_with_options(
+        &mut self,
+        key: Bytes,
+        value: Bytes,
+        options: &PutOptions,
+    ) -> Result<(), SlateDBError>
+        ensures refused { (e : SlateDBError) → op_refusal key (WriteOp.Put value options.now) ≡ Some e → result ≡ Err e }
+        ensures cause { IfErr result (λ e. (e ≡ SlateDBError.OutOfMemory) ⊎ (op_refusal key (WriteOp.Put value options.now) ≡ Some e)) }
+        ensures taken { OnOk result (self.new ≡ with_op self.old key (WriteOp.Put value options.now)) }
+        ensures means { (ops : Ops) → IsBatchOf ops self.old → OnOk result (IsBatchOf (ops ++ ((key, WriteOp.Put value options.now) ∷ [])) self.new) }
+        ensures same { OnErr result (self.new ≡ self.old) }
+    {
+        test_key(key.as_slice())?;
+        test_value(value.as_slice())?;
+        self.replace(key, WriteOp::Put(value, *options))
+    }
+
+    /// Deletes the key, in place of all its operations. Refuses by `EmptyKey`, then by `KeyTooLong` above 65535
+    /// bytes, and by `OutOfMemory`.
+    pub fn delete(&mut self, key: &[u8]) -> Result<(), SlateDBError>
+        ensures refused { (e : SlateDBError) → op_refusal key.now WriteOp.Delete ≡ Some e → result ≡ Err e }
+        ensures cause { IfErr result (λ e. (e ≡ SlateDBError.OutOfMemory) ⊎ (op_refusal key.now WriteOp.Delete ≡ Some e)) }
+        ensures taken { OnOk result (self.new ≡ with_op self.old key.now WriteOp.Delete) }
+        ensures means { (ops : Ops) → IsBatchOf ops self.old → OnOk result (IsBatchOf (ops ++ ((key.now, WriteOp.Delete) ∷ [])) self.new) }
+        ensures same { OnErr result (self.new ≡ self.old) }
+    {
+        test_key(key)?;
+        let key = Bytes::copy_from_slice(self.alloc, key)?;
+        self.replace(key, WriteOp::Delete)
+    }
+
+    /// Whether it has no operations.
+    pub fn is_empty(&self) -> bool
+        ensures { IsTrue result ↔ (self.now.ops ≡ []) }
+    {
+        self.ops.is_empty()
+    }
+
+    /// Whether it ever took a merge, even one that is replaced by now.
+    pub fn has_merge_ops(&self) -> bool
+        ensures { result ≡ self.now.held_merge }
+    {
+        self.has_merge_ops
+    }
+
+    /// How many operations it keeps, or the greatest number where they are more.
+    pub fn op_count(&self) -> usize
+        ensures { result ≡ min (length self.now.ops) (2 ^ 64 - 1) }
+    {
+        count_ops(&self.ops)
+    }
+
+    /// An equal batch, which shares keys and values. The one error is `OutOfMemory`.
+    pub fn try_clone(&self) -> Result<WriteBatch, SlateDBError>
+        ensures copy { IfOk result (λ copy. copy ≡ self.now) }
+        ensures cause { IsOkUnless result SlateDBError.OutOfMemory }
+    {
+        Ok(WriteBatch {
+            alloc: self.alloc,
+            ops: self.ops.clone()?,
+            has_merge_ops: self.has_merge_ops,
+        })
+    }
+
+    /// Its keys, ascending, each once. The one error is `OutOfMemory`.
+    pub fn keys(&self) -> Result<Vec<Bytes>, SlateDBError>
+        ensures keys { IfOk result (λ keys. keys.items ≡ batch_keys self.now.ops) }
+        ensures cause { IsOkUnless result SlateDBError.OutOfMemory }
+    {
+        keys_of(self.alloc, &self.ops)
+    }
+
+    /// The rows of the batch as the commit `seq` of the moment `now`, by key, and how many bytes their keys and
+    /// values have, or the greatest number where they are more. `default_ttl_millis` is the database's time to
+    /// live. No merge may have been taken. The one error is `OutOfMemory`.
+    pub fn extract_entries(
+        &self,
+        alloc: Global,
+        seq: u64,
+        now: i64,
+        default_ttl_millis: Option<u64>,
+    ) -> Result<(Vec<RowEntry>, u64), SlateDBError>
+        requires { self.now.held_merge ≡ false }
+        ensures rows { IfOk result (λ e. (c : List ℕ → Combine) → e.0.items ≡ commit_rows c default_ttl_millis seq now self.now.ops) }
+        ensures bytes { IfOk result (λ e. e.1 ≡ min (row_bytes e.0.items) (2 ^ 64 - 1)) }
+        ensures cause { IsOkUnless result SlateDBError.OutOfMemory }
+    {
+        let rows = rows_of(alloc, &self.ops, seq, now, default_ttl_millis)?;
+        let bytes = bytes_of(&rows);
+        Ok((rows, bytes))
+    }
+
+    /// Takes a put or a delete, in place of all operations of its key.
+    fn replace(&mut self, key: Bytes, op: WriteOp) -> Result<(), SlateDBError>
+        requires { replaces op ≡ true }
+        ensures taken { OnOk result (self.new ≡ with_op self.old key op) }
+        ensures means { (ops : Ops) → IsBatchOf ops self.old → OnOk result (IsBatchOf (ops ++ ((key, op) ∷ [])) self.new) }
+        ensures cause { IsOkUnless result SlateDBError.OutOfMemory }
+        ensures same { OnErr result (self.new ≡ self.old) }
+    {
+        set_ops(self.alloc, &mut self.ops, key, op)?;
+        Ok(())
+    }
+}
+
+/// `EmptyKey` exactly at an empty key, and `KeyTooLong` exactly above 65535 bytes.
+fn test_key(key: &[u8]) -> Result<(), SlateDBError>
+    ensures refused { (e : SlateDBError) → first_refusal (key_refusals key.now) ≡ Some e → result ≡ Err e }
+    ensures cause { IfErr result (λ e. first_refusal (key_refusals key.now) ≡ Some e) }
+{
+    if key.is_empty() {
+        return Err(SlateDBError::EmptyKey);
+    }
+    if key.len() > 65535 {
+        return Err(SlateDBError::KeyTooLong {
+            len: key.len() as u64,
+        });
+    }
+    Ok(())
+}
+
+/// `ValueTooLong` exactly above 2^32 - 1 bytes.
+fn test_value(value: &[u8]) -> Result<(), SlateDBError>
+    ensures refused { (e : SlateDBError) → value_refusal value.now ≡ Some e → result ≡ Err e }
+    ensures cause { IfErr result (λ e. value_refusal value.now ≡ Some e) }
+{
+    if value.len() > 4294967295 {
+        return Err(SlateDBError::ValueTooLong {
+            len: value.len() as u64,
+        });
+    }
+    Ok(())
+}
+
+/// The list of one operation.
+fn single(alloc: Global, op: WriteOp) -> Result<SmallVec<WriteOp, 1>, SlateDBError>
+    ensures one { IfOk result (λ list. list.items ≡ op ∷ []) }
+    ensures cause { IsOkUnless result SlateDBError.OutOfMemory }
+{
+    let mut list = SmallVec::new(alloc);
+    list.push(op)?;
+    Ok(list)
+}
+
+/// Sets the one operation of a key.
+fn set_ops(
+    alloc: Global,
+    ops: &mut BTreeMap<Bytes, SmallVec<WriteOp, 1>>,
+    key: Bytes,
+    op: WriteOp,
+) -> Result<(), SlateDBError>
+    ensures rising { OnOk result (map.IsOrdered key_cmp ops.new) }
+    ensures set { OnOk result ((list : _) × (list.items ≡ op ∷ []) × (ops.new.entries ≡ insert_entry key_cmp ops.old.entries key list)) }
+    ensures cause { IsOkUnless result SlateDBError.OutOfMemory }
+    ensures same { OnErr result (IsUnchanged ops.old ops.new) }
+{
+    let list = single(alloc, op)?;
+    ops.insert(key, list)?;
+    Ok(())
+}
+
+/// How many operations the keys have together.
+fn count_ops(ops: &BTreeMap<Bytes, SmallVec<WriteOp, 1>>) -> usize
+    ensures { result ≡ min (length (listed ops.now.entries)) (2 ^ 64 - 1) }
+{
+    let mut count = 0usize;
+    for list in ops.values() {
+        count = count.saturating_add(list.len());
+    }
+    count
+}
+
+/// Copies of the keys.
+fn keys_of(
+    alloc: Global,
+    ops: &BTreeMap<Bytes, SmallVec<WriteOp, 1>>,
+) -> Result<Vec<Bytes>, SlateDBError>
+    ensures keys { IfOk result (λ keys. keys.items ≡ map.keys ops.now) }
+    ensures cause { IsOkUnless result SlateDBError.OutOfMemory }
+{
+    let mut keys = Vec::new(alloc);
+    for key in ops.keys() {
+        keys.push(key.clone()?)?;
+    }
+    Ok(keys)
+}
+
+/// The rows of keys that have one operation each.
+fn rows_of(
+    alloc: Global,
+    ops: &BTreeMap<Bytes, SmallVec<WriteOp, 1>>,
+    seq: u64,
+    now: i64,
+    default_ttl_millis: Option<u64>,
+) -> Result<Vec<RowEntry>, SlateDBError>
+    ensures rows { IfOk result (λ rows. rows.items ≡ single_rows default_ttl_millis seq now ops.now.entries) }
+    ensures cause { IsOkUnless result SlateDBError.OutOfMemory }
+{
+    let mut rows = Vec::new(alloc);
+    for (key, list) in ops {
+        if let Some(op) = list.as_slice().first() {
+            rows.push(op.to_row(key, seq, now, default_ttl_millis)?)?;
+        }
+    }
+    Ok(rows)
+}
+
+/// The bytes of keys and values, or the greatest number where they are more.
+fn bytes_of(rows: &[RowEntry]) -> u64
+    ensures { result ≡ min (row_bytes rows.now) (2 ^ 64 - 1) }
+{
+    let mut bytes = 0u64;
+    for row in rows {
+        bytes = bytes
+            .saturating_add(row.key.len() as u64)
+            .saturating_add(row.value.len() as u64);
+    }
+    bytes
+}
