@@ -18,7 +18,8 @@ use Rattle.slate_txn.specs.declared.line.Line.TheVariants as lines
 use Rattle.slate_txn.specs.Named.{find_named, without, set_named}
 use Rattle.slate_txn.specs.State.{Tx, State, begun, last, last_of, is_open}
 use Rattle.slate_txn.specs.Reads.{seen}
-use Rattle.slate_txn.specs.Refusals.{first_refusal, when, op_refusal, ttl_refusal, exhausted_refusal, write_refusal}
+use Rattle.slate_mem.specs.Refusals.{first_refusal, when, op_refusal}
+use Rattle.slate_txn.specs.Refusals.{ttl_refusal, exhausted_refusal, write_refusal}
 use Rattle.slate_txn.specs.Reply as replies
 use Rattle.slate_txn.specs.Reply.{Reply}
 use Rattle.slate_txn.specs.Step.{refused_or, with_reply, as_commit, with_commit, write, closed, noted, reader_or_snapshot, get}

@@ -18,7 +18,8 @@ use Rattle.slate_txn.specs.declared.line.Line.TheVariants as lines
 use Rattle.slate_txn.specs.Named.{find_named, without, set_named, update_named}
 use Rattle.slate_txn.specs.State.{Rules, Tx, State, begun, last, is_open, NamesStandOnce, IsApart}
 use Rattle.slate_txn.specs.Conflict.{tracked_writes}
-use Rattle.slate_txn.specs.Refusals.{first_refusal, op_refusal, operator_refusal, commit_refusal, write_refusal}
+use Rattle.slate_mem.specs.Refusals.{first_refusal, op_refusal}
+use Rattle.slate_txn.specs.Refusals.{operator_refusal, commit_refusal, write_refusal}
 use Rattle.slate_txn.specs.Reply.{Reply, Done, Refused, Begun, SnapshotAt, Committed, Written}
 use Rattle.slate_txn.specs.Step.{step, after, refused_or, of_open, closed, Reader, reader, get, scan, operate, change, as_commit, with_reply, commit}
 use Rattle.slate_txn.specs.Replay.{apply, apply_all}

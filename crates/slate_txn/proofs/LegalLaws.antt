@@ -14,7 +14,8 @@ use Rattle.slate_txn.specs.Named.{find_named}
 use Rattle.slate_txn.specs.State.{Rules, Commit, Tx, State, last, last_of, is_open, NamesStandOnce, opening}
 use Rattle.slate_txn.specs.Tracking.{Reading, is_read}
 use Rattle.slate_txn.specs.Conflict.{tracked_writes, reads, meets, with_greatest, greatest, conflict}
-use Rattle.slate_txn.specs.Refusals.{first_refusal, commit_refusal, write_refusal}
+use Rattle.slate_mem.specs.Refusals.{first_refusal}
+use Rattle.slate_txn.specs.Refusals.{commit_refusal, write_refusal}
 use Rattle.slate_txn.specs.Reply.{Committed, Written}
 use Rattle.slate_txn.specs.Step.{step, refused_or, of_open, closed, as_commit, with_reply, commit}
 use Rattle.slate_txn.specs.Replay.{apply, apply_all, LegalFrom, NewIds, ids_of, HasNoConflict, AreKeysOf}

@@ -17,7 +17,8 @@ use Rattle.slate_txn.specs.declared.line.Line.TheVariants as lines
 use Rattle.slate_txn.specs.Named.{find_named, set_named, update_named}
 use Rattle.slate_txn.specs.State.{Rules, Commit, Tx, State, begun, last, is_open}
 use Rattle.slate_txn.specs.Conflict.{tracked_writes}
-use Rattle.slate_txn.specs.Refusals.{first_refusal, op_refusal, operator_refusal, commit_refusal, write_refusal}
+use Rattle.slate_mem.specs.Refusals.{first_refusal, op_refusal}
+use Rattle.slate_txn.specs.Refusals.{operator_refusal, commit_refusal, write_refusal}
 use Rattle.slate_txn.specs.Reply.{Reply, Done, Refused, Committed, Written}
 use Rattle.slate_txn.specs.Step.{step, after, refused_or, of_open, opens, closed, reader_or_snapshot, with_marks, with_unmarks, get, scan, operate, change, with_commit, with_op, is_scan, as_commit, with_reply, commit}
 use Rattle.slate_txn.specs.Replay.{AreKeysOf}

@@ -13,7 +13,8 @@ use Rattle.slate_txn.specs.declared.line.Line.TheVariants as lines
 use Rattle.slate_txn.specs.Named.{find_named}
 use Rattle.slate_txn.specs.State.{Rules, Tx, State, is_open}
 use Rattle.slate_txn.specs.Conflict.{tracked_writes}
-use Rattle.slate_txn.specs.Refusals.{first_refusal, op_refusal, operator_refusal, commit_refusal, write_refusal}
+use Rattle.slate_mem.specs.Refusals.{first_refusal, op_refusal}
+use Rattle.slate_txn.specs.Refusals.{operator_refusal, commit_refusal, write_refusal}
 use Rattle.slate_txn.specs.Reply.{Reply, Committed, Written}
 use Rattle.slate_txn.specs.Step.{step, answers, refused_or, of_open, closed, Reader, reader, get, scan, operate, change, as_commit, with_reply, commit}
 use Rattle.slate_txn.specs.Laws.{is_storage, other_answers}

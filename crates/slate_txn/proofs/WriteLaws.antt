@@ -8,7 +8,9 @@ use Rattle.slate_mem.specs.Batch.{Ops, kept, batch_keys, kept_ops}
 use Rattle.slate_mem.specs.RowOf.{op_expiry}
 use Rattle.slate_mem.proofs.BatchLaws.{keeps-kept}
 use Rattle.slate_txn.specs.State.{Rules, State, last}
-use Rattle.slate_txn.specs.Refusals.{first_refusal, op_refusal, when, is_merge_op, prefix_by, prefixes, segment_refusal, ttl_refusal, nest_refusal, batch_refusals, exhausted_refusal, write_refusal}
+use Rattle.slate_mem.specs.Refusals.{first_refusal, op_refusal, when}
+use Rattle.slate_mem.specs.BatchModel.{is_merge_op}
+use Rattle.slate_txn.specs.Refusals.{prefix_by, prefixes, segment_refusal, ttl_refusal, nest_refusal, batch_refusals, exhausted_refusal, write_refusal}
 use Rattle.slate_txn.specs.Reply.{Written}
 use Rattle.slate_txn.specs.Step.{refused_or, with_reply}
 use Rattle.slate_txn.specs.Laws.{WritesWhatIsKept}

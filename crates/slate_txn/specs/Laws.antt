@@ -22,7 +22,8 @@ use Rattle.slate_txn.specs.State.{Rules, Commit, Tx, State, opening, operator_at
 use Rattle.slate_txn.specs.Reads.{state_at, seen, rows_seen}
 use Rattle.slate_txn.specs.Conflict.{conflict, conflict_of}
 use Rattle.slate_txn.specs.Tracking.{Reading}
-use Rattle.slate_txn.specs.Refusals.{first_refusal, op_refusal, is_merge_op}
+use Rattle.slate_mem.specs.Refusals.{first_refusal, op_refusal}
+use Rattle.slate_mem.specs.BatchModel.{is_merge_op}
 use Rattle.slate_txn.specs.Reply.{Reply}
 use Rattle.slate_txn.specs.Step.{step, answers, after, write}
 use Rattle.slate_txn.specs.Replay.{apply_all, replay, IsLegal, NewIds, AreKept, AreKeysOf}

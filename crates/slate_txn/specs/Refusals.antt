@@ -1,6 +1,4 @@
 -- The refusals of a line, in their order.
---     first_refusal es      the first that is there
---     op_refusal k op      an operation's own
 --     batch_refusals r s ops      those of a batch that is to become a commit, after all others
 --     commit_refusal r s t, write_refusal r s ops      those of the two lines
 use Rattle.std.specs.Prelude.{ℕ, zero, suc, ◌-◌, ◌^◌, Bool, true, false, not, ◌&&◌, ◌||◌, ◌==◌, nat_lt, nat_eq, is_none, List, [], ◌∷◌, ◌++◌, map, filter_map, flat_map, reverse, find, take, length, Option, Some, None, option_map, ℤ, bytes_eq}
@@ -13,35 +11,15 @@ use Rattle.slate_types.specs.Keys.{keys_set}
 use Rattle.slate_mem.specs.declared.WriteOp.{WriteOp}
 use Rattle.slate_mem.specs.declared.WriteOp.TheVariants.{Put, Delete, Merge}
 use Rattle.slate_mem.specs.Batch.{Ops, kept, batch_keys}
+use Rattle.slate_mem.specs.BatchModel.{is_merge_op}
+use Rattle.slate_mem.specs.Refusals.{first_refusal, when, op_refusal}
 use Rattle.slate_mem.specs.RowOf.{op_expiry}
 use Rattle.slate_txn.specs.State.{Rules, Commit, Tx, State, last}
 use Rattle.slate_txn.specs.Conflict.{conflict}
 
-abbrev pub first_refusal : List (Option SlateDBError) → Option SlateDBError
-first_refusal [] = None
-first_refusal (None ∷ es) = first_refusal es
-first_refusal (Some e ∷ es) = Some e
-
-abbrev pub when : Bool → SlateDBError → Option SlateDBError
-when true e = Some e
-when false e = None
-
 abbrev pub is_nil : {X : Type 0} → List X → Bool
 is_nil [] = true
 is_nil (x ∷ xs) = false
-
--- ---- an operation by itself
-
-abbrev pub key_refusals : List ℕ → List (Option SlateDBError)
-key_refusals k = when (length k == 0) errors.EmptyKey ∷ when (nat_lt 65535 (length k)) (errors.KeyTooLong (length k)) ∷ []
-
-abbrev pub value_refusal : List ℕ → Option SlateDBError
-value_refusal v = when (nat_lt (2 ^ 32 - 1) (length v)) (errors.ValueTooLong (length v))
-
-abbrev pub op_refusal : List ℕ → WriteOp → Option SlateDBError
-op_refusal k (Put v o) = first_refusal (key_refusals k ++ (value_refusal v ∷ []))
-op_refusal k Delete = first_refusal (key_refusals k)
-op_refusal k (Merge v o) = first_refusal (key_refusals k ++ (value_refusal v ∷ []))
 
 abbrev pub operator_refusal : Rules → Option SlateDBError
 operator_refusal r = when (is_none r.combine) errors.MergeOperatorMissing
@@ -107,14 +85,6 @@ abbrev pub commit_refusal : Rules → State → Tx → Option SlateDBError
 commit_refusal r s t = first_refusal (
     option_map errors.TransactionConflict (conflict s.commits t) ∷
     unless_empty t.ops (exhausted_refusal r s ∷ batch_refusals r s t.ops))
-
-abbrev pub is_merge_op : List ℕ × WriteOp → Bool
-is_merge_op o = merges o.1
-  where
-    merges : WriteOp → Bool
-    merges (Put v p) = false
-    merges Delete = false
-    merges (Merge v p) = true
 
 abbrev pub merges_refusal : Rules → Ops → Option SlateDBError
 merges_refusal r ops = when (list_any is_merge_op ops && is_none r.combine) errors.MergeOperatorMissing

@@ -19,7 +19,8 @@ use Rattle.slate_txn.specs.Named.{find_named, without, set_named, update_named}
 use Rattle.slate_txn.specs.State.{Rules, Tx, State, begun, last, is_open}
 use Rattle.slate_txn.specs.Reads.{seen, rows_seen, walk, handed}
 use Rattle.slate_txn.specs.Conflict.{tracked_writes}
-use Rattle.slate_txn.specs.Refusals.{first_refusal, op_refusal, operator_refusal, commit_refusal, write_refusal}
+use Rattle.slate_mem.specs.Refusals.{first_refusal, op_refusal}
+use Rattle.slate_txn.specs.Refusals.{operator_refusal, commit_refusal, write_refusal}
 use Rattle.slate_txn.specs.Reply.{Reply, Done, Refused, NowIs, Begun, SnapshotAt, Found, RowsAre, Committed, Written, Frozen, Flushed, JournalIs}
 
 -- A refusal leaves the state unchanged.
