@@ -51,10 +51,10 @@ fn place_in(order: IterationOrder, start: usize, end: usize, index: usize) -> us
 }
 
 impl<B: BlockLike> BlockIterator<B> {
-    #[tactic(auto, using(crate::proofs::WalkLaws::whole_slice, crate::proofs::WalkLaws::in_order_twice, crate::proofs::WalkLaws::as_many_reads, crate::proofs::WalkLaws::all_ok_in_order))]
     /// All rows of the block, in the order. `CorruptTable` or `InvalidRowFlags` where the first row, by whose key the
     /// others are read, isn't one that shares nothing, and `CorruptTable` where the offsets don't begin at 0 or are
     /// more than 65535; or `OutOfMemory`.
+    #[tactic(auto, using(crate::proofs::WalkLaws::whole_slice, crate::proofs::WalkLaws::in_order_twice, crate::proofs::WalkLaws::as_many_reads, crate::proofs::WalkLaws::all_ok_in_order))]
     pub fn new(alloc: Global, block: B, order: IterationOrder) -> Result<Self, SlateDBError>
         ensures reads { IfOk result (λ it. block_reads_v1 (B.body_bytes block) (B.row_offsets block) ≡ Ok (in_order order it.reads)) }
         ensures rows { IfOk result (λ it. block_rows 1 (B.body_bytes block) (B.row_offsets block) ≡ all_ok (in_order order it.reads)) }
