@@ -12,9 +12,9 @@ mod lists;
 #[cfg(test)]
 mod memory;
 #[cfg(test)]
-mod pitions.rt;
+mod partitions;
 #[cfg(test)]
-mod ps.rt;
+mod parts;
 #[cfg(test)]
 mod rows;
 #[cfg(test)]
