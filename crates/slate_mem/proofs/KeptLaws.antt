@@ -17,11 +17,11 @@ use Rattle.slate_types.proofs.KeySetLaws.{set-rises, same-set, AllAbove}
 use Rattle.slate_mem.specs.declared.WriteOp.{WriteOp}
 use Rattle.slate_mem.specs.declared.WriteOp.TheVariants.{Put, Delete, Merge}
 use Rattle.slate_mem.specs.Batch.{Ops, replaces, ops_of, kept, batch_keys, kept_ops}
-use Rattle.slate_mem.specs.BatchModel.{BatchModel, is_merge_op, holds_merge, with_op, IsBatchOf}
+use Rattle.slate_mem.specs.BatchModel.{BatchModel, is_merge_op, with_op, IsBatchOf}
 use Rattle.slate_mem.specs.RowOf.{op_row}
 use Rattle.slate_mem.specs.CommitRows.{commit_rows}
 use Rattle.slate_mem.specs.Kept.{Entries, listed, IsKept, AreKept, IsSingle, IsWhole, single_row, single_rows}
-use Rattle.slate_mem.proofs.BatchLaws.{ops_of-append, ops_of-one, append-nil, some_of, none-left, among-keys, from_last-again, some-kept, ops_of-kept}
+use Rattle.slate_mem.proofs.BatchLaws.{ops_of-append, ops_of-one, append-nil, some_of, none-left, among-keys, some-kept, ops_of-kept}
 
 -- ---- keys
 
@@ -93,7 +93,7 @@ keys-listed es rising whole =
 pub same-kept : (xs ys : Ops) → ((k : List ℕ) → kept xs k ≡ kept ys k) → kept_ops xs ≡ kept_ops ys
 same-kept xs ys h =
     let keys : batch_keys xs ≡ batch_keys ys =
-      same-set (batch_keys xs) (batch_keys ys) (set-rises (map (λ o. o.0) xs)) (set-rises (map (λ o. o.0) ys)) (λ k. sym (some-kept xs k) ∙ ap some_of (h k) ∙ some-kept ys k) in
+    same-set (batch_keys xs) (batch_keys ys) (set-rises (map (λ o. o.0) xs)) (set-rises (map (λ o. o.0) ys)) (λ k. sym (some-kept xs k) ∙ ap some_of (h k) ∙ some-kept ys k) in
     λ i. flat_map (λ k. map (λ op. (k, op)) (h k i)) (keys i)
 
 -- the entries are listed by any function that gives each key's operations

@@ -1,5 +1,5 @@
 -- Rows of a commit go in front of the older ones of their keys, and the newest rows of a key are those that a fold takes.
-use Rattle.std.proofs.Common.{◌≡◌, ℕ, ◌<◌, Bool, true, false, cond, not, ◌||◌, ◌&&◌, List, [], ◌∷◌, ◌++◌, map, filter, reverse, nat_le, bytes_eq, refl, sym, ap, subst, ◌∙◌, arith, Ordering, Less, Equal, Greater}
+use Rattle.std.proofs.Common.{◌≡◌, ℕ, ◌<◌, Bool, true, false, cond, ◌||◌, List, [], ◌∷◌, ◌++◌, map, reverse, bytes_eq, refl, sym, ap, subst, ◌∙◌, arith, Ordering, Less, Equal, Greater}
 use Rattle.std.specs.Ordering.{is_eq, ordering_then, ordering_reverse, match_ordering, nat_cmp}
 use Rattle.std.specs.List.{list_any, AllByRecursion}
 use Rattle.std.specs.List.Sorted.{IsStrictlySortedBy}
@@ -16,7 +16,7 @@ use Rattle.slate_types.proofs.KeyOrder.{turned-key}
 use Rattle.slate_types.proofs.RowLaws.{sequenced-same}
 use Rattle.slate_types.proofs.KeySetLaws.{AllAbove}
 use Rattle.slate_mem.specs.Table.{put_row, put_rows, of_key, to_base, up_to, newest}
-use Rattle.slate_mem.proofs.BatchLaws.{from_last-again, append-nil}
+use Rattle.slate_mem.proofs.BatchLaws.{from_last-again}
 use Rattle.slate_mem.proofs.KeptLaws.{from-last-passes}
 
 -- ---- one row more

@@ -1,5 +1,5 @@
 -- A range of keys, as a range of keys with sequences.
-use Rattle.std.proofs.Common.{◌≡◌, ℕ, ◌<◌, ◌≤◌, ◌-◌, ◌^◌, Bool, true, false, cond, not, ◌&&◌, List, [], ◌∷◌, filter, refl, sym, ap, ◌∙◌, arith, Ordering, Less, Equal, Greater}
+use Rattle.std.proofs.Common.{◌≡◌, ℕ, ◌<◌, ◌-◌, ◌^◌, true, false, cond, not, ◌&&◌, List, [], ◌∷◌, refl, sym, ap, ◌∙◌, arith, Ordering, Less, Equal, Greater}
 use Rattle.std.specs.Ordering.{is_lt, is_le, is_gt, ordering_then, ordering_reverse, nat_cmp}
 use Rattle.std.specs.List.{AllByRecursion}
 use Rattle.std.specs.Map.{values_of}
@@ -89,9 +89,11 @@ upto-end (Excluded b) r h = by (key_cmp b r.key) ∙ sym (ap is_lt (turned-key r
 each-place : (range : BytesRange) (es : TableEntries) → AreTied es →
     AllByRecursion (λ e. range_contains sequenced_cmp (first_place range.start) (last_place range.end) e.0 ≡ in_range range e.1.key) es
 each-place range [] t = tt
-each-place range (e ∷ es) t =
-    (ap (range_contains sequenced_cmp (first_place range.start) (last_place range.end)) t.0.0
-      ∙ (λ i. from-start range.start e.1 t.0.1 i && upto-end range.end e.1 t.0.1 i), each-place range es t.1)
+each-place range (e ∷ es) t = (
+  ap (range_contains sequenced_cmp (first_place range.start) (last_place range.end)) t.0.0
+      ∙ (λ i. from-start range.start e.1 t.0.1 i && upto-end range.end e.1 t.0.1 i),
+  each-place range es t.1,
+)
 
 pub between-is-ranged : (range : BytesRange) (es : TableEntries) → AreTied es → values_of (entries_between sequenced_cmp (first_place range.start) (last_place range.end) es) ≡ ranged range (values_of es)
 between-is-ranged range es t =

@@ -1,5 +1,5 @@
 -- What puts do to the entries of a table, and to its rows.
-use Rattle.std.proofs.Common.{◌≡◌, ℕ, ◌<◌, ◌^◌, ◌&&◌, ◌||◌, Bool, true, false, cond, not, List, [], ◌∷◌, ◌++◌, filter, nat_le, nat_lt, bytes_eq, Option, Some, None, refl, sym, ap, subst, ◌∙◌, arith, Ordering, Less, Equal, Greater}
+use Rattle.std.proofs.Common.{◌≡◌, ℕ, ◌<◌, ◌^◌, ◌&&◌, ◌||◌, Bool, true, false, cond, not, List, [], ◌∷◌, ◌++◌, filter, nat_le, bytes_eq, Option, Some, None, refl, sym, ap, ◌∙◌, arith, Ordering, Less, Equal, Greater}
 use Rattle.std.specs.Ordering.{is_eq, is_lt, is_le, is_gt, match_ordering, ordering_then, ordering_reverse, nat_cmp}
 use Rattle.std.specs.List.{list_any, AllByRecursion}
 use Rattle.std.specs.List.Sorted.{IsStrictlySortedBy}
@@ -21,7 +21,7 @@ use Rattle.slate_types.proofs.RowLaws.{sequenced-total, sequenced-same}
 use Rattle.slate_types.proofs.KeySetLaws.{set-rises, set-keeps, same-set}
 use Rattle.slate_mem.specs.declared.mem_table.Step.{Step}
 use Rattle.slate_mem.specs.Table.{put_row, put_rows, to_base, newest}
-use Rattle.slate_mem.specs.Tied.{TableEntries, AreTied, IsRows, insert_row, insert_rows, undo_at, undone, all_undone, newest_entries}
+use Rattle.slate_mem.specs.Tied.{TableEntries, AreTied, insert_row, insert_rows, undo_at, undone, all_undone, newest_entries}
 
 -- ---- the rows of entries
 

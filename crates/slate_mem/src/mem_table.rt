@@ -250,10 +250,7 @@ fn join(
 }
 
 /// Puts a row under its own key.
-fn put_one(
-    rows: &mut BTreeMap<SequencedKey, RowEntry>,
-    row: RowEntry,
-) -> Result<Step, SlateDBError>
+fn put_one(rows: &mut BTreeMap<SequencedKey, RowEntry>, row: RowEntry) -> Result<Step, SlateDBError>
     ensures put { OnOk result (rows.new.entries ≡ insert_row rows.old.entries row) }
     ensures undo { IfOk result (λ step. undone rows.new.entries step ≡ rows.old.entries) }
     ensures kept { OnOk result (IsRows rows.old.entries → IsRows rows.new.entries) }
@@ -429,11 +426,11 @@ fn fall(rows: &mut Vec<RowEntry>) -> Result<(), SlateDBError>
     ensures in_order { OnOk result (IsInOrder IterationOrder.Descending rows.new.items) }
     ensures cause { IsOkUnless result SlateDBError.OutOfMemory }
 {
-    rows.sort_by(|a, b| -> Ordering
-        ensures { result ≡ key_cmp b.now.key a.now.key }
-    {
-        b.key.cmp(&a.key)
-    })?;
+    rows.sort_by(
+        |a, b| -> Ordering
+            ensures { result ≡ key_cmp b.now.key a.now.key }
+        { b.key.cmp(&a.key) },
+    )?;
     Ok(())
 }
 
@@ -442,12 +439,12 @@ fn drop_rows(rows: &mut BTreeMap<SequencedKey, RowEntry>, seq: u64)
     ensures rows { rows.new.entries ≡ filter (λ e. not (e.1.seq == seq)) rows.old.entries }
     ensures rising { map.IsOrdered sequenced_cmp rows.new }
 {
-    rows.retain(move |_key, row| -> bool
-        ensures same { row.new ≡ row.old }
-        ensures test { result ≡ not (row.old.seq == seq) }
-    {
-        row.seq != seq
-    });
+    rows.retain(
+        move |_key, row| -> bool
+            ensures same { row.new ≡ row.old }
+            ensures test { result ≡ not (row.old.seq == seq) }
+        { row.seq != seq },
+    );
 }
 
 /// Drops the prefixes of the other set.
@@ -455,9 +452,9 @@ fn drop_prefixes(prefixes: &mut BTreeSet<Bytes>, others: &BTreeSet<Bytes>)
     ensures prefixes { prefixes.new.keys ≡ filter (λ p. not (among p others.now.keys)) prefixes.old.keys }
     ensures rising { set.IsOrdered key_cmp prefixes.new }
 {
-    prefixes.retain(|prefix| -> bool
-        ensures { result ≡ not (set.contains key_cmp others.entry.now prefix.now) }
-    {
-        !others.contains(prefix)
-    });
+    prefixes.retain(
+        |prefix| -> bool
+            ensures { result ≡ not (set.contains key_cmp others.entry.now prefix.now) }
+        { !others.contains(prefix) },
+    );
 }

@@ -24,7 +24,11 @@ fn row(key: &'static [u8], seq: u64, value: &'static [u8]) -> RowEntry {
 /// A table with k at 1, k at 2 and l at 3.
 fn three_rows(alloc: Global) -> Result<MemTable, SlateDBError> {
     let mut table = MemTable::new(alloc);
-    for row in [row(b"k", 1, b"old"), row(b"k", 2, b"new"), row(b"l", 3, b"other")] {
+    for row in [
+        row(b"k", 1, b"old"),
+        row(b"k", 2, b"new"),
+        row(b"l", 3, b"other"),
+    ] {
         let mut rows = Vec::new(alloc);
         rows.push(row)?;
         table.put_all(rows, BTreeSet::new(alloc))?;
@@ -107,13 +111,22 @@ fn batches_refuse(rt: HostRuntime) -> Result<(), Fail> {
 fn newest_rows_stand_first(rt: HostRuntime) -> Result<(), Fail> {
     let all = BytesRange::unbounded();
     let table = three_rows(rt.alloc())?;
-    let up = sequences(&rt, table.range(rt.alloc(), &all, IterationOrder::Ascending))?;
+    let up = sequences(
+        &rt,
+        table.range(rt.alloc(), &all, IterationOrder::Ascending),
+    )?;
     assert!(rt; up.as_slice() == [2, 1, 3].as_slice());
-    let down = sequences(&rt, table.range(rt.alloc(), &all, IterationOrder::Descending))?;
+    let down = sequences(
+        &rt,
+        table.range(rt.alloc(), &all, IterationOrder::Descending),
+    )?;
     assert!(rt; down.as_slice() == [3, 2, 1].as_slice());
     let below: (Bound<&[u8]>, Bound<&[u8]>) = (Bound::Unbounded, Bound::Excluded(b"l"));
     let below = BytesRange::from_slice(rt.alloc(), below.0, below.1)?;
-    let rows = sequences(&rt, table.range(rt.alloc(), &below, IterationOrder::Ascending))?;
+    let rows = sequences(
+        &rt,
+        table.range(rt.alloc(), &below, IterationOrder::Ascending),
+    )?;
     assert!(rt; rows.as_slice() == [2, 1].as_slice());
     Ok(())
 }
@@ -153,7 +166,10 @@ fn frozen_tables_stay(rt: HostRuntime) -> Result<(), Fail> {
     let key = Bytes::from_static(b"k");
     assert_eq!(rt; frozen.rows_of_key(rt.alloc(), &key, 9)?.len(), 1);
     let all = BytesRange::unbounded();
-    let rows = sequences(&rt, frozen.range(rt.alloc(), &all, IterationOrder::Descending))?;
+    let rows = sequences(
+        &rt,
+        frozen.range(rt.alloc(), &all, IterationOrder::Descending),
+    )?;
     assert!(rt; rows.as_slice() == [2, 1].as_slice());
     Ok(())
 }

@@ -1,8 +1,8 @@
-use Rattle.std.proofs.Common.{◌≡◌, ◌∙◌, List, ℕ, not, filter, refl, rules}
+use Rattle.std.proofs.Common.{◌∙◌, List, ℕ, not, filter, rules}
 use Rattle.std.specs.List.{list_any}
 use Rattle.std.specs.BTreeMap.{is_at}
 use Rattle.std.proofs.lemmas.Fn.{filter_same}
-use Rattle.slate_types.specs.Keys.{key_cmp, among}
+use Rattle.slate_types.specs.Keys.{key_cmp}
 use Rattle.slate_mem.proofs.TableLaws.{among-is}
 use Rattle.slate_mem.proofs.mem_table.drop_prefixes.Goals as goal
 

@@ -1,6 +1,5 @@
 use Rattle.std.proofs.Common.{◌≡◌, rules}
 use Rattle.std.specs.Ordering.{is_lt}
-use Rattle.std.specs.List.Sorted.{IsSortedBy, IsStableBy}
 use Rattle.std.proofs.lemmas.List.Sorted.{answers_always}
 use Rattle.slate_mem.proofs.OrderLaws.{falls, falls-weakly, stable-keys, sorted-falls}
 use Rattle.slate_mem.proofs.mem_table.fall.Goals as goal

@@ -1,6 +1,5 @@
-use Rattle.std.proofs.Common.{◌≡◌, ◌∙◌, ◌++◌, ap, sym}
+use Rattle.std.proofs.Common.{◌∙◌, ◌++◌, ap, sym}
 use Rattle.slate_types.specs.Keys.{keys_set}
-use Rattle.std.specs.BTreeSet.{insert_key}
 use Rattle.slate_mem.proofs.TableLaws.{set-moved, set-of-set}
 use Rattle.slate_mem.proofs.mem_table.join.Goals as goal
 

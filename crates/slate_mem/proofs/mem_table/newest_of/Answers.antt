@@ -1,4 +1,4 @@
-use Rattle.std.proofs.Common.{◌≡◌, ◌∙◌, false, ap, sym}
+use Rattle.std.proofs.Common.{◌∙◌}
 use Rattle.std.specs.Ordering.{is_gt}
 use Rattle.slate_types.specs.Rows.{sequenced_cmp}
 use Rattle.slate_mem.proofs.TableLaws.{newest-first}

@@ -1,9 +1,8 @@
 use Rattle.std.proofs.Common.{◌≡◌, ◌<◌, ◌^◌, ◌∙◌, ap, sym, subst, arith}
-use Rattle.slate_types.specs.declared.sequenced_key.SequencedKey.{SequencedKey}
 use Rattle.slate_types.specs.Rows.{sequenced, sequenced_cmp}
 use Rattle.std.specs.Map.{lookup}
 use Rattle.std.specs.BTreeMap.{insert_entry, is_at}
-use Rattle.slate_mem.specs.Tied.{AreTied, insert_row}
+use Rattle.slate_mem.specs.Tied.{AreTied}
 use Rattle.slate_mem.proofs.TableLaws.{undo-put, tied-put}
 use Rattle.slate_mem.proofs.mem_table.put_one.Goals as goal
 

@@ -1,4 +1,4 @@
-use Rattle.std.proofs.Common.{◌≡◌, ◌∙◌, ap, sym, subst}
+use Rattle.std.proofs.Common.{◌∙◌, sym, subst}
 use Rattle.std.proofs.lemmas.Result.{IfOk-weaker}
 use Rattle.std.specs.BTreeMap.Range.{IsLeBy, IsLtBy, entries_between}
 use Rattle.std.specs.Range.Bound.{IsForward}
@@ -15,7 +15,7 @@ rows_between-requires c =
     let end = sym e.end in
     subst (λ s. IsForward (IsLeBy sequenced_cmp) (IsLtBy sequenced_cmp) s c.in_ok-start.field-0.end) start
     (subst (λ t. IsForward (IsLeBy sequenced_cmp) (IsLtBy sequenced_cmp) (first_place c.args.range.now.start) t) end
-      (forward c.args.range.now.start c.args.range.now.end (sym c.holds_none.ensures ∙ c.if-holds_none.false)))
+    (forward c.args.range.now.start c.args.range.now.end (sym c.holds_none.ensures ∙ c.if-holds_none.false)))
 
 pub returns-then-holds_none-clause-rows : goal.returns-then-holds_none-clause-rows
 returns-then-holds_none-clause-rows c =

@@ -1,4 +1,4 @@
-use Rattle.std.proofs.Common.{◌≡◌, ◌∙◌, ap, sym, subst}
+use Rattle.std.proofs.Common.{◌∙◌, ap, sym}
 use Rattle.slate_mem.specs.BatchModel.{BatchModel}
 use Rattle.slate_mem.proofs.KeptLaws.{none-listed, listed-none}
 use Rattle.slate_mem.proofs.batch.WriteBatch.is_empty.Goals as goal

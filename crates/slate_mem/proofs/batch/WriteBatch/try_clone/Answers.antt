@@ -1,6 +1,4 @@
-use Rattle.std.proofs.Common.{◌≡◌, ◌∙◌, ap, sym, rules}
-use Rattle.slate_mem.specs.declared.WriteOp.{WriteOp}
-use Rattle.slate_mem.specs.declared.WriteOp.TheVariants.{Put, Delete, Merge}
+use Rattle.std.proofs.Common.{◌∙◌, ap, rules}
 use Rattle.slate_mem.specs.contracts.WriteOpClone.TheImpl.{ghosts}
 use Rattle.slate_mem.specs.BatchModel.{BatchModel}
 use Rattle.slate_mem.proofs.KeptLaws.{AreSame, copied-listed, copied-whole}

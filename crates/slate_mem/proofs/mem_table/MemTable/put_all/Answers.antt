@@ -1,4 +1,4 @@
-use Rattle.std.proofs.Common.{◌≡◌, ◌∙◌, ap, sym}
+use Rattle.std.proofs.Common.{◌∙◌, ap}
 use Rattle.std.specs.Map.{values_of}
 use Rattle.slate_mem.specs.Table.{MemTableModel, put_rows}
 use Rattle.slate_mem.proofs.TableLaws.{rows-put-all, tied-keyed}

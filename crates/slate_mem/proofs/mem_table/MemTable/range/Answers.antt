@@ -1,9 +1,8 @@
-use Rattle.std.proofs.Common.{◌≡◌, ◌∙◌, ap, sym, subst}
+use Rattle.std.proofs.Common.{sym, subst}
 use Rattle.slate_types.specs.declared.iter.IterationOrder.TheVariants.{Ascending}
 use Rattle.slate_types.specs.Keys.{in_range}
 use Rattle.slate_types.specs.Iteration.{IsInOrder}
 use Rattle.slate_types.proofs.IterationLaws.{in_order_filtered}
-use Rattle.slate_mem.specs.Table.{MemTableModel, of_key, ranged}
 use Rattle.slate_mem.proofs.OrderLaws.{rows-ascend}
 use Rattle.slate_mem.proofs.mem_table.MemTable.range.Goals as goal
 

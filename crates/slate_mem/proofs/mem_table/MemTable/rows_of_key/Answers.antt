@@ -1,4 +1,4 @@
-use Rattle.std.proofs.Common.{◌≡◌, ◌∙◌, ap, sym}
+use Rattle.std.proofs.Common.{◌∙◌, ap}
 use Rattle.std.proofs.lemmas.Result.{IfOk-weaker}
 use Rattle.slate_mem.specs.Table.{MemTableModel, newest}
 use Rattle.slate_mem.proofs.TableLaws.{newest-listed, tied-keyed}

@@ -1,4 +1,4 @@
-use Rattle.std.proofs.Common.{◌≡◌, ◌∙◌, ◌==◌, not, filter, ap, sym, subst}
+use Rattle.std.proofs.Common.{◌∙◌, ◌==◌, not, filter, ap, sym, subst}
 use Rattle.std.specs.Map.{values_of}
 use Rattle.slate_types.specs.declared.types.RowEntry.{RowEntry}
 use Rattle.slate_mem.specs.Table.{MemTableModel}
