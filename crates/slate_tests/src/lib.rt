@@ -8,6 +8,6 @@ mod rows;
 #[cfg(test)]
 mod runs;
 #[cfg(test)]
-mod texts;
-#[cfg(test)]
 mod stores;
+#[cfg(test)]
+mod texts;
