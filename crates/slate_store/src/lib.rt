@@ -1,4 +1,4 @@
-//! The outside world: where a script comes from and where its replies go.
+//! The outside world: where a script comes from, where its replies go, and where objects stand.
 #![tactic(auto)]
 
 pub mod env;

@@ -18,7 +18,8 @@ const RANGES: [(&str, u64, u64); 8] = [
     ("missing", 0, 0),
 ];
 
-const ANSWERS: &str = "Some(b\"hello\") Some(b\"ello\") Some(b\"\") None None Some(b\"\") None None \
+const ANSWERS: &str =
+    "Some(b\"hello\") Some(b\"ello\") Some(b\"\") None None Some(b\"\") None None \
                        Some(5) Some(0) None None a b-z b/one b/two";
 
 // What the calls answer that read, one behind the other.
@@ -79,8 +80,13 @@ fn keeps_objects_in_a_folder(rt: HostRuntime) -> Result<(), Fail> {
     assert_eq!(rt; answers(alloc, &mut store)?.as_str(), ANSWERS);
     assert!(rt; !fs::exists(&rt, "stores-objects/a.tmp")?);
 
-    for path in ["", "/a", "../a", "b/../a", "b//one", "b/", "./a", "a.tmp", "a/b"] {
-        assert!(rt; store.put(alloc, path, b"x") == Err(StoreError::Failed), "at {path}");
+    for path in [
+        "", "/a", "../a", "b/../a", "b//one", "b/", "./a", "a.tmp", "a/b",
+    ] {
+        assert!(rt;
+            store.put(alloc, path, b"x") == Err(StoreError::Failed),
+            "at {path}"
+        );
     }
     let mut inner = FileStore::new(alloc, &rt, "stores-objects/a")?;
     assert!(rt; inner.put(alloc, "x", b"x") == Err(StoreError::Failed));
