@@ -19,3 +19,5 @@ pub mod WrittenLaws
 pub mod WalkLaws
 pub mod SeekLaws
 pub mod WalkedBlocks
+pub mod WalkedBlocksV2
+pub mod BlocksReadAgainV2
