@@ -1,3 +1,4 @@
+pub mod IndexReads
 pub mod FrameLaws
 pub mod IndexLaws
 pub mod FilterLaws
