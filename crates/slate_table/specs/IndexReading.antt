@@ -6,8 +6,10 @@
 --     counted bytes      their number, which isn't 0
 --     index_of end bytes      the entries, or the refusal
 --     index_keys entries      their separators
+--     borrowed_entry e      an entry whose separator is borrowed
 use Rattle.std.specs.Prelude.{ℕ, zero, suc, Bool, true, ◌&&◌, if◌then◌else◌, nat_lt, nat_le, ◌==◌, List, [], ◌∷◌, length, map, slice_range, Option, Some, None, Result, Ok, Err}
 use Rattle.std.specs.Int.{w16, w32, w64}
+use Rattle.std.specs.Borrow.{Bor}
 use Rattle.slate_types.specs.declared.error.SlateDBError.{SlateDBError}
 use Rattle.slate_types.specs.declared.error.SlateDBError.TheVariants.{CorruptTable}
 use Rattle.slate_types.specs.Keys.{key_le}
@@ -54,3 +56,6 @@ index_of end bytes = do
 
 abbrev pub index_keys : List (ℕ × List ℕ) → List (List ℕ)
 index_keys entries = map (λ e. e.1) entries
+
+abbrev pub borrowed_entry : ℕ × Bor (List ℕ) → ℕ × List ℕ
+borrowed_entry e = (e.0, e.1.now)

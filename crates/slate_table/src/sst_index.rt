@@ -1,5 +1,6 @@
 //! The index of a table: where each block's section begins, and a separator before its keys.
-ghost use Rattle.std.specs.Prelude.{◌≡◌, ◌≤◌, ◌<◌, ◌==◌, ◌⊎◌, ℕ, Bool, List, Option, Ok, Err, Some, None, true, false, length, slice_get, slice_index, IfOk, IfErr, IsOkUnless, option_copied};
+ghost use Rattle.std.specs.Prelude.{◌≡◌, ◌≤◌, ◌<◌, ◌==◌, ◌⊎◌, ℕ, Bool, List, Option, Ok, Err, Some, None, true, false, length, slice_get, slice_index, IfOk, IfErr, IsOkUnless, option_copied, option_map};
+ghost use Rattle.std.specs.Iterator.{YieldsFirstBy, item_count};
 ghost use Rattle.slate_block.specs.RowReading.{refusal};
 ghost use Rattle.slate_table.specs.Decoded.{IsIndex, RisesFromZero};
 ghost use Rattle.slate_table.specs.IndexReading.{
@@ -12,6 +13,7 @@ ghost use Rattle.slate_table.specs.IndexReading.{
   counted,
   index_of,
   index_keys,
+  borrowed_entry,
 };
 
 use bytes::Bytes;
@@ -19,6 +21,7 @@ use slate_block::fields::{block_field, corrupt, u16_field, u32_field, u64_field}
 use slate_types::SlateDBError;
 use std::alloc::Global;
 use std::marker::Model;
+use std::slice;
 
 /// The offset and the separator of each block of a table, in their order. The separators share the buffer of the bytes that they
 /// were read from.
@@ -63,6 +66,94 @@ impl SstIndex {
         ensures { result ≡ (length self.now == 0) }
     {
         self.entries.is_empty()
+    }
+
+    /// The offset and the separator of a block, or `None` exactly where there is no such block.
+    pub fn get(&self, index: usize) -> Option<(u64, &[u8])>
+        ensures { option_map borrowed_entry result ≡ slice_get self.now index }
+    {
+        self.entries
+            .get(index)
+            .map(|entry| (entry.0, entry.1.as_slice()))
+    }
+
+    /// The offsets and the separators in their order.
+    pub fn iter(&self) -> SstIndexIter<'_>
+        ensures { result ≡ self.now }
+    {
+        SstIndexIter {
+            entries: self.entries.iter(),
+        }
+    }
+
+    /// The length of the front of blocks whose separators pass a test, found by halves. The test must pass no separator behind
+    /// one that it fails.
+    pub fn partition_point<P: Fn(&[u8]) -> bool>(&self, pred: P) -> usize
+        requires callable { P.IsAlwaysCallable pred }
+        requires prefix { (i j : ℕ) (k l : _) (s : Bool) → i ≤ j → slice_get (index_keys self.now) i ≡ Some k.now → slice_get (index_keys self.now) j ≡ Some l.now → P.post pred l true → P.post pred k s → s ≡ true }
+        ensures within { result ≤ length self.now }
+        ensures before { (i : ℕ) (k : _) (s : Bool) → i < result → slice_get (index_keys self.now) i ≡ Some k.now → P.post pred k s → s ≡ true }
+        ensures after { (i : ℕ) (k : _) (s : Bool) → result ≤ i → slice_get (index_keys self.now) i ≡ Some k.now → P.post pred k s → s ≡ false }
+    {
+        let mut low = 0;
+        let mut high = self.len();
+        while low < high {
+            let middle = low + (high - low) / 2;
+            if pred(self.separator(middle)) {
+                low = middle + 1;
+            } else {
+                high = middle;
+            }
+        }
+        low
+    }
+
+    /// The separator of a block.
+    fn separator(&self, index: usize) -> &[u8]
+        requires { index < length self.now }
+        ensures { slice_get (index_keys self.now) index ≡ Some result.now }
+    {
+        self.entries[index].1.as_slice()
+    }
+}
+
+/// The offsets and the separators of an index, in their order.
+#[derive(Drop)]
+pub struct SstIndexIter<'a> {
+    entries: slice::Iter<'a, (u64, Bytes)>,
+}
+
+impl<'a> Model for SstIndexIter<'a> {
+    ghost use Rattle.std.specs.Prelude.{ℕ, List};
+    ghost use Rattle.std.specs.Slice.Iter.{iter_rest};
+
+    ghost Value = { List (ℕ × List ℕ) };
+
+    ghost view = { λ iter. iter_rest iter.entries };
+}
+
+impl<'a> Iterator for SstIndexIter<'a> {
+    type Item = (u64, &'a [u8]);
+
+    ghost next_gives = { YieldsFirstBy borrowed_entry (λ entries. entries) };
+
+    ghost remaining = { item_count (λ entries. entries) };
+
+    fn next(&mut self) -> Option<(u64, &'a [u8])> {
+        self.entries
+            .next()
+            .map(|entry| (entry.0, entry.1.as_slice()))
+    }
+
+    fn size_hint(&self) -> (usize, Option<usize>) {
+        let len = self.len();
+        (len, Some(len))
+    }
+}
+
+impl<'a> ExactSizeIterator for SstIndexIter<'a> {
+    fn len(&self) -> usize {
+        self.entries.len()
     }
 }
 
