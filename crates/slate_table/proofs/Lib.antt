@@ -1,3 +1,5 @@
+pub mod IndexWrites
+pub mod Separators
 pub mod IndexReads
 pub mod FrameLaws
 pub mod IndexLaws
