@@ -1,28 +1,32 @@
-# Functions of ./slate and ./test: which program is the proved one. Source this file with `top` set to the
-# repository's folder.
+# Functions of ./slate, bench/run and ./test: which program is the proved one, and how it is proved and built. Source this
+# file with `top` set to the repository's folder, and name the program by `choose_program`.
 #
-# crates/slate/out/proved-source has one line: a sum over the source that the program was proved and built from,
+# crates/NAME/out/proved-source has one line: a sum over the source that the program was proved and built from,
 # and a sum over the program. Where both fit, the program is used as it is and nothing is proved again.
 
-program="$top/crates/slate/out/slate"
-stamp_file="$top/crates/slate/out/proved-source"
+choose_program() {
+    program_name=$1
+    out="$top/crates/$program_name/out"
+    program="$out/$program_name"
+    stamp_file="$out/proved-source"
+}
 
-# The crates that slate stands on, and slate itself, as crates.txt says.
-crates_of_slate() {
+# The crates that the program stands on, and its own, as crates.txt says.
+crates_of_program() {
     local -A needs=() seen=()
-    local line name word left=(slate)
+    local line crate word left=("$program_name")
     while IFS= read -r line || [[ -n $line ]]; do
         line=${line%%#*}
         [[ $line == *:* ]] || continue
-        read -r name _ <<<"${line%%:*}"
-        needs[$name]=${line#*:}
+        read -r crate _ <<<"${line%%:*}"
+        needs[$crate]=${line#*:}
     done <"$top/crates.txt"
     while ((${#left[@]})); do
-        name=${left[0]}
+        crate=${left[0]}
         left=("${left[@]:1}")
-        [[ -z ${seen[$name]-} ]] || continue
-        seen[$name]=1
-        for word in ${needs[$name]-}; do
+        [[ -z ${seen[$crate]-} ]] || continue
+        seen[$crate]=1
+        for word in ${needs[$crate]-}; do
             [[ ! -v needs[$word] ]] || left+=("$word")
         done
     done
@@ -35,8 +39,8 @@ source_sum() (
     shopt -s globstar nullglob dotglob
     LC_ALL=C
     files=(crates.txt HANDLES)
-    for name in $(crates_of_slate); do
-        for file in crates/"$name"/{src,specs,proofs}/**; do
+    for crate in $(crates_of_program); do
+        for file in crates/"$crate"/{src,specs,proofs}/**; do
             [[ ! -f $file ]] || files+=("$file")
         done
     done
@@ -66,4 +70,75 @@ stamp() {
     local line
     line=$(stamp_line "$1") || return 1
     printf '%s\n' "$line" >"$stamp_file.$$" && mv -f "$stamp_file.$$" "$stamp_file"
+}
+
+say() { printf '%s: %s\n' "$program_name" "$*" >&2; }
+
+give_up() {
+    say "$*"
+    exit 1
+}
+
+# As many crates at once as there are processors, each with 3 GB of free memory.
+crates_at_once() {
+    local lanes key free unit rest
+    lanes=$(nproc)
+    while read -r key free unit rest; do
+        if [[ $key == MemAvailable: ]] && ((free / 3000000 < lanes)); then
+            lanes=$((free / 3000000))
+        fi
+    done </proc/meminfo
+    printf '%s\n' $((lanes > 0 ? lanes : 1))
+}
+
+# Proves the crates side by side, with a line for each.
+prove_crates() {
+    local line done_so_far=0 all=0
+    while IFS= read -r line || [[ -n $line ]]; do
+        [[ ${line%%#*} != *:* ]] || all=$((all + 1))
+    done <"$top/crates.txt"
+    (cd "$top" && rt all check --jobs "$(crates_at_once)") </dev/null 2>&1 | while IFS= read -r line; do
+        printf '%s\n' "$line" >&4
+        if [[ $line == "== "* && $line != "== summary" ]]; then
+            done_so_far=$((done_so_far + 1))
+            say "checked ${line#== } ($done_so_far of $all, ${SECONDS} s)"
+        elif [[ $line == "rt: waiting for "* ]]; then
+            say "${line#rt: }"
+        fi
+    done
+}
+
+# The lines of the log that say what isn't proved.
+show_failures() {
+    local line
+    while IFS= read -r line; do
+        case $line in
+        *": error: "* | *": not proved" | *"NOT PROVED"* | *"isn't proved"* | "rt: "*"did not build"*) printf '%s\n' "$line" ;;
+        esac
+    done <"$1" | tail -n 12 >&2
+}
+
+build() {
+    local log="$out/build.log"
+    mkdir -p "$out" || give_up "cannot make crates/$program_name/out"
+    exec 4>"$log" || give_up "cannot write crates/$program_name/out/build.log"
+    say "the proved program isn't built for this source yet; proving and building it takes a few minutes, once"
+    prove_crates
+    # The last word is here: rt builds the program only over proved crates, and --version alone ends with status 0.
+    if ! (cd "$top/crates/$program_name" && rt run -- --version) </dev/null >&4 2>&1; then
+        show_failures "$log"
+        give_up "the program isn't proved, so nothing is run; all that was said is in crates/$program_name/out/build.log"
+    fi
+    exec 4>&-
+    [[ $(source_sum) == "$1" ]] || give_up "the source was changed while it was proved; call this again"
+    stamp "$1" || give_up "cannot write crates/$program_name/out"
+    say "proved and built in ${SECONDS} s"
+}
+
+# Proves and builds the program where it isn't built for this source.
+prepare() {
+    local sum
+    command -v rt >/dev/null || give_up "rt, the command of the Rattle toolchain, isn't there: the program can't be proved"
+    sum=$(source_sum) || give_up "the source of the program can't be read"
+    is_proved "$sum" || build "$sum"
 }
