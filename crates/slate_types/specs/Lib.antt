@@ -10,3 +10,5 @@ pub mod Lawful
 pub mod Iteration
 pub mod Laws
 pub mod Outside
+pub mod Refusals
+pub mod Partitions

@@ -1,6 +1,7 @@
 //! Rows, ranges, options and errors: the vocabulary that every crate above shares.
 #![tactic(auto)]
 
+pub mod block_transformer;
 pub mod byte_range_bounds;
 pub mod bytes_range;
 pub mod config;
@@ -9,10 +10,13 @@ pub mod error;
 pub mod filter_policy;
 pub mod iter;
 pub mod laws;
+pub mod merge_operator;
+pub mod partitioned_keyspace;
 pub mod rows_iterator;
 pub mod sequenced_key;
 pub mod types;
 
+pub use block_transformer::{BlockTransformer, TransformError};
 pub use byte_range_bounds::ByteRangeBounds;
 pub use bytes_range::BytesRange;
 pub use config::{
@@ -22,6 +26,12 @@ pub use config::{
 pub use error::SlateDBError;
 pub use filter_policy::{FilterContext, FilterQuery, PrefixTarget};
 pub use iter::{IterationOrder, Outside, RowEntryIterator, TrackedRowEntryIterator, collect_rows};
+pub use merge_operator::{MergeOperator, MergeOperatorError};
+pub use partitioned_keyspace::{
+    RangePartitionedKeySpace, first_partition_including_key,
+    first_partition_including_or_after_key, last_partition_including_key, partition_point,
+    partitions_covering_range,
+};
 pub use rows_iterator::RowsIterator;
 pub use sequenced_key::SequencedKey;
 pub use types::{KeyValue, RowEntry, Ulid, ValueDeletable};

@@ -1,0 +1,15 @@
+use Rattle.std.proofs.Common.{Bor, sym, refl, ◌∙◌}
+use Rattle.slate_types.specs.Keys.{key_le}
+use Rattle.slate_types.proofs.PartitionLaws.{upto-front, count-is}
+use Rattle.slate_types.proofs.partitioned_keyspace.count_upto.Goals as goal
+
+pub partition_point-requires-clause-front : goal.partition_point-requires-clause-front
+partition_point-requires-clause-front g c = λ i j k l passes h at_i at_j later now.
+    now ∙ upto-front _ (g.met.K.RangePartitionedKeySpace.rising c.args.space.now) c.args.key.now i j k.now l.now h at_i at_j (sym later)
+
+pub returns : goal.returns
+returns g c =
+    let point = c.partition_point.ensures in
+    count-is (λ first. key_le first c.args.key.now) _ _ point.within
+        (λ i a h at_i. point.before i (record { ref_ptr = (0, 0); now = a }) (key_le a c.args.key.now) h at_i refl)
+        (λ i a h at_i. point.behind i (record { ref_ptr = (0, 0); now = a }) (key_le a c.args.key.now) h at_i refl)
