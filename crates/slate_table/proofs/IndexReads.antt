@@ -1,22 +1,24 @@
 -- The entries of an index, read one after the other.
-use Rattle.std.proofs.Common.{◌≡◌, ℕ, zero, suc, ◌+◌, ◌-◌, ◌^◌, ◌<◌, ◌≤◌, Bool, true, false, cond, ◌&&◌, eqb, ltb, leb, List, [], ◌∷◌, ◌++◌, length, take, drop, Option, Some, None, Result, Ok, Err, refl, sym, ap, subst, ◌∙◌, ◌⊎◌, inl, inr, append_assoc, arith}
-use Rattle.std.specs.Prelude.{slice_get, slice_range, IsTrue}
+use Rattle.std.proofs.Common.{◌≡◌, ℕ, zero, suc, ◌+◌, ◌-◌, ◌^◌, ◌<◌, ◌≤◌, Bool, true, false, cond, ◌&&◌, eqb, leb, List, [], ◌∷◌, ◌++◌, length, get_or, drop, Ordering, Less, Equal, Greater, Option, Some, None, Ok, Err, refl, sym, ap, subst, ◌∙◌, ◌⊎◌, inl, inr, append_assoc, arith}
+use Rattle.std.specs.Prelude.{slice_get, slice_range, IsTrue, IsSorted}
 use Rattle.std.specs.List.{flat_map, AllByRecursion}
 use Rattle.std.specs.Int.{w16, w32, w64}
 use Rattle.std.proofs.lemmas.Bool.{ltb-true, leb-true, le-leb, lt-ltb}
 use Rattle.std.proofs.lemmas.Bool.Decides.{nat_tests}
-use Rattle.std.proofs.lemmas.List.{append-nil, length-append, length-drop, take-append-drop, drop_at, nil_from_length}
+use Rattle.std.proofs.lemmas.List.{append-nil, length-append, length-drop, nil_from_length}
 use Rattle.std.proofs.lemmas.List.Concat.{flat_map-cons}
 use Rattle.slate_types.specs.declared.error.SlateDBError.{SlateDBError}
 use Rattle.slate_types.specs.declared.error.SlateDBError.TheVariants.{CorruptTable}
-use Rattle.slate_types.specs.Keys.{key_le}
+use Rattle.std.specs.Ordering.{is_lt, is_le, ordering_reverse}
+use Rattle.slate_types.specs.Keys.{key_cmp, key_lt, key_le}
+use Rattle.slate_types.proofs.KeyOrder.{turned-key}
 use Rattle.slate_block.specs.RowSpelling.{be16, be32, be64}
 use Rattle.slate_block.specs.Damage.{◌>>=◌, Field, number_field, block_field}
 use Rattle.slate_block.proofs.Groups.{IsBytes}
 use Rattle.slate_block.proofs.FieldLaws.{bind_ok, ok_is, Stands, behind, wide16, wide32, wide64, number_takes, number_again, block_takes, block_again, block_text}
 use Rattle.slate_block.proofs.ReadingLaws.{then}
 use Rattle.slate_table.specs.Decoded.{entry_bytes, FitsEntry, RisesFrom, RisesFromZero, IsIndex}
-use Rattle.slate_table.specs.IndexReading.{is_next_offset, is_next_key, offset_field, separator_field, entry_field, entries_from, counted, index_of}
+use Rattle.slate_table.specs.IndexReading.{is_next_offset, is_next_key, offset_field, separator_field, entry_field, entries_from, counted, index_of, index_keys}
 
 abbrev pub Entry : Type 0
 Entry = ℕ × List ℕ
@@ -302,3 +304,27 @@ pub read_on_or : (d m : SlateDBError) (items now : List Entry) (o : Option Entry
     (d ≡ m) ⊎ (entry_field end o bytes at ≡ Err d) → (d ≡ m) ⊎ (entry_field end (last_entry items) bytes at ≡ Err d)
 read_on_or d m items now o end bytes at is same (inl h) = inl h
 read_on_or d m items now o end bytes at is same (inr h) = inr (read_on items now o end bytes at (Err d) is same h)
+
+-- ---- separators are sorted
+
+not_below : (o : Ordering) → is_le o ≡ true → is_lt (ordering_reverse o) ≡ false
+not_below Less h = refl
+not_below Equal h = refl
+not_below Greater h = cc
+
+above : (a b : List ℕ) → IsTrue (key_le a b) → key_lt b a ≡ false
+above a b h = ap is_lt (turned-key b a) ∙ not_below (key_cmp a b) h
+
+same_place : (k : ℕ) → suc k + 1 ≡ suc (k + 1)
+same_place k = omega arith
+
+sorted_at : (e : Entry) (es : List Entry) → RisesFrom e es → (k : ℕ) (d : List ℕ) → k + 1 < length (index_keys (e ∷ es)) → key_lt (get_or (index_keys (e ∷ es)) (k + 1) d) (get_or (index_keys (e ∷ es)) k d) ≡ false
+sorted_at e [] r k d lt = absurd (omega (arith, lt))
+sorted_at e (f ∷ es) r zero d lt = above e.1 f.1 r.1
+sorted_at e (f ∷ es) r (suc k) d lt =
+    let later = sorted_at f es r.2 k d (omega (arith, lt)) in
+    rw (same_place k) later
+
+pub sorted_keys : (es : List Entry) → RisesFromZero es → IsSorted key_cmp (index_keys es)
+sorted_keys [] r = absurd r
+sorted_keys (e ∷ es) r = λ k d le lt. sorted_at e es r.1 k d lt

@@ -2,8 +2,8 @@
 use Rattle.std.proofs.Common.{◌≡◌, ℕ, zero, suc, ◌+◌, ◌^◌, ◌<◌, ◌≤◌, List, [], ◌∷◌, ◌++◌, length, get_or, take, refl, sym, ap, ◌∙◌, append_assoc, arith}
 use Rattle.std.specs.List.{AllByRecursion}
 use Rattle.std.proofs.lemmas.List.{append-nil, length-take, take_more, take_all}
-use Rattle.slate_block.specs.RowSpelling.{be16, be32, be64}
-use Rattle.slate_table.specs.Parts.{index_entries, index_bytes}
+use Rattle.slate_block.specs.RowSpelling.{be16, be64}
+use Rattle.slate_table.specs.Parts.{index_entries}
 
 abbrev pub one_entry : ℕ → List ℕ → List ℕ
 one_entry at key = be64 at ++ (be16 (length key) ++ key)

@@ -17,7 +17,7 @@ pub fn separator(previous: &[u8], key: &Bytes) -> Result<Bytes, SlateDBError>
 }
 
 /// How many bytes of the key that front has.
-#[tactic(auto, using(crate::proofs::Separators::whole_key, crate::proofs::Separators::short_front))]
+#[tactic(auto, using(crate::proofs::Separators::whole_key, crate::proofs::Separators::short_front, crate::proofs::Separators::all_shared))]
 fn separator_len(previous: &[u8], key: &[u8]) -> usize
     ensures value { take result key.now ≡ separator previous.now key.now }
     ensures within { result ≤ length key.now }
@@ -25,5 +25,10 @@ fn separator_len(previous: &[u8], key: &[u8]) -> usize
     if previous == key {
         return key.len();
     }
-    (compute_prefix(previous, key) + 1).min(key.len())
+    let shared = compute_prefix(previous, key);
+    if shared < key.len() {
+        shared + 1
+    } else {
+        key.len()
+    }
 }

@@ -1,8 +1,9 @@
 //! The index of a table: where each block's section begins, and a separator before its keys.
-ghost use Rattle.std.specs.Prelude.{◌≡◌, ◌≤◌, ◌<◌, ◌==◌, ◌⊎◌, ℕ, Bool, List, Option, Ok, Err, Some, None, true, false, length, slice_get, slice_index, IfOk, IfErr, IsOkUnless, option_copied, option_map};
+ghost use Rattle.std.specs.Prelude.{◌≡◌, ◌≤◌, ◌<◌, ◌==◌, ◌⊎◌, ℕ, Bool, List, Option, Ok, Err, Some, None, true, false, length, slice_get, slice_index, IfOk, IfErr, IsOkUnless, IsSorted, option_copied, option_map};
 ghost use Rattle.std.specs.Iterator.{YieldsFirstBy, item_count};
 ghost use Rattle.slate_block.specs.RowReading.{refusal};
-ghost use Rattle.slate_table.specs.Decoded.{IsIndex, RisesFromZero};
+ghost use Rattle.slate_types.specs.Keys.{key_cmp};
+ghost use Rattle.slate_table.specs.Decoded.{IsIndex};
 ghost use Rattle.slate_table.specs.IndexReading.{
   is_next_offset,
   is_next_key,
@@ -18,7 +19,7 @@ ghost use Rattle.slate_table.specs.IndexReading.{
 
 use bytes::Bytes;
 use slate_block::fields::{block_field, corrupt, u16_field, u32_field, u64_field};
-use slate_types::SlateDBError;
+use slate_types::{RangePartitionedKeySpace, SlateDBError};
 use std::alloc::Global;
 use std::marker::Model;
 use std::slice;
@@ -28,25 +29,17 @@ use std::slice;
 #[derive(Drop)]
 pub struct SstIndex {
     entries: Vec<(u64, Bytes)>,
-}
-
-impl Model for SstIndex {
-    ghost use Rattle.std.specs.Prelude.{ℕ, List};
-    ghost use Rattle.slate_table.specs.Decoded.{RisesFromZero};
-
-    ghost Value = { List (ℕ × List ℕ) };
-
-    ghost view = { λ index. index.entries.items };
-
-    ghost invariant = { λ index. RisesFromZero index.entries.items };
+    ghost rising: { IsSorted key_cmp (index_keys entries.items) },
 }
 
 impl SstIndex {
+    ghost use Rattle.slate_table.specs.IndexValue.{entries_of};
+
     /// The index of blocks that end at a place, from its bytes. `CorruptTable` with the place of the first field that fails,
     /// or of what is left over: exactly where the bytes are no count and so many offsets and separators, or there is no
     /// block, or an offset is past the end, or the offsets don't rise from 0, or separators fall; or `OutOfMemory`.
     pub fn decode(alloc: Global, bytes: Bytes, end: u64) -> Result<SstIndex, SlateDBError>
-        ensures found { IfOk result (λ index. IsIndex end bytes index) }
+        ensures found { IfOk result (λ index. IsIndex end bytes (entries_of index)) }
         ensures only { (entries : List (ℕ × List ℕ)) → IsIndex end bytes entries → IsOkUnless result SlateDBError.OutOfMemory }
         ensures cause { IfErr result (λ e. (e ≡ SlateDBError.OutOfMemory) ⊎ (refusal (index_of end bytes) ≡ Some e)) }
     {
@@ -56,21 +49,21 @@ impl SstIndex {
 
     /// How many blocks there are.
     pub fn len(&self) -> usize
-        ensures { result ≡ length self.now }
+        ensures { result ≡ length (entries_of self.now) }
     {
         self.entries.len()
     }
 
     /// Whether there is no block, which no table's index is.
     pub fn is_empty(&self) -> bool
-        ensures { result ≡ (length self.now == 0) }
+        ensures { result ≡ (length (entries_of self.now) == 0) }
     {
         self.entries.is_empty()
     }
 
     /// The offset and the separator of a block, or `None` exactly where there is no such block.
     pub fn get(&self, index: usize) -> Option<(u64, &[u8])>
-        ensures { option_map borrowed_entry result ≡ slice_get self.now index }
+        ensures { option_map borrowed_entry result ≡ slice_get (entries_of self.now) index }
     {
         self.entries
             .get(index)
@@ -79,7 +72,7 @@ impl SstIndex {
 
     /// The offsets and the separators in their order.
     pub fn iter(&self) -> SstIndexIter<'_>
-        ensures { result ≡ self.now }
+        ensures { result ≡ entries_of self.now }
     {
         SstIndexIter {
             entries: self.entries.iter(),
@@ -90,30 +83,28 @@ impl SstIndex {
     /// one that it fails.
     pub fn partition_point<P: Fn(&[u8]) -> bool>(&self, pred: P) -> usize
         requires callable { P.IsAlwaysCallable pred }
-        requires prefix { (i j : ℕ) (k l : _) (s : Bool) → i ≤ j → slice_get (index_keys self.now) i ≡ Some k.now → slice_get (index_keys self.now) j ≡ Some l.now → P.post pred l true → P.post pred k s → s ≡ true }
-        ensures within { result ≤ length self.now }
-        ensures before { (i : ℕ) (k : _) (s : Bool) → i < result → slice_get (index_keys self.now) i ≡ Some k.now → P.post pred k s → s ≡ true }
-        ensures after { (i : ℕ) (k : _) (s : Bool) → result ≤ i → slice_get (index_keys self.now) i ≡ Some k.now → P.post pred k s → s ≡ false }
+        requires prefix { (i j : ℕ) (k l : _) (s : Bool) → i ≤ j → slice_get (index_keys (entries_of self.now)) i ≡ Some k.now → slice_get (index_keys (entries_of self.now)) j ≡ Some l.now → P.post pred l true → P.post pred k s → s ≡ true }
+        ensures within { result ≤ length (entries_of self.now) }
+        ensures before { (i : ℕ) (k : _) (s : Bool) → i < result → slice_get (index_keys (entries_of self.now)) i ≡ Some k.now → P.post pred k s → s ≡ true }
+        ensures after { (i : ℕ) (k : _) (s : Bool) → result ≤ i → slice_get (index_keys (entries_of self.now)) i ≡ Some k.now → P.post pred k s → s ≡ false }
     {
-        let mut low = 0;
-        let mut high = self.len();
-        while low < high {
-            let middle = low + (high - low) / 2;
-            if pred(self.separator(middle)) {
-                low = middle + 1;
-            } else {
-                high = middle;
-            }
-        }
-        low
+        slate_types::partition_point(self, pred)
+    }
+}
+
+impl RangePartitionedKeySpace for SstIndex {
+    ghost use Rattle.slate_table.specs.IndexValue.{entries_of};
+
+    ghost first_keys = { λ index. index_keys (entries_of index) };
+
+    ghost rising = { λ index. index.rising };
+
+    fn partitions(&self) -> usize {
+        self.entries.len()
     }
 
-    /// The separator of a block.
-    fn separator(&self, index: usize) -> &[u8]
-        requires { index < length self.now }
-        ensures { slice_get (index_keys self.now) index ≡ Some result.now }
-    {
-        self.entries[index].1.as_slice()
+    fn partition_first_key(&self, partition: usize) -> &[u8] {
+        self.entries[partition].1.as_slice()
     }
 }
 
@@ -268,11 +259,7 @@ fn entries_from(
 }
 
 #[tactic(auto, unfolding(crate::specs::IndexReading::index_of))]
-fn read_entries(
-    alloc: Global,
-    end: u64,
-    bytes: &Bytes,
-) -> Result<Vec<(u64, Bytes)>, SlateDBError>
+fn read_entries(alloc: Global, end: u64, bytes: &Bytes) -> Result<Vec<(u64, Bytes)>, SlateDBError>
     ensures found { IfOk result (λ entries. index_of end bytes.now ≡ Ok entries.items) }
     ensures cause { IfErr result (λ e. (e ≡ SlateDBError.OutOfMemory) ⊎ (index_of end bytes.now ≡ Err e)) }
     ensures bytes { IfOk result (λ _. (i : ℕ) → slice_index bytes.now i < 256) }
