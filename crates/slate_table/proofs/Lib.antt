@@ -7,3 +7,6 @@ pub mod FilterLaws
 pub mod TableLaws
 pub mod StoredLaws
 pub mod CutLaws
+mod CrcLaws
+mod Grown
+mod StatsReads

@@ -4,6 +4,10 @@
 #[cfg(test)]
 mod lists;
 #[cfg(test)]
+mod partitions;
+#[cfg(test)]
+mod parts;
+#[cfg(test)]
 mod rows;
 #[cfg(test)]
 mod runs;

@@ -7,15 +7,16 @@ use Rattle.std.specs.declared.ops.Bound.{Bound}
 use Rattle.std.specs.declared.ops.Bound.TheVariants.{Included, Excluded, Unbounded}
 use Rattle.std.proofs.lemmas.Bool.{cases_lt}
 use Rattle.std.proofs.lemmas.Bool.Decides.{nat_tests}
-use Rattle.std.proofs.lemmas.Cmp.{nat_list_cmp_total, upto}
+use Rattle.std.proofs.lemmas.Cmp.{nat_list_cmp_total, tied_itself, upto}
 use Rattle.std.proofs.lemmas.List.Sorted.{ranks_by, sorted_far}
 use Rattle.std.proofs.lemmas.List.Sums.{sum_by-cons, count_by-le-length}
 use Rattle.std.proofs.lemmas.Option.{slice_get_within, slice_get-get_or, get_or_from_slice_get}
 use Rattle.std.proofs.lemmas.Slice.Eq.{bytes_eq-Decides}
 use Rattle.slate_types.specs.declared.bytes_range.BytesRange.{BytesRange}
 use Rattle.slate_types.specs.Keys.{key_cmp, key_lt, key_le, is_past_start, is_before_end, in_range, is_refused}
-use Rattle.slate_types.specs.Partitions.{CanHold, count_below, count_upto, is_key, begins_at, last_of, first_including, last_including, covering_start, past, past_unless_at, covering_end}
-use Rattle.slate_types.proofs.KeyOrder.{lt-le, not-lt, not-le, le-lt-trans, lt-irreflexive}
+use Rattle.slate_types.specs.Partitions.{CanHold, IsLeast, IsGreatest, count_below, count_upto, is_key, begins_at, last_of, first_including, last_including, covering_start, past, past_unless_at, covering_end}
+use Rattle.slate_types.specs.Laws.{FirstIncludingIsFirst, LastIncludingIsLast}
+use Rattle.slate_types.proofs.KeyOrder.{same-key, lt-le, not-lt, not-le, le-lt-trans, lt-irreflexive}
 
 -- ---- the order
 
@@ -227,3 +228,87 @@ pub covers : (keys : List (List ℕ)) → IsSorted key_cmp keys → (start end :
     → (covering_start keys start ≤ i) × (i < covering_end keys (covering_start keys start) end)
 covers keys up start end i k hold h =
     (start-covers keys up start i k hold (first-true (is_past_start start k) (is_before_end end k) h), end-covers keys up (covering_start keys start) end i k hold (second-true (is_past_start start k) (is_before_end end k) h))
+
+-- ---- the first and the last partition that can hold a key
+
+le-itself : (k : List ℕ) → key_le k k ≡ true
+le-itself k = ap is_le (tied_itself nat_list_cmp_total k)
+
+is-equal : (o : Ordering) → is_le o ≡ true → is_lt o ≡ false → o ≡ Equal
+is-equal Less h k = cc
+is-equal Equal h k = refl
+is-equal Greater h k = cc
+
+-- the next partition begins no earlier than a key, where none behind begins below it
+next-from : (o : Option (List ℕ)) (k : List ℕ) → ((next : List ℕ) → o ≡ Some next → key_le k next ≡ true) → IfSome o (λ next. key_le k next ≡ true)
+next-from None k h = tt
+next-from (Some next) k h = h next refl
+
+holds : (keys : List (List ℕ)) (i : ℕ) (k first : List ℕ) → slice_get keys i ≡ Some first → key_le first k ≡ true → ((next : List ℕ) → slice_get keys (i + 1) ≡ Some next → key_le k next ≡ true) → CanHold keys i k
+holds keys i k first at_i begins ends = record {
+  begins = subst (λ o. IsSomeAnd o (λ x. key_le x k ≡ true)) (sym at_i) begins;
+  ends = next-from (slice_get keys (i + 1)) k ends;
+}
+
+first-below : (keys : List (List ℕ)) → IsSorted key_cmp keys → (k : List ℕ) → 0 < count_below keys k → CanHold keys (count_below keys k - 1) k
+first-below keys up k h =
+    let n = count_below keys k in
+    let p : List ℕ → Bool = λ x. key_lt x k in
+    let within : n ≤ length keys = count_by-le-length p keys in
+    let first = get_or keys (n - 1) [] in
+    let at_first : slice_get keys (n - 1) ≡ Some first = slice_get-get_or keys (n - 1) [] (omega arith) in
+    let below : key_lt first k ≡ true = (count-splits p keys (below-front keys up k) (n - 1) first at_first).0 (omega arith) in
+    holds keys (n - 1) k first at_first (lt-le first k below) (λ next e. not-lt next k ((count-splits p keys (below-front keys up k) (n - 1 + 1) next e).1 (omega arith)))
+
+begins-first : (keys : List (List ℕ)) → IsSorted key_cmp keys → (k : List ℕ) → begins_at keys 0 k ≡ true → CanHold keys 0 k
+begins-first keys up k h =
+    let at_first = is_key-some (slice_get keys 0) k h in
+    holds keys 0 k k at_first (le-itself k) (λ next e. rises keys up 0 (0 + 1) k next (omega arith) at_first e)
+
+-- where none begins below a key, and the first not at it, none begins at it
+none-holds : (keys : List (List ℕ)) → IsSorted key_cmp keys → (k : List ℕ) → count_below keys k ≡ 0 → begins_at keys 0 k ≡ false → (i : ℕ) → CanHold keys i k → ⊥
+none-holds keys up k none apart i hold = by (begun (slice_get keys i) k hold.begins)
+  where
+    by : (first : List ℕ) × (slice_get keys i ≡ Some first) × (key_le first k ≡ true) → ⊥
+    by (x, at_i, begins) =
+        let within : i < length keys = slice_get_within keys i x at_i in
+        let first = get_or keys 0 [] in
+        let at_first : slice_get keys 0 ≡ Some first = slice_get-get_or keys 0 [] (omega arith) in
+        let upto : key_le first k ≡ true = le-trans first x k (rises keys up 0 i first x (omega arith) at_first at_i) begins in
+        let below : key_lt first k ≡ false = (count-splits (λ y. key_lt y k) keys (below-front keys up k) 0 first at_first).1 (omega arith) in
+        let same : first ≡ k = same-key first k (is-equal (key_cmp first k) upto below) in
+        let begins : begins_at keys 0 k ≡ true = ap (λ o. is_key o k) at_first ∙ (bytes_eq-Decides first k).1 same in
+        cc
+
+pub first-is-first : FirstIncludingIsFirst
+first-is-first keys k up = by (nat_lt 0 (count_below keys k)) refl (begins_at keys 0 k) refl
+  where
+    some : nat_lt 0 (count_below keys k) ≡ true → 0 < count_below keys k
+    some t = grind (arith, nat_tests)
+    none : nat_lt 0 (count_below keys k) ≡ false → count_below keys k ≡ 0
+    none t = grind (arith, nat_tests)
+    by : (t : Bool) → nat_lt 0 (count_below keys k) ≡ t → (b : Bool) → begins_at keys 0 k ≡ b → IsLeast (λ i. CanHold keys i k) (cond t (Some (count_below keys k - 1)) (cond b (Some 0) None))
+    by true t b e = (first-below keys up k (some t), λ i hold. start-reached keys up i k k hold (le-itself k))
+    by false t true e = (begins-first keys up k e, λ i hold. omega arith)
+    by false t false e = none-holds keys up k (none t) e
+
+last-holds : (keys : List (List ℕ)) → IsSorted key_cmp keys → (k : List ℕ) → 0 < count_upto keys k → CanHold keys (count_upto keys k - 1) k
+last-holds keys up k h =
+    let n = count_upto keys k in
+    let p : List ℕ → Bool = λ x. key_le x k in
+    let within : n ≤ length keys = count_by-le-length p keys in
+    let last = get_or keys (n - 1) [] in
+    let at_last : slice_get keys (n - 1) ≡ Some last = slice_get-get_or keys (n - 1) [] (omega arith) in
+    let begins : key_le last k ≡ true = (count-splits p keys (upto-front keys up k) (n - 1) last at_last).0 (omega arith) in
+    holds keys (n - 1) k last at_last begins (λ next e. lt-le k next (not-le next k ((count-splits p keys (upto-front keys up k) (n - 1 + 1) next e).1 (omega arith))))
+
+pub last-is-last : LastIncludingIsLast
+last-is-last keys k up = by (nat_lt 0 (count_upto keys k)) refl
+  where
+    some : nat_lt 0 (count_upto keys k) ≡ true → 0 < count_upto keys k
+    some t = grind (arith, nat_tests)
+    none : nat_lt 0 (count_upto keys k) ≡ false → count_upto keys k ≡ 0
+    none t = grind (arith, nat_tests)
+    by : (t : Bool) → nat_lt 0 (count_upto keys k) ≡ t → IsGreatest (λ i. CanHold keys i k) (cond t (Some (count_upto keys k - 1)) None)
+    by true t = (last-holds keys up k (some t), λ i hold. let h = end-reached keys up i k k hold (le-itself k) in omega (arith, h))
+    by false t = λ i hold. let h = end-reached keys up i k k hold (le-itself k) in omega (arith, h, none t)

@@ -1,5 +1,5 @@
--- Laws of the definitions: of sets of keys, of ranges, of the orders, of seeks, and of the fold.
-use Rattle.std.specs.Prelude.{◌≡◌, ℕ, nat_eq, true, false, not, bytes_eq, drop, length, List, [], ◌∷◌, ◌++◌, Option, Some, None, option_to_list, IfSome, IsTrue, filter_map, flat_map, ◌≤◌, nat_le, filter, ◌&&◌}
+-- Laws of the definitions: of sets of keys, of ranges, of the orders, of seeks, of keys in partitions, and of the fold.
+use Rattle.std.specs.Prelude.{◌≡◌, ℕ, nat_eq, true, false, not, bytes_eq, drop, length, List, [], ◌∷◌, ◌++◌, Option, Some, None, option_to_list, IfSome, IsTrue, filter_map, flat_map, ◌≤◌, nat_le, filter, ◌&&◌, IsSorted}
 use Rattle.std.specs.List.{AllByRecursion, starts_with}
 use Rattle.std.specs.List.Sorted.{IsStrictlySortedBy}
 use Rattle.std.specs.Cmp.{IsTotalOrder}
@@ -13,6 +13,7 @@ use Rattle.slate_types.specs.declared.bytes_range.BytesRange.{BytesRange}
 use Rattle.slate_types.specs.declared.iter.IterationOrder.{IterationOrder}
 use Rattle.slate_types.specs.Iteration.{comes_before, drop_before, IsInOrder}
 use Rattle.slate_types.specs.Keys.{key_cmp, point_of, whole, AreBytes, is_refused, among, keys_set, prefix_range, prefix_subrange, common_range, in_range}
+use Rattle.slate_types.specs.Partitions.{CanHold, IsLeast, IsGreatest, first_including, last_including}
 use Rattle.slate_types.specs.Rows.{is_base, row_lt, sequenced, sequenced_cmp}
 use Rattle.slate_types.specs.Fold.{Combine, fold_rows, merge_all, IsShort, AreShort, IsLawful, KeepsShort}
 
@@ -100,3 +101,11 @@ WholeHasAll = (k : List ℕ) → in_range whole k ≡ true
 -- Of rows in order a seek leaves exactly those whose key doesn't come before the key that is sought.
 abbrev pub SeekKeepsTheRest : Type 0
 SeekKeepsTheRest = (order : IterationOrder) (key : List ℕ) (rows : List RowEntry) → IsInOrder order rows → drop_before order key rows ≡ filter (λ r. not (comes_before order r.key key)) rows
+
+-- Of first keys that don't fall, the first partition that includes a key is the first that can hold it.
+abbrev pub FirstIncludingIsFirst : Type 0
+FirstIncludingIsFirst = (keys : List (List ℕ)) (k : List ℕ) → IsSorted key_cmp keys → IsLeast (λ i. CanHold keys i k) (first_including keys k)
+
+-- And the last is the last that can.
+abbrev pub LastIncludingIsLast : Type 0
+LastIncludingIsLast = (keys : List (List ℕ)) (k : List ℕ) → IsSorted key_cmp keys → IsGreatest (λ i. CanHold keys i k) (last_including keys k)

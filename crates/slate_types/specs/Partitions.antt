@@ -1,11 +1,12 @@
 -- Keys in partitions, which are seen as the list of their first keys. These don't fall. A key may stand in several partitions that
 -- follow one another, so a partition holds keys from its first key up to the next one's first key, which it may hold too.
 --     CanHold keys i k      partition i can hold the key
+--     IsLeast P o, IsGreatest P o      the least and the greatest number of which P holds, or none where P holds of none
 --     count_below keys k, count_upto keys k      how many first keys are below the key, or not past it
 --     begins_at keys i k      there is such a partition, and the key is its first
 --     first_including keys k, last_including keys k      the first and the last partition that can hold the key
 --     covering_start keys start, covering_end keys start end      the partitions of the keys between two bounds
-use Rattle.std.specs.Prelude.{◌≡◌, ℕ, ◌+◌, ◌-◌, nat_lt, Bool, true, false, if◌then◌else◌, List, length, slice_get, count_by, bytes_eq, Option, Some, None, IfSome, IsSomeAnd, unwrap_or}
+use Rattle.std.specs.Prelude.{◌≡◌, ℕ, ◌+◌, ◌-◌, ◌≤◌, nat_lt, Bool, true, false, if◌then◌else◌, List, length, slice_get, count_by, bytes_eq, Option, Some, None, IfSome, IsSomeAnd, unwrap_or}
 use Rattle.std.specs.declared.ops.Bound.{Bound}
 use Rattle.std.specs.declared.ops.Bound.TheVariants.{Included, Excluded, Unbounded}
 use Rattle.slate_types.specs.Keys.{key_lt, key_le}
@@ -13,6 +14,14 @@ use Rattle.slate_types.specs.Keys.{key_lt, key_le}
 pub record CanHold (keys : List (List ℕ)) (i : ℕ) (k : List ℕ) : Type 0 where
   pub begins : IsSomeAnd (slice_get keys i) (λ first. key_le first k ≡ true)
   pub ends : IfSome (slice_get keys (i + 1)) (λ next. key_le k next ≡ true)
+
+abbrev pub IsLeast : (ℕ → Type 0) → Option ℕ → Type 0
+IsLeast P None = (i : ℕ) → P i → ⊥
+IsLeast P (Some n) = P n × ((i : ℕ) → P i → n ≤ i)
+
+abbrev pub IsGreatest : (ℕ → Type 0) → Option ℕ → Type 0
+IsGreatest P None = (i : ℕ) → P i → ⊥
+IsGreatest P (Some n) = P n × ((i : ℕ) → P i → i ≤ n)
 
 abbrev pub count_below : List (List ℕ) → List ℕ → ℕ
 count_below keys k = count_by (λ first. key_lt first k) keys

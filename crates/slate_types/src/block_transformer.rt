@@ -4,7 +4,7 @@ ghost use Rattle.slate_types.specs.Faults.{Rose};
 
 use crate::error::SlateDBError;
 use bytes::Bytes;
-use std::alloc::{AllocError, Global};
+use std::alloc::{AllocError, AllocFailed, Global};
 use thiserror::Error;
 
 /// Why a transformer gives no bytes.
@@ -24,6 +24,16 @@ impl From<AllocError> for TransformError {
     ghost from_gives = { λ _ e. e ≡ OutOfMemory };
 
     fn from(_error: AllocError) -> TransformError {
+        TransformError::OutOfMemory
+    }
+}
+
+impl<T: Drop> From<AllocFailed<T>> for TransformError {
+    ghost use Rattle.slate_types.specs.declared.block_transformer.TransformError.TheVariants.{OutOfMemory};
+
+    ghost from_gives = { λ _ e. e ≡ OutOfMemory };
+
+    fn from(_failed: AllocFailed<T>) -> TransformError {
         TransformError::OutOfMemory
     }
 }

@@ -5,7 +5,7 @@ ghost use Rattle.slate_types.specs.Fold.{Combine, KeepsShort, merge_all};
 
 use crate::error::SlateDBError;
 use bytes::Bytes;
-use std::alloc::{AllocError, Global};
+use std::alloc::{AllocError, AllocFailed, Global};
 use thiserror::Error;
 
 /// Why an operator gives no value.
@@ -28,6 +28,16 @@ impl From<AllocError> for MergeOperatorError {
     ghost from_gives = { λ _ e. e ≡ OutOfMemory };
 
     fn from(_error: AllocError) -> MergeOperatorError {
+        MergeOperatorError::OutOfMemory
+    }
+}
+
+impl<T: Drop> From<AllocFailed<T>> for MergeOperatorError {
+    ghost use Rattle.slate_types.specs.declared.merge_operator.MergeOperatorError.TheVariants.{OutOfMemory};
+
+    ghost from_gives = { λ _ e. e ≡ OutOfMemory };
+
+    fn from(_failed: AllocFailed<T>) -> MergeOperatorError {
         MergeOperatorError::OutOfMemory
     }
 }

@@ -1,0 +1,9 @@
+-- What readers of the parts of a table find. Each statement is proved by a function of src/reading_laws.rt.
+--     StatsAreRead      the statistics that are read are those of these bytes, and nothing is refused exactly where there are such
+use Rattle.std.specs.Prelude.{◌≡◌, ◌↔◌, ℕ, List, Ok}
+use Rattle.slate_block.specs.ReadingLaws.{EachIsAByte}
+use Rattle.slate_table.specs.Decoded.{Stats, IsStats}
+use Rattle.slate_table.specs.StatsReading.{stats_in}
+
+abbrev pub StatsAreRead : Type 0
+StatsAreRead = (bytes : List ℕ) (stats : Stats) → EachIsAByte bytes → (stats_in bytes ≡ Ok stats) ↔ IsStats bytes stats
