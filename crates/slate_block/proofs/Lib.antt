@@ -12,3 +12,7 @@ pub mod OffsetLaws
 pub mod LongestFronts
 pub mod BlockLaws
 pub mod WrittenLaws
+pub mod HeldOnce
+pub mod RowMore
+pub mod RowSizes
+pub mod HeldLaws

@@ -6,7 +6,7 @@ use Rattle.std.proofs.lemmas.Bool.Decides.{nat_tests}
 use Rattle.std.proofs.lemmas.List.Sums.{common_prefix_len-le}
 use Rattle.slate_types.specs.declared.types.RowEntry.{RowEntry}
 use Rattle.slate_block.specs.RowSpelling.{read_expiry, v1_bytes, FitsV1, FitsV2, IsRowV1}
-use Rattle.slate_block.specs.BlockSpelling.{IsKey, entry_v1, entry_v2, Shares, SharesV1, SharesV2, shared_with, AreRows, offsets_of, IsBlock, longest, spelled, spelled_v1, spelled_v2, block_bytes, as_read, FitsRow, FitsBlock}
+use Rattle.slate_block.specs.BlockSpelling.{IsKey, entry_v1, entry_v2, Shares, SharesV1, SharesV2, shared_with, AreRows, offsets_of, IsBlockOf, IsBlock, longest, spelled, spelled_v1, spelled_v2, block_bytes, as_read, FitsRow, FitsBlock}
 
 longest_stands : (a b : List ℕ) → take (longest a b) a ≡ take (longest a b) b
 longest_stands [] b = refl
@@ -63,37 +63,33 @@ are_keys : (version : ℕ) (rows : List RowEntry) → AllByRecursion FitsRow row
 are_keys version [] f = tt
 are_keys version (r ∷ rs) f = (subst (λ k. IsKey k) (sym (as_read_key version r)) f.0.key, are_keys version rs f.1)
 
+pub block_of_v1 : (rows : List RowEntry) → FitsBlock 1 rows → IsBlockOf (flat_map (λ b. b) (spelled 1 rows)) (offsets_of 1 (spelled 1 rows)) 1 (map (as_read 1) rows)
+block_of_v1 rows f = record {
+  pieces = spelled 1 rows;
+  are_rows = are_rows_v1 rows f.some f.each;
+  keys = are_keys 1 rows f.each;
+  is_body = refl;
+  are_offsets = refl;
+  fit = f.fit;
+  few = f.few;
+}
+
 is_block_v1 : (rows : List RowEntry) → FitsBlock 1 rows → IsBlock (block_bytes 1 rows) 1 (map (as_read 1) rows)
-is_block_v1 rows f = (
-  flat_map (λ b. b) (spelled 1 rows),
-  offsets_of 1 (spelled 1 rows),
-  record {
-    pieces = spelled 1 rows;
-    are_rows = are_rows_v1 rows f.some f.each;
-    keys = are_keys 1 rows f.each;
-    is_body = refl;
-    are_offsets = refl;
-    fit = f.fit;
-    few = f.few;
-  },
-  refl,
-)
+is_block_v1 rows f = (flat_map (λ b. b) (spelled 1 rows), offsets_of 1 (spelled 1 rows), block_of_v1 rows f, refl)
+
+pub block_of_v2 : (rows : List RowEntry) → FitsBlock 2 rows → IsBlockOf (flat_map (λ b. b) (spelled 2 rows)) (offsets_of 2 (spelled 2 rows)) 2 (map (as_read 2) rows)
+block_of_v2 rows f = record {
+  pieces = spelled 2 rows;
+  are_rows = are_rows_v2 rows f.some f.each;
+  keys = are_keys 2 rows f.each;
+  is_body = refl;
+  are_offsets = refl;
+  fit = f.fit;
+  few = f.few;
+}
 
 is_block_v2 : (rows : List RowEntry) → FitsBlock 2 rows → IsBlock (block_bytes 2 rows) 2 (map (as_read 2) rows)
-is_block_v2 rows f = (
-  flat_map (λ b. b) (spelled 2 rows),
-  offsets_of 2 (spelled 2 rows),
-  record {
-    pieces = spelled 2 rows;
-    are_rows = are_rows_v2 rows f.some f.each;
-    keys = are_keys 2 rows f.each;
-    is_body = refl;
-    are_offsets = refl;
-    fit = f.fit;
-    few = f.few;
-  },
-  refl,
-)
+is_block_v2 rows f = (flat_map (λ b. b) (spelled 2 rows), offsets_of 2 (spelled 2 rows), block_of_v2 rows f, refl)
 
 -- what is spelled, at a version that is one of the two
 Spells : List RowEntry → ℕ → Type 0

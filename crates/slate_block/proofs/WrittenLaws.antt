@@ -22,7 +22,7 @@ same_written_v1 first (r ∷ rs) (s ∷ ss) f g h =
     let rest = same_written_v1 first rs ss f.1 g.1 next.1 in
     λ i. row i ∷ rest i
 
-same_written_v2 : (i : ℕ) (previous : List ℕ) (rs ss : List RowEntry) → AllByRecursion FitsRow rs → AllByRecursion FitsRow ss → flat_map (λ b. b) (spelled_v2 i previous rs) ≡ flat_map (λ b. b) (spelled_v2 i previous ss) → rs ≡ ss
+pub same_written_v2 : (i : ℕ) (previous : List ℕ) (rs ss : List RowEntry) → AllByRecursion FitsRow rs → AllByRecursion FitsRow ss → flat_map (λ b. b) (spelled_v2 i previous rs) ≡ flat_map (λ b. b) (spelled_v2 i previous ss) → rs ≡ ss
 same_written_v2 i previous [] [] f g h = refl
 same_written_v2 i previous [] (s ∷ ss) f g h =
     let b = longest (shared_with i previous) s.key in
@@ -43,7 +43,7 @@ same_written_v2 i previous (r ∷ rs) (s ∷ ss) f g h =
     let rest = same_written_v2 (i + 1) r.key rs ss f.1 g.1 later in
     λ j. row j ∷ rest j
 
-all_written_v1 : (rows other : List RowEntry) → AllByRecursion FitsRow rows → AllByRecursion FitsRow other → flat_map (λ b. b) (spelled 1 rows) ≡ flat_map (λ b. b) (spelled 1 other) → rows ≡ other
+pub all_written_v1 : (rows other : List RowEntry) → AllByRecursion FitsRow rows → AllByRecursion FitsRow other → flat_map (λ b. b) (spelled 1 rows) ≡ flat_map (λ b. b) (spelled 1 other) → rows ≡ other
 all_written_v1 [] [] f g h = refl
 all_written_v1 [] (s ∷ ss) f g h = let n = ap (λ l. length l) h in absurd (omega (arith, n))
 all_written_v1 (r ∷ rs) [] f g h = let n = ap (λ l. length l) h in absurd (omega (arith, n))

@@ -1,0 +1,48 @@
+use Rattle.std.proofs.Common.{◌≡◌, ◌<◌, ◌≤◌, ◌^◌, ◌∙◌, ◌+◌, true, sym, ap, subst, length, arith, rules}
+use Rattle.std.proofs.lemmas.Bool.Decides.{nat_tests}
+use Rattle.std.proofs.lemmas.Result.{err_from_is_err_and}
+use Rattle.slate_block.specs.RowSpelling.{FitsStamp}
+use Rattle.slate_block.specs.BlockSpelling.{FitsRow, longest}
+use Rattle.slate_block.specs.Building.{Building, number, front_key, with_row}
+use Rattle.slate_block.specs.Fitting.{fits_in}
+use Rattle.slate_block.proofs.HeldLaws.{Leaves, held_room, tried_held, seen_same, seen_longer}
+use Rattle.slate_block.proofs.builder.BlockBuilder.add.Goals as goal
+
+-- what is known where the row is taken
+leaves : (c : goal.After-append-arg-1) → Leaves c.shared-shared.result c.self.inside.part c.self.inside.held c.args.entry
+leaves c = record { out = c.shared-shared.ensures.front ∙ ap (λ (b : Building). longest (front_key b.version b.rows) c.args.entry.key) (sym c.self.view_is) }
+
+fits : (c : goal.After-append-arg-1) → fits_in c.self.inside.block_size (number c.self.inside.part.version) c.self.inside.held.0.0 c.args.entry ≡ true
+fits c =
+    let taken : c.has_room.result ≡ true = search rules in
+    ap (λ (b : Building). fits_in b.size b.version b.rows c.args.entry) c.self.view_is ∙ sym c.has_room.ensures ∙ taken
+
+space : (c : goal.After-append-arg-1) → (length c.self.inside.part.body.items < 2 ^ 16) × (c.self.inside.part.num_rows + 1 < 2 ^ 16)
+space c = held_room c.self.inside.block_size c.shared-shared.result c.self.inside.part c.self.inside.held c.args.entry (leaves c) c.self.invariant (fits c)
+
+fits_row : (c : goal.After-append-arg-1) → FitsRow c.args.entry
+fits_row c =
+    let some : 0 < length c.args.entry.key = grind (arith, nat_tests) in
+    let create : FitsStamp c.args.entry.create_ts = search rules in
+    let expire : FitsStamp c.args.entry.expire_ts = search rules in
+    record { key = (some, c.requires.0); value = c.requires.1; seq = omega arith; create = create; expire = expire }
+
+pub append-requires-clause-place : goal.append-requires-clause-place
+append-requires-clause-place c = (space c).0
+
+pub append-requires-clause-few : goal.append-requires-clause-few
+append-requires-clause-few c = (space c).1
+
+pub invariant_of-self-inside : goal.invariant_of-self-inside
+invariant_of-self-inside c =
+    (tried_held c.append.result c.shared-shared.result c.self.inside.part c.append.new.self c.args.entry c.self.inside.held (leaves c.before) (fits_row c.before) (space c.before) c.append.ensures.appended c.append.ensures.unchanged, tt)
+
+pub returns-in_err-append-clause-unchanged : goal.returns-in_err-append-clause-unchanged
+returns-in_err-append-clause-unchanged c =
+    let p = err_from_is_err_and c.from_residual.result c.from_residual.ensures.1 in
+    rw p.1 (seen_same c.self.inside.block_size c.self.inside.part c.append.new.self c.self.inside.held c.self-1.given.0 c.in_err-append.ensures.unchanged ∙ c.self.view_is)
+
+pub returns-clause-taken : goal.returns-clause-taken
+returns-clause-taken c = λ _. seen_longer c.self.inside.block_size c.shared-shared.result c.self.inside.part c.append.new.self c.args.entry c.self.inside.held c.self-1.given.0
+    (leaves c.before.before.before.before) (fits_row c.before.before.before.before) (space c.before.before.before.before) c.in_ok-append.ensures.appended
+    ∙ ap (λ (b : Building). with_row b c.args.entry) c.self.view_is

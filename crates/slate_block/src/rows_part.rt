@@ -1,0 +1,186 @@
+//! The rows' part of a block that is being built, and its offsets.
+ghost use Rattle.std.specs.Prelude.{◌≡◌, ◌≤◌, ◌<◌, ◌+◌, ◌*◌, ◌^◌, ◌++◌, length, IfOk, OnOk, OnErr, IsOkUnless};
+ghost use Rattle.slate_block.specs.RowSpelling.{v1_bytes, v2_bytes, stamp_bytes};
+ghost use Rattle.slate_block.specs.BlockSpelling.{entry_v1, entry_v2, is_restart};
+ghost use Rattle.slate_block.specs.Building.{CanTake, number, row_bytes, is_named, named, part_size, has_room, next_front, IsSamePart, IsLongerPart};
+
+use crate::codec_v0::SstRowCodecV0;
+use crate::codec_v2::SstRowCodecV2;
+use crate::row::{SstRowEntry, SstRowEntryV2};
+use crate::varint::varint_len;
+use bytes::Bytes;
+use slate_types::{RowEntry, SlateDBError};
+
+/// In version 2 every row that shares nothing stands so many rows behind the one before it.
+const RESTART_INTERVAL: u16 = 16;
+
+/// How rows are spelled.
+#[derive(Clone, Copy)]
+pub enum Version {
+    V1,
+    V2,
+}
+
+/// What is kept of the rows that were taken.
+#[derive(Drop)]
+pub struct RowsPart {
+    pub version: Version,
+    pub body: Vec<u8>,
+    pub offsets: Vec<u16>,
+    pub num_rows: u16,
+    /// The key whose front the next row leaves out: the first one in version 1, the last one in version 2, and none at a
+    /// restart.
+    pub front_key: Bytes,
+}
+
+impl RowsPart {
+    /// The size that is held to the block size, where a row is taken that leaves out so many bytes of its key.
+    fn size_with(&self, shared: usize, entry: &RowEntry) -> u64
+        requires lengths { CanTake entry.now }
+        requires shared { shared ≤ length entry.now.key }
+        requires offsets { length self.now.offsets.items < 2 ^ 16 }
+        ensures { result ≡ part_size shared self.now entry.now }
+    {
+        let offsets = self.offsets.len() as u64;
+        let rows = self.body.len() as u64;
+        match self.version {
+            Version::V1 => 2 + 2 * offsets + rows + entry.encoded_size(shared),
+            Version::V2 => {
+                let restart = u64::from(is_restart(self.num_rows));
+                2 + 2 * (offsets + restart) + rows + encoded_size_v2(shared, entry)
+            }
+        }
+    }
+
+    /// Whether a row that leaves out so many bytes of its key is within the block size. The first row always is.
+    pub fn has_room(&self, block_size: u32, shared: usize, entry: &RowEntry) -> bool
+        requires lengths { CanTake entry.now }
+        requires shared { shared ≤ length entry.now.key }
+        requires offsets { length self.now.offsets.items < 2 ^ 16 }
+        ensures { result ≡ has_room block_size shared self.now entry.now }
+    {
+        self.num_rows == 0 || self.size_with(shared, entry) <= u64::from(block_size)
+    }
+
+    /// Whether the next row's place is one of the offsets.
+    fn names_next(&self) -> bool
+        ensures { result ≡ is_named (number self.now.version) self.now.num_rows }
+    {
+        match self.version {
+            Version::V1 => true,
+            Version::V2 => is_restart(self.num_rows),
+        }
+    }
+
+    /// Takes a row that leaves out so many bytes of its key. `OutOfMemory` leaves all as it was.
+    pub fn append(&mut self, shared: usize, entry: RowEntry) -> Result<(), SlateDBError>
+        requires lengths { CanTake entry }
+        requires shared { shared ≤ length entry.key }
+        requires place { length self.old.body.items < 2 ^ 16 }
+        requires few { self.old.num_rows + 1 < 2 ^ 16 }
+        ensures appended { OnOk result (IsLongerPart self.old shared entry self.new) }
+        ensures unchanged { OnErr result (IsSamePart self.old self.new) }
+        ensures cause { IsOkUnless result SlateDBError.OutOfMemory }
+    {
+        let place = self.body.len() as u16;
+        self.offsets.reserve(1)?;
+        let key = match self.version {
+            Version::V1 => append_v1(&mut self.body, shared, entry)?,
+            Version::V2 => append_v2(&mut self.body, shared, entry)?,
+        };
+        if self.names_next() {
+            self.offsets.push_reserved(place);
+        }
+        self.follow(key);
+        Ok(())
+    }
+
+    /// Counts a row with this key.
+    fn follow(&mut self, key: Bytes)
+        requires { self.old.num_rows + 1 < 2 ^ 16 }
+        ensures version { self.new.version ≡ self.old.version }
+        ensures body { self.new.body ≡ self.old.body }
+        ensures offsets { self.new.offsets ≡ self.old.offsets }
+        ensures count { self.new.num_rows ≡ self.old.num_rows + 1 }
+        ensures front { self.new.front_key ≡ next_front (number self.old.version) self.old.num_rows self.old.front_key key }
+    {
+        let is_first = self.num_rows == 0;
+        self.num_rows += 1;
+        match self.version {
+            Version::V1 if !is_first => {}
+            Version::V2 if is_restart(self.num_rows) => self.front_key = Bytes::new(),
+            _ => self.front_key = key,
+        }
+    }
+}
+
+/// Whether the row behind so many others shares nothing in version 2.
+fn is_restart(num_rows: u16) -> bool
+    ensures { result ≡ is_restart num_rows }
+{
+    num_rows.is_multiple_of(RESTART_INTERVAL)
+}
+
+/// The bytes of a row in version 2.
+fn encoded_size_v2(shared: usize, entry: &RowEntry) -> u64
+    requires lengths { CanTake entry.now }
+    requires shared { shared ≤ length entry.now.key }
+    ensures value { result ≡ length (v2_bytes (entry_v2 shared entry.now)) }
+    ensures bound { result < 2 ^ 33 }
+{
+    let suffix = entry.key.len() - shared;
+    let value = entry.value.len();
+    let lengths = varint_len(shared as u32) + varint_len(suffix as u32) + varint_len(value as u32);
+    let stamps = stamp_size(entry.expire_ts) + stamp_size(entry.create_ts);
+    (lengths + suffix + value + 8 + 1 + stamps) as u64
+}
+
+/// The bytes of a stamp, where there is one.
+fn stamp_size(stamp: Option<i64>) -> usize
+    ensures value { result ≡ length (stamp_bytes stamp) }
+    ensures bound { result ≤ 8 }
+{
+    if stamp.is_some() { 8 } else { 0 }
+}
+
+/// Appends a row in version 1, and gives its key back. `OutOfMemory` leaves `out` as it was.
+fn append_v1(out: &mut Vec<u8>, shared: usize, entry: RowEntry) -> Result<Bytes, SlateDBError>
+    requires lengths { CanTake entry }
+    requires shared { shared ≤ length entry.key }
+    ensures key { IfOk result (λ key. key ≡ entry.key) }
+    ensures appended { OnOk result (out.new.items ≡ out.old.items ++ v1_bytes (entry_v1 shared entry)) }
+    ensures unchanged { OnErr result (out.new.items ≡ out.old.items) }
+    ensures cause { IsOkUnless result SlateDBError.OutOfMemory }
+{
+    let row = SstRowEntry {
+        key_prefix_len: shared as u16,
+        key_suffix: entry.key.slice(shared..)?,
+        seq: entry.seq,
+        expire_ts: entry.expire_ts,
+        create_ts: entry.create_ts,
+        value: entry.value,
+    };
+    SstRowCodecV0::encode(out, &row)?;
+    Ok(entry.key)
+}
+
+/// Appends a row in version 2, and gives its key back. `OutOfMemory` leaves `out` as it was.
+fn append_v2(out: &mut Vec<u8>, shared: usize, entry: RowEntry) -> Result<Bytes, SlateDBError>
+    requires lengths { CanTake entry }
+    requires shared { shared ≤ length entry.key }
+    ensures key { IfOk result (λ key. key ≡ entry.key) }
+    ensures appended { OnOk result (out.new.items ≡ out.old.items ++ v2_bytes (entry_v2 shared entry)) }
+    ensures unchanged { OnErr result (out.new.items ≡ out.old.items) }
+    ensures cause { IsOkUnless result SlateDBError.OutOfMemory }
+{
+    let row = SstRowEntryV2 {
+        shared_bytes: shared as u32,
+        key_suffix: entry.key.slice(shared..)?,
+        seq: entry.seq,
+        expire_ts: entry.expire_ts,
+        create_ts: entry.create_ts,
+        value: entry.value,
+    };
+    SstRowCodecV2::encode(out, &row)?;
+    Ok(entry.key)
+}
