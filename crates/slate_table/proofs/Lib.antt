@@ -1,3 +1,4 @@
+pub mod Cuttings
 pub mod IndexWrites
 pub mod Separators
 pub mod IndexReads
