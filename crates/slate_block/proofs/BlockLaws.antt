@@ -38,7 +38,7 @@ next_v2 : (a b x y : List ℕ) (e f : SstRowEntryV2) → IsRowV2 a e → IsRowV2
 next_v2 a b x y e f s t h = same_row_v2 e f x y s.0 t.0 (ap (λ l. l ++ x) (sym s.1) ∙ h ∙ ap (λ l. l ++ y) t.1)
 
 -- no row has no bytes
-some_v1 : (b x : List ℕ) (e : SstRowEntry) → IsRowV1 b e → [] ≡ b ++ x → ⊥
+pub some_v1 : (b x : List ℕ) (e : SstRowEntry) → IsRowV1 b e → [] ≡ b ++ x → ⊥
 some_v1 b x e s h = let n = ap (λ l. length l) (h ∙ ap (λ l. l ++ x) s.2) in absurd (omega (arith, n))
 
 pub some_v2 : (b x : List ℕ) (e : SstRowEntryV2) → IsRowV2 b e → [] ≡ b ++ x → ⊥
@@ -116,7 +116,7 @@ same_rows version bs cs (r ∷ rs) (s ∷ ss) (inr p) (inr q) h = same_rows_v2 0
 
 -- ---- the bytes of a block
 
-two_bytes_each : (ats : List ℕ) → length (flat_map be16 ats) ≡ 2 * length ats
+pub two_bytes_each : (ats : List ℕ) → length (flat_map be16 ats) ≡ 2 * length ats
 two_bytes_each [] = refl
 two_bytes_each (at ∷ ats) = let rest = two_bytes_each ats in omega (arith, rest)
 

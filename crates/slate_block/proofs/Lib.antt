@@ -16,3 +16,4 @@ pub mod HeldOnce
 pub mod RowMore
 pub mod RowSizes
 pub mod HeldLaws
+pub mod ApartLaws

@@ -3,6 +3,8 @@
 --     VarintsAreFound      the number that is found is the one whose spelling begins the bytes; none is found where none does
 --     RowsOfV1AreFound, RowsOfV2AreFound, KeysOfV2AreFound      nothing is refused exactly where a row begins the bytes
 --     BlocksComeApart      nothing is refused exactly where the bytes are a rows' part and its offsets
+--     BlocksAreTakenApart      a block's bytes come apart into its rows' part and its offsets, and what comes apart into these is the block
+--     BytesComeApartOnce      bytes come apart in one way
 --     WalkedRowsAreBlocks1, WalkedRowsAreBlocks2      a walk is refused nowhere exactly where the rows' part and the offsets are those of a block, and reads its rows
 use Rattle.std.specs.Prelude.{◌≡◌, ◌↔◌, ℕ, ◌<◌, ◌^◌, List, ◌++◌, length, slice_index, Some, None, Ok}
 use Rattle.slate_block.specs.declared.row.SstRowEntry.{SstRowEntry}
@@ -12,7 +14,7 @@ use Rattle.slate_block.specs.Damage.{front_varint}
 use Rattle.slate_block.specs.BlockReading.{IsApart, offsets_of_block}
 use Rattle.std.specs.List.{AllByRecursion}
 use Rattle.slate_types.specs.declared.types.RowEntry.{RowEntry}
-use Rattle.slate_block.specs.BlockSpelling.{IsBlockOf}
+use Rattle.slate_block.specs.BlockSpelling.{IsBlockOf, IsBlock, block_spelling}
 use Rattle.slate_block.specs.Walks.{block_rows}
 use Rattle.slate_block.specs.RowReading.{row_v1_of, row_v2_of, key_v2_of, refusal, BeginsV1, BeginsV2, BeginsKeyV2}
 
@@ -34,6 +36,13 @@ KeysOfV2AreFound = (bytes : List ℕ) → EachIsAByte bytes → (refusal (key_v2
 
 abbrev pub BlocksComeApart : Type 0
 BlocksComeApart = (bytes : List ℕ) → EachIsAByte bytes → (refusal (offsets_of_block bytes) ≡ None) ↔ ((body : List ℕ) × (offsets : List ℕ) × IsApart body offsets bytes)
+
+abbrev pub BlocksAreTakenApart : Type 0
+BlocksAreTakenApart = (body offsets bytes : List ℕ) (version : ℕ) (rows : List RowEntry) → IsBlockOf body offsets version rows →
+    (bytes ≡ block_spelling body offsets → IsApart body offsets bytes) × (IsApart body offsets bytes → IsBlock bytes version rows)
+
+abbrev pub BytesComeApartOnce : Type 0
+BytesComeApartOnce = (body offsets other places bytes : List ℕ) → IsApart body offsets bytes → IsApart other places bytes → (body ≡ other) × (offsets ≡ places)
 
 abbrev pub WalksRead : ℕ → Type 0
 WalksRead version = (body offsets : List ℕ) (rows : List RowEntry) → EachIsAByte body → AllByRecursion (λ at. at < 2 ^ 16) offsets →

@@ -83,7 +83,7 @@ fn offsets_size(offsets: &[u16]) -> u64
 }
 
 /// How many rows of each kind a block has.
-#[derive(Clone, Copy, Debug, PartialEq, Eq)]
+#[derive(Clone, Copy, Debug, Default, PartialEq, Eq)]
 pub struct BlockStats {
     pub num_puts: u16,
     pub num_deletes: u16,

@@ -1,6 +1,8 @@
 //! What readers of numbers and rows find, proved.
 ghost use Rattle.slate_block.specs.ReadingLaws.{
+  BlocksAreTakenApart,
   BlocksComeApart,
+  BytesComeApartOnce,
   KeysOfV2AreFound,
   RowsOfV1AreFound,
   RowsOfV2AreFound,
@@ -30,4 +32,14 @@ pub fn keys_of_v2_are_found()
 /// No rows' part with its offsets is refused, and nothing else is taken apart.
 pub fn blocks_come_apart()
     ensures { BlocksComeApart }
+{}
+
+/// A built block's bytes come apart into its rows' part and its offsets, and what comes apart into these is the block.
+pub fn blocks_are_taken_apart()
+    ensures { BlocksAreTakenApart }
+{}
+
+/// Bytes come apart in one way, so that a decoded block is the one that was encoded.
+pub fn bytes_come_apart_once()
+    ensures { BytesComeApartOnce }
 {}
