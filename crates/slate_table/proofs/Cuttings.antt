@@ -32,18 +32,16 @@ snoc_last ended (q ∷ qs) r = refl
 run_from : (size version : ℕ) (ended : List (List RowEntry)) (block : List RowEntry) (r : RowEntry) (rows : List RowEntry) →
     all_blocks (fold (cut_more size version) (record { ended = ended; filling = block ++ r ∷ [] }) rows) ≡ ended ++ cut_from size version (block ++ r ∷ []) rows
 run_from size version ended block r [] = snoc_last ended block r
-run_from size version ended block r (q ∷ rows) = by (fits_in size version (block ++ r ∷ []) q) refl
+run_from size version ended block r (q ∷ rows) =
+    by (fits_in size version (block ++ r ∷ []) q) (run_from size version ended (block ++ r ∷ []) q rows)
+    (run_from size version (ended ++ (block ++ r ∷ []) ∷ []) [] q rows ∙ append_assoc ended ((block ++ r ∷ []) ∷ []) (cut_from size version (q ∷ []) rows))
   where
-    here : List RowEntry
-    here = block ++ r ∷ []
-
-    start : Bool → Cutting
-    start t = cond t (record { ended = ended; filling = here ++ q ∷ [] }) (record { ended = ended ++ here ∷ []; filling = q ∷ [] })
-
-    by : (t : Bool) → fits_in size version here q ≡ t → all_blocks (fold (cut_more size version) (cond t (record { ended = ended; filling = here ++ q ∷ [] }) (record { ended = ended ++ here ∷ []; filling = q ∷ [] })) rows)
-        ≡ ended ++ cond t (cut_from size version (here ++ (q ∷ [])) rows) (here ∷ cut_from size version (q ∷ []) rows)
-    by true h = run_from size version ended here q rows
-    by false h = run_from size version (ended ++ here ∷ []) [] q rows ∙ append_assoc ended (here ∷ []) (cut_from size version (q ∷ []) rows)
+    by : (t : Bool) → all_blocks (fold (cut_more size version) (record { ended = ended; filling = (block ++ r ∷ []) ++ q ∷ [] }) rows) ≡ ended ++ cut_from size version ((block ++ r ∷ []) ++ (q ∷ [])) rows →
+        all_blocks (fold (cut_more size version) (record { ended = ended ++ (block ++ r ∷ []) ∷ []; filling = q ∷ [] }) rows) ≡ ended ++ ((block ++ r ∷ []) ∷ cut_from size version (q ∷ []) rows) →
+        all_blocks (fold (cut_more size version) (cond t (record { ended = ended; filling = (block ++ r ∷ []) ++ q ∷ [] }) (record { ended = ended ++ (block ++ r ∷ []) ∷ []; filling = q ∷ [] })) rows)
+        ≡ ended ++ cond t (cut_from size version ((block ++ r ∷ []) ++ (q ∷ [])) rows) ((block ++ r ∷ []) ∷ cut_from size version (q ∷ []) rows)
+    by true same next = same
+    by false same next = next
 
 pub cut_is : (size version : ℕ) (rows : List RowEntry) → all_blocks (cutting size version rows) ≡ cut size version rows
 unfolding cutting
@@ -55,9 +53,6 @@ cut_is size version (r ∷ rows) = run_from size version [] [] r rows
 more_rows : (size version : ℕ) (c : Cutting) (r : RowEntry) → flat_map (λ b. b) (cut_more size version c r).ended ++ (cut_more size version c r).filling ≡ (flat_map (λ b. b) c.ended ++ c.filling) ++ r ∷ []
 more_rows size version c r = by (fits_in size version c.filling r)
   where
-    next : Bool → Cutting
-    next t = cond t (record { ended = c.ended; filling = c.filling ++ r ∷ [] }) (record { ended = c.ended ++ c.filling ∷ []; filling = r ∷ [] })
-
     by : (t : Bool) → flat_map (λ b. b) (cond {A = Cutting} t (record { ended = c.ended; filling = c.filling ++ r ∷ [] }) (record { ended = c.ended ++ c.filling ∷ []; filling = r ∷ [] })).ended
         ++ (cond {A = Cutting} t (record { ended = c.ended; filling = c.filling ++ r ∷ [] }) (record { ended = c.ended ++ c.filling ∷ []; filling = r ∷ [] })).filling ≡ (flat_map (λ b. b) c.ended ++ c.filling) ++ r ∷ []
     by true = sym (append_assoc (flat_map (λ b. b) c.ended) c.filling (r ∷ []))
@@ -111,7 +106,7 @@ pub separators_next : (ended : List (List RowEntry)) (filling : List RowEntry) (
 separators_next ended filling r h =
     let old = with_begun ended filling h in
     separators_behind ended filling (r ∷ [])
-    ∙ (λ i. separators (old (~ i)) ++ separator (last_key [] (flat_last ended filling i)) r.key ∷ [])
+    ∙ (λ i. separators (sym old i) ++ separator (last_key [] (flat_last ended filling i)) r.key ∷ [])
 
 later_first : (k : List ℕ) (bs : List (List RowEntry)) (b c : List RowEntry) → first_key b ≡ first_key c → later_separators k (bs ++ b ∷ []) ≡ later_separators k (bs ++ c ∷ [])
 later_first k [] b c h = ap (λ (l : List ℕ). separator k l ∷ []) h

@@ -49,5 +49,5 @@ pub record AreEncoded (encode : Encode) (b : TableBuilding) : Type 0 where
   pub offsets : b.offsets ≡ places 0 (block_sections encode b.version (cut_rows b).ended)
 
 abbrev pub encode_by : {T : Type 0} → (T → List ℕ → List ℕ) → Option T → List ℕ → List ℕ
-encode_by encoded None bytes = bytes
-encode_by encoded (Some t) bytes = encoded t bytes
+encode_by encoded None = λ bytes. bytes
+encode_by encoded (Some t) = encoded t
