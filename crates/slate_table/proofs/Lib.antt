@@ -1,3 +1,4 @@
+pub mod PartsLaws
 pub mod Cuttings
 pub mod IndexWrites
 pub mod Separators
