@@ -12,3 +12,5 @@ pub mod CutLaws
 mod CrcLaws
 mod Grown
 mod StatsReads
+mod InfoReads
+mod SectionReads

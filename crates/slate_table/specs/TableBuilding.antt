@@ -5,10 +5,9 @@
 --     all_blocks c      the blocks of a cutting, the last one not ended
 --     TableBuilding      what a builder is seen as: its version, its block size, the rows that were added, the sections of the
 --                        blocks that were ended and where they begin, and whether more may be added
---     ended_blocks b      those blocks
---     AreEncoded encode b      their sections were made by this transformer
---     encode_by encoded transformer      what a transformer that may be missing makes of bytes
-use Rattle.std.specs.Prelude.{◌≡◌, ℕ, Bool, if◌then◌else◌, List, [], ◌∷◌, ◌++◌, fold, flat_map, Option, Some, None}
+--     AreSections encode version blocks bytes offsets      the bytes are the sections of the blocks, which begin at the offsets
+--     AreEncoded encode b      the sections of the blocks that were ended were made by this transformer
+use Rattle.std.specs.Prelude.{◌≡◌, ℕ, Bool, if◌then◌else◌, List, [], ◌∷◌, ◌++◌, fold, flat_map}
 use Rattle.slate_types.specs.declared.types.RowEntry.{RowEntry}
 use Rattle.slate_block.specs.BlockSpelling.{places}
 use Rattle.slate_block.specs.Fitting.{fits_in}
@@ -44,10 +43,9 @@ pub record TableBuilding : Type 0 where
 abbrev pub cut_rows : TableBuilding → Cutting
 cut_rows b = cutting b.size b.version b.rows
 
-pub record AreEncoded (encode : Encode) (b : TableBuilding) : Type 0 where
-  pub bytes : b.bytes ≡ flat_map (λ s. s) (block_sections encode b.version (cut_rows b).ended)
-  pub offsets : b.offsets ≡ places 0 (block_sections encode b.version (cut_rows b).ended)
+pub record AreSections (encode : Encode) (version : ℕ) (blocks : List (List RowEntry)) (bytes offsets : List ℕ) : Type 0 where
+  pub bytes : bytes ≡ flat_map (λ s. s) (block_sections encode version blocks)
+  pub offsets : offsets ≡ places 0 (block_sections encode version blocks)
 
-abbrev pub encode_by : {T : Type 0} → (T → List ℕ → List ℕ) → Option T → List ℕ → List ℕ
-encode_by encoded None = λ bytes. bytes
-encode_by encoded (Some t) = encoded t
+abbrev pub AreEncoded : Encode → TableBuilding → Type 0
+AreEncoded encode b = AreSections encode b.version (cut_rows b).ended b.bytes b.offsets

@@ -2,6 +2,7 @@
 --     version_of format      the number of a block format
 --     separator_behind rows key      the separator of a block that begins with a key behind these rows
 --     cut_parts p      the rows, cut one after the other
+--     seen p is_whole      the builder that keeps it
 --     StandsOn c p, Stands p      what is kept is that of the rows, so cut
 --     IsEnded encode old new      the block was ended, and its section stands behind the others
 --     IsTaken old r new      the row was taken into the block, where it fits
@@ -19,7 +20,7 @@ use Rattle.slate_block.specs.Fitting.{fits_in}
 use Rattle.slate_table.specs.declared.table_parts.TableParts.{TableParts}
 use Rattle.slate_table.specs.Parts.{Encode, section, separator, separators, last_key}
 use Rattle.slate_table.specs.Table.{AreInOrder}
-use Rattle.slate_table.specs.TableBuilding.{Cutting, cutting, all_blocks}
+use Rattle.slate_table.specs.TableBuilding.{Cutting, cutting, all_blocks, TableBuilding}
 
 abbrev pub version_of : BlockFormat → ℕ
 version_of V1 = 1
@@ -32,6 +33,9 @@ separator_behind (r ∷ rs) key = separator (last_key [] (r ∷ rs)) key
 
 abbrev pub cut_parts : TableParts → Cutting
 cut_parts p = cutting p.block_size (version_of p.format) p.rows.items
+
+abbrev pub seen : TableParts → Bool → TableBuilding
+seen p is_whole = record { version = version_of p.format; size = p.block_size; rows = p.rows.items; bytes = p.bytes.items; offsets = p.offsets.items; is_whole = is_whole }
 
 abbrev pub filled : TableParts → List RowEntry → Building
 filled p rows = record { version = version_of p.format; size = p.block_size; rows = rows }

@@ -1,6 +1,6 @@
 //! What a table builder keeps.
 ghost use Rattle.std.specs.Prelude.{◌≡◌, ◌≤◌, ◌<◌, ◌+◌, ◌-◌, ◌^◌, ◌⊎◌, ◌==◌, ◌++◌, ◌∷◌, if◌then◌else◌, ℕ, List, [], Ok, Err, true, false, length, OnOk, IfOk, IfErr, IsOkUnless};
-ghost use Rattle.slate_types.specs.Faults.{Rose, faults_of};
+ghost use Rattle.slate_types.specs.Faults.{faults_of};
 ghost use Rattle.slate_types.specs.Rows.{operand};
 ghost use Rattle.slate_block.specs.Building.{CanTake, with_row};
 ghost use Rattle.slate_block.specs.Fitting.{fits_in};
@@ -8,10 +8,10 @@ ghost use Rattle.slate_types.specs.declared.types.RowEntry.{RowEntry};
 ghost use Rattle.slate_block.specs.BlockSpelling.{block_bytes};
 ghost use Rattle.slate_block.specs.Counting.{stats_of};
 ghost use Rattle.slate_table.specs.Parts.{section};
-ghost use Rattle.slate_table.specs.TableBuilding.{encode_by};
+ghost use Rattle.slate_table.specs.SectionReading.{changed_by, IsTransformFault};
 ghost use Rattle.slate_table.specs.TableParts.{version_of, separator_behind, fits_parts, IsEnded, IsTaken, IsPastLimit, IsWithinLimits};
 
-use crate::sealing::append_section;
+use crate::section::seal_section;
 use crate::separator::separator;
 use bytes::Bytes;
 use slate_block::{BlockBuilder, BlockBuilderWithStats, BlockStats};
@@ -88,17 +88,18 @@ impl TableParts {
         requires some { 0 < self.old.block_size }
         requires few { self.old.block_size ≤ 65535 }
         requires row { 0 < length self.old.block.builder.rows }
-        ensures ended { OnOk result (IsEnded (encode_by T.encoded transformer.old) self.old self.new) }
-        ensures size { IfOk result (λ size. size ≡ length (section (encode_by T.encoded transformer.old) (block_bytes self.old.block.builder.version self.old.block.builder.rows))) }
-        ensures same { encode_by T.encoded transformer.new ≡ encode_by T.encoded transformer.old }
+        ensures ended { OnOk result (IsEnded (changed_by T.encoded transformer.old) self.old self.new) }
+        ensures size { IfOk result (λ size. size ≡ length (section (changed_by T.encoded transformer.old) (block_bytes self.old.block.builder.version self.old.block.builder.rows))) }
+        ensures same_encoded { changed_by T.encoded transformer.new ≡ changed_by T.encoded transformer.old }
+        ensures same_decoded { changed_by T.decoded transformer.new ≡ changed_by T.decoded transformer.old }
         ensures later { faults_of T.faults transformer.old ≤ faults_of T.faults transformer.new }
-        ensures cause { IfErr result (λ e. (e ≡ SlateDBError.OutOfMemory) ⊎ ((e ≡ SlateDBError.BlockTransformError) × Rose (faults_of T.faults transformer.old) (faults_of T.faults transformer.new))) }
+        ensures cause { IfErr result (λ e. IsTransformFault (faults_of T.faults transformer.old) (faults_of T.faults transformer.new) e) }
     {
         let empty = new_block(alloc, self.format, self.block_size)?;
         let (builder, stats) = mem::replace(&mut self.block, empty).into_parts();
         let part = builder.build()?.encode(alloc)?;
         let begin = self.bytes.len();
-        append_section(alloc, &mut self.bytes, part, transformer)?;
+        seal_section(alloc, &mut self.bytes, part, transformer)?;
         self.offsets.push(begin as u64)?;
         self.block_stats.push(stats)?;
         Ok((self.bytes.len() - begin) as u64)

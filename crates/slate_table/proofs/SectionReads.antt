@@ -1,0 +1,95 @@
+-- A part and its checksum are read exactly where they are spelled.
+use Rattle.std.proofs.Common.{◌≡◌, ℕ, zero, suc, ◌+◌, ◌-◌, ◌/◌, ◌%◌, ◌^◌, ◌<◌, ◌≤◌, Bool, true, false, cond, eqb, ltb, List, [], ◌∷◌, ◌++◌, length, get_or, take, drop, Result, Ok, Err, refl, sym, ap, subst, ◌∙◌, ◌⊎◌, inl, inr, arith}
+use Rattle.std.specs.Prelude.{bit_xor}
+use Rattle.std.specs.Int.{w16, w32, w64, from_be_bytes}
+use Rattle.std.proofs.lemmas.Bool.{eqb-true, eq-eqb, ltb-false, le-ltb}
+use Rattle.std.proofs.lemmas.List.{append-nil, length-append, length-drop, length-take, take-append-drop, take_at, drop_at, nil_from_length}
+use Rattle.std.proofs.lemmas.Nat.{xor_lt}
+use Rattle.slate_types.specs.declared.error.SlateDBError.{SlateDBError}
+use Rattle.slate_types.specs.declared.error.SlateDBError.TheVariants.{CorruptTable, ChecksumMismatch}
+use Rattle.slate_block.specs.RowSpelling.{be16, be32, be64}
+use Rattle.slate_block.specs.Damage.{number_field}
+use Rattle.slate_block.proofs.Groups.{IsBytes}
+use Rattle.slate_block.proofs.FieldLaws.{IsBytes-drop, ok_is, wide16, wide32, wide64, number_takes}
+use Rattle.slate_block.proofs.ReadingLaws.{then}
+use Rattle.slate_table.specs.Checksum.{crc_bit, crc_bits, crc_from, crc32}
+use Rattle.slate_table.specs.Parts.{summed}
+use Rattle.slate_table.specs.SectionReading.{part_of_sum, stored_sum, part_in}
+
+-- ---- a checksum has 32 bits
+
+bit_below : (c : ℕ) → c < 2 ^ 32 → crc_bit c < 2 ^ 32
+bit_below c lt = by (eqb (c % 2) 1)
+  where
+    by : (t : Bool) → cond t (bit_xor (c / 2) 0xedb88320) (c / 2) < 2 ^ 32
+    by true = xor_lt 32 (c / 2) 0xedb88320 (omega arith) (omega arith)
+    by false = omega arith
+
+bits_below : (n c : ℕ) → c < 2 ^ 32 → crc_bits n c < 2 ^ 32
+bits_below zero c lt = lt
+bits_below (suc n) c lt = bits_below n (crc_bit c) (bit_below c lt)
+
+from_below : (c : ℕ) (bs : List ℕ) → c < 2 ^ 32 → IsBytes bs → crc_from c bs < 2 ^ 32
+from_below c [] lt fits = lt
+from_below c (b ∷ bs) lt fits =
+    let first : b < 256 = fits 0 in
+    from_below (crc_bits 8 (bit_xor c b)) bs (bits_below 8 (bit_xor c b) (xor_lt 32 c b lt (omega arith))) (λ i. fits (suc i))
+
+pub crc32_below : (bs : List ℕ) → IsBytes bs → crc32 bs < 2 ^ 32
+crc32_below bs fits = xor_lt 32 (crc_from 0xffffffff bs) 0xffffffff (from_below 0xffffffff bs (omega arith) fits) (omega arith)
+
+-- ---- a part
+
+cases : (t s : Bool) (a b : SlateDBError) (x y : List ℕ) → cond t (Err a) (cond s (Ok x) (Err b)) ≡ Ok y → (t ≡ false) × (s ≡ true) × (x ≡ y)
+cases true s a b x y h = absurd cc
+cases false true a b x y h = (refl, refl, ok_is x y h)
+cases false false a b x y h = absurd cc
+
+pub part_is_front : (bytes part : List ℕ) → part_in bytes ≡ Ok part → part ≡ part_of_sum bytes
+unfolding part_in
+part_is_front bytes part h =
+    sym (cases (ltb (length bytes) 4) (eqb (stored_sum bytes) (crc32 (part_of_sum bytes))) (CorruptTable 0) (ChecksumMismatch (stored_sum bytes) (crc32 (part_of_sum bytes))) (part_of_sum bytes) part h).2
+
+pub part_reads : (bytes part : List ℕ) → IsBytes bytes → part_in bytes ≡ Ok part → bytes ≡ summed part
+unfolding part_in
+part_reads bytes part fits h =
+    let g = cases (ltb (length bytes) 4) (eqb (stored_sum bytes) (crc32 (part_of_sum bytes))) (CorruptTable 0) (ChecksumMismatch (stored_sum bytes) (crc32 (part_of_sum bytes))) (part_of_sum bytes) part h in
+    let long : 4 ≤ length bytes = ltb-false (length bytes) 4 g.0 in
+    let tail = drop (length bytes - 4) bytes in
+    let size : length tail ≡ 4 = omega (arith, length-drop (length bytes - 4) bytes) in
+    let back : be32 (stored_sum bytes) ≡ tail = wide32.back tail size (IsBytes-drop (length bytes - 4) bytes fits) in
+    let sum : stored_sum bytes ≡ crc32 (part_of_sum bytes) = eqb-true (stored_sum bytes) (crc32 (part_of_sum bytes)) g.1 in
+    sym (take-append-drop (length bytes - 4) bytes) ∙ ap (λ (l : List ℕ). part_of_sum bytes ++ l) (sym back ∙ ap be32 sum) ∙ ap summed g.2
+
+front_bytes : (a b : List ℕ) → IsBytes (a ++ b) → IsBytes a
+front_bytes [] b fits i = omega arith
+front_bytes (x ∷ a) b fits zero = fits 0
+front_bytes (x ∷ a) b fits (suc i) = front_bytes a b (λ j. fits (suc j)) i
+
+pub part_again : (bytes part : List ℕ) → IsBytes bytes → bytes ≡ summed part → part_in bytes ≡ Ok part
+unfolding part_in
+part_again bytes part fits h =
+    let whole : length bytes ≡ length part + 4 = ap length h ∙ length-append part (be32 (crc32 part)) in
+    let place : length bytes - 4 ≡ length part = omega (arith, whole) in
+    let long : ltb (length bytes) 4 ≡ false = le-ltb (length bytes) 4 (omega (arith, whole)) in
+    let front : part_of_sum bytes ≡ part = (λ i. take (place i) (h i)) ∙ take_at part (be32 (crc32 part)) (length part) refl in
+    let tail : drop (length bytes - 4) bytes ≡ be32 (crc32 part) = (λ i. drop (place i) (h i)) ∙ drop_at part (be32 (crc32 part)) (length part) refl in
+    let below : crc32 part < 2 ^ 32 = crc32_below part (front_bytes part (be32 (crc32 part)) (subst IsBytes h fits)) in
+    let sum : stored_sum bytes ≡ crc32 part = ap (from_be_bytes w32) tail ∙ wide32.again (crc32 part) below in
+    let same : eqb (stored_sum bytes) (crc32 (part_of_sum bytes)) ≡ true = eq-eqb (stored_sum bytes) (crc32 (part_of_sum bytes)) (sum ∙ ap crc32 (sym front)) in
+    rw (long, same) (ap (λ (l : List ℕ). Ok l) front)
+
+pub refused_part : (bytes slice part : List ℕ) (d m : SlateDBError) → IsBytes slice → slice ≡ bytes → part_in slice ≡ Err d → bytes ≡ summed part → d ≡ m
+refused_part bytes slice part d m fits same h is =
+    let clash : Ok part ≡ Err d = sym (part_again slice part fits (same ∙ is)) ∙ h in absurd cc
+
+-- ---- the last bytes
+
+pub footer_spelled : (bytes : List ℕ) (offset at version next : ℕ) → IsBytes bytes → length bytes ≡ 10 → number_field w64 bytes 0 ≡ Ok (offset, at) → number_field w16 bytes at ≡ Ok (version, next) →
+    bytes ≡ be64 offset ++ be16 version
+footer_spelled bytes offset at version next fits size first second =
+    let t0 = number_takes w64 (2 ^ 64) wide64 bytes 0 offset at fits first in
+    let t1 = number_takes w16 (2 ^ 16) wide16 bytes at version next fits second in
+    let whole = then bytes 0 (be64 offset) at (be16 version) next t0.0 t1.0 in
+    let nothing : drop next bytes ≡ [] = nil_from_length (drop next bytes) (omega (arith, length-drop next bytes, whole.place)) in
+    whole.parts ∙ ap (λ (l : List ℕ). (be64 offset ++ be16 version) ++ l) nothing
