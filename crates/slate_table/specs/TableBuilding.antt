@@ -6,13 +6,17 @@
 --     TableBuilding      what a builder is seen as: its version, its block size, the rows that were added, the sections of the
 --                        blocks that were ended and where they begin, and whether more may be added
 --     AreSections encode version blocks bytes offsets      the bytes are the sections of the blocks, which begin at the offsets
+--     begun version size      a builder with no row
+--     section_size encode b r      the size of the section of the block that a row ends
+--     IsLimit b r limit      what a row would pass
 --     AreEncoded encode b      the sections of the blocks that were ended were made by this transformer
-use Rattle.std.specs.Prelude.{◌≡◌, ℕ, Bool, if◌then◌else◌, List, [], ◌∷◌, ◌++◌, fold, flat_map}
+use Rattle.std.specs.Prelude.{◌≡◌, ℕ, ◌-◌, ◌^◌, ◌<◌, ◌≤◌, ◌⊎◌, Bool, true, if◌then◌else◌, List, [], ◌∷◌, ◌++◌, length, sum_by, fold, flat_map, Option, Some, None}
 use Rattle.slate_types.specs.declared.types.RowEntry.{RowEntry}
-use Rattle.slate_block.specs.BlockSpelling.{places}
+use Rattle.slate_types.specs.Rows.{operand}
+use Rattle.slate_block.specs.BlockSpelling.{places, block_bytes}
 use Rattle.slate_block.specs.Fitting.{fits_in}
-use Rattle.slate_table.specs.Parts.{Encode}
-use Rattle.slate_table.specs.Table.{block_sections}
+use Rattle.slate_table.specs.Parts.{Encode, section}
+use Rattle.slate_table.specs.Table.{block_sections, cut}
 
 pub record Cutting : Type 0 where
   pub ended : List (List RowEntry)
@@ -44,8 +48,20 @@ abbrev pub cut_rows : TableBuilding → Cutting
 cut_rows b = cutting b.size b.version b.rows
 
 pub record AreSections (encode : Encode) (version : ℕ) (blocks : List (List RowEntry)) (bytes offsets : List ℕ) : Type 0 where
-  pub bytes : bytes ≡ flat_map (λ s. s) (block_sections encode version blocks)
-  pub offsets : offsets ≡ places 0 (block_sections encode version blocks)
+  pub are_bytes : bytes ≡ flat_map (λ s. s) (block_sections encode version blocks)
+  pub are_offsets : offsets ≡ places 0 (block_sections encode version blocks)
 
 abbrev pub AreEncoded : Encode → TableBuilding → Type 0
 AreEncoded encode b = AreSections encode b.version (cut_rows b).ended b.bytes b.offsets
+
+abbrev pub begun : ℕ → ℕ → TableBuilding
+begun version size = record { version = version; size = size; rows = []; bytes = []; offsets = []; is_whole = true }
+
+-- of the block that the row ends, where it doesn't fit
+abbrev pub section_size : Encode → TableBuilding → RowEntry → Option ℕ
+section_size encode b r = if fits_in b.size b.version (cut_rows b).filling r then None else Some (length (section encode (block_bytes b.version (cut_rows b).filling)))
+
+-- of blocks, or of the bytes of keys or of values
+abbrev pub IsLimit : TableBuilding → RowEntry → ℕ → Type 0
+IsLimit b r limit = ((limit ≡ 2 ^ 32 - 1) × (2 ^ 32 - 1 < length (cut b.size b.version (b.rows ++ r ∷ []))))
+    ⊎ ((limit ≡ 2 ^ 64 - 1) × ((2 ^ 64 ≤ sum_by (λ x. length x.key) (b.rows ++ r ∷ [])) ⊎ (2 ^ 64 ≤ sum_by (λ x. length (operand x)) (b.rows ++ r ∷ []))))

@@ -6,8 +6,10 @@
 --     StandsOn c p, Stands p      what is kept is that of the rows, so cut
 --     IsEnded encode old new      the block was ended, and its section stands behind the others
 --     IsTaken old r new      the row was taken into the block, where it fits
+--     IsAdded encode old r new      the row was taken, behind the block that it ended where it doesn't fit
+--     ended_size encode p r      the length of that block's section
 --     IsPastLimit p r limit      a count or a sum would pass its greatest number
-use Rattle.std.specs.Prelude.{◌≡◌, ℕ, ◌+◌, ◌*◌, ◌-◌, ◌^◌, ◌<◌, ◌≤◌, ◌⊎◌, Bool, true, false, if◌then◌else◌, ◌==◌, List, [], ◌∷◌, ◌++◌, length, map, sum_by}
+use Rattle.std.specs.Prelude.{◌≡◌, ℕ, ◌+◌, ◌*◌, ◌-◌, ◌^◌, ◌<◌, ◌≤◌, ◌⊎◌, Bool, true, false, if◌then◌else◌, ◌==◌, List, [], ◌∷◌, ◌++◌, length, map, sum_by, Option, Some, None}
 use Rattle.std.specs.List.{AllByRecursion}
 use Rattle.slate_types.specs.declared.types.RowEntry.{RowEntry}
 use Rattle.slate_types.specs.declared.config.BlockFormat.{BlockFormat}
@@ -85,6 +87,14 @@ pub record IsTaken (old : TableParts) (r : RowEntry) (new : TableParts) : Type 0
 
 abbrev pub fits_parts : TableParts → RowEntry → Bool
 fits_parts p r = fits_in p.block.builder.size p.block.builder.version p.block.builder.rows r
+
+abbrev pub IsAdded : Encode → TableParts → RowEntry → TableParts → Type 0
+IsAdded encode old r new = ((fits_parts old r ≡ true) × IsTaken old r new)
+    ⊎ ((between : TableParts) × (fits_parts old r ≡ false) × IsEnded encode old between × IsTaken between r new)
+
+-- the length of the section of the block that the row ended
+abbrev pub ended_size : Encode → TableParts → RowEntry → Option ℕ
+ended_size encode p r = if fits_parts p r then None else Some (length (section encode (block_bytes p.block.builder.version p.block.builder.rows)))
 
 -- of blocks, where the row begins one, or of the bytes of keys or of values
 abbrev pub IsPastLimit : TableParts → RowEntry → ℕ → Type 0

@@ -9,7 +9,7 @@ ghost use Rattle.slate_block.specs.BlockSpelling.{block_bytes};
 ghost use Rattle.slate_block.specs.Counting.{stats_of};
 ghost use Rattle.slate_table.specs.Parts.{section};
 ghost use Rattle.slate_table.specs.SectionReading.{changed_by, IsTransformFault};
-ghost use Rattle.slate_table.specs.TableParts.{version_of, separator_behind, fits_parts, IsEnded, IsTaken, IsPastLimit, IsWithinLimits};
+ghost use Rattle.slate_table.specs.TableParts.{version_of, separator_behind, fits_parts, ended_size, IsAdded, IsEnded, IsTaken, IsPastLimit, IsWithinLimits};
 
 use crate::section::seal_section;
 use crate::separator::separator;
@@ -105,8 +105,38 @@ impl TableParts {
         Ok((self.bytes.len() - begin) as u64)
     }
 
+    /// Takes a row behind the others, and ends the block where it doesn't fit: then it answers the length of its section.
+    #[tactic(auto, using(crate::proofs::PartsLaws::some_rows))]
+    pub fn add<T: BlockTransformer>(
+        &mut self,
+        alloc: Global,
+        entry: RowEntry,
+        transformer: &mut Option<T>,
+    ) -> Result<Option<u64>, SlateDBError>
+        requires some { 0 < self.old.block_size }
+        requires few { self.old.block_size ≤ 65535 }
+        requires lengths { CanTake entry }
+        requires key { 0 < length entry.key }
+        requires keys { self.old.raw_key_size + length entry.key < 2 ^ 64 }
+        requires values { self.old.raw_val_size + length (operand entry) < 2 ^ 64 }
+        ensures added { OnOk result (IsAdded (changed_by T.encoded transformer.old) self.old entry self.new) }
+        ensures size { IfOk result (λ size. size ≡ ended_size (changed_by T.encoded transformer.old) self.old entry) }
+        ensures same_encoded { changed_by T.encoded transformer.new ≡ changed_by T.encoded transformer.old }
+        ensures same_decoded { changed_by T.decoded transformer.new ≡ changed_by T.decoded transformer.old }
+        ensures later { faults_of T.faults transformer.old ≤ faults_of T.faults transformer.new }
+        ensures cause { IfErr result (λ e. IsTransformFault (faults_of T.faults transformer.old) (faults_of T.faults transformer.new) e) }
+    {
+        if self.block.would_fit(&entry) {
+            self.take(entry)?;
+            return Ok(None);
+        }
+        let size = self.end_block(alloc, transformer)?;
+        self.take(entry)?;
+        Ok(Some(size))
+    }
+
     /// Takes a row that fits into the block.
-    pub fn take(&mut self, entry: RowEntry) -> Result<(), SlateDBError>
+    fn take(&mut self, entry: RowEntry) -> Result<(), SlateDBError>
         requires lengths { CanTake entry }
         requires key { 0 < length entry.key }
         requires fits { fits_parts self.old entry ≡ true }
