@@ -1,5 +1,5 @@
 -- What a table builder keeps, row by row.
-use Rattle.std.proofs.Common.{◌≡◌, ℕ, zero, suc, ◌+◌, ◌-◌, ◌^◌, ◌<◌, ◌≤◌, Bool, true, false, cond, ◌==◌, List, [], ◌∷◌, ◌++◌, length, map, fold, flat_map, Some, None, refl, sym, ap, subst, ◌∙◌, ◌⊎◌, inl, inr, append_assoc, arith}
+use Rattle.std.proofs.Common.{◌≡◌, ℕ, ◌+◌, ◌-◌, ◌^◌, ◌<◌, ◌≤◌, Bool, true, false, cond, ◌==◌, List, [], ◌∷◌, ◌++◌, length, fold, flat_map, Some, None, refl, sym, ap, subst, ◌∙◌, ◌⊎◌, inl, inr, arith}
 use Rattle.std.specs.Prelude.{slice_get, sum_by}
 use Rattle.std.specs.List.{AllByRecursion}
 use Rattle.std.proofs.lemmas.List.{append-nil, length-append, map-append}
@@ -201,7 +201,7 @@ ended_stands encode p m q r s fit e t order room =
       stats = t.stats ∙ e.stats ∙ (λ i. s.stats i ++ s.counts i ∷ []) ∙ sym (map-append stats_of c.ended (c.filling ∷ []));
       blocks = omega (arith, count, room);
       each = subst (λ (f : BlockFormat). AllByRecursion (FitsBlock (version_of f)) (c.ended ++ c.filling ∷ [])) (sym (t.format ∙ e.format))
-      (all_end (FitsBlock (version_of p.format)) c.ended c.filling s.each (fits_block c p s e.fits));
+          (all_end (FitsBlock (version_of p.format)) c.ended c.filling s.each (fits_block c p s e.fits));
       order = subst AreInOrder (sym rows) order;
       keys = t.keys ∙ ap (λ (n : ℕ). n + length r.key) (e.keys ∙ s.keys) ∙ key_sum p.rows.items r ∙ ap (λ (l : List RowEntry). sum_by (λ x. length x.key) l) (sym rows);
       values = t.values ∙ ap (λ (n : ℕ). n + length (operand r)) (e.values ∙ s.values) ∙ value_sum p.rows.items r ∙ ap (λ (l : List RowEntry). sum_by (λ x. length (operand x)) l) (sym rows);

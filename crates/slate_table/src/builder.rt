@@ -48,9 +48,7 @@ impl EncodedSsTableBuilder {
         ensures no_codec { OnOk result (format.now.compression_codec ≡ None) }
     {
         if let Some(codec) = format.compression_codec {
-            return Err(SlateDBError::UnsupportedCompression {
-                codec: codec as u8,
-            });
+            return Err(SlateDBError::UnsupportedCompression { codec: codec as u8 });
         }
         let block = new_block(alloc, format.block_format, format.block_size)?;
         let parts = TableParts {
