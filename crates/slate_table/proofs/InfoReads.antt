@@ -245,13 +245,15 @@ info_again version end bytes i t =
     let p4 : drop (a2 + 16) bytes ≡ y ++ (z ++ e) = behind bytes x (y ++ (z ++ e)) a2 p3 in
     let p5 : drop (a2 + 16 + 16) bytes ≡ z ++ e = behind bytes y (z ++ e) (a2 + 16) p4 in
     let p6 : drop (a2 + 16 + 16 + 16) bytes ≡ e = behind bytes z e (a2 + 16 + 16) p5 in
-    rw (version_again version bytes (f ++ (l ++ (x ++ (y ++ (z ++ e))))) t.is.known p0,
-        key_again bytes (l ++ (x ++ (y ++ (z ++ e)))) 2 i.first t.is.first p1,
-        key_again bytes (x ++ (y ++ (z ++ e))) a1 i.last t.is.last p2,
-        place_again end bytes (y ++ (z ++ e)) a2 i.index t.is.index t.before.0 p3,
-        place_again end bytes (z ++ e) (a2 + 16) i.filters t.is.filters t.before.1 p4,
-        place_again end bytes e (a2 + 16 + 16) i.stats t.is.stats t.before.2 p5,
-        ending_again bytes (a2 + 16 + 16 + 16) p6) refl
+    rw (
+      version_again version bytes (f ++ (l ++ (x ++ (y ++ (z ++ e))))) t.is.known p0,
+      key_again bytes (l ++ (x ++ (y ++ (z ++ e)))) 2 i.first t.is.first p1,
+      key_again bytes (x ++ (y ++ (z ++ e))) a1 i.last t.is.last p2,
+      place_again end bytes (y ++ (z ++ e)) a2 i.index t.is.index t.before.0 p3,
+      place_again end bytes (z ++ e) (a2 + 16) i.filters t.is.filters t.before.1 p4,
+      place_again end bytes e (a2 + 16 + 16) i.stats t.is.stats t.before.2 p5,
+      ending_again bytes (a2 + 16 + 16 + 16) p6,
+    ) refl
 
 pub refused_info : (version end : ℕ) (i : Info) (bytes : List ℕ) (d m : SlateDBError) → (d ≡ m) ⊎ (info_in version end bytes ≡ Err d) → IsInfo version bytes i → SectionsLieBefore end i → d ≡ m
 refused_info version end i bytes d m (inl h) is before = h

@@ -220,11 +220,15 @@ stats_again bytes s i =
     let p5 : drop 44 bytes ≡ counts ++ [] = behind bytes count counts 40 p4 ∙ sym (append-nil counts) in
     let size : 44 + length counts ≡ length bytes = omega (arith, ap length p1) in
     let whole : ltb (length bytes) (length bytes) ≡ false = le-ltb (length bytes) (length bytes) (omega arith) in
-    rw (three_again w64 (2 ^ 64) wide64 bytes (keys ++ (values ++ (count ++ counts))) 0 s.all.puts s.all.deletes s.all.merges i.all.0 i.all.1 i.all.2 p1,
-        number_again w64 (2 ^ 64) wide64 bytes (values ++ (count ++ counts)) 24 s.key_bytes i.keys p2,
-        number_again w64 (2 ^ 64) wide64 bytes (count ++ counts) 32 s.value_bytes i.values p3,
-        number_again w32 (2 ^ 32) wide32 bytes counts 40 (length s.blocks) i.few p4,
-        blocks_again s.blocks bytes [] 44 i.each p5, size, whole)
+    rw (
+      three_again w64 (2 ^ 64) wide64 bytes (keys ++ (values ++ (count ++ counts))) 0 s.all.puts s.all.deletes s.all.merges i.all.0 i.all.1 i.all.2 p1,
+      number_again w64 (2 ^ 64) wide64 bytes (values ++ (count ++ counts)) 24 s.key_bytes i.keys p2,
+      number_again w64 (2 ^ 64) wide64 bytes (count ++ counts) 32 s.value_bytes i.values p3,
+      number_again w32 (2 ^ 32) wide32 bytes counts 40 (length s.blocks) i.few p4,
+      blocks_again s.blocks bytes [] 44 i.each p5,
+      size,
+      whole,
+    )
     (ap (λ (l : List Counts). Ok (record { all = s.all; key_bytes = s.key_bytes; value_bytes = s.value_bytes; blocks = l })) (same_counts s.blocks))
 
 pub refused_stats : (s : Stats) (bytes slice : List ℕ) (d m : SlateDBError) → slice ≡ bytes → (d ≡ m) ⊎ (stats_in slice ≡ Err d) → IsStats bytes s → d ≡ m

@@ -55,4 +55,4 @@ stats_in bytes = do
   count ← number_field w32 bytes values.1
   blocks ← block_stats_from count.0 bytes count.1
   if nat_lt blocks.1 (length bytes) then Err (CorruptTable blocks.1)
-    else Ok (record { all = record { puts = all.0.0; deletes = all.0.1; merges = all.0.2 }; key_bytes = keys.0; value_bytes = values.0; blocks = map counts_of blocks.0 })
+      else Ok (record { all = record { puts = all.0.0; deletes = all.0.1; merges = all.0.2 }; key_bytes = keys.0; value_bytes = values.0; blocks = map counts_of blocks.0 })

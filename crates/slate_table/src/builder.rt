@@ -45,6 +45,7 @@ impl EncodedSsTableBuilder {
         requires few { format.now.block_size ≤ 65535 }
         ensures begun { IfOk result (λ builder. builder ≡ begun (version_of format.now.block_format) format.now.block_size) }
         ensures codec { IfErr result (λ e. (e ≡ SlateDBError.OutOfMemory) ⊎ (IsSome format.now.compression_codec × (codec : ℕ) × (e ≡ SlateDBError.UnsupportedCompression codec))) }
+        ensures refused { IsSome format.now.compression_codec → IfErr result (λ e. (codec : ℕ) × (e ≡ SlateDBError.UnsupportedCompression codec)) }
         ensures no_codec { OnOk result (format.now.compression_codec ≡ None) }
     {
         if let Some(codec) = format.compression_codec {

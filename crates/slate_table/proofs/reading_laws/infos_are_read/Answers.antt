@@ -9,6 +9,6 @@ both version end bytes info t = (t.is, t.before)
 
 pub returns : goal.returns
 returns c = λ version end bytes info fits. (
-    λ read. both version end bytes info (info_reads version end bytes info fits read),
-    λ t. info_again version end bytes info (record { is = t.0; before = t.1 }),
-  )
+  λ read. both version end bytes info (info_reads version end bytes info fits read),
+  λ t. info_again version end bytes info (record { is = t.0; before = t.1 }),
+)
