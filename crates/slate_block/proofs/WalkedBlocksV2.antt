@@ -179,7 +179,7 @@ rows_found body q (at ∷ ats) rows fits e =
       pieces = r.piece ∷ g.pieces;
       shares = λ previous. ((r.shared, shared previous, r.spelled), g.shares);
       placed = ap (λ (l : List ℕ). at ∷ l) (g.placed ∙ ap (λ (n : ℕ). restarts (16 * q + 1) (places n g.pieces)) r.place)
-        ∙ sym (ap (λ (b : Bool). cond b (at ∷ []) [] ++ restarts (16 * q + 1) (places (at + length r.piece) g.pieces)) (restart q));
+          ∙ sym (ap (λ (b : Bool). cond b (at ∷ []) [] ++ restarts (16 * q + 1) (places (at + length r.piece) g.pieces)) (restart q));
       rest = ap (λ (l : List ℕ). r.piece ++ l) g.rest ∙ sym r.parts;
       keys = (r.key, g.keys);
     } in

@@ -1,7 +1,8 @@
 // The index of a table, and separators.
 
 use bytes::Bytes;
-use slate_table::{SstIndex, separator::separator};
+use slate_table::SstIndex;
+use slate_table::separator::separator;
 use slate_types::SlateDBError;
 use std::test::Fail;
 
