@@ -1,0 +1,37 @@
+//! Does the work that the store's time goes into, and says what was done: bench/run runs it beside plain Rust.
+//!
+//! With no word it prints counts alone, and with the word `time` how long each took too.
+#![tactic(auto)]
+
+mod blocks;
+mod report;
+mod rows;
+
+use report::Report;
+use std::env;
+use std::process::ExitCode;
+
+fn main(rt: HostRuntime) -> Result<ExitCode, anyhow::Error> {
+    Ok(ExitCode::from(status(&rt)?))
+}
+
+/// The status: 0, or 2 for words that are not known.
+fn status(rt: &HostRuntime) -> Result<u8, anyhow::Error> {
+    let words: Result<Vec<String>, _> = env::args(rt)?.skip(1).collect(rt.alloc());
+    match words?.as_slice() {
+        [] => measure(&Report::new(rt, false)),
+        [word] if word.as_str() == "time" => measure(&Report::new(rt, true)),
+        [word] if word.as_str() == "--version" => {
+            println!(rt; "slate_bench 0.1.0")?;
+            Ok(0)
+        }
+        _ => Ok(2),
+    }
+}
+
+fn measure(report: &Report) -> Result<u8, anyhow::Error> {
+    let rows = rows::make_rows(report.alloc())?;
+    blocks::measure(report, &rows, 1)?;
+    blocks::measure(report, &rows, 2)?;
+    Ok(0)
+}
