@@ -1,9 +1,9 @@
 -- A walk over a block of version 2 is refused nowhere, and reads its rows.
-use Rattle.std.proofs.Common.{◌≡◌, ℕ, zero, suc, ◌+◌, ◌-◌, ◌*◌, ◌%◌, ◌^◌, ◌<◌, ◌≤◌, Bool, true, false, cond, ◌&&◌, eqb, ltb, leb, List, [], ◌∷◌, ◌++◌, length, take, drop, flat_map, Result, Ok, Err, refl, sym, ap, subst, ◌∙◌, arith, inl, inr, ◌⊎◌}
+use Rattle.std.proofs.Common.{◌≡◌, ℕ, zero, suc, ◌+◌, ◌-◌, ◌*◌, ◌^◌, ◌<◌, ◌≤◌, Bool, true, false, cond, ◌&&◌, eqb, ltb, leb, List, [], ◌∷◌, ◌++◌, length, take, drop, flat_map, Result, Ok, Err, refl, sym, ap, subst, ◌∙◌, arith, inl, inr, ◌⊎◌}
 use Rattle.std.specs.Prelude.{slice_range}
 use Rattle.std.specs.List.{AllByRecursion}
 use Rattle.std.proofs.lemmas.Bool.{le-leb, lt-ltb, eq-eqb, ne_eqb, and_from}
-use Rattle.std.proofs.lemmas.List.{append-nil, length-append, length-drop, take-append-drop}
+use Rattle.std.proofs.lemmas.List.{length-append, length-drop, take-append-drop}
 use Rattle.std.proofs.Math.Seq.{take-append-add}
 use Rattle.slate_types.specs.declared.error.SlateDBError.{SlateDBError}
 use Rattle.slate_types.specs.declared.error.SlateDBError.TheVariants.{CorruptTable}
@@ -187,7 +187,7 @@ step n body q previous at next ats r rows lt read t =
       pieces = t.pieces;
       next = t.next;
       read = group_goes_on body previous n at end last (ap (λ (b : Bool). b && last) on)
-        ∙ ap (λ (x : Result (RowEntry × ℕ) SlateDBError). x >>= λ found. before found.0 (group_v2 n body found.0.key found.1 end last)) read ∙ ap (before r) t.read;
+          ∙ ap (λ (x : Result (RowEntry × ℕ) SlateDBError). x >>= λ found. before found.0 (group_v2 n body found.0.key found.1 end last)) read ∙ ap (before r) t.read;
       parts = ap (λ (l : List RowEntry). r ∷ l) t.parts;
       shares = t.shares;
       placed = t.placed;
