@@ -1,5 +1,5 @@
 -- What a walk from the end of a block of version 2 reads, and what its seeks leave.
-use Rattle.std.proofs.Common.{◌≡◌, ℕ, zero, suc, ◌+◌, ◌-◌, ◌^◌, ◌<◌, ◌≤◌, Bool, true, false, ◌&&◌, cond, ltb, List, [], ◌∷◌, ◌++◌, length, drop, reverse, Result, Ok, Err, refl, sym, ap, ◌∙◌, subst, arith, append_assoc, ◌⊎◌, inl, inr, nat_eq, rules}
+use Rattle.std.proofs.Common.{◌≡◌, ℕ, zero, suc, ◌+◌, ◌^◌, ◌<◌, ◌≤◌, Bool, true, false, ◌&&◌, ltb, List, [], ◌∷◌, ◌++◌, length, drop, reverse, Ok, Err, refl, sym, ap, ◌∙◌, subst, arith, append_assoc, inl, inr, nat_eq, rules}
 use Rattle.std.proofs.lemmas.Bool.{cases_lt, eqb-true, eq-eqb}
 use Rattle.std.specs.Prelude.{IsTrue}
 use Rattle.std.proofs.lemmas.List.{append-nil, reverse-append, reverse-reverse, length-reverse, nil_from_length, drop_all}
@@ -8,13 +8,12 @@ use Rattle.slate_types.specs.declared.types.RowEntry.{RowEntry}
 use Rattle.slate_types.specs.declared.iter.IterationOrder.{IterationOrder}
 use Rattle.slate_types.specs.declared.iter.IterationOrder.TheVariants.{Descending}
 use Rattle.slate_types.specs.Iteration.{comes_before, drop_before, IsInOrder}
-use Rattle.slate_block.specs.Damage.{◌>>=◌}
 use Rattle.slate_block.specs.Walks.{before, joined, rows_v2, begins_at_zero, block_rows}
 use Rattle.slate_block.specs.BlockWalks.{rows_of, IsRising}
 use Rattle.slate_block.specs.GroupWalks.{Left, IsRefused, dropped, restart_at, BeginsBefore, turned, rows_back, block_rows_back, left_back}
 use Rattle.slate_block.proofs.FieldLaws.{ok_is}
 use Rattle.slate_block.proofs.GroupSteps.{joined_nothing, joined_none, rows_from, named_rows}
-use Rattle.slate_block.proofs.SeekSteps.{dropped_front, restart_some, joined_ok, sought_left, sought_refused}
+use Rattle.slate_block.proofs.SeekSteps.{dropped_front, restart_some, joined_ok, sought_refused}
 use Rattle.slate_block.proofs.BackSteps.{back_read, back_refused, all_dropped, some_dropped}
 
 abbrev found : List RowEntry → Left

@@ -1,18 +1,13 @@
 -- Steps of a walk over rows of version 2 from the end.
-use Rattle.std.proofs.Common.{◌≡◌, ℕ, zero, suc, ◌+◌, ◌-◌, ◌<◌, ◌≤◌, Bool, true, false, cond, List, [], ◌∷◌, ◌++◌, length, take, drop, reverse, Result, Ok, Err, refl, sym, ap, ◌∙◌, subst, arith, append_assoc, ◌⊎◌, inl, inr}
-use Rattle.std.proofs.lemmas.List.{append-nil, reverse-append, reverse-reverse, length-reverse}
+use Rattle.std.proofs.Common.{◌≡◌, ℕ, suc, ◌<◌, Bool, true, false, List, [], ◌∷◌, ◌++◌, length, take, reverse, Ok, Err, refl, sym, ap, ◌∙◌, arith, append_assoc, ◌⊎◌, inl, inr}
+use Rattle.std.proofs.lemmas.List.{append-nil, reverse-append, length-reverse}
 use Rattle.slate_types.specs.declared.error.SlateDBError.{SlateDBError}
 use Rattle.slate_types.specs.declared.types.RowEntry.{RowEntry}
 use Rattle.slate_types.specs.declared.iter.IterationOrder.{IterationOrder}
 use Rattle.slate_types.specs.declared.iter.IterationOrder.TheVariants.{Descending}
-use Rattle.slate_types.specs.Iteration.{comes_before, drop_before, IsInOrder}
-use Rattle.slate_block.specs.declared.row_groups.RowGroup.{RowGroup}
-use Rattle.slate_block.specs.Damage.{◌>>=◌}
-use Rattle.slate_block.specs.Walks.{before, joined, rows_v2}
-use Rattle.slate_block.specs.BlockWalks.{rows_of, IsRising}
-use Rattle.slate_block.specs.GroupWalks.{Left, IsRefused, dropped, restart_at, group_left, BeginsBefore, turned, rows_back, left_back}
-use Rattle.slate_block.proofs.FieldLaws.{ok_is}
-use Rattle.slate_block.proofs.SeekSteps.{dropped_front, restart_some}
+use Rattle.slate_types.specs.Iteration.{comes_before, drop_before}
+use Rattle.slate_block.specs.Walks.{before, joined}
+use Rattle.slate_block.specs.GroupWalks.{Left, dropped, restart_at, turned, rows_back, left_back}
 
 abbrev found : List RowEntry → Left
 found rows = Ok rows

@@ -1,5 +1,5 @@
 -- Steps of a walk over rows of version 2.
-use Rattle.std.proofs.Common.{◌≡◌, ℕ, zero, suc, ◌+◌, ◌<◌, ◌≤◌, Bool, true, false, ◌&&◌, ◌||◌, cond, nat_eq, List, [], ◌∷◌, ◌++◌, length, get_or, drop, Result, Ok, Err, refl, sym, ap, ◌∙◌, arith, ◌⊎◌, inl, inr, ltb, ◌^◌}
+use Rattle.std.proofs.Common.{◌≡◌, ℕ, zero, suc, ◌+◌, ◌<◌, ◌≤◌, Bool, true, false, ◌&&◌, ◌||◌, cond, nat_eq, List, [], ◌∷◌, length, get_or, drop, Result, Ok, Err, refl, sym, ap, ◌∙◌, arith, ◌⊎◌, inl, inr, ltb, ◌^◌}
 use Rattle.std.proofs.Math.Dec.{eqb-suc-zero, eqb-zero-suc, eqb-suc-suc}
 use Rattle.std.proofs.lemmas.List.{at_drop_more, drop_all}
 use Rattle.slate_block.proofs.FieldLaws.{bind_ok}
@@ -10,7 +10,7 @@ use Rattle.slate_types.specs.declared.types.RowEntry.{RowEntry}
 use Rattle.slate_block.specs.declared.row_groups.RowGroup.{RowGroup}
 use Rattle.slate_block.specs.declared.walk_v2.BlockPlace.{BlockPlace}
 use Rattle.slate_block.specs.Damage.{◌>>=◌, IsDamageIn}
-use Rattle.slate_block.specs.Walks.{moved, before, joined, between, group_v2, restart_v2, rows_v2, row_v2_in, is_none_left, begins_at_zero, block_rows, block_rows_v2}
+use Rattle.slate_block.specs.Walks.{moved, before, joined, group_v2, restart_v2, rows_v2, row_v2_in, is_none_left, begins_at_zero, block_rows, block_rows_v2}
 use Rattle.slate_block.specs.BlockWalks.{IsDamage}
 use Rattle.slate_block.specs.GroupWalks.{Left, group_end, restart_at, group_left, is_over, left_v2}
 

@@ -1,5 +1,5 @@
 -- A seek in a walk over rows of version 2.
-use Rattle.std.proofs.Common.{◌≡◌, ℕ, ◌+◌, ◌<◌, ◌≤◌, Bool, true, false, ◌&&◌, cond, List, [], ◌∷◌, ◌++◌, Option, ℤ, length, get_or, take, drop, Result, Ok, Err, refl, sym, ap, ◌∙◌, subst, leb, arith, ◌⊎◌, inl, inr, zero, suc, ◌-◌, append_assoc, Some, None}
+use Rattle.std.proofs.Common.{◌≡◌, ℕ, ◌+◌, ◌<◌, ◌≤◌, Bool, true, false, ◌&&◌, cond, List, [], ◌∷◌, ◌++◌, Option, ℤ, length, get_or, drop, Result, Ok, Err, refl, sym, ap, ◌∙◌, subst, leb, arith, ◌⊎◌, inl, inr, zero, suc, ◌-◌, append_assoc, Some, None}
 use Rattle.std.specs.Prelude.{slice_range}
 use Rattle.slate_types.specs.declared.error.SlateDBError.{SlateDBError}
 use Rattle.slate_types.specs.declared.error.SlateDBError.TheVariants.{CorruptTable}

@@ -1,19 +1,17 @@
 -- A walk over a block of version 2 is refused nowhere exactly where the bytes are those of a block.
-use Rattle.std.proofs.Common.{◌≡◌, ℕ, zero, suc, ◌+◌, ◌-◌, ◌*◌, ◌%◌, ◌/◌, ◌^◌, ◌<◌, ◌≤◌, Bool, true, false, cond, ◌&&◌, eqb, ltb, leb, List, [], ◌∷◌, ◌++◌, length, take, drop, flat_map, Result, Ok, Err, refl, sym, ap, subst, ◌∙◌, arith, inl, inr, ◌⊎◌, append_assoc}
+use Rattle.std.proofs.Common.{◌≡◌, ℕ, zero, suc, ◌+◌, ◌-◌, ◌*◌, ◌%◌, ◌^◌, ◌<◌, ◌≤◌, Bool, true, false, cond, ◌&&◌, eqb, ltb, leb, List, [], ◌∷◌, ◌++◌, length, drop, flat_map, Ok, Err, refl, sym, ap, subst, ◌∙◌, arith, inl, inr, ◌⊎◌, append_assoc}
 use Rattle.std.specs.Prelude.{slice_range}
 use Rattle.std.specs.List.{AllByRecursion}
-use Rattle.std.proofs.lemmas.Bool.{leb-true, le-leb, ltb-true, lt-ltb, eqb-true, eq-eqb, eqb-false, ne_eqb, and_from}
-use Rattle.std.proofs.lemmas.List.{append-nil, length-append, length-take, length-drop, take-append-drop, drop-drop, drop_all, drop_at, take_at}
-use Rattle.slate_types.specs.declared.error.SlateDBError.{SlateDBError}
+use Rattle.std.proofs.lemmas.Bool.{leb-true, ltb-true, eqb-true, eq-eqb, ne_eqb}
+use Rattle.std.proofs.lemmas.List.{length-append, take-append-drop, drop_all}
 use Rattle.slate_types.specs.declared.error.SlateDBError.TheVariants.{CorruptTable}
 use Rattle.slate_types.specs.declared.types.RowEntry.{RowEntry}
 use Rattle.slate_block.specs.declared.row.SstRowEntryV2.{SstRowEntryV2}
 use Rattle.slate_block.specs.RowSpelling.{v2_bytes, IsRowV2}
 use Rattle.slate_block.specs.BlockSpelling.{IsKey, entry_v2, Shares, SharesV2, is_restart, shared_with, AreRows, places, restarts, IsBlockOf}
-use Rattle.slate_block.specs.RowReading.{row_v2_of, BeginsV2}
+use Rattle.slate_block.specs.RowReading.{row_v2_of}
 use Rattle.slate_block.specs.Damage.{◌>>=◌}
-use Rattle.slate_block.specs.Walks.{moved_result, between, is_restored, whole_v2, entry_v2_in, row_v2_in, next_place, before, joined, group_v2, restart_v2, is_none_left, rows_v2, block_rows_v2, block_rows}
-use Rattle.slate_block.specs.GroupWalks.{Left}
+use Rattle.slate_block.specs.Walks.{moved_result, between, is_restored, whole_v2, entry_v2_in, row_v2_in, next_place, before, group_v2, restart_v2, is_none_left, rows_v2, block_rows_v2, block_rows}
 use Rattle.slate_block.proofs.Groups.{IsBytes}
 use Rattle.slate_block.proofs.FieldLaws.{bind_ok, ok_is, behind}
 use Rattle.slate_block.proofs.ReadingLaws.{row_v2_begins, row_v2_end}

@@ -1,4 +1,4 @@
-use Rattle.std.proofs.Common.{◌≡◌, ◌+◌, length, nat_eq, sym, refl, rules}
+use Rattle.std.proofs.Common.{◌≡◌, ◌+◌, length, nat_eq, refl, rules}
 use Rattle.slate_block.proofs.GroupSteps.{restart_taken}
 use Rattle.slate_block.proofs.row_groups.first_of_group.Goals as goal
 

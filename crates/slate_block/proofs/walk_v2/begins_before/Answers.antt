@@ -1,4 +1,4 @@
-use Rattle.std.proofs.Common.{◌≡◌, List, ℕ, Ok, get_or, refl, arith, sym, ◌∙◌}
+use Rattle.std.proofs.Common.{◌≡◌, Ok, get_or, refl, arith, sym, ◌∙◌}
 use Rattle.std.specs.Prelude.{slice_range}
 use Rattle.slate_block.specs.GroupWalks.{group_end}
 use Rattle.slate_block.proofs.FieldLaws.{ok_is}

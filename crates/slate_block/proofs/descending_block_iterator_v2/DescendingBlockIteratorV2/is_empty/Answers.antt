@@ -1,4 +1,4 @@
-use Rattle.std.proofs.Common.{◌≡◌, [], Ok, subst, rules}
+use Rattle.std.proofs.Common.{◌≡◌, [], Ok, subst}
 use Rattle.std.specs.Prelude.{IsTrue}
 use Rattle.slate_block.specs.GroupWalks.{Walk}
 use Rattle.slate_block.proofs.BackLaws.{empty_tells}

@@ -1,6 +1,5 @@
-use Rattle.std.proofs.Common.{◌≡◌, [], ◌<◌, ◌∙◌, ℕ, List, Ok, length, reverse, take, subst, sym, ap, arith}
+use Rattle.std.proofs.Common.{◌≡◌, ◌<◌, ◌∙◌, Ok, length, reverse, take, subst, sym, ap, arith}
 use Rattle.std.proofs.lemmas.List.{length-take}
-use Rattle.slate_types.specs.declared.types.RowEntry.{RowEntry}
 use Rattle.slate_types.specs.declared.iter.IterationOrder.TheVariants.{Descending}
 use Rattle.slate_types.specs.Iteration.{drop_before}
 use Rattle.slate_block.specs.BlockWalks.{rows_of, IsRising}
