@@ -25,3 +25,5 @@ pub mod WalkLaws
 pub mod SeekLaws
 pub mod WalkedBlocks
 pub mod PartLaws
+pub mod WalkedBlocksV2
+pub mod BlocksReadAgainV2

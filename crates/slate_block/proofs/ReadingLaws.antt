@@ -14,7 +14,7 @@ use Rattle.slate_block.specs.declared.fields.KeyFields.{KeyFields}
 use Rattle.slate_block.specs.declared.fields.RowFields.{RowFields}
 use Rattle.slate_block.specs.declared.row.SstRowEntryV2.{SstRowEntryV2}
 use Rattle.slate_block.specs.Varint.{IsVarint, varint}
-use Rattle.slate_block.specs.RowSpelling.{be64, are_flags, flags, stamp_bytes, FitsStamp}
+use Rattle.slate_block.specs.RowSpelling.{v2_bytes, be64, are_flags, flags, stamp_bytes, FitsStamp}
 use Rattle.slate_block.specs.Damage.{◌>>=◌, varint_field, number_field, block_field, row_flags, has, flags_field, stamp_field, head_layout, stamps_layout, key_layout_v2, length_agrees, layout_v2}
 use Rattle.slate_block.specs.RowReading.{value_of, entry_of_v2, row_v2_of, key_v2_of, BeginsV2, BeginsKeyV2}
 use Rattle.slate_block.proofs.Groups.{IsBytes}
@@ -109,7 +109,7 @@ regrouped : (a b c x d e y h g z s t : List ℕ) → c ≡ x → e ≡ y → g �
 regrouped a b c x d e y h g z s t p q r = in_order a b c d e h g s t ∙ (λ i. ((((a ++ b) ++ p i) ++ d) ++ q i) ++ (((h ++ r i) ++ s) ++ t))
 
 abbrev pub IsTakenV2 : List ℕ → ℕ → RowFields → Type 0
-IsTakenV2 bytes shared fields = BeginsV2 (entry_of_v2 bytes shared fields) bytes (drop fields.end bytes)
+IsTakenV2 bytes shared fields = BeginsV2 (entry_of_v2 bytes shared fields) bytes (drop fields.end bytes) × (fields.end ≡ length (v2_bytes (entry_of_v2 bytes shared fields)))
 
 four_parts : (a b c d : List ℕ) → a ++ (b ++ (c ++ d)) ≡ ((a ++ b) ++ c) ++ d
 four_parts a b c d = simp append_assoc
@@ -119,6 +119,9 @@ five_parts a b c d x = simp append_assoc
 
 taken_v2 : KeyFields → ℕ → ℕ → ℕ → RowFlags → Option ℤ → Option ℤ → ℕ → RowFields
 taken_v2 key start stop seq f expire create end = record { suffix_at = key.suffix_at; suffix_end = key.suffix_end; value_at = start; value_end = stop; seq = seq; flags = f; expire_ts = expire; create_ts = create; end = end }
+
+from_zero : (n : ℕ) → 0 + n ≡ n
+from_zero n = omega arith
 
 row_v2_takes : (bytes : List ℕ) (key : KeyFields) (start stop seq : ℕ) (f : RowFlags) (at : ℕ) (expire create : Option ℤ) (end : ℕ) → KeyTakes bytes key →
     Stands bytes key.suffix_end (slice_range bytes start stop) stop → length (slice_range bytes start stop) ≡ key.value_len →
@@ -139,7 +142,7 @@ row_v2_takes bytes key start stop seq f at expire create end k here size head ag
     let e2 = then bytes key.suffix_end text stop (head_text ++ stamp_text) end here e3 in
     let e1 = then bytes 0 (a ++ (b ++ (varint key.value_len ++ suffix))) key.suffix_end (text ++ (head_text ++ stamp_text)) end k.here e2 in
     let order = regrouped a b (varint key.value_len) (varint (length (bytes_of value))) suffix text (bytes_of value) (be64 seq) (f.0 ∷ []) (flags value expire create ∷ []) (stamp_bytes expire) (stamp_bytes create) (ap varint long) same flag in
-    ((k.shared, k.suffix, omega (arith, k.value, long), head.fits, stamps.fits_expire, stamps.fits_create), e1.parts ∙ ap (λ (l : List ℕ). l ++ drop end bytes) order)
+    (((k.shared, k.suffix, omega (arith, k.value, long), head.fits, stamps.fits_expire, stamps.fits_create), e1.parts ∙ ap (λ (l : List ℕ). l ++ drop end bytes) order), e1.place ∙ from_zero _ ∙ ap (λ (l : List ℕ). length l) order)
 
 layout_v2_takes : (bytes : List ℕ) (x : ℕ × RowFields) → IsBytes bytes → layout_v2 bytes ≡ Ok x → IsTakenV2 bytes x.0 x.1
 unfolding layout_v2 length_agrees taken_v2
@@ -164,7 +167,14 @@ unfolding row_v2_of
 row_v2_begins bytes row end fits e =
     let a = bind_ok (layout_v2 bytes) (λ x. Ok (entry_of_v2 bytes x.0 x.1, x.1.end)) (row, end) e in
     let made : SstRowEntryV2 × ℕ = (entry_of_v2 bytes a.0.0 a.0.1, a.0.1.end) in
-    subst (λ (y : SstRowEntryV2 × ℕ). BeginsV2 y.0 bytes (drop y.1 bytes)) (ok_is made (row, end) a.2) (layout_v2_takes bytes a.0 fits a.1)
+    subst (λ (y : SstRowEntryV2 × ℕ). BeginsV2 y.0 bytes (drop y.1 bytes)) (ok_is made (row, end) a.2) (layout_v2_takes bytes a.0 fits a.1).0
+
+pub row_v2_end : (bytes : List ℕ) (row : SstRowEntryV2) (end : ℕ) → IsBytes bytes → row_v2_of bytes ≡ Ok (row, end) → end ≡ length (v2_bytes row)
+unfolding row_v2_of
+row_v2_end bytes row end fits e =
+    let a = bind_ok (layout_v2 bytes) (λ x. Ok (entry_of_v2 bytes x.0 x.1, x.1.end)) (row, end) e in
+    let made : SstRowEntryV2 × ℕ = (entry_of_v2 bytes a.0.0 a.0.1, a.0.1.end) in
+    subst (λ (y : SstRowEntryV2 × ℕ). y.1 ≡ length (v2_bytes y.0)) (ok_is made (row, end) a.2) (layout_v2_takes bytes a.0 fits a.1).1
 
 pub key_v2_begins : (bytes : List ℕ) (x : ℕ × List ℕ) (end : ℕ) → IsBytes bytes → key_v2_of bytes ≡ Ok (x, end) → BeginsKeyV2 x bytes (drop end bytes)
 unfolding key_v2_of

@@ -21,15 +21,15 @@ use Rattle.slate_block.proofs.BlockLaws.{next_v1}
 
 -- ---- tests that did not fail
 
-both_true : (x y : Bool) → (x && y) ≡ true → (x ≡ true) × (y ≡ true)
+pub both_true : (x y : Bool) → (x && y) ≡ true → (x ≡ true) × (y ≡ true)
 both_true true y e = (refl, e)
 both_true false y e = absurd cc
 
-passed : {A : Type 0} (b : Bool) (d : SlateDBError) (x y : A) → cond b (Ok x) (Err d) ≡ Ok y → (b ≡ true) × (x ≡ y)
+pub passed : {A : Type 0} (b : Bool) (d : SlateDBError) (x y : A) → cond b (Ok x) (Err d) ≡ Ok y → (b ≡ true) × (x ≡ y)
 passed true d x y e = (refl, cc)
 passed false d x y e = absurd cc
 
-unmoved : {A : Type 0} (at : ℕ) (r : Result A SlateDBError) (x : A) → moved_result at r ≡ Ok x → r ≡ Ok x
+pub unmoved : {A : Type 0} (at : ℕ) (r : Result A SlateDBError) (x : A) → moved_result at r ≡ Ok x → r ≡ Ok x
 unmoved at (Ok y) x e = e
 unmoved at (Err d) x e = absurd cc
 
@@ -43,10 +43,10 @@ record RowStands (body : List ℕ) (other : List ℕ) (at : ℕ) (upto : ℕ) (r
   pub spelled : IsRowV1 (slice_range body at upto) (entry_v1 shared row)
   pub key : IsKey row.key
 
-length_between : (body : List ℕ) (at upto : ℕ) → at ≤ upto → upto ≤ length body → length (slice_range body at upto) ≡ upto - at
+pub length_between : (body : List ℕ) (at upto : ℕ) → at ≤ upto → upto ≤ length body → length (slice_range body at upto) ≡ upto - at
 length_between body at upto p q = omega (arith, p, q, length-take (upto - at) (drop at body), length-drop at body)
 
-IsBytes-between : (body : List ℕ) (at upto : ℕ) → IsBytes body → IsBytes (slice_range body at upto)
+pub IsBytes-between : (body : List ℕ) (at upto : ℕ) → IsBytes body → IsBytes (slice_range body at upto)
 IsBytes-between body at upto fits = IsBytes-take (upto - at) (drop at body) (IsBytes-drop at body fits)
 
 -- a row that fills its bytes
@@ -75,11 +75,11 @@ three_true true true z e = (refl, refl, e)
 three_true true false z e = absurd cc
 three_true false y z e = absurd cc
 
-three_from : (x y z : Bool) → x ≡ true → y ≡ true → z ≡ true → (x && y && z) ≡ true
+pub three_from : (x y z : Bool) → x ≡ true → y ≡ true → z ≡ true → (x && y && z) ≡ true
 three_from x y z p q r = rw (p, q, r) refl
 
 -- a key that is restored from a front of the other key
-restored : (n : ℕ) (other suffix : List ℕ) → is_restored n other suffix ≡ true → Shares n other (take n other ++ suffix) × IsKey (take n other ++ suffix) × (drop n (take n other ++ suffix) ≡ suffix)
+pub restored : (n : ℕ) (other suffix : List ℕ) → is_restored n other suffix ≡ true → Shares n other (take n other ++ suffix) × IsKey (take n other ++ suffix) × (drop n (take n other ++ suffix) ≡ suffix)
 restored n other suffix e =
     let tests = three_true (leb n (length other)) (ltb 0 (n + length suffix)) (ltb (n + length suffix) (2 ^ 16)) e in
     let le : n ≤ length other = leb-true _ _ tests.0 in
@@ -226,7 +226,7 @@ rows_again body key (b ∷ bs) (r ∷ rows) at fits le e s k =
 
 -- ---- the whole block
 
-passed_on : {A : Type 0} (b : Bool) (d : SlateDBError) (r : Result A SlateDBError) (y : A) → cond b r (Err d) ≡ Ok y → (b ≡ true) × (r ≡ Ok y)
+pub passed_on : {A : Type 0} (b : Bool) (d : SlateDBError) (r : Result A SlateDBError) (y : A) → cond b r (Err d) ≡ Ok y → (b ≡ true) × (r ≡ Ok y)
 passed_on true d r y e = (refl, e)
 passed_on false d r y e = absurd cc
 

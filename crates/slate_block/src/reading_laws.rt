@@ -8,6 +8,7 @@ ghost use Rattle.slate_block.specs.ReadingLaws.{
   RowsOfV2AreFound,
   VarintsAreFound,
   WalkedRowsAreBlocks1,
+  WalkedRowsAreBlocks2,
 };
 
 /// The number whose spelling begins bytes is found, and none where no spelling begins them.
@@ -48,4 +49,9 @@ pub fn bytes_come_apart_once()
 /// A walk over a block of version 1 is refused nowhere exactly where it is one, and reads its rows.
 pub fn blocks_of_v1_are_walked()
     ensures { WalkedRowsAreBlocks1 }
+{}
+
+/// The same of a block of version 2.
+pub fn blocks_of_v2_are_walked()
+    ensures { WalkedRowsAreBlocks2 }
 {}

@@ -36,7 +36,7 @@ later_short : (version : ℕ) (previous : List ℕ) (bs : List (List RowEntry)) 
 later_short version previous [] f = tt
 later_short version previous (b ∷ bs) f = (separator_short previous (first_key b) (first_key_short version b f.0), later_short version (last_key previous b) bs f.1)
 
-separators_short : (version : ℕ) (bs : List (List RowEntry)) → AllByRecursion (FitsBlock version) bs → AllByRecursion (λ k. length k < 2 ^ 16) (separators bs)
+pub separators_short : (version : ℕ) (bs : List (List RowEntry)) → AllByRecursion (FitsBlock version) bs → AllByRecursion (λ k. length k < 2 ^ 16) (separators bs)
 separators_short version [] f = tt
 separators_short version (b ∷ bs) f = (first_key_short version b f.0, later_short version (last_key [] b) bs f.1)
 
@@ -44,7 +44,7 @@ later_count : (previous : List ℕ) (bs : List (List RowEntry)) → length (late
 later_count previous [] = refl
 later_count previous (b ∷ bs) = let n = later_count (last_key previous b) bs in omega (arith, n)
 
-separators_count : (bs : List (List RowEntry)) → length (separators bs) ≡ length bs
+pub separators_count : (bs : List (List RowEntry)) → length (separators bs) ≡ length bs
 separators_count [] = refl
 separators_count (b ∷ bs) = let n = later_count (last_key [] b) bs in omega (arith, n)
 

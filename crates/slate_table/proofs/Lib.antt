@@ -1,3 +1,8 @@
+pub mod PartsLaws
+pub mod Cuttings
+pub mod IndexWrites
+pub mod Separators
+pub mod IndexReads
 pub mod FrameLaws
 pub mod IndexLaws
 pub mod FilterLaws

@@ -8,6 +8,8 @@ mod block_iterators_v2;
 #[cfg(test)]
 mod blocks;
 #[cfg(test)]
+mod index;
+#[cfg(test)]
 mod lists;
 #[cfg(test)]
 mod memory;

@@ -53,12 +53,26 @@ fn partitions_are_found(rt: HostRuntime) -> Result<(), Fail> {
         (b"bbbbbla", Some(1), 1, Some(1)),
     ];
     for (key, first, after, last) in cases {
-        assert!(rt; first_partition_including_key(&space, key) == first, "at {key:?}");
-        assert_eq!(rt; first_partition_including_or_after_key(&space, key), after, "at {key:?}");
-        assert!(rt; last_partition_including_key(&space, key) == last, "at {key:?}");
+        assert!(rt;
+            first_partition_including_key(&space, key) == first,
+            "at {key:?}"
+        );
+        assert_eq!(rt;
+            first_partition_including_or_after_key(&space, key),
+            after,
+            "at {key:?}"
+        );
+        assert!(rt;
+            last_partition_including_key(&space, key) == last,
+            "at {key:?}"
+        );
     }
     assert_eq!(rt; partition_point(&space, |_| true), 2);
-    let covering = partitions_covering_range(&space, Bound::Included(b"aaaa"), Bound::Excluded(b"bbbb"));
+    let covering = partitions_covering_range(
+        &space,
+        Bound::Included(b"aaaa"),
+        Bound::Excluded(b"bbbb"),
+    );
     assert!(rt; covering == (0..1));
     Ok(())
 }

@@ -1,0 +1,295 @@
+-- What a table builder keeps, row by row.
+use Rattle.std.proofs.Common.{◌≡◌, ℕ, ◌+◌, ◌-◌, ◌^◌, ◌<◌, ◌≤◌, Bool, true, false, cond, ◌==◌, List, [], ◌∷◌, ◌++◌, length, fold, flat_map, Some, None, refl, sym, ap, subst, ◌∙◌, ◌⊎◌, inl, inr, arith}
+use Rattle.std.specs.Prelude.{slice_get, sum_by}
+use Rattle.std.specs.List.{AllByRecursion}
+use Rattle.std.proofs.lemmas.List.{append-nil, length-append, map-append}
+use Rattle.std.proofs.lemmas.List.Sums.{sum_by-append}
+use Rattle.std.proofs.lemmas.Bool.Decides.{nat_tests}
+use Rattle.std.proofs.lemmas.Grind.{flat_map-append}
+use Rattle.slate_types.specs.declared.types.RowEntry.{RowEntry}
+use Rattle.slate_types.specs.declared.config.BlockFormat.{BlockFormat}
+use Rattle.slate_types.specs.Rows.{operand}
+use Rattle.slate_block.specs.BlockSpelling.{block_bytes, places, FitsBlock}
+use Rattle.slate_block.specs.Building.{Building, with_row}
+use Rattle.slate_block.specs.Counting.{stats_of}
+use Rattle.slate_block.specs.Fitting.{fits_in}
+use Rattle.slate_table.specs.declared.table_parts.TableParts.{TableParts}
+use Rattle.slate_table.specs.Parts.{Encode, section, separator, separators, last_key}
+use Rattle.slate_table.specs.Table.{AreInOrder, block_sections, cut}
+use Rattle.slate_table.specs.TableBuilding.{Cutting, cut_more, cutting, with_last, all_blocks, AreSections, section_size, IsLimit}
+use Rattle.slate_table.specs.TableParts.{version_of, separator_behind, cut_parts, filled, seen, ended_size, IsPastLimit, StandsOn, Stands, IsEnded, IsTaken, fits_parts, IsAdded, IsWithinLimits}
+use Rattle.slate_table.proofs.IndexLaws.{separators_count}
+use Rattle.slate_table.proofs.Cuttings.{Begun, cut_is, cutting_more, cut_same, cut_next, cutting_rows, separators_next, separators_same, places_end}
+
+last_of : (k : List ℕ) (rows : List RowEntry) (q r : RowEntry) → slice_get (r ∷ rows) (length rows) ≡ Some q → last_key r.key rows ≡ q.key
+last_of k [] q r h = let same : r ≡ q = cc in ap (λ (x : RowEntry). x.key) same
+last_of k (x ∷ rows) q r h = last_of k rows q x h
+
+pub last_behind : (rows : List RowEntry) (q : RowEntry) (key : List ℕ) → slice_get rows (length rows - 1) ≡ Some q → separator q.key key ≡ separator_behind rows key
+last_behind [] q key h = absurd cc
+last_behind (r ∷ rows) q key h =
+    let place : length (r ∷ rows) - 1 ≡ length rows = omega arith in
+    let last = last_of [] rows q r (sym (ap (slice_get (r ∷ rows)) place) ∙ h) in
+    ap (λ (k : List ℕ). separator k key) (sym last)
+
+-- ---- a cutting of rows has a last block
+
+snoc_begun : (b : List RowEntry) (r : RowEntry) → Begun (b ++ r ∷ [])
+snoc_begun [] r = tt
+snoc_begun (q ∷ qs) r = tt
+
+more_begun : (size version : ℕ) (c : Cutting) (r : RowEntry) → Begun (cut_more size version c r).filling
+more_begun size version c r = by (fits_in size version c.filling r)
+  where
+    by : (t : Bool) → Begun (cond {A = Cutting} t (record { ended = c.ended; filling = c.filling ++ r ∷ [] }) (record { ended = c.ended ++ c.filling ∷ []; filling = r ∷ [] })).filling
+    by true = snoc_begun c.filling r
+    by false = tt
+
+fold_begun : (size version : ℕ) (c : Cutting) (rows : List RowEntry) → Begun c.filling → Begun (fold (cut_more size version) c rows).filling
+fold_begun size version c [] h = h
+fold_begun size version c (r ∷ rows) h = fold_begun size version (cut_more size version c r) rows (more_begun size version c r)
+
+pub cutting_begun : (size version : ℕ) (rows : List RowEntry) → Begun rows → Begun (cutting size version rows).filling
+unfolding cutting
+cutting_begun size version [] h = absurd h
+cutting_begun size version (r ∷ rows) h = fold_begun size version (cut_more size version (record { ended = []; filling = [] }) r) rows (more_begun size version (record { ended = []; filling = [] }) r)
+
+-- ---- the next cutting
+
+next_rows : (p q : TableParts) (r : RowEntry) → q.block_size ≡ p.block_size → q.format ≡ p.format → q.rows.items ≡ p.rows.items ++ r ∷ [] →
+    cut_parts q ≡ cut_more p.block_size (version_of p.format) (cut_parts p) r
+next_rows p q r size format rows = (λ i. cutting (size i) (version_of (format i)) (rows i)) ∙ cutting_more p.block_size (version_of p.format) p.rows.items r
+
+fits_on : (c : Cutting) (p : TableParts) (r : RowEntry) (t : Bool) → StandsOn c p → fits_parts p r ≡ t → fits_in p.block_size (version_of p.format) c.filling r ≡ t
+fits_on c p r t s h = sym (ap (λ (b : Building). fits_in b.size b.version b.rows r) s.builder) ∙ h
+
+next_filled : (p q : TableParts) (b : List RowEntry) → q.block_size ≡ p.block_size → q.format ≡ p.format → filled p b ≡ filled q b
+next_filled p q b size format = λ i. record { version = version_of (sym format i); size = sym size i; rows = b }
+
+key_sum : (rows : List RowEntry) (r : RowEntry) → sum_by (λ x. length x.key) rows + length r.key ≡ sum_by (λ x. length x.key) (rows ++ r ∷ [])
+key_sum rows r = let whole = sum_by-append (λ (x : RowEntry). length x.key) rows (r ∷ []) in omega (arith, whole)
+
+value_sum : (rows : List RowEntry) (r : RowEntry) → sum_by (λ x. length (operand x)) rows + length (operand r) ≡ sum_by (λ x. length (operand x)) (rows ++ r ∷ [])
+value_sum rows r = let whole = sum_by-append (λ (x : RowEntry). length (operand x)) rows (r ∷ []) in omega (arith, whole)
+
+-- ---- the first row of a block, or a further one
+
+begun_full : (size version : ℕ) (b : List RowEntry) (r : RowEntry) → fits_in size version b r ≡ false → Begun b
+begun_full size version [] r h = absurd cc
+begun_full size version (q ∷ qs) r h = tt
+
+begun_some : (b : List RowEntry) → Begun b → 0 < length b
+begun_some [] h = absurd h
+begun_some (q ∷ qs) h = omega arith
+
+pub some_rows : (size version : ℕ) (b : List RowEntry) (r : RowEntry) → fits_in size version b r ≡ false → 0 < length b
+some_rows size version b r h = begun_some b (begun_full size version b r h)
+
+rows_begun : (size version : ℕ) (rows : List RowEntry) → Begun (cutting size version rows).filling → Begun rows
+unfolding cutting
+rows_begun size version [] h = absurd h
+rows_begun size version (r ∷ rows) h = tt
+
+IsNone : List RowEntry → Cutting → Type 0
+IsNone rows c = (rows ≡ []) × (c.ended ≡ []) × (c.filling ≡ [])
+
+either_begun : (size version : ℕ) (rows : List RowEntry) → IsNone rows (cutting size version rows) ⊎ Begun (cutting size version rows).filling
+unfolding cutting IsNone
+either_begun size version [] = inl (refl, refl, refl)
+either_begun size version (r ∷ rows) = inr (cutting_begun size version (r ∷ rows) tt)
+
+abbrev with_separator : List RowEntry → List (List ℕ) → List RowEntry → RowEntry → List (List ℕ)
+with_separator filling seps rows r = cond (length filling == 0) (seps ++ separator_behind rows r.key ∷ []) seps
+
+not_none : (q : RowEntry) (qs : List RowEntry) → (length (q ∷ qs) == 0) ≡ false
+not_none q qs = grind (arith, nat_tests)
+
+sep_more : (ended : List (List RowEntry)) (filling rows : List RowEntry) (seps : List (List ℕ)) (r : RowEntry) → seps ≡ separators (with_last ended filling) →
+    IsNone rows (record { ended = ended; filling = filling }) ⊎ Begun filling → with_separator filling seps rows r ≡ separators (with_last ended (filling ++ r ∷ []))
+unfolding IsNone
+sep_more ended [] rows seps r h (inl e) =
+    let none : seps ≡ [] = h ∙ ap separators e.1 in
+    (λ i. none i ++ separator_behind (e.0 i) r.key ∷ []) ∙ sym (ap (λ (l : List (List RowEntry)). separators (l ++ (r ∷ []) ∷ [])) e.1)
+sep_more ended [] rows seps r h (inr b) = absurd b
+sep_more ended (q ∷ qs) rows seps r h e =
+    ap (λ (t : Bool). cond t (seps ++ separator_behind rows r.key ∷ []) seps) (not_none q qs) ∙ h ∙ sym (separators_same ended (q ∷ qs) r tt)
+
+sep_few : (ended : List (List RowEntry)) (filling rows : List RowEntry) (seps : List (List ℕ)) (r : RowEntry) → seps ≡ separators (with_last ended filling) → length seps < 2 ^ 32 →
+    IsNone rows (record { ended = ended; filling = filling }) ⊎ Begun filling → length (with_separator filling seps rows r) < 2 ^ 32
+unfolding IsNone
+sep_few ended [] rows seps r h few (inl e) =
+    let none : length seps ≡ 0 = ap length (h ∙ ap separators e.1) in
+    omega (arith, none, length-append seps (separator_behind rows r.key ∷ []))
+sep_few ended [] rows seps r h few (inr b) = absurd b
+sep_few ended (q ∷ qs) rows seps r h few e =
+    subst (λ (t : Bool). length (cond t (seps ++ separator_behind rows r.key ∷ []) seps) < 2 ^ 32) (sym (not_none q qs)) few
+
+behind_some : (rows : List RowEntry) (key : List ℕ) → Begun rows → separator_behind rows key ≡ separator (last_key [] rows) key
+behind_some [] key h = absurd h
+behind_some (r ∷ rs) key h = refl
+
+all_end : {X : Type 0} (P : X → Type 0) (xs : List X) (x : X) → AllByRecursion P xs → P x → AllByRecursion P (xs ++ x ∷ [])
+all_end P [] x a h = (h, tt)
+all_end P (y ∷ xs) x a h = (a.0, all_end P xs x a.1 h)
+
+-- ---- a row that fits
+
+next_same : (p q : TableParts) (r : RowEntry) → Stands p → fits_parts p r ≡ true → IsTaken p r q → cut_parts q ≡ record { ended = (cut_parts p).ended; filling = (cut_parts p).filling ++ r ∷ [] }
+next_same p q r s fit t = next_rows p q r t.size t.format t.rows ∙ cut_same p.block_size (version_of p.format) (cut_parts p) r (fits_on (cut_parts p) p r true s fit)
+
+taken_separators : (p q : TableParts) (r : RowEntry) → Stands p → IsTaken p r q → q.separators.items ≡ with_separator (cut_parts p).filling p.separators.items p.rows.items r
+taken_separators p q r s t = t.separators ∙ ap (λ (b : Building). with_separator b.rows p.separators.items p.rows.items r) s.builder
+
+pub taken_stands : (p q : TableParts) (r : RowEntry) → Stands p → fits_parts p r ≡ true → IsTaken p r q → AreInOrder (p.rows.items ++ r ∷ []) → Stands q
+taken_stands p q r s fit t order =
+    let c = cut_parts p in
+    let begun = either_begun p.block_size (version_of p.format) p.rows.items in
+    let seps = taken_separators p q r s t in
+    subst (λ (d : Cutting). StandsOn d q) (sym (next_same p q r s fit t)) (record {
+      some = omega (arith, t.size, s.some);
+      few = omega (arith, t.size, s.few);
+      builder = t.builder ∙ ap (λ (b : Building). with_row b r) s.builder ∙ next_filled p q (c.filling ++ r ∷ []) t.size t.format;
+      counts = t.counts c.filling s.counts;
+      separators = seps ∙ sep_more c.ended c.filling p.rows.items p.separators.items r s.separators begun;
+      stats = t.stats ∙ s.stats;
+      blocks = subst (λ (l : List (List ℕ)). length l < 2 ^ 32) (sym seps) (sep_few c.ended c.filling p.rows.items p.separators.items r s.separators s.blocks begun);
+      each = subst (λ (f : BlockFormat). AllByRecursion (FitsBlock (version_of f)) c.ended) (sym t.format) s.each;
+      order = subst AreInOrder (sym t.rows) order;
+      keys = t.keys ∙ ap (λ (n : ℕ). n + length r.key) s.keys ∙ key_sum p.rows.items r ∙ ap (λ (l : List RowEntry). sum_by (λ x. length x.key) l) (sym t.rows);
+      values = t.values ∙ ap (λ (n : ℕ). n + length (operand r)) s.values ∙ value_sum p.rows.items r ∙ ap (λ (l : List RowEntry). sum_by (λ x. length (operand x)) l) (sym t.rows);
+    })
+
+-- ---- a row that ends the block
+
+next_ended : (encode : Encode) (p m q : TableParts) (r : RowEntry) → Stands p → fits_parts p r ≡ false → IsEnded encode p m → IsTaken m r q →
+    cut_parts q ≡ record { ended = (cut_parts p).ended ++ (cut_parts p).filling ∷ []; filling = r ∷ [] }
+next_ended encode p m q r s fit e t =
+    next_rows p q r (t.size ∙ e.size) (t.format ∙ e.format) (t.rows ∙ ap (λ (l : List RowEntry). l ++ r ∷ []) e.rows)
+    ∙ cut_next p.block_size (version_of p.format) (cut_parts p) r (fits_on (cut_parts p) p r false s fit)
+
+ended_separators : (encode : Encode) (p m q : TableParts) (r : RowEntry) → Stands p → fits_parts p r ≡ false → IsEnded encode p m → IsTaken m r q →
+    q.separators.items ≡ p.separators.items ++ separator_behind p.rows.items r.key ∷ []
+ended_separators encode p m q r s fit e t =
+    t.separators ∙ ap (λ (b : Building). with_separator b.rows m.separators.items m.rows.items r) e.builder
+    ∙ (λ i. e.separators i ++ separator_behind (e.rows i) r.key ∷ [])
+
+spelled_separators : (p : TableParts) (r : RowEntry) → Stands p → Begun (cut_parts p).filling →
+    p.separators.items ++ separator_behind p.rows.items r.key ∷ [] ≡ separators (with_last ((cut_parts p).ended ++ (cut_parts p).filling ∷ []) (r ∷ []))
+spelled_separators p r s begun =
+    let c = cut_parts p in
+    let all = sym (cutting_rows p.block_size (version_of p.format) p.rows.items) in
+    let behind = behind_some p.rows.items r.key (rows_begun p.block_size (version_of p.format) p.rows.items begun) ∙ ap (λ (l : List RowEntry). separator (last_key [] l) r.key) all in
+    (λ i. s.separators i ++ behind i ∷ []) ∙ sym (separators_next c.ended c.filling r begun)
+
+fits_block : (c : Cutting) (p : TableParts) → StandsOn c p → FitsBlock p.block.builder.version p.block.builder.rows → FitsBlock (version_of p.format) c.filling
+fits_block c p s f = subst (λ (b : Building). FitsBlock b.version b.rows) s.builder f
+
+pub ended_stands : (encode : Encode) (p m q : TableParts) (r : RowEntry) → Stands p → fits_parts p r ≡ false → IsEnded encode p m → IsTaken m r q → AreInOrder (p.rows.items ++ r ∷ []) →
+    length p.separators.items + 1 < 2 ^ 32 → Stands q
+ended_stands encode p m q r s fit e t order room =
+    let c = cut_parts p in
+    let begun = begun_full p.block_size (version_of p.format) c.filling r (fits_on c p r false s fit) in
+    let seps = ended_separators encode p m q r s fit e t in
+    let rows : q.rows.items ≡ p.rows.items ++ r ∷ [] = t.rows ∙ ap (λ (l : List RowEntry). l ++ r ∷ []) e.rows in
+    let count : length q.separators.items ≡ length p.separators.items + 1 = ap length seps ∙ length-append p.separators.items (separator_behind p.rows.items r.key ∷ []) in
+    subst (λ (d : Cutting). StandsOn d q) (sym (next_ended encode p m q r s fit e t)) (record {
+      some = omega (arith, t.size, e.size, s.some);
+      few = omega (arith, t.size, e.size, s.few);
+      builder = t.builder ∙ ap (λ (b : Building). with_row b r) e.builder ∙ next_filled p q (r ∷ []) (t.size ∙ e.size) (t.format ∙ e.format);
+      counts = t.counts [] e.counts;
+      separators = seps ∙ spelled_separators p r s begun;
+      stats = t.stats ∙ e.stats ∙ (λ i. s.stats i ++ s.counts i ∷ []) ∙ sym (map-append stats_of c.ended (c.filling ∷ []));
+      blocks = omega (arith, count, room);
+      each = subst (λ (f : BlockFormat). AllByRecursion (FitsBlock (version_of f)) (c.ended ++ c.filling ∷ [])) (sym (t.format ∙ e.format))
+          (all_end (FitsBlock (version_of p.format)) c.ended c.filling s.each (fits_block c p s e.fits));
+      order = subst AreInOrder (sym rows) order;
+      keys = t.keys ∙ ap (λ (n : ℕ). n + length r.key) (e.keys ∙ s.keys) ∙ key_sum p.rows.items r ∙ ap (λ (l : List RowEntry). sum_by (λ x. length x.key) l) (sym rows);
+      values = t.values ∙ ap (λ (n : ℕ). n + length (operand r)) (e.values ∙ s.values) ∙ value_sum p.rows.items r ∙ ap (λ (l : List RowEntry). sum_by (λ x. length (operand x)) l) (sym rows);
+    })
+
+pub added_stands : (encode : Encode) (p q : TableParts) (r : RowEntry) → Stands p → IsAdded encode p r q → AreInOrder (p.rows.items ++ r ∷ []) → IsWithinLimits p r → Stands q
+added_stands encode p q r s (inl a) order limits = taken_stands p q r s a.0 a.1 order
+added_stands encode p q r s (inr a) order limits = ended_stands encode p a.0 q r s a.1 a.2 a.3 order (limits.blocks a.1)
+
+-- ---- sections
+
+abbrev pub Sections : Encode → TableParts → Type 0
+Sections encode p = AreSections encode (version_of p.format) (cut_parts p).ended p.bytes.items p.offsets.items
+
+taken_sections : (encode : Encode) (p q : TableParts) (r : RowEntry) → Stands p → fits_parts p r ≡ true → IsTaken p r q → Sections encode p → Sections encode q
+taken_sections encode p q r s fit t a =
+    let next = ap (λ (c : Cutting). c.ended) (next_same p q r s fit t) in
+    let same : block_sections encode (version_of p.format) (cut_parts p).ended ≡ block_sections encode (version_of q.format) (cut_parts q).ended = λ i. block_sections encode (version_of (sym t.format i)) (sym next i) in
+    record { are_bytes = t.bytes ∙ a.are_bytes ∙ ap (λ (l : List (List ℕ)). flat_map (λ x. x) l) same; are_offsets = t.offsets ∙ a.are_offsets ∙ ap (places 0) same }
+
+flat_end : (ss : List (List ℕ)) (x : List ℕ) → flat_map (λ y. y) (ss ++ x ∷ []) ≡ flat_map (λ y. y) ss ++ x
+flat_end ss x = flat_map-append (λ (y : List ℕ). y) ss (x ∷ []) ∙ ap (λ (l : List ℕ). flat_map (λ y. y) ss ++ l) (append-nil x)
+
+ended_sections : (encode : Encode) (p m q : TableParts) (r : RowEntry) → Stands p → fits_parts p r ≡ false → IsEnded encode p m → IsTaken m r q → Sections encode p → Sections encode q
+ended_sections encode p m q r s fit e t a =
+    let c = cut_parts p in
+    let version = version_of p.format in
+    let ss = block_sections encode version c.ended in
+    let x = section encode (block_bytes version c.filling) in
+    let next = ap (λ (d : Cutting). d.ended) (next_ended encode p m q r s fit e t) in
+    let more : ss ++ x ∷ [] ≡ block_sections encode version (c.ended ++ c.filling ∷ []) = sym (map-append (λ (b : List RowEntry). section encode (block_bytes version b)) c.ended (c.filling ∷ [])) in
+    let same : ss ++ x ∷ [] ≡ block_sections encode (version_of q.format) (cut_parts q).ended = more ∙ (λ i. block_sections encode (version_of (sym (t.format ∙ e.format) i)) (sym next i)) in
+    let last = ap (λ (b : Building). section encode (block_bytes b.version b.rows)) s.builder in
+    let whole : q.bytes.items ≡ flat_map (λ y. y) ss ++ x = t.bytes ∙ e.bytes ∙ (λ i. a.are_bytes i ++ last i) in
+    let begin : length p.bytes.items ≡ 0 + length (flat_map (λ y. y) ss) = ap length a.are_bytes ∙ omega arith in
+    record {
+      are_bytes = whole ∙ sym (flat_end ss x) ∙ ap (λ (l : List (List ℕ)). flat_map (λ y. y) l) same;
+      are_offsets = t.offsets ∙ e.offsets ∙ (λ i. a.are_offsets i ++ begin i ∷ []) ∙ sym (places_end 0 ss x) ∙ ap (places 0) same;
+    }
+
+pub added_sections : (encode : Encode) (p q : TableParts) (r : RowEntry) → Stands p → IsAdded encode p r q → Sections encode p → Sections encode q
+added_sections encode p q r s (inl a) h = taken_sections encode p q r s a.0 a.1 h
+added_sections encode p q r s (inr a) h = ended_sections encode p a.0 q r s a.1 a.2 a.3 h
+
+-- ---- a builder with no row, and what it refuses
+
+pub fresh_stands : (p : TableParts) → 0 < p.block_size → p.block_size ≤ 65535 → p.rows.items ≡ [] → p.block.builder ≡ filled p [] → p.block.stats ≡ stats_of [] → p.separators.items ≡ [] →
+    p.block_stats.items ≡ [] → p.raw_key_size ≡ 0 → p.raw_val_size ≡ 0 → Stands p
+unfolding cutting
+fresh_stands p some few rows builder counts seps stats keys values =
+    let none : cut_parts p ≡ record { ended = []; filling = [] } = ap (λ (l : List RowEntry). cutting p.block_size (version_of p.format) l) rows in
+    subst (λ (d : Cutting). StandsOn d p) (sym none) (record {
+      some = some;
+      few = few;
+      builder = builder;
+      counts = counts;
+      separators = seps;
+      stats = stats;
+      blocks = omega (arith, ap length seps);
+      each = tt;
+      order = subst AreInOrder (sym rows) tt;
+      keys = keys ∙ ap (λ (l : List RowEntry). sum_by (λ x. length x.key) l) (sym rows);
+      values = values ∙ ap (λ (l : List RowEntry). sum_by (λ x. length (operand x)) l) (sym rows);
+    })
+
+pub old_size : (encode : Encode) (p : TableParts) (w : Bool) (r : RowEntry) → Stands p → ended_size encode p r ≡ section_size encode (seen p w) r
+old_size encode p w r s = ap (λ (b : Building). cond (fits_in b.size b.version b.rows r) None (Some (length (section encode (block_bytes b.version b.rows))))) s.builder
+
+with_begun_count : (ended : List (List RowEntry)) (filling : List RowEntry) → Begun filling → length (with_last ended filling) ≡ length ended + 1
+with_begun_count ended [] h = absurd h
+with_begun_count ended (q ∷ qs) h = length-append ended ((q ∷ qs) ∷ [])
+
+full_count : (p : TableParts) (r : RowEntry) → Stands p → fits_parts p r ≡ false → length (cut p.block_size (version_of p.format) (p.rows.items ++ r ∷ [])) ≡ length p.separators.items + 1
+full_count p r s fit =
+    let c = cut_parts p in
+    let full = fits_on c p r false s fit in
+    let begun = begun_full p.block_size (version_of p.format) c.filling r full in
+    let next = sym (cut_is p.block_size (version_of p.format) (p.rows.items ++ r ∷ [])) ∙ ap all_blocks (cutting_more p.block_size (version_of p.format) p.rows.items r ∙ cut_next p.block_size (version_of p.format) c r full) in
+    let now = ap length next ∙ length-append (c.ended ++ c.filling ∷ []) ((r ∷ []) ∷ []) in
+    let more = length-append c.ended (c.filling ∷ []) in
+    let before = ap length s.separators ∙ separators_count (all_blocks c) ∙ with_begun_count c.ended c.filling begun in
+    omega (arith, now, more, before)
+
+pub past_limit : (p : TableParts) (w : Bool) (r : RowEntry) (limit : ℕ) → Stands p → IsPastLimit p r limit → IsLimit (seen p w) r limit
+past_limit p w r limit s (inl h) = let count = full_count p r s h.1 in inl (h.0, omega (arith, h.2, count))
+past_limit p w r limit s (inr h) = inr (h.0, by h.1)
+  where
+    by : (2 ^ 64 ≤ p.raw_key_size + length r.key) ⊎ (2 ^ 64 ≤ p.raw_val_size + length (operand r)) →
+        (2 ^ 64 ≤ sum_by (λ x. length x.key) (p.rows.items ++ r ∷ [])) ⊎ (2 ^ 64 ≤ sum_by (λ x. length (operand x)) (p.rows.items ++ r ∷ []))
+    by (inl k) = let sum = key_sum p.rows.items r in let old = s.keys in inl (omega (arith, k, sum, old))
+    by (inr k) = let sum = value_sum p.rows.items r in let old = s.values in inr (omega (arith, k, sum, old))

@@ -1,0 +1,108 @@
+//! Tables, built row by row.
+ghost use Rattle.std.specs.Prelude.{◌≡◌, ◌≤◌, ◌<◌, ◌++◌, ◌∷◌, ◌⊎◌, ◌↔◌, ℕ, List, [], Ok, Err, None, true, length, OnOk, OnErr, IfOk, IfErr, IsSome};
+ghost use Rattle.slate_types.specs.Faults.{faults_of};
+ghost use Rattle.slate_block.specs.Building.{CanTake};
+ghost use Rattle.slate_table.specs.Table.{AreInOrder};
+ghost use Rattle.slate_table.specs.Parts.{Encode};
+ghost use Rattle.slate_table.specs.SectionReading.{changed_by, IsTransformFault};
+ghost use Rattle.slate_table.specs.TableParts.{version_of};
+ghost use Rattle.slate_table.specs.TableBuilding.{begun, section_size, IsLimit, AreEncoded};
+
+use crate::info::SsTableFormat;
+use crate::table_parts::{TableParts, new_block};
+use slate_types::{BlockTransformer, RowEntry, SlateDBError};
+use std::alloc::Global;
+use std::marker::Model;
+
+/// Takes rows in their order, key upwards and sequence downwards, and gives their table. A block ends just before a row that
+/// doesn't fit. Contracts see the version and the block size, the rows that were added, the sections of the blocks that were
+/// ended and where they begin, and whether more may be added: after a refusal for want of memory, or by the transformer, the
+/// builder may only be dropped.
+#[derive(Drop)]
+pub struct EncodedSsTableBuilder {
+    parts: TableParts,
+    is_whole: bool,
+}
+
+impl Model for EncodedSsTableBuilder {
+    ghost use Rattle.std.specs.Prelude.{◌≡◌, true};
+    ghost use Rattle.slate_table.specs.TableBuilding.{TableBuilding};
+
+    ghost Value = { TableBuilding };
+
+    ghost use Rattle.slate_table.specs.TableParts.{seen, Stands};
+
+    ghost view = { λ b. seen b.parts b.is_whole };
+
+    ghost invariant = { λ b. b.is_whole ≡ true → Stands b.parts };
+}
+
+impl EncodedSsTableBuilder {
+    /// A builder with no row, for blocks of 1 to 65535 bytes. `UnsupportedCompression` exactly where the format names a codec,
+    /// or `OutOfMemory`.
+    pub fn new(alloc: Global, format: &SsTableFormat) -> Result<EncodedSsTableBuilder, SlateDBError>
+        requires some { 0 < format.now.block_size }
+        requires few { format.now.block_size ≤ 65535 }
+        ensures begun { IfOk result (λ builder. builder ≡ begun (version_of format.now.block_format) format.now.block_size) }
+        ensures codec { IfErr result (λ e. (e ≡ SlateDBError.OutOfMemory) ⊎ (IsSome format.now.compression_codec × (codec : ℕ) × (e ≡ SlateDBError.UnsupportedCompression codec))) }
+        ensures refused { IsSome format.now.compression_codec → IfErr result (λ e. (codec : ℕ) × (e ≡ SlateDBError.UnsupportedCompression codec)) }
+        ensures no_codec { OnOk result (format.now.compression_codec ≡ None) }
+    {
+        if let Some(codec) = format.compression_codec {
+            return Err(SlateDBError::UnsupportedCompression { codec: codec as u8 });
+        }
+        let block = new_block(alloc, format.block_format, format.block_size)?;
+        let parts = TableParts {
+            block_size: format.block_size,
+            format: format.block_format,
+            rows: Vec::new(alloc),
+            block,
+            bytes: Vec::new(alloc),
+            offsets: Vec::new(alloc),
+            separators: Vec::new(alloc),
+            block_stats: Vec::new(alloc),
+            raw_key_size: 0,
+            raw_val_size: 0,
+        };
+        Ok(EncodedSsTableBuilder {
+            parts,
+            is_whole: true,
+        })
+    }
+
+    /// Adds a row behind the others, and answers the size of the section of a block that it ended. `EmptyKey` exactly for an
+    /// empty key, and `LimitReached` exactly where there would be more than 4294967295 blocks, or a sum of the lengths of keys
+    /// or values past `u64::MAX`: these leave the builder as it was. After `BlockTransformError`, which comes only where the
+    /// transformer's count of faults rose, and after `OutOfMemory` it may only be dropped.
+    pub fn add<T: BlockTransformer>(
+        &mut self,
+        alloc: Global,
+        entry: RowEntry,
+        transformer: &mut Option<T>,
+    ) -> Result<Option<u64>, SlateDBError>
+        requires whole { self.old.is_whole ≡ true }
+        requires lengths { CanTake entry }
+        requires order { AreInOrder (self.old.rows ++ entry ∷ []) }
+        ensures added { OnOk result (self.new.rows ≡ self.old.rows ++ entry ∷ []) }
+        ensures whole { OnOk result (self.new.is_whole ≡ true) }
+        ensures version { OnOk result (self.new.version ≡ self.old.version) }
+        ensures size { OnOk result (self.new.size ≡ self.old.size) }
+        ensures encoded { OnOk result (AreEncoded (changed_by T.encoded transformer.old) self.old → AreEncoded (changed_by T.encoded transformer.old) self.new) }
+        ensures ended { IfOk result (λ size. size ≡ section_size (changed_by T.encoded transformer.old) self.old entry) }
+        ensures empty { (result ≡ Err SlateDBError.EmptyKey) ↔ (length entry.key ≡ 0) }
+        ensures cause { IfErr result (λ e. IsTransformFault (faults_of T.faults transformer.old) (faults_of T.faults transformer.new) e
+            ⊎ ((self.new ≡ self.old) × ((e ≡ SlateDBError.EmptyKey) ⊎ ((limit : ℕ) × (e ≡ SlateDBError.LimitReached limit) × IsLimit self.old entry limit)))) }
+        ensures same_encoded { changed_by T.encoded transformer.new ≡ changed_by T.encoded transformer.old }
+        ensures same_decoded { changed_by T.decoded transformer.new ≡ changed_by T.decoded transformer.old }
+        ensures later { faults_of T.faults transformer.old ≤ faults_of T.faults transformer.new }
+    {
+        if entry.key.is_empty() {
+            return Err(SlateDBError::EmptyKey);
+        }
+        self.parts.test_limits(&entry)?;
+        self.is_whole = false;
+        let ended = self.parts.add(alloc, entry, transformer)?;
+        self.is_whole = true;
+        Ok(ended)
+    }
+}

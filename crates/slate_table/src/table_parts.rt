@@ -1,0 +1,202 @@
+//! What a table builder keeps.
+ghost use Rattle.std.specs.Prelude.{◌≡◌, ◌≤◌, ◌<◌, ◌+◌, ◌-◌, ◌^◌, ◌⊎◌, ◌==◌, ◌++◌, ◌∷◌, if◌then◌else◌, ℕ, List, [], Ok, Err, true, false, length, OnOk, IfOk, IfErr, IsOkUnless};
+ghost use Rattle.slate_types.specs.Faults.{faults_of};
+ghost use Rattle.slate_types.specs.Rows.{operand};
+ghost use Rattle.slate_block.specs.Building.{CanTake, with_row};
+ghost use Rattle.slate_block.specs.Fitting.{fits_in};
+ghost use Rattle.slate_types.specs.declared.types.RowEntry.{RowEntry};
+ghost use Rattle.slate_block.specs.BlockSpelling.{block_bytes};
+ghost use Rattle.slate_block.specs.Counting.{stats_of};
+ghost use Rattle.slate_table.specs.Parts.{section};
+ghost use Rattle.slate_table.specs.SectionReading.{changed_by, IsTransformFault};
+ghost use Rattle.slate_table.specs.TableParts.{version_of, separator_behind, fits_parts, ended_size, IsAdded, IsEnded, IsTaken, IsPastLimit, IsWithinLimits};
+
+use crate::section::seal_section;
+use crate::separator::separator;
+use bytes::Bytes;
+use slate_block::{BlockBuilder, BlockBuilderWithStats, BlockStats};
+use slate_types::{BlockFormat, BlockTransformer, RowEntry, SlateDBError};
+use std::alloc::Global;
+use std::mem;
+
+/// The greatest number of blocks in a table.
+const MAX_BLOCKS: usize = 4294967295;
+
+/// The rows that were added, the sections of the blocks that were ended, and the block behind them.
+#[derive(Drop)]
+pub struct TableParts {
+    pub block_size: u32,
+    pub format: BlockFormat,
+    pub rows: Vec<RowEntry>,
+    pub block: BlockBuilderWithStats,
+    /// The sections of the blocks that were ended, and where they begin.
+    pub bytes: Vec<u8>,
+    pub offsets: Vec<u64>,
+    /// One for each block, and for the one behind those that were ended once it has a row.
+    pub separators: Vec<Bytes>,
+    pub block_stats: Vec<BlockStats>,
+    pub raw_key_size: u64,
+    pub raw_val_size: u64,
+}
+
+/// A block of the format, with no row.
+pub fn new_block(
+    alloc: Global,
+    format: BlockFormat,
+    block_size: u32,
+) -> Result<BlockBuilderWithStats, SlateDBError>
+    requires some { 0 < block_size }
+    requires few { block_size ≤ 65535 }
+    ensures builder { IfOk result (λ block. block.builder ≡ record { version = version_of format; size = block_size; rows = [] }) }
+    ensures counts { IfOk result (λ block. block.stats ≡ stats_of []) }
+    ensures cause { IsOkUnless result SlateDBError.OutOfMemory }
+{
+    let builder = match format {
+        BlockFormat::V1 => BlockBuilder::new_v1(alloc, block_size)?,
+        BlockFormat::V2 => BlockBuilder::new_v2(alloc, block_size)?,
+        BlockFormat::Latest => BlockBuilder::new_latest(alloc, block_size)?,
+    };
+    Ok(BlockBuilderWithStats::new(builder))
+}
+
+impl TableParts {
+    /// `LimitReached` exactly where a row would make a block too many, or a sum of lengths too great.
+    pub fn test_limits(&self, entry: &RowEntry) -> Result<(), SlateDBError>
+        requires { CanTake entry.now }
+        ensures within { OnOk result (IsWithinLimits self.now entry.now) }
+        ensures past { IfErr result (λ e. (limit : ℕ) × (e ≡ SlateDBError.LimitReached limit) × IsPastLimit self.now entry.now limit) }
+    {
+        if self.separators.len() >= MAX_BLOCKS && !self.block.would_fit(entry) {
+            return Err(SlateDBError::LimitReached {
+                limit: MAX_BLOCKS as u64,
+            });
+        }
+        let keys = self.raw_key_size.checked_add(entry.key.len() as u64);
+        let values = self.raw_val_size.checked_add(entry.value.len() as u64);
+        if keys.is_some() && values.is_some() {
+            return Ok(());
+        }
+        Err(SlateDBError::LimitReached { limit: u64::MAX })
+    }
+
+    /// Ends the block, which has a row, and answers the length of its section.
+    pub fn end_block<T: BlockTransformer>(
+        &mut self,
+        alloc: Global,
+        transformer: &mut Option<T>,
+    ) -> Result<u64, SlateDBError>
+        requires some { 0 < self.old.block_size }
+        requires few { self.old.block_size ≤ 65535 }
+        requires row { 0 < length self.old.block.builder.rows }
+        ensures ended { OnOk result (IsEnded (changed_by T.encoded transformer.old) self.old self.new) }
+        ensures size { IfOk result (λ size. size ≡ length (section (changed_by T.encoded transformer.old) (block_bytes self.old.block.builder.version self.old.block.builder.rows))) }
+        ensures same_encoded { changed_by T.encoded transformer.new ≡ changed_by T.encoded transformer.old }
+        ensures same_decoded { changed_by T.decoded transformer.new ≡ changed_by T.decoded transformer.old }
+        ensures later { faults_of T.faults transformer.old ≤ faults_of T.faults transformer.new }
+        ensures cause { IfErr result (λ e. IsTransformFault (faults_of T.faults transformer.old) (faults_of T.faults transformer.new) e) }
+    {
+        let empty = new_block(alloc, self.format, self.block_size)?;
+        let (builder, stats) = mem::replace(&mut self.block, empty).into_parts();
+        let part = builder.build()?.encode(alloc)?;
+        let begin = self.bytes.len();
+        seal_section(alloc, &mut self.bytes, part, transformer)?;
+        self.offsets.push(begin as u64)?;
+        self.block_stats.push(stats)?;
+        Ok((self.bytes.len() - begin) as u64)
+    }
+
+    /// Takes a row behind the others, and ends the block where it doesn't fit: then it answers the length of its section.
+    #[tactic(auto, using(crate::proofs::PartsLaws::some_rows))]
+    pub fn add<T: BlockTransformer>(
+        &mut self,
+        alloc: Global,
+        entry: RowEntry,
+        transformer: &mut Option<T>,
+    ) -> Result<Option<u64>, SlateDBError>
+        requires some { 0 < self.old.block_size }
+        requires few { self.old.block_size ≤ 65535 }
+        requires lengths { CanTake entry }
+        requires key { 0 < length entry.key }
+        requires keys { self.old.raw_key_size + length entry.key < 2 ^ 64 }
+        requires values { self.old.raw_val_size + length (operand entry) < 2 ^ 64 }
+        ensures added { OnOk result (IsAdded (changed_by T.encoded transformer.old) self.old entry self.new) }
+        ensures size { IfOk result (λ size. size ≡ ended_size (changed_by T.encoded transformer.old) self.old entry) }
+        ensures same_encoded { changed_by T.encoded transformer.new ≡ changed_by T.encoded transformer.old }
+        ensures same_decoded { changed_by T.decoded transformer.new ≡ changed_by T.decoded transformer.old }
+        ensures later { faults_of T.faults transformer.old ≤ faults_of T.faults transformer.new }
+        ensures cause { IfErr result (λ e. IsTransformFault (faults_of T.faults transformer.old) (faults_of T.faults transformer.new) e) }
+    {
+        if self.block.would_fit(&entry) {
+            self.take(entry)?;
+            return Ok(None);
+        }
+        let size = self.end_block(alloc, transformer)?;
+        self.take(entry)?;
+        Ok(Some(size))
+    }
+
+    /// Takes a row that fits into the block.
+    fn take(&mut self, entry: RowEntry) -> Result<(), SlateDBError>
+        requires lengths { CanTake entry }
+        requires key { 0 < length entry.key }
+        requires fits { fits_parts self.old entry ≡ true }
+        requires keys { self.old.raw_key_size + length entry.key < 2 ^ 64 }
+        requires values { self.old.raw_val_size + length (operand entry) < 2 ^ 64 }
+        ensures taken { OnOk result (IsTaken self.old entry self.new) }
+        ensures cause { IsOkUnless result SlateDBError.OutOfMemory }
+    {
+        begin_block(&mut self.separators, &self.block, &self.rows, &entry.key)?;
+        self.raw_key_size += entry.key.len() as u64;
+        self.raw_val_size += entry.value.len() as u64;
+        add_row(&mut self.block, copy_of(&entry)?)?;
+        self.rows.push(entry)?;
+        Ok(())
+    }
+}
+
+/// The separator of a block that begins with the key behind these rows.
+fn separator_behind(rows: &[RowEntry], key: &Bytes) -> Result<Bytes, SlateDBError>
+    ensures value { IfOk result (λ front. front ≡ separator_behind rows.now key.now) }
+    ensures cause { IsOkUnless result SlateDBError.OutOfMemory }
+{
+    match rows.last() {
+        Some(row) => separator(row.key.as_slice(), key),
+        None => Ok(key.clone()?),
+    }
+}
+
+/// Adds the separator of a block that begins with the key.
+fn begin_block(
+    separators: &mut Vec<Bytes>,
+    block: &BlockBuilderWithStats,
+    rows: &[RowEntry],
+    key: &Bytes,
+) -> Result<(), SlateDBError>
+    ensures begun { OnOk result (separators.new.items ≡ (if length block.now.builder.rows == 0 then separators.old.items ++ separator_behind rows.now key.now ∷ [] else separators.old.items)) }
+    ensures cause { IsOkUnless result SlateDBError.OutOfMemory }
+{
+    if block.is_empty() {
+        separators.push(separator_behind(rows, key)?)?;
+    }
+    Ok(())
+}
+
+/// Takes a row that fits.
+fn add_row(block: &mut BlockBuilderWithStats, entry: RowEntry) -> Result<(), SlateDBError>
+    requires lengths { CanTake entry }
+    requires key { 0 < length entry.key }
+    requires fits { fits_in block.old.builder.size block.old.builder.version block.old.builder.rows entry ≡ true }
+    ensures taken { OnOk result (block.new.builder ≡ with_row block.old.builder entry) }
+    ensures counted { OnOk result ((counted : List RowEntry) → block.old.stats ≡ stats_of counted → block.new.stats ≡ stats_of (counted ++ entry ∷ [])) }
+    ensures cause { IsOkUnless result SlateDBError.OutOfMemory }
+{
+    block.add(entry)?;
+    Ok(())
+}
+
+fn copy_of(entry: &RowEntry) -> Result<RowEntry, SlateDBError>
+    ensures value { IfOk result (λ copy. copy ≡ entry.now) }
+    ensures cause { IsOkUnless result SlateDBError.OutOfMemory }
+{
+    Ok(entry.clone()?)
+}
