@@ -4,8 +4,6 @@
 #[cfg(test)]
 mod block_iterators;
 #[cfg(test)]
-mod block_iterators_v2;
-#[cfg(test)]
 mod blocks;
 #[cfg(test)]
 mod index;
