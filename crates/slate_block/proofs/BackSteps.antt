@@ -1,109 +1,121 @@
 -- Steps of a walk over rows of version 2 from the end.
-use Rattle.std.proofs.Common.{◌≡◌, ℕ, suc, ◌<◌, Bool, true, false, List, [], ◌∷◌, ◌++◌, length, take, reverse, Ok, Err, refl, sym, ap, ◌∙◌, arith, append_assoc, ◌⊎◌, inl, inr}
-use Rattle.std.proofs.lemmas.List.{append-nil, reverse-append, length-reverse}
+use Rattle.std.proofs.Common.{◌≡◌, ℕ, zero, suc, ◌+◌, ◌-◌, ◌<◌, ◌≤◌, true, false, List, [], ◌∷◌, ◌++◌, length, get_or, take, reverse, map, Some, Result, Ok, Err, refl, sym, ap, subst, ◌∙◌, arith, append_assoc, add-one, ◌⊎◌, inl, inr}
+use Rattle.std.specs.Prelude.{slice_get}
+use Rattle.std.proofs.lemmas.List.{append-nil, map-append, reverse-append, length-reverse}
 use Rattle.slate_types.specs.declared.error.SlateDBError.{SlateDBError}
 use Rattle.slate_types.specs.declared.types.RowEntry.{RowEntry}
 use Rattle.slate_types.specs.declared.iter.IterationOrder.{IterationOrder}
-use Rattle.slate_types.specs.declared.iter.IterationOrder.TheVariants.{Descending}
-use Rattle.slate_types.specs.Iteration.{comes_before, drop_before}
-use Rattle.slate_block.specs.Walks.{before, joined}
-use Rattle.slate_block.specs.GroupWalks.{Left, dropped, restart_at, turned, rows_back, left_back}
-
-abbrev found : List RowEntry → Left
-found rows = Ok rows
+use Rattle.slate_types.specs.Iteration.{comes_before}
+use Rattle.slate_block.specs.Walks.{RowRead, all_ok, before}
+use Rattle.slate_block.specs.BlockWalks.{IsPast, StopsAt, BeginsRead}
+use Rattle.slate_block.specs.GroupWalks.{restart_at, turned, reads_back, left_back}
+use Rattle.slate_block.proofs.WalkLaws.{ok_read, all_ok_map}
+use Rattle.slate_block.proofs.SeekLaws.{past_step, past_ahead}
 
 -- ---- the rows of a group, one behind the other
 
-begun : (row : RowEntry) (left : Left) → before row left ≡ joined (Ok (row ∷ [])) left
-begun row (Ok rows) = refl
-begun row (Err e) = refl
+pub group_begun : (row : RowEntry) (whole left : List RowRead) (rows : List RowEntry) → whole ≡ Ok row ∷ left → rows ≡ row ∷ [] → whole ≡ map ok_read rows ++ left
+group_begun row whole left rows h e = h ∙ ap (λ (l : List RowEntry). map ok_read l ++ left) (sym e)
 
-pub group_begun : (row : RowEntry) (whole left : Left) (rows : List RowEntry) → whole ≡ before row left → rows ≡ row ∷ [] → whole ≡ joined (Ok rows) left
-group_begun row whole left rows h e = h ∙ begun row left ∙ ap (λ (l : List RowEntry). joined (Ok l) left) (sym e)
+pub group_grown : (rows more : List RowEntry) (row : RowEntry) (whole now next : List RowRead) → whole ≡ map ok_read rows ++ now → now ≡ Ok row ∷ next → more ≡ rows ++ (row ∷ []) → whole ≡ map ok_read more ++ next
+group_grown rows more row whole now next h step e =
+    h ∙ ap (λ (l : List RowRead). map ok_read rows ++ l) step ∙ sym (append_assoc (map ok_read rows) (Ok row ∷ []) next)
+    ∙ ap (λ (l : List RowRead). l ++ next) (sym (map-append ok_read rows (row ∷ [])) ∙ ap (map ok_read) (sym e))
 
-grown : (rows : List RowEntry) (row : RowEntry) (left : Left) → joined (Ok rows) (before row left) ≡ joined (Ok (rows ++ (row ∷ []))) left
-grown rows row (Ok more) = ap (λ (l : List RowEntry). found l) (sym (append_assoc rows (row ∷ []) more))
-grown rows row (Err e) = refl
+pub group_done : (rows : List RowEntry) (whole now : List RowRead) → whole ≡ map ok_read rows ++ now → now ≡ [] → all_ok whole ≡ Ok rows
+group_done rows whole now h step = ap all_ok (h ∙ ap (λ (l : List RowRead). map ok_read rows ++ l) step ∙ append-nil (map ok_read rows)) ∙ all_ok_map rows
 
-pub group_grown : (rows more : List RowEntry) (row : RowEntry) (whole now next : Left) → whole ≡ joined (Ok rows) now → now ≡ before row next → more ≡ rows ++ (row ∷ []) → whole ≡ joined (Ok more) next
-group_grown rows more row whole now next h step e = h ∙ ap (joined (Ok rows)) step ∙ grown rows row next ∙ ap (λ (l : List RowEntry). joined (Ok l) next) (sym e)
+refused_last : (rows : List RowEntry) (e : SlateDBError) → all_ok (map ok_read rows ++ (Err e ∷ [])) ≡ Err e
+refused_last [] e = refl
+refused_last (row ∷ rows) e = ap (before row) (refused_last rows e)
 
-pub group_done : (rows : List RowEntry) (whole now : Left) → whole ≡ joined (Ok rows) now → now ≡ Ok [] → whole ≡ Ok rows
-group_done rows whole now h step = h ∙ ap (joined (Ok rows)) step ∙ ap (λ (l : List RowEntry). found l) (append-nil rows)
+pub group_refused : (rows : List RowEntry) (whole now : List RowRead) (e : SlateDBError) → whole ≡ map ok_read rows ++ now → now ≡ Err e ∷ [] → all_ok whole ≡ Err e
+group_refused rows whole now e h step = ap all_ok (h ∙ ap (λ (l : List RowRead). map ok_read rows ++ l) step) ∙ refused_last rows e
 
-pub group_refused : (rows : List RowEntry) (whole now : Left) (e : SlateDBError) → whole ≡ joined (Ok rows) now → now ≡ Err e → whole ≡ Err e
-group_refused rows whole now e h step = h ∙ ap (joined (Ok rows)) step
+pub refused_or_done : (rows : List RowEntry) (whole now : List RowRead) (e m : SlateDBError) → whole ≡ map ok_read rows ++ now → (e ≡ m) ⊎ (now ≡ Err e ∷ []) → (e ≡ m) ⊎ (all_ok whole ≡ Err e)
+refused_or_done rows whole now e m h (inl same) = inl same
+refused_or_done rows whole now e m h (inr step) = inr (group_refused rows whole now e h step)
+
+pub begun_refused : (whole : List RowRead) (e m : SlateDBError) → (e ≡ m) ⊎ (whole ≡ Err e ∷ []) → (e ≡ m) ⊎ (all_ok whole ≡ Err e)
+begun_refused whole e m (inl h) = inl h
+begun_refused whole e m (inr h) = inr (ap all_ok h)
 
 -- ---- rows at the end
 
-pub end_dropped : (rows : List RowEntry) (n : ℕ) (row : RowEntry) (key : List ℕ) → take (suc n) rows ≡ take n rows ++ (row ∷ []) → comes_before Descending row.key key ≡ true →
-    drop_before Descending key (reverse (take (suc n) rows)) ≡ drop_before Descending key (reverse (take n rows))
-end_dropped rows n row key e b = ap (λ (l : List RowEntry). drop_before Descending key (reverse l)) e ∙ ap (drop_before Descending key) (reverse-append (take n rows) (row ∷ [])) ∙ rw b refl
+abbrev pub back_of : List RowEntry → List RowRead
+back_of rows = turned (Ok rows)
 
-pub end_stays : (rows : List RowEntry) (n : ℕ) (row : RowEntry) (key : List ℕ) → take (suc n) rows ≡ take n rows ++ (row ∷ []) → comes_before Descending row.key key ≡ false →
-    drop_before Descending key (reverse (take (suc n) rows)) ≡ reverse (take (suc n) rows)
-end_stays rows n row key e b =
-    let turned_row : reverse (take (suc n) rows) ≡ row ∷ reverse (take n rows) = ap reverse e ∙ reverse-append (take n rows) (row ∷ []) in
-    rw turned_row (rw b refl)
+pub last_back : (rows before : List RowEntry) (row : RowEntry) → rows ≡ before ++ (row ∷ []) → back_of rows ≡ Ok row ∷ back_of before
+last_back rows before row e = ap (λ (l : List RowEntry). map ok_read l) (ap reverse e ∙ reverse-append before (row ∷ []))
 
--- ---- groups that are dropped, and the one that is not
+last_taken : (rows : List RowEntry) (n : ℕ) (d : RowEntry) → n < length rows → take (n + 1) rows ≡ take n rows ++ (get_or rows n d ∷ [])
+last_taken [] n d lt = absurd (omega (arith, lt))
+last_taken (row ∷ rows) zero d lt = refl
+last_taken (row ∷ rows) (suc n) d lt = rw add-one (ap (λ (l : List RowEntry). row ∷ l) (rw add-one at (last_taken rows n d (omega (arith, lt)))))
 
-both : (b : Bool) → (b ≡ true) ⊎ (b ≡ false)
-both true = inl refl
-both false = inr refl
+-- the last one of so many rows
+pub back_taken : (rows : List RowEntry) (kept : ℕ) (row : RowEntry) → 0 < kept → kept ≤ length rows → row ≡ get_or rows (kept - 1) row → back_of (take kept rows) ≡ Ok row ∷ back_of (take (kept - 1) rows)
+back_taken rows kept row some le is =
+    let size : kept ≡ (kept - 1) + 1 = omega (arith, some) in
+    let parts : take kept rows ≡ take (kept - 1) rows ++ (row ∷ []) = ap (λ (n : ℕ). take n rows) size ∙ last_taken rows (kept - 1) row (omega (arith, some, le)) ∙ ap (λ (r : RowEntry). take (kept - 1) rows ++ (r ∷ [])) (sym is) in
+    last_back (take kept rows) (take (kept - 1) rows) row parts
 
-nothing_stays : (order : IterationOrder) (key : List ℕ) (rows more : List RowEntry) → drop_before order key rows ≡ [] → drop_before order key (rows ++ more) ≡ drop_before order key more
-nothing_stays order key [] more h = refl
-nothing_stays order key (row ∷ rows) more h =
-    elim (both (comes_before order row.key key)) as (λ _. drop_before order key ((row ∷ rows) ++ more) ≡ drop_before order key more) [
-      | inl before ↦ rw before (nothing_stays order key rows more (rw before at h))
-      | inr after ↦ let g = rw after at h in absurd cc
-    ]
+pub end_past : (order : IterationOrder) (rows : List RowEntry) (kept : ℕ) (row : RowEntry) (key : List ℕ) (first : List RowRead) → 0 < kept → kept ≤ length rows → row ≡ get_or rows (kept - 1) row → comes_before order row.key key ≡ true →
+    IsPast order key first (back_of (take kept rows)) → IsPast order key first (back_of (take (kept - 1) rows))
+end_past order rows kept row key first some le is b p = past_step order key row first (back_of (take kept rows)) (back_of (take (kept - 1) rows)) (back_taken rows kept row some le is) b p
 
-some_stay : (order : IterationOrder) (key : List ℕ) (rows more kept : List RowEntry) → 0 < length kept → drop_before order key rows ≡ kept → drop_before order key (rows ++ more) ≡ kept ++ more
-some_stay order key [] more kept some h = absurd (omega (arith, ap length h))
-some_stay order key (row ∷ rows) more kept some h =
-    elim (both (comes_before order row.key key)) as (λ _. drop_before order key ((row ∷ rows) ++ more) ≡ kept ++ more) [
-      | inl before ↦ rw before (some_stay order key rows more kept some (rw before at h))
-      | inr after ↦ rw after (ap (λ (l : List RowEntry). l ++ more) (rw after at h))
-    ]
+pub end_stops : (order : IterationOrder) (rows : List RowEntry) (kept : ℕ) (row : RowEntry) (key : List ℕ) → 0 < kept → kept ≤ length rows → row ≡ get_or rows (kept - 1) row → comes_before order row.key key ≡ false → StopsAt order key (back_of (take kept rows))
+end_stops order rows kept row key some le is b = subst (StopsAt order key) (sym (back_taken rows kept row some le is)) b
 
-pub all_dropped : (order : IterationOrder) (key : List ℕ) (rows : List RowEntry) (left : Left) → drop_before order key rows ≡ [] → dropped order key (joined (Ok rows) left) ≡ dropped order key left
-all_dropped order key rows (Ok more) h = ap (λ (l : List RowEntry). found l) (nothing_stays order key rows more h)
-all_dropped order key rows (Err e) h = refl
+pub none_stops : (order : IterationOrder) (rows : List RowEntry) (n : ℕ) (key : List ℕ) → n ≡ 0 → StopsAt order key (back_of (take n rows))
+none_stops order rows n key e = subst (λ (k : ℕ). StopsAt order key (back_of (take k rows))) (sym e) tt
 
-pub some_dropped : (order : IterationOrder) (key : List ℕ) (rows kept : List RowEntry) (left : Left) → 0 < length kept → drop_before order key rows ≡ kept → dropped order key (joined (Ok rows) left) ≡ joined (Ok kept) left
-some_dropped order key rows kept (Ok more) some h = ap (λ (l : List RowEntry). found l) (some_stay order key rows more kept some h)
-some_dropped order key rows kept (Err e) some h = refl
+-- ---- what stands before others
 
-pub back_read : (body offsets : List ℕ) (n : ℕ) (rows : List RowEntry) → restart_at body offsets n ≡ Ok rows → rows_back (suc n) body offsets ≡ joined (Ok (reverse rows)) (rows_back n body offsets)
-unfolding rows_back
-back_read body offsets n rows h = ap (λ (g : Left). joined (turned g) (rows_back n body offsets)) h
+stops_ahead : (order : IterationOrder) (key : List ℕ) (reads more : List RowRead) → 0 < length reads → StopsAt order key reads → StopsAt order key (reads ++ more)
+stops_ahead order key [] more some h = absurd (omega (arith, some))
+stops_ahead order key (Ok row ∷ reads) more some h = h
+stops_ahead order key (Err e ∷ reads) more some h = tt
 
-pub back_refused : (body offsets : List ℕ) (n : ℕ) (e : SlateDBError) → restart_at body offsets n ≡ Err e → rows_back (suc n) body offsets ≡ Err e
-unfolding rows_back
-back_refused body offsets n e h = ap (λ (g : Left). joined (turned g) (rows_back n body offsets)) h
+read_ahead : (rows : List RowEntry) (more : List RowRead) → 0 < length rows → BeginsRead (map ok_read rows ++ more)
+read_ahead [] more some = absurd (omega (arith, some))
+read_ahead (row ∷ rows) more some = tt
 
-pub group_dropped : (body offsets : List ℕ) (m n : ℕ) (key : List ℕ) (rows : List RowEntry) → m ≡ suc n → restart_at body offsets n ≡ Ok rows → drop_before Descending key (reverse rows) ≡ [] →
-    dropped Descending key (rows_back n body offsets) ≡ dropped Descending key (rows_back m body offsets)
-group_dropped body offsets m n key rows e r h =
-    sym (ap (λ (k : ℕ). dropped Descending key (rows_back k body offsets)) e ∙ ap (dropped Descending key) (back_read body offsets n rows r) ∙ all_dropped Descending key (reverse rows) (rows_back n body offsets) h)
+pub mapped : (rows : List RowEntry) → length (map ok_read rows) ≡ length rows
+mapped [] = refl
+mapped (row ∷ rows) = let rest = mapped rows in omega (arith, rest)
 
-pub group_stays : (body offsets : List ℕ) (m n : ℕ) (key : List ℕ) (rows kept : List RowEntry) → m ≡ suc n → restart_at body offsets n ≡ Ok rows → drop_before Descending key (reverse rows) ≡ reverse kept → 0 < length kept →
-    left_back body offsets n kept ≡ dropped Descending key (rows_back m body offsets)
+pub kept_stops : (order : IterationOrder) (key : List ℕ) (body offsets : List ℕ) (groups : ℕ) (kept : List RowEntry) → 0 < length kept → StopsAt order key (back_of kept) → StopsAt order key (left_back body offsets groups kept)
 unfolding left_back
-group_stays body offsets m n key rows kept e r h some =
-    let long : 0 < length (reverse kept) = omega (arith, length-reverse kept) in
-    sym (ap (λ (k : ℕ). dropped Descending key (rows_back k body offsets)) e ∙ ap (dropped Descending key) (back_read body offsets n rows r) ∙ some_dropped Descending key (reverse rows) (reverse kept) (rows_back n body offsets) long h)
+kept_stops order key body offsets groups kept some h = stops_ahead order key (back_of kept) (reads_back groups body offsets) (omega (arith, mapped (reverse kept), length-reverse kept, some)) h
 
-pub group_refuses : (body offsets : List ℕ) (m n : ℕ) (rows : List RowEntry) (e : SlateDBError) → m ≡ suc n → restart_at body offsets n ≡ Ok rows → rows_back n body offsets ≡ Err e → rows_back m body offsets ≡ Err e
-group_refuses body offsets m n rows e same r h = ap (λ (k : ℕ). rows_back k body offsets) same ∙ back_read body offsets n rows r ∙ ap (joined (Ok (reverse rows))) h
+pub kept_read : (body offsets : List ℕ) (groups : ℕ) (kept : List RowEntry) → 0 < length kept → BeginsRead (left_back body offsets groups kept)
+unfolding left_back
+kept_read body offsets groups kept some = read_ahead (reverse kept) (reads_back groups body offsets) (omega (arith, length-reverse kept, some))
 
-pub refused_or_back : (body offsets : List ℕ) (m n groups : ℕ) (e d : SlateDBError) → m ≡ suc n → (rows_back m body offsets ≡ Err e → rows_back groups body offsets ≡ Err e) → (e ≡ d) ⊎ (restart_at body offsets n ≡ Err e) →
-    (e ≡ d) ⊎ (rows_back groups body offsets ≡ Err e)
-refused_or_back body offsets m n groups e d same k (inl h) = inl h
-refused_or_back body offsets m n groups e d same k (inr h) = inr (k (ap (λ (k : ℕ). rows_back k body offsets) same ∙ back_refused body offsets n e h))
+pub kept_past : (order : IterationOrder) (key : List ℕ) (body offsets : List ℕ) (groups : ℕ) (rows kept : List RowEntry) → IsPast order key (back_of rows) (back_of kept) → IsPast order key (left_back body offsets groups rows) (left_back body offsets groups kept)
+unfolding left_back
+kept_past order key body offsets groups rows kept p = past_ahead order key (back_of rows) (back_of kept) (reads_back groups body offsets) p
 
-pub none_back : (body offsets : List ℕ) (n : ℕ) (key : List ℕ) → n ≡ 0 → left_back body offsets 0 [] ≡ dropped Descending key (rows_back n body offsets)
-unfolding left_back rows_back
-none_back body offsets n key e = ap (λ (k : ℕ). dropped Descending key (rows_back k body offsets)) (sym e)
+-- ---- the groups, the last first
+
+pub back_read : (body offsets : List ℕ) (m n : ℕ) (rows : List RowEntry) → m ≡ suc n → all_ok (restart_at body offsets n) ≡ Ok rows → reads_back m body offsets ≡ left_back body offsets n rows
+unfolding reads_back left_back
+back_read body offsets m n rows e h = ap (λ (k : ℕ). reads_back k body offsets) e ∙ ap (λ (r : Result (List RowEntry) SlateDBError). turned r ++ reads_back n body offsets) h
+
+pub back_refused : (body offsets : List ℕ) (m n : ℕ) (e : SlateDBError) → m ≡ suc n → all_ok (restart_at body offsets n) ≡ Err e → slice_get (reads_back m body offsets) 0 ≡ Some (Err e)
+unfolding reads_back
+back_refused body offsets m n e same h = ap (λ (k : ℕ). slice_get (reads_back k body offsets) 0) same ∙ ap (λ (r : Result (List RowEntry) SlateDBError). slice_get (turned r ++ reads_back n body offsets) 0) h
+
+-- a group of which no row is kept
+pub nothing_kept : (body offsets : List ℕ) (n : ℕ) (rows : List RowEntry) → rows ≡ [] → left_back body offsets n rows ≡ reads_back n body offsets
+unfolding left_back
+nothing_kept body offsets n rows e = ap (λ (l : List RowEntry). back_of l ++ reads_back n body offsets) e
+
+pub refused_or_back : (body offsets : List ℕ) (m n : ℕ) (e d : SlateDBError) → m ≡ suc n → (e ≡ d) ⊎ (all_ok (restart_at body offsets n) ≡ Err e) → (e ≡ d) ⊎ (slice_get (reads_back m body offsets) 0 ≡ Some (Err e))
+refused_or_back body offsets m n e d same (inl h) = inl h
+refused_or_back body offsets m n e d same (inr h) = inr (back_refused body offsets m n e same h)
+
+pub none_back : (body offsets : List ℕ) (n : ℕ) → n ≡ 0 → reads_back n body offsets ≡ []
+unfolding reads_back
+none_back body offsets n e = ap (λ (k : ℕ). reads_back k body offsets) e

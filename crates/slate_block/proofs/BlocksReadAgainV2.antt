@@ -13,15 +13,15 @@ use Rattle.slate_block.specs.RowSpelling.{v2_bytes, IsRowV2}
 use Rattle.slate_block.specs.BlockSpelling.{IsKey, entry_v2, Shares, SharesV2, is_restart, shared_with, AreRows, places, restarts, IsBlockOf}
 use Rattle.slate_block.specs.RowReading.{row_v2_of, BeginsV2}
 use Rattle.slate_block.specs.Damage.{◌>>=◌}
-use Rattle.slate_block.specs.Walks.{between, is_restored, whole_v2, entry_v2_in, row_v2_in, next_place, before, joined, group_v2, restart_v2, is_none_left, rows_v2, begins_at_zero, block_rows}
-use Rattle.slate_block.specs.GroupWalks.{Left}
+use Rattle.slate_block.specs.Walks.{between, is_restored, whole_v2, entry_v2_in, row_v2_in, next_place, before, is_none_left, begins_at_zero, block_rows}
+use Rattle.slate_block.proofs.GroupRows.{Left, joined, group_v2, restart_v2, rows_v2, rows_go_on}
 use Rattle.slate_block.proofs.Groups.{IsBytes}
 use Rattle.slate_block.proofs.FieldLaws.{behind}
 use Rattle.slate_block.proofs.Pieces.{same_head, same_tail}
 use Rattle.slate_block.proofs.RowLaws.{same_row_v2}
 use Rattle.slate_block.proofs.BlockLaws.{some_v2}
 use Rattle.slate_block.proofs.ReadingLaws.{row_v2_begins, row_v2_end, row_v2_again}
-use Rattle.slate_block.proofs.GroupSteps.{group_goes_on, named_rows}
+use Rattle.slate_block.proofs.GroupSteps.{named_rows}
 use Rattle.slate_block.proofs.WalkedBlocks.{IsBytes-between, three_from}
 use Rattle.slate_block.proofs.WalkedBlocksV2.{not_restart, restart}
 
@@ -186,7 +186,7 @@ step n body q previous at next ats r rows lt read t =
       later = t.later;
       pieces = t.pieces;
       next = t.next;
-      read = group_goes_on body previous n at end last (ap (λ (b : Bool). b && last) on)
+      read = rows_go_on body previous n at end last (ap (λ (b : Bool). b && last) on)
           ∙ ap (λ (x : Result (RowEntry × ℕ) SlateDBError). x >>= λ found. before found.0 (group_v2 n body found.0.key found.1 end last)) read ∙ ap (before r) t.read;
       parts = ap (λ (l : List RowEntry). r ∷ l) t.parts;
       shares = t.shares;

@@ -1,8 +1,8 @@
 -- Steps of a walk over rows of version 2.
-use Rattle.std.proofs.Common.{◌≡◌, ℕ, zero, suc, ◌+◌, ◌<◌, ◌≤◌, Bool, true, false, ◌&&◌, ◌||◌, cond, nat_eq, List, [], ◌∷◌, length, get_or, drop, Result, Ok, Err, refl, sym, ap, ◌∙◌, arith, ◌⊎◌, inl, inr, ltb, ◌^◌}
+use Rattle.std.proofs.Common.{◌≡◌, ℕ, zero, suc, ◌+◌, ◌<◌, ◌≤◌, Bool, true, false, ◌&&◌, ◌||◌, cond, nat_eq, List, [], ◌∷◌, ◌++◌, length, get_or, drop, Some, Result, Ok, Err, refl, sym, ap, ◌∙◌, arith, ◌⊎◌, inl, inr}
+use Rattle.std.specs.Prelude.{slice_get}
 use Rattle.std.proofs.Math.Dec.{eqb-suc-zero, eqb-zero-suc, eqb-suc-suc}
 use Rattle.std.proofs.lemmas.List.{at_drop_more, drop_all}
-use Rattle.slate_block.proofs.FieldLaws.{bind_ok}
 use Rattle.std.proofs.lemmas.Bool.{cases_lt}
 use Rattle.slate_types.specs.declared.error.SlateDBError.{SlateDBError}
 use Rattle.slate_types.specs.declared.error.SlateDBError.TheVariants.{CorruptTable, InvalidRowFlags}
@@ -10,20 +10,10 @@ use Rattle.slate_types.specs.declared.types.RowEntry.{RowEntry}
 use Rattle.slate_block.specs.declared.row_groups.RowGroup.{RowGroup}
 use Rattle.slate_block.specs.declared.walk_v2.BlockPlace.{BlockPlace}
 use Rattle.slate_block.specs.Damage.{◌>>=◌, IsDamageIn}
-use Rattle.slate_block.specs.Walks.{moved, before, joined, group_v2, restart_v2, rows_v2, row_v2_in, is_none_left, begins_at_zero, block_rows, block_rows_v2}
+use Rattle.slate_block.specs.Walks.{RowRead, all_ok, moved, row_v2_in, read_then, group_reads, restart_reads, is_none_left, reads_v2, are_named, block_reads, block_rows}
 use Rattle.slate_block.specs.BlockWalks.{IsDamage}
-use Rattle.slate_block.specs.GroupWalks.{Left, group_end, restart_at, group_left, is_over, left_v2}
-
--- ---- rows before others
-
-pub joined_nothing : (left : Left) → joined (Ok []) left ≡ left
-joined_nothing (Ok rows) = refl
-joined_nothing (Err e) = refl
-
-pub joined_before : (row : RowEntry) (first second : Left) → joined (before row first) second ≡ before row (joined first second)
-joined_before row (Ok rows) (Ok more) = refl
-joined_before row (Ok rows) (Err e) = refl
-joined_before row (Err e) second = refl
+use Rattle.slate_block.specs.GroupWalks.{group_end, restart_at, group_left, is_over, left_v2}
+use Rattle.slate_block.proofs.GroupRows.{rows_v2, rows_are}
 
 -- ---- damage
 
@@ -39,85 +29,81 @@ damage_moved n at _ h = h
 
 -- ---- groups
 
-both : (b : Bool) → (b ≡ true) ⊎ (b ≡ false)
-both true = inl refl
-both false = inr refl
+abbrev none : List RowRead
+none = []
 
-abbrev nothing : Left
-nothing = Ok []
+abbrev refused : ℕ → List RowRead
+refused at = Err (CorruptTable at) ∷ []
 
-abbrev refused : ℕ → Left
-refused at = Err (CorruptTable at)
-
-pub group_over : (body previous : List ℕ) (n at end : ℕ) (last : Bool) → (nat_eq at end && (nat_eq n 0 || last)) ≡ true → group_v2 n body previous at end last ≡ Ok []
-unfolding group_v2
+pub group_over : (body previous : List ℕ) (n at end : ℕ) (last : Bool) → (nat_eq at end && (nat_eq n 0 || last)) ≡ true → group_reads n body previous at end last ≡ []
+unfolding group_reads
 group_over body previous zero at end last h = by (nat_eq at end) h
   where
-    by : (b : Bool) → (b && true) ≡ true → cond b nothing (refused at) ≡ nothing
+    by : (b : Bool) → (b && true) ≡ true → cond b none (refused at) ≡ none
     by true g = refl
     by false g = absurd cc
 group_over body previous (suc n) at end last h = by (nat_eq at end) last (rw eqb-suc-zero at h)
   where
-    by : (b l : Bool) → (b && l) ≡ true → cond (l && b) nothing (row_v2_in body previous at end >>= λ found. before found.0 (group_v2 n body found.0.key found.1 end last)) ≡ nothing
+    by : (b l : Bool) → (b && l) ≡ true → cond (l && b) none (read_then (row_v2_in body previous at end) (λ found. group_reads n body found.0.key found.1 end last)) ≡ none
     by true true g = refl
     by true false g = absurd cc
     by false l g = absurd cc
 
-pub group_full : (body previous : List ℕ) (at end : ℕ) (last : Bool) → (nat_eq at end && true) ≡ false → group_v2 zero body previous at end last ≡ Err (CorruptTable at)
-unfolding group_v2
+pub group_full : (body previous : List ℕ) (at end : ℕ) (last : Bool) → (nat_eq at end && true) ≡ false → group_reads zero body previous at end last ≡ Err (CorruptTable at) ∷ []
+unfolding group_reads
 group_full body previous at end last h = by (nat_eq at end) h
   where
-    by : (b : Bool) → (b && true) ≡ false → cond b nothing (refused at) ≡ refused at
+    by : (b : Bool) → (b && true) ≡ false → cond b none (refused at) ≡ refused at
     by true g = absurd cc
     by false g = refl
 
 pub group_goes_on : (body previous : List ℕ) (n at end : ℕ) (last : Bool) → (nat_eq at end && last) ≡ false →
-    group_v2 (suc n) body previous at end last ≡ (row_v2_in body previous at end >>= λ found. before found.0 (group_v2 n body found.0.key found.1 end last))
-unfolding group_v2
-group_goes_on body previous n at end last h = by (nat_eq at end) last h (row_v2_in body previous at end >>= λ found. before found.0 (group_v2 n body found.0.key found.1 end last))
+    group_reads (suc n) body previous at end last ≡ read_then (row_v2_in body previous at end) (λ found. group_reads n body found.0.key found.1 end last)
+unfolding group_reads
+group_goes_on body previous n at end last h = by (nat_eq at end) last h (read_then (row_v2_in body previous at end) (λ found. group_reads n body found.0.key found.1 end last))
   where
-    by : (b l : Bool) → (b && l) ≡ false → (rest : Left) → cond (l && b) nothing rest ≡ rest
+    by : (b l : Bool) → (b && l) ≡ false → (rest : List RowRead) → cond (l && b) none rest ≡ rest
     by true true g rest = absurd cc
     by true false g rest = refl
     by false true g rest = refl
     by false false g rest = refl
 
-pub over_left : (body : List ℕ) (group : RowGroup) → is_over group ≡ true → group_left body group ≡ Ok []
+pub over_left : (body : List ℕ) (group : RowGroup) → is_over group ≡ true → group_left body group ≡ []
 unfolding group_left
 over_left body group h = group_over body group.previous group.room group.at group.end group.is_last h
 
-pub full_left : (body : List ℕ) (group : RowGroup) → is_over group ≡ false → group.room ≡ 0 → group_left body group ≡ Err (CorruptTable group.at)
+pub full_left : (body : List ℕ) (group : RowGroup) → is_over group ≡ false → group.room ≡ 0 → group_left body group ≡ Err (CorruptTable group.at) ∷ []
 unfolding group_left
 full_left body group h e =
     let over : (nat_eq group.at group.end && (nat_eq 0 0 || group.is_last)) ≡ false = ap (λ (n : ℕ). nat_eq group.at group.end && (nat_eq n 0 || group.is_last)) (sym e) ∙ h in
-    ap (λ (n : ℕ). group_v2 n body group.previous group.at group.end group.is_last) e ∙ group_full body group.previous group.at group.end group.is_last over
+    ap (λ (n : ℕ). group_reads n body group.previous group.at group.end group.is_last) e ∙ group_full body group.previous group.at group.end group.is_last over
 
 next_left : (body : List ℕ) (group : RowGroup) (n : ℕ) → is_over group ≡ false → group.room ≡ suc n →
-    group_left body group ≡ (row_v2_in body group.previous group.at group.end >>= λ found. before found.0 (group_v2 n body found.0.key found.1 group.end group.is_last))
+    group_left body group ≡ read_then (row_v2_in body group.previous group.at group.end) (λ found. group_reads n body found.0.key found.1 group.end group.is_last)
 unfolding group_left
 next_left body group n h e =
     let full : (nat_eq group.at group.end && (nat_eq (suc n) 0 || group.is_last)) ≡ false = ap (λ (k : ℕ). nat_eq group.at group.end && (nat_eq k 0 || group.is_last)) (sym e) ∙ h in
     let on : (nat_eq group.at group.end && group.is_last) ≡ false = rw eqb-suc-zero at full in
-    ap (λ (k : ℕ). group_v2 k body group.previous group.at group.end group.is_last) e ∙ group_goes_on body group.previous n group.at group.end group.is_last on
+    ap (λ (k : ℕ). group_reads k body group.previous group.at group.end group.is_last) e ∙ group_goes_on body group.previous n group.at group.end group.is_last on
 
 some_room : (n : ℕ) → 0 < n → (m : ℕ) × (n ≡ suc m)
 some_room zero h = absurd (omega arith)
 some_room (suc m) h = (m, refl)
 
-pub refused_left : (body : List ℕ) (group : RowGroup) (e : SlateDBError) → is_over group ≡ false → 0 < group.room → row_v2_in body group.previous group.at group.end ≡ Err e → group_left body group ≡ Err e
+pub refused_left : (body : List ℕ) (group : RowGroup) (e : SlateDBError) → is_over group ≡ false → 0 < group.room → row_v2_in body group.previous group.at group.end ≡ Err e → group_left body group ≡ Err e ∷ []
 refused_left body group e h some r =
     let m = some_room group.room some in
-    next_left body group m.0 h m.1 ∙ ap (λ (x : Result (RowEntry × ℕ) SlateDBError). x >>= λ found. before found.0 (group_v2 m.0 body found.0.key found.1 group.end group.is_last)) r
+    next_left body group m.0 h m.1 ∙ ap (λ (x : Result (RowEntry × ℕ) SlateDBError). read_then x (λ found. group_reads m.0 body found.0.key found.1 group.end group.is_last)) r
 
 pub taken_left : (body : List ℕ) (group rest : RowGroup) (row : RowEntry) → is_over group ≡ false → group.room ≡ rest.room + 1 → row_v2_in body group.previous group.at group.end ≡ Ok (row, rest.at) →
-    rest.end ≡ group.end → rest.is_last ≡ group.is_last → rest.previous ≡ row.key → group_left body group ≡ before row (group_left body rest)
+    rest.end ≡ group.end → rest.is_last ≡ group.is_last → rest.previous ≡ row.key → group_left body group ≡ Ok row ∷ group_left body rest
 unfolding group_left
 taken_left body group rest row h size r end last previous =
     let e : group.room ≡ suc rest.room = omega (arith, size) in
-    next_left body group rest.room h e ∙ ap (λ (x : Result (RowEntry × ℕ) SlateDBError). x >>= λ found. before found.0 (group_v2 rest.room body found.0.key found.1 group.end group.is_last)) r
-    ∙ (λ i. before row (group_v2 rest.room body (sym previous i) rest.at (sym end i) (sym last i)))
+    next_left body group rest.room h e ∙ ap (λ (x : Result (RowEntry × ℕ) SlateDBError). read_then x (λ found. group_reads rest.room body found.0.key found.1 group.end group.is_last)) r
+    ∙ (λ i. Ok row ∷ group_reads rest.room body (sym previous i) rest.at (sym end i) (sym last i))
 
-pub refused_or : (body : List ℕ) (group : RowGroup) (e d : SlateDBError) → is_over group ≡ false → 0 < group.room → (e ≡ d) ⊎ (row_v2_in body group.previous group.at group.end ≡ Err e) → (e ≡ d) ⊎ (group_left body group ≡ Err e)
+pub refused_or : (body : List ℕ) (group : RowGroup) (e d : SlateDBError) → is_over group ≡ false → 0 < group.room → (e ≡ d) ⊎ (row_v2_in body group.previous group.at group.end ≡ Err e) → (e ≡ d) ⊎ (group_left body group ≡ Err e ∷ [])
 refused_or body group e d h some (inl same) = inl same
 refused_or body group e d h some (inr r) = inr (refused_left body group e h some r)
 
@@ -130,103 +116,117 @@ none_left (suc n) [] h = absurd (omega arith)
 none_left (suc n) (at ∷ ats) h = eqb-suc-suc n (length ats) ∙ none_left n ats (omega arith)
 
 pub restart_taken : (body offsets : List ℕ) (n : ℕ) (row : RowEntry) (group : RowGroup) → n < length offsets → row_v2_in body [] (get_or offsets n 0) (group_end body offsets n) ≡ Ok (row, group.at) →
-    group.end ≡ group_end body offsets n → group.room ≡ 15 → group.is_last ≡ nat_eq (n + 1) (length offsets) → group.previous ≡ row.key → restart_at body offsets n ≡ before row (group_left body group)
-unfolding restart_at restart_v2 group_left
+    group.end ≡ group_end body offsets n → group.room ≡ 15 → group.is_last ≡ nat_eq (n + 1) (length offsets) → group.previous ≡ row.key → restart_at body offsets n ≡ Ok row ∷ group_left body group
+unfolding restart_at restart_reads group_left
 restart_taken body offsets n row group h r end room last previous =
     let is_last : group.is_last ≡ is_none_left (drop (n + 1) offsets) = last ∙ none_left (n + 1) offsets (omega arith) in
-    ap (λ (x : Result (RowEntry × ℕ) SlateDBError). x >>= λ found. before found.0 (group_v2 15 body found.0.key found.1 (group_end body offsets n) (is_none_left (drop (n + 1) offsets)))) r
-    ∙ (λ i. before row (group_v2 (sym room i) body (sym previous i) group.at (sym end i) (sym is_last i)))
+    ap (λ (x : Result (RowEntry × ℕ) SlateDBError). read_then x (λ found. group_reads 15 body found.0.key found.1 (group_end body offsets n) (is_none_left (drop (n + 1) offsets)))) r
+    ∙ (λ i. Ok row ∷ group_reads (sym room i) body (sym previous i) group.at (sym end i) (sym is_last i))
+
+read_some : (read : Result (RowEntry × ℕ) SlateDBError) (behind : RowEntry × ℕ → List RowRead) → (first : RowRead) × (reads : List RowRead) × (read_then read behind ≡ first ∷ reads)
+read_some (Ok found) behind = (Ok found.0, behind found, refl)
+read_some (Err e) behind = (Err e, [], refl)
+
+-- a group has a row
+pub restart_some : (body offsets : List ℕ) (n : ℕ) → (first : RowRead) × (reads : List RowRead) × (restart_at body offsets n ≡ first ∷ reads)
+unfolding restart_at restart_reads
+restart_some body offsets n =
+    let end = group_end body offsets n in
+    let last = is_none_left (drop (n + 1) offsets) in
+    read_some (row_v2_in body [] (get_or offsets n 0) end) (λ found. group_reads 15 body found.0.key found.1 end last)
 
 -- ---- blocks
 
-pub left_at_restart : (body offsets : List ℕ) (place : BlockPlace) → group_left body place.group ≡ Ok [] → left_v2 body offsets place ≡ rows_v2 body (drop place.next offsets) (length body)
+pub left_at_restart : (body offsets : List ℕ) (place : BlockPlace) → group_left body place.group ≡ [] → left_v2 body offsets place ≡ reads_v2 body (drop place.next offsets) (length body)
 unfolding left_v2
-left_at_restart body offsets place h = ap (λ (g : Left). joined g (rows_v2 body (drop place.next offsets) (length body))) h ∙ joined_nothing (rows_v2 body (drop place.next offsets) (length body))
+left_at_restart body offsets place h = ap (λ (g : List RowRead). g ++ reads_v2 body (drop place.next offsets) (length body)) h
 
-pub rows_from : (body offsets : List ℕ) (n : ℕ) → n < length offsets → rows_v2 body (drop n offsets) (length body) ≡ joined (restart_at body offsets n) (rows_v2 body (drop (n + 1) offsets) (length body))
-unfolding rows_v2 restart_at
-rows_from body offsets n h = at_drop_more (λ (ats : List ℕ). rows_v2 body ats (length body)) offsets n 0 h
+pub reads_from : (body offsets : List ℕ) (n : ℕ) → n < length offsets → reads_v2 body (drop n offsets) (length body) ≡ restart_at body offsets n ++ reads_v2 body (drop (n + 1) offsets) (length body)
+unfolding reads_v2 restart_at
+reads_from body offsets n h = at_drop_more (λ (ats : List ℕ). reads_v2 body ats (length body)) offsets n 0 h
 
-pub left_behind_block : (body offsets : List ℕ) (place : BlockPlace) → group_left body place.group ≡ Ok [] → length offsets ≤ place.next → left_v2 body offsets place ≡ Ok []
-unfolding rows_v2
-left_behind_block body offsets place h past = left_at_restart body offsets place h ∙ ap (λ (ats : List ℕ). rows_v2 body ats (length body)) (drop_all place.next offsets past)
+pub left_behind_block : (body offsets : List ℕ) (place : BlockPlace) → group_left body place.group ≡ [] → length offsets ≤ place.next → left_v2 body offsets place ≡ []
+unfolding reads_v2
+left_behind_block body offsets place h past = left_at_restart body offsets place h ∙ ap (λ (ats : List ℕ). reads_v2 body ats (length body)) (drop_all place.next offsets past)
 
-pub left_in_group : (body offsets : List ℕ) (row : RowEntry) (place after : BlockPlace) → group_left body place.group ≡ before row (group_left body after.group) → after.next ≡ place.next →
-    left_v2 body offsets place ≡ before row (left_v2 body offsets after)
+pub left_in_group : (body offsets : List ℕ) (row : RowEntry) (place after : BlockPlace) → group_left body place.group ≡ Ok row ∷ group_left body after.group → after.next ≡ place.next →
+    left_v2 body offsets place ≡ Ok row ∷ left_v2 body offsets after
 unfolding left_v2
 left_in_group body offsets row place after h e =
-    ap (λ (g : Left). joined g (rows_v2 body (drop place.next offsets) (length body))) h
-    ∙ joined_before row (group_left body after.group) (rows_v2 body (drop place.next offsets) (length body))
-    ∙ ap (λ (k : ℕ). before row (joined (group_left body after.group) (rows_v2 body (drop k offsets) (length body)))) (sym e)
+    ap (λ (g : List RowRead). g ++ reads_v2 body (drop place.next offsets) (length body)) h
+    ∙ ap (λ (k : ℕ). Ok row ∷ (group_left body after.group ++ reads_v2 body (drop k offsets) (length body))) (sym e)
 
-pub refused_in_group : (body offsets : List ℕ) (place : BlockPlace) (e : SlateDBError) → group_left body place.group ≡ Err e → left_v2 body offsets place ≡ Err e
+pub refused_in_group : (body offsets : List ℕ) (place : BlockPlace) (e : SlateDBError) → group_left body place.group ≡ Err e ∷ [] → slice_get (left_v2 body offsets place) 0 ≡ Some (Err e)
 unfolding left_v2
-refused_in_group body offsets place e h = ap (λ (g : Left). joined g (rows_v2 body (drop place.next offsets) (length body))) h
+refused_in_group body offsets place e h = ap (λ (g : List RowRead). slice_get (g ++ reads_v2 body (drop place.next offsets) (length body)) 0) h
 
-pub left_behind_group : (body offsets : List ℕ) (row : RowEntry) (place after : BlockPlace) → group_left body place.group ≡ Ok [] → place.next < length offsets →
-    restart_at body offsets place.next ≡ before row (group_left body after.group) → after.next ≡ place.next + 1 → left_v2 body offsets place ≡ before row (left_v2 body offsets after)
+pub left_behind_group : (body offsets : List ℕ) (row : RowEntry) (place after : BlockPlace) → group_left body place.group ≡ [] → place.next < length offsets →
+    restart_at body offsets place.next ≡ Ok row ∷ group_left body after.group → after.next ≡ place.next + 1 → left_v2 body offsets place ≡ Ok row ∷ left_v2 body offsets after
 unfolding left_v2
 left_behind_group body offsets row place after h in_block r e =
-    left_at_restart body offsets place h ∙ rows_from body offsets place.next in_block
-    ∙ ap (λ (g : Left). joined g (rows_v2 body (drop (place.next + 1) offsets) (length body))) r
-    ∙ joined_before row (group_left body after.group) (rows_v2 body (drop (place.next + 1) offsets) (length body))
-    ∙ ap (λ (k : ℕ). before row (joined (group_left body after.group) (rows_v2 body (drop k offsets) (length body)))) (sym e)
+    left_at_restart body offsets place h ∙ reads_from body offsets place.next in_block
+    ∙ ap (λ (g : List RowRead). g ++ reads_v2 body (drop (place.next + 1) offsets) (length body)) r
+    ∙ ap (λ (k : ℕ). Ok row ∷ (group_left body after.group ++ reads_v2 body (drop k offsets) (length body))) (sym e)
 
-pub refused_behind_group : (body offsets : List ℕ) (place : BlockPlace) (e : SlateDBError) → group_left body place.group ≡ Ok [] → place.next < length offsets → restart_at body offsets place.next ≡ Err e →
-    left_v2 body offsets place ≡ Err e
+pub refused_behind_group : (body offsets : List ℕ) (place : BlockPlace) (e : SlateDBError) → group_left body place.group ≡ [] → place.next < length offsets → restart_at body offsets place.next ≡ Err e ∷ [] →
+    slice_get (left_v2 body offsets place) 0 ≡ Some (Err e)
 refused_behind_group body offsets place e h in_block r =
-    left_at_restart body offsets place h ∙ rows_from body offsets place.next in_block
-    ∙ ap (λ (g : Left). joined g (rows_v2 body (drop (place.next + 1) offsets) (length body))) r
+    ap (λ (l : List RowRead). slice_get l 0) (left_at_restart body offsets place h ∙ reads_from body offsets place.next in_block
+    ∙ ap (λ (g : List RowRead). g ++ reads_v2 body (drop (place.next + 1) offsets) (length body)) r)
 
 -- ---- whole blocks
 
-pub named_rows : (body offsets : List ℕ) → (begins_at_zero offsets && ltb (length offsets) (2 ^ 16)) ≡ true → block_rows 2 body offsets ≡ rows_v2 body offsets (length body)
-unfolding block_rows block_rows_v2
-named_rows body [] h = absurd cc
-named_rows body (at ∷ ats) h = ap (λ (b : Bool). cond b (rows_v2 body (at ∷ ats) (length body)) (Err (CorruptTable 0))) h
+pub named_reads : (body offsets : List ℕ) → are_named offsets ≡ true → block_reads 2 body offsets ≡ Ok (reads_v2 body offsets (length body))
+unfolding block_reads
+named_reads body offsets h = ap (λ (b : Bool). cond b (Ok (reads_v2 body offsets (length body))) (Err (CorruptTable 0))) h
 
-pub unnamed_rows : (body offsets : List ℕ) → (begins_at_zero offsets && ltb (length offsets) (2 ^ 16)) ≡ false → block_rows 2 body offsets ≡ Err (CorruptTable 0)
+pub unnamed_reads : (body offsets : List ℕ) → are_named offsets ≡ false → block_reads 2 body offsets ≡ Err (CorruptTable 0)
+unfolding block_reads
+unnamed_reads body offsets h = ap (λ (b : Bool). cond b (Ok (reads_v2 body offsets (length body))) (Err (CorruptTable 0))) h
+
+-- what is read are the rows, and the other way round
+pub reads_are_rows : (version : ℕ) (body offsets : List ℕ) (reads : List RowRead) (rows : List RowEntry) → block_reads version body offsets ≡ Ok reads → block_rows version body offsets ≡ Ok rows → all_ok reads ≡ Ok rows
 unfolding block_rows
-unnamed_rows body offsets h = ap (λ (b : Bool). cond b (block_rows_v2 body offsets) (Err (CorruptTable 0))) h
+reads_are_rows version body offsets reads rows r e = sym (ap (λ (x : Result (List RowRead) SlateDBError). x >>= all_ok) r) ∙ e
 
-never_none : (row : RowEntry) (left : Left) → before row left ≡ Ok [] → ⊥
-never_none row (Ok rows) e = cc
-never_none row (Err d) e = cc
+pub rows_are_reads : (version : ℕ) (body offsets : List ℕ) (reads : List RowRead) (rows : List RowEntry) → block_reads version body offsets ≡ Ok reads → all_ok reads ≡ Ok rows → block_rows version body offsets ≡ Ok rows
+unfolding block_rows
+rows_are_reads version body offsets reads rows r e = ap (λ (x : Result (List RowRead) SlateDBError). x >>= all_ok) r ∙ e
 
-group_some : (body : List ℕ) (group : RowGroup) → is_over group ≡ false → group_left body group ≡ Ok [] → ⊥
+pub named_rows : (body offsets : List ℕ) → are_named offsets ≡ true → block_rows 2 body offsets ≡ rows_v2 body offsets (length body)
+unfolding block_rows
+named_rows body offsets h = ap (λ (x : Result (List RowRead) SlateDBError). x >>= all_ok) (named_reads body offsets h) ∙ rows_are body offsets (length body)
+
+-- ---- whether a row is left
+
+none_of : {A : Type 0} (xs ys : List A) → xs ++ ys ≡ [] → (xs ≡ []) × (ys ≡ [])
+none_of [] ys e = (refl, e)
+none_of (x ∷ xs) ys e = absurd cc
+
+group_some : (body : List ℕ) (group : RowGroup) → is_over group ≡ false → group_left body group ≡ [] → ⊥
 group_some body group h e = by group.room refl
   where
     by : (n : ℕ) → group.room ≡ n → ⊥
     by zero size = let full = full_left body group h size in cc
     by (suc n) size =
-        let a = bind_ok (row_v2_in body group.previous group.at group.end) (λ found. before found.0 (group_v2 n body found.0.key found.1 group.end group.is_last)) [] (sym (next_left body group n h size) ∙ e) in
-        never_none a.0.0 (group_v2 n body a.0.0.key a.0.1 group.end group.is_last) a.2
+        let some = read_some (row_v2_in body group.previous group.at group.end) (λ found. group_reads n body found.0.key found.1 group.end group.is_last) in
+        let never : some.0 ∷ some.1 ≡ [] = sym some.2 ∙ sym (next_left body group n h size) ∙ e in
+        cc
 
-restart_never_none : (body offsets : List ℕ) (n : ℕ) → restart_at body offsets n ≡ Ok [] → ⊥
-unfolding restart_at restart_v2
-restart_never_none body offsets n e =
-    let end = group_end body offsets n in
-    let last = is_none_left (drop (n + 1) offsets) in
-    let a = bind_ok (row_v2_in body [] (get_or offsets n 0) end) (λ found. before found.0 (group_v2 15 body found.0.key found.1 end last)) [] e in
-    never_none a.0.0 (group_v2 15 body a.0.0.key a.0.1 end last) a.2
-
-pub joined_none : (first second : Left) → joined first second ≡ Ok [] → (first ≡ Ok []) × (second ≡ Ok [])
-joined_none (Ok []) (Ok []) e = (refl, refl)
-joined_none (Ok []) (Ok (row ∷ rows)) e = absurd cc
-joined_none (Ok (row ∷ rows)) (Ok more) e = absurd cc
-joined_none (Ok rows) (Err d) e = absurd cc
-joined_none (Err d) second e = absurd cc
-
-pub left_none : (body offsets : List ℕ) (place : BlockPlace) → left_v2 body offsets place ≡ Ok [] → (is_over place.group ≡ true) × (length offsets ≤ place.next)
+pub left_none : (body offsets : List ℕ) (place : BlockPlace) → left_v2 body offsets place ≡ [] → (is_over place.group ≡ true) × (length offsets ≤ place.next)
 unfolding left_v2
 left_none body offsets place e =
-    let j = joined_none (group_left body place.group) (rows_v2 body (drop place.next offsets) (length body)) e in
+    let j = none_of (group_left body place.group) (reads_v2 body (drop place.next offsets) (length body)) e in
     (over (is_over place.group) refl j.0, past (cases_lt place.next (length offsets)) j.1)
   where
-    over : (b : Bool) → is_over place.group ≡ b → group_left body place.group ≡ Ok [] → is_over place.group ≡ true
+    over : (b : Bool) → is_over place.group ≡ b → group_left body place.group ≡ [] → is_over place.group ≡ true
     over true h g = h
     over false h g = absurd (group_some body place.group h g)
 
-    past : (place.next < length offsets) ⊎ (length offsets ≤ place.next) → rows_v2 body (drop place.next offsets) (length body) ≡ Ok [] → length offsets ≤ place.next
-    past (inl lt) g = absurd (restart_never_none body offsets place.next (joined_none (restart_at body offsets place.next) (rows_v2 body (drop (place.next + 1) offsets) (length body)) (sym (rows_from body offsets place.next lt) ∙ g)).0)
+    past : (place.next < length offsets) ⊎ (length offsets ≤ place.next) → reads_v2 body (drop place.next offsets) (length body) ≡ [] → length offsets ≤ place.next
+    past (inl lt) g =
+        let none = none_of (restart_at body offsets place.next) (reads_v2 body (drop (place.next + 1) offsets) (length body)) (sym (reads_from body offsets place.next lt) ∙ g) in
+        let some = restart_some body offsets place.next in
+        let never : some.0 ∷ some.1 ≡ [] = sym some.2 ∙ none.0 in
+        absurd cc
     past (inr le) g = le

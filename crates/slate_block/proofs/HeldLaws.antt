@@ -182,3 +182,9 @@ held_block part held body some same =
 
 pub held_bytes : (part : RowsPart) (held : PartHeld part) (body : List ℕ) → body ≡ part.body.items → block_spelling body part.offsets.items ≡ block_bytes (number part.version) held.0.0
 held_bytes part held body same = λ i. block_spelling ((same ∙ held.0.1.is_body) i) (held.0.1.are_offsets i)
+
+pub few_held : (part : RowsPart) (held : PartHeld part) → length part.offsets.items < 2 ^ 16
+few_held part held = few_offsets_held (number part.version) part.body.items part.offsets.items part.num_rows part.front_key held.0.0 held.0.1
+
+pub encoded_held : (part : RowsPart) (held : PartHeld part) (bytes : List ℕ) → bytes ≡ block_spelling part.body.items part.offsets.items → bytes ≡ block_bytes (number part.version) held.0.0
+encoded_held part held bytes same = same ∙ held_bytes part held part.body.items refl

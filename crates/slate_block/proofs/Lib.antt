@@ -1,7 +1,9 @@
 pub mod Pieces
 pub mod VarintLaws
 pub mod Groups
+pub mod GroupRows
 pub mod GroupSteps
+mod EitherLaws
 pub mod SeekSteps
 pub mod BackSteps
 pub mod BackLaws
@@ -27,3 +29,4 @@ pub mod WalkedBlocks
 pub mod PartLaws
 pub mod WalkedBlocksV2
 pub mod BlocksReadAgainV2
+pub mod GoodRows

@@ -1,103 +1,123 @@
--- What a search in rows in their order finds.
-use Rattle.std.proofs.Common.{◌≡◌, ℕ, zero, suc, ◌+◌, ◌<◌, ◌≤◌, Bool, true, false, List, [], ◌∷◌, length, drop, map, Option, Some, None, Result, Ok, Err, refl, sym, ap, subst, ◌∙◌, arith, add-one}
+-- What a step takes, and what a seek takes off.
+use Rattle.std.proofs.Common.{◌≡◌, ℕ, zero, suc, ◌+◌, ◌<◌, ◌≤◌, Bool, true, false, List, [], ◌∷◌, ◌++◌, length, take, drop, map, Option, Some, None, Result, Ok, Err, refl, sym, ap, subst, ◌∙◌, arith, ◌⊎◌, inl, inr, append_assoc}
 use Rattle.std.specs.Prelude.{slice_get, IsSome}
-use Rattle.std.proofs.lemmas.List.{drop_all, length-drop, length-map}
+use Rattle.std.proofs.lemmas.List.{length-append, take-append-drop}
 use Rattle.slate_types.specs.declared.error.SlateDBError.{SlateDBError}
 use Rattle.slate_types.specs.declared.types.RowEntry.{RowEntry}
 use Rattle.slate_types.specs.declared.iter.IterationOrder.{IterationOrder}
 use Rattle.slate_types.specs.Iteration.{comes_before, drop_before, IsInOrder, NoneBefore, TakesRow}
-use Rattle.slate_types.proofs.IterationLaws.{not_before, none_before_earlier, drop_before_none, in_order_dropped}
+use Rattle.slate_types.proofs.IterationLaws.{not_before, in_order_dropped}
 use Rattle.slate_block.specs.Walks.{RowRead, all_ok, before as put}
-use Rattle.slate_block.specs.BlockWalks.{rows_of, IsRising, TakesRead, IsBehind, Refuses}
-use Rattle.slate_block.proofs.WalkLaws.{ok_read, reads_of_ok, all_ok_map, refuses_dropped}
+use Rattle.slate_block.specs.BlockWalks.{rows_of, IsDamage, IsRising, TakesRead, TakesLeft, IsReadBefore, LastBefore, IsPast, StopsAt, Refuses}
+use Rattle.slate_block.proofs.WalkLaws.{ok_read, ok_rows, reads_of_ok, all_ok_map}
 
-not_before_at : (order : IterationOrder) (key : List ℕ) (rows : List RowEntry) (i : ℕ) (row : RowEntry) → NoneBefore order key rows → slice_get rows i ≡ Some row → comes_before order row.key key ≡ false
-not_before_at order key [] i row h at = absurd cc
-not_before_at order key (r ∷ rows) zero row h at = let same : r ≡ row = cc in ap (λ (x : RowEntry). comes_before order x.key key) (sym same) ∙ h.0
-not_before_at order key (r ∷ rows) (suc i) row h at = not_before_at order key rows i row h.1 at
+-- ---- the last of those that are taken off
 
--- a row that comes before a key, and all before it, are dropped
-before_dropped : (order : IterationOrder) (key : List ℕ) (rows : List RowEntry) (i : ℕ) (row : RowEntry) → IsInOrder order rows → slice_get rows i ≡ Some row → comes_before order row.key key ≡ true →
-    drop_before order key (drop (i + 1) rows) ≡ drop_before order key rows
-before_dropped order key [] i row h at before = absurd cc
-before_dropped order key (r ∷ rows) zero row h at before =
-    let same : r ≡ row = cc in
-    let first : comes_before order r.key key ≡ true = ap (λ (x : RowEntry). comes_before order x.key key) same ∙ before in
-    rw first refl
-before_dropped order key (r ∷ rows) (suc i) row h at before =
-    let later : comes_before order row.key r.key ≡ false = not_before_at order r.key rows i row h.0 at in
-    let first : comes_before order r.key key ≡ true = by (comes_before order r.key key) refl later in
-    let rest = before_dropped order key rows i row h.1 at before in
-    rw (first, add-one) (rw add-one at rest)
+pub last_joined : (order : IterationOrder) (key : List ℕ) (front more : List RowRead) (read : RowRead) → LastBefore order key (read ∷ more) → LastBefore order key (front ++ (read ∷ more))
+last_joined order key [] more read h = h
+last_joined order key (first ∷ []) more read h = h
+last_joined order key (first ∷ next ∷ front) more read h = last_joined order key (next ∷ front) more read h
+
+pub past_none : (order : IterationOrder) (key : List ℕ) (reads : List RowRead) → IsPast order key reads reads
+past_none order key reads = record { front = []; parts = refl; last = tt }
+
+pub past_trans : (order : IterationOrder) (key : List ℕ) (before now after : List RowRead) → IsPast order key before now → IsPast order key now after → IsPast order key before after
+past_trans order key before now after p q = by q.front q.parts q.last
   where
-    by : (b : Bool) → comes_before order r.key key ≡ b → comes_before order row.key r.key ≡ false → b ≡ true
-    by true e later = refl
-    by false e later = let no = not_before order key r.key row.key e later in absurd cc
+    by : (more : List RowRead) → now ≡ more ++ after → LastBefore order key more → IsPast order key before after
+    by [] e h = record { front = p.front; parts = p.parts ∙ ap (λ (l : List RowRead). p.front ++ l) e; last = p.last }
+    by (read ∷ more) e h = record {
+      front = p.front ++ (read ∷ more);
+      parts = p.parts ∙ ap (λ (l : List RowRead). p.front ++ l) e ∙ sym (append_assoc p.front (read ∷ more) after);
+      last = last_joined order key p.front more read h;
+    }
 
--- from one on that doesn't, none does
-none_from : (order : IterationOrder) (key : List ℕ) (rows : List RowEntry) (i : ℕ) (row : RowEntry) → IsInOrder order rows → slice_get rows i ≡ Some row → comes_before order row.key key ≡ false → NoneBefore order key (drop i rows)
-none_from order key [] i row h at after = absurd cc
-none_from order key (r ∷ rows) zero row h at after =
-    let same : row ≡ r = cc in
-    let first : comes_before order r.key key ≡ false = ap (λ (x : RowEntry). comes_before order x.key key) (sym same) ∙ after in
-    (first, none_before_earlier order key r.key rows first h.0)
-none_from order key (r ∷ rows) (suc i) row h at after = none_from order key rows i row h.1 at after
+pub past_step : (order : IterationOrder) (key : List ℕ) (row : RowEntry) (first now next : List RowRead) → now ≡ Ok row ∷ next → comes_before order row.key key ≡ true → IsPast order key first now → IsPast order key first next
+past_step order key row first now next e b p = past_trans order key first now next p (record { front = Ok row ∷ []; parts = e; last = b })
 
--- ---- the same of what is read
+pub past_ahead : (order : IterationOrder) (key : List ℕ) (before after more : List RowRead) → IsPast order key before after → IsPast order key (before ++ more) (after ++ more)
+past_ahead order key before after more p = record { front = p.front; parts = ap (λ (l : List RowRead). l ++ more) p.parts ∙ append_assoc p.front after more; last = p.last }
 
-get_ok : (rows : List RowEntry) (i : ℕ) (row : RowEntry) → slice_get (map ok_read rows) i ≡ Some (Ok row) → slice_get rows i ≡ Some row
-get_ok [] i row h = absurd cc
-get_ok (r ∷ rows) zero row h = let same : r ≡ row = cc in ap Some same
-get_ok (r ∷ rows) (suc i) row h = get_ok rows i row h
+-- ---- the same, counted
 
-pub passed : (order : IterationOrder) (key : List ℕ) (reads : List RowRead) (i : ℕ) (row : RowEntry) → slice_get reads i ≡ Some (Ok row) → comes_before order row.key key ≡ true → IsRising order (all_ok reads) →
-    drop_before order key (drop (i + 1) (rows_of (all_ok reads))) ≡ drop_before order key (rows_of (all_ok reads))
-passed order key reads i row at before rising = by (all_ok reads) refl rising
+last_taken : (order : IterationOrder) (key : List ℕ) (reads : List RowRead) (n : ℕ) (row : RowEntry) → slice_get reads n ≡ Some (Ok row) → comes_before order row.key key ≡ true → LastBefore order key (take (suc n) reads)
+last_taken order key [] n row e b = tt
+last_taken order key (read ∷ reads) zero row e b = let same : read ≡ Ok row = cc in subst (IsReadBefore order key) (sym same) b
+last_taken order key (read ∷ []) (suc n) row e b = absurd cc
+last_taken order key (read ∷ next ∷ reads) (suc n) row e b = last_taken order key (next ∷ reads) n row e b
+
+pub last_counted : (order : IterationOrder) (key : List ℕ) (reads : List RowRead) (n i : ℕ) (row : RowEntry) → i + 1 ≡ n → slice_get reads i ≡ Some (Ok row) → comes_before order row.key key ≡ true → LastBefore order key (take n reads)
+last_counted order key reads n i row e at b =
+    let size : suc i ≡ n = omega (arith, e) in
+    subst (λ (k : ℕ). LastBefore order key (take k reads)) size (last_taken order key reads i row at b)
+
+pub last_of_none : (order : IterationOrder) (key : List ℕ) (reads : List RowRead) (n : ℕ) → n ≡ 0 → LastBefore order key (take n reads)
+last_of_none order key reads n e = subst (λ (k : ℕ). LastBefore order key (take k reads)) (sym e) tt
+
+pub past_counted : (order : IterationOrder) (key : List ℕ) (reads after : List RowRead) (n : ℕ) → after ≡ drop n reads → LastBefore order key (take n reads) → IsPast order key reads after
+past_counted order key reads after n e last = record { front = take n reads; parts = sym (take-append-drop n reads) ∙ ap (λ (l : List RowRead). take n reads ++ l) (sym e); last = last }
+
+stops_dropped : (order : IterationOrder) (key : List ℕ) (reads : List RowRead) (n : ℕ) → ((row : RowEntry) → slice_get reads n ≡ Some (Ok row) → comes_before order row.key key ≡ false) → StopsAt order key (drop n reads)
+stops_dropped order key [] zero f = tt
+stops_dropped order key [] (suc n) f = tt
+stops_dropped order key (Ok row ∷ reads) zero f = f row refl
+stops_dropped order key (Err e ∷ reads) zero f = tt
+stops_dropped order key (read ∷ reads) (suc n) f = stops_dropped order key reads n f
+
+pub stops_counted : (order : IterationOrder) (key : List ℕ) (reads after : List RowRead) (n : ℕ) → after ≡ drop n reads → ((row : RowEntry) → slice_get reads n ≡ Some (Ok row) → comes_before order row.key key ≡ false) → StopsAt order key after
+stops_counted order key reads after n e f = subst (StopsAt order key) (sym e) (stops_dropped order key reads n f)
+
+-- ---- of rows in their order all of those come before the key
+
+record Parts (rows : List RowEntry) (front behind : List RowRead) : Type 0 where
+  pub first : List RowEntry
+  pub rest : List RowEntry
+  pub rows_are : rows ≡ first ++ rest
+  pub front_is : front ≡ map ok_read first
+  pub behind_is : behind ≡ map ok_read rest
+
+part : (rows : List RowEntry) (front behind : List RowRead) → map ok_read rows ≡ front ++ behind → Parts rows front behind
+part rows [] behind e = record { first = []; rest = rows; rows_are = refl; front_is = refl; behind_is = sym e }
+part [] (read ∷ front) behind e = absurd cc
+part (row ∷ rows) (read ∷ front) behind e =
+    let head : read ≡ Ok row = cc in
+    let tail : map ok_read rows ≡ front ++ behind = cc in
+    let p = part rows front behind tail in
+    record { first = row ∷ p.first; rest = p.rest; rows_are = ap (λ (l : List RowEntry). row ∷ l) p.rows_are; front_is = (λ i. head i ∷ p.front_is i); behind_is = p.behind_is }
+
+-- a row comes before a key where a later one does
+earlier : (order : IterationOrder) (key : List ℕ) (row next : RowEntry) (front behind : List RowEntry) → NoneBefore order row.key ((next ∷ front) ++ behind) → LastBefore order key (map ok_read (next ∷ front)) → comes_before order row.key key ≡ true
+earlier order key row next [] behind none last = by (comes_before order row.key key) refl
   where
-    by : (r : Result (List RowEntry) SlateDBError) → all_ok reads ≡ r → IsRising order r → drop_before order key (drop (i + 1) (rows_of r)) ≡ drop_before order key (rows_of r)
-    by (Ok rows) is h = before_dropped order key rows i row h (get_ok rows i row (ap (λ (l : List RowRead). slice_get l i) (sym (reads_of_ok reads rows is)) ∙ at)) before
-    by (Err e) is h = absurd h
+    by : (b : Bool) → comes_before order row.key key ≡ b → b ≡ true
+    by true e = refl
+    by false e = let no = not_before order key row.key next.key e none.0 in absurd cc
+earlier order key row next (later ∷ front) behind none last = earlier order key row later front behind none.1 last
 
-pub reached : (order : IterationOrder) (key : List ℕ) (reads : List RowRead) (i : ℕ) (row : RowEntry) → slice_get reads i ≡ Some (Ok row) → comes_before order row.key key ≡ false → IsRising order (all_ok reads) → NoneBefore order key (drop i (rows_of (all_ok reads)))
-reached order key reads i row at after rising = by (all_ok reads) refl rising
-  where
-    by : (r : Result (List RowEntry) SlateDBError) → all_ok reads ≡ r → IsRising order r → NoneBefore order key (drop i (rows_of r))
-    by (Ok rows) is h = none_from order key rows i row h (get_ok rows i row (ap (λ (l : List RowRead). slice_get l i) (sym (reads_of_ok reads rows is)) ∙ at)) after
-    by (Err e) is h = absurd h
+pub past_dropped : (order : IterationOrder) (key : List ℕ) (front behind : List RowEntry) → IsInOrder order (front ++ behind) → LastBefore order key (map ok_read front) → drop_before order key (front ++ behind) ≡ drop_before order key behind
+past_dropped order key [] behind h last = refl
+past_dropped order key (row ∷ []) behind h last = rw last refl
+past_dropped order key (row ∷ next ∷ front) behind h last =
+    let first : comes_before order row.key key ≡ true = earlier order key row next front behind h.0 last in
+    let rest = past_dropped order key (next ∷ front) behind h.1 last in
+    rw first rest
 
-pub none_behind : (order : IterationOrder) (key : List ℕ) (reads : List RowRead) → IsRising order (all_ok reads) → NoneBefore order key (drop (length reads) (rows_of (all_ok reads)))
-none_behind order key reads rising = by (all_ok reads) refl rising
+stays : (order : IterationOrder) (key : List ℕ) (rows : List RowEntry) → StopsAt order key (map ok_read rows) → drop_before order key rows ≡ rows
+stays order key [] h = refl
+stays order key (row ∷ rows) h = rw h refl
+
+pub sought : (order : IterationOrder) (key : List ℕ) (before after : List RowRead) → IsPast order key before after → StopsAt order key after → IsRising order (all_ok before) → all_ok after ≡ Ok (drop_before order key (rows_of (all_ok before)))
+sought order key before after p stop rising = by (all_ok before) refl rising
   where
-    by : (r : Result (List RowEntry) SlateDBError) → all_ok reads ≡ r → IsRising order r → NoneBefore order key (drop (length reads) (rows_of r))
+    by : (r : Result (List RowEntry) SlateDBError) → all_ok before ≡ r → IsRising order r → all_ok after ≡ Ok (drop_before order key (rows_of r))
     by (Ok rows) is h =
-        let n : length reads ≡ length (map ok_read rows) = ap (λ (l : List RowRead). length l) (reads_of_ok reads rows is) in
-        rw (drop_all (length reads) rows (omega (arith, n, length-map rows ok_read))) tt
+        let s = part rows p.front after (sym (reads_of_ok before rows is) ∙ p.parts) in
+        let last = subst (LastBefore order key) s.front_is p.last in
+        let first = subst (StopsAt order key) s.behind_is stop in
+        let sorted = subst (IsInOrder order) s.rows_are h in
+        ap all_ok s.behind_is ∙ all_ok_map s.rest
+        ∙ ap ok_rows (sym (ap (drop_before order key) s.rows_are ∙ past_dropped order key s.first s.rest sorted last ∙ stays order key s.rest first))
     by (Err e) is h = absurd h
-
-pub found : (order : IterationOrder) (key : List ℕ) (rows : List RowEntry) (low high : ℕ) → low ≡ high → drop_before order key (drop low rows) ≡ drop_before order key rows → NoneBefore order key (drop high rows) → drop low rows ≡ drop_before order key rows
-found order key rows low high same p q =
-    let none : NoneBefore order key (drop low rows) = subst (λ (n : ℕ). NoneBefore order key (drop n rows)) (sym same) q in
-    sym (drop_before_none order key (drop low rows) none) ∙ p
-
-drop_map : (n : ℕ) (rows : List RowEntry) → drop n (map ok_read rows) ≡ map ok_read (drop n rows)
-drop_map zero rows = refl
-drop_map (suc n) [] = refl
-drop_map (suc n) (row ∷ rows) = drop_map n rows
-
--- what is left without the first ones
-pub left_dropped : (order : IterationOrder) (reads : List RowRead) (n : ℕ) → IsRising order (all_ok reads) → all_ok (drop n reads) ≡ Ok (drop n (rows_of (all_ok reads)))
-left_dropped order reads n rising = by (all_ok reads) refl rising
-  where
-    by : (r : Result (List RowEntry) SlateDBError) → all_ok reads ≡ r → IsRising order r → all_ok (drop n reads) ≡ Ok (drop n (rows_of r))
-    by (Ok rows) is h = ap (λ (l : List RowRead). all_ok (drop n l)) (reads_of_ok reads rows is) ∙ ap all_ok (drop_map n rows) ∙ all_ok_map (drop n rows)
-    by (Err e) is h = absurd h
-
-abbrev ok_rows : List RowEntry → Result (List RowEntry) SlateDBError
-ok_rows rows = Ok rows
-
-pub left_sought : (order : IterationOrder) (key : List ℕ) (reads after : List RowRead) (n : ℕ) → after ≡ drop n reads → (IsRising order (all_ok reads) → drop n (rows_of (all_ok reads)) ≡ drop_before order key (rows_of (all_ok reads))) →
-    IsRising order (all_ok reads) → all_ok after ≡ Ok (drop_before order key (rows_of (all_ok reads)))
-left_sought order key reads after n same h rising = ap all_ok same ∙ left_dropped order reads n rising ∙ ap ok_rows (h rising)
 
 -- ---- a step, and a seek, of what is left
 
@@ -131,41 +151,37 @@ pub step_no_larger : (before after : List RowRead) (answer : Option RowEntry) �
 step_no_larger before after None t = let n = ap (λ (l : List RowRead). length l) t.1 in omega (arith, n)
 step_no_larger before after (Some row) t = let n = ap (λ (l : List RowRead). length l) t in omega (arith, n)
 
+pub step_left : (before after : List RowRead) (answer : Option RowEntry) → TakesRead before answer after → TakesLeft (all_ok before) answer (all_ok after)
+step_left before after None t = (ap all_ok t.0, ap all_ok t.1)
+step_left before after (Some row) t = ap all_ok t
+
 pub sought_rising : (order : IterationOrder) (key : List ℕ) (before after : Result (List RowEntry) SlateDBError) → after ≡ Ok (drop_before order key (rows_of before)) → IsRising order before → IsRising order after
 sought_rising order key (Ok rows) after e h = subst (λ (r : Result (List RowEntry) SlateDBError). IsRising order r) (sym e) (in_order_dropped order key rows h)
 sought_rising order key (Err d) after e h = absurd h
 
-pub behind_fewer : (before after : List RowRead) (e : SlateDBError) → IsBehind before after → Refuses after e → Refuses before e
-behind_fewer before after e b h = refuses_dropped b.0 before e (subst (λ (l : List RowRead). Refuses l e) b.1 h)
+refused_behind : (front reads : List RowRead) (e : SlateDBError) → Refuses reads e → Refuses (front ++ reads) e
+refused_behind [] reads e h = h
+refused_behind (read ∷ front) reads e h = let rest = refused_behind front reads e h in (rest.0, (suc rest.1.0, rest.1.1))
 
-pub behind_no_larger : (before after : List RowRead) → IsBehind before after → length after ≤ length before
-behind_no_larger before after b = let n : length after ≡ length (drop b.0 before) = ap (λ (l : List RowRead). length l) b.1 in omega (arith, n, length-drop b.0 before)
+pub part_fewer : (front before after : List RowRead) (e : SlateDBError) → before ≡ front ++ after → Refuses after e → Refuses before e
+part_fewer front before after e p h = subst (λ (l : List RowRead). Refuses l e) (sym p) (refused_behind front after e h)
 
--- where the rows come in the order, each is read
-get_map : (rows : List RowEntry) (i : ℕ) → i < length (map ok_read rows) → (row : RowEntry) × (slice_get (map ok_read rows) i ≡ Some (Ok row))
-get_map [] i lt = absurd (omega (arith, lt))
-get_map (row ∷ rows) zero lt = (row, refl)
-get_map (row ∷ rows) (suc i) lt = get_map rows i (omega (arith, lt))
+pub past_fewer : (order : IterationOrder) (key : List ℕ) (before after : List RowRead) (e : SlateDBError) → IsPast order key before after → Refuses after e → Refuses before e
+past_fewer order key before after e p h = part_fewer p.front before after e p.parts h
 
-pub read_there : (order : IterationOrder) (reads : List RowRead) (i : ℕ) → i < length reads → IsRising order (all_ok reads) → (row : RowEntry) × (slice_get reads i ≡ Some (Ok row))
-read_there order reads i lt rising = by (all_ok reads) refl rising
+pub past_no_larger : (order : IterationOrder) (key : List ℕ) (before after : List RowRead) → IsPast order key before after → length after ≤ length before
+past_no_larger order key before after p = let n : length before ≡ length (p.front ++ after) = ap (λ (l : List RowRead). length l) p.parts in omega (arith, n, length-append p.front after)
+
+-- ---- refusals
+
+pub first_refuses : (reads : List RowRead) (e m : SlateDBError) → (e ≡ m) ⊎ (slice_get reads 0 ≡ Some (Err e)) → (e ≡ m) ⊎ IsDamage e → (e ≡ m) ⊎ Refuses reads e
+first_refuses reads e m (inl h) d = inl h
+first_refuses reads e m (inr h) (inl d) = inl d
+first_refuses reads e m (inr h) (inr d) = inr (d, (0, h))
+
+pub past_refused : (order : IterationOrder) (key : List ℕ) (before now : List RowRead) (e m : SlateDBError) → IsPast order key before now → (e ≡ m) ⊎ (slice_get now 0 ≡ Some (Err e)) → (e ≡ m) ⊎ IsDamage e → (e ≡ m) ⊎ Refuses before e
+past_refused order key before now e m p h d = by (first_refuses now e m h d)
   where
-    by : (r : Result (List RowEntry) SlateDBError) → all_ok reads ≡ r → IsRising order r → (row : RowEntry) × (slice_get reads i ≡ Some (Ok row))
-    by (Ok rows) is h =
-        let same = reads_of_ok reads rows is in
-        let n : length reads ≡ length (map ok_read rows) = ap (λ (l : List RowRead). length l) same in
-        let there = get_map rows i (omega (arith, lt, n)) in
-        (there.0, ap (λ (l : List RowRead). slice_get l i) same ∙ there.1)
-    by (Err e) is h = absurd h
-
-pub passed_by : (order : IterationOrder) (key : List ℕ) (reads : List RowRead) (i : ℕ) (before : Bool) → i < length reads → ((row : RowEntry) → slice_get reads i ≡ Some (Ok row) → before ≡ comes_before order row.key key) →
-    before ≡ true → IsRising order (all_ok reads) → drop_before order key (drop (i + 1) (rows_of (all_ok reads))) ≡ drop_before order key (rows_of (all_ok reads))
-passed_by order key reads i before lt tells e rising =
-    let there = read_there order reads i lt rising in
-    passed order key reads i there.0 there.1 (sym (tells there.0 there.1) ∙ e) rising
-
-pub reached_by : (order : IterationOrder) (key : List ℕ) (reads : List RowRead) (i : ℕ) (before : Bool) → i < length reads → ((row : RowEntry) → slice_get reads i ≡ Some (Ok row) → before ≡ comes_before order row.key key) →
-    before ≡ false → IsRising order (all_ok reads) → NoneBefore order key (drop i (rows_of (all_ok reads)))
-reached_by order key reads i before lt tells e rising =
-    let there = read_there order reads i lt rising in
-    reached order key reads i there.0 there.1 (sym (tells there.0 there.1) ∙ e) rising
+    by : (e ≡ m) ⊎ Refuses now e → (e ≡ m) ⊎ Refuses before e
+    by (inl same) = inl same
+    by (inr r) = inr (past_fewer order key before now e p r)

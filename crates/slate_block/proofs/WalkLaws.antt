@@ -10,7 +10,7 @@ use Rattle.slate_types.specs.declared.types.RowEntry.{RowEntry}
 use Rattle.slate_types.specs.declared.iter.IterationOrder.{IterationOrder}
 use Rattle.slate_types.specs.declared.iter.IterationOrder.TheVariants.{Ascending, Descending}
 use Rattle.slate_block.specs.Damage.{◌>>=◌}
-use Rattle.slate_block.specs.Walks.{next_place, row_upto, RowRead, reads_v1, all_ok, before}
+use Rattle.slate_block.specs.Walks.{next_place, row_upto, RowRead, reads_v1, all_ok, before, block_reads, block_rows}
 use Rattle.slate_block.specs.BlockWalks.{in_order, place_in, IsDamage, Refuses}
 
 -- the row at an index is read up to the next place
@@ -100,6 +100,9 @@ in_order_twice Descending xs = reverse-reverse xs
 abbrev pub ok_read : RowEntry → RowRead
 ok_read row = Ok row
 
+abbrev pub ok_rows : List RowEntry → Result (List RowEntry) SlateDBError
+ok_rows rows = Ok rows
+
 pub all_ok_map : (rows : List RowEntry) → all_ok (map ok_read rows) ≡ Ok rows
 all_ok_map [] = refl
 all_ok_map (row ∷ rows) = ap (before row) (all_ok_map rows)
@@ -116,33 +119,33 @@ reads_of_ok [] (row ∷ rows) e = absurd cc
 reads_of_ok (Err d ∷ reads) rows e = absurd cc
 reads_of_ok (Ok row ∷ reads) rows e = ok_before row reads (all_ok reads) rows (λ more. reads_of_ok reads more) e
 
-map_reverse : {A B : Type 0} (f : A → B) (xs : List A) → map f (reverse xs) ≡ reverse (map f xs)
+pub map_reverse : {A B : Type 0} (f : A → B) (xs : List A) → map f (reverse xs) ≡ reverse (map f xs)
 map_reverse f [] = refl
 map_reverse f (x ∷ xs) = ap (map f) (reverse_onto xs x []) ∙ map-append f (reverse xs) (x ∷ []) ∙ ap (λ l. l ++ (f x ∷ [])) (map_reverse f xs) ∙ sym (reverse_onto (map f xs) (f x) [])
 
-pub all_ok_in_order : (order : IterationOrder) (reads : List RowRead) (rows : List RowEntry) → all_ok (in_order order reads) ≡ Ok rows → all_ok reads ≡ Ok (in_order order rows)
+all_ok_turned : (reads : List RowRead) (rows : List RowEntry) → all_ok reads ≡ Ok rows → all_ok (reverse reads) ≡ Ok (reverse rows)
+all_ok_turned reads rows e = ap (λ (l : List RowRead). all_ok (reverse l)) (reads_of_ok reads rows e) ∙ ap all_ok (sym (map_reverse ok_read rows)) ∙ all_ok_map (reverse rows)
+
+all_ok_in_order : (order : IterationOrder) (reads : List RowRead) (rows : List RowEntry) → all_ok (in_order order reads) ≡ Ok rows → all_ok reads ≡ Ok (in_order order rows)
 all_ok_in_order Ascending reads rows e = e
-all_ok_in_order Descending reads rows e =
-    let turned : reads ≡ map ok_read (reverse rows) = sym (reverse-reverse reads) ∙ ap (λ (l : List RowRead). reverse l) (reads_of_ok (reverse reads) rows e) ∙ sym (map_reverse ok_read rows) in
-    ap all_ok turned ∙ all_ok_map (reverse rows)
+all_ok_in_order Descending reads rows e = ap all_ok (sym (reverse-reverse reads)) ∙ all_ok_turned (reverse reads) rows e
+
+all_ok_ordered : (order : IterationOrder) (reads : List RowRead) (rows : List RowEntry) → all_ok reads ≡ Ok (in_order order rows) → all_ok (in_order order reads) ≡ Ok rows
+all_ok_ordered Ascending reads rows e = e
+all_ok_ordered Descending reads rows e = all_ok_turned reads (reverse rows) e ∙ ap ok_rows (reverse-reverse rows)
+
+-- what a walk in an order reads, and the rows of the block
+pub rows_in_order : (order : IterationOrder) (body offsets : List ℕ) (reads : List RowRead) (rows : List RowEntry) → block_reads 1 body offsets ≡ Ok (in_order order reads) → block_rows 1 body offsets ≡ Ok rows → all_ok reads ≡ Ok (in_order order rows)
+unfolding block_rows
+rows_in_order order body offsets reads rows r e = all_ok_in_order order reads rows (sym (ap (λ (x : Result (List RowRead) SlateDBError). x >>= all_ok) r) ∙ e)
+
+pub only_in_order : (order : IterationOrder) (body offsets : List ℕ) (reads : List RowRead) (rows : List RowEntry) → block_reads 1 body offsets ≡ Ok (in_order order reads) → all_ok reads ≡ Ok (in_order order rows) → block_rows 1 body offsets ≡ Ok rows
+unfolding block_rows
+only_in_order order body offsets reads rows r e = ap (λ (x : Result (List RowRead) SlateDBError). x >>= all_ok) r ∙ all_ok_ordered order reads rows e
 
 -- ---- refusals
-
-first_refused : (reads : List RowRead) (e : SlateDBError) → slice_get reads 0 ≡ Some (Err e) → all_ok reads ≡ Err e
-first_refused [] e h = absurd cc
-first_refused (read ∷ reads) e h = let same : read ≡ Err e = cc in ap (λ (r : RowRead). r >>= λ row. before row (all_ok reads)) same
 
 pub refused_at : (reads : List RowRead) (i : ℕ) (e m : SlateDBError) → (e ≡ m) ⊎ (slice_get reads i ≡ Some (Err e)) → (e ≡ m) ⊎ IsDamage e → (e ≡ m) ⊎ Refuses reads e
 refused_at reads i e m (inl h) d = inl h
 refused_at reads i e m (inr h) (inl d) = inl d
 refused_at reads i e m (inr h) (inr d) = inr (d, (i, h))
-
-pub refused_first : (reads : List RowRead) (e m : SlateDBError) → (e ≡ m) ⊎ (slice_get reads 0 ≡ Some (Err e)) → (e ≡ m) ⊎ IsDamage e → (e ≡ m) ⊎ ((all_ok reads ≡ Err e) × Refuses reads e)
-refused_first reads e m (inl h) d = inl h
-refused_first reads e m (inr h) (inl d) = inl d
-refused_first reads e m (inr h) (inr d) = inr (first_refused reads e h, (d, (0, h)))
-
-pub refuses_dropped : (n : ℕ) (reads : List RowRead) (e : SlateDBError) → Refuses (drop n reads) e → Refuses reads e
-refuses_dropped zero reads e h = h
-refuses_dropped (suc n) [] e h = h
-refuses_dropped (suc n) (read ∷ reads) e h = let rest = refuses_dropped n reads e h in (rest.0, (suc rest.1.0, rest.1.1))

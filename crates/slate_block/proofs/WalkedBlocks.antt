@@ -13,7 +13,7 @@ use Rattle.slate_block.specs.RowSpelling.{v1_bytes, IsRowV1}
 use Rattle.slate_block.specs.BlockSpelling.{IsKey, entry_v1, Shares, SharesV1, AreRows, places, IsBlockOf}
 use Rattle.slate_block.specs.RowReading.{row_v1_of, BeginsV1}
 use Rattle.slate_block.specs.Damage.{◌>>=◌}
-use Rattle.slate_block.specs.Walks.{moved_result, between, is_restored, whole_v1, row_v1_in, row_upto, next_place, RowRead, all_ok, before, reads_v1, first_key_v1, block_reads_v1, block_rows_v1, block_rows}
+use Rattle.slate_block.specs.Walks.{moved_result, between, is_restored, whole_v1, row_v1_in, row_upto, next_place, RowRead, all_ok, before, reads_v1, first_key_v1, block_reads_v1, block_reads, block_rows}
 use Rattle.slate_block.proofs.Groups.{IsBytes}
 use Rattle.slate_block.proofs.FieldLaws.{IsBytes-take, IsBytes-drop, bind_ok, ok_is, behind, block_text}
 use Rattle.slate_block.proofs.ReadingLawsV1.{row_v1_begins, row_v1_within, row_v1_again}
@@ -231,14 +231,14 @@ passed_on true d r y e = (refl, e)
 passed_on false d r y e = absurd cc
 
 pub block_found : (body offsets : List ℕ) (rows : List RowEntry) → IsBytes body → AllByRecursion (λ at. at < 2 ^ 16) offsets → block_rows 1 body offsets ≡ Ok rows → IsBlockOf body offsets 1 rows
-unfolding block_rows block_rows_v1 block_reads_v1 first_key_v1
+unfolding block_rows block_reads block_reads_v1 first_key_v1
 block_found body [] rows fits below e = absurd cc
 block_found body (at ∷ ats) rows fits below e =
     let p = next_place (length body) ats in
-    let g = passed_on (eqb at 0 && ltb (length (at ∷ ats)) (2 ^ 16)) (CorruptTable 0) (block_rows_v1 body (at ∷ ats)) rows e in
+    let k = bind_ok (block_reads 1 body (at ∷ ats)) all_ok rows e in
+    let g = passed_on (eqb at 0 && ltb (length (at ∷ ats)) (2 ^ 16)) (CorruptTable 0) (block_reads_v1 body (at ∷ ats)) k.0 k.1 in
     let h = both_true (eqb at 0) (ltb (length (at ∷ ats)) (2 ^ 16)) g.0 in
-    let k = bind_ok (block_reads_v1 body (at ∷ ats)) all_ok rows g.1 in
-    let m = bind_ok (first_key_v1 body (at ∷ ats)) (λ first. Ok (reads_v1 body first (at ∷ ats) (length body))) k.0 k.1 in
+    let m = bind_ok (first_key_v1 body (at ∷ ats)) (λ first. Ok (reads_v1 body first (at ∷ ats) (length body))) k.0 g.1 in
     let n = bind_ok (row_upto body [] at p) (λ row. Ok row.key) m.0 m.1 in
     let r : RowEntry = n.0 in
     let tail = all_ok (reads_v1 body r.key ats (length body)) in
@@ -267,7 +267,7 @@ block_found body (at ∷ ats) rows fits below e =
 
 first_again : (body b : List ℕ) (bs : List (List ℕ)) (r : RowEntry) (rows : List RowEntry) → IsBytes body → body ≡ b ++ flat_map (λ b. b) bs → length (places 0 (b ∷ bs)) < 2 ^ 16 → IsRowV1 b (entry_v1 0 r) → SharesV1 r.key bs rows → AllByRecursion (λ (q : RowEntry). IsKey q.key) (r ∷ rows) →
     block_rows 1 body (places 0 (b ∷ bs)) ≡ Ok (r ∷ rows)
-unfolding block_rows block_rows_v1 block_reads_v1 first_key_v1
+unfolding block_rows block_reads block_reads_v1 first_key_v1
 first_again body b bs r rows fits e few spelled shares keys =
     let next = 0 + length b in
     let later = behind body b (flat_map (λ b. b) bs) 0 e in

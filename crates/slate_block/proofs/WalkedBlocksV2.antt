@@ -11,12 +11,12 @@ use Rattle.slate_block.specs.RowSpelling.{v2_bytes, IsRowV2}
 use Rattle.slate_block.specs.BlockSpelling.{IsKey, entry_v2, Shares, SharesV2, is_restart, shared_with, AreRows, places, restarts, IsBlockOf}
 use Rattle.slate_block.specs.RowReading.{row_v2_of}
 use Rattle.slate_block.specs.Damage.{◌>>=◌}
-use Rattle.slate_block.specs.Walks.{moved_result, between, is_restored, whole_v2, entry_v2_in, row_v2_in, next_place, before, group_v2, restart_v2, is_none_left, rows_v2, block_rows_v2, block_rows}
+use Rattle.slate_block.specs.Walks.{moved_result, between, is_restored, whole_v2, entry_v2_in, row_v2_in, next_place, before, is_none_left, reads_v2, block_reads, block_rows, all_ok}
 use Rattle.slate_block.proofs.Groups.{IsBytes}
 use Rattle.slate_block.proofs.FieldLaws.{bind_ok, ok_is, behind}
 use Rattle.slate_block.proofs.ReadingLaws.{row_v2_begins, row_v2_end}
 use Rattle.slate_block.proofs.WalkedBlocks.{both_true, passed, unmoved, length_between, IsBytes-between, restored, passed_on}
-use Rattle.slate_block.proofs.SeekSteps.{joined_ok}
+use Rattle.slate_block.proofs.GroupRows.{group_v2, restart_v2, rows_v2, rows_are, joined_ok}
 
 -- ---- one row
 
@@ -191,13 +191,15 @@ are_rows (b ∷ bs) [] at ats s e = absurd s
 are_rows pieces (r ∷ rows) at ats s e = inr (refl, s)
 
 pub block_found : (body offsets : List ℕ) (rows : List RowEntry) → IsBytes body → AllByRecursion (λ at. at < 2 ^ 16) offsets → block_rows 2 body offsets ≡ Ok rows → IsBlockOf body offsets 2 rows
-unfolding block_rows block_rows_v2
+unfolding block_rows block_reads
 block_found body [] rows fits below e = absurd cc
 block_found body (at ∷ ats) rows fits below e =
-    let g = passed_on (eqb at 0 && ltb (length (at ∷ ats)) (2 ^ 16)) (CorruptTable 0) (rows_v2 body (at ∷ ats) (length body)) rows e in
+    let k = bind_ok (block_reads 2 body (at ∷ ats)) all_ok rows e in
+    let g = passed_on (eqb at 0 && ltb (length (at ∷ ats)) (2 ^ 16)) (CorruptTable 0) (Ok (reads_v2 body (at ∷ ats) (length body))) k.0 k.1 in
     let h = both_true (eqb at 0) (ltb (length (at ∷ ats)) (2 ^ 16)) g.0 in
     let start : at ≡ 0 = eqb-true at 0 h.0 in
-    let s = rows_found body 0 (at ∷ ats) rows fits g.1 in
+    let read : rows_v2 body (at ∷ ats) (length body) ≡ Ok rows = sym (rows_are body (at ∷ ats) (length body)) ∙ ap all_ok (ok_is (reads_v2 body (at ∷ ats) (length body)) k.0 g.1) ∙ k.2 in
+    let s = rows_found body 0 (at ∷ ats) rows fits read in
     let placed : at ∷ ats ≡ restarts 0 (places 0 s.pieces) = s.placed ∙ ap (λ (n : ℕ). restarts 0 (places n s.pieces)) start in
     record {
       pieces = s.pieces;

@@ -5,8 +5,10 @@
 --     BlocksComeApart      nothing is refused exactly where the bytes are a rows' part and its offsets
 --     BlocksAreTakenApart      a block's bytes come apart into its rows' part and its offsets, and what comes apart into these is the block
 --     BytesComeApartOnce      bytes come apart in one way
+--     good_rows reads      those that are read
+--     SeeksKeepGoodRows      where the rows that are read come in the order, a seek takes off none of them that doesn't come before the key; and exactly the others, where the row before which it stops is read
 --     WalkedRowsAreBlocks1, WalkedRowsAreBlocks2      a walk is refused nowhere exactly where the rows' part and the offsets are those of a block, and reads its rows
-use Rattle.std.specs.Prelude.{◌≡◌, ◌↔◌, ℕ, ◌<◌, ◌^◌, List, ◌++◌, length, slice_index, Some, None, Ok}
+use Rattle.std.specs.Prelude.{◌≡◌, ◌↔◌, ℕ, ◌<◌, ◌^◌, List, [], ◌∷◌, ◌++◌, length, slice_index, Some, None, Ok, Err}
 use Rattle.slate_block.specs.declared.row.SstRowEntry.{SstRowEntry}
 use Rattle.slate_block.specs.declared.row.SstRowEntryV2.{SstRowEntryV2}
 use Rattle.slate_block.specs.Varint.{IsVarint}
@@ -15,7 +17,10 @@ use Rattle.slate_block.specs.BlockReading.{IsApart, offsets_of_block}
 use Rattle.std.specs.List.{AllByRecursion}
 use Rattle.slate_types.specs.declared.types.RowEntry.{RowEntry}
 use Rattle.slate_block.specs.BlockSpelling.{IsBlockOf, IsBlock, block_spelling}
-use Rattle.slate_block.specs.Walks.{block_rows}
+use Rattle.slate_types.specs.declared.iter.IterationOrder.{IterationOrder}
+use Rattle.slate_types.specs.Iteration.{drop_before, IsInOrder}
+use Rattle.slate_block.specs.Walks.{RowRead, block_rows}
+use Rattle.slate_block.specs.BlockWalks.{BeginsRead, IsPast, StopsAt}
 use Rattle.slate_block.specs.RowReading.{row_v1_of, row_v2_of, key_v2_of, refusal, BeginsV1, BeginsV2, BeginsKeyV2}
 
 abbrev pub EachIsAByte : List ℕ → Type 0
@@ -53,3 +58,13 @@ WalkedRowsAreBlocks1 = WalksRead 1
 
 abbrev pub WalkedRowsAreBlocks2 : Type 0
 WalkedRowsAreBlocks2 = WalksRead 2
+
+abbrev pub good_rows : List RowRead → List RowEntry
+good_rows [] = []
+good_rows (Ok row ∷ reads) = row ∷ good_rows reads
+good_rows (Err e ∷ reads) = good_rows reads
+
+-- in either order, whatever else is damaged
+abbrev pub SeeksKeepGoodRows : Type 0
+SeeksKeepGoodRows = (order : IterationOrder) (key : List ℕ) (before after : List RowRead) → IsInOrder order (good_rows before) → IsPast order key before after → StopsAt order key after →
+    (drop_before order key (good_rows before) ≡ drop_before order key (good_rows after)) × (BeginsRead after → good_rows after ≡ drop_before order key (good_rows before))

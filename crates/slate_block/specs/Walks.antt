@@ -8,8 +8,11 @@
 --     all_ok reads      what was read, or the first refusal
 --     reads_v1 body first ats end      what each row of version 1 at these places is read as, up to the next place
 --     first_key_v1 body offsets, block_reads_v1 body offsets      a block's first key, and what each of its rows is read as; or why its first row is refused
---     group_v2 n body previous at end last      so many rows of version 2 up to the end; in the last group there may be fewer
---     rows_v2 body ats end      the groups of rows that begin at these places
+--     group_reads n body previous at end last      what so many rows of version 2 up to the end are read as; in the last group there may be fewer
+--     restart_reads body at end last      the same of the group that begins at a restart
+--     reads_v2 body ats end      the same of the groups that begin at these places
+--     are_named offsets      the offsets begin at 0, and their number fits its field
+--     block_reads version body offsets      what each row of a block is read as, or why none is read
 --     block_rows version body offsets      the rows of a block, or the refusal of the first field that fails
 use Rattle.std.specs.Prelude.{ℕ, zero, suc, ◌+◌, ◌^◌, Bool, true, false, ◌&&◌, if◌then◌else◌, nat_lt, nat_le, ◌==◌, List, [], ◌∷◌, ◌++◌, length, slice_range, Result, Ok, Err}
 use Rattle.slate_types.specs.declared.error.SlateDBError.{SlateDBError}
@@ -90,31 +93,29 @@ first_key_v1 body (at ∷ ats) = row_upto body [] at (next_place (length body) a
 unfoldable pub block_reads_v1 : List ℕ → List ℕ → Result (List RowRead) SlateDBError
 block_reads_v1 body offsets = first_key_v1 body offsets >>= λ first. Ok (reads_v1 body first offsets (length body))
 
-unfoldable pub block_rows_v1 : List ℕ → List ℕ → Result (List RowEntry) SlateDBError
-block_rows_v1 body offsets = block_reads_v1 body offsets >>= all_ok
+-- ---- version 2: a group of 16 rows begins at each restart, and ends where the next begins; the last may have fewer. A row that
+-- is refused ends what is read of its group
 
--- ---- version 2: a group of 16 rows begins at each restart, and ends where the next begins; the last may have fewer
+abbrev pub read_then : Result (RowEntry × ℕ) SlateDBError → (RowEntry × ℕ → List RowRead) → List RowRead
+read_then (Ok found) behind = Ok found.0 ∷ behind found
+read_then (Err e) behind = Err e ∷ []
 
-unfoldable pub group_v2 : ℕ → List ℕ → List ℕ → ℕ → ℕ → Bool → Result (List RowEntry) SlateDBError
-group_v2 zero body previous at end last = if at == end then Ok [] else Err (CorruptTable at)
-group_v2 (suc n) body previous at end last = if last && at == end then Ok []
-    else (row_v2_in body previous at end >>= λ found. before found.0 (group_v2 n body found.0.key found.1 end last))
+unfoldable pub group_reads : ℕ → List ℕ → List ℕ → ℕ → ℕ → Bool → List RowRead
+group_reads zero body previous at end last = if at == end then [] else Err (CorruptTable at) ∷ []
+group_reads (suc n) body previous at end last = if last && at == end then []
+    else read_then (row_v2_in body previous at end) (λ found. group_reads n body found.0.key found.1 end last)
 
 -- the first row of a group shares nothing
-unfoldable pub restart_v2 : List ℕ → ℕ → ℕ → Bool → Result (List RowEntry) SlateDBError
-restart_v2 body at end last = row_v2_in body [] at end >>= λ found. before found.0 (group_v2 15 body found.0.key found.1 end last)
+unfoldable pub restart_reads : List ℕ → ℕ → ℕ → Bool → List RowRead
+restart_reads body at end last = read_then (row_v2_in body [] at end) (λ found. group_reads 15 body found.0.key found.1 end last)
 
 abbrev pub is_none_left : List ℕ → Bool
 is_none_left [] = true
 is_none_left (at ∷ ats) = false
 
-unfoldable pub rows_v2 : List ℕ → List ℕ → ℕ → Result (List RowEntry) SlateDBError
-rows_v2 body [] end = Ok []
-rows_v2 body (at ∷ ats) end = joined (restart_v2 body at (next_place end ats) (is_none_left ats)) (rows_v2 body ats end)
-
-unfoldable pub block_rows_v2 : List ℕ → List ℕ → Result (List RowEntry) SlateDBError
-block_rows_v2 body [] = Err (CorruptTable 0)
-block_rows_v2 body (at ∷ ats) = rows_v2 body (at ∷ ats) (length body)
+unfoldable pub reads_v2 : List ℕ → List ℕ → ℕ → List RowRead
+reads_v2 body [] end = []
+reads_v2 body (at ∷ ats) end = restart_reads body at (next_place end ats) (is_none_left ats) ++ reads_v2 body ats end
 
 -- ---- a block names its rows from the first on, and their number fits its field
 
@@ -122,6 +123,11 @@ abbrev pub begins_at_zero : List ℕ → Bool
 begins_at_zero [] = false
 begins_at_zero (at ∷ ats) = at == 0
 
+abbrev pub are_named : List ℕ → Bool
+are_named offsets = begins_at_zero offsets && nat_lt (length offsets) (2 ^ 16)
+
+unfoldable pub block_reads : ℕ → List ℕ → List ℕ → Result (List RowRead) SlateDBError
+block_reads version body offsets = if are_named offsets then (if version == 1 then block_reads_v1 body offsets else Ok (reads_v2 body offsets (length body))) else Err (CorruptTable 0)
+
 unfoldable pub block_rows : ℕ → List ℕ → List ℕ → Result (List RowEntry) SlateDBError
-block_rows version body offsets = if begins_at_zero offsets && nat_lt (length offsets) (2 ^ 16)
-    then (if version == 1 then block_rows_v1 body offsets else block_rows_v2 body offsets) else Err (CorruptTable 0)
+block_rows version body offsets = block_reads version body offsets >>= all_ok

@@ -19,13 +19,15 @@ pub struct Block {
 }
 
 impl Block {
-    /// The rows' bytes, the offsets, and their count. The one error is `OutOfMemory`.
+    /// The rows' bytes, the offsets, and their count. It copies them: who builds a block for its bytes alone calls
+    /// `BlockBuilder::build_encoded`. The one error is `OutOfMemory`.
     pub fn encode(&self, alloc: Global) -> Result<Bytes, SlateDBError>
         requires { length self.now.offsets.items < 2 ^ 16 }
         ensures spelling { IfOk result (λ bytes. bytes ≡ block_spelling self.now.body self.now.offsets.items) }
         ensures cause { IsOkUnless result SlateDBError.OutOfMemory }
     {
-        let mut out = Vec::new(alloc);
+        let len = self.body.len() + 2 * self.offsets.len() + 2;
+        let mut out = Vec::with_capacity(alloc, len)?;
         out.extend_from_slice(self.body.as_slice())?;
         append_offsets(&mut out, &self.offsets)?;
         Ok(Bytes::from_vec(out)?)
@@ -62,7 +64,7 @@ impl Block {
 }
 
 /// Appends the offsets and their count.
-fn append_offsets(out: &mut Vec<u8>, offsets: &[u16]) -> Result<(), SlateDBError>
+pub fn append_offsets(out: &mut Vec<u8>, offsets: &[u16]) -> Result<(), SlateDBError>
     requires { length offsets.now < 2 ^ 16 }
     ensures appended { OnOk result (out.new.items ≡ out.old.items ++ (flat_map be16 offsets.now ++ be16 (length offsets.now))) }
     ensures cause { IsOkUnless result SlateDBError.OutOfMemory }

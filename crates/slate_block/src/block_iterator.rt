@@ -1,12 +1,10 @@
 //! The rows of a block of version 1, one at a time.
-ghost use Rattle.std.specs.Prelude.{◌≡◌, ◌↔◌, ◌+◌, ◌≤◌, ◌<◌, ◌⊎◌, ℕ, List, [], Ok, Err, Some, length, drop, true, false, slice_get, IsTrue, IfOk, IfErr, IfSome, OnOk, OnErr};
-ghost use Rattle.slate_types.specs.declared.error.SlateDBError.{SlateDBError};
+ghost use Rattle.std.specs.Prelude.{◌≡◌, ◌↔◌, ◌+◌, ◌≤◌, ◌<◌, ◌⊎◌, ℕ, List, [], Ok, Err, Some, length, drop, take, true, false, slice_get, IsTrue, IfOk, IfErr, IfSome, OnOk, OnErr};
 ghost use Rattle.slate_types.specs.declared.types.RowEntry.{RowEntry};
-ghost use Rattle.slate_types.specs.Iteration.{comes_before, drop_before, NoneBefore};
-ghost use Rattle.slate_block.specs.Walks.{all_ok, block_reads_v1, block_rows};
-ghost use Rattle.slate_block.specs.BlockWalks.{in_order, left, place_in, rows_of, IsBehind, IsDamage, IsRising, Refuses, TakesLeft, TakesRead, rising_rows};
+ghost use Rattle.slate_types.specs.Iteration.{comes_before, drop_before};
+ghost use Rattle.slate_block.specs.Walks.{block_reads, block_rows};
+ghost use Rattle.slate_block.specs.BlockWalks.{in_order, left, place_in, rows_of, Blames, IsDamage, IsPast, IsRising, IsSought, LastBefore, Refuses, StopsAt, TakesLeft, TakesRead, rising_rows};
 
-use crate::block::Block;
 use crate::block_like::BlockLike;
 use crate::key_parts::is_before_at;
 use crate::places::{block_key, row_at};
@@ -14,7 +12,6 @@ use bytes::Bytes;
 use slate_types::{IterationOrder, Outside, RowEntry, RowEntryIterator, SlateDBError};
 use std::alloc::Global;
 use std::marker::Model;
-use std::sync::Arc;
 
 /// The rows of a block of version 1 that are left, in an order. After a refusal it stands where it stood.
 #[derive(Drop)]
@@ -51,16 +48,16 @@ fn place_in(order: IterationOrder, start: usize, end: usize, index: usize) -> us
 }
 
 impl<B: BlockLike> BlockIterator<B> {
-    /// All rows of the block, in the order. `CorruptTable` or `InvalidRowFlags` where the first row, by whose key the
-    /// others are read, isn't one that shares nothing, and `CorruptTable` where the offsets don't begin at 0 or are
-    /// more than 65535; or `OutOfMemory`.
-    #[tactic(auto, using(crate::proofs::WalkLaws::whole_slice, crate::proofs::WalkLaws::in_order_twice, crate::proofs::WalkLaws::as_many_reads, crate::proofs::WalkLaws::all_ok_in_order))]
+    /// All rows of the block, in the order. It refuses exactly these, or with `OutOfMemory`: `CorruptTable` at 0 where the
+    /// offsets don't begin at 0 or are more than 65535, and `CorruptTable` or `InvalidRowFlags` where the first row, by
+    /// whose key the others are read, isn't one that shares nothing. What else fails is refused when the walk comes there.
+    #[tactic(auto, using(crate::proofs::WalkLaws::whole_slice, crate::proofs::WalkLaws::in_order_twice, crate::proofs::WalkLaws::as_many_reads, crate::proofs::WalkLaws::rows_in_order, crate::proofs::WalkLaws::only_in_order))]
     pub fn new(alloc: Global, block: B, order: IterationOrder) -> Result<Self, SlateDBError>
-        ensures reads { IfOk result (λ it. block_reads_v1 (B.body_bytes block) (B.row_offsets block) ≡ Ok (in_order order it.reads)) }
-        ensures rows { IfOk result (λ it. block_rows 1 (B.body_bytes block) (B.row_offsets block) ≡ all_ok (in_order order it.reads)) }
-        ensures left { IfOk result (λ it. (rows : List RowEntry) → block_rows 1 (B.body_bytes block) (B.row_offsets block) ≡ Ok rows → left it ≡ Ok (in_order order rows)) }
+        ensures reads { IfOk result (λ it. block_reads 1 (B.body_bytes block) (B.row_offsets block) ≡ Ok (in_order order it.reads)) }
+        ensures rows { IfOk result (λ it. (rows : List RowEntry) → block_rows 1 (B.body_bytes block) (B.row_offsets block) ≡ Ok rows → left it ≡ Ok (in_order order rows)) }
+        ensures only { IfOk result (λ it. (rows : List RowEntry) → left it ≡ Ok (in_order order rows) → block_rows 1 (B.body_bytes block) (B.row_offsets block) ≡ Ok rows) }
         ensures order { IfOk result (λ it. it.order ≡ order) }
-        ensures cause { IfErr result (λ e. (e ≡ SlateDBError.OutOfMemory) ⊎ (block_rows 1 (B.body_bytes block) (B.row_offsets block) ≡ Err e)) }
+        ensures cause { IfErr result (λ e. (e ≡ SlateDBError.OutOfMemory) ⊎ (block_reads 1 (B.body_bytes block) (B.row_offsets block) ≡ Err e)) }
         ensures damage { IfErr result (λ e. (e ≡ SlateDBError.OutOfMemory) ⊎ IsDamage e) }
     {
         let first_key = block_key(alloc, block.body(), block.offsets())?;
@@ -120,7 +117,8 @@ impl<B: BlockLike> BlockIterator<B> {
         ensures read { IfOk result (λ answer. TakesRead self.old.reads answer self.new.reads) }
         ensures rows { IfOk result (λ answer. TakesLeft (left self.old) answer (left self.new)) }
         ensures order { self.new.order ≡ self.old.order }
-        ensures cause { IfErr result (λ e. (e ≡ SlateDBError.OutOfMemory) ⊎ ((left self.old ≡ Err e) × Refuses self.old.reads e)) }
+        ensures cause { IfErr result (λ e. (e ≡ SlateDBError.OutOfMemory) ⊎ (slice_get self.old.reads 0 ≡ Some (Err e))) }
+        ensures damage { IfErr result (λ e. (e ≡ SlateDBError.OutOfMemory) ⊎ IsDamage e) }
         ensures unchanged { OnErr result (self.new ≡ self.old) }
     {
         if self.is_empty() {
@@ -131,11 +129,12 @@ impl<B: BlockLike> BlockIterator<B> {
         Ok(Some(row))
     }
 
-    /// How many leading rows the order puts before the key, where the rows come in the order.
-    #[tactic(auto, using(crate::proofs::SeekLaws::passed, crate::proofs::SeekLaws::reached, crate::proofs::SeekLaws::none_behind, crate::proofs::SeekLaws::found))]
+    /// How many leading rows a search finds before the key: the order puts the last of them before it, and the row behind
+    /// them not.
     fn rows_before(&self, alloc: Global, key: &[u8]) -> Result<usize, SlateDBError>
         ensures within { IfOk result (λ count. count ≤ length self.now.reads) }
-        ensures exact { IfOk result (λ count. IsRising self.now.order (left self.now) → drop count (rows_of (left self.now)) ≡ drop_before self.now.order key.now (rows_of (left self.now))) }
+        ensures last { IfOk result (λ count. (index : ℕ) (row : RowEntry) → index + 1 ≡ count → slice_get self.now.reads index ≡ Some (Ok row) → comes_before self.now.order row.key key.now ≡ true) }
+        ensures next { IfOk result (λ count. (row : RowEntry) → slice_get self.now.reads count ≡ Some (Ok row) → comes_before self.now.order row.key key.now ≡ false) }
         ensures cause { IfErr result (λ e. (e ≡ SlateDBError.OutOfMemory) ⊎ Refuses self.now.reads e) }
     {
         let mut low = 0;
@@ -154,8 +153,7 @@ impl<B: BlockLike> BlockIterator<B> {
     /// Whether the order puts the row at an index before the key. Only where its key doesn't tell, the whole row is read.
     fn is_before(&self, alloc: Global, index: usize, key: &[u8]) -> Result<bool, SlateDBError>
         requires { index < length self.now.reads }
-        ensures passed { IfOk result (λ before. before ≡ true → IsRising self.now.order (left self.now) → drop_before self.now.order key.now (drop (index + 1) (rows_of (left self.now))) ≡ drop_before self.now.order key.now (rows_of (left self.now))) }
-        ensures reached { IfOk result (λ before. before ≡ false → IsRising self.now.order (left self.now) → NoneBefore self.now.order key.now (drop index (rows_of (left self.now)))) }
+        ensures before { IfOk result (λ before. (row : RowEntry) → slice_get self.now.reads index ≡ Some (Ok row) → before ≡ comes_before self.now.order row.key key.now) }
         ensures cause { IfErr result (λ e. (e ≡ SlateDBError.OutOfMemory) ⊎ Refuses self.now.reads e) }
     {
         if let Some(before) = self.key_is_before(index, key) {
@@ -177,16 +175,36 @@ impl<B: BlockLike> BlockIterator<B> {
         is_before_at(self.order, self.block.body(), first, offsets, place, key)
     }
 
-    /// Takes off exactly the leading rows that the order puts before the key, where the rows come in the order; else some
-    /// leading rows. An `Err` takes none off: it is the refusal of a row that is left, or `OutOfMemory`.
+    /// How many leading rows a seek takes off. The last of them is read whole: a key that stands there doesn't make a row.
+    #[tactic(auto, using(crate::proofs::SeekLaws::last_of_none, crate::proofs::WalkLaws::refused_at))]
+    fn rows_to_skip(&self, alloc: Global, key: &[u8]) -> Result<usize, SlateDBError>
+        ensures within { IfOk result (λ count. count ≤ length self.now.reads) }
+        ensures last { IfOk result (λ count. LastBefore self.now.order key.now (take count self.now.reads)) }
+        ensures next { IfOk result (λ count. (row : RowEntry) → slice_get self.now.reads count ≡ Some (Ok row) → comes_before self.now.order row.key key.now ≡ false) }
+        ensures cause { IfErr result (λ e. (e ≡ SlateDBError.OutOfMemory) ⊎ Refuses self.now.reads e) }
+    {
+        let count = self.rows_before(alloc, key)?;
+        if count == 0 {
+            return Ok(0);
+        }
+        let _last = self.row(alloc, count - 1)?;
+        Ok(count)
+    }
+
+    /// Takes off exactly the leading rows that the order puts before the key, where the rows come in the order. Where some
+    /// are refused or stand out of order, the last row that it takes off is read and comes before the key, and it stops where
+    /// the next one, where it is read, doesn't. So where those that are read come in the order, it takes off none of them
+    /// that doesn't come before the key. An `Err` takes none off: it is the refusal of a row that is left, or `OutOfMemory`.
+    #[tactic(auto, using(crate::proofs::SeekLaws::past_counted, crate::proofs::SeekLaws::stops_counted, crate::proofs::SeekLaws::sought))]
     pub fn skip_before(&mut self, alloc: Global, key: &[u8]) -> Result<(), SlateDBError>
         ensures rows { IsRising self.old.order (left self.old) → OnOk result (left self.new ≡ Ok (drop_before self.old.order key.now (rows_of (left self.old)))) }
-        ensures behind { IsBehind self.old.reads self.new.reads }
+        ensures past { OnOk result (IsPast self.old.order key.now self.old.reads self.new.reads) }
+        ensures stops { OnOk result (StopsAt self.old.order key.now self.new.reads) }
         ensures order { self.new.order ≡ self.old.order }
         ensures cause { IfErr result (λ e. (e ≡ SlateDBError.OutOfMemory) ⊎ Refuses self.old.reads e) }
         ensures unchanged { OnErr result (self.new ≡ self.old) }
     {
-        let count = self.rows_before(alloc, key)?;
+        let count = self.rows_to_skip(alloc, key)?;
         self.skip(count);
         Ok(())
     }
@@ -203,29 +221,29 @@ impl<E: Outside, B: BlockLike> RowEntryIterator<E> for BlockIterator<B> {
 
     ghost refuses = { λ it _ _ e. Refuses it.reads e };
 
+    ghost begins = { λ before _ after. after ≡ before };
+
+    ghost takes = { λ before _ answer after. TakesRead before.reads answer after.reads };
+
+    ghost seeks = { λ before _ key after. IsSought key before after };
+
+    ghost stays = { λ before _ at e after. (after ≡ before) × Blames at before e };
+
     ghost rising = { λ it _ h. rising_rows it.order (left it) h };
 
     fn init(&mut self, _alloc: Global, _env: &mut E) -> Result<(), SlateDBError> {
         Ok(())
     }
 
-    #[tactic(auto, using(crate::proofs::SeekLaws::step_rows, crate::proofs::SeekLaws::step_rising, crate::proofs::SeekLaws::step_fewer, crate::proofs::SeekLaws::step_smaller, crate::proofs::SeekLaws::step_no_larger))]
+    #[tactic(auto, using(crate::proofs::SeekLaws::step_rows, crate::proofs::SeekLaws::step_rising, crate::proofs::SeekLaws::step_fewer, crate::proofs::SeekLaws::step_smaller, crate::proofs::SeekLaws::step_no_larger, crate::proofs::SeekLaws::first_refuses))]
     fn next(&mut self, alloc: Global, _env: &mut E) -> Result<Option<RowEntry>, SlateDBError> {
         let answer = self.next_row(alloc)?;
         Ok(answer)
     }
 
-    #[tactic(auto, using(crate::proofs::SeekLaws::sought_rising, crate::proofs::SeekLaws::behind_fewer, crate::proofs::SeekLaws::behind_no_larger))]
+    #[tactic(auto, using(crate::proofs::SeekLaws::sought_rising, crate::proofs::SeekLaws::past_fewer, crate::proofs::SeekLaws::past_no_larger))]
     fn seek(&mut self, alloc: Global, key: &[u8], _env: &mut E) -> Result<(), SlateDBError> {
         self.skip_before(alloc, key)?;
         Ok(())
     }
-}
-
-fn crosses<T: Send + Sync>() {}
-
-/// An iterator goes to other threads, and is shared between them, as its block does.
-pub fn block_iterators_cross_threads() {
-    crosses::<BlockIterator<Block>>();
-    crosses::<BlockIterator<Arc<Block>>>();
 }

@@ -1,10 +1,10 @@
 //! The rows of a block of version 2, one at a time.
-ghost use Rattle.std.specs.Prelude.{◌≡◌, ◌≤◌, ◌<◌, ◌⊎◌, ◌↔◌, List, [], Ok, Err, IsSome, IsTrue, IfOk, IfErr, OnOk, OnErr};
+ghost use Rattle.std.specs.Prelude.{◌≡◌, ◌⊎◌, ◌↔◌, List, [], Ok, Err, Some, length, slice_get, IsOk, IsTrue, IfOk, IfErr, OnOk, OnErr};
 ghost use Rattle.slate_types.specs.declared.types.RowEntry.{RowEntry};
 ghost use Rattle.slate_types.specs.Iteration.{drop_before};
-ghost use Rattle.slate_block.specs.Walks.{block_rows};
-ghost use Rattle.slate_block.specs.BlockWalks.{in_order, rising_rows, rows_of, IsDamage, IsRising, TakesLeft};
-ghost use Rattle.slate_block.specs.GroupWalks.{walk_in, IsRefused};
+ghost use Rattle.slate_block.specs.Walks.{block_reads, block_rows, reads_v2};
+ghost use Rattle.slate_block.specs.BlockWalks.{in_order, left, rising_rows, rows_of, BeginsRead, Blames, IsDamage, IsPast, IsRising, IsSought, Refuses, StopsAt, TakesLeft, TakesRead};
+ghost use Rattle.slate_block.specs.GroupWalks.{walk_in};
 
 use crate::block_like::BlockLike;
 use crate::descending_block_iterator_v2::DescendingBlockIteratorV2;
@@ -24,19 +24,21 @@ struct AscendingState<B: BlockLike> {
 
 impl<B: BlockLike> Model for AscendingState<B> {
     ghost use Rattle.slate_types.specs.declared.iter.IterationOrder.TheVariants.{Ascending};
-    ghost use Rattle.slate_block.specs.GroupWalks.{bound_v2, left_v2, Walk};
+    ghost use Rattle.slate_block.specs.BlockWalks.{ReadsLeft};
+    ghost use Rattle.slate_block.specs.GroupWalks.{left_v2};
 
-    ghost Value = { Walk };
+    ghost Value = { ReadsLeft };
 
-    ghost view = { λ s. record { left = left_v2 (B.body_bytes s.block) (B.row_offsets s.block) s.place; order = Ascending; bound = bound_v2 (B.row_offsets s.block) s.place } };
+    ghost view = { λ s. record { reads = left_v2 (B.body_bytes s.block) (B.row_offsets s.block) s.place; order = Ascending } };
 }
 
 impl<B: BlockLike> AscendingState<B> {
-    #[tactic(auto, using(crate::proofs::GroupSteps::named_rows, crate::proofs::GroupSteps::unnamed_rows))]
+    #[tactic(auto, using(crate::proofs::GroupSteps::named_reads, crate::proofs::GroupSteps::unnamed_reads))]
     fn new(block: B) -> Result<Self, SlateDBError>
-        ensures left { IfOk result (λ it. it.left ≡ block_rows 2 (B.body_bytes block) (B.row_offsets block)) }
+        ensures reads { IfOk result (λ it. it.reads ≡ reads_v2 (B.body_bytes block) (B.row_offsets block) (length (B.body_bytes block))) }
+        ensures begins { IfOk result (λ it. block_reads 2 (B.body_bytes block) (B.row_offsets block) ≡ Ok it.reads) }
         ensures order { IfOk result (λ it. it.order ≡ IterationOrder.Ascending) }
-        ensures cause { IfErr result (λ e. block_rows 2 (B.body_bytes block) (B.row_offsets block) ≡ Err e) }
+        ensures cause { IfErr result (λ e. block_reads 2 (B.body_bytes block) (B.row_offsets block) ≡ Err e) }
         ensures damage { IfErr result IsDamage }
     {
         if !are_named(block.offsets()) {
@@ -50,17 +52,17 @@ impl<B: BlockLike> AscendingState<B> {
 
     #[tactic(auto, using(crate::proofs::GroupSteps::left_behind_block, crate::proofs::GroupSteps::over_left, crate::proofs::GroupSteps::left_none))]
     fn is_empty(&self) -> bool
-        ensures { IsTrue result ↔ (self.now.left ≡ Ok []) }
+        ensures { IsTrue result ↔ (self.now.reads ≡ []) }
     {
         self.place.group.is_over() && self.place.next >= self.block.offsets().len()
     }
 
+    #[tactic(auto, using(crate::proofs::SeekLaws::step_left))]
     fn next_row(&mut self, alloc: Global) -> Result<Option<RowEntry>, SlateDBError>
-        ensures rows { IfOk result (λ answer. TakesLeft self.old.left answer self.new.left) }
-        ensures smaller { IfOk result (λ answer. IsSome answer → self.new.bound < self.old.bound) }
-        ensures no_larger { self.new.bound ≤ self.old.bound }
+        ensures read { IfOk result (λ answer. TakesRead self.old.reads answer self.new.reads) }
+        ensures rows { IfOk result (λ answer. TakesLeft (left self.old) answer (left self.new)) }
         ensures order { self.new.order ≡ self.old.order }
-        ensures cause { IfErr result (λ e. (e ≡ SlateDBError.OutOfMemory) ⊎ (self.old.left ≡ Err e)) }
+        ensures cause { IfErr result (λ e. (e ≡ SlateDBError.OutOfMemory) ⊎ (slice_get self.old.reads 0 ≡ Some (Err e))) }
         ensures damage { IfErr result (λ e. (e ≡ SlateDBError.OutOfMemory) ⊎ IsDamage e) }
         ensures unchanged { OnErr result (self.new ≡ self.old) }
     {
@@ -72,13 +74,14 @@ impl<B: BlockLike> AscendingState<B> {
         Ok(Some(row))
     }
 
+    #[tactic(auto, using(crate::proofs::SeekLaws::sought))]
     fn skip_before(&mut self, alloc: Global, key: &[u8]) -> Result<(), SlateDBError>
-        ensures rows { IsRising self.old.order self.old.left → OnOk result (self.new.left ≡ Ok (drop_before self.old.order key.now (rows_of self.old.left))) }
-        ensures fewer { IsRefused self.new.left → IsRefused self.old.left }
-        ensures no_larger { self.new.bound ≤ self.old.bound }
+        ensures rows { IsRising self.old.order (left self.old) → OnOk result (left self.new ≡ Ok (drop_before self.old.order key.now (rows_of (left self.old)))) }
+        ensures past { OnOk result (IsPast self.old.order key.now self.old.reads self.new.reads) }
+        ensures stops { OnOk result (StopsAt self.old.order key.now self.new.reads) }
+        ensures read { OnOk result (BeginsRead self.new.reads) }
         ensures order { self.new.order ≡ self.old.order }
-        ensures cause { IfErr result (λ e. (e ≡ SlateDBError.OutOfMemory) ⊎ IsRefused self.old.left) }
-        ensures damage { IfErr result (λ e. (e ≡ SlateDBError.OutOfMemory) ⊎ IsDamage e) }
+        ensures cause { IfErr result (λ e. (e ≡ SlateDBError.OutOfMemory) ⊎ Refuses self.old.reads e) }
         ensures unchanged { OnErr result (self.new ≡ self.old) }
     {
         let (body, offsets) = (self.block.body(), self.block.offsets());
@@ -100,24 +103,26 @@ pub struct BlockIteratorV2<B: BlockLike> {
 }
 
 impl<B: BlockLike> Model for BlockIteratorV2<B> {
-    ghost use Rattle.slate_block.specs.GroupWalks.{Walk};
+    ghost use Rattle.slate_block.specs.BlockWalks.{ReadsLeft};
     ghost use Rattle.slate_block.specs.EitherOrder.{walk_of};
 
-    ghost Value = { Walk };
+    ghost Value = { ReadsLeft };
 
     ghost view = { λ it. walk_of it.inner };
 }
 
 impl<B: BlockLike> BlockIteratorV2<B> {
-    /// All rows of the block, in the order; downwards they come in exactly the reversed order. `CorruptTable` at 0 where the
-    /// offsets don't begin at 0, or are more than 65535. What else fails is refused when the walk comes there: upwards the
-    /// first field that fails, downwards the first one of the last group that fails.
+    /// All rows of the block, in the order; downwards they come in exactly the reversed order. It refuses exactly this:
+    /// `CorruptTable` at 0 where the offsets don't begin at 0, or are more than 65535. What else fails is refused when the
+    /// walk comes there: upwards a row that fails, downwards a group of which a row fails, by the first one.
+    #[tactic(auto, using(crate::proofs::GroupSteps::reads_are_rows, crate::proofs::GroupSteps::rows_are_reads))]
     pub fn new(alloc: Global, block: B, order: IterationOrder) -> Result<Self, SlateDBError>
-        ensures left { IfOk result (λ it. it.left ≡ walk_in order (B.body_bytes block) (B.row_offsets block)) }
-        ensures rows { IfOk result (λ it. (rows : List RowEntry) → block_rows 2 (B.body_bytes block) (B.row_offsets block) ≡ Ok rows → it.left ≡ Ok (in_order order rows)) }
-        ensures only { IfOk result (λ it. (rows : List RowEntry) → it.left ≡ Ok (in_order order rows) → block_rows 2 (B.body_bytes block) (B.row_offsets block) ≡ Ok rows) }
+        ensures reads { IfOk result (λ it. it.reads ≡ walk_in order (B.body_bytes block) (B.row_offsets block)) }
+        ensures rows { IfOk result (λ it. (rows : List RowEntry) → block_rows 2 (B.body_bytes block) (B.row_offsets block) ≡ Ok rows → left it ≡ Ok (in_order order rows)) }
+        ensures only { IfOk result (λ it. (rows : List RowEntry) → left it ≡ Ok (in_order order rows) → block_rows 2 (B.body_bytes block) (B.row_offsets block) ≡ Ok rows) }
         ensures order { IfOk result (λ it. it.order ≡ order) }
-        ensures cause { IfErr result (λ e. block_rows 2 (B.body_bytes block) (B.row_offsets block) ≡ Err e) }
+        ensures begins { IfOk result (λ _. IsOk (block_reads 2 (B.body_bytes block) (B.row_offsets block))) }
+        ensures cause { IfErr result (λ e. block_reads 2 (B.body_bytes block) (B.row_offsets block) ≡ Err e) }
         ensures damage { IfErr result IsDamage }
     {
         let inner = match order {
@@ -131,7 +136,7 @@ impl<B: BlockLike> BlockIteratorV2<B> {
 
     /// Whether no row is left.
     pub fn is_empty(&self) -> bool
-        ensures { IsTrue result ↔ (self.now.left ≡ Ok []) }
+        ensures { IsTrue result ↔ (self.now.reads ≡ []) }
     {
         match &self.inner {
             BlockIteratorInner::Ascending(state) => state.is_empty(),
@@ -142,11 +147,10 @@ impl<B: BlockLike> BlockIteratorV2<B> {
     /// The first row of those that are left, which is taken off, or `None` where none is left. `CorruptTable` with the
     /// place of the first field that fails in the rows' part, or `InvalidRowFlags`; or `OutOfMemory`.
     pub fn next_row(&mut self, alloc: Global) -> Result<Option<RowEntry>, SlateDBError>
-        ensures rows { IfOk result (λ answer. TakesLeft self.old.left answer self.new.left) }
-        ensures smaller { IfOk result (λ answer. IsSome answer → self.new.bound < self.old.bound) }
-        ensures no_larger { self.new.bound ≤ self.old.bound }
+        ensures read { IfOk result (λ answer. TakesRead self.old.reads answer self.new.reads) }
+        ensures rows { IfOk result (λ answer. TakesLeft (left self.old) answer (left self.new)) }
         ensures order { self.new.order ≡ self.old.order }
-        ensures cause { IfErr result (λ e. (e ≡ SlateDBError.OutOfMemory) ⊎ (self.old.left ≡ Err e)) }
+        ensures cause { IfErr result (λ e. (e ≡ SlateDBError.OutOfMemory) ⊎ (slice_get self.old.reads 0 ≡ Some (Err e))) }
         ensures damage { IfErr result (λ e. (e ≡ SlateDBError.OutOfMemory) ⊎ IsDamage e) }
         ensures unchanged { OnErr result (self.new ≡ self.old) }
     {
@@ -156,15 +160,17 @@ impl<B: BlockLike> BlockIteratorV2<B> {
         }
     }
 
-    /// Takes off exactly the leading rows that the order puts before the key, where the rows come in the order. It refuses
-    /// as `next_row` does, where the walk is refused.
+    /// Takes off exactly the leading rows that the order puts before the key, where the rows come in the order. Where some
+    /// are refused or stand out of order, the last row that it takes off is read and comes before the key, and it stops where
+    /// the next one is read and doesn't. So where those that are read come in the order, it takes off exactly those of them
+    /// that come before the key. An `Err` takes none off: it is the refusal of a row that is left, or `OutOfMemory`.
     pub fn skip_before(&mut self, alloc: Global, key: &[u8]) -> Result<(), SlateDBError>
-        ensures rows { IsRising self.old.order self.old.left → OnOk result (self.new.left ≡ Ok (drop_before self.old.order key.now (rows_of self.old.left))) }
-        ensures fewer { IsRefused self.new.left → IsRefused self.old.left }
-        ensures no_larger { self.new.bound ≤ self.old.bound }
+        ensures rows { IsRising self.old.order (left self.old) → OnOk result (left self.new ≡ Ok (drop_before self.old.order key.now (rows_of (left self.old)))) }
+        ensures past { OnOk result (IsPast self.old.order key.now self.old.reads self.new.reads) }
+        ensures stops { OnOk result (StopsAt self.old.order key.now self.new.reads) }
+        ensures read { OnOk result (BeginsRead self.new.reads) }
         ensures order { self.new.order ≡ self.old.order }
-        ensures cause { IfErr result (λ e. (e ≡ SlateDBError.OutOfMemory) ⊎ IsRefused self.old.left) }
-        ensures damage { IfErr result (λ e. (e ≡ SlateDBError.OutOfMemory) ⊎ IsDamage e) }
+        ensures cause { IfErr result (λ e. (e ≡ SlateDBError.OutOfMemory) ⊎ Refuses self.old.reads e) }
         ensures unchanged { OnErr result (self.new ≡ self.old) }
     {
         match &mut self.inner {
@@ -175,29 +181,37 @@ impl<B: BlockLike> BlockIteratorV2<B> {
 }
 
 impl<E: Outside, B: BlockLike> RowEntryIterator<E> for BlockIteratorV2<B> {
-    ghost rest = { λ it _. rows_of it.left };
+    ghost rest = { λ it _. rows_of (left it) };
 
-    ghost sound = { λ it _. IsRising it.order it.left };
+    ghost sound = { λ it _. IsRising it.order (left it) };
 
     ghost order = { λ it. it.order };
 
-    ghost bound = { λ it. it.bound };
+    ghost bound = { λ it. length it.reads };
 
-    ghost refuses = { λ it _ _ e. IsRefused it.left × IsDamage e };
+    ghost refuses = { λ it _ _ e. Refuses it.reads e };
 
-    ghost rising = { λ it _ h. rising_rows it.order it.left h };
+    ghost begins = { λ before _ after. after ≡ before };
+
+    ghost takes = { λ before _ answer after. TakesRead before.reads answer after.reads };
+
+    ghost seeks = { λ before _ key after. IsSought key before after × BeginsRead after.reads };
+
+    ghost stays = { λ before _ at e after. (after ≡ before) × Blames at before e };
+
+    ghost rising = { λ it _ h. rising_rows it.order (left it) h };
 
     fn init(&mut self, _alloc: Global, _env: &mut E) -> Result<(), SlateDBError> {
         Ok(())
     }
 
-    #[tactic(auto, using(crate::proofs::SeekSteps::walk_rows, crate::proofs::SeekSteps::walk_rising, crate::proofs::SeekSteps::walk_fewer, crate::proofs::SeekSteps::refused_is))]
+    #[tactic(auto, using(crate::proofs::SeekLaws::step_rows, crate::proofs::SeekLaws::step_rising, crate::proofs::SeekLaws::step_fewer, crate::proofs::SeekLaws::step_smaller, crate::proofs::SeekLaws::step_no_larger, crate::proofs::SeekLaws::first_refuses))]
     fn next(&mut self, alloc: Global, _env: &mut E) -> Result<Option<RowEntry>, SlateDBError> {
         let answer = self.next_row(alloc)?;
         Ok(answer)
     }
 
-    #[tactic(auto, using(crate::proofs::SeekLaws::sought_rising))]
+    #[tactic(auto, using(crate::proofs::SeekLaws::sought_rising, crate::proofs::SeekLaws::past_fewer, crate::proofs::SeekLaws::past_no_larger))]
     fn seek(&mut self, alloc: Global, key: &[u8], _env: &mut E) -> Result<(), SlateDBError> {
         self.skip_before(alloc, key)?;
         Ok(())

@@ -4,7 +4,7 @@ ghost use Rattle.slate_block.specs.BlockSpelling.{IsBlockOf, FitsBlock, block_sp
 ghost use Rattle.slate_block.specs.Building.{number, front_key, Held, Held-prop, CanTake, Building, with_row};
 ghost use Rattle.slate_block.specs.Fitting.{fits_in};
 
-use crate::block::Block;
+use crate::block::{Block, append_offsets};
 use crate::keys::compute_prefix;
 use crate::rows_part::{RowsPart, Version};
 use bytes::Bytes;
@@ -34,7 +34,8 @@ impl Model for BlockBuilder {
 }
 
 impl BlockBuilder {
-    /// A builder of a block of version 1 with at most so many bytes: 1 to 65535. The one error is `OutOfMemory`.
+    /// A builder of a block of version 1 that is held to this block size, 1 to 65535. The first row always fits, and the
+    /// block may pass the size by 2. The one error is `OutOfMemory`.
     pub fn new_v1(alloc: Global, block_size: u32) -> Result<BlockBuilder, SlateDBError>
         requires some { 1 ≤ block_size }
         requires few { block_size ≤ 65535 }
@@ -44,7 +45,8 @@ impl BlockBuilder {
         Ok(BlockBuilder::of_version(alloc, Version::V1, block_size))
     }
 
-    /// A builder of a block of version 2 with at most so many bytes: 1 to 65535. The one error is `OutOfMemory`.
+    /// A builder of a block of version 2 that is held to this block size, 1 to 65535. The first row always fits. The one
+    /// error is `OutOfMemory`.
     pub fn new_v2(alloc: Global, block_size: u32) -> Result<BlockBuilder, SlateDBError>
         requires some { 1 ≤ block_size }
         requires few { block_size ≤ 65535 }
@@ -54,7 +56,7 @@ impl BlockBuilder {
         Ok(BlockBuilder::of_version(alloc, Version::V2, block_size))
     }
 
-    /// A builder of a block of the latest version, which is 2.
+    /// A builder of a block of the latest version, which is 2: as by `new_v2`.
     pub fn new_latest(alloc: Global, block_size: u32) -> Result<BlockBuilder, SlateDBError>
         requires some { 1 ≤ block_size }
         requires few { block_size ≤ 65535 }
@@ -151,5 +153,23 @@ impl BlockBuilder {
             body,
             offsets: part.offsets,
         })
+    }
+
+    /// The bytes of the block of the rows that were taken: the offsets are put behind the rows in the buffer where these
+    /// stand. `EmptyBlock` exactly where there are none, or `OutOfMemory`.
+    #[tactic(auto, using(crate::proofs::HeldLaws::few_held, crate::proofs::HeldLaws::encoded_held))]
+    pub fn build_encoded(self) -> Result<Bytes, SlateDBError>
+        ensures empty { (result ≡ Err SlateDBError.EmptyBlock) ↔ (self.rows ≡ []) }
+        ensures bytes { IfOk result (λ bytes. bytes ≡ block_bytes self.version self.rows) }
+        ensures fits { OnOk result (FitsBlock self.version self.rows) }
+        ensures cause { IfErr result (λ e. (e ≡ SlateDBError.EmptyBlock) ⊎ (e ≡ SlateDBError.OutOfMemory)) }
+    {
+        let BlockBuilder { part, .. } = self;
+        if part.num_rows == 0 {
+            return Err(SlateDBError::EmptyBlock);
+        }
+        let mut bytes = part.body;
+        append_offsets(&mut bytes, &part.offsets)?;
+        Ok(Bytes::from_vec(bytes)?)
     }
 }

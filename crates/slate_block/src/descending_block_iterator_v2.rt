@@ -1,15 +1,15 @@
 //! The rows of a block of version 2 by key downwards.
-ghost use Rattle.std.specs.Prelude.{◌≡◌, ◌≤◌, ◌<◌, ◌⊎◌, ◌↔◌, List, [], Ok, Err, IsSome, IsTrue, IfOk, IfErr, OnOk, OnErr, reverse};
+ghost use Rattle.std.specs.Prelude.{◌≡◌, ◌⊎◌, ◌↔◌, List, [], Ok, Err, Some, length, slice_get, reverse, IsOk, IsTrue, IfOk, IfErr, OnOk, OnErr};
 ghost use Rattle.slate_types.specs.declared.types.RowEntry.{RowEntry};
 ghost use Rattle.slate_types.specs.Iteration.{drop_before};
-ghost use Rattle.slate_block.specs.Walks.{block_rows};
-ghost use Rattle.slate_block.specs.BlockWalks.{rising_rows, rows_of, IsDamage, IsRising, TakesLeft};
-ghost use Rattle.slate_block.specs.GroupWalks.{block_rows_back, IsRefused};
+ghost use Rattle.slate_block.specs.Walks.{block_reads, block_rows};
+ghost use Rattle.slate_block.specs.BlockWalks.{left, rising_rows, rows_of, BeginsRead, Blames, IsDamage, IsPast, IsRising, IsSought, Refuses, StopsAt, TakesLeft, TakesRead};
+ghost use Rattle.slate_block.specs.GroupWalks.{reads_back};
 
 use crate::block_like::BlockLike;
 use crate::fields::corrupt;
 use crate::places::are_named;
-use crate::walk_back_v2::{before_key, group_rows, groups_upto_key, rows_upto_key};
+use crate::walk_back_v2::{before_key, group_rows, groups_to_search, rows_upto_key};
 use slate_types::{IterationOrder, Outside, RowEntry, RowEntryIterator, SlateDBError};
 use std::alloc::Global;
 use std::marker::Model;
@@ -26,27 +26,29 @@ pub struct DescendingBlockIteratorV2<B: BlockLike> {
 }
 
 impl<B: BlockLike> Model for DescendingBlockIteratorV2<B> {
-    ghost use Rattle.std.specs.Prelude.{◌+◌, ◌*◌, ◌≤◌, length};
+    ghost use Rattle.std.specs.Prelude.{◌≤◌, length};
     ghost use Rattle.slate_types.specs.declared.iter.IterationOrder.TheVariants.{Descending};
-    ghost use Rattle.slate_block.specs.GroupWalks.{left_back, Walk};
+    ghost use Rattle.slate_block.specs.BlockWalks.{ReadsLeft};
+    ghost use Rattle.slate_block.specs.GroupWalks.{left_back};
 
-    ghost Value = { Walk };
+    ghost Value = { ReadsLeft };
 
-    ghost view = { λ it. record { left = left_back (B.body_bytes it.block) (B.row_offsets it.block) it.groups it.rows.items; order = Descending; bound = 16 * it.groups + length it.rows.items } };
+    ghost view = { λ it. record { reads = left_back (B.body_bytes it.block) (B.row_offsets it.block) it.groups it.rows.items; order = Descending } };
 
     ghost invariant = { λ it. it.groups ≤ length (B.row_offsets it.block) };
 }
 
 impl<B: BlockLike> DescendingBlockIteratorV2<B> {
-    /// All rows of the block. `CorruptTable` at 0 where the offsets don't begin at 0, or are more than 65535. What else
-    /// fails is refused when the walk comes to its group: the first field of the last group that fails.
-    #[tactic(auto, using(crate::proofs::BackLaws::named_back, crate::proofs::GroupSteps::unnamed_rows, crate::proofs::BackLaws::read_back, crate::proofs::BackLaws::back_is_read))]
+    /// All rows of the block. It refuses exactly this: `CorruptTable` at 0 where the offsets don't begin at 0, or are more
+    /// than 65535. What else fails is refused when the walk comes to its group: by the first row of the group that fails.
+    #[tactic(auto, using(crate::proofs::BackLaws::whole_back, crate::proofs::BackLaws::read_back, crate::proofs::BackLaws::back_is_read, crate::proofs::BackLaws::named_is_ok, crate::proofs::GroupSteps::unnamed_reads))]
     pub fn new(alloc: Global, block: B) -> Result<Self, SlateDBError>
-        ensures left { IfOk result (λ it. it.left ≡ block_rows_back (B.body_bytes block) (B.row_offsets block)) }
-        ensures rows { IfOk result (λ it. (rows : List RowEntry) → block_rows 2 (B.body_bytes block) (B.row_offsets block) ≡ Ok rows → it.left ≡ Ok (reverse rows)) }
-        ensures only { IfOk result (λ it. (rows : List RowEntry) → it.left ≡ Ok (reverse rows) → block_rows 2 (B.body_bytes block) (B.row_offsets block) ≡ Ok rows) }
+        ensures reads { IfOk result (λ it. it.reads ≡ reads_back (length (B.row_offsets block)) (B.body_bytes block) (B.row_offsets block)) }
+        ensures rows { IfOk result (λ it. (rows : List RowEntry) → block_rows 2 (B.body_bytes block) (B.row_offsets block) ≡ Ok rows → left it ≡ Ok (reverse rows)) }
+        ensures only { IfOk result (λ it. (rows : List RowEntry) → left it ≡ Ok (reverse rows) → block_rows 2 (B.body_bytes block) (B.row_offsets block) ≡ Ok rows) }
         ensures order { IfOk result (λ it. it.order ≡ IterationOrder.Descending) }
-        ensures cause { IfErr result (λ e. block_rows 2 (B.body_bytes block) (B.row_offsets block) ≡ Err e) }
+        ensures begins { IfOk result (λ _. IsOk (block_reads 2 (B.body_bytes block) (B.row_offsets block))) }
+        ensures cause { IfErr result (λ e. block_reads 2 (B.body_bytes block) (B.row_offsets block) ≡ Err e) }
         ensures damage { IfErr result IsDamage }
     {
         if !are_named(block.offsets()) {
@@ -61,22 +63,21 @@ impl<B: BlockLike> DescendingBlockIteratorV2<B> {
     }
 
     /// Whether no row is left.
-    #[tactic(auto, using(crate::proofs::BackLaws::no_rows_back, crate::proofs::BackLaws::rows_back_none))]
+    #[tactic(auto, using(crate::proofs::BackLaws::no_rows_back, crate::proofs::BackLaws::some_groups))]
     pub fn is_empty(&self) -> bool
-        ensures { IsTrue result ↔ (self.now.left ≡ Ok []) }
+        ensures { IsTrue result ↔ (self.now.reads ≡ []) }
     {
         self.groups == 0 && self.rows.is_empty()
     }
 
     /// The first row of those that are left, which is taken off, or `None` where none is left. `CorruptTable` with the
     /// place of the first field that fails in the rows' part, or `InvalidRowFlags`; or `OutOfMemory`.
-    #[tactic(auto, using(crate::proofs::BackLaws::pop_back, crate::proofs::BackLaws::pop_read, crate::proofs::BackLaws::no_rows_back, crate::proofs::BackLaws::left_refused, crate::proofs::BackLaws::read_some))]
+    #[tactic(auto, using(crate::proofs::BackLaws::pop_back, crate::proofs::BackLaws::pop_read, crate::proofs::BackLaws::no_rows_back, crate::proofs::BackLaws::left_refused, crate::proofs::BackLaws::read_some, crate::proofs::SeekLaws::step_left))]
     pub fn next_row(&mut self, alloc: Global) -> Result<Option<RowEntry>, SlateDBError>
-        ensures rows { IfOk result (λ answer. TakesLeft self.old.left answer self.new.left) }
-        ensures smaller { IfOk result (λ answer. IsSome answer → self.new.bound < self.old.bound) }
-        ensures no_larger { self.new.bound ≤ self.old.bound }
+        ensures read { IfOk result (λ answer. TakesRead self.old.reads answer self.new.reads) }
+        ensures rows { IfOk result (λ answer. TakesLeft (left self.old) answer (left self.new)) }
         ensures order { self.new.order ≡ self.old.order }
-        ensures cause { IfErr result (λ e. (e ≡ SlateDBError.OutOfMemory) ⊎ (self.old.left ≡ Err e)) }
+        ensures cause { IfErr result (λ e. (e ≡ SlateDBError.OutOfMemory) ⊎ (slice_get self.old.reads 0 ≡ Some (Err e))) }
         ensures damage { IfErr result (λ e. (e ≡ SlateDBError.OutOfMemory) ⊎ IsDamage e) }
         ensures unchanged { OnErr result (self.new ≡ self.old) }
     {
@@ -94,16 +95,18 @@ impl<B: BlockLike> DescendingBlockIteratorV2<B> {
         Ok(last)
     }
 
-    /// Takes off exactly the leading rows that come after the key, where the rows come in order. It refuses as `next_row`
-    /// does, where the walk is refused.
-    #[tactic(auto, using(crate::proofs::BackLaws::kept_left, crate::proofs::SeekSteps::sought_left, crate::proofs::SeekSteps::sought_refused, crate::proofs::BackLaws::sought_back, crate::proofs::BackLaws::sought_back_refused, crate::proofs::BackLaws::back_refused_is))]
+    /// Takes off exactly the leading rows that come after the key, where the rows come in order. Where some are refused or
+    /// stand out of order, the last row that it takes off is read and comes after the key, and it stops where the next one is
+    /// read and doesn't. So where those that are read come in order, it takes off exactly those of them that come after the
+    /// key. An `Err` takes none off: it is the refusal of a row that is left, or `OutOfMemory`.
+    #[tactic(auto, using(crate::proofs::SeekLaws::sought, crate::proofs::BackSteps::kept_past, crate::proofs::BackSteps::kept_stops, crate::proofs::BackSteps::kept_read, crate::proofs::BackLaws::past_back, crate::proofs::BackLaws::refused_back))]
     pub fn skip_before(&mut self, alloc: Global, key: &[u8]) -> Result<(), SlateDBError>
-        ensures rows { IsRising self.old.order self.old.left → OnOk result (self.new.left ≡ Ok (drop_before self.old.order key.now (rows_of self.old.left))) }
-        ensures fewer { IsRefused self.new.left → IsRefused self.old.left }
-        ensures no_larger { self.new.bound ≤ self.old.bound }
+        ensures rows { IsRising self.old.order (left self.old) → OnOk result (left self.new ≡ Ok (drop_before self.old.order key.now (rows_of (left self.old)))) }
+        ensures past { OnOk result (IsPast self.old.order key.now self.old.reads self.new.reads) }
+        ensures stops { OnOk result (StopsAt self.old.order key.now self.new.reads) }
+        ensures read { OnOk result (BeginsRead self.new.reads) }
         ensures order { self.new.order ≡ self.old.order }
-        ensures cause { IfErr result (λ e. (e ≡ SlateDBError.OutOfMemory) ⊎ IsRefused self.old.left) }
-        ensures damage { IfErr result (λ e. (e ≡ SlateDBError.OutOfMemory) ⊎ IsDamage e) }
+        ensures cause { IfErr result (λ e. (e ≡ SlateDBError.OutOfMemory) ⊎ Refuses self.old.reads e) }
         ensures unchanged { OnErr result (self.new ≡ self.old) }
     {
         let kept = rows_upto_key(&self.rows, key);
@@ -112,8 +115,8 @@ impl<B: BlockLike> DescendingBlockIteratorV2<B> {
             return Ok(());
         }
         let (body, offsets) = (self.block.body(), self.block.offsets());
-        let groups = groups_upto_key(body, offsets, self.groups, key);
-        let (groups, rows) = before_key(alloc, body, offsets, groups, key)?;
+        let upto = groups_to_search(alloc, body, offsets, self.groups, key)?;
+        let (groups, rows) = before_key(alloc, body, offsets, upto, key)?;
         self.groups = groups;
         self.rows = rows;
         Ok(())
@@ -121,29 +124,37 @@ impl<B: BlockLike> DescendingBlockIteratorV2<B> {
 }
 
 impl<E: Outside, B: BlockLike> RowEntryIterator<E> for DescendingBlockIteratorV2<B> {
-    ghost rest = { λ it _. rows_of it.left };
+    ghost rest = { λ it _. rows_of (left it) };
 
-    ghost sound = { λ it _. IsRising it.order it.left };
+    ghost sound = { λ it _. IsRising it.order (left it) };
 
     ghost order = { λ it. it.order };
 
-    ghost bound = { λ it. it.bound };
+    ghost bound = { λ it. length it.reads };
 
-    ghost refuses = { λ it _ _ e. IsRefused it.left × IsDamage e };
+    ghost refuses = { λ it _ _ e. Refuses it.reads e };
 
-    ghost rising = { λ it _ h. rising_rows it.order it.left h };
+    ghost begins = { λ before _ after. after ≡ before };
+
+    ghost takes = { λ before _ answer after. TakesRead before.reads answer after.reads };
+
+    ghost seeks = { λ before _ key after. IsSought key before after × BeginsRead after.reads };
+
+    ghost stays = { λ before _ at e after. (after ≡ before) × Blames at before e };
+
+    ghost rising = { λ it _ h. rising_rows it.order (left it) h };
 
     fn init(&mut self, _alloc: Global, _env: &mut E) -> Result<(), SlateDBError> {
         Ok(())
     }
 
-    #[tactic(auto, using(crate::proofs::SeekSteps::walk_rows, crate::proofs::SeekSteps::walk_rising, crate::proofs::SeekSteps::walk_fewer, crate::proofs::SeekSteps::refused_is))]
+    #[tactic(auto, using(crate::proofs::SeekLaws::step_rows, crate::proofs::SeekLaws::step_rising, crate::proofs::SeekLaws::step_fewer, crate::proofs::SeekLaws::step_smaller, crate::proofs::SeekLaws::step_no_larger, crate::proofs::SeekLaws::first_refuses))]
     fn next(&mut self, alloc: Global, _env: &mut E) -> Result<Option<RowEntry>, SlateDBError> {
         let answer = self.next_row(alloc)?;
         Ok(answer)
     }
 
-    #[tactic(auto, using(crate::proofs::SeekLaws::sought_rising))]
+    #[tactic(auto, using(crate::proofs::SeekLaws::sought_rising, crate::proofs::SeekLaws::past_fewer, crate::proofs::SeekLaws::past_no_larger))]
     fn seek(&mut self, alloc: Global, key: &[u8], _env: &mut E) -> Result<(), SlateDBError> {
         self.skip_before(alloc, key)?;
         Ok(())

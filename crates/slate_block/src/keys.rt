@@ -1,5 +1,5 @@
 //! Fronts that keys share, and keys whose front was left out.
-ghost use Rattle.std.specs.Prelude.{◌≡◌, ◌≤◌, ◌⊎◌, nat_eq, length, min, take, OnOk, IfOk, IfErr, IsOkUnless};
+ghost use Rattle.std.specs.Prelude.{◌≡◌, ◌≤◌, ◌⊎◌, ◌++◌, nat_eq, length, min, take, OnOk, IfOk, IfErr, IsOkUnless};
 ghost use Rattle.std.specs.List.{common_prefix_len};
 ghost use Rattle.slate_block.specs.BlockSpelling.{whole_key};
 ghost use Rattle.slate_block.specs.WholeKeys.{IsRestored};
@@ -39,13 +39,13 @@ fn shared_chunks(lhs: &[u8], rhs: &[u8]) -> usize
     at
 }
 
-/// The key of so many bytes of another key and the suffix. `CorruptTable` at 0 where the other has fewer, and where the
-/// whole is empty or longer than a key; or `OutOfMemory`.
+/// The key of so many bytes of another key and the suffix, whose buffer it shares where it is the suffix alone.
+/// `CorruptTable` at 0 where the other has fewer bytes, and where the whole is empty or longer than a key; or `OutOfMemory`.
 pub fn restored_key(
     alloc: Global,
     shared: usize,
     other: &[u8],
-    suffix: &[u8],
+    suffix: &Bytes,
 ) -> Result<Bytes, SlateDBError>
     ensures key { IfOk result (λ key. key ≡ whole_key shared other.now suffix.now) }
     ensures valid { OnOk result (IsRestored shared other.now suffix.now) }
@@ -59,8 +59,19 @@ pub fn restored_key(
     if len == 0 || len > MAX_KEY_LEN {
         return Err(SlateDBError::CorruptTable { place: 0 });
     }
+    if shared == 0 {
+        return Ok(suffix.clone()?);
+    }
+    joined_key(alloc, &other[..shared], suffix.as_slice(), len)
+}
+
+/// The key of two parts that have so many bytes together.
+fn joined_key(alloc: Global, front: &[u8], suffix: &[u8], len: usize) -> Result<Bytes, SlateDBError>
+    ensures key { IfOk result (λ key. key ≡ front.now ++ suffix.now) }
+    ensures cause { IsOkUnless result SlateDBError.OutOfMemory }
+{
     let mut key = Vec::with_capacity(alloc, len)?;
-    key.extend_from_slice(&other[..shared])?;
+    key.extend_from_slice(front)?;
     key.extend_from_slice(suffix)?;
     Ok(Bytes::from_vec(key)?)
 }

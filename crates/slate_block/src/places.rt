@@ -1,6 +1,6 @@
 //! Rows of version 1 where they stand in a block's rows' part.
-ghost use Rattle.std.specs.Prelude.{◌≡◌, ◌≤◌, ◌+◌, ◌<◌, ◌^◌, ◌⊎◌, ◌&&◌, nat_lt, ℕ, true, false, Some, Ok, Err, length, drop, slice_get, IfOk, IfErr};
-ghost use Rattle.slate_block.specs.Walks.{moved, moved_result, between, next_place, row_v1_in, row_upto, whole_v1, is_restored, reads_v1, first_key_v1, begins_at_zero, block_reads_v1, block_rows, all_ok};
+ghost use Rattle.std.specs.Prelude.{◌≡◌, ◌≤◌, ◌+◌, ◌<◌, ◌^◌, ◌⊎◌, ℕ, true, false, Some, Ok, Err, length, drop, slice_get, IfOk, IfErr};
+ghost use Rattle.slate_block.specs.Walks.{moved, moved_result, between, next_place, row_v1_in, row_upto, whole_v1, is_restored, reads_v1, first_key_v1, are_named, block_reads};
 ghost use Rattle.slate_block.specs.RowReading.{row_v1_of};
 ghost use Rattle.slate_block.specs.BlockWalks.{IsDamage};
 
@@ -163,7 +163,7 @@ pub fn first_key(alloc: Global, body: &Bytes, offsets: &[u16]) -> Result<Bytes, 
 
 /// Whether the offsets are as many as a block can name, and begin at 0.
 pub fn are_named(offsets: &[u16]) -> bool
-    ensures { result ≡ (begins_at_zero offsets.now && nat_lt (length offsets.now) (2 ^ 16)) }
+    ensures { result ≡ are_named offsets.now }
 {
     match offsets.first() {
         Some(first) => *first == 0 && offsets.len() <= MAX_ROWS,
@@ -172,11 +172,10 @@ pub fn are_named(offsets: &[u16]) -> bool
 }
 
 /// The key by which all rows of the block are read, its first.
-#[tactic(auto, unfolding(crate::specs::Walks::block_reads_v1, crate::specs::Walks::block_rows_v1, crate::specs::Walks::block_rows))]
+#[tactic(auto, unfolding(crate::specs::Walks::block_reads_v1, crate::specs::Walks::block_reads))]
 pub fn block_key(alloc: Global, body: &Bytes, offsets: &[u16]) -> Result<Bytes, SlateDBError>
-    ensures reads { IfOk result (λ key. block_reads_v1 body.now offsets.now ≡ Ok (reads_v1 body.now key offsets.now (length body.now))) }
-    ensures rows { IfOk result (λ key. block_rows 1 body.now offsets.now ≡ all_ok (reads_v1 body.now key offsets.now (length body.now))) }
-    ensures cause { IfErr result (λ e. (e ≡ SlateDBError.OutOfMemory) ⊎ (block_rows 1 body.now offsets.now ≡ Err e)) }
+    ensures reads { IfOk result (λ key. block_reads 1 body.now offsets.now ≡ Ok (reads_v1 body.now key offsets.now (length body.now))) }
+    ensures cause { IfErr result (λ e. (e ≡ SlateDBError.OutOfMemory) ⊎ (block_reads 1 body.now offsets.now ≡ Err e)) }
     ensures damage { IfErr result (λ e. (e ≡ SlateDBError.OutOfMemory) ⊎ IsDamage e) }
 {
     if !are_named(offsets) {

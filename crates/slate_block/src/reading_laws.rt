@@ -6,6 +6,7 @@ ghost use Rattle.slate_block.specs.ReadingLaws.{
   KeysOfV2AreFound,
   RowsOfV1AreFound,
   RowsOfV2AreFound,
+  SeeksKeepGoodRows,
   VarintsAreFound,
   WalkedRowsAreBlocks1,
   WalkedRowsAreBlocks2,
@@ -54,4 +55,10 @@ pub fn blocks_of_v1_are_walked()
 /// The same of a block of version 2.
 pub fn blocks_of_v2_are_walked()
     ensures { WalkedRowsAreBlocks2 }
+{}
+
+/// A seek over a block loses no row that is read and doesn't come before the key, where those that are read come in the
+/// order, whatever else is damaged.
+pub fn seeks_keep_good_rows()
+    ensures { SeeksKeepGoodRows }
 {}

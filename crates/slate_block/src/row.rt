@@ -42,7 +42,7 @@ impl SstRowEntry {
         ensures cause { IfErr result (λ e. (e ≡ SlateDBError.OutOfMemory) ⊎ (e ≡ SlateDBError.CorruptTable 0)) }
     {
         let shared = self.key_prefix_len as usize;
-        restored_key(alloc, shared, first, self.key_suffix.as_slice())
+        restored_key(alloc, shared, first, &self.key_suffix)
     }
 }
 
@@ -77,6 +77,6 @@ impl SstRowEntryV2 {
         ensures cause { IfErr result (λ e. (e ≡ SlateDBError.OutOfMemory) ⊎ (e ≡ SlateDBError.CorruptTable 0)) }
     {
         let shared = self.shared_bytes as usize;
-        restored_key(alloc, shared, previous, self.key_suffix.as_slice())
+        restored_key(alloc, shared, previous, &self.key_suffix)
     }
 }

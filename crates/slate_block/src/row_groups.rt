@@ -1,7 +1,7 @@
 //! Rows of version 2, read where they stand. A group of up to 16 rows begins at each restart.
-ghost use Rattle.std.specs.Prelude.{◌≡◌, ◌≤◌, ◌<◌, ◌+◌, ◌^◌, [], ◌⊎◌, ◌&&◌, ◌||◌, ◌==◌, Bool, true, false, Ok, Err, IfOk, IfErr, IfSome, length};
+ghost use Rattle.std.specs.Prelude.{◌≡◌, ◌≤◌, ◌<◌, ◌+◌, ◌^◌, [], ◌∷◌, ◌⊎◌, ◌&&◌, ◌||◌, ◌==◌, Bool, true, false, Ok, Err, IfOk, IfErr, IfSome, length};
 ghost use Rattle.slate_block.specs.BlockSpelling.{whole_key};
-ghost use Rattle.slate_block.specs.Walks.{before, entry_v2_in, is_restored, moved_result, row_v2_in};
+ghost use Rattle.slate_block.specs.Walks.{entry_v2_in, is_restored, moved_result, row_v2_in};
 ghost use Rattle.slate_block.specs.RowReading.{row_v2_of};
 ghost use Rattle.slate_block.specs.BlockWalks.{IsDamage};
 ghost use Rattle.slate_block.specs.GroupWalks.{group_end, group_left, is_over, restart_at, IsNextOfGroup};
@@ -55,7 +55,7 @@ impl RowGroup {
 }
 
 /// The first row of the group that begins at a restart, and what is left behind it.
-#[tactic(auto, unfolding(crate::specs::GroupWalks::restart_at, crate::specs::GroupWalks::group_left, crate::specs::Walks::restart_v2))]
+#[tactic(auto, unfolding(crate::specs::GroupWalks::restart_at, crate::specs::GroupWalks::group_left, crate::specs::Walks::restart_reads))]
 pub fn first_of_group(
     alloc: Global,
     body: &Bytes,
@@ -63,9 +63,8 @@ pub fn first_of_group(
     number: usize,
 ) -> Result<(RowEntry, RowGroup), SlateDBError>
     requires { number < length offsets.now }
-    ensures found { IfOk result (λ found. restart_at body.now offsets.now number ≡ before found.0 (group_left body.now found.1)) }
-    ensures room { IfOk result (λ found. found.1.room ≡ 15) }
-    ensures cause { IfErr result (λ e. (e ≡ SlateDBError.OutOfMemory) ⊎ (restart_at body.now offsets.now number ≡ Err e)) }
+    ensures found { IfOk result (λ found. restart_at body.now offsets.now number ≡ Ok found.0 ∷ group_left body.now found.1) }
+    ensures cause { IfErr result (λ e. (e ≡ SlateDBError.OutOfMemory) ⊎ (restart_at body.now offsets.now number ≡ Err e ∷ [])) }
     ensures damage { IfErr result (λ e. (e ≡ SlateDBError.OutOfMemory) ⊎ IsDamage e) }
 {
     let from = offsets[number] as usize;
@@ -102,7 +101,7 @@ pub fn next_of_group(
 ) -> Result<Option<(RowEntry, RowGroup)>, SlateDBError>
     ensures found { IfOk result (IsNextOfGroup body.now (group_left body.now group.now)) }
     ensures room { IfOk result (λ answer. IfSome answer (λ found. found.1.room < group.now.room)) }
-    ensures cause { IfErr result (λ e. (e ≡ SlateDBError.OutOfMemory) ⊎ (group_left body.now group.now ≡ Err e)) }
+    ensures cause { IfErr result (λ e. (e ≡ SlateDBError.OutOfMemory) ⊎ (group_left body.now group.now ≡ Err e ∷ [])) }
     ensures damage { IfErr result (λ e. (e ≡ SlateDBError.OutOfMemory) ⊎ IsDamage e) }
 {
     if group.is_over() {

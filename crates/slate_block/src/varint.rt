@@ -1,5 +1,5 @@
 //! Numbers of 32 bits in groups of 7 bits, the low group first.
-ghost use Rattle.std.specs.Prelude.{◌≡◌, ◌≤◌, ◌<◌, ◌^◌, ◌++◌, Some, ℕ, length, take, OnOk, OnErr, IfOk, IfErr, IsOkUnless};
+ghost use Rattle.std.specs.Prelude.{◌≡◌, ◌≤◌, ◌<◌, ◌^◌, ◌++◌, Some, ℕ, List, length, take, OnOk, OnErr, IfOk, IfErr, IsOkUnless};
 ghost use Rattle.std.specs.Result.{result_ok};
 ghost use Rattle.slate_block.specs.Damage.{front_varint, of_32_bits};
 ghost use Rattle.slate_block.specs.Groups.{completed};
@@ -11,8 +11,12 @@ use slate_types::SlateDBError;
 const MAX_VARINT_LEN: usize = 5;
 
 /// How many bytes the spelling of a number has: 1 to 5.
+#[tactic(auto, using(crate::proofs::VarintLaws::one_varint))]
 pub fn varint_len(value: u32) -> usize
-    ensures { result ≡ length (varint value) }
+    ensures value { result ≡ length (varint value) }
+    ensures spelling { (text : List ℕ) → IsVarint text value → length text ≡ result }
+    ensures least { 1 ≤ result }
+    ensures most { result ≤ 5 }
 {
     match value {
         0..=0x7f => 1,

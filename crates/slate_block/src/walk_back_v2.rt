@@ -1,8 +1,8 @@
 //! A walk over the rows of a block of version 2, from its end to its front, group by group.
-ghost use Rattle.std.specs.Prelude.{◌≡◌, ◌+◌, ◌*◌, ◌≤◌, ◌<◌, ◌⊎◌, Ok, Err, IfOk, IfErr, length, reverse, take};
-ghost use Rattle.slate_types.specs.Iteration.{drop_before};
-ghost use Rattle.slate_block.specs.BlockWalks.{IsDamage};
-ghost use Rattle.slate_block.specs.GroupWalks.{dropped, left_back, restart_at, rows_back, BeginsBefore};
+ghost use Rattle.std.specs.Prelude.{◌≡◌, ◌≤◌, ◌<◌, ◌⊎◌, Ok, Err, IsOk, IfOk, IfErr, length, take};
+ghost use Rattle.slate_block.specs.Walks.{all_ok};
+ghost use Rattle.slate_block.specs.BlockWalks.{BeginsRead, IsDamage, IsPast, Refuses, StopsAt};
+ghost use Rattle.slate_block.specs.GroupWalks.{left_back, reads_back, restart_at, turned, BeginsBefore};
 
 use crate::row_groups::{first_of_group, next_of_group};
 use crate::walk_v2::begins_before;
@@ -19,9 +19,8 @@ pub fn group_rows(
     number: usize,
 ) -> Result<Vec<RowEntry>, SlateDBError>
     requires { number < length offsets.now }
-    ensures rows { IfOk result (λ rows. restart_at body.now offsets.now number ≡ Ok rows.items) }
-    ensures few { IfOk result (λ rows. length rows.items ≤ 16) }
-    ensures cause { IfErr result (λ e. (e ≡ SlateDBError.OutOfMemory) ⊎ (restart_at body.now offsets.now number ≡ Err e)) }
+    ensures rows { IfOk result (λ rows. all_ok (restart_at body.now offsets.now number) ≡ Ok rows.items) }
+    ensures cause { IfErr result (λ e. (e ≡ SlateDBError.OutOfMemory) ⊎ (all_ok (restart_at body.now offsets.now number) ≡ Err e)) }
     ensures damage { IfErr result (λ e. (e ≡ SlateDBError.OutOfMemory) ⊎ IsDamage e) }
 {
     let (first, mut group) = first_of_group(alloc, body, offsets, number)?;
@@ -35,10 +34,11 @@ pub fn group_rows(
 }
 
 /// How many rows stay where those are taken off the end that come after a key.
-#[tactic(auto, using(crate::proofs::BackSteps::end_dropped, crate::proofs::BackSteps::end_stays))]
+#[tactic(auto, using(crate::proofs::BackSteps::end_past, crate::proofs::BackSteps::end_stops, crate::proofs::BackSteps::none_stops, crate::proofs::SeekLaws::past_none))]
 pub fn rows_upto_key(rows: &[RowEntry], key: &[u8]) -> usize
     ensures within { result ≤ length rows.now }
-    ensures left { drop_before IterationOrder.Descending key.now (reverse rows.now) ≡ reverse (take result rows.now) }
+    ensures past { IsPast IterationOrder.Descending key.now (turned (Ok rows.now)) (turned (Ok (take result rows.now))) }
+    ensures stops { StopsAt IterationOrder.Descending key.now (turned (Ok (take result rows.now))) }
 {
     let mut kept = rows.len();
     while kept > 0 {
@@ -69,6 +69,28 @@ pub fn groups_upto_key(body: &Bytes, offsets: &[u16], groups: usize, key: &[u8])
     high
 }
 
+/// Behind how many of so many groups a seek goes on. The first key of the group behind them comes after the key, and that
+/// group is read whole: a key that stands there doesn't make a row.
+pub fn groups_to_search(
+    alloc: Global,
+    body: &Bytes,
+    offsets: &[u16],
+    groups: usize,
+    key: &[u8],
+) -> Result<usize, SlateDBError>
+    requires { groups ≤ length offsets.now }
+    ensures within { IfOk result (λ upto. upto ≤ groups) }
+    ensures after { IfOk result (λ upto. upto < groups → BeginsBefore IterationOrder.Descending body.now offsets.now upto key.now) }
+    ensures read { IfOk result (λ upto. upto < groups → IsOk (all_ok (restart_at body.now offsets.now upto))) }
+    ensures cause { IfErr result (λ e. (e ≡ SlateDBError.OutOfMemory) ⊎ Refuses (reads_back groups body.now offsets.now) e) }
+{
+    let upto = groups_upto_key(body, offsets, groups, key);
+    if upto < groups {
+        let _behind = group_rows(alloc, body, offsets, upto)?;
+    }
+    Ok(upto)
+}
+
 /// Goes back over so many groups past the rows that come after a key: the number of groups before the one where it stops,
 /// and the rows of that one that stay.
 pub fn before_key(
@@ -79,9 +101,11 @@ pub fn before_key(
     key: &[u8],
 ) -> Result<(usize, Vec<RowEntry>), SlateDBError>
     requires { groups ≤ length offsets.now }
-    ensures left { IfOk result (λ found. left_back body.now offsets.now found.0 found.1.items ≡ dropped IterationOrder.Descending key.now (rows_back groups body.now offsets.now)) }
-    ensures within { IfOk result (λ found. 16 * found.0 + length found.1.items ≤ 16 * groups) }
-    ensures cause { IfErr result (λ e. (e ≡ SlateDBError.OutOfMemory) ⊎ (rows_back groups body.now offsets.now ≡ Err e)) }
+    ensures past { IfOk result (λ found. IsPast IterationOrder.Descending key.now (reads_back groups body.now offsets.now) (left_back body.now offsets.now found.0 found.1.items)) }
+    ensures stops { IfOk result (λ found. StopsAt IterationOrder.Descending key.now (left_back body.now offsets.now found.0 found.1.items)) }
+    ensures read { IfOk result (λ found. BeginsRead (left_back body.now offsets.now found.0 found.1.items)) }
+    ensures within { IfOk result (λ found. found.0 ≤ groups) }
+    ensures cause { IfErr result (λ e. (e ≡ SlateDBError.OutOfMemory) ⊎ Refuses (reads_back groups body.now offsets.now) e) }
     ensures damage { IfErr result (λ e. (e ≡ SlateDBError.OutOfMemory) ⊎ IsDamage e) }
 {
     let mut before = groups;

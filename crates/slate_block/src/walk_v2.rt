@@ -1,10 +1,10 @@
 //! A walk over the rows of a block of version 2, from its front to its end.
-ghost use Rattle.std.specs.Prelude.{◌≡◌, ◌≤◌, ◌<◌, ◌⊎◌, ℕ, List, ◌∷◌, Ok, Err, IfOk, IfErr, IfSome, IsOkUnless, length, drop};
+ghost use Rattle.std.specs.Prelude.{◌≡◌, ◌≤◌, ◌<◌, ◌⊎◌, ℕ, List, [], ◌∷◌, Ok, Err, Some, None, IfOk, IfErr, IfSome, IsOkUnless, length, drop, slice_get};
 ghost use Rattle.slate_types.specs.declared.types.RowEntry.{RowEntry};
-ghost use Rattle.slate_types.specs.Iteration.{comes_before, drop_before};
-ghost use Rattle.slate_block.specs.Walks.{rows_v2};
-ghost use Rattle.slate_block.specs.BlockWalks.{rows_of, IsDamage, IsRising};
-ghost use Rattle.slate_block.specs.GroupWalks.{bound_v2, dropped, left_v2, restart_at, BeginsBefore, IsNextV2, IsRefused};
+ghost use Rattle.slate_types.specs.Iteration.{comes_before};
+ghost use Rattle.slate_block.specs.Walks.{reads_v2, RowRead};
+ghost use Rattle.slate_block.specs.BlockWalks.{BeginsRead, IsDamage, IsPast, Refuses, StopsAt};
+ghost use Rattle.slate_block.specs.GroupWalks.{left_v2, restart_at, BeginsBefore, IsNextV2, IsStart};
 
 use crate::fields::key_fields_v2;
 use crate::row_groups::{RowGroup, first_of_group, group_end, next_of_group};
@@ -25,9 +25,7 @@ impl BlockPlace {
     /// The place before the first row of a group.
     #[tactic(auto, using(crate::proofs::GroupSteps::left_at_restart, crate::proofs::GroupSteps::over_left))]
     pub fn before_group(number: usize) -> BlockPlace
-        ensures left { (body offsets : List ℕ) → left_v2 body offsets result ≡ rows_v2 body (drop number offsets) (length body) }
-        ensures next { result.next ≡ number }
-        ensures room { result.group.room ≡ 0 }
+        ensures { (body offsets : List ℕ) → left_v2 body offsets result ≡ reads_v2 body (drop number offsets) (length body) }
     {
         BlockPlace {
             group: RowGroup::spent(),
@@ -45,8 +43,7 @@ pub fn next_of_block(
     place: &BlockPlace,
 ) -> Result<Option<(RowEntry, BlockPlace)>, SlateDBError>
     ensures found { IfOk result (IsNextV2 body.now offsets.now place.now) }
-    ensures bound { IfOk result (λ answer. IfSome answer (λ found. bound_v2 offsets.now found.1 < bound_v2 offsets.now place.now)) }
-    ensures cause { IfErr result (λ e. (e ≡ SlateDBError.OutOfMemory) ⊎ (left_v2 body.now offsets.now place.now ≡ Err e)) }
+    ensures cause { IfErr result (λ e. (e ≡ SlateDBError.OutOfMemory) ⊎ (slice_get (left_v2 body.now offsets.now place.now) 0 ≡ Some (Err e))) }
     ensures damage { IfErr result (λ e. (e ≡ SlateDBError.OutOfMemory) ⊎ IsDamage e) }
 {
     if let Some((row, group)) = next_of_group(alloc, body, &place.group)? {
@@ -61,8 +58,34 @@ pub fn next_of_block(
     Ok(Some((row, BlockPlace { group, next })))
 }
 
-/// The place behind the leading rows that come before a key.
-#[tactic(auto, using(crate::proofs::SeekSteps::step_dropped, crate::proofs::SeekSteps::step_refused, crate::proofs::SeekSteps::stop_dropped, crate::proofs::SeekSteps::end_dropped))]
+/// The place behind the row behind a place, where that row comes before a key. `None` where it doesn't, and where none is
+/// left.
+#[tactic(auto, using(crate::proofs::SeekSteps::next_past, crate::proofs::SeekSteps::next_smaller, crate::proofs::SeekSteps::next_stops, crate::proofs::SeekSteps::next_read, crate::proofs::SeekSteps::end_stops, crate::proofs::SeekSteps::end_read))]
+fn behind_row(
+    alloc: Global,
+    body: &Bytes,
+    offsets: &[u16],
+    place: &BlockPlace,
+    key: &[u8],
+) -> Result<Option<BlockPlace>, SlateDBError>
+    ensures past { IfOk result (λ answer. IfSome answer (λ after. IsPast IterationOrder.Ascending key.now (left_v2 body.now offsets.now place.now) (left_v2 body.now offsets.now after))) }
+    ensures smaller { IfOk result (λ answer. IfSome answer (λ after. length (left_v2 body.now offsets.now after) < length (left_v2 body.now offsets.now place.now))) }
+    ensures stops { IfOk result (λ answer. answer ≡ None → StopsAt IterationOrder.Ascending key.now (left_v2 body.now offsets.now place.now)) }
+    ensures read { IfOk result (λ answer. answer ≡ None → BeginsRead (left_v2 body.now offsets.now place.now)) }
+    ensures cause { IfErr result (λ e. (e ≡ SlateDBError.OutOfMemory) ⊎ (slice_get (left_v2 body.now offsets.now place.now) 0 ≡ Some (Err e))) }
+    ensures damage { IfErr result (λ e. (e ≡ SlateDBError.OutOfMemory) ⊎ IsDamage e) }
+{
+    let Some((row, after)) = next_of_block(alloc, body, offsets, place)? else {
+        return Ok(None);
+    };
+    if IterationOrder::Ascending.puts_before(row.key.as_slice(), key) {
+        return Ok(Some(after));
+    }
+    Ok(None)
+}
+
+/// The place behind the leading rows that come before a key: before the first row that doesn't, and that is read.
+#[tactic(auto, using(crate::proofs::SeekLaws::past_none, crate::proofs::SeekLaws::past_trans, crate::proofs::SeekLaws::past_refused))]
 pub fn behind_key(
     alloc: Global,
     body: &Bytes,
@@ -70,24 +93,21 @@ pub fn behind_key(
     place: BlockPlace,
     key: &[u8],
 ) -> Result<BlockPlace, SlateDBError>
-    ensures left { IfOk result (λ after. left_v2 body.now offsets.now after ≡ dropped IterationOrder.Ascending key.now (left_v2 body.now offsets.now place)) }
-    ensures bound { IfOk result (λ after. bound_v2 offsets.now after ≤ bound_v2 offsets.now place) }
-    ensures cause { IfErr result (λ e. (e ≡ SlateDBError.OutOfMemory) ⊎ (left_v2 body.now offsets.now place ≡ Err e)) }
-    ensures damage { IfErr result (λ e. (e ≡ SlateDBError.OutOfMemory) ⊎ IsDamage e) }
+    ensures past { IfOk result (λ after. IsPast IterationOrder.Ascending key.now (left_v2 body.now offsets.now place) (left_v2 body.now offsets.now after)) }
+    ensures stops { IfOk result (λ after. StopsAt IterationOrder.Ascending key.now (left_v2 body.now offsets.now after)) }
+    ensures read { IfOk result (λ after. BeginsRead (left_v2 body.now offsets.now after)) }
+    ensures cause { IfErr result (λ e. (e ≡ SlateDBError.OutOfMemory) ⊎ Refuses (left_v2 body.now offsets.now place) e) }
 {
     let mut place = place;
-    while let Some((row, after)) = next_of_block(alloc, body, offsets, &place)? {
-        if !IterationOrder::Ascending.puts_before(row.key.as_slice(), key) {
-            return Ok(place);
-        }
+    while let Some(after) = behind_row(alloc, body, offsets, &place, key)? {
         place = after;
     }
     Ok(place)
 }
 
 /// The place behind all rows that come before a key, where the rows come in order. It is found by the groups' first keys,
-/// and from there row by row.
-#[tactic(auto, using(crate::proofs::SeekSteps::sought_left, crate::proofs::SeekSteps::sought_refused, crate::proofs::SeekSteps::refused_is))]
+/// and from there row by row: of the groups before it none is read.
+#[tactic(auto, using(crate::proofs::SeekSteps::start_past, crate::proofs::SeekSteps::start_refused))]
 pub fn seek_key(
     alloc: Global,
     body: &Bytes,
@@ -95,11 +115,10 @@ pub fn seek_key(
     place: &BlockPlace,
     key: &[u8],
 ) -> Result<BlockPlace, SlateDBError>
-    ensures left { IfOk result (λ after. IsRising IterationOrder.Ascending (left_v2 body.now offsets.now place.now) → left_v2 body.now offsets.now after ≡ Ok (drop_before IterationOrder.Ascending key.now (rows_of (left_v2 body.now offsets.now place.now)))) }
-    ensures fewer { IfOk result (λ after. IsRefused (left_v2 body.now offsets.now after) → IsRefused (left_v2 body.now offsets.now place.now)) }
-    ensures bound { IfOk result (λ after. bound_v2 offsets.now after ≤ bound_v2 offsets.now place.now) }
-    ensures cause { IfErr result (λ e. (e ≡ SlateDBError.OutOfMemory) ⊎ IsRefused (left_v2 body.now offsets.now place.now)) }
-    ensures damage { IfErr result (λ e. (e ≡ SlateDBError.OutOfMemory) ⊎ IsDamage e) }
+    ensures past { IfOk result (λ after. IsPast IterationOrder.Ascending key.now (left_v2 body.now offsets.now place.now) (left_v2 body.now offsets.now after)) }
+    ensures stops { IfOk result (λ after. StopsAt IterationOrder.Ascending key.now (left_v2 body.now offsets.now after)) }
+    ensures read { IfOk result (λ after. BeginsRead (left_v2 body.now offsets.now after)) }
+    ensures cause { IfErr result (λ e. (e ≡ SlateDBError.OutOfMemory) ⊎ Refuses (left_v2 body.now offsets.now place.now) e) }
 {
     let start = start_of_seek(body, offsets, place, key)?;
     behind_key(alloc, body, offsets, start, key)
@@ -113,9 +132,7 @@ fn start_of_seek(
     place: &BlockPlace,
     key: &[u8],
 ) -> Result<BlockPlace, SlateDBError>
-    ensures same { IfOk result (λ start. IsRising IterationOrder.Ascending (left_v2 body.now offsets.now place.now) → dropped IterationOrder.Ascending key.now (left_v2 body.now offsets.now start) ≡ dropped IterationOrder.Ascending key.now (left_v2 body.now offsets.now place.now)) }
-    ensures fewer { IfOk result (λ start. IsRefused (left_v2 body.now offsets.now start) → IsRefused (left_v2 body.now offsets.now place.now)) }
-    ensures bound { IfOk result (λ start. bound_v2 offsets.now start ≤ bound_v2 offsets.now place.now) }
+    ensures start { IfOk result (λ start. IsStart IterationOrder.Ascending key.now (left_v2 body.now offsets.now place.now) (left_v2 body.now offsets.now start)) }
     ensures cause { IsOkUnless result SlateDBError.OutOfMemory }
 {
     match last_before(body, offsets, place.next, key) {
@@ -153,7 +170,7 @@ pub fn begins_before(
     key: &[u8],
 ) -> bool
     requires { number < length offsets.now }
-    ensures { (row : RowEntry) (rows : List RowEntry) → restart_at body.now offsets.now number ≡ Ok (row ∷ rows) → result ≡ comes_before order row.key key.now }
+    ensures { (row : RowEntry) (reads : List RowRead) → restart_at body.now offsets.now number ≡ Ok row ∷ reads → result ≡ comes_before order row.key key.now }
 {
     let from = offsets[number] as usize;
     let end = group_end(body, offsets, number);

@@ -7,13 +7,16 @@
 --     bytes_in v      the bytes of a value or an operand, where there are any
 --     key_value r      the row as a reader gets it, where it is no tombstone
 --     key_value_cmp r s      the order of what readers get, by key, value, sequence, creation and expiry
+--     key_value_writes r      what a hasher is fed for what readers get: the same fields in turn
 --     latest a b, earliest a b      the greater and the lesser stamp; an absent one yields to a present one
 --     encoded_size prefix r      the bytes that a row is counted with where it shares that many bytes of its key
 --     estimated_size r      the bytes of key, value, sequence and stamps
-use Rattle.std.specs.Prelude.{ℕ, ◌+◌, ◌-◌, Bool, true, false, not, ◌&&◌, ◌||◌, nat_lt, List, [], length, Option, Some, None, ℤ, pos, unwrap_or, bytes_eq}
+use Rattle.std.specs.Prelude.{ℕ, ◌+◌, ◌-◌, Bool, true, false, not, ◌&&◌, ◌||◌, nat_lt, List, [], ◌++◌, length, Option, Some, None, ℤ, pos, unwrap_or, bytes_eq}
 use Rattle.std.specs.declared.cmp.Ordering.{Ordering}
 use Rattle.std.specs.Ordering.{nat_cmp, int_cmp, on, flip_args, then_cmp}
 use Rattle.std.specs.Option.{option_cmp}
+use Rattle.std.specs.Hash.{HashWrites}
+use Rattle.std.specs.Hash as fed
 use Rattle.std.specs.Int.{int_max, int_min}
 use Rattle.slate_types.specs.declared.types.ValueDeletable.{ValueDeletable}
 use Rattle.slate_types.specs.declared.types.ValueDeletable.TheVariants.{Value, Merge, Tombstone}
@@ -81,6 +84,9 @@ key_value r = record { key = r.key; value = operand r; seq = r.seq; create_ts = 
 
 abbrev pub key_value_cmp : KeyValue → KeyValue → Ordering
 key_value_cmp = then_cmp (on (λ r. r.key) key_cmp) (then_cmp (on (λ r. r.value) key_cmp) (then_cmp (on (λ r. r.seq) nat_cmp) (then_cmp (on (λ r. r.create_ts) int_cmp) (on (λ r. r.expire_ts) (option_cmp int_cmp)))))
+
+abbrev pub key_value_writes : KeyValue → HashWrites
+key_value_writes r = fed.slice fed.u8 r.key ++ fed.slice fed.u8 r.value ++ fed.u64 r.seq ++ fed.i64 r.create_ts ++ fed.option fed.i64 r.expire_ts
 
 abbrev pub latest : Option ℤ → Option ℤ → Option ℤ
 latest None b = b

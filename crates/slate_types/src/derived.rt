@@ -1,7 +1,7 @@
 //! What derived calls answer. Values are equal exactly where their fields are; rows as readers get them
-//! are ordered by their fields in turn; and defaults are named. Each call here shows it of one type.
-ghost use Rattle.std.specs.Prelude.{◌≡◌, ◌↔◌, IsTrue, None};
-ghost use Rattle.slate_types.specs.Rows.{key_value_cmp};
+//! are ordered and hashed by their fields in turn; and defaults are named. Each call here shows it of one type.
+ghost use Rattle.std.specs.Prelude.{◌≡◌, ◌↔◌, IsTrue, None, fold};
+ghost use Rattle.slate_types.specs.Rows.{key_value_cmp, key_value_writes};
 
 use crate::bytes_range::BytesRange;
 use crate::config::{
@@ -11,6 +11,7 @@ use crate::filter_policy::PrefixTarget;
 use crate::iter::IterationOrder;
 use crate::types::{KeyValue, RowEntry, Ulid, ValueDeletable};
 use std::cmp::Ordering;
+use std::hash::{Hash, Hasher};
 
 /// Of what rows hold.
 pub fn equal_values(a: &ValueDeletable, b: &ValueDeletable) -> bool
@@ -95,6 +96,13 @@ pub fn compare_key_values(a: &KeyValue, b: &KeyValue) -> Ordering
     ensures { result ≡ key_value_cmp a.now b.now }
 {
     a.cmp(b)
+}
+
+/// Of rows as readers get them: what a hasher is fed, their fields in turn.
+pub fn hash_key_value<H: Hasher>(row: &KeyValue, state: &mut H)
+    ensures { state.new ≡ fold H.write state.old (key_value_writes row.now) }
+{
+    row.hash(state);
 }
 
 /// A transaction is a snapshot unless it says otherwise.

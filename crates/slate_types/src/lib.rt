@@ -47,6 +47,7 @@ pub fn types_cross_threads() {
     crosses::<BytesRange>();
     crosses::<FilterQuery>();
     crosses::<Ulid>();
+    crosses::<IsolationLevel>();
     crosses::<Options>();
     crosses::<ReadOptions>();
     crosses::<ScanOptions>();

@@ -1,6 +1,6 @@
 //! An iterator over rows in memory.
 ghost use Rattle.std.specs.Prelude.{◌≡◌, drop, length};
-ghost use Rattle.slate_types.specs.Iteration.{begins_before, IsInOrder};
+ghost use Rattle.slate_types.specs.Iteration.{begins_before, drop_before, IsInOrder, TakesRow};
 
 use crate::error::SlateDBError;
 use crate::iter::{IterationOrder, Outside, RowEntryIterator};
@@ -65,6 +65,14 @@ impl<E: Outside> RowEntryIterator<E> for RowsIterator {
     ghost bound = { λ s. length s.rows };
 
     ghost refuses = { λ _ _ _ _. ⊥ };
+
+    ghost begins = { λ before _ after. after ≡ before };
+
+    ghost takes = { λ before _ answer after. TakesRow before.rows answer after.rows };
+
+    ghost seeks = { λ before _ key after. after.rows ≡ drop_before before.order key before.rows };
+
+    ghost stays = { λ _ _ _ _ _. ⊥ };
 
     ghost rising = { λ _ _ h. h };
 

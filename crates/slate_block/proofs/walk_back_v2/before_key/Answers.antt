@@ -1,42 +1,79 @@
-use Rattle.std.proofs.Common.{◌≡◌, ◌<◌, ◌-◌, ◌∙◌, take, length, reverse, [], ap, arith}
+use Rattle.std.proofs.Common.{◌≡◌, ◌<◌, ◌-◌, ◌∙◌, ℕ, List, take, length, ap, sym, subst, refl, arith}
 use Rattle.std.proofs.lemmas.Result.{err_from_is_err_and}
 use Rattle.std.proofs.lemmas.List.{length-take}
-use Rattle.slate_types.specs.Iteration.{drop_before}
 use Rattle.slate_types.specs.declared.error.SlateDBError.TheVariants.{OutOfMemory}
 use Rattle.slate_types.specs.declared.iter.IterationOrder.TheVariants.{Descending}
-use Rattle.slate_block.proofs.BackSteps.{group_dropped, group_stays, group_refuses, refused_or_back, none_back}
-use Rattle.slate_block.specs.GroupWalks.{left_back}
+use Rattle.slate_block.specs.Walks.{RowRead}
+use Rattle.slate_block.specs.BlockWalks.{IsPast, StopsAt, BeginsRead}
+use Rattle.slate_block.specs.GroupWalks.{reads_back, left_back}
+use Rattle.slate_block.proofs.SeekLaws.{past_trans, past_refused}
+use Rattle.slate_block.proofs.BackSteps.{back_read, kept_past, kept_stops, kept_read, refused_or_back, nothing_kept}
+use Rattle.slate_block.proofs.BackLaws.{held_past, no_rows_back}
 use Rattle.slate_block.proofs.walk_back_v2.before_key.Goals as goal
 
 pub returns-in_err-rows-clause-cause : goal.returns-in_err-rows-clause-cause
 returns-in_err-rows-clause-cause c =
+    let body = c.args.body.now in
+    let offsets = c.args.offsets.now in
+    let before = c.loop-before.before in
     let p = err_from_is_err_and c.from_residual.result c.from_residual.ensures.1 in
     let e = c.in_err-rows.field-0.0 in
-    rw (p.1, p.2) (refused_or_back c.args.body.now c.args.offsets.now c.loop-before.before (c.loop-before.before - 1) c.args.groups e OutOfMemory (omega arith) (c.loop-before.invariant.refused e) c.in_err-rows.ensures.cause)
+    let first = refused_or_back body offsets before (before - 1) e OutOfMemory (omega arith) c.in_err-rows.ensures.cause in
+    rw (p.1, p.2) (past_refused Descending c.args.key.now (reads_back c.args.groups body offsets) (reads_back before body offsets) e OutOfMemory c.loop-before.invariant.past first c.in_err-rows.ensures.damage)
 
-pub returns-then-kept-gt0-clause-left : goal.returns-then-kept-gt0-clause-left
-returns-then-kept-gt0-clause-left c =
-    let kept = c.rows_upto_key-kept.result in
+pub returns-then-kept-gt0-clause-past : goal.returns-then-kept-gt0-clause-past
+returns-then-kept-gt0-clause-past c =
+    let body = c.args.body.now in
+    let offsets = c.args.offsets.now in
+    let before = c.loop-before.before in
+    let key = c.args.key.now in
     let rows = c.in_ok-rows.rows.items in
+    let kept = take c.rows_upto_key-kept.result rows in
+    let held = rw c.deref.ensures.value at c.rows_upto_key-kept.ensures.past in
+    let group = back_read body offsets before (before - 1) rows (omega arith) c.in_ok-rows.ensures.rows in
+    let past = subst (λ (l : List RowRead). IsPast Descending key l (left_back body offsets (before - 1) kept)) (sym group) (kept_past Descending key body offsets (before - 1) rows kept held) in
+    rw c.truncate.ensures.items (past_trans Descending key (reads_back c.args.groups body offsets) (reads_back before body offsets) (left_back body offsets (before - 1) kept) c.loop-before.invariant.past past)
+
+pub returns-then-kept-gt0-clause-stops : goal.returns-then-kept-gt0-clause-stops
+returns-then-kept-gt0-clause-stops c =
+    let kept = take c.rows_upto_key-kept.result c.in_ok-rows.rows.items in
     let within = rw c.deref.ensures.value at c.rows_upto_key-kept.ensures.within in
-    let left = rw c.deref.ensures.value at c.rows_upto_key-kept.ensures.left in
-    let some : 0 < length (take kept rows) = omega (arith, length-take kept rows, within) in
-    rw c.truncate.ensures.items (group_stays c.args.body.now c.args.offsets.now c.loop-before.before (c.loop-before.before - 1) c.args.key.now rows (take kept rows) (omega arith) c.in_ok-rows.ensures.rows left some ∙ c.loop-before.invariant.left)
+    let stops = rw c.deref.ensures.value at c.rows_upto_key-kept.ensures.stops in
+    let some : 0 < length kept = omega (arith, length-take c.rows_upto_key-kept.result c.in_ok-rows.rows.items, within) in
+    rw c.truncate.ensures.items (kept_stops Descending c.args.key.now c.args.body.now c.args.offsets.now (c.loop-before.before - 1) kept some stops)
+
+pub returns-then-kept-gt0-clause-read : goal.returns-then-kept-gt0-clause-read
+returns-then-kept-gt0-clause-read c =
+    let kept = take c.rows_upto_key-kept.result c.in_ok-rows.rows.items in
+    let within = rw c.deref.ensures.value at c.rows_upto_key-kept.ensures.within in
+    let some : 0 < length kept = omega (arith, length-take c.rows_upto_key-kept.result c.in_ok-rows.rows.items, within) in
+    rw c.truncate.ensures.items (kept_read c.args.body.now c.args.offsets.now (c.loop-before.before - 1) kept some)
 
 pub loop-before-preserved : goal.loop-before-preserved
 loop-before-preserved c =
     let body = c.args.body.now in
     let offsets = c.args.offsets.now in
     let before = c.loop-before.before in
+    let key = c.args.key.now in
     let rows = c.in_ok-rows.rows.items in
-    let none : c.rows_upto_key-kept.result ≡ 0 = omega arith in
-    let left = rw (c.deref.ensures.value, none) at c.rows_upto_key-kept.ensures.left in
-    let left : drop_before Descending c.args.key.now (reverse rows) ≡ [] = left in
+    let held = rw c.deref.ensures.value at c.rows_upto_key-kept.ensures.past in
+    let group = back_read body offsets before (before - 1) rows (omega arith) c.in_ok-rows.ensures.rows in
+    let past = subst (λ (l : List RowRead). IsPast Descending key l (reads_back (before - 1) body offsets)) (sym group) (held_past Descending key body offsets (before - 1) c.rows_upto_key-kept.result rows (omega arith) held) in
     record {
       within = omega arith;
-      left = group_dropped body offsets before (before - 1) c.args.key.now rows (omega arith) c.in_ok-rows.ensures.rows left ∙ c.loop-before.invariant.left;
-      refused = λ e h. c.loop-before.invariant.refused e (group_refuses body offsets before (before - 1) rows e (omega arith) c.in_ok-rows.ensures.rows h);
+      past = past_trans Descending key (reads_back c.args.groups body offsets) (reads_back before body offsets) (reads_back (before - 1) body offsets) c.loop-before.invariant.past past;
     }
 
-pub returns-clause-left : goal.returns-clause-left
-returns-clause-left c = ap (left_back c.args.body.now c.args.offsets.now 0) c.new.ensures.items ∙ none_back c.args.body.now c.args.offsets.now c.loop-before.before c.args.key.now (omega arith) ∙ c.loop-before.invariant.left
+pub returns-clause-past : goal.returns-clause-past
+returns-clause-past c =
+    let body = c.args.body.now in
+    let offsets = c.args.offsets.now in
+    let over : 0 ≡ c.loop-before.before = omega arith in
+    let same = nothing_kept body offsets 0 c.new.result.items c.new.ensures.items ∙ ap (λ (k : ℕ). reads_back k body offsets) over in
+    subst (λ (l : List RowRead). IsPast Descending c.args.key.now (reads_back c.args.groups body offsets) l) (sym same) c.loop-before.invariant.past
+
+pub returns-clause-stops : goal.returns-clause-stops
+returns-clause-stops c = subst (λ (l : List RowRead). StopsAt Descending c.args.key.now l) (sym (no_rows_back c.args.body.now c.args.offsets.now 0 c.new.result.items refl c.new.ensures.items)) tt
+
+pub returns-clause-read : goal.returns-clause-read
+returns-clause-read c = subst BeginsRead (sym (no_rows_back c.args.body.now c.args.offsets.now 0 c.new.result.items refl c.new.ensures.items)) tt

@@ -1,38 +1,88 @@
-use Rattle.std.proofs.Common.{◌≡◌, ◌<◌, ◌∙◌, Ok, length, reverse, take, subst, sym, ap, arith}
+use Rattle.std.proofs.Common.{◌≡◌, ◌<◌, ◌⊎◌, List, length, take, subst, sym, arith}
 use Rattle.std.proofs.lemmas.List.{length-take}
+use Rattle.std.proofs.lemmas.Result.{err_from_is_err_and}
+use Rattle.slate_types.specs.declared.error.SlateDBError.TheVariants.{OutOfMemory}
 use Rattle.slate_types.specs.declared.iter.IterationOrder.TheVariants.{Descending}
-use Rattle.slate_types.specs.Iteration.{drop_before}
-use Rattle.slate_block.specs.BlockWalks.{rows_of, IsRising}
-use Rattle.slate_block.specs.GroupWalks.{Walk, IsRefused, left_back}
-use Rattle.slate_block.proofs.SeekSteps.{sought_refused}
-use Rattle.slate_block.proofs.BackLaws.{kept_left, sought_back}
+use Rattle.slate_types.specs.declared.types.RowEntry.{RowEntry}
+use Rattle.slate_block.specs.BlockWalks.{ReadsLeft, IsPast, Refuses, StopsAt}
+use Rattle.slate_block.specs.GroupWalks.{left_back}
+use Rattle.slate_block.proofs.SeekLaws.{sought}
+use Rattle.slate_block.proofs.BackSteps.{back_of, kept_past, kept_stops}
+use Rattle.slate_block.proofs.BackLaws.{past_back, refused_held, refused_or_behind}
 use Rattle.slate_block.proofs.descending_block_iterator_v2.DescendingBlockIteratorV2.skip_before.Goals as goal
 
-pub returns-then-kept-gt0-clause-fewer : goal.returns-then-kept-gt0-clause-fewer
-returns-then-kept-gt0-clause-fewer g c =
+-- ---- some row of those held stays
+
+pub returns-then-kept-gt0-clause-past : goal.returns-then-kept-gt0-clause-past
+returns-then-kept-gt0-clause-past g c =
     let it = c.self.inside in
     let body = g.B.BlockLike.body_bytes it.block in
     let offsets = g.B.BlockLike.row_offsets it.block in
     let rows = it.rows.items in
     let kept = c.truncate.new.self.items in
+    let past = rw c.deref.ensures.value at c.rows_upto_key-kept.ensures.past in
+    let held = subst (λ (l : List RowEntry). IsPast Descending c.args.key.now (back_of rows) (back_of l)) (sym c.truncate.ensures.items) past in
+    subst (λ (w : ReadsLeft). IsPast w.order c.args.key.now w.reads (left_back body offsets it.groups kept)) c.self.view_is (kept_past Descending c.args.key.now body offsets it.groups rows kept held)
+
+pub returns-then-kept-gt0-clause-stops : goal.returns-then-kept-gt0-clause-stops
+returns-then-kept-gt0-clause-stops g c =
+    let it = c.self.inside in
+    let body = g.B.BlockLike.body_bytes it.block in
+    let offsets = g.B.BlockLike.row_offsets it.block in
+    let left = take c.rows_upto_key-kept.result it.rows.items in
     let within = rw c.deref.ensures.value at c.rows_upto_key-kept.ensures.within in
-    let left = rw c.deref.ensures.value at c.rows_upto_key-kept.ensures.left in
-    let size : length (take c.rows_upto_key-kept.result rows) ≡ c.rows_upto_key-kept.result = omega (arith, length-take c.rows_upto_key-kept.result rows, within) in
-    let some : 0 < length kept = omega (arith, ap length c.truncate.ensures.items, size) in
-    let stays : drop_before Descending c.args.key.now (reverse rows) ≡ reverse kept = left ∙ ap reverse (sym c.truncate.ensures.items) in
-    λ refused. subst (λ (w : Walk). IsRefused w.left) c.self.view_is
-    (sought_refused Descending c.args.key.now (left_back body offsets it.groups kept) (left_back body offsets it.groups rows) (kept_left body offsets it.groups c.args.key.now rows kept stays some) refused)
+    let stops = rw c.deref.ensures.value at c.rows_upto_key-kept.ensures.stops in
+    let some : 0 < length left = omega (arith, length-take c.rows_upto_key-kept.result it.rows.items, within) in
+    let stays : StopsAt Descending c.args.key.now (left_back body offsets it.groups c.truncate.new.self.items) = rw c.truncate.ensures.items (kept_stops Descending c.args.key.now body offsets it.groups left some stops) in
+    subst (λ (w : ReadsLeft). StopsAt w.order c.args.key.now (left_back body offsets it.groups c.truncate.new.self.items)) c.self.view_is stays
+
+pub returns-then-kept-gt0-clause-rows : goal.returns-then-kept-gt0-clause-rows
+returns-then-kept-gt0-clause-rows g c =
+    let it = c.self.inside in
+    let after = left_back (g.B.BlockLike.body_bytes it.block) (g.B.BlockLike.row_offsets it.block) it.groups c.truncate.new.self.items in
+    sought c.args.self.now.order c.args.key.now c.args.self.now.reads after (returns-then-kept-gt0-clause-past g c) (returns-then-kept-gt0-clause-stops g c)
+
+-- ---- none does
+
+pub returns-in_err-upto-clause-cause : goal.returns-in_err-upto-clause-cause
+returns-in_err-upto-clause-cause g c =
+    let it = c.self.inside in
+    let body = g.B.BlockLike.body_bytes it.block in
+    let offsets = g.B.BlockLike.row_offsets it.block in
+    let p = err_from_is_err_and c.from_residual.result c.from_residual.ensures.1 in
+    let e = c.in_err-upto.field-0.0 in
+    let cause = rw (c.body-body.ensures, c.offsets-offsets.ensures) at c.in_err-upto.ensures.cause in
+    rw (p.1, p.2) (subst (λ (w : ReadsLeft). (e ≡ OutOfMemory) ⊎ Refuses w.reads e) c.self.view_is (refused_held body offsets it.groups it.rows.items e OutOfMemory cause))
+
+pub returns-in_err-groups-clause-cause : goal.returns-in_err-groups-clause-cause
+returns-in_err-groups-clause-cause g c =
+    let it = c.self.inside in
+    let body = g.B.BlockLike.body_bytes it.block in
+    let offsets = g.B.BlockLike.row_offsets it.block in
+    let p = err_from_is_err_and c.from_residual-in_err-groups.result c.from_residual-in_err-groups.ensures.1 in
+    let e = c.in_err-groups.field-0.0 in
+    let cause = rw (c.body-body.ensures, c.offsets-offsets.ensures) at c.in_err-groups.ensures.cause in
+    rw (p.1, p.2) (subst (λ (w : ReadsLeft). (e ≡ OutOfMemory) ⊎ Refuses w.reads e) c.self.view_is
+    (refused_or_behind body offsets it.groups c.in_ok-upto.upto it.rows.items e OutOfMemory c.in_ok-upto.ensures.within cause))
+
+pub returns-clause-past : goal.returns-clause-past
+returns-clause-past g c =
+    let it = c.self.inside in
+    let body = g.B.BlockLike.body_bytes it.block in
+    let offsets = g.B.BlockLike.row_offsets it.block in
+    let after = left_back body offsets c.in_ok-groups.groups c.in_ok-groups.rows.items in
+    let none : c.rows_upto_key-kept.result ≡ 0 = omega arith in
+    let held = rw c.deref.ensures.value at c.rows_upto_key-kept.ensures.past in
+    let begins = rw (c.body-body.ensures, c.offsets-offsets.ensures) at c.in_ok-upto.ensures.after in
+    let whole = rw (c.body-body.ensures, c.offsets-offsets.ensures) at c.in_ok-upto.ensures.read in
+    let past = rw (c.body-body.ensures, c.offsets-offsets.ensures) at c.in_ok-groups.ensures.past in
+    subst (λ (w : ReadsLeft). IsPast w.order c.args.key.now w.reads after) c.self.view_is
+    (past_back Descending c.args.key.now body offsets it.groups c.in_ok-upto.upto c.rows_upto_key-kept.result it.rows.items after none held c.in_ok-upto.ensures.within begins whole past)
 
 pub returns-clause-rows : goal.returns-clause-rows
 returns-clause-rows g c =
     let it = c.self.inside in
-    let body = g.B.BlockLike.body_bytes it.block in
-    let offsets = g.B.BlockLike.row_offsets it.block in
-    let rows = it.rows.items in
-    let after = left_back body offsets c.in_ok-groups.groups c.in_ok-groups.rows.items in
-    let none : c.rows_upto_key-kept.result ≡ 0 = omega arith in
-    let left = rw (c.deref.ensures.value, none) at c.rows_upto_key-kept.ensures.left in
-    let begins = rw (c.body-body.ensures, c.offsets-offsets.ensures) at c.groups_upto_key-groups.ensures.after in
-    let found = rw (c.body-body.ensures, c.offsets-offsets.ensures) at c.in_ok-groups.ensures.left in
-    subst (λ (w : Walk). IsRising w.order w.left → after ≡ Ok (drop_before w.order c.args.key.now (rows_of w.left))) c.self.view_is
-    (sought_back body offsets it.groups c.groups_upto_key-groups.result c.args.key.now rows after left c.groups_upto_key-groups.ensures.within begins found)
+    let after = left_back (g.B.BlockLike.body_bytes it.block) (g.B.BlockLike.row_offsets it.block) c.in_ok-groups.groups c.in_ok-groups.rows.items in
+    let found = rw (c.body-body.ensures, c.offsets-offsets.ensures) at c.in_ok-groups.ensures.stops in
+    let stops : StopsAt c.args.self.now.order c.args.key.now after = subst (λ (w : ReadsLeft). StopsAt w.order c.args.key.now after) c.self.view_is found in
+    sought c.args.self.now.order c.args.key.now c.args.self.now.reads after (returns-clause-past g c) stops
