@@ -11,7 +11,7 @@ use std::fs::{self, File, OpenFile};
 use std::io::{self, ErrorKind, Read, Seek, SeekFrom, Write};
 use std::rt::Files;
 
-/// What the name of a file ends with that is being written. No object has such a path.
+/// What the name of a file ends with that is being written. No part of an object's path does.
 const UNFINISHED: &str = ".tmp";
 
 /// Keeps each object as a file of a folder, at the object's path from there.
@@ -99,8 +99,14 @@ fn put_file(
         fs::create_dir_all(files, parent)?;
     }
     let beside = format!(in alloc; "{target}{UNFINISHED}")?;
-    write_file(files, &beside, bytes)?;
-    fs::rename(files, &beside, &target)
+    let mut done = write_file(files, &beside, bytes);
+    if done.is_ok() {
+        done = fs::rename(files, &beside, &target);
+    }
+    if done.is_err() {
+        let _left = fs::remove_file(files, &beside);
+    }
+    done
 }
 
 fn write_file<R: Files>(files: &R, path: &str, bytes: &[u8]) -> io::Result<()> {
@@ -117,13 +123,19 @@ fn read_file<R: Files>(
     start: u64,
     len: u64,
 ) -> io::Result<Option<Bytes>> {
-    let Some(whole) = len_of_file(alloc, files, folder, path)? else {
+    let target = place_of(alloc, folder, path)?;
+    if len_at(files, &target)?.is_none() {
         return Ok(None);
+    }
+    let mut file = match File::open(files, &target) {
+        Ok(file) => file,
+        Err(error) if is_missing(&error) => return Ok(None),
+        Err(error) => return Err(error),
     };
+    let whole = file.seek(SeekFrom::End(0))?;
     if start > whole || len > whole - start {
         return Ok(None);
     }
-    let mut file = File::open(files, &place_of(alloc, folder, path)?)?;
     file.seek(SeekFrom::Start(start))?;
     let mut bytes = vec![in alloc; 0; len as usize]?;
     file.read_exact(&mut bytes)?;
@@ -136,7 +148,12 @@ fn len_of_file(
     folder: &str,
     path: &str,
 ) -> io::Result<Option<u64>> {
-    match fs::symlink_metadata(files, &place_of(alloc, folder, path)?) {
+    len_at(files, &place_of(alloc, folder, path)?)
+}
+
+/// The length of the file there, and `None` where there is none.
+fn len_at(files: &impl Files, target: &str) -> io::Result<Option<u64>> {
+    match fs::symlink_metadata(files, target) {
         Ok(metadata) if metadata.is_file() => Ok(Some(metadata.len())),
         Ok(_) => Ok(None),
         Err(error) if is_missing(&error) => Ok(None),
@@ -150,6 +167,9 @@ fn list_files<R: Files + AllocGlobal + Clone + Drop>(
     rt: &R,
     folder: &str,
 ) -> io::Result<Vec<PathText>> {
+    if folder.is_empty() {
+        return Err(ErrorKind::InvalidInput.into());
+    }
     let mut paths = Vec::new(alloc);
     let mut inner = Vec::new(alloc);
     inner.push(String::new(alloc))?;
@@ -181,11 +201,15 @@ fn list_folder<R: Files + AllocGlobal + Clone + Drop>(
     for entry in entries {
         let entry = entry?;
         let name = entry.file_name();
-        let kind = entry.file_type()?;
-        if kind.is_dir() {
-            inner.push(format!(in alloc; "{names}{name}/")?)?;
-        } else if kind.is_file() && !name.ends_with(UNFINISHED) {
-            paths.push(format!(in alloc; "{names}{name}")?)?;
+        if !is_name(name) {
+            continue;
+        }
+        match entry.file_type() {
+            Ok(kind) if kind.is_dir() => inner.push(format!(in alloc; "{names}{name}/")?)?,
+            Ok(kind) if kind.is_file() => paths.push(format!(in alloc; "{names}{name}")?)?,
+            Ok(_) => (),
+            Err(error) if is_missing(&error) => (),
+            Err(error) => return Err(error),
         }
     }
     Ok(())
@@ -193,14 +217,15 @@ fn list_folder<R: Files + AllocGlobal + Clone + Drop>(
 
 /// Where the file of an object is.
 fn place_of(alloc: Global, folder: &str, path: &str) -> io::Result<String> {
-    if folder.is_empty() || path.ends_with(UNFINISHED) || !path.split('/').all(is_name) {
+    if folder.is_empty() || !path.split('/').all(is_name) {
         return Err(ErrorKind::InvalidInput.into());
     }
     Ok(format!(in alloc; "{folder}/{path}")?)
 }
 
+/// Whether a part of an object's path can be so: no name of a file that is being written.
 fn is_name(name: &str) -> bool {
-    !name.is_empty() && name != "." && name != ".."
+    !name.is_empty() && name != "." && name != ".." && !name.ends_with(UNFINISHED)
 }
 
 fn is_missing(error: &io::Error) -> bool {
