@@ -93,7 +93,7 @@ abbrev pub Begun : List RowEntry → Type 0
 Begun [] = ⊥
 Begun (r ∷ rs) = Unit {0}
 
-with_begun : (ended : List (List RowEntry)) (filling : List RowEntry) → Begun filling → with_last ended filling ≡ ended ++ filling ∷ []
+pub with_begun : (ended : List (List RowEntry)) (filling : List RowEntry) → Begun filling → with_last ended filling ≡ ended ++ filling ∷ []
 with_begun ended [] h = absurd h
 with_begun ended (r ∷ rs) h = refl
 

@@ -50,11 +50,11 @@ separators_count (b ∷ bs) = let n = later_count (last_key [] b) bs in omega (a
 
 -- ---- places
 
-places_count : (at : ℕ) (ss : List (List ℕ)) → length (places at ss) ≡ length ss
+pub places_count : (at : ℕ) (ss : List (List ℕ)) → length (places at ss) ≡ length ss
 places_count at [] = refl
 places_count at (s ∷ ss) = let n = places_count (at + length s) ss in omega (arith, n)
 
-places_below : (at n : ℕ) (ss : List (List ℕ)) → at + length (flat_map (λ s. s) ss) < n → AllByRecursion (λ x. x < n) (places at ss)
+pub places_below : (at n : ℕ) (ss : List (List ℕ)) → at + length (flat_map (λ s. s) ss) < n → AllByRecursion (λ x. x < n) (places at ss)
 places_below at n [] p = tt
 places_below at n (s ∷ ss) p =
     let whole = length-append s (flat_map (λ s. s) ss) in

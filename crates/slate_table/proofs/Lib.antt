@@ -1,4 +1,6 @@
 pub mod PartsLaws
+pub mod BuiltLaws
+pub mod EndLaws
 pub mod Cuttings
 pub mod IndexWrites
 pub mod Separators
@@ -14,3 +16,16 @@ mod Grown
 mod StatsReads
 mod InfoReads
 mod SectionReads
+mod OrderLaws
+mod PathLaws
+mod PartReads
+mod BlockReads
+mod EqualStats
+mod OpenReads
+mod FileReads
+pub mod FrameReads
+mod OpenLaws
+mod IndexOrder
+mod HeldParts
+pub mod Covering
+pub mod TableFinds

@@ -1,6 +1,6 @@
 -- What a table builder keeps, row by row.
-use Rattle.std.proofs.Common.{◌≡◌, ℕ, ◌+◌, ◌-◌, ◌^◌, ◌<◌, ◌≤◌, Bool, true, false, cond, ◌==◌, List, [], ◌∷◌, ◌++◌, length, fold, flat_map, Some, None, refl, sym, ap, subst, ◌∙◌, ◌⊎◌, inl, inr, arith}
-use Rattle.std.specs.Prelude.{slice_get, sum_by}
+use Rattle.std.proofs.Common.{◌≡◌, ℕ, ◌+◌, ◌-◌, ◌^◌, ◌<◌, ◌≤◌, Bool, true, false, cond, ◌==◌, List, [], ◌∷◌, ◌++◌, length, fold, flat_map, Option, Some, None, refl, sym, ap, subst, ◌∙◌, ◌⊎◌, inl, inr, arith}
+use Rattle.std.specs.Prelude.{slice_get, sum_by, IsSome}
 use Rattle.std.specs.List.{AllByRecursion}
 use Rattle.std.proofs.lemmas.List.{append-nil, length-append, map-append}
 use Rattle.std.proofs.lemmas.List.Sums.{sum_by-append}
@@ -21,7 +21,7 @@ use Rattle.slate_table.specs.TableParts.{version_of, separator_behind, cut_parts
 use Rattle.slate_table.proofs.IndexLaws.{separators_count}
 use Rattle.slate_table.proofs.Cuttings.{Begun, cut_is, cutting_more, cut_same, cut_next, cutting_rows, separators_next, separators_same, places_end}
 
-last_of : (k : List ℕ) (rows : List RowEntry) (q r : RowEntry) → slice_get (r ∷ rows) (length rows) ≡ Some q → last_key r.key rows ≡ q.key
+pub last_of : (k : List ℕ) (rows : List RowEntry) (q r : RowEntry) → slice_get (r ∷ rows) (length rows) ≡ Some q → last_key r.key rows ≡ q.key
 last_of k [] q r h = let same : r ≡ q = cc in ap (λ (x : RowEntry). x.key) same
 last_of k (x ∷ rows) q r h = last_of k rows q x h
 
@@ -78,7 +78,7 @@ begun_full : (size version : ℕ) (b : List RowEntry) (r : RowEntry) → fits_in
 begun_full size version [] r h = absurd cc
 begun_full size version (q ∷ qs) r h = tt
 
-begun_some : (b : List RowEntry) → Begun b → 0 < length b
+pub begun_some : (b : List RowEntry) → Begun b → 0 < length b
 begun_some [] h = absurd h
 begun_some (q ∷ qs) h = omega arith
 
@@ -128,7 +128,7 @@ behind_some : (rows : List RowEntry) (key : List ℕ) → Begun rows → separat
 behind_some [] key h = absurd h
 behind_some (r ∷ rs) key h = refl
 
-all_end : {X : Type 0} (P : X → Type 0) (xs : List X) (x : X) → AllByRecursion P xs → P x → AllByRecursion P (xs ++ x ∷ [])
+pub all_end : {X : Type 0} (P : X → Type 0) (xs : List X) (x : X) → AllByRecursion P xs → P x → AllByRecursion P (xs ++ x ∷ [])
 all_end P [] x a h = (h, tt)
 all_end P (y ∷ xs) x a h = (a.0, all_end P xs x a.1 h)
 
@@ -152,6 +152,7 @@ taken_stands p q r s fit t order =
       counts = t.counts c.filling s.counts;
       separators = seps ∙ sep_more c.ended c.filling p.rows.items p.separators.items r s.separators begun;
       stats = t.stats ∙ s.stats;
+      begins = ap length t.offsets ∙ s.begins;
       blocks = subst (λ (l : List (List ℕ)). length l < 2 ^ 32) (sym seps) (sep_few c.ended c.filling p.rows.items p.separators.items r s.separators s.blocks begun);
       each = subst (λ (f : BlockFormat). AllByRecursion (FitsBlock (version_of f)) c.ended) (sym t.format) s.each;
       order = subst AreInOrder (sym t.rows) order;
@@ -181,7 +182,7 @@ spelled_separators p r s begun =
     let behind = behind_some p.rows.items r.key (rows_begun p.block_size (version_of p.format) p.rows.items begun) ∙ ap (λ (l : List RowEntry). separator (last_key [] l) r.key) all in
     (λ i. s.separators i ++ behind i ∷ []) ∙ sym (separators_next c.ended c.filling r begun)
 
-fits_block : (c : Cutting) (p : TableParts) → StandsOn c p → FitsBlock p.block.builder.version p.block.builder.rows → FitsBlock (version_of p.format) c.filling
+pub fits_block : (c : Cutting) (p : TableParts) → StandsOn c p → FitsBlock p.block.builder.version p.block.builder.rows → FitsBlock (version_of p.format) c.filling
 fits_block c p s f = subst (λ (b : Building). FitsBlock b.version b.rows) s.builder f
 
 pub ended_stands : (encode : Encode) (p m q : TableParts) (r : RowEntry) → Stands p → fits_parts p r ≡ false → IsEnded encode p m → IsTaken m r q → AreInOrder (p.rows.items ++ r ∷ []) →
@@ -199,6 +200,7 @@ ended_stands encode p m q r s fit e t order room =
       counts = t.counts [] e.counts;
       separators = seps ∙ spelled_separators p r s begun;
       stats = t.stats ∙ e.stats ∙ (λ i. s.stats i ++ s.counts i ∷ []) ∙ sym (map-append stats_of c.ended (c.filling ∷ []));
+      begins = omega (arith, ap length (t.offsets ∙ e.offsets), length-append p.offsets.items (length p.bytes.items ∷ []), s.begins, length-append c.ended (c.filling ∷ []));
       blocks = omega (arith, count, room);
       each = subst (λ (f : BlockFormat). AllByRecursion (FitsBlock (version_of f)) (c.ended ++ c.filling ∷ [])) (sym (t.format ∙ e.format))
           (all_end (FitsBlock (version_of p.format)) c.ended c.filling s.each (fits_block c p s e.fits));
@@ -222,7 +224,7 @@ taken_sections encode p q r s fit t a =
     let same : block_sections encode (version_of p.format) (cut_parts p).ended ≡ block_sections encode (version_of q.format) (cut_parts q).ended = λ i. block_sections encode (version_of (sym t.format i)) (sym next i) in
     record { are_bytes = t.bytes ∙ a.are_bytes ∙ ap (λ (l : List (List ℕ)). flat_map (λ x. x) l) same; are_offsets = t.offsets ∙ a.are_offsets ∙ ap (places 0) same }
 
-flat_end : (ss : List (List ℕ)) (x : List ℕ) → flat_map (λ y. y) (ss ++ x ∷ []) ≡ flat_map (λ y. y) ss ++ x
+pub flat_end : (ss : List (List ℕ)) (x : List ℕ) → flat_map (λ y. y) (ss ++ x ∷ []) ≡ flat_map (λ y. y) ss ++ x
 flat_end ss x = flat_map-append (λ (y : List ℕ). y) ss (x ∷ []) ∙ ap (λ (l : List ℕ). flat_map (λ y. y) ss ++ l) (append-nil x)
 
 ended_sections : (encode : Encode) (p m q : TableParts) (r : RowEntry) → Stands p → fits_parts p r ≡ false → IsEnded encode p m → IsTaken m r q → Sections encode p → Sections encode q
@@ -249,9 +251,9 @@ added_sections encode p q r s (inr a) h = ended_sections encode p a.0 q r s a.1 
 -- ---- a builder with no row, and what it refuses
 
 pub fresh_stands : (p : TableParts) → 0 < p.block_size → p.block_size ≤ 65535 → p.rows.items ≡ [] → p.block.builder ≡ filled p [] → p.block.stats ≡ stats_of [] → p.separators.items ≡ [] →
-    p.block_stats.items ≡ [] → p.raw_key_size ≡ 0 → p.raw_val_size ≡ 0 → Stands p
+    p.block_stats.items ≡ [] → p.offsets.items ≡ [] → p.raw_key_size ≡ 0 → p.raw_val_size ≡ 0 → Stands p
 unfolding cutting
-fresh_stands p some few rows builder counts seps stats keys values =
+fresh_stands p some few rows builder counts seps stats offsets keys values =
     let none : cut_parts p ≡ record { ended = []; filling = [] } = ap (λ (l : List RowEntry). cutting p.block_size (version_of p.format) l) rows in
     subst (λ (d : Cutting). StandsOn d p) (sym none) (record {
       some = some;
@@ -260,6 +262,7 @@ fresh_stands p some few rows builder counts seps stats keys values =
       counts = counts;
       separators = seps;
       stats = stats;
+      begins = ap length offsets;
       blocks = omega (arith, ap length seps);
       each = tt;
       order = subst AreInOrder (sym rows) tt;
@@ -269,6 +272,12 @@ fresh_stands p some few rows builder counts seps stats keys values =
 
 pub old_size : (encode : Encode) (p : TableParts) (w : Bool) (r : RowEntry) → Stands p → ended_size encode p r ≡ section_size encode (seen p w) r
 old_size encode p w r s = ap (λ (b : Building). cond (fits_in b.size b.version b.rows r) None (Some (length (section encode (block_bytes b.version b.rows))))) s.builder
+
+pub ends_a_block : (encode : Encode) (p : TableParts) (w : Bool) (r : RowEntry) → Stands p → fits_parts p r ≡ false → IsSome (section_size encode (seen p w) r)
+ends_a_block encode p w r s past =
+    let size = length (section encode (block_bytes p.block.builder.version p.block.builder.rows)) in
+    let ended : ended_size encode p r ≡ Some size = ap (λ (t : Bool). cond t None (Some size)) past in
+    subst (λ (o : Option ℕ). IsSome o) (sym ended ∙ old_size encode p w r s) refl
 
 with_begun_count : (ended : List (List RowEntry)) (filling : List RowEntry) → Begun filling → length (with_last ended filling) ≡ length ended + 1
 with_begun_count ended [] h = absurd h
@@ -293,3 +302,48 @@ past_limit p w r limit s (inr h) = inr (h.0, by h.1)
         (2 ^ 64 ≤ sum_by (λ x. length x.key) (p.rows.items ++ r ∷ [])) ⊎ (2 ^ 64 ≤ sum_by (λ x. length (operand x)) (p.rows.items ++ r ∷ []))
     by (inl k) = let sum = key_sum p.rows.items r in let old = s.keys in inl (omega (arith, k, sum, old))
     by (inr k) = let sum = value_sum p.rows.items r in let old = s.values in inr (omega (arith, k, sum, old))
+
+-- ---- a row within the limits passes none
+
+begun_snoc : (b : List RowEntry) (r : RowEntry) → Begun (b ++ r ∷ [])
+begun_snoc [] r = tt
+begun_snoc (q ∷ qs) r = tt
+
+same_count : (p : TableParts) (r : RowEntry) → Stands p → fits_parts p r ≡ true → length (cut p.block_size (version_of p.format) (p.rows.items ++ r ∷ [])) ≡ length (cut_parts p).ended + 1
+same_count p r s fit =
+    let c = cut_parts p in
+    let more = fits_on c p r true s fit in
+    let next = sym (cut_is p.block_size (version_of p.format) (p.rows.items ++ r ∷ [])) ∙ ap all_blocks (cutting_more p.block_size (version_of p.format) p.rows.items r ∙ cut_same p.block_size (version_of p.format) c r more) in
+    ap length next ∙ with_begun_count c.ended (c.filling ++ r ∷ []) (begun_snoc c.filling r)
+
+few_ended : (p : TableParts) (rows : List RowEntry) → p.rows.items ≡ rows → Stands p → length (cut_parts p).ended + 1 < 2 ^ 32
+unfolding cutting
+few_ended p [] is s =
+    let none : length (cut_parts p).ended ≡ 0 = ap (λ (l : List RowEntry). length (cutting p.block_size (version_of p.format) l).ended) is in
+    omega (arith, none)
+few_ended p (x ∷ xs) is s =
+    let c = cut_parts p in
+    let begun = cutting_begun p.block_size (version_of p.format) p.rows.items (subst Begun (sym is) tt) in
+    let count = ap length s.separators ∙ separators_count (all_blocks c) ∙ with_begun_count c.ended c.filling begun in
+    let blocks = s.blocks in
+    omega (arith, count, blocks)
+
+pub within_none : (p : TableParts) (w : Bool) (r : RowEntry) (limit : ℕ) → Stands p → IsWithinLimits p r → IsLimit (seen p w) r limit → ⊥
+within_none p w r limit s i (inl h) = by (fits_parts p r) refl
+  where
+    by : (t : Bool) → fits_parts p r ≡ t → ⊥
+    by true fit =
+        let count = same_count p r s fit in
+        let few = few_ended p p.rows.items refl s in
+        let past = h.1 in
+        absurd (omega (arith, count, few, past))
+    by false fit =
+        let count = full_count p r s fit in
+        let few = i.blocks fit in
+        let past = h.1 in
+        absurd (omega (arith, count, few, past))
+within_none p w r limit s i (inr h) = by h.1
+  where
+    by : (2 ^ 64 ≤ sum_by (λ x. length x.key) (p.rows.items ++ r ∷ [])) ⊎ (2 ^ 64 ≤ sum_by (λ x. length (operand x)) (p.rows.items ++ r ∷ [])) → ⊥
+    by (inl k) = let sum = key_sum p.rows.items r in let old = s.keys in let few = i.keys in absurd (omega (arith, k, sum, old, few))
+    by (inr k) = let sum = value_sum p.rows.items r in let old = s.values in let few = i.values in absurd (omega (arith, k, sum, old, few))

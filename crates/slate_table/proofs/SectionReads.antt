@@ -61,7 +61,7 @@ part_reads bytes part fits h =
     let sum : stored_sum bytes ≡ crc32 (part_of_sum bytes) = eqb-true (stored_sum bytes) (crc32 (part_of_sum bytes)) g.1 in
     sym (take-append-drop (length bytes - 4) bytes) ∙ ap (λ (l : List ℕ). part_of_sum bytes ++ l) (sym back ∙ ap be32 sum) ∙ ap summed g.2
 
-front_bytes : (a b : List ℕ) → IsBytes (a ++ b) → IsBytes a
+pub front_bytes : (a b : List ℕ) → IsBytes (a ++ b) → IsBytes a
 front_bytes [] b fits i = omega arith
 front_bytes (x ∷ a) b fits zero = fits 0
 front_bytes (x ∷ a) b fits (suc i) = front_bytes a b (λ j. fits (suc j)) i

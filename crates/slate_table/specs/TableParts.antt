@@ -49,6 +49,7 @@ pub record StandsOn (c : Cutting) (p : TableParts) : Type 0 where
   pub counts : p.block.stats ≡ stats_of c.filling
   pub separators : p.separators.items ≡ separators (all_blocks c)
   pub stats : p.block_stats.items ≡ map stats_of c.ended
+  pub begins : length p.offsets.items ≡ length c.ended
   pub blocks : length p.separators.items < 2 ^ 32
   pub each : AllByRecursion (FitsBlock (version_of p.format)) c.ended
   pub order : AreInOrder p.rows.items

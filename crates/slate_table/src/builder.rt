@@ -1,15 +1,20 @@
 //! Tables, built row by row.
-ghost use Rattle.std.specs.Prelude.{◌≡◌, ◌≤◌, ◌<◌, ◌++◌, ◌∷◌, ◌⊎◌, ◌↔◌, ℕ, List, [], Ok, Err, None, true, length, OnOk, OnErr, IfOk, IfErr, IsSome};
+ghost use Rattle.std.specs.Prelude.{◌≡◌, ◌≤◌, ◌<◌, ◌++◌, ◌∷◌, ◌⊎◌, ◌↔◌, ℕ, List, [], Ok, Err, None, true, length, OnOk, OnErr, IfOk, IfErr, IfSome, IsSome, IsTrue};
 ghost use Rattle.slate_types.specs.Faults.{faults_of};
+ghost use Rattle.slate_types.specs.Rows.{row_lt};
 ghost use Rattle.slate_block.specs.Building.{CanTake};
-ghost use Rattle.slate_table.specs.Table.{AreInOrder};
+ghost use Rattle.slate_table.specs.Table.{AreInOrder, IsBuilt};
+ghost use Rattle.slate_table.specs.InfoReading.{seen_info};
+ghost use Rattle.slate_table.specs.TableFormat.{codec_byte};
+ghost use Rattle.slate_table.specs.TableEnd.{HasInfo};
 ghost use Rattle.slate_table.specs.Parts.{Encode};
 ghost use Rattle.slate_table.specs.SectionReading.{changed_by, IsTransformFault};
 ghost use Rattle.slate_table.specs.TableParts.{version_of};
 ghost use Rattle.slate_table.specs.TableBuilding.{begun, section_size, IsLimit, AreEncoded};
 
+use crate::encoded_table::EncodedSsTable;
 use crate::info::SsTableFormat;
-use crate::table_parts::{TableParts, new_block};
+use crate::table_parts::{TableParts, new_block, version_number};
 use slate_types::{BlockTransformer, RowEntry, SlateDBError};
 use std::alloc::Global;
 use std::marker::Model;
@@ -39,13 +44,13 @@ impl Model for EncodedSsTableBuilder {
 
 impl EncodedSsTableBuilder {
     /// A builder with no row, for blocks of 1 to 65535 bytes. `UnsupportedCompression` exactly where the format names a codec,
-    /// or `OutOfMemory`.
+    /// with the codec's byte; or `OutOfMemory`.
     pub fn new(alloc: Global, format: &SsTableFormat) -> Result<EncodedSsTableBuilder, SlateDBError>
         requires some { 0 < format.now.block_size }
         requires few { format.now.block_size ≤ 65535 }
         ensures begun { IfOk result (λ builder. builder ≡ begun (version_of format.now.block_format) format.now.block_size) }
-        ensures codec { IfErr result (λ e. (e ≡ SlateDBError.OutOfMemory) ⊎ (IsSome format.now.compression_codec × (codec : ℕ) × (e ≡ SlateDBError.UnsupportedCompression codec))) }
-        ensures refused { IsSome format.now.compression_codec → IfErr result (λ e. (codec : ℕ) × (e ≡ SlateDBError.UnsupportedCompression codec)) }
+        ensures cause { IfErr result (λ e. (e ≡ SlateDBError.OutOfMemory) ⊎ IsSome format.now.compression_codec) }
+        ensures refused { IfSome format.now.compression_codec (λ codec. result ≡ Err (SlateDBError.UnsupportedCompression (codec_byte codec))) }
         ensures no_codec { OnOk result (format.now.compression_codec ≡ None) }
     {
         if let Some(codec) = format.compression_codec {
@@ -70,10 +75,22 @@ impl EncodedSsTableBuilder {
         })
     }
 
-    /// Adds a row behind the others, and answers the size of the section of a block that it ended. `EmptyKey` exactly for an
+    /// Whether a row may be added behind the others: its key is greater than that of the last one, or the same with a lower
+    /// sequence.
+    pub fn follows(&self, entry: &RowEntry) -> bool
+        requires { self.now.is_whole ≡ true }
+        ensures { IsTrue result ↔ AreInOrder (self.now.rows ++ entry.now ∷ []) }
+    {
+        match self.parts.rows.last() {
+            Some(last) => stands_before(last, entry),
+            None => true,
+        }
+    }
+
+    /// Adds a row behind the others, which it must follow, and answers the size of the section of a block that it ended. `EmptyKey` exactly for an
     /// empty key, and `LimitReached` exactly where there would be more than 4294967295 blocks, or a sum of the lengths of keys
-    /// or values past `u64::MAX`: these leave the builder as it was. After `BlockTransformError`, which comes only where the
-    /// transformer's count of faults rose, and after `OutOfMemory` it may only be dropped.
+    /// or values past `u64::MAX`: these leave the builder as it was. After `BlockTransformError`, which comes only where the row
+    /// ends a block and the transformer's count of faults rose, and after `OutOfMemory` it may only be dropped.
     pub fn add<T: BlockTransformer>(
         &mut self,
         alloc: Global,
@@ -89,12 +106,15 @@ impl EncodedSsTableBuilder {
         ensures size { OnOk result (self.new.size ≡ self.old.size) }
         ensures encoded { OnOk result (AreEncoded (changed_by T.encoded transformer.old) self.old → AreEncoded (changed_by T.encoded transformer.old) self.new) }
         ensures ended { IfOk result (λ size. size ≡ section_size (changed_by T.encoded transformer.old) self.old entry) }
+        ensures limit { (limit : ℕ) → IsLimit self.old entry limit → 0 < length entry.key → (reached : ℕ) × (result ≡ Err (SlateDBError.LimitReached reached)) }
         ensures empty { (result ≡ Err SlateDBError.EmptyKey) ↔ (length entry.key ≡ 0) }
         ensures cause { IfErr result (λ e. IsTransformFault (faults_of T.faults transformer.old) (faults_of T.faults transformer.new) e
             ⊎ ((self.new ≡ self.old) × ((e ≡ SlateDBError.EmptyKey) ⊎ ((limit : ℕ) × (e ≡ SlateDBError.LimitReached limit) × IsLimit self.old entry limit)))) }
+        ensures fault { result ≡ Err SlateDBError.BlockTransformError → IsSome (section_size (changed_by T.encoded transformer.old) self.old entry) }
         ensures same_encoded { changed_by T.encoded transformer.new ≡ changed_by T.encoded transformer.old }
         ensures same_decoded { changed_by T.decoded transformer.new ≡ changed_by T.decoded transformer.old }
         ensures later { faults_of T.faults transformer.old ≤ faults_of T.faults transformer.new }
+        ensures still { (result ≡ Err SlateDBError.BlockTransformError) ⊎ (result ≡ Err SlateDBError.OutOfMemory) ⊎ (faults_of T.faults transformer.new ≡ faults_of T.faults transformer.old) }
     {
         if entry.key.is_empty() {
             return Err(SlateDBError::EmptyKey);
@@ -105,4 +125,36 @@ impl EncodedSsTableBuilder {
         self.is_whole = true;
         Ok(ended)
     }
+
+    /// The table of the rows, of which there is one at least. It has no filters. `BlockTransformError`, which comes only where
+    /// the transformer's count of faults rose, or `OutOfMemory`.
+    pub fn build<T: BlockTransformer>(
+        self,
+        alloc: Global,
+        transformer: &mut Option<T>,
+    ) -> Result<EncodedSsTable, SlateDBError>
+        requires whole { self.is_whole ≡ true }
+        requires rows { 0 < length self.rows }
+        ensures built { IfOk result (λ table. AreEncoded (changed_by T.encoded transformer.old) self → (min : ℕ) → IsBuilt (changed_by T.encoded transformer.old) [] min self.size self.version table.bytes self.rows) }
+        ensures info { IfOk result (λ table. HasInfo table.bytes self.version (seen_info table.info)) }
+        ensures version { IfOk result (λ table. table.version ≡ self.version) }
+        ensures cause { IfErr result (λ e. IsTransformFault (faults_of T.faults transformer.old) (faults_of T.faults transformer.new) e) }
+        ensures same_encoded { changed_by T.encoded transformer.new ≡ changed_by T.encoded transformer.old }
+        ensures same_decoded { changed_by T.decoded transformer.new ≡ changed_by T.decoded transformer.old }
+        ensures later { faults_of T.faults transformer.old ≤ faults_of T.faults transformer.new }
+        ensures still { (result ≡ Err SlateDBError.BlockTransformError) ⊎ (result ≡ Err SlateDBError.OutOfMemory) ⊎ (faults_of T.faults transformer.new ≡ faults_of T.faults transformer.old) }
+    {
+        let EncodedSsTableBuilder { parts, .. } = self;
+        let version = version_number(parts.format);
+        let made = parts.finish(alloc, transformer)?;
+        Ok(EncodedSsTable::new(made.0, made.1, version))
+    }
+}
+
+/// Whether the first row stands before the second in a table.
+fn stands_before(first: &RowEntry, second: &RowEntry) -> bool
+    ensures { result ≡ row_lt first.now second.now }
+{
+    first.key.as_slice().cmp(second.key.as_slice()).is_lt()
+        || (first.key == second.key && second.seq < first.seq)
 }

@@ -1,5 +1,5 @@
 //! The last bytes of a table: where its info begins, and its version.
-ghost use Rattle.std.specs.Prelude.{◌≡◌, ◌+◌, ◌<◌, ◌≤◌, ◌++◌, ◌⊎◌, length, Ok, Err, OnOk, IfOk, IfErr, IsOkUnless};
+ghost use Rattle.std.specs.Prelude.{◌≡◌, ◌+◌, ◌<◌, ◌≤◌, ◌++◌, ◌⊎◌, length, take, Ok, Err, OnOk, OnErr, IfOk, IfErr, IsOkUnless};
 ghost use Rattle.slate_table.specs.SectionReading.{footer_bytes, footer_in};
 
 use crate::writing::{append_u16, append_u64};
@@ -17,9 +17,10 @@ pub struct Footer {
 }
 
 impl Footer {
-    /// Appends the bytes. The one error is `OutOfMemory`.
+    /// Appends the bytes. The one error is `OutOfMemory`, after which more may stand behind what `out` held.
     pub fn encode(&self, out: &mut Vec<u8>) -> Result<(), SlateDBError>
         ensures appended { OnOk result (out.new.items ≡ out.old.items ++ footer_bytes self.now.info_offset self.now.version) }
+        ensures kept { OnErr result (take (length out.old.items) out.new.items ≡ out.old.items) }
         ensures cause { IsOkUnless result SlateDBError.OutOfMemory }
     {
         append_u64(out, self.info_offset)?;

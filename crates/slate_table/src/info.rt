@@ -29,7 +29,7 @@ const FILTER_FORMAT: u8 = 1;
 
 /// The first and the last key of a table, and where its index, its filters and its statistics lie: offsets in the table's bytes,
 /// and lengths with the checksums. A table without filters has a filter length of 0.
-#[derive(Debug, PartialEq, Eq, Drop)]
+#[derive(Clone, Debug, PartialEq, Eq, Drop)]
 pub struct SsTableInfo {
     pub first_entry: Option<Bytes>,
     pub last_entry: Option<Bytes>,
@@ -42,7 +42,7 @@ pub struct SsTableInfo {
 }
 
 /// A table that was put: its id, its info, and its version.
-#[derive(Debug, PartialEq, Eq, Drop)]
+#[derive(Clone, Debug, PartialEq, Eq, Drop)]
 pub struct SsTableHandle {
     pub id: Ulid,
     pub info: SsTableInfo,

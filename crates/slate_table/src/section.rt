@@ -1,9 +1,11 @@
 //! Sections: the parts of a table as they are stored, each with its checksum behind it.
-ghost use Rattle.std.specs.Prelude.{◌≡◌, ◌≤◌, ◌<◌, ◌++◌, ◌⊎◌, ℕ, List, Some, Err, Ok, length, take, slice_index, OnOk, OnErr, IfOk, IfErr, IsOkUnless};
+ghost use Rattle.std.specs.Prelude.{◌≡◌, ◌≤◌, ◌<◌, ◌++◌, ◌⊎◌, ℕ, List, Some, None, Err, Ok, length, take, slice_index, OnOk, OnErr, IfOk, IfErr, IsOkUnless};
+ghost use Rattle.slate_types.specs.declared.error.SlateDBError.{SlateDBError};
 ghost use Rattle.slate_types.specs.Faults.{faults_of};
 ghost use Rattle.slate_block.specs.RowReading.{refusal};
 ghost use Rattle.slate_table.specs.Checksum.{crc32};
 ghost use Rattle.slate_table.specs.Parts.{summed, section};
+ghost use Rattle.slate_table.specs.Reading.{FailsDecoding};
 ghost use Rattle.slate_table.specs.SectionReading.{
   part_of_sum,
   part_in,
@@ -26,6 +28,7 @@ pub const CHECKSUM_SIZE: usize = 4;
 pub fn checked_part(bytes: &Bytes) -> Result<Bytes, SlateDBError>
     ensures found { IfOk result (λ part. bytes.now ≡ summed part) }
     ensures front { IfOk result (λ part. part ≡ part_of_sum bytes.now) }
+    ensures fits { OnOk result (refusal (part_in bytes.now) ≡ None) }
     ensures only { (part : List ℕ) → bytes.now ≡ summed part → IsOkUnless result SlateDBError.OutOfMemory }
     ensures cause { IfErr result (λ e. (e ≡ SlateDBError.OutOfMemory) ⊎ (refusal (part_in bytes.now) ≡ Some e)) }
 {
@@ -56,7 +59,8 @@ fn checked_len(bytes: &[u8]) -> Result<usize, SlateDBError>
 }
 
 /// The part of a section. `CorruptTable` at 0 where it has fewer bytes than a checksum, then `ChecksumMismatch`, then
-/// `BlockTransformError`, which comes only where the transformer's count of faults rose; or `OutOfMemory`.
+/// `BlockTransformError`, which comes only where the transformer's count of faults rose; or `OutOfMemory`. Where the checksum
+/// doesn't fit the transformer isn't asked.
 pub fn open_section<T: BlockTransformer>(
     alloc: Global,
     bytes: &Bytes,
@@ -65,11 +69,12 @@ pub fn open_section<T: BlockTransformer>(
     ensures sum { OnOk result (bytes.now ≡ summed (part_of_sum bytes.now)) }
     ensures part { IfOk result (λ part. part ≡ changed_by T.decoded transformer.old (part_of_sum bytes.now)) }
     ensures only { (stored : List ℕ) → bytes.now ≡ summed stored → IfErr result (λ e. IsTransformFault (faults_of T.faults transformer.old) (faults_of T.faults transformer.new) e) }
-    ensures cause { IfErr result (λ e. IsTransformFault (faults_of T.faults transformer.old) (faults_of T.faults transformer.new) e ⊎ (refusal (part_in bytes.now) ≡ Some e)) }
+    ensures cause { IfErr result (λ e. (e ≡ SlateDBError.OutOfMemory) ⊎ FailsDecoding (faults_of T.faults transformer.old) (faults_of T.faults transformer.new) (Some bytes.now) e ⊎ (refusal (part_in bytes.now) ≡ Some e)) }
+    ensures unasked { (e : SlateDBError) → refusal (part_in bytes.now) ≡ Some e → transformer.new ≡ transformer.old }
     ensures same_encoded { changed_by T.encoded transformer.new ≡ changed_by T.encoded transformer.old }
     ensures same_decoded { changed_by T.decoded transformer.new ≡ changed_by T.decoded transformer.old }
     ensures later { faults_of T.faults transformer.old ≤ faults_of T.faults transformer.new }
-    ensures still { OnOk result (faults_of T.faults transformer.new ≡ faults_of T.faults transformer.old) }
+    ensures still { (result ≡ Err SlateDBError.BlockTransformError) ⊎ (result ≡ Err SlateDBError.OutOfMemory) ⊎ (faults_of T.faults transformer.new ≡ faults_of T.faults transformer.old) }
 {
     let stored = checked_part(bytes)?;
     let part = decoded(alloc, stored, transformer)?;
@@ -90,7 +95,7 @@ pub fn seal_section<T: BlockTransformer>(
     ensures same_encoded { changed_by T.encoded transformer.new ≡ changed_by T.encoded transformer.old }
     ensures same_decoded { changed_by T.decoded transformer.new ≡ changed_by T.decoded transformer.old }
     ensures later { faults_of T.faults transformer.old ≤ faults_of T.faults transformer.new }
-    ensures still { OnOk result (faults_of T.faults transformer.new ≡ faults_of T.faults transformer.old) }
+    ensures still { (result ≡ Err SlateDBError.BlockTransformError) ⊎ (result ≡ Err SlateDBError.OutOfMemory) ⊎ (faults_of T.faults transformer.new ≡ faults_of T.faults transformer.old) }
 {
     let stored = encoded(alloc, part, transformer)?;
     append_summed(out, stored.as_slice())?;
@@ -118,7 +123,7 @@ fn encoded<T: BlockTransformer>(
     ensures same_encoded { changed_by T.encoded transformer.new ≡ changed_by T.encoded transformer.old }
     ensures same_decoded { changed_by T.decoded transformer.new ≡ changed_by T.decoded transformer.old }
     ensures later { faults_of T.faults transformer.old ≤ faults_of T.faults transformer.new }
-    ensures still { OnOk result (faults_of T.faults transformer.new ≡ faults_of T.faults transformer.old) }
+    ensures still { (result ≡ Err SlateDBError.BlockTransformError) ⊎ (result ≡ Err SlateDBError.OutOfMemory) ⊎ (faults_of T.faults transformer.new ≡ faults_of T.faults transformer.old) }
 {
     match transformer {
         None => Ok(part),
@@ -139,7 +144,7 @@ fn decoded<T: BlockTransformer>(
     ensures same_encoded { changed_by T.encoded transformer.new ≡ changed_by T.encoded transformer.old }
     ensures same_decoded { changed_by T.decoded transformer.new ≡ changed_by T.decoded transformer.old }
     ensures later { faults_of T.faults transformer.old ≤ faults_of T.faults transformer.new }
-    ensures still { OnOk result (faults_of T.faults transformer.new ≡ faults_of T.faults transformer.old) }
+    ensures still { (result ≡ Err SlateDBError.BlockTransformError) ⊎ (result ≡ Err SlateDBError.OutOfMemory) ⊎ (faults_of T.faults transformer.new ≡ faults_of T.faults transformer.old) }
 {
     match transformer {
         None => Ok(stored),

@@ -9,10 +9,16 @@ ghost use Rattle.slate_block.specs.BlockSpelling.{block_bytes};
 ghost use Rattle.slate_block.specs.Counting.{stats_of};
 ghost use Rattle.slate_table.specs.Parts.{section};
 ghost use Rattle.slate_table.specs.SectionReading.{changed_by, IsTransformFault};
-ghost use Rattle.slate_table.specs.TableParts.{version_of, separator_behind, fits_parts, ended_size, IsAdded, IsEnded, IsTaken, IsPastLimit, IsWithinLimits};
+ghost use Rattle.slate_table.specs.TableParts.{version_of, separator_behind, fits_parts, ended_size, IsAdded, IsEnded, IsTaken, IsPastLimit, IsWithinLimits, Stands};
+ghost use Rattle.slate_table.specs.InfoReading.{seen_info};
+ghost use Rattle.slate_table.specs.TableEnd.{HasInfo, parts_bytes, IsReady, IsFinished};
 
+use crate::index_writing::encode_index;
+use crate::info::SsTableInfo;
 use crate::section::seal_section;
 use crate::separator::separator;
+use crate::stats_writing::encode_stats;
+use crate::table_end::append_end;
 use bytes::Bytes;
 use slate_block::{BlockBuilder, BlockBuilderWithStats, BlockStats};
 use slate_types::{BlockFormat, BlockTransformer, RowEntry, SlateDBError};
@@ -93,16 +99,75 @@ impl TableParts {
         ensures same_encoded { changed_by T.encoded transformer.new ≡ changed_by T.encoded transformer.old }
         ensures same_decoded { changed_by T.decoded transformer.new ≡ changed_by T.decoded transformer.old }
         ensures later { faults_of T.faults transformer.old ≤ faults_of T.faults transformer.new }
+        ensures still { (result ≡ Err SlateDBError.BlockTransformError) ⊎ (result ≡ Err SlateDBError.OutOfMemory) ⊎ (faults_of T.faults transformer.new ≡ faults_of T.faults transformer.old) }
         ensures cause { IfErr result (λ e. IsTransformFault (faults_of T.faults transformer.old) (faults_of T.faults transformer.new) e) }
     {
         let empty = new_block(alloc, self.format, self.block_size)?;
         let (builder, stats) = mem::replace(&mut self.block, empty).into_parts();
-        let part = builder.build()?.encode(alloc)?;
+        let part = builder.build_encoded()?;
         let begin = self.bytes.len();
         seal_section(alloc, &mut self.bytes, part, transformer)?;
         self.offsets.push(begin as u64)?;
         self.block_stats.push(stats)?;
         Ok((self.bytes.len() - begin) as u64)
+    }
+
+    /// Ends the last block, and gives the bytes of the table and its info.
+    #[tactic(auto, using(crate::proofs::BuiltLaws::last_has_row, crate::proofs::BuiltLaws::ended_ready))]
+    pub fn finish<T: BlockTransformer>(
+        self,
+        alloc: Global,
+        transformer: &mut Option<T>,
+    ) -> Result<(Bytes, SsTableInfo), SlateDBError>
+        requires stands { Stands self }
+        requires row { 0 < length self.rows.items }
+        ensures finished { IfOk result (λ made. IsFinished (changed_by T.encoded transformer.old) self made.0 made.1) }
+        ensures same_encoded { changed_by T.encoded transformer.new ≡ changed_by T.encoded transformer.old }
+        ensures same_decoded { changed_by T.decoded transformer.new ≡ changed_by T.decoded transformer.old }
+        ensures later { faults_of T.faults transformer.old ≤ faults_of T.faults transformer.new }
+        ensures still { (result ≡ Err SlateDBError.BlockTransformError) ⊎ (result ≡ Err SlateDBError.OutOfMemory) ⊎ (faults_of T.faults transformer.new ≡ faults_of T.faults transformer.old) }
+        ensures cause { IfErr result (λ e. IsTransformFault (faults_of T.faults transformer.old) (faults_of T.faults transformer.new) e) }
+    {
+        let mut parts = self;
+        parts.end_block(alloc, transformer)?;
+        let made = parts.assemble(alloc, transformer)?;
+        Ok(made)
+    }
+
+    /// The bytes of the table and its info, once the last block was ended.
+    fn assemble<T: BlockTransformer>(
+        self,
+        alloc: Global,
+        transformer: &mut Option<T>,
+    ) -> Result<(Bytes, SsTableInfo), SlateDBError>
+        requires ready { IsReady self }
+        ensures bytes { IfOk result (λ made. made.0 ≡ parts_bytes (changed_by T.encoded transformer.old) self) }
+        ensures short { IfOk result (λ made. length made.0 < 2 ^ 64) }
+        ensures info { IfOk result (λ made. HasInfo made.0 (version_of self.format) (seen_info made.1)) }
+        ensures keys { self.raw_key_size < 2 ^ 64 }
+        ensures values { self.raw_val_size < 2 ^ 64 }
+        ensures same_encoded { changed_by T.encoded transformer.new ≡ changed_by T.encoded transformer.old }
+        ensures same_decoded { changed_by T.decoded transformer.new ≡ changed_by T.decoded transformer.old }
+        ensures later { faults_of T.faults transformer.old ≤ faults_of T.faults transformer.new }
+        ensures still { (result ≡ Err SlateDBError.BlockTransformError) ⊎ (result ≡ Err SlateDBError.OutOfMemory) ⊎ (faults_of T.faults transformer.new ≡ faults_of T.faults transformer.old) }
+        ensures cause { IfErr result (λ e. IsTransformFault (faults_of T.faults transformer.old) (faults_of T.faults transformer.new) e) }
+    {
+        let TableParts {
+            format,
+            rows,
+            mut bytes,
+            offsets,
+            separators,
+            block_stats,
+            raw_key_size,
+            raw_val_size,
+            ..
+        } = self;
+        let index = encode_index(alloc, &offsets, &separators)?;
+        let stats = encode_stats(alloc, &rows, raw_key_size, raw_val_size, block_stats)?;
+        let version = version_number(format);
+        let info = append_end(alloc, &mut bytes, version, &rows, index, stats, transformer)?;
+        Ok((frozen(bytes)?, info))
     }
 
     /// Takes a row behind the others, and ends the block where it doesn't fit: then it answers the length of its section.
@@ -124,7 +189,9 @@ impl TableParts {
         ensures same_encoded { changed_by T.encoded transformer.new ≡ changed_by T.encoded transformer.old }
         ensures same_decoded { changed_by T.decoded transformer.new ≡ changed_by T.decoded transformer.old }
         ensures later { faults_of T.faults transformer.old ≤ faults_of T.faults transformer.new }
+        ensures still { (result ≡ Err SlateDBError.BlockTransformError) ⊎ (result ≡ Err SlateDBError.OutOfMemory) ⊎ (faults_of T.faults transformer.new ≡ faults_of T.faults transformer.old) }
         ensures cause { IfErr result (λ e. IsTransformFault (faults_of T.faults transformer.old) (faults_of T.faults transformer.new) e) }
+        ensures fault { result ≡ Err SlateDBError.BlockTransformError → fits_parts self.old entry ≡ false }
     {
         if self.block.would_fit(&entry) {
             self.take(entry)?;
@@ -152,6 +219,25 @@ impl TableParts {
         self.rows.push(entry)?;
         Ok(())
     }
+}
+
+/// The number of a format in the bytes of a table.
+pub fn version_number(format: BlockFormat) -> u16
+    ensures { result ≡ version_of format }
+{
+    match format {
+        BlockFormat::V1 => 1,
+        BlockFormat::V2 | BlockFormat::Latest => 2,
+    }
+}
+
+fn frozen(bytes: Vec<u8>) -> Result<Bytes, SlateDBError>
+    ensures same { IfOk result (λ frozen. frozen ≡ bytes.items) }
+    ensures short { length bytes.items < 2 ^ 64 }
+    ensures cause { IsOkUnless result SlateDBError.OutOfMemory }
+{
+    let _len = bytes.len();
+    Ok(Bytes::from_vec(bytes)?)
 }
 
 /// The separator of a block that begins with the key behind these rows.

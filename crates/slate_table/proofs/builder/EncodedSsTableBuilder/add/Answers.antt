@@ -5,7 +5,7 @@ use Rattle.slate_table.specs.Table.{AreInOrder}
 use Rattle.slate_table.specs.SectionReading.{changed_by}
 use Rattle.slate_table.specs.TableBuilding.{TableBuilding, AreEncoded, IsLimit, section_size}
 use Rattle.slate_table.specs.TableParts.{Stands}
-use Rattle.slate_table.proofs.PartsLaws.{added_stands, added_sections, past_limit, old_size}
+use Rattle.slate_table.proofs.PartsLaws.{added_stands, added_sections, past_limit, within_none, old_size}
 use Rattle.slate_table.proofs.builder.EncodedSsTableBuilder.add.Goals as goal
 
 pub returns-in_err-test_limits-clause-cause : goal.returns-in_err-test_limits-clause-cause
@@ -41,3 +41,19 @@ returns-clause-ended g c =
     let whole : inside.is_whole ≡ true = ap (λ (b : TableBuilding). b.is_whole) c.self.view_is ∙ c.requires.whole in
     let stands : Stands inside.parts = c.self.invariant whole in
     c.in_ok-ended.ensures.size ∙ old_size encode inside.parts inside.is_whole c.args.entry stands ∙ ap (λ (b : TableBuilding). section_size encode b c.args.entry) c.self.view_is
+
+pub returns-in_err-ended-clause-limit : goal.returns-in_err-ended-clause-limit
+returns-in_err-ended-clause-limit g c = λ limit h some.
+    let inside = c.self.inside in
+    let whole : inside.is_whole ≡ true = ap (λ (b : TableBuilding). b.is_whole) c.self.view_is ∙ c.requires.whole in
+    let stands : Stands inside.parts = c.self.invariant whole in
+    let past = subst (λ (b : TableBuilding). IsLimit b c.args.entry limit) (sym c.self.view_is) h in
+    absurd (within_none inside.parts inside.is_whole c.args.entry limit stands c.in_ok-test_limits.ensures.within past)
+
+pub returns-clause-limit : goal.returns-clause-limit
+returns-clause-limit g c = λ limit h some.
+    let inside = c.self.inside in
+    let whole : inside.is_whole ≡ true = ap (λ (b : TableBuilding). b.is_whole) c.self.view_is ∙ c.requires.whole in
+    let stands : Stands inside.parts = c.self.invariant whole in
+    let past = subst (λ (b : TableBuilding). IsLimit b c.args.entry limit) (sym c.self.view_is) h in
+    absurd (within_none inside.parts inside.is_whole c.args.entry limit stands c.in_ok-test_limits.ensures.within past)

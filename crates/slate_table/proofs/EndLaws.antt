@@ -1,0 +1,68 @@
+-- What stands behind the blocks of a table.
+use Rattle.std.proofs.Common.{◌≡◌, ℕ, ◌+◌, ◌-◌, List, [], ◌∷◌, ◌++◌, length, Some, refl, sym, ap, ◌∙◌, append_assoc, arith}
+use Rattle.std.specs.Prelude.{slice_get}
+use Rattle.std.proofs.lemmas.List.{append-nil, length-append}
+use Rattle.slate_types.specs.declared.types.RowEntry.{RowEntry}
+use Rattle.slate_block.specs.RowSpelling.{be16, be64}
+use Rattle.slate_table.specs.Parts.{summed}
+use Rattle.slate_table.specs.Table.{some_first, some_last, info_of, sections_then_info}
+use Rattle.slate_table.specs.Decoded.{SectionsLieBefore}
+use Rattle.slate_table.specs.SectionReading.{footer_bytes}
+use Rattle.slate_table.specs.TableEnd.{placed_info, part_of_info}
+use Rattle.slate_table.proofs.PartsLaws.{last_of}
+
+pub last_is : (rows : List RowEntry) (q : RowEntry) → slice_get rows (length rows - 1) ≡ Some q → Some q.key ≡ some_last rows
+last_is [] q h = absurd cc
+last_is (r ∷ rows) q h =
+    let place : length (r ∷ rows) - 1 ≡ length rows = omega arith in
+    sym (ap Some (last_of [] rows q r (sym (ap (slice_get (r ∷ rows)) place) ∙ h)))
+
+-- the place of each section is that of the bytes before it
+same_info : (version : ℕ) (rows : List RowEntry) (a i s : List ℕ) →
+    part_of_info version (placed_info rows (length a) (length (a ++ i)) (length ((a ++ i) ++ s))) ≡ info_of version rows (length a) [] i s
+same_info version rows a i s =
+    let second = length-append a i in
+    let third = length-append (a ++ i) s in
+    let none : length a ≡ length a + 0 = omega arith in
+    let index_len : length (a ++ i) - length a ≡ length i = omega (arith, second) in
+    let stats_at : length (a ++ i) ≡ length a + 0 + length i = omega (arith, second) in
+    let stats_len : length ((a ++ i) ++ s) - length (a ++ i) ≡ length s = omega (arith, second, third) in
+    λ j. part_of_info version (record {
+      first = some_first rows;
+      last = some_last rows;
+      index = record { at = none j; len = index_len j };
+      filters = record { at = length a; len = 0 };
+      stats = record { at = stats_at j; len = stats_len j };
+    })
+
+framed : ℕ → List ℕ → List ℕ → List ℕ → List ℕ → ℕ → List ℕ
+framed version a i s sealed n = a ++ [] ++ i ++ s ++ sealed ++ be64 n ++ be16 version
+
+frame_end : (version : ℕ) (a i s sealed : List ℕ) (n : ℕ) → ((a ++ i) ++ s) ++ (sealed ++ footer_bytes n version) ≡ framed version a i s sealed n
+unfolding framed
+frame_end version a i s sealed n =
+    sym (append_assoc ((a ++ i) ++ s) sealed (be64 n ++ be16 version))
+    ∙ sym (append_assoc (((a ++ i) ++ s) ++ sealed) (be64 n) (be16 version))
+    ∙ ap (λ (l : List ℕ). ((((l ++ i) ++ s) ++ sealed) ++ be64 n) ++ be16 version) (sym (append-nil a))
+
+frame_is : (version : ℕ) (rows : List RowEntry) (a i s : List ℕ) → framed version a i s (summed (info_of version rows (length a) [] i s)) (length a + 0 + length i + length s) ≡ sections_then_info version rows a [] i s
+unfolding framed
+frame_is version rows a i s = refl
+
+pub table_end : (version : ℕ) (rows : List RowEntry) (a i s : List ℕ) →
+    ((a ++ i) ++ s) ++ (summed (part_of_info version (placed_info rows (length a) (length (a ++ i)) (length ((a ++ i) ++ s)))) ++ footer_bytes (length ((a ++ i) ++ s)) version)
+    ≡ sections_then_info version rows a [] i s
+table_end version rows a i s =
+    let second = length-append a i in
+    let third = length-append (a ++ i) s in
+    let whole : length ((a ++ i) ++ s) ≡ length a + 0 + length i + length s = omega (arith, second, third) in
+    let info = same_info version rows a i s in
+    frame_end version a i s (summed (part_of_info version (placed_info rows (length a) (length (a ++ i)) (length ((a ++ i) ++ s))))) (length ((a ++ i) ++ s))
+    ∙ (λ j. framed version a i s (summed (info j)) (whole j))
+    ∙ frame_is version rows a i s
+
+pub sections_lie : (rows : List RowEntry) (a i s : List ℕ) → SectionsLieBefore (length ((a ++ i) ++ s)) (placed_info rows (length a) (length (a ++ i)) (length ((a ++ i) ++ s)))
+sections_lie rows a i s =
+    let second = length-append a i in
+    let third = length-append (a ++ i) s in
+    (omega (arith, second, third), omega (arith, second, third), omega (arith, second, third))

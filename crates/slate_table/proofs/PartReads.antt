@@ -1,0 +1,27 @@
+-- Refusals of a section are those of its part, and of the transformer where the checksum fits.
+use Rattle.std.proofs.Common.{◌≡◌, ℕ, List, Option, Some, Ok, Err, ◌⊎◌, inl, inr, ap}
+use Rattle.slate_types.specs.declared.error.SlateDBError.{SlateDBError}
+use Rattle.slate_types.specs.declared.error.SlateDBError.TheVariants.{BlockTransformError, OutOfMemory}
+use Rattle.slate_types.specs.Outside.{Objects}
+use Rattle.slate_store.specs.Store.{Act}
+use Rattle.slate_block.specs.RowReading.{refusal}
+use Rattle.slate_table.specs.Parts.{Encode, summed}
+use Rattle.slate_table.specs.SectionReading.{IsTransformFault}
+use Rattle.slate_table.specs.Reading.{Reads, stored_in, FailsDecoding, IsRefused}
+
+pub refused : {A B : Type 0} (objects : Option Objects) (before after : Option (List Act)) (path : List ℕ) (start size : ℕ) (decode : Encode) (is : List ℕ → Option SlateDBError) (e : SlateDBError) →
+    A ⊎ B ⊎ Reads objects before after path start size (λ answer. refusal (stored_in answer) ≡ Some e) → A ⊎ B ⊎ Reads objects before after path start size (λ answer. IsRefused decode is answer e)
+refused objects before after path start size decode is e (inl a) = inl a
+refused objects before after path start size decode is e (inr (inl b)) = inr (inl b)
+refused objects before after path start size decode is e (inr (inr r)) = inr (inr (r.0, r.1, inl r.2))
+
+-- where the checksum fits
+pub fails_decoding : {A : Type 0} (before after : ℕ) (bytes stored : List ℕ) (e : SlateDBError) → bytes ≡ summed stored → IsTransformFault before after e → (e ≡ OutOfMemory) ⊎ FailsDecoding before after (Some bytes) e ⊎ A
+fails_decoding before after bytes stored e is (inl memory) = inl memory
+fails_decoding before after bytes stored e is (inr fault) = inr (inl (fault.0, fault.1, (stored, ap (λ (l : List ℕ). Some l) is)))
+
+-- a transformer's count where the call is Ok
+pub still_ok : {T P : Type 0} (value : T) → (Ok value ≡ Err BlockTransformError) ⊎ (Ok value ≡ Err OutOfMemory) ⊎ P → P
+still_ok value (inl failed) = absurd cc
+still_ok value (inr (inl memory)) = absurd cc
+still_ok value (inr (inr same)) = same

@@ -1,0 +1,64 @@
+use Rattle.std.proofs.Common.{◌∙◌, arith}
+use Rattle.std.proofs.lemmas.Result.{err_from_is_err_and}
+use Rattle.slate_table.specs.Paths.{path_of}
+use Rattle.slate_table.specs.InfoReading.{seen_info}
+use Rattle.slate_table.proofs.OpenReads.{last_refused, info_refused, opens, may_size, may_last, may_info}
+use Rattle.slate_table.proofs.opening.open_table.Goals as goal
+
+pub returns-in_err-footer-clause-cause : goal.returns-in_err-footer-clause-cause
+returns-in_err-footer-clause-cause g c =
+    let p = err_from_is_err_and c.from_residual-in_err-footer.result c.from_residual-in_err-footer.ensures.1 in
+    let objects = g.S.Store.objects in
+    let acts = g.S.Store.acts in
+    let faults = g.S.Store.faults in
+    rw (p.1, p.2)
+    (last_refused (objects c.args.store.now) (objects c.object_len.new.store) (acts c.args.store.now) (acts c.object_len.new.store) (acts c.read_footer.new.store) (path_of c.args.root.now c.args.id.0)
+    c.in_ok-len.len c.in_ok-size.size (faults c.args.store.now) (faults c.object_len.new.store) (faults c.read_footer.new.store) c.in_err-footer.field-0.0
+    c.object_len.ensures.objects c.object_len.ensures.later c.in_ok-len.ensures.same c.in_ok-len.ensures.long c.in_ok-size.ensures.measured c.in_err-footer.ensures.cause)
+
+pub returns-in_err-info-clause-cause : goal.returns-in_err-info-clause-cause
+returns-in_err-info-clause-cause g c =
+    let p = err_from_is_err_and c.from_residual-in_err-info.result c.from_residual-in_err-info.ensures.1 in
+    let objects = g.S.Store.objects in
+    let acts = g.S.Store.acts in
+    let faults = g.S.Store.faults in
+    rw (p.1, p.2)
+    (info_refused (objects c.args.store.now) (objects c.object_len.new.store) (objects c.read_footer.new.store) (acts c.args.store.now) (acts c.object_len.new.store) (acts c.read_footer.new.store) (acts c.read_info.new.store)
+    (path_of c.args.root.now c.args.id.0) c.in_ok-len.len c.in_ok-footer.footer.info_offset c.in_ok-footer.footer.version c.in_ok-size.size
+    (faults c.args.store.now) (faults c.read_footer.new.store) (faults c.read_info.new.store) c.in_err-info.field-0.0
+    c.object_len.ensures.objects (c.read_footer.ensures.objects ∙ c.object_len.ensures.objects) (omega (arith, c.object_len.ensures.later, c.read_footer.ensures.later))
+    c.in_ok-len.ensures.same c.in_ok-len.ensures.long c.in_ok-size.ensures.measured c.in_ok-footer.ensures.found c.in_err-info.ensures.cause)
+
+pub returns-clause-found : goal.returns-clause-found
+returns-clause-found g c =
+    let objects = g.S.Store.objects in
+    let acts = g.S.Store.acts in
+    opens (objects c.args.store.now) (objects c.object_len.new.store) (objects c.read_footer.new.store) (acts c.args.store.now) (acts c.object_len.new.store) (acts c.read_footer.new.store) (acts c.read_info.new.store)
+    (path_of c.args.root.now c.args.id.0) c.in_ok-len.len c.in_ok-footer.footer.info_offset c.in_ok-footer.footer.version c.in_ok-size.size (seen_info c.in_ok-info.info)
+    c.object_len.ensures.objects (c.read_footer.ensures.objects ∙ c.object_len.ensures.objects)
+    c.in_ok-len.ensures.same c.in_ok-len.ensures.long c.in_ok-size.ensures.measured c.in_ok-footer.ensures.found c.in_ok-info.ensures.some c.in_ok-info.ensures.found
+
+pub returns-in_err-len-clause-calls : goal.returns-in_err-len-clause-calls
+returns-in_err-len-clause-calls g c =
+    let p = err_from_is_err_and c.from_residual-in_err-len.result c.from_residual-in_err-len.ensures.1 in
+    rw p.1
+    (may_size (g.S.Store.objects c.args.store.now) (g.S.Store.acts c.args.store.now) (g.S.Store.acts c.object_len.new.store) (path_of c.args.root.now c.args.id.0) c.in_ok-size.size c.in_ok-size.ensures.measured)
+
+pub returns-in_err-footer-clause-calls : goal.returns-in_err-footer-clause-calls
+returns-in_err-footer-clause-calls g c =
+    let p = err_from_is_err_and c.from_residual-in_err-footer.result c.from_residual-in_err-footer.ensures.1 in
+    let objects = g.S.Store.objects in
+    let acts = g.S.Store.acts in
+    rw p.1
+    (may_last (objects c.args.store.now) (objects c.object_len.new.store) (acts c.args.store.now) (acts c.object_len.new.store) (acts c.read_footer.new.store) (path_of c.args.root.now c.args.id.0)
+    c.in_ok-len.len c.in_ok-size.size c.object_len.ensures.objects c.in_ok-len.ensures.same c.in_ok-size.ensures.measured c.in_err-footer.ensures.once)
+
+pub returns-in_err-info-clause-calls : goal.returns-in_err-info-clause-calls
+returns-in_err-info-clause-calls g c =
+    let p = err_from_is_err_and c.from_residual-in_err-info.result c.from_residual-in_err-info.ensures.1 in
+    let objects = g.S.Store.objects in
+    let acts = g.S.Store.acts in
+    rw p.1
+    (may_info (objects c.args.store.now) (objects c.object_len.new.store) (objects c.read_footer.new.store) (acts c.args.store.now) (acts c.object_len.new.store) (acts c.read_footer.new.store) (acts c.read_info.new.store)
+    (path_of c.args.root.now c.args.id.0) c.in_ok-len.len c.in_ok-footer.footer.info_offset c.in_ok-footer.footer.version c.in_ok-size.size
+    c.object_len.ensures.objects (c.read_footer.ensures.objects ∙ c.object_len.ensures.objects) c.in_ok-len.ensures.same c.in_ok-size.ensures.measured c.in_ok-footer.ensures.found c.in_err-info.ensures.once)

@@ -1,0 +1,23 @@
+use Rattle.std.proofs.Common.{List, ℕ, Option, inr, subst}
+use Rattle.std.specs.Prelude.{string_bytes}
+use Rattle.slate_table.specs.Paths.{path_of}
+use Rattle.slate_table.specs.Opening.{IsMeasured}
+use Rattle.slate_table.proofs.sst_file.SstFile.metadata.Goals as goal
+
+pub returns-in-None-clause-cause : goal.returns-in-None-clause-cause
+returns-in-None-clause-cause g c =
+    let store = c.args.reader.now.store in
+    let after = c.object_len.new.store in
+    let id = c.args.self.now.handle.id.0 in
+    let measured = subst (λ (root : List ℕ). IsMeasured (g.S.Store.objects store) (g.S.Store.acts store) (g.S.Store.acts after) (path_of root id) c.in_ok-size.size) c.as_str.ensures.value c.in_ok-size.ensures.measured in
+    let none = subst (λ (size : Option ℕ). IsMeasured (g.S.Store.objects store) (g.S.Store.acts store) (g.S.Store.acts after) (path_of (string_bytes c.args.reader.now.root_path) id) size) c.in-None.is measured in
+    inr (none, c.corrupt.ensures)
+
+pub returns-in-None-clause-once : goal.returns-in-None-clause-once
+returns-in-None-clause-once g c =
+    let store = c.args.reader.now.store in
+    let after = c.object_len.new.store in
+    let id = c.args.self.now.handle.id.0 in
+    let measured = subst (λ (root : List ℕ). IsMeasured (g.S.Store.objects store) (g.S.Store.acts store) (g.S.Store.acts after) (path_of root id) c.in_ok-size.size) c.as_str.ensures.value c.in_ok-size.ensures.measured in
+    let none = subst (λ (size : Option ℕ). IsMeasured (g.S.Store.objects store) (g.S.Store.acts store) (g.S.Store.acts after) (path_of (string_bytes c.args.reader.now.root_path) id) size) c.in-None.is measured in
+    inr none

@@ -1,0 +1,122 @@
+use Rattle.std.proofs.Common.{◌∙◌, ℕ, List, ap}
+use Rattle.std.specs.Prelude.{string_bytes}
+use Rattle.std.proofs.lemmas.Result.{err_from_is_err_and}
+use Rattle.slate_types.specs.Faults.{faults_of}
+use Rattle.slate_table.specs.IndexValue.{entries_of}
+use Rattle.slate_table.specs.Paths.{path_of}
+use Rattle.slate_table.specs.SectionReading.{changed_by}
+use Rattle.slate_table.proofs.PartReads.{still_ok}
+use Rattle.slate_table.proofs.FileReads.{reads_rows, index_refused, block_refused, row_refused, may_block, had_block}
+use Rattle.slate_table.proofs.sst_file.SstFile.read_block.Goals as goal
+
+pub returns-in_err-index-clause-cause : goal.returns-in_err-index-clause-cause
+returns-in_err-index-clause-cause g c =
+    let p = err_from_is_err_and c.from_residual.result c.from_residual.ensures.1 in
+    let old = c.args.reader.now in
+    let table = c.args.self.now.handle in
+    rw (p.1, p.2)
+    (index_refused (changed_by g.T.BlockTransformer.decoded old.transformer) (g.S.Store.objects old.store) (g.S.Store.acts old.store) (g.S.Store.acts c.index.new.reader.store)
+    (path_of (string_bytes old.root_path) table.id.0) table c.args.block
+    (faults_of g.T.BlockTransformer.faults old.transformer) (faults_of g.T.BlockTransformer.faults c.index.new.reader.transformer) c.in_err-index.field-0.0 c.in_err-index.ensures.cause)
+
+pub returns-in_err-found-clause-cause : goal.returns-in_err-found-clause-cause
+returns-in_err-found-clause-cause g c =
+    let p = err_from_is_err_and c.from_residual-in_err-found.result c.from_residual-in_err-found.ensures.1 in
+    let old = c.args.reader.now in
+    let middle = c.index.new.reader in
+    let table = c.args.self.now.handle in
+    let objects = g.S.Store.objects in
+    let acts = g.S.Store.acts in
+    let decoded = changed_by g.T.BlockTransformer.decoded in
+    let entries = entries_of c.in_ok-index.index in
+    let there = ap (λ (root : List ℕ). path_of root table.id.0) (c.as_str-root.ensures.value ∙ ap string_bytes c.index.ensures.root) in
+    let faults = g.S.Store.faults in
+    let failed = faults_of g.T.BlockTransformer.faults in
+    rw (p.1, p.2)
+    (block_refused (decoded old.transformer) (decoded middle.transformer) (objects old.store) (objects middle.store) (acts old.store) (acts middle.store) (acts c.read_block.new.store)
+    (path_of (string_bytes old.root_path) table.id.0) (path_of c.as_str-root.result.now table.id.0) table entries c.args.block
+    (faults old.store) (faults middle.store) (faults c.read_block.new.store) (failed old.transformer) (failed middle.transformer) (failed c.read_block.new.transformer) c.in_err-found.field-0.0
+    c.index.ensures.same_decoded c.index.ensures.objects there c.index.ensures.later (still_ok c.in_ok-index.index c.in_ok-index.ensures.still_transformer) c.in_ok-index.ensures.found c.in_ok-test_block.ensures.within c.in_err-found.ensures.cause)
+
+pub returns-in_err-found-clause-twice : goal.returns-in_err-found-clause-twice
+returns-in_err-found-clause-twice g c =
+    let p = err_from_is_err_and c.from_residual-in_err-found.result c.from_residual-in_err-found.ensures.1 in
+    let old = c.args.reader.now in
+    let middle = c.index.new.reader in
+    let table = c.args.self.now.handle in
+    let objects = g.S.Store.objects in
+    let acts = g.S.Store.acts in
+    let decoded = changed_by g.T.BlockTransformer.decoded in
+    let entries = entries_of c.in_ok-index.index in
+    let there = ap (λ (root : List ℕ). path_of root table.id.0) (c.as_str-root.ensures.value ∙ ap string_bytes c.index.ensures.root) in
+    rw p.1
+    (may_block (decoded old.transformer) (objects old.store) (objects middle.store) (acts old.store) (acts middle.store) (acts c.read_block.new.store)
+    (path_of (string_bytes old.root_path) table.id.0) (path_of c.as_str-root.result.now table.id.0) table entries c.args.block
+    c.index.ensures.objects there c.in_ok-index.ensures.found c.in_ok-test_block.ensures.within c.in_err-found.ensures.once)
+
+pub returns-in_err-found-clause-same_encoded : goal.returns-in_err-found-clause-same_encoded
+returns-in_err-found-clause-same_encoded g c = c.read_block.ensures.same_encoded ∙ c.index.ensures.same_encoded
+
+pub returns-in_err-found-clause-same_decoded : goal.returns-in_err-found-clause-same_decoded
+returns-in_err-found-clause-same_decoded g c = c.read_block.ensures.same_decoded ∙ c.index.ensures.same_decoded
+
+pub returns-in_err-rows-clause-cause : goal.returns-in_err-rows-clause-cause
+returns-in_err-rows-clause-cause g c =
+    let p = err_from_is_err_and c.from_residual-in_err-rows.result c.from_residual-in_err-rows.ensures.1 in
+    let old = c.args.reader.now in
+    let middle = c.index.new.reader in
+    let table = c.args.self.now.handle in
+    let objects = g.S.Store.objects in
+    let acts = g.S.Store.acts in
+    let decoded = changed_by g.T.BlockTransformer.decoded in
+    let entries = entries_of c.in_ok-index.index in
+    let there = ap (λ (root : List ℕ). path_of root table.id.0) (c.as_str-root.ensures.value ∙ ap string_bytes c.index.ensures.root) in
+    let faults = g.S.Store.faults in
+    let failed = faults_of g.T.BlockTransformer.faults in
+    rw (p.1, p.2)
+    (row_refused (decoded old.transformer) (decoded middle.transformer) (objects old.store) (objects middle.store) (acts old.store) (acts middle.store) (acts c.read_block.new.store)
+    (path_of (string_bytes old.root_path) table.id.0) (path_of c.as_str-root.result.now table.id.0) table entries c.args.block c.in_ok-found.found
+    (faults old.store) (faults c.read_block.new.store) (failed old.transformer) (failed c.read_block.new.transformer) c.in_err-rows.field-0.0
+    c.index.ensures.same_decoded c.index.ensures.objects there c.in_ok-index.ensures.found c.in_ok-test_block.ensures.within c.rows_of_block.ensures.bytes c.in_ok-found.ensures.found c.in_err-rows.ensures.cause)
+
+pub returns-in_err-rows-clause-twice : goal.returns-in_err-rows-clause-twice
+returns-in_err-rows-clause-twice g c =
+    let p = err_from_is_err_and c.from_residual-in_err-rows.result c.from_residual-in_err-rows.ensures.1 in
+    let old = c.args.reader.now in
+    let middle = c.index.new.reader in
+    let table = c.args.self.now.handle in
+    let objects = g.S.Store.objects in
+    let acts = g.S.Store.acts in
+    let decoded = changed_by g.T.BlockTransformer.decoded in
+    let entries = entries_of c.in_ok-index.index in
+    let there = ap (λ (root : List ℕ). path_of root table.id.0) (c.as_str-root.ensures.value ∙ ap string_bytes c.index.ensures.root) in
+    rw p.1
+    (had_block (decoded old.transformer) (decoded middle.transformer) (objects old.store) (objects middle.store) (acts old.store) (acts middle.store) (acts c.read_block.new.store)
+    (path_of (string_bytes old.root_path) table.id.0) (path_of c.as_str-root.result.now table.id.0) table entries c.args.block c.in_ok-found.found
+    c.index.ensures.objects there c.in_ok-index.ensures.found c.in_ok-test_block.ensures.within c.in_ok-found.ensures.found)
+
+pub returns-in_err-rows-clause-same_encoded : goal.returns-in_err-rows-clause-same_encoded
+returns-in_err-rows-clause-same_encoded g c = c.read_block.ensures.same_encoded ∙ c.index.ensures.same_encoded
+
+pub returns-in_err-rows-clause-same_decoded : goal.returns-in_err-rows-clause-same_decoded
+returns-in_err-rows-clause-same_decoded g c = c.read_block.ensures.same_decoded ∙ c.index.ensures.same_decoded
+
+pub returns-clause-found : goal.returns-clause-found
+returns-clause-found g c =
+    let old = c.args.reader.now in
+    let middle = c.index.new.reader in
+    let table = c.args.self.now.handle in
+    let objects = g.S.Store.objects in
+    let acts = g.S.Store.acts in
+    let decoded = changed_by g.T.BlockTransformer.decoded in
+    let entries = entries_of c.in_ok-index.index in
+    let there = ap (λ (root : List ℕ). path_of root table.id.0) (c.as_str-root.ensures.value ∙ ap string_bytes c.index.ensures.root) in
+    reads_rows (decoded old.transformer) (decoded middle.transformer) (objects old.store) (objects middle.store) (acts old.store) (acts middle.store) (acts c.read_block.new.store)
+    (path_of (string_bytes old.root_path) table.id.0) (path_of c.as_str-root.result.now table.id.0) table entries c.args.block c.in_ok-found.found c.in_ok-rows.rows.items
+    c.index.ensures.same_decoded c.index.ensures.objects there c.in_ok-index.ensures.found c.in_ok-test_block.ensures.within c.rows_of_block.ensures.bytes c.in_ok-found.ensures.found c.in_ok-rows.ensures.rows
+
+pub returns-clause-same_encoded : goal.returns-clause-same_encoded
+returns-clause-same_encoded g c = c.read_block.ensures.same_encoded ∙ c.index.ensures.same_encoded
+
+pub returns-clause-same_decoded : goal.returns-clause-same_decoded
+returns-clause-same_decoded g c = c.read_block.ensures.same_decoded ∙ c.index.ensures.same_decoded

@@ -1,0 +1,46 @@
+use Rattle.std.proofs.Common.{◌∙◌, arith}
+use Rattle.std.proofs.lemmas.Result.{err_from_is_err_and}
+use Rattle.slate_types.specs.Faults.{faults_of}
+use Rattle.slate_table.specs.IndexValue.{entries_of}
+use Rattle.slate_table.specs.SectionReading.{changed_by}
+use Rattle.slate_table.specs.Reading.{block_answer}
+use Rattle.slate_table.proofs.PartReads.{still_ok}
+use Rattle.slate_table.proofs.BlockReads.{one_more, one_longer, stops}
+use Rattle.slate_table.proofs.table_store.each_block.Goals as goal
+
+pub returns-in_err-block-clause-cause : goal.returns-in_err-block-clause-cause
+returns-in_err-block-clause-cause g c =
+    let p = err_from_is_err_and c.from_residual-in_err-block.result c.from_residual-in_err-block.ensures.1 in
+    let decoded = changed_by g.T.BlockTransformer.decoded in
+    let faults = faults_of g.T.BlockTransformer.faults in
+    rw (p.1, p.2)
+    (stops (decoded c.args.transformer.now) (decoded c.loop-at.transformer) (block_answer c.args.end (entries_of c.args.index.now) c.args.blocks.start c.args.answer.now) c.in_ok-section.section
+    c.args.blocks.start c.loop-at.at c.args.blocks.end c.loop-at.found.items (faults c.args.transformer.now) (faults c.loop-at.transformer) (faults c.block_in.new.transformer) c.in_err-block.field-0.0
+    c.loop-at.invariant.same_decoded c.loop-at.invariant.still c.in_ok-section.ensures.found c.loop-at.invariant.from c.loop-at-test.true c.loop-at.invariant.count c.loop-at.invariant.read c.in_err-block.ensures.cause)
+
+pub returns-in_err-block-clause-same_encoded : goal.returns-in_err-block-clause-same_encoded
+returns-in_err-block-clause-same_encoded g c = c.block_in.ensures.same_encoded ∙ c.loop-at.invariant.same_encoded
+
+pub returns-in_err-block-clause-same_decoded : goal.returns-in_err-block-clause-same_decoded
+returns-in_err-block-clause-same_decoded g c = c.block_in.ensures.same_decoded ∙ c.loop-at.invariant.same_decoded
+
+pub returns-in_err-push-clause-same_encoded : goal.returns-in_err-push-clause-same_encoded
+returns-in_err-push-clause-same_encoded g c = c.block_in.ensures.same_encoded ∙ c.loop-at.invariant.same_encoded
+
+pub returns-in_err-push-clause-same_decoded : goal.returns-in_err-push-clause-same_decoded
+returns-in_err-push-clause-same_decoded g c = c.block_in.ensures.same_decoded ∙ c.loop-at.invariant.same_decoded
+
+pub loop-at-preserved : goal.loop-at-preserved
+loop-at-preserved g c =
+    let decoded = changed_by g.T.BlockTransformer.decoded in
+    record {
+      from = omega (arith, c.loop-at.invariant.from);
+      count = rw c.in_ok-push.ensures.items (one_longer c.loop-at.found.items c.in_ok-block.block c.args.blocks.start c.loop-at.at c.loop-at.invariant.from c.loop-at.invariant.count);
+      read = rw c.in_ok-push.ensures.items
+          (one_more (decoded c.args.transformer.now) (decoded c.loop-at.transformer) (block_answer c.args.end (entries_of c.args.index.now) c.args.blocks.start c.args.answer.now) c.in_ok-section.section
+          c.args.blocks.start c.loop-at.at c.loop-at.found.items c.in_ok-block.block
+          c.loop-at.invariant.same_decoded c.in_ok-section.ensures.found c.loop-at.invariant.from c.loop-at.invariant.count c.loop-at.invariant.read c.in_ok-block.ensures.found);
+      same_encoded = c.block_in.ensures.same_encoded ∙ c.loop-at.invariant.same_encoded;
+      same_decoded = c.block_in.ensures.same_decoded ∙ c.loop-at.invariant.same_decoded;
+      still = still_ok c.in_ok-block.block c.in_ok-block.ensures.still ∙ c.loop-at.invariant.still;
+    }

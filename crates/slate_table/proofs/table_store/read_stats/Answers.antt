@@ -1,0 +1,15 @@
+use Rattle.std.proofs.lemmas.Result.{err_from_is_err_and}
+use Rattle.slate_block.specs.RowReading.{refusal}
+use Rattle.slate_table.specs.Paths.{path_of}
+use Rattle.slate_table.specs.SectionReading.{changed_by}
+use Rattle.slate_table.specs.StatsReading.{stats_in}
+use Rattle.slate_table.proofs.PartReads.{refused}
+use Rattle.slate_table.proofs.table_store.read_stats.Goals as goal
+
+pub returns-in_err-part-clause-cause : goal.returns-in_err-part-clause-cause
+returns-in_err-part-clause-cause g c =
+    let p = err_from_is_err_and c.from_residual.result c.from_residual.ensures.1 in
+    let info = c.args.table.now.info in
+    rw (p.1, p.2)
+    (refused (g.S.Store.objects c.args.store.now) (g.S.Store.acts c.args.store.now) (g.S.Store.acts c.read_part.new.store) (path_of c.args.root.now c.args.table.now.id.0) info.stats_offset info.stats_len
+    (changed_by g.T.BlockTransformer.decoded c.args.transformer.now) (λ part. refusal (stats_in part)) c.in_err-part.field-0.0 c.in_err-part.ensures.cause)

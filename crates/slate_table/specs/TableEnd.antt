@@ -1,0 +1,77 @@
+-- What stands behind the blocks of a table that is built.
+--     counted_bytes rows keys values blocks      the bytes of the statistics, from the rows, the sums of lengths, and the blocks' counts
+--     placed_info rows index stats end      the info of a table whose index and statistics begin there and end there
+--     part_of_info version i      the bytes of an info
+--     HasInfo bytes version i      the last bytes of the table lead to that info, whose sections lie before it
+--     parts_bytes encode p      the table, from what is kept once the last block was ended
+--     IsReady p      what is kept fits the fields of an index, of statistics and of an info
+--     IsFinished encode p bytes i      the bytes are the table of what was kept, once the last block was ended, with that info
+--     EncodedTable      what a built table is seen as: its bytes, its info and its version
+use Rattle.std.specs.Prelude.{◌≡◌, ℕ, ◌-◌, ◌^◌, ◌<◌, List, [], ◌++◌, length, map, flat_map}
+use Rattle.std.specs.List.{AllByRecursion}
+use Rattle.slate_types.specs.declared.types.RowEntry.{RowEntry}
+use Rattle.slate_block.specs.declared.block.BlockStats.{BlockStats}
+use Rattle.slate_block.specs.RowSpelling.{be16, be32, be64}
+use Rattle.slate_table.specs.declared.table_parts.TableParts.{TableParts}
+use Rattle.slate_table.specs.declared.info.SsTableInfo.{SsTableInfo}
+use Rattle.slate_table.specs.Parts.{Encode, section, summed, counts, index_bytes, info_bytes}
+use Rattle.slate_table.specs.Table.{some_first, some_last, sections_then_info}
+use Rattle.slate_table.specs.Decoded.{Info, IsInfo, FitsShort, SectionsLieBefore, counts_bytes}
+use Rattle.slate_table.specs.InfoReading.{section_place, seen_info}
+use Rattle.slate_table.specs.SectionReading.{footer_bytes}
+use Rattle.slate_table.specs.StatsReading.{counts_of}
+use Rattle.slate_table.specs.TableParts.{version_of, IsEnded}
+
+abbrev pub counted_bytes : List RowEntry → ℕ → ℕ → List BlockStats → List ℕ
+counted_bytes rows keys values blocks = counts be64 rows ++ be64 keys ++ be64 values ++ be32 (length (map counts_of blocks)) ++ flat_map (counts_bytes be16) (map counts_of blocks)
+
+-- with no filters
+abbrev pub placed_info : List RowEntry → ℕ → ℕ → ℕ → Info
+placed_info rows index stats end = record {
+  first = some_first rows;
+  last = some_last rows;
+  index = section_place index (stats - index);
+  filters = section_place index 0;
+  stats = section_place stats (end - stats);
+}
+
+abbrev pub part_of_info : ℕ → Info → List ℕ
+part_of_info version i = info_bytes version i.first i.last i.index i.filters i.stats
+
+pub record HasInfo (bytes : List ℕ) (version : ℕ) (i : Info) : Type 0 where
+  pub before : List ℕ
+  pub part : List ℕ
+  pub is : bytes ≡ before ++ (summed part ++ footer_bytes (length before) version)
+  pub spelled : IsInfo version part i
+  pub lies : SectionsLieBefore (length before) i
+
+abbrev pub parts_index : TableParts → List ℕ
+parts_index p = index_bytes p.offsets.items p.separators.items
+
+abbrev pub parts_stats : TableParts → List ℕ
+parts_stats p = counted_bytes p.rows.items p.raw_key_size p.raw_val_size p.block_stats.items
+
+abbrev pub parts_bytes : Encode → TableParts → List ℕ
+parts_bytes encode p = sections_then_info (version_of p.format) p.rows.items p.bytes.items [] (section encode (parts_index p)) (section encode (parts_stats p))
+
+pub record IsReady (p : TableParts) : Type 0 where
+  pub few : length p.offsets.items < 2 ^ 32
+  pub paired : length p.separators.items ≡ length p.offsets.items
+  pub counted : length p.block_stats.items ≡ length p.offsets.items
+  pub short : AllByRecursion (λ k. length k < 2 ^ 16) p.separators.items
+  pub first : FitsShort (some_first p.rows.items)
+  pub last : FitsShort (some_last p.rows.items)
+
+pub record IsFinished (encode : Encode) (p : TableParts) (bytes : List ℕ) (i : SsTableInfo) : Type 0 where
+  pub ended : TableParts
+  pub end : IsEnded encode p ended
+  pub is : bytes ≡ parts_bytes encode ended
+  pub short : length bytes < 2 ^ 64
+  pub keys : p.raw_key_size < 2 ^ 64
+  pub values : p.raw_val_size < 2 ^ 64
+  pub info : HasInfo bytes (version_of p.format) (seen_info i)
+
+pub record EncodedTable : Type 0 where
+  pub bytes : List ℕ
+  pub info : SsTableInfo
+  pub version : ℕ

@@ -1,0 +1,133 @@
+//! What stands behind the blocks of a table.
+ghost use Rattle.std.specs.Prelude.{◌≡◌, ◌≤◌, ◌<◌, ◌+◌, ◌^◌, ◌++◌, ◌⊎◌, length, [], Err, OnOk, IfOk, IfErr, IsOkUnless};
+ghost use Rattle.slate_types.specs.Faults.{faults_of};
+ghost use Rattle.slate_table.specs.Parts.{section, summed};
+ghost use Rattle.slate_table.specs.Table.{some_first, some_last, sections_then_info};
+ghost use Rattle.slate_table.specs.Decoded.{FitsShort, SectionsLieBefore};
+ghost use Rattle.slate_table.specs.InfoReading.{seen_info};
+ghost use Rattle.slate_table.specs.SectionReading.{changed_by, footer_bytes, IsTransformFault};
+ghost use Rattle.slate_table.specs.TableEnd.{placed_info, part_of_info, HasInfo};
+
+use crate::footer::Footer;
+use crate::info::SsTableInfo;
+use crate::section::{append_summed, seal_section};
+use bytes::Bytes;
+use slate_types::{BlockTransformer, RowEntry, SlateDBError};
+use std::alloc::Global;
+
+/// Appends the sections of the index and of the statistics, the info, and the last bytes of a table of these rows.
+pub fn append_end<T: BlockTransformer>(
+    alloc: Global,
+    out: &mut Vec<u8>,
+    version: u16,
+    rows: &[RowEntry],
+    index: Bytes,
+    stats: Bytes,
+    transformer: &mut Option<T>,
+) -> Result<SsTableInfo, SlateDBError>
+    requires first { FitsShort (some_first rows.now) }
+    requires last { FitsShort (some_last rows.now) }
+    ensures appended { OnOk result (out.new.items ≡ sections_then_info version rows.now out.old.items [] (section (changed_by T.encoded transformer.old) index) (section (changed_by T.encoded transformer.old) stats)) }
+    ensures info { IfOk result (λ info. HasInfo out.new.items version (seen_info info)) }
+    ensures same_encoded { changed_by T.encoded transformer.new ≡ changed_by T.encoded transformer.old }
+    ensures same_decoded { changed_by T.decoded transformer.new ≡ changed_by T.decoded transformer.old }
+    ensures later { faults_of T.faults transformer.old ≤ faults_of T.faults transformer.new }
+    ensures still { (result ≡ Err SlateDBError.BlockTransformError) ⊎ (result ≡ Err SlateDBError.OutOfMemory) ⊎ (faults_of T.faults transformer.new ≡ faults_of T.faults transformer.old) }
+    ensures cause { IfErr result (λ e. IsTransformFault (faults_of T.faults transformer.old) (faults_of T.faults transformer.new) e) }
+{
+    let index_offset = out.len() as u64;
+    let stats_offset = append_sections(alloc, out, index, stats, transformer)?;
+    let info = placed_info(rows, index_offset, stats_offset, out.len() as u64)?;
+    append_info(alloc, out, version, &info)?;
+    Ok(info)
+}
+
+/// Appends the sections of the index and of the statistics, and answers where the second begins.
+fn append_sections<T: BlockTransformer>(
+    alloc: Global,
+    out: &mut Vec<u8>,
+    index: Bytes,
+    stats: Bytes,
+    transformer: &mut Option<T>,
+) -> Result<u64, SlateDBError>
+    ensures appended { OnOk result (out.new.items ≡ (out.old.items ++ section (changed_by T.encoded transformer.old) index) ++ section (changed_by T.encoded transformer.old) stats) }
+    ensures place { IfOk result (λ at. at ≡ length (out.old.items ++ section (changed_by T.encoded transformer.old) index)) }
+    ensures same_encoded { changed_by T.encoded transformer.new ≡ changed_by T.encoded transformer.old }
+    ensures same_decoded { changed_by T.decoded transformer.new ≡ changed_by T.decoded transformer.old }
+    ensures later { faults_of T.faults transformer.old ≤ faults_of T.faults transformer.new }
+    ensures still { (result ≡ Err SlateDBError.BlockTransformError) ⊎ (result ≡ Err SlateDBError.OutOfMemory) ⊎ (faults_of T.faults transformer.new ≡ faults_of T.faults transformer.old) }
+    ensures cause { IfErr result (λ e. IsTransformFault (faults_of T.faults transformer.old) (faults_of T.faults transformer.new) e) }
+{
+    seal_section(alloc, out, index, transformer)?;
+    let stats_offset = out.len() as u64;
+    seal_section(alloc, out, stats, transformer)?;
+    Ok(stats_offset)
+}
+
+/// The info of a table of these rows, whose index and statistics begin there and end at `end`.
+fn placed_info(
+    rows: &[RowEntry],
+    index_offset: u64,
+    stats_offset: u64,
+    end: u64,
+) -> Result<SsTableInfo, SlateDBError>
+    requires index { index_offset ≤ stats_offset }
+    requires stats { stats_offset ≤ end }
+    ensures value { IfOk result (λ info. seen_info info ≡ placed_info rows.now index_offset stats_offset end) }
+    ensures cause { IsOkUnless result SlateDBError.OutOfMemory }
+{
+    Ok(SsTableInfo {
+        first_entry: first_key(rows)?,
+        last_entry: last_key(rows)?,
+        index_offset,
+        index_len: stats_offset - index_offset,
+        filter_offset: index_offset,
+        filter_len: 0,
+        stats_offset,
+        stats_len: end - stats_offset,
+    })
+}
+
+/// Appends the info and the last bytes.
+fn append_info(
+    alloc: Global,
+    out: &mut Vec<u8>,
+    version: u16,
+    info: &SsTableInfo,
+) -> Result<(), SlateDBError>
+    requires first { FitsShort info.now.first_entry }
+    requires last { FitsShort info.now.last_entry }
+    ensures appended { OnOk result (out.new.items ≡ out.old.items ++ (summed (part_of_info version (seen_info info.now)) ++ footer_bytes (length out.old.items) version)) }
+    ensures info { OnOk result (SectionsLieBefore (length out.old.items) (seen_info info.now) → HasInfo out.new.items version (seen_info info.now)) }
+    ensures cause { IsOkUnless result SlateDBError.OutOfMemory }
+{
+    let info_offset = out.len() as u64;
+    let part = info.encode(alloc, version)?;
+    append_summed(out, part.as_slice())?;
+    Footer {
+        info_offset,
+        version,
+    }
+    .encode(out)?;
+    Ok(())
+}
+
+fn first_key(rows: &[RowEntry]) -> Result<Option<Bytes>, SlateDBError>
+    ensures value { IfOk result (λ key. key ≡ some_first rows.now) }
+    ensures cause { IsOkUnless result SlateDBError.OutOfMemory }
+{
+    match rows.first() {
+        Some(row) => Ok(Some(row.key.clone()?)),
+        None => Ok(None),
+    }
+}
+
+fn last_key(rows: &[RowEntry]) -> Result<Option<Bytes>, SlateDBError>
+    ensures value { IfOk result (λ key. key ≡ some_last rows.now) }
+    ensures cause { IsOkUnless result SlateDBError.OutOfMemory }
+{
+    match rows.last() {
+        Some(row) => Ok(Some(row.key.clone()?)),
+        None => Ok(None),
+    }
+}

@@ -1,0 +1,404 @@
+//! The tables of a store, read part by part.
+ghost use Rattle.std.specs.Prelude.{◌≡◌, ◌≤◌, ◌<◌, ◌+◌, ◌-◌, ◌⊎◌, ℕ, List, Some, Err, Ok, length, OnOk, OnErr, IfOk, IfErr, IfSome, IsOkUnless};
+ghost use Rattle.slate_types.specs.Faults.{faults_of};
+ghost use Rattle.slate_types.specs.Outside.{Objects};
+ghost use Rattle.slate_store.specs.Store.{Act, AddsAct, RefusesPut, TakesPut, part_of};
+ghost use Rattle.slate_block.specs.RowReading.{refusal};
+ghost use Rattle.slate_table.specs.Paths.{path_of};
+ghost use Rattle.slate_table.specs.SectionReading.{changed_by};
+ghost use Rattle.slate_table.specs.IndexValue.{entries_of};
+ghost use Rattle.slate_table.specs.StatsReading.{stats_of};
+ghost use Rattle.slate_table.specs.Reading.{
+  IsRead,
+  Reads,
+  IsStoreFault,
+  whole_answer,
+  stored_in,
+  IsPart,
+  FailsDecoding,
+  IsIndexRead,
+  RefusesIndex,
+  IsStatsRead,
+  RefusesStats,
+  IsBlockRead,
+  RefusesBlock,
+  block_start,
+  blocks_size,
+  block_answer,
+  AreBlocksRead,
+  RefusesBlocks,
+  FailsBlocks,
+};
+
+use crate::encoded_table::EncodedSsTable;
+use crate::info::SsTableHandle;
+use crate::paths::table_path;
+use crate::section::open_section;
+use crate::sst_index::SstIndex;
+use crate::sst_stats::SstStats;
+use bytes::Bytes;
+use slate_block::Block;
+use slate_block::fields::corrupt;
+use slate_store::Store;
+use slate_types::{BlockTransformer, SlateDBError, Ulid};
+use std::alloc::Global;
+use std::ops::Range;
+
+/// The tables of a store, each an object at its path below a root.
+pub struct TableStore;
+
+impl TableStore {
+    /// Puts a table at its path, by one put, and answers its handle. `StoreFault`, only where the store's count of faults rose,
+    /// or `OutOfMemory`; then the store is as it was, or has the table.
+    pub fn put_table<S: Store>(
+        alloc: Global,
+        store: &mut S,
+        root: &str,
+        id: Ulid,
+        table: &EncodedSsTable,
+    ) -> Result<SsTableHandle, SlateDBError>
+        ensures id { IfOk result (λ handle. handle.id ≡ id) }
+        ensures info { IfOk result (λ handle. handle.info ≡ table.now.info) }
+        ensures version { IfOk result (λ handle. handle.format_version ≡ table.now.version) }
+        ensures taken { (os : Objects) → S.objects store.old ≡ Some os → OnOk result (TakesPut os (path_of root.now id.0) table.now.bytes (S.objects store.new)) }
+        ensures refused { (os : Objects) → S.objects store.old ≡ Some os → OnErr result (RefusesPut os (path_of root.now id.0) table.now.bytes (S.objects store.new)) }
+        ensures act { OnOk result (AddsAct (S.acts store.old) (Act.put (path_of root.now id.0) table.now.bytes) (S.acts store.new)) }
+        ensures refused_act { OnErr result ((S.acts store.new ≡ S.acts store.old) ⊎ AddsAct (S.acts store.old) (Act.put (path_of root.now id.0) table.now.bytes) (S.acts store.new)) }
+        ensures cause { IfErr result (λ e. IsStoreFault (S.faults store.old) (S.faults store.new) e) }
+        ensures later { S.faults store.old ≤ S.faults store.new }
+        ensures still { (result ≡ Err SlateDBError.StoreFault) ⊎ (S.faults store.new ≡ S.faults store.old) }
+    {
+        let info = table.info().clone()?;
+        let path = table_path(alloc, root, id)?;
+        store.put(alloc, path.as_str(), table.as_slice())?;
+        Ok(SsTableHandle {
+            id,
+            info,
+            format_version: table.version(),
+        })
+    }
+
+    /// The index of a table, by one read of its section. `StoreFault`, only where the store's count of faults rose;
+    /// `CorruptTable` at 0 where the section isn't there in full or is shorter than a checksum, then `ChecksumMismatch`, then
+    /// `BlockTransformError`, only where the transformer's count rose, then `CorruptTable` where the part is no index of
+    /// blocks that end where the filters begin; or `OutOfMemory`.
+    pub fn read_index<S: Store, T: BlockTransformer>(
+        alloc: Global,
+        store: &mut S,
+        root: &str,
+        table: &SsTableHandle,
+        transformer: &mut Option<T>,
+    ) -> Result<SstIndex, SlateDBError>
+        ensures found { IfOk result (λ index. Reads (S.objects store.old) (S.acts store.old) (S.acts store.new) (path_of root.now table.now.id.0) table.now.info.index_offset table.now.info.index_len (λ answer. IsIndexRead (changed_by T.decoded transformer.old) table.now.info.filter_offset answer (entries_of index))) }
+        ensures cause { IfErr result (λ e. IsStoreFault (S.faults store.old) (S.faults store.new) e ⊎ Reads (S.objects store.old) (S.acts store.old) (S.acts store.new) (path_of root.now table.now.id.0) table.now.info.index_offset table.now.info.index_len (λ answer. FailsDecoding (faults_of T.faults transformer.old) (faults_of T.faults transformer.new) answer e) ⊎ Reads (S.objects store.old) (S.acts store.old) (S.acts store.new) (path_of root.now table.now.id.0) table.now.info.index_offset table.now.info.index_len (λ answer. RefusesIndex (changed_by T.decoded transformer.old) table.now.info.filter_offset answer e)) }
+        ensures once { OnErr result ((S.acts store.new ≡ S.acts store.old) ⊎ Reads (S.objects store.old) (S.acts store.old) (S.acts store.new) (path_of root.now table.now.id.0) table.now.info.index_offset table.now.info.index_len (λ _. Unit {0})) }
+        ensures objects { S.objects store.new ≡ S.objects store.old }
+        ensures same_encoded { changed_by T.encoded transformer.new ≡ changed_by T.encoded transformer.old }
+        ensures same_decoded { changed_by T.decoded transformer.new ≡ changed_by T.decoded transformer.old }
+        ensures later { S.faults store.old ≤ S.faults store.new }
+        ensures still { (result ≡ Err SlateDBError.StoreFault) ⊎ (S.faults store.new ≡ S.faults store.old) }
+        ensures later_transformer { faults_of T.faults transformer.old ≤ faults_of T.faults transformer.new }
+        ensures still_transformer { (result ≡ Err SlateDBError.BlockTransformError) ⊎ (result ≡ Err SlateDBError.OutOfMemory) ⊎ (faults_of T.faults transformer.new ≡ faults_of T.faults transformer.old) }
+    {
+        let place = (table.info.index_offset, table.info.index_len);
+        let part = read_part(alloc, store, root, table.id, place, transformer)?;
+        let index = SstIndex::decode(alloc, part, table.info.filter_offset)?;
+        Ok(index)
+    }
+
+    /// Some neighbouring blocks of a table, by one read of their sections, which the index names. `StoreFault`, only where the
+    /// store's count of faults rose; then, of the first block that isn't read, `CorruptTable` at 0 where its section isn't
+    /// there in full or is shorter than a checksum, `ChecksumMismatch`, `BlockTransformError`, only where the transformer's count
+    /// rose, or `CorruptTable` where the part is no block; or `OutOfMemory`.
+    pub fn read_blocks<S: Store, T: BlockTransformer>(
+        alloc: Global,
+        store: &mut S,
+        root: &str,
+        table: &SsTableHandle,
+        index: &SstIndex,
+        blocks: Range<usize>,
+        transformer: &mut Option<T>,
+    ) -> Result<Vec<Block>, SlateDBError>
+        requires order { blocks.start ≤ blocks.end }
+        requires within { blocks.end ≤ length (entries_of index.now) }
+        ensures found { IfOk result (λ found. Reads (S.objects store.old) (S.acts store.old) (S.acts store.new) (path_of root.now table.now.id.0) (block_start table.now.info.filter_offset (entries_of index.now) blocks.start) (blocks_size table.now.info.filter_offset (entries_of index.now) blocks.start blocks.end) (λ answer. AreBlocksRead (changed_by T.decoded transformer.old) (block_answer table.now.info.filter_offset (entries_of index.now) blocks.start answer) blocks.start found.items)) }
+        ensures count { IfOk result (λ found. length found.items ≡ blocks.end - blocks.start) }
+        ensures cause { IfErr result (λ e. IsStoreFault (S.faults store.old) (S.faults store.new) e ⊎ Reads (S.objects store.old) (S.acts store.old) (S.acts store.new) (path_of root.now table.now.id.0) (block_start table.now.info.filter_offset (entries_of index.now) blocks.start) (blocks_size table.now.info.filter_offset (entries_of index.now) blocks.start blocks.end) (λ answer. FailsBlocks (changed_by T.decoded transformer.old) (block_answer table.now.info.filter_offset (entries_of index.now) blocks.start answer) blocks.start blocks.end (faults_of T.faults transformer.old) (faults_of T.faults transformer.new) e) ⊎ Reads (S.objects store.old) (S.acts store.old) (S.acts store.new) (path_of root.now table.now.id.0) (block_start table.now.info.filter_offset (entries_of index.now) blocks.start) (blocks_size table.now.info.filter_offset (entries_of index.now) blocks.start blocks.end) (λ answer. RefusesBlocks (changed_by T.decoded transformer.old) (block_answer table.now.info.filter_offset (entries_of index.now) blocks.start answer) blocks.start blocks.end e)) }
+        ensures once { OnErr result ((S.acts store.new ≡ S.acts store.old) ⊎ Reads (S.objects store.old) (S.acts store.old) (S.acts store.new) (path_of root.now table.now.id.0) (block_start table.now.info.filter_offset (entries_of index.now) blocks.start) (blocks_size table.now.info.filter_offset (entries_of index.now) blocks.start blocks.end) (λ _. Unit {0})) }
+        ensures objects { S.objects store.new ≡ S.objects store.old }
+        ensures same_encoded { changed_by T.encoded transformer.new ≡ changed_by T.encoded transformer.old }
+        ensures same_decoded { changed_by T.decoded transformer.new ≡ changed_by T.decoded transformer.old }
+        ensures later { S.faults store.old ≤ S.faults store.new }
+        ensures still { (result ≡ Err SlateDBError.StoreFault) ⊎ (S.faults store.new ≡ S.faults store.old) }
+        ensures later_transformer { faults_of T.faults transformer.old ≤ faults_of T.faults transformer.new }
+        ensures still_transformer { (result ≡ Err SlateDBError.BlockTransformError) ⊎ (result ≡ Err SlateDBError.OutOfMemory) ⊎ (faults_of T.faults transformer.new ≡ faults_of T.faults transformer.old) }
+    {
+        let end = table.info.filter_offset;
+        let start = block_start(index, end, blocks.start);
+        let size = block_start(index, end, blocks.end).saturating_sub(start);
+        let answer = read(alloc, store, root, table.id, (start, size))?;
+        let found = blocks_of(alloc, answer, index, end, blocks, transformer)?;
+        Ok(found)
+    }
+}
+
+/// What a store answers to one read of a table, and `None` where its bytes have another length than was asked for.
+pub(crate) fn read<S: Store>(
+    alloc: Global,
+    store: &mut S,
+    root: &str,
+    id: Ulid,
+    place: (u64, u64),
+) -> Result<Option<Bytes>, SlateDBError>
+    ensures read { IfOk result (λ answer. IsRead (S.objects store.old) (S.acts store.old) (S.acts store.new) (path_of root.now id.0) place.0 place.1 answer) }
+    ensures whole { IfOk result (λ answer. IfSome answer (λ bytes. length bytes ≡ place.1)) }
+    ensures cause { IfErr result (λ e. IsStoreFault (S.faults store.old) (S.faults store.new) e) }
+    ensures none { OnErr result (S.acts store.new ≡ S.acts store.old) }
+    ensures objects { S.objects store.new ≡ S.objects store.old }
+    ensures later { S.faults store.old ≤ S.faults store.new }
+    ensures still { (result ≡ Err SlateDBError.StoreFault) ⊎ (S.faults store.new ≡ S.faults store.old) }
+{
+    let path = table_path(alloc, root, id)?;
+    let answer = store.read_range(alloc, path.as_str(), place.0, place.1)?;
+    Ok(whole_answer(answer, place.1))
+}
+
+/// Bytes of this length, and `None` for those of another one.
+fn whole_answer(answer: Option<Bytes>, size: u64) -> Option<Bytes>
+    ensures value { result ≡ whole_answer size answer }
+    ensures whole { IfSome result (λ bytes. length bytes ≡ size) }
+{
+    match answer {
+        None => None,
+        Some(bytes) => {
+            if bytes.len() as u64 != size {
+                return None;
+            }
+            Some(bytes)
+        }
+    }
+}
+
+/// The part of a section that was read.
+pub(crate) fn opened<T: BlockTransformer>(
+    alloc: Global,
+    answer: Option<Bytes>,
+    transformer: &mut Option<T>,
+) -> Result<Bytes, SlateDBError>
+    ensures found { IfOk result (λ part. IsPart (changed_by T.decoded transformer.old) answer part) }
+    ensures cause { IfErr result (λ e. (e ≡ SlateDBError.OutOfMemory) ⊎ FailsDecoding (faults_of T.faults transformer.old) (faults_of T.faults transformer.new) answer e ⊎ (refusal (stored_in answer) ≡ Some e)) }
+    ensures same_encoded { changed_by T.encoded transformer.new ≡ changed_by T.encoded transformer.old }
+    ensures same_decoded { changed_by T.decoded transformer.new ≡ changed_by T.decoded transformer.old }
+    ensures later { faults_of T.faults transformer.old ≤ faults_of T.faults transformer.new }
+    ensures still { (result ≡ Err SlateDBError.BlockTransformError) ⊎ (result ≡ Err SlateDBError.OutOfMemory) ⊎ (faults_of T.faults transformer.new ≡ faults_of T.faults transformer.old) }
+{
+    match answer {
+        None => Err(corrupt(0)),
+        Some(bytes) => {
+            let part = open_section(alloc, &bytes, transformer)?;
+            Ok(part)
+        }
+    }
+}
+
+/// The part of a section of a table, by one read.
+fn read_part<S: Store, T: BlockTransformer>(
+    alloc: Global,
+    store: &mut S,
+    root: &str,
+    id: Ulid,
+    place: (u64, u64),
+    transformer: &mut Option<T>,
+) -> Result<Bytes, SlateDBError>
+    ensures found { IfOk result (λ part. Reads (S.objects store.old) (S.acts store.old) (S.acts store.new) (path_of root.now id.0) place.0 place.1 (λ answer. IsPart (changed_by T.decoded transformer.old) answer part)) }
+    ensures cause { IfErr result (λ e. IsStoreFault (S.faults store.old) (S.faults store.new) e ⊎ Reads (S.objects store.old) (S.acts store.old) (S.acts store.new) (path_of root.now id.0) place.0 place.1 (λ answer. FailsDecoding (faults_of T.faults transformer.old) (faults_of T.faults transformer.new) answer e) ⊎ Reads (S.objects store.old) (S.acts store.old) (S.acts store.new) (path_of root.now id.0) place.0 place.1 (λ answer. refusal (stored_in answer) ≡ Some e)) }
+    ensures once { OnErr result ((S.acts store.new ≡ S.acts store.old) ⊎ Reads (S.objects store.old) (S.acts store.old) (S.acts store.new) (path_of root.now id.0) place.0 place.1 (λ _. Unit {0})) }
+    ensures objects { S.objects store.new ≡ S.objects store.old }
+    ensures same_encoded { changed_by T.encoded transformer.new ≡ changed_by T.encoded transformer.old }
+    ensures same_decoded { changed_by T.decoded transformer.new ≡ changed_by T.decoded transformer.old }
+    ensures later { S.faults store.old ≤ S.faults store.new }
+    ensures still { (result ≡ Err SlateDBError.StoreFault) ⊎ (S.faults store.new ≡ S.faults store.old) }
+    ensures later_transformer { faults_of T.faults transformer.old ≤ faults_of T.faults transformer.new }
+    ensures still_transformer { (result ≡ Err SlateDBError.BlockTransformError) ⊎ (result ≡ Err SlateDBError.OutOfMemory) ⊎ (faults_of T.faults transformer.new ≡ faults_of T.faults transformer.old) }
+{
+    let answer = read(alloc, store, root, id, place)?;
+    let part = opened(alloc, answer, transformer)?;
+    Ok(part)
+}
+
+/// The statistics of a table, by one read of their section.
+pub(crate) fn read_stats<S: Store, T: BlockTransformer>(
+    alloc: Global,
+    store: &mut S,
+    root: &str,
+    table: &SsTableHandle,
+    transformer: &mut Option<T>,
+) -> Result<SstStats, SlateDBError>
+    ensures found { IfOk result (λ stats. Reads (S.objects store.old) (S.acts store.old) (S.acts store.new) (path_of root.now table.now.id.0) table.now.info.stats_offset table.now.info.stats_len (λ answer. IsStatsRead (changed_by T.decoded transformer.old) answer (stats_of stats))) }
+    ensures cause { IfErr result (λ e. IsStoreFault (S.faults store.old) (S.faults store.new) e ⊎ Reads (S.objects store.old) (S.acts store.old) (S.acts store.new) (path_of root.now table.now.id.0) table.now.info.stats_offset table.now.info.stats_len (λ answer. FailsDecoding (faults_of T.faults transformer.old) (faults_of T.faults transformer.new) answer e) ⊎ Reads (S.objects store.old) (S.acts store.old) (S.acts store.new) (path_of root.now table.now.id.0) table.now.info.stats_offset table.now.info.stats_len (λ answer. RefusesStats (changed_by T.decoded transformer.old) answer e)) }
+    ensures once { OnErr result ((S.acts store.new ≡ S.acts store.old) ⊎ Reads (S.objects store.old) (S.acts store.old) (S.acts store.new) (path_of root.now table.now.id.0) table.now.info.stats_offset table.now.info.stats_len (λ _. Unit {0})) }
+    ensures objects { S.objects store.new ≡ S.objects store.old }
+    ensures same_encoded { changed_by T.encoded transformer.new ≡ changed_by T.encoded transformer.old }
+    ensures same_decoded { changed_by T.decoded transformer.new ≡ changed_by T.decoded transformer.old }
+    ensures later { S.faults store.old ≤ S.faults store.new }
+    ensures still { (result ≡ Err SlateDBError.StoreFault) ⊎ (S.faults store.new ≡ S.faults store.old) }
+    ensures later_transformer { faults_of T.faults transformer.old ≤ faults_of T.faults transformer.new }
+    ensures still_transformer { (result ≡ Err SlateDBError.BlockTransformError) ⊎ (result ≡ Err SlateDBError.OutOfMemory) ⊎ (faults_of T.faults transformer.new ≡ faults_of T.faults transformer.old) }
+{
+    let place = (table.info.stats_offset, table.info.stats_len);
+    let part = read_part(alloc, store, root, table.id, place, transformer)?;
+    let stats = SstStats::decode(alloc, part)?;
+    Ok(stats)
+}
+
+/// A block of a table, by one read of its section.
+pub(crate) fn read_block<S: Store, T: BlockTransformer>(
+    alloc: Global,
+    store: &mut S,
+    root: &str,
+    table: &SsTableHandle,
+    index: &SstIndex,
+    block: usize,
+    transformer: &mut Option<T>,
+) -> Result<Block, SlateDBError>
+    requires { block < length (entries_of index.now) }
+    ensures found { IfOk result (λ found. Reads (S.objects store.old) (S.acts store.old) (S.acts store.new) (path_of root.now table.now.id.0) (block_start table.now.info.filter_offset (entries_of index.now) block) (blocks_size table.now.info.filter_offset (entries_of index.now) block (block + 1)) (λ answer. IsBlockRead (changed_by T.decoded transformer.old) answer found)) }
+    ensures cause { IfErr result (λ e. IsStoreFault (S.faults store.old) (S.faults store.new) e ⊎ Reads (S.objects store.old) (S.acts store.old) (S.acts store.new) (path_of root.now table.now.id.0) (block_start table.now.info.filter_offset (entries_of index.now) block) (blocks_size table.now.info.filter_offset (entries_of index.now) block (block + 1)) (λ answer. FailsDecoding (faults_of T.faults transformer.old) (faults_of T.faults transformer.new) answer e) ⊎ Reads (S.objects store.old) (S.acts store.old) (S.acts store.new) (path_of root.now table.now.id.0) (block_start table.now.info.filter_offset (entries_of index.now) block) (blocks_size table.now.info.filter_offset (entries_of index.now) block (block + 1)) (λ answer. RefusesBlock (changed_by T.decoded transformer.old) answer e)) }
+    ensures once { OnErr result ((S.acts store.new ≡ S.acts store.old) ⊎ Reads (S.objects store.old) (S.acts store.old) (S.acts store.new) (path_of root.now table.now.id.0) (block_start table.now.info.filter_offset (entries_of index.now) block) (blocks_size table.now.info.filter_offset (entries_of index.now) block (block + 1)) (λ _. Unit {0})) }
+    ensures objects { S.objects store.new ≡ S.objects store.old }
+    ensures same_encoded { changed_by T.encoded transformer.new ≡ changed_by T.encoded transformer.old }
+    ensures same_decoded { changed_by T.decoded transformer.new ≡ changed_by T.decoded transformer.old }
+    ensures later { S.faults store.old ≤ S.faults store.new }
+    ensures still { (result ≡ Err SlateDBError.StoreFault) ⊎ (S.faults store.new ≡ S.faults store.old) }
+    ensures later_transformer { faults_of T.faults transformer.old ≤ faults_of T.faults transformer.new }
+    ensures still_transformer { (result ≡ Err SlateDBError.BlockTransformError) ⊎ (result ≡ Err SlateDBError.OutOfMemory) ⊎ (faults_of T.faults transformer.new ≡ faults_of T.faults transformer.old) }
+{
+    let place = place_of_block(index, table.info.filter_offset, block);
+    let answer = read(alloc, store, root, table.id, place)?;
+    let found = block_in(alloc, answer, transformer)?;
+    Ok(found)
+}
+
+/// Where the section of a block begins, and how many bytes it has.
+fn place_of_block(index: &SstIndex, end: u64, block: usize) -> (u64, u64)
+    requires { block < length (entries_of index.now) }
+    ensures start { result.0 ≡ block_start end (entries_of index.now) block }
+    ensures size { result.1 ≡ blocks_size end (entries_of index.now) block (block + 1) }
+{
+    let start = block_start(index, end, block);
+    let size = block_start(index, end, block + 1).saturating_sub(start);
+    (start, size)
+}
+
+/// Where the section of a block begins, or the blocks' end behind the last one.
+fn block_start(index: &SstIndex, end: u64, block: usize) -> u64
+    ensures { result ≡ block_start end (entries_of index.now) block }
+{
+    match index.get(block) {
+        Some((offset, _)) => offset,
+        None => end,
+    }
+}
+
+/// So many bytes from a place on, or `None` where they aren't there.
+fn range_of(bytes: &Bytes, start: u64, len: u64) -> Result<Option<Bytes>, SlateDBError>
+    ensures found { IfOk result (λ range. range ≡ part_of (Some bytes.now) start len) }
+    ensures cause { IsOkUnless result SlateDBError.OutOfMemory }
+{
+    let whole = bytes.len() as u64;
+    if start > whole || len > whole - start {
+        return Ok(None);
+    }
+    let (start, end) = (start as usize, (start + len) as usize);
+    Ok(Some(bytes.slice(start..end)?))
+}
+
+/// The section of a block, from an answer that begins where the first one does.
+fn section_of(
+    answer: &Option<Bytes>,
+    index: &SstIndex,
+    end: u64,
+    first: usize,
+    block: usize,
+) -> Result<Option<Bytes>, SlateDBError>
+    requires { block < length (entries_of index.now) }
+    ensures found { IfOk result (λ section. section ≡ block_answer end (entries_of index.now) first answer.now block) }
+    ensures cause { IsOkUnless result SlateDBError.OutOfMemory }
+{
+    let start = block_start(index, end, block);
+    let before = start.saturating_sub(block_start(index, end, first));
+    let len = block_start(index, end, block + 1).saturating_sub(start);
+    match answer {
+        Some(bytes) => range_of(bytes, before, len),
+        None => Ok(None),
+    }
+}
+
+/// The block of a section that was read.
+fn block_in<T: BlockTransformer>(
+    alloc: Global,
+    answer: Option<Bytes>,
+    transformer: &mut Option<T>,
+) -> Result<Block, SlateDBError>
+    ensures found { IfOk result (λ block. IsBlockRead (changed_by T.decoded transformer.old) answer block) }
+    ensures cause { IfErr result (λ e. (e ≡ SlateDBError.OutOfMemory) ⊎ FailsDecoding (faults_of T.faults transformer.old) (faults_of T.faults transformer.new) answer e ⊎ RefusesBlock (changed_by T.decoded transformer.old) answer e) }
+    ensures same_encoded { changed_by T.encoded transformer.new ≡ changed_by T.encoded transformer.old }
+    ensures same_decoded { changed_by T.decoded transformer.new ≡ changed_by T.decoded transformer.old }
+    ensures later { faults_of T.faults transformer.old ≤ faults_of T.faults transformer.new }
+    ensures still { (result ≡ Err SlateDBError.BlockTransformError) ⊎ (result ≡ Err SlateDBError.OutOfMemory) ⊎ (faults_of T.faults transformer.new ≡ faults_of T.faults transformer.old) }
+{
+    let part = opened(alloc, answer, transformer)?;
+    let block = Block::decode(alloc, part)?;
+    Ok(block)
+}
+
+/// The blocks of a range, from an answer that begins where the first one does.
+fn blocks_of<T: BlockTransformer>(
+    alloc: Global,
+    answer: Option<Bytes>,
+    index: &SstIndex,
+    end: u64,
+    blocks: Range<usize>,
+    transformer: &mut Option<T>,
+) -> Result<Vec<Block>, SlateDBError>
+    requires order { blocks.start ≤ blocks.end }
+    requires within { blocks.end ≤ length (entries_of index.now) }
+    ensures found { IfOk result (λ found. AreBlocksRead (changed_by T.decoded transformer.old) (block_answer end (entries_of index.now) blocks.start answer) blocks.start found.items) }
+    ensures count { IfOk result (λ found. length found.items ≡ blocks.end - blocks.start) }
+    ensures cause { IfErr result (λ e. (e ≡ SlateDBError.OutOfMemory) ⊎ FailsBlocks (changed_by T.decoded transformer.old) (block_answer end (entries_of index.now) blocks.start answer) blocks.start blocks.end (faults_of T.faults transformer.old) (faults_of T.faults transformer.new) e ⊎ RefusesBlocks (changed_by T.decoded transformer.old) (block_answer end (entries_of index.now) blocks.start answer) blocks.start blocks.end e) }
+    ensures same_encoded { changed_by T.encoded transformer.new ≡ changed_by T.encoded transformer.old }
+    ensures same_decoded { changed_by T.decoded transformer.new ≡ changed_by T.decoded transformer.old }
+    ensures later { faults_of T.faults transformer.old ≤ faults_of T.faults transformer.new }
+    ensures still { (result ≡ Err SlateDBError.BlockTransformError) ⊎ (result ≡ Err SlateDBError.OutOfMemory) ⊎ (faults_of T.faults transformer.new ≡ faults_of T.faults transformer.old) }
+{
+    each_block(alloc, &answer, index, end, blocks, transformer)
+}
+
+/// The same, from an answer that is lent.
+fn each_block<T: BlockTransformer>(
+    alloc: Global,
+    answer: &Option<Bytes>,
+    index: &SstIndex,
+    end: u64,
+    blocks: Range<usize>,
+    transformer: &mut Option<T>,
+) -> Result<Vec<Block>, SlateDBError>
+    requires order { blocks.start ≤ blocks.end }
+    requires within { blocks.end ≤ length (entries_of index.now) }
+    ensures found { IfOk result (λ found. AreBlocksRead (changed_by T.decoded transformer.old) (block_answer end (entries_of index.now) blocks.start answer.now) blocks.start found.items) }
+    ensures count { IfOk result (λ found. length found.items ≡ blocks.end - blocks.start) }
+    ensures cause { IfErr result (λ e. (e ≡ SlateDBError.OutOfMemory) ⊎ FailsBlocks (changed_by T.decoded transformer.old) (block_answer end (entries_of index.now) blocks.start answer.now) blocks.start blocks.end (faults_of T.faults transformer.old) (faults_of T.faults transformer.new) e ⊎ RefusesBlocks (changed_by T.decoded transformer.old) (block_answer end (entries_of index.now) blocks.start answer.now) blocks.start blocks.end e) }
+    ensures same_encoded { changed_by T.encoded transformer.new ≡ changed_by T.encoded transformer.old }
+    ensures same_decoded { changed_by T.decoded transformer.new ≡ changed_by T.decoded transformer.old }
+    ensures later { faults_of T.faults transformer.old ≤ faults_of T.faults transformer.new }
+    ensures still { (result ≡ Err SlateDBError.BlockTransformError) ⊎ (result ≡ Err SlateDBError.OutOfMemory) ⊎ (faults_of T.faults transformer.new ≡ faults_of T.faults transformer.old) }
+{
+    let first = blocks.start;
+    let mut found = Vec::new(alloc);
+    for at in first..blocks.end {
+        let section = section_of(answer, index, end, first, at)?;
+        let block = block_in(alloc, section, transformer)?;
+        found.push(block)?;
+    }
+    Ok(found)
+}
