@@ -1,10 +1,11 @@
 -- The entries that a batch keeps are what is kept of the operations that it took.
-use Rattle.std.proofs.Common.{◌≡◌, ℕ, ◌+◌, ◌<◌, Bool, true, false, cond, ◌||◌, length-append, List, [], ◌∷◌, ◌++◌, suc, map, filter_map, flat_map, Option, ℤ, length, bytes_eq, refl, sym, ap, subst, ◌∙◌, arith, Ordering, Less, Equal, Greater}
+use Rattle.std.proofs.Common.{◌≡◌, ℕ, ◌+◌, ◌<◌, Bool, true, false, cond, ◌||◌, length-append, List, [], ◌∷◌, ◌++◌, suc, map, filter_map, flat_map, Option, None, ℤ, length, bytes_eq, refl, sym, ap, subst, ◌∙◌, arith, Ordering, Less, Equal, Greater}
 use Rattle.std.specs.Ordering.{is_eq, ordering_reverse, match_ordering}
 use Rattle.std.specs.List.{list_any, sum_by, cons_option, AllByRecursion, AllZip}
 use Rattle.std.specs.List.Sorted.{IsStrictlySortedBy}
 use Rattle.std.specs.Map.{keys_of, values_of}
 use Rattle.std.specs.BTreeMap.{insert_entry}
+use Rattle.std.proofs.lemmas.List.Folds.{list_any-append}
 use Rattle.std.proofs.lemmas.List.Sums.{sum_by-cons}
 use Rattle.std.proofs.lemmas.Map.Text.{is_eq-slice_cmp}
 use Rattle.std.proofs.lemmas.Slice.Eq.{bytes_eq-Decides}
@@ -17,10 +18,11 @@ use Rattle.slate_types.proofs.KeySetLaws.{set-rises, same-set, AllAbove}
 use Rattle.slate_mem.specs.declared.WriteOp.{WriteOp}
 use Rattle.slate_mem.specs.declared.WriteOp.TheVariants.{Put, Delete, Merge}
 use Rattle.slate_mem.specs.Batch.{Ops, replaces, ops_of, kept, batch_keys, kept_ops}
-use Rattle.slate_mem.specs.BatchModel.{BatchModel, is_merge_op, with_op, IsBatchOf}
+use Rattle.slate_mem.specs.BatchModel.{BatchModel, is_merge_op, holds_merge, with_op, IsBatchOf}
+use Rattle.slate_mem.specs.Refusals.{op_refusal}
 use Rattle.slate_mem.specs.RowOf.{op_row}
 use Rattle.slate_mem.specs.CommitRows.{commit_rows}
-use Rattle.slate_mem.specs.Kept.{Entries, listed, IsKept, AreKept, IsSingle, IsWhole, single_row, single_rows}
+use Rattle.slate_mem.specs.Kept.{Entries, listed, tagged, IsKept, AreKept, IsSingle, AreFineAt, AreFine, IsWhole, single_row, single_rows}
 use Rattle.slate_mem.proofs.BatchLaws.{ops_of-append, ops_of-one, append-nil, some_of, none-left, among-keys, some-kept, ops_of-kept}
 
 -- ---- keys
@@ -40,7 +42,7 @@ abbrev pub items_at : Entries → List ℕ → List WriteOp
 items_at [] k = []
 items_at (e ∷ es) k = cond (bytes_eq e.0 k) e.1.items (items_at es k)
 
-none-at : (es : Entries) (k : List ℕ) → AllAbove k (keys_of es) → items_at es k ≡ []
+pub none-at : (es : Entries) (k : List ℕ) → AllAbove k (keys_of es) → items_at es k ≡ []
 none-at [] k h = refl
 none-at (e ∷ es) k h = ap (λ b. cond b e.1.items (items_at es k)) (other-below k e.0 h.0) ∙ none-at es k h.1
 
@@ -67,7 +69,7 @@ kept-at (e ∷ es) k h = by (bytes_eq e.0 k) (kept-at es k h.1)
     by true later = h.0.1
     by false later = later
 
-kept-listed : (es : Entries) (k : List ℕ) → IsStrictlySortedBy key_cmp (keys_of es) → AreKept es → kept (listed es) k ≡ items_at es k
+pub kept-listed : (es : Entries) (k : List ℕ) → IsStrictlySortedBy key_cmp (keys_of es) → AreKept es → kept (listed es) k ≡ items_at es k
 kept-listed es k rising whole = ap (from_last replaces) (ops_of-listed es k rising) ∙ kept-at es k whole
 
 some-first : {A : Type 0} (xs : List A) → 0 < length xs → some_of xs ≡ true
@@ -170,6 +172,15 @@ all-insert Q (e ∷ es) k v h q = by (key_cmp k e.0) (all-insert Q es k v h.1 q)
     by Equal later = (q, h.1)
     by Greater later = (h.0, later)
 
+fine-insert : (es : Entries) (k : List ℕ) (v : SmallVec WriteOp) → AreFine es → AreFineAt k v.items → AreFine (insert_entry key_cmp es k v)
+fine-insert [] k v h q = (q, tt)
+fine-insert (e ∷ es) k v h q = by (key_cmp k e.0) refl (fine-insert es k v h.1 q)
+  where
+    by : (o : Ordering) → key_cmp k e.0 ≡ o → AreFine (insert_entry key_cmp es k v) → AreFine (match_ordering o ((k, v) ∷ e ∷ es) ((e.0, v) ∷ es) (e ∷ insert_entry key_cmp es k v))
+    by Less is later = (q, h)
+    by Equal is later = (subst (λ j. AreFineAt j v.items) (same-key k e.0 is) q, h.1)
+    by Greater is later = (h.0, later)
+
 any-last : {A : Type 0} (test : A → Bool) (xs : List A) (x : A) → test x ≡ true → list_any test (xs ++ (x ∷ [])) ≡ true
 any-last test [] x h = ap (λ b. b || false) h
 any-last test (y ∷ ys) x h = by (test y) (any-last test ys x h)
@@ -197,18 +208,19 @@ single-kept : (v : SmallVec WriteOp) (op : WriteOp) → v.items ≡ op ∷ [] �
 single-kept v op h = subst IsKept (sym h) (omega arith, refl)
 
 -- a put or a delete in place of a key's operations
-pub whole-set : (es fs : Entries) (held : Bool) (k : List ℕ) (op : WriteOp) (v : SmallVec WriteOp) → replaces op ≡ true → v.items ≡ op ∷ [] → fs ≡ insert_entry key_cmp es k v →
+pub whole-set : (es fs : Entries) (held : Bool) (k : List ℕ) (op : WriteOp) (v : SmallVec WriteOp) → op_refusal k op ≡ None → replaces op ≡ true → v.items ≡ op ∷ [] → fs ≡ insert_entry key_cmp es k v →
     IsStrictlySortedBy key_cmp (keys_of fs) → IsWhole es held → IsWhole fs held
-whole-set es fs held k op v r one is rising w = record {
+whole-set es fs held k op v fine r one is rising w = record {
   rising = rising;
   kept = subst AreKept (sym is) (all-insert (λ u. IsKept u.items) es k v w.kept (single-kept v op one));
+  fine = subst AreFine (sym is) (fine-insert es k v w.fine (subst (AreFineAt k) (sym one) (fine, tt)));
   told = λ h. subst (λ gs. AllByRecursion (λ e. IsSingle e.1.items) gs) (sym is) (all-insert (λ u. IsSingle u.items) es k v (w.told h) (op, one, r));
 }
 
-pub view-set : (es fs : Entries) (held : Bool) (k : List ℕ) (op : WriteOp) (v : SmallVec WriteOp) → replaces op ≡ true → v.items ≡ op ∷ [] → fs ≡ insert_entry key_cmp es k v →
+pub view-set : (es fs : Entries) (held : Bool) (k : List ℕ) (op : WriteOp) (v : SmallVec WriteOp) → op_refusal k op ≡ None → replaces op ≡ true → v.items ≡ op ∷ [] → fs ≡ insert_entry key_cmp es k v →
     IsStrictlySortedBy key_cmp (keys_of fs) → IsWhole es held → (let after : BatchModel = record { ops = listed fs; held_merge = held } in after) ≡ with_op (record { ops = listed es; held_merge = held }) k op
-view-set es fs held k op v r one is rising w =
-    let list = listed-more es fs k op w.rising w.kept rising (whole-set es fs held k op v r one is rising w).kept at in
+view-set es fs held k op v fine r one is rising w =
+    let list = listed-more es fs k op w.rising w.kept rising (whole-set es fs held k op v fine r one is rising w).kept at in
     let flag : held ≡ (held || is_merge_op (k, op)) = sym (ap (λ b. held || b) (not-merge k op r) ∙ or-false held) in
     λ i. record { ops = list i; held_merge = flag i }
   where
@@ -277,17 +289,41 @@ pub listed-none : (es : Entries) → length es ≡ 0 → listed es ≡ []
 listed-none [] h = refl
 listed-none (e ∷ es) h = absurd (omega arith)
 
-tagged : List ℕ → List WriteOp → Ops
-tagged k ops = map (λ op. (k, op)) ops
-
 length-tagged : (k : List ℕ) (ops : List WriteOp) → length (tagged k ops) ≡ length ops
-unfolding tagged
 length-tagged k [] = refl
 length-tagged k (op ∷ ops) = ap suc (length-tagged k ops)
 
+-- what is true of each operation is so of each that is listed
+all-both : {A : Type 0} (P : A → Type 0) (xs ys : List A) → AllByRecursion P xs → AllByRecursion P ys → AllByRecursion P (xs ++ ys)
+all-both P [] ys h g = g
+all-both P (x ∷ xs) ys h g = (h.0, all-both P xs ys h.1 g)
+
+fine-tagged : (k : List ℕ) (ops : List WriteOp) → AreFineAt k ops → AllByRecursion (λ (o : List ℕ × WriteOp). op_refusal o.0 o.1 ≡ None) (tagged k ops)
+fine-tagged k [] h = tt
+fine-tagged k (op ∷ ops) h = (h.0, fine-tagged k ops h.1)
+
+pub fine-listed : (es : Entries) → AreFine es → AllByRecursion (λ (o : List ℕ × WriteOp). op_refusal o.0 o.1 ≡ None) (listed es)
+fine-listed [] h = tt
+fine-listed (e ∷ es) h = all-both (λ (o : List ℕ × WriteOp). op_refusal o.0 o.1 ≡ None) (tagged e.0 e.1.items) (listed es) (fine-tagged e.0 e.1.items h.0) (fine-listed es h.1)
+
+-- puts and deletes are no merges
+no-merge : (k : List ℕ) (op : WriteOp) → replaces op ≡ true → is_merge_op (k, op) ≡ false
+no-merge k (Put v o) h = refl
+no-merge k Delete h = refl
+no-merge k (Merge v o) h = cc
+
+none-tagged : (k : List ℕ) (ops : List WriteOp) → IsSingle ops → holds_merge (tagged k ops) ≡ false
+none-tagged k ops (op, is, h) = ap (λ os. holds_merge (tagged k os)) is ∙ ap (λ b. b || false) (no-merge k op h)
+
+either : (xs ys : Ops) → holds_merge xs ≡ false → holds_merge ys ≡ false → holds_merge (xs ++ ys) ≡ false
+either xs ys h g = list_any-append is_merge_op xs ys ∙ (λ i. h i || g i)
+
+pub plain-listed : (es : Entries) → AllByRecursion (λ e. IsSingle e.1.items) es → holds_merge (listed es) ≡ false
+plain-listed [] h = refl
+plain-listed (e ∷ es) h = either (tagged e.0 e.1.items) (listed es) (none-tagged e.0 e.1.items h.0) (plain-listed es h.1)
+
 -- how many there are
 pub length-listed : (es : Entries) → length (listed es) ≡ sum_by (λ v. length v.items) (values_of es)
-unfolding tagged
 length-listed [] = refl
 length-listed (e ∷ es) = length-append (tagged e.0 e.1.items) (listed es) ∙ (λ i. length-tagged e.0 e.1.items i + length-listed es i) ∙ sym (sum_by-cons (λ v. length v.items) e.1 (values_of es))
 
@@ -324,10 +360,18 @@ copied-all Same s Q [] (f ∷ fs) h q = absurd h
 copied-all Same s Q (e ∷ es) [] h q = absurd h
 copied-all Same s Q (e ∷ es) (f ∷ fs) h q = (subst Q (sym (same-items Same s e.1.items f.1.items h.0.1)) q.0, copied-all Same s Q es fs h.1 q.1)
 
+copied-fine : (Same : WriteOp → WriteOp → Type 0) → AreSame Same → (es fs : Entries) → IsCopied Same es fs → AreFine es → AreFine fs
+copied-fine Same s [] [] h q = tt
+copied-fine Same s [] (f ∷ fs) h q = absurd h
+copied-fine Same s (e ∷ es) [] h q = absurd h
+copied-fine Same s (e ∷ es) (f ∷ fs) h q =
+    (subst (λ k. AreFineAt k f.1.items) (sym h.0.0) (subst (AreFineAt e.0) (sym (same-items Same s e.1.items f.1.items h.0.1)) q.0), copied-fine Same s es fs h.1 q.1)
+
 pub copied-whole : (Same : WriteOp → WriteOp → Type 0) → AreSame Same → (es fs : Entries) (held : Bool) → IsCopied Same es fs → IsWhole es held → IsWhole fs held
 copied-whole Same s es fs held h w = record {
   rising = subst (IsStrictlySortedBy key_cmp) (sym (copied-keys Same es fs h)) w.rising;
   kept = copied-all Same s IsKept es fs h w.kept;
+  fine = copied-fine Same s es fs h w.fine;
   told = λ none. copied-all Same s IsSingle es fs h (w.told none);
 }
 

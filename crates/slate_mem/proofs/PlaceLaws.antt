@@ -29,7 +29,7 @@ never-below m = grind (arith, nat_tests)
 
 -- ---- the bounds of a range that holds keys are forward
 
-less-from : (a b : List ℕ) → key_le b a ≡ false → key_cmp a b ≡ Less
+pub less-from : (a b : List ℕ) → key_le b a ≡ false → key_cmp a b ≡ Less
 less-from a b h = by (key_cmp a b) (sym (ap is_le (turned-key b a)) ∙ h)
   where
     by : (o : Ordering) → is_le (ordering_reverse o) ≡ false → o ≡ Less

@@ -1,6 +1,7 @@
 -- How a batch keeps its operations: a map from keys to the operations of each.
---     listed es      the operations of the entries, each with its key
+--     tagged k ops, listed es      the operations of a key, and of all entries, each with its key
 --     single_rows default n now es      the rows of keys that have one operation each
+--     AreFine es      no operation of the entries is refused by itself
 --     IsWhole es held      what stands at all times of the entries and of whether a merge was taken
 use Rattle.std.specs.Prelude.{◌≡◌, ℕ, ◌<◌, Bool, true, false, List, [], ◌∷◌, map, filter_map, flat_map, length, Option, Some, None, ℤ}
 use Rattle.std.specs.List.{AllByRecursion}
@@ -12,13 +13,17 @@ use Rattle.slate_types.specs.Fold.{from_last}
 use Rattle.slate_types.specs.declared.types.RowEntry.{RowEntry}
 use Rattle.slate_mem.specs.declared.WriteOp.{WriteOp}
 use Rattle.slate_mem.specs.Batch.{Ops, replaces}
+use Rattle.slate_mem.specs.Refusals.{op_refusal}
 use Rattle.slate_mem.specs.RowOf.{op_row}
 
 abbrev pub Entries : Type 0
 Entries = List (List ℕ × SmallVec WriteOp)
 
+abbrev pub tagged : List ℕ → List WriteOp → Ops
+tagged k ops = map (λ op. (k, op)) ops
+
 abbrev pub listed : Entries → Ops
-listed es = flat_map (λ e. map (λ op. (e.0, op)) e.1.items) es
+listed es = flat_map (λ e. tagged e.0 e.1.items) es
 
 -- operations of one key: at least one, and none that a later one replaces
 abbrev pub IsKept : List WriteOp → Type 0
@@ -31,10 +36,17 @@ AreKept es = AllByRecursion (λ e. IsKept e.1.items) es
 abbrev pub IsSingle : List WriteOp → Type 0
 IsSingle ops = (op : WriteOp) × (ops ≡ op ∷ []) × (replaces op ≡ true)
 
+abbrev pub AreFineAt : List ℕ → List WriteOp → Type 0
+AreFineAt k ops = AllByRecursion (λ op. op_refusal k op ≡ None) ops
+
+abbrev pub AreFine : Entries → Type 0
+AreFine es = AllByRecursion (λ e. AreFineAt e.0 e.1.items) es
+
 -- where no merge was taken, each key has one operation
 pub record IsWhole (es : Entries) (held : Bool) : Type 0 where
   pub rising : IsStrictlySortedBy key_cmp (keys_of es)
   pub kept : AreKept es
+  pub fine : AreFine es
   pub told : held ≡ false → AllByRecursion (λ e. IsSingle e.1.items) es
 
 abbrev pub single_row : Option ℕ → ℕ → ℤ → List ℕ → List WriteOp → Option RowEntry

@@ -4,12 +4,13 @@ ghost use Rattle.std.specs.BTreeMap as map;
 ghost use Rattle.std.specs.BTreeMap.{insert_entry, IsUnchanged};
 ghost use Rattle.slate_types.specs.declared.error.SlateDBError.{SlateDBError};
 ghost use Rattle.slate_types.specs.Keys.{key_cmp};
-ghost use Rattle.slate_mem.specs.Batch.{Ops, replaces, batch_keys};
+ghost use Rattle.std.specs.List.{AllByRecursion};
+ghost use Rattle.slate_mem.specs.Batch.{Ops, replaces, batch_keys, kept_ops};
 ghost use Rattle.slate_mem.specs.Refusals.{first_refusal, key_refusals, value_refusal, op_refusal};
-ghost use Rattle.slate_mem.specs.BatchModel.{no_ops, with_op, plain_put, IsBatchOf};
+ghost use Rattle.slate_mem.specs.BatchModel.{no_ops, with_op, plain_put, holds_merge, IsBatchOf};
 ghost use Rattle.slate_types.specs.Fold.{Combine};
 ghost use Rattle.slate_mem.specs.CommitRows.{commit_rows, row_bytes};
-ghost use Rattle.slate_mem.specs.Kept.{listed, single_rows};
+ghost use Rattle.slate_mem.specs.Kept.{listed, tagged, single_rows, IsWhole};
 
 use crate::WriteOp;
 use bytes::Bytes;
@@ -168,6 +169,26 @@ impl WriteBatch {
         keys_of(self.alloc, &self.ops)
     }
 
+    /// Its operations, each with its key: keys rising, and those of a key oldest first. They share keys and values. None
+    /// is a merge where none was taken. The one error is `OutOfMemory`.
+    pub fn ops(&self, alloc: Global) -> Result<Vec<(Bytes, WriteOp)>, SlateDBError>
+        ensures ops { IfOk result (λ ops. ops.items ≡ self.now.ops) }
+        ensures kept { kept_ops self.now.ops ≡ self.now.ops }
+        ensures fine { AllByRecursion (λ o. op_refusal o.0 o.1 ≡ None) self.now.ops }
+        ensures plain { self.now.held_merge ≡ false → holds_merge self.now.ops ≡ false }
+        ensures cause { IsOkUnless result SlateDBError.OutOfMemory }
+    {
+        list_ops(alloc, &self.ops)
+    }
+
+    /// Its operations by key, oldest first within a key.
+    pub(crate) fn entries(&self) -> &BTreeMap<Bytes, SmallVec<WriteOp, 1>>
+        ensures ops { listed result.now.entries ≡ self.now.ops }
+        ensures whole { IsWhole result.now.entries self.now.held_merge }
+    {
+        &self.ops
+    }
+
     /// The rows of the batch as the commit `seq` of the moment `now`, by key, and how many bytes their keys and
     /// values have, or the greatest number where they are more. `default_ttl_millis` is the database's time to
     /// live. No merge may have been taken. The one error is `OutOfMemory`.
@@ -190,7 +211,8 @@ impl WriteBatch {
 
     /// Takes a put or a delete, in place of all operations of its key.
     fn replace(&mut self, key: Bytes, op: WriteOp) -> Result<(), SlateDBError>
-        requires { replaces op ≡ true }
+        requires fine { op_refusal key op ≡ None }
+        requires replaces { replaces op ≡ true }
         ensures taken { OnOk result (self.new ≡ with_op self.old key op) }
         ensures means { (ops : Ops) → IsBatchOf ops self.old → OnOk result (IsBatchOf (ops ++ ((key, op) ∷ [])) self.new) }
         ensures cause { IsOkUnless result SlateDBError.OutOfMemory }
@@ -205,6 +227,7 @@ impl WriteBatch {
 fn test_key(key: &[u8]) -> Result<(), SlateDBError>
     ensures refused { (e : SlateDBError) → first_refusal (key_refusals key.now) ≡ Some e → result ≡ Err e }
     ensures cause { IfErr result (λ e. first_refusal (key_refusals key.now) ≡ Some e) }
+    ensures fine { OnOk result (first_refusal (key_refusals key.now) ≡ None) }
 {
     if key.is_empty() {
         return Err(SlateDBError::EmptyKey);
@@ -221,6 +244,7 @@ fn test_key(key: &[u8]) -> Result<(), SlateDBError>
 fn test_value(value: &[u8]) -> Result<(), SlateDBError>
     ensures refused { (e : SlateDBError) → value_refusal value.now ≡ Some e → result ≡ Err e }
     ensures cause { IfErr result (λ e. value_refusal value.now ≡ Some e) }
+    ensures fine { OnOk result (value_refusal value.now ≡ None) }
 {
     if value.len() > 4294967295 {
         return Err(SlateDBError::ValueTooLong {
@@ -266,6 +290,36 @@ fn count_ops(ops: &BTreeMap<Bytes, SmallVec<WriteOp, 1>>) -> usize
         count = count.saturating_add(list.len());
     }
     count
+}
+
+/// Copies of the operations, each with its key.
+fn list_ops(
+    alloc: Global,
+    ops: &BTreeMap<Bytes, SmallVec<WriteOp, 1>>,
+) -> Result<Vec<(Bytes, WriteOp)>, SlateDBError>
+    ensures ops { IfOk result (λ all. all.items ≡ listed ops.now.entries) }
+    ensures cause { IsOkUnless result SlateDBError.OutOfMemory }
+{
+    let mut all = Vec::with_capacity(alloc, ops.len())?;
+    for (key, list) in ops {
+        add_ops(&mut all, key, list.as_slice())?;
+    }
+    Ok(all)
+}
+
+/// Adds copies of a key's operations.
+fn add_ops(
+    all: &mut Vec<(Bytes, WriteOp)>,
+    key: &Bytes,
+    ops: &[WriteOp],
+) -> Result<(), SlateDBError>
+    ensures ops { OnOk result (all.new.items ≡ all.old.items ++ tagged key.now ops.now) }
+    ensures cause { IsOkUnless result SlateDBError.OutOfMemory }
+{
+    for op in ops {
+        all.push((key.clone()?, op.clone()?))?;
+    }
+    Ok(())
 }
 
 /// Copies of the keys.

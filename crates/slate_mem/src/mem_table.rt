@@ -119,6 +119,15 @@ impl MemTable {
         Ok(RowsIterator::new(rows, order))
     }
 
+    /// All rows, by key upwards and within a key by sequence downwards. They share keys and values. The one error is
+    /// `OutOfMemory`.
+    fn rows(&self, alloc: Global) -> Result<Vec<RowEntry>, SlateDBError>
+        ensures rows { IfOk result (λ rows. rows.items ≡ self.now.rows) }
+        ensures cause { IsOkUnless result SlateDBError.OutOfMemory }
+    {
+        copies(alloc, &self.rows)
+    }
+
     /// Moves the rows and the recorded prefixes into a table that stays as it is, and leaves none. It takes no memory.
     pub fn freeze(&mut self) -> Result<ImmutableMemtable, SlateDBError>
         ensures frozen { result ≡ Ok self.old }
@@ -202,6 +211,15 @@ impl ImmutableMemtable {
         ensures cause { IsOkUnless result SlateDBError.OutOfMemory }
     {
         self.table.range(alloc, range, order)
+    }
+
+    /// All rows, by key upwards and within a key by sequence downwards. They share keys and values. The one error is
+    /// `OutOfMemory`.
+    pub fn rows(&self, alloc: Global) -> Result<Vec<RowEntry>, SlateDBError>
+        ensures rows { IfOk result (λ rows. rows.items ≡ self.now.rows) }
+        ensures cause { IsOkUnless result SlateDBError.OutOfMemory }
+    {
+        self.table.rows(alloc)
     }
 
     /// The recorded prefixes.
@@ -356,6 +374,21 @@ fn newest_of(
     Ok(found)
 }
 
+/// Copies of all rows.
+fn copies(
+    alloc: Global,
+    rows: &BTreeMap<SequencedKey, RowEntry>,
+) -> Result<Vec<RowEntry>, SlateDBError>
+    ensures rows { IfOk result (λ found. found.items ≡ values_of rows.now.entries) }
+    ensures cause { IsOkUnless result SlateDBError.OutOfMemory }
+{
+    let mut found = Vec::new(alloc);
+    for row in rows.values() {
+        found.push(row.clone()?)?;
+    }
+    Ok(found)
+}
+
 /// Copies of the rows whose keys are in the range.
 fn rows_in(
     alloc: Global,
@@ -374,7 +407,7 @@ fn rows_in(
 }
 
 /// Whether the bounds of the range leave no key.
-fn holds_none(range: &BytesRange) -> bool
+pub(crate) fn holds_none(range: &BytesRange) -> bool
     ensures { result ≡ is_refused range.now.start range.now.end }
 {
     match (&range.start, &range.end) {
