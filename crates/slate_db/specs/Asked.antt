@@ -19,7 +19,7 @@ use Rattle.slate_mem.specs.Batch.{Ops, kept}
 use Rattle.slate_mem.specs.RowOf.{own_row}
 use Rattle.slate_txn.specs.State.{Rules, State}
 use Rattle.slate_txn.specs.Reads.{key_rows, up_to}
-use Rattle.slate_db.specs.Paths.{path_of}
+use Rattle.slate_table.specs.Paths.{path_of}
 
 pub record Read : Type 0 where
   pub path : List ℕ

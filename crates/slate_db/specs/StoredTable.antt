@@ -8,7 +8,7 @@ use Rattle.slate_types.specs.declared.types.RowEntry.{RowEntry}
 use Rattle.slate_filter.specs.Policy.{Policy}
 use Rattle.slate_table.specs.Parts.{Encode}
 use Rattle.slate_table.specs.Table.{IsBuilt}
-use Rattle.slate_db.specs.Paths.{path_of}
+use Rattle.slate_table.specs.Paths.{path_of}
 
 -- the length of a key's segment prefix, where there are segments
 abbrev pub Segments : Type 0

@@ -1,7 +1,7 @@
 -- Paths, computed.
 --     FirstPaths      the first two tables of the first flush, and the first of the second
 use Rattle.std.specs.Prelude.{◌≡◌, [], ◌∷◌, codes}
-use Rattle.slate_db.specs.Paths.{flush_path, paths_of_flush}
+use Rattle.slate_table.specs.Paths.{flush_path, paths_of_flush}
 
 abbrev pub FirstPaths : Type 0
 FirstPaths = (paths_of_flush (codes "db") 1 2 ≡ codes "db/compacted/00000000000000010000000000000000.sst" ∷ codes "db/compacted/00000000000000010000000000000001.sst" ∷ [])

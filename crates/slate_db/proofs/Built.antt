@@ -1,0 +1,114 @@
+-- A table that is built row by row of rows that were in memory.
+use Rattle.std.proofs.Common.{◌≡◌, ℕ, ◌+◌, ◌-◌, ◌^◌, ◌≤◌, ◌<◌, ◌⊎◌, min, List, [], ◌∷◌, ◌++◌, map, length, Option, Some, None, refl, sym, ap, subst, ◌∙◌, inl, inr, arith, append_assoc, append-nil}
+use Rattle.std.specs.Prelude.{sum_by}
+use Rattle.std.specs.List.{AllByRecursion}
+use Rattle.slate_types.specs.declared.config.BlockFormat.{BlockFormat}
+use Rattle.slate_types.specs.declared.config.BlockFormat.TheVariants.{V1, V2, Latest}
+use Rattle.slate_types.specs.declared.error.SlateDBError.{SlateDBError}
+use Rattle.slate_types.specs.declared.error.SlateDBError.TheVariants.{EmptyKey, LimitReached}
+use Rattle.slate_types.specs.declared.types.RowEntry.{RowEntry}
+use Rattle.slate_types.specs.declared.types.Ulid.{Ulid}
+use Rattle.slate_types.specs.Outside.{Objects}
+use Rattle.slate_types.specs.Rows.{operand}
+use Rattle.slate_block.specs.BlockSpelling.{as_read}
+use Rattle.slate_block.specs.Building.{CanTake}
+use Rattle.slate_block.specs.ReadingLaws.{EachIsAByte}
+use Rattle.slate_store.specs.Store.{TakesPut, RefusesPut, with_object}
+use Rattle.slate_table.specs.declared.info.SsTableHandle.{SsTableHandle}
+use Rattle.slate_table.specs.declared.info.SsTableInfo.{SsTableInfo}
+use Rattle.slate_table.specs.InfoReading.{seen_info}
+use Rattle.slate_table.specs.Paths.{path_of}
+use Rattle.slate_table.specs.TableEnd.{HasInfo}
+use Rattle.slate_table.specs.Parts.{Encode}
+use Rattle.slate_table.specs.SectionReading.{IsTransformFault}
+use Rattle.slate_table.specs.TableBuilding.{TableBuilding, IsLimit, AreEncoded, begun, cutting}
+use Rattle.slate_table.specs.Table.{AreInOrder, cut}
+use Rattle.slate_table.specs.TableParts.{version_of}
+use Rattle.slate_db.specs.Flushed.{Layout, IsTooLarge, TakesTable, MayTakeTable}
+use Rattle.slate_db.specs.Installs.{root, IsHandle}
+use Rattle.slate_db.specs.Model.{Rows}
+use Rattle.slate_db.specs.Whole.{FitsMemory}
+use Rattle.slate_db.proofs.FlushRows.{order_front}
+use Rattle.slate_db.proofs.Lists.{all_behind}
+
+pub can_take : (r : RowEntry) → FitsMemory r → CanTake r
+can_take r f = (f.key.1, omega (arith, f.value))
+
+-- each version reads such rows as they are
+pub read_again : (format : BlockFormat) (rows : Rows) → AllByRecursion FitsMemory rows → map (as_read (version_of format)) rows ≡ rows
+read_again format [] h = refl
+read_again format (r ∷ rs) h = (λ i. one format i ∷ read_again format rs h.1 i)
+  where
+    one : (format : BlockFormat) → as_read (version_of format) r ≡ r
+    one V1 = h.0.read
+    one V2 = refl
+    one Latest = refl
+
+-- a fault since a later moment is one since an earlier one
+pub wider_fault : (a b c : ℕ) (e : SlateDBError) → a ≤ b → IsTransformFault b c e → IsTransformFault a c e
+wider_fault a b c e h (inl memory) = inl memory
+wider_fault a b c e h (inr (is, rose)) = inr (is, let r : min (b + 1) (2 ^ 64 - 1) ≤ c = rose in omega arith)
+
+pub begun_encoded : (encode : Encode) (version size : ℕ) → AreEncoded encode (begun version size)
+unfolding cutting
+begun_encoded encode version size = record { are_bytes = refl; are_offsets = refl }
+
+pub too_large : (layout : Layout) (b : TableBuilding) (r : RowEntry) (rest : Rows) (e : SlateDBError) (limit : ℕ) → b.version ≡ layout.version → b.size ≡ layout.block_size → e ≡ LimitReached limit → IsLimit b r limit →
+    IsTooLarge layout ((b.rows ++ (r ∷ [])) ++ rest) e
+too_large layout b r rest e limit version size is passes = record { limit = limit; is = is; first = first; rest = rest; cut_off = refl; passes = by passes }
+  where
+    first : Rows
+    first = b.rows ++ (r ∷ [])
+
+    by : IsLimit b r limit → ((limit ≡ 2 ^ 32 - 1) × (2 ^ 32 - 1 < length (cut layout.block_size layout.version (b.rows ++ (r ∷ [])))))
+        ⊎ ((limit ≡ 2 ^ 64 - 1) × ((2 ^ 64 ≤ sum_by (λ x. length x.key) (b.rows ++ (r ∷ []))) ⊎ (2 ^ 64 ≤ sum_by (λ x. length (operand x)) (b.rows ++ (r ∷ [])))))
+    by (inl (l, more)) = inl (l, subst (λ (s : ℕ). 2 ^ 32 - 1 < length (cut s layout.version (b.rows ++ (r ∷ [])))) size (subst (λ (v : ℕ). 2 ^ 32 - 1 < length (cut b.size v (b.rows ++ (r ∷ [])))) version more))
+    by (inr sums) = inr sums
+
+-- ---- one row more
+
+pub one_more : (b rest it all : Rows) (row : RowEntry) → it ≡ row ∷ rest → b ++ it ≡ all → (b ++ (row ∷ [])) ++ rest ≡ all
+one_more b rest it all row step is = append_assoc b (row ∷ []) rest ∙ ap (λ xs. b ++ xs) (sym step) ∙ is
+
+pub row_fits : (b rest it all : Rows) (row : RowEntry) → it ≡ row ∷ rest → b ++ it ≡ all → AllByRecursion FitsMemory all → FitsMemory row
+row_fits b rest it all row step is fit = (all_behind FitsMemory b (row ∷ rest) (subst (AllByRecursion FitsMemory) (sym (ap (λ xs. b ++ xs) (sym step) ∙ is)) fit)).0
+
+pub row_order : (b rest it all : Rows) (row : RowEntry) → it ≡ row ∷ rest → b ++ it ≡ all → AreInOrder all → AreInOrder (b ++ (row ∷ []))
+row_order b rest it all row step is order = order_front (b ++ (row ∷ [])) rest (subst AreInOrder (sym (one_more b rest it all row step is)) order)
+
+pub all_taken : (b it all : Rows) → it ≡ [] → b ++ it ≡ all → b ≡ all
+all_taken b it all none is = sym (append-nil b) ∙ ap (λ xs. b ++ xs) (sym none) ∙ is
+
+pub add_refused : (layout : Layout) (b new : TableBuilding) (row : RowEntry) (rest : Rows) (before middle after : ℕ) (e : SlateDBError) → before ≤ middle → b.version ≡ layout.version → b.size ≡ layout.block_size →
+    0 < length row.key → (e ≡ EmptyKey → length row.key ≡ 0) →
+    IsTransformFault middle after e ⊎ ((new ≡ b) × ((e ≡ EmptyKey) ⊎ ((limit : ℕ) × (e ≡ LimitReached limit) × IsLimit b row limit))) →
+    IsTransformFault before after e ⊎ IsTooLarge layout ((b.rows ++ (row ∷ [])) ++ rest) e
+add_refused layout b new row rest before middle after e h version size some empty (inl fault) = inl (wider_fault before middle after e h fault)
+add_refused layout b new row rest before middle after e h version size some empty (inr (same, inl is)) = let none : length row.key ≡ 0 = empty is in absurd (omega arith)
+add_refused layout b new row rest before middle after e h version size some empty (inr (same, inr (limit, is, passes))) = inr (too_large layout b row rest e limit version size is passes)
+
+-- ---- the put
+
+pub takes : (t : Ulid × List ℕ) (before after : Option Objects) → ((os : Objects) → before ≡ Some os → TakesPut os (path_of root t.0.0) t.1 after) → TakesTable t before after
+takes t None after h = tt
+takes t (Some os) after h = h os refl
+
+pub may_take : (P : Ulid × List ℕ → Type 0) (t : Ulid × List ℕ) (before after : Option Objects) → P t → ((os : Objects) → before ≡ Some os → RefusesPut os (path_of root t.0.0) t.1 after) → MayTakeTable P before after
+may_take P t None after p h = tt
+may_take P t (Some os) after p h = by (h os refl)
+  where
+    by : (after ≡ Some os) ⊎ (after ≡ Some (with_object os (path_of root t.0.0) t.1)) → (after ≡ Some os) ⊎ ((x : Ulid × List ℕ) × P x × (after ≡ Some (with_object os (path_of root x.0.0) x.1)))
+    by (inl same) = inl same
+    by (inr taken) = inr (t, p, taken)
+
+pub may_keep : (P : Ulid × List ℕ → Type 0) (before after : Option Objects) → after ≡ before → MayTakeTable P before after
+may_keep P None after h = tt
+may_keep P (Some os) after h = inl h
+
+-- what is kept of a table has the info that its bytes have
+pub handle_of : (t : Ulid × List ℕ) (h : SsTableHandle) (version made : ℕ) (info : SsTableInfo) → h.id ≡ t.0 → h.info ≡ info → h.format_version ≡ made → made ≡ version → HasInfo t.1 version (seen_info info) → EachIsAByte t.1 → IsHandle t h
+handle_of t h version made info id same format is has bytes = record {
+  id = id;
+  info = subst (λ (i : SsTableInfo). HasInfo t.1 h.format_version (seen_info i)) (sym same) (subst (λ (v : ℕ). HasInfo t.1 v (seen_info info)) (sym (format ∙ is)) has);
+  bytes = bytes;
+}

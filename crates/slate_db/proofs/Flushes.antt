@@ -1,0 +1,203 @@
+-- A flush is its freeze and an install.
+use Rattle.std.proofs.Common.{◌≡◌, ◌≢◌, ℕ, Bool, true, false, map, ◌+◌, ◌<◌, ◌≤◌, ◌⊎◌, List, [], ◌∷◌, ◌++◌, length, Option, Some, None, option_to_list, refl, sym, ap, subst, ◌∙◌, inl, inr, arith, length-append}
+use Rattle.std.proofs.lemmas.Bool.Decides.{nat_tests}
+use Rattle.std.proofs.lemmas.List.{length-map}
+use Rattle.std.specs.Prelude.{◌==◌, Result, Ok, Err, IfOk, IfErr}
+use Rattle.slate_types.specs.declared.error.SlateDBError.{SlateDBError}
+use Rattle.slate_types.specs.declared.types.Ulid.{Ulid}
+use Rattle.slate_types.specs.Fold.{fold_rows}
+use Rattle.slate_types.specs.Outside.{Objects}
+use Rattle.slate_mem.specs.Table.{MemTableModel}
+use Rattle.slate_table.specs.declared.info.SsTableHandle.{SsTableHandle}
+use Rattle.slate_table.specs.Parts.{Encode}
+use Rattle.slate_txn.specs.declared.event.Event.TheVariants as events
+use Rattle.slate_txn.specs.declared.line.Line.TheVariants as lines
+use Rattle.slate_txn.specs.Reply.{Flushed}
+use Rattle.slate_txn.specs.State.{last_of}
+use Rattle.slate_txn.specs.Step.{step}
+use Rattle.slate_db.specs.Flushed.{Layout, IsFlushed, IsFolded, MayTakeTable, TooLarge, events_of_flush, least_begin}
+use Rattle.slate_db.specs.Frozen.{IsFrozen}
+use Rattle.slate_db.specs.Meaning.{Meaning, rules_of, combine_of}
+use Rattle.slate_db.specs.Model.{CoreModel, Rows, memory, IsSame}
+use Rattle.slate_db.specs.Sound.{IsKept, at_most, later}
+use Rattle.slate_db.specs.Whole.{IsWhole}
+use Rattle.slate_db.proofs.Keeps.{kept_event}
+use Rattle.slate_db.proofs.Lists.{none_behind}
+use Rattle.slate_db.proofs.Split.{all_up_to}
+use Rattle.slate_db.proofs.Wholes.{versions_frozen}
+
+abbrev pub frozen_of : CoreModel → ℕ → CoreModel
+frozen_of c spare = record c { events = c.events ++ (events.Freeze ∷ []); spare = spare; active = []; frozen = c.frozen ++ (c.active ∷ []) }
+
+-- room that was made before changes nothing of a freeze
+pub frozen_from : (old mid between : CoreModel) → IsSame old mid → (old.active ≡ [] → mid ≡ old) → IsFrozen mid between → IsFrozen old between
+frozen_from old mid between same idle h = by h
+  where
+    active : mid.active ≡ old.active
+    active = ap (λ (v : CoreModel). v.active) same
+
+    by : ((mid.active ≡ []) × (between ≡ mid)) ⊎ ((mid.active ≢ []) × (between ≡ frozen_of mid between.spare)) → IsFrozen old between
+    by (inl (none, is)) = inl (sym active ∙ none, is ∙ idle (sym active ∙ none))
+    by (inr (some, is)) = inr ((λ e. some (active ∙ e)), is ∙ ap (λ (v : CoreModel). frozen_of v between.spare) same)
+
+pub frozen_idle : (old between : CoreModel) → IsFrozen old between → between.active ≡ []
+frozen_idle old between (inl (none, is)) = ap (λ (v : CoreModel). v.active) is ∙ none
+frozen_idle old between (inr (some, is)) = ap (λ (v : CoreModel). v.active) is
+
+pub frozen_state : (old between : CoreModel) → IsFrozen old between → between.state ≡ old.state
+frozen_state old between (inl (none, is)) = ap (λ (v : CoreModel). v.state) is
+frozen_state old between (inr (some, is)) = ap (λ (v : CoreModel). v.state) is
+
+pub frozen_settings : (old between : CoreModel) → IsFrozen old between → between.settings ≡ old.settings
+frozen_settings old between (inl (none, is)) = ap (λ (v : CoreModel). v.settings) is
+frozen_settings old between (inr (some, is)) = ap (λ (v : CoreModel). v.settings) is
+
+pub step_flush : (m : Meaning) (old between new : CoreModel) (n : ℕ) → IsFrozen old between → n ≡ last_of between.settings.start_seq between.state.commits → new.state ≡ record between.state { flushed = n } →
+    step (rules_of old.settings m) old.state lines.Flush ≡ (new.state, Flushed n)
+step_flush m old between new n f last is =
+    (let t = sym (frozen_settings old between f) in let s = sym (frozen_state old between f) in λ i. step (rules_of (t i) m) (s i) lines.Flush)
+    ∙ (let l = sym last in λ i. (record between.state { flushed = l i }, Flushed (l i)))
+    ∙ (let s = sym is in λ i. (s i, Flushed n))
+
+-- a flush that finds no rows
+pub whole_flushed : (c : CoreModel) (n ids runs : ℕ) (hs : List SsTableHandle) → c.active ≡ [] → c.frozen ≡ [] → IsWhole c n ids runs hs → IsWhole (record c { state = record c.state { flushed = n } }) n ids runs hs
+whole_flushed c n ids runs hs active frozen w = record {
+  legal = w.legal;
+  replays = record { commits = w.replays.commits; txns = w.replays.txns; snapshots = w.replays.snapshots };
+  no_snapshots = w.no_snapshots;
+  last = w.last;
+  last_fits = w.last_fits;
+  rising = w.rising;
+  fine = w.fine;
+  own_fine = w.own_fine;
+  room = w.room;
+  bound = w.bound;
+  used = w.used;
+  named = w.named;
+  counted = w.counted;
+  floor_within = w.floor_within;
+  begins = w.begins;
+  installed_within = w.installed_within;
+  flushed_within = omega arith;
+  flushed_through = all_up_to c.settings.start_seq n c.state.commits w.rising (let l : n ≡ last_of c.settings.start_seq c.state.commits = w.last in omega arith) ∙ sym (w.all_installed active frozen);
+  all_installed = w.all_installed;
+  numbered = w.numbered;
+  runs_counted = w.runs_counted;
+  runs_within = w.runs_within;
+  tables = w.tables;
+  quiet = w.quiet;
+  active_order = w.active_order;
+  frozen_order = w.frozen_order;
+  frozen_some = w.frozen_some;
+  rows_fit = w.rows_fit;
+  rows_within = w.rows_within;
+  rows_rise = w.rows_rise;
+}
+
+pub kept_flushed : (m : Meaning) (c : CoreModel) (n : ℕ) → IsKept m c → IsKept m (record c { state = record c.state { flushed = n } })
+kept_flushed m c n k = kept_event m c (record c.state { flushed = n }) c.events c.spare refl refl refl k
+
+pub may_same : (P : Ulid × List ℕ → Type 0) (o : Option Objects) → MayTakeTable P o o
+may_same P None = tt
+may_same P (Some os) = inl refl
+
+-- ---- the limits
+
+two_events : (active : Rows) (layers : List Rows) → (active ≡ [] → ⊥) → events_of_flush active layers ≡ 2
+two_events [] layers h = absurd (h refl)
+two_events (r ∷ rs) layers h = refl
+
+one_event : (active : Rows) (layers : List Rows) → active ≡ [] → 0 < length layers → events_of_flush active layers ≡ 1
+one_event [] [] h some = absurd (omega arith)
+one_event [] (rows ∷ layers) h some = refl
+one_event (r ∷ rs) layers h some = cc
+
+no_event : (active : Rows) (layers : List Rows) → active ≡ [] → layers ≡ [] → events_of_flush active layers ≡ 0
+no_event [] [] h none = refl
+no_event [] (rows ∷ layers) h none = cc
+no_event (r ∷ rs) layers h none = cc
+
+abbrev pub held : CoreModel → ℕ
+held c = length c.events + length c.state.txns
+
+abbrev pub passed : CoreModel → ℕ
+passed c = held c + events_of_flush c.active c.frozen
+
+pub passes_two : (limit : ℕ) (c : CoreModel) → (c.active ≡ [] → ⊥) → limit < held c + 2 → limit < passed c
+passes_two limit c some h = let e : events_of_flush c.active c.frozen ≡ 2 = two_events c.active c.frozen some in omega arith
+
+pub two_passed : (limit : ℕ) (c : CoreModel) → (c.active ≡ [] → ⊥) → limit < passed c → limit < held c + 2
+two_passed limit c some h = let e : events_of_flush c.active c.frozen ≡ 2 = two_events c.active c.frozen some in omega arith
+
+frozen_held : (old between : CoreModel) → between ≡ frozen_of old between.spare → held between ≡ held old + 1
+frozen_held old between is = ap held is ∙ (let l : length (old.events ++ (events.Freeze ∷ [])) ≡ length old.events + 1 = length-append old.events (events.Freeze ∷ []) in let e : length (old.events ++ (events.Freeze ∷ [])) + length old.state.txns ≡ length old.events + length old.state.txns + 1 = omega arith in e)
+
+-- an install passes the limit exactly where the flush does
+pub passes_one : (limit : ℕ) (old between : CoreModel) → IsFrozen old between → 0 < length between.frozen → limit < held between + 1 → limit < passed old
+passes_one limit old between (inl (none, is)) some h =
+    let e : events_of_flush old.active old.frozen ≡ 1 = one_event old.active old.frozen none (subst (λ (v : CoreModel). 0 < length v.frozen) is some) in
+    let l : held between ≡ held old = ap held is in
+    omega arith
+passes_one limit old between (inr (active, is)) some h =
+    let e : events_of_flush old.active old.frozen ≡ 2 = two_events old.active old.frozen active in
+    let l : held between ≡ held old + 1 = frozen_held old between is in
+    omega arith
+
+pub one_passed : (limit : ℕ) (old between : CoreModel) → IsFrozen old between → 0 < length between.frozen → limit < passed old → limit < held between + 1
+one_passed limit old between (inl (none, is)) some h =
+    let e : events_of_flush old.active old.frozen ≡ 1 = one_event old.active old.frozen none (subst (λ (v : CoreModel). 0 < length v.frozen) is some) in
+    let l : held between ≡ held old = ap held is in
+    omega arith
+one_passed limit old between (inr (active, is)) some h =
+    let e : events_of_flush old.active old.frozen ≡ 2 = two_events old.active old.frozen active in
+    let l : held between ≡ held old + 1 = frozen_held old between is in
+    omega arith
+
+pub none_passed : (limit : ℕ) (old between : CoreModel) → IsFrozen old between → between.frozen ≡ [] → held between ≤ limit → limit < passed old → ⊥
+none_passed limit old between (inl (none, is)) nothing bound h =
+    let e : events_of_flush old.active old.frozen ≡ 0 = no_event old.active old.frozen none (ap (λ (v : CoreModel). v.frozen) (sym is) ∙ nothing) in
+    let l : held between ≡ held old = ap held is in
+    absurd (omega arith)
+none_passed limit old between (inr (active, is)) nothing bound h = none_behind old.frozen old.active (ap (λ (v : CoreModel). v.frozen) (sym is) ∙ nothing)
+
+-- the rows in memory are the same before the freeze
+folded_before : (m : Meaning) (b : ℕ) (old : CoreModel) (rows : Rows) → IsFolded m b ((old.frozen ++ (old.active ∷ [])) ++ ([] ∷ [])) rows → IsFolded m b (memory old) rows
+folded_before m b old rows folded k = folded k ∙ ap (λ xs. option_to_list (fold_rows (combine_of m k) (at_most b xs)) ++ later b xs) (versions_frozen k old)
+
+pub too_large_before : (layout : Layout) (old between : CoreModel) (e : SlateDBError) → IsFrozen old between → TooLarge layout between e → TooLarge layout old e
+too_large_before layout old between e (inl (none, is)) h = subst (λ (v : CoreModel). TooLarge layout v e) is h
+too_large_before layout old between e (inr (some, is)) h = moved (subst (λ (v : CoreModel). TooLarge layout v e) is h)
+  where
+    moved : TooLarge layout (frozen_of old between.spare) e → TooLarge layout old e
+    moved (rows, folded, large) = (rows, (λ m. folded_before m (least_begin (last_of old.settings.start_seq old.state.commits) old.state.txns) old rows (folded m)), large)
+
+-- ---- behind the freeze
+
+pub installed_after : {E : Type 0} (r : Result ℕ E) (encode : Encode) (layout : Layout) (old between new : CoreModel) (before after : Option Objects) → IsFrozen old between →
+    IfOk r (λ n. IsFlushed encode layout between new n before after) → IfOk r (λ n. (x : CoreModel) × IsFrozen old x × IsFlushed encode layout x new n before after)
+installed_after (Ok n) encode layout old between new before after frozen h = (between, frozen, h)
+installed_after (Err e) encode layout old between new before after frozen h = tt
+
+pub cause_after : {X : Type 0} (r : Result X SlateDBError) (P Q : SlateDBError → Type 0) → ((e : SlateDBError) → P e → Q e) → IfErr r P → IfErr r Q
+cause_after (Ok x) P Q f h = tt
+cause_after (Err e) P Q f h = f e h
+
+-- memtables wait, where the test says so
+some_left : (xs : List MemTableModel) (b : Bool) → b ≡ (length xs == 0) → b ≡ false → 0 < length xs
+some_left [] b h e = cc
+some_left (x ∷ xs) b h e = omega arith
+
+none_left : (xs : List MemTableModel) (b : Bool) → b ≡ (length xs == 0) → b ≡ true → xs ≡ []
+none_left [] b h e = refl
+none_left (x ∷ xs) b h e =
+    let t : (length (x ∷ xs) == 0) ≡ true = sym h ∙ e in
+    let z : length (x ∷ xs) ≡ 0 = grind (arith, nat_tests) in
+    absurd (omega arith)
+
+pub none_frozen : (now items : List MemTableModel) (b : Bool) → b ≡ (length now == 0) → b ≡ true → now ≡ items → map (λ (t : MemTableModel). t.rows) items ≡ []
+none_frozen now items b h e same = ap (map (λ (t : MemTableModel). t.rows)) (sym same ∙ none_left now b h e)
+
+pub some_frozen : (now items : List MemTableModel) (b : Bool) (layers : List Rows) → b ≡ (length now == 0) → b ≡ false → now ≡ items → map (λ (t : MemTableModel). t.rows) items ≡ layers → 0 < length layers
+some_frozen now items b layers h e same is =
+    subst (λ (ls : List Rows). 0 < length ls) is
+    (subst (λ (n : ℕ). 0 < n) (ap length same ∙ sym (length-map items (λ (t : MemTableModel). t.rows))) (some_left now b h e))

@@ -1,0 +1,115 @@
+-- What a get finds, and what it folds to.
+use Rattle.std.proofs.Common.{◌≡◌, ℕ, ◌≤◌, Bool, true, false, cond, List, [], ◌∷◌, ◌++◌, reverse, Option, Some, None, refl, sym, ap, subst, ◌∙◌, bytes_eq, nat_le, nat_lt, append-nil}
+use Rattle.std.specs.List.{AllByRecursion}
+use Rattle.std.proofs.lemmas.Grind.{flat_map-append}
+use Rattle.std.proofs.lemmas.Slice.Eq.{bytes_eq-Decides}
+use Rattle.slate_types.specs.declared.types.Ulid.{Ulid}
+use Rattle.slate_types.specs.Fold.{AreShort, fold_rows, taken}
+use Rattle.slate_types.specs.Join.{AreOf}
+use Rattle.slate_types.specs.Outside.{Objects}
+use Rattle.slate_types.specs.Rows.{is_base}
+use Rattle.slate_store.specs.Store.{object_at}
+use Rattle.slate_mem.specs.Table.{newest, up_to as rows_up_to}
+use Rattle.slate_mem.proofs.MemLaws.{taken-newest}
+use Rattle.slate_table.specs.declared.info.SsTableHandle.{SsTableHandle}
+use Rattle.slate_table.specs.Paths.{path_of}
+use Rattle.slate_txn.specs.Reads.{up_to, key_rows}
+use Rattle.slate_db.specs.Installs.{tables_of, installed, root, AreHandles, Holds, HoldsTables}
+use Rattle.slate_db.specs.Lookup.{newest_first, is_merge_among, AreStored}
+use Rattle.slate_db.specs.Meaning.{Meaning, IsLawfulMeaning, rules_of, combine_of}
+use Rattle.slate_db.specs.Model.{CoreModel, Rows, memory, of_key, versions, versions_in}
+use Rattle.slate_db.specs.Sound.{AreBases, AreTables, IsKept, at_most, above}
+use Rattle.slate_db.specs.Whole.{IsWhole}
+use Rattle.slate_db.proofs.Bases.{bases_in, none_found}
+use Rattle.slate_db.proofs.Lists.{all_map}
+use Rattle.slate_db.proofs.Newest.{first_both, folds_as_all, versions_are}
+use Rattle.slate_db.proofs.Seen.{seen_fold}
+use Rattle.slate_db.proofs.Short.{all_append, all_filter, all_from_last, commits_short, fine_short}
+use Rattle.slate_db.proofs.Versions.{all_versions, all_versions_in, short_versions}
+
+-- ---- the store holds the tables that the core knows
+
+all_stored : (m : Meaning) → IsLawfulMeaning m → (os : Objects) (ts : List (Ulid × List ℕ)) (hs : List SsTableHandle) (layers : List Rows) → AreTables m ts layers → AreHandles ts hs → Holds os ts → AreStored m.encode m.decode (Some os) hs layers
+all_stored m law os [] [] layers tables handles holds = subst (AreStored m.encode m.decode (Some os) []) (sym tables) tt
+all_stored m law os [] (h ∷ hs) layers tables handles holds = absurd handles
+all_stored m law os (t ∷ ts) [] layers tables handles holds = absurd handles
+all_stored m law os (t ∷ ts) (h ∷ hs) layers (version, rows, rest, is, others, same) handles holds =
+    subst (AreStored m.encode m.decode (Some os) (h ∷ hs)) (sym same) (
+      record {
+        lawful = law.transformer;
+        os = os;
+        told = refl;
+        bytes = t.1;
+        there = ap (λ x. object_at os (path_of root x.0)) handles.0.id ∙ holds.0;
+        each = handles.0.bytes;
+        is = record { written = version; is = is; info = handles.0.info };
+      },
+      all_stored m law os ts hs rest others handles.1 holds.1,
+    )
+
+pub stored_tables : (m : Meaning) (c : CoreModel) (n ids runs : ℕ) (hs : List SsTableHandle) (objects : Option Objects) (layers : List Rows) → IsWhole c n ids runs hs → IsLawfulMeaning m → AreTables m (tables_of c.events) layers → HoldsTables objects c.events →
+    AreStored m.encode m.decode objects hs layers
+stored_tables m c n ids runs hs None layers w law tables held = absurd held
+stored_tables m c n ids runs hs (Some os) layers w law tables held = all_stored m law os (tables_of c.events) hs layers tables w.tables held
+
+-- ---- the rows that are found
+
+pub layers_are : (c : CoreModel) (layers : List Rows) → newest_first (layers ++ memory c) ≡ (c.active ++ newest_first c.frozen) ++ newest_first layers
+layers_are c layers =
+    first_both layers (memory c) ∙ ap (λ xs. xs ++ newest_first layers) (first_both c.frozen (c.active ∷ []) ∙ ap (λ xs. xs ++ newest_first c.frozen) (append-nil c.active))
+
+of_keys : (k : List ℕ) (rows : Rows) → AllByRecursion (λ r. r.key ≡ k) (of_key k rows)
+of_keys k [] = tt
+of_keys k (r ∷ rs) = by (bytes_eq r.key k) refl (of_keys k rs)
+  where
+    by : (t : Bool) → bytes_eq r.key k ≡ t → AllByRecursion (λ r. r.key ≡ k) (of_key k rs) → AllByRecursion (λ r. r.key ≡ k) (cond t (r ∷ of_key k rs) (of_key k rs))
+    by true e rest = ((bytes_eq-Decides r.key k).0 e, rest)
+    by false e rest = rest
+
+key_versions : (k : List ℕ) (layers : List Rows) → AllByRecursion (λ r. r.key ≡ k) (versions_in k layers)
+key_versions k [] = tt
+key_versions k (rows ∷ layers) = all_append _ (versions k rows) (versions_in k layers) (Rattle.slate_db.proofs.Versions.all_reverse _ (of_key k rows) (of_keys k rows)) (key_versions k layers)
+
+pairs : (k : List ℕ) (rows : Rows) → AllByRecursion (λ r. r.key ≡ k) rows → AreShort rows → AreOf k rows
+pairs k [] h s = tt
+pairs k (r ∷ rs) h s = ((h.0, s.0), pairs k rs h.1 s.1)
+
+memory_short : (m : Meaning) (c : CoreModel) (n ids runs : ℕ) (hs : List SsTableHandle) (k : List ℕ) → IsWhole c n ids runs hs → IsLawfulMeaning m → IsKept m c → AreShort (versions_in k (memory c))
+memory_short m c n ids runs hs k w law kept =
+    subst (λ (xs : Rows). AreShort xs) (sym (kept.0 k)) (commits_short (rules_of c.settings m) k (law.short k) _ (all_filter _ (λ x. nat_lt (installed c.events) x.seq) c.state.commits (all_map _ _ (λ x. fine_short x.ops) c.state.commits w.fine)))
+
+-- the rows that were found can be folded, and fold as the commits do
+pub record Folds (m : Meaning) (c : CoreModel) (k : List ℕ) (at : ℕ) (found : Rows) : Type 0 where
+  pub are : AreOf k (reverse found)
+  pub fold : fold_rows (combine_of m k) (reverse found) ≡ fold_rows (combine_of m k) (key_rows (rules_of c.settings m) k (up_to at c.state.commits))
+
+found_turned : (c : CoreModel) (k : List ℕ) (at : ℕ) (found : Rows) (layers : List Rows) → found ≡ newest k at ((c.active ++ newest_first c.frozen) ++ newest_first layers) → reverse found ≡ taken (at_most at (versions_in k (layers ++ memory c)))
+found_turned c k at found layers is = ap reverse (is ∙ ap (newest k at) (sym (layers_are c layers))) ∙ taken-newest (rows_up_to k at (newest_first (layers ++ memory c))) ∙ ap taken (versions_are k at (layers ++ memory c))
+
+-- none of them is a merge
+pub found_bases : (c : CoreModel) (n ids runs : ℕ) (hs : List SsTableHandle) (k : List ℕ) (at : ℕ) (found : Rows) (layers : List Rows) →
+    IsWhole c n ids runs hs → AllByRecursion AreBases layers → found ≡ newest k at ((c.active ++ newest_first c.frozen) ++ newest_first layers) → is_merge_among found ≡ false
+found_bases c n ids runs hs k at found layers w bases is = none_found found (at_most at (versions_in k (layers ++ memory c))) (found_turned c k at found layers is)
+    (all_filter _ (λ r. nat_le r.seq at) _ (all_versions_in (λ r. is_base r ≡ true) k (layers ++ memory c) (all_append AreBases layers (memory c) bases (bases_in (memory c) w.rows_fit))))
+
+pub found_folds : (m : Meaning) (c : CoreModel) (n ids runs : ℕ) (hs : List SsTableHandle) (k : List ℕ) (at : ℕ) (found : Rows) (layers : List Rows) →
+    IsWhole c n ids runs hs → IsLawfulMeaning m → IsKept m c → AreTables m (tables_of c.events) layers → AllByRecursion AreShort layers → c.floor ≤ at → found ≡ newest k at ((c.active ++ newest_first c.frozen) ++ newest_first layers) → Folds m c k at found
+found_folds m c n ids runs hs k at found layers w law kept tables short above is = record {
+  are = subst (AreOf k) (sym turned) (pairs k (taken (at_most at (versions_in k all))) (all_from_last _ is_base _ (all_filter _ (λ r. nat_le r.seq at) _ (key_versions k all))) (all_from_last _ is_base _ (all_filter _ (λ r. nat_le r.seq at) _ all_short)));
+  fold = ap (λ f. fold_rows (combine_of m k) (reverse f)) newest_is ∙ folds_as_all (combine_of m k) k at all
+      ∙ ap (fold_rows (combine_of m k)) (sym (append-nil (at_most at (versions_in k all))))
+      ∙ seen_fold m c n ids runs hs layers k at [] w law kept tables above tt
+      ∙ ap (fold_rows (combine_of m k)) (append-nil (key_rows (rules_of c.settings m) k (up_to at c.state.commits)));
+}
+  where
+    all : List Rows
+    all = layers ++ memory c
+
+    newest_is : found ≡ newest k at (newest_first all)
+    newest_is = is ∙ ap (newest k at) (sym (layers_are c layers))
+
+    turned : reverse found ≡ taken (at_most at (versions_in k all))
+    turned = found_turned c k at found layers is
+
+    all_short : AreShort (versions_in k all)
+    all_short = subst (λ (xs : Rows). AreShort xs) (sym (flat_map-append (versions k) layers (memory c))) (all_append _ (versions_in k layers) (versions_in k (memory c)) (short_versions k layers short) (memory_short m c n ids runs hs k w law kept))

@@ -1,0 +1,71 @@
+use Rattle.std.proofs.Common.{◌≡◌, ◌++◌, ◌∷◌, [], map, refl, ap, sym, subst, ◌∙◌, arith, inr, true, false}
+use Rattle.std.specs.Prelude.{Result, Ok, Err}
+use Rattle.std.proofs.lemmas.List.{map-append}
+use Rattle.slate_types.specs.declared.error.SlateDBError.{SlateDBError}
+use Rattle.slate_mem.specs.Table.{MemTableModel}
+use Rattle.slate_txn.specs.declared.event.Event.TheVariants as events
+use Rattle.slate_txn.specs.declared.line.Line.TheVariants as lines
+use Rattle.slate_txn.specs.Places.{IsQuiet}
+use Rattle.slate_txn.specs.Replay.{replay}
+use Rattle.slate_txn.specs.Reply.{Frozen}
+use Rattle.slate_txn.specs.Step.{step}
+use Rattle.slate_db.specs.Meaning.{rules_of}
+use Rattle.slate_db.specs.Model.{CoreModel, Rows}
+use Rattle.slate_db.specs.View.{view_of}
+use Rattle.slate_db.specs.Sound.{IsKept}
+use Rattle.slate_db.specs.Whole.{IsWhole}
+use Rattle.slate_db.proofs.Keeps.{same_model}
+use Rattle.slate_db.proofs.Journals.{apply_more}
+use Rattle.slate_db.proofs.Quiet.{quiet_frozen}
+use Rattle.slate_db.proofs.FlushRows.{some_rows}
+use Rattle.slate_db.proofs.Wholes.{after_freeze, whole_freeze, kept_freeze}
+use Rattle.slate_db.proofs.engine.Core.freeze.Goals as goal
+
+abbrev rows_in : Result MemTableModel SlateDBError → Rows
+rows_in (Ok t) = t.rows
+rows_in (Err e) = []
+
+journal : (c : goal.After-push_reserved-2) → c.push_reserved-2.new.self.events ≡ c.self.inside.journal.events ++ (events.Freeze ∷ [])
+journal c = c.push_reserved-2.ensures.events ∙ ap (λ es. es ++ (events.Freeze ∷ [])) c.reserve-2.ensures.events
+
+-- what the fields are after the call
+becomes : (c : goal.After-push_reserved-2) → after_freeze (view_of c.self.inside) c.push_reserved-2.new.self.spare
+    ≡ view_of (record c.self.inside { journal = c.push_reserved-2.new.self; active = c.freeze.new.self; frozen = c.push_reserved.new.self })
+becomes c = same_model _ _ refl commits refl refl refl refl (sym (journal c)) refl active frozen refl
+  where
+    commits : (replay c.self.inside.journal.events).commits ≡ (replay c.push_reserved-2.new.self.events).commits
+    commits = sym (ap (λ es. (replay es).commits) (journal c) ∙ ap (λ s. s.commits) (apply_more _ c.self.inside.journal.events events.Freeze))
+
+    active : [] ≡ c.freeze.new.self.rows
+    active = sym (ap (λ t. t.rows) c.freeze.ensures.left)
+
+    frozen : map (λ t. t.rows) c.self.inside.frozen.items ++ (c.self.inside.active.rows ∷ []) ≡ map (λ t. t.rows) c.push_reserved.new.self.items
+    frozen =
+        ap (λ rs. map (λ t. t.rows) c.self.inside.frozen.items ++ (rs ∷ [])) (sym (ap rows_in c.in_ok-table.ensures.frozen))
+        ∙ sym (ap (λ ts. map (λ t. t.rows) ts) (c.push_reserved.ensures.items ∙ ap (λ ts. ts ++ (c.in_ok-table.table ∷ [])) c.reserve.ensures.items)
+        ∙ map-append (λ t. t.rows) c.self.inside.frozen.items (c.in_ok-table.table ∷ []))
+
+pub invariant_of-self-2 : goal.invariant_of-self-2
+invariant_of-self-2 c =
+    subst (λ (v : CoreModel). IsWhole v c.self.inside.last c.self.inside.ids c.self.inside.runs c.self.inside.tables.items) (becomes c)
+    (whole_freeze (view_of c.self.inside) c.self.inside.last c.self.inside.ids _ _ c.push_reserved-2.new.self.spare
+    (omega (arith, c.in_ok-reserve-2.ensures.ok, c.push_reserved-2.ensures.spare, c.len-3.ensures))
+    (omega (arith, c.if-len.false, c.len.ensures, c.len-2.ensures))
+    (some_rows _ (λ e. let t : true ≡ false = sym (c.is_empty.ensures.1 e) ∙ c.if-is_empty.false in cc))
+    c.self.invariant)
+
+pub returns-clause-step : goal.returns-clause-step
+returns-clause-step c m =
+    sym (ap (λ v. step (rules_of v.settings m) v.state lines.Freeze) c.self.view_is)
+    ∙ (let n = sym c.self.invariant.last in λ i. ((becomes c i).state, Frozen (n i)))
+
+pub returns-clause-event : goal.returns-clause-event
+returns-clause-event c = inr ((λ e. let t : true ≡ false = sym (c.is_empty.ensures.1 (ap (λ (v : CoreModel). v.active) c.self.view_is ∙ e)) ∙ c.if-is_empty.false in cc), sym (becomes c) ∙ ap (λ v. after_freeze v c.push_reserved-2.new.self.spare) c.self.view_is)
+
+pub returns-clause-quiet : goal.returns-clause-quiet
+returns-clause-quiet c = subst IsQuiet (sym (journal c)) (quiet_frozen c.self.inside.journal.events)
+
+pub returns-clause-kept : goal.returns-clause-kept
+returns-clause-kept c m k =
+    subst (λ (v : CoreModel). IsKept m v) (becomes c)
+    (kept_freeze m (view_of c.self.inside) c.push_reserved-2.new.self.spare (subst (λ (v : CoreModel). IsKept m v) (sym c.self.view_is) k))

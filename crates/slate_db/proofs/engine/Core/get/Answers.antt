@@ -1,0 +1,118 @@
+use Rattle.std.proofs.Common.{◌≡◌, ℕ, ◌≤◌, List, [], ◌∷◌, ◌++◌, map, Some, refl, ap, sym, subst, ◌∙◌, rules, append-nil}
+use Rattle.std.specs.Prelude.{slice_index_or, slice_set}
+use Rattle.slate_types.specs.Fold.{fold_rows}
+use Rattle.slate_mem.specs.Batch.{Ops, kept}
+use Rattle.slate_mem.specs.RowOf.{own_row}
+use Rattle.slate_txn.specs.declared.event.TranscriptStep.{TranscriptStep}
+use Rattle.slate_txn.specs.declared.event.TranscriptStep.TheVariants as steps
+use Rattle.slate_txn.specs.Named.{find_named, update_named}
+use Rattle.slate_txn.specs.Reads.{key_rows, up_to}
+use Rattle.slate_txn.specs.State.{Tx}
+use Rattle.slate_txn.specs.Step.{noted}
+use Rattle.slate_txn.specs.Reply.{Found}
+use Rattle.slate_db.specs.Meaning.{combine_of, rules_of}
+use Rattle.slate_db.specs.Model.{CoreModel}
+use Rattle.slate_db.specs.View.{view_of}
+use Rattle.slate_db.specs.Sound.{IsKept}
+use Rattle.slate_db.specs.Whole.{IsWhole}
+use Rattle.slate_db.proofs.Names.{IsNamed, open_is}
+use Rattle.slate_db.proofs.Notes.{after_note, whole_note, step_get}
+use Rattle.slate_db.proofs.Keeps.{same_model, kept_event}
+use Rattle.slate_db.proofs.Seen.{found_all}
+use Rattle.slate_db.proofs.engine.Core.get.Goals as goal
+use Rattle.slate_db.proofs.engine.Core.get.Given as given
+
+pub invariant_of-self : goal.invariant_of-self
+invariant_of-self g c =
+    subst (λ (v : CoreModel). IsWhole v c.self.inside.last c.self.inside.ids c.self.inside.runs c.self.inside.tables.items)
+    (same_model (view_of c.self.inside) (view_of (record c.self.inside { «open» = c.note.new.items })) refl refl (sym c.in_err-note.ensures.err) refl refl refl refl refl refl refl refl)
+    c.self.invariant
+
+pub returns-in_err-note-clause-kept : goal.returns-in_err-note-clause-kept
+returns-in_err-note-clause-kept g c m kept_m =
+    subst (λ (v : CoreModel). IsKept m v)
+    (same_model (view_of c.self.inside) (view_of (record c.self.inside { «open» = c.note.new.items })) refl refl (sym c.in_err-note.ensures.err) refl refl refl refl refl refl refl refl)
+    (subst (λ (v : CoreModel). IsKept m v) (sym c.self.view_is) kept_m)
+
+-- the step that is noted
+abbrev noted_step : (g : given.Over) → goal.In_ok-note g → TranscriptStep
+noted_step g c = steps.Get c.args.key.now c.answer-found.result
+
+copy_is : (g : given.Over) (c : goal.In_ok-note g) → c.in_ok-copy.copy ≡ c.answer-found.result
+copy_is g c = search rules
+
+t_of : (g : given.Over) (c : goal.In_ok-note g) → IsNamed (find_named c.args.id.now c.args.self.now.state.txns)
+t_of g c = open_is (find_named c.args.id.now c.args.self.now.state.txns) c.requires
+
+becomes : (g : given.Over) (c : goal.In_ok-note g) → after_note (view_of c.self.inside) c.args.id.now (noted_step g c ∷ []) ≡ view_of (record c.self.inside { «open» = c.note.new.items })
+becomes g c = same_model _ _ refl refl txns refl refl refl refl refl refl refl refl
+  where
+    d : List ℕ × Tx
+    d = (c.args.id.now, (t_of g c).value)
+
+    named : (slice_index_or c.self.inside.«open».items c.in-Some.i (c.args.id.now, (t_of g c).value)).0 ≡ c.args.id.now
+    named = ap (λ (ps : List (List ℕ × Tx)). (slice_index_or ps c.in-Some.i (c.args.id.now, (t_of g c).value)).0) (sym c.deref.ensures.value) ∙ c.in-Some.ensures.some.named (c.args.id.now, (t_of g c).value)
+
+    step_is : steps.Get c.in_ok-key.key c.in_ok-copy.copy ≡ steps.Get c.args.key.now c.answer-found.result
+    step_is = λ j. steps.Get (c.in_ok-key.ensures j) (copy_is g c j)
+
+    txns : update_named c.args.id.now (λ t. record t { transcript = t.transcript ++ (steps.Get c.args.key.now c.answer-found.result ∷ []) }) c.self.inside.«open».items ≡ c.note.new.items.items
+    txns =
+        ap (λ (ps : List (List ℕ × Tx)). update_named c.args.id.now (λ t. record t { transcript = t.transcript ++ (steps.Get c.args.key.now c.answer-found.result ∷ []) }) ps) (sym c.deref.ensures.value)
+        ∙ c.in-Some.ensures.some.updates (λ t. record t { transcript = t.transcript ++ (steps.Get c.args.key.now c.answer-found.result ∷ []) }) (c.args.id.now, (t_of g c).value)
+        ∙ ap (λ (ps : List (List ℕ × Tx)). slice_set ps c.in-Some.i (c.args.id.now, record (slice_index_or ps c.in-Some.i (c.args.id.now, (t_of g c).value)).1 { transcript = (slice_index_or ps c.in-Some.i (c.args.id.now, (t_of g c).value)).1.transcript ++ (steps.Get c.args.key.now c.answer-found.result ∷ []) })) c.deref.ensures.value
+        ∙ (let n = sym named in let st = sym step_is in λ j. slice_set c.self.inside.«open».items c.in-Some.i (n j, record (slice_index_or c.self.inside.«open».items c.in-Some.i (c.args.id.now, (t_of g c).value)).1 { transcript = (slice_index_or c.self.inside.«open».items c.in-Some.i (c.args.id.now, (t_of g c).value)).1.transcript ++ (st j ∷ []) }))
+        ∙ sym (c.in_ok-note.ensures.ok (c.args.id.now, (t_of g c).value))
+
+pub invariant_of-self-2 : goal.invariant_of-self-2
+invariant_of-self-2 g c =
+    subst (λ (v : CoreModel). IsWhole v c.self.inside.last c.self.inside.ids c.self.inside.runs c.self.inside.tables.items) (becomes g c)
+    (whole_note (view_of c.self.inside) c.self.inside.last c.self.inside.ids _ _ c.args.id.now (noted_step g c ∷ []) c.self.invariant)
+
+pub returns-clause-noted : goal.returns-clause-noted
+returns-clause-noted g c = sym (becomes g c) ∙ ap (λ v. after_note v c.args.id.now (noted_step g c ∷ [])) c.self.view_is
+
+-- the transaction that reads
+abbrev reader : (g : given.Over) → goal.In_ok-note g → Tx
+reader g c = (slice_index_or c.self.inside.«open».items c.in-Some.i (c.args.id.now, (t_of g c).value)).1
+
+reader_is : (g : given.Over) (c : goal.In_ok-note g) → find_named c.args.id.now c.self.inside.«open».items ≡ Some (reader g c)
+reader_is g c =
+    ap (λ (ps : List (List ℕ × Tx)). find_named c.args.id.now ps) (sym c.deref.ensures.value)
+    ∙ c.in-Some.ensures.some.finds (c.args.id.now, (t_of g c).value)
+    ∙ ap (λ (ps : List (List ℕ × Tx)). Some (slice_index_or ps c.in-Some.i (c.args.id.now, (t_of g c).value)).1) c.deref.ensures.value
+
+begin_is : (g : given.Over) (c : goal.In_ok-note g) → c.begin_of-at.result ≡ (reader g c).begin
+begin_is g c = c.begin_of-at.ensures.begin (c.args.id.now, (t_of g c).value) ∙ ap (λ (ps : List (List ℕ × Tx)). (slice_index_or ps c.in-Some.i (c.args.id.now, (t_of g c).value)).1.begin) c.deref-2.ensures.value
+
+no_ops : (g : given.Over) (c : goal.In_ok-note g) → [] ≡ (reader g c).ops
+no_ops g c = sym (c.begin_of-at.ensures.ops (c.args.id.now, (t_of g c).value)) ∙ ap (λ (ps : List (List ℕ × Tx)). (slice_index_or ps c.in-Some.i (c.args.id.now, (t_of g c).value)).1.ops) c.deref-2.ensures.value
+
+from_floor : (g : given.Over) (c : goal.In_ok-note g) → c.args.self.now.floor ≤ c.begin_of-at.result
+from_floor g c =
+    subst (λ n. c.args.self.now.floor ≤ n) (sym (begin_is g c))
+    (subst (λ (v : CoreModel). v.floor ≤ (reader g c).begin) c.self.view_is
+    (found_all (λ (t : Tx). (c.self.inside.floor ≤ t.begin) × (t.begin ≤ c.self.inside.last)) c.args.id.now c.self.inside.«open».items (reader g c) c.self.invariant.begins (reader_is g c)).0)
+
+pub returns-clause-answer : goal.returns-clause-answer
+returns-clause-answer g c m has law kept_m held =
+    let r = rules_of c.args.self.now.settings m in
+    let k = c.args.key.now in
+    let commits = c.args.self.now.state.commits in
+    let row : c.in_ok-row.row ≡ fold_rows (combine_of m k) (key_rows r k (up_to (reader g c).begin commits) ++ map (own_row k) (kept (reader g c).ops k)) =
+    c.in_ok-row.ensures.row m has law kept_m held (from_floor g c)
+    ∙ ap (λ (j : List ℕ). fold_rows (combine_of m j) (key_rows r j (up_to c.begin_of-at.result commits))) c.in_ok-key.ensures
+    ∙ ap (λ n. fold_rows (combine_of m k) (key_rows r k (up_to n commits))) (begin_is g c)
+    ∙ ap (fold_rows (combine_of m k)) (sym (append-nil (key_rows r k (up_to (reader g c).begin commits))))
+    ∙ ap (λ (os : Ops). fold_rows (combine_of m k) (key_rows r k (up_to (reader g c).begin commits) ++ map (own_row k) (kept os k))) (no_ops g c) in
+    let found : find_named c.args.id.now c.args.self.now.state.txns ≡ Some (reader g c) = ap (λ (v : CoreModel). find_named c.args.id.now v.state.txns) (sym c.self.view_is) ∙ reader_is g c in
+    step_get r c.args.self.now.state c.args.id.now k (reader g c) c.in_ok-row.row found row
+    ∙ (let a = sym c.answer-found.ensures in λ j. (noted c.args.self.now.state c.args.id.now (steps.Get k (a j) ∷ []), Found (a j)))
+    ∙ (let v = sym c.self.view_is in λ j. (noted (v j).state c.args.id.now (noted_step g c ∷ []), Found c.answer-found.result))
+    ∙ (λ j. ((becomes g c j).state, Found c.answer-found.result))
+
+pub returns-clause-kept : goal.returns-clause-kept
+returns-clause-kept g c m kept_m =
+    subst (λ (v : CoreModel). IsKept m v) (becomes g c)
+    (kept_event m (view_of c.self.inside) (noted (view_of c.self.inside).state c.args.id.now (noted_step g c ∷ [])) c.self.inside.journal.events c.self.inside.journal.spare refl refl refl
+    (subst (λ (v : CoreModel). IsKept m v) (sym c.self.view_is) kept_m))

@@ -1,0 +1,108 @@
+use Rattle.std.proofs.Common.{◌≡◌, ℕ, ◌+◌, ◌<◌, ◌++◌, ◌∷◌, [], List, map, length, refl, ap, sym, subst, ◌∙◌, arith}
+use Rattle.std.proofs.lemmas.Result.{err_from_is_err_and}
+use Rattle.slate_types.specs.declared.types.Ulid.{Ulid}
+use Rattle.slate_table.specs.declared.info.SsTableHandle.{SsTableHandle}
+use Rattle.slate_table.specs.Parts.{Encode}
+use Rattle.slate_table.specs.SectionReading.{changed_by}
+use Rattle.slate_table.specs.Table.{IsTable}
+use Rattle.slate_txn.specs.declared.event.Event.TheVariants as events
+use Rattle.slate_txn.specs.State.{last_of}
+use Rattle.slate_txn.specs.Replay.{replay}
+use Rattle.slate_db.specs.Flushed.{after_install, least_begin, layout_of, CanFlush, IsTableOfFlush, MayFlush, MayTakeTable, stored}
+use Rattle.slate_db.specs.Installs.{tables_of}
+use Rattle.slate_db.specs.Model.{CoreModel}
+use Rattle.slate_db.specs.Sound.{IsKept}
+use Rattle.slate_db.specs.View.{view_of}
+use Rattle.slate_db.specs.Whole.{IsWhole}
+use Rattle.slate_db.proofs.Installs.{whole_install, kept_install, can_flush, table_of_flush, moved}
+use Rattle.slate_db.proofs.Journals.{apply_more}
+use Rattle.slate_db.proofs.Keeps.{same_model, kept_event}
+use Rattle.slate_db.proofs.engine.Core.install.Goals as goal
+use Rattle.slate_db.proofs.engine.Core.install.Given as given
+
+abbrev table : (g : given.Over) → goal.After-self-3-1 g → Ulid × List ℕ
+table g c = c.in_ok-put.ensures.stored.t
+
+journal_is : (g : given.Over) (c : goal.After-self-3-1 g) → c.push_reserved.new.self.events ≡ c.self.inside.journal.events ++ (events.Install c.self.inside.last (table g c ∷ []) ∷ [])
+journal_is g c = c.push_reserved.ensures.events ∙ (λ i. c.reserve.ensures.events i ++ (events.Install c.self.inside.last (c.in_ok-put.ensures.stored.list i) ∷ []))
+
+barrier_is : (g : given.Over) (c : goal.After-self-3-1 g) → c.barrier-barrier.result ≡ least_begin c.self.inside.last c.self.inside.«open».items
+barrier_is g c = c.barrier-barrier.ensures ∙ ap (λ ps. least_begin c.self.inside.last ps) c.deref.ensures.value
+
+abbrev after : (g : given.Over) → goal.After-self-3-1 g → CoreModel
+after g c = view_of (record c.self.inside { flushed = c.self.inside.last; floor = c.barrier-barrier.result; runs = c.self.inside.runs + 1; journal = c.push_reserved.new.self; frozen = c.clear.new.self; tables = c.push_reserved-2.new.self })
+
+-- what the fields are after the call
+becomes : (g : given.Over) (c : goal.After-self-3-1 g) → after_install (view_of c.self.inside) c.self.inside.last (table g c) c.push_reserved.new.self.spare ≡ after g c
+becomes g c = same_model _ _ refl
+    (sym (ap (λ es. (replay es).commits) (journal_is g c) ∙ ap (λ s. s.commits) (apply_more _ c.self.inside.journal.events (events.Install c.self.inside.last (table g c ∷ [])))))
+    refl refl refl refl (sym (journal_is g c)) refl refl (sym (ap (λ ts. map (λ t. t.rows) ts) c.clear.ensures.items)) (sym (barrier_is g c))
+
+-- the table is that of the core's flush
+made : (g : given.Over) (c : goal.After-self-3-1 g) →
+    IsTableOfFlush (changed_by g.T.BlockTransformer.encoded c.args.env.now.transformer) (layout_of c.args.options.now) (length (tables_of (view_of c.self.inside).events) + 1) (least_begin c.self.inside.last (view_of c.self.inside).state.txns) (view_of c.self.inside).frozen (table g c)
+made g c =
+    moved (λ n b layers. IsTableOfFlush (changed_by g.T.BlockTransformer.encoded c.args.env.now.transformer) (layout_of c.args.options.now) n b layers (table g c))
+    c.self.inside.runs (length (tables_of (view_of c.self.inside).events)) c.barrier-barrier.result (least_begin c.self.inside.last (view_of c.self.inside).state.txns) (map (λ t. t.rows) c.deref-2.result.now) (view_of c.self.inside).frozen
+    c.self.invariant.runs_counted (barrier_is g c) (ap (λ ts. map (λ t. t.rows) ts) c.deref-2.ensures.value) c.in_ok-put.ensures.stored.table
+
+pub invariant_of-self-2 : goal.invariant_of-self-2
+invariant_of-self-2 g c =
+    subst (λ (hs : List SsTableHandle). IsWhole (after g c) c.self.inside.last c.self.inside.ids (c.self.inside.runs + 1) hs)
+    (sym (c.push_reserved-2.ensures.items ∙ ap (λ xs. xs ++ (c.in_ok-put.put.1 ∷ [])) c.reserve-2.ensures.items))
+    (subst (λ (v : CoreModel). IsWhole v c.self.inside.last c.self.inside.ids (c.self.inside.runs + 1) (c.self.inside.tables.items ++ (c.in_ok-put.put.1 ∷ []))) (becomes g c)
+    (whole_install (view_of c.self.inside) c.self.inside.last c.self.inside.ids c.self.inside.runs c.self.inside.tables.items (table g c) c.in_ok-put.put.1 c.push_reserved.new.self.spare
+    (omega (arith, c.in_ok-reserve.ensures.ok, c.push_reserved.ensures.spare, c.len-3.ensures))
+    (omega (arith, c.if-len.false, c.len.ensures, c.len-2.ensures))
+    c.in_ok-put.ensures.stored.table.id
+    c.in_ok-put.ensures.stored.kept
+    c.self.invariant))
+
+pub stored-requires : goal.stored-requires
+stored-requires g c = record {
+  valid = c.requires.valid;
+  ready = subst CanFlush (sym (ap (λ ts. map (λ t. t.rows) ts) c.deref-2.ensures.value))
+      (can_flush (view_of c.self.inside) c.self.inside.last c.self.inside.ids c.self.inside.runs c.self.inside.tables.items c.self.invariant (subst (λ (v : CoreModel). 0 < length v.frozen) (sym c.self.view_is) c.requires.some));
+}
+
+pub returns-clause-newest : goal.returns-clause-newest
+returns-clause-newest g c = c.self.invariant.last ∙ ap (λ (v : CoreModel). last_of v.settings.start_seq v.state.commits) c.self.view_is
+
+pub returns-clause-installed : goal.returns-clause-installed
+returns-clause-installed g c =
+    stored (table g c)
+    (sym (becomes g c) ∙ ap (λ (v : CoreModel). after_install v c.self.inside.last (table g c) c.push_reserved.new.self.spare) c.self.view_is)
+    (subst (λ (v : CoreModel). IsTableOfFlush (changed_by g.T.BlockTransformer.encoded c.args.env.now.transformer) (layout_of c.args.options.now) (length (tables_of v.events) + 1) (least_begin c.self.inside.last v.state.txns) v.frozen (table g c)) c.self.view_is (made g c))
+    c.in_ok-put.ensures.stored.taken
+
+pub returns-clause-flushed : goal.returns-clause-flushed
+returns-clause-flushed g c =
+    ap (λ (v : CoreModel). v.state) (sym (becomes g c) ∙ ap (λ (v : CoreModel). after_install v c.self.inside.last (table g c) c.push_reserved.new.self.spare) c.self.view_is)
+
+pub returns-clause-kept : goal.returns-clause-kept
+returns-clause-kept g c m same k =
+    subst (λ (v : CoreModel). IsKept m v) (becomes g c)
+    (kept_install m (view_of c.self.inside) c.self.inside.last c.self.inside.ids c.self.inside.runs c.self.inside.tables.items (table g c) c.push_reserved.new.self.spare (layout_of c.args.options.now).version (made g c).rows c.self.invariant
+    (ap (λ (v : CoreModel). v.active) c.self.view_is ∙ c.requires.idle)
+    (subst (λ (encode : Encode). IsTable encode (table g c).1 (layout_of c.args.options.now).version (made g c).rows) (sym same) (table_of_flush _ _ _ _ _ (table g c) (made g c)))
+    ((made g c).folded m)
+    (subst (λ (v : CoreModel). IsKept m v) (sym c.self.view_is) k))
+
+-- room was made, and nothing else
+pub returns-in_err-put-clause-kept : goal.returns-in_err-put-clause-kept
+returns-in_err-put-clause-kept g c m same k =
+    subst (λ (v : CoreModel). IsKept m v)
+    (same_model (record (view_of c.self.inside) { spare = c.reserve.new.self.spare }) (view_of (record c.self.inside { journal = c.reserve.new.self; tables = c.reserve-2.new.self })) refl
+    (ap (λ es. (replay es).commits) (sym c.reserve.ensures.events)) refl refl refl refl (sym c.reserve.ensures.events) refl refl refl refl)
+    (kept_event m (view_of c.self.inside) (view_of c.self.inside).state c.self.inside.journal.events c.reserve.new.self.spare refl refl refl (subst (λ (v : CoreModel). IsKept m v) (sym c.self.view_is) k))
+
+pub returns-in_err-put-clause-refused : goal.returns-in_err-put-clause-refused
+returns-in_err-put-clause-refused g c =
+    let p = err_from_is_err_and c.from_residual-in_err-put.result c.from_residual-in_err-put.ensures.1 in
+    let enc = changed_by g.T.BlockTransformer.encoded c.args.env.now.transformer in
+    let barrier = c.barrier-barrier.ensures ∙ ap (λ ps. least_begin c.self.inside.last ps) c.deref.ensures.value ∙ ap (λ n. least_begin n (view_of c.self.inside).state.txns) c.self.invariant.last in
+    rw p.1
+    (subst (λ (v : CoreModel). MayFlush enc (layout_of c.args.options.now) v (g.S.Store.objects c.args.env.now.store.now) (g.S.Store.objects c.stored.new.env.store.now)) c.self.view_is
+    (moved (λ n b layers. MayTakeTable (IsTableOfFlush enc (layout_of c.args.options.now) n b layers) (g.S.Store.objects c.args.env.now.store.now) (g.S.Store.objects c.stored.new.env.store.now))
+    c.self.inside.runs (length (tables_of (view_of c.self.inside).events)) c.barrier-barrier.result (least_begin (last_of (view_of c.self.inside).settings.start_seq (view_of c.self.inside).state.commits) (view_of c.self.inside).state.txns) (map (λ t. t.rows) c.deref-2.result.now) (view_of c.self.inside).frozen
+    c.self.invariant.runs_counted barrier (ap (λ ts. map (λ t. t.rows) ts) c.deref-2.ensures.value) c.in_err-put.ensures.refused))

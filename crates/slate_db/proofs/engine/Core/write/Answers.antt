@@ -1,0 +1,112 @@
+use Rattle.std.proofs.Common.{◌≡◌, ℕ, ◌+◌, ◌-◌, ◌^◌, ◌<◌, ◌≤◌, ◌++◌, ◌∷◌, [], List, Some, refl, ap, sym, subst, ◌∙◌, arith, inr, true, false, w64, option_to_list}
+use Rattle.std.specs.List.{AllByRecursion}
+use Rattle.std.proofs.lemmas.Int.{to_z-of_z}
+use Rattle.slate_types.specs.declared.error.SlateDBError.TheVariants as errors
+use Rattle.slate_types.specs.Fold.{Combine}
+use Rattle.slate_mem.specs.Batch.{batch_keys}
+use Rattle.slate_mem.specs.CommitRows.{commit_rows}
+use Rattle.slate_mem.specs.RowOf.{row_of}
+use Rattle.slate_mem.specs.Table.{put_rows}
+use Rattle.slate_table.specs.Table.{AreInOrder}
+use Rattle.slate_txn.specs.declared.event.Event.TheVariants as events
+use Rattle.slate_txn.specs.declared.line.Line.TheVariants as lines
+use Rattle.slate_txn.specs.Replay.{replay}
+use Rattle.slate_txn.specs.Reply.{Written, Refused}
+use Rattle.slate_txn.specs.Step.{step}
+use Rattle.slate_db.specs.Meaning.{rules_of, combine_of}
+use Rattle.slate_db.specs.Model.{CoreModel, Rows, at, versions, versions_in, memory}
+use Rattle.slate_db.specs.View.{view_of}
+use Rattle.slate_db.specs.Sound.{IsKept}
+use Rattle.slate_db.specs.Whole.{IsWhole, FitsMemory, AreRising}
+use Rattle.slate_db.specs.Written.{after_write}
+use Rattle.slate_db.proofs.Keeps.{same_model}
+use Rattle.slate_db.proofs.Journals.{apply_more}
+use Rattle.slate_db.proofs.Lists.{all_map, all_behind}
+use Rattle.slate_db.proofs.MemoryRows.{commit_fits, commit_within, puts_all, rise_more}
+use Rattle.slate_db.proofs.Plain.{step_nothing, step_plain, step_exhausted, some_ops}
+use Rattle.slate_db.proofs.Puts.{order_puts, some_more, versions_more, active_within}
+use Rattle.slate_db.proofs.Writes.{whole_write, kept_write}
+use Rattle.slate_db.proofs.engine.Core.write.Goals as goal
+
+pub returns-then-is_empty-clause-step : goal.returns-then-is_empty-clause-step
+returns-then-is_empty-clause-step c m ops of fine =
+    step_nothing (rules_of c.args.self.now.settings m) (at c.args.now c.args.self.now.state) ops c.args.batch of (c.is_empty.ensures.0 c.if-is_empty.true)
+
+pub returns-then-self-ge18446744073709551614-clause-refused : goal.returns-then-self-ge18446744073709551614-clause-refused
+returns-then-self-ge18446744073709551614-clause-refused c = inr (inr (λ m ops of fine.
+    sym (ap (λ (v : CoreModel). step (rules_of v.settings m) (at c.args.now v.state) (lines.Write ops)) c.self.view_is)
+    ∙ step_exhausted (rules_of (view_of c.self.inside).settings m) (at c.args.now (view_of c.self.inside).state) ops c.args.batch c.self.inside.last of
+    (λ e. let t : true ≡ false = sym (c.is_empty.ensures.1 e) ∙ c.if-is_empty.false in cc) fine refl c.self.invariant.last
+    (let h : c.self.inside.last ≤ 2 ^ 64 - 2 = c.self.invariant.last_fits in omega arith)
+    ∙ ap (λ (v : CoreModel). (at c.args.now v.state, Refused errors.SequenceExhausted)) c.self.view_is))
+
+some : (c : goal.After-drop-batch-inside-2) → c.args.batch.ops ≡ [] → ⊥
+some c e = let t : true ≡ false = sym (c.is_empty.ensures.1 e) ∙ c.if-is_empty.false in cc
+
+fits : (c : goal.After-drop-batch-inside-2) → c.self.inside.last < 2 ^ 64 - 2
+fits c = omega arith
+
+-- the rows in memory
+rows_are : (c : goal.After-drop-batch-inside-2) (f : List ℕ → Combine) →
+    c.put_all.new.self.rows ≡ put_rows c.self.inside.active.rows (commit_rows f c.self.inside.default_millis (c.self.inside.last + 1) c.args.now c.args.batch.ops)
+rows_are c f =
+    c.in_ok-put_all.ensures.rows
+    ∙ ap (λ rs. put_rows c.self.inside.active.rows rs) (c.in_ok-rows.ensures.rows f ∙ ap (λ now. commit_rows f c.self.inside.default_millis (c.self.inside.last + 1) now c.args.batch.ops) (to_z-of_z w64 c.args.now c.ranges.now))
+
+-- what the fields are after the call
+becomes : (c : goal.After-drop-batch-inside-2) → after_write (view_of c.self.inside) (c.self.inside.last + 1) c.args.now c.args.batch.ops c.put_all.new.self.rows c.push_reserved.new.self.spare
+    ≡ view_of (record c.self.inside { last = c.self.inside.last + 1; journal = c.push_reserved.new.self; active = c.put_all.new.self })
+becomes c = same_model _ _ refl commits refl refl refl refl (sym journal) refl refl refl refl
+  where
+    journal : c.push_reserved.new.self.events ≡ c.self.inside.journal.events ++ (events.Write (c.self.inside.last + 1) c.args.now c.args.batch.ops ∷ [])
+    journal = c.push_reserved.ensures.events ∙ (λ i. c.reserve.ensures.events i ++ (events.Write (c.self.inside.last + 1) (to_z-of_z w64 c.args.now c.ranges.now i) ((c.from_vec.ensures ∙ c.in_ok-ops.ensures.ops) i) ∷ []))
+
+    commits : (view_of c.self.inside).state.commits ++ (record { seq = c.self.inside.last + 1; now = c.args.now; ops = c.args.batch.ops; tracked = batch_keys c.args.batch.ops } ∷ []) ≡ (replay c.push_reserved.new.self.events).commits
+    commits = sym (ap (λ es. (replay es).commits) journal ∙ ap (λ s. s.commits) (apply_more _ c.self.inside.journal.events (events.Write (c.self.inside.last + 1) c.args.now c.args.batch.ops)))
+
+pub invariant_of-self-2 : goal.invariant_of-self-2
+invariant_of-self-2 c =
+    subst (λ (v : CoreModel). IsWhole v (c.self.inside.last + 1) c.self.inside.ids c.self.inside.runs c.self.inside.tables.items) (becomes c)
+    (whole_write (view_of c.self.inside) c.self.inside.last c.self.inside.ids _ _ c.args.now c.args.batch.ops c.put_all.new.self.rows c.push_reserved.new.self.spare
+    (omega (arith, c.in_ok-reserve.ensures.ok, c.push_reserved.ensures.spare, c.len-3.ensures))
+    (omega (arith, c.if-len.false, c.len.ensures, c.len-2.ensures))
+    (fits c)
+    (record { some = some_ops c.args.batch.ops (some c); kept = c.ops.ensures.kept; fine = c.ops.ensures.fine })
+    (subst AreInOrder (sym (rows_are c plain)) (order_puts c.self.inside.active.rows (commit_rows plain c.self.inside.default_millis (c.self.inside.last + 1) c.args.now c.args.batch.ops) c.self.invariant.active_order))
+    (λ e. some_more plain c.self.inside.default_millis (c.self.inside.last + 1) c.args.now c.args.batch.ops c.self.inside.active.rows (some c) (sym (rows_are c plain) ∙ e))
+    (subst (AllByRecursion FitsMemory) (sym (rows_are c plain)) (puts_all FitsMemory c.self.inside.active.rows _ (active_part (λ rows. AllByRecursion FitsMemory rows) c.self.invariant.rows_fit) (commit_fits plain c.self.inside.default_millis (c.self.inside.last + 1) c.args.now c.args.batch.ops c.ops.ensures.fine (c.ops.ensures.plain c.requires))))
+    (subst (AllByRecursion (λ r. r.seq ≤ c.self.inside.last + 1)) (sym (rows_are c plain)) (puts_all _ c.self.inside.active.rows _ (all_map _ _ (λ r h. wider r.seq h) _ (active_part (λ rows. AllByRecursion (λ r. r.seq ≤ c.self.inside.last) rows) c.self.invariant.rows_within)) (commit_within plain c.self.inside.default_millis (c.self.inside.last + 1) c.args.now c.args.batch.ops)))
+    (λ k. subst (λ (rows : Rows). AreRising (versions_in k ((view_of c.self.inside).frozen ++ (rows ∷ [])))) (sym (rows_are c plain)) (rise_more (view_of c.self.inside) plain c.self.inside.default_millis c.self.inside.last c.args.now c.args.batch.ops c.self.invariant.rows_within c.self.invariant.rows_rise k))
+    c.self.invariant)
+  where
+    plain : List ℕ → Combine
+    plain k = λ e v. v
+
+    active_part : (P : Rows → Type 0) → AllByRecursion P (memory (view_of c.self.inside)) → P c.self.inside.active.rows
+    active_part P h = (all_behind P (view_of c.self.inside).frozen (c.self.inside.active.rows ∷ []) h).0
+
+    wider : (m : ℕ) → m ≤ c.self.inside.last → m ≤ c.self.inside.last + 1
+    wider m h = omega arith
+
+pub returns-clause-step : goal.returns-clause-step
+returns-clause-step c m ops of fine =
+    sym (ap (λ (v : CoreModel). step (rules_of v.settings m) (at c.args.now v.state) (lines.Write ops)) c.self.view_is)
+    ∙ step_plain (rules_of (view_of c.self.inside).settings m) (at c.args.now (view_of c.self.inside).state) ops c.args.batch c.self.inside.last of (some c) c.requires fine refl c.self.invariant.last (fits c)
+    ∙ (λ i. (at c.args.now (becomes c i).state, Written (Some (c.self.inside.last + 1))))
+
+pub returns-clause-event : goal.returns-clause-event
+returns-clause-event c = sym (becomes c) ∙ ap (λ (v : CoreModel). after_write v (c.self.inside.last + 1) c.args.now c.args.batch.ops c.put_all.new.self.rows c.push_reserved.new.self.spare) c.self.view_is
+
+pub returns-clause-kept : goal.returns-clause-kept
+returns-clause-kept c m k =
+    subst (λ (v : CoreModel). IsKept m v) (becomes c)
+    (kept_write m (view_of c.self.inside) c.self.inside.last c.self.inside.ids _ _ c.args.now c.args.batch.ops c.put_all.new.self.rows c.push_reserved.new.self.spare each c.self.invariant old)
+  where
+    old : IsKept m (view_of c.self.inside)
+    old = subst (λ (v : CoreModel). IsKept m v) (sym c.self.view_is) k
+
+    each : (j : List ℕ) → versions j c.put_all.new.self.rows ≡ versions j c.self.inside.active.rows ++ option_to_list (row_of (combine_of m j) c.self.inside.default_millis (c.self.inside.last + 1) c.args.now c.args.batch.ops j)
+    each j =
+        ap (versions j) (rows_are c (combine_of m))
+        ∙ versions_more (combine_of m) c.self.inside.default_millis (c.self.inside.last + 1) c.args.now c.args.batch.ops c.self.inside.active.rows j
+        (active_within m (view_of c.self.inside) c.self.inside.last c.self.inside.ids _ _ c.self.invariant old j)

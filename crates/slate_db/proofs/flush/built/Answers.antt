@@ -1,0 +1,107 @@
+use Rattle.std.proofs.Common.{◌≡◌, ℕ, ◌<◌, ◌⊎◌, ◌++◌, [], length, Err, rules, ap, sym, subst, ◌∙◌, arith}
+use Rattle.std.proofs.lemmas.List.{nil_from_length}
+use Rattle.std.proofs.lemmas.Result.{err_from_is_err_and}
+use Rattle.std.specs.Vec.Iter.{into_iter_items}
+use Rattle.slate_table.specs.Parts.{Encode}
+use Rattle.slate_table.specs.SectionReading.{changed_by, IsTransformFault}
+use Rattle.slate_table.specs.InfoReading.{seen_info}
+use Rattle.slate_table.specs.Table.{IsBuilt}
+use Rattle.slate_table.specs.TableBuilding.{TableBuilding, AreEncoded}
+use Rattle.slate_table.specs.TableEnd.{HasInfo}
+use Rattle.slate_table.specs.TableParts.{version_of}
+use Rattle.slate_types.specs.Faults.{faults_of}
+use Rattle.slate_db.specs.Flushed.{layout_of, IsTooLarge}
+use Rattle.slate_db.specs.Model.{Rows}
+use Rattle.slate_db.proofs.Built.{can_take, begun_encoded, one_more, row_fits, row_order, all_taken, add_refused}
+use Rattle.slate_db.proofs.flush.built.Goals as goal
+
+pub loop-row-init : goal.loop-row-init
+loop-row-init g c =
+    let begun = c.in_ok-builder.ensures.begun in
+    let gives : into_iter_items c.into_iter-row-iterator.result ≡ c.args.rows.items = search rules in
+    record {
+      rows = (λ i. (begun i).rows ++ into_iter_items c.into_iter-row-iterator.result) ∙ gives;
+      whole = ap (λ (b : TableBuilding). b.is_whole) begun;
+      version = ap (λ (b : TableBuilding). b.version) begun;
+      size = ap (λ (b : TableBuilding). b.size) begun;
+      encoded = subst (λ (b : TableBuilding). AreEncoded (changed_by g.T.BlockTransformer.encoded c.args.transformer.now) b) (sym begun) (begun_encoded _ _ _);
+      same_encoded = λ i. changed_by g.T.BlockTransformer.encoded c.args.transformer.now;
+      same_decoded = λ i. changed_by g.T.BlockTransformer.decoded c.args.transformer.now;
+      later = omega arith;
+    }
+
+pub loop-row-preserved : goal.loop-row-preserved
+loop-row-preserved g c =
+    let was = c.loop-row.invariant in
+    record {
+      rows = ap (λ (xs : Rows). xs ++ into_iter_items c.next.new.self) c.in_ok-add.ensures.added ∙ one_more _ _ _ _ _ c.in-Some.ensures.steps.0 was.rows;
+      whole = c.in_ok-add.ensures.whole;
+      version = c.in_ok-add.ensures.version ∙ was.version;
+      size = c.in_ok-add.ensures.size ∙ was.size;
+      encoded = subst (λ (encode : Encode). AreEncoded encode c.add.new.self) was.same_encoded (c.in_ok-add.ensures.encoded (subst (λ (encode : Encode). AreEncoded encode c.loop-row.builder) (sym was.same_encoded) was.encoded));
+      same_encoded = c.add.ensures.same_encoded ∙ was.same_encoded;
+      same_decoded = c.add.ensures.same_decoded ∙ was.same_decoded;
+      later = omega (arith, c.add.ensures.later, was.later);
+    }
+
+pub add-requires : goal.add-requires
+add-requires g c =
+    let was = c.loop-row.invariant in
+    record {
+      whole = was.whole;
+      lengths = can_take _ (row_fits _ _ _ _ _ c.in-Some.ensures.steps.0 was.rows c.requires.fit);
+      order = row_order _ _ _ _ _ c.in-Some.ensures.steps.0 was.rows c.requires.order;
+    }
+
+pub build-requires : goal.build-requires
+build-requires g c =
+    let was = c.loop-row.invariant in
+    let none : into_iter_items c.loop-row.row-iterator ≡ [] = nil_from_length _ (omega (arith, c.in-None.ensures.steps.0)) in
+    record { whole = was.whole; rows = subst (λ (xs : Rows). 0 < length xs) (sym (all_taken _ _ _ none was.rows)) c.requires.some }
+
+pub returns-in_err-add-clause-cause : goal.returns-in_err-add-clause-cause
+returns-in_err-add-clause-cause g c =
+    let p = err_from_is_err_and c.from_residual-in_err-add.result c.from_residual-in_err-add.ensures.1 in
+    let was = c.loop-row.invariant in
+    let row_ok = row_fits _ _ _ _ _ c.in-Some.ensures.steps.0 was.rows c.requires.fit in
+    let faults = faults_of g.T.BlockTransformer.faults in
+    rw (p.1, p.2)
+    (subst (λ (rows : Rows). IsTransformFault (faults c.args.transformer.now) (faults c.add.new.transformer) c.in_err-add.field-0.0 ⊎ IsTooLarge (layout_of c.args.options.now) rows c.in_err-add.field-0.0)
+    (one_more _ _ _ _ _ c.in-Some.ensures.steps.0 was.rows)
+    (add_refused (layout_of c.args.options.now) c.loop-row.builder c.add.new.self c.in-Some.row (into_iter_items c.next.new.self) (faults c.args.transformer.now) (faults c.loop-row.transformer) (faults c.add.new.transformer) c.in_err-add.field-0.0
+    was.later was.version was.size row_ok.key.0 (λ is. c.add.ensures.empty.0 (c.in_err-add.was ∙ ap Err is)) c.in_err-add.ensures.cause))
+
+pub returns-in_err-add-clause-same_encoded : goal.returns-in_err-add-clause-same_encoded
+returns-in_err-add-clause-same_encoded g c = c.add.ensures.same_encoded ∙ c.loop-row.invariant.same_encoded
+
+pub returns-in_err-add-clause-same_decoded : goal.returns-in_err-add-clause-same_decoded
+returns-in_err-add-clause-same_decoded g c = c.add.ensures.same_decoded ∙ c.loop-row.invariant.same_decoded
+
+pub returns-in_err-table-clause-same_encoded : goal.returns-in_err-table-clause-same_encoded
+returns-in_err-table-clause-same_encoded g c = c.build.ensures.same_encoded ∙ c.loop-row.invariant.same_encoded
+
+pub returns-in_err-table-clause-same_decoded : goal.returns-in_err-table-clause-same_decoded
+returns-in_err-table-clause-same_decoded g c = c.build.ensures.same_decoded ∙ c.loop-row.invariant.same_decoded
+
+pub returns-clause-same_encoded : goal.returns-clause-same_encoded
+returns-clause-same_encoded g c = c.build.ensures.same_encoded ∙ c.loop-row.invariant.same_encoded
+
+pub returns-clause-same_decoded : goal.returns-clause-same_decoded
+returns-clause-same_decoded g c = c.build.ensures.same_decoded ∙ c.loop-row.invariant.same_decoded
+
+pub returns-clause-built : goal.returns-clause-built
+returns-clause-built g c =
+    let was = c.loop-row.invariant in
+    let same = was.same_encoded in
+    let version = was.version in
+    let size = was.size in
+    let none : into_iter_items c.loop-row.row-iterator ≡ [] = nil_from_length _ (omega (arith, c.in-None.ensures.steps.0)) in
+    let rows = all_taken _ _ _ none was.rows in
+    let made = c.in_ok-table.ensures.built (subst (λ (encode : Encode). AreEncoded encode c.loop-row.builder) (sym same) was.encoded) 0 in
+    subst (λ (encode : Encode). IsBuilt encode [] 0 c.args.options.now.block_size (version_of c.args.options.now.block_format) c.in_ok-table.table.bytes c.args.rows.items) same
+    (subst (λ (xs : Rows). IsBuilt (changed_by g.T.BlockTransformer.encoded c.loop-row.transformer) [] 0 c.args.options.now.block_size (version_of c.args.options.now.block_format) c.in_ok-table.table.bytes xs) rows
+    (subst (λ (n : ℕ). IsBuilt (changed_by g.T.BlockTransformer.encoded c.loop-row.transformer) [] 0 n (version_of c.args.options.now.block_format) c.in_ok-table.table.bytes c.loop-row.builder.rows) size
+    (subst (λ (n : ℕ). IsBuilt (changed_by g.T.BlockTransformer.encoded c.loop-row.transformer) [] 0 c.loop-row.builder.size n c.in_ok-table.table.bytes c.loop-row.builder.rows) version made)))
+
+pub returns-clause-info : goal.returns-clause-info
+returns-clause-info g c = subst (λ (n : ℕ). HasInfo c.in_ok-table.table.bytes n (seen_info c.in_ok-table.table.info)) c.loop-row.invariant.version c.in_ok-table.ensures.info

@@ -1,0 +1,6 @@
+use Rattle.std.proofs.Common.{ℕ, List, subst, ◌∙◌}
+use Rattle.slate_block.specs.ReadingLaws.{EachIsAByte}
+use Rattle.slate_db.proofs.flush.list_of.Goals as goal
+
+pub returns-clause-bytes : goal.returns-clause-bytes
+returns-clause-bytes c = subst (λ (bs : List ℕ). EachIsAByte bs) (c.as_slice.ensures ∙ c.in_ok-bytes.ensures.whole) c.are_bytes.ensures

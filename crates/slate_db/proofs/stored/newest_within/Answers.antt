@@ -1,0 +1,87 @@
+use Rattle.std.proofs.Common.{inl, refl, ◌∙◌}
+use Rattle.std.proofs.lemmas.Result.{err_from_is_err_and}
+use Rattle.slate_table.specs.Finding.{index_answer}
+use Rattle.slate_table.specs.IndexValue.{entries_of}
+use Rattle.slate_table.specs.InfoReading.{seen_info}
+use Rattle.slate_table.specs.Reading.{IsIndexRead, block_answer}
+use Rattle.slate_table.specs.SectionReading.{changed_by}
+use Rattle.slate_table.proofs.TableFinds.{key_held}
+use Rattle.slate_db.proofs.Damaged.{blocks_cause, cause_earlier, found_cause, index_cause}
+use Rattle.slate_db.proofs.Newest.{newest_same}
+use Rattle.slate_db.proofs.Tables.{blocks_read, blocks_whole, faults_earlier, index_whole, read_part}
+use Rattle.slate_db.proofs.stored.newest_within.Goals as goal
+
+pub returns-in_err-index-clause-whole : goal.returns-in_err-index-clause-whole
+returns-in_err-index-clause-whole g c rows stored =
+    let p = err_from_is_err_and c.from_residual.result c.from_residual.ensures.1 in
+    rw (p.1, p.2) (index_whole _ _ _ _ c.args.table.now rows _ _ _ _ _ _ _ stored refl c.in_err-index.ensures.cause)
+
+pub returns-in_err-blocks-clause-same_encoded : goal.returns-in_err-blocks-clause-same_encoded
+returns-in_err-blocks-clause-same_encoded g c = c.read_blocks.ensures.same_encoded ∙ c.read_index.ensures.same_encoded
+
+pub returns-in_err-blocks-clause-same_decoded : goal.returns-in_err-blocks-clause-same_decoded
+returns-in_err-blocks-clause-same_decoded g c = c.read_blocks.ensures.same_decoded ∙ c.read_index.ensures.same_decoded
+
+pub returns-in_err-blocks-clause-whole : goal.returns-in_err-blocks-clause-whole
+returns-in_err-blocks-clause-whole g c rows stored =
+    let encoded = changed_by g.T.BlockTransformer.encoded in
+    let decoded = changed_by g.T.BlockTransformer.decoded in
+    let read : IsIndexRead (decoded c.args.transformer.now) c.args.table.now.info.filter_offset (index_answer stored.bytes (seen_info c.args.table.now.info)) (entries_of c.in_ok-index.index) =
+    read_part _ _ _ _ _ _ _ _ stored.os stored.bytes refl stored.told stored.there c.in_ok-index.ensures.found in
+    let p = err_from_is_err_and c.from_residual-in_err-blocks.result c.from_residual-in_err-blocks.ensures.1 in
+    rw (p.1, p.2) (faults_earlier _ _ _ _ _ _ _ c.read_index.ensures.later c.read_index.ensures.later_transformer
+    (blocks_whole (encoded c.args.transformer.now) (decoded c.args.transformer.now) (decoded c.read_index.new.transformer) (g.S.Store.objects c.args.store.now) (g.S.Store.objects c.read_index.new.store) c.args.table.now rows (entries_of c.in_ok-index.index)
+    c.covering-covered.result.start c.covering-covered.result.end _ _ c.in_err-blocks.field-0.0 _ _ _ _ stored c.read_index.ensures.objects c.read_index.ensures.same_decoded read c.covering-covered.ensures.order c.covering-covered.ensures.within c.in_err-blocks.ensures.cause))
+
+pub returns-in_err-found-clause-whole : goal.returns-in_err-found-clause-whole
+returns-in_err-found-clause-whole g c rows stored =
+    let encoded = changed_by g.T.BlockTransformer.encoded in
+    let decoded = changed_by g.T.BlockTransformer.decoded in
+    let read : IsIndexRead (decoded c.args.transformer.now) c.args.table.now.info.filter_offset (index_answer stored.bytes (seen_info c.args.table.now.info)) (entries_of c.in_ok-index.index) =
+    read_part _ _ _ _ _ _ _ _ stored.os stored.bytes refl stored.told stored.there c.in_ok-index.ensures.found in
+    let are = blocks_read (encoded c.args.transformer.now) (decoded c.args.transformer.now) (decoded c.read_index.new.transformer) (g.S.Store.objects c.args.store.now) (g.S.Store.objects c.read_index.new.store) c.args.table.now rows (entries_of c.in_ok-index.index)
+    c.covering-covered.result.start c.covering-covered.result.end _ _ c.in_ok-blocks.blocks.items stored c.read_index.ensures.objects c.read_index.ensures.same_decoded c.in_ok-blocks.ensures.found in
+    let key = key_held (encoded c.args.transformer.now) (decoded c.args.transformer.now) stored.lawful stored.bytes c.args.table.now.format_version (seen_info c.args.table.now.info) rows stored.is (entries_of c.in_ok-index.index) read
+    c.args.key.now c.covering-covered.result.start c.covering-covered.result.end c.covering-covered.ensures.order c.covering-covered.ensures.within c.covering-covered.ensures.each c.in_ok-blocks.blocks.items c.in_ok-blocks.ensures.count are in
+    let p = err_from_is_err_and c.from_residual-in_err-found.result c.from_residual-in_err-found.ensures.1 in
+    rw (p.1, p.2) (inl (inl (c.in_err-found.ensures.whole key.0 key.1 key.2)))
+
+pub returns-in_err-found-clause-same_encoded : goal.returns-in_err-found-clause-same_encoded
+returns-in_err-found-clause-same_encoded g c = c.read_blocks.ensures.same_encoded ∙ c.read_index.ensures.same_encoded
+
+pub returns-in_err-found-clause-same_decoded : goal.returns-in_err-found-clause-same_decoded
+returns-in_err-found-clause-same_decoded g c = c.read_blocks.ensures.same_decoded ∙ c.read_index.ensures.same_decoded
+
+pub returns-clause-found : goal.returns-clause-found
+returns-clause-found g c rows stored =
+    let encoded = changed_by g.T.BlockTransformer.encoded in
+    let decoded = changed_by g.T.BlockTransformer.decoded in
+    let read : IsIndexRead (decoded c.args.transformer.now) c.args.table.now.info.filter_offset (index_answer stored.bytes (seen_info c.args.table.now.info)) (entries_of c.in_ok-index.index) =
+    read_part _ _ _ _ _ _ _ _ stored.os stored.bytes refl stored.told stored.there c.in_ok-index.ensures.found in
+    let are = blocks_read (encoded c.args.transformer.now) (decoded c.args.transformer.now) (decoded c.read_index.new.transformer) (g.S.Store.objects c.args.store.now) (g.S.Store.objects c.read_index.new.store) c.args.table.now rows (entries_of c.in_ok-index.index)
+    c.covering-covered.result.start c.covering-covered.result.end _ _ c.in_ok-blocks.blocks.items stored c.read_index.ensures.objects c.read_index.ensures.same_decoded c.in_ok-blocks.ensures.found in
+    let key = key_held (encoded c.args.transformer.now) (decoded c.args.transformer.now) stored.lawful stored.bytes c.args.table.now.format_version (seen_info c.args.table.now.info) rows stored.is (entries_of c.in_ok-index.index) read
+    c.args.key.now c.covering-covered.result.start c.covering-covered.result.end c.covering-covered.ensures.order c.covering-covered.ensures.within c.covering-covered.ensures.each c.in_ok-blocks.blocks.items c.in_ok-blocks.ensures.count are in
+    c.in_ok-found.ensures.found key.0 key.1 key.2 ∙ newest_same c.args.key.now c.args.max_seq _ rows key.3
+
+pub returns-clause-same_encoded : goal.returns-clause-same_encoded
+returns-clause-same_encoded g c = c.read_blocks.ensures.same_encoded ∙ c.read_index.ensures.same_encoded
+
+pub returns-clause-same_decoded : goal.returns-clause-same_decoded
+returns-clause-same_decoded g c = c.read_blocks.ensures.same_decoded ∙ c.read_index.ensures.same_decoded
+
+pub returns-in_err-index-clause-cause : goal.returns-in_err-index-clause-cause
+returns-in_err-index-clause-cause g c =
+    let p = err_from_is_err_and c.from_residual.result c.from_residual.ensures.1 in
+    rw (p.1, p.2) (index_cause (changed_by g.T.BlockTransformer.decoded c.args.transformer.now) _ _ _ _ _ _ c.args.table.now.info.filter_offset _ _ _ _ _ c.in_err-index.ensures.cause)
+
+pub returns-in_err-blocks-clause-cause : goal.returns-in_err-blocks-clause-cause
+returns-in_err-blocks-clause-cause g c =
+    let p = err_from_is_err_and c.from_residual-in_err-blocks.result c.from_residual-in_err-blocks.ensures.1 in
+    rw (p.1, p.2) (cause_earlier _ _ _ _ _ _ _ c.read_index.ensures.later c.read_index.ensures.later_transformer
+    (blocks_cause (changed_by g.T.BlockTransformer.decoded c.read_index.new.transformer) _ _ _ _ _ _ (block_answer c.args.table.now.info.filter_offset (entries_of c.in_ok-index.index) c.covering-covered.result.start) c.covering-covered.result.start c.covering-covered.result.end _ _ _ _ _ c.in_err-blocks.ensures.cause))
+
+pub returns-in_err-found-clause-cause : goal.returns-in_err-found-clause-cause
+returns-in_err-found-clause-cause g c =
+    let p = err_from_is_err_and c.from_residual-in_err-found.result c.from_residual-in_err-found.ensures.1 in
+    rw (p.1, p.2) (found_cause _ _ _ _ _ c.in_err-found.ensures.cause)

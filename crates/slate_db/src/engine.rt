@@ -1,0 +1,457 @@
+//! The core: the journal of a store, what is open in it, and the rows in memory.
+ghost use Rattle.std.specs.Prelude.{◌≡◌, ◌≢◌, ◌⊎◌, ◌+◌, ◌-◌, ◌^◌, ◌≤◌, ◌<◌, ◌∷◌, List, [], ◌++◌, length, IfOk, IfErr, OnOk, OnErr, IsOk, Err, IsSome, false, is_some};
+ghost use Rattle.slate_types.specs.Config.{IsValid};
+ghost use Rattle.slate_types.specs.Faults.{faults_of};
+ghost use Rattle.slate_types.specs.declared.error.SlateDBError.{SlateDBError};
+ghost use Rattle.slate_types.specs.Fold.{fold_rows};
+ghost use Rattle.slate_store.specs.Env.{combine_of as part_of};
+ghost use Rattle.slate_mem.specs.Table.{newest};
+ghost use Rattle.slate_table.specs.Reading.{IsStoreFault};
+ghost use Rattle.slate_table.specs.SectionReading.{changed_by, IsTransformFault};
+ghost use Rattle.slate_txn.specs.declared.event.TranscriptStep.TheVariants as steps;
+ghost use Rattle.slate_txn.specs.Reads.{key_rows, up_to};
+ghost use Rattle.slate_txn.specs.declared.event.Event.TheVariants as events;
+ghost use Rattle.slate_txn.specs.declared.line.Line.TheVariants as lines;
+ghost use Rattle.slate_txn.specs.Named.{find_named};
+ghost use Rattle.slate_txn.specs.Replay.{IsLegal};
+ghost use Rattle.slate_mem.specs.Batch.{Ops};
+ghost use Rattle.slate_mem.specs.BatchModel.{IsBatchOf};
+ghost use Rattle.slate_txn.specs.Places.{IsQuiet};
+ghost use Rattle.slate_txn.specs.Reply.{Done, Refused, Begun, Found, Written, Frozen, Flushed};
+ghost use Rattle.slate_txn.specs.Settings.{settings_of};
+ghost use Rattle.slate_txn.specs.State.{opening, last_of};
+ghost use Rattle.slate_txn.specs.Step.{noted, step};
+ghost use Rattle.slate_db.specs.Meaning.{Meaning, HasParts, IsLawfulMeaning, combine_of, rules_of};
+ghost use Rattle.slate_db.specs.Frozen.{IsFrozen};
+ghost use Rattle.slate_db.specs.Flushed.{IsFlushed, MayFlush, TooLarge, events_of_flush, layout_of};
+ghost use Rattle.slate_db.specs.Installs.{HoldsTables, Replays, tables_of};
+ghost use Rattle.slate_db.specs.Lookup.{IsCallback, IsDamage, IsOperatorFault, newest_first};
+ghost use Rattle.slate_db.specs.Model.{CoreModel, IsSame, Rows, at};
+ghost use Rattle.slate_db.specs.Sound.{AreTables, IsKept, FoldsToState};
+ghost use Rattle.slate_db.specs.StoredState.{StoresState};
+ghost use Rattle.slate_db.specs.Whole.{LIMIT, AreFine};
+ghost use Rattle.slate_db.specs.Written.{IsWritten};
+
+use crate::flush::stored;
+use crate::fold::{answer, fold_found};
+use crate::lookup::newest_of_frozen;
+use crate::open::{Open, barrier, begin_of, note, place};
+use crate::stored::newest_of_tables;
+use bytes::Bytes;
+use slate_mem::{ImmutableMemtable, MemTable, WriteBatch};
+use slate_store::{Env, Store};
+use slate_table::SsTableHandle;
+use slate_txn::{Event, Journal, OpList, TranscriptStep};
+use slate_types::{
+    BlockTransformer, IsolationLevel, KeyValue, MergeOperator, Options, ReadOptions, RowEntry,
+    SlateDBError,
+};
+use std::alloc::Global;
+use std::collections::BTreeSet;
+use std::marker::Model;
+use uuid::Uuid;
+
+/// The journal's events, with one more for each open transaction, are no more than these.
+pub const EVENTS: usize = 9223372036854775807;
+
+/// A store on one thread: its journal, the transactions that are open, and the rows in memory. What it is given
+/// of the outside it is given call by call.
+#[derive(Drop)]
+pub struct Core {
+    alloc: Global,
+    default_millis: Option<u64>,
+    start_seq: u64,
+    last: u64,
+    flushed: u64,
+    floor: u64,
+    ids: u64,
+    runs: u64,
+    journal: Journal,
+    open: Vec<(Uuid, Open)>,
+    active: MemTable,
+    frozen: Vec<ImmutableMemtable>,
+    /// What is kept of the tables that were installed, the newest last.
+    tables: Vec<SsTableHandle>,
+}
+
+impl Model for Core {
+    ghost use Rattle.slate_db.specs.Model.{CoreModel};
+
+    ghost Value = { CoreModel };
+
+    ghost use Rattle.slate_db.specs.View.{view_of, IsWholeInside};
+
+    ghost view = { view_of };
+
+    ghost invariant = { IsWholeInside };
+}
+
+impl Core {
+    /// A core with an empty journal. Takes no memory.
+    pub fn new(alloc: Global, options: &Options) -> Core
+        requires { options.now.start_seq ≤ 18446744073709551614 }
+        ensures settings { result.settings ≡ settings_of options.now }
+        ensures state { result.state ≡ opening }
+        ensures journal { result.events ≡ [] }
+        ensures kept { (m : Meaning) → IsKept m result }
+    {
+        Core {
+            alloc,
+            default_millis: options.default_ttl_millis,
+            start_seq: options.start_seq,
+            last: options.start_seq,
+            flushed: 0,
+            floor: 0,
+            ids: 0,
+            runs: 0,
+            journal: Journal::new(alloc),
+            open: Vec::new(alloc),
+            active: MemTable::new(alloc),
+            frozen: Vec::new(alloc),
+            tables: Vec::new(alloc),
+        }
+    }
+
+    /// Whether the id is that of an open transaction.
+    pub fn is_open(&self, id: &Uuid) -> bool
+        ensures { result ≡ is_some (find_named id.now self.now.state.txns) }
+    {
+        place(&self.open, id).is_some()
+    }
+
+    /// Opens a transaction at the newest sequence, and gives its id and that sequence. Room for the event of its end
+    /// is made now. Refuses by `LimitReached` where the journal has no place for both events, and by `OutOfMemory`,
+    /// and then nothing is opened.
+    pub fn begin(&mut self, level: IsolationLevel) -> Result<(Uuid, u64), SlateDBError>
+        ensures step { IfOk result (λ a. (m : Meaning) → step (rules_of self.old.settings m) self.old.state (lines.Begin a.0 level) ≡ (self.new.state, Begun a.0 a.1)) }
+        ensures event { IfOk result (λ a. self.new ≡ record self.old { state = self.new.state; events = self.old.events ++ events.Begin a.0 level a.1 ∷ []; spare = self.new.spare }) }
+        ensures kept { OnOk result ((m : Meaning) → IsKept m self.old → IsKept m self.new) }
+        ensures same { OnErr result (self.new ≡ self.old) }
+        ensures limit { LIMIT < length self.old.events + length self.old.state.txns + 2 → result ≡ Err (SlateDBError.LimitReached LIMIT) }
+        ensures cause { IfErr result (λ e. (e ≡ SlateDBError.OutOfMemory) ⊎ ((e ≡ SlateDBError.LimitReached LIMIT) × (LIMIT < length self.old.events + length self.old.state.txns + 2))) }
+    {
+        if self.journal.len() + self.open.len() > EVENTS - 2 {
+            return Err(SlateDBError::LimitReached {
+                limit: EVENTS as u64,
+            });
+        }
+        self.open.reserve(1)?;
+        self.journal.reserve(self.open.len() + 2)?;
+        self.ids += 1;
+        let id = Uuid::from_u128(self.ids as u128);
+        self.journal.push_reserved(Event::Begin {
+            id,
+            level,
+            start: self.last,
+        });
+        self.open
+            .push_reserved((id, Open::new(self.alloc, level, self.last)));
+        Ok((id, self.last))
+    }
+
+    /// Ends an open transaction without a commit, in the room that its begin made.
+    pub fn rollback(&mut self, id: &Uuid)
+        requires { IsSome (find_named id.now self.old.state.txns) }
+        ensures step { (m : Meaning) → step (rules_of self.old.settings m) self.old.state (lines.Rollback id.now) ≡ (self.new.state, Done) }
+        ensures event { self.new ≡ record self.old { state = self.new.state; events = self.old.events ++ events.End id.now ∷ []; spare = self.new.spare } }
+        ensures kept { (m : Meaning) → IsKept m self.old → IsKept m self.new }
+    {
+        if let Some(i) = place(&self.open, id) {
+            self.open.remove(i);
+            self.journal.push_reserved(Event::End { id: *id });
+        }
+    }
+
+    /// Moves the active rows behind those that wait for a flush, and gives the newest sequence. Where there are none
+    /// it changes nothing. Refuses by `LimitReached` where the journal has no place for the event, and by
+    /// `OutOfMemory`, and then nothing is moved.
+    pub fn freeze(&mut self) -> Result<u64, SlateDBError>
+        ensures step { IfOk result (λ n. (m : Meaning) → step (rules_of self.old.settings m) self.old.state lines.Freeze ≡ (self.new.state, Frozen n)) }
+        ensures event { OnOk result (IsFrozen self.old self.new) }
+        ensures quiet { OnOk result (IsQuiet self.new.events) }
+        ensures idle { self.old.active ≡ [] → IsOk result }
+        ensures kept { OnOk result ((m : Meaning) → IsKept m self.old → IsKept m self.new) }
+        ensures same { OnErr result (self.new ≡ self.old) }
+        ensures limit { self.old.active ≢ [] → LIMIT < length self.old.events + length self.old.state.txns + 1 → result ≡ Err (SlateDBError.LimitReached LIMIT) }
+        ensures cause { IfErr result (λ e. (e ≡ SlateDBError.OutOfMemory) ⊎ ((e ≡ SlateDBError.LimitReached LIMIT) × (LIMIT < length self.old.events + length self.old.state.txns + 1))) }
+    {
+        if self.active.is_empty() {
+            return Ok(self.last);
+        }
+        if self.journal.len() + self.open.len() > EVENTS - 1 {
+            return Err(SlateDBError::LimitReached {
+                limit: EVENTS as u64,
+            });
+        }
+        self.frozen.reserve(1)?;
+        self.journal.reserve(self.open.len() + 1)?;
+        let table = self.active.freeze()?;
+        self.frozen.push_reserved(table);
+        self.journal.push_reserved(Event::Freeze);
+        Ok(self.last)
+    }
+
+    /// Commits a batch by itself, at the next sequence, which it gives. An empty batch commits nothing. The batch may
+    /// have taken no merge. Refuses by `SequenceExhausted` where no sequence is left, by `LimitReached` where the
+    /// journal has no place for the event, and by `OutOfMemory`, and then nothing is committed.
+    pub fn write(&mut self, batch: WriteBatch, now: i64) -> Result<Option<u64>, SlateDBError>
+        requires { batch.held_merge ≡ false }
+        ensures step { IfOk result (λ n. (m : Meaning) (ops : Ops) → IsBatchOf ops batch → AreFine ops → step (rules_of self.old.settings m) (at now self.old.state) (lines.Write ops) ≡ (at now self.new.state, Written n)) }
+        ensures refused { IfErr result (λ e. (e ≡ SlateDBError.OutOfMemory) ⊎ ((e ≡ SlateDBError.LimitReached LIMIT) ⊎ ((m : Meaning) (ops : Ops) → IsBatchOf ops batch → AreFine ops → step (rules_of self.old.settings m) (at now self.old.state) (lines.Write ops) ≡ (at now self.old.state, Refused e)))) }
+        ensures event { IfOk result (λ n. IsWritten self.old self.new n now batch.ops) }
+        ensures kept { OnOk result ((m : Meaning) → IsKept m self.old → IsKept m self.new) }
+        ensures same { OnErr result (IsSame self.old self.new) }
+        ensures exhausted { batch.ops ≢ [] → last_of self.old.settings.start_seq self.old.state.commits ≡ 2 ^ 64 - 2 → result ≡ Err SlateDBError.SequenceExhausted }
+        ensures limit { batch.ops ≢ [] → last_of self.old.settings.start_seq self.old.state.commits < 2 ^ 64 - 2 → LIMIT < length self.old.events + length self.old.state.txns + 1 → result ≡ Err (SlateDBError.LimitReached LIMIT) }
+        ensures cause { IfErr result (λ e. (e ≡ SlateDBError.OutOfMemory) ⊎ (((e ≡ SlateDBError.SequenceExhausted) × (last_of self.old.settings.start_seq self.old.state.commits ≡ 2 ^ 64 - 2)) ⊎ ((e ≡ SlateDBError.LimitReached LIMIT) × (LIMIT < length self.old.events + length self.old.state.txns + 1)))) }
+    {
+        if batch.is_empty() {
+            return Ok(None);
+        }
+        if self.last >= 18446744073709551614 {
+            return Err(SlateDBError::SequenceExhausted);
+        }
+        if self.journal.len() + self.open.len() > EVENTS - 1 {
+            return Err(SlateDBError::LimitReached {
+                limit: EVENTS as u64,
+            });
+        }
+        let seq = self.last + 1;
+        let (rows, _bytes) = batch.extract_entries(self.alloc, seq, now, self.default_millis)?;
+        let ops = batch.ops(self.alloc)?;
+        self.journal.reserve(self.open.len() + 1)?;
+        self.active.put_all(rows, BTreeSet::new(self.alloc))?;
+        self.journal.push_reserved(Event::Write {
+            seq,
+            now,
+            ops: OpList::from_vec(ops),
+        });
+        self.last = seq;
+        Ok(Some(seq))
+    }
+
+    /// Freezes, stores the rows that wait as one table, and gives the newest sequence. Of each key the rows at or below the
+    /// barrier, which is the least begin of an open transaction or else the newest sequence, become their fold. Where no
+    /// rows are in memory nothing is stored. Refuses by `LimitReached` where the journal has no place for the events, and
+    /// then nothing is changed, or where the table would pass a limit; by `StoreFault` and `BlockTransformError`, each only
+    /// where its count of faults rose; and by `OutOfMemory`. Then the rows are in memory as before, or frozen, and the
+    /// store's objects are as they were, or have the table, which no event names.
+    pub fn flush<S: Store, M: MergeOperator, T: BlockTransformer>(
+        &mut self,
+        env: &mut Env<'_, S, M, T>,
+        options: &Options,
+    ) -> Result<u64, SlateDBError>
+        requires { IsValid options.now }
+        ensures step { IfOk result (λ n. (m : Meaning) → step (rules_of self.old.settings m) self.old.state lines.Flush ≡ (self.new.state, Flushed n)) }
+        ensures installed { IfOk result (λ n. (between : CoreModel) × IsFrozen self.old between × IsFlushed (changed_by T.encoded env.old.transformer) (layout_of options.now) between self.new n (S.objects env.old.store.now) (S.objects env.new.store.now)) }
+        ensures taken { OnOk result ((self.new.active ≡ []) × (self.new.frozen ≡ [])) }
+        ensures refused { OnErr result ((between : CoreModel) × (IsSame self.old between ⊎ IsFrozen self.old between) × IsSame between self.new × MayFlush (changed_by T.encoded env.old.transformer) (layout_of options.now) between (S.objects env.old.store.now) (S.objects env.new.store.now)) }
+        ensures kept { (m : Meaning) → m.encode ≡ changed_by T.encoded env.old.transformer → IsKept m self.old → IsKept m self.new }
+        ensures settings { self.new.settings ≡ self.old.settings }
+        ensures limit { LIMIT < length self.old.events + length self.old.state.txns + events_of_flush self.old.active self.old.frozen → result ≡ Err (SlateDBError.LimitReached LIMIT) }
+        ensures cause { IfErr result (λ e. IsStoreFault (S.faults env.old.store.now) (S.faults env.new.store.now) e ⊎ (IsTransformFault (faults_of T.faults env.old.transformer) (faults_of T.faults env.new.transformer) e ⊎ (((e ≡ SlateDBError.LimitReached LIMIT) × (LIMIT < length self.old.events + length self.old.state.txns + events_of_flush self.old.active self.old.frozen)) ⊎ TooLarge (layout_of options.now) self.old e))) }
+        ensures later { S.faults env.old.store.now ≤ S.faults env.new.store.now }
+        ensures later_transformer { faults_of T.faults env.old.transformer ≤ faults_of T.faults env.new.transformer }
+        ensures same_encoded { changed_by T.encoded env.new.transformer ≡ changed_by T.encoded env.old.transformer }
+        ensures same_decoded { changed_by T.decoded env.new.transformer ≡ changed_by T.decoded env.old.transformer }
+        ensures operator { env.new.operator ≡ env.old.operator }
+        ensures same_store { env.new.store.ghost_name ≡ env.old.store.ghost_name }
+    {
+        self.make_room()?;
+        self.freeze()?;
+        if self.frozen.as_slice().is_empty() {
+            self.flushed = self.last;
+            return Ok(self.last);
+        }
+        self.install(env, options)
+    }
+
+    /// Makes room for the events of a flush that freezes rows.
+    fn make_room(&mut self) -> Result<(), SlateDBError>
+        ensures same { IsSame self.old self.new }
+        ensures idle { self.old.active ≡ [] → self.new ≡ self.old }
+        ensures never { self.old.active ≡ [] → IsOk result }
+        ensures room { OnOk result (self.old.active ≢ [] → length self.old.events + length self.old.state.txns + 2 ≤ LIMIT) }
+        ensures limit { self.old.active ≢ [] → LIMIT < length self.old.events + length self.old.state.txns + 2 → result ≡ Err (SlateDBError.LimitReached LIMIT) }
+        ensures cause { IfErr result (λ e. (e ≡ SlateDBError.OutOfMemory) ⊎ ((e ≡ SlateDBError.LimitReached LIMIT) × (self.old.active ≢ []) × (LIMIT < length self.old.events + length self.old.state.txns + 2))) }
+    {
+        if self.active.is_empty() {
+            return Ok(());
+        }
+        if self.journal.len() + self.open.len() > EVENTS - 2 {
+            return Err(SlateDBError::LimitReached {
+                limit: EVENTS as u64,
+            });
+        }
+        let events = self.open.len() + 2;
+        self.journal.reserve(events)?;
+        Ok(())
+    }
+
+    /// Stores the frozen rows as a table.
+    fn install<S: Store, M: MergeOperator, T: BlockTransformer>(
+        &mut self,
+        env: &mut Env<'_, S, M, T>,
+        options: &Options,
+    ) -> Result<u64, SlateDBError>
+        requires valid { IsValid options.now }
+        requires idle { self.old.active ≡ [] }
+        requires some { 0 < length self.old.frozen }
+        ensures newest { IfOk result (λ n. n ≡ last_of self.old.settings.start_seq self.old.state.commits) }
+        ensures installed { IfOk result (λ n. IsFlushed (changed_by T.encoded env.old.transformer) (layout_of options.now) self.old self.new n (S.objects env.old.store.now) (S.objects env.new.store.now)) }
+        ensures flushed { IfOk result (λ n. self.new.state ≡ record self.old.state { flushed = n }) }
+        ensures taken { OnOk result ((self.new.active ≡ []) × (self.new.frozen ≡ [])) }
+        ensures same { OnErr result (IsSame self.old self.new) }
+        ensures refused { OnErr result (MayFlush (changed_by T.encoded env.old.transformer) (layout_of options.now) self.old (S.objects env.old.store.now) (S.objects env.new.store.now)) }
+        ensures kept { (m : Meaning) → m.encode ≡ changed_by T.encoded env.old.transformer → IsKept m self.old → IsKept m self.new }
+        ensures settings { self.new.settings ≡ self.old.settings }
+        ensures limit { LIMIT < length self.old.events + length self.old.state.txns + 1 → result ≡ Err (SlateDBError.LimitReached LIMIT) }
+        ensures cause { IfErr result (λ e. IsStoreFault (S.faults env.old.store.now) (S.faults env.new.store.now) e ⊎ (IsTransformFault (faults_of T.faults env.old.transformer) (faults_of T.faults env.new.transformer) e ⊎ (((e ≡ SlateDBError.LimitReached LIMIT) × (LIMIT < length self.old.events + length self.old.state.txns + 1)) ⊎ TooLarge (layout_of options.now) self.old e))) }
+        ensures later { S.faults env.old.store.now ≤ S.faults env.new.store.now }
+        ensures later_transformer { faults_of T.faults env.old.transformer ≤ faults_of T.faults env.new.transformer }
+        ensures same_encoded { changed_by T.encoded env.new.transformer ≡ changed_by T.encoded env.old.transformer }
+        ensures same_decoded { changed_by T.decoded env.new.transformer ≡ changed_by T.decoded env.old.transformer }
+        ensures operator { env.new.operator ≡ env.old.operator }
+        ensures same_store { env.new.store.ghost_name ≡ env.old.store.ghost_name }
+    {
+        if self.journal.len() + self.open.len() > EVENTS - 1 {
+            return Err(SlateDBError::LimitReached {
+                limit: EVENTS as u64,
+            });
+        }
+        self.journal.reserve(self.open.len() + 1)?;
+        self.tables.reserve(1)?;
+        let barrier = barrier(&self.open, self.last);
+        let number = self.runs + 1;
+        let put = stored(self.alloc, &self.frozen, barrier, number, options, env)?;
+        self.journal.push_reserved(Event::Install {
+            through: self.last,
+            tables: put.0,
+        });
+        self.tables.push_reserved(put.1);
+        self.runs = number;
+        self.frozen.clear();
+        self.floor = barrier;
+        self.flushed = self.last;
+        Ok(self.last)
+    }
+
+    /// The rows of a key that stand at or below a sequence, newest first, to the first that decides: of memory, and of the
+    /// tables only where memory doesn't decide.
+    fn newest<S: Store, M: MergeOperator, T: BlockTransformer>(
+        &self,
+        key: &Bytes,
+        at: u64,
+        env: &mut Env<'_, S, M, T>,
+    ) -> Result<Vec<RowEntry>, SlateDBError>
+        ensures found { (m : Meaning) → HasParts m (part_of M.combine env.old.operator) (changed_by T.encoded env.old.transformer) (changed_by T.decoded env.old.transformer) → IsLawfulMeaning m → HoldsTables (S.objects env.old.store.now) self.now.events → (layers : List Rows) → AreTables m (tables_of self.now.events) layers
+            → IfOk result (λ rows. rows.items ≡ newest key.now at ((self.now.active ++ newest_first self.now.frozen) ++ newest_first layers)) }
+        ensures whole { (m : Meaning) → HasParts m (part_of M.combine env.old.operator) (changed_by T.encoded env.old.transformer) (changed_by T.decoded env.old.transformer) → IsLawfulMeaning m → HoldsTables (S.objects env.old.store.now) self.now.events → (layers : List Rows) → AreTables m (tables_of self.now.events) layers
+            → IfErr result (λ e. IsStoreFault (S.faults env.old.store.now) (S.faults env.new.store.now) e ⊎ IsTransformFault (faults_of T.faults env.old.transformer) (faults_of T.faults env.new.transformer) e) }
+        ensures cause { IfErr result (λ e. IsStoreFault (S.faults env.old.store.now) (S.faults env.new.store.now) e ⊎ IsTransformFault (faults_of T.faults env.old.transformer) (faults_of T.faults env.new.transformer) e ⊎ IsDamage e) }
+        ensures objects { S.objects env.new.store.now ≡ S.objects env.old.store.now }
+        ensures same_encoded { changed_by T.encoded env.new.transformer ≡ changed_by T.encoded env.old.transformer }
+        ensures same_decoded { changed_by T.decoded env.new.transformer ≡ changed_by T.decoded env.old.transformer }
+        ensures operator { env.new.operator ≡ env.old.operator }
+        ensures same_store { env.new.store.ghost_name ≡ env.old.store.ghost_name }
+        ensures later { S.faults env.old.store.now ≤ S.faults env.new.store.now }
+        ensures later_transformer { faults_of T.faults env.old.transformer ≤ faults_of T.faults env.new.transformer }
+    {
+        let found = self.active.rows_of_key(self.alloc, key, at)?;
+        let found = newest_of_frozen(self.alloc, found, &self.frozen, key, at)?;
+        newest_of_tables(
+            self.alloc,
+            found,
+            &self.tables,
+            key.as_slice(),
+            at,
+            env.store,
+            &mut env.transformer,
+        )
+    }
+
+    /// The row that a reader at a sequence sees at a key, where it has no operations of its own.
+    fn seen<S: Store, M: MergeOperator, T: BlockTransformer>(
+        &self,
+        key: &Bytes,
+        at: u64,
+        env: &mut Env<'_, S, M, T>,
+    ) -> Result<Option<RowEntry>, SlateDBError>
+        ensures row { (m : Meaning) → HasParts m (part_of M.combine env.old.operator) (changed_by T.encoded env.old.transformer) (changed_by T.decoded env.old.transformer) → IsLawfulMeaning m → IsKept m self.now → HoldsTables (S.objects env.old.store.now) self.now.events → self.now.floor ≤ at
+            → IfOk result (λ row. row ≡ fold_rows (combine_of m key.now) (key_rows (rules_of self.now.settings m) key.now (up_to at self.now.state.commits))) }
+        ensures whole { (m : Meaning) → HasParts m (part_of M.combine env.old.operator) (changed_by T.encoded env.old.transformer) (changed_by T.decoded env.old.transformer) → IsLawfulMeaning m → IsKept m self.now → HoldsTables (S.objects env.old.store.now) self.now.events
+            → IfErr result (λ e. IsStoreFault (S.faults env.old.store.now) (S.faults env.new.store.now) e ⊎ IsTransformFault (faults_of T.faults env.old.transformer) (faults_of T.faults env.new.transformer) e ⊎ IsCallback (faults_of M.faults env.old.operator) (faults_of M.faults env.new.operator) e) }
+        ensures cause { IfErr result (λ e. IsStoreFault (S.faults env.old.store.now) (S.faults env.new.store.now) e ⊎ IsTransformFault (faults_of T.faults env.old.transformer) (faults_of T.faults env.new.transformer) e ⊎ IsOperatorFault (part_of M.combine env.old.operator) (faults_of M.faults env.old.operator) (faults_of M.faults env.new.operator) e ⊎ IsDamage e) }
+        ensures objects { S.objects env.new.store.now ≡ S.objects env.old.store.now }
+        ensures same_encoded { changed_by T.encoded env.new.transformer ≡ changed_by T.encoded env.old.transformer }
+        ensures same_decoded { changed_by T.decoded env.new.transformer ≡ changed_by T.decoded env.old.transformer }
+        ensures same_combine { part_of M.combine env.new.operator ≡ part_of M.combine env.old.operator }
+        ensures same_store { env.new.store.ghost_name ≡ env.old.store.ghost_name }
+        ensures later { S.faults env.old.store.now ≤ S.faults env.new.store.now }
+        ensures later_transformer { faults_of T.faults env.old.transformer ≤ faults_of T.faults env.new.transformer }
+        ensures later_operator { faults_of M.faults env.old.operator ≤ faults_of M.faults env.new.operator }
+    {
+        let found = self.newest(key, at, env)?;
+        fold_found(self.alloc, found, &mut env.operator)
+    }
+
+    /// What an open transaction sees at a key, and `None` where that is nothing, as at a key that no row can have. The answer is
+    /// recorded in the transaction's transcript. Memory is looked at first, and then the tables whose first and last key enclose the
+    /// key, the newest first: of each its index and then, by one read, the blocks that can hold the key; and none behind the first
+    /// row that decides.
+    ///
+    /// Refuses by `StoreFault`, `BlockTransformError` and `Callback`, each only where its count of faults rose; by
+    /// `MergeOperatorMissing` at an operand, where there is no operator; by a refusal of damage; and by `OutOfMemory`. Then nothing is
+    /// recorded. Neither damage nor a missing operator is answered where the store holds the tables that the journal names.
+    pub fn get<S: Store, M: MergeOperator, T: BlockTransformer>(
+        &mut self,
+        id: &Uuid,
+        key: &[u8],
+        options: &ReadOptions,
+        env: &mut Env<'_, S, M, T>,
+    ) -> Result<Option<KeyValue>, SlateDBError>
+        requires { IsSome (find_named id.now self.old.state.txns) }
+        ensures noted { IfOk result (λ a. self.new ≡ record self.old { state = noted self.old.state id.now (steps.Get key.now a ∷ []) }) }
+        ensures answer { (m : Meaning) → HasParts m (part_of M.combine env.old.operator) (changed_by T.encoded env.old.transformer) (changed_by T.decoded env.old.transformer) → IsLawfulMeaning m → IsKept m self.old → HoldsTables (S.objects env.old.store.now) self.old.events
+            → IfOk result (λ a. step (rules_of self.old.settings m) self.old.state (lines.Get id.now key.now) ≡ (self.new.state, Found a)) }
+        ensures whole { (m : Meaning) → HasParts m (part_of M.combine env.old.operator) (changed_by T.encoded env.old.transformer) (changed_by T.decoded env.old.transformer) → IsLawfulMeaning m → IsKept m self.old → HoldsTables (S.objects env.old.store.now) self.old.events
+            → IfErr result (λ e. IsStoreFault (S.faults env.old.store.now) (S.faults env.new.store.now) e ⊎ IsTransformFault (faults_of T.faults env.old.transformer) (faults_of T.faults env.new.transformer) e ⊎ IsCallback (faults_of M.faults env.old.operator) (faults_of M.faults env.new.operator) e) }
+        ensures same { OnErr result (self.new ≡ self.old) }
+        ensures kept { (m : Meaning) → IsKept m self.old → IsKept m self.new }
+        ensures settings { self.new.settings ≡ self.old.settings }
+        ensures cause { IfErr result (λ e. IsStoreFault (S.faults env.old.store.now) (S.faults env.new.store.now) e ⊎ IsTransformFault (faults_of T.faults env.old.transformer) (faults_of T.faults env.new.transformer) e ⊎ IsOperatorFault (part_of M.combine env.old.operator) (faults_of M.faults env.old.operator) (faults_of M.faults env.new.operator) e ⊎ IsDamage e) }
+        ensures objects { S.objects env.new.store.now ≡ S.objects env.old.store.now }
+        ensures same_encoded { changed_by T.encoded env.new.transformer ≡ changed_by T.encoded env.old.transformer }
+        ensures same_decoded { changed_by T.decoded env.new.transformer ≡ changed_by T.decoded env.old.transformer }
+        ensures same_combine { part_of M.combine env.new.operator ≡ part_of M.combine env.old.operator }
+        ensures same_store { env.new.store.ghost_name ≡ env.old.store.ghost_name }
+        ensures later { S.faults env.old.store.now ≤ S.faults env.new.store.now }
+        ensures later_transformer { faults_of T.faults env.old.transformer ≤ faults_of T.faults env.new.transformer }
+        ensures later_operator { faults_of M.faults env.old.operator ≤ faults_of M.faults env.new.operator }
+    {
+        let _options = options;
+        let Some(i) = place(&self.open, id) else {
+            return Ok(None);
+        };
+        let at = begin_of(&self.open, i);
+        let key = Bytes::copy_from_slice(self.alloc, key)?;
+        let row = self.seen(&key, at, env)?;
+        let found = answer(row);
+        let copy = found.clone()?;
+        note(&mut self.open, i, TranscriptStep::Get { key, answer: copy })?;
+        Ok(found)
+    }
+
+    /// All events so far, with room for the end of each open transaction. The tables that they name hold the state at the
+    /// last flush.
+    pub fn journal(&self) -> &Journal
+        ensures events { result.now.events ≡ self.now.events }
+        ensures legal { IsLegal self.now.settings.start_seq self.now.events }
+        ensures replays { Replays self.now.events self.now.state }
+        ensures room { length self.now.state.txns ≤ self.now.spare }
+        ensures folds { (m : Meaning) → IsLawfulMeaning m → IsKept m self.now → FoldsToState m self.now }
+        ensures stored { (m : Meaning) → IsLawfulMeaning m → IsKept m self.now → StoresState m self.now }
+    {
+        &self.journal
+    }
+}

@@ -1,0 +1,171 @@
+//! The row that rows of a key fold to.
+ghost use Rattle.std.specs.Prelude.{◌≡◌, ◌⊎◌, ◌≤◌, ℕ, List, None, true, false, reverse, option_map, option_and_then, IfOk, IfErr, OnOk};
+ghost use Rattle.slate_types.specs.declared.error.SlateDBError.{SlateDBError};
+ghost use Rattle.slate_types.specs.declared.types.ValueDeletable.{ValueDeletable};
+ghost use Rattle.slate_types.specs.Faults.{faults_of, Rose};
+ghost use Rattle.slate_types.specs.Fold.{Combine, IsLawful, KeepsShort, fold_rows};
+ghost use Rattle.slate_types.specs.Join.{AreOf, join, join_value};
+ghost use Rattle.slate_types.specs.Rows.{earliest, hide_tombstone, is_operand, key_value, latest};
+ghost use Rattle.slate_store.specs.Env.{combine_of};
+ghost use Rattle.slate_txn.specs.State.{operator_at};
+ghost use Rattle.slate_db.specs.Lookup.{is_merge_among, IsCallback};
+
+use bytes::Bytes;
+use slate_types::{KeyValue, MergeOperator, RowEntry, SlateDBError, ValueDeletable};
+use std::alloc::Global;
+
+/// The later of two stamps, where there are any.
+fn latest(a: Option<i64>, b: Option<i64>) -> Option<i64>
+    ensures { result ≡ latest a b }
+{
+    match (a, b) {
+        (Some(a), Some(b)) => Some(a.max(b)),
+        (Some(a), None) => Some(a),
+        (None, b) => b,
+    }
+}
+
+/// The earlier of two stamps, where there are any.
+fn earliest(a: Option<i64>, b: Option<i64>) -> Option<i64>
+    ensures { result ≡ earliest a b }
+{
+    match (a, b) {
+        (Some(a), Some(b)) => Some(a.min(b)),
+        (Some(a), None) => Some(a),
+        (None, b) => b,
+    }
+}
+
+/// What a value and an operand on it make.
+fn join_value<M: MergeOperator>(
+    alloc: Global,
+    key: &Bytes,
+    value: &ValueDeletable,
+    operand: &Bytes,
+    operator: &mut M,
+) -> Result<ValueDeletable, SlateDBError>
+    ensures value { IfOk result (λ made. made ≡ join_value (M.combine operator.old key.now) value.now (ValueDeletable.Merge operand.now)) }
+    ensures same { M.combine operator.new ≡ M.combine operator.old }
+    ensures later { M.faults operator.old ≤ M.faults operator.new }
+    ensures cause { IfErr result (λ e. (e ≡ SlateDBError.OutOfMemory) ⊎ IsCallback (M.faults operator.old) (M.faults operator.new) e) }
+{
+    match value {
+        ValueDeletable::Value(value) => {
+            let made = operator.merge(alloc, key, Some(value), operand)?;
+            Ok(ValueDeletable::Value(made))
+        }
+        ValueDeletable::Merge(value) => {
+            let made = operator.merge(alloc, key, Some(value), operand)?;
+            Ok(ValueDeletable::Merge(made))
+        }
+        ValueDeletable::Tombstone => {
+            let made = operator.merge(alloc, key, None, operand)?;
+            Ok(ValueDeletable::Value(made))
+        }
+    }
+}
+
+/// The row that an older row and a newer one make.
+fn join<M: MergeOperator>(
+    alloc: Global,
+    older: RowEntry,
+    newer: RowEntry,
+    operator: &mut M,
+) -> Result<RowEntry, SlateDBError>
+    ensures row { IfOk result (λ row. row ≡ join (M.combine operator.old older.key) older newer) }
+    ensures same { M.combine operator.new ≡ M.combine operator.old }
+    ensures later { M.faults operator.old ≤ M.faults operator.new }
+    ensures cause { IfErr result (λ e. (e ≡ SlateDBError.OutOfMemory) ⊎ IsCallback (M.faults operator.old) (M.faults operator.new) e) }
+{
+    let ValueDeletable::Merge(operand) = &newer.value else {
+        return Ok(newer);
+    };
+    let value = join_value(alloc, &older.key, &older.value, operand, operator)?;
+    Ok(RowEntry {
+        key: older.key,
+        value,
+        seq: older.seq.max(newer.seq),
+        create_ts: latest(older.create_ts, newer.create_ts),
+        expire_ts: earliest(older.expire_ts, newer.expire_ts),
+    })
+}
+
+/// The row that rows of a key, newest first, fold to by an operator.
+fn join_all<M: MergeOperator>(
+    alloc: Global,
+    found: Vec<RowEntry>,
+    operator: &mut M,
+) -> Result<Option<RowEntry>, SlateDBError>
+    ensures row { (k : List ℕ) → IsLawful (M.combine operator.old k) → KeepsShort (M.combine operator.old k) → AreOf k (reverse found.items) → IfOk result (λ row. row ≡ fold_rows (M.combine operator.old k) (reverse found.items)) }
+    ensures same { M.combine operator.new ≡ M.combine operator.old }
+    ensures later { M.faults operator.old ≤ M.faults operator.new }
+    ensures cause { IfErr result (λ e. (e ≡ SlateDBError.OutOfMemory) ⊎ IsCallback (M.faults operator.old) (M.faults operator.new) e) }
+{
+    let mut rows = found;
+    let Some(mut row) = rows.pop() else {
+        return Ok(None);
+    };
+    while let Some(newer) = rows.pop() {
+        row = join(alloc, row, newer, operator)?;
+    }
+    Ok(Some(row))
+}
+
+/// Whether one of the rows is an operand.
+fn has_merge(rows: &[RowEntry]) -> bool
+    ensures { result ≡ is_merge_among rows.now }
+{
+    rows.iter().any(
+        |row| -> bool
+            ensures { result ≡ is_operand row.now }
+        { matches!(row.value, ValueDeletable::Merge(_)) },
+    )
+}
+
+/// The first row, where none is an operand.
+fn first(rows: Vec<RowEntry>) -> Option<RowEntry>
+    ensures { is_merge_among rows.items ≡ false → (c : Combine) → result ≡ fold_rows c (reverse rows.items) }
+{
+    rows.into_iter().next()
+}
+
+/// The row that rows of a key, newest first, fold to. `MergeOperatorMissing` exactly where one of them is an operand and there is
+/// no operator; `Callback` only where the operator's count of faults rose; or `OutOfMemory`.
+pub fn fold_found<M: MergeOperator>(
+    alloc: Global,
+    rows: Vec<RowEntry>,
+    operator: &mut Option<M>,
+) -> Result<Option<RowEntry>, SlateDBError>
+    ensures row { (k : List ℕ) → IsLawful (operator_at (combine_of M.combine operator.old) k) → KeepsShort (operator_at (combine_of M.combine operator.old) k) → AreOf k (reverse rows.items) → IfOk result (λ row. row ≡ fold_rows (operator_at (combine_of M.combine operator.old) k) (reverse rows.items)) }
+    ensures same { combine_of M.combine operator.new ≡ combine_of M.combine operator.old }
+    ensures later { faults_of M.faults operator.old ≤ faults_of M.faults operator.new }
+    ensures cause { IfErr result (λ e. (e ≡ SlateDBError.OutOfMemory) ⊎ ((e ≡ SlateDBError.MergeOperatorMissing) × (combine_of M.combine operator.old ≡ None) × (is_merge_among rows.items ≡ true)) ⊎ IsCallback (faults_of M.faults operator.old) (faults_of M.faults operator.new) e) }
+{
+    if !has_merge(&rows) {
+        return Ok(first(rows));
+    }
+    match operator {
+        Some(operator) => join_all(alloc, rows, operator),
+        None => Err(SlateDBError::MergeOperatorMissing),
+    }
+}
+
+/// What a reader gets of a row.
+fn visible(row: RowEntry) -> Option<KeyValue>
+    ensures { result ≡ option_map key_value (hide_tombstone row.value row) }
+{
+    if row.value.is_tombstone() {
+        return None;
+    }
+    Some(KeyValue::from_row(row))
+}
+
+/// What a reader gets of a folded row.
+pub fn answer(row: Option<RowEntry>) -> Option<KeyValue>
+    ensures { result ≡ option_map key_value (option_and_then (λ r. hide_tombstone r.value r) row) }
+{
+    match row {
+        Some(row) => visible(row),
+        None => None,
+    }
+}

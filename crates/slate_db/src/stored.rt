@@ -1,0 +1,181 @@
+//! The rows of a key in stored tables, newest first, to the first that decides.
+ghost use Rattle.std.specs.Prelude.{◌≡◌, ◌⊎◌, ◌≤◌, ◌<◌, ◌++◌, ℕ, List, length, flat_map, false, IfOk, IfErr, OnOk};
+ghost use Rattle.std.specs.List.{AllByRecursion};
+ghost use Rattle.slate_types.specs.declared.error.SlateDBError.{SlateDBError};
+ghost use Rattle.slate_types.specs.declared.iter.IterationOrder.{IterationOrder};
+ghost use Rattle.slate_types.specs.declared.types.RowEntry.{RowEntry};
+ghost use Rattle.slate_types.specs.Faults.{faults_of};
+ghost use Rattle.slate_types.specs.Iteration.{IsInOrder};
+ghost use Rattle.slate_types.specs.Partitions.{CanHold};
+ghost use Rattle.slate_block.specs.BlockSpelling.{IsBlockOf};
+ghost use Rattle.slate_block.specs.ReadingLaws.{EachIsAByte};
+ghost use Rattle.slate_mem.specs.Table.{newest};
+ghost use Rattle.slate_table.specs.Finding.{encloses, AreBlocksOf};
+ghost use Rattle.slate_table.specs.IndexReading.{index_keys};
+ghost use Rattle.slate_table.specs.IndexValue.{entries_of};
+ghost use Rattle.slate_table.specs.InfoReading.{seen_info};
+ghost use Rattle.slate_table.specs.Reading.{IsStoreFault};
+ghost use Rattle.slate_table.specs.SectionReading.{changed_by, IsTransformFault};
+ghost use Rattle.slate_db.specs.Lookup.{IsDamage, IsStored, AreStored, newest_first};
+ghost use Rattle.slate_db.specs.Model.{Rows};
+
+use crate::lookup::{is_decided, newest_of_walk};
+use slate_block::{Block, DataBlockIterator};
+use slate_store::Store;
+use slate_table::{SsTableHandle, SsTableInfo, SstIndex, TableStore};
+use slate_types::{
+    BlockTransformer, IterationOrder, RowEntry, RowEntryIterator, SlateDBError,
+    partitions_covering_range,
+};
+use std::alloc::Global;
+use std::ops::{Bound, Range};
+
+/// The folder of the store's objects.
+pub const ROOT: &str = "db";
+
+/// Whether the key stands between the first and the last key of a table.
+fn encloses(info: &SsTableInfo, key: &[u8]) -> bool
+    ensures { result ≡ encloses (seen_info info.now) key.now }
+{
+    match (&info.first_entry, &info.last_entry) {
+        (Some(first), Some(last)) => {
+            first.as_slice().cmp(key).is_le() && key.cmp(last.as_slice()).is_le()
+        }
+        _ => false,
+    }
+}
+
+/// The blocks that can hold the key.
+#[tactic(auto, using(crate::proofs::Walks::not_past_itself, crate::proofs::Walks::point_holds))]
+fn covering(index: &SstIndex, key: &[u8]) -> Range<usize>
+    ensures order { result.start ≤ result.end }
+    ensures within { result.end ≤ length (entries_of index.now) }
+    ensures each { (i : ℕ) → CanHold (index_keys (entries_of index.now)) i key.now → (result.start ≤ i) × (i < result.end) }
+{
+    partitions_covering_range(index, Bound::Included(key), Bound::Included(key))
+}
+
+/// What is read as a block's rows is a list of bytes.
+fn are_bytes(bytes: &[u8])
+    ensures { EachIsAByte bytes.now }
+{}
+
+/// The rows of the key in a block.
+fn newest_of_block(
+    alloc: Global,
+    block: Block,
+    version: u16,
+    key: &[u8],
+    max_seq: u64,
+) -> Result<Vec<RowEntry>, SlateDBError>
+    ensures found { (rows : List RowEntry) → IsBlockOf block.body block.offsets.items version rows → IsInOrder IterationOrder.Ascending rows → IfOk result (λ found. found.items ≡ newest key.now max_seq rows) }
+    ensures whole { (rows : List RowEntry) → IsBlockOf block.body block.offsets.items version rows → IsInOrder IterationOrder.Ascending rows → IfErr result (λ e. e ≡ SlateDBError.OutOfMemory) }
+    ensures cause { IfErr result (λ e. (e ≡ SlateDBError.OutOfMemory) ⊎ IsDamage e) }
+{
+    are_bytes(block.body.as_slice());
+    let mut rows = DataBlockIterator::new(alloc, block, version, IterationOrder::Ascending)?;
+    rows.seek(alloc, key, &mut ())?;
+    newest_of_walk(alloc, &mut rows, key, max_seq)
+}
+
+/// The rows of the key in neighbouring blocks.
+fn newest_of_blocks(
+    alloc: Global,
+    blocks: Vec<Block>,
+    version: u16,
+    key: &[u8],
+    max_seq: u64,
+) -> Result<Vec<RowEntry>, SlateDBError>
+    ensures found { (lists : List Rows) → AreBlocksOf version blocks.items lists → AllByRecursion (IsInOrder IterationOrder.Ascending) lists → IfOk result (λ found. found.items ≡ newest key.now max_seq (flat_map (λ rows. rows) lists)) }
+    ensures whole { (lists : List Rows) → AreBlocksOf version blocks.items lists → AllByRecursion (IsInOrder IterationOrder.Ascending) lists → IfErr result (λ e. e ≡ SlateDBError.OutOfMemory) }
+    ensures cause { IfErr result (λ e. (e ≡ SlateDBError.OutOfMemory) ⊎ IsDamage e) }
+{
+    let mut found = Vec::new(alloc);
+    for block in blocks {
+        let mut more = newest_of_block(alloc, block, version, key, max_seq)?;
+        found.append(&mut more)?;
+        if is_decided(&found) {
+            return Ok(found);
+        }
+    }
+    Ok(found)
+}
+
+/// The rows of the key in a table whose first and last key enclose it.
+fn newest_within<S: Store, T: BlockTransformer>(
+    alloc: Global,
+    store: &mut S,
+    table: &SsTableHandle,
+    key: &[u8],
+    max_seq: u64,
+    transformer: &mut Option<T>,
+) -> Result<Vec<RowEntry>, SlateDBError>
+    ensures found { (rows : Rows) → IsStored (changed_by T.encoded transformer.old) (changed_by T.decoded transformer.old) (S.objects store.old) table.now rows → IfOk result (λ found. found.items ≡ newest key.now max_seq rows) }
+    ensures whole { (rows : Rows) → IsStored (changed_by T.encoded transformer.old) (changed_by T.decoded transformer.old) (S.objects store.old) table.now rows → IfErr result (λ e. IsStoreFault (S.faults store.old) (S.faults store.new) e ⊎ IsTransformFault (faults_of T.faults transformer.old) (faults_of T.faults transformer.new) e) }
+    ensures cause { IfErr result (λ e. IsStoreFault (S.faults store.old) (S.faults store.new) e ⊎ IsTransformFault (faults_of T.faults transformer.old) (faults_of T.faults transformer.new) e ⊎ IsDamage e) }
+    ensures objects { S.objects store.new ≡ S.objects store.old }
+    ensures same_encoded { changed_by T.encoded transformer.new ≡ changed_by T.encoded transformer.old }
+    ensures same_decoded { changed_by T.decoded transformer.new ≡ changed_by T.decoded transformer.old }
+    ensures later { S.faults store.old ≤ S.faults store.new }
+    ensures later_transformer { faults_of T.faults transformer.old ≤ faults_of T.faults transformer.new }
+{
+    let index = TableStore::read_index(alloc, store, ROOT, table, transformer)?;
+    let covered = covering(&index, key);
+    let blocks = TableStore::read_blocks(alloc, store, ROOT, table, &index, covered, transformer)?;
+    let found = newest_of_blocks(alloc, blocks, table.format_version, key, max_seq)?;
+    Ok(found)
+}
+
+/// The rows of the key in a table. Only a table whose first and last key enclose it is read.
+fn newest_of_table<S: Store, T: BlockTransformer>(
+    alloc: Global,
+    store: &mut S,
+    table: &SsTableHandle,
+    key: &[u8],
+    max_seq: u64,
+    transformer: &mut Option<T>,
+) -> Result<Vec<RowEntry>, SlateDBError>
+    ensures found { (rows : Rows) → IsStored (changed_by T.encoded transformer.old) (changed_by T.decoded transformer.old) (S.objects store.old) table.now rows → IfOk result (λ found. found.items ≡ newest key.now max_seq rows) }
+    ensures whole { (rows : Rows) → IsStored (changed_by T.encoded transformer.old) (changed_by T.decoded transformer.old) (S.objects store.old) table.now rows → IfErr result (λ e. IsStoreFault (S.faults store.old) (S.faults store.new) e ⊎ IsTransformFault (faults_of T.faults transformer.old) (faults_of T.faults transformer.new) e) }
+    ensures cause { IfErr result (λ e. IsStoreFault (S.faults store.old) (S.faults store.new) e ⊎ IsTransformFault (faults_of T.faults transformer.old) (faults_of T.faults transformer.new) e ⊎ IsDamage e) }
+    ensures objects { S.objects store.new ≡ S.objects store.old }
+    ensures same_encoded { changed_by T.encoded transformer.new ≡ changed_by T.encoded transformer.old }
+    ensures same_decoded { changed_by T.decoded transformer.new ≡ changed_by T.decoded transformer.old }
+    ensures later { S.faults store.old ≤ S.faults store.new }
+    ensures later_transformer { faults_of T.faults transformer.old ≤ faults_of T.faults transformer.new }
+{
+    if !encloses(&table.info, key) {
+        return Ok(Vec::new(alloc));
+    }
+    newest_within(alloc, store, table, key, max_seq, transformer)
+}
+
+/// Adds the rows of the key in stored tables, of which the newest stands last, behind those that were found in newer layers.
+/// No older table is read than the first one that decides.
+pub fn newest_of_tables<S: Store, T: BlockTransformer>(
+    alloc: Global,
+    newer: Vec<RowEntry>,
+    tables: &[SsTableHandle],
+    key: &[u8],
+    max_seq: u64,
+    store: &mut S,
+    transformer: &mut Option<T>,
+) -> Result<Vec<RowEntry>, SlateDBError>
+    ensures found { (layers : List Rows) → AreStored (changed_by T.encoded transformer.old) (changed_by T.decoded transformer.old) (S.objects store.old) tables.now layers → IfOk result (λ all. (above : Rows) → newer.items ≡ newest key.now max_seq above → all.items ≡ newest key.now max_seq (above ++ newest_first layers)) }
+    ensures whole { (layers : List Rows) → AreStored (changed_by T.encoded transformer.old) (changed_by T.decoded transformer.old) (S.objects store.old) tables.now layers → IfErr result (λ e. IsStoreFault (S.faults store.old) (S.faults store.new) e ⊎ IsTransformFault (faults_of T.faults transformer.old) (faults_of T.faults transformer.new) e) }
+    ensures cause { IfErr result (λ e. IsStoreFault (S.faults store.old) (S.faults store.new) e ⊎ IsTransformFault (faults_of T.faults transformer.old) (faults_of T.faults transformer.new) e ⊎ IsDamage e) }
+    ensures objects { S.objects store.new ≡ S.objects store.old }
+    ensures same_encoded { changed_by T.encoded transformer.new ≡ changed_by T.encoded transformer.old }
+    ensures same_decoded { changed_by T.decoded transformer.new ≡ changed_by T.decoded transformer.old }
+    ensures later { S.faults store.old ≤ S.faults store.new }
+    ensures later_transformer { faults_of T.faults transformer.old ≤ faults_of T.faults transformer.new }
+{
+    let mut found = newer;
+    let mut i = tables.len();
+    while i > 0 && !is_decided(&found) {
+        i -= 1;
+        let mut more = newest_of_table(alloc, store, &tables[i], key, max_seq, transformer)?;
+        found.append(&mut more)?;
+    }
+    Ok(found)
+}
