@@ -1,5 +1,5 @@
 -- Lists of lines that are answered in turn.
-use Rattle.std.proofs.Common.{◌≡◌, ℕ, suc, ◌+◌, Bool, true, false, cond, ◌&&◌, ◌||◌, ◌⊎◌, inl, inr, List, [], ◌∷◌, ◌++◌, length, Option, Some, None, option_map, is_some, IsTrue, refl, sym, ap, ◌∙◌, arith}
+use Rattle.std.proofs.Common.{◌≡◌, ℕ, suc, ◌+◌, Bool, true, false, cond, ◌||◌, ◌⊎◌, inl, inr, List, [], ◌∷◌, ◌++◌, length, Option, Some, None, option_map, is_some, IsTrue, refl, sym, ap, ◌∙◌, arith}
 use Rattle.std.specs.List.{AllByRecursion, flat_map}
 use Rattle.std.proofs.lemmas.List.{append-nil}
 use Rattle.std.proofs.lemmas.List.Concat.{flat_map-append}
@@ -7,7 +7,7 @@ use Rattle.slate_txn.specs.declared.line.Line.{Line}
 use Rattle.slate_txn.specs.State.{Rules, State, opening}
 use Rattle.slate_txn.specs.Step.{step, answers, after}
 use Rattle.slate_script.specs.Parse.{parse, only_if, ◌>>=◌}
-use Rattle.slate_script.specs.Stage.{is_built, is_spelled_plainly, IsBuiltLine, meaning}
+use Rattle.slate_script.specs.Stage.{is_built, if_built, IsBuiltLine, meaning}
 use Rattle.slate_script.specs.Replies.{is_silent, onto_meanings, meanings, reply_line, after_lines, replies_from, replies_to}
 use Rattle.slate_script.specs.Run.{is_line, first_other, AreLines}
 use Rattle.slate_script.proofs.ParseLaws.{parse-is}
@@ -93,10 +93,6 @@ none-other (l ∷ ls) h = by (is_line l) refl (none-other ls) h
 
 -- ---- what is built means something, and what means something is built
 
-and-parts : (a b : Bool) → (a && b) ≡ true → (a ≡ true) × (b ≡ true)
-and-parts true b h = (refl, h)
-and-parts false b h = cc
-
 only-parts : (t : Bool) (made line : Line) → only_if t made ≡ Some line → (t ≡ true) × (made ≡ line)
 only-parts true made line h = (refl, cc)
 only-parts false made line h = cc
@@ -104,17 +100,14 @@ only-parts false made line h = cc
 pub built-line : (l : List ℕ) (line : Line) → meaning l ≡ Some line → IsBuiltLine l line
 built-line l line h = by (parse l) refl h
   where
-    by : (o : Option Line) → parse l ≡ o → (o >>= λ m. only_if (is_built m && is_spelled_plainly l m) m) ≡ Some line → IsBuiltLine l line
+    by : (o : Option Line) → parse l ≡ o → (o >>= if_built) ≡ Some line → IsBuiltLine l line
     by None is h = cc
     by (Some m) is h =
-        let parts = only-parts (is_built m && is_spelled_plainly l m) m line h in
-        let tests = and-parts (is_built m) (is_spelled_plainly l m) parts.0 in
-        (parse-only l line (is ∙ ap Some parts.1), ap is_built (sym parts.1) ∙ tests.0, ap (is_spelled_plainly l) (sym parts.1) ∙ tests.1)
+        let parts = only-parts (is_built m) m line h in
+        (parse-only l line (is ∙ ap Some parts.1), ap is_built (sym parts.1) ∙ parts.0)
 
 pub meaning-built : (l : List ℕ) (line : Line) → IsBuiltLine l line → meaning l ≡ Some line
-meaning-built l line h =
-    ap (λ o. o >>= λ m. only_if (is_built m && is_spelled_plainly l m) m) (parse-is l line h.0)
-    ∙ (λ i. only_if (h.1 i && is_spelled_plainly l line) line) ∙ (λ i. only_if (h.2 i) line)
+meaning-built l line h = ap (λ o. o >>= if_built) (parse-is l line h.0) ∙ (λ i. only_if (h.1 i) line)
 
 abbrev pub AreBuilt : List (List ℕ) → Type 0
 AreBuilt ls = AllByRecursion (λ l. IsTrue (is_silent l) ⊎ ((line : Line) × IsBuiltLine l line)) ls

@@ -128,7 +128,7 @@ hex-no_space (b ∷ bs) h =
 abbrev Reads : {A : Type 0} → (List ℕ → Option A) → List ℕ → A → Type 0
 Reads read t x = (read t ≡ Some x) × (list_all no_space t ≡ true)
 
-bytes-read : (t v : List ℕ) → IsBytes t v → Reads read_bytes t v
+pub bytes-read : (t v : List ℕ) → IsBytes t v → Reads read_bytes t v
 bytes-read t v (inl h) = (
   ap read_bytes h.1 ∙ ap (λ c. only_if c v) h.0,
   ap (list_all no_space) h.1 ∙ all-weaken is_visible no_space visible-no_space v h.0,
@@ -158,7 +158,7 @@ digits-no_space : (ds : List ℕ) → AllDigits 10 ds → list_all no_space ds �
 digits-no_space [] h = refl
 digits-no_space (d ∷ ds) h = λ i. digit-no_space d h.0 i && digits-no_space ds h.1 i
 
-number-read : (t : List ℕ) (n : ℕ) → IsNumber t n → Reads read_number t n
+pub number-read : (t : List ℕ) (n : ℕ) → IsNumber t n → Reads read_number t n
 number-read t n h =
     let known = decimal_is_IsNumeral n h.0 in (
       ap read_number h.1
@@ -170,7 +170,7 @@ number-read t n h =
 -- ---- moments
 
 -- a numeral does not begin with a sign
-numeral-value : (ds : List ℕ) → 0 < length ds → AllDigits 10 ds → moment_value ds ≡ pos (digits_value 10 ds)
+pub numeral-value : (ds : List ℕ) → 0 < length ds → AllDigits 10 ds → moment_value ds ≡ pos (digits_value 10 ds)
 numeral-value [] nonempty h = absurd (omega (arith, nonempty))
 numeral-value (d ∷ ds) nonempty h = by (d == 45) refl
   where
@@ -182,10 +182,10 @@ numeral-value (d ∷ ds) nonempty h = by (d == 45) refl
         absurd (omega (arith, small))
     by false e = refl
 
-pos-below : (n : ℕ) → is_moment (pos n) ≡ true → n < 2 ^ 64
+pub pos-below : (n : ℕ) → is_moment (pos n) ≡ true → n < 2 ^ 64
 pos-below n h = grind (arith, nat_tests)
 
-neg-below : (n : ℕ) → is_moment (negsuc n) ≡ true → suc n < 2 ^ 64
+pub neg-below : (n : ℕ) → is_moment (negsuc n) ≡ true → suc n < 2 ^ 64
 neg-below n h = grind (arith, nat_tests)
 
 moment-value : (z : ℤ) → is_moment z ≡ true → moment_value (signed_decimal z) ≡ z
@@ -200,7 +200,7 @@ signed-no_space : (z : ℤ) → is_moment z ≡ true → list_all no_space (sign
 signed-no_space (pos n) h = digits-no_space (decimal n) (decimal_is_IsNumeral n (pos-below n h)).0.1
 signed-no_space (negsuc n) h = digits-no_space (decimal (suc n)) (decimal_is_IsNumeral (suc n) (neg-below n h)).0.1
 
-moment-read : (t : List ℕ) (z : ℤ) → IsMoment t z → Reads read_moment t z
+pub moment-read : (t : List ℕ) (z : ℤ) → IsMoment t z → Reads read_moment t z
 moment-read t z h = (
   ap read_moment h.1
       ∙ ap (λ m. only_if (bytes_eq (signed_decimal m) (signed_decimal z) && is_moment m) m) (moment-value z h.0)
@@ -271,7 +271,7 @@ numeral-no_dash ds h = by (bytes_eq ds (45 ∷ [])) refl
         absurd (omega (arith, digits.0))
     by false e = refl
 
-ttl-read : (ts : List (List ℕ)) (ttl : Ttl) → IsTtl ts ttl → ReadsAll read_ttl ts ttl
+pub ttl-read : (ts : List (List ℕ)) (ttl : Ttl) → IsTtl ts ttl → ReadsAll read_ttl ts ttl
 ttl-read ts Default h = (ap read_ttl h, subst NoSpaces (sym h) tt)
 ttl-read ts NoExpiry h = (ap read_ttl h, subst NoSpaces (sym h) (refl, tt))
 ttl-read ts (ExpireAfter n) h =
@@ -347,7 +347,7 @@ op-read us k (ops.Merge v o) h =
 abbrev ReadOps : List (List ℕ) → Ops → Type 0
 ReadOps ts os = (gs : List (OpWord × List (List ℕ))) × (grouped ts ≡ ([], gs)) × (read_all (λ p. op_as p.0 p.1) gs ≡ Some os) × NoSpaces ts
 
-ops-read : (ts : List (List ℕ)) (os : Ops) → AreOps ts os → ReadOps ts os
+pub ops-read : (ts : List (List ℕ)) (os : Ops) → AreOps ts os → ReadOps ts os
 ops-read ts [] h = ([], ap grouped h, refl, subst NoSpaces (sym h) tt)
 ops-read ts (o ∷ os) h =
     let one = op-read h.0 o.0 o.1 h.2 in
@@ -396,7 +396,7 @@ behind-name f name us line h g =
     let n = name-read name h in
     (ap (λ o. o >>= λ m. f m us) n.0 ∙ g.0, (n.1, g.1))
 
-line-read : (ts : List (List ℕ)) (line : Line) → Spells ts line → ReadsLine ts line
+pub line-read : (ts : List (List ℕ)) (line : Line) → Spells ts line → ReadsLine ts line
 line-read ts (lines.Now m) h =
     let inner = moment-read h.0 m h.1 in
     keyword (codes "now") (h.0 ∷ []) ts Now (lines.Now m) h.2 refl (ap (λ o. option_map lines.Now o) inner.0) refl (inner.1, tt)

@@ -94,7 +94,7 @@ join-tokens (b ∷ bs) = join-split b (tokens_of bs) ∙ ap (λ cs. b ∷ cs) (j
 
 -- ---- bytes
 
-hex_value-is : (a x : ℕ) → hex_value a ≡ Some x → (x < 16) × (a ≡ hex_digit x)
+pub hex_value-is : (a x : ℕ) → hex_value a ≡ Some x → (x < 16) × (a ≡ hex_digit x)
 hex_value-is a x e = by (cond-either (leb 48 a && leb a 57) (Some (a - 48)) (only_if (leb 97 a && leb a 102) (a - 87)) (Some x) e)
   where
     by : (((leb 48 a && leb a 57) ≡ true) × (Some (a - 48) ≡ Some x)) ⊎ (((leb 48 a && leb a 57) ≡ false) × (only_if (leb 97 a && leb a 102) (a - 87) ≡ Some x)) → (x < 16) × (a ≡ hex_digit x)
@@ -126,7 +126,7 @@ with_byte-some (Some x) (Some y) (Some w) v e = (x, y, w, refl, refl, refl, Some
 abbrev IsHexOf : List ℕ → List ℕ → Type 0
 IsHexOf cs v = AreBytes v × (cs ≡ hex v)
 
-unhex-is : (cs v : List ℕ) → unhex cs ≡ Some v → IsHexOf cs v
+pub unhex-is : (cs v : List ℕ) → unhex cs ≡ Some v → IsHexOf cs v
 unhex-is [] v e = subst (λ w. IsHexOf [] w) (Some-is [] v e) (tt, refl)
 unhex-is (a ∷ []) v e = None-is-Some v e
 unhex-is (a ∷ b ∷ bs) v e =
@@ -141,7 +141,7 @@ unhex-is (a ∷ b ∷ bs) v e =
     subst (λ u. IsHexOf (a ∷ b ∷ bs) u) parts.6
     ((byte, rest.0), (λ i. (high.1 ∙ ap hex_digit (sym quotient)) i ∷ (low.1 ∙ ap hex_digit (sym remainder)) i ∷ rest.1 i))
 
-bytes-only : (t v : List ℕ) → read_bytes t ≡ Some v → IsBytes t v
+pub bytes-only : (t v : List ℕ) → read_bytes t ≡ Some v → IsBytes t v
 bytes-only [] v e = None-is-Some v e
 bytes-only (b ∷ bs) v e = by bs (cond-either (b == 39) (only_if (list_all is_visible bs) bs) (read_hex (b ∷ bs)) (Some v) e)
   where
@@ -158,7 +158,7 @@ bytes-only (b ∷ bs) v e = by bs (cond-either (b == 39) (only_if (list_all is_v
 
 -- ---- numbers, moments, names
 
-number-only : (t : List ℕ) (n : ℕ) → read_number t ≡ Some n → IsNumber t n
+pub number-only : (t : List ℕ) (n : ℕ) → read_number t ≡ Some n → IsNumber t n
 number-only t n e =
     let some = only_if-some (bytes_eq (decimal (digits_value 10 t)) t && ltb (digits_value 10 t) (2 ^ 64)) (digits_value 10 t) n e in
     let P : ℕ → Type 0 = λ m. m < 2 ^ 64 in (
@@ -166,7 +166,7 @@ number-only t n e =
       sym (same-bytes (decimal (digits_value 10 t)) t (and-first (bytes_eq (decimal (digits_value 10 t)) t) (ltb (digits_value 10 t) (2 ^ 64)) some.0)) ∙ ap decimal some.1,
     )
 
-moment-only : (t : List ℕ) (z : ℤ) → read_moment t ≡ Some z → IsMoment t z
+pub moment-only : (t : List ℕ) (z : ℤ) → read_moment t ≡ Some z → IsMoment t z
 moment-only t z e =
     let some = only_if-some (bytes_eq (signed_decimal (moment_value t)) t && is_moment (moment_value t)) (moment_value t) z e in (
       ap is_moment (sym some.1) ∙ and-second (bytes_eq (signed_decimal (moment_value t)) t) (is_moment (moment_value t)) some.0,
@@ -244,7 +244,7 @@ each-only f R one (t ∷ ts) xs e =
     let parts = both-some ◌∷◌ (f t) (read_all f ts) xs e in
     subst (Each R (t ∷ ts)) parts.4 (one t parts.0 parts.2, each-only f R one ts parts.1 parts.3)
 
-ttl-only : (ts : List (List ℕ)) (ttl : Ttl) → read_ttl ts ≡ Some ttl → IsTtl ts ttl
+pub ttl-only : (ts : List (List ℕ)) (ttl : Ttl) → read_ttl ts ≡ Some ttl → IsTtl ts ttl
 ttl-only [] ttl e = subst (IsTtl []) (Some-is Default ttl e) refl
 ttl-only ([] ∷ []) ttl e = None-is-Some ttl e
 ttl-only ((b ∷ bs) ∷ []) ttl e = by (cond-either (bytes_eq (b ∷ bs) (codes "t-")) (Some NoExpiry) (only_if (b == 116) bs >>= λ n. option_map ExpireAfter (read_number n)) (Some ttl) e)
@@ -333,7 +333,7 @@ groups-only (g ∷ gs) os e =
     let parts = both-some ◌∷◌ (op_as g.0 g.1) (read_all (λ p. op_as p.0 p.1) gs) os e in
     subst (AreOps (ungrouped (g ∷ gs))) parts.4 (word_of g.0 ∷ g.1, ungrouped gs, op-only g.0 g.1 parts.0 parts.2, groups-only gs parts.1 parts.3, refl)
 
-ops-only : (ts : List (List ℕ)) (os : Ops) → ops_of_groups (grouped ts) ≡ Some os → AreOps ts os
+pub ops-only : (ts : List (List ℕ)) (os : Ops) → ops_of_groups (grouped ts) ≡ Some os → AreOps ts os
 ops-only ts os e = by (grouped ts).0 refl e
   where
     by : (front : List (List ℕ)) → (grouped ts).0 ≡ front → ops_of_groups (front, (grouped ts).1) ≡ Some os → AreOps ts os

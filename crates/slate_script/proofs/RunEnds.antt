@@ -3,40 +3,98 @@ use Rattle.std.proofs.Common.{◌≡◌, ℕ, ◌+◌, ◌≤◌, ◌<◌, true,
 use Rattle.std.proofs.lemmas.List.{append-nil, length-append, take-append-drop, length-drop}
 use Rattle.std.proofs.Math.Seq.{drop-append_seam}
 use Rattle.slate_types.specs.declared.error.SlateDBError.{SlateDBError}
-use Rattle.slate_types.specs.declared.error.SlateDBError.TheVariants.{ScriptSyntax, ScriptTooLong, OutOfMemory, ReadFault, WriteFault}
+use Rattle.slate_types.specs.declared.error.SlateDBError.TheVariants.{ScriptSyntax, ScriptTooLong, OutOfMemory, ReadFault, WriteFault, StoreFault, Callback, BlockTransformError, LimitReached}
+use Rattle.slate_types.specs.Outside.{Counts, IsOuter, IsLater}
 use Rattle.slate_types.specs.Faults.{Rose}
 use Rattle.slate_store.specs.Lines.{lines_of, whole_part, script_limit, HasNoEnd, LinesModel, IsEnd, KeepsAll}
 use Rattle.slate_store.proofs.LineLaws.{partial_line_is_not_whole}
 use Rattle.slate_txn.specs.State.{Rules, opening}
 use Rattle.slate_script.specs.Stage.{meaning}
 use Rattle.slate_script.specs.Replies.{after_lines, replies_from, replies_to, replies, IsWellFormed}
-use Rattle.slate_script.specs.Engine.{EngineModel}
-use Rattle.slate_script.specs.Run.{is_line, first_other, is_too_long, lines_taken, error_of, script_error, IsOutside, IsScriptError, AreLines, HasAnswered, HasBegun, HasAnsweredAll}
+use Rattle.slate_db.specs.Parts.{IsDamage}
+use Rattle.slate_script.specs.Session.{SessionModel, IsLimit}
+use Rattle.slate_script.specs.Run.{is_line, first_other, is_too_long, lines_taken, error_of, script_error, IsPartError, IsPartCause, IsOutside, IsScriptError, AreLines, HasAnswered, HasBegun, HasAnsweredAll}
 use Rattle.slate_script.proofs.Answered.{lines-more, replies-append, replies-stop, other-none, other-first, lines-built}
 use Rattle.slate_script.proofs.Taken.{IsCut, IsAt, Took, taken-first, lines-begin, ends, first-empty, too-long, lines-no_error, formed-no_error}
 
 -- ---- which errors
 
+some-error : (e f : SlateDBError) → Some f ≡ Some e → e ≡ f
+some-error e f h = cc
+
 error-kinds : (o : Option ℕ) (long : _) (e : SlateDBError) → error_of o long ≡ Some e → IsOutside e → ⊥
 error-kinds None true e h (inl is) = cc
 error-kinds None true e h (inr (inl is)) = cc
-error-kinds None true e h (inr (inr is)) = cc
+error-kinds None true e h (inr (inr (inl is))) = cc
+error-kinds None true e h (inr (inr (inr is))) = subst IsPartError (some-error e ScriptTooLong h) is
 error-kinds None false e h is = cc
 error-kinds (Some n) long e h (inl is) = cc
 error-kinds (Some n) long e h (inr (inl is)) = cc
-error-kinds (Some n) long e h (inr (inr is)) = cc
+error-kinds (Some n) long e h (inr (inr (inl is))) = cc
+error-kinds (Some n) long e h (inr (inr (inr is))) = subst IsPartError (some-error e (ScriptSyntax n) h) is
 
 pub no-outside : (script : List ℕ) (e : SlateDBError) → script_error script ≡ Some e → IsOutside e → ⊥
 no-outside script e = error-kinds (first_other (lines_taken script)) (is_too_long script) e
 
-pub complete-from : (script : List ℕ) (e : SlateDBError) → IsOutside e ⊎ (script_error script ≡ Some e) → IsWellFormed script → (e ≡ ReadFault → ⊥) → (e ≡ WriteFault → ⊥) → e ≡ OutOfMemory
-complete-from script e (inl (inl is)) formed no-read no-write = is
+pub complete-from : (script : List ℕ) (e : SlateDBError) → IsOutside e ⊎ (script_error script ≡ Some e) → IsWellFormed script → (e ≡ ReadFault → ⊥) → (e ≡ WriteFault → ⊥) → (e ≡ OutOfMemory) ⊎ IsPartError e
+complete-from script e (inl (inl is)) formed no-read no-write = inl is
 complete-from script e (inl (inr (inl is))) formed no-read no-write = absurd (no-read is)
-complete-from script e (inl (inr (inr is))) formed no-read no-write = absurd (no-write is)
+complete-from script e (inl (inr (inr (inl is)))) formed no-read no-write = absurd (no-write is)
+complete-from script e (inl (inr (inr (inr is)))) formed no-read no-write = inr is
 complete-from script e (inr is) formed no-read no-write = absurd (some (sym (formed-no_error script formed) ∙ is))
   where
     some : None ≡ Some e → ⊥
     some h = cc
+
+-- ---- the parts
+
+-- where no count rose, a limit is the one error of a part, or damage
+outer-none : (before after : Counts) (e : SlateDBError) → (Rose before.store after.store → ⊥) → (Rose before.operator after.operator → ⊥) → (Rose before.transformer after.transformer → ⊥) → IsPartError e → IsOuter before after e → ⊥
+outer-none before after StoreFault store operator transformer part h = store h
+outer-none before after (Callback message) store operator transformer part h = operator h
+outer-none before after BlockTransformError store operator transformer part h = transformer h
+outer-none before after OutOfMemory store operator transformer part h = part
+outer-none before after e store operator transformer part h = h
+
+pub part-limit : (before after : Counts) (e : SlateDBError) → (Rose before.store after.store → ⊥) → (Rose before.operator after.operator → ⊥) → (Rose before.transformer after.transformer → ⊥) → (IsDamage e → ⊥) →
+    IsPartError e → IsPartCause before after e → IsLimit e
+part-limit before after e store operator transformer undamaged part (inl h) = absurd (outer-none before after e store operator transformer part h)
+part-limit before after e store operator transformer undamaged part (inr (inl h)) = h
+part-limit before after e store operator transformer undamaged part (inr (inr h)) = absurd (undamaged h)
+
+pub store-rose : (before after : Counts) (e : SlateDBError) → e ≡ StoreFault → IsPartCause before after e → Rose before.store after.store
+store-rose before after e is (inl h) = subst (IsOuter before after) is h
+store-rose before after e is (inr (inl h)) = absurd (clash (sym is ∙ h.1))
+  where
+    clash : StoreFault ≡ LimitReached h.0 → ⊥
+    clash k = cc
+store-rose before after e is (inr (inr h)) = absurd (subst IsDamage is h)
+
+pub operator-rose : (before after : Counts) (e : SlateDBError) (message : List ℕ) → e ≡ Callback message → IsPartCause before after e → Rose before.operator after.operator
+operator-rose before after e message is (inl h) = subst (IsOuter before after) is h
+operator-rose before after e message is (inr (inl h)) = absurd (clash (sym is ∙ h.1))
+  where
+    clash : Callback message ≡ LimitReached h.0 → ⊥
+    clash k = cc
+operator-rose before after e message is (inr (inr h)) = absurd (subst IsDamage is h)
+
+pub transformer-rose : (before after : Counts) (e : SlateDBError) → e ≡ BlockTransformError → IsPartCause before after e → Rose before.transformer after.transformer
+transformer-rose before after e is (inl h) = subst (IsOuter before after) is h
+transformer-rose before after e is (inr (inl h)) = absurd (clash (sym is ∙ h.1))
+  where
+    clash : BlockTransformError ≡ LimitReached h.0 → ⊥
+    clash k = cc
+transformer-rose before after e is (inr (inr h)) = absurd (subst IsDamage is h)
+
+pub memory-or-limit : (e : SlateDBError) → (e ≡ OutOfMemory) ⊎ IsPartError e → (IsPartError e → IsLimit e) → (e ≡ OutOfMemory) ⊎ IsLimit e
+memory-or-limit e (inl is) limit = inl is
+memory-or-limit e (inr part) limit = inr (limit part)
+
+pub later-on : {a b c : Counts} → IsLater a b → IsLater b c → IsLater a c
+later-on h k = record { store = omega (arith, h.store, k.store); operator = omega (arith, h.operator, k.operator); transformer = omega (arith, h.transformer, k.transformer) }
+
+pub never-less : (a : Counts) → IsLater a a
+never-less a = record { store = omega arith; operator = omega arith; transformer = omega arith }
 
 -- a count that rose later rose
 pub rose-from : (a b n : ℕ) → a ≤ b → Rose b n → Rose a n
@@ -50,7 +108,7 @@ ReaderError e = (e ≡ OutOfMemory) ⊎ (e ≡ ReadFault) ⊎ (e ≡ ScriptTooLo
 abbrev pub IsFull : LinesModel → Type 0
 IsFull m = (m.given + length m.held ≡ script_limit) × HasNoEnd m.held
 
-pub reader-error : {r : Rules} {script : List ℕ} {source told sink : Option (List ℕ)} {old : LinesModel} {number : ℕ} {e : EngineModel} (new : LinesModel) (rest : List ℕ) (error : SlateDBError) (at : IsAt r script source told sink old number e)
+pub reader-error : {P : Type 0} {r : Rules} {script : List ℕ} {source told sink : Option (List ℕ)} {old : LinesModel} {number : ℕ} {e : SessionModel} (new : LinesModel) (rest : List ℕ) (error : SlateDBError) (at : IsAt P r script source told sink old number e)
     → KeepsAll old at.left new rest → (error ≡ ScriptTooLong → IsFull new) → ReaderError error → IsOutside error ⊎ (script_error script ≡ Some error)
 reader-error new rest error at keeps full (inl is) = inl (inl is)
 reader-error new rest error at keeps full (inr (inl is)) = inl (inr (inl is))
@@ -59,16 +117,16 @@ reader-error {script = script} {old = old} new rest error at keeps full (inr (in
     let long = too-long script at.done at.left rest old new at.stands at.given keeps end.0 end.1 in
     inr ((λ i. error_of (first_other (long.1 i)) (long.0 i)) ∙ ap (λ o. error_of o true) (other-none (lines_of at.done) at.meant) ∙ ap Some (sym is))
 
-pub reader-script : {r : Rules} {script : List ℕ} {source told sink : Option (List ℕ)} {old : LinesModel} {number : ℕ} {e : EngineModel} (new : LinesModel) (rest before : List ℕ) (error : SlateDBError) (at : IsAt r script source told sink old number e)
-    → KeepsAll old at.left new rest → (error ≡ ScriptTooLong → IsFull new) → ReaderError error → told ≡ Some before → script_error script ≡ Some error → sink ≡ Some (before ++ replies_to meaning r (lines_taken script))
-reader-script {script = script} new rest before error at keeps full (inl is) told-is by = absurd (no-outside script error by (inl is))
-reader-script {script = script} new rest before error at keeps full (inr (inl is)) told-is by = absurd (no-outside script error by (inr (inl is)))
-reader-script {r = r} {script = script} {old = old} new rest before error at keeps full (inr (inr is)) told-is by =
+pub reader-script : {P : Type 0} {r : Rules} {script : List ℕ} {source told sink : Option (List ℕ)} {old : LinesModel} {number : ℕ} {e : SessionModel} (new : LinesModel) (rest before : List ℕ) (error : SlateDBError) (at : IsAt P r script source told sink old number e)
+    → KeepsAll old at.left new rest → (error ≡ ScriptTooLong → IsFull new) → ReaderError error → P → told ≡ Some before → script_error script ≡ Some error → sink ≡ Some (before ++ replies_to meaning r (lines_taken script))
+reader-script {script = script} new rest before error at keeps full (inl is) p told-is by = absurd (no-outside script error by (inl is))
+reader-script {script = script} new rest before error at keeps full (inr (inl is)) p told-is by = absurd (no-outside script error by (inr (inl is)))
+reader-script {r = r} {script = script} {old = old} new rest before error at keeps full (inr (inr is)) p told-is by =
     let end = full is in
     let long = too-long script at.done at.left rest old new at.stands at.given keeps end.0 end.1 in
-    at.said before told-is ∙ ap (λ ls. Some (before ++ replies_to meaning r ls)) (sym long.1)
+    at.said p before told-is ∙ ap (λ ls. Some (before ++ replies_to meaning r ls)) (sym long.1)
 
-pub reader-source : {r : Rules} {script : List ℕ} {source told sink : Option (List ℕ)} {old : LinesModel} {number : ℕ} {e : EngineModel} (new : LinesModel) (rest : List ℕ) (at : IsAt r script source told sink old number e)
+pub reader-source : {P : Type 0} {r : Rules} {script : List ℕ} {source told sink : Option (List ℕ)} {old : LinesModel} {number : ℕ} {e : SessionModel} (new : LinesModel) (rest : List ℕ) (at : IsAt P r script source told sink old number e)
     → KeepsAll old at.left new rest → HasNoEnd new.held → HasAnsweredAll r script rest (replies_to meaning r (lines_of at.done))
 reader-source {r = r} {script = script} {old = old} new rest at keeps none = record {
   given = at.done ++ new.held;
@@ -85,18 +143,33 @@ reader-source {r = r} {script = script} {old = old} new rest at keeps none = rec
         let nothing : new.held ≡ [] = first-empty new.held rest (keeps.bytes ∙ all.0) in
         inr (sym (append-nil at.done) ∙ ap (λ bs. at.done ++ bs) (sym nothing), ap (λ bs. bs ++ rest) (sym nothing) ∙ keeps.bytes ∙ all.0)
 
-pub reader-memory : {r : Rules} {script : List ℕ} {source told sink : Option (List ℕ)} {m : LinesModel} {number : ℕ} {e : EngineModel} (at : IsAt r script source told sink m number e) → HasAnswered r script (replies_to meaning r (lines_of at.done))
+pub reader-memory : {P : Type 0} {r : Rules} {script : List ℕ} {source told sink : Option (List ℕ)} {m : LinesModel} {number : ℕ} {e : SessionModel} (at : IsAt P r script source told sink m number e) → HasAnswered r script (replies_to meaning r (lines_of at.done))
 reader-memory {script = script} {m = m} at =
     let first = lines-begin script at.done (m.held ++ at.left) at.stands in
     record { done = lines_of at.done; later = first.0; first = first.1; meant = at.meant; all = refl }
 
+-- a reader's error is no part's
+pub reader-no-part : (e : SlateDBError) → ReaderError e → IsPartError e → ⊥
+reader-no-part e (inl is) part = subst IsPartError is part
+reader-no-part e (inr (inl is)) part = subst IsPartError is part
+reader-no-part e (inr (inr is)) part = subst IsPartError is part
+
+pub reader-undamaged : (e : SlateDBError) → ReaderError e → IsDamage e → ⊥
+reader-undamaged e (inl is) damage = subst IsDamage is damage
+reader-undamaged e (inr (inl is)) damage = subst IsDamage is damage
+reader-undamaged e (inr (inr is)) damage = subst IsDamage is damage
+
 pub reader-complete : (script : List ℕ) (error : SlateDBError) → IsOutside error ⊎ (script_error script ≡ Some error) → ReaderError error → IsWellFormed script → (error ≡ ReadFault → ⊥) → error ≡ OutOfMemory
-reader-complete script error by cause formed no-read = complete-from script error by formed no-read (none error cause)
+reader-complete script error by cause formed no-read = only (complete-from script error by formed no-read (none error cause))
   where
     none : (e : SlateDBError) → ReaderError e → e ≡ WriteFault → ⊥
     none e (inl is) was = cc
     none e (inr (inl is)) was = cc
     none e (inr (inr is)) was = cc
+
+    only : (error ≡ OutOfMemory) ⊎ IsPartError error → error ≡ OutOfMemory
+    only (inl is) = is
+    only (inr part) = absurd (reader-no-part error cause part)
 
 abbrev pub ReadOn : List ℕ → Option (List ℕ) → Type 0
 ReadOn script source = (n : ℕ) × (n ≤ script_limit) × (source ≡ Some (drop n script))
@@ -108,22 +181,22 @@ read-on script done held rest source split within is = (
   is ∙ ap Some (sym (ap (drop (length (done ++ held))) (split ∙ sym (append_assoc done held rest)) ∙ drop-append_seam (done ++ held) rest)),
 )
 
-pub reader-read : {r : Rules} {script : List ℕ} {source told sink : Option (List ℕ)} {old : LinesModel} {number : ℕ} {e : EngineModel} (new : LinesModel) (rest : List ℕ) (after : Option (List ℕ)) (at : IsAt r script source told sink old number e)
+pub reader-read : {P : Type 0} {r : Rules} {script : List ℕ} {source told sink : Option (List ℕ)} {old : LinesModel} {number : ℕ} {e : SessionModel} (new : LinesModel) (rest : List ℕ) (after : Option (List ℕ)) (at : IsAt P r script source told sink old number e)
     → KeepsAll old at.left new rest → new.given + length new.held ≤ script_limit → after ≡ Some rest → ReadOn script after
 reader-read {script = script} new rest after at keeps within is =
     read-on script at.done new.held rest after (at.stands.split ∙ ap (λ bs. at.done ++ bs) (sym keeps.bytes)) (omega (arith, keeps.counts, at.given)) is
 
-pub reader-full : {r : Rules} {script : List ℕ} {source told sink : Option (List ℕ)} {old : LinesModel} {number : ℕ} {e : EngineModel} (new : LinesModel) (rest : List ℕ) (after : Option (List ℕ)) (at : IsAt r script source told sink old number e)
+pub reader-full : {P : Type 0} {r : Rules} {script : List ℕ} {source told sink : Option (List ℕ)} {old : LinesModel} {number : ℕ} {e : SessionModel} (new : LinesModel) (rest : List ℕ) (after : Option (List ℕ)) (at : IsAt P r script source told sink old number e)
     → KeepsAll old at.left new rest → new.given + length new.held ≡ script_limit → after ≡ Some rest → after ≡ Some (drop script_limit script)
 unfolding reader-read read-on
 reader-full {script = script} new rest after at keeps full is =
     let count : length (at.done ++ new.held) ≡ script_limit = omega (arith, length-append at.done new.held, keeps.counts, at.given) in
     (reader-read new rest after at keeps (omega arith) is).2 ∙ ap (λ n. Some (drop n script)) count
 
-pub line-read : {r : Rules} {script line : List ℕ} {source told sink : Option (List ℕ)} {m : LinesModel} {number : ℕ} {e : EngineModel} (took : Took r script source told sink m line number e) → m.given + length m.held ≤ script_limit → ReadOn script source
+pub line-read : {P : Type 0} {r : Rules} {script line : List ℕ} {source told sink : Option (List ℕ)} {m : LinesModel} {number : ℕ} {e : SessionModel} (took : Took P r script source told sink m line number e) → m.given + length m.held ≤ script_limit → ReadOn script source
 line-read {script = script} {source = source} {m = m} took within = read-on script took.more m.held took.left source took.stands.split (omega (arith, took.given)) took.rest
 
-pub end-read : {r : Rules} {script : List ℕ} {source told sink : Option (List ℕ)} {old : LinesModel} {number : ℕ} {e : EngineModel} (new : LinesModel) (rest : List ℕ) (after : Option (List ℕ)) (at : IsAt r script source told sink old number e)
+pub end-read : {P : Type 0} {r : Rules} {script : List ℕ} {source told sink : Option (List ℕ)} {old : LinesModel} {number : ℕ} {e : SessionModel} (new : LinesModel) (rest : List ℕ) (after : Option (List ℕ)) (at : IsAt P r script source told sink old number e)
     → IsEnd old at.left new rest → new.given + length new.held ≤ script_limit → after ≡ Some rest → ReadOn script after
 end-read {script = script} new rest after at end within is =
     read-on script at.done new.held rest after (at.stands.split ∙ ap (λ bs. at.done ++ bs) (end.nothing ∙ sym end.still)) (omega (arith, end.counts, at.given)) is
@@ -136,41 +209,43 @@ reader-kinds error (inr (inr is)) = inr (inl is)
 -- ---- at a line that isn't answered
 
 abbrev pub LineError : ℕ → List ℕ → SlateDBError → Type 0
-LineError number line e = (e ≡ OutOfMemory) ⊎ (e ≡ WriteFault) ⊎ ((e ≡ ScriptSyntax number) × (is_line line ≡ false))
+LineError number line e = (e ≡ OutOfMemory) ⊎ (e ≡ WriteFault) ⊎ ((e ≡ ScriptSyntax number) × (is_line line ≡ false)) ⊎ IsPartError e
 
 -- the lines that a run can take, and those of the script, at the line
-taken-there : {r : Rules} {script line : List ℕ} {source told sink : Option (List ℕ)} {m : LinesModel} {number : ℕ} {e : EngineModel} (took : Took r script source told sink m line number e)
+taken-there : {P : Type 0} {r : Rules} {script line : List ℕ} {source told sink : Option (List ℕ)} {m : LinesModel} {number : ℕ} {e : SessionModel} (took : Took P r script source told sink m line number e)
     → (later : List (List ℕ)) × (lines_taken script ≡ lines_of took.done ++ (line ∷ later))
 taken-there {script = script} {line = line} {m = m} took =
     let first = taken-first script took.more (m.held ++ took.left) took.stands in
     (first.0, first.1 ∙ ap (λ ls. ls ++ first.0) took.lines ∙ append_assoc (lines_of took.done) (line ∷ []) first.0)
 
-lines-there : {r : Rules} {script line : List ℕ} {source told sink : Option (List ℕ)} {m : LinesModel} {number : ℕ} {e : EngineModel} (took : Took r script source told sink m line number e)
+lines-there : {P : Type 0} {r : Rules} {script line : List ℕ} {source told sink : Option (List ℕ)} {m : LinesModel} {number : ℕ} {e : SessionModel} (took : Took P r script source told sink m line number e)
     → (later : List (List ℕ)) × (lines_of script ≡ lines_of took.done ++ (line ∷ later))
 lines-there {script = script} {line = line} {m = m} took =
     let first = lines-begin script took.more (m.held ++ took.left) took.stands in
     (first.0, first.1 ∙ ap (λ ls. ls ++ first.0) took.lines ∙ append_assoc (lines_of took.done) (line ∷ []) first.0)
 
-pub line-error : {r : Rules} {script line : List ℕ} {source told sink : Option (List ℕ)} {m : LinesModel} {number : ℕ} {e : EngineModel} (error : SlateDBError) → Took r script source told sink m line number e
+pub line-error : {P : Type 0} {r : Rules} {script line : List ℕ} {source told sink : Option (List ℕ)} {m : LinesModel} {number : ℕ} {e : SessionModel} (error : SlateDBError) → Took P r script source told sink m line number e
     → LineError number line error → IsOutside error ⊎ (script_error script ≡ Some error)
 line-error error took (inl is) = inl (inl is)
-line-error error took (inr (inl is)) = inl (inr (inr is))
-line-error {script = script} {line = line} error took (inr (inr is)) =
+line-error error took (inr (inl is)) = inl (inr (inr (inl is)))
+line-error error took (inr (inr (inr is))) = inl (inr (inr (inr is)))
+line-error {script = script} {line = line} error took (inr (inr (inl is))) =
     let there = taken-there took in
     inr (ap (λ o. error_of o (is_too_long script)) (ap first_other there.1 ∙ other-first (lines_of took.done) line there.0 took.meant is.1)
     ∙ ap (λ n. Some (ScriptSyntax n)) (sym took.count) ∙ ap Some (sym is.0))
 
-pub line-script : {r : Rules} {script line : List ℕ} {source told sink : Option (List ℕ)} {m : LinesModel} {number : ℕ} {e : EngineModel} (after : Option (List ℕ)) (before : List ℕ) (error : SlateDBError) → Took r script source told sink m line number e
-    → LineError number line error → ((error ≡ WriteFault) ⊎ (after ≡ sink)) → told ≡ Some before → script_error script ≡ Some error → after ≡ Some (before ++ replies_to meaning r (lines_taken script))
-line-script {script = script} after before error took (inl is) same told-is by = absurd (no-outside script error by (inl is))
-line-script {script = script} after before error took (inr (inl is)) same told-is by = absurd (no-outside script error by (inr (inr is)))
-line-script {script = script} after before error took (inr (inr is)) (inl fault) told-is by = absurd (no-outside script error by (inr (inr fault)))
-line-script {r = r} {script = script} {line = line} after before error took (inr (inr is)) (inr same) told-is by =
+pub line-script : {P : Type 0} {r : Rules} {script line : List ℕ} {source told sink : Option (List ℕ)} {m : LinesModel} {number : ℕ} {e : SessionModel} (after : Option (List ℕ)) (before : List ℕ) (error : SlateDBError) → Took P r script source told sink m line number e
+    → LineError number line error → ((error ≡ WriteFault) ⊎ (after ≡ sink)) → P → told ≡ Some before → script_error script ≡ Some error → after ≡ Some (before ++ replies_to meaning r (lines_taken script))
+line-script {script = script} after before error took (inl is) same p told-is by = absurd (no-outside script error by (inl is))
+line-script {script = script} after before error took (inr (inl is)) same p told-is by = absurd (no-outside script error by (inr (inr (inl is))))
+line-script {script = script} after before error took (inr (inr (inr is))) same p told-is by = absurd (no-outside script error by (inr (inr (inr is))))
+line-script {script = script} after before error took (inr (inr (inl is))) (inl fault) p told-is by = absurd (no-outside script error by (inr (inr (inl fault))))
+line-script {r = r} {script = script} {line = line} after before error took (inr (inr (inl is))) (inr same) p told-is by =
     let there = taken-there took in
-    same ∙ took.said before told-is
+    same ∙ took.said p before told-is
     ∙ ap (λ bs. Some (before ++ bs)) (sym (ap (replies_to meaning r) there.1 ∙ replies-stop r (lines_of took.done) line there.0 took.meant is.1))
 
-pub line-sink : {r : Rules} {script line : List ℕ} {source told sink : Option (List ℕ)} {m : LinesModel} {number : ℕ} {e : EngineModel} (n : ℕ) (took : Took r script source told sink m line number e)
+pub line-sink : {P : Type 0} {r : Rules} {script line : List ℕ} {source told sink : Option (List ℕ)} {m : LinesModel} {number : ℕ} {e : SessionModel} (n : ℕ) (took : Took P r script source told sink m line number e)
     → IsTrue (is_line line) → n < length (replies_from meaning r (after_lines meaning r opening (lines_of took.done)) (line ∷ []))
     → HasBegun r script (replies_to meaning r (lines_of took.done) ++ take n (replies_from meaning r (after_lines meaning r opening (lines_of took.done)) (line ∷ [])))
 line-sink {r = r} {line = line} n took is short =
@@ -193,58 +268,62 @@ line-sink {r = r} {line = line} n took is short =
     reply : List ℕ
     reply = replies_from meaning r (after_lines meaning r opening (lines_of took.done)) (line ∷ [])
 
-pub line-complete : (script line : List ℕ) (number : ℕ) (error : SlateDBError) → IsOutside error ⊎ (script_error script ≡ Some error) → LineError number line error → IsWellFormed script → (error ≡ WriteFault → ⊥) → error ≡ OutOfMemory
+pub line-complete : (script line : List ℕ) (number : ℕ) (error : SlateDBError) → IsOutside error ⊎ (script_error script ≡ Some error) → LineError number line error → IsWellFormed script → (error ≡ WriteFault → ⊥) → (error ≡ OutOfMemory) ⊎ IsPartError error
 line-complete script line number error by cause formed no-write = complete-from script error by formed (none error cause) no-write
   where
     none : (e : SlateDBError) → LineError number line e → e ≡ ReadFault → ⊥
     none e (inl is) was = cc
     none e (inr (inl is)) was = cc
-    none e (inr (inr is)) was = clash is.0 was
+    none e (inr (inr (inr is))) was = subst IsPartError was is
+    none e (inr (inr (inl is))) was = clash is.0 was
       where
         clash : e ≡ ScriptSyntax number → e ≡ ReadFault → ⊥
         clash h k = cc
 
 pub line-kinds : (number : ℕ) (line : List ℕ) (error : SlateDBError) → LineError number line error → IsOutside error ⊎ IsScriptError error
 line-kinds number line error (inl is) = inl (inl is)
-line-kinds number line error (inr (inl is)) = inl (inr (inr is))
-line-kinds number line error (inr (inr is)) = inr (inr (number, is.0))
+line-kinds number line error (inr (inl is)) = inl (inr (inr (inl is)))
+line-kinds number line error (inr (inr (inl is))) = inr (inr (number, is.0))
+line-kinds number line error (inr (inr (inr is))) = inl (inr (inr (inr is)))
 
 pub line-not-long : (number : ℕ) (line : List ℕ) (error : SlateDBError) → LineError number line error → error ≡ ScriptTooLong → ⊥
 line-not-long number line error (inl is) long = cc
 line-not-long number line error (inr (inl is)) long = cc
-line-not-long number line error (inr (inr is)) long = clash is.0 long
+line-not-long number line error (inr (inr (inr is))) long = subst IsPartError long is
+line-not-long number line error (inr (inr (inl is))) long = clash is.0 long
   where
     clash : error ≡ ScriptSyntax number → error ≡ ScriptTooLong → ⊥
     clash h k = cc
 
 -- nothing was written
-pub untouched : (error : SlateDBError) (sink after : Option (List ℕ)) → (error ≡ WriteFault) ⊎ (after ≡ sink) → error ≡ OutOfMemory → after ≡ sink
-untouched error sink after (inl fault) want = cc
-untouched error sink after (inr same) want = same
+pub untouched : (error : SlateDBError) (sink after : Option (List ℕ)) → (error ≡ WriteFault) ⊎ (after ≡ sink) → (error ≡ OutOfMemory) ⊎ IsPartError error → after ≡ sink
+untouched error sink after (inl fault) (inl want) = cc
+untouched error sink after (inl fault) (inr part) = absurd (subst IsPartError fault part)
+untouched error sink after (inr same) which = same
 
-pub line-memory : {r : Rules} {script line : List ℕ} {source told sink : Option (List ℕ)} {m : LinesModel} {number : ℕ} {e : EngineModel} (took : Took r script source told sink m line number e) → HasAnswered r script (replies_to meaning r (lines_of took.done))
+pub line-memory : {P : Type 0} {r : Rules} {script line : List ℕ} {source told sink : Option (List ℕ)} {m : LinesModel} {number : ℕ} {e : SessionModel} (took : Took P r script source told sink m line number e) → HasAnswered r script (replies_to meaning r (lines_of took.done))
 line-memory {line = line} took =
     let there = lines-there took in
     record { done = lines_of took.done; later = line ∷ there.0; first = there.1; meant = took.meant; all = refl }
 
 -- ---- at the end of the script
 
-pub end-there : {r : Rules} {script : List ℕ} {source told sink : Option (List ℕ)} {old : LinesModel} {number : ℕ} {e : EngineModel} (new : LinesModel) (rest : List ℕ) (at : IsAt r script source told sink old number e)
+pub end-there : {P : Type 0} {r : Rules} {script : List ℕ} {source told sink : Option (List ℕ)} {old : LinesModel} {number : ℕ} {e : SessionModel} (new : LinesModel) (rest : List ℕ) (at : IsAt P r script source told sink old number e)
     → IsEnd old at.left new rest → (script ≡ at.done) × (length script < script_limit) × (rest ≡ [])
 end-there {script = script} {old = old} new rest at is = ends script at.done at.left rest old new at.stands at.given is
 
-pub end-lines : {r : Rules} {script : List ℕ} {source told sink : Option (List ℕ)} {old : LinesModel} {number : ℕ} {e : EngineModel} (new : LinesModel) (rest : List ℕ) (at : IsAt r script source told sink old number e)
+pub end-lines : {P : Type 0} {r : Rules} {script : List ℕ} {source told sink : Option (List ℕ)} {old : LinesModel} {number : ℕ} {e : SessionModel} (new : LinesModel) (rest : List ℕ) (at : IsAt P r script source told sink old number e)
     → IsEnd old at.left new rest → AreLines (lines_of script)
 end-lines {script = script} new rest at is = subst (λ bs. AreLines (lines_of bs)) (sym (end-there new rest at is).0) at.meant
 
-pub end-answered : {r : Rules} {script : List ℕ} {source told sink : Option (List ℕ)} {old : LinesModel} {number : ℕ} {e : EngineModel} (new : LinesModel) (rest before : List ℕ) (at : IsAt r script source told sink old number e)
-    → IsEnd old at.left new rest → told ≡ Some before → sink ≡ Some (before ++ replies r script)
-end-answered {r = r} new rest before at is told-is = at.said before told-is ∙ ap (λ bs. Some (before ++ replies r bs)) (sym (end-there new rest at is).0)
+pub end-answered : {P : Type 0} {r : Rules} {script : List ℕ} {source told sink : Option (List ℕ)} {old : LinesModel} {number : ℕ} {e : SessionModel} (new : LinesModel) (rest before : List ℕ) (at : IsAt P r script source told sink old number e)
+    → IsEnd old at.left new rest → P → told ≡ Some before → sink ≡ Some (before ++ replies r script)
+end-answered {r = r} new rest before at is p told-is = at.said p before told-is ∙ ap (λ bs. Some (before ++ replies r bs)) (sym (end-there new rest at is).0)
 
-pub end-formed : {r : Rules} {script : List ℕ} {source told sink : Option (List ℕ)} {old : LinesModel} {number : ℕ} {e : EngineModel} (new : LinesModel) (rest : List ℕ) (at : IsAt r script source told sink old number e)
+pub end-formed : {P : Type 0} {r : Rules} {script : List ℕ} {source told sink : Option (List ℕ)} {old : LinesModel} {number : ℕ} {e : SessionModel} (new : LinesModel) (rest : List ℕ) (at : IsAt P r script source told sink old number e)
     → IsEnd old at.left new rest → IsWellFormed script
 end-formed {script = script} new rest at is = ((end-there new rest at is).1, lines-built (lines_of script) (end-lines new rest at is))
 
-pub end-no_error : {r : Rules} {script : List ℕ} {source told sink : Option (List ℕ)} {old : LinesModel} {number : ℕ} {e : EngineModel} (new : LinesModel) (rest : List ℕ) (at : IsAt r script source told sink old number e)
+pub end-no_error : {P : Type 0} {r : Rules} {script : List ℕ} {source told sink : Option (List ℕ)} {old : LinesModel} {number : ℕ} {e : SessionModel} (new : LinesModel) (rest : List ℕ) (at : IsAt P r script source told sink old number e)
     → IsEnd old at.left new rest → script_error script ≡ None
 end-no_error {script = script} new rest at is = lines-no_error script (end-there new rest at is).1 (end-lines new rest at is)

@@ -12,7 +12,7 @@ use Rattle.slate_store.proofs.LineLaws.{taken_line_is_first, whole_lines_join, w
 use Rattle.slate_txn.specs.State.{Rules, State, opening}
 use Rattle.slate_script.specs.Stage.{meaning}
 use Rattle.slate_script.specs.Replies.{after_lines, replies_from, replies_to, IsWellFormed}
-use Rattle.slate_script.specs.Engine.{EngineModel, StandsFor}
+use Rattle.slate_script.specs.Session.{SessionModel, StandsFor}
 use Rattle.slate_script.specs.Run.{is_line, first_other, is_too_long, lines_taken, error_of, script_error, AreLines}
 use Rattle.slate_script.proofs.Answered.{lines-more, replies-append, state-append, other-none, none-other, lines-built, built-lines}
 
@@ -212,7 +212,7 @@ formed-no_error script h = lines-no_error script h.0 (built-lines (lines_of scri
 -- ---- a run
 
 -- told: what the sink held when the run began
-pub record IsAt (r : Rules) (script : List ℕ) (source told sink : Option (List ℕ)) (m : LinesModel) (number : ℕ) (e : EngineModel) : Type 0 where
+pub record IsAt (P : Type 0) (r : Rules) (script : List ℕ) (source told sink : Option (List ℕ)) (m : LinesModel) (number : ℕ) (e : SessionModel) : Type 0 where
   pub left : List ℕ
   pub rest : source ≡ Some left
   pub done : List ℕ
@@ -220,10 +220,10 @@ pub record IsAt (r : Rules) (script : List ℕ) (source told sink : Option (List
   pub given : m.given ≡ length done
   pub meant : AreLines (lines_of done)
   pub count : number ≡ length (lines_of done)
-  pub engine : StandsFor e (after_lines meaning r opening (lines_of done))
-  pub said : (before : List ℕ) → told ≡ Some before → sink ≡ Some (before ++ replies_to meaning r (lines_of done))
+  pub session : P → StandsFor e (after_lines meaning r opening (lines_of done))
+  pub said : P → (before : List ℕ) → told ≡ Some before → sink ≡ Some (before ++ replies_to meaning r (lines_of done))
 
-pub record Took (r : Rules) (script : List ℕ) (source told sink : Option (List ℕ)) (m : LinesModel) (line : List ℕ) (number : ℕ) (e : EngineModel) : Type 0 where
+pub record Took (P : Type 0) (r : Rules) (script : List ℕ) (source told sink : Option (List ℕ)) (m : LinesModel) (line : List ℕ) (number : ℕ) (e : SessionModel) : Type 0 where
   pub left : List ℕ
   pub rest : source ≡ Some left
   pub done : List ℕ
@@ -233,11 +233,11 @@ pub record Took (r : Rules) (script : List ℕ) (source told sink : Option (List
   pub given : m.given ≡ length more
   pub meant : AreLines (lines_of done)
   pub count : number ≡ length (lines_of done) + 1
-  pub engine : StandsFor e (after_lines meaning r opening (lines_of done))
-  pub said : (before : List ℕ) → told ≡ Some before → sink ≡ Some (before ++ replies_to meaning r (lines_of done))
+  pub session : P → StandsFor e (after_lines meaning r opening (lines_of done))
+  pub said : P → (before : List ℕ) → told ≡ Some before → sink ≡ Some (before ++ replies_to meaning r (lines_of done))
 
-pub begin : (r : Rules) (script : List ℕ) (source told : Option (List ℕ)) (m : LinesModel) (e : EngineModel) → source ≡ Some script → m.held ≡ [] → m.given ≡ 0 → StandsFor e opening → IsAt r script source told told m 0 e
-begin r script source told m e is held given opens = record {
+pub begin : (P : Type 0) (r : Rules) (script : List ℕ) (source told : Option (List ℕ)) (m : LinesModel) (e : SessionModel) → source ≡ Some script → m.held ≡ [] → m.given ≡ 0 → StandsFor e opening → IsAt P r script source told told m 0 e
+begin P r script source told m e is held given opens = record {
   left = script;
   rest = is;
   done = [];
@@ -245,13 +245,13 @@ begin r script source told m e is held given opens = record {
   given = given;
   meant = tt;
   count = refl;
-  engine = opens;
-  said = λ before told-is. told-is ∙ ap Some (sym (append-nil before));
+  session = λ p. opens;
+  said = λ p before told-is. told-is ∙ ap Some (sym (append-nil before));
 }
 
-pub take-line : (r : Rules) (script line : List ℕ) (source told sink after : Option (List ℕ)) (old new : LinesModel) (number : ℕ) (e : EngineModel) (at : IsAt r script source told sink old number e) (rest : List ℕ)
-    → after ≡ Some rest → GivesLine line old at.left new rest → new.given ≤ script_limit → Took r script after told sink new line (number + 1) e
-take-line r script line source told sink after old new number e at rest is gives within =
+pub take-line : (P : Type 0) (r : Rules) (script line : List ℕ) (source told sink after : Option (List ℕ)) (old new : LinesModel) (number : ℕ) (e : SessionModel) (at : IsAt P r script source told sink old number e) (rest : List ℕ)
+    → after ≡ Some rest → GivesLine line old at.left new rest → new.given ≤ script_limit → Took P r script after told sink new line (number + 1) e
+take-line P r script line source told sink after old new number e at rest is gives within =
     let g = grow script at.done line at.left rest old new at.stands at.given gives within in
     record {
       left = rest;
@@ -263,18 +263,18 @@ take-line r script line source told sink after old new number e at rest is gives
       given = g.counts;
       meant = at.meant;
       count = ap (λ n. n + 1) at.count;
-      engine = at.engine;
+      session = at.session;
       said = at.said;
     }
 
 one-more : (ls : List (List ℕ)) (l : List ℕ) → length ls + 1 ≡ length (ls ++ (l ∷ []))
 one-more ls l = sym (length-append ls (l ∷ []))
 
-pub answer-it : (r : Rules) (script line : List ℕ) (source told sink after : Option (List ℕ)) (m : LinesModel) (number : ℕ) (e new : EngineModel) → Took r script source told sink m line number e
-    → IsTrue (is_line line) → ((s : State) → StandsFor e s → StandsFor new (after_lines meaning r s (line ∷ [])))
-    → ((s : State) (before : List ℕ) → StandsFor e s → sink ≡ Some before → after ≡ Some (before ++ replies_from meaning r s (line ∷ [])))
-    → IsAt r script source told after m number new
-answer-it r script line source told sink after m number e new took is stands says = record {
+pub answer-it : (P : Type 0) (r : Rules) (script line : List ℕ) (source told sink after : Option (List ℕ)) (m : LinesModel) (number : ℕ) (e new : SessionModel) → Took P r script source told sink m line number e
+    → IsTrue (is_line line) → (P → (s : State) → StandsFor e s → StandsFor new (after_lines meaning r s (line ∷ [])))
+    → (P → (s : State) (before : List ℕ) → StandsFor e s → sink ≡ Some before → after ≡ Some (before ++ replies_from meaning r s (line ∷ [])))
+    → IsAt P r script source told after m number new
+answer-it P r script line source told sink after m number e new took is stands says = record {
   left = took.left;
   rest = took.rest;
   done = took.more;
@@ -282,28 +282,28 @@ answer-it r script line source told sink after m number e new took is stands say
   given = took.given;
   meant = rw took.lines (lines-more (lines_of took.done) (line ∷ []) took.meant (is, tt));
   count = took.count ∙ one-more (lines_of took.done) line ∙ ap length (sym took.lines);
-  engine = subst (StandsFor new) (sym (ap (after_lines meaning r opening) took.lines ∙ state-append r opening (lines_of took.done) (line ∷ []) took.meant)) (stands _ took.engine);
-  said = λ before is.
-      says _ (before ++ replies_to meaning r (lines_of took.done)) took.engine (took.said before is)
+  session = λ p. subst (StandsFor new) (sym (ap (after_lines meaning r opening) took.lines ∙ state-append r opening (lines_of took.done) (line ∷ []) took.meant)) (stands p _ (took.session p));
+  said = λ p before is.
+      says p _ (before ++ replies_to meaning r (lines_of took.done)) (took.session p) (took.said p before is)
       ∙ ap Some (append_assoc before (replies_to meaning r (lines_of took.done)) (replies_from meaning r (after_lines meaning r opening (lines_of took.done)) (line ∷ []))
       ∙ ap (λ bs. before ++ bs) (sym (ap (replies_to meaning r) took.lines ∙ replies-append r opening (lines_of took.done) (line ∷ []) took.meant)));
 }
 
 -- ---- what the reader answered
 
-pub took-told : {V : Type 0} {r : Rules} {script : List ℕ} {source told sink : Option (List ℕ)} {old : LinesModel} {number : ℕ} {e : EngineModel} (items : V → List ℕ) (o : Option V) (v : V) (line : List ℕ) (after : Option (List ℕ)) (new : LinesModel)
+pub took-told : {V P : Type 0} {r : Rules} {script : List ℕ} {source told sink : Option (List ℕ)} {old : LinesModel} {number : ℕ} {e : SessionModel} (items : V → List ℕ) (o : Option V) (v : V) (line : List ℕ) (after : Option (List ℕ)) (new : LinesModel)
     → ((left : List ℕ) → source ≡ Some left → (rest : List ℕ) × (after ≡ Some rest) × MatchOption o (IsEnd old left new rest) (λ l. GivesLine (items l) old left new rest))
-    → new.given + length new.held ≤ script_limit → o ≡ Some v → line ≡ items v → IsAt r script source told sink old number e → Took r script after told sink new line (number + 1) e
-took-told {r = r} {script = script} {source = source} {told = told} {sink = sink} {old = old} {number = number} {e = e} items o v line after new tells within some is at =
+    → new.given + length new.held ≤ script_limit → o ≡ Some v → line ≡ items v → IsAt P r script source told sink old number e → Took P r script after told sink new line (number + 1) e
+took-told {P = P} {r = r} {script = script} {source = source} {told = told} {sink = sink} {old = old} {number = number} {e = e} items o v line after new tells within some is at =
     let gave = tells at.left at.rest in
     let gives : GivesLine line old at.left new gave.0 =
     subst (λ l. GivesLine l old at.left new gave.0) (sym is) (subst (λ p. MatchOption p (IsEnd old at.left new gave.0) (λ l. GivesLine (items l) old at.left new gave.0)) some gave.2) in
     let bound : new.given ≤ script_limit = omega arith in
-    take-line r script line source told sink after old new number e at gave.0 gave.1 gives bound
+    take-line P r script line source told sink after old new number e at gave.0 gave.1 gives bound
 
-pub end-told : {V : Type 0} {r : Rules} {script : List ℕ} {source told sink : Option (List ℕ)} {old : LinesModel} {number : ℕ} {e : EngineModel} (items : V → List ℕ) (o : Option V) (after : Option (List ℕ)) (new : LinesModel)
+pub end-told : {V P : Type 0} {r : Rules} {script : List ℕ} {source told sink : Option (List ℕ)} {old : LinesModel} {number : ℕ} {e : SessionModel} (items : V → List ℕ) (o : Option V) (after : Option (List ℕ)) (new : LinesModel)
     → ((left : List ℕ) → source ≡ Some left → (rest : List ℕ) × (after ≡ Some rest) × MatchOption o (IsEnd old left new rest) (λ l. GivesLine (items l) old left new rest))
-    → o ≡ None → (at : IsAt r script source told sink old number e) → (rest : List ℕ) × (after ≡ Some rest) × IsEnd old at.left new rest
+    → o ≡ None → (at : IsAt P r script source told sink old number e) → (rest : List ℕ) × (after ≡ Some rest) × IsEnd old at.left new rest
 end-told {old = old} items o after new tells none at =
     let gave = tells at.left at.rest in
     (gave.0, gave.1, subst (λ p. MatchOption p (IsEnd old at.left new gave.0) (λ l. GivesLine (items l) old at.left new gave.0)) none gave.2)

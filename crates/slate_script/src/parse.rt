@@ -1,14 +1,11 @@
 //! The meaning of a line.
-ghost use Rattle.std.specs.Prelude.{◌≡◌, ◌⊎◌, Ok, Some, None, IfOk, IfSome, IfErr, IsOkUnless, true, false};
-ghost use Rattle.std.specs.List.{list_all};
-ghost use Rattle.std.specs.Option.{option_copied};
-ghost use Rattle.slate_script.specs.Grammar.{is_name_byte};
-ghost use Rattle.slate_script.specs.Parse.{tokens_of, read_name};
+ghost use Rattle.std.specs.Prelude.{◌≡◌, ◌⊎◌, ◌≤◌, Ok, Some, None, IfOk, IfSome, IfErr, IsOkUnless, length, option_map, true, false};
+ghost use Rattle.slate_script.specs.Parse.{tokens_of, grouped, read_ttl};
 ghost use Rattle.slate_script.specs.Stage.{meaning};
-ghost use Rattle.slate_script.specs.Built.{texts, is_name, read_text, read_key, read_value, built_level, keyword, built_begin, built_get, built_rollback, built_write, built_tokens};
+ghost use Rattle.slate_script.specs.Built.{texts, built_level, keyword, built_now, built_begin, built_get, built_rollback, built_alone, built_put, built_delete, built_op, built_ops, built_write, built_tokens, is_op_word};
 ghost use Rattle.slate_script.specs.Replies.{is_silent};
 
-use crate::text::is_visible;
+use crate::token::{read_bytes, read_moment, read_name, read_ttl};
 use bytes::Bytes;
 use slate_mem::WriteOp;
 use slate_txn::line::Line;
@@ -16,22 +13,16 @@ use slate_txn::list::OpList;
 use slate_types::{IsolationLevel, PutOptions, SlateDBError, Ttl};
 use std::alloc::Global;
 
-/// The most bytes of a name.
-const MAX_NAME_LEN: usize = 64;
-
-/// The most bytes of a key.
-const MAX_KEY_LEN: usize = 65535;
-
-/// The most bytes of a value.
-const MAX_VALUE_LEN: usize = 65535;
-
 /// The first word of a line.
 #[derive(Clone, Copy)]
 enum Keyword {
+    Now,
     Begin,
     Get,
     Rollback,
     Write,
+    Freeze,
+    Flush,
 }
 
 /// What the line means; None for an empty line and a comment. `ScriptSyntax`, with line number 0, comes
@@ -76,10 +67,13 @@ fn read_line(alloc: Global, tokens: &[&[u8]]) -> Result<Option<Line>, SlateDBErr
         return Ok(None);
     };
     match read_keyword(word) {
+        Some(Keyword::Now) => Ok(read_now(rest)),
         Some(Keyword::Begin) => read_begin(alloc, rest),
         Some(Keyword::Get) => read_get(alloc, rest),
         Some(Keyword::Rollback) => read_rollback(alloc, rest),
         Some(Keyword::Write) => read_write(alloc, rest),
+        Some(Keyword::Freeze) => Ok(read_alone(rest, Line::Freeze)),
+        Some(Keyword::Flush) => Ok(read_alone(rest, Line::Flush)),
         None => Ok(None),
     }
 }
@@ -88,12 +82,26 @@ fn read_keyword(token: &[u8]) -> Option<Keyword>
     ensures { result ≡ keyword token.now }
 {
     match token {
+        b"now" => Some(Keyword::Now),
         b"begin" => Some(Keyword::Begin),
         b"get" => Some(Keyword::Get),
         b"rollback" => Some(Keyword::Rollback),
         b"write" => Some(Keyword::Write),
+        b"freeze" => Some(Keyword::Freeze),
+        b"flush" => Some(Keyword::Flush),
         _ => None,
     }
+}
+
+/// `now` and a moment
+fn read_now(tokens: &[&[u8]]) -> Option<Line>
+    ensures { result ≡ built_now (texts tokens.now) }
+{
+    let [moment] = tokens else {
+        return None;
+    };
+    let moment = read_moment(moment)?;
+    Some(Line::Now { moment })
 }
 
 /// `begin N si`
@@ -111,6 +119,15 @@ fn read_begin(alloc: Global, tokens: &[&[u8]]) -> Result<Option<Line>, SlateDBEr
     Ok(Some(Line::Begin { name, level }))
 }
 
+fn read_level(token: &[u8]) -> Option<IsolationLevel>
+    ensures { result ≡ built_level token.now }
+{
+    match token {
+        b"si" => Some(IsolationLevel::Snapshot),
+        _ => None,
+    }
+}
+
 /// `get N K`
 fn read_get(alloc: Global, tokens: &[&[u8]]) -> Result<Option<Line>, SlateDBError>
     ensures line { IfOk result (λ o. o ≡ built_get (texts tokens.now)) }
@@ -119,11 +136,13 @@ fn read_get(alloc: Global, tokens: &[&[u8]]) -> Result<Option<Line>, SlateDBErro
     let [name, key] = tokens else {
         return Ok(None);
     };
-    let (Some(name), Some(key)) = (read_name(name), read_key(key)) else {
+    let Some(name) = read_name(name) else {
+        return Ok(None);
+    };
+    let Some(key) = read_bytes(alloc, key)? else {
         return Ok(None);
     };
     let name = Bytes::copy_from_slice(alloc, name)?;
-    let key = Bytes::copy_from_slice(alloc, key)?;
     Ok(Some(Line::Get { name, key }))
 }
 
@@ -142,73 +161,122 @@ fn read_rollback(alloc: Global, tokens: &[&[u8]]) -> Result<Option<Line>, SlateD
     Ok(Some(Line::Rollback { name }))
 }
 
-/// `write put K V`
+/// `freeze` or `flush`: a word with no token behind it
+fn read_alone(tokens: &[&[u8]], line: Line) -> Option<Line>
+    ensures { result ≡ built_alone line (texts tokens.now) }
+{
+    tokens.is_empty().then_some(line)
+}
+
+/// `write` and operations
 fn read_write(alloc: Global, tokens: &[&[u8]]) -> Result<Option<Line>, SlateDBError>
     ensures line { IfOk result (λ o. o ≡ built_write (texts tokens.now)) }
     ensures cause { IsOkUnless result SlateDBError.OutOfMemory }
 {
-    let [b"put", key, value] = tokens else {
-        return Ok(None);
-    };
-    let (Some(key), Some(value)) = (read_key(key), read_value(value)) else {
-        return Ok(None);
-    };
-    let key = Bytes::copy_from_slice(alloc, key)?;
-    let value = Bytes::copy_from_slice(alloc, value)?;
-    let put = WriteOp::Put(value, PutOptions { ttl: Ttl::Default });
-    Ok(Some(Line::Write {
-        ops: OpList::from_vec(vec![in alloc; (key, put)]?),
-    }))
+    match read_ops(alloc, tokens)? {
+        Some(ops) => Ok(Some(Line::Write {
+            ops: OpList::from_vec(ops),
+        })),
+        None => Ok(None),
+    }
 }
 
-fn read_level(token: &[u8]) -> Option<IsolationLevel>
-    ensures { result ≡ built_level token.now }
+/// The operations, each a word with the tokens up to the next such word.
+fn read_ops(alloc: Global, tokens: &[&[u8]]) -> Result<Option<Vec<(Bytes, WriteOp)>>, SlateDBError>
+    ensures ops { IfOk result (λ o. option_map (λ v. v.items) o ≡ built_ops (texts tokens.now)) }
+    ensures cause { IsOkUnless result SlateDBError.OutOfMemory }
 {
-    match token {
-        b"si" => Some(IsolationLevel::Snapshot),
+    let mut ops = Vec::new(alloc);
+    let mut at = 0;
+    while at < tokens.len() {
+        let end = at + 1 + own_len(&tokens[at + 1..]);
+        let Some(op) = read_op(alloc, tokens[at], &tokens[at + 1..end])? else {
+            return Ok(None);
+        };
+        ops.push(op)?;
+        at = end;
+    }
+    Ok(Some(ops))
+}
+
+/// How many tokens stand before the next word of an operation.
+fn own_len(tokens: &[&[u8]]) -> usize
+    ensures len { result ≡ length (grouped (texts tokens.now)).0 }
+    ensures within { result ≤ length tokens.now }
+{
+    for (i, token) in tokens.iter().enumerate() {
+        if is_op_word(token) {
+            return i;
+        }
+    }
+    tokens.len()
+}
+
+fn is_op_word(token: &[u8]) -> bool
+    ensures { result ≡ is_op_word token.now }
+{
+    token == b"put".as_slice() || token == b"merge".as_slice() || token == b"delete".as_slice()
+}
+
+/// An operation: its word, and the tokens behind it.
+fn read_op(
+    alloc: Global,
+    word: &[u8],
+    tokens: &[&[u8]],
+) -> Result<Option<(Bytes, WriteOp)>, SlateDBError>
+    ensures op { IfOk result (λ o. o ≡ built_op word.now (texts tokens.now)) }
+    ensures cause { IsOkUnless result SlateDBError.OutOfMemory }
+{
+    if word == b"put".as_slice() {
+        read_put(alloc, tokens)
+    } else if word == b"delete".as_slice() {
+        read_delete(alloc, tokens)
+    } else {
+        Ok(None)
+    }
+}
+
+/// A key and a value, and maybe a time to live
+fn read_put(alloc: Global, tokens: &[&[u8]]) -> Result<Option<(Bytes, WriteOp)>, SlateDBError>
+    ensures op { IfOk result (λ o. o ≡ built_put (texts tokens.now)) }
+    ensures cause { IsOkUnless result SlateDBError.OutOfMemory }
+{
+    let [key, value, rest @ ..] = tokens else {
+        return Ok(None);
+    };
+    let Some(key) = read_bytes(alloc, key)? else {
+        return Ok(None);
+    };
+    let Some(value) = read_bytes(alloc, value)? else {
+        return Ok(None);
+    };
+    let Some(ttl) = read_last_ttl(rest) else {
+        return Ok(None);
+    };
+    Ok(Some((key, WriteOp::Put(value, PutOptions { ttl }))))
+}
+
+/// The time to live where there is one, and else the default.
+fn read_last_ttl(tokens: &[&[u8]]) -> Option<Ttl>
+    ensures { result ≡ read_ttl (texts tokens.now) }
+{
+    match tokens {
+        [] => Some(Ttl::Default),
+        [ttl] => read_ttl(ttl),
         _ => None,
     }
 }
 
-/// A name: letters and digits.
-fn read_name(token: &[u8]) -> Option<&[u8]>
-    ensures { option_copied result ≡ read_name token.now }
+/// A key
+fn read_delete(alloc: Global, tokens: &[&[u8]]) -> Result<Option<(Bytes, WriteOp)>, SlateDBError>
+    ensures op { IfOk result (λ o. o ≡ built_delete (texts tokens.now)) }
+    ensures cause { IsOkUnless result SlateDBError.OutOfMemory }
 {
-    is_name(token).then_some(token)
-}
-
-fn is_name(token: &[u8]) -> bool
-    ensures { result ≡ is_name token.now }
-{
-    !token.is_empty() && token.len() <= MAX_NAME_LEN && is_alphanumeric(token)
-}
-
-fn is_alphanumeric(bytes: &[u8]) -> bool
-    ensures { result ≡ list_all is_name_byte bytes.now }
-{
-    bytes.iter().all(|byte| byte.is_ascii_alphanumeric())
-}
-
-/// The key of a text token.
-fn read_key(token: &[u8]) -> Option<&[u8]>
-    ensures { option_copied result ≡ read_key token.now }
-{
-    read_text(token).filter(|key| !key.is_empty() && key.len() <= MAX_KEY_LEN)
-}
-
-/// The value of a text token.
-fn read_value(token: &[u8]) -> Option<&[u8]>
-    ensures { option_copied result ≡ read_value token.now }
-{
-    read_text(token).filter(|value| value.len() <= MAX_VALUE_LEN)
-}
-
-/// The bytes of a text token: what stands behind its `'`.
-fn read_text(token: &[u8]) -> Option<&[u8]>
-    ensures { option_copied result ≡ read_text token.now }
-{
-    match token {
-        [b'\'', text @ ..] if is_visible(text) => Some(text),
-        _ => None,
+    let [key] = tokens else {
+        return Ok(None);
+    };
+    match read_bytes(alloc, key)? {
+        Some(key) => Ok(Some((key, WriteOp::Delete))),
+        None => Ok(None),
     }
 }

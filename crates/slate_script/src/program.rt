@@ -1,39 +1,58 @@
 //! The program: its words, and the status that it ends with.
-ghost use Rattle.std.specs.Prelude.{◌≡◌, ◌≢◌, ◌⊎◌, ◌≤◌, ◌++◌, [], ℕ, List, Some, None, drop};
-ghost use Rattle.slate_types.specs.Config.{defaults};
+ghost use Rattle.std.specs.Prelude.{◌≡◌, ◌≢◌, ◌⊎◌, ◌≤◌, ◌++◌, [], ℕ, List, Some, None, map, drop, option_map};
+ghost use Rattle.std.specs.String.{string_bytes};
 ghost use Rattle.slate_types.specs.Faults.{Rose};
 ghost use Rattle.slate_types.specs.declared.error.SlateDBError.TheVariants as errors;
-ghost use Rattle.slate_store.specs.Lines.{script_limit};
-ghost use Rattle.slate_script.specs.Program.{status, IsStatus};
-ghost use Rattle.slate_script.specs.Replies.{replies, replies_to, IsWellFormed};
+ghost use Rattle.slate_store.specs.Lines.{lines_of, script_limit};
+ghost use Rattle.slate_store.specs.Store.{IsEmpty};
+ghost use Rattle.slate_txn.specs.State.{opening};
+ghost use Rattle.slate_db.specs.Flushed.{layout_of};
+ghost use Rattle.slate_script.specs.declared.words.Settings.{Settings};
+ghost use Rattle.slate_script.specs.Program.{main_rules, parts_of, status, IsStatus};
+ghost use Rattle.slate_script.specs.Replies.{after_lines, replies, replies_to, IsWellFormed};
 ghost use Rattle.slate_script.specs.Stage.{meaning};
-ghost use Rattle.slate_script.specs.Run.{rules_of, script_error, lines_taken, IsOutside, IsScriptError, HasAnswered, HasAnsweredAll, HasBegun};
+ghost use Rattle.slate_script.specs.Words.{read_words};
+ghost use Rattle.slate_script.specs.Run.{script_error, lines_taken, IsOutside, IsScriptError, HasAnswered, HasAnsweredAll, HasBegun};
+ghost use Rattle.slate_script.specs.StoredState.{IsStoredState};
 
+use crate::operator::NoOperator;
+use crate::parts::Xor;
 use crate::run::run_script;
-use slate_store::{Sink, Source};
-use slate_types::{Options, SlateDBError};
+use crate::words::parse_words;
+use slate_store::{Env, Sink, Source, Store};
+use slate_types::SlateDBError;
 use std::alloc::Global;
 
-/// Runs the script that the source gives, as the words say, and answers the status to end with: 0 where
-/// each line was answered, 2 exactly where there is a word that isn't known, 3 for `ScriptSyntax`, 4 for
-/// `ScriptTooLong`, 5 for `ReadFault`, 6 for `WriteFault` and 20 for want of memory. Today no word is known.
-pub fn run_main<R: Source, W: Sink>(
+/// Runs the script that the source gives over the store, as the words say, and answers the status to end with: 0
+/// where the run answers Ok, 2 exactly where the words are none of a run, 3 for `ScriptSyntax`, 4 for
+/// `ScriptTooLong`, 5 for `ReadFault`, 6 for `WriteFault`, 7 for `StoreFault`, 12, 14, 16, 18 and 19 where a table
+/// isn't what was stored, and 20 for any other error, such as want of memory or a limit.
+///
+/// What is said of the script and of what was written holds where source and sink tell their bytes, and what is said
+/// of replies and of stored tables where the store was empty and tells its objects besides. Over such a store 12, 14,
+/// 16, 18 and 19 never come. At 0 each line was answered, and the store's objects are the tables that flushes put,
+/// and their rows alone fold to the state at the last flush. At 7 and 20 the replies to some first lines are written.
+pub fn run_main<R: Source, W: Sink, S: Store>(
     alloc: Global,
     words: &[String],
     source: &mut R,
     sink: &mut W,
+    store: &mut S,
 ) -> u8
     ensures statuses { IsStatus result }
 
-    // 2: exactly where there are words, and then nothing is read or written
-    ensures unknown { words.now ≢ [] → result ≡ 2 }
-    ensures known { words.now ≡ [] → result ≢ 2 }
+    // 2: exactly where the words are none, and then nothing is read, written or stored
+    ensures unknown { read_words (map string_bytes words.now) ≡ None → result ≡ 2 }
+    ensures known { (s : Settings) → read_words (map string_bytes words.now) ≡ Some s → result ≢ 2 }
     ensures unread { result ≡ 2 → source.new ≡ source.old }
     ensures unwritten { result ≡ 2 → sink.new ≡ sink.old }
+    ensures unstored { result ≡ 2 → store.new ≡ store.old }
 
     // 0: each line was answered as the model answers it, to the end of a script of lines
-    ensures answered { (script before : List ℕ) → R.left source.old ≡ Some script → W.content sink.old ≡ Some before → result ≡ 0 →
-        W.content sink.new ≡ Some (before ++ replies (rules_of defaults) script) }
+    ensures answered { (s : Settings) (script before : List ℕ) → read_words (map string_bytes words.now) ≡ Some s → R.left source.old ≡ Some script → W.content sink.old ≡ Some before → IsEmpty (S.objects store.old) →
+        result ≡ 0 → W.content sink.new ≡ Some (before ++ replies (main_rules s.options) script) }
+    ensures stored { (s : Settings) (script : List ℕ) → read_words (map string_bytes words.now) ≡ Some s → R.left source.old ≡ Some script → IsEmpty (S.objects store.old) →
+        result ≡ 0 → IsStoredState (parts_of s.mask) (main_rules s.options) (layout_of s.options) (S.objects store.new) (after_lines meaning (main_rules s.options) opening (lines_of script)) }
     ensures read { (script : List ℕ) → R.left source.old ≡ Some script → result ≡ 0 → IsWellFormed script × (R.left source.new ≡ Some []) }
 
     // the others, each with its cause
@@ -42,35 +61,52 @@ pub fn run_main<R: Source, W: Sink>(
     ensures too_long { (script : List ℕ) → R.left source.old ≡ Some script → result ≡ 4 → script_error script ≡ Some errors.ScriptTooLong }
     ensures read_fault { result ≡ 5 → Rose (R.faults source.old) (R.faults source.new) }
     ensures write_fault { result ≡ 6 → Rose (W.faults sink.old) (W.faults sink.new) }
-    ensures complete { (script : List ℕ) → R.left source.old ≡ Some script → IsWellFormed script → words.now ≡ [] →
-        (Rose (R.faults source.old) (R.faults source.new) → ⊥) → (Rose (W.faults sink.old) (W.faults sink.new) → ⊥) → (result ≡ 0) ⊎ (result ≡ 20) }
+    ensures store_fault { result ≡ 7 → Rose (S.faults store.old) (S.faults store.new) }
+    ensures undamaged { (s : Settings) → read_words (map string_bytes words.now) ≡ Some s → IsEmpty (S.objects store.old) → (result ≡ 12) ⊎ (result ≡ 14) ⊎ (result ≡ 16) ⊎ (result ≡ 18) ⊎ (result ≡ 19) → ⊥ }
+    ensures complete { (s : Settings) (script : List ℕ) → read_words (map string_bytes words.now) ≡ Some s → R.left source.old ≡ Some script → IsWellFormed script → IsEmpty (S.objects store.old) →
+        (Rose (R.faults source.old) (R.faults source.new) → ⊥) → (Rose (W.faults sink.old) (W.faults sink.new) → ⊥) → (Rose (S.faults store.old) (S.faults store.new) → ⊥) → (result ≡ 0) ⊎ (result ≡ 20) }
 
     // no fault is passed over
     ensures source_still { (result ≡ 5) ⊎ (R.faults source.new ≡ R.faults source.old) }
     ensures sink_still { (result ≡ 6) ⊎ (W.faults sink.new ≡ W.faults sink.old) }
 
     // what the sink took then
-    ensures by_script { (script before : List ℕ) → R.left source.old ≡ Some script → W.content sink.old ≡ Some before → (result ≡ 3) ⊎ (result ≡ 4) →
-        W.content sink.new ≡ Some (before ++ replies_to meaning (rules_of defaults) (lines_taken script)) }
-    ensures by_source { (script before : List ℕ) → R.left source.old ≡ Some script → W.content sink.old ≡ Some before → result ≡ 5 →
-        (left said : List ℕ) × (R.left source.new ≡ Some left) × (W.content sink.new ≡ Some (before ++ said)) × HasAnsweredAll (rules_of defaults) script left said }
-    ensures by_sink { (script before : List ℕ) → R.left source.old ≡ Some script → W.content sink.old ≡ Some before → result ≡ 6 →
-        (said : List ℕ) × (W.content sink.new ≡ Some (before ++ said)) × HasBegun (rules_of defaults) script said }
-    ensures by_memory { (script before : List ℕ) → R.left source.old ≡ Some script → W.content sink.old ≡ Some before → result ≡ 20 →
-        (said : List ℕ) × (W.content sink.new ≡ Some (before ++ said)) × HasAnswered (rules_of defaults) script said }
+    ensures by_script { (s : Settings) (script before : List ℕ) → read_words (map string_bytes words.now) ≡ Some s → R.left source.old ≡ Some script → W.content sink.old ≡ Some before → IsEmpty (S.objects store.old) →
+        (result ≡ 3) ⊎ (result ≡ 4) → W.content sink.new ≡ Some (before ++ replies_to meaning (main_rules s.options) (lines_taken script)) }
+    ensures by_source { (s : Settings) (script before : List ℕ) → read_words (map string_bytes words.now) ≡ Some s → R.left source.old ≡ Some script → W.content sink.old ≡ Some before → IsEmpty (S.objects store.old) → result ≡ 5 →
+        (left said : List ℕ) × (R.left source.new ≡ Some left) × (W.content sink.new ≡ Some (before ++ said)) × HasAnsweredAll (main_rules s.options) script left said }
+    ensures by_sink { (s : Settings) (script before : List ℕ) → read_words (map string_bytes words.now) ≡ Some s → R.left source.old ≡ Some script → W.content sink.old ≡ Some before → IsEmpty (S.objects store.old) → result ≡ 6 →
+        (said : List ℕ) × (W.content sink.new ≡ Some (before ++ said)) × HasBegun (main_rules s.options) script said }
+    ensures by_part { (s : Settings) (script before : List ℕ) → read_words (map string_bytes words.now) ≡ Some s → R.left source.old ≡ Some script → W.content sink.old ≡ Some before → IsEmpty (S.objects store.old) →
+        (result ≡ 7) ⊎ (result ≡ 20) → (said : List ℕ) × (W.content sink.new ≡ Some (before ++ said)) × HasAnswered (main_rules s.options) script said }
 
     // what was read: all that a run can take of a script that is too long, and never more
     ensures all { (script : List ℕ) → R.left source.old ≡ Some script → result ≡ 4 → R.left source.new ≡ Some (drop script_limit script) }
     ensures taken { (script : List ℕ) → R.left source.old ≡ Some script → (n : ℕ) × (n ≤ script_limit) × (R.left source.new ≡ Some (drop n script)) }
     ensures later { (R.faults source.old ≤ R.faults source.new) × (W.faults sink.old ≤ W.faults sink.new) }
 {
-    if !words.is_empty() {
+    let Some(settings) = parse_words(words) else {
         return 2;
-    }
-    let options = Options::new();
-    match run_script(alloc, source, sink, &options) {
+    };
+    let operator: Option<NoOperator> = None;
+    let mut env = Env {
+        store: &mut *store,
+        operator,
+        transformer: transformer_of(settings.mask),
+    };
+    match run_script(alloc, source, sink, &mut env, &settings.options) {
         Ok(()) => 0,
         Err(error) => status_of(&error),
+    }
+}
+
+/// The transformer of a word `xor=`, where there is one.
+fn transformer_of(mask: Option<u8>) -> Option<Xor>
+    ensures { option_map (λ x. x.mask) result ≡ mask }
+{
+    match mask {
+        None => None,
+        Some(mask) => Some(Xor { mask }),
     }
 }
 
@@ -84,6 +120,14 @@ fn status_of(error: &SlateDBError) -> u8
         SlateDBError::ScriptTooLong => 4,
         SlateDBError::ReadFault => 5,
         SlateDBError::WriteFault => 6,
+        SlateDBError::StoreFault => 7,
+        SlateDBError::Callback { .. } => 8,
+        SlateDBError::BlockTransformError => 9,
+        SlateDBError::ChecksumMismatch { .. } => 12,
+        SlateDBError::InvalidRowFlags { .. } => 14,
+        SlateDBError::CorruptTable { .. } => 16,
+        SlateDBError::InvalidSequenceOrder { .. } => 18,
+        SlateDBError::MergeOperatorMissing => 19,
         _ => 20,
     }
 }

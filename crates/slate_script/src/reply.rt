@@ -3,7 +3,7 @@ ghost use Rattle.std.specs.Prelude.{◌≡◌, ◌++◌, ◌∷◌, [], Some, ma
 ghost use Rattle.std.specs.List.{join_with_byte};
 ghost use Rattle.std.specs.String.{string_bytes};
 ghost use Rattle.slate_script.specs.Replies.{reply_line};
-ghost use Rattle.slate_script.specs.Engine.{reply_of};
+ghost use Rattle.slate_script.specs.Answers.{reply_of};
 ghost use Rattle.slate_script.specs.Text.{stamp};
 
 use crate::text::show;
@@ -11,12 +11,16 @@ use bytes::Bytes;
 use slate_types::{KeyValue, SlateDBError};
 use std::alloc::Global;
 
-/// Why a line is refused: its name is open already or isn't open, or no sequence is left.
+/// Why a line is refused: its name is open already or isn't open, no sequence is left, or an operation's
+/// key is empty or past 65535 bytes, or its value past 4294967295. `len` is the length in bytes.
 #[derive(Drop)]
 pub enum Refusal {
     DuplicateTransaction { name: Bytes },
     UnknownTransaction { name: Bytes },
     SequenceExhausted,
+    EmptyKey,
+    KeyTooLong { len: u64 },
+    ValueTooLong { len: u64 },
 }
 
 /// What a line is answered.
@@ -24,9 +28,12 @@ pub enum Refusal {
 pub enum Answer {
     Done,
     Refused(Refusal),
+    NowIs(i64),
     Begun { name: Bytes, start: u64 },
     Found(Option<KeyValue>),
     Written(Option<u64>),
+    Frozen(u64),
+    Flushed(u64),
 }
 
 /// The reply, with its line end.
@@ -37,6 +44,10 @@ pub fn reply_text(alloc: Global, answer: &Answer) -> Result<Vec<u8>, SlateDBErro
     match answer {
         Answer::Done => line_of(alloc, &[b"ok"]),
         Answer::Refused(refusal) => refusal_text(alloc, refusal),
+        Answer::NowIs(moment) => {
+            let moment = moment.to_string(alloc)?;
+            line_of(alloc, &[b"now", moment.as_bytes()])
+        }
         Answer::Begun { name, start } => {
             let start = start.to_string(alloc)?;
             line_of(alloc, &[b"begun", name.as_slice(), start.as_bytes()])
@@ -47,6 +58,14 @@ pub fn reply_text(alloc: Global, answer: &Answer) -> Result<Vec<u8>, SlateDBErro
         Answer::Written(Some(seq)) => {
             let seq = seq.to_string(alloc)?;
             line_of(alloc, &[b"written", seq.as_bytes()])
+        }
+        Answer::Frozen(seq) => {
+            let seq = seq.to_string(alloc)?;
+            line_of(alloc, &[b"frozen", seq.as_bytes()])
+        }
+        Answer::Flushed(seq) => {
+            let seq = seq.to_string(alloc)?;
+            line_of(alloc, &[b"flushed", seq.as_bytes()])
         }
     }
 }
@@ -65,6 +84,15 @@ fn refusal_text(alloc: Global, refusal: &Refusal) -> Result<Vec<u8>, SlateDBErro
             &[b"refused", b"UnknownTransaction", name.as_slice()],
         ),
         Refusal::SequenceExhausted => line_of(alloc, &[b"refused", b"SequenceExhausted"]),
+        Refusal::EmptyKey => line_of(alloc, &[b"refused", b"EmptyKey"]),
+        Refusal::KeyTooLong { len } => {
+            let len = len.to_string(alloc)?;
+            line_of(alloc, &[b"refused", b"KeyTooLong", len.as_bytes()])
+        }
+        Refusal::ValueTooLong { len } => {
+            let len = len.to_string(alloc)?;
+            line_of(alloc, &[b"refused", b"ValueTooLong", len.as_bytes()])
+        }
     }
 }
 

@@ -1,39 +1,57 @@
 //! A run over a whole script.
-ghost use Rattle.std.specs.Prelude.{◌≡◌, ◌⊎◌, ◌≤◌, ◌<◌, ◌++◌, ◌∷◌, [], ℕ, List, Some, None, Ok, Err, OnOk, IfErr, IsOkUnless, IsTrue, false, take, drop, length};
+ghost use Rattle.std.specs.Prelude.{◌≡◌, ◌⊎◌, ◌≤◌, ◌<◌, ◌++◌, ◌∷◌, [], ℕ, List, Some, None, Ok, Err, OnOk, IfErr, IsTrue, false, take, drop, length};
 ghost use Rattle.slate_types.specs.Config.{IsValid};
-ghost use Rattle.slate_types.specs.Faults.{Rose};
-ghost use Rattle.slate_store.specs.Lines.{script_limit};
-ghost use Rattle.slate_txn.specs.State.{State};
-ghost use Rattle.slate_script.specs.Engine.{StandsFor, engine_rules};
+ghost use Rattle.slate_types.specs.Faults.{Rose, faults_of};
+ghost use Rattle.slate_types.specs.Outside.{IsLater};
+ghost use Rattle.slate_store.specs.Lines.{lines_of, script_limit};
+ghost use Rattle.slate_txn.specs.State.{Rules, State, opening};
+ghost use Rattle.slate_db.specs.Flushed.{layout_of};
+ghost use Rattle.slate_db.specs.Installs.{tables_of};
+ghost use Rattle.slate_db.specs.Meaning.{Meaning};
+ghost use Rattle.slate_db.specs.Parts.{meaning_of, counts_of, IsDamage};
 ghost use Rattle.slate_script.specs.Replies.{replies, replies_to, after_lines, replies_from, IsWellFormed};
 ghost use Rattle.slate_script.specs.Stage.{meaning};
-ghost use Rattle.slate_script.specs.Run.{rules_of, is_line, script_error, lines_taken, IsOutside, IsScriptError, HasAnswered, HasAnsweredAll, HasBegun};
+ghost use Rattle.slate_script.specs.Session.{StandsFor, HasTablesAlone, IsRunning, IsLimit};
+ghost use Rattle.slate_script.specs.Run.{run_rules, Premises, is_line, script_error, lines_taken, IsPartError, IsPartCause, IsOutside, IsScriptError, HasAnswered, HasAnsweredAll, HasBegun};
+ghost use Rattle.slate_script.specs.StoredState.{IsStoredState};
 
-use crate::engine::Engine;
 use crate::parse::parse_line;
 use crate::reply::reply_text;
-use slate_store::{Lines, Sink, Source, write_all};
-use slate_types::{Options, SlateDBError};
+use crate::session::Session;
+use slate_store::{Env, Lines, Sink, Source, Store, write_all};
+use slate_types::{BlockTransformer, MergeOperator, Options, SlateDBError};
 use std::alloc::Global;
 
-/// Answers each line of the source into the sink, and reads on to the end.
+/// Answers each line of the source into the sink, and reads on to the end. Rows are stored where `env` says.
 ///
-/// What is said of the script and of what was written holds where source and sink tell their bytes. An
-/// error of the script itself, `ScriptSyntax` or `ScriptTooLong`, comes exactly where `script_error` has it,
-/// unless a fault or want of memory came first. `ReadFault` and `WriteFault` come only where that object's
-/// count of faults rose in this call, and a count that rose is never passed over. The replies before an
-/// error are written.
-pub fn run_script<R: Source, W: Sink>(
+/// What is said of the script and of what was written holds where source and sink tell their bytes, and what is said
+/// of replies and of stored tables where the parts are lawful and the store is honest and was empty besides. At Ok
+/// each line was answered, and the store's objects are the tables that flushes put, and their rows alone fold to the
+/// state at the last flush.
+///
+/// An error of the script itself, `ScriptSyntax` or `ScriptTooLong`, comes exactly where `script_error` has it, unless
+/// another error came first. `ReadFault`, `WriteFault`, `StoreFault`, `Callback` and `BlockTransformError` come only
+/// where that object's count of faults rose in this call, and a source's or a sink's count that rose is never passed
+/// over. `LimitReached` may come from any line. Damage is answered only where the store isn't honest, wasn't empty, or
+/// a part isn't lawful.
+///
+/// What is written at an error is replies: at one of the script those to all lines before it, at `ReadFault` those to
+/// all whole lines that the source gave, or to the whole script, at `WriteFault` those to some first lines and a front
+/// of one more, and at an error of a part, a limit or want of memory those to some first lines.
+pub fn run_script<R: Source, W: Sink, S: Store, M: MergeOperator, T: BlockTransformer>(
     alloc: Global,
     source: &mut R,
     sink: &mut W,
+    env: &mut Env<'_, S, M, T>,
     options: &Options,
 ) -> Result<(), SlateDBError>
     requires { IsValid options.now }
 
     // Ok: each line was answered as the model answers it, to the end of a script of lines.
-    ensures answered { (script before : List ℕ) → R.left source.old ≡ Some script → W.content sink.old ≡ Some before →
-        OnOk result (W.content sink.new ≡ Some (before ++ replies (rules_of options.now) script)) }
+    ensures answered { (script before : List ℕ) → R.left source.old ≡ Some script → W.content sink.old ≡ Some before → Premises (meaning_of M.combine T.encoded T.decoded env.old.operator env.old.transformer) (S.objects env.old.store.now) →
+        OnOk result (W.content sink.new ≡ Some (before ++ replies (run_rules options.now (meaning_of M.combine T.encoded T.decoded env.old.operator env.old.transformer)) script)) }
+    ensures stored { (script : List ℕ) → R.left source.old ≡ Some script → Premises (meaning_of M.combine T.encoded T.decoded env.old.operator env.old.transformer) (S.objects env.old.store.now) →
+        OnOk result (IsStoredState (meaning_of M.combine T.encoded T.decoded env.old.operator env.old.transformer) (run_rules options.now (meaning_of M.combine T.encoded T.decoded env.old.operator env.old.transformer)) (layout_of options.now) (S.objects env.new.store.now) (after_lines meaning (run_rules options.now (meaning_of M.combine T.encoded T.decoded env.old.operator env.old.transformer)) opening (lines_of script))) }
     ensures read { (script : List ℕ) → R.left source.old ≡ Some script → OnOk result (IsWellFormed script × (R.left source.new ≡ Some [])) }
 
     // which errors there are, and when
@@ -42,59 +60,85 @@ pub fn run_script<R: Source, W: Sink>(
     ensures kinds { IfErr result (λ e. IsOutside e ⊎ IsScriptError e) }
     ensures read_fault { result ≡ Err SlateDBError.ReadFault → Rose (R.faults source.old) (R.faults source.new) }
     ensures write_fault { result ≡ Err SlateDBError.WriteFault → Rose (W.faults sink.old) (W.faults sink.new) }
-    ensures complete { (script : List ℕ) → R.left source.old ≡ Some script → IsWellFormed script →
-        (Rose (R.faults source.old) (R.faults source.new) → ⊥) → (Rose (W.faults sink.old) (W.faults sink.new) → ⊥) → IsOkUnless result SlateDBError.OutOfMemory }
+    ensures store_fault { result ≡ Err SlateDBError.StoreFault → Rose (S.faults env.old.store.now) (S.faults env.new.store.now) }
+    ensures operator_fault { (message : List ℕ) → result ≡ Err (SlateDBError.Callback message) → Rose (faults_of M.faults env.old.operator) (faults_of M.faults env.new.operator) }
+    ensures transform_fault { result ≡ Err SlateDBError.BlockTransformError → Rose (faults_of T.faults env.old.transformer) (faults_of T.faults env.new.transformer) }
+    ensures undamaged { Premises (meaning_of M.combine T.encoded T.decoded env.old.operator env.old.transformer) (S.objects env.old.store.now) → IfErr result (λ e. IsDamage e → ⊥) }
+    ensures complete { (script : List ℕ) → R.left source.old ≡ Some script → IsWellFormed script → Premises (meaning_of M.combine T.encoded T.decoded env.old.operator env.old.transformer) (S.objects env.old.store.now) →
+        (Rose (R.faults source.old) (R.faults source.new) → ⊥) → (Rose (W.faults sink.old) (W.faults sink.new) → ⊥) → (Rose (S.faults env.old.store.now) (S.faults env.new.store.now) → ⊥) →
+        (Rose (faults_of M.faults env.old.operator) (faults_of M.faults env.new.operator) → ⊥) → (Rose (faults_of T.faults env.old.transformer) (faults_of T.faults env.new.transformer) → ⊥) →
+        IfErr result (λ e. (e ≡ SlateDBError.OutOfMemory) ⊎ IsLimit e) }
 
     // no fault is passed over
     ensures source_still { (result ≡ Err SlateDBError.ReadFault) ⊎ (R.faults source.new ≡ R.faults source.old) }
     ensures sink_still { (result ≡ Err SlateDBError.WriteFault) ⊎ (W.faults sink.new ≡ W.faults sink.old) }
 
     // what the sink took at an error
-    ensures by_script { (script before : List ℕ) → R.left source.old ≡ Some script → W.content sink.old ≡ Some before →
-        IfErr result (λ e. script_error script ≡ Some e → W.content sink.new ≡ Some (before ++ replies_to meaning (rules_of options.now) (lines_taken script))) }
-    ensures by_source { (script before : List ℕ) → R.left source.old ≡ Some script → W.content sink.old ≡ Some before → result ≡ Err SlateDBError.ReadFault →
-        (left said : List ℕ) × (R.left source.new ≡ Some left) × (W.content sink.new ≡ Some (before ++ said)) × HasAnsweredAll (rules_of options.now) script left said }
-    ensures by_sink { (script before : List ℕ) → R.left source.old ≡ Some script → W.content sink.old ≡ Some before → result ≡ Err SlateDBError.WriteFault →
-        (said : List ℕ) × (W.content sink.new ≡ Some (before ++ said)) × HasBegun (rules_of options.now) script said }
-    ensures by_memory { (script before : List ℕ) → R.left source.old ≡ Some script → W.content sink.old ≡ Some before → result ≡ Err SlateDBError.OutOfMemory →
-        (said : List ℕ) × (W.content sink.new ≡ Some (before ++ said)) × HasAnswered (rules_of options.now) script said }
+    ensures by_script { (script before : List ℕ) → R.left source.old ≡ Some script → W.content sink.old ≡ Some before → Premises (meaning_of M.combine T.encoded T.decoded env.old.operator env.old.transformer) (S.objects env.old.store.now) →
+        IfErr result (λ e. script_error script ≡ Some e → W.content sink.new ≡ Some (before ++ replies_to meaning (run_rules options.now (meaning_of M.combine T.encoded T.decoded env.old.operator env.old.transformer)) (lines_taken script))) }
+    ensures by_source { (script before : List ℕ) → R.left source.old ≡ Some script → W.content sink.old ≡ Some before → Premises (meaning_of M.combine T.encoded T.decoded env.old.operator env.old.transformer) (S.objects env.old.store.now) → result ≡ Err SlateDBError.ReadFault →
+        (left said : List ℕ) × (R.left source.new ≡ Some left) × (W.content sink.new ≡ Some (before ++ said)) × HasAnsweredAll (run_rules options.now (meaning_of M.combine T.encoded T.decoded env.old.operator env.old.transformer)) script left said }
+    ensures by_sink { (script before : List ℕ) → R.left source.old ≡ Some script → W.content sink.old ≡ Some before → Premises (meaning_of M.combine T.encoded T.decoded env.old.operator env.old.transformer) (S.objects env.old.store.now) → result ≡ Err SlateDBError.WriteFault →
+        (said : List ℕ) × (W.content sink.new ≡ Some (before ++ said)) × HasBegun (run_rules options.now (meaning_of M.combine T.encoded T.decoded env.old.operator env.old.transformer)) script said }
+    ensures by_part { (script before : List ℕ) → R.left source.old ≡ Some script → W.content sink.old ≡ Some before → Premises (meaning_of M.combine T.encoded T.decoded env.old.operator env.old.transformer) (S.objects env.old.store.now) →
+        IfErr result (λ e. (e ≡ SlateDBError.OutOfMemory) ⊎ IsPartError e → (said : List ℕ) × (W.content sink.new ≡ Some (before ++ said)) × HasAnswered (run_rules options.now (meaning_of M.combine T.encoded T.decoded env.old.operator env.old.transformer)) script said) }
 
     // what was read: all that a run can take of a script that is too long, and never more
     ensures too_long { (script : List ℕ) → R.left source.old ≡ Some script → result ≡ Err SlateDBError.ScriptTooLong → R.left source.new ≡ Some (drop script_limit script) }
     ensures taken { (script : List ℕ) → R.left source.old ≡ Some script → (n : ℕ) × (n ≤ script_limit) × (R.left source.new ≡ Some (drop n script)) }
     ensures later { (R.faults source.old ≤ R.faults source.new) × (W.faults sink.old ≤ W.faults sink.new) }
+    ensures same_store { env.new.store.ghost_name ≡ env.old.store.ghost_name }
+    ensures parts_later { IsLater (counts_of (S.faults env.old.store.now) M.faults T.faults env.old.operator env.old.transformer) (counts_of (S.faults env.new.store.now) M.faults T.faults env.new.operator env.new.transformer) }
 {
     let mut lines = Lines::new(alloc);
-    let mut engine = Engine::new(alloc, options);
+    let mut session = Session::new(alloc, options);
     let mut number = 0;
     while let Some(line) = lines.next(source)? {
         number += 1;
-        answer_line(alloc, &mut engine, sink, line.as_slice(), number)?;
+        answer_line(
+            alloc,
+            &mut session,
+            sink,
+            env,
+            options,
+            line.as_slice(),
+            number,
+        )?;
     }
+    session.close();
     Ok(())
 }
 
 /// Answers the line with this number: nothing for a silent one. `ScriptSyntax` comes exactly where it is
 /// neither silent nor means something, unless memory was wanting first. `WriteFault` comes only where the
-/// sink's count of faults rose, and then a front of the reply was written, and not all of it.
-fn answer_line<W: Sink>(
+/// sink's count of faults rose, and then a front of the reply was written, and not all of it. At another error
+/// nothing was written.
+fn answer_line<W: Sink, S: Store, M: MergeOperator, T: BlockTransformer>(
     alloc: Global,
-    engine: &mut Engine,
+    session: &mut Session,
     sink: &mut W,
+    env: &mut Env<'_, S, M, T>,
+    options: &Options,
     line: &[u8],
     number: u64,
 ) -> Result<(), SlateDBError>
+    requires { IsValid options.now }
     ensures meant { OnOk result (IsTrue (is_line line.now)) }
-    ensures stands { (s : State) → StandsFor engine.old s → OnOk result (StandsFor engine.new (after_lines meaning (engine_rules engine.old) s (line.now ∷ []))) }
-    ensures answered { (s : State) (before : List ℕ) → StandsFor engine.old s → W.content sink.old ≡ Some before →
-        OnOk result (W.content sink.new ≡ Some (before ++ replies_from meaning (engine_rules engine.old) s (line.now ∷ []))) }
-    ensures rules { engine_rules engine.new ≡ engine_rules engine.old }
-    ensures cause { IfErr result (λ e. (e ≡ SlateDBError.OutOfMemory) ⊎ (e ≡ SlateDBError.WriteFault) ⊎ ((e ≡ SlateDBError.ScriptSyntax number) × (is_line line.now ≡ false))) }
+    ensures running { (m : Meaning) (r : Rules) → IsRunning m r (meaning_of M.combine T.encoded T.decoded env.old.operator env.old.transformer) (S.objects env.old.store.now) session.old → OnOk result (IsRunning m r (meaning_of M.combine T.encoded T.decoded env.new.operator env.new.transformer) (S.objects env.new.store.now) session.new) }
+    ensures stands { (m : Meaning) (r : Rules) → IsRunning m r (meaning_of M.combine T.encoded T.decoded env.old.operator env.old.transformer) (S.objects env.old.store.now) session.old → (s : State) → StandsFor session.old s → OnOk result (StandsFor session.new (after_lines meaning r s (line.now ∷ []))) }
+    ensures answered { (m : Meaning) (r : Rules) → IsRunning m r (meaning_of M.combine T.encoded T.decoded env.old.operator env.old.transformer) (S.objects env.old.store.now) session.old → (s : State) (before : List ℕ) → StandsFor session.old s → W.content sink.old ≡ Some before →
+        OnOk result (W.content sink.new ≡ Some (before ++ replies_from meaning r s (line.now ∷ []))) }
+    ensures alone { (m : Meaning) (r : Rules) → IsRunning m r (meaning_of M.combine T.encoded T.decoded env.old.operator env.old.transformer) (S.objects env.old.store.now) session.old → HasTablesAlone m (layout_of options.now) (S.objects env.old.store.now) (tables_of session.old.core.events) →
+        OnOk result (HasTablesAlone m (layout_of options.now) (S.objects env.new.store.now) (tables_of session.new.core.events)) }
+    ensures cause { IfErr result (λ e. (e ≡ SlateDBError.OutOfMemory) ⊎ (e ≡ SlateDBError.WriteFault) ⊎ ((e ≡ SlateDBError.ScriptSyntax number) × (is_line line.now ≡ false)) ⊎ IsPartError e) }
+    ensures part { IfErr result (λ e. IsPartError e → IsPartCause (counts_of (S.faults env.old.store.now) M.faults T.faults env.old.operator env.old.transformer) (counts_of (S.faults env.new.store.now) M.faults T.faults env.new.operator env.new.transformer) e) }
+    ensures undamaged { (m : Meaning) (r : Rules) → IsRunning m r (meaning_of M.combine T.encoded T.decoded env.old.operator env.old.transformer) (S.objects env.old.store.now) session.old → IfErr result (λ e. IsDamage e → ⊥) }
     ensures write_fault { result ≡ Err SlateDBError.WriteFault → Rose (W.faults sink.old) (W.faults sink.new) × IsTrue (is_line line.now) }
-    ensures begun { (s : State) (before : List ℕ) → StandsFor engine.old s → W.content sink.old ≡ Some before → result ≡ Err SlateDBError.WriteFault →
-        (n : ℕ) × (n < length (replies_from meaning (engine_rules engine.old) s (line.now ∷ [])))
-        × (W.content sink.new ≡ Some (before ++ take n (replies_from meaning (engine_rules engine.old) s (line.now ∷ [])))) }
+    ensures begun { (m : Meaning) (r : Rules) → IsRunning m r (meaning_of M.combine T.encoded T.decoded env.old.operator env.old.transformer) (S.objects env.old.store.now) session.old → (s : State) (before : List ℕ) → StandsFor session.old s → W.content sink.old ≡ Some before → result ≡ Err SlateDBError.WriteFault →
+        (n : ℕ) × (n < length (replies_from meaning r s (line.now ∷ []))) × (W.content sink.new ≡ Some (before ++ take n (replies_from meaning r s (line.now ∷ [])))) }
     ensures still { OnOk result (W.faults sink.new ≡ W.faults sink.old) }
+    ensures same_store { env.new.store.ghost_name ≡ env.old.store.ghost_name }
+    ensures parts_later { IsLater (counts_of (S.faults env.old.store.now) M.faults T.faults env.old.operator env.old.transformer) (counts_of (S.faults env.new.store.now) M.faults T.faults env.new.operator env.new.transformer) }
     ensures uncounted { IfErr result (λ e. (e ≡ SlateDBError.WriteFault) ⊎ (W.faults sink.new ≡ W.faults sink.old)) }
     ensures unanswered { IfErr result (λ e. (e ≡ SlateDBError.WriteFault) ⊎ (W.content sink.new ≡ W.content sink.old)) }
     ensures later { W.faults sink.old ≤ W.faults sink.new }
@@ -107,7 +151,7 @@ fn answer_line<W: Sink>(
         }
         Err(error) => return Err(error),
     };
-    let answer = engine.answer(meaning)?;
+    let answer = session.answer(meaning, env, options)?;
     let text = reply_text(alloc, &answer)?;
     write_all(sink, text.as_slice())
 }

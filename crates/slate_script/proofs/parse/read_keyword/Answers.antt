@@ -7,3 +7,8 @@ pub returns-in-rollback : goal.returns-in-rollback
 returns-in-rollback c =
     sym (ap keyword (text_from_reads c.args.token.now (codes "rollback") (omega arith)
     (omega arith, (omega arith, (omega arith, (omega arith, (omega arith, (omega arith, (omega arith, (omega arith, tt))))))))))
+
+pub returns-in-freeze : goal.returns-in-freeze
+returns-in-freeze c =
+    sym (ap keyword (text_from_reads c.args.token.now (codes "freeze") (omega arith)
+    (omega arith, (omega arith, (omega arith, (omega arith, (omega arith, (omega arith, tt))))))))

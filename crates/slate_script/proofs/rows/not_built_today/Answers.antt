@@ -4,4 +4,4 @@ use Rattle.slate_script.proofs.rows.not_built_today.Goals as goal
 
 pub returns : goal.returns
 unfolding digits
-returns c = (refl, refl, refl, refl, refl)
+returns c = (refl, refl, refl, refl, refl, refl, refl)

@@ -1,14 +1,19 @@
-use Rattle.std.proofs.Common.{◌≡◌, ◌⊎◌, ◌<◌, ◌++◌, ◌∷◌, [], ℕ, IfSome, Some, Result, Ok, Err, take, length, ◌+◌, ap, subst, ◌∙◌, arith, append_assoc, refl, inl, inr}
+use Rattle.std.proofs.Common.{◌≡◌, ◌⊎◌, ◌<◌, ◌++◌, ◌∷◌, [], ℕ, IfSome, Some, Result, Ok, Err, take, length, ◌+◌, sym, ap, subst, ◌∙◌, arith, append_assoc, refl, inl, inr}
 use Rattle.std.proofs.lemmas.Result.{err_from_is_err_and}
 use Rattle.slate_types.specs.declared.error.SlateDBError.{SlateDBError}
-use Rattle.slate_types.specs.declared.error.SlateDBError.TheVariants.{ScriptTooLong, OutOfMemory, ReadFault, WriteFault}
+use Rattle.slate_types.specs.declared.error.SlateDBError.TheVariants.{ScriptTooLong, ReadFault, WriteFault, StoreFault, Callback, BlockTransformError}
 use Rattle.slate_txn.specs.State.{opening}
 use Rattle.slate_script.specs.Stage.{meaning}
 use Rattle.slate_script.specs.Replies.{after_lines, replies_from, replies_to}
-use Rattle.slate_script.specs.Run.{rules_of}
+use Rattle.slate_db.specs.Parts.{meaning_of, counts_of}
+use Rattle.slate_db.specs.Flushed.{layout_of}
+use Rattle.slate_script.specs.Session.{StandsFor}
+use Rattle.slate_script.specs.Run.{run_rules, Premises, IsPartError}
 use Rattle.slate_store.specs.Lines.{lines_of}
-use Rattle.slate_script.proofs.Taken.{answer-it, took-told, end-told}
-use Rattle.slate_script.proofs.RunEnds.{rose-from, reader-error, reader-complete, reader-kinds, reader-read, reader-full, line-not-long, line-kinds, line-read, line-complete, untouched, reader-script, reader-source, reader-memory, line-error, line-script, line-sink, line-memory, end-there, end-read, end-answered, end-formed, end-no_error}
+use Rattle.slate_script.proofs.Taken.{begin, answer-it, took-told, end-told}
+use Rattle.slate_script.proofs.Running.{begins}
+use Rattle.slate_script.proofs.TablesAlone.{begins-alone, stored-state}
+use Rattle.slate_script.proofs.RunEnds.{rose-from, never-less, later-on, memory-or-limit, part-limit, store-rose, operator-rose, transformer-rose, reader-no-part, reader-undamaged, reader-error, reader-complete, reader-kinds, reader-read, reader-full, line-not-long, line-kinds, line-read, line-complete, untouched, reader-script, reader-source, reader-memory, line-error, line-script, line-sink, line-memory, end-there, end-read, end-answered, end-formed, end-no_error}
 use Rattle.slate_script.proofs.run.run_script.Goals as goal
 
 same-error : {T : Type 0} (e f : SlateDBError) (r : Result T SlateDBError) → r ≡ Err e → r ≡ Err f → e ≡ f
@@ -30,55 +35,94 @@ error-is-or : {B P Q : Type 0} (e f : SlateDBError) (run : Result B SlateDBError
 error-is-or e f run is (inl h) next = inl (is ∙ ap Err h)
 error-is-or e f run is (inr h) next = inr (next h)
 
+-- ---- the beginning
+
+pub loop-session-init : goal.loop-session-init
+loop-session-init g c = record {
+  told = λ script is.
+      begin (Premises (meaning_of g.M.MergeOperator.combine g.T.BlockTransformer.encoded g.T.BlockTransformer.decoded c.args.env.now.operator c.args.env.now.transformer) (g.S.Store.objects c.args.env.now.store.now)) (run_rules c.args.options.now (meaning_of g.M.MergeOperator.combine g.T.BlockTransformer.encoded g.T.BlockTransformer.decoded c.args.env.now.operator c.args.env.now.transformer)) script (g.R.Source.left c.args.source.now) (g.W.Sink.content c.args.sink.now) c.new-lines.result c.new-session.result is c.new-lines.ensures.held c.new-lines.ensures.given c.new-session.ensures.opens;
+  counted = omega arith;
+  within = let none : c.new-lines.result.given ≡ 0 = c.new-lines.ensures.given in omega (arith, none);
+  running = λ premises. begins (meaning_of g.M.MergeOperator.combine g.T.BlockTransformer.encoded g.T.BlockTransformer.decoded c.args.env.now.operator c.args.env.now.transformer) c.args.options.now (g.S.Store.objects c.args.env.now.store.now) c.new-session.result premises c.new-session.ensures.settings c.new-session.ensures.events c.new-session.ensures.kept;
+  alone = λ premises. begins-alone (meaning_of g.M.MergeOperator.combine g.T.BlockTransformer.encoded g.T.BlockTransformer.decoded c.args.env.now.operator c.args.env.now.transformer) (layout_of c.args.options.now) (g.S.Store.objects c.args.env.now.store.now) c.new-session.result premises.empty c.new-session.ensures.events;
+  source_later = omega arith;
+  sink_later = omega arith;
+  source_still = refl;
+  sink_still = refl;
+  same_store = refl;
+  parts_later = never-less _;
+}
+
 -- ---- at an error of the reader
 
 pub returns-in_err-line-clause-source_still : goal.returns-in_err-line-clause-source_still
 returns-in_err-line-clause-source_still g c =
     let p = err_from_is_err_and c.from_residual.result c.from_residual.ensures.1 in
-    error-or c.in_err-line.field-0.0 ReadFault _ c.from_residual.result refl (p.1 ∙ ap Err p.2) c.in_err-line.ensures.still (λ h. h ∙ c.loop-engine.invariant.source_still)
+    error-or c.in_err-line.field-0.0 ReadFault _ c.from_residual.result refl (p.1 ∙ ap Err p.2) c.in_err-line.ensures.still (λ h. h ∙ c.loop-session.invariant.source_still)
 
 pub returns-in_err-line-clause-too_long : goal.returns-in_err-line-clause-too_long
 returns-in_err-line-clause-too_long g c script is long =
     let p = err_from_is_err_and c.from_residual.result c.from_residual.ensures.1 in
     let kind : c.in_err-line.field-0.0 ≡ ScriptTooLong = same-error c.in_err-line.field-0.0 ScriptTooLong c.from_residual.result (p.1 ∙ ap Err p.2) long in
-    let at = c.loop-engine.invariant.told script is in
+    let at = c.loop-session.invariant.told script is in
     let told = c.in_err-line.ensures.told at.left at.rest in
     reader-full c.next.new.self told.0 (g.R.Source.left c.next.new.source) at told.2 (c.in_err-line.ensures.too_long (ap Err kind)).0 told.1
 
 pub returns-in_err-line-clause-error : goal.returns-in_err-line-clause-error
 returns-in_err-line-clause-error g c script is =
     let p = err_from_is_err_and c.from_residual.result c.from_residual.ensures.1 in
-    let at = c.loop-engine.invariant.told script is in
+    let at = c.loop-session.invariant.told script is in
     let told = c.in_err-line.ensures.told at.left at.rest in
     rw (p.1, p.2) (reader-error c.next.new.self told.0 c.in_err-line.field-0.0 at told.2 (λ h. c.in_err-line.ensures.too_long (ap Err h)) c.in_err-line.ensures.cause)
 
 pub returns-in_err-line-clause-complete : goal.returns-in_err-line-clause-complete
-returns-in_err-line-clause-complete g c script is formed no-read no-write =
+returns-in_err-line-clause-complete g c script is formed premises no-read no-write no-store no-operator no-transformer =
     let p = err_from_is_err_and c.from_residual.result c.from_residual.ensures.1 in
-    let at = c.loop-engine.invariant.told script is in
+    let at = c.loop-session.invariant.told script is in
     let told = c.in_err-line.ensures.told at.left at.rest in
     let by = reader-error c.next.new.self told.0 c.in_err-line.field-0.0 at told.2 (λ h. c.in_err-line.ensures.too_long (ap Err h)) c.in_err-line.ensures.cause in
-    rw (p.1, p.2) (reader-complete script c.in_err-line.field-0.0 by c.in_err-line.ensures.cause formed (λ h. no-read (rose-from _ _ _ c.loop-engine.invariant.source_later (c.in_err-line.ensures.read_fault (ap Err h)).0)))
+    rw (p.1, p.2) (inl (reader-complete script c.in_err-line.field-0.0 by c.in_err-line.ensures.cause formed (λ h. no-read (rose-from _ _ _ c.loop-session.invariant.source_later (c.in_err-line.ensures.read_fault (ap Err h)).0))))
 
 pub returns-in_err-line-clause-by_script : goal.returns-in_err-line-clause-by_script
-returns-in_err-line-clause-by_script g c script before is told-is =
+returns-in_err-line-clause-by_script g c script before is told-is premises =
     let p = err_from_is_err_and c.from_residual.result c.from_residual.ensures.1 in
-    let at = c.loop-engine.invariant.told script is in
+    let at = c.loop-session.invariant.told script is in
     let told = c.in_err-line.ensures.told at.left at.rest in
-    rw (p.1, p.2) (λ by. reader-script c.next.new.self told.0 before c.in_err-line.field-0.0 at told.2 (λ h. c.in_err-line.ensures.too_long (ap Err h)) c.in_err-line.ensures.cause told-is by)
+    rw (p.1, p.2) (λ by. reader-script c.next.new.self told.0 before c.in_err-line.field-0.0 at told.2 (λ h. c.in_err-line.ensures.too_long (ap Err h)) c.in_err-line.ensures.cause premises told-is by)
 
 pub returns-in_err-line-clause-by_source : goal.returns-in_err-line-clause-by_source
-returns-in_err-line-clause-by_source g c script before is told-is fault =
+returns-in_err-line-clause-by_source g c script before is told-is premises fault =
     let p = err_from_is_err_and c.from_residual.result c.from_residual.ensures.1 in
     let kind : c.in_err-line.field-0.0 ≡ ReadFault = same-error c.in_err-line.field-0.0 ReadFault c.from_residual.result (p.1 ∙ ap Err p.2) fault in
-    let at = c.loop-engine.invariant.told script is in
+    let at = c.loop-session.invariant.told script is in
     let told = c.in_err-line.ensures.told at.left at.rest in
-    (told.0, replies_to meaning (rules_of c.args.options.now) (lines_of at.done), told.1, at.said before told-is, reader-source c.next.new.self told.0 at told.2 (c.in_err-line.ensures.read_fault (ap Err kind)).1)
+    (told.0, replies_to meaning (run_rules c.args.options.now (meaning_of g.M.MergeOperator.combine g.T.BlockTransformer.encoded g.T.BlockTransformer.decoded c.args.env.now.operator c.args.env.now.transformer)) (lines_of at.done), told.1, at.said premises before told-is, reader-source c.next.new.self told.0 at told.2 (c.in_err-line.ensures.read_fault (ap Err kind)).1)
 
-pub returns-in_err-line-clause-by_memory : goal.returns-in_err-line-clause-by_memory
-returns-in_err-line-clause-by_memory g c script before is told-is want =
-    let at = c.loop-engine.invariant.told script is in
-    (replies_to meaning (rules_of c.args.options.now) (lines_of at.done), at.said before told-is, reader-memory at)
+pub returns-in_err-line-clause-by_part : goal.returns-in_err-line-clause-by_part
+returns-in_err-line-clause-by_part g c script before is told-is premises =
+    let p = err_from_is_err_and c.from_residual.result c.from_residual.ensures.1 in
+    let at = c.loop-session.invariant.told script is in
+    rw (p.1, p.2) (λ which. (replies_to meaning (run_rules c.args.options.now (meaning_of g.M.MergeOperator.combine g.T.BlockTransformer.encoded g.T.BlockTransformer.decoded c.args.env.now.operator c.args.env.now.transformer)) (lines_of at.done), at.said premises before told-is, reader-memory at))
+
+pub returns-in_err-line-clause-undamaged : goal.returns-in_err-line-clause-undamaged
+returns-in_err-line-clause-undamaged g c premises =
+    let p = err_from_is_err_and c.from_residual.result c.from_residual.ensures.1 in
+    rw (p.1, p.2) (reader-undamaged c.in_err-line.field-0.0 c.in_err-line.ensures.cause)
+
+pub returns-in_err-line-clause-store_fault : goal.returns-in_err-line-clause-store_fault
+returns-in_err-line-clause-store_fault g c fault =
+    let p = err_from_is_err_and c.from_residual.result c.from_residual.ensures.1 in
+    absurd (reader-no-part c.in_err-line.field-0.0 c.in_err-line.ensures.cause (subst IsPartError (sym (same-error c.in_err-line.field-0.0 StoreFault c.from_residual.result (p.1 ∙ ap Err p.2) fault)) tt))
+
+pub returns-in_err-line-clause-operator_fault : goal.returns-in_err-line-clause-operator_fault
+returns-in_err-line-clause-operator_fault g c message fault =
+    let p = err_from_is_err_and c.from_residual.result c.from_residual.ensures.1 in
+    absurd (reader-no-part c.in_err-line.field-0.0 c.in_err-line.ensures.cause (subst IsPartError (sym (same-error c.in_err-line.field-0.0 (Callback message) c.from_residual.result (p.1 ∙ ap Err p.2) fault)) tt))
+
+pub returns-in_err-line-clause-transform_fault : goal.returns-in_err-line-clause-transform_fault
+returns-in_err-line-clause-transform_fault g c fault =
+    let p = err_from_is_err_and c.from_residual.result c.from_residual.ensures.1 in
+    absurd (reader-no-part c.in_err-line.field-0.0 c.in_err-line.ensures.cause (subst IsPartError (sym (same-error c.in_err-line.field-0.0 BlockTransformError c.from_residual.result (p.1 ∙ ap Err p.2) fault)) tt))
 
 pub returns-in_err-line-clause-kinds : goal.returns-in_err-line-clause-kinds
 returns-in_err-line-clause-kinds g c =
@@ -87,122 +131,167 @@ returns-in_err-line-clause-kinds g c =
 
 pub returns-in_err-line-clause-taken : goal.returns-in_err-line-clause-taken
 returns-in_err-line-clause-taken g c script is =
-    let at = c.loop-engine.invariant.told script is in
+    let at = c.loop-session.invariant.told script is in
     let told = c.in_err-line.ensures.told at.left at.rest in
     reader-read c.next.new.self told.0 (g.R.Source.left c.next.new.source) at told.2 c.in_err-line.ensures.within told.1
 
 -- ---- at a line that isn't answered
 
 pub returns-in_err-answer_line-clause-source_still : goal.returns-in_err-answer_line-clause-source_still
-returns-in_err-answer_line-clause-source_still g c = inr (unless-error c.in_ok-line.field-0 ReadFault c.in_ok-line.ensures.still ∙ c.loop-engine.invariant.source_still)
+returns-in_err-answer_line-clause-source_still g c = inr (unless-error c.in_ok-line.field-0 ReadFault c.in_ok-line.ensures.still ∙ c.loop-session.invariant.source_still)
 
 pub returns-in_err-answer_line-clause-sink_still : goal.returns-in_err-answer_line-clause-sink_still
 returns-in_err-answer_line-clause-sink_still g c =
     let p = err_from_is_err_and c.from_residual-in_err-answer_line.result c.from_residual-in_err-answer_line.ensures.1 in
-    error-is-or c.in_err-answer_line.field-0.0 WriteFault c.from_residual-in_err-answer_line.result (p.1 ∙ ap Err p.2) c.in_err-answer_line.ensures.uncounted (λ h. h ∙ c.loop-engine.invariant.sink_still)
+    error-is-or c.in_err-answer_line.field-0.0 WriteFault c.from_residual-in_err-answer_line.result (p.1 ∙ ap Err p.2) c.in_err-answer_line.ensures.uncounted (λ h. h ∙ c.loop-session.invariant.sink_still)
 
 pub returns-in_err-answer_line-clause-too_long : goal.returns-in_err-answer_line-clause-too_long
 returns-in_err-answer_line-clause-too_long g c script is long =
     let p = err_from_is_err_and c.from_residual-in_err-answer_line.result c.from_residual-in_err-answer_line.ensures.1 in
     let kind : c.in_err-answer_line.field-0.0 ≡ ScriptTooLong = same-error c.in_err-answer_line.field-0.0 ScriptTooLong c.from_residual-in_err-answer_line.result (p.1 ∙ ap Err p.2) long in
-    absurd (line-not-long (c.loop-engine.number + 1) c.as_slice.result.now c.in_err-answer_line.field-0.0 c.in_err-answer_line.ensures.cause kind)
+    absurd (line-not-long (c.loop-session.number + 1) c.as_slice.result.now c.in_err-answer_line.field-0.0 c.in_err-answer_line.ensures.cause kind)
 
 pub returns-in_err-answer_line-clause-error : goal.returns-in_err-answer_line-clause-error
 returns-in_err-answer_line-clause-error g c script is =
     let p = err_from_is_err_and c.from_residual-in_err-answer_line.result c.from_residual-in_err-answer_line.ensures.1 in
-    let took = took-told (λ v. v.items) c.in_ok-line.field-0 c.in-Some.line c.as_slice.result.now (g.R.Source.left c.next.new.source) c.next.new.self c.in_ok-line.ensures.told c.in_ok-line.ensures.within c.in-Some.is c.as_slice.ensures.value (c.loop-engine.invariant.told script is) in
+    let took = took-told (λ v. v.items) c.in_ok-line.field-0 c.in-Some.line c.as_slice.result.now (g.R.Source.left c.next.new.source) c.next.new.self c.in_ok-line.ensures.told c.in_ok-line.ensures.within c.in-Some.is c.as_slice.ensures.value (c.loop-session.invariant.told script is) in
     rw (p.1, p.2) (line-error c.in_err-answer_line.field-0.0 took c.in_err-answer_line.ensures.cause)
 
 pub returns-in_err-answer_line-clause-complete : goal.returns-in_err-answer_line-clause-complete
-returns-in_err-answer_line-clause-complete g c script is formed no-read no-write =
+returns-in_err-answer_line-clause-complete g c script is formed premises no-read no-write no-store no-operator no-transformer =
     let p = err_from_is_err_and c.from_residual-in_err-answer_line.result c.from_residual-in_err-answer_line.ensures.1 in
-    let took = took-told (λ v. v.items) c.in_ok-line.field-0 c.in-Some.line c.as_slice.result.now (g.R.Source.left c.next.new.source) c.next.new.self c.in_ok-line.ensures.told c.in_ok-line.ensures.within c.in-Some.is c.as_slice.ensures.value (c.loop-engine.invariant.told script is) in
+    let took = took-told (λ v. v.items) c.in_ok-line.field-0 c.in-Some.line c.as_slice.result.now (g.R.Source.left c.next.new.source) c.next.new.self c.in_ok-line.ensures.told c.in_ok-line.ensures.within c.in-Some.is c.as_slice.ensures.value (c.loop-session.invariant.told script is) in
     let by = line-error c.in_err-answer_line.field-0.0 took c.in_err-answer_line.ensures.cause in
-    rw (p.1, p.2) (line-complete script c.as_slice.result.now (c.loop-engine.number + 1) c.in_err-answer_line.field-0.0 by c.in_err-answer_line.ensures.cause formed (λ h. no-write (rose-from _ _ _ c.loop-engine.invariant.sink_later (c.in_err-answer_line.ensures.write_fault (ap Err h)).0)))
+    rw (p.1, p.2) (memory-or-limit c.in_err-answer_line.field-0.0 (line-complete script c.as_slice.result.now (c.loop-session.number + 1) c.in_err-answer_line.field-0.0 by c.in_err-answer_line.ensures.cause formed (λ h. no-write (rose-from _ _ _ c.loop-session.invariant.sink_later (c.in_err-answer_line.ensures.write_fault (ap Err h)).0)))
+    (λ part. part-limit (counts_of (g.S.Store.faults c.loop-session.env.store.now) g.M.MergeOperator.faults g.T.BlockTransformer.faults c.loop-session.env.operator c.loop-session.env.transformer) (counts_of (g.S.Store.faults c.answer_line.new.env.store.now) g.M.MergeOperator.faults g.T.BlockTransformer.faults c.answer_line.new.env.operator c.answer_line.new.env.transformer) c.in_err-answer_line.field-0.0 (λ h. no-store (rose-from _ _ _ c.loop-session.invariant.parts_later.store h)) (λ h. no-operator (rose-from _ _ _ c.loop-session.invariant.parts_later.operator h)) (λ h. no-transformer (rose-from _ _ _ c.loop-session.invariant.parts_later.transformer h))
+    (c.in_err-answer_line.ensures.undamaged (meaning_of g.M.MergeOperator.combine g.T.BlockTransformer.encoded g.T.BlockTransformer.decoded c.args.env.now.operator c.args.env.now.transformer) (run_rules c.args.options.now (meaning_of g.M.MergeOperator.combine g.T.BlockTransformer.encoded g.T.BlockTransformer.decoded c.args.env.now.operator c.args.env.now.transformer)) (c.loop-session.invariant.running premises)) part (c.in_err-answer_line.ensures.part part)))
 
 pub returns-in_err-answer_line-clause-by_script : goal.returns-in_err-answer_line-clause-by_script
-returns-in_err-answer_line-clause-by_script g c script before is told-is =
+returns-in_err-answer_line-clause-by_script g c script before is told-is premises =
     let p = err_from_is_err_and c.from_residual-in_err-answer_line.result c.from_residual-in_err-answer_line.ensures.1 in
-    let took = took-told (λ v. v.items) c.in_ok-line.field-0 c.in-Some.line c.as_slice.result.now (g.R.Source.left c.next.new.source) c.next.new.self c.in_ok-line.ensures.told c.in_ok-line.ensures.within c.in-Some.is c.as_slice.ensures.value (c.loop-engine.invariant.told script is) in
-    rw (p.1, p.2) (λ by. line-script (g.W.Sink.content c.answer_line.new.sink) before c.in_err-answer_line.field-0.0 took c.in_err-answer_line.ensures.cause c.in_err-answer_line.ensures.unanswered told-is by)
+    let took = took-told (λ v. v.items) c.in_ok-line.field-0 c.in-Some.line c.as_slice.result.now (g.R.Source.left c.next.new.source) c.next.new.self c.in_ok-line.ensures.told c.in_ok-line.ensures.within c.in-Some.is c.as_slice.ensures.value (c.loop-session.invariant.told script is) in
+    rw (p.1, p.2) (λ by. line-script (g.W.Sink.content c.answer_line.new.sink) before c.in_err-answer_line.field-0.0 took c.in_err-answer_line.ensures.cause c.in_err-answer_line.ensures.unanswered premises told-is by)
 
 pub returns-in_err-answer_line-clause-by_sink : goal.returns-in_err-answer_line-clause-by_sink
-returns-in_err-answer_line-clause-by_sink g c script before is told-is fault =
+returns-in_err-answer_line-clause-by_sink g c script before is told-is premises fault =
     let p = err_from_is_err_and c.from_residual-in_err-answer_line.result c.from_residual-in_err-answer_line.ensures.1 in
     let kind : c.in_err-answer_line.field-0.0 ≡ WriteFault = same-error c.in_err-answer_line.field-0.0 WriteFault c.from_residual-in_err-answer_line.result (p.1 ∙ ap Err p.2) fault in
-    let took = took-told (λ v. v.items) c.in_ok-line.field-0 c.in-Some.line c.as_slice.result.now (g.R.Source.left c.next.new.source) c.next.new.self c.in_ok-line.ensures.told c.in_ok-line.ensures.within c.in-Some.is c.as_slice.ensures.value (c.loop-engine.invariant.told script is) in
-    let done = replies_to meaning (rules_of c.args.options.now) (lines_of took.done) in
-    let state = after_lines meaning (rules_of c.args.options.now) opening (lines_of took.done) in
-    let reply = replies_from meaning (rules_of c.args.options.now) state (c.as_slice.result.now ∷ []) in
+    let took = took-told (λ v. v.items) c.in_ok-line.field-0 c.in-Some.line c.as_slice.result.now (g.R.Source.left c.next.new.source) c.next.new.self c.in_ok-line.ensures.told c.in_ok-line.ensures.within c.in-Some.is c.as_slice.ensures.value (c.loop-session.invariant.told script is) in
+    let done = replies_to meaning (run_rules c.args.options.now (meaning_of g.M.MergeOperator.combine g.T.BlockTransformer.encoded g.T.BlockTransformer.decoded c.args.env.now.operator c.args.env.now.transformer)) (lines_of took.done) in
+    let state = after_lines meaning (run_rules c.args.options.now (meaning_of g.M.MergeOperator.combine g.T.BlockTransformer.encoded g.T.BlockTransformer.decoded c.args.env.now.operator c.args.env.now.transformer)) opening (lines_of took.done) in
+    let reply = replies_from meaning (run_rules c.args.options.now (meaning_of g.M.MergeOperator.combine g.T.BlockTransformer.encoded g.T.BlockTransformer.decoded c.args.env.now.operator c.args.env.now.transformer)) state (c.as_slice.result.now ∷ []) in
     let begun : (n : ℕ) × (n < length reply) × (g.W.Sink.content c.answer_line.new.sink ≡ Some ((before ++ done) ++ take n reply)) =
-    subst (λ r. (n : ℕ) × (n < length (replies_from meaning r state (c.as_slice.result.now ∷ []))) × (g.W.Sink.content c.answer_line.new.sink ≡ Some ((before ++ done) ++ take n (replies_from meaning r state (c.as_slice.result.now ∷ [])))))
-    c.loop-engine.invariant.rules (c.in_err-answer_line.ensures.begun state (before ++ done) took.engine (took.said before told-is) (ap Err kind)) in
+    c.in_err-answer_line.ensures.begun (meaning_of g.M.MergeOperator.combine g.T.BlockTransformer.encoded g.T.BlockTransformer.decoded c.args.env.now.operator c.args.env.now.transformer) (run_rules c.args.options.now (meaning_of g.M.MergeOperator.combine g.T.BlockTransformer.encoded g.T.BlockTransformer.decoded c.args.env.now.operator c.args.env.now.transformer)) (c.loop-session.invariant.running premises) state (before ++ done) (took.session premises) (took.said premises before told-is) (ap Err kind) in
     (done ++ take begun.0 reply, begun.2 ∙ ap Some (append_assoc before done (take begun.0 reply)), line-sink begun.0 took (c.in_err-answer_line.ensures.write_fault (ap Err kind)).1 begun.1)
 
-pub returns-in_err-answer_line-clause-by_memory : goal.returns-in_err-answer_line-clause-by_memory
-returns-in_err-answer_line-clause-by_memory g c script before is told-is want =
+pub returns-in_err-answer_line-clause-by_part : goal.returns-in_err-answer_line-clause-by_part
+returns-in_err-answer_line-clause-by_part g c script before is told-is premises =
     let p = err_from_is_err_and c.from_residual-in_err-answer_line.result c.from_residual-in_err-answer_line.ensures.1 in
-    let kind : c.in_err-answer_line.field-0.0 ≡ OutOfMemory = same-error c.in_err-answer_line.field-0.0 OutOfMemory c.from_residual-in_err-answer_line.result (p.1 ∙ ap Err p.2) want in
-    let took = took-told (λ v. v.items) c.in_ok-line.field-0 c.in-Some.line c.as_slice.result.now (g.R.Source.left c.next.new.source) c.next.new.self c.in_ok-line.ensures.told c.in_ok-line.ensures.within c.in-Some.is c.as_slice.ensures.value (c.loop-engine.invariant.told script is) in
-    (replies_to meaning (rules_of c.args.options.now) (lines_of took.done), untouched c.in_err-answer_line.field-0.0 (g.W.Sink.content c.loop-engine.sink) (g.W.Sink.content c.answer_line.new.sink) c.in_err-answer_line.ensures.unanswered kind ∙ took.said before told-is, line-memory took)
+    let took = took-told (λ v. v.items) c.in_ok-line.field-0 c.in-Some.line c.as_slice.result.now (g.R.Source.left c.next.new.source) c.next.new.self c.in_ok-line.ensures.told c.in_ok-line.ensures.within c.in-Some.is c.as_slice.ensures.value (c.loop-session.invariant.told script is) in
+    rw (p.1, p.2) (λ which. (
+      replies_to meaning (run_rules c.args.options.now (meaning_of g.M.MergeOperator.combine g.T.BlockTransformer.encoded g.T.BlockTransformer.decoded c.args.env.now.operator c.args.env.now.transformer)) (lines_of took.done),
+      untouched c.in_err-answer_line.field-0.0 (g.W.Sink.content c.loop-session.sink) (g.W.Sink.content c.answer_line.new.sink) c.in_err-answer_line.ensures.unanswered which ∙ took.said premises before told-is,
+      line-memory took,
+    ))
+
+pub returns-in_err-answer_line-clause-undamaged : goal.returns-in_err-answer_line-clause-undamaged
+returns-in_err-answer_line-clause-undamaged g c premises =
+    let p = err_from_is_err_and c.from_residual-in_err-answer_line.result c.from_residual-in_err-answer_line.ensures.1 in
+    rw (p.1, p.2) (c.in_err-answer_line.ensures.undamaged (meaning_of g.M.MergeOperator.combine g.T.BlockTransformer.encoded g.T.BlockTransformer.decoded c.args.env.now.operator c.args.env.now.transformer) (run_rules c.args.options.now (meaning_of g.M.MergeOperator.combine g.T.BlockTransformer.encoded g.T.BlockTransformer.decoded c.args.env.now.operator c.args.env.now.transformer)) (c.loop-session.invariant.running premises))
+
+pub returns-in_err-answer_line-clause-store_fault : goal.returns-in_err-answer_line-clause-store_fault
+returns-in_err-answer_line-clause-store_fault g c fault =
+    let p = err_from_is_err_and c.from_residual-in_err-answer_line.result c.from_residual-in_err-answer_line.ensures.1 in
+    let kind : c.in_err-answer_line.field-0.0 ≡ StoreFault = same-error c.in_err-answer_line.field-0.0 StoreFault c.from_residual-in_err-answer_line.result (p.1 ∙ ap Err p.2) fault in
+    rose-from _ _ _ c.loop-session.invariant.parts_later.store (store-rose (counts_of (g.S.Store.faults c.loop-session.env.store.now) g.M.MergeOperator.faults g.T.BlockTransformer.faults c.loop-session.env.operator c.loop-session.env.transformer) (counts_of (g.S.Store.faults c.answer_line.new.env.store.now) g.M.MergeOperator.faults g.T.BlockTransformer.faults c.answer_line.new.env.operator c.answer_line.new.env.transformer) c.in_err-answer_line.field-0.0 kind (c.in_err-answer_line.ensures.part (subst IsPartError (sym kind) tt)))
+
+pub returns-in_err-answer_line-clause-operator_fault : goal.returns-in_err-answer_line-clause-operator_fault
+returns-in_err-answer_line-clause-operator_fault g c message fault =
+    let p = err_from_is_err_and c.from_residual-in_err-answer_line.result c.from_residual-in_err-answer_line.ensures.1 in
+    let kind : c.in_err-answer_line.field-0.0 ≡ (Callback message) = same-error c.in_err-answer_line.field-0.0 (Callback message) c.from_residual-in_err-answer_line.result (p.1 ∙ ap Err p.2) fault in
+    rose-from _ _ _ c.loop-session.invariant.parts_later.operator (operator-rose (counts_of (g.S.Store.faults c.loop-session.env.store.now) g.M.MergeOperator.faults g.T.BlockTransformer.faults c.loop-session.env.operator c.loop-session.env.transformer) (counts_of (g.S.Store.faults c.answer_line.new.env.store.now) g.M.MergeOperator.faults g.T.BlockTransformer.faults c.answer_line.new.env.operator c.answer_line.new.env.transformer) c.in_err-answer_line.field-0.0 message kind (c.in_err-answer_line.ensures.part (subst IsPartError (sym kind) tt)))
+
+pub returns-in_err-answer_line-clause-transform_fault : goal.returns-in_err-answer_line-clause-transform_fault
+returns-in_err-answer_line-clause-transform_fault g c fault =
+    let p = err_from_is_err_and c.from_residual-in_err-answer_line.result c.from_residual-in_err-answer_line.ensures.1 in
+    let kind : c.in_err-answer_line.field-0.0 ≡ BlockTransformError = same-error c.in_err-answer_line.field-0.0 BlockTransformError c.from_residual-in_err-answer_line.result (p.1 ∙ ap Err p.2) fault in
+    rose-from _ _ _ c.loop-session.invariant.parts_later.transformer (transformer-rose (counts_of (g.S.Store.faults c.loop-session.env.store.now) g.M.MergeOperator.faults g.T.BlockTransformer.faults c.loop-session.env.operator c.loop-session.env.transformer) (counts_of (g.S.Store.faults c.answer_line.new.env.store.now) g.M.MergeOperator.faults g.T.BlockTransformer.faults c.answer_line.new.env.operator c.answer_line.new.env.transformer) c.in_err-answer_line.field-0.0 kind (c.in_err-answer_line.ensures.part (subst IsPartError (sym kind) tt)))
+
+pub returns-in_err-answer_line-clause-parts_later : goal.returns-in_err-answer_line-clause-parts_later
+returns-in_err-answer_line-clause-parts_later g c = later-on c.loop-session.invariant.parts_later c.answer_line.ensures.parts_later
 
 pub returns-in_err-answer_line-clause-kinds : goal.returns-in_err-answer_line-clause-kinds
 returns-in_err-answer_line-clause-kinds g c =
     let p = err_from_is_err_and c.from_residual-in_err-answer_line.result c.from_residual-in_err-answer_line.ensures.1 in
-    rw (p.1, p.2) (line-kinds (c.loop-engine.number + 1) c.as_slice.result.now c.in_err-answer_line.field-0.0 c.in_err-answer_line.ensures.cause)
+    rw (p.1, p.2) (line-kinds (c.loop-session.number + 1) c.as_slice.result.now c.in_err-answer_line.field-0.0 c.in_err-answer_line.ensures.cause)
 
 pub returns-in_err-answer_line-clause-taken : goal.returns-in_err-answer_line-clause-taken
 returns-in_err-answer_line-clause-taken g c script is =
-    let took = took-told (λ v. v.items) c.in_ok-line.field-0 c.in-Some.line c.as_slice.result.now (g.R.Source.left c.next.new.source) c.next.new.self c.in_ok-line.ensures.told c.in_ok-line.ensures.within c.in-Some.is c.as_slice.ensures.value (c.loop-engine.invariant.told script is) in
+    let took = took-told (λ v. v.items) c.in_ok-line.field-0 c.in-Some.line c.as_slice.result.now (g.R.Source.left c.next.new.source) c.next.new.self c.in_ok-line.ensures.told c.in_ok-line.ensures.within c.in-Some.is c.as_slice.ensures.value (c.loop-session.invariant.told script is) in
     line-read took c.in_ok-line.ensures.within
 
 -- ---- the next turn
 
-pub loop-engine-preserved : goal.loop-engine-preserved
-loop-engine-preserved g c = record {
+pub loop-session-preserved : goal.loop-session-preserved
+loop-session-preserved g c = record {
   told = λ script is.
-      answer-it (rules_of c.args.options.now) script c.as_slice.result.now (g.R.Source.left c.next.new.source) (g.W.Sink.content c.args.sink.now) (g.W.Sink.content c.loop-engine.sink) (g.W.Sink.content c.answer_line.new.sink)
-      c.next.new.self (c.loop-engine.number + 1) c.loop-engine.engine c.answer_line.new.engine
-      (took-told (λ v. v.items) c.in_ok-line.field-0 c.in-Some.line c.as_slice.result.now (g.R.Source.left c.next.new.source) c.next.new.self c.in_ok-line.ensures.told c.in_ok-line.ensures.within c.in-Some.is c.as_slice.ensures.value (c.loop-engine.invariant.told script is))
+      answer-it (Premises (meaning_of g.M.MergeOperator.combine g.T.BlockTransformer.encoded g.T.BlockTransformer.decoded c.args.env.now.operator c.args.env.now.transformer) (g.S.Store.objects c.args.env.now.store.now)) (run_rules c.args.options.now (meaning_of g.M.MergeOperator.combine g.T.BlockTransformer.encoded g.T.BlockTransformer.decoded c.args.env.now.operator c.args.env.now.transformer)) script c.as_slice.result.now (g.R.Source.left c.next.new.source) (g.W.Sink.content c.args.sink.now) (g.W.Sink.content c.loop-session.sink) (g.W.Sink.content c.answer_line.new.sink)
+      c.next.new.self (c.loop-session.number + 1) c.loop-session.session c.answer_line.new.session
+      (took-told (λ v. v.items) c.in_ok-line.field-0 c.in-Some.line c.as_slice.result.now (g.R.Source.left c.next.new.source) c.next.new.self c.in_ok-line.ensures.told c.in_ok-line.ensures.within c.in-Some.is c.as_slice.ensures.value (c.loop-session.invariant.told script is))
       c.in_ok-answer_line.ensures.meant
-      (rw c.loop-engine.invariant.rules at c.in_ok-answer_line.ensures.stands)
-      (rw c.loop-engine.invariant.rules at c.in_ok-answer_line.ensures.answered);
+      (λ premises. c.in_ok-answer_line.ensures.stands (meaning_of g.M.MergeOperator.combine g.T.BlockTransformer.encoded g.T.BlockTransformer.decoded c.args.env.now.operator c.args.env.now.transformer) (run_rules c.args.options.now (meaning_of g.M.MergeOperator.combine g.T.BlockTransformer.encoded g.T.BlockTransformer.decoded c.args.env.now.operator c.args.env.now.transformer)) (c.loop-session.invariant.running premises))
+      (λ premises. c.in_ok-answer_line.ensures.answered (meaning_of g.M.MergeOperator.combine g.T.BlockTransformer.encoded g.T.BlockTransformer.decoded c.args.env.now.operator c.args.env.now.transformer) (run_rules c.args.options.now (meaning_of g.M.MergeOperator.combine g.T.BlockTransformer.encoded g.T.BlockTransformer.decoded c.args.env.now.operator c.args.env.now.transformer)) (c.loop-session.invariant.running premises));
   counted =
-      let further : c.loop-engine.lines.given < c.next.new.self.given = subst (λ o. IfSome o (λ _. c.loop-engine.lines.given < c.next.new.self.given)) c.in-Some.is c.in_ok-line.ensures.further in
-      omega (arith, c.loop-engine.invariant.counted);
+      let further : c.loop-session.lines.given < c.next.new.self.given = subst (λ o. IfSome o (λ _. c.loop-session.lines.given < c.next.new.self.given)) c.in-Some.is c.in_ok-line.ensures.further in
+      omega (arith, c.loop-session.invariant.counted);
   within = omega (arith, c.in_ok-line.ensures.within);
-  rules = c.answer_line.ensures.rules ∙ c.loop-engine.invariant.rules;
+  running = λ premises. c.in_ok-answer_line.ensures.running (meaning_of g.M.MergeOperator.combine g.T.BlockTransformer.encoded g.T.BlockTransformer.decoded c.args.env.now.operator c.args.env.now.transformer) (run_rules c.args.options.now (meaning_of g.M.MergeOperator.combine g.T.BlockTransformer.encoded g.T.BlockTransformer.decoded c.args.env.now.operator c.args.env.now.transformer)) (c.loop-session.invariant.running premises);
+  alone = λ premises. c.in_ok-answer_line.ensures.alone (meaning_of g.M.MergeOperator.combine g.T.BlockTransformer.encoded g.T.BlockTransformer.decoded c.args.env.now.operator c.args.env.now.transformer) (run_rules c.args.options.now (meaning_of g.M.MergeOperator.combine g.T.BlockTransformer.encoded g.T.BlockTransformer.decoded c.args.env.now.operator c.args.env.now.transformer)) (c.loop-session.invariant.running premises) (c.loop-session.invariant.alone premises);
   source_later = omega (arith, c.next.ensures.later);
   sink_later = omega (arith, c.answer_line.ensures.later);
-  source_still = unless-error c.in_ok-line.field-0 ReadFault c.in_ok-line.ensures.still ∙ c.loop-engine.invariant.source_still;
-  sink_still = c.in_ok-answer_line.ensures.still ∙ c.loop-engine.invariant.sink_still;
+  source_still = unless-error c.in_ok-line.field-0 ReadFault c.in_ok-line.ensures.still ∙ c.loop-session.invariant.source_still;
+  sink_still = c.in_ok-answer_line.ensures.still ∙ c.loop-session.invariant.sink_still;
+  same_store = c.answer_line.ensures.same_store ∙ c.loop-session.invariant.same_store;
+  parts_later = later-on c.loop-session.invariant.parts_later c.answer_line.ensures.parts_later;
 }
 
 -- ---- the end
 
 pub returns-clause-answered : goal.returns-clause-answered
-returns-clause-answered g c script before is told =
-    let at = c.loop-engine.invariant.told script is in
+returns-clause-answered g c script before is told premises =
+    let at = c.loop-session.invariant.told script is in
     let end = end-told (λ v. v.items) c.in_ok-line.field-0 (g.R.Source.left c.next.new.source) c.next.new.self c.in_ok-line.ensures.told c.in_default.is at in
-    end-answered c.next.new.self end.0 before at end.2 told
+    end-answered c.next.new.self end.0 before at end.2 premises told
+
+pub returns-clause-stored : goal.returns-clause-stored
+returns-clause-stored g c script is premises =
+    let m = meaning_of g.M.MergeOperator.combine g.T.BlockTransformer.encoded g.T.BlockTransformer.decoded c.args.env.now.operator c.args.env.now.transformer in
+    let r = run_rules c.args.options.now m in
+    let at = c.loop-session.invariant.told script is in
+    let end = end-told (λ v. v.items) c.in_ok-line.field-0 (g.R.Source.left c.next.new.source) c.next.new.self c.in_ok-line.ensures.told c.in_default.is at in
+    let running = c.loop-session.invariant.running premises in
+    stored-state m r (layout_of c.args.options.now) (g.S.Store.objects c.loop-session.env.store.now) c.loop-session.session (after_lines meaning r opening (lines_of script)) running.rules
+    (c.close.ensures.stores m running.settled.lawful running.settled.kept)
+    (subst (λ bs. StandsFor c.loop-session.session (after_lines meaning r opening (lines_of bs))) (sym (end-there c.next.new.self end.0 at end.2).0) (at.session premises))
+    (c.loop-session.invariant.alone premises)
 
 pub returns-clause-read : goal.returns-clause-read
 returns-clause-read g c script is =
-    let at = c.loop-engine.invariant.told script is in
+    let at = c.loop-session.invariant.told script is in
     let end = end-told (λ v. v.items) c.in_ok-line.field-0 (g.R.Source.left c.next.new.source) c.next.new.self c.in_ok-line.ensures.told c.in_default.is at in
     (end-formed c.next.new.self end.0 at end.2, end.1 ∙ ap Some (end-there c.next.new.self end.0 at end.2).2)
 
 pub returns-clause-no_error : goal.returns-clause-no_error
 returns-clause-no_error g c script is =
-    let at = c.loop-engine.invariant.told script is in
+    let at = c.loop-session.invariant.told script is in
     let end = end-told (λ v. v.items) c.in_ok-line.field-0 (g.R.Source.left c.next.new.source) c.next.new.self c.in_ok-line.ensures.told c.in_default.is at in
     end-no_error c.next.new.self end.0 at end.2
 
 pub returns-clause-taken : goal.returns-clause-taken
 returns-clause-taken g c script is =
-    let at = c.loop-engine.invariant.told script is in
+    let at = c.loop-session.invariant.told script is in
     let end = end-told (λ v. v.items) c.in_ok-line.field-0 (g.R.Source.left c.next.new.source) c.next.new.self c.in_ok-line.ensures.told c.in_default.is at in
     end-read c.next.new.self end.0 (g.R.Source.left c.next.new.source) at end.2 c.in_ok-line.ensures.within end.1
 
 pub returns-clause-source_still : goal.returns-clause-source_still
-returns-clause-source_still g c = inr (unless-error c.in_ok-line.field-0 ReadFault c.in_ok-line.ensures.still ∙ c.loop-engine.invariant.source_still)
+returns-clause-source_still g c = inr (unless-error c.in_ok-line.field-0 ReadFault c.in_ok-line.ensures.still ∙ c.loop-session.invariant.source_still)

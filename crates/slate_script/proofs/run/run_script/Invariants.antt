@@ -1,22 +1,37 @@
 use Rattle.std.proofs.Common.{◌≡◌, ◌≤◌, ◌-◌, ℕ, List, Some}
+use Rattle.slate_types.specs.Outside.{IsLater}
 use Rattle.slate_store.specs.Lines.{script_limit}
-use Rattle.slate_script.specs.Engine.{engine_rules}
-use Rattle.slate_script.specs.Run.{rules_of}
+use Rattle.slate_db.specs.Flushed.{layout_of}
+use Rattle.slate_db.specs.Installs.{tables_of}
+use Rattle.slate_db.specs.Parts.{meaning_of, counts_of}
+use Rattle.slate_script.specs.Run.{run_rules, Premises}
+use Rattle.slate_script.specs.Session.{HasTablesAlone, IsRunning}
 use Rattle.slate_script.proofs.Taken.{IsAt}
 use Rattle.slate_script.proofs.run.run_script.Given as goal
 
-abbrev pub invariant-loop-engine : goal.invariant-loop-engine
-invariant-loop-engine g l = record {
+abbrev pub invariant-loop-session : goal.invariant-loop-session
+invariant-loop-session g l = record {
   told : (script : List ℕ) → g.R.Source.left l.initial.source ≡ Some script
-      → IsAt (rules_of l.options) script (g.R.Source.left l.source) (g.W.Sink.content l.initial.sink) (g.W.Sink.content l.sink) l.lines l.number l.engine;
+      → IsAt (Premises (meaning_of g.M.MergeOperator.combine g.T.BlockTransformer.encoded g.T.BlockTransformer.decoded l.initial.env.operator l.initial.env.transformer) (g.S.Store.objects l.initial.env.store.now))
+      (run_rules l.options (meaning_of g.M.MergeOperator.combine g.T.BlockTransformer.encoded g.T.BlockTransformer.decoded l.initial.env.operator l.initial.env.transformer))
+      script (g.R.Source.left l.source) (g.W.Sink.content l.initial.sink) (g.W.Sink.content l.sink) l.lines l.number l.session;
   counted : l.number ≤ l.lines.given;
   within : l.lines.given ≤ script_limit;
-  rules : engine_rules l.engine ≡ rules_of l.options;
+  running : Premises (meaning_of g.M.MergeOperator.combine g.T.BlockTransformer.encoded g.T.BlockTransformer.decoded l.initial.env.operator l.initial.env.transformer) (g.S.Store.objects l.initial.env.store.now)
+      → IsRunning (meaning_of g.M.MergeOperator.combine g.T.BlockTransformer.encoded g.T.BlockTransformer.decoded l.initial.env.operator l.initial.env.transformer)
+      (run_rules l.options (meaning_of g.M.MergeOperator.combine g.T.BlockTransformer.encoded g.T.BlockTransformer.decoded l.initial.env.operator l.initial.env.transformer))
+      (meaning_of g.M.MergeOperator.combine g.T.BlockTransformer.encoded g.T.BlockTransformer.decoded l.env.operator l.env.transformer) (g.S.Store.objects l.env.store.now) l.session;
+  alone : Premises (meaning_of g.M.MergeOperator.combine g.T.BlockTransformer.encoded g.T.BlockTransformer.decoded l.initial.env.operator l.initial.env.transformer) (g.S.Store.objects l.initial.env.store.now)
+      → HasTablesAlone (meaning_of g.M.MergeOperator.combine g.T.BlockTransformer.encoded g.T.BlockTransformer.decoded l.initial.env.operator l.initial.env.transformer)
+      (layout_of l.options) (g.S.Store.objects l.env.store.now) (tables_of l.session.core.events);
   source_later : g.R.Source.faults l.initial.source ≤ g.R.Source.faults l.source;
   sink_later : g.W.Sink.faults l.initial.sink ≤ g.W.Sink.faults l.sink;
   source_still : g.R.Source.faults l.source ≡ g.R.Source.faults l.initial.source;
   sink_still : g.W.Sink.faults l.sink ≡ g.W.Sink.faults l.initial.sink;
+  same_store : l.env.store.ghost_name ≡ l.initial.env.store.ghost_name;
+  parts_later : IsLater (counts_of (g.S.Store.faults l.initial.env.store.now) g.M.MergeOperator.faults g.T.BlockTransformer.faults l.initial.env.operator l.initial.env.transformer)
+      (counts_of (g.S.Store.faults l.env.store.now) g.M.MergeOperator.faults g.T.BlockTransformer.faults l.env.operator l.env.transformer);
 }
 
-abbrev pub decreases-loop-engine : goal.decreases-loop-engine
-decreases-loop-engine g l = script_limit - l.lines.given
+abbrev pub decreases-loop-session : goal.decreases-loop-session
+decreases-loop-session g l = script_limit - l.lines.given

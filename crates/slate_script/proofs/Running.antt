@@ -1,0 +1,114 @@
+-- What is kept from line to line.
+use Rattle.std.proofs.Common.{◌≡◌, ℕ, true, false, List, [], ◌∷◌, Option, Some, Result, Ok, Err, OnOk, IsTrue, ◌⊎◌, inl, inr, refl, sym, ap, ◌∙◌, subst, arith}
+use Rattle.slate_types.specs.declared.config.Options.{Options}
+use Rattle.slate_types.specs.declared.error.SlateDBError.{SlateDBError}
+use Rattle.slate_types.specs.declared.error.SlateDBError.TheVariants.{ChecksumMismatch, InvalidRowFlags, CorruptTable, InvalidVersion, InvalidSequenceOrder, MergeOperatorMissing}
+use Rattle.slate_types.specs.Outside.{Objects, Counts, IsOuter}
+use Rattle.slate_txn.specs.declared.line.Line.{Line}
+use Rattle.slate_txn.specs.declared.line.Line.TheVariants as lines
+use Rattle.slate_txn.specs.Settings.{settings_of}
+use Rattle.slate_txn.specs.State.{Rules, State}
+use Rattle.slate_txn.specs.Step.{step, after}
+use Rattle.slate_db.specs.Installs.{HoldsTables}
+use Rattle.slate_db.specs.Meaning.{Meaning, rules_of}
+use Rattle.slate_db.specs.Parts.{IsDamage}
+use Rattle.slate_db.specs.Sound.{IsKept}
+use Rattle.slate_script.specs.declared.reply.Answer.{Answer}
+use Rattle.slate_script.specs.Answers.{reply_of}
+use Rattle.slate_script.specs.Replies.{is_silent, onto_meanings, reply_line, after_lines, replies_from}
+use Rattle.slate_script.specs.Run.{run_rules, Premises}
+use Rattle.slate_script.specs.Session.{SessionModel, StandsFor, AnswersAs, HasTables, IsSettled, IsRunning, IsLimit, has_moment}
+use Rattle.slate_script.specs.Grammar.{IsLine}
+use Rattle.slate_script.specs.Stage.{meaning}
+use Rattle.slate_script.proofs.Answered.{one-reply, built-line}
+
+pub is-settled : {m : Meaning} {r : Rules} {parts : Meaning} {objects : Option Objects} {e : SessionModel} → IsRunning m r parts objects e → IsSettled parts objects e
+is-settled {objects = objects} {e = e} h = subst (λ (x : Meaning). IsSettled x objects e) (sym h.meaning) h.settled
+
+pub its-rules : {m : Meaning} {r : Rules} {parts : Meaning} {objects : Option Objects} {e : SessionModel} → IsRunning m r parts objects e → rules_of e.core.settings parts ≡ r
+its-rules {e = e} h = ap (rules_of e.core.settings) h.meaning ∙ h.rules
+
+-- a line later
+pub runs-on : {m : Meaning} {r : Rules} {parts now : Meaning} {objects after : Option Objects} {e new : SessionModel} → IsRunning m r parts objects e → now ≡ parts → new.core.settings ≡ e.core.settings →
+    IsSettled parts after new → IsRunning m r now after new
+runs-on {m = m} {after = after} {new = new} h same settings settled = record {
+  meaning = same ∙ h.meaning;
+  rules = ap (λ x. rules_of x m) settings ∙ h.rules;
+  settled = subst (λ (x : Meaning). IsSettled x after new) h.meaning settled;
+}
+
+-- ---- one line
+
+one-after : (r : Rules) (s : State) (l : List ℕ) (line : Line) → is_silent l ≡ false → meaning l ≡ Some line → after_lines meaning r s (l ∷ []) ≡ (step r s line).0
+one-after r s l line loud is = λ i. after r s (onto_meanings (loud i) (is i) [])
+
+pub line-stands : {m : Meaning} {r : Rules} {parts : Meaning} {objects : Option Objects} {e new : SessionModel} (l : List ℕ) (line : Line) (a : Answer) → IsRunning m r parts objects e → is_silent l ≡ false → meaning l ≡ Some line →
+    (IsSettled parts objects e → AnswersAs parts e new line (Ok a)) → (s : State) → StandsFor e s → StandsFor new (after_lines meaning r s (l ∷ []))
+line-stands {r = r} {new = new} l line a h loud is steps s stands =
+    subst (StandsFor new) (sym (one-after r s l line loud is)) (subst (λ x. StandsFor new (step x s line).0) (its-rules h) (steps (is-settled h) s stands).0)
+
+pub line-reply : {m : Meaning} {r : Rules} {parts : Meaning} {objects : Option Objects} {e new : SessionModel} (l : List ℕ) (line : Line) (a : Answer) → IsRunning m r parts objects e → is_silent l ≡ false → meaning l ≡ Some line →
+    (IsSettled parts objects e → AnswersAs parts e new line (Ok a)) → (s : State) → StandsFor e s → reply_line (reply_of a) ≡ replies_from meaning r s (l ∷ [])
+line-reply {r = r} l line a h loud is steps s stands =
+    ap reply_line ((steps (is-settled h) s stands).1 ∙ ap (λ x. (step x s line).1) (its-rules h)) ∙ sym (one-reply r s l line loud is)
+
+pub silent-stands : {e : SessionModel} (r : Rules) (l : List ℕ) → is_silent l ≡ true → (s : State) → StandsFor e s → StandsFor e (after_lines meaning r s (l ∷ []))
+silent-stands {e = e} r l silent s h = subst (λ b. StandsFor e (after r s (onto_meanings b (meaning l) []))) (sym silent) h
+
+-- ---- the beginning
+
+pub begins : (m : Meaning) (o : Options) (objects : Option Objects) (e : SessionModel) → Premises m objects → e.core.settings ≡ settings_of o → e.core.events ≡ [] → ((n : Meaning) → IsKept n e.core) → IsRunning m (run_rules o m) m objects e
+begins m o objects e p settings none kept = record {
+  meaning = refl;
+  rules = ap (λ x. rules_of x m) settings;
+  settled = record {
+    lawful = p.lawful;
+    kept = kept m;
+    tables = subst (HasTables objects) (sym none) (record { holds = subst (λ os. HoldsTables os []) (sym p.empty) tt; numbered = tt; few = omega arith });
+  };
+}
+
+-- ---- of a line that means something, and of results
+
+pub one-moment : (l : List ℕ) (line : Line) → meaning l ≡ Some line → IsTrue (has_moment line)
+one-moment l line h = by line (built-line l line h).0
+  where
+    by : (x : Line) → IsLine l x → IsTrue (has_moment x)
+    by (lines.Now m) is = is.1.1.0
+    by (lines.Begin name level) is = refl
+    by (lines.Snapshot name) is = refl
+    by (lines.Get name k) is = refl
+    by (lines.Scan name order start end sts) is = refl
+    by (lines.Prefix name order p start end sts) is = refl
+    by (lines.Put name k v ttl) is = refl
+    by (lines.Merge name k v ttl) is = refl
+    by (lines.Delete name k) is = refl
+    by (lines.Mark name ks) is = refl
+    by (lines.Unmark name ks) is = refl
+    by (lines.Commit name) is = refl
+    by (lines.Rollback name) is = refl
+    by (lines.Write ops) is = refl
+    by lines.Freeze is = refl
+    by lines.Flush is = refl
+    by lines.Journal is = refl
+
+pub always : {V E P : Type 0} (result : Result V E) → P → OnOk result P
+always (Ok v) p = p
+always (Err e) p = tt
+
+pub at-ok : {V E P Q : Type 0} (result : Result V E) → (P → Q) → OnOk result P → OnOk result Q
+at-ok (Ok v) f p = f p
+at-ok (Err e) f p = tt
+
+damage-outer : (before after : Counts) (e : SlateDBError) → IsOuter before after e → IsDamage e → ⊥
+damage-outer before after (ChecksumMismatch stored computed) h d = h
+damage-outer before after (InvalidRowFlags flags) h d = h
+damage-outer before after (CorruptTable place) h d = h
+damage-outer before after (InvalidVersion version) h d = h
+damage-outer before after (InvalidSequenceOrder a b) h d = h
+damage-outer before after MergeOperatorMissing h d = h
+damage-outer before after e h d = d
+
+pub not-damage : (before after : Counts) (e : SlateDBError) → IsOuter before after e ⊎ IsLimit e → IsDamage e → ⊥
+not-damage before after e (inl h) d = damage-outer before after e h d
+not-damage before after e (inr h) d = subst IsDamage h.1 d

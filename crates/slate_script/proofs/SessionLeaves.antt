@@ -1,0 +1,81 @@
+-- What a call of the core leaves, where it installs nothing.
+use Rattle.std.proofs.Common.{◌≡◌, ℕ, ◌+◌, ◌≤◌, inl, inr, List, [], ◌∷◌, ◌++◌, length, Option, Some, None, Result, Ok, Err, OnOk, ℤ, refl, sym, ap, ◌∙◌, subst, arith}
+use Rattle.std.proofs.lemmas.List.{length-append}
+use Rattle.slate_mem.specs.Batch.{Ops}
+use Rattle.slate_txn.specs.declared.event.Event.{Event}
+use Rattle.slate_txn.specs.declared.event.Event.TheVariants as events
+use Rattle.slate_txn.specs.State.{State}
+use Rattle.slate_db.specs.Frozen.{IsFrozen}
+use Rattle.slate_db.specs.Installs.{tables_in, tables_of}
+use Rattle.slate_db.specs.Meaning.{Meaning}
+use Rattle.slate_db.specs.Model.{CoreModel, IsSame}
+use Rattle.slate_db.specs.Sound.{IsKept}
+use Rattle.slate_db.specs.Written.{IsWritten}
+use Rattle.slate_types.specs.declared.error.SlateDBError.{SlateDBError}
+use Rattle.slate_script.specs.declared.reply.Answer.{Answer}
+use Rattle.slate_script.specs.Session.{SessionModel, StoresNothing}
+use Rattle.slate_script.proofs.SessionStores.{none-more}
+
+pub record Leaves (old new : CoreModel) : Type 0 where
+  pub settings : new.settings ≡ old.settings
+  pub tables : tables_of new.events ≡ tables_of old.events
+  pub later : length old.events ≤ length new.events
+
+one-more : (es : List Event) (e : Event) → length es ≤ length (es ++ (e ∷ []))
+one-more es e = let n : length (es ++ (e ∷ [])) ≡ length es + 1 = length-append es (e ∷ []) in omega (arith, n)
+
+leaves-one : (old new : CoreModel) (e : Event) → new.settings ≡ old.settings → new.events ≡ old.events ++ (e ∷ []) → tables_in e ≡ [] → Leaves old new
+leaves-one old new e settings is none = record {
+  settings = settings;
+  tables = ap tables_of is ∙ none-more old.events e none;
+  later = subst (λ es. length old.events ≤ length es) (sym is) (one-more old.events e);
+}
+
+leaves-all : (old new : CoreModel) → new.settings ≡ old.settings → new.events ≡ old.events → Leaves old new
+leaves-all old new settings is = record {
+  settings = settings;
+  tables = ap tables_of is;
+  later = subst (λ es. length old.events ≤ length es) (sym is) (omega arith);
+}
+
+pub leaves-event : (old new : CoreModel) (e : Event) → new ≡ record old { state = new.state; events = old.events ++ (e ∷ []); spare = new.spare } → tables_in e ≡ [] → Leaves old new
+leaves-event old new e is none = leaves-one old new e (ap (λ (c : CoreModel). c.settings) is) (ap (λ (c : CoreModel). c.events) is) none
+
+pub leaves-noted : (old new : CoreModel) (s : State) → new ≡ record old { state = s } → Leaves old new
+leaves-noted old new s is = leaves-all old new (ap (λ (c : CoreModel). c.settings) is) (ap (λ (c : CoreModel). c.events) is)
+
+pub leaves-same : (old new : CoreModel) → IsSame old new → Leaves old new
+leaves-same old new is = leaves-all old new (ap (λ (c : CoreModel). c.settings) is) (ap (λ (c : CoreModel). c.events) is)
+
+pub leaves-frozen : (old new : CoreModel) → IsFrozen old new → Leaves old new
+leaves-frozen old new (inl same) = leaves-all old new (ap (λ (c : CoreModel). c.settings) same.1) (ap (λ (c : CoreModel). c.events) same.1)
+leaves-frozen old new (inr is) = leaves-one old new events.Freeze (ap (λ (c : CoreModel). c.settings) is.1) (ap (λ (c : CoreModel). c.events) is.1) refl
+
+pub leaves-written : (old new : CoreModel) (n : Option ℕ) (now : ℤ) (ops : Ops) → IsWritten old new n now ops → Leaves old new
+leaves-written old new None now ops same = leaves-all old new (ap (λ (c : CoreModel). c.settings) same.1) (ap (λ (c : CoreModel). c.events) same.1)
+leaves-written old new (Some n) now ops is = leaves-one old new (events.Write n now ops) (ap (λ (c : CoreModel). c.settings) is) (ap (λ (c : CoreModel). c.events) is) refl
+
+-- a write changes the commits of the state alone
+pub written-txns : (old new : CoreModel) (n : Option ℕ) (now : ℤ) (ops : Ops) → IsWritten old new n now ops → new.state.txns ≡ old.state.txns
+written-txns old new None now ops same = ap (λ (c : CoreModel). c.state.txns) same.1
+written-txns old new (Some n) now ops is = ap (λ (c : CoreModel). c.state.txns) is
+
+pub written-flushed : (old new : CoreModel) (n : Option ℕ) (now : ℤ) (ops : Ops) → IsWritten old new n now ops → new.state.flushed ≡ old.state.flushed
+written-flushed old new None now ops same = ap (λ (c : CoreModel). c.state.flushed) same.1
+written-flushed old new (Some n) now ops is = ap (λ (c : CoreModel). c.state.flushed) is
+
+kept-spare : (m : Meaning) (c : CoreModel) (n : ℕ) → IsKept m c → IsKept m (record c { spare = n })
+kept-spare m c n k = (k.0, λ lawful. let s = k.1 lawful in record { layers = s.layers; tables = s.tables; short = s.short; bases = s.bases; within = s.within; rise = s.rise; folds = s.folds })
+
+pub kept-same : (m : Meaning) (old new : CoreModel) → IsSame old new → IsKept m old → IsKept m new
+kept-same m old new is k = subst (λ (c : CoreModel). IsKept m c) (sym is) (kept-spare m old new.spare k)
+
+pub stores : (e : SessionModel) (core : CoreModel) (names : List (List ℕ × List ℕ)) (now : ℤ) → Leaves e.core core → ((m : Meaning) → IsKept m e.core → IsKept m core) → StoresNothing e (record { core = core; names = names; now = now })
+stores e core names now leaves kept = record { settings = leaves.settings; tables = leaves.tables; later = leaves.later; kept = kept }
+
+pub stores-itself : (e : SessionModel) → StoresNothing e e
+stores-itself e = record { settings = refl; tables = refl; later = omega arith; kept = λ m k. k }
+
+pub stores-where : (result : Result Answer SlateDBError) (e : SessionModel) (core : CoreModel) → StoresNothing e (record e { core = core }) → OnOk result (StoresNothing e (record e { core = core }))
+stores-where (Ok a) e core h = h
+stores-where (Err x) e core h = tt

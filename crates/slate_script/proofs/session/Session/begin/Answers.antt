@@ -1,0 +1,56 @@
+use Rattle.std.proofs.Common.{◌≡◌, cond, Some, None, is_some, Ok, refl, sym, subst, ap, ◌∙◌}
+use Rattle.std.specs.Map.{lookup}
+use Rattle.std.specs.BTreeMap.{is_at}
+use Rattle.slate_types.specs.Keys.{key_cmp}
+use Rattle.slate_txn.specs.Named.{find_named}
+use Rattle.slate_txn.specs.declared.event.Event.TheVariants as events
+use Rattle.slate_txn.specs.declared.line.Line.TheVariants as lines
+use Rattle.slate_db.specs.Meaning.{rules_of}
+use Rattle.slate_script.specs.declared.reply.Answer.TheVariants as answers
+use Rattle.slate_script.specs.declared.reply.Refusal.TheVariants as refusals
+use Rattle.slate_script.specs.Session.{SessionModel, AreNames, AnswersAs, StoresNothing}
+use Rattle.slate_script.proofs.NamesLaws.{find_named-lookup, named-after, none-found}
+use Rattle.slate_script.proofs.SessionNames.{opens-fresh, names-begun, names-opened}
+use Rattle.slate_script.proofs.SessionSteps.{IsNamed, named-by, begin-refused, begin-opens, plain-meaning}
+use Rattle.slate_script.proofs.SessionLeaves.{leaves-event, stores}
+use Rattle.slate_script.proofs.session.Session.begin.Goals as goal
+
+pub returns-then-contains_key-clause-step : goal.returns-then-contains_key-clause-step
+returns-then-contains_key-clause-step c m =
+    let before : SessionModel = record { core = c.self.inside.core; names = c.self.inside.names.entries; now = c.self.inside.now } in
+    let named : IsNamed (find_named c.args.name before.names) = named-by (find_named c.args.name before.names) (ap is_some (find_named-lookup c.args.name before.names) ∙ sym c.if-contains_key.ensures) in
+    subst (λ (v : SessionModel). AnswersAs m v v (lines.Begin c.args.name c.args.level) (Ok (answers.Refused (refusals.DuplicateTransaction c.args.name)))) c.self.view_is
+    (begin-refused m before c.args.name named.value c.args.level c.self.invariant.0 named.is)
+
+pub invariant_of-self-in_err-insert : goal.invariant_of-self-in_err-insert
+invariant_of-self-in_err-insert c =
+    let old : AreNames c.self.inside.names.entries c.begin.new.self.state.txns =
+    names-begun c.self.inside.names.entries (opens-fresh (rules_of c.self.inside.core.settings plain-meaning) c.self.inside.core.state c.begin.new.self.state c.in_ok-id.id c.args.level c.in_ok-id.start (c.in_ok-id.ensures.step plain-meaning)) c.self.invariant.0 in
+    (subst (λ es. AreNames es c.begin.new.self.state.txns) (sym c.in_err-insert.ensures.err) old, c.self.invariant.1)
+
+pub invariant_of-self-2 : goal.invariant_of-self-2
+invariant_of-self-2 c =
+    let names = c.self.inside.names.entries in
+    let none : find_named c.args.name names ≡ None = none-found (find_named c.args.name names) (ap is_some (find_named-lookup c.args.name names) ∙ sym c.if-contains_key.ensures) in (
+      names-opened c.args.name names c.insert.new.self.entries (opens-fresh (rules_of c.self.inside.core.settings plain-meaning) c.self.inside.core.state c.begin.new.self.state c.in_ok-id.id c.args.level c.in_ok-id.start (c.in_ok-id.ensures.step plain-meaning)) c.self.invariant.0
+          (λ q. named-after c.args.name q (Some c.in_ok-id.id) names c.insert.new.self.entries
+          (c.in_ok-insert.ensures.updates.0 q ∙ ap (λ k. cond (is_at (key_cmp k) q) (Some c.in_ok-id.id) (lookup (is_at (key_cmp q)) names)) c.in_ok-key.ensures.cases)),
+      c.self.invariant.1,
+    )
+
+pub returns-clause-step : goal.returns-clause-step
+returns-clause-step c m =
+    let before : SessionModel = record { core = c.self.inside.core; names = c.self.inside.names.entries; now = c.self.inside.now } in
+    let none : find_named c.args.name before.names ≡ None = none-found (find_named c.args.name before.names) (ap is_some (find_named-lookup c.args.name before.names) ∙ sym c.if-contains_key.ensures) in
+    subst (λ (v : SessionModel). AnswersAs m v (record before { core = c.begin.new.self; names = c.insert.new.self.entries }) (lines.Begin c.args.name c.args.level) (Ok (answers.Begun c.args.name c.in_ok-id.start))) c.self.view_is
+    (begin-opens m before c.begin.new.self c.insert.new.self.entries c.args.name c.in_ok-id.id c.args.level c.in_ok-id.start c.self.invariant.0 none
+    (opens-fresh (rules_of before.core.settings m) before.core.state c.begin.new.self.state c.in_ok-id.id c.args.level c.in_ok-id.start (c.in_ok-id.ensures.step m))
+    (λ q. named-after c.args.name q (Some c.in_ok-id.id) before.names c.insert.new.self.entries
+    (c.in_ok-insert.ensures.updates.0 q ∙ ap (λ k. cond (is_at (key_cmp k) q) (Some c.in_ok-id.id) (lookup (is_at (key_cmp q)) before.names)) c.in_ok-key.ensures.cases)))
+
+pub returns-clause-stores : goal.returns-clause-stores
+returns-clause-stores c =
+    let before : SessionModel = record { core = c.self.inside.core; names = c.self.inside.names.entries; now = c.self.inside.now } in
+    subst (λ (v : SessionModel). StoresNothing v (record before { core = c.begin.new.self; names = c.insert.new.self.entries })) c.self.view_is
+    (stores before c.begin.new.self c.insert.new.self.entries before.now
+    (leaves-event c.self.inside.core c.begin.new.self (events.Begin c.in_ok-id.id c.args.level c.in_ok-id.start) c.in_ok-id.ensures.event refl) c.in_ok-id.ensures.kept)

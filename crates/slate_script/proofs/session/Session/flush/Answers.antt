@@ -1,0 +1,77 @@
+use Rattle.std.proofs.Common.{◌≡◌, Ok, refl, ap, sym, subst, arith}
+use Rattle.std.proofs.lemmas.Result.{err_from_is_err_and}
+use Rattle.slate_types.specs.declared.error.SlateDBError.TheVariants.{LimitReached}
+use Rattle.slate_types.specs.Faults.{faults_of}
+use Rattle.slate_types.specs.Outside.{Counts}
+use Rattle.slate_store.specs.Env.{combine_of}
+use Rattle.slate_table.specs.SectionReading.{changed_by}
+use Rattle.slate_txn.specs.declared.line.Line.TheVariants as lines
+use Rattle.slate_db.specs.Flushed.{layout_of}
+use Rattle.slate_db.specs.Installs.{tables_of}
+use Rattle.slate_db.specs.Parts.{meaning_of, counts_of}
+use Rattle.slate_db.specs.Whole.{LIMIT}
+use Rattle.slate_script.specs.declared.reply.Answer.TheVariants as answers
+use Rattle.slate_script.specs.Session.{SessionModel, AnswersAs, HasTablesAlone, IsSettled}
+use Rattle.slate_script.proofs.SessionParts.{parts-same, flush-cause, untouched, has-room}
+use Rattle.slate_script.proofs.SessionSteps.{flush-as}
+use Rattle.slate_script.proofs.SessionStores.{flush-settled}
+use Rattle.slate_script.proofs.TablesAlone.{flush-alone}
+use Rattle.slate_script.proofs.session.Session.flush.Goals as goal
+
+pub returns-clause-step : goal.returns-clause-step
+returns-clause-step g c m =
+    let before : SessionModel = record { core = c.self.inside.core; names = c.self.inside.names.entries; now = c.self.inside.now } in
+    subst (λ (v : SessionModel). AnswersAs m v (record before { core = c.flush.new.self }) lines.Flush (Ok (answers.Flushed c.in_ok-seq.seq))) c.self.view_is
+    (flush-as m before c.flush.new.self c.in_ok-seq.seq (c.in_ok-seq.ensures.step m))
+
+pub returns-clause-kept : goal.returns-clause-kept
+returns-clause-kept g c settled =
+    let before : SessionModel = record { core = c.self.inside.core; names = c.self.inside.names.entries; now = c.self.inside.now } in
+    let m = meaning_of g.M.MergeOperator.combine g.T.BlockTransformer.encoded g.T.BlockTransformer.decoded c.args.env.now.operator c.args.env.now.transformer in
+    let encode = changed_by g.T.BlockTransformer.encoded c.args.env.now.transformer in
+    let went : c.flush.result ≡ Ok c.in_ok-seq.seq = grind (arith, c.branch-seq.ensures, c.in_ok-seq.is) in
+    let old = g.S.Store.objects c.args.env.now.store.now in
+    flush-settled m encode _ old (g.S.Store.objects c.flush.new.env.store.now) before c.in_ok-seq.ensures.installed.0 c.flush.new.self c.in_ok-seq.seq
+    c.in_ok-seq.ensures.installed.1 c.in_ok-seq.ensures.installed.2
+    (has-room LIMIT _ _ _ c.flush.result c.in_ok-seq.seq (LimitReached LIMIT) went c.flush.ensures.limit)
+    (c.flush.ensures.kept m refl)
+    (subst (λ (v : SessionModel). IsSettled m old v) (sym c.self.view_is) settled)
+
+pub returns-clause-alone : goal.returns-clause-alone
+returns-clause-alone g c settled alone =
+    let m = meaning_of g.M.MergeOperator.combine g.T.BlockTransformer.encoded g.T.BlockTransformer.decoded c.args.env.now.operator c.args.env.now.transformer in
+    let layout = layout_of c.args.options.now in
+    let went : c.flush.result ≡ Ok c.in_ok-seq.seq = grind (arith, c.branch-seq.ensures, c.in_ok-seq.is) in
+    let old = g.S.Store.objects c.args.env.now.store.now in
+    flush-alone m layout c.self.inside.core c.in_ok-seq.ensures.installed.0 c.flush.new.self c.in_ok-seq.seq old (g.S.Store.objects c.flush.new.env.store.now)
+    c.in_ok-seq.ensures.installed.1 c.in_ok-seq.ensures.installed.2
+    (subst (λ (v : SessionModel). IsSettled m old v) (sym c.self.view_is) settled).tables.few
+    (has-room LIMIT _ _ _ c.flush.result c.in_ok-seq.seq (LimitReached LIMIT) went c.flush.ensures.limit)
+    (subst (λ (v : SessionModel). HasTablesAlone m layout old (tables_of v.core.events)) (sym c.self.view_is) alone)
+
+pub returns-clause-meaning : goal.returns-clause-meaning
+returns-clause-meaning g c = parts-same _ _ (ap (λ o. combine_of g.M.MergeOperator.combine o) c.flush.ensures.operator) c.flush.ensures.same_encoded c.flush.ensures.same_decoded
+
+pub returns-in_err-seq-clause-meaning : goal.returns-in_err-seq-clause-meaning
+returns-in_err-seq-clause-meaning g c = parts-same _ _ (ap (λ o. combine_of g.M.MergeOperator.combine o) c.flush.ensures.operator) c.flush.ensures.same_encoded c.flush.ensures.same_decoded
+
+pub returns-clause-later : goal.returns-clause-later
+returns-clause-later g c = record {
+  store = c.flush.ensures.later;
+  operator = untouched (λ o. faults_of g.M.MergeOperator.faults o) c.args.env.now.operator c.flush.new.env.operator c.flush.ensures.operator;
+  transformer = c.flush.ensures.later_transformer;
+}
+
+pub returns-in_err-seq-clause-later : goal.returns-in_err-seq-clause-later
+returns-in_err-seq-clause-later g c = record {
+  store = c.flush.ensures.later;
+  operator = untouched (λ o. faults_of g.M.MergeOperator.faults o) c.args.env.now.operator c.flush.new.env.operator c.flush.ensures.operator;
+  transformer = c.flush.ensures.later_transformer;
+}
+
+pub returns-in_err-seq-clause-cause : goal.returns-in_err-seq-clause-cause
+returns-in_err-seq-clause-cause g c =
+    let p = err_from_is_err_and c.from_residual.result c.from_residual.ensures.1 in
+    let before : Counts = counts_of (g.S.Store.faults c.args.env.now.store.now) g.M.MergeOperator.faults g.T.BlockTransformer.faults c.args.env.now.operator c.args.env.now.transformer in
+    let after : Counts = counts_of (g.S.Store.faults c.flush.new.env.store.now) g.M.MergeOperator.faults g.T.BlockTransformer.faults c.flush.new.env.operator c.flush.new.env.transformer in
+    rw (p.1, p.2) (flush-cause before after _ c.self.inside.core LIMIT _ c.in_err-seq.ensures.cause)

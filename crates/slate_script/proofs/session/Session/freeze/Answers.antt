@@ -1,0 +1,19 @@
+use Rattle.std.proofs.Common.{Ok, subst}
+use Rattle.slate_txn.specs.declared.line.Line.TheVariants as lines
+use Rattle.slate_script.specs.declared.reply.Answer.TheVariants as answers
+use Rattle.slate_script.specs.Session.{SessionModel, AnswersAs, StoresNothing}
+use Rattle.slate_script.proofs.SessionSteps.{freeze-as}
+use Rattle.slate_script.proofs.SessionLeaves.{leaves-frozen, stores}
+use Rattle.slate_script.proofs.session.Session.freeze.Goals as goal
+
+pub returns-clause-step : goal.returns-clause-step
+returns-clause-step c m =
+    let before : SessionModel = record { core = c.self.inside.core; names = c.self.inside.names.entries; now = c.self.inside.now } in
+    subst (λ (v : SessionModel). AnswersAs m v (record before { core = c.freeze.new.self }) lines.Freeze (Ok (answers.Frozen c.in_ok-seq.seq))) c.self.view_is
+    (freeze-as m before c.freeze.new.self c.in_ok-seq.seq (c.in_ok-seq.ensures.step m))
+
+pub returns-clause-stores : goal.returns-clause-stores
+returns-clause-stores c =
+    let before : SessionModel = record { core = c.self.inside.core; names = c.self.inside.names.entries; now = c.self.inside.now } in
+    subst (λ (v : SessionModel). StoresNothing v (record before { core = c.freeze.new.self })) c.self.view_is
+    (stores before c.freeze.new.self before.names before.now (leaves-frozen c.self.inside.core c.freeze.new.self c.in_ok-seq.ensures.event) c.in_ok-seq.ensures.kept)

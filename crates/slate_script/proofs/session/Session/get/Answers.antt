@@ -1,0 +1,82 @@
+use Rattle.std.proofs.Common.{◌≡◌, ℕ, List, Option, None, Ok, refl, sym, subst, ◌∙◌}
+use Rattle.std.proofs.lemmas.Result.{err_from_is_err_and}
+use Rattle.slate_types.specs.Outside.{Counts}
+use Rattle.slate_store.specs.Env.{combine_of}
+use Rattle.slate_txn.specs.Named.{find_named}
+use Rattle.slate_txn.specs.Reply as replies
+use Rattle.slate_txn.specs.Reply.{Reply}
+use Rattle.slate_txn.specs.State.{State}
+use Rattle.slate_txn.specs.Step.{step}
+use Rattle.slate_txn.specs.declared.line.Line.TheVariants as lines
+use Rattle.slate_db.specs.Meaning.{HasParts, rules_of}
+use Rattle.slate_db.specs.Model.{CoreModel}
+use Rattle.slate_db.specs.Parts.{meaning_of, counts_of}
+use Rattle.slate_script.specs.declared.reply.Answer.TheVariants as answers
+use Rattle.slate_script.specs.declared.reply.Refusal.TheVariants as refusals
+use Rattle.slate_script.specs.Session.{SessionModel, AreNames, AnswersAs, IsSettled}
+use Rattle.slate_script.proofs.NamesLaws.{find_named-lookup}
+use Rattle.slate_script.proofs.SessionNames.{names-noted}
+use Rattle.slate_script.proofs.SessionParts.{parts-same, get-cause, get-outer}
+use Rattle.slate_script.proofs.SessionSteps.{get-refused, get-found}
+use Rattle.slate_script.proofs.session.Session.get.Goals as goal
+
+-- the meaning is that of the parts
+has-parts : {combine : Option (List ℕ → Option (List ℕ) → List ℕ → List ℕ)} {encode decode : List ℕ → List ℕ} → HasParts (record { combine = combine; encode = encode; decode = decode }) combine encode decode
+has-parts = record { operator = refl; encodes = refl; decodes = refl }
+
+pub returns-in_default-clause-step : goal.returns-in_default-clause-step
+returns-in_default-clause-step g c settled =
+    let before : SessionModel = record { core = c.self.inside.core; names = c.self.inside.names.entries; now = c.self.inside.now } in
+    let m = meaning_of g.M.MergeOperator.combine g.T.BlockTransformer.encoded g.T.BlockTransformer.decoded c.args.env.now.operator c.args.env.now.transformer in
+    let none : find_named c.args.name before.names ≡ None = find_named-lookup c.args.name before.names ∙ sym c.in_default.ensures.value in
+    subst (λ (v : SessionModel). AnswersAs m v v (lines.Get c.args.name c.args.key) (Ok (answers.Refused (refusals.UnknownTransaction c.args.name)))) c.self.view_is
+    (get-refused m before c.args.name c.args.key none)
+
+pub get-requires-2 : goal.get-requires-2
+get-requires-2 g c = c.self.invariant.0.opened c.args.name c.in-Some.id.now (find_named-lookup c.args.name c.self.inside.names.entries ∙ sym c.in-Some.ensures.value)
+
+pub invariant_of-self-2 : goal.invariant_of-self-2
+invariant_of-self-2 g c = (
+  subst (λ (v : CoreModel). AreNames c.self.inside.names.entries v.state.txns) (sym c.in_ok-row.ensures.noted)
+      (names-noted c.in-Some.id.now _ c.self.inside.names.entries c.self.inside.core.state.txns c.self.invariant.0),
+  c.self.invariant.1,
+)
+
+pub returns-clause-step : goal.returns-clause-step
+returns-clause-step g c settled =
+    let before : SessionModel = record { core = c.self.inside.core; names = c.self.inside.names.entries; now = c.self.inside.now } in
+    let m = meaning_of g.M.MergeOperator.combine g.T.BlockTransformer.encoded g.T.BlockTransformer.decoded c.args.env.now.operator c.args.env.now.transformer in
+    let here : IsSettled m (g.S.Store.objects c.args.env.now.store.now) before = subst (λ (v : SessionModel). IsSettled m (g.S.Store.objects c.args.env.now.store.now) v) (sym c.self.view_is) settled in
+    let stepped = c.in_ok-row.ensures.answer m has-parts here.lawful here.kept here.tables.holds in
+    subst (λ (v : SessionModel). AnswersAs m v (record before { core = c.get-2.new.self }) (lines.Get c.args.name c.args.key) (Ok (answers.Found c.in_ok-row.row))) c.self.view_is
+    (get-found m before c.get-2.new.self c.args.name c.in-Some.id.now c.args.key c.in_ok-row.row c.self.invariant.0 (find_named-lookup c.args.name before.names ∙ sym c.in-Some.ensures.value)
+    (subst (λ (k : List ℕ). ◌≡◌ {A = State × Reply} (step (rules_of c.self.inside.core.settings m) c.self.inside.core.state (lines.Get c.in-Some.id.now k)) (c.get-2.new.self.state, replies.Found c.in_ok-row.row)) c.as_slice.ensures stepped))
+
+pub returns-clause-meaning : goal.returns-clause-meaning
+returns-clause-meaning g c = parts-same _ _ c.get-2.ensures.same_combine c.get-2.ensures.same_encoded c.get-2.ensures.same_decoded
+
+pub returns-in_err-row-clause-meaning : goal.returns-in_err-row-clause-meaning
+returns-in_err-row-clause-meaning g c = parts-same _ _ c.get-2.ensures.same_combine c.get-2.ensures.same_encoded c.get-2.ensures.same_decoded
+
+pub returns-clause-later : goal.returns-clause-later
+returns-clause-later g c = record { store = c.get-2.ensures.later; operator = c.get-2.ensures.later_operator; transformer = c.get-2.ensures.later_transformer }
+
+pub returns-in_err-row-clause-later : goal.returns-in_err-row-clause-later
+returns-in_err-row-clause-later g c = record { store = c.get-2.ensures.later; operator = c.get-2.ensures.later_operator; transformer = c.get-2.ensures.later_transformer }
+
+pub returns-in_err-row-clause-cause : goal.returns-in_err-row-clause-cause
+returns-in_err-row-clause-cause g c =
+    let p = err_from_is_err_and c.from_residual.result c.from_residual.ensures.1 in
+    let before : Counts = counts_of (g.S.Store.faults c.args.env.now.store.now) g.M.MergeOperator.faults g.T.BlockTransformer.faults c.args.env.now.operator c.args.env.now.transformer in
+    let after : Counts = counts_of (g.S.Store.faults c.get-2.new.env.store.now) g.M.MergeOperator.faults g.T.BlockTransformer.faults c.get-2.new.env.operator c.get-2.new.env.transformer in
+    rw (p.1, p.2) (get-cause before after (combine_of g.M.MergeOperator.combine c.args.env.now.operator) _ c.in_err-row.ensures.cause)
+
+pub returns-in_err-row-clause-undamaged : goal.returns-in_err-row-clause-undamaged
+returns-in_err-row-clause-undamaged g c settled =
+    let before : SessionModel = record { core = c.self.inside.core; names = c.self.inside.names.entries; now = c.self.inside.now } in
+    let m = meaning_of g.M.MergeOperator.combine g.T.BlockTransformer.encoded g.T.BlockTransformer.decoded c.args.env.now.operator c.args.env.now.transformer in
+    let here : IsSettled m (g.S.Store.objects c.args.env.now.store.now) before = subst (λ (v : SessionModel). IsSettled m (g.S.Store.objects c.args.env.now.store.now) v) (sym c.self.view_is) settled in
+    let p = err_from_is_err_and c.from_residual.result c.from_residual.ensures.1 in
+    let first : Counts = counts_of (g.S.Store.faults c.args.env.now.store.now) g.M.MergeOperator.faults g.T.BlockTransformer.faults c.args.env.now.operator c.args.env.now.transformer in
+    let after : Counts = counts_of (g.S.Store.faults c.get-2.new.env.store.now) g.M.MergeOperator.faults g.T.BlockTransformer.faults c.get-2.new.env.operator c.get-2.new.env.transformer in
+    rw (p.1, p.2) (get-outer first after _ (c.in_err-row.ensures.whole m has-parts here.lawful here.kept here.tables.holds))

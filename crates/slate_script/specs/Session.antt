@@ -1,0 +1,126 @@
+-- What a session keeps, and which state of the model it stands for.
+--     SessionModel      the core, the open names with their ids, and the moment
+--     tx_of e name      the transaction that a name stands for
+--     AreNames names txns      each name stands for an open transaction, and no two for the same
+--     StandsFor e s      the session answers as the model does in the state s
+--     IsStep e stepped a      an answer is the model's, and so is what the session becomes
+--     AnswersAs m before after line result      so is the answer to the line, for what the parts mean
+--     HasTables objects es      the store holds the journal's tables, and no two lie at one path
+--     IsTableUpTo m layout n o      an object is a table that a flush put, and there were no more flushes than these
+--     HasTablesAlone m layout objects ts      the store holds nothing but these tables, and for each key its rows by sequence are theirs
+--     IsSettled m objects e      the parts are lawful, what is kept of the rows holds, and so does this
+--     IsRunning m r parts objects e      the same for rules of a run, whose parts mean what they did
+--     IsLimit e, IsRefusal e      a limit was reached; a write is answered so
+--     has_moment line      a line that sets the moment sets one
+--     StoresNothing old new      what a line keeps that stores nothing
+use Rattle.std.specs.Prelude.{◌≡◌, ℕ, Bool, true, ◌≤◌, List, [], length, Option, Some, None, Result, IfOk, IsSome, ℤ}
+use Rattle.std.specs.List.{AllByRecursion}
+use Rattle.slate_types.specs.declared.error.SlateDBError.{SlateDBError}
+use Rattle.slate_types.specs.declared.error.SlateDBError.TheVariants.{EmptyKey, KeyTooLong, ValueTooLong, SequenceExhausted, LimitReached}
+use Rattle.slate_types.specs.declared.types.Ulid.{Ulid}
+use Rattle.slate_types.specs.Outside.{Objects}
+use Rattle.slate_table.specs.Stored.{HoldRows, by_seq}
+use Rattle.slate_txn.specs.declared.event.Event.{Event}
+use Rattle.slate_txn.specs.declared.line.Line.{Line}
+use Rattle.slate_txn.specs.declared.line.Line.TheVariants as lines
+use Rattle.slate_txn.specs.Named.{find_named, StandOnce}
+use Rattle.slate_txn.specs.Reply.{Reply}
+use Rattle.slate_txn.specs.State.{Rules, Tx, State}
+use Rattle.slate_txn.specs.Step.{step}
+use Rattle.slate_db.specs.Flushed.{Layout}
+use Rattle.slate_db.specs.Installs.{HoldsTables, NumberedFrom, tables_of}
+use Rattle.slate_db.specs.Meaning.{Meaning, IsLawfulMeaning, rules_of}
+use Rattle.slate_db.specs.Model.{CoreModel, Rows, of_key, versions_in}
+use Rattle.slate_db.specs.Sound.{IsKept, AreTables}
+use Rattle.slate_db.specs.Whole.{AreRising}
+use Rattle.slate_script.specs.declared.reply.Answer.{Answer}
+use Rattle.slate_script.specs.Answers.{reply_of}
+use Rattle.slate_script.specs.Grammar.{is_moment}
+use Rattle.slate_script.specs.StoredState.{IsTableObject}
+
+-- names: rising, each with the id that the core gave
+pub record SessionModel : Type 0 where
+  pub core : CoreModel
+  pub names : List (List ℕ × List ℕ)
+  pub now : ℤ
+
+abbrev pub tx_under : List (List ℕ × Tx) → Option (List ℕ) → Option Tx
+tx_under txns None = None
+tx_under txns (Some id) = find_named id txns
+
+abbrev pub tx_of : SessionModel → List ℕ → Option Tx
+tx_of e name = tx_under e.core.state.txns (find_named name e.names)
+
+pub record AreNames (names : List (List ℕ × List ℕ)) (txns : List (List ℕ × Tx)) : Type 0 where
+  pub opened : (name id : List ℕ) → find_named name names ≡ Some id → IsSome (find_named id txns)
+  pub apart : (name other id : List ℕ) → find_named name names ≡ Some id → find_named other names ≡ Some id → name ≡ other
+  pub once : StandOnce txns
+
+pub record StandsFor (e : SessionModel) (s : State) : Type 0 where
+  pub commits : s.commits ≡ e.core.state.commits
+  pub txns : (name : List ℕ) → find_named name s.txns ≡ tx_of e name
+  pub once : StandOnce s.txns
+  pub snapshots : s.snapshots ≡ []
+  pub moment : s.now ≡ e.now
+  pub flushed : s.flushed ≡ e.core.state.flushed
+
+abbrev pub IsStep : SessionModel → State × Reply → Answer → Type 0
+IsStep e stepped a = StandsFor e stepped.0 × (reply_of a ≡ stepped.1)
+
+abbrev pub AnswersAs : Meaning → SessionModel → SessionModel → Line → Result Answer SlateDBError → Type 0
+AnswersAs m before after line result = (s : State) → StandsFor before s → IfOk result (IsStep after (step (rules_of before.core.settings m) s line))
+
+-- objects: what the store tells; flushes are numbered, each with one table
+pub record HasTables (objects : Option Objects) (es : List Event) : Type 0 where
+  pub holds : HoldsTables objects es
+  pub numbered : NumberedFrom 1 (tables_of es)
+  pub few : length (tables_of es) ≤ length es
+
+abbrev pub IsTableUpTo : Meaning → Layout → ℕ → List ℕ × List ℕ → Type 0
+IsTableUpTo m layout n o = (t : IsTableObject m layout o) × (t.number ≤ n)
+
+-- The objects stand by their paths and not by their age, so the rows of a key are those of the tables where these rise.
+pub record HasTablesAlone (m : Meaning) (layout : Layout) (objects : Option Objects) (ts : List (Ulid × List ℕ)) : Type 0 where
+  pub os : Objects
+  pub told : objects ≡ Some os
+  pub each : AllByRecursion (IsTableUpTo m layout (length ts)) os
+  pub layers : List Rows
+  pub tables : AreTables m ts layers
+  pub rows : Rows
+  pub held : HoldRows m.encode os rows
+  pub sorted : (k : List ℕ) → AreRising (versions_in k layers) → by_seq (of_key k rows) ≡ versions_in k layers
+
+pub record IsSettled (m : Meaning) (objects : Option Objects) (e : SessionModel) : Type 0 where
+  pub lawful : IsLawfulMeaning m
+  pub kept : IsKept m e.core
+  pub tables : HasTables objects e.core.events
+
+-- a limit was reached
+abbrev pub IsLimit : SlateDBError → Type 0
+IsLimit e = (n : ℕ) × (e ≡ LimitReached n)
+
+-- a write is answered this refusal
+abbrev pub IsRefusal : SlateDBError → Type 0
+IsRefusal EmptyKey = Unit {0}
+IsRefusal (KeyTooLong n) = Unit {0}
+IsRefusal (ValueTooLong n) = Unit {0}
+IsRefusal SequenceExhausted = Unit {0}
+IsRefusal _ = ⊥
+
+-- what a line that stores nothing keeps
+pub record StoresNothing (old new : SessionModel) : Type 0 where
+  pub settings : new.core.settings ≡ old.core.settings
+  pub tables : tables_of new.core.events ≡ tables_of old.core.events
+  pub later : length old.core.events ≤ length new.core.events
+  pub kept : (m : Meaning) → IsKept m old.core → IsKept m new.core
+
+-- parts: what the parts mean that are handed in
+pub record IsRunning (m : Meaning) (r : Rules) (parts : Meaning) (objects : Option Objects) (e : SessionModel) : Type 0 where
+  pub meaning : parts ≡ m
+  pub rules : rules_of e.core.settings m ≡ r
+  pub settled : IsSettled m objects e
+
+-- the moment of a line that sets it is one
+abbrev pub has_moment : Line → Bool
+has_moment (lines.Now m) = is_moment m
+has_moment _ = true

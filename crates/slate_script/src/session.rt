@@ -1,0 +1,283 @@
+//! The core, the open names with their ids, and the moment.
+ghost use Rattle.std.specs.Prelude.{◌≡◌, ◌⊎◌, ◌∷◌, ◌++◌, [], map, Some, Ok, IfOk, IfErr, OnOk, IsTrue, IsOkUnless, length, drop, false};
+ghost use Rattle.slate_types.specs.Config.{IsValid};
+ghost use Rattle.slate_types.specs.Outside.{IsLater, IsOuter};
+ghost use Rattle.slate_mem.specs.Batch.{Ops};
+ghost use Rattle.slate_mem.specs.BatchModel.{IsBatchOf};
+ghost use Rattle.slate_mem.specs.Refusals.{first_refusal, op_refusal};
+ghost use Rattle.slate_txn.specs.Named.{find_named};
+ghost use Rattle.slate_txn.specs.Reply.{Refused};
+ghost use Rattle.slate_txn.specs.Settings.{settings_of};
+ghost use Rattle.slate_txn.specs.State.{opening};
+ghost use Rattle.slate_db.specs.Flushed.{layout_of};
+ghost use Rattle.slate_db.specs.Installs.{tables_of};
+ghost use Rattle.slate_db.specs.Meaning.{Meaning, IsLawfulMeaning};
+ghost use Rattle.slate_db.specs.Parts.{meaning_of, counts_of, IsDamage};
+ghost use Rattle.slate_db.specs.Sound.{IsKept};
+ghost use Rattle.slate_db.specs.StoredState.{StoresState};
+ghost use Rattle.slate_db.specs.Whole.{AreFine};
+ghost use Rattle.slate_script.specs.Answers.{reply_of};
+ghost use Rattle.slate_script.specs.Session.{StandsFor, AnswersAs, HasTablesAlone, IsSettled, IsLimit, IsRefusal, StoresNothing, has_moment};
+ghost use Rattle.slate_script.specs.Stage.{is_built, is_built_op, is_built_batch};
+
+use crate::reply::{Answer, Refusal};
+use bytes::Bytes;
+use slate_db::engine::Core;
+use slate_mem::{WriteBatch, WriteOp};
+use slate_store::{Env, Store};
+use slate_txn::line::Line;
+use slate_txn::list::OpList;
+use slate_types::{
+    BlockTransformer, IsolationLevel, MergeOperator, Options, ReadOptions, SlateDBError,
+};
+use std::alloc::Global;
+use std::collections::BTreeMap;
+use std::marker::Model;
+use uuid::Uuid;
+
+/// Answers lines over a core. It keeps the names that are open, and the moment, which is 0 at first.
+#[derive(Drop)]
+pub struct Session {
+    alloc: Global,
+    core: Core,
+    names: BTreeMap<Bytes, Uuid>,
+    now: i64,
+}
+
+impl Model for Session {
+    ghost use Rattle.std.specs.Prelude.{IsTrue};
+    ghost use Rattle.slate_script.specs.Grammar.{is_moment};
+    ghost use Rattle.slate_script.specs.Session.{SessionModel, AreNames};
+
+    ghost Value = { SessionModel };
+
+    ghost view = { λ s. record { core = s.core; names = s.names.entries; now = s.now } };
+
+    ghost invariant = { λ s. AreNames s.names.entries s.core.state.txns × IsTrue (is_moment s.now) };
+}
+
+impl Session {
+    /// Nothing is committed, and no name is open. Takes no memory.
+    pub fn new(alloc: Global, options: &Options) -> Session
+        requires { IsValid options.now }
+        ensures opens { StandsFor result opening }
+        ensures settings { result.core.settings ≡ settings_of options.now }
+        ensures events { result.core.events ≡ [] }
+        ensures kept { (m : Meaning) → IsKept m result.core }
+    {
+        Session {
+            alloc,
+            core: Core::new(alloc, options),
+            names: BTreeMap::new(alloc),
+            now: 0,
+        }
+    }
+
+    /// The answer to a line. Where the parts are lawful, what is kept of the rows holds and the store has the journal's
+    /// tables, it is that of the model's step, and no damage is answered. A part's fault is answered only where its
+    /// count rose in this call, and `LimitReached` may come from any line.
+    pub fn answer<S: Store, M: MergeOperator, T: BlockTransformer>(
+        &mut self,
+        line: Line,
+        env: &mut Env<'_, S, M, T>,
+        options: &Options,
+    ) -> Result<Answer, SlateDBError>
+        requires built { IsTrue (is_built line) }
+        requires moment { IsTrue (has_moment line) }
+        requires valid { IsValid options.now }
+        ensures step { IsSettled (meaning_of M.combine T.encoded T.decoded env.old.operator env.old.transformer) (S.objects env.old.store.now) self.old →
+            AnswersAs (meaning_of M.combine T.encoded T.decoded env.old.operator env.old.transformer) self.old self.new line result }
+        ensures settings { OnOk result (self.new.core.settings ≡ self.old.core.settings) }
+        ensures kept { IsSettled (meaning_of M.combine T.encoded T.decoded env.old.operator env.old.transformer) (S.objects env.old.store.now) self.old →
+            OnOk result (IsSettled (meaning_of M.combine T.encoded T.decoded env.old.operator env.old.transformer) (S.objects env.new.store.now) self.new) }
+        ensures alone { IsSettled (meaning_of M.combine T.encoded T.decoded env.old.operator env.old.transformer) (S.objects env.old.store.now) self.old → HasTablesAlone (meaning_of M.combine T.encoded T.decoded env.old.operator env.old.transformer) (layout_of options.now) (S.objects env.old.store.now) (tables_of self.old.core.events) →
+            OnOk result (HasTablesAlone (meaning_of M.combine T.encoded T.decoded env.old.operator env.old.transformer) (layout_of options.now) (S.objects env.new.store.now) (tables_of self.new.core.events)) }
+        ensures cause { IfErr result (λ e. IsOuter (counts_of (S.faults env.old.store.now) M.faults T.faults env.old.operator env.old.transformer) (counts_of (S.faults env.new.store.now) M.faults T.faults env.new.operator env.new.transformer) e ⊎ IsLimit e ⊎ IsDamage e) }
+        ensures undamaged { IsSettled (meaning_of M.combine T.encoded T.decoded env.old.operator env.old.transformer) (S.objects env.old.store.now) self.old →
+            IfErr result (λ e. IsOuter (counts_of (S.faults env.old.store.now) M.faults T.faults env.old.operator env.old.transformer) (counts_of (S.faults env.new.store.now) M.faults T.faults env.new.operator env.new.transformer) e ⊎ IsLimit e) }
+        ensures meaning { meaning_of M.combine T.encoded T.decoded env.new.operator env.new.transformer ≡ meaning_of M.combine T.encoded T.decoded env.old.operator env.old.transformer }
+        ensures same_store { env.new.store.ghost_name ≡ env.old.store.ghost_name }
+        ensures later { IsLater (counts_of (S.faults env.old.store.now) M.faults T.faults env.old.operator env.old.transformer) (counts_of (S.faults env.new.store.now) M.faults T.faults env.new.operator env.new.transformer) }
+    {
+        match line {
+            Line::Now { moment } => {
+                self.now = moment;
+                Ok(Answer::NowIs(moment))
+            }
+            Line::Begin { name, level } => self.begin(name, level),
+            Line::Get { name, key } => self.get(name, key, env),
+            Line::Rollback { name } => Ok(self.rollback(name)),
+            Line::Write { ops } => self.write(ops),
+            Line::Freeze => self.freeze(),
+            Line::Flush => self.flush(env, options),
+            _ => unreachable!(),
+        }
+    }
+
+    /// Ends the session. For lawful parts for which what is kept of the rows holds, the rows of the tables that the
+    /// journal names are the state at the last flush.
+    pub fn close(self)
+        ensures stores { (m : Meaning) → IsLawfulMeaning m → IsKept m self.core → StoresState m self.core }
+    {
+        self.core.journal();
+    }
+
+    /// Opens the name at the last commit.
+    fn begin(&mut self, name: Bytes, level: IsolationLevel) -> Result<Answer, SlateDBError>
+        ensures step { (m : Meaning) → AnswersAs m self.old self.new (Line.Begin name level) result }
+        ensures stores { OnOk result (StoresNothing self.old self.new) }
+        ensures cause { IfErr result (λ e. (e ≡ SlateDBError.OutOfMemory) ⊎ IsLimit e) }
+    {
+        if self.names.contains_key(&name) {
+            return Ok(Answer::Refused(Refusal::DuplicateTransaction { name }));
+        }
+        let key = name.clone()?;
+        let (id, start) = self.core.begin(level)?;
+        self.names.insert(key, id)?;
+        Ok(Answer::Begun { name, start })
+    }
+
+    /// The row of the key in the state at the name's begin.
+    fn get<S: Store, M: MergeOperator, T: BlockTransformer>(
+        &mut self,
+        name: Bytes,
+        key: Bytes,
+        env: &mut Env<'_, S, M, T>,
+    ) -> Result<Answer, SlateDBError>
+        ensures step { IsSettled (meaning_of M.combine T.encoded T.decoded env.old.operator env.old.transformer) (S.objects env.old.store.now) self.old →
+            AnswersAs (meaning_of M.combine T.encoded T.decoded env.old.operator env.old.transformer) self.old self.new (Line.Get name key) result }
+        ensures stores { OnOk result (StoresNothing self.old self.new) }
+        ensures objects { S.objects env.new.store.now ≡ S.objects env.old.store.now }
+        ensures cause { IfErr result (λ e. IsOuter (counts_of (S.faults env.old.store.now) M.faults T.faults env.old.operator env.old.transformer) (counts_of (S.faults env.new.store.now) M.faults T.faults env.new.operator env.new.transformer) e ⊎ IsDamage e) }
+        ensures undamaged { IsSettled (meaning_of M.combine T.encoded T.decoded env.old.operator env.old.transformer) (S.objects env.old.store.now) self.old →
+            IfErr result (λ e. IsOuter (counts_of (S.faults env.old.store.now) M.faults T.faults env.old.operator env.old.transformer) (counts_of (S.faults env.new.store.now) M.faults T.faults env.new.operator env.new.transformer) e) }
+        ensures meaning { meaning_of M.combine T.encoded T.decoded env.new.operator env.new.transformer ≡ meaning_of M.combine T.encoded T.decoded env.old.operator env.old.transformer }
+        ensures same_store { env.new.store.ghost_name ≡ env.old.store.ghost_name }
+        ensures later { IsLater (counts_of (S.faults env.old.store.now) M.faults T.faults env.old.operator env.old.transformer) (counts_of (S.faults env.new.store.now) M.faults T.faults env.new.operator env.new.transformer) }
+    {
+        let Some(id) = self.names.get(&name) else {
+            return Ok(Answer::Refused(Refusal::UnknownTransaction { name }));
+        };
+        let id = *id;
+        let options = ReadOptions {
+            filter_context: None,
+        };
+        let row = self.core.get(&id, key.as_slice(), &options, env)?;
+        Ok(Answer::Found(row))
+    }
+
+    /// Closes the name.
+    fn rollback(&mut self, name: Bytes) -> Answer
+        ensures step { (m : Meaning) → AnswersAs m self.old self.new (Line.Rollback name) (Ok result) }
+        ensures stores { StoresNothing self.old self.new }
+    {
+        let Some(id) = self.names.remove(&name) else {
+            return Answer::Refused(Refusal::UnknownTransaction { name });
+        };
+        self.core.rollback(&id);
+        Answer::Done
+    }
+
+    /// Commits the operations as one batch, at the moment.
+    fn write(&mut self, ops: OpList) -> Result<Answer, SlateDBError>
+        requires { IsTrue (is_built_batch ops) }
+        ensures step { (m : Meaning) → AnswersAs m self.old self.new (Line.Write ops) result }
+        ensures stores { OnOk result (StoresNothing self.old self.new) }
+        ensures cause { IfErr result (λ e. (e ≡ SlateDBError.OutOfMemory) ⊎ IsLimit e) }
+    {
+        match batch_of(self.alloc, ops) {
+            Ok(batch) => self.commit(batch),
+            Err(error) => refused(error),
+        }
+    }
+
+    /// Commits the batch at the moment.
+    fn commit(&mut self, batch: WriteBatch) -> Result<Answer, SlateDBError>
+        requires { batch.held_merge ≡ false }
+        ensures step { (m : Meaning) (ops : Ops) → IsBatchOf ops batch → AreFine ops → AnswersAs m self.old self.new (Line.Write ops) result }
+        ensures stores { OnOk result (StoresNothing self.old self.new) }
+        ensures cause { IfErr result (λ e. (e ≡ SlateDBError.OutOfMemory) ⊎ IsLimit e) }
+    {
+        match self.core.write(batch, self.now) {
+            Ok(seq) => Ok(Answer::Written(seq)),
+            Err(error) => refused(error),
+        }
+    }
+
+    /// Moves the rows in memory aside for a flush.
+    fn freeze(&mut self) -> Result<Answer, SlateDBError>
+        ensures step { (m : Meaning) → AnswersAs m self.old self.new Line.Freeze result }
+        ensures stores { OnOk result (StoresNothing self.old self.new) }
+        ensures cause { IfErr result (λ e. (e ≡ SlateDBError.OutOfMemory) ⊎ IsLimit e) }
+    {
+        let seq = self.core.freeze()?;
+        Ok(Answer::Frozen(seq))
+    }
+
+    /// Stores the rows in memory as a table.
+    fn flush<S: Store, M: MergeOperator, T: BlockTransformer>(
+        &mut self,
+        env: &mut Env<'_, S, M, T>,
+        options: &Options,
+    ) -> Result<Answer, SlateDBError>
+        requires valid { IsValid options.now }
+        ensures step { (m : Meaning) → AnswersAs m self.old self.new Line.Flush result }
+        ensures settings { OnOk result (self.new.core.settings ≡ self.old.core.settings) }
+        ensures kept { IsSettled (meaning_of M.combine T.encoded T.decoded env.old.operator env.old.transformer) (S.objects env.old.store.now) self.old →
+            OnOk result (IsSettled (meaning_of M.combine T.encoded T.decoded env.old.operator env.old.transformer) (S.objects env.new.store.now) self.new) }
+        ensures alone { IsSettled (meaning_of M.combine T.encoded T.decoded env.old.operator env.old.transformer) (S.objects env.old.store.now) self.old → HasTablesAlone (meaning_of M.combine T.encoded T.decoded env.old.operator env.old.transformer) (layout_of options.now) (S.objects env.old.store.now) (tables_of self.old.core.events) →
+            OnOk result (HasTablesAlone (meaning_of M.combine T.encoded T.decoded env.old.operator env.old.transformer) (layout_of options.now) (S.objects env.new.store.now) (tables_of self.new.core.events)) }
+        ensures cause { IfErr result (λ e. IsOuter (counts_of (S.faults env.old.store.now) M.faults T.faults env.old.operator env.old.transformer) (counts_of (S.faults env.new.store.now) M.faults T.faults env.new.operator env.new.transformer) e ⊎ IsLimit e) }
+        ensures meaning { meaning_of M.combine T.encoded T.decoded env.new.operator env.new.transformer ≡ meaning_of M.combine T.encoded T.decoded env.old.operator env.old.transformer }
+        ensures same_store { env.new.store.ghost_name ≡ env.old.store.ghost_name }
+        ensures later { IsLater (counts_of (S.faults env.old.store.now) M.faults T.faults env.old.operator env.old.transformer) (counts_of (S.faults env.new.store.now) M.faults T.faults env.new.operator env.new.transformer) }
+    {
+        let seq = self.core.flush(env, options)?;
+        Ok(Answer::Flushed(seq))
+    }
+}
+
+/// The batch of the operations, none of which is a merge. Refuses as the first operation does that is refused, and by
+/// `OutOfMemory`.
+fn batch_of(alloc: Global, ops: OpList) -> Result<WriteBatch, SlateDBError>
+    requires { IsTrue (is_built_batch ops) }
+    ensures batch { IfOk result (λ batch. IsBatchOf ops batch) }
+    ensures plain { IfOk result (λ batch. batch.held_merge ≡ false) }
+    ensures fine { OnOk result (AreFine ops) }
+    ensures refused { IfErr result (λ e. (e ≡ SlateDBError.OutOfMemory) ⊎ (first_refusal (map (λ o. op_refusal o.0 o.1) ops) ≡ Some e)) }
+{
+    let mut batch = WriteBatch::new(alloc);
+    for (key, op) in ops.into_vec() {
+        add(&mut batch, key, op)?;
+    }
+    Ok(batch)
+}
+
+/// Adds an operation, which is no merge, to a batch.
+fn add(batch: &mut WriteBatch, key: Bytes, op: WriteOp) -> Result<(), SlateDBError>
+    requires { IsTrue (is_built_op op) }
+    ensures refused { IfErr result (λ e. (e ≡ SlateDBError.OutOfMemory) ⊎ (op_refusal key op ≡ Some e)) }
+    ensures fine { OnOk result (op_refusal key op ≡ None) }
+    ensures means { (ops : Ops) → IsBatchOf ops batch.old → OnOk result (IsBatchOf (ops ++ ((key, op) ∷ [])) batch.new) }
+{
+    match op {
+        WriteOp::Put(value, options) => batch.put_bytes_with_options(key, value, &options),
+        WriteOp::Delete => batch.delete(key.as_slice()),
+        WriteOp::Merge(..) => unreachable!(),
+    }
+}
+
+/// The answer to a line that is refused by the error, and the error itself where no line is refused by it.
+fn refused(error: SlateDBError) -> Result<Answer, SlateDBError>
+    ensures reply { IfOk result (λ a. reply_of a ≡ Refused error) }
+    ensures answered { OnOk result (IsRefusal error) }
+    ensures other { IfErr result (λ e. (e ≡ error) × (IsRefusal error → ⊥)) }
+{
+    match error {
+        SlateDBError::EmptyKey => Ok(Answer::Refused(Refusal::EmptyKey)),
+        SlateDBError::KeyTooLong { len } => Ok(Answer::Refused(Refusal::KeyTooLong { len })),
+        SlateDBError::ValueTooLong { len } => Ok(Answer::Refused(Refusal::ValueTooLong { len })),
+        SlateDBError::SequenceExhausted => Ok(Answer::Refused(Refusal::SequenceExhausted)),
+        other => Err(other),
+    }
+}
