@@ -1,40 +1,21 @@
-//! The work of `slate_bench` in plain Rust, for comparison: the same rows and the same bytes, by the standard library alone.
+//! The work of `slate_bench` and of `slate` in plain Rust, for comparison: the same bytes, by the standard library alone.
 //!
 //! With no word it prints what was done, and with the word `time` how long it took too. Lines and figures are those of
-//! `slate_bench`.
+//! `slate_bench`. Three more words are there for scripts: `make NAME` prints one of them, `run -` and `run FOLDER` answer one
+//! as `slate` does, and `measure FILE PROGRAM WORDS..` runs a program and appends to the file what it took.
 
+use block::{Builder, Row, Sums, Version, decode_block, walk_v1, walk_v2};
+use script::Store;
+use std::collections::BTreeMap;
 use std::env;
+use std::io;
 use std::process::exit;
 use std::time::Instant;
+use table::{CrcTables, build_table, open_section, places_of, read_index};
 
 const ROWS: u64 = 200_000;
-const BLOCK_SIZE: usize = 4096;
+const TABLE_ROWS: usize = 100_000;
 const VALUE_LEN: usize = 100;
-const RESTART_INTERVAL: usize = 16;
-
-/// A put, as it is given to a builder.
-struct Row {
-    key: Vec<u8>,
-    value: Vec<u8>,
-    seq: u64,
-    create_ts: i64,
-}
-
-/// A row as it is read: the key put together, the value where it stands.
-struct ReadRow<'a> {
-    key: Vec<u8>,
-    value: &'a [u8],
-    seq: u64,
-    create_ts: Option<i64>,
-    expire_ts: Option<i64>,
-    flags: u8,
-}
-
-#[derive(Clone, Copy, PartialEq)]
-enum Version {
-    V1,
-    V2,
-}
 
 fn make_rows() -> Vec<Row> {
     (0..ROWS)
@@ -45,122 +26,6 @@ fn make_rows() -> Vec<Row> {
             create_ts: i as i64,
         })
         .collect()
-}
-
-fn compute_prefix(a: &[u8], b: &[u8]) -> usize {
-    a.iter().zip(b).take_while(|(x, y)| x == y).count()
-}
-
-fn varint_len(value: u32) -> usize {
-    ((32 - value.leading_zeros()).max(1) as usize).div_ceil(7)
-}
-
-fn append_varint(out: &mut Vec<u8>, mut value: u32) {
-    while value >= 128 {
-        out.push(value as u8 | 128);
-        value >>= 7;
-    }
-    out.push(value as u8);
-}
-
-struct Builder {
-    version: Version,
-    body: Vec<u8>,
-    offsets: Vec<u16>,
-    rows: usize,
-    other: Vec<u8>,
-}
-
-impl Builder {
-    fn new(version: Version) -> Builder {
-        Builder { version, body: Vec::new(), offsets: Vec::new(), rows: 0, other: Vec::new() }
-    }
-
-    fn is_restart(&self) -> bool {
-        self.rows % RESTART_INTERVAL == 0
-    }
-
-    fn shared(&self, key: &[u8]) -> usize {
-        match self.version {
-            Version::V1 => compute_prefix(&self.other, key),
-            Version::V2 if self.is_restart() => 0,
-            Version::V2 => compute_prefix(&self.other, key),
-        }
-    }
-
-    fn row_len(&self, row: &Row, shared: usize) -> usize {
-        let suffix = row.key.len() - shared;
-        match self.version {
-            Version::V1 => 2 + 2 + suffix + 8 + 1 + 8 + 4 + row.value.len(),
-            Version::V2 => {
-                let lengths = varint_len(shared as u32) + varint_len(suffix as u32) + varint_len(row.value.len() as u32);
-                lengths + suffix + row.value.len() + 8 + 1 + 8
-            }
-        }
-    }
-
-    fn fits(&self, row: &Row, shared: usize) -> bool {
-        let own_offset = if self.version == Version::V2 && self.is_restart() { 2 } else { 0 };
-        let len = 2 + 2 * self.offsets.len() + self.body.len() + self.row_len(row, shared) + own_offset;
-        self.rows == 0 || len <= BLOCK_SIZE
-    }
-
-    fn add(&mut self, row: &Row) -> bool {
-        let shared = self.shared(&row.key);
-        if !self.fits(row, shared) {
-            return false;
-        }
-        match self.version {
-            Version::V1 => self.add_v1(row, shared),
-            Version::V2 => self.add_v2(row, shared),
-        }
-        self.rows += 1;
-        true
-    }
-
-    fn add_v1(&mut self, row: &Row, shared: usize) {
-        self.offsets.push(self.body.len() as u16);
-        let suffix = &row.key[shared..];
-        self.body.extend_from_slice(&(shared as u16).to_be_bytes());
-        self.body.extend_from_slice(&(suffix.len() as u16).to_be_bytes());
-        self.body.extend_from_slice(suffix);
-        self.add_meta(row);
-        self.body.extend_from_slice(&(row.value.len() as u32).to_be_bytes());
-        self.body.extend_from_slice(&row.value);
-        if self.rows == 0 {
-            self.other = row.key.clone();
-        }
-    }
-
-    fn add_v2(&mut self, row: &Row, shared: usize) {
-        if self.is_restart() {
-            self.offsets.push(self.body.len() as u16);
-        }
-        let suffix = &row.key[shared..];
-        append_varint(&mut self.body, shared as u32);
-        append_varint(&mut self.body, suffix.len() as u32);
-        append_varint(&mut self.body, row.value.len() as u32);
-        self.body.extend_from_slice(suffix);
-        self.body.extend_from_slice(&row.value);
-        self.add_meta(row);
-        self.other.clear();
-        self.other.extend_from_slice(&row.key);
-    }
-
-    fn add_meta(&mut self, row: &Row) {
-        self.body.extend_from_slice(&row.seq.to_be_bytes());
-        self.body.push(4);
-        self.body.extend_from_slice(&row.create_ts.to_be_bytes());
-    }
-
-    fn encode(self) -> Vec<u8> {
-        let mut bytes = self.body;
-        for offset in &self.offsets {
-            bytes.extend_from_slice(&offset.to_be_bytes());
-        }
-        bytes.extend_from_slice(&(self.offsets.len() as u16).to_be_bytes());
-        bytes
-    }
 }
 
 fn encode_blocks(rows: &[Row], version: Version) -> Vec<Vec<u8>> {
@@ -177,174 +42,6 @@ fn encode_blocks(rows: &[Row], version: Version) -> Vec<Vec<u8>> {
     blocks
 }
 
-/// Bytes that are taken off the front; `None` where they end too early.
-struct Input<'a> {
-    bytes: &'a [u8],
-    at: usize,
-}
-
-impl<'a> Input<'a> {
-    fn take(&mut self, len: usize) -> Option<&'a [u8]> {
-        let end = self.at.checked_add(len)?;
-        let taken = self.bytes.get(self.at..end)?;
-        self.at = end;
-        Some(taken)
-    }
-
-    fn u8(&mut self) -> Option<u8> {
-        Some(self.take(1)?[0])
-    }
-
-    fn u16(&mut self) -> Option<u16> {
-        Some(u16::from_be_bytes(self.take(2)?.try_into().ok()?))
-    }
-
-    fn u32(&mut self) -> Option<u32> {
-        Some(u32::from_be_bytes(self.take(4)?.try_into().ok()?))
-    }
-
-    fn u64(&mut self) -> Option<u64> {
-        Some(u64::from_be_bytes(self.take(8)?.try_into().ok()?))
-    }
-
-    fn varint(&mut self) -> Option<u32> {
-        let mut value = 0u64;
-        for group in 0..5 {
-            let byte = self.u8()?;
-            value |= u64::from(byte & 127) << (7 * group);
-            if byte < 128 {
-                let shortest = byte != 0 || group == 0;
-                return u32::try_from(value).ok().filter(|_| shortest);
-            }
-        }
-        None
-    }
-
-    fn stamp(&mut self, is_there: bool) -> Option<Option<i64>> {
-        if is_there { Some(Some(self.u64()? as i64)) } else { Some(None) }
-    }
-}
-
-/// The front of another key, and the suffix.
-fn whole_key(other: &[u8], shared: usize, suffix: &[u8]) -> Option<Vec<u8>> {
-    let front = other.get(..shared)?;
-    let len = front.len() + suffix.len();
-    if len == 0 || len > 65535 {
-        return None;
-    }
-    let mut key = Vec::with_capacity(len);
-    key.extend_from_slice(front);
-    key.extend_from_slice(suffix);
-    Some(key)
-}
-
-fn are_flags(flags: u8) -> bool {
-    flags < 16 && flags & 9 != 9
-}
-
-fn read_v1<'a>(input: &mut Input<'a>, first: &[u8]) -> Option<ReadRow<'a>> {
-    let shared = input.u16()? as usize;
-    let suffix_len = input.u16()? as usize;
-    let suffix = input.take(suffix_len)?;
-    let seq = input.u64()?;
-    let flags = input.u8().filter(|flags| are_flags(*flags))?;
-    let expire_ts = input.stamp(flags & 2 != 0)?;
-    let create_ts = input.stamp(flags & 4 != 0)?;
-    let value = if flags & 1 == 0 {
-        let len = input.u32()? as usize;
-        input.take(len)?
-    } else {
-        &[]
-    };
-    let key = whole_key(first, shared, suffix)?;
-    Some(ReadRow { key, value, seq, create_ts, expire_ts, flags })
-}
-
-fn read_v2<'a>(input: &mut Input<'a>, previous: &[u8]) -> Option<ReadRow<'a>> {
-    let shared = input.varint()? as usize;
-    let suffix_len = input.varint()? as usize;
-    let value_len = input.varint()? as usize;
-    let suffix = input.take(suffix_len)?;
-    let value = input.take(value_len)?;
-    let seq = input.u64()?;
-    let flags = input.u8().filter(|flags| are_flags(*flags))?;
-    if flags & 1 != 0 && value_len > 0 {
-        return None;
-    }
-    let expire_ts = input.stamp(flags & 2 != 0)?;
-    let create_ts = input.stamp(flags & 4 != 0)?;
-    let key = whole_key(previous, shared, suffix)?;
-    Some(ReadRow { key, value, seq, create_ts, expire_ts, flags })
-}
-
-/// The rows' part and the offsets, which begin at 0, rise, and stand in the rows' part.
-fn decode_block(bytes: &[u8]) -> Option<(&[u8], Vec<u16>)> {
-    let count_at = bytes.len().checked_sub(2)?;
-    let count = u16::from_be_bytes(bytes[count_at..].try_into().ok()?) as usize;
-    let end = count_at.checked_sub(2 * count)?;
-    let offsets: Vec<u16> = bytes[end..count_at].chunks(2).map(|pair| u16::from_be_bytes([pair[0], pair[1]])).collect();
-    let rise = offsets.windows(2).all(|pair| pair[0] < pair[1]);
-    let within = offsets.last().is_some_and(|last| (*last as usize) < end);
-    (rise && within && offsets[0] == 0).then_some((&bytes[..end], offsets))
-}
-
-/// Sums of what was read, so that nothing is left out as unused.
-#[derive(Default)]
-struct Sums {
-    rows: u64,
-    key_bytes: u64,
-    value_bytes: u64,
-    seqs: u64,
-}
-
-impl Sums {
-    fn take(&mut self, row: &ReadRow) {
-        self.rows += 1;
-        self.key_bytes += row.key.len() as u64;
-        self.value_bytes += row.value.len() as u64;
-        self.seqs += row.seq;
-        std::hint::black_box((row.create_ts, row.expire_ts, row.flags));
-    }
-}
-
-fn walk_v1(body: &[u8], offsets: &[u16], sums: &mut Sums) -> Option<()> {
-    let mut first: Vec<u8> = Vec::new();
-    for (i, at) in offsets.iter().enumerate() {
-        let end = offsets.get(i + 1).map_or(body.len(), |next| *next as usize);
-        let mut input = Input { bytes: &body[..end], at: *at as usize };
-        let row = read_v1(&mut input, &first)?;
-        if input.at != end {
-            return None;
-        }
-        sums.take(&row);
-        if i == 0 {
-            first = row.key;
-        }
-    }
-    Some(())
-}
-
-fn walk_v2(body: &[u8], offsets: &[u16], sums: &mut Sums) -> Option<()> {
-    for (i, at) in offsets.iter().enumerate() {
-        let is_last = i + 1 == offsets.len();
-        let end = offsets.get(i + 1).map_or(body.len(), |next| *next as usize);
-        let mut input = Input { bytes: &body[..end], at: *at as usize };
-        let mut previous: Vec<u8> = Vec::new();
-        for n in 0..RESTART_INTERVAL {
-            if is_last && n > 0 && input.at == end {
-                break;
-            }
-            let row = read_v2(&mut input, &previous)?;
-            sums.take(&row);
-            previous = row.key;
-        }
-        if input.at != end {
-            return None;
-        }
-    }
-    Some(())
-}
-
 fn decode_blocks(blocks: &[Vec<u8>], version: Version) -> Option<Sums> {
     let mut sums = Sums::default();
     for bytes in blocks {
@@ -355,6 +52,60 @@ fn decode_blocks(blocks: &[Vec<u8>], version: Version) -> Option<Sums> {
         }
     }
     Some(sums)
+}
+
+fn run_checksums(is_timed: bool) {
+    let crc = CrcTables::new();
+    let bytes: Vec<u8> = (0..4_194_304u32)
+        .map(|number| (number % 251) as u8)
+        .collect();
+    let start = Instant::now();
+    let sums: u64 = (0..64)
+        .map(|_| u64::from(crc.checksum(std::hint::black_box(&bytes))))
+        .sum();
+    report(
+        is_timed,
+        "checksum",
+        &format!("{} bytes, sums {sums}", 64 * bytes.len()),
+        start,
+    );
+}
+
+/// Reads all rows of a table whose index lies between `index_at` and `stats_at`.
+fn read_table(
+    crc: &CrcTables,
+    bytes: &[u8],
+    places: (usize, usize),
+    version: Version,
+) -> Option<Sums> {
+    let (index_at, stats_at) = places;
+    let (offsets, _separators) = read_index(open_section(crc, bytes.get(index_at..stats_at)?)?)?;
+    let mut sums = Sums::default();
+    for (i, at) in offsets.iter().enumerate() {
+        let end = offsets.get(i + 1).copied().unwrap_or(index_at);
+        let (body, block_offsets) = decode_block(open_section(crc, bytes.get(*at..end)?)?)?;
+        match version {
+            Version::V1 => walk_v1(body, &block_offsets, &mut sums)?,
+            Version::V2 => walk_v2(body, &block_offsets, &mut sums)?,
+        }
+    }
+    Some(sums)
+}
+
+fn run_tables(is_timed: bool, rows: &[Row], version: Version, name: &str) -> Option<()> {
+    let crc = CrcTables::new();
+    let mut store = BTreeMap::new();
+    let start = Instant::now();
+    let table = build_table(&crc, rows, version);
+    let done = format!("{} rows, {} bytes", rows.len(), table.len());
+    store.insert("db/compacted/1.sst", table.as_slice().to_vec());
+    report(is_timed, &format!("build table {name}"), &done, start);
+    let stored = store.get("db/compacted/1.sst")?;
+    let places = places_of(stored)?;
+    let start = Instant::now();
+    let sums = read_table(&crc, stored, places, version)?;
+    report(is_timed, &format!("read table {name}"), &sums.text(), start);
+    Some(())
 }
 
 /// Prints what was done, and with `time` how long it took.
@@ -370,25 +121,1089 @@ fn run_blocks(is_timed: bool, rows: &[Row], version: Version, name: &str) -> Opt
     let start = Instant::now();
     let blocks = encode_blocks(rows, version);
     let bytes: usize = blocks.iter().map(Vec::len).sum();
-    report(is_timed, &format!("encode {name}"), &format!("{} rows, {} blocks, {bytes} bytes", rows.len(), blocks.len()), start);
+    report(
+        is_timed,
+        &format!("encode {name}"),
+        &format!(
+            "{} rows, {} blocks, {bytes} bytes",
+            rows.len(),
+            blocks.len()
+        ),
+        start,
+    );
     let start = Instant::now();
     let sums = decode_blocks(&blocks, version)?;
-    let done = format!("{} rows, {} key bytes, {} value bytes, sequences {}", sums.rows, sums.key_bytes, sums.value_bytes, sums.seqs);
-    report(is_timed, &format!("decode {name}"), &done, start);
+    report(is_timed, &format!("decode {name}"), &sums.text(), start);
     Some(())
+}
+
+/// The work of `slate_bench`. `None` where a block or a table can't be read.
+fn run_parts(is_timed: bool) -> Option<()> {
+    let rows = make_rows();
+    let versions = [(Version::V1, "v1"), (Version::V2, "v2")];
+    for (version, name) in versions {
+        run_blocks(is_timed, &rows, version, name)?;
+    }
+    run_checksums(is_timed);
+    for (version, name) in versions {
+        run_tables(is_timed, &rows[..TABLE_ROWS], version, name)?;
+    }
+    Some(())
+}
+
+fn status_of(done: Option<()>) -> i32 {
+    if done.is_some() { 0 } else { 1 }
 }
 
 fn main() {
     let words: Vec<String> = env::args().skip(1).collect();
-    let is_timed = match words.as_slice() {
-        [] => false,
-        [word] if word == "time" => true,
-        _ => exit(2),
+    let words: Vec<&str> = words.iter().map(String::as_str).collect();
+    let status = match words.as_slice() {
+        [] => status_of(run_parts(false)),
+        ["time"] => status_of(run_parts(true)),
+        ["make", name] => status_of(scripts::make(name).map(|script| print!("{script}"))),
+        ["run", store] => script::run(Store::at(store), io::stdin(), io::stdout()),
+        ["measure", file, program, words @ ..] => measure::measure(file, program, words),
+        _ => 2,
     };
-    let rows = make_rows();
-    for (version, name) in [(Version::V1, "v1"), (Version::V2, "v2")] {
-        if run_blocks(is_timed, &rows, version, name).is_none() {
-            exit(1);
+    exit(status);
+}
+
+/// Rows and blocks: how they are written, and how they are read.
+mod block {
+    use std::cmp::Ordering;
+
+    const BLOCK_SIZE: usize = 4096;
+    const RESTART_INTERVAL: usize = 16;
+
+    /// A put, as it is given to a builder.
+    pub struct Row {
+        pub key: Vec<u8>,
+        pub value: Vec<u8>,
+        pub seq: u64,
+        pub create_ts: i64,
+    }
+
+    /// A row as it is read: the key put together, the value where it stands.
+    pub struct ReadRow<'a> {
+        pub key: Vec<u8>,
+        pub value: &'a [u8],
+        pub seq: u64,
+        pub create_ts: Option<i64>,
+        pub expire_ts: Option<i64>,
+        pub flags: u8,
+    }
+
+    #[derive(Clone, Copy, PartialEq)]
+    pub enum Version {
+        V1,
+        V2,
+    }
+
+    pub fn compute_prefix(a: &[u8], b: &[u8]) -> usize {
+        a.iter().zip(b).take_while(|(x, y)| x == y).count()
+    }
+
+    fn varint_len(value: u32) -> usize {
+        ((32 - value.leading_zeros()).max(1) as usize).div_ceil(7)
+    }
+
+    fn append_varint(out: &mut Vec<u8>, mut value: u32) {
+        while value >= 128 {
+            out.push(value as u8 | 128);
+            value >>= 7;
         }
+        out.push(value as u8);
+    }
+
+    pub struct Builder {
+        version: Version,
+        body: Vec<u8>,
+        offsets: Vec<u16>,
+        rows: usize,
+        other: Vec<u8>,
+    }
+
+    impl Builder {
+        pub fn new(version: Version) -> Builder {
+            Builder {
+                version,
+                body: Vec::new(),
+                offsets: Vec::new(),
+                rows: 0,
+                other: Vec::new(),
+            }
+        }
+
+        fn is_restart(&self) -> bool {
+            self.rows % RESTART_INTERVAL == 0
+        }
+
+        fn shared(&self, key: &[u8]) -> usize {
+            match self.version {
+                Version::V1 => compute_prefix(&self.other, key),
+                Version::V2 if self.is_restart() => 0,
+                Version::V2 => compute_prefix(&self.other, key),
+            }
+        }
+
+        fn row_len(&self, row: &Row, shared: usize) -> usize {
+            let suffix = row.key.len() - shared;
+            match self.version {
+                Version::V1 => 2 + 2 + suffix + 8 + 1 + 8 + 4 + row.value.len(),
+                Version::V2 => {
+                    let lengths = varint_len(shared as u32)
+                        + varint_len(suffix as u32)
+                        + varint_len(row.value.len() as u32);
+                    lengths + suffix + row.value.len() + 8 + 1 + 8
+                }
+            }
+        }
+
+        fn fits(&self, row: &Row, shared: usize) -> bool {
+            let own_offset = if self.version == Version::V2 && self.is_restart() {
+                2
+            } else {
+                0
+            };
+            let len = 2
+                + 2 * self.offsets.len()
+                + self.body.len()
+                + self.row_len(row, shared)
+                + own_offset;
+            self.rows == 0 || len <= BLOCK_SIZE
+        }
+
+        pub fn add(&mut self, row: &Row) -> bool {
+            let shared = self.shared(&row.key);
+            if !self.fits(row, shared) {
+                return false;
+            }
+            match self.version {
+                Version::V1 => self.add_v1(row, shared),
+                Version::V2 => self.add_v2(row, shared),
+            }
+            self.rows += 1;
+            true
+        }
+
+        fn add_v1(&mut self, row: &Row, shared: usize) {
+            self.offsets.push(self.body.len() as u16);
+            let suffix = &row.key[shared..];
+            self.body.extend_from_slice(&(shared as u16).to_be_bytes());
+            self.body
+                .extend_from_slice(&(suffix.len() as u16).to_be_bytes());
+            self.body.extend_from_slice(suffix);
+            self.add_meta(row);
+            self.body
+                .extend_from_slice(&(row.value.len() as u32).to_be_bytes());
+            self.body.extend_from_slice(&row.value);
+            if self.rows == 0 {
+                self.other = row.key.clone();
+            }
+        }
+
+        fn add_v2(&mut self, row: &Row, shared: usize) {
+            if self.is_restart() {
+                self.offsets.push(self.body.len() as u16);
+            }
+            let suffix = &row.key[shared..];
+            append_varint(&mut self.body, shared as u32);
+            append_varint(&mut self.body, suffix.len() as u32);
+            append_varint(&mut self.body, row.value.len() as u32);
+            self.body.extend_from_slice(suffix);
+            self.body.extend_from_slice(&row.value);
+            self.add_meta(row);
+            self.other.clear();
+            self.other.extend_from_slice(&row.key);
+        }
+
+        fn add_meta(&mut self, row: &Row) {
+            self.body.extend_from_slice(&row.seq.to_be_bytes());
+            self.body.push(4);
+            self.body.extend_from_slice(&row.create_ts.to_be_bytes());
+        }
+
+        pub fn encode(self) -> Vec<u8> {
+            let mut bytes = self.body;
+            for offset in &self.offsets {
+                bytes.extend_from_slice(&offset.to_be_bytes());
+            }
+            bytes.extend_from_slice(&(self.offsets.len() as u16).to_be_bytes());
+            bytes
+        }
+    }
+
+    /// Bytes that are taken off the front; `None` where they end too early.
+    pub struct Input<'a> {
+        pub bytes: &'a [u8],
+        pub at: usize,
+    }
+
+    impl<'a> Input<'a> {
+        pub fn take(&mut self, len: usize) -> Option<&'a [u8]> {
+            let end = self.at.checked_add(len)?;
+            let taken = self.bytes.get(self.at..end)?;
+            self.at = end;
+            Some(taken)
+        }
+
+        fn u8(&mut self) -> Option<u8> {
+            Some(self.take(1)?[0])
+        }
+
+        pub fn u16(&mut self) -> Option<u16> {
+            Some(u16::from_be_bytes(self.take(2)?.try_into().ok()?))
+        }
+
+        pub fn u32(&mut self) -> Option<u32> {
+            Some(u32::from_be_bytes(self.take(4)?.try_into().ok()?))
+        }
+
+        pub fn u64(&mut self) -> Option<u64> {
+            Some(u64::from_be_bytes(self.take(8)?.try_into().ok()?))
+        }
+
+        fn varint(&mut self) -> Option<u32> {
+            let mut value = 0u64;
+            for group in 0..5 {
+                let byte = self.u8()?;
+                value |= u64::from(byte & 127) << (7 * group);
+                if byte < 128 {
+                    let shortest = byte != 0 || group == 0;
+                    return u32::try_from(value).ok().filter(|_| shortest);
+                }
+            }
+            None
+        }
+
+        fn stamp(&mut self, is_there: bool) -> Option<Option<i64>> {
+            if is_there {
+                Some(Some(self.u64()? as i64))
+            } else {
+                Some(None)
+            }
+        }
+    }
+
+    /// The front of another key, and the suffix.
+    fn whole_key(other: &[u8], shared: usize, suffix: &[u8]) -> Option<Vec<u8>> {
+        let front = other.get(..shared)?;
+        let len = front.len() + suffix.len();
+        if len == 0 || len > 65535 {
+            return None;
+        }
+        let mut key = Vec::with_capacity(len);
+        key.extend_from_slice(front);
+        key.extend_from_slice(suffix);
+        Some(key)
+    }
+
+    fn are_flags(flags: u8) -> bool {
+        flags < 16 && flags & 9 != 9
+    }
+
+    fn read_v1<'a>(input: &mut Input<'a>, first: &[u8]) -> Option<ReadRow<'a>> {
+        let shared = input.u16()? as usize;
+        let suffix_len = input.u16()? as usize;
+        let suffix = input.take(suffix_len)?;
+        let seq = input.u64()?;
+        let flags = input.u8().filter(|flags| are_flags(*flags))?;
+        let expire_ts = input.stamp(flags & 2 != 0)?;
+        let create_ts = input.stamp(flags & 4 != 0)?;
+        let value = if flags & 1 == 0 {
+            let len = input.u32()? as usize;
+            input.take(len)?
+        } else {
+            &[]
+        };
+        let key = whole_key(first, shared, suffix)?;
+        Some(ReadRow {
+            key,
+            value,
+            seq,
+            create_ts,
+            expire_ts,
+            flags,
+        })
+    }
+
+    pub fn read_v2<'a>(input: &mut Input<'a>, previous: &[u8]) -> Option<ReadRow<'a>> {
+        let shared = input.varint()? as usize;
+        let suffix_len = input.varint()? as usize;
+        let value_len = input.varint()? as usize;
+        let suffix = input.take(suffix_len)?;
+        let value = input.take(value_len)?;
+        let seq = input.u64()?;
+        let flags = input.u8().filter(|flags| are_flags(*flags))?;
+        if flags & 1 != 0 && value_len > 0 {
+            return None;
+        }
+        let expire_ts = input.stamp(flags & 2 != 0)?;
+        let create_ts = input.stamp(flags & 4 != 0)?;
+        let key = whole_key(previous, shared, suffix)?;
+        Some(ReadRow {
+            key,
+            value,
+            seq,
+            create_ts,
+            expire_ts,
+            flags,
+        })
+    }
+
+    /// The rows' part and the offsets, which begin at 0, rise, and stand in the rows' part.
+    pub fn decode_block(bytes: &[u8]) -> Option<(&[u8], Vec<u16>)> {
+        let count_at = bytes.len().checked_sub(2)?;
+        let count = u16::from_be_bytes(bytes[count_at..].try_into().ok()?) as usize;
+        let end = count_at.checked_sub(2 * count)?;
+        let offsets: Vec<u16> = bytes[end..count_at]
+            .chunks(2)
+            .map(|pair| u16::from_be_bytes([pair[0], pair[1]]))
+            .collect();
+        let rise = offsets.windows(2).all(|pair| pair[0] < pair[1]);
+        let within = offsets.last().is_some_and(|last| (*last as usize) < end);
+        (rise && within && offsets[0] == 0).then_some((&bytes[..end], offsets))
+    }
+
+    /// Sums of what was read, so that nothing is left out as unused.
+    #[derive(Default)]
+    pub struct Sums {
+        rows: u64,
+        key_bytes: u64,
+        value_bytes: u64,
+        seqs: u64,
+    }
+
+    impl Sums {
+        fn take(&mut self, row: &ReadRow) {
+            self.rows += 1;
+            self.key_bytes += row.key.len() as u64;
+            self.value_bytes += row.value.len() as u64;
+            self.seqs += row.seq;
+            std::hint::black_box((row.create_ts, row.expire_ts, row.flags));
+        }
+
+        pub fn text(&self) -> String {
+            format!(
+                "{} rows, {} key bytes, {} value bytes, sequences {}",
+                self.rows, self.key_bytes, self.value_bytes, self.seqs
+            )
+        }
+    }
+
+    pub fn walk_v1(body: &[u8], offsets: &[u16], sums: &mut Sums) -> Option<()> {
+        let mut first: Vec<u8> = Vec::new();
+        for (i, at) in offsets.iter().enumerate() {
+            let end = offsets.get(i + 1).map_or(body.len(), |next| *next as usize);
+            let mut input = Input {
+                bytes: &body[..end],
+                at: *at as usize,
+            };
+            let row = read_v1(&mut input, &first)?;
+            if input.at != end {
+                return None;
+            }
+            sums.take(&row);
+            if i == 0 {
+                first = row.key;
+            }
+        }
+        Some(())
+    }
+
+    pub fn walk_v2(body: &[u8], offsets: &[u16], sums: &mut Sums) -> Option<()> {
+        for (i, at) in offsets.iter().enumerate() {
+            let is_last = i + 1 == offsets.len();
+            let end = offsets.get(i + 1).map_or(body.len(), |next| *next as usize);
+            let mut input = Input {
+                bytes: &body[..end],
+                at: *at as usize,
+            };
+            let mut previous: Vec<u8> = Vec::new();
+            for n in 0..RESTART_INTERVAL {
+                if is_last && n > 0 && input.at == end {
+                    break;
+                }
+                let row = read_v2(&mut input, &previous)?;
+                sums.take(&row);
+                previous = row.key;
+            }
+            if input.at != end {
+                return None;
+            }
+        }
+        Some(())
+    }
+
+    /// The newest row of a key at or below a sequence, of a block of version 2. The outer `None` is a damaged block.
+    pub fn newest_of_block<'a>(
+        body: &'a [u8],
+        offsets: &[u16],
+        key: &[u8],
+        max_seq: u64,
+    ) -> Option<Option<ReadRow<'a>>> {
+        let begins_before = |at: &u16| {
+            let mut input = Input {
+                bytes: body,
+                at: *at as usize,
+            };
+            read_v2(&mut input, &[]).is_some_and(|row| row.key.as_slice() < key)
+        };
+        let start = offsets.partition_point(begins_before).saturating_sub(1);
+        let mut input = Input {
+            bytes: body,
+            at: offsets[start] as usize,
+        };
+        let mut previous: Vec<u8> = Vec::new();
+        while input.at < body.len() {
+            let row = read_v2(&mut input, &previous)?;
+            match row.key.as_slice().cmp(key) {
+                Ordering::Greater => break,
+                Ordering::Equal if row.seq <= max_seq => return Some(Some(row)),
+                _ => previous = row.key,
+            }
+        }
+        Some(None)
+    }
+}
+
+/// Checksums and tables: how they are written, and how their parts are read.
+mod table {
+    use crate::block::{Builder, Input, Row, Version, compute_prefix};
+
+    /// For each byte what is left of it after 8 bits, and after 8 bits for each byte that stands behind it.
+    pub struct CrcTables([[u32; 256]; 8]);
+
+    impl CrcTables {
+        pub fn new() -> CrcTables {
+            let mut tables = [[0u32; 256]; 8];
+            for byte in 0..256 {
+                let mut crc = byte as u32;
+                for _ in 0..8 {
+                    crc = if crc & 1 == 1 {
+                        crc >> 1 ^ 0xedb8_8320
+                    } else {
+                        crc >> 1
+                    };
+                }
+                tables[0][byte] = crc;
+            }
+            for byte in 0..256 {
+                for k in 1..8 {
+                    let crc = tables[k - 1][byte];
+                    tables[k][byte] = crc >> 8 ^ tables[0][(crc & 255) as usize];
+                }
+            }
+            CrcTables(tables)
+        }
+
+        /// The CRC-32 of the bytes, eight bytes a step.
+        pub fn checksum(&self, bytes: &[u8]) -> u32 {
+            let tables = &self.0;
+            let mut crc = u32::MAX;
+            let mut groups = bytes.chunks_exact(8);
+            for group in &mut groups {
+                let word = u64::from_le_bytes(group.try_into().unwrap()) ^ u64::from(crc);
+                crc = (0..8).fold(0, |sum, k| {
+                    sum ^ tables[7 - k][(word >> (8 * k) & 255) as usize]
+                });
+            }
+            for byte in groups.remainder() {
+                crc = tables[0][((crc ^ u32::from(*byte)) & 255) as usize] ^ crc >> 8;
+            }
+            !crc
+        }
+    }
+
+    /// A table as it grows.
+    struct Table<'a> {
+        crc: &'a CrcTables,
+        version: Version,
+        bytes: Vec<u8>,
+        block: Builder,
+        puts: u16,
+        last_key: Vec<u8>,
+        separator: Vec<u8>,
+        index: Vec<u8>,
+        block_counts: Vec<[u16; 3]>,
+        rows: u64,
+        key_bytes: u64,
+        value_bytes: u64,
+    }
+
+    impl<'a> Table<'a> {
+        fn new(crc: &'a CrcTables, version: Version) -> Table<'a> {
+            Table {
+                crc,
+                version,
+                bytes: Vec::new(),
+                block: Builder::new(version),
+                puts: 0,
+                last_key: Vec::new(),
+                separator: Vec::new(),
+                index: Vec::new(),
+                block_counts: Vec::new(),
+                rows: 0,
+                key_bytes: 0,
+                value_bytes: 0,
+            }
+        }
+
+        /// Appends a part and its checksum, and gives the section's place.
+        fn seal(&mut self, part: &[u8]) -> (u64, u64) {
+            let at = self.bytes.len() as u64;
+            self.bytes.extend_from_slice(part);
+            self.bytes
+                .extend_from_slice(&self.crc.checksum(part).to_be_bytes());
+            (at, part.len() as u64 + 4)
+        }
+
+        fn end_block(&mut self) {
+            let block = std::mem::replace(&mut self.block, Builder::new(self.version)).encode();
+            let (at, _) = self.seal(&block);
+            self.index.extend_from_slice(&at.to_be_bytes());
+            self.index
+                .extend_from_slice(&(self.separator.len() as u16).to_be_bytes());
+            self.index.extend_from_slice(&self.separator);
+            self.block_counts.push([self.puts, 0, 0]);
+            self.puts = 0;
+        }
+
+        fn add(&mut self, row: &Row) {
+            if !self.block.add(row) {
+                self.end_block();
+                let shared = compute_prefix(&self.last_key, &row.key);
+                self.separator = row.key[..row.key.len().min(shared + 1)].to_vec();
+                self.block.add(row);
+            } else if self.rows == 0 {
+                self.separator = row.key.clone();
+            }
+            self.puts += 1;
+            self.rows += 1;
+            self.key_bytes += row.key.len() as u64;
+            self.value_bytes += row.value.len() as u64;
+            self.last_key.clear();
+            self.last_key.extend_from_slice(&row.key);
+        }
+
+        fn build(mut self, first_key: &[u8]) -> Vec<u8> {
+            self.end_block();
+            let mut index = (self.block_counts.len() as u32).to_be_bytes().to_vec();
+            index.append(&mut self.index);
+            let index_at = self.seal(&index);
+            let mut stats = Vec::new();
+            for number in [self.rows, 0, 0, self.key_bytes, self.value_bytes] {
+                stats.extend_from_slice(&number.to_be_bytes());
+            }
+            stats.extend_from_slice(&(self.block_counts.len() as u32).to_be_bytes());
+            for count in self.block_counts.iter().flatten() {
+                stats.extend_from_slice(&count.to_be_bytes());
+            }
+            let stats_at = self.seal(&stats);
+            let number = if self.version == Version::V1 { 1u16 } else { 2 };
+            let mut info = number.to_be_bytes().to_vec();
+            for key in [first_key, &self.last_key.clone()] {
+                info.push(1);
+                info.extend_from_slice(&(key.len() as u16).to_be_bytes());
+                info.extend_from_slice(key);
+            }
+            for place in [
+                index_at.0, index_at.1, index_at.0, 0, stats_at.0, stats_at.1,
+            ] {
+                info.extend_from_slice(&place.to_be_bytes());
+            }
+            info.extend_from_slice(&[0, 1]);
+            let (info_at, _) = self.seal(&info);
+            self.bytes.extend_from_slice(&info_at.to_be_bytes());
+            self.bytes.extend_from_slice(&number.to_be_bytes());
+            self.bytes
+        }
+    }
+
+    pub fn build_table(crc: &CrcTables, rows: &[Row], version: Version) -> Vec<u8> {
+        let mut table = Table::new(crc, version);
+        for row in rows {
+            table.add(row);
+        }
+        table.build(&rows[0].key)
+    }
+
+    /// The part of a section whose checksum fits.
+    pub fn open_section<'a>(crc: &CrcTables, section: &'a [u8]) -> Option<&'a [u8]> {
+        let (part, sum) = section.split_at_checked(section.len().checked_sub(4)?)?;
+        (crc.checksum(part).to_be_bytes() == sum).then_some(part)
+    }
+
+    /// Where the blocks begin, and the separators, which rise.
+    pub fn read_index(part: &[u8]) -> Option<(Vec<usize>, Vec<&[u8]>)> {
+        let mut input = Input { bytes: part, at: 0 };
+        let (mut offsets, mut separators) = (Vec::new(), Vec::<&[u8]>::new());
+        for _ in 0..input.u32()? {
+            offsets.push(input.u64()? as usize);
+            let len = input.u16()? as usize;
+            let separator = input.take(len)?;
+            if separators.last().is_some_and(|last| *last > separator) {
+                return None;
+            }
+            separators.push(separator);
+        }
+        let rise = offsets.windows(2).all(|pair| pair[0] < pair[1]);
+        (input.at == part.len() && rise).then_some((offsets, separators))
+    }
+
+    /// Where the index and the statistics begin, which the writer keeps.
+    pub fn places_of(bytes: &[u8]) -> Option<(usize, usize)> {
+        let footer = bytes.len().checked_sub(10)?;
+        let places = footer.checked_sub(4 + 2 + 48)?;
+        let mut input = Input {
+            bytes: &bytes[places..],
+            at: 0,
+        };
+        let index_at = input.u64()? as usize;
+        input.take(24)?;
+        Some((index_at, input.u64()? as usize))
+    }
+}
+
+/// A store in plain Rust that answers the lines of the scripts of `scripts.rs` as `slate` does: writes of one put, begins, gets
+/// and flushes. Any other line ends it.
+mod script {
+    use crate::block::{Row, Version, decode_block, newest_of_block};
+    use crate::table::{CrcTables, build_table, open_section, places_of, read_index};
+    use std::borrow::Cow;
+    use std::cmp::Reverse;
+    use std::collections::BTreeMap;
+    use std::fs::{self, File};
+    use std::io::{self, BufRead, BufReader, Read, Write};
+    use std::mem;
+    use std::os::unix::fs::FileExt;
+    use std::path::{Path, PathBuf};
+
+    /// How many bytes of a script are read at once.
+    const PIECE: usize = 65536;
+
+    /// Why a run ends early. The statuses are those of `slate`.
+    #[derive(Clone, Copy)]
+    pub enum Failure {
+        Syntax = 3,
+        Read = 5,
+        Write = 6,
+        Store = 7,
+        Damage = 16,
+    }
+
+    use Failure::{Damage, Syntax};
+
+    /// Objects in memory, or the files of a folder.
+    pub enum Store {
+        Memory(BTreeMap<String, Vec<u8>>),
+        Folder(PathBuf),
+    }
+
+    impl Store {
+        /// The store that a word names, `-` or a folder.
+        pub fn at(word: &str) -> Store {
+            if word == "-" {
+                Store::Memory(BTreeMap::new())
+            } else {
+                Store::Folder(word.into())
+            }
+        }
+
+        fn put(&mut self, path: &str, bytes: Vec<u8>) -> io::Result<()> {
+            match self {
+                Store::Memory(objects) => {
+                    objects.insert(path.to_string(), bytes);
+                    Ok(())
+                }
+                Store::Folder(folder) => put_file(&folder.join(path), &bytes),
+            }
+        }
+
+        fn read_range(&self, path: &str, start: usize, end: usize) -> io::Result<Cow<'_, [u8]>> {
+            match self {
+                Store::Memory(objects) => {
+                    let range = objects.get(path).and_then(|object| object.get(start..end));
+                    range
+                        .map(Cow::Borrowed)
+                        .ok_or(io::ErrorKind::NotFound.into())
+                }
+                Store::Folder(folder) => {
+                    let mut bytes = vec![0; end - start];
+                    File::open(folder.join(path))?.read_exact_at(&mut bytes, start as u64)?;
+                    Ok(Cow::Owned(bytes))
+                }
+            }
+        }
+    }
+
+    /// Writes beside the file and renames, so that a reader meets the whole file or none.
+    fn put_file(target: &Path, bytes: &[u8]) -> io::Result<()> {
+        if let Some(parent) = target.parent() {
+            fs::create_dir_all(parent)?;
+        }
+        let beside = target.with_extension("sst.tmp");
+        let mut file = File::create(&beside)?;
+        file.write_all(bytes)?;
+        file.sync_all()?;
+        fs::rename(&beside, target)
+    }
+
+    /// What is kept of a table that was stored.
+    struct StoredTable {
+        path: String,
+        first_key: Vec<u8>,
+        last_key: Vec<u8>,
+        index_at: usize,
+        stats_at: usize,
+    }
+
+    /// A row that a reader gets.
+    struct Found {
+        value: Vec<u8>,
+        seq: u64,
+        create_ts: i64,
+    }
+
+    struct Session {
+        crc: CrcTables,
+        store: Store,
+        last: u64,
+        /// Where each open transaction began.
+        names: BTreeMap<Vec<u8>, u64>,
+        rows: BTreeMap<(Vec<u8>, Reverse<u64>), Vec<u8>>,
+        /// The newest last.
+        tables: Vec<StoredTable>,
+    }
+
+    /// Answers each line of the source, and gives the status.
+    pub fn run(store: Store, source: impl Read, sink: impl Write) -> i32 {
+        match answer_lines(store, BufReader::with_capacity(PIECE, source), sink) {
+            Ok(()) => 0,
+            Err(failure) => failure as i32,
+        }
+    }
+
+    fn answer_lines(
+        store: Store,
+        mut source: impl BufRead,
+        mut sink: impl Write,
+    ) -> Result<(), Failure> {
+        let mut session = Session::new(store);
+        let mut line = Vec::new();
+        while source
+            .read_until(b'\n', &mut line)
+            .map_err(|_| Failure::Read)?
+            > 0
+        {
+            let reply = session.answer(line.strip_suffix(b"\n").unwrap_or(&line))?;
+            sink.write_all(&reply).map_err(|_| Failure::Write)?;
+            line.clear();
+        }
+        Ok(())
+    }
+
+    impl Session {
+        fn new(store: Store) -> Session {
+            let crc = CrcTables::new();
+            Session {
+                crc,
+                store,
+                last: 0,
+                names: BTreeMap::new(),
+                rows: BTreeMap::new(),
+                tables: Vec::new(),
+            }
+        }
+
+        fn answer(&mut self, line: &[u8]) -> Result<Vec<u8>, Failure> {
+            let tokens: Vec<&[u8]> = line.split(|byte| *byte == b' ').collect();
+            match tokens.as_slice() {
+                [b"write", b"put", key, value] => self.put(read_key(key)?, read_text(value)?),
+                [b"begin", name, b"si"] => self.begin(read_name(name)?),
+                [b"get", name, key] => self.get(read_name(name)?, read_text(key)?),
+                [b"flush"] => self.flush(),
+                _ => Err(Syntax),
+            }
+        }
+
+        fn put(&mut self, key: &[u8], value: &[u8]) -> Result<Vec<u8>, Failure> {
+            self.last += 1;
+            self.rows
+                .insert((key.to_vec(), Reverse(self.last)), value.to_vec());
+            Ok(format!("written {}\n", self.last).into_bytes())
+        }
+
+        fn begin(&mut self, name: &str) -> Result<Vec<u8>, Failure> {
+            self.names.insert(name.into(), self.last);
+            Ok(format!("begun {name} {}\n", self.last).into_bytes())
+        }
+
+        fn get(&self, name: &str, key: &[u8]) -> Result<Vec<u8>, Failure> {
+            let at = *self.names.get(name.as_bytes()).ok_or(Syntax)?;
+            match self.newest(key, at)? {
+                Some(row) => Ok(row_line(key, &row)),
+                None => Ok(b"none\n".to_vec()),
+            }
+        }
+
+        fn flush(&mut self) -> Result<Vec<u8>, Failure> {
+            if !self.rows.is_empty() {
+                let barrier = self.names.values().copied().min().unwrap_or(self.last);
+                let rows = rows_of_flush(mem::take(&mut self.rows), barrier);
+                self.store_table(&rows)?;
+            }
+            Ok(format!("flushed {}\n", self.last).into_bytes())
+        }
+
+        fn store_table(&mut self, rows: &[Row]) -> Result<(), Failure> {
+            let bytes = build_table(&self.crc, rows, Version::V2);
+            let (index_at, stats_at) = places_of(&bytes).ok_or(Damage)?;
+            let id = (self.tables.len() as u128 + 1) << 64;
+            let path = format!("db/compacted/{id:032x}.sst");
+            self.store.put(&path, bytes).map_err(|_| Failure::Store)?;
+            let first_key = rows[0].key.clone();
+            let last_key = rows[rows.len() - 1].key.clone();
+            self.tables.push(StoredTable {
+                path,
+                first_key,
+                last_key,
+                index_at,
+                stats_at,
+            });
+            Ok(())
+        }
+
+        /// The newest row of a key at or below a sequence.
+        fn newest(&self, key: &[u8], at: u64) -> Result<Option<Found>, Failure> {
+            let mut behind = self.rows.range((key.to_vec(), Reverse(at))..);
+            if let Some(((_, Reverse(seq)), value)) = behind.next().filter(|row| row.0.0 == key) {
+                return Ok(Some(Found {
+                    value: value.clone(),
+                    seq: *seq,
+                    create_ts: 0,
+                }));
+            }
+            for table in self.tables.iter().rev() {
+                if let Some(row) = self.newest_of_table(table, key, at)? {
+                    return Ok(Some(row));
+                }
+            }
+            Ok(None)
+        }
+
+        /// The same, of a table: where its keys enclose the key, its index is read, and the blocks that can hold the key.
+        fn newest_of_table(
+            &self,
+            table: &StoredTable,
+            key: &[u8],
+            at: u64,
+        ) -> Result<Option<Found>, Failure> {
+            if key < table.first_key.as_slice() || table.last_key.as_slice() < key {
+                return Ok(None);
+            }
+            let index = self.read(&table.path, table.index_at, table.stats_at)?;
+            let (offsets, separators) = open_section(&self.crc, &index)
+                .and_then(read_index)
+                .ok_or(Damage)?;
+            let start_of = |block: usize| offsets.get(block).copied().unwrap_or(table.index_at);
+            let first = separators
+                .partition_point(|separator| *separator < key)
+                .saturating_sub(1);
+            let end = separators
+                .partition_point(|separator| *separator <= key)
+                .max(first);
+            let start = start_of(first);
+            let sections = self.read(&table.path, start, start_of(end))?;
+            for block in first..end {
+                let section = &sections[start_of(block) - start..start_of(block + 1) - start];
+                if let Some(row) = newest_of_section(&self.crc, section, key, at).ok_or(Damage)? {
+                    return Ok(Some(row));
+                }
+            }
+            Ok(None)
+        }
+
+        fn read(&self, path: &str, start: usize, end: usize) -> Result<Cow<'_, [u8]>, Failure> {
+            self.store
+                .read_range(path, start, end)
+                .map_err(|_| Failure::Store)
+        }
+    }
+
+    /// Of each key the rows above the barrier, and the newest of the others.
+    fn rows_of_flush(rows: BTreeMap<(Vec<u8>, Reverse<u64>), Vec<u8>>, barrier: u64) -> Vec<Row> {
+        let mut kept: Vec<Row> = Vec::new();
+        for ((key, Reverse(seq)), value) in rows {
+            let is_older = kept
+                .last()
+                .is_some_and(|newer| newer.seq <= barrier && newer.key == key);
+            if !is_older {
+                kept.push(Row {
+                    key,
+                    value,
+                    seq,
+                    create_ts: 0,
+                });
+            }
+        }
+        kept
+    }
+
+    /// The newest row of a key at or below a sequence, of a block's section. The outer `None` is damage.
+    fn newest_of_section(
+        crc: &CrcTables,
+        section: &[u8],
+        key: &[u8],
+        at: u64,
+    ) -> Option<Option<Found>> {
+        let (body, offsets) = decode_block(open_section(crc, section)?)?;
+        let row = newest_of_block(body, &offsets, key, at)?;
+        Some(row.map(|row| Found {
+            value: row.value.to_vec(),
+            seq: row.seq,
+            create_ts: row.create_ts.unwrap_or(0),
+        }))
+    }
+
+    fn read_name(token: &[u8]) -> Result<&str, Failure> {
+        let is_name =
+            (1..=64).contains(&token.len()) && token.iter().all(u8::is_ascii_alphanumeric);
+        std::str::from_utf8(token)
+            .ok()
+            .filter(|_| is_name)
+            .ok_or(Syntax)
+    }
+
+    fn read_text(token: &[u8]) -> Result<&[u8], Failure> {
+        token
+            .strip_prefix(b"'")
+            .filter(|text| text.iter().all(u8::is_ascii_graphic))
+            .ok_or(Syntax)
+    }
+
+    fn read_key(token: &[u8]) -> Result<&[u8], Failure> {
+        read_text(token).and_then(|key| {
+            if (1..=65535).contains(&key.len()) {
+                Ok(key)
+            } else {
+                Err(Syntax)
+            }
+        })
+    }
+
+    fn row_line(key: &[u8], row: &Found) -> Vec<u8> {
+        let mut line = b"row '".to_vec();
+        line.extend_from_slice(key);
+        line.extend_from_slice(b" '");
+        line.extend_from_slice(&row.value);
+        line.extend_from_slice(format!(" {} {} -\n", row.seq, row.create_ts).as_bytes());
+        line
+    }
+}
+
+/// The scripts that `slate` and plain Rust answer. `docs/SCRIPT.md` has their language.
+mod scripts {
+    use std::fmt::{Result, Write};
+
+    /// How many writes a script has that flushes at its end or not at all.
+    const MANY: u64 = 100_000;
+
+    /// How many writes a script has that flushes in between.
+    const SOME: u64 = 10_000;
+
+    /// How many writes stand between two flushes.
+    const FLUSH_INTERVAL: u64 = 64;
+
+    /// How many gets follow where a get can meet each table.
+    const FEW: u64 = 1_000;
+
+    /// The script of this name, and nothing where there is none.
+    pub fn make(name: &str) -> Option<String> {
+        let mut text = String::new();
+        let made = match name {
+            "write" => write_many(&mut text),
+            "write_and_flush" => write_many(&mut text).and_then(|()| writeln!(text, "flush")),
+            "read_rising" => write_and_read(&mut text, |i| i, SOME),
+            "read_scattered" => write_and_read(&mut text, |i| scattered(i, SOME), FEW),
+            _ => return None,
+        };
+        made.ok().map(|()| text)
+    }
+
+    /// The numbers below the count, each once, neighbours far apart.
+    fn scattered(i: u64, count: u64) -> u64 {
+        i * 7919 % count
+    }
+
+    fn put(text: &mut String, key: u64, value: u64) -> Result {
+        writeln!(text, "write put 'account/{key:08}/balance '{value:0100}")
+    }
+
+    fn write_many(text: &mut String) -> Result {
+        (0..MANY).try_for_each(|i| put(text, scattered(i, MANY), i))
+    }
+
+    /// Writes with flushes in between, and gets behind them, each of the key of another write.
+    fn write_and_read(text: &mut String, key: impl Fn(u64) -> u64, gets: u64) -> Result {
+        for i in 0..SOME {
+            put(text, key(i), i)?;
+            if (i + 1) % FLUSH_INTERVAL == 0 {
+                writeln!(text, "flush")?;
+            }
+        }
+        writeln!(text, "begin t si")?;
+        let stride = SOME / gets;
+        (0..gets).try_for_each(|i| {
+            writeln!(
+                text,
+                "get t 'account/{:08}/balance",
+                key(scattered(i * stride, SOME))
+            )
+        })
+    }
+}
+
+/// How long a program takes, and how much memory.
+mod measure {
+    use std::fs::OpenOptions;
+    use std::io::{self, Write};
+    use std::process::Command;
+    use std::time::Instant;
+
+    /// What the system tells of a process that ended.
+    #[repr(C)]
+    #[derive(Default)]
+    struct Usage {
+        times: [i64; 4],
+        peak_kib: i64,
+        others: [i64; 13],
+    }
+
+    extern "C" {
+        fn wait4(process: i32, status: *mut i32, options: i32, usage: *mut Usage) -> i32;
+    }
+
+    /// Runs a program over this one's standard input and output, and appends its nanoseconds and its peak memory in KiB to a file. Gives
+    /// the program's status, and 1 where it has none or a call of the system fails.
+    pub fn measure(file: &str, program: &str, words: &[&str]) -> i32 {
+        run(file, program, words).unwrap_or(1)
+    }
+
+    fn run(file: &str, program: &str, words: &[&str]) -> io::Result<i32> {
+        let mut figures = OpenOptions::new().create(true).append(true).open(file)?;
+        let (mut status, mut usage) = (0, Usage::default());
+        let start = Instant::now();
+        let child = Command::new(program).args(words).spawn()?;
+        // The standard library waits without asking for the memory.
+        let ended = unsafe { wait4(child.id() as i32, &mut status, 0, &mut usage) };
+        let nanos = start.elapsed().as_nanos();
+        if ended < 0 {
+            return Err(io::Error::last_os_error());
+        }
+        writeln!(figures, "{nanos} {}", usage.peak_kib)?;
+        let was_killed = status & 127 != 0;
+        Ok(if was_killed { 1 } else { status >> 8 & 255 })
     }
 }

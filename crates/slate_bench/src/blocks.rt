@@ -1,5 +1,9 @@
 //! Encoding and decoding blocks of 4 KiB.
+ghost use Rattle.std.specs.Prelude.{OnOk};
+ghost use Rattle.slate_block.specs.Building.{CanTake};
+
 use crate::report::Report;
+use crate::sums::Sums;
 use anyhow::Error;
 use bytes::Bytes;
 use slate_block::{Block, BlockBuilder, DataBlockIterator};
@@ -7,32 +11,13 @@ use slate_types::{IterationOrder, RowEntry, SlateDBError};
 use std::alloc::Global;
 
 /// The size of a block in bytes.
-const BLOCK_SIZE: u32 = 4096;
+pub const BLOCK_SIZE: u32 = 4096;
 
 /// The greatest length of a key.
 const MAX_KEY_LEN: usize = 65535;
 
 /// The greatest length of a value.
 const MAX_VALUE_LEN: usize = 4_294_967_295;
-
-/// Sums over the rows that were read.
-#[derive(Default, Drop)]
-struct Sums {
-    rows: u64,
-    key_bytes: u64,
-    value_bytes: u64,
-    seqs: u64,
-}
-
-impl Sums {
-    /// Counts a row. A sum past the greatest number stands there.
-    fn take(&mut self, row: &RowEntry) {
-        self.rows = self.rows.saturating_add(1);
-        self.key_bytes = self.key_bytes.saturating_add(row.key.len() as u64);
-        self.value_bytes = self.value_bytes.saturating_add(row.value.len() as u64);
-        self.seqs = self.seqs.saturating_add(row.seq);
-    }
-}
 
 /// Encodes the rows into blocks and decodes these, and reports both. `version` is 1 or 2.
 pub fn measure(report: &Report, rows: &[RowEntry], version: u16) -> Result<(), Error> {
@@ -49,11 +34,11 @@ pub fn measure(report: &Report, rows: &[RowEntry], version: u16) -> Result<(), E
 
     let start = report.start()?;
     let sums = decode_blocks(alloc, &blocks, version)?;
-    let done = format!(in alloc;
-        "{} rows, {} key bytes, {} value bytes, sequences {}",
-        sums.rows, sums.key_bytes, sums.value_bytes, sums.seqs
+    report.finish(
+        &format!(in alloc; "decode v{version}")?,
+        &sums.text(alloc)?,
+        start,
     )?;
-    report.finish(&format!(in alloc; "decode v{version}")?, &done, start)?;
     Ok(())
 }
 
@@ -84,9 +69,16 @@ fn encode_blocks(
     Ok(blocks)
 }
 
-/// Adds a row, or answers false where it doesn't fit. `EmptyKey`, `KeyTooLong` and `ValueTooLong` for a row that no block
-/// takes, or `OutOfMemory`.
+/// Adds a row, or answers false where it doesn't fit. Refuses as `check_lengths` does, or by `OutOfMemory`.
 fn add(builder: &mut BlockBuilder, row: &RowEntry) -> Result<bool, SlateDBError> {
+    check_lengths(row)?;
+    builder.add(row.clone()?)
+}
+
+/// Refuses a row that no block takes, by `KeyTooLong` or `ValueTooLong`.
+pub fn check_lengths(row: &RowEntry) -> Result<(), SlateDBError>
+    ensures { OnOk result (CanTake row.now) }
+{
     let key_len = row.key.len();
     if key_len > MAX_KEY_LEN {
         return Err(SlateDBError::KeyTooLong {
@@ -99,7 +91,7 @@ fn add(builder: &mut BlockBuilder, row: &RowEntry) -> Result<bool, SlateDBError>
             len: value_len as u64,
         });
     }
-    builder.add(row.clone()?)
+    Ok(())
 }
 
 fn encode(alloc: Global, builder: BlockBuilder) -> Result<Bytes, SlateDBError> {
@@ -121,22 +113,7 @@ fn decode_blocks(alloc: Global, blocks: &[Bytes], version: u16) -> Result<Sums, 
     for bytes in blocks {
         let block = Block::decode(alloc, bytes.clone()?)?;
         let rows = DataBlockIterator::new(alloc, block, version, IterationOrder::Ascending)?;
-        read_rows(alloc, rows, &mut sums)?;
+        sums.take_all(alloc, rows)?;
     }
     Ok(sums)
-}
-
-/// Counts the rows that are left.
-fn read_rows(
-    alloc: Global,
-    mut rows: DataBlockIterator<Block>,
-    sums: &mut Sums,
-) -> Result<(), SlateDBError> {
-    for _ in 0..u64::MAX {
-        match rows.next_row(alloc)? {
-            Some(row) => sums.take(&row),
-            None => return Ok(()),
-        }
-    }
-    Ok(())
 }

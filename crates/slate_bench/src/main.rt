@@ -1,15 +1,23 @@
 //! Does the work that the store's time goes into, and says what was done: bench/run runs it beside plain Rust.
 //!
-//! With no word it prints counts alone, and with the word `time` how long each took too.
+//! With no word it prints counts alone, and with the word `time` how long each took too. With the word `write` and a folder it
+//! puts two tables there: each at a path of its own, and then both again and again at one path.
 #![tactic(auto)]
 
 mod blocks;
+mod checksums;
+mod folder;
 mod report;
 mod rows;
+mod sums;
+mod tables;
 
 use report::Report;
 use std::env;
 use std::process::ExitCode;
+
+/// How many rows a table has.
+const TABLE_ROWS: usize = 100_000;
 
 fn main(rt: HostRuntime) -> Result<ExitCode, anyhow::Error> {
     Ok(ExitCode::from(status(&rt)?))
@@ -21,6 +29,10 @@ fn status(rt: &HostRuntime) -> Result<u8, anyhow::Error> {
     match words?.as_slice() {
         [] => measure(&Report::new(rt, false)),
         [word] if word.as_str() == "time" => measure(&Report::new(rt, true)),
+        [word, folder] if word.as_str() == "write" => {
+            folder::write(rt, folder, &rows::make_rows(rt.alloc())?)?;
+            Ok(0)
+        }
         [word] if word.as_str() == "--version" => {
             println!(rt; "slate_bench 0.1.0")?;
             Ok(0)
@@ -33,5 +45,9 @@ fn measure(report: &Report) -> Result<u8, anyhow::Error> {
     let rows = rows::make_rows(report.alloc())?;
     blocks::measure(report, &rows, 1)?;
     blocks::measure(report, &rows, 2)?;
+    checksums::measure(report)?;
+    let few = &rows[..rows.len().min(TABLE_ROWS)];
+    tables::measure(report, few, 1)?;
+    tables::measure(report, few, 2)?;
     Ok(0)
 }
