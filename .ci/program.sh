@@ -79,32 +79,19 @@ give_up() {
     exit 1
 }
 
-# As many crates at once as there are processors, each with 3 GB of free memory.
-crates_at_once() {
-    local lanes key free unit rest
-    lanes=$(nproc)
-    while read -r key free unit rest; do
-        if [[ $key == MemAvailable: ]] && ((free / 3000000 < lanes)); then
-            lanes=$((free / 3000000))
-        fi
-    done </proc/meminfo
-    printf '%s\n' $((lanes > 0 ? lanes : 1))
-}
-
-# Proves the crates side by side, with a line for each.
+# Proves the crates of the program, lowest first, each on as many processors as rt chooses, with a line for each.
 prove_crates() {
-    local line done_so_far=0 all=0
+    local line crate crates=() done_so_far=0 wanted
+    wanted=$(crates_of_program)
     while IFS= read -r line || [[ -n $line ]]; do
-        [[ ${line%%#*} != *:* ]] || all=$((all + 1))
+        line=${line%%#*}
+        read -r crate _ <<<"${line%%:*}"
+        [[ $line != *:* ]] || ! grep -qx "$crate" <<<"$wanted" || crates+=("$crate")
     done <"$top/crates.txt"
-    (cd "$top" && rt all check --jobs "$(crates_at_once)") </dev/null 2>&1 | while IFS= read -r line; do
-        printf '%s\n' "$line" >&4
-        if [[ $line == "== "* && $line != "== summary" ]]; then
-            done_so_far=$((done_so_far + 1))
-            say "checked ${line#== } ($done_so_far of $all, ${SECONDS} s)"
-        elif [[ $line == "rt: waiting for "* ]]; then
-            say "${line#rt: }"
-        fi
+    for crate in "${crates[@]}"; do
+        (cd "$top/crates/$crate" && rt check) </dev/null >&4 2>&1
+        done_so_far=$((done_so_far + 1))
+        say "checked $crate ($done_so_far of ${#crates[@]}, ${SECONDS} s)"
     done
 }
 
@@ -122,7 +109,7 @@ build() {
     local log="$out/build.log"
     mkdir -p "$out" || give_up "cannot make crates/$program_name/out"
     exec 4>"$log" || give_up "cannot write crates/$program_name/out/build.log"
-    say "the proved program isn't built for this source yet; proving and building it takes a few minutes, once"
+    say "the proved program isn't built for this source yet; proving and building it takes about half an hour on four processors, once"
     prove_crates
     # The last word is here: rt builds the program only over proved crates, and --version alone ends with status 0.
     if ! (cd "$top/crates/$program_name" && rt run -- --version) </dev/null >&4 2>&1; then

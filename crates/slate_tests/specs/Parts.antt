@@ -1,7 +1,6 @@
 -- What the parts that tests hand in compute.
 --     appended u v      v behind u, cut to a short value
---     masked mask bytes      each byte changed by one number
-use Rattle.std.specs.Prelude.{ℕ, ◌-◌, ◌^◌, ◌≤◌, List, [], ◌++◌, length, take, map, bit_xor, Option, unwrap_or}
+use Rattle.std.specs.Prelude.{ℕ, ◌-◌, ◌^◌, ◌≤◌, List, [], ◌++◌, length, take, Option, unwrap_or}
 use Rattle.std.proofs.Common.{sym, subst}
 use Rattle.std.proofs.Math.Nat.{min-le_left}
 use Rattle.std.proofs.lemmas.List.{length-take}
@@ -13,6 +12,3 @@ appended u v = take (2 ^ 32 - 1) (unwrap_or u [] ++ v)
 pub appended-short : KeepsShort appended
 appended-short u v h k =
     subst (λ n. n ≤ 2 ^ 32 - 1) (sym (length-take (2 ^ 32 - 1) (unwrap_or u [] ++ v))) (min-le_left (2 ^ 32 - 1) (length (unwrap_or u [] ++ v)))
-
-abbrev pub masked : ℕ → List ℕ → List ℕ
-masked mask bytes = map (λ b. bit_xor b mask) bytes

@@ -6,19 +6,29 @@ mod block_iterators;
 #[cfg(test)]
 mod blocks;
 #[cfg(test)]
+mod built_tables;
+#[cfg(test)]
+mod flushes;
+#[cfg(test)]
 mod index;
 #[cfg(test)]
 mod lists;
 #[cfg(test)]
 mod memory;
 #[cfg(test)]
+mod memory_lists;
+#[cfg(test)]
 mod partitions;
 #[cfg(test)]
 mod parts;
 #[cfg(test)]
+mod read_tables;
+#[cfg(test)]
 mod rows;
 #[cfg(test)]
 mod runs;
+#[cfg(test)]
+mod stored_runs;
 #[cfg(test)]
 mod stores;
 #[cfg(test)]

@@ -1,16 +1,15 @@
-// An operator and a transformer of one's own.
-ghost use Rattle.std.specs.Prelude.{◌≡◌, IfOk};
+// An operator of one's own, and the program's transformer.
 ghost use Rattle.slate_tests.specs.Parts.{appended, appended-short};
-ghost use Rattle.slate_tests.specs.Parts as parts;
 
 use bytes::Bytes;
+use slate_script::parts::Xor;
 use slate_types::{BlockTransformer, MergeOperator, MergeOperatorError, TransformError};
 use std::alloc::Global;
 use std::test::Fail;
 
 // Appends, and keeps as much as a value holds.
 #[derive(Drop)]
-struct Concat;
+pub(crate) struct Concat;
 
 impl MergeOperator for Concat {
     ghost combine = { λ _ _. appended };
@@ -33,39 +32,6 @@ impl MergeOperator for Concat {
         bytes.extend_from_slice(value)?;
         bytes.truncate(u32::MAX as usize);
         Ok(Bytes::from_vec(bytes)?)
-    }
-}
-
-// Changes each byte by one number.
-#[derive(Drop)]
-struct Xor {
-    mask: u8,
-}
-
-fn masked(alloc: Global, bytes: &[u8], mask: u8) -> Result<Bytes, TransformError>
-    ensures bytes { IfOk result (λ made. made ≡ parts.masked mask bytes.now) }
-    ensures memory { result ≡ Err TransformError.Failed → ⊥ }
-{
-    let mut made = Vec::with_capacity(alloc, bytes.len())?;
-    for byte in bytes {
-        made.push(byte ^ mask)?;
-    }
-    Ok(Bytes::from_vec(made)?)
-}
-
-impl BlockTransformer for Xor {
-    ghost encoded = { λ x. parts.masked x.mask };
-
-    ghost decoded = { λ x. parts.masked x.mask };
-
-    ghost faults = { λ _. 0 };
-
-    fn encode(&mut self, alloc: Global, bytes: Bytes) -> Result<Bytes, TransformError> {
-        masked(alloc, &bytes, self.mask)
-    }
-
-    fn decode(&mut self, alloc: Global, bytes: Bytes) -> Result<Bytes, TransformError> {
-        masked(alloc, &bytes, self.mask)
     }
 }
 

@@ -50,6 +50,8 @@ fn prefixes_have_ranges(rt: HostRuntime) -> Result<(), Fail> {
 #[test]
 fn ranges_are_copied(rt: HostRuntime) -> Result<(), Fail> {
     let range = BytesRange::from_slice(rt.alloc(), Bound::Included(b"a"), Bound::Excluded(b"c"))?;
+    assert!(rt; range.start == Bound::Included(Bytes::from_static(b"a")));
+    assert!(rt; range.end == Bound::Excluded(Bytes::from_static(b"c")));
     let common = range.intersect(&BytesRange::unbounded())?.ok_or("none")?;
     assert!(rt; common == range);
     Ok(())

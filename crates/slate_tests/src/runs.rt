@@ -1,10 +1,15 @@
 // Runs over whole scripts: that they succeed, and what they write.
 ghost use Rattle.slate_types.specs.Config.{IsValid};
 
+use slate_script::operator::NoOperator;
+use slate_script::parts::Xor;
 use slate_script::{run_main, run_script};
-use slate_store::{MemorySink, MemorySource};
-use slate_types::{Options, SlateDBError};
+use slate_store::{
+    Env, MemorySink, MemorySource, MemoryStore, ReaderSource, Sink, Source, Store, WriterSink,
+};
+use slate_types::{BlockTransformer, MergeOperator, Options, SlateDBError};
 use std::alloc::Global;
+use std::io::{self, ErrorKind, Read, Write};
 
 const DAY: &[u8] = b"begin t si\nget t 'a\nwrite put 'a '1\nget t 'a\nrollback t\n";
 
@@ -16,7 +21,7 @@ const DAY_REPLIES: [&[u8]; 5] = [
     b"ok\n",
 ];
 
-fn source_of(
+pub fn source_of(
     alloc: Global,
     script: &[u8],
     failing: Vec<u64>,
@@ -36,15 +41,57 @@ fn run(
 {
     let mut source = source_of(alloc, script, Vec::new(alloc))?;
     let mut sink = MemorySink::new(alloc, Vec::new(alloc));
-    let end = run_script(alloc, &mut source, &mut sink, options);
+    let mut store = MemoryStore::new(alloc, Vec::new(alloc));
+    let operator: Option<NoOperator> = None;
+    let transformer: Option<Xor> = None;
+    let mut env = Env {
+        store: &mut store,
+        operator,
+        transformer,
+    };
+    let end = end_over(alloc, &mut source, &mut sink, &mut env, options);
     Ok((end, sink))
+}
+
+// How a run ends, of which nothing more is said: what is written and stored is what the tests try.
+pub fn status_over<R: Source, W: Sink, S: Store>(
+    alloc: Global,
+    words: &[String],
+    source: &mut R,
+    sink: &mut W,
+    store: &mut S,
+) -> u8 {
+    run_main(alloc, words, source, sink, store)
+}
+
+fn end_over<R: Source, W: Sink, S: Store, M: MergeOperator, T: BlockTransformer>(
+    alloc: Global,
+    source: &mut R,
+    sink: &mut W,
+    env: &mut Env<'_, S, M, T>,
+    options: &Options,
+) -> Result<(), SlateDBError>
+    requires { IsValid options.now }
+{
+    run_script(alloc, source, sink, env, options)
+}
+
+// The status of a run over a store of its own.
+fn status_of<R: Source, W: Sink>(
+    alloc: Global,
+    words: &[String],
+    source: &mut R,
+    sink: &mut W,
+) -> u8 {
+    let mut store = MemoryStore::new(alloc, Vec::new(alloc));
+    status_over(alloc, words, source, sink, &mut store)
 }
 
 // The status, and what was written.
 fn run_plain(alloc: Global, script: &[u8]) -> Result<(u8, MemorySink), SlateDBError> {
     let mut source = source_of(alloc, script, Vec::new(alloc))?;
     let mut sink = MemorySink::new(alloc, Vec::new(alloc));
-    let status = run_main(alloc, &[], &mut source, &mut sink);
+    let status = status_of(alloc, &[], &mut source, &mut sink);
     Ok((status, sink))
 }
 
@@ -123,33 +170,75 @@ fn names_the_first_other_line(rt: HostRuntime) -> Result<(), SlateDBError> {
 #[test]
 fn takes_long_keys(rt: HostRuntime) -> Result<(), SlateDBError> {
     let alloc = rt.alloc();
-    let cases: [(usize, u8, &[u8]); 2] = [(65535, 0, b"written 1\n"), (65536, 3, b"")];
-    for (len, status, replies) in cases {
+    let cases: [(usize, &[u8]); 2] = [
+        (65535, b"written 1\n"),
+        (65536, b"refused KeyTooLong 65536\n"),
+    ];
+    for (len, replies) in cases {
         let key = vec![in alloc; b'a'; len]?;
         let script = joined(alloc, &[b"write put '", key.as_slice(), b" '1\n"])?;
-        let (ended, sink) = run_plain(alloc, script.as_slice())?;
-        assert_eq!(rt; ended, status, "at {len}");
+        let (status, sink) = run_plain(alloc, script.as_slice())?;
+        assert_eq!(rt; status, 0, "at {len}");
         assert!(rt; sink.taken() == replies, "at {len}");
     }
     Ok(())
 }
 
-// The first call gives the whole script, and the second its end.
+// The first call gives the whole script, and the second its end. Behind a last line without its end a third asks again.
 #[test]
 fn ends_at_a_read_fault(rt: HostRuntime) -> Result<(), SlateDBError> {
     let alloc = rt.alloc();
-    for (call, status, answered) in [(1, 5, 0), (2, 5, 5), (3, 0, 5)] {
+    let cut: &[u8] = b"begin t si";
+    let cases: [(&[u8], u64, u8, usize); 6] = [
+        (DAY, 1, 5, 0),
+        (DAY, 2, 5, 5),
+        (DAY, 3, 0, 5),
+        (cut, 2, 5, 0),
+        (cut, 3, 5, 1),
+        (cut, 4, 0, 1),
+    ];
+    for (script, call, status, answered) in cases {
         let failing = vec![in alloc; call]?;
-        let mut source = source_of(alloc, DAY, failing)?;
+        let mut source = source_of(alloc, script, failing)?;
         let mut sink = MemorySink::new(alloc, Vec::new(alloc));
-        assert_eq!(rt;
-            run_main(alloc, &[], &mut source, &mut sink),
-            status,
-            "at call {call}"
-        );
+        let ended = status_of(alloc, &[], &mut source, &mut sink);
+        assert_eq!(rt; ended, status, "at call {call}");
         let replies = joined(alloc, &DAY_REPLIES[..answered])?;
         assert!(rt; sink.taken() == replies.as_slice(), "at call {call}");
     }
+    Ok(())
+}
+
+// A stream that is there no more.
+#[derive(Drop)]
+struct Broken;
+
+impl Read for Broken {
+    fn read(&mut self, _buf: &mut [u8]) -> io::Result<usize> {
+        Err(ErrorKind::ConnectionReset.into())
+    }
+}
+
+impl Write for Broken {
+    fn write(&mut self, _piece: &[u8]) -> io::Result<usize> {
+        Err(ErrorKind::BrokenPipe.into())
+    }
+
+    fn flush(&mut self) -> io::Result<()> {
+        Ok(())
+    }
+}
+
+#[test]
+fn a_broken_stream_is_a_fault(rt: HostRuntime) -> Result<(), SlateDBError> {
+    let alloc = rt.alloc();
+    let mut sink = MemorySink::new(alloc, Vec::new(alloc));
+    let mut broken = ReaderSource::new(Broken);
+    assert_eq!(rt; status_of(alloc, &[], &mut broken, &mut sink), 5);
+    assert!(rt; sink.taken().is_empty());
+    let mut source = source_of(alloc, DAY, Vec::new(alloc))?;
+    let mut broken = WriterSink::new(Broken);
+    assert_eq!(rt; status_of(alloc, &[], &mut source, &mut broken), 6);
     Ok(())
 }
 
@@ -168,27 +257,36 @@ fn ends_at_a_write_fault(rt: HostRuntime) -> Result<(), SlateDBError> {
         let mut source = source_of(alloc, DAY, Vec::new(alloc))?;
         let failing = vec![in alloc; call]?;
         let mut sink = MemorySink::new(alloc, failing);
-        assert_eq!(rt;
-            run_main(alloc, &[], &mut source, &mut sink),
-            status,
-            "at call {call}"
-        );
+        let ended = status_of(alloc, &[], &mut source, &mut sink);
+        assert_eq!(rt; ended, status, "at call {call}");
         let replies = joined(alloc, &DAY_REPLIES[..answered])?;
         assert!(rt; sink.taken() == replies.as_slice(), "at call {call}");
     }
     Ok(())
 }
 
-// A word leaves the whole script unread.
+pub fn words_of(alloc: Global, words: &[&str]) -> Result<Vec<String>, SlateDBError> {
+    let mut owned = Vec::new(alloc);
+    for word in words {
+        owned.push(String::from_str(alloc, word)?)?;
+    }
+    Ok(owned)
+}
+
+// A word that the program doesn't know leaves the whole script unread.
 #[test]
 fn knows_no_word(rt: HostRuntime) -> Result<(), SlateDBError> {
     let alloc = rt.alloc();
-    let words = [String::from_str(alloc, "seq=1")?];
     let mut source = source_of(alloc, DAY, Vec::new(alloc))?;
     let mut sink = MemorySink::new(alloc, Vec::new(alloc));
-    assert_eq!(rt; run_main(alloc, &words, &mut source, &mut sink), 2);
+    let cases: [&[&str]; 4] = [&["sec=1"], &["--help"], &[""], &["seq=1", "sec=1"]];
+    for case in cases {
+        let words = words_of(alloc, case)?;
+        let status = status_of(alloc, words.as_slice(), &mut source, &mut sink);
+        assert_eq!(rt; status, 2, "at {case:?}");
+    }
     assert!(rt; sink.taken().is_empty());
-    assert_eq!(rt; run_main(alloc, &[], &mut source, &mut sink), 0);
+    assert_eq!(rt; status_of(alloc, &[], &mut source, &mut sink), 0);
     let replies = joined(alloc, &DAY_REPLIES)?;
     assert!(rt; sink.taken() == replies.as_slice());
     Ok(())

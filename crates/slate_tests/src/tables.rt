@@ -1,4 +1,6 @@
 // The parts of the table of one row, whose bytes were written elsewhere: a is 1, of sequence 1, made at moment 0.
+ghost use Rattle.std.specs.Prelude.{◌<◌};
+
 use bytes::Bytes;
 use slate_block::BlockStats;
 use slate_table::section::{open_section, seal_section};
@@ -39,6 +41,26 @@ impl BlockTransformer for Plain {
     }
 }
 
+// The parts of these bytes, of which nothing more is said: what they are is what the tests try.
+fn stats_of(alloc: Global, bytes: &[u8]) -> Result<SstStats, SlateDBError> {
+    SstStats::decode(alloc, Bytes::copy_from_slice(alloc, bytes)?)
+}
+
+fn info_of(
+    alloc: Global,
+    bytes: &[u8],
+    version: u16,
+    end: u64,
+) -> Result<SsTableInfo, SlateDBError> {
+    SsTableInfo::decode(Bytes::copy_from_slice(alloc, bytes)?, version, end)
+}
+
+fn footer_of(bytes: &[u8; 10], len: u64) -> Result<Footer, SlateDBError>
+    requires { 10 < len }
+{
+    Footer::decode(bytes, len)
+}
+
 #[test]
 fn checksums(rt: HostRuntime) {
     assert_eq!(rt; checksum(b"123456789"), 0xcbf4_3926);
@@ -47,8 +69,7 @@ fn checksums(rt: HostRuntime) {
 
 #[test]
 fn stats_of_one_row(rt: HostRuntime) -> Result<(), Fail> {
-    let bytes = Bytes::copy_from_slice(rt.alloc(), &STATS)?;
-    let stats = SstStats::decode(rt.alloc(), bytes)?;
+    let stats = stats_of(rt.alloc(), &STATS)?;
     assert_eq!(rt;
         (stats.num_puts, stats.num_deletes, stats.num_merges),
         (1, 0, 0)
@@ -68,19 +89,19 @@ fn stats_of_one_row(rt: HostRuntime) -> Result<(), Fail> {
 
 #[test]
 fn stats_take_their_bytes_exactly(rt: HostRuntime) -> Result<(), Fail> {
-    let cut = Bytes::copy_from_slice(rt.alloc(), &STATS[..49])?;
+    let alloc = rt.alloc();
     assert!(rt;
         matches!(
-            SstStats::decode(rt.alloc(), cut),
+            stats_of(alloc, &STATS[..49]),
             Err(SlateDBError::CorruptTable { place: 48 })
         )
     );
-    let mut longer = Vec::new(rt.alloc());
+    let mut longer = Vec::new(alloc);
     longer.extend_from_slice(&STATS)?;
     longer.push(0)?;
     assert!(rt;
         matches!(
-            SstStats::decode(rt.alloc(), Bytes::from_vec(longer)?),
+            stats_of(alloc, longer.as_slice()),
             Err(SlateDBError::CorruptTable { place: 50 })
         )
     );
@@ -89,14 +110,18 @@ fn stats_take_their_bytes_exactly(rt: HostRuntime) -> Result<(), Fail> {
 
 #[test]
 fn info_of_one_row(rt: HostRuntime) -> Result<(), Fail> {
-    let bytes = Bytes::copy_from_slice(rt.alloc(), &INFO)?;
-    let info = SsTableInfo::decode(bytes, 1, 108)?;
+    let info = info_of(rt.alloc(), &INFO, 1, 108)?;
     assert!(rt; info.first_entry == Some(Bytes::from_static(b"a")));
     assert!(rt; info.last_entry == Some(Bytes::from_static(b"a")));
     assert_eq!(rt; (info.index_offset, info.index_len), (35, 19));
     assert_eq!(rt; (info.filter_offset, info.filter_len), (35, 0));
     assert_eq!(rt; (info.stats_offset, info.stats_len), (54, 54));
-    let again = SsTableInfo {
+    Ok(())
+}
+
+#[test]
+fn an_info_is_written(rt: HostRuntime) -> Result<(), Fail> {
+    let info = SsTableInfo {
         first_entry: Some(Bytes::from_static(b"a")),
         last_entry: Some(Bytes::from_static(b"a")),
         index_offset: 35,
@@ -106,40 +131,38 @@ fn info_of_one_row(rt: HostRuntime) -> Result<(), Fail> {
         stats_offset: 54,
         stats_len: 54,
     };
-    assert!(rt; again == info);
-    assert_eq!(rt; again.encode(rt.alloc(), 1)?.as_slice(), INFO.as_slice());
+    assert!(rt; info_of(rt.alloc(), &INFO, 1, 108)? == info);
+    assert_eq!(rt; info.encode(rt.alloc(), 1)?.as_slice(), INFO.as_slice());
     Ok(())
 }
 
 #[test]
 fn damaged_infos(rt: HostRuntime) -> Result<(), Fail> {
-    let bytes = Bytes::copy_from_slice(rt.alloc(), &INFO)?;
+    let alloc = rt.alloc();
     assert!(rt;
         matches!(
-            SsTableInfo::decode(bytes.clone()?, 2, 108),
+            info_of(alloc, &INFO, 2, 108),
             Err(SlateDBError::CorruptTable { place: 0 })
         )
     );
     assert!(rt;
         matches!(
-            SsTableInfo::decode(bytes, 1, 107),
+            info_of(alloc, &INFO, 1, 107),
             Err(SlateDBError::CorruptTable { place: 50 })
         )
     );
     let mut damaged = INFO;
     damaged[58] = 3;
-    let codec = Bytes::copy_from_slice(rt.alloc(), &damaged)?;
     assert!(rt;
         matches!(
-            SsTableInfo::decode(codec, 1, 108),
+            info_of(alloc, &damaged, 1, 108),
             Err(SlateDBError::UnsupportedCompression { codec: 3 })
         )
     );
     damaged[59] = 0;
-    let format = Bytes::copy_from_slice(rt.alloc(), &damaged)?;
     assert!(rt;
         matches!(
-            SsTableInfo::decode(format, 1, 108),
+            info_of(alloc, &damaged, 1, 108),
             Err(SlateDBError::CorruptTable { place: 59 })
         )
     );
@@ -177,14 +200,14 @@ fn sections(rt: HostRuntime) -> Result<(), Fail> {
 
 #[test]
 fn last_bytes(rt: HostRuntime) -> Result<(), Fail> {
-    let footer = Footer::decode(&FOOTER, 182)?;
+    let footer = footer_of(&FOOTER, 182)?;
     assert_eq!(rt; (footer.info_offset, footer.version), (108, 1));
     let mut out = Vec::new(rt.alloc());
     footer.encode(&mut out)?;
     assert_eq!(rt; out.as_slice(), FOOTER.as_slice());
     assert!(rt;
         matches!(
-            Footer::decode(&FOOTER, 117),
+            footer_of(&FOOTER, 117),
             Err(SlateDBError::CorruptTable { place: 0 })
         )
     );
@@ -192,7 +215,7 @@ fn last_bytes(rt: HostRuntime) -> Result<(), Fail> {
     damaged[9] = 3;
     assert!(rt;
         matches!(
-            Footer::decode(&damaged, 182),
+            footer_of(&damaged, 182),
             Err(SlateDBError::InvalidVersion { actual_version: 3 })
         )
     );
