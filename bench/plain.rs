@@ -56,17 +56,20 @@ fn decode_blocks(blocks: &[Vec<u8>], version: Version) -> Option<Sums> {
 
 fn run_checksums(is_timed: bool) {
     let crc = CrcTables::new();
-    let bytes: Vec<u8> = (0..4_194_304u32)
+    let mut bytes: Vec<u8> = (0..4_194_304u32)
         .map(|number| (number % 251) as u8)
         .collect();
     let start = Instant::now();
-    let sums: u64 = (0..64)
-        .map(|_| u64::from(crc.checksum(std::hint::black_box(&bytes))))
-        .sum();
+    let (mut sums, mut len) = (0u64, 0u64);
+    for turn in 0..64u32 {
+        bytes.push((turn % 251) as u8);
+        sums += u64::from(crc.checksum(&bytes));
+        len += bytes.len() as u64;
+    }
     report(
         is_timed,
         "checksum",
-        &format!("{} bytes, sums {sums}", 64 * bytes.len()),
+        &format!("{len} bytes, sums {sums}"),
         start,
     );
 }

@@ -4,7 +4,7 @@ use anyhow::Error;
 use slate_table::checksum;
 use std::alloc::Global;
 
-/// How many bytes are summed at once.
+/// How many bytes are summed at first.
 const BYTES: u32 = 4_194_304;
 
 /// How often they are summed.
@@ -19,16 +19,18 @@ fn make_bytes(alloc: Global) -> Result<Vec<u8>, Error> {
     Ok(bytes)
 }
 
-/// Sums the bytes again and again, and reports it.
+/// Sums the bytes again and again, with one more each time, since the sum of the same bytes would be computed once. Reports it.
 pub fn measure(report: &Report) -> Result<(), Error> {
     let alloc = report.alloc();
-    let bytes = make_bytes(alloc)?;
+    let mut bytes = make_bytes(alloc)?;
     let start = report.start()?;
     let mut sums = 0u64;
-    for _ in 0..TIMES {
+    let mut len = 0u64;
+    for turn in 0..TIMES {
+        bytes.push((turn % 251) as u8)?;
         sums = sums.saturating_add(u64::from(checksum(&bytes)));
+        len = len.saturating_add(bytes.len() as u64);
     }
-    let len = u64::from(BYTES) * u64::from(TIMES);
     let done = format!(in alloc; "{len} bytes, sums {sums}")?;
     report.finish("checksum", &done, start)?;
     Ok(())
