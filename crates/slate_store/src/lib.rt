@@ -28,6 +28,3 @@ pub use stream::{ReaderSource, WriterSink};
 /// A source or a sink failed. Its count of faults has risen.
 #[derive(Clone, Copy, Debug, PartialEq, Eq)]
 pub struct Failed;
-
-#[cfg(test)]
-mod tests;

@@ -41,6 +41,7 @@ impl Held {
             × MatchResult result (λ o. MatchOption o (IsEnd (model_of self.old) left (model_of self.new) rest) (λ l. GivesLine l.items (model_of self.old) left (model_of self.new) rest)) (λ _. KeepsAll (model_of self.old) left (model_of self.new) rest) }
         ensures at_once { (HasNoEnd (held_bytes self.old) → ⊥) → source.new ≡ source.old }
         ensures further { IfOk result (λ o. IfSome o (λ _. (model_of self.old).given < (model_of self.new).given)) }
+        ensures counted { IfOk result (λ o. IfSome o (λ l. (model_of self.old).given + length l.items ≤ (model_of self.new).given)) }
         ensures kept { OnErr result ((model_of self.new).given ≡ (model_of self.old).given) }
         ensures read_fault { result ≡ Err SlateDBError.ReadFault → Rose (R.faults source.old) (R.faults source.new) × HasNoEnd (held_bytes self.new) }
         ensures too_long { result ≡ Err SlateDBError.ScriptTooLong → (self.new.taken ≡ script_limit) × HasNoEnd (held_bytes self.new) }
@@ -212,6 +213,7 @@ impl Lines {
             × MatchResult result (λ o. MatchOption o (IsEnd self.old left self.new rest) (λ l. GivesLine l.items self.old left self.new rest)) (λ _. KeepsAll self.old left self.new rest) }
         ensures at_once { (HasNoEnd self.old.held → ⊥) → source.new ≡ source.old }
         ensures further { IfOk result (λ o. IfSome o (λ _. self.old.given < self.new.given)) }
+        ensures counted { IfOk result (λ o. IfSome o (λ l. self.old.given + length l.items ≤ self.new.given)) }
         ensures within { self.new.given + length self.new.held ≤ script_limit }
         ensures kept { OnErr result (self.new.given ≡ self.old.given) }
         ensures read_fault { result ≡ Err SlateDBError.ReadFault → Rose (R.faults source.old) (R.faults source.new) × HasNoEnd self.new.held }
