@@ -106,9 +106,19 @@ may_keep P None after h = tt
 may_keep P (Some os) after h = inl h
 
 -- what is kept of a table has the info that its bytes have
-pub handle_of : (t : Ulid × List ℕ) (h : SsTableHandle) (version made : ℕ) (info : SsTableInfo) → h.id ≡ t.0 → h.info ≡ info → h.format_version ≡ made → made ≡ version → HasInfo t.1 version (seen_info info) → EachIsAByte t.1 → IsHandle t h
-handle_of t h version made info id same format is has bytes = record {
+pub handle_of : (t : Ulid × List ℕ) (h : SsTableHandle) (version made : ℕ) (info : SsTableInfo) → (version ≡ 1) ⊎ (version ≡ 2) → h.id ≡ t.0 → h.info ≡ info → h.format_version ≡ made → made ≡ version → HasInfo t.1 version (seen_info info) → EachIsAByte t.1 → IsHandle t h
+handle_of t h version made info known id same format is has bytes = record {
   id = id;
+  version = by known;
   info = subst (λ (i : SsTableInfo). HasInfo t.1 h.format_version (seen_info i)) (sym same) (subst (λ (v : ℕ). HasInfo t.1 v (seen_info info)) (sym (format ∙ is)) has);
   bytes = bytes;
 }
+  where
+    by : (version ≡ 1) ⊎ (version ≡ 2) → (h.format_version ≡ 1) ⊎ (h.format_version ≡ 2)
+    by (inl one) = inl (format ∙ is ∙ one)
+    by (inr two) = inr (format ∙ is ∙ two)
+
+pub version_known : (format : BlockFormat) → (version_of format ≡ 1) ⊎ (version_of format ≡ 2)
+version_known V1 = inl refl
+version_known V2 = inr refl
+version_known Latest = inr refl

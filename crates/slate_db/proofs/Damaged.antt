@@ -1,10 +1,13 @@
 -- What is refused of a part that was read is damage.
-use Rattle.std.proofs.Common.{◌≡◌, ◌≢◌, ℕ, zero, suc, ◌+◌, ◌-◌, ◌*◌, ◌≤◌, ◌⊎◌, inl, inr, Bool, true, false, cond, eqb, List, length, drop, take, Option, Some, None, Result, Ok, Err, refl, subst}
-use Rattle.std.specs.Prelude.{IfErr, ◌&&◌, ◌==◌, nat_lt, nat_le, min, slice_range}
+use Rattle.std.proofs.Common.{◌≡◌, ◌≢◌, ◌<◌, [], ◌∷◌, sym, get_or, ℕ, zero, suc, ◌+◌, ◌-◌, ◌*◌, ◌≤◌, ◌⊎◌, inl, inr, Bool, true, false, cond, eqb, List, length, drop, take, Option, Some, None, Result, Ok, Err, refl, subst}
+use Rattle.std.specs.List.{AllByRecursion}
+use Rattle.std.specs.Prelude.{Contains, IfErr, ◌&&◌, ◌==◌, nat_lt, nat_le, min, slice_range}
 use Rattle.std.specs.Int.{Width, w16, w32, w64, byte_len, from_be_bytes}
 use Rattle.std.proofs.lemmas.Bool.{eqb-true}
+use Rattle.std.proofs.lemmas.List.Elements.{All-contains, All-from_recursion, Contains-get_or}
 use Rattle.slate_types.specs.declared.error.SlateDBError.{SlateDBError}
 use Rattle.slate_types.specs.declared.error.SlateDBError.TheVariants.{CorruptTable, ChecksumMismatch, InvalidRowFlags, InvalidVersion, OutOfMemory}
+use Rattle.slate_types.specs.declared.types.Ulid.{Ulid}
 use Rattle.slate_types.specs.Outside.{Objects, IsOuter, no_faults}
 use Rattle.slate_store.specs.Store.{Act}
 use Rattle.slate_block.specs.BlockReading.{counted_offsets, offset_field as block_offset_field, offsets_from, offsets_of_block}
@@ -12,12 +15,14 @@ use Rattle.slate_block.specs.BlockWalks.{Refuses, IsDamage as IsBlockDamage}
 use Rattle.slate_block.specs.Damage.{◌>>=◌, number_field, block_field}
 use Rattle.slate_block.specs.RowReading.{refusal}
 use Rattle.slate_block.specs.Walks.{RowRead}
+use Rattle.slate_table.specs.declared.info.SsTableHandle.{SsTableHandle}
 use Rattle.slate_table.specs.Checksum.{crc32}
 use Rattle.slate_table.specs.IndexReading.{counted, entries_from, entry_field, index_of, is_next_key, is_next_offset, offset_field, separator_field}
 use Rattle.slate_table.specs.Parts.{Encode}
 use Rattle.slate_table.specs.Reading.{Reads, IsStoreFault, FailsDecoding, IsRefused, RefusesIndex, RefusesBlocks, FailsBlocks, stored_in}
 use Rattle.slate_table.specs.SectionReading.{part_in, part_of_sum, stored_sum, IsTransformFault}
-use Rattle.slate_db.specs.Lookup.{IsDamage}
+use Rattle.slate_db.specs.Installs.{AreHandles}
+use Rattle.slate_db.specs.Lookup.{IsDamage, IsUnknown}
 use Rattle.slate_db.proofs.Blocks.{outer_memory}
 use Rattle.slate_db.proofs.Tables.{store_earlier, transform_earlier}
 
@@ -123,27 +128,27 @@ offsets_of_damage bytes =
 
 -- ---- what calls refuse for
 
-pub index_cause : (decode : Encode) (objects : Option Objects) (before after : Option (List Act)) (path : List ℕ) (start size end : ℕ) (e : SlateDBError) (a b c d : ℕ) →
-    IsStoreFault a b e ⊎ Reads objects before after path start size (λ answer. FailsDecoding c d answer e) ⊎ Reads objects before after path start size (λ answer. RefusesIndex decode end answer e) → IsStoreFault a b e ⊎ IsTransformFault c d e ⊎ IsDamage e
+pub index_cause : {U : Type 0} (decode : Encode) (objects : Option Objects) (before after : Option (List Act)) (path : List ℕ) (start size end : ℕ) (e : SlateDBError) (a b c d : ℕ) →
+    IsStoreFault a b e ⊎ Reads objects before after path start size (λ answer. FailsDecoding c d answer e) ⊎ Reads objects before after path start size (λ answer. RefusesIndex decode end answer e) → IsStoreFault a b e ⊎ IsTransformFault c d e ⊎ IsDamage e ⊎ U
 index_cause decode objects before after path start size end e a b c d (inl f) = inl f
 index_cause decode objects before after path start size end e a b c d (inr (inl f)) = inr (inl (inr (f.2.0, f.2.1)))
-index_cause decode objects before after path start size end e a b c d (inr (inr r)) = inr (inr (section_damage decode (index_of end) r.0 e (index_damage end) r.2))
+index_cause decode objects before after path start size end e a b c d (inr (inr r)) = inr (inr (inl (section_damage decode (index_of end) r.0 e (index_damage end) r.2)))
 
-pub blocks_cause : (decode : Encode) (objects : Option Objects) (before after : Option (List Act)) (path : List ℕ) (start size : ℕ) (answers : Option (List ℕ) → ℕ → Option (List ℕ)) (first stop : ℕ) (e : SlateDBError) (a b c d : ℕ) →
+pub blocks_cause : {U : Type 0} (decode : Encode) (objects : Option Objects) (before after : Option (List Act)) (path : List ℕ) (start size : ℕ) (answers : Option (List ℕ) → ℕ → Option (List ℕ)) (first stop : ℕ) (e : SlateDBError) (a b c d : ℕ) →
     IsStoreFault a b e ⊎ Reads objects before after path start size (λ answer. FailsBlocks decode (answers answer) first stop c d e)
-    ⊎ Reads objects before after path start size (λ answer. RefusesBlocks decode (answers answer) first stop e) → IsStoreFault a b e ⊎ IsTransformFault c d e ⊎ IsDamage e
+    ⊎ Reads objects before after path start size (λ answer. RefusesBlocks decode (answers answer) first stop e) → IsStoreFault a b e ⊎ IsTransformFault c d e ⊎ IsDamage e ⊎ U
 blocks_cause decode objects before after path start size answers first stop e a b c d (inl f) = inl f
 blocks_cause decode objects before after path start size answers first stop e a b c d (inr (inl f)) = inr (inl (inr (f.2.3.0, f.2.3.1)))
 blocks_cause decode objects before after path start size answers first stop e a b c d (inr (inr r)) =
     let refused = r.2 in
-    inr (inr (section_damage decode offsets_of_block (answers r.0 refused.0) e offsets_of_damage refused.3))
+    inr (inr (inl (section_damage decode offsets_of_block (answers r.0 refused.0) e offsets_of_damage refused.3)))
 
-pub cause_earlier : (a b c x y z : ℕ) (e : SlateDBError) → a ≤ b → x ≤ y → IsStoreFault b c e ⊎ IsTransformFault y z e ⊎ IsDamage e → IsStoreFault a c e ⊎ IsTransformFault x z e ⊎ IsDamage e
+pub cause_earlier : {D : Type 0} (a b c x y z : ℕ) (e : SlateDBError) → a ≤ b → x ≤ y → IsStoreFault b c e ⊎ IsTransformFault y z e ⊎ D → IsStoreFault a c e ⊎ IsTransformFault x z e ⊎ D
 cause_earlier a b c x y z e h k (inl f) = inl (store_earlier a b c e h f)
 cause_earlier a b c x y z e h k (inr (inl f)) = inr (inl (transform_earlier x y z e k f))
 cause_earlier a b c x y z e h k (inr (inr d)) = inr (inr d)
 
-pub found_cause : (a b x y : ℕ) (e : SlateDBError) → (e ≡ OutOfMemory) ⊎ IsDamage e → IsStoreFault a b e ⊎ IsTransformFault x y e ⊎ IsDamage e
+pub found_cause : {D : Type 0} (a b x y : ℕ) (e : SlateDBError) → (e ≡ OutOfMemory) ⊎ D → IsStoreFault a b e ⊎ IsTransformFault x y e ⊎ D
 found_cause a b x y e (inl m) = inl (inl m)
 found_cause a b x y e (inr d) = inr (inr d)
 
@@ -154,25 +159,53 @@ in_block (CorruptTable place) h = tt
 in_block (InvalidRowFlags b) h = tt
 in_block _ h = absurd h
 
-pub begin_cause : {A : Type 0} (version : ℕ) (r : Result A SlateDBError) (e : SlateDBError) → r ≡ Err e → ((version ≡ 1) ⊎ (version ≡ 2) → (e ≡ OutOfMemory) ⊎ IsBlockDamage e) → (version ≢ 1 → version ≢ 2 → r ≡ Err (InvalidVersion version)) → (e ≡ OutOfMemory) ⊎ IsDamage e
+pub begin_cause : {A : Type 0} (version : ℕ) (r : Result A SlateDBError) (e : SlateDBError) → r ≡ Err e → ((version ≡ 1) ⊎ (version ≡ 2) → (e ≡ OutOfMemory) ⊎ IsBlockDamage e) → (version ≢ 1 → version ≢ 2 → r ≡ Err (InvalidVersion version)) → (e ≡ OutOfMemory) ⊎ IsDamage e ⊎ IsUnknown version e
 begin_cause version r e is known unknown = by (eqb version 1) (eqb version 2) refl refl
   where
-    damaged : (e ≡ OutOfMemory) ⊎ IsBlockDamage e → (e ≡ OutOfMemory) ⊎ IsDamage e
+    damaged : (e ≡ OutOfMemory) ⊎ IsBlockDamage e → (e ≡ OutOfMemory) ⊎ IsDamage e ⊎ IsUnknown version e
     damaged (inl m) = inl m
-    damaged (inr d) = inr (in_block e d)
+    damaged (inr d) = inr (inl (in_block e d))
 
-    by : (t s : Bool) → eqb version 1 ≡ t → eqb version 2 ≡ s → (e ≡ OutOfMemory) ⊎ IsDamage e
+    by : (t s : Bool) → eqb version 1 ≡ t → eqb version 2 ≡ s → (e ≡ OutOfMemory) ⊎ IsDamage e ⊎ IsUnknown version e
     by true s first second = damaged (known (inl (eqb-true version 1 first)))
     by false true first second = damaged (known (inr (eqb-true version 2 second)))
     by false false first second =
-        let k : r ≡ Err (InvalidVersion version) = unknown (λ one. cc) (λ two. cc) in
-        let same : InvalidVersion version ≡ e = cc in
-        inr (subst IsDamage same tt)
+        let not_one : version ≢ 1 = λ one. cc in
+        let not_two : version ≢ 2 = λ two. cc in
+        let k : r ≡ Err (InvalidVersion version) = unknown not_one not_two in
+        let same : e ≡ InvalidVersion version = cc in
+        inr (inr (not_one, not_two, same))
 
-pub seek_cause : (reads : List RowRead) (e : SlateDBError) → IsOuter no_faults no_faults e ⊎ Refuses reads e → (e ≡ OutOfMemory) ⊎ IsDamage e
+pub seek_cause : {U : Type 0} (reads : List RowRead) (e : SlateDBError) → IsOuter no_faults no_faults e ⊎ Refuses reads e → (e ≡ OutOfMemory) ⊎ IsDamage e ⊎ U
 seek_cause reads e (inl outer) = inl (outer_memory e outer)
-seek_cause reads e (inr r) = inr (in_block e r.0)
+seek_cause reads e (inr r) = inr (inl (in_block e r.0))
 
-pub walk_cause : (reads : List RowRead) (e : SlateDBError) → (e ≡ OutOfMemory) ⊎ Refuses reads e → (e ≡ OutOfMemory) ⊎ IsDamage e
+pub walk_cause : {U : Type 0} (reads : List RowRead) (e : SlateDBError) → (e ≡ OutOfMemory) ⊎ Refuses reads e → (e ≡ OutOfMemory) ⊎ IsDamage e ⊎ U
 walk_cause reads e (inl m) = inl m
-walk_cause reads e (inr r) = inr (in_block e r.0)
+walk_cause reads e (inr r) = inr (inl (in_block e r.0))
+
+-- ---- tables whose versions are known
+
+pub at_table : {A B : Type 0} (hs : List SsTableHandle) (i : ℕ) (h : SsTableHandle) (e : SlateDBError) → i < length hs → h ≡ get_or hs i h → A ⊎ B ⊎ IsDamage e ⊎ IsUnknown h.format_version e →
+    A ⊎ B ⊎ IsDamage e ⊎ ((x : SsTableHandle) × Contains hs x × IsUnknown x.format_version e)
+at_table hs i h e within is (inl a) = inl a
+at_table hs i h e within is (inr (inl b)) = inr (inl b)
+at_table hs i h e within is (inr (inr (inl d))) = inr (inr (inl d))
+at_table hs i h e within is (inr (inr (inr u))) = inr (inr (inr (h, subst (Contains hs) (sym is) (Contains-get_or hs i h within), u)))
+
+known_all : (ts : List (Ulid × List ℕ)) (hs : List SsTableHandle) → AreHandles ts hs → AllByRecursion (λ (h : SsTableHandle). (h.format_version ≡ 1) ⊎ (h.format_version ≡ 2)) hs
+known_all [] [] are = tt
+known_all (t ∷ ts) (h ∷ hs) are = (are.0.version, known_all ts hs are.1)
+known_all [] (h ∷ hs) are = absurd are
+known_all (t ∷ ts) [] are = absurd are
+
+pub known_cause : {A B : Type 0} (ts : List (Ulid × List ℕ)) (tables hs : List SsTableHandle) (e : SlateDBError) → tables ≡ hs → AreHandles ts hs →
+    A ⊎ B ⊎ IsDamage e ⊎ ((x : SsTableHandle) × Contains tables x × IsUnknown x.format_version e) → A ⊎ B ⊎ IsDamage e
+known_cause ts tables hs e same are (inl a) = inl a
+known_cause ts tables hs e same are (inr (inl b)) = inr (inl b)
+known_cause ts tables hs e same are (inr (inr (inl d))) = inr (inr d)
+known_cause ts tables hs e same are (inr (inr (inr (x, among, u)))) = absurd (by (All-contains (λ (h : SsTableHandle). (h.format_version ≡ 1) ⊎ (h.format_version ≡ 2)) hs x (All-from_recursion _ hs (known_all ts hs are)) (subst (λ (ys : List SsTableHandle). Contains ys x) same among)))
+  where
+    by : (x.format_version ≡ 1) ⊎ (x.format_version ≡ 2) → ⊥
+    by (inl first) = u.0 first
+    by (inr second) = u.1 second

@@ -2,8 +2,9 @@
 use Rattle.std.proofs.Common.{◌≡◌, ◌≢◌, ℕ, Bool, true, false, map, ◌+◌, ◌<◌, ◌≤◌, ◌⊎◌, List, [], ◌∷◌, ◌++◌, length, Option, Some, None, option_to_list, refl, sym, ap, subst, ◌∙◌, inl, inr, arith, length-append}
 use Rattle.std.proofs.lemmas.Bool.Decides.{nat_tests}
 use Rattle.std.proofs.lemmas.List.{length-map}
-use Rattle.std.specs.Prelude.{◌==◌, Result, Ok, Err, IfOk, IfErr}
+use Rattle.std.specs.Prelude.{◌==◌, Result, Ok, Err, IfOk, IfErr, OnErr}
 use Rattle.slate_types.specs.declared.error.SlateDBError.{SlateDBError}
+use Rattle.slate_types.specs.declared.error.SlateDBError.TheVariants.{OutOfMemory, LimitReached, StoreFault, BlockTransformError}
 use Rattle.slate_types.specs.declared.types.Ulid.{Ulid}
 use Rattle.slate_types.specs.Fold.{fold_rows}
 use Rattle.slate_types.specs.Outside.{Objects}
@@ -23,6 +24,7 @@ use Rattle.slate_db.specs.Sound.{IsKept, at_most, later}
 use Rattle.slate_db.specs.Whole.{IsWhole}
 use Rattle.slate_db.proofs.Keeps.{kept_event}
 use Rattle.slate_db.proofs.Lists.{none_behind}
+use Rattle.slate_db.proofs.Loads.{load_before}
 use Rattle.slate_db.proofs.Split.{all_up_to}
 use Rattle.slate_db.proofs.Wholes.{versions_frozen}
 
@@ -77,6 +79,7 @@ whole_flushed c n ids runs hs active frozen w = record {
   counted = w.counted;
   floor_within = w.floor_within;
   begins = w.begins;
+  begins_rise = w.begins_rise;
   installed_within = w.installed_within;
   flushed_within = omega arith;
   flushed_through = all_up_to c.settings.start_seq n c.state.commits w.rising (let l : n ≡ last_of c.settings.start_seq c.state.commits = w.last in omega arith) ∙ sym (w.all_installed active frozen);
@@ -160,6 +163,17 @@ none_passed limit old between (inl (none, is)) nothing bound h =
     absurd (omega arith)
 none_passed limit old between (inr (active, is)) nothing bound h = none_behind old.frozen old.active (ap (λ (v : CoreModel). v.frozen) (sym is) ∙ nothing)
 
+-- at the limit a flush has no rows to freeze, and changes nothing
+pub no_room : {A : Type 0} (limit : ℕ) (old : CoreModel) → (old.active ≡ [] → ⊥) → ((old.active ≡ [] → ⊥) → held old + 2 ≤ limit) → limit < passed old → A
+no_room limit old some room h =
+    let over : limit < held old + 2 = two_passed limit old some h in
+    let under : held old + 2 ≤ limit = room some in
+    absurd (omega arith)
+
+pub full_frozen : (limit : ℕ) (old between : CoreModel) → IsFrozen old between → ((old.active ≡ [] → ⊥) → held old + 2 ≤ limit) → limit < passed old → between ≡ old
+full_frozen limit old between (inl (none, is)) room h = is
+full_frozen limit old between (inr (some, is)) room h = no_room limit old some room h
+
 -- the rows in memory are the same before the freeze
 folded_before : (m : Meaning) (b : ℕ) (old : CoreModel) (rows : Rows) → IsFolded m b ((old.frozen ++ (old.active ∷ [])) ++ ([] ∷ [])) rows → IsFolded m b (memory old) rows
 folded_before m b old rows folded k = folded k ∙ ap (λ xs. option_to_list (fold_rows (combine_of m k) (at_most b xs)) ++ later b xs) (versions_frozen k old)
@@ -169,7 +183,7 @@ too_large_before layout old between e (inl (none, is)) h = subst (λ (v : CoreMo
 too_large_before layout old between e (inr (some, is)) h = moved (subst (λ (v : CoreModel). TooLarge layout v e) is h)
   where
     moved : TooLarge layout (frozen_of old between.spare) e → TooLarge layout old e
-    moved (rows, folded, large) = (rows, (λ m. folded_before m (least_begin (last_of old.settings.start_seq old.state.commits) old.state.txns) old rows (folded m)), large)
+    moved (rows, folded, order, large, more) = (rows, (λ m. folded_before m (least_begin (last_of old.settings.start_seq old.state.commits) old.state.txns) old rows (folded m)), order, large, load_before old more)
 
 -- ---- behind the freeze
 
@@ -201,3 +215,20 @@ pub some_frozen : (now items : List MemTableModel) (b : Bool) (layers : List Row
 some_frozen now items b layers h e same is =
     subst (λ (ls : List Rows). 0 < length ls) is
     (subst (λ (n : ℕ). 0 < n) (ap length same ∙ sym (length-map items (λ (t : MemTableModel). t.rows))) (some_left now b h e))
+
+-- ---- which rows a fault leaves
+
+pub left_at : {X E P : Type 0} (r : Result X E) (e : E) → r ≡ Err e → OnErr r P → P
+left_at (Ok x) e is h = cc
+left_at (Err f) e is h = h
+
+pub frozen_at_fault : {X : Type 0} (r : Result X SlateDBError) (old between new : CoreModel) → IsFrozen old between → OnErr r (IsSame between new) → (r ≡ Err StoreFault) ⊎ (r ≡ Err BlockTransformError) → (x : CoreModel) × IsFrozen old x × IsSame x new
+frozen_at_fault r old between new frozen same (inl is) = (between, frozen, left_at r StoreFault is same)
+frozen_at_fault r old between new frozen same (inr is) = (between, frozen, left_at r BlockTransformError is same)
+
+-- before the install there is no fault
+pub no_fault : {X A : Type 0} (limit : ℕ) (r : Result ℕ SlateDBError) (e : SlateDBError) → r ≡ Err e → (X → e ≡ LimitReached limit) → (e ≡ OutOfMemory) ⊎ X → (r ≡ Err StoreFault) ⊎ (r ≡ Err BlockTransformError) → A
+no_fault limit r e at limited (inl m) (inl is) = cc
+no_fault limit r e at limited (inl m) (inr is) = cc
+no_fault limit r e at limited (inr x) (inl is) = let m : e ≡ LimitReached limit = limited x in cc
+no_fault limit r e at limited (inr x) (inr is) = let m : e ≡ LimitReached limit = limited x in cc

@@ -87,6 +87,7 @@ whole_install c n ids runs hs t h spare room bound id kept w = record {
   counted = rw length-append (let h : ids ≤ length c.events = w.counted in omega arith);
   floor_within = least_within n c.state.txns;
   begins = least_each n c.floor n c.state.txns w.begins;
+  begins_rise = w.begins_rise;
   installed_within = rw (ap (λ s. s.flushed) more) (omega arith);
   flushed_within = omega arith;
   flushed_through = ap (λ i. up_to i c.state.commits) (sym (ap (λ s. s.flushed) more));

@@ -1,5 +1,6 @@
 mod Lists
 mod Names
+mod Begins
 mod Journals
 mod IdLaws
 mod Split
@@ -26,10 +27,13 @@ mod Folding
 mod Bases
 mod Rises
 mod Gets
+mod Answered
+mod Puttings
 mod Tables
 mod Blocks
 mod Damaged
 mod Causes
+mod Loads
 mod Steps
 mod Notes
 mod Refused

@@ -1,45 +1,62 @@
--- Where a name stands in a list of pairs.
-use Rattle.std.proofs.Common.{◌≡◌, ℕ, zero, suc, ◌+◌, ◌<◌, Bool, true, false, cond, List, [], ◌∷◌, length, Option, Some, None, refl, sym, ap, arith, bytes_eq, map, subst, ◌∙◌}
-use native.Mathlib.Numerals.{unary_clauses}
-use Rattle.std.specs.Prelude.{slice_index_or, is_some, IsNone, IsSome, IfSome}
-use Rattle.std.proofs.lemmas.Slice.Eq.{bytes_eq-Decides}
-use Rattle.std.proofs.lemmas.Bool.{false_from_ne_true}
+-- Values under names: what a map keyed by names finds, and what is kept of a list where one goes or is changed.
+use Rattle.std.proofs.Common.{◌≡◌, ℕ, suc, ◌+◌, Bool, true, false, cond, List, [], ◌∷◌, ◌++◌, length, Option, Some, None, unwrap_or, refl, sym, ap, arith, bytes_eq, map, subst, ◌∙◌, Greater}
+use Rattle.std.specs.Prelude.{IsSome, Result, Ok, Err, OnOk, OnErr}
+use Rattle.std.specs.Map.{lookup, remove_entry, set_value}
+use Rattle.std.specs.Ordering.{match_ordering}
+use Rattle.std.specs.BTreeMap.{insert_entry, is_at}
+use Rattle.std.proofs.lemmas.Cmp.{nat_list_eq_equiv}
+use Rattle.std.proofs.lemmas.Map.Text.{is_eq-slice_cmp}
+use Rattle.slate_types.specs.Keys.{key_cmp}
 use Rattle.slate_txn.specs.Named.{find_named, without, update_named}
 use Rattle.std.specs.List.{AllByRecursion}
-use Rattle.slate_db.specs.Named.{IsPlace}
 
-pub place_at : {X : Type 0} (k : List ℕ) (ps : List (List ℕ × X)) (i : ℕ) (d : List ℕ × X) → i < length ps → ((j : ℕ) → j < i → (slice_index_or ps j d).0 ≡ k → ⊥) → (slice_index_or ps i d).0 ≡ k → IsPlace k ps i
-place_at k [] i d h before here = absurd (omega arith)
-place_at k (p ∷ ps) zero d h before here =
-    let e : bytes_eq p.0 k ≡ true = (bytes_eq-Decides p.0 k).1 here in
-    record {
-      within = h;
-      finds = λ d. rw e refl;
-      named = λ d. here;
-      without = rw e refl;
-      updates = λ f d. rw e (ap (λ x. (x, f p.1) ∷ ps) here);
-    }
-place_at k (p ∷ ps) (suc i) d h before here =
-    let e : bytes_eq p.0 k ≡ false = false_from_ne_true _ (λ t. before 0 (omega arith) ((bytes_eq-Decides p.0 k).0 t)) in
-    let rest : IsPlace k ps i = place_at k ps i d (omega arith) (λ j b. before (suc j) (omega arith)) here in
-    record {
-      within = h;
-      finds = λ d. rw e (rest.finds d);
-      named = λ d. rest.named d;
-      without = rw e (simp unary_clauses (let h = simp unary_clauses at rest.without in ap (λ xs. p ∷ xs) h));
-      updates = λ f d. rw e (ap (λ xs. p ∷ xs) (rest.updates f d));
-    }
+-- ---- a map's entries
 
-pub place_none : {X : Type 0} (k : List ℕ) (ps : List (List ℕ × X)) → ((d : List ℕ × X) (j : ℕ) → j < length ps → (slice_index_or ps j d).0 ≡ k → ⊥) → find_named k ps ≡ None
-place_none k [] h = refl
-place_none k (p ∷ ps) h =
-    let e : bytes_eq p.0 k ≡ false = false_from_ne_true _ (λ t. h p 0 (omega arith) ((bytes_eq-Decides p.0 k).0 t)) in
-    rw e (place_none k ps (λ d j b. h d (suc j) (omega arith)))
+-- the map's test of two names is the list's
+same_test : (k j : List ℕ) → is_at (key_cmp k) j ≡ bytes_eq j k
+same_test k j = is_eq-slice_cmp k j ∙ nat_list_eq_equiv.symm k j
 
-pub open_place : {X : Type 0} (k : List ℕ) (ps : List (List ℕ × X)) (r : Option ℕ) → IfSome r (λ i. IsPlace k ps i) → (IsNone r → find_named k ps ≡ None) → is_some r ≡ is_some (find_named k ps)
-open_place k ps None some none = ap is_some (sym (none refl))
-open_place k [] (Some i) some none = absurd (omega (arith, some.within))
-open_place k (p ∷ ps) (Some i) some none = ap is_some (sym (some.finds p))
+pub find_is : {X : Type 0} (k : List ℕ) (ps : List (List ℕ × X)) → lookup (is_at (key_cmp k)) ps ≡ find_named k ps
+find_is k [] = refl
+find_is k (p ∷ ps) = let t = same_test k p.0 in let rest = find_is k ps in λ i. cond (t i) (Some p.1) (rest i)
+
+pub without_is : {X : Type 0} (k : List ℕ) (ps : List (List ℕ × X)) → remove_entry (is_at (key_cmp k)) ps ≡ without k ps
+without_is k [] = refl
+without_is k (p ∷ ps) = let t = same_test k p.0 in let rest = without_is k ps in λ i. cond (t i) ps (p ∷ rest i)
+
+-- what is written over the value that was found
+pub update_is : {X : Type 0} (k : List ℕ) (f : X → X) (x : X) (ps : List (List ℕ × X)) → find_named k ps ≡ Some x → set_value (is_at (key_cmp k)) ps (f x) ≡ update_named k f ps
+update_is k f x [] h = refl
+update_is {X} k f x (p ∷ ps) h = ap (λ t. cond t ((p.0, f x) ∷ ps) (p ∷ set_value (is_at (key_cmp k)) ps (f x))) (same_test k p.0) ∙ by (bytes_eq p.0 k) h (update_is k f x ps)
+  where
+    by : (b : Bool) → cond b (Some p.1) (find_named k ps) ≡ Some x → (find_named k ps ≡ Some x → set_value (is_at (key_cmp k)) ps (f x) ≡ update_named k f ps) →
+        cond b ((p.0, f x) ∷ ps) (p ∷ set_value (is_at (key_cmp k)) ps (f x)) ≡ cond b ((p.0, f p.1) ∷ ps) (p ∷ update_named k f ps)
+    by true e rest = ap (λ y. (p.0, f y) ∷ ps) (sym (ap (λ (o : Option X). unwrap_or o x) e))
+    by false e rest = ap (λ qs. p ∷ qs) (rest e)
+
+pub update_none : {X : Type 0} (k : List ℕ) (f : X → X) (ps : List (List ℕ × X)) → find_named k ps ≡ None → update_named k f ps ≡ ps
+update_none k f [] h = refl
+update_none k f (p ∷ ps) h = by (bytes_eq p.0 k) h (update_none k f ps)
+  where
+    by : (b : Bool) → cond b (Some p.1) (find_named k ps) ≡ None → (find_named k ps ≡ None → update_named k f ps ≡ ps) → cond b ((p.0, f p.1) ∷ ps) (p ∷ update_named k f ps) ≡ p ∷ ps
+    by true e rest = let clash : Some p.1 ≡ None = e in cc
+    by false e rest = ap (λ qs. p ∷ qs) (rest e)
+
+-- ---- a name past all others
+
+pub put_last : {X : Type 0} (k : List ℕ) (x : X) (ps : List (List ℕ × X)) → AllByRecursion (λ p. key_cmp k p.0 ≡ Greater) ps → insert_entry key_cmp ps k x ≡ ps ++ ((k, x) ∷ [])
+put_last k x [] h = refl
+put_last k x (p ∷ ps) h =
+    ap (λ o. match_ordering o ((k, x) ∷ p ∷ ps) ((p.0, x) ∷ ps) (p ∷ insert_entry key_cmp ps k x)) h.0
+    ∙ ap (λ qs. p ∷ qs) (put_last k x ps h.1)
+
+pub without_last : {X : Type 0} (k : List ℕ) (x : X) (ps : List (List ℕ × X)) → find_named k ps ≡ None → without k (ps ++ ((k, x) ∷ [])) ≡ ps
+without_last k x [] h = ap (λ t. cond t [] ((k, x) ∷ [])) (nat_list_eq_equiv.refl k)
+without_last k x (p ∷ ps) h = by (bytes_eq p.0 k) h (without_last k x ps)
+  where
+    by : (b : Bool) → cond b (Some p.1) (find_named k ps) ≡ None → (find_named k ps ≡ None → without k (ps ++ ((k, x) ∷ [])) ≡ ps) → cond b (ps ++ ((k, x) ∷ [])) (p ∷ without k (ps ++ ((k, x) ∷ []))) ≡ p ∷ ps
+    by true e rest = let clash : Some p.1 ≡ None = e in cc
+    by false e rest = ap (λ qs. p ∷ qs) (rest e)
 
 -- ---- a list without a name
 
@@ -108,3 +125,13 @@ pub record IsNamed {X : Type 0} (o : Option X) : Type 0 where
 pub open_is : {X : Type 0} (o : Option X) → IsSome o → IsNamed o
 open_is None h = cc
 open_is (Some x) h = record { value = x; is = refl }
+
+-- ---- under an answer
+
+pub on_ok : {X E P Q : Type 0} (r : Result X E) → (P → Q) → OnOk r P → OnOk r Q
+on_ok (Ok x) f h = f h
+on_ok (Err e) f h = tt
+
+pub on_err : {X E P Q : Type 0} (r : Result X E) → (P → Q) → OnErr r P → OnErr r Q
+on_err (Ok x) f h = tt
+on_err (Err e) f h = f h

@@ -18,6 +18,7 @@ use Rattle.slate_txn.specs.Step.{step, noted, get, get_found, reader_or_snapshot
 use Rattle.slate_db.specs.Model.{CoreModel}
 use Rattle.slate_db.specs.Installs.{as_begun}
 use Rattle.slate_db.specs.Whole.{IsWhole}
+use Rattle.slate_db.proofs.Begins.{rise_updated}
 use Rattle.slate_db.proofs.Names.{update_map, update_all, update_length}
 
 abbrev pub after_note : CoreModel → List ℕ → List TranscriptStep → CoreModel
@@ -40,6 +41,7 @@ whole_note c n ids runs hs id ts w = record {
   counted = w.counted;
   floor_within = w.floor_within;
   begins = update_all _ id with_steps c.state.txns (λ p h. h) w.begins;
+  begins_rise = rise_updated id with_steps c.state.txns (λ t. refl) w.begins_rise;
   installed_within = w.installed_within;
   flushed_within = w.flushed_within;
   flushed_through = w.flushed_through;

@@ -1,21 +1,28 @@
 -- Stored tables, one after another.
 use Rattle.std.proofs.Common.{◌≡◌, ℕ, zero, suc, ◌+◌, ◌<◌, List, [], ◌∷◌, drop, length, get_or, refl, sym, ap, subst, ◌∙◌, arith}
-use Rattle.std.specs.Prelude.{◌⊎◌, ◌≤◌, false, Option, Some}
+use Rattle.std.specs.Prelude.{◌⊎◌, ◌≤◌, ◌-◌, false, flat_map, Option, Some}
+use Rattle.std.specs.List.{AllByRecursion}
+use Rattle.std.proofs.lemmas.Option.{same_Some}
 use Rattle.std.proofs.Common.{inl, inr}
 use Rattle.slate_types.specs.declared.error.SlateDBError.{SlateDBError}
+use Rattle.slate_types.specs.declared.iter.IterationOrder.TheVariants.{Ascending}
 use Rattle.slate_types.specs.Faults.{Rose}
+use Rattle.slate_types.specs.Iteration.{IsInOrder}
 use Rattle.slate_types.specs.Outside.{Objects}
+use Rattle.slate_types.specs.Partitions.{CanHold}
 use Rattle.slate_store.specs.Store.{Act, object_at, part_of}
 use Rattle.slate_block.specs.declared.block.Block.{Block}
 use Rattle.slate_mem.specs.Table.{newest}
-use Rattle.slate_table.specs.Finding.{encloses, index_answer, blocks_answer}
+use Rattle.slate_table.specs.Finding.{encloses, blocks_answer, of_key, AreBlocksOf}
+use Rattle.slate_table.specs.IndexReading.{index_keys}
 use Rattle.slate_table.specs.InfoReading.{seen_info}
 use Rattle.slate_table.specs.Paths.{path_of}
 use Rattle.slate_table.specs.Reading.{Reads, IsStoreFault, FailsDecoding, IsIndexRead, RefusesIndex, AreBlocksRead, RefusesBlocks, FailsBlocks, block_answer, block_start, blocks_size}
 use Rattle.slate_table.specs.SectionReading.{IsTransformFault}
-use Rattle.slate_table.proofs.FrameReads.{answered}
-use Rattle.slate_table.proofs.TableFinds.{outside_none, not_refused}
+use Rattle.slate_table.proofs.TableFinds.{key_held, not_refused, outside_none}
 use Rattle.slate_db.specs.Installs.{root}
+use Rattle.slate_db.specs.Answered.{AnswersAs}
+use Rattle.slate_db.proofs.Answered.{Knows, knows_acts, knows_told}
 use Rattle.slate_db.proofs.Newest.{newest_same}
 use Rattle.slate_table.specs.declared.info.SsTableHandle.{SsTableHandle}
 use Rattle.slate_table.specs.Parts.{Encode}
@@ -62,20 +69,27 @@ table_at encode encode2 decode decode2 objects objects2 hs layers i h e d o are 
 pub outside_newest : (encode decode : Encode) (objects : Option Objects) (h : SsTableHandle) (rows : Rows) (k : List ℕ) (n : ℕ) → IsStored encode decode objects h rows → encloses (seen_info h.info) k ≡ false → [] ≡ newest k n rows
 outside_newest encode decode objects h rows k n stored out = newest_same k n [] rows (sym (outside_none encode stored.bytes h.format_version (seen_info h.info) rows stored.is k out))
 
--- what an honest store answers
-pub read_part : (objects told : Option Objects) (before after : Option (List Act)) (path : List ℕ) (start size : ℕ) (means : Option (List ℕ) → Type 0) (os : Objects) (bytes : List ℕ) → told ≡ objects → objects ≡ Some os → object_at os path ≡ Some bytes →
-    Reads told before after path start size means → means (part_of (Some bytes) start size)
-read_part objects told before after path start size means os bytes same is there r =
-    subst means (answered told os before after path bytes start size r.0 (same ∙ is) there r.1) r.2
+-- what is answered where a table is stored: by a store that tells its objects, and in a call whose reads were answered by them
+pub told_by : {encode decode : Encode} {objects told : Option Objects} {h : SsTableHandle} {rows : Rows} {before after : Option (List Act)} → (stored : IsStored encode decode objects h rows) → told ≡ objects → Knows told before after (path_of root h.id.0) stored.bytes
+told_by {told} {h} {before} {after} stored same = knows_told told stored.os before after (path_of root h.id.0) stored.bytes (same ∙ stored.told) stored.there
 
-pub index_whole : (encode decode : Encode) (objects told : Option Objects) (h : SsTableHandle) (rows : Rows) (before after : Option (List Act)) (e : SlateDBError) (a b c d : ℕ) → IsStored encode decode objects h rows → told ≡ objects →
+pub acts_by : {encode decode : Encode} {os : Objects} {told : Option Objects} {h : SsTableHandle} {rows : Rows} {before after : Option (List Act)} → (stored : IsStored encode decode (Some os) h rows) → AnswersAs os before after → Knows told before after (path_of root h.id.0) stored.bytes
+acts_by {os} {told} {h} {before} {after} stored a =
+    knows_acts told os before after (path_of root h.id.0) stored.bytes a (subst (λ (o : Objects). object_at o (path_of root h.id.0) ≡ Some stored.bytes) (sym (same_Some os stored.os stored.told)) stored.there)
+
+pub read_part : (told : Option Objects) (before after : Option (List Act)) (path : List ℕ) (start size : ℕ) (means : Option (List ℕ) → Type 0) (bytes : List ℕ) → Knows told before after path bytes →
+    Reads told before after path start size means → means (part_of (Some bytes) start size)
+read_part told before after path start size means bytes knows r = subst means (knows start size r.0 r.1) r.2
+
+pub index_whole : (encode decode : Encode) (objects told : Option Objects) (h : SsTableHandle) (rows : Rows) (before after : Option (List Act)) (e : SlateDBError) (a b c d : ℕ) → (stored : IsStored encode decode objects h rows) →
+    Knows told before after (path_of root h.id.0) stored.bytes →
     IsStoreFault a b e ⊎ Reads told before after (path_of root h.id.0) h.info.index_offset h.info.index_len (λ answer. FailsDecoding c d answer e)
     ⊎ Reads told before after (path_of root h.id.0) h.info.index_offset h.info.index_len (λ answer. RefusesIndex decode h.info.filter_offset answer e) → IsStoreFault a b e ⊎ IsTransformFault c d e
-index_whole encode decode objects told h rows before after e a b c d stored same (inl f) = inl f
-index_whole encode decode objects told h rows before after e a b c d stored same (inr (inl f)) = inr (inr (f.2.0, f.2.1))
-index_whole encode decode objects told h rows before after e a b c d stored same (inr (inr r)) =
+index_whole encode decode objects told h rows before after e a b c d stored knows (inl f) = inl f
+index_whole encode decode objects told h rows before after e a b c d stored knows (inr (inl f)) = inr (inr (f.2.0, f.2.1))
+index_whole encode decode objects told h rows before after e a b c d stored knows (inr (inr r)) =
     absurd ((not_refused encode decode stored.lawful stored.bytes h.format_version (seen_info h.info) rows stored.each stored.is).0 e
-    (read_part objects told before after (path_of root h.id.0) h.info.index_offset h.info.index_len (λ answer. RefusesIndex decode h.info.filter_offset answer e) stored.os stored.bytes same stored.told stored.there r))
+    (read_part told before after (path_of root h.id.0) h.info.index_offset h.info.index_len (λ answer. RefusesIndex decode h.info.filter_offset answer e) stored.bytes knows r))
 
 pub store_earlier : (a b c : ℕ) (e : SlateDBError) → a ≤ b → IsStoreFault b c e → IsStoreFault a c e
 store_earlier a b c e h (inl m) = inl m
@@ -90,21 +104,28 @@ faults_earlier a b c x y z e h k (inl f) = inl (store_earlier a b c e h f)
 faults_earlier a b c x y z e h k (inr f) = inr (transform_earlier x y z e k f)
 
 -- the transformer reads as it did before the index was read
-pub blocks_whole : (encode decode now : Encode) (objects told : Option Objects) (h : SsTableHandle) (rows : Rows) (entries : List (ℕ × List ℕ)) (first stop : ℕ) (before after : Option (List Act)) (e : SlateDBError) (a b c d : ℕ) → (stored : IsStored encode decode objects h rows) →
-    told ≡ objects → now ≡ decode → IsIndexRead decode h.info.filter_offset (index_answer stored.bytes (seen_info h.info)) entries → first ≤ stop → stop ≤ length entries →
-    IsStoreFault a b e ⊎ Reads told before after (path_of root h.id.0) (block_start h.info.filter_offset entries first) (blocks_size h.info.filter_offset entries first stop) (λ answer. FailsBlocks now (block_answer h.info.filter_offset entries first answer) first stop c d e)
-    ⊎ Reads told before after (path_of root h.id.0) (block_start h.info.filter_offset entries first) (blocks_size h.info.filter_offset entries first stop) (λ answer. RefusesBlocks now (block_answer h.info.filter_offset entries first answer) first stop e) →
+pub blocks_whole : (encode decode now : Encode) (objects told told2 : Option Objects) (h : SsTableHandle) (rows : Rows) (entries : List (ℕ × List ℕ)) (first stop : ℕ) (before middle after : Option (List Act)) (e : SlateDBError) (a b c d : ℕ) → (stored : IsStored encode decode objects h rows) →
+    Knows told before middle (path_of root h.id.0) stored.bytes → Knows told2 middle after (path_of root h.id.0) stored.bytes → now ≡ decode → first ≤ stop → stop ≤ length entries →
+    Reads told before middle (path_of root h.id.0) h.info.index_offset h.info.index_len (λ answer. IsIndexRead decode h.info.filter_offset answer entries) →
+    IsStoreFault a b e ⊎ Reads told2 middle after (path_of root h.id.0) (block_start h.info.filter_offset entries first) (blocks_size h.info.filter_offset entries first stop) (λ answer. FailsBlocks now (block_answer h.info.filter_offset entries first answer) first stop c d e)
+    ⊎ Reads told2 middle after (path_of root h.id.0) (block_start h.info.filter_offset entries first) (blocks_size h.info.filter_offset entries first stop) (λ answer. RefusesBlocks now (block_answer h.info.filter_offset entries first answer) first stop e) →
     IsStoreFault a b e ⊎ IsTransformFault c d e
-blocks_whole encode decode now objects told h rows entries first stop before after e a b c d stored same decodes read order within (inl f) = inl f
-blocks_whole encode decode now objects told h rows entries first stop before after e a b c d stored same decodes read order within (inr (inl f)) = inr (inr (f.2.3.0, f.2.3.1))
-blocks_whole encode decode now objects told h rows entries first stop before after e a b c d stored same decodes read order within (inr (inr r)) =
-    absurd ((not_refused encode decode stored.lawful stored.bytes h.format_version (seen_info h.info) rows stored.each stored.is).1 entries read first stop order within e
+blocks_whole encode decode now objects told told2 h rows entries first stop before middle after e a b c d stored known knows decodes order within index (inl f) = inl f
+blocks_whole encode decode now objects told told2 h rows entries first stop before middle after e a b c d stored known knows decodes order within index (inr (inl f)) = inr (inr (f.2.3.0, f.2.3.1))
+blocks_whole encode decode now objects told told2 h rows entries first stop before middle after e a b c d stored known knows decodes order within index (inr (inr r)) =
+    absurd ((not_refused encode decode stored.lawful stored.bytes h.format_version (seen_info h.info) rows stored.each stored.is).1 entries
+    (read_part told before middle (path_of root h.id.0) h.info.index_offset h.info.index_len (λ answer. IsIndexRead decode h.info.filter_offset answer entries) stored.bytes known index) first stop order within e
     (subst (λ (x : Encode). RefusesBlocks x (block_answer h.info.filter_offset entries first (blocks_answer stored.bytes (seen_info h.info) entries first stop)) first stop e) decodes
-    (read_part objects told before after (path_of root h.id.0) (block_start h.info.filter_offset entries first) (blocks_size h.info.filter_offset entries first stop) (λ answer. RefusesBlocks now (block_answer h.info.filter_offset entries first answer) first stop e) stored.os stored.bytes same stored.told stored.there r)))
+    (read_part told2 middle after (path_of root h.id.0) (block_start h.info.filter_offset entries first) (blocks_size h.info.filter_offset entries first stop) (λ answer. RefusesBlocks now (block_answer h.info.filter_offset entries first answer) first stop e) stored.bytes knows r)))
 
-pub blocks_read : (encode decode now : Encode) (objects told : Option Objects) (h : SsTableHandle) (rows : Rows) (entries : List (ℕ × List ℕ)) (first stop : ℕ) (before after : Option (List Act)) (blocks : List Block) → (stored : IsStored encode decode objects h rows) → told ≡ objects → now ≡ decode →
-    Reads told before after (path_of root h.id.0) (block_start h.info.filter_offset entries first) (blocks_size h.info.filter_offset entries first stop) (λ answer. AreBlocksRead now (block_answer h.info.filter_offset entries first answer) first blocks) →
-    AreBlocksRead decode (block_answer h.info.filter_offset entries first (blocks_answer stored.bytes (seen_info h.info) entries first stop)) first blocks
-blocks_read encode decode now objects told h rows entries first stop before after blocks stored same decodes r =
-    subst (λ (x : Encode). AreBlocksRead x (block_answer h.info.filter_offset entries first (blocks_answer stored.bytes (seen_info h.info) entries first stop)) first blocks) decodes
-    (read_part objects told before after (path_of root h.id.0) (block_start h.info.filter_offset entries first) (blocks_size h.info.filter_offset entries first stop) (λ answer. AreBlocksRead now (block_answer h.info.filter_offset entries first answer) first blocks) stored.os stored.bytes same stored.told stored.there r)
+-- the rows of a key, in the blocks that are read
+pub key_read : (encode decode now : Encode) (objects told told2 : Option Objects) (h : SsTableHandle) (rows : Rows) (entries : List (ℕ × List ℕ)) (k : List ℕ) (first stop : ℕ) (before middle after : Option (List Act)) (blocks : List Block) → (stored : IsStored encode decode objects h rows) →
+    Knows told before middle (path_of root h.id.0) stored.bytes → Knows told2 middle after (path_of root h.id.0) stored.bytes → now ≡ decode → first ≤ stop → stop ≤ length entries → ((i : ℕ) → CanHold (index_keys entries) i k → (first ≤ i) × (i < stop)) →
+    length blocks ≡ stop - first → Reads told before middle (path_of root h.id.0) h.info.index_offset h.info.index_len (λ answer. IsIndexRead decode h.info.filter_offset answer entries) →
+    Reads told2 middle after (path_of root h.id.0) (block_start h.info.filter_offset entries first) (blocks_size h.info.filter_offset entries first stop) (λ answer. AreBlocksRead now (block_answer h.info.filter_offset entries first answer) first blocks) →
+    (found : List Rows) × AreBlocksOf h.format_version blocks found × AllByRecursion (IsInOrder Ascending) found × (of_key k (flat_map (λ b. b) found) ≡ of_key k rows)
+key_read encode decode now objects told told2 h rows entries k first stop before middle after blocks stored known knows decodes order within each count index r =
+    key_held encode decode stored.lawful stored.bytes h.format_version (seen_info h.info) rows stored.is entries
+    (read_part told before middle (path_of root h.id.0) h.info.index_offset h.info.index_len (λ answer. IsIndexRead decode h.info.filter_offset answer entries) stored.bytes known index) k first stop order within each blocks count
+    (subst (λ (x : Encode). AreBlocksRead x (block_answer h.info.filter_offset entries first (blocks_answer stored.bytes (seen_info h.info) entries first stop)) first blocks) decodes
+    (read_part told2 middle after (path_of root h.id.0) (block_start h.info.filter_offset entries first) (blocks_size h.info.filter_offset entries first stop) (λ answer. AreBlocksRead now (block_answer h.info.filter_offset entries first answer) first blocks) stored.bytes knows r))

@@ -4,6 +4,8 @@ use Rattle.std.proofs.Common.{◌≡◌, ℕ, ◌+◌, ◌≤◌, ◌<◌, List,
 use Rattle.std.proofs.lemmas.List.{map-append}
 use Rattle.std.proofs.lemmas.Grind.{flat_map-append}
 use Rattle.std.specs.Prelude.{IsSome}
+use Rattle.std.specs.BTreeMap.{insert_entry}
+use Rattle.slate_types.specs.Keys.{key_cmp}
 use Rattle.slate_types.specs.declared.config.IsolationLevel.{IsolationLevel}
 use Rattle.slate_types.specs.declared.types.Ulid.{Ulid}
 use Rattle.slate_table.specs.declared.info.SsTableHandle.{SsTableHandle}
@@ -22,8 +24,9 @@ use Rattle.slate_db.proofs.Keeps.{kept_event, kept_rows}
 use Rattle.slate_db.proofs.Journals.{apply_more, used_more, legal_more}
 use Rattle.slate_db.proofs.Quiet.{quiet_more, quiet_frozen}
 use Rattle.slate_db.proofs.Lists.{all_more, all_map, none_behind}
-use Rattle.slate_db.proofs.Names.{length_without, all_without, without_map, open_map}
-use Rattle.slate_db.proofs.IdLaws.{fresh_among, wider}
+use Rattle.slate_db.proofs.Begins.{rise_more, rise_without, within_newest}
+use Rattle.slate_db.proofs.Names.{length_without, all_without, without_map, open_map, put_last, without_last}
+use Rattle.slate_db.proofs.IdLaws.{fresh_among, fresh_named, all_past, wider}
 
 pub tables_more : (es : List Event) (e : Event) → tables_of (es ++ (e ∷ [])) ≡ tables_of es ++ tables_in e
 tables_more es e = flat_map-append tables_in es (e ∷ []) ∙ ap (λ ts. tables_of es ++ ts) (append-nil (tables_in e))
@@ -64,6 +67,7 @@ whole_begin c n ids runs hs level spare room bound w = record {
   counted = rw length-append (let h : ids ≤ length c.events = w.counted in omega arith);
   floor_within = w.floor_within;
   begins = all_more _ _ _ w.begins (w.floor_within, omega arith);
+  begins_rise = rise_more c.state.txns (id, begun level n) w.begins_rise (within_newest c.floor n c.state.txns w.begins);
   installed_within = rw (ap (λ s. s.flushed) more) w.installed_within;
   flushed_within = w.flushed_within;
   flushed_through = rw (ap (λ s. s.flushed) more) w.flushed_through;
@@ -98,6 +102,13 @@ whole_begin c n ids runs hs level spare room bound w = record {
 
     new : IsOfCount (ids + 1) id
     new = record { count = ids + 1; within = omega arith; is = refl }
+
+-- a new id goes behind all others, and is taken out again
+pub put_begun : (c : CoreModel) (n ids runs : ℕ) (hs : List SsTableHandle) (x : Tx) → IsWhole c n ids runs hs → insert_entry key_cmp c.state.txns (id_of (ids + 1)) x ≡ c.state.txns ++ ((id_of (ids + 1), x) ∷ [])
+put_begun c n ids runs hs x w = put_last (id_of (ids + 1)) x c.state.txns (all_past ids (ids + 1) c.state.txns (omega arith) (omega (arith, w.counted, w.bound)) w.named)
+
+pub taken_back : (c : CoreModel) (n ids runs : ℕ) (hs : List SsTableHandle) (x : Tx) → IsWhole c n ids runs hs → without (id_of (ids + 1)) (c.state.txns ++ ((id_of (ids + 1), x) ∷ [])) ≡ c.state.txns
+taken_back c n ids runs hs x w = without_last (id_of (ids + 1)) x c.state.txns (fresh_named ids (ids + 1) c.state.txns (omega arith) (omega (arith, w.counted, w.bound)) w.named)
 
 pub kept_begin : (m : Meaning) (c : CoreModel) (level : IsolationLevel) (n : ℕ) (id : List ℕ) (spare : ℕ) → IsKept m c → IsKept m (after_begin c level n id spare)
 kept_begin m c level n id spare = kept_event m c _ _ spare refl
@@ -136,6 +147,7 @@ whole_end c n ids runs hs id spare h room w = record {
   counted = rw length-append (let h : ids ≤ length c.events = w.counted in omega arith);
   floor_within = w.floor_within;
   begins = all_without _ id _ w.begins;
+  begins_rise = rise_without id c.state.txns w.begins_rise;
   installed_within = rw (ap (λ s. s.flushed) more) w.installed_within;
   flushed_within = w.flushed_within;
   flushed_through = rw (ap (λ s. s.flushed) more) w.flushed_through;
@@ -205,6 +217,7 @@ whole_freeze c n ids runs hs spare room bound some w = record {
   counted = rw length-append (let h : ids ≤ length c.events = w.counted in omega arith);
   floor_within = w.floor_within;
   begins = w.begins;
+  begins_rise = w.begins_rise;
   installed_within = rw (ap (λ s. s.flushed) more) w.installed_within;
   flushed_within = w.flushed_within;
   flushed_through = rw (ap (λ s. s.flushed) more) w.flushed_through;

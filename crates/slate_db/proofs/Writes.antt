@@ -57,6 +57,7 @@ whole_write c n ids runs hs now ops rows spare room bound fits batch order some 
   counted = rw length-append (let h : ids ≤ length c.events = w.counted in omega arith);
   floor_within = let h : c.floor ≤ n = w.floor_within in omega arith;
   begins = all_map _ _ (λ p h. (h.0, let k : p.1.begin ≤ n = h.1 in omega arith)) _ w.begins;
+  begins_rise = w.begins_rise;
   installed_within = rw (ap (λ s. s.flushed) more) (let h : installed c.events ≤ n = w.installed_within in omega arith);
   flushed_within = let h : c.state.flushed ≤ n = w.flushed_within in omega arith;
   flushed_through =

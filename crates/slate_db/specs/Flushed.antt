@@ -10,7 +10,7 @@
 --     IsTooLarge layout rows e      a table of some first rows would pass a limit
 --     after_install c n t spare      the core after the table t was installed through n
 --     MayFlush encode layout c before after      what a refused flush leaves of the objects
---     TooLarge layout c e      the flush of all rows in memory would pass a limit of a table
+--     TooLarge layout c e      the flush of all rows in memory would pass a limit of a table; so there is much in memory
 --     IsFlushed encode layout old new n before after      a flush behind its freeze, with the store's objects before and after
 use Rattle.std.specs.Prelude.{◌≡◌, ℕ, ◌+◌, ◌-◌, ◌^◌, ◌<◌, ◌≤◌, ◌⊎◌, min, sum_by, List, [], ◌∷◌, ◌++◌, map, length, option_to_list, Option, Some, IfSome}
 use Rattle.std.specs.List.{AllByRecursion}
@@ -25,10 +25,11 @@ use Rattle.slate_block.specs.BlockSpelling.{as_read}
 use Rattle.slate_store.specs.Store.{with_object}
 use Rattle.slate_table.specs.declared.info.SsTableHandle.{SsTableHandle}
 use Rattle.slate_table.specs.Parts.{Encode}
-use Rattle.slate_table.specs.Table.{IsBuilt, cut}
+use Rattle.slate_table.specs.Table.{AreInOrder, IsBuilt, cut}
 use Rattle.slate_table.specs.TableParts.{version_of}
 use Rattle.slate_txn.specs.declared.event.Event.TheVariants as events
 use Rattle.slate_txn.specs.State.{Tx, last_of}
+use Rattle.slate_db.specs.Load.{load}
 use Rattle.slate_db.specs.Meaning.{Meaning, combine_of}
 use Rattle.slate_db.specs.Model.{CoreModel, Rows, memory, versions, versions_in}
 use Rattle.slate_db.specs.Sound.{at_most, later}
@@ -114,6 +115,6 @@ pub data IsFlushed (encode : Encode) (layout : Layout) (old new : CoreModel) (n 
 abbrev pub MayFlush : Encode → Layout → CoreModel → Option Objects → Option Objects → Type 0
 MayFlush encode layout c before after = MayTakeTable (IsTableOfFlush encode layout (length (tables_of c.events) + 1) (least_begin (last_of c.settings.start_seq c.state.commits) c.state.txns) c.frozen) before after
 
--- the rows that a flush would store make too large a table
+-- the rows that a flush would store, in the order of a table, make too large a one
 abbrev pub TooLarge : Layout → CoreModel → SlateDBError → Type 0
-TooLarge layout c e = (rows : Rows) × ((m : Meaning) → IsFolded m (least_begin (last_of c.settings.start_seq c.state.commits) c.state.txns) (memory c) rows) × IsTooLarge layout rows e
+TooLarge layout c e = (rows : Rows) × ((m : Meaning) → IsFolded m (least_begin (last_of c.settings.start_seq c.state.commits) c.state.txns) (memory c) rows) × AreInOrder rows × IsTooLarge layout rows e × (2 ^ 32 - 1 < load c)

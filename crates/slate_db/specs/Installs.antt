@@ -3,10 +3,10 @@
 --     installed es      the last sequence that was installed
 --     as_begun p, Replays es s      the journal replays to the state's commits and to what is open in it
 --     NumberedFrom i ts      each table is the one of its flush, and flushes are numbered from i
---     IsHandle t h, AreHandles ts hs      what is kept of a table, and of tables: the id, and the version and the info that the bytes have; these are bytes
+--     IsHandle t h, AreHandles ts hs      what is kept of a table, and of tables: the id, and the version, which is 1 or 2, and the info that the bytes have; these are bytes
 --     root      the folder of the store's objects
 --     HoldsTables objects es      each table that the journal's installs name lies in the store, with the bytes that they name
-use Rattle.std.specs.Prelude.{◌≡◌, ℕ, ◌+◌, List, [], ◌∷◌, map, flat_map, Option, Some, None, codes}
+use Rattle.std.specs.Prelude.{◌≡◌, ◌⊎◌, ℕ, ◌+◌, List, [], ◌∷◌, map, flat_map, Option, Some, None, codes}
 use Rattle.std.specs.List.{AllByRecursion}
 use Rattle.slate_types.specs.declared.types.Ulid.{Ulid}
 use Rattle.slate_types.specs.Outside.{Objects}
@@ -47,6 +47,7 @@ NumberedFrom i (t ∷ ts) = (t.0.0 ≡ table_id i 0) × NumberedFrom (i + 1) ts
 
 pub record IsHandle (t : Ulid × List ℕ) (h : SsTableHandle) : Type 0 where
   pub id : h.id ≡ t.0
+  pub version : (h.format_version ≡ 1) ⊎ (h.format_version ≡ 2)
   pub info : HasInfo t.1 h.format_version (seen_info h.info)
   pub bytes : EachIsAByte t.1
 

@@ -9,10 +9,11 @@ pub mod Ids
 pub mod Whole
 pub mod Frozen
 pub mod Newest
+pub mod Load
 pub mod Flushed
 pub mod Written
 pub mod Lookup
-pub mod Named
 pub mod View
 pub mod Vectors
 pub mod Parts
+pub mod Answered

@@ -4,10 +4,11 @@
 --     IsStored encode decode objects h rows      the store tells that a table of the rows stands at its path, whose info was kept, and the transformer is undone
 --     AreStored encode decode objects hs layers      of several, the oldest first
 --     IsDamage e      a refusal of what a store answered
+--     IsUnknown version e      a refusal of a version that is neither 1 nor 2
 --     is_merge_among rows      one of the rows is an operand
 --     IsCallback before after e      a failure of the operator, whose count rose
 --     IsOperatorFault combine before after e      the same, or there is no operator
-use Rattle.std.specs.Prelude.{◌≡◌, ◌⊎◌, ℕ, ◌-◌, Bool, false, List, [], ◌∷◌, length, flat_map, reverse, slice_get, Option, Some, None}
+use Rattle.std.specs.Prelude.{◌≡◌, ◌≢◌, ◌⊎◌, ℕ, ◌-◌, Bool, false, List, [], ◌∷◌, length, flat_map, reverse, slice_get, Option, Some, None}
 use Rattle.std.specs.List.{list_any}
 use Rattle.slate_types.specs.declared.error.SlateDBError.{SlateDBError}
 use Rattle.slate_types.specs.declared.error.SlateDBError.TheVariants.{CorruptTable, ChecksumMismatch, InvalidRowFlags, InvalidVersion, Callback, MergeOperatorMissing}
@@ -58,8 +59,10 @@ abbrev pub IsDamage : SlateDBError → Type 0
 IsDamage (CorruptTable place) = Unit {0}
 IsDamage (ChecksumMismatch stored computed) = Unit {0}
 IsDamage (InvalidRowFlags bits) = Unit {0}
-IsDamage (InvalidVersion version) = Unit {0}
 IsDamage e = ⊥
+
+abbrev pub IsUnknown : ℕ → SlateDBError → Type 0
+IsUnknown version e = (version ≢ 1) × (version ≢ 2) × (e ≡ InvalidVersion version)
 
 abbrev pub IsCallback : ℕ → ℕ → SlateDBError → Type 0
 IsCallback before after (Callback message) = Rose before after

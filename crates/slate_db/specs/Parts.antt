@@ -4,7 +4,7 @@
 --     IsDamage e      what a get answers where a table isn't what was stored
 use Rattle.std.specs.Prelude.{ℕ, List, Option}
 use Rattle.slate_types.specs.declared.error.SlateDBError.{SlateDBError}
-use Rattle.slate_types.specs.declared.error.SlateDBError.TheVariants.{ChecksumMismatch, InvalidRowFlags, InvalidVersion, CorruptTable, MergeOperatorMissing, InvalidSequenceOrder}
+use Rattle.slate_types.specs.declared.error.SlateDBError.TheVariants.{ChecksumMismatch, InvalidRowFlags, CorruptTable, MergeOperatorMissing, InvalidSequenceOrder}
 use Rattle.slate_types.specs.Faults.{faults_of}
 use Rattle.slate_types.specs.Fold.{Combine}
 use Rattle.slate_types.specs.Outside.{Counts}
@@ -24,7 +24,6 @@ abbrev pub IsDamage : SlateDBError → Type 0
 IsDamage (ChecksumMismatch stored computed) = Unit {0}
 IsDamage (InvalidRowFlags flags) = Unit {0}
 IsDamage (CorruptTable at) = Unit {0}
-IsDamage (InvalidVersion version) = Unit {0}
 IsDamage (InvalidSequenceOrder before after) = Unit {0}
 IsDamage MergeOperatorMissing = Unit {0}
 IsDamage _ = ⊥

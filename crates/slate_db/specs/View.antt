@@ -8,7 +8,7 @@ use Rattle.slate_db.specs.Whole.{IsWhole}
 abbrev pub view_of : Inside → CoreModel
 view_of s = record {
   settings = record { default_millis = s.default_millis; start_seq = s.start_seq };
-  state = record { commits = (replay s.journal.events).commits; txns = s.open.items; snapshots = []; now = pos 0; flushed = s.flushed };
+  state = record { commits = (replay s.journal.events).commits; txns = s.open.entries; snapshots = []; now = pos 0; flushed = s.flushed };
   events = s.journal.events;
   spare = s.journal.spare;
   active = s.active.rows;

@@ -3,6 +3,7 @@
 --     Rising n cs      each sequence is above those before
 --     AreFine ops, AreShortOps ops      no operation is refused by itself; the values are short
 --     BeginsWithin floor last p      an open transaction began between the floor and the newest sequence
+--     BeginsRise ps      no open transaction began before one that stands in front of it
 --     FitsMemory r      what is true of each row in memory: it fits a table as it is, and is no merge
 --     AreRising rows      of the rows of a key, oldest first: the sequences rise
 --     IsWhole c newest ids runs handles      of what contracts see, and the newest sequence, the number of ids, the number of runs, and what is kept of the tables; no commit lies between the last install and the last flush
@@ -41,6 +42,10 @@ AreShortOps ops = AllByRecursion (λ o. IsShort (bytes_of (op_value o.1))) ops
 abbrev pub BeginsWithin : ℕ → ℕ → List ℕ × Tx → Type 0
 BeginsWithin floor last p = (floor ≤ p.1.begin) × (p.1.begin ≤ last)
 
+abbrev pub BeginsRise : List (List ℕ × Tx) → Type 0
+BeginsRise [] = Unit {0}
+BeginsRise (p ∷ ps) = AllByRecursion (λ q. p.1.begin ≤ q.1.begin) ps × BeginsRise ps
+
 -- version 1 reads it as it is: a tombstone has no expiry
 pub record FitsMemory (r : RowEntry) : Type 0 where
   pub key : IsKey r.key
@@ -68,6 +73,7 @@ pub record IsWhole (c : CoreModel) (newest ids runs : ℕ) (handles : List SsTab
   pub counted : ids ≤ length c.events
   pub floor_within : c.floor ≤ newest
   pub begins : AllByRecursion (λ p. BeginsWithin c.floor newest p) c.state.txns
+  pub begins_rise : BeginsRise c.state.txns
   pub installed_within : installed c.events ≤ newest
   pub flushed_within : c.state.flushed ≤ newest
   pub flushed_through : up_to c.state.flushed c.state.commits ≡ up_to (installed c.events) c.state.commits

@@ -1,8 +1,9 @@
 //! The core: the journal of a store, what is open in it, and the rows in memory.
-ghost use Rattle.std.specs.Prelude.{◌≡◌, ◌≢◌, ◌⊎◌, ◌+◌, ◌-◌, ◌^◌, ◌≤◌, ◌<◌, ◌∷◌, List, [], ◌++◌, length, IfOk, IfErr, OnOk, OnErr, IsOk, Err, IsSome, false, is_some};
+ghost use Rattle.std.specs.Prelude.{◌≡◌, ◌≢◌, ◌⊎◌, ◌+◌, ◌-◌, ◌^◌, ◌≤◌, ◌<◌, ◌∷◌, List, [], ◌++◌, length, IfOk, IfErr, OnOk, OnErr, IsOk, Err, IsSome, Some, false, is_some};
 ghost use Rattle.slate_types.specs.Config.{IsValid};
 ghost use Rattle.slate_types.specs.Faults.{faults_of};
 ghost use Rattle.slate_types.specs.declared.error.SlateDBError.{SlateDBError};
+ghost use Rattle.slate_types.specs.Outside.{Objects};
 ghost use Rattle.slate_types.specs.Fold.{fold_rows};
 ghost use Rattle.slate_store.specs.Env.{combine_of as part_of};
 ghost use Rattle.slate_mem.specs.Table.{newest};
@@ -21,9 +22,11 @@ ghost use Rattle.slate_txn.specs.Reply.{Done, Refused, Begun, Found, Written, Fr
 ghost use Rattle.slate_txn.specs.Settings.{settings_of};
 ghost use Rattle.slate_txn.specs.State.{opening, last_of};
 ghost use Rattle.slate_txn.specs.Step.{noted, step};
+ghost use Rattle.slate_db.specs.Answered.{AddsReads, AddsTables, AnswersAs};
 ghost use Rattle.slate_db.specs.Meaning.{Meaning, HasParts, IsLawfulMeaning, combine_of, rules_of};
 ghost use Rattle.slate_db.specs.Frozen.{IsFrozen};
 ghost use Rattle.slate_db.specs.Flushed.{IsFlushed, MayFlush, TooLarge, events_of_flush, layout_of};
+ghost use Rattle.slate_db.specs.Load.{load, ops_load};
 ghost use Rattle.slate_db.specs.Installs.{HoldsTables, Replays, tables_of};
 ghost use Rattle.slate_db.specs.Lookup.{IsCallback, IsDamage, IsOperatorFault, newest_first};
 ghost use Rattle.slate_db.specs.Model.{CoreModel, IsSame, Rows, at};
@@ -35,7 +38,7 @@ ghost use Rattle.slate_db.specs.Written.{IsWritten};
 use crate::flush::stored;
 use crate::fold::{answer, fold_found};
 use crate::lookup::newest_of_frozen;
-use crate::open::{Open, barrier, begin_of, note, place};
+use crate::open::{Open, barrier, begin_of, note};
 use crate::stored::newest_of_tables;
 use bytes::Bytes;
 use slate_mem::{ImmutableMemtable, MemTable, WriteBatch};
@@ -47,7 +50,7 @@ use slate_types::{
     SlateDBError,
 };
 use std::alloc::Global;
-use std::collections::BTreeSet;
+use std::collections::{BTreeMap, BTreeSet};
 use std::marker::Model;
 use uuid::Uuid;
 
@@ -67,7 +70,7 @@ pub struct Core {
     ids: u64,
     runs: u64,
     journal: Journal,
-    open: Vec<(Uuid, Open)>,
+    open: BTreeMap<Uuid, Open>,
     active: MemTable,
     frozen: Vec<ImmutableMemtable>,
     /// What is kept of the tables that were installed, the newest last.
@@ -94,6 +97,7 @@ impl Core {
         ensures state { result.state ≡ opening }
         ensures journal { result.events ≡ [] }
         ensures kept { (m : Meaning) → IsKept m result }
+        ensures memory { (result.active ≡ []) × (result.frozen ≡ []) }
     {
         Core {
             alloc,
@@ -105,7 +109,7 @@ impl Core {
             ids: 0,
             runs: 0,
             journal: Journal::new(alloc),
-            open: Vec::new(alloc),
+            open: BTreeMap::new(alloc),
             active: MemTable::new(alloc),
             frozen: Vec::new(alloc),
             tables: Vec::new(alloc),
@@ -116,7 +120,7 @@ impl Core {
     pub fn is_open(&self, id: &Uuid) -> bool
         ensures { result ≡ is_some (find_named id.now self.now.state.txns) }
     {
-        place(&self.open, id).is_some()
+        self.open.contains_key(id)
     }
 
     /// Opens a transaction at the newest sequence, and gives its id and that sequence. Room for the event of its end
@@ -135,17 +139,19 @@ impl Core {
                 limit: EVENTS as u64,
             });
         }
-        self.open.reserve(1)?;
-        self.journal.reserve(self.open.len() + 2)?;
+        let id = Uuid::from_u128((self.ids + 1) as u128);
+        self.open
+            .insert(id, Open::new(self.alloc, level, self.last))?;
+        if let Err(error) = self.journal.reserve(self.open.len() + 1) {
+            self.open.remove(&id);
+            return Err(SlateDBError::from(error));
+        }
         self.ids += 1;
-        let id = Uuid::from_u128(self.ids as u128);
         self.journal.push_reserved(Event::Begin {
             id,
             level,
             start: self.last,
         });
-        self.open
-            .push_reserved((id, Open::new(self.alloc, level, self.last)));
         Ok((id, self.last))
     }
 
@@ -156,10 +162,8 @@ impl Core {
         ensures event { self.new ≡ record self.old { state = self.new.state; events = self.old.events ++ events.End id.now ∷ []; spare = self.new.spare } }
         ensures kept { (m : Meaning) → IsKept m self.old → IsKept m self.new }
     {
-        if let Some(i) = place(&self.open, id) {
-            self.open.remove(i);
-            self.journal.push_reserved(Event::End { id: *id });
-        }
+        self.open.remove(id);
+        self.journal.push_reserved(Event::End { id: *id });
     }
 
     /// Moves the active rows behind those that wait for a flush, and gives the newest sequence. Where there are none
@@ -191,16 +195,18 @@ impl Core {
         Ok(self.last)
     }
 
-    /// Commits a batch by itself, at the next sequence, which it gives. An empty batch commits nothing. The batch may
-    /// have taken no merge. Refuses by `SequenceExhausted` where no sequence is left, by `LimitReached` where the
-    /// journal has no place for the event, and by `OutOfMemory`, and then nothing is committed.
+    /// Commits a batch by itself, at the next sequence, which it gives. An empty batch commits nothing, and is never
+    /// refused. The batch may have taken no merge. Refuses by `SequenceExhausted` where no sequence is left, by
+    /// `LimitReached` where the journal has no place for the event, and by `OutOfMemory`, and then nothing is committed.
     pub fn write(&mut self, batch: WriteBatch, now: i64) -> Result<Option<u64>, SlateDBError>
         requires { batch.held_merge ≡ false }
         ensures step { IfOk result (λ n. (m : Meaning) (ops : Ops) → IsBatchOf ops batch → AreFine ops → step (rules_of self.old.settings m) (at now self.old.state) (lines.Write ops) ≡ (at now self.new.state, Written n)) }
         ensures refused { IfErr result (λ e. (e ≡ SlateDBError.OutOfMemory) ⊎ ((e ≡ SlateDBError.LimitReached LIMIT) ⊎ ((m : Meaning) (ops : Ops) → IsBatchOf ops batch → AreFine ops → step (rules_of self.old.settings m) (at now self.old.state) (lines.Write ops) ≡ (at now self.old.state, Refused e)))) }
         ensures event { IfOk result (λ n. IsWritten self.old self.new n now batch.ops) }
         ensures kept { OnOk result ((m : Meaning) → IsKept m self.old → IsKept m self.new) }
+        ensures load { (ops : Ops) → IsBatchOf ops batch → OnOk result (load self.new ≤ load self.old + ops_load ops) }
         ensures same { OnErr result (IsSame self.old self.new) }
+        ensures idle { batch.ops ≡ [] → IsOk result }
         ensures exhausted { batch.ops ≢ [] → last_of self.old.settings.start_seq self.old.state.commits ≡ 2 ^ 64 - 2 → result ≡ Err SlateDBError.SequenceExhausted }
         ensures limit { batch.ops ≢ [] → last_of self.old.settings.start_seq self.old.state.commits < 2 ^ 64 - 2 → LIMIT < length self.old.events + length self.old.state.txns + 1 → result ≡ Err (SlateDBError.LimitReached LIMIT) }
         ensures cause { IfErr result (λ e. (e ≡ SlateDBError.OutOfMemory) ⊎ (((e ≡ SlateDBError.SequenceExhausted) × (last_of self.old.settings.start_seq self.old.state.commits ≡ 2 ^ 64 - 2)) ⊎ ((e ≡ SlateDBError.LimitReached LIMIT) × (LIMIT < length self.old.events + length self.old.state.txns + 1)))) }
@@ -234,8 +240,8 @@ impl Core {
     /// barrier, which is the least begin of an open transaction or else the newest sequence, become their fold. Where no
     /// rows are in memory nothing is stored. Refuses by `LimitReached` where the journal has no place for the events, and
     /// then nothing is changed, or where the table would pass a limit; by `StoreFault` and `BlockTransformError`, each only
-    /// where its count of faults rose; and by `OutOfMemory`. Then the rows are in memory as before, or frozen, and the
-    /// store's objects are as they were, or have the table, which no event names.
+    /// where its count of faults rose, and then the rows are frozen; and by `OutOfMemory`. Else the rows are in memory as
+    /// before, or frozen, and the store's objects are as they were, or have the table, which no event names.
     pub fn flush<S: Store, M: MergeOperator, T: BlockTransformer>(
         &mut self,
         env: &mut Env<'_, S, M, T>,
@@ -244,8 +250,12 @@ impl Core {
         requires { IsValid options.now }
         ensures step { IfOk result (λ n. (m : Meaning) → step (rules_of self.old.settings m) self.old.state lines.Flush ≡ (self.new.state, Flushed n)) }
         ensures installed { IfOk result (λ n. (between : CoreModel) × IsFrozen self.old between × IsFlushed (changed_by T.encoded env.old.transformer) (layout_of options.now) between self.new n (S.objects env.old.store.now) (S.objects env.new.store.now)) }
+        ensures acts { OnOk result (AddsTables (tables_of self.old.events) (tables_of self.new.events) (S.acts env.old.store.now) (S.acts env.new.store.now)) }
         ensures taken { OnOk result ((self.new.active ≡ []) × (self.new.frozen ≡ [])) }
         ensures refused { OnErr result ((between : CoreModel) × (IsSame self.old between ⊎ IsFrozen self.old between) × IsSame between self.new × MayFlush (changed_by T.encoded env.old.transformer) (layout_of options.now) between (S.objects env.old.store.now) (S.objects env.new.store.now)) }
+        ensures frozen { (result ≡ Err SlateDBError.StoreFault) ⊎ (result ≡ Err SlateDBError.BlockTransformError) → (between : CoreModel) × IsFrozen self.old between × IsSame between self.new }
+        ensures full { LIMIT < length self.old.events + length self.old.state.txns + events_of_flush self.old.active self.old.frozen → self.new ≡ self.old }
+        ensures full_objects { LIMIT < length self.old.events + length self.old.state.txns + events_of_flush self.old.active self.old.frozen → S.objects env.new.store.now ≡ S.objects env.old.store.now }
         ensures kept { (m : Meaning) → m.encode ≡ changed_by T.encoded env.old.transformer → IsKept m self.old → IsKept m self.new }
         ensures settings { self.new.settings ≡ self.old.settings }
         ensures limit { LIMIT < length self.old.events + length self.old.state.txns + events_of_flush self.old.active self.old.frozen → result ≡ Err (SlateDBError.LimitReached LIMIT) }
@@ -271,6 +281,7 @@ impl Core {
         ensures same { IsSame self.old self.new }
         ensures idle { self.old.active ≡ [] → self.new ≡ self.old }
         ensures never { self.old.active ≡ [] → IsOk result }
+        ensures refused { OnErr result (self.new ≡ self.old) }
         ensures room { OnOk result (self.old.active ≢ [] → length self.old.events + length self.old.state.txns + 2 ≤ LIMIT) }
         ensures limit { self.old.active ≢ [] → LIMIT < length self.old.events + length self.old.state.txns + 2 → result ≡ Err (SlateDBError.LimitReached LIMIT) }
         ensures cause { IfErr result (λ e. (e ≡ SlateDBError.OutOfMemory) ⊎ ((e ≡ SlateDBError.LimitReached LIMIT) × (self.old.active ≢ []) × (LIMIT < length self.old.events + length self.old.state.txns + 2))) }
@@ -300,11 +311,14 @@ impl Core {
         ensures newest { IfOk result (λ n. n ≡ last_of self.old.settings.start_seq self.old.state.commits) }
         ensures installed { IfOk result (λ n. IsFlushed (changed_by T.encoded env.old.transformer) (layout_of options.now) self.old self.new n (S.objects env.old.store.now) (S.objects env.new.store.now)) }
         ensures flushed { IfOk result (λ n. self.new.state ≡ record self.old.state { flushed = n }) }
+        ensures acts { OnOk result (AddsTables (tables_of self.old.events) (tables_of self.new.events) (S.acts env.old.store.now) (S.acts env.new.store.now)) }
         ensures taken { OnOk result ((self.new.active ≡ []) × (self.new.frozen ≡ [])) }
         ensures same { OnErr result (IsSame self.old self.new) }
         ensures refused { OnErr result (MayFlush (changed_by T.encoded env.old.transformer) (layout_of options.now) self.old (S.objects env.old.store.now) (S.objects env.new.store.now)) }
         ensures kept { (m : Meaning) → m.encode ≡ changed_by T.encoded env.old.transformer → IsKept m self.old → IsKept m self.new }
         ensures settings { self.new.settings ≡ self.old.settings }
+        ensures full { LIMIT < length self.old.events + length self.old.state.txns + 1 → self.new ≡ self.old }
+        ensures full_objects { LIMIT < length self.old.events + length self.old.state.txns + 1 → S.objects env.new.store.now ≡ S.objects env.old.store.now }
         ensures limit { LIMIT < length self.old.events + length self.old.state.txns + 1 → result ≡ Err (SlateDBError.LimitReached LIMIT) }
         ensures cause { IfErr result (λ e. IsStoreFault (S.faults env.old.store.now) (S.faults env.new.store.now) e ⊎ (IsTransformFault (faults_of T.faults env.old.transformer) (faults_of T.faults env.new.transformer) e ⊎ (((e ≡ SlateDBError.LimitReached LIMIT) × (LIMIT < length self.old.events + length self.old.state.txns + 1)) ⊎ TooLarge (layout_of options.now) self.old e))) }
         ensures later { S.faults env.old.store.now ≤ S.faults env.new.store.now }
@@ -336,8 +350,8 @@ impl Core {
         Ok(self.last)
     }
 
-    /// The rows of a key that stand at or below a sequence, newest first, to the first that decides: of memory, and of the
-    /// tables only where memory doesn't decide.
+    /// The rows of a key that stand at or below a sequence, newest first, to the first that decides, of memory and of the
+    /// tables behind it.
     fn newest<S: Store, M: MergeOperator, T: BlockTransformer>(
         &self,
         key: &Bytes,
@@ -346,9 +360,14 @@ impl Core {
     ) -> Result<Vec<RowEntry>, SlateDBError>
         ensures found { (m : Meaning) → HasParts m (part_of M.combine env.old.operator) (changed_by T.encoded env.old.transformer) (changed_by T.decoded env.old.transformer) → IsLawfulMeaning m → HoldsTables (S.objects env.old.store.now) self.now.events → (layers : List Rows) → AreTables m (tables_of self.now.events) layers
             → IfOk result (λ rows. rows.items ≡ newest key.now at ((self.now.active ++ newest_first self.now.frozen) ++ newest_first layers)) }
+        ensures true_found { (m : Meaning) (os : Objects) → HasParts m (part_of M.combine env.old.operator) (changed_by T.encoded env.old.transformer) (changed_by T.decoded env.old.transformer) → IsLawfulMeaning m → HoldsTables (Some os) self.now.events → AnswersAs os (S.acts env.old.store.now) (S.acts env.new.store.now) → (layers : List Rows) → AreTables m (tables_of self.now.events) layers
+            → IfOk result (λ rows. rows.items ≡ newest key.now at ((self.now.active ++ newest_first self.now.frozen) ++ newest_first layers)) }
         ensures whole { (m : Meaning) → HasParts m (part_of M.combine env.old.operator) (changed_by T.encoded env.old.transformer) (changed_by T.decoded env.old.transformer) → IsLawfulMeaning m → HoldsTables (S.objects env.old.store.now) self.now.events → (layers : List Rows) → AreTables m (tables_of self.now.events) layers
             → IfErr result (λ e. IsStoreFault (S.faults env.old.store.now) (S.faults env.new.store.now) e ⊎ IsTransformFault (faults_of T.faults env.old.transformer) (faults_of T.faults env.new.transformer) e) }
+        ensures truthful { (m : Meaning) (os : Objects) → HasParts m (part_of M.combine env.old.operator) (changed_by T.encoded env.old.transformer) (changed_by T.decoded env.old.transformer) → IsLawfulMeaning m → HoldsTables (Some os) self.now.events → AnswersAs os (S.acts env.old.store.now) (S.acts env.new.store.now) → (layers : List Rows) → AreTables m (tables_of self.now.events) layers
+            → IfErr result (λ e. IsStoreFault (S.faults env.old.store.now) (S.faults env.new.store.now) e ⊎ IsTransformFault (faults_of T.faults env.old.transformer) (faults_of T.faults env.new.transformer) e) }
         ensures cause { IfErr result (λ e. IsStoreFault (S.faults env.old.store.now) (S.faults env.new.store.now) e ⊎ IsTransformFault (faults_of T.faults env.old.transformer) (faults_of T.faults env.new.transformer) e ⊎ IsDamage e) }
+        ensures told { AddsReads (S.acts env.old.store.now) (S.acts env.new.store.now) }
         ensures objects { S.objects env.new.store.now ≡ S.objects env.old.store.now }
         ensures same_encoded { changed_by T.encoded env.new.transformer ≡ changed_by T.encoded env.old.transformer }
         ensures same_decoded { changed_by T.decoded env.new.transformer ≡ changed_by T.decoded env.old.transformer }
@@ -381,7 +400,10 @@ impl Core {
             → IfOk result (λ row. row ≡ fold_rows (combine_of m key.now) (key_rows (rules_of self.now.settings m) key.now (up_to at self.now.state.commits))) }
         ensures whole { (m : Meaning) → HasParts m (part_of M.combine env.old.operator) (changed_by T.encoded env.old.transformer) (changed_by T.decoded env.old.transformer) → IsLawfulMeaning m → IsKept m self.now → HoldsTables (S.objects env.old.store.now) self.now.events
             → IfErr result (λ e. IsStoreFault (S.faults env.old.store.now) (S.faults env.new.store.now) e ⊎ IsTransformFault (faults_of T.faults env.old.transformer) (faults_of T.faults env.new.transformer) e ⊎ IsCallback (faults_of M.faults env.old.operator) (faults_of M.faults env.new.operator) e) }
+        ensures truthful { (m : Meaning) (os : Objects) → HasParts m (part_of M.combine env.old.operator) (changed_by T.encoded env.old.transformer) (changed_by T.decoded env.old.transformer) → IsLawfulMeaning m → IsKept m self.now → HoldsTables (Some os) self.now.events → AnswersAs os (S.acts env.old.store.now) (S.acts env.new.store.now)
+            → IfErr result (λ e. IsStoreFault (S.faults env.old.store.now) (S.faults env.new.store.now) e ⊎ IsTransformFault (faults_of T.faults env.old.transformer) (faults_of T.faults env.new.transformer) e ⊎ IsCallback (faults_of M.faults env.old.operator) (faults_of M.faults env.new.operator) e) }
         ensures cause { IfErr result (λ e. IsStoreFault (S.faults env.old.store.now) (S.faults env.new.store.now) e ⊎ IsTransformFault (faults_of T.faults env.old.transformer) (faults_of T.faults env.new.transformer) e ⊎ IsOperatorFault (part_of M.combine env.old.operator) (faults_of M.faults env.old.operator) (faults_of M.faults env.new.operator) e ⊎ IsDamage e) }
+        ensures told { AddsReads (S.acts env.old.store.now) (S.acts env.new.store.now) }
         ensures objects { S.objects env.new.store.now ≡ S.objects env.old.store.now }
         ensures same_encoded { changed_by T.encoded env.new.transformer ≡ changed_by T.encoded env.old.transformer }
         ensures same_decoded { changed_by T.decoded env.new.transformer ≡ changed_by T.decoded env.old.transformer }
@@ -396,13 +418,12 @@ impl Core {
     }
 
     /// What an open transaction sees at a key, and `None` where that is nothing, as at a key that no row can have. The answer is
-    /// recorded in the transaction's transcript. Memory is looked at first, and then the tables whose first and last key enclose the
-    /// key, the newest first: of each its index and then, by one read, the blocks that can hold the key; and none behind the first
-    /// row that decides.
+    /// recorded in the transaction's transcript.
     ///
     /// Refuses by `StoreFault`, `BlockTransformError` and `Callback`, each only where its count of faults rose; by
-    /// `MergeOperatorMissing` at an operand, where there is no operator; by a refusal of damage; and by `OutOfMemory`. Then nothing is
-    /// recorded. Neither damage nor a missing operator is answered where the store holds the tables that the journal names.
+    /// `MergeOperatorMissing`, only where there is no operator; by a refusal of damage; and by `OutOfMemory`. Then nothing is
+    /// recorded. Neither damage nor a missing operator is answered where the store holds the tables that the journal names, nor where
+    /// its acts tell that each read of this call was answered by them.
     pub fn get<S: Store, M: MergeOperator, T: BlockTransformer>(
         &mut self,
         id: &Uuid,
@@ -416,10 +437,13 @@ impl Core {
             → IfOk result (λ a. step (rules_of self.old.settings m) self.old.state (lines.Get id.now key.now) ≡ (self.new.state, Found a)) }
         ensures whole { (m : Meaning) → HasParts m (part_of M.combine env.old.operator) (changed_by T.encoded env.old.transformer) (changed_by T.decoded env.old.transformer) → IsLawfulMeaning m → IsKept m self.old → HoldsTables (S.objects env.old.store.now) self.old.events
             → IfErr result (λ e. IsStoreFault (S.faults env.old.store.now) (S.faults env.new.store.now) e ⊎ IsTransformFault (faults_of T.faults env.old.transformer) (faults_of T.faults env.new.transformer) e ⊎ IsCallback (faults_of M.faults env.old.operator) (faults_of M.faults env.new.operator) e) }
+        ensures truthful { (m : Meaning) (os : Objects) → HasParts m (part_of M.combine env.old.operator) (changed_by T.encoded env.old.transformer) (changed_by T.decoded env.old.transformer) → IsLawfulMeaning m → IsKept m self.old → HoldsTables (Some os) self.old.events → AnswersAs os (S.acts env.old.store.now) (S.acts env.new.store.now)
+            → IfErr result (λ e. IsStoreFault (S.faults env.old.store.now) (S.faults env.new.store.now) e ⊎ IsTransformFault (faults_of T.faults env.old.transformer) (faults_of T.faults env.new.transformer) e ⊎ IsCallback (faults_of M.faults env.old.operator) (faults_of M.faults env.new.operator) e) }
         ensures same { OnErr result (self.new ≡ self.old) }
         ensures kept { (m : Meaning) → IsKept m self.old → IsKept m self.new }
         ensures settings { self.new.settings ≡ self.old.settings }
         ensures cause { IfErr result (λ e. IsStoreFault (S.faults env.old.store.now) (S.faults env.new.store.now) e ⊎ IsTransformFault (faults_of T.faults env.old.transformer) (faults_of T.faults env.new.transformer) e ⊎ IsOperatorFault (part_of M.combine env.old.operator) (faults_of M.faults env.old.operator) (faults_of M.faults env.new.operator) e ⊎ IsDamage e) }
+        ensures told { AddsReads (S.acts env.old.store.now) (S.acts env.new.store.now) }
         ensures objects { S.objects env.new.store.now ≡ S.objects env.old.store.now }
         ensures same_encoded { changed_by T.encoded env.new.transformer ≡ changed_by T.encoded env.old.transformer }
         ensures same_decoded { changed_by T.decoded env.new.transformer ≡ changed_by T.decoded env.old.transformer }
@@ -430,15 +454,18 @@ impl Core {
         ensures later_operator { faults_of M.faults env.old.operator ≤ faults_of M.faults env.new.operator }
     {
         let _options = options;
-        let Some(i) = place(&self.open, id) else {
+        let Some(at) = begin_of(&self.open, id) else {
             return Ok(None);
         };
-        let at = begin_of(&self.open, i);
         let key = Bytes::copy_from_slice(self.alloc, key)?;
         let row = self.seen(&key, at, env)?;
         let found = answer(row);
         let copy = found.clone()?;
-        note(&mut self.open, i, TranscriptStep::Get { key, answer: copy })?;
+        note(
+            &mut self.open,
+            id,
+            TranscriptStep::Get { key, answer: copy },
+        )?;
         Ok(found)
     }
 

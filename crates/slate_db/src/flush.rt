@@ -10,6 +10,7 @@ ghost use Rattle.slate_table.specs.Table.{AreInOrder, IsBuilt};
 ghost use Rattle.slate_table.specs.TableEnd.{HasInfo};
 ghost use Rattle.slate_table.specs.TableParts.{version_of};
 ghost use Rattle.slate_table.specs.Reading.{IsStoreFault};
+ghost use Rattle.slate_db.specs.Answered.{AddsTables};
 ghost use Rattle.slate_db.specs.Flushed.{layout_of, CanFlush, IsFolded, IsPut, IsTableOfFlush, IsTooLarge, MayTakeTable};
 ghost use Rattle.slate_db.specs.Meaning.{Meaning};
 ghost use Rattle.slate_db.specs.Model.{Rows};
@@ -43,9 +44,10 @@ pub fn stored<S: Store, M: MergeOperator, T: BlockTransformer>(
     requires valid { IsValid options.now }
     requires ready { CanFlush (map (λ t. t.rows) frozen.now) }
     ensures stored { IfOk result (λ a. IsPut (changed_by T.encoded env.old.transformer) (layout_of options.now) number barrier (map (λ t. t.rows) frozen.now) a.0 a.1 (S.objects env.old.store.now) (S.objects env.new.store.now)) }
+    ensures acts { IfOk result (λ a. AddsTables [] a.0 (S.acts env.old.store.now) (S.acts env.new.store.now)) }
     ensures refused { OnErr result (MayTakeTable (IsTableOfFlush (changed_by T.encoded env.old.transformer) (layout_of options.now) number barrier (map (λ t. t.rows) frozen.now)) (S.objects env.old.store.now) (S.objects env.new.store.now)) }
     ensures cause { IfErr result (λ e. IsStoreFault (S.faults env.old.store.now) (S.faults env.new.store.now) e ⊎ (IsTransformFault (faults_of T.faults env.old.transformer) (faults_of T.faults env.new.transformer) e
-        ⊎ ((rows : Rows) × ((m : Meaning) → IsFolded m barrier (map (λ t. t.rows) frozen.now) rows) × IsTooLarge (layout_of options.now) rows e))) }
+        ⊎ ((rows : Rows) × ((m : Meaning) → IsFolded m barrier (map (λ t. t.rows) frozen.now) rows) × AreInOrder rows × IsTooLarge (layout_of options.now) rows e))) }
     ensures later { S.faults env.old.store.now ≤ S.faults env.new.store.now }
     ensures later_transformer { faults_of T.faults env.old.transformer ≤ faults_of T.faults env.new.transformer }
     ensures same_encoded { changed_by T.encoded env.new.transformer ≡ changed_by T.encoded env.old.transformer }

@@ -1,7 +1,8 @@
 //! The store: flushes, and what reads of stored tables are asked for.
 //!
-//! A flush writes tables, each at a path that its number gives. `specs/Paths.antt` of `slate_table` says which path that is,
-//! `specs/StoredTable.antt` what every stored object is, and `specs/Asked.antt` which parts of tables a get has to read.
+//! A flush that has rows writes one table, at the path that its number gives: `specs/Paths.antt` of `slate_table` says which,
+//! and `specs/Flushed.antt` what a flush leaves. `specs/StoredTable.antt` and `specs/Asked.antt` are for later parts: no
+//! contract cites them yet.
 #![tactic(auto)]
 
 pub mod engine;

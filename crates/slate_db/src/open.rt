@@ -1,13 +1,15 @@
 //! Open transactions.
-ghost use Rattle.std.specs.Prelude.{◌≡◌, ◌<◌, ◌++◌, ◌∷◌, [], ℕ, List, length, slice_index_or, slice_set, IfSome, IsNone, None, OnOk, OnErr};
-ghost use Rattle.slate_txn.specs.Named.{find_named};
-ghost use Rattle.slate_txn.specs.State.{begun, Tx};
+ghost use Rattle.std.specs.Prelude.{◌≡◌, ◌≤◌, ◌++◌, ◌∷◌, [], IfSome, option_map, OnOk, OnErr};
+ghost use Rattle.std.specs.List.{AllByRecursion};
+ghost use Rattle.slate_txn.specs.Named.{find_named, update_named};
+ghost use Rattle.slate_txn.specs.State.{begun};
 ghost use Rattle.slate_db.specs.Flushed.{least_begin};
-ghost use Rattle.slate_db.specs.Named.{IsPlace};
+ghost use Rattle.slate_db.specs.Whole.{BeginsRise};
 
 use slate_txn::{Transcript, TranscriptStep};
 use slate_types::IsolationLevel;
 use std::alloc::{AllocError, Global};
+use std::collections::BTreeMap;
 use std::marker::Model;
 use uuid::Uuid;
 
@@ -42,52 +44,40 @@ impl Open {
     }
 }
 
-/// The place of an id among the open transactions.
-pub fn place(items: &[(Uuid, Open)], id: &Uuid) -> Option<usize>
-    ensures some { IfSome result (λ i. IsPlace id.now items.now i) }
-    ensures none { IsNone result → find_named id.now items.now ≡ None }
+/// The least begin, or the newest sequence. Begins rise with ids, so it is that of the first.
+pub fn barrier(items: &BTreeMap<Uuid, Open>, newest: u64) -> u64
+    requires rise { BeginsRise items.now.entries }
+    requires within { AllByRecursion (λ p. p.1.begin ≤ newest) items.now.entries }
+    ensures { result ≡ least_begin newest items.now.entries }
 {
-    let mut i = 0;
-    while i < items.len() {
-        if items[i].0 == *id {
-            return Some(i);
-        }
-        i += 1;
+    match items.first_key_value() {
+        Some((_, open)) => open.begin,
+        None => newest,
     }
-    None
 }
 
-/// The least begin, or the newest sequence.
-pub fn barrier(items: &[(Uuid, Open)], newest: u64) -> u64
-    ensures { result ≡ least_begin newest items.now }
+/// Where the open transaction with this id began. None has operations of its own yet.
+pub fn begin_of(items: &BTreeMap<Uuid, Open>, id: &Uuid) -> Option<u64>
+    ensures begin { result ≡ option_map (λ t. t.begin) (find_named id.now items.now.entries) }
+    ensures ops { IfSome (find_named id.now items.now.entries) (λ t. t.ops ≡ []) }
 {
-    let mut least = newest;
-    for item in items {
-        least = least.min(item.1.begin);
+    match items.get(id) {
+        Some(open) => Some(open.begin),
+        None => None,
     }
-    least
 }
 
-/// Where an open transaction began. None has operations of its own yet.
-pub fn begin_of(items: &[(Uuid, Open)], at: usize) -> u64
-    requires { at < length items.now }
-    ensures begin { (d : List ℕ × Tx) → result ≡ (slice_index_or items.now at d).1.begin }
-    ensures ops { (d : List ℕ × Tx) → (slice_index_or items.now at d).1.ops ≡ [] }
-{
-    let open = &items[at].1;
-    open.begin
-}
-
-/// Notes a step in the transcript of an open transaction. Where memory is wanting nothing is noted.
+/// Notes a step in the transcript of the open transaction with this id. Where memory is wanting nothing is noted.
 pub fn note(
-    items: &mut Vec<(Uuid, Open)>,
-    at: usize,
+    items: &mut BTreeMap<Uuid, Open>,
+    id: &Uuid,
     step: TranscriptStep,
 ) -> Result<(), AllocError>
-    requires { at < length items.old.items }
-    ensures ok { OnOk result ((d : List ℕ × Tx) → items.new.items ≡ slice_set items.old.items at ((slice_index_or items.old.items at d).0, record (slice_index_or items.old.items at d).1 { transcript = (slice_index_or items.old.items at d).1.transcript ++ step ∷ [] })) }
-    ensures err { OnErr result (items.new.items ≡ items.old.items) }
+    ensures ok { OnOk result (items.new.entries ≡ update_named id.now (λ t. record t { transcript = t.transcript ++ step ∷ [] }) items.old.entries) }
+    ensures err { OnErr result (items.new.entries ≡ items.old.entries) }
 {
-    let open = &mut items[at].1;
-    open.transcript.push(step)
+    match items.get_mut(id) {
+        Some(open) => open.transcript.push(step),
+        None => Ok(()),
+    }
 }

@@ -1,22 +1,25 @@
 //! The rows of a key in stored tables, newest first, to the first that decides.
-ghost use Rattle.std.specs.Prelude.{◌≡◌, ◌⊎◌, ◌≤◌, ◌<◌, ◌++◌, ℕ, List, length, flat_map, false, IfOk, IfErr, OnOk};
+ghost use Rattle.std.specs.Prelude.{◌≡◌, ◌⊎◌, ◌≤◌, ◌<◌, ◌++◌, ℕ, List, length, flat_map, false, Some, Contains, IfOk, IfErr, OnOk};
 ghost use Rattle.std.specs.List.{AllByRecursion};
 ghost use Rattle.slate_types.specs.declared.error.SlateDBError.{SlateDBError};
 ghost use Rattle.slate_types.specs.declared.iter.IterationOrder.{IterationOrder};
 ghost use Rattle.slate_types.specs.declared.types.RowEntry.{RowEntry};
 ghost use Rattle.slate_types.specs.Faults.{faults_of};
 ghost use Rattle.slate_types.specs.Iteration.{IsInOrder};
+ghost use Rattle.slate_types.specs.Outside.{Objects};
 ghost use Rattle.slate_types.specs.Partitions.{CanHold};
 ghost use Rattle.slate_block.specs.BlockSpelling.{IsBlockOf};
 ghost use Rattle.slate_block.specs.ReadingLaws.{EachIsAByte};
 ghost use Rattle.slate_mem.specs.Table.{newest};
+ghost use Rattle.slate_table.specs.declared.info.SsTableHandle.{SsTableHandle};
 ghost use Rattle.slate_table.specs.Finding.{encloses, AreBlocksOf};
 ghost use Rattle.slate_table.specs.IndexReading.{index_keys};
 ghost use Rattle.slate_table.specs.IndexValue.{entries_of};
 ghost use Rattle.slate_table.specs.InfoReading.{seen_info};
 ghost use Rattle.slate_table.specs.Reading.{IsStoreFault};
 ghost use Rattle.slate_table.specs.SectionReading.{changed_by, IsTransformFault};
-ghost use Rattle.slate_db.specs.Lookup.{IsDamage, IsStored, AreStored, newest_first};
+ghost use Rattle.slate_db.specs.Answered.{AddsReads, AnswersAs};
+ghost use Rattle.slate_db.specs.Lookup.{IsDamage, IsUnknown, IsStored, AreStored, newest_first};
 ghost use Rattle.slate_db.specs.Model.{Rows};
 
 use crate::lookup::{is_decided, newest_of_walk};
@@ -70,7 +73,7 @@ fn newest_of_block(
 ) -> Result<Vec<RowEntry>, SlateDBError>
     ensures found { (rows : List RowEntry) → IsBlockOf block.body block.offsets.items version rows → IsInOrder IterationOrder.Ascending rows → IfOk result (λ found. found.items ≡ newest key.now max_seq rows) }
     ensures whole { (rows : List RowEntry) → IsBlockOf block.body block.offsets.items version rows → IsInOrder IterationOrder.Ascending rows → IfErr result (λ e. e ≡ SlateDBError.OutOfMemory) }
-    ensures cause { IfErr result (λ e. (e ≡ SlateDBError.OutOfMemory) ⊎ IsDamage e) }
+    ensures cause { IfErr result (λ e. (e ≡ SlateDBError.OutOfMemory) ⊎ IsDamage e ⊎ IsUnknown version e) }
 {
     are_bytes(block.body.as_slice());
     let mut rows = DataBlockIterator::new(alloc, block, version, IterationOrder::Ascending)?;
@@ -88,7 +91,7 @@ fn newest_of_blocks(
 ) -> Result<Vec<RowEntry>, SlateDBError>
     ensures found { (lists : List Rows) → AreBlocksOf version blocks.items lists → AllByRecursion (IsInOrder IterationOrder.Ascending) lists → IfOk result (λ found. found.items ≡ newest key.now max_seq (flat_map (λ rows. rows) lists)) }
     ensures whole { (lists : List Rows) → AreBlocksOf version blocks.items lists → AllByRecursion (IsInOrder IterationOrder.Ascending) lists → IfErr result (λ e. e ≡ SlateDBError.OutOfMemory) }
-    ensures cause { IfErr result (λ e. (e ≡ SlateDBError.OutOfMemory) ⊎ IsDamage e) }
+    ensures cause { IfErr result (λ e. (e ≡ SlateDBError.OutOfMemory) ⊎ IsDamage e ⊎ IsUnknown version e) }
 {
     let mut found = Vec::new(alloc);
     for block in blocks {
@@ -111,8 +114,11 @@ fn newest_within<S: Store, T: BlockTransformer>(
     transformer: &mut Option<T>,
 ) -> Result<Vec<RowEntry>, SlateDBError>
     ensures found { (rows : Rows) → IsStored (changed_by T.encoded transformer.old) (changed_by T.decoded transformer.old) (S.objects store.old) table.now rows → IfOk result (λ found. found.items ≡ newest key.now max_seq rows) }
+    ensures true_found { (rows : Rows) (os : Objects) → IsStored (changed_by T.encoded transformer.old) (changed_by T.decoded transformer.old) (Some os) table.now rows → AnswersAs os (S.acts store.old) (S.acts store.new) → IfOk result (λ found. found.items ≡ newest key.now max_seq rows) }
     ensures whole { (rows : Rows) → IsStored (changed_by T.encoded transformer.old) (changed_by T.decoded transformer.old) (S.objects store.old) table.now rows → IfErr result (λ e. IsStoreFault (S.faults store.old) (S.faults store.new) e ⊎ IsTransformFault (faults_of T.faults transformer.old) (faults_of T.faults transformer.new) e) }
-    ensures cause { IfErr result (λ e. IsStoreFault (S.faults store.old) (S.faults store.new) e ⊎ IsTransformFault (faults_of T.faults transformer.old) (faults_of T.faults transformer.new) e ⊎ IsDamage e) }
+    ensures truthful { (rows : Rows) (os : Objects) → IsStored (changed_by T.encoded transformer.old) (changed_by T.decoded transformer.old) (Some os) table.now rows → AnswersAs os (S.acts store.old) (S.acts store.new) → IfErr result (λ e. IsStoreFault (S.faults store.old) (S.faults store.new) e ⊎ IsTransformFault (faults_of T.faults transformer.old) (faults_of T.faults transformer.new) e) }
+    ensures cause { IfErr result (λ e. IsStoreFault (S.faults store.old) (S.faults store.new) e ⊎ IsTransformFault (faults_of T.faults transformer.old) (faults_of T.faults transformer.new) e ⊎ IsDamage e ⊎ IsUnknown table.now.format_version e) }
+    ensures told { AddsReads (S.acts store.old) (S.acts store.new) }
     ensures objects { S.objects store.new ≡ S.objects store.old }
     ensures same_encoded { changed_by T.encoded transformer.new ≡ changed_by T.encoded transformer.old }
     ensures same_decoded { changed_by T.decoded transformer.new ≡ changed_by T.decoded transformer.old }
@@ -126,7 +132,7 @@ fn newest_within<S: Store, T: BlockTransformer>(
     Ok(found)
 }
 
-/// The rows of the key in a table. Only a table whose first and last key enclose it is read.
+/// The rows of the key in a table.
 fn newest_of_table<S: Store, T: BlockTransformer>(
     alloc: Global,
     store: &mut S,
@@ -136,8 +142,11 @@ fn newest_of_table<S: Store, T: BlockTransformer>(
     transformer: &mut Option<T>,
 ) -> Result<Vec<RowEntry>, SlateDBError>
     ensures found { (rows : Rows) → IsStored (changed_by T.encoded transformer.old) (changed_by T.decoded transformer.old) (S.objects store.old) table.now rows → IfOk result (λ found. found.items ≡ newest key.now max_seq rows) }
+    ensures true_found { (rows : Rows) (os : Objects) → IsStored (changed_by T.encoded transformer.old) (changed_by T.decoded transformer.old) (Some os) table.now rows → AnswersAs os (S.acts store.old) (S.acts store.new) → IfOk result (λ found. found.items ≡ newest key.now max_seq rows) }
     ensures whole { (rows : Rows) → IsStored (changed_by T.encoded transformer.old) (changed_by T.decoded transformer.old) (S.objects store.old) table.now rows → IfErr result (λ e. IsStoreFault (S.faults store.old) (S.faults store.new) e ⊎ IsTransformFault (faults_of T.faults transformer.old) (faults_of T.faults transformer.new) e) }
-    ensures cause { IfErr result (λ e. IsStoreFault (S.faults store.old) (S.faults store.new) e ⊎ IsTransformFault (faults_of T.faults transformer.old) (faults_of T.faults transformer.new) e ⊎ IsDamage e) }
+    ensures truthful { (rows : Rows) (os : Objects) → IsStored (changed_by T.encoded transformer.old) (changed_by T.decoded transformer.old) (Some os) table.now rows → AnswersAs os (S.acts store.old) (S.acts store.new) → IfErr result (λ e. IsStoreFault (S.faults store.old) (S.faults store.new) e ⊎ IsTransformFault (faults_of T.faults transformer.old) (faults_of T.faults transformer.new) e) }
+    ensures cause { IfErr result (λ e. IsStoreFault (S.faults store.old) (S.faults store.new) e ⊎ IsTransformFault (faults_of T.faults transformer.old) (faults_of T.faults transformer.new) e ⊎ IsDamage e ⊎ IsUnknown table.now.format_version e) }
+    ensures told { AddsReads (S.acts store.old) (S.acts store.new) }
     ensures objects { S.objects store.new ≡ S.objects store.old }
     ensures same_encoded { changed_by T.encoded transformer.new ≡ changed_by T.encoded transformer.old }
     ensures same_decoded { changed_by T.decoded transformer.new ≡ changed_by T.decoded transformer.old }
@@ -151,7 +160,7 @@ fn newest_of_table<S: Store, T: BlockTransformer>(
 }
 
 /// Adds the rows of the key in stored tables, of which the newest stands last, behind those that were found in newer layers.
-/// No older table is read than the first one that decides.
+/// Where the store holds the tables, or its acts tell that each read of this call was answered by them, damage isn't answered.
 pub fn newest_of_tables<S: Store, T: BlockTransformer>(
     alloc: Global,
     newer: Vec<RowEntry>,
@@ -162,8 +171,11 @@ pub fn newest_of_tables<S: Store, T: BlockTransformer>(
     transformer: &mut Option<T>,
 ) -> Result<Vec<RowEntry>, SlateDBError>
     ensures found { (layers : List Rows) → AreStored (changed_by T.encoded transformer.old) (changed_by T.decoded transformer.old) (S.objects store.old) tables.now layers → IfOk result (λ all. (above : Rows) → newer.items ≡ newest key.now max_seq above → all.items ≡ newest key.now max_seq (above ++ newest_first layers)) }
+    ensures true_found { (layers : List Rows) (os : Objects) → AreStored (changed_by T.encoded transformer.old) (changed_by T.decoded transformer.old) (Some os) tables.now layers → AnswersAs os (S.acts store.old) (S.acts store.new) → IfOk result (λ all. (above : Rows) → newer.items ≡ newest key.now max_seq above → all.items ≡ newest key.now max_seq (above ++ newest_first layers)) }
     ensures whole { (layers : List Rows) → AreStored (changed_by T.encoded transformer.old) (changed_by T.decoded transformer.old) (S.objects store.old) tables.now layers → IfErr result (λ e. IsStoreFault (S.faults store.old) (S.faults store.new) e ⊎ IsTransformFault (faults_of T.faults transformer.old) (faults_of T.faults transformer.new) e) }
-    ensures cause { IfErr result (λ e. IsStoreFault (S.faults store.old) (S.faults store.new) e ⊎ IsTransformFault (faults_of T.faults transformer.old) (faults_of T.faults transformer.new) e ⊎ IsDamage e) }
+    ensures truthful { (layers : List Rows) (os : Objects) → AreStored (changed_by T.encoded transformer.old) (changed_by T.decoded transformer.old) (Some os) tables.now layers → AnswersAs os (S.acts store.old) (S.acts store.new) → IfErr result (λ e. IsStoreFault (S.faults store.old) (S.faults store.new) e ⊎ IsTransformFault (faults_of T.faults transformer.old) (faults_of T.faults transformer.new) e) }
+    ensures cause { IfErr result (λ e. IsStoreFault (S.faults store.old) (S.faults store.new) e ⊎ IsTransformFault (faults_of T.faults transformer.old) (faults_of T.faults transformer.new) e ⊎ IsDamage e ⊎ ((h : SsTableHandle) × Contains tables.now h × IsUnknown h.format_version e)) }
+    ensures told { AddsReads (S.acts store.old) (S.acts store.new) }
     ensures objects { S.objects store.new ≡ S.objects store.old }
     ensures same_encoded { changed_by T.encoded transformer.new ≡ changed_by T.encoded transformer.old }
     ensures same_decoded { changed_by T.decoded transformer.new ≡ changed_by T.decoded transformer.old }

@@ -1,10 +1,10 @@
-use Rattle.std.proofs.Common.{ℕ, ◌*◌, ◌^◌, List, map, inl, arith}
+use Rattle.std.proofs.Common.{ℕ, ◌*◌, ◌^◌, List, map, inl, inr, arith}
 use Rattle.std.proofs.lemmas.Result.{err_from_is_err_and}
 use Rattle.slate_types.specs.declared.types.Ulid.{Ulid}
 use Rattle.slate_table.specs.SectionReading.{changed_by}
 use Rattle.slate_table.specs.TableParts.{version_of}
 use Rattle.slate_db.specs.Flushed.{IsTableOfFlush, layout_of}
-use Rattle.slate_db.proofs.Built.{read_again, takes, may_take, may_keep, handle_of}
+use Rattle.slate_db.proofs.Built.{read_again, takes, may_take, may_keep, handle_of, version_known}
 use Rattle.slate_db.proofs.flush.stored.Goals as goal
 
 pub returns-clause-stored : goal.returns-clause-stored
@@ -13,7 +13,7 @@ returns-clause-stored g c =
     record {
       t = t;
       list = c.in_ok-tables.ensures.list;
-      kept = handle_of t c.in_ok-handle.handle (version_of c.args.options.now.block_format) c.in_ok-table.table.version c.in_ok-table.table.info
+      kept = handle_of t c.in_ok-handle.handle (version_of c.args.options.now.block_format) c.in_ok-table.table.version c.in_ok-table.table.info (version_known c.args.options.now.block_format)
           c.in_ok-handle.ensures.id c.in_ok-handle.ensures.info c.in_ok-handle.ensures.version c.in_ok-table.ensures.version c.in_ok-table.ensures.info c.in_ok-tables.ensures.bytes;
       table = record {
         rows = c.in_ok-rows.rows.items;
@@ -49,3 +49,6 @@ pub returns-in_err-handle-clause-cause : goal.returns-in_err-handle-clause-cause
 returns-in_err-handle-clause-cause g c =
     let p = err_from_is_err_and c.from_residual-in_err-handle.result c.from_residual-in_err-handle.ensures.1 in
     rw (p.1, p.2) (inl c.in_err-handle.ensures.cause)
+
+pub returns-clause-acts : goal.returns-clause-acts
+returns-clause-acts g c = inr ((record { 0 = c.args.number * 2 ^ 64 }, c.in_ok-table.table.bytes), c.in_ok-tables.ensures.list, c.in_ok-handle.ensures.act)

@@ -1,20 +1,26 @@
-use Rattle.std.proofs.Common.{inl, refl, ◌∙◌}
+use Rattle.std.proofs.Common.{inl, Some, refl, ◌∙◌}
 use Rattle.std.proofs.lemmas.Result.{err_from_is_err_and}
-use Rattle.slate_table.specs.Finding.{index_answer}
 use Rattle.slate_table.specs.IndexValue.{entries_of}
-use Rattle.slate_table.specs.InfoReading.{seen_info}
-use Rattle.slate_table.specs.Reading.{IsIndexRead, block_answer}
+use Rattle.slate_table.specs.Reading.{block_answer}
 use Rattle.slate_table.specs.SectionReading.{changed_by}
-use Rattle.slate_table.proofs.TableFinds.{key_held}
+use Rattle.slate_db.proofs.Answered.{adds_both, adds_once, adds_read, answers_first, answers_last}
 use Rattle.slate_db.proofs.Damaged.{blocks_cause, cause_earlier, found_cause, index_cause}
 use Rattle.slate_db.proofs.Newest.{newest_same}
-use Rattle.slate_db.proofs.Tables.{blocks_read, blocks_whole, faults_earlier, index_whole, read_part}
+use Rattle.slate_db.proofs.Tables.{acts_by, blocks_whole, faults_earlier, index_whole, key_read, told_by}
 use Rattle.slate_db.proofs.stored.newest_within.Goals as goal
 
 pub returns-in_err-index-clause-whole : goal.returns-in_err-index-clause-whole
 returns-in_err-index-clause-whole g c rows stored =
     let p = err_from_is_err_and c.from_residual.result c.from_residual.ensures.1 in
-    rw (p.1, p.2) (index_whole _ _ _ _ c.args.table.now rows _ _ _ _ _ _ _ stored refl c.in_err-index.ensures.cause)
+    rw (p.1, p.2) (index_whole _ _ _ _ c.args.table.now rows _ _ _ _ _ _ _ stored (told_by stored refl) c.in_err-index.ensures.cause)
+
+pub returns-in_err-index-clause-truthful : goal.returns-in_err-index-clause-truthful
+returns-in_err-index-clause-truthful g c rows os stored a =
+    let p = err_from_is_err_and c.from_residual.result c.from_residual.ensures.1 in
+    rw (p.1, p.2) (index_whole _ _ _ _ c.args.table.now rows _ _ _ _ _ _ _ stored (acts_by stored a) c.in_err-index.ensures.cause)
+
+pub returns-in_err-index-clause-told : goal.returns-in_err-index-clause-told
+returns-in_err-index-clause-told g c = adds_once _ _ _ _ _ _ c.in_err-index.ensures.once
 
 pub returns-in_err-blocks-clause-same_encoded : goal.returns-in_err-blocks-clause-same_encoded
 returns-in_err-blocks-clause-same_encoded g c = c.read_blocks.ensures.same_encoded ∙ c.read_index.ensures.same_encoded
@@ -24,27 +30,55 @@ returns-in_err-blocks-clause-same_decoded g c = c.read_blocks.ensures.same_decod
 
 pub returns-in_err-blocks-clause-whole : goal.returns-in_err-blocks-clause-whole
 returns-in_err-blocks-clause-whole g c rows stored =
-    let encoded = changed_by g.T.BlockTransformer.encoded in
-    let decoded = changed_by g.T.BlockTransformer.decoded in
-    let read : IsIndexRead (decoded c.args.transformer.now) c.args.table.now.info.filter_offset (index_answer stored.bytes (seen_info c.args.table.now.info)) (entries_of c.in_ok-index.index) =
-    read_part _ _ _ _ _ _ _ _ stored.os stored.bytes refl stored.told stored.there c.in_ok-index.ensures.found in
+    let encode = changed_by g.T.BlockTransformer.encoded c.args.transformer.now in
+    let decode = changed_by g.T.BlockTransformer.decoded c.args.transformer.now in
+    let now = changed_by g.T.BlockTransformer.decoded c.read_index.new.transformer in
     let p = err_from_is_err_and c.from_residual-in_err-blocks.result c.from_residual-in_err-blocks.ensures.1 in
     rw (p.1, p.2) (faults_earlier _ _ _ _ _ _ _ c.read_index.ensures.later c.read_index.ensures.later_transformer
-    (blocks_whole (encoded c.args.transformer.now) (decoded c.args.transformer.now) (decoded c.read_index.new.transformer) (g.S.Store.objects c.args.store.now) (g.S.Store.objects c.read_index.new.store) c.args.table.now rows (entries_of c.in_ok-index.index)
-    c.covering-covered.result.start c.covering-covered.result.end _ _ c.in_err-blocks.field-0.0 _ _ _ _ stored c.read_index.ensures.objects c.read_index.ensures.same_decoded read c.covering-covered.ensures.order c.covering-covered.ensures.within c.in_err-blocks.ensures.cause))
+    (blocks_whole encode decode now (g.S.Store.objects c.args.store.now) (g.S.Store.objects c.args.store.now) (g.S.Store.objects c.read_index.new.store) c.args.table.now rows (entries_of c.in_ok-index.index)
+    c.covering-covered.result.start c.covering-covered.result.end (g.S.Store.acts c.args.store.now) (g.S.Store.acts c.read_index.new.store) (g.S.Store.acts c.read_blocks.new.store) c.in_err-blocks.field-0.0 _ _ _ _ stored (told_by stored refl) (told_by stored c.read_index.ensures.objects) c.read_index.ensures.same_decoded c.covering-covered.ensures.order c.covering-covered.ensures.within c.in_ok-index.ensures.found c.in_err-blocks.ensures.cause))
+
+pub returns-in_err-blocks-clause-truthful : goal.returns-in_err-blocks-clause-truthful
+returns-in_err-blocks-clause-truthful g c rows os stored a =
+    let encode = changed_by g.T.BlockTransformer.encoded c.args.transformer.now in
+    let decode = changed_by g.T.BlockTransformer.decoded c.args.transformer.now in
+    let now = changed_by g.T.BlockTransformer.decoded c.read_index.new.transformer in
+    let first = adds_read _ _ _ _ _ _ _ c.in_ok-index.ensures.found in
+    let last = adds_once _ _ _ _ _ _ c.in_err-blocks.ensures.once in
+    let p = err_from_is_err_and c.from_residual-in_err-blocks.result c.from_residual-in_err-blocks.ensures.1 in
+    rw (p.1, p.2) (faults_earlier _ _ _ _ _ _ _ c.read_index.ensures.later c.read_index.ensures.later_transformer
+    (blocks_whole encode decode now (Some os) (g.S.Store.objects c.args.store.now) (g.S.Store.objects c.read_index.new.store) c.args.table.now rows (entries_of c.in_ok-index.index)
+    c.covering-covered.result.start c.covering-covered.result.end (g.S.Store.acts c.args.store.now) (g.S.Store.acts c.read_index.new.store) (g.S.Store.acts c.read_blocks.new.store) c.in_err-blocks.field-0.0 _ _ _ _ stored (acts_by stored (answers_first os _ _ _ first last a)) (acts_by stored (answers_last os _ _ _ first last a)) c.read_index.ensures.same_decoded c.covering-covered.ensures.order c.covering-covered.ensures.within c.in_ok-index.ensures.found c.in_err-blocks.ensures.cause))
+
+pub returns-in_err-blocks-clause-told : goal.returns-in_err-blocks-clause-told
+returns-in_err-blocks-clause-told g c = adds_both _ _ _ (adds_read _ _ _ _ _ _ _ c.in_ok-index.ensures.found) (adds_once _ _ _ _ _ _ c.in_err-blocks.ensures.once)
 
 pub returns-in_err-found-clause-whole : goal.returns-in_err-found-clause-whole
 returns-in_err-found-clause-whole g c rows stored =
-    let encoded = changed_by g.T.BlockTransformer.encoded in
-    let decoded = changed_by g.T.BlockTransformer.decoded in
-    let read : IsIndexRead (decoded c.args.transformer.now) c.args.table.now.info.filter_offset (index_answer stored.bytes (seen_info c.args.table.now.info)) (entries_of c.in_ok-index.index) =
-    read_part _ _ _ _ _ _ _ _ stored.os stored.bytes refl stored.told stored.there c.in_ok-index.ensures.found in
-    let are = blocks_read (encoded c.args.transformer.now) (decoded c.args.transformer.now) (decoded c.read_index.new.transformer) (g.S.Store.objects c.args.store.now) (g.S.Store.objects c.read_index.new.store) c.args.table.now rows (entries_of c.in_ok-index.index)
-    c.covering-covered.result.start c.covering-covered.result.end _ _ c.in_ok-blocks.blocks.items stored c.read_index.ensures.objects c.read_index.ensures.same_decoded c.in_ok-blocks.ensures.found in
-    let key = key_held (encoded c.args.transformer.now) (decoded c.args.transformer.now) stored.lawful stored.bytes c.args.table.now.format_version (seen_info c.args.table.now.info) rows stored.is (entries_of c.in_ok-index.index) read
-    c.args.key.now c.covering-covered.result.start c.covering-covered.result.end c.covering-covered.ensures.order c.covering-covered.ensures.within c.covering-covered.ensures.each c.in_ok-blocks.blocks.items c.in_ok-blocks.ensures.count are in
+    let encode = changed_by g.T.BlockTransformer.encoded c.args.transformer.now in
+    let decode = changed_by g.T.BlockTransformer.decoded c.args.transformer.now in
+    let now = changed_by g.T.BlockTransformer.decoded c.read_index.new.transformer in
+    let key = key_read encode decode now (g.S.Store.objects c.args.store.now) (g.S.Store.objects c.args.store.now) (g.S.Store.objects c.read_index.new.store) c.args.table.now rows (entries_of c.in_ok-index.index)
+    c.args.key.now c.covering-covered.result.start c.covering-covered.result.end (g.S.Store.acts c.args.store.now) (g.S.Store.acts c.read_index.new.store) (g.S.Store.acts c.read_blocks.new.store) c.in_ok-blocks.blocks.items stored (told_by stored refl) (told_by stored c.read_index.ensures.objects) c.read_index.ensures.same_decoded
+    c.covering-covered.ensures.order c.covering-covered.ensures.within c.covering-covered.ensures.each c.in_ok-blocks.ensures.count c.in_ok-index.ensures.found c.in_ok-blocks.ensures.found in
     let p = err_from_is_err_and c.from_residual-in_err-found.result c.from_residual-in_err-found.ensures.1 in
     rw (p.1, p.2) (inl (inl (c.in_err-found.ensures.whole key.0 key.1 key.2)))
+
+pub returns-in_err-found-clause-truthful : goal.returns-in_err-found-clause-truthful
+returns-in_err-found-clause-truthful g c rows os stored a =
+    let encode = changed_by g.T.BlockTransformer.encoded c.args.transformer.now in
+    let decode = changed_by g.T.BlockTransformer.decoded c.args.transformer.now in
+    let now = changed_by g.T.BlockTransformer.decoded c.read_index.new.transformer in
+    let first = adds_read _ _ _ _ _ _ _ c.in_ok-index.ensures.found in
+    let last = adds_read _ _ _ _ _ _ _ c.in_ok-blocks.ensures.found in
+    let key = key_read encode decode now (Some os) (g.S.Store.objects c.args.store.now) (g.S.Store.objects c.read_index.new.store) c.args.table.now rows (entries_of c.in_ok-index.index)
+    c.args.key.now c.covering-covered.result.start c.covering-covered.result.end (g.S.Store.acts c.args.store.now) (g.S.Store.acts c.read_index.new.store) (g.S.Store.acts c.read_blocks.new.store) c.in_ok-blocks.blocks.items stored (acts_by stored (answers_first os _ _ _ first last a)) (acts_by stored (answers_last os _ _ _ first last a)) c.read_index.ensures.same_decoded
+    c.covering-covered.ensures.order c.covering-covered.ensures.within c.covering-covered.ensures.each c.in_ok-blocks.ensures.count c.in_ok-index.ensures.found c.in_ok-blocks.ensures.found in
+    let p = err_from_is_err_and c.from_residual-in_err-found.result c.from_residual-in_err-found.ensures.1 in
+    rw (p.1, p.2) (inl (inl (c.in_err-found.ensures.whole key.0 key.1 key.2)))
+
+pub returns-in_err-found-clause-told : goal.returns-in_err-found-clause-told
+returns-in_err-found-clause-told g c = adds_both _ _ _ (adds_read _ _ _ _ _ _ _ c.in_ok-index.ensures.found) (adds_read _ _ _ _ _ _ _ c.in_ok-blocks.ensures.found)
 
 pub returns-in_err-found-clause-same_encoded : goal.returns-in_err-found-clause-same_encoded
 returns-in_err-found-clause-same_encoded g c = c.read_blocks.ensures.same_encoded ∙ c.read_index.ensures.same_encoded
@@ -54,15 +88,28 @@ returns-in_err-found-clause-same_decoded g c = c.read_blocks.ensures.same_decode
 
 pub returns-clause-found : goal.returns-clause-found
 returns-clause-found g c rows stored =
-    let encoded = changed_by g.T.BlockTransformer.encoded in
-    let decoded = changed_by g.T.BlockTransformer.decoded in
-    let read : IsIndexRead (decoded c.args.transformer.now) c.args.table.now.info.filter_offset (index_answer stored.bytes (seen_info c.args.table.now.info)) (entries_of c.in_ok-index.index) =
-    read_part _ _ _ _ _ _ _ _ stored.os stored.bytes refl stored.told stored.there c.in_ok-index.ensures.found in
-    let are = blocks_read (encoded c.args.transformer.now) (decoded c.args.transformer.now) (decoded c.read_index.new.transformer) (g.S.Store.objects c.args.store.now) (g.S.Store.objects c.read_index.new.store) c.args.table.now rows (entries_of c.in_ok-index.index)
-    c.covering-covered.result.start c.covering-covered.result.end _ _ c.in_ok-blocks.blocks.items stored c.read_index.ensures.objects c.read_index.ensures.same_decoded c.in_ok-blocks.ensures.found in
-    let key = key_held (encoded c.args.transformer.now) (decoded c.args.transformer.now) stored.lawful stored.bytes c.args.table.now.format_version (seen_info c.args.table.now.info) rows stored.is (entries_of c.in_ok-index.index) read
-    c.args.key.now c.covering-covered.result.start c.covering-covered.result.end c.covering-covered.ensures.order c.covering-covered.ensures.within c.covering-covered.ensures.each c.in_ok-blocks.blocks.items c.in_ok-blocks.ensures.count are in
+    let encode = changed_by g.T.BlockTransformer.encoded c.args.transformer.now in
+    let decode = changed_by g.T.BlockTransformer.decoded c.args.transformer.now in
+    let now = changed_by g.T.BlockTransformer.decoded c.read_index.new.transformer in
+    let key = key_read encode decode now (g.S.Store.objects c.args.store.now) (g.S.Store.objects c.args.store.now) (g.S.Store.objects c.read_index.new.store) c.args.table.now rows (entries_of c.in_ok-index.index)
+    c.args.key.now c.covering-covered.result.start c.covering-covered.result.end (g.S.Store.acts c.args.store.now) (g.S.Store.acts c.read_index.new.store) (g.S.Store.acts c.read_blocks.new.store) c.in_ok-blocks.blocks.items stored (told_by stored refl) (told_by stored c.read_index.ensures.objects) c.read_index.ensures.same_decoded
+    c.covering-covered.ensures.order c.covering-covered.ensures.within c.covering-covered.ensures.each c.in_ok-blocks.ensures.count c.in_ok-index.ensures.found c.in_ok-blocks.ensures.found in
     c.in_ok-found.ensures.found key.0 key.1 key.2 ∙ newest_same c.args.key.now c.args.max_seq _ rows key.3
+
+pub returns-clause-true_found : goal.returns-clause-true_found
+returns-clause-true_found g c rows os stored a =
+    let encode = changed_by g.T.BlockTransformer.encoded c.args.transformer.now in
+    let decode = changed_by g.T.BlockTransformer.decoded c.args.transformer.now in
+    let now = changed_by g.T.BlockTransformer.decoded c.read_index.new.transformer in
+    let first = adds_read _ _ _ _ _ _ _ c.in_ok-index.ensures.found in
+    let last = adds_read _ _ _ _ _ _ _ c.in_ok-blocks.ensures.found in
+    let key = key_read encode decode now (Some os) (g.S.Store.objects c.args.store.now) (g.S.Store.objects c.read_index.new.store) c.args.table.now rows (entries_of c.in_ok-index.index)
+    c.args.key.now c.covering-covered.result.start c.covering-covered.result.end (g.S.Store.acts c.args.store.now) (g.S.Store.acts c.read_index.new.store) (g.S.Store.acts c.read_blocks.new.store) c.in_ok-blocks.blocks.items stored (acts_by stored (answers_first os _ _ _ first last a)) (acts_by stored (answers_last os _ _ _ first last a)) c.read_index.ensures.same_decoded
+    c.covering-covered.ensures.order c.covering-covered.ensures.within c.covering-covered.ensures.each c.in_ok-blocks.ensures.count c.in_ok-index.ensures.found c.in_ok-blocks.ensures.found in
+    c.in_ok-found.ensures.found key.0 key.1 key.2 ∙ newest_same c.args.key.now c.args.max_seq _ rows key.3
+
+pub returns-clause-told : goal.returns-clause-told
+returns-clause-told g c = adds_both _ _ _ (adds_read _ _ _ _ _ _ _ c.in_ok-index.ensures.found) (adds_read _ _ _ _ _ _ _ c.in_ok-blocks.ensures.found)
 
 pub returns-clause-same_encoded : goal.returns-clause-same_encoded
 returns-clause-same_encoded g c = c.read_blocks.ensures.same_encoded ∙ c.read_index.ensures.same_encoded

@@ -1,7 +1,12 @@
-use Rattle.std.proofs.Common.{◌≡◌, ◌+◌, ◌++◌, ◌∷◌, [], length, refl, ap, sym, subst, ◌∙◌, arith}
+use Rattle.std.proofs.Common.{◌≡◌, ℕ, List, ◌+◌, ◌++◌, ◌∷◌, [], length, refl, ap, sym, subst, ◌∙◌, arith, length-append}
+use Rattle.std.specs.BTreeMap.{insert_entry}
+use Rattle.slate_types.specs.Keys.{key_cmp}
 use Rattle.slate_txn.specs.declared.event.Event.TheVariants as events
 use Rattle.slate_txn.specs.declared.line.Line.TheVariants as lines
-use Rattle.slate_txn.specs.State.{begun}
+use Rattle.slate_types.specs.declared.config.IsolationLevel.{IsolationLevel}
+use Rattle.slate_table.specs.declared.info.SsTableHandle.{SsTableHandle}
+use Rattle.slate_txn.specs.Named.{without}
+use Rattle.slate_txn.specs.State.{Tx, begun}
 use Rattle.slate_txn.specs.Replay.{replay}
 use Rattle.slate_txn.specs.Reply.{Begun}
 use Rattle.slate_txn.specs.Step.{step}
@@ -13,33 +18,42 @@ use Rattle.slate_db.specs.Whole.{IsWhole}
 use Rattle.slate_db.specs.Ids.{id_of}
 use Rattle.slate_db.proofs.Keeps.{same_model}
 use Rattle.slate_db.proofs.Journals.{apply_more}
-use Rattle.slate_db.proofs.Wholes.{after_begin, whole_begin, kept_begin}
+use Rattle.slate_db.proofs.Wholes.{after_begin, whole_begin, kept_begin, put_begun, taken_back}
+use Rattle.slate_db.proofs.Names.{without_is}
 use Rattle.slate_db.proofs.Steps.{step_begin}
 use Rattle.slate_db.proofs.engine.Core.begin.Goals as goal
 
+-- the list of open transactions after the insert
+put_of : (v : CoreModel) (n ids runs : ℕ) (hs : List SsTableHandle) (level : IsolationLevel) (id : List ℕ) (x : Tx) (txns : List (List ℕ × Tx)) → id ≡ id_of (ids + 1) → x ≡ begun level n →
+    txns ≡ insert_entry key_cmp v.state.txns id x → IsWhole v n ids runs hs → txns ≡ v.state.txns ++ ((id_of (ids + 1), begun level n) ∷ [])
+put_of v n ids runs hs level id x txns same new is whole =
+    is ∙ (λ i. insert_entry key_cmp v.state.txns (same i) (new i)) ∙ put_begun v n ids runs hs (begun level n) whole
+
+opened : (c : goal.After-push_reserved) → c.insert.new.self.entries ≡ c.self.inside.«open».entries ++ ((id_of (c.self.inside.ids + 1), begun c.args.level c.self.inside.last) ∷ [])
+opened c =
+    put_of (view_of c.self.inside) c.self.inside.last c.self.inside.ids c.self.inside.runs c.self.inside.tables.items c.args.level c.from_u128-id.result c.new.result c.insert.new.self.entries
+    c.from_u128-id.ensures c.new.ensures c.in_ok-insert.ensures.entries c.self.invariant
+
 -- what the fields are after the call
-becomes : (c : goal.After-push_reserved-2) → after_begin (view_of c.self.inside) c.args.level c.self.inside.last (id_of (c.self.inside.ids + 1)) c.push_reserved.new.self.spare
-    ≡ view_of (record c.self.inside { ids = c.self.inside.ids + 1; journal = c.push_reserved.new.self; «open» = c.push_reserved-2.new.self })
-becomes c = same_model _ _ refl commits txns refl refl refl journal refl refl refl refl
+becomes : (c : goal.After-push_reserved) → after_begin (view_of c.self.inside) c.args.level c.self.inside.last (id_of (c.self.inside.ids + 1)) c.push_reserved.new.self.spare
+    ≡ view_of (record c.self.inside { ids = c.self.inside.ids + 1; journal = c.push_reserved.new.self; «open» = c.insert.new.self })
+becomes c = same_model _ _ refl commits (sym (opened c)) refl refl refl journal refl refl refl refl
   where
     id : c.from_u128-id.result ≡ id_of (c.self.inside.ids + 1)
     id = c.from_u128-id.ensures
 
     journal : c.self.inside.journal.events ++ (events.Begin (id_of (c.self.inside.ids + 1)) c.args.level c.self.inside.last ∷ []) ≡ c.push_reserved.new.self.events
-    journal = sym (c.push_reserved.ensures.events ∙ (λ i. c.reserve-2.ensures.events i ++ (events.Begin (id i) c.args.level c.self.inside.last ∷ [])))
+    journal = sym (c.push_reserved.ensures.events ∙ (λ i. c.reserve.ensures.events i ++ (events.Begin (id i) c.args.level c.self.inside.last ∷ [])))
 
     commits : (replay c.self.inside.journal.events).commits ≡ (replay c.push_reserved.new.self.events).commits
     commits = sym (ap (λ es. (replay es).commits) (sym journal) ∙ ap (λ s. s.commits) (apply_more _ c.self.inside.journal.events (events.Begin (id_of (c.self.inside.ids + 1)) c.args.level c.self.inside.last)))
-
-    txns : c.self.inside.«open».items ++ ((id_of (c.self.inside.ids + 1), begun c.args.level c.self.inside.last) ∷ []) ≡ c.push_reserved-2.new.self.items
-    txns = sym (c.push_reserved-2.ensures.items ∙ (λ i. c.reserve.ensures.items i ++ ((id i, c.new.ensures i) ∷ [])))
 
 pub invariant_of-self-2 : goal.invariant_of-self-2
 invariant_of-self-2 c =
     subst (λ (v : CoreModel). IsWhole v c.self.inside.last (c.self.inside.ids + 1) c.self.inside.runs c.self.inside.tables.items) (becomes c)
     (whole_begin (view_of c.self.inside) c.self.inside.last c.self.inside.ids _ _ c.args.level c.push_reserved.new.self.spare
-    (omega (arith, c.in_ok-reserve-2.ensures.ok, c.push_reserved.ensures.spare, c.len-3.ensures, ap length c.reserve.ensures.items))
-    (omega (arith, c.if-len.false, c.len.ensures, c.len-2.ensures))
+    (omega (arith, c.in_default.ensures.ok, c.push_reserved.ensures.spare, c.len-3.ensures.len, ap length (opened c) ∙ length-append c.self.inside.«open».entries ((id_of (c.self.inside.ids + 1), begun c.args.level c.self.inside.last) ∷ [])))
+    (omega (arith, c.if-len.false, c.len.ensures, c.len-2.ensures.len))
     c.self.invariant)
 
 pub returns-clause-step : goal.returns-clause-step
@@ -54,3 +68,24 @@ returns-clause-kept c m k =
     subst (λ (v : CoreModel). IsKept m v) (becomes c)
     (kept_begin m (view_of c.self.inside) c.args.level c.self.inside.last (id_of (c.self.inside.ids + 1)) c.push_reserved.new.self.spare
     (subst (λ (v : CoreModel). IsKept m v) (sym c.self.view_is) k))
+
+-- without room for the event it is taken out again
+taken : (c : goal.After-from) → c.remove.new.self.entries ≡ c.self.inside.«open».entries
+taken c =
+    let put : c.insert.new.self.entries ≡ c.self.inside.«open».entries ++ ((id_of (c.self.inside.ids + 1), begun c.args.level c.self.inside.last) ∷ []) =
+    put_of (view_of c.self.inside) c.self.inside.last c.self.inside.ids c.self.inside.runs c.self.inside.tables.items c.args.level c.from_u128-id.result c.new.result c.insert.new.self.entries
+    c.from_u128-id.ensures c.new.ensures c.in_ok-insert.ensures.entries c.self.invariant in
+    c.remove.ensures.entries ∙ without_is c.from_u128-id.result c.insert.new.self.entries
+    ∙ (let id = c.from_u128-id.ensures in λ i. without (id i) (put i))
+    ∙ taken_back (view_of c.self.inside) c.self.inside.last c.self.inside.ids c.self.inside.runs c.self.inside.tables.items (begun c.args.level c.self.inside.last) c.self.invariant
+
+stays : (c : goal.After-from) → view_of c.self.inside ≡ view_of (record c.self.inside { journal = c.reserve.new.self; «open» = c.remove.new.self })
+stays c =
+    let same : c.self.inside.journal ≡ c.reserve.new.self = sym c.in-Err.ensures.err in
+    same_model _ _ refl (ap (λ j. (replay j.events).commits) same) (sym (taken c)) refl refl refl (ap (λ j. j.events) same) (ap (λ j. j.spare) same) refl refl refl
+
+pub invariant_of-self-in-Err : goal.invariant_of-self-in-Err
+invariant_of-self-in-Err c = subst (λ (v : CoreModel). IsWhole v c.self.inside.last c.self.inside.ids c.self.inside.runs c.self.inside.tables.items) (stays c) c.self.invariant
+
+pub returns-in-Err-clause-same : goal.returns-in-Err-clause-same
+returns-in-Err-clause-same c = sym (stays c) ∙ c.self.view_is

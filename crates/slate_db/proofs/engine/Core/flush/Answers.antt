@@ -1,17 +1,22 @@
-use Rattle.std.proofs.Common.{◌≡◌, ◌+◌, ◌<◌, ◌⊎◌, length, inl, inr, sym, ap, subst, ◌∙◌}
+use Rattle.std.proofs.Common.{◌≡◌, ℕ, List, OnOk, refl, true, false, ◌+◌, ◌<◌, ◌≤◌, ◌⊎◌, length, Err, inl, inr, sym, ap, subst, ◌∙◌}
+use Rattle.std.proofs.lemmas.Result.{err_from_is_err_and}
 use Rattle.slate_types.specs.declared.error.SlateDBError.{SlateDBError}
 use Rattle.slate_types.specs.declared.error.SlateDBError.TheVariants as errors
 use Rattle.slate_types.specs.Faults.{faults_of}
 use Rattle.slate_table.specs.Reading.{IsStoreFault}
 use Rattle.slate_table.specs.SectionReading.{changed_by, IsTransformFault}
+use Rattle.slate_types.specs.declared.types.Ulid.{Ulid}
+use Rattle.slate_db.specs.Answered.{AddsTables}
+use Rattle.slate_db.specs.Installs.{tables_of}
 use Rattle.slate_db.specs.Flushed.{TooLarge, layout_of}
 use Rattle.slate_db.specs.Frozen.{IsFrozen}
 use Rattle.slate_db.specs.Model.{CoreModel}
 use Rattle.slate_db.specs.Sound.{IsKept}
 use Rattle.slate_db.specs.Whole.{LIMIT}
 use Rattle.slate_db.specs.View.{view_of}
-use Rattle.slate_db.proofs.Flushes.{whole_flushed, kept_flushed, frozen_idle, none_frozen, frozen_from, installed_after, cause_after, passes_one, one_passed, too_large_before, held, passed, some_frozen}
+use Rattle.slate_db.proofs.Flushes.{whole_flushed, kept_flushed, frozen_idle, none_frozen, frozen_from, installed_after, cause_after, passes_one, one_passed, too_large_before, held, passed, some_frozen, no_room, none_passed, full_frozen, frozen_at_fault, no_fault}
 use Rattle.slate_db.proofs.Keeps.{kept_same}
+use Rattle.slate_db.proofs.Puttings.{frozen_tables}
 use Rattle.slate_db.proofs.engine.Core.flush.Goals as goal
 
 pub invariant_of-self : goal.invariant_of-self
@@ -59,3 +64,51 @@ returns-clause-cause g c =
     behind e (inr (inl transform)) some frozen = inr (inl transform)
     behind e (inr (inr (inl (is, more)))) some frozen = inr (inr (inl (is, passes_one LIMIT c.args.self.now c.freeze.new.self frozen some more)))
     behind e (inr (inr (inr large))) some frozen = inr (inr (inr (too_large_before (layout_of c.args.options.now) c.args.self.now c.freeze.new.self e frozen large)))
+
+pub returns-clause-frozen : goal.returns-clause-frozen
+returns-clause-frozen g c =
+    frozen_at_fault c.install.result c.args.self.now c.freeze.new.self c.install.new.self
+    (frozen_from c.args.self.now c.make_room.new.self c.freeze.new.self c.make_room.ensures.same c.make_room.ensures.idle c.in_ok-freeze.ensures.event) c.install.ensures.same
+
+pub returns-clause-full : goal.returns-clause-full
+returns-clause-full g c h =
+    let some : 0 < length c.freeze.new.self.frozen = some_frozen c.as_slice.result.now c.self.inside.frozen.items c.is_empty.result c.freeze.new.self.frozen c.is_empty.ensures c.if-is_empty.false c.as_slice.ensures.value (ap (λ (v : CoreModel). v.frozen) c.self.view_is) in
+    let frozen : IsFrozen c.args.self.now c.freeze.new.self = frozen_from c.args.self.now c.make_room.new.self c.freeze.new.self c.make_room.ensures.same c.make_room.ensures.idle c.in_ok-freeze.ensures.event in
+    c.install.ensures.full (one_passed LIMIT c.args.self.now c.freeze.new.self frozen some h)
+    ∙ full_frozen LIMIT c.args.self.now c.freeze.new.self frozen c.in_ok-make_room.ensures.room h
+
+pub returns-clause-full_objects : goal.returns-clause-full_objects
+returns-clause-full_objects g c h =
+    let some : 0 < length c.freeze.new.self.frozen = some_frozen c.as_slice.result.now c.self.inside.frozen.items c.is_empty.result c.freeze.new.self.frozen c.is_empty.ensures c.if-is_empty.false c.as_slice.ensures.value (ap (λ (v : CoreModel). v.frozen) c.self.view_is) in
+    c.install.ensures.full_objects (one_passed LIMIT c.args.self.now c.freeze.new.self (frozen_from c.args.self.now c.make_room.new.self c.freeze.new.self c.make_room.ensures.same c.make_room.ensures.idle c.in_ok-freeze.ensures.event) some h)
+
+pub returns-in_err-freeze-clause-full : goal.returns-in_err-freeze-clause-full
+returns-in_err-freeze-clause-full g c h =
+    no_room LIMIT c.args.self.now (λ e. let t : false ≡ true = c.in_err-freeze.ensures.idle (ap (λ (v : CoreModel). v.active) c.make_room.ensures.same ∙ e) in cc) c.in_ok-make_room.ensures.room h
+
+pub returns-in_err-make_room-clause-frozen : goal.returns-in_err-make_room-clause-frozen
+returns-in_err-make_room-clause-frozen g c h =
+    let p = err_from_is_err_and c.from_residual.result c.from_residual.ensures.1 in
+    no_fault LIMIT c.from_residual.result _ (p.1 ∙ ap Err p.2) (λ x. x.0) c.in_err-make_room.ensures.cause h
+
+pub returns-in_err-freeze-clause-frozen : goal.returns-in_err-freeze-clause-frozen
+returns-in_err-freeze-clause-frozen g c h =
+    let p = err_from_is_err_and c.from_residual-in_err-freeze.result c.from_residual-in_err-freeze.ensures.1 in
+    no_fault LIMIT c.from_residual-in_err-freeze.result _ (p.1 ∙ ap Err p.2) (λ x. x.0) c.in_err-freeze.ensures.cause h
+
+pub returns-then-is_empty-clause-full : goal.returns-then-is_empty-clause-full
+returns-then-is_empty-clause-full g c h =
+    let nothing = sym (ap (λ (v : CoreModel). v.frozen) c.self.view_is) ∙ none_frozen c.as_slice.result.now c.self.inside.frozen.items c.is_empty.result c.is_empty.ensures c.if-is_empty.true c.as_slice.ensures.value in
+    absurd (none_passed LIMIT c.args.self.now c.freeze.new.self
+    (frozen_from c.args.self.now c.make_room.new.self c.freeze.new.self c.make_room.ensures.same c.make_room.ensures.idle c.in_ok-freeze.ensures.event)
+    nothing (subst (λ (v : CoreModel). held v ≤ LIMIT) c.self.view_is c.self.invariant.bound) h)
+
+pub returns-then-is_empty-clause-acts : goal.returns-then-is_empty-clause-acts
+returns-then-is_empty-clause-acts g c =
+    inl (ap (λ (v : CoreModel). tables_of v.events) c.self.view_is ∙ frozen_tables c.args.self.now c.freeze.new.self (frozen_from c.args.self.now c.make_room.new.self c.freeze.new.self c.make_room.ensures.same c.make_room.ensures.idle c.in_ok-freeze.ensures.event), refl)
+
+pub returns-clause-acts : goal.returns-clause-acts
+returns-clause-acts g c =
+    subst (λ (ts : List (Ulid × List ℕ)). OnOk c.install.result (AddsTables ts (tables_of c.install.new.self.events) (g.S.Store.acts c.args.env.now.store.now) (g.S.Store.acts c.install.new.env.store.now)))
+    (frozen_tables c.args.self.now c.freeze.new.self (frozen_from c.args.self.now c.make_room.new.self c.freeze.new.self c.make_room.ensures.same c.make_room.ensures.idle c.in_ok-freeze.ensures.event))
+    c.install.ensures.acts

@@ -49,8 +49,8 @@ pub invariant_of-self-2 : goal.invariant_of-self-2
 invariant_of-self-2 c =
     subst (λ (v : CoreModel). IsWhole v c.self.inside.last c.self.inside.ids c.self.inside.runs c.self.inside.tables.items) (becomes c)
     (whole_freeze (view_of c.self.inside) c.self.inside.last c.self.inside.ids _ _ c.push_reserved-2.new.self.spare
-    (omega (arith, c.in_ok-reserve-2.ensures.ok, c.push_reserved-2.ensures.spare, c.len-3.ensures))
-    (omega (arith, c.if-len.false, c.len.ensures, c.len-2.ensures))
+    (omega (arith, c.in_ok-reserve-2.ensures.ok, c.push_reserved-2.ensures.spare, c.len-3.ensures.len))
+    (omega (arith, c.if-len.false, c.len.ensures, c.len-2.ensures.len))
     (some_rows _ (λ e. let t : true ≡ false = sym (c.is_empty.ensures.1 e) ∙ c.if-is_empty.false in cc))
     c.self.invariant)
 

@@ -1,5 +1,6 @@
-use Rattle.std.proofs.Common.{◌≡◌, ℕ, ◌≤◌, List, [], ◌∷◌, ◌++◌, map, Some, refl, ap, sym, subst, ◌∙◌, rules, append-nil}
-use Rattle.std.specs.Prelude.{slice_index_or, slice_set}
+use Rattle.std.proofs.Common.{◌≡◌, ℕ, ◌≤◌, List, [], ◌∷◌, ◌++◌, map, Option, Some, unwrap_or, option_map, refl, ap, sym, subst, ◌∙◌, rules, append-nil}
+use Rattle.std.specs.Prelude.{IfSome}
+use Rattle.std.proofs.lemmas.Result.{err_from_is_err_and}
 use Rattle.slate_types.specs.Fold.{fold_rows}
 use Rattle.slate_mem.specs.Batch.{Ops, kept}
 use Rattle.slate_mem.specs.RowOf.{own_row}
@@ -28,6 +29,11 @@ invariant_of-self g c =
     (same_model (view_of c.self.inside) (view_of (record c.self.inside { «open» = c.note.new.items })) refl refl (sym c.in_err-note.ensures.err) refl refl refl refl refl refl refl refl)
     c.self.invariant
 
+pub returns-in_err-row-clause-truthful : goal.returns-in_err-row-clause-truthful
+returns-in_err-row-clause-truthful g c m os has law kept held answers =
+    let p = err_from_is_err_and c.from_residual-in_err-row.result c.from_residual-in_err-row.ensures.1 in
+    rw (p.1, p.2) (c.in_err-row.ensures.truthful m os has law kept held answers)
+
 pub returns-in_err-note-clause-kept : goal.returns-in_err-note-clause-kept
 returns-in_err-note-clause-kept g c m kept_m =
     subst (λ (v : CoreModel). IsKept m v)
@@ -47,22 +53,13 @@ t_of g c = open_is (find_named c.args.id.now c.args.self.now.state.txns) c.requi
 becomes : (g : given.Over) (c : goal.In_ok-note g) → after_note (view_of c.self.inside) c.args.id.now (noted_step g c ∷ []) ≡ view_of (record c.self.inside { «open» = c.note.new.items })
 becomes g c = same_model _ _ refl refl txns refl refl refl refl refl refl refl refl
   where
-    d : List ℕ × Tx
-    d = (c.args.id.now, (t_of g c).value)
-
-    named : (slice_index_or c.self.inside.«open».items c.in-Some.i (c.args.id.now, (t_of g c).value)).0 ≡ c.args.id.now
-    named = ap (λ (ps : List (List ℕ × Tx)). (slice_index_or ps c.in-Some.i (c.args.id.now, (t_of g c).value)).0) (sym c.deref.ensures.value) ∙ c.in-Some.ensures.some.named (c.args.id.now, (t_of g c).value)
-
     step_is : steps.Get c.in_ok-key.key c.in_ok-copy.copy ≡ steps.Get c.args.key.now c.answer-found.result
     step_is = λ j. steps.Get (c.in_ok-key.ensures j) (copy_is g c j)
 
-    txns : update_named c.args.id.now (λ t. record t { transcript = t.transcript ++ (steps.Get c.args.key.now c.answer-found.result ∷ []) }) c.self.inside.«open».items ≡ c.note.new.items.items
+    txns : update_named c.args.id.now (λ t. record t { transcript = t.transcript ++ (steps.Get c.args.key.now c.answer-found.result ∷ []) }) c.self.inside.«open».entries ≡ c.note.new.items.entries
     txns =
-        ap (λ (ps : List (List ℕ × Tx)). update_named c.args.id.now (λ t. record t { transcript = t.transcript ++ (steps.Get c.args.key.now c.answer-found.result ∷ []) }) ps) (sym c.deref.ensures.value)
-        ∙ c.in-Some.ensures.some.updates (λ t. record t { transcript = t.transcript ++ (steps.Get c.args.key.now c.answer-found.result ∷ []) }) (c.args.id.now, (t_of g c).value)
-        ∙ ap (λ (ps : List (List ℕ × Tx)). slice_set ps c.in-Some.i (c.args.id.now, record (slice_index_or ps c.in-Some.i (c.args.id.now, (t_of g c).value)).1 { transcript = (slice_index_or ps c.in-Some.i (c.args.id.now, (t_of g c).value)).1.transcript ++ (steps.Get c.args.key.now c.answer-found.result ∷ []) })) c.deref.ensures.value
-        ∙ (let n = sym named in let st = sym step_is in λ j. slice_set c.self.inside.«open».items c.in-Some.i (n j, record (slice_index_or c.self.inside.«open».items c.in-Some.i (c.args.id.now, (t_of g c).value)).1 { transcript = (slice_index_or c.self.inside.«open».items c.in-Some.i (c.args.id.now, (t_of g c).value)).1.transcript ++ (st j ∷ []) }))
-        ∙ sym (c.in_ok-note.ensures.ok (c.args.id.now, (t_of g c).value))
+        (let st = sym step_is in λ j. update_named c.args.id.now (λ t. record t { transcript = t.transcript ++ (st j ∷ []) }) c.self.inside.«open».entries)
+        ∙ sym c.in_ok-note.ensures.ok
 
 pub invariant_of-self-2 : goal.invariant_of-self-2
 invariant_of-self-2 g c =
@@ -74,25 +71,22 @@ returns-clause-noted g c = sym (becomes g c) ∙ ap (λ v. after_note v c.args.i
 
 -- the transaction that reads
 abbrev reader : (g : given.Over) → goal.In_ok-note g → Tx
-reader g c = (slice_index_or c.self.inside.«open».items c.in-Some.i (c.args.id.now, (t_of g c).value)).1
+reader g c = (t_of g c).value
 
-reader_is : (g : given.Over) (c : goal.In_ok-note g) → find_named c.args.id.now c.self.inside.«open».items ≡ Some (reader g c)
-reader_is g c =
-    ap (λ (ps : List (List ℕ × Tx)). find_named c.args.id.now ps) (sym c.deref.ensures.value)
-    ∙ c.in-Some.ensures.some.finds (c.args.id.now, (t_of g c).value)
-    ∙ ap (λ (ps : List (List ℕ × Tx)). Some (slice_index_or ps c.in-Some.i (c.args.id.now, (t_of g c).value)).1) c.deref.ensures.value
+reader_is : (g : given.Over) (c : goal.In_ok-note g) → find_named c.args.id.now c.self.inside.«open».entries ≡ Some (reader g c)
+reader_is g c = ap (λ (v : CoreModel). find_named c.args.id.now v.state.txns) c.self.view_is ∙ (t_of g c).is
 
-begin_is : (g : given.Over) (c : goal.In_ok-note g) → c.begin_of-at.result ≡ (reader g c).begin
-begin_is g c = c.begin_of-at.ensures.begin (c.args.id.now, (t_of g c).value) ∙ ap (λ (ps : List (List ℕ × Tx)). (slice_index_or ps c.in-Some.i (c.args.id.now, (t_of g c).value)).1.begin) c.deref-2.ensures.value
+begin_is : (g : given.Over) (c : goal.In_ok-note g) → c.in-Some.at ≡ (reader g c).begin
+begin_is g c = ap (λ (o : Option ℕ). unwrap_or o 0) (c.in-Some.ensures.begin ∙ ap (option_map (λ (t : Tx). t.begin)) (reader_is g c))
 
 no_ops : (g : given.Over) (c : goal.In_ok-note g) → [] ≡ (reader g c).ops
-no_ops g c = sym (c.begin_of-at.ensures.ops (c.args.id.now, (t_of g c).value)) ∙ ap (λ (ps : List (List ℕ × Tx)). (slice_index_or ps c.in-Some.i (c.args.id.now, (t_of g c).value)).1.ops) c.deref-2.ensures.value
+no_ops g c = sym (subst (λ (o : Option Tx). IfSome o (λ t. t.ops ≡ [])) (reader_is g c) c.in-Some.ensures.ops)
 
-from_floor : (g : given.Over) (c : goal.In_ok-note g) → c.args.self.now.floor ≤ c.begin_of-at.result
+from_floor : (g : given.Over) (c : goal.In_ok-note g) → c.args.self.now.floor ≤ c.in-Some.at
 from_floor g c =
     subst (λ n. c.args.self.now.floor ≤ n) (sym (begin_is g c))
     (subst (λ (v : CoreModel). v.floor ≤ (reader g c).begin) c.self.view_is
-    (found_all (λ (t : Tx). (c.self.inside.floor ≤ t.begin) × (t.begin ≤ c.self.inside.last)) c.args.id.now c.self.inside.«open».items (reader g c) c.self.invariant.begins (reader_is g c)).0)
+    (found_all (λ (t : Tx). (c.self.inside.floor ≤ t.begin) × (t.begin ≤ c.self.inside.last)) c.args.id.now c.self.inside.«open».entries (reader g c) c.self.invariant.begins (reader_is g c)).0)
 
 pub returns-clause-answer : goal.returns-clause-answer
 returns-clause-answer g c m has law kept_m held =
@@ -101,7 +95,7 @@ returns-clause-answer g c m has law kept_m held =
     let commits = c.args.self.now.state.commits in
     let row : c.in_ok-row.row ≡ fold_rows (combine_of m k) (key_rows r k (up_to (reader g c).begin commits) ++ map (own_row k) (kept (reader g c).ops k)) =
     c.in_ok-row.ensures.row m has law kept_m held (from_floor g c)
-    ∙ ap (λ (j : List ℕ). fold_rows (combine_of m j) (key_rows r j (up_to c.begin_of-at.result commits))) c.in_ok-key.ensures
+    ∙ ap (λ (j : List ℕ). fold_rows (combine_of m j) (key_rows r j (up_to c.in-Some.at commits))) c.in_ok-key.ensures
     ∙ ap (λ n. fold_rows (combine_of m k) (key_rows r k (up_to n commits))) (begin_is g c)
     ∙ ap (fold_rows (combine_of m k)) (sym (append-nil (key_rows r k (up_to (reader g c).begin commits))))
     ∙ ap (λ (os : Ops). fold_rows (combine_of m k) (key_rows r k (up_to (reader g c).begin commits) ++ map (own_row k) (kept os k))) (no_ops g c) in

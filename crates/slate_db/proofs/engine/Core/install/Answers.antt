@@ -8,15 +8,19 @@ use Rattle.slate_table.specs.Table.{IsTable}
 use Rattle.slate_txn.specs.declared.event.Event.TheVariants as events
 use Rattle.slate_txn.specs.State.{last_of}
 use Rattle.slate_txn.specs.Replay.{replay}
-use Rattle.slate_db.specs.Flushed.{after_install, least_begin, layout_of, CanFlush, IsTableOfFlush, MayFlush, MayTakeTable, stored}
+use Rattle.slate_db.specs.Flushed.{after_install, least_begin, layout_of, CanFlush, IsTableOfFlush, MayFlush, MayTakeTable, TooLarge, stored}
+use Rattle.slate_db.specs.Answered.{AddsTables}
 use Rattle.slate_db.specs.Installs.{tables_of}
 use Rattle.slate_db.specs.Model.{CoreModel}
 use Rattle.slate_db.specs.Sound.{IsKept}
 use Rattle.slate_db.specs.View.{view_of}
 use Rattle.slate_db.specs.Whole.{IsWhole}
 use Rattle.slate_db.proofs.Installs.{whole_install, kept_install, can_flush, table_of_flush, moved}
+use Rattle.slate_db.proofs.Begins.{within_newest}
 use Rattle.slate_db.proofs.Journals.{apply_more}
 use Rattle.slate_db.proofs.Keeps.{same_model, kept_event}
+use Rattle.slate_db.proofs.Loads.{last_cause, too_large_is}
+use Rattle.slate_db.proofs.Puttings.{adds_installed}
 use Rattle.slate_db.proofs.engine.Core.install.Goals as goal
 use Rattle.slate_db.proofs.engine.Core.install.Given as given
 
@@ -26,8 +30,8 @@ table g c = c.in_ok-put.ensures.stored.t
 journal_is : (g : given.Over) (c : goal.After-self-3-1 g) → c.push_reserved.new.self.events ≡ c.self.inside.journal.events ++ (events.Install c.self.inside.last (table g c ∷ []) ∷ [])
 journal_is g c = c.push_reserved.ensures.events ∙ (λ i. c.reserve.ensures.events i ++ (events.Install c.self.inside.last (c.in_ok-put.ensures.stored.list i) ∷ []))
 
-barrier_is : (g : given.Over) (c : goal.After-self-3-1 g) → c.barrier-barrier.result ≡ least_begin c.self.inside.last c.self.inside.«open».items
-barrier_is g c = c.barrier-barrier.ensures ∙ ap (λ ps. least_begin c.self.inside.last ps) c.deref.ensures.value
+barrier_is : (g : given.Over) (c : goal.After-self-3-1 g) → c.barrier-barrier.result ≡ least_begin c.self.inside.last c.self.inside.«open».entries
+barrier_is g c = c.barrier-barrier.ensures
 
 abbrev after : (g : given.Over) → goal.After-self-3-1 g → CoreModel
 after g c = view_of (record c.self.inside { flushed = c.self.inside.last; floor = c.barrier-barrier.result; runs = c.self.inside.runs + 1; journal = c.push_reserved.new.self; frozen = c.clear.new.self; tables = c.push_reserved-2.new.self })
@@ -43,8 +47,8 @@ made : (g : given.Over) (c : goal.After-self-3-1 g) →
     IsTableOfFlush (changed_by g.T.BlockTransformer.encoded c.args.env.now.transformer) (layout_of c.args.options.now) (length (tables_of (view_of c.self.inside).events) + 1) (least_begin c.self.inside.last (view_of c.self.inside).state.txns) (view_of c.self.inside).frozen (table g c)
 made g c =
     moved (λ n b layers. IsTableOfFlush (changed_by g.T.BlockTransformer.encoded c.args.env.now.transformer) (layout_of c.args.options.now) n b layers (table g c))
-    c.self.inside.runs (length (tables_of (view_of c.self.inside).events)) c.barrier-barrier.result (least_begin c.self.inside.last (view_of c.self.inside).state.txns) (map (λ t. t.rows) c.deref-2.result.now) (view_of c.self.inside).frozen
-    c.self.invariant.runs_counted (barrier_is g c) (ap (λ ts. map (λ t. t.rows) ts) c.deref-2.ensures.value) c.in_ok-put.ensures.stored.table
+    c.self.inside.runs (length (tables_of (view_of c.self.inside).events)) c.barrier-barrier.result (least_begin c.self.inside.last (view_of c.self.inside).state.txns) (map (λ t. t.rows) c.deref.result.now) (view_of c.self.inside).frozen
+    c.self.invariant.runs_counted (barrier_is g c) (ap (λ ts. map (λ t. t.rows) ts) c.deref.ensures.value) c.in_ok-put.ensures.stored.table
 
 pub invariant_of-self-2 : goal.invariant_of-self-2
 invariant_of-self-2 g c =
@@ -52,16 +56,22 @@ invariant_of-self-2 g c =
     (sym (c.push_reserved-2.ensures.items ∙ ap (λ xs. xs ++ (c.in_ok-put.put.1 ∷ [])) c.reserve-2.ensures.items))
     (subst (λ (v : CoreModel). IsWhole v c.self.inside.last c.self.inside.ids (c.self.inside.runs + 1) (c.self.inside.tables.items ++ (c.in_ok-put.put.1 ∷ []))) (becomes g c)
     (whole_install (view_of c.self.inside) c.self.inside.last c.self.inside.ids c.self.inside.runs c.self.inside.tables.items (table g c) c.in_ok-put.put.1 c.push_reserved.new.self.spare
-    (omega (arith, c.in_ok-reserve.ensures.ok, c.push_reserved.ensures.spare, c.len-3.ensures))
-    (omega (arith, c.if-len.false, c.len.ensures, c.len-2.ensures))
+    (omega (arith, c.in_ok-reserve.ensures.ok, c.push_reserved.ensures.spare, c.len-3.ensures.len))
+    (omega (arith, c.if-len.false, c.len.ensures, c.len-2.ensures.len))
     c.in_ok-put.ensures.stored.table.id
     c.in_ok-put.ensures.stored.kept
     c.self.invariant))
 
+pub barrier-barrier-requires : goal.barrier-barrier-requires
+barrier-barrier-requires g c = record {
+  rise = c.self.invariant.begins_rise;
+  within = within_newest c.self.inside.floor c.self.inside.last c.self.inside.«open».entries c.self.invariant.begins;
+}
+
 pub stored-requires : goal.stored-requires
 stored-requires g c = record {
   valid = c.requires.valid;
-  ready = subst CanFlush (sym (ap (λ ts. map (λ t. t.rows) ts) c.deref-2.ensures.value))
+  ready = subst CanFlush (sym (ap (λ ts. map (λ t. t.rows) ts) c.deref.ensures.value))
       (can_flush (view_of c.self.inside) c.self.inside.last c.self.inside.ids c.self.inside.runs c.self.inside.tables.items c.self.invariant (subst (λ (v : CoreModel). 0 < length v.frozen) (sym c.self.view_is) c.requires.some));
 }
 
@@ -100,9 +110,26 @@ pub returns-in_err-put-clause-refused : goal.returns-in_err-put-clause-refused
 returns-in_err-put-clause-refused g c =
     let p = err_from_is_err_and c.from_residual-in_err-put.result c.from_residual-in_err-put.ensures.1 in
     let enc = changed_by g.T.BlockTransformer.encoded c.args.env.now.transformer in
-    let barrier = c.barrier-barrier.ensures ∙ ap (λ ps. least_begin c.self.inside.last ps) c.deref.ensures.value ∙ ap (λ n. least_begin n (view_of c.self.inside).state.txns) c.self.invariant.last in
+    let barrier = c.barrier-barrier.ensures ∙ ap (λ n. least_begin n (view_of c.self.inside).state.txns) c.self.invariant.last in
     rw p.1
     (subst (λ (v : CoreModel). MayFlush enc (layout_of c.args.options.now) v (g.S.Store.objects c.args.env.now.store.now) (g.S.Store.objects c.stored.new.env.store.now)) c.self.view_is
     (moved (λ n b layers. MayTakeTable (IsTableOfFlush enc (layout_of c.args.options.now) n b layers) (g.S.Store.objects c.args.env.now.store.now) (g.S.Store.objects c.stored.new.env.store.now))
-    c.self.inside.runs (length (tables_of (view_of c.self.inside).events)) c.barrier-barrier.result (least_begin (last_of (view_of c.self.inside).settings.start_seq (view_of c.self.inside).state.commits) (view_of c.self.inside).state.txns) (map (λ t. t.rows) c.deref-2.result.now) (view_of c.self.inside).frozen
-    c.self.invariant.runs_counted barrier (ap (λ ts. map (λ t. t.rows) ts) c.deref-2.ensures.value) c.in_err-put.ensures.refused))
+    c.self.inside.runs (length (tables_of (view_of c.self.inside).events)) c.barrier-barrier.result (least_begin (last_of (view_of c.self.inside).settings.start_seq (view_of c.self.inside).state.commits) (view_of c.self.inside).state.txns) (map (λ t. t.rows) c.deref.result.now) (view_of c.self.inside).frozen
+    c.self.invariant.runs_counted barrier (ap (λ ts. map (λ t. t.rows) ts) c.deref.ensures.value) c.in_err-put.ensures.refused))
+
+pub returns-in_err-put-clause-cause : goal.returns-in_err-put-clause-cause
+returns-in_err-put-clause-cause g c =
+    let p = err_from_is_err_and c.from_residual-in_err-put.result c.from_residual-in_err-put.ensures.1 in
+    let layout = layout_of c.args.options.now in
+    let barrier = c.barrier-barrier.ensures ∙ ap (λ n. least_begin n (view_of c.self.inside).state.txns) c.self.invariant.last in
+    rw (p.1, p.2)
+    (last_cause (λ large. subst (λ (v : CoreModel). TooLarge layout v c.in_err-put.field-0.0) c.self.view_is
+    (too_large_is layout (view_of c.self.inside) c.barrier-barrier.result (map (λ t. t.rows) c.deref.result.now) large.0 c.in_err-put.field-0.0
+    (ap (λ (v : CoreModel). v.active) c.self.view_is ∙ c.requires.idle) barrier (ap (λ ts. map (λ t. t.rows) ts) c.deref.ensures.value) c.self.invariant.rows_fit large.1 large.2 large.3))
+    c.in_err-put.ensures.cause)
+
+pub returns-clause-acts : goal.returns-clause-acts
+returns-clause-acts g c =
+    subst (λ (v : CoreModel). AddsTables (tables_of v.events) (tables_of c.push_reserved.new.self.events) (g.S.Store.acts c.args.env.now.store.now) (g.S.Store.acts c.stored.new.env.store.now)) c.self.view_is
+    (adds_installed c.self.inside.journal.events c.push_reserved.new.self.events c.self.inside.last c.in_ok-put.put.0 (g.S.Store.acts c.args.env.now.store.now) (g.S.Store.acts c.stored.new.env.store.now)
+    (c.push_reserved.ensures.events ∙ (λ i. c.reserve.ensures.events i ++ (events.Install c.self.inside.last c.in_ok-put.put.0 ∷ []))) c.in_ok-put.ensures.stored.t c.in_ok-put.ensures.stored.list c.in_ok-put.ensures.acts)

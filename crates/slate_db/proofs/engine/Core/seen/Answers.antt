@@ -19,6 +19,12 @@ returns-in_err-found-clause-whole g c m has law kept held =
     let p = err_from_is_err_and c.from_residual.result c.from_residual.ensures.1 in
     rw (p.1, p.2) (read_whole_cause _ _ _ _ _ _ _ (c.in_err-found.ensures.whole m has law held sound.layers sound.tables))
 
+pub returns-in_err-found-clause-truthful : goal.returns-in_err-found-clause-truthful
+returns-in_err-found-clause-truthful g c m os has law kept held answers =
+    let sound : IsSound m c.args.self.now = kept.1 law in
+    let p = err_from_is_err_and c.from_residual.result c.from_residual.ensures.1 in
+    rw (p.1, p.2) (read_whole_cause _ _ _ _ _ _ _ (c.in_err-found.ensures.truthful m os has law held answers sound.layers sound.tables))
+
 pub returns-in_err-found-clause-cause : goal.returns-in_err-found-clause-cause
 returns-in_err-found-clause-cause g c =
     let p = err_from_is_err_and c.from_residual.result c.from_residual.ensures.1 in
@@ -40,6 +46,13 @@ returns-clause-whole g c m has law kept held =
     let whole : IsWhole c.args.self.now c.self.inside.last c.self.inside.ids c.self.inside.runs c.self.inside.tables.items = subst (λ (v : CoreModel). IsWhole v c.self.inside.last c.self.inside.ids c.self.inside.runs c.self.inside.tables.items) c.self.view_is c.self.invariant in
     let sound : IsSound m c.args.self.now = kept.1 law in
     let none : is_merge_among c.in_ok-found.found.items ≡ false = found_bases c.args.self.now _ _ _ _ c.args.key.now c.args.at c.in_ok-found.found.items sound.layers whole sound.bases (c.in_ok-found.ensures.found m has law held sound.layers sound.tables) in
+    if_err c.fold_found.result _ _ (λ e h. fold_whole_cause _ _ _ _ _ _ _ _ (is_merge_among c.in_ok-found.found.items) e (ap (faults_of g.M.MergeOperator.faults) c.newest.ensures.operator) none h) c.fold_found.ensures.cause
+
+pub returns-clause-truthful : goal.returns-clause-truthful
+returns-clause-truthful g c m os has law kept held answers =
+    let whole : IsWhole c.args.self.now c.self.inside.last c.self.inside.ids c.self.inside.runs c.self.inside.tables.items = subst (λ (v : CoreModel). IsWhole v c.self.inside.last c.self.inside.ids c.self.inside.runs c.self.inside.tables.items) c.self.view_is c.self.invariant in
+    let sound : IsSound m c.args.self.now = kept.1 law in
+    let none : is_merge_among c.in_ok-found.found.items ≡ false = found_bases c.args.self.now _ _ _ _ c.args.key.now c.args.at c.in_ok-found.found.items sound.layers whole sound.bases (c.in_ok-found.ensures.true_found m os has law held answers sound.layers sound.tables) in
     if_err c.fold_found.result _ _ (λ e h. fold_whole_cause _ _ _ _ _ _ _ _ (is_merge_among c.in_ok-found.found.items) e (ap (faults_of g.M.MergeOperator.faults) c.newest.ensures.operator) none h) c.fold_found.ensures.cause
 
 pub returns-clause-cause : goal.returns-clause-cause

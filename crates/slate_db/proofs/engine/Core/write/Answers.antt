@@ -1,4 +1,5 @@
 use Rattle.std.proofs.Common.{◌≡◌, ℕ, ◌+◌, ◌-◌, ◌^◌, ◌<◌, ◌≤◌, ◌++◌, ◌∷◌, [], List, Some, refl, ap, sym, subst, ◌∙◌, arith, inr, true, false, w64, option_to_list}
+use Rattle.std.specs.Prelude.{sum_by}
 use Rattle.std.specs.List.{AllByRecursion}
 use Rattle.std.proofs.lemmas.Int.{to_z-of_z}
 use Rattle.slate_types.specs.declared.error.SlateDBError.TheVariants as errors
@@ -13,6 +14,7 @@ use Rattle.slate_txn.specs.declared.line.Line.TheVariants as lines
 use Rattle.slate_txn.specs.Replay.{replay}
 use Rattle.slate_txn.specs.Reply.{Written, Refused}
 use Rattle.slate_txn.specs.Step.{step}
+use Rattle.slate_db.specs.Load.{load, ops_load, rows_load}
 use Rattle.slate_db.specs.Meaning.{rules_of, combine_of}
 use Rattle.slate_db.specs.Model.{CoreModel, Rows, at, versions, versions_in, memory}
 use Rattle.slate_db.specs.View.{view_of}
@@ -22,6 +24,7 @@ use Rattle.slate_db.specs.Written.{after_write}
 use Rattle.slate_db.proofs.Keeps.{same_model}
 use Rattle.slate_db.proofs.Journals.{apply_more}
 use Rattle.slate_db.proofs.Lists.{all_map, all_behind}
+use Rattle.slate_db.proofs.Loads.{write_load}
 use Rattle.slate_db.proofs.MemoryRows.{commit_fits, commit_within, puts_all, rise_more}
 use Rattle.slate_db.proofs.Plain.{step_nothing, step_plain, step_exhausted, some_ops}
 use Rattle.slate_db.proofs.Puts.{order_puts, some_more, versions_more, active_within}
@@ -68,8 +71,8 @@ pub invariant_of-self-2 : goal.invariant_of-self-2
 invariant_of-self-2 c =
     subst (λ (v : CoreModel). IsWhole v (c.self.inside.last + 1) c.self.inside.ids c.self.inside.runs c.self.inside.tables.items) (becomes c)
     (whole_write (view_of c.self.inside) c.self.inside.last c.self.inside.ids _ _ c.args.now c.args.batch.ops c.put_all.new.self.rows c.push_reserved.new.self.spare
-    (omega (arith, c.in_ok-reserve.ensures.ok, c.push_reserved.ensures.spare, c.len-3.ensures))
-    (omega (arith, c.if-len.false, c.len.ensures, c.len-2.ensures))
+    (omega (arith, c.in_ok-reserve.ensures.ok, c.push_reserved.ensures.spare, c.len-3.ensures.len))
+    (omega (arith, c.if-len.false, c.len.ensures, c.len-2.ensures.len))
     (fits c)
     (record { some = some_ops c.args.batch.ops (some c); kept = c.ops.ensures.kept; fine = c.ops.ensures.fine })
     (subst AreInOrder (sym (rows_are c plain)) (order_puts c.self.inside.active.rows (commit_rows plain c.self.inside.default_millis (c.self.inside.last + 1) c.args.now c.args.batch.ops) c.self.invariant.active_order))
@@ -110,3 +113,12 @@ returns-clause-kept c m k =
         ap (versions j) (rows_are c (combine_of m))
         ∙ versions_more (combine_of m) c.self.inside.default_millis (c.self.inside.last + 1) c.args.now c.args.batch.ops c.self.inside.active.rows j
         (active_within m (view_of c.self.inside) c.self.inside.last c.self.inside.ids _ _ c.self.invariant old j)
+
+pub returns-clause-load : goal.returns-clause-load
+returns-clause-load c ops of =
+    subst (λ (v : CoreModel). load (view_of (record c.self.inside { last = c.self.inside.last + 1; journal = c.push_reserved.new.self; active = c.put_all.new.self })) ≤ load v + ops_load ops) c.self.view_is
+    (subst (λ (rows : Rows). sum_by rows_load ((view_of c.self.inside).frozen ++ (rows ∷ [])) ≤ load (view_of c.self.inside) + ops_load ops) (sym (rows_are c plain))
+    (write_load (view_of c.self.inside) plain c.self.inside.default_millis (c.self.inside.last + 1) c.args.now c.args.batch.ops ops (c.ops.ensures.plain c.requires) of.0))
+  where
+    plain : List ℕ → Combine
+    plain k = λ e v. v

@@ -1,0 +1,33 @@
+-- What a store answered in a call, as the acts that it tells have it.
+--     AnswersAct os act      where the act is a read, it was answered by the objects
+--     AnswersAs os before after      the store tells its acts, and answered each read of a call by the objects; before, after: the acts that it tells
+--     PutsNothing act, AddsReads before after      the act is no put; the acts from before are still told, and behind them more of which none is a put
+--     AddsTables old new before after      of two lists of tables the second has no more, and no act was told, or one more, and its put was
+use Rattle.std.specs.Prelude.{◌≡◌, ◌⊎◌, ℕ, List, [], ◌∷◌, ◌++◌, Option, Some}
+use Rattle.std.specs.List.{AllByRecursion}
+use Rattle.slate_types.specs.declared.types.Ulid.{Ulid}
+use Rattle.slate_types.specs.Outside.{Objects}
+use Rattle.slate_store.specs.Store.{Act, AddsAct, AnswersRead}
+use Rattle.slate_table.specs.Paths.{path_of}
+use Rattle.slate_db.specs.Installs.{root}
+
+abbrev pub AnswersAct : Objects → Act → Type 0
+AnswersAct os (Act.read path start len answer) = AnswersRead os path start len answer
+AnswersAct os _ = Unit {0}
+
+pub record AnswersAs (os : Objects) (before after : Option (List Act)) : Type 0 where
+  pub known : List Act
+  pub more : List Act
+  pub began : before ≡ Some known
+  pub ended : after ≡ Some (known ++ more)
+  pub each : AllByRecursion (AnswersAct os) more
+
+abbrev pub PutsNothing : Act → Type 0
+PutsNothing (Act.put path bytes) = ⊥
+PutsNothing _ = Unit {0}
+
+abbrev pub AddsReads : Option (List Act) → Option (List Act) → Type 0
+AddsReads before after = (known : List Act) → before ≡ Some known → (more : List Act) × (after ≡ Some (known ++ more)) × AllByRecursion PutsNothing more
+
+abbrev pub AddsTables : List (Ulid × List ℕ) → List (Ulid × List ℕ) → Option (List Act) → Option (List Act) → Type 0
+AddsTables old new before after = ((new ≡ old) × (after ≡ before)) ⊎ ((t : Ulid × List ℕ) × (new ≡ old ++ (t ∷ [])) × AddsAct before (Act.put (path_of root t.0.0) t.1) after)
