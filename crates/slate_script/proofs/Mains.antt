@@ -16,7 +16,7 @@ use Rattle.slate_script.proofs.PartsLaws.{xor-back}
 abbrev pub words-mean : {M : Type 0} → (M → List ℕ → Combine) → Option Xor → Meaning
 words-mean combine transformer = meaning_of combine (λ (x : Xor). xored x.mask) (λ (x : Xor). xored x.mask) None transformer
 
-lawful : {M : Type 0} (combine : M → List ℕ → Combine) (transformer : Option Xor) → IsLawfulMeaning (words-mean combine transformer)
+pub lawful : {M : Type 0} (combine : M → List ℕ → Combine) (transformer : Option Xor) → IsLawfulMeaning (words-mean combine transformer)
 lawful combine None = record { operator = λ k. record { first = λ v h. refl; assoc = λ u v w h i j. refl }; short = λ k u v h i. i; transformer = λ d. refl }
 lawful combine (Some x) = record { operator = λ k. record { first = λ v h. refl; assoc = λ u v w h i j. refl }; short = λ k u v h i. i; transformer = xor-back x.mask }
 

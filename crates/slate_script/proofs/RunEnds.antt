@@ -3,7 +3,7 @@ use Rattle.std.proofs.Common.{◌≡◌, ℕ, ◌+◌, ◌≤◌, ◌<◌, true,
 use Rattle.std.proofs.lemmas.List.{append-nil, length-append, take-append-drop, length-drop}
 use Rattle.std.proofs.Math.Seq.{drop-append_seam}
 use Rattle.slate_types.specs.declared.error.SlateDBError.{SlateDBError}
-use Rattle.slate_types.specs.declared.error.SlateDBError.TheVariants.{ScriptSyntax, ScriptTooLong, OutOfMemory, ReadFault, WriteFault, StoreFault, Callback, BlockTransformError, LimitReached}
+use Rattle.slate_types.specs.declared.error.SlateDBError.TheVariants.{ScriptSyntax, ScriptTooLong, OutOfMemory, ReadFault, WriteFault, StoreFault, Callback, BlockTransformError}
 use Rattle.slate_types.specs.Outside.{Counts, IsOuter, IsLater}
 use Rattle.slate_types.specs.Faults.{Rose}
 use Rattle.slate_store.specs.Lines.{lines_of, whole_part, script_limit, HasNoEnd, LinesModel, IsEnd, KeepsAll}
@@ -12,7 +12,8 @@ use Rattle.slate_txn.specs.State.{Rules, opening}
 use Rattle.slate_script.specs.Stage.{meaning}
 use Rattle.slate_script.specs.Replies.{after_lines, replies_from, replies_to, replies, IsWellFormed}
 use Rattle.slate_db.specs.Parts.{IsDamage}
-use Rattle.slate_script.specs.Session.{SessionModel, IsLimit}
+use Rattle.slate_db.specs.Load.{load, weight}
+use Rattle.slate_script.specs.Session.{SessionModel, IsLimit, IsFull}
 use Rattle.slate_script.specs.Run.{is_line, first_other, is_too_long, lines_taken, error_of, script_error, IsPartError, IsPartCause, IsOutside, IsScriptError, AreLines, HasAnswered, HasBegun, HasAnsweredAll}
 use Rattle.slate_script.proofs.Answered.{lines-more, replies-append, replies-stop, other-none, other-first, lines-built}
 use Rattle.slate_script.proofs.Taken.{IsCut, IsAt, Took, taken-first, lines-begin, ends, first-empty, too-long, lines-no_error, formed-no_error}
@@ -48,7 +49,6 @@ complete-from script e (inr is) formed no-read no-write = absurd (some (sym (for
 
 -- ---- the parts
 
--- where no count rose, a limit is the one error of a part, or damage
 outer-none : (before after : Counts) (e : SlateDBError) → (Rose before.store after.store → ⊥) → (Rose before.operator after.operator → ⊥) → (Rose before.transformer after.transformer → ⊥) → IsPartError e → IsOuter before after e → ⊥
 outer-none before after StoreFault store operator transformer part h = store h
 outer-none before after (Callback message) store operator transformer part h = operator h
@@ -56,39 +56,40 @@ outer-none before after BlockTransformError store operator transformer part h = 
 outer-none before after OutOfMemory store operator transformer part h = part
 outer-none before after e store operator transformer part h = h
 
-pub part-limit : (before after : Counts) (e : SlateDBError) → (Rose before.store after.store → ⊥) → (Rose before.operator after.operator → ⊥) → (Rose before.transformer after.transformer → ⊥) → (IsDamage e → ⊥) →
-    IsPartError e → IsPartCause before after e → IsLimit e
-part-limit before after e store operator transformer undamaged part (inl h) = absurd (outer-none before after e store operator transformer part h)
-part-limit before after e store operator transformer undamaged part (inr (inl h)) = h
-part-limit before after e store operator transformer undamaged part (inr (inr h)) = absurd (undamaged h)
+-- where no count rose, damage is the one error of a part
+pub no-part : (before after : Counts) (e : SlateDBError) → (Rose before.store after.store → ⊥) → (Rose before.operator after.operator → ⊥) → (Rose before.transformer after.transformer → ⊥) → (IsDamage e → ⊥) →
+    IsPartError e → IsPartCause before after e → ⊥
+no-part before after e store operator transformer undamaged part (inl h) = outer-none before after e store operator transformer part h
+no-part before after e store operator transformer undamaged part (inr h) = undamaged h
 
 pub store-rose : (before after : Counts) (e : SlateDBError) → e ≡ StoreFault → IsPartCause before after e → Rose before.store after.store
 store-rose before after e is (inl h) = subst (IsOuter before after) is h
-store-rose before after e is (inr (inl h)) = absurd (clash (sym is ∙ h.1))
-  where
-    clash : StoreFault ≡ LimitReached h.0 → ⊥
-    clash k = cc
-store-rose before after e is (inr (inr h)) = absurd (subst IsDamage is h)
+store-rose before after e is (inr h) = absurd (subst IsDamage is h)
 
 pub operator-rose : (before after : Counts) (e : SlateDBError) (message : List ℕ) → e ≡ Callback message → IsPartCause before after e → Rose before.operator after.operator
 operator-rose before after e message is (inl h) = subst (IsOuter before after) is h
-operator-rose before after e message is (inr (inl h)) = absurd (clash (sym is ∙ h.1))
-  where
-    clash : Callback message ≡ LimitReached h.0 → ⊥
-    clash k = cc
-operator-rose before after e message is (inr (inr h)) = absurd (subst IsDamage is h)
+operator-rose before after e message is (inr h) = absurd (subst IsDamage is h)
 
 pub transformer-rose : (before after : Counts) (e : SlateDBError) → e ≡ BlockTransformError → IsPartCause before after e → Rose before.transformer after.transformer
 transformer-rose before after e is (inl h) = subst (IsOuter before after) is h
-transformer-rose before after e is (inr (inl h)) = absurd (clash (sym is ∙ h.1))
-  where
-    clash : BlockTransformError ≡ LimitReached h.0 → ⊥
-    clash k = cc
-transformer-rose before after e is (inr (inr h)) = absurd (subst IsDamage is h)
+transformer-rose before after e is (inr h) = absurd (subst IsDamage is h)
 
-pub memory-or-limit : (e : SlateDBError) → (e ≡ OutOfMemory) ⊎ IsPartError e → (IsPartError e → IsLimit e) → (e ≡ OutOfMemory) ⊎ IsLimit e
-memory-or-limit e (inl is) limit = inl is
-memory-or-limit e (inr part) limit = inr (limit part)
+pub only-memory : (e : SlateDBError) → (e ≡ OutOfMemory) ⊎ IsPartError e → (IsPartError e → ⊥) → e ≡ OutOfMemory
+only-memory e (inl is) none = is
+only-memory e (inr part) none = absurd (none part)
+
+-- ---- no limit is reached
+
+not-full : (e : SessionModel) (number given : ℕ) → weight e.core ≤ number + number → load e.core ≤ given → number ≤ given → given ≤ script_limit → IsFull e → ⊥
+not-full e number given weighs loads counted within (inl past) = omega (arith, past, weighs, counted, within)
+not-full e number given weighs loads counted within (inr past) = omega (arith, past, loads, within)
+
+pub line-cause : {A B C D : Type 0} (e : SessionModel) (number given : ℕ) (error : SlateDBError) → weight e.core ≤ number + number → load e.core ≤ given → number ≤ given → given ≤ script_limit → A ⊎ B ⊎ C ⊎ D ⊎ IsLimit e error → A ⊎ B ⊎ C ⊎ D
+line-cause e number given error weighs loads counted within (inl a) = inl a
+line-cause e number given error weighs loads counted within (inr (inl b)) = inr (inl b)
+line-cause e number given error weighs loads counted within (inr (inr (inl x))) = inr (inr (inl x))
+line-cause e number given error weighs loads counted within (inr (inr (inr (inl d)))) = inr (inr (inr d))
+line-cause e number given error weighs loads counted within (inr (inr (inr (inr limit)))) = absurd (not-full e number given weighs loads counted within limit.2)
 
 pub later-on : {a b c : Counts} → IsLater a b → IsLater b c → IsLater a c
 later-on h k = record { store = omega (arith, h.store, k.store); operator = omega (arith, h.operator, k.operator); transformer = omega (arith, h.transformer, k.transformer) }
@@ -105,11 +106,11 @@ rose-from a b n h k = omega arith
 abbrev pub ReaderError : SlateDBError → Type 0
 ReaderError e = (e ≡ OutOfMemory) ⊎ (e ≡ ReadFault) ⊎ (e ≡ ScriptTooLong)
 
-abbrev pub IsFull : LinesModel → Type 0
-IsFull m = (m.given + length m.held ≡ script_limit) × HasNoEnd m.held
+abbrev pub IsAtLimit : LinesModel → Type 0
+IsAtLimit m = (m.given + length m.held ≡ script_limit) × HasNoEnd m.held
 
 pub reader-error : {P : Type 0} {r : Rules} {script : List ℕ} {source told sink : Option (List ℕ)} {old : LinesModel} {number : ℕ} {e : SessionModel} (new : LinesModel) (rest : List ℕ) (error : SlateDBError) (at : IsAt P r script source told sink old number e)
-    → KeepsAll old at.left new rest → (error ≡ ScriptTooLong → IsFull new) → ReaderError error → IsOutside error ⊎ (script_error script ≡ Some error)
+    → KeepsAll old at.left new rest → (error ≡ ScriptTooLong → IsAtLimit new) → ReaderError error → IsOutside error ⊎ (script_error script ≡ Some error)
 reader-error new rest error at keeps full (inl is) = inl (inl is)
 reader-error new rest error at keeps full (inr (inl is)) = inl (inr (inl is))
 reader-error {script = script} {old = old} new rest error at keeps full (inr (inr is)) =
@@ -118,7 +119,7 @@ reader-error {script = script} {old = old} new rest error at keeps full (inr (in
     inr ((λ i. error_of (first_other (long.1 i)) (long.0 i)) ∙ ap (λ o. error_of o true) (other-none (lines_of at.done) at.meant) ∙ ap Some (sym is))
 
 pub reader-script : {P : Type 0} {r : Rules} {script : List ℕ} {source told sink : Option (List ℕ)} {old : LinesModel} {number : ℕ} {e : SessionModel} (new : LinesModel) (rest before : List ℕ) (error : SlateDBError) (at : IsAt P r script source told sink old number e)
-    → KeepsAll old at.left new rest → (error ≡ ScriptTooLong → IsFull new) → ReaderError error → P → told ≡ Some before → script_error script ≡ Some error → sink ≡ Some (before ++ replies_to meaning r (lines_taken script))
+    → KeepsAll old at.left new rest → (error ≡ ScriptTooLong → IsAtLimit new) → ReaderError error → P → told ≡ Some before → script_error script ≡ Some error → sink ≡ Some (before ++ replies_to meaning r (lines_taken script))
 reader-script {script = script} new rest before error at keeps full (inl is) p told-is by = absurd (no-outside script error by (inl is))
 reader-script {script = script} new rest before error at keeps full (inr (inl is)) p told-is by = absurd (no-outside script error by (inr (inl is)))
 reader-script {r = r} {script = script} {old = old} new rest before error at keeps full (inr (inr is)) p told-is by =

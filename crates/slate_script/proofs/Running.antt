@@ -2,7 +2,7 @@
 use Rattle.std.proofs.Common.{◌≡◌, ℕ, true, false, List, [], ◌∷◌, Option, Some, Result, Ok, Err, OnOk, IsTrue, ◌⊎◌, inl, inr, refl, sym, ap, ◌∙◌, subst, arith}
 use Rattle.slate_types.specs.declared.config.Options.{Options}
 use Rattle.slate_types.specs.declared.error.SlateDBError.{SlateDBError}
-use Rattle.slate_types.specs.declared.error.SlateDBError.TheVariants.{ChecksumMismatch, InvalidRowFlags, CorruptTable, InvalidVersion, InvalidSequenceOrder, MergeOperatorMissing}
+use Rattle.slate_types.specs.declared.error.SlateDBError.TheVariants.{ChecksumMismatch, InvalidRowFlags, CorruptTable, InvalidSequenceOrder, MergeOperatorMissing, LimitReached}
 use Rattle.slate_types.specs.Outside.{Objects, Counts, IsOuter}
 use Rattle.slate_txn.specs.declared.line.Line.{Line}
 use Rattle.slate_txn.specs.declared.line.Line.TheVariants as lines
@@ -17,7 +17,7 @@ use Rattle.slate_script.specs.declared.reply.Answer.{Answer}
 use Rattle.slate_script.specs.Answers.{reply_of}
 use Rattle.slate_script.specs.Replies.{is_silent, onto_meanings, reply_line, after_lines, replies_from}
 use Rattle.slate_script.specs.Run.{run_rules, Premises}
-use Rattle.slate_script.specs.Session.{SessionModel, StandsFor, AnswersAs, HasTables, IsSettled, IsRunning, IsLimit, has_moment}
+use Rattle.slate_script.specs.Session.{SessionModel, StandsFor, AnswersAs, HasTables, IsSettled, IsRunning, has_moment}
 use Rattle.slate_script.specs.Grammar.{IsLine}
 use Rattle.slate_script.specs.Stage.{meaning}
 use Rattle.slate_script.proofs.Answered.{one-reply, built-line}
@@ -104,11 +104,10 @@ damage-outer : (before after : Counts) (e : SlateDBError) → IsOuter before aft
 damage-outer before after (ChecksumMismatch stored computed) h d = h
 damage-outer before after (InvalidRowFlags flags) h d = h
 damage-outer before after (CorruptTable place) h d = h
-damage-outer before after (InvalidVersion version) h d = h
 damage-outer before after (InvalidSequenceOrder a b) h d = h
 damage-outer before after MergeOperatorMissing h d = h
 damage-outer before after e h d = d
 
-pub not-damage : (before after : Counts) (e : SlateDBError) → IsOuter before after e ⊎ IsLimit e → IsDamage e → ⊥
+pub not-damage : {X : Type 0} (before after : Counts) (e : SlateDBError) → IsOuter before after e ⊎ ((n : ℕ) × (e ≡ LimitReached n) × X) → IsDamage e → ⊥
 not-damage before after e (inl h) d = damage-outer before after e h d
 not-damage before after e (inr h) d = subst IsDamage h.1 d

@@ -1,17 +1,18 @@
 -- What a call of the core says of the parts, in the words of a run.
-use Rattle.std.proofs.Common.{◌≡◌, ℕ, suc, ◌≤◌, ◌<◌, ◌+◌, ◌⊎◌, inl, inr, List, Option, Result, Ok, Err, sym, ◌∙◌, subst, arith}
+use Rattle.std.proofs.Common.{◌≡◌, ℕ, [], ◌∷◌, length, suc, ◌≤◌, ◌<◌, ◌+◌, ◌⊎◌, inl, inr, List, Option, Result, Ok, Err, sym, ◌∙◌, subst, arith}
 use Rattle.std.proofs.Math.Nat.{lt_of_not-le}
 use Rattle.slate_types.specs.declared.error.SlateDBError.{SlateDBError}
-use Rattle.slate_types.specs.declared.error.SlateDBError.TheVariants.{Callback, ChecksumMismatch, CorruptTable, InvalidRowFlags, InvalidVersion, LimitReached}
+use Rattle.slate_types.specs.declared.error.SlateDBError.TheVariants.{Callback, ChecksumMismatch, CorruptTable, InvalidRowFlags, LimitReached}
 use Rattle.slate_types.specs.Outside.{Counts, IsOuter}
 use Rattle.slate_table.specs.Reading.{IsStoreFault}
 use Rattle.slate_table.specs.SectionReading.{IsTransformFault}
-use Rattle.slate_db.specs.Flushed.{Layout, TooLarge}
+use Rattle.slate_db.specs.Flushed.{Layout, TooLarge, events_of_flush}
 use Rattle.slate_db.specs.Lookup.{IsCallback, IsOperatorFault, IsDamage as IsTableDamage}
 use Rattle.slate_db.specs.Meaning.{Meaning}
-use Rattle.slate_db.specs.Model.{CoreModel}
+use Rattle.slate_db.specs.Model.{Rows}
 use Rattle.slate_db.specs.Parts.{IsDamage}
-use Rattle.slate_script.specs.Session.{IsLimit}
+use Rattle.slate_db.specs.Whole.{LIMIT}
+use Rattle.slate_script.specs.Session.{SessionModel, IsLimit}
 
 pub parts-same : (a b : Meaning) → b.combine ≡ a.combine → b.encode ≡ a.encode → b.decode ≡ a.decode → b ≡ a
 parts-same a b combine encode decode = λ i. record { combine = combine i; encode = encode i; decode = decode i }
@@ -24,13 +25,20 @@ pub transform-outer : (before after : Counts) (e : SlateDBError) → IsTransform
 transform-outer before after e (inl memory) = subst (IsOuter before after) (sym memory) tt
 transform-outer before after e (inr (fault, rose)) = subst (IsOuter before after) (sym fault) rose
 
-pub flush-cause : {X : Type 0} (before after : Counts) (layout : Layout) (core : CoreModel) (n : ℕ) (e : SlateDBError) →
-    IsStoreFault before.store after.store e ⊎ (IsTransformFault before.transformer after.transformer e ⊎ (((e ≡ LimitReached n) × X) ⊎ TooLarge layout core e)) →
-    IsOuter before after e ⊎ IsLimit e
-flush-cause before after layout core n e (inl store) = inl (store-outer before after e store)
-flush-cause before after layout core n e (inr (inl transform)) = inl (transform-outer before after e transform)
-flush-cause before after layout core n e (inr (inr (inl (is, more)))) = inr (n, is)
-flush-cause before after layout core n e (inr (inr (inr (rows, folded, large)))) = inr (large.limit, large.is)
+two-at-most : (active : Rows) (layers : List Rows) → events_of_flush active layers ≤ 2
+two-at-most [] [] = omega arith
+two-at-most [] (rows ∷ layers) = omega arith
+two-at-most (r ∷ rs) layers = omega arith
+
+pub flush-cause : (before after : Counts) (layout : Layout) (session : SessionModel) (e : SlateDBError) →
+    IsStoreFault before.store after.store e
+    ⊎ (IsTransformFault before.transformer after.transformer e
+    ⊎ (((e ≡ LimitReached LIMIT) × (LIMIT < length session.core.events + length session.core.state.txns + events_of_flush session.core.active session.core.frozen)) ⊎ TooLarge layout session.core e)) →
+    IsOuter before after e ⊎ IsLimit session e
+flush-cause before after layout session e (inl store) = inl (store-outer before after e store)
+flush-cause before after layout session e (inr (inl transform)) = inl (transform-outer before after e transform)
+flush-cause before after layout session e (inr (inr (inl (is, more)))) = inr (LIMIT, is, inl (omega (arith, more, two-at-most session.core.active session.core.frozen)))
+flush-cause before after layout session e (inr (inr (inr (rows, folded, order, large, much)))) = inr (large.limit, large.is, inr much)
 
 -- a count that a call doesn't touch
 pub untouched : {A : Type 0} (count : A → ℕ) (old new : A) → new ≡ old → count old ≤ count new
@@ -51,7 +59,6 @@ table-damage : (e : SlateDBError) → IsTableDamage e → IsDamage e
 table-damage (CorruptTable place) h = tt
 table-damage (ChecksumMismatch stored computed) h = tt
 table-damage (InvalidRowFlags bits) h = tt
-table-damage (InvalidVersion version) h = tt
 table-damage e h = absurd h
 
 pub get-outer : (before after : Counts) (e : SlateDBError) →

@@ -35,7 +35,7 @@ use Rattle.slate_script.specs.declared.reply.Answer.TheVariants as answers
 use Rattle.slate_script.specs.declared.reply.Refusal.TheVariants as refusals
 use Rattle.slate_script.specs.Answers.{reply_of}
 use Rattle.slate_script.specs.Grammar.{is_moment}
-use Rattle.slate_script.specs.Session.{SessionModel, tx_under, AreNames, StandsFor, IsStep, AnswersAs, IsRefusal, IsLimit}
+use Rattle.slate_script.specs.Session.{SessionModel, tx_under, AreNames, StandsFor, IsStep, AnswersAs, IsRefusal}
 use Rattle.slate_script.proofs.NamesLaws.{bytes_eq-is, bytes_eq-refl, find_named-set, find_named-updated, find_named-without, once-set, once-update, once-without}
 use Rattle.slate_script.proofs.SessionNames.{Fresh, other-id}
 
@@ -419,11 +419,11 @@ refusals-are (o ∷ os) e h = by (op_refusal o.0 o.1) refl (refusals-are os e) h
     by None is later h = later h
     by (Some y) is later h = op-refusals o.0 o.1 e (is ∙ h)
 
-pub refused-cause : (ops : Ops) (error : SlateDBError) (result : Result Answer SlateDBError) → IfErr result (λ e. (e ≡ error) × (IsRefusal error → ⊥)) →
-    (error ≡ errors.OutOfMemory) ⊎ (first_refusal (map (λ o. op_refusal o.0 o.1) ops) ≡ Some error) → IfErr result (λ e. (e ≡ errors.OutOfMemory) ⊎ IsLimit e)
-refused-cause ops error (Ok a) other cause = tt
-refused-cause ops error (Err x) other (inl memory) = inl (other.0 ∙ memory)
-refused-cause ops error (Err x) other (inr refused) = absurd (other.1 (refusals-are ops error refused))
+pub refused-cause : (L : SlateDBError → Type 0) (ops : Ops) (error : SlateDBError) (result : Result Answer SlateDBError) → IfErr result (λ e. (e ≡ error) × (IsRefusal error → ⊥)) →
+    (error ≡ errors.OutOfMemory) ⊎ (first_refusal (map (λ o. op_refusal o.0 o.1) ops) ≡ Some error) → IfErr result (λ e. (e ≡ errors.OutOfMemory) ⊎ L e)
+refused-cause L ops error (Ok a) other cause = tt
+refused-cause L ops error (Err x) other (inl memory) = inl (other.0 ∙ memory)
+refused-cause L ops error (Err x) other (inr refused) = absurd (other.1 (refusals-are ops error refused))
 
 -- ---- a moment, as a call is given it
 

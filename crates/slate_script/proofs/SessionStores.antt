@@ -21,7 +21,7 @@ use Rattle.slate_db.specs.Sound.{IsKept}
 use Rattle.slate_script.specs.Session.{SessionModel, HasTables, IsSettled, StoresNothing}
 use Rattle.slate_script.proofs.PathsApart.{others-apart, numbered-more}
 
-tables-more : (es : List Event) (e : Event) → tables_of (es ++ (e ∷ [])) ≡ tables_of es ++ tables_in e
+pub tables-more : (es : List Event) (e : Event) → tables_of (es ++ (e ∷ [])) ≡ tables_of es ++ tables_in e
 tables-more es e = flat_map-append tables_in es (e ∷ []) ∙ ap (λ ts. tables_of es ++ ts) (append-nil (tables_in e))
 
 -- an event that installs nothing

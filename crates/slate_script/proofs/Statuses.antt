@@ -1,11 +1,10 @@
 -- What the status of a run that an error ended says of the error.
-use Rattle.std.proofs.Common.{◌≡◌, ◌⊎◌, ◌≤◌, inl, inr, ℕ, List, Option, Some, arith, refl, sym, ap, subst}
+use Rattle.std.proofs.Common.{◌≡◌, ◌⊎◌, ◌≤◌, inl, inr, ℕ, List, Option, Some, arith, refl, sym, subst}
 use Rattle.slate_types.specs.declared.error.SlateDBError.{SlateDBError}
-use Rattle.slate_types.specs.declared.error.SlateDBError.TheVariants.{ScriptSyntax, ScriptTooLong, OutOfMemory, ReadFault, WriteFault, StoreFault, Callback, BlockTransformError, ChecksumMismatch, InvalidRowFlags, CorruptTable, InvalidVersion, InvalidSequenceOrder, MergeOperatorMissing, LimitReached}
+use Rattle.slate_types.specs.declared.error.SlateDBError.TheVariants.{ScriptSyntax, ScriptTooLong, OutOfMemory, ReadFault, WriteFault, StoreFault, Callback, BlockTransformError, ChecksumMismatch, InvalidRowFlags, CorruptTable, InvalidSequenceOrder, MergeOperatorMissing}
 use Rattle.slate_db.specs.Parts.{IsDamage}
 use Rattle.slate_script.specs.Program.{status, IsStatus}
 use Rattle.slate_script.specs.Run.{IsPartError, IsOutside, IsScriptError}
-use Rattle.slate_script.specs.Session.{IsLimit}
 
 abbrev pub EndsRun : SlateDBError → Type 0
 EndsRun e = IsOutside e ⊎ IsScriptError e
@@ -24,11 +23,9 @@ part-above : (e : SlateDBError) → IsPartError e → 7 ≤ status e
 part-above StoreFault part = omega arith
 part-above (Callback message) part = omega arith
 part-above BlockTransformError part = omega arith
-part-above (LimitReached n) part = omega arith
 part-above (ChecksumMismatch stored computed) part = omega arith
 part-above (InvalidRowFlags flags) part = omega arith
 part-above (CorruptTable place) part = omega arith
-part-above (InvalidVersion version) part = omega arith
 part-above (InvalidSequenceOrder before after) part = omega arith
 part-above MergeOperatorMissing part = omega arith
 part-above e part = absurd part
@@ -37,11 +34,9 @@ part-is : (e : SlateDBError) → IsPartError e → ((message : List ℕ) → e �
 part-is StoreFault part operator transformer = inr (inr (inr (inr (inr (inr (inl refl))))))
 part-is (Callback message) part operator transformer = absurd (operator message refl)
 part-is BlockTransformError part operator transformer = absurd (transformer refl)
-part-is (LimitReached n) part operator transformer = inr (inr (inr (inr (inr (inr (inr (inr (inr (inr (inr (inr refl)))))))))))
 part-is (ChecksumMismatch stored computed) part operator transformer = inr (inr (inr (inr (inr (inr (inr (inl refl)))))))
 part-is (InvalidRowFlags flags) part operator transformer = inr (inr (inr (inr (inr (inr (inr (inr (inl refl))))))))
 part-is (CorruptTable place) part operator transformer = inr (inr (inr (inr (inr (inr (inr (inr (inr (inl refl)))))))))
-part-is (InvalidVersion version) part operator transformer = inr (inr (inr (inr (inr (inr (inr (inr (inr (inr (inr (inr refl)))))))))))
 part-is (InvalidSequenceOrder before after) part operator transformer = inr (inr (inr (inr (inr (inr (inr (inr (inr (inr (inl refl))))))))))
 part-is MergeOperatorMissing part operator transformer = inr (inr (inr (inr (inr (inr (inr (inr (inr (inr (inr (inl refl)))))))))))
 part-is e part operator transformer = absurd part
@@ -50,11 +45,9 @@ part-store : (e : SlateDBError) → IsPartError e → status e ≡ 7 → e ≡ S
 part-store StoreFault part h = refl
 part-store (Callback message) part h = absurd (omega (arith, h))
 part-store BlockTransformError part h = absurd (omega (arith, h))
-part-store (LimitReached n) part h = absurd (omega (arith, h))
 part-store (ChecksumMismatch stored computed) part h = absurd (omega (arith, h))
 part-store (InvalidRowFlags flags) part h = absurd (omega (arith, h))
 part-store (CorruptTable place) part h = absurd (omega (arith, h))
-part-store (InvalidVersion version) part h = absurd (omega (arith, h))
 part-store (InvalidSequenceOrder before after) part h = absurd (omega (arith, h))
 part-store MergeOperatorMissing part h = absurd (omega (arith, h))
 part-store e part h = absurd part
@@ -63,7 +56,6 @@ part-damage : (e : SlateDBError) → IsPartError e → 12 ≤ status e → statu
 part-damage StoreFault part low high = absurd (omega (arith, low))
 part-damage (Callback message) part low high = absurd (omega (arith, low))
 part-damage BlockTransformError part low high = absurd (omega (arith, low))
-part-damage (LimitReached n) part low high = absurd (omega (arith, high))
 part-damage e part low high = part
 
 -- ---- each error
@@ -119,11 +111,6 @@ pub is-part : (e : SlateDBError) → EndsRun e → (status e ≡ 7) ⊎ (status 
 is-part =
     by-kind (λ e. (status e ≡ 7) ⊎ (status e ≡ 20) → (e ≡ OutOfMemory) ⊎ IsPartError e) (λ h. inl refl) (low-status 5 (omega arith)) (low-status 6 (omega arith)) (λ e part h. inr part)
     (low-status 4 (omega arith)) (λ n. low-status 3 (omega arith))
-
--- want of memory, or a limit
-pub wants-or-limits : (e : SlateDBError) → (e ≡ OutOfMemory) ⊎ IsLimit e → status e ≡ 20
-wants-or-limits e (inl is) = ap status is
-wants-or-limits e (inr is) = ap status is.1
 
 neither : (n : ℕ) → (n ≡ 3 → ⊥) → (n ≡ 4 → ⊥) → (n ≡ 3) ⊎ (n ≡ 4) → ⊥
 neither n h k (inl is) = h is

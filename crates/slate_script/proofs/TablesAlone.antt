@@ -98,7 +98,7 @@ table-alone m layout barrier layers ts t before after few table takes h =
       told = subst (λ o. IfSome o (λ os. after ≡ Some (with_object os (path_of root t.0.0) t.1))) h.told takes;
       each = subst (AllByRecursion (IsTableUpTo m layout (length (ts ++ (t ∷ []))))) (sym place.after)
           (all-both _ place.a ((path_of root t.0.0, t.1) ∷ place.b) (all-front _ place.a place.b each)
-          ((record { number = length ts + 1; rows = table.rows; path = ap (path_of root) table.id; built = table.built }, omega (arith, size)), all-behind _ place.a place.b each));
+          ((record { number = length ts + 1; first = omega arith; fits = few; rows = table.rows; path = ap (path_of root) table.id; built = table.built }, omega (arith, size)), all-behind _ place.a place.b each));
       layers = h.layers ++ (table.rows ∷ []);
       tables = tables-more m ts t layout.version h.layers table.rows h.tables is;
       rows = parts.first ++ (table.rows ++ parts.last);

@@ -19,7 +19,7 @@ abbrev pub parts_of : Option ℕ → Meaning
 parts_of None = record { combine = None; encode = λ bytes. bytes; decode = λ bytes. bytes }
 parts_of (Some mask) = record { combine = None; encode = xored mask; decode = xored mask }
 
--- Besides these a run is ended by want of memory, or at a limit of a table or of the journal.
+-- Besides these a run is ended by want of memory alone.
 abbrev pub status : SlateDBError → ℕ
 status (ScriptSyntax n) = 3
 status ScriptTooLong = 4

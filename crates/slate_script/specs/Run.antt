@@ -4,7 +4,7 @@
 --     is_line l, first_other ls      a line that is silent or means something; the number, from 1, of the first that is neither
 --     lines_taken script      the lines that a run can take: of a script that is too long, the whole lines within the limit
 --     script_error script      the error that the script itself ends a run with
---     IsPartError e      the error comes from a part, or a limit was reached, or a table isn't what was stored
+--     IsPartError e      the error comes from a part, or a table isn't what was stored
 --     IsOutside e, IsScriptError e      the error comes from a source, a sink, a part or memory, or from the script
 --     IsPartCause before after e      a part's error has its cause
 --     HasAnswered r script said      what was written is the replies to the first lines
@@ -13,7 +13,7 @@ use Rattle.std.specs.Prelude.{◌≡◌, ◌≢◌, ℕ, suc, ◌-◌, ◌⊎◌
 use Rattle.std.specs.List.{AllByRecursion}
 use Rattle.slate_types.specs.declared.config.Options.{Options}
 use Rattle.slate_types.specs.declared.error.SlateDBError.{SlateDBError}
-use Rattle.slate_types.specs.declared.error.SlateDBError.TheVariants.{ScriptSyntax, ScriptTooLong, OutOfMemory, ReadFault, WriteFault, StoreFault, Callback, BlockTransformError, LimitReached}
+use Rattle.slate_types.specs.declared.error.SlateDBError.TheVariants.{ScriptSyntax, ScriptTooLong, OutOfMemory, ReadFault, WriteFault, StoreFault, Callback, BlockTransformError}
 use Rattle.slate_types.specs.Outside.{Objects, Counts, IsOuter}
 use Rattle.slate_store.specs.Lines.{lines_of, whole_part, script_limit}
 use Rattle.slate_store.specs.Store.{IsEmpty}
@@ -23,7 +23,6 @@ use Rattle.slate_db.specs.Meaning.{Meaning, IsLawfulMeaning, rules_of}
 use Rattle.slate_db.specs.Parts.{IsDamage}
 use Rattle.slate_script.specs.Stage.{meaning}
 use Rattle.slate_script.specs.Replies.{is_silent, replies_to}
-use Rattle.slate_script.specs.Session.{IsLimit}
 
 abbrev pub run_rules : Options → Meaning → Rules
 run_rules o m = rules_of (settings_of o) m
@@ -52,17 +51,16 @@ error_of None long = if long then Some ScriptTooLong else None
 abbrev pub script_error : List ℕ → Option SlateDBError
 script_error script = error_of (first_other (lines_taken script)) (is_too_long script)
 
--- a fault of the store, the operator or the transformer, a limit, or damage
+-- a fault of the store, the operator or the transformer, or damage
 abbrev pub IsPartError : SlateDBError → Type 0
 IsPartError StoreFault = Unit {0}
 IsPartError (Callback message) = Unit {0}
 IsPartError BlockTransformError = Unit {0}
-IsPartError (LimitReached n) = Unit {0}
 IsPartError e = IsDamage e
 
 -- before, after: the parts' counts of faults
 abbrev pub IsPartCause : Counts → Counts → SlateDBError → Type 0
-IsPartCause before after e = IsOuter before after e ⊎ IsLimit e ⊎ IsDamage e
+IsPartCause before after e = IsOuter before after e ⊎ IsDamage e
 
 -- errors that a source, a sink, a part or memory brings
 abbrev pub IsOutside : SlateDBError → Type 0

@@ -10,10 +10,12 @@
 --     HasTablesAlone m layout objects ts      the store holds nothing but these tables, and for each key its rows by sequence are theirs
 --     IsSettled m objects e      the parts are lawful, what is kept of the rows holds, and so does this
 --     IsRunning m r parts objects e      the same for rules of a run, whose parts mean what they did
---     IsLimit e, IsRefusal e      a limit was reached; a write is answered so
+--     line_load line, Grows line old new      what a line adds to memory at most; so do its events and its rows
+--     IsFull e, IsLimit e error      the journal or memory has passed what no script fills; a limit was reached, so one of them has
+--     IsRefusal error      a write is answered so
 --     has_moment line      a line that sets the moment sets one
 --     StoresNothing old new      what a line keeps that stores nothing
-use Rattle.std.specs.Prelude.{◌≡◌, ℕ, Bool, true, ◌≤◌, List, [], length, Option, Some, None, Result, IfOk, IsSome, ℤ}
+use Rattle.std.specs.Prelude.{◌≡◌, ℕ, ◌+◌, ◌-◌, ◌^◌, ◌<◌, ◌⊎◌, Bool, true, ◌≤◌, List, [], length, Option, Some, None, Result, IfOk, IsSome, ℤ}
 use Rattle.std.specs.List.{AllByRecursion}
 use Rattle.slate_types.specs.declared.error.SlateDBError.{SlateDBError}
 use Rattle.slate_types.specs.declared.error.SlateDBError.TheVariants.{EmptyKey, KeyTooLong, ValueTooLong, SequenceExhausted, LimitReached}
@@ -28,11 +30,12 @@ use Rattle.slate_txn.specs.Reply.{Reply}
 use Rattle.slate_txn.specs.State.{Rules, Tx, State}
 use Rattle.slate_txn.specs.Step.{step}
 use Rattle.slate_db.specs.Flushed.{Layout}
+use Rattle.slate_db.specs.Load.{load, ops_load, weight}
 use Rattle.slate_db.specs.Installs.{HoldsTables, NumberedFrom, tables_of}
 use Rattle.slate_db.specs.Meaning.{Meaning, IsLawfulMeaning, rules_of}
 use Rattle.slate_db.specs.Model.{CoreModel, Rows, of_key, versions_in}
 use Rattle.slate_db.specs.Sound.{IsKept, AreTables}
-use Rattle.slate_db.specs.Whole.{AreRising}
+use Rattle.slate_db.specs.Whole.{AreRising, LIMIT}
 use Rattle.slate_script.specs.declared.reply.Answer.{Answer}
 use Rattle.slate_script.specs.Answers.{reply_of}
 use Rattle.slate_script.specs.Grammar.{is_moment}
@@ -95,9 +98,24 @@ pub record IsSettled (m : Meaning) (objects : Option Objects) (e : SessionModel)
   pub kept : IsKept m e.core
   pub tables : HasTables objects e.core.events
 
--- a limit was reached
-abbrev pub IsLimit : SlateDBError → Type 0
-IsLimit e = (n : ℕ) × (e ≡ LimitReached n)
+-- ---- how much a session holds
+
+-- a row that a write adds is an operation of its
+abbrev pub line_load : Line → ℕ
+line_load (lines.Write ops) = ops_load ops
+line_load _ = 0
+
+abbrev pub Grows : Line → SessionModel → SessionModel → Type 0
+Grows line old new = (weight new.core ≤ weight old.core + 2) × (load new.core ≤ load old.core + line_load line)
+
+abbrev pub IsFull : SessionModel → Type 0
+IsFull e = (LIMIT < weight e.core + 2) ⊎ (2 ^ 32 - 1 < load e.core)
+
+-- e: the session that meets it
+abbrev pub IsLimit : SessionModel → SlateDBError → Type 0
+IsLimit e error = (n : ℕ) × (error ≡ LimitReached n) × IsFull e
+
+-- ---- what refuses a write
 
 -- a write is answered this refusal
 abbrev pub IsRefusal : SlateDBError → Type 0

@@ -1,7 +1,7 @@
 -- What the objects of a store hold after a run.
 --     IsTableObject m layout o      an object is a table that a flush put: at the path of one, in the options' version, and cut by their blocks' size
 --     IsStoredState m r layout objects s      all objects are such tables, and their rows alone fold to the state at the last flush
-use Rattle.std.specs.Prelude.{◌≡◌, ℕ, List, [], Option, Some}
+use Rattle.std.specs.Prelude.{◌≡◌, ◌≤◌, ◌<◌, ◌^◌, ℕ, List, [], Option, Some}
 use Rattle.std.specs.List.{AllByRecursion}
 use Rattle.slate_types.specs.declared.types.RowEntry.{RowEntry}
 use Rattle.slate_types.specs.Outside.{Objects}
@@ -14,8 +14,11 @@ use Rattle.slate_db.specs.Flushed.{Layout}
 use Rattle.slate_db.specs.Installs.{root}
 use Rattle.slate_db.specs.Meaning.{Meaning, combine_of}
 
+-- number: that of the flush, from 1
 pub record IsTableObject (m : Meaning) (layout : Layout) (o : List ℕ × List ℕ) : Type 0 where
   pub number : ℕ
+  pub first : 1 ≤ number
+  pub fits : number < 2 ^ 64
   pub rows : List RowEntry
   pub path : o.0 ≡ path_of root (table_id number 0)
   pub built : IsBuilt m.encode [] 0 layout.block_size layout.version o.1 rows

@@ -14,6 +14,7 @@ ghost use Rattle.slate_script.specs.Stage.{meaning};
 ghost use Rattle.slate_script.specs.Words.{read_words};
 ghost use Rattle.slate_script.specs.Run.{script_error, lines_taken, IsOutside, IsScriptError, HasAnswered, HasAnsweredAll, HasBegun};
 ghost use Rattle.slate_script.specs.StoredState.{IsStoredState};
+ghost use Rattle.slate_script.specs.Told.{IsUntrue};
 
 use crate::operator::NoOperator;
 use crate::parts::Xor;
@@ -26,12 +27,13 @@ use std::alloc::Global;
 /// Runs the script that the source gives over the store, as the words say, and answers the status to end with: 0
 /// where the run answers Ok, 2 exactly where the words are none of a run, 3 for `ScriptSyntax`, 4 for
 /// `ScriptTooLong`, 5 for `ReadFault`, 6 for `WriteFault`, 7 for `StoreFault`, 12, 14, 16, 18 and 19 where a table
-/// isn't what was stored, and 20 for any other error, such as want of memory or a limit.
+/// isn't what was stored, and 20 for want of memory.
 ///
 /// What is said of the script and of what was written holds where source and sink tell their bytes, and what is said
 /// of replies and of stored tables where the store was empty and tells its objects besides. Over such a store 12, 14,
-/// 16, 18 and 19 never come. At 0 each line was answered, and the store's objects are the tables that flushes put,
-/// and their rows alone fold to the state at the last flush. At 7 and 20 the replies to some first lines are written.
+/// 16, 18 and 19 never come, and over one that tells its acts only where a read was answered otherwise than by what
+/// the run had put. At 0 each line was answered, and the store's objects are the tables that flushes put, and their
+/// rows alone fold to the state at the last flush. At 7 and 20 the replies to some first lines are written.
 pub fn run_main<R: Source, W: Sink, S: Store>(
     alloc: Global,
     words: &[String],
@@ -63,6 +65,7 @@ pub fn run_main<R: Source, W: Sink, S: Store>(
     ensures write_fault { result ≡ 6 → Rose (W.faults sink.old) (W.faults sink.new) }
     ensures store_fault { result ≡ 7 → Rose (S.faults store.old) (S.faults store.new) }
     ensures undamaged { (s : Settings) → read_words (map string_bytes words.now) ≡ Some s → IsEmpty (S.objects store.old) → (result ≡ 12) ⊎ (result ≡ 14) ⊎ (result ≡ 16) ⊎ (result ≡ 18) ⊎ (result ≡ 19) → ⊥ }
+    ensures untrue { (result ≡ 12) ⊎ (result ≡ 14) ⊎ (result ≡ 16) ⊎ (result ≡ 18) ⊎ (result ≡ 19) → IsUntrue [] (S.acts store.old) (S.acts store.new) }
     ensures complete { (s : Settings) (script : List ℕ) → read_words (map string_bytes words.now) ≡ Some s → R.left source.old ≡ Some script → IsWellFormed script → IsEmpty (S.objects store.old) →
         (Rose (R.faults source.old) (R.faults source.new) → ⊥) → (Rose (W.faults sink.old) (W.faults sink.new) → ⊥) → (Rose (S.faults store.old) (S.faults store.new) → ⊥) → (result ≡ 0) ⊎ (result ≡ 20) }
 

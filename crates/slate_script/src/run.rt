@@ -1,19 +1,21 @@
 //! A run over a whole script.
-ghost use Rattle.std.specs.Prelude.{◌≡◌, ◌⊎◌, ◌≤◌, ◌<◌, ◌++◌, ◌∷◌, [], ℕ, List, Some, None, Ok, Err, OnOk, IfErr, IsTrue, false, take, drop, length};
+ghost use Rattle.std.specs.Prelude.{◌≡◌, ◌⊎◌, ◌≤◌, ◌<◌, ◌+◌, ◌++◌, ◌∷◌, [], ℕ, List, Some, None, Ok, Err, OnOk, IfErr, IsTrue, false, take, drop, length};
 ghost use Rattle.slate_types.specs.Config.{IsValid};
 ghost use Rattle.slate_types.specs.Faults.{Rose, faults_of};
-ghost use Rattle.slate_types.specs.Outside.{IsLater};
+ghost use Rattle.slate_types.specs.Outside.{IsLater, Objects};
 ghost use Rattle.slate_store.specs.Lines.{lines_of, script_limit};
 ghost use Rattle.slate_txn.specs.State.{Rules, State, opening};
 ghost use Rattle.slate_db.specs.Flushed.{layout_of};
 ghost use Rattle.slate_db.specs.Installs.{tables_of};
-ghost use Rattle.slate_db.specs.Meaning.{Meaning};
+ghost use Rattle.slate_db.specs.Load.{load, weight};
+ghost use Rattle.slate_db.specs.Meaning.{Meaning, IsLawfulMeaning};
 ghost use Rattle.slate_db.specs.Parts.{meaning_of, counts_of, IsDamage};
 ghost use Rattle.slate_script.specs.Replies.{replies, replies_to, after_lines, replies_from, IsWellFormed};
 ghost use Rattle.slate_script.specs.Stage.{meaning};
-ghost use Rattle.slate_script.specs.Session.{StandsFor, HasTablesAlone, IsRunning, IsLimit};
+ghost use Rattle.slate_script.specs.Session.{StandsFor, HasTablesAlone, IsRunning, IsSettled, IsLimit};
 ghost use Rattle.slate_script.specs.Run.{run_rules, Premises, is_line, script_error, lines_taken, IsPartError, IsPartCause, IsOutside, IsScriptError, HasAnswered, HasAnsweredAll, HasBegun};
 ghost use Rattle.slate_script.specs.StoredState.{IsStoredState};
+ghost use Rattle.slate_script.specs.Told.{Follows, IsUntrue};
 
 use crate::parse::parse_line;
 use crate::reply::reply_text;
@@ -32,12 +34,13 @@ use std::alloc::Global;
 /// An error of the script itself, `ScriptSyntax` or `ScriptTooLong`, comes exactly where `script_error` has it, unless
 /// another error came first. `ReadFault`, `WriteFault`, `StoreFault`, `Callback` and `BlockTransformError` come only
 /// where that object's count of faults rose in this call, and a source's or a sink's count that rose is never passed
-/// over. `LimitReached` may come from any line. Damage is answered only where the store isn't honest, wasn't empty, or
-/// a part isn't lawful.
+/// over. Damage is answered only where the store isn't honest, wasn't empty, or a part isn't lawful; where the parts are
+/// lawful and the store tells its acts, only where a read was answered otherwise than by what this run had put. No limit
+/// is reached: of a script no more bytes are taken than the least of them.
 ///
 /// What is written at an error is replies: at one of the script those to all lines before it, at `ReadFault` those to
 /// all whole lines that the source gave, or to the whole script, at `WriteFault` those to some first lines and a front
-/// of one more, and at an error of a part, a limit or want of memory those to some first lines.
+/// of one more, and at an error of a part or want of memory those to some first lines.
 pub fn run_script<R: Source, W: Sink, S: Store, M: MergeOperator, T: BlockTransformer>(
     alloc: Global,
     source: &mut R,
@@ -64,10 +67,11 @@ pub fn run_script<R: Source, W: Sink, S: Store, M: MergeOperator, T: BlockTransf
     ensures operator_fault { (message : List ℕ) → result ≡ Err (SlateDBError.Callback message) → Rose (faults_of M.faults env.old.operator) (faults_of M.faults env.new.operator) }
     ensures transform_fault { result ≡ Err SlateDBError.BlockTransformError → Rose (faults_of T.faults env.old.transformer) (faults_of T.faults env.new.transformer) }
     ensures undamaged { Premises (meaning_of M.combine T.encoded T.decoded env.old.operator env.old.transformer) (S.objects env.old.store.now) → IfErr result (λ e. IsDamage e → ⊥) }
+    ensures untrue { IsLawfulMeaning (meaning_of M.combine T.encoded T.decoded env.old.operator env.old.transformer) → IfErr result (λ e. IsDamage e → IsUntrue [] (S.acts env.old.store.now) (S.acts env.new.store.now)) }
     ensures complete { (script : List ℕ) → R.left source.old ≡ Some script → IsWellFormed script → Premises (meaning_of M.combine T.encoded T.decoded env.old.operator env.old.transformer) (S.objects env.old.store.now) →
         (Rose (R.faults source.old) (R.faults source.new) → ⊥) → (Rose (W.faults sink.old) (W.faults sink.new) → ⊥) → (Rose (S.faults env.old.store.now) (S.faults env.new.store.now) → ⊥) →
         (Rose (faults_of M.faults env.old.operator) (faults_of M.faults env.new.operator) → ⊥) → (Rose (faults_of T.faults env.old.transformer) (faults_of T.faults env.new.transformer) → ⊥) →
-        IfErr result (λ e. (e ≡ SlateDBError.OutOfMemory) ⊎ IsLimit e) }
+        IfErr result (λ e. e ≡ SlateDBError.OutOfMemory) }
 
     // no fault is passed over
     ensures source_still { (result ≡ Err SlateDBError.ReadFault) ⊎ (R.faults source.new ≡ R.faults source.old) }
@@ -128,11 +132,15 @@ fn answer_line<W: Sink, S: Store, M: MergeOperator, T: BlockTransformer>(
     ensures stands { (m : Meaning) (r : Rules) → IsRunning m r (meaning_of M.combine T.encoded T.decoded env.old.operator env.old.transformer) (S.objects env.old.store.now) session.old → (s : State) → StandsFor session.old s → OnOk result (StandsFor session.new (after_lines meaning r s (line.now ∷ []))) }
     ensures answered { (m : Meaning) (r : Rules) → IsRunning m r (meaning_of M.combine T.encoded T.decoded env.old.operator env.old.transformer) (S.objects env.old.store.now) session.old → (s : State) (before : List ℕ) → StandsFor session.old s → W.content sink.old ≡ Some before →
         OnOk result (W.content sink.new ≡ Some (before ++ replies_from meaning r s (line.now ∷ []))) }
+    ensures grows { OnOk result ((weight session.new.core ≤ weight session.old.core + 2) × (load session.new.core ≤ load session.old.core + length line.now)) }
     ensures alone { (m : Meaning) (r : Rules) → IsRunning m r (meaning_of M.combine T.encoded T.decoded env.old.operator env.old.transformer) (S.objects env.old.store.now) session.old → HasTablesAlone m (layout_of options.now) (S.objects env.old.store.now) (tables_of session.old.core.events) →
         OnOk result (HasTablesAlone m (layout_of options.now) (S.objects env.new.store.now) (tables_of session.new.core.events)) }
-    ensures cause { IfErr result (λ e. (e ≡ SlateDBError.OutOfMemory) ⊎ (e ≡ SlateDBError.WriteFault) ⊎ ((e ≡ SlateDBError.ScriptSyntax number) × (is_line line.now ≡ false)) ⊎ IsPartError e) }
+    ensures cause { IfErr result (λ e. (e ≡ SlateDBError.OutOfMemory) ⊎ (e ≡ SlateDBError.WriteFault) ⊎ ((e ≡ SlateDBError.ScriptSyntax number) × (is_line line.now ≡ false)) ⊎ IsPartError e ⊎ IsLimit session.old e) }
     ensures part { IfErr result (λ e. IsPartError e → IsPartCause (counts_of (S.faults env.old.store.now) M.faults T.faults env.old.operator env.old.transformer) (counts_of (S.faults env.new.store.now) M.faults T.faults env.new.operator env.new.transformer) e) }
     ensures undamaged { (m : Meaning) (r : Rules) → IsRunning m r (meaning_of M.combine T.encoded T.decoded env.old.operator env.old.transformer) (S.objects env.old.store.now) session.old → IfErr result (λ e. IsDamage e → ⊥) }
+    ensures follows { (os : Objects) → IsSettled (meaning_of M.combine T.encoded T.decoded env.old.operator env.old.transformer) (Some os) session.old → OnOk result (Follows (meaning_of M.combine T.encoded T.decoded env.old.operator env.old.transformer) os session.new (S.acts env.old.store.now) (S.acts env.new.store.now)) }
+    ensures untrue { (os : Objects) → IsSettled (meaning_of M.combine T.encoded T.decoded env.old.operator env.old.transformer) (Some os) session.old → IfErr result (λ e. IsDamage e → IsUntrue os (S.acts env.old.store.now) (S.acts env.new.store.now)) }
+    ensures meaning { OnOk result (meaning_of M.combine T.encoded T.decoded env.new.operator env.new.transformer ≡ (meaning_of M.combine T.encoded T.decoded env.old.operator env.old.transformer)) }
     ensures write_fault { result ≡ Err SlateDBError.WriteFault → Rose (W.faults sink.old) (W.faults sink.new) × IsTrue (is_line line.now) }
     ensures begun { (m : Meaning) (r : Rules) → IsRunning m r (meaning_of M.combine T.encoded T.decoded env.old.operator env.old.transformer) (S.objects env.old.store.now) session.old → (s : State) (before : List ℕ) → StandsFor session.old s → W.content sink.old ≡ Some before → result ≡ Err SlateDBError.WriteFault →
         (n : ℕ) × (n < length (replies_from meaning r s (line.now ∷ []))) × (W.content sink.new ≡ Some (before ++ take n (replies_from meaning r s (line.now ∷ [])))) }

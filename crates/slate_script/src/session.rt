@@ -1,7 +1,7 @@
 //! The core, the open names with their ids, and the moment.
 ghost use Rattle.std.specs.Prelude.{◌≡◌, ◌⊎◌, ◌∷◌, ◌++◌, [], map, Some, Ok, IfOk, IfErr, OnOk, IsTrue, IsOkUnless, length, drop, false};
 ghost use Rattle.slate_types.specs.Config.{IsValid};
-ghost use Rattle.slate_types.specs.Outside.{IsLater, IsOuter};
+ghost use Rattle.slate_types.specs.Outside.{IsLater, IsOuter, Objects};
 ghost use Rattle.slate_mem.specs.Batch.{Ops};
 ghost use Rattle.slate_mem.specs.BatchModel.{IsBatchOf};
 ghost use Rattle.slate_mem.specs.Refusals.{first_refusal, op_refusal};
@@ -9,16 +9,19 @@ ghost use Rattle.slate_txn.specs.Named.{find_named};
 ghost use Rattle.slate_txn.specs.Reply.{Refused};
 ghost use Rattle.slate_txn.specs.Settings.{settings_of};
 ghost use Rattle.slate_txn.specs.State.{opening};
+ghost use Rattle.slate_db.specs.Answered.{AddsReads, AnswersAs as IsAnsweredBy};
 ghost use Rattle.slate_db.specs.Flushed.{layout_of};
 ghost use Rattle.slate_db.specs.Installs.{tables_of};
+ghost use Rattle.slate_db.specs.Load.{load, weight};
 ghost use Rattle.slate_db.specs.Meaning.{Meaning, IsLawfulMeaning};
 ghost use Rattle.slate_db.specs.Parts.{meaning_of, counts_of, IsDamage};
 ghost use Rattle.slate_db.specs.Sound.{IsKept};
 ghost use Rattle.slate_db.specs.StoredState.{StoresState};
 ghost use Rattle.slate_db.specs.Whole.{AreFine};
 ghost use Rattle.slate_script.specs.Answers.{reply_of};
-ghost use Rattle.slate_script.specs.Session.{StandsFor, AnswersAs, HasTablesAlone, IsSettled, IsLimit, IsRefusal, StoresNothing, has_moment};
+ghost use Rattle.slate_script.specs.Session.{StandsFor, AnswersAs, HasTablesAlone, Grows, IsSettled, IsLimit, IsRefusal, StoresNothing, has_moment};
 ghost use Rattle.slate_script.specs.Stage.{is_built, is_built_op, is_built_batch};
+ghost use Rattle.slate_script.specs.Told.{Follows, IsUntrue};
 
 use crate::reply::{Answer, Refusal};
 use bytes::Bytes;
@@ -64,6 +67,7 @@ impl Session {
         ensures settings { result.core.settings ≡ settings_of options.now }
         ensures events { result.core.events ≡ [] }
         ensures kept { (m : Meaning) → IsKept m result.core }
+        ensures holds { (weight result.core ≡ 0) × (load result.core ≡ 0) }
     {
         Session {
             alloc,
@@ -74,8 +78,9 @@ impl Session {
     }
 
     /// The answer to a line. Where the parts are lawful, what is kept of the rows holds and the store has the journal's
-    /// tables, it is that of the model's step, and no damage is answered. A part's fault is answered only where its
-    /// count rose in this call, and `LimitReached` may come from any line.
+    /// tables, it is that of the model's step, and no damage is answered; nor is it where the store's acts tell that each
+    /// read of this call was answered by those tables. A part's fault is answered only where its count rose in this
+    /// call, and `LimitReached` only where the journal or memory holds more than a script can bring.
     pub fn answer<S: Store, M: MergeOperator, T: BlockTransformer>(
         &mut self,
         line: Line,
@@ -88,13 +93,18 @@ impl Session {
         ensures step { IsSettled (meaning_of M.combine T.encoded T.decoded env.old.operator env.old.transformer) (S.objects env.old.store.now) self.old →
             AnswersAs (meaning_of M.combine T.encoded T.decoded env.old.operator env.old.transformer) self.old self.new line result }
         ensures settings { OnOk result (self.new.core.settings ≡ self.old.core.settings) }
+        ensures grows { OnOk result (Grows line self.old self.new) }
         ensures kept { IsSettled (meaning_of M.combine T.encoded T.decoded env.old.operator env.old.transformer) (S.objects env.old.store.now) self.old →
             OnOk result (IsSettled (meaning_of M.combine T.encoded T.decoded env.old.operator env.old.transformer) (S.objects env.new.store.now) self.new) }
         ensures alone { IsSettled (meaning_of M.combine T.encoded T.decoded env.old.operator env.old.transformer) (S.objects env.old.store.now) self.old → HasTablesAlone (meaning_of M.combine T.encoded T.decoded env.old.operator env.old.transformer) (layout_of options.now) (S.objects env.old.store.now) (tables_of self.old.core.events) →
             OnOk result (HasTablesAlone (meaning_of M.combine T.encoded T.decoded env.old.operator env.old.transformer) (layout_of options.now) (S.objects env.new.store.now) (tables_of self.new.core.events)) }
-        ensures cause { IfErr result (λ e. IsOuter (counts_of (S.faults env.old.store.now) M.faults T.faults env.old.operator env.old.transformer) (counts_of (S.faults env.new.store.now) M.faults T.faults env.new.operator env.new.transformer) e ⊎ IsLimit e ⊎ IsDamage e) }
+        ensures cause { IfErr result (λ e. IsOuter (counts_of (S.faults env.old.store.now) M.faults T.faults env.old.operator env.old.transformer) (counts_of (S.faults env.new.store.now) M.faults T.faults env.new.operator env.new.transformer) e ⊎ IsLimit self.old e ⊎ IsDamage e) }
         ensures undamaged { IsSettled (meaning_of M.combine T.encoded T.decoded env.old.operator env.old.transformer) (S.objects env.old.store.now) self.old →
-            IfErr result (λ e. IsOuter (counts_of (S.faults env.old.store.now) M.faults T.faults env.old.operator env.old.transformer) (counts_of (S.faults env.new.store.now) M.faults T.faults env.new.operator env.new.transformer) e ⊎ IsLimit e) }
+            IfErr result (λ e. IsOuter (counts_of (S.faults env.old.store.now) M.faults T.faults env.old.operator env.old.transformer) (counts_of (S.faults env.new.store.now) M.faults T.faults env.new.operator env.new.transformer) e ⊎ IsLimit self.old e) }
+        ensures truthful { (os : Objects) → IsSettled (meaning_of M.combine T.encoded T.decoded env.old.operator env.old.transformer) (Some os) self.old → IsAnsweredBy os (S.acts env.old.store.now) (S.acts env.new.store.now) →
+            IfErr result (λ e. IsOuter (counts_of (S.faults env.old.store.now) M.faults T.faults env.old.operator env.old.transformer) (counts_of (S.faults env.new.store.now) M.faults T.faults env.new.operator env.new.transformer) e ⊎ IsLimit self.old e) }
+        ensures follows { (os : Objects) → IsSettled (meaning_of M.combine T.encoded T.decoded env.old.operator env.old.transformer) (Some os) self.old → OnOk result (Follows (meaning_of M.combine T.encoded T.decoded env.old.operator env.old.transformer) os self.new (S.acts env.old.store.now) (S.acts env.new.store.now)) }
+        ensures untrue { (os : Objects) → IsSettled (meaning_of M.combine T.encoded T.decoded env.old.operator env.old.transformer) (Some os) self.old → IfErr result (λ e. IsDamage e → IsUntrue os (S.acts env.old.store.now) (S.acts env.new.store.now)) }
         ensures meaning { meaning_of M.combine T.encoded T.decoded env.new.operator env.new.transformer ≡ meaning_of M.combine T.encoded T.decoded env.old.operator env.old.transformer }
         ensures same_store { env.new.store.ghost_name ≡ env.old.store.ghost_name }
         ensures later { IsLater (counts_of (S.faults env.old.store.now) M.faults T.faults env.old.operator env.old.transformer) (counts_of (S.faults env.new.store.now) M.faults T.faults env.new.operator env.new.transformer) }
@@ -126,7 +136,8 @@ impl Session {
     fn begin(&mut self, name: Bytes, level: IsolationLevel) -> Result<Answer, SlateDBError>
         ensures step { (m : Meaning) → AnswersAs m self.old self.new (Line.Begin name level) result }
         ensures stores { OnOk result (StoresNothing self.old self.new) }
-        ensures cause { IfErr result (λ e. (e ≡ SlateDBError.OutOfMemory) ⊎ IsLimit e) }
+        ensures grows { OnOk result (Grows (Line.Begin name level) self.old self.new) }
+        ensures cause { IfErr result (λ e. (e ≡ SlateDBError.OutOfMemory) ⊎ IsLimit self.old e) }
     {
         if self.names.contains_key(&name) {
             return Ok(Answer::Refused(Refusal::DuplicateTransaction { name }));
@@ -147,10 +158,14 @@ impl Session {
         ensures step { IsSettled (meaning_of M.combine T.encoded T.decoded env.old.operator env.old.transformer) (S.objects env.old.store.now) self.old →
             AnswersAs (meaning_of M.combine T.encoded T.decoded env.old.operator env.old.transformer) self.old self.new (Line.Get name key) result }
         ensures stores { OnOk result (StoresNothing self.old self.new) }
+        ensures grows { OnOk result (Grows (Line.Get name key) self.old self.new) }
         ensures objects { S.objects env.new.store.now ≡ S.objects env.old.store.now }
         ensures cause { IfErr result (λ e. IsOuter (counts_of (S.faults env.old.store.now) M.faults T.faults env.old.operator env.old.transformer) (counts_of (S.faults env.new.store.now) M.faults T.faults env.new.operator env.new.transformer) e ⊎ IsDamage e) }
         ensures undamaged { IsSettled (meaning_of M.combine T.encoded T.decoded env.old.operator env.old.transformer) (S.objects env.old.store.now) self.old →
             IfErr result (λ e. IsOuter (counts_of (S.faults env.old.store.now) M.faults T.faults env.old.operator env.old.transformer) (counts_of (S.faults env.new.store.now) M.faults T.faults env.new.operator env.new.transformer) e) }
+        ensures truthful { (os : Objects) → IsSettled (meaning_of M.combine T.encoded T.decoded env.old.operator env.old.transformer) (Some os) self.old → IsAnsweredBy os (S.acts env.old.store.now) (S.acts env.new.store.now) →
+            IfErr result (λ e. IsOuter (counts_of (S.faults env.old.store.now) M.faults T.faults env.old.operator env.old.transformer) (counts_of (S.faults env.new.store.now) M.faults T.faults env.new.operator env.new.transformer) e) }
+        ensures told { AddsReads (S.acts env.old.store.now) (S.acts env.new.store.now) }
         ensures meaning { meaning_of M.combine T.encoded T.decoded env.new.operator env.new.transformer ≡ meaning_of M.combine T.encoded T.decoded env.old.operator env.old.transformer }
         ensures same_store { env.new.store.ghost_name ≡ env.old.store.ghost_name }
         ensures later { IsLater (counts_of (S.faults env.old.store.now) M.faults T.faults env.old.operator env.old.transformer) (counts_of (S.faults env.new.store.now) M.faults T.faults env.new.operator env.new.transformer) }
@@ -170,6 +185,7 @@ impl Session {
     fn rollback(&mut self, name: Bytes) -> Answer
         ensures step { (m : Meaning) → AnswersAs m self.old self.new (Line.Rollback name) (Ok result) }
         ensures stores { StoresNothing self.old self.new }
+        ensures grows { Grows (Line.Rollback name) self.old self.new }
     {
         let Some(id) = self.names.remove(&name) else {
             return Answer::Refused(Refusal::UnknownTransaction { name });
@@ -183,7 +199,8 @@ impl Session {
         requires { IsTrue (is_built_batch ops) }
         ensures step { (m : Meaning) → AnswersAs m self.old self.new (Line.Write ops) result }
         ensures stores { OnOk result (StoresNothing self.old self.new) }
-        ensures cause { IfErr result (λ e. (e ≡ SlateDBError.OutOfMemory) ⊎ IsLimit e) }
+        ensures grows { OnOk result (Grows (Line.Write ops) self.old self.new) }
+        ensures cause { IfErr result (λ e. (e ≡ SlateDBError.OutOfMemory) ⊎ IsLimit self.old e) }
     {
         match batch_of(self.alloc, ops) {
             Ok(batch) => self.commit(batch),
@@ -196,7 +213,8 @@ impl Session {
         requires { batch.held_merge ≡ false }
         ensures step { (m : Meaning) (ops : Ops) → IsBatchOf ops batch → AreFine ops → AnswersAs m self.old self.new (Line.Write ops) result }
         ensures stores { OnOk result (StoresNothing self.old self.new) }
-        ensures cause { IfErr result (λ e. (e ≡ SlateDBError.OutOfMemory) ⊎ IsLimit e) }
+        ensures grows { (ops : Ops) → IsBatchOf ops batch → OnOk result (Grows (Line.Write ops) self.old self.new) }
+        ensures cause { IfErr result (λ e. (e ≡ SlateDBError.OutOfMemory) ⊎ IsLimit self.old e) }
     {
         match self.core.write(batch, self.now) {
             Ok(seq) => Ok(Answer::Written(seq)),
@@ -208,7 +226,8 @@ impl Session {
     fn freeze(&mut self) -> Result<Answer, SlateDBError>
         ensures step { (m : Meaning) → AnswersAs m self.old self.new Line.Freeze result }
         ensures stores { OnOk result (StoresNothing self.old self.new) }
-        ensures cause { IfErr result (λ e. (e ≡ SlateDBError.OutOfMemory) ⊎ IsLimit e) }
+        ensures grows { OnOk result (Grows Line.Freeze self.old self.new) }
+        ensures cause { IfErr result (λ e. (e ≡ SlateDBError.OutOfMemory) ⊎ IsLimit self.old e) }
     {
         let seq = self.core.freeze()?;
         Ok(Answer::Frozen(seq))
@@ -223,11 +242,13 @@ impl Session {
         requires valid { IsValid options.now }
         ensures step { (m : Meaning) → AnswersAs m self.old self.new Line.Flush result }
         ensures settings { OnOk result (self.new.core.settings ≡ self.old.core.settings) }
+        ensures grows { OnOk result (Grows Line.Flush self.old self.new) }
         ensures kept { IsSettled (meaning_of M.combine T.encoded T.decoded env.old.operator env.old.transformer) (S.objects env.old.store.now) self.old →
             OnOk result (IsSettled (meaning_of M.combine T.encoded T.decoded env.old.operator env.old.transformer) (S.objects env.new.store.now) self.new) }
         ensures alone { IsSettled (meaning_of M.combine T.encoded T.decoded env.old.operator env.old.transformer) (S.objects env.old.store.now) self.old → HasTablesAlone (meaning_of M.combine T.encoded T.decoded env.old.operator env.old.transformer) (layout_of options.now) (S.objects env.old.store.now) (tables_of self.old.core.events) →
             OnOk result (HasTablesAlone (meaning_of M.combine T.encoded T.decoded env.old.operator env.old.transformer) (layout_of options.now) (S.objects env.new.store.now) (tables_of self.new.core.events)) }
-        ensures cause { IfErr result (λ e. IsOuter (counts_of (S.faults env.old.store.now) M.faults T.faults env.old.operator env.old.transformer) (counts_of (S.faults env.new.store.now) M.faults T.faults env.new.operator env.new.transformer) e ⊎ IsLimit e) }
+        ensures follows { (os : Objects) → IsSettled (meaning_of M.combine T.encoded T.decoded env.old.operator env.old.transformer) (Some os) self.old → OnOk result (Follows (meaning_of M.combine T.encoded T.decoded env.old.operator env.old.transformer) os self.new (S.acts env.old.store.now) (S.acts env.new.store.now)) }
+        ensures cause { IfErr result (λ e. IsOuter (counts_of (S.faults env.old.store.now) M.faults T.faults env.old.operator env.old.transformer) (counts_of (S.faults env.new.store.now) M.faults T.faults env.new.operator env.new.transformer) e ⊎ IsLimit self.old e) }
         ensures meaning { meaning_of M.combine T.encoded T.decoded env.new.operator env.new.transformer ≡ meaning_of M.combine T.encoded T.decoded env.old.operator env.old.transformer }
         ensures same_store { env.new.store.ghost_name ≡ env.old.store.ghost_name }
         ensures later { IsLater (counts_of (S.faults env.old.store.now) M.faults T.faults env.old.operator env.old.transformer) (counts_of (S.faults env.new.store.now) M.faults T.faults env.new.operator env.new.transformer) }

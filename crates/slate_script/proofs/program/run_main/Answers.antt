@@ -1,22 +1,23 @@
-use Rattle.std.proofs.Common.{◌≡◌, ◌⊎◌, ◌≤◌, ◌++◌, ℕ, List, Option, inl, inr, Result, Err, Some, sym, ap, subst, refl, ◌∙◌}
+use Rattle.std.proofs.Common.{[], ◌≡◌, ◌⊎◌, ◌≤◌, ◌++◌, ℕ, List, Option, inl, inr, Result, Err, Some, sym, ap, subst, refl, ◌∙◌}
 use Rattle.slate_types.specs.declared.error.SlateDBError.{SlateDBError}
 use Rattle.slate_types.specs.declared.error.SlateDBError.TheVariants.{ReadFault, WriteFault}
 use Rattle.slate_script.specs.Program.{status}
 use Rattle.slate_script.specs.Run.{script_error}
-use Rattle.slate_script.proofs.Statuses.{is-status, is-ended, is-read, is-write, is-store, is-too_long, is-syntax, is-damage, is-part, damage-between, its-own, wants-or-limits}
+use Rattle.slate_script.proofs.Statuses.{is-status, is-ended, is-read, is-write, is-store, is-too_long, is-syntax, is-damage, is-part, damage-between, its-own}
 use Rattle.slate_script.specs.declared.words.Settings.{Settings}
 use Rattle.slate_script.specs.Program.{main_rules, parts_of}
 use Rattle.slate_script.specs.Replies.{after_lines, replies, replies_to}
 use Rattle.slate_script.specs.Run.{lines_taken, HasAnswered, HasAnsweredAll, HasBegun}
 use Rattle.slate_script.specs.Stage.{meaning}
 use Rattle.slate_script.specs.StoredState.{IsStoredState}
+use Rattle.slate_script.specs.Told.{IsUntrue}
 use Rattle.slate_store.specs.Lines.{lines_of}
 use Rattle.slate_txn.specs.State.{opening}
 use Rattle.slate_types.specs.Faults.{Rose}
 use Rattle.slate_types.specs.Outside.{Objects}
 use Rattle.slate_db.specs.Flushed.{layout_of}
 use Rattle.slate_db.specs.Meaning.{Meaning}
-use Rattle.slate_script.proofs.Mains.{premises, none-rose, none-rose-before, same-settings, status-or-either, words-are}
+use Rattle.slate_script.proofs.Mains.{lawful, premises, none-rose, none-rose-before, same-settings, status-or-either, words-are}
 use Rattle.slate_script.proofs.program.run_main.Goals as goal
 
 pub returns-in-Ok-clause-no_error : goal.returns-in-Ok-clause-no_error
@@ -102,12 +103,18 @@ returns-in-Err-clause-write_fault g c six = c.in-Err.ensures.write_fault (ap Err
 
 pub returns-in-Err-clause-complete : goal.returns-in-Err-clause-complete
 returns-in-Err-clause-complete g c s script named is formed empty no-read no-write no-store =
-    inr (c.status_of.ensures ∙ wants-or-limits c.in-Err.error (c.in-Err.ensures.complete script is formed (premises {M = ℕ} (λ _ k e v. v) _ _ empty) no-read no-write (λ h. no-store (subst (λ t. Rose (g.S.Store.faults c.args.store.now) (g.S.Store.faults t)) (sym (c.store-1.given.1 (sym c.in-Err.ensures.same_store))) h)) (none-rose-before c.run_script.new.env.operator) (none-rose c.transformer_of.result c.run_script.new.env.transformer)))
+    inr (c.status_of.ensures ∙ ap status (c.in-Err.ensures.complete script is formed (premises {M = ℕ} (λ _ k e v. v) _ _ empty) no-read no-write (λ h. no-store (subst (λ t. Rose (g.S.Store.faults c.args.store.now) (g.S.Store.faults t)) (sym (c.store-1.given.1 (sym c.in-Err.ensures.same_store))) h)) (none-rose-before c.run_script.new.env.operator) (none-rose c.transformer_of.result c.run_script.new.env.transformer)))
 
 pub returns-in-Err-clause-undamaged : goal.returns-in-Err-clause-undamaged
 returns-in-Err-clause-undamaged g c s named empty which =
     let within = subst (λ (n : ℕ). (12 ≤ n) × (n ≤ 19)) c.status_of.ensures (damage-between c.status_of.result which) in
     c.in-Err.ensures.undamaged (premises {M = ℕ} (λ _ k e v. v) _ _ empty) (is-damage c.in-Err.error c.in-Err.ensures.kinds within.0 within.1)
+
+pub returns-in-Err-clause-untrue : goal.returns-in-Err-clause-untrue
+returns-in-Err-clause-untrue g c which =
+    let within = subst (λ (n : ℕ). (12 ≤ n) × (n ≤ 19)) c.status_of.ensures (damage-between c.status_of.result which) in
+    subst (λ t. IsUntrue [] (g.S.Store.acts c.args.store.now) (g.S.Store.acts t)) (sym (c.store-1.given.1 (sym c.in-Err.ensures.same_store)))
+    (c.in-Err.ensures.untrue (lawful {M = ℕ} (λ _ k e v. v) _) (is-damage c.in-Err.error c.in-Err.ensures.kinds within.0 within.1))
 
 pub returns-in-Err-clause-store_fault : goal.returns-in-Err-clause-store_fault
 returns-in-Err-clause-store_fault g c seven =

@@ -1,12 +1,13 @@
-use Rattle.std.proofs.Common.{◌≡◌, ◌<◌, ◌++◌, ◌∷◌, [], ℕ, Some, take, length, sym, ap, subst, ◌∙◌}
+use Rattle.std.proofs.Common.{◌≡◌, ◌<◌, ◌≤◌, arith, ◌++◌, ◌∷◌, [], ℕ, Some, take, length, sym, ap, subst, ◌∙◌}
 use Rattle.std.proofs.lemmas.Result.{IfErr-at_err, err_from_is_err_and}
 use Rattle.slate_db.specs.Flushed.{layout_of}
 use Rattle.slate_db.specs.Installs.{tables_of}
 use Rattle.slate_db.specs.Meaning.{Meaning}
 use Rattle.slate_script.specs.Replies.{replies_from}
-use Rattle.slate_script.specs.Session.{HasTablesAlone}
+use Rattle.slate_script.specs.Session.{HasTablesAlone, line_load}
 use Rattle.slate_script.specs.Stage.{meaning}
 use Rattle.slate_script.proofs.Answered.{one-built}
+use Rattle.slate_script.proofs.LineLoads.{line-load}
 use Rattle.slate_script.proofs.Running.{line-stands, line-reply, runs-on, is-settled, one-moment, always, at-ok, not-damage}
 use Rattle.slate_script.proofs.run.answer_line.Goals as goal
 
@@ -54,3 +55,14 @@ returns-clause-begun g c m r running s before stands told is =
     let part : (n : ℕ) × (n < length c.as_slice.result.now) × (g.W.Sink.content c.write_all.new.sink ≡ Some (before ++ take n c.as_slice.result.now)) =
     IfErr-at_err (λ _. (n : ℕ) × (n < length c.as_slice.result.now) × (g.W.Sink.content c.write_all.new.sink ≡ Some (before ++ take n c.as_slice.result.now))) is (c.write_all.ensures.part before told) in
     subst (λ bs. (n : ℕ) × (n < length bs) × (g.W.Sink.content c.write_all.new.sink ≡ Some (before ++ take n bs))) text part
+
+pub returns-clause-grows : goal.returns-clause-grows
+returns-clause-grows g c =
+    let meant = rw c.in-Ok-Some.field-0-is at c.in-Ok-Some.ensures.meant in
+    always c.write_all.result (c.in_ok-answer.ensures.grows.0, let few : line_load c.in-Ok-Some.meaning ≤ length c.args.line.now = line-load c.args.line.now c.in-Ok-Some.meaning meant.1 in omega (arith, c.in_ok-answer.ensures.grows.1, few))
+
+pub returns-clause-follows : goal.returns-clause-follows
+returns-clause-follows g c os settled = always c.write_all.result (c.in_ok-answer.ensures.follows os settled)
+
+pub returns-clause-meaning : goal.returns-clause-meaning
+returns-clause-meaning g c = always c.write_all.result c.answer.ensures.meaning

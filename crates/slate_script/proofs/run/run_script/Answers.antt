@@ -1,4 +1,4 @@
-use Rattle.std.proofs.Common.{◌≡◌, ◌⊎◌, ◌<◌, ◌++◌, ◌∷◌, [], ℕ, IfSome, Some, Result, Ok, Err, take, length, ◌+◌, sym, ap, subst, ◌∙◌, arith, append_assoc, refl, inl, inr}
+use Rattle.std.proofs.Common.{◌≤◌, ◌≡◌, ◌⊎◌, ◌<◌, ◌++◌, ◌∷◌, [], ℕ, IfSome, Some, Result, Ok, Err, take, length, ◌+◌, sym, ap, subst, ◌∙◌, arith, append_assoc, refl, inl, inr}
 use Rattle.std.proofs.lemmas.Result.{err_from_is_err_and}
 use Rattle.slate_types.specs.declared.error.SlateDBError.{SlateDBError}
 use Rattle.slate_types.specs.declared.error.SlateDBError.TheVariants.{ScriptTooLong, ReadFault, WriteFault, StoreFault, Callback, BlockTransformError}
@@ -13,7 +13,13 @@ use Rattle.slate_store.specs.Lines.{lines_of}
 use Rattle.slate_script.proofs.Taken.{begin, answer-it, took-told, end-told}
 use Rattle.slate_script.proofs.Running.{begins}
 use Rattle.slate_script.proofs.TablesAlone.{begins-alone, stored-state}
-use Rattle.slate_script.proofs.RunEnds.{rose-from, never-less, later-on, memory-or-limit, part-limit, store-rose, operator-rose, transformer-rose, reader-no-part, reader-undamaged, reader-error, reader-complete, reader-kinds, reader-read, reader-full, line-not-long, line-kinds, line-read, line-complete, untouched, reader-script, reader-source, reader-memory, line-error, line-script, line-sink, line-memory, end-there, end-read, end-answered, end-formed, end-no_error}
+use Rattle.slate_script.proofs.RunEnds.{LineError, rose-from, never-less, later-on, line-cause, no-part, only-memory, store-rose, operator-rose, transformer-rose, reader-no-part, reader-undamaged, reader-error, reader-complete, reader-kinds, reader-read, reader-full, line-not-long, line-kinds, line-read, line-complete, untouched, reader-script, reader-source, reader-memory, line-error, line-script, line-sink, line-memory, end-there, end-read, end-answered, end-formed, end-no_error}
+use Rattle.slate_types.specs.Outside.{Objects}
+use Rattle.slate_db.specs.Meaning.{Meaning}
+use Rattle.slate_script.specs.Session.{IsSettled}
+use Rattle.slate_script.specs.Told.{Follows, IsUntrue}
+use Rattle.slate_script.proofs.ToldLaws.{follows-itself, follows-on, untrue-on}
+use Rattle.slate_script.proofs.run.run_script.Given as given
 use Rattle.slate_script.proofs.run.run_script.Goals as goal
 
 same-error : {T : Type 0} (e f : SlateDBError) (r : Result T SlateDBError) → r ≡ Err e → r ≡ Err f → e ≡ f
@@ -43,8 +49,13 @@ loop-session-init g c = record {
       begin (Premises (meaning_of g.M.MergeOperator.combine g.T.BlockTransformer.encoded g.T.BlockTransformer.decoded c.args.env.now.operator c.args.env.now.transformer) (g.S.Store.objects c.args.env.now.store.now)) (run_rules c.args.options.now (meaning_of g.M.MergeOperator.combine g.T.BlockTransformer.encoded g.T.BlockTransformer.decoded c.args.env.now.operator c.args.env.now.transformer)) script (g.R.Source.left c.args.source.now) (g.W.Sink.content c.args.sink.now) c.new-lines.result c.new-session.result is c.new-lines.ensures.held c.new-lines.ensures.given c.new-session.ensures.opens;
   counted = omega arith;
   within = let none : c.new-lines.result.given ≡ 0 = c.new-lines.ensures.given in omega (arith, none);
+  weighs = omega (arith, c.new-session.ensures.holds.0);
+  loads = omega (arith, c.new-session.ensures.holds.1);
   running = λ premises. begins (meaning_of g.M.MergeOperator.combine g.T.BlockTransformer.encoded g.T.BlockTransformer.decoded c.args.env.now.operator c.args.env.now.transformer) c.args.options.now (g.S.Store.objects c.args.env.now.store.now) c.new-session.result premises c.new-session.ensures.settings c.new-session.ensures.events c.new-session.ensures.kept;
   alone = λ premises. begins-alone (meaning_of g.M.MergeOperator.combine g.T.BlockTransformer.encoded g.T.BlockTransformer.decoded c.args.env.now.operator c.args.env.now.transformer) (layout_of c.args.options.now) (g.S.Store.objects c.args.env.now.store.now) c.new-session.result premises.empty c.new-session.ensures.events;
+  meaning = refl;
+  followed = λ lawful. follows-itself (meaning_of g.M.MergeOperator.combine g.T.BlockTransformer.encoded g.T.BlockTransformer.decoded c.args.env.now.operator c.args.env.now.transformer) [] c.new-session.result (g.S.Store.acts c.args.env.now.store.now)
+      (begins (meaning_of g.M.MergeOperator.combine g.T.BlockTransformer.encoded g.T.BlockTransformer.decoded c.args.env.now.operator c.args.env.now.transformer) c.args.options.now (Some []) c.new-session.result (record { lawful = lawful; empty = refl }) c.new-session.ensures.settings c.new-session.ensures.events c.new-session.ensures.kept).settled;
   source_later = omega arith;
   sink_later = omega arith;
   source_still = refl;
@@ -81,7 +92,7 @@ returns-in_err-line-clause-complete g c script is formed premises no-read no-wri
     let at = c.loop-session.invariant.told script is in
     let told = c.in_err-line.ensures.told at.left at.rest in
     let by = reader-error c.next.new.self told.0 c.in_err-line.field-0.0 at told.2 (λ h. c.in_err-line.ensures.too_long (ap Err h)) c.in_err-line.ensures.cause in
-    rw (p.1, p.2) (inl (reader-complete script c.in_err-line.field-0.0 by c.in_err-line.ensures.cause formed (λ h. no-read (rose-from _ _ _ c.loop-session.invariant.source_later (c.in_err-line.ensures.read_fault (ap Err h)).0))))
+    rw (p.1, p.2) (reader-complete script c.in_err-line.field-0.0 by c.in_err-line.ensures.cause formed (λ h. no-read (rose-from _ _ _ c.loop-session.invariant.source_later (c.in_err-line.ensures.read_fault (ap Err h)).0)))
 
 pub returns-in_err-line-clause-by_script : goal.returns-in_err-line-clause-by_script
 returns-in_err-line-clause-by_script g c script before is told-is premises =
@@ -137,6 +148,12 @@ returns-in_err-line-clause-taken g c script is =
 
 -- ---- at a line that isn't answered
 
+-- no limit ended the line
+its-cause : (g : given.Over) (c : goal.After-drop-lines-inside-in_err-answer_line-2 g) → LineError (c.loop-session.number + 1) c.as_slice.result.now c.in_err-answer_line.field-0.0
+its-cause g c =
+    line-cause c.loop-session.session c.loop-session.number c.loop-session.lines.given c.in_err-answer_line.field-0.0 c.loop-session.invariant.weighs c.loop-session.invariant.loads c.loop-session.invariant.counted c.loop-session.invariant.within
+    c.in_err-answer_line.ensures.cause
+
 pub returns-in_err-answer_line-clause-source_still : goal.returns-in_err-answer_line-clause-source_still
 returns-in_err-answer_line-clause-source_still g c = inr (unless-error c.in_ok-line.field-0 ReadFault c.in_ok-line.ensures.still ∙ c.loop-session.invariant.source_still)
 
@@ -149,28 +166,28 @@ pub returns-in_err-answer_line-clause-too_long : goal.returns-in_err-answer_line
 returns-in_err-answer_line-clause-too_long g c script is long =
     let p = err_from_is_err_and c.from_residual-in_err-answer_line.result c.from_residual-in_err-answer_line.ensures.1 in
     let kind : c.in_err-answer_line.field-0.0 ≡ ScriptTooLong = same-error c.in_err-answer_line.field-0.0 ScriptTooLong c.from_residual-in_err-answer_line.result (p.1 ∙ ap Err p.2) long in
-    absurd (line-not-long (c.loop-session.number + 1) c.as_slice.result.now c.in_err-answer_line.field-0.0 c.in_err-answer_line.ensures.cause kind)
+    absurd (line-not-long (c.loop-session.number + 1) c.as_slice.result.now c.in_err-answer_line.field-0.0 (its-cause g c) kind)
 
 pub returns-in_err-answer_line-clause-error : goal.returns-in_err-answer_line-clause-error
 returns-in_err-answer_line-clause-error g c script is =
     let p = err_from_is_err_and c.from_residual-in_err-answer_line.result c.from_residual-in_err-answer_line.ensures.1 in
     let took = took-told (λ v. v.items) c.in_ok-line.field-0 c.in-Some.line c.as_slice.result.now (g.R.Source.left c.next.new.source) c.next.new.self c.in_ok-line.ensures.told c.in_ok-line.ensures.within c.in-Some.is c.as_slice.ensures.value (c.loop-session.invariant.told script is) in
-    rw (p.1, p.2) (line-error c.in_err-answer_line.field-0.0 took c.in_err-answer_line.ensures.cause)
+    rw (p.1, p.2) (line-error c.in_err-answer_line.field-0.0 took (its-cause g c))
 
 pub returns-in_err-answer_line-clause-complete : goal.returns-in_err-answer_line-clause-complete
 returns-in_err-answer_line-clause-complete g c script is formed premises no-read no-write no-store no-operator no-transformer =
     let p = err_from_is_err_and c.from_residual-in_err-answer_line.result c.from_residual-in_err-answer_line.ensures.1 in
     let took = took-told (λ v. v.items) c.in_ok-line.field-0 c.in-Some.line c.as_slice.result.now (g.R.Source.left c.next.new.source) c.next.new.self c.in_ok-line.ensures.told c.in_ok-line.ensures.within c.in-Some.is c.as_slice.ensures.value (c.loop-session.invariant.told script is) in
-    let by = line-error c.in_err-answer_line.field-0.0 took c.in_err-answer_line.ensures.cause in
-    rw (p.1, p.2) (memory-or-limit c.in_err-answer_line.field-0.0 (line-complete script c.as_slice.result.now (c.loop-session.number + 1) c.in_err-answer_line.field-0.0 by c.in_err-answer_line.ensures.cause formed (λ h. no-write (rose-from _ _ _ c.loop-session.invariant.sink_later (c.in_err-answer_line.ensures.write_fault (ap Err h)).0)))
-    (λ part. part-limit (counts_of (g.S.Store.faults c.loop-session.env.store.now) g.M.MergeOperator.faults g.T.BlockTransformer.faults c.loop-session.env.operator c.loop-session.env.transformer) (counts_of (g.S.Store.faults c.answer_line.new.env.store.now) g.M.MergeOperator.faults g.T.BlockTransformer.faults c.answer_line.new.env.operator c.answer_line.new.env.transformer) c.in_err-answer_line.field-0.0 (λ h. no-store (rose-from _ _ _ c.loop-session.invariant.parts_later.store h)) (λ h. no-operator (rose-from _ _ _ c.loop-session.invariant.parts_later.operator h)) (λ h. no-transformer (rose-from _ _ _ c.loop-session.invariant.parts_later.transformer h))
+    let by = line-error c.in_err-answer_line.field-0.0 took (its-cause g c) in
+    rw (p.1, p.2) (only-memory c.in_err-answer_line.field-0.0 (line-complete script c.as_slice.result.now (c.loop-session.number + 1) c.in_err-answer_line.field-0.0 by (its-cause g c) formed (λ h. no-write (rose-from _ _ _ c.loop-session.invariant.sink_later (c.in_err-answer_line.ensures.write_fault (ap Err h)).0)))
+    (λ part. no-part (counts_of (g.S.Store.faults c.loop-session.env.store.now) g.M.MergeOperator.faults g.T.BlockTransformer.faults c.loop-session.env.operator c.loop-session.env.transformer) (counts_of (g.S.Store.faults c.answer_line.new.env.store.now) g.M.MergeOperator.faults g.T.BlockTransformer.faults c.answer_line.new.env.operator c.answer_line.new.env.transformer) c.in_err-answer_line.field-0.0 (λ h. no-store (rose-from _ _ _ c.loop-session.invariant.parts_later.store h)) (λ h. no-operator (rose-from _ _ _ c.loop-session.invariant.parts_later.operator h)) (λ h. no-transformer (rose-from _ _ _ c.loop-session.invariant.parts_later.transformer h))
     (c.in_err-answer_line.ensures.undamaged (meaning_of g.M.MergeOperator.combine g.T.BlockTransformer.encoded g.T.BlockTransformer.decoded c.args.env.now.operator c.args.env.now.transformer) (run_rules c.args.options.now (meaning_of g.M.MergeOperator.combine g.T.BlockTransformer.encoded g.T.BlockTransformer.decoded c.args.env.now.operator c.args.env.now.transformer)) (c.loop-session.invariant.running premises)) part (c.in_err-answer_line.ensures.part part)))
 
 pub returns-in_err-answer_line-clause-by_script : goal.returns-in_err-answer_line-clause-by_script
 returns-in_err-answer_line-clause-by_script g c script before is told-is premises =
     let p = err_from_is_err_and c.from_residual-in_err-answer_line.result c.from_residual-in_err-answer_line.ensures.1 in
     let took = took-told (λ v. v.items) c.in_ok-line.field-0 c.in-Some.line c.as_slice.result.now (g.R.Source.left c.next.new.source) c.next.new.self c.in_ok-line.ensures.told c.in_ok-line.ensures.within c.in-Some.is c.as_slice.ensures.value (c.loop-session.invariant.told script is) in
-    rw (p.1, p.2) (λ by. line-script (g.W.Sink.content c.answer_line.new.sink) before c.in_err-answer_line.field-0.0 took c.in_err-answer_line.ensures.cause c.in_err-answer_line.ensures.unanswered premises told-is by)
+    rw (p.1, p.2) (λ by. line-script (g.W.Sink.content c.answer_line.new.sink) before c.in_err-answer_line.field-0.0 took (its-cause g c) c.in_err-answer_line.ensures.unanswered premises told-is by)
 
 pub returns-in_err-answer_line-clause-by_sink : goal.returns-in_err-answer_line-clause-by_sink
 returns-in_err-answer_line-clause-by_sink g c script before is told-is premises fault =
@@ -223,12 +240,18 @@ returns-in_err-answer_line-clause-parts_later g c = later-on c.loop-session.inva
 pub returns-in_err-answer_line-clause-kinds : goal.returns-in_err-answer_line-clause-kinds
 returns-in_err-answer_line-clause-kinds g c =
     let p = err_from_is_err_and c.from_residual-in_err-answer_line.result c.from_residual-in_err-answer_line.ensures.1 in
-    rw (p.1, p.2) (line-kinds (c.loop-session.number + 1) c.as_slice.result.now c.in_err-answer_line.field-0.0 c.in_err-answer_line.ensures.cause)
+    rw (p.1, p.2) (line-kinds (c.loop-session.number + 1) c.as_slice.result.now c.in_err-answer_line.field-0.0 (its-cause g c))
 
 pub returns-in_err-answer_line-clause-taken : goal.returns-in_err-answer_line-clause-taken
 returns-in_err-answer_line-clause-taken g c script is =
     let took = took-told (λ v. v.items) c.in_ok-line.field-0 c.in-Some.line c.as_slice.result.now (g.R.Source.left c.next.new.source) c.next.new.self c.in_ok-line.ensures.told c.in_ok-line.ensures.within c.in-Some.is c.as_slice.ensures.value (c.loop-session.invariant.told script is) in
     line-read took c.in_ok-line.ensures.within
+
+pub returns-in_err-answer_line-clause-untrue : goal.returns-in_err-answer_line-clause-untrue
+returns-in_err-answer_line-clause-untrue g c lawful =
+    let p = err_from_is_err_and c.from_residual-in_err-answer_line.result c.from_residual-in_err-answer_line.ensures.1 in
+    rw (p.1, p.2) (λ damage. untrue-on (meaning_of g.M.MergeOperator.combine g.T.BlockTransformer.encoded g.T.BlockTransformer.decoded c.args.env.now.operator c.args.env.now.transformer) c.loop-session.session (g.S.Store.acts c.args.env.now.store.now) (g.S.Store.acts c.loop-session.env.store.now) (g.S.Store.acts c.answer_line.new.env.store.now) (c.loop-session.invariant.followed lawful)
+    (subst (λ (m : Meaning). (os : Objects) → IsSettled m (Some os) c.loop-session.session → IsUntrue os (g.S.Store.acts c.loop-session.env.store.now) (g.S.Store.acts c.answer_line.new.env.store.now)) c.loop-session.invariant.meaning (λ os settled. c.in_err-answer_line.ensures.untrue os settled damage)))
 
 -- ---- the next turn
 
@@ -245,8 +268,16 @@ loop-session-preserved g c = record {
       let further : c.loop-session.lines.given < c.next.new.self.given = subst (λ o. IfSome o (λ _. c.loop-session.lines.given < c.next.new.self.given)) c.in-Some.is c.in_ok-line.ensures.further in
       omega (arith, c.loop-session.invariant.counted);
   within = omega (arith, c.in_ok-line.ensures.within);
+  weighs = omega (arith, c.in_ok-answer_line.ensures.grows.0, c.loop-session.invariant.weighs);
+  loads =
+      let taken : c.loop-session.lines.given + length c.in-Some.line.items ≤ c.next.new.self.given = subst (λ o. IfSome o (λ l. c.loop-session.lines.given + length l.items ≤ c.next.new.self.given)) c.in-Some.is c.in_ok-line.ensures.counted in
+      let line : length c.as_slice.result.now ≡ length c.in-Some.line.items = ap length c.as_slice.ensures.value in
+      omega (arith, c.in_ok-answer_line.ensures.grows.1, c.loop-session.invariant.loads, taken, line);
   running = λ premises. c.in_ok-answer_line.ensures.running (meaning_of g.M.MergeOperator.combine g.T.BlockTransformer.encoded g.T.BlockTransformer.decoded c.args.env.now.operator c.args.env.now.transformer) (run_rules c.args.options.now (meaning_of g.M.MergeOperator.combine g.T.BlockTransformer.encoded g.T.BlockTransformer.decoded c.args.env.now.operator c.args.env.now.transformer)) (c.loop-session.invariant.running premises);
   alone = λ premises. c.in_ok-answer_line.ensures.alone (meaning_of g.M.MergeOperator.combine g.T.BlockTransformer.encoded g.T.BlockTransformer.decoded c.args.env.now.operator c.args.env.now.transformer) (run_rules c.args.options.now (meaning_of g.M.MergeOperator.combine g.T.BlockTransformer.encoded g.T.BlockTransformer.decoded c.args.env.now.operator c.args.env.now.transformer)) (c.loop-session.invariant.running premises) (c.loop-session.invariant.alone premises);
+  meaning = c.in_ok-answer_line.ensures.meaning ∙ c.loop-session.invariant.meaning;
+  followed = λ lawful. follows-on (meaning_of g.M.MergeOperator.combine g.T.BlockTransformer.encoded g.T.BlockTransformer.decoded c.args.env.now.operator c.args.env.now.transformer) c.loop-session.session c.answer_line.new.session (g.S.Store.acts c.args.env.now.store.now) (g.S.Store.acts c.loop-session.env.store.now) (g.S.Store.acts c.answer_line.new.env.store.now) (c.loop-session.invariant.followed lawful)
+      (subst (λ (m : Meaning). (os : Objects) → IsSettled m (Some os) c.loop-session.session → Follows m os c.answer_line.new.session (g.S.Store.acts c.loop-session.env.store.now) (g.S.Store.acts c.answer_line.new.env.store.now)) c.loop-session.invariant.meaning c.in_ok-answer_line.ensures.follows);
   source_later = omega (arith, c.next.ensures.later);
   sink_later = omega (arith, c.answer_line.ensures.later);
   source_still = unless-error c.in_ok-line.field-0 ReadFault c.in_ok-line.ensures.still ∙ c.loop-session.invariant.source_still;

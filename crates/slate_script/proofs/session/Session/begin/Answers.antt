@@ -1,4 +1,4 @@
-use Rattle.std.proofs.Common.{◌≡◌, cond, Some, None, is_some, Ok, refl, sym, subst, ap, ◌∙◌}
+use Rattle.std.proofs.Common.{arith, ◌≡◌, cond, Some, None, is_some, Ok, refl, sym, subst, ap, ◌∙◌}
 use Rattle.std.specs.Map.{lookup}
 use Rattle.std.specs.BTreeMap.{is_at}
 use Rattle.slate_types.specs.Keys.{key_cmp}
@@ -8,11 +8,12 @@ use Rattle.slate_txn.specs.declared.line.Line.TheVariants as lines
 use Rattle.slate_db.specs.Meaning.{rules_of}
 use Rattle.slate_script.specs.declared.reply.Answer.TheVariants as answers
 use Rattle.slate_script.specs.declared.reply.Refusal.TheVariants as refusals
-use Rattle.slate_script.specs.Session.{SessionModel, AreNames, AnswersAs, StoresNothing}
+use Rattle.slate_script.specs.Session.{SessionModel, AreNames, AnswersAs, Grows, StoresNothing}
 use Rattle.slate_script.proofs.NamesLaws.{find_named-lookup, named-after, none-found}
 use Rattle.slate_script.proofs.SessionNames.{opens-fresh, names-begun, names-opened}
 use Rattle.slate_script.proofs.SessionSteps.{IsNamed, named-by, begin-refused, begin-opens, plain-meaning}
 use Rattle.slate_script.proofs.SessionLeaves.{leaves-event, stores}
+use Rattle.slate_script.proofs.Growth.{grows, takes-event, opened-more}
 use Rattle.slate_script.proofs.session.Session.begin.Goals as goal
 
 pub returns-then-contains_key-clause-step : goal.returns-then-contains_key-clause-step
@@ -54,3 +55,12 @@ returns-clause-stores c =
     subst (λ (v : SessionModel). StoresNothing v (record before { core = c.begin.new.self; names = c.insert.new.self.entries })) c.self.view_is
     (stores before c.begin.new.self c.insert.new.self.entries before.now
     (leaves-event c.self.inside.core c.begin.new.self (events.Begin c.in_ok-id.id c.args.level c.in_ok-id.start) c.in_ok-id.ensures.event refl) c.in_ok-id.ensures.kept)
+
+pub returns-clause-grows : goal.returns-clause-grows
+returns-clause-grows c =
+    let before : SessionModel = record { core = c.self.inside.core; names = c.self.inside.names.entries; now = c.self.inside.now } in
+    subst (λ (v : SessionModel). Grows (lines.Begin c.args.name c.args.level) v (record before { core = c.begin.new.self; names = c.insert.new.self.entries })) c.self.view_is
+    (grows before c.begin.new.self c.insert.new.self.entries before.now (lines.Begin c.args.name c.args.level) 0 (omega arith)
+    (takes-event c.self.inside.core c.begin.new.self (events.Begin c.in_ok-id.id c.args.level c.in_ok-id.start) c.in_ok-id.ensures.event
+    (opened-more (rules_of c.self.inside.core.settings plain-meaning) c.self.inside.core.state c.begin.new.self.state c.in_ok-id.id c.args.level c.in_ok-id.start
+    (opens-fresh (rules_of c.self.inside.core.settings plain-meaning) c.self.inside.core.state c.begin.new.self.state c.in_ok-id.id c.args.level c.in_ok-id.start (c.in_ok-id.ensures.step plain-meaning)))))

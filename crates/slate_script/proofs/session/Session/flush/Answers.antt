@@ -1,8 +1,8 @@
-use Rattle.std.proofs.Common.{◌≡◌, Ok, refl, ap, sym, subst, arith}
+use Rattle.std.proofs.Common.{◌≡◌, ◌⊎◌, Some, Ok, refl, ap, sym, subst, arith}
 use Rattle.std.proofs.lemmas.Result.{err_from_is_err_and}
 use Rattle.slate_types.specs.declared.error.SlateDBError.TheVariants.{LimitReached}
 use Rattle.slate_types.specs.Faults.{faults_of}
-use Rattle.slate_types.specs.Outside.{Counts}
+use Rattle.slate_types.specs.Outside.{Counts, IsOuter}
 use Rattle.slate_store.specs.Env.{combine_of}
 use Rattle.slate_table.specs.SectionReading.{changed_by}
 use Rattle.slate_txn.specs.declared.line.Line.TheVariants as lines
@@ -11,11 +11,13 @@ use Rattle.slate_db.specs.Installs.{tables_of}
 use Rattle.slate_db.specs.Parts.{meaning_of, counts_of}
 use Rattle.slate_db.specs.Whole.{LIMIT}
 use Rattle.slate_script.specs.declared.reply.Answer.TheVariants as answers
-use Rattle.slate_script.specs.Session.{SessionModel, AnswersAs, HasTablesAlone, IsSettled}
+use Rattle.slate_script.specs.Session.{SessionModel, AnswersAs, Grows, HasTablesAlone, IsLimit, IsSettled}
 use Rattle.slate_script.proofs.SessionParts.{parts-same, flush-cause, untouched, has-room}
 use Rattle.slate_script.proofs.SessionSteps.{flush-as}
 use Rattle.slate_script.proofs.SessionStores.{flush-settled}
 use Rattle.slate_script.proofs.TablesAlone.{flush-alone}
+use Rattle.slate_script.proofs.ToldLaws.{follows-flush}
+use Rattle.slate_script.proofs.Growth.{grows, takes-flushed}
 use Rattle.slate_script.proofs.session.Session.flush.Goals as goal
 
 pub returns-clause-step : goal.returns-clause-step
@@ -74,4 +76,23 @@ returns-in_err-seq-clause-cause g c =
     let p = err_from_is_err_and c.from_residual.result c.from_residual.ensures.1 in
     let before : Counts = counts_of (g.S.Store.faults c.args.env.now.store.now) g.M.MergeOperator.faults g.T.BlockTransformer.faults c.args.env.now.operator c.args.env.now.transformer in
     let after : Counts = counts_of (g.S.Store.faults c.flush.new.env.store.now) g.M.MergeOperator.faults g.T.BlockTransformer.faults c.flush.new.env.operator c.flush.new.env.transformer in
-    rw (p.1, p.2) (flush-cause before after _ c.self.inside.core LIMIT _ c.in_err-seq.ensures.cause)
+    rw (p.1, p.2) (subst (λ (v : SessionModel). IsOuter before after c.in_err-seq.field-0.0 ⊎ IsLimit v c.in_err-seq.field-0.0) c.self.view_is
+    (flush-cause before after (layout_of c.args.options.now) (record { core = c.self.inside.core; names = c.self.inside.names.entries; now = c.self.inside.now }) c.in_err-seq.field-0.0 c.in_err-seq.ensures.cause))
+
+pub returns-clause-grows : goal.returns-clause-grows
+returns-clause-grows g c =
+    let before : SessionModel = record { core = c.self.inside.core; names = c.self.inside.names.entries; now = c.self.inside.now } in
+    subst (λ (v : SessionModel). Grows lines.Flush v (record before { core = c.flush.new.self })) c.self.view_is
+    (grows before c.flush.new.self before.names before.now lines.Flush 0 (omega arith)
+    (takes-flushed _ _ c.self.inside.core c.in_ok-seq.ensures.installed.0 c.flush.new.self c.in_ok-seq.seq _ _ c.in_ok-seq.ensures.installed.1 c.in_ok-seq.ensures.installed.2 c.in_ok-seq.ensures.taken.0 c.in_ok-seq.ensures.taken.1))
+
+pub returns-clause-follows : goal.returns-clause-follows
+returns-clause-follows g c os settled =
+    let before : SessionModel = record { core = c.self.inside.core; names = c.self.inside.names.entries; now = c.self.inside.now } in
+    let m = meaning_of g.M.MergeOperator.combine g.T.BlockTransformer.encoded g.T.BlockTransformer.decoded c.args.env.now.operator c.args.env.now.transformer in
+    let went : c.flush.result ≡ Ok c.in_ok-seq.seq = grind (arith, c.branch-seq.ensures, c.in_ok-seq.is) in
+    follows-flush m (changed_by g.T.BlockTransformer.encoded c.args.env.now.transformer) _ os _ _ before c.in_ok-seq.ensures.installed.0 c.flush.new.self c.in_ok-seq.seq (g.S.Store.acts c.args.env.now.store.now) (g.S.Store.acts c.flush.new.env.store.now)
+    c.in_ok-seq.ensures.installed.1 c.in_ok-seq.ensures.installed.2 c.in_ok-seq.ensures.acts
+    (has-room LIMIT _ _ _ c.flush.result c.in_ok-seq.seq (LimitReached LIMIT) went c.flush.ensures.limit)
+    (c.flush.ensures.kept m refl)
+    (subst (λ (v : SessionModel). IsSettled m (Some os) v) (sym c.self.view_is) settled)

@@ -1,9 +1,10 @@
-use Rattle.std.proofs.Common.{Ok, subst}
+use Rattle.std.proofs.Common.{arith, Ok, subst}
 use Rattle.slate_txn.specs.declared.line.Line.TheVariants as lines
 use Rattle.slate_script.specs.declared.reply.Answer.TheVariants as answers
-use Rattle.slate_script.specs.Session.{SessionModel, AnswersAs, StoresNothing}
+use Rattle.slate_script.specs.Session.{SessionModel, AnswersAs, Grows, StoresNothing}
 use Rattle.slate_script.proofs.SessionSteps.{freeze-as}
 use Rattle.slate_script.proofs.SessionLeaves.{leaves-frozen, stores}
+use Rattle.slate_script.proofs.Growth.{grows, takes-frozen}
 use Rattle.slate_script.proofs.session.Session.freeze.Goals as goal
 
 pub returns-clause-step : goal.returns-clause-step
@@ -17,3 +18,9 @@ returns-clause-stores c =
     let before : SessionModel = record { core = c.self.inside.core; names = c.self.inside.names.entries; now = c.self.inside.now } in
     subst (λ (v : SessionModel). StoresNothing v (record before { core = c.freeze.new.self })) c.self.view_is
     (stores before c.freeze.new.self before.names before.now (leaves-frozen c.self.inside.core c.freeze.new.self c.in_ok-seq.ensures.event) c.in_ok-seq.ensures.kept)
+
+pub returns-clause-grows : goal.returns-clause-grows
+returns-clause-grows c =
+    let before : SessionModel = record { core = c.self.inside.core; names = c.self.inside.names.entries; now = c.self.inside.now } in
+    subst (λ (v : SessionModel). Grows lines.Freeze v (record before { core = c.freeze.new.self })) c.self.view_is
+    (grows before c.freeze.new.self before.names before.now lines.Freeze 0 (omega arith) (takes-frozen c.self.inside.core c.freeze.new.self c.in_ok-seq.ensures.event))

@@ -1,4 +1,4 @@
-use Rattle.std.proofs.Common.{◌≡◌, ℕ, List, Option, None, Ok, refl, sym, subst, ◌∙◌}
+use Rattle.std.proofs.Common.{◌≡◌, ℕ, List, Option, Some, None, Ok, refl, sym, subst, ◌∙◌, arith}
 use Rattle.std.proofs.lemmas.Result.{err_from_is_err_and}
 use Rattle.slate_types.specs.Outside.{Counts}
 use Rattle.slate_store.specs.Env.{combine_of}
@@ -13,11 +13,12 @@ use Rattle.slate_db.specs.Model.{CoreModel}
 use Rattle.slate_db.specs.Parts.{meaning_of, counts_of}
 use Rattle.slate_script.specs.declared.reply.Answer.TheVariants as answers
 use Rattle.slate_script.specs.declared.reply.Refusal.TheVariants as refusals
-use Rattle.slate_script.specs.Session.{SessionModel, AreNames, AnswersAs, IsSettled}
+use Rattle.slate_script.specs.Session.{SessionModel, AreNames, AnswersAs, Grows, IsSettled}
 use Rattle.slate_script.proofs.NamesLaws.{find_named-lookup}
 use Rattle.slate_script.proofs.SessionNames.{names-noted}
 use Rattle.slate_script.proofs.SessionParts.{parts-same, get-cause, get-outer}
 use Rattle.slate_script.proofs.SessionSteps.{get-refused, get-found}
+use Rattle.slate_script.proofs.Growth.{as-many, grows, takes-noted}
 use Rattle.slate_script.proofs.session.Session.get.Goals as goal
 
 -- the meaning is that of the parts
@@ -80,3 +81,20 @@ returns-in_err-row-clause-undamaged g c settled =
     let first : Counts = counts_of (g.S.Store.faults c.args.env.now.store.now) g.M.MergeOperator.faults g.T.BlockTransformer.faults c.args.env.now.operator c.args.env.now.transformer in
     let after : Counts = counts_of (g.S.Store.faults c.get-2.new.env.store.now) g.M.MergeOperator.faults g.T.BlockTransformer.faults c.get-2.new.env.operator c.get-2.new.env.transformer in
     rw (p.1, p.2) (get-outer first after _ (c.in_err-row.ensures.whole m has-parts here.lawful here.kept here.tables.holds))
+
+pub returns-clause-grows : goal.returns-clause-grows
+returns-clause-grows g c =
+    let before : SessionModel = record { core = c.self.inside.core; names = c.self.inside.names.entries; now = c.self.inside.now } in
+    subst (λ (v : SessionModel). Grows (lines.Get c.args.name c.args.key) v (record before { core = c.get-2.new.self })) c.self.view_is
+    (grows before c.get-2.new.self before.names before.now (lines.Get c.args.name c.args.key) 0 (omega arith)
+    (takes-noted c.self.inside.core c.get-2.new.self _ c.in_ok-row.ensures.noted (as-many c.in-Some.id.now _ c.self.inside.core.state.txns)))
+
+pub returns-in_err-row-clause-truthful : goal.returns-in_err-row-clause-truthful
+returns-in_err-row-clause-truthful g c os settled answers =
+    let before : SessionModel = record { core = c.self.inside.core; names = c.self.inside.names.entries; now = c.self.inside.now } in
+    let m = meaning_of g.M.MergeOperator.combine g.T.BlockTransformer.encoded g.T.BlockTransformer.decoded c.args.env.now.operator c.args.env.now.transformer in
+    let here : IsSettled m (Some os) before = subst (λ (v : SessionModel). IsSettled m (Some os) v) (sym c.self.view_is) settled in
+    let p = err_from_is_err_and c.from_residual.result c.from_residual.ensures.1 in
+    let first : Counts = counts_of (g.S.Store.faults c.args.env.now.store.now) g.M.MergeOperator.faults g.T.BlockTransformer.faults c.args.env.now.operator c.args.env.now.transformer in
+    let after : Counts = counts_of (g.S.Store.faults c.get-2.new.env.store.now) g.M.MergeOperator.faults g.T.BlockTransformer.faults c.get-2.new.env.operator c.get-2.new.env.transformer in
+    rw (p.1, p.2) (get-outer first after _ (c.in_err-row.ensures.truthful m os has-parts here.lawful here.kept here.tables.holds answers))

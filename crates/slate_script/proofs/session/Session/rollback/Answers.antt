@@ -1,4 +1,4 @@
-use Rattle.std.proofs.Common.{◌≡◌, None, Ok, List, ℕ, refl, sym, subst, ◌∙◌}
+use Rattle.std.proofs.Common.{◌≤◌, length, arith, ◌≡◌, None, Ok, List, ℕ, refl, sym, subst, ◌∙◌}
 use Rattle.slate_txn.specs.Named.{find_named}
 use Rattle.slate_txn.specs.State.{State}
 use Rattle.slate_txn.specs.declared.event.Event.TheVariants as events
@@ -6,11 +6,12 @@ use Rattle.slate_txn.specs.declared.line.Line.TheVariants as lines
 use Rattle.slate_db.specs.Meaning.{rules_of}
 use Rattle.slate_script.specs.declared.reply.Answer.TheVariants as answers
 use Rattle.slate_script.specs.declared.reply.Refusal.TheVariants as refusals
-use Rattle.slate_script.specs.Session.{SessionModel, AreNames, AnswersAs, StoresNothing}
+use Rattle.slate_script.specs.Session.{SessionModel, AreNames, AnswersAs, Grows, StoresNothing}
 use Rattle.slate_script.proofs.NamesLaws.{find_named-lookup, named-after}
 use Rattle.slate_script.proofs.SessionNames.{closes, names-closed}
 use Rattle.slate_script.proofs.SessionSteps.{rollback-refused, rollback-closes, plain-meaning}
 use Rattle.slate_script.proofs.SessionLeaves.{leaves-event, stores}
+use Rattle.slate_script.proofs.Growth.{grows, takes-event, fewer}
 use Rattle.slate_script.proofs.session.Session.rollback.Goals as goal
 
 pub returns-in_default-clause-step : goal.returns-in_default-clause-step
@@ -46,3 +47,13 @@ returns-clause-stores c =
     let before : SessionModel = record { core = c.self.inside.core; names = c.self.inside.names.entries; now = c.self.inside.now } in
     subst (λ (v : SessionModel). StoresNothing v (record before { core = c.rollback.new.self; names = c.remove.new.self.entries })) c.self.view_is
     (stores before c.rollback.new.self c.remove.new.self.entries before.now (leaves-event c.self.inside.core c.rollback.new.self (events.End c.in-Some.id) c.rollback.ensures.event refl) c.rollback.ensures.kept)
+
+pub returns-clause-grows : goal.returns-clause-grows
+returns-clause-grows c =
+    let before : SessionModel = record { core = c.self.inside.core; names = c.self.inside.names.entries; now = c.self.inside.now } in
+    let few : length c.rollback.new.self.state.txns ≤ length c.self.inside.core.state.txns =
+    subst (λ (s : State). length s.txns ≤ length c.self.inside.core.state.txns) (sym (closes (rules_of c.self.inside.core.settings plain-meaning) c.self.inside.core.state c.rollback.new.self.state c.in-Some.id (c.rollback.ensures.step plain-meaning)))
+    (fewer c.in-Some.id c.self.inside.core.state.txns) in
+    subst (λ (v : SessionModel). Grows (lines.Rollback c.args.name) v (record before { core = c.rollback.new.self; names = c.remove.new.self.entries })) c.self.view_is
+    (grows before c.rollback.new.self c.remove.new.self.entries before.now (lines.Rollback c.args.name) 0 (omega arith)
+    (takes-event c.self.inside.core c.rollback.new.self (events.End c.in-Some.id) c.rollback.ensures.event (omega (arith, few))))

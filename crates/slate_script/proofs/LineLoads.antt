@@ -1,0 +1,107 @@
+-- What a line adds to memory is no more than its bytes.
+use Rattle.std.proofs.Common.{◌≡◌, ℕ, suc, ◌+◌, ◌≤◌, inl, inr, List, [], ◌∷◌, ◌++◌, length, Some, ap, ◌∙◌, arith, codes}
+use Rattle.std.specs.List.{join_with_byte}
+use Rattle.std.proofs.lemmas.List.{length-append}
+use Rattle.std.proofs.lemmas.List.Sums.{sum_by-cons}
+use Rattle.slate_types.specs.declared.config.Ttl.{Ttl}
+use Rattle.slate_mem.specs.Batch.{Ops}
+use Rattle.slate_mem.specs.declared.WriteOp.{WriteOp}
+use Rattle.slate_mem.specs.declared.WriteOp.TheVariants as ops
+use Rattle.slate_txn.specs.declared.line.Line.{Line}
+use Rattle.slate_txn.specs.declared.line.Line.TheVariants as lines
+use Rattle.slate_db.specs.Load.{op_load, ops_load}
+use Rattle.slate_script.specs.Grammar.{AreOps, IsBytes, IsLine, IsOp, IsPair, Spells}
+use Rattle.slate_script.specs.Session.{line_load}
+use Rattle.slate_script.specs.Stage.{meaning}
+use Rattle.slate_script.specs.Text.{hex}
+use Rattle.slate_script.proofs.Answered.{built-line}
+
+-- the bytes of the tokens
+abbrev letters : List (List ℕ) → ℕ
+letters [] = 0
+letters (t ∷ ts) = length t + letters ts
+
+letters-both : (ts us : List (List ℕ)) → letters (ts ++ us) ≡ letters ts + letters us
+letters-both [] us = omega arith
+letters-both (t ∷ ts) us = let rest : letters (ts ++ us) ≡ letters ts + letters us = letters-both ts us in omega (arith, rest)
+
+joined : (ts : List (List ℕ)) → letters ts ≤ length (join_with_byte 32 ts)
+joined [] = omega arith
+joined (t ∷ []) = omega arith
+joined (t ∷ u ∷ us) =
+    let rest : letters (u ∷ us) ≤ length (join_with_byte 32 (u ∷ us)) = joined (u ∷ us) in
+    let all : length (t ++ (32 ∷ join_with_byte 32 (u ∷ us))) ≡ length t + suc (length (join_with_byte 32 (u ∷ us))) = length-append t (32 ∷ join_with_byte 32 (u ∷ us)) in
+    omega (arith, rest, all)
+
+digits : (v : List ℕ) → length v ≤ length (hex v)
+digits [] = omega arith
+digits (b ∷ bs) = let rest : length bs ≤ length (hex bs) = digits bs in omega (arith, rest)
+
+token : (t v : List ℕ) → IsBytes t v → length v + 1 ≤ length t
+token t v (inl (visible, is)) = let n : length t ≡ suc (length v) = ap length is in omega (arith, n)
+token t v (inr (bytes, is)) =
+    let n : length t ≡ 2 + length (hex v) = ap length is ∙ length-append (codes "0x") (hex v) in
+    let d : length v ≤ length (hex v) = digits v in
+    omega (arith, n, d)
+
+pair : (ts : List (List ℕ)) (k v : List ℕ) (ttl : Ttl) → IsPair ts k v ttl → 1 + (length k + length v) ≤ letters ts
+pair ts k v ttl (t, u, us, key, value, ttls, is) =
+    let a : length k + 1 ≤ length t = token t k key in
+    let b : length v + 1 ≤ length u = token u v value in
+    let n : letters ts ≡ length t + (length u + letters us) = ap letters is in
+    omega (arith, a, b, n)
+
+one-op : (ts : List (List ℕ)) (k : List ℕ) (op : WriteOp) → IsOp ts k op → op_load (k, op) ≤ letters ts
+one-op ts k (ops.Put v o) (us, is-pair, is) =
+    let p : 1 + (length k + length v) ≤ letters us = pair us k v o.ttl is-pair in
+    let n : letters ts ≡ length (codes "put") + letters us = ap letters is in
+    omega (arith, p, n)
+one-op ts k ops.Delete (t, key, is) =
+    let a : length k + 1 ≤ length t = token t k key in
+    let n : letters ts ≡ length (codes "delete") + (length t + 0) = ap letters is in
+    omega (arith, a, n)
+one-op ts k (ops.Merge v o) (us, is-pair, is) =
+    let p : 1 + (length k + length v) ≤ letters us = pair us k v o.ttl is-pair in
+    let n : letters ts ≡ length (codes "merge") + letters us = ap letters is in
+    omega (arith, p, n)
+
+all-ops : (ts : List (List ℕ)) (os : Ops) → AreOps ts os → ops_load os ≤ letters ts
+all-ops ts [] h = omega arith
+all-ops ts (o ∷ os) (us, vs, first, rest, is) =
+    let a : op_load o ≤ letters us = one-op us o.0 o.1 first in
+    let b : ops_load os ≤ letters vs = all-ops vs os rest in
+    let n : letters ts ≡ letters us + letters vs = ap letters is ∙ letters-both us vs in
+    let s : ops_load (o ∷ os) ≡ op_load o + ops_load os = sum_by-cons op_load o os in
+    omega (arith, a, b, n, s)
+
+of-line : (ts : List (List ℕ)) (line : Line) → Spells ts line → line_load line ≤ letters ts
+of-line ts (lines.Write batch) (us, are, is) =
+    let a : ops_load batch ≤ letters us = all-ops us batch are in
+    let n : letters ts ≡ length (codes "write") + letters us = ap letters is in
+    omega (arith, a, n)
+of-line ts (lines.Now m) is = omega arith
+of-line ts (lines.Begin name level) is = omega arith
+of-line ts (lines.Snapshot name) is = omega arith
+of-line ts (lines.Get name k) is = omega arith
+of-line ts (lines.Scan name order start end sts) is = omega arith
+of-line ts (lines.Prefix name order p start end sts) is = omega arith
+of-line ts (lines.Put name k v ttl) is = omega arith
+of-line ts (lines.Merge name k v ttl) is = omega arith
+of-line ts (lines.Delete name k) is = omega arith
+of-line ts (lines.Mark name ks) is = omega arith
+of-line ts (lines.Unmark name ks) is = omega arith
+of-line ts (lines.Commit name) is = omega arith
+of-line ts (lines.Rollback name) is = omega arith
+of-line ts lines.Freeze is = omega arith
+of-line ts lines.Flush is = omega arith
+of-line ts lines.Journal is = omega arith
+
+pub line-load : (l : List ℕ) (line : Line) → meaning l ≡ Some line → line_load line ≤ length l
+line-load l line h = by (built-line l line h).0
+  where
+    by : IsLine l line → line_load line ≤ length l
+    by (ts, spells, is) =
+        let a : line_load line ≤ letters ts = of-line ts line spells in
+        let b : letters ts ≤ length (join_with_byte 32 ts) = joined ts in
+        let n : length l ≡ length (join_with_byte 32 ts) = ap length is in
+        omega (arith, a, b, n)
