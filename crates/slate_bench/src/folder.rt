@@ -1,24 +1,39 @@
 //! Tables that are put into a folder again and again, while something else reads it.
 use crate::tables;
 use anyhow::Error;
-use slate_store::FileStore;
-use slate_table::TableStore;
-use slate_types::{RowEntry, Ulid};
+use slate_store::{FileStore, Store};
+use slate_table::{EncodedSsTable, TableStore};
+use slate_types::{RowEntry, SlateDBError, Ulid};
+use std::alloc::Global;
 
 /// How often each of two tables is put.
 const TIMES: u32 = 200;
 
 /// Puts two tables of unlike lengths below the folder: each alone, with the ids 2 and 3, and then both in turn with the id 1.
 pub fn write(rt: &HostRuntime, folder: &str, rows: &[RowEntry]) -> Result<(), Error> {
-    let alloc = rt.alloc();
+    let mut store = FileStore::new(rt.alloc(), rt, folder)?;
+    put_both(rt.alloc(), &mut store, rows)?;
+    Ok(())
+}
+
+fn put_both<S: Store>(alloc: Global, store: &mut S, rows: &[RowEntry]) -> Result<(), SlateDBError> {
     let short = tables::build(alloc, &rows[..rows.len().min(100)], 2)?;
     let long = tables::build(alloc, &rows[..rows.len().min(10_000)], 1)?;
-    let mut store = FileStore::new(alloc, rt, folder)?;
-    TableStore::put_table(alloc, &mut store, tables::ROOT, Ulid(2), &short)?;
-    TableStore::put_table(alloc, &mut store, tables::ROOT, Ulid(3), &long)?;
+    put(alloc, store, Ulid(2), &short)?;
+    put(alloc, store, Ulid(3), &long)?;
     for _ in 0..TIMES {
-        TableStore::put_table(alloc, &mut store, tables::ROOT, Ulid(1), &short)?;
-        TableStore::put_table(alloc, &mut store, tables::ROOT, Ulid(1), &long)?;
+        put(alloc, store, Ulid(1), &short)?;
+        put(alloc, store, Ulid(1), &long)?;
     }
+    Ok(())
+}
+
+fn put<S: Store>(
+    alloc: Global,
+    store: &mut S,
+    id: Ulid,
+    table: &EncodedSsTable,
+) -> Result<(), SlateDBError> {
+    TableStore::put_table(alloc, store, tables::ROOT, id, table)?;
     Ok(())
 }

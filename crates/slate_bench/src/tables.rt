@@ -41,23 +41,62 @@ impl BlockTransformer for Plain {
 
 /// Builds the table of the rows, stores it and reads all of it, and reports both. `version` is 1 or 2.
 pub fn measure(report: &Report, rows: &[RowEntry], version: u16) -> Result<(), Error> {
+    let mut store = MemoryStore::new(report.alloc(), Vec::new(report.alloc()));
+    // The table stands until it was read, beside its bytes in the store.
+    let (_table, handle) = measure_building(report, &mut store, rows, version)?;
+    measure_reading(report, &mut store, &handle, version)
+}
+
+fn measure_building<S: Store>(
+    report: &Report,
+    store: &mut S,
+    rows: &[RowEntry],
+    version: u16,
+) -> Result<(EncodedSsTable, SsTableHandle), Error> {
     let alloc = report.alloc();
-    let mut store = MemoryStore::new(alloc, Vec::new(alloc));
     let start = report.start()?;
     let table = build(alloc, rows, version)?;
-    let handle = TableStore::put_table(alloc, &mut store, ROOT, Ulid(1), &table)?;
-    let done = format!(in alloc;
-        "{} rows, {} bytes",
-        rows.len(),
-        table.remaining_as_bytes()?.len()
+    let (handle, done) = put(alloc, store, &table, rows.len())?;
+    report.finish(
+        version_of(alloc, "build table", version)?.as_str(),
+        &done,
+        start,
     )?;
-    report.finish(&format!(in alloc; "build table v{version}")?, &done, start)?;
+    Ok((table, handle))
+}
 
+/// Stores the table, and says what was done.
+fn put<S: Store>(
+    alloc: Global,
+    store: &mut S,
+    table: &EncodedSsTable,
+    rows: usize,
+) -> Result<(SsTableHandle, String), SlateDBError> {
+    let handle = TableStore::put_table(alloc, store, ROOT, Ulid(1), table)?;
+    let len = table.remaining_as_bytes()?.len();
+    Ok((handle, format!(in alloc; "{rows} rows, {len} bytes")?))
+}
+
+fn measure_reading<S: Store>(
+    report: &Report,
+    store: &mut S,
+    handle: &SsTableHandle,
+    version: u16,
+) -> Result<(), Error> {
+    let alloc = report.alloc();
     let start = report.start()?;
-    let sums = read(alloc, &mut store, &handle)?;
-    let done = sums.text(alloc)?;
-    report.finish(&format!(in alloc; "read table v{version}")?, &done, start)?;
+    let done = read(alloc, store, handle)?.text(alloc)?;
+    report.finish(
+        version_of(alloc, "read table", version)?.as_str(),
+        &done,
+        start,
+    )?;
     Ok(())
+}
+
+/// The work's name, with the version.
+fn version_of(alloc: Global, work: &str, version: u16) -> Result<String, Error> {
+    Ok(format!(in alloc; "{work} v{version}")?)
 }
 
 /// The table of the rows, in blocks of 4 KiB. `version` is 1 or 2. Refuses by `EmptyBlock` where there is no row, and as `add` does.
