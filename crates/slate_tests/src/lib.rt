@@ -6,11 +6,7 @@ mod block_iterators;
 #[cfg(test)]
 mod blocks;
 #[cfg(test)]
-mod built_tables;
-#[cfg(test)]
-mod flushes;
-#[cfg(test)]
-mod index;
+mod listing;
 #[cfg(test)]
 mod lists;
 #[cfg(test)]
@@ -26,11 +22,15 @@ mod read_tables;
 #[cfg(test)]
 mod rows;
 #[cfg(test)]
+mod rows_today;
+#[cfg(test)]
 mod runs;
 #[cfg(test)]
 mod stored_runs;
 #[cfg(test)]
 mod stores;
+#[cfg(test)]
+mod streams;
 #[cfg(test)]
 mod tables;
 #[cfg(test)]

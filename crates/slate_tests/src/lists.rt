@@ -1,38 +1,52 @@
-// What a transcript and a journal take with ample memory.
+// What a transcript, a journal and lists take with ample memory.
 use bytes::Bytes;
 use slate_txn::event::{Event, Transcript, TranscriptStep};
 use slate_txn::journal::Journal;
 use slate_txn::line::{ScanStep, StepList};
 use slate_txn::list::{KeyList, TableList};
 use slate_types::{SlateDBError, Ulid};
+use std::alloc::Global;
 
-#[test]
-fn transcript_takes_a_step(rt: HostRuntime) -> Result<(), SlateDBError> {
-    let mut transcript = Transcript::new(rt.alloc());
-    let key = Bytes::copy_from_slice(rt.alloc(), b"key")?;
+fn steps(alloc: Global) -> Result<usize, SlateDBError> {
+    let mut transcript = Transcript::new(alloc);
+    let key = Bytes::from_static(b"key");
     transcript.push(TranscriptStep::Get { key, answer: None })?;
-    assert_eq!(rt; transcript.as_slice().len(), 1);
-    Ok(())
+    Ok(transcript.as_slice().len())
 }
 
-#[test]
-fn journal_takes_an_event(rt: HostRuntime) -> Result<(), SlateDBError> {
-    let mut journal = Journal::new(rt.alloc());
+fn events(alloc: Global) -> Result<usize, SlateDBError> {
+    let mut journal = Journal::new(alloc);
     journal.reserve(1)?;
     journal.push_reserved(Event::Freeze);
-    assert_eq!(rt; journal.len(), 1);
-    Ok(())
+    Ok(journal.len())
+}
+
+fn copied_keys(alloc: Global) -> Result<usize, SlateDBError> {
+    let keys = KeyList::from_vec(vec![in alloc; Bytes::from_static(b"key")]?);
+    Ok(keys.clone()?.as_slice().len())
+}
+
+fn copied_steps(alloc: Global) -> Result<usize, SlateDBError> {
+    let steps = StepList::from_vec(vec![in alloc; ScanStep::Rows(3)]?);
+    Ok(steps.clone()?.as_slice().len())
+}
+
+fn copied_tables(alloc: Global) -> Result<usize, SlateDBError> {
+    let table = (Ulid(7), Bytes::from_static(b"table"));
+    let tables = TableList::from_vec(vec![in alloc; table]?);
+    Ok(tables.clone()?.as_slice().len())
 }
 
 #[test]
-fn lists_are_copied(rt: HostRuntime) -> Result<(), SlateDBError> {
+fn lists_take_and_are_copied(rt: HostRuntime) -> Result<(), SlateDBError> {
     let alloc = rt.alloc();
-    let keys = KeyList::from_vec(vec![in alloc; Bytes::from_static(b"key")]?).clone()?;
-    assert!(rt; keys.as_slice() == [Bytes::from_static(b"key")].as_slice());
-    let steps = StepList::from_vec(vec![in alloc; ScanStep::Rows(3)]?).clone()?;
-    assert!(rt; matches!(steps.as_slice(), [ScanStep::Rows(3)]));
-    let table = (Ulid(7), Bytes::from_static(b"table"));
-    let tables = TableList::from_vec(vec![in alloc; table]?).clone()?;
-    assert!(rt; matches!(tables.as_slice(), [(Ulid(7), _)]));
+    let counts = [
+        steps(alloc)?,
+        events(alloc)?,
+        copied_keys(alloc)?,
+        copied_steps(alloc)?,
+        copied_tables(alloc)?,
+    ];
+    assert!(rt; counts.iter().all(|count| *count == 1));
     Ok(())
 }

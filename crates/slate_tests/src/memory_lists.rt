@@ -1,24 +1,45 @@
-// A sorted list of rows answers as a table of rows in memory does, and batches are walked.
+// A sorted list of rows and a table of rows in memory have the same contract, and answer the same.
+ghost use Rattle.std.specs.Prelude.{◌≡◌, ◌++◌, List, ℕ, filter, length, OnOk, OnErr, IfOk, IsOkUnless};
+ghost use Rattle.slate_types.specs.declared.error.SlateDBError.{SlateDBError};
+ghost use Rattle.slate_types.specs.Iteration.{IsInOrder};
+ghost use Rattle.slate_types.specs.Keys.{key_cmp};
+ghost use Rattle.slate_types.specs.Rows.{sequenced, sequenced_cmp};
+ghost use Rattle.slate_mem.specs.Table.{no_rows, put_row, of_key, ranged, newest};
 
 use bytes::Bytes;
-use slate_mem::{MemTable, WriteBatch, WriteBatchIterator};
+use slate_mem::MemTable;
 use slate_types::{
     BytesRange, IterationOrder, RowEntry, RowsIterator, SlateDBError, ValueDeletable, collect_rows,
 };
 use std::alloc::Global;
 use std::cmp::Ordering;
 use std::collections::BTreeSet;
+use std::marker::Model;
 use std::ops::Bound;
 
-/// Rows in one list, by key upwards, and by sequence downwards within a key.
+/// Rows in one list, by key upwards, and by sequence downwards within a key. It records no prefixes.
 #[derive(Drop)]
-struct SortedRows {
+pub struct SortedRows {
     alloc: Global,
     rows: Vec<RowEntry>,
 }
 
+impl Model for SortedRows {
+    ghost use Rattle.std.specs.Prelude.{[]};
+    ghost use Rattle.slate_mem.specs.Table.{MemTableModel};
+    ghost use Rattle.slate_tests.specs.SortedRows.{Rises};
+
+    ghost Value = { MemTableModel };
+
+    ghost view = { λ l. record { rows = l.rows.items; segments = [] } };
+
+    ghost invariant = { λ l. Rises l.rows.items };
+}
+
 impl SortedRows {
-    fn new(alloc: Global) -> SortedRows {
+    fn new(alloc: Global) -> SortedRows
+        ensures { result ≡ no_rows }
+    {
         SortedRows {
             alloc,
             rows: Vec::new(alloc),
@@ -26,49 +47,130 @@ impl SortedRows {
     }
 
     /// Puts a row, in place of one of the same key and sequence.
-    fn put(&mut self, row: RowEntry) -> Result<(), SlateDBError> {
-        match self.rows.binary_search_by(|held| place_cmp(held, &row)) {
-            Ok(at) => self.rows[at] = row,
-            Err(at) => self.rows.insert(at, row)?,
-        }
+    fn put(&mut self, row: RowEntry) -> Result<(), SlateDBError>
+        ensures rows { OnOk result (self.new.rows ≡ put_row self.old.rows row) }
+        ensures same { OnErr result (self.new ≡ self.old) }
+        ensures cause { IsOkUnless result SlateDBError.OutOfMemory }
+    {
+        put_in_place(&mut self.rows, row)?;
         Ok(())
     }
 
     /// The rows of the key with sequences of at most `max_seq`, to the first that is no merge.
-    fn rows_of_key(&self, key: &Bytes, max_seq: u64) -> Result<Vec<RowEntry>, SlateDBError> {
-        let mut found = Vec::new(self.alloc);
-        for row in &self.rows {
-            if row.key == *key && row.seq <= max_seq {
-                found.push(row.clone()?)?;
-                if !matches!(row.value, ValueDeletable::Merge(_)) {
-                    return Ok(found);
-                }
-            }
-        }
-        Ok(found)
+    fn rows_of_key(&self, key: &Bytes, max_seq: u64) -> Result<Vec<RowEntry>, SlateDBError>
+        ensures rows { IfOk result (λ rows. rows.items ≡ newest key.now max_seq self.now.rows) }
+        ensures cause { IsOkUnless result SlateDBError.OutOfMemory }
+    {
+        newest_in(self.alloc, self.rows.as_slice(), key, max_seq)
     }
 
     /// The rows whose keys are in the range, keys in the order.
-    fn range(
-        &self,
-        range: &BytesRange,
-        order: IterationOrder,
-    ) -> Result<RowsIterator, SlateDBError> {
-        let mut found = Vec::new(self.alloc);
-        for row in &self.rows {
-            if range.contains(row.key.as_slice()) {
-                found.push(row.clone()?)?;
-            }
-        }
-        if order == IterationOrder::Descending {
-            found.sort_by(|a, b| b.key.cmp(&a.key))?;
-        }
-        Ok(RowsIterator::new(found, order))
+    fn range(&self, range: &BytesRange, order: IterationOrder) -> Result<RowsIterator, SlateDBError>
+        ensures rows { IfOk result (λ it. (k : List ℕ) → of_key k it.rows ≡ of_key k (ranged range.now self.now.rows)) }
+        ensures in_order { IfOk result (λ it. IsInOrder order it.rows) }
+        ensures order { IfOk result (λ it. it.order ≡ order) }
+        ensures cause { IsOkUnless result SlateDBError.OutOfMemory }
+    {
+        let rows = rows_in(self.alloc, self.rows.as_slice(), range)?;
+        let rows = ordered(rows, order)?;
+        Ok(RowsIterator::new(rows, order))
     }
 }
 
-fn place_cmp(a: &RowEntry, b: &RowEntry) -> Ordering {
+fn place_cmp(a: &RowEntry, b: &RowEntry) -> Ordering
+    ensures { result ≡ sequenced_cmp (sequenced a.now) (sequenced b.now) }
+{
     a.key.cmp(&b.key).then(b.seq.cmp(&a.seq))
+}
+
+// Puts a row before the first that it comes before, or over its like.
+#[tactic(auto, using(crate::proofs::SortedRowsLaws::put_at_equal))]
+fn put_in_place(rows: &mut Vec<RowEntry>, row: RowEntry) -> Result<(), SlateDBError>
+    ensures put { OnOk result (rows.new.items ≡ put_row rows.old.items row) }
+    ensures same { OnErr result (rows.new.items ≡ rows.old.items) }
+    ensures cause { IsOkUnless result SlateDBError.OutOfMemory }
+{
+    let mut at = 0;
+    while at < rows.len() {
+        match place_cmp(&row, &rows[at]) {
+            Ordering::Less => break,
+            Ordering::Equal => {
+                rows[at] = row;
+                return Ok(());
+            }
+            Ordering::Greater => at += 1,
+        }
+    }
+    rows.insert(at, row)?;
+    Ok(())
+}
+
+fn newest_in(
+    alloc: Global,
+    rows: &[RowEntry],
+    key: &Bytes,
+    max_seq: u64,
+) -> Result<Vec<RowEntry>, SlateDBError>
+    ensures rows { IfOk result (λ found. found.items ≡ newest key.now max_seq rows.now) }
+    ensures cause { IsOkUnless result SlateDBError.OutOfMemory }
+{
+    let mut found = Vec::new(alloc);
+    for row in rows {
+        if row.key == *key && row.seq <= max_seq {
+            found.push(row.clone()?)?;
+            if !matches!(row.value, ValueDeletable::Merge(_)) {
+                return Ok(found);
+            }
+        }
+    }
+    Ok(found)
+}
+
+fn rows_in(
+    alloc: Global,
+    rows: &[RowEntry],
+    range: &BytesRange,
+) -> Result<Vec<RowEntry>, SlateDBError>
+    ensures rows { IfOk result (λ found. found.items ≡ ranged range.now rows.now) }
+    ensures cause { IsOkUnless result SlateDBError.OutOfMemory }
+{
+    let mut found = Vec::new(alloc);
+    for row in rows {
+        if range.contains(row.key.as_slice()) {
+            found.push(row.clone()?)?;
+        }
+    }
+    Ok(found)
+}
+
+// Rows whose keys ascend, in the order.
+fn ordered(mut rows: Vec<RowEntry>, order: IterationOrder) -> Result<Vec<RowEntry>, SlateDBError>
+    requires { IsInOrder IterationOrder.Ascending rows.items }
+    ensures keys { IfOk result (λ all. (k : List ℕ) → of_key k all.items ≡ of_key k rows.items) }
+    ensures in_order { IfOk result (λ all. IsInOrder order all.items) }
+    ensures cause { IsOkUnless result SlateDBError.OutOfMemory }
+{
+    match order {
+        IterationOrder::Ascending => Ok(rows),
+        IterationOrder::Descending => {
+            fall(&mut rows)?;
+            Ok(rows)
+        }
+    }
+}
+
+// Sorts rows by key downwards. Those of a key stay in their order.
+fn fall(rows: &mut Vec<RowEntry>) -> Result<(), SlateDBError>
+    ensures keys { OnOk result ((k : List ℕ) → of_key k rows.new.items ≡ of_key k rows.old.items) }
+    ensures in_order { OnOk result (IsInOrder IterationOrder.Descending rows.new.items) }
+    ensures cause { IsOkUnless result SlateDBError.OutOfMemory }
+{
+    rows.sort_by(
+        |a, b| -> Ordering
+            ensures { result ≡ key_cmp b.now.key a.now.key }
+        { b.key.cmp(&a.key) },
+    )?;
+    Ok(())
 }
 
 // The rows that are put in turn: key, sequence, what it is, and its bytes. The last writes over one.
@@ -113,7 +215,7 @@ fn put_both(
 }
 
 // The table and the list that took the puts.
-fn both(alloc: Global) -> Result<(MemTable, SortedRows), SlateDBError> {
+pub fn both(alloc: Global) -> Result<(MemTable, SortedRows), SlateDBError> {
     let mut table = MemTable::new(alloc);
     let mut list = SortedRows::new(alloc);
     for (key, seq, kind, bytes) in PUTS {
@@ -146,61 +248,46 @@ fn are_same_in(
     Ok(rows == collect_rows(alloc, &mut listed, &mut ())?)
 }
 
-#[test]
-fn keys_have_the_same_rows(rt: HostRuntime) -> Result<(), SlateDBError> {
-    let alloc = rt.alloc();
-    let (table, list) = both(alloc)?;
+fn are_same_in_both_orders(
+    alloc: Global,
+    table: &MemTable,
+    list: &SortedRows,
+    bounds: (Bound<&[u8]>, Bound<&[u8]>),
+) -> Result<bool, SlateDBError> {
+    let range = BytesRange::from_slice(alloc, bounds.0, bounds.1)?;
+    let up = are_same_in(alloc, table, list, &range, IterationOrder::Ascending)?;
+    Ok(up && are_same_in(alloc, table, list, &range, IterationOrder::Descending)?)
+}
+
+fn are_same_up_to(
+    alloc: Global,
+    table: &MemTable,
+    list: &SortedRows,
+    max_seq: u64,
+) -> Result<bool, SlateDBError> {
     for key in [b"a", b"k", b"l", b"m", b"n"] {
-        let key = Bytes::from_static(key);
-        for max_seq in [0, 2, 3, 5, u64::MAX] {
-            assert!(rt; are_same_at(alloc, &table, &list, &key, max_seq)?);
+        if !are_same_at(alloc, table, list, &Bytes::from_static(key), max_seq)? {
+            return Ok(false);
         }
     }
-    Ok(())
+    Ok(true)
 }
 
 #[test]
-fn ranges_have_the_same_rows(rt: HostRuntime) -> Result<(), SlateDBError> {
+fn a_list_has_the_same_rows(rt: HostRuntime) -> Result<(), SlateDBError> {
     let alloc = rt.alloc();
     let (table, list) = both(alloc)?;
+    for max_seq in [0, 2, 3, 5, u64::MAX] {
+        assert!(rt; are_same_up_to(alloc, &table, &list, max_seq)?);
+    }
     let bounds: [(Bound<&[u8]>, Bound<&[u8]>); 4] = [
         (Bound::Unbounded, Bound::Unbounded),
         (Bound::Included(b"k"), Bound::Included(b"l")),
         (Bound::Excluded(b"a"), Bound::Excluded(b"l")),
         (Bound::Excluded(b"k"), Bound::Unbounded),
     ];
-    for (start, end) in bounds {
-        let range = BytesRange::from_slice(alloc, start, end)?;
-        for order in [IterationOrder::Ascending, IterationOrder::Descending] {
-            assert!(rt; are_same_in(alloc, &table, &list, &range, order)?);
-        }
-    }
-    Ok(())
-}
-
-// What a batch of a put and a deletion gives below c, keys falling.
-fn walked(alloc: Global, now: Option<i64>) -> Result<Vec<RowEntry>, SlateDBError> {
-    let mut batch = WriteBatch::new(alloc);
-    batch.put(b"a", b"1")?;
-    batch.delete(b"b")?;
-    batch.put(b"c", b"3")?;
-    let range = BytesRange::from_slice(alloc, Bound::Unbounded, Bound::Included(b"b"))?;
-    let order = IterationOrder::Descending;
-    let mut rows = WriteBatchIterator::new(alloc, &batch, &range, order, 7, now, None)?;
-    collect_rows(alloc, &mut rows, &mut ())
-}
-
-#[test]
-fn batches_are_walked(rt: HostRuntime) -> Result<(), SlateDBError> {
-    for now in [Some(40), None] {
-        let rows = walked(rt.alloc(), now)?;
-        assert_eq!(rt; rows.len(), 2);
-        let mut deletion = row(b"b", 7, 'd', b"");
-        deletion.create_ts = now;
-        assert!(rt; rows[0] == deletion);
-        let mut put = row(b"a", 7, 'v', b"1");
-        put.create_ts = now;
-        assert!(rt; rows[1] == put);
+    for bounds in bounds {
+        assert!(rt; are_same_in_both_orders(alloc, &table, &list, bounds)?);
     }
     Ok(())
 }

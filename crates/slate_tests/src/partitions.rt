@@ -5,10 +5,10 @@ ghost use Rattle.slate_types.specs.Keys.{key_cmp};
 use bytes::Bytes;
 use slate_types::{
     RangePartitionedKeySpace, first_partition_including_key,
-    first_partition_including_or_after_key, last_partition_including_key, partition_point,
+    first_partition_including_or_after_key, last_partition_including_key,
     partitions_covering_range,
 };
-use std::alloc::AllocError;
+use std::alloc::{AllocError, Global};
 use std::ops::Bound;
 use std::test::Fail;
 
@@ -39,50 +39,49 @@ impl RangePartitionedKeySpace for FirstKeys {
     }
 }
 
-#[test]
-fn partitions_are_found(rt: HostRuntime) -> Result<(), Fail> {
-    let mut keys = Vec::new(rt.alloc());
-    for key in [b"aaaa", b"bbbb"] {
-        keys.push(Bytes::from_static(key))?;
-    }
-    let space = FirstKeys::new(keys)?;
+// Whether each key is found where it should be: the first partition with it, the first with it or behind it, and the last with it.
+fn are_found<S: RangePartitionedKeySpace>(space: &S) -> bool {
     let cases: [(&[u8], Option<usize>, usize, Option<usize>); 4] = [
         (b"\x00\x00\x00", None, 0, None),
         (b"aaaa", Some(0), 0, Some(0)),
         (b"bbbb", Some(0), 0, Some(1)),
         (b"bbbbbla", Some(1), 1, Some(1)),
     ];
+    let mut are_found = true;
     for (key, first, after, last) in cases {
-        assert!(rt;
-            first_partition_including_key(&space, key) == first,
-            "at {key:?}"
-        );
-        assert_eq!(rt;
-            first_partition_including_or_after_key(&space, key),
-            after,
-            "at {key:?}"
-        );
-        assert!(rt;
-            last_partition_including_key(&space, key) == last,
-            "at {key:?}"
-        );
+        are_found = are_found
+            && first_partition_including_key(space, key) == first
+            && first_partition_including_or_after_key(space, key) == after
+            && last_partition_including_key(space, key) == last;
     }
-    assert_eq!(rt; partition_point(&space, |_| true), 2);
-    let covering = partitions_covering_range(
-        &space,
-        Bound::Included(b"aaaa"),
-        Bound::Excluded(b"bbbb"),
+    are_found
+}
+
+// Whether the first partition alone covers the keys from aaaa to bbbb.
+fn is_covered<S: RangePartitionedKeySpace>(space: &S) -> bool {
+    let (start, end) = (
+        Bound::Included(b"aaaa".as_slice()),
+        Bound::Excluded(b"bbbb".as_slice()),
     );
-    assert!(rt; covering == (0..1));
-    Ok(())
+    partitions_covering_range(space, start, end) == (0..1)
+}
+
+fn are_searched<S: RangePartitionedKeySpace>(space: &S) -> bool {
+    are_found(space) && is_covered(space)
+}
+
+fn two_keys(alloc: Global) -> Result<FirstKeys, AllocError> {
+    let mut keys = Vec::new(alloc);
+    for key in [b"aaaa", b"bbbb"] {
+        keys.push(Bytes::from_static(key))?;
+    }
+    FirstKeys::new(keys)
 }
 
 #[test]
-fn no_partition_is_found(rt: HostRuntime) -> Result<(), Fail> {
-    let space = FirstKeys::new(Vec::new(rt.alloc()))?;
-    assert!(rt; first_partition_including_key(&space, b"aaaa").is_none());
-    assert!(rt; last_partition_including_key(&space, b"aaaa").is_none());
-    let covering = partitions_covering_range(&space, Bound::Unbounded, Bound::Unbounded);
-    assert!(rt; covering.is_empty());
+fn partitions_are_found(rt: HostRuntime) -> Result<(), Fail> {
+    let space = two_keys(rt.alloc())?;
+    let is_well = are_searched(&space);
+    assert!(rt; is_well);
     Ok(())
 }

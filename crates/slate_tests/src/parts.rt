@@ -1,15 +1,14 @@
-// An operator of one's own, and the program's transformer.
+// An operator of one's own.
 ghost use Rattle.slate_tests.specs.Parts.{appended, appended-short};
 
 use bytes::Bytes;
-use slate_script::parts::Xor;
-use slate_types::{BlockTransformer, MergeOperator, MergeOperatorError, TransformError};
+use slate_types::{MergeOperator, MergeOperatorError};
 use std::alloc::Global;
 use std::test::Fail;
 
 // Appends, and keeps as much as a value holds.
 #[derive(Drop)]
-pub(crate) struct Concat;
+struct Concat;
 
 impl MergeOperator for Concat {
     ghost combine = { λ _ _. appended };
@@ -45,34 +44,12 @@ fn merged<M: MergeOperator>(
     operator.merge_batch(alloc, &Bytes::from_static(b"key"), existing, operands)
 }
 
-fn stored<T: BlockTransformer>(
-    alloc: Global,
-    transformer: &mut T,
-    bytes: Bytes,
-) -> Result<(Bytes, Bytes), TransformError> {
-    let encoded = transformer.encode(alloc, bytes)?;
-    let decoded = transformer.decode(alloc, encoded.clone()?)?;
-    Ok((encoded, decoded))
-}
-
 #[test]
 fn operands_are_merged(rt: HostRuntime) -> Result<(), Fail> {
     let operands = [Bytes::from_static(b"b"), Bytes::from_static(b"c")];
-    let base = Bytes::from_static(b"a");
-    let all = merged(rt.alloc(), &mut Concat, Some(&base), &operands)?;
-    assert!(rt; all.as_slice() == b"abc".as_slice());
-    let alone = merged(rt.alloc(), &mut Concat, None, &operands)?;
-    assert!(rt; alone.as_slice() == b"bc".as_slice());
-    let nothing = merged(rt.alloc(), &mut Concat, None, &[]);
-    assert!(rt; nothing == Err(MergeOperatorError::EmptyBatch));
-    Ok(())
-}
-
-#[test]
-fn bytes_are_transformed(rt: HostRuntime) -> Result<(), Fail> {
-    let bytes = Bytes::from_static(b"\x00\x0f\xff");
-    let (encoded, decoded) = stored(rt.alloc(), &mut Xor { mask: 255 }, bytes)?;
-    assert!(rt; encoded.as_slice() == b"\xff\xf0\x00".as_slice());
-    assert!(rt; decoded.as_slice() == b"\x00\x0f\xff".as_slice());
+    let all = merged(rt.alloc(), &mut Concat, None, &operands)?;
+    assert!(rt; all.as_slice() == b"bc".as_slice());
+    let base = merged(rt.alloc(), &mut Concat, Some(&all), &operands)?;
+    assert!(rt; base.as_slice() == b"bcbc".as_slice());
     Ok(())
 }

@@ -1,19 +1,18 @@
 // What readers answer of the table of one row, whole and damaged, and of one of two blocks.
-ghost use Rattle.std.specs.Prelude.{◌<◌, ◌^◌, None, length};
-ghost use Rattle.slate_block.specs.Building.{CanTake};
+ghost use Rattle.std.specs.Prelude.{◌≡◌, ◌+◌, true, length, OnOk};
 
-use crate::built_tables::{all_parts, one_row};
+use crate::blocks::is_short;
+use crate::listing::listed;
+use crate::tables::{all_parts, one_row};
 use bytes::Bytes;
-use slate_block::{Block, DataBlockIterator};
+use slate_block::Block;
 use slate_script::parts::Xor;
-use slate_store::{MemoryStore, PathText, Store, StoreError};
+use slate_store::{MemoryStore, Store};
 use slate_table::{
-    EncodedSsTable, EncodedSsTableBuilder, SsTableFormat, SsTableHandle, SstFile, SstIndex,
-    SstReader, TableStore,
+    EncodedSsTable, EncodedSsTableBuilder, SsTableFormat, SsTableHandle, SstFile, SstReader,
+    TableStore,
 };
-use slate_types::{
-    BlockFormat, BlockTransformer, IterationOrder, RowEntry, SlateDBError, Ulid, ValueDeletable,
-};
+use slate_types::{BlockFormat, BlockTransformer, RowEntry, SlateDBError, Ulid, ValueDeletable};
 use std::alloc::Global;
 use std::test::Fail;
 
@@ -39,76 +38,100 @@ const DAMAGES: [(usize, usize, u8, &str); 6] = [
     (182, 179, 168, "EmptyBlockMeta { len: 4 }"),
 ];
 
-// All that a reader answers of the table.
-fn all_of<S: Store>(
+// All that a reader answers of a file: its size, first and last key, count of rows, index and first block.
+fn all_of<S: Store, T: BlockTransformer>(
     alloc: Global,
-    store: S,
-    transformer: Option<Xor>,
+    reader: &mut SstReader<S, T>,
+    file: &SstFile,
 ) -> Result<String, SlateDBError> {
-    let mut reader = SstReader::new(alloc, "db", store, transformer)?;
-    let file = reader.open(alloc, ID)?;
-    let mut words = Vec::new(alloc);
-    let size = file.metadata(alloc, &mut reader)?.size;
-    words.push(format!(in alloc; "{size} bytes")?)?;
-    if let (Some(first), Some(last)) = (&file.info().first_entry, &file.info().last_entry) {
-        words.push(format!(in alloc; "{first:?} to {last:?}")?)?;
-    }
-    if let Some(stats) = file.stats(alloc, &mut reader)? {
-        words.push(format!(in alloc; "{} rows", stats.num_rows())?)?;
-    }
-    for (offset, separator) in file.index(alloc, &mut reader)?.iter() {
-        words.push(format!(in alloc; "{offset} from {separator:?}")?)?;
-    }
-    for row in file.read_block(alloc, &mut reader, 0)? {
-        words.push(format!(in alloc;
-            "{:?} {:?} {} {:?} {:?}",
-            row.key, row.value, row.seq, row.create_ts, row.expire_ts
-        )?)?;
-    }
-    Ok(words.join(alloc, ", ")?)
+    let size = file.metadata(alloc, reader)?.size;
+    let count = count_of(alloc, reader, file)?;
+    let index = index_of(alloc, reader, file)?;
+    let rows = rows_of(alloc, reader, file)?;
+    let ends = ends_of(alloc, file)?;
+    Ok(format!(in alloc; "{size} bytes, {ends}, {count} rows, {index}, {rows}")?)
 }
 
-// The same over a store in memory with these bytes at the table's path, or how it is refused. These calls of the store fail.
-fn answer(alloc: Global, bytes: &[u8], failing: Vec<u64>) -> Result<String, SlateDBError> {
-    let mut store = MemoryStore::new(alloc, failing);
-    store.put(alloc, PATH, bytes)?;
-    match all_of(alloc, store, None) {
+fn ends_of(alloc: Global, file: &SstFile) -> Result<String, SlateDBError> {
+    match (&file.info().first_entry, &file.info().last_entry) {
+        (Some(first), Some(last)) => Ok(format!(in alloc; "{first:?} to {last:?}")?),
+        _ => Ok(String::new(alloc)),
+    }
+}
+
+fn count_of<S: Store, T: BlockTransformer>(
+    alloc: Global,
+    reader: &mut SstReader<S, T>,
+    file: &SstFile,
+) -> Result<u64, SlateDBError> {
+    match file.stats(alloc, reader)? {
+        Some(stats) => Ok(stats.num_rows()),
+        None => Ok(0),
+    }
+}
+
+// Where the first block lies, and its separator.
+fn index_of<S: Store, T: BlockTransformer>(
+    alloc: Global,
+    reader: &mut SstReader<S, T>,
+    file: &SstFile,
+) -> Result<String, SlateDBError> {
+    match file.index(alloc, reader)?.get(0) {
+        Some((offset, separator)) => Ok(format!(in alloc; "{offset} from {separator:?}")?),
+        None => Ok(String::new(alloc)),
+    }
+}
+
+fn rows_of<S: Store, T: BlockTransformer>(
+    alloc: Global,
+    reader: &mut SstReader<S, T>,
+    file: &SstFile,
+) -> Result<String, SlateDBError> {
+    listed(alloc, &file.read_block(alloc, reader, 0)?)
+}
+
+// The same of the table over a store, or how it is refused.
+fn answer<S: Store, T: BlockTransformer>(
+    alloc: Global,
+    store: S,
+    transformer: Option<T>,
+) -> Result<String, SlateDBError> {
+    let mut reader = SstReader::new(alloc, "db", store, transformer)?;
+    let answered = match reader.open(alloc, ID) {
+        Ok(file) => all_of(alloc, &mut reader, &file),
+        Err(refusal) => Err(refusal),
+    };
+    match answered {
         Ok(text) => Ok(text),
         Err(refusal) => Ok(format!(in alloc; "{refusal:?}")?),
     }
+}
+
+// The same over a store in memory with these bytes at the table's path. This call of the store fails.
+fn answer_of(alloc: Global, bytes: &[u8], call: u64) -> Result<String, SlateDBError> {
+    let mut store = MemoryStore::new(alloc, vec![in alloc; call]?);
+    store.put(alloc, PATH, bytes)?;
+    let unchanged: Option<Xor> = None;
+    answer(alloc, store, unchanged)
+}
+
+// The table, cut to a length, with another byte at a place.
+fn damaged(alloc: Global, len: usize, at: usize, byte: u8) -> Result<Vec<u8>, SlateDBError> {
+    let mut bytes = all_parts(alloc)?;
+    if let Some(old) = bytes.get_mut(at) {
+        *old = byte;
+    }
+    bytes.truncate(len);
+    Ok(bytes)
 }
 
 #[test]
 fn damage_is_named(rt: HostRuntime) -> Result<(), Fail> {
     let alloc = rt.alloc();
     for (len, at, byte, expected) in DAMAGES {
-        let mut bytes = all_parts(alloc)?;
-        bytes[at] = byte;
-        bytes.truncate(len);
-        let answered = answer(alloc, &bytes, Vec::new(alloc))?;
-        assert_eq!(rt; answered.as_str(), expected);
-    }
-    let mut missing = MemoryStore::new(alloc, Vec::new(alloc));
-    missing.put(alloc, "db/compacted/other", b"")?;
-    assert!(rt;
-        matches!(
-            all_of(alloc, missing, None),
-            Err(SlateDBError::CorruptTable { place: 0 })
-        )
-    );
-    Ok(())
-}
-
-#[test]
-fn no_changed_byte_changes_an_answer(rt: HostRuntime) -> Result<(), Fail> {
-    let alloc = rt.alloc();
-    let whole = all_parts(alloc)?;
-    for at in 0..whole.len() {
-        let mut bytes = whole.clone()?;
-        bytes[at] ^= 0x11;
-        let answered = answer(alloc, &bytes, Vec::new(alloc))?;
+        let bytes = damaged(alloc, len, at, byte)?;
         assert!(rt;
-            answered.as_str() == ANSWERS || answered.as_str().contains(" { "),
+            answer_of(alloc, bytes.as_slice(), 0)?.as_str() == expected,
             "at {at}"
         );
     }
@@ -116,183 +139,53 @@ fn no_changed_byte_changes_an_answer(rt: HostRuntime) -> Result<(), Fail> {
 }
 
 #[test]
+fn no_changed_byte_changes_an_answer(rt: HostRuntime) -> Result<(), Fail> {
+    let alloc = rt.alloc();
+    let whole = all_parts(alloc)?;
+    for (at, byte) in whole.iter().enumerate() {
+        let bytes = damaged(alloc, whole.len(), at, *byte ^ 0x11)?;
+        let answered = answer_of(alloc, bytes.as_slice(), 0)?;
+        let is_well = answered.as_str() == ANSWERS || answered.as_str().contains(" { ");
+        assert!(rt; is_well, "at {at}");
+    }
+    Ok(())
+}
+
+// The first call puts the table.
+#[test]
 fn each_call_may_fail(rt: HostRuntime) -> Result<(), Fail> {
     let alloc = rt.alloc();
     let bytes = all_parts(alloc)?;
-    for call in 2..10 {
-        let answered = answer(alloc, &bytes, vec![in alloc; call]?)?;
-        assert_eq!(rt; answered.as_str(), "StoreFault", "at call {call}");
+    for call in 2..11 {
+        let expected = if call < 10 { "StoreFault" } else { ANSWERS };
+        let answered = answer_of(alloc, bytes.as_slice(), call)?;
+        assert!(rt; answered.as_str() == expected, "at call {call}");
     }
-    let answered = answer(alloc, &bytes, vec![in alloc; 10]?)?;
-    assert_eq!(rt; answered.as_str(), ANSWERS);
     Ok(())
 }
 
-// The calls of a table's store and of a file, of which nothing is said: what they answer is what the tests try.
-fn put_one<S: Store>(
+// The table in a store, its bytes changed.
+fn stored<S: Store, T: BlockTransformer>(
     alloc: Global,
-    store: &mut S,
-    transformer: &mut Option<Xor>,
-) -> Result<SsTableHandle, SlateDBError> {
+    mut store: S,
+    transformer: &mut Option<T>,
+) -> Result<S, SlateDBError> {
     let table = one_row(alloc, transformer)?;
-    TableStore::put_table(alloc, store, "db", ID, &table)
-}
-
-fn index_of<S: Store>(
-    alloc: Global,
-    store: &mut S,
-    handle: &SsTableHandle,
-) -> Result<SstIndex, SlateDBError> {
-    let mut unchanged: Option<Xor> = None;
-    TableStore::read_index(alloc, store, "db", handle, &mut unchanged)
-}
-
-// The first blocks, where the index has so many.
-fn blocks_of<S: Store>(
-    alloc: Global,
-    store: &mut S,
-    handle: &SsTableHandle,
-    index: &SstIndex,
-    count: usize,
-) -> Result<Vec<Block>, SlateDBError> {
-    let mut unchanged: Option<Xor> = None;
-    let all = 0..count.min(index.len());
-    TableStore::read_blocks(alloc, store, "db", handle, index, all, &mut unchanged)
-}
-
-fn file_of<S: Store, T: BlockTransformer>(
-    reader: &SstReader<S, T>,
-    handle: SsTableHandle,
-) -> SstFile {
-    reader.open_with_handle(handle)
-}
-
-fn block_at<S: Store, T: BlockTransformer>(
-    alloc: Global,
-    reader: &mut SstReader<S, T>,
-    file: &SstFile,
-    block: usize,
-) -> Result<Vec<RowEntry>, SlateDBError> {
-    file.read_block(alloc, reader, block)
+    TableStore::put_table(alloc, &mut store, "db", ID, &table)?;
+    Ok(store)
 }
 
 #[test]
-fn tables_are_read_back(rt: HostRuntime) -> Result<(), Fail> {
+fn changed_tables_are_read_back(rt: HostRuntime) -> Result<(), Fail> {
     let alloc = rt.alloc();
     let mut transformer = Some(Xor { mask: 255 });
-    let mut store = MemoryStore::new(alloc, Vec::new(alloc));
-    put_one(alloc, &mut store, &mut transformer)?;
-    assert_eq!(rt; store.len(alloc, PATH)?, Some(182));
-    assert_eq!(rt; all_of(alloc, store, transformer)?.as_str(), ANSWERS);
+    let store = MemoryStore::new(alloc, Vec::new(alloc));
+    let store = stored(alloc, store, &mut transformer)?;
+    assert!(rt; answer(alloc, store, transformer)?.as_str() == ANSWERS);
     Ok(())
 }
 
-#[test]
-fn a_handle_is_a_file(rt: HostRuntime) -> Result<(), Fail> {
-    let alloc = rt.alloc();
-    let mut unchanged: Option<Xor> = None;
-    let mut store = MemoryStore::new(alloc, Vec::new(alloc));
-    let handle = put_one(alloc, &mut store, &mut unchanged)?;
-    let mut reader = SstReader::new(alloc, "db", store, unchanged)?;
-    let file = file_of(&reader, handle);
-    assert_eq!(rt; (file.id(), file.info().stats_offset), (ID, 54));
-    assert_eq!(rt; block_at(alloc, &mut reader, &file, 0)?.len(), 1);
-    assert!(rt;
-        matches!(
-            block_at(alloc, &mut reader, &file, 1),
-            Err(SlateDBError::BlockOutOfRange {
-                block: 1,
-                blocks: 1
-            })
-        )
-    );
-    Ok(())
-}
-
-// A store of one object, whose answers lack their last byte.
-#[derive(Drop)]
-struct Short {
-    bytes: Bytes,
-}
-
-impl Store for Short {
-    ghost objects = { λ _. None };
-
-    ghost acts = { λ _. None };
-
-    ghost faults = { λ _. 0 };
-
-    fn put(&mut self, _alloc: Global, _path: &str, _bytes: &[u8]) -> Result<(), StoreError> {
-        Ok(())
-    }
-
-    fn read_range(
-        &mut self,
-        _alloc: Global,
-        _path: &str,
-        start: u64,
-        len: u64,
-    ) -> Result<Option<Bytes>, StoreError> {
-        let size = self.bytes.len();
-        let start = size.min(start as usize);
-        let end = size.min(start.saturating_add(len as usize));
-        let last = end.saturating_sub(1).max(start);
-        Ok(Some(self.bytes.slice(start..last)?))
-    }
-
-    fn len(&mut self, _alloc: Global, _path: &str) -> Result<Option<u64>, StoreError> {
-        Ok(Some(self.bytes.len() as u64))
-    }
-
-    fn list(&mut self, alloc: Global) -> Result<Vec<PathText>, StoreError> {
-        Ok(Vec::new(alloc))
-    }
-}
-
-// A range that isn't there in full.
-fn is_missing<T>(answer: &Result<T, SlateDBError>) -> bool {
-    matches!(answer, Err(SlateDBError::CorruptTable { place: 0 }))
-}
-
-// The table of one row in such a store, and its handle.
-fn shortened(alloc: Global) -> Result<(Short, SsTableHandle), SlateDBError> {
-    let mut unchanged: Option<Xor> = None;
-    let mut whole = MemoryStore::new(alloc, Vec::new(alloc));
-    let handle = put_one(alloc, &mut whole, &mut unchanged)?;
-    let bytes = one_row(alloc, &mut unchanged)?.remaining_as_bytes()?;
-    Ok((Short { bytes }, handle))
-}
-
-#[test]
-fn shortened_blocks_are_none(rt: HostRuntime) -> Result<(), Fail> {
-    let alloc = rt.alloc();
-    let mut unchanged: Option<Xor> = None;
-    let mut whole = MemoryStore::new(alloc, Vec::new(alloc));
-    let handle = put_one(alloc, &mut whole, &mut unchanged)?;
-    let index = index_of(alloc, &mut whole, &handle)?;
-    let (mut store, _handle) = shortened(alloc)?;
-    assert!(rt; is_missing(&blocks_of(alloc, &mut store, &handle, &index, 1)));
-    assert_eq!(rt; blocks_of(alloc, &mut whole, &handle, &index, 1)?.len(), 1);
-    Ok(())
-}
-
-#[test]
-fn shortened_parts_are_none(rt: HostRuntime) -> Result<(), Fail> {
-    let alloc = rt.alloc();
-    let (store, handle) = shortened(alloc)?;
-    let unchanged: Option<Xor> = None;
-    let mut reader = SstReader::new(alloc, "db", store, unchanged)?;
-    assert!(rt; is_missing(&reader.open(alloc, ID)));
-    let file = file_of(&reader, handle);
-    assert!(rt; is_missing(&file.index(alloc, &mut reader)));
-    assert!(rt; is_missing(&file.stats(alloc, &mut reader)));
-    Ok(())
-}
-
-fn put_of(key: &'static [u8]) -> RowEntry
-    requires { length key.now < 2 ^ 16 }
-    ensures lengths { CanTake result }
-{
+fn put_of(key: &'static [u8]) -> RowEntry {
     RowEntry {
         key: Bytes::from_static(key),
         value: ValueDeletable::Value(Bytes::from_static(b"value")),
@@ -302,8 +195,28 @@ fn put_of(key: &'static [u8]) -> RowEntry
     }
 }
 
+fn add<T: BlockTransformer>(
+    alloc: Global,
+    builder: &mut EncodedSsTableBuilder,
+    row: RowEntry,
+    transformer: &mut Option<T>,
+) -> Result<(), SlateDBError>
+    requires { builder.old.is_whole ≡ true }
+    ensures whole { OnOk result (builder.new.is_whole ≡ true) }
+    ensures rows { OnOk result (length builder.new.rows ≡ length builder.old.rows + 1) }
+{
+    if !is_short(&row) || !builder.follows(&row) {
+        return Err(SlateDBError::EmptyKey);
+    }
+    builder.add(alloc, row, transformer)?;
+    Ok(())
+}
+
 // A table of two rows in version 2, each in a block of its own.
-fn two_blocks(alloc: Global) -> Result<EncodedSsTable, SlateDBError> {
+fn two_blocks<T: BlockTransformer>(
+    alloc: Global,
+    transformer: &mut Option<T>,
+) -> Result<EncodedSsTable, SlateDBError> {
     let format = SsTableFormat {
         block_size: 1,
         min_filter_keys: 0,
@@ -311,37 +224,53 @@ fn two_blocks(alloc: Global) -> Result<EncodedSsTable, SlateDBError> {
         compression_codec: None,
     };
     let mut builder = EncodedSsTableBuilder::new(alloc, &format)?;
-    let mut unchanged: Option<Xor> = None;
-    builder.add(alloc, put_of(b"a"), &mut unchanged)?;
-    let second = put_of(b"b");
-    if !builder.follows(&second) {
-        return Err(SlateDBError::EmptyKey);
-    }
-    builder.add(alloc, second, &mut unchanged)?;
-    builder.build(alloc, &mut unchanged)
+    add(alloc, &mut builder, put_of(b"a"), transformer)?;
+    add(alloc, &mut builder, put_of(b"b"), transformer)?;
+    builder.build(alloc, transformer)
 }
 
-// The keys of the first rows of blocks in version 2.
-fn first_keys(alloc: Global, blocks: Vec<Block>) -> Result<String, SlateDBError> {
-    let mut keys = Vec::new(alloc);
-    for block in blocks {
-        let mut rows = DataBlockIterator::new(alloc, block, 2, IterationOrder::Ascending)?;
-        if let Some(row) = rows.next_row(alloc)? {
-            keys.push(format!(in alloc; "{:?}", row.key)?)?;
-        }
+fn put_two<S: Store, T: BlockTransformer>(
+    alloc: Global,
+    store: &mut S,
+    transformer: &mut Option<T>,
+) -> Result<SsTableHandle, SlateDBError> {
+    let table = two_blocks(alloc, transformer)?;
+    TableStore::put_table(alloc, store, "db", ID, &table)
+}
+
+fn all_blocks<S: Store, T: BlockTransformer>(
+    alloc: Global,
+    store: &mut S,
+    handle: &SsTableHandle,
+    transformer: &mut Option<T>,
+) -> Result<Vec<Block>, SlateDBError> {
+    let index = TableStore::read_index(alloc, store, "db", handle, transformer)?;
+    let all = 0..index.len();
+    TableStore::read_blocks(alloc, store, "db", handle, &index, all, transformer)
+}
+
+// The rows' parts of all blocks, one behind the other, once the table is put.
+fn read_blocks<S: Store, T: BlockTransformer>(
+    alloc: Global,
+    store: &mut S,
+    transformer: &mut Option<T>,
+) -> Result<Vec<u8>, SlateDBError> {
+    let handle = put_two(alloc, store, transformer)?;
+    let mut rows = Vec::new(alloc);
+    for block in all_blocks(alloc, store, &handle, transformer)? {
+        rows.extend_from_slice(block.body.as_slice())?;
     }
-    Ok(keys.join(alloc, ", ")?)
+    Ok(rows)
 }
 
 #[test]
 fn blocks_are_read_back(rt: HostRuntime) -> Result<(), Fail> {
     let alloc = rt.alloc();
     let mut store = MemoryStore::new(alloc, Vec::new(alloc));
-    let handle = TableStore::put_table(alloc, &mut store, "db", ID, &two_blocks(alloc)?)?;
-    let index = index_of(alloc, &mut store, &handle)?;
-    assert_eq!(rt; handle.format_version, 2);
-    assert_eq!(rt; index.len(), 2);
-    let blocks = blocks_of(alloc, &mut store, &handle, &index, 2)?;
-    assert_eq!(rt; first_keys(alloc, blocks)?.as_str(), "b\"a\", b\"b\"");
+    let mut unchanged: Option<Xor> = None;
+    let rows = read_blocks(alloc, &mut store, &mut unchanged)?;
+    let expected =
+        b"\x00\x01\x05avalue\x00\x00\x00\x00\x00\x00\x00\x01\x00\x00\x01\x05bvalue\x00\x00\x00\x00\x00\x00\x00\x01\x00";
+    assert!(rt; rows.as_slice() == expected.as_slice());
     Ok(())
 }

@@ -1,4 +1,5 @@
 // What stores answer: one in memory, and one over a folder.
+use bytes::Bytes;
 use slate_store::{FileStore, MemoryStore, Store, StoreError};
 use slate_types::SlateDBError;
 use std::alloc::Global;
@@ -24,11 +25,15 @@ const ANSWERS: &str =
 
 // What the calls answer that read, one behind the other.
 fn answers<S: Store>(alloc: Global, store: &mut S) -> Result<String, SlateDBError> {
-    store.put(alloc, "b/two", b"the old object")?;
-    store.put(alloc, "b/one", b"1")?;
-    store.put(alloc, "b-z", b"")?;
-    store.put(alloc, "a", b"")?;
-    store.put(alloc, "b/two", b"hello")?;
+    for (path, bytes) in [
+        ("b/two", "the old object"),
+        ("b/one", "1"),
+        ("b-z", ""),
+        ("a", ""),
+        ("b/two", "hello"),
+    ] {
+        store.put(alloc, path, bytes.as_bytes())?;
+    }
     let mut words = Vec::new(alloc);
     for (path, start, len) in RANGES {
         let range = store.read_range(alloc, path, start, len)?;
@@ -44,11 +49,27 @@ fn answers<S: Store>(alloc: Global, store: &mut S) -> Result<String, SlateDBErro
     Ok(words.join(alloc, " ")?)
 }
 
+// What a store answers of which the second call fails, the fourth and the fifth: which of these fail, and what is read at last.
+fn refused<S: Store>(
+    alloc: Global,
+    store: &mut S,
+) -> Result<([bool; 5], Option<Bytes>), SlateDBError> {
+    let failed = [
+        store.put(alloc, "a", b"old").is_err(),
+        store.put(alloc, "a", b"new").is_err(),
+        store.len(alloc, "a").is_err(),
+        store.read_range(alloc, "a", 0, 3).is_err(),
+        store.len(alloc, "a").is_err(),
+    ];
+    let object = store.read_range(alloc, "a", 0, 3)?;
+    Ok((failed, object))
+}
+
 #[test]
 fn keeps_objects_in_memory(rt: HostRuntime) -> Result<(), Fail> {
     let alloc = rt.alloc();
     let mut store = MemoryStore::new(alloc, Vec::new(alloc));
-    assert_eq!(rt; answers(alloc, &mut store)?.as_str(), ANSWERS);
+    assert!(rt; answers(alloc, &mut store)?.as_str() == ANSWERS);
     Ok(())
 }
 
@@ -56,41 +77,58 @@ fn keeps_objects_in_memory(rt: HostRuntime) -> Result<(), Fail> {
 fn fails_where_it_is_told_to(rt: HostRuntime) -> Result<(), Fail> {
     let alloc = rt.alloc();
     let mut store = MemoryStore::new(alloc, vec![in alloc; 2, 4, 5]?);
-    store.put(alloc, "a", b"old")?;
-    assert!(rt; store.put(alloc, "a", b"new") == Err(StoreError::Failed));
-    assert_eq!(rt; store.len(alloc, "a")?, Some(3));
-    assert!(rt; store.read_range(alloc, "a", 0, 3) == Err(StoreError::Failed));
-    assert!(rt; store.len(alloc, "a") == Err(StoreError::Failed));
-    let Some(object) = store.read_range(alloc, "a", 0, 3)? else {
-        return Err(Fail::from("no object"));
-    };
-    assert!(rt; object.as_slice() == b"old".as_slice());
+    let (failed, object) = refused(alloc, &mut store)?;
+    assert!(rt; failed == [false, true, false, true, true]);
+    assert!(rt; object == Some(Bytes::from_static(b"old")));
     Ok(())
+}
+
+// Whether each of these paths is refused.
+fn are_refused<S: Store>(alloc: Global, store: &mut S, paths: &[&str]) -> bool {
+    let mut are_refused = true;
+    for path in paths {
+        are_refused = are_refused && store.put(alloc, path, b"x") == Err(StoreError::Failed);
+    }
+    are_refused
+}
+
+fn count<S: Store>(alloc: Global, store: &mut S) -> Result<usize, SlateDBError> {
+    Ok(store.list(alloc)?.len())
+}
+
+// A folder that isn't there has no objects, and is not made by that.
+fn is_empty(rt: &HostRuntime) -> Result<bool, Fail> {
+    let mut store = FileStore::new(rt.alloc(), rt, FOLDER)?;
+    Ok(count(rt.alloc(), &mut store)? == 0 && !fs::exists(rt, FOLDER)?)
+}
+
+// What a store over the folder answers, and whether it refuses paths that are none and keeps its four objects.
+fn answers_in_a_folder(rt: &HostRuntime) -> Result<(String, bool), Fail> {
+    let mut store = FileStore::new(rt.alloc(), rt, FOLDER)?;
+    let text = answers(rt.alloc(), &mut store)?;
+    let paths = [
+        "", "/a", "../a", "b/../a", "b//one", "b/", "./a", "a.tmp", "a/b",
+    ];
+    let are_refused = are_refused(rt.alloc(), &mut store, &paths);
+    Ok((text, are_refused && count(rt.alloc(), &mut store)? == 4))
+}
+
+// Whether a folder is none that is a file.
+fn is_no_folder(rt: &HostRuntime) -> Result<bool, Fail> {
+    let mut store = FileStore::new(rt.alloc(), rt, "stores-objects/a")?;
+    Ok(are_refused(rt.alloc(), &mut store, &["x"]))
 }
 
 #[test]
 fn keeps_objects_in_a_folder(rt: HostRuntime) -> Result<(), Fail> {
-    let alloc = rt.alloc();
     if fs::exists(&rt, FOLDER)? {
         fs::remove_dir_all(&rt, FOLDER)?;
     }
-    let mut store = FileStore::new(alloc, &rt, FOLDER)?;
-    assert_eq!(rt; store.list(alloc)?.len(), 0);
-    assert!(rt; !fs::exists(&rt, FOLDER)?);
-    assert_eq!(rt; answers(alloc, &mut store)?.as_str(), ANSWERS);
+    assert!(rt; is_empty(&rt)?);
+    let (text, is_kept) = answers_in_a_folder(&rt)?;
+    assert!(rt; text.as_str() == ANSWERS && is_kept);
     assert!(rt; !fs::exists(&rt, "stores-objects/a.tmp")?);
-
-    for path in [
-        "", "/a", "../a", "b/../a", "b//one", "b/", "./a", "a.tmp", "a/b",
-    ] {
-        assert!(rt;
-            store.put(alloc, path, b"x") == Err(StoreError::Failed),
-            "at {path}"
-        );
-    }
-    let mut inner = FileStore::new(alloc, &rt, "stores-objects/a")?;
-    assert!(rt; inner.put(alloc, "x", b"x") == Err(StoreError::Failed));
-    assert_eq!(rt; store.list(alloc)?.len(), 4);
+    assert!(rt; is_no_folder(&rt)?);
     fs::remove_dir_all(&rt, FOLDER)?;
     Ok(())
 }

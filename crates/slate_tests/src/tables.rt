@@ -1,126 +1,109 @@
-// The parts of the table of one row, whose bytes were written elsewhere: a is 1, of sequence 1, made at moment 0.
+// A table of one row whose bytes were written elsewhere: a is 1, of sequence 1, made at moment 0. Its parts, and the whole.
 ghost use Rattle.std.specs.Prelude.{◌<◌};
 
 use bytes::Bytes;
-use slate_block::BlockStats;
+use slate_script::parts::Xor;
 use slate_table::section::{open_section, seal_section};
-use slate_table::{Footer, SsTableFormat, SsTableInfo, SstStats, checksum};
-use slate_types::{BlockFormat, BlockTransformer, SlateDBError, TransformError};
+use slate_table::separator::separator;
+use slate_table::{
+    EncodedSsTable, EncodedSsTableBuilder, Footer, SsTableFormat, SsTableInfo, SstStats, checksum,
+};
+use slate_types::{BlockFormat, BlockTransformer, RowEntry, SlateDBError, ValueDeletable};
 use std::alloc::Global;
 use std::test::Fail;
 
-const STATS: [u8; 50] = [
-    0, 0, 0, 0, 0, 0, 0, 1, 0, 0, 0, 0, 0, 0, 0, 0, 0, 0, 0, 0, 0, 0, 0, 0, 0, 0, 0, 0, 0, 0, 0, 1,
-    0, 0, 0, 0, 0, 0, 0, 1, 0, 0, 0, 1, 0, 1, 0, 0, 0, 0,
-];
+const BLOCK: &[u8] =
+    b"\x00\x00\x00\x01a\x00\x00\x00\x00\x00\x00\x00\x01\x04\x00\x00\x00\x00\x00\x00\x00\x00\x00\x00\x00\x011\x00\x00\x00\x01";
 
-const INFO: [u8; 60] = [
-    0, 1, 1, 0, 1, 0x61, 1, 0, 1, 0x61, 0, 0, 0, 0, 0, 0, 0, 35, 0, 0, 0, 0, 0, 0, 0, 19, 0, 0, 0,
-    0, 0, 0, 0, 35, 0, 0, 0, 0, 0, 0, 0, 0, 0, 0, 0, 0, 0, 0, 0, 54, 0, 0, 0, 0, 0, 0, 0, 54, 0, 1,
-];
+const INDEX: &[u8] = b"\x00\x00\x00\x01\x00\x00\x00\x00\x00\x00\x00\x00\x00\x01a";
 
-const FOOTER: [u8; 10] = [0, 0, 0, 0, 0, 0, 0, 108, 0, 1];
+const STATS: &[u8] =
+    b"\x00\x00\x00\x00\x00\x00\x00\x01\x00\x00\x00\x00\x00\x00\x00\x00\x00\x00\x00\x00\x00\x00\x00\x00\x00\x00\x00\x00\x00\x00\x00\x01\x00\x00\x00\x00\x00\x00\x00\x01\x00\x00\x00\x01\x00\x01\x00\x00\x00\x00";
 
-// No transformer is used.
-#[derive(Drop)]
-struct Plain;
+const INFO: &[u8] =
+    b"\x00\x01\x01\x00\x01a\x01\x00\x01a\x00\x00\x00\x00\x00\x00\x00\x23\x00\x00\x00\x00\x00\x00\x00\x13\x00\x00\x00\x00\x00\x00\x00\x23\x00\x00\x00\x00\x00\x00\x00\x00\x00\x00\x00\x00\x00\x00\x00\x36\x00\x00\x00\x00\x00\x00\x00\x36\x00\x01";
 
-impl BlockTransformer for Plain {
-    ghost encoded = { λ _ bytes. bytes };
+const FOOTER: &[u8; 10] = b"\x00\x00\x00\x00\x00\x00\x00\x6c\x00\x01";
 
-    ghost decoded = { λ _ bytes. bytes };
-
-    ghost faults = { λ _. 0 };
-
-    fn encode(&mut self, _alloc: Global, bytes: Bytes) -> Result<Bytes, TransformError> {
-        Ok(bytes)
+// All bytes of the table: its parts, each with its checksum, and its last bytes.
+pub fn all_parts(alloc: Global) -> Result<Vec<u8>, SlateDBError> {
+    let mut bytes = Vec::new(alloc);
+    let parts: [(&[u8], &[u8]); 5] = [
+        (BLOCK, b"\xe4\x2a\x92\x08"),
+        (INDEX, b"\x6f\xd8\x2f\x07"),
+        (STATS, b"\xd5\xef\xf7\x79"),
+        (INFO, b"\xaa\xfc\xdf\xa4"),
+        (FOOTER, b""),
+    ];
+    for (part, sum) in parts {
+        bytes.extend_from_slice(part)?;
+        bytes.extend_from_slice(sum)?;
     }
-
-    fn decode(&mut self, _alloc: Global, bytes: Bytes) -> Result<Bytes, TransformError> {
-        Ok(bytes)
-    }
+    Ok(bytes)
 }
 
-// The parts of these bytes, of which nothing more is said: what they are is what the tests try.
-fn stats_of(alloc: Global, bytes: &[u8]) -> Result<SstStats, SlateDBError> {
-    SstStats::decode(alloc, Bytes::copy_from_slice(alloc, bytes)?)
-}
-
-fn info_of(
+// The table as it is built.
+pub fn one_row<T: BlockTransformer>(
     alloc: Global,
-    bytes: &[u8],
-    version: u16,
-    end: u64,
-) -> Result<SsTableInfo, SlateDBError> {
-    SsTableInfo::decode(Bytes::copy_from_slice(alloc, bytes)?, version, end)
+    transformer: &mut Option<T>,
+) -> Result<EncodedSsTable, SlateDBError> {
+    let format = SsTableFormat {
+        block_size: 4096,
+        min_filter_keys: 0,
+        block_format: BlockFormat::V1,
+        compression_codec: None,
+    };
+    let mut builder = EncodedSsTableBuilder::new(alloc, &format)?;
+    let row = RowEntry {
+        key: Bytes::from_static(b"a"),
+        value: ValueDeletable::Value(Bytes::from_static(b"1")),
+        seq: 1,
+        create_ts: Some(0),
+        expire_ts: None,
+    };
+    builder.add(alloc, row, transformer)?;
+    builder.build(alloc, transformer)
 }
 
-fn footer_of(bytes: &[u8; 10], len: u64) -> Result<Footer, SlateDBError>
-    requires { 10 < len }
-{
-    Footer::decode(bytes, len)
+fn bytes_of_one_row(alloc: Global) -> Result<Bytes, SlateDBError> {
+    let mut unchanged: Option<Xor> = None;
+    one_row(alloc, &mut unchanged)?.remaining_as_bytes()
 }
 
 #[test]
-fn checksums(rt: HostRuntime) {
+fn tables_are_built(rt: HostRuntime) -> Result<(), Fail> {
+    let bytes = bytes_of_one_row(rt.alloc())?;
+    assert!(rt; bytes.as_slice() == all_parts(rt.alloc())?.as_slice());
+    Ok(())
+}
+
+#[test]
+fn checksums_are_known(rt: HostRuntime) {
     assert_eq!(rt; checksum(b"123456789"), 0xcbf4_3926);
     assert_eq!(rt; checksum(b""), 0);
 }
 
 #[test]
-fn stats_of_one_row(rt: HostRuntime) -> Result<(), Fail> {
-    let stats = stats_of(rt.alloc(), &STATS)?;
-    assert_eq!(rt;
-        (stats.num_puts, stats.num_deletes, stats.num_merges),
-        (1, 0, 0)
-    );
-    assert_eq!(rt; (stats.raw_key_size, stats.raw_val_size), (1, 1));
-    assert_eq!(rt; stats.num_rows(), 1);
-    let block = BlockStats {
-        num_puts: 1,
-        num_deletes: 0,
-        num_merges: 0,
-    };
-    assert!(rt; stats.block_stats.as_slice() == [block].as_slice());
-    let again = stats.encode(rt.alloc())?;
-    assert_eq!(rt; again.as_slice(), STATS.as_slice());
+fn separators_are_short(rt: HostRuntime) -> Result<(), Fail> {
+    let cases: [(&[u8], &'static [u8], &[u8]); 3] = [
+        (b"abcd", b"abxyz", b"abx"),
+        (b"ab", b"abc", b"abc"),
+        (b"b", b"b", b"b"),
+    ];
+    for (previous, key, short) in cases {
+        let front = separator(previous, &Bytes::from_static(key))?;
+        assert!(rt; front.as_slice() == short);
+    }
     Ok(())
 }
 
-#[test]
-fn stats_take_their_bytes_exactly(rt: HostRuntime) -> Result<(), Fail> {
-    let alloc = rt.alloc();
-    assert!(rt;
-        matches!(
-            stats_of(alloc, &STATS[..49]),
-            Err(SlateDBError::CorruptTable { place: 48 })
-        )
-    );
-    let mut longer = Vec::new(alloc);
-    longer.extend_from_slice(&STATS)?;
-    longer.push(0)?;
-    assert!(rt;
-        matches!(
-            stats_of(alloc, longer.as_slice()),
-            Err(SlateDBError::CorruptTable { place: 50 })
-        )
-    );
-    Ok(())
+// The bytes of the parts that these bytes are.
+fn copied_stats(alloc: Global, bytes: &'static [u8]) -> Result<Bytes, SlateDBError> {
+    SstStats::decode(alloc, Bytes::from_static(bytes))?.encode(alloc)
 }
 
-#[test]
-fn info_of_one_row(rt: HostRuntime) -> Result<(), Fail> {
-    let info = info_of(rt.alloc(), &INFO, 1, 108)?;
-    assert!(rt; info.first_entry == Some(Bytes::from_static(b"a")));
-    assert!(rt; info.last_entry == Some(Bytes::from_static(b"a")));
-    assert_eq!(rt; (info.index_offset, info.index_len), (35, 19));
-    assert_eq!(rt; (info.filter_offset, info.filter_len), (35, 0));
-    assert_eq!(rt; (info.stats_offset, info.stats_len), (54, 54));
-    Ok(())
-}
-
-#[test]
-fn an_info_is_written(rt: HostRuntime) -> Result<(), Fail> {
+// The info of the table, as bytes.
+fn written_info(alloc: Global) -> Result<Bytes, SlateDBError> {
     let info = SsTableInfo {
         first_entry: Some(Bytes::from_static(b"a")),
         last_entry: Some(Bytes::from_static(b"a")),
@@ -131,101 +114,64 @@ fn an_info_is_written(rt: HostRuntime) -> Result<(), Fail> {
         stats_offset: 54,
         stats_len: 54,
     };
-    assert!(rt; info_of(rt.alloc(), &INFO, 1, 108)? == info);
-    assert_eq!(rt; info.encode(rt.alloc(), 1)?.as_slice(), INFO.as_slice());
-    Ok(())
+    info.encode(alloc, 1)
+}
+
+// Where the sections and the info of a table of version 1 lie, by these bytes.
+fn offsets(bytes: &'static [u8], end: u64) -> Result<[u64; 6], SlateDBError> {
+    let info = SsTableInfo::decode(Bytes::from_static(bytes), 1, end)?;
+    Ok([
+        info.index_offset,
+        info.index_len,
+        info.filter_offset,
+        info.filter_len,
+        info.stats_offset,
+        info.stats_len,
+    ])
+}
+
+fn copied_footer(alloc: Global, bytes: &[u8; 10]) -> Result<Vec<u8>, SlateDBError> {
+    let mut out = Vec::new(alloc);
+    Footer::decode(bytes, 182)?.encode(&mut out)?;
+    Ok(out)
 }
 
 #[test]
-fn damaged_infos(rt: HostRuntime) -> Result<(), Fail> {
+fn parts_are_read_and_written(rt: HostRuntime) -> Result<(), Fail> {
     let alloc = rt.alloc();
-    assert!(rt;
-        matches!(
-            info_of(alloc, &INFO, 2, 108),
-            Err(SlateDBError::CorruptTable { place: 0 })
-        )
-    );
-    assert!(rt;
-        matches!(
-            info_of(alloc, &INFO, 1, 107),
-            Err(SlateDBError::CorruptTable { place: 50 })
-        )
-    );
-    let mut damaged = INFO;
-    damaged[58] = 3;
-    assert!(rt;
-        matches!(
-            info_of(alloc, &damaged, 1, 108),
-            Err(SlateDBError::UnsupportedCompression { codec: 3 })
-        )
-    );
-    damaged[59] = 0;
-    assert!(rt;
-        matches!(
-            info_of(alloc, &damaged, 1, 108),
-            Err(SlateDBError::CorruptTable { place: 59 })
-        )
-    );
+    assert!(rt; copied_stats(alloc, STATS)?.as_slice() == STATS);
+    assert!(rt; offsets(INFO, 108)? == [35, 19, 35, 0, 54, 54]);
+    assert!(rt; written_info(alloc)?.as_slice() == INFO);
+    assert!(rt; copied_footer(alloc, FOOTER)?.as_slice() == FOOTER.as_slice());
     Ok(())
 }
 
-#[test]
-fn sections(rt: HostRuntime) -> Result<(), Fail> {
-    let mut plain: Option<Plain> = None;
-    let mut out = Vec::new(rt.alloc());
-    let part = Bytes::copy_from_slice(rt.alloc(), b"123456789")?;
-    seal_section(rt.alloc(), &mut out, part, &mut plain)?;
-    assert_eq!(rt; out.as_slice(), b"123456789\xcb\xf4\x39\x26".as_slice());
-    let cut = Bytes::copy_from_slice(rt.alloc(), b"abc")?;
-    assert!(rt;
-        matches!(
-            open_section(rt.alloc(), &cut, &mut plain),
-            Err(SlateDBError::CorruptTable { place: 0 })
-        )
-    );
-    let part = open_section(rt.alloc(), &Bytes::from_vec(out)?, &mut plain)?;
-    assert_eq!(rt; part.as_slice(), b"123456789".as_slice());
-    let damaged = Bytes::copy_from_slice(rt.alloc(), b"123456780\xcb\xf4\x39\x26")?;
-    assert!(rt;
-        matches!(
-            open_section(rt.alloc(), &damaged, &mut plain),
-            Err(SlateDBError::ChecksumMismatch {
-                stored: 0xcbf4_3926,
-                ..
-            })
-        )
-    );
-    Ok(())
+fn sealed<T: BlockTransformer>(
+    alloc: Global,
+    part: &'static [u8],
+    transformer: &mut Option<T>,
+) -> Result<Vec<u8>, SlateDBError> {
+    let mut out = Vec::new(alloc);
+    seal_section(alloc, &mut out, Bytes::from_static(part), transformer)?;
+    Ok(out)
+}
+
+fn opened<T: BlockTransformer>(
+    alloc: Global,
+    section: &[u8],
+    transformer: &mut Option<T>,
+) -> Result<Bytes, SlateDBError> {
+    let section = Bytes::copy_from_slice(alloc, section)?;
+    open_section(alloc, &section, transformer)
 }
 
 #[test]
-fn last_bytes(rt: HostRuntime) -> Result<(), Fail> {
-    let footer = footer_of(&FOOTER, 182)?;
-    assert_eq!(rt; (footer.info_offset, footer.version), (108, 1));
-    let mut out = Vec::new(rt.alloc());
-    footer.encode(&mut out)?;
-    assert_eq!(rt; out.as_slice(), FOOTER.as_slice());
-    assert!(rt;
-        matches!(
-            footer_of(&FOOTER, 117),
-            Err(SlateDBError::CorruptTable { place: 0 })
-        )
-    );
-    let mut damaged = FOOTER;
-    damaged[9] = 3;
-    assert!(rt;
-        matches!(
-            footer_of(&damaged, 182),
-            Err(SlateDBError::InvalidVersion { actual_version: 3 })
-        )
-    );
+fn sections_are_sealed_and_opened(rt: HostRuntime) -> Result<(), Fail> {
+    let alloc = rt.alloc();
+    let mut unchanged: Option<Xor> = None;
+    let section = sealed(alloc, b"123456789", &mut unchanged)?;
+    assert!(rt; section.as_slice() == b"123456789\xcb\xf4\x39\x26".as_slice());
+    let part = opened(alloc, section.as_slice(), &mut unchanged)?;
+    assert!(rt; part.as_slice() == b"123456789".as_slice());
     Ok(())
-}
-
-#[test]
-fn defaults(rt: HostRuntime) {
-    let format = SsTableFormat::default();
-    assert_eq!(rt; (format.block_size, format.min_filter_keys), (4096, 0));
-    assert!(rt; format.block_format == BlockFormat::Latest);
-    assert!(rt; format.compression_codec.is_none());
 }
