@@ -6,8 +6,8 @@ use crate::faults::Faults;
 use crate::{PathText, Store, StoreError};
 use bytes::Bytes;
 use slate_types::SlateDBError;
-use std::alloc::Global;
-use std::fs::{self, File, OpenFile};
+use std::alloc::{AllocError, Global};
+use std::fs::{self, DirEntry, File, OpenFile, ReadDir};
 use std::io::{self, ErrorKind, Read, Seek, SeekFrom, Write};
 use std::rt::Files;
 
@@ -98,13 +98,22 @@ fn put_file(
     if let Some((parent, _)) = target.rsplit_once('/') {
         fs::create_dir_all(files, parent)?;
     }
-    let beside = format!(in alloc; "{target}{UNFINISHED}")?;
-    let mut done = write_file(files, &beside, bytes);
+    put_by(
+        files,
+        &joined(alloc, &target, UNFINISHED, "")?,
+        &target,
+        bytes,
+    )
+}
+
+/// Writes the file `beside`, and makes it the one at `target`.
+fn put_by(files: &impl Files, beside: &str, target: &str, bytes: &[u8]) -> io::Result<()> {
+    let mut done = write_file(files, beside, bytes);
     if done.is_ok() {
-        done = fs::rename(files, &beside, &target);
+        done = fs::rename(files, beside, target);
     }
     if done.is_err() {
-        let _left = fs::remove_file(files, &beside);
+        let _left = fs::remove_file(files, beside);
     }
     done
 }
@@ -127,11 +136,18 @@ fn read_file<R: Files>(
     if len_at(files, &target)?.is_none() {
         return Ok(None);
     }
-    let mut file = match File::open(files, &target) {
-        Ok(file) => file,
-        Err(error) if is_missing(&error) => return Ok(None),
-        Err(error) => return Err(error),
-    };
+    match File::open(files, &target) {
+        Ok(mut file) => read_from(alloc, &mut file, start, len),
+        Err(error) => if_missing(error, None),
+    }
+}
+
+fn read_from<F: Read + Seek>(
+    alloc: Global,
+    file: &mut F,
+    start: u64,
+    len: u64,
+) -> io::Result<Option<Bytes>> {
     let whole = file.seek(SeekFrom::End(0))?;
     if start > whole || len > whole - start {
         return Ok(None);
@@ -154,10 +170,8 @@ fn len_of_file(
 /// The length of the file there, and `None` where there is none.
 fn len_at(files: &impl Files, target: &str) -> io::Result<Option<u64>> {
     match fs::symlink_metadata(files, target) {
-        Ok(metadata) if metadata.is_file() => Ok(Some(metadata.len())),
-        Ok(_) => Ok(None),
-        Err(error) if is_missing(&error) => Ok(None),
-        Err(error) => Err(error),
+        Ok(metadata) => Ok(metadata.is_file().then_some(metadata.len())),
+        Err(error) => if_missing(error, None),
     }
 }
 
@@ -193,26 +207,65 @@ fn list_folder<R: Files + AllocGlobal + Clone + Drop>(
     inner: &mut Vec<String>,
     paths: &mut Vec<String>,
 ) -> io::Result<()> {
-    let entries = match fs::read_dir(rt, &format!(in alloc; "{folder}/{names}")?) {
-        Ok(entries) => entries,
-        Err(error) if is_missing(&error) => return Ok(()),
-        Err(error) => return Err(error),
-    };
+    match fs::read_dir(rt, &joined(alloc, folder, "/", names)?) {
+        Ok(entries) => list_entries(alloc, entries, names, inner, paths),
+        Err(error) => if_missing(error, ()),
+    }
+}
+
+fn list_entries<R: Files + AllocGlobal + Clone + Drop>(
+    alloc: Global,
+    entries: ReadDir<R>,
+    names: &str,
+    inner: &mut Vec<String>,
+    paths: &mut Vec<String>,
+) -> io::Result<()> {
     for entry in entries {
-        let entry = entry?;
-        let name = entry.file_name();
-        if !is_name(name) {
-            continue;
-        }
-        match entry.file_type() {
-            Ok(kind) if kind.is_dir() => inner.push(format!(in alloc; "{names}{name}/")?)?,
-            Ok(kind) if kind.is_file() => paths.push(format!(in alloc; "{names}{name}")?)?,
-            Ok(_) => (),
-            Err(error) if is_missing(&error) => (),
-            Err(error) => return Err(error),
-        }
+        list_entry(alloc, entry, names, inner, paths)?;
     }
     Ok(())
+}
+
+fn list_entry<R: Files + Drop>(
+    alloc: Global,
+    entry: io::Result<DirEntry<R>>,
+    names: &str,
+    inner: &mut Vec<String>,
+    paths: &mut Vec<String>,
+) -> io::Result<()> {
+    match entry {
+        Ok(entry) => list_named(alloc, &entry, names, inner, paths),
+        Err(error) => Err(error),
+    }
+}
+
+fn list_named<R: Files>(
+    alloc: Global,
+    entry: &DirEntry<R>,
+    names: &str,
+    inner: &mut Vec<String>,
+    paths: &mut Vec<String>,
+) -> io::Result<()> {
+    let name = entry.file_name();
+    if !is_name(name) {
+        return Ok(());
+    }
+    match entry.file_type() {
+        Ok(kind) if kind.is_dir() => add(alloc, inner, names, name, "/"),
+        Ok(kind) if kind.is_file() => add(alloc, paths, names, name, ""),
+        Ok(_) => Ok(()),
+        Err(error) => if_missing(error, ()),
+    }
+}
+
+fn add(
+    alloc: Global,
+    list: &mut Vec<String>,
+    names: &str,
+    name: &str,
+    end: &str,
+) -> io::Result<()> {
+    Ok(list.push(joined(alloc, names, name, end)?)?)
 }
 
 /// Where the file of an object is.
@@ -220,7 +273,11 @@ fn place_of(alloc: Global, folder: &str, path: &str) -> io::Result<String> {
     if folder.is_empty() || !path.split('/').all(is_name) {
         return Err(ErrorKind::InvalidInput.into());
     }
-    Ok(format!(in alloc; "{folder}/{path}")?)
+    Ok(joined(alloc, folder, "/", path)?)
+}
+
+fn joined(alloc: Global, front: &str, middle: &str, back: &str) -> Result<String, AllocError> {
+    format!(in alloc; "{front}{middle}{back}")
 }
 
 /// Whether a part of an object's path can be so: no name of a file that is being written.
@@ -228,6 +285,10 @@ fn is_name(name: &str) -> bool {
     !name.is_empty() && name != "." && name != ".." && !name.ends_with(UNFINISHED)
 }
 
-fn is_missing(error: &io::Error) -> bool {
-    matches!(error.kind(), ErrorKind::NotFound | ErrorKind::NotADirectory)
+/// The answer where a file is missing, and else the error.
+fn if_missing<V: Drop>(error: io::Error, answer: V) -> io::Result<V> {
+    match error.kind() {
+        ErrorKind::NotFound | ErrorKind::NotADirectory => Ok(answer),
+        _ => Err(error),
+    }
 }

@@ -6,8 +6,8 @@ ghost use Rattle.slate_types.specs.Keys.{bound_now, common_range, in_range, is_r
 use crate::byte_range_bounds::ByteRangeBounds;
 use crate::error::SlateDBError;
 use bytes::Bytes;
-use std::alloc::Global;
-use std::ops::Bound;
+use std::alloc::{AllocError, Global};
+use std::ops::{Bound, RangeFull};
 
 /// The keys between two bounds. Bounds that leave none are refused where a range is made.
 #[derive(Clone, Debug, PartialEq, Eq, Drop)]
@@ -30,10 +30,8 @@ impl BytesRange {
     pub fn try_new(start: Bound<Bytes>, end: Bound<Bytes>) -> Option<BytesRange>
         ensures { result ≡ range_of start end }
     {
-        if leaves_none(&start, &end) {
-            return None;
-        }
-        Some(BytesRange { start, end })
+        let leaves_some = !leaves_none(&start, &end);
+        leaves_some.then_some(BytesRange { start, end })
     }
 
     /// The range of all keys.
@@ -47,6 +45,7 @@ impl BytesRange {
     }
 
     /// The range of two borrowed bounds, which are copied. Refuses by `InvalidRange` exactly where `new` does.
+    #[tactic(auto, using(crate::proofs::KeyLaws::behind_nothing, crate::proofs::KeyLaws::refused_behind_nothing))]
     pub fn from_slice(
         alloc: Global,
         start: Bound<&[u8]>,
@@ -55,18 +54,17 @@ impl BytesRange {
         ensures range { IfOk result (λ r. range_of (bound_now start.entry) (bound_now end.entry) ≡ Some r) }
         ensures refused { IfErr result (λ e. (e ≡ SlateDBError.OutOfMemory) ⊎ ((e ≡ SlateDBError.InvalidRange) × IsTrue (is_refused (bound_now start.entry) (bound_now end.entry)))) }
     {
-        BytesRange::new(copied(alloc, start)?, copied(alloc, end)?)
+        BytesRange::from_prefix_and_subrange(alloc, &[], &(start, end))
     }
 
     /// The range of the keys that begin with a prefix: from the prefix on to before its increment. It has no
     /// end where each byte is 255, and neither bound where there is no byte.
+    #[tactic(auto, using(crate::proofs::KeyLaws::whole_is_given, crate::proofs::KeyLaws::whole_is_not_refused))]
     pub fn from_prefix(alloc: Global, prefix: &[u8]) -> Result<BytesRange, SlateDBError>
         ensures range { IfOk result (λ r. r ≡ prefix_range prefix.now) }
         ensures memory { IfErr result (λ e. e ≡ SlateDBError.OutOfMemory) }
     {
-        let start = first_of_prefix(alloc, prefix)?;
-        let end = end_of_prefix(alloc, prefix)?;
-        Ok(BytesRange { start, end })
+        BytesRange::from_prefix_and_subrange(alloc, prefix, &RangeFull)
     }
 
     /// The range of the keys that are a prefix and then a key of a subrange. The prefix stands before each
@@ -155,9 +153,9 @@ fn leaves_none(start: &Bound<Bytes>, end: &Bound<Bytes>) -> bool
 {
     match (start, end) {
         (Bound::Included(a), Bound::Included(b)) => is_below(b.as_slice(), a.as_slice()),
-        (Bound::Included(a), Bound::Excluded(b)) => is_upto(b.as_slice(), a.as_slice()),
-        (Bound::Excluded(a), Bound::Included(b)) => is_upto(b.as_slice(), a.as_slice()),
-        (Bound::Excluded(a), Bound::Excluded(b)) => is_upto(b.as_slice(), a.as_slice()),
+        (Bound::Included(a) | Bound::Excluded(a), Bound::Included(b) | Bound::Excluded(b)) => {
+            is_upto(b.as_slice(), a.as_slice())
+        }
         _ => false,
     }
 }
@@ -192,22 +190,9 @@ fn earlier_end<'a>(a: &'a Bound<Bytes>, b: &'a Bound<Bytes>) -> &'a Bound<Bytes>
     if second { b } else { a }
 }
 
-/// The bound on a copy.
-fn copied(alloc: Global, bound: Bound<&[u8]>) -> Result<Bound<Bytes>, SlateDBError>
-    ensures copy { IfOk result (λ b. b ≡ bound_now bound.entry) }
-    ensures memory { IfErr result (λ e. e ≡ SlateDBError.OutOfMemory) }
-{
-    Ok(match bound {
-        Bound::Included(key) => Bound::Included(Bytes::copy_from_slice(alloc, key)?),
-        Bound::Excluded(key) => Bound::Excluded(Bytes::copy_from_slice(alloc, key)?),
-        Bound::Unbounded => Bound::Unbounded,
-    })
-}
-
 /// One byte string after another.
-fn joined(alloc: Global, front: &[u8], back: &[u8]) -> Result<Bytes, SlateDBError>
-    ensures both { IfOk result (λ k. k ≡ front.now ++ back.now) }
-    ensures memory { IfErr result (λ e. e ≡ SlateDBError.OutOfMemory) }
+fn joined(alloc: Global, front: &[u8], back: &[u8]) -> Result<Bytes, AllocError>
+    ensures { IfOk result (λ k. k ≡ front.now ++ back.now) }
 {
     let mut bytes = Vec::with_capacity(alloc, front.len() + back.len())?;
     bytes.extend_from_slice(front)?;
@@ -216,14 +201,13 @@ fn joined(alloc: Global, front: &[u8], back: &[u8]) -> Result<Bytes, SlateDBErro
 }
 
 /// The start of the range of a prefix.
-fn first_of_prefix(alloc: Global, prefix: &[u8]) -> Result<Bound<Bytes>, SlateDBError>
-    ensures start { IfOk result (λ b. b ≡ prefix_start prefix.now) }
-    ensures memory { IfErr result (λ e. e ≡ SlateDBError.OutOfMemory) }
+fn first_of_prefix(alloc: Global, prefix: &[u8]) -> Result<Bound<Bytes>, AllocError>
+    ensures { IfOk result (λ b. b ≡ prefix_start prefix.now) }
 {
     if prefix.is_empty() {
         return Ok(Bound::Unbounded);
     }
-    Ok(Bound::Included(Bytes::copy_from_slice(alloc, prefix)?))
+    Bytes::copy_from_slice(alloc, prefix).map(Bound::Included)
 }
 
 /// How many bytes are left of a prefix without its trailing bytes 255.
@@ -240,9 +224,8 @@ fn kept_len(prefix: &[u8]) -> usize
 }
 
 /// The end of the range of a prefix: its increment, where it has one.
-fn end_of_prefix(alloc: Global, prefix: &[u8]) -> Result<Bound<Bytes>, SlateDBError>
-    ensures end { IfOk result (λ b. b ≡ prefix_end prefix.now) }
-    ensures memory { IfErr result (λ e. e ≡ SlateDBError.OutOfMemory) }
+fn end_of_prefix(alloc: Global, prefix: &[u8]) -> Result<Bound<Bytes>, AllocError>
+    ensures { IfOk result (λ b. b ≡ prefix_end prefix.now) }
 {
     let len = kept_len(prefix);
     if len == 0 {
@@ -257,25 +240,23 @@ fn start_behind(
     alloc: Global,
     prefix: &[u8],
     start: Bound<&[u8]>,
-) -> Result<Bound<Bytes>, SlateDBError>
-    ensures start { IfOk result (λ b. b ≡ keys.behind prefix.now (bound_now start.entry) (prefix_start prefix.now)) }
-    ensures memory { IfErr result (λ e. e ≡ SlateDBError.OutOfMemory) }
+) -> Result<Bound<Bytes>, AllocError>
+    ensures { IfOk result (λ b. b ≡ keys.behind prefix.now (bound_now start.entry) (prefix_start prefix.now)) }
 {
     match start {
-        Bound::Included(key) => Ok(Bound::Included(joined(alloc, prefix, key)?)),
-        Bound::Excluded(key) => Ok(Bound::Excluded(joined(alloc, prefix, key)?)),
+        Bound::Included(key) => joined(alloc, prefix, key).map(Bound::Included),
+        Bound::Excluded(key) => joined(alloc, prefix, key).map(Bound::Excluded),
         Bound::Unbounded => first_of_prefix(alloc, prefix),
     }
 }
 
 /// The end of the range of a prefix and a subrange with this end.
-fn end_behind(alloc: Global, prefix: &[u8], end: Bound<&[u8]>) -> Result<Bound<Bytes>, SlateDBError>
-    ensures end { IfOk result (λ b. b ≡ keys.behind prefix.now (bound_now end.entry) (prefix_end prefix.now)) }
-    ensures memory { IfErr result (λ e. e ≡ SlateDBError.OutOfMemory) }
+fn end_behind(alloc: Global, prefix: &[u8], end: Bound<&[u8]>) -> Result<Bound<Bytes>, AllocError>
+    ensures { IfOk result (λ b. b ≡ keys.behind prefix.now (bound_now end.entry) (prefix_end prefix.now)) }
 {
     match end {
-        Bound::Included(key) => Ok(Bound::Included(joined(alloc, prefix, key)?)),
-        Bound::Excluded(key) => Ok(Bound::Excluded(joined(alloc, prefix, key)?)),
+        Bound::Included(key) => joined(alloc, prefix, key).map(Bound::Included),
+        Bound::Excluded(key) => joined(alloc, prefix, key).map(Bound::Excluded),
         Bound::Unbounded => end_of_prefix(alloc, prefix),
     }
 }

@@ -7,7 +7,7 @@ use std::alloc::{AllocError, AllocFailed};
 use thiserror::Error;
 
 /// Every refusal of the store, with what shows its cause.
-#[derive(Clone, Debug, PartialEq, Eq, Drop, Error)]
+#[derive(Debug, Drop, Error)]
 pub enum SlateDBError {
     /// A commit since the begin writes what this transaction tracks: the greatest such sequence.
     #[error("a later commit conflicts, at sequence {seq}")]

@@ -9,7 +9,7 @@ use std::alloc::{AllocError, AllocFailed, Global};
 use thiserror::Error;
 
 /// Why an operator gives no value.
-#[derive(Clone, Debug, PartialEq, Eq, Drop, Error)]
+#[derive(Debug, Drop, Error)]
 pub enum MergeOperatorError {
     /// Neither an operand nor a value to merge.
     #[error("nothing to merge")]

@@ -51,7 +51,7 @@ impl RowsIterator {
         ensures rows { self.new.rows ≡ drop 1 self.old.rows }
         ensures order { self.new.order ≡ self.old.order }
     {
-        self.rows.pop_front();
+        drop(self.rows.pop_front());
     }
 }
 

@@ -5,6 +5,7 @@ ghost use Rattle.slate_types.specs.Equality as equality;
 ghost use Rattle.slate_types.specs.Rows as rows;
 
 use bytes::Bytes;
+use std::alloc::AllocError;
 
 /// What a row holds: a value, an operand of the merge operator, or the mark of a deletion.
 #[derive(Clone, Debug, PartialEq, Eq, Drop)]
@@ -62,7 +63,7 @@ impl ValueDeletable {
 
 /// A row, as it stands in a table or in memory. Stamps are milliseconds. Rows are equal exactly where
 /// their fields are.
-#[derive(Clone, Debug, Drop)]
+#[derive(Debug, Drop)]
 pub struct RowEntry {
     pub key: Bytes,
     pub value: ValueDeletable,
@@ -92,6 +93,22 @@ impl RowEntry {
     {
         let fixed = 8 + stamp_size(self.create_ts) + stamp_size(self.expire_ts);
         (self.key.len() as u64 + fixed).saturating_add(self.value.len() as u64)
+    }
+}
+
+impl Clone for RowEntry {
+    ghost is_clone = { λ row copy. copy ≡ row };
+
+    fn clone(&self) -> Result<RowEntry, AllocError> {
+        let key = self.key.clone()?;
+        let value = self.value.clone()?;
+        Ok(RowEntry {
+            key,
+            value,
+            seq: self.seq,
+            create_ts: self.create_ts,
+            expire_ts: self.expire_ts,
+        })
     }
 }
 
@@ -140,13 +157,29 @@ fn stamp_size(stamp: Option<i64>) -> u64
 }
 
 /// A row as a reader gets it. A row without a creation has creation 0 here.
-#[derive(Clone, Debug, PartialEq, Eq, PartialOrd, Ord, Hash, Drop)]
+#[derive(Debug, PartialEq, Eq, PartialOrd, Ord, Hash, Drop)]
 pub struct KeyValue {
     pub key: Bytes,
     pub value: Bytes,
     pub seq: u64,
     pub create_ts: i64,
     pub expire_ts: Option<i64>,
+}
+
+impl Clone for KeyValue {
+    ghost is_clone = { λ row copy. copy ≡ row };
+
+    fn clone(&self) -> Result<KeyValue, AllocError> {
+        let key = self.key.clone()?;
+        let value = self.value.clone()?;
+        Ok(KeyValue {
+            key,
+            value,
+            seq: self.seq,
+            create_ts: self.create_ts,
+            expire_ts: self.expire_ts,
+        })
+    }
 }
 
 impl KeyValue {
