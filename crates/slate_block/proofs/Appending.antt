@@ -1,5 +1,6 @@
 -- What stood in a list before it grew.
-use Rattle.std.proofs.Common.{◌≡◌, ℕ, ◌≤◌, List, ◌++◌, length, take, take-take, refl, sym, ap, ◌∙◌, arith}
+use Rattle.std.proofs.Common.{◌≡◌, ℕ, ◌≤◌, List, Result, Ok, Err, is_ok, ◌++◌, length, take, take-take, refl, sym, ap, ◌∙◌, arith}
+use Rattle.std.specs.Prelude.{OnOk, if◌then◌else◌}
 use Rattle.std.proofs.lemmas.List.{take_at, length-append}
 
 front_of : (a x : List ℕ) → take (length a) (a ++ x) ≡ a
@@ -10,3 +11,8 @@ pub kept_step : (a x b c : List ℕ) → b ≡ a ++ x → take (length b) c ≡ 
 kept_step a x b c grown kept =
     let le : length a ≤ length b = omega (arith, ap length grown, length-append a x) in
     sym (take-take (length a) (length b) c le) ∙ ap (take (length a)) (kept ∙ grown) ∙ front_of a x
+
+-- what the last call gives is what all give
+pub grown_ok : {T E : Type 0} (r : Result T E) (a x y b : List ℕ) → b ≡ (if is_ok r then a ++ x else a) → a ++ x ≡ y → OnOk r (b ≡ y)
+grown_ok (Ok t) a x y b grown same = grown ∙ same
+grown_ok (Err e) a x y b grown same = tt

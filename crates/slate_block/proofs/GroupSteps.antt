@@ -1,6 +1,6 @@
 -- Steps of a walk over rows of version 2.
 use Rattle.std.proofs.Common.{◌≡◌, ℕ, zero, suc, ◌+◌, ◌<◌, ◌≤◌, Bool, true, false, ◌&&◌, ◌||◌, cond, nat_eq, List, [], ◌∷◌, ◌++◌, length, get_or, drop, Some, Result, Ok, Err, refl, sym, ap, ◌∙◌, arith, ◌⊎◌, inl, inr}
-use Rattle.std.specs.Prelude.{slice_get}
+use Rattle.std.specs.Prelude.{slice_get, IfOk, IfErr}
 use Rattle.std.proofs.Math.Dec.{eqb-suc-zero, eqb-zero-suc, eqb-suc-suc}
 use Rattle.std.proofs.lemmas.List.{at_drop_more, drop_all}
 use Rattle.std.proofs.lemmas.Bool.{cases_lt}
@@ -107,6 +107,22 @@ pub refused_or : (body : List ℕ) (group : RowGroup) (e d : SlateDBError) → i
 refused_or body group e d h some (inl same) = inl same
 refused_or body group e d h some (inr r) = inr (refused_left body group e h some r)
 
+-- what is known of a row that is taken off a group
+abbrev pub Taken : List ℕ → RowGroup → RowEntry × RowGroup → Type 0
+Taken body group found = row_v2_in body group.previous group.at group.end ≡ Ok (found.0, found.1.at)
+
+abbrev pub Rest : RowGroup → RowEntry × RowGroup → Type 0
+Rest group found = (found.1.end ≡ group.end) × (group.room ≡ found.1.room + 1) × (found.1.is_last ≡ group.is_last) × (found.1.previous ≡ found.0.key)
+
+pub taken : (body : List ℕ) (group : RowGroup) (result : Result (RowEntry × RowGroup) SlateDBError) → is_over group ≡ false → IfOk result (Taken body group) → IfOk result (Rest group) → IfOk result (λ found. group_left body group ≡ Ok found.0 ∷ group_left body found.1)
+taken body group (Ok found) h t r = taken_left body group found.1 found.0 h r.1 t r.0 r.2 r.3
+taken body group (Err e) h t r = t
+
+pub taken_none : (body : List ℕ) (group : RowGroup) (result : Result (RowEntry × RowGroup) SlateDBError) (d : SlateDBError) → is_over group ≡ false → 0 < group.room →
+    IfErr result (λ e. (e ≡ d) ⊎ (row_v2_in body group.previous group.at group.end ≡ Err e)) → IfErr result (λ e. (e ≡ d) ⊎ (group_left body group ≡ Err e ∷ []))
+taken_none body group (Ok found) d h some r = r
+taken_none body group (Err e) d h some r = refused_or body group e d h some r
+
 -- ---- restarts
 
 pub none_left : (n : ℕ) (offsets : List ℕ) → n ≤ length offsets → nat_eq n (length offsets) ≡ is_none_left (drop n offsets)
@@ -122,6 +138,25 @@ restart_taken body offsets n row group h r end room last previous =
     let is_last : group.is_last ≡ is_none_left (drop (n + 1) offsets) = last ∙ none_left (n + 1) offsets (omega arith) in
     ap (λ (x : Result (RowEntry × ℕ) SlateDBError). read_then x (λ found. group_reads 15 body found.0.key found.1 (group_end body offsets n) (is_none_left (drop (n + 1) offsets)))) r
     ∙ (λ i. Ok row ∷ group_reads (sym room i) body (sym previous i) group.at (sym end i) (sym is_last i))
+
+-- the group that begins at a restart, before its first row
+pub first_taken : (body offsets : List ℕ) (n : ℕ) (group : RowGroup) (result : Result (RowEntry × RowGroup) SlateDBError) → n < length offsets →
+    group.at ≡ get_or offsets n 0 → group.end ≡ group_end body offsets n → group.room ≡ 16 → group.is_last ≡ nat_eq (n + 1) (length offsets) → group.previous ≡ [] →
+    IfOk result (Taken body group) → IfOk result (Rest group) → IfOk result (λ found. restart_at body offsets n ≡ Ok found.0 ∷ group_left body found.1)
+first_taken body offsets n group (Ok found) h at end room last none t r =
+    let read : row_v2_in body [] (get_or offsets n 0) (group_end body offsets n) ≡ Ok (found.0, found.1.at) = rw (sym none, sym at, sym end) t in
+    restart_taken body offsets n found.0 found.1 h read (r.0 ∙ end) (omega (arith, room, r.1)) (r.2 ∙ last) r.3
+first_taken body offsets n group (Err e) h at end room last none t r = t
+
+pub first_refused : (body offsets : List ℕ) (n at end : ℕ) (previous : List ℕ) (result : Result (RowEntry × RowGroup) SlateDBError) (d : SlateDBError) →
+    at ≡ get_or offsets n 0 → end ≡ group_end body offsets n → previous ≡ [] →
+    IfErr result (λ e. (e ≡ d) ⊎ (row_v2_in body previous at end ≡ Err e)) → IfErr result (λ e. (e ≡ d) ⊎ (restart_at body offsets n ≡ Err e ∷ []))
+unfolding restart_at restart_reads
+first_refused body offsets n at end previous (Ok found) d from upto none r = r
+first_refused body offsets n at end previous (Err e) d from upto none (inl same) = inl same
+first_refused body offsets n at end previous (Err e) d from upto none (inr r) =
+    let read : row_v2_in body [] (get_or offsets n 0) (group_end body offsets n) ≡ Err e = rw (sym none, sym from, sym upto) r in
+    inr (ap (λ (x : Result (RowEntry × ℕ) SlateDBError). read_then x (λ found. group_reads 15 body found.0.key found.1 (group_end body offsets n) (is_none_left (drop (n + 1) offsets)))) read)
 
 read_some : (read : Result (RowEntry × ℕ) SlateDBError) (behind : RowEntry × ℕ → List RowRead) → (first : RowRead) × (reads : List RowRead) × (read_then read behind ≡ first ∷ reads)
 read_some (Ok found) behind = (Ok found.0, behind found, refl)

@@ -1,6 +1,6 @@
 -- The groups of a number, written and read one by one.
 use Rattle.std.proofs.Common.{◌≡◌, ℕ, zero, suc, ◌+◌, ◌-◌, ◌&&◌, set, append_assoc, ◌*◌, ◌/◌, ◌%◌, ◌^◌, ◌<◌, ◌≤◌, Bool, true, false, cond, eqb, ltb, List, [], ◌∷◌, ◌++◌, length, get_or, take, drop, Option, Some, None, Result, Ok, Err, add-one, refl, sym, ap, subst, ◌∙◌, arith}
-use Rattle.std.specs.Prelude.{IfOk, IfErr}
+use Rattle.std.specs.Prelude.{IfOk, IfErr, IfSome}
 use Rattle.std.specs.Result.{result_ok}
 use Rattle.slate_types.specs.declared.error.SlateDBError.{SlateDBError}
 use Rattle.std.proofs.lemmas.List.{take_more_set, take-append-drop, at_drop_more, at_drop_all}
@@ -211,6 +211,10 @@ worth_more weight index worth = rw add-one (omega (arith, worth))
 pub decoded : (bytes : List ℕ) (r : Result (ℕ × ℕ) SlateDBError) → IsBytes bytes → front_varint bytes ≡ result_ok r → IfOk r (λ x. (x.1 ≤ length bytes) × IsVarint (take x.1 bytes) x.0)
 decoded bytes (Ok x) fits e = front_found bytes x fits e
 decoded bytes (Err d) fits e = tt
+
+pub front_within : (bytes : List ℕ) (r : Option (ℕ × ℕ)) → IsBytes bytes → r ≡ front_varint bytes → IfSome r (λ x. x.1 ≤ length bytes)
+front_within bytes None fits e = tt
+front_within bytes (Some x) fits e = (front_found bytes x fits (sym e)).0
 
 pub refused : (bytes : List ℕ) (r : Result (ℕ × ℕ) SlateDBError) → front_varint bytes ≡ result_ok r → IfErr r (λ e. (n used : ℕ) → IsVarint (take used bytes) n → ⊥)
 refused bytes (Ok x) e = tt

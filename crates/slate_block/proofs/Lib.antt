@@ -23,6 +23,7 @@ pub mod RowMore
 pub mod RowSizes
 pub mod HeldLaws
 pub mod ApartLaws
+pub mod PlacedLaws
 pub mod WalkLaws
 pub mod SeekLaws
 pub mod WalkedBlocks

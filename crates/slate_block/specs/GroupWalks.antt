@@ -5,11 +5,10 @@
 --     BeginsBefore order body offsets n key      the order puts a group's first key, where its row is read, before the key
 --     IsBeforeIfRead order key read      the order puts a row, where it is read, before the key
 --     IsStart order key before start      rows from which a seek can go on row by row: some first ones may be taken off where the order puts the next one, where it is read, before the key
---     IsNextOfGroup body reads answer, IsNextV2 body offsets place answer      the next row and what is left behind it, or none is left
 --     reads_back n body offsets      what the rows of so many groups are read as, the last first: a group is read as a whole, and one that fails is refused as a whole
 --     left_back body offsets groups rows      what is left before a group's rows and behind so many groups
 --     walk_in order body offsets      what the rows of a block of version 2 are read as in an order
-use Rattle.std.specs.Prelude.{◌≡◌, ◌⊎◌, ℕ, zero, suc, reverse, map, ◌+◌, Bool, true, ◌&&◌, ◌||◌, ◌==◌, List, [], ◌∷◌, ◌++◌, length, drop, slice_index, Option, Some, None, Result, Ok, Err}
+use Rattle.std.specs.Prelude.{◌≡◌, ◌⊎◌, ℕ, zero, suc, reverse, map, ◌+◌, Bool, true, ◌&&◌, ◌||◌, ◌==◌, List, [], ◌∷◌, ◌++◌, length, drop, slice_index, Result, Ok, Err}
 use Rattle.slate_types.specs.declared.error.SlateDBError.{SlateDBError}
 use Rattle.slate_types.specs.declared.types.RowEntry.{RowEntry}
 use Rattle.slate_types.specs.declared.iter.IterationOrder.{IterationOrder}
@@ -45,14 +44,6 @@ pub record IsStart (order : IterationOrder) (key : List ℕ) (before start : Lis
   pub front : List RowRead
   pub parts : before ≡ front ++ start
   pub begins : (front ≡ []) ⊎ ((read : RowRead) × (reads : List RowRead) × (start ≡ read ∷ reads) × IsBeforeIfRead order key read)
-
-abbrev pub IsNextOfGroup : List ℕ → List RowRead → Option (RowEntry × RowGroup) → Type 0
-IsNextOfGroup body reads None = reads ≡ []
-IsNextOfGroup body reads (Some found) = reads ≡ Ok found.0 ∷ group_left body found.1
-
-abbrev pub IsNextV2 : List ℕ → List ℕ → BlockPlace → Option (RowEntry × BlockPlace) → Type 0
-IsNextV2 body offsets place None = left_v2 body offsets place ≡ []
-IsNextV2 body offsets place (Some found) = left_v2 body offsets place ≡ Ok found.0 ∷ left_v2 body offsets found.1
 
 -- ---- from the end
 

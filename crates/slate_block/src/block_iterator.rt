@@ -3,7 +3,7 @@ ghost use Rattle.std.specs.Prelude.{◌≡◌, ◌↔◌, ◌+◌, ◌≤◌, �
 ghost use Rattle.slate_types.specs.declared.types.RowEntry.{RowEntry};
 ghost use Rattle.slate_types.specs.Iteration.{comes_before, drop_before};
 ghost use Rattle.slate_block.specs.Walks.{block_reads, block_rows};
-ghost use Rattle.slate_block.specs.BlockWalks.{in_order, left, place_in, rows_of, Blames, IsDamage, IsPast, IsRising, IsSought, LastBefore, Refuses, StopsAt, TakesLeft, TakesRead, rising_rows};
+ghost use Rattle.slate_block.specs.BlockWalks.{in_order, left, place_in, rows_of, Blames, IsDamage, IsPast, IsRising, IsSought, Refuses, StopsAt, TakesLeft, TakesRead, rising_rows};
 
 use crate::block_like::BlockLike;
 use crate::key_parts::is_before_at;
@@ -160,7 +160,9 @@ impl<B: BlockLike> BlockIterator<B> {
             return Ok(before);
         }
         let row = self.row(alloc, index)?;
-        Ok(self.order.puts_before(row.key.as_slice(), key))
+        let before = self.order.puts_before(row.key.as_slice(), key);
+        drop(row);
+        Ok(before)
     }
 
     /// The same by the key alone, where it stands.
@@ -175,27 +177,11 @@ impl<B: BlockLike> BlockIterator<B> {
         is_before_at(self.order, self.block.body(), first, offsets, place, key)
     }
 
-    /// How many leading rows a seek takes off. The last of them is read whole: a key that stands there doesn't make a row.
-    #[tactic(auto, using(crate::proofs::SeekLaws::last_of_none, crate::proofs::WalkLaws::refused_at))]
-    fn rows_to_skip(&self, alloc: Global, key: &[u8]) -> Result<usize, SlateDBError>
-        ensures within { IfOk result (λ count. count ≤ length self.now.reads) }
-        ensures last { IfOk result (λ count. LastBefore self.now.order key.now (take count self.now.reads)) }
-        ensures next { IfOk result (λ count. (row : RowEntry) → slice_get self.now.reads count ≡ Some (Ok row) → comes_before self.now.order row.key key.now ≡ false) }
-        ensures cause { IfErr result (λ e. (e ≡ SlateDBError.OutOfMemory) ⊎ Refuses self.now.reads e) }
-    {
-        let count = self.rows_before(alloc, key)?;
-        if count == 0 {
-            return Ok(0);
-        }
-        let _last = self.row(alloc, count - 1)?;
-        Ok(count)
-    }
-
     /// Takes off exactly the leading rows that the order puts before the key, where the rows come in the order. Where some
     /// are refused or stand out of order, the last row that it takes off is read and comes before the key, and it stops where
     /// the next one, where it is read, doesn't. So where those that are read come in the order, it takes off none of them
     /// that doesn't come before the key. An `Err` takes none off: it is the refusal of a row that is left, or `OutOfMemory`.
-    #[tactic(auto, using(crate::proofs::SeekLaws::past_counted, crate::proofs::SeekLaws::stops_counted, crate::proofs::SeekLaws::sought))]
+    #[tactic(auto, using(crate::proofs::WalkLaws::refused_at))]
     pub fn skip_before(&mut self, alloc: Global, key: &[u8]) -> Result<(), SlateDBError>
         ensures rows { IsRising self.old.order (left self.old) → OnOk result (left self.new ≡ Ok (drop_before self.old.order key.now (rows_of (left self.old)))) }
         ensures past { OnOk result (IsPast self.old.order key.now self.old.reads self.new.reads) }
@@ -204,7 +190,13 @@ impl<B: BlockLike> BlockIterator<B> {
         ensures cause { IfErr result (λ e. (e ≡ SlateDBError.OutOfMemory) ⊎ Refuses self.old.reads e) }
         ensures unchanged { OnErr result (self.new ≡ self.old) }
     {
-        let count = self.rows_to_skip(alloc, key)?;
+        let count = self.rows_before(alloc, key)?;
+        if count == 0 {
+            return Ok(());
+        }
+        // A key that stands there doesn't make a row: the last one is read whole.
+        let last = self.row(alloc, count - 1)?;
+        drop(last);
         self.skip(count);
         Ok(())
     }
@@ -237,13 +229,11 @@ impl<E: Outside, B: BlockLike> RowEntryIterator<E> for BlockIterator<B> {
 
     #[tactic(auto, using(crate::proofs::SeekLaws::step_rows, crate::proofs::SeekLaws::step_rising, crate::proofs::SeekLaws::step_fewer, crate::proofs::SeekLaws::step_smaller, crate::proofs::SeekLaws::step_no_larger, crate::proofs::SeekLaws::first_refuses))]
     fn next(&mut self, alloc: Global, _env: &mut E) -> Result<Option<RowEntry>, SlateDBError> {
-        let answer = self.next_row(alloc)?;
-        Ok(answer)
+        self.next_row(alloc)
     }
 
     #[tactic(auto, using(crate::proofs::SeekLaws::sought_rising, crate::proofs::SeekLaws::past_fewer, crate::proofs::SeekLaws::past_no_larger))]
     fn seek(&mut self, alloc: Global, key: &[u8], _env: &mut E) -> Result<(), SlateDBError> {
-        self.skip_before(alloc, key)?;
-        Ok(())
+        self.skip_before(alloc, key)
     }
 }

@@ -67,9 +67,10 @@ impl<B: BlockLike> AscendingState<B> {
         ensures unchanged { OnErr result (self.new ≡ self.old) }
     {
         let (body, offsets) = (self.block.body(), self.block.offsets());
-        let Some((row, place)) = next_of_block(alloc, body, offsets, &self.place)? else {
+        if self.place.is_at_end(offsets) {
             return Ok(None);
-        };
+        }
+        let (row, place) = next_of_block(alloc, body, offsets, &self.place)?;
         self.place = place;
         Ok(Some(row))
     }
@@ -207,13 +208,11 @@ impl<E: Outside, B: BlockLike> RowEntryIterator<E> for BlockIteratorV2<B> {
 
     #[tactic(auto, using(crate::proofs::SeekLaws::step_rows, crate::proofs::SeekLaws::step_rising, crate::proofs::SeekLaws::step_fewer, crate::proofs::SeekLaws::step_smaller, crate::proofs::SeekLaws::step_no_larger, crate::proofs::SeekLaws::first_refuses))]
     fn next(&mut self, alloc: Global, _env: &mut E) -> Result<Option<RowEntry>, SlateDBError> {
-        let answer = self.next_row(alloc)?;
-        Ok(answer)
+        self.next_row(alloc)
     }
 
     #[tactic(auto, using(crate::proofs::SeekLaws::sought_rising, crate::proofs::SeekLaws::past_fewer, crate::proofs::SeekLaws::past_no_larger))]
     fn seek(&mut self, alloc: Global, key: &[u8], _env: &mut E) -> Result<(), SlateDBError> {
-        self.skip_before(alloc, key)?;
-        Ok(())
+        self.skip_before(alloc, key)
     }
 }

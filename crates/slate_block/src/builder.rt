@@ -126,10 +126,12 @@ impl BlockBuilder {
         ensures cause { IfErr result (λ e. (e ≡ SlateDBError.EmptyKey) ⊎ (e ≡ SlateDBError.OutOfMemory)) }
     {
         if entry.key.is_empty() {
+            drop(entry);
             return Err(SlateDBError::EmptyKey);
         }
         let shared = self.shared(&entry);
         if !self.has_room(shared, &entry) {
+            drop(entry);
             return Ok(false);
         }
         self.part.append(shared, entry)?;
@@ -146,8 +148,10 @@ impl BlockBuilder {
     {
         let BlockBuilder { part, .. } = self;
         if part.num_rows == 0 {
+            drop(part);
             return Err(SlateDBError::EmptyBlock);
         }
+        drop(part.front_key);
         let body = Bytes::from_vec(part.body)?;
         Ok(Block {
             body,
@@ -166,8 +170,10 @@ impl BlockBuilder {
     {
         let BlockBuilder { part, .. } = self;
         if part.num_rows == 0 {
+            drop(part);
             return Err(SlateDBError::EmptyBlock);
         }
+        drop(part.front_key);
         let mut bytes = part.body;
         append_offsets(&mut bytes, &part.offsets)?;
         Ok(Bytes::from_vec(bytes)?)

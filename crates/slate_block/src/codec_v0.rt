@@ -3,16 +3,14 @@ ghost use Rattle.std.specs.Prelude.{◌≡◌, ◌≤◌, ◌<◌, ◌⊎◌, �
 ghost use Rattle.slate_block.specs.declared.row.SstRowEntry.{SstRowEntry};
 ghost use Rattle.slate_block.specs.Damage.{IsDamageIn};
 ghost use Rattle.slate_block.specs.RowSpelling.{v1_bytes, FitsV1};
-ghost use Rattle.slate_block.specs.RowReading.{row_v1_of, refusal, BeginsV1, expiry_of};
+ghost use Rattle.slate_block.specs.RowReading.{row_v1_of, refusal, BeginsV1};
 
 use crate::fields::fields_v1;
-use crate::flags::RowFlags;
-use crate::row::SstRowEntry;
-use crate::value::value_of;
-use crate::writing::{append_meta, append_value_v1};
-use bitflags::Flags;
+use crate::row::{SstRowEntry, read_expiry, row_parts};
+use crate::writing::{append_meta, append_value_v1, cut_unwritten};
 use bytes::{Buf, Bytes};
-use slate_types::SlateDBError;
+use slate_types::{SlateDBError, ValueDeletable};
+use std::alloc::AllocError;
 
 /// Reads and writes rows of version 1.
 pub struct SstRowCodecV0;
@@ -25,12 +23,17 @@ impl SstRowCodecV0 {
         ensures unchanged { OnErr result (out.new.items ≡ out.old.items) }
         ensures cause { IsOkUnless result SlateDBError.OutOfMemory }
     {
-        let start = out.len();
-        let written = append_row(out, row);
-        if written.is_err() {
-            out.truncate(start);
-        }
-        written
+        let suffix = row.key_suffix.as_slice();
+        let (shared, value) = (row.key_prefix_len, &row.value);
+        append_parts(
+            out,
+            shared,
+            suffix,
+            row.seq,
+            value,
+            row.expire_ts,
+            row.create_ts,
+        )
     }
 
     /// Takes the row off that begins the input; its suffix and its value share the input's buffer. A tombstone is read
@@ -50,7 +53,7 @@ impl SstRowCodecV0 {
 
 /// The row that begins the input, and how many bytes it has.
 #[tactic(auto, unfolding(crate::specs::RowReading::row_v1_of))]
-pub(crate) fn read_row(input: &Bytes) -> Result<(SstRowEntry, usize), SlateDBError>
+fn read_row(input: &Bytes) -> Result<(SstRowEntry, usize), SlateDBError>
     ensures found { IfOk result (λ found. row_v1_of input.now ≡ Ok found) }
     ensures cause { IfErr result (λ e. (e ≡ SlateDBError.OutOfMemory) ⊎ (row_v1_of input.now ≡ Err e)) }
     ensures damage { IfErr result (λ e. (e ≡ SlateDBError.OutOfMemory) ⊎ IsDamageIn (length input.now) e) }
@@ -58,39 +61,55 @@ pub(crate) fn read_row(input: &Bytes) -> Result<(SstRowEntry, usize), SlateDBErr
     ensures bytes { IfOk result (λ _. (i : ℕ) → slice_index input.now i < 256) }
 {
     let (key_prefix_len, fields) = fields_v1(input.as_slice())?;
-    let key_suffix = input.slice(fields.suffix_at..fields.suffix_end)?;
-    let value = input.slice(fields.value_at..fields.value_end)?;
+    let expire_ts = read_expiry(fields.flags, fields.expire_ts);
+    let (key_suffix, value) = row_parts(input, &fields)?;
     let row = SstRowEntry {
         key_prefix_len,
         key_suffix,
         seq: fields.seq,
-        expire_ts: read_expiry(fields.flags, fields.expire_ts),
+        expire_ts,
         create_ts: fields.create_ts,
-        value: value_of(fields.flags, value),
+        value,
     };
     Ok((row, fields.end))
 }
 
-/// A tombstone has no expiry.
-fn read_expiry(flags: RowFlags, expire_ts: Option<i64>) -> Option<i64>
-    ensures { result ≡ expiry_of flags expire_ts }
-{
-    if flags.contains(RowFlags::TOMBSTONE) {
-        return None;
-    }
-    expire_ts
-}
-
-fn append_row(out: &mut Vec<u8>, row: &SstRowEntry) -> Result<(), SlateDBError>
-    requires { FitsV1 row.now }
-    ensures appended { OnOk result (out.new.items ≡ out.old.items ++ v1_bytes row.now) }
-    ensures kept { OnErr result (take (length out.old.items) out.new.items ≡ out.old.items) }
+/// Appends the row of these parts. `OutOfMemory` leaves `out` as it was.
+pub(crate) fn append_parts(
+    out: &mut Vec<u8>,
+    shared: u16,
+    suffix: &[u8],
+    seq: u64,
+    value: &ValueDeletable,
+    expire_ts: Option<i64>,
+    create_ts: Option<i64>,
+) -> Result<(), SlateDBError>
+    requires { FitsV1 (record { key_prefix_len = shared; key_suffix = suffix.now; seq = seq; expire_ts = expire_ts; create_ts = create_ts; value = value.now }) }
+    ensures appended { OnOk result (out.new.items ≡ out.old.items ++ v1_bytes (record { key_prefix_len = shared; key_suffix = suffix.now; seq = seq; expire_ts = expire_ts; create_ts = create_ts; value = value.now })) }
+    ensures unchanged { OnErr result (out.new.items ≡ out.old.items) }
     ensures cause { IsOkUnless result SlateDBError.OutOfMemory }
 {
-    out.extend_from_slice(&row.key_prefix_len.to_be_bytes())?;
-    out.extend_from_slice(&(row.key_suffix.len() as u16).to_be_bytes())?;
-    out.extend_from_slice(row.key_suffix.as_slice())?;
-    append_meta(out, row.seq, &row.value, row.expire_ts, row.create_ts)?;
-    append_value_v1(out, &row.value)?;
-    Ok(())
+    let start = out.len();
+    let written = append_row(out, shared, suffix, seq, value, expire_ts, create_ts);
+    cut_unwritten(out, start, written)
+}
+
+fn append_row(
+    out: &mut Vec<u8>,
+    shared: u16,
+    suffix: &[u8],
+    seq: u64,
+    value: &ValueDeletable,
+    expire_ts: Option<i64>,
+    create_ts: Option<i64>,
+) -> Result<(), AllocError>
+    requires { FitsV1 (record { key_prefix_len = shared; key_suffix = suffix.now; seq = seq; expire_ts = expire_ts; create_ts = create_ts; value = value.now }) }
+    ensures appended { OnOk result (out.new.items ≡ out.old.items ++ v1_bytes (record { key_prefix_len = shared; key_suffix = suffix.now; seq = seq; expire_ts = expire_ts; create_ts = create_ts; value = value.now })) }
+    ensures kept { OnErr result (take (length out.old.items) out.new.items ≡ out.old.items) }
+{
+    out.extend_from_slice(&shared.to_be_bytes())?;
+    out.extend_from_slice(&(suffix.len() as u16).to_be_bytes())?;
+    out.extend_from_slice(suffix)?;
+    append_meta(out, seq, value, expire_ts, create_ts)?;
+    append_value_v1(out, value)
 }

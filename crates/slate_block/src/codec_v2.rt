@@ -6,12 +6,12 @@ ghost use Rattle.slate_block.specs.RowSpelling.{v2_bytes, FitsV2};
 ghost use Rattle.slate_block.specs.RowReading.{row_v2_of, key_v2_of, refusal, BeginsV2, BeginsKeyV2};
 
 use crate::fields::{fields_v2, key_fields_v2};
-use crate::row::SstRowEntryV2;
-use crate::value::value_of;
-use crate::varint::encode_varint;
-use crate::writing::{append_meta, value_bytes};
+use crate::row::{SstRowEntryV2, row_parts};
+use crate::varint::append_varint;
+use crate::writing::{append_meta, cut_unwritten, value_bytes};
 use bytes::{Buf, Bytes};
-use slate_types::SlateDBError;
+use slate_types::{SlateDBError, ValueDeletable};
+use std::alloc::AllocError;
 
 /// Reads and writes rows of version 2.
 pub struct SstRowCodecV2;
@@ -24,12 +24,17 @@ impl SstRowCodecV2 {
         ensures unchanged { OnErr result (out.new.items ≡ out.old.items) }
         ensures cause { IsOkUnless result SlateDBError.OutOfMemory }
     {
-        let start = out.len();
-        let written = append_row(out, row);
-        if written.is_err() {
-            out.truncate(start);
-        }
-        written
+        let suffix = row.key_suffix.as_slice();
+        let (shared, value) = (row.shared_bytes, &row.value);
+        append_parts(
+            out,
+            shared,
+            suffix,
+            row.seq,
+            value,
+            row.expire_ts,
+            row.create_ts,
+        )
     }
 
     /// Takes the row off that begins the input; its suffix and its value share the input's buffer. An `Err` leaves the input
@@ -63,7 +68,7 @@ impl SstRowCodecV2 {
 
 /// The row that begins the input, and how many bytes it has.
 #[tactic(auto, unfolding(crate::specs::RowReading::row_v2_of))]
-pub(crate) fn read_row(input: &Bytes) -> Result<(SstRowEntryV2, usize), SlateDBError>
+fn read_row(input: &Bytes) -> Result<(SstRowEntryV2, usize), SlateDBError>
     ensures found { IfOk result (λ found. row_v2_of input.now ≡ Ok found) }
     ensures cause { IfErr result (λ e. (e ≡ SlateDBError.OutOfMemory) ⊎ (row_v2_of input.now ≡ Err e)) }
     ensures damage { IfErr result (λ e. (e ≡ SlateDBError.OutOfMemory) ⊎ IsDamageIn (length input.now) e) }
@@ -71,15 +76,14 @@ pub(crate) fn read_row(input: &Bytes) -> Result<(SstRowEntryV2, usize), SlateDBE
     ensures bytes { IfOk result (λ _. (i : ℕ) → slice_index input.now i < 256) }
 {
     let (shared_bytes, fields) = fields_v2(input.as_slice())?;
-    let key_suffix = input.slice(fields.suffix_at..fields.suffix_end)?;
-    let value = input.slice(fields.value_at..fields.value_end)?;
+    let (key_suffix, value) = row_parts(input, &fields)?;
     let row = SstRowEntryV2 {
         shared_bytes,
         key_suffix,
         seq: fields.seq,
         expire_ts: fields.expire_ts,
         create_ts: fields.create_ts,
-        value: value_of(fields.flags, value),
+        value,
     };
     Ok((row, fields.end))
 }
@@ -96,18 +100,44 @@ fn read_key(input: &Bytes) -> Result<((u32, Bytes), usize), SlateDBError>
     Ok(((key.shared_bytes, key_suffix), key.suffix_end))
 }
 
-fn append_row(out: &mut Vec<u8>, row: &SstRowEntryV2) -> Result<(), SlateDBError>
-    requires { FitsV2 row.now }
-    ensures appended { OnOk result (out.new.items ≡ out.old.items ++ v2_bytes row.now) }
-    ensures kept { OnErr result (take (length out.old.items) out.new.items ≡ out.old.items) }
+/// Appends the row of these parts. `OutOfMemory` leaves `out` as it was.
+pub(crate) fn append_parts(
+    out: &mut Vec<u8>,
+    shared: u32,
+    suffix: &[u8],
+    seq: u64,
+    value: &ValueDeletable,
+    expire_ts: Option<i64>,
+    create_ts: Option<i64>,
+) -> Result<(), SlateDBError>
+    requires { FitsV2 (record { shared_bytes = shared; key_suffix = suffix.now; seq = seq; expire_ts = expire_ts; create_ts = create_ts; value = value.now }) }
+    ensures appended { OnOk result (out.new.items ≡ out.old.items ++ v2_bytes (record { shared_bytes = shared; key_suffix = suffix.now; seq = seq; expire_ts = expire_ts; create_ts = create_ts; value = value.now })) }
+    ensures unchanged { OnErr result (out.new.items ≡ out.old.items) }
     ensures cause { IsOkUnless result SlateDBError.OutOfMemory }
 {
-    let value = value_bytes(&row.value);
-    encode_varint(out, row.shared_bytes)?;
-    encode_varint(out, row.key_suffix.len() as u32)?;
-    encode_varint(out, value.len() as u32)?;
-    out.extend_from_slice(row.key_suffix.as_slice())?;
-    out.extend_from_slice(value)?;
-    append_meta(out, row.seq, &row.value, row.expire_ts, row.create_ts)?;
-    Ok(())
+    let start = out.len();
+    let written = append_row(out, shared, suffix, seq, value, expire_ts, create_ts);
+    cut_unwritten(out, start, written)
+}
+
+fn append_row(
+    out: &mut Vec<u8>,
+    shared: u32,
+    suffix: &[u8],
+    seq: u64,
+    value: &ValueDeletable,
+    expire_ts: Option<i64>,
+    create_ts: Option<i64>,
+) -> Result<(), AllocError>
+    requires { FitsV2 (record { shared_bytes = shared; key_suffix = suffix.now; seq = seq; expire_ts = expire_ts; create_ts = create_ts; value = value.now }) }
+    ensures appended { OnOk result (out.new.items ≡ out.old.items ++ v2_bytes (record { shared_bytes = shared; key_suffix = suffix.now; seq = seq; expire_ts = expire_ts; create_ts = create_ts; value = value.now })) }
+    ensures kept { OnErr result (take (length out.old.items) out.new.items ≡ out.old.items) }
+{
+    let bytes = value_bytes(value);
+    append_varint(out, shared)?;
+    append_varint(out, suffix.len() as u32)?;
+    append_varint(out, bytes.len() as u32)?;
+    out.extend_from_slice(suffix)?;
+    out.extend_from_slice(bytes)?;
+    append_meta(out, seq, value, expire_ts, create_ts)
 }

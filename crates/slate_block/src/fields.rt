@@ -21,7 +21,7 @@ ghost use Rattle.slate_block.specs.Damage.{
 };
 
 use crate::flags::RowFlags;
-use crate::varint::decode_varint;
+use crate::varint::first_varint;
 use bitflags::Flags;
 use slate_types::SlateDBError;
 
@@ -65,9 +65,9 @@ fn varint_field(bytes: &[u8], at: usize) -> Result<(u32, usize), SlateDBError>
     ensures damage { IfErr result (IsDamageIn (length bytes.now)) }
     ensures within { IfOk result (λ field. field.1 ≤ length bytes.now) }
 {
-    match decode_varint(&bytes[at..]) {
-        Ok((value, len)) => Ok((value, at + len)),
-        Err(_) => Err(corrupt(at)),
+    match first_varint(&bytes[at..]) {
+        Some((value, len)) => Ok((value, at + len)),
+        None => Err(corrupt(at)),
     }
 }
 

@@ -39,9 +39,7 @@ fn puts_parts_before(order: IterationOrder, front: &[u8], suffix: &[u8], key: &[
 fn row_before(order: IterationOrder, first: &[u8], bytes: &[u8], key: &[u8]) -> Option<bool>
     ensures { IfSome result (λ before. (row : SstRowEntry) (len : ℕ) → row_v1_of bytes.now ≡ Ok (row, len) → before ≡ comes_before order (whole_key row.key_prefix_len first.now row.key_suffix) key.now) }
 {
-    let Ok((shared, (from, upto))) = key_fields_v1(bytes) else {
-        return None;
-    };
+    let (shared, (from, upto)) = key_fields_v1(bytes).ok()?;
     let shared = shared as usize;
     if shared > first.len() {
         return None;

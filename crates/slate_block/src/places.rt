@@ -1,12 +1,14 @@
-//! Rows of version 1 where they stand in a block's rows' part.
-ghost use Rattle.std.specs.Prelude.{◌≡◌, ◌≤◌, ◌+◌, ◌<◌, ◌^◌, ◌⊎◌, ℕ, true, false, Some, Ok, Err, length, drop, slice_get, IfOk, IfErr};
-ghost use Rattle.slate_block.specs.Walks.{moved, moved_result, between, next_place, row_v1_in, row_upto, whole_v1, is_restored, reads_v1, first_key_v1, are_named, block_reads};
-ghost use Rattle.slate_block.specs.RowReading.{row_v1_of};
+//! Rows where they stand in a block's rows' part.
+ghost use Rattle.std.specs.Prelude.{◌≡◌, ◌+◌, ◌<◌, ◌^◌, ◌⊎◌, ℕ, true, false, Some, Ok, Err, length, drop, slice_get, IfOk, IfErr};
+ghost use Rattle.slate_block.specs.Damage.{AreWithin, IsDamageIn};
+ghost use Rattle.slate_block.specs.Walks.{moved, between, next_place, row_upto, is_restored, reads_v1, first_key_v1, are_named, block_reads};
 ghost use Rattle.slate_block.specs.BlockWalks.{IsDamage};
+ghost use Rattle.slate_block.specs.PlacedRows.{fields_of, placed, row_in, suffix_of, whole_of};
 
-use crate::codec_v0::read_row;
-use crate::fields::corrupt;
-use crate::row::SstRowEntry;
+use crate::fields::{RowFields, corrupt, fields_v1, fields_v2};
+use crate::keys::restored_key;
+use crate::row::{read_expiry, row_parts};
+use crate::rows_part::Version;
 use bytes::Bytes;
 use slate_types::{RowEntry, SlateDBError};
 use std::alloc::Global;
@@ -15,7 +17,7 @@ use std::alloc::Global;
 const MAX_ROWS: usize = 65535;
 
 /// A refusal of bytes that begin at a place, with its place in the whole.
-pub fn moved(at: usize, error: SlateDBError) -> SlateDBError
+fn moved(at: usize, error: SlateDBError) -> SlateDBError
     requires { (place : ℕ) → error ≡ SlateDBError.CorruptTable place → at + place < 2 ^ 64 }
     ensures { result ≡ moved at error }
 {
@@ -27,7 +29,7 @@ pub fn moved(at: usize, error: SlateDBError) -> SlateDBError
 
 /// The bytes between two places, which share the buffer.
 #[tactic(auto, unfolding(crate::specs::Walks::between))]
-pub fn between(body: &Bytes, from: usize, upto: usize) -> Result<Bytes, SlateDBError>
+fn between(body: &Bytes, from: usize, upto: usize) -> Result<Bytes, SlateDBError>
     ensures found { IfOk result (λ bytes. between body.now from upto ≡ Ok bytes) }
     ensures within { IfOk result (λ bytes. from + length bytes < 2 ^ 64) }
     ensures cause { IfErr result (λ e. (e ≡ SlateDBError.OutOfMemory) ⊎ (between body.now from upto ≡ Err e)) }
@@ -39,62 +41,96 @@ pub fn between(body: &Bytes, from: usize, upto: usize) -> Result<Bytes, SlateDBE
     Err(corrupt(from))
 }
 
-/// The row that begins bytes, which begin at a place, and how many bytes it has.
-fn read_row_at(from: usize, bytes: &Bytes) -> Result<(SstRowEntry, usize), SlateDBError>
+/// The length that the row shares which begins the bytes, and its other fields. A tombstone of version 1 has no expiry.
+#[tactic(auto, unfolding(crate::specs::PlacedRows::fields_of))]
+fn fields_of(version: Version, bytes: &[u8]) -> Result<(u32, RowFields), SlateDBError>
+    ensures value { result ≡ fields_of version bytes.now }
+    ensures damage { IfErr result (IsDamageIn (length bytes.now)) }
+    ensures within { IfOk result (λ row. AreWithin row.1 bytes.now) }
+{
+    match version {
+        Version::V1 => {
+            let (shared, mut fields) = fields_v1(bytes)?;
+            fields.expire_ts = read_expiry(fields.flags, fields.expire_ts);
+            Ok((u32::from(shared), fields))
+        }
+        Version::V2 => fields_v2(bytes),
+    }
+}
+
+/// The row with these fields, which stand in bytes that begin at a place. A front of its key stands in the other key.
+fn whole_row(
+    alloc: Global,
+    bytes: &Bytes,
+    other: &[u8],
+    from: usize,
+    shared: usize,
+    fields: &RowFields,
+) -> Result<RowEntry, SlateDBError>
+    requires place { from < 2 ^ 64 }
+    requires within { AreWithin fields.now bytes.now }
+    ensures found { IfOk result (λ row. (is_restored shared other.now (suffix_of bytes.now fields.now) ≡ true) × (row ≡ whole_of bytes.now other.now shared fields.now)) }
+    ensures cause { IfErr result (λ e. (e ≡ SlateDBError.OutOfMemory) ⊎ ((is_restored shared other.now (suffix_of bytes.now fields.now) ≡ false) × (e ≡ SlateDBError.CorruptTable from))) }
+{
+    let (suffix, value) = row_parts(bytes, fields)?;
+    let restored = restored_key(alloc, shared, other, &suffix);
+    drop(suffix);
+    match restored {
+        Ok(key) => Ok(RowEntry {
+            key,
+            value,
+            seq: fields.seq,
+            create_ts: fields.create_ts,
+            expire_ts: fields.expire_ts,
+        }),
+        Err(error) => {
+            drop(value);
+            Err(moved(from, error))
+        }
+    }
+}
+
+/// The row that begins bytes, which begin at a place, and the place behind it.
+#[tactic(auto, unfolding(crate::specs::PlacedRows::placed))]
+fn placed_row(
+    version: Version,
+    alloc: Global,
+    bytes: &Bytes,
+    other: &[u8],
+    from: usize,
+) -> Result<(RowEntry, usize), SlateDBError>
     requires { from + length bytes.now < 2 ^ 64 }
-    ensures found { IfOk result (λ found. moved_result from (row_v1_of bytes.now) ≡ Ok found) }
-    ensures within { IfOk result (λ found. found.1 ≤ length bytes.now) }
-    ensures cause { IfErr result (λ e. (e ≡ SlateDBError.OutOfMemory) ⊎ (moved_result from (row_v1_of bytes.now) ≡ Err e)) }
+    ensures found { IfOk result (λ found. placed version other.now from bytes.now ≡ Ok found) }
+    ensures cause { IfErr result (λ e. (e ≡ SlateDBError.OutOfMemory) ⊎ (placed version other.now from bytes.now ≡ Err e)) }
     ensures damage { IfErr result (λ e. (e ≡ SlateDBError.OutOfMemory) ⊎ IsDamage e) }
 {
-    match read_row(bytes) {
-        Ok(found) => Ok(found),
+    match fields_of(version, bytes.as_slice()) {
+        Ok((shared, fields)) => {
+            let row = whole_row(alloc, bytes, other, from, shared as usize, &fields)?;
+            Ok((row, from + fields.end))
+        }
         Err(error) => Err(moved(from, error)),
     }
 }
 
-/// The row with its whole key, of which a front stands in the other key.
-fn whole_row(
-    alloc: Global,
-    other: &[u8],
-    from: usize,
-    row: SstRowEntry,
-) -> Result<RowEntry, SlateDBError>
-    requires { from < 2 ^ 64 }
-    ensures found { IfOk result (λ whole. (is_restored row.key_prefix_len other.now row.key_suffix ≡ true) × (whole ≡ whole_v1 other.now row)) }
-    ensures cause { IfErr result (λ e. (e ≡ SlateDBError.OutOfMemory) ⊎ ((is_restored row.key_prefix_len other.now row.key_suffix ≡ false) × (e ≡ SlateDBError.CorruptTable from))) }
-{
-    let key = match row.restore_full_key(alloc, other) {
-        Ok(key) => key,
-        Err(SlateDBError::OutOfMemory) => return Err(SlateDBError::OutOfMemory),
-        Err(_) => return Err(corrupt(from)),
-    };
-    Ok(RowEntry {
-        key,
-        value: row.value,
-        seq: row.seq,
-        create_ts: row.create_ts,
-        expire_ts: row.expire_ts,
-    })
-}
-
 /// The row between two places, and the place behind it. Its key is restored from the other key.
-#[tactic(auto, unfolding(crate::specs::Walks::row_v1_in))]
-fn row_in(
+#[tactic(auto, using(crate::proofs::PlacedLaws::row_placed, crate::proofs::PlacedLaws::no_row_placed))]
+pub fn row_in(
+    version: Version,
     alloc: Global,
     body: &Bytes,
     other: &[u8],
     from: usize,
     upto: usize,
 ) -> Result<(RowEntry, usize), SlateDBError>
-    ensures found { IfOk result (λ found. row_v1_in body.now other.now from upto ≡ Ok found) }
-    ensures cause { IfErr result (λ e. (e ≡ SlateDBError.OutOfMemory) ⊎ (row_v1_in body.now other.now from upto ≡ Err e)) }
+    ensures found { IfOk result (λ found. row_in version body.now other.now from upto ≡ Ok found) }
+    ensures cause { IfErr result (λ e. (e ≡ SlateDBError.OutOfMemory) ⊎ (row_in version body.now other.now from upto ≡ Err e)) }
     ensures damage { IfErr result (λ e. (e ≡ SlateDBError.OutOfMemory) ⊎ IsDamage e) }
 {
     let bytes = between(body, from, upto)?;
-    let (row, len) = read_row_at(from, &bytes)?;
-    let whole = whole_row(alloc, other, from, row)?;
-    Ok((whole, from + len))
+    let row = placed_row(version, alloc, &bytes, other, from);
+    drop(bytes);
+    row
 }
 
 /// The row between two places, which it fills.
@@ -110,10 +146,11 @@ pub fn row_upto(
     ensures cause { IfErr result (λ e. (e ≡ SlateDBError.OutOfMemory) ⊎ (row_upto body.now other.now at upto ≡ Err e)) }
     ensures damage { IfErr result (λ e. (e ≡ SlateDBError.OutOfMemory) ⊎ IsDamage e) }
 {
-    let (row, end) = row_in(alloc, body, other, at, upto)?;
+    let (row, end) = row_in(Version::V1, alloc, body, other, at, upto)?;
     if end == upto {
         return Ok(row);
     }
+    drop(row);
     Err(corrupt(end))
 }
 
@@ -158,6 +195,7 @@ pub fn first_key(alloc: Global, body: &Bytes, offsets: &[u16]) -> Result<Bytes, 
     }
     let upto = place_behind(body.len(), offsets, 0);
     let row = row_upto(alloc, body, &[], offsets[0] as usize, upto)?;
+    drop(row.value);
     Ok(row.key)
 }
 

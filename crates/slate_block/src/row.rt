@@ -1,18 +1,23 @@
 //! Rows as a block holds them: each leaves out a front of its key that stands elsewhere.
 
-ghost use Rattle.std.specs.Prelude.{◌≡◌, ◌⊎◌, OnOk, IfOk, IfErr, IsOkUnless};
+ghost use Rattle.std.specs.Prelude.{◌≡◌, ◌⊎◌, slice_range, OnOk, IfOk, IfErr, IsOkUnless};
 ghost use Rattle.slate_block.specs.RowSpelling.{flags};
+ghost use Rattle.slate_block.specs.Damage.{AreWithin};
+ghost use Rattle.slate_block.specs.RowReading.{expiry_of, fields_value};
 ghost use Rattle.slate_block.specs.BlockSpelling.{whole_key};
 ghost use Rattle.slate_block.specs.WholeKeys.{IsRestored};
 
+use crate::fields::RowFields;
 use crate::flags::RowFlags;
 use crate::keys::restored_key;
+use crate::value::value_of;
+use bitflags::Flags;
 use bytes::Bytes;
 use slate_types::{SlateDBError, ValueDeletable};
-use std::alloc::Global;
+use std::alloc::{AllocError, Global};
 
 /// A row of version 1. The front that is left out is the block's first key's.
-#[derive(Clone, Debug, PartialEq, Eq, Drop)]
+#[derive(Drop)]
 pub struct SstRowEntry {
     /// How many bytes of the block's first key come before the suffix.
     pub key_prefix_len: u16,
@@ -47,7 +52,7 @@ impl SstRowEntry {
 }
 
 /// A row of version 2. The front that is left out is the key's before it, and none at a restart.
-#[derive(Clone, Debug, PartialEq, Eq, Drop)]
+#[derive(Drop)]
 pub struct SstRowEntryV2 {
     /// How many bytes of the key before come before the suffix.
     pub shared_bytes: u32,
@@ -79,4 +84,27 @@ impl SstRowEntryV2 {
         let shared = self.shared_bytes as usize;
         restored_key(alloc, shared, previous, &self.key_suffix)
     }
+}
+
+/// The suffix and the value of the row with these fields, which share the buffer.
+pub(crate) fn row_parts(
+    bytes: &Bytes,
+    fields: &RowFields,
+) -> Result<(Bytes, ValueDeletable), AllocError>
+    requires { AreWithin fields.now bytes.now }
+    ensures { IfOk result (λ parts. (parts.0 ≡ slice_range bytes.now fields.now.suffix_at fields.now.suffix_end) × (parts.1 ≡ fields_value bytes.now fields.now)) }
+{
+    let suffix = bytes.slice(fields.suffix_at..fields.suffix_end)?;
+    let value = bytes.slice(fields.value_at..fields.value_end)?;
+    Ok((suffix, value_of(fields.flags, value)))
+}
+
+/// A tombstone of version 1 has no expiry.
+pub(crate) fn read_expiry(flags: RowFlags, expire_ts: Option<i64>) -> Option<i64>
+    ensures { result ≡ expiry_of flags expire_ts }
+{
+    if flags.contains(RowFlags::TOMBSTONE) {
+        return None;
+    }
+    expire_ts
 }

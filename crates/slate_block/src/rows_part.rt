@@ -1,13 +1,11 @@
 //! The rows' part of a block that is being built, and its offsets.
-ghost use Rattle.std.specs.Prelude.{◌≡◌, ◌≤◌, ◌<◌, ◌+◌, ◌*◌, ◌^◌, ◌++◌, length, IfOk, OnOk, OnErr, IsOkUnless};
-ghost use Rattle.slate_block.specs.RowSpelling.{v1_bytes, v2_bytes, stamp_bytes};
-ghost use Rattle.slate_block.specs.BlockSpelling.{entry_v1, entry_v2, is_restart};
+ghost use Rattle.std.specs.Prelude.{◌≡◌, ◌≤◌, ◌<◌, ◌+◌, ◌*◌, ◌^◌, ◌++◌, length, OnOk, OnErr, IsOkUnless};
+ghost use Rattle.slate_block.specs.RowSpelling.{FitsStamp, v2_bytes, stamp_bytes};
+ghost use Rattle.slate_block.specs.BlockSpelling.{entry_v2, is_restart};
 ghost use Rattle.slate_block.specs.Building.{CanTake, number, row_bytes, is_named, named, part_size, has_room, next_front, IsSamePart, IsLongerPart};
 
-use crate::codec_v0::SstRowCodecV0;
-use crate::codec_v2::SstRowCodecV2;
-use crate::row::{SstRowEntry, SstRowEntryV2};
 use crate::varint::varint_len;
+use crate::{codec_v0, codec_v2};
 use bytes::Bytes;
 use slate_types::{RowEntry, SlateDBError};
 
@@ -82,16 +80,39 @@ impl RowsPart {
         ensures unchanged { OnErr result (IsSamePart self.old self.new) }
         ensures cause { IsOkUnless result SlateDBError.OutOfMemory }
     {
+        match self.write(shared, &entry) {
+            Ok(()) => {
+                drop(entry.value);
+                self.follow(entry.key);
+                Ok(())
+            }
+            Err(error) => {
+                drop(entry);
+                Err(error)
+            }
+        }
+    }
+
+    /// Appends a row's bytes, and its place where that is one of the offsets. `OutOfMemory` leaves all as it was.
+    fn write(&mut self, shared: usize, entry: &RowEntry) -> Result<(), SlateDBError>
+        requires lengths { CanTake entry.now }
+        requires shared { shared ≤ length entry.now.key }
+        requires fits { (entry.now.seq < 2 ^ 64) × FitsStamp entry.now.expire_ts × FitsStamp entry.now.create_ts }
+        requires place { length self.old.body.items < 2 ^ 16 }
+        ensures body { OnOk result (self.new.body.items ≡ self.old.body.items ++ row_bytes (number self.old.version) shared entry.now) }
+        ensures offsets { OnOk result (self.new.offsets.items ≡ self.old.offsets.items ++ named (number self.old.version) self.old.num_rows (length self.old.body.items)) }
+        ensures version { self.new.version ≡ self.old.version }
+        ensures count { self.new.num_rows ≡ self.old.num_rows }
+        ensures front { self.new.front_key ≡ self.old.front_key }
+        ensures unchanged { OnErr result (IsSamePart self.old self.new) }
+        ensures cause { IsOkUnless result SlateDBError.OutOfMemory }
+    {
         let place = self.body.len() as u16;
         self.offsets.reserve(1)?;
-        let key = match self.version {
-            Version::V1 => append_v1(&mut self.body, shared, entry)?,
-            Version::V2 => append_v2(&mut self.body, shared, entry)?,
-        };
+        append_row(self.version, &mut self.body, shared, entry)?;
         if self.names_next() {
             self.offsets.push_reserved(place);
         }
-        self.follow(key);
         Ok(())
     }
 
@@ -107,8 +128,11 @@ impl RowsPart {
         let is_first = self.num_rows == 0;
         self.num_rows += 1;
         match self.version {
-            Version::V1 if !is_first => {}
-            Version::V2 if is_restart(self.num_rows) => self.front_key = Bytes::new(),
+            Version::V1 if !is_first => drop(key),
+            Version::V2 if is_restart(self.num_rows) => {
+                drop(key);
+                self.front_key = Bytes::new();
+            }
             _ => self.front_key = key,
         }
     }
@@ -143,44 +167,31 @@ fn stamp_size(stamp: Option<i64>) -> usize
     if stamp.is_some() { 8 } else { 0 }
 }
 
-/// Appends a row in version 1, and gives its key back. `OutOfMemory` leaves `out` as it was.
-fn append_v1(out: &mut Vec<u8>, shared: usize, entry: RowEntry) -> Result<Bytes, SlateDBError>
-    requires lengths { CanTake entry }
-    requires shared { shared ≤ length entry.key }
-    ensures key { IfOk result (λ key. key ≡ entry.key) }
-    ensures appended { OnOk result (out.new.items ≡ out.old.items ++ v1_bytes (entry_v1 shared entry)) }
+/// Appends a row. `OutOfMemory` leaves `out` as it was.
+fn append_row(
+    version: Version,
+    out: &mut Vec<u8>,
+    shared: usize,
+    entry: &RowEntry,
+) -> Result<(), SlateDBError>
+    requires lengths { CanTake entry.now }
+    requires shared { shared ≤ length entry.now.key }
+    requires fits { (entry.now.seq < 2 ^ 64) × FitsStamp entry.now.expire_ts × FitsStamp entry.now.create_ts }
+    ensures appended { OnOk result (out.new.items ≡ out.old.items ++ row_bytes (number version) shared entry.now) }
     ensures unchanged { OnErr result (out.new.items ≡ out.old.items) }
     ensures cause { IsOkUnless result SlateDBError.OutOfMemory }
 {
-    let row = SstRowEntry {
-        key_prefix_len: shared as u16,
-        key_suffix: entry.key.slice(shared..)?,
-        seq: entry.seq,
-        expire_ts: entry.expire_ts,
-        create_ts: entry.create_ts,
-        value: entry.value,
-    };
-    SstRowCodecV0::encode(out, &row)?;
-    Ok(entry.key)
-}
-
-/// Appends a row in version 2, and gives its key back. `OutOfMemory` leaves `out` as it was.
-fn append_v2(out: &mut Vec<u8>, shared: usize, entry: RowEntry) -> Result<Bytes, SlateDBError>
-    requires lengths { CanTake entry }
-    requires shared { shared ≤ length entry.key }
-    ensures key { IfOk result (λ key. key ≡ entry.key) }
-    ensures appended { OnOk result (out.new.items ≡ out.old.items ++ v2_bytes (entry_v2 shared entry)) }
-    ensures unchanged { OnErr result (out.new.items ≡ out.old.items) }
-    ensures cause { IsOkUnless result SlateDBError.OutOfMemory }
-{
-    let row = SstRowEntryV2 {
-        shared_bytes: shared as u32,
-        key_suffix: entry.key.slice(shared..)?,
-        seq: entry.seq,
-        expire_ts: entry.expire_ts,
-        create_ts: entry.create_ts,
-        value: entry.value,
-    };
-    SstRowCodecV2::encode(out, &row)?;
-    Ok(entry.key)
+    let suffix = &entry.key.as_slice()[shared..];
+    let (seq, value) = (entry.seq, &entry.value);
+    let (expire_ts, create_ts) = (entry.expire_ts, entry.create_ts);
+    match version {
+        Version::V1 => {
+            let front = shared as u16;
+            codec_v0::append_parts(out, front, suffix, seq, value, expire_ts, create_ts)
+        }
+        Version::V2 => {
+            let front = shared as u32;
+            codec_v2::append_parts(out, front, suffix, seq, value, expire_ts, create_ts)
+        }
+    }
 }

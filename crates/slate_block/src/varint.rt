@@ -1,11 +1,12 @@
 //! Numbers of 32 bits in groups of 7 bits, the low group first.
-ghost use Rattle.std.specs.Prelude.{◌≡◌, ◌≤◌, ◌<◌, ◌^◌, ◌++◌, Some, ℕ, List, length, take, OnOk, OnErr, IfOk, IfErr, IsOkUnless};
+ghost use Rattle.std.specs.Prelude.{◌≡◌, ◌≤◌, ◌<◌, ◌^◌, ◌++◌, Some, ℕ, List, length, take, OnOk, OnErr, IfSome, IfOk, IfErr, IsOkUnless};
 ghost use Rattle.std.specs.Result.{result_ok};
 ghost use Rattle.slate_block.specs.Damage.{front_varint, of_32_bits};
 ghost use Rattle.slate_block.specs.Groups.{completed};
 ghost use Rattle.slate_block.specs.Varint.{varint, IsVarint};
 
 use slate_types::SlateDBError;
+use std::alloc::AllocError;
 
 /// The longest spelling has five groups.
 const MAX_VARINT_LEN: usize = 5;
@@ -33,6 +34,15 @@ pub fn encode_varint(out: &mut Vec<u8>, value: u32) -> Result<(), SlateDBError>
     ensures unchanged { OnErr result (out.new.items ≡ out.old.items) }
     ensures cause { IsOkUnless result SlateDBError.OutOfMemory }
 {
+    append_varint(out, value)?;
+    Ok(())
+}
+
+/// The same.
+pub(crate) fn append_varint(out: &mut Vec<u8>, value: u32) -> Result<(), AllocError>
+    ensures appended { OnOk result (out.new.items ≡ out.old.items ++ varint value) }
+    ensures unchanged { OnErr result (out.new.items ≡ out.old.items) }
+{
     let mut groups = [0u8; MAX_VARINT_LEN];
     let mut len = 0;
     let mut rest = value;
@@ -42,8 +52,7 @@ pub fn encode_varint(out: &mut Vec<u8>, value: u32) -> Result<(), SlateDBError>
         len += 1;
     }
     groups[len] = rest as u8;
-    out.extend_from_slice(&groups[..len + 1])?;
-    Ok(())
+    out.extend_from_slice(&groups[..len + 1])
 }
 
 /// The number whose spelling begins the input, and how many bytes it has. `CorruptTable` exactly where no spelling begins
@@ -58,8 +67,10 @@ pub fn decode_varint(input: &[u8]) -> Result<(u32, usize), SlateDBError>
     first_varint(input).ok_or(SlateDBError::CorruptTable { place: 0 })
 }
 
-fn first_varint(input: &[u8]) -> Option<(u32, usize)>
-    ensures { result ≡ front_varint input.now }
+/// The same as an option.
+pub(crate) fn first_varint(input: &[u8]) -> Option<(u32, usize)>
+    ensures value { result ≡ front_varint input.now }
+    ensures within { IfSome result (λ found. found.1 ≤ length input.now) }
 {
     let mut low: u64 = 0;
     let mut weight: u64 = 1;

@@ -11,7 +11,7 @@ use slate_types::{IterationOrder, RowEntry, SlateDBError};
 use std::alloc::Global;
 
 /// The rows of a group, in their order.
-#[tactic(auto, using(crate::proofs::BackSteps::group_begun, crate::proofs::BackSteps::group_grown, crate::proofs::BackSteps::group_done, crate::proofs::BackSteps::group_refused))]
+#[tactic(auto, using(crate::proofs::GroupSteps::over_left, crate::proofs::BackSteps::group_begun, crate::proofs::BackSteps::group_grown, crate::proofs::BackSteps::group_done, crate::proofs::BackSteps::group_refused))]
 pub fn group_rows(
     alloc: Global,
     body: &Bytes,
@@ -26,10 +26,12 @@ pub fn group_rows(
     let (first, mut group) = first_of_group(alloc, body, offsets, number)?;
     let mut rows = Vec::new(alloc);
     rows.push(first)?;
-    while let Some((row, rest)) = next_of_group(alloc, body, &group)? {
-        rows.push(row)?;
+    while !group.is_over() {
+        let (row, rest) = next_of_group(alloc, body, &group)?;
         group = rest;
+        rows.push(row)?;
     }
+    drop(group);
     Ok(rows)
 }
 

@@ -1,19 +1,19 @@
 //! A walk over the rows of a block of version 2, from its front to its end.
-ghost use Rattle.std.specs.Prelude.{◌≡◌, ◌≤◌, ◌<◌, ◌⊎◌, ℕ, List, [], ◌∷◌, Ok, Err, Some, None, IfOk, IfErr, IfSome, IsOkUnless, length, drop, slice_get};
+ghost use Rattle.std.specs.Prelude.{◌≡◌, ◌≤◌, ◌<◌, ◌⊎◌, ℕ, List, [], ◌∷◌, Ok, Err, Some, None, true, false, IfOk, IfErr, IfSome, IsOkUnless, length, drop, slice_get};
 ghost use Rattle.slate_types.specs.declared.types.RowEntry.{RowEntry};
 ghost use Rattle.slate_types.specs.Iteration.{comes_before};
 ghost use Rattle.slate_block.specs.Walks.{reads_v2, RowRead};
 ghost use Rattle.slate_block.specs.BlockWalks.{BeginsRead, IsDamage, IsPast, Refuses, StopsAt};
-ghost use Rattle.slate_block.specs.GroupWalks.{left_v2, restart_at, BeginsBefore, IsNextV2, IsStart};
+ghost use Rattle.slate_block.specs.GroupWalks.{is_over, left_v2, restart_at, BeginsBefore, IsStart};
 
 use crate::fields::key_fields_v2;
 use crate::row_groups::{RowGroup, first_of_group, group_end, next_of_group};
 use bytes::Bytes;
 use slate_types::{IterationOrder, RowEntry, SlateDBError};
-use std::alloc::Global;
+use std::alloc::{AllocError, Global};
 
 /// A place between two rows.
-#[derive(Clone, Drop)]
+#[derive(Drop)]
 pub struct BlockPlace {
     /// What is left of the group that was begun.
     pub group: RowGroup,
@@ -32,30 +32,56 @@ impl BlockPlace {
             next: number,
         }
     }
+
+    /// Whether no row is behind it.
+    #[tactic(auto, using(crate::proofs::GroupSteps::over_left, crate::proofs::GroupSteps::left_behind_block))]
+    pub fn is_at_end(&self, offsets: &[u16]) -> bool
+        ensures end { (body : List ℕ) → result ≡ true → left_v2 body offsets.now self.now ≡ [] }
+        ensures more { result ≡ false → is_over self.now.group ≡ true → self.now.next < length offsets.now }
+    {
+        self.group.is_over() && self.next >= offsets.len()
+    }
+
+    /// The same place.
+    fn copied(&self) -> Result<BlockPlace, AllocError>
+        ensures { IfOk result (λ place. place ≡ self.now) }
+    {
+        let previous = self.group.previous.clone()?;
+        let group = RowGroup {
+            at: self.group.at,
+            end: self.group.end,
+            room: self.group.room,
+            is_last: self.group.is_last,
+            previous,
+        };
+        Ok(BlockPlace {
+            group,
+            next: self.next,
+        })
+    }
 }
 
-/// The row behind a place, and the place behind that row.
-#[tactic(auto, using(crate::proofs::GroupSteps::left_in_group, crate::proofs::GroupSteps::left_behind_group, crate::proofs::GroupSteps::left_behind_block, crate::proofs::GroupSteps::refused_in_group, crate::proofs::GroupSteps::refused_behind_group))]
+/// The row behind a place that has one, and the place behind that row.
+#[tactic(auto, using(crate::proofs::GroupSteps::left_in_group, crate::proofs::GroupSteps::left_behind_group, crate::proofs::GroupSteps::over_left, crate::proofs::GroupSteps::refused_in_group, crate::proofs::GroupSteps::refused_behind_group))]
 pub fn next_of_block(
     alloc: Global,
     body: &Bytes,
     offsets: &[u16],
     place: &BlockPlace,
-) -> Result<Option<(RowEntry, BlockPlace)>, SlateDBError>
-    ensures found { IfOk result (IsNextV2 body.now offsets.now place.now) }
+) -> Result<(RowEntry, BlockPlace), SlateDBError>
+    requires { is_over place.now.group ≡ true → place.now.next < length offsets.now }
+    ensures found { IfOk result (λ found. left_v2 body.now offsets.now place.now ≡ Ok found.0 ∷ left_v2 body.now offsets.now found.1) }
     ensures cause { IfErr result (λ e. (e ≡ SlateDBError.OutOfMemory) ⊎ (slice_get (left_v2 body.now offsets.now place.now) 0 ≡ Some (Err e))) }
     ensures damage { IfErr result (λ e. (e ≡ SlateDBError.OutOfMemory) ⊎ IsDamage e) }
 {
-    if let Some((row, group)) = next_of_group(alloc, body, &place.group)? {
+    if !place.group.is_over() {
+        let (row, group) = next_of_group(alloc, body, &place.group)?;
         let next = place.next;
-        return Ok(Some((row, BlockPlace { group, next })));
-    }
-    if place.next >= offsets.len() {
-        return Ok(None);
+        return Ok((row, BlockPlace { group, next }));
     }
     let (row, group) = first_of_group(alloc, body, offsets, place.next)?;
     let next = place.next + 1;
-    Ok(Some((row, BlockPlace { group, next })))
+    Ok((row, BlockPlace { group, next }))
 }
 
 /// The place behind the row behind a place, where that row comes before a key. `None` where it doesn't, and where none is
@@ -75,12 +101,16 @@ fn behind_row(
     ensures cause { IfErr result (λ e. (e ≡ SlateDBError.OutOfMemory) ⊎ (slice_get (left_v2 body.now offsets.now place.now) 0 ≡ Some (Err e))) }
     ensures damage { IfErr result (λ e. (e ≡ SlateDBError.OutOfMemory) ⊎ IsDamage e) }
 {
-    let Some((row, after)) = next_of_block(alloc, body, offsets, place)? else {
+    if place.is_at_end(offsets) {
         return Ok(None);
-    };
-    if IterationOrder::Ascending.puts_before(row.key.as_slice(), key) {
+    }
+    let (row, after) = next_of_block(alloc, body, offsets, place)?;
+    let is_past = IterationOrder::Ascending.puts_before(row.key.as_slice(), key);
+    drop(row);
+    if is_past {
         return Ok(Some(after));
     }
+    drop(after);
     Ok(None)
 }
 
@@ -137,7 +167,7 @@ fn start_of_seek(
 {
     match last_before(body, offsets, place.next, key) {
         Some(number) => Ok(BlockPlace::before_group(number)),
-        None => Ok(place.clone()?),
+        None => Ok(place.copied()?),
     }
 }
 
@@ -178,8 +208,8 @@ pub fn begins_before(
         return false;
     }
     let bytes = &body.as_slice()[from..end];
-    let Ok(fields) = key_fields_v2(bytes) else {
-        return false;
-    };
-    order.puts_before(&bytes[fields.suffix_at..fields.suffix_end], key)
+    match key_fields_v2(bytes).ok() {
+        Some(fields) => order.puts_before(&bytes[fields.suffix_at..fields.suffix_end], key),
+        None => false,
+    }
 }

@@ -1,11 +1,13 @@
-use Rattle.std.proofs.Common.{◌≡◌, ◌+◌, length, nat_eq, refl, rules}
-use Rattle.slate_block.proofs.GroupSteps.{restart_taken}
+use Rattle.std.proofs.Common.{refl}
+use Rattle.slate_types.specs.declared.error.SlateDBError.TheVariants.{OutOfMemory}
+use Rattle.slate_block.proofs.GroupSteps.{first_refused, first_taken}
 use Rattle.slate_block.proofs.row_groups.first_of_group.Goals as goal
 
 pub returns-clause-found : goal.returns-clause-found
 returns-clause-found c =
-    let copied : c.in_ok-previous.previous ≡ c.in_ok-row.row.key = search rules in
-    let found = rw c.group_end-end.ensures at c.in_ok-row.ensures.found in
-    restart_taken c.args.body.now c.args.offsets.now c.args.number c.in_ok-row.row
-    (record { at = c.in_ok-row.at; end = c.group_end-end.result; room = 15; is_last = nat_eq (c.args.number + 1) (length c.args.offsets.now); previous = c.in_ok-previous.previous })
-    c.requires found c.group_end-end.ensures refl refl copied
+    first_taken c.args.body.now c.args.offsets.now c.args.number _ c.row_and_rest-first.result c.requires refl c.group_end-end.ensures refl refl c.new.ensures
+    c.row_and_rest-first.ensures.found c.row_and_rest-first.ensures.rest
+
+pub returns-clause-cause : goal.returns-clause-cause
+returns-clause-cause c =
+    first_refused c.args.body.now c.args.offsets.now c.args.number _ _ _ c.row_and_rest-first.result OutOfMemory refl c.group_end-end.ensures c.new.ensures c.row_and_rest-first.ensures.cause

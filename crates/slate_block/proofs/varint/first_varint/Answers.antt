@@ -1,5 +1,5 @@
 use Rattle.std.proofs.Common.{◌∙◌, arith}
-use Rattle.slate_block.proofs.Groups.{weight_small, goes_on, ends_at, cut_at, stops_at, low_more, worth_more}
+use Rattle.slate_block.proofs.Groups.{weight_small, goes_on, ends_at, cut_at, stops_at, low_more, worth_more, front_within}
 use Rattle.slate_block.proofs.varint.first_varint.Goals as goal
 
 pub last_group-requires-clause-weight : goal.last_group-requires-clause-weight
@@ -31,11 +31,14 @@ loop-index-preserved c = record {
   found = goes_on c.args.input.now c.loop-index.weight c.loop-index.low c.loop-index.index c.from-group.result c.loop-index-test.true c.from-group.ensures c.if-group-lt128.false c.loop-index.invariant.found;
 }
 
-pub returns-then-group-lt128 : goal.returns-then-group-lt128
-returns-then-group-lt128 c = c.last_group.ensures ∙ ends_at c.args.input.now c.loop-index.weight c.loop-index.low c.loop-index.index c.from-group.result c.loop-index-test.true c.from-group.ensures c.if-group-lt128.true c.loop-index.invariant.found
+pub returns-then-group-lt128-clause-value : goal.returns-then-group-lt128-clause-value
+returns-then-group-lt128-clause-value c = c.last_group.ensures ∙ ends_at c.args.input.now c.loop-index.weight c.loop-index.low c.loop-index.index c.from-group.result c.loop-index-test.true c.from-group.ensures c.if-group-lt128.true c.loop-index.invariant.found
 
-pub returns-then-index-eq-MAX_VARINT_LEN : goal.returns-then-index-eq-MAX_VARINT_LEN
-returns-then-index-eq-MAX_VARINT_LEN c = stops_at c.args.input.now c.loop-index.weight c.loop-index.low c.loop-index.index c.if-index-eq-MAX_VARINT_LEN.true c.loop-index.invariant.worth c.loop-index.invariant.found
+pub returns-then-group-lt128-clause-within : goal.returns-then-group-lt128-clause-within
+returns-then-group-lt128-clause-within c = front_within c.args.input.now c.last_group.result (λ i. omega (arith, c.type_inv.input i)) (returns-then-group-lt128-clause-value c)
 
-pub returns : goal.returns
-returns c = cut_at c.args.input.now c.loop-index.weight c.loop-index.low c.loop-index.index (omega arith) c.loop-index.invariant.found
+pub returns-then-index-eq-MAX_VARINT_LEN-clause-value : goal.returns-then-index-eq-MAX_VARINT_LEN-clause-value
+returns-then-index-eq-MAX_VARINT_LEN-clause-value c = stops_at c.args.input.now c.loop-index.weight c.loop-index.low c.loop-index.index c.if-index-eq-MAX_VARINT_LEN.true c.loop-index.invariant.worth c.loop-index.invariant.found
+
+pub returns-clause-value : goal.returns-clause-value
+returns-clause-value c = cut_at c.args.input.now c.loop-index.weight c.loop-index.low c.loop-index.index (omega arith) c.loop-index.invariant.found

@@ -3,8 +3,8 @@ use Rattle.slate_block.specs.GroupWalks.{group_left, restart_at}
 use Rattle.slate_block.proofs.WalkLaws.{ok_read}
 use Rattle.slate_block.proofs.walk_back_v2.group_rows.Given as goal
 
-abbrev pub invariant-loop-rows : goal.invariant-loop-rows
-invariant-loop-rows l = record { rows : restart_at l.body l.offsets l.number ≡ map ok_read l.rows.items ++ group_left l.body l.group }
+abbrev pub invariant-loop-alloc : goal.invariant-loop-alloc
+invariant-loop-alloc l = record { rows : restart_at l.body l.offsets l.number ≡ map ok_read l.rows.items ++ group_left l.body l.group }
 
-abbrev pub decreases-loop-rows : goal.decreases-loop-rows
-decreases-loop-rows l = l.group.room
+abbrev pub decreases-loop-alloc : goal.decreases-loop-alloc
+decreases-loop-alloc l = l.group.room

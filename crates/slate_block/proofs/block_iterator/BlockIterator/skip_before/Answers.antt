@@ -1,8 +1,33 @@
-use Rattle.slate_block.proofs.SeekLaws.{past_counted, stops_counted, sought}
+use Rattle.std.proofs.Common.{◌-◌, arith, refl, take}
+use Rattle.slate_block.specs.BlockWalks.{LastBefore}
+use Rattle.slate_block.proofs.SeekLaws.{last_counted, past_counted, past_none, stops_counted, sought}
 use Rattle.slate_block.proofs.block_iterator.BlockIterator.skip_before.Goals as goal
 
+-- ---- nothing is taken off
+
+pub returns-then-count-eq0-clause-past : goal.returns-then-count-eq0-clause-past
+returns-then-count-eq0-clause-past g c = past_none c.args.self.now.order c.args.key.now c.args.self.now.reads
+
+pub returns-then-count-eq0-clause-stops : goal.returns-then-count-eq0-clause-stops
+returns-then-count-eq0-clause-stops g c =
+    let next = rw c.if-count-eq0.true at c.in_ok-count.ensures.next in
+    stops_counted c.args.self.now.order c.args.key.now c.args.self.now.reads c.args.self.now.reads 0 refl next
+
+pub returns-then-count-eq0-clause-rows : goal.returns-then-count-eq0-clause-rows
+returns-then-count-eq0-clause-rows g c =
+    sought c.args.self.now.order c.args.key.now c.args.self.now.reads c.args.self.now.reads (returns-then-count-eq0-clause-past g c) (returns-then-count-eq0-clause-stops g c)
+
+-- ---- some rows are, up to one that was read
+
 pub returns-clause-past : goal.returns-clause-past
-returns-clause-past g c = past_counted c.args.self.now.order c.args.key.now c.args.self.now.reads c.skip.new.self.reads c.in_ok-count.count c.skip.ensures.reads c.in_ok-count.ensures.last
+returns-clause-past g c =
+    let count = c.in_ok-count.count in
+    let reads = c.args.self.now.reads in
+    let row = c.in_ok-last.last in
+    let found = c.in_ok-last.ensures.found in
+    let before = c.in_ok-count.ensures.last (count - 1) row (omega arith) found in
+    let last : LastBefore c.args.self.now.order c.args.key.now (take count reads) = last_counted c.args.self.now.order c.args.key.now reads count (count - 1) row (omega arith) found before in
+    past_counted c.args.self.now.order c.args.key.now reads c.skip.new.self.reads count c.skip.ensures.reads last
 
 pub returns-clause-stops : goal.returns-clause-stops
 returns-clause-stops g c = stops_counted c.args.self.now.order c.args.key.now c.args.self.now.reads c.skip.new.self.reads c.in_ok-count.count c.skip.ensures.reads c.in_ok-count.ensures.next

@@ -1,0 +1,49 @@
+-- The row between two places is the one that begins the bytes there.
+use Rattle.std.proofs.Common.{◌≡◌, ℕ, ◌+◌, if◌then◌else◌, List, Result, Ok, Err, refl, ap, ◌∙◌}
+use Rattle.slate_types.specs.declared.error.SlateDBError.{SlateDBError}
+use Rattle.slate_types.specs.declared.error.SlateDBError.TheVariants.{CorruptTable}
+use Rattle.slate_types.specs.declared.types.RowEntry.{RowEntry}
+use Rattle.slate_block.specs.declared.fields.RowFields.{RowFields}
+use Rattle.slate_block.specs.declared.row.SstRowEntry.{SstRowEntry}
+use Rattle.slate_block.specs.declared.row.SstRowEntryV2.{SstRowEntryV2}
+use Rattle.slate_block.specs.declared.rows_part.Version.{Version}
+use Rattle.slate_block.specs.declared.rows_part.Version.TheVariants.{V1, V2}
+use Rattle.slate_block.specs.Damage.{◌>>=◌, layout_v1, layout_v2}
+use Rattle.slate_block.specs.RowReading.{entry_of_v1, entry_of_v2, row_v1_of, row_v2_of}
+use Rattle.slate_block.specs.Walks.{between, entry_v2_in, is_restored, moved_result, row_v1_in, row_v2_in, whole_v1, whole_v2}
+use Rattle.slate_block.specs.PlacedRows.{as_read, fields_of, placed, row_in, suffix_of, whole_of}
+
+abbrev found_v1 : List ℕ → ℕ → SstRowEntry × ℕ → Result (RowEntry × ℕ) SlateDBError
+found_v1 other from found = if is_restored found.0.key_prefix_len other found.0.key_suffix then Ok (whole_v1 other found.0, from + found.1) else Err (CorruptTable from)
+
+abbrev found_v2 : List ℕ → ℕ → SstRowEntryV2 × ℕ → Result (RowEntry × ℕ) SlateDBError
+found_v2 other from found = if is_restored found.0.shared_bytes other found.0.key_suffix then Ok (whole_v2 other found.0, from + found.1) else Err (CorruptTable from)
+
+abbrev found_of : List ℕ → ℕ → List ℕ → ℕ × RowFields → Result (RowEntry × ℕ) SlateDBError
+found_of other from bytes row = if is_restored row.0 other (suffix_of bytes row.1) then Ok (whole_of bytes other row.0 row.1, from + row.1.end) else Err (CorruptTable from)
+
+same_v1 : (other : List ℕ) (from : ℕ) (bytes : List ℕ) (read : Result (ℕ × RowFields) SlateDBError)
+    → (moved_result from (read >>= λ row. Ok (entry_of_v1 bytes row.0 row.1, row.1.end)) >>= found_v1 other from)
+    ≡ (moved_result from (read >>= λ row. Ok (row.0, as_read row.1)) >>= found_of other from bytes)
+same_v1 other from bytes (Ok row) = refl
+same_v1 other from bytes (Err e) = refl
+
+same_v2 : (other : List ℕ) (from : ℕ) (bytes : List ℕ) (read : Result (ℕ × RowFields) SlateDBError)
+    → (moved_result from (read >>= λ row. Ok (entry_of_v2 bytes row.0 row.1, row.1.end)) >>= found_v2 other from)
+    ≡ (moved_result from read >>= found_of other from bytes)
+same_v2 other from bytes (Ok row) = refl
+same_v2 other from bytes (Err e) = refl
+
+pub row_placed : (version : Version) (body other : List ℕ) (from upto : ℕ) (bytes : List ℕ) → between body from upto ≡ Ok bytes → row_in version body other from upto ≡ placed version other from bytes
+unfolding row_v1_in row_v2_in entry_v2_in row_v1_of row_v2_of placed fields_of
+row_placed V1 body other from upto bytes is =
+    ap (λ (part : Result (List ℕ) SlateDBError). part >>= λ bytes. moved_result from (row_v1_of bytes) >>= found_v1 other from) is ∙ same_v1 other from bytes (layout_v1 bytes)
+row_placed V2 body other from upto bytes is =
+    ap (λ (part : Result (List ℕ) SlateDBError). (part >>= λ bytes. moved_result from (row_v2_of bytes)) >>= found_v2 other from) is ∙ same_v2 other from bytes (layout_v2 bytes)
+
+pub no_row_placed : (version : Version) (body other : List ℕ) (from upto : ℕ) (e : SlateDBError) → between body from upto ≡ Err e → row_in version body other from upto ≡ Err e
+unfolding row_v1_in row_v2_in entry_v2_in
+no_row_placed V1 body other from upto e is =
+    ap (λ (part : Result (List ℕ) SlateDBError). part >>= λ bytes. moved_result from (row_v1_of bytes) >>= found_v1 other from) is
+no_row_placed V2 body other from upto e is =
+    ap (λ (part : Result (List ℕ) SlateDBError). (part >>= λ bytes. moved_result from (row_v2_of bytes)) >>= found_v2 other from) is
