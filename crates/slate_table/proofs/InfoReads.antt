@@ -14,7 +14,7 @@ use Rattle.slate_block.proofs.FieldLaws.{bind_ok, guard_ok, ok_is, Stands, behin
 use Rattle.slate_block.proofs.ReadingLaws.{then}
 use Rattle.slate_table.specs.Parts.{Place, key_bytes, place_bytes, info_bytes}
 use Rattle.slate_table.specs.Decoded.{Info, IsInfo, FitsShort, FitsPlace, LiesBefore, SectionsLieBefore}
-use Rattle.slate_table.specs.InfoReading.{section_place, byte_at, byte_field, version_field, key_text, key_field, place_field, ending, info_in}
+use Rattle.slate_table.specs.InfoReading.{section_place, byte_at, byte_field, version_field, key_text, key_field, place_field, ending, info_from, info_in}
 
 -- ---- what is read is spelled
 
@@ -142,7 +142,7 @@ pub record InfoTakes (version end : ℕ) (bytes : List ℕ) (i : Info) : Type 0 
   pub before : SectionsLieBefore end i
 
 pub info_reads : (version end : ℕ) (bytes : List ℕ) (i : Info) → IsBytes bytes → info_in version end bytes ≡ Ok i → InfoTakes version end bytes i
-unfolding info_in
+unfolding info_in info_from
 info_reads version end bytes i fits h =
     let key : ℕ → Field (Option (List ℕ)) = key_field bytes in
     let place : ℕ → Field (ℕ × ℕ) = place_field end bytes in
@@ -225,7 +225,7 @@ ending_again bytes at h =
     rw (byte_again bytes at 0 (1 ∷ []) h, byte_again bytes (at + 1) 1 [] tail, whole) refl
 
 pub info_again : (version end : ℕ) (bytes : List ℕ) (i : Info) → InfoTakes version end bytes i → info_in version end bytes ≡ Ok i
-unfolding info_in
+unfolding info_in info_from
 info_again version end bytes i t =
     let v = be16 version in
     let f = key_bytes i.first in

@@ -13,6 +13,7 @@ pub mod StoredLaws
 pub mod CutLaws
 mod CrcLaws
 mod Grown
+mod Results
 mod StatsReads
 mod InfoReads
 mod SectionReads

@@ -2,6 +2,7 @@
 use Rattle.std.proofs.Common.{◌≡◌, ℕ, ◌+◌, ◌-◌, ◌^◌, ◌<◌, ◌≤◌, Bool, true, false, cond, ◌==◌, List, [], ◌∷◌, ◌++◌, length, fold, flat_map, Option, Some, None, refl, sym, ap, subst, ◌∙◌, ◌⊎◌, inl, inr, arith}
 use Rattle.std.specs.Prelude.{slice_get, sum_by, IsSome}
 use Rattle.std.specs.List.{AllByRecursion}
+use Rattle.std.specs.Option.{SomeIff, is_some}
 use Rattle.std.proofs.lemmas.List.{append-nil, length-append, map-append}
 use Rattle.std.proofs.lemmas.List.Sums.{sum_by-append}
 use Rattle.std.proofs.lemmas.Bool.Decides.{nat_tests}
@@ -347,3 +348,13 @@ within_none p w r limit s i (inr h) = by h.1
     by : (2 ^ 64 ≤ sum_by (λ x. length x.key) (p.rows.items ++ r ∷ [])) ⊎ (2 ^ 64 ≤ sum_by (λ x. length (operand x)) (p.rows.items ++ r ∷ [])) → ⊥
     by (inl k) = let sum = key_sum p.rows.items r in let old = s.keys in let few = i.keys in absurd (omega (arith, k, sum, old, few))
     by (inr k) = let sum = value_sum p.rows.items r in let old = s.values in let few = i.values in absurd (omega (arith, k, sum, old, few))
+
+-- ---- limits
+
+pub holds_where_some : {A : Type 0} (o : Option A) (P : Type 0) (v : A) → SomeIff o P v → is_some o ≡ true → P
+holds_where_some None P v h is = absurd cc
+holds_where_some (Some x) P v h is = h.0
+
+pub fails_where_none : {A : Type 0} (o : Option A) (P : Type 0) (v : A) → SomeIff o P v → is_some o ≡ false → P → ⊥
+fails_where_none None P v h is = h
+fails_where_none (Some x) P v h is = absurd cc

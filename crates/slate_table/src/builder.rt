@@ -117,13 +117,21 @@ impl EncodedSsTableBuilder {
         ensures still { (result ≡ Err SlateDBError.BlockTransformError) ⊎ (result ≡ Err SlateDBError.OutOfMemory) ⊎ (faults_of T.faults transformer.new ≡ faults_of T.faults transformer.old) }
     {
         if entry.key.is_empty() {
+            drop(entry);
             return Err(SlateDBError::EmptyKey);
         }
-        self.parts.test_limits(&entry)?;
-        self.is_whole = false;
-        let ended = self.parts.add(alloc, entry, transformer)?;
-        self.is_whole = true;
-        Ok(ended)
+        match self.parts.test_limits(&entry) {
+            Ok(()) => {
+                self.is_whole = false;
+                let ended = self.parts.add(alloc, entry, transformer)?;
+                self.is_whole = true;
+                Ok(ended)
+            }
+            Err(error) => {
+                drop(entry);
+                Err(error)
+            }
+        }
     }
 
     /// The table of the rows, of which there is one at least. It has no filters. `BlockTransformError`, which comes only where
@@ -144,10 +152,14 @@ impl EncodedSsTableBuilder {
         ensures later { faults_of T.faults transformer.old ≤ faults_of T.faults transformer.new }
         ensures still { (result ≡ Err SlateDBError.BlockTransformError) ⊎ (result ≡ Err SlateDBError.OutOfMemory) ⊎ (faults_of T.faults transformer.new ≡ faults_of T.faults transformer.old) }
     {
-        let EncodedSsTableBuilder { parts, .. } = self;
+        let EncodedSsTableBuilder { mut parts, .. } = self;
         let version = version_number(parts.format);
-        let made = parts.finish(alloc, transformer)?;
-        Ok(EncodedSsTable::new(made.0, made.1, version))
+        let made = parts.finish(alloc, transformer);
+        drop(parts);
+        match made {
+            Ok((bytes, info)) => Ok(EncodedSsTable::new(bytes, info, version)),
+            Err(error) => Err(error),
+        }
     }
 }
 

@@ -10,7 +10,7 @@ use slate_types::SlateDBError;
 pub const FOOTER_SIZE: usize = 10;
 
 /// Where the info of a table begins, and the table's version, 1 or 2.
-#[derive(Clone, Copy, Debug, PartialEq, Eq)]
+#[derive(Clone, Copy)]
 pub struct Footer {
     pub info_offset: u64,
     pub version: u16,
@@ -24,8 +24,7 @@ impl Footer {
         ensures cause { IsOkUnless result SlateDBError.OutOfMemory }
     {
         append_u64(out, self.info_offset)?;
-        append_u16(out, self.version)?;
-        Ok(())
+        append_u16(out, self.version)
     }
 
     /// The last bytes of an object of so many bytes. `InvalidVersion` exactly where the version isn't 1 or 2; then

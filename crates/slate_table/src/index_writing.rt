@@ -4,6 +4,7 @@ ghost use Rattle.std.specs.List.{AllByRecursion};
 ghost use Rattle.slate_block.specs.RowSpelling.{be16, be64};
 ghost use Rattle.slate_table.specs.Parts.{index_bytes};
 
+use crate::writing::{append_short, append_u32, append_u64};
 use bytes::Bytes;
 use slate_types::SlateDBError;
 use std::alloc::Global;
@@ -21,7 +22,7 @@ pub fn encode_index(
     ensures cause { IsOkUnless result SlateDBError.OutOfMemory }
 {
     let mut out = Vec::new(alloc);
-    out.extend_from_slice(&(offsets.len() as u32).to_be_bytes())?;
+    append_u32(&mut out, offsets.len() as u32)?;
     for at in 0..offsets.len() {
         append_entry(&mut out, offsets[at], separators[at].as_slice())?;
     }
@@ -33,8 +34,6 @@ fn append_entry(out: &mut Vec<u8>, offset: u64, separator: &[u8]) -> Result<(), 
     ensures appended { OnOk result (out.new.items ≡ out.old.items ++ (be64 offset ++ (be16 (length separator.now) ++ separator.now))) }
     ensures cause { IsOkUnless result SlateDBError.OutOfMemory }
 {
-    out.extend_from_slice(&offset.to_be_bytes())?;
-    out.extend_from_slice(&(separator.len() as u16).to_be_bytes())?;
-    out.extend_from_slice(separator)?;
-    Ok(())
+    append_u64(out, offset)?;
+    append_short(out, separator)
 }

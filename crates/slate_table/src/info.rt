@@ -1,5 +1,5 @@
 //! The info of a table: its first and its last key, and where the sections behind its blocks lie.
-ghost use Rattle.std.specs.Prelude.{◌≡◌, ◌≤◌, ◌<◌, ◌^◌, ◌++◌, ◌⊎◌, ℕ, List, Some, Ok, Err, length, slice_index, OnOk, IfOk, IfErr, IsOkUnless};
+ghost use Rattle.std.specs.Prelude.{◌≡◌, ◌≤◌, ◌<◌, ◌^◌, ◌++◌, ◌⊎◌, ℕ, List, Option, Some, Ok, Err, length, slice_index, OnOk, IfOk, IfErr, IsOkUnless};
 ghost use Rattle.slate_block.specs.RowReading.{refusal};
 ghost use Rattle.slate_table.specs.Parts.{key_bytes, place_bytes};
 ghost use Rattle.slate_table.specs.Decoded.{Info, IsInfo, FitsShort, FitsPlace, SectionsLieBefore};
@@ -12,14 +12,16 @@ ghost use Rattle.slate_table.specs.InfoReading.{
   key_field,
   place_field,
   ending,
+  info_from,
   info_in,
+  info_at,
 };
 
-use crate::writing::{append_u16, append_u64};
+use crate::writing::{append, append_numbers, append_short, append_u16};
 use bytes::Bytes;
 use slate_block::fields::{block_field, corrupt, u16_field, u64_field};
 use slate_types::{BlockFormat, CompressionCodec, SlateDBError, Ulid};
-use std::alloc::Global;
+use std::alloc::{AllocError, Global};
 
 /// The byte that names no codec.
 const NO_CODEC: u8 = 0;
@@ -29,7 +31,7 @@ const FILTER_FORMAT: u8 = 1;
 
 /// The first and the last key of a table, and where its index, its filters and its statistics lie: offsets in the table's bytes,
 /// and lengths with the checksums. A table without filters has a filter length of 0.
-#[derive(Clone, Debug, PartialEq, Eq, Drop)]
+#[derive(Debug, PartialEq, Eq, Drop)]
 pub struct SsTableInfo {
     pub first_entry: Option<Bytes>,
     pub last_entry: Option<Bytes>,
@@ -41,8 +43,32 @@ pub struct SsTableInfo {
     pub stats_len: u64,
 }
 
+impl Clone for SsTableInfo {
+    ghost is_clone = { λ info copy. copy ≡ info };
+
+    fn clone(&self) -> Result<SsTableInfo, AllocError> {
+        let first_entry = self.first_entry.clone()?;
+        match self.last_entry.clone() {
+            Ok(last_entry) => Ok(SsTableInfo {
+                first_entry,
+                last_entry,
+                index_offset: self.index_offset,
+                index_len: self.index_len,
+                filter_offset: self.filter_offset,
+                filter_len: self.filter_len,
+                stats_offset: self.stats_offset,
+                stats_len: self.stats_len,
+            }),
+            Err(error) => {
+                drop(first_entry);
+                Err(error)
+            }
+        }
+    }
+}
+
 /// A table that was put: its id, its info, and its version.
-#[derive(Clone, Debug, PartialEq, Eq, Drop)]
+#[derive(Drop)]
 pub struct SsTableHandle {
     pub id: Ulid,
     pub info: SsTableInfo,
@@ -77,10 +103,18 @@ impl Default for SsTableFormat {
 }
 
 /// The id of a stored table, and its size in bytes.
-#[derive(Clone, Copy, Debug, PartialEq, Eq)]
+#[derive(Clone, Copy)]
 pub struct ObjectMetadata {
     pub id: Ulid,
     pub size: u64,
+}
+
+/// The offsets and the lengths of a table's sections.
+#[derive(Clone, Copy)]
+struct Places {
+    index: (u64, u64),
+    filters: (u64, u64),
+    stats: (u64, u64),
 }
 
 impl SsTableInfo {
@@ -95,10 +129,8 @@ impl SsTableInfo {
         append_u16(&mut out, version)?;
         append_key(&mut out, &self.first_entry)?;
         append_key(&mut out, &self.last_entry)?;
-        append_place(&mut out, self.index_offset, self.index_len)?;
-        append_place(&mut out, self.filter_offset, self.filter_len)?;
-        append_place(&mut out, self.stats_offset, self.stats_len)?;
-        out.extend_from_slice(&[NO_CODEC, FILTER_FORMAT])?;
+        append_places(&mut out, self)?;
+        append(&mut out, &[NO_CODEC, FILTER_FORMAT])?;
         Ok(Bytes::from_vec(out)?)
     }
 
@@ -113,8 +145,9 @@ impl SsTableInfo {
         ensures only { (info : Info) → IsInfo version bytes info → SectionsLieBefore end info → IsOkUnless result SlateDBError.OutOfMemory }
         ensures cause { IfErr result (λ e. (e ≡ SlateDBError.OutOfMemory) ⊎ (refusal (info_in version end bytes) ≡ Some e)) }
     {
-        let info = read_info(version, end, &bytes)?;
-        Ok(info)
+        let info = read_info(version, end, &bytes);
+        drop(bytes);
+        info
     }
 }
 
@@ -124,10 +157,9 @@ fn append_key(out: &mut Vec<u8>, key: &Option<Bytes>) -> Result<(), SlateDBError
     ensures cause { IsOkUnless result SlateDBError.OutOfMemory }
 {
     match key {
-        None => out.push(0)?,
-        Some(key) => append_some_key(out, key)?,
+        None => append(out, &[0]),
+        Some(key) => append_some_key(out, key),
     }
-    Ok(())
 }
 
 fn append_some_key(out: &mut Vec<u8>, key: &Bytes) -> Result<(), SlateDBError>
@@ -135,20 +167,25 @@ fn append_some_key(out: &mut Vec<u8>, key: &Bytes) -> Result<(), SlateDBError>
     ensures appended { OnOk result (out.new.items ≡ out.old.items ++ key_bytes (Some key.now)) }
     ensures cause { IsOkUnless result SlateDBError.OutOfMemory }
 {
-    out.push(1)?;
-    append_u16(out, key.len() as u16)?;
-    out.extend_from_slice(key.as_slice())?;
-    Ok(())
+    append(out, &[1])?;
+    append_short(out, key.as_slice())
 }
 
-fn append_place(out: &mut Vec<u8>, offset: u64, len: u64) -> Result<(), SlateDBError>
-    ensures appended { OnOk result (out.new.items ≡ out.old.items ++ place_bytes (section_place offset len)) }
-    ensures fits { FitsPlace (section_place offset len) }
+/// Appends the places of the sections.
+fn append_places(out: &mut Vec<u8>, info: &SsTableInfo) -> Result<(), SlateDBError>
+    ensures appended { OnOk result (out.new.items ≡ out.old.items ++ (place_bytes (seen_info info.now).index ++ place_bytes (seen_info info.now).filters ++ place_bytes (seen_info info.now).stats)) }
+    ensures fit { OnOk result (FitsPlace (seen_info info.now).index × FitsPlace (seen_info info.now).filters × FitsPlace (seen_info info.now).stats) }
     ensures cause { IsOkUnless result SlateDBError.OutOfMemory }
 {
-    append_u64(out, offset)?;
-    append_u64(out, len)?;
-    Ok(())
+    let places = [
+        info.index_offset,
+        info.index_len,
+        info.filter_offset,
+        info.filter_len,
+        info.stats_offset,
+        info.stats_len,
+    ];
+    append_numbers(out, &places)
 }
 
 #[tactic(auto, unfolding(crate::specs::InfoReading::info_in))]
@@ -159,20 +196,53 @@ fn read_info(version: u16, end: u64, bytes: &Bytes) -> Result<SsTableInfo, Slate
 {
     let (_, at) = version_field(version, bytes.as_slice())?;
     let (first_entry, at) = key_field(bytes, at)?;
-    let (last_entry, at) = key_field(bytes, at)?;
-    let ((index_offset, index_len), at) = place_field(end, bytes.as_slice(), at)?;
-    let ((filter_offset, filter_len), at) = place_field(end, bytes.as_slice(), at)?;
-    let ((stats_offset, stats_len), at) = place_field(end, bytes.as_slice(), at)?;
-    ending(bytes.as_slice(), at)?;
-    Ok(SsTableInfo {
+    match key_field(bytes, at) {
+        Ok((last_entry, at)) => match places_from(end, bytes.as_slice(), at) {
+            Ok(places) => Ok(placed(first_entry, last_entry, places)),
+            Err(error) => {
+                drop(first_entry);
+                drop(last_entry);
+                Err(error)
+            }
+        },
+        Err(error) => {
+            drop(first_entry);
+            Err(error)
+        }
+    }
+}
+
+/// The info of a table with these keys, whose sections lie there.
+fn placed(first_entry: Option<Bytes>, last_entry: Option<Bytes>, places: Places) -> SsTableInfo
+    ensures { seen_info result ≡ info_at first_entry last_entry places }
+{
+    SsTableInfo {
         first_entry,
         last_entry,
-        index_offset,
-        index_len,
-        filter_offset,
-        filter_len,
-        stats_offset,
-        stats_len,
+        index_offset: places.index.0,
+        index_len: places.index.1,
+        filter_offset: places.filters.0,
+        filter_len: places.filters.1,
+        stats_offset: places.stats.0,
+        stats_len: places.stats.1,
+    }
+}
+
+/// Where the three sections lie, and nothing behind but the last two bytes of an info.
+#[tactic(auto, unfolding(crate::specs::InfoReading::info_from))]
+fn places_from(end: u64, bytes: &[u8], at: usize) -> Result<Places, SlateDBError>
+    requires { at ≤ length bytes.now }
+    ensures found { IfOk result (λ places. (first last : Option (List ℕ)) → info_from end bytes.now at first last ≡ Ok (info_at first last places)) }
+    ensures cause { IfErr result (λ e. (first last : Option (List ℕ)) → info_from end bytes.now at first last ≡ Err e) }
+{
+    let (index, at) = place_field(end, bytes, at)?;
+    let (filters, at) = place_field(end, bytes, at)?;
+    let (stats, at) = place_field(end, bytes, at)?;
+    ending(bytes, at)?;
+    Ok(Places {
+        index,
+        filters,
+        stats,
     })
 }
 

@@ -109,8 +109,9 @@ fn read_footer<S: Store>(
 {
     let place = (len - FOOTER_SIZE as u64, FOOTER_SIZE as u64);
     let answer = read(alloc, store, root, id, place)?;
-    let footer = footer_of(&answer, len)?;
-    Ok(footer)
+    let footer = footer_of(&answer, len);
+    drop(answer);
+    footer
 }
 
 /// What the last bytes of a table of a size say.
@@ -151,8 +152,7 @@ fn read_info<S: Store>(
         return Err(SlateDBError::EmptyBlockMeta { len: size });
     }
     let answer = read(alloc, store, root, id, (footer.info_offset, size))?;
-    let info = info_of(answer, footer)?;
-    Ok(info)
+    info_of(answer, footer)
 }
 
 /// The info that was read.
@@ -163,8 +163,9 @@ fn info_of(answer: Option<Bytes>, footer: Footer) -> Result<SsTableInfo, SlateDB
     match answer {
         None => Err(corrupt(0)),
         Some(bytes) => {
-            let part = checked_part(&bytes)?;
-            let info = SsTableInfo::decode(part, footer.version, footer.info_offset)?;
+            let part = checked_part(&bytes);
+            drop(bytes);
+            let info = SsTableInfo::decode(part?, footer.version, footer.info_offset)?;
             Ok(info)
         }
     }

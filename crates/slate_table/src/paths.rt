@@ -12,9 +12,6 @@ pub fn table_path(alloc: Global, root: &str, id: Ulid) -> Result<String, SlateDB
     ensures cause { IsOkUnless result SlateDBError.OutOfMemory }
 {
     let digits = hex::encode(alloc, id.0.to_be_bytes())?;
-    let mut path = String::from_str(alloc, root)?;
-    path.push_str("/compacted/")?;
-    path.push_str(digits.as_str())?;
-    path.push_str(".sst")?;
+    let path = [root, "/compacted/", digits.as_str(), ".sst"].concat(alloc)?;
     Ok(path)
 }

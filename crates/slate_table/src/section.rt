@@ -14,7 +14,7 @@ ghost use Rattle.slate_table.specs.SectionReading.{
 };
 
 use crate::crc::checksum;
-use crate::writing::append_u32;
+use crate::writing::{append, append_u32};
 use bytes::Bytes;
 use slate_block::fields::corrupt;
 use slate_types::{BlockTransformer, SlateDBError};
@@ -77,8 +77,7 @@ pub fn open_section<T: BlockTransformer>(
     ensures still { (result ≡ Err SlateDBError.BlockTransformError) ⊎ (result ≡ Err SlateDBError.OutOfMemory) ⊎ (faults_of T.faults transformer.new ≡ faults_of T.faults transformer.old) }
 {
     let stored = checked_part(bytes)?;
-    let part = decoded(alloc, stored, transformer)?;
-    Ok(part)
+    decoded(alloc, stored, transformer)
 }
 
 /// Appends the section of a part. `BlockTransformError`, only where the transformer's count of faults rose, or `OutOfMemory`;
@@ -98,8 +97,9 @@ pub fn seal_section<T: BlockTransformer>(
     ensures still { (result ≡ Err SlateDBError.BlockTransformError) ⊎ (result ≡ Err SlateDBError.OutOfMemory) ⊎ (faults_of T.faults transformer.new ≡ faults_of T.faults transformer.old) }
 {
     let stored = encoded(alloc, part, transformer)?;
-    append_summed(out, stored.as_slice())?;
-    Ok(())
+    let sealed = append_summed(out, stored.as_slice());
+    drop(stored);
+    sealed
 }
 
 /// Appends bytes and their checksum. The one error is `OutOfMemory`, after which more may stand behind what `out` held.
@@ -108,9 +108,8 @@ pub fn append_summed(out: &mut Vec<u8>, bytes: &[u8]) -> Result<(), SlateDBError
     ensures kept { OnErr result (take (length out.old.items) out.new.items ≡ out.old.items) }
     ensures cause { IsOkUnless result SlateDBError.OutOfMemory }
 {
-    out.extend_from_slice(bytes)?;
-    append_u32(out, checksum(bytes))?;
-    Ok(())
+    append(out, bytes)?;
+    append_u32(out, checksum(bytes))
 }
 
 fn encoded<T: BlockTransformer>(

@@ -17,7 +17,6 @@ pub fn separator(previous: &[u8], key: &Bytes) -> Result<Bytes, SlateDBError>
 }
 
 /// How many bytes of the key that front has.
-#[tactic(auto, using(crate::proofs::Separators::whole_key, crate::proofs::Separators::short_front, crate::proofs::Separators::all_shared))]
 fn separator_len(previous: &[u8], key: &[u8]) -> usize
     ensures value { take result key.now ≡ separator previous.now key.now }
     ensures within { result ≤ length key.now }

@@ -25,7 +25,7 @@ use slate_types::{BlockTransformer, IterationOrder, RowEntry, SlateDBError, Ulid
 use std::alloc::Global;
 
 /// A table that was opened. Its parts are read anew by each call, through the reader that is handed in.
-#[derive(Clone, Debug, PartialEq, Eq, Drop)]
+#[derive(Drop)]
 pub struct SstFile {
     pub handle: SsTableHandle,
 }
@@ -153,8 +153,7 @@ impl SstFile {
         let transformer = &mut reader.transformer;
         let store = &mut reader.store;
         let found = read_block(alloc, store, root, &self.handle, &index, block, transformer)?;
-        let rows = rows_of_block(alloc, found, self.handle.format_version)?;
-        Ok(rows)
+        rows_of_block(alloc, found, self.handle.format_version)
     }
 }
 
@@ -181,8 +180,7 @@ fn rows_of_block(alloc: Global, block: Block, version: u16) -> Result<Vec<RowEnt
 {
     are_bytes(block.body.as_slice());
     let mut walk = DataBlockIterator::new(alloc, block, version, IterationOrder::Ascending)?;
-    let rows = all_rows(alloc, &mut walk)?;
-    Ok(rows)
+    all_rows(alloc, &mut walk)
 }
 
 /// Each number of bytes is a byte.

@@ -43,8 +43,12 @@ impl SstIndex {
         ensures only { (entries : List (ℕ × List ℕ)) → IsIndex end bytes entries → IsOkUnless result SlateDBError.OutOfMemory }
         ensures cause { IfErr result (λ e. (e ≡ SlateDBError.OutOfMemory) ⊎ (refusal (index_of end bytes) ≡ Some e)) }
     {
-        let entries = read_entries(alloc, end, &bytes)?;
-        Ok(SstIndex { entries })
+        let entries = read_entries(alloc, end, &bytes);
+        drop(bytes);
+        match entries {
+            Ok(entries) => Ok(SstIndex { entries }),
+            Err(error) => Err(error),
+        }
     }
 
     /// How many blocks there are.
@@ -65,9 +69,10 @@ impl SstIndex {
     pub fn get(&self, index: usize) -> Option<(u64, &[u8])>
         ensures { option_map borrowed_entry result ≡ slice_get (entries_of self.now) index }
     {
-        self.entries
-            .get(index)
-            .map(|entry| (entry.0, entry.1.as_slice()))
+        match self.entries.get(index) {
+            Some(entry) => Some((entry.0, entry.1.as_slice())),
+            None => None,
+        }
     }
 
     /// The offsets and the separators in their order.
@@ -131,9 +136,10 @@ impl<'a> Iterator for SstIndexIter<'a> {
     ghost remaining = { item_count (λ entries. entries) };
 
     fn next(&mut self) -> Option<(u64, &'a [u8])> {
-        self.entries
-            .next()
-            .map(|entry| (entry.0, entry.1.as_slice()))
+        match self.entries.next() {
+            Some(entry) => Some((entry.0, entry.1.as_slice())),
+            None => None,
+        }
     }
 
     fn size_hint(&self) -> (usize, Option<usize>) {

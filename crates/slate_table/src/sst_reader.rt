@@ -34,12 +34,18 @@ impl<S: Store, T: BlockTransformer> SstReader<S, T> {
         ensures transformer { IfOk result (λ reader. reader.transformer ≡ transformer) }
         ensures cause { IsOkUnless result SlateDBError.OutOfMemory }
     {
-        let root_path = String::from_str(alloc, root_path)?;
-        Ok(SstReader {
-            root_path,
-            store,
-            transformer,
-        })
+        match String::from_str(alloc, root_path) {
+            Ok(root_path) => Ok(SstReader {
+                root_path,
+                store,
+                transformer,
+            }),
+            Err(error) => {
+                drop(store);
+                drop(transformer);
+                Err(SlateDBError::from(error))
+            }
+        }
     }
 
     /// The table of an id, by three calls of the store: its size, its last bytes and its info. `StoreFault`, only where the

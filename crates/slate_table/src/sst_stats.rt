@@ -16,7 +16,7 @@ ghost use Rattle.slate_table.specs.StatsReading.{
   stats_in,
 };
 
-use crate::writing::{append_u16, append_u32, append_u64};
+use crate::writing::{append_numbers, append_u16, append_u32};
 use bytes::Bytes;
 use slate_block::BlockStats;
 use slate_block::fields::{corrupt, u16_field, u32_field, u64_field};
@@ -28,7 +28,7 @@ const BLOCK_STATS_SIZE: usize = 6;
 
 /// How many rows of each kind a table has and each of its blocks, how many bytes its keys have, and how many its values
 /// and merge operands.
-#[derive(Debug, PartialEq, Eq, Drop)]
+#[derive(PartialEq, Eq, Drop)]
 pub struct SstStats {
     pub num_puts: u64,
     pub num_deletes: u64,
@@ -68,8 +68,9 @@ impl SstStats {
         ensures only { (stats : Stats) → IsStats bytes stats → IsOkUnless result SlateDBError.OutOfMemory }
         ensures cause { IfErr result (λ e. (e ≡ SlateDBError.OutOfMemory) ⊎ (refusal (stats_in bytes) ≡ Some e)) }
     {
-        let stats = read_stats(alloc, bytes.as_slice())?;
-        Ok(stats)
+        let stats = read_stats(alloc, bytes.as_slice());
+        drop(bytes);
+        stats
     }
 }
 
@@ -80,13 +81,15 @@ fn append_totals(out: &mut Vec<u8>, stats: &SstStats) -> Result<(), SlateDBError
     ensures fit { OnOk result (FitTotals (stats_of stats.now)) }
     ensures cause { IsOkUnless result SlateDBError.OutOfMemory }
 {
-    append_u64(out, stats.num_puts)?;
-    append_u64(out, stats.num_deletes)?;
-    append_u64(out, stats.num_merges)?;
-    append_u64(out, stats.raw_key_size)?;
-    append_u64(out, stats.raw_val_size)?;
-    append_u32(out, stats.block_stats.len() as u32)?;
-    Ok(())
+    let totals = [
+        stats.num_puts,
+        stats.num_deletes,
+        stats.num_merges,
+        stats.raw_key_size,
+        stats.raw_val_size,
+    ];
+    append_numbers(out, &totals)?;
+    append_u32(out, stats.block_stats.len() as u32)
 }
 
 fn append_block_stats(out: &mut Vec<u8>, blocks: &[BlockStats]) -> Result<(), SlateDBError>
@@ -107,8 +110,7 @@ fn append_counts(out: &mut Vec<u8>, block: BlockStats) -> Result<(), SlateDBErro
 {
     append_u16(out, block.num_puts)?;
     append_u16(out, block.num_deletes)?;
-    append_u16(out, block.num_merges)?;
-    Ok(())
+    append_u16(out, block.num_merges)
 }
 
 #[tactic(auto, unfolding(crate::specs::StatsReading::stats_in))]

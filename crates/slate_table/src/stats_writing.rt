@@ -40,7 +40,7 @@ pub fn encode_stats(
         raw_val_size,
         block_stats,
     };
-    Ok(stats.encode(alloc)?)
+    stats.encode(alloc)
 }
 
 fn count_rows(rows: &[RowEntry]) -> RowCounts

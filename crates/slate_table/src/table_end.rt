@@ -38,8 +38,13 @@ pub fn append_end<T: BlockTransformer>(
     let index_offset = out.len() as u64;
     let stats_offset = append_sections(alloc, out, index, stats, transformer)?;
     let info = placed_info(rows, index_offset, stats_offset, out.len() as u64)?;
-    append_info(alloc, out, version, &info)?;
-    Ok(info)
+    match append_info(alloc, out, version, &info) {
+        Ok(()) => Ok(info),
+        Err(error) => {
+            drop(info);
+            Err(error)
+        }
+    }
 }
 
 /// Appends the sections of the index and of the statistics, and answers where the second begins.
@@ -58,10 +63,17 @@ fn append_sections<T: BlockTransformer>(
     ensures still { (result ≡ Err SlateDBError.BlockTransformError) ⊎ (result ≡ Err SlateDBError.OutOfMemory) ⊎ (faults_of T.faults transformer.new ≡ faults_of T.faults transformer.old) }
     ensures cause { IfErr result (λ e. IsTransformFault (faults_of T.faults transformer.old) (faults_of T.faults transformer.new) e) }
 {
-    seal_section(alloc, out, index, transformer)?;
-    let stats_offset = out.len() as u64;
-    seal_section(alloc, out, stats, transformer)?;
-    Ok(stats_offset)
+    match seal_section(alloc, out, index, transformer) {
+        Ok(()) => {
+            let stats_offset = out.len() as u64;
+            seal_section(alloc, out, stats, transformer)?;
+            Ok(stats_offset)
+        }
+        Err(error) => {
+            drop(stats);
+            Err(error)
+        }
+    }
 }
 
 /// The info of a table of these rows, whose index and statistics begin there and end at `end`.
@@ -76,16 +88,23 @@ fn placed_info(
     ensures value { IfOk result (λ info. seen_info info ≡ placed_info rows.now index_offset stats_offset end) }
     ensures cause { IsOkUnless result SlateDBError.OutOfMemory }
 {
-    Ok(SsTableInfo {
-        first_entry: first_key(rows)?,
-        last_entry: last_key(rows)?,
-        index_offset,
-        index_len: stats_offset - index_offset,
-        filter_offset: index_offset,
-        filter_len: 0,
-        stats_offset,
-        stats_len: end - stats_offset,
-    })
+    let first_entry = first_key(rows)?;
+    match last_key(rows) {
+        Ok(last_entry) => Ok(SsTableInfo {
+            first_entry,
+            last_entry,
+            index_offset,
+            index_len: stats_offset - index_offset,
+            filter_offset: index_offset,
+            filter_len: 0,
+            stats_offset,
+            stats_len: end - stats_offset,
+        }),
+        Err(error) => {
+            drop(first_entry);
+            Err(error)
+        }
+    }
 }
 
 /// Appends the info and the last bytes.
@@ -103,13 +122,16 @@ fn append_info(
 {
     let info_offset = out.len() as u64;
     let part = info.encode(alloc, version)?;
-    append_summed(out, part.as_slice())?;
-    Footer {
-        info_offset,
-        version,
+    let summed = append_summed(out, part.as_slice());
+    drop(part);
+    match summed {
+        Ok(()) => Footer {
+            info_offset,
+            version,
+        }
+        .encode(out),
+        Err(error) => Err(error),
     }
-    .encode(out)?;
-    Ok(())
 }
 
 fn first_key(rows: &[RowEntry]) -> Result<Option<Bytes>, SlateDBError>

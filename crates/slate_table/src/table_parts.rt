@@ -57,12 +57,25 @@ pub fn new_block(
     ensures counts { IfOk result (λ block. block.stats ≡ stats_of []) }
     ensures cause { IsOkUnless result SlateDBError.OutOfMemory }
 {
-    let builder = match format {
-        BlockFormat::V1 => BlockBuilder::new_v1(alloc, block_size)?,
-        BlockFormat::V2 => BlockBuilder::new_v2(alloc, block_size)?,
-        BlockFormat::Latest => BlockBuilder::new_latest(alloc, block_size)?,
-    };
+    let builder = new_builder(alloc, format, block_size)?;
     Ok(BlockBuilderWithStats::new(builder))
+}
+
+fn new_builder(
+    alloc: Global,
+    format: BlockFormat,
+    block_size: u32,
+) -> Result<BlockBuilder, SlateDBError>
+    requires some { 0 < block_size }
+    requires few { block_size ≤ 65535 }
+    ensures begun { IfOk result (λ builder. builder ≡ record { version = version_of format; size = block_size; rows = [] }) }
+    ensures cause { IsOkUnless result SlateDBError.OutOfMemory }
+{
+    match format {
+        BlockFormat::V1 => BlockBuilder::new_v1(alloc, block_size),
+        BlockFormat::V2 => BlockBuilder::new_v2(alloc, block_size),
+        BlockFormat::Latest => BlockBuilder::new_latest(alloc, block_size),
+    }
 }
 
 impl TableParts {
@@ -115,59 +128,58 @@ impl TableParts {
     /// Ends the last block, and gives the bytes of the table and its info.
     #[tactic(auto, using(crate::proofs::BuiltLaws::last_has_row, crate::proofs::BuiltLaws::ended_ready))]
     pub fn finish<T: BlockTransformer>(
-        self,
+        &mut self,
         alloc: Global,
         transformer: &mut Option<T>,
     ) -> Result<(Bytes, SsTableInfo), SlateDBError>
-        requires stands { Stands self }
-        requires row { 0 < length self.rows.items }
-        ensures finished { IfOk result (λ made. IsFinished (changed_by T.encoded transformer.old) self made.0 made.1) }
+        requires stands { Stands self.old }
+        requires row { 0 < length self.old.rows.items }
+        ensures finished { IfOk result (λ made. IsFinished (changed_by T.encoded transformer.old) self.old made.0 made.1) }
         ensures same_encoded { changed_by T.encoded transformer.new ≡ changed_by T.encoded transformer.old }
         ensures same_decoded { changed_by T.decoded transformer.new ≡ changed_by T.decoded transformer.old }
         ensures later { faults_of T.faults transformer.old ≤ faults_of T.faults transformer.new }
         ensures still { (result ≡ Err SlateDBError.BlockTransformError) ⊎ (result ≡ Err SlateDBError.OutOfMemory) ⊎ (faults_of T.faults transformer.new ≡ faults_of T.faults transformer.old) }
         ensures cause { IfErr result (λ e. IsTransformFault (faults_of T.faults transformer.old) (faults_of T.faults transformer.new) e) }
     {
-        let mut parts = self;
-        parts.end_block(alloc, transformer)?;
-        let made = parts.assemble(alloc, transformer)?;
-        Ok(made)
+        self.end_block(alloc, transformer)?;
+        self.assemble(alloc, transformer)
     }
 
     /// The bytes of the table and its info, once the last block was ended.
     fn assemble<T: BlockTransformer>(
-        self,
+        &mut self,
         alloc: Global,
         transformer: &mut Option<T>,
     ) -> Result<(Bytes, SsTableInfo), SlateDBError>
-        requires ready { IsReady self }
-        ensures bytes { IfOk result (λ made. made.0 ≡ parts_bytes (changed_by T.encoded transformer.old) self) }
+        requires ready { IsReady self.old }
+        ensures bytes { IfOk result (λ made. made.0 ≡ parts_bytes (changed_by T.encoded transformer.old) self.old) }
         ensures short { IfOk result (λ made. length made.0 < 2 ^ 64) }
-        ensures info { IfOk result (λ made. HasInfo made.0 (version_of self.format) (seen_info made.1)) }
-        ensures keys { self.raw_key_size < 2 ^ 64 }
-        ensures values { self.raw_val_size < 2 ^ 64 }
+        ensures info { IfOk result (λ made. HasInfo made.0 (version_of self.old.format) (seen_info made.1)) }
+        ensures keys { self.old.raw_key_size < 2 ^ 64 }
+        ensures values { self.old.raw_val_size < 2 ^ 64 }
         ensures same_encoded { changed_by T.encoded transformer.new ≡ changed_by T.encoded transformer.old }
         ensures same_decoded { changed_by T.decoded transformer.new ≡ changed_by T.decoded transformer.old }
         ensures later { faults_of T.faults transformer.old ≤ faults_of T.faults transformer.new }
         ensures still { (result ≡ Err SlateDBError.BlockTransformError) ⊎ (result ≡ Err SlateDBError.OutOfMemory) ⊎ (faults_of T.faults transformer.new ≡ faults_of T.faults transformer.old) }
         ensures cause { IfErr result (λ e. IsTransformFault (faults_of T.faults transformer.old) (faults_of T.faults transformer.new) e) }
     {
-        let TableParts {
-            format,
-            rows,
-            mut bytes,
-            offsets,
-            separators,
-            block_stats,
-            raw_key_size,
-            raw_val_size,
-            ..
-        } = self;
-        let index = encode_index(alloc, &offsets, &separators)?;
-        let stats = encode_stats(alloc, &rows, raw_key_size, raw_val_size, block_stats)?;
-        let version = version_number(format);
-        let info = append_end(alloc, &mut bytes, version, &rows, index, stats, transformer)?;
-        Ok((frozen(bytes)?, info))
+        let rows = &self.rows;
+        let keys = self.raw_key_size;
+        let values = self.raw_val_size;
+        let index = encode_index(alloc, &self.offsets, &self.separators)?;
+        let block_stats = mem::replace(&mut self.block_stats, Vec::new(alloc));
+        match encode_stats(alloc, rows, keys, values, block_stats) {
+            Ok(stats) => {
+                let version = version_number(self.format);
+                let mut bytes = mem::replace(&mut self.bytes, Vec::new(alloc));
+                let info = append_end(alloc, &mut bytes, version, rows, index, stats, transformer)?;
+                frozen(bytes, info)
+            }
+            Err(error) => {
+                drop(index);
+                Err(error)
+            }
+        }
     }
 
     /// Takes a row behind the others, and ends the block where it doesn't fit: then it answers the length of its section.
@@ -197,9 +209,16 @@ impl TableParts {
             self.take(entry)?;
             return Ok(None);
         }
-        let size = self.end_block(alloc, transformer)?;
-        self.take(entry)?;
-        Ok(Some(size))
+        match self.end_block(alloc, transformer) {
+            Ok(size) => {
+                self.take(entry)?;
+                Ok(Some(size))
+            }
+            Err(error) => {
+                drop(entry);
+                Err(error)
+            }
+        }
     }
 
     /// Takes a row that fits into the block.
@@ -212,12 +231,18 @@ impl TableParts {
         ensures taken { OnOk result (IsTaken self.old entry self.new) }
         ensures cause { IsOkUnless result SlateDBError.OutOfMemory }
     {
-        begin_block(&mut self.separators, &self.block, &self.rows, &entry.key)?;
-        self.raw_key_size += entry.key.len() as u64;
-        self.raw_val_size += entry.value.len() as u64;
-        add_row(&mut self.block, copy_of(&entry)?)?;
-        self.rows.push(entry)?;
-        Ok(())
+        match write_row(&mut self.block, &mut self.separators, &self.rows, &entry) {
+            Ok(()) => {
+                self.raw_key_size += entry.key.len() as u64;
+                self.raw_val_size += entry.value.len() as u64;
+                self.rows.push(entry)?;
+                Ok(())
+            }
+            Err(error) => {
+                drop(entry);
+                Err(error)
+            }
+        }
     }
 }
 
@@ -231,13 +256,21 @@ pub fn version_number(format: BlockFormat) -> u16
     }
 }
 
-fn frozen(bytes: Vec<u8>) -> Result<Bytes, SlateDBError>
-    ensures same { IfOk result (λ frozen. frozen ≡ bytes.items) }
+/// The bytes of a table, which are shared from now on, beside its info.
+fn frozen(bytes: Vec<u8>, info: SsTableInfo) -> Result<(Bytes, SsTableInfo), SlateDBError>
+    ensures same { IfOk result (λ made. made.0 ≡ bytes.items) }
+    ensures info { IfOk result (λ made. made.1 ≡ info) }
     ensures short { length bytes.items < 2 ^ 64 }
     ensures cause { IsOkUnless result SlateDBError.OutOfMemory }
 {
     let _len = bytes.len();
-    Ok(Bytes::from_vec(bytes)?)
+    match Bytes::from_vec(bytes) {
+        Ok(bytes) => Ok((bytes, info)),
+        Err(failed) => {
+            drop(info);
+            Err(SlateDBError::from(failed))
+        }
+    }
 }
 
 /// The separator of a block that begins with the key behind these rows.
@@ -267,22 +300,23 @@ fn begin_block(
     Ok(())
 }
 
-/// Takes a row that fits.
-fn add_row(block: &mut BlockBuilderWithStats, entry: RowEntry) -> Result<(), SlateDBError>
-    requires lengths { CanTake entry }
-    requires key { 0 < length entry.key }
-    requires fits { fits_in block.old.builder.size block.old.builder.version block.old.builder.rows entry ≡ true }
-    ensures taken { OnOk result (block.new.builder ≡ with_row block.old.builder entry) }
-    ensures counted { OnOk result ((counted : List RowEntry) → block.old.stats ≡ stats_of counted → block.new.stats ≡ stats_of (counted ++ entry ∷ [])) }
+/// Writes a row that fits into the block, behind these rows.
+fn write_row(
+    block: &mut BlockBuilderWithStats,
+    separators: &mut Vec<Bytes>,
+    rows: &[RowEntry],
+    entry: &RowEntry,
+) -> Result<(), SlateDBError>
+    requires lengths { CanTake entry.now }
+    requires key { 0 < length entry.now.key }
+    requires fits { fits_in block.old.builder.size block.old.builder.version block.old.builder.rows entry.now ≡ true }
+    ensures begun { OnOk result (separators.new.items ≡ (if length block.old.builder.rows == 0 then separators.old.items ++ separator_behind rows.now entry.now.key ∷ [] else separators.old.items)) }
+    ensures taken { OnOk result (block.new.builder ≡ with_row block.old.builder entry.now) }
+    ensures counted { OnOk result ((counted : List RowEntry) → block.old.stats ≡ stats_of counted → block.new.stats ≡ stats_of (counted ++ entry.now ∷ [])) }
     ensures cause { IsOkUnless result SlateDBError.OutOfMemory }
 {
-    block.add(entry)?;
+    begin_block(separators, block, rows, &entry.key)?;
+    let copy = entry.clone()?;
+    block.add(copy)?;
     Ok(())
-}
-
-fn copy_of(entry: &RowEntry) -> Result<RowEntry, SlateDBError>
-    ensures value { IfOk result (λ copy. copy ≡ entry.now) }
-    ensures cause { IsOkUnless result SlateDBError.OutOfMemory }
-{
-    Ok(entry.clone()?)
 }

@@ -69,13 +69,17 @@ impl TableStore {
         ensures still { (result ≡ Err SlateDBError.StoreFault) ⊎ (S.faults store.new ≡ S.faults store.old) }
     {
         let info = table.info().clone()?;
-        let path = table_path(alloc, root, id)?;
-        store.put(alloc, path.as_str(), table.as_slice())?;
-        Ok(SsTableHandle {
-            id,
-            info,
-            format_version: table.version(),
-        })
+        match put_bytes(alloc, store, root, id, table.as_slice()) {
+            Ok(()) => Ok(SsTableHandle {
+                id,
+                info,
+                format_version: table.version(),
+            }),
+            Err(error) => {
+                drop(info);
+                Err(error)
+            }
+        }
     }
 
     /// The index of a table, by one read of its section. `StoreFault`, only where the store's count of faults rose;
@@ -102,8 +106,7 @@ impl TableStore {
     {
         let place = (table.info.index_offset, table.info.index_len);
         let part = read_part(alloc, store, root, table.id, place, transformer)?;
-        let index = SstIndex::decode(alloc, part, table.info.filter_offset)?;
-        Ok(index)
+        SstIndex::decode(alloc, part, table.info.filter_offset)
     }
 
     /// Some neighbouring blocks of a table, by one read of their sections, which the index names. `StoreFault`, only where the
@@ -137,9 +140,31 @@ impl TableStore {
         let start = block_start(index, end, blocks.start);
         let size = block_start(index, end, blocks.end).saturating_sub(start);
         let answer = read(alloc, store, root, table.id, (start, size))?;
-        let found = blocks_of(alloc, answer, index, end, blocks, transformer)?;
-        Ok(found)
+        let found = each_block(alloc, &answer, index, end, blocks, transformer);
+        drop(answer);
+        found
     }
+}
+
+/// Puts the bytes of a table at its path, by one put.
+fn put_bytes<S: Store>(
+    alloc: Global,
+    store: &mut S,
+    root: &str,
+    id: Ulid,
+    bytes: &[u8],
+) -> Result<(), SlateDBError>
+    ensures taken { (os : Objects) → S.objects store.old ≡ Some os → OnOk result (TakesPut os (path_of root.now id.0) bytes.now (S.objects store.new)) }
+    ensures refused { (os : Objects) → S.objects store.old ≡ Some os → OnErr result (RefusesPut os (path_of root.now id.0) bytes.now (S.objects store.new)) }
+    ensures act { OnOk result (AddsAct (S.acts store.old) (Act.put (path_of root.now id.0) bytes.now) (S.acts store.new)) }
+    ensures refused_act { OnErr result ((S.acts store.new ≡ S.acts store.old) ⊎ AddsAct (S.acts store.old) (Act.put (path_of root.now id.0) bytes.now) (S.acts store.new)) }
+    ensures cause { IfErr result (λ e. IsStoreFault (S.faults store.old) (S.faults store.new) e) }
+    ensures later { S.faults store.old ≤ S.faults store.new }
+    ensures still { (result ≡ Err SlateDBError.StoreFault) ⊎ (S.faults store.new ≡ S.faults store.old) }
+{
+    let path = table_path(alloc, root, id)?;
+    store.put(alloc, path.as_str(), bytes)?;
+    Ok(())
 }
 
 /// What a store answers to one read of a table, and `None` where its bytes have another length than was asked for.
@@ -171,10 +196,11 @@ fn whole_answer(answer: Option<Bytes>, size: u64) -> Option<Bytes>
     match answer {
         None => None,
         Some(bytes) => {
-            if bytes.len() as u64 != size {
-                return None;
+            if bytes.len() as u64 == size {
+                return Some(bytes);
             }
-            Some(bytes)
+            drop(bytes);
+            None
         }
     }
 }
@@ -195,8 +221,9 @@ pub(crate) fn opened<T: BlockTransformer>(
     match answer {
         None => Err(corrupt(0)),
         Some(bytes) => {
-            let part = open_section(alloc, &bytes, transformer)?;
-            Ok(part)
+            let part = open_section(alloc, &bytes, transformer);
+            drop(bytes);
+            part
         }
     }
 }
@@ -222,8 +249,7 @@ fn read_part<S: Store, T: BlockTransformer>(
     ensures still_transformer { (result ≡ Err SlateDBError.BlockTransformError) ⊎ (result ≡ Err SlateDBError.OutOfMemory) ⊎ (faults_of T.faults transformer.new ≡ faults_of T.faults transformer.old) }
 {
     let answer = read(alloc, store, root, id, place)?;
-    let part = opened(alloc, answer, transformer)?;
-    Ok(part)
+    opened(alloc, answer, transformer)
 }
 
 /// The statistics of a table, by one read of their section.
@@ -247,8 +273,7 @@ pub(crate) fn read_stats<S: Store, T: BlockTransformer>(
 {
     let place = (table.info.stats_offset, table.info.stats_len);
     let part = read_part(alloc, store, root, table.id, place, transformer)?;
-    let stats = SstStats::decode(alloc, part)?;
-    Ok(stats)
+    SstStats::decode(alloc, part)
 }
 
 /// A block of a table, by one read of its section.
@@ -275,8 +300,7 @@ pub(crate) fn read_block<S: Store, T: BlockTransformer>(
 {
     let place = place_of_block(index, table.info.filter_offset, block);
     let answer = read(alloc, store, root, table.id, place)?;
-    let found = block_in(alloc, answer, transformer)?;
-    Ok(found)
+    block_in(alloc, answer, transformer)
 }
 
 /// Where the section of a block begins, and how many bytes it has.
@@ -348,33 +372,10 @@ fn block_in<T: BlockTransformer>(
     ensures still { (result ≡ Err SlateDBError.BlockTransformError) ⊎ (result ≡ Err SlateDBError.OutOfMemory) ⊎ (faults_of T.faults transformer.new ≡ faults_of T.faults transformer.old) }
 {
     let part = opened(alloc, answer, transformer)?;
-    let block = Block::decode(alloc, part)?;
-    Ok(block)
+    Block::decode(alloc, part)
 }
 
 /// The blocks of a range, from an answer that begins where the first one does.
-fn blocks_of<T: BlockTransformer>(
-    alloc: Global,
-    answer: Option<Bytes>,
-    index: &SstIndex,
-    end: u64,
-    blocks: Range<usize>,
-    transformer: &mut Option<T>,
-) -> Result<Vec<Block>, SlateDBError>
-    requires order { blocks.start ≤ blocks.end }
-    requires within { blocks.end ≤ length (entries_of index.now) }
-    ensures found { IfOk result (λ found. AreBlocksRead (changed_by T.decoded transformer.old) (block_answer end (entries_of index.now) blocks.start answer) blocks.start found.items) }
-    ensures count { IfOk result (λ found. length found.items ≡ blocks.end - blocks.start) }
-    ensures cause { IfErr result (λ e. (e ≡ SlateDBError.OutOfMemory) ⊎ FailsBlocks (changed_by T.decoded transformer.old) (block_answer end (entries_of index.now) blocks.start answer) blocks.start blocks.end (faults_of T.faults transformer.old) (faults_of T.faults transformer.new) e ⊎ RefusesBlocks (changed_by T.decoded transformer.old) (block_answer end (entries_of index.now) blocks.start answer) blocks.start blocks.end e) }
-    ensures same_encoded { changed_by T.encoded transformer.new ≡ changed_by T.encoded transformer.old }
-    ensures same_decoded { changed_by T.decoded transformer.new ≡ changed_by T.decoded transformer.old }
-    ensures later { faults_of T.faults transformer.old ≤ faults_of T.faults transformer.new }
-    ensures still { (result ≡ Err SlateDBError.BlockTransformError) ⊎ (result ≡ Err SlateDBError.OutOfMemory) ⊎ (faults_of T.faults transformer.new ≡ faults_of T.faults transformer.old) }
-{
-    each_block(alloc, &answer, index, end, blocks, transformer)
-}
-
-/// The same, from an answer that is lent.
 fn each_block<T: BlockTransformer>(
     alloc: Global,
     answer: &Option<Bytes>,

@@ -1,10 +1,18 @@
-use Rattle.std.proofs.Common.{ap, ◌∙◌, List, ℕ, take, length, refl}
+use Rattle.std.proofs.Common.{◌∙◌, ◌++◌, ℕ, List, ap, length, take, refl}
 use Rattle.std.proofs.lemmas.List.{take_at}
-use Rattle.std.proofs.lemmas.Result.{err_from_is_err_and}
+use Rattle.std.proofs.lemmas.Result.{on_ok_weaker, on_err_weaker}
+use Rattle.slate_block.specs.RowSpelling.{be32}
+use Rattle.slate_table.proofs.Grown.{grown}
 use Rattle.slate_table.proofs.section.append_summed.Goals as goal
 
-pub returns-in_err-append_u32-clause-kept : goal.returns-in_err-append_u32-clause-kept
-returns-in_err-append_u32-clause-kept c =
-    let p = err_from_is_err_and c.from_residual-in_err-append_u32.result c.from_residual-in_err-append_u32.ensures.1 in
+pub returns-clause-appended : goal.returns-clause-appended
+returns-clause-appended c = on_ok_weaker c.append_u32.result
+    (λ h. grown c.args.out.now.items _ _ _ _ c.in_ok-append.ensures.appended (h ∙ ap (λ (n : ℕ). c.append.new.out.items ++ be32 n) c.checksum.ensures))
+    c.append_u32.ensures.appended
+
+pub returns-clause-kept : goal.returns-clause-kept
+returns-clause-kept c =
     let old = c.args.out.now.items in
-    rw p.1 (ap (λ (l : List ℕ). take (length old) l) (c.in_err-append_u32.ensures.unchanged ∙ c.in_ok-extend_from_slice.ensures.items) ∙ take_at old c.args.bytes.now (length old) refl)
+    on_err_weaker c.append_u32.result
+    (λ h. ap (λ (l : List ℕ). take (length old) l) (h ∙ c.in_ok-append.ensures.appended) ∙ take_at old c.args.bytes.now (length old) refl)
+    c.append_u32.ensures.unchanged

@@ -1,5 +1,6 @@
 use Rattle.std.proofs.Common.{◌≡◌, ℕ, ◌++◌, length, map, ap, ◌∙◌, arith}
 use Rattle.std.proofs.lemmas.List.{length-map}
+use Rattle.std.proofs.lemmas.Result.{on_ok_weaker}
 use Rattle.slate_block.specs.RowSpelling.{be32}
 use Rattle.slate_table.specs.StatsReading.{counts_of}
 use Rattle.slate_table.proofs.Grown.{grown}
@@ -10,7 +11,9 @@ returns-clause-appended c =
     let old = c.args.out.now.items in
     let blocks = c.args.stats.now.block_stats.items in
     let size : c.len.result ≡ length (map counts_of blocks) = omega (arith, c.len.ensures, c.args.stats.now.block_stats.ok.0, length-map blocks counts_of) in
-    grown old _ _ _ _
-    (grown old _ _ _ _ (grown old _ _ _ _ (grown old _ _ _ _ (grown old _ _ _ _ c.in_ok-append_u64.ensures.appended c.in_ok-append_u64-2.ensures.appended)
-    c.in_ok-append_u64-3.ensures.appended) c.in_ok-append_u64-4.ensures.appended) c.in_ok-append_u64-5.ensures.appended)
-    (c.in_ok-append_u32.ensures.appended ∙ ap (λ (n : ℕ). c.append_u64-5.new.out.items ++ be32 n) size)
+    on_ok_weaker c.append_u32.result (λ h. grown old _ _ _ _ c.in_ok-append_numbers.ensures.appended (h ∙ ap (λ (n : ℕ). c.append_numbers.new.out.items ++ be32 n) size)) c.append_u32.ensures.appended
+
+pub returns-clause-fit : goal.returns-clause-fit
+returns-clause-fit c =
+    let f = c.in_ok-append_numbers.ensures.fit in
+    on_ok_weaker c.append_u32.result (λ _. ((f.0, f.1.0, f.1.1.0), f.1.1.1.0, f.1.1.1.1.0)) c.append_u32.ensures.appended

@@ -1,5 +1,6 @@
 use Rattle.std.proofs.Common.{◌+◌, ℕ, List, Option, inr}
-use Rattle.std.proofs.lemmas.Result.{err_from_is_err_and}
+use Rattle.std.proofs.lemmas.Result.{IfOk-weaker, IfErr-weaker}
+use Rattle.slate_table.proofs.Results.{on_err}
 use Rattle.slate_types.specs.Faults.{faults_of}
 use Rattle.slate_table.specs.IndexValue.{entries_of}
 use Rattle.slate_table.specs.Paths.{path_of}
@@ -8,27 +9,26 @@ use Rattle.slate_table.specs.Reading.{block_start, blocks_size, FailsDecoding, I
 use Rattle.slate_table.proofs.BlockReads.{row_read, row_refused}
 use Rattle.slate_table.proofs.table_store.read_block.Goals as goal
 
-pub returns-in_err-found-clause-cause : goal.returns-in_err-found-clause-cause
-returns-in_err-found-clause-cause g c =
-    let p = err_from_is_err_and c.from_residual-in_err-found.result c.from_residual-in_err-found.ensures.1 in
+pub returns-clause-cause : goal.returns-clause-cause
+returns-clause-cause g c =
     let end = c.args.table.now.info.filter_offset in
     let entries = entries_of c.args.index.now in
     let place = c.place_of_block-place in
-    rw (p.1, p.2)
-    (row_refused (g.S.Store.objects c.args.store.now) (g.S.Store.acts c.args.store.now) (g.S.Store.acts c.read.new.store) (path_of c.args.root.now c.args.table.now.id.0)
+    IfErr-weaker c.block_in.result _ _
+    (λ e h. row_refused (g.S.Store.objects c.args.store.now) (g.S.Store.acts c.args.store.now) (g.S.Store.acts c.read.new.store) (path_of c.args.root.now c.args.table.now.id.0)
     place.result.0 place.result.1 (block_start end entries c.args.block) (blocks_size end entries c.args.block (c.args.block + 1))
     (g.S.Store.faults c.args.store.now) (g.S.Store.faults c.read.new.store) c.in_ok-answer.answer
-    (λ (answer : Option (List ℕ)). FailsDecoding (faults_of g.T.BlockTransformer.faults c.args.transformer.now) (faults_of g.T.BlockTransformer.faults c.block_in.new.transformer) answer c.in_err-found.field-0.0)
-    (λ (answer : Option (List ℕ)). RefusesBlock (changed_by g.T.BlockTransformer.decoded c.args.transformer.now) answer c.in_err-found.field-0.0) c.in_err-found.field-0.0
-    place.ensures.start place.ensures.size c.in_ok-answer.ensures.read c.in_err-found.ensures.cause)
+    (λ (answer : Option (List ℕ)). FailsDecoding (faults_of g.T.BlockTransformer.faults c.args.transformer.now) (faults_of g.T.BlockTransformer.faults c.block_in.new.transformer) answer e)
+    (λ (answer : Option (List ℕ)). RefusesBlock (changed_by g.T.BlockTransformer.decoded c.args.transformer.now) answer e) e
+    place.ensures.start place.ensures.size c.in_ok-answer.ensures.read h)
+    c.block_in.ensures.cause
 
-pub returns-in_err-found-clause-once : goal.returns-in_err-found-clause-once
-returns-in_err-found-clause-once g c =
-    let p = err_from_is_err_and c.from_residual-in_err-found.result c.from_residual-in_err-found.ensures.1 in
+pub returns-clause-once : goal.returns-clause-once
+returns-clause-once g c =
     let end = c.args.table.now.info.filter_offset in
     let entries = entries_of c.args.index.now in
     let place = c.place_of_block-place in
-    rw p.1
+    on_err c.block_in.result
     (inr (row_read (g.S.Store.objects c.args.store.now) (g.S.Store.acts c.args.store.now) (g.S.Store.acts c.read.new.store) (path_of c.args.root.now c.args.table.now.id.0)
     place.result.0 place.result.1 (block_start end entries c.args.block) (blocks_size end entries c.args.block (c.args.block + 1)) c.in_ok-answer.answer (λ (answer : Option (List ℕ)). Unit {0})
     place.ensures.start place.ensures.size c.in_ok-answer.ensures.read tt))
@@ -38,7 +38,9 @@ returns-clause-found g c =
     let end = c.args.table.now.info.filter_offset in
     let entries = entries_of c.args.index.now in
     let place = c.place_of_block-place in
-    row_read (g.S.Store.objects c.args.store.now) (g.S.Store.acts c.args.store.now) (g.S.Store.acts c.read.new.store) (path_of c.args.root.now c.args.table.now.id.0)
+    IfOk-weaker c.block_in.result _ _
+    (λ block found. row_read (g.S.Store.objects c.args.store.now) (g.S.Store.acts c.args.store.now) (g.S.Store.acts c.read.new.store) (path_of c.args.root.now c.args.table.now.id.0)
     place.result.0 place.result.1 (block_start end entries c.args.block) (blocks_size end entries c.args.block (c.args.block + 1)) c.in_ok-answer.answer
-    (λ (answer : Option (List ℕ)). IsBlockRead (changed_by g.T.BlockTransformer.decoded c.args.transformer.now) answer c.in_ok-found.found)
-    place.ensures.start place.ensures.size c.in_ok-answer.ensures.read c.in_ok-found.ensures.found
+    (λ (answer : Option (List ℕ)). IsBlockRead (changed_by g.T.BlockTransformer.decoded c.args.transformer.now) answer block)
+    place.ensures.start place.ensures.size c.in_ok-answer.ensures.read found)
+    c.block_in.ensures.found

@@ -1,11 +1,16 @@
 use Rattle.std.proofs.Common.{ap, ◌∙◌, List, ℕ, take, length, refl}
 use Rattle.std.proofs.lemmas.List.{take_at}
-use Rattle.std.proofs.lemmas.Result.{err_from_is_err_and}
+use Rattle.std.proofs.lemmas.Result.{on_ok_weaker, on_err_weaker}
 use Rattle.slate_block.specs.RowSpelling.{be64}
+use Rattle.slate_table.proofs.Grown.{grown}
 use Rattle.slate_table.proofs.footer.Footer.encode.Goals as goal
 
-pub returns-in_err-append_u16-clause-kept : goal.returns-in_err-append_u16-clause-kept
-returns-in_err-append_u16-clause-kept c =
-    let p = err_from_is_err_and c.from_residual-in_err-append_u16.result c.from_residual-in_err-append_u16.ensures.1 in
+pub returns-clause-appended : goal.returns-clause-appended
+returns-clause-appended c = on_ok_weaker c.append_u16.result (λ h. grown c.args.out.now.items _ _ _ _ c.in_ok-append_u64.ensures.appended h) c.append_u16.ensures.appended
+
+pub returns-clause-kept : goal.returns-clause-kept
+returns-clause-kept c =
     let old = c.args.out.now.items in
-    rw p.1 (ap (λ (l : List ℕ). take (length old) l) (c.in_err-append_u16.ensures.unchanged ∙ c.in_ok-append_u64.ensures.appended) ∙ take_at old (be64 c.args.self.now.info_offset) (length old) refl)
+    on_err_weaker c.append_u16.result
+    (λ h. ap (λ (l : List ℕ). take (length old) l) (h ∙ c.in_ok-append_u64.ensures.appended) ∙ take_at old (be64 c.args.self.now.info_offset) (length old) refl)
+    c.append_u16.ensures.unchanged

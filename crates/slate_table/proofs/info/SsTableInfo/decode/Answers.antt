@@ -1,17 +1,23 @@
-use Rattle.std.proofs.lemmas.Result.{err_from_is_err_and}
+use Rattle.std.proofs.Common.{ap}
+use Rattle.std.proofs.lemmas.Result.{IfErr-weaker}
 use Rattle.slate_types.specs.declared.error.SlateDBError.TheVariants.{OutOfMemory}
+use Rattle.slate_block.specs.RowReading.{refusal}
 use Rattle.slate_table.specs.InfoReading.{seen_info}
 use Rattle.slate_table.proofs.InfoReads.{info_reads, refused_info}
+use Rattle.slate_table.proofs.Results.{either, if_ok_both}
 use Rattle.slate_table.proofs.info.SsTableInfo.decode.Goals as goal
 
-pub returns-in_err-info-clause-only : goal.returns-in_err-info-clause-only
-returns-in_err-info-clause-only c =
-    let p = err_from_is_err_and c.from_residual.result c.from_residual.ensures.1 in
-    λ info is before. rw (p.1, p.2)
-    (refused_info c.args.version c.args.end info c.args.bytes c.in_err-info.field-0.0 OutOfMemory c.in_err-info.ensures.cause is before)
-
 pub returns-clause-found : goal.returns-clause-found
-returns-clause-found c = (info_reads c.args.version c.args.end c.args.bytes (seen_info c.in_ok-info.info) c.in_ok-info.ensures.bytes c.in_ok-info.ensures.found).is
+returns-clause-found c = if_ok_both c.read_info-info.result _ _ _
+    (λ info found bytes. (info_reads c.args.version c.args.end c.args.bytes (seen_info info) bytes found).is) c.read_info-info.ensures.found c.read_info-info.ensures.bytes
 
 pub returns-clause-before : goal.returns-clause-before
-returns-clause-before c = (info_reads c.args.version c.args.end c.args.bytes (seen_info c.in_ok-info.info) c.in_ok-info.ensures.bytes c.in_ok-info.ensures.found).before
+returns-clause-before c = if_ok_both c.read_info-info.result _ _ _
+    (λ info found bytes. (info_reads c.args.version c.args.end c.args.bytes (seen_info info) bytes found).before) c.read_info-info.ensures.found c.read_info-info.ensures.bytes
+
+pub returns-clause-only : goal.returns-clause-only
+returns-clause-only c = λ info is before. IfErr-weaker c.read_info-info.result _ _
+    (λ e h. refused_info c.args.version c.args.end info c.args.bytes e OutOfMemory h is before) c.read_info-info.ensures.cause
+
+pub returns-clause-cause : goal.returns-clause-cause
+returns-clause-cause c = IfErr-weaker c.read_info-info.result _ _ (λ e h. either (λ fails. ap refusal fails) h) c.read_info-info.ensures.cause

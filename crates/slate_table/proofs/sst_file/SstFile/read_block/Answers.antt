@@ -1,6 +1,7 @@
-use Rattle.std.proofs.Common.{◌∙◌, ℕ, List, ap}
+use Rattle.std.proofs.Common.{◌∙◌, ℕ, List, ap, inl, inr}
 use Rattle.std.specs.Prelude.{string_bytes}
-use Rattle.std.proofs.lemmas.Result.{err_from_is_err_and}
+use Rattle.std.proofs.lemmas.Result.{IfOk-weaker, IfErr-weaker, err_from_is_err_and}
+use Rattle.slate_table.proofs.Results.{on_err}
 use Rattle.slate_types.specs.Faults.{faults_of}
 use Rattle.slate_table.specs.IndexValue.{entries_of}
 use Rattle.slate_table.specs.Paths.{path_of}
@@ -60,9 +61,8 @@ returns-in_err-found-clause-same_encoded g c = c.read_block.ensures.same_encoded
 pub returns-in_err-found-clause-same_decoded : goal.returns-in_err-found-clause-same_decoded
 returns-in_err-found-clause-same_decoded g c = c.read_block.ensures.same_decoded ∙ c.index.ensures.same_decoded
 
-pub returns-in_err-rows-clause-cause : goal.returns-in_err-rows-clause-cause
-returns-in_err-rows-clause-cause g c =
-    let p = err_from_is_err_and c.from_residual-in_err-rows.result c.from_residual-in_err-rows.ensures.1 in
+pub returns-clause-cause : goal.returns-clause-cause
+returns-clause-cause g c =
     let old = c.args.reader.now in
     let middle = c.index.new.reader in
     let table = c.args.self.now.handle in
@@ -73,15 +73,15 @@ returns-in_err-rows-clause-cause g c =
     let there = ap (λ (root : List ℕ). path_of root table.id.0) (c.as_str-root.ensures.value ∙ ap string_bytes c.index.ensures.root) in
     let faults = g.S.Store.faults in
     let failed = faults_of g.T.BlockTransformer.faults in
-    rw (p.1, p.2)
-    (row_refused (decoded old.transformer) (decoded middle.transformer) (objects old.store) (objects middle.store) (acts old.store) (acts middle.store) (acts c.read_block.new.store)
+    IfErr-weaker c.rows_of_block.result _ _
+    (λ e h. row_refused (decoded old.transformer) (decoded middle.transformer) (objects old.store) (objects middle.store) (acts old.store) (acts middle.store) (acts c.read_block.new.store)
     (path_of (string_bytes old.root_path) table.id.0) (path_of c.as_str-root.result.now table.id.0) table entries c.args.block c.in_ok-found.found
-    (faults old.store) (faults c.read_block.new.store) (failed old.transformer) (failed c.read_block.new.transformer) c.in_err-rows.field-0.0
-    c.index.ensures.same_decoded c.index.ensures.objects there c.in_ok-index.ensures.found c.in_ok-test_block.ensures.within c.rows_of_block.ensures.bytes c.in_ok-found.ensures.found c.in_err-rows.ensures.cause)
+    (faults old.store) (faults c.read_block.new.store) (failed old.transformer) (failed c.read_block.new.transformer) e
+    c.index.ensures.same_decoded c.index.ensures.objects there c.in_ok-index.ensures.found c.in_ok-test_block.ensures.within c.rows_of_block.ensures.bytes c.in_ok-found.ensures.found h)
+    c.rows_of_block.ensures.cause
 
-pub returns-in_err-rows-clause-twice : goal.returns-in_err-rows-clause-twice
-returns-in_err-rows-clause-twice g c =
-    let p = err_from_is_err_and c.from_residual-in_err-rows.result c.from_residual-in_err-rows.ensures.1 in
+pub returns-clause-twice : goal.returns-clause-twice
+returns-clause-twice g c =
     let old = c.args.reader.now in
     let middle = c.index.new.reader in
     let table = c.args.self.now.handle in
@@ -90,16 +90,10 @@ returns-in_err-rows-clause-twice g c =
     let decoded = changed_by g.T.BlockTransformer.decoded in
     let entries = entries_of c.in_ok-index.index in
     let there = ap (λ (root : List ℕ). path_of root table.id.0) (c.as_str-root.ensures.value ∙ ap string_bytes c.index.ensures.root) in
-    rw p.1
+    on_err c.rows_of_block.result
     (had_block (decoded old.transformer) (decoded middle.transformer) (objects old.store) (objects middle.store) (acts old.store) (acts middle.store) (acts c.read_block.new.store)
     (path_of (string_bytes old.root_path) table.id.0) (path_of c.as_str-root.result.now table.id.0) table entries c.args.block c.in_ok-found.found
     c.index.ensures.objects there c.in_ok-index.ensures.found c.in_ok-test_block.ensures.within c.in_ok-found.ensures.found)
-
-pub returns-in_err-rows-clause-same_encoded : goal.returns-in_err-rows-clause-same_encoded
-returns-in_err-rows-clause-same_encoded g c = c.read_block.ensures.same_encoded ∙ c.index.ensures.same_encoded
-
-pub returns-in_err-rows-clause-same_decoded : goal.returns-in_err-rows-clause-same_decoded
-returns-in_err-rows-clause-same_decoded g c = c.read_block.ensures.same_decoded ∙ c.index.ensures.same_decoded
 
 pub returns-clause-found : goal.returns-clause-found
 returns-clause-found g c =
@@ -111,12 +105,34 @@ returns-clause-found g c =
     let decoded = changed_by g.T.BlockTransformer.decoded in
     let entries = entries_of c.in_ok-index.index in
     let there = ap (λ (root : List ℕ). path_of root table.id.0) (c.as_str-root.ensures.value ∙ ap string_bytes c.index.ensures.root) in
-    reads_rows (decoded old.transformer) (decoded middle.transformer) (objects old.store) (objects middle.store) (acts old.store) (acts middle.store) (acts c.read_block.new.store)
-    (path_of (string_bytes old.root_path) table.id.0) (path_of c.as_str-root.result.now table.id.0) table entries c.args.block c.in_ok-found.found c.in_ok-rows.rows.items
-    c.index.ensures.same_decoded c.index.ensures.objects there c.in_ok-index.ensures.found c.in_ok-test_block.ensures.within c.rows_of_block.ensures.bytes c.in_ok-found.ensures.found c.in_ok-rows.ensures.rows
+    IfOk-weaker c.rows_of_block.result _ _
+    (λ rows read. reads_rows (decoded old.transformer) (decoded middle.transformer) (objects old.store) (objects middle.store) (acts old.store) (acts middle.store) (acts c.read_block.new.store)
+    (path_of (string_bytes old.root_path) table.id.0) (path_of c.as_str-root.result.now table.id.0) table entries c.args.block c.in_ok-found.found rows.items
+    c.index.ensures.same_decoded c.index.ensures.objects there c.in_ok-index.ensures.found c.in_ok-test_block.ensures.within c.rows_of_block.ensures.bytes c.in_ok-found.ensures.found read)
+    c.rows_of_block.ensures.rows
 
 pub returns-clause-same_encoded : goal.returns-clause-same_encoded
 returns-clause-same_encoded g c = c.read_block.ensures.same_encoded ∙ c.index.ensures.same_encoded
 
 pub returns-clause-same_decoded : goal.returns-clause-same_decoded
 returns-clause-same_decoded g c = c.read_block.ensures.same_decoded ∙ c.index.ensures.same_decoded
+
+pub returns-in_err-test_block-clause-cause : goal.returns-in_err-test_block-clause-cause
+returns-in_err-test_block-clause-cause g c =
+    let p = err_from_is_err_and c.from_residual-in_err-test_block.result c.from_residual-in_err-test_block.ensures.1 in
+    let past = c.in_err-test_block.ensures.past in
+    rw (p.1, p.2) (inr (inr (inr (inl (entries_of c.in_ok-index.index, c.in_ok-index.ensures.found, past.0, past.1)))))
+
+pub returns-in_err-test_block-clause-twice : goal.returns-in_err-test_block-clause-twice
+returns-in_err-test_block-clause-twice g c =
+    let p = err_from_is_err_and c.from_residual-in_err-test_block.result c.from_residual-in_err-test_block.ensures.1 in
+    let found = c.in_ok-index.ensures.found in
+    rw p.1 (inr (inl (found.0, found.1, tt)))
+
+pub returns-in_err-index-clause-twice : goal.returns-in_err-index-clause-twice
+returns-in_err-index-clause-twice g c =
+    let p = err_from_is_err_and c.from_residual.result c.from_residual.ensures.1 in
+    rw p.1 (elim c.in_err-index.ensures.once [
+      | inl unread ↦ inl unread
+      | inr read ↦ inr (inl read)
+    ])
