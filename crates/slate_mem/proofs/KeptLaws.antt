@@ -1,5 +1,5 @@
 -- The entries that a batch keeps are what is kept of the operations that it took.
-use Rattle.std.proofs.Common.{◌≡◌, ℕ, ◌+◌, ◌<◌, Bool, true, false, cond, ◌||◌, length-append, List, [], ◌∷◌, ◌++◌, suc, map, filter_map, flat_map, Option, None, ℤ, length, bytes_eq, refl, sym, ap, subst, ◌∙◌, arith, Ordering, Less, Equal, Greater}
+use Rattle.std.proofs.Common.{◌≡◌, ℕ, ◌+◌, ◌<◌, Bool, true, false, cond, ◌||◌, length-append, List, [], ◌∷◌, ◌++◌, suc, map, filter_map, flat_map, reverse, Option, Some, None, ℤ, length, bytes_eq, refl, sym, ap, subst, ◌∙◌, arith, Ordering, Less, Equal, Greater}
 use Rattle.std.specs.Ordering.{is_eq, ordering_reverse, match_ordering}
 use Rattle.std.specs.List.{list_any, sum_by, cons_option, AllByRecursion, AllZip}
 use Rattle.std.specs.List.Sorted.{IsStrictlySortedBy}
@@ -23,6 +23,8 @@ use Rattle.slate_mem.specs.Refusals.{op_refusal}
 use Rattle.slate_mem.specs.RowOf.{op_row}
 use Rattle.slate_mem.specs.CommitRows.{commit_rows}
 use Rattle.slate_mem.specs.Kept.{Entries, listed, tagged, IsKept, AreKept, IsSingle, AreFineAt, AreFine, IsWhole, single_row, single_rows}
+use Rattle.slate_mem.specs.declared.batch_iterator.Stamps.{Stamps}
+use Rattle.slate_mem.specs.BatchRows.{stamped, newest_rows}
 use Rattle.slate_mem.proofs.BatchLaws.{ops_of-append, ops_of-one, append-nil, some_of, none-left, among-keys, some-kept, ops_of-kept}
 
 -- ---- keys
@@ -398,3 +400,13 @@ pub rows-listed : (c : List ℕ → Combine) (default_millis : Option ℕ) (n : 
 rows-listed c default_millis n now es w =
     (λ i. filter_map (λ k. fold_rows (c k) (map (op_row k n default_millis now) (kept-listed es k w.rising w.kept i))) (keys-listed es w.rising w.kept i))
     ∙ rows-by (λ k. fold_rows (c k) (map (op_row k n default_millis now) (items_at es k))) default_millis n now es (each-kept (items_at es) c default_millis n now es (gives-each es w.rising) (w.told refl))
+
+-- where each key has one operation, the newest of each is the only one
+pub newest-single : (default_millis : Option ℕ) (n : ℕ) (now : ℤ) (es : Entries) → AllByRecursion (λ e. IsSingle e.1.items) es →
+    newest_rows (record { seq = n; create_ts = Some now; default_ttl_millis = default_millis }) es ≡ single_rows default_millis n now es
+newest-single default_millis n now [] h = refl
+newest-single default_millis n now (e ∷ es) h =
+    let s : Stamps = record { seq = n; create_ts = Some now; default_ttl_millis = default_millis } in
+    ap (λ ops. map (stamped s e.0) (reverse ops) ++ newest_rows s es) h.0.1
+    ∙ ap (λ rows. op_row e.0 n default_millis now h.0.0 ∷ rows) (newest-single default_millis n now es h.1)
+    ∙ sym (ap (λ ops. cons_option (single_row default_millis n now e.0 ops) (single_rows default_millis n now es)) h.0.1)

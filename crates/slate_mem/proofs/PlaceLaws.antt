@@ -104,3 +104,8 @@ between-is-ranged range es t =
 pub none-ranged : (range : BytesRange) (rows : List RowEntry) → is_refused range.start range.end ≡ true → ranged range rows ≡ []
 none-ranged range [] h = refl
 none-ranged range (r ∷ rs) h = ap (λ b. cond b (r ∷ ranged range rs) (ranged range rs)) (refused-holds-none range.start range.end r.key h) ∙ none-ranged range rs h
+
+-- two open bounds hold all entries
+pub all-between : {K X : Type 0} (R : K → K → Ordering) (es : List (K × X)) → entries_between R Unbounded Unbounded es ≡ es
+all-between R [] = refl
+all-between R (e ∷ es) = ap (λ fs. e ∷ fs) (all-between R es)

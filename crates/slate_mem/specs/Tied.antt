@@ -1,8 +1,9 @@
 -- How a table keeps its rows: a map from keys with sequences to rows.
 --     IsRows es, IsTable es segments      what stands at all times of the entries, and of the prefixes too
+--     taken b rows      the rows, or where `b` holds those to the first that is no operand
 --     newest_entries k n es      the rows of a key up to a sequence, to the first that is no operand
 --     undone es step      the entries without what a step did
-use Rattle.std.specs.Prelude.{◌≡◌, ℕ, ◌<◌, ◌^◌, List, [], ◌∷◌, Option, Some, None}
+use Rattle.std.specs.Prelude.{◌≡◌, ℕ, ◌<◌, ◌^◌, Bool, true, false, List, [], ◌∷◌, Option, Some, None}
 use Rattle.std.specs.List.{AllByRecursion}
 use Rattle.std.specs.List.Sorted.{IsStrictlySortedBy}
 use Rattle.std.specs.Map.{keys_of, values_of, set_value, remove_entry}
@@ -49,6 +50,10 @@ undone es step = undo_at step.key step.before es
 abbrev pub all_undone : TableEntries → List Step → TableEntries
 all_undone es [] = es
 all_undone es (step ∷ steps) = undone (all_undone es steps) step
+
+abbrev pub taken : Bool → List RowEntry → List RowEntry
+taken false rows = rows
+taken true rows = to_base rows
 
 abbrev pub newest_entries : List ℕ → ℕ → TableEntries → List RowEntry
 newest_entries k n es =

@@ -10,15 +10,17 @@ ghost use Rattle.slate_mem.specs.Refusals.{first_refusal, key_refusals, value_re
 ghost use Rattle.slate_mem.specs.BatchModel.{no_ops, with_op, plain_put, holds_merge, IsBatchOf};
 ghost use Rattle.slate_types.specs.Fold.{Combine};
 ghost use Rattle.slate_mem.specs.CommitRows.{commit_rows, row_bytes};
-ghost use Rattle.slate_mem.specs.Kept.{listed, tagged, single_rows, IsWhole};
+ghost use Rattle.slate_mem.specs.Kept.{listed, tagged, IsWhole};
 
 use crate::WriteOp;
+use crate::batch_iterator::{Stamps, rising_rows};
 use bytes::Bytes;
 use slate_types::{PutOptions, RowEntry, SlateDBError};
 use smallvec::SmallVec;
 use std::alloc::Global;
 use std::collections::BTreeMap;
 use std::marker::Model;
+use std::ops::Bound;
 
 /// Operations that are applied together. Of a key it keeps those from the last put or delete on, oldest first.
 /// After a refusal it is as it was.
@@ -78,11 +80,9 @@ impl WriteBatch {
         ensures means { (ops : Ops) → IsBatchOf ops self.old → OnOk result (IsBatchOf (ops ++ ((key.now, WriteOp.Put value.now options.now) ∷ [])) self.new) }
         ensures same { OnErr result (self.new ≡ self.old) }
     {
-        test_key(key)?;
-        test_value(value)?;
-        let key = Bytes::copy_from_slice(self.alloc, key)?;
+        test_put(key, value)?;
         let value = Bytes::copy_from_slice(self.alloc, value)?;
-        self.replace(key, WriteOp::Put(value, *options))
+        self.replace_copied(key, WriteOp::Put(value, *options))
     }
 
     /// Puts a value that is held already, with the default options, and copies nothing. Refuses as `put` does.
@@ -109,9 +109,14 @@ impl WriteBatch {
         ensures means { (ops : Ops) → IsBatchOf ops self.old → OnOk result (IsBatchOf (ops ++ ((key, WriteOp.Put value options.now) ∷ [])) self.new) }
         ensures same { OnErr result (self.new ≡ self.old) }
     {
-        test_key(key.as_slice())?;
-        test_value(value.as_slice())?;
-        self.replace(key, WriteOp::Put(value, *options))
+        match test_put(key.as_slice(), value.as_slice()) {
+            Ok(()) => self.replace(key, WriteOp::Put(value, *options)),
+            Err(refusal) => {
+                drop(key);
+                drop(value);
+                Err(refusal)
+            }
+        }
     }
 
     /// Deletes the key, in place of all its operations. Refuses by `EmptyKey`, then by `KeyTooLong` above 65535
@@ -124,8 +129,7 @@ impl WriteBatch {
         ensures same { OnErr result (self.new ≡ self.old) }
     {
         test_key(key)?;
-        let key = Bytes::copy_from_slice(self.alloc, key)?;
-        self.replace(key, WriteOp::Delete)
+        self.replace_copied(key, WriteOp::Delete)
     }
 
     /// Whether it has no operations.
@@ -204,9 +208,33 @@ impl WriteBatch {
         ensures bytes { IfOk result (λ e. e.1 ≡ min (row_bytes e.0.items) (2 ^ 64 - 1)) }
         ensures cause { IsOkUnless result SlateDBError.OutOfMemory }
     {
-        let rows = rows_of(alloc, &self.ops, seq, now, default_ttl_millis)?;
+        let stamps = Stamps {
+            seq,
+            create_ts: Some(now),
+            default_ttl_millis,
+        };
+        let all = (Bound::<Bytes>::Unbounded, Bound::Unbounded);
+        let rows = rising_rows(alloc, self.ops.range(all), &stamps)?;
         let bytes = bytes_of(&rows);
         Ok((rows, bytes))
+    }
+
+    /// Takes a put or a delete of a copy of the key, in place of all its operations.
+    fn replace_copied(&mut self, key: &[u8], op: WriteOp) -> Result<(), SlateDBError>
+        requires fine { op_refusal key.now op ≡ None }
+        requires replaces { replaces op ≡ true }
+        ensures taken { OnOk result (self.new ≡ with_op self.old key.now op) }
+        ensures means { (ops : Ops) → IsBatchOf ops self.old → OnOk result (IsBatchOf (ops ++ ((key.now, op) ∷ [])) self.new) }
+        ensures cause { IsOkUnless result SlateDBError.OutOfMemory }
+        ensures same { OnErr result (self.new ≡ self.old) }
+    {
+        match Bytes::copy_from_slice(self.alloc, key) {
+            Ok(key) => self.replace(key, op),
+            Err(error) => {
+                drop(op);
+                Err(error.into())
+            }
+        }
     }
 
     /// Takes a put or a delete, in place of all operations of its key.
@@ -218,7 +246,8 @@ impl WriteBatch {
         ensures cause { IsOkUnless result SlateDBError.OutOfMemory }
         ensures same { OnErr result (self.new ≡ self.old) }
     {
-        set_ops(self.alloc, &mut self.ops, key, op)?;
+        let list = SmallVec::from_buf(self.alloc, [op]);
+        drop(self.ops.insert(key, list)?);
         Ok(())
     }
 }
@@ -240,6 +269,16 @@ fn test_key(key: &[u8]) -> Result<(), SlateDBError>
     Ok(())
 }
 
+/// What `test_key` refuses, then what `test_value` does.
+fn test_put(key: &[u8], value: &[u8]) -> Result<(), SlateDBError>
+    ensures refused { (e : SlateDBError) → op_refusal key.now (plain_put value.now) ≡ Some e → result ≡ Err e }
+    ensures cause { IfErr result (λ e. op_refusal key.now (plain_put value.now) ≡ Some e) }
+    ensures fine { OnOk result (op_refusal key.now (plain_put value.now) ≡ None) }
+{
+    test_key(key)?;
+    test_value(value)
+}
+
 /// `ValueTooLong` exactly above 2^32 - 1 bytes.
 fn test_value(value: &[u8]) -> Result<(), SlateDBError>
     ensures refused { (e : SlateDBError) → value_refusal value.now ≡ Some e → result ≡ Err e }
@@ -251,33 +290,6 @@ fn test_value(value: &[u8]) -> Result<(), SlateDBError>
             len: value.len() as u64,
         });
     }
-    Ok(())
-}
-
-/// The list of one operation.
-fn single(alloc: Global, op: WriteOp) -> Result<SmallVec<WriteOp, 1>, SlateDBError>
-    ensures one { IfOk result (λ list. list.items ≡ op ∷ []) }
-    ensures cause { IsOkUnless result SlateDBError.OutOfMemory }
-{
-    let mut list = SmallVec::new(alloc);
-    list.push(op)?;
-    Ok(list)
-}
-
-/// Sets the one operation of a key.
-fn set_ops(
-    alloc: Global,
-    ops: &mut BTreeMap<Bytes, SmallVec<WriteOp, 1>>,
-    key: Bytes,
-    op: WriteOp,
-) -> Result<(), SlateDBError>
-    ensures rising { OnOk result (map.IsOrdered key_cmp ops.new) }
-    ensures set { OnOk result ((list : _) × (list.items ≡ op ∷ []) × (ops.new.entries ≡ insert_entry key_cmp ops.old.entries key list)) }
-    ensures cause { IsOkUnless result SlateDBError.OutOfMemory }
-    ensures same { OnErr result (IsUnchanged ops.old ops.new) }
-{
-    let list = single(alloc, op)?;
-    ops.insert(key, list)?;
     Ok(())
 }
 
@@ -335,26 +347,6 @@ fn keys_of(
         keys.push(key.clone()?)?;
     }
     Ok(keys)
-}
-
-/// The rows of keys that have one operation each.
-fn rows_of(
-    alloc: Global,
-    ops: &BTreeMap<Bytes, SmallVec<WriteOp, 1>>,
-    seq: u64,
-    now: i64,
-    default_ttl_millis: Option<u64>,
-) -> Result<Vec<RowEntry>, SlateDBError>
-    ensures rows { IfOk result (λ rows. rows.items ≡ single_rows default_ttl_millis seq now ops.now.entries) }
-    ensures cause { IsOkUnless result SlateDBError.OutOfMemory }
-{
-    let mut rows = Vec::new(alloc);
-    for (key, list) in ops {
-        if let Some(op) = list.as_slice().first() {
-            rows.push(op.to_row(key, seq, now, default_ttl_millis)?)?;
-        }
-    }
-    Ok(rows)
 }
 
 /// The bytes of keys and values, or the greatest number where they are more.

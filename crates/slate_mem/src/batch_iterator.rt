@@ -65,10 +65,10 @@ impl WriteBatchIterator {
 
 /// What an operation's row has beside its key and value.
 #[derive(Clone, Copy)]
-struct Stamps {
-    seq: u64,
-    create_ts: Option<i64>,
-    default_ttl_millis: Option<u64>,
+pub(crate) struct Stamps {
+    pub(crate) seq: u64,
+    pub(crate) create_ts: Option<i64>,
+    pub(crate) default_ttl_millis: Option<u64>,
 }
 
 impl Stamps {
@@ -120,7 +120,7 @@ fn copied(range: &BytesRange) -> Result<BytesRange, SlateDBError>
 }
 
 /// The rows of entries, keys upwards, and newest first within a key.
-fn rising_rows(
+pub(crate) fn rising_rows(
     alloc: Global,
     entries: Range<'_, Bytes, SmallVec<WriteOp, 1>>,
     stamps: &Stamps,

@@ -8,7 +8,7 @@ use slate_types::{BytesRange, SequencedKey, SlateDBError};
 use std::ops::Bound;
 
 /// The keys with sequences between two bounds.
-#[derive(Clone, Debug, PartialEq, Eq, Drop)]
+#[derive(Drop)]
 pub struct KVTableInternalKeyRange {
     pub start: Bound<SequencedKey>,
     pub end: Bound<SequencedKey>,
@@ -22,10 +22,14 @@ impl KVTableInternalKeyRange {
         ensures end { IfOk result (λ r. r.end ≡ places.last_place range.now.end) }
         ensures cause { IsOkUnless result SlateDBError.OutOfMemory }
     {
-        Ok(KVTableInternalKeyRange {
-            start: at_sequences(&range.start, u64::MAX, 0)?,
-            end: at_sequences(&range.end, 0, u64::MAX)?,
-        })
+        let start = at_sequences(&range.start, u64::MAX, 0)?;
+        match at_sequences(&range.end, 0, u64::MAX) {
+            Ok(end) => Ok(KVTableInternalKeyRange { start, end }),
+            Err(refusal) => {
+                drop(start);
+                Err(refusal)
+            }
+        }
     }
 }
 

@@ -14,7 +14,7 @@ ghost use Rattle.slate_types.specs.Keys.{key_cmp, keys_set, among, is_refused};
 ghost use Rattle.slate_types.specs.Fold.{greatest_seq};
 ghost use Rattle.slate_types.specs.Iteration.{IsInOrder};
 ghost use Rattle.slate_mem.specs.Table.{no_rows, put_rows, of_key, ranged, newest, last_tick, first_seq};
-ghost use Rattle.slate_mem.specs.Tied.{IsRows, insert_row, insert_rows, undone, all_undone, newest_entries};
+ghost use Rattle.slate_mem.specs.Tied.{IsRows, insert_row, insert_rows, undone, all_undone, newest_entries, taken};
 
 use crate::key_range::KVTableInternalKeyRange;
 use crate::metadata::{KVTableMetadata, count_rows};
@@ -98,7 +98,9 @@ impl MemTable {
         ensures rows { IfOk result (λ rows. rows.items ≡ newest key.now max_seq self.now.rows) }
         ensures cause { IsOkUnless result SlateDBError.OutOfMemory }
     {
-        newest_of(alloc, &self.rows, key, max_seq)
+        let (first, last) = places(key, max_seq, 0)?;
+        let (first, last) = (Bound::Included(first), Bound::Included(last));
+        rows_between(alloc, &self.rows, first, last, true)
     }
 
     /// The rows whose keys are in the range, keys in the order, and newest first within a key in both orders. They
@@ -125,7 +127,7 @@ impl MemTable {
         ensures rows { IfOk result (λ rows. rows.items ≡ self.now.rows) }
         ensures cause { IsOkUnless result SlateDBError.OutOfMemory }
     {
-        copies(alloc, &self.rows)
+        rows_between(alloc, &self.rows, Bound::Unbounded, Bound::Unbounded, false)
     }
 
     /// Moves the rows and the recorded prefixes into a table that stays as it is, and leaves none. It takes no memory.
@@ -275,10 +277,32 @@ fn put_one(rows: &mut BTreeMap<SequencedKey, RowEntry>, row: RowEntry) -> Result
     ensures same { OnErr result (IsUnchanged rows.old rows.new) }
     ensures cause { IsOkUnless result SlateDBError.OutOfMemory }
 {
-    let key = SequencedKey::new(row.key.clone()?, row.seq);
-    let place = key.clone()?;
+    let (key, place) = match places(&row.key, row.seq, row.seq) {
+        Ok(places) => places,
+        Err(refusal) => {
+            drop(row);
+            return Err(refusal);
+        }
+    };
     let before = rows.insert(place, row)?;
     Ok(Step { key, before })
+}
+
+/// The key with each of two sequences.
+fn places(
+    key: &Bytes,
+    first: u64,
+    second: u64,
+) -> Result<(SequencedKey, SequencedKey), SlateDBError>
+    ensures first { IfOk result (λ places. places.0 ≡ record { user_key = key.now; seq = first }) }
+    ensures second { IfOk result (λ places. places.1 ≡ record { user_key = key.now; seq = second }) }
+    ensures cause { IsOkUnless result SlateDBError.OutOfMemory }
+{
+    let copy = key.clone()?;
+    Ok((
+        SequencedKey::new(key.clone()?, first),
+        SequencedKey::new(copy, second),
+    ))
 }
 
 /// Takes back what one put did.
@@ -287,9 +311,7 @@ fn undo(rows: &mut BTreeMap<SequencedKey, RowEntry>, step: Step)
 {
     let Step { key, before } = step;
     match before {
-        None => {
-            rows.remove(&key);
-        }
+        None => drop(rows.remove(&key)),
         Some(row) => write_back(rows, &key, row),
     }
 }
@@ -298,8 +320,9 @@ fn undo(rows: &mut BTreeMap<SequencedKey, RowEntry>, step: Step)
 fn write_back(rows: &mut BTreeMap<SequencedKey, RowEntry>, key: &SequencedKey, row: RowEntry)
     ensures { rows.new.entries ≡ set_value (is_at (sequenced_cmp key.now)) rows.old.entries row }
 {
-    if let Some(place) = rows.get_mut(key) {
-        *place = row;
+    match rows.get_mut(key) {
+        Some(place) => drop(mem::replace(place, row)),
+        None => drop(row),
     }
 }
 
@@ -313,25 +336,8 @@ fn undo_all(rows: &mut BTreeMap<SequencedKey, RowEntry>, mut steps: Vec<Step>)
     }
 }
 
-/// Puts a row, and notes how it is taken back.
-#[tactic(auto, using(crate::proofs::TableLaws::undone_last))]
-fn put_noted(
-    table: &mut BTreeMap<SequencedKey, RowEntry>,
-    steps: &mut Vec<Step>,
-    row: RowEntry,
-) -> Result<(), SlateDBError>
-    ensures put { OnOk result (table.new.entries ≡ insert_row table.old.entries row) }
-    ensures undo { all_undone table.new.entries steps.new.items ≡ all_undone table.old.entries steps.old.items }
-    ensures kept { OnOk result (IsRows table.old.entries → IsRows table.new.entries) }
-    ensures cause { IsOkUnless result SlateDBError.OutOfMemory }
-{
-    steps.reserve(1)?;
-    let step = put_one(table, row)?;
-    steps.push_reserved(step);
-    Ok(())
-}
-
 /// Puts all rows, or none.
+#[tactic(auto, using(crate::proofs::TableLaws::undone_last))]
 fn put_each(
     alloc: Global,
     table: &mut BTreeMap<SequencedKey, RowEntry>,
@@ -342,51 +348,17 @@ fn put_each(
     ensures same { OnErr result (IsUnchanged table.old table.new) }
     ensures cause { IsOkUnless result SlateDBError.OutOfMemory }
 {
-    let mut steps = Vec::new(alloc);
+    let mut steps = Vec::with_capacity(alloc, rows.len())?;
     for row in rows {
-        if let Err(refusal) = put_noted(table, &mut steps, row) {
-            undo_all(table, steps);
-            return Err(refusal);
+        match put_one(table, row) {
+            Ok(step) => steps.push_reserved(step),
+            Err(refusal) => {
+                undo_all(table, steps);
+                return Err(refusal);
+            }
         }
     }
     Ok(())
-}
-
-/// The rows of a key, newest first, to the first that is no merge.
-fn newest_of(
-    alloc: Global,
-    rows: &BTreeMap<SequencedKey, RowEntry>,
-    key: &Bytes,
-    max_seq: u64,
-) -> Result<Vec<RowEntry>, SlateDBError>
-    ensures rows { IfOk result (λ found. found.items ≡ newest_entries key.now max_seq rows.now.entries) }
-    ensures cause { IsOkUnless result SlateDBError.OutOfMemory }
-{
-    let first = SequencedKey::new(key.clone()?, max_seq);
-    let last = SequencedKey::new(key.clone()?, 0);
-    let mut found = Vec::new(alloc);
-    for (_, row) in rows.range((Bound::Included(first), Bound::Included(last))) {
-        found.push(row.clone()?)?;
-        if !matches!(row.value, ValueDeletable::Merge(_)) {
-            return Ok(found);
-        }
-    }
-    Ok(found)
-}
-
-/// Copies of all rows.
-fn copies(
-    alloc: Global,
-    rows: &BTreeMap<SequencedKey, RowEntry>,
-) -> Result<Vec<RowEntry>, SlateDBError>
-    ensures rows { IfOk result (λ found. found.items ≡ values_of rows.now.entries) }
-    ensures cause { IsOkUnless result SlateDBError.OutOfMemory }
-{
-    let mut found = Vec::new(alloc);
-    for row in rows.values() {
-        found.push(row.clone()?)?;
-    }
-    Ok(found)
 }
 
 /// Copies of the rows whose keys are in the range.
@@ -403,7 +375,7 @@ fn rows_in(
         return Ok(Vec::new(alloc));
     }
     let KVTableInternalKeyRange { start, end } = KVTableInternalKeyRange::from_range(range)?;
-    rows_between(alloc, rows, start, end)
+    rows_between(alloc, rows, start, end, false)
 }
 
 /// Whether the bounds of the range leave no key.
@@ -412,27 +384,30 @@ pub(crate) fn holds_none(range: &BytesRange) -> bool
 {
     match (&range.start, &range.end) {
         (Bound::Included(start), Bound::Included(end)) => end.cmp(start).is_lt(),
-        (Bound::Included(start), Bound::Excluded(end)) => end.cmp(start).is_le(),
-        (Bound::Excluded(start), Bound::Included(end)) => end.cmp(start).is_le(),
-        (Bound::Excluded(start), Bound::Excluded(end)) => end.cmp(start).is_le(),
+        (Bound::Included(start) | Bound::Excluded(start), Bound::Excluded(end))
+        | (Bound::Excluded(start), Bound::Included(end)) => end.cmp(start).is_le(),
         _ => false,
     }
 }
 
-/// Copies of the rows between two bounds.
+/// Copies of the rows between two bounds, and of no more than those to the first that is no merge where that is asked for.
 fn rows_between(
     alloc: Global,
     rows: &BTreeMap<SequencedKey, RowEntry>,
     start: Bound<SequencedKey>,
     end: Bound<SequencedKey>,
+    is_to_base: bool,
 ) -> Result<Vec<RowEntry>, SlateDBError>
     requires { IsForward (IsLeBy sequenced_cmp) (IsLtBy sequenced_cmp) start end }
-    ensures rows { IfOk result (λ found. found.items ≡ values_of (entries_between sequenced_cmp start end rows.now.entries)) }
+    ensures rows { IfOk result (λ found. found.items ≡ taken is_to_base (values_of (entries_between sequenced_cmp start end rows.now.entries))) }
     ensures cause { IsOkUnless result SlateDBError.OutOfMemory }
 {
     let mut found = Vec::new(alloc);
     for (_, row) in rows.range((start, end)) {
         found.push(row.clone()?)?;
+        if is_to_base && !matches!(row.value, ValueDeletable::Merge(_)) {
+            return Ok(found);
+        }
     }
     Ok(found)
 }

@@ -28,35 +28,23 @@ pub(crate) fn count_rows(rows: &BTreeMap<SequencedKey, RowEntry>) -> KVTableMeta
     ensures last { result.last_seq ≡ greatest_seq 0 (values_of rows.now.entries) }
     ensures first { result.first_seq ≡ table.first_seq (values_of rows.now.entries) }
 {
-    KVTableMetadata {
-        entry_num: rows.len(),
-        entries_size_in_bytes: bytes_in(rows),
-        last_tick: last_tick(rows),
-        last_seq: last_seq(rows),
-        first_seq: first_seq(rows),
-    }
-}
-
-/// The bytes that the rows are estimated at, or the greatest number where they are more.
-fn bytes_in(rows: &BTreeMap<SequencedKey, RowEntry>) -> u64
-    ensures { result ≡ min (sum_by row_words.estimated_size (values_of rows.now.entries)) (2 ^ 64 - 1) }
-{
     let mut bytes = 0u64;
+    let mut tick = None;
+    let mut last = 0;
+    let mut first = None;
     for row in rows.values() {
         bytes = bytes.saturating_add(row.estimated_size());
-    }
-    bytes
-}
-
-/// The greatest creation, or the least moment where there is none.
-fn last_tick(rows: &BTreeMap<SequencedKey, RowEntry>) -> i64
-    ensures { result ≡ table.last_tick (values_of rows.now.entries) }
-{
-    let mut tick = None;
-    for row in rows.values() {
         tick = later(tick, row.create_ts);
+        last = last.max(row.seq);
+        first = Some(lesser(first, row.seq));
     }
-    tick.unwrap_or(i64::MIN)
+    KVTableMetadata {
+        entry_num: rows.len(),
+        entries_size_in_bytes: bytes,
+        last_tick: tick.unwrap_or(i64::MIN),
+        last_seq: last,
+        first_seq: first.unwrap_or(0),
+    }
 }
 
 /// The later of two stamps, of which either may be absent.
@@ -68,28 +56,6 @@ fn later(a: Option<i64>, b: Option<i64>) -> Option<i64>
         (Some(x), None) => Some(x),
         (None, b) => b,
     }
-}
-
-/// The greatest sequence, or 0 where there is none.
-fn last_seq(rows: &BTreeMap<SequencedKey, RowEntry>) -> u64
-    ensures { result ≡ greatest_seq 0 (values_of rows.now.entries) }
-{
-    let mut last = 0;
-    for row in rows.values() {
-        last = last.max(row.seq);
-    }
-    last
-}
-
-/// The least sequence, or 0 where there is none.
-fn first_seq(rows: &BTreeMap<SequencedKey, RowEntry>) -> u64
-    ensures { result ≡ table.first_seq (values_of rows.now.entries) }
-{
-    let mut first = None;
-    for row in rows.values() {
-        first = Some(lesser(first, row.seq));
-    }
-    first.unwrap_or(0)
 }
 
 /// The lesser of two sequences, of which the first may be absent.

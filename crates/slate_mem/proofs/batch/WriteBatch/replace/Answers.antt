@@ -6,13 +6,13 @@ use Rattle.slate_mem.proofs.batch.WriteBatch.replace.Goals as goal
 
 pub invariant_of-self-2 : goal.invariant_of-self-2
 invariant_of-self-2 c =
-    let e = c.in_ok-set_ops.ensures in
-    whole-set _ _ _ c.args.key c.args.op e.set.0 c.requires.fine c.requires.replaces e.set.1 e.set.2 e.rising c.self.invariant
+    let e = c.in_ok-insert.ensures in
+    whole-set _ _ _ c.args.key c.args.op c.from_buf-list.result c.requires.fine c.requires.replaces c.from_buf-list.ensures.items e.entries e.ordered c.self.invariant
 
-becomes : (c : goal.In_ok-set_ops) → the_view (record { alloc = c.self.inside.alloc; ops = c.set_ops.new.ops; has_merge_ops = c.self.inside.has_merge_ops }) ≡ with_op c.args.self.now c.args.key c.args.op
+becomes : (c : goal.After-drop) → the_view (record { alloc = c.self.inside.alloc; ops = c.insert.new.self; has_merge_ops = c.self.inside.has_merge_ops }) ≡ with_op c.args.self.now c.args.key c.args.op
 becomes c =
-    let e = c.in_ok-set_ops.ensures in
-    view-set _ _ _ c.args.key c.args.op e.set.0 c.requires.fine c.requires.replaces e.set.1 e.set.2 e.rising c.self.invariant ∙ ap (λ b. with_op b c.args.key c.args.op) c.self.view_is
+    let e = c.in_ok-insert.ensures in
+    view-set _ _ _ c.args.key c.args.op c.from_buf-list.result c.requires.fine c.requires.replaces c.from_buf-list.ensures.items e.entries e.ordered c.self.invariant ∙ ap (λ b. with_op b c.args.key c.args.op) c.self.view_is
 
 pub returns-clause-taken : goal.returns-clause-taken
 returns-clause-taken c = becomes c
