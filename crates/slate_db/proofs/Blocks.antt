@@ -66,6 +66,10 @@ pub seek_memory : (reads : List RowRead) (rows : List RowEntry) (e : SlateDBErro
 seek_memory reads rows e h (inl outer) = outer_memory e outer
 seek_memory reads rows e h (inr r) = absurd (nothing_refused reads rows e h r)
 
+pub seek_refuses : (reads : List RowRead) (e : SlateDBError) → IsOuter no_faults no_faults e ⊎ Refuses reads e → (e ≡ OutOfMemory) ⊎ Refuses reads e
+seek_refuses reads e (inl outer) = inl (outer_memory e outer)
+seek_refuses reads e (inr r) = inr r
+
 pub walk_memory : (reads : List RowRead) (rows : List RowEntry) (e : SlateDBError) → all_ok reads ≡ Ok rows → (e ≡ OutOfMemory) ⊎ Refuses reads e → e ≡ OutOfMemory
 walk_memory reads rows e h (inl m) = m
 walk_memory reads rows e h (inr r) = absurd (nothing_refused reads rows e h r)

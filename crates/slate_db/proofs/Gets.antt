@@ -12,7 +12,9 @@ use Rattle.slate_store.specs.Store.{object_at}
 use Rattle.slate_mem.specs.Table.{newest, up_to as rows_up_to}
 use Rattle.slate_mem.proofs.MemLaws.{taken-newest}
 use Rattle.slate_table.specs.declared.info.SsTableHandle.{SsTableHandle}
+use Rattle.slate_table.specs.Parts.{Encode}
 use Rattle.slate_table.specs.Paths.{path_of}
+use Rattle.slate_txn.specs.declared.event.Event.{Event}
 use Rattle.slate_txn.specs.Reads.{up_to, key_rows}
 use Rattle.slate_db.specs.Installs.{tables_of, installed, root, AreHandles, Holds, HoldsTables}
 use Rattle.slate_db.specs.Lookup.{newest_first, is_merge_among, AreStored}
@@ -24,6 +26,7 @@ use Rattle.slate_db.proofs.Bases.{bases_in, none_found}
 use Rattle.slate_db.proofs.Lists.{all_map}
 use Rattle.slate_db.proofs.Newest.{first_both, folds_as_all, versions_are}
 use Rattle.slate_db.proofs.Seen.{seen_fold}
+use Rattle.slate_db.proofs.Tables.{all_same}
 use Rattle.slate_db.proofs.Short.{all_append, all_filter, all_from_last, commits_short, fine_short}
 use Rattle.slate_db.proofs.Versions.{all_versions, all_versions_in, short_versions}
 
@@ -51,6 +54,20 @@ pub stored_tables : (m : Meaning) (c : CoreModel) (n ids runs : ℕ) (hs : List 
     AreStored m.encode m.decode objects hs layers
 stored_tables m c n ids runs hs None layers w law tables held = absurd held
 stored_tables m c n ids runs hs (Some os) layers w law tables held = all_stored m law os (tables_of c.events) hs layers tables w.tables held
+
+pub stored_known : (m : Meaning) (c d : CoreModel) (n ids runs : ℕ) (hs known : List SsTableHandle) (objects : Option Objects) (layers : List Rows) (encode decode : Encode) → d ≡ c → known ≡ hs → m.encode ≡ encode → m.decode ≡ decode →
+    IsWhole d n ids runs hs → IsLawfulMeaning m → AreTables m (tables_of c.events) layers → HoldsTables objects c.events → AreStored encode decode objects known layers
+stored_known m c d n ids runs hs known objects layers encode decode same kept encodes decodes w law tables held =
+    subst (λ (xs : List SsTableHandle). AreStored encode decode objects xs layers) (sym kept)
+    (all_same m.encode encode m.decode decode objects hs layers (sym encodes) (sym decodes)
+    (stored_tables m d n ids runs hs objects layers w law
+    (subst (λ (v : CoreModel). AreTables m (tables_of v.events) layers) (sym same) tables)
+    (subst (λ (v : CoreModel). HoldsTables objects v.events) (sym same) held)))
+
+-- a store that holds tables tells its objects
+pub held : (objects : Option Objects) (events : List Event) → HoldsTables objects events → (os : Objects) × (objects ≡ Some os) × HoldsTables (Some os) events
+held None events h = absurd h
+held (Some os) events h = (os, refl, h)
 
 -- ---- the rows that are found
 

@@ -21,8 +21,8 @@ use Rattle.slate_table.specs.Reading.{Reads, IsStoreFault, FailsDecoding, IsInde
 use Rattle.slate_table.specs.SectionReading.{IsTransformFault}
 use Rattle.slate_table.proofs.TableFinds.{key_held, not_refused, outside_none}
 use Rattle.slate_db.specs.Installs.{root}
-use Rattle.slate_db.specs.Answered.{AnswersAs}
-use Rattle.slate_db.proofs.Answered.{Knows, knows_acts, knows_told}
+use Rattle.slate_db.specs.Answered.{Answering}
+use Rattle.slate_db.proofs.Answered.{Knows, knows}
 use Rattle.slate_db.proofs.Newest.{newest_same}
 use Rattle.slate_table.specs.declared.info.SsTableHandle.{SsTableHandle}
 use Rattle.slate_table.specs.Parts.{Encode}
@@ -69,13 +69,10 @@ table_at encode encode2 decode decode2 objects objects2 hs layers i h e d o are 
 pub outside_newest : (encode decode : Encode) (objects : Option Objects) (h : SsTableHandle) (rows : Rows) (k : List ℕ) (n : ℕ) → IsStored encode decode objects h rows → encloses (seen_info h.info) k ≡ false → [] ≡ newest k n rows
 outside_newest encode decode objects h rows k n stored out = newest_same k n [] rows (sym (outside_none encode stored.bytes h.format_version (seen_info h.info) rows stored.is k out))
 
--- what is answered where a table is stored: by a store that tells its objects, and in a call whose reads were answered by them
-pub told_by : {encode decode : Encode} {objects told : Option Objects} {h : SsTableHandle} {rows : Rows} {before after : Option (List Act)} → (stored : IsStored encode decode objects h rows) → told ≡ objects → Knows told before after (path_of root h.id.0) stored.bytes
-told_by {told} {h} {before} {after} stored same = knows_told told stored.os before after (path_of root h.id.0) stored.bytes (same ∙ stored.told) stored.there
-
-pub acts_by : {encode decode : Encode} {os : Objects} {told : Option Objects} {h : SsTableHandle} {rows : Rows} {before after : Option (List Act)} → (stored : IsStored encode decode (Some os) h rows) → AnswersAs os before after → Knows told before after (path_of root h.id.0) stored.bytes
-acts_by {os} {told} {h} {before} {after} stored a =
-    knows_acts told os before after (path_of root h.id.0) stored.bytes a (subst (λ (o : Objects). object_at o (path_of root h.id.0) ≡ Some stored.bytes) (sym (same_Some os stored.os stored.told)) stored.there)
+-- what is answered where the objects that answer hold the table
+pub answered_by : {encode decode : Encode} {os : Objects} {told : Option Objects} {h : SsTableHandle} {rows : Rows} {before after : Option (List Act)} → (stored : IsStored encode decode (Some os) h rows) → Answering os told before after → Knows told before after (path_of root h.id.0) stored.bytes
+answered_by {os} {told} {h} {before} {after} stored a =
+    knows told os before after (path_of root h.id.0) stored.bytes a (subst (λ (o : Objects). object_at o (path_of root h.id.0) ≡ Some stored.bytes) (sym (same_Some os stored.os stored.told)) stored.there)
 
 pub read_part : (told : Option Objects) (before after : Option (List Act)) (path : List ℕ) (start size : ℕ) (means : Option (List ℕ) → Type 0) (bytes : List ℕ) → Knows told before after path bytes →
     Reads told before after path start size means → means (part_of (Some bytes) start size)

@@ -1,6 +1,7 @@
 -- What a store answered in a call, as the acts that it tells have it.
 --     AnswersAct os act      where the act is a read, it was answered by the objects
 --     AnswersAs os before after      the store tells its acts, and answered each read of a call by the objects; before, after: the acts that it tells
+--     Answering os objects before after      the store holds the objects, or tells its acts, and answered each read of a call by them
 --     PutsNothing act, AddsReads before after      the act is no put; the acts from before are still told, and behind them more of which none is a put
 --     AddsTables old new before after      of two lists of tables the second has no more, and no act was told, or one more, and its put was
 use Rattle.std.specs.Prelude.{◌≡◌, ◌⊎◌, ℕ, List, [], ◌∷◌, ◌++◌, Option, Some}
@@ -21,6 +22,9 @@ pub record AnswersAs (os : Objects) (before after : Option (List Act)) : Type 0 
   pub began : before ≡ Some known
   pub ended : after ≡ Some (known ++ more)
   pub each : AllByRecursion (AnswersAct os) more
+
+abbrev pub Answering : Objects → Option Objects → Option (List Act) → Option (List Act) → Type 0
+Answering os objects before after = (objects ≡ Some os) ⊎ AnswersAs os before after
 
 abbrev pub PutsNothing : Act → Type 0
 PutsNothing (Act.put path bytes) = ⊥

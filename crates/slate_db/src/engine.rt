@@ -22,7 +22,7 @@ ghost use Rattle.slate_txn.specs.Reply.{Done, Refused, Begun, Found, Written, Fr
 ghost use Rattle.slate_txn.specs.Settings.{settings_of};
 ghost use Rattle.slate_txn.specs.State.{opening, last_of};
 ghost use Rattle.slate_txn.specs.Step.{noted, step};
-ghost use Rattle.slate_db.specs.Answered.{AddsReads, AddsTables, AnswersAs};
+ghost use Rattle.slate_db.specs.Answered.{AddsReads, AddsTables, AnswersAs, Answering};
 ghost use Rattle.slate_db.specs.Meaning.{Meaning, HasParts, IsLawfulMeaning, combine_of, rules_of};
 ghost use Rattle.slate_db.specs.Frozen.{IsFrozen};
 ghost use Rattle.slate_db.specs.Flushed.{IsFlushed, MayFlush, TooLarge, events_of_flush, layout_of};
@@ -37,14 +37,14 @@ ghost use Rattle.slate_db.specs.Written.{IsWritten};
 
 use crate::flush::stored;
 use crate::fold::{answer, fold_found};
-use crate::lookup::newest_of_frozen;
-use crate::open::{Open, barrier, begin_of, note};
+use crate::lookup::newest_of_memory;
+use crate::open::{Open, barrier, begin_of, note_get};
 use crate::stored::newest_of_tables;
 use bytes::Bytes;
 use slate_mem::{ImmutableMemtable, MemTable, WriteBatch};
 use slate_store::{Env, Store};
 use slate_table::SsTableHandle;
-use slate_txn::{Event, Journal, OpList, TranscriptStep};
+use slate_txn::{Event, Journal, OpList};
 use slate_types::{
     BlockTransformer, IsolationLevel, KeyValue, MergeOperator, Options, ReadOptions, RowEntry,
     SlateDBError,
@@ -140,10 +140,12 @@ impl Core {
             });
         }
         let id = Uuid::from_u128((self.ids + 1) as u128);
-        self.open
+        let none = self
+            .open
             .insert(id, Open::new(self.alloc, level, self.last))?;
+        drop(none);
         if let Err(error) = self.journal.reserve(self.open.len() + 1) {
-            self.open.remove(&id);
+            drop(self.open.remove(&id));
             return Err(SlateDBError::from(error));
         }
         self.ids += 1;
@@ -162,7 +164,7 @@ impl Core {
         ensures event { self.new ≡ record self.old { state = self.new.state; events = self.old.events ++ events.End id.now ∷ []; spare = self.new.spare } }
         ensures kept { (m : Meaning) → IsKept m self.old → IsKept m self.new }
     {
-        self.open.remove(id);
+        drop(self.open.remove(id));
         self.journal.push_reserved(Event::End { id: *id });
     }
 
@@ -217,15 +219,10 @@ impl Core {
         if self.last >= 18446744073709551614 {
             return Err(SlateDBError::SequenceExhausted);
         }
-        if self.journal.len() + self.open.len() > EVENTS - 1 {
-            return Err(SlateDBError::LimitReached {
-                limit: EVENTS as u64,
-            });
-        }
+        reserve_events(&mut self.journal, self.open.len(), 1)?;
         let seq = self.last + 1;
         let (rows, _bytes) = batch.extract_entries(self.alloc, seq, now, self.default_millis)?;
         let ops = batch.ops(self.alloc)?;
-        self.journal.reserve(self.open.len() + 1)?;
         self.active.put_all(rows, BTreeSet::new(self.alloc))?;
         self.journal.push_reserved(Event::Write {
             seq,
@@ -289,14 +286,7 @@ impl Core {
         if self.active.is_empty() {
             return Ok(());
         }
-        if self.journal.len() + self.open.len() > EVENTS - 2 {
-            return Err(SlateDBError::LimitReached {
-                limit: EVENTS as u64,
-            });
-        }
-        let events = self.open.len() + 2;
-        self.journal.reserve(events)?;
-        Ok(())
+        reserve_events(&mut self.journal, self.open.len(), 2)
     }
 
     /// Stores the frozen rows as a table.
@@ -328,12 +318,7 @@ impl Core {
         ensures operator { env.new.operator ≡ env.old.operator }
         ensures same_store { env.new.store.ghost_name ≡ env.old.store.ghost_name }
     {
-        if self.journal.len() + self.open.len() > EVENTS - 1 {
-            return Err(SlateDBError::LimitReached {
-                limit: EVENTS as u64,
-            });
-        }
-        self.journal.reserve(self.open.len() + 1)?;
+        reserve_events(&mut self.journal, self.open.len(), 1)?;
         self.tables.reserve(1)?;
         let barrier = barrier(&self.open, self.last);
         let number = self.runs + 1;
@@ -350,45 +335,6 @@ impl Core {
         Ok(self.last)
     }
 
-    /// The rows of a key that stand at or below a sequence, newest first, to the first that decides, of memory and of the
-    /// tables behind it.
-    fn newest<S: Store, M: MergeOperator, T: BlockTransformer>(
-        &self,
-        key: &Bytes,
-        at: u64,
-        env: &mut Env<'_, S, M, T>,
-    ) -> Result<Vec<RowEntry>, SlateDBError>
-        ensures found { (m : Meaning) → HasParts m (part_of M.combine env.old.operator) (changed_by T.encoded env.old.transformer) (changed_by T.decoded env.old.transformer) → IsLawfulMeaning m → HoldsTables (S.objects env.old.store.now) self.now.events → (layers : List Rows) → AreTables m (tables_of self.now.events) layers
-            → IfOk result (λ rows. rows.items ≡ newest key.now at ((self.now.active ++ newest_first self.now.frozen) ++ newest_first layers)) }
-        ensures true_found { (m : Meaning) (os : Objects) → HasParts m (part_of M.combine env.old.operator) (changed_by T.encoded env.old.transformer) (changed_by T.decoded env.old.transformer) → IsLawfulMeaning m → HoldsTables (Some os) self.now.events → AnswersAs os (S.acts env.old.store.now) (S.acts env.new.store.now) → (layers : List Rows) → AreTables m (tables_of self.now.events) layers
-            → IfOk result (λ rows. rows.items ≡ newest key.now at ((self.now.active ++ newest_first self.now.frozen) ++ newest_first layers)) }
-        ensures whole { (m : Meaning) → HasParts m (part_of M.combine env.old.operator) (changed_by T.encoded env.old.transformer) (changed_by T.decoded env.old.transformer) → IsLawfulMeaning m → HoldsTables (S.objects env.old.store.now) self.now.events → (layers : List Rows) → AreTables m (tables_of self.now.events) layers
-            → IfErr result (λ e. IsStoreFault (S.faults env.old.store.now) (S.faults env.new.store.now) e ⊎ IsTransformFault (faults_of T.faults env.old.transformer) (faults_of T.faults env.new.transformer) e) }
-        ensures truthful { (m : Meaning) (os : Objects) → HasParts m (part_of M.combine env.old.operator) (changed_by T.encoded env.old.transformer) (changed_by T.decoded env.old.transformer) → IsLawfulMeaning m → HoldsTables (Some os) self.now.events → AnswersAs os (S.acts env.old.store.now) (S.acts env.new.store.now) → (layers : List Rows) → AreTables m (tables_of self.now.events) layers
-            → IfErr result (λ e. IsStoreFault (S.faults env.old.store.now) (S.faults env.new.store.now) e ⊎ IsTransformFault (faults_of T.faults env.old.transformer) (faults_of T.faults env.new.transformer) e) }
-        ensures cause { IfErr result (λ e. IsStoreFault (S.faults env.old.store.now) (S.faults env.new.store.now) e ⊎ IsTransformFault (faults_of T.faults env.old.transformer) (faults_of T.faults env.new.transformer) e ⊎ IsDamage e) }
-        ensures told { AddsReads (S.acts env.old.store.now) (S.acts env.new.store.now) }
-        ensures objects { S.objects env.new.store.now ≡ S.objects env.old.store.now }
-        ensures same_encoded { changed_by T.encoded env.new.transformer ≡ changed_by T.encoded env.old.transformer }
-        ensures same_decoded { changed_by T.decoded env.new.transformer ≡ changed_by T.decoded env.old.transformer }
-        ensures operator { env.new.operator ≡ env.old.operator }
-        ensures same_store { env.new.store.ghost_name ≡ env.old.store.ghost_name }
-        ensures later { S.faults env.old.store.now ≤ S.faults env.new.store.now }
-        ensures later_transformer { faults_of T.faults env.old.transformer ≤ faults_of T.faults env.new.transformer }
-    {
-        let found = self.active.rows_of_key(self.alloc, key, at)?;
-        let found = newest_of_frozen(self.alloc, found, &self.frozen, key, at)?;
-        newest_of_tables(
-            self.alloc,
-            found,
-            &self.tables,
-            key.as_slice(),
-            at,
-            env.store,
-            &mut env.transformer,
-        )
-    }
-
     /// The row that a reader at a sequence sees at a key, where it has no operations of its own.
     fn seen<S: Store, M: MergeOperator, T: BlockTransformer>(
         &self,
@@ -396,11 +342,9 @@ impl Core {
         at: u64,
         env: &mut Env<'_, S, M, T>,
     ) -> Result<Option<RowEntry>, SlateDBError>
-        ensures row { (m : Meaning) → HasParts m (part_of M.combine env.old.operator) (changed_by T.encoded env.old.transformer) (changed_by T.decoded env.old.transformer) → IsLawfulMeaning m → IsKept m self.now → HoldsTables (S.objects env.old.store.now) self.now.events → self.now.floor ≤ at
+        ensures row { (m : Meaning) (os : Objects) → HasParts m (part_of M.combine env.old.operator) (changed_by T.encoded env.old.transformer) (changed_by T.decoded env.old.transformer) → IsLawfulMeaning m → IsKept m self.now → HoldsTables (Some os) self.now.events → Answering os (S.objects env.old.store.now) (S.acts env.old.store.now) (S.acts env.new.store.now) → self.now.floor ≤ at
             → IfOk result (λ row. row ≡ fold_rows (combine_of m key.now) (key_rows (rules_of self.now.settings m) key.now (up_to at self.now.state.commits))) }
-        ensures whole { (m : Meaning) → HasParts m (part_of M.combine env.old.operator) (changed_by T.encoded env.old.transformer) (changed_by T.decoded env.old.transformer) → IsLawfulMeaning m → IsKept m self.now → HoldsTables (S.objects env.old.store.now) self.now.events
-            → IfErr result (λ e. IsStoreFault (S.faults env.old.store.now) (S.faults env.new.store.now) e ⊎ IsTransformFault (faults_of T.faults env.old.transformer) (faults_of T.faults env.new.transformer) e ⊎ IsCallback (faults_of M.faults env.old.operator) (faults_of M.faults env.new.operator) e) }
-        ensures truthful { (m : Meaning) (os : Objects) → HasParts m (part_of M.combine env.old.operator) (changed_by T.encoded env.old.transformer) (changed_by T.decoded env.old.transformer) → IsLawfulMeaning m → IsKept m self.now → HoldsTables (Some os) self.now.events → AnswersAs os (S.acts env.old.store.now) (S.acts env.new.store.now)
+        ensures whole { (m : Meaning) (os : Objects) → HasParts m (part_of M.combine env.old.operator) (changed_by T.encoded env.old.transformer) (changed_by T.decoded env.old.transformer) → IsLawfulMeaning m → IsKept m self.now → HoldsTables (Some os) self.now.events → Answering os (S.objects env.old.store.now) (S.acts env.old.store.now) (S.acts env.new.store.now)
             → IfErr result (λ e. IsStoreFault (S.faults env.old.store.now) (S.faults env.new.store.now) e ⊎ IsTransformFault (faults_of T.faults env.old.transformer) (faults_of T.faults env.new.transformer) e ⊎ IsCallback (faults_of M.faults env.old.operator) (faults_of M.faults env.new.operator) e) }
         ensures cause { IfErr result (λ e. IsStoreFault (S.faults env.old.store.now) (S.faults env.new.store.now) e ⊎ IsTransformFault (faults_of T.faults env.old.transformer) (faults_of T.faults env.new.transformer) e ⊎ IsOperatorFault (part_of M.combine env.old.operator) (faults_of M.faults env.old.operator) (faults_of M.faults env.new.operator) e ⊎ IsDamage e) }
         ensures told { AddsReads (S.acts env.old.store.now) (S.acts env.new.store.now) }
@@ -413,7 +357,16 @@ impl Core {
         ensures later_transformer { faults_of T.faults env.old.transformer ≤ faults_of T.faults env.new.transformer }
         ensures later_operator { faults_of M.faults env.old.operator ≤ faults_of M.faults env.new.operator }
     {
-        let found = self.newest(key, at, env)?;
+        let near = newest_of_memory(self.alloc, &self.active, &self.frozen, key, at)?;
+        let found = newest_of_tables(
+            self.alloc,
+            near,
+            &self.tables,
+            key.as_slice(),
+            at,
+            env.store,
+            &mut env.transformer,
+        )?;
         fold_found(self.alloc, found, &mut env.operator)
     }
 
@@ -458,14 +411,18 @@ impl Core {
             return Ok(None);
         };
         let key = Bytes::copy_from_slice(self.alloc, key)?;
-        let row = self.seen(&key, at, env)?;
+        let row = match self.seen(&key, at, env) {
+            Ok(row) => row,
+            Err(error) => {
+                drop(key);
+                return Err(error);
+            }
+        };
         let found = answer(row);
-        let copy = found.clone()?;
-        note(
-            &mut self.open,
-            id,
-            TranscriptStep::Get { key, answer: copy },
-        )?;
+        if let Err(error) = note_get(&mut self.open, id, key, &found) {
+            drop(found);
+            return Err(SlateDBError::from(error));
+        }
         Ok(found)
     }
 
@@ -481,4 +438,26 @@ impl Core {
     {
         &self.journal
     }
+}
+
+/// Makes room for more events beside those of the open transactions' ends. `LimitReached` where the journal has no place for them, or
+/// `OutOfMemory`, and then nothing is changed.
+fn reserve_events(journal: &mut Journal, ends: usize, more: usize) -> Result<(), SlateDBError>
+    requires held { length journal.old.events + ends ≤ LIMIT }
+    requires few { more ≤ 2 }
+    ensures events { journal.new.events ≡ journal.old.events }
+    ensures wider { journal.old.spare ≤ journal.new.spare }
+    ensures room { OnOk result (ends + more ≤ journal.new.spare) }
+    ensures place { OnOk result (length journal.old.events + ends + more ≤ LIMIT) }
+    ensures same { OnErr result (journal.new ≡ journal.old) }
+    ensures limit { LIMIT < length journal.old.events + ends + more → result ≡ Err (SlateDBError.LimitReached LIMIT) }
+    ensures cause { IfErr result (λ e. (e ≡ SlateDBError.OutOfMemory) ⊎ ((e ≡ SlateDBError.LimitReached LIMIT) × (LIMIT < length journal.old.events + ends + more))) }
+{
+    if journal.len() + ends > EVENTS - more {
+        return Err(SlateDBError::LimitReached {
+            limit: EVENTS as u64,
+        });
+    }
+    journal.reserve(ends + more)?;
+    Ok(())
 }

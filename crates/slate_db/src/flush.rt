@@ -9,14 +9,16 @@ ghost use Rattle.slate_table.specs.SectionReading.{changed_by, IsTransformFault}
 ghost use Rattle.slate_table.specs.Table.{AreInOrder, IsBuilt};
 ghost use Rattle.slate_table.specs.TableEnd.{HasInfo};
 ghost use Rattle.slate_table.specs.TableParts.{version_of};
+ghost use Rattle.slate_table.specs.Parts.{Encode};
 ghost use Rattle.slate_table.specs.Reading.{IsStoreFault};
 ghost use Rattle.slate_db.specs.Answered.{AddsTables};
-ghost use Rattle.slate_db.specs.Flushed.{layout_of, CanFlush, IsFolded, IsPut, IsTableOfFlush, IsTooLarge, MayTakeTable};
+ghost use Rattle.slate_db.specs.Flushed.{layout_of, CanFlush, IsFolded, IsPut, IsTableOfFlush, IsTooLarge, Layout, MayTakeTable};
 ghost use Rattle.slate_db.specs.Meaning.{Meaning};
 ghost use Rattle.slate_db.specs.Model.{Rows};
 ghost use Rattle.slate_db.specs.Whole.{FitsMemory};
 
 use crate::gather::rows_of_flush;
+use crate::stored::are_bytes;
 use slate_mem::ImmutableMemtable;
 use slate_store::{Env, Store};
 use slate_table::{
@@ -58,8 +60,27 @@ pub fn stored<S: Store, M: MergeOperator, T: BlockTransformer>(
     let rows = rows_of_flush(alloc, frozen, barrier)?;
     let table = built(alloc, rows, options, &mut env.transformer)?;
     let id = Ulid(number as u128 * 18446744073709551616);
-    let tables = list_of(alloc, id, &table)?;
-    let handle = TableStore::put_table(alloc, env.store, ROOT, id, &table)?;
+    let kept = put(alloc, id, &table, env.store);
+    drop(table);
+    kept
+}
+
+/// Puts a table, and gives what an install names and what is kept of it.
+fn put<S: Store>(
+    alloc: Global,
+    id: Ulid,
+    table: &EncodedSsTable,
+    store: &mut S,
+) -> Result<(TableList, SsTableHandle), SlateDBError>
+    ensures stored { (encode : Encode) (layout : Layout) (number barrier : ℕ) (layers : List Rows) → IsTableOfFlush encode layout number barrier layers (id, table.now.bytes) → (layout.version ≡ 1) ⊎ (layout.version ≡ 2) → table.now.version ≡ layout.version → HasInfo table.now.bytes layout.version (seen_info table.now.info)
+        → IfOk result (λ a. IsPut encode layout number barrier layers a.0 a.1 (S.objects store.old) (S.objects store.new)) }
+    ensures acts { IfOk result (λ a. AddsTables [] a.0 (S.acts store.old) (S.acts store.new)) }
+    ensures refused { (encode : Encode) (layout : Layout) (number barrier : ℕ) (layers : List Rows) → IsTableOfFlush encode layout number barrier layers (id, table.now.bytes) → OnErr result (MayTakeTable (IsTableOfFlush encode layout number barrier layers) (S.objects store.old) (S.objects store.new)) }
+    ensures cause { IfErr result (λ e. IsStoreFault (S.faults store.old) (S.faults store.new) e) }
+    ensures later { S.faults store.old ≤ S.faults store.new }
+{
+    let tables = list_of(alloc, id, table)?;
+    let handle = TableStore::put_table(alloc, store, ROOT, id, table)?;
     Ok((tables, handle))
 }
 
@@ -106,11 +127,5 @@ pub fn built<T: BlockTransformer>(
     for row in rows {
         builder.add(alloc, row, transformer)?;
     }
-    let table = builder.build(alloc, transformer)?;
-    Ok(table)
+    builder.build(alloc, transformer)
 }
-
-/// The numbers of a slice of bytes are bytes.
-fn are_bytes(bytes: &[u8])
-    ensures { EachIsAByte bytes.now }
-{}

@@ -1,5 +1,5 @@
 //! The row that rows of a key fold to.
-ghost use Rattle.std.specs.Prelude.{◌≡◌, ◌⊎◌, ◌≤◌, ℕ, List, None, true, false, reverse, option_map, option_and_then, IfOk, IfErr, OnOk};
+ghost use Rattle.std.specs.Prelude.{◌≡◌, ◌⊎◌, ◌≤◌, ℕ, List, None, true, false, max, reverse, option_map, option_and_then, IfOk, IfErr, OnOk};
 ghost use Rattle.slate_types.specs.declared.error.SlateDBError.{SlateDBError};
 ghost use Rattle.slate_types.specs.declared.types.ValueDeletable.{ValueDeletable};
 ghost use Rattle.slate_types.specs.Faults.{faults_of, Rose};
@@ -10,6 +10,7 @@ ghost use Rattle.slate_store.specs.Env.{combine_of};
 ghost use Rattle.slate_txn.specs.State.{operator_at};
 ghost use Rattle.slate_db.specs.Lookup.{is_merge_among, IsCallback};
 
+use crate::lookup::is_merge;
 use bytes::Bytes;
 use slate_types::{KeyValue, MergeOperator, RowEntry, SlateDBError, ValueDeletable};
 use std::alloc::Global;
@@ -49,19 +50,10 @@ fn join_value<M: MergeOperator>(
     ensures later { M.faults operator.old ≤ M.faults operator.new }
     ensures cause { IfErr result (λ e. (e ≡ SlateDBError.OutOfMemory) ⊎ IsCallback (M.faults operator.old) (M.faults operator.new) e) }
 {
+    let made = operator.merge(alloc, key, value.as_bytes(), operand)?;
     match value {
-        ValueDeletable::Value(value) => {
-            let made = operator.merge(alloc, key, Some(value), operand)?;
-            Ok(ValueDeletable::Value(made))
-        }
-        ValueDeletable::Merge(value) => {
-            let made = operator.merge(alloc, key, Some(value), operand)?;
-            Ok(ValueDeletable::Merge(made))
-        }
-        ValueDeletable::Tombstone => {
-            let made = operator.merge(alloc, key, None, operand)?;
-            Ok(ValueDeletable::Value(made))
-        }
+        ValueDeletable::Merge(_) => Ok(ValueDeletable::Merge(made)),
+        _ => Ok(ValueDeletable::Value(made)),
     }
 }
 
@@ -78,16 +70,35 @@ fn join<M: MergeOperator>(
     ensures cause { IfErr result (λ e. (e ≡ SlateDBError.OutOfMemory) ⊎ IsCallback (M.faults operator.old) (M.faults operator.new) e) }
 {
     let ValueDeletable::Merge(operand) = &newer.value else {
+        drop(older);
         return Ok(newer);
     };
-    let value = join_value(alloc, &older.key, &older.value, operand, operator)?;
-    Ok(RowEntry {
+    match join_value(alloc, &older.key, &older.value, operand, operator) {
+        Ok(value) => Ok(joined(older, newer, value)),
+        Err(error) => {
+            drop(older);
+            drop(newer);
+            Err(error)
+        }
+    }
+}
+
+/// The row of this value that an older row and a newer one make.
+fn joined(older: RowEntry, newer: RowEntry, value: ValueDeletable) -> RowEntry
+    ensures { result ≡ record { key = older.key; value = value; seq = max older.seq newer.seq; create_ts = latest older.create_ts newer.create_ts; expire_ts = earliest older.expire_ts newer.expire_ts } }
+{
+    let seq = older.seq.max(newer.seq);
+    let create_ts = latest(older.create_ts, newer.create_ts);
+    let expire_ts = earliest(older.expire_ts, newer.expire_ts);
+    drop(newer);
+    drop(older.value);
+    RowEntry {
         key: older.key,
         value,
-        seq: older.seq.max(newer.seq),
-        create_ts: latest(older.create_ts, newer.create_ts),
-        expire_ts: earliest(older.expire_ts, newer.expire_ts),
-    })
+        seq,
+        create_ts,
+        expire_ts,
+    }
 }
 
 /// The row that rows of a key, newest first, fold to by an operator.
@@ -115,11 +126,7 @@ fn join_all<M: MergeOperator>(
 fn has_merge(rows: &[RowEntry]) -> bool
     ensures { result ≡ is_merge_among rows.now }
 {
-    rows.iter().any(
-        |row| -> bool
-            ensures { result ≡ is_operand row.now }
-        { matches!(row.value, ValueDeletable::Merge(_)) },
-    )
+    rows.iter().any(is_merge)
 }
 
 /// The first row, where none is an operand.
@@ -155,6 +162,7 @@ fn visible(row: RowEntry) -> Option<KeyValue>
     ensures { result ≡ option_map key_value (hide_tombstone row.value row) }
 {
     if row.value.is_tombstone() {
+        drop(row);
         return None;
     }
     Some(KeyValue::from_row(row))

@@ -32,20 +32,9 @@ pub fn rows_of_flush(
     ensures some { IfOk result (λ rows. 0 < length rows.items) }
     ensures cause { IsOkUnless result SlateDBError.OutOfMemory }
 {
-    let rows = gathered(alloc, frozen)?;
-    let newest = newest_rows(alloc, rows, barrier)?;
-    Ok(newest)
-}
-
-/// All rows of memtables, of which the newest stands last: keys upwards, and within a key the newest first.
-fn gathered(alloc: Global, frozen: &[ImmutableMemtable]) -> Result<Vec<RowEntry>, SlateDBError>
-    ensures keys { IfOk result (λ rows. (k : List ℕ) → versions k rows.items ≡ versions_in k (map (λ t. t.rows) frozen.now)) }
-    ensures in_order { IfOk result (λ rows. IsInOrder IterationOrder.Ascending rows.items) }
-    ensures cause { IsOkUnless result SlateDBError.OutOfMemory }
-{
     let mut rows = newest_first(alloc, frozen)?;
-    rise(&mut rows)?;
-    Ok(rows)
+    rows.sort_by(by_key)?;
+    newest_rows(alloc, rows, barrier)
 }
 
 /// The rows of memtables, one after another, the newest memtable first.
@@ -57,37 +46,17 @@ fn newest_first(alloc: Global, frozen: &[ImmutableMemtable]) -> Result<Vec<RowEn
     let mut at = frozen.len();
     while at > 0 {
         at -= 1;
-        add_rows(alloc, &mut rows, &frozen[at])?;
+        let mut more = frozen[at].rows(alloc)?;
+        rows.append(&mut more)?;
     }
     Ok(rows)
 }
 
-/// Adds the rows of a memtable.
-fn add_rows(
-    alloc: Global,
-    rows: &mut Vec<RowEntry>,
-    table: &ImmutableMemtable,
-) -> Result<(), SlateDBError>
-    ensures rows { OnOk result (rows.new.items ≡ rows.old.items ++ table.now.rows) }
-    ensures cause { IsOkUnless result SlateDBError.OutOfMemory }
+/// How the keys of two rows stand to each other.
+fn by_key(a: &RowEntry, b: &RowEntry) -> Ordering
+    ensures { result ≡ key_cmp a.now.key b.now.key }
 {
-    let mut more = table.rows(alloc)?;
-    rows.append(&mut more)?;
-    Ok(())
-}
-
-/// Sorts rows by key upwards. Those of a key stay in their order.
-fn rise(rows: &mut Vec<RowEntry>) -> Result<(), SlateDBError>
-    ensures keys { OnOk result ((k : List ℕ) → of_key k rows.new.items ≡ of_key k rows.old.items) }
-    ensures in_order { OnOk result (IsInOrder IterationOrder.Ascending rows.new.items) }
-    ensures cause { IsOkUnless result SlateDBError.OutOfMemory }
-{
-    rows.sort_by(
-        |a, b| -> Ordering
-            ensures { result ≡ key_cmp a.now.key b.now.key }
-        { a.key.cmp(&b.key) },
-    )?;
-    Ok(())
+    a.key.cmp(&b.key)
 }
 
 /// Of each key the rows above the barrier, and the newest of the others.
@@ -112,6 +81,7 @@ fn keep(kept: &mut Vec<RowEntry>, row: RowEntry, barrier: u64) -> Result<(), Sla
     ensures cause { IsOkUnless result SlateDBError.OutOfMemory }
 {
     if is_older(kept.as_slice().last(), &row, barrier) {
+        drop(row);
         return Ok(());
     }
     kept.push(row)?;

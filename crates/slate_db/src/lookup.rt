@@ -10,12 +10,12 @@ ghost use Rattle.slate_db.specs.Lookup.{is_decided, newest_first};
 ghost use Rattle.slate_db.specs.Model.{Rows};
 
 use bytes::Bytes;
-use slate_mem::ImmutableMemtable;
+use slate_mem::{ImmutableMemtable, MemTable};
 use slate_types::{RowEntry, RowEntryIterator, SlateDBError, ValueDeletable};
 use std::alloc::Global;
 
 /// Whether a row is an operand.
-fn is_merge(row: &RowEntry) -> bool
+pub fn is_merge(row: &RowEntry) -> bool
     ensures { result ≡ is_operand row.now }
 {
     matches!(row.value, ValueDeletable::Merge(_))
@@ -53,6 +53,21 @@ pub fn newest_of_frozen(
     Ok(found)
 }
 
+/// The rows of the key in memory: in the active memtable, and behind it in frozen ones, of which the newest stands last.
+pub fn newest_of_memory(
+    alloc: Global,
+    active: &MemTable,
+    frozen: &[ImmutableMemtable],
+    key: &Bytes,
+    max_seq: u64,
+) -> Result<Vec<RowEntry>, SlateDBError>
+    ensures found { IfOk result (λ found. found.items ≡ newest key.now max_seq (active.now.rows ++ newest_first (map (λ t. t.rows) frozen.now))) }
+    ensures cause { IsOkUnless result SlateDBError.OutOfMemory }
+{
+    let found = active.rows_of_key(alloc, key, max_seq)?;
+    newest_of_frozen(alloc, found, frozen, key, max_seq)
+}
+
 /// The rows of the key of an iterator that stands at the key or behind it.
 pub fn newest_of_walk<I: RowEntryIterator<()>>(
     alloc: Global,
@@ -66,14 +81,17 @@ pub fn newest_of_walk<I: RowEntryIterator<()>>(
     let mut found = Vec::new(alloc);
     while let Some(row) = rows.next(alloc, &mut ())? {
         if row.key.as_slice() != key {
+            drop(row);
             return Ok(found);
         }
-        if row.seq <= max_seq {
-            let decides = !is_merge(&row);
-            found.push(row)?;
-            if decides {
-                return Ok(found);
-            }
+        if row.seq > max_seq {
+            drop(row);
+            continue;
+        }
+        let decides = !is_merge(&row);
+        found.push(row)?;
+        if decides {
+            return Ok(found);
         }
     }
     Ok(found)

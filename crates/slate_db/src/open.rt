@@ -1,13 +1,15 @@
 //! Open transactions.
 ghost use Rattle.std.specs.Prelude.{◌≡◌, ◌≤◌, ◌++◌, ◌∷◌, [], IfSome, option_map, OnOk, OnErr};
 ghost use Rattle.std.specs.List.{AllByRecursion};
+ghost use Rattle.slate_txn.specs.declared.event.TranscriptStep.TheVariants as steps;
 ghost use Rattle.slate_txn.specs.Named.{find_named, update_named};
 ghost use Rattle.slate_txn.specs.State.{begun};
 ghost use Rattle.slate_db.specs.Flushed.{least_begin};
 ghost use Rattle.slate_db.specs.Whole.{BeginsRise};
 
+use bytes::Bytes;
 use slate_txn::{Transcript, TranscriptStep};
-use slate_types::IsolationLevel;
+use slate_types::{IsolationLevel, KeyValue};
 use std::alloc::{AllocError, Global};
 use std::collections::BTreeMap;
 use std::marker::Model;
@@ -67,17 +69,24 @@ pub fn begin_of(items: &BTreeMap<Uuid, Open>, id: &Uuid) -> Option<u64>
     }
 }
 
-/// Notes a step in the transcript of the open transaction with this id. Where memory is wanting nothing is noted.
-pub fn note(
+/// Notes a get of this key and its answer in the transcript of the open transaction with this id. Where memory is wanting
+/// nothing is noted.
+pub fn note_get(
     items: &mut BTreeMap<Uuid, Open>,
     id: &Uuid,
-    step: TranscriptStep,
+    key: Bytes,
+    answer: &Option<KeyValue>,
 ) -> Result<(), AllocError>
-    ensures ok { OnOk result (items.new.entries ≡ update_named id.now (λ t. record t { transcript = t.transcript ++ step ∷ [] }) items.old.entries) }
+    ensures ok { OnOk result (items.new.entries ≡ update_named id.now (λ t. record t { transcript = t.transcript ++ steps.Get key answer.now ∷ [] }) items.old.entries) }
     ensures err { OnErr result (items.new.entries ≡ items.old.entries) }
 {
+    let copy = answer.clone()?;
+    let step = TranscriptStep::Get { key, answer: copy };
     match items.get_mut(id) {
         Some(open) => open.transcript.push(step),
-        None => Ok(()),
+        None => {
+            drop(step);
+            Ok(())
+        }
     }
 }

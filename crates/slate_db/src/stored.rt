@@ -1,5 +1,5 @@
 //! The rows of a key in stored tables, newest first, to the first that decides.
-ghost use Rattle.std.specs.Prelude.{◌≡◌, ◌⊎◌, ◌≤◌, ◌<◌, ◌++◌, ℕ, List, length, flat_map, false, Some, Contains, IfOk, IfErr, OnOk};
+ghost use Rattle.std.specs.Prelude.{◌≡◌, ◌⊎◌, ◌≤◌, ◌<◌, ◌++◌, ℕ, List, length, flat_map, false, Ok, Some, Contains, IfOk, IfErr, OnOk};
 ghost use Rattle.std.specs.List.{AllByRecursion};
 ghost use Rattle.slate_types.specs.declared.error.SlateDBError.{SlateDBError};
 ghost use Rattle.slate_types.specs.declared.iter.IterationOrder.{IterationOrder};
@@ -9,6 +9,8 @@ ghost use Rattle.slate_types.specs.Iteration.{IsInOrder};
 ghost use Rattle.slate_types.specs.Outside.{Objects};
 ghost use Rattle.slate_types.specs.Partitions.{CanHold};
 ghost use Rattle.slate_block.specs.BlockSpelling.{IsBlockOf};
+ghost use Rattle.slate_block.specs.BlockWalks.{left, Refuses};
+ghost use Rattle.slate_block.specs.EitherVersion.{left_of};
 ghost use Rattle.slate_block.specs.ReadingLaws.{EachIsAByte};
 ghost use Rattle.slate_mem.specs.Table.{newest};
 ghost use Rattle.slate_table.specs.declared.info.SsTableHandle.{SsTableHandle};
@@ -18,7 +20,7 @@ ghost use Rattle.slate_table.specs.IndexValue.{entries_of};
 ghost use Rattle.slate_table.specs.InfoReading.{seen_info};
 ghost use Rattle.slate_table.specs.Reading.{IsStoreFault};
 ghost use Rattle.slate_table.specs.SectionReading.{changed_by, IsTransformFault};
-ghost use Rattle.slate_db.specs.Answered.{AddsReads, AnswersAs};
+ghost use Rattle.slate_db.specs.Answered.{AddsReads, Answering};
 ghost use Rattle.slate_db.specs.Lookup.{IsDamage, IsUnknown, IsStored, AreStored, newest_first};
 ghost use Rattle.slate_db.specs.Model.{Rows};
 
@@ -58,8 +60,8 @@ fn covering(index: &SstIndex, key: &[u8]) -> Range<usize>
     partitions_covering_range(index, Bound::Included(key), Bound::Included(key))
 }
 
-/// What is read as a block's rows is a list of bytes.
-fn are_bytes(bytes: &[u8])
+/// The numbers of a slice of bytes are bytes.
+pub fn are_bytes(bytes: &[u8])
     ensures { EachIsAByte bytes.now }
 {}
 
@@ -77,8 +79,24 @@ fn newest_of_block(
 {
     are_bytes(block.body.as_slice());
     let mut rows = DataBlockIterator::new(alloc, block, version, IterationOrder::Ascending)?;
+    let found = newest_from(alloc, &mut rows, key, max_seq);
+    drop(rows);
+    found
+}
+
+/// The rows of the key in what is left of a block.
+fn newest_from(
+    alloc: Global,
+    rows: &mut DataBlockIterator<Block>,
+    key: &[u8],
+    max_seq: u64,
+) -> Result<Vec<RowEntry>, SlateDBError>
+    ensures found { (all : List RowEntry) → left (left_of rows.old) ≡ Ok all → (left_of rows.old).order ≡ IterationOrder.Ascending → IsInOrder IterationOrder.Ascending all → IfOk result (λ found. found.items ≡ newest key.now max_seq all) }
+    ensures whole { (all : List RowEntry) → left (left_of rows.old) ≡ Ok all → IfErr result (λ e. e ≡ SlateDBError.OutOfMemory) }
+    ensures cause { IfErr result (λ e. (e ≡ SlateDBError.OutOfMemory) ⊎ Refuses (left_of rows.old).reads e) }
+{
     rows.seek(alloc, key, &mut ())?;
-    newest_of_walk(alloc, &mut rows, key, max_seq)
+    newest_of_walk(alloc, rows, key, max_seq)
 }
 
 /// The rows of the key in neighbouring blocks.
@@ -104,34 +122,6 @@ fn newest_of_blocks(
     Ok(found)
 }
 
-/// The rows of the key in a table whose first and last key enclose it.
-fn newest_within<S: Store, T: BlockTransformer>(
-    alloc: Global,
-    store: &mut S,
-    table: &SsTableHandle,
-    key: &[u8],
-    max_seq: u64,
-    transformer: &mut Option<T>,
-) -> Result<Vec<RowEntry>, SlateDBError>
-    ensures found { (rows : Rows) → IsStored (changed_by T.encoded transformer.old) (changed_by T.decoded transformer.old) (S.objects store.old) table.now rows → IfOk result (λ found. found.items ≡ newest key.now max_seq rows) }
-    ensures true_found { (rows : Rows) (os : Objects) → IsStored (changed_by T.encoded transformer.old) (changed_by T.decoded transformer.old) (Some os) table.now rows → AnswersAs os (S.acts store.old) (S.acts store.new) → IfOk result (λ found. found.items ≡ newest key.now max_seq rows) }
-    ensures whole { (rows : Rows) → IsStored (changed_by T.encoded transformer.old) (changed_by T.decoded transformer.old) (S.objects store.old) table.now rows → IfErr result (λ e. IsStoreFault (S.faults store.old) (S.faults store.new) e ⊎ IsTransformFault (faults_of T.faults transformer.old) (faults_of T.faults transformer.new) e) }
-    ensures truthful { (rows : Rows) (os : Objects) → IsStored (changed_by T.encoded transformer.old) (changed_by T.decoded transformer.old) (Some os) table.now rows → AnswersAs os (S.acts store.old) (S.acts store.new) → IfErr result (λ e. IsStoreFault (S.faults store.old) (S.faults store.new) e ⊎ IsTransformFault (faults_of T.faults transformer.old) (faults_of T.faults transformer.new) e) }
-    ensures cause { IfErr result (λ e. IsStoreFault (S.faults store.old) (S.faults store.new) e ⊎ IsTransformFault (faults_of T.faults transformer.old) (faults_of T.faults transformer.new) e ⊎ IsDamage e ⊎ IsUnknown table.now.format_version e) }
-    ensures told { AddsReads (S.acts store.old) (S.acts store.new) }
-    ensures objects { S.objects store.new ≡ S.objects store.old }
-    ensures same_encoded { changed_by T.encoded transformer.new ≡ changed_by T.encoded transformer.old }
-    ensures same_decoded { changed_by T.decoded transformer.new ≡ changed_by T.decoded transformer.old }
-    ensures later { S.faults store.old ≤ S.faults store.new }
-    ensures later_transformer { faults_of T.faults transformer.old ≤ faults_of T.faults transformer.new }
-{
-    let index = TableStore::read_index(alloc, store, ROOT, table, transformer)?;
-    let covered = covering(&index, key);
-    let blocks = TableStore::read_blocks(alloc, store, ROOT, table, &index, covered, transformer)?;
-    let found = newest_of_blocks(alloc, blocks, table.format_version, key, max_seq)?;
-    Ok(found)
-}
-
 /// The rows of the key in a table.
 fn newest_of_table<S: Store, T: BlockTransformer>(
     alloc: Global,
@@ -141,10 +131,8 @@ fn newest_of_table<S: Store, T: BlockTransformer>(
     max_seq: u64,
     transformer: &mut Option<T>,
 ) -> Result<Vec<RowEntry>, SlateDBError>
-    ensures found { (rows : Rows) → IsStored (changed_by T.encoded transformer.old) (changed_by T.decoded transformer.old) (S.objects store.old) table.now rows → IfOk result (λ found. found.items ≡ newest key.now max_seq rows) }
-    ensures true_found { (rows : Rows) (os : Objects) → IsStored (changed_by T.encoded transformer.old) (changed_by T.decoded transformer.old) (Some os) table.now rows → AnswersAs os (S.acts store.old) (S.acts store.new) → IfOk result (λ found. found.items ≡ newest key.now max_seq rows) }
-    ensures whole { (rows : Rows) → IsStored (changed_by T.encoded transformer.old) (changed_by T.decoded transformer.old) (S.objects store.old) table.now rows → IfErr result (λ e. IsStoreFault (S.faults store.old) (S.faults store.new) e ⊎ IsTransformFault (faults_of T.faults transformer.old) (faults_of T.faults transformer.new) e) }
-    ensures truthful { (rows : Rows) (os : Objects) → IsStored (changed_by T.encoded transformer.old) (changed_by T.decoded transformer.old) (Some os) table.now rows → AnswersAs os (S.acts store.old) (S.acts store.new) → IfErr result (λ e. IsStoreFault (S.faults store.old) (S.faults store.new) e ⊎ IsTransformFault (faults_of T.faults transformer.old) (faults_of T.faults transformer.new) e) }
+    ensures found { (rows : Rows) (os : Objects) → IsStored (changed_by T.encoded transformer.old) (changed_by T.decoded transformer.old) (Some os) table.now rows → Answering os (S.objects store.old) (S.acts store.old) (S.acts store.new) → IfOk result (λ found. found.items ≡ newest key.now max_seq rows) }
+    ensures whole { (rows : Rows) (os : Objects) → IsStored (changed_by T.encoded transformer.old) (changed_by T.decoded transformer.old) (Some os) table.now rows → Answering os (S.objects store.old) (S.acts store.old) (S.acts store.new) → IfErr result (λ e. IsStoreFault (S.faults store.old) (S.faults store.new) e ⊎ IsTransformFault (faults_of T.faults transformer.old) (faults_of T.faults transformer.new) e) }
     ensures cause { IfErr result (λ e. IsStoreFault (S.faults store.old) (S.faults store.new) e ⊎ IsTransformFault (faults_of T.faults transformer.old) (faults_of T.faults transformer.new) e ⊎ IsDamage e ⊎ IsUnknown table.now.format_version e) }
     ensures told { AddsReads (S.acts store.old) (S.acts store.new) }
     ensures objects { S.objects store.new ≡ S.objects store.old }
@@ -156,7 +144,10 @@ fn newest_of_table<S: Store, T: BlockTransformer>(
     if !encloses(&table.info, key) {
         return Ok(Vec::new(alloc));
     }
-    newest_within(alloc, store, table, key, max_seq, transformer)
+    let index = TableStore::read_index(alloc, store, ROOT, table, transformer)?;
+    let covered = covering(&index, key);
+    let blocks = TableStore::read_blocks(alloc, store, ROOT, table, &index, covered, transformer)?;
+    newest_of_blocks(alloc, blocks, table.format_version, key, max_seq)
 }
 
 /// Adds the rows of the key in stored tables, of which the newest stands last, behind those that were found in newer layers.
@@ -170,10 +161,8 @@ pub fn newest_of_tables<S: Store, T: BlockTransformer>(
     store: &mut S,
     transformer: &mut Option<T>,
 ) -> Result<Vec<RowEntry>, SlateDBError>
-    ensures found { (layers : List Rows) → AreStored (changed_by T.encoded transformer.old) (changed_by T.decoded transformer.old) (S.objects store.old) tables.now layers → IfOk result (λ all. (above : Rows) → newer.items ≡ newest key.now max_seq above → all.items ≡ newest key.now max_seq (above ++ newest_first layers)) }
-    ensures true_found { (layers : List Rows) (os : Objects) → AreStored (changed_by T.encoded transformer.old) (changed_by T.decoded transformer.old) (Some os) tables.now layers → AnswersAs os (S.acts store.old) (S.acts store.new) → IfOk result (λ all. (above : Rows) → newer.items ≡ newest key.now max_seq above → all.items ≡ newest key.now max_seq (above ++ newest_first layers)) }
-    ensures whole { (layers : List Rows) → AreStored (changed_by T.encoded transformer.old) (changed_by T.decoded transformer.old) (S.objects store.old) tables.now layers → IfErr result (λ e. IsStoreFault (S.faults store.old) (S.faults store.new) e ⊎ IsTransformFault (faults_of T.faults transformer.old) (faults_of T.faults transformer.new) e) }
-    ensures truthful { (layers : List Rows) (os : Objects) → AreStored (changed_by T.encoded transformer.old) (changed_by T.decoded transformer.old) (Some os) tables.now layers → AnswersAs os (S.acts store.old) (S.acts store.new) → IfErr result (λ e. IsStoreFault (S.faults store.old) (S.faults store.new) e ⊎ IsTransformFault (faults_of T.faults transformer.old) (faults_of T.faults transformer.new) e) }
+    ensures found { (layers : List Rows) (os : Objects) → AreStored (changed_by T.encoded transformer.old) (changed_by T.decoded transformer.old) (Some os) tables.now layers → Answering os (S.objects store.old) (S.acts store.old) (S.acts store.new) → IfOk result (λ all. (above : Rows) → newer.items ≡ newest key.now max_seq above → all.items ≡ newest key.now max_seq (above ++ newest_first layers)) }
+    ensures whole { (layers : List Rows) (os : Objects) → AreStored (changed_by T.encoded transformer.old) (changed_by T.decoded transformer.old) (Some os) tables.now layers → Answering os (S.objects store.old) (S.acts store.old) (S.acts store.new) → IfErr result (λ e. IsStoreFault (S.faults store.old) (S.faults store.new) e ⊎ IsTransformFault (faults_of T.faults transformer.old) (faults_of T.faults transformer.new) e) }
     ensures cause { IfErr result (λ e. IsStoreFault (S.faults store.old) (S.faults store.new) e ⊎ IsTransformFault (faults_of T.faults transformer.old) (faults_of T.faults transformer.new) e ⊎ IsDamage e ⊎ ((h : SsTableHandle) × Contains tables.now h × IsUnknown h.format_version e)) }
     ensures told { AddsReads (S.acts store.old) (S.acts store.new) }
     ensures objects { S.objects store.new ≡ S.objects store.old }

@@ -1,7 +1,7 @@
-use Rattle.std.proofs.Common.{◌≡◌, ℕ, ◌<◌, ◌⊎◌, ◌++◌, [], length, Err, rules, ap, sym, subst, ◌∙◌, arith}
+use Rattle.std.proofs.Common.{inl, ◌≡◌, ℕ, ◌<◌, ◌⊎◌, ◌++◌, [], length, Err, rules, ap, sym, subst, ◌∙◌, arith}
 use Rattle.std.proofs.lemmas.List.{nil_from_length}
-use Rattle.std.proofs.lemmas.Result.{err_from_is_err_and}
 use Rattle.std.specs.Vec.Iter.{into_iter_items}
+use Rattle.std.proofs.lemmas.Result.{err_from_is_err_and}
 use Rattle.slate_table.specs.Parts.{Encode}
 use Rattle.slate_table.specs.SectionReading.{changed_by, IsTransformFault}
 use Rattle.slate_table.specs.InfoReading.{seen_info}
@@ -12,7 +12,8 @@ use Rattle.slate_table.specs.TableParts.{version_of}
 use Rattle.slate_types.specs.Faults.{faults_of}
 use Rattle.slate_db.specs.Flushed.{layout_of, IsTooLarge}
 use Rattle.slate_db.specs.Model.{Rows}
-use Rattle.slate_db.proofs.Built.{can_take, begun_encoded, one_more, row_fits, row_order, all_taken, add_refused}
+use Rattle.slate_db.proofs.Built.{can_take, begun_encoded, one_more, row_fits, row_order, all_taken, add_refused, wider_fault}
+use Rattle.slate_db.proofs.Blocks.{if_ok, if_err}
 use Rattle.slate_db.proofs.flush.built.Goals as goal
 
 pub loop-row-init : goal.loop-row-init
@@ -77,11 +78,8 @@ returns-in_err-add-clause-same_encoded g c = c.add.ensures.same_encoded ∙ c.lo
 pub returns-in_err-add-clause-same_decoded : goal.returns-in_err-add-clause-same_decoded
 returns-in_err-add-clause-same_decoded g c = c.add.ensures.same_decoded ∙ c.loop-row.invariant.same_decoded
 
-pub returns-in_err-table-clause-same_encoded : goal.returns-in_err-table-clause-same_encoded
-returns-in_err-table-clause-same_encoded g c = c.build.ensures.same_encoded ∙ c.loop-row.invariant.same_encoded
-
-pub returns-in_err-table-clause-same_decoded : goal.returns-in_err-table-clause-same_decoded
-returns-in_err-table-clause-same_decoded g c = c.build.ensures.same_decoded ∙ c.loop-row.invariant.same_decoded
+pub returns-clause-cause : goal.returns-clause-cause
+returns-clause-cause g c = if_err c.build.result _ _ (λ e h. inl (wider_fault _ _ _ e c.loop-row.invariant.later h)) c.build.ensures.cause
 
 pub returns-clause-same_encoded : goal.returns-clause-same_encoded
 returns-clause-same_encoded g c = c.build.ensures.same_encoded ∙ c.loop-row.invariant.same_encoded
@@ -89,19 +87,22 @@ returns-clause-same_encoded g c = c.build.ensures.same_encoded ∙ c.loop-row.in
 pub returns-clause-same_decoded : goal.returns-clause-same_decoded
 returns-clause-same_decoded g c = c.build.ensures.same_decoded ∙ c.loop-row.invariant.same_decoded
 
+pub returns-clause-version : goal.returns-clause-version
+returns-clause-version g c = if_ok c.build.result _ _ (λ table h. h ∙ c.loop-row.invariant.version) c.build.ensures.version
+
 pub returns-clause-built : goal.returns-clause-built
 returns-clause-built g c =
     let was = c.loop-row.invariant in
     let same = was.same_encoded in
-    let version = was.version in
-    let size = was.size in
     let none : into_iter_items c.loop-row.row-iterator ≡ [] = nil_from_length _ (omega (arith, c.in-None.ensures.steps.0)) in
     let rows = all_taken _ _ _ none was.rows in
-    let made = c.in_ok-table.ensures.built (subst (λ (encode : Encode). AreEncoded encode c.loop-row.builder) (sym same) was.encoded) 0 in
-    subst (λ (encode : Encode). IsBuilt encode [] 0 c.args.options.now.block_size (version_of c.args.options.now.block_format) c.in_ok-table.table.bytes c.args.rows.items) same
-    (subst (λ (xs : Rows). IsBuilt (changed_by g.T.BlockTransformer.encoded c.loop-row.transformer) [] 0 c.args.options.now.block_size (version_of c.args.options.now.block_format) c.in_ok-table.table.bytes xs) rows
-    (subst (λ (n : ℕ). IsBuilt (changed_by g.T.BlockTransformer.encoded c.loop-row.transformer) [] 0 n (version_of c.args.options.now.block_format) c.in_ok-table.table.bytes c.loop-row.builder.rows) size
-    (subst (λ (n : ℕ). IsBuilt (changed_by g.T.BlockTransformer.encoded c.loop-row.transformer) [] 0 c.loop-row.builder.size n c.in_ok-table.table.bytes c.loop-row.builder.rows) version made)))
+    let encoded = subst (λ (encode : Encode). AreEncoded encode c.loop-row.builder) (sym same) was.encoded in
+    if_ok c.build.result _ _
+    (λ table h. subst (λ (encode : Encode). IsBuilt encode [] 0 c.args.options.now.block_size (version_of c.args.options.now.block_format) table.bytes c.args.rows.items) same
+    (subst (λ (xs : Rows). IsBuilt (changed_by g.T.BlockTransformer.encoded c.loop-row.transformer) [] 0 c.args.options.now.block_size (version_of c.args.options.now.block_format) table.bytes xs) rows
+    (subst (λ (n : ℕ). IsBuilt (changed_by g.T.BlockTransformer.encoded c.loop-row.transformer) [] 0 n (version_of c.args.options.now.block_format) table.bytes c.loop-row.builder.rows) was.size
+    (subst (λ (n : ℕ). IsBuilt (changed_by g.T.BlockTransformer.encoded c.loop-row.transformer) [] 0 c.loop-row.builder.size n table.bytes c.loop-row.builder.rows) was.version (h encoded 0)))))
+    c.build.ensures.built
 
 pub returns-clause-info : goal.returns-clause-info
-returns-clause-info g c = subst (λ (n : ℕ). HasInfo c.in_ok-table.table.bytes n (seen_info c.in_ok-table.table.info)) c.loop-row.invariant.version c.in_ok-table.ensures.info
+returns-clause-info g c = if_ok c.build.result _ _ (λ table h. subst (λ (n : ℕ). HasInfo table.bytes n (seen_info table.info)) c.loop-row.invariant.version h) c.build.ensures.info

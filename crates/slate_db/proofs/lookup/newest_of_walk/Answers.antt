@@ -16,11 +16,11 @@ returns-then-ne-clause-found g c s o n =
     ends_walk c.args.key.now c.args.max_seq c.in-Some.row _ _ (rest c.args.rows.now nothing) c.loop-found.found.items split (c.loop-found.invariant.none s n)
     (subst (λ x. IsInOrder x (rest c.loop-found.rows nothing)) (c.loop-found.invariant.order ∙ o) (g.met.I.RowEntryIterator.rising c.loop-found.rows nothing sound)) other (c.loop-found.invariant.found s o n)
 
-pub loop-found-preserved-else-decides : goal.loop-found-preserved-else-decides
-loop-found-preserved-else-decides g c =
+pub loop-found-preserved : goal.loop-found-preserved
+loop-found-preserved g c =
     let rest = g.I.RowEntryIterator.rest in
     let same : bytes_eq c.in-Some.row.key c.args.key.now ≡ true = search rules in
-    let upto : nat_le c.in-Some.row.seq c.args.max_seq ≡ true = grind (arith, nat_tests, c.if-row-max_seq.true) in
+    let upto : nat_le c.in-Some.row.seq c.args.max_seq ≡ true = grind (arith, nat_tests, c.if-row-max_seq.false) in
     let base : is_base c.in-Some.row ≡ false = search rules in
     record {
       sound = λ s. c.next.ensures.still (c.loop-found.invariant.sound s);

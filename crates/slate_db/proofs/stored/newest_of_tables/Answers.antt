@@ -3,7 +3,7 @@ use Rattle.std.proofs.lemmas.Result.{err_from_is_err_and}
 use Rattle.slate_mem.specs.Table.{newest}
 use Rattle.slate_table.specs.SectionReading.{changed_by}
 use Rattle.slate_db.specs.Lookup.{is_decided, newest_first}
-use Rattle.slate_db.proofs.Answered.{adds_both, adds_none, answers_first, answers_last}
+use Rattle.slate_db.proofs.Answered.{adds_both, adds_none, answering_first, answering_last}
 use Rattle.slate_db.proofs.Damaged.{at_table, cause_earlier}
 use Rattle.slate_db.proofs.Newest.{layers_begin, layer_step, layers_decide, layers_end}
 use Rattle.slate_db.proofs.Tables.{as_many, faults_earlier, table_at}
@@ -19,10 +19,7 @@ loop-i-init g c = record {
   decoded = refl;
   later = omega arith;
   later_transformer = omega arith;
-  found = λ layers are above h.
-      layers_begin c.args.key.now c.args.max_seq (length c.args.tables.now) above c.args.newer.items layers h
-      (as_many (changed_by g.T.BlockTransformer.encoded c.args.transformer.now) (changed_by g.T.BlockTransformer.decoded c.args.transformer.now) (g.S.Store.objects c.args.store.now) c.args.tables.now layers are);
-  true_found = λ layers os are answers above h.
+  found = λ layers os are answers above h.
       layers_begin c.args.key.now c.args.max_seq (length c.args.tables.now) above c.args.newer.items layers h
       (as_many (changed_by g.T.BlockTransformer.encoded c.args.transformer.now) (changed_by g.T.BlockTransformer.decoded c.args.transformer.now) (Some os) c.args.tables.now layers are);
 }
@@ -40,41 +37,20 @@ loop-i-preserved g c =
       decoded = c.newest_of_table.ensures.same_decoded ∙ c.loop-i.invariant.decoded;
       later = omega (arith, c.loop-i.invariant.later, c.newest_of_table.ensures.later);
       later_transformer = omega (arith, c.loop-i.invariant.later_transformer, c.newest_of_table.ensures.later_transformer);
-      found = λ layers are above h.
-          let at = table_at (changed_by g.T.BlockTransformer.encoded c.args.transformer.now) (changed_by g.T.BlockTransformer.encoded c.loop-i.transformer) (changed_by g.T.BlockTransformer.decoded c.args.transformer.now) (changed_by g.T.BlockTransformer.decoded c.loop-i.transformer)
-          (g.S.Store.objects c.args.store.now) (g.S.Store.objects c.loop-i.store) c.args.tables.now layers i c.index-tables-i.result c.loop-i.invariant.encoded c.loop-i.invariant.decoded c.loop-i.invariant.objects are
-          (omega (arith, c.loop-i-test.true, c.loop-i.invariant.within)) c.index-tables-i.is in
-          layer_step c.args.key.now c.args.max_seq i above c.loop-i.found.items c.in_ok-more.more.items c.append.new.self.items at.rows layers at.here
-          (c.loop-i.invariant.found layers are above h ∙ ap (λ j. newest c.args.key.now c.args.max_seq (above ++ newest_first (drop j layers))) next) undecided (c.in_ok-more.ensures.found at.rows at.is) c.in_ok-append.ensures.items;
-      true_found = λ layers os are answers above h.
+      found = λ layers os are answers above h.
           let at = table_at (changed_by g.T.BlockTransformer.encoded c.args.transformer.now) (changed_by g.T.BlockTransformer.encoded c.loop-i.transformer) (changed_by g.T.BlockTransformer.decoded c.args.transformer.now) (changed_by g.T.BlockTransformer.decoded c.loop-i.transformer)
           (Some os) (Some os) c.args.tables.now layers i c.index-tables-i.result c.loop-i.invariant.encoded c.loop-i.invariant.decoded refl are
           (omega (arith, c.loop-i-test.true, c.loop-i.invariant.within)) c.index-tables-i.is in
           layer_step c.args.key.now c.args.max_seq i above c.loop-i.found.items c.in_ok-more.more.items c.append.new.self.items at.rows layers at.here
-          (c.loop-i.invariant.true_found layers os are (answers_first os _ _ _ c.loop-i.invariant.told c.newest_of_table.ensures.told answers) above h ∙ ap (λ j. newest c.args.key.now c.args.max_seq (above ++ newest_first (drop j layers))) next) undecided (c.in_ok-more.ensures.true_found at.rows os at.is (answers_last os _ _ _ c.loop-i.invariant.told c.newest_of_table.ensures.told answers)) c.in_ok-append.ensures.items;
+          (c.loop-i.invariant.found layers os are (answering_first os _ _ _ _ c.loop-i.invariant.told c.newest_of_table.ensures.told answers) above h ∙ ap (λ j. newest c.args.key.now c.args.max_seq (above ++ newest_first (drop j layers))) next) undecided (c.in_ok-more.ensures.found at.rows os at.is (answering_last os _ _ _ _ _ c.loop-i.invariant.objects c.loop-i.invariant.told c.newest_of_table.ensures.told answers)) c.in_ok-append.ensures.items;
     }
 
 pub returns-clause-found : goal.returns-clause-found
-returns-clause-found g c layers are above h =
+returns-clause-found g c layers os are answers above h =
     elim c.loop-i-test.branch [
-      | then-loop-i-test+else-not-is_decided w ↦ layers_decide c.args.key.now c.args.max_seq c.loop-i.i above c.loop-i.found.items layers (c.loop-i.invariant.found layers are above h) (search rules)
-      | else-loop-i-test w ↦ layers_end c.args.key.now c.args.max_seq c.loop-i.i above c.loop-i.found.items layers (c.loop-i.invariant.found layers are above h) (omega (arith, w.loop-i-test.false))
+      | then-loop-i-test+else-not-is_decided w ↦ layers_decide c.args.key.now c.args.max_seq c.loop-i.i above c.loop-i.found.items layers (c.loop-i.invariant.found layers os are answers above h) (search rules)
+      | else-loop-i-test w ↦ layers_end c.args.key.now c.args.max_seq c.loop-i.i above c.loop-i.found.items layers (c.loop-i.invariant.found layers os are answers above h) (omega (arith, w.loop-i-test.false))
     ]
-
-pub returns-clause-true_found : goal.returns-clause-true_found
-returns-clause-true_found g c layers os are answers above h =
-    elim c.loop-i-test.branch [
-      | then-loop-i-test+else-not-is_decided w ↦ layers_decide c.args.key.now c.args.max_seq c.loop-i.i above c.loop-i.found.items layers (c.loop-i.invariant.true_found layers os are answers above h) (search rules)
-      | else-loop-i-test w ↦ layers_end c.args.key.now c.args.max_seq c.loop-i.i above c.loop-i.found.items layers (c.loop-i.invariant.true_found layers os are answers above h) (omega (arith, w.loop-i-test.false))
-    ]
-
-pub returns-in_err-more-clause-whole : goal.returns-in_err-more-clause-whole
-returns-in_err-more-clause-whole g c layers are =
-    let at = table_at (changed_by g.T.BlockTransformer.encoded c.args.transformer.now) (changed_by g.T.BlockTransformer.encoded c.loop-i.transformer) (changed_by g.T.BlockTransformer.decoded c.args.transformer.now) (changed_by g.T.BlockTransformer.decoded c.loop-i.transformer)
-    (g.S.Store.objects c.args.store.now) (g.S.Store.objects c.loop-i.store) c.args.tables.now layers (c.loop-i.i - 1) c.index-tables-i.result c.loop-i.invariant.encoded c.loop-i.invariant.decoded c.loop-i.invariant.objects are
-    (omega (arith, c.loop-i-test.true, c.loop-i.invariant.within)) c.index-tables-i.is in
-    let p = err_from_is_err_and c.from_residual.result c.from_residual.ensures.1 in
-    rw (p.1, p.2) (faults_earlier _ _ _ _ _ _ _ c.loop-i.invariant.later c.loop-i.invariant.later_transformer (c.in_err-more.ensures.whole at.rows at.is))
 
 pub returns-in_err-more-clause-same_encoded : goal.returns-in_err-more-clause-same_encoded
 returns-in_err-more-clause-same_encoded g c = c.newest_of_table.ensures.same_encoded ∙ c.loop-i.invariant.encoded
@@ -82,14 +58,14 @@ returns-in_err-more-clause-same_encoded g c = c.newest_of_table.ensures.same_enc
 pub returns-in_err-more-clause-same_decoded : goal.returns-in_err-more-clause-same_decoded
 returns-in_err-more-clause-same_decoded g c = c.newest_of_table.ensures.same_decoded ∙ c.loop-i.invariant.decoded
 
-pub returns-in_err-more-clause-truthful : goal.returns-in_err-more-clause-truthful
-returns-in_err-more-clause-truthful g c layers os are answers =
+pub returns-in_err-more-clause-whole : goal.returns-in_err-more-clause-whole
+returns-in_err-more-clause-whole g c layers os are answers =
     let at = table_at (changed_by g.T.BlockTransformer.encoded c.args.transformer.now) (changed_by g.T.BlockTransformer.encoded c.loop-i.transformer) (changed_by g.T.BlockTransformer.decoded c.args.transformer.now) (changed_by g.T.BlockTransformer.decoded c.loop-i.transformer)
     (Some os) (Some os) c.args.tables.now layers (c.loop-i.i - 1) c.index-tables-i.result c.loop-i.invariant.encoded c.loop-i.invariant.decoded refl are
     (omega (arith, c.loop-i-test.true, c.loop-i.invariant.within)) c.index-tables-i.is in
     let p = err_from_is_err_and c.from_residual.result c.from_residual.ensures.1 in
     rw (p.1, p.2) (faults_earlier _ _ _ _ _ _ _ c.loop-i.invariant.later c.loop-i.invariant.later_transformer
-    (c.in_err-more.ensures.truthful at.rows os at.is (answers_last os _ _ _ c.loop-i.invariant.told c.newest_of_table.ensures.told answers)))
+    (c.in_err-more.ensures.whole at.rows os at.is (answering_last os _ _ _ _ _ c.loop-i.invariant.objects c.loop-i.invariant.told c.newest_of_table.ensures.told answers)))
 
 pub returns-in_err-more-clause-told : goal.returns-in_err-more-clause-told
 returns-in_err-more-clause-told g c = adds_both _ _ _ c.loop-i.invariant.told c.newest_of_table.ensures.told

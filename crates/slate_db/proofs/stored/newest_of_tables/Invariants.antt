@@ -3,7 +3,7 @@ use Rattle.slate_types.specs.Faults.{faults_of}
 use Rattle.slate_types.specs.Outside.{Objects}
 use Rattle.slate_mem.specs.Table.{newest}
 use Rattle.slate_table.specs.SectionReading.{changed_by}
-use Rattle.slate_db.specs.Answered.{AddsReads, AnswersAs}
+use Rattle.slate_db.specs.Answered.{AddsReads, Answering}
 use Rattle.slate_db.specs.Lookup.{AreStored, newest_first}
 use Rattle.slate_db.specs.Model.{Rows}
 use Rattle.slate_db.proofs.stored.newest_of_tables.Given as goal
@@ -17,9 +17,7 @@ invariant-loop-i g l = record {
   decoded : changed_by g.T.BlockTransformer.decoded l.transformer ≡ changed_by g.T.BlockTransformer.decoded l.initial.transformer;
   later : g.S.Store.faults l.initial.store ≤ g.S.Store.faults l.store;
   later_transformer : faults_of g.T.BlockTransformer.faults l.initial.transformer ≤ faults_of g.T.BlockTransformer.faults l.transformer;
-  found : (layers : List Rows) → AreStored (changed_by g.T.BlockTransformer.encoded l.initial.transformer) (changed_by g.T.BlockTransformer.decoded l.initial.transformer) (g.S.Store.objects l.initial.store) l.tables layers →
-      (above : Rows) → l.initial.found.items ≡ newest l.key l.max_seq above → l.found.items ≡ newest l.key l.max_seq (above ++ newest_first (drop l.i layers));
-  true_found : (layers : List Rows) (os : Objects) → AreStored (changed_by g.T.BlockTransformer.encoded l.initial.transformer) (changed_by g.T.BlockTransformer.decoded l.initial.transformer) (Some os) l.tables layers → AnswersAs os (g.S.Store.acts l.initial.store) (g.S.Store.acts l.store) →
+  found : (layers : List Rows) (os : Objects) → AreStored (changed_by g.T.BlockTransformer.encoded l.initial.transformer) (changed_by g.T.BlockTransformer.decoded l.initial.transformer) (Some os) l.tables layers → Answering os (g.S.Store.objects l.initial.store) (g.S.Store.acts l.initial.store) (g.S.Store.acts l.store) →
       (above : Rows) → l.initial.found.items ≡ newest l.key l.max_seq above → l.found.items ≡ newest l.key l.max_seq (above ++ newest_first (drop l.i layers));
 }
 

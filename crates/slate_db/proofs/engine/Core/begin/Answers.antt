@@ -32,7 +32,7 @@ put_of v n ids runs hs level id x txns same new is whole =
 opened : (c : goal.After-push_reserved) → c.insert.new.self.entries ≡ c.self.inside.«open».entries ++ ((id_of (c.self.inside.ids + 1), begun c.args.level c.self.inside.last) ∷ [])
 opened c =
     put_of (view_of c.self.inside) c.self.inside.last c.self.inside.ids c.self.inside.runs c.self.inside.tables.items c.args.level c.from_u128-id.result c.new.result c.insert.new.self.entries
-    c.from_u128-id.ensures c.new.ensures c.in_ok-insert.ensures.entries c.self.invariant
+    c.from_u128-id.ensures c.new.ensures c.in_ok-none.ensures.entries c.self.invariant
 
 -- what the fields are after the call
 becomes : (c : goal.After-push_reserved) → after_begin (view_of c.self.inside) c.args.level c.self.inside.last (id_of (c.self.inside.ids + 1)) c.push_reserved.new.self.spare
@@ -74,7 +74,7 @@ taken : (c : goal.After-from) → c.remove.new.self.entries ≡ c.self.inside.«
 taken c =
     let put : c.insert.new.self.entries ≡ c.self.inside.«open».entries ++ ((id_of (c.self.inside.ids + 1), begun c.args.level c.self.inside.last) ∷ []) =
     put_of (view_of c.self.inside) c.self.inside.last c.self.inside.ids c.self.inside.runs c.self.inside.tables.items c.args.level c.from_u128-id.result c.new.result c.insert.new.self.entries
-    c.from_u128-id.ensures c.new.ensures c.in_ok-insert.ensures.entries c.self.invariant in
+    c.from_u128-id.ensures c.new.ensures c.in_ok-none.ensures.entries c.self.invariant in
     c.remove.ensures.entries ∙ without_is c.from_u128-id.result c.insert.new.self.entries
     ∙ (let id = c.from_u128-id.ensures in λ i. without (id i) (put i))
     ∙ taken_back (view_of c.self.inside) c.self.inside.last c.self.inside.ids c.self.inside.runs c.self.inside.tables.items (begun c.args.level c.self.inside.last) c.self.invariant

@@ -8,13 +8,15 @@ use Rattle.slate_table.specs.SectionReading.{changed_by, IsTransformFault}
 use Rattle.slate_types.specs.declared.types.Ulid.{Ulid}
 use Rattle.slate_db.specs.Answered.{AddsTables}
 use Rattle.slate_db.specs.Installs.{tables_of}
-use Rattle.slate_db.specs.Flushed.{TooLarge, layout_of}
+use Rattle.slate_db.specs.Flushed.{TooLarge, idle, layout_of}
 use Rattle.slate_db.specs.Frozen.{IsFrozen}
-use Rattle.slate_db.specs.Model.{CoreModel}
+use Rattle.slate_db.specs.Model.{CoreModel, IsSame}
 use Rattle.slate_db.specs.Sound.{IsKept}
 use Rattle.slate_db.specs.Whole.{LIMIT}
 use Rattle.slate_db.specs.View.{view_of}
 use Rattle.slate_db.proofs.Flushes.{whole_flushed, kept_flushed, frozen_idle, none_frozen, frozen_from, installed_after, cause_after, passes_one, one_passed, too_large_before, held, passed, some_frozen, no_room, none_passed, full_frozen, frozen_at_fault, no_fault}
+use Rattle.slate_db.proofs.Built.{may_keep}
+use Rattle.slate_db.proofs.Names.{both_err}
 use Rattle.slate_db.proofs.Keeps.{kept_same}
 use Rattle.slate_db.proofs.Puttings.{frozen_tables}
 use Rattle.slate_db.proofs.engine.Core.flush.Goals as goal
@@ -112,3 +114,27 @@ returns-clause-acts g c =
     subst (λ (ts : List (Ulid × List ℕ)). OnOk c.install.result (AddsTables ts (tables_of c.install.new.self.events) (g.S.Store.acts c.args.env.now.store.now) (g.S.Store.acts c.install.new.env.store.now)))
     (frozen_tables c.args.self.now c.freeze.new.self (frozen_from c.args.self.now c.make_room.new.self c.freeze.new.self c.make_room.ensures.same c.make_room.ensures.idle c.in_ok-freeze.ensures.event))
     c.install.ensures.acts
+
+pub returns-in_err-make_room-clause-refused : goal.returns-in_err-make_room-clause-refused
+returns-in_err-make_room-clause-refused g c =
+    let p = err_from_is_err_and c.from_residual.result c.from_residual.ensures.1 in
+    rw p.1 (c.args.self.now, inl refl, c.make_room.ensures.same, may_keep _ _ _ refl)
+
+pub returns-in_err-freeze-clause-refused : goal.returns-in_err-freeze-clause-refused
+returns-in_err-freeze-clause-refused g c =
+    let p = err_from_is_err_and c.from_residual-in_err-freeze.result c.from_residual-in_err-freeze.ensures.1 in
+    rw p.1 (c.freeze.new.self, inl (subst (λ (v : CoreModel). IsSame c.args.self.now v) (sym c.in_err-freeze.ensures.same) c.make_room.ensures.same), refl, may_keep _ _ _ refl)
+
+pub returns-clause-refused : goal.returns-clause-refused
+returns-clause-refused g c =
+    both_err c.install.result
+    (λ same may. (c.freeze.new.self, inr (frozen_from c.args.self.now c.make_room.new.self c.freeze.new.self c.make_room.ensures.same c.make_room.ensures.idle c.in_ok-freeze.ensures.event), same, may))
+    c.install.ensures.same c.install.ensures.refused
+
+pub returns-then-is_empty-clause-installed : goal.returns-then-is_empty-clause-installed
+returns-then-is_empty-clause-installed g c = (
+  c.freeze.new.self,
+  frozen_from c.args.self.now c.make_room.new.self c.freeze.new.self c.make_room.ensures.same c.make_room.ensures.idle c.in_ok-freeze.ensures.event,
+  idle (sym (ap (λ (v : CoreModel). v.frozen) c.self.view_is) ∙ none_frozen c.as_slice.result.now c.self.inside.frozen.items c.is_empty.result c.is_empty.ensures c.if-is_empty.true c.as_slice.ensures.value)
+      (ap (λ (v : CoreModel). record v { state = record v.state { flushed = c.self.inside.last } }) c.self.view_is) refl,
+)

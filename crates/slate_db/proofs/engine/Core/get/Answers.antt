@@ -1,6 +1,5 @@
-use Rattle.std.proofs.Common.{◌≡◌, ℕ, ◌≤◌, List, [], ◌∷◌, ◌++◌, map, Option, Some, unwrap_or, option_map, refl, ap, sym, subst, ◌∙◌, rules, append-nil}
+use Rattle.std.proofs.Common.{inl, inr, ◌≡◌, ℕ, ◌≤◌, List, [], ◌∷◌, ◌++◌, map, Option, Some, unwrap_or, option_map, refl, ap, sym, subst, ◌∙◌, append-nil}
 use Rattle.std.specs.Prelude.{IfSome}
-use Rattle.std.proofs.lemmas.Result.{err_from_is_err_and}
 use Rattle.slate_types.specs.Fold.{fold_rows}
 use Rattle.slate_mem.specs.Batch.{Ops, kept}
 use Rattle.slate_mem.specs.RowOf.{own_row}
@@ -19,6 +18,7 @@ use Rattle.slate_db.specs.Whole.{IsWhole}
 use Rattle.slate_db.proofs.Names.{IsNamed, open_is}
 use Rattle.slate_db.proofs.Notes.{after_note, whole_note, step_get}
 use Rattle.slate_db.proofs.Keeps.{same_model, kept_event}
+use Rattle.slate_db.proofs.Gets.{held as held_by}
 use Rattle.slate_db.proofs.Seen.{found_all}
 use Rattle.slate_db.proofs.engine.Core.get.Goals as goal
 use Rattle.slate_db.proofs.engine.Core.get.Given as given
@@ -26,40 +26,38 @@ use Rattle.slate_db.proofs.engine.Core.get.Given as given
 pub invariant_of-self : goal.invariant_of-self
 invariant_of-self g c =
     subst (λ (v : CoreModel). IsWhole v c.self.inside.last c.self.inside.ids c.self.inside.runs c.self.inside.tables.items)
-    (same_model (view_of c.self.inside) (view_of (record c.self.inside { «open» = c.note.new.items })) refl refl (sym c.in_err-note.ensures.err) refl refl refl refl refl refl refl refl)
+    (same_model (view_of c.self.inside) (view_of (record c.self.inside { «open» = c.note_get.new.items })) refl refl (sym c.in-Err-note_get.ensures.err) refl refl refl refl refl refl refl refl)
     c.self.invariant
 
-pub returns-in_err-row-clause-truthful : goal.returns-in_err-row-clause-truthful
-returns-in_err-row-clause-truthful g c m os has law kept held answers =
-    let p = err_from_is_err_and c.from_residual-in_err-row.result c.from_residual-in_err-row.ensures.1 in
-    rw (p.1, p.2) (c.in_err-row.ensures.truthful m os has law kept held answers)
+pub returns-in-Err-clause-whole : goal.returns-in-Err-clause-whole
+returns-in-Err-clause-whole g c m has law kept held =
+    let here = held_by _ _ held in
+    c.in-Err.ensures.whole m here.0 has law kept here.2 (inl here.1)
 
-pub returns-in_err-note-clause-kept : goal.returns-in_err-note-clause-kept
-returns-in_err-note-clause-kept g c m kept_m =
+pub returns-in-Err-clause-truthful : goal.returns-in-Err-clause-truthful
+returns-in-Err-clause-truthful g c m os has law kept held answers =
+    c.in-Err.ensures.whole m os has law kept held (inr answers)
+
+pub returns-in-Err-note_get-clause-kept : goal.returns-in-Err-note_get-clause-kept
+returns-in-Err-note_get-clause-kept g c m kept_m =
     subst (λ (v : CoreModel). IsKept m v)
-    (same_model (view_of c.self.inside) (view_of (record c.self.inside { «open» = c.note.new.items })) refl refl (sym c.in_err-note.ensures.err) refl refl refl refl refl refl refl refl)
+    (same_model (view_of c.self.inside) (view_of (record c.self.inside { «open» = c.note_get.new.items })) refl refl (sym c.in-Err-note_get.ensures.err) refl refl refl refl refl refl refl refl)
     (subst (λ (v : CoreModel). IsKept m v) (sym c.self.view_is) kept_m)
 
 -- the step that is noted
-abbrev noted_step : (g : given.Over) → goal.In_ok-note g → TranscriptStep
+abbrev noted_step : (g : given.Over) → goal.In_default-note_get g → TranscriptStep
 noted_step g c = steps.Get c.args.key.now c.answer-found.result
 
-copy_is : (g : given.Over) (c : goal.In_ok-note g) → c.in_ok-copy.copy ≡ c.answer-found.result
-copy_is g c = search rules
-
-t_of : (g : given.Over) (c : goal.In_ok-note g) → IsNamed (find_named c.args.id.now c.args.self.now.state.txns)
+t_of : (g : given.Over) (c : goal.In_default-note_get g) → IsNamed (find_named c.args.id.now c.args.self.now.state.txns)
 t_of g c = open_is (find_named c.args.id.now c.args.self.now.state.txns) c.requires
 
-becomes : (g : given.Over) (c : goal.In_ok-note g) → after_note (view_of c.self.inside) c.args.id.now (noted_step g c ∷ []) ≡ view_of (record c.self.inside { «open» = c.note.new.items })
+becomes : (g : given.Over) (c : goal.In_default-note_get g) → after_note (view_of c.self.inside) c.args.id.now (noted_step g c ∷ []) ≡ view_of (record c.self.inside { «open» = c.note_get.new.items })
 becomes g c = same_model _ _ refl refl txns refl refl refl refl refl refl refl refl
   where
-    step_is : steps.Get c.in_ok-key.key c.in_ok-copy.copy ≡ steps.Get c.args.key.now c.answer-found.result
-    step_is = λ j. steps.Get (c.in_ok-key.ensures j) (copy_is g c j)
-
-    txns : update_named c.args.id.now (λ t. record t { transcript = t.transcript ++ (steps.Get c.args.key.now c.answer-found.result ∷ []) }) c.self.inside.«open».entries ≡ c.note.new.items.entries
+    txns : update_named c.args.id.now (λ t. record t { transcript = t.transcript ++ (steps.Get c.args.key.now c.answer-found.result ∷ []) }) c.self.inside.«open».entries ≡ c.note_get.new.items.entries
     txns =
-        (let st = sym step_is in λ j. update_named c.args.id.now (λ t. record t { transcript = t.transcript ++ (st j ∷ []) }) c.self.inside.«open».entries)
-        ∙ sym c.in_ok-note.ensures.ok
+        (let key = sym c.in_ok-key.ensures in λ j. update_named c.args.id.now (λ t. record t { transcript = t.transcript ++ (steps.Get (key j) c.answer-found.result ∷ []) }) c.self.inside.«open».entries)
+        ∙ sym c.in_default-note_get.ensures.ok
 
 pub invariant_of-self-2 : goal.invariant_of-self-2
 invariant_of-self-2 g c =
@@ -70,19 +68,19 @@ pub returns-clause-noted : goal.returns-clause-noted
 returns-clause-noted g c = sym (becomes g c) ∙ ap (λ v. after_note v c.args.id.now (noted_step g c ∷ [])) c.self.view_is
 
 -- the transaction that reads
-abbrev reader : (g : given.Over) → goal.In_ok-note g → Tx
+abbrev reader : (g : given.Over) → goal.In_default-note_get g → Tx
 reader g c = (t_of g c).value
 
-reader_is : (g : given.Over) (c : goal.In_ok-note g) → find_named c.args.id.now c.self.inside.«open».entries ≡ Some (reader g c)
+reader_is : (g : given.Over) (c : goal.In_default-note_get g) → find_named c.args.id.now c.self.inside.«open».entries ≡ Some (reader g c)
 reader_is g c = ap (λ (v : CoreModel). find_named c.args.id.now v.state.txns) c.self.view_is ∙ (t_of g c).is
 
-begin_is : (g : given.Over) (c : goal.In_ok-note g) → c.in-Some.at ≡ (reader g c).begin
+begin_is : (g : given.Over) (c : goal.In_default-note_get g) → c.in-Some.at ≡ (reader g c).begin
 begin_is g c = ap (λ (o : Option ℕ). unwrap_or o 0) (c.in-Some.ensures.begin ∙ ap (option_map (λ (t : Tx). t.begin)) (reader_is g c))
 
-no_ops : (g : given.Over) (c : goal.In_ok-note g) → [] ≡ (reader g c).ops
+no_ops : (g : given.Over) (c : goal.In_default-note_get g) → [] ≡ (reader g c).ops
 no_ops g c = sym (subst (λ (o : Option Tx). IfSome o (λ t. t.ops ≡ [])) (reader_is g c) c.in-Some.ensures.ops)
 
-from_floor : (g : given.Over) (c : goal.In_ok-note g) → c.args.self.now.floor ≤ c.in-Some.at
+from_floor : (g : given.Over) (c : goal.In_default-note_get g) → c.args.self.now.floor ≤ c.in-Some.at
 from_floor g c =
     subst (λ n. c.args.self.now.floor ≤ n) (sym (begin_is g c))
     (subst (λ (v : CoreModel). v.floor ≤ (reader g c).begin) c.self.view_is
@@ -93,14 +91,15 @@ returns-clause-answer g c m has law kept_m held =
     let r = rules_of c.args.self.now.settings m in
     let k = c.args.key.now in
     let commits = c.args.self.now.state.commits in
-    let row : c.in_ok-row.row ≡ fold_rows (combine_of m k) (key_rows r k (up_to (reader g c).begin commits) ++ map (own_row k) (kept (reader g c).ops k)) =
-    c.in_ok-row.ensures.row m has law kept_m held (from_floor g c)
+    let here = held_by _ _ held in
+    let row : c.in-Ok.row ≡ fold_rows (combine_of m k) (key_rows r k (up_to (reader g c).begin commits) ++ map (own_row k) (kept (reader g c).ops k)) =
+    c.in-Ok.ensures.row m here.0 has law kept_m here.2 (inl here.1) (from_floor g c)
     ∙ ap (λ (j : List ℕ). fold_rows (combine_of m j) (key_rows r j (up_to c.in-Some.at commits))) c.in_ok-key.ensures
     ∙ ap (λ n. fold_rows (combine_of m k) (key_rows r k (up_to n commits))) (begin_is g c)
     ∙ ap (fold_rows (combine_of m k)) (sym (append-nil (key_rows r k (up_to (reader g c).begin commits))))
     ∙ ap (λ (os : Ops). fold_rows (combine_of m k) (key_rows r k (up_to (reader g c).begin commits) ++ map (own_row k) (kept os k))) (no_ops g c) in
     let found : find_named c.args.id.now c.args.self.now.state.txns ≡ Some (reader g c) = ap (λ (v : CoreModel). find_named c.args.id.now v.state.txns) (sym c.self.view_is) ∙ reader_is g c in
-    step_get r c.args.self.now.state c.args.id.now k (reader g c) c.in_ok-row.row found row
+    step_get r c.args.self.now.state c.args.id.now k (reader g c) c.in-Ok.row found row
     ∙ (let a = sym c.answer-found.ensures in λ j. (noted c.args.self.now.state c.args.id.now (steps.Get k (a j) ∷ []), Found (a j)))
     ∙ (let v = sym c.self.view_is in λ j. (noted (v j).state c.args.id.now (noted_step g c ∷ []), Found c.answer-found.result))
     ∙ (λ j. ((becomes g c j).state, Found c.answer-found.result))

@@ -17,6 +17,7 @@ use Rattle.slate_db.specs.View.{view_of}
 use Rattle.slate_db.specs.Whole.{IsWhole}
 use Rattle.slate_db.proofs.Installs.{whole_install, kept_install, can_flush, table_of_flush, moved}
 use Rattle.slate_db.proofs.Begins.{within_newest}
+use Rattle.slate_db.proofs.Built.{may_keep}
 use Rattle.slate_db.proofs.Journals.{apply_more}
 use Rattle.slate_db.proofs.Keeps.{same_model, kept_event}
 use Rattle.slate_db.proofs.Loads.{last_cause, too_large_is}
@@ -28,7 +29,7 @@ abbrev table : (g : given.Over) → goal.After-self-3-1 g → Ulid × List ℕ
 table g c = c.in_ok-put.ensures.stored.t
 
 journal_is : (g : given.Over) (c : goal.After-self-3-1 g) → c.push_reserved.new.self.events ≡ c.self.inside.journal.events ++ (events.Install c.self.inside.last (table g c ∷ []) ∷ [])
-journal_is g c = c.push_reserved.ensures.events ∙ (λ i. c.reserve.ensures.events i ++ (events.Install c.self.inside.last (c.in_ok-put.ensures.stored.list i) ∷ []))
+journal_is g c = c.push_reserved.ensures.events ∙ (λ i. c.reserve_events.ensures.events i ++ (events.Install c.self.inside.last (c.in_ok-put.ensures.stored.list i) ∷ []))
 
 barrier_is : (g : given.Over) (c : goal.After-self-3-1 g) → c.barrier-barrier.result ≡ least_begin c.self.inside.last c.self.inside.«open».entries
 barrier_is g c = c.barrier-barrier.ensures
@@ -53,11 +54,11 @@ made g c =
 pub invariant_of-self-2 : goal.invariant_of-self-2
 invariant_of-self-2 g c =
     subst (λ (hs : List SsTableHandle). IsWhole (after g c) c.self.inside.last c.self.inside.ids (c.self.inside.runs + 1) hs)
-    (sym (c.push_reserved-2.ensures.items ∙ ap (λ xs. xs ++ (c.in_ok-put.put.1 ∷ [])) c.reserve-2.ensures.items))
+    (sym (c.push_reserved-2.ensures.items ∙ ap (λ xs. xs ++ (c.in_ok-put.put.1 ∷ [])) c.reserve.ensures.items))
     (subst (λ (v : CoreModel). IsWhole v c.self.inside.last c.self.inside.ids (c.self.inside.runs + 1) (c.self.inside.tables.items ++ (c.in_ok-put.put.1 ∷ []))) (becomes g c)
     (whole_install (view_of c.self.inside) c.self.inside.last c.self.inside.ids c.self.inside.runs c.self.inside.tables.items (table g c) c.in_ok-put.put.1 c.push_reserved.new.self.spare
-    (omega (arith, c.in_ok-reserve.ensures.ok, c.push_reserved.ensures.spare, c.len-3.ensures.len))
-    (omega (arith, c.if-len.false, c.len.ensures, c.len-2.ensures.len))
+    (omega (arith, c.in_ok-reserve_events.ensures.room, c.push_reserved.ensures.spare, c.len.ensures.len))
+    (omega (arith, c.in_ok-reserve_events.ensures.place, c.len.ensures.len))
     c.in_ok-put.ensures.stored.table.id
     c.in_ok-put.ensures.stored.kept
     c.self.invariant))
@@ -102,9 +103,9 @@ returns-clause-kept g c m same k =
 pub returns-in_err-put-clause-kept : goal.returns-in_err-put-clause-kept
 returns-in_err-put-clause-kept g c m same k =
     subst (λ (v : CoreModel). IsKept m v)
-    (same_model (record (view_of c.self.inside) { spare = c.reserve.new.self.spare }) (view_of (record c.self.inside { journal = c.reserve.new.self; tables = c.reserve-2.new.self })) refl
-    (ap (λ es. (replay es).commits) (sym c.reserve.ensures.events)) refl refl refl refl (sym c.reserve.ensures.events) refl refl refl refl)
-    (kept_event m (view_of c.self.inside) (view_of c.self.inside).state c.self.inside.journal.events c.reserve.new.self.spare refl refl refl (subst (λ (v : CoreModel). IsKept m v) (sym c.self.view_is) k))
+    (same_model (record (view_of c.self.inside) { spare = c.reserve_events.new.journal.spare }) (view_of (record c.self.inside { journal = c.reserve_events.new.journal; tables = c.reserve.new.self })) refl
+    (ap (λ es. (replay es).commits) (sym c.reserve_events.ensures.events)) refl refl refl refl (sym c.reserve_events.ensures.events) refl refl refl refl)
+    (kept_event m (view_of c.self.inside) (view_of c.self.inside).state c.self.inside.journal.events c.reserve_events.new.journal.spare refl refl refl (subst (λ (v : CoreModel). IsKept m v) (sym c.self.view_is) k))
 
 pub returns-in_err-put-clause-refused : goal.returns-in_err-put-clause-refused
 returns-in_err-put-clause-refused g c =
@@ -132,4 +133,16 @@ pub returns-clause-acts : goal.returns-clause-acts
 returns-clause-acts g c =
     subst (λ (v : CoreModel). AddsTables (tables_of v.events) (tables_of c.push_reserved.new.self.events) (g.S.Store.acts c.args.env.now.store.now) (g.S.Store.acts c.stored.new.env.store.now)) c.self.view_is
     (adds_installed c.self.inside.journal.events c.push_reserved.new.self.events c.self.inside.last c.in_ok-put.put.0 (g.S.Store.acts c.args.env.now.store.now) (g.S.Store.acts c.stored.new.env.store.now)
-    (c.push_reserved.ensures.events ∙ (λ i. c.reserve.ensures.events i ++ (events.Install c.self.inside.last c.in_ok-put.put.0 ∷ []))) c.in_ok-put.ensures.stored.t c.in_ok-put.ensures.stored.list c.in_ok-put.ensures.acts)
+    (c.push_reserved.ensures.events ∙ (λ i. c.reserve_events.ensures.events i ++ (events.Install c.self.inside.last c.in_ok-put.put.0 ∷ []))) c.in_ok-put.ensures.stored.t c.in_ok-put.ensures.stored.list c.in_ok-put.ensures.acts)
+
+pub returns-in_err-reserve_events-clause-refused : goal.returns-in_err-reserve_events-clause-refused
+returns-in_err-reserve_events-clause-refused g c =
+    let p = err_from_is_err_and c.from_residual.result c.from_residual.ensures.1 in
+    rw p.1 (may_keep _ _ _ refl)
+
+pub returns-in_err-reserve-clause-kept : goal.returns-in_err-reserve-clause-kept
+returns-in_err-reserve-clause-kept g c m same k =
+    subst (λ (v : CoreModel). IsKept m v)
+    (same_model (record (view_of c.self.inside) { spare = c.reserve_events.new.journal.spare }) (view_of (record c.self.inside { journal = c.reserve_events.new.journal; tables = c.reserve.new.self })) refl
+    (ap (λ es. (replay es).commits) (sym c.reserve_events.ensures.events)) refl refl refl refl (sym c.reserve_events.ensures.events) refl refl refl refl)
+    (kept_event m (view_of c.self.inside) (view_of c.self.inside).state c.self.inside.journal.events c.reserve_events.new.journal.spare refl refl refl (subst (λ (v : CoreModel). IsKept m v) (sym c.self.view_is) k))

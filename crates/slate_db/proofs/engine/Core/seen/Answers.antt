@@ -1,60 +1,83 @@
-use Rattle.std.proofs.Common.{◌≡◌, false, reverse, sym, ap, subst, ◌∙◌}
+use Rattle.std.proofs.Common.{inl, ◌≡◌, ℕ, ◌++◌, List, Some, false, map, refl, reverse, sym, ap, subst, ◌∙◌}
 use Rattle.std.proofs.lemmas.Result.{err_from_is_err_and}
-use Rattle.slate_types.specs.Faults.{faults_of}
+use Rattle.slate_types.specs.Outside.{Objects}
 use Rattle.slate_types.specs.Fold.{IsLawful, KeepsShort, fold_rows}
 use Rattle.slate_store.specs.Env.{combine_of as part_of}
+use Rattle.slate_mem.specs.Table.{newest}
+use Rattle.slate_table.specs.SectionReading.{changed_by}
 use Rattle.slate_txn.specs.State.{operator_at}
-use Rattle.slate_db.specs.Lookup.{is_merge_among}
-use Rattle.slate_db.specs.Model.{CoreModel}
-use Rattle.slate_db.specs.Sound.{IsSound}
+use Rattle.slate_db.specs.Answered.{Answering}
+use Rattle.slate_db.specs.Installs.{HoldsTables, tables_of}
+use Rattle.slate_db.specs.Lookup.{is_merge_among, newest_first}
+use Rattle.slate_db.specs.Meaning.{Meaning, HasParts, IsLawfulMeaning}
+use Rattle.slate_db.specs.Model.{CoreModel, Rows}
+use Rattle.slate_db.specs.Sound.{AreTables, IsSound}
+use Rattle.slate_db.specs.View.{view_of}
 use Rattle.slate_db.specs.Whole.{IsWhole}
 use Rattle.slate_db.proofs.Blocks.{if_ok, if_err}
 use Rattle.slate_db.proofs.Causes.{fold_cause, fold_whole_cause, read_cause, read_whole_cause}
-use Rattle.slate_db.proofs.Gets.{found_bases, found_folds, Folds}
+use Rattle.slate_db.proofs.Damaged.{known_cause}
+use Rattle.slate_db.proofs.Gets.{found_bases, found_folds, stored_known, Folds}
 use Rattle.slate_db.proofs.engine.Core.seen.Goals as goal
+use Rattle.slate_db.proofs.engine.Core.seen.Given as given
+
+-- memory's rows
+near : (g : given.Over) (c : goal.After-fold_found g) → c.in_ok-near.near.items ≡ newest c.as_slice.result.now c.args.at (c.args.self.now.active ++ newest_first c.args.self.now.frozen)
+near g c =
+    c.in_ok-near.ensures.found
+    ∙ ap (λ ts. newest c.args.key.now c.args.at (c.self.inside.active.rows ++ newest_first (map (λ t. t.rows) ts))) c.deref.ensures.value
+    ∙ ap (λ (v : CoreModel). newest c.args.key.now c.args.at (v.active ++ newest_first v.frozen)) c.self.view_is
+    ∙ ap (λ (k : List ℕ). newest k c.args.at (c.args.self.now.active ++ newest_first c.args.self.now.frozen)) (sym c.as_slice.ensures)
+
+found_is : (g : given.Over) (c : goal.After-fold_found g) (m : Meaning) (os : Objects) →
+    HasParts m (part_of g.M.MergeOperator.combine c.args.env.now.operator) (changed_by g.T.BlockTransformer.encoded c.args.env.now.transformer) (changed_by g.T.BlockTransformer.decoded c.args.env.now.transformer) → IsLawfulMeaning m →
+    HoldsTables (Some os) c.args.self.now.events → Answering os (g.S.Store.objects c.args.env.now.store.now) (g.S.Store.acts c.args.env.now.store.now) (g.S.Store.acts c.newest_of_tables.new.store) → (layers : List Rows) → AreTables m (tables_of c.args.self.now.events) layers →
+    c.in_ok-found.found.items ≡ newest c.args.key.now c.args.at ((c.args.self.now.active ++ newest_first c.args.self.now.frozen) ++ newest_first layers)
+found_is g c m os has law held answers layers tables =
+    c.in_ok-found.ensures.found layers os (stored_known m c.args.self.now (view_of c.self.inside) c.self.inside.last c.self.inside.ids c.self.inside.runs c.self.inside.tables.items c.deref-2.result.now (Some os) layers _ _ c.self.view_is c.deref-2.ensures.value has.encodes has.decodes c.self.invariant law tables held) answers (c.args.self.now.active ++ newest_first c.args.self.now.frozen) (near g c)
+    ∙ ap (λ (k : List ℕ). newest k c.args.at ((c.args.self.now.active ++ newest_first c.args.self.now.frozen) ++ newest_first layers)) c.as_slice.ensures
+
+pub returns-in_err-near-clause-row : goal.returns-in_err-near-clause-row
+returns-in_err-near-clause-row g c m os has law kept held answers above = let p = err_from_is_err_and c.from_residual.result c.from_residual.ensures.1 in rw p.1 tt
+
+pub returns-in_err-near-clause-whole : goal.returns-in_err-near-clause-whole
+returns-in_err-near-clause-whole g c m os has law kept held answers = let p = err_from_is_err_and c.from_residual.result c.from_residual.ensures.1 in rw (p.1, p.2) (inl (inl c.in_err-near.ensures.cause))
+
+pub returns-in_err-near-clause-cause : goal.returns-in_err-near-clause-cause
+returns-in_err-near-clause-cause g c = let p = err_from_is_err_and c.from_residual.result c.from_residual.ensures.1 in rw (p.1, p.2) (inl (inl c.in_err-near.ensures.cause))
+
+pub returns-in_err-found-clause-row : goal.returns-in_err-found-clause-row
+returns-in_err-found-clause-row g c m os has law kept held answers above = let p = err_from_is_err_and c.from_residual-in_err-found.result c.from_residual-in_err-found.ensures.1 in rw p.1 tt
 
 pub returns-in_err-found-clause-whole : goal.returns-in_err-found-clause-whole
-returns-in_err-found-clause-whole g c m has law kept held =
+returns-in_err-found-clause-whole g c m os has law kept held answers =
     let sound : IsSound m c.args.self.now = kept.1 law in
-    let p = err_from_is_err_and c.from_residual.result c.from_residual.ensures.1 in
-    rw (p.1, p.2) (read_whole_cause _ _ _ _ _ _ _ (c.in_err-found.ensures.whole m has law held sound.layers sound.tables))
-
-pub returns-in_err-found-clause-truthful : goal.returns-in_err-found-clause-truthful
-returns-in_err-found-clause-truthful g c m os has law kept held answers =
-    let sound : IsSound m c.args.self.now = kept.1 law in
-    let p = err_from_is_err_and c.from_residual.result c.from_residual.ensures.1 in
-    rw (p.1, p.2) (read_whole_cause _ _ _ _ _ _ _ (c.in_err-found.ensures.truthful m os has law held answers sound.layers sound.tables))
+    let p = err_from_is_err_and c.from_residual-in_err-found.result c.from_residual-in_err-found.ensures.1 in
+    rw (p.1, p.2) (read_whole_cause _ _ _ _ _ _ _ (c.in_err-found.ensures.whole sound.layers os (stored_known m c.args.self.now (view_of c.self.inside) c.self.inside.last c.self.inside.ids c.self.inside.runs c.self.inside.tables.items c.deref-2.result.now (Some os) sound.layers _ _ c.self.view_is c.deref-2.ensures.value has.encodes has.decodes c.self.invariant law sound.tables held) answers))
 
 pub returns-in_err-found-clause-cause : goal.returns-in_err-found-clause-cause
 returns-in_err-found-clause-cause g c =
-    let p = err_from_is_err_and c.from_residual.result c.from_residual.ensures.1 in
-    rw (p.1, p.2) (read_cause _ _ _ _ _ _ _ _ c.in_err-found.ensures.cause)
+    let p = err_from_is_err_and c.from_residual-in_err-found.result c.from_residual-in_err-found.ensures.1 in
+    rw (p.1, p.2) (read_cause _ _ _ _ _ _ _ _ (known_cause (tables_of (view_of c.self.inside).events) c.deref-2.result.now c.self.inside.tables.items _ c.deref-2.ensures.value c.self.invariant.tables c.in_err-found.ensures.cause))
 
 pub returns-clause-row : goal.returns-clause-row
-returns-clause-row g c m has law kept held above =
+returns-clause-row g c m os has law kept held answers above =
     let k = c.args.key.now in
     let whole : IsWhole c.args.self.now c.self.inside.last c.self.inside.ids c.self.inside.runs c.self.inside.tables.items = subst (λ (v : CoreModel). IsWhole v c.self.inside.last c.self.inside.ids c.self.inside.runs c.self.inside.tables.items) c.self.view_is c.self.invariant in
     let sound : IsSound m c.args.self.now = kept.1 law in
     let folds : Folds m c.args.self.now k c.args.at c.in_ok-found.found.items = found_folds m c.args.self.now _ _ _ _ k c.args.at c.in_ok-found.found.items sound.layers whole law kept sound.tables sound.short above
-    (c.in_ok-found.ensures.found m has law held sound.layers sound.tables) in
-    let same : m.combine ≡ part_of g.M.MergeOperator.combine c.newest.new.env.operator = has.operator ∙ ap (part_of g.M.MergeOperator.combine) (sym c.newest.ensures.operator) in
+    (found_is g c m os has law held answers sound.layers sound.tables) in
+    let same : m.combine ≡ part_of g.M.MergeOperator.combine c.args.env.now.operator = has.operator in
     if_ok c.fold_found.result _ _ (λ row h. h ∙ ap (λ x. fold_rows (operator_at x k) (reverse c.in_ok-found.found.items)) (sym same) ∙ folds.fold)
     (c.fold_found.ensures.row k (subst (λ x. IsLawful (operator_at x k)) same (law.operator k)) (subst (λ x. KeepsShort (operator_at x k)) same (law.short k)) folds.are)
 
 pub returns-clause-whole : goal.returns-clause-whole
-returns-clause-whole g c m has law kept held =
+returns-clause-whole g c m os has law kept held answers =
     let whole : IsWhole c.args.self.now c.self.inside.last c.self.inside.ids c.self.inside.runs c.self.inside.tables.items = subst (λ (v : CoreModel). IsWhole v c.self.inside.last c.self.inside.ids c.self.inside.runs c.self.inside.tables.items) c.self.view_is c.self.invariant in
     let sound : IsSound m c.args.self.now = kept.1 law in
-    let none : is_merge_among c.in_ok-found.found.items ≡ false = found_bases c.args.self.now _ _ _ _ c.args.key.now c.args.at c.in_ok-found.found.items sound.layers whole sound.bases (c.in_ok-found.ensures.found m has law held sound.layers sound.tables) in
-    if_err c.fold_found.result _ _ (λ e h. fold_whole_cause _ _ _ _ _ _ _ _ (is_merge_among c.in_ok-found.found.items) e (ap (faults_of g.M.MergeOperator.faults) c.newest.ensures.operator) none h) c.fold_found.ensures.cause
-
-pub returns-clause-truthful : goal.returns-clause-truthful
-returns-clause-truthful g c m os has law kept held answers =
-    let whole : IsWhole c.args.self.now c.self.inside.last c.self.inside.ids c.self.inside.runs c.self.inside.tables.items = subst (λ (v : CoreModel). IsWhole v c.self.inside.last c.self.inside.ids c.self.inside.runs c.self.inside.tables.items) c.self.view_is c.self.invariant in
-    let sound : IsSound m c.args.self.now = kept.1 law in
-    let none : is_merge_among c.in_ok-found.found.items ≡ false = found_bases c.args.self.now _ _ _ _ c.args.key.now c.args.at c.in_ok-found.found.items sound.layers whole sound.bases (c.in_ok-found.ensures.true_found m os has law held answers sound.layers sound.tables) in
-    if_err c.fold_found.result _ _ (λ e h. fold_whole_cause _ _ _ _ _ _ _ _ (is_merge_among c.in_ok-found.found.items) e (ap (faults_of g.M.MergeOperator.faults) c.newest.ensures.operator) none h) c.fold_found.ensures.cause
+    let none : is_merge_among c.in_ok-found.found.items ≡ false = found_bases c.args.self.now _ _ _ _ c.args.key.now c.args.at c.in_ok-found.found.items sound.layers whole sound.bases (found_is g c m os has law held answers sound.layers sound.tables) in
+    if_err c.fold_found.result _ _ (λ e h. fold_whole_cause _ _ _ _ _ _ _ _ (is_merge_among c.in_ok-found.found.items) e refl none h) c.fold_found.ensures.cause
 
 pub returns-clause-cause : goal.returns-clause-cause
 returns-clause-cause g c =
-    if_err c.fold_found.result _ _ (λ e h. fold_cause _ _ _ _ _ _ _ _ _ (is_merge_among c.in_ok-found.found.items) e (ap (part_of g.M.MergeOperator.combine) c.newest.ensures.operator) (ap (faults_of g.M.MergeOperator.faults) c.newest.ensures.operator) h) c.fold_found.ensures.cause
+    if_err c.fold_found.result _ _ (λ e h. fold_cause _ _ _ _ _ _ _ _ _ (is_merge_among c.in_ok-found.found.items) e refl refl h) c.fold_found.ensures.cause
