@@ -1,6 +1,9 @@
 -- The replies that answers are.
 --     error_of refusal      the error that a refused line is answered
 --     reply_of a      the model's reply that an answer is
+--     word_text w      the bytes of a word of a reply
+use Rattle.std.specs.Prelude.{ℕ, List, decimal}
+use Rattle.std.specs.Fmt.{signed_decimal}
 use Rattle.slate_types.specs.declared.error.SlateDBError.{SlateDBError}
 use Rattle.slate_types.specs.declared.error.SlateDBError.TheVariants as errors
 use Rattle.slate_txn.specs.Reply as replies
@@ -9,6 +12,9 @@ use Rattle.slate_script.specs.declared.reply.Answer.{Answer}
 use Rattle.slate_script.specs.declared.reply.Answer.TheVariants as answers
 use Rattle.slate_script.specs.declared.reply.Refusal.{Refusal}
 use Rattle.slate_script.specs.declared.reply.Refusal.TheVariants as refusals
+use Rattle.slate_script.specs.declared.reply.Word.{Word}
+use Rattle.slate_script.specs.declared.reply.Word.TheVariants as words
+use Rattle.slate_script.specs.Text.{shown_bytes}
 
 abbrev pub error_of : Refusal → SlateDBError
 error_of (refusals.DuplicateTransaction name) = errors.DuplicateTransaction name
@@ -27,3 +33,9 @@ reply_of (answers.Found row) = replies.Found row
 reply_of (answers.Written seq) = replies.Written seq
 reply_of (answers.Frozen seq) = replies.Frozen seq
 reply_of (answers.Flushed seq) = replies.Flushed seq
+
+abbrev pub word_text : Word → List ℕ
+word_text (words.Text text) = text.now
+word_text (words.Shown bytes) = shown_bytes bytes.now
+word_text (words.Number n) = decimal n
+word_text (words.Moment moment) = signed_decimal moment

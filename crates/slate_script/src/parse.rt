@@ -1,17 +1,17 @@
 //! The meaning of a line.
-ghost use Rattle.std.specs.Prelude.{◌≡◌, ◌⊎◌, ◌≤◌, Ok, Some, None, IfOk, IfSome, IfErr, IsOkUnless, length, option_map, true, false};
+ghost use Rattle.std.specs.Prelude.{◌≡◌, ◌⊎◌, ◌≤◌, Ok, Some, None, IfOk, IfSome, IfErr, length, option_map, true, false};
 ghost use Rattle.slate_script.specs.Parse.{tokens_of, grouped, read_ttl};
 ghost use Rattle.slate_script.specs.Stage.{meaning};
-ghost use Rattle.slate_script.specs.Built.{texts, built_level, keyword, built_now, built_begin, built_get, built_rollback, built_alone, built_put, built_delete, built_op, built_ops, built_write, built_tokens, is_op_word};
+ghost use Rattle.slate_script.specs.Built.{texts, built_level, keyword, built_now, built_begin, built_get, built_rollback, built_put, built_delete, built_op, built_ops, built_write, built_tokens, is_op_word};
 ghost use Rattle.slate_script.specs.Replies.{is_silent};
 
-use crate::token::{read_bytes, read_moment, read_name, read_ttl};
+use crate::token::{is_word, read_bytes, read_moment, read_name, read_ttl};
 use bytes::Bytes;
 use slate_mem::WriteOp;
 use slate_txn::line::Line;
 use slate_txn::list::OpList;
 use slate_types::{IsolationLevel, PutOptions, SlateDBError, Ttl};
-use std::alloc::Global;
+use std::alloc::{AllocError, Global};
 
 /// The first word of a line.
 #[derive(Clone, Copy)]
@@ -37,7 +37,9 @@ pub fn parse_line(alloc: Global, line: &[u8]) -> Result<Option<Line>, SlateDBErr
         return Ok(None);
     }
     let tokens = split_tokens(alloc, line)?;
-    match read_line(alloc, tokens.as_slice())? {
+    let meaning = read_line(alloc, tokens.as_slice());
+    drop(tokens);
+    match meaning? {
         Some(meaning) => Ok(Some(meaning)),
         None => Err(SlateDBError::ScriptSyntax { line: 0 }),
     }
@@ -51,17 +53,15 @@ fn is_silent(line: &[u8]) -> bool
 }
 
 /// The bytes between single spaces.
-fn split_tokens(alloc: Global, line: &[u8]) -> Result<Vec<&[u8]>, SlateDBError>
+fn split_tokens(alloc: Global, line: &[u8]) -> Result<Vec<&[u8]>, AllocError>
     ensures tokens { IfOk result (λ v. texts v.items ≡ tokens_of line.now) }
-    ensures cause { IsOkUnless result SlateDBError.OutOfMemory }
 {
-    Ok(line.split(|byte| *byte == b' ').collect(alloc)?)
+    line.split(|byte| *byte == b' ').collect(alloc)
 }
 
 /// The line that the tokens mean, if any.
-fn read_line(alloc: Global, tokens: &[&[u8]]) -> Result<Option<Line>, SlateDBError>
+fn read_line(alloc: Global, tokens: &[&[u8]]) -> Result<Option<Line>, AllocError>
     ensures line { IfOk result (λ o. o ≡ built_tokens (texts tokens.now)) }
-    ensures cause { IsOkUnless result SlateDBError.OutOfMemory }
 {
     let Some((word, rest)) = tokens.split_first() else {
         return Ok(None);
@@ -72,24 +72,31 @@ fn read_line(alloc: Global, tokens: &[&[u8]]) -> Result<Option<Line>, SlateDBErr
         Some(Keyword::Get) => read_get(alloc, rest),
         Some(Keyword::Rollback) => read_rollback(alloc, rest),
         Some(Keyword::Write) => read_write(alloc, rest),
-        Some(Keyword::Freeze) => Ok(read_alone(rest, Line::Freeze)),
-        Some(Keyword::Flush) => Ok(read_alone(rest, Line::Flush)),
-        None => Ok(None),
+        Some(Keyword::Freeze) if rest.is_empty() => Ok(Some(Line::Freeze)),
+        Some(Keyword::Flush) if rest.is_empty() => Ok(Some(Line::Flush)),
+        _ => Ok(None),
     }
 }
 
 fn read_keyword(token: &[u8]) -> Option<Keyword>
     ensures { result ≡ keyword token.now }
 {
-    match token {
-        b"now" => Some(Keyword::Now),
-        b"begin" => Some(Keyword::Begin),
-        b"get" => Some(Keyword::Get),
-        b"rollback" => Some(Keyword::Rollback),
-        b"write" => Some(Keyword::Write),
-        b"freeze" => Some(Keyword::Freeze),
-        b"flush" => Some(Keyword::Flush),
-        _ => None,
+    if is_word(token, b"now") {
+        Some(Keyword::Now)
+    } else if is_word(token, b"begin") {
+        Some(Keyword::Begin)
+    } else if is_word(token, b"get") {
+        Some(Keyword::Get)
+    } else if is_word(token, b"rollback") {
+        Some(Keyword::Rollback)
+    } else if is_word(token, b"write") {
+        Some(Keyword::Write)
+    } else if is_word(token, b"freeze") {
+        Some(Keyword::Freeze)
+    } else if is_word(token, b"flush") {
+        Some(Keyword::Flush)
+    } else {
+        None
     }
 }
 
@@ -105,9 +112,8 @@ fn read_now(tokens: &[&[u8]]) -> Option<Line>
 }
 
 /// `begin N si`
-fn read_begin(alloc: Global, tokens: &[&[u8]]) -> Result<Option<Line>, SlateDBError>
+fn read_begin(alloc: Global, tokens: &[&[u8]]) -> Result<Option<Line>, AllocError>
     ensures line { IfOk result (λ o. o ≡ built_begin (texts tokens.now)) }
-    ensures cause { IsOkUnless result SlateDBError.OutOfMemory }
 {
     let [name, level] = tokens else {
         return Ok(None);
@@ -122,16 +128,12 @@ fn read_begin(alloc: Global, tokens: &[&[u8]]) -> Result<Option<Line>, SlateDBEr
 fn read_level(token: &[u8]) -> Option<IsolationLevel>
     ensures { result ≡ built_level token.now }
 {
-    match token {
-        b"si" => Some(IsolationLevel::Snapshot),
-        _ => None,
-    }
+    is_word(token, b"si").then_some(IsolationLevel::Snapshot)
 }
 
 /// `get N K`
-fn read_get(alloc: Global, tokens: &[&[u8]]) -> Result<Option<Line>, SlateDBError>
+fn read_get(alloc: Global, tokens: &[&[u8]]) -> Result<Option<Line>, AllocError>
     ensures line { IfOk result (λ o. o ≡ built_get (texts tokens.now)) }
-    ensures cause { IsOkUnless result SlateDBError.OutOfMemory }
 {
     let [name, key] = tokens else {
         return Ok(None);
@@ -147,9 +149,8 @@ fn read_get(alloc: Global, tokens: &[&[u8]]) -> Result<Option<Line>, SlateDBErro
 }
 
 /// `rollback N`
-fn read_rollback(alloc: Global, tokens: &[&[u8]]) -> Result<Option<Line>, SlateDBError>
+fn read_rollback(alloc: Global, tokens: &[&[u8]]) -> Result<Option<Line>, AllocError>
     ensures line { IfOk result (λ o. o ≡ built_rollback (texts tokens.now)) }
-    ensures cause { IsOkUnless result SlateDBError.OutOfMemory }
 {
     let [name] = tokens else {
         return Ok(None);
@@ -161,17 +162,9 @@ fn read_rollback(alloc: Global, tokens: &[&[u8]]) -> Result<Option<Line>, SlateD
     Ok(Some(Line::Rollback { name }))
 }
 
-/// `freeze` or `flush`: a word with no token behind it
-fn read_alone(tokens: &[&[u8]], line: Line) -> Option<Line>
-    ensures { result ≡ built_alone line (texts tokens.now) }
-{
-    tokens.is_empty().then_some(line)
-}
-
 /// `write` and operations
-fn read_write(alloc: Global, tokens: &[&[u8]]) -> Result<Option<Line>, SlateDBError>
+fn read_write(alloc: Global, tokens: &[&[u8]]) -> Result<Option<Line>, AllocError>
     ensures line { IfOk result (λ o. o ≡ built_write (texts tokens.now)) }
-    ensures cause { IsOkUnless result SlateDBError.OutOfMemory }
 {
     match read_ops(alloc, tokens)? {
         Some(ops) => Ok(Some(Line::Write {
@@ -182,9 +175,8 @@ fn read_write(alloc: Global, tokens: &[&[u8]]) -> Result<Option<Line>, SlateDBEr
 }
 
 /// The operations, each a word with the tokens up to the next such word.
-fn read_ops(alloc: Global, tokens: &[&[u8]]) -> Result<Option<Vec<(Bytes, WriteOp)>>, SlateDBError>
+fn read_ops(alloc: Global, tokens: &[&[u8]]) -> Result<Option<Vec<(Bytes, WriteOp)>>, AllocError>
     ensures ops { IfOk result (λ o. option_map (λ v. v.items) o ≡ built_ops (texts tokens.now)) }
-    ensures cause { IsOkUnless result SlateDBError.OutOfMemory }
 {
     let mut ops = Vec::new(alloc);
     let mut at = 0;
@@ -215,7 +207,7 @@ fn own_len(tokens: &[&[u8]]) -> usize
 fn is_op_word(token: &[u8]) -> bool
     ensures { result ≡ is_op_word token.now }
 {
-    token == b"put".as_slice() || token == b"merge".as_slice() || token == b"delete".as_slice()
+    is_word(token, b"put") || is_word(token, b"merge") || is_word(token, b"delete")
 }
 
 /// An operation: its word, and the tokens behind it.
@@ -223,13 +215,12 @@ fn read_op(
     alloc: Global,
     word: &[u8],
     tokens: &[&[u8]],
-) -> Result<Option<(Bytes, WriteOp)>, SlateDBError>
+) -> Result<Option<(Bytes, WriteOp)>, AllocError>
     ensures op { IfOk result (λ o. o ≡ built_op word.now (texts tokens.now)) }
-    ensures cause { IsOkUnless result SlateDBError.OutOfMemory }
 {
-    if word == b"put".as_slice() {
+    if is_word(word, b"put") {
         read_put(alloc, tokens)
-    } else if word == b"delete".as_slice() {
+    } else if is_word(word, b"delete") {
         read_delete(alloc, tokens)
     } else {
         Ok(None)
@@ -237,9 +228,8 @@ fn read_op(
 }
 
 /// A key and a value, and maybe a time to live
-fn read_put(alloc: Global, tokens: &[&[u8]]) -> Result<Option<(Bytes, WriteOp)>, SlateDBError>
+fn read_put(alloc: Global, tokens: &[&[u8]]) -> Result<Option<(Bytes, WriteOp)>, AllocError>
     ensures op { IfOk result (λ o. o ≡ built_put (texts tokens.now)) }
-    ensures cause { IsOkUnless result SlateDBError.OutOfMemory }
 {
     let [key, value, rest @ ..] = tokens else {
         return Ok(None);
@@ -248,9 +238,11 @@ fn read_put(alloc: Global, tokens: &[&[u8]]) -> Result<Option<(Bytes, WriteOp)>,
         return Ok(None);
     };
     let Some(value) = read_bytes(alloc, value)? else {
+        drop(key);
         return Ok(None);
     };
     let Some(ttl) = read_last_ttl(rest) else {
+        drop((key, value));
         return Ok(None);
     };
     Ok(Some((key, WriteOp::Put(value, PutOptions { ttl }))))
@@ -268,9 +260,8 @@ fn read_last_ttl(tokens: &[&[u8]]) -> Option<Ttl>
 }
 
 /// A key
-fn read_delete(alloc: Global, tokens: &[&[u8]]) -> Result<Option<(Bytes, WriteOp)>, SlateDBError>
+fn read_delete(alloc: Global, tokens: &[&[u8]]) -> Result<Option<(Bytes, WriteOp)>, AllocError>
     ensures op { IfOk result (λ o. o ≡ built_delete (texts tokens.now)) }
-    ensures cause { IsOkUnless result SlateDBError.OutOfMemory }
 {
     let [key] = tokens else {
         return Ok(None);

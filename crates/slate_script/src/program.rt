@@ -99,7 +99,11 @@ pub fn run_main<R: Source, W: Sink, S: Store>(
     };
     match run_script(alloc, source, sink, &mut env, &settings.options) {
         Ok(()) => 0,
-        Err(error) => status_of(&error),
+        Err(error) => {
+            let status = status_of(&error);
+            drop(error);
+            status
+        }
     }
 }
 

@@ -1,15 +1,14 @@
 //! Answers to lines, and their texts.
-ghost use Rattle.std.specs.Prelude.{◌≡◌, ◌++◌, ◌∷◌, [], Some, map, IfOk, IsOkUnless};
+ghost use Rattle.std.specs.Prelude.{◌≡◌, ◌++◌, ◌∷◌, [], Some, map, codes, IfOk, OnOk};
 ghost use Rattle.std.specs.List.{join_with_byte};
-ghost use Rattle.std.specs.String.{string_bytes};
 ghost use Rattle.slate_script.specs.Replies.{reply_line};
-ghost use Rattle.slate_script.specs.Answers.{reply_of};
-ghost use Rattle.slate_script.specs.Text.{stamp};
+ghost use Rattle.slate_script.specs.Answers.{reply_of, word_text};
+ghost use Rattle.slate_script.specs.Text.{stamp, sequence};
 
-use crate::text::show;
+use crate::text::shown;
 use bytes::Bytes;
-use slate_types::{KeyValue, SlateDBError};
-use std::alloc::Global;
+use slate_types::KeyValue;
+use std::alloc::{AllocError, Global};
 
 /// Why a line is refused: its name is open already or isn't open, no sequence is left, or an operation's
 /// key is empty or past 65535 bytes, or its value past 4294967295. `len` is the length in bytes.
@@ -36,111 +35,126 @@ pub enum Answer {
     Flushed(u64),
 }
 
+/// A word of a reply.
+#[derive(Clone, Copy)]
+enum Word<'a> {
+    /// These bytes as they stand.
+    Text(&'a [u8]),
+    /// These bytes as a byte token.
+    Shown(&'a [u8]),
+    Number(u64),
+    Moment(i64),
+}
+
 /// The reply, with its line end.
-pub fn reply_text(alloc: Global, answer: &Answer) -> Result<Vec<u8>, SlateDBError>
+pub fn reply_text(alloc: Global, answer: &Answer) -> Result<Vec<u8>, AllocError>
     ensures text { IfOk result (λ v. v.items ≡ reply_line (reply_of answer.now)) }
-    ensures cause { IsOkUnless result SlateDBError.OutOfMemory }
 {
     match answer {
-        Answer::Done => line_of(alloc, &[b"ok"]),
+        Answer::Done => line_of(alloc, &[Word::Text(b"ok")]),
         Answer::Refused(refusal) => refusal_text(alloc, refusal),
-        Answer::NowIs(moment) => {
-            let moment = moment.to_string(alloc)?;
-            line_of(alloc, &[b"now", moment.as_bytes()])
-        }
-        Answer::Begun { name, start } => {
-            let start = start.to_string(alloc)?;
-            line_of(alloc, &[b"begun", name.as_slice(), start.as_bytes()])
-        }
-        Answer::Found(None) => line_of(alloc, &[b"none"]),
+        Answer::NowIs(moment) => line_of(alloc, &[Word::Text(b"now"), Word::Moment(*moment)]),
+        Answer::Begun { name, start } => line_of(
+            alloc,
+            &[
+                Word::Text(b"begun"),
+                Word::Text(name.as_slice()),
+                Word::Number(*start),
+            ],
+        ),
+        Answer::Found(None) => line_of(alloc, &[Word::Text(b"none")]),
         Answer::Found(Some(row)) => row_text(alloc, row),
-        Answer::Written(None) => line_of(alloc, &[b"written", b"-"]),
-        Answer::Written(Some(seq)) => {
-            let seq = seq.to_string(alloc)?;
-            line_of(alloc, &[b"written", seq.as_bytes()])
-        }
-        Answer::Frozen(seq) => {
-            let seq = seq.to_string(alloc)?;
-            line_of(alloc, &[b"frozen", seq.as_bytes()])
-        }
-        Answer::Flushed(seq) => {
-            let seq = seq.to_string(alloc)?;
-            line_of(alloc, &[b"flushed", seq.as_bytes()])
-        }
+        Answer::Written(seq) => line_of(alloc, &[Word::Text(b"written"), sequence(*seq)]),
+        Answer::Frozen(seq) => line_of(alloc, &[Word::Text(b"frozen"), Word::Number(*seq)]),
+        Answer::Flushed(seq) => line_of(alloc, &[Word::Text(b"flushed"), Word::Number(*seq)]),
     }
 }
 
-fn refusal_text(alloc: Global, refusal: &Refusal) -> Result<Vec<u8>, SlateDBError>
+fn refusal_text(alloc: Global, refusal: &Refusal) -> Result<Vec<u8>, AllocError>
     ensures text { IfOk result (λ v. v.items ≡ reply_line (reply_of (Answer.Refused refusal.now))) }
-    ensures cause { IsOkUnless result SlateDBError.OutOfMemory }
 {
     match refusal {
-        Refusal::DuplicateTransaction { name } => line_of(
-            alloc,
-            &[b"refused", b"DuplicateTransaction", name.as_slice()],
-        ),
-        Refusal::UnknownTransaction { name } => line_of(
-            alloc,
-            &[b"refused", b"UnknownTransaction", name.as_slice()],
-        ),
-        Refusal::SequenceExhausted => line_of(alloc, &[b"refused", b"SequenceExhausted"]),
-        Refusal::EmptyKey => line_of(alloc, &[b"refused", b"EmptyKey"]),
-        Refusal::KeyTooLong { len } => {
-            let len = len.to_string(alloc)?;
-            line_of(alloc, &[b"refused", b"KeyTooLong", len.as_bytes()])
+        Refusal::DuplicateTransaction { name } => {
+            refused(alloc, b"DuplicateTransaction", Word::Text(name.as_slice()))
         }
-        Refusal::ValueTooLong { len } => {
-            let len = len.to_string(alloc)?;
-            line_of(alloc, &[b"refused", b"ValueTooLong", len.as_bytes()])
+        Refusal::UnknownTransaction { name } => {
+            refused(alloc, b"UnknownTransaction", Word::Text(name.as_slice()))
         }
+        Refusal::SequenceExhausted => line_of(
+            alloc,
+            &[Word::Text(b"refused"), Word::Text(b"SequenceExhausted")],
+        ),
+        Refusal::EmptyKey => line_of(alloc, &[Word::Text(b"refused"), Word::Text(b"EmptyKey")]),
+        Refusal::KeyTooLong { len } => refused(alloc, b"KeyTooLong", Word::Number(*len)),
+        Refusal::ValueTooLong { len } => refused(alloc, b"ValueTooLong", Word::Number(*len)),
     }
 }
 
-fn row_text(alloc: Global, row: &KeyValue) -> Result<Vec<u8>, SlateDBError>
-    ensures text { IfOk result (λ v. v.items ≡ reply_line (reply_of (Answer.Found (Some row.now)))) }
-    ensures cause { IsOkUnless result SlateDBError.OutOfMemory }
+fn refused<'a>(alloc: Global, kind: &'a [u8], detail: Word<'a>) -> Result<Vec<u8>, AllocError>
+    ensures text { IfOk result (λ v. v.items ≡ join_with_byte 32 (codes "refused" ∷ kind.now ∷ word_text detail.entry ∷ []) ++ (10 ∷ [])) }
 {
-    let key = show(alloc, row.key.as_slice())?;
-    let value = show(alloc, row.value.as_slice())?;
-    let seq = row.seq.to_string(alloc)?;
-    let created = row.create_ts.to_string(alloc)?;
-    let expires = stamp_text(alloc, row.expire_ts)?;
+    line_of(alloc, &[Word::Text(b"refused"), Word::Text(kind), detail])
+}
+
+fn row_text(alloc: Global, row: &KeyValue) -> Result<Vec<u8>, AllocError>
+    ensures text { IfOk result (λ v. v.items ≡ reply_line (reply_of (Answer.Found (Some row.now)))) }
+{
     line_of(
         alloc,
         &[
-            b"row",
-            key.as_slice(),
-            value.as_slice(),
-            seq.as_bytes(),
-            created.as_bytes(),
-            expires.as_bytes(),
+            Word::Text(b"row"),
+            Word::Shown(row.key.as_slice()),
+            Word::Shown(row.value.as_slice()),
+            Word::Number(row.seq),
+            Word::Moment(row.create_ts),
+            stamp(row.expire_ts),
         ],
     )
 }
 
 /// The moment, or `-` for none.
-fn stamp_text(alloc: Global, moment: Option<i64>) -> Result<String, SlateDBError>
-    ensures text { IfOk result (λ s. string_bytes s ≡ stamp moment) }
-    ensures cause { IsOkUnless result SlateDBError.OutOfMemory }
+fn stamp(moment: Option<i64>) -> Word<'static>
+    ensures { word_text result ≡ stamp moment }
 {
     match moment {
-        None => Ok(String::from_str(alloc, "-")?),
-        Some(moment) => Ok(moment.to_string(alloc)?),
+        None => Word::Text(b"-"),
+        Some(moment) => Word::Moment(moment),
+    }
+}
+
+/// The sequence, or `-` for none.
+fn sequence(seq: Option<u64>) -> Word<'static>
+    ensures { word_text result ≡ sequence seq }
+{
+    match seq {
+        None => Word::Text(b"-"),
+        Some(seq) => Word::Number(seq),
     }
 }
 
 /// The words with a space between each two, and a line end.
-fn line_of(alloc: Global, words: &[&[u8]]) -> Result<Vec<u8>, SlateDBError>
-    ensures text { IfOk result (λ v. v.items ≡ join_with_byte 32 (map (λ w. w.now) words.now) ++ (10 ∷ [])) }
-    ensures cause { IsOkUnless result SlateDBError.OutOfMemory }
+fn line_of(alloc: Global, words: &[Word<'_>]) -> Result<Vec<u8>, AllocError>
+    ensures text { IfOk result (λ v. v.items ≡ join_with_byte 32 (map word_text words.now) ++ (10 ∷ [])) }
 {
     let mut line = Vec::new(alloc);
     for (i, word) in words.iter().enumerate() {
         if i > 0 {
             line.push(b' ')?;
         }
-        line.extend_from_slice(word)?;
+        push_word(alloc, &mut line, word)?;
     }
     line.push(b'\n')?;
     Ok(line)
+}
+
+/// Adds the word to the line.
+fn push_word(alloc: Global, line: &mut Vec<u8>, word: &Word<'_>) -> Result<(), AllocError>
+    ensures text { OnOk result (line.new.items ≡ line.old.items ++ word_text word.now) }
+{
+    match word {
+        Word::Text(text) => line.extend_from_slice(text),
+        Word::Shown(bytes) => line.extend_from_slice(shown(alloc, bytes)?.as_slice()),
+        Word::Number(number) => line.extend_from_slice(number.to_string(alloc)?.as_bytes()),
+        Word::Moment(moment) => line.extend_from_slice(moment.to_string(alloc)?.as_bytes()),
+    }
 }

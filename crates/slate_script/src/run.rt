@@ -10,7 +10,8 @@ ghost use Rattle.slate_db.specs.Installs.{tables_of};
 ghost use Rattle.slate_db.specs.Load.{load, weight};
 ghost use Rattle.slate_db.specs.Meaning.{Meaning, IsLawfulMeaning};
 ghost use Rattle.slate_db.specs.Parts.{meaning_of, counts_of, IsDamage};
-ghost use Rattle.slate_script.specs.Replies.{replies, replies_to, after_lines, replies_from, IsWellFormed};
+ghost use Rattle.slate_script.specs.Replies.{replies, replies_to, after_lines, replies_from, reply_line, IsWellFormed};
+ghost use Rattle.slate_script.specs.Answers.{reply_of};
 ghost use Rattle.slate_script.specs.Stage.{meaning};
 ghost use Rattle.slate_script.specs.Session.{StandsFor, HasTablesAlone, IsRunning, IsSettled, IsLimit};
 ghost use Rattle.slate_script.specs.Run.{run_rules, Premises, is_line, script_error, lines_taken, IsPartError, IsPartCause, IsOutside, IsScriptError, HasAnswered, HasAnsweredAll, HasBegun};
@@ -18,7 +19,7 @@ ghost use Rattle.slate_script.specs.StoredState.{IsStoredState};
 ghost use Rattle.slate_script.specs.Told.{Follows, IsUntrue};
 
 use crate::parse::parse_line;
-use crate::reply::reply_text;
+use crate::reply::{Answer, reply_text};
 use crate::session::Session;
 use slate_store::{Env, Lines, Sink, Source, Store, write_all};
 use slate_types::{BlockTransformer, MergeOperator, Options, SlateDBError};
@@ -99,7 +100,7 @@ pub fn run_script<R: Source, W: Sink, S: Store, M: MergeOperator, T: BlockTransf
     let mut number = 0;
     while let Some(line) = lines.next(source)? {
         number += 1;
-        answer_line(
+        match answer_line(
             alloc,
             &mut session,
             sink,
@@ -107,7 +108,13 @@ pub fn run_script<R: Source, W: Sink, S: Store, M: MergeOperator, T: BlockTransf
             options,
             line.as_slice(),
             number,
-        )?;
+        ) {
+            Ok(()) => {}
+            Err(error) => {
+                session.close();
+                return Err(error);
+            }
+        }
     }
     session.close();
     Ok(())
@@ -159,7 +166,27 @@ fn answer_line<W: Sink, S: Store, M: MergeOperator, T: BlockTransformer>(
         }
         Err(error) => return Err(error),
     };
-    let answer = session.answer(meaning, env, options)?;
-    let text = reply_text(alloc, &answer)?;
+    match session.answer(meaning, env, options) {
+        Ok(answer) => write_reply(alloc, sink, answer),
+        Err(error) => Err(error),
+    }
+}
+
+/// Writes the reply that the answer is. `WriteFault` comes only where the sink's count of faults rose, and then a
+/// front of the reply was written, and not all of it. At another error nothing was written.
+fn write_reply<W: Sink>(alloc: Global, sink: &mut W, answer: Answer) -> Result<(), SlateDBError>
+    ensures ok { (before : List ℕ) → W.content sink.old ≡ Some before → OnOk result (W.content sink.new ≡ Some (before ++ reply_line (reply_of answer))) }
+    ensures part { (before : List ℕ) → W.content sink.old ≡ Some before → result ≡ Err SlateDBError.WriteFault →
+        (n : ℕ) × (n < length (reply_line (reply_of answer))) × (W.content sink.new ≡ Some (before ++ take n (reply_line (reply_of answer)))) }
+    ensures cause { IfErr result (λ e. (e ≡ SlateDBError.OutOfMemory) ⊎ (e ≡ SlateDBError.WriteFault)) }
+    ensures write_fault { result ≡ Err SlateDBError.WriteFault → Rose (W.faults sink.old) (W.faults sink.new) }
+    ensures still { OnOk result (W.faults sink.new ≡ W.faults sink.old) }
+    ensures uncounted { IfErr result (λ e. (e ≡ SlateDBError.WriteFault) ⊎ (W.faults sink.new ≡ W.faults sink.old)) }
+    ensures unanswered { IfErr result (λ e. (e ≡ SlateDBError.WriteFault) ⊎ (W.content sink.new ≡ W.content sink.old)) }
+    ensures later { W.faults sink.old ≤ W.faults sink.new }
+{
+    let text = reply_text(alloc, &answer);
+    drop(answer);
+    let text = text?;
     write_all(sink, text.as_slice())
 }

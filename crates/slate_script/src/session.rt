@@ -174,10 +174,14 @@ impl Session {
             return Ok(Answer::Refused(Refusal::UnknownTransaction { name }));
         };
         let id = *id;
+        drop(name);
         let options = ReadOptions {
             filter_context: None,
         };
-        let row = self.core.get(&id, key.as_slice(), &options, env)?;
+        let read = self.core.get(&id, key.as_slice(), &options, env);
+        drop(options);
+        drop(key);
+        let row = read?;
         Ok(Answer::Found(row))
     }
 

@@ -1,5 +1,5 @@
 //! What single tokens of a line mean.
-ghost use Rattle.std.specs.Prelude.{◌≡◌, IfOk, IsOkUnless};
+ghost use Rattle.std.specs.Prelude.{◌≡◌, IfOk, bytes_eq};
 ghost use Rattle.std.specs.List.{list_all};
 ghost use Rattle.std.specs.Option.{option_copied};
 ghost use Rattle.slate_script.specs.Text.{is_visible};
@@ -10,11 +10,17 @@ ghost use Rattle.slate_script.specs.Built.{is_name, is_digit, is_numeral, is_mom
 use crate::text::is_visible;
 use bytes::Bytes;
 use hex::FromHexError;
-use slate_types::{SlateDBError, Ttl};
-use std::alloc::Global;
+use slate_types::Ttl;
+use std::alloc::{AllocError, Global};
 
 /// The most bytes of a name.
 const MAX_NAME_LEN: usize = 64;
+
+pub(crate) fn is_word(token: &[u8], word: &[u8]) -> bool
+    ensures { result ≡ bytes_eq token.now word.now }
+{
+    token == word
+}
 
 /// A name: letters and digits.
 pub(crate) fn read_name(token: &[u8]) -> Option<&[u8]>
@@ -36,9 +42,8 @@ fn is_alphanumeric(bytes: &[u8]) -> bool
 }
 
 /// The bytes of a byte token: text behind `'`, or pairs of hex digits behind `0x`.
-pub(crate) fn read_bytes(alloc: Global, token: &[u8]) -> Result<Option<Bytes>, SlateDBError>
+pub(crate) fn read_bytes(alloc: Global, token: &[u8]) -> Result<Option<Bytes>, AllocError>
     ensures bytes { IfOk result (λ o. o ≡ read_bytes token.now) }
-    ensures cause { IsOkUnless result SlateDBError.OutOfMemory }
 {
     match token {
         [b'\'', text @ ..] => read_text(alloc, text),
@@ -47,20 +52,18 @@ pub(crate) fn read_bytes(alloc: Global, token: &[u8]) -> Result<Option<Bytes>, S
     }
 }
 
-fn read_text(alloc: Global, text: &[u8]) -> Result<Option<Bytes>, SlateDBError>
+fn read_text(alloc: Global, text: &[u8]) -> Result<Option<Bytes>, AllocError>
     ensures bytes { IfOk result (λ o. o ≡ only_if (list_all is_visible text.now) text.now) }
-    ensures cause { IsOkUnless result SlateDBError.OutOfMemory }
 {
     if !is_visible(text) {
         return Ok(None);
     }
-    Ok(Some(Bytes::copy_from_slice(alloc, text)?))
+    Bytes::copy_from_slice(alloc, text).map(Some)
 }
 
 /// Digits are lower case.
-fn read_hex(alloc: Global, digits: &[u8]) -> Result<Option<Bytes>, SlateDBError>
+fn read_hex(alloc: Global, digits: &[u8]) -> Result<Option<Bytes>, AllocError>
     ensures bytes { IfOk result (λ o. o ≡ unhex digits.now) }
-    ensures cause { IsOkUnless result SlateDBError.OutOfMemory }
 {
     if !is_hex(digits) {
         return Ok(None);
@@ -68,7 +71,7 @@ fn read_hex(alloc: Global, digits: &[u8]) -> Result<Option<Bytes>, SlateDBError>
     match hex::decode(alloc, digits) {
         Ok(bytes) => Ok(Some(Bytes::from_vec(bytes)?)),
         Err(error) => match error {
-            FromHexError::OutOfMemory => Err(SlateDBError::OutOfMemory),
+            FromHexError::OutOfMemory => Err(AllocError),
             _ => Ok(None),
         },
     }
@@ -140,7 +143,7 @@ pub(crate) fn read_ttl(token: &[u8]) -> Option<Ttl>
 {
     match token {
         b"t-" => Some(Ttl::NoExpiry),
-        [b't', digits @ ..] => Some(Ttl::ExpireAfter(read_number(digits)?)),
+        [b't', digits @ ..] => read_number(digits).map(Ttl::ExpireAfter),
         _ => None,
     }
 }

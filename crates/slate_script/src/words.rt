@@ -1,5 +1,5 @@
 //! The words of a run.
-ghost use Rattle.std.specs.Prelude.{◌≡◌, ◌^◌, IfSome, codes, map, option_map};
+ghost use Rattle.std.specs.Prelude.{◌≡◌, ◌^◌, IfSome, codes, map, option_map, is_some};
 ghost use Rattle.std.specs.List.{list_all};
 ghost use Rattle.std.specs.Option.{option_copied};
 ghost use Rattle.std.specs.String.{string_bytes};
@@ -7,7 +7,7 @@ ghost use Rattle.slate_types.specs.Config.{IsValid};
 ghost use Rattle.slate_script.specs.Parse.{read_number};
 ghost use Rattle.slate_script.specs.Words.{behind, if_valid, is_known, only_value, options, read_below, read_format, read_words, value_of};
 
-use crate::token::read_number;
+use crate::token::{is_word, read_number};
 use slate_types::{BlockFormat, Options};
 
 /// What the words of a run set: its options, and the number by which stored bytes are changed, where there
@@ -79,11 +79,17 @@ fn are_known(words: &[String]) -> bool
 fn is_known(word: &[u8]) -> bool
     ensures { result ≡ is_known word.now }
 {
-    behind(b"block=", word).is_some()
-        || behind(b"format=", word).is_some()
-        || behind(b"ttl=", word).is_some()
-        || behind(b"seq=", word).is_some()
-        || behind(b"xor=", word).is_some()
+    has_name(b"block=", word)
+        || has_name(b"format=", word)
+        || has_name(b"ttl=", word)
+        || has_name(b"seq=", word)
+        || has_name(b"xor=", word)
+}
+
+fn has_name(name: &[u8], word: &[u8]) -> bool
+    ensures { result ≡ is_some (behind name.now word.now) }
+{
+    behind(name, word).is_some()
 }
 
 /// What stands behind the name in a word that begins with it.
@@ -96,8 +102,8 @@ fn behind<'a>(name: &[u8], word: &'a [u8]) -> Option<&'a [u8]>
 fn block_size(words: &[String]) -> Option<Option<u32>>
     ensures { result ≡ value_of (read_below (2 ^ 32)) (codes "block=") (map string_bytes words.now) }
 {
-    match only_value(words, b"block=")? {
-        Some(value) => Some(Some(u32::try_from(read_number(value)?).ok()?)),
+    match number(words, b"block=")? {
+        Some(value) => u32::try_from(value).ok().map(Some),
         None => Some(None),
     }
 }
@@ -105,8 +111,8 @@ fn block_size(words: &[String]) -> Option<Option<u32>>
 fn mask(words: &[String]) -> Option<Option<u8>>
     ensures { result ≡ value_of (read_below (2 ^ 8)) (codes "xor=") (map string_bytes words.now) }
 {
-    match only_value(words, b"xor=")? {
-        Some(value) => Some(Some(u8::try_from(read_number(value)?).ok()?)),
+    match number(words, b"xor=")? {
+        Some(value) => u8::try_from(value).ok().map(Some),
         None => Some(None),
     }
 }
@@ -115,7 +121,7 @@ fn number(words: &[String], name: &[u8]) -> Option<Option<u64>>
     ensures { result ≡ value_of read_number name.now (map string_bytes words.now) }
 {
     match only_value(words, name)? {
-        Some(value) => Some(Some(read_number(value)?)),
+        Some(value) => read_number(value).map(Some),
         None => Some(None),
     }
 }
@@ -124,7 +130,7 @@ fn block_format(words: &[String]) -> Option<Option<BlockFormat>>
     ensures { result ≡ value_of read_format (codes "format=") (map string_bytes words.now) }
 {
     match only_value(words, b"format=")? {
-        Some(value) => Some(Some(read_format(value)?)),
+        Some(value) => read_format(value).map(Some),
         None => Some(None),
     }
 }
@@ -132,11 +138,14 @@ fn block_format(words: &[String]) -> Option<Option<BlockFormat>>
 fn read_format(text: &[u8]) -> Option<BlockFormat>
     ensures { result ≡ read_format text.now }
 {
-    match text {
-        b"v1" => Some(BlockFormat::V1),
-        b"v2" => Some(BlockFormat::V2),
-        b"latest" => Some(BlockFormat::Latest),
-        _ => None,
+    if is_word(text, b"v1") {
+        Some(BlockFormat::V1)
+    } else if is_word(text, b"v2") {
+        Some(BlockFormat::V2)
+    } else if is_word(text, b"latest") {
+        Some(BlockFormat::Latest)
+    } else {
+        None
     }
 }
 

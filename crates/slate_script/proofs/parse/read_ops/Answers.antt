@@ -3,10 +3,11 @@ use Rattle.slate_script.specs.Built.{texts, built_ops}
 use Rattle.slate_script.proofs.OpLaws.{own-within, ops-refused, ops-taken}
 use Rattle.slate_script.proofs.parse.read_ops.Goals as goal
 
-pub returns-in_default-clause-ops : goal.returns-in_default-clause-ops
-returns-in_default-clause-ops c =
-    ops-refused c.args.tokens.now c.loop-at.at c.own_len.result (record { ref_ptr = (0, 0); now = [] }) c.loop-at.ops.items c.in_ok-op.field-0 c.loop-at-test.true c.loop-at.invariant.ops
-    c.own_len.ensures.len c.in_ok-op.ensures.op c.in_default.is
+pub returns-in_default : goal.returns-in_default
+returns-in_default c = record {
+  ops = ops-refused c.args.tokens.now c.loop-at.at c.own_len.result (record { ref_ptr = (0, 0); now = [] }) c.loop-at.ops.items c.in_ok-op.field-0 c.loop-at-test.true c.loop-at.invariant.ops
+      c.own_len.ensures.len c.in_ok-op.ensures.op c.in_default.is;
+}
 
 pub loop-at-preserved : goal.loop-at-preserved
 loop-at-preserved c =

@@ -49,98 +49,98 @@ returns-in-Ok-clause-stored g c s script named is empty zero =
 -- ---- where an error ended the run
 
 pub returns-in-Err-clause-source_still : goal.returns-in-Err-clause-source_still
-returns-in-Err-clause-source_still g c = status-or c.in-Err.error ReadFault c.status_of.result _ c.status_of.ensures refl c.in-Err.ensures.source_still
+returns-in-Err-clause-source_still g c = status-or c.in-Err.error ReadFault c.status_of-status.result _ c.status_of-status.ensures refl c.in-Err.ensures.source_still
 
 pub returns-in-Err-clause-sink_still : goal.returns-in-Err-clause-sink_still
-returns-in-Err-clause-sink_still g c = status-or c.in-Err.error WriteFault c.status_of.result _ c.status_of.ensures refl c.in-Err.ensures.sink_still
+returns-in-Err-clause-sink_still g c = status-or c.in-Err.error WriteFault c.status_of-status.result _ c.status_of-status.ensures refl c.in-Err.ensures.sink_still
 
 pub returns-in-Err-clause-all : goal.returns-in-Err-clause-all
-returns-in-Err-clause-all g c script is four = c.in-Err.ensures.too_long script is (ap Err (is-too_long c.in-Err.error c.in-Err.ensures.kinds (sym c.status_of.ensures ∙ four)))
+returns-in-Err-clause-all g c script is four = c.in-Err.ensures.too_long script is (ap Err (is-too_long c.in-Err.error c.in-Err.ensures.kinds (sym c.status_of-status.ensures ∙ four)))
 
 pub returns-in-Err-clause-statuses : goal.returns-in-Err-clause-statuses
-returns-in-Err-clause-statuses g c = rw c.status_of.ensures (is-status c.in-Err.error c.in-Err.ensures.kinds (λ message h. none-rose-before c.run_script.new.env.operator (c.in-Err.ensures.operator_fault message (ap Err h))) (λ h. none-rose c.transformer_of.result c.run_script.new.env.transformer (c.in-Err.ensures.transform_fault (ap Err h))))
+returns-in-Err-clause-statuses g c = rw c.status_of-status.ensures (is-status c.in-Err.error c.in-Err.ensures.kinds (λ message h. none-rose-before c.run_script.new.env.operator (c.in-Err.ensures.operator_fault message (ap Err h))) (λ h. none-rose c.transformer_of.result c.run_script.new.env.transformer (c.in-Err.ensures.transform_fault (ap Err h))))
 
 pub returns-in-Err-clause-known : goal.returns-in-Err-clause-known
-returns-in-Err-clause-known g c s is two = is-ended c.in-Err.error c.in-Err.ensures.kinds (inr (sym c.status_of.ensures ∙ two))
+returns-in-Err-clause-known g c s is two = is-ended c.in-Err.error c.in-Err.ensures.kinds (inr (sym c.status_of-status.ensures ∙ two))
 
 pub returns-in-Err-clause-unread : goal.returns-in-Err-clause-unread
-returns-in-Err-clause-unread g c two = absurd (is-ended c.in-Err.error c.in-Err.ensures.kinds (inr (sym c.status_of.ensures ∙ two)))
+returns-in-Err-clause-unread g c two = absurd (is-ended c.in-Err.error c.in-Err.ensures.kinds (inr (sym c.status_of-status.ensures ∙ two)))
 
 pub returns-in-Err-clause-unwritten : goal.returns-in-Err-clause-unwritten
-returns-in-Err-clause-unwritten g c two = absurd (is-ended c.in-Err.error c.in-Err.ensures.kinds (inr (sym c.status_of.ensures ∙ two)))
+returns-in-Err-clause-unwritten g c two = absurd (is-ended c.in-Err.error c.in-Err.ensures.kinds (inr (sym c.status_of-status.ensures ∙ two)))
 
 pub returns-in-Err-clause-unstored : goal.returns-in-Err-clause-unstored
-returns-in-Err-clause-unstored g c two = absurd (is-ended c.in-Err.error c.in-Err.ensures.kinds (inr (sym c.status_of.ensures ∙ two)))
+returns-in-Err-clause-unstored g c two = absurd (is-ended c.in-Err.error c.in-Err.ensures.kinds (inr (sym c.status_of-status.ensures ∙ two)))
 
 pub returns-in-Err-clause-answered : goal.returns-in-Err-clause-answered
-returns-in-Err-clause-answered g c s script before named is told empty zero = absurd (is-ended c.in-Err.error c.in-Err.ensures.kinds (inl (sym c.status_of.ensures ∙ zero)))
+returns-in-Err-clause-answered g c s script before named is told empty zero = absurd (is-ended c.in-Err.error c.in-Err.ensures.kinds (inl (sym c.status_of-status.ensures ∙ zero)))
 
 pub returns-in-Err-clause-stored : goal.returns-in-Err-clause-stored
-returns-in-Err-clause-stored g c s script named is empty zero = absurd (is-ended c.in-Err.error c.in-Err.ensures.kinds (inl (sym c.status_of.ensures ∙ zero)))
+returns-in-Err-clause-stored g c s script named is empty zero = absurd (is-ended c.in-Err.error c.in-Err.ensures.kinds (inl (sym c.status_of-status.ensures ∙ zero)))
 
 pub returns-in-Err-clause-read : goal.returns-in-Err-clause-read
-returns-in-Err-clause-read g c script is zero = absurd (is-ended c.in-Err.error c.in-Err.ensures.kinds (inl (sym c.status_of.ensures ∙ zero)))
+returns-in-Err-clause-read g c script is zero = absurd (is-ended c.in-Err.error c.in-Err.ensures.kinds (inl (sym c.status_of-status.ensures ∙ zero)))
 
 pub returns-in-Err-clause-no_error : goal.returns-in-Err-clause-no_error
-returns-in-Err-clause-no_error g c script is zero = absurd (is-ended c.in-Err.error c.in-Err.ensures.kinds (inl (sym c.status_of.ensures ∙ zero)))
+returns-in-Err-clause-no_error g c script is zero = absurd (is-ended c.in-Err.error c.in-Err.ensures.kinds (inl (sym c.status_of-status.ensures ∙ zero)))
 
 pub returns-in-Err-clause-syntax : goal.returns-in-Err-clause-syntax
 returns-in-Err-clause-syntax g c script is three =
-    let which = sym c.status_of.ensures ∙ three in
+    let which = sym c.status_of-status.ensures ∙ three in
     let kind = is-syntax c.in-Err.error c.in-Err.ensures.kinds which in
     (kind.0, its-own (script_error script) c.in-Err.error (c.in-Err.ensures.error script is) (inl which) ∙ ap Some kind.1)
 
 pub returns-in-Err-clause-too_long : goal.returns-in-Err-clause-too_long
 returns-in-Err-clause-too_long g c script is four =
-    let which = sym c.status_of.ensures ∙ four in
+    let which = sym c.status_of-status.ensures ∙ four in
     its-own (script_error script) c.in-Err.error (c.in-Err.ensures.error script is) (inr which) ∙ ap Some (is-too_long c.in-Err.error c.in-Err.ensures.kinds which)
 
 pub returns-in-Err-clause-read_fault : goal.returns-in-Err-clause-read_fault
-returns-in-Err-clause-read_fault g c five = c.in-Err.ensures.read_fault (ap Err (is-read c.in-Err.error c.in-Err.ensures.kinds (sym c.status_of.ensures ∙ five)))
+returns-in-Err-clause-read_fault g c five = c.in-Err.ensures.read_fault (ap Err (is-read c.in-Err.error c.in-Err.ensures.kinds (sym c.status_of-status.ensures ∙ five)))
 
 pub returns-in-Err-clause-write_fault : goal.returns-in-Err-clause-write_fault
-returns-in-Err-clause-write_fault g c six = c.in-Err.ensures.write_fault (ap Err (is-write c.in-Err.error c.in-Err.ensures.kinds (sym c.status_of.ensures ∙ six)))
+returns-in-Err-clause-write_fault g c six = c.in-Err.ensures.write_fault (ap Err (is-write c.in-Err.error c.in-Err.ensures.kinds (sym c.status_of-status.ensures ∙ six)))
 
 pub returns-in-Err-clause-complete : goal.returns-in-Err-clause-complete
 returns-in-Err-clause-complete g c s script named is formed empty no-read no-write no-store =
-    inr (c.status_of.ensures ∙ ap status (c.in-Err.ensures.complete script is formed (premises {M = ℕ} (λ _ k e v. v) _ _ empty) no-read no-write (λ h. no-store (subst (λ t. Rose (g.S.Store.faults c.args.store.now) (g.S.Store.faults t)) (sym (c.store-1.given.1 (sym c.in-Err.ensures.same_store))) h)) (none-rose-before c.run_script.new.env.operator) (none-rose c.transformer_of.result c.run_script.new.env.transformer)))
+    inr (c.status_of-status.ensures ∙ ap status (c.in-Err.ensures.complete script is formed (premises {M = ℕ} (λ _ k e v. v) _ _ empty) no-read no-write (λ h. no-store (subst (λ t. Rose (g.S.Store.faults c.args.store.now) (g.S.Store.faults t)) (sym (c.store-1.given.1 (sym c.in-Err.ensures.same_store))) h)) (none-rose-before c.run_script.new.env.operator) (none-rose c.transformer_of.result c.run_script.new.env.transformer)))
 
 pub returns-in-Err-clause-undamaged : goal.returns-in-Err-clause-undamaged
 returns-in-Err-clause-undamaged g c s named empty which =
-    let within = subst (λ (n : ℕ). (12 ≤ n) × (n ≤ 19)) c.status_of.ensures (damage-between c.status_of.result which) in
+    let within = subst (λ (n : ℕ). (12 ≤ n) × (n ≤ 19)) c.status_of-status.ensures (damage-between c.status_of-status.result which) in
     c.in-Err.ensures.undamaged (premises {M = ℕ} (λ _ k e v. v) _ _ empty) (is-damage c.in-Err.error c.in-Err.ensures.kinds within.0 within.1)
 
 pub returns-in-Err-clause-untrue : goal.returns-in-Err-clause-untrue
 returns-in-Err-clause-untrue g c which =
-    let within = subst (λ (n : ℕ). (12 ≤ n) × (n ≤ 19)) c.status_of.ensures (damage-between c.status_of.result which) in
+    let within = subst (λ (n : ℕ). (12 ≤ n) × (n ≤ 19)) c.status_of-status.ensures (damage-between c.status_of-status.result which) in
     subst (λ t. IsUntrue [] (g.S.Store.acts c.args.store.now) (g.S.Store.acts t)) (sym (c.store-1.given.1 (sym c.in-Err.ensures.same_store)))
     (c.in-Err.ensures.untrue (lawful {M = ℕ} (λ _ k e v. v) _) (is-damage c.in-Err.error c.in-Err.ensures.kinds within.0 within.1))
 
 pub returns-in-Err-clause-store_fault : goal.returns-in-Err-clause-store_fault
 returns-in-Err-clause-store_fault g c seven =
-    let rose = c.in-Err.ensures.store_fault (ap Err (is-store c.in-Err.error c.in-Err.ensures.kinds (sym c.status_of.ensures ∙ seven))) in
+    let rose = c.in-Err.ensures.store_fault (ap Err (is-store c.in-Err.error c.in-Err.ensures.kinds (sym c.status_of-status.ensures ∙ seven))) in
     subst (λ t. Rose (g.S.Store.faults c.args.store.now) (g.S.Store.faults t)) (sym (c.store-1.given.1 (sym c.in-Err.ensures.same_store))) rose
 
 pub returns-in-Err-clause-by_script : goal.returns-in-Err-clause-by_script
 returns-in-Err-clause-by_script g c s script before named is told empty which =
     let same : c.in-Some.settings ≡ s = same-settings c.parse_words.result c.in-Some.settings s c.in-Some.is (c.parse_words.ensures.settings ∙ named) in
     subst (λ (t : Settings). g.W.Sink.content c.run_script.new.sink ≡ Some (before ++ replies_to meaning (main_rules t.options) (lines_taken script))) same
-    (c.in-Err.ensures.by_script script before is told (premises {M = ℕ} (λ _ k e v. v) _ _ empty) (its-own (script_error script) c.in-Err.error (c.in-Err.ensures.error script is) (status-or-either c.status_of.ensures which)))
+    (c.in-Err.ensures.by_script script before is told (premises {M = ℕ} (λ _ k e v. v) _ _ empty) (its-own (script_error script) c.in-Err.error (c.in-Err.ensures.error script is) (status-or-either c.status_of-status.ensures which)))
 
 pub returns-in-Err-clause-by_source : goal.returns-in-Err-clause-by_source
 returns-in-Err-clause-by_source g c s script before named is told empty five =
     let same : c.in-Some.settings ≡ s = same-settings c.parse_words.result c.in-Some.settings s c.in-Some.is (c.parse_words.ensures.settings ∙ named) in
     subst (λ (t : Settings). (left : List ℕ) × (said : List ℕ) × (g.R.Source.left c.run_script.new.source ≡ Some left) × (g.W.Sink.content c.run_script.new.sink ≡ Some (before ++ said)) × HasAnsweredAll (main_rules t.options) script left said) same
-    (c.in-Err.ensures.by_source script before is told (premises {M = ℕ} (λ _ k e v. v) _ _ empty) (ap Err (is-read c.in-Err.error c.in-Err.ensures.kinds (sym c.status_of.ensures ∙ five))))
+    (c.in-Err.ensures.by_source script before is told (premises {M = ℕ} (λ _ k e v. v) _ _ empty) (ap Err (is-read c.in-Err.error c.in-Err.ensures.kinds (sym c.status_of-status.ensures ∙ five))))
 
 pub returns-in-Err-clause-by_sink : goal.returns-in-Err-clause-by_sink
 returns-in-Err-clause-by_sink g c s script before named is told empty six =
     let same : c.in-Some.settings ≡ s = same-settings c.parse_words.result c.in-Some.settings s c.in-Some.is (c.parse_words.ensures.settings ∙ named) in
     subst (λ (t : Settings). (said : List ℕ) × (g.W.Sink.content c.run_script.new.sink ≡ Some (before ++ said)) × HasBegun (main_rules t.options) script said) same
-    (c.in-Err.ensures.by_sink script before is told (premises {M = ℕ} (λ _ k e v. v) _ _ empty) (ap Err (is-write c.in-Err.error c.in-Err.ensures.kinds (sym c.status_of.ensures ∙ six))))
+    (c.in-Err.ensures.by_sink script before is told (premises {M = ℕ} (λ _ k e v. v) _ _ empty) (ap Err (is-write c.in-Err.error c.in-Err.ensures.kinds (sym c.status_of-status.ensures ∙ six))))
 
 pub returns-in-Err-clause-by_part : goal.returns-in-Err-clause-by_part
 returns-in-Err-clause-by_part g c s script before named is told empty which =
     let same : c.in-Some.settings ≡ s = same-settings c.parse_words.result c.in-Some.settings s c.in-Some.is (c.parse_words.ensures.settings ∙ named) in
     subst (λ (t : Settings). (said : List ℕ) × (g.W.Sink.content c.run_script.new.sink ≡ Some (before ++ said)) × HasAnswered (main_rules t.options) script said) same
-    (c.in-Err.ensures.by_part script before is told (premises {M = ℕ} (λ _ k e v. v) _ _ empty) (is-part c.in-Err.error c.in-Err.ensures.kinds (status-or-either c.status_of.ensures which)))
+    (c.in-Err.ensures.by_part script before is told (premises {M = ℕ} (λ _ k e v. v) _ _ empty) (is-part c.in-Err.error c.in-Err.ensures.kinds (status-or-either c.status_of-status.ensures which)))

@@ -149,109 +149,96 @@ returns-in_err-line-clause-taken g c script is =
 -- ---- at a line that isn't answered
 
 -- no limit ended the line
-its-cause : (g : given.Over) (c : goal.After-drop-lines-inside-in_err-answer_line-2 g) → LineError (c.loop-session.number + 1) c.as_slice.result.now c.in_err-answer_line.field-0.0
+its-cause : (g : given.Over) (c : goal.After-drop-lines-inside-in-Err-2 g) → LineError (c.loop-session.number + 1) c.as_slice.result.now c.in-Err.error
 its-cause g c =
-    line-cause c.loop-session.session c.loop-session.number c.loop-session.lines.given c.in_err-answer_line.field-0.0 c.loop-session.invariant.weighs c.loop-session.invariant.loads c.loop-session.invariant.counted c.loop-session.invariant.within
-    c.in_err-answer_line.ensures.cause
+    line-cause c.loop-session.session c.loop-session.number c.loop-session.lines.given c.in-Err.error c.loop-session.invariant.weighs c.loop-session.invariant.loads c.loop-session.invariant.counted c.loop-session.invariant.within
+    c.in-Err.ensures.cause
 
-pub returns-in_err-answer_line-clause-source_still : goal.returns-in_err-answer_line-clause-source_still
-returns-in_err-answer_line-clause-source_still g c = inr (unless-error c.in_ok-line.field-0 ReadFault c.in_ok-line.ensures.still ∙ c.loop-session.invariant.source_still)
+pub returns-in-Err-clause-source_still : goal.returns-in-Err-clause-source_still
+returns-in-Err-clause-source_still g c = inr (unless-error c.in_ok-line.field-0 ReadFault c.in_ok-line.ensures.still ∙ c.loop-session.invariant.source_still)
 
-pub returns-in_err-answer_line-clause-sink_still : goal.returns-in_err-answer_line-clause-sink_still
-returns-in_err-answer_line-clause-sink_still g c =
-    let p = err_from_is_err_and c.from_residual-in_err-answer_line.result c.from_residual-in_err-answer_line.ensures.1 in
-    error-is-or c.in_err-answer_line.field-0.0 WriteFault c.from_residual-in_err-answer_line.result (p.1 ∙ ap Err p.2) c.in_err-answer_line.ensures.uncounted (λ h. h ∙ c.loop-session.invariant.sink_still)
+pub returns-in-Err-clause-sink_still : goal.returns-in-Err-clause-sink_still
+returns-in-Err-clause-sink_still g c =
+    error-is-or c.in-Err.error WriteFault (Err c.in-Err.error) refl c.in-Err.ensures.uncounted (λ h. h ∙ c.loop-session.invariant.sink_still)
 
-pub returns-in_err-answer_line-clause-too_long : goal.returns-in_err-answer_line-clause-too_long
-returns-in_err-answer_line-clause-too_long g c script is long =
-    let p = err_from_is_err_and c.from_residual-in_err-answer_line.result c.from_residual-in_err-answer_line.ensures.1 in
-    let kind : c.in_err-answer_line.field-0.0 ≡ ScriptTooLong = same-error c.in_err-answer_line.field-0.0 ScriptTooLong c.from_residual-in_err-answer_line.result (p.1 ∙ ap Err p.2) long in
-    absurd (line-not-long (c.loop-session.number + 1) c.as_slice.result.now c.in_err-answer_line.field-0.0 (its-cause g c) kind)
+pub returns-in-Err-clause-too_long : goal.returns-in-Err-clause-too_long
+returns-in-Err-clause-too_long g c script is long =
+    let kind : c.in-Err.error ≡ ScriptTooLong = same-error c.in-Err.error ScriptTooLong (Err c.in-Err.error) refl long in
+    absurd (line-not-long (c.loop-session.number + 1) c.as_slice.result.now c.in-Err.error (its-cause g c) kind)
 
-pub returns-in_err-answer_line-clause-error : goal.returns-in_err-answer_line-clause-error
-returns-in_err-answer_line-clause-error g c script is =
-    let p = err_from_is_err_and c.from_residual-in_err-answer_line.result c.from_residual-in_err-answer_line.ensures.1 in
+pub returns-in-Err-clause-error : goal.returns-in-Err-clause-error
+returns-in-Err-clause-error g c script is =
     let took = took-told (λ v. v.items) c.in_ok-line.field-0 c.in-Some.line c.as_slice.result.now (g.R.Source.left c.next.new.source) c.next.new.self c.in_ok-line.ensures.told c.in_ok-line.ensures.within c.in-Some.is c.as_slice.ensures.value (c.loop-session.invariant.told script is) in
-    rw (p.1, p.2) (line-error c.in_err-answer_line.field-0.0 took (its-cause g c))
+    (line-error c.in-Err.error took (its-cause g c))
 
-pub returns-in_err-answer_line-clause-complete : goal.returns-in_err-answer_line-clause-complete
-returns-in_err-answer_line-clause-complete g c script is formed premises no-read no-write no-store no-operator no-transformer =
-    let p = err_from_is_err_and c.from_residual-in_err-answer_line.result c.from_residual-in_err-answer_line.ensures.1 in
+pub returns-in-Err-clause-complete : goal.returns-in-Err-clause-complete
+returns-in-Err-clause-complete g c script is formed premises no-read no-write no-store no-operator no-transformer =
     let took = took-told (λ v. v.items) c.in_ok-line.field-0 c.in-Some.line c.as_slice.result.now (g.R.Source.left c.next.new.source) c.next.new.self c.in_ok-line.ensures.told c.in_ok-line.ensures.within c.in-Some.is c.as_slice.ensures.value (c.loop-session.invariant.told script is) in
-    let by = line-error c.in_err-answer_line.field-0.0 took (its-cause g c) in
-    rw (p.1, p.2) (only-memory c.in_err-answer_line.field-0.0 (line-complete script c.as_slice.result.now (c.loop-session.number + 1) c.in_err-answer_line.field-0.0 by (its-cause g c) formed (λ h. no-write (rose-from _ _ _ c.loop-session.invariant.sink_later (c.in_err-answer_line.ensures.write_fault (ap Err h)).0)))
-    (λ part. no-part (counts_of (g.S.Store.faults c.loop-session.env.store.now) g.M.MergeOperator.faults g.T.BlockTransformer.faults c.loop-session.env.operator c.loop-session.env.transformer) (counts_of (g.S.Store.faults c.answer_line.new.env.store.now) g.M.MergeOperator.faults g.T.BlockTransformer.faults c.answer_line.new.env.operator c.answer_line.new.env.transformer) c.in_err-answer_line.field-0.0 (λ h. no-store (rose-from _ _ _ c.loop-session.invariant.parts_later.store h)) (λ h. no-operator (rose-from _ _ _ c.loop-session.invariant.parts_later.operator h)) (λ h. no-transformer (rose-from _ _ _ c.loop-session.invariant.parts_later.transformer h))
-    (c.in_err-answer_line.ensures.undamaged (meaning_of g.M.MergeOperator.combine g.T.BlockTransformer.encoded g.T.BlockTransformer.decoded c.args.env.now.operator c.args.env.now.transformer) (run_rules c.args.options.now (meaning_of g.M.MergeOperator.combine g.T.BlockTransformer.encoded g.T.BlockTransformer.decoded c.args.env.now.operator c.args.env.now.transformer)) (c.loop-session.invariant.running premises)) part (c.in_err-answer_line.ensures.part part)))
+    let by = line-error c.in-Err.error took (its-cause g c) in
+    (only-memory c.in-Err.error (line-complete script c.as_slice.result.now (c.loop-session.number + 1) c.in-Err.error by (its-cause g c) formed (λ h. no-write (rose-from _ _ _ c.loop-session.invariant.sink_later (c.in-Err.ensures.write_fault (ap Err h)).0)))
+    (λ part. no-part (counts_of (g.S.Store.faults c.loop-session.env.store.now) g.M.MergeOperator.faults g.T.BlockTransformer.faults c.loop-session.env.operator c.loop-session.env.transformer) (counts_of (g.S.Store.faults c.answer_line.new.env.store.now) g.M.MergeOperator.faults g.T.BlockTransformer.faults c.answer_line.new.env.operator c.answer_line.new.env.transformer) c.in-Err.error (λ h. no-store (rose-from _ _ _ c.loop-session.invariant.parts_later.store h)) (λ h. no-operator (rose-from _ _ _ c.loop-session.invariant.parts_later.operator h)) (λ h. no-transformer (rose-from _ _ _ c.loop-session.invariant.parts_later.transformer h))
+    (c.in-Err.ensures.undamaged (meaning_of g.M.MergeOperator.combine g.T.BlockTransformer.encoded g.T.BlockTransformer.decoded c.args.env.now.operator c.args.env.now.transformer) (run_rules c.args.options.now (meaning_of g.M.MergeOperator.combine g.T.BlockTransformer.encoded g.T.BlockTransformer.decoded c.args.env.now.operator c.args.env.now.transformer)) (c.loop-session.invariant.running premises)) part (c.in-Err.ensures.part part)))
 
-pub returns-in_err-answer_line-clause-by_script : goal.returns-in_err-answer_line-clause-by_script
-returns-in_err-answer_line-clause-by_script g c script before is told-is premises =
-    let p = err_from_is_err_and c.from_residual-in_err-answer_line.result c.from_residual-in_err-answer_line.ensures.1 in
+pub returns-in-Err-clause-by_script : goal.returns-in-Err-clause-by_script
+returns-in-Err-clause-by_script g c script before is told-is premises =
     let took = took-told (λ v. v.items) c.in_ok-line.field-0 c.in-Some.line c.as_slice.result.now (g.R.Source.left c.next.new.source) c.next.new.self c.in_ok-line.ensures.told c.in_ok-line.ensures.within c.in-Some.is c.as_slice.ensures.value (c.loop-session.invariant.told script is) in
-    rw (p.1, p.2) (λ by. line-script (g.W.Sink.content c.answer_line.new.sink) before c.in_err-answer_line.field-0.0 took (its-cause g c) c.in_err-answer_line.ensures.unanswered premises told-is by)
+    (λ by. line-script (g.W.Sink.content c.answer_line.new.sink) before c.in-Err.error took (its-cause g c) c.in-Err.ensures.unanswered premises told-is by)
 
-pub returns-in_err-answer_line-clause-by_sink : goal.returns-in_err-answer_line-clause-by_sink
-returns-in_err-answer_line-clause-by_sink g c script before is told-is premises fault =
-    let p = err_from_is_err_and c.from_residual-in_err-answer_line.result c.from_residual-in_err-answer_line.ensures.1 in
-    let kind : c.in_err-answer_line.field-0.0 ≡ WriteFault = same-error c.in_err-answer_line.field-0.0 WriteFault c.from_residual-in_err-answer_line.result (p.1 ∙ ap Err p.2) fault in
+pub returns-in-Err-clause-by_sink : goal.returns-in-Err-clause-by_sink
+returns-in-Err-clause-by_sink g c script before is told-is premises fault =
+    let kind : c.in-Err.error ≡ WriteFault = same-error c.in-Err.error WriteFault (Err c.in-Err.error) refl fault in
     let took = took-told (λ v. v.items) c.in_ok-line.field-0 c.in-Some.line c.as_slice.result.now (g.R.Source.left c.next.new.source) c.next.new.self c.in_ok-line.ensures.told c.in_ok-line.ensures.within c.in-Some.is c.as_slice.ensures.value (c.loop-session.invariant.told script is) in
     let done = replies_to meaning (run_rules c.args.options.now (meaning_of g.M.MergeOperator.combine g.T.BlockTransformer.encoded g.T.BlockTransformer.decoded c.args.env.now.operator c.args.env.now.transformer)) (lines_of took.done) in
     let state = after_lines meaning (run_rules c.args.options.now (meaning_of g.M.MergeOperator.combine g.T.BlockTransformer.encoded g.T.BlockTransformer.decoded c.args.env.now.operator c.args.env.now.transformer)) opening (lines_of took.done) in
     let reply = replies_from meaning (run_rules c.args.options.now (meaning_of g.M.MergeOperator.combine g.T.BlockTransformer.encoded g.T.BlockTransformer.decoded c.args.env.now.operator c.args.env.now.transformer)) state (c.as_slice.result.now ∷ []) in
     let begun : (n : ℕ) × (n < length reply) × (g.W.Sink.content c.answer_line.new.sink ≡ Some ((before ++ done) ++ take n reply)) =
-    c.in_err-answer_line.ensures.begun (meaning_of g.M.MergeOperator.combine g.T.BlockTransformer.encoded g.T.BlockTransformer.decoded c.args.env.now.operator c.args.env.now.transformer) (run_rules c.args.options.now (meaning_of g.M.MergeOperator.combine g.T.BlockTransformer.encoded g.T.BlockTransformer.decoded c.args.env.now.operator c.args.env.now.transformer)) (c.loop-session.invariant.running premises) state (before ++ done) (took.session premises) (took.said premises before told-is) (ap Err kind) in
-    (done ++ take begun.0 reply, begun.2 ∙ ap Some (append_assoc before done (take begun.0 reply)), line-sink begun.0 took (c.in_err-answer_line.ensures.write_fault (ap Err kind)).1 begun.1)
+    c.in-Err.ensures.begun (meaning_of g.M.MergeOperator.combine g.T.BlockTransformer.encoded g.T.BlockTransformer.decoded c.args.env.now.operator c.args.env.now.transformer) (run_rules c.args.options.now (meaning_of g.M.MergeOperator.combine g.T.BlockTransformer.encoded g.T.BlockTransformer.decoded c.args.env.now.operator c.args.env.now.transformer)) (c.loop-session.invariant.running premises) state (before ++ done) (took.session premises) (took.said premises before told-is) (ap Err kind) in
+    (done ++ take begun.0 reply, begun.2 ∙ ap Some (append_assoc before done (take begun.0 reply)), line-sink begun.0 took (c.in-Err.ensures.write_fault (ap Err kind)).1 begun.1)
 
-pub returns-in_err-answer_line-clause-by_part : goal.returns-in_err-answer_line-clause-by_part
-returns-in_err-answer_line-clause-by_part g c script before is told-is premises =
-    let p = err_from_is_err_and c.from_residual-in_err-answer_line.result c.from_residual-in_err-answer_line.ensures.1 in
+pub returns-in-Err-clause-by_part : goal.returns-in-Err-clause-by_part
+returns-in-Err-clause-by_part g c script before is told-is premises =
     let took = took-told (λ v. v.items) c.in_ok-line.field-0 c.in-Some.line c.as_slice.result.now (g.R.Source.left c.next.new.source) c.next.new.self c.in_ok-line.ensures.told c.in_ok-line.ensures.within c.in-Some.is c.as_slice.ensures.value (c.loop-session.invariant.told script is) in
-    rw (p.1, p.2) (λ which. (
+    (λ which. (
       replies_to meaning (run_rules c.args.options.now (meaning_of g.M.MergeOperator.combine g.T.BlockTransformer.encoded g.T.BlockTransformer.decoded c.args.env.now.operator c.args.env.now.transformer)) (lines_of took.done),
-      untouched c.in_err-answer_line.field-0.0 (g.W.Sink.content c.loop-session.sink) (g.W.Sink.content c.answer_line.new.sink) c.in_err-answer_line.ensures.unanswered which ∙ took.said premises before told-is,
+      untouched c.in-Err.error (g.W.Sink.content c.loop-session.sink) (g.W.Sink.content c.answer_line.new.sink) c.in-Err.ensures.unanswered which ∙ took.said premises before told-is,
       line-memory took,
     ))
 
-pub returns-in_err-answer_line-clause-undamaged : goal.returns-in_err-answer_line-clause-undamaged
-returns-in_err-answer_line-clause-undamaged g c premises =
-    let p = err_from_is_err_and c.from_residual-in_err-answer_line.result c.from_residual-in_err-answer_line.ensures.1 in
-    rw (p.1, p.2) (c.in_err-answer_line.ensures.undamaged (meaning_of g.M.MergeOperator.combine g.T.BlockTransformer.encoded g.T.BlockTransformer.decoded c.args.env.now.operator c.args.env.now.transformer) (run_rules c.args.options.now (meaning_of g.M.MergeOperator.combine g.T.BlockTransformer.encoded g.T.BlockTransformer.decoded c.args.env.now.operator c.args.env.now.transformer)) (c.loop-session.invariant.running premises))
+pub returns-in-Err-clause-undamaged : goal.returns-in-Err-clause-undamaged
+returns-in-Err-clause-undamaged g c premises =
+    (c.in-Err.ensures.undamaged (meaning_of g.M.MergeOperator.combine g.T.BlockTransformer.encoded g.T.BlockTransformer.decoded c.args.env.now.operator c.args.env.now.transformer) (run_rules c.args.options.now (meaning_of g.M.MergeOperator.combine g.T.BlockTransformer.encoded g.T.BlockTransformer.decoded c.args.env.now.operator c.args.env.now.transformer)) (c.loop-session.invariant.running premises))
 
-pub returns-in_err-answer_line-clause-store_fault : goal.returns-in_err-answer_line-clause-store_fault
-returns-in_err-answer_line-clause-store_fault g c fault =
-    let p = err_from_is_err_and c.from_residual-in_err-answer_line.result c.from_residual-in_err-answer_line.ensures.1 in
-    let kind : c.in_err-answer_line.field-0.0 ≡ StoreFault = same-error c.in_err-answer_line.field-0.0 StoreFault c.from_residual-in_err-answer_line.result (p.1 ∙ ap Err p.2) fault in
-    rose-from _ _ _ c.loop-session.invariant.parts_later.store (store-rose (counts_of (g.S.Store.faults c.loop-session.env.store.now) g.M.MergeOperator.faults g.T.BlockTransformer.faults c.loop-session.env.operator c.loop-session.env.transformer) (counts_of (g.S.Store.faults c.answer_line.new.env.store.now) g.M.MergeOperator.faults g.T.BlockTransformer.faults c.answer_line.new.env.operator c.answer_line.new.env.transformer) c.in_err-answer_line.field-0.0 kind (c.in_err-answer_line.ensures.part (subst IsPartError (sym kind) tt)))
+pub returns-in-Err-clause-store_fault : goal.returns-in-Err-clause-store_fault
+returns-in-Err-clause-store_fault g c fault =
+    let kind : c.in-Err.error ≡ StoreFault = same-error c.in-Err.error StoreFault (Err c.in-Err.error) refl fault in
+    rose-from _ _ _ c.loop-session.invariant.parts_later.store (store-rose (counts_of (g.S.Store.faults c.loop-session.env.store.now) g.M.MergeOperator.faults g.T.BlockTransformer.faults c.loop-session.env.operator c.loop-session.env.transformer) (counts_of (g.S.Store.faults c.answer_line.new.env.store.now) g.M.MergeOperator.faults g.T.BlockTransformer.faults c.answer_line.new.env.operator c.answer_line.new.env.transformer) c.in-Err.error kind (c.in-Err.ensures.part (subst IsPartError (sym kind) tt)))
 
-pub returns-in_err-answer_line-clause-operator_fault : goal.returns-in_err-answer_line-clause-operator_fault
-returns-in_err-answer_line-clause-operator_fault g c message fault =
-    let p = err_from_is_err_and c.from_residual-in_err-answer_line.result c.from_residual-in_err-answer_line.ensures.1 in
-    let kind : c.in_err-answer_line.field-0.0 ≡ (Callback message) = same-error c.in_err-answer_line.field-0.0 (Callback message) c.from_residual-in_err-answer_line.result (p.1 ∙ ap Err p.2) fault in
-    rose-from _ _ _ c.loop-session.invariant.parts_later.operator (operator-rose (counts_of (g.S.Store.faults c.loop-session.env.store.now) g.M.MergeOperator.faults g.T.BlockTransformer.faults c.loop-session.env.operator c.loop-session.env.transformer) (counts_of (g.S.Store.faults c.answer_line.new.env.store.now) g.M.MergeOperator.faults g.T.BlockTransformer.faults c.answer_line.new.env.operator c.answer_line.new.env.transformer) c.in_err-answer_line.field-0.0 message kind (c.in_err-answer_line.ensures.part (subst IsPartError (sym kind) tt)))
+pub returns-in-Err-clause-operator_fault : goal.returns-in-Err-clause-operator_fault
+returns-in-Err-clause-operator_fault g c message fault =
+    let kind : c.in-Err.error ≡ (Callback message) = same-error c.in-Err.error (Callback message) (Err c.in-Err.error) refl fault in
+    rose-from _ _ _ c.loop-session.invariant.parts_later.operator (operator-rose (counts_of (g.S.Store.faults c.loop-session.env.store.now) g.M.MergeOperator.faults g.T.BlockTransformer.faults c.loop-session.env.operator c.loop-session.env.transformer) (counts_of (g.S.Store.faults c.answer_line.new.env.store.now) g.M.MergeOperator.faults g.T.BlockTransformer.faults c.answer_line.new.env.operator c.answer_line.new.env.transformer) c.in-Err.error message kind (c.in-Err.ensures.part (subst IsPartError (sym kind) tt)))
 
-pub returns-in_err-answer_line-clause-transform_fault : goal.returns-in_err-answer_line-clause-transform_fault
-returns-in_err-answer_line-clause-transform_fault g c fault =
-    let p = err_from_is_err_and c.from_residual-in_err-answer_line.result c.from_residual-in_err-answer_line.ensures.1 in
-    let kind : c.in_err-answer_line.field-0.0 ≡ BlockTransformError = same-error c.in_err-answer_line.field-0.0 BlockTransformError c.from_residual-in_err-answer_line.result (p.1 ∙ ap Err p.2) fault in
-    rose-from _ _ _ c.loop-session.invariant.parts_later.transformer (transformer-rose (counts_of (g.S.Store.faults c.loop-session.env.store.now) g.M.MergeOperator.faults g.T.BlockTransformer.faults c.loop-session.env.operator c.loop-session.env.transformer) (counts_of (g.S.Store.faults c.answer_line.new.env.store.now) g.M.MergeOperator.faults g.T.BlockTransformer.faults c.answer_line.new.env.operator c.answer_line.new.env.transformer) c.in_err-answer_line.field-0.0 kind (c.in_err-answer_line.ensures.part (subst IsPartError (sym kind) tt)))
+pub returns-in-Err-clause-transform_fault : goal.returns-in-Err-clause-transform_fault
+returns-in-Err-clause-transform_fault g c fault =
+    let kind : c.in-Err.error ≡ BlockTransformError = same-error c.in-Err.error BlockTransformError (Err c.in-Err.error) refl fault in
+    rose-from _ _ _ c.loop-session.invariant.parts_later.transformer (transformer-rose (counts_of (g.S.Store.faults c.loop-session.env.store.now) g.M.MergeOperator.faults g.T.BlockTransformer.faults c.loop-session.env.operator c.loop-session.env.transformer) (counts_of (g.S.Store.faults c.answer_line.new.env.store.now) g.M.MergeOperator.faults g.T.BlockTransformer.faults c.answer_line.new.env.operator c.answer_line.new.env.transformer) c.in-Err.error kind (c.in-Err.ensures.part (subst IsPartError (sym kind) tt)))
 
-pub returns-in_err-answer_line-clause-parts_later : goal.returns-in_err-answer_line-clause-parts_later
-returns-in_err-answer_line-clause-parts_later g c = later-on c.loop-session.invariant.parts_later c.answer_line.ensures.parts_later
+pub returns-in-Err-clause-parts_later : goal.returns-in-Err-clause-parts_later
+returns-in-Err-clause-parts_later g c = later-on c.loop-session.invariant.parts_later c.answer_line.ensures.parts_later
 
-pub returns-in_err-answer_line-clause-kinds : goal.returns-in_err-answer_line-clause-kinds
-returns-in_err-answer_line-clause-kinds g c =
-    let p = err_from_is_err_and c.from_residual-in_err-answer_line.result c.from_residual-in_err-answer_line.ensures.1 in
-    rw (p.1, p.2) (line-kinds (c.loop-session.number + 1) c.as_slice.result.now c.in_err-answer_line.field-0.0 (its-cause g c))
+pub returns-in-Err-clause-kinds : goal.returns-in-Err-clause-kinds
+returns-in-Err-clause-kinds g c =
+    (line-kinds (c.loop-session.number + 1) c.as_slice.result.now c.in-Err.error (its-cause g c))
 
-pub returns-in_err-answer_line-clause-taken : goal.returns-in_err-answer_line-clause-taken
-returns-in_err-answer_line-clause-taken g c script is =
+pub returns-in-Err-clause-taken : goal.returns-in-Err-clause-taken
+returns-in-Err-clause-taken g c script is =
     let took = took-told (λ v. v.items) c.in_ok-line.field-0 c.in-Some.line c.as_slice.result.now (g.R.Source.left c.next.new.source) c.next.new.self c.in_ok-line.ensures.told c.in_ok-line.ensures.within c.in-Some.is c.as_slice.ensures.value (c.loop-session.invariant.told script is) in
     line-read took c.in_ok-line.ensures.within
 
-pub returns-in_err-answer_line-clause-untrue : goal.returns-in_err-answer_line-clause-untrue
-returns-in_err-answer_line-clause-untrue g c lawful =
-    let p = err_from_is_err_and c.from_residual-in_err-answer_line.result c.from_residual-in_err-answer_line.ensures.1 in
-    rw (p.1, p.2) (λ damage. untrue-on (meaning_of g.M.MergeOperator.combine g.T.BlockTransformer.encoded g.T.BlockTransformer.decoded c.args.env.now.operator c.args.env.now.transformer) c.loop-session.session (g.S.Store.acts c.args.env.now.store.now) (g.S.Store.acts c.loop-session.env.store.now) (g.S.Store.acts c.answer_line.new.env.store.now) (c.loop-session.invariant.followed lawful)
-    (subst (λ (m : Meaning). (os : Objects) → IsSettled m (Some os) c.loop-session.session → IsUntrue os (g.S.Store.acts c.loop-session.env.store.now) (g.S.Store.acts c.answer_line.new.env.store.now)) c.loop-session.invariant.meaning (λ os settled. c.in_err-answer_line.ensures.untrue os settled damage)))
+pub returns-in-Err-clause-untrue : goal.returns-in-Err-clause-untrue
+returns-in-Err-clause-untrue g c lawful =
+    (λ damage. untrue-on (meaning_of g.M.MergeOperator.combine g.T.BlockTransformer.encoded g.T.BlockTransformer.decoded c.args.env.now.operator c.args.env.now.transformer) c.loop-session.session (g.S.Store.acts c.args.env.now.store.now) (g.S.Store.acts c.loop-session.env.store.now) (g.S.Store.acts c.answer_line.new.env.store.now) (c.loop-session.invariant.followed lawful)
+    (subst (λ (m : Meaning). (os : Objects) → IsSettled m (Some os) c.loop-session.session → IsUntrue os (g.S.Store.acts c.loop-session.env.store.now) (g.S.Store.acts c.answer_line.new.env.store.now)) c.loop-session.invariant.meaning (λ os settled. c.in-Err.ensures.untrue os settled damage)))
 
 -- ---- the next turn
 
@@ -261,27 +248,27 @@ loop-session-preserved g c = record {
       answer-it (Premises (meaning_of g.M.MergeOperator.combine g.T.BlockTransformer.encoded g.T.BlockTransformer.decoded c.args.env.now.operator c.args.env.now.transformer) (g.S.Store.objects c.args.env.now.store.now)) (run_rules c.args.options.now (meaning_of g.M.MergeOperator.combine g.T.BlockTransformer.encoded g.T.BlockTransformer.decoded c.args.env.now.operator c.args.env.now.transformer)) script c.as_slice.result.now (g.R.Source.left c.next.new.source) (g.W.Sink.content c.args.sink.now) (g.W.Sink.content c.loop-session.sink) (g.W.Sink.content c.answer_line.new.sink)
       c.next.new.self (c.loop-session.number + 1) c.loop-session.session c.answer_line.new.session
       (took-told (λ v. v.items) c.in_ok-line.field-0 c.in-Some.line c.as_slice.result.now (g.R.Source.left c.next.new.source) c.next.new.self c.in_ok-line.ensures.told c.in_ok-line.ensures.within c.in-Some.is c.as_slice.ensures.value (c.loop-session.invariant.told script is))
-      c.in_ok-answer_line.ensures.meant
-      (λ premises. c.in_ok-answer_line.ensures.stands (meaning_of g.M.MergeOperator.combine g.T.BlockTransformer.encoded g.T.BlockTransformer.decoded c.args.env.now.operator c.args.env.now.transformer) (run_rules c.args.options.now (meaning_of g.M.MergeOperator.combine g.T.BlockTransformer.encoded g.T.BlockTransformer.decoded c.args.env.now.operator c.args.env.now.transformer)) (c.loop-session.invariant.running premises))
-      (λ premises. c.in_ok-answer_line.ensures.answered (meaning_of g.M.MergeOperator.combine g.T.BlockTransformer.encoded g.T.BlockTransformer.decoded c.args.env.now.operator c.args.env.now.transformer) (run_rules c.args.options.now (meaning_of g.M.MergeOperator.combine g.T.BlockTransformer.encoded g.T.BlockTransformer.decoded c.args.env.now.operator c.args.env.now.transformer)) (c.loop-session.invariant.running premises));
+      c.in-Ok.ensures.meant
+      (λ premises. c.in-Ok.ensures.stands (meaning_of g.M.MergeOperator.combine g.T.BlockTransformer.encoded g.T.BlockTransformer.decoded c.args.env.now.operator c.args.env.now.transformer) (run_rules c.args.options.now (meaning_of g.M.MergeOperator.combine g.T.BlockTransformer.encoded g.T.BlockTransformer.decoded c.args.env.now.operator c.args.env.now.transformer)) (c.loop-session.invariant.running premises))
+      (λ premises. c.in-Ok.ensures.answered (meaning_of g.M.MergeOperator.combine g.T.BlockTransformer.encoded g.T.BlockTransformer.decoded c.args.env.now.operator c.args.env.now.transformer) (run_rules c.args.options.now (meaning_of g.M.MergeOperator.combine g.T.BlockTransformer.encoded g.T.BlockTransformer.decoded c.args.env.now.operator c.args.env.now.transformer)) (c.loop-session.invariant.running premises));
   counted =
       let further : c.loop-session.lines.given < c.next.new.self.given = subst (λ o. IfSome o (λ _. c.loop-session.lines.given < c.next.new.self.given)) c.in-Some.is c.in_ok-line.ensures.further in
       omega (arith, c.loop-session.invariant.counted);
   within = omega (arith, c.in_ok-line.ensures.within);
-  weighs = omega (arith, c.in_ok-answer_line.ensures.grows.0, c.loop-session.invariant.weighs);
+  weighs = omega (arith, c.in-Ok.ensures.grows.0, c.loop-session.invariant.weighs);
   loads =
       let taken : c.loop-session.lines.given + length c.in-Some.line.items ≤ c.next.new.self.given = subst (λ o. IfSome o (λ l. c.loop-session.lines.given + length l.items ≤ c.next.new.self.given)) c.in-Some.is c.in_ok-line.ensures.counted in
       let line : length c.as_slice.result.now ≡ length c.in-Some.line.items = ap length c.as_slice.ensures.value in
-      omega (arith, c.in_ok-answer_line.ensures.grows.1, c.loop-session.invariant.loads, taken, line);
-  running = λ premises. c.in_ok-answer_line.ensures.running (meaning_of g.M.MergeOperator.combine g.T.BlockTransformer.encoded g.T.BlockTransformer.decoded c.args.env.now.operator c.args.env.now.transformer) (run_rules c.args.options.now (meaning_of g.M.MergeOperator.combine g.T.BlockTransformer.encoded g.T.BlockTransformer.decoded c.args.env.now.operator c.args.env.now.transformer)) (c.loop-session.invariant.running premises);
-  alone = λ premises. c.in_ok-answer_line.ensures.alone (meaning_of g.M.MergeOperator.combine g.T.BlockTransformer.encoded g.T.BlockTransformer.decoded c.args.env.now.operator c.args.env.now.transformer) (run_rules c.args.options.now (meaning_of g.M.MergeOperator.combine g.T.BlockTransformer.encoded g.T.BlockTransformer.decoded c.args.env.now.operator c.args.env.now.transformer)) (c.loop-session.invariant.running premises) (c.loop-session.invariant.alone premises);
-  meaning = c.in_ok-answer_line.ensures.meaning ∙ c.loop-session.invariant.meaning;
+      omega (arith, c.in-Ok.ensures.grows.1, c.loop-session.invariant.loads, taken, line);
+  running = λ premises. c.in-Ok.ensures.running (meaning_of g.M.MergeOperator.combine g.T.BlockTransformer.encoded g.T.BlockTransformer.decoded c.args.env.now.operator c.args.env.now.transformer) (run_rules c.args.options.now (meaning_of g.M.MergeOperator.combine g.T.BlockTransformer.encoded g.T.BlockTransformer.decoded c.args.env.now.operator c.args.env.now.transformer)) (c.loop-session.invariant.running premises);
+  alone = λ premises. c.in-Ok.ensures.alone (meaning_of g.M.MergeOperator.combine g.T.BlockTransformer.encoded g.T.BlockTransformer.decoded c.args.env.now.operator c.args.env.now.transformer) (run_rules c.args.options.now (meaning_of g.M.MergeOperator.combine g.T.BlockTransformer.encoded g.T.BlockTransformer.decoded c.args.env.now.operator c.args.env.now.transformer)) (c.loop-session.invariant.running premises) (c.loop-session.invariant.alone premises);
+  meaning = c.in-Ok.ensures.meaning ∙ c.loop-session.invariant.meaning;
   followed = λ lawful. follows-on (meaning_of g.M.MergeOperator.combine g.T.BlockTransformer.encoded g.T.BlockTransformer.decoded c.args.env.now.operator c.args.env.now.transformer) c.loop-session.session c.answer_line.new.session (g.S.Store.acts c.args.env.now.store.now) (g.S.Store.acts c.loop-session.env.store.now) (g.S.Store.acts c.answer_line.new.env.store.now) (c.loop-session.invariant.followed lawful)
-      (subst (λ (m : Meaning). (os : Objects) → IsSettled m (Some os) c.loop-session.session → Follows m os c.answer_line.new.session (g.S.Store.acts c.loop-session.env.store.now) (g.S.Store.acts c.answer_line.new.env.store.now)) c.loop-session.invariant.meaning c.in_ok-answer_line.ensures.follows);
+      (subst (λ (m : Meaning). (os : Objects) → IsSettled m (Some os) c.loop-session.session → Follows m os c.answer_line.new.session (g.S.Store.acts c.loop-session.env.store.now) (g.S.Store.acts c.answer_line.new.env.store.now)) c.loop-session.invariant.meaning c.in-Ok.ensures.follows);
   source_later = omega (arith, c.next.ensures.later);
   sink_later = omega (arith, c.answer_line.ensures.later);
   source_still = unless-error c.in_ok-line.field-0 ReadFault c.in_ok-line.ensures.still ∙ c.loop-session.invariant.source_still;
-  sink_still = c.in_ok-answer_line.ensures.still ∙ c.loop-session.invariant.sink_still;
+  sink_still = c.in-Ok.ensures.still ∙ c.loop-session.invariant.sink_still;
   same_store = c.answer_line.ensures.same_store ∙ c.loop-session.invariant.same_store;
   parts_later = later-on c.loop-session.invariant.parts_later c.answer_line.ensures.parts_later;
 }
@@ -302,7 +289,7 @@ returns-clause-stored g c script is premises =
     let end = end-told (λ v. v.items) c.in_ok-line.field-0 (g.R.Source.left c.next.new.source) c.next.new.self c.in_ok-line.ensures.told c.in_default.is at in
     let running = c.loop-session.invariant.running premises in
     stored-state m r (layout_of c.args.options.now) (g.S.Store.objects c.loop-session.env.store.now) c.loop-session.session (after_lines meaning r opening (lines_of script)) running.rules
-    (c.close.ensures.stores m running.settled.lawful running.settled.kept)
+    (c.close-2.ensures.stores m running.settled.lawful running.settled.kept)
     (subst (λ bs. StandsFor c.loop-session.session (after_lines meaning r opening (lines_of bs))) (sym (end-there c.next.new.self end.0 at end.2).0) (at.session premises))
     (c.loop-session.invariant.alone premises)
 

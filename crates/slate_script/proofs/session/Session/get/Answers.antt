@@ -33,8 +33,8 @@ returns-in_default-clause-step g c settled =
     subst (λ (v : SessionModel). AnswersAs m v v (lines.Get c.args.name c.args.key) (Ok (answers.Refused (refusals.UnknownTransaction c.args.name)))) c.self.view_is
     (get-refused m before c.args.name c.args.key none)
 
-pub get-requires-2 : goal.get-requires-2
-get-requires-2 g c = c.self.invariant.0.opened c.args.name c.in-Some.id.now (find_named-lookup c.args.name c.self.inside.names.entries ∙ sym c.in-Some.ensures.value)
+pub get-read-requires : goal.get-read-requires
+get-read-requires g c = c.self.invariant.0.opened c.args.name c.in-Some.id.now (find_named-lookup c.args.name c.self.inside.names.entries ∙ sym c.in-Some.ensures.value)
 
 pub invariant_of-self-2 : goal.invariant_of-self-2
 invariant_of-self-2 g c = (
@@ -49,27 +49,27 @@ returns-clause-step g c settled =
     let m = meaning_of g.M.MergeOperator.combine g.T.BlockTransformer.encoded g.T.BlockTransformer.decoded c.args.env.now.operator c.args.env.now.transformer in
     let here : IsSettled m (g.S.Store.objects c.args.env.now.store.now) before = subst (λ (v : SessionModel). IsSettled m (g.S.Store.objects c.args.env.now.store.now) v) (sym c.self.view_is) settled in
     let stepped = c.in_ok-row.ensures.answer m has-parts here.lawful here.kept here.tables.holds in
-    subst (λ (v : SessionModel). AnswersAs m v (record before { core = c.get-2.new.self }) (lines.Get c.args.name c.args.key) (Ok (answers.Found c.in_ok-row.row))) c.self.view_is
-    (get-found m before c.get-2.new.self c.args.name c.in-Some.id.now c.args.key c.in_ok-row.row c.self.invariant.0 (find_named-lookup c.args.name before.names ∙ sym c.in-Some.ensures.value)
-    (subst (λ (k : List ℕ). ◌≡◌ {A = State × Reply} (step (rules_of c.self.inside.core.settings m) c.self.inside.core.state (lines.Get c.in-Some.id.now k)) (c.get-2.new.self.state, replies.Found c.in_ok-row.row)) c.as_slice.ensures stepped))
+    subst (λ (v : SessionModel). AnswersAs m v (record before { core = c.get-read.new.self }) (lines.Get c.args.name c.args.key) (Ok (answers.Found c.in_ok-row.row))) c.self.view_is
+    (get-found m before c.get-read.new.self c.args.name c.in-Some.id.now c.args.key c.in_ok-row.row c.self.invariant.0 (find_named-lookup c.args.name before.names ∙ sym c.in-Some.ensures.value)
+    (subst (λ (k : List ℕ). ◌≡◌ {A = State × Reply} (step (rules_of c.self.inside.core.settings m) c.self.inside.core.state (lines.Get c.in-Some.id.now k)) (c.get-read.new.self.state, replies.Found c.in_ok-row.row)) c.as_slice.ensures stepped))
 
 pub returns-clause-meaning : goal.returns-clause-meaning
-returns-clause-meaning g c = parts-same _ _ c.get-2.ensures.same_combine c.get-2.ensures.same_encoded c.get-2.ensures.same_decoded
+returns-clause-meaning g c = parts-same _ _ c.get-read.ensures.same_combine c.get-read.ensures.same_encoded c.get-read.ensures.same_decoded
 
 pub returns-in_err-row-clause-meaning : goal.returns-in_err-row-clause-meaning
-returns-in_err-row-clause-meaning g c = parts-same _ _ c.get-2.ensures.same_combine c.get-2.ensures.same_encoded c.get-2.ensures.same_decoded
+returns-in_err-row-clause-meaning g c = parts-same _ _ c.get-read.ensures.same_combine c.get-read.ensures.same_encoded c.get-read.ensures.same_decoded
 
 pub returns-clause-later : goal.returns-clause-later
-returns-clause-later g c = record { store = c.get-2.ensures.later; operator = c.get-2.ensures.later_operator; transformer = c.get-2.ensures.later_transformer }
+returns-clause-later g c = record { store = c.get-read.ensures.later; operator = c.get-read.ensures.later_operator; transformer = c.get-read.ensures.later_transformer }
 
 pub returns-in_err-row-clause-later : goal.returns-in_err-row-clause-later
-returns-in_err-row-clause-later g c = record { store = c.get-2.ensures.later; operator = c.get-2.ensures.later_operator; transformer = c.get-2.ensures.later_transformer }
+returns-in_err-row-clause-later g c = record { store = c.get-read.ensures.later; operator = c.get-read.ensures.later_operator; transformer = c.get-read.ensures.later_transformer }
 
 pub returns-in_err-row-clause-cause : goal.returns-in_err-row-clause-cause
 returns-in_err-row-clause-cause g c =
     let p = err_from_is_err_and c.from_residual.result c.from_residual.ensures.1 in
     let before : Counts = counts_of (g.S.Store.faults c.args.env.now.store.now) g.M.MergeOperator.faults g.T.BlockTransformer.faults c.args.env.now.operator c.args.env.now.transformer in
-    let after : Counts = counts_of (g.S.Store.faults c.get-2.new.env.store.now) g.M.MergeOperator.faults g.T.BlockTransformer.faults c.get-2.new.env.operator c.get-2.new.env.transformer in
+    let after : Counts = counts_of (g.S.Store.faults c.get-read.new.env.store.now) g.M.MergeOperator.faults g.T.BlockTransformer.faults c.get-read.new.env.operator c.get-read.new.env.transformer in
     rw (p.1, p.2) (get-cause before after (combine_of g.M.MergeOperator.combine c.args.env.now.operator) _ c.in_err-row.ensures.cause)
 
 pub returns-in_err-row-clause-undamaged : goal.returns-in_err-row-clause-undamaged
@@ -79,15 +79,15 @@ returns-in_err-row-clause-undamaged g c settled =
     let here : IsSettled m (g.S.Store.objects c.args.env.now.store.now) before = subst (λ (v : SessionModel). IsSettled m (g.S.Store.objects c.args.env.now.store.now) v) (sym c.self.view_is) settled in
     let p = err_from_is_err_and c.from_residual.result c.from_residual.ensures.1 in
     let first : Counts = counts_of (g.S.Store.faults c.args.env.now.store.now) g.M.MergeOperator.faults g.T.BlockTransformer.faults c.args.env.now.operator c.args.env.now.transformer in
-    let after : Counts = counts_of (g.S.Store.faults c.get-2.new.env.store.now) g.M.MergeOperator.faults g.T.BlockTransformer.faults c.get-2.new.env.operator c.get-2.new.env.transformer in
+    let after : Counts = counts_of (g.S.Store.faults c.get-read.new.env.store.now) g.M.MergeOperator.faults g.T.BlockTransformer.faults c.get-read.new.env.operator c.get-read.new.env.transformer in
     rw (p.1, p.2) (get-outer first after _ (c.in_err-row.ensures.whole m has-parts here.lawful here.kept here.tables.holds))
 
 pub returns-clause-grows : goal.returns-clause-grows
 returns-clause-grows g c =
     let before : SessionModel = record { core = c.self.inside.core; names = c.self.inside.names.entries; now = c.self.inside.now } in
-    subst (λ (v : SessionModel). Grows (lines.Get c.args.name c.args.key) v (record before { core = c.get-2.new.self })) c.self.view_is
-    (grows before c.get-2.new.self before.names before.now (lines.Get c.args.name c.args.key) 0 (omega arith)
-    (takes-noted c.self.inside.core c.get-2.new.self _ c.in_ok-row.ensures.noted (as-many c.in-Some.id.now _ c.self.inside.core.state.txns)))
+    subst (λ (v : SessionModel). Grows (lines.Get c.args.name c.args.key) v (record before { core = c.get-read.new.self })) c.self.view_is
+    (grows before c.get-read.new.self before.names before.now (lines.Get c.args.name c.args.key) 0 (omega arith)
+    (takes-noted c.self.inside.core c.get-read.new.self _ c.in_ok-row.ensures.noted (as-many c.in-Some.id.now _ c.self.inside.core.state.txns)))
 
 pub returns-in_err-row-clause-truthful : goal.returns-in_err-row-clause-truthful
 returns-in_err-row-clause-truthful g c os settled answers =
@@ -96,5 +96,5 @@ returns-in_err-row-clause-truthful g c os settled answers =
     let here : IsSettled m (Some os) before = subst (λ (v : SessionModel). IsSettled m (Some os) v) (sym c.self.view_is) settled in
     let p = err_from_is_err_and c.from_residual.result c.from_residual.ensures.1 in
     let first : Counts = counts_of (g.S.Store.faults c.args.env.now.store.now) g.M.MergeOperator.faults g.T.BlockTransformer.faults c.args.env.now.operator c.args.env.now.transformer in
-    let after : Counts = counts_of (g.S.Store.faults c.get-2.new.env.store.now) g.M.MergeOperator.faults g.T.BlockTransformer.faults c.get-2.new.env.operator c.get-2.new.env.transformer in
+    let after : Counts = counts_of (g.S.Store.faults c.get-read.new.env.store.now) g.M.MergeOperator.faults g.T.BlockTransformer.faults c.get-read.new.env.operator c.get-read.new.env.transformer in
     rw (p.1, p.2) (get-outer first after _ (c.in_err-row.ensures.truthful m os has-parts here.lawful here.kept here.tables.holds answers))
