@@ -2,13 +2,14 @@
 ghost use Rattle.std.specs.Prelude.{OnOk};
 ghost use Rattle.slate_block.specs.Building.{CanTake};
 
-use crate::report::Report;
+use crate::report::{Report, name_of};
 use crate::sums::Sums;
 use anyhow::Error;
 use bytes::Bytes;
-use slate_block::{Block, BlockBuilder, DataBlockIterator};
-use slate_types::{IterationOrder, RowEntry, SlateDBError};
+use slate_block::{Block, BlockBuilder};
+use slate_types::{RowEntry, SlateDBError};
 use std::alloc::Global;
+use std::mem;
 
 /// The size of a block in bytes.
 pub const BLOCK_SIZE: u32 = 4096;
@@ -21,25 +22,31 @@ const MAX_VALUE_LEN: usize = 4_294_967_295;
 
 /// Encodes the rows into blocks and decodes these, and reports both. `version` is 1 or 2.
 pub fn measure(report: &Report, rows: &[RowEntry], version: u16) -> Result<(), Error> {
-    let alloc = report.alloc();
-    let start = report.start()?;
-    let blocks = encode_blocks(alloc, rows, version)?;
-    let done = format!(in alloc;
-        "{} rows, {} blocks, {} bytes",
-        rows.len(),
-        blocks.len(),
-        bytes_in(&blocks)
-    )?;
-    report.finish(&format!(in alloc; "encode v{version}")?, &done, start)?;
+    let blocks = measure_encoding(report, rows, version)?;
+    measure_decoding(report, &blocks, version)
+}
 
+fn measure_encoding(report: &Report, rows: &[RowEntry], version: u16) -> Result<Vec<Bytes>, Error> {
     let start = report.start()?;
-    let sums = decode_blocks(alloc, &blocks, version)?;
-    report.finish(
-        &format!(in alloc; "decode v{version}")?,
-        &sums.text(alloc)?,
-        start,
-    )?;
-    Ok(())
+    let blocks = encode_blocks(report.alloc(), rows, version)?;
+    let done = counts(report.alloc(), rows.len(), &blocks);
+    report.finish(name_of(version, "encode v1", "encode v2"), done, start)?;
+    Ok(blocks)
+}
+
+fn measure_decoding(report: &Report, blocks: &[Bytes], version: u16) -> Result<(), Error> {
+    let start = report.start()?;
+    let done = decode_blocks(report.alloc(), blocks, version);
+    report.finish(name_of(version, "decode v1", "decode v2"), done, start)
+}
+
+/// What is said of blocks that hold so many rows.
+fn counts(alloc: Global, rows: usize, blocks: &[Bytes]) -> Result<String, SlateDBError> {
+    Ok(format!(in alloc;
+        "{rows} rows, {} blocks, {} bytes",
+        blocks.len(),
+        bytes_in(blocks)
+    )?)
 }
 
 fn new_builder(alloc: Global, version: u16) -> Result<BlockBuilder, SlateDBError> {
@@ -59,14 +66,27 @@ fn encode_blocks(
     let mut blocks = Vec::new(alloc);
     let mut builder = new_builder(alloc, version)?;
     for row in rows {
-        if !add(&mut builder, row)? {
-            blocks.push(encode(alloc, builder)?)?;
-            builder = new_builder(alloc, version)?;
-            add(&mut builder, row)?;
-        }
+        add_in_turn(alloc, &mut blocks, &mut builder, row, version)?;
     }
     blocks.push(encode(alloc, builder)?)?;
     Ok(blocks)
+}
+
+/// Adds a row to the block, or where it doesn't fit ends the block and adds the row to the next one.
+fn add_in_turn(
+    alloc: Global,
+    blocks: &mut Vec<Bytes>,
+    builder: &mut BlockBuilder,
+    row: &RowEntry,
+    version: u16,
+) -> Result<(), SlateDBError> {
+    if add(builder, row)? {
+        return Ok(());
+    }
+    let full = mem::replace(builder, new_builder(alloc, version)?);
+    blocks.push(encode(alloc, full)?)?;
+    add(builder, row)?;
+    Ok(())
 }
 
 /// Adds a row, or answers false where it doesn't fit. Refuses as `check_lengths` does, or by `OutOfMemory`.
@@ -107,13 +127,12 @@ fn bytes_in(blocks: &[Bytes]) -> u64 {
     len
 }
 
-/// Reads the rows of all blocks.
-fn decode_blocks(alloc: Global, blocks: &[Bytes], version: u16) -> Result<Sums, SlateDBError> {
+/// Reads the rows of all blocks, and says what was read.
+fn decode_blocks(alloc: Global, blocks: &[Bytes], version: u16) -> Result<String, SlateDBError> {
     let mut sums = Sums::default();
     for bytes in blocks {
         let block = Block::decode(alloc, bytes.clone()?)?;
-        let rows = DataBlockIterator::new(alloc, block, version, IterationOrder::Ascending)?;
-        sums.take_all(alloc, rows)?;
+        sums.take_block(alloc, block, version)?;
     }
-    Ok(sums)
+    sums.text(alloc)
 }

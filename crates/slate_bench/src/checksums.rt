@@ -2,6 +2,7 @@
 use crate::report::Report;
 use anyhow::Error;
 use slate_table::checksum;
+use slate_types::SlateDBError;
 use std::alloc::Global;
 
 /// How many bytes are summed at first.
@@ -19,19 +20,22 @@ fn make_bytes(alloc: Global) -> Result<Vec<u8>, Error> {
     Ok(bytes)
 }
 
-/// Sums the bytes again and again, with one more each time, since the sum of the same bytes would be computed once. Reports it.
+/// Sums the bytes again and again. Reports it.
 pub fn measure(report: &Report) -> Result<(), Error> {
-    let alloc = report.alloc();
-    let mut bytes = make_bytes(alloc)?;
+    let mut bytes = make_bytes(report.alloc())?;
     let start = report.start()?;
+    let done = sum(report.alloc(), &mut bytes);
+    report.finish("checksum", done, start)
+}
+
+/// Sums the bytes with one more each time, since the sum of the same bytes would be computed once. Answers what was done.
+fn sum(alloc: Global, bytes: &mut Vec<u8>) -> Result<String, SlateDBError> {
     let mut sums = 0u64;
     let mut len = 0u64;
     for turn in 0..TIMES {
         bytes.push((turn % 251) as u8)?;
-        sums = sums.saturating_add(u64::from(checksum(&bytes)));
+        sums = sums.saturating_add(u64::from(checksum(bytes)));
         len = len.saturating_add(bytes.len() as u64);
     }
-    let done = format!(in alloc; "{len} bytes, sums {sums}")?;
-    report.finish("checksum", &done, start)?;
-    Ok(())
+    Ok(format!(in alloc; "{len} bytes, sums {sums}")?)
 }

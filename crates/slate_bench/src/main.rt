@@ -13,6 +13,7 @@ mod sums;
 mod tables;
 
 use report::Report;
+use slate_types::RowEntry;
 use std::env;
 use std::process::ExitCode;
 
@@ -26,13 +27,15 @@ fn main(rt: HostRuntime) -> Result<ExitCode, anyhow::Error> {
 /// The status: 0, or 2 for words that are not known.
 fn status(rt: &HostRuntime) -> Result<u8, anyhow::Error> {
     let words: Result<Vec<String>, _> = env::args(rt)?.skip(1).collect(rt.alloc());
-    match words?.as_slice() {
-        [] => measure(&Report::new(rt, false)),
-        [word] if word.as_str() == "time" => measure(&Report::new(rt, true)),
-        [word, folder] if word.as_str() == "write" => {
-            folder::write(rt, folder, &rows::make_rows(rt.alloc())?)?;
-            Ok(0)
-        }
+    obey(rt, words?.as_slice())
+}
+
+/// Does what the words ask for, and answers the status.
+fn obey(rt: &HostRuntime, words: &[String]) -> Result<u8, anyhow::Error> {
+    match words {
+        [] => measure(rt, false),
+        [word] if word.as_str() == "time" => measure(rt, true),
+        [word, folder] if word.as_str() == "write" => write(rt, folder),
         [word] if word.as_str() == "--version" => {
             println!(rt; "slate_bench 0.1.0")?;
             Ok(0)
@@ -41,13 +44,22 @@ fn status(rt: &HostRuntime) -> Result<u8, anyhow::Error> {
     }
 }
 
-fn measure(report: &Report) -> Result<u8, anyhow::Error> {
-    let rows = rows::make_rows(report.alloc())?;
-    blocks::measure(report, &rows, 1)?;
-    blocks::measure(report, &rows, 2)?;
+fn write(rt: &HostRuntime, folder: &str) -> Result<u8, anyhow::Error> {
+    folder::write(rt, folder, &rows::make_rows(rt.alloc())?)?;
+    Ok(0)
+}
+
+fn measure(rt: &HostRuntime, is_timed: bool) -> Result<u8, anyhow::Error> {
+    let rows = rows::make_rows(rt.alloc())?;
+    measure_rows(&Report::new(rt, is_timed), &rows)?;
+    Ok(0)
+}
+
+fn measure_rows(report: &Report, rows: &[RowEntry]) -> Result<(), anyhow::Error> {
+    blocks::measure(report, rows, 1)?;
+    blocks::measure(report, rows, 2)?;
     checksums::measure(report)?;
     let few = &rows[..rows.len().min(TABLE_ROWS)];
     tables::measure(report, few, 1)?;
-    tables::measure(report, few, 2)?;
-    Ok(0)
+    tables::measure(report, few, 2)
 }

@@ -1,4 +1,6 @@
 //! What is printed.
+use anyhow::Error;
+use slate_types::SlateDBError;
 use std::alloc::Global;
 use std::io;
 use std::time::Instant;
@@ -24,9 +26,15 @@ impl<'a> Report<'a> {
         Instant::now(self.rt)
     }
 
-    /// Prints what was done under the name, and the nanoseconds since the start. Any error of the clock or of standard
-    /// output.
-    pub fn finish(&self, name: &str, done: &str, start: Instant) -> io::Result<()> {
+    /// Prints what was done under the name, and the nanoseconds since the start. The error of what was not done, and any
+    /// of the clock or of standard output.
+    pub fn finish(
+        &self,
+        name: &str,
+        done: Result<String, SlateDBError>,
+        start: Instant,
+    ) -> Result<(), Error> {
+        let done = done?;
         let nanos = start.elapsed(self.rt)?.as_nanos();
         println!(self.rt; "{name}: {done}")?;
         if self.is_timed {
@@ -34,4 +42,9 @@ impl<'a> Report<'a> {
         }
         Ok(())
     }
+}
+
+/// The name of the work on the version, which is 1 or 2.
+pub fn name_of(version: u16, first: &'static str, second: &'static str) -> &'static str {
+    if version == 1 { first } else { second }
 }

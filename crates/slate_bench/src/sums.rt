@@ -1,6 +1,6 @@
 //! Sums over the rows that were read.
 use slate_block::{BlockLike, DataBlockIterator};
-use slate_types::{RowEntry, SlateDBError};
+use slate_types::{IterationOrder, RowEntry, SlateDBError};
 use std::alloc::Global;
 
 /// Sums over rows. One past the greatest number stands there.
@@ -14,22 +14,34 @@ pub struct Sums {
 
 impl Sums {
     /// Counts a row.
-    fn take(&mut self, row: &RowEntry) {
+    fn take(&mut self, row: RowEntry) {
         self.rows = self.rows.saturating_add(1);
         self.key_bytes = self.key_bytes.saturating_add(row.key.len() as u64);
         self.value_bytes = self.value_bytes.saturating_add(row.value.len() as u64);
         self.seqs = self.seqs.saturating_add(row.seq);
+        drop(row);
+    }
+
+    /// Counts the rows of a block. `version` is 1 or 2.
+    pub fn take_block<B: BlockLike>(
+        &mut self,
+        alloc: Global,
+        block: B,
+        version: u16,
+    ) -> Result<(), SlateDBError> {
+        let mut rows = DataBlockIterator::new(alloc, block, version, IterationOrder::Ascending)?;
+        self.take_all(alloc, &mut rows)
     }
 
     /// Counts the rows that are left of a block.
-    pub fn take_all<B: BlockLike>(
+    fn take_all<B: BlockLike>(
         &mut self,
         alloc: Global,
-        mut rows: DataBlockIterator<B>,
+        rows: &mut DataBlockIterator<B>,
     ) -> Result<(), SlateDBError> {
         for _ in 0..u64::MAX {
             match rows.next_row(alloc)? {
-                Some(row) => self.take(&row),
+                Some(row) => self.take(row),
                 None => return Ok(()),
             }
         }

@@ -2,19 +2,18 @@
 ghost use Rattle.std.specs.Prelude.{◌≡◌, ◌≤◌, ◌+◌, true, length, OnOk};
 
 use crate::blocks;
-use crate::report::Report;
+use crate::report::{Report, name_of};
 use crate::sums::Sums;
 use anyhow::Error;
 use bytes::Bytes;
-use slate_block::{Block, DataBlockIterator};
+use slate_block::Block;
 use slate_store::{MemoryStore, Store};
 use slate_table::{
-    EncodedSsTable, EncodedSsTableBuilder, SsTableFormat, SsTableHandle, TableStore,
+    EncodedSsTable, EncodedSsTableBuilder, SsTableFormat, SsTableHandle, SstIndex, TableStore,
 };
-use slate_types::{
-    BlockFormat, BlockTransformer, IterationOrder, RowEntry, SlateDBError, TransformError, Ulid,
-};
+use slate_types::{BlockFormat, BlockTransformer, RowEntry, SlateDBError, TransformError, Ulid};
 use std::alloc::Global;
+use std::time::Instant;
 
 /// The folder of the tables.
 pub const ROOT: &str = "db";
@@ -41,40 +40,64 @@ impl BlockTransformer for Plain {
 
 /// Builds the table of the rows, stores it and reads all of it, and reports both. `version` is 1 or 2.
 pub fn measure(report: &Report, rows: &[RowEntry], version: u16) -> Result<(), Error> {
-    let mut store = MemoryStore::new(report.alloc(), Vec::new(report.alloc()));
-    // The table stands until it was read, beside its bytes in the store.
-    let (_table, handle) = measure_building(report, &mut store, rows, version)?;
-    measure_reading(report, &mut store, &handle, version)
-}
-
-fn measure_building<S: Store>(
-    report: &Report,
-    store: &mut S,
-    rows: &[RowEntry],
-    version: u16,
-) -> Result<(EncodedSsTable, SsTableHandle), Error> {
-    let alloc = report.alloc();
     let start = report.start()?;
-    let table = build(alloc, rows, version)?;
-    let (handle, done) = put(alloc, store, &table, rows.len())?;
-    report.finish(
-        version_of(alloc, "build table", version)?.as_str(),
-        &done,
-        start,
-    )?;
-    Ok((table, handle))
+    let table = build(report.alloc(), rows, version)?;
+    let measured = measure_storing(report, &table, rows.len(), version, start);
+    // The table stands until it was read, beside its bytes in the store.
+    drop(table);
+    measured
 }
 
-/// Stores the table, and says what was done.
-fn put<S: Store>(
-    alloc: Global,
+fn measure_storing(
+    report: &Report,
+    table: &EncodedSsTable,
+    rows: usize,
+    version: u16,
+    start: Instant,
+) -> Result<(), Error> {
+    let mut store = MemoryStore::new(report.alloc(), Vec::new(report.alloc()));
+    let measured = measure_in(report, &mut store, table, rows, version, start);
+    drop(store);
+    measured
+}
+
+fn measure_in<S: Store>(
+    report: &Report,
     store: &mut S,
     table: &EncodedSsTable,
     rows: usize,
-) -> Result<(SsTableHandle, String), SlateDBError> {
-    let handle = TableStore::put_table(alloc, store, ROOT, Ulid(1), table)?;
+    version: u16,
+    start: Instant,
+) -> Result<(), Error> {
+    let handle = TableStore::put_table(report.alloc(), store, ROOT, Ulid(1), table)?;
+    let measured = match report_table(report, table, rows, version, start) {
+        Ok(()) => measure_reading(report, store, &handle, version),
+        Err(error) => Err(error),
+    };
+    drop(handle);
+    measured
+}
+
+/// Reports what was built and stored.
+fn report_table(
+    report: &Report,
+    table: &EncodedSsTable,
+    rows: usize,
+    version: u16,
+    start: Instant,
+) -> Result<(), Error> {
+    let done = counts(report.alloc(), rows, table);
+    report.finish(
+        name_of(version, "build table v1", "build table v2"),
+        done,
+        start,
+    )
+}
+
+/// What is said of a table that holds so many rows.
+fn counts(alloc: Global, rows: usize, table: &EncodedSsTable) -> Result<String, SlateDBError> {
     let len = table.remaining_as_bytes()?.len();
-    Ok((handle, format!(in alloc; "{rows} rows, {len} bytes")?))
+    Ok(format!(in alloc; "{rows} rows, {len} bytes")?)
 }
 
 fn measure_reading<S: Store>(
@@ -83,20 +106,13 @@ fn measure_reading<S: Store>(
     handle: &SsTableHandle,
     version: u16,
 ) -> Result<(), Error> {
-    let alloc = report.alloc();
     let start = report.start()?;
-    let done = read(alloc, store, handle)?.text(alloc)?;
+    let done = read(report.alloc(), store, handle);
     report.finish(
-        version_of(alloc, "read table", version)?.as_str(),
-        &done,
+        name_of(version, "read table v1", "read table v2"),
+        done,
         start,
-    )?;
-    Ok(())
-}
-
-/// The work's name, with the version.
-fn version_of(alloc: Global, work: &str, version: u16) -> Result<String, Error> {
-    Ok(format!(in alloc; "{work} v{version}")?)
+    )
 }
 
 /// The table of the rows, in blocks of 4 KiB. `version` is 1 or 2. Refuses by `EmptyBlock` where there is no row, and as `add` does.
@@ -105,24 +121,41 @@ pub fn build(
     rows: &[RowEntry],
     version: u16,
 ) -> Result<EncodedSsTable, SlateDBError> {
-    let block_format = if version == 1 {
-        BlockFormat::V1
-    } else {
-        BlockFormat::V2
-    };
-    let format = SsTableFormat {
+    let mut builder = EncodedSsTableBuilder::new(alloc, &format_of(version))?;
+    fill(alloc, &mut builder, rows)?;
+    builder.build(alloc, &mut None::<Plain>)
+}
+
+fn format_of(version: u16) -> SsTableFormat
+    ensures { result.block_size ≡ 4096 }
+{
+    SsTableFormat {
         block_size: blocks::BLOCK_SIZE,
         min_filter_keys: 0,
-        block_format,
+        block_format: if version == 1 {
+            BlockFormat::V1
+        } else {
+            BlockFormat::V2
+        },
         compression_codec: None,
-    };
-    let mut builder = EncodedSsTableBuilder::new(alloc, &format)?;
+    }
+}
+
+/// Adds the rows of a table. Refuses by `EmptyBlock` where there is none, and as `add` does.
+fn fill(
+    alloc: Global,
+    builder: &mut EncodedSsTableBuilder,
+    rows: &[RowEntry],
+) -> Result<(), SlateDBError>
+    requires { builder.old.is_whole ≡ true }
+    ensures whole { OnOk result (builder.new.is_whole ≡ true) }
+    ensures rows { OnOk result (1 ≤ length builder.new.rows) }
+{
     let [first, later @ ..] = rows else {
         return Err(SlateDBError::EmptyBlock);
     };
-    add(alloc, &mut builder, first)?;
-    add_all(alloc, &mut builder, later)?;
-    builder.build(alloc, &mut None::<Plain>)
+    add(alloc, builder, first)?;
+    add_all(alloc, builder, later)
 }
 
 /// Adds rows, one behind the other. Refuses as `add` does.
@@ -162,14 +195,25 @@ fn add(
     Ok(())
 }
 
-/// Reads the rows of a table, block by block.
+/// Reads the rows of a table, block by block, and says what was read.
 fn read<S: Store>(
     alloc: Global,
     store: &mut S,
     table: &SsTableHandle,
-) -> Result<Sums, SlateDBError> {
-    let mut none = None::<Plain>;
-    let index = TableStore::read_index(alloc, store, ROOT, table, &mut none)?;
+) -> Result<String, SlateDBError> {
+    let index = TableStore::read_index(alloc, store, ROOT, table, &mut None::<Plain>)?;
+    let done = read_indexed(alloc, store, table, &index);
+    drop(index);
+    done
+}
+
+/// Reads the rows of a table that has the index, and says what was read.
+fn read_indexed<S: Store>(
+    alloc: Global,
+    store: &mut S,
+    table: &SsTableHandle,
+    index: &SstIndex,
+) -> Result<String, SlateDBError> {
     let mut sums = Sums::default();
     for at in 0..index.len() {
         let blocks = TableStore::read_blocks(
@@ -177,25 +221,24 @@ fn read<S: Store>(
             store,
             ROOT,
             table,
-            &index,
+            index,
             at..at + 1,
-            &mut none,
+            &mut None::<Plain>,
         )?;
-        read_blocks(alloc, blocks, table.format_version, &mut sums)?;
+        take_blocks(alloc, blocks, table.format_version, &mut sums)?;
     }
-    Ok(sums)
+    sums.text(alloc)
 }
 
 /// Counts the rows of blocks.
-fn read_blocks(
+fn take_blocks(
     alloc: Global,
     blocks: Vec<Block>,
     version: u16,
     sums: &mut Sums,
 ) -> Result<(), SlateDBError> {
     for block in blocks {
-        let rows = DataBlockIterator::new(alloc, block, version, IterationOrder::Ascending)?;
-        sums.take_all(alloc, rows)?;
+        sums.take_block(alloc, block, version)?;
     }
     Ok(())
 }
