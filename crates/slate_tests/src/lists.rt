@@ -4,41 +4,41 @@ use slate_txn::event::{Event, Transcript, TranscriptStep};
 use slate_txn::journal::Journal;
 use slate_txn::line::{ScanStep, StepList};
 use slate_txn::list::{KeyList, TableList};
-use slate_types::{SlateDBError, Ulid};
-use std::alloc::Global;
+use slate_types::Ulid;
+use std::alloc::{AllocError, Global};
 
-fn steps(alloc: Global) -> Result<usize, SlateDBError> {
+fn steps(alloc: Global) -> Result<usize, AllocError> {
     let mut transcript = Transcript::new(alloc);
     let key = Bytes::from_static(b"key");
     transcript.push(TranscriptStep::Get { key, answer: None })?;
     Ok(transcript.as_slice().len())
 }
 
-fn events(alloc: Global) -> Result<usize, SlateDBError> {
+fn events(alloc: Global) -> Result<usize, AllocError> {
     let mut journal = Journal::new(alloc);
     journal.reserve(1)?;
     journal.push_reserved(Event::Freeze);
     Ok(journal.len())
 }
 
-fn copied_keys(alloc: Global) -> Result<usize, SlateDBError> {
+fn copied_keys(alloc: Global) -> Result<usize, AllocError> {
     let keys = KeyList::from_vec(vec![in alloc; Bytes::from_static(b"key")]?);
     Ok(keys.clone()?.as_slice().len())
 }
 
-fn copied_steps(alloc: Global) -> Result<usize, SlateDBError> {
+fn copied_steps(alloc: Global) -> Result<usize, AllocError> {
     let steps = StepList::from_vec(vec![in alloc; ScanStep::Rows(3)]?);
     Ok(steps.clone()?.as_slice().len())
 }
 
-fn copied_tables(alloc: Global) -> Result<usize, SlateDBError> {
+fn copied_tables(alloc: Global) -> Result<usize, AllocError> {
     let table = (Ulid(7), Bytes::from_static(b"table"));
     let tables = TableList::from_vec(vec![in alloc; table]?);
     Ok(tables.clone()?.as_slice().len())
 }
 
 #[test]
-fn lists_take_and_are_copied(rt: HostRuntime) -> Result<(), SlateDBError> {
+fn lists_take_and_are_copied(rt: HostRuntime) -> Result<(), AllocError> {
     let alloc = rt.alloc();
     let counts = [
         steps(alloc)?,
@@ -47,6 +47,6 @@ fn lists_take_and_are_copied(rt: HostRuntime) -> Result<(), SlateDBError> {
         copied_steps(alloc)?,
         copied_tables(alloc)?,
     ];
-    assert!(rt; counts.iter().all(|count| *count == 1));
+    assert!(rt; counts == [1; 5]);
     Ok(())
 }

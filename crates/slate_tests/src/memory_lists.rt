@@ -173,8 +173,11 @@ fn fall(rows: &mut Vec<RowEntry>) -> Result<(), SlateDBError>
     Ok(())
 }
 
-// The rows that are put in turn: key, sequence, what it is, and its bytes. The last writes over one.
-const PUTS: [(&[u8], u64, char, &[u8]); 9] = [
+// A row: its key, sequence, what it is, and its bytes.
+type Put = (&'static [u8], u64, char, &'static [u8]);
+
+// The rows that are put in turn. The last writes over one.
+const PUTS: [Put; 9] = [
     (b"l", 1, 'v', b"1"),
     (b"a", 1, 'v', b""),
     (b"k", 2, 'v', b"2"),
@@ -187,7 +190,8 @@ const PUTS: [(&[u8], u64, char, &[u8]); 9] = [
 ];
 
 // What it is: a value, a merge, or else a deletion.
-fn row(key: &'static [u8], seq: u64, kind: char, bytes: &'static [u8]) -> RowEntry {
+fn row(put: Put) -> RowEntry {
+    let (key, seq, kind, bytes) = put;
     let bytes = Bytes::from_static(bytes);
     RowEntry {
         key: Bytes::from_static(key),
@@ -206,20 +210,18 @@ fn put_both(
     alloc: Global,
     table: &mut MemTable,
     list: &mut SortedRows,
-    row: RowEntry,
+    put: Put,
 ) -> Result<(), SlateDBError> {
-    let mut rows = Vec::new(alloc);
-    rows.push(row.clone()?)?;
-    table.put_all(rows, BTreeSet::new(alloc))?;
-    list.put(row)
+    table.put_all(vec![in alloc; row(put)]?, BTreeSet::new(alloc))?;
+    list.put(row(put))
 }
 
 // The table and the list that took the puts.
 pub fn both(alloc: Global) -> Result<(MemTable, SortedRows), SlateDBError> {
     let mut table = MemTable::new(alloc);
     let mut list = SortedRows::new(alloc);
-    for (key, seq, kind, bytes) in PUTS {
-        put_both(alloc, &mut table, &mut list, row(key, seq, kind, bytes))?;
+    for put in PUTS {
+        put_both(alloc, &mut table, &mut list, put)?;
     }
     Ok((table, list))
 }
@@ -235,30 +237,6 @@ fn are_same_at(
     Ok(rows == list.rows_of_key(key, max_seq)?)
 }
 
-fn are_same_in(
-    alloc: Global,
-    table: &MemTable,
-    list: &SortedRows,
-    range: &BytesRange,
-    order: IterationOrder,
-) -> Result<bool, SlateDBError> {
-    let mut rows = table.range(alloc, range, order)?;
-    let mut listed = list.range(range, order)?;
-    let rows = collect_rows(alloc, &mut rows, &mut ())?;
-    Ok(rows == collect_rows(alloc, &mut listed, &mut ())?)
-}
-
-fn are_same_in_both_orders(
-    alloc: Global,
-    table: &MemTable,
-    list: &SortedRows,
-    bounds: (Bound<&[u8]>, Bound<&[u8]>),
-) -> Result<bool, SlateDBError> {
-    let range = BytesRange::from_slice(alloc, bounds.0, bounds.1)?;
-    let up = are_same_in(alloc, table, list, &range, IterationOrder::Ascending)?;
-    Ok(up && are_same_in(alloc, table, list, &range, IterationOrder::Descending)?)
-}
-
 fn are_same_up_to(
     alloc: Global,
     table: &MemTable,
@@ -266,28 +244,92 @@ fn are_same_up_to(
     max_seq: u64,
 ) -> Result<bool, SlateDBError> {
     for key in [b"a", b"k", b"l", b"m", b"n"] {
-        if !are_same_at(alloc, table, list, &Bytes::from_static(key), max_seq)? {
+        let key = Bytes::from_static(key);
+        let are_same = are_same_at(alloc, table, list, &key, max_seq);
+        drop(key);
+        if !are_same? {
             return Ok(false);
         }
     }
     Ok(true)
 }
 
+fn are_same_in(
+    alloc: Global,
+    table: &MemTable,
+    list: &SortedRows,
+    range: &BytesRange,
+    order: IterationOrder,
+) -> Result<bool, SlateDBError> {
+    let rows = collected(alloc, table.range(alloc, range, order)?)?;
+    let listed = collected(alloc, list.range(range, order)?)?;
+    Ok(rows == listed)
+}
+
+fn collected(alloc: Global, mut rows: RowsIterator) -> Result<Vec<RowEntry>, SlateDBError> {
+    let all = collect_rows(alloc, &mut rows, &mut ());
+    drop(rows);
+    all
+}
+
+// Where a range begins and ends.
+type Ends = (Bound<&'static [u8]>, Bound<&'static [u8]>);
+
+fn are_same_between(
+    alloc: Global,
+    table: &MemTable,
+    list: &SortedRows,
+    ends: Ends,
+    order: IterationOrder,
+) -> Result<bool, SlateDBError> {
+    let range = BytesRange::from_slice(alloc, ends.0, ends.1)?;
+    let are_same = are_same_in(alloc, table, list, &range, order);
+    drop(range);
+    are_same
+}
+
+const RANGES: [Ends; 4] = [
+    (Bound::Unbounded, Bound::Unbounded),
+    (Bound::Included(b"k"), Bound::Included(b"l")),
+    (Bound::Excluded(b"a"), Bound::Excluded(b"l")),
+    (Bound::Excluded(b"k"), Bound::Unbounded),
+];
+
+fn are_same_in_order(
+    alloc: Global,
+    table: &MemTable,
+    list: &SortedRows,
+    order: IterationOrder,
+) -> Result<bool, SlateDBError> {
+    for ends in RANGES {
+        if !are_same_between(alloc, table, list, ends, order)? {
+            return Ok(false);
+        }
+    }
+    Ok(true)
+}
+
+fn are_same(alloc: Global, table: &MemTable, list: &SortedRows) -> Result<bool, SlateDBError> {
+    for max_seq in [0, 2, 3, 5, u64::MAX] {
+        if !are_same_up_to(alloc, table, list, max_seq)? {
+            return Ok(false);
+        }
+    }
+    Ok(
+        are_same_in_order(alloc, table, list, IterationOrder::Ascending)?
+            && are_same_in_order(alloc, table, list, IterationOrder::Descending)?,
+    )
+}
+
+fn are_both_same(alloc: Global) -> Result<bool, SlateDBError> {
+    let (table, list) = both(alloc)?;
+    let are_same = are_same(alloc, &table, &list);
+    drop((table, list));
+    are_same
+}
+
 #[test]
 fn a_list_has_the_same_rows(rt: HostRuntime) -> Result<(), SlateDBError> {
-    let alloc = rt.alloc();
-    let (table, list) = both(alloc)?;
-    for max_seq in [0, 2, 3, 5, u64::MAX] {
-        assert!(rt; are_same_up_to(alloc, &table, &list, max_seq)?);
-    }
-    let bounds: [(Bound<&[u8]>, Bound<&[u8]>); 4] = [
-        (Bound::Unbounded, Bound::Unbounded),
-        (Bound::Included(b"k"), Bound::Included(b"l")),
-        (Bound::Excluded(b"a"), Bound::Excluded(b"l")),
-        (Bound::Excluded(b"k"), Bound::Unbounded),
-    ];
-    for bounds in bounds {
-        assert!(rt; are_same_in_both_orders(alloc, &table, &list, bounds)?);
-    }
+    assert!(rt; are_both_same(rt.alloc())?);
     Ok(())
 }

@@ -39,22 +39,24 @@ impl RangePartitionedKeySpace for FirstKeys {
     }
 }
 
-// Whether each key is found where it should be: the first partition with it, the first with it or behind it, and the last with it.
+// Keys, and where they are: the first partition with it, the first with it or behind it, and the last with it.
+const PLACES: &[(&[u8], Option<usize>, usize, Option<usize>)] = &[
+    (b"\x00\x00\x00", None, 0, None),
+    (b"aaaa", Some(0), 0, Some(0)),
+    (b"bbbb", Some(0), 0, Some(1)),
+    (b"bbbbbla", Some(1), 1, Some(1)),
+];
+
 fn are_found<S: RangePartitionedKeySpace>(space: &S) -> bool {
-    let cases: [(&[u8], Option<usize>, usize, Option<usize>); 4] = [
-        (b"\x00\x00\x00", None, 0, None),
-        (b"aaaa", Some(0), 0, Some(0)),
-        (b"bbbb", Some(0), 0, Some(1)),
-        (b"bbbbbla", Some(1), 1, Some(1)),
-    ];
-    let mut are_found = true;
-    for (key, first, after, last) in cases {
-        are_found = are_found
-            && first_partition_including_key(space, key) == first
-            && first_partition_including_or_after_key(space, key) == after
-            && last_partition_including_key(space, key) == last;
+    for (key, first, after, last) in PLACES {
+        if first_partition_including_key(space, key) != *first
+            || first_partition_including_or_after_key(space, key) != *after
+            || last_partition_including_key(space, key) != *last
+        {
+            return false;
+        }
     }
-    are_found
+    true
 }
 
 // Whether the first partition alone covers the keys from aaaa to bbbb.

@@ -34,22 +34,28 @@ impl MergeOperator for Concat {
     }
 }
 
-// Through the bounds.
+// Two operands above a value, through the bounds.
 fn merged<M: MergeOperator>(
     alloc: Global,
     operator: &mut M,
     existing: Option<&Bytes>,
-    operands: &[Bytes],
 ) -> Result<Bytes, MergeOperatorError> {
-    operator.merge_batch(alloc, &Bytes::from_static(b"key"), existing, operands)
+    let operands = vec![in alloc; Bytes::from_static(b"b"), Bytes::from_static(b"c")]?;
+    let key = Bytes::from_static(b"key");
+    let merged = operator.merge_batch(alloc, &key, existing, &operands);
+    drop(key);
+    merged
+}
+
+// Whether operands without a value are joined, and the same operands behind what came of that.
+fn are_joined(alloc: Global) -> Result<bool, MergeOperatorError> {
+    let all = merged(alloc, &mut Concat, None)?;
+    let base = merged(alloc, &mut Concat, Some(&all))?;
+    Ok(all.as_slice() == b"bc".as_slice() && base.as_slice() == b"bcbc".as_slice())
 }
 
 #[test]
 fn operands_are_merged(rt: HostRuntime) -> Result<(), Fail> {
-    let operands = [Bytes::from_static(b"b"), Bytes::from_static(b"c")];
-    let all = merged(rt.alloc(), &mut Concat, None, &operands)?;
-    assert!(rt; all.as_slice() == b"bc".as_slice());
-    let base = merged(rt.alloc(), &mut Concat, Some(&all), &operands)?;
-    assert!(rt; base.as_slice() == b"bcbc".as_slice());
+    assert!(rt; are_joined(rt.alloc())?);
     Ok(())
 }

@@ -31,50 +31,79 @@ fn size(row: &RowEntry, prefix: usize) -> usize {
     }
 }
 
+fn size_of(value: Option<&'static [u8]>, prefix: usize) -> usize {
+    let row = row(b"hello", value);
+    let size = size(&row, prefix);
+    drop(row);
+    size
+}
+
+// A value, how much of the key is left out, and the size of the row.
+const SIZES: [(Option<&[u8]>, usize, usize); 6] = [
+    (None, 0, 18),
+    (None, 2, 16),
+    (None, 4, 14),
+    (Some(b"val"), 0, 25),
+    (Some(b"val"), 2, 23),
+    (Some(b"val"), 4, 21),
+];
+
 #[test]
 fn rows_have_sizes(rt: HostRuntime) {
     assert!(rt; Options::new().is_valid());
-    for (prefix, deleted, held) in [(0, 18, 25), (2, 16, 23), (4, 14, 21)] {
-        assert_eq!(rt; size(&row(b"hello", None), prefix), deleted);
-        assert_eq!(rt; size(&row(b"hello", Some(b"val")), prefix), held);
+    for (value, prefix, size) in SIZES {
+        assert!(rt; size_of(value, prefix) == size, "at {size}");
     }
 }
 
-fn text(alloc: Global, range: &BytesRange) -> Result<String, SlateDBError> {
-    Ok(format!(in alloc; "{:?} to {:?}", range.start, range.end)?)
+// Whether a range is this text.
+fn is_text(alloc: Global, range: BytesRange, expected: &str) -> Result<bool, SlateDBError> {
+    let text = format!(in alloc; "{:?} to {:?}", range.start, range.end);
+    drop(range);
+    Ok(text?.as_str() == expected)
 }
 
-fn prefixed(alloc: Global, prefix: &[u8]) -> Result<String, SlateDBError> {
-    text(alloc, &BytesRange::from_prefix(alloc, prefix)?)
+fn is_prefixed(alloc: Global, prefix: &[u8], expected: &str) -> Result<bool, SlateDBError> {
+    is_text(alloc, BytesRange::from_prefix(alloc, prefix)?, expected)
 }
 
 // Behind a key that the prefix is taken off.
-fn behind(alloc: Global, prefix: &[u8], start: &[u8]) -> Result<String, SlateDBError> {
+fn is_behind(
+    alloc: Global,
+    prefix: &[u8],
+    start: &[u8],
+    expected: &str,
+) -> Result<bool, SlateDBError> {
     let past: (Bound<&[u8]>, Bound<&[u8]>) = (Bound::Excluded(start), Bound::Unbounded);
-    text(
-        alloc,
-        &BytesRange::from_prefix_and_subrange(alloc, prefix, &past)?,
-    )
+    let range = BytesRange::from_prefix_and_subrange(alloc, prefix, &past)?;
+    is_text(alloc, range, expected)
 }
 
 // What a range from a key on has in common with that of all keys.
-fn common(alloc: Global, start: &[u8]) -> Result<String, SlateDBError> {
+fn is_common(alloc: Global, start: &[u8], expected: &str) -> Result<bool, SlateDBError> {
     let range = BytesRange::from_slice(alloc, Bound::Included(start), Bound::Unbounded)?;
-    match range.intersect(&BytesRange::unbounded())? {
-        Some(both) => text(alloc, &both),
-        None => Ok(String::new(alloc)),
+    let all = BytesRange::unbounded();
+    let both = range.intersect(&all);
+    drop((range, all));
+    match both? {
+        Some(both) => is_text(alloc, both, expected),
+        None => Ok(false),
     }
 }
 
 #[test]
 fn prefixes_have_ranges(rt: HostRuntime) -> Result<(), Fail> {
     let alloc = rt.alloc();
-    let prefixed = prefixed(alloc, b"p")?;
-    assert!(rt; prefixed.as_str() == "Included(b\"p\") to Excluded(b\"q\")");
-    let behind = behind(alloc, b"ab", b"x")?;
-    assert!(rt; behind.as_str() == "Excluded(b\"abx\") to Excluded(b\"ac\")");
-    let common = common(alloc, b"c")?;
-    assert!(rt; common.as_str() == "Included(b\"c\") to Unbounded");
+    assert!(rt; is_prefixed(alloc, b"p", "Included(b\"p\") to Excluded(b\"q\")")?);
+    assert!(rt;
+        is_behind(
+            alloc,
+            b"ab",
+            b"x",
+            "Excluded(b\"abx\") to Excluded(b\"ac\")"
+        )?
+    );
+    assert!(rt; is_common(alloc, b"c", "Included(b\"c\") to Unbounded")?);
     Ok(())
 }
 
@@ -86,7 +115,10 @@ fn sought<I: RowEntryIterator<()>>(
 ) -> Result<Option<u64>, SlateDBError> {
     rows.init(alloc, &mut ())?;
     rows.seek(alloc, key, &mut ())?;
-    Ok(rows.next(alloc, &mut ())?.map(|row| row.seq))
+    let row = rows.next(alloc, &mut ())?;
+    let seq = row.as_ref().map(|row| row.seq);
+    drop(row);
+    Ok(seq)
 }
 
 fn walk(alloc: Global) -> Result<RowsIterator, SlateDBError> {
@@ -99,9 +131,15 @@ fn walk(alloc: Global) -> Result<RowsIterator, SlateDBError> {
     Ok(RowsIterator::new(rows, IterationOrder::Ascending))
 }
 
+fn sought_in_walk(alloc: Global, key: &[u8]) -> Result<Option<u64>, SlateDBError> {
+    let mut rows = walk(alloc)?;
+    let seq = sought(alloc, &mut rows, key);
+    drop(rows);
+    seq
+}
+
 #[test]
 fn rows_are_walked(rt: HostRuntime) -> Result<(), Fail> {
-    let mut rows = walk(rt.alloc())?;
-    assert!(rt; sought(rt.alloc(), &mut rows, b"b")? == Some(2));
+    assert!(rt; sought_in_walk(rt.alloc(), b"b")? == Some(2));
     Ok(())
 }

@@ -1,134 +1,176 @@
 // What stores answer: one in memory, and one over a folder.
-use bytes::Bytes;
-use slate_store::{FileStore, MemoryStore, Store, StoreError};
+use slate_store::{FileStore, MemoryStore, PathText, Store, StoreError};
 use slate_types::SlateDBError;
 use std::alloc::Global;
-use std::fs;
 use std::test::Fail;
+use std::{fs, io};
 
 const FOLDER: &str = "stores-objects";
 
-const RANGES: [(&str, u64, u64); 8] = [
-    ("b/two", 0, 5),
-    ("b/two", 1, 4),
-    ("b/two", 5, 0),
-    ("b/two", 1, 5),
-    ("b/two", 6, 0),
-    ("a", 0, 0),
-    ("b", 0, 0),
-    ("missing", 0, 0),
+// A range of an object with what is read there, and with how long the object is.
+type Range<'a> = (&'a str, u64, u64, Option<&'a [u8]>, Option<u64>);
+
+const RANGES: &[Range<'_>] = &[
+    ("b/two", 0, 5, Some(b"hello"), Some(5)),
+    ("b/two", 1, 4, Some(b"ello"), Some(5)),
+    ("b/two", 5, 0, Some(b""), Some(5)),
+    ("b/two", 1, 5, None, Some(5)),
+    ("b/two", 6, 0, None, Some(5)),
+    ("a", 0, 0, Some(b""), Some(0)),
+    ("b", 0, 0, None, None),
+    ("missing", 0, 0, None, None),
 ];
 
-const ANSWERS: &str =
-    "Some(b\"hello\") Some(b\"ello\") Some(b\"\") None None Some(b\"\") None None \
-                       Some(5) Some(0) None None a b-z b/one b/two";
+const OBJECTS: &[(&str, &[u8])] = &[
+    ("b/two", b"the old object"),
+    ("b/one", b"1"),
+    ("b-z", b""),
+    ("a", b""),
+    ("b/two", b"hello"),
+];
 
-// What the calls answer that read, one behind the other.
-fn answers<S: Store>(alloc: Global, store: &mut S) -> Result<String, SlateDBError> {
-    for (path, bytes) in [
-        ("b/two", "the old object"),
-        ("b/one", "1"),
-        ("b-z", ""),
-        ("a", ""),
-        ("b/two", "hello"),
-    ] {
-        store.put(alloc, path, bytes.as_bytes())?;
+fn put_objects<S: Store>(alloc: Global, store: &mut S) -> Result<(), StoreError> {
+    for (path, bytes) in OBJECTS {
+        store.put(alloc, path, bytes)?;
     }
-    let mut words = Vec::new(alloc);
-    for (path, start, len) in RANGES {
-        let range = store.read_range(alloc, path, start, len)?;
-        words.push(format!(in alloc; "{range:?}")?)?;
-    }
-    for path in ["b/two", "a", "b", "missing"] {
-        let len = store.len(alloc, path)?;
-        words.push(format!(in alloc; "{len:?}")?)?;
-    }
-    for path in store.list(alloc)? {
-        words.push(path.into_string())?;
-    }
-    Ok(words.join(alloc, " ")?)
-}
-
-// What a store answers of which the second call fails, the fourth and the fifth: which of these fail, and what is read at last.
-fn refused<S: Store>(
-    alloc: Global,
-    store: &mut S,
-) -> Result<([bool; 5], Option<Bytes>), SlateDBError> {
-    let failed = [
-        store.put(alloc, "a", b"old").is_err(),
-        store.put(alloc, "a", b"new").is_err(),
-        store.len(alloc, "a").is_err(),
-        store.read_range(alloc, "a", 0, 3).is_err(),
-        store.len(alloc, "a").is_err(),
-    ];
-    let object = store.read_range(alloc, "a", 0, 3)?;
-    Ok((failed, object))
-}
-
-#[test]
-fn keeps_objects_in_memory(rt: HostRuntime) -> Result<(), Fail> {
-    let alloc = rt.alloc();
-    let mut store = MemoryStore::new(alloc, Vec::new(alloc));
-    assert!(rt; answers(alloc, &mut store)?.as_str() == ANSWERS);
     Ok(())
 }
 
+fn is_read<S: Store>(alloc: Global, store: &mut S, range: &Range<'_>) -> Result<bool, StoreError> {
+    let len = store.len(alloc, range.0)?;
+    let bytes = store.read_range(alloc, range.0, range.1, range.2)?;
+    let is_same = match &bytes {
+        Some(bytes) => range.3 == Some(bytes.as_slice()),
+        None => range.3.is_none(),
+    };
+    drop(bytes);
+    Ok(is_same && len == range.4)
+}
+
+// How many ranges are read as they should be, up to the first that isn't.
+fn well_read<S: Store>(alloc: Global, store: &mut S) -> Result<usize, StoreError> {
+    let mut count: usize = 0;
+    for range in RANGES {
+        if !is_read(alloc, store, range)? {
+            break;
+        }
+        count = count.saturating_add(1);
+    }
+    Ok(count)
+}
+
+fn are_all(paths: &[PathText]) -> bool {
+    match paths {
+        [a, b_z, b_one, b_two] => {
+            a.as_str() == "a"
+                && b_z.as_str() == "b-z"
+                && b_one.as_str() == "b/one"
+                && b_two.as_str() == "b/two"
+        }
+        _ => false,
+    }
+}
+
+// How many ranges are well read, and whether all objects are listed.
+fn answers<S: Store>(alloc: Global, store: &mut S) -> Result<(usize, bool), StoreError> {
+    put_objects(alloc, store)?;
+    let count = well_read(alloc, store)?;
+    Ok((count, are_all(store.list(alloc)?.as_slice())))
+}
+
+fn answers_well<S: Store>(alloc: Global, store: &mut S) -> Result<bool, StoreError> {
+    let (count, is_listed) = answers(alloc, store)?;
+    Ok(count == RANGES.len() && is_listed)
+}
+
+fn answers_in_memory(alloc: Global) -> Result<(usize, bool), StoreError> {
+    answers(alloc, &mut MemoryStore::new(alloc, Vec::new(alloc)))
+}
+
 #[test]
-fn fails_where_it_is_told_to(rt: HostRuntime) -> Result<(), Fail> {
-    let alloc = rt.alloc();
+fn keeps_objects_in_memory(rt: HostRuntime) -> Result<(), StoreError> {
+    let (count, is_listed) = answers_in_memory(rt.alloc())?;
+    assert!(rt; count == RANGES.len() && is_listed, "at {count}");
+    Ok(())
+}
+
+fn has_failed<T: Drop>(answer: Result<T, StoreError>) -> bool {
+    answer.is_err()
+}
+
+const OLD: Range<'_> = ("a", 0, 3, Some(b"old"), Some(3));
+
+// Which calls fail of a store whose second call is to fail, the fourth and the fifth, and whether what was put first is read at last.
+fn refused(alloc: Global) -> Result<([bool; 5], bool), StoreError> {
     let mut store = MemoryStore::new(alloc, vec![in alloc; 2, 4, 5]?);
-    let (failed, object) = refused(alloc, &mut store)?;
-    assert!(rt; failed == [false, true, false, true, true]);
-    assert!(rt; object == Some(Bytes::from_static(b"old")));
+    let failed = [
+        has_failed(store.put(alloc, "a", b"old")),
+        has_failed(store.put(alloc, "a", b"new")),
+        has_failed(store.len(alloc, "a")),
+        has_failed(store.read_range(alloc, "a", 0, 3)),
+        has_failed(store.len(alloc, "a")),
+    ];
+    Ok((failed, is_read(alloc, &mut store, &OLD)?))
+}
+
+#[test]
+fn fails_where_it_is_told_to(rt: HostRuntime) -> Result<(), StoreError> {
+    let (failed, is_old) = refused(rt.alloc())?;
+    assert!(rt; failed == [false, true, false, true, true] && is_old);
     Ok(())
 }
 
 // Whether each of these paths is refused.
 fn are_refused<S: Store>(alloc: Global, store: &mut S, paths: &[&str]) -> bool {
-    let mut are_refused = true;
     for path in paths {
-        are_refused = are_refused && store.put(alloc, path, b"x") == Err(StoreError::Failed);
+        if store.put(alloc, path, b"x") != Err(StoreError::Failed) {
+            return false;
+        }
     }
-    are_refused
-}
-
-fn count<S: Store>(alloc: Global, store: &mut S) -> Result<usize, SlateDBError> {
-    Ok(store.list(alloc)?.len())
+    true
 }
 
 // A folder that isn't there has no objects, and is not made by that.
-fn is_empty(rt: &HostRuntime) -> Result<bool, Fail> {
-    let mut store = FileStore::new(rt.alloc(), rt, FOLDER)?;
-    Ok(count(rt.alloc(), &mut store)? == 0 && !fs::exists(rt, FOLDER)?)
+fn is_empty<S: Store>(rt: &HostRuntime, store: &mut S) -> Result<bool, Fail> {
+    Ok(store.list(rt.alloc())?.is_empty() && !fs::exists(rt, FOLDER)?)
 }
 
-// What a store over the folder answers, and whether it refuses paths that are none and keeps its four objects.
-fn answers_in_a_folder(rt: &HostRuntime) -> Result<(String, bool), Fail> {
+const NO_PATHS: &[&str] = &[
+    "", "/a", "../a", "b/../a", "b//one", "b/", "./a", "a.tmp", "a/b",
+];
+
+// Whether paths that are none are refused, and the four objects kept.
+fn refuses<S: Store>(alloc: Global, store: &mut S) -> Result<bool, StoreError> {
+    Ok(are_refused(alloc, store, NO_PATHS) && store.list(alloc)?.len() == 4)
+}
+
+fn answers_in_a_folder(rt: &HostRuntime) -> Result<bool, Fail> {
     let mut store = FileStore::new(rt.alloc(), rt, FOLDER)?;
-    let text = answers(rt.alloc(), &mut store)?;
-    let paths = [
-        "", "/a", "../a", "b/../a", "b//one", "b/", "./a", "a.tmp", "a/b",
-    ];
-    let are_refused = are_refused(rt.alloc(), &mut store, &paths);
-    Ok((text, are_refused && count(rt.alloc(), &mut store)? == 4))
+    Ok(
+        is_empty(rt, &mut store)?
+            && answers_well(rt.alloc(), &mut store)?
+            && refuses(rt.alloc(), &mut store)?,
+    )
 }
 
 // Whether a folder is none that is a file.
-fn is_no_folder(rt: &HostRuntime) -> Result<bool, Fail> {
+fn is_no_folder(rt: &HostRuntime) -> Result<bool, SlateDBError> {
     let mut store = FileStore::new(rt.alloc(), rt, "stores-objects/a")?;
     Ok(are_refused(rt.alloc(), &mut store, &["x"]))
 }
 
+fn clear(rt: &HostRuntime) -> io::Result<()> {
+    if fs::exists(rt, FOLDER)? {
+        fs::remove_dir_all(rt, FOLDER)?;
+    }
+    Ok(())
+}
+
 #[test]
 fn keeps_objects_in_a_folder(rt: HostRuntime) -> Result<(), Fail> {
-    if fs::exists(&rt, FOLDER)? {
-        fs::remove_dir_all(&rt, FOLDER)?;
-    }
-    assert!(rt; is_empty(&rt)?);
-    let (text, is_kept) = answers_in_a_folder(&rt)?;
-    assert!(rt; text.as_str() == ANSWERS && is_kept);
-    assert!(rt; !fs::exists(&rt, "stores-objects/a.tmp")?);
-    assert!(rt; is_no_folder(&rt)?);
-    fs::remove_dir_all(&rt, FOLDER)?;
+    clear(&rt)?;
+    assert!(rt; answers_in_a_folder(&rt)?);
+    assert!(rt; !fs::exists(&rt, "stores-objects/a.tmp")? && is_no_folder(&rt)?);
+    clear(&rt)?;
     Ok(())
 }

@@ -1,6 +1,8 @@
 // A table of one row whose bytes were written elsewhere: a is 1, of sequence 1, made at moment 0. Its parts, and the whole.
 ghost use Rattle.std.specs.Prelude.{◌<◌};
+ghost use Rattle.slate_table.specs.Decoded.{FitsShort};
 
+use crate::listing::is_bytes;
 use bytes::Bytes;
 use slate_script::parts::Xor;
 use slate_table::section::{open_section, seal_section};
@@ -12,34 +14,24 @@ use slate_types::{BlockFormat, BlockTransformer, RowEntry, SlateDBError, ValueDe
 use std::alloc::Global;
 use std::test::Fail;
 
-const BLOCK: &[u8] =
-    b"\x00\x00\x00\x01a\x00\x00\x00\x00\x00\x00\x00\x01\x04\x00\x00\x00\x00\x00\x00\x00\x00\x00\x00\x00\x011\x00\x00\x00\x01";
+// All bytes of the table: its block, index, statistics and info, each with its checksum, and its last bytes.
+pub const TABLE: &[u8] = b"\
+\x00\x00\x00\x01a\x00\x00\x00\x00\x00\x00\x00\x01\x04\x00\x00\x00\x00\x00\x00\x00\x00\x00\x00\x00\x011\x00\x00\x00\x01\xe4\x2a\x92\x08\
+\x00\x00\x00\x01\x00\x00\x00\x00\x00\x00\x00\x00\x00\x01a\x6f\xd8\x2f\x07\
+\x00\x00\x00\x00\x00\x00\x00\x01\x00\x00\x00\x00\x00\x00\x00\x00\x00\x00\x00\x00\x00\x00\x00\x00\x00\x00\x00\x00\x00\x00\x00\x01\x00\x00\x00\x00\x00\x00\x00\x01\x00\x00\x00\x01\x00\x01\x00\x00\x00\x00\xd5\xef\xf7\x79\
+\x00\x01\x01\x00\x01a\x01\x00\x01a\x00\x00\x00\x00\x00\x00\x00\x23\x00\x00\x00\x00\x00\x00\x00\x13\x00\x00\x00\x00\x00\x00\x00\x23\x00\x00\x00\x00\x00\x00\x00\x00\x00\x00\x00\x00\x00\x00\x00\x36\x00\x00\x00\x00\x00\x00\x00\x36\x00\x01\xaa\xfc\xdf\xa4\
+\x00\x00\x00\x00\x00\x00\x00\x6c\x00\x01";
 
-const INDEX: &[u8] = b"\x00\x00\x00\x01\x00\x00\x00\x00\x00\x00\x00\x00\x00\x01a";
-
-const STATS: &[u8] =
-    b"\x00\x00\x00\x00\x00\x00\x00\x01\x00\x00\x00\x00\x00\x00\x00\x00\x00\x00\x00\x00\x00\x00\x00\x00\x00\x00\x00\x00\x00\x00\x00\x01\x00\x00\x00\x00\x00\x00\x00\x01\x00\x00\x00\x01\x00\x01\x00\x00\x00\x00";
-
-const INFO: &[u8] =
-    b"\x00\x01\x01\x00\x01a\x01\x00\x01a\x00\x00\x00\x00\x00\x00\x00\x23\x00\x00\x00\x00\x00\x00\x00\x13\x00\x00\x00\x00\x00\x00\x00\x23\x00\x00\x00\x00\x00\x00\x00\x00\x00\x00\x00\x00\x00\x00\x00\x36\x00\x00\x00\x00\x00\x00\x00\x36\x00\x01";
+pub fn all_parts(alloc: Global) -> Result<Vec<u8>, SlateDBError> {
+    let mut bytes = Vec::new(alloc);
+    bytes.extend_from_slice(TABLE)?;
+    Ok(bytes)
+}
 
 const FOOTER: &[u8; 10] = b"\x00\x00\x00\x00\x00\x00\x00\x6c\x00\x01";
 
-// All bytes of the table: its parts, each with its checksum, and its last bytes.
-pub fn all_parts(alloc: Global) -> Result<Vec<u8>, SlateDBError> {
-    let mut bytes = Vec::new(alloc);
-    let parts: [(&[u8], &[u8]); 5] = [
-        (BLOCK, b"\xe4\x2a\x92\x08"),
-        (INDEX, b"\x6f\xd8\x2f\x07"),
-        (STATS, b"\xd5\xef\xf7\x79"),
-        (INFO, b"\xaa\xfc\xdf\xa4"),
-        (FOOTER, b""),
-    ];
-    for (part, sum) in parts {
-        bytes.extend_from_slice(part)?;
-        bytes.extend_from_slice(sum)?;
-    }
-    Ok(bytes)
+fn part(from: usize, to: usize) -> &'static [u8] {
+    TABLE.get(from..to).unwrap_or(b"")
 }
 
 // The table as it is built.
@@ -61,50 +53,69 @@ pub fn one_row<T: BlockTransformer>(
         create_ts: Some(0),
         expire_ts: None,
     };
-    builder.add(alloc, row, transformer)?;
-    builder.build(alloc, transformer)
+    match builder.add(alloc, row, transformer) {
+        Ok(_) => builder.build(alloc, transformer),
+        Err(refusal) => {
+            drop(builder);
+            Err(refusal)
+        }
+    }
 }
 
 fn bytes_of_one_row(alloc: Global) -> Result<Bytes, SlateDBError> {
     let mut unchanged: Option<Xor> = None;
-    one_row(alloc, &mut unchanged)?.remaining_as_bytes()
+    let table = one_row(alloc, &mut unchanged)?;
+    let bytes = table.remaining_as_bytes();
+    drop(table);
+    bytes
 }
 
 #[test]
 fn tables_are_built(rt: HostRuntime) -> Result<(), Fail> {
-    let bytes = bytes_of_one_row(rt.alloc())?;
-    assert!(rt; bytes.as_slice() == all_parts(rt.alloc())?.as_slice());
+    assert!(rt; is_bytes(bytes_of_one_row(rt.alloc()), TABLE)?);
     Ok(())
 }
 
 #[test]
 fn checksums_are_known(rt: HostRuntime) {
-    assert_eq!(rt; checksum(b"123456789"), 0xcbf4_3926);
-    assert_eq!(rt; checksum(b""), 0);
+    assert_eq!(rt; [checksum(b"123456789"), checksum(b"")], [0xcbf4_3926, 0]);
 }
+
+// Whether this is what separates the keys.
+fn is_between(previous: &[u8], key: &'static [u8], short: &[u8]) -> Result<bool, SlateDBError> {
+    let key = Bytes::from_static(key);
+    let front = separator(previous, &key);
+    drop(key);
+    Ok(front?.as_slice() == short)
+}
+
+// A key, the one behind it, and what separates them.
+const SEPARATORS: [(&[u8], &[u8], &[u8]); 3] = [
+    (b"abcd", b"abxyz", b"abx"),
+    (b"ab", b"abc", b"abc"),
+    (b"b", b"b", b"b"),
+];
 
 #[test]
 fn separators_are_short(rt: HostRuntime) -> Result<(), Fail> {
-    let cases: [(&[u8], &'static [u8], &[u8]); 3] = [
-        (b"abcd", b"abxyz", b"abx"),
-        (b"ab", b"abc", b"abc"),
-        (b"b", b"b", b"b"),
-    ];
-    for (previous, key, short) in cases {
-        let front = separator(previous, &Bytes::from_static(key))?;
-        assert!(rt; front.as_slice() == short);
+    for (previous, key, short) in SEPARATORS {
+        assert!(rt; is_between(previous, key, short)?);
     }
     Ok(())
 }
 
-// The bytes of the parts that these bytes are.
-fn copied_stats(alloc: Global, bytes: &'static [u8]) -> Result<Bytes, SlateDBError> {
-    SstStats::decode(alloc, Bytes::from_static(bytes))?.encode(alloc)
+// Whether the statistics that the bytes are are written as these again.
+fn is_stats(alloc: Global, bytes: &'static [u8]) -> Result<bool, SlateDBError> {
+    let stats = SstStats::decode(alloc, Bytes::from_static(bytes))?;
+    is_bytes(stats.encode(alloc), bytes)
 }
 
-// The info of the table, as bytes.
-fn written_info(alloc: Global) -> Result<Bytes, SlateDBError> {
-    let info = SsTableInfo {
+// Where the sections of the table lie, and its keys.
+fn table_info() -> SsTableInfo
+    ensures first { FitsShort result.first_entry }
+    ensures last { FitsShort result.last_entry }
+{
+    SsTableInfo {
         first_entry: Some(Bytes::from_static(b"a")),
         last_entry: Some(Bytes::from_static(b"a")),
         index_offset: 35,
@@ -113,65 +124,67 @@ fn written_info(alloc: Global) -> Result<Bytes, SlateDBError> {
         filter_len: 0,
         stats_offset: 54,
         stats_len: 54,
-    };
-    info.encode(alloc, 1)
+    }
 }
 
-// Where the sections and the info of a table of version 1 lie, by these bytes.
-fn offsets(bytes: &'static [u8], end: u64) -> Result<[u64; 6], SlateDBError> {
-    let info = SsTableInfo::decode(Bytes::from_static(bytes), 1, end)?;
-    Ok([
-        info.index_offset,
-        info.index_len,
-        info.filter_offset,
-        info.filter_len,
-        info.stats_offset,
-        info.stats_len,
-    ])
+fn is_info_read(bytes: &'static [u8], end: u64) -> Result<bool, SlateDBError> {
+    let read = SsTableInfo::decode(Bytes::from_static(bytes), 1, end)?;
+    let info = table_info();
+    let is_same = read == info;
+    drop((read, info));
+    Ok(is_same)
 }
 
-fn copied_footer(alloc: Global, bytes: &[u8; 10]) -> Result<Vec<u8>, SlateDBError> {
+fn is_info_written(alloc: Global, bytes: &[u8]) -> Result<bool, SlateDBError> {
+    let info = table_info();
+    let written = info.encode(alloc, 1);
+    drop(info);
+    is_bytes(written, bytes)
+}
+
+fn is_footer(alloc: Global, bytes: &[u8; 10]) -> Result<bool, SlateDBError> {
     let mut out = Vec::new(alloc);
     Footer::decode(bytes, 182)?.encode(&mut out)?;
-    Ok(out)
+    Ok(out.as_slice() == bytes.as_slice())
+}
+
+fn are_parts(alloc: Global) -> Result<bool, SlateDBError> {
+    let info = part(108, 168);
+    let is_stats = is_stats(alloc, part(54, 104))?;
+    let is_read = is_info_read(info, 108)?;
+    let is_written = is_info_written(alloc, info)?;
+    let is_footer = is_footer(alloc, FOOTER)?;
+    Ok(is_stats && is_read && is_written && is_footer)
 }
 
 #[test]
 fn parts_are_read_and_written(rt: HostRuntime) -> Result<(), Fail> {
-    let alloc = rt.alloc();
-    assert!(rt; copied_stats(alloc, STATS)?.as_slice() == STATS);
-    assert!(rt; offsets(INFO, 108)? == [35, 19, 35, 0, 54, 54]);
-    assert!(rt; written_info(alloc)?.as_slice() == INFO);
-    assert!(rt; copied_footer(alloc, FOOTER)?.as_slice() == FOOTER.as_slice());
+    assert!(rt; are_parts(rt.alloc())?);
     Ok(())
 }
 
-fn sealed<T: BlockTransformer>(
+// Whether a part is sealed as these bytes, and opened again.
+fn is_sealed_and_opened<T: BlockTransformer>(
     alloc: Global,
     part: &'static [u8],
+    bytes: &[u8],
     transformer: &mut Option<T>,
-) -> Result<Vec<u8>, SlateDBError> {
+) -> Result<bool, SlateDBError> {
     let mut out = Vec::new(alloc);
     seal_section(alloc, &mut out, Bytes::from_static(part), transformer)?;
-    Ok(out)
-}
-
-fn opened<T: BlockTransformer>(
-    alloc: Global,
-    section: &[u8],
-    transformer: &mut Option<T>,
-) -> Result<Bytes, SlateDBError> {
-    let section = Bytes::copy_from_slice(alloc, section)?;
-    open_section(alloc, &section, transformer)
+    let section = Bytes::from_vec(out)?;
+    let is_sealed = section.as_slice() == bytes;
+    let opened = open_section(alloc, &section, transformer);
+    drop(section);
+    let is_opened = is_bytes(opened, part)?;
+    Ok(is_sealed && is_opened)
 }
 
 #[test]
 fn sections_are_sealed_and_opened(rt: HostRuntime) -> Result<(), Fail> {
-    let alloc = rt.alloc();
+    let part = b"123456789";
+    let section = b"123456789\xcb\xf4\x39\x26";
     let mut unchanged: Option<Xor> = None;
-    let section = sealed(alloc, b"123456789", &mut unchanged)?;
-    assert!(rt; section.as_slice() == b"123456789\xcb\xf4\x39\x26".as_slice());
-    let part = opened(alloc, section.as_slice(), &mut unchanged)?;
-    assert!(rt; part.as_slice() == b"123456789".as_slice());
+    assert!(rt; is_sealed_and_opened(rt.alloc(), part, section, &mut unchanged)?);
     Ok(())
 }
