@@ -164,7 +164,10 @@ fn len_of_file(
     folder: &str,
     path: &str,
 ) -> io::Result<Option<u64>> {
-    len_at(files, &place_of(alloc, folder, path)?)
+    let target = place_of(alloc, folder, path)?;
+    let len = len_at(files, &target);
+    drop(target);
+    len
 }
 
 /// The length of the file there, and `None` where there is none.
@@ -189,7 +192,11 @@ fn list_files<R: Files + AllocGlobal + Clone + Drop>(
     inner.push(String::new(alloc))?;
     for _ in 0..u64::MAX {
         match inner.pop() {
-            Some(names) => list_folder(alloc, rt, folder, &names, &mut inner, &mut paths)?,
+            Some(names) => {
+                let listed = list_folder(alloc, rt, folder, &names, &mut inner, &mut paths);
+                drop(names);
+                listed?;
+            }
             None => break,
         }
     }
@@ -207,7 +214,10 @@ fn list_folder<R: Files + AllocGlobal + Clone + Drop>(
     inner: &mut Vec<String>,
     paths: &mut Vec<String>,
 ) -> io::Result<()> {
-    match fs::read_dir(rt, &joined(alloc, folder, "/", names)?) {
+    let place = joined(alloc, folder, "/", names)?;
+    let entries = fs::read_dir(rt, &place);
+    drop(place);
+    match entries {
         Ok(entries) => list_entries(alloc, entries, names, inner, paths),
         Err(error) => if_missing(error, ()),
     }

@@ -26,5 +26,5 @@ pub use store::{Store, StoreError};
 pub use stream::{ReaderSource, WriterSink};
 
 /// A source or a sink failed. Its count of faults has risen.
-#[derive(Clone, Copy, Debug, PartialEq, Eq)]
+#[derive(Clone, Copy, Debug)]
 pub struct Failed;

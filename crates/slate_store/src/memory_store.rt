@@ -51,9 +51,16 @@ impl Store for MemoryStore {
     fn put(&mut self, alloc: Global, path: &str, bytes: &[u8]) -> Result<(), StoreError> {
         self.plan.step()?;
         let path = ByteStr::copy_from_str(alloc, path)?;
-        let bytes = Bytes::copy_from_slice(alloc, bytes)?;
-        self.objects.insert(path, bytes)?;
-        Ok(())
+        match Bytes::copy_from_slice(alloc, bytes) {
+            Ok(bytes) => {
+                drop(self.objects.insert(path, bytes)?);
+                Ok(())
+            }
+            Err(error) => {
+                drop(path);
+                Err(error.into())
+            }
+        }
     }
 
     /// Copies no byte of the object: the answer shares its memory.

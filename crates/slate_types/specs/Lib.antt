@@ -12,3 +12,4 @@ pub mod Laws
 pub mod Outside
 pub mod Refusals
 pub mod Partitions
+pub mod Vectors

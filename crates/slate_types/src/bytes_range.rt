@@ -10,7 +10,7 @@ use std::alloc::{AllocError, Global};
 use std::ops::{Bound, RangeFull};
 
 /// The keys between two bounds. Bounds that leave none are refused where a range is made.
-#[derive(Clone, Debug, PartialEq, Eq, Drop)]
+#[derive(Clone, PartialEq, Eq, Drop)]
 pub struct BytesRange {
     pub start: Bound<Bytes>,
     pub end: Bound<Bytes>,
@@ -79,8 +79,13 @@ impl BytesRange {
         ensures refused { IfErr result (λ e. (e ≡ SlateDBError.OutOfMemory) ⊎ ((e ≡ SlateDBError.InvalidRange) × (prefix_subrange prefix.now (B.start subrange.now) (B.end subrange.now) ≡ None))) }
     {
         let start = start_behind(alloc, prefix, subrange.start_bound())?;
-        let end = end_behind(alloc, prefix, subrange.end_bound())?;
-        BytesRange::new(start, end)
+        match end_behind(alloc, prefix, subrange.end_bound()) {
+            Ok(end) => BytesRange::new(start, end),
+            Err(error) => {
+                drop(start);
+                Err(error.into())
+            }
+        }
     }
 
     /// The range of the keys that are in both, or `None` exactly where `new` refuses its bounds.
@@ -89,8 +94,13 @@ impl BytesRange {
         ensures memory { IfErr result (λ e. e ≡ SlateDBError.OutOfMemory) }
     {
         let start = later_start(&self.start, &other.start).clone()?;
-        let end = earlier_end(&self.end, &other.end).clone()?;
-        Ok(BytesRange::try_new(start, end))
+        match earlier_end(&self.end, &other.end).clone() {
+            Ok(end) => Ok(BytesRange::try_new(start, end)),
+            Err(error) => {
+                drop(start);
+                Err(error.into())
+            }
+        }
     }
 
     /// Whether the key passes both bounds.

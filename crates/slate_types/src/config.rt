@@ -9,7 +9,7 @@ use crate::iter::IterationOrder;
 
 /// Which commits a transaction conflicts with: those that write what it writes, or also those that
 /// write what it read.
-#[derive(Clone, Copy, Debug, PartialEq, Eq, Default)]
+#[derive(Clone, Copy, PartialEq, Eq, Default)]
 pub enum IsolationLevel {
     #[default]
     Snapshot,
@@ -34,7 +34,7 @@ pub enum CompressionCodec {
 }
 
 /// How long a row lives, in milliseconds.
-#[derive(Clone, Copy, Debug, PartialEq, Eq, Default)]
+#[derive(Clone, Copy, PartialEq, Eq, Default)]
 pub enum Ttl {
     #[default]
     Default,
@@ -56,7 +56,7 @@ impl Ttl {
 }
 
 /// Options of one put.
-#[derive(Clone, Copy, Debug, PartialEq, Eq, Default)]
+#[derive(Clone, Copy, PartialEq, Eq, Default)]
 pub struct PutOptions {
     pub ttl: Ttl,
 }
@@ -72,7 +72,7 @@ impl PutOptions {
 }
 
 /// Options of one merge.
-#[derive(Clone, Copy, Debug, PartialEq, Eq, Default)]
+#[derive(Clone, Copy, PartialEq, Eq, Default)]
 pub struct MergeOptions {
     pub ttl: Ttl,
 }
@@ -88,26 +88,26 @@ impl MergeOptions {
 }
 
 /// Options of one get.
-#[derive(Clone, Debug, PartialEq, Eq, Default, Drop)]
+#[derive(Default, Drop)]
 pub struct ReadOptions {
     pub filter_context: Option<FilterContext>,
 }
 
 /// Options of one scan.
-#[derive(Clone, Debug, PartialEq, Eq, Default, Drop)]
+#[derive(Default, Drop)]
 pub struct ScanOptions {
     pub order: IterationOrder,
     pub filter_context: Option<FilterContext>,
 }
 
 /// Options of one commit: the moment, in milliseconds.
-#[derive(Clone, Copy, Debug, PartialEq, Eq)]
+#[derive(Clone, Copy)]
 pub struct WriteOptions {
     pub now: i64,
 }
 
 /// Options of a database. `new` has the defaults, and `is_valid` tests the limits.
-#[derive(Clone, Copy, Debug, PartialEq, Eq)]
+#[derive(Clone, Copy)]
 pub struct Options {
     /// The size in bytes that an encoded block is held to.
     pub block_size: u32,

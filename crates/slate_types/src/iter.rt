@@ -11,7 +11,7 @@ use crate::types::RowEntry;
 use std::alloc::Global;
 
 /// By key upwards, or by key downwards.
-#[derive(Clone, Copy, Debug, PartialEq, Eq, Default)]
+#[derive(Clone, Copy, PartialEq, Eq, Default)]
 pub enum IterationOrder {
     #[default]
     Ascending,

@@ -15,6 +15,7 @@ pub mod partitioned_keyspace;
 pub mod rows_iterator;
 pub mod sequenced_key;
 pub mod types;
+pub mod vectors;
 
 pub use block_transformer::{BlockTransformer, TransformError};
 pub use byte_range_bounds::ByteRangeBounds;
@@ -40,22 +41,26 @@ fn crosses<T: Send + Sync>() {}
 
 /// The types of this crate go to other threads, and are shared between them.
 pub fn types_cross_threads() {
-    crosses::<ValueDeletable>();
-    crosses::<RowEntry>();
-    crosses::<KeyValue>();
-    crosses::<SequencedKey>();
-    crosses::<BytesRange>();
-    crosses::<FilterQuery>();
-    crosses::<Ulid>();
-    crosses::<IsolationLevel>();
-    crosses::<Options>();
-    crosses::<ReadOptions>();
-    crosses::<ScanOptions>();
-    crosses::<PutOptions>();
-    crosses::<MergeOptions>();
-    crosses::<WriteOptions>();
-    crosses::<SlateDBError>();
-    crosses::<MergeOperatorError>();
-    crosses::<TransformError>();
-    crosses::<RowsIterator>();
+    crosses::<
+        (
+            ValueDeletable,
+            RowEntry,
+            KeyValue,
+            SequencedKey,
+            BytesRange,
+            FilterQuery,
+        ),
+    >();
+    crosses::<
+        (
+            Ulid,
+            IsolationLevel,
+            Options,
+            ReadOptions,
+            ScanOptions,
+            RowsIterator,
+        ),
+    >();
+    crosses::<(PutOptions, MergeOptions, WriteOptions)>();
+    crosses::<(SlateDBError, MergeOperatorError, TransformError)>();
 }

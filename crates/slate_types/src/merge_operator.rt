@@ -100,7 +100,9 @@ pub trait MergeOperator: Drop {
     {
         let mut merged = existing_value.cloned()?;
         for operand in operands {
-            merged = Some(self.merge(alloc, key, merged.as_ref(), operand)?);
+            let made = self.merge(alloc, key, merged.as_ref(), operand);
+            drop(merged);
+            merged = Some(made?);
         }
         merged.ok_or(MergeOperatorError::EmptyBatch)
     }

@@ -7,11 +7,10 @@ ghost use Rattle.std.specs.Ordering.{as_partial_cmp};
 ghost use Rattle.slate_types.specs.Rows.{sequenced_cmp};
 
 use bytes::Bytes;
-use std::alloc::AllocError;
 use std::cmp::Ordering;
 
 /// A key and a sequence, ordered by key upwards, then by sequence downwards.
-#[derive(Debug, PartialEq, Eq, Drop)]
+#[derive(PartialEq, Eq, Drop)]
 pub struct SequencedKey {
     pub user_key: Bytes,
     pub seq: u64,
@@ -24,14 +23,6 @@ impl SequencedKey {
         ensures sequence { result.seq ≡ seq }
     {
         SequencedKey { user_key, seq }
-    }
-}
-
-impl Clone for SequencedKey {
-    ghost is_clone = { λ key copy. (copy.user_key ≡ key.user_key) × (copy.seq ≡ key.seq) };
-
-    fn clone(&self) -> Result<SequencedKey, AllocError> {
-        Ok(SequencedKey::new(self.user_key.clone()?, self.seq))
     }
 }
 

@@ -20,7 +20,10 @@ impl ValueDeletable {
     pub fn len(&self) -> usize
         ensures { result ≡ length (bytes_of self.now) }
     {
-        self.as_bytes().map_or(0, Bytes::len)
+        match self.as_bytes() {
+            Some(bytes) => bytes.len(),
+            None => 0,
+        }
     }
 
     /// Whether it is the mark of a deletion.
@@ -63,7 +66,7 @@ impl ValueDeletable {
 
 /// A row, as it stands in a table or in memory. Stamps are milliseconds. Rows are equal exactly where
 /// their fields are.
-#[derive(Debug, Drop)]
+#[derive(Drop)]
 pub struct RowEntry {
     pub key: Bytes,
     pub value: ValueDeletable,
@@ -157,7 +160,7 @@ fn stamp_size(stamp: Option<i64>) -> u64
 }
 
 /// A row as a reader gets it. A row without a creation has creation 0 here.
-#[derive(Debug, PartialEq, Eq, PartialOrd, Ord, Hash, Drop)]
+#[derive(PartialEq, Eq, PartialOrd, Ord, Hash, Drop)]
 pub struct KeyValue {
     pub key: Bytes,
     pub value: Bytes,
@@ -199,5 +202,5 @@ impl KeyValue {
 }
 
 /// The id of a table.
-#[derive(Clone, Copy, Debug, PartialEq, Eq)]
+#[derive(Clone, Copy, PartialEq, Eq)]
 pub struct Ulid(pub u128);
