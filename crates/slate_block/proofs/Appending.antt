@@ -1,10 +1,18 @@
 -- What stood in a list before it grew.
 use Rattle.std.proofs.Common.{◌≡◌, ℕ, ◌≤◌, List, Result, Ok, Err, is_ok, ◌++◌, length, take, take-take, refl, sym, ap, ◌∙◌, arith}
-use Rattle.std.specs.Prelude.{OnOk, if◌then◌else◌}
-use Rattle.std.proofs.lemmas.List.{take_at, length-append}
+use Rattle.std.specs.Prelude.{OnOk, OnErr, if◌then◌else◌}
+use Rattle.std.proofs.lemmas.List.{take_all, take_at, length-append}
 
 front_of : (a x : List ℕ) → take (length a) (a ++ x) ≡ a
 front_of a x = take_at a x (length a) refl
+
+-- nothing grew
+pub kept_here : (a b : List ℕ) → b ≡ a → take (length a) b ≡ a
+kept_here a b same = rw same (take_all (length a) a (omega arith))
+
+pub on_err : {T E P : Type 0} (r : Result T E) → P → OnErr r P
+on_err (Ok x) p = tt
+on_err (Err e) p = p
 
 -- a front of a front
 pub kept_step : (a x b c : List ℕ) → b ≡ a ++ x → take (length b) c ≡ b → take (length a) c ≡ a

@@ -1,7 +1,7 @@
 -- What a walk from the end of a block of version 2 reads, and what its seeks take off.
-use Rattle.std.proofs.Common.{◌≡◌, ℕ, zero, suc, ◌+◌, ◌<◌, ◌≤◌, Bool, true, false, List, [], ◌∷◌, ◌++◌, length, take, drop, reverse, map, Some, Result, Ok, Err, refl, sym, ap, ◌∙◌, subst, arith, append_assoc, ◌⊎◌, inl, inr, nat_eq, rules, IsOk}
+use Rattle.std.proofs.Common.{◌≡◌, ℕ, zero, suc, ◌+◌, ◌<◌, ◌≤◌, Bool, true, false, List, [], ◌∷◌, ◌++◌, length, take, drop, reverse, map, Option, Some, None, Result, Ok, Err, refl, sym, ap, ◌∙◌, subst, arith, append_assoc, ◌⊎◌, inl, inr, nat_eq, rules, IsOk}
 use Rattle.std.proofs.lemmas.Bool.{cases_lt, eqb-true, eq-eqb}
-use Rattle.std.specs.Prelude.{IsTrue, slice_get}
+use Rattle.std.specs.Prelude.{IsSome, IsTrue, option_to_list, slice_get}
 use Rattle.std.proofs.lemmas.List.{append-nil, map-append, reverse-append, reverse-reverse, length-reverse, nil_from_length, drop_all}
 use Rattle.slate_types.specs.declared.error.SlateDBError.{SlateDBError}
 use Rattle.slate_types.specs.declared.types.RowEntry.{RowEntry}
@@ -9,7 +9,7 @@ use Rattle.slate_types.specs.declared.iter.IterationOrder.{IterationOrder}
 use Rattle.slate_types.specs.Iteration.{comes_before}
 use Rattle.slate_block.specs.Damage.{◌>>=◌}
 use Rattle.slate_block.specs.Walks.{RowRead, all_ok, before, reads_v2, are_named, block_reads, block_rows}
-use Rattle.slate_block.specs.BlockWalks.{LastBefore, IsDamage, IsPast, Refuses}
+use Rattle.slate_block.specs.BlockWalks.{LastBefore, IsDamage, IsPast, Refuses, TakesRead}
 use Rattle.slate_block.specs.GroupWalks.{restart_at, BeginsBefore, turned, reads_back, left_back}
 use Rattle.slate_block.proofs.FieldLaws.{ok_is}
 use Rattle.slate_block.proofs.GroupRows.{Left, joined, joined_ok, all_ok_joined}
@@ -124,6 +124,10 @@ pop_read body offsets groups n rows read after row h e r p = left_read body offs
 pub left_refused : (body offsets : List ℕ) (groups n : ℕ) (rows : List RowEntry) (e : SlateDBError) → rows ≡ [] → groups ≡ n + 1 → all_ok (restart_at body offsets n) ≡ Err e → slice_get (left_back body offsets groups rows) 0 ≡ Some (Err e)
 left_refused body offsets groups n rows e h same r = ap (λ (l : List RowRead). slice_get l 0) (nothing_kept body offsets groups rows h) ∙ back_refused body offsets groups n e (omega (arith, same)) r
 
+pub left_refused_or : (body offsets : List ℕ) (groups n : ℕ) (rows : List RowEntry) (e m : SlateDBError) → rows ≡ [] → groups ≡ n + 1 → (e ≡ m) ⊎ (all_ok (restart_at body offsets n) ≡ Err e) → (e ≡ m) ⊎ (slice_get (left_back body offsets groups rows) 0 ≡ Some (Err e))
+left_refused_or body offsets groups n rows e m h same (inl r) = inl r
+left_refused_or body offsets groups n rows e m h same (inr r) = inr (left_refused body offsets groups n rows e h same r)
+
 some_read : (first : RowRead) (reads : List RowRead) → all_ok (first ∷ reads) ≡ Ok [] → ⊥
 some_read (Ok row) reads e = by (all_ok reads) e
   where
@@ -136,6 +140,17 @@ pub read_some : (body offsets : List ℕ) (n : ℕ) (read : List RowEntry) → a
 read_some body offsets n read r e =
     let some = restart_some body offsets n in
     some_read some.0 some.1 (sym (ap all_ok some.2) ∙ r ∙ ap found e)
+
+-- the last row that is held, or of a group that is read
+pub pop_some : (body offsets : List ℕ) (groups : ℕ) (rows after : List RowEntry) (answer : Option RowEntry) → rows ≡ after ++ option_to_list answer → IsSome answer → TakesRead (left_back body offsets groups rows) answer (left_back body offsets groups after)
+pop_some body offsets groups rows after (Some row) e some = pop_back body offsets groups rows after row e
+pop_some body offsets groups rows after None e some = absurd cc
+
+pub pop_group : (body offsets : List ℕ) (groups n : ℕ) (rows read after : List RowEntry) (answer : Option RowEntry) → rows ≡ [] → groups ≡ n + 1 → all_ok (restart_at body offsets n) ≡ Ok read → read ≡ after ++ option_to_list answer →
+    (0 < length read → IsSome answer) → TakesRead (left_back body offsets groups rows) answer (left_back body offsets n after)
+pop_group body offsets groups n rows read after (Some row) h e r p some = pop_read body offsets groups n rows read after row h e r p
+pop_group body offsets groups n rows [] after None h e r p some = absurd (read_some body offsets n [] r refl)
+pop_group body offsets groups n rows (x ∷ read) after None h e r p some = let clash = some (omega arith) in absurd cc
 
 -- ---- a seek back
 

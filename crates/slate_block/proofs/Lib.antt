@@ -26,6 +26,7 @@ pub mod ApartLaws
 pub mod PlacedLaws
 pub mod WalkLaws
 pub mod SeekLaws
+mod StepLaws
 pub mod WalkedBlocks
 pub mod PartLaws
 pub mod WalkedBlocksV2

@@ -2,7 +2,6 @@
 use Rattle.std.proofs.Common.{◌≡◌, ℕ, zero, suc, ◌+◌, ◌<◌, Bool, List, [], ◌∷◌, ◌++◌, length, get_or, min, take, drop, Option, Some, Ok, ℤ, refl, sym, ap, ◌∙◌, arith, Ordering, Less, Equal, Greater}
 use Rattle.std.specs.Prelude.{slice_get, slice_range}
 use Rattle.std.specs.Ordering.{is_lt, is_gt, ordering_then, ordering_reverse, nat_cmp}
-use Rattle.std.specs.Int.{w16}
 use Rattle.slate_types.specs.declared.types.RowEntry.{RowEntry}
 use Rattle.slate_types.specs.declared.iter.IterationOrder.{IterationOrder}
 use Rattle.slate_types.specs.Iteration.{comes_before}
@@ -12,7 +11,7 @@ use Rattle.slate_block.specs.declared.row.SstRowEntry.{SstRowEntry}
 use Rattle.slate_block.specs.declared.flags.RowFlags.{RowFlags}
 use Rattle.slate_block.specs.declared.fields.RowFields.{RowFields}
 use Rattle.slate_block.specs.BlockSpelling.{whole_key}
-use Rattle.slate_block.specs.Damage.{◌>>=◌, number_field, block_field, head_layout, stamps_layout, value_layout, has, layout_v1, key_layout_v1}
+use Rattle.slate_block.specs.Damage.{◌>>=◌, head_layout, stamps_layout, value_layout, has, layout_v1, key_layout_v1}
 use Rattle.slate_block.specs.RowReading.{row_v1_of, entry_of_v1}
 use Rattle.slate_block.specs.Walks.{next_place, row_upto, reads_v1}
 use Rattle.slate_block.proofs.FieldLaws.{bind_ok, ok_is}
@@ -42,28 +41,22 @@ turned_lt a b = sym (ap is_lt (turned-key b a) ∙ reversed (key_cmp a b))
 
 -- ---- the fields up to the suffix are those of the row
 
-made : ℕ × ℕ → (ℕ × RowFlags) × ℕ → (Option ℤ × Option ℤ) × ℕ → ℕ × ℕ → RowFields
-made suffix head stamps value = record { suffix_at = suffix.0; suffix_end = suffix.1; value_at = value.0; value_end = value.1; seq = head.0.0; flags = head.0.1; expire_ts = stamps.0.0; create_ts = stamps.0.1; end = value.1 }
+made : ℕ × (ℕ × ℕ) → (ℕ × RowFlags) × ℕ → (Option ℤ × Option ℤ) × ℕ → ℕ × ℕ → RowFields
+made key head stamps value = record { suffix_at = key.1.0; suffix_end = key.1.1; value_at = value.0; value_end = value.1; seq = head.0.0; flags = head.0.1; expire_ts = stamps.0.0; create_ts = stamps.0.1; end = value.1 }
 
 key_fields : ℕ × RowFields → ℕ × (ℕ × ℕ)
 key_fields x = (x.0, (x.1.suffix_at, x.1.suffix_end))
 
-key_read : (bytes : List ℕ) (a b c : ℕ × ℕ) → number_field w16 bytes 0 ≡ Ok a → number_field w16 bytes a.1 ≡ Ok b → block_field b.0 bytes b.1 ≡ Ok c → key_layout_v1 bytes ≡ Ok (a.0, c)
-unfolding key_layout_v1
-key_read bytes a b c p q r = rw (p, q, r) refl
-
 fields_of_key : (bytes : List ℕ) (x : ℕ × RowFields) → layout_v1 bytes ≡ Ok x → key_layout_v1 bytes ≡ Ok (key_fields x)
 unfolding layout_v1 made key_fields
 fields_of_key bytes x e =
-    let a = bind_ok (number_field w16 bytes 0) (λ shared. number_field w16 bytes shared.1 >>= λ len. block_field len.0 bytes len.1 >>= λ suffix. head_layout bytes suffix.1 >>= λ head. stamps_layout head.0.1 bytes head.1 >>= λ stamps. value_layout (has 1 head.0.1) bytes stamps.1 >>= λ value. Ok (shared.0, made suffix head stamps value)) x e in
-    let b = bind_ok (number_field w16 bytes a.0.1) (λ len. block_field len.0 bytes len.1 >>= λ suffix. head_layout bytes suffix.1 >>= λ head. stamps_layout head.0.1 bytes head.1 >>= λ stamps. value_layout (has 1 head.0.1) bytes stamps.1 >>= λ value. Ok (a.0.0, made suffix head stamps value)) x a.2 in
-    let c = bind_ok (block_field b.0.0 bytes b.0.1) (λ suffix. head_layout bytes suffix.1 >>= λ head. stamps_layout head.0.1 bytes head.1 >>= λ stamps. value_layout (has 1 head.0.1) bytes stamps.1 >>= λ value. Ok (a.0.0, made suffix head stamps value)) x b.2 in
-    let d = bind_ok (head_layout bytes c.0.1) (λ head. stamps_layout head.0.1 bytes head.1 >>= λ stamps. value_layout (has 1 head.0.1) bytes stamps.1 >>= λ value. Ok (a.0.0, made c.0 head stamps value)) x c.2 in
-    let f = bind_ok (stamps_layout d.0.0.1 bytes d.0.1) (λ stamps. value_layout (has 1 d.0.0.1) bytes stamps.1 >>= λ value. Ok (a.0.0, made c.0 d.0 stamps value)) x d.2 in
-    let g = bind_ok (value_layout (has 1 d.0.0.1) bytes f.0.1) (λ value. Ok (a.0.0, made c.0 d.0 f.0 value)) x f.2 in
-    let whole : ℕ × RowFields = (a.0.0, made c.0 d.0 f.0 g.0) in
-    let same : whole ≡ x = ok_is whole x g.2 in
-    key_read bytes a.0 b.0 c.0 a.1 b.1 c.1 ∙ (λ i. Ok (key_fields (same i)))
+    let a = bind_ok (key_layout_v1 bytes) (λ key. head_layout bytes key.1.1 >>= λ head. stamps_layout head.0.1 bytes head.1 >>= λ stamps. value_layout (has 1 head.0.1) bytes stamps.1 >>= λ value. Ok (key.0, made key head stamps value)) x e in
+    let b = bind_ok (head_layout bytes a.0.1.1) (λ head. stamps_layout head.0.1 bytes head.1 >>= λ stamps. value_layout (has 1 head.0.1) bytes stamps.1 >>= λ value. Ok (a.0.0, made a.0 head stamps value)) x a.2 in
+    let c = bind_ok (stamps_layout b.0.0.1 bytes b.0.1) (λ stamps. value_layout (has 1 b.0.0.1) bytes stamps.1 >>= λ value. Ok (a.0.0, made a.0 b.0 stamps value)) x b.2 in
+    let d = bind_ok (value_layout (has 1 b.0.0.1) bytes c.0.1) (λ value. Ok (a.0.0, made a.0 b.0 c.0 value)) x c.2 in
+    let whole : ℕ × RowFields = (a.0.0, made a.0 b.0 c.0 d.0) in
+    let same : whole ≡ x = ok_is whole x d.2 in
+    a.1 ∙ (λ i. Ok (key_fields (same i)))
 
 pub key_of_row : (order : IterationOrder) (first bytes key : List ℕ) (shared from upto : ℕ) → key_layout_v1 bytes ≡ Ok (shared, (from, upto)) → (row : SstRowEntry) (len : ℕ) → row_v1_of bytes ≡ Ok (row, len) →
     comes_before order (take shared first ++ slice_range bytes from upto) key ≡ comes_before order (whole_key row.key_prefix_len first row.key_suffix) key

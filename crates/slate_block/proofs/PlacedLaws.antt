@@ -1,5 +1,6 @@
 -- The row between two places is the one that begins the bytes there.
-use Rattle.std.proofs.Common.{◌≡◌, ℕ, ◌+◌, if◌then◌else◌, List, Result, Ok, Err, refl, ap, ◌∙◌}
+use Rattle.std.proofs.Common.{◌≡◌, ℕ, ◌+◌, if◌then◌else◌, true, false, List, Result, Ok, Err, refl, sym, ap, subst, ◌∙◌, ◌⊎◌, inl, inr, Bool, cond}
+use Rattle.std.specs.Prelude.{IfOk, IfErr}
 use Rattle.slate_types.specs.declared.error.SlateDBError.{SlateDBError}
 use Rattle.slate_types.specs.declared.error.SlateDBError.TheVariants.{CorruptTable}
 use Rattle.slate_types.specs.declared.types.RowEntry.{RowEntry}
@@ -10,17 +11,15 @@ use Rattle.slate_block.specs.declared.rows_part.Version.{Version}
 use Rattle.slate_block.specs.declared.rows_part.Version.TheVariants.{V1, V2}
 use Rattle.slate_block.specs.Damage.{◌>>=◌, layout_v1, layout_v2}
 use Rattle.slate_block.specs.RowReading.{entry_of_v1, entry_of_v2, row_v1_of, row_v2_of}
-use Rattle.slate_block.specs.Walks.{between, entry_v2_in, is_restored, moved_result, row_v1_in, row_v2_in, whole_v1, whole_v2}
-use Rattle.slate_block.specs.PlacedRows.{as_read, fields_of, placed, row_in, suffix_of, whole_of}
+use Rattle.slate_block.specs.Walks.{between, entry_v2_in, is_restored, moved, moved_result, row_v1_in, row_v2_in, whole_v1, whole_v2}
+use Rattle.slate_block.specs.BlockWalks.{IsDamage}
+use Rattle.slate_block.specs.PlacedRows.{as_read, fields_of, found_of, placed, row_in, suffix_of, whole_of}
 
 abbrev found_v1 : List ℕ → ℕ → SstRowEntry × ℕ → Result (RowEntry × ℕ) SlateDBError
 found_v1 other from found = if is_restored found.0.key_prefix_len other found.0.key_suffix then Ok (whole_v1 other found.0, from + found.1) else Err (CorruptTable from)
 
 abbrev found_v2 : List ℕ → ℕ → SstRowEntryV2 × ℕ → Result (RowEntry × ℕ) SlateDBError
 found_v2 other from found = if is_restored found.0.shared_bytes other found.0.key_suffix then Ok (whole_v2 other found.0, from + found.1) else Err (CorruptTable from)
-
-abbrev found_of : List ℕ → ℕ → List ℕ → ℕ × RowFields → Result (RowEntry × ℕ) SlateDBError
-found_of other from bytes row = if is_restored row.0 other (suffix_of bytes row.1) then Ok (whole_of bytes other row.0 row.1, from + row.1.end) else Err (CorruptTable from)
 
 same_v1 : (other : List ℕ) (from : ℕ) (bytes : List ℕ) (read : Result (ℕ × RowFields) SlateDBError)
     → (moved_result from (read >>= λ row. Ok (entry_of_v1 bytes row.0 row.1, row.1.end)) >>= found_v1 other from)
@@ -47,3 +46,37 @@ no_row_placed V1 body other from upto e is =
     ap (λ (part : Result (List ℕ) SlateDBError). part >>= λ bytes. moved_result from (row_v1_of bytes) >>= found_v1 other from) is
 no_row_placed V2 body other from upto e is =
     ap (λ (part : Result (List ℕ) SlateDBError). (part >>= λ bytes. moved_result from (row_v2_of bytes)) >>= found_v2 other from) is
+
+-- ---- the row of fields that were read
+
+placed_of : (version : Version) (other : List ℕ) (from : ℕ) (bytes : List ℕ) (row : ℕ × RowFields) → fields_of version bytes ≡ Ok row → placed version other from bytes ≡ found_of other from bytes row
+unfolding placed
+placed_of version other from bytes row read = ap (λ (r : Result (ℕ × RowFields) SlateDBError). moved_result from r >>= found_of other from bytes) read
+
+-- its key is restored, or it is refused
+whole_found : (other : List ℕ) (from : ℕ) (bytes : List ℕ) (row : ℕ × RowFields) (b : Bool) (found : RowEntry × ℕ) → b ≡ true → found.0 ≡ whole_of bytes other row.0 row.1 → found.1 ≡ from + row.1.end →
+    cond {A = Result (RowEntry × ℕ) SlateDBError} b (Ok (whole_of bytes other row.0 row.1, from + row.1.end)) (Err (CorruptTable from)) ≡ Ok found
+whole_found other from bytes row b found h r s = ap (λ (c : Bool). cond {A = Result (RowEntry × ℕ) SlateDBError} c (Ok (whole_of bytes other row.0 row.1, from + row.1.end)) (Err (CorruptTable from))) h ∙ (λ i. Ok (sym r i, sym s i))
+
+whole_refused : (other : List ℕ) (from : ℕ) (bytes : List ℕ) (row : ℕ × RowFields) (b : Bool) (e : SlateDBError) → b ≡ false → e ≡ CorruptTable from → cond {A = Result (RowEntry × ℕ) SlateDBError} b (Ok (whole_of bytes other row.0 row.1, from + row.1.end)) (Err (CorruptTable from)) ≡ Err e
+whole_refused other from bytes row b e h r = ap (λ (c : Bool). cond {A = Result (RowEntry × ℕ) SlateDBError} c (Ok (whole_of bytes other row.0 row.1, from + row.1.end)) (Err (CorruptTable from))) h ∙ ap Err (sym r)
+
+pub placed_found : (version : Version) (other : List ℕ) (from : ℕ) (bytes : List ℕ) (row : ℕ × RowFields) (r : Result (RowEntry × ℕ) SlateDBError) → fields_of version bytes ≡ Ok row →
+    IfOk r (λ found. (is_restored row.0 other (suffix_of bytes row.1) ≡ true) × (found.0 ≡ whole_of bytes other row.0 row.1) × (found.1 ≡ from + row.1.end)) → IfOk r (λ found. placed version other from bytes ≡ Ok found)
+placed_found version other from bytes row (Ok found) read h = placed_of version other from bytes row read ∙ whole_found other from bytes row (is_restored row.0 other (suffix_of bytes row.1)) found h.0 h.1 h.2
+placed_found version other from bytes row (Err e) read h = tt
+
+pub placed_cause : (version : Version) (other : List ℕ) (from : ℕ) (bytes : List ℕ) (row : ℕ × RowFields) (r : Result (RowEntry × ℕ) SlateDBError) (m : SlateDBError) → fields_of version bytes ≡ Ok row →
+    IfErr r (λ e. (e ≡ m) ⊎ ((is_restored row.0 other (suffix_of bytes row.1) ≡ false) × (e ≡ CorruptTable from))) → IfErr r (λ e. (e ≡ m) ⊎ (placed version other from bytes ≡ Err e))
+placed_cause version other from bytes row (Ok found) m read h = tt
+placed_cause version other from bytes row (Err e) m read (inl h) = inl h
+placed_cause version other from bytes row (Err e) m read (inr h) = inr (placed_of version other from bytes row read ∙ whole_refused other from bytes row (is_restored row.0 other (suffix_of bytes row.1)) e h.0 h.1)
+
+pub placed_damage : (P : Type 0) (from : ℕ) (r : Result (RowEntry × ℕ) SlateDBError) (m : SlateDBError) → IfErr r (λ e. (e ≡ m) ⊎ (P × (e ≡ CorruptTable from))) → IfErr r (λ e. (e ≡ m) ⊎ IsDamage e)
+placed_damage P from (Ok found) m h = tt
+placed_damage P from (Err e) m (inl h) = inl h
+placed_damage P from (Err e) m (inr h) = inr (subst IsDamage (sym h.1) tt)
+
+pub placed_refused : (version : Version) (other : List ℕ) (from : ℕ) (bytes : List ℕ) (e : SlateDBError) → fields_of version bytes ≡ Err e → placed version other from bytes ≡ Err (moved from e)
+unfolding placed
+placed_refused version other from bytes e read = ap (λ (r : Result (ℕ × RowFields) SlateDBError). moved_result from r >>= found_of other from bytes) read

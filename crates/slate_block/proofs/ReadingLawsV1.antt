@@ -11,11 +11,11 @@ use Rattle.slate_block.specs.declared.flags.RowFlags.{RowFlags}
 use Rattle.slate_block.specs.declared.fields.RowFields.{RowFields}
 use Rattle.slate_block.specs.declared.row.SstRowEntry.{SstRowEntry}
 use Rattle.slate_block.specs.RowSpelling.{be16, be32, be64, flags, stamp_bytes, v1_value, read_expiry}
-use Rattle.slate_block.specs.Damage.{◌>>=◌, number_field, block_field, row_flags, has, head_layout, stamps_layout, value_layout, layout_v1}
+use Rattle.slate_block.specs.Damage.{◌>>=◌, number_field, block_field, row_flags, has, head_layout, stamps_layout, value_layout, key_layout_v1, layout_v1}
 use Rattle.slate_block.specs.RowReading.{value_of, expiry_of, entry_of_v1, row_v1_of, BeginsV1}
 use Rattle.slate_block.proofs.Groups.{IsBytes}
 use Rattle.slate_block.proofs.FlagLaws.{flags_sum, named}
-use Rattle.slate_block.proofs.FieldLaws.{bind_ok, ok_is, Stands, behind, wide16, wide32, number_takes, number_again, block_takes, block_again}
+use Rattle.slate_block.proofs.FieldLaws.{bind_ok, three_more, ok_is, Stands, behind, wide16, wide32, number_takes, number_again, block_takes, block_again}
 use Rattle.slate_block.proofs.ReadingLaws.{then, HeadTakes, head_takes, StampsTake, stamps_take, head_again, stamps_again}
 
 -- ---- the value
@@ -98,9 +98,10 @@ row_v1_takes bytes shared one len two from to seq f three expire create four sta
     (begins, omega (arith, e0.place, ap (λ (l : List ℕ). length l) e0.parts, length-append (be16 shared ++ (be16 len ++ (suffix ++ (head_text ++ (stamp_text ++ v1_value value))))) (drop stop bytes), length-drop stop bytes))
 
 layout_v1_takes : (bytes : List ℕ) (x : ℕ × RowFields) → IsBytes bytes → layout_v1 bytes ≡ Ok x → IsTakenV1 bytes x.0 x.1
-unfolding layout_v1 taken_v1
+unfolding layout_v1 key_layout_v1 taken_v1
 layout_v1_takes bytes x fits e =
-    let a = bind_ok (number_field w16 bytes 0) (λ shared. number_field w16 bytes shared.1 >>= λ len. block_field len.0 bytes len.1 >>= λ suffix. head_layout bytes suffix.1 >>= λ head. stamps_layout head.0.1 bytes head.1 >>= λ stamps. value_layout (has 1 head.0.1) bytes stamps.1 >>= λ value. Ok (shared.0, taken_v1 suffix.0 suffix.1 value.0 value.1 head.0.0 head.0.1 stamps.0.0 stamps.0.1)) x e in
+    let parts = three_more {D = ℕ × (ℕ × ℕ)} (number_field w16 bytes 0) (λ shared. number_field w16 bytes shared.1) (λ shared len. block_field len.0 bytes len.1) (λ shared suffix. (shared.0, suffix)) (λ key. head_layout bytes key.1.1 >>= λ head. stamps_layout head.0.1 bytes head.1 >>= λ stamps. value_layout (has 1 head.0.1) bytes stamps.1 >>= λ value. Ok (key.0, taken_v1 key.1.0 key.1.1 value.0 value.1 head.0.0 head.0.1 stamps.0.0 stamps.0.1)) in
+    let a = bind_ok (number_field w16 bytes 0) (λ shared. number_field w16 bytes shared.1 >>= λ len. block_field len.0 bytes len.1 >>= λ suffix. head_layout bytes suffix.1 >>= λ head. stamps_layout head.0.1 bytes head.1 >>= λ stamps. value_layout (has 1 head.0.1) bytes stamps.1 >>= λ value. Ok (shared.0, taken_v1 suffix.0 suffix.1 value.0 value.1 head.0.0 head.0.1 stamps.0.0 stamps.0.1)) x (sym parts ∙ e) in
     let b = bind_ok (number_field w16 bytes a.0.1) (λ len. block_field len.0 bytes len.1 >>= λ suffix. head_layout bytes suffix.1 >>= λ head. stamps_layout head.0.1 bytes head.1 >>= λ stamps. value_layout (has 1 head.0.1) bytes stamps.1 >>= λ value. Ok (a.0.0, taken_v1 suffix.0 suffix.1 value.0 value.1 head.0.0 head.0.1 stamps.0.0 stamps.0.1)) x a.2 in
     let c = bind_ok (block_field b.0.0 bytes b.0.1) (λ suffix. head_layout bytes suffix.1 >>= λ head. stamps_layout head.0.1 bytes head.1 >>= λ stamps. value_layout (has 1 head.0.1) bytes stamps.1 >>= λ value. Ok (a.0.0, taken_v1 suffix.0 suffix.1 value.0 value.1 head.0.0 head.0.1 stamps.0.0 stamps.0.1)) x b.2 in
     let d = bind_ok (head_layout bytes c.0.1) (λ head. stamps_layout head.0.1 bytes head.1 >>= λ stamps. value_layout (has 1 head.0.1) bytes stamps.1 >>= λ value. Ok (a.0.0, taken_v1 c.0.0 c.0.1 value.0 value.1 head.0.0 head.0.1 stamps.0.0 stamps.0.1)) x c.2 in
@@ -165,7 +166,7 @@ apart_v1 : (a b c h g s t v x : List ℕ) → ((((a ++ b) ++ c) ++ (((h ++ g) ++
 apart_v1 a b c h g s t v x = simp append_assoc
 
 layout_v1_again : (row : SstRowEntry) (bytes rest : List ℕ) → BeginsV1 row bytes rest → (x : ℕ × RowFields) × (layout_v1 bytes ≡ Ok x)
-unfolding layout_v1
+unfolding layout_v1 key_layout_v1
 layout_v1_again row bytes rest begins =
     let w = begins.0 in
     let fits = begins.1 in

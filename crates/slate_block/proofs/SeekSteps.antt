@@ -1,6 +1,6 @@
 -- A seek in a walk over rows of version 2.
 use Rattle.std.proofs.Common.{◌≡◌, ℕ, ◌+◌, ◌<◌, ◌≤◌, Bool, true, false, ◌&&◌, cond, List, [], ◌∷◌, ◌++◌, Option, ℤ, length, get_or, drop, Result, Ok, Err, refl, sym, ap, ◌∙◌, subst, leb, arith, ◌⊎◌, inl, inr, zero, suc, ◌-◌, append_assoc}
-use Rattle.std.specs.Prelude.{slice_range}
+use Rattle.std.specs.Prelude.{slice_range, IfOk, IfErr}
 use Rattle.slate_types.specs.declared.error.SlateDBError.{SlateDBError}
 use Rattle.slate_types.specs.declared.error.SlateDBError.TheVariants.{CorruptTable}
 use Rattle.slate_types.specs.declared.types.RowEntry.{RowEntry}
@@ -191,3 +191,14 @@ start_past order key before start after s p stop read = by s.begins
 
 pub start_refused : (order : IterationOrder) (key : List ℕ) (before start : List RowRead) (e : SlateDBError) → IsStart order key before start → Refuses start e → Refuses before e
 start_refused order key before start e s h = part_fewer s.front before start e s.parts h
+
+-- the same of what a search from there answers
+pub all_past : {A E : Type 0} (order : IterationOrder) (key : List ℕ) (before start : List RowRead) (reads : A → List RowRead) (r : Result A E) → IsStart order key before start → IfOk r (λ after. IsPast order key start (reads after)) →
+    IfOk r (λ after. StopsAt order key (reads after)) → IfOk r (λ after. BeginsRead (reads after)) → IfOk r (λ after. IsPast order key before (reads after))
+all_past order key before start reads (Ok after) s p stop read = start_past order key before start (reads after) s p stop read
+all_past order key before start reads (Err e) s p stop read = tt
+
+pub all_refused : {A : Type 0} (order : IterationOrder) (key : List ℕ) (before start : List RowRead) (m : SlateDBError) (r : Result A SlateDBError) → IsStart order key before start → IfErr r (λ e. (e ≡ m) ⊎ Refuses start e) → IfErr r (λ e. (e ≡ m) ⊎ Refuses before e)
+all_refused order key before start m (Ok after) s h = tt
+all_refused order key before start m (Err e) s (inl h) = inl h
+all_refused order key before start m (Err e) s (inr h) = inr (start_refused order key before start e s h)

@@ -98,22 +98,20 @@ unfoldable pub value_layout : Bool → List ℕ → ℕ → Field ℕ
 value_layout true bytes at = Ok (at, at)
 value_layout false bytes at = number_field w32 bytes at >>= λ len. block_field len.0 bytes len.1
 
-unfoldable pub layout_v1 : List ℕ → Result (ℕ × RowFields) SlateDBError
-layout_v1 bytes = do
-  shared ← number_field w16 bytes 0
-  suffix_len ← number_field w16 bytes shared.1
-  suffix ← block_field suffix_len.0 bytes suffix_len.1
-  head ← head_layout bytes suffix.1
-  stamps ← stamps_layout head.0.1 bytes head.1
-  value ← value_layout (has 1 head.0.1) bytes stamps.1
-  Ok (shared.0, record { suffix_at = suffix.0; suffix_end = suffix.1; value_at = value.0; value_end = value.1; seq = head.0.0; flags = head.0.1; expire_ts = stamps.0.0; create_ts = stamps.0.1; end = value.1 })
-
 unfoldable pub key_layout_v1 : List ℕ → Result (ℕ × (ℕ × ℕ)) SlateDBError
 key_layout_v1 bytes = do
   shared ← number_field w16 bytes 0
   suffix_len ← number_field w16 bytes shared.1
   suffix ← block_field suffix_len.0 bytes suffix_len.1
   Ok (shared.0, suffix)
+
+unfoldable pub layout_v1 : List ℕ → Result (ℕ × RowFields) SlateDBError
+layout_v1 bytes = do
+  key ← key_layout_v1 bytes
+  head ← head_layout bytes key.1.1
+  stamps ← stamps_layout head.0.1 bytes head.1
+  value ← value_layout (has 1 head.0.1) bytes stamps.1
+  Ok (key.0, record { suffix_at = key.1.0; suffix_end = key.1.1; value_at = value.0; value_end = value.1; seq = head.0.0; flags = head.0.1; expire_ts = stamps.0.0; create_ts = stamps.0.1; end = value.1 })
 
 unfoldable pub key_layout_v2 : List ℕ → Result KeyFields SlateDBError
 key_layout_v2 bytes = do

@@ -2,6 +2,7 @@
 --     fields_of version bytes      the length that the row shares which begins the bytes, and its other fields, with the expiry that is read; or the refusal
 --     suffix_of bytes fields      the suffix of its key
 --     whole_of bytes other shared fields      the row, whose key leaves out a front of the other key
+--     found_of other from bytes row      the row with these fields, and the place behind it; or the refusal of its key
 --     placed version other from bytes      the row that begins bytes, which begin at a place, and the place behind it; or the refusal
 --     row_in version body other from upto      the same of the bytes between two places of the rows' part
 use Rattle.std.specs.Prelude.{ℕ, ◌+◌, if◌then◌else◌, List, slice_range, Result, Ok, Err}
@@ -29,9 +30,11 @@ suffix_of bytes fields = slice_range bytes fields.suffix_at fields.suffix_end
 abbrev pub whole_of : List ℕ → List ℕ → ℕ → RowFields → RowEntry
 whole_of bytes other shared fields = record { key = whole_key shared other (suffix_of bytes fields); value = fields_value bytes fields; seq = fields.seq; create_ts = fields.create_ts; expire_ts = fields.expire_ts }
 
+abbrev pub found_of : List ℕ → ℕ → List ℕ → ℕ × RowFields → Result (RowEntry × ℕ) SlateDBError
+found_of other from bytes row = if is_restored row.0 other (suffix_of bytes row.1) then Ok (whole_of bytes other row.0 row.1, from + row.1.end) else Err (CorruptTable from)
+
 unfoldable pub placed : Version → List ℕ → ℕ → List ℕ → Result (RowEntry × ℕ) SlateDBError
-placed version other from bytes = moved_result from (fields_of version bytes) >>= λ row.
-    if is_restored row.0 other (suffix_of bytes row.1) then Ok (whole_of bytes other row.0 row.1, from + row.1.end) else Err (CorruptTable from)
+placed version other from bytes = moved_result from (fields_of version bytes) >>= found_of other from bytes
 
 abbrev pub row_in : Version → List ℕ → List ℕ → ℕ → ℕ → Result (RowEntry × ℕ) SlateDBError
 row_in V1 body other from upto = row_v1_in body other from upto

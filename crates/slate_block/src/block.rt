@@ -8,11 +8,11 @@ ghost use Rattle.slate_block.specs.BlockSpelling.{block_spelling};
 use crate::offsets::read_offsets;
 use bytes::Bytes;
 use slate_types::SlateDBError;
-use std::alloc::Global;
+use std::alloc::{AllocError, Global};
 
 /// A block of rows, taken apart: the rows' bytes, and where rows begin in them. In version 1 these are all rows, in
 /// version 2 every sixteenth from the first on.
-#[derive(Debug, PartialEq, Eq, Drop)]
+#[derive(PartialEq, Eq, Drop)]
 pub struct Block {
     pub body: Bytes,
     pub offsets: Vec<u16>,
@@ -29,21 +29,23 @@ impl Block {
         let len = self.body.len() + 2 * self.offsets.len() + 2;
         let mut out = Vec::with_capacity(alloc, len)?;
         out.extend_from_slice(self.body.as_slice())?;
-        append_offsets(&mut out, &self.offsets)?;
-        Ok(Bytes::from_vec(out)?)
+        Ok(with_offsets(out, &self.offsets)?)
     }
 
     /// Takes a block's bytes apart; the rows share their buffer. `CorruptTable` exactly where they are no rows' part and
     /// offsets that begin at 0, rise, and stand in the rows' part: with the place of the count, or of the first offset
     /// that fails; or `OutOfMemory`.
-    pub fn decode(alloc: Global, bytes: Bytes) -> Result<Block, SlateDBError>
+    pub fn decode(alloc: Global, mut bytes: Bytes) -> Result<Block, SlateDBError>
         ensures found { IfOk result (λ block. IsApart block.body block.offsets.items bytes) }
         ensures only { (body offsets : List ℕ) → IsApart body offsets bytes → IsOkUnless result SlateDBError.OutOfMemory }
         ensures cause { IfErr result (λ e. (e ≡ SlateDBError.OutOfMemory) ⊎ (refusal (offsets_of_block bytes) ≡ Some e)) }
     {
         let (end, offsets) = read_offsets(alloc, bytes.as_slice())?;
-        let body = bytes.slice(0..end)?;
-        Ok(Block { body, offsets })
+        bytes.truncate(end);
+        Ok(Block {
+            body: bytes,
+            offsets,
+        })
     }
 
     /// How many bytes `encode` gives.
@@ -63,17 +65,16 @@ impl Block {
     }
 }
 
-/// Appends the offsets and their count.
-pub fn append_offsets(out: &mut Vec<u8>, offsets: &[u16]) -> Result<(), SlateDBError>
+/// The bytes of a block whose rows' part stands in the buffer: the offsets and their count are put behind it.
+pub(crate) fn with_offsets(mut body: Vec<u8>, offsets: &[u16]) -> Result<Bytes, AllocError>
     requires { length offsets.now < 2 ^ 16 }
-    ensures appended { OnOk result (out.new.items ≡ out.old.items ++ (flat_map be16 offsets.now ++ be16 (length offsets.now))) }
-    ensures cause { IsOkUnless result SlateDBError.OutOfMemory }
+    ensures { IfOk result (λ bytes. bytes ≡ block_spelling body.items offsets.now) }
 {
     for offset in offsets {
-        out.extend_from_slice(&offset.to_be_bytes())?;
+        body.extend_from_slice(&offset.to_be_bytes())?;
     }
-    out.extend_from_slice(&(offsets.len() as u16).to_be_bytes())?;
-    Ok(())
+    body.extend_from_slice(&(offsets.len() as u16).to_be_bytes())?;
+    Ok(Bytes::from_vec(body)?)
 }
 
 /// How many bytes the offsets and their count have.
@@ -85,7 +86,7 @@ fn offsets_size(offsets: &[u16]) -> u64
 }
 
 /// How many rows of each kind a block has.
-#[derive(Clone, Copy, Debug, Default, PartialEq, Eq)]
+#[derive(Clone, Copy, Default, PartialEq, Eq)]
 pub struct BlockStats {
     pub num_puts: u16,
     pub num_deletes: u16,

@@ -126,13 +126,17 @@ impl<B: BlockLike> BlockIteratorV2<B> {
         ensures cause { IfErr result (λ e. block_reads 2 (B.body_bytes block) (B.row_offsets block) ≡ Err e) }
         ensures damage { IfErr result IsDamage }
     {
-        let inner = match order {
-            IterationOrder::Ascending => BlockIteratorInner::Ascending(AscendingState::new(block)?),
-            IterationOrder::Descending => {
-                BlockIteratorInner::Descending(DescendingBlockIteratorV2::new(alloc, block)?)
+        match order {
+            IterationOrder::Ascending => {
+                let inner = BlockIteratorInner::Ascending(AscendingState::new(block)?);
+                Ok(BlockIteratorV2 { inner })
             }
-        };
-        Ok(BlockIteratorV2 { inner })
+            IterationOrder::Descending => {
+                let rows = DescendingBlockIteratorV2::new(alloc, block)?;
+                let inner = BlockIteratorInner::Descending(rows);
+                Ok(BlockIteratorV2 { inner })
+            }
+        }
     }
 
     /// Whether no row is left.
@@ -206,12 +210,10 @@ impl<E: Outside, B: BlockLike> RowEntryIterator<E> for BlockIteratorV2<B> {
         Ok(())
     }
 
-    #[tactic(auto, using(crate::proofs::SeekLaws::step_rows, crate::proofs::SeekLaws::step_rising, crate::proofs::SeekLaws::step_fewer, crate::proofs::SeekLaws::step_smaller, crate::proofs::SeekLaws::step_no_larger, crate::proofs::SeekLaws::first_refuses))]
     fn next(&mut self, alloc: Global, _env: &mut E) -> Result<Option<RowEntry>, SlateDBError> {
         self.next_row(alloc)
     }
 
-    #[tactic(auto, using(crate::proofs::SeekLaws::sought_rising, crate::proofs::SeekLaws::past_fewer, crate::proofs::SeekLaws::past_no_larger))]
     fn seek(&mut self, alloc: Global, key: &[u8], _env: &mut E) -> Result<(), SlateDBError> {
         self.skip_before(alloc, key)
     }

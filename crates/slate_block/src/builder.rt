@@ -4,7 +4,7 @@ ghost use Rattle.slate_block.specs.BlockSpelling.{IsBlockOf, FitsBlock, block_sp
 ghost use Rattle.slate_block.specs.Building.{number, front_key, Held, Held-prop, CanTake, Building, with_row};
 ghost use Rattle.slate_block.specs.Fitting.{fits_in};
 
-use crate::block::{Block, append_offsets};
+use crate::block::{Block, with_offsets};
 use crate::keys::compute_prefix;
 use crate::rows_part::{RowsPart, Version};
 use bytes::Bytes;
@@ -174,8 +174,6 @@ impl BlockBuilder {
             return Err(SlateDBError::EmptyBlock);
         }
         drop(part.front_key);
-        let mut bytes = part.body;
-        append_offsets(&mut bytes, &part.offsets)?;
-        Ok(Bytes::from_vec(bytes)?)
+        Ok(with_offsets(part.body, &part.offsets)?)
     }
 }

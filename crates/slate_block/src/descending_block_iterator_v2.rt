@@ -72,7 +72,6 @@ impl<B: BlockLike> DescendingBlockIteratorV2<B> {
 
     /// The first row of those that are left, which is taken off, or `None` where none is left. `CorruptTable` with the
     /// place of the first field that fails in the rows' part, or `InvalidRowFlags`; or `OutOfMemory`.
-    #[tactic(auto, using(crate::proofs::BackLaws::pop_back, crate::proofs::BackLaws::pop_read, crate::proofs::BackLaws::no_rows_back, crate::proofs::BackLaws::left_refused, crate::proofs::BackLaws::read_some, crate::proofs::SeekLaws::step_left))]
     pub fn next_row(&mut self, alloc: Global) -> Result<Option<RowEntry>, SlateDBError>
         ensures read { IfOk result (λ answer. TakesRead self.old.reads answer self.new.reads) }
         ensures rows { IfOk result (λ answer. TakesLeft (left self.old) answer (left self.new)) }
@@ -81,18 +80,16 @@ impl<B: BlockLike> DescendingBlockIteratorV2<B> {
         ensures damage { IfErr result (λ e. (e ≡ SlateDBError.OutOfMemory) ⊎ IsDamage e) }
         ensures unchanged { OnErr result (self.new ≡ self.old) }
     {
-        if let Some(row) = self.rows.pop() {
-            return Ok(Some(row));
+        if !self.rows.is_empty() {
+            return Ok(self.rows.pop());
         }
         if self.groups == 0 {
             return Ok(None);
         }
         let (body, offsets) = (self.block.body(), self.block.offsets());
-        let mut rows = group_rows(alloc, body, offsets, self.groups - 1)?;
-        let last = rows.pop();
+        self.rows = group_rows(alloc, body, offsets, self.groups - 1)?;
         self.groups -= 1;
-        self.rows = rows;
-        Ok(last)
+        Ok(self.rows.pop())
     }
 
     /// Takes off exactly the leading rows that come after the key, where the rows come in order. Where some are refused or
@@ -148,12 +145,10 @@ impl<E: Outside, B: BlockLike> RowEntryIterator<E> for DescendingBlockIteratorV2
         Ok(())
     }
 
-    #[tactic(auto, using(crate::proofs::SeekLaws::step_rows, crate::proofs::SeekLaws::step_rising, crate::proofs::SeekLaws::step_fewer, crate::proofs::SeekLaws::step_smaller, crate::proofs::SeekLaws::step_no_larger, crate::proofs::SeekLaws::first_refuses))]
     fn next(&mut self, alloc: Global, _env: &mut E) -> Result<Option<RowEntry>, SlateDBError> {
         self.next_row(alloc)
     }
 
-    #[tactic(auto, using(crate::proofs::SeekLaws::sought_rising, crate::proofs::SeekLaws::past_fewer, crate::proofs::SeekLaws::past_no_larger))]
     fn seek(&mut self, alloc: Global, key: &[u8], _env: &mut E) -> Result<(), SlateDBError> {
         self.skip_before(alloc, key)
     }

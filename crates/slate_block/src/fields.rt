@@ -226,9 +226,7 @@ pub fn fields_v1(bytes: &[u8]) -> Result<(u16, RowFields), SlateDBError>
     ensures within { IfOk result (λ row. AreWithin row.1 bytes.now) }
     ensures bytes { IfOk result (λ _. (i : ℕ) → slice_index bytes.now i < 256) }
 {
-    let (shared, at) = u16_field(bytes, 0)?;
-    let (suffix_len, at) = u16_field(bytes, at)?;
-    let (suffix_at, suffix_end) = block_field(suffix_len as usize, bytes, at)?;
+    let (shared, (suffix_at, suffix_end)) = key_fields_v1(bytes)?;
     let ((seq, flags), at) = head_fields(bytes, suffix_end)?;
     let ((expire_ts, create_ts), at) = stamp_fields(flags, bytes, at)?;
     let (value_at, value_end) = value_fields(has(flags, RowFlags::TOMBSTONE), bytes, at)?;
@@ -251,6 +249,7 @@ pub fn fields_v1(bytes: &[u8]) -> Result<(u16, RowFields), SlateDBError>
 #[tactic(auto, unfolding(crate::specs::Damage::key_layout_v1))]
 pub fn key_fields_v1(bytes: &[u8]) -> Result<(u16, (usize, usize)), SlateDBError>
     ensures value { result ≡ key_layout_v1 bytes.now }
+    ensures damage { IfErr result (IsDamageIn (length bytes.now)) }
     ensures within { IfOk result (λ key. (key.1.0 ≤ key.1.1) × (key.1.1 ≤ length bytes.now)) }
 {
     let (shared, at) = u16_field(bytes, 0)?;

@@ -77,7 +77,7 @@ fn offsets_from(
     let mut at = end;
     for _ in 0..count {
         let (offset, next) = offset_field(low, high, bytes, at)?;
-        offsets.push(offset)?;
+        offsets.push_reserved(offset);
         low = offset as usize + 1;
         high = end;
         at = next;

@@ -58,7 +58,8 @@ fn fields_of(version: Version, bytes: &[u8]) -> Result<(u32, RowFields), SlateDB
     }
 }
 
-/// The row with these fields, which stand in bytes that begin at a place. A front of its key stands in the other key.
+/// The row with these fields, which stand in bytes that begin at a place, and the place behind it. A front of its key stands
+/// in the other key.
 fn whole_row(
     alloc: Global,
     bytes: &Bytes,
@@ -66,23 +67,26 @@ fn whole_row(
     from: usize,
     shared: usize,
     fields: &RowFields,
-) -> Result<RowEntry, SlateDBError>
-    requires place { from < 2 ^ 64 }
+) -> Result<(RowEntry, usize), SlateDBError>
+    requires place { from + length bytes.now < 2 ^ 64 }
     requires within { AreWithin fields.now bytes.now }
-    ensures found { IfOk result (λ row. (is_restored shared other.now (suffix_of bytes.now fields.now) ≡ true) × (row ≡ whole_of bytes.now other.now shared fields.now)) }
+    ensures found { IfOk result (λ found. (is_restored shared other.now (suffix_of bytes.now fields.now) ≡ true) × (found.0 ≡ whole_of bytes.now other.now shared fields.now) × (found.1 ≡ from + fields.now.end)) }
     ensures cause { IfErr result (λ e. (e ≡ SlateDBError.OutOfMemory) ⊎ ((is_restored shared other.now (suffix_of bytes.now fields.now) ≡ false) × (e ≡ SlateDBError.CorruptTable from))) }
 {
     let (suffix, value) = row_parts(bytes, fields)?;
     let restored = restored_key(alloc, shared, other, &suffix);
     drop(suffix);
     match restored {
-        Ok(key) => Ok(RowEntry {
-            key,
-            value,
-            seq: fields.seq,
-            create_ts: fields.create_ts,
-            expire_ts: fields.expire_ts,
-        }),
+        Ok(key) => {
+            let row = RowEntry {
+                key,
+                value,
+                seq: fields.seq,
+                create_ts: fields.create_ts,
+                expire_ts: fields.expire_ts,
+            };
+            Ok((row, from + fields.end))
+        }
         Err(error) => {
             drop(value);
             Err(moved(from, error))
@@ -91,7 +95,6 @@ fn whole_row(
 }
 
 /// The row that begins bytes, which begin at a place, and the place behind it.
-#[tactic(auto, unfolding(crate::specs::PlacedRows::placed))]
 fn placed_row(
     version: Version,
     alloc: Global,
@@ -105,10 +108,7 @@ fn placed_row(
     ensures damage { IfErr result (λ e. (e ≡ SlateDBError.OutOfMemory) ⊎ IsDamage e) }
 {
     match fields_of(version, bytes.as_slice()) {
-        Ok((shared, fields)) => {
-            let row = whole_row(alloc, bytes, other, from, shared as usize, &fields)?;
-            Ok((row, from + fields.end))
-        }
+        Ok((shared, fields)) => whole_row(alloc, bytes, other, from, shared as usize, &fields),
         Err(error) => Err(moved(from, error)),
     }
 }

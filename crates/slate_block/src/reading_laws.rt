@@ -17,44 +17,26 @@ pub fn varints_are_found()
     ensures { VarintsAreFound }
 {}
 
-/// No row of version 1 is refused, and nothing else is read.
-pub fn rows_of_v1_are_found()
-    ensures { RowsOfV1AreFound }
+/// No row of a version is refused, and nothing else is read; the same of what stands before the value of a row of version 2.
+pub fn rows_are_found()
+    ensures v1 { RowsOfV1AreFound }
+    ensures v2 { RowsOfV2AreFound }
+    ensures keys { KeysOfV2AreFound }
 {}
 
-/// No row of version 2 is refused, and nothing else is read.
-pub fn rows_of_v2_are_found()
-    ensures { RowsOfV2AreFound }
-{}
-
-/// The same of what stands before the value of a row of version 2.
-pub fn keys_of_v2_are_found()
-    ensures { KeysOfV2AreFound }
-{}
-
-/// No rows' part with its offsets is refused, and nothing else is taken apart.
+/// No rows' part with its offsets is refused, and nothing else is taken apart (`found`). A built block's bytes come apart into
+/// its rows' part and its offsets, and what comes apart into these is the block (`taken_apart`). Bytes come apart in one way,
+/// so that a decoded block is the one that was encoded (`once`).
 pub fn blocks_come_apart()
-    ensures { BlocksComeApart }
+    ensures found { BlocksComeApart }
+    ensures taken_apart { BlocksAreTakenApart }
+    ensures once { BytesComeApartOnce }
 {}
 
-/// A built block's bytes come apart into its rows' part and its offsets, and what comes apart into these is the block.
-pub fn blocks_are_taken_apart()
-    ensures { BlocksAreTakenApart }
-{}
-
-/// Bytes come apart in one way, so that a decoded block is the one that was encoded.
-pub fn bytes_come_apart_once()
-    ensures { BytesComeApartOnce }
-{}
-
-/// A walk over a block of version 1 is refused nowhere exactly where it is one, and reads its rows.
-pub fn blocks_of_v1_are_walked()
-    ensures { WalkedRowsAreBlocks1 }
-{}
-
-/// The same of a block of version 2.
-pub fn blocks_of_v2_are_walked()
-    ensures { WalkedRowsAreBlocks2 }
+/// A walk over a block of a version is refused nowhere exactly where it is one, and reads its rows.
+pub fn blocks_are_walked()
+    ensures v1 { WalkedRowsAreBlocks1 }
+    ensures v2 { WalkedRowsAreBlocks2 }
 {}
 
 /// A seek over a block loses no row that is read and doesn't come before the key, where those that are read come in the

@@ -12,7 +12,7 @@ use slate_types::{RowEntry, SlateDBError};
 use std::alloc::Global;
 
 /// How many rows a group has where it isn't the last.
-const GROUP_LEN: usize = 16;
+pub const GROUP_LEN: usize = 16;
 
 /// What is left of a group.
 #[derive(Drop)]
@@ -60,6 +60,7 @@ pub fn first_of_group(
 ) -> Result<(RowEntry, RowGroup), SlateDBError>
     requires { number < length offsets.now }
     ensures found { IfOk result (λ found. restart_at body.now offsets.now number ≡ Ok found.0 ∷ group_left body.now found.1) }
+    ensures room { IfOk result (λ found. found.1.room < 16) }
     ensures cause { IfErr result (λ e. (e ≡ SlateDBError.OutOfMemory) ⊎ (restart_at body.now offsets.now number ≡ Err e ∷ [])) }
     ensures damage { IfErr result (λ e. (e ≡ SlateDBError.OutOfMemory) ⊎ IsDamage e) }
 {

@@ -4,7 +4,7 @@ ghost use Rattle.slate_block.specs.Walks.{all_ok};
 ghost use Rattle.slate_block.specs.BlockWalks.{BeginsRead, IsDamage, IsPast, Refuses, StopsAt};
 ghost use Rattle.slate_block.specs.GroupWalks.{left_back, reads_back, restart_at, turned, BeginsBefore};
 
-use crate::row_groups::{first_of_group, next_of_group};
+use crate::row_groups::{GROUP_LEN, first_of_group, next_of_group};
 use crate::walk_v2::begins_before;
 use bytes::Bytes;
 use slate_types::{IterationOrder, RowEntry, SlateDBError};
@@ -23,13 +23,13 @@ pub fn group_rows(
     ensures cause { IfErr result (λ e. (e ≡ SlateDBError.OutOfMemory) ⊎ (all_ok (restart_at body.now offsets.now number) ≡ Err e)) }
     ensures damage { IfErr result (λ e. (e ≡ SlateDBError.OutOfMemory) ⊎ IsDamage e) }
 {
+    let mut rows = Vec::with_capacity(alloc, GROUP_LEN)?;
     let (first, mut group) = first_of_group(alloc, body, offsets, number)?;
-    let mut rows = Vec::new(alloc);
-    rows.push(first)?;
+    rows.push_reserved(first);
     while !group.is_over() {
         let (row, rest) = next_of_group(alloc, body, &group)?;
         group = rest;
-        rows.push(row)?;
+        rows.push_reserved(row);
     }
     drop(group);
     Ok(rows)

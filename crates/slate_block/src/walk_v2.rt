@@ -137,7 +137,6 @@ pub fn behind_key(
 
 /// The place behind all rows that come before a key, where the rows come in order. It is found by the groups' first keys,
 /// and from there row by row: of the groups before it none is read.
-#[tactic(auto, using(crate::proofs::SeekSteps::start_past, crate::proofs::SeekSteps::start_refused))]
 pub fn seek_key(
     alloc: Global,
     body: &Bytes,

@@ -1,6 +1,28 @@
 use Rattle.std.proofs.lemmas.Result.{on_err_weaker}
-use Rattle.slate_block.proofs.Appending.{kept_step}
+use Rattle.slate_block.proofs.Appending.{kept_here, kept_step, on_err}
 use Rattle.slate_block.proofs.codec_v0.append_row.Goals as goal
+
+pub returns-in_err-extend_from_slice-clause-kept : goal.returns-in_err-extend_from_slice-clause-kept
+returns-in_err-extend_from_slice-clause-kept c = on_err c.from_residual.result
+    (kept_here c.args.out.now.items c.extend_from_slice.new.self.items c.in_err-extend_from_slice.ensures.items)
+
+pub returns-in_err-extend_from_slice-2-clause-kept : goal.returns-in_err-extend_from_slice-2-clause-kept
+returns-in_err-extend_from_slice-2-clause-kept c = on_err c.from_residual-in_err-extend_from_slice-2.result
+    (kept_step c.args.out.now.items _ c.extend_from_slice.new.self.items c.extend_from_slice-2.new.self.items c.in_ok-extend_from_slice.ensures.items
+    (kept_here c.extend_from_slice.new.self.items c.extend_from_slice-2.new.self.items c.in_err-extend_from_slice-2.ensures.items))
+
+pub returns-in_err-extend_from_slice-3-clause-kept : goal.returns-in_err-extend_from_slice-3-clause-kept
+returns-in_err-extend_from_slice-3-clause-kept c = on_err c.from_residual-in_err-extend_from_slice-3.result
+    (kept_step c.args.out.now.items _ c.extend_from_slice.new.self.items c.extend_from_slice-3.new.self.items c.in_ok-extend_from_slice.ensures.items
+    (kept_step c.extend_from_slice.new.self.items _ c.extend_from_slice-2.new.self.items c.extend_from_slice-3.new.self.items c.in_ok-extend_from_slice-2.ensures.items
+    (kept_here c.extend_from_slice-2.new.self.items c.extend_from_slice-3.new.self.items c.in_err-extend_from_slice-3.ensures.items)))
+
+pub returns-in_err-append_meta-clause-kept : goal.returns-in_err-append_meta-clause-kept
+returns-in_err-append_meta-clause-kept c = on_err c.from_residual-in_err-append_meta.result
+    (kept_step c.args.out.now.items _ c.extend_from_slice.new.self.items c.append_meta.new.out.items c.in_ok-extend_from_slice.ensures.items
+    (kept_step c.extend_from_slice.new.self.items _ c.extend_from_slice-2.new.self.items c.append_meta.new.out.items c.in_ok-extend_from_slice-2.ensures.items
+    (kept_step c.extend_from_slice-2.new.self.items _ c.extend_from_slice-3.new.self.items c.append_meta.new.out.items c.in_ok-extend_from_slice-3.ensures.items
+    (c.in_err-append_meta.ensures.kept))))
 
 pub returns-clause-kept : goal.returns-clause-kept
 returns-clause-kept c =

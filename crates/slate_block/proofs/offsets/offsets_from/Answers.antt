@@ -1,4 +1,4 @@
-use Rattle.std.proofs.Common.{min, sym, inr}
+use Rattle.std.proofs.Common.{min, sym, inr, arith}
 use Rattle.std.proofs.lemmas.Result.{err_from_is_err_and}
 use Rattle.slate_block.specs.BlockReading.{offsets_from}
 use Rattle.slate_block.proofs.OffsetLaws.{goes_on, stops, is_done}
@@ -14,7 +14,8 @@ returns-in_err-offset-clause-cause c =
 pub loop-preserved : goal.loop-preserved
 loop-preserved c = record {
   within = c.in_ok-offset.ensures.within;
-  read = rw c.in_ok-push.ensures.items
+  room = omega arith;
+  read = rw c.push_reserved.ensures.items
       (goes_on c.loop.offsets.items c.args.count c.loop.counter c.loop.low c.loop.high c.args.end c.args.bytes.now c.loop.at c.in_ok-offset.offset c.in_ok-offset.next
       (offsets_from c.args.count 0 (min 1 c.args.end) c.args.end c.args.bytes.now c.args.end) c.loop-test.true (sym c.in_ok-offset.ensures.value) c.loop.invariant.read);
 }

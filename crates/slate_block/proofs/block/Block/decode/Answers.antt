@@ -1,4 +1,4 @@
-use Rattle.std.proofs.Common.{◌≡◌, ◌-◌, ◌∙◌, ap, subst, sym, take, List, ℕ, arith}
+use Rattle.std.proofs.Common.{subst, sym, take, List, ℕ}
 use Rattle.std.proofs.lemmas.Result.{err_from_is_err_and}
 use Rattle.slate_types.specs.declared.error.SlateDBError.TheVariants.{OutOfMemory}
 use Rattle.slate_block.specs.BlockReading.{IsApart}
@@ -17,8 +17,6 @@ returns-clause-found c =
     let bytes = c.args.bytes in
     let end = c.in_ok-end.end in
     let offsets = c.in_ok-end.offsets.items in
-    let whole : end - 0 ≡ end = omega arith in
-    let body : c.in_ok-body.body ≡ take end bytes = c.in_ok-body.ensures.ok ∙ ap (λ (n : ℕ). take n bytes) whole in
-    subst (λ (b : List ℕ). IsApart b offsets bytes) (sym body)
+    subst (λ (b : List ℕ). IsApart b offsets bytes) (sym c.truncate.ensures)
     (subst (λ (b : List ℕ). IsApart (take end b) offsets b) c.as_slice.ensures
     (block_takes_apart c.as_slice.result.now end offsets c.in_ok-end.ensures.bytes c.in_ok-end.ensures.found))
