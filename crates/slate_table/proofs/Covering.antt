@@ -106,10 +106,6 @@ all_front : {X : Type 0} (P : X → Type 0) (xs ys : List X) → AllByRecursion 
 all_front P [] ys h = tt
 all_front P (x ∷ xs) ys h = (h.0, all_front P xs ys h.1)
 
-all_back : {X : Type 0} (P : X → Type 0) (xs ys : List X) → AllByRecursion P (xs ++ ys) → AllByRecursion P ys
-all_back P [] ys h = h
-all_back P (x ∷ xs) ys h = all_back P xs ys h.1
-
 pub order_front : (xs ys : List RowEntry) → AreInOrder (xs ++ ys) → AreInOrder xs
 order_front [] ys h = tt
 order_front (x ∷ xs) ys h = (all_front (λ s. IsTrue (row_lt x s)) xs ys h.0, order_front xs ys h.1)

@@ -1,21 +1,32 @@
 -- What stands behind the blocks of a table.
-use Rattle.std.proofs.Common.{◌≡◌, ℕ, ◌+◌, ◌-◌, List, [], ◌∷◌, ◌++◌, length, Some, refl, sym, ap, ◌∙◌, append_assoc, arith}
-use Rattle.std.specs.Prelude.{slice_get}
+use Rattle.std.proofs.Common.{◌≡◌, ℕ, ◌+◌, ◌-◌, List, [], ◌∷◌, ◌++◌, length, Option, refl, sym, ap, subst, ◌∙◌, append_assoc, arith}
+use Rattle.std.specs.Prelude.{slice_get, option_map}
 use Rattle.std.proofs.lemmas.List.{append-nil, length-append}
 use Rattle.slate_types.specs.declared.types.RowEntry.{RowEntry}
 use Rattle.slate_block.specs.RowSpelling.{be16, be64}
+use Rattle.slate_table.specs.declared.info.SsTableInfo.{SsTableInfo}
 use Rattle.slate_table.specs.Parts.{summed}
 use Rattle.slate_table.specs.Table.{some_first, some_last, info_of, sections_then_info}
 use Rattle.slate_table.specs.Decoded.{SectionsLieBefore}
 use Rattle.slate_table.specs.SectionReading.{footer_bytes}
-use Rattle.slate_table.specs.TableEnd.{placed_info, part_of_info}
-use Rattle.slate_table.proofs.PartsLaws.{last_of}
+use Rattle.slate_table.specs.InfoReading.{seen_info}
+use Rattle.slate_table.specs.TableEnd.{placed_info, part_of_info, HasInfo}
 
-pub last_is : (rows : List RowEntry) (q : RowEntry) → slice_get rows (length rows - 1) ≡ Some q → Some q.key ≡ some_last rows
-last_is [] q h = absurd cc
-last_is (r ∷ rows) q h =
+-- ---- the first and the last key
+
+pub first_key_is : (rows : List RowEntry) (o : Option RowEntry) → o ≡ slice_get rows 0 → option_map (λ (r : RowEntry). r.key) o ≡ some_first rows
+first_key_is [] o is = ap (option_map (λ (r : RowEntry). r.key)) is
+first_key_is (r ∷ rows) o is = ap (option_map (λ (r : RowEntry). r.key)) is
+
+key_at_end : (r : RowEntry) (rows : List RowEntry) → option_map (λ (r : RowEntry). r.key) (slice_get (r ∷ rows) (length rows)) ≡ some_last (r ∷ rows)
+key_at_end r [] = refl
+key_at_end r (x ∷ rows) = key_at_end x rows
+
+pub last_key_is : (rows : List RowEntry) (o : Option RowEntry) → o ≡ slice_get rows (length rows - 1) → option_map (λ (r : RowEntry). r.key) o ≡ some_last rows
+last_key_is [] o is = ap (option_map (λ (r : RowEntry). r.key)) is
+last_key_is (r ∷ rows) o is =
     let place : length (r ∷ rows) - 1 ≡ length rows = omega arith in
-    sym (ap Some (last_of [] rows q r (sym (ap (slice_get (r ∷ rows)) place) ∙ h)))
+    ap (option_map (λ (r : RowEntry). r.key)) (is ∙ ap (slice_get (r ∷ rows)) place) ∙ key_at_end r rows
 
 -- the place of each section is that of the bytes before it
 same_info : (version : ℕ) (rows : List RowEntry) (a i s : List ℕ) →
@@ -66,3 +77,9 @@ sections_lie rows a i s =
     let second = length-append a i in
     let third = length-append (a ++ i) s in
     (omega (arith, second, third), omega (arith, second, third), omega (arith, second, third))
+
+pub info_moved : (a b : List ℕ) (v w : ℕ) (i j : SsTableInfo) → a ≡ b → v ≡ w → i ≡ j → HasInfo b v (seen_info j) → HasInfo a w (seen_info i)
+info_moved a b v w i j same version info h =
+    let placed = subst (λ (l : List ℕ). HasInfo l v (seen_info j)) (sym same) h in
+    let numbered = subst (λ (n : ℕ). HasInfo a n (seen_info j)) version placed in
+    subst (λ (x : SsTableInfo). HasInfo a w (seen_info x)) (sym info) numbered

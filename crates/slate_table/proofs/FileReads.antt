@@ -4,7 +4,7 @@ use Rattle.std.specs.Prelude.{◌≢◌, slice_get, Result, Some}
 use Rattle.std.specs.List.{AllByRecursion}
 use Rattle.std.proofs.lemmas.Bool.{eqb-true}
 use Rattle.slate_types.specs.declared.error.SlateDBError.{SlateDBError}
-use Rattle.slate_types.specs.declared.error.SlateDBError.TheVariants.{InvalidVersion, BlockOutOfRange, OutOfMemory}
+use Rattle.slate_types.specs.declared.error.SlateDBError.TheVariants.{InvalidVersion, OutOfMemory}
 use Rattle.slate_types.specs.declared.types.RowEntry.{RowEntry}
 use Rattle.slate_types.specs.Faults.{Rose}
 use Rattle.slate_types.specs.Outside.{Objects}
@@ -117,10 +117,6 @@ index_refused decode objects before after path table at x z e (inl a) = inl a
 index_refused decode objects before after path table at x z e (inr (inl f)) = inr (inl (inl f))
 index_refused decode objects before after path table at x z e (inr (inr r)) = inr (inr (inl r))
 
-pub no_such_block : {A B : Type 0} (decode : Encode) (objects : Option Objects) (before after : Option (List Act)) (path : List ℕ) (table : SsTableHandle) (entries : List (ℕ × List ℕ)) (at : ℕ) (e : SlateDBError) →
-    ReadsIndex decode objects before after path table entries → length entries ≤ at → e ≡ BlockOutOfRange at (length entries) → A ⊎ B ⊎ RefusesReadRows decode objects before after path table at e
-no_such_block decode objects before after path table entries at e index past is = inr (inr (inr (inl (entries, index, past, is))))
-
 rows_refused : {A B : Type 0} (decode now : Encode) (objects middle : Option Objects) (before between after : Option (List Act)) (path root : List ℕ) (table : SsTableHandle) (entries : List (ℕ × List ℕ)) (at : ℕ) (e : SlateDBError) →
     now ≡ decode → middle ≡ objects → root ≡ path → ReadsIndex decode objects before between path table entries → at < length entries →
     ReadsBlock middle between after root table entries at (λ answer. RefusesRows now table.format_version answer e) → A ⊎ B ⊎ RefusesReadRows decode objects before after path table at e
@@ -152,11 +148,6 @@ row_refused decode now objects middle before between after path root table entri
     rows_refused decode now objects middle before between after path root table entries at e same still there index within (read.0, read.1, inr (block, fits, read.2, h))
 
 -- ---- which of the two reads were answered
-
-pub may_index : (decode : Encode) (objects : Option Objects) (before after : Option (List Act)) (path : List ℕ) (table : SsTableHandle) (at : ℕ) →
-    (after ≡ before) ⊎ Reads objects before after path table.info.index_offset table.info.index_len (λ _. Unit {0}) → MayReadRows decode objects before after path table at
-may_index decode objects before after path table at (inl none) = inl none
-may_index decode objects before after path table at (inr read) = inr (inl read)
 
 pub had_index : (decode : Encode) (objects : Option Objects) (before after : Option (List Act)) (path : List ℕ) (table : SsTableHandle) (entries : List (ℕ × List ℕ)) (at : ℕ) →
     ReadsIndex decode objects before after path table entries → MayReadRows decode objects before after path table at

@@ -1,7 +1,6 @@
 -- The entries of an index, written one after the other.
-use Rattle.std.proofs.Common.{◌≡◌, ℕ, zero, suc, ◌+◌, ◌^◌, ◌<◌, ◌≤◌, List, [], ◌∷◌, ◌++◌, length, get_or, take, refl, sym, ap, ◌∙◌, append_assoc, arith}
-use Rattle.std.specs.List.{AllByRecursion}
-use Rattle.std.proofs.lemmas.List.{append-nil, length-take, take_more, take_all}
+use Rattle.std.proofs.Common.{◌≡◌, ℕ, ◌+◌, ◌<◌, List, [], ◌∷◌, ◌++◌, length, get_or, take, sym, ap, ◌∙◌, append_assoc, arith}
+use Rattle.std.proofs.lemmas.List.{append-nil, length-take, take_more}
 use Rattle.slate_block.specs.RowSpelling.{be16, be64}
 use Rattle.slate_table.specs.Parts.{index_entries}
 
@@ -22,11 +21,3 @@ one_more ats ks i p n =
     let q : i < length ks = omega (arith, n) in
     let sizes : length (take i ks) ≡ length (take i ats) = omega (arith, length-take i ks, length-take i ats, n) in
     rw (take_more ats i 0 p, take_more ks i [] q) (entries_end (take i ats) (take i ks) (get_or ats i 0) (get_or ks i []) sizes)
-
-pub short_at : (ks : List (List ℕ)) (i : ℕ) → i < length ks → AllByRecursion (λ k. length k < 2 ^ 16) ks → length (get_or ks i []) < 2 ^ 16
-short_at [] i p f = absurd (omega arith)
-short_at (k ∷ ks) zero p f = f.0
-short_at (k ∷ ks) (suc i) p f = short_at ks i (omega (arith, p)) f.1
-
-pub all_entries : (ats : List ℕ) (ks : List (List ℕ)) (i : ℕ) → length ats ≤ i → length ks ≡ length ats → index_entries (take i ats) (take i ks) ≡ index_entries ats ks
-all_entries ats ks i p n = rw (take_all i ats p, take_all i ks (omega (arith, n))) refl

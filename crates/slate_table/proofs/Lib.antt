@@ -21,7 +21,6 @@ mod OrderLaws
 mod PathLaws
 mod PartReads
 mod BlockReads
-mod EqualStats
 mod OpenReads
 mod FileReads
 pub mod FrameReads

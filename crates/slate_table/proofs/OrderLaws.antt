@@ -39,10 +39,6 @@ all_before : (r row : RowEntry) (rs : List RowEntry) → AllByRecursion (λ s. I
 all_before r row [] h k = (k, tt)
 all_before r row (s ∷ rs) h k = (h.0, all_before r row rs h.1 k)
 
-last_of_all : (r row : RowEntry) (rs : List RowEntry) → AllByRecursion (λ s. IsTrue (row_lt r s)) (rs ++ row ∷ []) → IsTrue (row_lt r row)
-last_of_all r row [] h = h.0
-last_of_all r row (s ∷ rs) h = last_of_all r row rs h.1
-
 behind_last : (r row : RowEntry) (rs : List RowEntry) → AreInOrder (r ∷ rs) → IsTrue (comes_last (r ∷ rs) row) → IsTrue (row_lt r row)
 behind_last r row [] h k = k
 behind_last r row (s ∷ rs) h k = before_later r s row h.0.0 (behind_last s row rs h.1 k)

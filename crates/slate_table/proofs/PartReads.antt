@@ -1,5 +1,6 @@
 -- Refusals of a section are those of its part, and of the transformer where the checksum fits.
-use Rattle.std.proofs.Common.{◌≡◌, ℕ, List, Option, Some, Ok, Err, ◌⊎◌, inl, inr, ap}
+use Rattle.std.specs.Prelude.{Result}
+use Rattle.std.proofs.Common.{◌≡◌, ℕ, List, Option, Some, Ok, Err, ◌⊎◌, inl, inr, ap, ◌∙◌}
 use Rattle.slate_types.specs.declared.error.SlateDBError.{SlateDBError}
 use Rattle.slate_types.specs.declared.error.SlateDBError.TheVariants.{BlockTransformError, OutOfMemory}
 use Rattle.slate_types.specs.Outside.{Objects}
@@ -25,3 +26,22 @@ pub still_ok : {T P : Type 0} (value : T) → (Ok value ≡ Err BlockTransformEr
 still_ok value (inl failed) = absurd cc
 still_ok value (inr (inl memory)) = absurd cc
 still_ok value (inr (inr same)) = same
+
+pub still_longer : {P Q : Type 0} (a b c : ℕ) → b ≡ a → P ⊎ Q ⊎ (c ≡ b) → P ⊎ Q ⊎ (c ≡ a)
+still_longer a b c same (inl p) = inl p
+still_longer a b c same (inr (inl q)) = inr (inl q)
+still_longer a b c same (inr (inr e)) = inr (inr (e ∙ same))
+
+pub refused_section : {A B : Type 0} (decode : Encode) (is : List ℕ → Option SlateDBError) (answer : Option (List ℕ)) (e : SlateDBError) →
+    A ⊎ B ⊎ (refusal (stored_in answer) ≡ Some e) → A ⊎ B ⊎ IsRefused decode is answer e
+refused_section decode is answer e (inl a) = inl a
+refused_section decode is answer e (inr (inl b)) = inr (inl b)
+refused_section decode is answer e (inr (inr r)) = inr (inr (inl r))
+
+-- the same error as another result
+pub still_err : {T U P : Type 0} (e : SlateDBError) →
+    (◌≡◌ {A = Result T SlateDBError} (Err e) (Err BlockTransformError)) ⊎ (◌≡◌ {A = Result T SlateDBError} (Err e) (Err OutOfMemory)) ⊎ P →
+    (◌≡◌ {A = Result U SlateDBError} (Err e) (Err BlockTransformError)) ⊎ (◌≡◌ {A = Result U SlateDBError} (Err e) (Err OutOfMemory)) ⊎ P
+still_err e (inl failed) = let is : e ≡ BlockTransformError = cc in inl (ap (λ (x : SlateDBError). Err x) is)
+still_err e (inr (inl memory)) = let is : e ≡ OutOfMemory = cc in inr (inl (ap (λ (x : SlateDBError). Err x) is))
+still_err e (inr (inr same)) = inr (inr same)

@@ -358,3 +358,17 @@ holds_where_some (Some x) P v h is = h.0
 pub fails_where_none : {A : Type 0} (o : Option A) (P : Type 0) (v : A) → SomeIff o P v → is_some o ≡ false → P → ⊥
 fails_where_none None P v h is = h
 fails_where_none (Some x) P v h is = absurd cc
+
+-- ---- a row that was added, as a builder is seen
+
+pub added_rows : (encode : Encode) (p q : TableParts) (r : RowEntry) → IsAdded encode p r q → q.rows.items ≡ p.rows.items ++ r ∷ []
+added_rows encode p q r (inl a) = a.1.rows
+added_rows encode p q r (inr a) = a.3.rows ∙ ap (λ (l : List RowEntry). l ++ r ∷ []) a.2.rows
+
+pub added_format : (encode : Encode) (p q : TableParts) (r : RowEntry) → IsAdded encode p r q → q.format ≡ p.format
+added_format encode p q r (inl a) = a.1.format
+added_format encode p q r (inr a) = a.3.format ∙ a.2.format
+
+pub added_size : (encode : Encode) (p q : TableParts) (r : RowEntry) → IsAdded encode p r q → q.block_size ≡ p.block_size
+added_size encode p q r (inl a) = a.1.size
+added_size encode p q r (inr a) = a.3.size ∙ a.2.size

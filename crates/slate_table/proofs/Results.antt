@@ -1,6 +1,25 @@
 -- The result of a last call, which is returned as it is.
-use Rattle.std.proofs.Common.{◌⊎◌, inl, inr, Ok, Err}
-use Rattle.std.specs.Prelude.{Result, IfOk, OnOk, OnErr}
+use Rattle.std.proofs.Common.{◌≡◌, ◌⊎◌, ◌∙◌, ℕ, Bool, true, inl, inr, Ok, Err, ap}
+use Rattle.std.specs.Prelude.{Result, IfOk, OnOk, OnErr, is_ok}
+use Rattle.slate_types.specs.declared.error.SlateDBError.{SlateDBError}
+use Rattle.slate_types.specs.declared.error.SlateDBError.TheVariants.{StoreFault}
+
+-- a store's count where the call is Ok
+pub store_still : {T P : Type 0} (value : T) → (Ok value ≡ Err StoreFault) ⊎ P → P
+store_still value (inl failed) = absurd cc
+store_still value (inr same) = same
+
+-- the same error as another result
+pub store_err : {T U P : Type 0} (e : SlateDBError) → (◌≡◌ {A = Result T SlateDBError} (Err e) (Err StoreFault)) ⊎ P → (◌≡◌ {A = Result U SlateDBError} (Err e) (Err StoreFault)) ⊎ P
+store_err e (inl failed) = let is : e ≡ StoreFault = cc in inl (ap (λ (x : SlateDBError). Err x) is)
+store_err e (inr same) = inr same
+
+pub store_longer : {P : Type 0} (a b c : ℕ) → b ≡ a → P ⊎ (c ≡ b) → P ⊎ (c ≡ a)
+store_longer a b c same (inl p) = inl p
+store_longer a b c same (inr e) = inr (e ∙ same)
+
+pub err_is : {T : Type 0} (e f : SlateDBError) → ◌≡◌ {A = Result T SlateDBError} (Err e) (Err f) → e ≡ f
+err_is e f h = cc
 
 pub either : {A B C : Type 0} → (B → C) → A ⊎ B → A ⊎ C
 either f (inl a) = inl a
@@ -29,3 +48,11 @@ if_ok_both (Err e) P Q R f p q = tt
 pub if_ok_three : {T E : Type 0} (r : Result T E) (P Q R S : T → Type 0) → ((x : T) → P x → Q x → R x → S x) → IfOk r P → IfOk r Q → IfOk r R → IfOk r S
 if_ok_three (Ok x) P Q R S f p q s = f x p q s
 if_ok_three (Err e) P Q R S f p q s = tt
+
+pub ok_is : {T E : Type 0} (r : Result T E) (t : Bool) → t ≡ is_ok r → OnOk r (t ≡ true)
+ok_is (Ok x) t is = is
+ok_is (Err e) t is = tt
+
+pub where_ok : {T E P : Type 0} (r : Result T E) → is_ok r ≡ true → OnOk r P → P
+where_ok (Ok x) is p = p
+where_ok (Err e) is p = absurd cc

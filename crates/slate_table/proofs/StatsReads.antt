@@ -156,10 +156,6 @@ stats_reads bytes s fits h =
       is = text ∙ ap (λ (m : ℕ). all ++ be64 k.0.0 ++ be64 v.0.0 ++ be32 m ++ counts) (sym size);
     })
 
-pub fit_push : (bs : List BlockStats) (b : BlockStats) → AllByRecursion (FitCounts 16) (map counts_of bs) → FitCounts 16 (counts_of b) → AllByRecursion (FitCounts 16) (map counts_of (bs ++ b ∷ []))
-fit_push [] b all one = (one, tt)
-fit_push (x ∷ bs) b all one = (all.0, fit_push bs b all.1 one)
-
 pub spelled_map : (bs : List BlockStats) → flat_map (λ b. counts_bytes be16 (counts_of b)) bs ≡ flat_map (counts_bytes be16) (map counts_of bs)
 spelled_map [] = refl
 spelled_map (b ∷ bs) = flat_map-cons (λ x. counts_bytes be16 (counts_of x)) b bs ∙ ap (λ (l : List ℕ). counts_bytes be16 (counts_of b) ++ l) (spelled_map bs) ∙ sym (flat_map-cons (counts_bytes be16) (counts_of b) (map counts_of bs))

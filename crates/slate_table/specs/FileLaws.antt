@@ -1,4 +1,4 @@
--- What files read of a table that the store holds. Each statement is proved by a function of src/file_laws.rt.
+-- What files read of a table that the store holds. Each statement is proved in src/file_laws.rt.
 --     index_section, stats_section      the sections of the index and of the statistics of a table
 --     table_info encode version blocks filters      the info of a table
 --     table_entries encode version blocks      the offset and the separator of each block

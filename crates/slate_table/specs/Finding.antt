@@ -1,4 +1,4 @@
--- What a reader of a key finds in a table by its info. Each statement is proved by a function of src/finding_laws.rt.
+-- What a reader of a key finds in a table by its info. Each statement is proved in src/finding_laws.rt.
 --     of_key k rows      the rows of a key
 --     encloses info k      the key stands between the first and the last one
 --     IsTableWith encode bytes version i rows      the bytes are a table of the rows, and have this version and this info

@@ -1,4 +1,4 @@
--- What readers of an index find. Each statement is proved by a function of src/index_laws.rt.
+-- What readers of an index find. Each statement is proved in src/reading_laws.rt.
 --     IndexesAreRead      the entries that are read are those of an index of these bytes, and nothing is refused exactly where there are such
 use Rattle.std.specs.Prelude.{◌≡◌, ◌↔◌, ℕ, List, Ok}
 use Rattle.slate_block.specs.ReadingLaws.{EachIsAByte}

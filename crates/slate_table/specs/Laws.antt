@@ -1,4 +1,4 @@
--- What tables are for their readers. Each statement is proved by a function of src/laws.rt.
+-- What tables are for their readers. Each statement is proved in src/laws.rt.
 --     CuttingKeepsRows      the blocks of a cutting are the rows, none left out and none moved
 --     BuiltTablesHaveTheirRows      a table that is built of rows is a table of them, as they are read
 -- Where the transformer is undone:

@@ -1,4 +1,4 @@
--- What readers of the parts of a table find. Each statement is proved by a function of src/reading_laws.rt.
+-- What readers of the parts of a table find. Each statement is proved in src/reading_laws.rt.
 --     StatsAreRead      the statistics that are read are those of these bytes, and nothing is refused exactly where there are such
 --     InfosAreRead      the same of an info in a version, whose sections lie before an end
 use Rattle.std.specs.Prelude.{◌≡◌, ◌↔◌, ℕ, List, Ok}

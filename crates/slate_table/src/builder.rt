@@ -14,7 +14,7 @@ ghost use Rattle.slate_table.specs.TableBuilding.{begun, section_size, IsLimit, 
 
 use crate::encoded_table::EncodedSsTable;
 use crate::info::SsTableFormat;
-use crate::table_parts::{TableParts, new_block, version_number};
+use crate::table_parts::{TableParts, new_block};
 use slate_types::{BlockTransformer, RowEntry, SlateDBError};
 use std::alloc::Global;
 use std::marker::Model;
@@ -116,16 +116,12 @@ impl EncodedSsTableBuilder {
         ensures later { faults_of T.faults transformer.old ≤ faults_of T.faults transformer.new }
         ensures still { (result ≡ Err SlateDBError.BlockTransformError) ⊎ (result ≡ Err SlateDBError.OutOfMemory) ⊎ (faults_of T.faults transformer.new ≡ faults_of T.faults transformer.old) }
     {
-        if entry.key.is_empty() {
-            drop(entry);
-            return Err(SlateDBError::EmptyKey);
-        }
-        match self.parts.test_limits(&entry) {
+        match self.parts.test(&entry) {
             Ok(()) => {
                 self.is_whole = false;
-                let ended = self.parts.add(alloc, entry, transformer)?;
-                self.is_whole = true;
-                Ok(ended)
+                let ended = self.parts.add(alloc, entry, transformer);
+                self.is_whole = ended.is_ok();
+                ended
             }
             Err(error) => {
                 drop(entry);
@@ -153,13 +149,9 @@ impl EncodedSsTableBuilder {
         ensures still { (result ≡ Err SlateDBError.BlockTransformError) ⊎ (result ≡ Err SlateDBError.OutOfMemory) ⊎ (faults_of T.faults transformer.new ≡ faults_of T.faults transformer.old) }
     {
         let EncodedSsTableBuilder { mut parts, .. } = self;
-        let version = version_number(parts.format);
-        let made = parts.finish(alloc, transformer);
+        let table = parts.finish(alloc, transformer);
         drop(parts);
-        match made {
-            Ok((bytes, info)) => Ok(EncodedSsTable::new(bytes, info, version)),
-            Err(error) => Err(error),
-        }
+        table
     }
 }
 

@@ -8,7 +8,6 @@ ghost use Rattle.slate_table.specs.InfoReading.{
   section_place,
   byte_field,
   version_field,
-  key_text,
   key_field,
   place_field,
   ending,
@@ -31,7 +30,7 @@ const FILTER_FORMAT: u8 = 1;
 
 /// The first and the last key of a table, and where its index, its filters and its statistics lie: offsets in the table's bytes,
 /// and lengths with the checksums. A table without filters has a filter length of 0.
-#[derive(Debug, PartialEq, Eq, Drop)]
+#[derive(PartialEq, Eq, Drop)]
 pub struct SsTableInfo {
     pub first_entry: Option<Bytes>,
     pub last_entry: Option<Bytes>,
@@ -76,7 +75,7 @@ pub struct SsTableHandle {
 }
 
 /// How tables are built.
-#[derive(Clone, Copy, Debug, PartialEq, Eq)]
+#[derive(Clone, Copy)]
 pub struct SsTableFormat {
     /// The size in bytes that an encoded block is held to.
     pub block_size: u32,
@@ -158,17 +157,11 @@ fn append_key(out: &mut Vec<u8>, key: &Option<Bytes>) -> Result<(), SlateDBError
 {
     match key {
         None => append(out, &[0]),
-        Some(key) => append_some_key(out, key),
+        Some(key) => {
+            append(out, &[1])?;
+            append_short(out, key.as_slice())
+        }
     }
-}
-
-fn append_some_key(out: &mut Vec<u8>, key: &Bytes) -> Result<(), SlateDBError>
-    requires { length key.now < 2 ^ 16 }
-    ensures appended { OnOk result (out.new.items ≡ out.old.items ++ key_bytes (Some key.now)) }
-    ensures cause { IsOkUnless result SlateDBError.OutOfMemory }
-{
-    append(out, &[1])?;
-    append_short(out, key.as_slice())
 }
 
 /// Appends the places of the sections.
@@ -270,7 +263,7 @@ fn version_field(version: u16, bytes: &[u8]) -> Result<(u16, usize), SlateDBErro
     Ok((stored, at))
 }
 
-#[tactic(auto, unfolding(crate::specs::InfoReading::key_field))]
+#[tactic(auto, unfolding(crate::specs::InfoReading::key_field, crate::specs::InfoReading::key_text))]
 fn key_field(bytes: &Bytes, at: usize) -> Result<(Option<Bytes>, usize), SlateDBError>
     ensures found { IfOk result (λ field. key_field bytes.now at ≡ Ok field) }
     ensures cause { IfErr result (λ e. (e ≡ SlateDBError.OutOfMemory) ⊎ (key_field bytes.now at ≡ Err e)) }
@@ -281,23 +274,12 @@ fn key_field(bytes: &Bytes, at: usize) -> Result<(Option<Bytes>, usize), SlateDB
         return Ok((None, next));
     }
     if is_there == 1 {
-        let (key, end) = key_text(bytes, next)?;
+        let (len, next) = u16_field(bytes.as_slice(), next)?;
+        let (start, end) = block_field(len as usize, bytes.as_slice(), next)?;
+        let key = bytes.slice(start..end)?;
         return Ok((Some(key), end));
     }
     Err(corrupt(at))
-}
-
-#[tactic(auto, unfolding(crate::specs::InfoReading::key_text))]
-fn key_text(bytes: &Bytes, at: usize) -> Result<(Bytes, usize), SlateDBError>
-    requires { at ≤ length bytes.now }
-    ensures found { IfOk result (λ field. key_text bytes.now at ≡ Ok field) }
-    ensures cause { IfErr result (λ e. (e ≡ SlateDBError.OutOfMemory) ⊎ (key_text bytes.now at ≡ Err e)) }
-    ensures within { IfOk result (λ field. field.1 ≤ length bytes.now) }
-{
-    let (len, at) = u16_field(bytes.as_slice(), at)?;
-    let (start, end) = block_field(len as usize, bytes.as_slice(), at)?;
-    let key = bytes.slice(start..end)?;
-    Ok((key, end))
 }
 
 /// The offset and the length of a section that lies before the end.

@@ -165,8 +165,7 @@ fn info_of(answer: Option<Bytes>, footer: Footer) -> Result<SsTableInfo, SlateDB
         Some(bytes) => {
             let part = checked_part(&bytes);
             drop(bytes);
-            let info = SsTableInfo::decode(part?, footer.version, footer.info_offset)?;
-            Ok(info)
+            SsTableInfo::decode(part?, footer.version, footer.info_offset)
         }
     }
 }

@@ -153,7 +153,9 @@ impl SstFile {
         let transformer = &mut reader.transformer;
         let store = &mut reader.store;
         let found = read_block(alloc, store, root, &self.handle, &index, block, transformer)?;
-        rows_of_block(alloc, found, self.handle.format_version)
+        let rows = rows_of_block(alloc, &found, self.handle.format_version);
+        drop(found);
+        rows
     }
 }
 
@@ -173,10 +175,10 @@ fn test_block(index: &SstIndex, block: usize) -> Result<(), SlateDBError>
 }
 
 /// The rows of a block of this version.
-fn rows_of_block(alloc: Global, block: Block, version: u16) -> Result<Vec<RowEntry>, SlateDBError>
-    ensures rows { IfOk result (λ rows. rows_in version block ≡ Ok rows.items) }
-    ensures bytes { EachIsAByte block.body }
-    ensures cause { IfErr result (λ e. (e ≡ SlateDBError.OutOfMemory) ⊎ (rows_in version block ≡ Err e)) }
+fn rows_of_block(alloc: Global, block: &Block, version: u16) -> Result<Vec<RowEntry>, SlateDBError>
+    ensures rows { IfOk result (λ rows. rows_in version block.now ≡ Ok rows.items) }
+    ensures bytes { EachIsAByte block.now.body }
+    ensures cause { IfErr result (λ e. (e ≡ SlateDBError.OutOfMemory) ⊎ (rows_in version block.now ≡ Err e)) }
 {
     are_bytes(block.body.as_slice());
     let mut walk = DataBlockIterator::new(alloc, block, version, IterationOrder::Ascending)?;
@@ -191,7 +193,7 @@ fn are_bytes(bytes: &[u8])
 /// All rows that a walk has left.
 fn all_rows(
     alloc: Global,
-    walk: &mut DataBlockIterator<Block>,
+    walk: &mut DataBlockIterator<&Block>,
 ) -> Result<Vec<RowEntry>, SlateDBError>
     ensures rows { IfOk result (λ rows. left (left_of walk.old) ≡ Ok rows.items) }
     ensures cause { IfErr result (λ e. (e ≡ SlateDBError.OutOfMemory) ⊎ (left (left_of walk.old) ≡ Err e)) }

@@ -1,5 +1,5 @@
 //! What stands behind the blocks of a table.
-ghost use Rattle.std.specs.Prelude.{◌≡◌, ◌≤◌, ◌<◌, ◌+◌, ◌^◌, ◌++◌, ◌⊎◌, length, [], Err, OnOk, IfOk, IfErr, IsOkUnless};
+ghost use Rattle.std.specs.Prelude.{◌≡◌, ◌≤◌, ◌<◌, ◌+◌, ◌^◌, ◌++◌, ◌⊎◌, length, [], Err, OnOk, IfOk, IfErr, IsOkUnless, option_map, option_copied};
 ghost use Rattle.slate_types.specs.Faults.{faults_of};
 ghost use Rattle.slate_table.specs.Parts.{section, summed};
 ghost use Rattle.slate_table.specs.Table.{some_first, some_last, sections_then_info};
@@ -88,8 +88,8 @@ fn placed_info(
     ensures value { IfOk result (λ info. seen_info info ≡ placed_info rows.now index_offset stats_offset end) }
     ensures cause { IsOkUnless result SlateDBError.OutOfMemory }
 {
-    let first_entry = first_key(rows)?;
-    match last_key(rows) {
+    let first_entry = key_of(rows.first())?;
+    match key_of(rows.last()) {
         Ok(last_entry) => Ok(SsTableInfo {
             first_entry,
             last_entry,
@@ -134,21 +134,12 @@ fn append_info(
     }
 }
 
-fn first_key(rows: &[RowEntry]) -> Result<Option<Bytes>, SlateDBError>
-    ensures value { IfOk result (λ key. key ≡ some_first rows.now) }
+/// The key of a row, where there is one.
+fn key_of(row: Option<&RowEntry>) -> Result<Option<Bytes>, SlateDBError>
+    ensures value { IfOk result (λ key. key ≡ option_map (λ r. r.key) (option_copied row.entry)) }
     ensures cause { IsOkUnless result SlateDBError.OutOfMemory }
 {
-    match rows.first() {
-        Some(row) => Ok(Some(row.key.clone()?)),
-        None => Ok(None),
-    }
-}
-
-fn last_key(rows: &[RowEntry]) -> Result<Option<Bytes>, SlateDBError>
-    ensures value { IfOk result (λ key. key ≡ some_last rows.now) }
-    ensures cause { IsOkUnless result SlateDBError.OutOfMemory }
-{
-    match rows.last() {
+    match row {
         Some(row) => Ok(Some(row.key.clone()?)),
         None => Ok(None),
     }

@@ -1,5 +1,5 @@
 //! What a table builder keeps.
-ghost use Rattle.std.specs.Prelude.{◌≡◌, ◌≤◌, ◌<◌, ◌+◌, ◌-◌, ◌^◌, ◌⊎◌, ◌==◌, ◌++◌, ◌∷◌, if◌then◌else◌, ℕ, List, [], Ok, Err, true, false, length, OnOk, IfOk, IfErr, IsOkUnless};
+ghost use Rattle.std.specs.Prelude.{◌≡◌, ◌≤◌, ◌<◌, ◌+◌, ◌-◌, ◌^◌, ◌⊎◌, ◌==◌, ◌++◌, ◌∷◌, ◌↔◌, if◌then◌else◌, ℕ, List, [], Ok, Err, true, false, length, OnOk, IfOk, IfErr, IsOkUnless};
 ghost use Rattle.slate_types.specs.Faults.{faults_of};
 ghost use Rattle.slate_types.specs.Rows.{operand};
 ghost use Rattle.slate_block.specs.Building.{CanTake, with_row};
@@ -13,6 +13,7 @@ ghost use Rattle.slate_table.specs.TableParts.{version_of, separator_behind, fit
 ghost use Rattle.slate_table.specs.InfoReading.{seen_info};
 ghost use Rattle.slate_table.specs.TableEnd.{HasInfo, parts_bytes, IsReady, IsFinished};
 
+use crate::encoded_table::EncodedSsTable;
 use crate::index_writing::encode_index;
 use crate::info::SsTableInfo;
 use crate::section::seal_section;
@@ -79,12 +80,18 @@ fn new_builder(
 }
 
 impl TableParts {
-    /// `LimitReached` exactly where a row would make a block too many, or a sum of lengths too great.
-    pub fn test_limits(&self, entry: &RowEntry) -> Result<(), SlateDBError>
+    /// `EmptyKey` exactly for an empty key, and then `LimitReached` exactly where a row would make a block too many, or a sum of
+    /// lengths too great.
+    pub fn test(&self, entry: &RowEntry) -> Result<(), SlateDBError>
         requires { CanTake entry.now }
+        ensures empty { (result ≡ Err SlateDBError.EmptyKey) ↔ (length entry.now.key ≡ 0) }
+        ensures some { OnOk result (0 < length entry.now.key) }
         ensures within { OnOk result (IsWithinLimits self.now entry.now) }
-        ensures past { IfErr result (λ e. (limit : ℕ) × (e ≡ SlateDBError.LimitReached limit) × IsPastLimit self.now entry.now limit) }
+        ensures past { IfErr result (λ e. (e ≡ SlateDBError.EmptyKey) ⊎ ((limit : ℕ) × (e ≡ SlateDBError.LimitReached limit) × IsPastLimit self.now entry.now limit)) }
     {
+        if entry.key.is_empty() {
+            return Err(SlateDBError::EmptyKey);
+        }
         if self.separators.len() >= MAX_BLOCKS && !self.block.would_fit(entry) {
             return Err(SlateDBError::LimitReached {
                 limit: MAX_BLOCKS as u64,
@@ -125,16 +132,16 @@ impl TableParts {
         Ok((self.bytes.len() - begin) as u64)
     }
 
-    /// Ends the last block, and gives the bytes of the table and its info.
-    #[tactic(auto, using(crate::proofs::BuiltLaws::last_has_row, crate::proofs::BuiltLaws::ended_ready))]
+    /// Ends the last block, and gives the table.
     pub fn finish<T: BlockTransformer>(
         &mut self,
         alloc: Global,
         transformer: &mut Option<T>,
-    ) -> Result<(Bytes, SsTableInfo), SlateDBError>
+    ) -> Result<EncodedSsTable, SlateDBError>
         requires stands { Stands self.old }
         requires row { 0 < length self.old.rows.items }
-        ensures finished { IfOk result (λ made. IsFinished (changed_by T.encoded transformer.old) self.old made.0 made.1) }
+        ensures finished { IfOk result (λ table. IsFinished (changed_by T.encoded transformer.old) self.old table.bytes table.info) }
+        ensures version { IfOk result (λ table. table.version ≡ version_of self.old.format) }
         ensures same_encoded { changed_by T.encoded transformer.new ≡ changed_by T.encoded transformer.old }
         ensures same_decoded { changed_by T.decoded transformer.new ≡ changed_by T.decoded transformer.old }
         ensures later { faults_of T.faults transformer.old ≤ faults_of T.faults transformer.new }
@@ -145,16 +152,17 @@ impl TableParts {
         self.assemble(alloc, transformer)
     }
 
-    /// The bytes of the table and its info, once the last block was ended.
+    /// The table, once the last block was ended.
     fn assemble<T: BlockTransformer>(
         &mut self,
         alloc: Global,
         transformer: &mut Option<T>,
-    ) -> Result<(Bytes, SsTableInfo), SlateDBError>
+    ) -> Result<EncodedSsTable, SlateDBError>
         requires ready { IsReady self.old }
-        ensures bytes { IfOk result (λ made. made.0 ≡ parts_bytes (changed_by T.encoded transformer.old) self.old) }
-        ensures short { IfOk result (λ made. length made.0 < 2 ^ 64) }
-        ensures info { IfOk result (λ made. HasInfo made.0 (version_of self.old.format) (seen_info made.1)) }
+        ensures bytes { IfOk result (λ table. table.bytes ≡ parts_bytes (changed_by T.encoded transformer.old) self.old) }
+        ensures short { IfOk result (λ table. length table.bytes < 2 ^ 64) }
+        ensures info { IfOk result (λ table. HasInfo table.bytes (version_of self.old.format) (seen_info table.info)) }
+        ensures version { IfOk result (λ table. table.version ≡ version_of self.old.format) }
         ensures keys { self.old.raw_key_size < 2 ^ 64 }
         ensures values { self.old.raw_val_size < 2 ^ 64 }
         ensures same_encoded { changed_by T.encoded transformer.new ≡ changed_by T.encoded transformer.old }
@@ -173,7 +181,7 @@ impl TableParts {
                 let version = version_number(self.format);
                 let mut bytes = mem::replace(&mut self.bytes, Vec::new(alloc));
                 let info = append_end(alloc, &mut bytes, version, rows, index, stats, transformer)?;
-                frozen(bytes, info)
+                frozen(bytes, info, version)
             }
             Err(error) => {
                 drop(index);
@@ -183,7 +191,6 @@ impl TableParts {
     }
 
     /// Takes a row behind the others, and ends the block where it doesn't fit: then it answers the length of its section.
-    #[tactic(auto, using(crate::proofs::PartsLaws::some_rows))]
     pub fn add<T: BlockTransformer>(
         &mut self,
         alloc: Global,
@@ -256,16 +263,17 @@ pub fn version_number(format: BlockFormat) -> u16
     }
 }
 
-/// The bytes of a table, which are shared from now on, beside its info.
-fn frozen(bytes: Vec<u8>, info: SsTableInfo) -> Result<(Bytes, SsTableInfo), SlateDBError>
-    ensures same { IfOk result (λ made. made.0 ≡ bytes.items) }
-    ensures info { IfOk result (λ made. made.1 ≡ info) }
+/// The table of these bytes, which are shared from now on.
+fn frozen(bytes: Vec<u8>, info: SsTableInfo, version: u16) -> Result<EncodedSsTable, SlateDBError>
+    ensures same { IfOk result (λ table. table.bytes ≡ bytes.items) }
+    ensures info { IfOk result (λ table. table.info ≡ info) }
+    ensures version { IfOk result (λ table. table.version ≡ version) }
     ensures short { length bytes.items < 2 ^ 64 }
     ensures cause { IsOkUnless result SlateDBError.OutOfMemory }
 {
     let _len = bytes.len();
     match Bytes::from_vec(bytes) {
-        Ok(bytes) => Ok((bytes, info)),
+        Ok(bytes) => Ok(EncodedSsTable::new(bytes, info, version)),
         Err(failed) => {
             drop(info);
             Err(SlateDBError::from(failed))

@@ -68,8 +68,9 @@ impl TableStore {
         ensures later { S.faults store.old ≤ S.faults store.new }
         ensures still { (result ≡ Err SlateDBError.StoreFault) ⊎ (S.faults store.new ≡ S.faults store.old) }
     {
+        let path = table_path(alloc, root, id)?;
         let info = table.info().clone()?;
-        match put_bytes(alloc, store, root, id, table.as_slice()) {
+        match store.put(alloc, path.as_str(), table.as_slice()) {
             Ok(()) => Ok(SsTableHandle {
                 id,
                 info,
@@ -77,7 +78,7 @@ impl TableStore {
             }),
             Err(error) => {
                 drop(info);
-                Err(error)
+                Err(SlateDBError::from(error))
             }
         }
     }
@@ -144,27 +145,6 @@ impl TableStore {
         drop(answer);
         found
     }
-}
-
-/// Puts the bytes of a table at its path, by one put.
-fn put_bytes<S: Store>(
-    alloc: Global,
-    store: &mut S,
-    root: &str,
-    id: Ulid,
-    bytes: &[u8],
-) -> Result<(), SlateDBError>
-    ensures taken { (os : Objects) → S.objects store.old ≡ Some os → OnOk result (TakesPut os (path_of root.now id.0) bytes.now (S.objects store.new)) }
-    ensures refused { (os : Objects) → S.objects store.old ≡ Some os → OnErr result (RefusesPut os (path_of root.now id.0) bytes.now (S.objects store.new)) }
-    ensures act { OnOk result (AddsAct (S.acts store.old) (Act.put (path_of root.now id.0) bytes.now) (S.acts store.new)) }
-    ensures refused_act { OnErr result ((S.acts store.new ≡ S.acts store.old) ⊎ AddsAct (S.acts store.old) (Act.put (path_of root.now id.0) bytes.now) (S.acts store.new)) }
-    ensures cause { IfErr result (λ e. IsStoreFault (S.faults store.old) (S.faults store.new) e) }
-    ensures later { S.faults store.old ≤ S.faults store.new }
-    ensures still { (result ≡ Err SlateDBError.StoreFault) ⊎ (S.faults store.new ≡ S.faults store.old) }
-{
-    let path = table_path(alloc, root, id)?;
-    store.put(alloc, path.as_str(), bytes)?;
-    Ok(())
 }
 
 /// What a store answers to one read of a table, and `None` where its bytes have another length than was asked for.

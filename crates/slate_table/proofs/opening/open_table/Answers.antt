@@ -1,4 +1,5 @@
-use Rattle.std.proofs.Common.{◌∙◌, arith}
+use Rattle.slate_table.proofs.Results.{store_still, store_err, store_longer}
+use Rattle.std.proofs.Common.{◌∙◌, arith, inl, inr, sym}
 use Rattle.std.proofs.lemmas.Result.{err_from_is_err_and}
 use Rattle.slate_table.specs.Paths.{path_of}
 use Rattle.slate_table.specs.InfoReading.{seen_info}
@@ -62,3 +63,39 @@ returns-in_err-info-clause-calls g c =
     (may_info (objects c.args.store.now) (objects c.object_len.new.store) (objects c.read_footer.new.store) (acts c.args.store.now) (acts c.object_len.new.store) (acts c.read_footer.new.store) (acts c.read_info.new.store)
     (path_of c.args.root.now c.args.id.0) c.in_ok-len.len c.in_ok-footer.footer.info_offset c.in_ok-footer.footer.version c.in_ok-size.size
     c.object_len.ensures.objects (c.read_footer.ensures.objects ∙ c.object_len.ensures.objects) c.in_ok-len.ensures.same c.in_ok-size.ensures.measured c.in_ok-footer.ensures.found c.in_err-info.ensures.once)
+
+pub returns-in_err-size-clause-cause : goal.returns-in_err-size-clause-cause
+returns-in_err-size-clause-cause g c = let p = err_from_is_err_and c.from_residual.result c.from_residual.ensures.1 in rw (p.1, p.2) (inl c.in_err-size.ensures.cause)
+
+pub returns-in_err-size-clause-calls : goal.returns-in_err-size-clause-calls
+returns-in_err-size-clause-calls g c = let p = err_from_is_err_and c.from_residual.result c.from_residual.ensures.1 in rw p.1 (inl c.in_err-size.ensures.none)
+
+pub returns-in_err-size-clause-still : goal.returns-in_err-size-clause-still
+returns-in_err-size-clause-still g c =
+    let p = err_from_is_err_and c.from_residual.result c.from_residual.ensures.1 in rw (p.1, p.2) (store_err c.in_err-size.field-0.0 c.in_err-size.ensures.still)
+
+pub returns-in_err-len-clause-cause : goal.returns-in_err-len-clause-cause
+returns-in_err-len-clause-cause g c =
+    let p = err_from_is_err_and c.from_residual-in_err-len.result c.from_residual-in_err-len.ensures.1 in
+    rw (p.1, p.2) (inr (inl (c.in_ok-size.size, c.in_ok-size.ensures.measured, sym c.in_err-len.ensures.value)))
+
+pub returns-in_err-len-clause-still : goal.returns-in_err-len-clause-still
+returns-in_err-len-clause-still g c = inr (store_still c.in_ok-size.size c.in_ok-size.ensures.still)
+
+pub returns-in_err-footer-clause-still : goal.returns-in_err-footer-clause-still
+returns-in_err-footer-clause-still g c =
+    let p = err_from_is_err_and c.from_residual-in_err-footer.result c.from_residual-in_err-footer.ensures.1 in
+    let faults = g.S.Store.faults in
+    rw (p.1, p.2) (store_err c.in_err-footer.field-0.0
+    (store_longer (faults c.args.store.now) (faults c.object_len.new.store) (faults c.read_footer.new.store) (store_still c.in_ok-size.size c.in_ok-size.ensures.still) c.in_err-footer.ensures.still))
+
+pub returns-in_err-info-clause-still : goal.returns-in_err-info-clause-still
+returns-in_err-info-clause-still g c =
+    let p = err_from_is_err_and c.from_residual-in_err-info.result c.from_residual-in_err-info.ensures.1 in
+    let faults = g.S.Store.faults in
+    rw (p.1, p.2) (store_err c.in_err-info.field-0.0
+    (store_longer (faults c.args.store.now) (faults c.read_footer.new.store) (faults c.read_info.new.store) (store_still c.in_ok-footer.footer c.in_ok-footer.ensures.still ∙ store_still c.in_ok-size.size c.in_ok-size.ensures.still) c.in_err-info.ensures.still))
+
+pub returns-clause-still : goal.returns-clause-still
+returns-clause-still g c =
+    inr (store_still c.in_ok-info.info c.in_ok-info.ensures.still ∙ store_still c.in_ok-footer.footer c.in_ok-footer.ensures.still ∙ store_still c.in_ok-size.size c.in_ok-size.ensures.still)

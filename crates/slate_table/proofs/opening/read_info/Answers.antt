@@ -1,6 +1,6 @@
-use Rattle.std.proofs.Common.{inr, arith}
-use Rattle.std.proofs.lemmas.Result.{IfOk-weaker, IfErr-weaker}
-use Rattle.slate_table.proofs.Results.{on_err, if_ok, spread}
+use Rattle.std.proofs.Common.{inr, arith, inl}
+use Rattle.std.proofs.lemmas.Result.{IfOk-weaker, IfErr-weaker, err_from_is_err_and}
+use Rattle.slate_table.proofs.Results.{on_err, if_ok, spread, store_still, store_err}
 use Rattle.slate_table.proofs.opening.read_info.Goals as goal
 
 pub returns-clause-found : goal.returns-clause-found
@@ -15,3 +15,21 @@ returns-clause-cause g c = IfErr-weaker c.info_of.result _ _
 
 pub returns-clause-once : goal.returns-clause-once
 returns-clause-once g c = on_err c.info_of.result (inr (c.in_ok-answer.answer, c.in_ok-answer.ensures.read, tt))
+
+pub returns-in_err-answer-clause-cause : goal.returns-in_err-answer-clause-cause
+returns-in_err-answer-clause-cause g c = let p = err_from_is_err_and c.from_residual.result c.from_residual.ensures.1 in rw (p.1, p.2) (inl c.in_err-answer.ensures.cause)
+
+pub returns-in_err-answer-clause-once : goal.returns-in_err-answer-clause-once
+returns-in_err-answer-clause-once g c = let p = err_from_is_err_and c.from_residual.result c.from_residual.ensures.1 in rw p.1 (inl c.in_err-answer.ensures.none)
+
+pub returns-in_err-answer-clause-still : goal.returns-in_err-answer-clause-still
+returns-in_err-answer-clause-still g c = let p = err_from_is_err_and c.from_residual.result c.from_residual.ensures.1 in rw (p.1, p.2) (store_err c.in_err-answer.field-0.0 c.in_err-answer.ensures.still)
+
+pub returns-clause-still : goal.returns-clause-still
+returns-clause-still g c = inr (store_still c.in_ok-answer.answer c.in_ok-answer.ensures.still)
+
+pub returns-clause-later : goal.returns-clause-later
+returns-clause-later g c = c.read.ensures.later
+
+pub returns-clause-objects : goal.returns-clause-objects
+returns-clause-objects g c = c.read.ensures.objects

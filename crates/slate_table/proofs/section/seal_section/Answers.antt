@@ -1,5 +1,6 @@
-use Rattle.std.proofs.Common.{◌∙◌, ◌++◌, ℕ, List, ap, inl}
-use Rattle.std.proofs.lemmas.Result.{on_ok_weaker, IfErr-weaker}
+use Rattle.slate_table.proofs.PartReads.{still_ok, still_err}
+use Rattle.std.proofs.Common.{◌∙◌, ◌++◌, ℕ, List, ap, inl, inr}
+use Rattle.std.proofs.lemmas.Result.{on_ok_weaker, IfErr-weaker, err_from_is_err_and}
 use Rattle.slate_table.specs.Parts.{summed}
 use Rattle.slate_table.proofs.section.seal_section.Goals as goal
 
@@ -10,3 +11,15 @@ returns-clause-appended g c = on_ok_weaker c.append_summed-sealed.result
 
 pub returns-clause-cause : goal.returns-clause-cause
 returns-clause-cause g c = IfErr-weaker c.append_summed-sealed.result _ _ (λ e h. inl h) c.append_summed-sealed.ensures.cause
+
+pub returns-in_err-stored-clause-cause : goal.returns-in_err-stored-clause-cause
+returns-in_err-stored-clause-cause g c = let p = err_from_is_err_and c.from_residual.result c.from_residual.ensures.1 in rw (p.1, p.2) (c.in_err-stored.ensures.cause)
+
+pub returns-in_err-stored-clause-still : goal.returns-in_err-stored-clause-still
+returns-in_err-stored-clause-still g c = let p = err_from_is_err_and c.from_residual.result c.from_residual.ensures.1 in rw (p.1, p.2) (still_err c.in_err-stored.field-0.0 c.in_err-stored.ensures.still)
+
+pub returns-clause-still : goal.returns-clause-still
+returns-clause-still g c = inr (inr (still_ok c.in_ok-stored.stored c.in_ok-stored.ensures.still))
+
+pub returns-clause-kept : goal.returns-clause-kept
+returns-clause-kept g c = c.append_summed-sealed.ensures.kept

@@ -8,4 +8,4 @@ pub returns-in_err-walk-clause-cause : goal.returns-in_err-walk-clause-cause
 returns-in_err-walk-clause-cause c =
     let p = err_from_is_err_and c.from_residual.result c.from_residual.ensures.1 in
     rw (p.1, p.2)
-    (refused_in c.args.version c.args.block c.in_err-walk.field-0.0 OutOfMemory c.in_err-walk.ensures.cause (λ one two. same_refusal _ _ _ _ (c.in_err-walk.ensures.version one two) refl refl))
+    (refused_in c.args.version c.args.block.now c.in_err-walk.field-0.0 OutOfMemory c.in_err-walk.ensures.cause (λ one two. same_refusal _ _ _ _ (c.in_err-walk.ensures.version one two) refl refl))

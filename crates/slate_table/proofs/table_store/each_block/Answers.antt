@@ -1,10 +1,10 @@
-use Rattle.std.proofs.Common.{◌∙◌, arith}
+use Rattle.std.proofs.Common.{◌∙◌, arith, inl, inr}
 use Rattle.std.proofs.lemmas.Result.{err_from_is_err_and}
 use Rattle.slate_types.specs.Faults.{faults_of}
 use Rattle.slate_table.specs.IndexValue.{entries_of}
 use Rattle.slate_table.specs.SectionReading.{changed_by}
 use Rattle.slate_table.specs.Reading.{block_answer}
-use Rattle.slate_table.proofs.PartReads.{still_ok}
+use Rattle.slate_table.proofs.PartReads.{still_ok, still_longer, still_err}
 use Rattle.slate_table.proofs.BlockReads.{one_more, one_longer, stops}
 use Rattle.slate_table.proofs.table_store.each_block.Goals as goal
 
@@ -44,3 +44,27 @@ loop-at-preserved g c =
       same_decoded = c.block_in.ensures.same_decoded ∙ c.loop-at.invariant.same_decoded;
       still = still_ok c.in_ok-block.block c.in_ok-block.ensures.still ∙ c.loop-at.invariant.still;
     }
+
+pub returns-in_err-section-clause-cause : goal.returns-in_err-section-clause-cause
+returns-in_err-section-clause-cause g c = let p = err_from_is_err_and c.from_residual.result c.from_residual.ensures.1 in rw (p.1, p.2) (inl c.in_err-section.ensures.cause)
+
+pub returns-in_err-section-clause-still : goal.returns-in_err-section-clause-still
+returns-in_err-section-clause-still g c = let p = err_from_is_err_and c.from_residual.result c.from_residual.ensures.1 in rw p.1 (inr (inr c.loop-at.invariant.still))
+
+pub returns-in_err-section-clause-same_encoded : goal.returns-in_err-section-clause-same_encoded
+returns-in_err-section-clause-same_encoded g c = c.loop-at.invariant.same_encoded
+
+pub returns-in_err-section-clause-same_decoded : goal.returns-in_err-section-clause-same_decoded
+returns-in_err-section-clause-same_decoded g c = c.loop-at.invariant.same_decoded
+
+pub returns-in_err-block-clause-still : goal.returns-in_err-block-clause-still
+returns-in_err-block-clause-still g c =
+    let p = err_from_is_err_and c.from_residual-in_err-block.result c.from_residual-in_err-block.ensures.1 in
+    let faults = faults_of g.T.BlockTransformer.faults in
+    rw (p.1, p.2) (still_err c.in_err-block.field-0.0 (still_longer (faults c.args.transformer.now) (faults c.loop-at.transformer) (faults c.block_in.new.transformer) c.loop-at.invariant.still c.in_err-block.ensures.still))
+
+pub returns-in_err-push-clause-still : goal.returns-in_err-push-clause-still
+returns-in_err-push-clause-still g c = inr (inr (still_ok c.in_ok-block.block c.in_ok-block.ensures.still ∙ c.loop-at.invariant.still))
+
+pub returns-clause-found : goal.returns-clause-found
+returns-clause-found g c = c.loop-at.invariant.read

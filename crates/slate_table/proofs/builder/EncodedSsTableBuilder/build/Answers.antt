@@ -1,23 +1,41 @@
-use Rattle.std.proofs.Common.{◌≡◌, ◌∙◌, true, ap}
+use Rattle.std.proofs.Common.{◌≡◌, ◌∙◌, ◌<◌, List, true, length, ap, subst, sym, refl}
+use Rattle.std.proofs.lemmas.Result.{IfOk-weaker}
+use Rattle.slate_types.specs.declared.types.RowEntry.{RowEntry}
 use Rattle.slate_table.specs.SectionReading.{changed_by}
 use Rattle.slate_table.specs.TableBuilding.{TableBuilding}
 use Rattle.slate_table.specs.TableParts.{Stands}
 use Rattle.slate_table.proofs.BuiltLaws.{built_of, info_of_built}
 use Rattle.slate_table.proofs.builder.EncodedSsTableBuilder.build.Goals as goal
 
-pub returns-in-Ok-clause-built : goal.returns-in-Ok-clause-built
-returns-in-Ok-clause-built g c =
+pub finish-table-requires-clause-stands : goal.finish-table-requires-clause-stands
+finish-table-requires-clause-stands g c = c.self.invariant (ap (λ (b : TableBuilding). b.is_whole) c.self.view_is ∙ c.requires.whole)
+
+pub finish-table-requires-clause-row : goal.finish-table-requires-clause-row
+finish-table-requires-clause-row g c = subst (λ (rows : List RowEntry). 0 < length rows) (sym (ap (λ (b : TableBuilding). b.rows) c.self.view_is)) c.requires.rows
+
+pub returns-clause-built : goal.returns-clause-built
+returns-clause-built g c =
     let inside = c.self.inside in
     let encode = changed_by g.T.BlockTransformer.encoded c.args.transformer.now in
     let whole : inside.is_whole ≡ true = ap (λ (b : TableBuilding). b.is_whole) c.self.view_is ∙ c.requires.whole in
     let stands : Stands inside.parts = c.self.invariant whole in
-    built_of encode inside.parts inside.is_whole c.args.self c.in-Ok.bytes _ c.in-Ok.info c.self.view_is stands c.requires.rows c.in-Ok.ensures.finished c.new.ensures.bytes
+    IfOk-weaker c.finish-table.result _ _
+    (λ table made. built_of encode inside.parts inside.is_whole c.args.self table.bytes table.bytes table.info c.self.view_is stands c.requires.rows made refl)
+    c.finish-table.ensures.finished
 
-pub returns-in-Ok-clause-info : goal.returns-in-Ok-clause-info
-returns-in-Ok-clause-info g c =
+pub returns-clause-info : goal.returns-clause-info
+returns-clause-info g c =
     let inside = c.self.inside in
     let encode = changed_by g.T.BlockTransformer.encoded c.args.transformer.now in
-    info_of_built encode inside.parts inside.is_whole c.args.self c.in-Ok.bytes _ c.in-Ok.info _ c.self.view_is c.in-Ok.ensures.finished c.new.ensures.bytes c.new.ensures.info
+    IfOk-weaker c.finish-table.result _ _
+    (λ table made. info_of_built encode inside.parts inside.is_whole c.args.self table.bytes table.bytes table.info table.info c.self.view_is made refl refl)
+    c.finish-table.ensures.finished
 
-pub returns-in-Ok-clause-version : goal.returns-in-Ok-clause-version
-returns-in-Ok-clause-version g c = c.new.ensures.version ∙ c.version_number-version.ensures ∙ ap (λ (b : TableBuilding). b.version) c.self.view_is
+pub returns-clause-version : goal.returns-clause-version
+returns-clause-version g c = IfOk-weaker c.finish-table.result _ _ (λ table is. is ∙ ap (λ (b : TableBuilding). b.version) c.self.view_is) c.finish-table.ensures.version
+
+pub returns-clause-cause : goal.returns-clause-cause
+returns-clause-cause g c = c.finish-table.ensures.cause
+
+pub returns-clause-still : goal.returns-clause-still
+returns-clause-still g c = c.finish-table.ensures.still

@@ -1,12 +1,12 @@
 use Rattle.std.proofs.Common.{◌∙◌, ℕ, List, ap, inl, inr}
 use Rattle.std.specs.Prelude.{string_bytes}
 use Rattle.std.proofs.lemmas.Result.{IfOk-weaker, IfErr-weaker, err_from_is_err_and}
-use Rattle.slate_table.proofs.Results.{on_err}
+use Rattle.slate_table.proofs.Results.{on_err, store_still, store_err, store_longer}
 use Rattle.slate_types.specs.Faults.{faults_of}
 use Rattle.slate_table.specs.IndexValue.{entries_of}
 use Rattle.slate_table.specs.Paths.{path_of}
 use Rattle.slate_table.specs.SectionReading.{changed_by}
-use Rattle.slate_table.proofs.PartReads.{still_ok}
+use Rattle.slate_table.proofs.PartReads.{still_ok, still_err, still_longer}
 use Rattle.slate_table.proofs.FileReads.{reads_rows, index_refused, block_refused, row_refused, may_block, had_block}
 use Rattle.slate_table.proofs.sst_file.SstFile.read_block.Goals as goal
 
@@ -73,12 +73,12 @@ returns-clause-cause g c =
     let there = ap (λ (root : List ℕ). path_of root table.id.0) (c.as_str-root.ensures.value ∙ ap string_bytes c.index.ensures.root) in
     let faults = g.S.Store.faults in
     let failed = faults_of g.T.BlockTransformer.faults in
-    IfErr-weaker c.rows_of_block.result _ _
+    IfErr-weaker c.rows_of_block-rows.result _ _
     (λ e h. row_refused (decoded old.transformer) (decoded middle.transformer) (objects old.store) (objects middle.store) (acts old.store) (acts middle.store) (acts c.read_block.new.store)
     (path_of (string_bytes old.root_path) table.id.0) (path_of c.as_str-root.result.now table.id.0) table entries c.args.block c.in_ok-found.found
     (faults old.store) (faults c.read_block.new.store) (failed old.transformer) (failed c.read_block.new.transformer) e
-    c.index.ensures.same_decoded c.index.ensures.objects there c.in_ok-index.ensures.found c.in_ok-test_block.ensures.within c.rows_of_block.ensures.bytes c.in_ok-found.ensures.found h)
-    c.rows_of_block.ensures.cause
+    c.index.ensures.same_decoded c.index.ensures.objects there c.in_ok-index.ensures.found c.in_ok-test_block.ensures.within c.rows_of_block-rows.ensures.bytes c.in_ok-found.ensures.found h)
+    c.rows_of_block-rows.ensures.cause
 
 pub returns-clause-twice : goal.returns-clause-twice
 returns-clause-twice g c =
@@ -90,7 +90,7 @@ returns-clause-twice g c =
     let decoded = changed_by g.T.BlockTransformer.decoded in
     let entries = entries_of c.in_ok-index.index in
     let there = ap (λ (root : List ℕ). path_of root table.id.0) (c.as_str-root.ensures.value ∙ ap string_bytes c.index.ensures.root) in
-    on_err c.rows_of_block.result
+    on_err c.rows_of_block-rows.result
     (had_block (decoded old.transformer) (decoded middle.transformer) (objects old.store) (objects middle.store) (acts old.store) (acts middle.store) (acts c.read_block.new.store)
     (path_of (string_bytes old.root_path) table.id.0) (path_of c.as_str-root.result.now table.id.0) table entries c.args.block c.in_ok-found.found
     c.index.ensures.objects there c.in_ok-index.ensures.found c.in_ok-test_block.ensures.within c.in_ok-found.ensures.found)
@@ -105,11 +105,11 @@ returns-clause-found g c =
     let decoded = changed_by g.T.BlockTransformer.decoded in
     let entries = entries_of c.in_ok-index.index in
     let there = ap (λ (root : List ℕ). path_of root table.id.0) (c.as_str-root.ensures.value ∙ ap string_bytes c.index.ensures.root) in
-    IfOk-weaker c.rows_of_block.result _ _
+    IfOk-weaker c.rows_of_block-rows.result _ _
     (λ rows read. reads_rows (decoded old.transformer) (decoded middle.transformer) (objects old.store) (objects middle.store) (acts old.store) (acts middle.store) (acts c.read_block.new.store)
     (path_of (string_bytes old.root_path) table.id.0) (path_of c.as_str-root.result.now table.id.0) table entries c.args.block c.in_ok-found.found rows.items
-    c.index.ensures.same_decoded c.index.ensures.objects there c.in_ok-index.ensures.found c.in_ok-test_block.ensures.within c.rows_of_block.ensures.bytes c.in_ok-found.ensures.found read)
-    c.rows_of_block.ensures.rows
+    c.index.ensures.same_decoded c.index.ensures.objects there c.in_ok-index.ensures.found c.in_ok-test_block.ensures.within c.rows_of_block-rows.ensures.bytes c.in_ok-found.ensures.found read)
+    c.rows_of_block-rows.ensures.rows
 
 pub returns-clause-same_encoded : goal.returns-clause-same_encoded
 returns-clause-same_encoded g c = c.read_block.ensures.same_encoded ∙ c.index.ensures.same_encoded
@@ -136,3 +136,38 @@ returns-in_err-index-clause-twice g c =
       | inl unread ↦ inl unread
       | inr read ↦ inr (inl read)
     ])
+
+pub returns-in_err-index-clause-still : goal.returns-in_err-index-clause-still
+returns-in_err-index-clause-still g c =
+    let p = err_from_is_err_and c.from_residual.result c.from_residual.ensures.1 in rw (p.1, p.2) (store_err c.in_err-index.field-0.0 c.in_err-index.ensures.still)
+
+pub returns-in_err-index-clause-still_transformer : goal.returns-in_err-index-clause-still_transformer
+returns-in_err-index-clause-still_transformer g c =
+    let p = err_from_is_err_and c.from_residual.result c.from_residual.ensures.1 in rw (p.1, p.2) (still_err c.in_err-index.field-0.0 c.in_err-index.ensures.still_transformer)
+
+pub returns-in_err-test_block-clause-still : goal.returns-in_err-test_block-clause-still
+returns-in_err-test_block-clause-still g c = inr (store_still c.in_ok-index.index c.in_ok-index.ensures.still)
+
+pub returns-in_err-test_block-clause-still_transformer : goal.returns-in_err-test_block-clause-still_transformer
+returns-in_err-test_block-clause-still_transformer g c = inr (inr (still_ok c.in_ok-index.index c.in_ok-index.ensures.still_transformer))
+
+pub returns-in_err-found-clause-still : goal.returns-in_err-found-clause-still
+returns-in_err-found-clause-still g c =
+    let p = err_from_is_err_and c.from_residual-in_err-found.result c.from_residual-in_err-found.ensures.1 in
+    let faults = g.S.Store.faults in
+    rw (p.1, p.2) (store_err c.in_err-found.field-0.0
+    (store_longer (faults c.args.reader.now.store) (faults c.index.new.reader.store) (faults c.read_block.new.store) (store_still c.in_ok-index.index c.in_ok-index.ensures.still) c.in_err-found.ensures.still))
+
+pub returns-in_err-found-clause-still_transformer : goal.returns-in_err-found-clause-still_transformer
+returns-in_err-found-clause-still_transformer g c =
+    let p = err_from_is_err_and c.from_residual-in_err-found.result c.from_residual-in_err-found.ensures.1 in
+    let faults = faults_of g.T.BlockTransformer.faults in
+    rw (p.1, p.2) (still_err c.in_err-found.field-0.0
+    (still_longer (faults c.args.reader.now.transformer) (faults c.index.new.reader.transformer) (faults c.read_block.new.transformer) (still_ok c.in_ok-index.index c.in_ok-index.ensures.still_transformer) c.in_err-found.ensures.still_transformer))
+
+pub returns-clause-still : goal.returns-clause-still
+returns-clause-still g c = inr (store_still c.in_ok-found.found c.in_ok-found.ensures.still ∙ store_still c.in_ok-index.index c.in_ok-index.ensures.still)
+
+pub returns-clause-still_transformer : goal.returns-clause-still_transformer
+returns-clause-still_transformer g c =
+    inr (inr (still_ok c.in_ok-found.found c.in_ok-found.ensures.still_transformer ∙ still_ok c.in_ok-index.index c.in_ok-index.ensures.still_transformer))

@@ -1,5 +1,45 @@
-use Rattle.std.proofs.Common.{sym, inr}
+use Rattle.slate_table.proofs.PartsLaws.{some_rows}
+use Rattle.slate_table.proofs.PartReads.{still_ok, still_err}
+use Rattle.std.proofs.lemmas.Result.{err_from_is_err_and}
+use Rattle.std.proofs.Common.{sym, inr, inl, refl}
 use Rattle.slate_table.proofs.table_parts.TableParts.add.Goals as goal
 
 pub returns-in_ok-take-in-Ok-clause-added : goal.returns-in_ok-take-in-Ok-clause-added
 returns-in_ok-take-in-Ok-clause-added g c = inr (c.end_block.new.self, sym c.if-would_fit.ensures, c.in-Ok.ensures.ended, c.in_ok-take-in-Ok.ensures.taken)
+
+pub end_block-requires-clause-row : goal.end_block-requires-clause-row
+end_block-requires-clause-row g c = let b = c.args.self.now.block.builder in some_rows b.size b.version b.rows c.args.entry (sym c.if-would_fit.ensures)
+
+pub returns-in_err-take-clause-cause : goal.returns-in_err-take-clause-cause
+returns-in_err-take-clause-cause g c = let p = err_from_is_err_and c.from_residual.result c.from_residual.ensures.1 in rw (p.1, p.2) (inl c.in_err-take.ensures.cause)
+
+pub returns-in_err-take-clause-still : goal.returns-in_err-take-clause-still
+returns-in_err-take-clause-still g c = inr (inr refl)
+
+pub returns-then-would_fit-clause-still : goal.returns-then-would_fit-clause-still
+returns-then-would_fit-clause-still g c = inr (inr refl)
+
+pub returns-in-Err-clause-cause : goal.returns-in-Err-clause-cause
+returns-in-Err-clause-cause g c = c.in-Err.ensures.cause
+
+pub returns-in-Err-clause-still : goal.returns-in-Err-clause-still
+returns-in-Err-clause-still g c = still_err c.in-Err.error c.in-Err.ensures.still
+
+pub returns-in-Err-clause-fault : goal.returns-in-Err-clause-fault
+returns-in-Err-clause-fault g c = λ _. sym c.if-would_fit.ensures
+
+pub returns-in_err-take-in-Ok-clause-cause : goal.returns-in_err-take-in-Ok-clause-cause
+returns-in_err-take-in-Ok-clause-cause g c =
+    let p = err_from_is_err_and c.from_residual-in_err-take-in-Ok.result c.from_residual-in_err-take-in-Ok.ensures.1 in rw (p.1, p.2) (inl c.in_err-take-in-Ok.ensures.cause)
+
+pub returns-in_err-take-in-Ok-clause-still : goal.returns-in_err-take-in-Ok-clause-still
+returns-in_err-take-in-Ok-clause-still g c = inr (inr (still_ok c.in-Ok.size c.in-Ok.ensures.still))
+
+pub returns-in_err-take-in-Ok-clause-fault : goal.returns-in_err-take-in-Ok-clause-fault
+returns-in_err-take-in-Ok-clause-fault g c = λ _. sym c.if-would_fit.ensures
+
+pub returns-in_ok-take-in-Ok-clause-still : goal.returns-in_ok-take-in-Ok-clause-still
+returns-in_ok-take-in-Ok-clause-still g c = inr (inr (still_ok c.in-Ok.size c.in-Ok.ensures.still))
+
+pub returns-in_ok-take-in-Ok-clause-fault : goal.returns-in_ok-take-in-Ok-clause-fault
+returns-in_ok-take-in-Ok-clause-fault g c = λ _. sym c.if-would_fit.ensures

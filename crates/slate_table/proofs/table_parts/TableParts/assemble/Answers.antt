@@ -1,4 +1,8 @@
-use Rattle.std.proofs.Common.{◌≡◌, ◌∙◌, List, ℕ, [], subst}
+use Rattle.slate_table.proofs.EndLaws.{info_moved}
+use Rattle.slate_table.proofs.Results.{if_ok_both}
+use Rattle.slate_table.proofs.PartReads.{still_ok, still_err}
+use Rattle.std.proofs.lemmas.Result.{err_from_is_err_and, IfErr-weaker, IfOk-weaker}
+use Rattle.std.proofs.Common.{◌≡◌, ◌∙◌, List, ℕ, [], subst, inl, inr, refl, ap, length, arith}
 use Rattle.std.specs.Prelude.{IfOk}
 use Rattle.slate_table.specs.Parts.{section, index_bytes}
 use Rattle.slate_table.specs.SectionReading.{changed_by}
@@ -16,4 +20,42 @@ returns-in_ok-info-in-Ok-clause-bytes g c =
     ∙ (λ i. counted_bytes (c.deref-3.ensures.value i) p.raw_key_size p.raw_val_size (c.replace-block_stats.ensures.value i).items) in
     let written : c.append_end.new.out.items ≡ parts_bytes encode p = c.in_ok-info-in-Ok.ensures.appended
     ∙ (λ i. sections_then_info (c.version_number-version.ensures i) (c.deref-in-Ok.ensures.value i) (bytes i) [] (section encode (index i)) (section encode (stats i))) in
-    subst (λ (b : List ℕ). IfOk c.frozen.result (λ made. made.0 ≡ b)) written c.frozen.ensures.same
+    subst (λ (b : List ℕ). IfOk c.frozen.result (λ made. made.bytes ≡ b)) written c.frozen.ensures.same
+
+pub returns-in_err-index-clause-cause : goal.returns-in_err-index-clause-cause
+returns-in_err-index-clause-cause g c = let p = err_from_is_err_and c.from_residual.result c.from_residual.ensures.1 in rw (p.1, p.2) (inl c.in_err-index.ensures.cause)
+
+pub returns-in_err-index-clause-still : goal.returns-in_err-index-clause-still
+returns-in_err-index-clause-still g c = inr (inr refl)
+
+pub returns-in-Err-clause-cause : goal.returns-in-Err-clause-cause
+returns-in-Err-clause-cause g c = inl c.in-Err.ensures.cause
+
+pub returns-in-Err-clause-still : goal.returns-in-Err-clause-still
+returns-in-Err-clause-still g c = inr (inr refl)
+
+pub returns-in_err-info-in-Ok-clause-cause : goal.returns-in_err-info-in-Ok-clause-cause
+returns-in_err-info-in-Ok-clause-cause g c =
+    let p = err_from_is_err_and c.from_residual-in_err-info-in-Ok.result c.from_residual-in_err-info-in-Ok.ensures.1 in rw (p.1, p.2) c.in_err-info-in-Ok.ensures.cause
+
+pub returns-in_err-info-in-Ok-clause-still : goal.returns-in_err-info-in-Ok-clause-still
+returns-in_err-info-in-Ok-clause-still g c =
+    let p = err_from_is_err_and c.from_residual-in_err-info-in-Ok.result c.from_residual-in_err-info-in-Ok.ensures.1 in rw (p.1, p.2) (still_err c.in_err-info-in-Ok.field-0.0 c.in_err-info-in-Ok.ensures.still)
+
+pub returns-in_ok-info-in-Ok-clause-cause : goal.returns-in_ok-info-in-Ok-clause-cause
+returns-in_ok-info-in-Ok-clause-cause g c = IfErr-weaker c.frozen.result _ _ (λ e h. inl h) c.frozen.ensures.cause
+
+pub returns-in_ok-info-in-Ok-clause-still : goal.returns-in_ok-info-in-Ok-clause-still
+returns-in_ok-info-in-Ok-clause-still g c = inr (inr (still_ok c.in_ok-info-in-Ok.info c.in_ok-info-in-Ok.ensures.still))
+
+pub returns-in_ok-info-in-Ok-clause-short : goal.returns-in_ok-info-in-Ok-clause-short
+returns-in_ok-info-in-Ok-clause-short g c = IfOk-weaker c.frozen.result _ _ (λ made same. omega (arith, ap length same, c.frozen.ensures.short)) c.frozen.ensures.same
+
+pub returns-in_ok-info-in-Ok-clause-info : goal.returns-in_ok-info-in-Ok-clause-info
+returns-in_ok-info-in-Ok-clause-info g c =
+    if_ok_both c.frozen.result _ _ _
+    (λ made same is. info_moved made.bytes c.append_end.new.out.items c.version_number-version.result _ made.info c.in_ok-info-in-Ok.info same c.version_number-version.ensures is c.in_ok-info-in-Ok.ensures.info)
+    c.frozen.ensures.same c.frozen.ensures.info
+
+pub returns-in_ok-info-in-Ok-clause-version : goal.returns-in_ok-info-in-Ok-clause-version
+returns-in_ok-info-in-Ok-clause-version g c = IfOk-weaker c.frozen.result _ _ (λ made is. is ∙ c.version_number-version.ensures) c.frozen.ensures.version

@@ -1,6 +1,6 @@
-use Rattle.std.proofs.Common.{◌-◌, ◌∙◌, ℕ, List, Option, inr}
-use Rattle.std.proofs.lemmas.Result.{IfOk-weaker, IfErr-weaker}
-use Rattle.slate_table.proofs.Results.{on_err}
+use Rattle.std.proofs.Common.{◌-◌, ◌∙◌, ℕ, List, Option, inr, inl}
+use Rattle.std.proofs.lemmas.Result.{IfOk-weaker, IfErr-weaker, err_from_is_err_and}
+use Rattle.slate_table.proofs.Results.{on_err, store_still, store_err}
 use Rattle.slate_types.specs.Faults.{faults_of}
 use Rattle.slate_table.specs.IndexValue.{entries_of}
 use Rattle.slate_table.specs.Paths.{path_of}
@@ -47,3 +47,30 @@ returns-clause-found g c =
     (λ (answer : Option (List ℕ)). AreBlocksRead decoded (block_answer end entries c.args.blocks.start answer) c.args.blocks.start blocks.items)
     c.block_start-start.ensures size c.in_ok-answer.ensures.read found)
     c.each_block-found.ensures.found
+
+pub returns-in_err-answer-clause-cause : goal.returns-in_err-answer-clause-cause
+returns-in_err-answer-clause-cause g c = let p = err_from_is_err_and c.from_residual.result c.from_residual.ensures.1 in rw (p.1, p.2) (inl c.in_err-answer.ensures.cause)
+
+pub returns-in_err-answer-clause-once : goal.returns-in_err-answer-clause-once
+returns-in_err-answer-clause-once g c = let p = err_from_is_err_and c.from_residual.result c.from_residual.ensures.1 in rw p.1 (inl c.in_err-answer.ensures.none)
+
+pub returns-in_err-answer-clause-still : goal.returns-in_err-answer-clause-still
+returns-in_err-answer-clause-still g c = let p = err_from_is_err_and c.from_residual.result c.from_residual.ensures.1 in rw (p.1, p.2) (store_err c.in_err-answer.field-0.0 c.in_err-answer.ensures.still)
+
+pub returns-clause-still : goal.returns-clause-still
+returns-clause-still g c = inr (store_still c.in_ok-answer.answer c.in_ok-answer.ensures.still)
+
+pub returns-clause-still_transformer : goal.returns-clause-still_transformer
+returns-clause-still_transformer g c = c.each_block-found.ensures.still
+
+pub returns-clause-later : goal.returns-clause-later
+returns-clause-later g c = c.read.ensures.later
+
+pub returns-clause-later_transformer : goal.returns-clause-later_transformer
+returns-clause-later_transformer g c = c.each_block-found.ensures.later
+
+pub returns-clause-objects : goal.returns-clause-objects
+returns-clause-objects g c = c.read.ensures.objects
+
+pub returns-clause-count : goal.returns-clause-count
+returns-clause-count g c = c.each_block-found.ensures.count

@@ -1,11 +1,11 @@
 use Rattle.std.proofs.Common.{inr}
 use Rattle.std.proofs.lemmas.Result.{IfOk-weaker, IfErr-weaker, err_from_is_err_and}
-use Rattle.slate_table.proofs.Results.{on_err, spread}
+use Rattle.slate_table.proofs.Results.{on_err, spread, store_still, store_err}
 use Rattle.slate_block.specs.RowReading.{refusal}
 use Rattle.slate_table.specs.Paths.{path_of}
 use Rattle.slate_table.specs.SectionReading.{changed_by}
 use Rattle.slate_table.specs.IndexReading.{index_of}
-use Rattle.slate_table.proofs.PartReads.{refused}
+use Rattle.slate_table.proofs.PartReads.{refused, still_ok, still_err}
 use Rattle.slate_table.proofs.table_store.TableStore.read_index.Goals as goal
 
 pub returns-in_err-part-clause-cause : goal.returns-in_err-part-clause-cause
@@ -30,3 +30,27 @@ pub returns-clause-once : goal.returns-clause-once
 returns-clause-once g c =
     let f = c.in_ok-part.ensures.found in
     on_err c.decode.result (inr (f.0, f.1, tt))
+
+pub returns-in_err-part-clause-once : goal.returns-in_err-part-clause-once
+returns-in_err-part-clause-once g c = let p = err_from_is_err_and c.from_residual.result c.from_residual.ensures.1 in rw p.1 (c.in_err-part.ensures.once)
+
+pub returns-in_err-part-clause-still : goal.returns-in_err-part-clause-still
+returns-in_err-part-clause-still g c = let p = err_from_is_err_and c.from_residual.result c.from_residual.ensures.1 in rw (p.1, p.2) (store_err c.in_err-part.field-0.0 c.in_err-part.ensures.still)
+
+pub returns-in_err-part-clause-still_transformer : goal.returns-in_err-part-clause-still_transformer
+returns-in_err-part-clause-still_transformer g c = let p = err_from_is_err_and c.from_residual.result c.from_residual.ensures.1 in rw (p.1, p.2) (still_err c.in_err-part.field-0.0 c.in_err-part.ensures.still_transformer)
+
+pub returns-clause-still : goal.returns-clause-still
+returns-clause-still g c = inr (store_still c.in_ok-part.part c.in_ok-part.ensures.still)
+
+pub returns-clause-still_transformer : goal.returns-clause-still_transformer
+returns-clause-still_transformer g c = inr (inr (still_ok c.in_ok-part.part c.in_ok-part.ensures.still_transformer))
+
+pub returns-clause-later : goal.returns-clause-later
+returns-clause-later g c = c.read_part.ensures.later
+
+pub returns-clause-later_transformer : goal.returns-clause-later_transformer
+returns-clause-later_transformer g c = c.read_part.ensures.later_transformer
+
+pub returns-clause-objects : goal.returns-clause-objects
+returns-clause-objects g c = c.read_part.ensures.objects
