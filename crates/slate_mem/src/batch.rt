@@ -17,7 +17,7 @@ use crate::batch_iterator::{Stamps, rising_rows};
 use bytes::Bytes;
 use slate_types::{PutOptions, RowEntry, SlateDBError};
 use smallvec::SmallVec;
-use std::alloc::Global;
+use std::alloc::{AllocError, Global};
 use std::collections::BTreeMap;
 use std::marker::Model;
 use std::ops::Bound;
@@ -320,13 +320,8 @@ fn list_ops(
 }
 
 /// Adds copies of a key's operations.
-fn add_ops(
-    all: &mut Vec<(Bytes, WriteOp)>,
-    key: &Bytes,
-    ops: &[WriteOp],
-) -> Result<(), SlateDBError>
+fn add_ops(all: &mut Vec<(Bytes, WriteOp)>, key: &Bytes, ops: &[WriteOp]) -> Result<(), AllocError>
     ensures ops { OnOk result (all.new.items ≡ all.old.items ++ tagged key.now ops.now) }
-    ensures cause { IsOkUnless result SlateDBError.OutOfMemory }
 {
     for op in ops {
         all.push((key.clone()?, op.clone()?))?;

@@ -22,7 +22,7 @@ use bytes::Bytes;
 use slate_types::{
     BytesRange, IterationOrder, RowEntry, RowsIterator, SequencedKey, SlateDBError, ValueDeletable,
 };
-use std::alloc::Global;
+use std::alloc::{AllocError, Global};
 use std::cmp::Ordering;
 use std::collections::{BTreeMap, BTreeSet};
 use std::marker::Model;
@@ -257,10 +257,9 @@ struct Step {
 fn join(
     recorded: &BTreeSet<Bytes>,
     mut more: BTreeSet<Bytes>,
-) -> Result<BTreeSet<Bytes>, SlateDBError>
+) -> Result<BTreeSet<Bytes>, AllocError>
     ensures rising { IfOk result (set.IsOrdered key_cmp) }
     ensures both { IfOk result (λ all. all.keys ≡ keys_set (recorded.now.keys ++ more.keys)) }
-    ensures cause { IsOkUnless result SlateDBError.OutOfMemory }
 {
     let _count = more.len();
     for prefix in recorded {
@@ -270,18 +269,17 @@ fn join(
 }
 
 /// Puts a row under its own key.
-fn put_one(rows: &mut BTreeMap<SequencedKey, RowEntry>, row: RowEntry) -> Result<Step, SlateDBError>
+fn put_one(rows: &mut BTreeMap<SequencedKey, RowEntry>, row: RowEntry) -> Result<Step, AllocError>
     ensures put { OnOk result (rows.new.entries ≡ insert_row rows.old.entries row) }
     ensures undo { IfOk result (λ step. undone rows.new.entries step ≡ rows.old.entries) }
     ensures kept { OnOk result (IsRows rows.old.entries → IsRows rows.new.entries) }
     ensures same { OnErr result (IsUnchanged rows.old rows.new) }
-    ensures cause { IsOkUnless result SlateDBError.OutOfMemory }
 {
     let (key, place) = match places(&row.key, row.seq, row.seq) {
         Ok(places) => places,
-        Err(refusal) => {
+        Err(error) => {
             drop(row);
-            return Err(refusal);
+            return Err(error);
         }
     };
     let before = rows.insert(place, row)?;
@@ -289,14 +287,9 @@ fn put_one(rows: &mut BTreeMap<SequencedKey, RowEntry>, row: RowEntry) -> Result
 }
 
 /// The key with each of two sequences.
-fn places(
-    key: &Bytes,
-    first: u64,
-    second: u64,
-) -> Result<(SequencedKey, SequencedKey), SlateDBError>
+fn places(key: &Bytes, first: u64, second: u64) -> Result<(SequencedKey, SequencedKey), AllocError>
     ensures first { IfOk result (λ places. places.0 ≡ record { user_key = key.now; seq = first }) }
     ensures second { IfOk result (λ places. places.1 ≡ record { user_key = key.now; seq = second }) }
-    ensures cause { IsOkUnless result SlateDBError.OutOfMemory }
 {
     let copy = key.clone()?;
     Ok((
@@ -342,19 +335,18 @@ fn put_each(
     alloc: Global,
     table: &mut BTreeMap<SequencedKey, RowEntry>,
     rows: Vec<RowEntry>,
-) -> Result<(), SlateDBError>
+) -> Result<(), AllocError>
     ensures put { OnOk result (table.new.entries ≡ insert_rows table.old.entries rows.items) }
     ensures kept { OnOk result (IsRows table.old.entries → IsRows table.new.entries) }
     ensures same { OnErr result (IsUnchanged table.old table.new) }
-    ensures cause { IsOkUnless result SlateDBError.OutOfMemory }
 {
     let mut steps = Vec::with_capacity(alloc, rows.len())?;
     for row in rows {
         match put_one(table, row) {
             Ok(step) => steps.push_reserved(step),
-            Err(refusal) => {
+            Err(error) => {
                 undo_all(table, steps);
-                return Err(refusal);
+                return Err(error);
             }
         }
     }
@@ -413,11 +405,10 @@ fn rows_between(
 }
 
 /// Rows whose keys ascend, in the order.
-fn ordered(mut rows: Vec<RowEntry>, order: IterationOrder) -> Result<Vec<RowEntry>, SlateDBError>
+fn ordered(mut rows: Vec<RowEntry>, order: IterationOrder) -> Result<Vec<RowEntry>, AllocError>
     requires { IsInOrder IterationOrder.Ascending rows.items }
     ensures keys { IfOk result (λ all. (k : List ℕ) → of_key k all.items ≡ of_key k rows.items) }
     ensures in_order { IfOk result (λ all. IsInOrder order all.items) }
-    ensures cause { IsOkUnless result SlateDBError.OutOfMemory }
 {
     match order {
         IterationOrder::Ascending => Ok(rows),
@@ -429,10 +420,9 @@ fn ordered(mut rows: Vec<RowEntry>, order: IterationOrder) -> Result<Vec<RowEntr
 }
 
 /// Sorts rows by key downwards. Those of a key stay in their order.
-fn fall(rows: &mut Vec<RowEntry>) -> Result<(), SlateDBError>
+fn fall(rows: &mut Vec<RowEntry>) -> Result<(), AllocError>
     ensures keys { OnOk result ((k : List ℕ) → of_key k rows.new.items ≡ of_key k rows.old.items) }
     ensures in_order { OnOk result (IsInOrder IterationOrder.Descending rows.new.items) }
-    ensures cause { IsOkUnless result SlateDBError.OutOfMemory }
 {
     rows.sort_by(
         |a, b| -> Ordering

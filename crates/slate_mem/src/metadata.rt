@@ -11,7 +11,7 @@ use std::collections::BTreeMap;
 
 /// The number of rows, the bytes that they are estimated at, their greatest creation in milliseconds, and their
 /// last and first sequence.
-#[derive(Clone, Copy, Debug, PartialEq, Eq)]
+#[derive(Clone, Copy)]
 pub struct KVTableMetadata {
     pub entry_num: usize,
     pub entries_size_in_bytes: u64,
