@@ -11,6 +11,7 @@ use Rattle.slate_types.specs.Outside.{Objects}
 use Rattle.slate_mem.specs.Table.{MemTableModel}
 use Rattle.slate_table.specs.declared.info.SsTableHandle.{SsTableHandle}
 use Rattle.slate_table.specs.Parts.{Encode}
+use Rattle.slate_table.specs.Reading.{IsStoreFault}
 use Rattle.slate_txn.specs.declared.event.Event.TheVariants as events
 use Rattle.slate_txn.specs.declared.line.Line.TheVariants as lines
 use Rattle.slate_txn.specs.Reply.{Flushed}
@@ -232,3 +233,18 @@ no_fault limit r e at limited (inl m) (inl is) = cc
 no_fault limit r e at limited (inl m) (inr is) = cc
 no_fault limit r e at limited (inr x) (inl is) = let m : e ≡ LimitReached limit = limited x in cc
 no_fault limit r e at limited (inr x) (inr is) = let m : e ≡ LimitReached limit = limited x in cc
+
+-- ---- what is said of a refusal before the install
+
+pub room_cause : {B C : Type 0} (limit a b : ℕ) (old : CoreModel) (e : SlateDBError) → (e ≡ OutOfMemory) ⊎ ((e ≡ LimitReached limit) × (old.active ≢ []) × (limit < held old + 2)) → IsStoreFault a b e ⊎ (B ⊎ (((e ≡ LimitReached limit) × (limit < passed old)) ⊎ C))
+room_cause limit a b old e (inl is) = inl (inl is)
+room_cause limit a b old e (inr (is, some, more)) = inr (inr (inl (is, passes_two limit old some more)))
+
+pub freeze_cause : {B C : Type 0} (limit a b : ℕ) (old mid : CoreModel) (e : SlateDBError) → IsSame old mid → (old.active ≡ [] → ⊥) → (e ≡ OutOfMemory) ⊎ ((e ≡ LimitReached limit) × (limit < held mid + 1)) → IsStoreFault a b e ⊎ (B ⊎ (((e ≡ LimitReached limit) × (limit < passed old)) ⊎ C))
+freeze_cause limit a b old mid e same some (inl is) = inl (inl is)
+freeze_cause limit a b old mid e same some (inr (is, more)) = inr (inr (inl (is, passes_two limit old some (let l : held mid ≡ held old = ap held same in omega arith))))
+
+pub steps_after : {E : Type 0} (r : Result ℕ E) (old between new : CoreModel) → IsFrozen old between → IfOk r (λ n. n ≡ last_of between.settings.start_seq between.state.commits) → IfOk r (λ n. new.state ≡ record between.state { flushed = n }) →
+    IfOk r (λ n. (m : Meaning) → step (rules_of old.settings m) old.state lines.Flush ≡ (new.state, Flushed n))
+steps_after (Ok n) old between new frozen last is = λ m. step_flush m old between new n frozen last is
+steps_after (Err e) old between new frozen last is = tt

@@ -408,7 +408,7 @@ impl Core {
     {
         let _options = options;
         let Some(at) = begin_of(&self.open, id) else {
-            return Ok(None);
+            unreachable!()
         };
         let key = Bytes::copy_from_slice(self.alloc, key)?;
         let row = match self.seen(&key, at, env) {

@@ -14,7 +14,7 @@ use Rattle.slate_db.specs.Model.{CoreModel, IsSame}
 use Rattle.slate_db.specs.Sound.{IsKept}
 use Rattle.slate_db.specs.Whole.{LIMIT}
 use Rattle.slate_db.specs.View.{view_of}
-use Rattle.slate_db.proofs.Flushes.{whole_flushed, kept_flushed, frozen_idle, none_frozen, frozen_from, installed_after, cause_after, passes_one, one_passed, too_large_before, held, passed, some_frozen, no_room, none_passed, full_frozen, frozen_at_fault, no_fault}
+use Rattle.slate_db.proofs.Flushes.{whole_flushed, kept_flushed, frozen_settings, steps_after, room_cause, freeze_cause, frozen_idle, none_frozen, frozen_from, installed_after, cause_after, passes_one, one_passed, too_large_before, held, passed, some_frozen, no_room, none_passed, full_frozen, frozen_at_fault, no_fault}
 use Rattle.slate_db.proofs.Built.{may_keep}
 use Rattle.slate_db.proofs.Names.{both_err}
 use Rattle.slate_db.proofs.Keeps.{kept_same}
@@ -138,3 +138,93 @@ returns-then-is_empty-clause-installed g c = (
   idle (sym (ap (λ (v : CoreModel). v.frozen) c.self.view_is) ∙ none_frozen c.as_slice.result.now c.self.inside.frozen.items c.is_empty.result c.is_empty.ensures c.if-is_empty.true c.as_slice.ensures.value)
       (ap (λ (v : CoreModel). record v { state = record v.state { flushed = c.self.inside.last } }) c.self.view_is) refl,
 )
+
+pub returns-in_err-make_room-clause-cause : goal.returns-in_err-make_room-clause-cause
+returns-in_err-make_room-clause-cause g c =
+    let p = err_from_is_err_and c.from_residual.result c.from_residual.ensures.1 in
+    rw (p.1, p.2) (room_cause LIMIT _ _ c.args.self.now c.in_err-make_room.field-0.0 c.in_err-make_room.ensures.cause)
+
+pub returns-in_err-make_room-clause-full : goal.returns-in_err-make_room-clause-full
+returns-in_err-make_room-clause-full g c h = c.in_err-make_room.ensures.refused
+
+pub returns-in_err-make_room-clause-full_objects : goal.returns-in_err-make_room-clause-full_objects
+returns-in_err-make_room-clause-full_objects g c h = refl
+
+pub returns-in_err-make_room-clause-kept : goal.returns-in_err-make_room-clause-kept
+returns-in_err-make_room-clause-kept g c m same k = kept_same m c.args.self.now c.make_room.new.self c.make_room.ensures.same k
+
+pub returns-in_err-make_room-clause-settings : goal.returns-in_err-make_room-clause-settings
+returns-in_err-make_room-clause-settings g c = ap (λ (v : CoreModel). v.settings) c.make_room.ensures.same
+
+pub returns-in_err-make_room-clause-step : goal.returns-in_err-make_room-clause-step
+returns-in_err-make_room-clause-step g c =
+    let p = err_from_is_err_and c.from_residual.result c.from_residual.ensures.1 in
+    rw p.1 tt
+
+pub returns-in_err-freeze-clause-step : goal.returns-in_err-freeze-clause-step
+returns-in_err-freeze-clause-step g c =
+    let p = err_from_is_err_and c.from_residual-in_err-freeze.result c.from_residual-in_err-freeze.ensures.1 in
+    rw p.1 tt
+
+pub returns-in_err-make_room-clause-installed : goal.returns-in_err-make_room-clause-installed
+returns-in_err-make_room-clause-installed g c =
+    let p = err_from_is_err_and c.from_residual.result c.from_residual.ensures.1 in
+    rw p.1 tt
+
+pub returns-in_err-freeze-clause-installed : goal.returns-in_err-freeze-clause-installed
+returns-in_err-freeze-clause-installed g c =
+    let p = err_from_is_err_and c.from_residual-in_err-freeze.result c.from_residual-in_err-freeze.ensures.1 in
+    rw p.1 tt
+
+pub returns-in_err-make_room-clause-acts : goal.returns-in_err-make_room-clause-acts
+returns-in_err-make_room-clause-acts g c =
+    let p = err_from_is_err_and c.from_residual.result c.from_residual.ensures.1 in
+    rw p.1 tt
+
+pub returns-in_err-freeze-clause-acts : goal.returns-in_err-freeze-clause-acts
+returns-in_err-freeze-clause-acts g c =
+    let p = err_from_is_err_and c.from_residual-in_err-freeze.result c.from_residual-in_err-freeze.ensures.1 in
+    rw p.1 tt
+
+pub returns-in_err-make_room-clause-taken : goal.returns-in_err-make_room-clause-taken
+returns-in_err-make_room-clause-taken g c =
+    let p = err_from_is_err_and c.from_residual.result c.from_residual.ensures.1 in
+    rw p.1 tt
+
+pub returns-in_err-freeze-clause-taken : goal.returns-in_err-freeze-clause-taken
+returns-in_err-freeze-clause-taken g c =
+    let p = err_from_is_err_and c.from_residual-in_err-freeze.result c.from_residual-in_err-freeze.ensures.1 in
+    rw p.1 tt
+
+pub returns-in_err-freeze-clause-cause : goal.returns-in_err-freeze-clause-cause
+returns-in_err-freeze-clause-cause g c =
+    let p = err_from_is_err_and c.from_residual-in_err-freeze.result c.from_residual-in_err-freeze.ensures.1 in
+    rw (p.1, p.2) (freeze_cause LIMIT _ _ c.args.self.now c.make_room.new.self c.in_err-freeze.field-0.0 c.make_room.ensures.same (λ e. let t : false ≡ true = c.in_err-freeze.ensures.idle (ap (λ (v : CoreModel). v.active) c.make_room.ensures.same ∙ e) in cc) c.in_err-freeze.ensures.cause)
+
+pub returns-in_err-freeze-clause-full_objects : goal.returns-in_err-freeze-clause-full_objects
+returns-in_err-freeze-clause-full_objects g c h = refl
+
+pub returns-in_err-freeze-clause-kept : goal.returns-in_err-freeze-clause-kept
+returns-in_err-freeze-clause-kept g c m same k = subst (λ (v : CoreModel). IsKept m v) (sym c.in_err-freeze.ensures.same) (kept_same m c.args.self.now c.make_room.new.self c.make_room.ensures.same k)
+
+pub returns-in_err-freeze-clause-settings : goal.returns-in_err-freeze-clause-settings
+returns-in_err-freeze-clause-settings g c = ap (λ (v : CoreModel). v.settings) (c.in_err-freeze.ensures.same ∙ c.make_room.ensures.same)
+
+pub returns-in_err-freeze-clause-limit : goal.returns-in_err-freeze-clause-limit
+returns-in_err-freeze-clause-limit g c h = no_room LIMIT c.args.self.now (λ e. let t : false ≡ true = c.in_err-freeze.ensures.idle (ap (λ (v : CoreModel). v.active) c.make_room.ensures.same ∙ e) in cc) c.in_ok-make_room.ensures.room h
+
+pub returns-clause-step : goal.returns-clause-step
+returns-clause-step g c = steps_after c.install.result c.args.self.now c.freeze.new.self c.install.new.self (frozen_from c.args.self.now c.make_room.new.self c.freeze.new.self c.make_room.ensures.same c.make_room.ensures.idle c.in_ok-freeze.ensures.event) c.install.ensures.newest c.install.ensures.flushed
+
+pub returns-clause-settings : goal.returns-clause-settings
+returns-clause-settings g c = c.install.ensures.settings ∙ frozen_settings c.args.self.now c.freeze.new.self (frozen_from c.args.self.now c.make_room.new.self c.freeze.new.self c.make_room.ensures.same c.make_room.ensures.idle c.in_ok-freeze.ensures.event)
+
+pub returns-then-is_empty-clause-full_objects : goal.returns-then-is_empty-clause-full_objects
+returns-then-is_empty-clause-full_objects g c h = refl
+
+pub returns-then-is_empty-clause-limit : goal.returns-then-is_empty-clause-limit
+returns-then-is_empty-clause-limit g c h =
+    let nothing = sym (ap (λ (v : CoreModel). v.frozen) c.self.view_is) ∙ none_frozen c.as_slice.result.now c.self.inside.frozen.items c.is_empty.result c.is_empty.ensures c.if-is_empty.true c.as_slice.ensures.value in
+    absurd (none_passed LIMIT c.args.self.now c.freeze.new.self
+    (frozen_from c.args.self.now c.make_room.new.self c.freeze.new.self c.make_room.ensures.same c.make_room.ensures.idle c.in_ok-freeze.ensures.event)
+    nothing (subst (λ (v : CoreModel). held v ≤ LIMIT) c.self.view_is c.self.invariant.bound) h)

@@ -15,6 +15,7 @@ use Rattle.slate_db.specs.Model.{CoreModel}
 use Rattle.slate_db.specs.View.{view_of}
 use Rattle.slate_db.specs.Sound.{IsKept}
 use Rattle.slate_db.specs.Whole.{IsWhole}
+use Rattle.slate_db.proofs.Answered.{adds_none}
 use Rattle.slate_db.proofs.Names.{IsNamed, open_is}
 use Rattle.slate_db.proofs.Notes.{after_note, whole_note, step_get}
 use Rattle.slate_db.proofs.Keeps.{same_model, kept_event}
@@ -28,6 +29,9 @@ invariant_of-self g c =
     subst (λ (v : CoreModel). IsWhole v c.self.inside.last c.self.inside.ids c.self.inside.runs c.self.inside.tables.items)
     (same_model (view_of c.self.inside) (view_of (record c.self.inside { «open» = c.note_get.new.items })) refl refl (sym c.in-Err-note_get.ensures.err) refl refl refl refl refl refl refl refl)
     c.self.invariant
+
+pub returns-in_err-key-clause-told : goal.returns-in_err-key-clause-told
+returns-in_err-key-clause-told g c = adds_none _
 
 pub returns-in-Err-clause-whole : goal.returns-in-Err-clause-whole
 returns-in-Err-clause-whole g c m has law kept held =
@@ -43,6 +47,16 @@ returns-in-Err-note_get-clause-kept g c m kept_m =
     subst (λ (v : CoreModel). IsKept m v)
     (same_model (view_of c.self.inside) (view_of (record c.self.inside { «open» = c.note_get.new.items })) refl refl (sym c.in-Err-note_get.ensures.err) refl refl refl refl refl refl refl refl)
     (subst (λ (v : CoreModel). IsKept m v) (sym c.self.view_is) kept_m)
+
+pub returns-in-Err-note_get-clause-same : goal.returns-in-Err-note_get-clause-same
+returns-in-Err-note_get-clause-same g c =
+    sym (same_model (view_of c.self.inside) (view_of (record c.self.inside { «open» = c.note_get.new.items })) refl refl (sym c.in-Err-note_get.ensures.err) refl refl refl refl refl refl refl refl) ∙ c.self.view_is
+
+pub returns-in-Err-note_get-clause-settings : goal.returns-in-Err-note_get-clause-settings
+returns-in-Err-note_get-clause-settings g c = ap (λ (v : CoreModel). v.settings) c.self.view_is
+
+pub returns-in-Err-clause-cause : goal.returns-in-Err-clause-cause
+returns-in-Err-clause-cause g c = c.in-Err.ensures.cause
 
 -- the step that is noted
 abbrev noted_step : (g : given.Over) → goal.In_default-note_get g → TranscriptStep
@@ -109,3 +123,6 @@ returns-clause-kept g c m kept_m =
     subst (λ (v : CoreModel). IsKept m v) (becomes g c)
     (kept_event m (view_of c.self.inside) (noted (view_of c.self.inside).state c.args.id.now (noted_step g c ∷ [])) c.self.inside.journal.events c.self.inside.journal.spare refl refl refl
     (subst (λ (v : CoreModel). IsKept m v) (sym c.self.view_is) kept_m))
+
+pub returns-clause-settings : goal.returns-clause-settings
+returns-clause-settings g c = ap (λ (v : CoreModel). v.settings) c.self.view_is

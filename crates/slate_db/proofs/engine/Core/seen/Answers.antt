@@ -14,6 +14,7 @@ use Rattle.slate_db.specs.Model.{CoreModel, Rows}
 use Rattle.slate_db.specs.Sound.{AreTables, IsSound}
 use Rattle.slate_db.specs.View.{view_of}
 use Rattle.slate_db.specs.Whole.{IsWhole}
+use Rattle.slate_db.proofs.Answered.{adds_none}
 use Rattle.slate_db.proofs.Blocks.{if_ok, if_err}
 use Rattle.slate_db.proofs.Causes.{fold_cause, fold_whole_cause, read_cause, read_whole_cause}
 use Rattle.slate_db.proofs.Damaged.{known_cause}
@@ -45,6 +46,9 @@ returns-in_err-near-clause-whole g c m os has law kept held answers = let p = er
 
 pub returns-in_err-near-clause-cause : goal.returns-in_err-near-clause-cause
 returns-in_err-near-clause-cause g c = let p = err_from_is_err_and c.from_residual.result c.from_residual.ensures.1 in rw (p.1, p.2) (inl (inl c.in_err-near.ensures.cause))
+
+pub returns-in_err-near-clause-told : goal.returns-in_err-near-clause-told
+returns-in_err-near-clause-told g c = adds_none _
 
 pub returns-in_err-found-clause-row : goal.returns-in_err-found-clause-row
 returns-in_err-found-clause-row g c m os has law kept held answers above = let p = err_from_is_err_and c.from_residual-in_err-found.result c.from_residual-in_err-found.ensures.1 in rw p.1 tt
