@@ -160,14 +160,14 @@ reader-undamaged e (inl is) damage = subst IsDamage is damage
 reader-undamaged e (inr (inl is)) damage = subst IsDamage is damage
 reader-undamaged e (inr (inr is)) damage = subst IsDamage is damage
 
-pub reader-complete : (script : List ℕ) (error : SlateDBError) → IsOutside error ⊎ (script_error script ≡ Some error) → ReaderError error → IsWellFormed script → (error ≡ ReadFault → ⊥) → error ≡ OutOfMemory
-reader-complete script error by cause formed no-read = only (complete-from script error by formed no-read (none error cause))
-  where
-    none : (e : SlateDBError) → ReaderError e → e ≡ WriteFault → ⊥
-    none e (inl is) was = cc
-    none e (inr (inl is)) was = cc
-    none e (inr (inr is)) was = cc
+pub reader-not-write : (e : SlateDBError) → ReaderError e → e ≡ WriteFault → ⊥
+reader-not-write e (inl is) was = cc
+reader-not-write e (inr (inl is)) was = cc
+reader-not-write e (inr (inr is)) was = cc
 
+pub reader-complete : (script : List ℕ) (error : SlateDBError) → IsOutside error ⊎ (script_error script ≡ Some error) → ReaderError error → IsWellFormed script → (error ≡ ReadFault → ⊥) → error ≡ OutOfMemory
+reader-complete script error by cause formed no-read = only (complete-from script error by formed no-read (reader-not-write error cause))
+  where
     only : (error ≡ OutOfMemory) ⊎ IsPartError error → error ≡ OutOfMemory
     only (inl is) = is
     only (inr part) = absurd (reader-no-part error cause part)
@@ -269,17 +269,17 @@ line-sink {r = r} {line = line} n took is short =
     reply : List ℕ
     reply = replies_from meaning r (after_lines meaning r opening (lines_of took.done)) (line ∷ [])
 
-pub line-complete : (script line : List ℕ) (number : ℕ) (error : SlateDBError) → IsOutside error ⊎ (script_error script ≡ Some error) → LineError number line error → IsWellFormed script → (error ≡ WriteFault → ⊥) → (error ≡ OutOfMemory) ⊎ IsPartError error
-line-complete script line number error by cause formed no-write = complete-from script error by formed (none error cause) no-write
+pub line-not-read : (number : ℕ) (line : List ℕ) (error : SlateDBError) → LineError number line error → error ≡ ReadFault → ⊥
+line-not-read number line e (inl is) was = cc
+line-not-read number line e (inr (inl is)) was = cc
+line-not-read number line e (inr (inr (inr is))) was = subst IsPartError was is
+line-not-read number line e (inr (inr (inl is))) was = clash is.0 was
   where
-    none : (e : SlateDBError) → LineError number line e → e ≡ ReadFault → ⊥
-    none e (inl is) was = cc
-    none e (inr (inl is)) was = cc
-    none e (inr (inr (inr is))) was = subst IsPartError was is
-    none e (inr (inr (inl is))) was = clash is.0 was
-      where
-        clash : e ≡ ScriptSyntax number → e ≡ ReadFault → ⊥
-        clash h k = cc
+    clash : e ≡ ScriptSyntax number → e ≡ ReadFault → ⊥
+    clash h k = cc
+
+pub line-complete : (script line : List ℕ) (number : ℕ) (error : SlateDBError) → IsOutside error ⊎ (script_error script ≡ Some error) → LineError number line error → IsWellFormed script → (error ≡ WriteFault → ⊥) → (error ≡ OutOfMemory) ⊎ IsPartError error
+line-complete script line number error by cause formed no-write = complete-from script error by formed (line-not-read number line error cause) no-write
 
 pub line-kinds : (number : ℕ) (line : List ℕ) (error : SlateDBError) → LineError number line error → IsOutside error ⊎ IsScriptError error
 line-kinds number line error (inl is) = inl (inl is)

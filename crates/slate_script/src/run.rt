@@ -161,14 +161,22 @@ fn answer_line<W: Sink, S: Store, M: MergeOperator, T: BlockTransformer>(
     let meaning = match parse_line(alloc, line) {
         Ok(None) => return Ok(()),
         Ok(Some(meaning)) => meaning,
-        Err(SlateDBError::ScriptSyntax { .. }) => {
-            return Err(SlateDBError::ScriptSyntax { line: number });
-        }
-        Err(error) => return Err(error),
+        Err(error) => return Err(at_line(error, number)),
     };
     match session.answer(meaning, env, options) {
         Ok(answer) => write_reply(alloc, sink, answer),
         Err(error) => Err(error),
+    }
+}
+
+/// The error of the line with this number.
+fn at_line(error: SlateDBError, number: u64) -> SlateDBError
+    ensures memory { error ≡ SlateDBError.OutOfMemory → result ≡ SlateDBError.OutOfMemory }
+    ensures syntax { error ≡ SlateDBError.ScriptSyntax 0 → result ≡ SlateDBError.ScriptSyntax number }
+{
+    match error {
+        SlateDBError::ScriptSyntax { .. } => SlateDBError::ScriptSyntax { line: number },
+        other => other,
     }
 }
 

@@ -38,6 +38,11 @@ use std::collections::BTreeMap;
 use std::marker::Model;
 use uuid::Uuid;
 
+/// The options of a get.
+const NO_CONTEXT: ReadOptions = ReadOptions {
+    filter_context: None,
+};
+
 /// Answers lines over a core. It keeps the names that are open, and the moment, which is 0 at first.
 #[derive(Drop)]
 pub struct Session {
@@ -175,11 +180,7 @@ impl Session {
         };
         let id = *id;
         drop(name);
-        let options = ReadOptions {
-            filter_context: None,
-        };
-        let read = self.core.get(&id, key.as_slice(), &options, env);
-        drop(options);
+        let read = self.core.get(&id, key.as_slice(), &NO_CONTEXT, env);
         drop(key);
         let row = read?;
         Ok(Answer::Found(row))

@@ -1,4 +1,4 @@
-use Rattle.std.proofs.Common.{[], ◌≡◌, ◌⊎◌, ◌≤◌, ◌++◌, ℕ, List, Option, inl, inr, Result, Err, Some, sym, ap, subst, refl, ◌∙◌}
+use Rattle.std.proofs.Common.{[], ◌≡◌, ◌⊎◌, ◌≤◌, ◌++◌, ℕ, List, Option, inl, inr, Result, Err, Some, sym, ap, subst, refl, ◌∙◌, arith}
 use Rattle.slate_types.specs.declared.error.SlateDBError.{SlateDBError}
 use Rattle.slate_types.specs.declared.error.SlateDBError.TheVariants.{ReadFault, WriteFault}
 use Rattle.slate_script.specs.Program.{status}
@@ -144,3 +144,15 @@ returns-in-Err-clause-by_part g c s script before named is told empty which =
     let same : c.in-Some.settings ≡ s = same-settings c.parse_words.result c.in-Some.settings s c.in-Some.is (c.parse_words.ensures.settings ∙ named) in
     subst (λ (t : Settings). (said : List ℕ) × (g.W.Sink.content c.run_script.new.sink ≡ Some (before ++ said)) × HasAnswered (main_rules t.options) script said) same
     (c.in-Err.ensures.by_part script before is told (premises {M = ℕ} (λ _ k e v. v) _ _ empty) (is-part c.in-Err.error c.in-Err.ensures.kinds (status-or-either c.status_of-status.ensures which)))
+
+pub returns-in_default-clause-undamaged : goal.returns-in_default-clause-undamaged
+returns-in_default-clause-undamaged g c s named empty which = absurd (omega (arith, (damage-between 2 which).0))
+
+pub returns-in_default-clause-untrue : goal.returns-in_default-clause-untrue
+returns-in_default-clause-untrue g c which = absurd (omega (arith, (damage-between 2 which).0))
+
+pub returns-in-Ok-clause-undamaged : goal.returns-in-Ok-clause-undamaged
+returns-in-Ok-clause-undamaged g c s named empty which = absurd (omega (arith, (damage-between 0 which).0))
+
+pub returns-in-Ok-clause-untrue : goal.returns-in-Ok-clause-untrue
+returns-in-Ok-clause-untrue g c which = absurd (omega (arith, (damage-between 0 which).0))

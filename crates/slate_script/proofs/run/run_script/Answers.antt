@@ -13,7 +13,7 @@ use Rattle.slate_store.specs.Lines.{lines_of}
 use Rattle.slate_script.proofs.Taken.{begin, answer-it, took-told, end-told}
 use Rattle.slate_script.proofs.Running.{begins}
 use Rattle.slate_script.proofs.TablesAlone.{begins-alone, stored-state}
-use Rattle.slate_script.proofs.RunEnds.{LineError, rose-from, never-less, later-on, line-cause, no-part, only-memory, store-rose, operator-rose, transformer-rose, reader-no-part, reader-undamaged, reader-error, reader-complete, reader-kinds, reader-read, reader-full, line-not-long, line-kinds, line-read, line-complete, untouched, reader-script, reader-source, reader-memory, line-error, line-script, line-sink, line-memory, end-there, end-read, end-answered, end-formed, end-no_error}
+use Rattle.slate_script.proofs.RunEnds.{LineError, rose-from, never-less, later-on, line-cause, no-part, only-memory, store-rose, operator-rose, transformer-rose, reader-no-part, reader-not-write, reader-undamaged, reader-error, reader-complete, reader-kinds, reader-read, reader-full, line-not-long, line-not-read, line-kinds, line-read, line-complete, untouched, reader-script, reader-source, reader-memory, line-error, line-script, line-sink, line-memory, end-there, end-read, end-answered, end-formed, end-no_error}
 use Rattle.slate_types.specs.Outside.{Objects}
 use Rattle.slate_db.specs.Meaning.{Meaning}
 use Rattle.slate_script.specs.Session.{IsSettled}
@@ -31,6 +31,9 @@ unless-error x e (inl is) = absurd (clash is)
     clash : Ok x ≡ Err e → ⊥
     clash h = cc
 unless-error x e (inr is) = is
+
+is-no-error : {V : Type 0} {v : V} {e : SlateDBError} → Ok v ≡ Err e → ⊥
+is-no-error h = cc
 
 -- an error of a step is the run's, and else no count rose
 error-or : {A B P Q : Type 0} (e f : SlateDBError) (step : Result A SlateDBError) (run : Result B SlateDBError) → step ≡ Err e → run ≡ Err e → (step ≡ Err f) ⊎ P → (P → Q) → (run ≡ Err f) ⊎ Q
@@ -146,6 +149,38 @@ returns-in_err-line-clause-taken g c script is =
     let told = c.in_err-line.ensures.told at.left at.rest in
     reader-read c.next.new.self told.0 (g.R.Source.left c.next.new.source) at told.2 c.in_err-line.ensures.within told.1
 
+pub returns-in_err-line-clause-read_fault : goal.returns-in_err-line-clause-read_fault
+returns-in_err-line-clause-read_fault g c fault =
+    let p = err_from_is_err_and c.from_residual.result c.from_residual.ensures.1 in
+    rose-from _ _ _ c.loop-session.invariant.source_later (c.in_err-line.ensures.read_fault (ap Err (same-error c.in_err-line.field-0.0 ReadFault c.from_residual.result (p.1 ∙ ap Err p.2) fault))).0
+
+pub returns-in_err-line-clause-write_fault : goal.returns-in_err-line-clause-write_fault
+returns-in_err-line-clause-write_fault g c fault =
+    let p = err_from_is_err_and c.from_residual.result c.from_residual.ensures.1 in
+    absurd (reader-not-write c.in_err-line.field-0.0 c.in_err-line.ensures.cause (same-error c.in_err-line.field-0.0 WriteFault c.from_residual.result (p.1 ∙ ap Err p.2) fault))
+
+pub returns-in_err-line-clause-by_sink : goal.returns-in_err-line-clause-by_sink
+returns-in_err-line-clause-by_sink g c script before is told premises fault =
+    let p = err_from_is_err_and c.from_residual.result c.from_residual.ensures.1 in
+    absurd (reader-not-write c.in_err-line.field-0.0 c.in_err-line.ensures.cause (same-error c.in_err-line.field-0.0 WriteFault c.from_residual.result (p.1 ∙ ap Err p.2) fault))
+
+pub returns-in_err-line-clause-untrue : goal.returns-in_err-line-clause-untrue
+returns-in_err-line-clause-untrue g c lawful =
+    let p = err_from_is_err_and c.from_residual.result c.from_residual.ensures.1 in
+    rw (p.1, p.2) (λ damage. absurd (reader-undamaged c.in_err-line.field-0.0 c.in_err-line.ensures.cause damage))
+
+pub returns-in_err-line-clause-sink_still : goal.returns-in_err-line-clause-sink_still
+returns-in_err-line-clause-sink_still g c = inr c.loop-session.invariant.sink_still
+
+pub returns-in_err-line-clause-later : goal.returns-in_err-line-clause-later
+returns-in_err-line-clause-later g c = (omega (arith, c.loop-session.invariant.source_later, c.next.ensures.later), c.loop-session.invariant.sink_later)
+
+pub returns-in_err-line-clause-parts_later : goal.returns-in_err-line-clause-parts_later
+returns-in_err-line-clause-parts_later g c = c.loop-session.invariant.parts_later
+
+pub returns-in_err-line-clause-same_store : goal.returns-in_err-line-clause-same_store
+returns-in_err-line-clause-same_store g c = c.loop-session.invariant.same_store
+
 -- ---- at a line that isn't answered
 
 -- no limit ended the line
@@ -240,6 +275,21 @@ returns-in-Err-clause-untrue g c lawful =
     (λ damage. untrue-on (meaning_of g.M.MergeOperator.combine g.T.BlockTransformer.encoded g.T.BlockTransformer.decoded c.args.env.now.operator c.args.env.now.transformer) c.loop-session.session (g.S.Store.acts c.args.env.now.store.now) (g.S.Store.acts c.loop-session.env.store.now) (g.S.Store.acts c.answer_line.new.env.store.now) (c.loop-session.invariant.followed lawful)
     (subst (λ (m : Meaning). (os : Objects) → IsSettled m (Some os) c.loop-session.session → IsUntrue os (g.S.Store.acts c.loop-session.env.store.now) (g.S.Store.acts c.answer_line.new.env.store.now)) c.loop-session.invariant.meaning (λ os settled. c.in-Err.ensures.untrue os settled damage)))
 
+pub returns-in-Err-clause-read_fault : goal.returns-in-Err-clause-read_fault
+returns-in-Err-clause-read_fault g c fault = absurd (line-not-read (c.loop-session.number + 1) c.as_slice.result.now c.in-Err.error (its-cause g c) (same-error c.in-Err.error ReadFault (Err c.in-Err.error) refl fault))
+
+pub returns-in-Err-clause-by_source : goal.returns-in-Err-clause-by_source
+returns-in-Err-clause-by_source g c script before is told premises fault = absurd (line-not-read (c.loop-session.number + 1) c.as_slice.result.now c.in-Err.error (its-cause g c) (same-error c.in-Err.error ReadFault (Err c.in-Err.error) refl fault))
+
+pub returns-in-Err-clause-write_fault : goal.returns-in-Err-clause-write_fault
+returns-in-Err-clause-write_fault g c fault = rose-from _ _ _ c.loop-session.invariant.sink_later (c.in-Err.ensures.write_fault (ap Err (same-error c.in-Err.error WriteFault (Err c.in-Err.error) refl fault))).0
+
+pub returns-in-Err-clause-later : goal.returns-in-Err-clause-later
+returns-in-Err-clause-later g c = (omega (arith, c.loop-session.invariant.source_later, c.next.ensures.later), omega (arith, c.loop-session.invariant.sink_later, c.answer_line.ensures.later))
+
+pub returns-in-Err-clause-same_store : goal.returns-in-Err-clause-same_store
+returns-in-Err-clause-same_store g c = c.answer_line.ensures.same_store ∙ c.loop-session.invariant.same_store
+
 -- ---- the next turn
 
 pub loop-session-preserved : goal.loop-session-preserved
@@ -313,3 +363,39 @@ returns-clause-taken g c script is =
 
 pub returns-clause-source_still : goal.returns-clause-source_still
 returns-clause-source_still g c = inr (unless-error c.in_ok-line.field-0 ReadFault c.in_ok-line.ensures.still ∙ c.loop-session.invariant.source_still)
+
+pub returns-clause-read_fault : goal.returns-clause-read_fault
+returns-clause-read_fault g c fault = absurd (is-no-error fault)
+
+pub returns-clause-write_fault : goal.returns-clause-write_fault
+returns-clause-write_fault g c fault = absurd (is-no-error fault)
+
+pub returns-clause-store_fault : goal.returns-clause-store_fault
+returns-clause-store_fault g c fault = absurd (is-no-error fault)
+
+pub returns-clause-transform_fault : goal.returns-clause-transform_fault
+returns-clause-transform_fault g c fault = absurd (is-no-error fault)
+
+pub returns-clause-operator_fault : goal.returns-clause-operator_fault
+returns-clause-operator_fault g c message fault = absurd (is-no-error fault)
+
+pub returns-clause-too_long : goal.returns-clause-too_long
+returns-clause-too_long g c script is long = absurd (is-no-error long)
+
+pub returns-clause-by_source : goal.returns-clause-by_source
+returns-clause-by_source g c script before is told premises fault = absurd (is-no-error fault)
+
+pub returns-clause-by_sink : goal.returns-clause-by_sink
+returns-clause-by_sink g c script before is told premises fault = absurd (is-no-error fault)
+
+pub returns-clause-sink_still : goal.returns-clause-sink_still
+returns-clause-sink_still g c = inr c.loop-session.invariant.sink_still
+
+pub returns-clause-later : goal.returns-clause-later
+returns-clause-later g c = (omega (arith, c.loop-session.invariant.source_later, c.next.ensures.later), c.loop-session.invariant.sink_later)
+
+pub returns-clause-parts_later : goal.returns-clause-parts_later
+returns-clause-parts_later g c = c.loop-session.invariant.parts_later
+
+pub returns-clause-same_store : goal.returns-clause-same_store
+returns-clause-same_store g c = c.loop-session.invariant.same_store

@@ -1,8 +1,9 @@
-use Rattle.std.proofs.Common.{◌≡◌, ◌∷◌, [], List, length, refl, sym, subst, ◌∙◌, arith}
+use Rattle.std.proofs.Common.{◌≡◌, true, ◌∷◌, [], List, length, refl, sym, subst, ◌∙◌, arith, rules}
 use Rattle.std.specs.Vec.Iter.{into_iter_items}
 use Rattle.std.proofs.lemmas.Result.{err_from_is_err_and}
 use Rattle.slate_mem.specs.Batch.{Ops}
-use Rattle.slate_script.proofs.SessionBatch.{Batched, batched-refused, batched-all, plain-all, or-refused}
+use Rattle.slate_script.specs.Stage.{is_built_batch}
+use Rattle.slate_script.proofs.SessionBatch.{Batched, batched-none, batched-more, batched-refused, batched-all, fine-all, next-plain, plain-all, or-refused}
 use Rattle.slate_script.proofs.session.batch_of.Goals as goal
 
 nothing_left : {X : Type 0} (l : List X) → length l ≡ 0 → l ≡ []
@@ -24,3 +25,35 @@ returns-clause-plain c =
     let empty : into_iter_items c.loop-key.key-iterator ≡ [] = nothing_left _ (sym c.loop-key.invariant.1 ∙ c.in-None.ensures.steps.0) in
     let at : Batched c.args.ops [] c.loop-key.batch = subst (λ (r : Ops). Batched c.args.ops r c.loop-key.batch) empty (subst (λ (os : Ops). Batched os (into_iter_items c.loop-key.key-iterator) c.loop-key.batch) all c.loop-key.invariant.0) in
     plain-all c.args.ops c.loop-key.batch c.requires (batched-all c.args.ops c.loop-key.batch at)
+
+pub returns-clause-batch : goal.returns-clause-batch
+returns-clause-batch c =
+    let all : into_iter_items c.into_iter-key-iterator.result ≡ c.args.ops = c.into_iter-key-iterator.ensures.into_iter_gives.0 ∙ c.into_vec-key-items.ensures in
+    let empty : into_iter_items c.loop-key.key-iterator ≡ [] = nothing_left _ (sym c.loop-key.invariant.1 ∙ c.in-None.ensures.steps.0) in
+    let at : Batched c.args.ops [] c.loop-key.batch = subst (λ (r : Ops). Batched c.args.ops r c.loop-key.batch) empty (subst (λ (os : Ops). Batched os (into_iter_items c.loop-key.key-iterator) c.loop-key.batch) all c.loop-key.invariant.0) in
+    batched-all c.args.ops c.loop-key.batch at
+
+pub returns-clause-fine : goal.returns-clause-fine
+returns-clause-fine c =
+    let all : into_iter_items c.into_iter-key-iterator.result ≡ c.args.ops = c.into_iter-key-iterator.ensures.into_iter_gives.0 ∙ c.into_vec-key-items.ensures in
+    let empty : into_iter_items c.loop-key.key-iterator ≡ [] = nothing_left _ (sym c.loop-key.invariant.1 ∙ c.in-None.ensures.steps.0) in
+    let at : Batched c.args.ops [] c.loop-key.batch = subst (λ (r : Ops). Batched c.args.ops r c.loop-key.batch) empty (subst (λ (os : Ops). Batched os (into_iter_items c.loop-key.key-iterator) c.loop-key.batch) all c.loop-key.invariant.0) in
+    fine-all c.args.ops c.loop-key.batch at
+
+pub loop-key-init : goal.loop-key-init
+loop-key-init c =
+    let all : into_iter_items c.into_iter-key-iterator.result ≡ c.args.ops = c.into_iter-key-iterator.ensures.into_iter_gives.0 ∙ c.into_vec-key-items.ensures in
+    (batched-none (into_iter_items c.into_iter-key-iterator.result) c.new-batch.result c.new-batch.ensures (subst (λ (os : Ops). is_built_batch os ≡ true) (sym all) c.requires), search rules)
+
+pub add-requires : goal.add-requires
+add-requires c =
+    let steps : into_iter_items c.loop-key.key-iterator ≡ (c.in-Some.key, c.in-Some.op) ∷ into_iter_items c.next.new.self = c.in-Some.ensures.steps.0 in
+    next-plain (into_iter_items c.into_iter-key-iterator.result) (into_iter_items c.next.new.self) c.in-Some.key c.in-Some.op c.loop-key.batch
+    (subst (λ (r : Ops). Batched (into_iter_items c.into_iter-key-iterator.result) r c.loop-key.batch) steps c.loop-key.invariant.0)
+
+pub loop-key-preserved : goal.loop-key-preserved
+loop-key-preserved c =
+    let steps : into_iter_items c.loop-key.key-iterator ≡ (c.in-Some.key, c.in-Some.op) ∷ into_iter_items c.next.new.self = c.in-Some.ensures.steps.0 in
+    let at : Batched (into_iter_items c.into_iter-key-iterator.result) ((c.in-Some.key, c.in-Some.op) ∷ into_iter_items c.next.new.self) c.loop-key.batch =
+    subst (λ (r : Ops). Batched (into_iter_items c.into_iter-key-iterator.result) r c.loop-key.batch) steps c.loop-key.invariant.0 in
+    (batched-more (into_iter_items c.into_iter-key-iterator.result) (into_iter_items c.next.new.self) c.in-Some.key c.in-Some.op c.loop-key.batch c.add.new.batch at c.in_ok-add.ensures.fine (c.in_ok-add.ensures.means at.done at.batch), search rules)

@@ -1,4 +1,5 @@
-use Rattle.std.proofs.Common.{◌≡◌, ℕ, List, Option, Some, None, Ok, refl, sym, subst, ◌∙◌, arith}
+use Rattle.std.proofs.Common.{◌≡◌, ℕ, List, [], length, Option, Some, None, Ok, refl, sym, ap, subst, ◌∙◌, arith}
+use Rattle.std.proofs.lemmas.List.{append-nil}
 use Rattle.std.proofs.lemmas.Result.{err_from_is_err_and}
 use Rattle.slate_types.specs.Outside.{Counts}
 use Rattle.slate_store.specs.Env.{combine_of}
@@ -8,12 +9,14 @@ use Rattle.slate_txn.specs.Reply.{Reply}
 use Rattle.slate_txn.specs.State.{State}
 use Rattle.slate_txn.specs.Step.{step}
 use Rattle.slate_txn.specs.declared.line.Line.TheVariants as lines
+use Rattle.slate_db.specs.Installs.{tables_of}
 use Rattle.slate_db.specs.Meaning.{HasParts, rules_of}
 use Rattle.slate_db.specs.Model.{CoreModel}
 use Rattle.slate_db.specs.Parts.{meaning_of, counts_of}
 use Rattle.slate_script.specs.declared.reply.Answer.TheVariants as answers
 use Rattle.slate_script.specs.declared.reply.Refusal.TheVariants as refusals
-use Rattle.slate_script.specs.Session.{SessionModel, AreNames, AnswersAs, Grows, IsSettled}
+use Rattle.slate_script.specs.Session.{SessionModel, AreNames, AnswersAs, Grows, IsSettled, StoresNothing}
+use Rattle.slate_script.proofs.RunEnds.{never-less}
 use Rattle.slate_script.proofs.NamesLaws.{find_named-lookup}
 use Rattle.slate_script.proofs.SessionNames.{names-noted}
 use Rattle.slate_script.proofs.SessionParts.{parts-same, get-cause, get-outer}
@@ -98,3 +101,22 @@ returns-in_err-row-clause-truthful g c os settled answers =
     let first : Counts = counts_of (g.S.Store.faults c.args.env.now.store.now) g.M.MergeOperator.faults g.T.BlockTransformer.faults c.args.env.now.operator c.args.env.now.transformer in
     let after : Counts = counts_of (g.S.Store.faults c.get-read.new.env.store.now) g.M.MergeOperator.faults g.T.BlockTransformer.faults c.get-read.new.env.operator c.get-read.new.env.transformer in
     rw (p.1, p.2) (get-outer first after _ (c.in_err-row.ensures.truthful m os has-parts here.lawful here.kept here.tables.holds answers))
+
+pub returns-in_default-clause-stores : goal.returns-in_default-clause-stores
+returns-in_default-clause-stores g c = record { settings = refl; tables = refl; later = omega arith; kept = λ m k. k }
+
+pub returns-in_default-clause-grows : goal.returns-in_default-clause-grows
+returns-in_default-clause-grows g c = (omega arith, omega arith)
+
+pub returns-in_default-clause-told : goal.returns-in_default-clause-told
+returns-in_default-clause-told g c = λ known told. ([], told ∙ ap (λ l. Some l) (sym (append-nil known)), tt)
+
+pub returns-in_default-clause-later : goal.returns-in_default-clause-later
+returns-in_default-clause-later g c = never-less _
+
+pub returns-clause-stores : goal.returns-clause-stores
+returns-clause-stores g c =
+    let before : SessionModel = record { core = c.self.inside.core; names = c.self.inside.names.entries; now = c.self.inside.now } in
+    let same : length c.get-read.new.self.events ≡ length c.self.inside.core.events = ap (λ (v : CoreModel). length v.events) c.in_ok-row.ensures.noted in
+    subst (λ (v : SessionModel). StoresNothing v (record before { core = c.get-read.new.self })) c.self.view_is
+    (record { settings = c.get-read.ensures.settings; tables = ap (λ (v : CoreModel). tables_of v.events) c.in_ok-row.ensures.noted; later = omega (arith, same); kept = c.get-read.ensures.kept })
