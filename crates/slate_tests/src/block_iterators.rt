@@ -23,35 +23,6 @@ fn block(alloc: Global, body: &[u8], offsets: &[u16]) -> Result<Block, AllocErro
     })
 }
 
-// 40 rows of the key k with the sequences 40 down to 1, in version 2. Rows 0, 16 and 32 share nothing, the others the whole key.
-fn long_body(alloc: Global) -> Result<Vec<u8>, AllocError> {
-    let mut body = Vec::new(alloc);
-    for i in 0..40u8 {
-        push_row(&mut body, i % 16 == 0, 40 - i)?;
-    }
-    Ok(body)
-}
-
-fn push_row(body: &mut Vec<u8>, is_whole: bool, seq: u8) -> Result<(), AllocError> {
-    let front: &[u8] = if is_whole {
-        b"\x00\x01\x01kv\x00\x00\x00\x00\x00\x00\x00"
-    } else {
-        b"\x01\x00\x01v\x00\x00\x00\x00\x00\x00\x00"
-    };
-    body.extend_from_slice(front)?;
-    body.extend_from_slice(&[seq, 0])
-}
-
-// Where its rows 0, 16 and 32 begin.
-const LONG_OFFSETS: &[u16] = &[0, 209, 418];
-
-// The key k with the sequences from 1 to 40.
-const COUNTED: &[u8] = b"\
-k\x01k\x02k\x03k\x04k\x05k\x06k\x07k\x08k\x09k\x0a\
-k\x0bk\x0ck\x0dk\x0ek\x0fk\x10k\x11k\x12k\x13k\x14\
-k\x15k\x16k\x17k\x18k\x19k\x1ak\x1bk\x1ck\x1dk\x1e\
-k\x1fk\x20k\x21k\x22k\x23k\x24k\x25k\x26k\x27k\x28";
-
 // The keys and sequences of rows, one behind the other.
 fn listed(alloc: Global, rows: &[RowEntry]) -> Result<Vec<u8>, AllocError> {
     let mut list = Vec::new(alloc);
@@ -130,36 +101,20 @@ const WALKS_OF_V1: [Case; 4] = [
     (DOWN, Some(b"a"), b"a\x01a\x02"),
 ];
 
-#[test]
-fn blocks_of_v1_are_walked(rt: HostRuntime) -> Result<(), Fail> {
-    assert!(rt; are_walked(rt.alloc(), ROWS_OF_V1, &[0, 19, 37], 1, &WALKS_OF_V1)?);
-    Ok(())
-}
-
 const WALKS_OF_V2: [Case; 2] = [
     (UP, None, b"abc\x01abd\x01"),
     (DOWN, Some(b"abd"), b"abd\x01abc\x01"),
 ];
 
-#[test]
-fn blocks_of_v2_are_walked(rt: HostRuntime) -> Result<(), Fail> {
-    assert!(rt; are_walked(rt.alloc(), ROWS_OF_V2, &[0], 2, &WALKS_OF_V2)?);
-    Ok(())
-}
-
-const LONG_WALKS: [Case; 3] = [
-    (UP, Some(b"l"), b""),
-    (DOWN, None, COUNTED),
-    (DOWN, Some(b"k"), COUNTED),
-];
-
-fn is_long_walked(alloc: Global) -> Result<bool, SlateDBError> {
-    let body = long_body(alloc)?;
-    are_walked(alloc, body.as_slice(), LONG_OFFSETS, 2, &LONG_WALKS)
+fn are_all_walked(alloc: Global) -> Result<bool, SlateDBError> {
+    Ok(
+        are_walked(alloc, ROWS_OF_V1, &[0, 19, 37], 1, &WALKS_OF_V1)?
+            && are_walked(alloc, ROWS_OF_V2, &[0], 2, &WALKS_OF_V2)?,
+    )
 }
 
 #[test]
-fn long_blocks_are_walked(rt: HostRuntime) -> Result<(), Fail> {
-    assert!(rt; is_long_walked(rt.alloc())?);
+fn blocks_are_walked(rt: HostRuntime) -> Result<(), Fail> {
+    assert!(rt; are_all_walked(rt.alloc())?);
     Ok(())
 }

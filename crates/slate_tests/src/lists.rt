@@ -1,25 +1,9 @@
-// What a transcript, a journal and lists take with ample memory.
+// Lists that are copied with ample memory.
 use bytes::Bytes;
-use slate_txn::event::{Event, Transcript, TranscriptStep};
-use slate_txn::journal::Journal;
 use slate_txn::line::{ScanStep, StepList};
 use slate_txn::list::{KeyList, TableList};
 use slate_types::Ulid;
 use std::alloc::{AllocError, Global};
-
-fn steps(alloc: Global) -> Result<usize, AllocError> {
-    let mut transcript = Transcript::new(alloc);
-    let key = Bytes::from_static(b"key");
-    transcript.push(TranscriptStep::Get { key, answer: None })?;
-    Ok(transcript.as_slice().len())
-}
-
-fn events(alloc: Global) -> Result<usize, AllocError> {
-    let mut journal = Journal::new(alloc);
-    journal.reserve(1)?;
-    journal.push_reserved(Event::Freeze);
-    Ok(journal.len())
-}
 
 fn copied_keys(alloc: Global) -> Result<usize, AllocError> {
     let keys = KeyList::from_vec(vec![in alloc; Bytes::from_static(b"key")]?);
@@ -38,15 +22,13 @@ fn copied_tables(alloc: Global) -> Result<usize, AllocError> {
 }
 
 #[test]
-fn lists_take_and_are_copied(rt: HostRuntime) -> Result<(), AllocError> {
+fn lists_are_copied(rt: HostRuntime) -> Result<(), AllocError> {
     let alloc = rt.alloc();
     let counts = [
-        steps(alloc)?,
-        events(alloc)?,
         copied_keys(alloc)?,
         copied_steps(alloc)?,
         copied_tables(alloc)?,
     ];
-    assert!(rt; counts == [1; 5]);
+    assert!(rt; counts == [1; 3]);
     Ok(())
 }

@@ -237,13 +237,20 @@ fn are_same_at(
     Ok(rows == list.rows_of_key(key, max_seq)?)
 }
 
-fn are_same_up_to(
-    alloc: Global,
-    table: &MemTable,
-    list: &SortedRows,
-    max_seq: u64,
-) -> Result<bool, SlateDBError> {
-    for key in [b"a", b"k", b"l", b"m", b"n"] {
+// Keys, and up to which sequence their rows are read.
+const READS: [(&[u8], u64); 8] = [
+    (b"a", 0),
+    (b"a", 5),
+    (b"k", 2),
+    (b"k", 3),
+    (b"k", u64::MAX),
+    (b"l", 1),
+    (b"l", 2),
+    (b"n", 5),
+];
+
+fn are_same_rows(alloc: Global, table: &MemTable, list: &SortedRows) -> Result<bool, SlateDBError> {
+    for (key, max_seq) in READS {
         let key = Bytes::from_static(key);
         let are_same = are_same_at(alloc, table, list, &key, max_seq);
         drop(key);
@@ -272,37 +279,56 @@ fn collected(alloc: Global, mut rows: RowsIterator) -> Result<Vec<RowEntry>, Sla
     all
 }
 
-// Where a range begins and ends.
-type Ends = (Bound<&'static [u8]>, Bound<&'static [u8]>);
+// Where a range begins and ends, and the order of a walk.
+type Walk = (Bound<&'static [u8]>, Bound<&'static [u8]>, IterationOrder);
 
-fn are_same_between(
+const WALKS: [Walk; 5] = [
+    (
+        Bound::Unbounded,
+        Bound::Unbounded,
+        IterationOrder::Ascending,
+    ),
+    (
+        Bound::Unbounded,
+        Bound::Unbounded,
+        IterationOrder::Descending,
+    ),
+    (
+        Bound::Included(b"k"),
+        Bound::Included(b"l"),
+        IterationOrder::Ascending,
+    ),
+    (
+        Bound::Excluded(b"a"),
+        Bound::Excluded(b"l"),
+        IterationOrder::Descending,
+    ),
+    (
+        Bound::Excluded(b"k"),
+        Bound::Unbounded,
+        IterationOrder::Ascending,
+    ),
+];
+
+fn are_same_on(
     alloc: Global,
     table: &MemTable,
     list: &SortedRows,
-    ends: Ends,
-    order: IterationOrder,
+    walk: Walk,
 ) -> Result<bool, SlateDBError> {
-    let range = BytesRange::from_slice(alloc, ends.0, ends.1)?;
-    let are_same = are_same_in(alloc, table, list, &range, order);
+    let range = BytesRange::from_slice(alloc, walk.0, walk.1)?;
+    let are_same = are_same_in(alloc, table, list, &range, walk.2);
     drop(range);
     are_same
 }
 
-const RANGES: [Ends; 4] = [
-    (Bound::Unbounded, Bound::Unbounded),
-    (Bound::Included(b"k"), Bound::Included(b"l")),
-    (Bound::Excluded(b"a"), Bound::Excluded(b"l")),
-    (Bound::Excluded(b"k"), Bound::Unbounded),
-];
-
-fn are_same_in_order(
+fn are_same_walks(
     alloc: Global,
     table: &MemTable,
     list: &SortedRows,
-    order: IterationOrder,
 ) -> Result<bool, SlateDBError> {
-    for ends in RANGES {
-        if !are_same_between(alloc, table, list, ends, order)? {
+    for walk in WALKS {
+        if !are_same_on(alloc, table, list, walk)? {
             return Ok(false);
         }
     }
@@ -310,15 +336,7 @@ fn are_same_in_order(
 }
 
 fn are_same(alloc: Global, table: &MemTable, list: &SortedRows) -> Result<bool, SlateDBError> {
-    for max_seq in [0, 2, 3, 5, u64::MAX] {
-        if !are_same_up_to(alloc, table, list, max_seq)? {
-            return Ok(false);
-        }
-    }
-    Ok(
-        are_same_in_order(alloc, table, list, IterationOrder::Ascending)?
-            && are_same_in_order(alloc, table, list, IterationOrder::Descending)?,
-    )
+    Ok(are_same_rows(alloc, table, list)? && are_same_walks(alloc, table, list)?)
 }
 
 fn are_both_same(alloc: Global) -> Result<bool, SlateDBError> {

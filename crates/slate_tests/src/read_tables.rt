@@ -1,18 +1,11 @@
-// What readers answer of the table of one row, whole and damaged, and of one of two blocks.
-ghost use Rattle.std.specs.Prelude.{◌≡◌, ◌+◌, true, length, OnOk};
-
-use crate::blocks::is_short;
+// What readers answer of the table of one row, whole and damaged.
 use crate::listing::{is_text, listed};
-use crate::tables::{TABLE, all_parts, one_row};
+use crate::tables::TABLE;
 use bytes::Bytes;
-use slate_block::Block;
 use slate_script::parts::Xor;
 use slate_store::{MemoryStore, Store};
-use slate_table::{
-    EncodedSsTable, EncodedSsTableBuilder, SsTableFormat, SsTableHandle, SsTableInfo, SstFile,
-    SstReader, TableStore,
-};
-use slate_types::{BlockFormat, BlockTransformer, RowEntry, SlateDBError, Ulid, ValueDeletable};
+use slate_table::{SsTableInfo, SstFile, SstReader};
+use slate_types::{BlockTransformer, SlateDBError, Ulid};
 use std::alloc::Global;
 use std::test::Fail;
 
@@ -139,11 +132,11 @@ fn answer_of_damaged(
     at: usize,
     bits: u8,
 ) -> Result<String, SlateDBError> {
-    let mut bytes = all_parts(alloc)?;
+    let mut bytes = Vec::new(alloc);
+    bytes.extend_from_slice(TABLE.get(..len).unwrap_or(TABLE))?;
     if let Some(byte) = bytes.get_mut(at) {
         *byte ^= bits;
     }
-    bytes.truncate(len);
     answer_of(alloc, bytes.as_slice(), 0)
 }
 
@@ -182,144 +175,5 @@ fn each_call_may_fail(rt: HostRuntime) -> Result<(), Fail> {
             "at call {call}"
         );
     }
-    Ok(())
-}
-
-// Where the table lies in the store that it is put in.
-fn put<S: Store>(
-    alloc: Global,
-    store: &mut S,
-    table: EncodedSsTable,
-) -> Result<SsTableHandle, SlateDBError> {
-    let handle = TableStore::put_table(alloc, store, "db", ID, &table);
-    drop(table);
-    handle
-}
-
-// What is answered of the table that is put with its bytes changed.
-fn answer_of_changed(alloc: Global) -> Result<String, SlateDBError> {
-    let mut transformer = Some(Xor { mask: 255 });
-    let table = one_row(alloc, &mut transformer)?;
-    let mut store = MemoryStore::new(alloc, Vec::new(alloc));
-    drop(put(alloc, &mut store, table)?);
-    answer(alloc, store, transformer)
-}
-
-#[test]
-fn changed_tables_are_read_back(rt: HostRuntime) -> Result<(), Fail> {
-    assert!(rt; is_text(answer_of_changed(rt.alloc()), WHOLE)?);
-    Ok(())
-}
-
-fn put_of(key: &'static [u8]) -> RowEntry {
-    RowEntry {
-        key: Bytes::from_static(key),
-        value: ValueDeletable::Value(Bytes::from_static(b"value")),
-        seq: 1,
-        create_ts: None,
-        expire_ts: None,
-    }
-}
-
-fn add<T: BlockTransformer>(
-    alloc: Global,
-    builder: &mut EncodedSsTableBuilder,
-    row: RowEntry,
-    transformer: &mut Option<T>,
-) -> Result<(), SlateDBError>
-    requires { builder.old.is_whole ≡ true }
-    ensures whole { OnOk result (builder.new.is_whole ≡ true) }
-    ensures rows { OnOk result (length builder.new.rows ≡ length builder.old.rows + 1) }
-{
-    if is_short(&row) && builder.follows(&row) {
-        builder.add(alloc, row, transformer)?;
-        Ok(())
-    } else {
-        drop(row);
-        Err(SlateDBError::EmptyKey)
-    }
-}
-
-// A table of two rows in version 2, each in a block of its own.
-fn two_blocks<T: BlockTransformer>(
-    alloc: Global,
-    transformer: &mut Option<T>,
-) -> Result<EncodedSsTable, SlateDBError> {
-    let format = SsTableFormat {
-        block_size: 1,
-        min_filter_keys: 0,
-        block_format: BlockFormat::V2,
-        compression_codec: None,
-    };
-    let mut builder = EncodedSsTableBuilder::new(alloc, &format)?;
-    match add_two(alloc, &mut builder, transformer) {
-        Ok(()) => builder.build(alloc, transformer),
-        Err(refusal) => {
-            drop(builder);
-            Err(refusal)
-        }
-    }
-}
-
-fn add_two<T: BlockTransformer>(
-    alloc: Global,
-    builder: &mut EncodedSsTableBuilder,
-    transformer: &mut Option<T>,
-) -> Result<(), SlateDBError>
-    requires { builder.old.is_whole ≡ true }
-    ensures whole { OnOk result (builder.new.is_whole ≡ true) }
-    ensures rows { OnOk result (length builder.new.rows ≡ length builder.old.rows + 2) }
-{
-    add(alloc, builder, put_of(b"a"), transformer)?;
-    add(alloc, builder, put_of(b"b"), transformer)
-}
-
-fn all_blocks<S: Store, T: BlockTransformer>(
-    alloc: Global,
-    store: &mut S,
-    handle: &SsTableHandle,
-    transformer: &mut Option<T>,
-) -> Result<Vec<Block>, SlateDBError> {
-    let index = TableStore::read_index(alloc, store, "db", handle, transformer)?;
-    let all = 0..index.len();
-    let blocks = TableStore::read_blocks(alloc, store, "db", handle, &index, all, transformer);
-    drop(index);
-    blocks
-}
-
-// The rows' parts of all blocks, one behind the other, once the table is put.
-fn read_blocks<S: Store, T: BlockTransformer>(
-    alloc: Global,
-    store: &mut S,
-    transformer: &mut Option<T>,
-) -> Result<Vec<u8>, SlateDBError> {
-    let handle = put(alloc, store, two_blocks(alloc, transformer)?)?;
-    let blocks = all_blocks(alloc, store, &handle, transformer);
-    drop(handle);
-    bodies(alloc, &blocks?)
-}
-
-// The rows' parts of blocks, one behind the other.
-fn bodies(alloc: Global, blocks: &[Block]) -> Result<Vec<u8>, SlateDBError> {
-    let mut rows = Vec::new(alloc);
-    for block in blocks {
-        rows.extend_from_slice(block.body.as_slice())?;
-    }
-    Ok(rows)
-}
-
-fn rows_of_blocks(alloc: Global) -> Result<Vec<u8>, SlateDBError> {
-    let mut store = MemoryStore::new(alloc, Vec::new(alloc));
-    let mut unchanged: Option<Xor> = None;
-    let rows = read_blocks(alloc, &mut store, &mut unchanged);
-    drop(store);
-    rows
-}
-
-#[test]
-fn blocks_are_read_back(rt: HostRuntime) -> Result<(), Fail> {
-    let expected =
-        b"\x00\x01\x05avalue\x00\x00\x00\x00\x00\x00\x00\x01\x00\x00\x01\x05bvalue\x00\x00\x00\x00\x00\x00\x00\x01\x00";
-    assert!(rt; rows_of_blocks(rt.alloc())?.as_slice() == expected.as_slice());
     Ok(())
 }

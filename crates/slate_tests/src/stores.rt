@@ -1,5 +1,5 @@
-// What stores answer: one in memory, and one over a folder.
-use slate_store::{FileStore, MemoryStore, PathText, Store, StoreError};
+// What a store over a folder answers.
+use slate_store::{FileStore, PathText, Store, StoreError};
 use slate_types::SlateDBError;
 use std::alloc::Global;
 use std::test::Fail;
@@ -71,53 +71,11 @@ fn are_all(paths: &[PathText]) -> bool {
     }
 }
 
-// How many ranges are well read, and whether all objects are listed.
-fn answers<S: Store>(alloc: Global, store: &mut S) -> Result<(usize, bool), StoreError> {
+// Whether all ranges are well read, and all objects listed.
+fn answers_well<S: Store>(alloc: Global, store: &mut S) -> Result<bool, StoreError> {
     put_objects(alloc, store)?;
     let count = well_read(alloc, store)?;
-    Ok((count, are_all(store.list(alloc)?.as_slice())))
-}
-
-fn answers_well<S: Store>(alloc: Global, store: &mut S) -> Result<bool, StoreError> {
-    let (count, is_listed) = answers(alloc, store)?;
-    Ok(count == RANGES.len() && is_listed)
-}
-
-fn answers_in_memory(alloc: Global) -> Result<(usize, bool), StoreError> {
-    answers(alloc, &mut MemoryStore::new(alloc, Vec::new(alloc)))
-}
-
-#[test]
-fn keeps_objects_in_memory(rt: HostRuntime) -> Result<(), StoreError> {
-    let (count, is_listed) = answers_in_memory(rt.alloc())?;
-    assert!(rt; count == RANGES.len() && is_listed, "at {count}");
-    Ok(())
-}
-
-fn has_failed<T: Drop>(answer: Result<T, StoreError>) -> bool {
-    answer.is_err()
-}
-
-const OLD: Range<'_> = ("a", 0, 3, Some(b"old"), Some(3));
-
-// Which calls fail of a store whose second call is to fail, the fourth and the fifth, and whether what was put first is read at last.
-fn refused(alloc: Global) -> Result<([bool; 5], bool), StoreError> {
-    let mut store = MemoryStore::new(alloc, vec![in alloc; 2, 4, 5]?);
-    let failed = [
-        has_failed(store.put(alloc, "a", b"old")),
-        has_failed(store.put(alloc, "a", b"new")),
-        has_failed(store.len(alloc, "a")),
-        has_failed(store.read_range(alloc, "a", 0, 3)),
-        has_failed(store.len(alloc, "a")),
-    ];
-    Ok((failed, is_read(alloc, &mut store, &OLD)?))
-}
-
-#[test]
-fn fails_where_it_is_told_to(rt: HostRuntime) -> Result<(), StoreError> {
-    let (failed, is_old) = refused(rt.alloc())?;
-    assert!(rt; failed == [false, true, false, true, true] && is_old);
-    Ok(())
+    Ok(count == RANGES.len() && are_all(store.list(alloc)?.as_slice()))
 }
 
 // Whether each of these paths is refused.
