@@ -21,6 +21,7 @@ mod OrderLaws
 mod PathLaws
 mod PartReads
 mod BlockReads
+mod EqualStats
 mod OpenReads
 mod FileReads
 pub mod FrameReads

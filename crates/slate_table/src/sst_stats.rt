@@ -28,7 +28,7 @@ const BLOCK_STATS_SIZE: usize = 6;
 
 /// How many rows of each kind a table has and each of its blocks, how many bytes its keys have, and how many its values
 /// and merge operands.
-#[derive(Drop)]
+#[derive(PartialEq, Eq, Drop)]
 pub struct SstStats {
     pub num_puts: u64,
     pub num_deletes: u64,
