@@ -8,10 +8,10 @@ use Rattle.slate_db.specs.Meaning.{Meaning, IsLawfulMeaning}
 use Rattle.slate_db.specs.Parts.{meaning_of}
 use Rattle.slate_script.specs.declared.parts.Xor.{Xor}
 use Rattle.slate_script.specs.declared.words.Settings.{Settings}
-use Rattle.slate_script.specs.Parts.{xored}
+use Rattle.slate_txn.specs.Parts.{xored}
 use Rattle.slate_script.specs.Program.{parts_of}
 use Rattle.slate_script.specs.Run.{Premises}
-use Rattle.slate_script.proofs.PartsLaws.{xor-back}
+use Rattle.slate_txn.proofs.PartsLaws.{xor-back}
 
 abbrev pub words-mean : {M : Type 0} → (M → List ℕ → Combine) → Option Xor → Meaning
 words-mean combine transformer = meaning_of combine (λ (x : Xor). xored x.mask) (λ (x : Xor). xored x.mask) None transformer

@@ -10,7 +10,7 @@ use Rattle.slate_types.specs.declared.config.BlockFormat.TheVariants.{V1, V2, La
 use Rattle.slate_types.specs.declared.config.Options.{Options}
 use Rattle.slate_types.specs.Config.{defaults}
 use Rattle.slate_script.specs.declared.words.Settings.{Settings}
-use Rattle.slate_script.specs.Parse.{only_if, ◌>>=◌, read_number}
+use Rattle.slate_txn.specs.Parse.{only_if, ◌>>=◌, read_number}
 
 -- ---- values
 

@@ -1,6 +1,6 @@
 //! Parts that a run can name.
 ghost use Rattle.std.specs.Prelude.{◌≡◌, IfOk, IsOkUnless};
-ghost use Rattle.slate_script.specs.Parts as parts;
+ghost use Rattle.slate_txn.specs.Parts as parts;
 
 use bytes::Bytes;
 use slate_types::{BlockTransformer, TransformError};

@@ -18,18 +18,18 @@ ghost use Rattle.slate_db.specs.Parts.{meaning_of, counts_of, IsDamage};
 ghost use Rattle.slate_db.specs.Sound.{IsKept};
 ghost use Rattle.slate_db.specs.StoredState.{StoresState};
 ghost use Rattle.slate_db.specs.Whole.{AreFine};
-ghost use Rattle.slate_script.specs.Answers.{reply_of};
+ghost use Rattle.slate_txn.specs.Answers.{reply_of};
 ghost use Rattle.slate_script.specs.Session.{StandsFor, AnswersAs, HasTablesAlone, Grows, IsSettled, IsLimit, IsRefusal, StoresNothing, has_moment};
-ghost use Rattle.slate_script.specs.Stage.{is_built, is_built_op, is_built_batch};
+ghost use Rattle.slate_txn.specs.Stage.{is_built, is_built_op, is_built_batch};
 ghost use Rattle.slate_script.specs.Told.{Follows, IsUntrue};
 
-use crate::reply::{Answer, Refusal};
 use bytes::Bytes;
 use slate_db::engine::Core;
 use slate_mem::{WriteBatch, WriteOp};
 use slate_store::{Env, Store};
 use slate_txn::line::Line;
 use slate_txn::list::OpList;
+use slate_txn::reply::{Answer, Refusal};
 use slate_types::{
     BlockTransformer, IsolationLevel, MergeOperator, Options, ReadOptions, SlateDBError,
 };
@@ -54,7 +54,7 @@ pub struct Session {
 
 impl Model for Session {
     ghost use Rattle.std.specs.Prelude.{IsTrue};
-    ghost use Rattle.slate_script.specs.Grammar.{is_moment};
+    ghost use Rattle.slate_txn.specs.Grammar.{is_moment};
     ghost use Rattle.slate_script.specs.Session.{SessionModel, AreNames};
 
     ghost Value = { SessionModel };

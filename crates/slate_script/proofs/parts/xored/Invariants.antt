@@ -1,5 +1,5 @@
 use Rattle.std.proofs.Common.{◌≡◌, take}
-use Rattle.slate_script.specs.Parts.{xored}
+use Rattle.slate_txn.specs.Parts.{xored}
 use Rattle.slate_script.proofs.parts.xored.Given as goal
 
 abbrev pub invariant-loop-byte : goal.invariant-loop-byte

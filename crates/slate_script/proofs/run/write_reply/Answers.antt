@@ -1,7 +1,7 @@
 use Rattle.std.proofs.Common.{◌≡◌, ◌<◌, ◌++◌, ℕ, Some, take, length, ap, subst, ◌∙◌}
 use Rattle.std.proofs.lemmas.Result.{IfErr-at_err}
-use Rattle.slate_script.specs.Answers.{reply_of}
-use Rattle.slate_script.specs.Replies.{reply_line}
+use Rattle.slate_txn.specs.Answers.{reply_of}
+use Rattle.slate_txn.specs.Replies.{reply_line}
 use Rattle.slate_script.proofs.Running.{at-ok}
 use Rattle.slate_script.proofs.run.write_reply.Goals as goal
 

@@ -5,9 +5,9 @@ use Rattle.slate_db.specs.Flushed.{layout_of}
 use Rattle.slate_db.specs.Installs.{tables_of}
 use Rattle.slate_db.specs.Parts.{meaning_of, counts_of}
 use Rattle.slate_txn.specs.declared.line.Line.TheVariants as lines
-use Rattle.slate_script.specs.declared.reply.Answer.TheVariants as answers
+use Rattle.slate_txn.specs.declared.reply.Answer.TheVariants as answers
 use Rattle.slate_script.specs.Session.{SessionModel, AnswersAs, Grows, HasTablesAlone, has_moment, IsSettled}
-use Rattle.slate_script.specs.Grammar.{is_moment}
+use Rattle.slate_txn.specs.Grammar.{is_moment}
 use Rattle.slate_script.proofs.LineEnds.{keeps-settings, keeps-settled, memory-or-limit, or-limit, or-damage, limit-between, no-damage}
 use Rattle.slate_script.proofs.RunEnds.{never-less}
 use Rattle.slate_script.proofs.SessionSteps.{now-set, given-moment}

@@ -10,7 +10,7 @@ use Rattle.slate_db.specs.Flushed.{layout_of}
 use Rattle.slate_db.specs.Installs.{tables_of}
 use Rattle.slate_db.specs.Parts.{meaning_of, counts_of}
 use Rattle.slate_db.specs.Whole.{LIMIT}
-use Rattle.slate_script.specs.declared.reply.Answer.TheVariants as answers
+use Rattle.slate_txn.specs.declared.reply.Answer.TheVariants as answers
 use Rattle.slate_script.specs.Session.{SessionModel, AnswersAs, Grows, HasTablesAlone, IsLimit, IsSettled}
 use Rattle.slate_script.proofs.SessionParts.{parts-same, flush-cause, untouched, has-room}
 use Rattle.slate_script.proofs.SessionSteps.{flush-as}

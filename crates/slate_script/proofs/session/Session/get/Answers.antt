@@ -13,8 +13,8 @@ use Rattle.slate_db.specs.Installs.{tables_of}
 use Rattle.slate_db.specs.Meaning.{HasParts, rules_of}
 use Rattle.slate_db.specs.Model.{CoreModel}
 use Rattle.slate_db.specs.Parts.{meaning_of, counts_of}
-use Rattle.slate_script.specs.declared.reply.Answer.TheVariants as answers
-use Rattle.slate_script.specs.declared.reply.Refusal.TheVariants as refusals
+use Rattle.slate_txn.specs.declared.reply.Answer.TheVariants as answers
+use Rattle.slate_txn.specs.declared.reply.Refusal.TheVariants as refusals
 use Rattle.slate_script.specs.Session.{SessionModel, AreNames, AnswersAs, Grows, IsSettled, StoresNothing}
 use Rattle.slate_script.proofs.RunEnds.{never-less}
 use Rattle.slate_script.proofs.NamesLaws.{find_named-lookup}
