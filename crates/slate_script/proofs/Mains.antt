@@ -6,8 +6,8 @@ use Rattle.slate_types.specs.Outside.{Objects}
 use Rattle.slate_store.specs.Store.{IsEmpty}
 use Rattle.slate_db.specs.Meaning.{Meaning, IsLawfulMeaning}
 use Rattle.slate_db.specs.Parts.{meaning_of}
-use Rattle.slate_script.specs.declared.parts.Xor.{Xor}
-use Rattle.slate_script.specs.declared.words.Settings.{Settings}
+use Rattle.slate_txn.specs.declared.parts.Xor.{Xor}
+use Rattle.slate_txn.specs.declared.words.Settings.{Settings}
 use Rattle.slate_txn.specs.Parts.{xored}
 use Rattle.slate_script.specs.Program.{parts_of}
 use Rattle.slate_script.specs.Run.{Premises}

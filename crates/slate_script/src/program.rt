@@ -7,20 +7,20 @@ ghost use Rattle.slate_store.specs.Lines.{lines_of, script_limit};
 ghost use Rattle.slate_store.specs.Store.{IsEmpty};
 ghost use Rattle.slate_txn.specs.State.{opening};
 ghost use Rattle.slate_db.specs.Flushed.{layout_of};
-ghost use Rattle.slate_script.specs.declared.words.Settings.{Settings};
+ghost use Rattle.slate_txn.specs.declared.words.Settings.{Settings};
 ghost use Rattle.slate_script.specs.Program.{main_rules, parts_of, status, IsStatus};
 ghost use Rattle.slate_txn.specs.Replies.{after_lines, replies, replies_to, IsWellFormed};
 ghost use Rattle.slate_txn.specs.Stage.{meaning};
-ghost use Rattle.slate_script.specs.Words.{read_words};
+ghost use Rattle.slate_txn.specs.Words.{read_words};
 ghost use Rattle.slate_script.specs.Run.{script_error, lines_taken, IsOutside, IsScriptError, HasAnswered, HasAnsweredAll, HasBegun};
 ghost use Rattle.slate_script.specs.StoredState.{IsStoredState};
 ghost use Rattle.slate_script.specs.Told.{IsUntrue};
 
-use crate::operator::NoOperator;
-use crate::parts::Xor;
 use crate::run::run_script;
-use crate::words::parse_words;
 use slate_store::{Env, Sink, Source, Store};
+use slate_txn::operator::NoOperator;
+use slate_txn::parse_words;
+use slate_txn::parts::Xor;
 use slate_types::SlateDBError;
 use std::alloc::Global;
 

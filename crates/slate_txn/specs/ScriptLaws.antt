@@ -1,4 +1,4 @@
--- Laws of the grammar, of replies and of the parts that a script can name.
+-- Laws of lines, of replies, of the words of a run, and of the parts that words can name.
 use Rattle.std.specs.Prelude.{◌≡◌, ◌↔◌, ℕ, not, ◌==◌, List, [], ◌∷◌, ◌++◌, Some, IsTrue, None, Bool, false, ◌&&◌, filter, flat_map, Option}
 use Rattle.std.specs.List.{list_all}
 use Rattle.slate_types.specs.Fold.{IsLawful, KeepsShort}
@@ -11,6 +11,7 @@ use Rattle.slate_txn.specs.Parts.{concat, greater, xored}
 use Rattle.slate_txn.specs.Grammar.{IsLine}
 use Rattle.slate_txn.specs.Parse.{parse}
 use Rattle.slate_txn.specs.Stage.{IsBuiltLine, meaning}
+use Rattle.slate_txn.specs.Words.{read_words}
 use Rattle.slate_txn.specs.Replies.{replies, is_silent, meanings, reply_line, whole_replies}
 
 -- What the grammar has is read, with its meaning.
@@ -72,3 +73,7 @@ other_replies r script = flat_map reply_line (other_answers r opening (meanings 
 -- Taking the lines that freeze or flush out of a script takes out their replies, and changes no other.
 abbrev pub StoringIsSilent : Type 0
 StoringIsSilent = (r : Rules) (script : List ℕ) → whole_replies r (without_storing script) ≡ other_replies r script
+
+-- Two words side by side may change places.
+abbrev pub WordsInAnyOrder : Type 0
+WordsInAnyOrder = (before after : List (List ℕ)) (v w : List ℕ) → read_words (before ++ (v ∷ w ∷ after)) ≡ read_words (before ++ (w ∷ v ∷ after))

@@ -1,5 +1,5 @@
-//! The laws of lines, of replies and of the parts that a script can name. Each is proved of all values, and no call does anything.
-ghost use Rattle.slate_txn.specs.ScriptLaws.{ConcatIsLawful, CutsALine, EmptyIsSilent, GreaterIsLawful, HasOneMeaning, ReadsNothingElse, ReadsTheGrammar, ReadsWhatIsBuilt, StoringIsSilent, XorIsLawful};
+//! The laws of lines, of replies, of the words of a run, and of the parts that words can name. Each is proved of all values, and no call does anything.
+ghost use Rattle.slate_txn.specs.ScriptLaws.{ConcatIsLawful, CutsALine, EmptyIsSilent, GreaterIsLawful, HasOneMeaning, ReadsNothingElse, ReadsTheGrammar, ReadsWhatIsBuilt, StoringIsSilent, WordsInAnyOrder, XorIsLawful};
 
 /// What the grammar has is read, with its meaning.
 pub fn reads_the_grammar()
@@ -49,4 +49,9 @@ pub fn xor_is_lawful()
 /// Freezes and flushes change no other reply.
 pub fn storing_is_silent()
     ensures { StoringIsSilent }
+{}
+
+/// Words may come in any order.
+pub fn words_in_any_order()
+    ensures { WordsInAnyOrder }
 {}

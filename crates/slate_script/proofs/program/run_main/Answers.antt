@@ -4,7 +4,7 @@ use Rattle.slate_types.specs.declared.error.SlateDBError.TheVariants.{ReadFault,
 use Rattle.slate_script.specs.Program.{status}
 use Rattle.slate_script.specs.Run.{script_error}
 use Rattle.slate_script.proofs.Statuses.{is-status, is-ended, is-read, is-write, is-store, is-too_long, is-syntax, is-damage, is-part, damage-between, its-own}
-use Rattle.slate_script.specs.declared.words.Settings.{Settings}
+use Rattle.slate_txn.specs.declared.words.Settings.{Settings}
 use Rattle.slate_script.specs.Program.{main_rules, parts_of}
 use Rattle.slate_txn.specs.Replies.{after_lines, replies, replies_to}
 use Rattle.slate_script.specs.Run.{lines_taken, HasAnswered, HasAnsweredAll, HasBegun}

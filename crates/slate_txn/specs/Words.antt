@@ -9,7 +9,7 @@ use Rattle.slate_types.specs.declared.config.BlockFormat.{BlockFormat}
 use Rattle.slate_types.specs.declared.config.BlockFormat.TheVariants.{V1, V2, Latest}
 use Rattle.slate_types.specs.declared.config.Options.{Options}
 use Rattle.slate_types.specs.Config.{defaults}
-use Rattle.slate_script.specs.declared.words.Settings.{Settings}
+use Rattle.slate_txn.specs.declared.words.Settings.{Settings}
 use Rattle.slate_txn.specs.Parse.{only_if, ◌>>=◌, read_number}
 
 -- ---- values

@@ -5,9 +5,9 @@ ghost use Rattle.std.specs.Option.{option_copied};
 ghost use Rattle.std.specs.String.{string_bytes};
 ghost use Rattle.slate_types.specs.Config.{IsValid};
 ghost use Rattle.slate_txn.specs.Parse.{read_number};
-ghost use Rattle.slate_script.specs.Words.{behind, if_valid, is_known, only_value, options, read_below, read_format, read_words, value_of};
+ghost use Rattle.slate_txn.specs.Words.{behind, if_valid, is_known, only_value, options, read_below, read_format, read_words, value_of};
 
-use slate_txn::token::{is_word, read_number};
+use crate::token::{is_word, read_number};
 use slate_types::{BlockFormat, Options};
 
 /// What the words of a run set: its options, and the number by which stored bytes are changed, where there

@@ -7,7 +7,7 @@ use Rattle.slate_types.specs.declared.config.CompressionCodec.{CompressionCodec}
 use Rattle.slate_types.specs.declared.config.Options.{Options}
 use Rattle.slate_types.specs.Config.{IsValid}
 use Rattle.slate_txn.specs.Parse.{◌>>=◌, read_number}
-use Rattle.slate_script.specs.Words.{are_valid, at_most_one, behind, if_valid, is_known, only_value, options, read_below, read_format, read_given, read_settings, read_words, values, with_value}
+use Rattle.slate_txn.specs.Words.{are_valid, at_most_one, behind, if_valid, is_known, only_value, options, read_below, read_format, read_given, read_settings, read_words, values, with_value}
 
 no-codec : (c : Option CompressionCodec) → not (is_some c) ≡ true → c ≡ None
 no-codec None h = refl
