@@ -438,6 +438,14 @@ impl Core {
     {
         &self.journal
     }
+
+    /// Lets go of the core. For lawful parts for which what is kept of the rows holds, the rows of the tables that the
+    /// journal names are the state at the last flush.
+    pub fn close(self)
+        ensures stores { (m : Meaning) → IsLawfulMeaning m → IsKept m self → StoresState m self }
+    {
+        self.journal();
+    }
 }
 
 /// Makes room for more events beside those of the open transactions' ends. `LimitReached` where the journal has no place for them, or

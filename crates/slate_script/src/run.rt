@@ -98,7 +98,15 @@ pub fn run_script<R: Source, W: Sink, S: Store, M: MergeOperator, T: BlockTransf
     let mut lines = Lines::new(alloc);
     let mut session = Session::new(alloc, options);
     let mut number = 0;
-    while let Some(line) = lines.next(source)? {
+    loop {
+        let line = match lines.next(source) {
+            Ok(Some(line)) => line,
+            Ok(None) => break,
+            Err(error) => {
+                session.close();
+                return Err(error);
+            }
+        };
         number += 1;
         match answer_line(
             alloc,

@@ -134,7 +134,8 @@ impl Session {
     pub fn close(self)
         ensures stores { (m : Meaning) → IsLawfulMeaning m → IsKept m self.core → StoresState m self.core }
     {
-        self.core.journal();
+        let Session { core, .. } = self;
+        core.close();
     }
 
     /// Opens the name at the last commit.

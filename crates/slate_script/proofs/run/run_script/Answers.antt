@@ -1,5 +1,4 @@
 use Rattle.std.proofs.Common.{◌≤◌, ◌≡◌, ◌⊎◌, ◌<◌, ◌++◌, ◌∷◌, [], ℕ, IfSome, Some, Result, Ok, Err, take, length, ◌+◌, sym, ap, subst, ◌∙◌, arith, append_assoc, refl, inl, inr}
-use Rattle.std.proofs.lemmas.Result.{err_from_is_err_and}
 use Rattle.slate_types.specs.declared.error.SlateDBError.{SlateDBError}
 use Rattle.slate_types.specs.declared.error.SlateDBError.TheVariants.{ScriptTooLong, ReadFault, WriteFault, StoreFault, Callback, BlockTransformError}
 use Rattle.slate_txn.specs.State.{opening}
@@ -46,8 +45,8 @@ error-is-or e f run is (inr h) next = inr (next h)
 
 -- ---- the beginning
 
-pub loop-session-init : goal.loop-session-init
-loop-session-init g c = record {
+pub loop-line-init : goal.loop-line-init
+loop-line-init g c = record {
   told = λ script is.
       begin (Premises (meaning_of g.M.MergeOperator.combine g.T.BlockTransformer.encoded g.T.BlockTransformer.decoded c.args.env.now.operator c.args.env.now.transformer) (g.S.Store.objects c.args.env.now.store.now)) (run_rules c.args.options.now (meaning_of g.M.MergeOperator.combine g.T.BlockTransformer.encoded g.T.BlockTransformer.decoded c.args.env.now.operator c.args.env.now.transformer)) script (g.R.Source.left c.args.source.now) (g.W.Sink.content c.args.sink.now) c.new-lines.result c.new-session.result is c.new-lines.ensures.held c.new-lines.ensures.given c.new-session.ensures.opens;
   counted = omega arith;
@@ -69,300 +68,284 @@ loop-session-init g c = record {
 
 -- ---- at an error of the reader
 
-pub returns-in_err-line-clause-source_still : goal.returns-in_err-line-clause-source_still
-returns-in_err-line-clause-source_still g c =
-    let p = err_from_is_err_and c.from_residual.result c.from_residual.ensures.1 in
-    error-or c.in_err-line.field-0.0 ReadFault _ c.from_residual.result refl (p.1 ∙ ap Err p.2) c.in_err-line.ensures.still (λ h. h ∙ c.loop-session.invariant.source_still)
-
-pub returns-in_err-line-clause-too_long : goal.returns-in_err-line-clause-too_long
-returns-in_err-line-clause-too_long g c script is long =
-    let p = err_from_is_err_and c.from_residual.result c.from_residual.ensures.1 in
-    let kind : c.in_err-line.field-0.0 ≡ ScriptTooLong = same-error c.in_err-line.field-0.0 ScriptTooLong c.from_residual.result (p.1 ∙ ap Err p.2) long in
-    let at = c.loop-session.invariant.told script is in
-    let told = c.in_err-line.ensures.told at.left at.rest in
-    reader-full c.next.new.self told.0 (g.R.Source.left c.next.new.source) at told.2 (c.in_err-line.ensures.too_long (ap Err kind)).0 told.1
-
-pub returns-in_err-line-clause-error : goal.returns-in_err-line-clause-error
-returns-in_err-line-clause-error g c script is =
-    let p = err_from_is_err_and c.from_residual.result c.from_residual.ensures.1 in
-    let at = c.loop-session.invariant.told script is in
-    let told = c.in_err-line.ensures.told at.left at.rest in
-    rw (p.1, p.2) (reader-error c.next.new.self told.0 c.in_err-line.field-0.0 at told.2 (λ h. c.in_err-line.ensures.too_long (ap Err h)) c.in_err-line.ensures.cause)
-
-pub returns-in_err-line-clause-complete : goal.returns-in_err-line-clause-complete
-returns-in_err-line-clause-complete g c script is formed premises no-read no-write no-store no-operator no-transformer =
-    let p = err_from_is_err_and c.from_residual.result c.from_residual.ensures.1 in
-    let at = c.loop-session.invariant.told script is in
-    let told = c.in_err-line.ensures.told at.left at.rest in
-    let by = reader-error c.next.new.self told.0 c.in_err-line.field-0.0 at told.2 (λ h. c.in_err-line.ensures.too_long (ap Err h)) c.in_err-line.ensures.cause in
-    rw (p.1, p.2) (reader-complete script c.in_err-line.field-0.0 by c.in_err-line.ensures.cause formed (λ h. no-read (rose-from _ _ _ c.loop-session.invariant.source_later (c.in_err-line.ensures.read_fault (ap Err h)).0)))
-
-pub returns-in_err-line-clause-by_script : goal.returns-in_err-line-clause-by_script
-returns-in_err-line-clause-by_script g c script before is told-is premises =
-    let p = err_from_is_err_and c.from_residual.result c.from_residual.ensures.1 in
-    let at = c.loop-session.invariant.told script is in
-    let told = c.in_err-line.ensures.told at.left at.rest in
-    rw (p.1, p.2) (λ by. reader-script c.next.new.self told.0 before c.in_err-line.field-0.0 at told.2 (λ h. c.in_err-line.ensures.too_long (ap Err h)) c.in_err-line.ensures.cause premises told-is by)
-
-pub returns-in_err-line-clause-by_source : goal.returns-in_err-line-clause-by_source
-returns-in_err-line-clause-by_source g c script before is told-is premises fault =
-    let p = err_from_is_err_and c.from_residual.result c.from_residual.ensures.1 in
-    let kind : c.in_err-line.field-0.0 ≡ ReadFault = same-error c.in_err-line.field-0.0 ReadFault c.from_residual.result (p.1 ∙ ap Err p.2) fault in
-    let at = c.loop-session.invariant.told script is in
-    let told = c.in_err-line.ensures.told at.left at.rest in
-    (told.0, replies_to meaning (run_rules c.args.options.now (meaning_of g.M.MergeOperator.combine g.T.BlockTransformer.encoded g.T.BlockTransformer.decoded c.args.env.now.operator c.args.env.now.transformer)) (lines_of at.done), told.1, at.said premises before told-is, reader-source c.next.new.self told.0 at told.2 (c.in_err-line.ensures.read_fault (ap Err kind)).1)
-
-pub returns-in_err-line-clause-by_part : goal.returns-in_err-line-clause-by_part
-returns-in_err-line-clause-by_part g c script before is told-is premises =
-    let p = err_from_is_err_and c.from_residual.result c.from_residual.ensures.1 in
-    let at = c.loop-session.invariant.told script is in
-    rw (p.1, p.2) (λ which. (replies_to meaning (run_rules c.args.options.now (meaning_of g.M.MergeOperator.combine g.T.BlockTransformer.encoded g.T.BlockTransformer.decoded c.args.env.now.operator c.args.env.now.transformer)) (lines_of at.done), at.said premises before told-is, reader-memory at))
-
-pub returns-in_err-line-clause-undamaged : goal.returns-in_err-line-clause-undamaged
-returns-in_err-line-clause-undamaged g c premises =
-    let p = err_from_is_err_and c.from_residual.result c.from_residual.ensures.1 in
-    rw (p.1, p.2) (reader-undamaged c.in_err-line.field-0.0 c.in_err-line.ensures.cause)
-
-pub returns-in_err-line-clause-store_fault : goal.returns-in_err-line-clause-store_fault
-returns-in_err-line-clause-store_fault g c fault =
-    let p = err_from_is_err_and c.from_residual.result c.from_residual.ensures.1 in
-    absurd (reader-no-part c.in_err-line.field-0.0 c.in_err-line.ensures.cause (subst IsPartError (sym (same-error c.in_err-line.field-0.0 StoreFault c.from_residual.result (p.1 ∙ ap Err p.2) fault)) tt))
-
-pub returns-in_err-line-clause-operator_fault : goal.returns-in_err-line-clause-operator_fault
-returns-in_err-line-clause-operator_fault g c message fault =
-    let p = err_from_is_err_and c.from_residual.result c.from_residual.ensures.1 in
-    absurd (reader-no-part c.in_err-line.field-0.0 c.in_err-line.ensures.cause (subst IsPartError (sym (same-error c.in_err-line.field-0.0 (Callback message) c.from_residual.result (p.1 ∙ ap Err p.2) fault)) tt))
-
-pub returns-in_err-line-clause-transform_fault : goal.returns-in_err-line-clause-transform_fault
-returns-in_err-line-clause-transform_fault g c fault =
-    let p = err_from_is_err_and c.from_residual.result c.from_residual.ensures.1 in
-    absurd (reader-no-part c.in_err-line.field-0.0 c.in_err-line.ensures.cause (subst IsPartError (sym (same-error c.in_err-line.field-0.0 BlockTransformError c.from_residual.result (p.1 ∙ ap Err p.2) fault)) tt))
-
-pub returns-in_err-line-clause-kinds : goal.returns-in_err-line-clause-kinds
-returns-in_err-line-clause-kinds g c =
-    let p = err_from_is_err_and c.from_residual.result c.from_residual.ensures.1 in
-    rw (p.1, p.2) (reader-kinds c.in_err-line.field-0.0 c.in_err-line.ensures.cause)
-
-pub returns-in_err-line-clause-taken : goal.returns-in_err-line-clause-taken
-returns-in_err-line-clause-taken g c script is =
-    let at = c.loop-session.invariant.told script is in
-    let told = c.in_err-line.ensures.told at.left at.rest in
-    reader-read c.next.new.self told.0 (g.R.Source.left c.next.new.source) at told.2 c.in_err-line.ensures.within told.1
-
-pub returns-in_err-line-clause-read_fault : goal.returns-in_err-line-clause-read_fault
-returns-in_err-line-clause-read_fault g c fault =
-    let p = err_from_is_err_and c.from_residual.result c.from_residual.ensures.1 in
-    rose-from _ _ _ c.loop-session.invariant.source_later (c.in_err-line.ensures.read_fault (ap Err (same-error c.in_err-line.field-0.0 ReadFault c.from_residual.result (p.1 ∙ ap Err p.2) fault))).0
-
-pub returns-in_err-line-clause-write_fault : goal.returns-in_err-line-clause-write_fault
-returns-in_err-line-clause-write_fault g c fault =
-    let p = err_from_is_err_and c.from_residual.result c.from_residual.ensures.1 in
-    absurd (reader-not-write c.in_err-line.field-0.0 c.in_err-line.ensures.cause (same-error c.in_err-line.field-0.0 WriteFault c.from_residual.result (p.1 ∙ ap Err p.2) fault))
-
-pub returns-in_err-line-clause-by_sink : goal.returns-in_err-line-clause-by_sink
-returns-in_err-line-clause-by_sink g c script before is told premises fault =
-    let p = err_from_is_err_and c.from_residual.result c.from_residual.ensures.1 in
-    absurd (reader-not-write c.in_err-line.field-0.0 c.in_err-line.ensures.cause (same-error c.in_err-line.field-0.0 WriteFault c.from_residual.result (p.1 ∙ ap Err p.2) fault))
-
-pub returns-in_err-line-clause-untrue : goal.returns-in_err-line-clause-untrue
-returns-in_err-line-clause-untrue g c lawful =
-    let p = err_from_is_err_and c.from_residual.result c.from_residual.ensures.1 in
-    rw (p.1, p.2) (λ damage. absurd (reader-undamaged c.in_err-line.field-0.0 c.in_err-line.ensures.cause damage))
-
-pub returns-in_err-line-clause-sink_still : goal.returns-in_err-line-clause-sink_still
-returns-in_err-line-clause-sink_still g c = inr c.loop-session.invariant.sink_still
-
-pub returns-in_err-line-clause-later : goal.returns-in_err-line-clause-later
-returns-in_err-line-clause-later g c = (omega (arith, c.loop-session.invariant.source_later, c.next.ensures.later), c.loop-session.invariant.sink_later)
-
-pub returns-in_err-line-clause-parts_later : goal.returns-in_err-line-clause-parts_later
-returns-in_err-line-clause-parts_later g c = c.loop-session.invariant.parts_later
-
-pub returns-in_err-line-clause-same_store : goal.returns-in_err-line-clause-same_store
-returns-in_err-line-clause-same_store g c = c.loop-session.invariant.same_store
-
--- ---- at a line that isn't answered
-
--- no limit ended the line
-its-cause : (g : given.Over) (c : goal.After-drop-lines-inside-in-Err-2 g) → LineError (c.loop-session.number + 1) c.as_slice.result.now c.in-Err.error
-its-cause g c =
-    line-cause c.loop-session.session c.loop-session.number c.loop-session.lines.given c.in-Err.error c.loop-session.invariant.weighs c.loop-session.invariant.loads c.loop-session.invariant.counted c.loop-session.invariant.within
-    c.in-Err.ensures.cause
-
 pub returns-in-Err-clause-source_still : goal.returns-in-Err-clause-source_still
-returns-in-Err-clause-source_still g c = inr (unless-error c.in_ok-line.field-0 ReadFault c.in_ok-line.ensures.still ∙ c.loop-session.invariant.source_still)
-
-pub returns-in-Err-clause-sink_still : goal.returns-in-Err-clause-sink_still
-returns-in-Err-clause-sink_still g c =
-    error-is-or c.in-Err.error WriteFault (Err c.in-Err.error) refl c.in-Err.ensures.uncounted (λ h. h ∙ c.loop-session.invariant.sink_still)
+returns-in-Err-clause-source_still g c =
+    error-or c.in-Err.error ReadFault _ (Err c.in-Err.error) refl refl c.in-Err.ensures.still (λ h. h ∙ c.loop-line.invariant.source_still)
 
 pub returns-in-Err-clause-too_long : goal.returns-in-Err-clause-too_long
 returns-in-Err-clause-too_long g c script is long =
     let kind : c.in-Err.error ≡ ScriptTooLong = same-error c.in-Err.error ScriptTooLong (Err c.in-Err.error) refl long in
-    absurd (line-not-long (c.loop-session.number + 1) c.as_slice.result.now c.in-Err.error (its-cause g c) kind)
+    let at = c.loop-line.invariant.told script is in
+    let told = c.in-Err.ensures.told at.left at.rest in
+    reader-full c.next.new.self told.0 (g.R.Source.left c.next.new.source) at told.2 (c.in-Err.ensures.too_long (ap Err kind)).0 told.1
 
 pub returns-in-Err-clause-error : goal.returns-in-Err-clause-error
 returns-in-Err-clause-error g c script is =
-    let took = took-told (λ v. v.items) c.in_ok-line.field-0 c.in-Some.line c.as_slice.result.now (g.R.Source.left c.next.new.source) c.next.new.self c.in_ok-line.ensures.told c.in_ok-line.ensures.within c.in-Some.is c.as_slice.ensures.value (c.loop-session.invariant.told script is) in
-    (line-error c.in-Err.error took (its-cause g c))
+    let at = c.loop-line.invariant.told script is in
+    let told = c.in-Err.ensures.told at.left at.rest in
+    (reader-error c.next.new.self told.0 c.in-Err.error at told.2 (λ h. c.in-Err.ensures.too_long (ap Err h)) c.in-Err.ensures.cause)
 
 pub returns-in-Err-clause-complete : goal.returns-in-Err-clause-complete
 returns-in-Err-clause-complete g c script is formed premises no-read no-write no-store no-operator no-transformer =
-    let took = took-told (λ v. v.items) c.in_ok-line.field-0 c.in-Some.line c.as_slice.result.now (g.R.Source.left c.next.new.source) c.next.new.self c.in_ok-line.ensures.told c.in_ok-line.ensures.within c.in-Some.is c.as_slice.ensures.value (c.loop-session.invariant.told script is) in
-    let by = line-error c.in-Err.error took (its-cause g c) in
-    (only-memory c.in-Err.error (line-complete script c.as_slice.result.now (c.loop-session.number + 1) c.in-Err.error by (its-cause g c) formed (λ h. no-write (rose-from _ _ _ c.loop-session.invariant.sink_later (c.in-Err.ensures.write_fault (ap Err h)).0)))
-    (λ part. no-part (counts_of (g.S.Store.faults c.loop-session.env.store.now) g.M.MergeOperator.faults g.T.BlockTransformer.faults c.loop-session.env.operator c.loop-session.env.transformer) (counts_of (g.S.Store.faults c.answer_line.new.env.store.now) g.M.MergeOperator.faults g.T.BlockTransformer.faults c.answer_line.new.env.operator c.answer_line.new.env.transformer) c.in-Err.error (λ h. no-store (rose-from _ _ _ c.loop-session.invariant.parts_later.store h)) (λ h. no-operator (rose-from _ _ _ c.loop-session.invariant.parts_later.operator h)) (λ h. no-transformer (rose-from _ _ _ c.loop-session.invariant.parts_later.transformer h))
-    (c.in-Err.ensures.undamaged (meaning_of g.M.MergeOperator.combine g.T.BlockTransformer.encoded g.T.BlockTransformer.decoded c.args.env.now.operator c.args.env.now.transformer) (run_rules c.args.options.now (meaning_of g.M.MergeOperator.combine g.T.BlockTransformer.encoded g.T.BlockTransformer.decoded c.args.env.now.operator c.args.env.now.transformer)) (c.loop-session.invariant.running premises)) part (c.in-Err.ensures.part part)))
+    let at = c.loop-line.invariant.told script is in
+    let told = c.in-Err.ensures.told at.left at.rest in
+    let by = reader-error c.next.new.self told.0 c.in-Err.error at told.2 (λ h. c.in-Err.ensures.too_long (ap Err h)) c.in-Err.ensures.cause in
+    (reader-complete script c.in-Err.error by c.in-Err.ensures.cause formed (λ h. no-read (rose-from _ _ _ c.loop-line.invariant.source_later (c.in-Err.ensures.read_fault (ap Err h)).0)))
 
 pub returns-in-Err-clause-by_script : goal.returns-in-Err-clause-by_script
 returns-in-Err-clause-by_script g c script before is told-is premises =
-    let took = took-told (λ v. v.items) c.in_ok-line.field-0 c.in-Some.line c.as_slice.result.now (g.R.Source.left c.next.new.source) c.next.new.self c.in_ok-line.ensures.told c.in_ok-line.ensures.within c.in-Some.is c.as_slice.ensures.value (c.loop-session.invariant.told script is) in
-    (λ by. line-script (g.W.Sink.content c.answer_line.new.sink) before c.in-Err.error took (its-cause g c) c.in-Err.ensures.unanswered premises told-is by)
+    let at = c.loop-line.invariant.told script is in
+    let told = c.in-Err.ensures.told at.left at.rest in
+    (λ by. reader-script c.next.new.self told.0 before c.in-Err.error at told.2 (λ h. c.in-Err.ensures.too_long (ap Err h)) c.in-Err.ensures.cause premises told-is by)
+
+pub returns-in-Err-clause-by_source : goal.returns-in-Err-clause-by_source
+returns-in-Err-clause-by_source g c script before is told-is premises fault =
+    let kind : c.in-Err.error ≡ ReadFault = same-error c.in-Err.error ReadFault (Err c.in-Err.error) refl fault in
+    let at = c.loop-line.invariant.told script is in
+    let told = c.in-Err.ensures.told at.left at.rest in
+    (told.0, replies_to meaning (run_rules c.args.options.now (meaning_of g.M.MergeOperator.combine g.T.BlockTransformer.encoded g.T.BlockTransformer.decoded c.args.env.now.operator c.args.env.now.transformer)) (lines_of at.done), told.1, at.said premises before told-is, reader-source c.next.new.self told.0 at told.2 (c.in-Err.ensures.read_fault (ap Err kind)).1)
+
+pub returns-in-Err-clause-by_part : goal.returns-in-Err-clause-by_part
+returns-in-Err-clause-by_part g c script before is told-is premises =
+    let at = c.loop-line.invariant.told script is in
+    (λ which. (replies_to meaning (run_rules c.args.options.now (meaning_of g.M.MergeOperator.combine g.T.BlockTransformer.encoded g.T.BlockTransformer.decoded c.args.env.now.operator c.args.env.now.transformer)) (lines_of at.done), at.said premises before told-is, reader-memory at))
+
+pub returns-in-Err-clause-undamaged : goal.returns-in-Err-clause-undamaged
+returns-in-Err-clause-undamaged g c premises =
+    (reader-undamaged c.in-Err.error c.in-Err.ensures.cause)
+
+pub returns-in-Err-clause-store_fault : goal.returns-in-Err-clause-store_fault
+returns-in-Err-clause-store_fault g c fault =
+    absurd (reader-no-part c.in-Err.error c.in-Err.ensures.cause (subst IsPartError (sym (same-error c.in-Err.error StoreFault (Err c.in-Err.error) refl fault)) tt))
+
+pub returns-in-Err-clause-operator_fault : goal.returns-in-Err-clause-operator_fault
+returns-in-Err-clause-operator_fault g c message fault =
+    absurd (reader-no-part c.in-Err.error c.in-Err.ensures.cause (subst IsPartError (sym (same-error c.in-Err.error (Callback message) (Err c.in-Err.error) refl fault)) tt))
+
+pub returns-in-Err-clause-transform_fault : goal.returns-in-Err-clause-transform_fault
+returns-in-Err-clause-transform_fault g c fault =
+    absurd (reader-no-part c.in-Err.error c.in-Err.ensures.cause (subst IsPartError (sym (same-error c.in-Err.error BlockTransformError (Err c.in-Err.error) refl fault)) tt))
+
+pub returns-in-Err-clause-kinds : goal.returns-in-Err-clause-kinds
+returns-in-Err-clause-kinds g c =
+    (reader-kinds c.in-Err.error c.in-Err.ensures.cause)
+
+pub returns-in-Err-clause-taken : goal.returns-in-Err-clause-taken
+returns-in-Err-clause-taken g c script is =
+    let at = c.loop-line.invariant.told script is in
+    let told = c.in-Err.ensures.told at.left at.rest in
+    reader-read c.next.new.self told.0 (g.R.Source.left c.next.new.source) at told.2 c.in-Err.ensures.within told.1
+
+pub returns-in-Err-clause-read_fault : goal.returns-in-Err-clause-read_fault
+returns-in-Err-clause-read_fault g c fault =
+    rose-from _ _ _ c.loop-line.invariant.source_later (c.in-Err.ensures.read_fault (ap Err (same-error c.in-Err.error ReadFault (Err c.in-Err.error) refl fault))).0
+
+pub returns-in-Err-clause-write_fault : goal.returns-in-Err-clause-write_fault
+returns-in-Err-clause-write_fault g c fault =
+    absurd (reader-not-write c.in-Err.error c.in-Err.ensures.cause (same-error c.in-Err.error WriteFault (Err c.in-Err.error) refl fault))
 
 pub returns-in-Err-clause-by_sink : goal.returns-in-Err-clause-by_sink
-returns-in-Err-clause-by_sink g c script before is told-is premises fault =
-    let kind : c.in-Err.error ≡ WriteFault = same-error c.in-Err.error WriteFault (Err c.in-Err.error) refl fault in
-    let took = took-told (λ v. v.items) c.in_ok-line.field-0 c.in-Some.line c.as_slice.result.now (g.R.Source.left c.next.new.source) c.next.new.self c.in_ok-line.ensures.told c.in_ok-line.ensures.within c.in-Some.is c.as_slice.ensures.value (c.loop-session.invariant.told script is) in
+returns-in-Err-clause-by_sink g c script before is told premises fault =
+    absurd (reader-not-write c.in-Err.error c.in-Err.ensures.cause (same-error c.in-Err.error WriteFault (Err c.in-Err.error) refl fault))
+
+pub returns-in-Err-clause-untrue : goal.returns-in-Err-clause-untrue
+returns-in-Err-clause-untrue g c lawful =
+    (λ damage. absurd (reader-undamaged c.in-Err.error c.in-Err.ensures.cause damage))
+
+pub returns-in-Err-clause-sink_still : goal.returns-in-Err-clause-sink_still
+returns-in-Err-clause-sink_still g c = inr c.loop-line.invariant.sink_still
+
+pub returns-in-Err-clause-later : goal.returns-in-Err-clause-later
+returns-in-Err-clause-later g c = (omega (arith, c.loop-line.invariant.source_later, c.next.ensures.later), c.loop-line.invariant.sink_later)
+
+pub returns-in-Err-clause-parts_later : goal.returns-in-Err-clause-parts_later
+returns-in-Err-clause-parts_later g c = c.loop-line.invariant.parts_later
+
+pub returns-in-Err-clause-same_store : goal.returns-in-Err-clause-same_store
+returns-in-Err-clause-same_store g c = c.loop-line.invariant.same_store
+
+-- ---- at a line that isn't answered
+
+-- no limit ended the line
+its-cause : (g : given.Over) (c : goal.After-drop-lines-inside-in-Err-answer_line-2 g) → LineError (c.loop-line.number + 1) c.as_slice.result.now c.in-Err-answer_line.error
+its-cause g c =
+    line-cause c.loop-line.session c.loop-line.number c.loop-line.lines.given c.in-Err-answer_line.error c.loop-line.invariant.weighs c.loop-line.invariant.loads c.loop-line.invariant.counted c.loop-line.invariant.within
+    c.in-Err-answer_line.ensures.cause
+
+pub returns-in-Err-answer_line-clause-source_still : goal.returns-in-Err-answer_line-clause-source_still
+returns-in-Err-answer_line-clause-source_still g c = inr (unless-error c.in-Ok-Some.field-0 ReadFault c.in-Ok-Some.ensures.still ∙ c.loop-line.invariant.source_still)
+
+pub returns-in-Err-answer_line-clause-sink_still : goal.returns-in-Err-answer_line-clause-sink_still
+returns-in-Err-answer_line-clause-sink_still g c =
+    error-is-or c.in-Err-answer_line.error WriteFault (Err c.in-Err-answer_line.error) refl c.in-Err-answer_line.ensures.uncounted (λ h. h ∙ c.loop-line.invariant.sink_still)
+
+pub returns-in-Err-answer_line-clause-too_long : goal.returns-in-Err-answer_line-clause-too_long
+returns-in-Err-answer_line-clause-too_long g c script is long =
+    let kind : c.in-Err-answer_line.error ≡ ScriptTooLong = same-error c.in-Err-answer_line.error ScriptTooLong (Err c.in-Err-answer_line.error) refl long in
+    absurd (line-not-long (c.loop-line.number + 1) c.as_slice.result.now c.in-Err-answer_line.error (its-cause g c) kind)
+
+pub returns-in-Err-answer_line-clause-error : goal.returns-in-Err-answer_line-clause-error
+returns-in-Err-answer_line-clause-error g c script is =
+    let took = took-told (λ v. v.items) c.in-Ok-Some.field-0 c.in-Ok-Some.line c.as_slice.result.now (g.R.Source.left c.next.new.source) c.next.new.self c.in-Ok-Some.ensures.told c.in-Ok-Some.ensures.within c.in-Ok-Some.field-0-is c.as_slice.ensures.value (c.loop-line.invariant.told script is) in
+    (line-error c.in-Err-answer_line.error took (its-cause g c))
+
+pub returns-in-Err-answer_line-clause-complete : goal.returns-in-Err-answer_line-clause-complete
+returns-in-Err-answer_line-clause-complete g c script is formed premises no-read no-write no-store no-operator no-transformer =
+    let took = took-told (λ v. v.items) c.in-Ok-Some.field-0 c.in-Ok-Some.line c.as_slice.result.now (g.R.Source.left c.next.new.source) c.next.new.self c.in-Ok-Some.ensures.told c.in-Ok-Some.ensures.within c.in-Ok-Some.field-0-is c.as_slice.ensures.value (c.loop-line.invariant.told script is) in
+    let by = line-error c.in-Err-answer_line.error took (its-cause g c) in
+    (only-memory c.in-Err-answer_line.error (line-complete script c.as_slice.result.now (c.loop-line.number + 1) c.in-Err-answer_line.error by (its-cause g c) formed (λ h. no-write (rose-from _ _ _ c.loop-line.invariant.sink_later (c.in-Err-answer_line.ensures.write_fault (ap Err h)).0)))
+    (λ part. no-part (counts_of (g.S.Store.faults c.loop-line.env.store.now) g.M.MergeOperator.faults g.T.BlockTransformer.faults c.loop-line.env.operator c.loop-line.env.transformer) (counts_of (g.S.Store.faults c.answer_line.new.env.store.now) g.M.MergeOperator.faults g.T.BlockTransformer.faults c.answer_line.new.env.operator c.answer_line.new.env.transformer) c.in-Err-answer_line.error (λ h. no-store (rose-from _ _ _ c.loop-line.invariant.parts_later.store h)) (λ h. no-operator (rose-from _ _ _ c.loop-line.invariant.parts_later.operator h)) (λ h. no-transformer (rose-from _ _ _ c.loop-line.invariant.parts_later.transformer h))
+    (c.in-Err-answer_line.ensures.undamaged (meaning_of g.M.MergeOperator.combine g.T.BlockTransformer.encoded g.T.BlockTransformer.decoded c.args.env.now.operator c.args.env.now.transformer) (run_rules c.args.options.now (meaning_of g.M.MergeOperator.combine g.T.BlockTransformer.encoded g.T.BlockTransformer.decoded c.args.env.now.operator c.args.env.now.transformer)) (c.loop-line.invariant.running premises)) part (c.in-Err-answer_line.ensures.part part)))
+
+pub returns-in-Err-answer_line-clause-by_script : goal.returns-in-Err-answer_line-clause-by_script
+returns-in-Err-answer_line-clause-by_script g c script before is told-is premises =
+    let took = took-told (λ v. v.items) c.in-Ok-Some.field-0 c.in-Ok-Some.line c.as_slice.result.now (g.R.Source.left c.next.new.source) c.next.new.self c.in-Ok-Some.ensures.told c.in-Ok-Some.ensures.within c.in-Ok-Some.field-0-is c.as_slice.ensures.value (c.loop-line.invariant.told script is) in
+    (λ by. line-script (g.W.Sink.content c.answer_line.new.sink) before c.in-Err-answer_line.error took (its-cause g c) c.in-Err-answer_line.ensures.unanswered premises told-is by)
+
+pub returns-in-Err-answer_line-clause-by_sink : goal.returns-in-Err-answer_line-clause-by_sink
+returns-in-Err-answer_line-clause-by_sink g c script before is told-is premises fault =
+    let kind : c.in-Err-answer_line.error ≡ WriteFault = same-error c.in-Err-answer_line.error WriteFault (Err c.in-Err-answer_line.error) refl fault in
+    let took = took-told (λ v. v.items) c.in-Ok-Some.field-0 c.in-Ok-Some.line c.as_slice.result.now (g.R.Source.left c.next.new.source) c.next.new.self c.in-Ok-Some.ensures.told c.in-Ok-Some.ensures.within c.in-Ok-Some.field-0-is c.as_slice.ensures.value (c.loop-line.invariant.told script is) in
     let done = replies_to meaning (run_rules c.args.options.now (meaning_of g.M.MergeOperator.combine g.T.BlockTransformer.encoded g.T.BlockTransformer.decoded c.args.env.now.operator c.args.env.now.transformer)) (lines_of took.done) in
     let state = after_lines meaning (run_rules c.args.options.now (meaning_of g.M.MergeOperator.combine g.T.BlockTransformer.encoded g.T.BlockTransformer.decoded c.args.env.now.operator c.args.env.now.transformer)) opening (lines_of took.done) in
     let reply = replies_from meaning (run_rules c.args.options.now (meaning_of g.M.MergeOperator.combine g.T.BlockTransformer.encoded g.T.BlockTransformer.decoded c.args.env.now.operator c.args.env.now.transformer)) state (c.as_slice.result.now ∷ []) in
     let begun : (n : ℕ) × (n < length reply) × (g.W.Sink.content c.answer_line.new.sink ≡ Some ((before ++ done) ++ take n reply)) =
-    c.in-Err.ensures.begun (meaning_of g.M.MergeOperator.combine g.T.BlockTransformer.encoded g.T.BlockTransformer.decoded c.args.env.now.operator c.args.env.now.transformer) (run_rules c.args.options.now (meaning_of g.M.MergeOperator.combine g.T.BlockTransformer.encoded g.T.BlockTransformer.decoded c.args.env.now.operator c.args.env.now.transformer)) (c.loop-session.invariant.running premises) state (before ++ done) (took.session premises) (took.said premises before told-is) (ap Err kind) in
-    (done ++ take begun.0 reply, begun.2 ∙ ap Some (append_assoc before done (take begun.0 reply)), line-sink begun.0 took (c.in-Err.ensures.write_fault (ap Err kind)).1 begun.1)
+    c.in-Err-answer_line.ensures.begun (meaning_of g.M.MergeOperator.combine g.T.BlockTransformer.encoded g.T.BlockTransformer.decoded c.args.env.now.operator c.args.env.now.transformer) (run_rules c.args.options.now (meaning_of g.M.MergeOperator.combine g.T.BlockTransformer.encoded g.T.BlockTransformer.decoded c.args.env.now.operator c.args.env.now.transformer)) (c.loop-line.invariant.running premises) state (before ++ done) (took.session premises) (took.said premises before told-is) (ap Err kind) in
+    (done ++ take begun.0 reply, begun.2 ∙ ap Some (append_assoc before done (take begun.0 reply)), line-sink begun.0 took (c.in-Err-answer_line.ensures.write_fault (ap Err kind)).1 begun.1)
 
-pub returns-in-Err-clause-by_part : goal.returns-in-Err-clause-by_part
-returns-in-Err-clause-by_part g c script before is told-is premises =
-    let took = took-told (λ v. v.items) c.in_ok-line.field-0 c.in-Some.line c.as_slice.result.now (g.R.Source.left c.next.new.source) c.next.new.self c.in_ok-line.ensures.told c.in_ok-line.ensures.within c.in-Some.is c.as_slice.ensures.value (c.loop-session.invariant.told script is) in
+pub returns-in-Err-answer_line-clause-by_part : goal.returns-in-Err-answer_line-clause-by_part
+returns-in-Err-answer_line-clause-by_part g c script before is told-is premises =
+    let took = took-told (λ v. v.items) c.in-Ok-Some.field-0 c.in-Ok-Some.line c.as_slice.result.now (g.R.Source.left c.next.new.source) c.next.new.self c.in-Ok-Some.ensures.told c.in-Ok-Some.ensures.within c.in-Ok-Some.field-0-is c.as_slice.ensures.value (c.loop-line.invariant.told script is) in
     (λ which. (
       replies_to meaning (run_rules c.args.options.now (meaning_of g.M.MergeOperator.combine g.T.BlockTransformer.encoded g.T.BlockTransformer.decoded c.args.env.now.operator c.args.env.now.transformer)) (lines_of took.done),
-      untouched c.in-Err.error (g.W.Sink.content c.loop-session.sink) (g.W.Sink.content c.answer_line.new.sink) c.in-Err.ensures.unanswered which ∙ took.said premises before told-is,
+      untouched c.in-Err-answer_line.error (g.W.Sink.content c.loop-line.sink) (g.W.Sink.content c.answer_line.new.sink) c.in-Err-answer_line.ensures.unanswered which ∙ took.said premises before told-is,
       line-memory took,
     ))
 
-pub returns-in-Err-clause-undamaged : goal.returns-in-Err-clause-undamaged
-returns-in-Err-clause-undamaged g c premises =
-    (c.in-Err.ensures.undamaged (meaning_of g.M.MergeOperator.combine g.T.BlockTransformer.encoded g.T.BlockTransformer.decoded c.args.env.now.operator c.args.env.now.transformer) (run_rules c.args.options.now (meaning_of g.M.MergeOperator.combine g.T.BlockTransformer.encoded g.T.BlockTransformer.decoded c.args.env.now.operator c.args.env.now.transformer)) (c.loop-session.invariant.running premises))
+pub returns-in-Err-answer_line-clause-undamaged : goal.returns-in-Err-answer_line-clause-undamaged
+returns-in-Err-answer_line-clause-undamaged g c premises =
+    (c.in-Err-answer_line.ensures.undamaged (meaning_of g.M.MergeOperator.combine g.T.BlockTransformer.encoded g.T.BlockTransformer.decoded c.args.env.now.operator c.args.env.now.transformer) (run_rules c.args.options.now (meaning_of g.M.MergeOperator.combine g.T.BlockTransformer.encoded g.T.BlockTransformer.decoded c.args.env.now.operator c.args.env.now.transformer)) (c.loop-line.invariant.running premises))
 
-pub returns-in-Err-clause-store_fault : goal.returns-in-Err-clause-store_fault
-returns-in-Err-clause-store_fault g c fault =
-    let kind : c.in-Err.error ≡ StoreFault = same-error c.in-Err.error StoreFault (Err c.in-Err.error) refl fault in
-    rose-from _ _ _ c.loop-session.invariant.parts_later.store (store-rose (counts_of (g.S.Store.faults c.loop-session.env.store.now) g.M.MergeOperator.faults g.T.BlockTransformer.faults c.loop-session.env.operator c.loop-session.env.transformer) (counts_of (g.S.Store.faults c.answer_line.new.env.store.now) g.M.MergeOperator.faults g.T.BlockTransformer.faults c.answer_line.new.env.operator c.answer_line.new.env.transformer) c.in-Err.error kind (c.in-Err.ensures.part (subst IsPartError (sym kind) tt)))
+pub returns-in-Err-answer_line-clause-store_fault : goal.returns-in-Err-answer_line-clause-store_fault
+returns-in-Err-answer_line-clause-store_fault g c fault =
+    let kind : c.in-Err-answer_line.error ≡ StoreFault = same-error c.in-Err-answer_line.error StoreFault (Err c.in-Err-answer_line.error) refl fault in
+    rose-from _ _ _ c.loop-line.invariant.parts_later.store (store-rose (counts_of (g.S.Store.faults c.loop-line.env.store.now) g.M.MergeOperator.faults g.T.BlockTransformer.faults c.loop-line.env.operator c.loop-line.env.transformer) (counts_of (g.S.Store.faults c.answer_line.new.env.store.now) g.M.MergeOperator.faults g.T.BlockTransformer.faults c.answer_line.new.env.operator c.answer_line.new.env.transformer) c.in-Err-answer_line.error kind (c.in-Err-answer_line.ensures.part (subst IsPartError (sym kind) tt)))
 
-pub returns-in-Err-clause-operator_fault : goal.returns-in-Err-clause-operator_fault
-returns-in-Err-clause-operator_fault g c message fault =
-    let kind : c.in-Err.error ≡ (Callback message) = same-error c.in-Err.error (Callback message) (Err c.in-Err.error) refl fault in
-    rose-from _ _ _ c.loop-session.invariant.parts_later.operator (operator-rose (counts_of (g.S.Store.faults c.loop-session.env.store.now) g.M.MergeOperator.faults g.T.BlockTransformer.faults c.loop-session.env.operator c.loop-session.env.transformer) (counts_of (g.S.Store.faults c.answer_line.new.env.store.now) g.M.MergeOperator.faults g.T.BlockTransformer.faults c.answer_line.new.env.operator c.answer_line.new.env.transformer) c.in-Err.error message kind (c.in-Err.ensures.part (subst IsPartError (sym kind) tt)))
+pub returns-in-Err-answer_line-clause-operator_fault : goal.returns-in-Err-answer_line-clause-operator_fault
+returns-in-Err-answer_line-clause-operator_fault g c message fault =
+    let kind : c.in-Err-answer_line.error ≡ (Callback message) = same-error c.in-Err-answer_line.error (Callback message) (Err c.in-Err-answer_line.error) refl fault in
+    rose-from _ _ _ c.loop-line.invariant.parts_later.operator (operator-rose (counts_of (g.S.Store.faults c.loop-line.env.store.now) g.M.MergeOperator.faults g.T.BlockTransformer.faults c.loop-line.env.operator c.loop-line.env.transformer) (counts_of (g.S.Store.faults c.answer_line.new.env.store.now) g.M.MergeOperator.faults g.T.BlockTransformer.faults c.answer_line.new.env.operator c.answer_line.new.env.transformer) c.in-Err-answer_line.error message kind (c.in-Err-answer_line.ensures.part (subst IsPartError (sym kind) tt)))
 
-pub returns-in-Err-clause-transform_fault : goal.returns-in-Err-clause-transform_fault
-returns-in-Err-clause-transform_fault g c fault =
-    let kind : c.in-Err.error ≡ BlockTransformError = same-error c.in-Err.error BlockTransformError (Err c.in-Err.error) refl fault in
-    rose-from _ _ _ c.loop-session.invariant.parts_later.transformer (transformer-rose (counts_of (g.S.Store.faults c.loop-session.env.store.now) g.M.MergeOperator.faults g.T.BlockTransformer.faults c.loop-session.env.operator c.loop-session.env.transformer) (counts_of (g.S.Store.faults c.answer_line.new.env.store.now) g.M.MergeOperator.faults g.T.BlockTransformer.faults c.answer_line.new.env.operator c.answer_line.new.env.transformer) c.in-Err.error kind (c.in-Err.ensures.part (subst IsPartError (sym kind) tt)))
+pub returns-in-Err-answer_line-clause-transform_fault : goal.returns-in-Err-answer_line-clause-transform_fault
+returns-in-Err-answer_line-clause-transform_fault g c fault =
+    let kind : c.in-Err-answer_line.error ≡ BlockTransformError = same-error c.in-Err-answer_line.error BlockTransformError (Err c.in-Err-answer_line.error) refl fault in
+    rose-from _ _ _ c.loop-line.invariant.parts_later.transformer (transformer-rose (counts_of (g.S.Store.faults c.loop-line.env.store.now) g.M.MergeOperator.faults g.T.BlockTransformer.faults c.loop-line.env.operator c.loop-line.env.transformer) (counts_of (g.S.Store.faults c.answer_line.new.env.store.now) g.M.MergeOperator.faults g.T.BlockTransformer.faults c.answer_line.new.env.operator c.answer_line.new.env.transformer) c.in-Err-answer_line.error kind (c.in-Err-answer_line.ensures.part (subst IsPartError (sym kind) tt)))
 
-pub returns-in-Err-clause-parts_later : goal.returns-in-Err-clause-parts_later
-returns-in-Err-clause-parts_later g c = later-on c.loop-session.invariant.parts_later c.answer_line.ensures.parts_later
+pub returns-in-Err-answer_line-clause-parts_later : goal.returns-in-Err-answer_line-clause-parts_later
+returns-in-Err-answer_line-clause-parts_later g c = later-on c.loop-line.invariant.parts_later c.answer_line.ensures.parts_later
 
-pub returns-in-Err-clause-kinds : goal.returns-in-Err-clause-kinds
-returns-in-Err-clause-kinds g c =
-    (line-kinds (c.loop-session.number + 1) c.as_slice.result.now c.in-Err.error (its-cause g c))
+pub returns-in-Err-answer_line-clause-kinds : goal.returns-in-Err-answer_line-clause-kinds
+returns-in-Err-answer_line-clause-kinds g c =
+    (line-kinds (c.loop-line.number + 1) c.as_slice.result.now c.in-Err-answer_line.error (its-cause g c))
 
-pub returns-in-Err-clause-taken : goal.returns-in-Err-clause-taken
-returns-in-Err-clause-taken g c script is =
-    let took = took-told (λ v. v.items) c.in_ok-line.field-0 c.in-Some.line c.as_slice.result.now (g.R.Source.left c.next.new.source) c.next.new.self c.in_ok-line.ensures.told c.in_ok-line.ensures.within c.in-Some.is c.as_slice.ensures.value (c.loop-session.invariant.told script is) in
-    line-read took c.in_ok-line.ensures.within
+pub returns-in-Err-answer_line-clause-taken : goal.returns-in-Err-answer_line-clause-taken
+returns-in-Err-answer_line-clause-taken g c script is =
+    let took = took-told (λ v. v.items) c.in-Ok-Some.field-0 c.in-Ok-Some.line c.as_slice.result.now (g.R.Source.left c.next.new.source) c.next.new.self c.in-Ok-Some.ensures.told c.in-Ok-Some.ensures.within c.in-Ok-Some.field-0-is c.as_slice.ensures.value (c.loop-line.invariant.told script is) in
+    line-read took c.in-Ok-Some.ensures.within
 
-pub returns-in-Err-clause-untrue : goal.returns-in-Err-clause-untrue
-returns-in-Err-clause-untrue g c lawful =
-    (λ damage. untrue-on (meaning_of g.M.MergeOperator.combine g.T.BlockTransformer.encoded g.T.BlockTransformer.decoded c.args.env.now.operator c.args.env.now.transformer) c.loop-session.session (g.S.Store.acts c.args.env.now.store.now) (g.S.Store.acts c.loop-session.env.store.now) (g.S.Store.acts c.answer_line.new.env.store.now) (c.loop-session.invariant.followed lawful)
-    (subst (λ (m : Meaning). (os : Objects) → IsSettled m (Some os) c.loop-session.session → IsUntrue os (g.S.Store.acts c.loop-session.env.store.now) (g.S.Store.acts c.answer_line.new.env.store.now)) c.loop-session.invariant.meaning (λ os settled. c.in-Err.ensures.untrue os settled damage)))
+pub returns-in-Err-answer_line-clause-untrue : goal.returns-in-Err-answer_line-clause-untrue
+returns-in-Err-answer_line-clause-untrue g c lawful =
+    (λ damage. untrue-on (meaning_of g.M.MergeOperator.combine g.T.BlockTransformer.encoded g.T.BlockTransformer.decoded c.args.env.now.operator c.args.env.now.transformer) c.loop-line.session (g.S.Store.acts c.args.env.now.store.now) (g.S.Store.acts c.loop-line.env.store.now) (g.S.Store.acts c.answer_line.new.env.store.now) (c.loop-line.invariant.followed lawful)
+    (subst (λ (m : Meaning). (os : Objects) → IsSettled m (Some os) c.loop-line.session → IsUntrue os (g.S.Store.acts c.loop-line.env.store.now) (g.S.Store.acts c.answer_line.new.env.store.now)) c.loop-line.invariant.meaning (λ os settled. c.in-Err-answer_line.ensures.untrue os settled damage)))
 
-pub returns-in-Err-clause-read_fault : goal.returns-in-Err-clause-read_fault
-returns-in-Err-clause-read_fault g c fault = absurd (line-not-read (c.loop-session.number + 1) c.as_slice.result.now c.in-Err.error (its-cause g c) (same-error c.in-Err.error ReadFault (Err c.in-Err.error) refl fault))
+pub returns-in-Err-answer_line-clause-read_fault : goal.returns-in-Err-answer_line-clause-read_fault
+returns-in-Err-answer_line-clause-read_fault g c fault = absurd (line-not-read (c.loop-line.number + 1) c.as_slice.result.now c.in-Err-answer_line.error (its-cause g c) (same-error c.in-Err-answer_line.error ReadFault (Err c.in-Err-answer_line.error) refl fault))
 
-pub returns-in-Err-clause-by_source : goal.returns-in-Err-clause-by_source
-returns-in-Err-clause-by_source g c script before is told premises fault = absurd (line-not-read (c.loop-session.number + 1) c.as_slice.result.now c.in-Err.error (its-cause g c) (same-error c.in-Err.error ReadFault (Err c.in-Err.error) refl fault))
+pub returns-in-Err-answer_line-clause-by_source : goal.returns-in-Err-answer_line-clause-by_source
+returns-in-Err-answer_line-clause-by_source g c script before is told premises fault = absurd (line-not-read (c.loop-line.number + 1) c.as_slice.result.now c.in-Err-answer_line.error (its-cause g c) (same-error c.in-Err-answer_line.error ReadFault (Err c.in-Err-answer_line.error) refl fault))
 
-pub returns-in-Err-clause-write_fault : goal.returns-in-Err-clause-write_fault
-returns-in-Err-clause-write_fault g c fault = rose-from _ _ _ c.loop-session.invariant.sink_later (c.in-Err.ensures.write_fault (ap Err (same-error c.in-Err.error WriteFault (Err c.in-Err.error) refl fault))).0
+pub returns-in-Err-answer_line-clause-write_fault : goal.returns-in-Err-answer_line-clause-write_fault
+returns-in-Err-answer_line-clause-write_fault g c fault = rose-from _ _ _ c.loop-line.invariant.sink_later (c.in-Err-answer_line.ensures.write_fault (ap Err (same-error c.in-Err-answer_line.error WriteFault (Err c.in-Err-answer_line.error) refl fault))).0
 
-pub returns-in-Err-clause-later : goal.returns-in-Err-clause-later
-returns-in-Err-clause-later g c = (omega (arith, c.loop-session.invariant.source_later, c.next.ensures.later), omega (arith, c.loop-session.invariant.sink_later, c.answer_line.ensures.later))
+pub returns-in-Err-answer_line-clause-later : goal.returns-in-Err-answer_line-clause-later
+returns-in-Err-answer_line-clause-later g c = (omega (arith, c.loop-line.invariant.source_later, c.next.ensures.later), omega (arith, c.loop-line.invariant.sink_later, c.answer_line.ensures.later))
 
-pub returns-in-Err-clause-same_store : goal.returns-in-Err-clause-same_store
-returns-in-Err-clause-same_store g c = c.answer_line.ensures.same_store ∙ c.loop-session.invariant.same_store
+pub returns-in-Err-answer_line-clause-same_store : goal.returns-in-Err-answer_line-clause-same_store
+returns-in-Err-answer_line-clause-same_store g c = c.answer_line.ensures.same_store ∙ c.loop-line.invariant.same_store
 
 -- ---- the next turn
 
-pub loop-session-preserved : goal.loop-session-preserved
-loop-session-preserved g c = record {
+pub loop-line-preserved : goal.loop-line-preserved
+loop-line-preserved g c = record {
   told = λ script is.
-      answer-it (Premises (meaning_of g.M.MergeOperator.combine g.T.BlockTransformer.encoded g.T.BlockTransformer.decoded c.args.env.now.operator c.args.env.now.transformer) (g.S.Store.objects c.args.env.now.store.now)) (run_rules c.args.options.now (meaning_of g.M.MergeOperator.combine g.T.BlockTransformer.encoded g.T.BlockTransformer.decoded c.args.env.now.operator c.args.env.now.transformer)) script c.as_slice.result.now (g.R.Source.left c.next.new.source) (g.W.Sink.content c.args.sink.now) (g.W.Sink.content c.loop-session.sink) (g.W.Sink.content c.answer_line.new.sink)
-      c.next.new.self (c.loop-session.number + 1) c.loop-session.session c.answer_line.new.session
-      (took-told (λ v. v.items) c.in_ok-line.field-0 c.in-Some.line c.as_slice.result.now (g.R.Source.left c.next.new.source) c.next.new.self c.in_ok-line.ensures.told c.in_ok-line.ensures.within c.in-Some.is c.as_slice.ensures.value (c.loop-session.invariant.told script is))
+      answer-it (Premises (meaning_of g.M.MergeOperator.combine g.T.BlockTransformer.encoded g.T.BlockTransformer.decoded c.args.env.now.operator c.args.env.now.transformer) (g.S.Store.objects c.args.env.now.store.now)) (run_rules c.args.options.now (meaning_of g.M.MergeOperator.combine g.T.BlockTransformer.encoded g.T.BlockTransformer.decoded c.args.env.now.operator c.args.env.now.transformer)) script c.as_slice.result.now (g.R.Source.left c.next.new.source) (g.W.Sink.content c.args.sink.now) (g.W.Sink.content c.loop-line.sink) (g.W.Sink.content c.answer_line.new.sink)
+      c.next.new.self (c.loop-line.number + 1) c.loop-line.session c.answer_line.new.session
+      (took-told (λ v. v.items) c.in-Ok-Some.field-0 c.in-Ok-Some.line c.as_slice.result.now (g.R.Source.left c.next.new.source) c.next.new.self c.in-Ok-Some.ensures.told c.in-Ok-Some.ensures.within c.in-Ok-Some.field-0-is c.as_slice.ensures.value (c.loop-line.invariant.told script is))
       c.in-Ok.ensures.meant
-      (λ premises. c.in-Ok.ensures.stands (meaning_of g.M.MergeOperator.combine g.T.BlockTransformer.encoded g.T.BlockTransformer.decoded c.args.env.now.operator c.args.env.now.transformer) (run_rules c.args.options.now (meaning_of g.M.MergeOperator.combine g.T.BlockTransformer.encoded g.T.BlockTransformer.decoded c.args.env.now.operator c.args.env.now.transformer)) (c.loop-session.invariant.running premises))
-      (λ premises. c.in-Ok.ensures.answered (meaning_of g.M.MergeOperator.combine g.T.BlockTransformer.encoded g.T.BlockTransformer.decoded c.args.env.now.operator c.args.env.now.transformer) (run_rules c.args.options.now (meaning_of g.M.MergeOperator.combine g.T.BlockTransformer.encoded g.T.BlockTransformer.decoded c.args.env.now.operator c.args.env.now.transformer)) (c.loop-session.invariant.running premises));
+      (λ premises. c.in-Ok.ensures.stands (meaning_of g.M.MergeOperator.combine g.T.BlockTransformer.encoded g.T.BlockTransformer.decoded c.args.env.now.operator c.args.env.now.transformer) (run_rules c.args.options.now (meaning_of g.M.MergeOperator.combine g.T.BlockTransformer.encoded g.T.BlockTransformer.decoded c.args.env.now.operator c.args.env.now.transformer)) (c.loop-line.invariant.running premises))
+      (λ premises. c.in-Ok.ensures.answered (meaning_of g.M.MergeOperator.combine g.T.BlockTransformer.encoded g.T.BlockTransformer.decoded c.args.env.now.operator c.args.env.now.transformer) (run_rules c.args.options.now (meaning_of g.M.MergeOperator.combine g.T.BlockTransformer.encoded g.T.BlockTransformer.decoded c.args.env.now.operator c.args.env.now.transformer)) (c.loop-line.invariant.running premises));
   counted =
-      let further : c.loop-session.lines.given < c.next.new.self.given = subst (λ o. IfSome o (λ _. c.loop-session.lines.given < c.next.new.self.given)) c.in-Some.is c.in_ok-line.ensures.further in
-      omega (arith, c.loop-session.invariant.counted);
-  within = omega (arith, c.in_ok-line.ensures.within);
-  weighs = omega (arith, c.in-Ok.ensures.grows.0, c.loop-session.invariant.weighs);
+      let further : c.loop-line.lines.given < c.next.new.self.given = subst (λ o. IfSome o (λ _. c.loop-line.lines.given < c.next.new.self.given)) c.in-Ok-Some.field-0-is c.in-Ok-Some.ensures.further in
+      omega (arith, c.loop-line.invariant.counted);
+  within = omega (arith, c.in-Ok-Some.ensures.within);
+  weighs = omega (arith, c.in-Ok.ensures.grows.0, c.loop-line.invariant.weighs);
   loads =
-      let taken : c.loop-session.lines.given + length c.in-Some.line.items ≤ c.next.new.self.given = subst (λ o. IfSome o (λ l. c.loop-session.lines.given + length l.items ≤ c.next.new.self.given)) c.in-Some.is c.in_ok-line.ensures.counted in
-      let line : length c.as_slice.result.now ≡ length c.in-Some.line.items = ap length c.as_slice.ensures.value in
-      omega (arith, c.in-Ok.ensures.grows.1, c.loop-session.invariant.loads, taken, line);
-  running = λ premises. c.in-Ok.ensures.running (meaning_of g.M.MergeOperator.combine g.T.BlockTransformer.encoded g.T.BlockTransformer.decoded c.args.env.now.operator c.args.env.now.transformer) (run_rules c.args.options.now (meaning_of g.M.MergeOperator.combine g.T.BlockTransformer.encoded g.T.BlockTransformer.decoded c.args.env.now.operator c.args.env.now.transformer)) (c.loop-session.invariant.running premises);
-  alone = λ premises. c.in-Ok.ensures.alone (meaning_of g.M.MergeOperator.combine g.T.BlockTransformer.encoded g.T.BlockTransformer.decoded c.args.env.now.operator c.args.env.now.transformer) (run_rules c.args.options.now (meaning_of g.M.MergeOperator.combine g.T.BlockTransformer.encoded g.T.BlockTransformer.decoded c.args.env.now.operator c.args.env.now.transformer)) (c.loop-session.invariant.running premises) (c.loop-session.invariant.alone premises);
-  meaning = c.in-Ok.ensures.meaning ∙ c.loop-session.invariant.meaning;
-  followed = λ lawful. follows-on (meaning_of g.M.MergeOperator.combine g.T.BlockTransformer.encoded g.T.BlockTransformer.decoded c.args.env.now.operator c.args.env.now.transformer) c.loop-session.session c.answer_line.new.session (g.S.Store.acts c.args.env.now.store.now) (g.S.Store.acts c.loop-session.env.store.now) (g.S.Store.acts c.answer_line.new.env.store.now) (c.loop-session.invariant.followed lawful)
-      (subst (λ (m : Meaning). (os : Objects) → IsSettled m (Some os) c.loop-session.session → Follows m os c.answer_line.new.session (g.S.Store.acts c.loop-session.env.store.now) (g.S.Store.acts c.answer_line.new.env.store.now)) c.loop-session.invariant.meaning c.in-Ok.ensures.follows);
+      let taken : c.loop-line.lines.given + length c.in-Ok-Some.line.items ≤ c.next.new.self.given = subst (λ o. IfSome o (λ l. c.loop-line.lines.given + length l.items ≤ c.next.new.self.given)) c.in-Ok-Some.field-0-is c.in-Ok-Some.ensures.counted in
+      let line : length c.as_slice.result.now ≡ length c.in-Ok-Some.line.items = ap length c.as_slice.ensures.value in
+      omega (arith, c.in-Ok.ensures.grows.1, c.loop-line.invariant.loads, taken, line);
+  running = λ premises. c.in-Ok.ensures.running (meaning_of g.M.MergeOperator.combine g.T.BlockTransformer.encoded g.T.BlockTransformer.decoded c.args.env.now.operator c.args.env.now.transformer) (run_rules c.args.options.now (meaning_of g.M.MergeOperator.combine g.T.BlockTransformer.encoded g.T.BlockTransformer.decoded c.args.env.now.operator c.args.env.now.transformer)) (c.loop-line.invariant.running premises);
+  alone = λ premises. c.in-Ok.ensures.alone (meaning_of g.M.MergeOperator.combine g.T.BlockTransformer.encoded g.T.BlockTransformer.decoded c.args.env.now.operator c.args.env.now.transformer) (run_rules c.args.options.now (meaning_of g.M.MergeOperator.combine g.T.BlockTransformer.encoded g.T.BlockTransformer.decoded c.args.env.now.operator c.args.env.now.transformer)) (c.loop-line.invariant.running premises) (c.loop-line.invariant.alone premises);
+  meaning = c.in-Ok.ensures.meaning ∙ c.loop-line.invariant.meaning;
+  followed = λ lawful. follows-on (meaning_of g.M.MergeOperator.combine g.T.BlockTransformer.encoded g.T.BlockTransformer.decoded c.args.env.now.operator c.args.env.now.transformer) c.loop-line.session c.answer_line.new.session (g.S.Store.acts c.args.env.now.store.now) (g.S.Store.acts c.loop-line.env.store.now) (g.S.Store.acts c.answer_line.new.env.store.now) (c.loop-line.invariant.followed lawful)
+      (subst (λ (m : Meaning). (os : Objects) → IsSettled m (Some os) c.loop-line.session → Follows m os c.answer_line.new.session (g.S.Store.acts c.loop-line.env.store.now) (g.S.Store.acts c.answer_line.new.env.store.now)) c.loop-line.invariant.meaning c.in-Ok.ensures.follows);
   source_later = omega (arith, c.next.ensures.later);
   sink_later = omega (arith, c.answer_line.ensures.later);
-  source_still = unless-error c.in_ok-line.field-0 ReadFault c.in_ok-line.ensures.still ∙ c.loop-session.invariant.source_still;
-  sink_still = c.in-Ok.ensures.still ∙ c.loop-session.invariant.sink_still;
-  same_store = c.answer_line.ensures.same_store ∙ c.loop-session.invariant.same_store;
-  parts_later = later-on c.loop-session.invariant.parts_later c.answer_line.ensures.parts_later;
+  source_still = unless-error c.in-Ok-Some.field-0 ReadFault c.in-Ok-Some.ensures.still ∙ c.loop-line.invariant.source_still;
+  sink_still = c.in-Ok.ensures.still ∙ c.loop-line.invariant.sink_still;
+  same_store = c.answer_line.ensures.same_store ∙ c.loop-line.invariant.same_store;
+  parts_later = later-on c.loop-line.invariant.parts_later c.answer_line.ensures.parts_later;
 }
 
 -- ---- the end
 
 pub returns-clause-answered : goal.returns-clause-answered
 returns-clause-answered g c script before is told premises =
-    let at = c.loop-session.invariant.told script is in
-    let end = end-told (λ v. v.items) c.in_ok-line.field-0 (g.R.Source.left c.next.new.source) c.next.new.self c.in_ok-line.ensures.told c.in_default.is at in
+    let at = c.loop-line.invariant.told script is in
+    let end = end-told (λ v. v.items) c.in-Ok-None.field-0 (g.R.Source.left c.next.new.source) c.next.new.self c.in-Ok-None.ensures.told c.in-Ok-None.field-0-is at in
     end-answered c.next.new.self end.0 before at end.2 premises told
 
 pub returns-clause-stored : goal.returns-clause-stored
 returns-clause-stored g c script is premises =
     let m = meaning_of g.M.MergeOperator.combine g.T.BlockTransformer.encoded g.T.BlockTransformer.decoded c.args.env.now.operator c.args.env.now.transformer in
     let r = run_rules c.args.options.now m in
-    let at = c.loop-session.invariant.told script is in
-    let end = end-told (λ v. v.items) c.in_ok-line.field-0 (g.R.Source.left c.next.new.source) c.next.new.self c.in_ok-line.ensures.told c.in_default.is at in
-    let running = c.loop-session.invariant.running premises in
-    stored-state m r (layout_of c.args.options.now) (g.S.Store.objects c.loop-session.env.store.now) c.loop-session.session (after_lines meaning r opening (lines_of script)) running.rules
+    let at = c.loop-line.invariant.told script is in
+    let end = end-told (λ v. v.items) c.in-Ok-None.field-0 (g.R.Source.left c.next.new.source) c.next.new.self c.in-Ok-None.ensures.told c.in-Ok-None.field-0-is at in
+    let running = c.loop-line.invariant.running premises in
+    stored-state m r (layout_of c.args.options.now) (g.S.Store.objects c.loop-line.env.store.now) c.loop-line.session (after_lines meaning r opening (lines_of script)) running.rules
     (c.close-2.ensures.stores m running.settled.lawful running.settled.kept)
-    (subst (λ bs. StandsFor c.loop-session.session (after_lines meaning r opening (lines_of bs))) (sym (end-there c.next.new.self end.0 at end.2).0) (at.session premises))
-    (c.loop-session.invariant.alone premises)
+    (subst (λ bs. StandsFor c.loop-line.session (after_lines meaning r opening (lines_of bs))) (sym (end-there c.next.new.self end.0 at end.2).0) (at.session premises))
+    (c.loop-line.invariant.alone premises)
 
 pub returns-clause-read : goal.returns-clause-read
 returns-clause-read g c script is =
-    let at = c.loop-session.invariant.told script is in
-    let end = end-told (λ v. v.items) c.in_ok-line.field-0 (g.R.Source.left c.next.new.source) c.next.new.self c.in_ok-line.ensures.told c.in_default.is at in
+    let at = c.loop-line.invariant.told script is in
+    let end = end-told (λ v. v.items) c.in-Ok-None.field-0 (g.R.Source.left c.next.new.source) c.next.new.self c.in-Ok-None.ensures.told c.in-Ok-None.field-0-is at in
     (end-formed c.next.new.self end.0 at end.2, end.1 ∙ ap Some (end-there c.next.new.self end.0 at end.2).2)
 
 pub returns-clause-no_error : goal.returns-clause-no_error
 returns-clause-no_error g c script is =
-    let at = c.loop-session.invariant.told script is in
-    let end = end-told (λ v. v.items) c.in_ok-line.field-0 (g.R.Source.left c.next.new.source) c.next.new.self c.in_ok-line.ensures.told c.in_default.is at in
+    let at = c.loop-line.invariant.told script is in
+    let end = end-told (λ v. v.items) c.in-Ok-None.field-0 (g.R.Source.left c.next.new.source) c.next.new.self c.in-Ok-None.ensures.told c.in-Ok-None.field-0-is at in
     end-no_error c.next.new.self end.0 at end.2
 
 pub returns-clause-taken : goal.returns-clause-taken
 returns-clause-taken g c script is =
-    let at = c.loop-session.invariant.told script is in
-    let end = end-told (λ v. v.items) c.in_ok-line.field-0 (g.R.Source.left c.next.new.source) c.next.new.self c.in_ok-line.ensures.told c.in_default.is at in
-    end-read c.next.new.self end.0 (g.R.Source.left c.next.new.source) at end.2 c.in_ok-line.ensures.within end.1
+    let at = c.loop-line.invariant.told script is in
+    let end = end-told (λ v. v.items) c.in-Ok-None.field-0 (g.R.Source.left c.next.new.source) c.next.new.self c.in-Ok-None.ensures.told c.in-Ok-None.field-0-is at in
+    end-read c.next.new.self end.0 (g.R.Source.left c.next.new.source) at end.2 c.in-Ok-None.ensures.within end.1
 
 pub returns-clause-source_still : goal.returns-clause-source_still
-returns-clause-source_still g c = inr (unless-error c.in_ok-line.field-0 ReadFault c.in_ok-line.ensures.still ∙ c.loop-session.invariant.source_still)
+returns-clause-source_still g c = inr (unless-error c.in-Ok-None.field-0 ReadFault c.in-Ok-None.ensures.still ∙ c.loop-line.invariant.source_still)
 
 pub returns-clause-read_fault : goal.returns-clause-read_fault
 returns-clause-read_fault g c fault = absurd (is-no-error fault)
@@ -389,13 +372,13 @@ pub returns-clause-by_sink : goal.returns-clause-by_sink
 returns-clause-by_sink g c script before is told premises fault = absurd (is-no-error fault)
 
 pub returns-clause-sink_still : goal.returns-clause-sink_still
-returns-clause-sink_still g c = inr c.loop-session.invariant.sink_still
+returns-clause-sink_still g c = inr c.loop-line.invariant.sink_still
 
 pub returns-clause-later : goal.returns-clause-later
-returns-clause-later g c = (omega (arith, c.loop-session.invariant.source_later, c.next.ensures.later), c.loop-session.invariant.sink_later)
+returns-clause-later g c = (omega (arith, c.loop-line.invariant.source_later, c.next.ensures.later), c.loop-line.invariant.sink_later)
 
 pub returns-clause-parts_later : goal.returns-clause-parts_later
-returns-clause-parts_later g c = c.loop-session.invariant.parts_later
+returns-clause-parts_later g c = c.loop-line.invariant.parts_later
 
 pub returns-clause-same_store : goal.returns-clause-same_store
-returns-clause-same_store g c = c.loop-session.invariant.same_store
+returns-clause-same_store g c = c.loop-line.invariant.same_store

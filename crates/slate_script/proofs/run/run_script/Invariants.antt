@@ -12,8 +12,8 @@ use Rattle.slate_script.specs.Told.{Follows}
 use Rattle.slate_script.proofs.Taken.{IsAt}
 use Rattle.slate_script.proofs.run.run_script.Given as goal
 
-abbrev pub invariant-loop-session : goal.invariant-loop-session
-invariant-loop-session g l = record {
+abbrev pub invariant-loop-line : goal.invariant-loop-line
+invariant-loop-line g l = record {
   told : (script : List ℕ) → g.R.Source.left l.initial.source ≡ Some script
       → IsAt (Premises (meaning_of g.M.MergeOperator.combine g.T.BlockTransformer.encoded g.T.BlockTransformer.decoded l.initial.env.operator l.initial.env.transformer) (g.S.Store.objects l.initial.env.store.now))
       (run_rules l.options (meaning_of g.M.MergeOperator.combine g.T.BlockTransformer.encoded g.T.BlockTransformer.decoded l.initial.env.operator l.initial.env.transformer))
@@ -40,5 +40,5 @@ invariant-loop-session g l = record {
       (counts_of (g.S.Store.faults l.env.store.now) g.M.MergeOperator.faults g.T.BlockTransformer.faults l.env.operator l.env.transformer);
 }
 
-abbrev pub decreases-loop-session : goal.decreases-loop-session
-decreases-loop-session g l = script_limit - l.lines.given
+abbrev pub decreases-loop-line : goal.decreases-loop-line
+decreases-loop-line g l = script_limit - l.lines.given

@@ -8,5 +8,5 @@ pub returns : goal.returns
 returns c = record {
   stores = λ m lawful kept.
       subst (λ (v : SessionModel). StoresState m v.core) c.self.view_is
-      (c.journal.ensures.stored m lawful (subst (λ (v : SessionModel). IsKept m v.core) (sym c.self.view_is) kept));
+      (c.close.ensures.stores m lawful (subst (λ (v : SessionModel). IsKept m v.core) (sym c.self.view_is) kept));
 }
