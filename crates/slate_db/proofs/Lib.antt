@@ -23,7 +23,6 @@ mod Installs
 mod Seen
 mod Newest
 mod Walks
-mod Folding
 mod Bases
 mod Rises
 mod Gets

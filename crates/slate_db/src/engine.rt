@@ -28,7 +28,8 @@ ghost use Rattle.slate_db.specs.Frozen.{IsFrozen};
 ghost use Rattle.slate_db.specs.Flushed.{IsFlushed, MayFlush, TooLarge, events_of_flush, layout_of};
 ghost use Rattle.slate_db.specs.Load.{load, ops_load};
 ghost use Rattle.slate_db.specs.Installs.{HoldsTables, Replays, tables_of};
-ghost use Rattle.slate_db.specs.Lookup.{IsCallback, IsDamage, IsOperatorFault, newest_first};
+ghost use Rattle.slate_mem.specs.Lookup.{IsCallback, newest_first};
+ghost use Rattle.slate_db.specs.Lookup.{IsDamage, IsOperatorFault};
 ghost use Rattle.slate_db.specs.Model.{CoreModel, IsSame, Rows, at};
 ghost use Rattle.slate_db.specs.Sound.{AreTables, IsKept, FoldsToState};
 ghost use Rattle.slate_db.specs.StoredState.{StoresState};
@@ -36,14 +37,15 @@ ghost use Rattle.slate_db.specs.Whole.{LIMIT, AreFine};
 ghost use Rattle.slate_db.specs.Written.{IsWritten};
 
 use crate::flush::stored;
-use crate::fold::{answer, fold_found};
-use crate::lookup::newest_of_memory;
 use crate::open::{Open, barrier, begin_of, note_get};
 use crate::stored::newest_of_tables;
 use bytes::Bytes;
+use slate_mem::fold::answer;
+use slate_mem::lookup::newest_of_memory;
 use slate_mem::{ImmutableMemtable, MemTable, WriteBatch};
 use slate_store::{Env, Store};
 use slate_table::SsTableHandle;
+use slate_txn::fold::fold_found;
 use slate_txn::{Event, Journal, OpList};
 use slate_types::{
     BlockTransformer, IsolationLevel, KeyValue, MergeOperator, Options, ReadOptions, RowEntry,

@@ -3,15 +3,12 @@ use Rattle.std.proofs.Common.{◌≡◌, ℕ, Bool, true, false, ◌||◌, List,
 use Rattle.std.specs.List.{list_any}
 use Rattle.std.proofs.lemmas.List.{reverse-append}
 use Rattle.slate_types.specs.declared.types.RowEntry.{RowEntry}
-use Rattle.slate_types.specs.declared.types.ValueDeletable.{ValueDeletable}
-use Rattle.slate_types.specs.declared.types.ValueDeletable.TheVariants.{Value, Merge, Tombstone}
-use Rattle.slate_types.specs.Rows.{is_operand, hide_tombstone}
+use Rattle.slate_types.specs.Rows.{is_operand}
 use Rattle.slate_types.specs.Fold.{Combine, IsLawful, KeepsShort, fold_rows}
 use Rattle.slate_types.specs.Join.{AreOf, join}
 use Rattle.slate_types.proofs.FoldLaws.{hides-older, fold-join, AreOf-join}
-use Rattle.slate_db.specs.Model.{Rows}
 
-abbrev pub first_of : Rows → Option RowEntry
+abbrev pub first_of : List RowEntry → Option RowEntry
 first_of [] = None
 first_of (r ∷ rs) = Some r
 
@@ -24,36 +21,25 @@ first_is true b h = cc
 first_is false b h = refl
 
 -- where none is an operand, the newest row stands for all
-pub first_folds : (c : Combine) (rows : Rows) (o : Option RowEntry) → o ≡ first_of rows → list_any is_operand rows ≡ false → o ≡ fold_rows c (reverse rows)
+pub first_folds : (c : Combine) (rows : List RowEntry) (o : Option RowEntry) → o ≡ first_of rows → list_any is_operand rows ≡ false → o ≡ fold_rows c (reverse rows)
 first_folds c [] o is none = is
 first_folds c (r ∷ rs) o is none =
     is ∙ sym (ap (fold_rows c) (reverse-append (r ∷ []) rs) ∙ hides-older c (reverse rs) [] r (base_of (is_operand r) (first_is (is_operand r) (list_any is_operand rs) none)))
 
-pub hidden : (r : RowEntry) → r.value ≡ Tombstone → hide_tombstone r.value r ≡ None
-hidden r h = ap (λ v. hide_tombstone v r) h
-
-pub shown_row : (r : RowEntry) → (r.value ≡ Tombstone → ⊥) → hide_tombstone r.value r ≡ Some r
-shown_row r h = by r.value h
-  where
-    by : (v : ValueDeletable) → (v ≡ Tombstone → ⊥) → hide_tombstone v r ≡ Some r
-    by (Value v) h = refl
-    by (Merge v) h = refl
-    by Tombstone h = absurd (h refl)
-
 -- the two oldest rows are joined
-pub record Joined (combine : List ℕ → Combine) (k : List ℕ) (row : RowEntry) (rs all : Rows) : Type 0 where
+pub record Joined (combine : List ℕ → Combine) (k : List ℕ) (row : RowEntry) (rs all : List RowEntry) : Type 0 where
   pub are : AreOf k (row ∷ rs)
   pub fold : fold_rows (combine k) (row ∷ rs) ≡ fold_rows (combine k) all
 
-pub joined : (combine now : List ℕ → Combine) (k : List ℕ) (a b row : RowEntry) (rows rs : Rows) → IsLawful (combine k) → KeepsShort (combine k) → now ≡ combine → reverse rows ≡ b ∷ reverse rs → row ≡ join (now a.key) a b → AreOf k (a ∷ reverse rows) →
+pub joined : (combine now : List ℕ → Combine) (k : List ℕ) (a b row : RowEntry) (rows rs : List RowEntry) → IsLawful (combine k) → KeepsShort (combine k) → now ≡ combine → reverse rows ≡ b ∷ reverse rs → row ≡ join (now a.key) a b → AreOf k (a ∷ reverse rows) →
     Joined combine k row (reverse rs) (a ∷ reverse rows)
 joined combine now k a b row rows rs law keeps same split is h =
-    let are : AreOf k (a ∷ b ∷ reverse rs) = subst (λ (xs : Rows). AreOf k (a ∷ xs)) split h in
+    let are : AreOf k (a ∷ b ∷ reverse rs) = subst (λ (xs : List RowEntry). AreOf k (a ∷ xs)) split h in
     let made : row ≡ join (combine k) a b = is ∙ (λ i. join (same i (are.0.0 i)) a b) in
     record {
       are = subst (λ (r : RowEntry). AreOf k (r ∷ reverse rs)) (sym made) (AreOf-join k (combine k) law keeps a b (reverse rs) are);
       fold = ap (λ r. fold_rows (combine k) (r ∷ reverse rs)) made ∙ fold-join k (combine k) law keeps a b (reverse rs) are ∙ ap (λ xs. fold_rows (combine k) (a ∷ xs)) (sym split);
     }
 
-pub last_first : (rows new : Rows) (b : RowEntry) → rows ≡ new ++ (b ∷ []) → reverse rows ≡ b ∷ reverse new
+pub last_first : (rows new : List RowEntry) (b : RowEntry) → rows ≡ new ++ (b ∷ []) → reverse rows ≡ b ∷ reverse new
 last_first rows new b h = ap reverse h ∙ reverse-append new (b ∷ [])

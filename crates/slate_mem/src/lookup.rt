@@ -1,16 +1,16 @@
 //! The rows of a key, newest first, to the first that decides.
-ghost use Rattle.std.specs.Prelude.{◌≡◌, ◌⊎◌, ◌++◌, map, None, IfOk, IfErr, IsOkUnless};
+ghost use Rattle.std.specs.Prelude.{◌≡◌, ◌⊎◌, List, ◌++◌, map, None, IfOk, IfErr, IsOkUnless};
 ghost use Rattle.slate_types.specs.declared.error.SlateDBError.{SlateDBError};
 ghost use Rattle.slate_types.specs.declared.iter.IterationOrder.{IterationOrder};
+ghost use Rattle.slate_types.specs.declared.types.RowEntry.{RowEntry};
 ghost use Rattle.slate_types.specs.Iteration.{NoneBefore};
 ghost use Rattle.slate_types.specs.Outside.{nothing};
 ghost use Rattle.slate_types.specs.Rows.{is_operand};
 ghost use Rattle.slate_mem.specs.Table.{newest};
-ghost use Rattle.slate_db.specs.Lookup.{is_decided, newest_first};
-ghost use Rattle.slate_db.specs.Model.{Rows};
+ghost use Rattle.slate_mem.specs.Lookup.{is_decided, newest_first};
 
+use crate::{ImmutableMemtable, MemTable};
 use bytes::Bytes;
-use slate_mem::{ImmutableMemtable, MemTable};
 use slate_types::{RowEntry, RowEntryIterator, SlateDBError, ValueDeletable};
 use std::alloc::Global;
 
@@ -40,7 +40,7 @@ pub fn newest_of_frozen(
     key: &Bytes,
     max_seq: u64,
 ) -> Result<Vec<RowEntry>, SlateDBError>
-    ensures found { IfOk result (λ all. (above : Rows) → newer.items ≡ newest key.now max_seq above → all.items ≡ newest key.now max_seq (above ++ newest_first (map (λ t. t.rows) frozen.now))) }
+    ensures found { IfOk result (λ all. (above : List RowEntry) → newer.items ≡ newest key.now max_seq above → all.items ≡ newest key.now max_seq (above ++ newest_first (map (λ t. t.rows) frozen.now))) }
     ensures cause { IsOkUnless result SlateDBError.OutOfMemory }
 {
     let mut found = newer;

@@ -1,8 +1,8 @@
 use Rattle.std.proofs.Common.{◌≡◌, ◌∷◌, ◌++◌, [], ◌∙◌, ℕ, List, rules, reverse, arith}
 use Rattle.slate_types.specs.Fold.{IsLawful, KeepsShort}
 use Rattle.slate_types.specs.Join.{AreOf}
-use Rattle.slate_db.proofs.Folding.{Joined, joined, last_first}
-use Rattle.slate_db.proofs.fold.join_all.Goals as goal
+use Rattle.slate_mem.proofs.FoldingLaws.{Joined, joined, last_first}
+use Rattle.slate_mem.proofs.fold.join_all.Goals as goal
 
 pub loop-newer-preserved : goal.loop-newer-preserved
 loop-newer-preserved g c =

@@ -5,7 +5,7 @@ use Rattle.slate_types.specs.Iteration.{NoneBefore}
 use Rattle.slate_types.specs.Outside.{nothing}
 use Rattle.std.specs.Prelude.{None}
 use Rattle.slate_mem.specs.Table.{newest}
-use Rattle.slate_db.proofs.lookup.newest_of_walk.Given as goal
+use Rattle.slate_mem.proofs.lookup.newest_of_walk.Given as goal
 
 abbrev pub invariant-loop-found : goal.invariant-loop-found
 invariant-loop-found g l = record {

@@ -1,30 +1,17 @@
 //! The row that rows of a key fold to.
-ghost use Rattle.std.specs.Prelude.{◌≡◌, ◌⊎◌, ◌≤◌, ℕ, List, None, true, false, max, reverse, option_map, option_and_then, IfOk, IfErr, OnOk};
+ghost use Rattle.std.specs.Prelude.{◌≡◌, ◌⊎◌, ◌≤◌, ℕ, List, false, max, reverse, option_map, option_and_then, IfOk, IfErr};
 ghost use Rattle.slate_types.specs.declared.error.SlateDBError.{SlateDBError};
 ghost use Rattle.slate_types.specs.declared.types.ValueDeletable.{ValueDeletable};
-ghost use Rattle.slate_types.specs.Faults.{faults_of, Rose};
 ghost use Rattle.slate_types.specs.Fold.{Combine, IsLawful, KeepsShort, fold_rows};
 ghost use Rattle.slate_types.specs.Join.{AreOf, join, join_value};
-ghost use Rattle.slate_types.specs.Rows.{earliest, hide_tombstone, is_operand, key_value, latest};
-ghost use Rattle.slate_store.specs.Env.{combine_of};
-ghost use Rattle.slate_txn.specs.State.{operator_at};
-ghost use Rattle.slate_db.specs.Lookup.{is_merge_among, IsCallback};
+ghost use Rattle.slate_types.specs.Rows.{earliest, hide_tombstone, key_value, latest};
+ghost use Rattle.slate_mem.specs.Lookup.{is_merge_among, IsCallback};
 
 use crate::lookup::is_merge;
+use crate::metadata::later;
 use bytes::Bytes;
 use slate_types::{KeyValue, MergeOperator, RowEntry, SlateDBError, ValueDeletable};
 use std::alloc::Global;
-
-/// The later of two stamps, where there are any.
-fn latest(a: Option<i64>, b: Option<i64>) -> Option<i64>
-    ensures { result ≡ latest a b }
-{
-    match (a, b) {
-        (Some(a), Some(b)) => Some(a.max(b)),
-        (Some(a), None) => Some(a),
-        (None, b) => b,
-    }
-}
 
 /// The earlier of two stamps, where there are any.
 fn earliest(a: Option<i64>, b: Option<i64>) -> Option<i64>
@@ -88,7 +75,7 @@ fn joined(older: RowEntry, newer: RowEntry, value: ValueDeletable) -> RowEntry
     ensures { result ≡ record { key = older.key; value = value; seq = max older.seq newer.seq; create_ts = latest older.create_ts newer.create_ts; expire_ts = earliest older.expire_ts newer.expire_ts } }
 {
     let seq = older.seq.max(newer.seq);
-    let create_ts = latest(older.create_ts, newer.create_ts);
+    let create_ts = later(older.create_ts, newer.create_ts);
     let expire_ts = earliest(older.expire_ts, newer.expire_ts);
     drop(newer);
     drop(older.value);
@@ -102,7 +89,7 @@ fn joined(older: RowEntry, newer: RowEntry, value: ValueDeletable) -> RowEntry
 }
 
 /// The row that rows of a key, newest first, fold to by an operator.
-fn join_all<M: MergeOperator>(
+pub fn join_all<M: MergeOperator>(
     alloc: Global,
     found: Vec<RowEntry>,
     operator: &mut M,
@@ -123,38 +110,17 @@ fn join_all<M: MergeOperator>(
 }
 
 /// Whether one of the rows is an operand.
-fn has_merge(rows: &[RowEntry]) -> bool
+pub fn has_merge(rows: &[RowEntry]) -> bool
     ensures { result ≡ is_merge_among rows.now }
 {
     rows.iter().any(is_merge)
 }
 
 /// The first row, where none is an operand.
-fn first(rows: Vec<RowEntry>) -> Option<RowEntry>
+pub fn first(rows: Vec<RowEntry>) -> Option<RowEntry>
     ensures { is_merge_among rows.items ≡ false → (c : Combine) → result ≡ fold_rows c (reverse rows.items) }
 {
     rows.into_iter().next()
-}
-
-/// The row that rows of a key, newest first, fold to. `MergeOperatorMissing` exactly where one of them is an operand and there is
-/// no operator; `Callback` only where the operator's count of faults rose; or `OutOfMemory`.
-pub fn fold_found<M: MergeOperator>(
-    alloc: Global,
-    rows: Vec<RowEntry>,
-    operator: &mut Option<M>,
-) -> Result<Option<RowEntry>, SlateDBError>
-    ensures row { (k : List ℕ) → IsLawful (operator_at (combine_of M.combine operator.old) k) → KeepsShort (operator_at (combine_of M.combine operator.old) k) → AreOf k (reverse rows.items) → IfOk result (λ row. row ≡ fold_rows (operator_at (combine_of M.combine operator.old) k) (reverse rows.items)) }
-    ensures same { combine_of M.combine operator.new ≡ combine_of M.combine operator.old }
-    ensures later { faults_of M.faults operator.old ≤ faults_of M.faults operator.new }
-    ensures cause { IfErr result (λ e. (e ≡ SlateDBError.OutOfMemory) ⊎ ((e ≡ SlateDBError.MergeOperatorMissing) × (combine_of M.combine operator.old ≡ None) × (is_merge_among rows.items ≡ true)) ⊎ IsCallback (faults_of M.faults operator.old) (faults_of M.faults operator.new) e) }
-{
-    if !has_merge(&rows) {
-        return Ok(first(rows));
-    }
-    match operator {
-        Some(operator) => join_all(alloc, rows, operator),
-        None => Err(SlateDBError::MergeOperatorMissing),
-    }
 }
 
 /// What a reader gets of a row.

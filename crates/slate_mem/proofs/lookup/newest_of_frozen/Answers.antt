@@ -1,9 +1,9 @@
 use Rattle.std.proofs.Common.{◌≡◌, ◌+◌, ◌-◌, ◌∷◌, ◌++◌, false, drop, map, rules, ap, ◌∙◌, arith}
 use Rattle.slate_mem.specs.Table.{newest}
-use Rattle.slate_db.specs.Lookup.{is_decided, newest_first}
-use Rattle.slate_db.proofs.Newest.{layer_step, layers_decide, layers_end, mapped_here}
-use Rattle.slate_db.proofs.lookup.newest_of_frozen.Goals as goal
-use Rattle.slate_db.proofs.lookup.newest_of_frozen.Goals.{then-loop-i-test+else-not-is_decided, else-loop-i-test}
+use Rattle.slate_mem.specs.Lookup.{is_decided, newest_first}
+use Rattle.slate_mem.proofs.LayerLaws.{layer_step, layers_decide, layers_end, mapped_here}
+use Rattle.slate_mem.proofs.lookup.newest_of_frozen.Goals as goal
+use Rattle.slate_mem.proofs.lookup.newest_of_frozen.Goals.{then-loop-i-test+else-not-is_decided, else-loop-i-test}
 
 pub loop-i-preserved : goal.loop-i-preserved
 loop-i-preserved c =

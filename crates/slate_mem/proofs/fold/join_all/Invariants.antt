@@ -1,7 +1,7 @@
 use Rattle.std.proofs.Common.{◌≡◌, ◌≤◌, ◌∷◌, ℕ, List, length, reverse}
 use Rattle.slate_types.specs.Fold.{IsLawful, KeepsShort, fold_rows}
 use Rattle.slate_types.specs.Join.{AreOf}
-use Rattle.slate_db.proofs.fold.join_all.Given as goal
+use Rattle.slate_mem.proofs.fold.join_all.Given as goal
 
 abbrev pub invariant-loop-newer : goal.invariant-loop-newer
 invariant-loop-newer g l = record {

@@ -4,8 +4,8 @@ use Rattle.slate_types.specs.declared.iter.IterationOrder.TheVariants.{Ascending
 use Rattle.slate_types.specs.Iteration.{IsInOrder, NoneBefore}
 use Rattle.slate_types.specs.Outside.{nothing}
 use Rattle.slate_types.specs.Rows.{is_base}
-use Rattle.slate_db.proofs.Walks.{takes, ends_walk, walks_on}
-use Rattle.slate_db.proofs.lookup.newest_of_walk.Goals as goal
+use Rattle.slate_mem.proofs.WalkLaws.{takes, ends_walk, walks_on}
+use Rattle.slate_mem.proofs.lookup.newest_of_walk.Goals as goal
 
 pub returns-then-ne-clause-found : goal.returns-then-ne-clause-found
 returns-then-ne-clause-found g c s o n =
