@@ -1,5 +1,4 @@
 mod Lists
-mod Names
 mod Begins
 mod Journals
 mod IdLaws

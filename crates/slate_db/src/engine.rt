@@ -37,7 +37,6 @@ ghost use Rattle.slate_db.specs.Whole.{LIMIT, AreFine};
 ghost use Rattle.slate_db.specs.Written.{IsWritten};
 
 use crate::flush::stored;
-use crate::open::{Open, barrier, begin_of, note_get};
 use crate::stored::newest_of_tables;
 use bytes::Bytes;
 use slate_mem::fold::answer;
@@ -46,6 +45,7 @@ use slate_mem::{ImmutableMemtable, MemTable, WriteBatch};
 use slate_store::{Env, Store};
 use slate_table::SsTableHandle;
 use slate_txn::fold::fold_found;
+use slate_txn::open::{Open, barrier, begin_of, close, note_get, open_at};
 use slate_txn::{Event, Journal, OpList};
 use slate_types::{
     BlockTransformer, IsolationLevel, KeyValue, MergeOperator, Options, ReadOptions, RowEntry,
@@ -142,12 +142,9 @@ impl Core {
             });
         }
         let id = Uuid::from_u128((self.ids + 1) as u128);
-        let none = self
-            .open
-            .insert(id, Open::new(self.alloc, level, self.last))?;
-        drop(none);
+        open_at(self.alloc, &mut self.open, id, level, self.last)?;
         if let Err(error) = self.journal.reserve(self.open.len() + 1) {
-            drop(self.open.remove(&id));
+            close(&mut self.open, &id);
             return Err(SlateDBError::from(error));
         }
         self.ids += 1;
@@ -166,7 +163,7 @@ impl Core {
         ensures event { self.new ≡ record self.old { state = self.new.state; events = self.old.events ++ events.End id.now ∷ []; spare = self.new.spare } }
         ensures kept { (m : Meaning) → IsKept m self.old → IsKept m self.new }
     {
-        drop(self.open.remove(id));
+        close(&mut self.open, id);
         self.journal.push_reserved(Event::End { id: *id });
     }
 

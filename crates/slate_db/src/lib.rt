@@ -8,6 +8,5 @@
 pub mod engine;
 pub mod flush;
 pub mod gather;
-pub mod open;
 pub mod stored;
 pub mod vectors;

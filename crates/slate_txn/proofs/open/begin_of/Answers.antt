@@ -1,8 +1,8 @@
 use Rattle.std.proofs.Common.{◌≡◌, Option, [], Some, option_map, refl, ap, subst, ◌∙◌}
 use Rattle.std.specs.Prelude.{IfSome}
 use Rattle.slate_txn.specs.State.{Tx}
-use Rattle.slate_db.proofs.Names.{find_is}
-use Rattle.slate_db.proofs.open.begin_of.Goals as goal
+use Rattle.slate_txn.proofs.NamedLaws.{find_is}
+use Rattle.slate_txn.proofs.open.begin_of.Goals as goal
 
 pub returns-in-Some-clause-begin : goal.returns-in-Some-clause-begin
 returns-in-Some-clause-begin c =

@@ -4,9 +4,9 @@ use Rattle.std.specs.BTreeMap.{BTreeMap, is_at}
 use Rattle.slate_types.specs.Keys.{key_cmp}
 use Rattle.slate_txn.specs.declared.event.TranscriptStep.TheVariants as steps
 use Rattle.slate_txn.specs.State.{Tx}
-use Rattle.slate_db.proofs.Names.{find_is, update_is, update_none, on_ok, on_err}
+use Rattle.slate_txn.proofs.NamedLaws.{find_is, update_is, update_none, on_ok, on_err}
 use Rattle.std.proofs.lemmas.Map.Steps.{set_value_same}
-use Rattle.slate_db.proofs.open.note_get.Goals as goal
+use Rattle.slate_txn.proofs.open.note_get.Goals as goal
 
 pub returns-in-Some-clause-ok : goal.returns-in-Some-clause-ok
 returns-in-Some-clause-ok c =

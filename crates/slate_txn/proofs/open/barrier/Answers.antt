@@ -1,7 +1,7 @@
 use Rattle.std.proofs.Common.{◌∙◌, ap}
 use Rattle.slate_txn.specs.State.{Tx}
-use Rattle.slate_db.proofs.Begins.{least_first}
-use Rattle.slate_db.proofs.open.barrier.Goals as goal
+use Rattle.slate_txn.proofs.BeginLaws.{least_first}
+use Rattle.slate_txn.proofs.open.barrier.Goals as goal
 
 pub returns-in-Some : goal.returns-in-Some
 returns-in-Some c =

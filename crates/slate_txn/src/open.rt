@@ -1,15 +1,17 @@
 //! Open transactions.
-ghost use Rattle.std.specs.Prelude.{◌≡◌, ◌≤◌, ◌++◌, ◌∷◌, [], IfSome, option_map, OnOk, OnErr};
+ghost use Rattle.std.specs.Prelude.{◌≡◌, ◌≤◌, ◌++◌, ◌∷◌, [], IfSome, option_map, OnOk, OnErr, IsOkUnless};
+ghost use Rattle.std.specs.BTreeMap.{insert_entry};
 ghost use Rattle.std.specs.List.{AllByRecursion};
+ghost use Rattle.slate_types.specs.declared.error.SlateDBError.{SlateDBError};
+ghost use Rattle.slate_types.specs.Keys.{key_cmp};
 ghost use Rattle.slate_txn.specs.declared.event.TranscriptStep.TheVariants as steps;
-ghost use Rattle.slate_txn.specs.Named.{find_named, update_named};
+ghost use Rattle.slate_txn.specs.Named.{find_named, update_named, without};
 ghost use Rattle.slate_txn.specs.State.{begun};
-ghost use Rattle.slate_db.specs.Flushed.{least_begin};
-ghost use Rattle.slate_db.specs.Whole.{BeginsRise};
+ghost use Rattle.slate_txn.specs.Open.{BeginsRise, least_begin};
 
+use crate::{Transcript, TranscriptStep};
 use bytes::Bytes;
-use slate_txn::{Transcript, TranscriptStep};
-use slate_types::{IsolationLevel, KeyValue};
+use slate_types::{IsolationLevel, KeyValue, SlateDBError};
 use std::alloc::{AllocError, Global};
 use std::collections::BTreeMap;
 use std::marker::Model;
@@ -44,6 +46,30 @@ impl Open {
             transcript: Transcript::new(alloc),
         }
     }
+}
+
+/// Opens a transaction under an id, at a sequence. Where memory is wanting nothing is opened.
+pub fn open_at(
+    alloc: Global,
+    items: &mut BTreeMap<Uuid, Open>,
+    id: Uuid,
+    level: IsolationLevel,
+    begin: u64,
+) -> Result<(), SlateDBError>
+    ensures ok { OnOk result (items.new.entries ≡ insert_entry key_cmp items.old.entries id (begun level begin)) }
+    ensures err { OnErr result (items.new.entries ≡ items.old.entries) }
+    ensures cause { IsOkUnless result SlateDBError.OutOfMemory }
+{
+    let none = items.insert(id, Open::new(alloc, level, begin))?;
+    drop(none);
+    Ok(())
+}
+
+/// Takes out the open transaction with this id.
+pub fn close(items: &mut BTreeMap<Uuid, Open>, id: &Uuid)
+    ensures { items.new.entries ≡ without id.now items.old.entries }
+{
+    drop(items.remove(id));
 }
 
 /// The least begin, or the newest sequence. Begins rise with ids, so it is that of the first.
