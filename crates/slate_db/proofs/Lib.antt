@@ -17,7 +17,6 @@ mod MemoryRows
 mod FlushRows
 mod Built
 mod Flushes
-mod Sorting
 mod Installs
 mod Seen
 mod Newest

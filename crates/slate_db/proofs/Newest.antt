@@ -40,6 +40,14 @@ versions_are k n (x ∷ layers) =
     ∙ ap (λ ys. ys ++ at_most n (versions_in k layers)) (sym (turned_filter (λ r. nat_le r.seq n) (of_key k x)))
     ∙ sym (filter-append (λ r. nat_le r.seq n) (versions k x) (versions_in k layers))
 
+pub all_versions_are : (k : List ℕ) (layers : List Rows) → versions k (newest_first layers) ≡ versions_in k layers
+all_versions_are k [] = refl
+all_versions_are k (x ∷ layers) =
+    ap (versions k) (first_more x layers)
+    ∙ ap reverse (filter-append (λ r. bytes_eq r.key k) (newest_first layers) x)
+    ∙ reverse-append (of_key k (newest_first layers)) (of_key k x)
+    ∙ ap (λ xs. versions k x ++ xs) (all_versions_are k layers)
+
 pub folds_as_all : (c : Combine) (k : List ℕ) (n : ℕ) (layers : List Rows) → fold_rows c (reverse (newest k n (newest_first layers))) ≡ fold_rows c (at_most n (versions_in k layers))
 folds_as_all c k n layers = newest-folds c k n [] (newest_first layers) ∙ ap (fold_rows c) (versions_are k n layers)
 

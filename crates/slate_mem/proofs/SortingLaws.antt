@@ -12,7 +12,7 @@ use Rattle.slate_types.specs.declared.iter.IterationOrder.TheVariants.{Ascending
 use Rattle.slate_types.specs.Keys.{key_cmp}
 use Rattle.slate_types.specs.Iteration.{NoneBefore, IsInOrder}
 use Rattle.slate_types.proofs.KeyOrder.{turned-key}
-use Rattle.slate_db.specs.Model.{Rows, of_key}
+use Rattle.slate_mem.specs.Table.{of_key}
 
 abbrev pub rises : RowEntry → RowEntry → Bool
 rises a b = is_lt (key_cmp a.key b.key)
@@ -31,23 +31,23 @@ tie k r =
     by Greater = refl
 
 -- rows that tie are those of one key
-pub stable_keys : (xs ys : Rows) → IsStableBy rises xs ys → (k : List ℕ) → of_key k ys ≡ of_key k xs
+pub stable_keys : (xs ys : List RowEntry) → IsStableBy rises xs ys → (k : List ℕ) → of_key k ys ≡ of_key k xs
 stable_keys xs ys h k =
     let row : RowEntry = record { key = k; value = Tombstone; seq = 0; create_ts = None; expire_ts = None } in
     sym (λ i. filter (λ r. tie k r i) ys) ∙ h row ∙ (λ i. filter (λ r. tie k r i) xs)
 
-Rising : Rows → Type 0
+Rising : List RowEntry → Type 0
 Rising xs = (i j : ℕ) (d : RowEntry) → i ≤ j → j < length xs → rises (get_or xs j d) (get_or xs i d) ≡ false
 
-none_below : (r : RowEntry) (rs : Rows) → ((j : ℕ) (d : RowEntry) → j < length rs → rises (get_or rs j d) r ≡ false) → NoneBefore Ascending r.key rs
+none_below : (r : RowEntry) (rs : List RowEntry) → ((j : ℕ) (d : RowEntry) → j < length rs → rises (get_or rs j d) r ≡ false) → NoneBefore Ascending r.key rs
 none_below r [] h = tt
 none_below r (s ∷ rs) h = (h zero s (omega arith), none_below r rs (λ j d below. h (suc j) d (omega arith)))
 
-rising : (rs : Rows) → Rising rs → IsInOrder Ascending rs
+rising : (rs : List RowEntry) → Rising rs → IsInOrder Ascending rs
 unfolding Rising
 rising [] h = tt
 rising (r ∷ rs) h = (none_below r rs (λ j d below. h zero (suc j) d (omega arith) (omega arith)), rising rs (λ i j d upto below. h (suc i) (suc j) d (omega arith) (omega arith)))
 
-pub sorted_rises : (rs : Rows) → IsSortedBy rises rs → IsInOrder Ascending rs
+pub sorted_rises : (rs : List RowEntry) → IsSortedBy rises rs → IsInOrder Ascending rs
 unfolding Rising
 sorted_rises rs h = rising rs (λ i j d upto below. sorted_far rises rises_weakly rs h i j d upto below)
