@@ -1,5 +1,5 @@
 -- Where the open transactions of a core began.
---     least_begin n ps      the least of n and the begins
+--     least_begin n ps      the least of n and the begins: the barrier of a flush, where n is the newest sequence
 --     BeginsRise ps      no open transaction began before one that stands in front of it
 use Rattle.std.specs.Prelude.{ℕ, ◌≤◌, min, List, [], ◌∷◌}
 use Rattle.std.specs.List.{AllByRecursion}
