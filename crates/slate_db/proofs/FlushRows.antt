@@ -1,5 +1,5 @@
 -- The rows that a flush stores: in a table's order, and each key's rows up to the barrier folded.
-use Rattle.std.proofs.Common.{◌≡◌, ℕ, ◌+◌, ◌-◌, ◌<◌, ◌≤◌, Bool, true, false, cond, ◌&&◌, ◌||◌, List, [], ◌∷◌, ◌++◌, reverse, filter, length, Option, Some, None, option_to_list, refl, sym, ap, subst, ◌∙◌, arith, Ordering, Less, Equal, Greater, append-nil, bytes_eq, nat_le, nat_lt}
+use Rattle.std.proofs.Common.{◌≡◌, ℕ, ◌<◌, ◌≤◌, Bool, true, false, cond, ◌&&◌, ◌||◌, List, [], ◌∷◌, ◌++◌, reverse, filter, length, Option, Some, None, option_to_list, refl, sym, ap, subst, ◌∙◌, arith, Ordering, Less, Equal, Greater, append-nil, bytes_eq, nat_le, nat_lt}
 use Rattle.std.specs.Prelude.{IsTrue}
 use Rattle.std.specs.Ordering.{is_lt, ordering_reverse}
 use Rattle.std.specs.List.{AllByRecursion}
