@@ -6,7 +6,7 @@ use Rattle.slate_types.specs.declared.types.ValueDeletable.{ValueDeletable}
 use Rattle.slate_types.specs.declared.types.ValueDeletable.TheVariants.{Value, Merge, Tombstone}
 use Rattle.slate_types.specs.Fold.{Combine, fold_rows, fold_taken, taken, value_of_taken}
 use Rattle.slate_types.specs.Rows.{is_base, is_merge, is_operand}
-use Rattle.slate_db.specs.Lookup.{is_merge_among}
+use Rattle.slate_mem.specs.Lookup.{is_merge_among}
 use Rattle.slate_db.specs.Meaning.{Meaning, combine_of}
 use Rattle.slate_db.specs.Flushed.{IsFolded}
 use Rattle.slate_db.specs.Model.{Rows, versions_in}

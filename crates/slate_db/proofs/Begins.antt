@@ -1,13 +1,12 @@
--- Where open transactions began: the list of begins rises, and the first is the least.
-use Rattle.std.proofs.Common.{◌≡◌, ℕ, ◌≤◌, min, length, Bool, true, false, cond, List, [], ◌∷◌, ◌++◌, Option, Some, unwrap_or, refl, sym, ap, subst, ◌∙◌, arith, bytes_eq}
-use Rattle.std.specs.Prelude.{slice_get}
+-- Where open transactions began: the list of begins rises.
+use Rattle.std.proofs.Common.{◌≡◌, ℕ, ◌≤◌, Bool, true, false, cond, List, [], ◌∷◌, ◌++◌, sym, subst, bytes_eq}
 use Rattle.std.specs.List.{AllByRecursion}
 use Rattle.slate_txn.specs.Named.{without, update_named}
+use Rattle.slate_txn.specs.Open.{BeginsRise}
 use Rattle.slate_txn.specs.State.{Tx}
-use Rattle.slate_db.specs.Flushed.{least_begin}
-use Rattle.slate_db.specs.Whole.{BeginsRise, BeginsWithin}
+use Rattle.slate_db.specs.Whole.{BeginsWithin}
 use Rattle.slate_db.proofs.Lists.{all_more, all_map}
-use Rattle.slate_db.proofs.Names.{all_without, update_all}
+use Rattle.slate_txn.proofs.NamedLaws.{all_without, update_all}
 
 pub rise_more : (ps : List (List ℕ × Tx)) (p : List ℕ × Tx) → BeginsRise ps → AllByRecursion (λ q. q.1.begin ≤ p.1.begin) ps → BeginsRise (ps ++ (p ∷ []))
 rise_more [] p h w = (tt, tt)
@@ -31,19 +30,3 @@ rise_updated k f (p ∷ ps) same h = by (bytes_eq p.0 k) (rise_updated k f ps sa
 
 pub within_newest : (floor n : ℕ) (ps : List (List ℕ × Tx)) → AllByRecursion (λ p. BeginsWithin floor n p) ps → AllByRecursion (λ p. p.1.begin ≤ n) ps
 within_newest floor n ps h = all_map _ _ (λ p w. w.1) ps h
-
-least_same : (n : ℕ) (ps : List (List ℕ × Tx)) → AllByRecursion (λ p. n ≤ p.1.begin) ps → least_begin n ps ≡ n
-least_same n [] h = refl
-least_same n (p ∷ ps) h = ap (λ m. least_begin m ps) (let w : n ≤ p.1.begin = h.0 in let e : min n p.1.begin ≡ n = omega arith in e) ∙ least_same n ps h.1
-
-pub least_first : (n : ℕ) (ps : List (List ℕ × Tx)) (p : List ℕ × Tx) → slice_get ps 0 ≡ Some p → BeginsRise ps → AllByRecursion (λ q. q.1.begin ≤ n) ps → p.1.begin ≡ least_begin n ps
-least_first n [] p e h w = cc
-least_first n (q ∷ ps) p e h w =
-    let same : q.1.begin ≡ p.1.begin = ap (λ (o : Option (List ℕ × Tx)). (unwrap_or o p).1.begin) e in
-    let below : q.1.begin ≤ n = w.0 in
-    let first : min n q.1.begin ≡ q.1.begin = omega arith in
-    sym same ∙ sym (ap (λ m. least_begin m ps) first ∙ least_same q.1.begin ps h.0)
-
-pub least_none : (n : ℕ) (ps : List (List ℕ × Tx)) → length ps ≡ 0 → n ≡ least_begin n ps
-least_none n [] h = refl
-least_none n (p ∷ ps) h = absurd (omega (arith, h))

@@ -4,7 +4,8 @@ use Rattle.slate_types.specs.declared.error.SlateDBError.{SlateDBError}
 use Rattle.slate_types.specs.declared.error.SlateDBError.TheVariants.{MergeOperatorMissing, OutOfMemory}
 use Rattle.slate_table.specs.Reading.{IsStoreFault}
 use Rattle.slate_table.specs.SectionReading.{IsTransformFault}
-use Rattle.slate_db.specs.Lookup.{IsCallback, IsDamage, IsOperatorFault}
+use Rattle.slate_mem.specs.Lookup.{IsCallback}
+use Rattle.slate_db.specs.Lookup.{IsDamage, IsOperatorFault}
 
 abbrev Operator : Type 0
 Operator = Option (List ℕ → Option (List ℕ) → List ℕ → List ℕ)

@@ -1,12 +1,10 @@
 -- The rows that a flush stores: in a table's order, and each key's rows up to the barrier folded.
-use Rattle.std.proofs.Common.{◌≡◌, ℕ, ◌+◌, ◌-◌, ◌<◌, ◌≤◌, Bool, true, false, cond, ◌&&◌, ◌||◌, List, [], ◌∷◌, ◌++◌, reverse, filter, map, drop, get_or, suc, length, Option, Some, None, option_to_list, refl, sym, ap, subst, ◌∙◌, arith, Ordering, Less, Equal, Greater, append_assoc, append-nil, bytes_eq, nat_le, nat_lt}
-use Rattle.std.specs.Prelude.{IsTrue, slice_get}
+use Rattle.std.proofs.Common.{◌≡◌, ℕ, ◌<◌, ◌≤◌, Bool, true, false, cond, ◌&&◌, ◌||◌, List, [], ◌∷◌, ◌++◌, reverse, filter, length, Option, Some, None, option_to_list, refl, sym, ap, subst, ◌∙◌, arith, Ordering, Less, Equal, Greater, append-nil, bytes_eq, nat_le, nat_lt}
+use Rattle.std.specs.Prelude.{IsTrue}
 use Rattle.std.specs.Ordering.{is_lt, ordering_reverse}
 use Rattle.std.specs.List.{AllByRecursion}
 use Rattle.std.proofs.lemmas.Bool.Decides.{nat_tests}
 use Rattle.std.proofs.lemmas.List.{reverse-append}
-use Rattle.std.proofs.Math.Numerals.{add-one}
-use Rattle.std.proofs.Math.Seq.{drop-cons}
 use Rattle.std.proofs.lemmas.List.Elements.{filter-append}
 use Rattle.std.proofs.lemmas.Slice.Eq.{bytes_eq-Decides}
 use Rattle.slate_types.specs.declared.types.RowEntry.{RowEntry}
@@ -17,12 +15,11 @@ use Rattle.slate_types.specs.Keys.{key_cmp, key_lt}
 use Rattle.slate_types.specs.Rows.{row_lt, is_base}
 use Rattle.slate_types.proofs.FoldLaws.{hides-older}
 use Rattle.slate_types.proofs.KeyOrder.{same-key, turned-key}
-use Rattle.slate_mem.specs.Table.{MemTableModel}
 use Rattle.slate_table.specs.Table.{AreInOrder}
 use Rattle.slate_db.specs.Flushed.{IsFolded}
 use Rattle.slate_db.specs.Meaning.{Meaning, combine_of}
 use Rattle.slate_db.specs.Model.{Rows, of_key, versions, versions_in}
-use Rattle.slate_db.specs.Newest.{is_older, newest_kept, last_row}
+use Rattle.slate_mem.specs.Gathered.{is_older, newest_kept}
 use Rattle.slate_db.specs.Sound.{at_most, later}
 use Rattle.slate_db.specs.Whole.{FitsMemory, AreRising}
 use Rattle.slate_db.proofs.Folds.{none_pass}
@@ -262,41 +259,6 @@ flush_some b (layer ∷ layers) [] same some each = absurd (none layer each.0 (a
     none [] h all = absurd (omega arith)
     none (x ∷ xs) h all = all.0
 flush_some b (layer ∷ layers) (r ∷ rs) same some each = omega arith
-
--- ---- one row after another
-
-pub last_more : (rows : Rows) (r : RowEntry) → last_row (rows ++ (r ∷ [])) ≡ Some r
-last_more [] r = refl
-last_more (x ∷ rows) r = ap (slice_get (x ∷ (rows ++ (r ∷ [])))) place ∙ at_end rows x
-  where
-    place : length (x ∷ (rows ++ (r ∷ []))) - 1 ≡ length (rows ++ (r ∷ []))
-    place = omega arith
-
-    at_end : (xs : Rows) (y : RowEntry) → slice_get (y ∷ (xs ++ (r ∷ []))) (length (xs ++ (r ∷ []))) ≡ Some r
-    at_end [] y = refl
-    at_end (z ∷ zs) y = at_end zs z
-
-pub keeps_one : (b : ℕ) (kept new rest : Rows) (row : RowEntry) → new ≡ cond (is_older b (last_row kept) row) kept (kept ++ (row ∷ [])) →
-    new ++ newest_kept b (last_row new) rest ≡ kept ++ newest_kept b (last_row kept) (row ∷ rest)
-keeps_one b kept new rest row h = by (is_older b (last_row kept) row) h
-  where
-    by : (t : Bool) → new ≡ cond t kept (kept ++ (row ∷ [])) → new ++ newest_kept b (last_row new) rest ≡ kept ++ cond t (newest_kept b (last_row kept) rest) (row ∷ newest_kept b (Some row) rest)
-    by true e = ap (λ xs. xs ++ newest_kept b (last_row xs) rest) e
-    by false e =
-        ap (λ xs. xs ++ newest_kept b (last_row xs) rest) e
-        ∙ ap (λ o. (kept ++ (row ∷ [])) ++ newest_kept b o rest) (last_more kept row)
-        ∙ append_assoc kept (row ∷ []) (newest_kept b (Some row) rest)
-
--- ---- one memtable more, the newest first
-
-pub layers_down : (k : List ℕ) (rows new : Rows) (ts : List MemTableModel) (t : MemTableModel) (i j : ℕ) → i + 1 ≡ j → i < length ts → t ≡ get_or ts i t → new ≡ rows ++ t.rows →
-    versions k rows ≡ versions_in k (map (λ x. x.rows) (drop j ts)) → versions k new ≡ versions_in k (map (λ x. x.rows) (drop i ts))
-layers_down k rows new ts t i j next within is more h =
-    ap (versions k) more
-    ∙ ap reverse (filter-append (λ r. bytes_eq r.key k) rows t.rows)
-    ∙ reverse-append (of_key k rows) (of_key k t.rows)
-    ∙ ap (λ xs. versions k t.rows ++ xs) (h ∙ ap (λ n. versions_in k (map (λ x. x.rows) (drop n ts))) (sym next ∙ add-one i))
-    ∙ sym (ap (λ xs. versions_in k (map (λ x. x.rows) xs)) (drop-cons ts i t within ∙ ap (λ x. x ∷ drop (suc i) ts) (sym is)))
 
 -- ---- one row more in a builder
 

@@ -17,7 +17,8 @@ use Rattle.slate_txn.specs.declared.line.Line.TheVariants as lines
 use Rattle.slate_txn.specs.Reply.{Flushed}
 use Rattle.slate_txn.specs.State.{last_of}
 use Rattle.slate_txn.specs.Step.{step}
-use Rattle.slate_db.specs.Flushed.{Layout, IsFlushed, IsFolded, MayTakeTable, TooLarge, events_of_flush, least_begin}
+use Rattle.slate_txn.specs.Open.{least_begin}
+use Rattle.slate_db.specs.Flushed.{Layout, IsFlushed, IsFolded, MayTakeTable, TooLarge, events_of_flush}
 use Rattle.slate_db.specs.Frozen.{IsFrozen}
 use Rattle.slate_db.specs.Meaning.{Meaning, rules_of, combine_of}
 use Rattle.slate_db.specs.Model.{CoreModel, Rows, memory, IsSame}

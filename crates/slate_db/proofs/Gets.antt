@@ -17,14 +17,16 @@ use Rattle.slate_table.specs.Paths.{path_of}
 use Rattle.slate_txn.specs.declared.event.Event.{Event}
 use Rattle.slate_txn.specs.Reads.{up_to, key_rows}
 use Rattle.slate_db.specs.Installs.{tables_of, installed, root, AreHandles, Holds, HoldsTables}
-use Rattle.slate_db.specs.Lookup.{newest_first, is_merge_among, AreStored}
+use Rattle.slate_mem.specs.Lookup.{newest_first, is_merge_among}
+use Rattle.slate_db.specs.Lookup.{AreStored}
 use Rattle.slate_db.specs.Meaning.{Meaning, IsLawfulMeaning, rules_of, combine_of}
 use Rattle.slate_db.specs.Model.{CoreModel, Rows, memory, of_key, versions, versions_in}
 use Rattle.slate_db.specs.Sound.{AreBases, AreTables, IsKept, at_most, above}
 use Rattle.slate_db.specs.Whole.{IsWhole}
 use Rattle.slate_db.proofs.Bases.{bases_in, none_found}
 use Rattle.slate_db.proofs.Lists.{all_map}
-use Rattle.slate_db.proofs.Newest.{first_both, folds_as_all, versions_are}
+use Rattle.slate_mem.proofs.LayerLaws.{first_both}
+use Rattle.slate_db.proofs.Newest.{folds_as_all, versions_are}
 use Rattle.slate_db.proofs.Seen.{seen_fold}
 use Rattle.slate_db.proofs.Tables.{all_same}
 use Rattle.slate_db.proofs.Short.{all_append, all_filter, all_from_last, commits_short, fine_short}

@@ -19,7 +19,8 @@ use Rattle.slate_db.specs.Model.{CoreModel, Rows, memory, versions, versions_in}
 use Rattle.slate_db.specs.Installs.{tables_of, installed, NumberedFrom, IsHandle, AreHandles}
 use Rattle.slate_db.specs.Sound.{at_most, later, above, IsKept, IsSound, AreTables, AreBases}
 use Rattle.slate_db.specs.Whole.{IsWhole, LIMIT, BeginsWithin, AreShortOps, AreRising}
-use Rattle.slate_db.specs.Flushed.{IsFolded, Layout, CanFlush, IsTableOfFlush, least_begin, after_install}
+use Rattle.slate_txn.specs.Open.{least_begin}
+use Rattle.slate_db.specs.Flushed.{IsFolded, Layout, CanFlush, IsTableOfFlush, after_install}
 use Rattle.slate_table.specs.Paths.{table_id}
 use Rattle.slate_db.proofs.FlushRows.{rising_front}
 use Rattle.slate_db.proofs.Folds.{wider}

@@ -1,5 +1,4 @@
 mod Lists
-mod Names
 mod Begins
 mod Journals
 mod IdLaws
@@ -18,12 +17,10 @@ mod MemoryRows
 mod FlushRows
 mod Built
 mod Flushes
-mod Sorting
 mod Installs
 mod Seen
 mod Newest
 mod Walks
-mod Folding
 mod Bases
 mod Rises
 mod Gets

@@ -25,7 +25,8 @@ use Rattle.slate_mem.specs.RowOf.{op_row, row_of}
 use Rattle.slate_mem.specs.Table.{put_row, put_rows}
 use Rattle.slate_table.specs.Table.{AreInOrder, cut, cut_from}
 use Rattle.slate_txn.specs.State.{last_of}
-use Rattle.slate_db.specs.Flushed.{Layout, IsFolded, IsTooLarge, TooLarge, least_begin}
+use Rattle.slate_txn.specs.Open.{least_begin}
+use Rattle.slate_db.specs.Flushed.{Layout, IsFolded, IsTooLarge, TooLarge}
 use Rattle.slate_db.specs.Load.{row_load, rows_load, load, op_load, ops_load}
 use Rattle.slate_db.specs.Meaning.{Meaning, combine_of}
 use Rattle.slate_db.specs.Model.{CoreModel, Rows, of_key, memory, versions, versions_in}

@@ -19,7 +19,7 @@ use Rattle.slate_db.specs.Model.{CoreModel}
 use Rattle.slate_db.specs.Installs.{as_begun}
 use Rattle.slate_db.specs.Whole.{IsWhole}
 use Rattle.slate_db.proofs.Begins.{rise_updated}
-use Rattle.slate_db.proofs.Names.{update_map, update_all, update_length}
+use Rattle.slate_txn.proofs.NamedLaws.{update_map, update_all, update_length}
 
 abbrev pub after_note : CoreModel → List ℕ → List TranscriptStep → CoreModel
 after_note c id ts = record c { state = noted c.state id ts }

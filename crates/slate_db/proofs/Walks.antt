@@ -1,95 +1,27 @@
--- What a walk over the rows of a block finds of a key.
-use Rattle.std.proofs.Common.{◌≡◌, ℕ, Bool, true, false, cond, ◌&&◌, List, [], ◌∷◌, ◌++◌, Option, Some, refl, sym, ap, subst, ◌∙◌, bytes_eq, nat_le, Ordering, Less, Equal, Greater, append-nil, append_assoc}
-use Rattle.std.specs.Ordering.{is_lt, is_le, ordering_reverse}
+-- The key alone as a range, and what a walk over blocks, one after another, finds of a key.
+use Rattle.std.proofs.Common.{◌≡◌, ℕ, true, false, ◌&&◌, List, [], ◌∷◌, ◌++◌, refl, sym, ap, ◌∙◌, append-nil, append_assoc}
+use Rattle.std.specs.Ordering.{is_lt, is_le}
 use Rattle.std.specs.List.{AllByRecursion}
 use Rattle.std.specs.Prelude.{flat_map}
 use Rattle.std.specs.declared.ops.Bound.TheVariants.{Included}
 use Rattle.std.proofs.lemmas.Cmp.{nat_list_cmp_total, tied_itself}
 use Rattle.std.proofs.lemmas.Grind.{flat_map-append}
-use Rattle.std.proofs.lemmas.Slice.Eq.{bytes_eq-Decides}
-use Rattle.slate_types.specs.declared.types.RowEntry.{RowEntry}
 use Rattle.slate_types.specs.declared.iter.IterationOrder.TheVariants.{Ascending}
-use Rattle.slate_types.specs.Iteration.{NoneBefore, IsInOrder, TakesRow, drop_before}
-use Rattle.slate_types.specs.Keys.{key_cmp, key_lt, key_le, is_refused, in_range}
-use Rattle.slate_types.specs.Rows.{is_base}
-use Rattle.slate_types.proofs.IterationLaws.{none_before_earlier}
-use Rattle.slate_types.proofs.KeyOrder.{same-key, turned-key, not-lt, lt-le-trans, lt-irreflexive}
+use Rattle.slate_types.specs.Iteration.{IsInOrder}
+use Rattle.slate_types.specs.Keys.{key_le, is_refused, in_range}
 use Rattle.slate_block.specs.declared.block.Block.{Block}
 use Rattle.slate_block.specs.BlockSpelling.{IsBlockOf}
-use Rattle.slate_mem.specs.Table.{newest, to_base, up_to}
+use Rattle.slate_mem.specs.Table.{newest}
 use Rattle.slate_table.specs.Finding.{AreBlocksOf}
-use Rattle.slate_db.specs.Lookup.{is_decided}
+use Rattle.slate_mem.specs.Lookup.{is_decided}
 use Rattle.slate_db.specs.Model.{Rows}
-use Rattle.slate_db.proofs.Newest.{stays, goes_on}
+use Rattle.slate_mem.proofs.LayerLaws.{stays, goes_on}
 
 pub not_past_itself : (k : List ℕ) → is_refused (Included k) (Included k) ≡ false
 not_past_itself k = ap is_lt (tied_itself nat_list_cmp_total k)
 
 pub point_holds : (k : List ℕ) → in_range (record { start = Included k; end = Included k }) k ≡ true
 point_holds k = let e : key_le k k ≡ true = ap is_le (tied_itself nat_list_cmp_total k) in (λ i. e i && e i)
-
--- rows past a key have none of it
-none_past : (k : List ℕ) (n : ℕ) (row : RowEntry) (rows : List RowEntry) → key_lt k row.key ≡ true → NoneBefore Ascending row.key rows → up_to k n rows ≡ []
-none_past k n row [] past h = refl
-none_past k n row (r ∷ rs) past h = by (bytes_eq r.key k) refl (none_past k n row rs past h.1)
-  where
-    by : (b : Bool) → bytes_eq r.key k ≡ b → up_to k n rs ≡ [] → cond (b && nat_le r.seq n) (r ∷ up_to k n rs) (up_to k n rs) ≡ []
-    by true e rest =
-        let same : r.key ≡ k = (bytes_eq-Decides r.key k).0 e in
-        let above : key_le row.key k ≡ true = ap (key_le row.key) (sym same) ∙ not-lt r.key row.key h.0 in
-        lt-irreflexive k (lt-le-trans k row.key k past above)
-    by false e rest = rest
-
-tied_keys : (k j : List ℕ) → key_lt j k ≡ false → key_lt k j ≡ false → bytes_eq j k ≡ true
-tied_keys k j h s = by (key_cmp j k) refl h (sym (ap is_lt (turned-key k j)) ∙ s)
-  where
-    by : (o : Ordering) → key_cmp j k ≡ o → is_lt o ≡ false → is_lt (ordering_reverse (key_cmp j k)) ≡ false → bytes_eq j k ≡ true
-    by Less e a b = cc
-    by Equal e a b = (bytes_eq-Decides j k).1 (same-key j k e)
-    by Greater e a b = let clash : true ≡ false = sym (ap (λ o. is_lt (ordering_reverse o)) e) ∙ b in cc
-
-past_is : (k j : List ℕ) → key_lt j k ≡ false → bytes_eq j k ≡ false → key_lt k j ≡ true
-past_is k j h e = by (key_lt k j) refl
-  where
-    by : (t : Bool) → key_lt k j ≡ t → t ≡ true
-    by true s = refl
-    by false s = let clash : true ≡ false = sym (tied_keys k j h s) ∙ e in cc
-
--- a walk ends at a row of another key
-pub ends_past : (k : List ℕ) (n : ℕ) (row : RowEntry) (rows : List RowEntry) → NoneBefore Ascending k (row ∷ rows) → IsInOrder Ascending (row ∷ rows) → bytes_eq row.key k ≡ false → newest k n (row ∷ rows) ≡ []
-ends_past k n row rows none order other =
-    ap (λ b. to_base (cond (b && nat_le row.seq n) (row ∷ up_to k n rows) (up_to k n rows))) other
-    ∙ ap to_base (none_past k n row rows (past_is k row.key none.0 other) order.0)
-
-pub passes_newer : (k : List ℕ) (n : ℕ) (row : RowEntry) (rows : List RowEntry) → nat_le row.seq n ≡ false → newest k n (row ∷ rows) ≡ newest k n rows
-passes_newer k n row rows h = by (bytes_eq row.key k)
-  where
-    by : (b : Bool) → to_base (cond (b && nat_le row.seq n) (row ∷ up_to k n rows) (up_to k n rows)) ≡ to_base (up_to k n rows)
-    by true = ap (λ t. to_base (cond t (row ∷ up_to k n rows) (up_to k n rows))) h
-    by false = refl
-
-pub takes_row : (k : List ℕ) (n : ℕ) (row : RowEntry) (rows : List RowEntry) → bytes_eq row.key k ≡ true → nat_le row.seq n ≡ true → newest k n (row ∷ rows) ≡ cond (is_base row) (row ∷ []) (row ∷ newest k n rows)
-takes_row k n row rows e h = (λ i. to_base (cond (e i && h i) (row ∷ up_to k n rows) (up_to k n rows)))
-
--- ---- a seek
-
-pub dropped_none : (k : List ℕ) (rows : List RowEntry) → IsInOrder Ascending rows → NoneBefore Ascending k (drop_before Ascending k rows)
-dropped_none k [] h = tt
-dropped_none k (r ∷ rs) h = by (key_lt r.key k) refl (dropped_none k rs h.1)
-  where
-    by : (t : Bool) → key_lt r.key k ≡ t → NoneBefore Ascending k (drop_before Ascending k rs) → NoneBefore Ascending k (cond t (drop_before Ascending k rs) (r ∷ rs))
-    by true e rest = rest
-    by false e rest = (e, none_before_earlier Ascending k r.key rs e h.0)
-
-pub dropped_same : (k : List ℕ) (n : ℕ) (rows : List RowEntry) → newest k n (drop_before Ascending k rows) ≡ newest k n rows
-dropped_same k n [] = refl
-dropped_same k n (r ∷ rs) = by (key_lt r.key k) refl (bytes_eq r.key k) refl (dropped_same k n rs)
-  where
-    by : (t : Bool) → key_lt r.key k ≡ t → (b : Bool) → bytes_eq r.key k ≡ b → newest k n (drop_before Ascending k rs) ≡ newest k n rs →
-        newest k n (cond t (drop_before Ascending k rs) (r ∷ rs)) ≡ to_base (cond (b && nat_le r.seq n) (r ∷ up_to k n rs) (up_to k n rs))
-    by true e true f rest = lt-irreflexive k (ap (λ j. key_lt j k) (sym ((bytes_eq-Decides r.key k).0 f)) ∙ e)
-    by true e false f rest = rest
-    by false e b f rest = ap (λ c. to_base (cond (c && nat_le r.seq n) (r ∷ up_to k n rs) (up_to k n rs))) f
 
 -- ---- blocks, one after another
 
@@ -147,21 +79,3 @@ pub walk_decides : (version : ℕ) (left : List Block) (lists : List Rows) (k : 
 walk_decides version left lists k n found w d =
     stays k n (flat_map (λ rows. rows) w.before) (flat_map (λ rows. rows) w.rest) found w.is_newest d
     ∙ ap (newest k n) (sym (ap (flat_map (λ rows. rows)) w.split ∙ flat_map-append (λ rows. rows) w.before w.rest))
-
--- ---- one row of a walk
-
-pub takes : (rows : Rows) (o : Option RowEntry) (row : RowEntry) (after : Rows) → o ≡ Some row → TakesRow rows o after → rows ≡ row ∷ after
-takes rows o row after is h = subst (λ (x : Option RowEntry). TakesRow rows x after) is h
-
-pub ends_walk : (k : List ℕ) (n : ℕ) (row : RowEntry) (rest after all found : Rows) → rest ≡ row ∷ after → NoneBefore Ascending k rest → IsInOrder Ascending rest → bytes_eq row.key k ≡ false →
-    newest k n all ≡ found ++ newest k n rest → found ≡ newest k n all
-ends_walk k n row rest after all found split none rising other so_far =
-    sym (so_far ∙ ap (λ xs. found ++ newest k n xs) split
-    ∙ ap (λ xs. found ++ xs) (ends_past k n row after (subst (NoneBefore Ascending k) split none) (subst (IsInOrder Ascending) split rising) other) ∙ append-nil found)
-
-pub walks_on : (k : List ℕ) (n : ℕ) (row : RowEntry) (rest after all found more : Rows) → rest ≡ row ∷ after → bytes_eq row.key k ≡ true → nat_le row.seq n ≡ true → is_base row ≡ false → more ≡ found ++ (row ∷ []) →
-    newest k n all ≡ found ++ newest k n rest → newest k n all ≡ more ++ newest k n after
-walks_on k n row rest after all found more split same upto base is so_far =
-    so_far ∙ ap (λ xs. found ++ newest k n xs) split
-    ∙ ap (λ xs. found ++ xs) (takes_row k n row after same upto ∙ ap (λ b. cond b (row ∷ []) (row ∷ newest k n after)) base)
-    ∙ sym (append_assoc found (row ∷ []) (newest k n after)) ∙ ap (λ ys. ys ++ newest k n after) (sym is)

@@ -25,7 +25,7 @@ use Rattle.slate_db.proofs.Journals.{apply_more, used_more, legal_more}
 use Rattle.slate_db.proofs.Quiet.{quiet_more, quiet_frozen}
 use Rattle.slate_db.proofs.Lists.{all_more, all_map, none_behind}
 use Rattle.slate_db.proofs.Begins.{rise_more, rise_without, within_newest}
-use Rattle.slate_db.proofs.Names.{length_without, all_without, without_map, open_map, put_last, without_last}
+use Rattle.slate_txn.proofs.NamedLaws.{length_without, all_without, without_map, open_map, put_last, without_last}
 use Rattle.slate_db.proofs.IdLaws.{fresh_among, fresh_named, all_past, wider}
 
 pub tables_more : (es : List Event) (e : Event) → tables_of (es ++ (e ∷ [])) ≡ tables_of es ++ tables_in e

@@ -1,6 +1,5 @@
 -- What a flush makes.
 --     IsFolded m b layers out      within each key, the rows up to the barrier became their fold, and the later ones stay
---     least_begin n ps      the least of n and the begins: the barrier of a flush, where n is the newest sequence
 --     CanFlush layers      there are memtables, each with rows, which fit a table and of each key rise from memtable to memtable
 --     events_of_flush active frozen      how many events a flush adds
 --     Layout, layout_of options      how a flush cuts and spells rows
@@ -12,7 +11,7 @@
 --     MayFlush encode layout c before after      what a refused flush leaves of the objects
 --     TooLarge layout c e      the flush of all rows in memory would pass a limit of a table; so there is much in memory
 --     IsFlushed encode layout old new n before after      a flush behind its freeze, with the store's objects before and after
-use Rattle.std.specs.Prelude.{◌≡◌, ℕ, ◌+◌, ◌-◌, ◌^◌, ◌<◌, ◌≤◌, ◌⊎◌, min, sum_by, List, [], ◌∷◌, ◌++◌, map, length, option_to_list, Option, Some, IfSome}
+use Rattle.std.specs.Prelude.{◌≡◌, ℕ, ◌+◌, ◌-◌, ◌^◌, ◌<◌, ◌≤◌, ◌⊎◌, sum_by, List, [], ◌∷◌, ◌++◌, map, length, option_to_list, Option, Some, IfSome}
 use Rattle.std.specs.List.{AllByRecursion}
 use Rattle.slate_types.specs.declared.error.SlateDBError.{SlateDBError}
 use Rattle.slate_types.specs.declared.error.SlateDBError.TheVariants.{LimitReached}
@@ -28,7 +27,8 @@ use Rattle.slate_table.specs.Parts.{Encode}
 use Rattle.slate_table.specs.Table.{AreInOrder, IsBuilt, cut}
 use Rattle.slate_table.specs.TableParts.{version_of}
 use Rattle.slate_txn.specs.declared.event.Event.TheVariants as events
-use Rattle.slate_txn.specs.State.{Tx, last_of}
+use Rattle.slate_txn.specs.Open.{least_begin}
+use Rattle.slate_txn.specs.State.{last_of}
 use Rattle.slate_db.specs.Load.{load}
 use Rattle.slate_db.specs.Meaning.{Meaning, combine_of}
 use Rattle.slate_db.specs.Model.{CoreModel, Rows, memory, versions, versions_in}
@@ -39,10 +39,6 @@ use Rattle.slate_table.specs.Paths.{path_of, table_id}
 
 abbrev pub IsFolded : Meaning → ℕ → List Rows → Rows → Type 0
 IsFolded m b layers out = (k : List ℕ) → versions k out ≡ option_to_list (fold_rows (combine_of m k) (at_most b (versions_in k layers))) ++ later b (versions_in k layers)
-
-abbrev pub least_begin : ℕ → List (List ℕ × Tx) → ℕ
-least_begin n [] = n
-least_begin n (p ∷ ps) = least_begin (min n p.1.begin) ps
 
 pub record CanFlush (layers : List Rows) : Type 0 where
   pub some : 0 < length layers

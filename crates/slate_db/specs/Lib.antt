@@ -8,7 +8,6 @@ pub mod StoredState
 pub mod Ids
 pub mod Whole
 pub mod Frozen
-pub mod Newest
 pub mod Load
 pub mod Flushed
 pub mod Written

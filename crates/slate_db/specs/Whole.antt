@@ -3,7 +3,6 @@
 --     Rising n cs      each sequence is above those before
 --     AreFine ops, AreShortOps ops      no operation is refused by itself; the values are short
 --     BeginsWithin floor last p      an open transaction began between the floor and the newest sequence
---     BeginsRise ps      no open transaction began before one that stands in front of it
 --     FitsMemory r      what is true of each row in memory: it fits a table as it is, and is no merge
 --     AreRising rows      of the rows of a key, oldest first: the sequences rise
 --     IsWhole c newest ids runs handles      of what contracts see, and the newest sequence, the number of ids, the number of runs, and what is kept of the tables; no commit lies between the last install and the last flush
@@ -14,6 +13,7 @@ use Rattle.slate_types.specs.Rows.{bytes_of, is_base, operand}
 use Rattle.slate_types.specs.Fold.{IsShort}
 use Rattle.slate_block.specs.BlockSpelling.{IsKey, as_read}
 use Rattle.slate_mem.specs.Batch.{Ops, op_value}
+use Rattle.slate_txn.specs.Open.{BeginsRise}
 use Rattle.slate_txn.specs.State.{Commit, Tx, last_of}
 use Rattle.slate_txn.specs.Reads.{up_to}
 use Rattle.slate_txn.specs.Replay.{IsLegal}
@@ -41,10 +41,6 @@ AreShortOps ops = AllByRecursion (λ o. IsShort (bytes_of (op_value o.1))) ops
 
 abbrev pub BeginsWithin : ℕ → ℕ → List ℕ × Tx → Type 0
 BeginsWithin floor last p = (floor ≤ p.1.begin) × (p.1.begin ≤ last)
-
-abbrev pub BeginsRise : List (List ℕ × Tx) → Type 0
-BeginsRise [] = Unit {0}
-BeginsRise (p ∷ ps) = AllByRecursion (λ q. p.1.begin ≤ q.1.begin) ps × BeginsRise ps
 
 -- version 1 reads it as it is: a tombstone has no expiry
 pub record FitsMemory (r : RowEntry) : Type 0 where

@@ -28,7 +28,8 @@ ghost use Rattle.slate_db.specs.Frozen.{IsFrozen};
 ghost use Rattle.slate_db.specs.Flushed.{IsFlushed, MayFlush, TooLarge, events_of_flush, layout_of};
 ghost use Rattle.slate_db.specs.Load.{load, ops_load};
 ghost use Rattle.slate_db.specs.Installs.{HoldsTables, Replays, tables_of};
-ghost use Rattle.slate_db.specs.Lookup.{IsCallback, IsDamage, IsOperatorFault, newest_first};
+ghost use Rattle.slate_mem.specs.Lookup.{IsCallback, newest_first};
+ghost use Rattle.slate_db.specs.Lookup.{IsDamage, IsOperatorFault};
 ghost use Rattle.slate_db.specs.Model.{CoreModel, IsSame, Rows, at};
 ghost use Rattle.slate_db.specs.Sound.{AreTables, IsKept, FoldsToState};
 ghost use Rattle.slate_db.specs.StoredState.{StoresState};
@@ -36,14 +37,15 @@ ghost use Rattle.slate_db.specs.Whole.{LIMIT, AreFine};
 ghost use Rattle.slate_db.specs.Written.{IsWritten};
 
 use crate::flush::stored;
-use crate::fold::{answer, fold_found};
-use crate::lookup::newest_of_memory;
-use crate::open::{Open, barrier, begin_of, note_get};
 use crate::stored::newest_of_tables;
 use bytes::Bytes;
+use slate_mem::fold::answer;
+use slate_mem::lookup::newest_of_memory;
 use slate_mem::{ImmutableMemtable, MemTable, WriteBatch};
 use slate_store::{Env, Store};
 use slate_table::SsTableHandle;
+use slate_txn::fold::fold_found;
+use slate_txn::open::{Open, barrier, begin_of, close, note_get, open_at};
 use slate_txn::{Event, Journal, OpList};
 use slate_types::{
     BlockTransformer, IsolationLevel, KeyValue, MergeOperator, Options, ReadOptions, RowEntry,
@@ -140,12 +142,9 @@ impl Core {
             });
         }
         let id = Uuid::from_u128((self.ids + 1) as u128);
-        let none = self
-            .open
-            .insert(id, Open::new(self.alloc, level, self.last))?;
-        drop(none);
+        open_at(self.alloc, &mut self.open, id, level, self.last)?;
         if let Err(error) = self.journal.reserve(self.open.len() + 1) {
-            drop(self.open.remove(&id));
+            close(&mut self.open, &id);
             return Err(SlateDBError::from(error));
         }
         self.ids += 1;
@@ -164,7 +163,7 @@ impl Core {
         ensures event { self.new ≡ record self.old { state = self.new.state; events = self.old.events ++ events.End id.now ∷ []; spare = self.new.spare } }
         ensures kept { (m : Meaning) → IsKept m self.old → IsKept m self.new }
     {
-        drop(self.open.remove(id));
+        close(&mut self.open, id);
         self.journal.push_reserved(Event::End { id: *id });
     }
 

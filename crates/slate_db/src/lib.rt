@@ -7,9 +7,6 @@
 
 pub mod engine;
 pub mod flush;
-pub mod fold;
 pub mod gather;
-pub mod lookup;
-pub mod open;
 pub mod stored;
 pub mod vectors;

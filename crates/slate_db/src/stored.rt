@@ -21,11 +21,12 @@ ghost use Rattle.slate_table.specs.InfoReading.{seen_info};
 ghost use Rattle.slate_table.specs.Reading.{IsStoreFault};
 ghost use Rattle.slate_table.specs.SectionReading.{changed_by, IsTransformFault};
 ghost use Rattle.slate_db.specs.Answered.{AddsReads, Answering};
-ghost use Rattle.slate_db.specs.Lookup.{IsDamage, IsUnknown, IsStored, AreStored, newest_first};
+ghost use Rattle.slate_mem.specs.Lookup.{newest_first};
+ghost use Rattle.slate_db.specs.Lookup.{IsDamage, IsUnknown, IsStored, AreStored};
 ghost use Rattle.slate_db.specs.Model.{Rows};
 
-use crate::lookup::{is_decided, newest_of_walk};
 use slate_block::{Block, DataBlockIterator};
+use slate_mem::lookup::{is_decided, newest_of_walk};
 use slate_store::Store;
 use slate_table::{SsTableHandle, SsTableInfo, SstIndex, TableStore};
 use slate_types::{

@@ -48,7 +48,7 @@ pub(crate) fn count_rows(rows: &BTreeMap<SequencedKey, RowEntry>) -> KVTableMeta
 }
 
 /// The later of two stamps, of which either may be absent.
-fn later(a: Option<i64>, b: Option<i64>) -> Option<i64>
+pub(crate) fn later(a: Option<i64>, b: Option<i64>) -> Option<i64>
     ensures { result ≡ row_words.latest a b }
 {
     match (a, b) {

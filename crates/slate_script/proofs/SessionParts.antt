@@ -7,7 +7,8 @@ use Rattle.slate_types.specs.Outside.{Counts, IsOuter}
 use Rattle.slate_table.specs.Reading.{IsStoreFault}
 use Rattle.slate_table.specs.SectionReading.{IsTransformFault}
 use Rattle.slate_db.specs.Flushed.{Layout, TooLarge, events_of_flush}
-use Rattle.slate_db.specs.Lookup.{IsCallback, IsOperatorFault, IsDamage as IsTableDamage}
+use Rattle.slate_mem.specs.Lookup.{IsCallback}
+use Rattle.slate_db.specs.Lookup.{IsOperatorFault, IsDamage as IsTableDamage}
 use Rattle.slate_db.specs.Meaning.{Meaning}
 use Rattle.slate_db.specs.Model.{Rows}
 use Rattle.slate_db.specs.Parts.{IsDamage}

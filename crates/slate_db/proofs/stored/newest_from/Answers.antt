@@ -7,7 +7,7 @@ use Rattle.slate_block.specs.BlockWalks.{left, rows_of, IsRising, Refuses}
 use Rattle.slate_block.specs.EitherVersion.{left_of}
 use Rattle.slate_mem.specs.Table.{newest}
 use Rattle.slate_db.proofs.Blocks.{if_ok, if_err, seek_memory, seek_refuses, walk_memory}
-use Rattle.slate_db.proofs.Walks.{dropped_none, dropped_same}
+use Rattle.slate_mem.proofs.WalkLaws.{dropped_none, dropped_same}
 use Rattle.slate_db.proofs.stored.newest_from.Goals as goal
 
 pub returns-in_err-seek-clause-whole : goal.returns-in_err-seek-clause-whole

@@ -4,7 +4,7 @@ use Rattle.std.specs.Vec.Iter.{into_iter_items, into_iter_len}
 use Rattle.slate_types.specs.declared.iter.IterationOrder.TheVariants.{Ascending}
 use Rattle.slate_types.specs.Iteration.{IsInOrder}
 use Rattle.slate_table.specs.Finding.{AreBlocksOf}
-use Rattle.slate_db.specs.Lookup.{is_decided}
+use Rattle.slate_mem.specs.Lookup.{is_decided}
 use Rattle.slate_db.specs.Model.{Rows}
 use Rattle.slate_db.proofs.Walks.{Walked}
 use Rattle.slate_db.proofs.stored.newest_of_blocks.Given as goal

@@ -2,10 +2,10 @@ use Rattle.std.proofs.Common.{Some, ◌≡◌, ◌+◌, ◌-◌, ◌∙◌, ◌+
 use Rattle.std.proofs.lemmas.Result.{err_from_is_err_and}
 use Rattle.slate_mem.specs.Table.{newest}
 use Rattle.slate_table.specs.SectionReading.{changed_by}
-use Rattle.slate_db.specs.Lookup.{is_decided, newest_first}
+use Rattle.slate_mem.specs.Lookup.{is_decided, newest_first}
 use Rattle.slate_db.proofs.Answered.{adds_both, adds_none, answering_first, answering_last}
 use Rattle.slate_db.proofs.Damaged.{at_table, cause_earlier}
-use Rattle.slate_db.proofs.Newest.{layers_begin, layer_step, layers_decide, layers_end}
+use Rattle.slate_mem.proofs.LayerLaws.{layers_begin, layer_step, layers_decide, layers_end}
 use Rattle.slate_db.proofs.Tables.{as_many, faults_earlier, table_at}
 use Rattle.slate_db.proofs.stored.newest_of_tables.Goals as goal
 use Rattle.slate_db.proofs.stored.newest_of_tables.Goals.{then-loop-i-test+else-not-is_decided, else-loop-i-test}

@@ -4,7 +4,8 @@ use Rattle.slate_types.specs.Outside.{Objects}
 use Rattle.slate_mem.specs.Table.{newest}
 use Rattle.slate_table.specs.SectionReading.{changed_by}
 use Rattle.slate_db.specs.Answered.{AddsReads, Answering}
-use Rattle.slate_db.specs.Lookup.{AreStored, newest_first}
+use Rattle.slate_mem.specs.Lookup.{newest_first}
+use Rattle.slate_db.specs.Lookup.{AreStored}
 use Rattle.slate_db.specs.Model.{Rows}
 use Rattle.slate_db.proofs.stored.newest_of_tables.Given as goal
 

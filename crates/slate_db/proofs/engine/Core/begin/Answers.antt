@@ -19,24 +19,23 @@ use Rattle.slate_db.specs.Ids.{id_of}
 use Rattle.slate_db.proofs.Keeps.{same_model}
 use Rattle.slate_db.proofs.Journals.{apply_more}
 use Rattle.slate_db.proofs.Wholes.{after_begin, whole_begin, kept_begin, put_begun, taken_back}
-use Rattle.slate_db.proofs.Names.{without_is}
 use Rattle.slate_db.proofs.Steps.{step_begin}
 use Rattle.slate_db.proofs.engine.Core.begin.Goals as goal
 
 -- the list of open transactions after the insert
-put_of : (v : CoreModel) (n ids runs : ℕ) (hs : List SsTableHandle) (level : IsolationLevel) (id : List ℕ) (x : Tx) (txns : List (List ℕ × Tx)) → id ≡ id_of (ids + 1) → x ≡ begun level n →
-    txns ≡ insert_entry key_cmp v.state.txns id x → IsWhole v n ids runs hs → txns ≡ v.state.txns ++ ((id_of (ids + 1), begun level n) ∷ [])
-put_of v n ids runs hs level id x txns same new is whole =
-    is ∙ (λ i. insert_entry key_cmp v.state.txns (same i) (new i)) ∙ put_begun v n ids runs hs (begun level n) whole
+put_of : (v : CoreModel) (n ids runs : ℕ) (hs : List SsTableHandle) (level : IsolationLevel) (id : List ℕ) (txns : List (List ℕ × Tx)) → id ≡ id_of (ids + 1) →
+    txns ≡ insert_entry key_cmp v.state.txns id (begun level n) → IsWhole v n ids runs hs → txns ≡ v.state.txns ++ ((id_of (ids + 1), begun level n) ∷ [])
+put_of v n ids runs hs level id txns same is whole =
+    is ∙ (λ i. insert_entry key_cmp v.state.txns (same i) (begun level n)) ∙ put_begun v n ids runs hs (begun level n) whole
 
-opened : (c : goal.After-push_reserved) → c.insert.new.self.entries ≡ c.self.inside.«open».entries ++ ((id_of (c.self.inside.ids + 1), begun c.args.level c.self.inside.last) ∷ [])
+opened : (c : goal.After-push_reserved) → c.open_at.new.items.entries ≡ c.self.inside.«open».entries ++ ((id_of (c.self.inside.ids + 1), begun c.args.level c.self.inside.last) ∷ [])
 opened c =
-    put_of (view_of c.self.inside) c.self.inside.last c.self.inside.ids c.self.inside.runs c.self.inside.tables.items c.args.level c.from_u128-id.result c.new.result c.insert.new.self.entries
-    c.from_u128-id.ensures c.new.ensures c.in_ok-none.ensures.entries c.self.invariant
+    put_of (view_of c.self.inside) c.self.inside.last c.self.inside.ids c.self.inside.runs c.self.inside.tables.items c.args.level c.from_u128-id.result c.open_at.new.items.entries
+    c.from_u128-id.ensures c.in_ok-open_at.ensures.ok c.self.invariant
 
 -- what the fields are after the call
 becomes : (c : goal.After-push_reserved) → after_begin (view_of c.self.inside) c.args.level c.self.inside.last (id_of (c.self.inside.ids + 1)) c.push_reserved.new.self.spare
-    ≡ view_of (record c.self.inside { ids = c.self.inside.ids + 1; journal = c.push_reserved.new.self; «open» = c.insert.new.self })
+    ≡ view_of (record c.self.inside { ids = c.self.inside.ids + 1; journal = c.push_reserved.new.self; «open» = c.open_at.new.items })
 becomes c = same_model _ _ refl commits (sym (opened c)) refl refl refl journal refl refl refl refl
   where
     id : c.from_u128-id.result ≡ id_of (c.self.inside.ids + 1)
@@ -70,16 +69,16 @@ returns-clause-kept c m k =
     (subst (λ (v : CoreModel). IsKept m v) (sym c.self.view_is) k))
 
 -- without room for the event it is taken out again
-taken : (c : goal.After-from) → c.remove.new.self.entries ≡ c.self.inside.«open».entries
+taken : (c : goal.After-from) → c.close.new.items.entries ≡ c.self.inside.«open».entries
 taken c =
-    let put : c.insert.new.self.entries ≡ c.self.inside.«open».entries ++ ((id_of (c.self.inside.ids + 1), begun c.args.level c.self.inside.last) ∷ []) =
-    put_of (view_of c.self.inside) c.self.inside.last c.self.inside.ids c.self.inside.runs c.self.inside.tables.items c.args.level c.from_u128-id.result c.new.result c.insert.new.self.entries
-    c.from_u128-id.ensures c.new.ensures c.in_ok-none.ensures.entries c.self.invariant in
-    c.remove.ensures.entries ∙ without_is c.from_u128-id.result c.insert.new.self.entries
+    let put : c.open_at.new.items.entries ≡ c.self.inside.«open».entries ++ ((id_of (c.self.inside.ids + 1), begun c.args.level c.self.inside.last) ∷ []) =
+    put_of (view_of c.self.inside) c.self.inside.last c.self.inside.ids c.self.inside.runs c.self.inside.tables.items c.args.level c.from_u128-id.result c.open_at.new.items.entries
+    c.from_u128-id.ensures c.in_ok-open_at.ensures.ok c.self.invariant in
+    c.close.ensures
     ∙ (let id = c.from_u128-id.ensures in λ i. without (id i) (put i))
     ∙ taken_back (view_of c.self.inside) c.self.inside.last c.self.inside.ids c.self.inside.runs c.self.inside.tables.items (begun c.args.level c.self.inside.last) c.self.invariant
 
-stays : (c : goal.After-from) → view_of c.self.inside ≡ view_of (record c.self.inside { journal = c.reserve.new.self; «open» = c.remove.new.self })
+stays : (c : goal.After-from) → view_of c.self.inside ≡ view_of (record c.self.inside { journal = c.reserve.new.self; «open» = c.close.new.items })
 stays c =
     let same : c.self.inside.journal ≡ c.reserve.new.self = sym c.in-Err.ensures.err in
     same_model _ _ refl (ap (λ j. (replay j.events).commits) same) (sym (taken c)) refl refl refl (ap (λ j. j.events) same) (ap (λ j. j.spare) same) refl refl refl

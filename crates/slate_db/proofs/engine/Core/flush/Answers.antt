@@ -16,7 +16,7 @@ use Rattle.slate_db.specs.Whole.{LIMIT}
 use Rattle.slate_db.specs.View.{view_of}
 use Rattle.slate_db.proofs.Flushes.{whole_flushed, kept_flushed, frozen_settings, steps_after, room_cause, freeze_cause, frozen_idle, none_frozen, frozen_from, installed_after, cause_after, passes_one, one_passed, too_large_before, held, passed, some_frozen, no_room, none_passed, full_frozen, frozen_at_fault, no_fault}
 use Rattle.slate_db.proofs.Built.{may_keep}
-use Rattle.slate_db.proofs.Names.{both_err}
+use Rattle.slate_txn.proofs.NamedLaws.{both_err}
 use Rattle.slate_db.proofs.Keeps.{kept_same}
 use Rattle.slate_db.proofs.Puttings.{frozen_tables}
 use Rattle.slate_db.proofs.engine.Core.flush.Goals as goal

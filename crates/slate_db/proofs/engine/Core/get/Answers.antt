@@ -16,7 +16,7 @@ use Rattle.slate_db.specs.View.{view_of}
 use Rattle.slate_db.specs.Sound.{IsKept}
 use Rattle.slate_db.specs.Whole.{IsWhole}
 use Rattle.slate_db.proofs.Answered.{adds_none}
-use Rattle.slate_db.proofs.Names.{IsNamed, open_is}
+use Rattle.slate_txn.proofs.NamedLaws.{IsNamed, open_is}
 use Rattle.slate_db.proofs.Notes.{after_note, whole_note, step_get}
 use Rattle.slate_db.proofs.Keeps.{same_model, kept_event}
 use Rattle.slate_db.proofs.Gets.{held as held_by}

@@ -8,7 +8,8 @@ use Rattle.slate_table.specs.Table.{IsTable}
 use Rattle.slate_txn.specs.declared.event.Event.TheVariants as events
 use Rattle.slate_txn.specs.State.{last_of}
 use Rattle.slate_txn.specs.Replay.{replay}
-use Rattle.slate_db.specs.Flushed.{after_install, least_begin, layout_of, CanFlush, IsTableOfFlush, MayFlush, MayTakeTable, TooLarge, stored}
+use Rattle.slate_txn.specs.Open.{least_begin}
+use Rattle.slate_db.specs.Flushed.{after_install, layout_of, CanFlush, IsTableOfFlush, MayFlush, MayTakeTable, TooLarge, stored}
 use Rattle.slate_db.specs.Answered.{AddsTables}
 use Rattle.slate_db.specs.Installs.{tables_of}
 use Rattle.slate_db.specs.Model.{CoreModel}

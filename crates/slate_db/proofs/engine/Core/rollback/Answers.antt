@@ -14,20 +14,20 @@ use Rattle.slate_db.specs.Whole.{IsWhole}
 use Rattle.slate_db.proofs.Keeps.{same_model}
 use Rattle.slate_db.proofs.Journals.{apply_more}
 use Rattle.slate_db.proofs.Wholes.{after_end, whole_end, kept_end}
-use Rattle.slate_db.proofs.Names.{length_without, without_is}
+use Rattle.slate_txn.proofs.NamedLaws.{length_without}
 use Rattle.slate_db.proofs.Steps.{step_end}
 use Rattle.slate_db.proofs.engine.Core.rollback.Goals as goal
 
 -- what the fields are after the call
 becomes : (c : goal.After-push_reserved) → after_end (view_of c.self.inside) c.args.id.now c.push_reserved.new.self.spare
-    ≡ view_of (record c.self.inside { journal = c.push_reserved.new.self; «open» = c.remove.new.self })
+    ≡ view_of (record c.self.inside { journal = c.push_reserved.new.self; «open» = c.close.new.items })
 becomes c = same_model _ _ refl commits txns refl refl refl (sym c.push_reserved.ensures.events) refl refl refl refl
   where
     commits : (replay c.self.inside.journal.events).commits ≡ (replay c.push_reserved.new.self.events).commits
     commits = sym (ap (λ es. (replay es).commits) c.push_reserved.ensures.events ∙ ap (λ s. s.commits) (apply_more _ c.self.inside.journal.events (events.End c.args.id.now)))
 
-    txns : without c.args.id.now c.self.inside.«open».entries ≡ c.remove.new.self.entries
-    txns = sym (c.remove.ensures.entries ∙ without_is c.args.id.now c.self.inside.«open».entries)
+    txns : without c.args.id.now c.self.inside.«open».entries ≡ c.close.new.items.entries
+    txns = sym c.close.ensures
 
 is_open : (c : goal.After-push_reserved) → IsSome (find_named c.args.id.now c.self.inside.«open».entries)
 is_open c = subst (λ (v : CoreModel). IsSome (find_named c.args.id.now v.state.txns)) (sym c.self.view_is) c.requires

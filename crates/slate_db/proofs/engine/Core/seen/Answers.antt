@@ -8,7 +8,7 @@ use Rattle.slate_table.specs.SectionReading.{changed_by}
 use Rattle.slate_txn.specs.State.{operator_at}
 use Rattle.slate_db.specs.Answered.{Answering}
 use Rattle.slate_db.specs.Installs.{HoldsTables, tables_of}
-use Rattle.slate_db.specs.Lookup.{is_merge_among, newest_first}
+use Rattle.slate_mem.specs.Lookup.{is_merge_among, newest_first}
 use Rattle.slate_db.specs.Meaning.{Meaning, HasParts, IsLawfulMeaning}
 use Rattle.slate_db.specs.Model.{CoreModel, Rows}
 use Rattle.slate_db.specs.Sound.{AreTables, IsSound}

@@ -1,5 +1,0 @@
-use Rattle.slate_db.proofs.Blocks.{if_ok}
-use Rattle.slate_db.proofs.lookup.newest_of_memory.Goals as goal
-
-pub returns-clause-found : goal.returns-clause-found
-returns-clause-found c = if_ok c.newest_of_frozen.result _ _ (λ all h. h c.args.active.now.rows c.in_ok-found.ensures.rows) c.newest_of_frozen.ensures.found

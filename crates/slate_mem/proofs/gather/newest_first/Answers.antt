@@ -1,0 +1,10 @@
+use Rattle.std.proofs.Common.{List, ◌-◌, ◌++◌, ◌∙◌, ap, arith}
+use Rattle.slate_types.specs.declared.types.RowEntry.{RowEntry}
+use Rattle.slate_mem.proofs.GatherLaws.{layers_down}
+use Rattle.slate_mem.proofs.gather.newest_first.Goals as goal
+
+pub loop-at-preserved : goal.loop-at-preserved
+loop-at-preserved c = record {
+  within = omega (arith, c.loop-at.invariant.within);
+  rows = layers_down _ _ c.args.frozen.now _ (c.loop-at.at - 1) c.loop-at.at (omega arith) (omega (arith, c.loop-at.invariant.within)) c.index-frozen-at.is (c.in_ok-append.ensures.items ∙ ap (λ (xs : List RowEntry). c.loop-at.rows.items ++ xs) c.in_ok-more.ensures.rows) c.loop-at.invariant.rows;
+}

@@ -1,0 +1,11 @@
+use Rattle.std.proofs.Common.{List, ◌++◌, ap, sym, ◌∙◌}
+use Rattle.slate_types.specs.declared.types.RowEntry.{RowEntry}
+use Rattle.slate_mem.specs.Gathered.{newest_kept, last_row}
+use Rattle.slate_mem.proofs.GatherLaws.{keeps_one}
+use Rattle.slate_mem.proofs.gather.newest_rows.Goals as goal
+
+pub loop-row-preserved : goal.loop-row-preserved
+loop-row-preserved c =
+    keeps_one c.args.barrier c.loop-row.kept.items _ _ c.in-Some.row c.in_ok-keep.ensures.rows
+    ∙ ap (λ (xs : List RowEntry). c.loop-row.kept.items ++ newest_kept c.args.barrier (last_row c.loop-row.kept.items) xs) (sym c.in-Some.ensures.steps.0)
+    ∙ c.loop-row.invariant

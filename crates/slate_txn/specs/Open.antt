@@ -1,0 +1,14 @@
+-- Where the open transactions of a core began.
+--     least_begin n ps      the least of n and the begins: the barrier of a flush, where n is the newest sequence
+--     BeginsRise ps      no open transaction began before one that stands in front of it
+use Rattle.std.specs.Prelude.{ℕ, ◌≤◌, min, List, [], ◌∷◌}
+use Rattle.std.specs.List.{AllByRecursion}
+use Rattle.slate_txn.specs.State.{Tx}
+
+abbrev pub least_begin : ℕ → List (List ℕ × Tx) → ℕ
+least_begin n [] = n
+least_begin n (p ∷ ps) = least_begin (min n p.1.begin) ps
+
+abbrev pub BeginsRise : List (List ℕ × Tx) → Type 0
+BeginsRise [] = Unit {0}
+BeginsRise (p ∷ ps) = AllByRecursion (λ q. p.1.begin ≤ q.1.begin) ps × BeginsRise ps

@@ -1,0 +1,118 @@
+//! Open transactions.
+ghost use Rattle.std.specs.Prelude.{◌≡◌, ◌≤◌, ◌++◌, ◌∷◌, [], IfSome, option_map, OnOk, OnErr, IsOkUnless};
+ghost use Rattle.std.specs.BTreeMap.{insert_entry};
+ghost use Rattle.std.specs.List.{AllByRecursion};
+ghost use Rattle.slate_types.specs.declared.error.SlateDBError.{SlateDBError};
+ghost use Rattle.slate_types.specs.Keys.{key_cmp};
+ghost use Rattle.slate_txn.specs.declared.event.TranscriptStep.TheVariants as steps;
+ghost use Rattle.slate_txn.specs.Named.{find_named, update_named, without};
+ghost use Rattle.slate_txn.specs.State.{begun};
+ghost use Rattle.slate_txn.specs.Open.{BeginsRise, least_begin};
+
+use crate::{Transcript, TranscriptStep};
+use bytes::Bytes;
+use slate_types::{IsolationLevel, KeyValue, SlateDBError};
+use std::alloc::{AllocError, Global};
+use std::collections::BTreeMap;
+use std::marker::Model;
+use uuid::Uuid;
+
+/// What a core holds of an open transaction.
+#[derive(Drop)]
+pub struct Open {
+    pub level: IsolationLevel,
+    /// The sequence at which it began.
+    pub begin: u64,
+    pub transcript: Transcript,
+}
+
+impl Model for Open {
+    ghost use Rattle.std.specs.Prelude.{[]};
+    ghost use Rattle.slate_txn.specs.State.{Tx};
+
+    ghost Value = { Tx };
+
+    ghost view = { λ s. record { level = s.level; begin = s.begin; ops = []; marked = []; unmarked = []; transcript = s.transcript } };
+}
+
+impl Open {
+    /// A transaction that began at a sequence, and did nothing yet. Takes no memory.
+    pub fn new(alloc: Global, level: IsolationLevel, begin: u64) -> Open
+        ensures { result ≡ begun level begin }
+    {
+        Open {
+            level,
+            begin,
+            transcript: Transcript::new(alloc),
+        }
+    }
+}
+
+/// Opens a transaction under an id, at a sequence. Where memory is wanting nothing is opened.
+pub fn open_at(
+    alloc: Global,
+    items: &mut BTreeMap<Uuid, Open>,
+    id: Uuid,
+    level: IsolationLevel,
+    begin: u64,
+) -> Result<(), SlateDBError>
+    ensures ok { OnOk result (items.new.entries ≡ insert_entry key_cmp items.old.entries id (begun level begin)) }
+    ensures err { OnErr result (items.new.entries ≡ items.old.entries) }
+    ensures cause { IsOkUnless result SlateDBError.OutOfMemory }
+{
+    let none = items.insert(id, Open::new(alloc, level, begin))?;
+    drop(none);
+    Ok(())
+}
+
+/// Takes out the open transaction with this id.
+pub fn close(items: &mut BTreeMap<Uuid, Open>, id: &Uuid)
+    ensures { items.new.entries ≡ without id.now items.old.entries }
+{
+    drop(items.remove(id));
+}
+
+/// The least begin, or the newest sequence. Begins rise with ids, so it is that of the first.
+pub fn barrier(items: &BTreeMap<Uuid, Open>, newest: u64) -> u64
+    requires rise { BeginsRise items.now.entries }
+    requires within { AllByRecursion (λ p. p.1.begin ≤ newest) items.now.entries }
+    ensures { result ≡ least_begin newest items.now.entries }
+{
+    match items.first_key_value() {
+        Some((_, open)) => open.begin,
+        None => newest,
+    }
+}
+
+/// Where the open transaction with this id began. None has operations of its own yet.
+pub fn begin_of(items: &BTreeMap<Uuid, Open>, id: &Uuid) -> Option<u64>
+    ensures begin { result ≡ option_map (λ t. t.begin) (find_named id.now items.now.entries) }
+    ensures ops { IfSome (find_named id.now items.now.entries) (λ t. t.ops ≡ []) }
+{
+    match items.get(id) {
+        Some(open) => Some(open.begin),
+        None => None,
+    }
+}
+
+/// Notes a get of this key and its answer in the transcript of the open transaction with this id. Where memory is wanting
+/// nothing is noted.
+pub fn note_get(
+    items: &mut BTreeMap<Uuid, Open>,
+    id: &Uuid,
+    key: Bytes,
+    answer: &Option<KeyValue>,
+) -> Result<(), AllocError>
+    ensures ok { OnOk result (items.new.entries ≡ update_named id.now (λ t. record t { transcript = t.transcript ++ steps.Get key answer.now ∷ [] }) items.old.entries) }
+    ensures err { OnErr result (items.new.entries ≡ items.old.entries) }
+{
+    let copy = answer.clone()?;
+    let step = TranscriptStep::Get { key, answer: copy };
+    match items.get_mut(id) {
+        Some(open) => open.transcript.push(step),
+        None => {
+            drop(step);
+            Ok(())
+        }
+    }
+}
