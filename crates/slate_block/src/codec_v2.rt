@@ -26,15 +26,10 @@ impl SstRowCodecV2 {
     {
         let suffix = row.key_suffix.as_slice();
         let (shared, value) = (row.shared_bytes, &row.value);
-        append_parts(
-            out,
-            shared,
-            suffix,
-            row.seq,
-            value,
-            row.expire_ts,
-            row.create_ts,
-        )
+        let (expire_ts, create_ts) = (row.expire_ts, row.create_ts);
+        let start = out.len();
+        let written = append_row(out, shared, suffix, row.seq, value, expire_ts, create_ts);
+        cut_unwritten(out, start, written)
     }
 
     /// Takes the row off that begins the input; its suffix and its value share the input's buffer. An `Err` leaves the input
@@ -100,27 +95,8 @@ fn read_key(input: &Bytes) -> Result<((u32, Bytes), usize), SlateDBError>
     Ok(((key.shared_bytes, key_suffix), key.suffix_end))
 }
 
-/// Appends the row of these parts. `OutOfMemory` leaves `out` as it was.
-pub(crate) fn append_parts(
-    out: &mut Vec<u8>,
-    shared: u32,
-    suffix: &[u8],
-    seq: u64,
-    value: &ValueDeletable,
-    expire_ts: Option<i64>,
-    create_ts: Option<i64>,
-) -> Result<(), SlateDBError>
-    requires { FitsV2 (record { shared_bytes = shared; key_suffix = suffix.now; seq = seq; expire_ts = expire_ts; create_ts = create_ts; value = value.now }) }
-    ensures appended { OnOk result (out.new.items ≡ out.old.items ++ v2_bytes (record { shared_bytes = shared; key_suffix = suffix.now; seq = seq; expire_ts = expire_ts; create_ts = create_ts; value = value.now })) }
-    ensures unchanged { OnErr result (out.new.items ≡ out.old.items) }
-    ensures cause { IsOkUnless result SlateDBError.OutOfMemory }
-{
-    let start = out.len();
-    let written = append_row(out, shared, suffix, seq, value, expire_ts, create_ts);
-    cut_unwritten(out, start, written)
-}
-
-fn append_row(
+/// Appends the row of these parts. After an `Err` more may stand behind what `out` held.
+pub(crate) fn append_row(
     out: &mut Vec<u8>,
     shared: u32,
     suffix: &[u8],

@@ -183,22 +183,6 @@ pub fn row_at(
     row_upto(alloc, body, first, offsets[index] as usize, upto)
 }
 
-/// The key of the block's first row, which shares nothing.
-#[tactic(auto, unfolding(crate::specs::Walks::first_key_v1))]
-pub fn first_key(alloc: Global, body: &Bytes, offsets: &[u16]) -> Result<Bytes, SlateDBError>
-    ensures found { IfOk result (λ key. first_key_v1 body.now offsets.now ≡ Ok key) }
-    ensures cause { IfErr result (λ e. (e ≡ SlateDBError.OutOfMemory) ⊎ (first_key_v1 body.now offsets.now ≡ Err e)) }
-    ensures damage { IfErr result (λ e. (e ≡ SlateDBError.OutOfMemory) ⊎ IsDamage e) }
-{
-    if offsets.is_empty() {
-        return Err(corrupt(0));
-    }
-    let upto = place_behind(body.len(), offsets, 0);
-    let row = row_upto(alloc, body, &[], offsets[0] as usize, upto)?;
-    drop(row.value);
-    Ok(row.key)
-}
-
 /// Whether the offsets are as many as a block can name, and begin at 0.
 pub fn are_named(offsets: &[u16]) -> bool
     ensures { result ≡ are_named offsets.now }
@@ -209,8 +193,8 @@ pub fn are_named(offsets: &[u16]) -> bool
     }
 }
 
-/// The key by which all rows of the block are read, its first.
-#[tactic(auto, unfolding(crate::specs::Walks::block_reads_v1, crate::specs::Walks::block_reads))]
+/// The key by which all rows of the block are read: its first row's, which shares nothing.
+#[tactic(auto, unfolding(crate::specs::Walks::block_reads_v1, crate::specs::Walks::block_reads, crate::specs::Walks::first_key_v1))]
 pub fn block_key(alloc: Global, body: &Bytes, offsets: &[u16]) -> Result<Bytes, SlateDBError>
     ensures reads { IfOk result (λ key. block_reads 1 body.now offsets.now ≡ Ok (reads_v1 body.now key offsets.now (length body.now))) }
     ensures cause { IfErr result (λ e. (e ≡ SlateDBError.OutOfMemory) ⊎ (block_reads 1 body.now offsets.now ≡ Err e)) }
@@ -219,5 +203,8 @@ pub fn block_key(alloc: Global, body: &Bytes, offsets: &[u16]) -> Result<Bytes, 
     if !are_named(offsets) {
         return Err(corrupt(0));
     }
-    first_key(alloc, body, offsets)
+    let upto = place_behind(body.len(), offsets, 0);
+    let row = row_upto(alloc, body, &[], offsets[0] as usize, upto)?;
+    drop(row.value);
+    Ok(row.key)
 }

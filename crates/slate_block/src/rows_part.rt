@@ -5,6 +5,7 @@ ghost use Rattle.slate_block.specs.BlockSpelling.{entry_v2, is_restart};
 ghost use Rattle.slate_block.specs.Building.{CanTake, number, row_bytes, is_named, named, part_size, has_room, next_front, IsSamePart, IsLongerPart};
 
 use crate::varint::varint_len;
+use crate::writing::cut_unwritten;
 use crate::{codec_v0, codec_v2};
 use bytes::Bytes;
 use slate_types::{RowEntry, SlateDBError};
@@ -184,14 +185,16 @@ fn append_row(
     let suffix = &entry.key.as_slice()[shared..];
     let (seq, value) = (entry.seq, &entry.value);
     let (expire_ts, create_ts) = (entry.expire_ts, entry.create_ts);
-    match version {
+    let start = out.len();
+    let written = match version {
         Version::V1 => {
             let front = shared as u16;
-            codec_v0::append_parts(out, front, suffix, seq, value, expire_ts, create_ts)
+            codec_v0::append_row(out, front, suffix, seq, value, expire_ts, create_ts)
         }
         Version::V2 => {
             let front = shared as u32;
-            codec_v2::append_parts(out, front, suffix, seq, value, expire_ts, create_ts)
+            codec_v2::append_row(out, front, suffix, seq, value, expire_ts, create_ts)
         }
-    }
+    };
+    cut_unwritten(out, start, written)
 }

@@ -27,8 +27,15 @@ impl BlockPlace {
     pub fn before_group(number: usize) -> BlockPlace
         ensures { (body offsets : List ℕ) → left_v2 body offsets result ≡ reads_v2 body (drop number offsets) (length body) }
     {
+        let group = RowGroup {
+            at: 0,
+            end: 0,
+            room: 0,
+            is_last: false,
+            previous: Bytes::new(),
+        };
         BlockPlace {
-            group: RowGroup::spent(),
+            group,
             next: number,
         }
     }
@@ -149,25 +156,11 @@ pub fn seek_key(
     ensures read { IfOk result (λ after. BeginsRead (left_v2 body.now offsets.now after)) }
     ensures cause { IfErr result (λ e. (e ≡ SlateDBError.OutOfMemory) ⊎ Refuses (left_v2 body.now offsets.now place.now) e) }
 {
-    let start = start_of_seek(body, offsets, place, key)?;
+    let start = match last_before(body, offsets, place.next, key) {
+        Some(number) => BlockPlace::before_group(number),
+        None => place.copied()?,
+    };
     behind_key(alloc, body, offsets, start, key)
-}
-
-/// A place from which a seek can go row by row: before the last group whose first key comes before the key, or where it
-/// stands. The one error is `OutOfMemory`.
-fn start_of_seek(
-    body: &Bytes,
-    offsets: &[u16],
-    place: &BlockPlace,
-    key: &[u8],
-) -> Result<BlockPlace, SlateDBError>
-    ensures start { IfOk result (λ start. IsStart IterationOrder.Ascending key.now (left_v2 body.now offsets.now place.now) (left_v2 body.now offsets.now start)) }
-    ensures cause { IsOkUnless result SlateDBError.OutOfMemory }
-{
-    match last_before(body, offsets, place.next, key) {
-        Some(number) => Ok(BlockPlace::before_group(number)),
-        None => Ok(place.copied()?),
-    }
 }
 
 /// The number of a group, from one on, whose first key comes before the key: the last one, where the groups' keys rise.
