@@ -8,7 +8,7 @@ ghost use Rattle.slate_block.specs.BlockSpelling.{block_spelling};
 use crate::offsets::read_offsets;
 use bytes::Bytes;
 use slate_types::SlateDBError;
-use std::alloc::{AllocError, Global};
+use std::alloc::Global;
 
 /// A block of rows, taken apart: the rows' bytes, and where rows begin in them. In version 1 these are all rows, in
 /// version 2 every sixteenth from the first on.
@@ -29,7 +29,7 @@ impl Block {
         let len = self.body.len() + 2 * self.offsets.len() + 2;
         let mut out = Vec::with_capacity(alloc, len)?;
         out.extend_from_slice(self.body.as_slice())?;
-        Ok(with_offsets(out, &self.offsets)?)
+        with_offsets(out, &self.offsets)
     }
 
     /// Takes a block's bytes apart; the rows share their buffer. `CorruptTable` exactly where they are no rows' part and
@@ -66,9 +66,10 @@ impl Block {
 }
 
 /// The bytes of a block whose rows' part stands in the buffer: the offsets and their count are put behind it.
-pub(crate) fn with_offsets(mut body: Vec<u8>, offsets: &[u16]) -> Result<Bytes, AllocError>
+pub(crate) fn with_offsets(mut body: Vec<u8>, offsets: &[u16]) -> Result<Bytes, SlateDBError>
     requires { length offsets.now < 2 ^ 16 }
-    ensures { IfOk result (λ bytes. bytes ≡ block_spelling body.items offsets.now) }
+    ensures spelling { IfOk result (λ bytes. bytes ≡ block_spelling body.items offsets.now) }
+    ensures cause { IsOkUnless result SlateDBError.OutOfMemory }
 {
     for offset in offsets {
         body.extend_from_slice(&offset.to_be_bytes())?;

@@ -40,33 +40,18 @@ impl SstRowCodecV0 {
         ensures cause { IfErr result (λ e. (e ≡ SlateDBError.OutOfMemory) ⊎ (refusal (row_v1_of input.old) ≡ Some e)) }
         ensures unchanged { OnErr result (input.new ≡ input.old) }
     {
-        let (row, end) = read_row(input)?;
-        input.advance(end);
-        Ok(row)
+        let (key_prefix_len, fields) = fields_v1(input.as_slice())?;
+        let (key_suffix, value) = row_parts(input, &fields)?;
+        input.advance(fields.end);
+        Ok(SstRowEntry {
+            key_prefix_len,
+            key_suffix,
+            seq: fields.seq,
+            expire_ts: read_expiry(fields.flags, fields.expire_ts),
+            create_ts: fields.create_ts,
+            value,
+        })
     }
-}
-
-/// The row that begins the input, and how many bytes it has.
-#[tactic(auto, unfolding(crate::specs::RowReading::row_v1_of))]
-fn read_row(input: &Bytes) -> Result<(SstRowEntry, usize), SlateDBError>
-    ensures found { IfOk result (λ found. row_v1_of input.now ≡ Ok found) }
-    ensures cause { IfErr result (λ e. (e ≡ SlateDBError.OutOfMemory) ⊎ (row_v1_of input.now ≡ Err e)) }
-    ensures damage { IfErr result (λ e. (e ≡ SlateDBError.OutOfMemory) ⊎ IsDamageIn (length input.now) e) }
-    ensures within { IfOk result (λ found. found.1 ≤ length input.now) }
-    ensures bytes { IfOk result (λ _. (i : ℕ) → slice_index input.now i < 256) }
-{
-    let (key_prefix_len, fields) = fields_v1(input.as_slice())?;
-    let expire_ts = read_expiry(fields.flags, fields.expire_ts);
-    let (key_suffix, value) = row_parts(input, &fields)?;
-    let row = SstRowEntry {
-        key_prefix_len,
-        key_suffix,
-        seq: fields.seq,
-        expire_ts,
-        create_ts: fields.create_ts,
-        value,
-    };
-    Ok((row, fields.end))
 }
 
 /// Appends the row of these parts. After an `Err` more may stand behind what `out` held.

@@ -280,19 +280,8 @@ pub fn key_fields_v2(bytes: &[u8]) -> Result<KeyFields, SlateDBError>
     })
 }
 
-#[tactic(auto, unfolding(crate::specs::Damage::length_agrees))]
-fn agreed_flags(flags: RowFlags, key: &KeyFields) -> Result<RowFlags, SlateDBError>
-    ensures value { result ≡ length_agrees flags key.now }
-    ensures damage { IfErr result (IsDamageIn key.now.value_len_at) }
-{
-    if has(flags, RowFlags::TOMBSTONE) && key.value_len > 0 {
-        return Err(corrupt(key.value_len_at));
-    }
-    Ok(flags)
-}
-
 /// The fields of the row of version 2 that begins the bytes.
-#[tactic(auto, unfolding(crate::specs::Damage::layout_v2))]
+#[tactic(auto, unfolding(crate::specs::Damage::layout_v2, crate::specs::Damage::length_agrees))]
 pub fn fields_v2(bytes: &[u8]) -> Result<(u32, RowFields), SlateDBError>
     ensures value { result ≡ layout_v2 bytes.now }
     ensures damage { IfErr result (IsDamageIn (length bytes.now)) }
@@ -302,7 +291,9 @@ pub fn fields_v2(bytes: &[u8]) -> Result<(u32, RowFields), SlateDBError>
     let key = key_fields_v2(bytes)?;
     let (value_at, value_end) = block_field(key.value_len as usize, bytes, key.suffix_end)?;
     let ((seq, flags), at) = head_fields(bytes, value_end)?;
-    let flags = agreed_flags(flags, &key)?;
+    if has(flags, RowFlags::TOMBSTONE) && key.value_len > 0 {
+        return Err(corrupt(key.value_len_at));
+    }
     let ((expire_ts, create_ts), end) = stamp_fields(flags, bytes, at)?;
     let fields = RowFields {
         suffix_at: key.suffix_at,

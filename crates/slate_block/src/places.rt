@@ -165,24 +165,6 @@ pub fn place_behind(end: usize, offsets: &[u16], index: usize) -> usize
     end
 }
 
-/// The row at an index of the block's, by its first key.
-#[tactic(auto, using(crate::proofs::WalkLaws::read_at))]
-pub fn row_at(
-    alloc: Global,
-    body: &Bytes,
-    first: &[u8],
-    offsets: &[u16],
-    index: usize,
-) -> Result<RowEntry, SlateDBError>
-    requires { index < length offsets.now }
-    ensures found { IfOk result (λ row. slice_get (reads_v1 body.now first.now offsets.now (length body.now)) index ≡ Some (Ok row)) }
-    ensures cause { IfErr result (λ e. (e ≡ SlateDBError.OutOfMemory) ⊎ (slice_get (reads_v1 body.now first.now offsets.now (length body.now)) index ≡ Some (Err e))) }
-    ensures damage { IfErr result (λ e. (e ≡ SlateDBError.OutOfMemory) ⊎ IsDamage e) }
-{
-    let upto = place_behind(body.len(), offsets, index);
-    row_upto(alloc, body, first, offsets[index] as usize, upto)
-}
-
 /// Whether the offsets are as many as a block can name, and begin at 0.
 pub fn are_named(offsets: &[u16]) -> bool
     ensures { result ≡ are_named offsets.now }
