@@ -49,11 +49,12 @@ impl Block {
     }
 
     /// How many bytes `encode` gives.
-    #[tactic(auto, using(crate::proofs::OffsetLaws::block_len))]
+    #[tactic(auto, using(crate::proofs::OffsetLaws::block_len, crate::proofs::OffsetLaws::offsets_len))]
     pub fn size(&self) -> u64
         ensures { result ≡ length (block_spelling self.now.body self.now.offsets.items) }
     {
-        self.body.len() as u64 + offsets_size(&self.offsets)
+        let offsets = self.offsets.as_slice();
+        self.body.len() as u64 + 2 * offsets.len() as u64 + 2
     }
 
     /// The size of a table's blocks: so many bytes of rows, with their offsets and the blocks' checksums.
@@ -76,14 +77,6 @@ pub(crate) fn with_offsets(mut body: Vec<u8>, offsets: &[u16]) -> Result<Bytes, 
     }
     body.extend_from_slice(&(offsets.len() as u16).to_be_bytes())?;
     Ok(Bytes::from_vec(body)?)
-}
-
-/// How many bytes the offsets and their count have.
-fn offsets_size(offsets: &[u16]) -> u64
-    ensures value { result ≡ length (flat_map be16 offsets.now ++ be16 (length offsets.now)) }
-    ensures bound { result ≤ 2 ^ 63 }
-{
-    2 * offsets.len() as u64 + 2
 }
 
 /// How many rows of each kind a block has.

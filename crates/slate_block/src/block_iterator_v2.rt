@@ -33,13 +33,6 @@ impl<B: BlockLike> Model for AscendingState<B> {
 }
 
 impl<B: BlockLike> AscendingState<B> {
-    #[tactic(auto, using(crate::proofs::GroupSteps::left_behind_block, crate::proofs::GroupSteps::over_left, crate::proofs::GroupSteps::left_none))]
-    fn is_empty(&self) -> bool
-        ensures { IsTrue result ↔ (self.now.reads ≡ []) }
-    {
-        self.place.group.is_over() && self.place.next >= self.block.offsets().len()
-    }
-
     #[tactic(auto, using(crate::proofs::SeekLaws::step_left))]
     fn next_row(&mut self, alloc: Global) -> Result<Option<RowEntry>, SlateDBError>
         ensures read { IfOk result (λ answer. TakesRead self.old.reads answer self.new.reads) }
@@ -123,11 +116,12 @@ impl<B: BlockLike> BlockIteratorV2<B> {
     }
 
     /// Whether no row is left.
+    #[tactic(auto, using(crate::proofs::GroupSteps::left_none))]
     pub fn is_empty(&self) -> bool
         ensures { IsTrue result ↔ (self.now.reads ≡ []) }
     {
         match &self.inner {
-            BlockIteratorInner::Ascending(state) => state.is_empty(),
+            BlockIteratorInner::Ascending(state) => state.place.is_at_end(state.block.offsets()),
             BlockIteratorInner::Descending(rows) => rows.is_empty(),
         }
     }

@@ -5,7 +5,6 @@ ghost use Rattle.slate_block.specs.Damage.{
   varint_field,
   number_field,
   block_field,
-  flags_field,
   stamp_field,
   head_layout,
   stamps_layout,
@@ -134,24 +133,6 @@ pub fn block_field(len: usize, bytes: &[u8], at: usize) -> Result<(usize, usize)
     Ok((at, at + len))
 }
 
-#[tactic(auto, unfolding(crate::specs::Damage::flags_field))]
-fn flags_field(bytes: &[u8], at: usize) -> Result<(RowFlags, usize), SlateDBError>
-    requires { at ≤ length bytes.now }
-    ensures value { result ≡ flags_field bytes.now at }
-    ensures damage { IfErr result (IsDamageIn (length bytes.now)) }
-    ensures within { IfOk result (λ field. field.1 ≤ length bytes.now) }
-{
-    let Some(byte) = bytes.get(at) else {
-        return Err(corrupt(at));
-    };
-    match RowFlags::from_byte(*byte) {
-        Some(flags) => Ok((flags, at + 1)),
-        None => Err(SlateDBError::InvalidRowFlags {
-            encoded_bits: *byte,
-        }),
-    }
-}
-
 #[tactic(auto, unfolding(crate::specs::Damage::stamp_field))]
 fn stamp_field(
     is_there: bool,
@@ -170,7 +151,7 @@ fn stamp_field(
     Ok((Some(bits.cast_signed()), end))
 }
 
-#[tactic(auto, unfolding(crate::specs::Damage::head_layout))]
+#[tactic(auto, unfolding(crate::specs::Damage::head_layout, crate::specs::Damage::flags_field))]
 fn head_fields(bytes: &[u8], at: usize) -> Result<((u64, RowFlags), usize), SlateDBError>
     requires { at ≤ length bytes.now }
     ensures value { result ≡ head_layout bytes.now at }
@@ -178,8 +159,15 @@ fn head_fields(bytes: &[u8], at: usize) -> Result<((u64, RowFlags), usize), Slat
     ensures within { IfOk result (λ field. field.1 ≤ length bytes.now) }
 {
     let (seq, at) = u64_field(bytes, at)?;
-    let (flags, at) = flags_field(bytes, at)?;
-    Ok(((seq, flags), at))
+    let Some(byte) = bytes.get(at) else {
+        return Err(corrupt(at));
+    };
+    match RowFlags::from_byte(*byte) {
+        Some(flags) => Ok(((seq, flags), at + 1)),
+        None => Err(SlateDBError::InvalidRowFlags {
+            encoded_bits: *byte,
+        }),
+    }
 }
 
 #[tactic(auto, unfolding(crate::specs::Damage::stamps_layout))]

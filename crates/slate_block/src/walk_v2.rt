@@ -41,9 +41,10 @@ impl BlockPlace {
     }
 
     /// Whether no row is behind it.
-    #[tactic(auto, using(crate::proofs::GroupSteps::over_left, crate::proofs::GroupSteps::left_behind_block))]
+    #[tactic(auto, using(crate::proofs::GroupSteps::over_left, crate::proofs::GroupSteps::left_behind_block, crate::proofs::GroupSteps::left_none))]
     pub fn is_at_end(&self, offsets: &[u16]) -> bool
         ensures end { (body : List ℕ) → result ≡ true → left_v2 body offsets.now self.now ≡ [] }
+        ensures none { (body : List ℕ) → left_v2 body offsets.now self.now ≡ [] → result ≡ true }
         ensures more { result ≡ false → is_over self.now.group ≡ true → self.now.next < length offsets.now }
     {
         self.group.is_over() && self.next >= offsets.len()
