@@ -5,7 +5,7 @@ ghost use Rattle.slate_block.specs.RowReading.{refusal};
 ghost use Rattle.slate_block.specs.BlockReading.{IsApart, offsets_of_block};
 ghost use Rattle.slate_block.specs.BlockSpelling.{block_spelling};
 
-use crate::offsets::read_offsets;
+use crate::offsets::{counted_offsets, offsets_from};
 use bytes::Bytes;
 use slate_types::SlateDBError;
 use std::alloc::Global;
@@ -40,7 +40,8 @@ impl Block {
         ensures only { (body offsets : List ℕ) → IsApart body offsets bytes → IsOkUnless result SlateDBError.OutOfMemory }
         ensures cause { IfErr result (λ e. (e ≡ SlateDBError.OutOfMemory) ⊎ (refusal (offsets_of_block bytes) ≡ Some e)) }
     {
-        let (end, offsets) = read_offsets(alloc, bytes.as_slice())?;
+        let (end, count) = counted_offsets(bytes.as_slice())?;
+        let offsets = offsets_from(alloc, count, end, bytes.as_slice())?;
         bytes.truncate(end);
         Ok(Block {
             body: bytes,

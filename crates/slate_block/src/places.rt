@@ -94,25 +94,6 @@ fn whole_row(
     }
 }
 
-/// The row that begins bytes, which begin at a place, and the place behind it.
-fn placed_row(
-    version: Version,
-    alloc: Global,
-    bytes: &Bytes,
-    other: &[u8],
-    from: usize,
-) -> Result<(RowEntry, usize), SlateDBError>
-    requires { from + length bytes.now < 2 ^ 64 }
-    ensures found { IfOk result (λ found. placed version other.now from bytes.now ≡ Ok found) }
-    ensures cause { IfErr result (λ e. (e ≡ SlateDBError.OutOfMemory) ⊎ (placed version other.now from bytes.now ≡ Err e)) }
-    ensures damage { IfErr result (λ e. (e ≡ SlateDBError.OutOfMemory) ⊎ IsDamage e) }
-{
-    match fields_of(version, bytes.as_slice()) {
-        Ok((shared, fields)) => whole_row(alloc, bytes, other, from, shared as usize, &fields),
-        Err(error) => Err(moved(from, error)),
-    }
-}
-
 /// The row between two places, and the place behind it. Its key is restored from the other key.
 #[tactic(auto, using(crate::proofs::PlacedLaws::row_placed, crate::proofs::PlacedLaws::no_row_placed))]
 pub fn row_in(
@@ -128,7 +109,10 @@ pub fn row_in(
     ensures damage { IfErr result (λ e. (e ≡ SlateDBError.OutOfMemory) ⊎ IsDamage e) }
 {
     let bytes = between(body, from, upto)?;
-    let row = placed_row(version, alloc, &bytes, other, from);
+    let row = match fields_of(version, bytes.as_slice()) {
+        Ok((shared, fields)) => whole_row(alloc, &bytes, other, from, shared as usize, &fields),
+        Err(error) => Err(moved(from, error)),
+    };
     drop(bytes);
     row
 }

@@ -92,38 +92,8 @@ pub fn next_of_block(
     Ok((row, BlockPlace { group, next }))
 }
 
-/// The place behind the row behind a place, where that row comes before a key. `None` where it doesn't, and where none is
-/// left.
-#[tactic(auto, using(crate::proofs::SeekSteps::next_past, crate::proofs::SeekSteps::next_smaller, crate::proofs::SeekSteps::next_stops, crate::proofs::SeekSteps::next_read, crate::proofs::SeekSteps::end_stops, crate::proofs::SeekSteps::end_read))]
-fn behind_row(
-    alloc: Global,
-    body: &Bytes,
-    offsets: &[u16],
-    place: &BlockPlace,
-    key: &[u8],
-) -> Result<Option<BlockPlace>, SlateDBError>
-    ensures past { IfOk result (λ answer. IfSome answer (λ after. IsPast IterationOrder.Ascending key.now (left_v2 body.now offsets.now place.now) (left_v2 body.now offsets.now after))) }
-    ensures smaller { IfOk result (λ answer. IfSome answer (λ after. length (left_v2 body.now offsets.now after) < length (left_v2 body.now offsets.now place.now))) }
-    ensures stops { IfOk result (λ answer. answer ≡ None → StopsAt IterationOrder.Ascending key.now (left_v2 body.now offsets.now place.now)) }
-    ensures read { IfOk result (λ answer. answer ≡ None → BeginsRead (left_v2 body.now offsets.now place.now)) }
-    ensures cause { IfErr result (λ e. (e ≡ SlateDBError.OutOfMemory) ⊎ (slice_get (left_v2 body.now offsets.now place.now) 0 ≡ Some (Err e))) }
-    ensures damage { IfErr result (λ e. (e ≡ SlateDBError.OutOfMemory) ⊎ IsDamage e) }
-{
-    if place.is_at_end(offsets) {
-        return Ok(None);
-    }
-    let (row, after) = next_of_block(alloc, body, offsets, place)?;
-    let is_past = IterationOrder::Ascending.puts_before(row.key.as_slice(), key);
-    drop(row);
-    if is_past {
-        return Ok(Some(after));
-    }
-    drop(after);
-    Ok(None)
-}
-
 /// The place behind the leading rows that come before a key: before the first row that doesn't, and that is read.
-#[tactic(auto, using(crate::proofs::SeekLaws::past_none, crate::proofs::SeekLaws::past_trans, crate::proofs::SeekLaws::past_refused))]
+#[tactic(auto, using(crate::proofs::SeekLaws::past_none, crate::proofs::SeekLaws::past_trans, crate::proofs::SeekLaws::past_refused, crate::proofs::SeekSteps::next_past, crate::proofs::SeekSteps::next_smaller, crate::proofs::SeekSteps::next_stops, crate::proofs::SeekSteps::next_read, crate::proofs::SeekSteps::end_stops, crate::proofs::SeekSteps::end_read))]
 pub fn behind_key(
     alloc: Global,
     body: &Bytes,
@@ -137,7 +107,14 @@ pub fn behind_key(
     ensures cause { IfErr result (λ e. (e ≡ SlateDBError.OutOfMemory) ⊎ Refuses (left_v2 body.now offsets.now place) e) }
 {
     let mut place = place;
-    while let Some(after) = behind_row(alloc, body, offsets, &place, key)? {
+    while !place.is_at_end(offsets) {
+        let (row, after) = next_of_block(alloc, body, offsets, &place)?;
+        let is_past = IterationOrder::Ascending.puts_before(row.key.as_slice(), key);
+        drop(row);
+        if !is_past {
+            drop(after);
+            return Ok(place);
+        }
         place = after;
     }
     Ok(place)
