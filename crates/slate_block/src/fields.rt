@@ -14,7 +14,6 @@ ghost use Rattle.slate_block.specs.Damage.{
   key_layout_v2,
   layout_v2,
   length_agrees,
-  has,
   AreWithin,
   IsDamageIn,
 };
@@ -181,15 +180,9 @@ fn stamp_fields(
     ensures damage { IfErr result (IsDamageIn (length bytes.now)) }
     ensures within { IfOk result (λ field. field.1 ≤ length bytes.now) }
 {
-    let (expire_ts, at) = stamp_field(has(flags, RowFlags::HAS_EXPIRE_TS), bytes, at)?;
-    let (create_ts, at) = stamp_field(has(flags, RowFlags::HAS_CREATE_TS), bytes, at)?;
+    let (expire_ts, at) = stamp_field(flags.contains(RowFlags::HAS_EXPIRE_TS), bytes, at)?;
+    let (create_ts, at) = stamp_field(flags.contains(RowFlags::HAS_CREATE_TS), bytes, at)?;
     Ok(((expire_ts, create_ts), at))
-}
-
-fn has(flags: RowFlags, flag: RowFlags) -> bool
-    ensures { result ≡ has flag.0 flags }
-{
-    flags.contains(flag)
 }
 
 #[tactic(auto, unfolding(crate::specs::Damage::value_layout))]
@@ -217,7 +210,7 @@ pub fn fields_v1(bytes: &[u8]) -> Result<(u16, RowFields), SlateDBError>
     let (shared, (suffix_at, suffix_end)) = key_fields_v1(bytes)?;
     let ((seq, flags), at) = head_fields(bytes, suffix_end)?;
     let ((expire_ts, create_ts), at) = stamp_fields(flags, bytes, at)?;
-    let (value_at, value_end) = value_fields(has(flags, RowFlags::TOMBSTONE), bytes, at)?;
+    let (value_at, value_end) = value_fields(flags.contains(RowFlags::TOMBSTONE), bytes, at)?;
     let fields = RowFields {
         suffix_at,
         suffix_end,
@@ -279,7 +272,7 @@ pub fn fields_v2(bytes: &[u8]) -> Result<(u32, RowFields), SlateDBError>
     let key = key_fields_v2(bytes)?;
     let (value_at, value_end) = block_field(key.value_len as usize, bytes, key.suffix_end)?;
     let ((seq, flags), at) = head_fields(bytes, value_end)?;
-    if has(flags, RowFlags::TOMBSTONE) && key.value_len > 0 {
+    if flags.contains(RowFlags::TOMBSTONE) && key.value_len > 0 {
         return Err(corrupt(key.value_len_at));
     }
     let ((expire_ts, create_ts), end) = stamp_fields(flags, bytes, at)?;

@@ -17,9 +17,9 @@ returns-clause-found c =
     let bytes = c.in_ok-bytes.bytes in
     elim c.match-fields_of.branch [
       | in-Ok w ↦
-        let read : fields_of a.version bytes ≡ Ok (w.in-Ok.shared, w.in-Ok.fields) = cc in
-        rw w.row-is (subst (λ (p : Result (RowEntry × ℕ) SlateDBError). IfOk w.whole_row-row.result (λ found. p ≡ Ok found)) (sym (here c))
-        (placed_found a.version a.other.now a.from bytes (w.in-Ok.shared, w.in-Ok.fields) w.whole_row-row.result read w.whole_row-row.ensures.found))
+          let read : fields_of a.version bytes ≡ Ok (w.in-Ok.shared, w.in-Ok.fields) = cc in
+          rw w.row-is (subst (λ (p : Result (RowEntry × ℕ) SlateDBError). IfOk w.whole_row-row.result (λ found. p ≡ Ok found)) (sym (here c))
+          (placed_found a.version a.other.now a.from bytes (w.in-Ok.shared, w.in-Ok.fields) w.whole_row-row.result read w.whole_row-row.ensures.found))
       | in-Err w ↦ rw w.row-is tt
     ]
 
@@ -29,10 +29,10 @@ returns-clause-cause c =
     let bytes = c.in_ok-bytes.bytes in
     elim c.match-fields_of.branch [
       | in-Ok w ↦
-        let read : fields_of a.version bytes ≡ Ok (w.in-Ok.shared, w.in-Ok.fields) = cc in
-        rw w.row-is (subst (λ (p : Result (RowEntry × ℕ) SlateDBError). IfErr w.whole_row-row.result (λ e. (e ≡ OutOfMemory) ⊎ (p ≡ Err e))) (sym (here c))
-        (placed_cause a.version a.other.now a.from bytes (w.in-Ok.shared, w.in-Ok.fields) w.whole_row-row.result OutOfMemory read w.whole_row-row.ensures.cause))
+          let read : fields_of a.version bytes ≡ Ok (w.in-Ok.shared, w.in-Ok.fields) = cc in
+          rw w.row-is (subst (λ (p : Result (RowEntry × ℕ) SlateDBError). IfErr w.whole_row-row.result (λ e. (e ≡ OutOfMemory) ⊎ (p ≡ Err e))) (sym (here c))
+          (placed_cause a.version a.other.now a.from bytes (w.in-Ok.shared, w.in-Ok.fields) w.whole_row-row.result OutOfMemory read w.whole_row-row.ensures.cause))
       | in-Err w ↦
-        let read : fields_of a.version bytes ≡ Err w.in-Err.error = cc in
-        rw (w.row-is, w.moved.ensures) (inr (here c ∙ placed_refused a.version a.other.now a.from bytes w.in-Err.error read))
+          let read : fields_of a.version bytes ≡ Err w.in-Err.error = cc in
+          rw (w.row-is, w.moved.ensures) (inr (here c ∙ placed_refused a.version a.other.now a.from bytes w.in-Err.error read))
     ]

@@ -50,6 +50,6 @@ returns-clause-found c =
     let count = c.in_ok-end.count in
     let offsets = c.in_ok-offsets.offsets.items in
     let read = offsets_read bytes end count offsets (c.in_ok-end.ensures.value ∙ ap counted_offsets c.as_slice.ensures)
-      (subst (λ (b : List ℕ). offsets_from count 0 (min 1 end) end b end ≡ Ok offsets) c.as_slice-2.ensures c.in_ok-offsets.ensures.found) in
+    (subst (λ (b : List ℕ). offsets_from count 0 (min 1 end) end b end ≡ Ok offsets) c.as_slice-2.ensures c.in_ok-offsets.ensures.found) in
     subst (λ (b : List ℕ). IsApart b offsets bytes) (sym c.truncate.ensures)
     (block_takes_apart bytes end offsets (subst (λ (b : List ℕ). IsBytes b) c.as_slice.ensures c.in_ok-end.ensures.bytes) read)
