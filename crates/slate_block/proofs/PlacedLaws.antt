@@ -72,11 +72,6 @@ placed_cause version other from bytes row (Ok found) m read h = tt
 placed_cause version other from bytes row (Err e) m read (inl h) = inl h
 placed_cause version other from bytes row (Err e) m read (inr h) = inr (placed_of version other from bytes row read ∙ whole_refused other from bytes row (is_restored row.0 other (suffix_of bytes row.1)) e h.0 h.1)
 
-pub placed_damage : (P : Type 0) (from : ℕ) (r : Result (RowEntry × ℕ) SlateDBError) (m : SlateDBError) → IfErr r (λ e. (e ≡ m) ⊎ (P × (e ≡ CorruptTable from))) → IfErr r (λ e. (e ≡ m) ⊎ IsDamage e)
-placed_damage P from (Ok found) m h = tt
-placed_damage P from (Err e) m (inl h) = inl h
-placed_damage P from (Err e) m (inr h) = inr (subst IsDamage (sym h.1) tt)
-
 pub placed_refused : (version : Version) (other : List ℕ) (from : ℕ) (bytes : List ℕ) (e : SlateDBError) → fields_of version bytes ≡ Err e → placed version other from bytes ≡ Err (moved from e)
 unfolding placed
 placed_refused version other from bytes e read = ap (λ (r : Result (ℕ × RowFields) SlateDBError). moved_result from r >>= found_of other from bytes) read

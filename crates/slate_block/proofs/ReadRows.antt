@@ -1,14 +1,13 @@
 -- Rows whose fields were read, and rows whose fields were refused.
-use Rattle.std.proofs.Common.{◌≡◌, ℕ, List, drop, Ok, Err, refl, sym, ap, subst, ◌∙◌, ◌⊎◌, inl, inr}
+use Rattle.std.proofs.Common.{◌≡◌, ℕ, List, drop, Ok, Err, sym, ap, subst}
 use Rattle.std.specs.Prelude.{slice_range}
 use Rattle.slate_types.specs.declared.error.SlateDBError.{SlateDBError}
-use Rattle.slate_types.specs.declared.types.ValueDeletable.{ValueDeletable}
 use Rattle.slate_block.specs.declared.fields.KeyFields.{KeyFields}
 use Rattle.slate_block.specs.declared.fields.RowFields.{RowFields}
 use Rattle.slate_block.specs.declared.row.SstRowEntry.{SstRowEntry}
 use Rattle.slate_block.specs.declared.row.SstRowEntryV2.{SstRowEntryV2}
 use Rattle.slate_block.specs.Damage.{◌>>=◌, layout_v1, layout_v2, key_layout_v2}
-use Rattle.slate_block.specs.RowReading.{fields_value, expiry_of, entry_of_v1, entry_of_v2, row_v1_of, row_v2_of, key_v2_of, BeginsV1, BeginsV2, BeginsKeyV2}
+use Rattle.slate_block.specs.RowReading.{entry_of_v1, entry_of_v2, row_v1_of, row_v2_of, key_v2_of, BeginsV1, BeginsV2, BeginsKeyV2}
 use Rattle.slate_block.proofs.Groups.{IsBytes}
 use Rattle.slate_block.proofs.ReadingLaws.{row_v2_begins, key_v2_begins}
 use Rattle.slate_block.proofs.ReadingLawsV1.{row_v1_begins}
