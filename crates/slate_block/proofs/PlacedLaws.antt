@@ -1,5 +1,5 @@
 -- The row between two places is the one that begins the bytes there.
-use Rattle.std.proofs.Common.{◌≡◌, ℕ, ◌+◌, if◌then◌else◌, true, false, List, Result, Ok, Err, refl, sym, ap, subst, ◌∙◌, ◌⊎◌, inl, inr, Bool, cond}
+use Rattle.std.proofs.Common.{◌≡◌, ℕ, ◌+◌, if◌then◌else◌, true, false, List, Result, Ok, Err, refl, sym, ap, ◌∙◌, ◌⊎◌, inl, inr, Bool, cond}
 use Rattle.std.specs.Prelude.{IfOk, IfErr}
 use Rattle.slate_types.specs.declared.error.SlateDBError.{SlateDBError}
 use Rattle.slate_types.specs.declared.error.SlateDBError.TheVariants.{CorruptTable}
@@ -12,7 +12,6 @@ use Rattle.slate_block.specs.declared.rows_part.Version.TheVariants.{V1, V2}
 use Rattle.slate_block.specs.Damage.{◌>>=◌, layout_v1, layout_v2}
 use Rattle.slate_block.specs.RowReading.{entry_of_v1, entry_of_v2, row_v1_of, row_v2_of}
 use Rattle.slate_block.specs.Walks.{between, entry_v2_in, is_restored, moved, moved_result, row_v1_in, row_v2_in, whole_v1, whole_v2}
-use Rattle.slate_block.specs.BlockWalks.{IsDamage}
 use Rattle.slate_block.specs.PlacedRows.{as_read, fields_of, found_of, placed, row_in, suffix_of, whole_of}
 
 abbrev found_v1 : List ℕ → ℕ → SstRowEntry × ℕ → Result (RowEntry × ℕ) SlateDBError
