@@ -10,6 +10,7 @@ pub mod BackLaws
 pub mod FlagLaws
 pub mod RowLaws
 pub mod FieldLaws
+pub mod ReadRows
 pub mod ReadingLaws
 pub mod ReadingLawsV1
 pub mod Appending

@@ -223,3 +223,18 @@ block_again_apart body offsets bytes apart =
 pub refused_block : (body offsets bytes : List ℕ) (e m : SlateDBError) → (e ≡ m) ⊎ (offsets_of_block bytes ≡ Err e) → IsApart body offsets bytes → e ≡ m
 refused_block body offsets bytes e m (inl h) apart = h
 refused_block body offsets bytes e m (inr h) apart = let found = block_again_apart body offsets bytes apart in let clash : Ok found.0 ≡ Err e = sym found.1 ∙ h in absurd cc
+
+-- ---- the count and the offsets are read one after the other
+
+pub no_count : (bytes : List ℕ) (e : SlateDBError) → Err e ≡ counted_offsets bytes → offsets_of_block bytes ≡ Err e
+unfolding offsets_of_block
+no_count bytes e h = rw (sym h) refl
+
+pub no_offsets : (bytes : List ℕ) (end count : ℕ) (e m : SlateDBError) → Ok (end, count) ≡ counted_offsets bytes → (e ≡ m) ⊎ (offsets_from count 0 (min 1 end) end bytes end ≡ Err e) → (e ≡ m) ⊎ (offsets_of_block bytes ≡ Err e)
+unfolding offsets_of_block
+no_offsets bytes end count e m counted (inl h) = inl h
+no_offsets bytes end count e m counted (inr h) = inr (rw (sym counted, h) refl)
+
+pub offsets_read : (bytes : List ℕ) (end count : ℕ) (offsets : List ℕ) → Ok (end, count) ≡ counted_offsets bytes → offsets_from count 0 (min 1 end) end bytes end ≡ Ok offsets → offsets_of_block bytes ≡ Ok (end, offsets)
+unfolding offsets_of_block
+offsets_read bytes end count offsets counted read = rw (sym counted, read) refl

@@ -1,5 +1,5 @@
 -- The row between two places is the one that begins the bytes there.
-use Rattle.std.proofs.Common.{◌≡◌, ℕ, ◌+◌, if◌then◌else◌, true, false, List, Result, Ok, Err, refl, sym, ap, subst, ◌∙◌, ◌⊎◌, inl, inr, Bool, cond}
+use Rattle.std.proofs.Common.{◌≡◌, ℕ, ◌+◌, if◌then◌else◌, true, false, List, Result, Ok, Err, refl, sym, ap, ◌∙◌, ◌⊎◌, inl, inr, Bool, cond}
 use Rattle.std.specs.Prelude.{IfOk, IfErr}
 use Rattle.slate_types.specs.declared.error.SlateDBError.{SlateDBError}
 use Rattle.slate_types.specs.declared.error.SlateDBError.TheVariants.{CorruptTable}
@@ -12,7 +12,6 @@ use Rattle.slate_block.specs.declared.rows_part.Version.TheVariants.{V1, V2}
 use Rattle.slate_block.specs.Damage.{◌>>=◌, layout_v1, layout_v2}
 use Rattle.slate_block.specs.RowReading.{entry_of_v1, entry_of_v2, row_v1_of, row_v2_of}
 use Rattle.slate_block.specs.Walks.{between, entry_v2_in, is_restored, moved, moved_result, row_v1_in, row_v2_in, whole_v1, whole_v2}
-use Rattle.slate_block.specs.BlockWalks.{IsDamage}
 use Rattle.slate_block.specs.PlacedRows.{as_read, fields_of, found_of, placed, row_in, suffix_of, whole_of}
 
 abbrev found_v1 : List ℕ → ℕ → SstRowEntry × ℕ → Result (RowEntry × ℕ) SlateDBError
@@ -71,11 +70,6 @@ pub placed_cause : (version : Version) (other : List ℕ) (from : ℕ) (bytes : 
 placed_cause version other from bytes row (Ok found) m read h = tt
 placed_cause version other from bytes row (Err e) m read (inl h) = inl h
 placed_cause version other from bytes row (Err e) m read (inr h) = inr (placed_of version other from bytes row read ∙ whole_refused other from bytes row (is_restored row.0 other (suffix_of bytes row.1)) e h.0 h.1)
-
-pub placed_damage : (P : Type 0) (from : ℕ) (r : Result (RowEntry × ℕ) SlateDBError) (m : SlateDBError) → IfErr r (λ e. (e ≡ m) ⊎ (P × (e ≡ CorruptTable from))) → IfErr r (λ e. (e ≡ m) ⊎ IsDamage e)
-placed_damage P from (Ok found) m h = tt
-placed_damage P from (Err e) m (inl h) = inl h
-placed_damage P from (Err e) m (inr h) = inr (subst IsDamage (sym h.1) tt)
 
 pub placed_refused : (version : Version) (other : List ℕ) (from : ℕ) (bytes : List ℕ) (e : SlateDBError) → fields_of version bytes ≡ Err e → placed version other from bytes ≡ Err (moved from e)
 unfolding placed

@@ -5,10 +5,10 @@ ghost use Rattle.slate_block.specs.RowReading.{refusal};
 ghost use Rattle.slate_block.specs.BlockReading.{IsApart, offsets_of_block};
 ghost use Rattle.slate_block.specs.BlockSpelling.{block_spelling};
 
-use crate::offsets::read_offsets;
+use crate::offsets::{counted_offsets, offsets_from};
 use bytes::Bytes;
 use slate_types::SlateDBError;
-use std::alloc::{AllocError, Global};
+use std::alloc::Global;
 
 /// A block of rows, taken apart: the rows' bytes, and where rows begin in them. In version 1 these are all rows, in
 /// version 2 every sixteenth from the first on.
@@ -29,7 +29,7 @@ impl Block {
         let len = self.body.len() + 2 * self.offsets.len() + 2;
         let mut out = Vec::with_capacity(alloc, len)?;
         out.extend_from_slice(self.body.as_slice())?;
-        Ok(with_offsets(out, &self.offsets)?)
+        with_offsets(out, &self.offsets)
     }
 
     /// Takes a block's bytes apart; the rows share their buffer. `CorruptTable` exactly where they are no rows' part and
@@ -40,7 +40,8 @@ impl Block {
         ensures only { (body offsets : List ℕ) → IsApart body offsets bytes → IsOkUnless result SlateDBError.OutOfMemory }
         ensures cause { IfErr result (λ e. (e ≡ SlateDBError.OutOfMemory) ⊎ (refusal (offsets_of_block bytes) ≡ Some e)) }
     {
-        let (end, offsets) = read_offsets(alloc, bytes.as_slice())?;
+        let (end, count) = counted_offsets(bytes.as_slice())?;
+        let offsets = offsets_from(alloc, count, end, bytes.as_slice())?;
         bytes.truncate(end);
         Ok(Block {
             body: bytes,
@@ -49,11 +50,12 @@ impl Block {
     }
 
     /// How many bytes `encode` gives.
-    #[tactic(auto, using(crate::proofs::OffsetLaws::block_len))]
+    #[tactic(auto, using(crate::proofs::OffsetLaws::block_len, crate::proofs::OffsetLaws::offsets_len))]
     pub fn size(&self) -> u64
         ensures { result ≡ length (block_spelling self.now.body self.now.offsets.items) }
     {
-        self.body.len() as u64 + offsets_size(&self.offsets)
+        let offsets = self.offsets.as_slice();
+        self.body.len() as u64 + 2 * offsets.len() as u64 + 2
     }
 
     /// The size of a table's blocks: so many bytes of rows, with their offsets and the blocks' checksums.
@@ -66,23 +68,16 @@ impl Block {
 }
 
 /// The bytes of a block whose rows' part stands in the buffer: the offsets and their count are put behind it.
-pub(crate) fn with_offsets(mut body: Vec<u8>, offsets: &[u16]) -> Result<Bytes, AllocError>
+pub(crate) fn with_offsets(mut body: Vec<u8>, offsets: &[u16]) -> Result<Bytes, SlateDBError>
     requires { length offsets.now < 2 ^ 16 }
-    ensures { IfOk result (λ bytes. bytes ≡ block_spelling body.items offsets.now) }
+    ensures spelling { IfOk result (λ bytes. bytes ≡ block_spelling body.items offsets.now) }
+    ensures cause { IsOkUnless result SlateDBError.OutOfMemory }
 {
     for offset in offsets {
         body.extend_from_slice(&offset.to_be_bytes())?;
     }
     body.extend_from_slice(&(offsets.len() as u16).to_be_bytes())?;
     Ok(Bytes::from_vec(body)?)
-}
-
-/// How many bytes the offsets and their count have.
-fn offsets_size(offsets: &[u16]) -> u64
-    ensures value { result ≡ length (flat_map be16 offsets.now ++ be16 (length offsets.now)) }
-    ensures bound { result ≤ 2 ^ 63 }
-{
-    2 * offsets.len() as u64 + 2
 }
 
 /// How many rows of each kind a block has.

@@ -7,7 +7,7 @@ ghost use Rattle.slate_block.specs.BlockWalks.{in_order, left, place_in, rows_of
 
 use crate::block_like::BlockLike;
 use crate::key_parts::is_before_at;
-use crate::places::{block_key, row_at};
+use crate::places::{block_key, place_behind, row_upto};
 use bytes::Bytes;
 use slate_types::{IterationOrder, Outside, RowEntry, RowEntryIterator, SlateDBError};
 use std::alloc::Global;
@@ -86,7 +86,7 @@ impl<B: BlockLike> BlockIterator<B> {
     }
 
     /// The row at an index of those that are left.
-    #[tactic(auto, using(crate::proofs::WalkLaws::reads_left, crate::proofs::WalkLaws::read_in_order, crate::proofs::WalkLaws::as_many_reads))]
+    #[tactic(auto, using(crate::proofs::WalkLaws::reads_left, crate::proofs::WalkLaws::read_in_order, crate::proofs::WalkLaws::as_many_reads, crate::proofs::WalkLaws::read_at))]
     fn row(&self, alloc: Global, index: usize) -> Result<RowEntry, SlateDBError>
         requires { index < length self.now.reads }
         ensures found { IfOk result (λ row. slice_get self.now.reads index ≡ Some (Ok row)) }
@@ -94,8 +94,15 @@ impl<B: BlockLike> BlockIterator<B> {
         ensures damage { IfErr result (λ e. (e ≡ SlateDBError.OutOfMemory) ⊎ IsDamage e) }
     {
         let place = place_in(self.order, self.start, self.end, index);
-        let first = self.first_key.as_slice();
-        row_at(alloc, self.block.body(), first, self.block.offsets(), place)
+        let (body, offsets) = (self.block.body(), self.block.offsets());
+        let upto = place_behind(body.len(), offsets, place);
+        row_upto(
+            alloc,
+            body,
+            self.first_key.as_slice(),
+            offsets[place] as usize,
+            upto,
+        )
     }
 
     /// Takes so many rows off.

@@ -33,30 +33,6 @@ impl<B: BlockLike> Model for AscendingState<B> {
 }
 
 impl<B: BlockLike> AscendingState<B> {
-    #[tactic(auto, using(crate::proofs::GroupSteps::named_reads, crate::proofs::GroupSteps::unnamed_reads))]
-    fn new(block: B) -> Result<Self, SlateDBError>
-        ensures reads { IfOk result (λ it. it.reads ≡ reads_v2 (B.body_bytes block) (B.row_offsets block) (length (B.body_bytes block))) }
-        ensures begins { IfOk result (λ it. block_reads 2 (B.body_bytes block) (B.row_offsets block) ≡ Ok it.reads) }
-        ensures order { IfOk result (λ it. it.order ≡ IterationOrder.Ascending) }
-        ensures cause { IfErr result (λ e. block_reads 2 (B.body_bytes block) (B.row_offsets block) ≡ Err e) }
-        ensures damage { IfErr result IsDamage }
-    {
-        if !are_named(block.offsets()) {
-            return Err(corrupt(0));
-        }
-        Ok(AscendingState {
-            block,
-            place: BlockPlace::before_group(0),
-        })
-    }
-
-    #[tactic(auto, using(crate::proofs::GroupSteps::left_behind_block, crate::proofs::GroupSteps::over_left, crate::proofs::GroupSteps::left_none))]
-    fn is_empty(&self) -> bool
-        ensures { IsTrue result ↔ (self.now.reads ≡ []) }
-    {
-        self.place.group.is_over() && self.place.next >= self.block.offsets().len()
-    }
-
     #[tactic(auto, using(crate::proofs::SeekLaws::step_left))]
     fn next_row(&mut self, alloc: Global) -> Result<Option<RowEntry>, SlateDBError>
         ensures read { IfOk result (λ answer. TakesRead self.old.reads answer self.new.reads) }
@@ -116,7 +92,7 @@ impl<B: BlockLike> BlockIteratorV2<B> {
     /// All rows of the block, in the order; downwards they come in exactly the reversed order. It refuses exactly this:
     /// `CorruptTable` at 0 where the offsets don't begin at 0, or are more than 65535. What else fails is refused when the
     /// walk comes there: upwards a row that fails, downwards a group of which a row fails, by the first one.
-    #[tactic(auto, using(crate::proofs::GroupSteps::reads_are_rows, crate::proofs::GroupSteps::rows_are_reads))]
+    #[tactic(auto, using(crate::proofs::GroupSteps::named_reads, crate::proofs::GroupSteps::unnamed_reads, crate::proofs::GroupSteps::reads_are_rows, crate::proofs::GroupSteps::rows_are_reads))]
     pub fn new(alloc: Global, block: B, order: IterationOrder) -> Result<Self, SlateDBError>
         ensures reads { IfOk result (λ it. it.reads ≡ walk_in order (B.body_bytes block) (B.row_offsets block)) }
         ensures rows { IfOk result (λ it. (rows : List RowEntry) → block_rows 2 (B.body_bytes block) (B.row_offsets block) ≡ Ok rows → left it ≡ Ok (in_order order rows)) }
@@ -126,25 +102,26 @@ impl<B: BlockLike> BlockIteratorV2<B> {
         ensures cause { IfErr result (λ e. block_reads 2 (B.body_bytes block) (B.row_offsets block) ≡ Err e) }
         ensures damage { IfErr result IsDamage }
     {
-        match order {
-            IterationOrder::Ascending => {
-                let inner = BlockIteratorInner::Ascending(AscendingState::new(block)?);
-                Ok(BlockIteratorV2 { inner })
-            }
-            IterationOrder::Descending => {
-                let rows = DescendingBlockIteratorV2::new(alloc, block)?;
-                let inner = BlockIteratorInner::Descending(rows);
-                Ok(BlockIteratorV2 { inner })
-            }
+        if let IterationOrder::Descending = order {
+            let rows = DescendingBlockIteratorV2::new(alloc, block)?;
+            let inner = BlockIteratorInner::Descending(rows);
+            return Ok(BlockIteratorV2 { inner });
         }
+        if !are_named(block.offsets()) {
+            return Err(corrupt(0));
+        }
+        let place = BlockPlace::before_group(0);
+        let inner = BlockIteratorInner::Ascending(AscendingState { block, place });
+        Ok(BlockIteratorV2 { inner })
     }
 
     /// Whether no row is left.
+    #[tactic(auto, using(crate::proofs::GroupSteps::left_none))]
     pub fn is_empty(&self) -> bool
         ensures { IsTrue result ↔ (self.now.reads ≡ []) }
     {
         match &self.inner {
-            BlockIteratorInner::Ascending(state) => state.is_empty(),
+            BlockIteratorInner::Ascending(state) => state.place.is_at_end(state.block.offsets()),
             BlockIteratorInner::Descending(rows) => rows.is_empty(),
         }
     }

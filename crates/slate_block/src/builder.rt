@@ -104,7 +104,7 @@ impl BlockBuilder {
         requires within { shared ≤ length entry.now.key }
         ensures { result ≡ fits_in self.now.size self.now.version self.now.rows entry.now }
     {
-        self.part.has_room(self.block_size, shared, entry)
+        self.part.num_rows == 0 || self.part.size_with(shared, entry) <= u64::from(self.block_size)
     }
 
     /// Whether no row was taken.
@@ -174,6 +174,6 @@ impl BlockBuilder {
             return Err(SlateDBError::EmptyBlock);
         }
         drop(part.front_key);
-        Ok(with_offsets(part.body, &part.offsets)?)
+        with_offsets(part.body, &part.offsets)
     }
 }

@@ -69,11 +69,11 @@ impl BlockBuilderWithStats {
         ensures cause { IfErr result (λ e. (e ≡ SlateDBError.EmptyKey) ⊎ (e ≡ SlateDBError.OutOfMemory)) }
     {
         let one = stats_of_row(&entry);
-        let is_taken = self.builder.add(entry)?;
-        if is_taken {
+        let is_taken = self.builder.add(entry);
+        if let Ok(true) = is_taken {
             self.stats = sum_of(self.stats, one);
         }
-        Ok(is_taken)
+        is_taken
     }
 
     /// The builder, and the counts of the rows that were taken and counted.

@@ -25,15 +25,10 @@ impl SstRowCodecV0 {
     {
         let suffix = row.key_suffix.as_slice();
         let (shared, value) = (row.key_prefix_len, &row.value);
-        append_parts(
-            out,
-            shared,
-            suffix,
-            row.seq,
-            value,
-            row.expire_ts,
-            row.create_ts,
-        )
+        let (expire_ts, create_ts) = (row.expire_ts, row.create_ts);
+        let start = out.len();
+        let written = append_row(out, shared, suffix, row.seq, value, expire_ts, create_ts);
+        cut_unwritten(out, start, written)
     }
 
     /// Takes the row off that begins the input; its suffix and its value share the input's buffer. A tombstone is read
@@ -45,56 +40,22 @@ impl SstRowCodecV0 {
         ensures cause { IfErr result (λ e. (e ≡ SlateDBError.OutOfMemory) ⊎ (refusal (row_v1_of input.old) ≡ Some e)) }
         ensures unchanged { OnErr result (input.new ≡ input.old) }
     {
-        let (row, end) = read_row(input)?;
-        input.advance(end);
-        Ok(row)
+        let (key_prefix_len, fields) = fields_v1(input.as_slice())?;
+        let (key_suffix, value) = row_parts(input, &fields)?;
+        input.advance(fields.end);
+        Ok(SstRowEntry {
+            key_prefix_len,
+            key_suffix,
+            seq: fields.seq,
+            expire_ts: read_expiry(fields.flags, fields.expire_ts),
+            create_ts: fields.create_ts,
+            value,
+        })
     }
 }
 
-/// The row that begins the input, and how many bytes it has.
-#[tactic(auto, unfolding(crate::specs::RowReading::row_v1_of))]
-fn read_row(input: &Bytes) -> Result<(SstRowEntry, usize), SlateDBError>
-    ensures found { IfOk result (λ found. row_v1_of input.now ≡ Ok found) }
-    ensures cause { IfErr result (λ e. (e ≡ SlateDBError.OutOfMemory) ⊎ (row_v1_of input.now ≡ Err e)) }
-    ensures damage { IfErr result (λ e. (e ≡ SlateDBError.OutOfMemory) ⊎ IsDamageIn (length input.now) e) }
-    ensures within { IfOk result (λ found. found.1 ≤ length input.now) }
-    ensures bytes { IfOk result (λ _. (i : ℕ) → slice_index input.now i < 256) }
-{
-    let (key_prefix_len, fields) = fields_v1(input.as_slice())?;
-    let expire_ts = read_expiry(fields.flags, fields.expire_ts);
-    let (key_suffix, value) = row_parts(input, &fields)?;
-    let row = SstRowEntry {
-        key_prefix_len,
-        key_suffix,
-        seq: fields.seq,
-        expire_ts,
-        create_ts: fields.create_ts,
-        value,
-    };
-    Ok((row, fields.end))
-}
-
-/// Appends the row of these parts. `OutOfMemory` leaves `out` as it was.
-pub(crate) fn append_parts(
-    out: &mut Vec<u8>,
-    shared: u16,
-    suffix: &[u8],
-    seq: u64,
-    value: &ValueDeletable,
-    expire_ts: Option<i64>,
-    create_ts: Option<i64>,
-) -> Result<(), SlateDBError>
-    requires { FitsV1 (record { key_prefix_len = shared; key_suffix = suffix.now; seq = seq; expire_ts = expire_ts; create_ts = create_ts; value = value.now }) }
-    ensures appended { OnOk result (out.new.items ≡ out.old.items ++ v1_bytes (record { key_prefix_len = shared; key_suffix = suffix.now; seq = seq; expire_ts = expire_ts; create_ts = create_ts; value = value.now })) }
-    ensures unchanged { OnErr result (out.new.items ≡ out.old.items) }
-    ensures cause { IsOkUnless result SlateDBError.OutOfMemory }
-{
-    let start = out.len();
-    let written = append_row(out, shared, suffix, seq, value, expire_ts, create_ts);
-    cut_unwritten(out, start, written)
-}
-
-fn append_row(
+/// Appends the row of these parts. After an `Err` more may stand behind what `out` held.
+pub(crate) fn append_row(
     out: &mut Vec<u8>,
     shared: u16,
     suffix: &[u8],

@@ -26,15 +26,10 @@ impl SstRowCodecV2 {
     {
         let suffix = row.key_suffix.as_slice();
         let (shared, value) = (row.shared_bytes, &row.value);
-        append_parts(
-            out,
-            shared,
-            suffix,
-            row.seq,
-            value,
-            row.expire_ts,
-            row.create_ts,
-        )
+        let (expire_ts, create_ts) = (row.expire_ts, row.create_ts);
+        let start = out.len();
+        let written = append_row(out, shared, suffix, row.seq, value, expire_ts, create_ts);
+        cut_unwritten(out, start, written)
     }
 
     /// Takes the row off that begins the input; its suffix and its value share the input's buffer. An `Err` leaves the input
@@ -46,9 +41,17 @@ impl SstRowCodecV2 {
         ensures cause { IfErr result (λ e. (e ≡ SlateDBError.OutOfMemory) ⊎ (refusal (row_v2_of input.old) ≡ Some e)) }
         ensures unchanged { OnErr result (input.new ≡ input.old) }
     {
-        let (row, end) = read_row(input)?;
-        input.advance(end);
-        Ok(row)
+        let (shared_bytes, fields) = fields_v2(input.as_slice())?;
+        let (key_suffix, value) = row_parts(input, &fields)?;
+        input.advance(fields.end);
+        Ok(SstRowEntryV2 {
+            shared_bytes,
+            key_suffix,
+            seq: fields.seq,
+            expire_ts: fields.expire_ts,
+            create_ts: fields.create_ts,
+            value,
+        })
     }
 
     /// Takes off what stands before the value of the row that begins the input: the length that it shares, and the suffix of
@@ -60,67 +63,15 @@ impl SstRowCodecV2 {
         ensures cause { IfErr result (λ e. (e ≡ SlateDBError.OutOfMemory) ⊎ (refusal (key_v2_of input.old) ≡ Some e)) }
         ensures unchanged { OnErr result (input.new ≡ input.old) }
     {
-        let (key, end) = read_key(input)?;
-        input.advance(end);
-        Ok(key)
+        let key = key_fields_v2(input.as_slice())?;
+        let key_suffix = input.slice(key.suffix_at..key.suffix_end)?;
+        input.advance(key.suffix_end);
+        Ok((key.shared_bytes, key_suffix))
     }
 }
 
-/// The row that begins the input, and how many bytes it has.
-#[tactic(auto, unfolding(crate::specs::RowReading::row_v2_of))]
-fn read_row(input: &Bytes) -> Result<(SstRowEntryV2, usize), SlateDBError>
-    ensures found { IfOk result (λ found. row_v2_of input.now ≡ Ok found) }
-    ensures cause { IfErr result (λ e. (e ≡ SlateDBError.OutOfMemory) ⊎ (row_v2_of input.now ≡ Err e)) }
-    ensures damage { IfErr result (λ e. (e ≡ SlateDBError.OutOfMemory) ⊎ IsDamageIn (length input.now) e) }
-    ensures within { IfOk result (λ found. found.1 ≤ length input.now) }
-    ensures bytes { IfOk result (λ _. (i : ℕ) → slice_index input.now i < 256) }
-{
-    let (shared_bytes, fields) = fields_v2(input.as_slice())?;
-    let (key_suffix, value) = row_parts(input, &fields)?;
-    let row = SstRowEntryV2 {
-        shared_bytes,
-        key_suffix,
-        seq: fields.seq,
-        expire_ts: fields.expire_ts,
-        create_ts: fields.create_ts,
-        value,
-    };
-    Ok((row, fields.end))
-}
-
-#[tactic(auto, unfolding(crate::specs::RowReading::key_v2_of))]
-fn read_key(input: &Bytes) -> Result<((u32, Bytes), usize), SlateDBError>
-    ensures found { IfOk result (λ found. key_v2_of input.now ≡ Ok found) }
-    ensures cause { IfErr result (λ e. (e ≡ SlateDBError.OutOfMemory) ⊎ (key_v2_of input.now ≡ Err e)) }
-    ensures within { IfOk result (λ found. found.1 ≤ length input.now) }
-    ensures bytes { IfOk result (λ _. (i : ℕ) → slice_index input.now i < 256) }
-{
-    let key = key_fields_v2(input.as_slice())?;
-    let key_suffix = input.slice(key.suffix_at..key.suffix_end)?;
-    Ok(((key.shared_bytes, key_suffix), key.suffix_end))
-}
-
-/// Appends the row of these parts. `OutOfMemory` leaves `out` as it was.
-pub(crate) fn append_parts(
-    out: &mut Vec<u8>,
-    shared: u32,
-    suffix: &[u8],
-    seq: u64,
-    value: &ValueDeletable,
-    expire_ts: Option<i64>,
-    create_ts: Option<i64>,
-) -> Result<(), SlateDBError>
-    requires { FitsV2 (record { shared_bytes = shared; key_suffix = suffix.now; seq = seq; expire_ts = expire_ts; create_ts = create_ts; value = value.now }) }
-    ensures appended { OnOk result (out.new.items ≡ out.old.items ++ v2_bytes (record { shared_bytes = shared; key_suffix = suffix.now; seq = seq; expire_ts = expire_ts; create_ts = create_ts; value = value.now })) }
-    ensures unchanged { OnErr result (out.new.items ≡ out.old.items) }
-    ensures cause { IsOkUnless result SlateDBError.OutOfMemory }
-{
-    let start = out.len();
-    let written = append_row(out, shared, suffix, seq, value, expire_ts, create_ts);
-    cut_unwritten(out, start, written)
-}
-
-fn append_row(
+/// Appends the row of these parts. After an `Err` more may stand behind what `out` held.
+pub(crate) fn append_row(
     out: &mut Vec<u8>,
     shared: u32,
     suffix: &[u8],

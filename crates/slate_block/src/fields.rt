@@ -5,7 +5,6 @@ ghost use Rattle.slate_block.specs.Damage.{
   varint_field,
   number_field,
   block_field,
-  flags_field,
   stamp_field,
   head_layout,
   stamps_layout,
@@ -15,7 +14,6 @@ ghost use Rattle.slate_block.specs.Damage.{
   key_layout_v2,
   layout_v2,
   length_agrees,
-  has,
   AreWithin,
   IsDamageIn,
 };
@@ -134,24 +132,6 @@ pub fn block_field(len: usize, bytes: &[u8], at: usize) -> Result<(usize, usize)
     Ok((at, at + len))
 }
 
-#[tactic(auto, unfolding(crate::specs::Damage::flags_field))]
-fn flags_field(bytes: &[u8], at: usize) -> Result<(RowFlags, usize), SlateDBError>
-    requires { at ≤ length bytes.now }
-    ensures value { result ≡ flags_field bytes.now at }
-    ensures damage { IfErr result (IsDamageIn (length bytes.now)) }
-    ensures within { IfOk result (λ field. field.1 ≤ length bytes.now) }
-{
-    let Some(byte) = bytes.get(at) else {
-        return Err(corrupt(at));
-    };
-    match RowFlags::from_byte(*byte) {
-        Some(flags) => Ok((flags, at + 1)),
-        None => Err(SlateDBError::InvalidRowFlags {
-            encoded_bits: *byte,
-        }),
-    }
-}
-
 #[tactic(auto, unfolding(crate::specs::Damage::stamp_field))]
 fn stamp_field(
     is_there: bool,
@@ -170,7 +150,7 @@ fn stamp_field(
     Ok((Some(bits.cast_signed()), end))
 }
 
-#[tactic(auto, unfolding(crate::specs::Damage::head_layout))]
+#[tactic(auto, unfolding(crate::specs::Damage::head_layout, crate::specs::Damage::flags_field))]
 fn head_fields(bytes: &[u8], at: usize) -> Result<((u64, RowFlags), usize), SlateDBError>
     requires { at ≤ length bytes.now }
     ensures value { result ≡ head_layout bytes.now at }
@@ -178,8 +158,15 @@ fn head_fields(bytes: &[u8], at: usize) -> Result<((u64, RowFlags), usize), Slat
     ensures within { IfOk result (λ field. field.1 ≤ length bytes.now) }
 {
     let (seq, at) = u64_field(bytes, at)?;
-    let (flags, at) = flags_field(bytes, at)?;
-    Ok(((seq, flags), at))
+    let Some(byte) = bytes.get(at) else {
+        return Err(corrupt(at));
+    };
+    match RowFlags::from_byte(*byte) {
+        Some(flags) => Ok(((seq, flags), at + 1)),
+        None => Err(SlateDBError::InvalidRowFlags {
+            encoded_bits: *byte,
+        }),
+    }
 }
 
 #[tactic(auto, unfolding(crate::specs::Damage::stamps_layout))]
@@ -193,15 +180,9 @@ fn stamp_fields(
     ensures damage { IfErr result (IsDamageIn (length bytes.now)) }
     ensures within { IfOk result (λ field. field.1 ≤ length bytes.now) }
 {
-    let (expire_ts, at) = stamp_field(has(flags, RowFlags::HAS_EXPIRE_TS), bytes, at)?;
-    let (create_ts, at) = stamp_field(has(flags, RowFlags::HAS_CREATE_TS), bytes, at)?;
+    let (expire_ts, at) = stamp_field(flags.contains(RowFlags::HAS_EXPIRE_TS), bytes, at)?;
+    let (create_ts, at) = stamp_field(flags.contains(RowFlags::HAS_CREATE_TS), bytes, at)?;
     Ok(((expire_ts, create_ts), at))
-}
-
-fn has(flags: RowFlags, flag: RowFlags) -> bool
-    ensures { result ≡ has flag.0 flags }
-{
-    flags.contains(flag)
 }
 
 #[tactic(auto, unfolding(crate::specs::Damage::value_layout))]
@@ -229,7 +210,7 @@ pub fn fields_v1(bytes: &[u8]) -> Result<(u16, RowFields), SlateDBError>
     let (shared, (suffix_at, suffix_end)) = key_fields_v1(bytes)?;
     let ((seq, flags), at) = head_fields(bytes, suffix_end)?;
     let ((expire_ts, create_ts), at) = stamp_fields(flags, bytes, at)?;
-    let (value_at, value_end) = value_fields(has(flags, RowFlags::TOMBSTONE), bytes, at)?;
+    let (value_at, value_end) = value_fields(flags.contains(RowFlags::TOMBSTONE), bytes, at)?;
     let fields = RowFields {
         suffix_at,
         suffix_end,
@@ -280,19 +261,8 @@ pub fn key_fields_v2(bytes: &[u8]) -> Result<KeyFields, SlateDBError>
     })
 }
 
-#[tactic(auto, unfolding(crate::specs::Damage::length_agrees))]
-fn agreed_flags(flags: RowFlags, key: &KeyFields) -> Result<RowFlags, SlateDBError>
-    ensures value { result ≡ length_agrees flags key.now }
-    ensures damage { IfErr result (IsDamageIn key.now.value_len_at) }
-{
-    if has(flags, RowFlags::TOMBSTONE) && key.value_len > 0 {
-        return Err(corrupt(key.value_len_at));
-    }
-    Ok(flags)
-}
-
 /// The fields of the row of version 2 that begins the bytes.
-#[tactic(auto, unfolding(crate::specs::Damage::layout_v2))]
+#[tactic(auto, unfolding(crate::specs::Damage::layout_v2, crate::specs::Damage::length_agrees))]
 pub fn fields_v2(bytes: &[u8]) -> Result<(u32, RowFields), SlateDBError>
     ensures value { result ≡ layout_v2 bytes.now }
     ensures damage { IfErr result (IsDamageIn (length bytes.now)) }
@@ -302,7 +272,9 @@ pub fn fields_v2(bytes: &[u8]) -> Result<(u32, RowFields), SlateDBError>
     let key = key_fields_v2(bytes)?;
     let (value_at, value_end) = block_field(key.value_len as usize, bytes, key.suffix_end)?;
     let ((seq, flags), at) = head_fields(bytes, value_end)?;
-    let flags = agreed_flags(flags, &key)?;
+    if flags.contains(RowFlags::TOMBSTONE) && key.value_len > 0 {
+        return Err(corrupt(key.value_len_at));
+    }
     let ((expire_ts, create_ts), end) = stamp_fields(flags, bytes, at)?;
     let fields = RowFields {
         suffix_at: key.suffix_at,

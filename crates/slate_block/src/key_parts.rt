@@ -22,31 +22,6 @@ fn cmp_parts(front: &[u8], suffix: &[u8], key: &[u8]) -> Ordering
     front.cmp(&key[..len]).then(suffix.cmp(&key[len..]))
 }
 
-/// Whether the order puts the key of two parts before the key.
-#[tactic(auto, using(crate::proofs::PartLaws::turned_lt))]
-fn puts_parts_before(order: IterationOrder, front: &[u8], suffix: &[u8], key: &[u8]) -> bool
-    ensures { result ≡ comes_before order (front.now ++ suffix.now) key.now }
-{
-    let parts = cmp_parts(front, suffix, key);
-    match order {
-        IterationOrder::Ascending => parts.is_lt(),
-        IterationOrder::Descending => parts.is_gt(),
-    }
-}
-
-/// Whether the order puts the key of a row's bytes before the key, or `None` where they don't begin with a row's key.
-#[tactic(auto, using(crate::proofs::PartLaws::key_of_row))]
-fn row_before(order: IterationOrder, first: &[u8], bytes: &[u8], key: &[u8]) -> Option<bool>
-    ensures { IfSome result (λ before. (row : SstRowEntry) (len : ℕ) → row_v1_of bytes.now ≡ Ok (row, len) → before ≡ comes_before order (whole_key row.key_prefix_len first.now row.key_suffix) key.now) }
-{
-    let (shared, (from, upto)) = key_fields_v1(bytes).ok()?;
-    let shared = shared as usize;
-    if shared > first.len() {
-        return None;
-    }
-    Some(puts_parts_before(order, &first[..shared], &bytes[from..upto], key))
-}
-
 /// Whether the order puts the key of a block's row before the key, or `None` where the row is refused, and where only the
 /// whole of it tells.
 pub fn is_before_at(
@@ -65,5 +40,15 @@ pub fn is_before_at(
     if upto < from || body.len() < upto {
         return None;
     }
-    row_before(order, first, &body.as_slice()[from..upto], key)
+    let bytes = &body.as_slice()[from..upto];
+    let (shared, (suffix_at, suffix_end)) = key_fields_v1(bytes).ok()?;
+    let shared = shared as usize;
+    if shared > first.len() {
+        return None;
+    }
+    let parts = cmp_parts(&first[..shared], &bytes[suffix_at..suffix_end], key);
+    Some(match order {
+        IterationOrder::Ascending => parts.is_lt(),
+        IterationOrder::Descending => parts.is_gt(),
+    })
 }

@@ -1,28 +1,17 @@
 //! The offsets of a block, read from its bytes.
 ghost use Rattle.std.specs.Prelude.{◌≡◌, ◌≤◌, ◌<◌, ◌⊎◌, ℕ, min, Ok, Err, length, slice_index, IfOk, IfErr};
-ghost use Rattle.slate_block.specs.BlockReading.{counted_offsets, offset_field, offsets_from, offsets_of_block};
+ghost use Rattle.slate_block.specs.BlockReading.{counted_offsets, offset_field, offsets_from};
 
 use crate::fields::{corrupt, u16_field};
 use slate_types::SlateDBError;
 use std::alloc::Global;
 
-/// The length of the rows' part of a block's bytes, and the offsets.
-#[tactic(auto, unfolding(crate::specs::BlockReading::offsets_of_block))]
-pub fn read_offsets(alloc: Global, bytes: &[u8]) -> Result<(usize, Vec<u16>), SlateDBError>
-    ensures found { IfOk result (λ found. offsets_of_block bytes.now ≡ Ok (found.0, found.1.items)) }
-    ensures cause { IfErr result (λ e. (e ≡ SlateDBError.OutOfMemory) ⊎ (offsets_of_block bytes.now ≡ Err e)) }
-    ensures within { IfOk result (λ found. found.0 ≤ length bytes.now) }
-    ensures bytes { IfOk result (λ _. (i : ℕ) → slice_index bytes.now i < 256) }
-{
-    let (end, count) = counted_offsets(bytes)?;
-    let offsets = offsets_from(alloc, count, end, bytes)?;
-    Ok((end, offsets))
-}
-
+/// The length of the rows' part of a block's bytes, and the number of the offsets behind it.
 #[tactic(auto, unfolding(crate::specs::BlockReading::counted_offsets))]
-fn counted_offsets(bytes: &[u8]) -> Result<(usize, usize), SlateDBError>
+pub fn counted_offsets(bytes: &[u8]) -> Result<(usize, usize), SlateDBError>
     ensures value { result ≡ counted_offsets bytes.now }
     ensures within { IfOk result (λ counted. counted.0 ≤ length bytes.now) }
+    ensures bytes { IfOk result (λ _. (i : ℕ) → slice_index bytes.now i < 256) }
 {
     if bytes.len() < 2 {
         return Err(corrupt(0));
@@ -61,7 +50,7 @@ fn offset_field(
 }
 
 /// So many offsets. The first is 0, each later one past the one before it, and all are below the end.
-fn offsets_from(
+pub fn offsets_from(
     alloc: Global,
     count: usize,
     end: usize,

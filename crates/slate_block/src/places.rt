@@ -94,25 +94,6 @@ fn whole_row(
     }
 }
 
-/// The row that begins bytes, which begin at a place, and the place behind it.
-fn placed_row(
-    version: Version,
-    alloc: Global,
-    bytes: &Bytes,
-    other: &[u8],
-    from: usize,
-) -> Result<(RowEntry, usize), SlateDBError>
-    requires { from + length bytes.now < 2 ^ 64 }
-    ensures found { IfOk result (λ found. placed version other.now from bytes.now ≡ Ok found) }
-    ensures cause { IfErr result (λ e. (e ≡ SlateDBError.OutOfMemory) ⊎ (placed version other.now from bytes.now ≡ Err e)) }
-    ensures damage { IfErr result (λ e. (e ≡ SlateDBError.OutOfMemory) ⊎ IsDamage e) }
-{
-    match fields_of(version, bytes.as_slice()) {
-        Ok((shared, fields)) => whole_row(alloc, bytes, other, from, shared as usize, &fields),
-        Err(error) => Err(moved(from, error)),
-    }
-}
-
 /// The row between two places, and the place behind it. Its key is restored from the other key.
 #[tactic(auto, using(crate::proofs::PlacedLaws::row_placed, crate::proofs::PlacedLaws::no_row_placed))]
 pub fn row_in(
@@ -128,7 +109,10 @@ pub fn row_in(
     ensures damage { IfErr result (λ e. (e ≡ SlateDBError.OutOfMemory) ⊎ IsDamage e) }
 {
     let bytes = between(body, from, upto)?;
-    let row = placed_row(version, alloc, &bytes, other, from);
+    let row = match fields_of(version, bytes.as_slice()) {
+        Ok((shared, fields)) => whole_row(alloc, &bytes, other, from, shared as usize, &fields),
+        Err(error) => Err(moved(from, error)),
+    };
     drop(bytes);
     row
 }
@@ -165,40 +149,6 @@ pub fn place_behind(end: usize, offsets: &[u16], index: usize) -> usize
     end
 }
 
-/// The row at an index of the block's, by its first key.
-#[tactic(auto, using(crate::proofs::WalkLaws::read_at))]
-pub fn row_at(
-    alloc: Global,
-    body: &Bytes,
-    first: &[u8],
-    offsets: &[u16],
-    index: usize,
-) -> Result<RowEntry, SlateDBError>
-    requires { index < length offsets.now }
-    ensures found { IfOk result (λ row. slice_get (reads_v1 body.now first.now offsets.now (length body.now)) index ≡ Some (Ok row)) }
-    ensures cause { IfErr result (λ e. (e ≡ SlateDBError.OutOfMemory) ⊎ (slice_get (reads_v1 body.now first.now offsets.now (length body.now)) index ≡ Some (Err e))) }
-    ensures damage { IfErr result (λ e. (e ≡ SlateDBError.OutOfMemory) ⊎ IsDamage e) }
-{
-    let upto = place_behind(body.len(), offsets, index);
-    row_upto(alloc, body, first, offsets[index] as usize, upto)
-}
-
-/// The key of the block's first row, which shares nothing.
-#[tactic(auto, unfolding(crate::specs::Walks::first_key_v1))]
-pub fn first_key(alloc: Global, body: &Bytes, offsets: &[u16]) -> Result<Bytes, SlateDBError>
-    ensures found { IfOk result (λ key. first_key_v1 body.now offsets.now ≡ Ok key) }
-    ensures cause { IfErr result (λ e. (e ≡ SlateDBError.OutOfMemory) ⊎ (first_key_v1 body.now offsets.now ≡ Err e)) }
-    ensures damage { IfErr result (λ e. (e ≡ SlateDBError.OutOfMemory) ⊎ IsDamage e) }
-{
-    if offsets.is_empty() {
-        return Err(corrupt(0));
-    }
-    let upto = place_behind(body.len(), offsets, 0);
-    let row = row_upto(alloc, body, &[], offsets[0] as usize, upto)?;
-    drop(row.value);
-    Ok(row.key)
-}
-
 /// Whether the offsets are as many as a block can name, and begin at 0.
 pub fn are_named(offsets: &[u16]) -> bool
     ensures { result ≡ are_named offsets.now }
@@ -209,8 +159,8 @@ pub fn are_named(offsets: &[u16]) -> bool
     }
 }
 
-/// The key by which all rows of the block are read, its first.
-#[tactic(auto, unfolding(crate::specs::Walks::block_reads_v1, crate::specs::Walks::block_reads))]
+/// The key by which all rows of the block are read: its first row's, which shares nothing.
+#[tactic(auto, unfolding(crate::specs::Walks::block_reads_v1, crate::specs::Walks::block_reads, crate::specs::Walks::first_key_v1))]
 pub fn block_key(alloc: Global, body: &Bytes, offsets: &[u16]) -> Result<Bytes, SlateDBError>
     ensures reads { IfOk result (λ key. block_reads 1 body.now offsets.now ≡ Ok (reads_v1 body.now key offsets.now (length body.now))) }
     ensures cause { IfErr result (λ e. (e ≡ SlateDBError.OutOfMemory) ⊎ (block_reads 1 body.now offsets.now ≡ Err e)) }
@@ -219,5 +169,8 @@ pub fn block_key(alloc: Global, body: &Bytes, offsets: &[u16]) -> Result<Bytes, 
     if !are_named(offsets) {
         return Err(corrupt(0));
     }
-    first_key(alloc, body, offsets)
+    let upto = place_behind(body.len(), offsets, 0);
+    let row = row_upto(alloc, body, &[], offsets[0] as usize, upto)?;
+    drop(row.value);
+    Ok(row.key)
 }

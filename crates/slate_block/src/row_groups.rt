@@ -30,19 +30,6 @@ pub struct RowGroup {
 }
 
 impl RowGroup {
-    /// A group that is over.
-    pub fn spent() -> RowGroup
-        ensures { result ≡ record { at = 0; end = 0; room = 0; is_last = false; previous = [] } }
-    {
-        RowGroup {
-            at: 0,
-            end: 0,
-            room: 0,
-            is_last: false,
-            previous: Bytes::new(),
-        }
-    }
-
     /// Whether it has no row left.
     pub fn is_over(&self) -> bool
         ensures { result ≡ is_over self.now }

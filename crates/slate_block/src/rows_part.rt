@@ -2,9 +2,10 @@
 ghost use Rattle.std.specs.Prelude.{◌≡◌, ◌≤◌, ◌<◌, ◌+◌, ◌*◌, ◌^◌, ◌++◌, length, OnOk, OnErr, IsOkUnless};
 ghost use Rattle.slate_block.specs.RowSpelling.{FitsStamp, v2_bytes, stamp_bytes};
 ghost use Rattle.slate_block.specs.BlockSpelling.{entry_v2, is_restart};
-ghost use Rattle.slate_block.specs.Building.{CanTake, number, row_bytes, is_named, named, part_size, has_room, next_front, IsSamePart, IsLongerPart};
+ghost use Rattle.slate_block.specs.Building.{CanTake, number, row_bytes, is_named, named, part_size, next_front, IsSamePart, IsLongerPart};
 
 use crate::varint::varint_len;
+use crate::writing::cut_unwritten;
 use crate::{codec_v0, codec_v2};
 use bytes::Bytes;
 use slate_types::{RowEntry, SlateDBError};
@@ -33,7 +34,7 @@ pub struct RowsPart {
 
 impl RowsPart {
     /// The size that is held to the block size, where a row is taken that leaves out so many bytes of its key.
-    fn size_with(&self, shared: usize, entry: &RowEntry) -> u64
+    pub fn size_with(&self, shared: usize, entry: &RowEntry) -> u64
         requires lengths { CanTake entry.now }
         requires shared { shared ≤ length entry.now.key }
         requires offsets { length self.now.offsets.items < 2 ^ 16 }
@@ -48,16 +49,6 @@ impl RowsPart {
                 2 + 2 * (offsets + restart) + rows + encoded_size_v2(shared, entry)
             }
         }
-    }
-
-    /// Whether a row that leaves out so many bytes of its key is within the block size. The first row always is.
-    pub fn has_room(&self, block_size: u32, shared: usize, entry: &RowEntry) -> bool
-        requires lengths { CanTake entry.now }
-        requires shared { shared ≤ length entry.now.key }
-        requires offsets { length self.now.offsets.items < 2 ^ 16 }
-        ensures { result ≡ has_room block_size shared self.now entry.now }
-    {
-        self.num_rows == 0 || self.size_with(shared, entry) <= u64::from(block_size)
     }
 
     /// Whether the next row's place is one of the offsets.
@@ -184,14 +175,16 @@ fn append_row(
     let suffix = &entry.key.as_slice()[shared..];
     let (seq, value) = (entry.seq, &entry.value);
     let (expire_ts, create_ts) = (entry.expire_ts, entry.create_ts);
-    match version {
+    let start = out.len();
+    let written = match version {
         Version::V1 => {
             let front = shared as u16;
-            codec_v0::append_parts(out, front, suffix, seq, value, expire_ts, create_ts)
+            codec_v0::append_row(out, front, suffix, seq, value, expire_ts, create_ts)
         }
         Version::V2 => {
             let front = shared as u32;
-            codec_v2::append_parts(out, front, suffix, seq, value, expire_ts, create_ts)
+            codec_v2::append_row(out, front, suffix, seq, value, expire_ts, create_ts)
         }
-    }
+    };
+    cut_unwritten(out, start, written)
 }

@@ -12,6 +12,7 @@ pub fn value_of(flags: RowFlags, bytes: Bytes) -> ValueDeletable
     ensures { result ≡ value_of flags bytes }
 {
     if flags.contains(RowFlags::TOMBSTONE) {
+        drop(bytes);
         return ValueDeletable::Tombstone;
     }
     if flags.contains(RowFlags::MERGE_OPERAND) {

@@ -52,25 +52,6 @@ pub fn rows_upto_key(rows: &[RowEntry], key: &[u8]) -> usize
     0
 }
 
-/// The first of so many groups whose first key comes after the key, where the groups' keys rise; or their number.
-pub fn groups_upto_key(body: &Bytes, offsets: &[u16], groups: usize, key: &[u8]) -> usize
-    requires { groups ≤ length offsets.now }
-    ensures within { result ≤ groups }
-    ensures after { result < groups → BeginsBefore IterationOrder.Descending body.now offsets.now result key.now }
-{
-    let mut low = 0;
-    let mut high = groups;
-    while low < high {
-        let middle = low + (high - low) / 2;
-        if begins_before(IterationOrder::Descending, body, offsets, middle, key) {
-            high = middle;
-        } else {
-            low = middle + 1;
-        }
-    }
-    high
-}
-
 /// Behind how many of so many groups a seek goes on. The first key of the group behind them comes after the key, and that
 /// group is read whole: a key that stands there doesn't make a row.
 pub fn groups_to_search(
@@ -86,7 +67,16 @@ pub fn groups_to_search(
     ensures read { IfOk result (λ upto. upto < groups → IsOk (all_ok (restart_at body.now offsets.now upto))) }
     ensures cause { IfErr result (λ e. (e ≡ SlateDBError.OutOfMemory) ⊎ Refuses (reads_back groups body.now offsets.now) e) }
 {
-    let upto = groups_upto_key(body, offsets, groups, key);
+    let mut low = 0;
+    let mut upto = groups;
+    while low < upto {
+        let middle = low + (upto - low) / 2;
+        if begins_before(IterationOrder::Descending, body, offsets, middle, key) {
+            upto = middle;
+        } else {
+            low = middle + 1;
+        }
+    }
     if upto < groups {
         let _behind = group_rows(alloc, body, offsets, upto)?;
     }

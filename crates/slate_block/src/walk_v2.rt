@@ -27,16 +27,24 @@ impl BlockPlace {
     pub fn before_group(number: usize) -> BlockPlace
         ensures { (body offsets : List ℕ) → left_v2 body offsets result ≡ reads_v2 body (drop number offsets) (length body) }
     {
+        let group = RowGroup {
+            at: 0,
+            end: 0,
+            room: 0,
+            is_last: false,
+            previous: Bytes::new(),
+        };
         BlockPlace {
-            group: RowGroup::spent(),
+            group,
             next: number,
         }
     }
 
     /// Whether no row is behind it.
-    #[tactic(auto, using(crate::proofs::GroupSteps::over_left, crate::proofs::GroupSteps::left_behind_block))]
+    #[tactic(auto, using(crate::proofs::GroupSteps::over_left, crate::proofs::GroupSteps::left_behind_block, crate::proofs::GroupSteps::left_none))]
     pub fn is_at_end(&self, offsets: &[u16]) -> bool
         ensures end { (body : List ℕ) → result ≡ true → left_v2 body offsets.now self.now ≡ [] }
+        ensures none { (body : List ℕ) → left_v2 body offsets.now self.now ≡ [] → result ≡ true }
         ensures more { result ≡ false → is_over self.now.group ≡ true → self.now.next < length offsets.now }
     {
         self.group.is_over() && self.next >= offsets.len()
@@ -84,38 +92,8 @@ pub fn next_of_block(
     Ok((row, BlockPlace { group, next }))
 }
 
-/// The place behind the row behind a place, where that row comes before a key. `None` where it doesn't, and where none is
-/// left.
-#[tactic(auto, using(crate::proofs::SeekSteps::next_past, crate::proofs::SeekSteps::next_smaller, crate::proofs::SeekSteps::next_stops, crate::proofs::SeekSteps::next_read, crate::proofs::SeekSteps::end_stops, crate::proofs::SeekSteps::end_read))]
-fn behind_row(
-    alloc: Global,
-    body: &Bytes,
-    offsets: &[u16],
-    place: &BlockPlace,
-    key: &[u8],
-) -> Result<Option<BlockPlace>, SlateDBError>
-    ensures past { IfOk result (λ answer. IfSome answer (λ after. IsPast IterationOrder.Ascending key.now (left_v2 body.now offsets.now place.now) (left_v2 body.now offsets.now after))) }
-    ensures smaller { IfOk result (λ answer. IfSome answer (λ after. length (left_v2 body.now offsets.now after) < length (left_v2 body.now offsets.now place.now))) }
-    ensures stops { IfOk result (λ answer. answer ≡ None → StopsAt IterationOrder.Ascending key.now (left_v2 body.now offsets.now place.now)) }
-    ensures read { IfOk result (λ answer. answer ≡ None → BeginsRead (left_v2 body.now offsets.now place.now)) }
-    ensures cause { IfErr result (λ e. (e ≡ SlateDBError.OutOfMemory) ⊎ (slice_get (left_v2 body.now offsets.now place.now) 0 ≡ Some (Err e))) }
-    ensures damage { IfErr result (λ e. (e ≡ SlateDBError.OutOfMemory) ⊎ IsDamage e) }
-{
-    if place.is_at_end(offsets) {
-        return Ok(None);
-    }
-    let (row, after) = next_of_block(alloc, body, offsets, place)?;
-    let is_past = IterationOrder::Ascending.puts_before(row.key.as_slice(), key);
-    drop(row);
-    if is_past {
-        return Ok(Some(after));
-    }
-    drop(after);
-    Ok(None)
-}
-
 /// The place behind the leading rows that come before a key: before the first row that doesn't, and that is read.
-#[tactic(auto, using(crate::proofs::SeekLaws::past_none, crate::proofs::SeekLaws::past_trans, crate::proofs::SeekLaws::past_refused))]
+#[tactic(auto, using(crate::proofs::SeekLaws::past_none, crate::proofs::SeekSteps::next_smaller, crate::proofs::SeekSteps::next_stops, crate::proofs::SeekSteps::next_read, crate::proofs::SeekSteps::end_stops, crate::proofs::SeekSteps::end_read))]
 pub fn behind_key(
     alloc: Global,
     body: &Bytes,
@@ -129,7 +107,14 @@ pub fn behind_key(
     ensures cause { IfErr result (λ e. (e ≡ SlateDBError.OutOfMemory) ⊎ Refuses (left_v2 body.now offsets.now place) e) }
 {
     let mut place = place;
-    while let Some(after) = behind_row(alloc, body, offsets, &place, key)? {
+    while !place.is_at_end(offsets) {
+        let (row, after) = next_of_block(alloc, body, offsets, &place)?;
+        let is_past = IterationOrder::Ascending.puts_before(row.key.as_slice(), key);
+        drop(row);
+        if !is_past {
+            drop(after);
+            return Ok(place);
+        }
         place = after;
     }
     Ok(place)
@@ -149,25 +134,11 @@ pub fn seek_key(
     ensures read { IfOk result (λ after. BeginsRead (left_v2 body.now offsets.now after)) }
     ensures cause { IfErr result (λ e. (e ≡ SlateDBError.OutOfMemory) ⊎ Refuses (left_v2 body.now offsets.now place.now) e) }
 {
-    let start = start_of_seek(body, offsets, place, key)?;
+    let start = match last_before(body, offsets, place.next, key) {
+        Some(number) => BlockPlace::before_group(number),
+        None => place.copied()?,
+    };
     behind_key(alloc, body, offsets, start, key)
-}
-
-/// A place from which a seek can go row by row: before the last group whose first key comes before the key, or where it
-/// stands. The one error is `OutOfMemory`.
-fn start_of_seek(
-    body: &Bytes,
-    offsets: &[u16],
-    place: &BlockPlace,
-    key: &[u8],
-) -> Result<BlockPlace, SlateDBError>
-    ensures start { IfOk result (λ start. IsStart IterationOrder.Ascending key.now (left_v2 body.now offsets.now place.now) (left_v2 body.now offsets.now start)) }
-    ensures cause { IsOkUnless result SlateDBError.OutOfMemory }
-{
-    match last_before(body, offsets, place.next, key) {
-        Some(number) => Ok(BlockPlace::before_group(number)),
-        None => Ok(place.copied()?),
-    }
 }
 
 /// The number of a group, from one on, whose first key comes before the key: the last one, where the groups' keys rise.

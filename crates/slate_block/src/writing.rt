@@ -51,19 +51,10 @@ pub fn append_value_v1(out: &mut Vec<u8>, value: &ValueDeletable) -> Result<(), 
     ensures appended { OnOk result (out.new.items ≡ out.old.items ++ v1_value value.now) }
     ensures kept { OnErr result (take (length out.old.items) out.new.items ≡ out.old.items) }
 {
-    match value {
-        ValueDeletable::Value(bytes) | ValueDeletable::Merge(bytes) => {
-            append_bytes(out, bytes.as_slice())
-        }
-        ValueDeletable::Tombstone => Ok(()),
+    if value.is_tombstone() {
+        return Ok(());
     }
-}
-
-fn append_bytes(out: &mut Vec<u8>, bytes: &[u8]) -> Result<(), AllocError>
-    requires { length bytes.now < 2 ^ 32 }
-    ensures appended { OnOk result (out.new.items ≡ out.old.items ++ (be32 (length bytes.now) ++ bytes.now)) }
-    ensures kept { OnErr result (take (length out.old.items) out.new.items ≡ out.old.items) }
-{
+    let bytes = value_bytes(value);
     out.extend_from_slice(&(bytes.len() as u32).to_be_bytes())?;
     out.extend_from_slice(bytes)
 }

@@ -7,4 +7,4 @@ use Rattle.slate_block.proofs.walk_back_v2.groups_to_search.Goals as goal
 pub returns-in_err-_behind-clause-cause : goal.returns-in_err-_behind-clause-cause
 returns-in_err-_behind-clause-cause c =
     let p = err_from_is_err_and c.from_residual.result c.from_residual.ensures.1 in
-    rw (p.1, p.2) (refused_group c.args.body.now c.args.offsets.now c.args.groups c.groups_upto_key-upto.result c.in_err-_behind.field-0.0 OutOfMemory (omega arith) c.in_err-_behind.ensures.cause c.in_err-_behind.ensures.damage)
+    rw (p.1, p.2) (refused_group c.args.body.now c.args.offsets.now c.args.groups c.loop-low.upto c.in_err-_behind.field-0.0 OutOfMemory (omega arith) c.in_err-_behind.ensures.cause c.in_err-_behind.ensures.damage)

@@ -1,22 +1,55 @@
-use Rattle.std.proofs.Common.{subst, sym, take, List, ℕ}
+use Rattle.std.proofs.Common.{◌≡◌, ℕ, Result, Ok, Err, Some, List, min, sym, subst, ap, ◌∙◌, ◌⊎◌, inl, inr}
 use Rattle.std.proofs.lemmas.Result.{err_from_is_err_and}
+use Rattle.slate_types.specs.declared.error.SlateDBError.{SlateDBError}
 use Rattle.slate_types.specs.declared.error.SlateDBError.TheVariants.{OutOfMemory}
-use Rattle.slate_block.specs.BlockReading.{IsApart}
-use Rattle.slate_block.proofs.OffsetLaws.{block_takes_apart, refused_block}
+use Rattle.slate_block.specs.RowReading.{refusal}
+use Rattle.slate_block.specs.BlockReading.{IsApart, counted_offsets, offsets_from, offsets_of_block}
+use Rattle.slate_block.proofs.Groups.{IsBytes}
+use Rattle.slate_block.proofs.OffsetLaws.{block_takes_apart, refused_block, no_count, no_offsets, offsets_read}
 use Rattle.slate_block.proofs.block.Block.decode.Goals as goal
+
+no_end : (c : goal.Joined-bytes) → offsets_of_block c.args.bytes ≡ Err c.in_err-end.field-0.0
+no_end c = no_count c.args.bytes c.in_err-end.field-0.0 (c.in_err-end.ensures.value ∙ ap counted_offsets c.as_slice.ensures)
+
+refused : {A : Type 0} (r : Result A SlateDBError) (e m : SlateDBError) → (e ≡ m) ⊎ (r ≡ Err e) → (e ≡ m) ⊎ (refusal r ≡ Some e)
+refused r e m (inl h) = inl h
+refused r e m (inr h) = inr (ap refusal h)
+
+no_list : (c : goal.Joined-bytes-2) → (c.in_err-offsets.field-0.0 ≡ OutOfMemory) ⊎ (offsets_of_block c.args.bytes ≡ Err c.in_err-offsets.field-0.0)
+no_list c =
+    let end = c.in_ok-end.end in
+    let count = c.in_ok-end.count in
+    let e = c.in_err-offsets.field-0.0 in
+    no_offsets c.args.bytes end count e OutOfMemory (c.in_ok-end.ensures.value ∙ ap counted_offsets c.as_slice.ensures)
+    (subst (λ (b : List ℕ). (e ≡ OutOfMemory) ⊎ (offsets_from count 0 (min 1 end) end b end ≡ Err e)) c.as_slice-2.ensures c.in_err-offsets.ensures.cause)
 
 pub returns-in_err-end-clause-only : goal.returns-in_err-end-clause-only
 returns-in_err-end-clause-only c =
     let p = err_from_is_err_and c.from_residual.result c.from_residual.ensures.1 in
-    λ body offsets apart. rw (p.1, p.2)
-    (refused_block body offsets c.as_slice.result.now c.in_err-end.field-0.0 OutOfMemory c.in_err-end.ensures.cause
-    (subst (λ (bytes : List ℕ). IsApart body offsets bytes) (sym c.as_slice.ensures) apart))
+    λ body offsets apart. rw (p.1, p.2) (refused_block body offsets c.args.bytes c.in_err-end.field-0.0 OutOfMemory (inr (no_end c)) apart)
+
+pub returns-in_err-end-clause-cause : goal.returns-in_err-end-clause-cause
+returns-in_err-end-clause-cause c =
+    let p = err_from_is_err_and c.from_residual.result c.from_residual.ensures.1 in
+    rw (p.1, p.2) (inr (ap refusal (no_end c)))
+
+pub returns-in_err-offsets-clause-only : goal.returns-in_err-offsets-clause-only
+returns-in_err-offsets-clause-only c =
+    let p = err_from_is_err_and c.from_residual-in_err-offsets.result c.from_residual-in_err-offsets.ensures.1 in
+    λ body offsets apart. rw (p.1, p.2) (refused_block body offsets c.args.bytes c.in_err-offsets.field-0.0 OutOfMemory (no_list c) apart)
+
+pub returns-in_err-offsets-clause-cause : goal.returns-in_err-offsets-clause-cause
+returns-in_err-offsets-clause-cause c =
+    let p = err_from_is_err_and c.from_residual-in_err-offsets.result c.from_residual-in_err-offsets.ensures.1 in
+    rw (p.1, p.2) (refused (offsets_of_block c.args.bytes) c.in_err-offsets.field-0.0 OutOfMemory (no_list c))
 
 pub returns-clause-found : goal.returns-clause-found
 returns-clause-found c =
     let bytes = c.args.bytes in
     let end = c.in_ok-end.end in
-    let offsets = c.in_ok-end.offsets.items in
+    let count = c.in_ok-end.count in
+    let offsets = c.in_ok-offsets.offsets.items in
+    let read = offsets_read bytes end count offsets (c.in_ok-end.ensures.value ∙ ap counted_offsets c.as_slice.ensures)
+    (subst (λ (b : List ℕ). offsets_from count 0 (min 1 end) end b end ≡ Ok offsets) c.as_slice-2.ensures c.in_ok-offsets.ensures.found) in
     subst (λ (b : List ℕ). IsApart b offsets bytes) (sym c.truncate.ensures)
-    (subst (λ (b : List ℕ). IsApart (take end b) offsets b) c.as_slice.ensures
-    (block_takes_apart c.as_slice.result.now end offsets c.in_ok-end.ensures.bytes c.in_ok-end.ensures.found))
+    (block_takes_apart bytes end offsets (subst (λ (b : List ℕ). IsBytes b) c.as_slice.ensures c.in_ok-end.ensures.bytes) read)

@@ -1,15 +1,33 @@
-use Rattle.std.proofs.Common.{sym, subst, List, ℕ}
+use Rattle.std.proofs.Common.{◌≡◌, ℕ, List, Err, inr, ap, sym, subst, ◌∙◌}
 use Rattle.std.proofs.lemmas.Result.{err_from_is_err_and}
 use Rattle.slate_types.specs.declared.error.SlateDBError.TheVariants.{OutOfMemory}
-use Rattle.slate_block.specs.RowReading.{BeginsV1}
-use Rattle.slate_block.proofs.ReadingLawsV1.{row_v1_begins, refused_v1}
+use Rattle.slate_block.specs.declared.row.SstRowEntry.{SstRowEntry}
+use Rattle.slate_block.specs.Damage.{layout_v1}
+use Rattle.slate_block.specs.RowReading.{entry_of_v1, row_v1_of, refusal, BeginsV1}
+use Rattle.slate_block.proofs.Groups.{IsBytes}
+use Rattle.slate_block.proofs.ReadRows.{no_row_v1, begins_v1}
+use Rattle.slate_block.proofs.ReadingLawsV1.{refused_v1}
 use Rattle.slate_block.proofs.codec_v0.SstRowCodecV0.decode.Goals as goal
 
-pub returns-in_err-row-clause-only : goal.returns-in_err-row-clause-only
-returns-in_err-row-clause-only c =
+no_row : (c : goal.After-from_residual) → row_v1_of c.args.input.now ≡ Err c.in_err-key_prefix_len.field-0.0
+no_row c = no_row_v1 c.args.input.now c.in_err-key_prefix_len.field-0.0 (c.in_err-key_prefix_len.ensures.value ∙ ap layout_v1 c.as_slice.ensures)
+
+pub returns-in_err-key_prefix_len-clause-only : goal.returns-in_err-key_prefix_len-clause-only
+returns-in_err-key_prefix_len-clause-only c =
     let p = err_from_is_err_and c.from_residual.result c.from_residual.ensures.1 in
-    λ row rest begins. rw (p.1, p.2) (refused_v1 row c.args.input.now rest c.in_err-row.field-0.0 OutOfMemory c.in_err-row.ensures.cause begins)
+    λ row rest begins. rw (p.1, p.2) (refused_v1 row c.args.input.now rest c.in_err-key_prefix_len.field-0.0 OutOfMemory (inr (no_row c)) begins)
+
+pub returns-in_err-key_prefix_len-clause-cause : goal.returns-in_err-key_prefix_len-clause-cause
+returns-in_err-key_prefix_len-clause-cause c =
+    let p = err_from_is_err_and c.from_residual.result c.from_residual.ensures.1 in
+    rw (p.1, p.2) (inr (ap refusal (no_row c)))
 
 pub returns-clause-found : goal.returns-clause-found
-returns-clause-found c = subst (λ (rest : List ℕ). BeginsV1 c.in_ok-row.row c.args.input.now rest) (sym c.advance.ensures)
-    (row_v1_begins c.args.input.now c.in_ok-row.row c.in_ok-row.end c.in_ok-row.ensures.bytes c.in_ok-row.ensures.found)
+returns-clause-found c =
+    let bytes = c.args.input.now in
+    let f = c.in_ok-key_prefix_len.fields in
+    let parts = c.in_ok-key_suffix.ensures in
+    let row : SstRowEntry = record { key_prefix_len = c.in_ok-key_prefix_len.key_prefix_len; key_suffix = c.in_ok-key_suffix.key_suffix; seq = f.seq; expire_ts = c.read_expiry.result; create_ts = f.create_ts; value = c.in_ok-key_suffix.value } in
+    let same : entry_of_v1 bytes c.in_ok-key_prefix_len.key_prefix_len f ≡ row = sym (λ i. record { key_prefix_len = c.in_ok-key_prefix_len.key_prefix_len; key_suffix = parts.0 i; seq = f.seq; expire_ts = c.read_expiry.ensures i; create_ts = f.create_ts; value = parts.1 i }) in
+    subst (λ (rest : List ℕ). BeginsV1 row bytes rest) (sym c.advance.ensures)
+    (begins_v1 bytes (c.in_ok-key_prefix_len.key_prefix_len, f) row (subst (λ (b : List ℕ). IsBytes b) c.as_slice.ensures c.in_ok-key_prefix_len.ensures.bytes) (c.in_ok-key_prefix_len.ensures.value ∙ ap layout_v1 c.as_slice.ensures) same)

@@ -1,15 +1,30 @@
-use Rattle.std.proofs.Common.{sym, subst, List, ℕ}
+use Rattle.std.proofs.Common.{◌≡◌, ℕ, List, Err, inr, ap, sym, subst, ◌∙◌}
 use Rattle.std.proofs.lemmas.Result.{err_from_is_err_and}
 use Rattle.slate_types.specs.declared.error.SlateDBError.TheVariants.{OutOfMemory}
-use Rattle.slate_block.specs.RowReading.{BeginsKeyV2}
-use Rattle.slate_block.proofs.ReadingLaws.{key_v2_begins, refused_key}
+use Rattle.slate_block.specs.Damage.{key_layout_v2}
+use Rattle.slate_block.specs.RowReading.{key_v2_of, refusal, BeginsKeyV2}
+use Rattle.slate_block.proofs.Groups.{IsBytes}
+use Rattle.slate_block.proofs.ReadRows.{no_key_v2, begins_key_v2}
+use Rattle.slate_block.proofs.ReadingLaws.{refused_key}
 use Rattle.slate_block.proofs.codec_v2.SstRowCodecV2.decode_key_only.Goals as goal
+
+no_key : (c : goal.After-from_residual) → key_v2_of c.args.input.now ≡ Err c.in_err-key.field-0.0
+no_key c = no_key_v2 c.args.input.now c.in_err-key.field-0.0 (c.in_err-key.ensures.value ∙ ap key_layout_v2 c.as_slice.ensures)
 
 pub returns-in_err-key-clause-only : goal.returns-in_err-key-clause-only
 returns-in_err-key-clause-only c =
     let p = err_from_is_err_and c.from_residual.result c.from_residual.ensures.1 in
-    λ key rest begins. rw (p.1, p.2) (refused_key key c.args.input.now rest c.in_err-key.field-0.0 OutOfMemory c.in_err-key.ensures.cause begins)
+    λ key rest begins. rw (p.1, p.2) (refused_key key c.args.input.now rest c.in_err-key.field-0.0 OutOfMemory (inr (no_key c)) begins)
+
+pub returns-in_err-key-clause-cause : goal.returns-in_err-key-clause-cause
+returns-in_err-key-clause-cause c =
+    let p = err_from_is_err_and c.from_residual.result c.from_residual.ensures.1 in
+    rw (p.1, p.2) (inr (ap refusal (no_key c)))
 
 pub returns-clause-found : goal.returns-clause-found
-returns-clause-found c = subst (λ (rest : List ℕ). BeginsKeyV2 c.in_ok-key.key c.args.input.now rest) (sym c.advance.ensures)
-    (key_v2_begins c.args.input.now c.in_ok-key.key c.in_ok-key.end c.in_ok-key.ensures.bytes c.in_ok-key.ensures.found)
+returns-clause-found c =
+    let bytes = c.args.input.now in
+    let key = c.in_ok-key.key in
+    let suffix = c.in_ok-key_suffix.key_suffix in
+    subst (λ (rest : List ℕ). BeginsKeyV2 (key.shared_bytes, suffix) bytes rest) (sym c.advance.ensures)
+    (begins_key_v2 bytes key suffix (subst (λ (b : List ℕ). IsBytes b) c.as_slice.ensures c.in_ok-key.ensures.bytes) (c.in_ok-key.ensures.value ∙ ap key_layout_v2 c.as_slice.ensures) (sym c.in_ok-key_suffix.ensures.ok))

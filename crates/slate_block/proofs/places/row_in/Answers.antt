@@ -1,0 +1,38 @@
+use Rattle.std.proofs.Common.{◌≡◌, ℕ, Result, Ok, Err, sym, subst, ◌∙◌, ◌⊎◌, inr}
+use Rattle.std.specs.Prelude.{IfOk, IfErr}
+use Rattle.slate_types.specs.declared.error.SlateDBError.{SlateDBError}
+use Rattle.slate_types.specs.declared.error.SlateDBError.TheVariants.{OutOfMemory}
+use Rattle.slate_types.specs.declared.types.RowEntry.{RowEntry}
+use Rattle.slate_block.specs.PlacedRows.{fields_of, placed, row_in}
+use Rattle.slate_block.proofs.PlacedLaws.{placed_found, placed_cause, placed_refused, row_placed}
+use Rattle.slate_block.proofs.places.row_in.Goals as goal
+use Rattle.slate_block.proofs.places.row_in.Goals.{in-Ok, in-Err}
+
+here : (c : goal.After-drop) → row_in c.args.version c.args.body.now c.args.other.now c.args.from c.args.upto ≡ placed c.args.version c.args.other.now c.args.from c.in_ok-bytes.bytes
+here c = row_placed c.args.version c.args.body.now c.args.other.now c.args.from c.args.upto c.in_ok-bytes.bytes c.in_ok-bytes.ensures.found
+
+pub returns-clause-found : goal.returns-clause-found
+returns-clause-found c =
+    let a = c.args in
+    let bytes = c.in_ok-bytes.bytes in
+    elim c.match-fields_of.branch [
+      | in-Ok w ↦
+          let read : fields_of a.version bytes ≡ Ok (w.in-Ok.shared, w.in-Ok.fields) = cc in
+          rw w.row-is (subst (λ (p : Result (RowEntry × ℕ) SlateDBError). IfOk w.whole_row-row.result (λ found. p ≡ Ok found)) (sym (here c))
+          (placed_found a.version a.other.now a.from bytes (w.in-Ok.shared, w.in-Ok.fields) w.whole_row-row.result read w.whole_row-row.ensures.found))
+      | in-Err w ↦ rw w.row-is tt
+    ]
+
+pub returns-clause-cause : goal.returns-clause-cause
+returns-clause-cause c =
+    let a = c.args in
+    let bytes = c.in_ok-bytes.bytes in
+    elim c.match-fields_of.branch [
+      | in-Ok w ↦
+          let read : fields_of a.version bytes ≡ Ok (w.in-Ok.shared, w.in-Ok.fields) = cc in
+          rw w.row-is (subst (λ (p : Result (RowEntry × ℕ) SlateDBError). IfErr w.whole_row-row.result (λ e. (e ≡ OutOfMemory) ⊎ (p ≡ Err e))) (sym (here c))
+          (placed_cause a.version a.other.now a.from bytes (w.in-Ok.shared, w.in-Ok.fields) w.whole_row-row.result OutOfMemory read w.whole_row-row.ensures.cause))
+      | in-Err w ↦
+          let read : fields_of a.version bytes ≡ Err w.in-Err.error = cc in
+          rw (w.row-is, w.moved.ensures) (inr (here c ∙ placed_refused a.version a.other.now a.from bytes w.in-Err.error read))
+    ]
