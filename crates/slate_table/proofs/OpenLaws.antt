@@ -115,6 +115,7 @@ info_is encode bytes version blocks filters t =
 
 pub measured : (objects : Option Objects) (before after : Option (List Act)) (told : Objects) (path bytes : List ℕ) (size : Option ℕ) → objects ≡ Some told → object_at told path ≡ Some bytes →
     IsMeasured objects before after path size → size ≡ Some (length bytes)
+unfolding IsMeasured
 measured objects before after told path bytes size tells there m = m.0 told tells ∙ ap len_of there
 
 record FoundLast (encode : Encode) (version : ℕ) (blocks : List (List RowEntry)) (filters : List (List ℕ × List ℕ)) (offset found : ℕ) : Type 0 where

@@ -18,7 +18,7 @@ use Rattle.slate_table.specs.SectionReading.{footer_in}
 use Rattle.slate_table.specs.InfoReading.{info_in}
 use Rattle.slate_table.specs.Reading.{Reads, IsRefused}
 
-abbrev pub IsMeasured : Option Objects → Option (List Act) → Option (List Act) → List ℕ → Option ℕ → Type 0
+unfoldable pub IsMeasured : Option Objects → Option (List Act) → Option (List Act) → List ℕ → Option ℕ → Type 0
 IsMeasured objects before after path size = ((os : Objects) → objects ≡ Some os → AnswersLen os path size) × AddsAct before (Act.len path size) after
 
 abbrev pub long_in : Option ℕ → Result ℕ SlateDBError

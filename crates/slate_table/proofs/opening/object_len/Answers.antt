@@ -8,6 +8,7 @@ use Rattle.slate_table.proofs.opening.object_len.Goals as goal
 
 answered : {E : Type 0} (r : Result (Option ℕ) E) (objects : Option Objects) (before after : Option (List Act)) (path : List ℕ) → ((os : Objects) → objects ≡ Some os → IfOk r (λ size. AnswersLen os path size)) →
     IfOk r (λ size. AddsAct before (Act.len path size) after) → IfOk r (λ size. IsMeasured objects before after path size)
+unfolding IsMeasured
 answered (Ok size) objects before after path answer act = (answer, act)
 answered (Err e) objects before after path answer act = tt
 

@@ -8,6 +8,7 @@ use Rattle.slate_table.specs.Paths.{path_of}
 use Rattle.slate_table.specs.SectionReading.{changed_by}
 use Rattle.slate_table.proofs.PartReads.{still_ok, still_err, still_longer}
 use Rattle.slate_table.proofs.FileReads.{reads_rows, index_refused, block_refused, row_refused, may_block, had_block}
+use Rattle.slate_table.specs.FileReading.{RefusesReadRows, MayReadRows}
 use Rattle.slate_table.proofs.sst_file.SstFile.read_block.Goals as goal
 
 pub returns-in_err-index-clause-cause : goal.returns-in_err-index-clause-cause
@@ -118,18 +119,21 @@ pub returns-clause-same_decoded : goal.returns-clause-same_decoded
 returns-clause-same_decoded g c = c.read_block.ensures.same_decoded ∙ c.index.ensures.same_decoded
 
 pub returns-in_err-test_block-clause-cause : goal.returns-in_err-test_block-clause-cause
+unfolding RefusesReadRows
 returns-in_err-test_block-clause-cause g c =
     let p = err_from_is_err_and c.from_residual-in_err-test_block.result c.from_residual-in_err-test_block.ensures.1 in
     let past = c.in_err-test_block.ensures.past in
     rw (p.1, p.2) (inr (inr (inr (inl (entries_of c.in_ok-index.index, c.in_ok-index.ensures.found, past.0, past.1)))))
 
 pub returns-in_err-test_block-clause-twice : goal.returns-in_err-test_block-clause-twice
+unfolding MayReadRows
 returns-in_err-test_block-clause-twice g c =
     let p = err_from_is_err_and c.from_residual-in_err-test_block.result c.from_residual-in_err-test_block.ensures.1 in
     let found = c.in_ok-index.ensures.found in
     rw p.1 (inr (inl (found.0, found.1, tt)))
 
 pub returns-in_err-index-clause-twice : goal.returns-in_err-index-clause-twice
+unfolding MayReadRows
 returns-in_err-index-clause-twice g c =
     let p = err_from_is_err_and c.from_residual.result c.from_residual.ensures.1 in
     rw p.1 (elim c.in_err-index.ensures.once [
