@@ -1,6 +1,6 @@
 use Rattle.slate_table.proofs.Results.{store_still, store_err, store_longer}
 use Rattle.std.proofs.Common.{◌∙◌, arith, inl, inr, sym}
-use Rattle.std.proofs.lemmas.Result.{err_from_is_err_and}
+use Rattle.std.proofs.lemmas.Result.{err_from_is_err_and, IfOk-from_err}
 use Rattle.slate_table.specs.Paths.{path_of}
 use Rattle.slate_table.specs.InfoReading.{seen_info}
 use Rattle.slate_table.specs.Opening.{RefusesOpen, MayOpen}
@@ -102,3 +102,39 @@ returns-in_err-info-clause-still g c =
 pub returns-clause-still : goal.returns-clause-still
 returns-clause-still g c =
     inr (store_still c.in_ok-info.info c.in_ok-info.ensures.still ∙ store_still c.in_ok-footer.footer c.in_ok-footer.ensures.still ∙ store_still c.in_ok-size.size c.in_ok-size.ensures.still)
+
+pub returns-in_err-size-clause-found : goal.returns-in_err-size-clause-found
+returns-in_err-size-clause-found g c = IfOk-from_err c.from_residual.result _ c.from_residual.ensures.0
+
+pub returns-in_err-size-clause-known : goal.returns-in_err-size-clause-known
+returns-in_err-size-clause-known g c = IfOk-from_err c.from_residual.result _ c.from_residual.ensures.0
+
+pub returns-in_err-size-clause-id : goal.returns-in_err-size-clause-id
+returns-in_err-size-clause-id g c = IfOk-from_err c.from_residual.result _ c.from_residual.ensures.0
+
+pub returns-in_err-len-clause-found : goal.returns-in_err-len-clause-found
+returns-in_err-len-clause-found g c = IfOk-from_err c.from_residual-in_err-len.result _ c.from_residual-in_err-len.ensures.0
+
+pub returns-in_err-len-clause-known : goal.returns-in_err-len-clause-known
+returns-in_err-len-clause-known g c = IfOk-from_err c.from_residual-in_err-len.result _ c.from_residual-in_err-len.ensures.0
+
+pub returns-in_err-len-clause-id : goal.returns-in_err-len-clause-id
+returns-in_err-len-clause-id g c = IfOk-from_err c.from_residual-in_err-len.result _ c.from_residual-in_err-len.ensures.0
+
+pub returns-in_err-footer-clause-found : goal.returns-in_err-footer-clause-found
+returns-in_err-footer-clause-found g c = IfOk-from_err c.from_residual-in_err-footer.result _ c.from_residual-in_err-footer.ensures.0
+
+pub returns-in_err-footer-clause-known : goal.returns-in_err-footer-clause-known
+returns-in_err-footer-clause-known g c = IfOk-from_err c.from_residual-in_err-footer.result _ c.from_residual-in_err-footer.ensures.0
+
+pub returns-in_err-footer-clause-id : goal.returns-in_err-footer-clause-id
+returns-in_err-footer-clause-id g c = IfOk-from_err c.from_residual-in_err-footer.result _ c.from_residual-in_err-footer.ensures.0
+
+pub returns-in_err-info-clause-found : goal.returns-in_err-info-clause-found
+returns-in_err-info-clause-found g c = IfOk-from_err c.from_residual-in_err-info.result _ c.from_residual-in_err-info.ensures.0
+
+pub returns-in_err-info-clause-known : goal.returns-in_err-info-clause-known
+returns-in_err-info-clause-known g c = IfOk-from_err c.from_residual-in_err-info.result _ c.from_residual-in_err-info.ensures.0
+
+pub returns-in_err-info-clause-id : goal.returns-in_err-info-clause-id
+returns-in_err-info-clause-id g c = IfOk-from_err c.from_residual-in_err-info.result _ c.from_residual-in_err-info.ensures.0

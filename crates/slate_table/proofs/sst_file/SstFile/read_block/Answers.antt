@@ -1,6 +1,6 @@
 use Rattle.std.proofs.Common.{◌∙◌, ℕ, List, ap, inl, inr}
 use Rattle.std.specs.Prelude.{string_bytes}
-use Rattle.std.proofs.lemmas.Result.{IfOk-weaker, IfErr-weaker, err_from_is_err_and}
+use Rattle.std.proofs.lemmas.Result.{IfOk-weaker, IfErr-weaker, err_from_is_err_and, IfOk-from_err}
 use Rattle.slate_table.proofs.Results.{on_err, store_still, store_err, store_longer}
 use Rattle.slate_types.specs.Faults.{faults_of}
 use Rattle.slate_table.specs.IndexValue.{entries_of}
@@ -175,3 +175,12 @@ returns-clause-still g c = inr (store_still c.in_ok-found.found c.in_ok-found.en
 pub returns-clause-still_transformer : goal.returns-clause-still_transformer
 returns-clause-still_transformer g c =
     inr (inr (still_ok c.in_ok-found.found c.in_ok-found.ensures.still_transformer ∙ still_ok c.in_ok-index.index c.in_ok-index.ensures.still_transformer))
+
+pub returns-in_err-index-clause-found : goal.returns-in_err-index-clause-found
+returns-in_err-index-clause-found g c = IfOk-from_err c.from_residual.result _ c.from_residual.ensures.0
+
+pub returns-in_err-test_block-clause-found : goal.returns-in_err-test_block-clause-found
+returns-in_err-test_block-clause-found g c = IfOk-from_err c.from_residual-in_err-test_block.result _ c.from_residual-in_err-test_block.ensures.0
+
+pub returns-in_err-found-clause-found : goal.returns-in_err-found-clause-found
+returns-in_err-found-clause-found g c = IfOk-from_err c.from_residual-in_err-found.result _ c.from_residual-in_err-found.ensures.0

@@ -1,5 +1,6 @@
 use Rattle.std.proofs.Common.{◌≡◌, ◌∙◌}
 use Rattle.slate_table.specs.Paths.{path_of}
+use Rattle.std.proofs.lemmas.Result.{IfOk-from_err}
 use Rattle.slate_table.proofs.table_store.TableStore.put_table.Goals as goal
 
 pub returns-in-Ok-clause-taken : goal.returns-in-Ok-clause-taken
@@ -21,3 +22,33 @@ pub returns-clause-refused_act : goal.returns-clause-refused_act
 returns-clause-refused_act g c =
     let path : c.as_str.result.now ≡ path_of c.args.root.now c.args.id.0 = c.as_str.ensures.value ∙ c.in_ok-path.ensures.path in
     rw (path, c.as_slice.ensures) at c.in-Err.ensures.refused_act
+
+pub returns-in_err-path-clause-id : goal.returns-in_err-path-clause-id
+returns-in_err-path-clause-id g c = IfOk-from_err c.from_residual.result _ c.from_residual.ensures.0
+
+pub returns-in_err-path-clause-info : goal.returns-in_err-path-clause-info
+returns-in_err-path-clause-info g c = IfOk-from_err c.from_residual.result _ c.from_residual.ensures.0
+
+pub returns-in_err-path-clause-version : goal.returns-in_err-path-clause-version
+returns-in_err-path-clause-version g c = IfOk-from_err c.from_residual.result _ c.from_residual.ensures.0
+
+pub returns-in_err-path-clause-act : goal.returns-in_err-path-clause-act
+returns-in_err-path-clause-act g c = IfOk-from_err c.from_residual.result _ c.from_residual.ensures.0
+
+pub returns-in_err-path-clause-taken : goal.returns-in_err-path-clause-taken
+returns-in_err-path-clause-taken g c = λ os told. IfOk-from_err c.from_residual.result _ c.from_residual.ensures.0
+
+pub returns-in_err-info-clause-id : goal.returns-in_err-info-clause-id
+returns-in_err-info-clause-id g c = IfOk-from_err c.from_residual-in_err-info.result _ c.from_residual-in_err-info.ensures.0
+
+pub returns-in_err-info-clause-info : goal.returns-in_err-info-clause-info
+returns-in_err-info-clause-info g c = IfOk-from_err c.from_residual-in_err-info.result _ c.from_residual-in_err-info.ensures.0
+
+pub returns-in_err-info-clause-version : goal.returns-in_err-info-clause-version
+returns-in_err-info-clause-version g c = IfOk-from_err c.from_residual-in_err-info.result _ c.from_residual-in_err-info.ensures.0
+
+pub returns-in_err-info-clause-act : goal.returns-in_err-info-clause-act
+returns-in_err-info-clause-act g c = IfOk-from_err c.from_residual-in_err-info.result _ c.from_residual-in_err-info.ensures.0
+
+pub returns-in_err-info-clause-taken : goal.returns-in_err-info-clause-taken
+returns-in_err-info-clause-taken g c = λ os told. IfOk-from_err c.from_residual-in_err-info.result _ c.from_residual-in_err-info.ensures.0
