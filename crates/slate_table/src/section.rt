@@ -143,6 +143,8 @@ fn decoded<T: BlockTransformer>(
 {
     match transformer {
         None => Ok(stored),
-        Some(transformer) => transformer.decode(alloc, stored).map_err(SlateDBError::from),
+        Some(transformer) => transformer
+            .decode(alloc, stored)
+            .map_err(SlateDBError::from),
     }
 }

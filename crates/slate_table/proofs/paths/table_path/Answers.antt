@@ -12,5 +12,5 @@ returns-clause-path c =
     let root = c.args.root.now in
     let digits = hex 32 c.args.id.0 in
     let spelled = ap (λ (s : List ℕ). root ++ (codes "/compacted/" ++ (s ++ codes ".sst"))) text
-        ∙ sym (append_assoc (root ++ codes "/compacted/") digits (codes ".sst") ∙ append_assoc root (codes "/compacted/") (digits ++ codes ".sst")) in
+    ∙ sym (append_assoc (root ++ codes "/compacted/") digits (codes ".sst") ∙ append_assoc root (codes "/compacted/") (digits ++ codes ".sst")) in
     mapped c.concat.result c.map_err.result _ _ _ c.map_err.ensures.cases (λ path is. is ∙ spelled) c.concat.ensures.ok

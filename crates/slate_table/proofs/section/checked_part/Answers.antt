@@ -28,5 +28,5 @@ returns-clause-front c =
     let len = c.in_ok-len.len in
     let whole : len - 0 ≡ len = omega arith in
     let front = ap (λ (n : ℕ). take n c.args.bytes.now) whole ∙ ap (take len) (sym c.as_slice.ensures)
-        ∙ part_is_front slice (take len slice) c.in_ok-len.ensures.found ∙ ap part_of_sum c.as_slice.ensures in
+    ∙ part_is_front slice (take len slice) c.in_ok-len.ensures.found ∙ ap part_of_sum c.as_slice.ensures in
     mapped c.slice.result c.map_err.result _ _ _ c.map_err.ensures.cases (λ part is. is ∙ front) c.slice.ensures.ok

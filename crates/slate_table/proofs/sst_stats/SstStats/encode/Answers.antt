@@ -15,8 +15,8 @@ returns-clause-spelling c =
     let totals = totals_bytes (stats_of c.args.self.now) in
     let spelled : List BlockStats → List ℕ = λ bs. flat_map (λ b. counts_bytes be16 (counts_of b)) bs in
     let appended = c.in_ok-append_block_stats.ensures.appended
-        ∙ ap (λ (l : List ℕ). l ++ spelled c.deref.result.now) (c.in_ok-append_totals.ensures.appended ∙ ap (λ (l : List ℕ). l ++ totals) c.new-out.ensures.items)
-        ∙ ap (λ (l : List ℕ). totals ++ l) (ap spelled c.deref.ensures.value ∙ spelled_map blocks) in
+    ∙ ap (λ (l : List ℕ). l ++ spelled c.deref.result.now) (c.in_ok-append_totals.ensures.appended ∙ ap (λ (l : List ℕ). l ++ totals) c.new-out.ensures.items)
+    ∙ ap (λ (l : List ℕ). totals ++ l) (ap spelled c.deref.ensures.value ∙ spelled_map blocks) in
     let each = subst (λ (bs : List BlockStats). AllByRecursion (FitCounts 16) (map counts_of bs)) c.deref.ensures.value c.in_ok-append_block_stats.ensures.fit in
     let few : length (map counts_of blocks) < 2 ^ 32 = omega (arith, length-map blocks counts_of) in
     mapped c.from_vec.result c.map_err.result _ _ _ c.map_err.ensures.cases

@@ -1,4 +1,4 @@
-use Rattle.std.proofs.Common.{◌≡◌, ◌∙◌, ◌++◌, ◌∷◌, ◌<◌, ◌⊎◌, [], List, ℕ, length, Err, rules, arith, refl, sym, ap, subst, inl, inr}
+use Rattle.std.proofs.Common.{◌≡◌, ◌∙◌, ◌++◌, ◌∷◌, ◌<◌, ◌⊎◌, [], List, length, Err, rules, arith, refl, sym, ap, subst, inl, inr}
 use Rattle.std.proofs.lemmas.List.{length-append}
 use Rattle.std.proofs.lemmas.Result.{IfOk-from_err, err_from_is_err_and}
 use Rattle.slate_types.specs.declared.types.RowEntry.{RowEntry}
@@ -130,3 +130,39 @@ returns-clause-size g c =
     let begin : c.len-begin.result ≡ length p.bytes.items = search rules in
     let end : c.len.result ≡ length c.seal_section.new.out.items = search rules in
     omega (arith, begin, end ∙ ap length bytes ∙ length-append p.bytes.items s)
+
+pub returns-in_err-seal_section-clause-same_encoded : goal.returns-in_err-seal_section-clause-same_encoded
+returns-in_err-seal_section-clause-same_encoded g c = c.seal_section.ensures.same_encoded
+
+pub returns-in_err-seal_section-clause-same_decoded : goal.returns-in_err-seal_section-clause-same_decoded
+returns-in_err-seal_section-clause-same_decoded g c = c.seal_section.ensures.same_decoded
+
+pub returns-in_err-seal_section-clause-later : goal.returns-in_err-seal_section-clause-later
+returns-in_err-seal_section-clause-later g c = c.seal_section.ensures.later
+
+pub returns-in_err-push-clause-same_encoded : goal.returns-in_err-push-clause-same_encoded
+returns-in_err-push-clause-same_encoded g c = c.seal_section.ensures.same_encoded
+
+pub returns-in_err-push-clause-same_decoded : goal.returns-in_err-push-clause-same_decoded
+returns-in_err-push-clause-same_decoded g c = c.seal_section.ensures.same_decoded
+
+pub returns-in_err-push-clause-later : goal.returns-in_err-push-clause-later
+returns-in_err-push-clause-later g c = c.seal_section.ensures.later
+
+pub returns-in_err-push-2-clause-same_encoded : goal.returns-in_err-push-2-clause-same_encoded
+returns-in_err-push-2-clause-same_encoded g c = c.seal_section.ensures.same_encoded
+
+pub returns-in_err-push-2-clause-same_decoded : goal.returns-in_err-push-2-clause-same_decoded
+returns-in_err-push-2-clause-same_decoded g c = c.seal_section.ensures.same_decoded
+
+pub returns-in_err-push-2-clause-later : goal.returns-in_err-push-2-clause-later
+returns-in_err-push-2-clause-later g c = c.seal_section.ensures.later
+
+pub returns-clause-same_encoded : goal.returns-clause-same_encoded
+returns-clause-same_encoded g c = c.seal_section.ensures.same_encoded
+
+pub returns-clause-same_decoded : goal.returns-clause-same_decoded
+returns-clause-same_decoded g c = c.seal_section.ensures.same_decoded
+
+pub returns-clause-later : goal.returns-clause-later
+returns-clause-later g c = c.seal_section.ensures.later

@@ -1,6 +1,7 @@
-use Rattle.std.proofs.Common.{◌≡◌, ◌∙◌}
+use Rattle.std.proofs.Common.{◌≡◌, ◌∙◌, refl, inl, inr}
 use Rattle.slate_table.specs.Paths.{path_of}
-use Rattle.std.proofs.lemmas.Result.{IfOk-from_err}
+use Rattle.std.proofs.lemmas.Result.{IfOk-from_err, err_from_is_err_and}
+use Rattle.slate_table.proofs.Results.{on_err}
 use Rattle.slate_table.proofs.table_store.TableStore.put_table.Goals as goal
 
 pub returns-in-Ok-clause-taken : goal.returns-in-Ok-clause-taken
@@ -52,3 +53,28 @@ returns-in_err-info-clause-act g c = IfOk-from_err c.from_residual-in_err-info.r
 
 pub returns-in_err-info-clause-taken : goal.returns-in_err-info-clause-taken
 returns-in_err-info-clause-taken g c = λ os told. IfOk-from_err c.from_residual-in_err-info.result _ c.from_residual-in_err-info.ensures.0
+
+pub returns-in_err-path-clause-refused : goal.returns-in_err-path-clause-refused
+returns-in_err-path-clause-refused g c = λ os told. on_err c.from_residual.result (inl told)
+
+pub returns-in_err-path-clause-refused_act : goal.returns-in_err-path-clause-refused_act
+returns-in_err-path-clause-refused_act g c = on_err c.from_residual.result (inl refl)
+
+pub returns-in_err-path-clause-cause : goal.returns-in_err-path-clause-cause
+returns-in_err-path-clause-cause g c = let p = err_from_is_err_and c.from_residual.result c.from_residual.ensures.1 in rw (p.1, p.2) (inl c.in_err-path.ensures.cause)
+
+pub returns-in_err-path-clause-still : goal.returns-in_err-path-clause-still
+returns-in_err-path-clause-still g c = inr refl
+
+pub returns-in_err-info-clause-refused : goal.returns-in_err-info-clause-refused
+returns-in_err-info-clause-refused g c = λ os told. on_err c.from_residual-in_err-info.result (inl told)
+
+pub returns-in_err-info-clause-refused_act : goal.returns-in_err-info-clause-refused_act
+returns-in_err-info-clause-refused_act g c = on_err c.from_residual-in_err-info.result (inl refl)
+
+pub returns-in_err-info-clause-cause : goal.returns-in_err-info-clause-cause
+returns-in_err-info-clause-cause g c =
+    let p = err_from_is_err_and c.from_residual-in_err-info.result c.from_residual-in_err-info.ensures.1 in rw (p.1, p.2) (inl refl)
+
+pub returns-in_err-info-clause-still : goal.returns-in_err-info-clause-still
+returns-in_err-info-clause-still g c = inr refl
