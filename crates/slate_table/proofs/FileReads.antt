@@ -97,6 +97,7 @@ rows_read decode version answer block rows fits read h =
 pub reads_rows : (decode now : Encode) (objects middle : Option Objects) (before between after : Option (List Act)) (path root : List ℕ) (table : SsTableHandle) (entries : List (ℕ × List ℕ)) (at : ℕ) (block : Block) (rows : List RowEntry) →
     now ≡ decode → middle ≡ objects → root ≡ path → ReadsIndex decode objects before between path table entries → at < length entries → EachIsAByte block.body →
     ReadsBlock middle between after root table entries at (λ answer. IsBlockRead now answer block) → rows_in table.format_version block ≡ Ok rows → ReadsRows decode objects before after path table at rows
+unfolding ReadsRows
 reads_rows decode now objects middle before between after path root table entries at block rows same still there index within fits read h =
     let decoded = subst (λ (d : Encode). ReadsBlock middle between after root table entries at (λ answer. IsBlockRead d answer block)) same read in
     let told = subst (λ (o : Option Objects). ReadsBlock o between after root table entries at (λ answer. IsBlockRead decode answer block)) still decoded in
@@ -113,6 +114,7 @@ pub index_refused : {A : Type 0} (decode : Encode) (objects : Option Objects) (b
     A ⊎ Reads objects before after path table.info.index_offset table.info.index_len (λ answer. FailsDecoding x z answer e)
     ⊎ Reads objects before after path table.info.index_offset table.info.index_len (λ answer. RefusesIndex decode table.info.filter_offset answer e) →
     A ⊎ FailsReadRows decode objects before after path table at x z e ⊎ RefusesReadRows decode objects before after path table at e
+unfolding FailsReadRows RefusesReadRows
 index_refused decode objects before after path table at x z e (inl a) = inl a
 index_refused decode objects before after path table at x z e (inr (inl f)) = inr (inl (inl f))
 index_refused decode objects before after path table at x z e (inr (inr r)) = inr (inr (inl r))
@@ -120,6 +122,7 @@ index_refused decode objects before after path table at x z e (inr (inr r)) = in
 rows_refused : {A B : Type 0} (decode now : Encode) (objects middle : Option Objects) (before between after : Option (List Act)) (path root : List ℕ) (table : SsTableHandle) (entries : List (ℕ × List ℕ)) (at : ℕ) (e : SlateDBError) →
     now ≡ decode → middle ≡ objects → root ≡ path → ReadsIndex decode objects before between path table entries → at < length entries →
     ReadsBlock middle between after root table entries at (λ answer. RefusesRows now table.format_version answer e) → A ⊎ B ⊎ RefusesReadRows decode objects before after path table at e
+unfolding RefusesReadRows
 rows_refused decode now objects middle before between after path root table entries at e same still there index within refused =
     let decoded = subst (λ (d : Encode). ReadsBlock middle between after root table entries at (λ answer. RefusesRows d table.format_version answer e)) same refused in
     let told = subst (λ (o : Option Objects). ReadsBlock o between after root table entries at (λ answer. RefusesRows decode table.format_version answer e)) still decoded in
@@ -130,6 +133,7 @@ pub block_refused : (decode now : Encode) (objects middle : Option Objects) (bef
     now ≡ decode → middle ≡ objects → root ≡ path → a ≤ b → y ≡ x → ReadsIndex decode objects before between path table entries → at < length entries →
     IsStoreFault b c e ⊎ ReadsBlock middle between after root table entries at (λ answer. FailsDecoding y z answer e) ⊎ ReadsBlock middle between after root table entries at (λ answer. RefusesBlock now answer e) →
     IsStoreFault a c e ⊎ FailsReadRows decode objects before after path table at x z e ⊎ RefusesReadRows decode objects before after path table at e
+unfolding FailsReadRows
 block_refused decode now objects middle before between after path root table entries at a b c x y z e same still there le transformer index within (inl fault) = inl (later_fault a b c e le fault)
 block_refused decode now objects middle before between after path root table entries at a b c x y z e same still there le transformer index within (inr (inl f)) =
     let counted = subst (λ (n : ℕ). ReadsBlock middle between after root table entries at (λ answer. FailsDecoding n z answer e)) transformer f in
@@ -151,11 +155,13 @@ row_refused decode now objects middle before between after path root table entri
 
 pub had_index : (decode : Encode) (objects : Option Objects) (before after : Option (List Act)) (path : List ℕ) (table : SsTableHandle) (entries : List (ℕ × List ℕ)) (at : ℕ) →
     ReadsIndex decode objects before after path table entries → MayReadRows decode objects before after path table at
+unfolding MayReadRows
 had_index decode objects before after path table entries at read = inr (inl (read.0, read.1, tt))
 
 pub may_block : (decode : Encode) (objects middle : Option Objects) (before between after : Option (List Act)) (path root : List ℕ) (table : SsTableHandle) (entries : List (ℕ × List ℕ)) (at : ℕ) →
     middle ≡ objects → root ≡ path → ReadsIndex decode objects before between path table entries → at < length entries →
     (after ≡ between) ⊎ ReadsBlock middle between after root table entries at (λ _. Unit {0}) → MayReadRows decode objects before after path table at
+unfolding MayReadRows
 may_block decode objects middle before between after path root table entries at still there index within (inl none) =
     let read = subst (λ (s : Option (List Act)). ReadsIndex decode objects before s path table entries) (sym none) index in
     had_index decode objects before after path table entries at read

@@ -115,7 +115,7 @@ stats_are encode bytes version blocks filters t =
 pub stats_held : (encode decode : Encode) → IsLawfulTransform encode decode → (objects : Option Objects) (before after : Option (List Act)) (path : List ℕ) (version : ℕ) (blocks : List (List RowEntry)) (filters : List (List ℕ × List ℕ)) (stats : Stats) →
     HoldsTable encode objects path version blocks filters → let info = table_info encode version blocks filters in
     Reads objects before after path info.stats.at info.stats.len (λ answer. IsStatsRead decode answer stats) → stats ≡ table_stats blocks
-unfolding all_of
+unfolding IsStatsRead all_of
 stats_held encode decode lawful objects before after path version blocks filters stats h read =
     let b = all_of encode version blocks in
     let f = filter_section encode filters in
@@ -139,7 +139,7 @@ section_refused encode decode lawful text refused answer e fits is none (inr r) 
 pub stats_found : (encode decode : Encode) → IsLawfulTransform encode decode → (objects : Option Objects) (before after : Option (List Act)) (path : List ℕ) (version : ℕ) (blocks : List (List RowEntry)) (filters : List (List ℕ × List ℕ)) (e : SlateDBError) →
     (h : HoldsTable encode objects path version blocks filters) → IsBytes h.bytes → let info = table_info encode version blocks filters in
     Reads objects before after path info.stats.at info.stats.len (λ answer. RefusesStats decode answer e) → ⊥
-unfolding all_of
+unfolding RefusesStats all_of
 stats_found encode decode lawful objects before after path version blocks filters e h fits read =
     let b = all_of encode version blocks in
     let f = filter_section encode filters in
@@ -313,6 +313,7 @@ no_refusal encode decode lawful version text rows answer e known fits is block (
 pub rows_held : (encode decode : Encode) → IsLawfulTransform encode decode → (objects : Option Objects) (before after : Option (List Act)) (path : List ℕ) (blocks : List (List RowEntry)) (filters : List (List ℕ × List ℕ)) (table : SsTableHandle) (block : ℕ) (rows : List RowEntry) →
     HoldsTable encode objects path table.format_version blocks filters → seen_info table.info ≡ table_info encode table.format_version blocks filters → ReadsRows decode objects before after path table block rows →
     (written : List RowEntry) × (slice_get blocks block ≡ Some written) × (rows ≡ map (as_read table.format_version) written)
+unfolding ReadsRows
 rows_held encode decode lawful objects before after path blocks filters table block rows h info read =
     let version = table.format_version in
     let index = subst (λ (i : Info). Reads objects before read.1 path i.index.at i.index.len (λ answer. IsIndexRead decode i.filters.at answer read.0)) info read.2 in
@@ -337,6 +338,7 @@ OutOfRange blocks block e = (length blocks ≤ block) × (e ≡ BlockOutOfRange 
 
 pub rows_found : (encode decode : Encode) → IsLawfulTransform encode decode → (objects : Option Objects) (before after : Option (List Act)) (path : List ℕ) (blocks : List (List RowEntry)) (filters : List (List ℕ × List ℕ)) (table : SsTableHandle) (block : ℕ) (e : SlateDBError) →
     (h : HoldsTable encode objects path table.format_version blocks filters) → IsBytes h.bytes → seen_info table.info ≡ table_info encode table.format_version blocks filters → RefusesReadRows decode objects before after path table block e → OutOfRange blocks block e
+unfolding RefusesReadRows
 rows_found encode decode lawful objects before after path blocks filters table block e h fits info (inl r) =
     let index = subst (λ (i : Info). Reads objects before after path i.index.at i.index.len (λ answer. RefusesIndex decode i.filters.at answer e)) info r in
     absurd (index_found encode decode lawful objects before after path table.format_version blocks filters e h fits index)

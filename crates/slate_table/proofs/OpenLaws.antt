@@ -115,6 +115,7 @@ info_is encode bytes version blocks filters t =
 
 pub measured : (objects : Option Objects) (before after : Option (List Act)) (told : Objects) (path bytes : List ℕ) (size : Option ℕ) → objects ≡ Some told → object_at told path ≡ Some bytes →
     IsMeasured objects before after path size → size ≡ Some (length bytes)
+unfolding IsMeasured
 measured objects before after told path bytes size tells there m = m.0 told tells ∙ ap len_of there
 
 record FoundLast (encode : Encode) (version : ℕ) (blocks : List (List RowEntry)) (filters : List (List ℕ × List ℕ)) (offset found : ℕ) : Type 0 where
@@ -171,6 +172,7 @@ found_info encode objects second after path version blocks filters size offset f
 
 pub opened : (encode : Encode) (objects : Option Objects) (before after : Option (List Act)) (path : List ℕ) (version found : ℕ) (blocks : List (List RowEntry)) (filters : List (List ℕ × List ℕ)) (info : Info) →
     HoldsTable encode objects path version blocks filters → IsOpened objects before after path found info → (found ≡ version) × (info ≡ table_info encode version blocks filters)
+unfolding IsOpened
 opened encode objects before after path version found blocks filters info h o =
     let size : o.0 ≡ length h.bytes = same_Some o.0 (length h.bytes) (measured objects before o.2 h.told path h.bytes (Some o.0) h.tells h.there o.4) in
     let last = found_last encode objects o.2 o.3 path version blocks filters o.0 o.1 found h size o.6 in
@@ -234,6 +236,7 @@ no_empty encode version blocks filters bytes size offset found t is last small =
 
 pub not_refused : (encode : Encode) (objects : Option Objects) (before after : Option (List Act)) (path : List ℕ) (version : ℕ) (blocks : List (List RowEntry)) (filters : List (List ℕ × List ℕ)) (e : SlateDBError) →
     (h : HoldsTable encode objects path version blocks filters) → IsBytes h.bytes → RefusesOpen objects before after path e → ⊥
+unfolding RefusesOpen
 not_refused encode objects before after path version blocks filters e h fits (inl r) = no_size encode objects before after path version blocks filters e h r
 not_refused encode objects before after path version blocks filters e h fits (inr (inl r)) =
     let size = same_Some r.0 (length h.bytes) (measured objects before r.1 h.told path h.bytes (Some r.0) h.tells h.there r.2) in

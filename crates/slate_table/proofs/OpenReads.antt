@@ -16,6 +16,7 @@ earlier a b c e le (inr fault) = let rose : Rose b c = fault.1 in inr (fault.0, 
 pub last_refused : (objects between : Option Objects) (before first after : Option (List Act)) (path : List ℕ) (size : ℕ) (found : Option ℕ) (a b c : ℕ) (e : SlateDBError) →
     between ≡ objects → a ≤ b → found ≡ Some size → 10 < size → IsMeasured objects before first path found →
     IsStoreFault b c e ⊎ Reads between first after path (size - 10) 10 (λ answer. last_in size answer ≡ Err e) → IsStoreFault a c e ⊎ RefusesOpen objects before after path e
+unfolding RefusesOpen
 last_refused objects between before first after path size found a b c e same le is long measured (inl fault) = inl (earlier a b c e le fault)
 last_refused objects between before first after path size found a b c e same le is long measured (inr read) =
     let sized = subst (λ (m : Option ℕ). IsMeasured objects before first path m) is measured in
@@ -28,6 +29,7 @@ pub info_refused : (objects between later : Option Objects) (before first second
     IsStoreFault b c e ⊎ ((after ≡ second) × (info_size size offset ≤ 4) × (e ≡ EmptyBlockMeta (info_size size offset)))
     ⊎ ((4 < info_size size offset) × Reads later second after path offset (info_size size offset) (λ answer. RefusesInfo version offset answer e)) →
     IsStoreFault a c e ⊎ RefusesOpen objects before after path e
+unfolding RefusesOpen
 info_refused objects between later before first second after path size offset version found a b c e same still le is long measured last (inl fault) = inl (earlier a b c e le fault)
 info_refused objects between later before first second after path size offset version found a b c e same still le is long measured last (inr (inl empty)) =
     let sized = subst (λ (m : Option ℕ). IsMeasured objects before first path m) is measured in
@@ -44,6 +46,7 @@ pub opens : (objects between later : Option Objects) (before first second after 
     between ≡ objects → later ≡ objects → found ≡ Some size → 10 < size → IsMeasured objects before first path found →
     Reads between first second path (size - 10) 10 (λ answer. last_in size answer ≡ Ok (offset, version)) → 4 < info_size size offset →
     Reads later second after path offset (info_size size offset) (λ answer. IsInfoRead version offset answer info) → IsOpened objects before after path version info
+unfolding IsOpened
 opens objects between later before first second after path size offset version found info same still is long measured last some read =
     let sized = subst (λ (m : Option ℕ). IsMeasured objects before first path m) is measured in
     let told = subst (λ (o : Option Objects). Reads o first second path (size - 10) 10 (λ answer. last_in size answer ≡ Ok (offset, version))) same last in
@@ -53,10 +56,12 @@ opens objects between later before first second after path size offset version f
 -- ---- which of the three calls were answered
 
 pub may_size : (objects : Option Objects) (before after : Option (List Act)) (path : List ℕ) (size : Option ℕ) → IsMeasured objects before after path size → MayOpen objects before after path
+unfolding MayOpen
 may_size objects before after path size measured = inr (inl (size, measured))
 
 pub may_last : (objects between : Option Objects) (before first after : Option (List Act)) (path : List ℕ) (size : ℕ) (found : Option ℕ) → between ≡ objects → found ≡ Some size → IsMeasured objects before first path found →
     (after ≡ first) ⊎ Reads between first after path (size - 10) 10 (λ _. Unit {0}) → MayOpen objects before after path
+unfolding MayOpen
 may_last objects between before first after path size found same is measured (inl none) =
     may_size objects before after path found (subst (λ (s : Option (List Act)). IsMeasured objects before s path found) (sym none) measured)
 may_last objects between before first after path size found same is measured (inr read) =
@@ -66,6 +71,7 @@ may_last objects between before first after path size found same is measured (in
 
 pub may_info : (objects between later : Option Objects) (before first second after : Option (List Act)) (path : List ℕ) (size offset version : ℕ) (found : Option ℕ) → between ≡ objects → later ≡ objects → found ≡ Some size → IsMeasured objects before first path found →
     Reads between first second path (size - 10) 10 (λ answer. last_in size answer ≡ Ok (offset, version)) → (after ≡ second) ⊎ Reads later second after path offset (info_size size offset) (λ _. Unit {0}) → MayOpen objects before after path
+unfolding MayOpen
 may_info objects between later before first second after path size offset version found same still is measured last (inl none) =
     let read = subst (λ (s : Option (List Act)). Reads between first s path (size - 10) 10 (λ answer. last_in size answer ≡ Ok (offset, version))) (sym none) last in
     may_last objects between before first after path size found same is measured (inr (read.0, read.1, tt))

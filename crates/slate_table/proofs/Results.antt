@@ -1,6 +1,6 @@
 -- The result of a last call, which is returned as it is.
-use Rattle.std.proofs.Common.{◌≡◌, ◌⊎◌, ◌∙◌, ℕ, Bool, true, inl, inr, Ok, Err, ap}
-use Rattle.std.specs.Prelude.{Result, IfOk, OnOk, OnErr, is_ok}
+use Rattle.std.proofs.Common.{◌≡◌, ◌⊎◌, ◌∙◌, ℕ, Bool, true, inl, inr, Ok, Err, ap, sym, subst}
+use Rattle.std.specs.Prelude.{Result, IfOk, OnOk, OnErr, MatchResult, IsErrAnd, is_ok}
 use Rattle.slate_types.specs.declared.error.SlateDBError.{SlateDBError}
 use Rattle.slate_types.specs.declared.error.SlateDBError.TheVariants.{StoreFault}
 
@@ -56,3 +56,9 @@ ok_is (Err e) t is = tt
 pub where_ok : {T E P : Type 0} (r : Result T E) → is_ok r ≡ true → OnOk r P → P
 where_ok (Ok x) is p = p
 where_ok (Err e) is p = absurd cc
+
+-- a call whose error becomes another one
+pub mapped : {T D E : Type 0} (r : Result T E) (m : Result T D) (Q : E → D → Type 0) (P R : T → Type 0) → MatchResult r (λ x. m ≡ Ok x) (λ e. IsErrAnd m (Q e)) → ((x : T) → P x → R x) → IfOk r P → IfOk m R
+mapped (Ok x) m Q P R is f p = subst (λ r. IfOk r R) (sym is) (f x p)
+mapped (Err e) (Ok x) Q P R is f p = absurd is
+mapped (Err e) (Err d) Q P R is f p = tt

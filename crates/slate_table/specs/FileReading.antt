@@ -40,12 +40,12 @@ abbrev pub ReadsBlock : Option Objects → Option (List Act) → Option (List Ac
 ReadsBlock objects before after path table entries block means =
     Reads objects before after path (block_start table.info.filter_offset entries block) (blocks_size table.info.filter_offset entries block (block + 1)) means
 
-abbrev pub ReadsRows : Encode → Option Objects → Option (List Act) → Option (List Act) → List ℕ → SsTableHandle → ℕ → List RowEntry → Type 0
+unfoldable pub ReadsRows : Encode → Option Objects → Option (List Act) → Option (List Act) → List ℕ → SsTableHandle → ℕ → List RowEntry → Type 0
 ReadsRows decode objects before after path table block rows =
     (entries : List (ℕ × List ℕ)) × (between : Option (List Act)) × ReadsIndex decode objects before between path table entries × (block < length entries)
     × ReadsBlock objects between after path table entries block (λ answer. AreRowsRead decode table.format_version answer rows)
 
-abbrev pub RefusesReadRows : Encode → Option Objects → Option (List Act) → Option (List Act) → List ℕ → SsTableHandle → ℕ → SlateDBError → Type 0
+unfoldable pub RefusesReadRows : Encode → Option Objects → Option (List Act) → Option (List Act) → List ℕ → SsTableHandle → ℕ → SlateDBError → Type 0
 RefusesReadRows decode objects before after path table block e =
     Reads objects before after path table.info.index_offset table.info.index_len (λ answer. RefusesIndex decode table.info.filter_offset answer e)
     ⊎ ((entries : List (ℕ × List ℕ)) × ReadsIndex decode objects before after path table entries × (length entries ≤ block) × (e ≡ BlockOutOfRange block (length entries)))
@@ -53,13 +53,13 @@ RefusesReadRows decode objects before after path table block e =
     × ReadsBlock objects between after path table entries block (λ answer. RefusesRows decode table.format_version answer e))
 
 -- a, b: the transformer's count of faults
-abbrev pub FailsReadRows : Encode → Option Objects → Option (List Act) → Option (List Act) → List ℕ → SsTableHandle → ℕ → ℕ → ℕ → SlateDBError → Type 0
+unfoldable pub FailsReadRows : Encode → Option Objects → Option (List Act) → Option (List Act) → List ℕ → SsTableHandle → ℕ → ℕ → ℕ → SlateDBError → Type 0
 FailsReadRows decode objects before after path table block a b e =
     Reads objects before after path table.info.index_offset table.info.index_len (λ answer. FailsDecoding a b answer e)
     ⊎ ((entries : List (ℕ × List ℕ)) × (between : Option (List Act)) × ReadsIndex decode objects before between path table entries × (block < length entries)
     × ReadsBlock objects between after path table entries block (λ answer. FailsDecoding a b answer e))
 
-abbrev pub MayReadRows : Encode → Option Objects → Option (List Act) → Option (List Act) → List ℕ → SsTableHandle → ℕ → Type 0
+unfoldable pub MayReadRows : Encode → Option Objects → Option (List Act) → Option (List Act) → List ℕ → SsTableHandle → ℕ → Type 0
 MayReadRows decode objects before after path table block =
     (after ≡ before)
     ⊎ Reads objects before after path table.info.index_offset table.info.index_len (λ _. Unit {0})

@@ -18,7 +18,7 @@ use Rattle.slate_table.specs.SectionReading.{footer_in}
 use Rattle.slate_table.specs.InfoReading.{info_in}
 use Rattle.slate_table.specs.Reading.{Reads, IsRefused}
 
-abbrev pub IsMeasured : Option Objects → Option (List Act) → Option (List Act) → List ℕ → Option ℕ → Type 0
+unfoldable pub IsMeasured : Option Objects → Option (List Act) → Option (List Act) → List ℕ → Option ℕ → Type 0
 IsMeasured objects before after path size = ((os : Objects) → objects ≡ Some os → AnswersLen os path size) × AddsAct before (Act.len path size) after
 
 abbrev pub long_in : Option ℕ → Result ℕ SlateDBError
@@ -41,7 +41,7 @@ abbrev pub info_size : ℕ → ℕ → ℕ
 info_size size offset = size - 10 - offset
 
 -- first, second: the acts that the store tells behind the first and the second call
-abbrev pub IsOpened : Option Objects → Option (List Act) → Option (List Act) → List ℕ → ℕ → Info → Type 0
+unfoldable pub IsOpened : Option Objects → Option (List Act) → Option (List Act) → List ℕ → ℕ → Info → Type 0
 IsOpened objects before after path version info =
     (size : ℕ) × (offset : ℕ) × (first : Option (List Act)) × (second : Option (List Act))
     × IsMeasured objects before first path (Some size) × (10 < size)
@@ -67,11 +67,11 @@ RefusesPart objects before after path e =
     × Reads objects first second path (size - 10) 10 (λ answer. last_in size answer ≡ Ok (offset, version)) × (4 < info_size size offset)
     × Reads objects second after path offset (info_size size offset) (λ answer. RefusesInfo version offset answer e)
 
-abbrev pub RefusesOpen : Option Objects → Option (List Act) → Option (List Act) → List ℕ → SlateDBError → Type 0
+unfoldable pub RefusesOpen : Option Objects → Option (List Act) → Option (List Act) → List ℕ → SlateDBError → Type 0
 RefusesOpen objects before after path e =
     RefusesSize objects before after path e ⊎ RefusesLast objects before after path e ⊎ RefusesEmpty objects before after path e ⊎ RefusesPart objects before after path e
 
-abbrev pub MayOpen : Option Objects → Option (List Act) → Option (List Act) → List ℕ → Type 0
+unfoldable pub MayOpen : Option Objects → Option (List Act) → Option (List Act) → List ℕ → Type 0
 MayOpen objects before after path =
     (after ≡ before)
     ⊎ ((size : Option ℕ) × IsMeasured objects before after path size)

@@ -74,10 +74,10 @@ IsIndexRead decode end answer entries = (part : List ℕ) × IsPart decode answe
 abbrev pub RefusesIndex : Encode → ℕ → Option (List ℕ) → SlateDBError → Type 0
 RefusesIndex decode end answer e = IsRefused decode (λ part. refusal (index_of end part)) answer e
 
-abbrev pub IsStatsRead : Encode → Option (List ℕ) → Stats → Type 0
+unfoldable pub IsStatsRead : Encode → Option (List ℕ) → Stats → Type 0
 IsStatsRead decode answer stats = (part : List ℕ) × IsPart decode answer part × IsStats part stats
 
-abbrev pub RefusesStats : Encode → Option (List ℕ) → SlateDBError → Type 0
+unfoldable pub RefusesStats : Encode → Option (List ℕ) → SlateDBError → Type 0
 RefusesStats decode answer e = IsRefused decode (λ part. refusal (stats_in part)) answer e
 
 -- ---- blocks

@@ -40,7 +40,7 @@ impl EncodedSsTable {
         ensures whole { IfOk result (λ bytes. bytes ≡ self.now.bytes) }
         ensures cause { IsOkUnless result SlateDBError.OutOfMemory }
     {
-        Ok(self.bytes.clone()?)
+        self.bytes.clone().map_err(SlateDBError::from)
     }
 
     /// Its first and its last key, and where its sections lie.

@@ -26,7 +26,7 @@ pub fn encode_index(
     for at in 0..offsets.len() {
         append_entry(&mut out, offsets[at], separators[at].as_slice())?;
     }
-    Ok(Bytes::from_vec(out)?)
+    Bytes::from_vec(out).map_err(SlateDBError::from)
 }
 
 fn append_entry(out: &mut Vec<u8>, offset: u64, separator: &[u8]) -> Result<(), SlateDBError>

@@ -130,7 +130,7 @@ impl SsTableInfo {
         append_key(&mut out, &self.last_entry)?;
         append_places(&mut out, self)?;
         append(&mut out, &[NO_CODEC, FILTER_FORMAT])?;
-        Ok(Bytes::from_vec(out)?)
+        Bytes::from_vec(out).map_err(SlateDBError::from)
     }
 
     /// The info of a table from its bytes, where the table's last bytes name this version and say that the info begins at

@@ -68,8 +68,7 @@ pub(crate) fn object_len<S: Store>(
     ensures still { (result ≡ Err SlateDBError.StoreFault) ⊎ (S.faults store.new ≡ S.faults store.old) }
 {
     let path = table_path(alloc, root, id)?;
-    let size = store.len(alloc, path.as_str())?;
-    Ok(size)
+    store.len(alloc, path.as_str()).map_err(SlateDBError::from)
 }
 
 /// The size of an object that holds more than the last bytes of a table.

@@ -12,6 +12,7 @@ pub fn table_path(alloc: Global, root: &str, id: Ulid) -> Result<String, SlateDB
     ensures cause { IsOkUnless result SlateDBError.OutOfMemory }
 {
     let digits = hex::encode(alloc, id.0.to_be_bytes())?;
-    let path = [root, "/compacted/", digits.as_str(), ".sst"].concat(alloc)?;
-    Ok(path)
+    [root, "/compacted/", digits.as_str(), ".sst"]
+        .concat(alloc)
+        .map_err(SlateDBError::from)
 }

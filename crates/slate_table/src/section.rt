@@ -33,8 +33,7 @@ pub fn checked_part(bytes: &Bytes) -> Result<Bytes, SlateDBError>
     ensures cause { IfErr result (λ e. (e ≡ SlateDBError.OutOfMemory) ⊎ (refusal (part_in bytes.now) ≡ Some e)) }
 {
     let len = checked_len(bytes.as_slice())?;
-    let part = bytes.slice(0..len)?;
-    Ok(part)
+    bytes.slice(0..len).map_err(SlateDBError::from)
 }
 
 /// How many bytes stand before a checksum that fits.
@@ -126,10 +125,7 @@ fn encoded<T: BlockTransformer>(
 {
     match transformer {
         None => Ok(part),
-        Some(transformer) => {
-            let stored = transformer.encode(alloc, part)?;
-            Ok(stored)
-        }
+        Some(transformer) => transformer.encode(alloc, part).map_err(SlateDBError::from),
     }
 }
 
@@ -147,9 +143,8 @@ fn decoded<T: BlockTransformer>(
 {
     match transformer {
         None => Ok(stored),
-        Some(transformer) => {
-            let part = transformer.decode(alloc, stored)?;
-            Ok(part)
-        }
+        Some(transformer) => transformer
+            .decode(alloc, stored)
+            .map_err(SlateDBError::from),
     }
 }

@@ -13,7 +13,7 @@ pub fn separator(previous: &[u8], key: &Bytes) -> Result<Bytes, SlateDBError>
     ensures cause { IsOkUnless result SlateDBError.OutOfMemory }
 {
     let len = separator_len(previous, key.as_slice());
-    Ok(key.slice(0..len)?)
+    key.slice(0..len).map_err(SlateDBError::from)
 }
 
 /// How many bytes of the key that front has.

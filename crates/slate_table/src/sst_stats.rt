@@ -58,7 +58,7 @@ impl SstStats {
         let mut out = Vec::new(alloc);
         append_totals(&mut out, self)?;
         append_block_stats(&mut out, &self.block_stats)?;
-        Ok(Bytes::from_vec(out)?)
+        Bytes::from_vec(out).map_err(SlateDBError::from)
     }
 
     /// The statistics from their bytes. `CorruptTable` with the place of the first field that the bytes end in, or of what

@@ -140,7 +140,7 @@ fn key_of(row: Option<&RowEntry>) -> Result<Option<Bytes>, SlateDBError>
     ensures cause { IsOkUnless result SlateDBError.OutOfMemory }
 {
     match row {
-        Some(row) => Ok(Some(row.key.clone()?)),
+        Some(row) => row.key.clone().map(Some).map_err(SlateDBError::from),
         None => Ok(None),
     }
 }

@@ -58,25 +58,12 @@ pub fn new_block(
     ensures counts { IfOk result (λ block. block.stats ≡ stats_of []) }
     ensures cause { IsOkUnless result SlateDBError.OutOfMemory }
 {
-    let builder = new_builder(alloc, format, block_size)?;
-    Ok(BlockBuilderWithStats::new(builder))
-}
-
-fn new_builder(
-    alloc: Global,
-    format: BlockFormat,
-    block_size: u32,
-) -> Result<BlockBuilder, SlateDBError>
-    requires some { 0 < block_size }
-    requires few { block_size ≤ 65535 }
-    ensures begun { IfOk result (λ builder. builder ≡ record { version = version_of format; size = block_size; rows = [] }) }
-    ensures cause { IsOkUnless result SlateDBError.OutOfMemory }
-{
-    match format {
+    let builder = match format {
         BlockFormat::V1 => BlockBuilder::new_v1(alloc, block_size),
         BlockFormat::V2 => BlockBuilder::new_v2(alloc, block_size),
         BlockFormat::Latest => BlockBuilder::new_latest(alloc, block_size),
-    }
+    };
+    builder.map(BlockBuilderWithStats::new)
 }
 
 impl TableParts {
@@ -242,8 +229,7 @@ impl TableParts {
             Ok(()) => {
                 self.raw_key_size += entry.key.len() as u64;
                 self.raw_val_size += entry.value.len() as u64;
-                self.rows.push(entry)?;
-                Ok(())
+                self.rows.push(entry).map_err(SlateDBError::from)
             }
             Err(error) => {
                 drop(entry);
@@ -288,7 +274,7 @@ fn separator_behind(rows: &[RowEntry], key: &Bytes) -> Result<Bytes, SlateDBErro
 {
     match rows.last() {
         Some(row) => separator(row.key.as_slice(), key),
-        None => Ok(key.clone()?),
+        None => key.clone().map_err(SlateDBError::from),
     }
 }
 

@@ -314,7 +314,10 @@ fn range_of(bytes: &Bytes, start: u64, len: u64) -> Result<Option<Bytes>, SlateD
         return Ok(None);
     }
     let (start, end) = (start as usize, (start + len) as usize);
-    Ok(Some(bytes.slice(start..end)?))
+    bytes
+        .slice(start..end)
+        .map(Some)
+        .map_err(SlateDBError::from)
 }
 
 /// The section of a block, from an answer that begins where the first one does.

@@ -1,8 +1,9 @@
 use Rattle.slate_table.proofs.Results.{store_still, store_err, store_longer}
 use Rattle.std.proofs.Common.{◌∙◌, arith, inl, inr, sym}
-use Rattle.std.proofs.lemmas.Result.{err_from_is_err_and}
+use Rattle.std.proofs.lemmas.Result.{err_from_is_err_and, IfOk-from_err}
 use Rattle.slate_table.specs.Paths.{path_of}
 use Rattle.slate_table.specs.InfoReading.{seen_info}
+use Rattle.slate_table.specs.Opening.{RefusesOpen, MayOpen}
 use Rattle.slate_table.proofs.OpenReads.{last_refused, info_refused, opens, may_size, may_last, may_info}
 use Rattle.slate_table.proofs.opening.open_table.Goals as goal
 
@@ -68,6 +69,7 @@ pub returns-in_err-size-clause-cause : goal.returns-in_err-size-clause-cause
 returns-in_err-size-clause-cause g c = let p = err_from_is_err_and c.from_residual.result c.from_residual.ensures.1 in rw (p.1, p.2) (inl c.in_err-size.ensures.cause)
 
 pub returns-in_err-size-clause-calls : goal.returns-in_err-size-clause-calls
+unfolding MayOpen
 returns-in_err-size-clause-calls g c = let p = err_from_is_err_and c.from_residual.result c.from_residual.ensures.1 in rw p.1 (inl c.in_err-size.ensures.none)
 
 pub returns-in_err-size-clause-still : goal.returns-in_err-size-clause-still
@@ -75,6 +77,7 @@ returns-in_err-size-clause-still g c =
     let p = err_from_is_err_and c.from_residual.result c.from_residual.ensures.1 in rw (p.1, p.2) (store_err c.in_err-size.field-0.0 c.in_err-size.ensures.still)
 
 pub returns-in_err-len-clause-cause : goal.returns-in_err-len-clause-cause
+unfolding RefusesOpen
 returns-in_err-len-clause-cause g c =
     let p = err_from_is_err_and c.from_residual-in_err-len.result c.from_residual-in_err-len.ensures.1 in
     rw (p.1, p.2) (inr (inl (c.in_ok-size.size, c.in_ok-size.ensures.measured, sym c.in_err-len.ensures.value)))
@@ -99,3 +102,39 @@ returns-in_err-info-clause-still g c =
 pub returns-clause-still : goal.returns-clause-still
 returns-clause-still g c =
     inr (store_still c.in_ok-info.info c.in_ok-info.ensures.still ∙ store_still c.in_ok-footer.footer c.in_ok-footer.ensures.still ∙ store_still c.in_ok-size.size c.in_ok-size.ensures.still)
+
+pub returns-in_err-size-clause-found : goal.returns-in_err-size-clause-found
+returns-in_err-size-clause-found g c = IfOk-from_err c.from_residual.result _ c.from_residual.ensures.0
+
+pub returns-in_err-size-clause-known : goal.returns-in_err-size-clause-known
+returns-in_err-size-clause-known g c = IfOk-from_err c.from_residual.result _ c.from_residual.ensures.0
+
+pub returns-in_err-size-clause-id : goal.returns-in_err-size-clause-id
+returns-in_err-size-clause-id g c = IfOk-from_err c.from_residual.result _ c.from_residual.ensures.0
+
+pub returns-in_err-len-clause-found : goal.returns-in_err-len-clause-found
+returns-in_err-len-clause-found g c = IfOk-from_err c.from_residual-in_err-len.result _ c.from_residual-in_err-len.ensures.0
+
+pub returns-in_err-len-clause-known : goal.returns-in_err-len-clause-known
+returns-in_err-len-clause-known g c = IfOk-from_err c.from_residual-in_err-len.result _ c.from_residual-in_err-len.ensures.0
+
+pub returns-in_err-len-clause-id : goal.returns-in_err-len-clause-id
+returns-in_err-len-clause-id g c = IfOk-from_err c.from_residual-in_err-len.result _ c.from_residual-in_err-len.ensures.0
+
+pub returns-in_err-footer-clause-found : goal.returns-in_err-footer-clause-found
+returns-in_err-footer-clause-found g c = IfOk-from_err c.from_residual-in_err-footer.result _ c.from_residual-in_err-footer.ensures.0
+
+pub returns-in_err-footer-clause-known : goal.returns-in_err-footer-clause-known
+returns-in_err-footer-clause-known g c = IfOk-from_err c.from_residual-in_err-footer.result _ c.from_residual-in_err-footer.ensures.0
+
+pub returns-in_err-footer-clause-id : goal.returns-in_err-footer-clause-id
+returns-in_err-footer-clause-id g c = IfOk-from_err c.from_residual-in_err-footer.result _ c.from_residual-in_err-footer.ensures.0
+
+pub returns-in_err-info-clause-found : goal.returns-in_err-info-clause-found
+returns-in_err-info-clause-found g c = IfOk-from_err c.from_residual-in_err-info.result _ c.from_residual-in_err-info.ensures.0
+
+pub returns-in_err-info-clause-known : goal.returns-in_err-info-clause-known
+returns-in_err-info-clause-known g c = IfOk-from_err c.from_residual-in_err-info.result _ c.from_residual-in_err-info.ensures.0
+
+pub returns-in_err-info-clause-id : goal.returns-in_err-info-clause-id
+returns-in_err-info-clause-id g c = IfOk-from_err c.from_residual-in_err-info.result _ c.from_residual-in_err-info.ensures.0

@@ -1,5 +1,5 @@
 use Rattle.std.proofs.Common.{inr, arith, inl}
-use Rattle.std.proofs.lemmas.Result.{IfOk-weaker, IfErr-weaker, err_from_is_err_and}
+use Rattle.std.proofs.lemmas.Result.{IfOk-weaker, IfErr-weaker, err_from_is_err_and, IfOk-from_err}
 use Rattle.slate_table.proofs.Results.{on_err, if_ok, spread, store_still, store_err}
 use Rattle.slate_table.proofs.opening.read_info.Goals as goal
 
@@ -33,3 +33,9 @@ returns-clause-later g c = c.read.ensures.later
 
 pub returns-clause-objects : goal.returns-clause-objects
 returns-clause-objects g c = c.read.ensures.objects
+
+pub returns-in_err-answer-clause-found : goal.returns-in_err-answer-clause-found
+returns-in_err-answer-clause-found g c = IfOk-from_err c.from_residual.result _ c.from_residual.ensures.0
+
+pub returns-in_err-answer-clause-some : goal.returns-in_err-answer-clause-some
+returns-in_err-answer-clause-some g c = IfOk-from_err c.from_residual.result _ c.from_residual.ensures.0

@@ -3,6 +3,7 @@ use Rattle.std.proofs.lemmas.Result.{err_from_is_err_and}
 use Rattle.slate_types.specs.declared.error.SlateDBError.TheVariants.{OutOfMemory}
 use Rattle.slate_table.specs.Parts.{summed}
 use Rattle.slate_table.specs.SectionReading.{part_of_sum}
+use Rattle.slate_table.proofs.Results.{mapped}
 use Rattle.slate_table.proofs.SectionReads.{part_reads, part_is_front, refused_part}
 use Rattle.slate_table.proofs.section.checked_part.Goals as goal
 
@@ -17,13 +18,15 @@ returns-clause-found c =
     let slice = c.as_slice.result.now in
     let len = c.in_ok-len.len in
     let whole : len - 0 ≡ len = omega arith in
-    let front : c.in_ok-part.part ≡ take len slice = c.in_ok-part.ensures.ok ∙ ap (λ (n : ℕ). take n c.args.bytes.now) whole ∙ ap (take len) (sym c.as_slice.ensures) in
-    sym c.as_slice.ensures ∙ part_reads slice (take len slice) c.checked_len.ensures.bytes c.in_ok-len.ensures.found ∙ ap summed (sym front)
+    let front = ap (λ (n : ℕ). take n c.args.bytes.now) whole ∙ ap (take len) (sym c.as_slice.ensures) in
+    let stored = sym c.as_slice.ensures ∙ part_reads slice (take len slice) c.checked_len.ensures.bytes c.in_ok-len.ensures.found in
+    mapped c.slice.result c.map_err.result _ _ _ c.map_err.ensures.cases (λ part is. stored ∙ ap summed (sym (is ∙ front))) c.slice.ensures.ok
 
 pub returns-clause-front : goal.returns-clause-front
 returns-clause-front c =
     let slice = c.as_slice.result.now in
     let len = c.in_ok-len.len in
     let whole : len - 0 ≡ len = omega arith in
-    c.in_ok-part.ensures.ok ∙ ap (λ (n : ℕ). take n c.args.bytes.now) whole ∙ ap (take len) (sym c.as_slice.ensures)
-    ∙ part_is_front slice (take len slice) c.in_ok-len.ensures.found ∙ ap part_of_sum c.as_slice.ensures
+    let front = ap (λ (n : ℕ). take n c.args.bytes.now) whole ∙ ap (take len) (sym c.as_slice.ensures)
+    ∙ part_is_front slice (take len slice) c.in_ok-len.ensures.found ∙ ap part_of_sum c.as_slice.ensures in
+    mapped c.slice.result c.map_err.result _ _ _ c.map_err.ensures.cases (λ part is. is ∙ front) c.slice.ensures.ok

@@ -1,6 +1,6 @@
 use Rattle.slate_table.specs.Decoded.{Info, SectionsLieBefore}
 use Rattle.slate_table.proofs.PartReads.{still_ok, still_err}
-use Rattle.std.proofs.lemmas.Result.{err_from_is_err_and}
+use Rattle.std.proofs.lemmas.Result.{err_from_is_err_and, IfOk-from_err}
 use Rattle.std.proofs.Common.{◌≡◌, ◌∙◌, ◌++◌, length, ap, rules, List, ℕ, inl, inr, sym, subst}
 use Rattle.slate_table.specs.Parts.{section, summed}
 use Rattle.slate_table.specs.InfoReading.{seen_info}
@@ -61,3 +61,15 @@ returns-in-Ok-clause-info g c =
     let info : seen_info c.in_ok-info.info ≡ placed_info rows (length a) (length (a ++ i)) (length ((a ++ i) ++ s)) = c.in_ok-info.ensures.value ∙ (λ j. placed_info rows (begin j) (at j) (end j)) in
     let lies = subst (λ (made : Info). SectionsLieBefore (length ((a ++ i) ++ s)) made) (sym info) (sections_lie rows a i s) in
     c.in-Ok.ensures.info (subst (λ (l : List ℕ). SectionsLieBefore (length l) (seen_info c.in_ok-info.info)) (sym mid) lies)
+
+pub returns-in_err-stats_offset-clause-appended : goal.returns-in_err-stats_offset-clause-appended
+returns-in_err-stats_offset-clause-appended g c = IfOk-from_err c.from_residual.result _ c.from_residual.ensures.0
+
+pub returns-in_err-stats_offset-clause-info : goal.returns-in_err-stats_offset-clause-info
+returns-in_err-stats_offset-clause-info g c = IfOk-from_err c.from_residual.result _ c.from_residual.ensures.0
+
+pub returns-in_err-info-clause-appended : goal.returns-in_err-info-clause-appended
+returns-in_err-info-clause-appended g c = IfOk-from_err c.from_residual-in_err-info.result _ c.from_residual-in_err-info.ensures.0
+
+pub returns-in_err-info-clause-info : goal.returns-in_err-info-clause-info
+returns-in_err-info-clause-info g c = IfOk-from_err c.from_residual-in_err-info.result _ c.from_residual-in_err-info.ensures.0

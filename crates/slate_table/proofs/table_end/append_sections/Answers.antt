@@ -1,7 +1,7 @@
 use Rattle.slate_table.specs.SectionReading.{IsTransformFault}
 use Rattle.slate_types.specs.Faults.{faults_of}
 use Rattle.slate_table.proofs.PartReads.{still_ok, still_err, still_longer}
-use Rattle.std.proofs.lemmas.Result.{err_from_is_err_and}
+use Rattle.std.proofs.lemmas.Result.{err_from_is_err_and, IfOk-from_err}
 use Rattle.std.proofs.Common.{◌∙◌, ◌++◌, ℕ, inr, subst}
 use Rattle.slate_table.specs.Parts.{section}
 use Rattle.slate_table.proofs.table_end.append_sections.Goals as goal
@@ -42,3 +42,9 @@ returns-in_err-seal_section-in-Ok-clause-still g c =
 
 pub returns-in_ok-seal_section-in-Ok-clause-still : goal.returns-in_ok-seal_section-in-Ok-clause-still
 returns-in_ok-seal_section-in-Ok-clause-still g c = inr (inr (still_ok _ c.in_ok-seal_section-in-Ok.ensures.still ∙ still_ok _ c.in-Ok.ensures.still))
+
+pub returns-in_err-seal_section-in-Ok-clause-appended : goal.returns-in_err-seal_section-in-Ok-clause-appended
+returns-in_err-seal_section-in-Ok-clause-appended g c = IfOk-from_err c.from_residual.result _ c.from_residual.ensures.0
+
+pub returns-in_err-seal_section-in-Ok-clause-place : goal.returns-in_err-seal_section-in-Ok-clause-place
+returns-in_err-seal_section-in-Ok-clause-place g c = IfOk-from_err c.from_residual.result _ c.from_residual.ensures.0

@@ -3,7 +3,7 @@ use Rattle.slate_block.specs.BlockReading.{offsets_of_block}
 use Rattle.slate_block.specs.RowReading.{refusal}
 use Rattle.slate_table.proofs.PartReads.{still_ok, refused_section, still_err}
 use Rattle.std.proofs.Common.{inr}
-use Rattle.std.proofs.lemmas.Result.{IfOk-weaker, IfErr-weaker, err_from_is_err_and}
+use Rattle.std.proofs.lemmas.Result.{IfOk-weaker, IfErr-weaker, err_from_is_err_and, IfOk-from_err}
 use Rattle.slate_table.proofs.Results.{either}
 use Rattle.slate_table.proofs.table_store.block_in.Goals as goal
 
@@ -31,3 +31,6 @@ returns-clause-same_encoded g c = c.opened.ensures.same_encoded
 
 pub returns-clause-same_decoded : goal.returns-clause-same_decoded
 returns-clause-same_decoded g c = c.opened.ensures.same_decoded
+
+pub returns-in_err-part-clause-found : goal.returns-in_err-part-clause-found
+returns-in_err-part-clause-found g c = IfOk-from_err c.from_residual.result _ c.from_residual.ensures.0

@@ -1,5 +1,5 @@
 use Rattle.std.proofs.Common.{◌+◌, ℕ, List, Option, inr, inl}
-use Rattle.std.proofs.lemmas.Result.{IfOk-weaker, IfErr-weaker, err_from_is_err_and}
+use Rattle.std.proofs.lemmas.Result.{IfOk-weaker, IfErr-weaker, err_from_is_err_and, IfOk-from_err}
 use Rattle.slate_table.proofs.Results.{on_err, store_still, store_err}
 use Rattle.slate_types.specs.Faults.{faults_of}
 use Rattle.slate_table.specs.IndexValue.{entries_of}
@@ -68,3 +68,6 @@ returns-clause-later_transformer g c = c.block_in.ensures.later
 
 pub returns-clause-objects : goal.returns-clause-objects
 returns-clause-objects g c = c.read.ensures.objects
+
+pub returns-in_err-answer-clause-found : goal.returns-in_err-answer-clause-found
+returns-in_err-answer-clause-found g c = IfOk-from_err c.from_residual.result _ c.from_residual.ensures.0

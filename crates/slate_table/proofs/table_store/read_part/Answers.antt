@@ -4,7 +4,7 @@ use Rattle.slate_block.specs.RowReading.{refusal}
 use Rattle.slate_table.specs.Paths.{path_of}
 use Rattle.slate_table.specs.Reading.{stored_in, FailsDecoding}
 use Rattle.slate_table.proofs.BlockReads.{row_refused}
-use Rattle.std.proofs.lemmas.Result.{IfOk-weaker, IfErr-weaker, err_from_is_err_and}
+use Rattle.std.proofs.lemmas.Result.{IfOk-weaker, IfErr-weaker, err_from_is_err_and, IfOk-from_err}
 use Rattle.slate_table.proofs.Results.{on_err, store_still, store_err}
 use Rattle.slate_table.proofs.table_store.read_part.Goals as goal
 
@@ -48,3 +48,6 @@ returns-clause-later_transformer g c = c.opened.ensures.later
 
 pub returns-clause-objects : goal.returns-clause-objects
 returns-clause-objects g c = c.read.ensures.objects
+
+pub returns-in_err-answer-clause-found : goal.returns-in_err-answer-clause-found
+returns-in_err-answer-clause-found g c = IfOk-from_err c.from_residual.result _ c.from_residual.ensures.0

@@ -1,14 +1,16 @@
 use Rattle.std.proofs.Common.{inr}
-use Rattle.std.proofs.lemmas.Result.{IfOk-weaker, IfErr-weaker, err_from_is_err_and}
+use Rattle.std.proofs.lemmas.Result.{IfOk-weaker, IfErr-weaker, err_from_is_err_and, IfOk-from_err}
 use Rattle.slate_table.proofs.Results.{on_err, spread, store_still, store_err}
 use Rattle.slate_block.specs.RowReading.{refusal}
 use Rattle.slate_table.specs.Paths.{path_of}
 use Rattle.slate_table.specs.SectionReading.{changed_by}
 use Rattle.slate_table.specs.StatsReading.{stats_in}
 use Rattle.slate_table.proofs.PartReads.{refused, still_ok, still_err}
+use Rattle.slate_table.specs.Reading.{IsStatsRead, RefusesStats}
 use Rattle.slate_table.proofs.table_store.read_stats.Goals as goal
 
 pub returns-in_err-part-clause-cause : goal.returns-in_err-part-clause-cause
+unfolding RefusesStats
 returns-in_err-part-clause-cause g c =
     let p = err_from_is_err_and c.from_residual.result c.from_residual.ensures.1 in
     let info = c.args.table.now.info in
@@ -17,11 +19,13 @@ returns-in_err-part-clause-cause g c =
     (changed_by g.T.BlockTransformer.decoded c.args.transformer.now) (λ part. refusal (stats_in part)) c.in_err-part.field-0.0 c.in_err-part.ensures.cause)
 
 pub returns-clause-found : goal.returns-clause-found
+unfolding IsStatsRead
 returns-clause-found g c =
     let f = c.in_ok-part.ensures.found in
     IfOk-weaker c.decode.result _ _ (λ made h. (f.0, f.1, (c.in_ok-part.part, f.2, h))) c.decode.ensures.found
 
 pub returns-clause-cause : goal.returns-clause-cause
+unfolding RefusesStats
 returns-clause-cause g c =
     let f = c.in_ok-part.ensures.found in
     IfErr-weaker c.decode.result _ _ (λ e h. spread (λ r. (f.0, f.1, inr (c.in_ok-part.part, f.2, r))) h) c.decode.ensures.cause
@@ -54,3 +58,6 @@ returns-clause-later_transformer g c = c.read_part.ensures.later_transformer
 
 pub returns-clause-objects : goal.returns-clause-objects
 returns-clause-objects g c = c.read_part.ensures.objects
+
+pub returns-in_err-part-clause-found : goal.returns-in_err-part-clause-found
+returns-in_err-part-clause-found g c = IfOk-from_err c.from_residual.result _ c.from_residual.ensures.0

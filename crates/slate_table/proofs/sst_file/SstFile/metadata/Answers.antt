@@ -1,6 +1,6 @@
 use Rattle.std.proofs.Common.{List, ℕ, Option, inl, inr, subst}
 use Rattle.std.specs.Prelude.{string_bytes}
-use Rattle.std.proofs.lemmas.Result.{err_from_is_err_and}
+use Rattle.std.proofs.lemmas.Result.{err_from_is_err_and, IfOk-from_err}
 use Rattle.slate_table.specs.Paths.{path_of}
 use Rattle.slate_table.specs.Opening.{IsMeasured}
 use Rattle.slate_table.proofs.sst_file.SstFile.metadata.Goals as goal
@@ -40,3 +40,9 @@ returns-in-Some-clause-size g c =
     let id = c.args.self.now.handle.id.0 in
     let measured = subst (λ (root : List ℕ). IsMeasured (g.S.Store.objects store) (g.S.Store.acts store) (g.S.Store.acts after) (path_of root id) c.in_ok-size.size) c.as_str.ensures.value c.in_ok-size.ensures.measured in
     subst (λ (size : Option ℕ). IsMeasured (g.S.Store.objects store) (g.S.Store.acts store) (g.S.Store.acts after) (path_of (string_bytes c.args.reader.now.root_path) id) size) c.in-Some.is measured
+
+pub returns-in_err-size-clause-size : goal.returns-in_err-size-clause-size
+returns-in_err-size-clause-size g c = IfOk-from_err c.from_residual.result _ c.from_residual.ensures.0
+
+pub returns-in_err-size-clause-id : goal.returns-in_err-size-clause-id
+returns-in_err-size-clause-id g c = IfOk-from_err c.from_residual.result _ c.from_residual.ensures.0

@@ -1,6 +1,6 @@
 use Rattle.std.proofs.Common.{◌∙◌, ℕ, List, ap, inl, inr}
 use Rattle.std.specs.Prelude.{string_bytes}
-use Rattle.std.proofs.lemmas.Result.{IfOk-weaker, IfErr-weaker, err_from_is_err_and}
+use Rattle.std.proofs.lemmas.Result.{IfOk-weaker, IfErr-weaker, err_from_is_err_and, IfOk-from_err}
 use Rattle.slate_table.proofs.Results.{on_err, store_still, store_err, store_longer}
 use Rattle.slate_types.specs.Faults.{faults_of}
 use Rattle.slate_table.specs.IndexValue.{entries_of}
@@ -8,6 +8,7 @@ use Rattle.slate_table.specs.Paths.{path_of}
 use Rattle.slate_table.specs.SectionReading.{changed_by}
 use Rattle.slate_table.proofs.PartReads.{still_ok, still_err, still_longer}
 use Rattle.slate_table.proofs.FileReads.{reads_rows, index_refused, block_refused, row_refused, may_block, had_block}
+use Rattle.slate_table.specs.FileReading.{RefusesReadRows, MayReadRows}
 use Rattle.slate_table.proofs.sst_file.SstFile.read_block.Goals as goal
 
 pub returns-in_err-index-clause-cause : goal.returns-in_err-index-clause-cause
@@ -118,18 +119,21 @@ pub returns-clause-same_decoded : goal.returns-clause-same_decoded
 returns-clause-same_decoded g c = c.read_block.ensures.same_decoded ∙ c.index.ensures.same_decoded
 
 pub returns-in_err-test_block-clause-cause : goal.returns-in_err-test_block-clause-cause
+unfolding RefusesReadRows
 returns-in_err-test_block-clause-cause g c =
     let p = err_from_is_err_and c.from_residual-in_err-test_block.result c.from_residual-in_err-test_block.ensures.1 in
     let past = c.in_err-test_block.ensures.past in
     rw (p.1, p.2) (inr (inr (inr (inl (entries_of c.in_ok-index.index, c.in_ok-index.ensures.found, past.0, past.1)))))
 
 pub returns-in_err-test_block-clause-twice : goal.returns-in_err-test_block-clause-twice
+unfolding MayReadRows
 returns-in_err-test_block-clause-twice g c =
     let p = err_from_is_err_and c.from_residual-in_err-test_block.result c.from_residual-in_err-test_block.ensures.1 in
     let found = c.in_ok-index.ensures.found in
     rw p.1 (inr (inl (found.0, found.1, tt)))
 
 pub returns-in_err-index-clause-twice : goal.returns-in_err-index-clause-twice
+unfolding MayReadRows
 returns-in_err-index-clause-twice g c =
     let p = err_from_is_err_and c.from_residual.result c.from_residual.ensures.1 in
     rw p.1 (elim c.in_err-index.ensures.once [
@@ -171,3 +175,12 @@ returns-clause-still g c = inr (store_still c.in_ok-found.found c.in_ok-found.en
 pub returns-clause-still_transformer : goal.returns-clause-still_transformer
 returns-clause-still_transformer g c =
     inr (inr (still_ok c.in_ok-found.found c.in_ok-found.ensures.still_transformer ∙ still_ok c.in_ok-index.index c.in_ok-index.ensures.still_transformer))
+
+pub returns-in_err-index-clause-found : goal.returns-in_err-index-clause-found
+returns-in_err-index-clause-found g c = IfOk-from_err c.from_residual.result _ c.from_residual.ensures.0
+
+pub returns-in_err-test_block-clause-found : goal.returns-in_err-test_block-clause-found
+returns-in_err-test_block-clause-found g c = IfOk-from_err c.from_residual-in_err-test_block.result _ c.from_residual-in_err-test_block.ensures.0
+
+pub returns-in_err-found-clause-found : goal.returns-in_err-found-clause-found
+returns-in_err-found-clause-found g c = IfOk-from_err c.from_residual-in_err-found.result _ c.from_residual-in_err-found.ensures.0

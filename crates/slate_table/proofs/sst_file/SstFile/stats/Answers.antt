@@ -1,7 +1,7 @@
 use Rattle.slate_table.proofs.PartReads.{still_ok, still_err}
 use Rattle.slate_table.proofs.Results.{store_still, store_err}
 use Rattle.std.proofs.Common.{inr}
-use Rattle.std.proofs.lemmas.Result.{err_from_is_err_and}
+use Rattle.std.proofs.lemmas.Result.{err_from_is_err_and, IfOk-from_err}
 use Rattle.slate_table.proofs.sst_file.SstFile.stats.Goals as goal
 
 pub returns-in_err-stats-clause-cause : goal.returns-in_err-stats-clause-cause
@@ -30,3 +30,6 @@ returns-clause-still g c = inr (store_still c.in_ok-stats.stats c.in_ok-stats.en
 
 pub returns-clause-still_transformer : goal.returns-clause-still_transformer
 returns-clause-still_transformer g c = inr (inr (still_ok c.in_ok-stats.stats c.in_ok-stats.ensures.still_transformer))
+
+pub returns-in_err-stats-clause-found : goal.returns-in_err-stats-clause-found
+returns-in_err-stats-clause-found g c = IfOk-from_err c.from_residual.result _ c.from_residual.ensures.0

@@ -1,5 +1,5 @@
 use Rattle.std.proofs.Common.{List, ℕ, ◌⊎◌, subst}
-use Rattle.std.proofs.lemmas.Result.{err_from_is_err_and}
+use Rattle.std.proofs.lemmas.Result.{err_from_is_err_and, IfOk-from_err}
 use Rattle.slate_table.specs.Paths.{path_of}
 use Rattle.slate_table.specs.InfoReading.{seen_info}
 use Rattle.slate_table.specs.Reading.{IsStoreFault}
@@ -28,3 +28,12 @@ pub returns-in_err-handle-clause-calls : goal.returns-in_err-handle-clause-calls
 returns-in_err-handle-clause-calls g c =
     let p = err_from_is_err_and c.from_residual.result c.from_residual.ensures.1 in
     rw (p.1, ← c.as_str.ensures.value) c.in_err-handle.ensures.calls
+
+pub returns-in_err-handle-clause-found : goal.returns-in_err-handle-clause-found
+returns-in_err-handle-clause-found g c = IfOk-from_err c.from_residual.result _ c.from_residual.ensures.0
+
+pub returns-in_err-handle-clause-known : goal.returns-in_err-handle-clause-known
+returns-in_err-handle-clause-known g c = IfOk-from_err c.from_residual.result _ c.from_residual.ensures.0
+
+pub returns-in_err-handle-clause-id : goal.returns-in_err-handle-clause-id
+returns-in_err-handle-clause-id g c = IfOk-from_err c.from_residual.result _ c.from_residual.ensures.0

@@ -1,6 +1,6 @@
 use Rattle.slate_table.proofs.PartsLaws.{some_rows}
 use Rattle.slate_table.proofs.PartReads.{still_ok, still_err}
-use Rattle.std.proofs.lemmas.Result.{err_from_is_err_and}
+use Rattle.std.proofs.lemmas.Result.{err_from_is_err_and, IfOk-from_err}
 use Rattle.std.proofs.Common.{sym, inr, inl, refl}
 use Rattle.slate_table.proofs.table_parts.TableParts.add.Goals as goal
 
@@ -43,3 +43,15 @@ returns-in_ok-take-in-Ok-clause-still g c = inr (inr (still_ok c.in-Ok.size c.in
 
 pub returns-in_ok-take-in-Ok-clause-fault : goal.returns-in_ok-take-in-Ok-clause-fault
 returns-in_ok-take-in-Ok-clause-fault g c = λ _. sym c.if-would_fit.ensures
+
+pub returns-in_err-take-clause-added : goal.returns-in_err-take-clause-added
+returns-in_err-take-clause-added g c = IfOk-from_err c.from_residual.result _ c.from_residual.ensures.0
+
+pub returns-in_err-take-clause-size : goal.returns-in_err-take-clause-size
+returns-in_err-take-clause-size g c = IfOk-from_err c.from_residual.result _ c.from_residual.ensures.0
+
+pub returns-in_err-take-in-Ok-clause-added : goal.returns-in_err-take-in-Ok-clause-added
+returns-in_err-take-in-Ok-clause-added g c = IfOk-from_err c.from_residual-in_err-take-in-Ok.result _ c.from_residual-in_err-take-in-Ok.ensures.0
+
+pub returns-in_err-take-in-Ok-clause-size : goal.returns-in_err-take-in-Ok-clause-size
+returns-in_err-take-in-Ok-clause-size g c = IfOk-from_err c.from_residual-in_err-take-in-Ok.result _ c.from_residual-in_err-take-in-Ok.ensures.0

@@ -1,7 +1,7 @@
 use Rattle.slate_table.proofs.EndLaws.{info_moved}
 use Rattle.slate_table.proofs.Results.{if_ok_both}
 use Rattle.slate_table.proofs.PartReads.{still_ok, still_err}
-use Rattle.std.proofs.lemmas.Result.{err_from_is_err_and, IfErr-weaker, IfOk-weaker}
+use Rattle.std.proofs.lemmas.Result.{err_from_is_err_and, IfErr-weaker, IfOk-weaker, IfOk-from_err}
 use Rattle.std.proofs.Common.{◌≡◌, ◌∙◌, List, ℕ, [], subst, inl, inr, refl, ap, length, arith}
 use Rattle.std.specs.Prelude.{IfOk}
 use Rattle.slate_table.specs.Parts.{section, index_bytes}
@@ -59,3 +59,27 @@ returns-in_ok-info-in-Ok-clause-info g c =
 
 pub returns-in_ok-info-in-Ok-clause-version : goal.returns-in_ok-info-in-Ok-clause-version
 returns-in_ok-info-in-Ok-clause-version g c = IfOk-weaker c.frozen.result _ _ (λ made is. is ∙ c.version_number-version.ensures) c.frozen.ensures.version
+
+pub returns-in_err-index-clause-bytes : goal.returns-in_err-index-clause-bytes
+returns-in_err-index-clause-bytes g c = IfOk-from_err c.from_residual.result _ c.from_residual.ensures.0
+
+pub returns-in_err-index-clause-short : goal.returns-in_err-index-clause-short
+returns-in_err-index-clause-short g c = IfOk-from_err c.from_residual.result _ c.from_residual.ensures.0
+
+pub returns-in_err-index-clause-info : goal.returns-in_err-index-clause-info
+returns-in_err-index-clause-info g c = IfOk-from_err c.from_residual.result _ c.from_residual.ensures.0
+
+pub returns-in_err-index-clause-version : goal.returns-in_err-index-clause-version
+returns-in_err-index-clause-version g c = IfOk-from_err c.from_residual.result _ c.from_residual.ensures.0
+
+pub returns-in_err-info-in-Ok-clause-bytes : goal.returns-in_err-info-in-Ok-clause-bytes
+returns-in_err-info-in-Ok-clause-bytes g c = IfOk-from_err c.from_residual-in_err-info-in-Ok.result _ c.from_residual-in_err-info-in-Ok.ensures.0
+
+pub returns-in_err-info-in-Ok-clause-short : goal.returns-in_err-info-in-Ok-clause-short
+returns-in_err-info-in-Ok-clause-short g c = IfOk-from_err c.from_residual-in_err-info-in-Ok.result _ c.from_residual-in_err-info-in-Ok.ensures.0
+
+pub returns-in_err-info-in-Ok-clause-info : goal.returns-in_err-info-in-Ok-clause-info
+returns-in_err-info-in-Ok-clause-info g c = IfOk-from_err c.from_residual-in_err-info-in-Ok.result _ c.from_residual-in_err-info-in-Ok.ensures.0
+
+pub returns-in_err-info-in-Ok-clause-version : goal.returns-in_err-info-in-Ok-clause-version
+returns-in_err-info-in-Ok-clause-version g c = IfOk-from_err c.from_residual-in_err-info-in-Ok.result _ c.from_residual-in_err-info-in-Ok.ensures.0

@@ -2,7 +2,7 @@ use Rattle.std.specs.Prelude.{IfErr}
 use Rattle.slate_table.proofs.BuiltLaws.{last_has_row, ended_ready}
 use Rattle.slate_types.specs.Faults.{faults_of}
 use Rattle.slate_table.proofs.PartReads.{still_longer, still_ok, still_err}
-use Rattle.std.proofs.lemmas.Result.{err_from_is_err_and, IfOk-weaker}
+use Rattle.std.proofs.lemmas.Result.{err_from_is_err_and, IfOk-weaker, IfOk-from_err}
 use Rattle.std.proofs.Common.{◌∙◌, ap, subst, arith, ℕ}
 use Rattle.slate_types.specs.declared.config.BlockFormat.{BlockFormat}
 use Rattle.slate_table.specs.Parts.{Encode}
@@ -72,3 +72,9 @@ pub returns-clause-version : goal.returns-clause-version
 returns-clause-version g c =
     let end : IsEnded (changed_by g.T.BlockTransformer.encoded c.args.transformer.now) c.args.self.now c.end_block.new.self = c.in_ok-end_block.ensures.ended in
     IfOk-weaker c.assemble.result _ _ (λ made is. is ∙ ap version_of end.format) c.assemble.ensures.version
+
+pub returns-in_err-end_block-clause-finished : goal.returns-in_err-end_block-clause-finished
+returns-in_err-end_block-clause-finished g c = IfOk-from_err c.from_residual.result _ c.from_residual.ensures.0
+
+pub returns-in_err-end_block-clause-version : goal.returns-in_err-end_block-clause-version
+returns-in_err-end_block-clause-version g c = IfOk-from_err c.from_residual.result _ c.from_residual.ensures.0

@@ -1,5 +1,5 @@
 use Rattle.std.proofs.Common.{◌-◌, ◌∙◌, ℕ, List, Option, inr, inl}
-use Rattle.std.proofs.lemmas.Result.{IfOk-weaker, IfErr-weaker, err_from_is_err_and}
+use Rattle.std.proofs.lemmas.Result.{IfOk-weaker, IfErr-weaker, err_from_is_err_and, IfOk-from_err}
 use Rattle.slate_table.proofs.Results.{on_err, store_still, store_err}
 use Rattle.slate_types.specs.Faults.{faults_of}
 use Rattle.slate_table.specs.IndexValue.{entries_of}
@@ -74,3 +74,9 @@ returns-clause-objects g c = c.read.ensures.objects
 
 pub returns-clause-count : goal.returns-clause-count
 returns-clause-count g c = c.each_block-found.ensures.count
+
+pub returns-in_err-answer-clause-found : goal.returns-in_err-answer-clause-found
+returns-in_err-answer-clause-found g c = IfOk-from_err c.from_residual.result _ c.from_residual.ensures.0
+
+pub returns-in_err-answer-clause-count : goal.returns-in_err-answer-clause-count
+returns-in_err-answer-clause-count g c = IfOk-from_err c.from_residual.result _ c.from_residual.ensures.0

@@ -1,5 +1,5 @@
 use Rattle.std.proofs.Common.{inr}
-use Rattle.std.proofs.lemmas.Result.{IfOk-weaker, IfErr-weaker, err_from_is_err_and}
+use Rattle.std.proofs.lemmas.Result.{IfOk-weaker, IfErr-weaker, err_from_is_err_and, IfOk-from_err}
 use Rattle.slate_table.proofs.Results.{on_err, spread, store_still, store_err}
 use Rattle.slate_block.specs.RowReading.{refusal}
 use Rattle.slate_table.specs.Paths.{path_of}
@@ -54,3 +54,6 @@ returns-clause-later_transformer g c = c.read_part.ensures.later_transformer
 
 pub returns-clause-objects : goal.returns-clause-objects
 returns-clause-objects g c = c.read_part.ensures.objects
+
+pub returns-in_err-part-clause-found : goal.returns-in_err-part-clause-found
+returns-in_err-part-clause-found g c = IfOk-from_err c.from_residual.result _ c.from_residual.ensures.0

@@ -1,0 +1,26 @@
+use Rattle.std.proofs.Common.{◌≡◌, ◌∙◌, ℕ, List, Option, Some, Ok, Err, subst}
+use Rattle.std.specs.Prelude.{Result, IfOk}
+use Rattle.slate_types.specs.Outside.{Objects}
+use Rattle.slate_store.specs.Store.{Act, AddsAct, AnswersLen}
+use Rattle.slate_table.specs.Opening.{IsMeasured}
+use Rattle.slate_table.proofs.Results.{mapped}
+use Rattle.std.proofs.lemmas.Result.{IfOk-from_err}
+use Rattle.slate_table.proofs.opening.object_len.Goals as goal
+
+answered : {E : Type 0} (r : Result (Option ℕ) E) (objects : Option Objects) (before after : Option (List Act)) (path : List ℕ) → ((os : Objects) → objects ≡ Some os → IfOk r (λ size. AnswersLen os path size)) →
+    IfOk r (λ size. AddsAct before (Act.len path size) after) → IfOk r (λ size. IsMeasured objects before after path size)
+unfolding IsMeasured
+answered (Ok size) objects before after path answer act = (answer, act)
+answered (Err e) objects before after path answer act = tt
+
+pub returns-clause-measured : goal.returns-clause-measured
+returns-clause-measured g c =
+    let objects = g.S.Store.objects c.args.store.now in
+    let before = g.S.Store.acts c.args.store.now in
+    let after = g.S.Store.acts c.len.new.self in
+    let text = c.as_str.ensures.value ∙ c.in_ok-path.ensures.path in
+    mapped c.len.result c.map_err.result _ _ _ c.map_err.ensures.cases (λ size is. subst (λ (path : List ℕ). IsMeasured objects before after path size) text is)
+    (answered c.len.result objects before after c.as_str.result.now c.len.ensures.answer c.len.ensures.act)
+
+pub returns-in_err-path-clause-measured : goal.returns-in_err-path-clause-measured
+returns-in_err-path-clause-measured g c = IfOk-from_err c.from_residual.result _ c.from_residual.ensures.0
