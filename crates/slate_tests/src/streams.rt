@@ -1,6 +1,5 @@
 // What a real reader is asked for: a byte at a time, with interrupts.
 use slate_store::{Lines, ReaderSource, Source};
-use slate_types::SlateDBError;
 use std::alloc::Global;
 use std::io::{self, ErrorKind, Read};
 
@@ -23,31 +22,23 @@ impl Read for Trickle<'_> {
 }
 
 // Whether there was a line, which was added with a bar behind it.
-fn add_line<R: Source>(
-    lines: &mut Lines,
-    source: &mut R,
-    bytes: &mut Vec<u8>,
-) -> Result<bool, SlateDBError> {
-    match lines.next(source)? {
-        Some(line) => {
-            bytes.extend_from_slice(&line)?;
-            bytes.push(b'|')?;
-            Ok(true)
-        }
-        None => Ok(false),
+fn add_line<R: Source>(lines: &mut Lines, source: &mut R, bytes: &mut Vec<u8>) -> bool {
+    match lines.next(source).ok().flatten() {
+        Some(line) => bytes.extend_from_slice(&line).is_ok() && bytes.push(b'|').ok().is_some(),
+        None => false,
     }
 }
 
 // The first lines of a source, each with a bar behind it.
-fn barred<R: Source>(alloc: Global, source: &mut R) -> Result<Vec<u8>, SlateDBError> {
+fn barred<R: Source>(alloc: Global, source: &mut R) -> Vec<u8> {
     let mut lines = Lines::new(alloc);
     let mut bytes = Vec::new(alloc);
     for _ in 0..10 {
-        if !add_line(&mut lines, source, &mut bytes)? {
+        if !add_line(&mut lines, source, &mut bytes) {
             break;
         }
     }
-    Ok(bytes)
+    bytes
 }
 
 // Bytes, and their lines.
@@ -59,21 +50,24 @@ const TRICKLES: &[(&[u8], &[u8])] = &[
     (b"one", b"one|"),
 ];
 
-fn are_trickled(alloc: Global) -> Result<bool, SlateDBError> {
-    for (bytes, want) in TRICKLES {
-        let mut source = ReaderSource::new(Trickle {
-            bytes,
-            is_interrupted: false,
-        });
-        if barred(alloc, &mut source)?.as_slice() != *want {
-            return Ok(false);
+fn is_trickled(alloc: Global, bytes: &[u8], lines: &[u8]) -> bool {
+    let mut source = ReaderSource::new(Trickle {
+        bytes,
+        is_interrupted: false,
+    });
+    barred(alloc, &mut source).as_slice() == lines
+}
+
+fn are_trickled(alloc: Global) -> bool {
+    for (bytes, lines) in TRICKLES {
+        if !is_trickled(alloc, bytes, lines) {
+            return false;
         }
     }
-    Ok(true)
+    true
 }
 
 #[test]
-fn reads_a_byte_at_a_time(rt: HostRuntime) -> Result<(), SlateDBError> {
-    assert!(rt; are_trickled(rt.alloc())?);
-    Ok(())
+fn reads_a_byte_at_a_time(rt: HostRuntime) {
+    assert!(rt; are_trickled(rt.alloc()));
 }
