@@ -6,13 +6,13 @@ use slate_mem::WriteBatch;
 use slate_script::operator::NoOperator;
 use slate_script::parts::Xor;
 use slate_store::{Env, MemoryStore, Store};
-use slate_types::{
-    BlockTransformer, IsolationLevel, MergeOperator, Options, ReadOptions, SlateDBError,
-};
+use slate_types::{IsolationLevel, Options, ReadOptions, SlateDBError};
 use std::alloc::Global;
 use uuid::Uuid;
 
 const FIRST: &str = "db/compacted/00000000000000010000000000000000.sst";
+
+type Parts<'a> = Env<'a, MemoryStore, NoOperator, Xor>;
 
 // A core that has one commit, and a transaction that began behind it.
 fn one_put(alloc: Global, core: &mut Core) -> Option<Uuid> {
@@ -31,20 +31,12 @@ fn is_there<T: Drop, E: Drop>(answer: Result<Option<T>, E>) -> bool {
 }
 
 // Whether an open transaction finds a row at the key a.
-fn finds<S: Store, M: MergeOperator, T: BlockTransformer>(
-    core: &mut Core,
-    env: &mut Env<'_, S, M, T>,
-    id: &Uuid,
-) -> bool {
+fn finds(core: &mut Core, env: &mut Parts<'_>, id: &Uuid) -> bool {
     core.is_open(id) && is_there(core.get(id, b"a", &ReadOptions::default(), env))
 }
 
 // Whether a flush fails by its store.
-fn fails<S: Store, M: MergeOperator, T: BlockTransformer>(
-    core: &mut Core,
-    env: &mut Env<'_, S, M, T>,
-    options: &Options,
-) -> bool
+fn fails(core: &mut Core, env: &mut Parts<'_>, options: &Options) -> bool
     requires { IsValid options.now }
 {
     let flushed = core.flush(env, options);
@@ -54,12 +46,7 @@ fn fails<S: Store, M: MergeOperator, T: BlockTransformer>(
 }
 
 // Whether a put is found behind a flush that fails and behind one more, which answers its sequence.
-fn is_flushed_again<S: Store, M: MergeOperator, T: BlockTransformer>(
-    alloc: Global,
-    core: &mut Core,
-    env: &mut Env<'_, S, M, T>,
-    options: &Options,
-) -> bool
+fn is_flushed_again(alloc: Global, core: &mut Core, env: &mut Parts<'_>, options: &Options) -> bool
     requires { IsValid options.now }
 {
     match one_put(alloc, core) {
@@ -77,7 +64,7 @@ fn is_flushed_again<S: Store, M: MergeOperator, T: BlockTransformer>(
 fn stores_again(alloc: Global, store: &mut MemoryStore) -> bool {
     let options = Options::new();
     let mut core = Core::new(alloc, &options);
-    let mut env: Env<'_, MemoryStore, NoOperator, Xor> = Env {
+    let mut env: Parts<'_> = Env {
         store,
         operator: None,
         transformer: None,
@@ -88,7 +75,7 @@ fn stores_again(alloc: Global, store: &mut MemoryStore) -> bool {
 }
 
 // Whether a store has the first table and no other object.
-fn has_one_table<S: Store>(alloc: Global, store: &mut S) -> bool {
+fn has_one_table(alloc: Global, store: &mut MemoryStore) -> bool {
     match store.list(alloc) {
         Ok(paths) => paths.len() == 1 && matches!(store.len(alloc, FIRST), Ok(Some(_))),
         Err(_) => false,

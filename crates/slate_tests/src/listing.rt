@@ -1,20 +1,23 @@
 // Rows as text, and answers beside what is expected.
 use bytes::Bytes;
-use slate_types::{RowEntry, RowEntryIterator, collect_rows};
+use slate_types::{RowEntry, RowEntryIterator, SlateDBError, collect_rows};
 use std::alloc::{AllocError, Global};
 
 /// The rows that are left of a walk, as text, behind a seek where there is a key.
 pub fn walked<I: RowEntryIterator<()>>(
     alloc: Global,
-    rows: &mut I,
+    rows: Result<I, SlateDBError>,
     key: Option<&[u8]>,
 ) -> Option<String> {
+    let Some(mut rows) = rows.ok() else {
+        return None
+    };
     let ready = rows.init(alloc, &mut ()).ok();
     let sought = match key {
         Some(key) => rows.seek(alloc, key, &mut ()).ok(),
         None => ready,
     };
-    let rows = collect_rows(alloc, rows, &mut ()).ok();
+    let rows = collect_rows(alloc, &mut rows, &mut ()).ok();
     match ready.and(sought).and(rows) {
         Some(rows) => listed(alloc, rows.as_slice()),
         None => None,

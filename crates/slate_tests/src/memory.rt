@@ -22,12 +22,9 @@ fn walked_range(alloc: Global, table: &ImmutableMemtable) -> Option<String> {
     let Some(range) = BytesRange::from_prefix(alloc, b"k").ok() else {
         return None;
     };
-    let rows = table.range(alloc, &range, IterationOrder::Descending).ok();
+    let rows = table.range(alloc, &range, IterationOrder::Descending);
     drop(range);
-    match rows {
-        Some(mut rows) => walked(alloc, &mut rows, Some(b"k")),
-        None => None,
-    }
+    walked(alloc, rows, Some(b"k"))
 }
 
 fn frozen_rows(alloc: Global) -> Option<String> {
@@ -75,12 +72,9 @@ fn walked_batch(alloc: Global, batch: &WriteBatch) -> Option<String> {
     let range = BytesRange::from_slice(alloc, Bound::Included(b"c"), Bound::Excluded(b"l"));
     let Some(range) = range.ok() else { return None };
     let order = IterationOrder::Descending;
-    let rows = WriteBatchIterator::new(alloc, batch, &range, order, 7, Some(40), None).ok();
+    let rows = WriteBatchIterator::new(alloc, batch, &range, order, 7, Some(40), None);
     drop(range);
-    match rows {
-        Some(mut rows) => walked(alloc, &mut rows, Some(b"k")),
-        None => None,
-    }
+    walked(alloc, rows, Some(b"k"))
 }
 
 fn has_three_keys(batch: &WriteBatch) -> bool {

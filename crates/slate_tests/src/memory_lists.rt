@@ -282,19 +282,12 @@ const WALKS: &[Walk] = &[
     ),
 ];
 
-fn all_of(alloc: Global, rows: Result<RowsIterator, SlateDBError>) -> Option<String> {
-    match rows.ok() {
-        Some(mut rows) => walked(alloc, &mut rows, None),
-        None => None,
-    }
-}
-
 fn is_same_walk(alloc: Global, table: &MemTable, list: &SortedRows, walk: &Walk) -> bool {
     let Some(range) = BytesRange::from_slice(alloc, walk.0, walk.1).ok() else {
         return false;
     };
-    let rows = all_of(alloc, table.range(alloc, &range, walk.2));
-    let listed = all_of(alloc, list.range(&range, walk.2));
+    let rows = walked(alloc, table.range(alloc, &range, walk.2), None);
+    let listed = walked(alloc, list.range(&range, walk.2), None);
     drop(range);
     rows.is_some() && rows == listed
 }

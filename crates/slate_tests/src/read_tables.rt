@@ -5,7 +5,7 @@ use bytes::Bytes;
 use slate_script::parts::Xor;
 use slate_store::{MemoryStore, Store};
 use slate_table::{SsTableInfo, SstFile, SstReader};
-use slate_types::{BlockTransformer, SlateDBError, Ulid};
+use slate_types::{SlateDBError, Ulid};
 use std::alloc::Global;
 
 const ID: Ulid = Ulid(18446744073709551616);
@@ -16,6 +16,8 @@ const ROW: &str = "b\"a\" Value(b\"1\") 1 Some(0) None";
 
 // What a reader is answered of the whole table.
 const WHOLE: &str = "Ok(true)";
+
+type Reader = SstReader<MemoryStore, Xor>;
 
 // A length, a place and the bits that change there, and what is answered then.
 const DAMAGES: &[(usize, usize, u8, &str)] = &[
@@ -33,11 +35,7 @@ const DAMAGES: &[(usize, usize, u8, &str)] = &[
 ];
 
 // Whether a reader answers of a file what was written: its size, count of rows, index, first block, and first and last key.
-fn is_whole<S: Store, T: BlockTransformer>(
-    alloc: Global,
-    reader: &mut SstReader<S, T>,
-    file: &SstFile,
-) -> Result<bool, SlateDBError> {
+fn is_whole(alloc: Global, reader: &mut Reader, file: &SstFile) -> Result<bool, SlateDBError> {
     let is_sized = file.metadata(alloc, reader)?.size == 182;
     let count = match file.stats(alloc, reader)? {
         Some(stats) => stats.num_rows(),
@@ -51,11 +49,7 @@ fn is_whole<S: Store, T: BlockTransformer>(
 }
 
 // The first block lies at 0, and a separates it.
-fn has_rows<S: Store, T: BlockTransformer>(
-    alloc: Global,
-    reader: &mut SstReader<S, T>,
-    file: &SstFile,
-) -> Result<bool, SlateDBError> {
+fn has_rows(alloc: Global, reader: &mut Reader, file: &SstFile) -> Result<bool, SlateDBError> {
     let index = file.index(alloc, reader)?;
     let has_block = index.get(0) == Some((0, b"a".as_slice()));
     drop(index);
@@ -71,12 +65,8 @@ fn has_ends(info: &SsTableInfo) -> bool {
 }
 
 // Whether the table over a store is whole, or how it is refused.
-fn answer<S: Store, T: BlockTransformer>(
-    alloc: Global,
-    store: S,
-    transformer: Option<T>,
-) -> Option<String> {
-    let Some(mut reader) = SstReader::new(alloc, "db", store, transformer).ok() else {
+fn answer(alloc: Global, store: MemoryStore) -> Option<String> {
+    let Some(mut reader) = SstReader::new(alloc, "db", store, None).ok() else {
         return None;
     };
     let answered = answer_of_reader(alloc, &mut reader);
@@ -86,10 +76,7 @@ fn answer<S: Store, T: BlockTransformer>(
     text.ok()
 }
 
-fn answer_of_reader<S: Store, T: BlockTransformer>(
-    alloc: Global,
-    reader: &mut SstReader<S, T>,
-) -> Result<bool, SlateDBError> {
+fn answer_of_reader(alloc: Global, reader: &mut Reader) -> Result<bool, SlateDBError> {
     let file = reader.open(alloc, ID)?;
     let answered = is_whole(alloc, reader, &file);
     drop(file);
@@ -103,17 +90,16 @@ fn answer_of(alloc: Global, bytes: &[u8], call: u64) -> Option<String> {
     };
     let mut store = MemoryStore::new(alloc, failing);
     let put = store.put(alloc, PATH, bytes).ok();
-    let unchanged: Option<Xor> = None;
-    put.and(answer(alloc, store, unchanged))
+    put.and(answer(alloc, store))
 }
 
 // The same of the table, cut to a length, with these bits changed at a place.
 fn answer_of_damaged(alloc: Global, len: usize, at: usize, bits: u8) -> Option<String> {
     let mut bytes = Vec::new(alloc);
-    let whole = TABLE.get(..len).unwrap_or(TABLE);
-    if bytes.extend_from_slice(whole).is_err() {
+    if bytes.extend_from_slice(TABLE).is_err() {
         return None;
     }
+    bytes.truncate(len);
     if let Some(byte) = bytes.get_mut(at) {
         *byte ^= bits;
     }
