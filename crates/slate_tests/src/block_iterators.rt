@@ -1,7 +1,7 @@
 // Blocks of both versions, walked and sought in both orders.
 use crate::listing::{is_text, walked};
 use bytes::Bytes;
-use slate_block::{Block, BlockLike, DataBlockIterator};
+use slate_block::{Block, DataBlockIterator};
 use slate_types::IterationOrder;
 use std::alloc::Global;
 
@@ -72,17 +72,12 @@ const CASES: &[Case] = &[
     ),
 ];
 
-// The rows of a walk of the block. Nothing more is said of the block: what it is is what the test tries.
-fn rows_of<B: BlockLike>(alloc: Global, block: B, case: &Case) -> Option<String> {
-    let rows = DataBlockIterator::new(alloc, block, case.1, case.2);
-    walked(alloc, rows, case.3)
-}
-
 fn is_walked(alloc: Global, case: &Case) -> bool {
     let Some(block) = Block::decode(alloc, Bytes::from_static(case.0)).ok() else {
         return false;
     };
-    let text = rows_of(alloc, &block, case);
+    let rows = DataBlockIterator::new(alloc, &block, case.1, case.2);
+    let text = walked(alloc, rows, case.3);
     drop(block);
     is_text(text, case.4)
 }

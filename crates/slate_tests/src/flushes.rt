@@ -35,29 +35,20 @@ fn finds(core: &mut Core, env: &mut Parts<'_>, id: &Uuid) -> bool {
     core.is_open(id) && is_there(core.get(id, b"a", &ReadOptions::default(), env))
 }
 
-// Whether a flush fails by its store.
-fn fails(core: &mut Core, env: &mut Parts<'_>, options: &Options) -> bool
+// Whether a put is found behind a flush that fails by its store and behind one more, which answers its sequence.
+fn is_flushed_again(alloc: Global, core: &mut Core, env: &mut Parts<'_>, options: &Options) -> bool
     requires { IsValid options.now }
 {
+    let Some(id) = one_put(alloc, core) else {
+        return false;
+    };
     let flushed = core.flush(env, options);
     let has_failed = matches!(flushed, Err(SlateDBError::StoreFault));
     drop(flushed);
     has_failed
-}
-
-// Whether a put is found behind a flush that fails and behind one more, which answers its sequence.
-fn is_flushed_again(alloc: Global, core: &mut Core, env: &mut Parts<'_>, options: &Options) -> bool
-    requires { IsValid options.now }
-{
-    match one_put(alloc, core) {
-        Some(id) => {
-            fails(core, env, options)
-                && finds(core, env, &id)
-                && matches!(core.flush(env, options).ok(), Some(1))
-                && finds(core, env, &id)
-        }
-        None => false,
-    }
+        && finds(core, env, &id)
+        && matches!(core.flush(env, options).ok(), Some(1))
+        && finds(core, env, &id)
 }
 
 // The same of a core over the store.

@@ -35,27 +35,23 @@ impl MergeOperator for Concat {
 }
 
 // Two operands above a value, through the bounds.
-fn merged<M: MergeOperator>(
-    alloc: Global,
-    operator: &mut M,
-    existing: Option<&Bytes>,
-) -> Option<Bytes> {
+fn merged(alloc: Global, existing: Option<&Bytes>) -> Option<Bytes> {
     let (first, second) = (Bytes::from_static(b"b"), Bytes::from_static(b"c"));
     let Some(operands) = vec![in alloc; first, second].ok() else {
         return None;
     };
     let key = Bytes::from_static(b"key");
-    let merged = operator.merge_batch(alloc, &key, existing, &operands);
+    let merged = Concat.merge_batch(alloc, &key, existing, &operands);
     drop(key);
     merged.ok()
 }
 
 // Whether operands without a value are joined, and the same operands behind what came of that.
 fn are_joined(alloc: Global) -> bool {
-    let Some(all) = merged(alloc, &mut Concat, None) else {
+    let Some(all) = merged(alloc, None) else {
         return false;
     };
-    let is_joined_again = is_bytes(merged(alloc, &mut Concat, Some(&all)), b"bcbc");
+    let is_joined_again = is_bytes(merged(alloc, Some(&all)), b"bcbc");
     is_bytes(Some(all), b"bc") && is_joined_again
 }
 

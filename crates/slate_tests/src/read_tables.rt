@@ -64,18 +64,6 @@ fn has_ends(info: &SsTableInfo) -> bool {
     has_ends
 }
 
-// Whether the table over a store is whole, or how it is refused.
-fn answer(alloc: Global, store: MemoryStore) -> Option<String> {
-    let Some(mut reader) = SstReader::new(alloc, "db", store, None).ok() else {
-        return None;
-    };
-    let answered = answer_of_reader(alloc, &mut reader);
-    drop(reader);
-    let text = format!(in alloc; "{answered:?}");
-    drop(answered);
-    text.ok()
-}
-
 fn answer_of_reader(alloc: Global, reader: &mut Reader) -> Result<bool, SlateDBError> {
     let file = reader.open(alloc, ID)?;
     let answered = is_whole(alloc, reader, &file);
@@ -83,14 +71,21 @@ fn answer_of_reader(alloc: Global, reader: &mut Reader) -> Result<bool, SlateDBE
     answered
 }
 
-// The same over a store in memory with these bytes at the table's path. This call of the store fails.
+// Whether the table over a store in memory with these bytes at its path is whole, or how it is refused. This call of the store fails.
 fn answer_of(alloc: Global, bytes: &[u8], call: u64) -> Option<String> {
     let Some(failing) = vec![in alloc; call].ok() else {
         return None;
     };
     let mut store = MemoryStore::new(alloc, failing);
     let put = store.put(alloc, PATH, bytes).ok();
-    put.and(answer(alloc, store))
+    let Some(mut reader) = Reader::new(alloc, "db", store, None).ok() else {
+        return None;
+    };
+    let answered = answer_of_reader(alloc, &mut reader);
+    drop(reader);
+    let text = format!(in alloc; "{answered:?}").ok();
+    drop(answered);
+    put.and(text)
 }
 
 // The same of the table, cut to a length, with these bits changed at a place.

@@ -21,7 +21,7 @@ const NONE: Failing = Failing {
 type Run = (&'static [u8], Failing, u8, &'static [u8]);
 
 // How a run ends, of which nothing more is said: what is written is what the test tries.
-fn status_of<W: Sink>(alloc: Global, run: &Run, sink: &mut W) -> Option<u8> {
+fn status_of(alloc: Global, run: &Run, sink: &mut MemorySink) -> Option<u8> {
     let mut script = Vec::new(alloc);
     if script.extend_from_slice(run.0).is_err() {
         return None;

@@ -5,6 +5,8 @@ use std::fs;
 
 const FOLDER: &str = "stores-objects";
 
+type Folder<'a> = FileStore<&'a HostRuntime>;
+
 // A range of an object with what is read there, and with how long the object is.
 type Range<'a> = (&'a str, u64, u64, Option<&'a [u8]>, Option<u64>);
 
@@ -27,7 +29,7 @@ const OBJECTS: &[(&str, &[u8])] = &[
     ("b/two", b"hello"),
 ];
 
-fn are_put<S: Store>(alloc: Global, store: &mut S) -> bool {
+fn are_put(alloc: Global, store: &mut Folder<'_>) -> bool {
     for (path, bytes) in OBJECTS {
         if store.put(alloc, path, bytes).is_err() {
             return false;
@@ -36,7 +38,7 @@ fn are_put<S: Store>(alloc: Global, store: &mut S) -> bool {
     true
 }
 
-fn is_read<S: Store>(alloc: Global, store: &mut S, range: &Range<'_>) -> bool {
+fn is_read(alloc: Global, store: &mut Folder<'_>, range: &Range<'_>) -> bool {
     let len = store.len(alloc, range.0);
     match store.read_range(alloc, range.0, range.1, range.2) {
         Ok(Some(bytes)) => {
@@ -50,7 +52,7 @@ fn is_read<S: Store>(alloc: Global, store: &mut S, range: &Range<'_>) -> bool {
 }
 
 // How many ranges are read as they should be, up to the first that isn't.
-fn well_read<S: Store>(alloc: Global, store: &mut S) -> usize {
+fn well_read(alloc: Global, store: &mut Folder<'_>) -> usize {
     let mut count: usize = 0;
     for range in RANGES {
         if !is_read(alloc, store, range) {
@@ -74,7 +76,7 @@ fn are_all(paths: &[PathText]) -> bool {
 }
 
 // Whether all ranges are well read, and all objects listed.
-fn answers_well<S: Store>(alloc: Global, store: &mut S) -> bool {
+fn answers_well(alloc: Global, store: &mut Folder<'_>) -> bool {
     if !are_put(alloc, store) || well_read(alloc, store) != RANGES.len() {
         return false;
     }
@@ -85,7 +87,7 @@ fn answers_well<S: Store>(alloc: Global, store: &mut S) -> bool {
 }
 
 // Whether each of these paths is refused.
-fn are_refused<S: Store>(alloc: Global, store: &mut S, paths: &[&str]) -> bool {
+fn are_refused(alloc: Global, store: &mut Folder<'_>, paths: &[&str]) -> bool {
     for path in paths {
         if store.put(alloc, path, b"x") != Err(StoreError::Failed) {
             return false;
@@ -95,7 +97,7 @@ fn are_refused<S: Store>(alloc: Global, store: &mut S, paths: &[&str]) -> bool {
 }
 
 // Whether it has so many objects.
-fn has<S: Store>(alloc: Global, store: &mut S, count: usize) -> bool {
+fn has(alloc: Global, store: &mut Folder<'_>, count: usize) -> bool {
     match store.list(alloc) {
         Ok(paths) => paths.len() == count,
         Err(_) => false,

@@ -1,5 +1,5 @@
 // What a real reader is asked for: a byte at a time, with interrupts.
-use slate_store::{Lines, ReaderSource, Source};
+use slate_store::{Lines, ReaderSource};
 use std::alloc::Global;
 use std::io::{self, ErrorKind, Read};
 
@@ -22,7 +22,11 @@ impl Read for Trickle<'_> {
 }
 
 // Whether there was a line, which was added with a bar behind it.
-fn add_line<R: Source>(lines: &mut Lines, source: &mut R, bytes: &mut Vec<u8>) -> bool {
+fn add_line(
+    lines: &mut Lines,
+    source: &mut ReaderSource<Trickle<'_>>,
+    bytes: &mut Vec<u8>,
+) -> bool {
     match lines.next(source).ok().flatten() {
         Some(line) => bytes.extend_from_slice(&line).is_ok() && bytes.push(b'|').ok().is_some(),
         None => false,
@@ -30,7 +34,7 @@ fn add_line<R: Source>(lines: &mut Lines, source: &mut R, bytes: &mut Vec<u8>) -
 }
 
 // The first lines of a source, each with a bar behind it.
-fn barred<R: Source>(alloc: Global, source: &mut R) -> Vec<u8> {
+fn barred(alloc: Global, source: &mut ReaderSource<Trickle<'_>>) -> Vec<u8> {
     let mut lines = Lines::new(alloc);
     let mut bytes = Vec::new(alloc);
     for _ in 0..10 {

@@ -4,7 +4,7 @@ use crate::listing::is_bytes;
 use bytes::Bytes;
 use slate_script::parts::Xor;
 use slate_table::{EncodedSsTable, EncodedSsTableBuilder, SsTableFormat};
-use slate_types::{BlockFormat, BlockTransformer};
+use slate_types::BlockFormat;
 use std::alloc::Global;
 
 // All bytes of the table: its block, index, statistics and info, each with its checksum, and its last bytes.
@@ -16,10 +16,8 @@ pub const TABLE: &[u8] = b"\
 \x00\x00\x00\x00\x00\x00\x00\x6c\x00\x01";
 
 // The table as it is built.
-fn one_row<T: BlockTransformer>(
-    alloc: Global,
-    transformer: &mut Option<T>,
-) -> Option<EncodedSsTable> {
+fn one_row(alloc: Global) -> Option<EncodedSsTable> {
+    let mut unchanged: Option<Xor> = None;
     let format = SsTableFormat {
         block_size: 4096,
         min_filter_keys: 0,
@@ -29,8 +27,8 @@ fn one_row<T: BlockTransformer>(
     let Some(mut builder) = EncodedSsTableBuilder::new(alloc, &format).ok() else {
         return None;
     };
-    match builder.add(alloc, row(), transformer).ok() {
-        Some(_) => builder.build(alloc, transformer).ok(),
+    match builder.add(alloc, row(), &mut unchanged).ok() {
+        Some(_) => builder.build(alloc, &mut unchanged).ok(),
         None => {
             drop(builder);
             None
@@ -39,8 +37,7 @@ fn one_row<T: BlockTransformer>(
 }
 
 fn bytes_of_one_row(alloc: Global) -> Option<Bytes> {
-    let mut unchanged: Option<Xor> = None;
-    let Some(table) = one_row(alloc, &mut unchanged) else {
+    let Some(table) = one_row(alloc) else {
         return None;
     };
     let bytes = table.remaining_as_bytes();
