@@ -8,16 +8,7 @@ use std::alloc::Global;
 use std::collections::BTreeSet;
 use std::ops::Bound;
 
-// The table of the puts once what was put at 5 is taken back, and it is frozen.
-fn frozen(alloc: Global, table: &mut MemTable) -> Option<ImmutableMemtable> {
-    if !put_in_table(alloc, table) {
-        return None;
-    }
-    table.take_back(5, &BTreeSet::new(alloc));
-    table.freeze().ok()
-}
-
-// Its rows at keys that begin with k, from k on, keys falling.
+// The rows at keys that begin with k, from k on, keys falling.
 fn walked_range(alloc: Global, table: &ImmutableMemtable) -> Option<String> {
     let Some(range) = BytesRange::from_prefix(alloc, b"k").ok() else {
         return None;
@@ -27,11 +18,14 @@ fn walked_range(alloc: Global, table: &ImmutableMemtable) -> Option<String> {
     walked(alloc, rows, Some(b"k"))
 }
 
+// Those of the table of the puts once what was put at 5 is taken back, and it is frozen.
 fn frozen_rows(alloc: Global) -> Option<String> {
     let mut table = MemTable::new(alloc);
-    let frozen = frozen(alloc, &mut table);
-    drop(table);
-    match frozen {
+    if !put_in_table(alloc, &mut table) {
+        return None;
+    }
+    table.take_back(5, &BTreeSet::new(alloc));
+    match table.freeze().ok() {
         Some(table) => walked_range(alloc, &table),
         None => None,
     }

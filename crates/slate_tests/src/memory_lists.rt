@@ -206,18 +206,14 @@ fn row(put: &Put) -> RowEntry {
 /// Puts the rows in a table.
 pub fn put_in_table(alloc: Global, table: &mut MemTable) -> bool {
     for put in PUTS {
-        if !is_put(alloc, table, put) {
+        let Some(rows) = vec![in alloc; row(put)].ok() else {
+            return false;
+        };
+        if table.put_all(rows, BTreeSet::new(alloc)).ok().is_none() {
             return false;
         }
     }
     true
-}
-
-fn is_put(alloc: Global, table: &mut MemTable, put: &Put) -> bool {
-    match vec![in alloc; row(put)].ok() {
-        Some(rows) => table.put_all(rows, BTreeSet::new(alloc)).ok().is_some(),
-        None => false,
-    }
 }
 
 fn put_in_list(list: &mut SortedRows) -> bool {

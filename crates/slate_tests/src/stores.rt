@@ -39,14 +39,14 @@ fn are_put(alloc: Global, store: &mut Folder<'_>) -> bool {
 }
 
 fn is_read(alloc: Global, store: &mut Folder<'_>, range: &Range<'_>) -> bool {
-    let len = store.len(alloc, range.0);
+    let is_long = store.len(alloc, range.0) == Ok(range.4);
     match store.read_range(alloc, range.0, range.1, range.2) {
         Ok(Some(bytes)) => {
             let is_same = range.3 == Some(bytes.as_slice());
             drop(bytes);
-            is_same && len == Ok(range.4)
+            is_same && is_long
         }
-        Ok(None) => range.3.is_none() && len == Ok(range.4),
+        Ok(None) => range.3.is_none() && is_long,
         Err(_) => false,
     }
 }
