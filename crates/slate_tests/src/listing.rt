@@ -10,7 +10,7 @@ pub fn walked<I: RowEntryIterator<()>>(
     key: Option<&[u8]>,
 ) -> Option<String> {
     let Some(mut rows) = rows.ok() else {
-        return None
+        return None;
     };
     let ready = rows.init(alloc, &mut ()).ok();
     let sought = match key {

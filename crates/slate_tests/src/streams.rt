@@ -26,23 +26,31 @@ fn add_line(
     lines: &mut Lines,
     source: &mut ReaderSource<Trickle<'_>>,
     bytes: &mut Vec<u8>,
-) -> bool {
-    match lines.next(source).ok().flatten() {
-        Some(line) => bytes.extend_from_slice(&line).is_ok() && bytes.push(b'|').ok().is_some(),
-        None => false,
+) -> Option<bool> {
+    match lines.next(source).ok() {
+        Some(Some(line)) => {
+            if bytes.extend_from_slice(&line).is_err() || bytes.push(b'|').ok().is_none() {
+                return None;
+            }
+            Some(true)
+        }
+        Some(None) => Some(false),
+        None => None,
     }
 }
 
 // The first lines of a source, each with a bar behind it.
-fn barred(alloc: Global, source: &mut ReaderSource<Trickle<'_>>) -> Vec<u8> {
+fn barred(alloc: Global, source: &mut ReaderSource<Trickle<'_>>) -> Option<Vec<u8>> {
     let mut lines = Lines::new(alloc);
     let mut bytes = Vec::new(alloc);
     for _ in 0..10 {
-        if !add_line(&mut lines, source, &mut bytes) {
-            break;
+        match add_line(&mut lines, source, &mut bytes) {
+            Some(true) => {}
+            Some(false) => break,
+            None => return None,
         }
     }
-    bytes
+    Some(bytes)
 }
 
 // Bytes, and their lines.
@@ -59,7 +67,10 @@ fn is_trickled(alloc: Global, bytes: &[u8], lines: &[u8]) -> bool {
         bytes,
         is_interrupted: false,
     });
-    barred(alloc, &mut source).as_slice() == lines
+    match barred(alloc, &mut source) {
+        Some(bytes) => bytes.as_slice() == lines,
+        None => false,
+    }
 }
 
 fn are_trickled(alloc: Global) -> bool {
