@@ -3,32 +3,41 @@ use bytes::Bytes;
 use slate_txn::line::{ScanStep, StepList};
 use slate_txn::list::{KeyList, TableList};
 use slate_types::Ulid;
-use std::alloc::{AllocError, Global};
+use std::alloc::Global;
 
-fn copied_keys(alloc: Global) -> Result<usize, AllocError> {
-    let keys = KeyList::from_vec(vec![in alloc; Bytes::from_static(b"key")]?);
-    Ok(keys.clone()?.as_slice().len())
+fn is_key_copied(alloc: Global) -> bool {
+    let Some(keys) = vec![in alloc; Bytes::from_static(b"key")].ok() else {
+        return false;
+    };
+    match KeyList::from_vec(keys).clone().ok() {
+        Some(copy) => copy.as_slice().len() == 1,
+        None => false,
+    }
 }
 
-fn copied_steps(alloc: Global) -> Result<usize, AllocError> {
-    let steps = StepList::from_vec(vec![in alloc; ScanStep::Rows(3)]?);
-    Ok(steps.clone()?.as_slice().len())
+fn is_step_copied(alloc: Global) -> bool {
+    let Some(steps) = vec![in alloc; ScanStep::Rows(3)].ok() else {
+        return false;
+    };
+    match StepList::from_vec(steps).clone().ok() {
+        Some(copy) => copy.as_slice().len() == 1,
+        None => false,
+    }
 }
 
-fn copied_tables(alloc: Global) -> Result<usize, AllocError> {
+fn is_table_copied(alloc: Global) -> bool {
     let table = (Ulid(7), Bytes::from_static(b"table"));
-    let tables = TableList::from_vec(vec![in alloc; table]?);
-    Ok(tables.clone()?.as_slice().len())
+    let Some(tables) = vec![in alloc; table].ok() else {
+        return false;
+    };
+    match TableList::from_vec(tables).clone().ok() {
+        Some(copy) => copy.as_slice().len() == 1,
+        None => false,
+    }
 }
 
 #[test]
-fn lists_are_copied(rt: HostRuntime) -> Result<(), AllocError> {
+fn lists_are_copied(rt: HostRuntime) {
     let alloc = rt.alloc();
-    let counts = [
-        copied_keys(alloc)?,
-        copied_steps(alloc)?,
-        copied_tables(alloc)?,
-    ];
-    assert!(rt; counts == [1; 3]);
-    Ok(())
+    assert!(rt; is_key_copied(alloc) && is_step_copied(alloc) && is_table_copied(alloc));
 }

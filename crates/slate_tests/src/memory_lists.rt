@@ -6,15 +6,17 @@ ghost use Rattle.slate_types.specs.Keys.{key_cmp};
 ghost use Rattle.slate_types.specs.Rows.{sequenced, sequenced_cmp};
 ghost use Rattle.slate_mem.specs.Table.{no_rows, put_row, of_key, ranged, newest};
 
+use crate::listing::walked;
 use bytes::Bytes;
 use slate_mem::MemTable;
 use slate_types::{
-    BytesRange, IterationOrder, RowEntry, RowsIterator, SlateDBError, ValueDeletable, collect_rows,
+    BytesRange, IterationOrder, RowEntry, RowsIterator, SlateDBError, ValueDeletable,
 };
-use std::alloc::Global;
+use std::alloc::{AllocError, Global};
 use std::cmp::Ordering;
 use std::collections::BTreeSet;
 use std::marker::Model;
+use std::mem;
 use std::ops::Bound;
 
 /// Rows in one list, by key upwards, and by sequence downwards within a key. It records no prefixes.
@@ -85,17 +87,16 @@ fn place_cmp(a: &RowEntry, b: &RowEntry) -> Ordering
 
 // Puts a row before the first that it comes before, or over its like.
 #[tactic(auto, using(crate::proofs::SortedRowsLaws::put_at_equal))]
-fn put_in_place(rows: &mut Vec<RowEntry>, row: RowEntry) -> Result<(), SlateDBError>
+fn put_in_place(rows: &mut Vec<RowEntry>, row: RowEntry) -> Result<(), AllocError>
     ensures put { OnOk result (rows.new.items ≡ put_row rows.old.items row) }
     ensures same { OnErr result (rows.new.items ≡ rows.old.items) }
-    ensures cause { IsOkUnless result SlateDBError.OutOfMemory }
 {
     let mut at = 0;
     while at < rows.len() {
         match place_cmp(&row, &rows[at]) {
             Ordering::Less => break,
             Ordering::Equal => {
-                rows[at] = row;
+                drop(mem::replace(&mut rows[at], row));
                 return Ok(());
             }
             Ordering::Greater => at += 1,
@@ -130,9 +131,8 @@ fn rows_in(
     alloc: Global,
     rows: &[RowEntry],
     range: &BytesRange,
-) -> Result<Vec<RowEntry>, SlateDBError>
-    ensures rows { IfOk result (λ found. found.items ≡ ranged range.now rows.now) }
-    ensures cause { IsOkUnless result SlateDBError.OutOfMemory }
+) -> Result<Vec<RowEntry>, AllocError>
+    ensures { IfOk result (λ found. found.items ≡ ranged range.now rows.now) }
 {
     let mut found = Vec::new(alloc);
     for row in rows {
@@ -144,11 +144,10 @@ fn rows_in(
 }
 
 // Rows whose keys ascend, in the order.
-fn ordered(mut rows: Vec<RowEntry>, order: IterationOrder) -> Result<Vec<RowEntry>, SlateDBError>
+fn ordered(mut rows: Vec<RowEntry>, order: IterationOrder) -> Result<Vec<RowEntry>, AllocError>
     requires { IsInOrder IterationOrder.Ascending rows.items }
     ensures keys { IfOk result (λ all. (k : List ℕ) → of_key k all.items ≡ of_key k rows.items) }
     ensures in_order { IfOk result (λ all. IsInOrder order all.items) }
-    ensures cause { IsOkUnless result SlateDBError.OutOfMemory }
 {
     match order {
         IterationOrder::Ascending => Ok(rows),
@@ -160,10 +159,9 @@ fn ordered(mut rows: Vec<RowEntry>, order: IterationOrder) -> Result<Vec<RowEntr
 }
 
 // Sorts rows by key downwards. Those of a key stay in their order.
-fn fall(rows: &mut Vec<RowEntry>) -> Result<(), SlateDBError>
+fn fall(rows: &mut Vec<RowEntry>) -> Result<(), AllocError>
     ensures keys { OnOk result ((k : List ℕ) → of_key k rows.new.items ≡ of_key k rows.old.items) }
     ensures in_order { OnOk result (IsInOrder IterationOrder.Descending rows.new.items) }
-    ensures cause { IsOkUnless result SlateDBError.OutOfMemory }
 {
     rows.sort_by(
         |a, b| -> Ordering
@@ -177,7 +175,7 @@ fn fall(rows: &mut Vec<RowEntry>) -> Result<(), SlateDBError>
 type Put = (&'static [u8], u64, char, &'static [u8]);
 
 // The rows that are put in turn. The last writes over one.
-const PUTS: [Put; 9] = [
+const PUTS: &[Put] = &[
     (b"l", 1, 'v', b"1"),
     (b"a", 1, 'v', b""),
     (b"k", 2, 'v', b"2"),
@@ -190,55 +188,47 @@ const PUTS: [Put; 9] = [
 ];
 
 // What it is: a value, a merge, or else a deletion.
-fn row(put: Put) -> RowEntry {
-    let (key, seq, kind, bytes) = put;
-    let bytes = Bytes::from_static(bytes);
+fn row(put: &Put) -> RowEntry {
+    let bytes = Bytes::from_static(put.3);
     RowEntry {
-        key: Bytes::from_static(key),
-        value: match kind {
+        key: Bytes::from_static(put.0),
+        value: match put.2 {
             'v' => ValueDeletable::Value(bytes),
             'm' => ValueDeletable::Merge(bytes),
             _ => ValueDeletable::Tombstone,
         },
-        seq,
+        seq: put.1,
         create_ts: Some(40),
         expire_ts: None,
     }
 }
 
-fn put_both(
-    alloc: Global,
-    table: &mut MemTable,
-    list: &mut SortedRows,
-    put: Put,
-) -> Result<(), SlateDBError> {
-    table.put_all(vec![in alloc; row(put)]?, BTreeSet::new(alloc))?;
-    list.put(row(put))
-}
-
-// The table and the list that took the puts.
-pub fn both(alloc: Global) -> Result<(MemTable, SortedRows), SlateDBError> {
-    let mut table = MemTable::new(alloc);
-    let mut list = SortedRows::new(alloc);
+/// Puts the rows in a table.
+pub fn put_in_table(alloc: Global, table: &mut MemTable) -> bool {
     for put in PUTS {
-        put_both(alloc, &mut table, &mut list, put)?;
+        let Some(rows) = vec![in alloc; row(put)].ok() else {
+            return false;
+        };
+        if table.put_all(rows, BTreeSet::new(alloc)).ok().is_none() {
+            return false;
+        }
     }
-    Ok((table, list))
+    true
 }
 
-fn are_same_at(
-    alloc: Global,
-    table: &MemTable,
-    list: &SortedRows,
-    key: &Bytes,
-    max_seq: u64,
-) -> Result<bool, SlateDBError> {
-    let rows = table.rows_of_key(alloc, key, max_seq)?;
-    Ok(rows == list.rows_of_key(key, max_seq)?)
+fn put_in_list(list: &mut SortedRows) -> bool {
+    for put in PUTS {
+        if list.put(row(put)).ok().is_none() {
+            return false;
+        }
+    }
+    true
 }
 
-// Keys, and up to which sequence their rows are read.
-const READS: [(&[u8], u64); 8] = [
+// A key, and up to which sequence its rows are read.
+type Read = (&'static [u8], u64);
+
+const READS: &[Read] = &[
     (b"a", 0),
     (b"a", 5),
     (b"k", 2),
@@ -249,40 +239,18 @@ const READS: [(&[u8], u64); 8] = [
     (b"n", 5),
 ];
 
-fn are_same_rows(alloc: Global, table: &MemTable, list: &SortedRows) -> Result<bool, SlateDBError> {
-    for (key, max_seq) in READS {
-        let key = Bytes::from_static(key);
-        let are_same = are_same_at(alloc, table, list, &key, max_seq);
-        drop(key);
-        if !are_same? {
-            return Ok(false);
-        }
-    }
-    Ok(true)
-}
-
-fn are_same_in(
-    alloc: Global,
-    table: &MemTable,
-    list: &SortedRows,
-    range: &BytesRange,
-    order: IterationOrder,
-) -> Result<bool, SlateDBError> {
-    let rows = collected(alloc, table.range(alloc, range, order)?)?;
-    let listed = collected(alloc, list.range(range, order)?)?;
-    Ok(rows == listed)
-}
-
-fn collected(alloc: Global, mut rows: RowsIterator) -> Result<Vec<RowEntry>, SlateDBError> {
-    let all = collect_rows(alloc, &mut rows, &mut ());
-    drop(rows);
-    all
+fn is_same_read(alloc: Global, table: &MemTable, list: &SortedRows, read: &Read) -> bool {
+    let key = Bytes::from_static(read.0);
+    let rows = table.rows_of_key(alloc, &key, read.1).ok();
+    let listed = list.rows_of_key(&key, read.1).ok();
+    drop(key);
+    rows.is_some() && rows == listed
 }
 
 // Where a range begins and ends, and the order of a walk.
 type Walk = (Bound<&'static [u8]>, Bound<&'static [u8]>, IterationOrder);
 
-const WALKS: [Walk; 5] = [
+const WALKS: &[Walk] = &[
     (
         Bound::Unbounded,
         Bound::Unbounded,
@@ -310,44 +278,37 @@ const WALKS: [Walk; 5] = [
     ),
 ];
 
-fn are_same_on(
-    alloc: Global,
-    table: &MemTable,
-    list: &SortedRows,
-    walk: Walk,
-) -> Result<bool, SlateDBError> {
-    let range = BytesRange::from_slice(alloc, walk.0, walk.1)?;
-    let are_same = are_same_in(alloc, table, list, &range, walk.2);
+fn is_same_walk(alloc: Global, table: &MemTable, list: &SortedRows, walk: &Walk) -> bool {
+    let Some(range) = BytesRange::from_slice(alloc, walk.0, walk.1).ok() else {
+        return false;
+    };
+    let rows = walked(alloc, table.range(alloc, &range, walk.2), None);
+    let listed = walked(alloc, list.range(&range, walk.2), None);
     drop(range);
-    are_same
+    rows.is_some() && rows == listed
 }
 
-fn are_same_walks(
-    alloc: Global,
-    table: &MemTable,
-    list: &SortedRows,
-) -> Result<bool, SlateDBError> {
-    for walk in WALKS {
-        if !are_same_on(alloc, table, list, walk)? {
-            return Ok(false);
+fn are_same(alloc: Global, table: &MemTable, list: &SortedRows) -> bool {
+    for read in READS {
+        if !is_same_read(alloc, table, list, read) {
+            return false;
         }
     }
-    Ok(true)
+    for walk in WALKS {
+        if !is_same_walk(alloc, table, list, walk) {
+            return false;
+        }
+    }
+    true
 }
 
-fn are_same(alloc: Global, table: &MemTable, list: &SortedRows) -> Result<bool, SlateDBError> {
-    Ok(are_same_rows(alloc, table, list)? && are_same_walks(alloc, table, list)?)
-}
-
-fn are_both_same(alloc: Global) -> Result<bool, SlateDBError> {
-    let (table, list) = both(alloc)?;
-    let are_same = are_same(alloc, &table, &list);
-    drop((table, list));
-    are_same
+fn are_both_same(alloc: Global) -> bool {
+    let mut table = MemTable::new(alloc);
+    let mut list = SortedRows::new(alloc);
+    put_in_table(alloc, &mut table) && put_in_list(&mut list) && are_same(alloc, &table, &list)
 }
 
 #[test]
-fn a_list_has_the_same_rows(rt: HostRuntime) -> Result<(), SlateDBError> {
-    assert!(rt; are_both_same(rt.alloc())?);
-    Ok(())
+fn a_list_has_the_same_rows(rt: HostRuntime) {
+    assert!(rt; are_both_same(rt.alloc()));
 }

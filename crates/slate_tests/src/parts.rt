@@ -1,10 +1,10 @@
 // An operator of one's own.
 ghost use Rattle.slate_tests.specs.Parts.{appended, appended-short};
 
+use crate::listing::is_bytes;
 use bytes::Bytes;
 use slate_types::{MergeOperator, MergeOperatorError};
 use std::alloc::Global;
-use std::test::Fail;
 
 // Appends, and keeps as much as a value holds.
 #[derive(Drop)]
@@ -35,27 +35,27 @@ impl MergeOperator for Concat {
 }
 
 // Two operands above a value, through the bounds.
-fn merged<M: MergeOperator>(
-    alloc: Global,
-    operator: &mut M,
-    existing: Option<&Bytes>,
-) -> Result<Bytes, MergeOperatorError> {
-    let operands = vec![in alloc; Bytes::from_static(b"b"), Bytes::from_static(b"c")]?;
+fn merged(alloc: Global, existing: Option<&Bytes>) -> Option<Bytes> {
+    let (first, second) = (Bytes::from_static(b"b"), Bytes::from_static(b"c"));
+    let Some(operands) = vec![in alloc; first, second].ok() else {
+        return None;
+    };
     let key = Bytes::from_static(b"key");
-    let merged = operator.merge_batch(alloc, &key, existing, &operands);
+    let merged = Concat.merge_batch(alloc, &key, existing, &operands);
     drop(key);
-    merged
+    merged.ok()
 }
 
 // Whether operands without a value are joined, and the same operands behind what came of that.
-fn are_joined(alloc: Global) -> Result<bool, MergeOperatorError> {
-    let all = merged(alloc, &mut Concat, None)?;
-    let base = merged(alloc, &mut Concat, Some(&all))?;
-    Ok(all.as_slice() == b"bc".as_slice() && base.as_slice() == b"bcbc".as_slice())
+fn are_joined(alloc: Global) -> bool {
+    let Some(all) = merged(alloc, None) else {
+        return false;
+    };
+    let is_joined_again = is_bytes(merged(alloc, Some(&all)), b"bcbc");
+    is_bytes(Some(all), b"bc") && is_joined_again
 }
 
 #[test]
-fn operands_are_merged(rt: HostRuntime) -> Result<(), Fail> {
-    assert!(rt; are_joined(rt.alloc())?);
-    Ok(())
+fn operands_are_merged(rt: HostRuntime) {
+    assert!(rt; are_joined(rt.alloc()));
 }

@@ -5,9 +5,8 @@ use bytes::Bytes;
 use slate_script::parts::Xor;
 use slate_store::{MemoryStore, Store};
 use slate_table::{SsTableInfo, SstFile, SstReader};
-use slate_types::{BlockTransformer, SlateDBError, Ulid};
+use slate_types::{SlateDBError, Ulid};
 use std::alloc::Global;
-use std::test::Fail;
 
 const ID: Ulid = Ulid(18446744073709551616);
 
@@ -18,8 +17,10 @@ const ROW: &str = "b\"a\" Value(b\"1\") 1 Some(0) None";
 // What a reader is answered of the whole table.
 const WHOLE: &str = "Ok(true)";
 
+type Reader = SstReader<MemoryStore, Xor>;
+
 // A length, a place and the bits that change there, and what is answered then.
-const DAMAGES: [(usize, usize, u8, &str); 6] = [
+const DAMAGES: &[(usize, usize, u8, &str)] = &[
     (182, 0, 0, WHOLE),
     (181, 0, 0, "Err(InvalidVersion { actual_version: 27648 })"),
     (182, 181, 3, "Err(CorruptTable { place: 0 })"),
@@ -34,56 +35,26 @@ const DAMAGES: [(usize, usize, u8, &str); 6] = [
 ];
 
 // Whether a reader answers of a file what was written: its size, count of rows, index, first block, and first and last key.
-fn is_whole<S: Store, T: BlockTransformer>(
-    alloc: Global,
-    reader: &mut SstReader<S, T>,
-    file: &SstFile,
-) -> Result<bool, SlateDBError> {
-    let size = size_of(alloc, reader, file)?;
-    let count = count_of(alloc, reader, file)?;
-    let has_index = has_index(alloc, reader, file)?;
-    let has_row = has_row(alloc, reader, file)?;
-    Ok(size == 182 && count == 1 && has_index && has_row && has_ends(file.info()))
-}
-
-fn size_of<S: Store, T: BlockTransformer>(
-    alloc: Global,
-    reader: &mut SstReader<S, T>,
-    file: &SstFile,
-) -> Result<u64, SlateDBError> {
-    Ok(file.metadata(alloc, reader)?.size)
-}
-
-fn count_of<S: Store, T: BlockTransformer>(
-    alloc: Global,
-    reader: &mut SstReader<S, T>,
-    file: &SstFile,
-) -> Result<u64, SlateDBError> {
-    match file.stats(alloc, reader)? {
-        Some(stats) => Ok(stats.num_rows()),
-        None => Ok(0),
+fn is_whole(alloc: Global, reader: &mut Reader, file: &SstFile) -> Result<bool, SlateDBError> {
+    let is_sized = file.metadata(alloc, reader)?.size == 182;
+    let count = match file.stats(alloc, reader)? {
+        Some(stats) => stats.num_rows(),
+        None => 0,
+    };
+    if is_sized && count == 1 && has_ends(file.info()) {
+        has_rows(alloc, reader, file)
+    } else {
+        Ok(false)
     }
 }
 
 // The first block lies at 0, and a separates it.
-fn has_index<S: Store, T: BlockTransformer>(
-    alloc: Global,
-    reader: &mut SstReader<S, T>,
-    file: &SstFile,
-) -> Result<bool, SlateDBError> {
+fn has_rows(alloc: Global, reader: &mut Reader, file: &SstFile) -> Result<bool, SlateDBError> {
     let index = file.index(alloc, reader)?;
     let has_block = index.get(0) == Some((0, b"a".as_slice()));
     drop(index);
-    Ok(has_block)
-}
-
-fn has_row<S: Store, T: BlockTransformer>(
-    alloc: Global,
-    reader: &mut SstReader<S, T>,
-    file: &SstFile,
-) -> Result<bool, SlateDBError> {
     let rows = file.read_block(alloc, reader, 0)?;
-    is_text(listed(alloc, rows.as_slice()), ROW)
+    Ok(has_block && is_text(listed(alloc, rows.as_slice()), ROW))
 }
 
 fn has_ends(info: &SsTableInfo) -> bool {
@@ -93,47 +64,37 @@ fn has_ends(info: &SsTableInfo) -> bool {
     has_ends
 }
 
-// Whether the table over a store is whole, or how it is refused.
-fn answer<S: Store, T: BlockTransformer>(
-    alloc: Global,
-    store: S,
-    transformer: Option<T>,
-) -> Result<String, SlateDBError> {
-    let mut reader = SstReader::new(alloc, "db", store, transformer)?;
-    let answered = answer_of_reader(alloc, &mut reader);
-    drop(reader);
-    let text = format!(in alloc; "{answered:?}");
-    drop(answered);
-    Ok(text?)
-}
-
-fn answer_of_reader<S: Store, T: BlockTransformer>(
-    alloc: Global,
-    reader: &mut SstReader<S, T>,
-) -> Result<bool, SlateDBError> {
+fn answer_of_reader(alloc: Global, reader: &mut Reader) -> Result<bool, SlateDBError> {
     let file = reader.open(alloc, ID)?;
     let answered = is_whole(alloc, reader, &file);
     drop(file);
     answered
 }
 
-// The same over a store in memory with these bytes at the table's path. This call of the store fails.
-fn answer_of(alloc: Global, bytes: &[u8], call: u64) -> Result<String, SlateDBError> {
-    let mut store = MemoryStore::new(alloc, vec![in alloc; call]?);
-    store.put(alloc, PATH, bytes)?;
-    let unchanged: Option<Xor> = None;
-    answer(alloc, store, unchanged)
+// Whether the table over a store in memory with these bytes at its path is whole, or how it is refused. This call of the store fails.
+fn answer_of(alloc: Global, bytes: &[u8], call: u64) -> Option<String> {
+    let Some(failing) = vec![in alloc; call].ok() else {
+        return None;
+    };
+    let mut store = MemoryStore::new(alloc, failing);
+    let put = store.put(alloc, PATH, bytes).ok();
+    let Some(mut reader) = Reader::new(alloc, "db", store, None).ok() else {
+        return None;
+    };
+    let answered = answer_of_reader(alloc, &mut reader);
+    drop(reader);
+    let text = format!(in alloc; "{answered:?}").ok();
+    drop(answered);
+    put.and(text)
 }
 
 // The same of the table, cut to a length, with these bits changed at a place.
-fn answer_of_damaged(
-    alloc: Global,
-    len: usize,
-    at: usize,
-    bits: u8,
-) -> Result<String, SlateDBError> {
+fn answer_of_damaged(alloc: Global, len: usize, at: usize, bits: u8) -> Option<String> {
     let mut bytes = Vec::new(alloc);
-    bytes.extend_from_slice(TABLE.get(..len).unwrap_or(TABLE))?;
+    if bytes.extend_from_slice(TABLE).is_err() {
+        return None;
+    }
+    bytes.truncate(len);
     if let Some(byte) = bytes.get_mut(at) {
         *byte ^= bits;
     }
@@ -141,39 +102,38 @@ fn answer_of_damaged(
 }
 
 #[test]
-fn damage_is_named(rt: HostRuntime) -> Result<(), Fail> {
+fn damage_is_named(rt: HostRuntime) {
     for (len, at, bits, expected) in DAMAGES {
         assert!(rt;
-            is_text(answer_of_damaged(rt.alloc(), len, at, bits), expected)?,
+            is_text(answer_of_damaged(rt.alloc(), *len, *at, *bits), expected),
             "at {at}"
         );
     }
-    Ok(())
 }
 
 // Whether the table is whole or named as damaged, with the byte at a place changed.
-fn is_well_with(alloc: Global, at: usize) -> Result<bool, SlateDBError> {
-    let answered = answer_of_damaged(alloc, TABLE.len(), at, 0x11)?;
-    Ok(answered.as_str() == WHOLE || answered.as_str().contains(" { "))
+fn is_well_with(alloc: Global, at: usize) -> bool {
+    match answer_of_damaged(alloc, TABLE.len(), at, 0x11) {
+        Some(answered) => answered.as_str() == WHOLE || answered.as_str().contains(" { "),
+        None => false,
+    }
 }
 
 #[test]
-fn no_changed_byte_changes_an_answer(rt: HostRuntime) -> Result<(), Fail> {
+fn no_changed_byte_changes_an_answer(rt: HostRuntime) {
     for at in 0..TABLE.len() {
-        assert!(rt; is_well_with(rt.alloc(), at)?, "at {at}");
+        assert!(rt; is_well_with(rt.alloc(), at), "at {at}");
     }
-    Ok(())
 }
 
 // The first call puts the table.
 #[test]
-fn each_call_may_fail(rt: HostRuntime) -> Result<(), Fail> {
+fn each_call_may_fail(rt: HostRuntime) {
     for call in 2..11 {
         let expected = if call < 10 { "Err(StoreFault)" } else { WHOLE };
         assert!(rt;
-            is_text(answer_of(rt.alloc(), TABLE, call), expected)?,
+            is_text(answer_of(rt.alloc(), TABLE, call), expected),
             "at call {call}"
         );
     }
-    Ok(())
 }

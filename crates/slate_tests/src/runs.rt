@@ -1,7 +1,7 @@
 // Runs over parts in memory, of which one call fails. Runs without faults are tried by ./test, through the program.
 use slate_script::run_main;
 use slate_store::{MemorySink, MemorySource, MemoryStore, Sink};
-use std::alloc::{AllocError, Global};
+use std::alloc::Global;
 
 // Which call of each part fails, or 0.
 #[derive(Clone, Copy)]
@@ -20,39 +20,43 @@ const NONE: Failing = Failing {
 // A script and the call that fails, and how its run ends: its status, and what it writes.
 type Run = (&'static [u8], Failing, u8, &'static [u8]);
 
-// This call of the source fails.
-fn source_of(alloc: Global, script: &[u8], call: u64) -> Result<MemorySource, AllocError> {
-    let mut bytes = Vec::new(alloc);
-    bytes.extend_from_slice(script)?;
-    Ok(MemorySource::new(bytes, vec![in alloc; call]?))
-}
-
 // How a run ends, of which nothing more is said: what is written is what the test tries.
-fn status_of<W: Sink>(alloc: Global, run: &Run, sink: &mut W) -> Result<u8, AllocError> {
-    let mut store = MemoryStore::new(alloc, vec![in alloc; run.1.stored]?);
-    let mut source = source_of(alloc, run.0, run.1.read)?;
-    Ok(run_main(alloc, &[], &mut source, sink, &mut store))
+fn status_of(alloc: Global, run: &Run, sink: &mut MemorySink) -> Option<u8> {
+    let mut script = Vec::new(alloc);
+    if script.extend_from_slice(run.0).is_err() {
+        return None;
+    }
+    let Some(reads) = vec![in alloc; run.1.read].ok() else {
+        return None;
+    };
+    let Some(calls) = vec![in alloc; run.1.stored].ok() else {
+        return None;
+    };
+    let mut source = MemorySource::new(script, reads);
+    let mut store = MemoryStore::new(alloc, calls);
+    Some(run_main(alloc, &[], &mut source, sink, &mut store))
 }
 
 // Whether a run ends with its status and has written just its replies.
-fn is_run(alloc: Global, run: &Run) -> Result<bool, AllocError> {
-    let mut sink = MemorySink::new(alloc, vec![in alloc; run.1.write]?);
+fn is_run(alloc: Global, run: &Run) -> bool {
+    let Some(writes) = vec![in alloc; run.1.write].ok() else {
+        return false;
+    };
+    let mut sink = MemorySink::new(alloc, writes);
     let status = status_of(alloc, run, &mut sink);
-    let is_written = sink.taken() == run.3;
-    drop(sink);
-    Ok(is_written && status? == run.2)
+    status == Some(run.2) && sink.taken() == run.3
 }
 
 // How many runs end as they should, up to the first that doesn't.
-fn well_ended(alloc: Global) -> Result<usize, AllocError> {
+fn well_ended(alloc: Global) -> usize {
     let mut count: usize = 0;
     for run in RUNS {
-        if !is_run(alloc, run)? {
+        if !is_run(alloc, run) {
             break;
         }
         count = count.saturating_add(1);
     }
-    Ok(count)
+    count
 }
 
 const DAY: &[u8] = b"begin t si\nget t 'a\nwrite put 'a '1\nget t 'a\nrollback t\n";
@@ -126,8 +130,7 @@ const RUNS: &[Run] = &[
 ];
 
 #[test]
-fn a_call_that_fails_ends_a_run(rt: HostRuntime) -> Result<(), AllocError> {
-    let count = well_ended(rt.alloc())?;
+fn a_call_that_fails_ends_a_run(rt: HostRuntime) {
+    let count = well_ended(rt.alloc());
     assert!(rt; count == RUNS.len(), "at {count}");
-    Ok(())
 }

@@ -1,11 +1,11 @@
 // What a store over a folder answers.
 use slate_store::{FileStore, PathText, Store, StoreError};
-use slate_types::SlateDBError;
 use std::alloc::Global;
-use std::test::Fail;
-use std::{fs, io};
+use std::fs;
 
 const FOLDER: &str = "stores-objects";
+
+type Folder<'a> = FileStore<&'a HostRuntime>;
 
 // A range of an object with what is read there, and with how long the object is.
 type Range<'a> = (&'a str, u64, u64, Option<&'a [u8]>, Option<u64>);
@@ -29,34 +29,38 @@ const OBJECTS: &[(&str, &[u8])] = &[
     ("b/two", b"hello"),
 ];
 
-fn put_objects<S: Store>(alloc: Global, store: &mut S) -> Result<(), StoreError> {
+fn are_put(alloc: Global, store: &mut Folder<'_>) -> bool {
     for (path, bytes) in OBJECTS {
-        store.put(alloc, path, bytes)?;
+        if store.put(alloc, path, bytes).is_err() {
+            return false;
+        }
     }
-    Ok(())
+    true
 }
 
-fn is_read<S: Store>(alloc: Global, store: &mut S, range: &Range<'_>) -> Result<bool, StoreError> {
-    let len = store.len(alloc, range.0)?;
-    let bytes = store.read_range(alloc, range.0, range.1, range.2)?;
-    let is_same = match &bytes {
-        Some(bytes) => range.3 == Some(bytes.as_slice()),
-        None => range.3.is_none(),
-    };
-    drop(bytes);
-    Ok(is_same && len == range.4)
+fn is_read(alloc: Global, store: &mut Folder<'_>, range: &Range<'_>) -> bool {
+    let is_long = store.len(alloc, range.0) == Ok(range.4);
+    match store.read_range(alloc, range.0, range.1, range.2) {
+        Ok(Some(bytes)) => {
+            let is_same = range.3 == Some(bytes.as_slice());
+            drop(bytes);
+            is_same && is_long
+        }
+        Ok(None) => range.3.is_none() && is_long,
+        Err(_) => false,
+    }
 }
 
 // How many ranges are read as they should be, up to the first that isn't.
-fn well_read<S: Store>(alloc: Global, store: &mut S) -> Result<usize, StoreError> {
+fn well_read(alloc: Global, store: &mut Folder<'_>) -> usize {
     let mut count: usize = 0;
     for range in RANGES {
-        if !is_read(alloc, store, range)? {
+        if !is_read(alloc, store, range) {
             break;
         }
         count = count.saturating_add(1);
     }
-    Ok(count)
+    count
 }
 
 fn are_all(paths: &[PathText]) -> bool {
@@ -72,14 +76,18 @@ fn are_all(paths: &[PathText]) -> bool {
 }
 
 // Whether all ranges are well read, and all objects listed.
-fn answers_well<S: Store>(alloc: Global, store: &mut S) -> Result<bool, StoreError> {
-    put_objects(alloc, store)?;
-    let count = well_read(alloc, store)?;
-    Ok(count == RANGES.len() && are_all(store.list(alloc)?.as_slice()))
+fn answers_well(alloc: Global, store: &mut Folder<'_>) -> bool {
+    if !are_put(alloc, store) || well_read(alloc, store) != RANGES.len() {
+        return false;
+    }
+    match store.list(alloc) {
+        Ok(paths) => are_all(paths.as_slice()),
+        Err(_) => false,
+    }
 }
 
 // Whether each of these paths is refused.
-fn are_refused<S: Store>(alloc: Global, store: &mut S, paths: &[&str]) -> bool {
+fn are_refused(alloc: Global, store: &mut Folder<'_>, paths: &[&str]) -> bool {
     for path in paths {
         if store.put(alloc, path, b"x") != Err(StoreError::Failed) {
             return false;
@@ -88,47 +96,56 @@ fn are_refused<S: Store>(alloc: Global, store: &mut S, paths: &[&str]) -> bool {
     true
 }
 
-// A folder that isn't there has no objects, and is not made by that.
-fn is_empty<S: Store>(rt: &HostRuntime, store: &mut S) -> Result<bool, Fail> {
-    Ok(store.list(rt.alloc())?.is_empty() && !fs::exists(rt, FOLDER)?)
+// Whether it has so many objects.
+fn has(alloc: Global, store: &mut Folder<'_>, count: usize) -> bool {
+    match store.list(alloc) {
+        Ok(paths) => paths.len() == count,
+        Err(_) => false,
+    }
 }
 
 const NO_PATHS: &[&str] = &[
     "", "/a", "../a", "b/../a", "b//one", "b/", "./a", "a.tmp", "a/b",
 ];
 
-// Whether paths that are none are refused, and the four objects kept.
-fn refuses<S: Store>(alloc: Global, store: &mut S) -> Result<bool, StoreError> {
-    Ok(are_refused(alloc, store, NO_PATHS) && store.list(alloc)?.len() == 4)
+fn is_free(rt: &HostRuntime, path: &str) -> bool {
+    matches!(fs::exists(rt, path).ok(), Some(false))
 }
 
-fn answers_in_a_folder(rt: &HostRuntime) -> Result<bool, Fail> {
-    let mut store = FileStore::new(rt.alloc(), rt, FOLDER)?;
-    Ok(
-        is_empty(rt, &mut store)?
-            && answers_well(rt.alloc(), &mut store)?
-            && refuses(rt.alloc(), &mut store)?,
-    )
+// A folder that isn't there has no objects, and is not made by that. Paths that are none are refused, and the four objects kept.
+fn answers_in_a_folder(rt: &HostRuntime) -> bool {
+    let alloc = rt.alloc();
+    let Some(mut store) = FileStore::new(alloc, rt, FOLDER).ok() else {
+        return false;
+    };
+    has(alloc, &mut store, 0)
+        && is_free(rt, FOLDER)
+        && answers_well(alloc, &mut store)
+        && are_refused(alloc, &mut store, NO_PATHS)
+        && has(alloc, &mut store, 4)
 }
 
 // Whether a folder is none that is a file.
-fn is_no_folder(rt: &HostRuntime) -> Result<bool, SlateDBError> {
-    let mut store = FileStore::new(rt.alloc(), rt, "stores-objects/a")?;
-    Ok(are_refused(rt.alloc(), &mut store, &["x"]))
+fn is_no_folder(rt: &HostRuntime) -> bool {
+    match FileStore::new(rt.alloc(), rt, "stores-objects/a").ok() {
+        Some(mut store) => are_refused(rt.alloc(), &mut store, &["x"]),
+        None => false,
+    }
 }
 
-fn clear(rt: &HostRuntime) -> io::Result<()> {
-    if fs::exists(rt, FOLDER)? {
-        fs::remove_dir_all(rt, FOLDER)?;
-    }
-    Ok(())
+fn is_cleared(rt: &HostRuntime) -> bool {
+    is_free(rt, FOLDER) || fs::remove_dir_all(rt, FOLDER).ok().is_some()
+}
+
+fn keeps_objects(rt: &HostRuntime) -> bool {
+    is_cleared(rt)
+        && answers_in_a_folder(rt)
+        && is_free(rt, "stores-objects/a.tmp")
+        && is_no_folder(rt)
+        && is_cleared(rt)
 }
 
 #[test]
-fn keeps_objects_in_a_folder(rt: HostRuntime) -> Result<(), Fail> {
-    clear(&rt)?;
-    assert!(rt; answers_in_a_folder(&rt)?);
-    assert!(rt; !fs::exists(&rt, "stores-objects/a.tmp")? && is_no_folder(&rt)?);
-    clear(&rt)?;
-    Ok(())
+fn keeps_objects_in_a_folder(rt: HostRuntime) {
+    assert!(rt; keeps_objects(&rt));
 }

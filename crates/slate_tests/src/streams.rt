@@ -1,6 +1,5 @@
 // What a real reader is asked for: a byte at a time, with interrupts.
-use slate_store::{Lines, ReaderSource, Source};
-use slate_types::SlateDBError;
+use slate_store::{Lines, ReaderSource};
 use std::alloc::Global;
 use std::io::{self, ErrorKind, Read};
 
@@ -23,31 +22,35 @@ impl Read for Trickle<'_> {
 }
 
 // Whether there was a line, which was added with a bar behind it.
-fn add_line<R: Source>(
+fn add_line(
     lines: &mut Lines,
-    source: &mut R,
+    source: &mut ReaderSource<Trickle<'_>>,
     bytes: &mut Vec<u8>,
-) -> Result<bool, SlateDBError> {
-    match lines.next(source)? {
-        Some(line) => {
-            bytes.extend_from_slice(&line)?;
-            bytes.push(b'|')?;
-            Ok(true)
+) -> Option<bool> {
+    match lines.next(source).ok() {
+        Some(Some(line)) => {
+            if bytes.extend_from_slice(&line).is_err() || bytes.push(b'|').ok().is_none() {
+                return None;
+            }
+            Some(true)
         }
-        None => Ok(false),
+        Some(None) => Some(false),
+        None => None,
     }
 }
 
 // The first lines of a source, each with a bar behind it.
-fn barred<R: Source>(alloc: Global, source: &mut R) -> Result<Vec<u8>, SlateDBError> {
+fn barred(alloc: Global, source: &mut ReaderSource<Trickle<'_>>) -> Option<Vec<u8>> {
     let mut lines = Lines::new(alloc);
     let mut bytes = Vec::new(alloc);
     for _ in 0..10 {
-        if !add_line(&mut lines, source, &mut bytes)? {
-            break;
+        match add_line(&mut lines, source, &mut bytes) {
+            Some(true) => {}
+            Some(false) => break,
+            None => return None,
         }
     }
-    Ok(bytes)
+    Some(bytes)
 }
 
 // Bytes, and their lines.
@@ -59,21 +62,27 @@ const TRICKLES: &[(&[u8], &[u8])] = &[
     (b"one", b"one|"),
 ];
 
-fn are_trickled(alloc: Global) -> Result<bool, SlateDBError> {
-    for (bytes, want) in TRICKLES {
-        let mut source = ReaderSource::new(Trickle {
-            bytes,
-            is_interrupted: false,
-        });
-        if barred(alloc, &mut source)?.as_slice() != *want {
-            return Ok(false);
+fn is_trickled(alloc: Global, bytes: &[u8], lines: &[u8]) -> bool {
+    let mut source = ReaderSource::new(Trickle {
+        bytes,
+        is_interrupted: false,
+    });
+    match barred(alloc, &mut source) {
+        Some(bytes) => bytes.as_slice() == lines,
+        None => false,
+    }
+}
+
+fn are_trickled(alloc: Global) -> bool {
+    for (bytes, lines) in TRICKLES {
+        if !is_trickled(alloc, bytes, lines) {
+            return false;
         }
     }
-    Ok(true)
+    true
 }
 
 #[test]
-fn reads_a_byte_at_a_time(rt: HostRuntime) -> Result<(), SlateDBError> {
-    assert!(rt; are_trickled(rt.alloc())?);
-    Ok(())
+fn reads_a_byte_at_a_time(rt: HostRuntime) {
+    assert!(rt; are_trickled(rt.alloc()));
 }

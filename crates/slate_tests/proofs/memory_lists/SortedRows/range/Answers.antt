@@ -9,5 +9,5 @@ use Rattle.slate_tests.proofs.memory_lists.SortedRows.range.Goals as goal
 
 pub ordered-requires : goal.ordered-requires
 ordered-requires c =
-    let rows = c.in_ok-rows.ensures.rows ∙ ap (ranged c.args.range.now) c.as_slice.ensures.value in
+    let rows = c.in_ok-rows.ensures ∙ ap (ranged c.args.range.now) c.as_slice.ensures.value in
     subst (IsInOrder Ascending) (sym rows) (in_order_filtered Ascending (λ r. in_range c.args.range.now r.key) _ (keys-ascend _ c.self.invariant))
