@@ -3,9 +3,9 @@ ghost use Rattle.slate_types.specs.Config.{IsValid};
 
 use slate_db::engine::Core;
 use slate_mem::WriteBatch;
-use slate_script::operator::NoOperator;
-use slate_script::parts::Xor;
 use slate_store::{Env, MemoryStore, Store};
+use slate_txn::operator::NoOperator;
+use slate_txn::parts::Xor;
 use slate_types::{IsolationLevel, Options, ReadOptions, SlateDBError};
 use std::alloc::Global;
 use uuid::Uuid;

@@ -2,9 +2,9 @@
 use crate::listing::{is_text, listed};
 use crate::tables::TABLE;
 use bytes::Bytes;
-use slate_script::parts::Xor;
 use slate_store::{MemoryStore, Store};
 use slate_table::{SsTableInfo, SstFile, SstReader};
+use slate_txn::parts::Xor;
 use slate_types::{SlateDBError, Ulid};
 use std::alloc::Global;
 
