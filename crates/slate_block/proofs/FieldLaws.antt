@@ -31,20 +31,6 @@ pub bind_ok : {A B : Type 0} (r : Result A SlateDBError) (f : A → Result B Sla
 bind_ok (Ok x) f y e = (x, refl, e)
 bind_ok (Err d) f y e = absurd cc
 
--- three fields and what is made of them, and then more
-pub three_more : {A B C D E : Type 0} (r : Result A SlateDBError) (s : A → Result B SlateDBError) (t : A → B → Result C SlateDBError) (f : A → C → D) (g : D → Result E SlateDBError) →
-    ((r >>= λ a. s a >>= λ b. t a b >>= λ c. Ok (f a c)) >>= g) ≡ (r >>= λ a. s a >>= λ b. t a b >>= λ c. g (f a c))
-three_more {A} {B} {C} {D} {E} (Ok a) s t f g = two (s a)
-  where
-    one : (u : Result C SlateDBError) → ((u >>= λ c. Ok (f a c)) >>= g) ≡ (u >>= λ c. g (f a c))
-    one (Ok c) = refl
-    one (Err e) = refl
-
-    two : (u : Result B SlateDBError) → ((u >>= λ b. t a b >>= λ c. Ok (f a c)) >>= g) ≡ (u >>= λ b. t a b >>= λ c. g (f a c))
-    two (Ok b) = one (t a b)
-    two (Err e) = refl
-three_more (Err e) s t f g = refl
-
 -- a test that did not fail
 pub guard_ok : {A : Type 0} (b : Bool) (d : SlateDBError) (x y : A) → cond b (Err d) (Ok x) ≡ Ok y → (b ≡ false) × (x ≡ y)
 guard_ok true d x y e = absurd cc

@@ -265,3 +265,12 @@ left_none body offsets place e =
         let never : some.0 ∷ some.1 ≡ [] = sym some.2 ∙ none.0 in
         absurd cc
     past (inr le) g = le
+
+pub held_refused : (body offsets : List ℕ) (place : BlockPlace) (e m : SlateDBError) → (e ≡ m) ⊎ (group_left body place.group ≡ Err e ∷ []) → (e ≡ m) ⊎ (slice_get (left_v2 body offsets place) 0 ≡ Some (Err e))
+held_refused body offsets place e m (inl h) = inl h
+held_refused body offsets place e m (inr h) = inr (refused_in_group body offsets place e h)
+
+pub behind_refused : (body offsets : List ℕ) (place : BlockPlace) (e m : SlateDBError) → is_over place.group ≡ true → place.next < length offsets → (e ≡ m) ⊎ (restart_at body offsets place.next ≡ Err e ∷ []) →
+    (e ≡ m) ⊎ (slice_get (left_v2 body offsets place) 0 ≡ Some (Err e))
+behind_refused body offsets place e m over in_block (inl h) = inl h
+behind_refused body offsets place e m over in_block (inr h) = inr (refused_behind_group body offsets place e (over_left body place.group over) in_block h)

@@ -1,5 +1,5 @@
 -- The row between two places is the one that begins the bytes there.
-use Rattle.std.proofs.Common.{◌≡◌, ℕ, ◌+◌, if◌then◌else◌, true, false, List, Result, Ok, Err, refl, sym, ap, ◌∙◌, ◌⊎◌, inl, inr, Bool, cond}
+use Rattle.std.proofs.Common.{◌≡◌, ℕ, ◌+◌, if◌then◌else◌, true, false, ◌<◌, ◌^◌, List, length, Result, Ok, Err, refl, sym, ap, subst, ◌∙◌, ◌⊎◌, inl, inr, Bool, cond, arith}
 use Rattle.std.specs.Prelude.{IfOk, IfErr}
 use Rattle.slate_types.specs.declared.error.SlateDBError.{SlateDBError}
 use Rattle.slate_types.specs.declared.error.SlateDBError.TheVariants.{CorruptTable}
@@ -9,9 +9,10 @@ use Rattle.slate_block.specs.declared.row.SstRowEntry.{SstRowEntry}
 use Rattle.slate_block.specs.declared.row.SstRowEntryV2.{SstRowEntryV2}
 use Rattle.slate_block.specs.declared.rows_part.Version.{Version}
 use Rattle.slate_block.specs.declared.rows_part.Version.TheVariants.{V1, V2}
-use Rattle.slate_block.specs.Damage.{◌>>=◌, layout_v1, layout_v2}
+use Rattle.slate_block.specs.Damage.{◌>>=◌, layout_v1, layout_v2, IsDamageIn}
 use Rattle.slate_block.specs.RowReading.{entry_of_v1, entry_of_v2, row_v1_of, row_v2_of}
 use Rattle.slate_block.specs.Walks.{between, entry_v2_in, is_restored, moved, moved_result, row_v1_in, row_v2_in, whole_v1, whole_v2}
+use Rattle.slate_block.specs.BlockWalks.{IsDamage}
 use Rattle.slate_block.specs.PlacedRows.{as_read, fields_of, found_of, placed, row_in, suffix_of, whole_of}
 
 abbrev found_v1 : List ℕ → ℕ → SstRowEntry × ℕ → Result (RowEntry × ℕ) SlateDBError
@@ -74,3 +75,20 @@ placed_cause version other from bytes row (Err e) m read (inr h) = inr (placed_o
 pub placed_refused : (version : Version) (other : List ℕ) (from : ℕ) (bytes : List ℕ) (e : SlateDBError) → fields_of version bytes ≡ Err e → placed version other from bytes ≡ Err (moved from e)
 unfolding placed
 placed_refused version other from bytes e read = ap (λ (r : Result (ℕ × RowFields) SlateDBError). moved_result from r >>= found_of other from bytes) read
+
+pub no_row_refused : (version : Version) (body other : List ℕ) (from upto : ℕ) (e m : SlateDBError) → (e ≡ m) ⊎ (between body from upto ≡ Err e) → (e ≡ m) ⊎ (row_in version body other from upto ≡ Err e)
+no_row_refused version body other from upto e m (inl h) = inl h
+no_row_refused version body other from upto e m (inr h) = inr (no_row_placed version body other from upto e h)
+
+-- ---- where a refusal stands
+
+pub place_within : (from : ℕ) (bytes : List ℕ) (e : SlateDBError) → from + length bytes < 2 ^ 64 → IsDamageIn (length bytes) e → (place : ℕ) → e ≡ CorruptTable place → from + place < 2 ^ 64
+place_within from bytes e lt h place is = let inside = subst (IsDamageIn (length bytes)) is h in omega (arith, lt, inside)
+
+whole_damaged : {P : Type 0} (from : ℕ) (e m : SlateDBError) → (e ≡ m) ⊎ (P × (e ≡ CorruptTable from)) → (e ≡ m) ⊎ IsDamage e
+whole_damaged from e m (inl h) = inl h
+whole_damaged from e m (inr h) = inr (subst IsDamage (sym h.1) tt)
+
+pub whole_damage : {A : Type 0} (P : Type 0) (r : Result A SlateDBError) (from : ℕ) (m : SlateDBError) → IfErr r (λ e. (e ≡ m) ⊎ (P × (e ≡ CorruptTable from))) → IfErr r (λ e. (e ≡ m) ⊎ IsDamage e)
+whole_damage P (Ok x) from m h = tt
+whole_damage P (Err e) from m h = whole_damaged from e m h

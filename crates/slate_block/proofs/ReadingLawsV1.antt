@@ -15,7 +15,7 @@ use Rattle.slate_block.specs.Damage.{◌>>=◌, number_field, block_field, row_f
 use Rattle.slate_block.specs.RowReading.{value_of, expiry_of, entry_of_v1, row_v1_of, BeginsV1}
 use Rattle.slate_block.proofs.Groups.{IsBytes}
 use Rattle.slate_block.proofs.FlagLaws.{flags_sum, named}
-use Rattle.slate_block.proofs.FieldLaws.{bind_ok, three_more, ok_is, Stands, behind, wide16, wide32, number_takes, number_again, block_takes, block_again}
+use Rattle.slate_block.proofs.FieldLaws.{bind_ok, ok_is, Stands, behind, wide16, wide32, number_takes, number_again, block_takes, block_again}
 use Rattle.slate_block.proofs.ReadingLaws.{then, HeadTakes, head_takes, StampsTake, stamps_take, head_again, stamps_again}
 
 -- ---- the value
@@ -59,11 +59,32 @@ expiry_is f text expire = by (has 1 f) (has 8 f)
 
 -- ---- what is read is spelled
 
-in_order : (a b c h g s t v : List ℕ) → a ++ (b ++ (c ++ ((h ++ g) ++ ((s ++ t) ++ v)))) ≡ (((a ++ b) ++ c) ++ (((h ++ g) ++ s) ++ t)) ++ v
+in_order : (a b c h g s t v : List ℕ) → (a ++ (b ++ c)) ++ ((h ++ g) ++ ((s ++ t) ++ v)) ≡ (((a ++ b) ++ c) ++ (((h ++ g) ++ s) ++ t)) ++ v
 in_order a b c h g s t v = simp append_assoc
 
-regrouped : (a b x c h g z s t v : List ℕ) → b ≡ x → g ≡ z → a ++ (b ++ (c ++ ((h ++ g) ++ ((s ++ t) ++ v)))) ≡ (((a ++ x) ++ c) ++ (((h ++ z) ++ s) ++ t)) ++ v
-regrouped a b x c h g z s t v p q = in_order a b c h g s t v ∙ (λ i. (((a ++ p i) ++ c) ++ (((h ++ q i) ++ s) ++ t)) ++ v)
+regrouped : (a b c h g z s t v : List ℕ) → g ≡ z → (a ++ (b ++ c)) ++ ((h ++ g) ++ ((s ++ t) ++ v)) ≡ (((a ++ b) ++ c) ++ (((h ++ z) ++ s) ++ t)) ++ v
+regrouped a b c h g z s t v p = in_order a b c h g s t v ∙ (λ i. (((a ++ b) ++ c) ++ (((h ++ p i) ++ s) ++ t)) ++ v)
+
+record KeyTakes (bytes : List ℕ) (key : ℕ × (ℕ × ℕ)) : Type 0 where
+  pub here : Stands bytes 0 (be16 key.0 ++ (be16 (length (slice_range bytes key.1.0 key.1.1)) ++ slice_range bytes key.1.0 key.1.1)) key.1.1
+  pub shared : key.0 < 2 ^ 16
+  pub suffix : length (slice_range bytes key.1.0 key.1.1) < 2 ^ 16
+
+key_takes : (bytes : List ℕ) (key : ℕ × (ℕ × ℕ)) → IsBytes bytes → key_layout_v1 bytes ≡ Ok key → KeyTakes bytes key
+unfolding key_layout_v1
+key_takes bytes key fits e =
+    let a = bind_ok (number_field w16 bytes 0) (λ shared. number_field w16 bytes shared.1 >>= λ len. block_field len.0 bytes len.1 >>= λ suffix. Ok (shared.0, suffix)) key e in
+    let b = bind_ok (number_field w16 bytes a.0.1) (λ len. block_field len.0 bytes len.1 >>= λ suffix. Ok (a.0.0, suffix)) key a.2 in
+    let c = bind_ok (block_field b.0.0 bytes b.0.1) (λ suffix. Ok (a.0.0, suffix)) key b.2 in
+    let text = slice_range bytes c.0.0 c.0.1 in
+    let t0 = number_takes w16 (2 ^ 16) wide16 bytes 0 a.0.0 a.0.1 fits a.1 in
+    let t1 = number_takes w16 (2 ^ 16) wide16 bytes a.0.1 b.0.0 b.0.1 fits b.1 in
+    let t2 = block_takes bytes b.0.0 b.0.1 c.0.0 c.0.1 c.1 in
+    let e12 = then bytes a.0.1 (be16 b.0.0) b.0.1 text c.0.1 t1.0 t2.0 in
+    let e02 = then bytes 0 (be16 a.0.0) a.0.1 (be16 b.0.0 ++ text) c.0.1 t0.0 e12 in
+    let sized = subst (λ (k : ℕ). Stands bytes 0 (be16 a.0.0 ++ (be16 k ++ text)) c.0.1) (sym t2.1) e02 in
+    let made : ℕ × (ℕ × ℕ) = (a.0.0, c.0) in
+    subst (λ (y : ℕ × (ℕ × ℕ)). KeyTakes bytes y) (ok_is made key c.2) (record { here = sized; shared = t0.1; suffix = omega (arith, t1.1, t2.1) })
 
 abbrev IsTakenV1 : List ℕ → ℕ → RowFields → Type 0
 IsTakenV1 bytes shared fields = BeginsV1 (entry_of_v1 bytes shared fields) bytes (drop fields.end bytes) × (fields.end ≤ length bytes)
@@ -71,47 +92,43 @@ IsTakenV1 bytes shared fields = BeginsV1 (entry_of_v1 bytes shared fields) bytes
 taken_v1 : ℕ → ℕ → ℕ → ℕ → ℕ → RowFlags → Option ℤ → Option ℤ → RowFields
 taken_v1 from to start stop seq f expire create = record { suffix_at = from; suffix_end = to; value_at = start; value_end = stop; seq = seq; flags = f; expire_ts = expire; create_ts = create; end = stop }
 
-row_v1_takes : (bytes : List ℕ) (shared one len two from to seq : ℕ) (f : RowFlags) (three : ℕ) (expire create : Option ℤ) (four start stop : ℕ) →
-    Stands bytes 0 (be16 shared) one × (shared < 2 ^ 16) → Stands bytes one (be16 len) two × (len < 2 ^ 16) → Stands bytes two (slice_range bytes from to) to × (length (slice_range bytes from to) ≡ len) →
-    HeadTakes bytes to seq f three → StampsTake f bytes three expire create four → ValueTakes bytes four (value_of f (slice_range bytes start stop)) stop → IsTakenV1 bytes shared (taken_v1 from to start stop seq f expire create)
+row_v1_takes : (bytes : List ℕ) (key : ℕ × (ℕ × ℕ)) (seq : ℕ) (f : RowFlags) (three : ℕ) (expire create : Option ℤ) (four start stop : ℕ) →
+    KeyTakes bytes key → HeadTakes bytes key.1.1 seq f three → StampsTake f bytes three expire create four → ValueTakes bytes four (value_of f (slice_range bytes start stop)) stop → IsTakenV1 bytes key.0 (taken_v1 key.1.0 key.1.1 start stop seq f expire create)
 unfolding taken_v1
-row_v1_takes bytes shared one len two from to seq f three expire create four start stop t0 t1 t2 head stamps val =
+row_v1_takes bytes key seq f three expire create four start stop k head stamps val =
     let text = slice_range bytes start stop in
-    let suffix = slice_range bytes from to in
+    let suffix = slice_range bytes key.1.0 key.1.1 in
     let value = value_of f text in
     let flag : (f.0 ∷ []) ≡ (flags value expire create ∷ []) = ap (λ (x : ℕ). x ∷ []) (sym (flags_sum f text expire create head.known stamps.has_expire stamps.has_create)) in
+    let key_text = be16 key.0 ++ (be16 (length suffix) ++ suffix) in
     let head_text = be64 seq ++ (f.0 ∷ []) in
     let stamp_text = stamp_bytes expire ++ stamp_bytes create in
-    let e4 = then bytes three stamp_text four (v1_value value) stop stamps.here val.here in
-    let e3 = then bytes to head_text three (stamp_text ++ v1_value value) stop head.here e4 in
-    let e2 = then bytes two suffix to (head_text ++ (stamp_text ++ v1_value value)) stop t2.0 e3 in
-    let e1 = then bytes one (be16 len) two (suffix ++ (head_text ++ (stamp_text ++ v1_value value))) stop t1.0 e2 in
-    let e0 = then bytes 0 (be16 shared) one (be16 len ++ (suffix ++ (head_text ++ (stamp_text ++ v1_value value)))) stop t0.0 e1 in
-    let order = regrouped (be16 shared) (be16 len) (be16 (length suffix)) suffix (be64 seq) (f.0 ∷ []) (flags value expire create ∷ []) (stamp_bytes expire) (stamp_bytes create) (v1_value value) (ap be16 (sym t2.1)) flag in
-    let written : SstRowEntry = record { key_prefix_len = shared; key_suffix = suffix; seq = seq; expire_ts = expire; create_ts = create; value = value } in
-    let begins : BeginsV1 (entry_of_v1 bytes shared (taken_v1 from to start stop seq f expire create)) bytes (drop stop bytes) = (
+    let e2 = then bytes three stamp_text four (v1_value value) stop stamps.here val.here in
+    let e1 = then bytes key.1.1 head_text three (stamp_text ++ v1_value value) stop head.here e2 in
+    let e0 = then bytes 0 key_text key.1.1 (head_text ++ (stamp_text ++ v1_value value)) stop k.here e1 in
+    let order = regrouped (be16 key.0) (be16 (length suffix)) suffix (be64 seq) (f.0 ∷ []) (flags value expire create ∷ []) (stamp_bytes expire) (stamp_bytes create) (v1_value value) flag in
+    let written : SstRowEntry = record { key_prefix_len = key.0; key_suffix = suffix; seq = seq; expire_ts = expire; create_ts = create; value = value } in
+    let begins : BeginsV1 (entry_of_v1 bytes key.0 (taken_v1 key.1.0 key.1.1 start stop seq f expire create)) bytes (drop stop bytes) = (
       written,
-      (t0.1, omega (arith, t1.1, t2.1), val.fits, head.fits, stamps.fits_expire, stamps.fits_create),
+      (k.shared, k.suffix, val.fits, head.fits, stamps.fits_expire, stamps.fits_create),
       e0.parts ∙ ap (λ (l : List ℕ). l ++ drop stop bytes) order,
-      ap (λ (x : Option ℤ). record { key_prefix_len = shared; key_suffix = suffix; seq = seq; expire_ts = x; create_ts = create; value = value }) (expiry_is f text expire),
+      ap (λ (x : Option ℤ). record { key_prefix_len = key.0; key_suffix = suffix; seq = seq; expire_ts = x; create_ts = create; value = value }) (expiry_is f text expire),
     ) in
-    (begins, omega (arith, e0.place, ap (λ (l : List ℕ). length l) e0.parts, length-append (be16 shared ++ (be16 len ++ (suffix ++ (head_text ++ (stamp_text ++ v1_value value))))) (drop stop bytes), length-drop stop bytes))
+    (begins, omega (arith, e0.place, ap (λ (l : List ℕ). length l) e0.parts, length-append (key_text ++ (head_text ++ (stamp_text ++ v1_value value))) (drop stop bytes), length-drop stop bytes))
 
 layout_v1_takes : (bytes : List ℕ) (x : ℕ × RowFields) → IsBytes bytes → layout_v1 bytes ≡ Ok x → IsTakenV1 bytes x.0 x.1
-unfolding layout_v1 key_layout_v1 taken_v1
+unfolding layout_v1 taken_v1
 layout_v1_takes bytes x fits e =
-    let parts = three_more {D = ℕ × (ℕ × ℕ)} (number_field w16 bytes 0) (λ shared. number_field w16 bytes shared.1) (λ shared len. block_field len.0 bytes len.1) (λ shared suffix. (shared.0, suffix)) (λ key. head_layout bytes key.1.1 >>= λ head. stamps_layout head.0.1 bytes head.1 >>= λ stamps. value_layout (has 1 head.0.1) bytes stamps.1 >>= λ value. Ok (key.0, taken_v1 key.1.0 key.1.1 value.0 value.1 head.0.0 head.0.1 stamps.0.0 stamps.0.1)) in
-    let a = bind_ok (number_field w16 bytes 0) (λ shared. number_field w16 bytes shared.1 >>= λ len. block_field len.0 bytes len.1 >>= λ suffix. head_layout bytes suffix.1 >>= λ head. stamps_layout head.0.1 bytes head.1 >>= λ stamps. value_layout (has 1 head.0.1) bytes stamps.1 >>= λ value. Ok (shared.0, taken_v1 suffix.0 suffix.1 value.0 value.1 head.0.0 head.0.1 stamps.0.0 stamps.0.1)) x (sym parts ∙ e) in
-    let b = bind_ok (number_field w16 bytes a.0.1) (λ len. block_field len.0 bytes len.1 >>= λ suffix. head_layout bytes suffix.1 >>= λ head. stamps_layout head.0.1 bytes head.1 >>= λ stamps. value_layout (has 1 head.0.1) bytes stamps.1 >>= λ value. Ok (a.0.0, taken_v1 suffix.0 suffix.1 value.0 value.1 head.0.0 head.0.1 stamps.0.0 stamps.0.1)) x a.2 in
-    let c = bind_ok (block_field b.0.0 bytes b.0.1) (λ suffix. head_layout bytes suffix.1 >>= λ head. stamps_layout head.0.1 bytes head.1 >>= λ stamps. value_layout (has 1 head.0.1) bytes stamps.1 >>= λ value. Ok (a.0.0, taken_v1 suffix.0 suffix.1 value.0 value.1 head.0.0 head.0.1 stamps.0.0 stamps.0.1)) x b.2 in
-    let d = bind_ok (head_layout bytes c.0.1) (λ head. stamps_layout head.0.1 bytes head.1 >>= λ stamps. value_layout (has 1 head.0.1) bytes stamps.1 >>= λ value. Ok (a.0.0, taken_v1 c.0.0 c.0.1 value.0 value.1 head.0.0 head.0.1 stamps.0.0 stamps.0.1)) x c.2 in
-    let f = bind_ok (stamps_layout d.0.0.1 bytes d.0.1) (λ stamps. value_layout (has 1 d.0.0.1) bytes stamps.1 >>= λ value. Ok (a.0.0, taken_v1 c.0.0 c.0.1 value.0 value.1 d.0.0.0 d.0.0.1 stamps.0.0 stamps.0.1)) x d.2 in
-    let g = bind_ok (value_layout (has 1 d.0.0.1) bytes f.0.1) (λ value. Ok (a.0.0, taken_v1 c.0.0 c.0.1 value.0 value.1 d.0.0.0 d.0.0.1 f.0.0.0 f.0.0.1)) x f.2 in
-    let made : ℕ × RowFields = (a.0.0, taken_v1 c.0.0 c.0.1 g.0.0 g.0.1 d.0.0.0 d.0.0.1 f.0.0.0 f.0.0.1) in
-    subst (λ (y : ℕ × RowFields). IsTakenV1 bytes y.0 y.1) (ok_is made x g.2)
-    (row_v1_takes bytes a.0.0 a.0.1 b.0.0 b.0.1 c.0.0 c.0.1 d.0.0.0 d.0.0.1 d.0.1 f.0.0.0 f.0.0.1 f.0.1 g.0.0 g.0.1
-    (number_takes w16 (2 ^ 16) wide16 bytes 0 a.0.0 a.0.1 fits a.1) (number_takes w16 (2 ^ 16) wide16 bytes a.0.1 b.0.0 b.0.1 fits b.1) (block_takes bytes b.0.0 b.0.1 c.0.0 c.0.1 c.1)
-    (head_takes bytes c.0.1 d.0 fits d.1) (stamps_take d.0.0.1 bytes d.0.1 f.0 fits f.1) (value_takes d.0.0.1 bytes f.0.1 g.0.0 g.0.1 fits g.1))
+    let a = bind_ok (key_layout_v1 bytes) (λ key. head_layout bytes key.1.1 >>= λ head. stamps_layout head.0.1 bytes head.1 >>= λ stamps. value_layout (has 1 head.0.1) bytes stamps.1 >>= λ value. Ok (key.0, taken_v1 key.1.0 key.1.1 value.0 value.1 head.0.0 head.0.1 stamps.0.0 stamps.0.1)) x e in
+    let key = a.0 in
+    let b = bind_ok (head_layout bytes key.1.1) (λ head. stamps_layout head.0.1 bytes head.1 >>= λ stamps. value_layout (has 1 head.0.1) bytes stamps.1 >>= λ value. Ok (key.0, taken_v1 key.1.0 key.1.1 value.0 value.1 head.0.0 head.0.1 stamps.0.0 stamps.0.1)) x a.2 in
+    let f = b.0.0.1 in
+    let c = bind_ok (stamps_layout f bytes b.0.1) (λ stamps. value_layout (has 1 f) bytes stamps.1 >>= λ value. Ok (key.0, taken_v1 key.1.0 key.1.1 value.0 value.1 b.0.0.0 f stamps.0.0 stamps.0.1)) x b.2 in
+    let d = bind_ok (value_layout (has 1 f) bytes c.0.1) (λ value. Ok (key.0, taken_v1 key.1.0 key.1.1 value.0 value.1 b.0.0.0 f c.0.0.0 c.0.0.1)) x c.2 in
+    let made : ℕ × RowFields = (key.0, taken_v1 key.1.0 key.1.1 d.0.0 d.0.1 b.0.0.0 f c.0.0.0 c.0.0.1) in
+    subst (λ (y : ℕ × RowFields). IsTakenV1 bytes y.0 y.1) (ok_is made x d.2)
+    (row_v1_takes bytes key b.0.0.0 f b.0.1 c.0.0.0 c.0.0.1 c.0.1 d.0.0 d.0.1 (key_takes bytes key fits a.1) (head_takes bytes key.1.1 b.0 fits b.1) (stamps_take f bytes b.0.1 c.0 fits c.1)
+    (value_takes f bytes c.0.1 d.0.0 d.0.1 fits d.1))
 
 row_v1_taken : (bytes : List ℕ) (row : SstRowEntry) (end : ℕ) → IsBytes bytes → row_v1_of bytes ≡ Ok (row, end) → BeginsV1 row bytes (drop end bytes) × (end ≤ length bytes)
 unfolding row_v1_of

@@ -1,5 +1,6 @@
 -- How many bytes a row has.
 use Rattle.std.proofs.Common.{◌≡◌, ℕ, zero, suc, ◌+◌, ◌-◌, ◌/◌, ◌%◌, ◌<◌, ◌≤◌, ◌^◌, Bool, true, false, cond, ltb, min, List, [], ◌∷◌, ◌++◌, length, drop, refl, arith, length-append, length-drop}
+use Rattle.std.proofs.lemmas.Bool.{ltb-true, ltb-false}
 use Rattle.std.specs.Prelude.{Option, Some, None, ℤ}
 use Rattle.slate_types.specs.declared.types.ValueDeletable.{ValueDeletable}
 use Rattle.slate_types.specs.declared.types.ValueDeletable.TheVariants.{Value, Merge, Tombstone}
@@ -18,7 +19,45 @@ within_groups (suc k) n = by (ltb n 128) (within_groups k (n / 128))
     by false h = omega (arith, h)
 
 pub five_groups : (n : ℕ) → length (varint n) ≤ 5
+unfolding varint
 five_groups n = within_groups 5 n
+
+last_group : (k n : ℕ) → n < 128 → length (varint_within (suc k) n) ≡ 1
+last_group k n lt = by (ltb n 128) refl
+  where
+    by : (t : Bool) → ltb n 128 ≡ t → length (cond t (n ∷ []) ((128 + n % 128) ∷ varint_within k (n / 128))) ≡ 1
+    by true e = refl
+    by false e = absurd (omega (arith, ltb-false n 128 e, lt))
+
+one_more : (k n m : ℕ) → 128 ≤ n → length (varint_within k (n / 128)) ≡ m → length (varint_within (suc k) n) ≡ suc m
+one_more k n m ge h = by (ltb n 128) refl
+  where
+    by : (t : Bool) → ltb n 128 ≡ t → length (cond t (n ∷ []) ((128 + n % 128) ∷ varint_within k (n / 128))) ≡ suc m
+    by true e = absurd (omega (arith, ltb-true n 128 e, ge))
+    by false e = omega (arith, h)
+
+pub one_group : (n : ℕ) → n < 128 → length (varint n) ≡ 1
+unfolding varint
+one_group n lt = last_group 4 n lt
+
+pub two_groups : (n : ℕ) → 128 ≤ n → n < 16384 → length (varint n) ≡ 2
+unfolding varint
+two_groups n ge lt = one_more 4 n 1 ge (last_group 3 (n / 128) (omega (arith, lt)))
+
+pub three_groups : (n : ℕ) → 16384 ≤ n → n < 2097152 → length (varint n) ≡ 3
+unfolding varint
+three_groups n ge lt = one_more 4 n 2 (omega (arith, ge)) (one_more 3 (n / 128) 1 (omega (arith, ge)) (last_group 2 (n / 128 / 128) (omega (arith, lt))))
+
+pub four_groups : (n : ℕ) → 2097152 ≤ n → n < 268435456 → length (varint n) ≡ 4
+unfolding varint
+four_groups n ge lt =
+    one_more 4 n 3 (omega (arith, ge)) (one_more 3 (n / 128) 2 (omega (arith, ge)) (one_more 2 (n / 128 / 128) 1 (omega (arith, ge)) (last_group 1 (n / 128 / 128 / 128) (omega (arith, lt)))))
+
+pub all_groups : (n : ℕ) → 268435456 ≤ n → n < 2 ^ 32 → length (varint n) ≡ 5
+unfolding varint
+all_groups n ge lt =
+    one_more 4 n 4 (omega (arith, ge)) (one_more 3 (n / 128) 3 (omega (arith, ge)) (one_more 2 (n / 128 / 128) 2 (omega (arith, ge))
+    (one_more 1 (n / 128 / 128 / 128) 1 (omega (arith, ge)) (last_group 0 (n / 128 / 128 / 128 / 128) (omega (arith, lt))))))
 
 length_stamp : (z : Option ℤ) → length (stamp_bytes z) ≡ stamp_size z
 length_stamp None = refl

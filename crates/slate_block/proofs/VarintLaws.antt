@@ -55,7 +55,7 @@ spells_within (suc k) n p = by (ltb n 128) refl (spells_within k (n / 128) (omeg
         spells_group (128 + n % 128) (varint_within (suc k) (n / 128)) (n / 128) n (omega arith) (omega arith) (omega arith) (omega arith) rest
 
 pub varint_spells : (n : ℕ) → n < 2 ^ 32 → IsVarint (varint n) n
-unfolding past
+unfolding past varint
 varint_spells n p = (p, spells_within 4 n (omega (arith, p)))
 
 -- ---- and no other

@@ -95,7 +95,6 @@ fn whole_row(
 }
 
 /// The row between two places, and the place behind it. Its key is restored from the other key.
-#[tactic(auto, using(crate::proofs::PlacedLaws::row_placed, crate::proofs::PlacedLaws::no_row_placed))]
 pub fn row_in(
     version: Version,
     alloc: Global,

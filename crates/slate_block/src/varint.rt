@@ -12,7 +12,6 @@ use std::alloc::AllocError;
 const MAX_VARINT_LEN: usize = 5;
 
 /// How many bytes the spelling of a number has: 1 to 5.
-#[tactic(auto, using(crate::proofs::VarintLaws::one_varint))]
 pub fn varint_len(value: u32) -> usize
     ensures value { result ≡ length (varint value) }
     ensures spelling { (text : List ℕ) → IsVarint text value → length text ≡ result }
@@ -39,6 +38,7 @@ pub fn encode_varint(out: &mut Vec<u8>, value: u32) -> Result<(), SlateDBError>
 }
 
 /// The same.
+#[tactic(auto, unfolding(crate::specs::Varint::varint))]
 pub(crate) fn append_varint(out: &mut Vec<u8>, value: u32) -> Result<(), AllocError>
     ensures appended { OnOk result (out.new.items ≡ out.old.items ++ varint value) }
     ensures unchanged { OnErr result (out.new.items ≡ out.old.items) }

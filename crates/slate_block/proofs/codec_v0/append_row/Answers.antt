@@ -1,4 +1,4 @@
-use Rattle.std.proofs.lemmas.Result.{on_err_weaker}
+use Rattle.std.proofs.lemmas.Result.{on_err_weaker, IfOk-from_err}
 use Rattle.slate_block.proofs.Appending.{kept_here, kept_step, on_err}
 use Rattle.slate_block.proofs.codec_v0.append_row.Goals as goal
 
@@ -33,3 +33,15 @@ returns-clause-kept c =
     (kept_step c.extend_from_slice-2.new.self.items _ c.extend_from_slice-3.new.self.items after c.in_ok-extend_from_slice-3.ensures.items
     (kept_step c.extend_from_slice-3.new.self.items _ c.append_meta.new.out.items after c.in_ok-append_meta.ensures.appended kept))))
     c.append_value_v1.ensures.kept
+
+pub returns-in_err-extend_from_slice-clause-appended : goal.returns-in_err-extend_from_slice-clause-appended
+returns-in_err-extend_from_slice-clause-appended c = IfOk-from_err c.from_residual.result _ c.from_residual.ensures.0
+
+pub returns-in_err-extend_from_slice-2-clause-appended : goal.returns-in_err-extend_from_slice-2-clause-appended
+returns-in_err-extend_from_slice-2-clause-appended c = IfOk-from_err c.from_residual-in_err-extend_from_slice-2.result _ c.from_residual-in_err-extend_from_slice-2.ensures.0
+
+pub returns-in_err-extend_from_slice-3-clause-appended : goal.returns-in_err-extend_from_slice-3-clause-appended
+returns-in_err-extend_from_slice-3-clause-appended c = IfOk-from_err c.from_residual-in_err-extend_from_slice-3.result _ c.from_residual-in_err-extend_from_slice-3.ensures.0
+
+pub returns-in_err-append_meta-clause-appended : goal.returns-in_err-append_meta-clause-appended
+returns-in_err-append_meta-clause-appended c = IfOk-from_err c.from_residual-in_err-append_meta.result _ c.from_residual-in_err-append_meta.ensures.0

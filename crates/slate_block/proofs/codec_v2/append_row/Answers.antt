@@ -1,4 +1,4 @@
-use Rattle.std.proofs.lemmas.Result.{on_err_weaker}
+use Rattle.std.proofs.lemmas.Result.{on_err_weaker, IfOk-from_err}
 use Rattle.slate_block.proofs.Appending.{kept_here, kept_step, on_err}
 use Rattle.slate_block.proofs.codec_v2.append_row.Goals as goal
 
@@ -42,3 +42,18 @@ returns-clause-kept c =
     (kept_step c.append_varint-3.new.out.items _ c.extend_from_slice.new.self.items after c.in_ok-extend_from_slice.ensures.items
     (kept_step c.extend_from_slice.new.self.items _ c.extend_from_slice-2.new.self.items after c.in_ok-extend_from_slice-2.ensures.items kept)))))
     c.append_meta.ensures.kept
+
+pub returns-in_err-append_varint-clause-appended : goal.returns-in_err-append_varint-clause-appended
+returns-in_err-append_varint-clause-appended c = IfOk-from_err c.from_residual.result _ c.from_residual.ensures.0
+
+pub returns-in_err-append_varint-2-clause-appended : goal.returns-in_err-append_varint-2-clause-appended
+returns-in_err-append_varint-2-clause-appended c = IfOk-from_err c.from_residual-in_err-append_varint-2.result _ c.from_residual-in_err-append_varint-2.ensures.0
+
+pub returns-in_err-append_varint-3-clause-appended : goal.returns-in_err-append_varint-3-clause-appended
+returns-in_err-append_varint-3-clause-appended c = IfOk-from_err c.from_residual-in_err-append_varint-3.result _ c.from_residual-in_err-append_varint-3.ensures.0
+
+pub returns-in_err-extend_from_slice-clause-appended : goal.returns-in_err-extend_from_slice-clause-appended
+returns-in_err-extend_from_slice-clause-appended c = IfOk-from_err c.from_residual-in_err-extend_from_slice.result _ c.from_residual-in_err-extend_from_slice.ensures.0
+
+pub returns-in_err-extend_from_slice-2-clause-appended : goal.returns-in_err-extend_from_slice-2-clause-appended
+returns-in_err-extend_from_slice-2-clause-appended c = IfOk-from_err c.from_residual-in_err-extend_from_slice-2.result _ c.from_residual-in_err-extend_from_slice-2.ensures.0

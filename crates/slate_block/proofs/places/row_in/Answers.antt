@@ -1,10 +1,12 @@
 use Rattle.std.proofs.Common.{◌≡◌, ℕ, Result, Ok, Err, sym, subst, ◌∙◌, ◌⊎◌, inr}
+use Rattle.std.proofs.lemmas.Result.{IfOk-from_err, err_from_is_err_and}
 use Rattle.std.specs.Prelude.{IfOk, IfErr}
 use Rattle.slate_types.specs.declared.error.SlateDBError.{SlateDBError}
 use Rattle.slate_types.specs.declared.error.SlateDBError.TheVariants.{OutOfMemory}
 use Rattle.slate_types.specs.declared.types.RowEntry.{RowEntry}
 use Rattle.slate_block.specs.PlacedRows.{fields_of, placed, row_in}
-use Rattle.slate_block.proofs.PlacedLaws.{placed_found, placed_cause, placed_refused, row_placed}
+use Rattle.slate_block.proofs.PlacedLaws.{placed_found, placed_cause, placed_refused, row_placed, no_row_refused, place_within, whole_damage}
+use Rattle.slate_block.proofs.GroupSteps.{damage_moved}
 use Rattle.slate_block.proofs.places.row_in.Goals as goal
 use Rattle.slate_block.proofs.places.row_in.Goals.{in-Ok, in-Err}
 
@@ -36,3 +38,24 @@ returns-clause-cause c =
           let read : fields_of a.version bytes ≡ Err w.in-Err.error = cc in
           rw (w.row-is, w.moved.ensures) (inr (here c ∙ placed_refused a.version a.other.now a.from bytes w.in-Err.error read))
     ]
+
+pub moved-requires : goal.moved-requires
+moved-requires c = place_within c.args.from c.in_ok-bytes.bytes c.in-Err.error c.in_ok-bytes.ensures.within (rw c.as_slice.ensures at c.in-Err.ensures.damage)
+
+pub returns-clause-damage : goal.returns-clause-damage
+returns-clause-damage c = elim c.match-fields_of.branch [
+  | in-Ok w ↦ rw w.row-is (whole_damage _ w.whole_row-row.result c.args.from OutOfMemory w.whole_row-row.ensures.cause)
+  | in-Err w ↦ rw (w.row-is, w.moved.ensures) (inr (damage_moved _ c.args.from w.in-Err.error w.in-Err.ensures.damage))
+]
+
+pub returns-in_err-bytes-clause-found : goal.returns-in_err-bytes-clause-found
+returns-in_err-bytes-clause-found c = IfOk-from_err c.from_residual.result _ c.from_residual.ensures.0
+
+pub returns-in_err-bytes-clause-cause : goal.returns-in_err-bytes-clause-cause
+returns-in_err-bytes-clause-cause c =
+    let a = c.args in
+    let p = err_from_is_err_and c.from_residual.result c.from_residual.ensures.1 in
+    rw (p.1, p.2) (no_row_refused a.version a.body.now a.other.now a.from a.upto c.in_err-bytes.field-0.0 OutOfMemory c.in_err-bytes.ensures.cause)
+
+pub returns-in_err-bytes-clause-damage : goal.returns-in_err-bytes-clause-damage
+returns-in_err-bytes-clause-damage c = let p = err_from_is_err_and c.from_residual.result c.from_residual.ensures.1 in rw (p.1, p.2) c.in_err-bytes.ensures.damage

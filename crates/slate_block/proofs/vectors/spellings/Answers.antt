@@ -1,7 +1,9 @@
 use Rattle.std.proofs.Common.{refl, lit<, lit≤, arith}
+use Rattle.slate_block.specs.Varint.{varint}
 use Rattle.slate_block.proofs.vectors.spellings.Goals as goal
 
 pub returns-clause-varints : goal.returns-clause-varints
+unfolding varint
 returns-clause-varints c = (
   refl,
   refl,
@@ -17,6 +19,7 @@ pub returns-clause-row_of_v1 : goal.returns-clause-row_of_v1
 returns-clause-row_of_v1 c = refl
 
 pub returns-clause-row_of_v2 : goal.returns-clause-row_of_v2
+unfolding varint
 returns-clause-row_of_v2 c = refl
 
 pub returns-clause-flags : goal.returns-clause-flags

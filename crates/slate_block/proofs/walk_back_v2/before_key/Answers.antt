@@ -1,5 +1,5 @@
 use Rattle.std.proofs.Common.{◌≡◌, ◌<◌, ◌-◌, ◌∙◌, ℕ, List, take, length, ap, sym, subst, refl, arith}
-use Rattle.std.proofs.lemmas.Result.{err_from_is_err_and}
+use Rattle.std.proofs.lemmas.Result.{err_from_is_err_and, IfOk-from_err}
 use Rattle.std.proofs.lemmas.List.{length-take}
 use Rattle.slate_types.specs.declared.error.SlateDBError.TheVariants.{OutOfMemory}
 use Rattle.slate_types.specs.declared.iter.IterationOrder.TheVariants.{Descending}
@@ -77,3 +77,18 @@ returns-clause-stops c = subst (λ (l : List RowRead). StopsAt Descending c.args
 
 pub returns-clause-read : goal.returns-clause-read
 returns-clause-read c = subst BeginsRead (sym (no_rows_back c.args.body.now c.args.offsets.now 0 c.new.result.items refl c.new.ensures.items)) tt
+
+pub returns-in_err-rows-clause-past : goal.returns-in_err-rows-clause-past
+returns-in_err-rows-clause-past c = IfOk-from_err c.from_residual.result _ c.from_residual.ensures.0
+
+pub returns-in_err-rows-clause-stops : goal.returns-in_err-rows-clause-stops
+returns-in_err-rows-clause-stops c = IfOk-from_err c.from_residual.result _ c.from_residual.ensures.0
+
+pub returns-in_err-rows-clause-read : goal.returns-in_err-rows-clause-read
+returns-in_err-rows-clause-read c = IfOk-from_err c.from_residual.result _ c.from_residual.ensures.0
+
+pub returns-in_err-rows-clause-within : goal.returns-in_err-rows-clause-within
+returns-in_err-rows-clause-within c = IfOk-from_err c.from_residual.result _ c.from_residual.ensures.0
+
+pub returns-in_err-rows-clause-damage : goal.returns-in_err-rows-clause-damage
+returns-in_err-rows-clause-damage c = let p = err_from_is_err_and c.from_residual.result c.from_residual.ensures.1 in rw (p.1, p.2) c.in_err-rows.ensures.damage

@@ -1,5 +1,5 @@
 use Rattle.std.proofs.Common.{◌≡◌, true}
-use Rattle.std.proofs.lemmas.Result.{err_from_is_err_and}
+use Rattle.std.proofs.lemmas.Result.{err_from_is_err_and, IfOk-from_err}
 use Rattle.slate_types.specs.declared.error.SlateDBError.TheVariants.{OutOfMemory}
 use Rattle.slate_types.specs.declared.iter.IterationOrder.TheVariants.{Ascending}
 use Rattle.slate_types.specs.Iteration.{comes_before}
@@ -20,3 +20,12 @@ loop-alloc-preserved c =
     let before : comes_before Ascending c.in_ok-row.row.key c.args.key.now ≡ true = cc in
     let past = next_past Ascending c.args.key.now (reads c.loop-alloc.place) (reads c.in_ok-row.after) c.in_ok-row.row c.in_ok-row.ensures.found before in
     record { past = past_trans Ascending c.args.key.now (reads c.args.place) (reads c.loop-alloc.place) (reads c.in_ok-row.after) c.loop-alloc.invariant.past past }
+
+pub returns-in_err-row-clause-past : goal.returns-in_err-row-clause-past
+returns-in_err-row-clause-past c = IfOk-from_err c.from_residual.result _ c.from_residual.ensures.0
+
+pub returns-in_err-row-clause-stops : goal.returns-in_err-row-clause-stops
+returns-in_err-row-clause-stops c = IfOk-from_err c.from_residual.result _ c.from_residual.ensures.0
+
+pub returns-in_err-row-clause-read : goal.returns-in_err-row-clause-read
+returns-in_err-row-clause-read c = IfOk-from_err c.from_residual.result _ c.from_residual.ensures.0

@@ -1,4 +1,4 @@
-use Rattle.std.proofs.lemmas.Result.{on_err_weaker}
+use Rattle.std.proofs.lemmas.Result.{on_err_weaker, IfOk-from_err}
 use Rattle.slate_block.proofs.Appending.{kept_here, kept_step, on_err}
 use Rattle.slate_block.proofs.writing.append_meta.Goals as goal
 
@@ -26,3 +26,12 @@ returns-clause-kept c =
     (kept_step c.push.new.self.items _ c.append_stamp.new.out.items after c.in_ok-append_stamp.ensures.appended
     (kept_here c.append_stamp.new.out.items after same))))
     c.append_stamp-2.ensures.unchanged
+
+pub returns-in_err-extend_from_slice-clause-appended : goal.returns-in_err-extend_from_slice-clause-appended
+returns-in_err-extend_from_slice-clause-appended c = IfOk-from_err c.from_residual.result _ c.from_residual.ensures.0
+
+pub returns-in_err-push-clause-appended : goal.returns-in_err-push-clause-appended
+returns-in_err-push-clause-appended c = IfOk-from_err c.from_residual-in_err-push.result _ c.from_residual-in_err-push.ensures.0
+
+pub returns-in_err-append_stamp-clause-appended : goal.returns-in_err-append_stamp-clause-appended
+returns-in_err-append_stamp-clause-appended c = IfOk-from_err c.from_residual-in_err-append_stamp.result _ c.from_residual-in_err-append_stamp.ensures.0

@@ -1,5 +1,5 @@
 use Rattle.std.proofs.Common.{◌≡◌, ℕ, Result, Ok, Err, Some, List, min, sym, subst, ap, ◌∙◌, ◌⊎◌, inl, inr}
-use Rattle.std.proofs.lemmas.Result.{err_from_is_err_and}
+use Rattle.std.proofs.lemmas.Result.{err_from_is_err_and, IfOk-from_err}
 use Rattle.slate_types.specs.declared.error.SlateDBError.{SlateDBError}
 use Rattle.slate_types.specs.declared.error.SlateDBError.TheVariants.{OutOfMemory}
 use Rattle.slate_block.specs.RowReading.{refusal}
@@ -53,3 +53,9 @@ returns-clause-found c =
     (subst (λ (b : List ℕ). offsets_from count 0 (min 1 end) end b end ≡ Ok offsets) c.as_slice-2.ensures c.in_ok-offsets.ensures.found) in
     subst (λ (b : List ℕ). IsApart b offsets bytes) (sym c.truncate.ensures)
     (block_takes_apart bytes end offsets (subst (λ (b : List ℕ). IsBytes b) c.as_slice.ensures c.in_ok-end.ensures.bytes) read)
+
+pub returns-in_err-end-clause-found : goal.returns-in_err-end-clause-found
+returns-in_err-end-clause-found c = IfOk-from_err c.from_residual.result _ c.from_residual.ensures.0
+
+pub returns-in_err-offsets-clause-found : goal.returns-in_err-offsets-clause-found
+returns-in_err-offsets-clause-found c = IfOk-from_err c.from_residual-in_err-offsets.result _ c.from_residual-in_err-offsets.ensures.0

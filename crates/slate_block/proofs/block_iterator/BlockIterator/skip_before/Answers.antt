@@ -1,4 +1,5 @@
 use Rattle.std.proofs.Common.{◌-◌, arith, refl, take}
+use Rattle.std.proofs.lemmas.Result.{IfOk-from_err}
 use Rattle.slate_block.specs.BlockWalks.{LastBefore}
 use Rattle.slate_block.proofs.SeekLaws.{last_counted, past_counted, past_none, stops_counted, sought}
 use Rattle.slate_block.proofs.block_iterator.BlockIterator.skip_before.Goals as goal
@@ -34,3 +35,21 @@ returns-clause-stops g c = stops_counted c.args.self.now.order c.args.key.now c.
 
 pub returns-clause-rows : goal.returns-clause-rows
 returns-clause-rows g c = sought c.args.self.now.order c.args.key.now c.args.self.now.reads c.skip.new.self.reads (returns-clause-past g c) (returns-clause-stops g c)
+
+pub returns-in_err-count-clause-past : goal.returns-in_err-count-clause-past
+returns-in_err-count-clause-past g c = IfOk-from_err c.from_residual.result _ c.from_residual.ensures.0
+
+pub returns-in_err-count-clause-stops : goal.returns-in_err-count-clause-stops
+returns-in_err-count-clause-stops g c = IfOk-from_err c.from_residual.result _ c.from_residual.ensures.0
+
+pub returns-in_err-count-clause-rows : goal.returns-in_err-count-clause-rows
+returns-in_err-count-clause-rows g c = λ h. IfOk-from_err c.from_residual.result _ c.from_residual.ensures.0
+
+pub returns-in_err-last-clause-past : goal.returns-in_err-last-clause-past
+returns-in_err-last-clause-past g c = IfOk-from_err c.from_residual-in_err-last.result _ c.from_residual-in_err-last.ensures.0
+
+pub returns-in_err-last-clause-stops : goal.returns-in_err-last-clause-stops
+returns-in_err-last-clause-stops g c = IfOk-from_err c.from_residual-in_err-last.result _ c.from_residual-in_err-last.ensures.0
+
+pub returns-in_err-last-clause-rows : goal.returns-in_err-last-clause-rows
+returns-in_err-last-clause-rows g c = λ h. IfOk-from_err c.from_residual-in_err-last.result _ c.from_residual-in_err-last.ensures.0

@@ -1,6 +1,6 @@
-use Rattle.std.proofs.Common.{◌≡◌, ◌<◌, ◌^◌, ◌∙◌, ◌+◌, true, sym, ap, length, arith, rules}
+use Rattle.std.proofs.Common.{◌≡◌, ◌<◌, ◌^◌, ◌∙◌, ◌+◌, true, sym, ap, length, arith, rules, inr}
 use Rattle.std.proofs.lemmas.Bool.Decides.{nat_tests}
-use Rattle.std.proofs.lemmas.Result.{err_from_is_err_and}
+use Rattle.std.proofs.lemmas.Result.{err_from_is_err_and, IfOk-from_err}
 use Rattle.slate_block.specs.RowSpelling.{FitsStamp}
 use Rattle.slate_block.specs.BlockSpelling.{FitsRow, longest}
 use Rattle.slate_block.specs.Building.{Building, number, front_key, with_row}
@@ -49,3 +49,9 @@ returns-clause-taken c =
     (leaves c.before.before.before.before) (fits_row c.before.before.before.before) (space c.before.before.before.before) c.in_ok-append.ensures.appended
     ∙ ap (λ (b : Building). with_row b c.args.entry) c.self.view_is in
     λ _. search (rules, longer)
+
+pub returns-in_err-append-clause-fits : goal.returns-in_err-append-clause-fits
+returns-in_err-append-clause-fits c = IfOk-from_err c.from_residual.result _ c.from_residual.ensures.0
+
+pub returns-in_err-append-clause-cause : goal.returns-in_err-append-clause-cause
+returns-in_err-append-clause-cause c = let p = err_from_is_err_and c.from_residual.result c.from_residual.ensures.1 in rw (p.1, p.2) (inr c.in_err-append.ensures.cause)

@@ -1,5 +1,5 @@
 use Rattle.std.proofs.Common.{◌≡◌, ℕ, List, Err, inr, ap, sym, subst, ◌∙◌}
-use Rattle.std.proofs.lemmas.Result.{err_from_is_err_and}
+use Rattle.std.proofs.lemmas.Result.{err_from_is_err_and, IfOk-from_err}
 use Rattle.slate_types.specs.declared.error.SlateDBError.TheVariants.{OutOfMemory}
 use Rattle.slate_block.specs.declared.row.SstRowEntry.{SstRowEntry}
 use Rattle.slate_block.specs.Damage.{layout_v1}
@@ -31,3 +31,9 @@ returns-clause-found c =
     let same : entry_of_v1 bytes c.in_ok-key_prefix_len.key_prefix_len f ≡ row = sym (λ i. record { key_prefix_len = c.in_ok-key_prefix_len.key_prefix_len; key_suffix = parts.0 i; seq = f.seq; expire_ts = c.read_expiry.ensures i; create_ts = f.create_ts; value = parts.1 i }) in
     subst (λ (rest : List ℕ). BeginsV1 row bytes rest) (sym c.advance.ensures)
     (begins_v1 bytes (c.in_ok-key_prefix_len.key_prefix_len, f) row (subst (λ (b : List ℕ). IsBytes b) c.as_slice.ensures c.in_ok-key_prefix_len.ensures.bytes) (c.in_ok-key_prefix_len.ensures.value ∙ ap layout_v1 c.as_slice.ensures) same)
+
+pub returns-in_err-key_prefix_len-clause-found : goal.returns-in_err-key_prefix_len-clause-found
+returns-in_err-key_prefix_len-clause-found c = IfOk-from_err c.from_residual.result _ c.from_residual.ensures.0
+
+pub returns-in_err-key_suffix-clause-found : goal.returns-in_err-key_suffix-clause-found
+returns-in_err-key_suffix-clause-found c = IfOk-from_err c.from_residual-in_err-key_suffix.result _ c.from_residual-in_err-key_suffix.ensures.0

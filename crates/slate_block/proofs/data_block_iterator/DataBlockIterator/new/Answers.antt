@@ -1,4 +1,5 @@
 use Rattle.std.proofs.Common.{ℕ, ap, sym, ◌∙◌}
+use Rattle.std.proofs.lemmas.Result.{IfOk-from_err}
 use Rattle.slate_block.specs.Walks.{block_rows}
 use Rattle.slate_block.proofs.EitherLaws.{upwards_read, upwards_read_v2}
 use Rattle.slate_block.proofs.data_block_iterator.DataBlockIterator.new.Goals as goal
@@ -14,3 +15,45 @@ returns-in_ok-new-in-2-clause-upwards g c = λ is.
     let body = g.B.BlockLike.body_bytes c.args.block in
     let offsets = g.B.BlockLike.row_offsets c.args.block in
     upwards_read_v2 c.args.order body offsets c.in_ok-new-in-2.field-0.reads c.in_ok-new-in-2.ensures.reads c.in_ok-new-in-2.ensures.begins is ∙ ap (λ (version : ℕ). block_rows version body offsets) (sym c.in-2.is)
+
+pub returns-in_err-new-in-1-clause-v1 : goal.returns-in_err-new-in-1-clause-v1
+returns-in_err-new-in-1-clause-v1 g c = IfOk-from_err c.from_residual.result _ c.from_residual.ensures.0
+
+pub returns-in_err-new-in-1-clause-v2 : goal.returns-in_err-new-in-1-clause-v2
+returns-in_err-new-in-1-clause-v2 g c = IfOk-from_err c.from_residual.result _ c.from_residual.ensures.0
+
+pub returns-in_err-new-in-1-clause-rows : goal.returns-in_err-new-in-1-clause-rows
+returns-in_err-new-in-1-clause-rows g c = IfOk-from_err c.from_residual.result _ c.from_residual.ensures.0
+
+pub returns-in_err-new-in-1-clause-only : goal.returns-in_err-new-in-1-clause-only
+returns-in_err-new-in-1-clause-only g c = IfOk-from_err c.from_residual.result _ c.from_residual.ensures.0
+
+pub returns-in_err-new-in-1-clause-upwards : goal.returns-in_err-new-in-1-clause-upwards
+returns-in_err-new-in-1-clause-upwards g c = IfOk-from_err c.from_residual.result _ c.from_residual.ensures.0
+
+pub returns-in_err-new-in-1-clause-order : goal.returns-in_err-new-in-1-clause-order
+returns-in_err-new-in-1-clause-order g c = IfOk-from_err c.from_residual.result _ c.from_residual.ensures.0
+
+pub returns-in_err-new-in-1-clause-begins : goal.returns-in_err-new-in-1-clause-begins
+returns-in_err-new-in-1-clause-begins g c = IfOk-from_err c.from_residual.result _ c.from_residual.ensures.0
+
+pub returns-in_err-new-in-2-clause-v1 : goal.returns-in_err-new-in-2-clause-v1
+returns-in_err-new-in-2-clause-v1 g c = IfOk-from_err c.from_residual-in_err-new-in-2.result _ c.from_residual-in_err-new-in-2.ensures.0
+
+pub returns-in_err-new-in-2-clause-v2 : goal.returns-in_err-new-in-2-clause-v2
+returns-in_err-new-in-2-clause-v2 g c = IfOk-from_err c.from_residual-in_err-new-in-2.result _ c.from_residual-in_err-new-in-2.ensures.0
+
+pub returns-in_err-new-in-2-clause-rows : goal.returns-in_err-new-in-2-clause-rows
+returns-in_err-new-in-2-clause-rows g c = IfOk-from_err c.from_residual-in_err-new-in-2.result _ c.from_residual-in_err-new-in-2.ensures.0
+
+pub returns-in_err-new-in-2-clause-only : goal.returns-in_err-new-in-2-clause-only
+returns-in_err-new-in-2-clause-only g c = IfOk-from_err c.from_residual-in_err-new-in-2.result _ c.from_residual-in_err-new-in-2.ensures.0
+
+pub returns-in_err-new-in-2-clause-upwards : goal.returns-in_err-new-in-2-clause-upwards
+returns-in_err-new-in-2-clause-upwards g c = IfOk-from_err c.from_residual-in_err-new-in-2.result _ c.from_residual-in_err-new-in-2.ensures.0
+
+pub returns-in_err-new-in-2-clause-order : goal.returns-in_err-new-in-2-clause-order
+returns-in_err-new-in-2-clause-order g c = IfOk-from_err c.from_residual-in_err-new-in-2.result _ c.from_residual-in_err-new-in-2.ensures.0
+
+pub returns-in_err-new-in-2-clause-begins : goal.returns-in_err-new-in-2-clause-begins
+returns-in_err-new-in-2-clause-begins g c = IfOk-from_err c.from_residual-in_err-new-in-2.result _ c.from_residual-in_err-new-in-2.ensures.0

@@ -1,7 +1,7 @@
 use Rattle.std.proofs.Common.{◌≡◌, ◌⊎◌, ◌+◌, ◌-◌, ◌<◌, [], length, Some, None, Ok, Err, subst, arith, vec_len}
 use Rattle.std.proofs.lemmas.Bool.Decides.{nat_tests}
 use Rattle.std.proofs.lemmas.List.{nil_from_length}
-use Rattle.std.proofs.lemmas.Result.{err_from_is_err_and}
+use Rattle.std.proofs.lemmas.Result.{err_from_is_err_and, IfOk-from_err}
 use Rattle.std.specs.Prelude.{slice_get}
 use Rattle.slate_types.specs.declared.error.SlateDBError.TheVariants.{OutOfMemory}
 use Rattle.slate_block.specs.Walks.{all_ok}
@@ -66,3 +66,12 @@ returns-clause-read g c =
 
 pub returns-clause-rows : goal.returns-clause-rows
 returns-clause-rows g c = step_left c.args.self.now.reads _ c.pop-2.result (returns-clause-read g c)
+
+pub returns-in_err-self-inside-clause-read : goal.returns-in_err-self-inside-clause-read
+returns-in_err-self-inside-clause-read g c = IfOk-from_err c.from_residual.result _ c.from_residual.ensures.0
+
+pub returns-in_err-self-inside-clause-rows : goal.returns-in_err-self-inside-clause-rows
+returns-in_err-self-inside-clause-rows g c = IfOk-from_err c.from_residual.result _ c.from_residual.ensures.0
+
+pub returns-in_err-self-inside-clause-damage : goal.returns-in_err-self-inside-clause-damage
+returns-in_err-self-inside-clause-damage g c = let p = err_from_is_err_and c.from_residual.result c.from_residual.ensures.1 in rw (p.1, p.2) c.in_err-self-inside.ensures.damage

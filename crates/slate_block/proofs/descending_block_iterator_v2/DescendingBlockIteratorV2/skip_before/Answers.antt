@@ -1,6 +1,6 @@
 use Rattle.std.proofs.Common.{◌≡◌, ◌<◌, ◌⊎◌, List, length, take, subst, sym, arith}
 use Rattle.std.proofs.lemmas.List.{length-take}
-use Rattle.std.proofs.lemmas.Result.{err_from_is_err_and}
+use Rattle.std.proofs.lemmas.Result.{err_from_is_err_and, IfOk-from_err}
 use Rattle.slate_types.specs.declared.error.SlateDBError.TheVariants.{OutOfMemory}
 use Rattle.slate_types.specs.declared.iter.IterationOrder.TheVariants.{Descending}
 use Rattle.slate_types.specs.declared.types.RowEntry.{RowEntry}
@@ -86,3 +86,27 @@ returns-clause-rows g c =
     let found = rw (c.body-body.ensures, c.offsets-offsets.ensures) at c.in_ok-groups.ensures.stops in
     let stops : StopsAt c.args.self.now.order c.args.key.now after = subst (λ (w : ReadsLeft). StopsAt w.order c.args.key.now after) c.self.view_is found in
     sought c.args.self.now.order c.args.key.now c.args.self.now.reads after (returns-clause-past g c) stops
+
+pub returns-in_err-upto-clause-past : goal.returns-in_err-upto-clause-past
+returns-in_err-upto-clause-past g c = IfOk-from_err c.from_residual.result _ c.from_residual.ensures.0
+
+pub returns-in_err-upto-clause-stops : goal.returns-in_err-upto-clause-stops
+returns-in_err-upto-clause-stops g c = IfOk-from_err c.from_residual.result _ c.from_residual.ensures.0
+
+pub returns-in_err-upto-clause-read : goal.returns-in_err-upto-clause-read
+returns-in_err-upto-clause-read g c = IfOk-from_err c.from_residual.result _ c.from_residual.ensures.0
+
+pub returns-in_err-upto-clause-rows : goal.returns-in_err-upto-clause-rows
+returns-in_err-upto-clause-rows g c = λ h. IfOk-from_err c.from_residual.result _ c.from_residual.ensures.0
+
+pub returns-in_err-groups-clause-past : goal.returns-in_err-groups-clause-past
+returns-in_err-groups-clause-past g c = IfOk-from_err c.from_residual-in_err-groups.result _ c.from_residual-in_err-groups.ensures.0
+
+pub returns-in_err-groups-clause-stops : goal.returns-in_err-groups-clause-stops
+returns-in_err-groups-clause-stops g c = IfOk-from_err c.from_residual-in_err-groups.result _ c.from_residual-in_err-groups.ensures.0
+
+pub returns-in_err-groups-clause-read : goal.returns-in_err-groups-clause-read
+returns-in_err-groups-clause-read g c = IfOk-from_err c.from_residual-in_err-groups.result _ c.from_residual-in_err-groups.ensures.0
+
+pub returns-in_err-groups-clause-rows : goal.returns-in_err-groups-clause-rows
+returns-in_err-groups-clause-rows g c = λ h. IfOk-from_err c.from_residual-in_err-groups.result _ c.from_residual-in_err-groups.ensures.0

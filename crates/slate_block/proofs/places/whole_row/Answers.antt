@@ -1,0 +1,15 @@
+use Rattle.std.proofs.Common.{inl, refl}
+use Rattle.std.proofs.lemmas.Result.{IfOk-from_err, err_from_is_err_and}
+use Rattle.slate_block.proofs.places.whole_row.Goals as goal
+
+pub returns-in_err-suffix-clause-found : goal.returns-in_err-suffix-clause-found
+returns-in_err-suffix-clause-found c = IfOk-from_err c.from_residual.result _ c.from_residual.ensures.0
+
+pub returns-in_err-suffix-clause-cause : goal.returns-in_err-suffix-clause-cause
+returns-in_err-suffix-clause-cause c = let p = err_from_is_err_and c.from_residual.result c.from_residual.ensures.1 in rw (p.1, p.2) (inl refl)
+
+pub returns-in-Ok-clause-cause : goal.returns-in-Ok-clause-cause
+returns-in-Ok-clause-cause c = tt
+
+pub returns-in-Err-clause-found : goal.returns-in-Err-clause-found
+returns-in-Err-clause-found c = tt
