@@ -13,7 +13,7 @@ use Rattle.std.proofs.lemmas.List.Sums.{sum_by-cons, count_by-le-length}
 use Rattle.std.proofs.lemmas.Option.{slice_get_within, slice_get-get_or, get_or_from_slice_get}
 use Rattle.std.proofs.lemmas.Slice.Eq.{bytes_eq-Decides}
 use Rattle.slate_types.specs.Keys.{key_cmp, key_lt, key_le, is_past_start, is_before_end, in_range, is_refused}
-use Rattle.slate_types.specs.Partitions.{CanHold, IsLeast, IsGreatest, count_below, count_upto, is_key, begins_at, last_of, first_including, covering_start, past, past_unless_at, covering_end}
+use Rattle.slate_types.specs.Partitions.{CanHold, IsLeast, IsGreatest, count_below, count_upto, counts, is_key, begins_at, last_of, first_including, covering_start, past, past_unless_at, covering_end}
 use Rattle.slate_types.specs.Laws.{FirstIncludingIsFirst, LastIncludingIsLast}
 use Rattle.slate_types.proofs.KeyOrder.{same-key, lt-le, not-lt, not-le, le-lt-trans, lt-irreflexive}
 
@@ -103,11 +103,24 @@ rises keys up i j a b h g f =
     let last : get_or keys j a ≡ b = get_or_from_slice_get keys j b a f in
     not-lt b a (sym (ap (λ x. key_lt x a) last) ∙ sym (ap (λ x. key_lt (get_or keys j a) x) first) ∙ far)
 
-pub below-front : (keys : List (List ℕ)) → IsSorted key_cmp keys → (k : List ℕ) → Front (λ first. key_lt first k) keys
+below-front : (keys : List (List ℕ)) → IsSorted key_cmp keys → (k : List ℕ) → Front (λ first. key_lt first k) keys
 below-front keys up k i j a b h g f t = le-lt-trans a b k (rises keys up i j a b h g f) t
 
-pub upto-front : (keys : List (List ℕ)) → IsSorted key_cmp keys → (k : List ℕ) → Front (λ first. key_le first k) keys
+upto-front : (keys : List (List ℕ)) → IsSorted key_cmp keys → (k : List ℕ) → Front (λ first. key_le first k) keys
 upto-front keys up k i j a b h g f t = le-trans a b k (rises keys up i j a b h g f) t
+
+counts-front : (upto : Bool) (keys : List (List ℕ)) → IsSorted key_cmp keys → (k : List ℕ) → Front (λ first. counts upto first k) keys
+counts-front false = below-front
+counts-front true = upto-front
+
+-- up to a first key that counts each one does, and from one on that doesn't none does
+pub counts-before : (upto : Bool) (keys : List (List ℕ)) → IsSorted key_cmp keys → (k : List ℕ) (n : ℕ) (first : List ℕ) → slice_get keys n ≡ Some first → true ≡ counts upto first k
+    → (i : ℕ) (a : List ℕ) → i < n + 1 → slice_get keys i ≡ Some a → counts upto a k ≡ true
+counts-before upto keys up k n first at_n is i a h at_i = counts-front upto keys up k i n a first (omega arith) at_i at_n (sym is)
+
+pub counts-behind : (upto : Bool) (keys : List (List ℕ)) → IsSorted key_cmp keys → (k : List ℕ) (n : ℕ) (first : List ℕ) → slice_get keys n ≡ Some first → false ≡ counts upto first k
+    → (i : ℕ) (a : List ℕ) → n ≤ i → slice_get keys i ≡ Some a → counts upto a k ≡ false
+counts-behind upto keys up k n first at_n is i a h at_i = behind-fails (λ x. counts upto x k) keys (counts-front upto keys up k) n i first a h at_n at_i (sym is)
 
 -- ---- the partitions of a range
 

@@ -3,6 +3,7 @@
 --     CanHold keys i k      partition i can hold the key
 --     IsLeast P o, IsGreatest P o      the least and the greatest number of which P holds, or none where P holds of none
 --     count_below keys k, count_upto keys k      how many first keys are below the key, or not past it
+--     count_to upto keys k      the one of them that counts a first key that is the key, or the other
 --     begins_at keys i k      there is such a partition, and the key is its first
 --     first_including keys k, last_including keys k      the first and the last partition that can hold the key
 --     covering_start keys start, covering_end keys start end      the partitions of the keys between two bounds
@@ -28,6 +29,13 @@ count_below keys k = count_by (λ first. key_lt first k) keys
 
 abbrev pub count_upto : List (List ℕ) → List ℕ → ℕ
 count_upto keys k = count_by (λ first. key_le first k) keys
+
+abbrev pub counts : Bool → List ℕ → List ℕ → Bool
+counts false first k = key_lt first k
+counts true first k = key_le first k
+
+abbrev pub count_to : Bool → List (List ℕ) → List ℕ → ℕ
+count_to upto keys k = count_by (λ first. counts upto first k) keys
 
 abbrev pub is_key : Option (List ℕ) → List ℕ → Bool
 is_key None k = false

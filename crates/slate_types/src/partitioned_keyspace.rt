@@ -58,7 +58,7 @@ pub fn first_partition_including_key<K: RangePartitionedKeySpace>(
 ) -> Option<usize>
     ensures { result ≡ first_including (K.first_keys space.now) key.now }
 {
-    match count_below(space, key).checked_sub(1) {
+    match count_to(space, key, false).checked_sub(1) {
         Some(partition) => Some(partition),
         None => begins_at(space, 0, key).then_some(0),
     }
@@ -82,7 +82,7 @@ pub fn last_partition_including_key<K: RangePartitionedKeySpace>(
 ) -> Option<usize>
     ensures { result ≡ last_including (K.first_keys space.now) key.now }
 {
-    count_upto(space, key).checked_sub(1)
+    count_to(space, key, true).checked_sub(1)
 }
 
 /// Partitions of the keys between two bounds that make a range. Each partition that can hold such a key is
@@ -120,7 +120,7 @@ fn end_covering<K: RangePartitionedKeySpace>(space: &K, first: usize, end: Bound
     ensures { result ≡ covering_end (K.first_keys space.now) first (bound_now end.entry) }
 {
     match end {
-        Bound::Included(key) => match count_upto(space, key) {
+        Bound::Included(key) => match count_to(space, key, true) {
             0 => first,
             count => count,
         },
@@ -133,35 +133,36 @@ fn end_covering<K: RangePartitionedKeySpace>(space: &K, first: usize, end: Bound
 fn end_before<K: RangePartitionedKeySpace>(space: &K, first: usize, key: &[u8]) -> usize
     ensures { result ≡ past_unless_at (K.first_keys space.now) key.now first (last_including (K.first_keys space.now) key.now) }
 {
-    match count_upto(space, key) {
+    match count_to(space, key, true) {
         0 => first,
         count if begins_at(space, count - 1, key) => count - 1,
         count => count,
     }
 }
 
-/// How many first keys are below the key.
-fn count_below<K: RangePartitionedKeySpace>(space: &K, key: &[u8]) -> usize
-    ensures { result ≡ partitions.count_below (K.first_keys space.now) key.now }
+/// How many first keys are below the key, or not past it where `upto` counts a first key that is the key.
+fn count_to<K: RangePartitionedKeySpace>(space: &K, key: &[u8], upto: bool) -> usize
+    ensures { result ≡ partitions.count_to upto (K.first_keys space.now) key.now }
 {
-    partition_point(
-        space,
-        |first| -> bool
-            ensures { result ≡ key_lt first.now key.entry.now }
-        { first.cmp(key).is_lt() },
-    )
+    let mut low = 0;
+    let mut high = space.partitions();
+    while low < high {
+        let middle = low + (high - low) / 2;
+        if counts(space.partition_first_key(middle), key, upto) {
+            low = middle + 1;
+        } else {
+            high = middle;
+        }
+    }
+    low
 }
 
-/// How many first keys are not past the key.
-fn count_upto<K: RangePartitionedKeySpace>(space: &K, key: &[u8]) -> usize
-    ensures { result ≡ partitions.count_upto (K.first_keys space.now) key.now }
+/// Whether a first key is below the key, or not past it where `upto` counts one that is the key.
+fn counts(first: &[u8], key: &[u8], upto: bool) -> bool
+    ensures { result ≡ partitions.counts upto first.now key.now }
 {
-    partition_point(
-        space,
-        |first| -> bool
-            ensures { result ≡ key_le first.now key.entry.now }
-        { first.cmp(key).is_le() },
-    )
+    let order = first.cmp(key);
+    if upto { order.is_le() } else { order.is_lt() }
 }
 
 /// Whether there is such a partition, and the key is its first.
