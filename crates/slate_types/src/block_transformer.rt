@@ -5,17 +5,25 @@ ghost use Rattle.slate_types.specs.Faults.{Rose};
 use crate::error::SlateDBError;
 use bytes::Bytes;
 use std::alloc::{AllocError, AllocFailed, Global};
+use std::fmt::{self, Display, Formatter, Write};
 use thiserror::Error;
 
 /// Why a transformer gives no bytes.
 #[derive(Clone, Copy, Debug, Error)]
 pub enum TransformError {
     /// It failed. Its count of faults has risen.
-    #[error("the block transformer failed")]
     Failed,
     /// Memory is wanting.
-    #[error("out of memory")]
     OutOfMemory,
+}
+
+impl Display for TransformError {
+    fn fmt<W: Write>(&self, f: &mut Formatter<W>) -> fmt::Result {
+        f.write_str(match self {
+            Self::Failed => "the block transformer failed",
+            Self::OutOfMemory => "out of memory",
+        })
+    }
 }
 
 impl From<AllocError> for TransformError {

@@ -6,20 +6,28 @@ ghost use Rattle.slate_types.specs.Fold.{Combine, KeepsShort, merge_all};
 use crate::error::SlateDBError;
 use bytes::Bytes;
 use std::alloc::{AllocError, AllocFailed, Global};
+use std::fmt::{self, Display, Formatter, Write};
 use thiserror::Error;
 
 /// Why an operator gives no value.
 #[derive(Debug, Drop, Error)]
 pub enum MergeOperatorError {
     /// Neither an operand nor a value to merge.
-    #[error("nothing to merge")]
     EmptyBatch,
     /// It failed. Its count of faults has risen.
-    #[error("the merge operator failed: {message:?}")]
     Callback { message: Bytes },
     /// Memory is wanting.
-    #[error("out of memory")]
     OutOfMemory,
+}
+
+impl Display for MergeOperatorError {
+    fn fmt<W: Write>(&self, f: &mut Formatter<W>) -> fmt::Result {
+        match self {
+            Self::EmptyBatch => f.write_str("nothing to merge"),
+            Self::Callback { message } => write!(f, "the merge operator failed: {message:?}"),
+            Self::OutOfMemory => f.write_str("out of memory"),
+        }
+    }
 }
 
 impl From<AllocError> for MergeOperatorError {
