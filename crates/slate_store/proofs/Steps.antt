@@ -1,12 +1,17 @@
 -- What a call of the line reader makes of the bytes that are left, from what its steps do.
 use Rattle.std.proofs.Common.{◌≡◌, ◌+◌, ◌<◌, ◌++◌, ◌∷◌, [], ℕ, List, Option, Some, None, MatchOption, take, drop, length, ap, sym, ◌∙◌, refl, append_assoc, arith, length-append, inl, inr}
-use Rattle.std.specs.Prelude.{IfSome, IfNone}
+use Rattle.std.specs.Prelude.{◌-◌, slice_range, IfSome, IfNone, IsErr, MatchResult, OnErr, Result, Ok, Err}
+use Rattle.std.proofs.lemmas.Bool.{true≢false}
 use Rattle.std.proofs.lemmas.List.{take-append-drop, append-nil}
 use Rattle.slate_store.specs.Lines.{HasNoEnd, LinesModel, GivesLine, IsEnd, KeepsAll, script_limit}
 
 -- what is held behind a piece that was taken
 pub held_taken : (line before read held piece : List ℕ) → line ≡ before → before ≡ held → read ≡ piece → line ++ read ≡ held ++ piece
 held_taken line before read held piece a b c = rw (a, b, c) refl
+
+-- behind a piece that is read, nothing is held but the partial line
+pub held_line : (line items : List ℕ) (s e : ℕ) → s ≡ e → line ++ slice_range items s e ≡ line
+held_line line items s e h = let none : e - s ≡ 0 = omega arith in ap (λ n. line ++ take n (drop s items)) none ∙ append-nil line
 
 -- a piece that was taken is held
 pub keeps_taken : (old mid new : LinesModel) (left more : List ℕ) (n : ℕ) → KeepsAll old left mid more → new.held ≡ mid.held ++ take n more → new.given ≡ mid.given →
@@ -15,6 +20,22 @@ keeps_taken old mid new left more n h e g = record {
   bytes = ap (λ ys. ys ++ drop n more) e ∙ append_assoc mid.held (take n more) (drop n more) ∙ ap (λ ys. mid.held ++ ys) (take-append-drop n more) ∙ h.bytes;
   counts = g ∙ h.counts;
 }
+
+-- what is held is the same
+pub keeps_same : (old mid new : LinesModel) (left rest : List ℕ) → KeepsAll old left mid rest → new.held ≡ mid.held → new.given ≡ mid.given → KeepsAll old left new rest
+keeps_same old mid new left rest h e g = record { bytes = ap (λ ys. ys ++ rest) e ∙ h.bytes; counts = g ∙ h.counts }
+
+-- a refusal says what holds whatever refused
+pub refused : {T E : Type 0} (r : Result T E) (P : T → Type 0) {Q : Type 0} → IsErr r → Q → MatchResult r P (λ _. Q)
+refused (Ok x) P is q = absurd (true≢false (sym is))
+refused (Err e) P is q = q
+
+pub on_err : {T E : Type 0} (r : Result T E) {Q : Type 0} → Q → OnErr r Q
+on_err (Ok x) q = tt
+on_err (Err e) q = q
+
+pub err_is : {T E : Type 0} (r : Result T E) (x y : E) → r ≡ Err x → r ≡ Err y → x ≡ y
+err_is r x y h k = cc
 
 -- a line that was cut out is given
 pub gives_cut : (old mid new : LinesModel) (left rest line : List ℕ) → KeepsAll old left mid rest → HasNoEnd line → mid.held ≡ line ++ (10 ∷ new.held) →

@@ -1,8 +1,11 @@
-use Rattle.std.proofs.Common.{◌≡◌, ◌∙◌, ◌+◌, ◌<◌, ◌++◌, [], ℕ, length, take, drop, arith, length-append, ap, ◌⊎◌, inl, inr, Ok, Err, subst}
-use Rattle.slate_types.specs.declared.error.SlateDBError.TheVariants.{ReadFault}
+use Rattle.std.proofs.Common.{◌≡◌, ◌∙◌, ◌+◌, ◌<◌, ◌++◌, [], ℕ, length, take, drop, arith, length-append, ap, sym, refl, ◌∷◌, ◌⊎◌, inl, inr, Result, Ok, Err, subst}
+use Rattle.slate_types.specs.declared.error.SlateDBError.{SlateDBError}
+use Rattle.slate_types.specs.declared.error.SlateDBError.TheVariants.{OutOfMemory, ReadFault, ScriptTooLong}
+use Rattle.slate_types.specs.Faults.{Rose}
 use Rattle.slate_store.specs.Lines.{script_limit, HasNoEnd}
 use Rattle.slate_store.specs.Held.{held_bytes, model_of, unread}
-use Rattle.slate_store.proofs.Steps.{gives_cut, gives_last, keeps_taken, held_taken}
+use Rattle.std.proofs.lemmas.Result.{err_from_is_err_and, IfOk-from_err}
+use Rattle.slate_store.proofs.Steps.{held_line, err_is, refused, on_err, keeps_same, gives_cut, gives_last, keeps_taken, held_taken}
 use Rattle.slate_store.proofs.lines.Held.next.Goals as goal
 
 unless-fault : {P : Type 0} (n : ℕ) → (Ok n ≡ Err ReadFault) ⊎ P → P
@@ -11,6 +14,12 @@ unless-fault n (inl is) = absurd (clash is)
     clash : Ok n ≡ Err ReadFault → ⊥
     clash h = cc
 unless-fault n (inr is) = is
+
+memory-no-fault : {T : Type 0} (r : Result T SlateDBError) → r ≡ Err OutOfMemory → r ≡ Err ReadFault → ⊥
+memory-no-fault r h k = cc
+
+memory-no-length : {T : Type 0} (r : Result T SlateDBError) → r ≡ Err OutOfMemory → r ≡ Err ScriptTooLong → ⊥
+memory-no-length r h k = cc
 
 pub returns-in-Some-clause-told : goal.returns-in-Some-clause-told
 returns-in-Some-clause-told g c = λ left told.
@@ -54,3 +63,148 @@ loop-line-preserved g c =
       first = λ some. absurd (some (subst HasNoEnd (none.0 ∙ (c.loop-line.invariant.first some).1) c.in_ok-line.ensures.whole.partial));
       still = unless-fault c.in_ok-fill.field-0 c.in_ok-fill.ensures.still ∙ c.loop-line.invariant.still;
     }
+
+pub returns-in_err-line-clause-whole : goal.returns-in_err-line-clause-whole
+returns-in_err-line-clause-whole g c = c.in_err-line.ensures.whole
+
+pub returns-in_err-line-clause-told : goal.returns-in_err-line-clause-told
+returns-in_err-line-clause-told g c = λ left told.
+    let (rest, is, keeps) = c.loop-line.invariant.told left told in
+    let same = c.in_err-line.ensures.err.1 in
+    (rest, is, refused c.from_residual.result _ c.from_residual.ensures.0 (keeps_same (model_of c.args.self.now) (model_of c.loop-line.self) (model_of c.cut.new.self) left rest keeps same (omega (arith, ap length same))))
+
+pub returns-in_err-line-clause-at_once : goal.returns-in_err-line-clause-at_once
+returns-in_err-line-clause-at_once g c = λ some. (c.loop-line.invariant.first some).0
+
+pub returns-in_err-line-clause-further : goal.returns-in_err-line-clause-further
+returns-in_err-line-clause-further g c = IfOk-from_err c.from_residual.result _ c.from_residual.ensures.0
+
+pub returns-in_err-line-clause-counted : goal.returns-in_err-line-clause-counted
+returns-in_err-line-clause-counted g c = IfOk-from_err c.from_residual.result _ c.from_residual.ensures.0
+
+pub returns-in_err-line-clause-kept : goal.returns-in_err-line-clause-kept
+returns-in_err-line-clause-kept g c = on_err c.from_residual.result (omega (arith, ap length c.in_err-line.ensures.err.1))
+
+pub returns-in_err-line-clause-read_fault : goal.returns-in_err-line-clause-read_fault
+returns-in_err-line-clause-read_fault g c = λ e.
+    let p = err_from_is_err_and c.from_residual.result c.from_residual.ensures.1 in
+    absurd (memory-no-fault c.from_residual.result (p.1 ∙ ap Err (p.2 ∙ c.in_err-line.ensures.err.0)) e)
+
+pub returns-in_err-line-clause-too_long : goal.returns-in_err-line-clause-too_long
+returns-in_err-line-clause-too_long g c = λ e.
+    let p = err_from_is_err_and c.from_residual.result c.from_residual.ensures.1 in
+    absurd (memory-no-length c.from_residual.result (p.1 ∙ ap Err (p.2 ∙ c.in_err-line.ensures.err.0)) e)
+
+pub returns-in_err-line-clause-cause : goal.returns-in_err-line-clause-cause
+returns-in_err-line-clause-cause g c =
+    let p = err_from_is_err_and c.from_residual.result c.from_residual.ensures.1 in
+    rw p.1 (inl (p.2 ∙ c.in_err-line.ensures.err.0))
+
+pub returns-in_err-line-clause-later : goal.returns-in_err-line-clause-later
+returns-in_err-line-clause-later g c = omega (arith, c.loop-line.invariant.still)
+
+pub returns-in_err-line-clause-still : goal.returns-in_err-line-clause-still
+returns-in_err-line-clause-still g c = inr c.loop-line.invariant.still
+
+pub returns-in-Some-clause-whole : goal.returns-in-Some-clause-whole
+returns-in-Some-clause-whole g c = c.in_ok-line.ensures.whole
+
+pub returns-in-Some-clause-at_once : goal.returns-in-Some-clause-at_once
+returns-in-Some-clause-at_once g c = λ some. (c.loop-line.invariant.first some).0
+
+pub returns-in-Some-clause-further : goal.returns-in-Some-clause-further
+returns-in-Some-clause-further g c =
+    let line = rw c.in-Some.is at c.in_ok-line.ensures.line in
+    omega (arith, ap length line.1, length-append c.in-Some.line.items (10 ∷ held_bytes c.cut.new.self))
+
+pub returns-in-Some-clause-counted : goal.returns-in-Some-clause-counted
+returns-in-Some-clause-counted g c =
+    let line = rw c.in-Some.is at c.in_ok-line.ensures.line in
+    omega (arith, ap length line.1, length-append c.in-Some.line.items (10 ∷ held_bytes c.cut.new.self))
+
+pub returns-in-Some-clause-read_fault : goal.returns-in-Some-clause-read_fault
+returns-in-Some-clause-read_fault g c = λ e. cc
+
+pub returns-in-Some-clause-too_long : goal.returns-in-Some-clause-too_long
+returns-in-Some-clause-too_long g c = λ e. cc
+
+pub returns-in-Some-clause-later : goal.returns-in-Some-clause-later
+returns-in-Some-clause-later g c = omega (arith, c.loop-line.invariant.still)
+
+pub returns-in-Some-clause-still : goal.returns-in-Some-clause-still
+returns-in-Some-clause-still g c = inr c.loop-line.invariant.still
+
+pub returns-in_err-fill-clause-told : goal.returns-in_err-fill-clause-told
+returns-in_err-fill-clause-told g c = λ left told.
+    let (rest, is, keeps) = c.loop-line.invariant.told left told in
+    let none = rw c.in_default.is at c.in_ok-line.ensures.none in
+    let err = c.in_err-fill.ensures.err in
+    let new = c.fill.new.self in
+    let same : held_bytes new ≡ held_bytes c.loop-line.self = held_line new.line.items new.piece.items new.start new.«end» err.0 ∙ c.in_err-fill.ensures.line ∙ none.0 in
+    (rest, err.2 ∙ is, refused c.from_residual-in_err-fill.result _ c.from_residual-in_err-fill.ensures.0 (keeps_same (model_of c.args.self.now) (model_of c.loop-line.self) (model_of new) left rest keeps same (omega (arith, ap length same, err.1))))
+
+pub returns-in_err-fill-clause-at_once : goal.returns-in_err-fill-clause-at_once
+returns-in_err-fill-clause-at_once g c = λ some.
+    let none = rw c.in_default.is at c.in_ok-line.ensures.none in
+    absurd (some (subst HasNoEnd (none.0 ∙ (c.loop-line.invariant.first some).1) c.in_ok-line.ensures.whole.partial))
+
+pub returns-in_err-fill-clause-further : goal.returns-in_err-fill-clause-further
+returns-in_err-fill-clause-further g c = IfOk-from_err c.from_residual-in_err-fill.result _ c.from_residual-in_err-fill.ensures.0
+
+pub returns-in_err-fill-clause-counted : goal.returns-in_err-fill-clause-counted
+returns-in_err-fill-clause-counted g c = IfOk-from_err c.from_residual-in_err-fill.result _ c.from_residual-in_err-fill.ensures.0
+
+pub returns-in_err-fill-clause-kept : goal.returns-in_err-fill-clause-kept
+returns-in_err-fill-clause-kept g c =
+    let none = rw c.in_default.is at c.in_ok-line.ensures.none in
+    let err = c.in_err-fill.ensures.err in
+    let new = c.fill.new.self in
+    let same : held_bytes new ≡ held_bytes c.loop-line.self = held_line new.line.items new.piece.items new.start new.«end» err.0 ∙ c.in_err-fill.ensures.line ∙ none.0 in
+    on_err c.from_residual-in_err-fill.result (omega (arith, ap length same, err.1))
+
+pub returns-in_err-fill-clause-read_fault : goal.returns-in_err-fill-clause-read_fault
+returns-in_err-fill-clause-read_fault g c = λ e.
+    let p = err_from_is_err_and c.from_residual-in_err-fill.result c.from_residual-in_err-fill.ensures.1 in
+    let fault : c.in_err-fill.field-0.0 ≡ ReadFault = sym p.2 ∙ err_is c.from_residual-in_err-fill.result _ _ p.1 e in
+    let new = c.fill.new.self in (
+      subst (λ n. Rose n (g.R.Source.faults c.fill.new.source)) c.loop-line.invariant.still (c.in_err-fill.ensures.read_fault (ap Err fault)),
+      subst HasNoEnd (sym (held_line new.line.items new.piece.items new.start new.«end» c.in_err-fill.ensures.err.0 ∙ c.in_err-fill.ensures.line)) c.in_ok-line.ensures.whole.partial,
+    )
+
+pub returns-in_err-fill-clause-too_long : goal.returns-in_err-fill-clause-too_long
+returns-in_err-fill-clause-too_long g c = λ e.
+    let p = err_from_is_err_and c.from_residual-in_err-fill.result c.from_residual-in_err-fill.ensures.1 in
+    let long : c.in_err-fill.field-0.0 ≡ ScriptTooLong = sym p.2 ∙ err_is c.from_residual-in_err-fill.result _ _ p.1 e in
+    let new = c.fill.new.self in (
+      c.in_err-fill.ensures.too_long (ap Err long),
+      subst HasNoEnd (sym (held_line new.line.items new.piece.items new.start new.«end» c.in_err-fill.ensures.err.0 ∙ c.in_err-fill.ensures.line)) c.in_ok-line.ensures.whole.partial,
+    )
+
+pub returns-in_err-fill-clause-later : goal.returns-in_err-fill-clause-later
+returns-in_err-fill-clause-later g c = omega (arith, c.loop-line.invariant.still, c.in_err-fill.ensures.later)
+
+fault-or : {F : Type 0} (r : Result ℕ SlateDBError) (x : SlateDBError) (a b d : ℕ) → r ≡ Err x → (r ≡ Err ReadFault) ⊎ (a ≡ b) → (x ≡ ReadFault → F) → b ≡ d → F ⊎ (a ≡ d)
+fault-or r x a b d is (inl h) f e = inl (f (err_is r x ReadFault is h))
+fault-or r x a b d is (inr h) f e = inr (h ∙ e)
+
+pub returns-in_err-fill-clause-still : goal.returns-in_err-fill-clause-still
+returns-in_err-fill-clause-still g c =
+    let p = err_from_is_err_and c.from_residual-in_err-fill.result c.from_residual-in_err-fill.ensures.1 in
+    fault-or (Err c.in_err-fill.field-0.0) _ _ _ _ refl c.in_err-fill.ensures.still (λ h. p.1 ∙ ap Err (p.2 ∙ h)) c.loop-line.invariant.still
+
+pub returns-then-branch-eq0-clause-at_once : goal.returns-then-branch-eq0-clause-at_once
+returns-then-branch-eq0-clause-at_once g c = λ some.
+    let none = rw c.in_default.is at c.in_ok-line.ensures.none in
+    absurd (some (subst HasNoEnd (none.0 ∙ (c.loop-line.invariant.first some).1) c.in_ok-line.ensures.whole.partial))
+
+pub returns-then-branch-eq0-clause-read_fault : goal.returns-then-branch-eq0-clause-read_fault
+returns-then-branch-eq0-clause-read_fault g c = λ e. cc
+
+pub returns-then-branch-eq0-clause-too_long : goal.returns-then-branch-eq0-clause-too_long
+returns-then-branch-eq0-clause-too_long g c = λ e. cc
+
+pub returns-then-branch-eq0-clause-later : goal.returns-then-branch-eq0-clause-later
+returns-then-branch-eq0-clause-later g c = omega (arith, c.loop-line.invariant.still, c.in_ok-fill.ensures.later)
+
+pub returns-then-branch-eq0-clause-still : goal.returns-then-branch-eq0-clause-still
+returns-then-branch-eq0-clause-still g c = inr (unless-fault c.in_ok-fill.field-0 c.in_ok-fill.ensures.still ∙ c.loop-line.invariant.still)
