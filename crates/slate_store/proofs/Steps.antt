@@ -1,5 +1,5 @@
 -- What a call of the line reader makes of the bytes that are left, from what its steps do.
-use Rattle.std.proofs.Common.{◌≡◌, ◌+◌, ◌<◌, ◌++◌, ◌∷◌, [], ℕ, List, Option, Some, None, MatchOption, take, drop, length, ap, sym, ◌∙◌, refl, append_assoc, arith, length-append, inl, inr}
+use Rattle.std.proofs.Common.{◌≡◌, ◌+◌, ◌<◌, ◌≤◌, ◌++◌, ◌∷◌, [], ℕ, List, Option, Some, None, MatchOption, take, drop, length, ap, sym, ◌∙◌, refl, append_assoc, arith, length-append, inl, inr}
 use Rattle.std.specs.Prelude.{◌-◌, slice_range, IfSome, IfNone, IsErr, MatchResult, OnErr, Result, Ok, Err}
 use Rattle.std.proofs.lemmas.Bool.{true≢false}
 use Rattle.std.proofs.lemmas.List.{take-append-drop, append-nil}
@@ -67,3 +67,11 @@ gives_last items (Some l) old mid new left rest h e held counts below some none 
       counts = rw e (omega (arith, length-append new.held [], ap length held, ap length stream, ap length some.0, h.counts));
       below = λ _. below;
     }
+
+pub last_further : {V : Type 0} (items : V → List ℕ) (o : Option V) (held : List ℕ) (before after : ℕ) → before + length held ≡ after → IfSome o (λ l. (items l ≡ held) × (0 < length (items l)) × HasNoEnd (items l)) → IfSome o (λ _. before < after)
+last_further items None held before after e some = tt
+last_further items (Some l) held before after e some = omega (arith, e, ap length some.0, some.1)
+
+pub last_counted : {V : Type 0} (items : V → List ℕ) (o : Option V) (held : List ℕ) (before after : ℕ) → before + length held ≡ after → IfSome o (λ l. (items l ≡ held) × (0 < length (items l)) × HasNoEnd (items l)) → IfSome o (λ l. before + length (items l) ≤ after)
+last_counted items None held before after e some = tt
+last_counted items (Some l) held before after e some = omega (arith, e, ap length some.0)

@@ -5,7 +5,7 @@ use Rattle.slate_types.specs.Faults.{Rose}
 use Rattle.slate_store.specs.Lines.{script_limit, HasNoEnd}
 use Rattle.slate_store.specs.Held.{held_bytes, model_of, unread}
 use Rattle.std.proofs.lemmas.Result.{err_from_is_err_and, IfOk-from_err}
-use Rattle.slate_store.proofs.Steps.{held_line, err_is, refused, on_err, keeps_same, gives_cut, gives_last, keeps_taken, held_taken}
+use Rattle.slate_store.proofs.Steps.{last_further, last_counted, held_line, err_is, refused, on_err, keeps_same, gives_cut, gives_last, keeps_taken, held_taken}
 use Rattle.slate_store.proofs.lines.Held.next.Goals as goal
 
 unless-fault : {P : Type 0} (n : ℕ) → (Ok n ≡ Err ReadFault) ⊎ P → P
@@ -208,3 +208,30 @@ returns-then-branch-eq0-clause-later g c = omega (arith, c.loop-line.invariant.s
 
 pub returns-then-branch-eq0-clause-still : goal.returns-then-branch-eq0-clause-still
 returns-then-branch-eq0-clause-still g c = inr (unless-fault c.in_ok-fill.field-0 c.in_ok-fill.ensures.still ∙ c.loop-line.invariant.still)
+
+pub returns-then-branch-eq0-clause-further : goal.returns-then-branch-eq0-clause-further
+returns-then-branch-eq0-clause-further g c =
+    let none = rw c.in_default.is at c.in_ok-line.ensures.none in
+    let ok = c.in_ok-fill.ensures.ok in
+    let grown : length (held_bytes c.fill.new.self) ≡ length (held_bytes c.loop-line.self) + c.in_ok-fill.field-0
+    = omega (arith, length-append c.fill.new.self.line.items (unread c.fill.new.self), ap length c.in_ok-fill.ensures.line, ap length none.0, ok.0) in
+    last_further (λ v. v.items) c.last.result (held_bytes c.fill.new.self) _ _ (omega (arith, grown, ok.1, ap length c.last.ensures.bytes)) c.last.ensures.line
+
+pub returns-then-branch-eq0-clause-counted : goal.returns-then-branch-eq0-clause-counted
+returns-then-branch-eq0-clause-counted g c =
+    let none = rw c.in_default.is at c.in_ok-line.ensures.none in
+    let ok = c.in_ok-fill.ensures.ok in
+    let grown : length (held_bytes c.fill.new.self) ≡ length (held_bytes c.loop-line.self) + c.in_ok-fill.field-0
+    = omega (arith, length-append c.fill.new.self.line.items (unread c.fill.new.self), ap length c.in_ok-fill.ensures.line, ap length none.0, ok.0) in
+    last_counted (λ v. v.items) c.last.result (held_bytes c.fill.new.self) _ _ (omega (arith, grown, ok.1, ap length c.last.ensures.bytes)) c.last.ensures.line
+
+pub returns-then-branch-eq0-clause-whole : goal.returns-then-branch-eq0-clause-whole
+returns-then-branch-eq0-clause-whole g c = c.last.ensures.whole
+
+pub returns-in_err-fill-clause-whole : goal.returns-in_err-fill-clause-whole
+returns-in_err-fill-clause-whole g c = c.in_err-fill.ensures.whole
+
+pub returns-in_err-fill-clause-cause : goal.returns-in_err-fill-clause-cause
+returns-in_err-fill-clause-cause g c =
+    let p = err_from_is_err_and c.from_residual-in_err-fill.result c.from_residual-in_err-fill.ensures.1 in
+    rw (p.1, p.2) c.in_err-fill.ensures.cause
