@@ -109,18 +109,9 @@ below-front keys up k i j a b h g f t = le-lt-trans a b k (rises keys up i j a b
 upto-front : (keys : List (List ℕ)) → IsSorted key_cmp keys → (k : List ℕ) → Front (λ first. key_le first k) keys
 upto-front keys up k i j a b h g f t = le-trans a b k (rises keys up i j a b h g f) t
 
-counts-front : (upto : Bool) (keys : List (List ℕ)) → IsSorted key_cmp keys → (k : List ℕ) → Front (λ first. counts upto first k) keys
+pub counts-front : (upto : Bool) (keys : List (List ℕ)) → IsSorted key_cmp keys → (k : List ℕ) → Front (λ first. counts upto first k) keys
 counts-front false = below-front
 counts-front true = upto-front
-
--- up to a first key that counts each one does, and from one on that doesn't none does
-pub counts-before : (upto : Bool) (keys : List (List ℕ)) → IsSorted key_cmp keys → (k : List ℕ) (n : ℕ) (first : List ℕ) → slice_get keys n ≡ Some first → true ≡ counts upto first k
-    → (i : ℕ) (a : List ℕ) → i < n + 1 → slice_get keys i ≡ Some a → counts upto a k ≡ true
-counts-before upto keys up k n first at_n is i a h at_i = counts-front upto keys up k i n a first (omega arith) at_i at_n (sym is)
-
-pub counts-behind : (upto : Bool) (keys : List (List ℕ)) → IsSorted key_cmp keys → (k : List ℕ) (n : ℕ) (first : List ℕ) → slice_get keys n ≡ Some first → false ≡ counts upto first k
-    → (i : ℕ) (a : List ℕ) → n ≤ i → slice_get keys i ≡ Some a → counts upto a k ≡ false
-counts-behind upto keys up k n first at_n is i a h at_i = behind-fails (λ x. counts upto x k) keys (counts-front upto keys up k) n i first a h at_n at_i (sym is)
 
 -- ---- the partitions of a range
 

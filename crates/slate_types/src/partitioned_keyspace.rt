@@ -1,7 +1,7 @@
 //! Keys in partitions, as the rows of a table in its blocks, and searches by the partitions' first keys.
 //! Each search reads a number of first keys that grows with the logarithm of the number of partitions.
 ghost use Rattle.std.specs.Prelude.{◌≡◌, ◌<◌, ◌≤◌, ℕ, Bool, true, false, List, length, slice_get, Some, unwrap_or, IsSorted};
-ghost use Rattle.slate_types.specs.Keys.{bound_now, in_range, is_refused, key_cmp, key_le, key_lt};
+ghost use Rattle.slate_types.specs.Keys.{bound_now, in_range, is_refused, key_cmp};
 ghost use Rattle.slate_types.specs.Partitions as partitions;
 ghost use Rattle.slate_types.specs.Partitions.{CanHold, covering_end, covering_start, first_including, last_including, past_unless_at};
 
@@ -144,17 +144,12 @@ fn end_before<K: RangePartitionedKeySpace>(space: &K, first: usize, key: &[u8]) 
 fn count_to<K: RangePartitionedKeySpace>(space: &K, key: &[u8], upto: bool) -> usize
     ensures { result ≡ partitions.count_to upto (K.first_keys space.now) key.now }
 {
-    let mut low = 0;
-    let mut high = space.partitions();
-    while low < high {
-        let middle = low + (high - low) / 2;
-        if counts(space.partition_first_key(middle), key, upto) {
-            low = middle + 1;
-        } else {
-            high = middle;
-        }
-    }
-    low
+    partition_point(
+        space,
+        |first| -> bool
+            ensures { result ≡ partitions.counts upto first.now key.entry.now }
+        { counts(first, key, upto) },
+    )
 }
 
 /// Whether a first key is below the key, or not past it where `upto` counts one that is the key.
