@@ -1,7 +1,7 @@
 use Rattle.std.proofs.Common.{inl, ◌≡◌, ℕ, ◌<◌, ◌⊎◌, ◌++◌, [], length, Err, rules, ap, sym, subst, ◌∙◌, arith}
 use Rattle.std.proofs.lemmas.List.{nil_from_length}
 use Rattle.std.specs.Vec.Iter.{into_iter_items}
-use Rattle.std.proofs.lemmas.Result.{err_from_is_err_and}
+use Rattle.std.proofs.lemmas.Result.{err_from_is_err_and, IfOk-from_err}
 use Rattle.slate_table.specs.Parts.{Encode}
 use Rattle.slate_table.specs.SectionReading.{changed_by, IsTransformFault}
 use Rattle.slate_table.specs.InfoReading.{seen_info}
@@ -106,3 +106,21 @@ returns-clause-built g c =
 
 pub returns-clause-info : goal.returns-clause-info
 returns-clause-info g c = if_ok c.build.result _ _ (λ table h. subst (λ (n : ℕ). HasInfo table.bytes n (seen_info table.info)) c.loop-row.invariant.version h) c.build.ensures.info
+
+pub returns-in_err-builder-clause-built : goal.returns-in_err-builder-clause-built
+returns-in_err-builder-clause-built g c = IfOk-from_err c.from_residual.result _ c.from_residual.ensures.0
+
+pub returns-in_err-builder-clause-version : goal.returns-in_err-builder-clause-version
+returns-in_err-builder-clause-version g c = IfOk-from_err c.from_residual.result _ c.from_residual.ensures.0
+
+pub returns-in_err-builder-clause-info : goal.returns-in_err-builder-clause-info
+returns-in_err-builder-clause-info g c = IfOk-from_err c.from_residual.result _ c.from_residual.ensures.0
+
+pub returns-in_err-add-clause-built : goal.returns-in_err-add-clause-built
+returns-in_err-add-clause-built g c = IfOk-from_err c.from_residual-in_err-add.result _ c.from_residual-in_err-add.ensures.0
+
+pub returns-in_err-add-clause-version : goal.returns-in_err-add-clause-version
+returns-in_err-add-clause-version g c = IfOk-from_err c.from_residual-in_err-add.result _ c.from_residual-in_err-add.ensures.0
+
+pub returns-in_err-add-clause-info : goal.returns-in_err-add-clause-info
+returns-in_err-add-clause-info g c = IfOk-from_err c.from_residual-in_err-add.result _ c.from_residual-in_err-add.ensures.0

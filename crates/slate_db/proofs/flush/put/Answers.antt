@@ -1,5 +1,5 @@
 use Rattle.std.proofs.Common.{ℕ, List, inr}
-use Rattle.std.proofs.lemmas.Result.{err_from_is_err_and}
+use Rattle.std.proofs.lemmas.Result.{err_from_is_err_and, IfOk-from_err}
 use Rattle.slate_types.specs.declared.types.Ulid.{Ulid}
 use Rattle.slate_db.specs.Flushed.{IsTableOfFlush}
 use Rattle.slate_db.proofs.Built.{takes, may_take, may_keep, handle_of}
@@ -29,3 +29,9 @@ pub returns-in_err-tables-clause-refused : goal.returns-in_err-tables-clause-ref
 returns-in_err-tables-clause-refused g c encode layout number barrier layers is =
     let p = err_from_is_err_and c.from_residual.result c.from_residual.ensures.1 in
     rw p.1 (may_keep _ _ _ (λ i. g.S.Store.objects c.args.store.now))
+
+pub returns-in_err-tables-clause-acts : goal.returns-in_err-tables-clause-acts
+returns-in_err-tables-clause-acts g c = IfOk-from_err c.from_residual.result _ c.from_residual.ensures.0
+
+pub returns-in_err-handle-clause-acts : goal.returns-in_err-handle-clause-acts
+returns-in_err-handle-clause-acts g c = IfOk-from_err c.from_residual-in_err-handle.result _ c.from_residual-in_err-handle.ensures.0

@@ -1,4 +1,5 @@
 use Rattle.std.proofs.Common.{◌*◌, ◌^◌, map, inl, arith}
+use Rattle.std.proofs.lemmas.Result.{IfOk-from_err}
 use Rattle.slate_table.specs.SectionReading.{changed_by}
 use Rattle.slate_db.specs.Flushed.{IsTableOfFlush, layout_of}
 use Rattle.slate_db.proofs.Blocks.{if_err}
@@ -26,3 +27,15 @@ returns-clause-refused g c =
 
 pub returns-clause-cause : goal.returns-clause-cause
 returns-clause-cause g c = if_err c.put-kept.result _ _ (λ e h. inl h) c.put-kept.ensures.cause
+
+pub returns-in_err-rows-clause-stored : goal.returns-in_err-rows-clause-stored
+returns-in_err-rows-clause-stored g c = IfOk-from_err c.from_residual.result _ c.from_residual.ensures.0
+
+pub returns-in_err-rows-clause-acts : goal.returns-in_err-rows-clause-acts
+returns-in_err-rows-clause-acts g c = IfOk-from_err c.from_residual.result _ c.from_residual.ensures.0
+
+pub returns-in_err-table-clause-stored : goal.returns-in_err-table-clause-stored
+returns-in_err-table-clause-stored g c = IfOk-from_err c.from_residual-in_err-table.result _ c.from_residual-in_err-table.ensures.0
+
+pub returns-in_err-table-clause-acts : goal.returns-in_err-table-clause-acts
+returns-in_err-table-clause-acts g c = IfOk-from_err c.from_residual-in_err-table.result _ c.from_residual-in_err-table.ensures.0

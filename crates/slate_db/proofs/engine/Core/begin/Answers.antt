@@ -1,4 +1,5 @@
 use Rattle.std.proofs.Common.{◌≡◌, ℕ, List, ◌+◌, ◌++◌, ◌∷◌, [], length, refl, ap, sym, subst, ◌∙◌, arith, length-append}
+use Rattle.std.proofs.lemmas.Result.{IfOk-from_err}
 use Rattle.std.specs.BTreeMap.{insert_entry}
 use Rattle.slate_types.specs.Keys.{key_cmp}
 use Rattle.slate_txn.specs.declared.event.Event.TheVariants as events
@@ -88,3 +89,12 @@ invariant_of-self-in-Err c = subst (λ (v : CoreModel). IsWhole v c.self.inside.
 
 pub returns-in-Err-clause-same : goal.returns-in-Err-clause-same
 returns-in-Err-clause-same c = sym (stays c) ∙ c.self.view_is
+
+pub returns-in_err-open_at-clause-step : goal.returns-in_err-open_at-clause-step
+returns-in_err-open_at-clause-step c = IfOk-from_err c.from_residual.result _ c.from_residual.ensures.0
+
+pub returns-in_err-open_at-clause-event : goal.returns-in_err-open_at-clause-event
+returns-in_err-open_at-clause-event c = IfOk-from_err c.from_residual.result _ c.from_residual.ensures.0
+
+pub returns-in_err-open_at-clause-kept : goal.returns-in_err-open_at-clause-kept
+returns-in_err-open_at-clause-kept c = IfOk-from_err c.from_residual.result _ c.from_residual.ensures.0

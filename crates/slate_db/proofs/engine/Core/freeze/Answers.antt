@@ -1,4 +1,5 @@
 use Rattle.std.proofs.Common.{◌≡◌, ◌++◌, ◌∷◌, [], map, refl, ap, sym, subst, ◌∙◌, arith, inr, true, false}
+use Rattle.std.proofs.lemmas.Result.{IfOk-from_err}
 use Rattle.std.specs.Prelude.{Result, Ok, Err}
 use Rattle.std.proofs.lemmas.List.{map-append}
 use Rattle.slate_types.specs.declared.error.SlateDBError.{SlateDBError}
@@ -69,3 +70,39 @@ pub returns-clause-kept : goal.returns-clause-kept
 returns-clause-kept c m k =
     subst (λ (v : CoreModel). IsKept m v) (becomes c)
     (kept_freeze m (view_of c.self.inside) c.push_reserved-2.new.self.spare (subst (λ (v : CoreModel). IsKept m v) (sym c.self.view_is) k))
+
+pub returns-in_err-reserve-clause-step : goal.returns-in_err-reserve-clause-step
+returns-in_err-reserve-clause-step c = IfOk-from_err c.from_residual.result _ c.from_residual.ensures.0
+
+pub returns-in_err-reserve-clause-event : goal.returns-in_err-reserve-clause-event
+returns-in_err-reserve-clause-event c = IfOk-from_err c.from_residual.result _ c.from_residual.ensures.0
+
+pub returns-in_err-reserve-clause-quiet : goal.returns-in_err-reserve-clause-quiet
+returns-in_err-reserve-clause-quiet c = IfOk-from_err c.from_residual.result _ c.from_residual.ensures.0
+
+pub returns-in_err-reserve-clause-kept : goal.returns-in_err-reserve-clause-kept
+returns-in_err-reserve-clause-kept c = IfOk-from_err c.from_residual.result _ c.from_residual.ensures.0
+
+pub returns-in_err-reserve-2-clause-step : goal.returns-in_err-reserve-2-clause-step
+returns-in_err-reserve-2-clause-step c = IfOk-from_err c.from_residual-in_err-reserve-2.result _ c.from_residual-in_err-reserve-2.ensures.0
+
+pub returns-in_err-reserve-2-clause-event : goal.returns-in_err-reserve-2-clause-event
+returns-in_err-reserve-2-clause-event c = IfOk-from_err c.from_residual-in_err-reserve-2.result _ c.from_residual-in_err-reserve-2.ensures.0
+
+pub returns-in_err-reserve-2-clause-quiet : goal.returns-in_err-reserve-2-clause-quiet
+returns-in_err-reserve-2-clause-quiet c = IfOk-from_err c.from_residual-in_err-reserve-2.result _ c.from_residual-in_err-reserve-2.ensures.0
+
+pub returns-in_err-reserve-2-clause-kept : goal.returns-in_err-reserve-2-clause-kept
+returns-in_err-reserve-2-clause-kept c = IfOk-from_err c.from_residual-in_err-reserve-2.result _ c.from_residual-in_err-reserve-2.ensures.0
+
+pub returns-in_err-table-clause-step : goal.returns-in_err-table-clause-step
+returns-in_err-table-clause-step c = IfOk-from_err c.from_residual-in_err-table.result _ c.from_residual-in_err-table.ensures.0
+
+pub returns-in_err-table-clause-event : goal.returns-in_err-table-clause-event
+returns-in_err-table-clause-event c = IfOk-from_err c.from_residual-in_err-table.result _ c.from_residual-in_err-table.ensures.0
+
+pub returns-in_err-table-clause-quiet : goal.returns-in_err-table-clause-quiet
+returns-in_err-table-clause-quiet c = IfOk-from_err c.from_residual-in_err-table.result _ c.from_residual-in_err-table.ensures.0
+
+pub returns-in_err-table-clause-kept : goal.returns-in_err-table-clause-kept
+returns-in_err-table-clause-kept c = IfOk-from_err c.from_residual-in_err-table.result _ c.from_residual-in_err-table.ensures.0

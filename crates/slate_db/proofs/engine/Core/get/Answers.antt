@@ -1,4 +1,5 @@
 use Rattle.std.proofs.Common.{inl, inr, ◌≡◌, ℕ, ◌≤◌, List, [], ◌∷◌, ◌++◌, map, Option, Some, unwrap_or, option_map, refl, ap, sym, subst, ◌∙◌, append-nil}
+use Rattle.std.proofs.lemmas.Result.{IfOk-from_err}
 use Rattle.std.specs.Prelude.{IfSome}
 use Rattle.slate_types.specs.Fold.{fold_rows}
 use Rattle.slate_mem.specs.Batch.{Ops, kept}
@@ -126,3 +127,6 @@ returns-clause-kept g c m kept_m =
 
 pub returns-clause-settings : goal.returns-clause-settings
 returns-clause-settings g c = ap (λ (v : CoreModel). v.settings) c.self.view_is
+
+pub returns-in_err-key-clause-noted : goal.returns-in_err-key-clause-noted
+returns-in_err-key-clause-noted g c = IfOk-from_err c.from_residual.result _ c.from_residual.ensures.0

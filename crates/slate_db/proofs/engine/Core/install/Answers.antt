@@ -1,5 +1,5 @@
 use Rattle.std.proofs.Common.{◌≡◌, ℕ, ◌+◌, ◌<◌, ◌++◌, ◌∷◌, [], List, map, length, refl, ap, sym, subst, ◌∙◌, arith}
-use Rattle.std.proofs.lemmas.Result.{err_from_is_err_and}
+use Rattle.std.proofs.lemmas.Result.{err_from_is_err_and, IfOk-from_err}
 use Rattle.slate_types.specs.declared.types.Ulid.{Ulid}
 use Rattle.slate_table.specs.declared.info.SsTableHandle.{SsTableHandle}
 use Rattle.slate_table.specs.Parts.{Encode}
@@ -147,3 +147,48 @@ returns-in_err-reserve-clause-kept g c m same k =
     (same_model (record (view_of c.self.inside) { spare = c.reserve_events.new.journal.spare }) (view_of (record c.self.inside { journal = c.reserve_events.new.journal; tables = c.reserve.new.self })) refl
     (ap (λ es. (replay es).commits) (sym c.reserve_events.ensures.events)) refl refl refl refl (sym c.reserve_events.ensures.events) refl refl refl refl)
     (kept_event m (view_of c.self.inside) (view_of c.self.inside).state c.self.inside.journal.events c.reserve_events.new.journal.spare refl refl refl (subst (λ (v : CoreModel). IsKept m v) (sym c.self.view_is) k))
+
+pub returns-in_err-reserve_events-clause-newest : goal.returns-in_err-reserve_events-clause-newest
+returns-in_err-reserve_events-clause-newest g c = IfOk-from_err c.from_residual.result _ c.from_residual.ensures.0
+
+pub returns-in_err-reserve_events-clause-installed : goal.returns-in_err-reserve_events-clause-installed
+returns-in_err-reserve_events-clause-installed g c = IfOk-from_err c.from_residual.result _ c.from_residual.ensures.0
+
+pub returns-in_err-reserve_events-clause-flushed : goal.returns-in_err-reserve_events-clause-flushed
+returns-in_err-reserve_events-clause-flushed g c = IfOk-from_err c.from_residual.result _ c.from_residual.ensures.0
+
+pub returns-in_err-reserve_events-clause-acts : goal.returns-in_err-reserve_events-clause-acts
+returns-in_err-reserve_events-clause-acts g c = IfOk-from_err c.from_residual.result _ c.from_residual.ensures.0
+
+pub returns-in_err-reserve_events-clause-taken : goal.returns-in_err-reserve_events-clause-taken
+returns-in_err-reserve_events-clause-taken g c = IfOk-from_err c.from_residual.result _ c.from_residual.ensures.0
+
+pub returns-in_err-reserve-clause-newest : goal.returns-in_err-reserve-clause-newest
+returns-in_err-reserve-clause-newest g c = IfOk-from_err c.from_residual-in_err-reserve.result _ c.from_residual-in_err-reserve.ensures.0
+
+pub returns-in_err-reserve-clause-installed : goal.returns-in_err-reserve-clause-installed
+returns-in_err-reserve-clause-installed g c = IfOk-from_err c.from_residual-in_err-reserve.result _ c.from_residual-in_err-reserve.ensures.0
+
+pub returns-in_err-reserve-clause-flushed : goal.returns-in_err-reserve-clause-flushed
+returns-in_err-reserve-clause-flushed g c = IfOk-from_err c.from_residual-in_err-reserve.result _ c.from_residual-in_err-reserve.ensures.0
+
+pub returns-in_err-reserve-clause-acts : goal.returns-in_err-reserve-clause-acts
+returns-in_err-reserve-clause-acts g c = IfOk-from_err c.from_residual-in_err-reserve.result _ c.from_residual-in_err-reserve.ensures.0
+
+pub returns-in_err-reserve-clause-taken : goal.returns-in_err-reserve-clause-taken
+returns-in_err-reserve-clause-taken g c = IfOk-from_err c.from_residual-in_err-reserve.result _ c.from_residual-in_err-reserve.ensures.0
+
+pub returns-in_err-put-clause-newest : goal.returns-in_err-put-clause-newest
+returns-in_err-put-clause-newest g c = IfOk-from_err c.from_residual-in_err-put.result _ c.from_residual-in_err-put.ensures.0
+
+pub returns-in_err-put-clause-installed : goal.returns-in_err-put-clause-installed
+returns-in_err-put-clause-installed g c = IfOk-from_err c.from_residual-in_err-put.result _ c.from_residual-in_err-put.ensures.0
+
+pub returns-in_err-put-clause-flushed : goal.returns-in_err-put-clause-flushed
+returns-in_err-put-clause-flushed g c = IfOk-from_err c.from_residual-in_err-put.result _ c.from_residual-in_err-put.ensures.0
+
+pub returns-in_err-put-clause-acts : goal.returns-in_err-put-clause-acts
+returns-in_err-put-clause-acts g c = IfOk-from_err c.from_residual-in_err-put.result _ c.from_residual-in_err-put.ensures.0
+
+pub returns-in_err-put-clause-taken : goal.returns-in_err-put-clause-taken
+returns-in_err-put-clause-taken g c = IfOk-from_err c.from_residual-in_err-put.result _ c.from_residual-in_err-put.ensures.0

@@ -1,4 +1,5 @@
 use Rattle.std.proofs.Common.{◌≡◌, ℕ, ◌+◌, ◌-◌, ◌^◌, ◌<◌, ◌≤◌, ◌++◌, ◌∷◌, [], List, Some, refl, ap, sym, subst, ◌∙◌, arith, inr, true, false, w64, option_to_list}
+use Rattle.std.proofs.lemmas.Result.{IfOk-from_err}
 use Rattle.std.specs.Prelude.{sum_by}
 use Rattle.std.specs.List.{AllByRecursion}
 use Rattle.std.proofs.lemmas.Int.{to_z-of_z}
@@ -122,3 +123,39 @@ returns-clause-load c ops of =
   where
     plain : List ℕ → Combine
     plain k = λ e v. v
+
+pub returns-in_err-reserve_events-clause-step : goal.returns-in_err-reserve_events-clause-step
+returns-in_err-reserve_events-clause-step c = IfOk-from_err c.from_residual.result _ c.from_residual.ensures.0
+
+pub returns-in_err-reserve_events-clause-event : goal.returns-in_err-reserve_events-clause-event
+returns-in_err-reserve_events-clause-event c = IfOk-from_err c.from_residual.result _ c.from_residual.ensures.0
+
+pub returns-in_err-reserve_events-clause-kept : goal.returns-in_err-reserve_events-clause-kept
+returns-in_err-reserve_events-clause-kept c = IfOk-from_err c.from_residual.result _ c.from_residual.ensures.0
+
+pub returns-in_err-rows-clause-step : goal.returns-in_err-rows-clause-step
+returns-in_err-rows-clause-step c = IfOk-from_err c.from_residual-in_err-rows.result _ c.from_residual-in_err-rows.ensures.0
+
+pub returns-in_err-rows-clause-event : goal.returns-in_err-rows-clause-event
+returns-in_err-rows-clause-event c = IfOk-from_err c.from_residual-in_err-rows.result _ c.from_residual-in_err-rows.ensures.0
+
+pub returns-in_err-rows-clause-kept : goal.returns-in_err-rows-clause-kept
+returns-in_err-rows-clause-kept c = IfOk-from_err c.from_residual-in_err-rows.result _ c.from_residual-in_err-rows.ensures.0
+
+pub returns-in_err-ops-clause-step : goal.returns-in_err-ops-clause-step
+returns-in_err-ops-clause-step c = IfOk-from_err c.from_residual-in_err-ops.result _ c.from_residual-in_err-ops.ensures.0
+
+pub returns-in_err-ops-clause-event : goal.returns-in_err-ops-clause-event
+returns-in_err-ops-clause-event c = IfOk-from_err c.from_residual-in_err-ops.result _ c.from_residual-in_err-ops.ensures.0
+
+pub returns-in_err-ops-clause-kept : goal.returns-in_err-ops-clause-kept
+returns-in_err-ops-clause-kept c = IfOk-from_err c.from_residual-in_err-ops.result _ c.from_residual-in_err-ops.ensures.0
+
+pub returns-in_err-put_all-clause-step : goal.returns-in_err-put_all-clause-step
+returns-in_err-put_all-clause-step c = IfOk-from_err c.from_residual-in_err-put_all.result _ c.from_residual-in_err-put_all.ensures.0
+
+pub returns-in_err-put_all-clause-event : goal.returns-in_err-put_all-clause-event
+returns-in_err-put_all-clause-event c = IfOk-from_err c.from_residual-in_err-put_all.result _ c.from_residual-in_err-put_all.ensures.0
+
+pub returns-in_err-put_all-clause-kept : goal.returns-in_err-put_all-clause-kept
+returns-in_err-put_all-clause-kept c = IfOk-from_err c.from_residual-in_err-put_all.result _ c.from_residual-in_err-put_all.ensures.0
