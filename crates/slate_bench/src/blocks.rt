@@ -4,7 +4,6 @@ ghost use Rattle.slate_block.specs.Building.{CanTake};
 
 use crate::report::{Report, name_of};
 use crate::sums::Sums;
-use anyhow::Error;
 use bytes::Bytes;
 use slate_block::{Block, BlockBuilder};
 use slate_types::{RowEntry, SlateDBError};
@@ -21,12 +20,16 @@ const MAX_KEY_LEN: usize = 65535;
 const MAX_VALUE_LEN: usize = 4_294_967_295;
 
 /// Encodes the rows into blocks and decodes these, and reports both. `version` is 1 or 2.
-pub fn measure(report: &Report, rows: &[RowEntry], version: u16) -> Result<(), Error> {
+pub fn measure(report: &Report, rows: &[RowEntry], version: u16) -> Result<(), SlateDBError> {
     let blocks = measure_encoding(report, rows, version)?;
     measure_decoding(report, &blocks, version)
 }
 
-fn measure_encoding(report: &Report, rows: &[RowEntry], version: u16) -> Result<Vec<Bytes>, Error> {
+fn measure_encoding(
+    report: &Report,
+    rows: &[RowEntry],
+    version: u16,
+) -> Result<Vec<Bytes>, SlateDBError> {
     let start = report.start()?;
     let blocks = encode_blocks(report.alloc(), rows, version)?;
     let done = counts(report.alloc(), rows.len(), &blocks);
@@ -34,7 +37,7 @@ fn measure_encoding(report: &Report, rows: &[RowEntry], version: u16) -> Result<
     Ok(blocks)
 }
 
-fn measure_decoding(report: &Report, blocks: &[Bytes], version: u16) -> Result<(), Error> {
+fn measure_decoding(report: &Report, blocks: &[Bytes], version: u16) -> Result<(), SlateDBError> {
     let start = report.start()?;
     let done = decode_blocks(report.alloc(), blocks, version);
     report.finish(name_of(version, "decode v1", "decode v2"), done, start)

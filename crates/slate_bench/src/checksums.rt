@@ -1,6 +1,5 @@
 //! The checksum of many bytes.
 use crate::report::Report;
-use anyhow::Error;
 use slate_table::checksum;
 use slate_types::SlateDBError;
 use std::alloc::Global;
@@ -12,7 +11,7 @@ const BYTES: u32 = 4_194_304;
 const TIMES: u32 = 64;
 
 /// Bytes of all values.
-fn make_bytes(alloc: Global) -> Result<Vec<u8>, Error> {
+fn make_bytes(alloc: Global) -> Result<Vec<u8>, SlateDBError> {
     let mut bytes = Vec::with_capacity(alloc, BYTES as usize)?;
     for number in 0..BYTES {
         bytes.push((number % 251) as u8)?;
@@ -21,7 +20,7 @@ fn make_bytes(alloc: Global) -> Result<Vec<u8>, Error> {
 }
 
 /// Sums the bytes again and again. Reports it.
-pub fn measure(report: &Report) -> Result<(), Error> {
+pub fn measure(report: &Report) -> Result<(), SlateDBError> {
     let mut bytes = make_bytes(report.alloc())?;
     let start = report.start()?;
     let done = sum(report.alloc(), &mut bytes);

@@ -1,6 +1,5 @@
 //! Tables that are put into a folder again and again, while something else reads it.
 use crate::tables;
-use anyhow::Error;
 use slate_store::{FileStore, Store};
 use slate_table::{EncodedSsTable, TableStore};
 use slate_types::{RowEntry, SlateDBError, Ulid};
@@ -10,7 +9,7 @@ use std::alloc::Global;
 const TIMES: u32 = 200;
 
 /// Puts two tables of unlike lengths below the folder: each alone, with the ids 2 and 3, and then both in turn with the id 1.
-pub fn write(rt: &HostRuntime, folder: &str, rows: &[RowEntry]) -> Result<(), Error> {
+pub fn write(rt: &HostRuntime, folder: &str, rows: &[RowEntry]) -> Result<(), SlateDBError> {
     let mut store = FileStore::new(rt.alloc(), rt, folder)?;
     let put = put_both(rt.alloc(), &mut store, rows);
     drop(store);

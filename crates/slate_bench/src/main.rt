@@ -13,49 +13,57 @@ mod sums;
 mod tables;
 
 use report::Report;
-use slate_types::RowEntry;
+use slate_types::{RowEntry, SlateDBError};
 use std::env;
 use std::process::ExitCode;
 
 /// How many rows a table has.
 const TABLE_ROWS: usize = 100_000;
 
-fn main(rt: HostRuntime) -> Result<ExitCode, anyhow::Error> {
+fn main(rt: HostRuntime) -> Result<ExitCode, SlateDBError> {
     Ok(ExitCode::from(status(&rt)?))
 }
 
 /// The status: 0, or 2 for words that are not known.
-fn status(rt: &HostRuntime) -> Result<u8, anyhow::Error> {
-    let words: Result<Vec<String>, _> = env::args(rt)?.skip(1).collect(rt.alloc());
+fn status(rt: &HostRuntime) -> Result<u8, SlateDBError> {
+    let words = env::args(rt).map_err(report::fault)?;
+    let words: Result<Vec<String>, _> = words.skip(1).collect(rt.alloc());
     obey(rt, words?.as_slice())
 }
 
 /// Does what the words ask for, and answers the status.
-fn obey(rt: &HostRuntime, words: &[String]) -> Result<u8, anyhow::Error> {
+fn obey(rt: &HostRuntime, words: &[String]) -> Result<u8, SlateDBError> {
     match words {
         [] => measure(rt, false),
-        [word] if word.as_str() == "time" => measure(rt, true),
+        [word] => obey_word(rt, word.as_str()),
         [word, folder] if word.as_str() == "write" => write(rt, folder),
-        [word] if word.as_str() == "--version" => {
-            println!(rt; "slate_bench 0.1.0")?;
-            Ok(0)
-        }
         _ => Ok(2),
     }
 }
 
-fn write(rt: &HostRuntime, folder: &str) -> Result<u8, anyhow::Error> {
+fn obey_word(rt: &HostRuntime, word: &str) -> Result<u8, SlateDBError> {
+    if word == "time" {
+        return measure(rt, true);
+    }
+    if word == "--version" {
+        println!(rt; "slate_bench 0.1.0").map_err(report::fault)?;
+        return Ok(0);
+    }
+    Ok(2)
+}
+
+fn write(rt: &HostRuntime, folder: &str) -> Result<u8, SlateDBError> {
     folder::write(rt, folder, &rows::make_rows(rt.alloc())?)?;
     Ok(0)
 }
 
-fn measure(rt: &HostRuntime, is_timed: bool) -> Result<u8, anyhow::Error> {
+fn measure(rt: &HostRuntime, is_timed: bool) -> Result<u8, SlateDBError> {
     let rows = rows::make_rows(rt.alloc())?;
     measure_rows(&Report::new(rt, is_timed), &rows)?;
     Ok(0)
 }
 
-fn measure_rows(report: &Report, rows: &[RowEntry]) -> Result<(), anyhow::Error> {
+fn measure_rows(report: &Report, rows: &[RowEntry]) -> Result<(), SlateDBError> {
     blocks::measure(report, rows, 1)?;
     blocks::measure(report, rows, 2)?;
     checksums::measure(report)?;

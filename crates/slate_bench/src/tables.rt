@@ -4,7 +4,6 @@ ghost use Rattle.std.specs.Prelude.{◌≡◌, ◌≤◌, ◌+◌, true, length,
 use crate::blocks;
 use crate::report::{Report, name_of};
 use crate::sums::Sums;
-use anyhow::Error;
 use bytes::Bytes;
 use slate_block::Block;
 use slate_store::{MemoryStore, Store};
@@ -39,7 +38,7 @@ impl BlockTransformer for Plain {
 }
 
 /// Builds the table of the rows, stores it and reads all of it, and reports both. `version` is 1 or 2.
-pub fn measure(report: &Report, rows: &[RowEntry], version: u16) -> Result<(), Error> {
+pub fn measure(report: &Report, rows: &[RowEntry], version: u16) -> Result<(), SlateDBError> {
     let start = report.start()?;
     let table = build(report.alloc(), rows, version)?;
     let measured = measure_storing(report, &table, rows.len(), version, start);
@@ -54,7 +53,7 @@ fn measure_storing(
     rows: usize,
     version: u16,
     start: Instant,
-) -> Result<(), Error> {
+) -> Result<(), SlateDBError> {
     let mut store = MemoryStore::new(report.alloc(), Vec::new(report.alloc()));
     let measured = measure_in(report, &mut store, table, rows, version, start);
     drop(store);
@@ -68,7 +67,7 @@ fn measure_in<S: Store>(
     rows: usize,
     version: u16,
     start: Instant,
-) -> Result<(), Error> {
+) -> Result<(), SlateDBError> {
     let handle = TableStore::put_table(report.alloc(), store, ROOT, Ulid(1), table)?;
     let measured = match report_table(report, table, rows, version, start) {
         Ok(()) => measure_reading(report, store, &handle, version),
@@ -85,7 +84,7 @@ fn report_table(
     rows: usize,
     version: u16,
     start: Instant,
-) -> Result<(), Error> {
+) -> Result<(), SlateDBError> {
     let done = counts(report.alloc(), rows, table);
     report.finish(
         name_of(version, "build table v1", "build table v2"),
@@ -105,7 +104,7 @@ fn measure_reading<S: Store>(
     store: &mut S,
     handle: &SsTableHandle,
     version: u16,
-) -> Result<(), Error> {
+) -> Result<(), SlateDBError> {
     let start = report.start()?;
     let done = read(report.alloc(), store, handle);
     report.finish(
