@@ -3,6 +3,7 @@ use Rattle.std.proofs.lemmas.Result.{err_from_is_err_and, IfOk-from_err}
 use Rattle.slate_types.specs.Faults.{Rose}
 use Rattle.slate_store.specs.declared.store.StoreError.{StoreError}
 use Rattle.slate_store.specs.declared.store.StoreError.TheVariants.{OutOfMemory, Failed}
+use Rattle.slate_store.specs.Store.{with_object}
 use Rattle.slate_store.proofs.Steps.{on_err}
 use Rattle.slate_store.proofs.memory_store.MemoryStoreStore.put.Goals as goal
 
@@ -87,3 +88,14 @@ returns-in-Err-clause-refused c = λ os is. inl (ap (λ s. Some s.objects) c.sel
 
 pub returns-in_ok-insert-in-Ok-clause-cause : goal.returns-in_ok-insert-in-Ok-clause-cause
 returns-in_ok-insert-in-Ok-clause-cause c = λ e. cc
+
+some_is : {A : Type 0} (x y : A) → Some x ≡ Some y → x ≡ y
+some_is x y h = cc
+
+pub returns-in_ok-insert-in-Ok-clause-taken : goal.returns-in_ok-insert-in-Ok-clause-taken
+returns-in_ok-insert-in-Ok-clause-taken c = λ os is.
+    let same = some_is c.self.inside.objects.entries os (ap (λ s. Some s.objects) c.self.view_is ∙ is) in
+    ap Some (c.in_ok-insert-in-Ok.ensures.entries ∙ ap (λ k. with_object c.self.inside.objects.entries k c.in-Ok.bytes) c.in_ok-path.ensures ∙ ap (λ v. with_object c.self.inside.objects.entries c.args.path.now v) c.in-Ok.ensures ∙ ap (λ os. with_object os c.args.path.now c.args.bytes.now) same)
+
+pub returns-in_err-insert-in-Ok-clause-refused : goal.returns-in_err-insert-in-Ok-clause-refused
+returns-in_err-insert-in-Ok-clause-refused c = λ os is. on_err c.from_residual-in_err-insert-in-Ok.result (inl (ap Some c.in_err-insert-in-Ok.ensures.err ∙ ap (λ s. Some s.objects) c.self.view_is ∙ is))
