@@ -77,18 +77,18 @@ loop-operand-init g c =
 one_more : (c : Combine) (value : Option (List ℕ)) (vs : List (List ℕ)) (i : ℕ) (v made : List ℕ) → i < length vs → v ≡ get_or vs i v → made ≡ c value v → merge_all c (Some made) (drop (i + 1) vs) ≡ merge_all c value (drop i vs)
 one_more c value vs i v made within is e = ap (λ m. merge_all c (Some m) (drop (i + 1) vs)) (e ∙ ap (c value) is) ∙ sym (at_drop_more (merge_all c value) vs i v within)
 
+made_is : {S : Type 0} (combine : S → List ℕ → Combine) (now first : S) (key : List ℕ) (asked value : Option (List ℕ)) (v made : List ℕ) → made ≡ combine now key asked v → combine now ≡ combine first → asked ≡ value → made ≡ combine first key value v
+made_is combine now first key asked value v made e same is = e ∙ ap (λ f. f key asked v) same ∙ ap (λ o. combine first key o v) is
+
 pub loop-operand-preserved : goal.loop-operand-preserved
-loop-operand-preserved g c =
-    let combine = g.Self.MergeOperator.combine in
-    let key = c.args.key.now in
-    let v = c.operand-item.result in
-    let e = c.in_ok-made.ensures.value ∙ ap (λ f. f key (option_copied c.as_ref.result) v) c.loop-operand.invariant.same ∙ ap (λ o. combine c.args.self.now key o v) c.as_ref.ensures.value in
-    record {
-      same = c.merge-made.ensures.same ∙ c.loop-operand.invariant.same;
-      still = c.in_ok-made.ensures.still ∙ c.loop-operand.invariant.still;
-      value = one_more (combine c.args.self.now key) c.loop-operand.merged c.args.operands.now c.loop-operand.operand-index v c.in_ok-made.field-0 c.loop-operand-test.true c.operand-item.is e ∙ c.loop-operand.invariant.value;
-      none = λ e. absurd (some-value _ e);
-    }
+loop-operand-preserved g c = record {
+  same = c.merge-made.ensures.same ∙ c.loop-operand.invariant.same;
+  still = c.in_ok-made.ensures.still ∙ c.loop-operand.invariant.still;
+  value = one_more (g.Self.MergeOperator.combine c.args.self.now c.args.key.now) c.loop-operand.merged c.args.operands.now c.loop-operand.operand-index c.operand-item.result c.in_ok-made.field-0 c.loop-operand-test.true c.operand-item.is
+      (made_is g.Self.MergeOperator.combine c.loop-operand.self c.args.self.now c.args.key.now (option_copied c.as_ref.result) c.loop-operand.merged c.operand-item.result c.in_ok-made.field-0 c.in_ok-made.ensures.value c.loop-operand.invariant.same c.as_ref.ensures.value)
+      ∙ c.loop-operand.invariant.value;
+  none = λ e. absurd (some-value _ e);
+}
 
 -- where all operands are combined, the value so far is the result
 all_merged : (c : Combine) (value existing : Option (List ℕ)) (vs : List (List ℕ)) (i : ℕ) → length vs ≤ i → merge_all c value (drop i vs) ≡ merge_all c existing vs → value ≡ merge_all c existing vs
