@@ -3,7 +3,7 @@
 --     CanHold keys i k      partition i can hold the key
 --     IsLeast P o, IsGreatest P o      the least and the greatest number of which P holds, or none where P holds of none
 --     count_below keys k, count_upto keys k      how many first keys are below the key, or not past it
---     count_to upto keys k      the one of them that counts a first key that is the key, or the other
+--     counts upto first k, count_to upto keys k      whether a first key is below the key, or not past it where upto is true, and how many are
 --     begins_at keys i k      there is such a partition, and the key is its first
 --     first_including keys k, last_including keys k      the first and the last partition that can hold the key
 --     covering_start keys start, covering_end keys start end      the partitions of the keys between two bounds

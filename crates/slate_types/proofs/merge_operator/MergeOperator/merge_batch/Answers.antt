@@ -2,13 +2,23 @@ use Rattle.std.proofs.Common.{◌≡◌, refl, ◌∙◌, sym, ap, subst, ℕ, �
 use Rattle.std.specs.Result.{result_ok}
 use Rattle.std.proofs.lemmas.List.{at_drop_more, at_drop_all}
 use Rattle.std.proofs.lemmas.Result.{err_from_is_err_and, IfOk-from_err}
-use Rattle.slate_types.specs.declared.merge_operator.MergeOperatorError.TheVariants.{EmptyBatch}
+use Rattle.slate_types.specs.declared.merge_operator.MergeOperatorError.{MergeOperatorError}
+use Rattle.slate_types.specs.declared.merge_operator.MergeOperatorError.TheVariants.{EmptyBatch, Callback, OutOfMemory}
 use Rattle.slate_types.specs.Faults.{Rose}
 use Rattle.slate_types.specs.Fold.{Combine, merge_all}
 use Rattle.slate_types.proofs.merge_operator.MergeOperator.merge_batch.Goals as goal
 
 pub returns-in_err-merged-clause-value : goal.returns-in_err-merged-clause-value
 returns-in_err-merged-clause-value g c = IfOk-from_err c.from_residual.result _ c.from_residual.ensures.0
+
+not-empty : {T : Type 0} (r : Result T MergeOperatorError) (x : MergeOperatorError) → r ≡ Err x → x ≡ OutOfMemory → r ≡ Err EmptyBatch → ⊥
+not-empty r x h k e = cc
+
+no-callback : {T : Type 0} (r : Result T MergeOperatorError) (x : MergeOperatorError) (message : List ℕ) → r ≡ Err x → x ≡ OutOfMemory → r ≡ Err (Callback message) → ⊥
+no-callback r x message h k e = cc
+
+some-value : {A : Type 0} (x : A) → Some x ≡ None → ⊥
+some-value x e = cc
 
 absent : {A : Type 0} (o : Option (Bor (List ℕ))) (Q : Bor (List ℕ) → Type 0) → IsSomeAnd o Q → option_copied o ≡ None → A
 absent None Q h e = absurd h
@@ -17,7 +27,7 @@ absent (Some x) Q h e = cc
 pub returns-in_err-merged-clause-empty : goal.returns-in_err-merged-clause-empty
 returns-in_err-merged-clause-empty g c =
     let p = err_from_is_err_and c.from_residual.result c.from_residual.ensures.1 in
-    (λ e. let is = p.1 in let memory = p.2 in cc, λ none. absent c.args.existing_value _ c.in_err-merged.ensures none.0)
+    (λ e. absurd (not-empty c.from_residual.result _ p.1 p.2 e), λ none. absent c.args.existing_value _ c.in_err-merged.ensures none.0)
 
 pub returns-in_err-merged-clause-still : goal.returns-in_err-merged-clause-still
 returns-in_err-merged-clause-still g c = IfOk-from_err c.from_residual.result _ c.from_residual.ensures.0
@@ -25,7 +35,7 @@ returns-in_err-merged-clause-still g c = IfOk-from_err c.from_residual.result _ 
 pub returns-in_err-merged-clause-cause : goal.returns-in_err-merged-clause-cause
 returns-in_err-merged-clause-cause g c =
     let p = err_from_is_err_and c.from_residual.result c.from_residual.ensures.1 in
-    λ message e. let is = p.1 in let memory = p.2 in cc
+    λ message e. absurd (no-callback c.from_residual.result _ message p.1 p.2 e)
 
 pub returns-in_err-made-clause-value : goal.returns-in_err-made-clause-value
 returns-in_err-made-clause-value g c = IfOk-from_err c.from_residual-in_err-made.result _ c.from_residual-in_err-made.ensures.0
@@ -67,18 +77,18 @@ loop-operand-init g c =
 one_more : (c : Combine) (value : Option (List ℕ)) (vs : List (List ℕ)) (i : ℕ) (v made : List ℕ) → i < length vs → v ≡ get_or vs i v → made ≡ c value v → merge_all c (Some made) (drop (i + 1) vs) ≡ merge_all c value (drop i vs)
 one_more c value vs i v made within is e = ap (λ m. merge_all c (Some m) (drop (i + 1) vs)) (e ∙ ap (c value) is) ∙ sym (at_drop_more (merge_all c value) vs i v within)
 
+made_is : {S : Type 0} (combine : S → List ℕ → Combine) (now first : S) (key : List ℕ) (asked value : Option (List ℕ)) (v made : List ℕ) → made ≡ combine now key asked v → combine now ≡ combine first → asked ≡ value → made ≡ combine first key value v
+made_is combine now first key asked value v made e same is = e ∙ ap (λ f. f key asked v) same ∙ ap (λ o. combine first key o v) is
+
 pub loop-operand-preserved : goal.loop-operand-preserved
-loop-operand-preserved g c =
-    let combine = g.Self.MergeOperator.combine in
-    let key = c.args.key.now in
-    let v = c.operand-item.result in
-    let e = c.in_ok-made.ensures.value ∙ ap (λ f. f key (option_copied c.as_ref.result) v) c.loop-operand.invariant.same ∙ ap (λ o. combine c.args.self.now key o v) c.as_ref.ensures.value in
-    record {
-      same = c.merge-made.ensures.same ∙ c.loop-operand.invariant.same;
-      still = c.in_ok-made.ensures.still ∙ c.loop-operand.invariant.still;
-      value = one_more (combine c.args.self.now key) c.loop-operand.merged c.args.operands.now c.loop-operand.operand-index v c.in_ok-made.field-0 c.loop-operand-test.true c.operand-item.is e ∙ c.loop-operand.invariant.value;
-      none = λ e. cc;
-    }
+loop-operand-preserved g c = record {
+  same = c.merge-made.ensures.same ∙ c.loop-operand.invariant.same;
+  still = c.in_ok-made.ensures.still ∙ c.loop-operand.invariant.still;
+  value = one_more (g.Self.MergeOperator.combine c.args.self.now c.args.key.now) c.loop-operand.merged c.args.operands.now c.loop-operand.operand-index c.operand-item.result c.in_ok-made.field-0 c.loop-operand-test.true c.operand-item.is
+      (made_is g.Self.MergeOperator.combine c.loop-operand.self c.args.self.now c.args.key.now (option_copied c.as_ref.result) c.loop-operand.merged c.operand-item.result c.in_ok-made.field-0 c.in_ok-made.ensures.value c.loop-operand.invariant.same c.as_ref.ensures.value)
+      ∙ c.loop-operand.invariant.value;
+  none = λ e. absurd (some-value _ e);
+}
 
 -- where all operands are combined, the value so far is the result
 all_merged : (c : Combine) (value existing : Option (List ℕ)) (vs : List (List ℕ)) (i : ℕ) → length vs ≤ i → merge_all c value (drop i vs) ≡ merge_all c existing vs → value ≡ merge_all c existing vs
