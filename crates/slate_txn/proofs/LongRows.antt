@@ -12,7 +12,6 @@ use Rattle.slate_mem.specs.Refusals.{first_refusal, when}
 use Rattle.slate_mem.specs.RowOf.{op_expiry}
 use Rattle.slate_mem.specs.BatchModel.{plain_put}
 use Rattle.slate_store.specs.Lines.{before_lines, lines_of}
-use Rattle.slate_txn.specs.declared.line.Line.{Line}
 use Rattle.slate_txn.specs.declared.line.Line.TheVariants as lines
 use Rattle.slate_txn.specs.Grammar.{IsLine}
 use Rattle.slate_txn.specs.Parse.{parse}
@@ -21,7 +20,7 @@ use Rattle.slate_txn.specs.State.{opening}
 use Rattle.slate_txn.specs.Reply.{Written}
 use Rattle.slate_txn.specs.Refusals.{exhausted_refusal, merges_refusal, ttl_refusal}
 use Rattle.slate_txn.specs.Step.{answers, refused_or, with_reply, as_commit}
-use Rattle.slate_txn.specs.Replies.{Read, onto_meanings, meanings, reply_line, replies_to, replies}
+use Rattle.slate_txn.specs.Replies.{Read, onto_meanings, reply_line, replies_to, replies}
 use Rattle.slate_txn.specs.Text.{is_visible}
 use Rattle.slate_txn.specs.WorkedRows.{LongKeys, LongKeysToday, plain, long_key, text}
 use Rattle.slate_txn.proofs.ParseLaws.{parse-is}

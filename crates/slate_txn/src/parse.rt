@@ -175,17 +175,27 @@ fn read_get(alloc: Global, tokens: &[&[u8]]) -> Result<Option<Line>, AllocError>
     let [name, key] = tokens else {
         return Ok(None);
     };
-    let Some(name) = copy_name(alloc, name)? else {
+    match read_named(alloc, name, key)? {
+        Some((name, key)) => Ok(Some(Line::Get { name, key })),
+        None => Ok(None),
+    }
+}
+
+/// The name of one token and the bytes of another.
+fn read_named(alloc: Global, name: &[u8], key: &[u8]) -> Result<Option<(Bytes, Bytes)>, AllocError>
+    ensures pair { IfOk result (λ o. o ≡ both (λ n k. (n, k)) (read_name name.now) (read_bytes key.now)) }
+{
+    let Some(key) = read_bytes(alloc, key)? else {
         return Ok(None);
     };
-    match read_bytes(alloc, key) {
-        Ok(Some(key)) => Ok(Some(Line::Get { name, key })),
+    match copy_name(alloc, name) {
+        Ok(Some(name)) => Ok(Some((name, key))),
         Ok(None) => {
-            drop(name);
+            drop(key);
             Ok(None)
         }
         Err(error) => {
-            drop(name);
+            drop(key);
             Err(error)
         }
     }
