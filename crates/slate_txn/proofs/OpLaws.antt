@@ -4,12 +4,13 @@ use Rattle.std.specs.Borrow.{Bor}
 use Rattle.std.proofs.lemmas.List.{take-map, drop-map, drop_all, length-drop}
 use Rattle.std.proofs.Math.Seq.{drop-cons}
 use Rattle.slate_mem.specs.declared.WriteOp.TheVariants as ops
+use Rattle.slate_types.specs.declared.config.IsolationLevel.{IsolationLevel}
 use Rattle.slate_types.specs.declared.config.Ttl.{Ttl}
 use Rattle.slate_mem.specs.Batch.{Ops}
 use Rattle.slate_txn.specs.declared.line.Line.TheVariants as lines
 use Rattle.slate_txn.specs.Parse.{both, three, only_if, ◌>>=◌, read_bytes, read_name, read_ttl, read_all, OpWord, PutWord, MergeWord, DeleteWord, op_word, op_as, Groups, group_token, grouped, ops_of_groups}
 use Rattle.slate_txn.specs.Stage.{is_built_op, is_built_batch}
-use Rattle.slate_txn.specs.Built.{texts, is_op_word, Op, built_get, built_put, built_delete, built_op, built_ops, if_batch_built}
+use Rattle.slate_txn.specs.Built.{texts, is_op_word, Op, built_level, built_begin, built_get, built_rollback, built_put, built_delete, built_op, built_ops, if_batch_built}
 use Rattle.slate_txn.proofs.ParseOnly.{same-bytes}
 
 -- ---- the tokens of the first operation
@@ -286,3 +287,34 @@ get-read (t ∷ u ∷ []) p two e = ap (option_map (λ (q : List ℕ × List ℕ
     by None b = refl
     by (Some n) None = refl
     by (Some n) (Some k) = refl
+
+-- a name and a level
+pub begin-read : (ts : List (Bor (List ℕ))) (p : Option (List ℕ)) (o : Option IsolationLevel) → length ts ≡ 2 →
+    p ≡ read_name (get_or ts 0 (record { ref_ptr = (0, 0); now = [] })).now → o ≡ built_level (get_or ts 1 (record { ref_ptr = (0, 0); now = [] })).now →
+    both lines.Begin p o ≡ built_begin (texts ts)
+begin-read [] p o two e f = absurd (omega (arith, two))
+begin-read (t ∷ []) p o two e f = absurd (omega (arith, two))
+begin-read (t ∷ u ∷ v ∷ us) p o two e f = absurd (omega (arith, two))
+begin-read (t ∷ u ∷ []) p o two e f = λ i. both lines.Begin (e i) (f i)
+
+pub begin-unread : (ts : List (Bor (List ℕ))) → length ts ≡ 2 → built_level (get_or ts 1 (record { ref_ptr = (0, 0); now = [] })).now ≡ None → None ≡ built_begin (texts ts)
+begin-unread ts two e =
+    nothing (read_name (get_or ts 0 (record { ref_ptr = (0, 0); now = [] })).now)
+    ∙ begin-read ts (read_name (get_or ts 0 (record { ref_ptr = (0, 0); now = [] })).now) None two refl (sym e)
+  where
+    nothing : (p : Option (List ℕ)) → None ≡ both lines.Begin p None
+    nothing None = refl
+    nothing (Some n) = refl
+
+-- a name, and a key
+pub rollback-read : (ts : List (Bor (List ℕ))) (p : Option (List ℕ)) → length ts ≡ 1 → p ≡ read_name (get_or ts 0 (record { ref_ptr = (0, 0); now = [] })).now →
+    option_map lines.Rollback p ≡ built_rollback (texts ts)
+rollback-read [] p one e = absurd (omega (arith, one))
+rollback-read (t ∷ u ∷ us) p one e = absurd (omega (arith, one))
+rollback-read (t ∷ []) p one e = ap (option_map lines.Rollback) e
+
+pub delete-read : (ts : List (Bor (List ℕ))) (p : Option (List ℕ)) → length ts ≡ 1 → p ≡ read_bytes (get_or ts 0 (record { ref_ptr = (0, 0); now = [] })).now →
+    option_map (λ (key : List ℕ). (key, ops.Delete)) p ≡ built_delete (texts ts)
+delete-read [] p one e = absurd (omega (arith, one))
+delete-read (t ∷ u ∷ us) p one e = absurd (omega (arith, one))
+delete-read (t ∷ []) p one e = ap (option_map (λ (key : List ℕ). (key, ops.Delete))) e

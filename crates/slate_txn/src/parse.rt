@@ -208,11 +208,10 @@ fn read_rollback(alloc: Global, tokens: &[&[u8]]) -> Result<Option<Line>, AllocE
     let [name] = tokens else {
         return Ok(None);
     };
-    let Some(name) = read_name(name) else {
-        return Ok(None);
-    };
-    let name = Bytes::copy_from_slice(alloc, name)?;
-    Ok(Some(Line::Rollback { name }))
+    match copy_name(alloc, name)? {
+        Some(name) => Ok(Some(Line::Rollback { name })),
+        None => Ok(None),
+    }
 }
 
 /// `write` and operations
