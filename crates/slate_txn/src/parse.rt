@@ -157,7 +157,7 @@ fn copy_name(alloc: Global, token: &[u8]) -> Result<Option<Bytes>, AllocError>
     ensures name { IfOk result (λ o. o ≡ read_name token.now) }
 {
     match read_name(token) {
-        Some(name) => Bytes::copy_from_slice(alloc, name).map(Some),
+        Some(name) => Ok(Some(Bytes::copy_from_slice(alloc, name)?)),
         None => Ok(None),
     }
 }
