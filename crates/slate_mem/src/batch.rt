@@ -275,8 +275,10 @@ fn test_put(key: &[u8], value: &[u8]) -> Result<(), SlateDBError>
     ensures cause { IfErr result (λ e. op_refusal key.now (plain_put value.now) ≡ Some e) }
     ensures fine { OnOk result (op_refusal key.now (plain_put value.now) ≡ None) }
 {
-    test_key(key)?;
-    test_value(value)
+    match test_key(key) {
+        Ok(()) => test_value(value),
+        Err(refusal) => Err(refusal),
+    }
 }
 
 /// `ValueTooLong` exactly above 2^32 - 1 bytes.

@@ -12,11 +12,11 @@ last [] (Some e) h = refl
 last (None ∷ es) o h = last es o h
 last (Some e ∷ es) o h = cc
 
-pub returns : goal.returns
-returns c =
+pub returns-in-Ok : goal.returns-in-Ok
+returns-in-Ok c =
     let k = c.args.key.now in
     let v = c.args.value.now in
-    let same : op_refusal k (plain_put v) ≡ value_refusal v = last (key_refusals k) (value_refusal v) c.in_ok-test_key.ensures.fine in
+    let same : op_refusal k (plain_put v) ≡ value_refusal v = last (key_refusals k) (value_refusal v) c.in-Ok.ensures.fine in
     record {
       refused = λ e h. c.test_value.ensures.refused e (sym same ∙ h);
       cause = subst (λ o. IfErr c.test_value.result (λ e. o ≡ Some e)) (sym same) c.test_value.ensures.cause;
