@@ -1,4 +1,4 @@
--- The rows of a batch: those of a key, their order, and both turned round.
+-- The rows of a batch: those of a key, and their order.
 use Rattle.std.proofs.Common.{◌≡◌, ℕ, ◌&&◌, Bool, true, false, cond, not, List, [], ◌∷◌, ◌++◌, map, flat_map, filter, reverse, Option, Some, None, ℤ, bytes_eq, refl, sym, ap, subst, ◌∙◌, Ordering, Less, Equal, Greater}
 use Rattle.std.specs.Ordering.{is_lt, is_le, is_gt, ordering_reverse}
 use Rattle.std.specs.List.Sorted.{IsStrictlySortedBy}
@@ -7,16 +7,12 @@ use Rattle.std.specs.BTreeMap.Range.{IsLeBy, IsLtBy, is_past_end, range_contains
 use Rattle.std.specs.Range.Bound.{IsForward}
 use Rattle.std.specs.declared.ops.Bound.{Bound}
 use Rattle.std.specs.declared.ops.Bound.TheVariants.{Included, Excluded, Unbounded}
-use Rattle.std.proofs.lemmas.List.{map-append, reverse-append}
-use Rattle.std.proofs.lemmas.List.Concat.{flat_map-append}
 use Rattle.std.proofs.lemmas.List.Elements.{filter-append}
 use Rattle.std.proofs.lemmas.List.Kept.{IsStrictlySortedBy-filter}
-use Rattle.std.proofs.lemmas.Grind.{reverse_onto}
 use Rattle.std.proofs.lemmas.Slice.Eq.{bytes_eq-Decides}
-use Rattle.smallvec.specs.SmallVec.{SmallVec}
 use Rattle.slate_types.specs.declared.types.RowEntry.{RowEntry}
 use Rattle.slate_types.specs.declared.bytes_range.BytesRange.{BytesRange}
-use Rattle.slate_types.specs.declared.iter.IterationOrder.TheVariants.{Ascending, Descending}
+use Rattle.slate_types.specs.declared.iter.IterationOrder.TheVariants.{Ascending}
 use Rattle.slate_types.specs.Keys.{key_cmp, key_lt, is_past_start, is_before_end, in_range, is_refused}
 use Rattle.slate_types.specs.Iteration.{NoneBefore, IsInOrder}
 use Rattle.slate_types.proofs.KeyOrder.{turned-key, lt-irreflexive}
@@ -25,50 +21,13 @@ use Rattle.slate_types.proofs.RangeLaws.{refused-holds-none}
 use Rattle.slate_mem.specs.declared.WriteOp.{WriteOp}
 use Rattle.slate_mem.specs.declared.batch_iterator.Stamps.{Stamps}
 use Rattle.slate_mem.specs.Batch.{Ops, kept}
-use Rattle.slate_mem.specs.BatchRows.{batch_rows, stamped, newest_rows, oldest_rows}
+use Rattle.slate_mem.specs.BatchRows.{batch_rows, stamped, newest_rows}
 use Rattle.slate_mem.specs.Kept.{Entries, listed, AreKept}
 use Rattle.slate_mem.specs.RowOf.{row_at}
 use Rattle.slate_mem.specs.Table.{of_key}
 use Rattle.slate_mem.proofs.BatchLaws.{append-nil}
 use Rattle.slate_mem.proofs.KeptLaws.{items_at, none-at, kept-listed}
 use Rattle.slate_mem.proofs.PlaceLaws.{less-from}
-
--- ---- lists turned round
-
-map-reverse : {A B : Type 0} (f : A → B) (xs : List A) → map f (reverse xs) ≡ reverse (map f xs)
-map-reverse f [] = refl
-map-reverse f (x ∷ xs) =
-    ap (map f) (reverse_onto xs x []) ∙ map-append f (reverse xs) (x ∷ []) ∙ ap (λ ys. ys ++ (f x ∷ [])) (map-reverse f xs) ∙ sym (reverse_onto (map f xs) (f x) [])
-
-filter-reverse : {A : Type 0} (p : A → Bool) (xs : List A) → filter p (reverse xs) ≡ reverse (filter p xs)
-filter-reverse p [] = refl
-filter-reverse p (x ∷ xs) =
-    ap (filter p) (reverse_onto xs x []) ∙ filter-append p (reverse xs) (x ∷ []) ∙ ap (λ ys. ys ++ filter p (x ∷ [])) (filter-reverse p xs) ∙ by (p x)
-  where
-    by : (b : Bool) → reverse (filter p xs) ++ cond b (x ∷ []) [] ≡ reverse (cond b (x ∷ filter p xs) (filter p xs))
-    by true = sym (reverse_onto (filter p xs) x [])
-    by false = append-nil (reverse (filter p xs))
-
-none-last : (k : List ℕ) (rows : List RowEntry) (row : RowEntry) → NoneBefore Ascending k rows → key_lt row.key k ≡ false → NoneBefore Ascending k (rows ++ (row ∷ []))
-none-last k [] row h e = (e, tt)
-none-last k (r ∷ rs) row h e = (h.0, none-last k rs row h.1 e)
-
-none-turned : (k : List ℕ) (rows : List RowEntry) → NoneBefore Ascending k rows → NoneBefore Ascending k (reverse rows)
-none-turned k [] h = tt
-none-turned k (r ∷ rs) h = subst (NoneBefore Ascending k) (sym (reverse_onto rs r [])) (none-last k (reverse rs) r (none-turned k rs h.1) h.0)
-
-last-falls : (k : List ℕ) (rows : List RowEntry) (row : RowEntry) → NoneBefore Descending k rows → key_lt k row.key ≡ false → NoneBefore Descending k (rows ++ (row ∷ []))
-last-falls k [] row h e = (e, tt)
-last-falls k (r ∷ rs) row h e = (h.0, last-falls k rs row h.1 e)
-
--- a row that none of the others comes before goes last
-order-last : (rows : List RowEntry) (row : RowEntry) → IsInOrder Descending rows → NoneBefore Ascending row.key rows → IsInOrder Descending (rows ++ (row ∷ []))
-order-last [] row h n = (tt, tt)
-order-last (r ∷ rs) row h n = (last-falls r.key rs row h.0 n.0, order-last rs row h.1 n.1)
-
-pub order-turned : (rows : List RowEntry) → IsInOrder Ascending rows → IsInOrder Descending (reverse rows)
-order-turned [] h = tt
-order-turned (r ∷ rs) h = subst (IsInOrder Descending) (sym (reverse_onto rs r [])) (order-last (reverse rs) r (order-turned rs h.1) (none-turned r.key rs h.0))
 
 -- ---- the rows of entries
 
@@ -151,13 +110,6 @@ rows-rise : (s : Stamps) (turn : List WriteOp → List WriteOp) (es : Entries) �
 unfolding IsStrictlySortedBy
 rows-rise s turn [] h = tt
 rows-rise s turn (e ∷ es) h = in-front s e.0 (turn e.1.items) (rows_by s turn es) (none-below e.0 s turn es h.0) (rows-rise s turn es h.1)
-
--- the last entry's rows stand first where all are turned round
-pub oldest-last : (s : Stamps) (es : Entries) (e : List ℕ × SmallVec WriteOp) → reverse (oldest_rows s (es ++ (e ∷ []))) ≡ map (stamped s e.0) (reverse e.1.items) ++ reverse (oldest_rows s es)
-oldest-last s es e =
-    ap reverse (flat_map-append (λ f. map (stamped s f.0) f.1.items) es (e ∷ []) ∙ ap (λ rs. oldest_rows s es ++ rs) (append-nil (map (stamped s e.0) e.1.items)))
-    ∙ reverse-append (oldest_rows s es) (map (stamped s e.0) e.1.items)
-    ∙ ap (λ rs. rs ++ reverse (oldest_rows s es)) (sym (map-reverse (stamped s e.0) e.1.items))
 
 -- ---- the entries of a range
 
@@ -264,21 +216,8 @@ newest-between range s es ops rising whole is k =
     ∙ newest-first s k (kept (listed es) k) (in_range range k)
     ∙ ap (λ os. batch_rows range s.seq s.default_ttl_millis s.create_ts os k) is
 
-pub oldest-between : (range : BytesRange) (s : Stamps) (es : Entries) (ops : Ops) → IsStrictlySortedBy key_cmp (keys_of es) → AreKept es → listed es ≡ ops → (k : List ℕ) →
-    of_key k (reverse (oldest_rows s (entries_between key_cmp range.start range.end es))) ≡ batch_rows range s.seq s.default_ttl_millis s.create_ts ops k
-oldest-between range s es ops rising whole is k =
-    filter-reverse (λ r. bytes_eq r.key k) (oldest_rows s (entries_between key_cmp range.start range.end es))
-    ∙ ap reverse (rows-between range s (λ os. os) es k refl rising whole)
-    ∙ sym (map-reverse (stamped s k) (cond (in_range range k) (kept (listed es) k) []))
-    ∙ newest-first s k (kept (listed es) k) (in_range range k)
-    ∙ ap (λ os. batch_rows range s.seq s.default_ttl_millis s.create_ts os k) is
-
 pub newest-rise : (start end : Bound (List ℕ)) (s : Stamps) (es : Entries) → IsStrictlySortedBy key_cmp (keys_of es) → IsInOrder Ascending (newest_rows s (entries_between key_cmp start end es))
 newest-rise start end s es rising = rows-rise s reverse (entries_between key_cmp start end es) (between-rises start end es rising)
-
-pub oldest-fall : (start end : Bound (List ℕ)) (s : Stamps) (es : Entries) → IsStrictlySortedBy key_cmp (keys_of es) → IsInOrder Descending (reverse (oldest_rows s (entries_between key_cmp start end es)))
-oldest-fall start end s es rising =
-    order-turned (oldest_rows s (entries_between key_cmp start end es)) (rows-rise s (λ os. os) (entries_between key_cmp start end es) (between-rises start end es rising))
 
 pub no-batch-rows : (range : BytesRange) (n : ℕ) (default_millis : Option ℕ) (moment : Option ℤ) (ops : Ops) (k : List ℕ) → is_refused range.start range.end ≡ true →
     batch_rows range n default_millis moment ops k ≡ []

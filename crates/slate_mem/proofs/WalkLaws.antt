@@ -1,5 +1,5 @@
 -- What a walk over rows finds of a key.
-use Rattle.std.proofs.Common.{◌≡◌, ℕ, Bool, true, false, cond, ◌&&◌, List, [], ◌∷◌, ◌++◌, Option, Some, refl, sym, ap, subst, ◌∙◌, bytes_eq, nat_le, Ordering, Less, Equal, Greater, append-nil, append_assoc}
+use Rattle.std.proofs.Common.{◌≡◌, ℕ, Bool, true, false, cond, ◌&&◌, List, [], ◌∷◌, Option, Some, refl, sym, ap, subst, ◌∙◌, bytes_eq, nat_le, Ordering, Less, Equal, Greater}
 use Rattle.std.specs.Ordering.{is_lt, ordering_reverse}
 use Rattle.std.proofs.lemmas.Slice.Eq.{bytes_eq-Decides}
 use Rattle.slate_types.specs.declared.types.RowEntry.{RowEntry}
@@ -78,16 +78,3 @@ dropped_same k n (r ∷ rs) = by (key_lt r.key k) refl (bytes_eq r.key k) refl (
 
 pub takes : (rows : List RowEntry) (o : Option RowEntry) (row : RowEntry) (after : List RowEntry) → o ≡ Some row → TakesRow rows o after → rows ≡ row ∷ after
 takes rows o row after is h = subst (λ (x : Option RowEntry). TakesRow rows x after) is h
-
-pub ends_walk : (k : List ℕ) (n : ℕ) (row : RowEntry) (rest after all found : List RowEntry) → rest ≡ row ∷ after → NoneBefore Ascending k rest → IsInOrder Ascending rest → bytes_eq row.key k ≡ false →
-    newest k n all ≡ found ++ newest k n rest → found ≡ newest k n all
-ends_walk k n row rest after all found split none rising other so_far =
-    sym (so_far ∙ ap (λ xs. found ++ newest k n xs) split
-    ∙ ap (λ xs. found ++ xs) (ends_past k n row after (subst (NoneBefore Ascending k) split none) (subst (IsInOrder Ascending) split rising) other) ∙ append-nil found)
-
-pub walks_on : (k : List ℕ) (n : ℕ) (row : RowEntry) (rest after all found more : List RowEntry) → rest ≡ row ∷ after → bytes_eq row.key k ≡ true → nat_le row.seq n ≡ true → is_base row ≡ false → more ≡ found ++ (row ∷ []) →
-    newest k n all ≡ found ++ newest k n rest → newest k n all ≡ more ++ newest k n after
-walks_on k n row rest after all found more split same upto base is so_far =
-    so_far ∙ ap (λ xs. found ++ newest k n xs) split
-    ∙ ap (λ xs. found ++ xs) (takes_row k n row after same upto ∙ ap (λ b. cond b (row ∷ []) (row ∷ newest k n after)) base)
-    ∙ sym (append_assoc found (row ∷ []) (newest k n after)) ∙ ap (λ ys. ys ++ newest k n after) (sym is)

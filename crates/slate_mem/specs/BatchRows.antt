@@ -2,7 +2,6 @@
 --     batch_rows range n default moment ops k      the rows of a key's kept operations, newest first, where the key is in the range
 --     stamped s k op      the row of an operation
 --     newest_rows s es      the rows of entries, keys rising, and newest first within a key
---     oldest_rows s es      the same, and oldest first within a key
 use Rattle.std.specs.Prelude.{ℕ, if◌then◌else◌, List, [], map, flat_map, reverse, Option, ℤ}
 use Rattle.slate_types.specs.declared.bytes_range.BytesRange.{BytesRange}
 use Rattle.slate_types.specs.declared.types.RowEntry.{RowEntry}
@@ -21,6 +20,3 @@ stamped s k op = row_at k s.seq s.default_ttl_millis s.create_ts op
 
 abbrev pub newest_rows : Stamps → Entries → List RowEntry
 newest_rows s es = flat_map (λ e. map (stamped s e.0) (reverse e.1.items)) es
-
-abbrev pub oldest_rows : Stamps → Entries → List RowEntry
-oldest_rows s es = flat_map (λ e. map (stamped s e.0) e.1.items) es

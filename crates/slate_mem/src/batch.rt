@@ -170,7 +170,7 @@ impl WriteBatch {
         ensures keys { IfOk result (λ keys. keys.items ≡ batch_keys self.now.ops) }
         ensures cause { IsOkUnless result SlateDBError.OutOfMemory }
     {
-        keys_of(self.alloc, &self.ops)
+        Ok(keys_of(self.alloc, &self.ops)?)
     }
 
     /// Its operations, each with its key: keys rising, and those of a key oldest first. They share keys and values. None
@@ -182,7 +182,7 @@ impl WriteBatch {
         ensures plain { self.now.held_merge ≡ false → holds_merge self.now.ops ≡ false }
         ensures cause { IsOkUnless result SlateDBError.OutOfMemory }
     {
-        list_ops(alloc, &self.ops)
+        Ok(list_ops(alloc, &self.ops)?)
     }
 
     /// Its operations by key, oldest first within a key.
@@ -275,8 +275,10 @@ fn test_put(key: &[u8], value: &[u8]) -> Result<(), SlateDBError>
     ensures cause { IfErr result (λ e. op_refusal key.now (plain_put value.now) ≡ Some e) }
     ensures fine { OnOk result (op_refusal key.now (plain_put value.now) ≡ None) }
 {
-    test_key(key)?;
-    test_value(value)
+    match test_key(key) {
+        Ok(()) => test_value(value),
+        Err(refusal) => Err(refusal),
+    }
 }
 
 /// `ValueTooLong` exactly above 2^32 - 1 bytes.
@@ -308,9 +310,8 @@ fn count_ops(ops: &BTreeMap<Bytes, SmallVec<WriteOp, 1>>) -> usize
 fn list_ops(
     alloc: Global,
     ops: &BTreeMap<Bytes, SmallVec<WriteOp, 1>>,
-) -> Result<Vec<(Bytes, WriteOp)>, SlateDBError>
+) -> Result<Vec<(Bytes, WriteOp)>, AllocError>
     ensures ops { IfOk result (λ all. all.items ≡ listed ops.now.entries) }
-    ensures cause { IsOkUnless result SlateDBError.OutOfMemory }
 {
     let mut all = Vec::with_capacity(alloc, ops.len())?;
     for (key, list) in ops {
@@ -333,9 +334,8 @@ fn add_ops(all: &mut Vec<(Bytes, WriteOp)>, key: &Bytes, ops: &[WriteOp]) -> Res
 fn keys_of(
     alloc: Global,
     ops: &BTreeMap<Bytes, SmallVec<WriteOp, 1>>,
-) -> Result<Vec<Bytes>, SlateDBError>
+) -> Result<Vec<Bytes>, AllocError>
     ensures keys { IfOk result (λ keys. keys.items ≡ map.keys ops.now) }
-    ensures cause { IsOkUnless result SlateDBError.OutOfMemory }
 {
     let mut keys = Vec::new(alloc);
     for key in ops.keys() {

@@ -4,11 +4,11 @@ ghost use Rattle.slate_types.specs.declared.error.SlateDBError.{SlateDBError};
 ghost use Rattle.slate_types.specs.Iteration.{IsInOrder};
 ghost use Rattle.slate_mem.specs.Table.{of_key};
 ghost use Rattle.slate_mem.specs.RowOf.{row_at};
-ghost use Rattle.slate_mem.specs.BatchRows.{batch_rows, stamped, newest_rows, oldest_rows};
+ghost use Rattle.slate_mem.specs.BatchRows.{batch_rows, stamped, newest_rows};
 
 use crate::WriteOp;
 use crate::batch::WriteBatch;
-use crate::mem_table::holds_none;
+use crate::mem_table::{holds_none, ordered};
 use bytes::Bytes;
 use slate_types::{
     BytesRange, IterationOrder, Outside, RowEntry, RowEntryIterator, RowsIterator, SlateDBError,
@@ -104,11 +104,8 @@ fn rows_in(
         return Ok(Vec::new(alloc));
     }
     let BytesRange { start, end } = copied(range)?;
-    let entries = batch.entries().range((start, end));
-    match order {
-        IterationOrder::Ascending => rising_rows(alloc, entries, stamps),
-        IterationOrder::Descending => falling_rows(alloc, entries, stamps),
-    }
+    let rows = rising_rows(alloc, batch.entries().range((start, end)), stamps)?;
+    Ok(ordered(rows, order)?)
 }
 
 /// An equal range, which shares the keys.
@@ -130,22 +127,6 @@ pub(crate) fn rising_rows(
 {
     let mut rows = Vec::new(alloc);
     for (key, ops) in entries {
-        add_rows(&mut rows, key, ops.as_slice(), stamps)?;
-    }
-    Ok(rows)
-}
-
-/// The rows of entries, keys downwards, and newest first within a key.
-fn falling_rows(
-    alloc: Global,
-    entries: Range<'_, Bytes, SmallVec<WriteOp, 1>>,
-    stamps: &Stamps,
-) -> Result<Vec<RowEntry>, SlateDBError>
-    ensures rows { IfOk result (λ rows. rows.items ≡ reverse (oldest_rows stamps.now entries.entry)) }
-    ensures cause { IsOkUnless result SlateDBError.OutOfMemory }
-{
-    let mut rows = Vec::new(alloc);
-    for (key, ops) in entries.rev() {
         add_rows(&mut rows, key, ops.as_slice(), stamps)?;
     }
     Ok(rows)

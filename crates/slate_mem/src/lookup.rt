@@ -1,9 +1,9 @@
 //! The rows of a key, newest first, to the first that decides.
-ghost use Rattle.std.specs.Prelude.{◌≡◌, ◌⊎◌, List, ◌++◌, map, None, IfOk, IfErr, IsOkUnless};
+ghost use Rattle.std.specs.Prelude.{◌≡◌, ◌⊎◌, true, false, List, ◌∷◌, ◌++◌, map, None, IfOk, IfErr, IsOkUnless};
 ghost use Rattle.slate_types.specs.declared.error.SlateDBError.{SlateDBError};
 ghost use Rattle.slate_types.specs.declared.iter.IterationOrder.{IterationOrder};
 ghost use Rattle.slate_types.specs.declared.types.RowEntry.{RowEntry};
-ghost use Rattle.slate_types.specs.Iteration.{NoneBefore};
+ghost use Rattle.slate_types.specs.Iteration.{IsInOrder, NoneBefore};
 ghost use Rattle.slate_types.specs.Outside.{nothing};
 ghost use Rattle.slate_types.specs.Rows.{is_operand};
 ghost use Rattle.slate_mem.specs.Table.{newest};
@@ -12,7 +12,7 @@ ghost use Rattle.slate_mem.specs.Lookup.{is_decided, newest_first};
 use crate::{ImmutableMemtable, MemTable};
 use bytes::Bytes;
 use slate_types::{RowEntry, RowEntryIterator, SlateDBError, ValueDeletable};
-use std::alloc::Global;
+use std::alloc::{AllocError, Global};
 
 /// Whether a row is an operand.
 pub fn is_merge(row: &RowEntry) -> bool
@@ -80,19 +80,33 @@ pub fn newest_of_walk<I: RowEntryIterator<()>>(
 {
     let mut found = Vec::new(alloc);
     while let Some(row) = rows.next(alloc, &mut ())? {
-        if row.key.as_slice() != key {
-            drop(row);
-            return Ok(found);
-        }
-        if row.seq > max_seq {
-            drop(row);
-            continue;
-        }
-        let decides = !is_merge(&row);
-        found.push(row)?;
-        if decides {
+        let goes_on = take_row(&mut found, row, key, max_seq)?;
+        if !goes_on {
             return Ok(found);
         }
     }
     Ok(found)
+}
+
+/// Takes a row of the key with a sequence of at most `max_seq`, and says whether rows behind it may count.
+fn take_row(
+    found: &mut Vec<RowEntry>,
+    row: RowEntry,
+    key: &[u8],
+    max_seq: u64,
+) -> Result<bool, AllocError>
+    ensures goes_on { IfOk result (λ more. more ≡ true → (rows : List RowEntry) → found.old.items ++ newest key.now max_seq (row ∷ rows) ≡ found.new.items ++ newest key.now max_seq rows) }
+    ensures ends { IfOk result (λ more. more ≡ false → (rows : List RowEntry) → NoneBefore IterationOrder.Ascending key.now (row ∷ rows) → IsInOrder IterationOrder.Ascending (row ∷ rows) → found.old.items ++ newest key.now max_seq (row ∷ rows) ≡ found.new.items) }
+{
+    if row.key.as_slice() != key {
+        drop(row);
+        return Ok(false);
+    }
+    if row.seq > max_seq {
+        drop(row);
+        return Ok(true);
+    }
+    let goes_on = is_merge(&row);
+    found.push(row)?;
+    Ok(goes_on)
 }

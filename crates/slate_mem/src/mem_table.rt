@@ -17,13 +17,13 @@ ghost use Rattle.slate_mem.specs.Table.{no_rows, put_rows, of_key, ranged, newes
 ghost use Rattle.slate_mem.specs.Tied.{IsRows, insert_row, insert_rows, undone, all_undone, newest_entries, taken};
 
 use crate::key_range::KVTableInternalKeyRange;
+use crate::lookup::is_merge;
 use crate::metadata::{KVTableMetadata, count_rows};
 use bytes::Bytes;
-use slate_types::{
-    BytesRange, IterationOrder, RowEntry, RowsIterator, SequencedKey, SlateDBError, ValueDeletable,
-};
+use slate_types::{BytesRange, IterationOrder, RowEntry, RowsIterator, SequencedKey, SlateDBError};
 use std::alloc::{AllocError, Global};
 use std::cmp::Ordering;
+use std::collections::btree_map::Range;
 use std::collections::{BTreeMap, BTreeSet};
 use std::marker::Model;
 use std::mem;
@@ -394,10 +394,21 @@ fn rows_between(
     ensures rows { IfOk result (λ found. found.items ≡ taken is_to_base (values_of (entries_between sequenced_cmp start end rows.now.entries))) }
     ensures cause { IsOkUnless result SlateDBError.OutOfMemory }
 {
+    Ok(copies(alloc, rows.range((start, end)), is_to_base)?)
+}
+
+/// Copies of the rows of entries, and of no more than those to the first that is no merge where that is asked for.
+fn copies(
+    alloc: Global,
+    entries: Range<'_, SequencedKey, RowEntry>,
+    is_to_base: bool,
+) -> Result<Vec<RowEntry>, AllocError>
+    ensures rows { IfOk result (λ found. found.items ≡ taken is_to_base (values_of entries.entry)) }
+{
     let mut found = Vec::new(alloc);
-    for (_, row) in rows.range((start, end)) {
+    for (_, row) in entries {
         found.push(row.clone()?)?;
-        if is_to_base && !matches!(row.value, ValueDeletable::Merge(_)) {
+        if is_to_base && !is_merge(row) {
             return Ok(found);
         }
     }
@@ -405,7 +416,10 @@ fn rows_between(
 }
 
 /// Rows whose keys ascend, in the order.
-fn ordered(mut rows: Vec<RowEntry>, order: IterationOrder) -> Result<Vec<RowEntry>, AllocError>
+pub(crate) fn ordered(
+    mut rows: Vec<RowEntry>,
+    order: IterationOrder,
+) -> Result<Vec<RowEntry>, AllocError>
     requires { IsInOrder IterationOrder.Ascending rows.items }
     ensures keys { IfOk result (λ all. (k : List ℕ) → of_key k all.items ≡ of_key k rows.items) }
     ensures in_order { IfOk result (λ all. IsInOrder order all.items) }

@@ -4,11 +4,13 @@ use Rattle.std.specs.Borrow.{Bor}
 use Rattle.std.proofs.lemmas.List.{take-map, drop-map, drop_all, length-drop}
 use Rattle.std.proofs.Math.Seq.{drop-cons}
 use Rattle.slate_mem.specs.declared.WriteOp.TheVariants as ops
+use Rattle.slate_types.specs.declared.config.IsolationLevel.{IsolationLevel}
 use Rattle.slate_types.specs.declared.config.Ttl.{Ttl}
 use Rattle.slate_mem.specs.Batch.{Ops}
-use Rattle.slate_txn.specs.Parse.{both, three, only_if, ◌>>=◌, read_bytes, read_ttl, read_all, OpWord, PutWord, MergeWord, DeleteWord, op_word, op_as, Groups, group_token, grouped, ops_of_groups}
+use Rattle.slate_txn.specs.declared.line.Line.TheVariants as lines
+use Rattle.slate_txn.specs.Parse.{both, three, only_if, ◌>>=◌, read_bytes, read_name, read_ttl, read_all, OpWord, PutWord, MergeWord, DeleteWord, op_word, op_as, Groups, group_token, grouped, ops_of_groups}
 use Rattle.slate_txn.specs.Stage.{is_built_op, is_built_batch}
-use Rattle.slate_txn.specs.Built.{texts, is_op_word, Op, built_put, built_delete, built_op, built_ops, if_batch_built}
+use Rattle.slate_txn.specs.Built.{texts, is_op_word, Op, built_level, built_begin, built_get, built_rollback, built_put, built_delete, built_op, built_ops, if_batch_built}
 use Rattle.slate_txn.proofs.ParseOnly.{same-bytes}
 
 -- ---- the tokens of the first operation
@@ -237,3 +239,82 @@ pub ops-taken : (ts : List (Bor (List ℕ))) (at n : ℕ) (d : Bor (List ℕ)) (
 ops-taken ts at n d held o x within kept len is some =
     let later = built_ops (texts (drop (at + 1 + n) ts)) in
     push-op held x later ∙ ap (λ p. option_map (λ os. held ++ os) (both ◌∷◌ p later)) (sym some) ∙ ap (λ b. option_map (λ os. held ++ os) b) (sym (turn ts at n d o within len is)) ∙ kept
+
+-- ---- tokens that a pattern takes apart
+
+-- what is made of a pair and a time to live, where both are there
+abbrev pub with_ttl : {A : Type 0} → (List ℕ → List ℕ → Ttl → A) → Option (List ℕ × List ℕ) → Option Ttl → Option A
+with_ttl make p o = p >>= λ q. o >>= λ ttl. Some (make q.0 q.1 ttl)
+
+both-three : {A : Type 0} (make : List ℕ → List ℕ → Ttl → A) (a b : Option (List ℕ)) (o : Option Ttl) → with_ttl make (both (λ k v. (k, v)) a b) o ≡ three make a b o
+both-three make None b o = refl
+both-three make (Some k) None o = refl
+both-three make (Some k) (Some v) o = refl
+
+abbrev put_of : List ℕ → List ℕ → Ttl → Op
+put_of k v ttl = (k, ops.Put v (record { ttl = ttl }))
+
+-- a key, a value, and the tokens behind them
+pub put-read : (ts : List (Bor (List ℕ))) (p : Option (List ℕ × List ℕ)) (o : Option Ttl) → 2 ≤ length ts →
+    p ≡ both (λ k v. (k, v)) (read_bytes (get_or ts 0 (record { ref_ptr = (0, 0); now = [] })).now) (read_bytes (get_or ts 1 (record { ref_ptr = (0, 0); now = [] })).now) →
+    o ≡ read_ttl (texts (take (length ts - 2) (drop 2 ts))) →
+    with_ttl (λ k v ttl. (k, ops.Put v (record { ttl = ttl }))) p o ≡ built_put (texts ts)
+put-read [] p o some e f = absurd (omega (arith, some))
+put-read (t ∷ []) p o some e f = absurd (omega (arith, some))
+put-read (t ∷ u ∷ us) p o some e f =
+    (λ i. with_ttl put_of (e i) ((f ∙ ap (λ vs. read_ttl (texts vs)) (behind-all (t ∷ u ∷ us) 2)) i)) ∙ both-three put_of (read_bytes t.now) (read_bytes u.now) (read_ttl (texts us))
+
+pub put-unread : (ts : List (Bor (List ℕ))) → 2 ≤ length ts → read_ttl (texts (take (length ts - 2) (drop 2 ts))) ≡ None → None ≡ built_put (texts ts)
+put-unread [] some e = refl
+put-unread (t ∷ []) some e = refl
+put-unread (t ∷ u ∷ us) some e =
+    nothing (both (λ k v. (k, v)) (read_bytes t.now) (read_bytes u.now)) ∙ put-read (t ∷ u ∷ us) (both (λ k v. (k, v)) (read_bytes t.now) (read_bytes u.now)) None some refl (sym e)
+  where
+    nothing : (p : Option (List ℕ × List ℕ)) → None ≡ with_ttl put_of p None
+    nothing None = refl
+    nothing (Some q) = refl
+
+-- a name and a key
+pub get-read : (ts : List (Bor (List ℕ))) (p : Option (List ℕ × List ℕ)) → length ts ≡ 2 →
+    p ≡ both (λ n k. (n, k)) (read_name (get_or ts 0 (record { ref_ptr = (0, 0); now = [] })).now) (read_bytes (get_or ts 1 (record { ref_ptr = (0, 0); now = [] })).now) →
+    option_map (λ (q : List ℕ × List ℕ). lines.Get q.0 q.1) p ≡ built_get (texts ts)
+get-read [] p two e = absurd (omega (arith, two))
+get-read (t ∷ []) p two e = absurd (omega (arith, two))
+get-read (t ∷ u ∷ v ∷ us) p two e = absurd (omega (arith, two))
+get-read (t ∷ u ∷ []) p two e = ap (option_map (λ (q : List ℕ × List ℕ). lines.Get q.0 q.1)) e ∙ by (read_name t.now) (read_bytes u.now)
+  where
+    by : (a b : Option (List ℕ)) → option_map (λ (q : List ℕ × List ℕ). lines.Get q.0 q.1) (both (λ n k. (n, k)) a b) ≡ both lines.Get a b
+    by None b = refl
+    by (Some n) None = refl
+    by (Some n) (Some k) = refl
+
+-- a name and a level
+pub begin-read : (ts : List (Bor (List ℕ))) (p : Option (List ℕ)) (o : Option IsolationLevel) → length ts ≡ 2 →
+    p ≡ read_name (get_or ts 0 (record { ref_ptr = (0, 0); now = [] })).now → o ≡ built_level (get_or ts 1 (record { ref_ptr = (0, 0); now = [] })).now →
+    both lines.Begin p o ≡ built_begin (texts ts)
+begin-read [] p o two e f = absurd (omega (arith, two))
+begin-read (t ∷ []) p o two e f = absurd (omega (arith, two))
+begin-read (t ∷ u ∷ v ∷ us) p o two e f = absurd (omega (arith, two))
+begin-read (t ∷ u ∷ []) p o two e f = λ i. both lines.Begin (e i) (f i)
+
+pub begin-unread : (ts : List (Bor (List ℕ))) → length ts ≡ 2 → built_level (get_or ts 1 (record { ref_ptr = (0, 0); now = [] })).now ≡ None → None ≡ built_begin (texts ts)
+begin-unread ts two e =
+    nothing (read_name (get_or ts 0 (record { ref_ptr = (0, 0); now = [] })).now)
+    ∙ begin-read ts (read_name (get_or ts 0 (record { ref_ptr = (0, 0); now = [] })).now) None two refl (sym e)
+  where
+    nothing : (p : Option (List ℕ)) → None ≡ both lines.Begin p None
+    nothing None = refl
+    nothing (Some n) = refl
+
+-- a name, and a key
+pub rollback-read : (ts : List (Bor (List ℕ))) (p : Option (List ℕ)) → length ts ≡ 1 → p ≡ read_name (get_or ts 0 (record { ref_ptr = (0, 0); now = [] })).now →
+    option_map lines.Rollback p ≡ built_rollback (texts ts)
+rollback-read [] p one e = absurd (omega (arith, one))
+rollback-read (t ∷ u ∷ us) p one e = absurd (omega (arith, one))
+rollback-read (t ∷ []) p one e = ap (option_map lines.Rollback) e
+
+pub delete-read : (ts : List (Bor (List ℕ))) (p : Option (List ℕ)) → length ts ≡ 1 → p ≡ read_bytes (get_or ts 0 (record { ref_ptr = (0, 0); now = [] })).now →
+    option_map (λ (key : List ℕ). (key, ops.Delete)) p ≡ built_delete (texts ts)
+delete-read [] p one e = absurd (omega (arith, one))
+delete-read (t ∷ u ∷ us) p one e = absurd (omega (arith, one))
+delete-read (t ∷ []) p one e = ap (option_map (λ (key : List ℕ). (key, ops.Delete))) e

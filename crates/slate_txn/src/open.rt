@@ -106,8 +106,20 @@ pub fn note_get(
     ensures ok { OnOk result (items.new.entries ≡ update_named id.now (λ t. record t { transcript = t.transcript ++ steps.Get key answer.now ∷ [] }) items.old.entries) }
     ensures err { OnErr result (items.new.entries ≡ items.old.entries) }
 {
-    let copy = answer.clone()?;
-    let step = TranscriptStep::Get { key, answer: copy };
+    match answer.clone() {
+        Ok(answer) => note(items, id, TranscriptStep::Get { key, answer }),
+        Err(error) => {
+            drop(key);
+            Err(error)
+        }
+    }
+}
+
+/// Adds a step to the transcript of the open transaction with this id. Where memory is wanting nothing is added.
+fn note(items: &mut BTreeMap<Uuid, Open>, id: &Uuid, step: TranscriptStep) -> Result<(), AllocError>
+    ensures ok { OnOk result (items.new.entries ≡ update_named id.now (λ t. record t { transcript = t.transcript ++ step ∷ [] }) items.old.entries) }
+    ensures err { OnErr result (items.new.entries ≡ items.old.entries) }
+{
     match items.get_mut(id) {
         Some(open) => open.transcript.push(step),
         None => {

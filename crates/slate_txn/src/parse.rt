@@ -1,8 +1,8 @@
 //! The meaning of a line.
-ghost use Rattle.std.specs.Prelude.{◌≡◌, ◌⊎◌, ◌≤◌, Ok, Some, None, IfOk, IfSome, IfErr, length, option_map, true, false};
-ghost use Rattle.slate_txn.specs.Parse.{tokens_of, grouped, read_ttl};
+ghost use Rattle.std.specs.Prelude.{◌≡◌, ◌⊎◌, ◌≤◌, ◌∷◌, [], Ok, Some, None, IfOk, IfSome, IfErr, codes, length, option_map, true, false};
+ghost use Rattle.slate_txn.specs.Parse.{tokens_of, grouped, both, read_bytes, read_name, read_ttl};
 ghost use Rattle.slate_txn.specs.Stage.{meaning};
-ghost use Rattle.slate_txn.specs.Built.{texts, built_level, keyword, built_now, built_begin, built_get, built_rollback, built_put, built_delete, built_op, built_ops, built_write, built_tokens, is_op_word};
+ghost use Rattle.slate_txn.specs.Built.{texts, built_level, keyword, built_now, built_begin, built_get, built_rollback, built_put, built_delete, built_op, built_ops, built_write, built_alone, built_as, built_tokens, is_op_word, keyword_among};
 ghost use Rattle.slate_txn.specs.Replies.{is_silent};
 
 use crate::line::Line;
@@ -36,10 +36,7 @@ pub fn parse_line(alloc: Global, line: &[u8]) -> Result<Option<Line>, SlateDBErr
     if is_silent(line) {
         return Ok(None);
     }
-    let tokens = split_tokens(alloc, line)?;
-    let meaning = read_line(alloc, tokens.as_slice());
-    drop(tokens);
-    match meaning? {
+    match read_text(alloc, line)? {
         Some(meaning) => Ok(Some(meaning)),
         None => Err(SlateDBError::ScriptSyntax { line: 0 }),
     }
@@ -50,6 +47,16 @@ fn is_silent(line: &[u8]) -> bool
     ensures { result ≡ is_silent line.now }
 {
     line.first().is_none_or(|byte| *byte == b'#')
+}
+
+/// The line that the text means, if any.
+fn read_text(alloc: Global, text: &[u8]) -> Result<Option<Line>, AllocError>
+    ensures line { IfOk result (λ o. o ≡ built_tokens (tokens_of text.now)) }
+{
+    let tokens = split_tokens(alloc, text)?;
+    let line = read_line(alloc, tokens.as_slice());
+    drop(tokens);
+    line
 }
 
 /// The bytes between single spaces.
@@ -67,14 +74,8 @@ fn read_line(alloc: Global, tokens: &[&[u8]]) -> Result<Option<Line>, AllocError
         return Ok(None);
     };
     match read_keyword(word) {
-        Some(Keyword::Now) => Ok(read_now(rest)),
-        Some(Keyword::Begin) => read_begin(alloc, rest),
-        Some(Keyword::Get) => read_get(alloc, rest),
-        Some(Keyword::Rollback) => read_rollback(alloc, rest),
-        Some(Keyword::Write) => read_write(alloc, rest),
-        Some(Keyword::Freeze) if rest.is_empty() => Ok(Some(Line::Freeze)),
-        Some(Keyword::Flush) if rest.is_empty() => Ok(Some(Line::Flush)),
-        _ => Ok(None),
+        Some(keyword) => read_as(alloc, keyword, rest),
+        None => Ok(None),
     }
 }
 
@@ -89,7 +90,16 @@ fn read_keyword(token: &[u8]) -> Option<Keyword>
         Some(Keyword::Get)
     } else if is_word(token, b"rollback") {
         Some(Keyword::Rollback)
-    } else if is_word(token, b"write") {
+    } else {
+        read_unnamed(token)
+    }
+}
+
+/// The words of lines that name no transaction.
+fn read_unnamed(token: &[u8]) -> Option<Keyword>
+    ensures { result ≡ keyword_among ((codes "write", Keyword.Write) ∷ (codes "freeze", Keyword.Freeze) ∷ (codes "flush", Keyword.Flush) ∷ []) token.now }
+{
+    if is_word(token, b"write") {
         Some(Keyword::Write)
     } else if is_word(token, b"freeze") {
         Some(Keyword::Freeze)
@@ -97,6 +107,21 @@ fn read_keyword(token: &[u8]) -> Option<Keyword>
         Some(Keyword::Flush)
     } else {
         None
+    }
+}
+
+/// The line of the word and the tokens behind it.
+fn read_as(alloc: Global, keyword: Keyword, tokens: &[&[u8]]) -> Result<Option<Line>, AllocError>
+    ensures line { IfOk result (λ o. o ≡ built_as keyword (texts tokens.now)) }
+{
+    match keyword {
+        Keyword::Now => Ok(read_now(tokens)),
+        Keyword::Begin => read_begin(alloc, tokens),
+        Keyword::Get => read_get(alloc, tokens),
+        Keyword::Rollback => read_rollback(alloc, tokens),
+        Keyword::Write => read_write(alloc, tokens),
+        Keyword::Freeze => Ok(read_freeze(tokens)),
+        Keyword::Flush => Ok(read_flush(tokens)),
     }
 }
 
@@ -118,11 +143,23 @@ fn read_begin(alloc: Global, tokens: &[&[u8]]) -> Result<Option<Line>, AllocErro
     let [name, level] = tokens else {
         return Ok(None);
     };
-    let (Some(name), Some(level)) = (read_name(name), read_level(level)) else {
+    let Some(level) = read_level(level) else {
         return Ok(None);
     };
-    let name = Bytes::copy_from_slice(alloc, name)?;
-    Ok(Some(Line::Begin { name, level }))
+    match copy_name(alloc, name)? {
+        Some(name) => Ok(Some(Line::Begin { name, level })),
+        None => Ok(None),
+    }
+}
+
+/// A copy of the name.
+fn copy_name(alloc: Global, token: &[u8]) -> Result<Option<Bytes>, AllocError>
+    ensures name { IfOk result (λ o. o ≡ read_name token.now) }
+{
+    match read_name(token) {
+        Some(name) => Ok(Some(Bytes::copy_from_slice(alloc, name)?)),
+        None => Ok(None),
+    }
 }
 
 fn read_level(token: &[u8]) -> Option<IsolationLevel>
@@ -138,14 +175,30 @@ fn read_get(alloc: Global, tokens: &[&[u8]]) -> Result<Option<Line>, AllocError>
     let [name, key] = tokens else {
         return Ok(None);
     };
-    let Some(name) = read_name(name) else {
-        return Ok(None);
-    };
+    match read_named(alloc, name, key)? {
+        Some((name, key)) => Ok(Some(Line::Get { name, key })),
+        None => Ok(None),
+    }
+}
+
+/// The name of one token and the bytes of another.
+fn read_named(alloc: Global, name: &[u8], key: &[u8]) -> Result<Option<(Bytes, Bytes)>, AllocError>
+    ensures pair { IfOk result (λ o. o ≡ both (λ n k. (n, k)) (read_name name.now) (read_bytes key.now)) }
+{
     let Some(key) = read_bytes(alloc, key)? else {
         return Ok(None);
     };
-    let name = Bytes::copy_from_slice(alloc, name)?;
-    Ok(Some(Line::Get { name, key }))
+    match copy_name(alloc, name) {
+        Ok(Some(name)) => Ok(Some((name, key))),
+        Ok(None) => {
+            drop(key);
+            Ok(None)
+        }
+        Err(error) => {
+            drop(key);
+            Err(error)
+        }
+    }
 }
 
 /// `rollback N`
@@ -155,11 +208,10 @@ fn read_rollback(alloc: Global, tokens: &[&[u8]]) -> Result<Option<Line>, AllocE
     let [name] = tokens else {
         return Ok(None);
     };
-    let Some(name) = read_name(name) else {
-        return Ok(None);
-    };
-    let name = Bytes::copy_from_slice(alloc, name)?;
-    Ok(Some(Line::Rollback { name }))
+    match copy_name(alloc, name)? {
+        Some(name) => Ok(Some(Line::Rollback { name })),
+        None => Ok(None),
+    }
 }
 
 /// `write` and operations
@@ -171,6 +223,26 @@ fn read_write(alloc: Global, tokens: &[&[u8]]) -> Result<Option<Line>, AllocErro
             ops: OpList::from_vec(ops),
         })),
         None => Ok(None),
+    }
+}
+
+/// `freeze`
+fn read_freeze(tokens: &[&[u8]]) -> Option<Line>
+    ensures { result ≡ built_alone Line.Freeze (texts tokens.now) }
+{
+    match tokens {
+        [] => Some(Line::Freeze),
+        _ => None,
+    }
+}
+
+/// `flush`
+fn read_flush(tokens: &[&[u8]]) -> Option<Line>
+    ensures { result ≡ built_alone Line.Flush (texts tokens.now) }
+{
+    match tokens {
+        [] => Some(Line::Flush),
+        _ => None,
     }
 }
 
@@ -234,18 +306,37 @@ fn read_put(alloc: Global, tokens: &[&[u8]]) -> Result<Option<(Bytes, WriteOp)>,
     let [key, value, rest @ ..] = tokens else {
         return Ok(None);
     };
-    let Some(key) = read_bytes(alloc, key)? else {
-        return Ok(None);
-    };
-    let Some(value) = read_bytes(alloc, value)? else {
-        drop(key);
-        return Ok(None);
-    };
     let Some(ttl) = read_last_ttl(rest) else {
-        drop((key, value));
         return Ok(None);
     };
-    Ok(Some((key, WriteOp::Put(value, PutOptions { ttl }))))
+    match read_two(alloc, key, value)? {
+        Some((key, value)) => Ok(Some((key, WriteOp::Put(value, PutOptions { ttl })))),
+        None => Ok(None),
+    }
+}
+
+/// The bytes of two byte tokens.
+fn read_two(
+    alloc: Global,
+    first: &[u8],
+    second: &[u8],
+) -> Result<Option<(Bytes, Bytes)>, AllocError>
+    ensures bytes { IfOk result (λ o. o ≡ both (λ a b. (a, b)) (read_bytes first.now) (read_bytes second.now)) }
+{
+    let Some(first) = read_bytes(alloc, first)? else {
+        return Ok(None);
+    };
+    match read_bytes(alloc, second) {
+        Ok(Some(second)) => Ok(Some((first, second))),
+        Ok(None) => {
+            drop(first);
+            Ok(None)
+        }
+        Err(error) => {
+            drop(first);
+            Err(error)
+        }
+    }
 }
 
 /// The time to live where there is one, and else the default.

@@ -153,8 +153,17 @@ fn push_word(alloc: Global, line: &mut Vec<u8>, word: &Word<'_>) -> Result<(), A
 {
     match word {
         Word::Text(text) => line.extend_from_slice(text),
-        Word::Shown(bytes) => line.extend_from_slice(shown(alloc, bytes)?.as_slice()),
-        Word::Number(number) => line.extend_from_slice(number.to_string(alloc)?.as_bytes()),
-        Word::Moment(moment) => line.extend_from_slice(moment.to_string(alloc)?.as_bytes()),
+        Word::Shown(bytes) => push_text(line, shown(alloc, bytes)?),
+        Word::Number(number) => push_text(line, number.to_string(alloc)?.into_bytes()),
+        Word::Moment(moment) => push_text(line, moment.to_string(alloc)?.into_bytes()),
     }
+}
+
+/// Adds the text to the line.
+fn push_text(line: &mut Vec<u8>, text: Vec<u8>) -> Result<(), AllocError>
+    ensures text { OnOk result (line.new.items ≡ line.old.items ++ text.items) }
+{
+    let pushed = line.extend_from_slice(&text);
+    drop(text);
+    pushed
 }

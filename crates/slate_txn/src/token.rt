@@ -142,9 +142,14 @@ fn is_digits(token: &[u8]) -> bool
 pub(crate) fn read_ttl(token: &[u8]) -> Option<Ttl>
     ensures { result ≡ read_ttl_token token.now }
 {
-    match token {
-        b"t-" => Some(Ttl::NoExpiry),
-        [b't', digits @ ..] => read_number(digits).map(Ttl::ExpireAfter),
-        _ => None,
+    let [b't', text @ ..] = token else {
+        return None;
+    };
+    if is_word(text, b"-") {
+        return Some(Ttl::NoExpiry);
+    }
+    match read_number(text) {
+        Some(millis) => Some(Ttl::ExpireAfter(millis)),
+        None => None,
     }
 }

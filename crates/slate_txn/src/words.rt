@@ -121,7 +121,7 @@ fn number(words: &[String], name: &[u8]) -> Option<Option<u64>>
     ensures { result ≡ value_of read_number name.now (map string_bytes words.now) }
 {
     match only_value(words, name)? {
-        Some(value) => read_number(value).map(Some),
+        Some(value) => Some(Some(read_number(value)?)),
         None => Some(None),
     }
 }
@@ -130,7 +130,7 @@ fn block_format(words: &[String]) -> Option<Option<BlockFormat>>
     ensures { result ≡ value_of read_format (codes "format=") (map string_bytes words.now) }
 {
     match only_value(words, b"format=")? {
-        Some(value) => read_format(value).map(Some),
+        Some(value) => Some(Some(read_format(value)?)),
         None => Some(None),
     }
 }

@@ -1,32 +1,32 @@
-use Rattle.std.proofs.Common.{◌≡◌, ◌∷◌, true, false, None, rules, subst, ◌∙◌, arith, bytes_eq, nat_le}
-use Rattle.std.proofs.lemmas.Bool.Decides.{nat_tests}
+use Rattle.std.proofs.Common.{◌≡◌, ◌∷◌, ◌++◌, None, ap, sym, subst, ◌∙◌}
 use Rattle.slate_types.specs.declared.iter.IterationOrder.TheVariants.{Ascending}
 use Rattle.slate_types.specs.Iteration.{IsInOrder, NoneBefore}
 use Rattle.slate_types.specs.Outside.{nothing}
-use Rattle.slate_types.specs.Rows.{is_base}
-use Rattle.slate_mem.proofs.WalkLaws.{takes, ends_walk, walks_on}
+use Rattle.slate_mem.specs.Table.{newest}
+use Rattle.slate_mem.proofs.WalkLaws.{takes}
 use Rattle.slate_mem.proofs.lookup.newest_of_walk.Goals as goal
 
-pub returns-then-ne-clause-found : goal.returns-then-ne-clause-found
-returns-then-ne-clause-found g c s o n =
+pub returns-then-not-goes_on-clause-found : goal.returns-then-not-goes_on-clause-found
+returns-then-not-goes_on-clause-found g c s o n =
     let rest = g.I.RowEntryIterator.rest in
-    let sound = c.loop-found.invariant.sound s in
+    let was = c.loop-found.invariant in
+    let sound = was.sound s in
     let split : rest c.loop-found.rows nothing ≡ c.in-Some.row ∷ rest c.next.new.self nothing = takes _ _ c.in-Some.row _ c.in-Some.is (c.in_ok-row.ensures.rows sound) in
-    let other : bytes_eq c.in-Some.row.key c.args.key.now ≡ false = search rules in
-    ends_walk c.args.key.now c.args.max_seq c.in-Some.row _ _ (rest c.args.rows.now nothing) c.loop-found.found.items split (c.loop-found.invariant.none s n)
-    (subst (λ x. IsInOrder x (rest c.loop-found.rows nothing)) (c.loop-found.invariant.order ∙ o) (g.met.I.RowEntryIterator.rising c.loop-found.rows nothing sound)) other (c.loop-found.invariant.found s o n)
+    let rising = subst (λ x. IsInOrder x (rest c.loop-found.rows nothing)) (was.order ∙ o) (g.met.I.RowEntryIterator.rising c.loop-found.rows nothing sound) in
+    sym (was.found s o n ∙ ap (λ xs. c.loop-found.found.items ++ newest c.args.key.now c.args.max_seq xs) split
+    ∙ c.in_ok-goes_on.ensures.ends c.if-not-goes_on.true _ (subst (NoneBefore Ascending c.args.key.now) split (was.none s n)) (subst (IsInOrder Ascending) split rising))
 
 pub loop-found-preserved : goal.loop-found-preserved
 loop-found-preserved g c =
     let rest = g.I.RowEntryIterator.rest in
-    let same : bytes_eq c.in-Some.row.key c.args.key.now ≡ true = search rules in
-    let upto : nat_le c.in-Some.row.seq c.args.max_seq ≡ true = grind (arith, nat_tests, c.if-row-max_seq.false) in
-    let base : is_base c.in-Some.row ≡ false = search rules in
+    let was = c.loop-found.invariant in
     record {
-      sound = λ s. c.next.ensures.still (c.loop-found.invariant.sound s);
-      order = c.next.ensures.order ∙ c.loop-found.invariant.order;
-      fewer = λ e r. c.loop-found.invariant.fewer e (c.in_ok-row.ensures.fewer None e r);
-      none = λ s n. (subst (NoneBefore Ascending c.args.key.now) (takes _ _ c.in-Some.row _ c.in-Some.is (c.in_ok-row.ensures.rows (c.loop-found.invariant.sound s))) (c.loop-found.invariant.none s n)).1;
-      found = λ s o n. walks_on c.args.key.now c.args.max_seq c.in-Some.row (rest c.loop-found.rows nothing) (rest c.next.new.self nothing) (rest c.args.rows.now nothing) c.loop-found.found.items c.push.new.self.items
-          (takes _ _ c.in-Some.row _ c.in-Some.is (c.in_ok-row.ensures.rows (c.loop-found.invariant.sound s))) same upto base c.in_ok-push.ensures.items (c.loop-found.invariant.found s o n);
+      sound = λ s. c.next.ensures.still (was.sound s);
+      order = c.next.ensures.order ∙ was.order;
+      fewer = λ e r. was.fewer e (c.in_ok-row.ensures.fewer None e r);
+      none = λ s n. (subst (NoneBefore Ascending c.args.key.now) (takes _ _ c.in-Some.row _ c.in-Some.is (c.in_ok-row.ensures.rows (was.sound s))) (was.none s n)).1;
+      found = λ s o n.
+          was.found s o n
+          ∙ ap (λ xs. c.loop-found.found.items ++ newest c.args.key.now c.args.max_seq xs) (takes (rest c.loop-found.rows nothing) _ c.in-Some.row (rest c.next.new.self nothing) c.in-Some.is (c.in_ok-row.ensures.rows (was.sound s)))
+          ∙ c.in_ok-goes_on.ensures.goes_on c.if-not-goes_on.false _;
     }

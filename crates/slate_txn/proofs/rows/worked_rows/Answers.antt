@@ -1,5 +1,6 @@
 use Rattle.std.specs.Fmt.{digits}
 use Rattle.std.proofs.Common.{refl}
+use Rattle.slate_txn.proofs.LongRows.{long_keys, long_keys_today}
 use Rattle.slate_txn.proofs.rows.worked_rows.Goals as goal
 
 pub returns-clause-short_scripts : goal.returns-clause-short_scripts
@@ -75,8 +76,7 @@ unfolding digits
 returns-clause-one_made_round c = (refl, refl)
 
 pub returns-clause-long_keys : goal.returns-clause-long_keys
-unfolding digits
-returns-clause-long_keys c = (refl, refl, refl)
+returns-clause-long_keys c = long_keys
 
 pub returns-clause-ordinary_day : goal.returns-clause-ordinary_day
 unfolding digits
@@ -103,8 +103,7 @@ unfolding digits
 returns-clause-refusals_today c = refl
 
 pub returns-clause-long_keys_today : goal.returns-clause-long_keys_today
-unfolding digits
-returns-clause-long_keys_today c = (refl, refl, refl)
+returns-clause-long_keys_today c = long_keys_today
 
 pub returns-clause-not_built_today : goal.returns-clause-not_built_today
 unfolding digits

@@ -1,5 +1,4 @@
 use Rattle.std.proofs.Common.{◌∙◌, ap, sym}
-use Rattle.std.proofs.lemmas.Result.{IfOk-weaker}
 use Rattle.slate_mem.specs.BatchModel.{BatchModel}
 use Rattle.slate_mem.specs.Batch.{batch_keys}
 use Rattle.slate_mem.proofs.KeptLaws.{keys-listed}
@@ -9,4 +8,4 @@ pub returns-clause-keys : goal.returns-clause-keys
 returns-clause-keys c =
     let w = c.self.invariant in
     let keys = sym (keys-listed c.self.inside.ops.entries w.rising w.kept) ∙ ap (λ (b : BatchModel). batch_keys b.ops) c.self.view_is in
-    IfOk-weaker c.keys_of.result _ _ (λ v e. e ∙ keys) c.keys_of.ensures.keys
+    c.in_ok-keys_of.ensures.keys ∙ keys

@@ -1,0 +1,15 @@
+use Rattle.std.proofs.Common.{◌∙◌, ◌++◌, ◌∷◌, [], ap, sym, reverse, map, append_assoc}
+use Rattle.std.proofs.lemmas.List.{reverse-append}
+use Rattle.slate_mem.specs.BatchRows.{stamped}
+use Rattle.slate_mem.proofs.batch_iterator.add_rows.Goals as goal
+
+pub loop-op-preserved : goal.loop-op-preserved
+loop-op-preserved c =
+    let row = stamped c.args.stamps.now c.args.key.now in
+    let before = c.loop-op.rows.items in
+    let left = c.next.new.self.iter.rest.now in
+    let op = c.in-Some.op.now in
+    ap (λ rs. rs ++ map row (reverse left)) (c.in_ok-push.ensures.items ∙ ap (λ r. before ++ (r ∷ [])) c.in_ok-row.ensures.row)
+    ∙ append_assoc before (row op ∷ []) (map row (reverse left))
+    ∙ ap (λ os. before ++ map row os) (sym (ap reverse c.in-Some.ensures.steps ∙ reverse-append left (op ∷ [])))
+    ∙ c.loop-op.invariant

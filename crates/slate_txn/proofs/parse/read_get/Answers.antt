@@ -1,0 +1,10 @@
+use Rattle.std.proofs.Common.{ℕ, List, option_map, sym, ap, ◌∙◌, arith}
+use Rattle.slate_txn.specs.declared.line.Line.TheVariants as lines
+use Rattle.slate_txn.proofs.OpLaws.{get-read}
+use Rattle.slate_txn.proofs.parse.read_get.Goals as goal
+
+pub returns-in-Some : goal.returns-in-Some
+returns-in-Some c = record { line = ap (option_map (λ (q : List ℕ × List ℕ). lines.Get q.0 q.1)) (sym c.in-Some.is) ∙ get-read c.args.tokens.now c.in_ok-name.field-0 (omega (arith, c.in-len2.len_at_least, c.in-len2.len_below)) c.in_ok-name.ensures.pair }
+
+pub returns-in-None : goal.returns-in-None
+returns-in-None c = record { line = ap (option_map (λ (q : List ℕ × List ℕ). lines.Get q.0 q.1)) (sym c.in-None.is) ∙ get-read c.args.tokens.now c.in_ok-name.field-0 (omega (arith, c.in-len2.len_at_least, c.in-len2.len_below)) c.in_ok-name.ensures.pair }

@@ -1,0 +1,9 @@
+use Rattle.std.proofs.Common.{ap, ◌∙◌}
+use Rattle.std.proofs.lemmas.Result.{IfOk-weaker}
+use Rattle.slate_txn.specs.Built.{built_tokens, texts}
+use Rattle.slate_txn.proofs.parse.read_text.Goals as goal
+
+pub returns : goal.returns
+returns c = record {
+  line = IfOk-weaker c.read_line-line.result _ _ (λ o is. is ∙ ap built_tokens (ap texts c.as_slice.ensures.value ∙ c.in_ok-tokens.ensures.tokens)) c.read_line-line.ensures.line;
+}
