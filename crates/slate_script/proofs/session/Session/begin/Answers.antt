@@ -1,4 +1,5 @@
 use Rattle.std.proofs.Common.{arith, ◌≡◌, cond, Some, None, is_some, Ok, refl, sym, subst, ap, ◌∙◌}
+use Rattle.std.proofs.lemmas.Result.{IfOk-from_err}
 use Rattle.std.specs.Map.{lookup}
 use Rattle.std.specs.BTreeMap.{is_at}
 use Rattle.slate_types.specs.Keys.{key_cmp}
@@ -64,3 +65,21 @@ returns-clause-grows c =
     (takes-event c.self.inside.core c.begin.new.self (events.Begin c.in_ok-id.id c.args.level c.in_ok-id.start) c.in_ok-id.ensures.event
     (opened-more (rules_of c.self.inside.core.settings plain-meaning) c.self.inside.core.state c.begin.new.self.state c.in_ok-id.id c.args.level c.in_ok-id.start
     (opens-fresh (rules_of c.self.inside.core.settings plain-meaning) c.self.inside.core.state c.begin.new.self.state c.in_ok-id.id c.args.level c.in_ok-id.start (c.in_ok-id.ensures.step plain-meaning)))))
+
+pub returns-in_err-key-clause-stores : goal.returns-in_err-key-clause-stores
+returns-in_err-key-clause-stores c = IfOk-from_err c.from_residual.result _ c.from_residual.ensures.0
+
+pub returns-in_err-key-clause-grows : goal.returns-in_err-key-clause-grows
+returns-in_err-key-clause-grows c = IfOk-from_err c.from_residual.result _ c.from_residual.ensures.0
+
+pub returns-in_err-id-clause-stores : goal.returns-in_err-id-clause-stores
+returns-in_err-id-clause-stores c = IfOk-from_err c.from_residual-in_err-id.result _ c.from_residual-in_err-id.ensures.0
+
+pub returns-in_err-id-clause-grows : goal.returns-in_err-id-clause-grows
+returns-in_err-id-clause-grows c = IfOk-from_err c.from_residual-in_err-id.result _ c.from_residual-in_err-id.ensures.0
+
+pub returns-in_err-insert-clause-stores : goal.returns-in_err-insert-clause-stores
+returns-in_err-insert-clause-stores c = IfOk-from_err c.from_residual-in_err-insert.result _ c.from_residual-in_err-insert.ensures.0
+
+pub returns-in_err-insert-clause-grows : goal.returns-in_err-insert-clause-grows
+returns-in_err-insert-clause-grows c = IfOk-from_err c.from_residual-in_err-insert.result _ c.from_residual-in_err-insert.ensures.0

@@ -1,5 +1,5 @@
 use Rattle.std.proofs.Common.{◌≡◌, ◌⊎◌, Some, Ok, refl, ap, sym, subst, arith}
-use Rattle.std.proofs.lemmas.Result.{err_from_is_err_and}
+use Rattle.std.proofs.lemmas.Result.{err_from_is_err_and, IfOk-from_err}
 use Rattle.slate_types.specs.declared.error.SlateDBError.TheVariants.{LimitReached}
 use Rattle.slate_types.specs.Faults.{faults_of}
 use Rattle.slate_types.specs.Outside.{Counts, IsOuter}
@@ -96,3 +96,9 @@ returns-clause-follows g c os settled =
     (has-room LIMIT _ _ _ c.flush.result c.in_ok-seq.seq (LimitReached LIMIT) went c.flush.ensures.limit)
     (c.flush.ensures.kept m refl)
     (subst (λ (v : SessionModel). IsSettled m (Some os) v) (sym c.self.view_is) settled)
+
+pub returns-in_err-seq-clause-settings : goal.returns-in_err-seq-clause-settings
+returns-in_err-seq-clause-settings g c = IfOk-from_err c.from_residual.result _ c.from_residual.ensures.0
+
+pub returns-in_err-seq-clause-grows : goal.returns-in_err-seq-clause-grows
+returns-in_err-seq-clause-grows g c = IfOk-from_err c.from_residual.result _ c.from_residual.ensures.0

@@ -1,6 +1,6 @@
 use Rattle.std.proofs.Common.{◌≡◌, ℕ, List, [], length, Option, Some, None, Ok, refl, sym, ap, subst, ◌∙◌, arith}
 use Rattle.std.proofs.lemmas.List.{append-nil}
-use Rattle.std.proofs.lemmas.Result.{err_from_is_err_and}
+use Rattle.std.proofs.lemmas.Result.{err_from_is_err_and, IfOk-from_err}
 use Rattle.slate_types.specs.Outside.{Counts}
 use Rattle.slate_store.specs.Env.{combine_of}
 use Rattle.slate_txn.specs.Named.{find_named}
@@ -120,3 +120,9 @@ returns-clause-stores g c =
     let same : length c.get-read.new.self.events ≡ length c.self.inside.core.events = ap (λ (v : CoreModel). length v.events) c.in_ok-row.ensures.noted in
     subst (λ (v : SessionModel). StoresNothing v (record before { core = c.get-read.new.self })) c.self.view_is
     (record { settings = c.get-read.ensures.settings; tables = ap (λ (v : CoreModel). tables_of v.events) c.in_ok-row.ensures.noted; later = omega (arith, same); kept = c.get-read.ensures.kept })
+
+pub returns-in_err-row-clause-stores : goal.returns-in_err-row-clause-stores
+returns-in_err-row-clause-stores g c = IfOk-from_err c.from_residual.result _ c.from_residual.ensures.0
+
+pub returns-in_err-row-clause-grows : goal.returns-in_err-row-clause-grows
+returns-in_err-row-clause-grows g c = IfOk-from_err c.from_residual.result _ c.from_residual.ensures.0
