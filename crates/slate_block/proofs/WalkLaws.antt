@@ -1,6 +1,6 @@
 -- What a walk over a block of version 1 reads.
 use Rattle.std.proofs.Common.{◌≡◌, ℕ, zero, suc, ◌+◌, ◌-◌, ◌<◌, ◌≤◌, List, [], ◌∷◌, ◌++◌, length, get_or, take, drop, reverse, map, Some, Result, Ok, Err, refl, sym, ap, subst, ◌∙◌, arith, add-one, ◌⊎◌, inl, inr}
-use Rattle.std.specs.Prelude.{slice_get, slice_range}
+use Rattle.std.specs.Prelude.{slice_get, slice_range, IfOk, IfErr}
 use Rattle.std.proofs.lemmas.List.{map-append, length-take, length-drop, drop-take, same_lists, take_all, get_or-drop, get_or-take, get_or-reverse, length-reverse, drop-drop, reverse-reverse}
 use Rattle.std.proofs.lemmas.Grind.{reverse_onto}
 use Rattle.std.proofs.lemmas.Option.{slice_get-get_or}
@@ -149,3 +149,34 @@ pub refused_at : (reads : List RowRead) (i : ℕ) (e m : SlateDBError) → (e �
 refused_at reads i e m (inl h) d = inl h
 refused_at reads i e m (inr h) (inl d) = inl d
 refused_at reads i e m (inr h) (inr d) = inr (d, (i, h))
+
+-- ---- the row at an index of those that are left
+
+pub index_left : (order : IterationOrder) (body first ats : List ℕ) (last start end i : ℕ) (reads : List RowRead) → start ≤ end → end ≤ length ats → in_order order (slice_range (reads_v1 body first ats last) start end) ≡ reads → i < length reads → start + i < end
+index_left order body first ats last start end i reads p q e lt = omega (arith, reads_left order body first ats last start end p q, ap length e, lt, p)
+
+pub place_below : (order : IterationOrder) (start end i n : ℕ) → start + i < end → end ≤ n → place_in order start end i < n
+place_below Ascending start end i n lt le = omega (arith, lt, le)
+place_below Descending start end i n lt le = omega (arith, lt, le)
+
+pub left_at : (order : IterationOrder) (body first ats : List ℕ) (last start end i : ℕ) (reads : List RowRead) → start + i < end → end ≤ length ats → in_order order (slice_range (reads_v1 body first ats last) start end) ≡ reads →
+    slice_get reads i ≡ Some (row_upto body first (get_or ats (place_in order start end i) 0) (next_place last (drop (place_in order start end i + 1) ats)))
+left_at order body first ats last start end i reads lt le e =
+    let n = as_many_reads body first ats last in
+    ap (λ (l : List RowRead). slice_get l i) (sym e) ∙ read_in_order order (reads_v1 body first ats last) start end i lt (omega (arith, n, le))
+    ∙ read_at body first ats last (place_in order start end i) (place_below order start end i (length ats) lt le)
+
+pub found_at : (reads : List RowRead) (i : ℕ) (read : RowRead) (result : Result RowEntry SlateDBError) → slice_get reads i ≡ Some read → IfOk result (λ row. read ≡ Ok row) → IfOk result (λ row. slice_get reads i ≡ Some (Ok row))
+found_at reads i read (Ok row) e h = e ∙ ap Some h
+found_at reads i read (Err d) e h = h
+
+refused_there : (reads : List RowRead) (i : ℕ) (read : RowRead) (d m : SlateDBError) → slice_get reads i ≡ Some read → (d ≡ m) ⊎ (read ≡ Err d) → (d ≡ m) ⊎ (slice_get reads i ≡ Some (Err d))
+refused_there reads i read d m e (inl h) = inl h
+refused_there reads i read d m e (inr h) = inr (e ∙ ap Some h)
+
+pub cause_at : (reads : List RowRead) (i : ℕ) (read : RowRead) (m : SlateDBError) (result : Result RowEntry SlateDBError) → slice_get reads i ≡ Some read → IfErr result (λ d. (d ≡ m) ⊎ (read ≡ Err d)) → IfErr result (λ d. (d ≡ m) ⊎ (slice_get reads i ≡ Some (Err d)))
+cause_at reads i read m (Ok row) e h = h
+cause_at reads i read m (Err d) e h = refused_there reads i read d m e h
+
+pub whole_in_order : {A : Type 0} (order : IterationOrder) (xs : List A) (n : ℕ) → n ≡ length xs → in_order order (in_order order (slice_range xs 0 n)) ≡ xs
+whole_in_order order xs n e = in_order_twice order (slice_range xs 0 n) ∙ whole_slice xs n e
