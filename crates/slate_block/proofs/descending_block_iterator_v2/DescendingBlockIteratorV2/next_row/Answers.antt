@@ -75,3 +75,14 @@ returns-in_err-self-inside-clause-rows g c = IfOk-from_err c.from_residual.resul
 
 pub returns-in_err-self-inside-clause-damage : goal.returns-in_err-self-inside-clause-damage
 returns-in_err-self-inside-clause-damage g c = let p = err_from_is_err_and c.from_residual.result c.from_residual.ensures.1 in rw (p.1, p.2) c.in_err-self-inside.ensures.damage
+
+pub group_rows-requires : goal.group_rows-requires
+group_rows-requires g c =
+    let more : 0 < c.self.inside.groups = grind (arith, nat_tests) in
+    rw c.offsets-offsets.ensures (omega (arith, c.self.invariant, more))
+
+pub invariant_of-self : goal.invariant_of-self
+invariant_of-self g c = c.self.invariant
+
+pub invariant_of-self-2 : goal.invariant_of-self-2
+invariant_of-self-2 g c = omega (arith, c.self.invariant)
