@@ -192,3 +192,10 @@ encoded_held part held bytes same = same ∙ held_bytes part held part.body.item
 
 pub no_key : (is_empty : Bool) (key : List ℕ) → is_empty ≡ eqb (length key) 0 → is_empty ≡ false → length key ≡ 0 → ⊥
 no_key is_empty key is some zero = false≢true (sym some ∙ is ∙ eq-eqb (length key) 0 zero)
+
+-- ---- what is counted
+
+pub counted_more : (before after : Building) (r : RowEntry) (n one : ℕ) → after ≡ with_row before r → n ≤ length before.rows → one ≡ 1 → n + one ≤ length after.rows
+counted_more before after r n one e le is =
+    let grown : length after.rows ≡ length (before.rows ++ r ∷ []) = ap (λ (b : Building). length b.rows) e in
+    omega (arith, grown, length-append before.rows (r ∷ []), le, is)

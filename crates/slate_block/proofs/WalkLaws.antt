@@ -1,5 +1,5 @@
 -- What a walk over a block of version 1 reads.
-use Rattle.std.proofs.Common.{◌≡◌, ℕ, zero, suc, ◌+◌, ◌-◌, ◌<◌, ◌≤◌, List, [], ◌∷◌, ◌++◌, length, get_or, take, drop, reverse, map, Some, Result, Ok, Err, refl, sym, ap, subst, ◌∙◌, arith, add-one, ◌⊎◌, inl, inr, Bool, Option, None}
+use Rattle.std.proofs.Common.{◌≡◌, ℕ, zero, suc, ◌+◌, ◌-◌, ◌<◌, ◌≤◌, List, [], ◌∷◌, ◌++◌, length, get_or, take, drop, reverse, map, Some, Result, Ok, Err, refl, sym, ap, subst, ◌∙◌, arith, add-one, ◌⊎◌, inl, inr, Bool, Option, None, true}
 use Rattle.std.specs.Prelude.{slice_get, slice_range, IfOk, IfErr, IfSome}
 use Rattle.std.proofs.lemmas.List.{map-append, length-take, length-drop, drop-take, same_lists, take_all, get_or-drop, get_or-take, get_or-reverse, length-reverse, drop-drop, reverse-reverse}
 use Rattle.std.proofs.lemmas.Grind.{reverse_onto}
@@ -11,7 +11,7 @@ use Rattle.slate_types.specs.declared.iter.IterationOrder.{IterationOrder}
 use Rattle.slate_types.specs.declared.iter.IterationOrder.TheVariants.{Ascending, Descending}
 use Rattle.slate_types.specs.Iteration.{comes_before}
 use Rattle.slate_block.specs.Damage.{◌>>=◌}
-use Rattle.slate_block.specs.Walks.{next_place, row_upto, RowRead, reads_v1, all_ok, before, block_reads, block_rows}
+use Rattle.slate_block.specs.Walks.{next_place, row_upto, RowRead, reads_v1, are_named, all_ok, before, block_reads, block_rows}
 use Rattle.slate_block.specs.BlockWalks.{in_order, place_in, IsDamage, Refuses}
 
 -- the row at an index is read up to the next place
@@ -203,3 +203,7 @@ pub told_at : (order : IterationOrder) (key : List ℕ) (reads others : List Row
     IfSome result (λ b. (row : RowEntry) → slice_get others j ≡ Some (Ok row) → b ≡ comes_before order row.key key) → IfSome result (λ b. (row : RowEntry) → slice_get reads i ≡ Some (Ok row) → b ≡ comes_before order row.key key)
 told_at order key reads others i j (Some b) e h = λ row is. h row (sym e ∙ is)
 told_at order key reads others i j None e h = h
+
+pub named_some : (offsets : List ℕ) → are_named offsets ≡ true → 0 < length offsets
+named_some [] h = absurd cc
+named_some (at ∷ ats) h = omega arith

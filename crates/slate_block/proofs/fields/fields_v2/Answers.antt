@@ -62,3 +62,12 @@ returns-clause-within c = record {
   value_in = c.in_ok-value_at.ensures.within.1;
   end_in = c.in_ok-expire_ts.ensures.within;
 }
+
+pub block_field-requires : goal.block_field-requires
+block_field-requires c = c.in_ok-key.ensures.within.1
+
+pub head_fields-requires : goal.head_fields-requires
+head_fields-requires c = c.in_ok-value_at.ensures.within.1
+
+pub stamp_fields-requires : goal.stamp_fields-requires
+stamp_fields-requires c = c.in_ok-seq.ensures.within
