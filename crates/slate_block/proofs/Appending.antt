@@ -28,7 +28,3 @@ grown_ok (Err e) a x y b grown same = tt
 pub kept_last : {T E : Type 0} (r : Result T E) (a x y z b : List ℕ) → y ≡ a ++ x → b ≡ (if is_ok r then y ++ z else y) → OnErr r (take (length a) b ≡ a)
 kept_last (Ok t) a x y z b grown is = tt
 kept_last (Err e) a x y z b grown is = kept_step a x y b grown (kept_here y b is)
-
-pub on_ok : {T E P : Type 0} (r : Result T E) → P → OnOk r P
-on_ok (Ok x) p = p
-on_ok (Err e) p = tt

@@ -4,6 +4,8 @@ use Rattle.std.specs.List.{AllByRecursion}
 use Rattle.std.specs.Prelude.{map, ◌==◌, nat_le, ◌||◌, Result, Ok, Err, OnOk, OnErr}
 use Rattle.std.proofs.lemmas.Bool.{eq-eqb, false≢true}
 use Rattle.std.proofs.lemmas.Bool.Decides.{nat_tests}
+use Rattle.slate_types.specs.declared.error.SlateDBError.{SlateDBError}
+use Rattle.slate_types.specs.declared.error.SlateDBError.TheVariants.{EmptyKey, OutOfMemory}
 use Rattle.slate_types.specs.declared.types.RowEntry.{RowEntry}
 use Rattle.slate_block.specs.BlockSpelling.{is_restart, offsets_of, longest, spelled, as_read, FitsRow, FitsBlock, IsBlockOf, block_spelling, block_bytes}
 use Rattle.slate_block.specs.Fitting.{offsets_counted, size_with, fits_in}
@@ -199,3 +201,14 @@ pub counted_more : (before after : Building) (r : RowEntry) (n one : ℕ) → af
 counted_more before after r n one e le is =
     let grown : length after.rows ≡ length (before.rows ++ r ∷ []) = ap (λ (b : Building). length b.rows) e in
     omega (arith, grown, length-append before.rows (r ∷ []), le, is)
+
+-- ---- results that are told apart
+
+pub taken_or_not : {A E : Type 0} (x : A) (e : E) → ◌≡◌ {A = Result A E} (Ok x) (Err e) → ⊥
+taken_or_not x e same = cc
+
+pub other_error : (r : Result Bool SlateDBError) (x : SlateDBError) → r ≡ Err x → x ≡ OutOfMemory → r ≡ Err EmptyKey → ⊥
+other_error r x is memory key = cc
+
+pub not_refused : (b : Bool) → b ≡ true → ◌≡◌ {A = Result Bool SlateDBError} (Ok b) (Ok false) → ⊥
+not_refused b is same = cc

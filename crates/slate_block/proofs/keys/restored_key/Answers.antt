@@ -1,6 +1,5 @@
 use Rattle.std.proofs.Common.{inl, refl, arith}
 use Rattle.std.proofs.lemmas.Result.{IfOk-from_err, err_from_is_err_and}
-use Rattle.slate_block.proofs.Appending.{on_ok}
 use Rattle.slate_block.proofs.Prefixes.{whole_restored}
 use Rattle.slate_block.proofs.keys.restored_key.Goals as goal
 
@@ -23,4 +22,16 @@ pub returns-then-shared-eq0-clause-valid : goal.returns-then-shared-eq0-clause-v
 returns-then-shared-eq0-clause-valid c = whole_restored c.args.shared c.args.other.now c.args.suffix.now (omega arith) (omega arith) (omega arith)
 
 pub returns-clause-valid : goal.returns-clause-valid
-returns-clause-valid c = on_ok c.joined_key.result (whole_restored c.args.shared c.args.other.now c.args.suffix.now (omega arith) (omega arith) (omega arith))
+returns-clause-valid c = whole_restored c.args.shared c.args.other.now c.args.suffix.now (omega arith) (omega arith) (omega arith)
+
+pub returns-in_err-joined_key-clause-key : goal.returns-in_err-joined_key-clause-key
+returns-in_err-joined_key-clause-key c = IfOk-from_err c.from_residual-in_err-joined_key.result _ c.from_residual-in_err-joined_key.ensures.0
+
+pub returns-in_err-joined_key-clause-valid : goal.returns-in_err-joined_key-clause-valid
+returns-in_err-joined_key-clause-valid c = IfOk-from_err c.from_residual-in_err-joined_key.result _ c.from_residual-in_err-joined_key.ensures.0
+
+pub returns-in_err-joined_key-clause-only : goal.returns-in_err-joined_key-clause-only
+returns-in_err-joined_key-clause-only c = λ _. let p = err_from_is_err_and c.from_residual-in_err-joined_key.result c.from_residual-in_err-joined_key.ensures.1 in rw (p.1, p.2) refl
+
+pub returns-in_err-joined_key-clause-cause : goal.returns-in_err-joined_key-clause-cause
+returns-in_err-joined_key-clause-cause c = let p = err_from_is_err_and c.from_residual-in_err-joined_key.result c.from_residual-in_err-joined_key.ensures.1 in rw (p.1, p.2) (inl refl)

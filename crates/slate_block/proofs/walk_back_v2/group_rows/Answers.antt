@@ -1,8 +1,8 @@
-use Rattle.std.proofs.Common.{◌≡◌, List, [], ◌∷◌, ◌++◌, true, refl, sym, ap, ◌∙◌, arith, rules, inl}
+use Rattle.std.proofs.Common.{List, [], ◌∷◌, ◌++◌, refl, sym, ap, ◌∙◌, arith, inl}
 use Rattle.std.proofs.lemmas.Result.{err_from_is_err_and, IfOk-from_err}
 use Rattle.slate_types.specs.declared.error.SlateDBError.TheVariants.{OutOfMemory}
 use Rattle.slate_types.specs.declared.types.RowEntry.{RowEntry}
-use Rattle.slate_block.specs.GroupWalks.{group_left, is_over, restart_at}
+use Rattle.slate_block.specs.GroupWalks.{group_left, restart_at}
 use Rattle.slate_block.proofs.GroupSteps.{over_left}
 use Rattle.slate_block.proofs.BackSteps.{group_begun, group_grown, group_done, refused_or_done}
 use Rattle.slate_block.proofs.walk_back_v2.group_rows.Goals as goal
@@ -20,7 +20,7 @@ returns-in_err-row-clause-cause c =
 
 pub returns-clause-rows : goal.returns-clause-rows
 returns-clause-rows c =
-    let over : is_over c.loop-alloc.group ≡ true = search rules in
+    let over = sym c.is_over.ensures ∙ c.loop-alloc-test.false in
     group_done c.loop-alloc.rows.items (restart_at c.args.body.now c.args.offsets.now c.args.number) (group_left c.args.body.now c.loop-alloc.group) c.loop-alloc.invariant.rows (over_left c.args.body.now c.loop-alloc.group over)
 
 pub returns-in_err-rows-clause-rows : goal.returns-in_err-rows-clause-rows

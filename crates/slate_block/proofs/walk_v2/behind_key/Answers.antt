@@ -1,8 +1,7 @@
-use Rattle.std.proofs.Common.{◌≡◌, true, false}
+use Rattle.std.proofs.Common.{sym, ◌∙◌}
 use Rattle.std.proofs.lemmas.Result.{err_from_is_err_and, IfOk-from_err}
 use Rattle.slate_types.specs.declared.error.SlateDBError.TheVariants.{OutOfMemory}
 use Rattle.slate_types.specs.declared.iter.IterationOrder.TheVariants.{Ascending}
-use Rattle.slate_types.specs.Iteration.{comes_before}
 use Rattle.slate_block.specs.GroupWalks.{left_v2}
 use Rattle.slate_block.proofs.SeekLaws.{past_none, past_refused, past_trans}
 use Rattle.slate_block.proofs.SeekSteps.{next_past, next_smaller, next_stops, next_read, end_stops, end_read}
@@ -17,7 +16,7 @@ returns-in_err-row-clause-cause c =
 pub loop-alloc-preserved : goal.loop-alloc-preserved
 loop-alloc-preserved c =
     let reads = left_v2 c.args.body.now c.args.offsets.now in
-    let before : comes_before Ascending c.in_ok-row.row.key c.args.key.now ≡ true = cc in
+    let before = rw c.as_slice.ensures at (sym c.puts_before-is_past.ensures ∙ c.if-not-is_past.false) in
     let past = next_past Ascending c.args.key.now (reads c.loop-alloc.place) (reads c.in_ok-row.after) c.in_ok-row.row c.in_ok-row.ensures.found before in
     record { past = past_trans Ascending c.args.key.now (reads c.args.place) (reads c.loop-alloc.place) (reads c.in_ok-row.after) c.loop-alloc.invariant.past past }
 
@@ -49,7 +48,7 @@ loop-alloc-smaller c =
 pub returns-then-not-is_past-clause-stops : goal.returns-then-not-is_past-clause-stops
 returns-then-not-is_past-clause-stops c =
     let reads = left_v2 c.args.body.now c.args.offsets.now in
-    let behind : comes_before Ascending c.in_ok-row.row.key c.args.key.now ≡ false = cc in
+    let behind = rw c.as_slice.ensures at (sym c.puts_before-is_past.ensures ∙ c.if-not-is_past.true) in
     next_stops Ascending c.args.key.now (reads c.loop-alloc.place) (reads c.in_ok-row.after) c.in_ok-row.row c.in_ok-row.ensures.found behind
 
 pub returns-then-not-is_past-clause-read : goal.returns-then-not-is_past-clause-read

@@ -1,4 +1,5 @@
-use Rattle.std.proofs.Common.{ap}
+use Rattle.std.proofs.Common.{ap, sym, ◌∙◌}
+use Rattle.std.proofs.lemmas.Bool.{false≢true}
 use Rattle.std.proofs.lemmas.Result.{IfOk-from_err, err_from_is_err_and}
 use Rattle.slate_block.specs.Walks.{all_ok}
 use Rattle.slate_block.proofs.SeekLaws.{some_left, first_taken}
@@ -27,10 +28,10 @@ returns-then-is_empty-clause-rows g c = let none = ap all_ok (c.is_empty.ensures
 -- ---- the first one is taken off
 
 pub row-requires : goal.row-requires
-row-requires g c = some_left c.args.self.now.reads (λ none. let full = c.is_empty.ensures.1 none in let never = c.if-is_empty.false in cc)
+row-requires g c = some_left c.args.self.now.reads (λ none. false≢true (sym c.if-is_empty.false ∙ c.is_empty.ensures.1 none))
 
 pub skip-requires : goal.skip-requires
-skip-requires g c = some_left c.args.self.now.reads (λ none. let full = c.is_empty.ensures.1 none in let never = c.if-is_empty.false in cc)
+skip-requires g c = some_left c.args.self.now.reads (λ none. false≢true (sym c.if-is_empty.false ∙ c.is_empty.ensures.1 none))
 
 pub returns-clause-read : goal.returns-clause-read
 returns-clause-read g c = first_taken c.args.self.now.reads c.skip.new.self.reads c.in_ok-row.row c.in_ok-row.ensures.found c.skip.ensures.reads

@@ -6,7 +6,7 @@ use Rattle.slate_block.specs.RowSpelling.{FitsStamp}
 use Rattle.slate_block.specs.BlockSpelling.{FitsRow, longest}
 use Rattle.slate_block.specs.Building.{Building, number, front_key, with_row}
 use Rattle.slate_block.specs.Fitting.{fits_in}
-use Rattle.slate_block.proofs.HeldLaws.{PartHeld, Leaves, no_key, held_room, tried_held, seen_same, seen_longer}
+use Rattle.slate_block.proofs.HeldLaws.{PartHeld, Leaves, no_key, other_error, taken_or_not, held_room, tried_held, seen_same, seen_longer}
 use Rattle.slate_block.proofs.builder.BlockBuilder.add.Goals as goal
 
 -- what is known where the row is taken
@@ -79,7 +79,7 @@ invariant_of-self-2 c = c.self.invariant
 -- ---- no room
 
 pub returns-then-not-has_room-clause-empty : goal.returns-then-not-has_room-clause-empty
-returns-then-not-has_room-clause-empty c = (λ e. absurd cc, λ zero. absurd (no_key c.is_empty.result c.args.entry.key c.is_empty.ensures c.if-is_empty.false zero))
+returns-then-not-has_room-clause-empty c = (λ e. absurd (taken_or_not _ _ e), λ zero. absurd (no_key c.is_empty.result c.args.entry.key c.is_empty.ensures c.if-is_empty.false zero))
 
 pub returns-then-not-has_room-clause-fits : goal.returns-then-not-has_room-clause-fits
 returns-then-not-has_room-clause-fits c = sym c.if-not-has_room.true ∙ c.has_room.ensures
@@ -92,13 +92,10 @@ returns-then-not-has_room-clause-refused c = λ _. refl
 pub returns-in_err-append-clause-empty : goal.returns-in_err-append-clause-empty
 returns-in_err-append-clause-empty c =
     let p = err_from_is_err_and c.from_residual.result c.from_residual.ensures.1 in
-    let failed = p.1 in
-    let error = p.2 in
-    let cause = c.in_err-append.ensures.cause in
-    (λ e. absurd cc, λ zero. absurd (no_key c.is_empty.result c.args.entry.key c.is_empty.ensures c.if-is_empty.false zero))
+    (λ e. absurd (other_error _ _ p.1 (p.2 ∙ c.in_err-append.ensures.cause) e), λ zero. absurd (no_key c.is_empty.result c.args.entry.key c.is_empty.ensures c.if-is_empty.false zero))
 
 pub returns-clause-empty : goal.returns-clause-empty
-returns-clause-empty c = (λ e. absurd cc, λ zero. absurd (no_key c.is_empty.result c.args.entry.key c.is_empty.ensures c.if-is_empty.false zero))
+returns-clause-empty c = (λ e. absurd (taken_or_not _ _ e), λ zero. absurd (no_key c.is_empty.result c.args.entry.key c.is_empty.ensures c.if-is_empty.false zero))
 
 pub returns-clause-fits : goal.returns-clause-fits
 returns-clause-fits c = sym c.if-not-has_room.false ∙ c.has_room.ensures

@@ -1,8 +1,8 @@
-use Rattle.std.proofs.Common.{◌≡◌, Ok, ap, subst, arith, ◌∙◌}
+use Rattle.std.proofs.Common.{◌≡◌, Ok, ap, subst, arith, ◌∙◌, sym}
 use Rattle.slate_block.specs.Building.{with_row}
 use Rattle.slate_block.specs.Counting.{Counting, counted_rows}
 use Rattle.slate_block.specs.Fitting.{fits_in}
-use Rattle.slate_block.proofs.HeldLaws.{counted_more}
+use Rattle.slate_block.proofs.HeldLaws.{counted_more, not_refused, taken_or_not}
 use Rattle.slate_block.proofs.builder_with_stats.BlockBuilderWithStats.add.Goals as goal
 
 pub sum_of-self-inside-requires : goal.sum_of-self-inside-requires
@@ -22,7 +22,7 @@ invariant_of-self c =
 -- ---- the row is taken
 
 pub returns-in-Ok-true-clause-empty : goal.returns-in-Ok-true-clause-empty
-returns-in-Ok-true-clause-empty c = (λ e. absurd cc, λ zero. let never = c.add-is_taken.ensures.empty.1 zero in let added = c.in-Ok-true.is in absurd cc)
+returns-in-Ok-true-clause-empty c = (λ e. absurd (taken_or_not _ _ e), λ zero. absurd (taken_or_not _ _ (sym c.in-Ok-true.is ∙ c.add-is_taken.ensures.empty.1 zero)))
 
 pub returns-in-Ok-true-clause-fits : goal.returns-in-Ok-true-clause-fits
 returns-in-Ok-true-clause-fits c =
@@ -34,7 +34,7 @@ returns-in-Ok-true-clause-taken c =
     λ _. subst (λ (w : Counting). c.add-is_taken.new.self ≡ with_row w.builder c.args.entry) c.self.view_is (c.add-is_taken.ensures.taken added)
 
 pub returns-in-Ok-true-clause-refused : goal.returns-in-Ok-true-clause-refused
-returns-in-Ok-true-clause-refused c = λ e. let one = c.in-Ok-true.field-0-test in absurd cc
+returns-in-Ok-true-clause-refused c = λ e. absurd (not_refused c.in-Ok-true.field-0 c.in-Ok-true.field-0-test e)
 
 pub returns-in-Ok-true-clause-few : goal.returns-in-Ok-true-clause-few
 returns-in-Ok-true-clause-few c = λ _. c.add-is_taken.ensures.few (c.in-Ok-true.is ∙ ap Ok c.in-Ok-true.field-0-test)
