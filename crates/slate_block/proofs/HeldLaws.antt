@@ -195,13 +195,6 @@ encoded_held part held bytes same = same ∙ held_bytes part held part.body.item
 pub no_key : (is_empty : Bool) (key : List ℕ) → is_empty ≡ eqb (length key) 0 → is_empty ≡ false → length key ≡ 0 → ⊥
 no_key is_empty key is some zero = false≢true (sym some ∙ is ∙ eq-eqb (length key) 0 zero)
 
--- ---- what is counted
-
-pub counted_more : (before after : Building) (r : RowEntry) (n one : ℕ) → after ≡ with_row before r → n ≤ length before.rows → one ≡ 1 → n + one ≤ length after.rows
-counted_more before after r n one e le is =
-    let grown : length after.rows ≡ length (before.rows ++ r ∷ []) = ap (λ (b : Building). length b.rows) e in
-    omega (arith, grown, length-append before.rows (r ∷ []), le, is)
-
 -- ---- results that are told apart
 
 pub taken_or_not : {A E : Type 0} (x : A) (e : E) → ◌≡◌ {A = Result A E} (Ok x) (Err e) → ⊥
@@ -209,6 +202,3 @@ taken_or_not x e same = cc
 
 pub other_error : (r : Result Bool SlateDBError) (x : SlateDBError) → r ≡ Err x → x ≡ OutOfMemory → r ≡ Err EmptyKey → ⊥
 other_error r x is memory key = cc
-
-pub not_refused : (b : Bool) → b ≡ true → ◌≡◌ {A = Result Bool SlateDBError} (Ok b) (Ok false) → ⊥
-not_refused b is same = cc
