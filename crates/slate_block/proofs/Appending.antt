@@ -24,3 +24,7 @@ kept_step a x b c grown kept =
 pub grown_ok : {T E : Type 0} (r : Result T E) (a x y b : List ℕ) → b ≡ (if is_ok r then a ++ x else a) → a ++ x ≡ y → OnOk r (b ≡ y)
 grown_ok (Ok t) a x y b grown same = grown ∙ same
 grown_ok (Err e) a x y b grown same = tt
+
+pub kept_last : {T E : Type 0} (r : Result T E) (a x y z b : List ℕ) → y ≡ a ++ x → b ≡ (if is_ok r then y ++ z else y) → OnErr r (take (length a) b ≡ a)
+kept_last (Ok t) a x y z b grown is = tt
+kept_last (Err e) a x y z b grown is = kept_step a x y b grown (kept_here y b is)

@@ -1,5 +1,5 @@
 -- What a walk from the end of a block of version 2 reads, and what its seeks take off.
-use Rattle.std.proofs.Common.{◌≡◌, ℕ, zero, suc, ◌+◌, ◌<◌, ◌≤◌, Bool, true, false, List, [], ◌∷◌, ◌++◌, length, take, drop, reverse, map, Option, Some, None, Result, Ok, Err, refl, sym, ap, ◌∙◌, subst, arith, append_assoc, ◌⊎◌, inl, inr, nat_eq, rules, IsOk}
+use Rattle.std.proofs.Common.{◌≡◌, ℕ, zero, suc, ◌+◌, ◌-◌, ◌<◌, ◌≤◌, Bool, true, false, List, [], ◌∷◌, ◌++◌, length, take, drop, reverse, map, Option, Some, None, Result, Ok, Err, refl, sym, ap, ◌∙◌, subst, arith, append_assoc, ◌⊎◌, inl, inr, nat_eq, rules, IsOk}
 use Rattle.std.proofs.lemmas.Bool.{cases_lt, eqb-true, eq-eqb}
 use Rattle.std.specs.Prelude.{IsSome, IsTrue, option_to_list, slice_get}
 use Rattle.std.proofs.lemmas.List.{append-nil, map-append, reverse-append, reverse-reverse, length-reverse, nil_from_length, drop_all}
@@ -279,3 +279,13 @@ empty_tells body offsets groups n rows b none size e =
     is_true : (b : Bool) → b ≡ true → IsTrue b
     is_true true h = search rules
     is_true false h = absurd cc
+
+-- ---- what is held
+
+pub more_groups : (n : ℕ) → (n ≡ 0 → ⊥) → n ≡ n - 1 + 1
+more_groups zero h = absurd (h refl)
+more_groups (suc n) h = omega arith
+
+pub rows_held : (n : ℕ) → nat_eq n 0 ≡ false → 0 < n
+rows_held zero h = absurd cc
+rows_held (suc n) h = omega arith

@@ -25,3 +25,7 @@ begun_v2 body offsets h = by (are_named offsets) refl
 pub upwards_read_v2 : (order : IterationOrder) (body offsets : List ℕ) (reads : List RowRead) → reads ≡ walk_in order body offsets → IsOk (block_reads 2 body offsets) → order ≡ Ascending → all_ok reads ≡ block_rows 2 body offsets
 upwards_read_v2 Ascending body offsets reads walk h is = upwards_read 2 Ascending body offsets reads (begun_v2 body offsets h ∙ ap Ok (sym walk)) refl
 upwards_read_v2 Descending body offsets reads walk h is = absurd cc
+
+pub upwards : (order : IterationOrder) → (order ≡ Descending → ⊥) → order ≡ Ascending
+upwards Ascending h = refl
+upwards Descending h = absurd (h refl)

@@ -2,17 +2,17 @@
 use Rattle.std.proofs.Common.{◌≡◌, ℕ, zero, suc, ◌+◌, ◌-◌, ◌^◌, ◌<◌, ◌≤◌, Bool, true, false, cond, ltb, List, [], ◌∷◌, ◌++◌, length, get_or, take, drop, Option, Some, None, is_some, Result, Ok, Err, ℤ, refl, sym, ap, subst, ◌∙◌, arith, inl, inr}
 use Rattle.std.specs.Prelude.{FitsSigned, slice_get, slice_range}
 use Rattle.std.specs.Int.{Width, w16, w32, w64, byte_len, from_be_bytes, to_be_bytes, cast_signed, cast_unsigned}
-use Rattle.std.proofs.lemmas.Bool.{cases_lt, ltb-false, le-ltb}
+use Rattle.std.proofs.lemmas.Bool.{cases_lt, ltb-true, ltb-false, le-ltb}
 use Rattle.std.proofs.lemmas.Int.{of_z-to_z, to_z-of_z, ints}
 use Rattle.std.proofs.lemmas.List.{take_at, drop_at, take-append-drop, length-append, length-take, drop-drop, get_or-drop, get_or-take, get_or_past, at_drop_more}
 use Rattle.std.proofs.lemmas.Nat.{be_bytes_2, be_bytes_4, be_bytes_8, from_be_bytes-to_be_bytes_2, from_be_bytes-to_be_bytes_4, from_be_bytes-to_be_bytes_8}
-use Rattle.std.proofs.lemmas.Option.{slice_get_within, get_or_from_slice_get}
+use Rattle.std.proofs.lemmas.Option.{slice_get_past, slice_get-get_or, slice_get_within, get_or_from_slice_get}
 use Rattle.slate_types.specs.declared.error.SlateDBError.{SlateDBError}
 use Rattle.slate_types.specs.declared.error.SlateDBError.TheVariants.{CorruptTable, InvalidRowFlags}
 use Rattle.slate_block.specs.declared.flags.RowFlags.{RowFlags}
 use Rattle.slate_block.specs.Varint.{IsVarint, varint}
 use Rattle.slate_block.specs.RowSpelling.{be64, are_flags, stamp_bytes, FitsStamp}
-use Rattle.slate_block.specs.Damage.{◌>>=◌, front_varint, varint_at, varint_field, number_field, block_field, row_flags, flags_at, flags_field, stamp_field}
+use Rattle.slate_block.specs.Damage.{◌>>=◌, Field, head_layout, front_varint, varint_at, varint_field, number_field, block_field, row_flags, flags_at, flags_field, stamp_field}
 use Rattle.slate_block.proofs.Groups.{IsBytes, front_found, front_again}
 use Rattle.slate_block.proofs.VarintLaws.{one_varint}
 
@@ -205,3 +205,19 @@ stamp_again bytes rest at None fits h = let same : at ≡ at + 0 = omega arith i
 stamp_again bytes rest at (Some z) fits h =
     let read : number_field w64 bytes at ≡ Ok (cast_unsigned w64 z, at + 8) = number_again w64 (2 ^ 64) wide64 bytes rest at (cast_unsigned w64 z) (stamp_below z fits) h in
     rw read (ap (λ (x : ℤ). Ok (Some x, at + 8)) (to_z-of_z w64 z fits))
+
+-- ---- the sequence and the flags
+
+pub no_flags : (bytes : List ℕ) (at : ℕ) → false ≡ ltb at (length bytes) → flags_field bytes at ≡ Err (CorruptTable at)
+unfolding flags_field
+no_flags bytes at h = ap (flags_at at) (slice_get_past bytes at (ltb-false at (length bytes) (sym h)))
+
+pub flags_there : (bytes : List ℕ) (at b : ℕ) (t : Bool) → true ≡ ltb at (length bytes) → b ≡ get_or bytes at b → are_flags b ≡ t → flags_field bytes at ≡ cond t (Ok (row_flags b, at + 1)) (Err (InvalidRowFlags b))
+unfolding flags_field
+flags_there bytes at b t h e f =
+    ap (flags_at at) (slice_get-get_or bytes at b (ltb-true at (length bytes) (sym h)) ∙ ap Some (sym e))
+    ∙ ap (λ (k : Bool). cond {A = Result (RowFlags × ℕ) SlateDBError} k (Ok (row_flags b, at + 1)) (Err (InvalidRowFlags b))) f
+
+pub head_read : (bytes : List ℕ) (at seq next : ℕ) (flags : Field RowFlags) → Ok (seq, next) ≡ number_field w64 bytes at → flags_field bytes next ≡ flags → head_layout bytes at ≡ (flags >>= λ found. Ok ((seq, found.0), found.1))
+unfolding head_layout
+head_read bytes at seq next flags e h = rw (sym e, h) refl

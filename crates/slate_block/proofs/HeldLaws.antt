@@ -1,8 +1,11 @@
 -- What a builder keeps, and which row fits behind it.
-use Rattle.std.proofs.Common.{◌≡◌, ℕ, ◌+◌, ◌<◌, ◌≤◌, ◌^◌, Bool, true, false, cond, List, [], ◌∷◌, ◌++◌, length, flat_map, refl, sym, subst, ap, ◌∙◌, arith, length-append}
+use Rattle.std.proofs.Common.{◌≡◌, ℕ, ◌+◌, ◌<◌, ◌≤◌, ◌^◌, Bool, true, false, cond, eqb, List, [], ◌∷◌, ◌++◌, length, flat_map, refl, sym, subst, ap, ◌∙◌, arith, length-append}
 use Rattle.std.specs.List.{AllByRecursion}
 use Rattle.std.specs.Prelude.{map, ◌==◌, nat_le, ◌||◌, Result, Ok, Err, OnOk, OnErr}
+use Rattle.std.proofs.lemmas.Bool.{eq-eqb, false≢true}
 use Rattle.std.proofs.lemmas.Bool.Decides.{nat_tests}
+use Rattle.slate_types.specs.declared.error.SlateDBError.{SlateDBError}
+use Rattle.slate_types.specs.declared.error.SlateDBError.TheVariants.{EmptyKey, OutOfMemory}
 use Rattle.slate_types.specs.declared.types.RowEntry.{RowEntry}
 use Rattle.slate_block.specs.BlockSpelling.{is_restart, offsets_of, longest, spelled, as_read, FitsRow, FitsBlock, IsBlockOf, block_spelling, block_bytes}
 use Rattle.slate_block.specs.Fitting.{offsets_counted, size_with, fits_in}
@@ -188,3 +191,14 @@ few_held part held = few_offsets_held (number part.version) part.body.items part
 
 pub encoded_held : (part : RowsPart) (held : PartHeld part) (bytes : List ℕ) → bytes ≡ block_spelling part.body.items part.offsets.items → bytes ≡ block_bytes (number part.version) held.0.0
 encoded_held part held bytes same = same ∙ held_bytes part held part.body.items refl
+
+pub no_key : (is_empty : Bool) (key : List ℕ) → is_empty ≡ eqb (length key) 0 → is_empty ≡ false → length key ≡ 0 → ⊥
+no_key is_empty key is some zero = false≢true (sym some ∙ is ∙ eq-eqb (length key) 0 zero)
+
+-- ---- results that are told apart
+
+pub taken_or_not : {A E : Type 0} (x : A) (e : E) → ◌≡◌ {A = Result A E} (Ok x) (Err e) → ⊥
+taken_or_not x e same = cc
+
+pub other_error : (r : Result Bool SlateDBError) (x : SlateDBError) → r ≡ Err x → x ≡ OutOfMemory → r ≡ Err EmptyKey → ⊥
+other_error r x is memory key = cc

@@ -1,5 +1,6 @@
 -- Keys of rows of version 1 in their two parts.
-use Rattle.std.proofs.Common.{◌≡◌, ℕ, zero, suc, ◌+◌, ◌<◌, Bool, List, [], ◌∷◌, ◌++◌, length, get_or, min, take, drop, Option, Some, Ok, ℤ, refl, sym, ap, ◌∙◌, arith, Ordering, Less, Equal, Greater}
+use Rattle.std.proofs.Common.{◌≡◌, ℕ, zero, suc, ◌+◌, ◌<◌, Bool, List, [], ◌∷◌, ◌++◌, length, get_or, min, take, drop, Option, Some, Ok, ℤ, refl, sym, ap, ◌∙◌, arith, Ordering, Less, Equal, Greater, Result, Err}
+use Rattle.std.specs.Result.{result_ok}
 use Rattle.std.specs.Prelude.{slice_get, slice_range}
 use Rattle.std.specs.Ordering.{is_lt, is_gt, ordering_then, ordering_reverse, nat_cmp}
 use Rattle.slate_types.specs.declared.types.RowEntry.{RowEntry}
@@ -80,3 +81,7 @@ key_of_read order body first ats bytes key index upto lt place text before h row
     let runs = row_runs body first (get_or ats index 0) p row read in
     let here : row_v1_of bytes ≡ Ok (runs.entry, runs.len) = ap row_v1_of (text ∙ ap (λ (n : ℕ). slice_range body (get_or ats index 0) n) place) ∙ runs.read in
     h runs.entry runs.len here ∙ ap (λ (r : RowEntry). comes_before order r.key key) runs.same
+
+pub ok_read : {A E : Type 0} (r : Result A E) (x : A) → Some x ≡ result_ok r → r ≡ Ok x
+ok_read (Ok y) x e = let same : y ≡ x = cc in ap Ok same
+ok_read (Err d) x e = absurd cc

@@ -2,7 +2,7 @@
 use Rattle.std.proofs.Common.{◌≡◌, ℕ, ◌+◌, if◌then◌else◌, true, false, ◌<◌, ◌^◌, List, length, Result, Ok, Err, refl, sym, ap, subst, ◌∙◌, ◌⊎◌, inl, inr, Bool, cond, arith}
 use Rattle.std.specs.Prelude.{IfOk, IfErr}
 use Rattle.slate_types.specs.declared.error.SlateDBError.{SlateDBError}
-use Rattle.slate_types.specs.declared.error.SlateDBError.TheVariants.{CorruptTable}
+use Rattle.slate_types.specs.declared.error.SlateDBError.TheVariants.{CorruptTable, OutOfMemory}
 use Rattle.slate_types.specs.declared.types.RowEntry.{RowEntry}
 use Rattle.slate_block.specs.declared.fields.RowFields.{RowFields}
 use Rattle.slate_block.specs.declared.row.SstRowEntry.{SstRowEntry}
@@ -92,3 +92,7 @@ whole_damaged from e m (inr h) = inr (subst IsDamage (sym h.1) tt)
 pub whole_damage : {A : Type 0} (P : Type 0) (r : Result A SlateDBError) (from : ℕ) (m : SlateDBError) → IfErr r (λ e. (e ≡ m) ⊎ (P × (e ≡ CorruptTable from))) → IfErr r (λ e. (e ≡ m) ⊎ IsDamage e)
 whole_damage P (Ok x) from m h = tt
 whole_damage P (Err e) from m h = whole_damaged from e m h
+
+pub restored_within : (from n place : ℕ) (e : SlateDBError) → from + n < 2 ^ 64 → (e ≡ OutOfMemory) ⊎ (e ≡ CorruptTable 0) → e ≡ CorruptTable place → from + place < 2 ^ 64
+restored_within from n place e lt (inl h) is = absurd cc
+restored_within from n place e lt (inr h) is = let same : place ≡ 0 = cc in omega (arith, lt, same)

@@ -45,7 +45,7 @@ head_takes bytes at x fits e =
     let t0 = number_takes w64 (2 ^ 64) wide64 bytes at a.0.0 a.0.1 fits a.1 in
     let t1 = flags_takes bytes a.0.1 b.0.0 b.0.1 b.1 in
     let made : (ℕ × RowFlags) × ℕ = ((a.0.0, b.0.0), b.0.1) in
-    subst (λ (y : (ℕ × RowFlags) × ℕ). HeadTakes bytes at y.0.0 y.0.1 y.1) (ok_is made x b.2)
+    subst (λ (y : (ℕ × RowFlags) × ℕ). HeadTakes bytes at y.0.0 y.0.1 y.1) {x = made} (ok_is made x b.2)
     (record { here = then bytes at (be64 a.0.0) a.0.1 (b.0.0.0 ∷ []) b.0.1 t0.0 t1.0; fits = t0.1; known = t1.1 })
 
 pub record StampsTake (flags : RowFlags) (bytes : List ℕ) (at : ℕ) (expire create : Option ℤ) (next : ℕ) : Type 0 where
@@ -63,7 +63,7 @@ stamps_take flags bytes at x fits e =
     let t0 = stamp_takes (has 2 flags) bytes at a.0.0 a.0.1 fits a.1 in
     let t1 = stamp_takes (has 4 flags) bytes a.0.1 b.0.0 b.0.1 fits b.1 in
     let made : (Option ℤ × Option ℤ) × ℕ = ((a.0.0, b.0.0), b.0.1) in
-    subst (λ (y : (Option ℤ × Option ℤ) × ℕ). StampsTake flags bytes at y.0.0 y.0.1 y.1) (ok_is made x b.2)
+    subst (λ (y : (Option ℤ × Option ℤ) × ℕ). StampsTake flags bytes at y.0.0 y.0.1 y.1) {x = made} (ok_is made x b.2)
     (record { here = then bytes at (stamp_bytes a.0.0) a.0.1 (stamp_bytes b.0.0) b.0.1 t0.0 t1.0; fits_expire = t0.1; fits_create = t1.1; has_expire = t0.2; has_create = t1.2 })
 
 -- ---- version 2
@@ -74,6 +74,20 @@ record KeyTakes (bytes : List ℕ) (key : KeyFields) : Type 0 where
   pub suffix : length (slice_range bytes key.suffix_at key.suffix_end) < 2 ^ 32
   pub value : key.value_len < 2 ^ 32
 
+key_stands : (bytes : List ℕ) (shared p len q value r start stop : ℕ) → IsBytes bytes → varint_field bytes 0 ≡ Ok (shared, p) → varint_field bytes p ≡ Ok (len, q) → varint_field bytes q ≡ Ok (value, r) → block_field len bytes r ≡ Ok (start, stop) →
+    KeyTakes bytes (record { shared_bytes = shared; value_len_at = q; value_len = value; suffix_at = start; suffix_end = stop })
+key_stands bytes shared p len q value r start stop fits a b c d =
+    let text = slice_range bytes start stop in
+    let t0 = varint_takes bytes 0 shared p fits a in
+    let t1 = varint_takes bytes p len q fits b in
+    let t2 = varint_takes bytes q value r fits c in
+    let t3 = block_takes bytes len r start stop d in
+    let e23 = then bytes q (varint value) r text stop t2.0 t3.0 in
+    let e13 = then bytes p (varint len) q (varint value ++ text) stop t1.0 e23 in
+    let e03 = then bytes 0 (varint shared) p (varint len ++ (varint value ++ text)) stop t0.0 e13 in
+    let sized = subst (λ (k : ℕ). Stands bytes 0 (varint shared ++ (varint k ++ (varint value ++ text))) stop) (sym t3.1) e03 in
+    record { here = sized; shared = t0.1; suffix = omega (arith, t1.1, t3.1); value = t2.1 }
+
 key_takes : (bytes : List ℕ) (key : KeyFields) → IsBytes bytes → key_layout_v2 bytes ≡ Ok key → KeyTakes bytes key
 unfolding key_layout_v2
 key_takes bytes key fits e =
@@ -81,18 +95,8 @@ key_takes bytes key fits e =
     let b = bind_ok (varint_field bytes a.0.1) (λ suffix_len. varint_field bytes suffix_len.1 >>= λ value_len. block_field suffix_len.0 bytes value_len.1 >>= λ suffix. Ok (record { shared_bytes = a.0.0; value_len_at = suffix_len.1; value_len = value_len.0; suffix_at = suffix.0; suffix_end = suffix.1 })) key a.2 in
     let c = bind_ok (varint_field bytes b.0.1) (λ value_len. block_field b.0.0 bytes value_len.1 >>= λ suffix. Ok (record { shared_bytes = a.0.0; value_len_at = b.0.1; value_len = value_len.0; suffix_at = suffix.0; suffix_end = suffix.1 })) key b.2 in
     let d = bind_ok (block_field b.0.0 bytes c.0.1) (λ suffix. Ok (record { shared_bytes = a.0.0; value_len_at = b.0.1; value_len = c.0.0; suffix_at = suffix.0; suffix_end = suffix.1 })) key c.2 in
-    let text = slice_range bytes d.0.0 d.0.1 in
-    let t0 = varint_takes bytes 0 a.0.0 a.0.1 fits a.1 in
-    let t1 = varint_takes bytes a.0.1 b.0.0 b.0.1 fits b.1 in
-    let t2 = varint_takes bytes b.0.1 c.0.0 c.0.1 fits c.1 in
-    let t3 = block_takes bytes b.0.0 c.0.1 d.0.0 d.0.1 d.1 in
-    let e23 = then bytes b.0.1 (varint c.0.0) c.0.1 text d.0.1 t2.0 t3.0 in
-    let e13 = then bytes a.0.1 (varint b.0.0) b.0.1 (varint c.0.0 ++ text) d.0.1 t1.0 e23 in
-    let e03 = then bytes 0 (varint a.0.0) a.0.1 (varint b.0.0 ++ (varint c.0.0 ++ text)) d.0.1 t0.0 e13 in
-    let sized = subst (λ (k : ℕ). Stands bytes 0 (varint a.0.0 ++ (varint k ++ (varint c.0.0 ++ text))) d.0.1) (sym t3.1) e03 in
     let made : KeyFields = record { shared_bytes = a.0.0; value_len_at = b.0.1; value_len = c.0.0; suffix_at = d.0.0; suffix_end = d.0.1 } in
-    subst (λ (y : KeyFields). KeyTakes bytes y) (ok_is made key d.2)
-    (record { here = sized; shared = t0.1; suffix = omega (arith, t1.1, t3.1); value = t2.1 })
+    subst (λ (y : KeyFields). KeyTakes bytes y) {x = made} (ok_is made key d.2) (key_stands bytes a.0.0 a.0.1 b.0.0 b.0.1 c.0.0 c.0.1 d.0.0 d.0.1 fits a.1 b.1 c.1 d.1)
 
 agreed : (f : RowFlags) (n : ℕ) (text : List ℕ) → (has 1 f && ltb 0 n) ≡ false → length text ≡ n → bytes_of (value_of f text) ≡ text
 agreed f n text h size = by (has 1 f) (has 8 f) h
@@ -144,8 +148,17 @@ row_v2_takes bytes key start stop seq f at expire create end k here size head ag
     let order = regrouped a b (varint key.value_len) (varint (length (bytes_of value))) suffix text (bytes_of value) (be64 seq) (f.0 ∷ []) (flags value expire create ∷ []) (stamp_bytes expire) (stamp_bytes create) (ap varint long) same flag in
     (((k.shared, k.suffix, omega (arith, k.value, long), head.fits, stamps.fits_expire, stamps.fits_create), e1.parts ∙ ap (λ (l : List ℕ). l ++ drop end bytes) order), e1.place ∙ from_zero _ ∙ ap (λ (l : List ℕ). length l) order)
 
+fields_stand : (bytes : List ℕ) (key : KeyFields) (start stop seq : ℕ) (read f : RowFlags) (at : ℕ) (expire create : Option ℤ) (end : ℕ) → KeyTakes bytes key → block_field key.value_len bytes key.suffix_end ≡ Ok (start, stop) →
+    HeadTakes bytes stop seq read at → length_agrees read key ≡ Ok f → StampsTake f bytes at expire create end → IsTakenV2 bytes key.shared_bytes (taken_v2 key start stop seq f expire create end)
+unfolding length_agrees
+fields_stand bytes key start stop seq read f at expire create end k block head agree stamps =
+    let g = guard_ok (has 1 read && ltb 0 key.value_len) (CorruptTable key.value_len_at) read f agree in
+    let here = block_takes bytes key.value_len key.suffix_end start stop block in
+    let known = subst (λ (y : RowFlags). HeadTakes bytes stop seq y at) g.1 head in
+    row_v2_takes bytes key start stop seq f at expire create end k here.0 here.1 known (subst (λ (y : RowFlags). (has 1 y && ltb 0 key.value_len) ≡ false) g.1 g.0) stamps
+
 layout_v2_takes : (bytes : List ℕ) (x : ℕ × RowFields) → IsBytes bytes → layout_v2 bytes ≡ Ok x → IsTakenV2 bytes x.0 x.1
-unfolding layout_v2 length_agrees taken_v2
+unfolding layout_v2 taken_v2
 layout_v2_takes bytes x fits e =
     let a = bind_ok (key_layout_v2 bytes) (λ key. block_field key.value_len bytes key.suffix_end >>= λ value. head_layout bytes value.1 >>= λ head. length_agrees head.0.1 key >>= λ flags. stamps_layout flags bytes head.1 >>= λ stamps. Ok (key.shared_bytes, taken_v2 key value.0 value.1 head.0.0 flags stamps.0.0 stamps.0.1 stamps.1)) x e in
     let key = a.0 in
@@ -153,28 +166,23 @@ layout_v2_takes bytes x fits e =
     let c = bind_ok (head_layout bytes b.0.1) (λ head. length_agrees head.0.1 key >>= λ flags. stamps_layout flags bytes head.1 >>= λ stamps. Ok (key.shared_bytes, taken_v2 key b.0.0 b.0.1 head.0.0 flags stamps.0.0 stamps.0.1 stamps.1)) x b.2 in
     let d = bind_ok (length_agrees c.0.0.1 key) (λ flags. stamps_layout flags bytes c.0.1 >>= λ stamps. Ok (key.shared_bytes, taken_v2 key b.0.0 b.0.1 c.0.0.0 flags stamps.0.0 stamps.0.1 stamps.1)) x c.2 in
     let f = bind_ok (stamps_layout d.0 bytes c.0.1) (λ stamps. Ok (key.shared_bytes, taken_v2 key b.0.0 b.0.1 c.0.0.0 d.0 stamps.0.0 stamps.0.1 stamps.1)) x d.2 in
-    let g = guard_ok (has 1 c.0.0.1 && ltb 0 key.value_len) (CorruptTable key.value_len_at) c.0.0.1 d.0 d.1 in
-    let t1 = block_takes bytes key.value_len key.suffix_end b.0.0 b.0.1 b.1 in
-    let t2 = subst (λ (y : RowFlags). HeadTakes bytes b.0.1 c.0.0.0 y c.0.1) g.1 (head_takes bytes b.0.1 c.0 fits c.1) in
-    let agree = subst (λ (y : RowFlags). (has 1 y && ltb 0 key.value_len) ≡ false) g.1 g.0 in
-    let t3 = stamps_take d.0 bytes c.0.1 f.0 fits f.1 in
     let made : ℕ × RowFields = (key.shared_bytes, taken_v2 key b.0.0 b.0.1 c.0.0.0 d.0 f.0.0.0 f.0.0.1 f.0.1) in
-    subst (λ (y : ℕ × RowFields). IsTakenV2 bytes y.0 y.1) (ok_is made x f.2)
-    (row_v2_takes bytes key b.0.0 b.0.1 c.0.0.0 d.0 c.0.1 f.0.0.0 f.0.0.1 f.0.1 (key_takes bytes key fits a.1) t1.0 t1.1 t2 agree t3)
+    subst (λ (y : ℕ × RowFields). IsTakenV2 bytes y.0 y.1) {x = made} (ok_is made x f.2)
+    (fields_stand bytes key b.0.0 b.0.1 c.0.0.0 c.0.0.1 d.0 c.0.1 f.0.0.0 f.0.0.1 f.0.1 (key_takes bytes key fits a.1) b.1 (head_takes bytes b.0.1 c.0 fits c.1) d.1 (stamps_take d.0 bytes c.0.1 f.0 fits f.1))
 
 pub row_v2_begins : (bytes : List ℕ) (row : SstRowEntryV2) (end : ℕ) → IsBytes bytes → row_v2_of bytes ≡ Ok (row, end) → BeginsV2 row bytes (drop end bytes)
 unfolding row_v2_of
 row_v2_begins bytes row end fits e =
     let a = bind_ok (layout_v2 bytes) (λ x. Ok (entry_of_v2 bytes x.0 x.1, x.1.end)) (row, end) e in
     let made : SstRowEntryV2 × ℕ = (entry_of_v2 bytes a.0.0 a.0.1, a.0.1.end) in
-    subst (λ (y : SstRowEntryV2 × ℕ). BeginsV2 y.0 bytes (drop y.1 bytes)) (ok_is made (row, end) a.2) (layout_v2_takes bytes a.0 fits a.1).0
+    subst (λ (y : SstRowEntryV2 × ℕ). BeginsV2 y.0 bytes (drop y.1 bytes)) {x = made} (ok_is made (row, end) a.2) (layout_v2_takes bytes a.0 fits a.1).0
 
 pub row_v2_end : (bytes : List ℕ) (row : SstRowEntryV2) (end : ℕ) → IsBytes bytes → row_v2_of bytes ≡ Ok (row, end) → end ≡ length (v2_bytes row)
 unfolding row_v2_of
 row_v2_end bytes row end fits e =
     let a = bind_ok (layout_v2 bytes) (λ x. Ok (entry_of_v2 bytes x.0 x.1, x.1.end)) (row, end) e in
     let made : SstRowEntryV2 × ℕ = (entry_of_v2 bytes a.0.0 a.0.1, a.0.1.end) in
-    subst (λ (y : SstRowEntryV2 × ℕ). y.1 ≡ length (v2_bytes y.0)) (ok_is made (row, end) a.2) (layout_v2_takes bytes a.0 fits a.1).1
+    subst (λ (y : SstRowEntryV2 × ℕ). y.1 ≡ length (v2_bytes y.0)) {x = made} (ok_is made (row, end) a.2) (layout_v2_takes bytes a.0 fits a.1).1
 
 pub key_v2_begins : (bytes : List ℕ) (x : ℕ × List ℕ) (end : ℕ) → IsBytes bytes → key_v2_of bytes ≡ Ok (x, end) → BeginsKeyV2 x bytes (drop end bytes)
 unfolding key_v2_of
@@ -186,7 +194,7 @@ key_v2_begins bytes x end fits e =
     let made : (ℕ × List ℕ) × ℕ = ((key.shared_bytes, suffix), key.suffix_end) in
     let whole : bytes ≡ (((varint key.shared_bytes ++ varint (length suffix)) ++ varint key.value_len) ++ suffix) ++ drop key.suffix_end bytes =
     k.here.parts ∙ ap (λ (l : List ℕ). l ++ drop key.suffix_end bytes) (four_parts (varint key.shared_bytes) (varint (length suffix)) (varint key.value_len) suffix) in
-    subst (λ (y : (ℕ × List ℕ) × ℕ). BeginsKeyV2 y.0 bytes (drop y.1 bytes)) (ok_is made (x, end) a.2) (key.value_len, k.shared, k.suffix, k.value, whole)
+    subst (λ (y : (ℕ × List ℕ) × ℕ). BeginsKeyV2 y.0 bytes (drop y.1 bytes)) {x = made} (ok_is made (x, end) a.2) (key.value_len, k.shared, k.suffix, k.value, whole)
 
 -- ---- what is spelled is read
 

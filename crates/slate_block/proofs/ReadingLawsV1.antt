@@ -84,7 +84,7 @@ key_takes bytes key fits e =
     let e02 = then bytes 0 (be16 a.0.0) a.0.1 (be16 b.0.0 ++ text) c.0.1 t0.0 e12 in
     let sized = subst (λ (k : ℕ). Stands bytes 0 (be16 a.0.0 ++ (be16 k ++ text)) c.0.1) (sym t2.1) e02 in
     let made : ℕ × (ℕ × ℕ) = (a.0.0, c.0) in
-    subst (λ (y : ℕ × (ℕ × ℕ)). KeyTakes bytes y) (ok_is made key c.2) (record { here = sized; shared = t0.1; suffix = omega (arith, t1.1, t2.1) })
+    subst (λ (y : ℕ × (ℕ × ℕ)). KeyTakes bytes y) {x = made} (ok_is made key c.2) (record { here = sized; shared = t0.1; suffix = omega (arith, t1.1, t2.1) })
 
 abbrev IsTakenV1 : List ℕ → ℕ → RowFields → Type 0
 IsTakenV1 bytes shared fields = BeginsV1 (entry_of_v1 bytes shared fields) bytes (drop fields.end bytes) × (fields.end ≤ length bytes)
@@ -126,7 +126,7 @@ layout_v1_takes bytes x fits e =
     let c = bind_ok (stamps_layout f bytes b.0.1) (λ stamps. value_layout (has 1 f) bytes stamps.1 >>= λ value. Ok (key.0, taken_v1 key.1.0 key.1.1 value.0 value.1 b.0.0.0 f stamps.0.0 stamps.0.1)) x b.2 in
     let d = bind_ok (value_layout (has 1 f) bytes c.0.1) (λ value. Ok (key.0, taken_v1 key.1.0 key.1.1 value.0 value.1 b.0.0.0 f c.0.0.0 c.0.0.1)) x c.2 in
     let made : ℕ × RowFields = (key.0, taken_v1 key.1.0 key.1.1 d.0.0 d.0.1 b.0.0.0 f c.0.0.0 c.0.0.1) in
-    subst (λ (y : ℕ × RowFields). IsTakenV1 bytes y.0 y.1) (ok_is made x d.2)
+    subst (λ (y : ℕ × RowFields). IsTakenV1 bytes y.0 y.1) {x = made} (ok_is made x d.2)
     (row_v1_takes bytes key b.0.0.0 f b.0.1 c.0.0.0 c.0.0.1 c.0.1 d.0.0 d.0.1 (key_takes bytes key fits a.1) (head_takes bytes key.1.1 b.0 fits b.1) (stamps_take f bytes b.0.1 c.0 fits c.1)
     (value_takes f bytes c.0.1 d.0.0 d.0.1 fits d.1))
 
@@ -135,7 +135,7 @@ unfolding row_v1_of
 row_v1_taken bytes row end fits e =
     let a = bind_ok (layout_v1 bytes) (λ x. Ok (entry_of_v1 bytes x.0 x.1, x.1.end)) (row, end) e in
     let made : SstRowEntry × ℕ = (entry_of_v1 bytes a.0.0 a.0.1, a.0.1.end) in
-    subst (λ (y : SstRowEntry × ℕ). BeginsV1 y.0 bytes (drop y.1 bytes) × (y.1 ≤ length bytes)) (ok_is made (row, end) a.2) (layout_v1_takes bytes a.0 fits a.1)
+    subst (λ (y : SstRowEntry × ℕ). BeginsV1 y.0 bytes (drop y.1 bytes) × (y.1 ≤ length bytes)) {x = made} (ok_is made (row, end) a.2) (layout_v1_takes bytes a.0 fits a.1)
 
 pub row_v1_begins : (bytes : List ℕ) (row : SstRowEntry) (end : ℕ) → IsBytes bytes → row_v1_of bytes ≡ Ok (row, end) → BeginsV1 row bytes (drop end bytes)
 row_v1_begins bytes row end fits e = (row_v1_taken bytes row end fits e).0

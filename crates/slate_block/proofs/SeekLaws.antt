@@ -185,3 +185,13 @@ past_refused order key before now e m p h d = by (first_refuses now e m h d)
     by : (e ≡ m) ⊎ Refuses now e → (e ≡ m) ⊎ Refuses before e
     by (inl same) = inl same
     by (inr r) = inr (past_fewer order key before now e p r)
+
+-- ---- a step
+
+pub some_left : {A : Type 0} (xs : List A) → (xs ≡ [] → ⊥) → 0 < length xs
+some_left [] h = absurd (h refl)
+some_left (x ∷ xs) h = omega arith
+
+pub first_taken : (reads after : List RowRead) (row : RowEntry) → slice_get reads 0 ≡ Some (Ok row) → after ≡ drop 1 reads → reads ≡ Ok row ∷ after
+first_taken [] after row e d = absurd cc
+first_taken (read ∷ reads) after row e d = let same : read ≡ Ok row = cc in λ i. same i ∷ sym d i

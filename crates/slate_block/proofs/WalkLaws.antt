@@ -1,6 +1,6 @@
 -- What a walk over a block of version 1 reads.
-use Rattle.std.proofs.Common.{◌≡◌, ℕ, zero, suc, ◌+◌, ◌-◌, ◌<◌, ◌≤◌, List, [], ◌∷◌, ◌++◌, length, get_or, take, drop, reverse, map, Some, Result, Ok, Err, refl, sym, ap, subst, ◌∙◌, arith, add-one, ◌⊎◌, inl, inr}
-use Rattle.std.specs.Prelude.{slice_get, slice_range}
+use Rattle.std.proofs.Common.{◌≡◌, ℕ, zero, suc, ◌+◌, ◌-◌, ◌<◌, ◌≤◌, List, [], ◌∷◌, ◌++◌, length, get_or, take, drop, reverse, map, Some, Result, Ok, Err, refl, sym, ap, subst, ◌∙◌, arith, add-one, ◌⊎◌, inl, inr, Bool, Option, None, true}
+use Rattle.std.specs.Prelude.{slice_get, slice_range, IfOk, IfErr, IfSome}
 use Rattle.std.proofs.lemmas.List.{map-append, length-take, length-drop, drop-take, same_lists, take_all, get_or-drop, get_or-take, get_or-reverse, length-reverse, drop-drop, reverse-reverse}
 use Rattle.std.proofs.lemmas.Grind.{reverse_onto}
 use Rattle.std.proofs.lemmas.Option.{slice_get-get_or}
@@ -9,8 +9,9 @@ use Rattle.slate_types.specs.declared.error.SlateDBError.TheVariants.{OutOfMemor
 use Rattle.slate_types.specs.declared.types.RowEntry.{RowEntry}
 use Rattle.slate_types.specs.declared.iter.IterationOrder.{IterationOrder}
 use Rattle.slate_types.specs.declared.iter.IterationOrder.TheVariants.{Ascending, Descending}
+use Rattle.slate_types.specs.Iteration.{comes_before}
 use Rattle.slate_block.specs.Damage.{◌>>=◌}
-use Rattle.slate_block.specs.Walks.{next_place, row_upto, RowRead, reads_v1, all_ok, before, block_reads, block_rows}
+use Rattle.slate_block.specs.Walks.{next_place, row_upto, RowRead, reads_v1, are_named, all_ok, before, block_reads, block_rows}
 use Rattle.slate_block.specs.BlockWalks.{in_order, place_in, IsDamage, Refuses}
 
 -- the row at an index is read up to the next place
@@ -149,3 +150,60 @@ pub refused_at : (reads : List RowRead) (i : ℕ) (e m : SlateDBError) → (e �
 refused_at reads i e m (inl h) d = inl h
 refused_at reads i e m (inr h) (inl d) = inl d
 refused_at reads i e m (inr h) (inr d) = inr (d, (i, h))
+
+-- ---- the row at an index of those that are left
+
+pub index_left : (order : IterationOrder) (body first ats : List ℕ) (last start end i : ℕ) (reads : List RowRead) → start ≤ end → end ≤ length ats → in_order order (slice_range (reads_v1 body first ats last) start end) ≡ reads → i < length reads → start + i < end
+index_left order body first ats last start end i reads p q e lt = omega (arith, reads_left order body first ats last start end p q, ap length e, lt, p)
+
+pub place_below : (order : IterationOrder) (start end i n : ℕ) → start + i < end → end ≤ n → place_in order start end i < n
+place_below Ascending start end i n lt le = omega (arith, lt, le)
+place_below Descending start end i n lt le = omega (arith, lt, le)
+
+pub left_at : (order : IterationOrder) (body first ats : List ℕ) (last start end i : ℕ) (reads : List RowRead) → start + i < end → end ≤ length ats → in_order order (slice_range (reads_v1 body first ats last) start end) ≡ reads →
+    slice_get reads i ≡ Some (row_upto body first (get_or ats (place_in order start end i) 0) (next_place last (drop (place_in order start end i + 1) ats)))
+left_at order body first ats last start end i reads lt le e =
+    let n = as_many_reads body first ats last in
+    ap (λ (l : List RowRead). slice_get l i) (sym e) ∙ read_in_order order (reads_v1 body first ats last) start end i lt (omega (arith, n, le))
+    ∙ read_at body first ats last (place_in order start end i) (place_below order start end i (length ats) lt le)
+
+pub found_at : (reads : List RowRead) (i : ℕ) (read : RowRead) (result : Result RowEntry SlateDBError) → slice_get reads i ≡ Some read → IfOk result (λ row. read ≡ Ok row) → IfOk result (λ row. slice_get reads i ≡ Some (Ok row))
+found_at reads i read (Ok row) e h = e ∙ ap Some h
+found_at reads i read (Err d) e h = h
+
+refused_there : (reads : List RowRead) (i : ℕ) (read : RowRead) (d m : SlateDBError) → slice_get reads i ≡ Some read → (d ≡ m) ⊎ (read ≡ Err d) → (d ≡ m) ⊎ (slice_get reads i ≡ Some (Err d))
+refused_there reads i read d m e (inl h) = inl h
+refused_there reads i read d m e (inr h) = inr (e ∙ ap Some h)
+
+pub cause_at : (reads : List RowRead) (i : ℕ) (read : RowRead) (m : SlateDBError) (result : Result RowEntry SlateDBError) → slice_get reads i ≡ Some read → IfErr result (λ d. (d ≡ m) ⊎ (read ≡ Err d)) → IfErr result (λ d. (d ≡ m) ⊎ (slice_get reads i ≡ Some (Err d)))
+cause_at reads i read m (Ok row) e h = h
+cause_at reads i read m (Err d) e h = refused_there reads i read d m e h
+
+pub whole_in_order : {A : Type 0} (order : IterationOrder) (xs : List A) (n : ℕ) → n ≡ length xs → in_order order (in_order order (slice_range xs 0 n)) ≡ xs
+whole_in_order order xs n e = in_order_twice order (slice_range xs 0 n) ∙ whole_slice xs n e
+
+-- ---- so many of those that are left are taken off
+
+pub count_left : (order : IterationOrder) (body first ats : List ℕ) (last start end n : ℕ) (reads : List RowRead) → start ≤ end → end ≤ length ats → in_order order (slice_range (reads_v1 body first ats last) start end) ≡ reads → n ≤ length reads → start + n ≤ end
+count_left order body first ats last start end n reads p q e le = omega (arith, reads_left order body first ats last start end p q, ap length e, le, p)
+
+pub taken_upwards : (order : IterationOrder) (body first ats : List ℕ) (last start end n : ℕ) (reads : List RowRead) → order ≡ Ascending → in_order order (slice_range (reads_v1 body first ats last) start end) ≡ reads → start + n ≤ end →
+    in_order order (slice_range (reads_v1 body first ats last) (start + n) end) ≡ drop n reads
+taken_upwards Ascending body first ats last start end n reads is e le = sym (slice_drop (reads_v1 body first ats last) start end n le) ∙ ap (drop n) e
+taken_upwards Descending body first ats last start end n reads is e le = absurd cc
+
+pub taken_downwards : (order : IterationOrder) (body first ats : List ℕ) (last start end n : ℕ) (reads : List RowRead) → order ≡ Descending → in_order order (slice_range (reads_v1 body first ats last) start end) ≡ reads → start + n ≤ end → end ≤ length ats →
+    in_order order (slice_range (reads_v1 body first ats last) start (end - n)) ≡ drop n reads
+taken_downwards Ascending body first ats last start end n reads is e le within = absurd cc
+taken_downwards Descending body first ats last start end n reads is e le within =
+    let size = as_many_reads body first ats last in
+    sym (reverse_slice_drop (reads_v1 body first ats last) start end n le (omega (arith, size, within))) ∙ ap (drop n) e
+
+pub told_at : (order : IterationOrder) (key : List ℕ) (reads others : List RowRead) (i j : ℕ) (result : Option Bool) → slice_get reads i ≡ slice_get others j →
+    IfSome result (λ b. (row : RowEntry) → slice_get others j ≡ Some (Ok row) → b ≡ comes_before order row.key key) → IfSome result (λ b. (row : RowEntry) → slice_get reads i ≡ Some (Ok row) → b ≡ comes_before order row.key key)
+told_at order key reads others i j (Some b) e h = λ row is. h row (sym e ∙ is)
+told_at order key reads others i j None e h = h
+
+pub named_some : (offsets : List ℕ) → are_named offsets ≡ true → 0 < length offsets
+named_some [] h = absurd cc
+named_some (at ∷ ats) h = omega arith

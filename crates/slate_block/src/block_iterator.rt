@@ -51,7 +51,6 @@ impl<B: BlockLike> BlockIterator<B> {
     /// All rows of the block, in the order. It refuses exactly these, or with `OutOfMemory`: `CorruptTable` at 0 where the
     /// offsets don't begin at 0 or are more than 65535, and `CorruptTable` or `InvalidRowFlags` where the first row, by
     /// whose key the others are read, isn't one that shares nothing. What else fails is refused when the walk comes there.
-    #[tactic(auto, using(crate::proofs::WalkLaws::whole_slice, crate::proofs::WalkLaws::in_order_twice, crate::proofs::WalkLaws::as_many_reads, crate::proofs::WalkLaws::rows_in_order, crate::proofs::WalkLaws::only_in_order))]
     pub fn new(alloc: Global, block: B, order: IterationOrder) -> Result<Self, SlateDBError>
         ensures reads { IfOk result (λ it. block_reads 1 (B.body_bytes block) (B.row_offsets block) ≡ Ok (in_order order it.reads)) }
         ensures rows { IfOk result (λ it. (rows : List RowEntry) → block_rows 1 (B.body_bytes block) (B.row_offsets block) ≡ Ok rows → left it ≡ Ok (in_order order rows)) }
@@ -86,7 +85,6 @@ impl<B: BlockLike> BlockIterator<B> {
     }
 
     /// The row at an index of those that are left.
-    #[tactic(auto, using(crate::proofs::WalkLaws::reads_left, crate::proofs::WalkLaws::read_in_order, crate::proofs::WalkLaws::as_many_reads, crate::proofs::WalkLaws::read_at))]
     fn row(&self, alloc: Global, index: usize) -> Result<RowEntry, SlateDBError>
         requires { index < length self.now.reads }
         ensures found { IfOk result (λ row. slice_get self.now.reads index ≡ Some (Ok row)) }
@@ -106,7 +104,6 @@ impl<B: BlockLike> BlockIterator<B> {
     }
 
     /// Takes so many rows off.
-    #[tactic(auto, using(crate::proofs::WalkLaws::reads_left, crate::proofs::WalkLaws::slice_drop, crate::proofs::WalkLaws::reverse_slice_drop, crate::proofs::WalkLaws::as_many_reads))]
     fn skip(&mut self, count: usize)
         requires { count ≤ length self.old.reads }
         ensures reads { self.new.reads ≡ drop count self.old.reads }
@@ -173,7 +170,6 @@ impl<B: BlockLike> BlockIterator<B> {
     }
 
     /// The same by the key alone, where it stands.
-    #[tactic(auto, using(crate::proofs::WalkLaws::reads_left, crate::proofs::WalkLaws::read_in_order, crate::proofs::WalkLaws::as_many_reads))]
     fn key_is_before(&self, index: usize, key: &[u8]) -> Option<bool>
         requires { index < length self.now.reads }
         ensures { IfSome result (λ before. (row : RowEntry) → slice_get self.now.reads index ≡ Some (Ok row) → before ≡ comes_before self.now.order row.key key.now) }
@@ -188,7 +184,6 @@ impl<B: BlockLike> BlockIterator<B> {
     /// are refused or stand out of order, the last row that it takes off is read and comes before the key, and it stops where
     /// the next one, where it is read, doesn't. So where those that are read come in the order, it takes off none of them
     /// that doesn't come before the key. An `Err` takes none off: it is the refusal of a row that is left, or `OutOfMemory`.
-    #[tactic(auto, using(crate::proofs::WalkLaws::refused_at))]
     pub fn skip_before(&mut self, alloc: Global, key: &[u8]) -> Result<(), SlateDBError>
         ensures rows { IsRising self.old.order (left self.old) → OnOk result (left self.new ≡ Ok (drop_before self.old.order key.now (rows_of (left self.old)))) }
         ensures past { OnOk result (IsPast self.old.order key.now self.old.reads self.new.reads) }

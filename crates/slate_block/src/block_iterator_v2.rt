@@ -33,7 +33,6 @@ impl<B: BlockLike> Model for AscendingState<B> {
 }
 
 impl<B: BlockLike> AscendingState<B> {
-    #[tactic(auto, using(crate::proofs::SeekLaws::step_left))]
     fn next_row(&mut self, alloc: Global) -> Result<Option<RowEntry>, SlateDBError>
         ensures read { IfOk result (λ answer. TakesRead self.old.reads answer self.new.reads) }
         ensures rows { IfOk result (λ answer. TakesLeft (left self.old) answer (left self.new)) }
@@ -51,7 +50,6 @@ impl<B: BlockLike> AscendingState<B> {
         Ok(Some(row))
     }
 
-    #[tactic(auto, using(crate::proofs::SeekLaws::sought))]
     fn skip_before(&mut self, alloc: Global, key: &[u8]) -> Result<(), SlateDBError>
         ensures rows { IsRising self.old.order (left self.old) → OnOk result (left self.new ≡ Ok (drop_before self.old.order key.now (rows_of (left self.old)))) }
         ensures past { OnOk result (IsPast self.old.order key.now self.old.reads self.new.reads) }
@@ -92,7 +90,6 @@ impl<B: BlockLike> BlockIteratorV2<B> {
     /// All rows of the block, in the order; downwards they come in exactly the reversed order. It refuses exactly this:
     /// `CorruptTable` at 0 where the offsets don't begin at 0, or are more than 65535. What else fails is refused when the
     /// walk comes there: upwards a row that fails, downwards a group of which a row fails, by the first one.
-    #[tactic(auto, using(crate::proofs::GroupSteps::named_reads, crate::proofs::GroupSteps::unnamed_reads, crate::proofs::GroupSteps::reads_are_rows, crate::proofs::GroupSteps::rows_are_reads))]
     pub fn new(alloc: Global, block: B, order: IterationOrder) -> Result<Self, SlateDBError>
         ensures reads { IfOk result (λ it. it.reads ≡ walk_in order (B.body_bytes block) (B.row_offsets block)) }
         ensures rows { IfOk result (λ it. (rows : List RowEntry) → block_rows 2 (B.body_bytes block) (B.row_offsets block) ≡ Ok rows → left it ≡ Ok (in_order order rows)) }

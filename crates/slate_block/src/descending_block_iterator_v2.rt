@@ -41,7 +41,6 @@ impl<B: BlockLike> Model for DescendingBlockIteratorV2<B> {
 impl<B: BlockLike> DescendingBlockIteratorV2<B> {
     /// All rows of the block. It refuses exactly this: `CorruptTable` at 0 where the offsets don't begin at 0, or are more
     /// than 65535. What else fails is refused when the walk comes to its group: by the first row of the group that fails.
-    #[tactic(auto, using(crate::proofs::BackLaws::whole_back, crate::proofs::BackLaws::read_back, crate::proofs::BackLaws::back_is_read, crate::proofs::BackLaws::named_is_ok, crate::proofs::GroupSteps::unnamed_reads))]
     pub fn new(alloc: Global, block: B) -> Result<Self, SlateDBError>
         ensures reads { IfOk result (λ it. it.reads ≡ reads_back (length (B.row_offsets block)) (B.body_bytes block) (B.row_offsets block)) }
         ensures rows { IfOk result (λ it. (rows : List RowEntry) → block_rows 2 (B.body_bytes block) (B.row_offsets block) ≡ Ok rows → left it ≡ Ok (reverse rows)) }
@@ -96,7 +95,6 @@ impl<B: BlockLike> DescendingBlockIteratorV2<B> {
     /// stand out of order, the last row that it takes off is read and comes after the key, and it stops where the next one is
     /// read and doesn't. So where those that are read come in order, it takes off exactly those of them that come after the
     /// key. An `Err` takes none off: it is the refusal of a row that is left, or `OutOfMemory`.
-    #[tactic(auto, using(crate::proofs::SeekLaws::sought, crate::proofs::BackSteps::kept_past, crate::proofs::BackSteps::kept_stops, crate::proofs::BackSteps::kept_read, crate::proofs::BackLaws::past_back, crate::proofs::BackLaws::refused_back))]
     pub fn skip_before(&mut self, alloc: Global, key: &[u8]) -> Result<(), SlateDBError>
         ensures rows { IsRising self.old.order (left self.old) → OnOk result (left self.new ≡ Ok (drop_before self.old.order key.now (rows_of (left self.old)))) }
         ensures past { OnOk result (IsPast self.old.order key.now self.old.reads self.new.reads) }

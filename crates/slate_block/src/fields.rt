@@ -150,7 +150,6 @@ fn stamp_field(
     Ok((Some(bits.cast_signed()), end))
 }
 
-#[tactic(auto, unfolding(crate::specs::Damage::head_layout, crate::specs::Damage::flags_field))]
 fn head_fields(bytes: &[u8], at: usize) -> Result<((u64, RowFlags), usize), SlateDBError>
     requires { at ≤ length bytes.now }
     ensures value { result ≡ head_layout bytes.now at }
@@ -200,7 +199,6 @@ fn value_fields(is_tombstone: bool, bytes: &[u8], at: usize) -> Result<(usize, u
 }
 
 /// The fields of the row of version 1 that begins the bytes.
-#[tactic(auto, unfolding(crate::specs::Damage::layout_v1))]
 pub fn fields_v1(bytes: &[u8]) -> Result<(u16, RowFields), SlateDBError>
     ensures value { result ≡ layout_v1 bytes.now }
     ensures damage { IfErr result (IsDamageIn (length bytes.now)) }
@@ -240,7 +238,6 @@ pub fn key_fields_v1(bytes: &[u8]) -> Result<(u16, (usize, usize)), SlateDBError
 }
 
 /// The fields of the row of version 2 that begins the bytes, up to the suffix of its key.
-#[tactic(auto, unfolding(crate::specs::Damage::key_layout_v2))]
 pub fn key_fields_v2(bytes: &[u8]) -> Result<KeyFields, SlateDBError>
     ensures value { result ≡ key_layout_v2 bytes.now }
     ensures damage { IfErr result (IsDamageIn (length bytes.now)) }

@@ -6,7 +6,7 @@ ghost use Rattle.slate_block.specs.WholeKeys.{IsRestored};
 
 use bytes::Bytes;
 use slate_types::SlateDBError;
-use std::alloc::Global;
+use std::alloc::{AllocError, Global};
 
 /// Bytes that are compared at once.
 const CHUNK: usize = 8;
@@ -62,13 +62,13 @@ pub fn restored_key(
     if shared == 0 {
         return Ok(suffix.clone()?);
     }
-    joined_key(alloc, &other[..shared], suffix.as_slice(), len)
+    let front = &other[..shared];
+    Ok(joined_key(alloc, front, suffix.as_slice(), len)?)
 }
 
 /// The key of two parts that have so many bytes together.
-fn joined_key(alloc: Global, front: &[u8], suffix: &[u8], len: usize) -> Result<Bytes, SlateDBError>
-    ensures key { IfOk result (λ key. key ≡ front.now ++ suffix.now) }
-    ensures cause { IsOkUnless result SlateDBError.OutOfMemory }
+fn joined_key(alloc: Global, front: &[u8], suffix: &[u8], len: usize) -> Result<Bytes, AllocError>
+    ensures { IfOk result (λ key. key ≡ front.now ++ suffix.now) }
 {
     let mut key = Vec::with_capacity(alloc, len)?;
     key.extend_from_slice(front)?;

@@ -11,7 +11,6 @@ use slate_types::{IterationOrder, RowEntry, SlateDBError};
 use std::alloc::Global;
 
 /// The rows of a group, in their order.
-#[tactic(auto, using(crate::proofs::GroupSteps::over_left, crate::proofs::BackSteps::group_begun, crate::proofs::BackSteps::group_grown, crate::proofs::BackSteps::group_done, crate::proofs::BackSteps::group_refused))]
 pub fn group_rows(
     alloc: Global,
     body: &Bytes,

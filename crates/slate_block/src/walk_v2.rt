@@ -93,7 +93,6 @@ pub fn next_of_block(
 }
 
 /// The place behind the leading rows that come before a key: before the first row that doesn't, and that is read.
-#[tactic(auto, using(crate::proofs::SeekLaws::past_none, crate::proofs::SeekSteps::next_smaller, crate::proofs::SeekSteps::next_stops, crate::proofs::SeekSteps::next_read, crate::proofs::SeekSteps::end_stops, crate::proofs::SeekSteps::end_read))]
 pub fn behind_key(
     alloc: Global,
     body: &Bytes,

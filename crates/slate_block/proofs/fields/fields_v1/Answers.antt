@@ -53,3 +53,31 @@ returns-in_err-value_at-clause-bytes c = IfOk-from_err c.from_residual-in_err-va
 
 pub returns-in_err-value_at-clause-damage : goal.returns-in_err-value_at-clause-damage
 returns-in_err-value_at-clause-damage c = let p = err_from_is_err_and c.from_residual-in_err-value_at.result c.from_residual-in_err-value_at.ensures.1 in rw (p.1, p.2) c.in_err-value_at.ensures.damage
+
+pub returns-clause-value : goal.returns-clause-value
+unfolding layout_v1
+returns-clause-value c = rw (sym c.in_ok-shared.ensures.value, sym c.in_ok-seq.ensures.value, sym c.in_ok-expire_ts.ensures.value, sym (c.contains.ensures tt), sym c.in_ok-value_at.ensures.value) refl
+
+pub returns-in_err-value_at-clause-value : goal.returns-in_err-value_at-clause-value
+unfolding layout_v1
+returns-in_err-value_at-clause-value c =
+    let p = err_from_is_err_and c.from_residual-in_err-value_at.result c.from_residual-in_err-value_at.ensures.1 in
+    rw (p.1, p.2, sym c.in_ok-shared.ensures.value, sym c.in_ok-seq.ensures.value, sym c.in_ok-expire_ts.ensures.value, sym (c.contains.ensures tt), sym c.in_err-value_at.ensures.value) refl
+
+pub head_fields-requires : goal.head_fields-requires
+head_fields-requires c = c.in_ok-shared.ensures.within.1
+
+pub stamp_fields-requires : goal.stamp_fields-requires
+stamp_fields-requires c = c.in_ok-seq.ensures.within
+
+pub value_fields-requires : goal.value_fields-requires
+value_fields-requires c = c.in_ok-expire_ts.ensures.within
+
+pub returns-clause-within : goal.returns-clause-within
+returns-clause-within c = record {
+  suffix = c.in_ok-shared.ensures.within.0;
+  value = c.in_ok-value_at.ensures.within.0;
+  suffix_in = c.in_ok-shared.ensures.within.1;
+  value_in = c.in_ok-value_at.ensures.within.1;
+  end_in = c.in_ok-value_at.ensures.within.1;
+}

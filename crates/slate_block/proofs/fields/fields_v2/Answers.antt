@@ -53,3 +53,21 @@ returns-in_err-expire_ts-clause-bytes c = IfOk-from_err c.from_residual-in_err-e
 
 pub returns-in_err-expire_ts-clause-damage : goal.returns-in_err-expire_ts-clause-damage
 returns-in_err-expire_ts-clause-damage c = let p = err_from_is_err_and c.from_residual-in_err-expire_ts.result c.from_residual-in_err-expire_ts.ensures.1 in rw (p.1, p.2) c.in_err-expire_ts.ensures.damage
+
+pub returns-clause-within : goal.returns-clause-within
+returns-clause-within c = record {
+  suffix = c.in_ok-key.ensures.within.0;
+  value = c.in_ok-value_at.ensures.within.0;
+  suffix_in = c.in_ok-key.ensures.within.1;
+  value_in = c.in_ok-value_at.ensures.within.1;
+  end_in = c.in_ok-expire_ts.ensures.within;
+}
+
+pub block_field-requires : goal.block_field-requires
+block_field-requires c = c.in_ok-key.ensures.within.1
+
+pub head_fields-requires : goal.head_fields-requires
+head_fields-requires c = c.in_ok-value_at.ensures.within.1
+
+pub stamp_fields-requires : goal.stamp_fields-requires
+stamp_fields-requires c = c.in_ok-seq.ensures.within

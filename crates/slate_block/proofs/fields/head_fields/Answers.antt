@@ -1,6 +1,8 @@
-use Rattle.std.proofs.Common.{refl, sym}
+use Rattle.std.proofs.Common.{◌+◌, Ok, true, false, refl, sym, ◌∙◌, arith}
+use Rattle.std.proofs.lemmas.Bool.{ltb-true}
 use Rattle.std.proofs.lemmas.Result.{IfOk-from_err, err_from_is_err_and}
-use Rattle.slate_block.specs.Damage.{head_layout}
+use Rattle.slate_block.specs.Damage.{head_layout, row_flags}
+use Rattle.slate_block.proofs.FieldLaws.{no_flags, flags_there, head_read}
 use Rattle.slate_block.proofs.fields.head_fields.Goals as goal
 
 pub returns-in_err-seq-clause-value : goal.returns-in_err-seq-clause-value
@@ -13,3 +15,27 @@ returns-in_err-seq-clause-damage c = let p = err_from_is_err_and c.from_residual
 
 pub returns-in_err-seq-clause-within : goal.returns-in_err-seq-clause-within
 returns-in_err-seq-clause-within c = IfOk-from_err c.from_residual.result _ c.from_residual.ensures.0
+
+pub returns-in_default-clause-value : goal.returns-in_default-clause-value
+returns-in_default-clause-value c =
+    let read = c.in_ok-seq in
+    rw c.corrupt.ensures (sym (head_read c.args.bytes.now c.args.at read.seq read.at _ read.ensures.value (no_flags c.args.bytes.now read.at c.in_default.ensures.lookup.0)))
+
+pub returns-in_default-clause-damage : goal.returns-in_default-clause-damage
+returns-in_default-clause-damage c = rw c.corrupt.ensures c.in_ok-seq.ensures.within
+
+pub returns-in-Some-from_byte-clause-value : goal.returns-in-Some-from_byte-clause-value
+returns-in-Some-from_byte-clause-value c =
+    let read = c.in_ok-seq in
+    let flags = c.in-Some-from_byte.ensures.flags in
+    let there = flags_there c.args.bytes.now read.at c.in-Some.byte.now true c.in-Some.ensures.lookup.0 c.in-Some.ensures.lookup.1 flags.1 in
+    sym (head_read c.args.bytes.now c.args.at read.seq read.at _ read.ensures.value there ∙ (λ i. Ok ((read.seq, row_flags (sym flags.0 i)), read.at + 1)))
+
+pub returns-in-Some-from_byte-clause-within : goal.returns-in-Some-from_byte-clause-within
+returns-in-Some-from_byte-clause-within c =
+    let below = ltb-true _ _ (sym c.in-Some.ensures.lookup.0) in omega (arith, below)
+
+pub returns-in-None-clause-value : goal.returns-in-None-clause-value
+returns-in-None-clause-value c =
+    let read = c.in_ok-seq in
+    sym (head_read c.args.bytes.now c.args.at read.seq read.at _ read.ensures.value (flags_there c.args.bytes.now read.at c.in-Some.byte.now false c.in-Some.ensures.lookup.0 c.in-Some.ensures.lookup.1 c.in-None.ensures.none))

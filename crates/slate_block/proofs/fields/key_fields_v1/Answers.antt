@@ -32,3 +32,7 @@ returns-in_err-suffix-clause-damage c = let p = err_from_is_err_and c.from_resid
 pub returns-in_err-suffix-clause-value : goal.returns-in_err-suffix-clause-value
 unfolding key_layout_v1
 returns-in_err-suffix-clause-value c = let p = err_from_is_err_and c.from_residual-in_err-suffix.result c.from_residual-in_err-suffix.ensures.1 in rw (p.1, p.2, sym c.in_ok-shared.ensures.value, sym c.in_ok-suffix_len.ensures.value, sym c.in_err-suffix.ensures.value) refl
+
+pub returns-clause-value : goal.returns-clause-value
+unfolding key_layout_v1
+returns-clause-value c = rw (sym c.in_ok-shared.ensures.value, sym c.in_ok-suffix_len.ensures.value, sym c.in_ok-suffix.ensures.value) refl

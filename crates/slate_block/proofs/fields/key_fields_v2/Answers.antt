@@ -69,3 +69,22 @@ returns-in_err-suffix_at-clause-damage c = let p = err_from_is_err_and c.from_re
 pub returns-in_err-suffix_at-clause-value : goal.returns-in_err-suffix_at-clause-value
 unfolding key_layout_v2
 returns-in_err-suffix_at-clause-value c = let p = err_from_is_err_and c.from_residual-in_err-suffix_at.result c.from_residual-in_err-suffix_at.ensures.1 in rw (p.1, p.2, sym c.in_ok-shared_bytes.ensures.value, sym c.in_ok-suffix_len.ensures.value, sym c.in_ok-value_len.ensures.value, sym c.in_err-suffix_at.ensures.value) refl
+
+pub returns-clause-value : goal.returns-clause-value
+unfolding key_layout_v2
+returns-clause-value c = rw (sym c.in_ok-shared_bytes.ensures.value, sym c.in_ok-suffix_len.ensures.value, sym c.in_ok-value_len.ensures.value, sym c.in_ok-suffix_at.ensures.value) refl
+
+pub returns-clause-within : goal.returns-clause-within
+returns-clause-within c = c.in_ok-suffix_at.ensures.within
+
+pub returns-clause-value_within : goal.returns-clause-value_within
+returns-clause-value_within c = c.in_ok-suffix_len.ensures.within
+
+pub varint_field-requires-2 : goal.varint_field-requires-2
+varint_field-requires-2 c = c.in_ok-shared_bytes.ensures.within
+
+pub varint_field-requires-3 : goal.varint_field-requires-3
+varint_field-requires-3 c = c.in_ok-suffix_len.ensures.within
+
+pub block_field-requires : goal.block_field-requires
+block_field-requires c = c.in_ok-value_len.ensures.within

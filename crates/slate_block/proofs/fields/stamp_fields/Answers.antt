@@ -1,4 +1,6 @@
+use Rattle.std.proofs.Common.{refl, sym}
 use Rattle.std.proofs.lemmas.Result.{IfOk-from_err, err_from_is_err_and}
+use Rattle.slate_block.specs.Damage.{stamps_layout}
 use Rattle.slate_block.proofs.fields.stamp_fields.Goals as goal
 
 pub returns-in_err-expire_ts-clause-within : goal.returns-in_err-expire_ts-clause-within
@@ -12,3 +14,18 @@ returns-in_err-create_ts-clause-within c = IfOk-from_err c.from_residual-in_err-
 
 pub returns-in_err-create_ts-clause-damage : goal.returns-in_err-create_ts-clause-damage
 returns-in_err-create_ts-clause-damage c = let p = err_from_is_err_and c.from_residual-in_err-create_ts.result c.from_residual-in_err-create_ts.ensures.1 in rw (p.1, p.2) c.in_err-create_ts.ensures.damage
+
+pub returns-in_err-expire_ts-clause-value : goal.returns-in_err-expire_ts-clause-value
+unfolding stamps_layout
+returns-in_err-expire_ts-clause-value c =
+    let p = err_from_is_err_and c.from_residual.result c.from_residual.ensures.1 in rw (p.1, p.2, sym (c.contains.ensures tt), sym c.in_err-expire_ts.ensures.value) refl
+
+pub returns-in_err-create_ts-clause-value : goal.returns-in_err-create_ts-clause-value
+unfolding stamps_layout
+returns-in_err-create_ts-clause-value c =
+    let p = err_from_is_err_and c.from_residual-in_err-create_ts.result c.from_residual-in_err-create_ts.ensures.1 in
+    rw (p.1, p.2, sym (c.contains.ensures tt), sym c.in_ok-expire_ts.ensures.value, sym (c.contains-2.ensures tt), sym c.in_err-create_ts.ensures.value) refl
+
+pub returns-clause-value : goal.returns-clause-value
+unfolding stamps_layout
+returns-clause-value c = rw (sym (c.contains.ensures tt), sym c.in_ok-expire_ts.ensures.value, sym (c.contains-2.ensures tt), sym c.in_ok-create_ts.ensures.value) refl

@@ -4,7 +4,7 @@ use Rattle.std.specs.Prelude.{IfOk, IfErr}
 use Rattle.slate_types.specs.declared.error.SlateDBError.{SlateDBError}
 use Rattle.slate_types.specs.declared.error.SlateDBError.TheVariants.{OutOfMemory}
 use Rattle.slate_types.specs.declared.types.RowEntry.{RowEntry}
-use Rattle.slate_block.specs.PlacedRows.{fields_of, placed, row_in}
+use Rattle.slate_block.specs.PlacedRows.{placed, row_in}
 use Rattle.slate_block.proofs.PlacedLaws.{placed_found, placed_cause, placed_refused, row_placed, no_row_refused, place_within, whole_damage}
 use Rattle.slate_block.proofs.GroupSteps.{damage_moved}
 use Rattle.slate_block.proofs.places.row_in.Goals as goal
@@ -19,7 +19,7 @@ returns-clause-found c =
     let bytes = c.in_ok-bytes.bytes in
     elim c.match-fields_of.branch [
       | in-Ok w ↦
-          let read : fields_of a.version bytes ≡ Ok (w.in-Ok.shared, w.in-Ok.fields) = cc in
+          let read = sym (rw c.as_slice.ensures at w.in-Ok.ensures.value) in
           rw w.row-is (subst (λ (p : Result (RowEntry × ℕ) SlateDBError). IfOk w.whole_row-row.result (λ found. p ≡ Ok found)) (sym (here c))
           (placed_found a.version a.other.now a.from bytes (w.in-Ok.shared, w.in-Ok.fields) w.whole_row-row.result read w.whole_row-row.ensures.found))
       | in-Err w ↦ rw w.row-is tt
@@ -31,11 +31,11 @@ returns-clause-cause c =
     let bytes = c.in_ok-bytes.bytes in
     elim c.match-fields_of.branch [
       | in-Ok w ↦
-          let read : fields_of a.version bytes ≡ Ok (w.in-Ok.shared, w.in-Ok.fields) = cc in
+          let read = sym (rw c.as_slice.ensures at w.in-Ok.ensures.value) in
           rw w.row-is (subst (λ (p : Result (RowEntry × ℕ) SlateDBError). IfErr w.whole_row-row.result (λ e. (e ≡ OutOfMemory) ⊎ (p ≡ Err e))) (sym (here c))
           (placed_cause a.version a.other.now a.from bytes (w.in-Ok.shared, w.in-Ok.fields) w.whole_row-row.result OutOfMemory read w.whole_row-row.ensures.cause))
       | in-Err w ↦
-          let read : fields_of a.version bytes ≡ Err w.in-Err.error = cc in
+          let read = sym (rw c.as_slice.ensures at w.in-Err.ensures.value) in
           rw (w.row-is, w.moved.ensures) (inr (here c ∙ placed_refused a.version a.other.now a.from bytes w.in-Err.error read))
     ]
 

@@ -13,3 +13,12 @@ loop-kept-preserved c =
       within = omega arith;
       past = end_past Descending c.args.rows.now c.loop-kept.kept row c.args.key.now (turned (Ok c.args.rows.now)) (omega arith) c.loop-kept.invariant.within c.index-rows-kept.is before c.loop-kept.invariant.past;
     }
+
+pub bounds-rows-kept : goal.bounds-rows-kept
+bounds-rows-kept c = omega (arith, c.loop-kept.invariant.within)
+
+pub returns-then-not-puts_before-clause-within : goal.returns-then-not-puts_before-clause-within
+returns-then-not-puts_before-clause-within c = c.loop-kept.invariant.within
+
+pub returns-then-not-puts_before-clause-past : goal.returns-then-not-puts_before-clause-past
+returns-then-not-puts_before-clause-past c = c.loop-kept.invariant.past

@@ -1,11 +1,10 @@
-use Rattle.std.proofs.Common.{◌≡◌, true}
+use Rattle.std.proofs.Common.{sym, ◌∙◌}
 use Rattle.std.proofs.lemmas.Result.{err_from_is_err_and, IfOk-from_err}
 use Rattle.slate_types.specs.declared.error.SlateDBError.TheVariants.{OutOfMemory}
 use Rattle.slate_types.specs.declared.iter.IterationOrder.TheVariants.{Ascending}
-use Rattle.slate_types.specs.Iteration.{comes_before}
 use Rattle.slate_block.specs.GroupWalks.{left_v2}
-use Rattle.slate_block.proofs.SeekLaws.{past_refused, past_trans}
-use Rattle.slate_block.proofs.SeekSteps.{next_past}
+use Rattle.slate_block.proofs.SeekLaws.{past_none, past_refused, past_trans}
+use Rattle.slate_block.proofs.SeekSteps.{next_past, next_smaller, next_stops, next_read, end_stops, end_read}
 use Rattle.slate_block.proofs.walk_v2.behind_key.Goals as goal
 
 pub returns-in_err-row-clause-cause : goal.returns-in_err-row-clause-cause
@@ -17,7 +16,7 @@ returns-in_err-row-clause-cause c =
 pub loop-alloc-preserved : goal.loop-alloc-preserved
 loop-alloc-preserved c =
     let reads = left_v2 c.args.body.now c.args.offsets.now in
-    let before : comes_before Ascending c.in_ok-row.row.key c.args.key.now ≡ true = cc in
+    let before = rw c.as_slice.ensures at (sym c.puts_before-is_past.ensures ∙ c.if-not-is_past.false) in
     let past = next_past Ascending c.args.key.now (reads c.loop-alloc.place) (reads c.in_ok-row.after) c.in_ok-row.row c.in_ok-row.ensures.found before in
     record { past = past_trans Ascending c.args.key.now (reads c.args.place) (reads c.loop-alloc.place) (reads c.in_ok-row.after) c.loop-alloc.invariant.past past }
 
@@ -29,3 +28,35 @@ returns-in_err-row-clause-stops c = IfOk-from_err c.from_residual.result _ c.fro
 
 pub returns-in_err-row-clause-read : goal.returns-in_err-row-clause-read
 returns-in_err-row-clause-read c = IfOk-from_err c.from_residual.result _ c.from_residual.ensures.0
+
+pub loop-alloc-init : goal.loop-alloc-init
+loop-alloc-init c = record { past = past_none Ascending c.args.key.now (left_v2 c.args.body.now c.args.offsets.now c.args.place) }
+
+pub next_of_block-requires : goal.next_of_block-requires
+next_of_block-requires c = c.is_at_end.ensures.more c.loop-alloc-test.true
+
+pub returns-then-not-is_past-clause-past : goal.returns-then-not-is_past-clause-past
+returns-then-not-is_past-clause-past c = c.loop-alloc.invariant.past
+
+pub returns-clause-past : goal.returns-clause-past
+returns-clause-past c = c.loop-alloc.invariant.past
+
+pub loop-alloc-smaller : goal.loop-alloc-smaller
+loop-alloc-smaller c =
+    let reads = left_v2 c.args.body.now c.args.offsets.now in next_smaller (reads c.loop-alloc.place) (reads c.in_ok-row.after) c.in_ok-row.row c.in_ok-row.ensures.found
+
+pub returns-then-not-is_past-clause-stops : goal.returns-then-not-is_past-clause-stops
+returns-then-not-is_past-clause-stops c =
+    let reads = left_v2 c.args.body.now c.args.offsets.now in
+    let behind = rw c.as_slice.ensures at (sym c.puts_before-is_past.ensures ∙ c.if-not-is_past.true) in
+    next_stops Ascending c.args.key.now (reads c.loop-alloc.place) (reads c.in_ok-row.after) c.in_ok-row.row c.in_ok-row.ensures.found behind
+
+pub returns-then-not-is_past-clause-read : goal.returns-then-not-is_past-clause-read
+returns-then-not-is_past-clause-read c =
+    let reads = left_v2 c.args.body.now c.args.offsets.now in next_read (reads c.loop-alloc.place) (reads c.in_ok-row.after) c.in_ok-row.row c.in_ok-row.ensures.found
+
+pub returns-clause-stops : goal.returns-clause-stops
+returns-clause-stops c = end_stops Ascending c.args.key.now (left_v2 c.args.body.now c.args.offsets.now c.loop-alloc.place) (c.is_at_end.ensures.end c.args.body.now c.loop-alloc-test.false)
+
+pub returns-clause-read : goal.returns-clause-read
+returns-clause-read c = end_read (left_v2 c.args.body.now c.args.offsets.now c.loop-alloc.place) (c.is_at_end.ensures.end c.args.body.now c.loop-alloc-test.false)

@@ -1,7 +1,6 @@
-use Rattle.std.proofs.Common.{◌≡◌, ◌+◌, true, refl, rules}
+use Rattle.std.proofs.Common.{◌+◌, refl, sym, ◌∙◌}
 use Rattle.std.proofs.lemmas.Result.{IfOk-from_err, err_from_is_err_and}
 use Rattle.slate_types.specs.declared.error.SlateDBError.TheVariants.{OutOfMemory}
-use Rattle.slate_block.specs.GroupWalks.{is_over}
 use Rattle.slate_block.proofs.GroupSteps.{over_left, left_in_group, left_behind_group, held_refused, behind_refused}
 use Rattle.slate_block.proofs.walk_v2.next_of_block.Goals as goal
 
@@ -12,7 +11,7 @@ returns-then-not-is_over-clause-found c =
 pub returns-clause-found : goal.returns-clause-found
 returns-clause-found c =
     let place = c.args.place.now in
-    let over : is_over place.group ≡ true = search rules in
+    let over = sym c.is_over.ensures ∙ c.if-not-is_over.false in
     left_behind_group c.args.body.now c.args.offsets.now c.in_ok-row-2.row place (record { group = c.in_ok-row-2.group; next = place.next + 1 }) (over_left c.args.body.now place.group over) (c.requires over) c.in_ok-row-2.ensures.found refl
 
 pub returns-then-not-is_over-clause-cause : goal.returns-then-not-is_over-clause-cause
@@ -44,7 +43,7 @@ returns-in_err-row-2-clause-found c = IfOk-from_err c.from_residual-in_err-row-2
 pub returns-in_err-row-2-clause-cause : goal.returns-in_err-row-2-clause-cause
 returns-in_err-row-2-clause-cause c =
     let place = c.args.place.now in
-    let over : is_over place.group ≡ true = search rules in
+    let over = sym c.is_over.ensures ∙ c.if-not-is_over.false in
     let p = err_from_is_err_and c.from_residual-in_err-row-2.result c.from_residual-in_err-row-2.ensures.1 in
     rw (p.1, p.2) (behind_refused c.args.body.now c.args.offsets.now place c.in_err-row-2.field-0.0 OutOfMemory over (c.requires over) c.in_err-row-2.ensures.cause)
 

@@ -1,6 +1,8 @@
 use Rattle.std.proofs.Common.{◌-◌, arith, refl, take}
-use Rattle.std.proofs.lemmas.Result.{IfOk-from_err}
+use Rattle.std.proofs.lemmas.Result.{IfOk-from_err, err_from_is_err_and}
+use Rattle.slate_types.specs.declared.error.SlateDBError.TheVariants.{OutOfMemory}
 use Rattle.slate_block.specs.BlockWalks.{LastBefore}
+use Rattle.slate_block.proofs.WalkLaws.{refused_at}
 use Rattle.slate_block.proofs.SeekLaws.{last_counted, past_counted, past_none, stops_counted, sought}
 use Rattle.slate_block.proofs.block_iterator.BlockIterator.skip_before.Goals as goal
 
@@ -53,3 +55,11 @@ returns-in_err-last-clause-stops g c = IfOk-from_err c.from_residual-in_err-last
 
 pub returns-in_err-last-clause-rows : goal.returns-in_err-last-clause-rows
 returns-in_err-last-clause-rows g c = λ h. IfOk-from_err c.from_residual-in_err-last.result _ c.from_residual-in_err-last.ensures.0
+
+pub returns-in_err-count-clause-cause : goal.returns-in_err-count-clause-cause
+returns-in_err-count-clause-cause g c = let p = err_from_is_err_and c.from_residual.result c.from_residual.ensures.1 in rw (p.1, p.2) c.in_err-count.ensures.cause
+
+pub returns-in_err-last-clause-cause : goal.returns-in_err-last-clause-cause
+returns-in_err-last-clause-cause g c =
+    let p = err_from_is_err_and c.from_residual-in_err-last.result c.from_residual-in_err-last.ensures.1 in
+    rw (p.1, p.2) (refused_at c.args.self.now.reads (c.in_ok-count.count - 1) c.in_err-last.field-0.0 OutOfMemory c.in_err-last.ensures.cause c.in_err-last.ensures.damage)

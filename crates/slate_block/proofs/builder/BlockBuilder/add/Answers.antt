@@ -1,11 +1,12 @@
-use Rattle.std.proofs.Common.{◌≡◌, ◌<◌, ◌^◌, ◌∙◌, ◌+◌, true, sym, ap, length, arith, rules, inr}
+use Rattle.std.proofs.Common.{◌≡◌, ◌<◌, ◌^◌, ◌∙◌, ◌+◌, true, refl, sym, ap, length, arith, rules, inr}
+use Rattle.std.proofs.lemmas.Bool.{eqb-true}
 use Rattle.std.proofs.lemmas.Bool.Decides.{nat_tests}
 use Rattle.std.proofs.lemmas.Result.{err_from_is_err_and, IfOk-from_err}
 use Rattle.slate_block.specs.RowSpelling.{FitsStamp}
 use Rattle.slate_block.specs.BlockSpelling.{FitsRow, longest}
 use Rattle.slate_block.specs.Building.{Building, number, front_key, with_row}
 use Rattle.slate_block.specs.Fitting.{fits_in}
-use Rattle.slate_block.proofs.HeldLaws.{PartHeld, Leaves, held_room, tried_held, seen_same, seen_longer}
+use Rattle.slate_block.proofs.HeldLaws.{PartHeld, Leaves, no_key, other_error, taken_or_not, held_room, tried_held, seen_same, seen_longer}
 use Rattle.slate_block.proofs.builder.BlockBuilder.add.Goals as goal
 
 -- what is known where the row is taken
@@ -14,8 +15,7 @@ leaves c = record { out = c.shared-shared.ensures.front ∙ ap (λ (b : Building
 
 fits : (c : goal.After-append-arg-1) → fits_in c.self.inside.block_size (number c.self.inside.part.version) c.self.inside.held.0.0 c.args.entry ≡ true
 fits c =
-    let taken : c.has_room.result ≡ true = search rules in
-    ap (λ (b : Building). fits_in b.size b.version b.rows c.args.entry) c.self.view_is ∙ sym c.has_room.ensures ∙ taken
+    ap (λ (b : Building). fits_in b.size b.version b.rows c.args.entry) c.self.view_is ∙ sym c.has_room.ensures ∙ c.if-not-has_room.false
 
 space : (c : goal.After-append-arg-1) → (length c.self.inside.part.body.items < 2 ^ 16) × (c.self.inside.part.num_rows + 1 < 2 ^ 16)
 space c = held_room c.self.inside.block_size c.shared-shared.result c.self.inside.part c.self.inside.held c.args.entry (leaves c) c.self.invariant (fits c)
@@ -55,3 +55,47 @@ returns-in_err-append-clause-fits c = IfOk-from_err c.from_residual.result _ c.f
 
 pub returns-in_err-append-clause-cause : goal.returns-in_err-append-clause-cause
 returns-in_err-append-clause-cause c = let p = err_from_is_err_and c.from_residual.result c.from_residual.ensures.1 in rw (p.1, p.2) (inr c.in_err-append.ensures.cause)
+
+-- ---- no key
+
+pub returns-then-is_empty-clause-empty : goal.returns-then-is_empty-clause-empty
+returns-then-is_empty-clause-empty c = (λ _. eqb-true (length c.args.entry.key) 0 (sym c.is_empty.ensures ∙ c.if-is_empty.true), λ _. refl)
+
+pub has_room-requires-clause-front : goal.has_room-requires-clause-front
+has_room-requires-clause-front c = c.shared-shared.ensures.front
+
+pub has_room-requires-clause-within : goal.has_room-requires-clause-within
+has_room-requires-clause-within c = c.shared-shared.ensures.within
+
+pub append-requires-clause-shared : goal.append-requires-clause-shared
+append-requires-clause-shared c = c.shared-shared.ensures.within
+
+pub invariant_of-self : goal.invariant_of-self
+invariant_of-self c = c.self.invariant
+
+pub invariant_of-self-2 : goal.invariant_of-self-2
+invariant_of-self-2 c = c.self.invariant
+
+-- ---- no room
+
+pub returns-then-not-has_room-clause-empty : goal.returns-then-not-has_room-clause-empty
+returns-then-not-has_room-clause-empty c = (λ e. absurd (taken_or_not _ _ e), λ zero. absurd (no_key c.is_empty.result c.args.entry.key c.is_empty.ensures c.if-is_empty.false zero))
+
+pub returns-then-not-has_room-clause-fits : goal.returns-then-not-has_room-clause-fits
+returns-then-not-has_room-clause-fits c = sym c.if-not-has_room.true ∙ c.has_room.ensures
+
+pub returns-then-not-has_room-clause-refused : goal.returns-then-not-has_room-clause-refused
+returns-then-not-has_room-clause-refused c = λ _. refl
+
+-- ---- the row is tried
+
+pub returns-in_err-append-clause-empty : goal.returns-in_err-append-clause-empty
+returns-in_err-append-clause-empty c =
+    let p = err_from_is_err_and c.from_residual.result c.from_residual.ensures.1 in
+    (λ e. absurd (other_error _ _ p.1 (p.2 ∙ c.in_err-append.ensures.cause) e), λ zero. absurd (no_key c.is_empty.result c.args.entry.key c.is_empty.ensures c.if-is_empty.false zero))
+
+pub returns-clause-empty : goal.returns-clause-empty
+returns-clause-empty c = (λ e. absurd (taken_or_not _ _ e), λ zero. absurd (no_key c.is_empty.result c.args.entry.key c.is_empty.ensures c.if-is_empty.false zero))
+
+pub returns-clause-fits : goal.returns-clause-fits
+returns-clause-fits c = sym c.if-not-has_room.false ∙ c.has_room.ensures

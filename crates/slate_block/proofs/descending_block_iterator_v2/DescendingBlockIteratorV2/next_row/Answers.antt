@@ -1,5 +1,5 @@
-use Rattle.std.proofs.Common.{◌≡◌, ◌⊎◌, ◌+◌, ◌-◌, ◌<◌, [], length, Some, None, Ok, Err, subst, arith, vec_len}
-use Rattle.std.proofs.lemmas.Bool.Decides.{nat_tests}
+use Rattle.std.proofs.Common.{◌≡◌, ◌⊎◌, ◌-◌, [], length, Some, None, Ok, Err, subst, arith, vec_len, sym, ◌∙◌}
+use Rattle.std.proofs.lemmas.Bool.{eqb-true}
 use Rattle.std.proofs.lemmas.List.{nil_from_length}
 use Rattle.std.proofs.lemmas.Result.{err_from_is_err_and, IfOk-from_err}
 use Rattle.std.specs.Prelude.{slice_get}
@@ -8,7 +8,7 @@ use Rattle.slate_block.specs.Walks.{all_ok}
 use Rattle.slate_block.specs.BlockWalks.{ReadsLeft, TakesRead}
 use Rattle.slate_block.specs.GroupWalks.{left_back, restart_at}
 use Rattle.slate_block.proofs.SeekLaws.{step_left}
-use Rattle.slate_block.proofs.BackLaws.{no_rows_back, left_refused_or, pop_some, pop_group}
+use Rattle.slate_block.proofs.BackLaws.{no_rows_back, left_refused_or, more_groups, pop_some, pop_group, rows_held}
 use Rattle.slate_block.proofs.descending_block_iterator_v2.DescendingBlockIteratorV2.next_row.Goals as goal
 
 -- ---- a row is held
@@ -18,7 +18,7 @@ returns-then-not-is_empty-clause-read g c =
     let it = c.self.inside in
     let body = g.B.BlockLike.body_bytes it.block in
     let offsets = g.B.BlockLike.row_offsets it.block in
-    let held : 0 < vec_len it.rows = grind (arith, nat_tests) in
+    let held = rows_held (vec_len it.rows) (sym c.is_empty.ensures ∙ c.if-not-is_empty.true) in
     subst (λ (w : ReadsLeft). TakesRead w.reads c.pop.result (left_back body offsets it.groups c.pop.new.self.items)) c.self.view_is
     (pop_some body offsets it.groups it.rows.items c.pop.new.self.items c.pop.result c.pop.ensures.items (c.pop.ensures.variant.1 held))
 
@@ -30,7 +30,7 @@ returns-then-not-is_empty-clause-rows g c = step_left c.args.self.now.reads _ c.
 pub returns-then-self-eq0-clause-read : goal.returns-then-self-eq0-clause-read
 returns-then-self-eq0-clause-read g c =
     let it = c.self.inside in
-    let size : length it.rows.items ≡ 0 = grind (arith, nat_tests, it.rows.ok.0) in
+    let size : length it.rows.items ≡ 0 = omega (arith, eqb-true (vec_len it.rows) 0 (sym c.is_empty.ensures ∙ c.if-not-is_empty.false), it.rows.ok.0) in
     let none = no_rows_back (g.B.BlockLike.body_bytes it.block) (g.B.BlockLike.row_offsets it.block) it.groups it.rows.items c.if-self-eq0.true (nil_from_length it.rows.items size) in
     let left : c.args.self.now.reads ≡ [] = subst (λ (w : ReadsLeft). w.reads ≡ []) c.self.view_is none in
     (left, left)
@@ -45,8 +45,8 @@ returns-in_err-self-inside-clause-cause g c =
     let offsets = g.B.BlockLike.row_offsets it.block in
     let p = err_from_is_err_and c.from_residual.result c.from_residual.ensures.1 in
     let e = c.in_err-self-inside.field-0.0 in
-    let size : length it.rows.items ≡ 0 = grind (arith, nat_tests, it.rows.ok.0) in
-    let more : it.groups ≡ it.groups - 1 + 1 = grind (arith, nat_tests) in
+    let size : length it.rows.items ≡ 0 = omega (arith, eqb-true (vec_len it.rows) 0 (sym c.is_empty.ensures ∙ c.if-not-is_empty.false), it.rows.ok.0) in
+    let more = more_groups it.groups c.if-self-eq0.false in
     let cause = rw (c.body-body.ensures, c.offsets-offsets.ensures) at c.in_err-self-inside.ensures.cause in
     rw (p.1, p.2) (subst (λ (w : ReadsLeft). (e ≡ OutOfMemory) ⊎ (slice_get w.reads 0 ≡ Some (Err e))) c.self.view_is
     (left_refused_or body offsets it.groups (it.groups - 1) it.rows.items e OutOfMemory (nil_from_length it.rows.items size) more cause))
@@ -57,8 +57,8 @@ returns-clause-read g c =
     let body = g.B.BlockLike.body_bytes it.block in
     let offsets = g.B.BlockLike.row_offsets it.block in
     let read = c.in_ok-self-inside.field-0 in
-    let size : length it.rows.items ≡ 0 = grind (arith, nat_tests, it.rows.ok.0) in
-    let more : it.groups ≡ it.groups - 1 + 1 = grind (arith, nat_tests) in
+    let size : length it.rows.items ≡ 0 = omega (arith, eqb-true (vec_len it.rows) 0 (sym c.is_empty.ensures ∙ c.if-not-is_empty.false), it.rows.ok.0) in
+    let more = more_groups it.groups c.if-self-eq0.false in
     let whole : all_ok (restart_at body offsets (it.groups - 1)) ≡ Ok read.items = rw (c.body-body.ensures, c.offsets-offsets.ensures) at c.in_ok-self-inside.ensures.rows in
     subst (λ (w : ReadsLeft). TakesRead w.reads c.pop-2.result (left_back body offsets (it.groups - 1) c.pop-2.new.self.items)) c.self.view_is
     (pop_group body offsets it.groups (it.groups - 1) it.rows.items read.items c.pop-2.new.self.items c.pop-2.result (nil_from_length it.rows.items size) more whole c.pop-2.ensures.items
@@ -75,3 +75,14 @@ returns-in_err-self-inside-clause-rows g c = IfOk-from_err c.from_residual.resul
 
 pub returns-in_err-self-inside-clause-damage : goal.returns-in_err-self-inside-clause-damage
 returns-in_err-self-inside-clause-damage g c = let p = err_from_is_err_and c.from_residual.result c.from_residual.ensures.1 in rw (p.1, p.2) c.in_err-self-inside.ensures.damage
+
+pub group_rows-requires : goal.group_rows-requires
+group_rows-requires g c =
+    let more = more_groups c.self.inside.groups c.if-self-eq0.false in
+    rw c.offsets-offsets.ensures (omega (arith, c.self.invariant, more))
+
+pub invariant_of-self : goal.invariant_of-self
+invariant_of-self g c = c.self.invariant
+
+pub invariant_of-self-2 : goal.invariant_of-self-2
+invariant_of-self-2 g c = omega (arith, c.self.invariant)

@@ -7,7 +7,7 @@ use Rattle.slate_types.specs.declared.types.RowEntry.{RowEntry}
 use Rattle.slate_block.specs.BlockWalks.{ReadsLeft, IsPast, Refuses, StopsAt}
 use Rattle.slate_block.specs.GroupWalks.{left_back}
 use Rattle.slate_block.proofs.SeekLaws.{sought}
-use Rattle.slate_block.proofs.BackSteps.{back_of, kept_past, kept_stops}
+use Rattle.slate_block.proofs.BackSteps.{back_of, kept_past, kept_read, kept_stops}
 use Rattle.slate_block.proofs.BackLaws.{past_back, refused_held, refused_or_behind}
 use Rattle.slate_block.proofs.descending_block_iterator_v2.DescendingBlockIteratorV2.skip_before.Goals as goal
 
@@ -79,13 +79,18 @@ returns-clause-past g c =
     subst (λ (w : ReadsLeft). IsPast w.order c.args.key.now w.reads after) c.self.view_is
     (past_back Descending c.args.key.now body offsets it.groups c.in_ok-upto.upto c.rows_upto_key-kept.result it.rows.items after none held c.in_ok-upto.ensures.within begins whole past)
 
+pub returns-clause-stops : goal.returns-clause-stops
+returns-clause-stops g c =
+    let it = c.self.inside in
+    let after = left_back (g.B.BlockLike.body_bytes it.block) (g.B.BlockLike.row_offsets it.block) c.in_ok-groups.groups c.in_ok-groups.rows.items in
+    let found = rw (c.body-body.ensures, c.offsets-offsets.ensures) at c.in_ok-groups.ensures.stops in
+    subst (λ (w : ReadsLeft). StopsAt w.order c.args.key.now after) c.self.view_is found
+
 pub returns-clause-rows : goal.returns-clause-rows
 returns-clause-rows g c =
     let it = c.self.inside in
     let after = left_back (g.B.BlockLike.body_bytes it.block) (g.B.BlockLike.row_offsets it.block) c.in_ok-groups.groups c.in_ok-groups.rows.items in
-    let found = rw (c.body-body.ensures, c.offsets-offsets.ensures) at c.in_ok-groups.ensures.stops in
-    let stops : StopsAt c.args.self.now.order c.args.key.now after = subst (λ (w : ReadsLeft). StopsAt w.order c.args.key.now after) c.self.view_is found in
-    sought c.args.self.now.order c.args.key.now c.args.self.now.reads after (returns-clause-past g c) stops
+    sought c.args.self.now.order c.args.key.now c.args.self.now.reads after (returns-clause-past g c) (returns-clause-stops g c)
 
 pub returns-in_err-upto-clause-past : goal.returns-in_err-upto-clause-past
 returns-in_err-upto-clause-past g c = IfOk-from_err c.from_residual.result _ c.from_residual.ensures.0
@@ -110,3 +115,28 @@ returns-in_err-groups-clause-read g c = IfOk-from_err c.from_residual-in_err-gro
 
 pub returns-in_err-groups-clause-rows : goal.returns-in_err-groups-clause-rows
 returns-in_err-groups-clause-rows g c = λ h. IfOk-from_err c.from_residual-in_err-groups.result _ c.from_residual-in_err-groups.ensures.0
+
+-- ---- groups and rows that are held
+
+pub groups_to_search-requires : goal.groups_to_search-requires
+groups_to_search-requires g c = rw c.offsets-offsets.ensures c.self.invariant
+
+pub before_key-requires : goal.before_key-requires
+before_key-requires g c = rw c.offsets-offsets.ensures (omega (arith, c.in_ok-upto.ensures.within, c.self.invariant))
+
+pub invariant_of-self : goal.invariant_of-self
+invariant_of-self g c = c.self.invariant
+
+pub invariant_of-self-2 : goal.invariant_of-self-2
+invariant_of-self-2 g c = omega (arith, c.in_ok-groups.ensures.within, c.in_ok-upto.ensures.within, c.self.invariant)
+
+pub returns-then-kept-gt0-clause-read : goal.returns-then-kept-gt0-clause-read
+returns-then-kept-gt0-clause-read g c =
+    let it = c.self.inside in
+    let left = take c.rows_upto_key-kept.result it.rows.items in
+    let within = rw c.deref.ensures.value at c.rows_upto_key-kept.ensures.within in
+    let some : 0 < length left = omega (arith, length-take c.rows_upto_key-kept.result it.rows.items, within) in
+    rw c.truncate.ensures.items (kept_read (g.B.BlockLike.body_bytes it.block) (g.B.BlockLike.row_offsets it.block) it.groups left some)
+
+pub returns-clause-read : goal.returns-clause-read
+returns-clause-read g c = rw (c.body-body.ensures, c.offsets-offsets.ensures) at c.in_ok-groups.ensures.read

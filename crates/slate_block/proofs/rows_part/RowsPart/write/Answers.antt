@@ -19,3 +19,12 @@ returns-in_err-append_row-clause-offsets c = IfOk-from_err c.from_residual-in_er
 
 pub returns-in_err-append_row-clause-cause : goal.returns-in_err-append_row-clause-cause
 returns-in_err-append_row-clause-cause c = let p = err_from_is_err_and c.from_residual-in_err-append_row.result c.from_residual-in_err-append_row.ensures.1 in rw (p.1, p.2) c.in_err-append_row.ensures.cause
+
+pub append_row-requires-clause-lengths : goal.append_row-requires-clause-lengths
+append_row-requires-clause-lengths c = c.requires.lengths
+
+pub append_row-requires-clause-shared : goal.append_row-requires-clause-shared
+append_row-requires-clause-shared c = c.requires.shared
+
+pub append_row-requires-clause-fits : goal.append_row-requires-clause-fits
+append_row-requires-clause-fits c = c.requires.fits
