@@ -12,6 +12,7 @@ use Rattle.slate_block.specs.Damage.{◌>>=◌, Field, number_field, block_field
 use Rattle.slate_block.proofs.Groups.{IsBytes}
 use Rattle.slate_block.proofs.FieldLaws.{bind_ok, guard_ok, ok_is, Stands, behind, wide16, wide64, number_takes, number_again, block_takes, block_again, block_text}
 use Rattle.slate_block.proofs.ReadingLaws.{then}
+use Rattle.slate_table.proofs.Results.{bind_again}
 use Rattle.slate_table.specs.Parts.{Place, key_bytes, place_bytes, info_bytes}
 use Rattle.slate_table.specs.Decoded.{Info, IsInfo, FitsShort, FitsPlace, LiesBefore, SectionsLieBefore}
 use Rattle.slate_table.specs.InfoReading.{section_place, byte_at, byte_field, version_field, key_text, key_field, place_field, ending, info_from, info_in}
@@ -243,9 +244,6 @@ ending_again bytes at h =
     let size : 2 ≡ length bytes - at = sym (ap length h) ∙ length-drop at bytes in
     let whole : ltb (at + 1 + 1) (length bytes) ≡ false = le-ltb (at + 1 + 1) (length bytes) (omega (arith, size)) in
     rw (byte_again bytes at 0 (1 ∷ []) h, byte_again bytes (at + 1) 1 [] tail, whole) refl
-
-bind_again : {A B : Type 0} (r : Result A SlateDBError) (x : A) (f : A → Result B SlateDBError) → r ≡ Ok x → (r >>= f) ≡ f x
-bind_again {A} r x f h = ap (λ (q : Result A SlateDBError). q >>= f) h
 
 pub info_again : (version end : ℕ) (bytes : List ℕ) (i : Info) → InfoTakes version end bytes i → info_in version end bytes ≡ Ok i
 info_again version end bytes i t =

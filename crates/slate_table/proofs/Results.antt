@@ -3,6 +3,7 @@ use Rattle.std.proofs.Common.{◌≡◌, ◌⊎◌, ◌∙◌, ℕ, Bool, true, 
 use Rattle.std.specs.Prelude.{Result, IfOk, OnOk, OnErr, MatchResult, IsErrAnd, is_ok}
 use Rattle.slate_types.specs.declared.error.SlateDBError.{SlateDBError}
 use Rattle.slate_types.specs.declared.error.SlateDBError.TheVariants.{StoreFault}
+use Rattle.slate_block.specs.Damage.{◌>>=◌}
 
 -- a store's count where the call is Ok
 pub store_still : {T P : Type 0} (value : T) → (Ok value ≡ Err StoreFault) ⊎ P → P
@@ -20,6 +21,10 @@ store_longer a b c same (inr e) = inr (e ∙ same)
 
 pub err_is : {T : Type 0} (e f : SlateDBError) → ◌≡◌ {A = Result T SlateDBError} (Err e) (Err f) → e ≡ f
 err_is e f h = cc
+
+-- a step that did not fail, and what follows it
+pub bind_again : {A B : Type 0} (r : Result A SlateDBError) (x : A) (f : A → Result B SlateDBError) → r ≡ Ok x → (r >>= f) ≡ f x
+bind_again {A} r x f h = ap (λ (q : Result A SlateDBError). q >>= f) h
 
 pub either : {A B C : Type 0} → (B → C) → A ⊎ B → A ⊎ C
 either f (inl a) = inl a
