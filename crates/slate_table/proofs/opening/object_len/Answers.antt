@@ -1,9 +1,9 @@
-use Rattle.std.proofs.Common.{◌≡◌, ◌∙◌, ℕ, List, Option, Some, Ok, Err, subst}
+use Rattle.std.proofs.Common.{◌≡◌, ◌∙◌, ℕ, List, Option, Some, Ok, Err, subst, arith, refl, inr}
 use Rattle.std.specs.Prelude.{Result, IfOk}
 use Rattle.slate_types.specs.Outside.{Objects}
 use Rattle.slate_store.specs.Store.{Act, AddsAct, AnswersLen}
 use Rattle.slate_table.specs.Opening.{IsMeasured}
-use Rattle.slate_table.proofs.Results.{mapped}
+use Rattle.slate_table.proofs.Results.{mapped, on_err}
 use Rattle.std.proofs.lemmas.Result.{IfOk-from_err}
 use Rattle.slate_table.proofs.opening.object_len.Goals as goal
 
@@ -24,3 +24,21 @@ returns-clause-measured g c =
 
 pub returns-in_err-path-clause-measured : goal.returns-in_err-path-clause-measured
 returns-in_err-path-clause-measured g c = IfOk-from_err c.from_residual.result _ c.from_residual.ensures.0
+
+pub returns-in_err-path-clause-objects : goal.returns-in_err-path-clause-objects
+returns-in_err-path-clause-objects g c = refl
+
+pub returns-in_err-path-clause-later : goal.returns-in_err-path-clause-later
+returns-in_err-path-clause-later g c = omega arith
+
+pub returns-in_err-path-clause-none : goal.returns-in_err-path-clause-none
+returns-in_err-path-clause-none g c = on_err _ refl
+
+pub returns-in_err-path-clause-still : goal.returns-in_err-path-clause-still
+returns-in_err-path-clause-still g c = inr refl
+
+pub returns-clause-objects : goal.returns-clause-objects
+returns-clause-objects g c = c.len.ensures.objects
+
+pub returns-clause-later : goal.returns-clause-later
+returns-clause-later g c = c.len.ensures.later
