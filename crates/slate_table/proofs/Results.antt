@@ -1,8 +1,13 @@
 -- The result of a last call, which is returned as it is.
-use Rattle.std.proofs.Common.{◌≡◌, ◌⊎◌, ◌∙◌, ℕ, Bool, true, inl, inr, Ok, Err, ap, sym, subst}
+use Rattle.std.proofs.Common.{◌≡◌, ◌⊎◌, ◌∙◌, ℕ, Bool, true, inl, inr, Ok, Err, refl, ap, sym, subst}
 use Rattle.std.specs.Prelude.{Result, IfOk, OnOk, OnErr, MatchResult, IsErrAnd, is_ok}
 use Rattle.slate_types.specs.declared.error.SlateDBError.{SlateDBError}
 use Rattle.slate_types.specs.declared.error.SlateDBError.TheVariants.{StoreFault}
+use Rattle.slate_store.specs.declared.store.StoreError.{StoreError}
+use Rattle.slate_store.specs.declared.store.StoreError.TheVariants.{Failed, OutOfMemory as NoMemory}
+use Rattle.slate_store.specs.Store.{of_store}
+use Rattle.slate_types.specs.Faults.{Rose}
+use Rattle.slate_table.specs.Reading.{IsStoreFault}
 use Rattle.slate_block.specs.Damage.{◌>>=◌}
 
 -- a store's count where the call is Ok
@@ -18,6 +23,15 @@ store_err e (inr same) = inr same
 pub store_longer : {P : Type 0} (a b c : ℕ) → b ≡ a → P ⊎ (c ≡ b) → P ⊎ (c ≡ a)
 store_longer a b c same (inl p) = inl p
 store_longer a b c same (inr e) = inr (e ∙ same)
+
+-- a store's error as a function's own
+pub store_fault : {T : Type 0} (e : StoreError) (before after : ℕ) → (◌≡◌ {A = Result T StoreError} (Err e) (Err Failed) → Rose before after) → IsStoreFault before after (of_store e)
+store_fault Failed before after rose = inr (refl, rose refl)
+store_fault NoMemory before after rose = inl refl
+
+pub store_failed : {T U P : Type 0} (e : StoreError) → (◌≡◌ {A = Result T StoreError} (Err e) (Err Failed)) ⊎ P → (◌≡◌ {A = Result U SlateDBError} (Err (of_store e)) (Err StoreFault)) ⊎ P
+store_failed e (inl failed) = let is : e ≡ Failed = cc in inl (ap (λ (x : StoreError). Err (of_store x)) is)
+store_failed e (inr same) = inr same
 
 pub err_is : {T : Type 0} (e f : SlateDBError) → ◌≡◌ {A = Result T SlateDBError} (Err e) (Err f) → e ≡ f
 err_is e f h = cc

@@ -1,4 +1,4 @@
-use Rattle.slate_table.proofs.Results.{on_err}
+use Rattle.slate_table.proofs.Results.{on_err, store_fault, store_failed}
 use Rattle.std.proofs.Common.{◌∙◌, ℕ, List, subst, arith, refl, inr, inl}
 use Rattle.slate_table.specs.Reading.{IsRead}
 use Rattle.std.proofs.lemmas.Result.{IfOk-from_err, err_from_is_err_and}
@@ -59,3 +59,12 @@ returns-clause-none g c = tt
 
 pub returns-clause-whole : goal.returns-clause-whole
 returns-clause-whole g c = c.whole_answer.ensures.whole
+
+pub returns-in_err-answer-clause-cause : goal.returns-in_err-answer-clause-cause
+returns-in_err-answer-clause-cause g c = let p = err_from_is_err_and c.from_residual-in_err-answer.result c.from_residual-in_err-answer.ensures.1 in rw (p.1, p.2) (store_fault c.in_err-answer.field-0.0 _ _ c.in_err-answer.ensures.cause)
+
+pub returns-in_err-answer-clause-still : goal.returns-in_err-answer-clause-still
+returns-in_err-answer-clause-still g c = let p = err_from_is_err_and c.from_residual-in_err-answer.result c.from_residual-in_err-answer.ensures.1 in rw (p.1, p.2) (store_failed c.in_err-answer.field-0.0 c.in_err-answer.ensures.still)
+
+pub returns-in_err-answer-clause-none : goal.returns-in_err-answer-clause-none
+returns-in_err-answer-clause-none g c = on_err c.from_residual-in_err-answer.result c.in_err-answer.ensures.refused_act
