@@ -1,6 +1,6 @@
 -- The result of a last call, which is returned as it is.
 use Rattle.std.proofs.Common.{◌≡◌, ◌⊎◌, ◌∙◌, ℕ, Bool, true, inl, inr, Ok, Err, refl, ap, sym, subst}
-use Rattle.std.specs.Prelude.{Result, IfOk, OnOk, OnErr, MatchResult, IsErrAnd, is_ok}
+use Rattle.std.specs.Prelude.{Result, IfOk, IfErr, OnOk, OnErr, MatchResult, IsErrAnd, is_ok}
 use Rattle.slate_types.specs.declared.error.SlateDBError.{SlateDBError}
 use Rattle.slate_types.specs.declared.error.SlateDBError.TheVariants.{StoreFault}
 use Rattle.slate_store.specs.declared.store.StoreError.{StoreError}
@@ -81,3 +81,15 @@ pub mapped : {T D E : Type 0} (r : Result T E) (m : Result T D) (Q : E → D →
 mapped (Ok x) m Q P R is f p = subst (λ r. IfOk r R) (sym is) (f x p)
 mapped (Err e) (Ok x) Q P R is f p = absurd is
 mapped (Err e) (Err d) Q P R is f p = tt
+
+pub mapped_err : {T D : Type 0} (r : Result T D) (m : Result T SlateDBError) (of : D → SlateDBError) (P : SlateDBError → Type 0) → MatchResult r (λ x. m ≡ Ok x) (λ e. IsErrAnd m (λ d. d ≡ of e)) → ((e : D) → r ≡ Err e → P (of e)) → IfErr m P
+mapped_err (Ok x) m of P is f = subst (λ r. IfErr r P) (sym is) tt
+mapped_err (Err e) (Ok x) of P is f = absurd is
+mapped_err (Err e) (Err d) of P is f = subst P (sym is) (f e refl)
+
+pub mapped_still : {T D P : Type 0} (r : Result T D) (m : Result T SlateDBError) (of : D → SlateDBError) (f : D) → MatchResult r (λ x. m ≡ Ok x) (λ e. IsErrAnd m (λ d. d ≡ of e)) → (r ≡ Err f) ⊎ P → (m ≡ Err (of f)) ⊎ P
+mapped_still (Ok x) m of f is (inl failed) = absurd cc
+mapped_still (Ok x) m of f is (inr p) = inr p
+mapped_still (Err e) (Ok x) of f is h = absurd is
+mapped_still (Err e) (Err d) of f is (inl failed) = let same : e ≡ f = cc in inl (ap (λ (x : SlateDBError). Err x) (is ∙ ap of same))
+mapped_still (Err e) (Err d) of f is (inr p) = inr p
