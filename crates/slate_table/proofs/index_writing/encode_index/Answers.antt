@@ -1,4 +1,3 @@
-use Rattle.std.proofs.lemmas.Result.{IfOk-from_err, err_from_is_err_and}
 use Rattle.std.proofs.Common.{◌≡◌, ◌++◌, ◌∙◌, List, ℕ, length, take, get_or, sym, ap, [], append_assoc, arith}
 use Rattle.std.proofs.lemmas.List.{get_or_read}
 use Rattle.slate_block.specs.RowSpelling.{be32}
@@ -17,30 +16,3 @@ loop-at-preserved c =
     let appended : c.append_entry.new.out.items ≡ c.loop-at.out.items ++ one = c.in_ok-append_entry.ensures.appended ∙ ap (λ (k : List ℕ). c.loop-at.out.items ++ one_entry (get_or offsets at 0) k) key in
     appended ∙ ap (λ (l : List ℕ). l ++ one) c.loop-at.invariant ∙ append_assoc (be32 (length offsets)) front one
     ∙ ap (λ (l : List ℕ). be32 (length offsets) ++ l) (sym (one_more offsets separators at c.loop-at-test.true c.requires.paired))
-
-pub returns-in_err-append_u32-clause-bytes : goal.returns-in_err-append_u32-clause-bytes
-returns-in_err-append_u32-clause-bytes c = IfOk-from_err c.from_residual.result _ c.from_residual.ensures.0
-
-pub returns-in_err-append_u32-clause-cause : goal.returns-in_err-append_u32-clause-cause
-returns-in_err-append_u32-clause-cause c = let p = err_from_is_err_and c.from_residual.result c.from_residual.ensures.1 in rw (p.1, p.2) c.in_err-append_u32.ensures.cause
-
-pub returns-in_err-append_entry-clause-bytes : goal.returns-in_err-append_entry-clause-bytes
-returns-in_err-append_entry-clause-bytes c = IfOk-from_err c.from_residual-in_err-append_entry.result _ c.from_residual-in_err-append_entry.ensures.0
-
-pub returns-in_err-append_entry-clause-cause : goal.returns-in_err-append_entry-clause-cause
-returns-in_err-append_entry-clause-cause c = let p = err_from_is_err_and c.from_residual-in_err-append_entry.result c.from_residual-in_err-append_entry.ensures.1 in rw (p.1, p.2) c.in_err-append_entry.ensures.cause
-
-pub bounds-offsets-at : goal.bounds-offsets-at
-bounds-offsets-at c = omega arith
-
-pub bounds-separators-at : goal.bounds-separators-at
-bounds-separators-at c = omega arith
-
-pub offset_bounds-offsets-at : goal.offset_bounds-offsets-at
-offset_bounds-offsets-at c = omega arith
-
-pub offset_bounds-separators-at : goal.offset_bounds-separators-at
-offset_bounds-separators-at c = omega arith
-
-pub loop-at-smaller : goal.loop-at-smaller
-loop-at-smaller c = omega arith

@@ -1,5 +1,5 @@
 use Rattle.std.proofs.Common.{◌∙◌, Some, ap, refl, inr}
-use Rattle.std.proofs.lemmas.Result.{IfErr-weaker, IfOk-from_err}
+use Rattle.std.proofs.lemmas.Result.{IfErr-weaker}
 use Rattle.slate_table.proofs.Results.{either, if_ok_both}
 use Rattle.slate_table.proofs.opening.info_of.Goals as goal
 
@@ -10,6 +10,3 @@ returns-in_ok-part-in-Some-clause-found c = if_ok_both c.decode.result _ _ _
 pub returns-in_ok-part-in-Some-clause-cause : goal.returns-in_ok-part-in-Some-clause-cause
 returns-in_ok-part-in-Some-clause-cause c = IfErr-weaker c.decode.result _ _
     (λ e h. either (λ r. inr (c.in_ok-part-in-Some.field-0, (c.in_ok-part-in-Some.field-0, c.in-Some.is ∙ ap Some c.in_ok-part-in-Some.ensures.found, refl), r)) h) c.decode.ensures.cause
-
-pub returns-in_err-part-in-Some-clause-found : goal.returns-in_err-part-in-Some-clause-found
-returns-in_err-part-in-Some-clause-found c = IfOk-from_err c.from_residual.result _ c.from_residual.ensures.0

@@ -26,23 +26,8 @@ returns-clause-measured g c =
 pub returns-in_err-path-clause-measured : goal.returns-in_err-path-clause-measured
 returns-in_err-path-clause-measured g c = IfOk-from_err c.from_residual.result _ c.from_residual.ensures.0
 
-pub returns-in_err-path-clause-objects : goal.returns-in_err-path-clause-objects
-returns-in_err-path-clause-objects g c = refl
-
-pub returns-in_err-path-clause-later : goal.returns-in_err-path-clause-later
-returns-in_err-path-clause-later g c = omega arith
-
 pub returns-in_err-path-clause-none : goal.returns-in_err-path-clause-none
 returns-in_err-path-clause-none g c = on_err _ refl
-
-pub returns-in_err-path-clause-still : goal.returns-in_err-path-clause-still
-returns-in_err-path-clause-still g c = inr refl
-
-pub returns-clause-objects : goal.returns-clause-objects
-returns-clause-objects g c = c.len.ensures.objects
-
-pub returns-clause-later : goal.returns-clause-later
-returns-clause-later g c = c.len.ensures.later
 
 pub returns-clause-cause : goal.returns-clause-cause
 returns-clause-cause g c = mapped_err c.len.result c.map_err.result of_store _ c.map_err.ensures.cases (λ e is. store_fault e _ _ (λ failed. c.len.ensures.cause (is ∙ failed)))

@@ -1,5 +1,5 @@
 use Rattle.slate_table.proofs.Results.{store_still, store_err, store_longer}
-use Rattle.std.proofs.Common.{◌∙◌, arith, inl, inr, sym, refl}
+use Rattle.std.proofs.Common.{◌∙◌, arith, inl, inr, sym}
 use Rattle.std.proofs.lemmas.Result.{err_from_is_err_and, IfOk-from_err}
 use Rattle.slate_table.specs.Paths.{path_of}
 use Rattle.slate_table.specs.InfoReading.{seen_info}
@@ -138,45 +138,3 @@ returns-in_err-info-clause-known g c = IfOk-from_err c.from_residual-in_err-info
 
 pub returns-in_err-info-clause-id : goal.returns-in_err-info-clause-id
 returns-in_err-info-clause-id g c = IfOk-from_err c.from_residual-in_err-info.result _ c.from_residual-in_err-info.ensures.0
-
-pub returns-in_err-size-clause-later : goal.returns-in_err-size-clause-later
-returns-in_err-size-clause-later g c = c.object_len.ensures.later
-
-pub returns-in_err-size-clause-objects : goal.returns-in_err-size-clause-objects
-returns-in_err-size-clause-objects g c = c.object_len.ensures.objects
-
-pub returns-in_err-len-clause-later : goal.returns-in_err-len-clause-later
-returns-in_err-len-clause-later g c = c.object_len.ensures.later
-
-pub returns-in_err-len-clause-objects : goal.returns-in_err-len-clause-objects
-returns-in_err-len-clause-objects g c = c.object_len.ensures.objects
-
-pub returns-in_err-footer-clause-later : goal.returns-in_err-footer-clause-later
-returns-in_err-footer-clause-later g c = omega (arith, c.object_len.ensures.later, c.read_footer.ensures.later)
-
-pub returns-in_err-footer-clause-objects : goal.returns-in_err-footer-clause-objects
-returns-in_err-footer-clause-objects g c = c.read_footer.ensures.objects ∙ c.object_len.ensures.objects
-
-pub returns-in_err-info-clause-later : goal.returns-in_err-info-clause-later
-returns-in_err-info-clause-later g c = omega (arith, c.object_len.ensures.later, c.read_footer.ensures.later, c.read_info.ensures.later)
-
-pub returns-in_err-info-clause-objects : goal.returns-in_err-info-clause-objects
-returns-in_err-info-clause-objects g c = c.read_info.ensures.objects ∙ c.read_footer.ensures.objects ∙ c.object_len.ensures.objects
-
-pub returns-clause-later : goal.returns-clause-later
-returns-clause-later g c = omega (arith, c.object_len.ensures.later, c.read_footer.ensures.later, c.read_info.ensures.later)
-
-pub returns-clause-objects : goal.returns-clause-objects
-returns-clause-objects g c = c.read_info.ensures.objects ∙ c.read_footer.ensures.objects ∙ c.object_len.ensures.objects
-
-pub returns-clause-calls : goal.returns-clause-calls
-returns-clause-calls g c = tt
-
-pub returns-clause-cause : goal.returns-clause-cause
-returns-clause-cause g c = tt
-
-pub returns-clause-id : goal.returns-clause-id
-returns-clause-id g c = refl
-
-pub returns-clause-known : goal.returns-clause-known
-returns-clause-known g c = c.in_ok-footer.ensures.known

@@ -38,15 +38,3 @@ returns-in_err-answer-clause-known g c = IfOk-from_err c.from_residual.result _ 
 
 pub returns-in_err-answer-clause-within : goal.returns-in_err-answer-clause-within
 returns-in_err-answer-clause-within g c = IfOk-from_err c.from_residual.result _ c.from_residual.ensures.0
-
-pub returns-in_err-answer-clause-later : goal.returns-in_err-answer-clause-later
-returns-in_err-answer-clause-later g c = c.read.ensures.later
-
-pub returns-in_err-answer-clause-objects : goal.returns-in_err-answer-clause-objects
-returns-in_err-answer-clause-objects g c = c.read.ensures.objects
-
-pub returns-clause-known : goal.returns-clause-known
-returns-clause-known g c = c.footer_of-footer.ensures.known
-
-pub returns-clause-within : goal.returns-clause-within
-returns-clause-within g c = c.footer_of-footer.ensures.within

@@ -1,5 +1,4 @@
-use Rattle.std.proofs.lemmas.Result.{IfOk-from_err, err_from_is_err_and}
-use Rattle.std.proofs.Common.{◌∙◌, ◌++◌, List, ℕ, ap, sym, append_assoc, refl}
+use Rattle.std.proofs.Common.{◌∙◌, ◌++◌, List, ℕ, ap, sym, append_assoc}
 use Rattle.std.specs.Prelude.{codes}
 use Rattle.hex.specs.Hex.{encode_lower}
 use Rattle.slate_table.specs.Paths.{hex}
@@ -15,9 +14,3 @@ returns-clause-path c =
     let spelled = ap (λ (s : List ℕ). root ++ (codes "/compacted/" ++ (s ++ codes ".sst"))) text
     ∙ sym (append_assoc (root ++ codes "/compacted/") digits (codes ".sst") ∙ append_assoc root (codes "/compacted/") (digits ++ codes ".sst")) in
     mapped c.concat.result c.map_err.result _ _ _ c.map_err.ensures.cases (λ path is. is ∙ spelled) c.concat.ensures.ok
-
-pub returns-in_err-digits-clause-path : goal.returns-in_err-digits-clause-path
-returns-in_err-digits-clause-path c = IfOk-from_err c.from_residual.result _ c.from_residual.ensures.0
-
-pub returns-in_err-digits-clause-cause : goal.returns-in_err-digits-clause-cause
-returns-in_err-digits-clause-cause c = let p = err_from_is_err_and c.from_residual.result c.from_residual.ensures.1 in rw (p.1, p.2) refl

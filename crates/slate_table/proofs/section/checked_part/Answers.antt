@@ -1,5 +1,5 @@
 use Rattle.std.proofs.Common.{ℕ, ◌-◌, ◌≡◌, ◌∙◌, take, ap, sym, arith}
-use Rattle.std.proofs.lemmas.Result.{err_from_is_err_and, IfOk-from_err}
+use Rattle.std.proofs.lemmas.Result.{err_from_is_err_and}
 use Rattle.slate_types.specs.declared.error.SlateDBError.TheVariants.{OutOfMemory}
 use Rattle.slate_table.specs.Parts.{summed}
 use Rattle.slate_table.specs.SectionReading.{part_of_sum}
@@ -30,12 +30,3 @@ returns-clause-front c =
     let front = ap (λ (n : ℕ). take n c.args.bytes.now) whole ∙ ap (take len) (sym c.as_slice.ensures)
     ∙ part_is_front slice (take len slice) c.in_ok-len.ensures.found ∙ ap part_of_sum c.as_slice.ensures in
     mapped c.slice.result c.map_err.result _ _ _ c.map_err.ensures.cases (λ part is. is ∙ front) c.slice.ensures.ok
-
-pub returns-in_err-len-clause-found : goal.returns-in_err-len-clause-found
-returns-in_err-len-clause-found c = IfOk-from_err c.from_residual.result _ c.from_residual.ensures.0
-
-pub returns-in_err-len-clause-front : goal.returns-in_err-len-clause-front
-returns-in_err-len-clause-front c = IfOk-from_err c.from_residual.result _ c.from_residual.ensures.0
-
-pub returns-in_err-len-clause-fits : goal.returns-in_err-len-clause-fits
-returns-in_err-len-clause-fits c = IfOk-from_err c.from_residual.result _ c.from_residual.ensures.0

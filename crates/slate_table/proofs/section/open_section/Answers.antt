@@ -1,5 +1,5 @@
 use Rattle.std.proofs.Common.{◌∙◌, ap}
-use Rattle.std.proofs.lemmas.Result.{IfOk-weaker, IfErr-weaker, IfOk-from_err}
+use Rattle.std.proofs.lemmas.Result.{IfOk-weaker, IfErr-weaker}
 use Rattle.slate_types.specs.Faults.{faults_of}
 use Rattle.slate_table.specs.Parts.{summed}
 use Rattle.slate_table.specs.SectionReading.{changed_by}
@@ -19,9 +19,3 @@ returns-clause-cause g c =
     let faults = faults_of g.T.BlockTransformer.faults in
     IfErr-weaker c.decoded.result _ _
     (λ e h. fails_decoding (faults c.args.transformer.now) (faults c.decoded.new.transformer) c.args.bytes.now c.in_ok-stored.stored e c.in_ok-stored.ensures.found h) c.decoded.ensures.cause
-
-pub returns-in_err-stored-clause-sum : goal.returns-in_err-stored-clause-sum
-returns-in_err-stored-clause-sum g c = IfOk-from_err c.from_residual.result _ c.from_residual.ensures.0
-
-pub returns-in_err-stored-clause-part : goal.returns-in_err-stored-clause-part
-returns-in_err-stored-clause-part g c = IfOk-from_err c.from_residual.result _ c.from_residual.ensures.0

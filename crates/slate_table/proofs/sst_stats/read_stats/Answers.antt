@@ -30,12 +30,3 @@ returns-in_err-raw_val_size-clause-found c = IfOk-from_err c.from_residual-in_er
 
 pub returns-in_err-raw_val_size-clause-bytes : goal.returns-in_err-raw_val_size-clause-bytes
 returns-in_err-raw_val_size-clause-bytes c = IfOk-from_err c.from_residual-in_err-raw_val_size.result _ c.from_residual-in_err-raw_val_size.ensures.0
-
-pub returns-then-at-bytes-clause-found : goal.returns-then-at-bytes-clause-found
-returns-then-at-bytes-clause-found c = tt
-
-pub returns-then-at-bytes-clause-bytes : goal.returns-then-at-bytes-clause-bytes
-returns-then-at-bytes-clause-bytes c = tt
-
-pub returns-clause-cause : goal.returns-clause-cause
-returns-clause-cause c = tt

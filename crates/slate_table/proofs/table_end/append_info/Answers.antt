@@ -1,6 +1,6 @@
 use Rattle.std.proofs.Common.{rules, ◌≡◌, ◌∙◌, ◌++◌, List, ℕ, ap, subst, append_assoc, length}
 use Rattle.std.specs.Prelude.{OnOk}
-use Rattle.std.proofs.lemmas.Result.{on_ok_weaker, IfOk-from_err, err_from_is_err_and}
+use Rattle.std.proofs.lemmas.Result.{on_ok_weaker}
 use Rattle.slate_table.specs.Parts.{summed}
 use Rattle.slate_table.specs.InfoReading.{seen_info}
 use Rattle.slate_table.specs.SectionReading.{footer_bytes}
@@ -39,12 +39,3 @@ returns-in-Ok-clause-info c =
       lies = lies;
     })
     c.encode-in-Ok.ensures.appended
-
-pub returns-in_err-part-clause-appended : goal.returns-in_err-part-clause-appended
-returns-in_err-part-clause-appended c = IfOk-from_err c.from_residual.result _ c.from_residual.ensures.0
-
-pub returns-in_err-part-clause-info : goal.returns-in_err-part-clause-info
-returns-in_err-part-clause-info c = IfOk-from_err c.from_residual.result _ c.from_residual.ensures.0
-
-pub returns-in_err-part-clause-cause : goal.returns-in_err-part-clause-cause
-returns-in_err-part-clause-cause c = let p = err_from_is_err_and c.from_residual.result c.from_residual.ensures.1 in rw (p.1, p.2) c.in_err-part.ensures.cause

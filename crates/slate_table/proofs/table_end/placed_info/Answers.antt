@@ -1,4 +1,3 @@
-use Rattle.std.proofs.lemmas.Result.{IfOk-from_err, err_from_is_err_and}
 use Rattle.std.proofs.Common.{◌≡◌, ◌∙◌, ◌-◌}
 use Rattle.slate_table.specs.Table.{some_first, some_last}
 use Rattle.slate_table.specs.InfoReading.{section_place}
@@ -19,9 +18,3 @@ returns-in-Ok-clause-value c =
       filters = section_place begin 0;
       stats = section_place middle (c.args.end - middle);
     }
-
-pub returns-in_err-first_entry-clause-value : goal.returns-in_err-first_entry-clause-value
-returns-in_err-first_entry-clause-value c = IfOk-from_err c.from_residual.result _ c.from_residual.ensures.0
-
-pub returns-in_err-first_entry-clause-cause : goal.returns-in_err-first_entry-clause-cause
-returns-in_err-first_entry-clause-cause c = let p = err_from_is_err_and c.from_residual.result c.from_residual.ensures.1 in rw (p.1, p.2) c.in_err-first_entry.ensures.cause

@@ -1,5 +1,5 @@
 use Rattle.std.proofs.Common.{◌≡◌, ◌∙◌, ◌++◌, ◌∷◌, [], true, Ok, Err, length, ap, inl, inr, rules, arith}
-use Rattle.std.proofs.lemmas.Result.{err_from_is_err_and, IfOk-from_err}
+use Rattle.std.proofs.lemmas.Result.{err_from_is_err_and}
 use Rattle.slate_types.specs.declared.types.RowEntry.{RowEntry}
 use Rattle.slate_block.specs.Building.{with_row}
 use Rattle.slate_block.specs.Counting.{stats_of}
@@ -32,30 +32,3 @@ returns-clause-taken c = c.in_ok-add.ensures.taken (ap Ok (is_taken c)) ∙ ap (
 
 pub returns-clause-counted : goal.returns-clause-counted
 returns-clause-counted c = λ counted h. c.in_ok-add.ensures.counted counted (ap Ok (is_taken c)) h ∙ ap (λ (r : RowEntry). stats_of (counted ++ r ∷ [])) (copy_is c)
-
-pub returns-in_err-begin_block-clause-begun : goal.returns-in_err-begin_block-clause-begun
-returns-in_err-begin_block-clause-begun c = IfOk-from_err c.from_residual.result _ c.from_residual.ensures.0
-
-pub returns-in_err-begin_block-clause-taken : goal.returns-in_err-begin_block-clause-taken
-returns-in_err-begin_block-clause-taken c = IfOk-from_err c.from_residual.result _ c.from_residual.ensures.0
-
-pub returns-in_err-begin_block-clause-counted : goal.returns-in_err-begin_block-clause-counted
-returns-in_err-begin_block-clause-counted c = IfOk-from_err c.from_residual.result _ c.from_residual.ensures.0
-
-pub returns-in_err-copy-clause-begun : goal.returns-in_err-copy-clause-begun
-returns-in_err-copy-clause-begun c = IfOk-from_err c.from_residual-in_err-copy.result _ c.from_residual-in_err-copy.ensures.0
-
-pub returns-in_err-copy-clause-taken : goal.returns-in_err-copy-clause-taken
-returns-in_err-copy-clause-taken c = IfOk-from_err c.from_residual-in_err-copy.result _ c.from_residual-in_err-copy.ensures.0
-
-pub returns-in_err-copy-clause-counted : goal.returns-in_err-copy-clause-counted
-returns-in_err-copy-clause-counted c = IfOk-from_err c.from_residual-in_err-copy.result _ c.from_residual-in_err-copy.ensures.0
-
-pub returns-in_err-add-clause-begun : goal.returns-in_err-add-clause-begun
-returns-in_err-add-clause-begun c = IfOk-from_err c.from_residual-in_err-add.result _ c.from_residual-in_err-add.ensures.0
-
-pub returns-in_err-add-clause-taken : goal.returns-in_err-add-clause-taken
-returns-in_err-add-clause-taken c = IfOk-from_err c.from_residual-in_err-add.result _ c.from_residual-in_err-add.ensures.0
-
-pub returns-in_err-add-clause-counted : goal.returns-in_err-add-clause-counted
-returns-in_err-add-clause-counted c = IfOk-from_err c.from_residual-in_err-add.result _ c.from_residual-in_err-add.ensures.0

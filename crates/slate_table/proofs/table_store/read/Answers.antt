@@ -30,36 +30,6 @@ returns-in_err-path-clause-cause g c = let p = err_from_is_err_and c.from_residu
 pub returns-in_err-path-clause-none : goal.returns-in_err-path-clause-none
 returns-in_err-path-clause-none g c = on_err c.from_residual.result refl
 
-pub returns-in_err-path-clause-objects : goal.returns-in_err-path-clause-objects
-returns-in_err-path-clause-objects g c = refl
-
-pub returns-in_err-path-clause-later : goal.returns-in_err-path-clause-later
-returns-in_err-path-clause-later g c = omega arith
-
-pub returns-in_err-path-clause-still : goal.returns-in_err-path-clause-still
-returns-in_err-path-clause-still g c = inr refl
-
-pub returns-in_err-answer-clause-objects : goal.returns-in_err-answer-clause-objects
-returns-in_err-answer-clause-objects g c = c.read_range.ensures.objects
-
-pub returns-in_err-answer-clause-later : goal.returns-in_err-answer-clause-later
-returns-in_err-answer-clause-later g c = c.read_range.ensures.later
-
-pub returns-clause-objects : goal.returns-clause-objects
-returns-clause-objects g c = c.read_range.ensures.objects
-
-pub returns-clause-later : goal.returns-clause-later
-returns-clause-later g c = c.read_range.ensures.later
-
-pub returns-clause-cause : goal.returns-clause-cause
-returns-clause-cause g c = tt
-
-pub returns-clause-none : goal.returns-clause-none
-returns-clause-none g c = tt
-
-pub returns-clause-whole : goal.returns-clause-whole
-returns-clause-whole g c = c.whole_answer.ensures.whole
-
 pub returns-in_err-answer-clause-cause : goal.returns-in_err-answer-clause-cause
 returns-in_err-answer-clause-cause g c = let p = err_from_is_err_and c.from_residual-in_err-answer.result c.from_residual-in_err-answer.ensures.1 in rw (p.1, p.2) (store_fault c.in_err-answer.field-0.0 _ _ c.in_err-answer.ensures.cause)
 

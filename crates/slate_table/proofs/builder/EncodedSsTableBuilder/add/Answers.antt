@@ -1,4 +1,4 @@
-use Rattle.std.proofs.Common.{◌≡◌, ◌∙◌, ◌++◌, ◌∷◌, [], ℕ, List, true, Ok, Err, ap, subst, sym, inl, inr, arith, refl}
+use Rattle.std.proofs.Common.{◌≡◌, ◌∙◌, ◌++◌, ◌∷◌, [], ℕ, List, true, Ok, Err, ap, subst, sym, inl, inr, arith}
 use Rattle.std.specs.Prelude.{Result, IfErr, IsSome}
 use Rattle.std.proofs.lemmas.Result.{IfOk-weaker, IfErr-weaker, on_ok_weaker}
 use Rattle.slate_types.specs.declared.types.RowEntry.{RowEntry}
@@ -167,33 +167,3 @@ returns-in-Ok-clause-later g c =
 pub returns-in-Ok-clause-still : goal.returns-in-Ok-clause-still
 returns-in-Ok-clause-still g c =
     c.add-ended.ensures.still
-
-pub returns-in-Err-clause-added : goal.returns-in-Err-clause-added
-returns-in-Err-clause-added g c = tt
-
-pub returns-in-Err-clause-version : goal.returns-in-Err-clause-version
-returns-in-Err-clause-version g c = tt
-
-pub returns-in-Err-clause-size : goal.returns-in-Err-clause-size
-returns-in-Err-clause-size g c = tt
-
-pub returns-in-Err-clause-whole : goal.returns-in-Err-clause-whole
-returns-in-Err-clause-whole g c = tt
-
-pub returns-in-Err-clause-encoded : goal.returns-in-Err-clause-encoded
-returns-in-Err-clause-encoded g c = tt
-
-pub returns-in-Err-clause-ended : goal.returns-in-Err-clause-ended
-returns-in-Err-clause-ended g c = tt
-
-pub returns-in-Err-clause-same_encoded : goal.returns-in-Err-clause-same_encoded
-returns-in-Err-clause-same_encoded g c = refl
-
-pub returns-in-Err-clause-same_decoded : goal.returns-in-Err-clause-same_decoded
-returns-in-Err-clause-same_decoded g c = refl
-
-pub returns-in-Err-clause-later : goal.returns-in-Err-clause-later
-returns-in-Err-clause-later g c = omega arith
-
-pub returns-in-Err-clause-still : goal.returns-in-Err-clause-still
-returns-in-Err-clause-still g c = inr (inr refl)

@@ -1,4 +1,4 @@
-use Rattle.std.proofs.Common.{List, ℕ, Option, inl, inr, subst, refl}
+use Rattle.std.proofs.Common.{List, ℕ, Option, inl, inr, subst}
 use Rattle.std.specs.Prelude.{string_bytes}
 use Rattle.std.proofs.lemmas.Result.{err_from_is_err_and, IfOk-from_err}
 use Rattle.slate_table.specs.Paths.{path_of}
@@ -46,54 +46,3 @@ returns-in_err-size-clause-size g c = IfOk-from_err c.from_residual.result _ c.f
 
 pub returns-in_err-size-clause-id : goal.returns-in_err-size-clause-id
 returns-in_err-size-clause-id g c = IfOk-from_err c.from_residual.result _ c.from_residual.ensures.0
-
-pub returns-in-None-clause-size : goal.returns-in-None-clause-size
-returns-in-None-clause-size g c = tt
-
-pub returns-in-None-clause-id : goal.returns-in-None-clause-id
-returns-in-None-clause-id g c = tt
-
-pub returns-in-None-clause-transformer : goal.returns-in-None-clause-transformer
-returns-in-None-clause-transformer g c = refl
-
-pub returns-in-None-clause-root : goal.returns-in-None-clause-root
-returns-in-None-clause-root g c = refl
-
-pub returns-in-None-clause-objects : goal.returns-in-None-clause-objects
-returns-in-None-clause-objects g c = c.object_len.ensures.objects
-
-pub returns-in-None-clause-later : goal.returns-in-None-clause-later
-returns-in-None-clause-later g c = c.object_len.ensures.later
-
-pub returns-in-Some-clause-cause : goal.returns-in-Some-clause-cause
-returns-in-Some-clause-cause g c = tt
-
-pub returns-in-Some-clause-once : goal.returns-in-Some-clause-once
-returns-in-Some-clause-once g c = tt
-
-pub returns-in-Some-clause-id : goal.returns-in-Some-clause-id
-returns-in-Some-clause-id g c = refl
-
-pub returns-in-Some-clause-transformer : goal.returns-in-Some-clause-transformer
-returns-in-Some-clause-transformer g c = refl
-
-pub returns-in-Some-clause-root : goal.returns-in-Some-clause-root
-returns-in-Some-clause-root g c = refl
-
-pub returns-in-Some-clause-objects : goal.returns-in-Some-clause-objects
-returns-in-Some-clause-objects g c = c.object_len.ensures.objects
-
-pub returns-in-Some-clause-later : goal.returns-in-Some-clause-later
-returns-in-Some-clause-later g c = c.object_len.ensures.later
-
-pub returns-in_err-size-clause-transformer : goal.returns-in_err-size-clause-transformer
-returns-in_err-size-clause-transformer g c = refl
-
-pub returns-in_err-size-clause-root : goal.returns-in_err-size-clause-root
-returns-in_err-size-clause-root g c = refl
-
-pub returns-in_err-size-clause-objects : goal.returns-in_err-size-clause-objects
-returns-in_err-size-clause-objects g c = c.object_len.ensures.objects
-
-pub returns-in_err-size-clause-later : goal.returns-in_err-size-clause-later
-returns-in_err-size-clause-later g c = c.object_len.ensures.later

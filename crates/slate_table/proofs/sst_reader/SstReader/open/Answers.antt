@@ -1,4 +1,4 @@
-use Rattle.std.proofs.Common.{List, ℕ, ◌⊎◌, subst, refl}
+use Rattle.std.proofs.Common.{List, ℕ, ◌⊎◌, subst}
 use Rattle.std.proofs.lemmas.Result.{err_from_is_err_and, IfOk-from_err}
 use Rattle.slate_table.specs.Paths.{path_of}
 use Rattle.slate_table.specs.InfoReading.{seen_info}
@@ -37,39 +37,3 @@ returns-in_err-handle-clause-known g c = IfOk-from_err c.from_residual.result _ 
 
 pub returns-in_err-handle-clause-id : goal.returns-in_err-handle-clause-id
 returns-in_err-handle-clause-id g c = IfOk-from_err c.from_residual.result _ c.from_residual.ensures.0
-
-pub returns-clause-cause : goal.returns-clause-cause
-returns-clause-cause g c = tt
-
-pub returns-clause-calls : goal.returns-clause-calls
-returns-clause-calls g c = tt
-
-pub returns-clause-known : goal.returns-clause-known
-returns-clause-known g c = c.in_ok-handle.ensures.known
-
-pub returns-clause-id : goal.returns-clause-id
-returns-clause-id g c = c.in_ok-handle.ensures.id
-
-pub returns-clause-root : goal.returns-clause-root
-returns-clause-root g c = refl
-
-pub returns-clause-transformer : goal.returns-clause-transformer
-returns-clause-transformer g c = refl
-
-pub returns-clause-objects : goal.returns-clause-objects
-returns-clause-objects g c = c.open_table.ensures.objects
-
-pub returns-clause-later : goal.returns-clause-later
-returns-clause-later g c = c.open_table.ensures.later
-
-pub returns-in_err-handle-clause-root : goal.returns-in_err-handle-clause-root
-returns-in_err-handle-clause-root g c = refl
-
-pub returns-in_err-handle-clause-transformer : goal.returns-in_err-handle-clause-transformer
-returns-in_err-handle-clause-transformer g c = refl
-
-pub returns-in_err-handle-clause-objects : goal.returns-in_err-handle-clause-objects
-returns-in_err-handle-clause-objects g c = c.open_table.ensures.objects
-
-pub returns-in_err-handle-clause-later : goal.returns-in_err-handle-clause-later
-returns-in_err-handle-clause-later g c = c.open_table.ensures.later

@@ -1,4 +1,3 @@
-use Rattle.std.proofs.lemmas.Result.{IfOk-from_err, err_from_is_err_and}
 use Rattle.std.proofs.Common.{ℕ, ◌<◌, ◌^◌, List, ◌++◌, length, map, ap, subst, ◌∙◌, arith}
 use Rattle.std.specs.List.{flat_map, AllByRecursion}
 use Rattle.std.proofs.lemmas.List.{length-map}
@@ -30,15 +29,3 @@ returns-clause-spelling c =
       is = is ∙ appended;
     })
     c.from_vec.ensures.ok
-
-pub returns-in_err-append_totals-clause-spelling : goal.returns-in_err-append_totals-clause-spelling
-returns-in_err-append_totals-clause-spelling c = IfOk-from_err c.from_residual.result _ c.from_residual.ensures.0
-
-pub returns-in_err-append_totals-clause-cause : goal.returns-in_err-append_totals-clause-cause
-returns-in_err-append_totals-clause-cause c = let p = err_from_is_err_and c.from_residual.result c.from_residual.ensures.1 in rw (p.1, p.2) c.in_err-append_totals.ensures.cause
-
-pub returns-in_err-append_block_stats-clause-spelling : goal.returns-in_err-append_block_stats-clause-spelling
-returns-in_err-append_block_stats-clause-spelling c = IfOk-from_err c.from_residual-in_err-append_block_stats.result _ c.from_residual-in_err-append_block_stats.ensures.0
-
-pub returns-in_err-append_block_stats-clause-cause : goal.returns-in_err-append_block_stats-clause-cause
-returns-in_err-append_block_stats-clause-cause c = let p = err_from_is_err_and c.from_residual-in_err-append_block_stats.result c.from_residual-in_err-append_block_stats.ensures.1 in rw (p.1, p.2) c.in_err-append_block_stats.ensures.cause
