@@ -1,5 +1,5 @@
 use Rattle.slate_store.specs.declared.store.StoreError.TheVariants.{Failed}
-use Rattle.std.proofs.Common.{◌≡◌, ◌∙◌, ℕ, List, Option, Some, Ok, Err, subst, arith, refl, inr}
+use Rattle.std.proofs.Common.{◌≡◌, ◌∙◌, ℕ, List, Option, Some, Ok, Err, subst, refl}
 use Rattle.std.specs.Prelude.{Result, IfOk}
 use Rattle.slate_types.specs.Outside.{Objects}
 use Rattle.slate_store.specs.Store.{Act, AddsAct, AnswersLen, of_store}

@@ -1,5 +1,5 @@
 use Rattle.slate_table.proofs.Results.{on_err, store_fault, store_failed}
-use Rattle.std.proofs.Common.{◌∙◌, ℕ, List, subst, arith, refl, inr, inl}
+use Rattle.std.proofs.Common.{◌∙◌, ℕ, List, subst, refl, inl}
 use Rattle.slate_table.specs.Reading.{IsRead}
 use Rattle.std.proofs.lemmas.Result.{IfOk-from_err, err_from_is_err_and}
 use Rattle.slate_table.proofs.table_store.read.Goals as goal
