@@ -12,6 +12,7 @@ use Rattle.slate_block.specs.Damage.{◌>>=◌, Field, number_field, block_field
 use Rattle.slate_block.proofs.Groups.{IsBytes}
 use Rattle.slate_block.proofs.FieldLaws.{bind_ok, guard_ok, ok_is, Stands, behind, wide16, wide64, number_takes, number_again, block_takes, block_again, block_text}
 use Rattle.slate_block.proofs.ReadingLaws.{then}
+use Rattle.slate_table.proofs.Results.{bind_again}
 use Rattle.slate_table.specs.Parts.{Place, key_bytes, place_bytes, info_bytes}
 use Rattle.slate_table.specs.Decoded.{Info, IsInfo, FitsShort, FitsPlace, LiesBefore, SectionsLieBefore}
 use Rattle.slate_table.specs.InfoReading.{section_place, byte_at, byte_field, version_field, key_text, key_field, place_field, ending, info_from, info_in}
@@ -137,21 +138,41 @@ ending_takes bytes at h =
 abbrev made_info : Option (List ℕ) → Option (List ℕ) → ℕ × ℕ → ℕ × ℕ → ℕ × ℕ → Info
 made_info first last index filters stats = record { first = first; last = last; index = section_place index.0 index.1; filters = section_place filters.0 filters.1; stats = section_place stats.0 stats.1 }
 
+-- what follows each field of an info
+abbrev end_step : List ℕ → Option (List ℕ) → Option (List ℕ) → ℕ × ℕ → ℕ × ℕ → (ℕ × ℕ) × ℕ → Result Info SlateDBError
+end_step bytes first last index filters z = ending bytes z.1 >>= λ e. Ok (made_info first last index filters z.0)
+
+abbrev stats_step : ℕ → List ℕ → Option (List ℕ) → Option (List ℕ) → ℕ × ℕ → (ℕ × ℕ) × ℕ → Result Info SlateDBError
+stats_step end bytes first last index y = place_field end bytes y.1 >>= end_step bytes first last index y.0
+
+abbrev filters_step : ℕ → List ℕ → Option (List ℕ) → Option (List ℕ) → (ℕ × ℕ) × ℕ → Result Info SlateDBError
+filters_step end bytes first last x = place_field end bytes x.1 >>= stats_step end bytes first last x.0
+
+abbrev places_step : ℕ → List ℕ → Option (List ℕ) → Option (List ℕ) × ℕ → Result Info SlateDBError
+places_step end bytes first l = place_field end bytes l.1 >>= filters_step end bytes first l.0
+
+abbrev last_step : ℕ → List ℕ → Option (List ℕ) × ℕ → Result Info SlateDBError
+last_step end bytes f = key_field bytes f.1 >>= places_step end bytes f.0
+
+abbrev first_step : ℕ → List ℕ → ℕ × ℕ → Result Info SlateDBError
+first_step end bytes v = key_field bytes v.1 >>= last_step end bytes
+
+info_steps : (version end : ℕ) (bytes : List ℕ) → info_in version end bytes ≡ (version_field version bytes >>= first_step end bytes)
+unfolding info_in info_from
+info_steps version end bytes = refl
+
 pub record InfoTakes (version end : ℕ) (bytes : List ℕ) (i : Info) : Type 0 where
   pub is : IsInfo version bytes i
   pub before : SectionsLieBefore end i
 
 pub info_reads : (version end : ℕ) (bytes : List ℕ) (i : Info) → IsBytes bytes → info_in version end bytes ≡ Ok i → InfoTakes version end bytes i
-unfolding info_in info_from
 info_reads version end bytes i fits h =
-    let key : ℕ → Field (Option (List ℕ)) = key_field bytes in
-    let place : ℕ → Field (ℕ × ℕ) = place_field end bytes in
-    let v = bind_ok (version_field version bytes) (λ v. key v.1 >>= λ f. key f.1 >>= λ l. place l.1 >>= λ x. place x.1 >>= λ y. place y.1 >>= λ z. ending bytes z.1 >>= λ e. Ok (made_info f.0 l.0 x.0 y.0 z.0)) i h in
-    let f = bind_ok (key v.0.1) (λ f. key f.1 >>= λ l. place l.1 >>= λ x. place x.1 >>= λ y. place y.1 >>= λ z. ending bytes z.1 >>= λ e. Ok (made_info f.0 l.0 x.0 y.0 z.0)) i v.2 in
-    let l = bind_ok (key f.0.1) (λ l. place l.1 >>= λ x. place x.1 >>= λ y. place y.1 >>= λ z. ending bytes z.1 >>= λ e. Ok (made_info f.0.0 l.0 x.0 y.0 z.0)) i f.2 in
-    let x = bind_ok (place l.0.1) (λ x. place x.1 >>= λ y. place y.1 >>= λ z. ending bytes z.1 >>= λ e. Ok (made_info f.0.0 l.0.0 x.0 y.0 z.0)) i l.2 in
-    let y = bind_ok (place x.0.1) (λ y. place y.1 >>= λ z. ending bytes z.1 >>= λ e. Ok (made_info f.0.0 l.0.0 x.0.0 y.0 z.0)) i x.2 in
-    let z = bind_ok (place y.0.1) (λ z. ending bytes z.1 >>= λ e. Ok (made_info f.0.0 l.0.0 x.0.0 y.0.0 z.0)) i y.2 in
+    let v = bind_ok (version_field version bytes) (first_step end bytes) i (sym (info_steps version end bytes) ∙ h) in
+    let f = bind_ok (key_field bytes v.0.1) (last_step end bytes) i v.2 in
+    let l = bind_ok (key_field bytes f.0.1) (places_step end bytes f.0.0) i f.2 in
+    let x = bind_ok (place_field end bytes l.0.1) (filters_step end bytes f.0.0 l.0.0) i l.2 in
+    let y = bind_ok (place_field end bytes x.0.1) (stats_step end bytes f.0.0 l.0.0 x.0.0) i x.2 in
+    let z = bind_ok (place_field end bytes y.0.1) (end_step bytes f.0.0 l.0.0 x.0.0 y.0.0) i y.2 in
     let e = bind_ok (ending bytes z.0.1) (λ e. Ok (made_info f.0.0 l.0.0 x.0.0 y.0.0 z.0.0)) i z.2 in
     let tv = version_takes version bytes v.0.0 v.0.1 fits v.1 in
     let tf = key_takes bytes v.0.1 f.0.0 f.0.1 fits f.1 in
@@ -225,7 +246,6 @@ ending_again bytes at h =
     rw (byte_again bytes at 0 (1 ∷ []) h, byte_again bytes (at + 1) 1 [] tail, whole) refl
 
 pub info_again : (version end : ℕ) (bytes : List ℕ) (i : Info) → InfoTakes version end bytes i → info_in version end bytes ≡ Ok i
-unfolding info_in info_from
 info_again version end bytes i t =
     let v = be16 version in
     let f = key_bytes i.first in
@@ -245,15 +265,17 @@ info_again version end bytes i t =
     let p4 : drop (a2 + 16) bytes ≡ y ++ (z ++ e) = behind bytes x (y ++ (z ++ e)) a2 p3 in
     let p5 : drop (a2 + 16 + 16) bytes ≡ z ++ e = behind bytes y (z ++ e) (a2 + 16) p4 in
     let p6 : drop (a2 + 16 + 16 + 16) bytes ≡ e = behind bytes z e (a2 + 16 + 16) p5 in
-    rw (
-      version_again version bytes (f ++ (l ++ (x ++ (y ++ (z ++ e))))) t.is.known p0,
-      key_again bytes (l ++ (x ++ (y ++ (z ++ e)))) 2 i.first t.is.first p1,
-      key_again bytes (x ++ (y ++ (z ++ e))) a1 i.last t.is.last p2,
-      place_again end bytes (y ++ (z ++ e)) a2 i.index t.is.index t.before.0 p3,
-      place_again end bytes (z ++ e) (a2 + 16) i.filters t.is.filters t.before.1 p4,
-      place_again end bytes e (a2 + 16 + 16) i.stats t.is.stats t.before.2 p5,
-      ending_again bytes (a2 + 16 + 16 + 16) p6,
-    ) refl
+    let index : ℕ × ℕ = (i.index.at, i.index.len) in
+    let filters : ℕ × ℕ = (i.filters.at, i.filters.len) in
+    let stats : ℕ × ℕ = (i.stats.at, i.stats.len) in
+    info_steps version end bytes
+    ∙ bind_again (version_field version bytes) (version, 2) (first_step end bytes) (version_again version bytes (f ++ (l ++ (x ++ (y ++ (z ++ e))))) t.is.known p0)
+    ∙ bind_again (key_field bytes 2) (i.first, a1) (last_step end bytes) (key_again bytes (l ++ (x ++ (y ++ (z ++ e)))) 2 i.first t.is.first p1)
+    ∙ bind_again (key_field bytes a1) (i.last, a2) (places_step end bytes i.first) (key_again bytes (x ++ (y ++ (z ++ e))) a1 i.last t.is.last p2)
+    ∙ bind_again (place_field end bytes a2) (index, a2 + 16) (filters_step end bytes i.first i.last) (place_again end bytes (y ++ (z ++ e)) a2 i.index t.is.index t.before.0 p3)
+    ∙ bind_again (place_field end bytes (a2 + 16)) (filters, a2 + 16 + 16) (stats_step end bytes i.first i.last index) (place_again end bytes (z ++ e) (a2 + 16) i.filters t.is.filters t.before.1 p4)
+    ∙ bind_again (place_field end bytes (a2 + 16 + 16)) (stats, a2 + 16 + 16 + 16) (end_step bytes i.first i.last index filters) (place_again end bytes e (a2 + 16 + 16) i.stats t.is.stats t.before.2 p5)
+    ∙ bind_again (ending bytes (a2 + 16 + 16 + 16)) tt (λ (u : Unit {0}). Ok i) (ending_again bytes (a2 + 16 + 16 + 16) p6)
 
 pub refused_info : (version end : ℕ) (i : Info) (bytes : List ℕ) (d m : SlateDBError) → (d ≡ m) ⊎ (info_in version end bytes ≡ Err d) → IsInfo version bytes i → SectionsLieBefore end i → d ≡ m
 refused_info version end i bytes d m (inl h) is before = h

@@ -1,8 +1,14 @@
 -- The result of a last call, which is returned as it is.
-use Rattle.std.proofs.Common.{◌≡◌, ◌⊎◌, ◌∙◌, ℕ, Bool, true, inl, inr, Ok, Err, ap, sym, subst}
-use Rattle.std.specs.Prelude.{Result, IfOk, OnOk, OnErr, MatchResult, IsErrAnd, is_ok}
+use Rattle.std.proofs.Common.{◌≡◌, ◌⊎◌, ◌∙◌, ℕ, Bool, true, inl, inr, Ok, Err, refl, ap, sym, subst}
+use Rattle.std.specs.Prelude.{Result, IfOk, IfErr, OnOk, OnErr, MatchResult, IsErrAnd, is_ok}
 use Rattle.slate_types.specs.declared.error.SlateDBError.{SlateDBError}
 use Rattle.slate_types.specs.declared.error.SlateDBError.TheVariants.{StoreFault}
+use Rattle.slate_store.specs.declared.store.StoreError.{StoreError}
+use Rattle.slate_store.specs.declared.store.StoreError.TheVariants.{Failed, OutOfMemory as NoMemory}
+use Rattle.slate_store.specs.Store.{of_store}
+use Rattle.slate_types.specs.Faults.{Rose}
+use Rattle.slate_table.specs.Reading.{IsStoreFault}
+use Rattle.slate_block.specs.Damage.{◌>>=◌}
 
 -- a store's count where the call is Ok
 pub store_still : {T P : Type 0} (value : T) → (Ok value ≡ Err StoreFault) ⊎ P → P
@@ -18,8 +24,21 @@ pub store_longer : {P : Type 0} (a b c : ℕ) → b ≡ a → P ⊎ (c ≡ b) �
 store_longer a b c same (inl p) = inl p
 store_longer a b c same (inr e) = inr (e ∙ same)
 
+-- a store's error as a function's own
+pub store_fault : {T : Type 0} (e : StoreError) (before after : ℕ) → (◌≡◌ {A = Result T StoreError} (Err e) (Err Failed) → Rose before after) → IsStoreFault before after (of_store e)
+store_fault Failed before after rose = inr (refl, rose refl)
+store_fault NoMemory before after rose = inl refl
+
+pub store_failed : {T U P : Type 0} (e : StoreError) → (◌≡◌ {A = Result T StoreError} (Err e) (Err Failed)) ⊎ P → (◌≡◌ {A = Result U SlateDBError} (Err (of_store e)) (Err StoreFault)) ⊎ P
+store_failed e (inl failed) = let is : e ≡ Failed = cc in inl (ap (λ (x : StoreError). Err (of_store x)) is)
+store_failed e (inr same) = inr same
+
 pub err_is : {T : Type 0} (e f : SlateDBError) → ◌≡◌ {A = Result T SlateDBError} (Err e) (Err f) → e ≡ f
 err_is e f h = cc
+
+-- a step that did not fail, and what follows it
+pub bind_again : {A B : Type 0} (r : Result A SlateDBError) (x : A) (f : A → Result B SlateDBError) → r ≡ Ok x → (r >>= f) ≡ f x
+bind_again {A} r x f h = ap (λ (q : Result A SlateDBError). q >>= f) h
 
 pub either : {A B C : Type 0} → (B → C) → A ⊎ B → A ⊎ C
 either f (inl a) = inl a
@@ -62,3 +81,15 @@ pub mapped : {T D E : Type 0} (r : Result T E) (m : Result T D) (Q : E → D →
 mapped (Ok x) m Q P R is f p = subst (λ r. IfOk r R) (sym is) (f x p)
 mapped (Err e) (Ok x) Q P R is f p = absurd is
 mapped (Err e) (Err d) Q P R is f p = tt
+
+pub mapped_err : {T D : Type 0} (r : Result T D) (m : Result T SlateDBError) (of : D → SlateDBError) (P : SlateDBError → Type 0) → MatchResult r (λ x. m ≡ Ok x) (λ e. IsErrAnd m (λ d. d ≡ of e)) → ((e : D) → r ≡ Err e → P (of e)) → IfErr m P
+mapped_err (Ok x) m of P is f = subst (λ r. IfErr r P) (sym is) tt
+mapped_err (Err e) (Ok x) of P is f = absurd is
+mapped_err (Err e) (Err d) of P is f = subst P (sym is) (f e refl)
+
+pub mapped_still : {T D P : Type 0} (r : Result T D) (m : Result T SlateDBError) (of : D → SlateDBError) (f : D) → MatchResult r (λ x. m ≡ Ok x) (λ e. IsErrAnd m (λ d. d ≡ of e)) → (r ≡ Err f) ⊎ P → (m ≡ Err (of f)) ⊎ P
+mapped_still (Ok x) m of f is (inl failed) = absurd cc
+mapped_still (Ok x) m of f is (inr p) = inr p
+mapped_still (Err e) (Ok x) of f is h = absurd is
+mapped_still (Err e) (Err d) of f is (inl failed) = let same : e ≡ f = cc in inl (ap (λ (x : SlateDBError). Err x) (is ∙ ap of same))
+mapped_still (Err e) (Err d) of f is (inr p) = inr p

@@ -1,5 +1,5 @@
 -- Statistics that are read are those that are spelled.
-use Rattle.std.proofs.Common.{◌≡◌, ℕ, zero, suc, ◌+◌, ◌-◌, ◌^◌, ◌<◌, ◌≤◌, false, cond, ltb, List, [], ◌∷◌, ◌++◌, length, map, drop, Result, Ok, Err, refl, sym, ap, subst, ◌∙◌, ◌⊎◌, inl, inr, append_assoc, arith}
+use Rattle.std.proofs.Common.{◌≡◌, ℕ, zero, suc, ◌+◌, ◌-◌, ◌^◌, ◌<◌, ◌≤◌, Bool, false, cond, ltb, List, [], ◌∷◌, ◌++◌, length, map, drop, Result, Ok, Err, refl, sym, ap, subst, ◌∙◌, ◌⊎◌, inl, inr, append_assoc, arith}
 use Rattle.std.specs.List.{flat_map, AllByRecursion}
 use Rattle.std.specs.Int.{Width, w16, w32, w64, byte_len, to_be_bytes}
 use Rattle.std.proofs.lemmas.Bool.{ltb-false, le-ltb}
@@ -13,6 +13,7 @@ use Rattle.slate_block.specs.Damage.{◌>>=◌, Field, number_field}
 use Rattle.slate_block.proofs.Groups.{IsBytes}
 use Rattle.slate_block.proofs.FieldLaws.{bind_ok, guard_ok, ok_is, Stands, behind, IsWide, wide16, wide32, wide64, number_takes, number_again}
 use Rattle.slate_block.proofs.ReadingLaws.{then}
+use Rattle.slate_table.proofs.Results.{bind_again}
 use Rattle.slate_table.specs.Decoded.{Counts, Stats, FitCounts, counts_bytes, IsStats}
 use Rattle.slate_table.specs.StatsReading.{counts_of, three_numbers, block_stats_field, block_stats_from, stats_in}
 
@@ -123,15 +124,30 @@ made_stats n keys values bs = record { all = record { puts = n.0; deletes = n.1;
 abbrev ending : List ℕ → ℕ × ℕ × ℕ → ℕ → ℕ → List BlockStats × ℕ → Result Stats SlateDBError
 ending bytes n keys values bs = cond (ltb bs.1 (length bytes)) (Err (CorruptTable bs.1)) (Ok (made_stats n keys values bs.0))
 
-pub stats_reads : (bytes : List ℕ) (s : Stats) → IsBytes bytes → stats_in bytes ≡ Ok s → IsStats bytes s
+-- what follows each field of the statistics
+abbrev blocks_step : List ℕ → ℕ × ℕ × ℕ → ℕ → ℕ → ℕ × ℕ → Result Stats SlateDBError
+blocks_step bytes n keys values count = block_stats_from count.0 bytes count.1 >>= ending bytes n keys values
+
+abbrev count_step : List ℕ → ℕ × ℕ × ℕ → ℕ → ℕ × ℕ → Result Stats SlateDBError
+count_step bytes n keys values = number_field w32 bytes values.1 >>= blocks_step bytes n keys values.0
+
+abbrev values_step : List ℕ → ℕ × ℕ × ℕ → ℕ × ℕ → Result Stats SlateDBError
+values_step bytes n keys = number_field w64 bytes keys.1 >>= count_step bytes n keys.0
+
+abbrev keys_step : List ℕ → (ℕ × ℕ × ℕ) × ℕ → Result Stats SlateDBError
+keys_step bytes n = number_field w64 bytes n.1 >>= values_step bytes n.0
+
+stats_steps : (bytes : List ℕ) → stats_in bytes ≡ (three_numbers w64 bytes 0 >>= keys_step bytes)
 unfolding stats_in
+stats_steps bytes = refl
+
+pub stats_reads : (bytes : List ℕ) (s : Stats) → IsBytes bytes → stats_in bytes ≡ Ok s → IsStats bytes s
 stats_reads bytes s fits h =
-    let read : ℕ → Field ℕ = number_field w64 bytes in
-    let a = bind_ok (three_numbers w64 bytes 0) (λ n. read n.1 >>= λ keys. read keys.1 >>= λ values. number_field w32 bytes values.1 >>= λ count. block_stats_from count.0 bytes count.1 >>= λ bs. ending bytes n.0 keys.0 values.0 bs) s h in
-    let k = bind_ok (read a.0.1) (λ keys. read keys.1 >>= λ values. number_field w32 bytes values.1 >>= λ count. block_stats_from count.0 bytes count.1 >>= λ bs. ending bytes a.0.0 keys.0 values.0 bs) s a.2 in
-    let v = bind_ok (read k.0.1) (λ values. number_field w32 bytes values.1 >>= λ count. block_stats_from count.0 bytes count.1 >>= λ bs. ending bytes a.0.0 k.0.0 values.0 bs) s k.2 in
-    let n = bind_ok (number_field w32 bytes v.0.1) (λ count. block_stats_from count.0 bytes count.1 >>= λ bs. ending bytes a.0.0 k.0.0 v.0.0 bs) s v.2 in
-    let b = bind_ok (block_stats_from n.0.0 bytes n.0.1) (λ bs. ending bytes a.0.0 k.0.0 v.0.0 bs) s n.2 in
+    let a = bind_ok (three_numbers w64 bytes 0) (keys_step bytes) s (sym (stats_steps bytes) ∙ h) in
+    let k = bind_ok (number_field w64 bytes a.0.1) (values_step bytes a.0.0) s a.2 in
+    let v = bind_ok (number_field w64 bytes k.0.1) (count_step bytes a.0.0 k.0.0) s k.2 in
+    let n = bind_ok (number_field w32 bytes v.0.1) (blocks_step bytes a.0.0 k.0.0 v.0.0) s v.2 in
+    let b = bind_ok (block_stats_from n.0.0 bytes n.0.1) (ending bytes a.0.0 k.0.0 v.0.0) s n.2 in
     let g = guard_ok (ltb b.0.1 (length bytes)) (CorruptTable b.0.1) (made_stats a.0.0 k.0.0 v.0.0 b.0.0) s b.2 in
     let ta = three_take w64 (2 ^ 64) wide64 bytes 0 a.0.0 a.0.1 fits a.1 in
     let tk = number_takes w64 (2 ^ 64) wide64 bytes a.0.1 k.0.0 k.0.1 fits k.1 in
@@ -202,7 +218,6 @@ same_counts [] = refl
 same_counts (c ∷ cs) = ap (λ (l : List Counts). c ∷ l) (same_counts cs)
 
 pub stats_again : (bytes : List ℕ) (s : Stats) → IsStats bytes s → stats_in bytes ≡ Ok s
-unfolding stats_in
 stats_again bytes s i =
     let all = counts_bytes be64 s.all in
     let keys = be64 s.key_bytes in
@@ -216,16 +231,19 @@ stats_again bytes s i =
     let p5 : drop 44 bytes ≡ counts ++ [] = behind bytes count counts 40 p4 ∙ sym (append-nil counts) in
     let size : 44 + length counts ≡ length bytes = omega (arith, ap length p1) in
     let whole : ltb (length bytes) (length bytes) ≡ false = le-ltb (length bytes) (length bytes) (omega arith) in
-    rw (
-      three_again w64 (2 ^ 64) wide64 bytes (keys ++ (values ++ (count ++ counts))) 0 s.all.puts s.all.deletes s.all.merges i.all.0 i.all.1 i.all.2 p1,
-      number_again w64 (2 ^ 64) wide64 bytes (values ++ (count ++ counts)) 24 s.key_bytes i.keys p2,
-      number_again w64 (2 ^ 64) wide64 bytes (count ++ counts) 32 s.value_bytes i.values p3,
-      number_again w32 (2 ^ 32) wide32 bytes counts 40 (length s.blocks) i.few p4,
-      blocks_again s.blocks bytes [] 44 i.each p5,
-      size,
-      whole,
-    )
-    (ap (λ (l : List Counts). Ok (record { all = s.all; key_bytes = s.key_bytes; value_bytes = s.value_bytes; blocks = l })) (same_counts s.blocks))
+    let n : ℕ × ℕ × ℕ = (s.all.puts, s.all.deletes, s.all.merges) in
+    let found : List BlockStats = map stored s.blocks in
+    let upto : ℕ → Field (List BlockStats) = λ end. Ok (found, end) in
+    let guarded : Bool → Result Stats SlateDBError = λ more. cond more (Err (CorruptTable (length bytes))) (Ok (made_stats n s.key_bytes s.value_bytes found)) in
+    let made : List Counts → Result Stats SlateDBError = λ l. Ok (record { all = s.all; key_bytes = s.key_bytes; value_bytes = s.value_bytes; blocks = l }) in
+    stats_steps bytes
+    ∙ bind_again (three_numbers w64 bytes 0) (n, 24) (keys_step bytes) (three_again w64 (2 ^ 64) wide64 bytes (keys ++ (values ++ (count ++ counts))) 0 s.all.puts s.all.deletes s.all.merges i.all.0 i.all.1 i.all.2 p1)
+    ∙ bind_again (number_field w64 bytes 24) (s.key_bytes, 32) (values_step bytes n) (number_again w64 (2 ^ 64) wide64 bytes (values ++ (count ++ counts)) 24 s.key_bytes i.keys p2)
+    ∙ bind_again (number_field w64 bytes 32) (s.value_bytes, 40) (count_step bytes n s.key_bytes) (number_again w64 (2 ^ 64) wide64 bytes (count ++ counts) 32 s.value_bytes i.values p3)
+    ∙ bind_again (number_field w32 bytes 40) (length s.blocks, 44) (blocks_step bytes n s.key_bytes s.value_bytes) (number_again w32 (2 ^ 32) wide32 bytes counts 40 (length s.blocks) i.few p4)
+    ∙ bind_again (block_stats_from (length s.blocks) bytes 44) (found, length bytes) (ending bytes n s.key_bytes s.value_bytes) (blocks_again s.blocks bytes [] 44 i.each p5 ∙ ap upto size)
+    ∙ ap guarded whole
+    ∙ ap made (same_counts s.blocks)
 
 pub refused_stats : (s : Stats) (bytes slice : List ℕ) (d m : SlateDBError) → slice ≡ bytes → (d ≡ m) ⊎ (stats_in slice ≡ Err d) → IsStats bytes s → d ≡ m
 refused_stats s bytes slice d m same (inl h) i = h

@@ -1,10 +1,11 @@
-use Rattle.std.proofs.Common.{◌≡◌, ◌∙◌, ℕ, List, Option, Some, Ok, Err, subst}
+use Rattle.slate_store.specs.declared.store.StoreError.TheVariants.{Failed}
+use Rattle.std.proofs.Common.{◌≡◌, ◌∙◌, ℕ, List, Option, Some, Ok, Err, subst, refl}
 use Rattle.std.specs.Prelude.{Result, IfOk}
 use Rattle.slate_types.specs.Outside.{Objects}
-use Rattle.slate_store.specs.Store.{Act, AddsAct, AnswersLen}
+use Rattle.slate_store.specs.Store.{Act, AddsAct, AnswersLen, of_store}
 use Rattle.slate_table.specs.Opening.{IsMeasured}
-use Rattle.slate_table.proofs.Results.{mapped}
-use Rattle.std.proofs.lemmas.Result.{IfOk-from_err}
+use Rattle.slate_table.proofs.Results.{mapped, on_err, mapped_err, mapped_still, store_fault}
+use Rattle.std.proofs.lemmas.Result.{IfOk-from_err, IfErr-at_err}
 use Rattle.slate_table.proofs.opening.object_len.Goals as goal
 
 answered : {E : Type 0} (r : Result (Option ℕ) E) (objects : Option Objects) (before after : Option (List Act)) (path : List ℕ) → ((os : Objects) → objects ≡ Some os → IfOk r (λ size. AnswersLen os path size)) →
@@ -24,3 +25,15 @@ returns-clause-measured g c =
 
 pub returns-in_err-path-clause-measured : goal.returns-in_err-path-clause-measured
 returns-in_err-path-clause-measured g c = IfOk-from_err c.from_residual.result _ c.from_residual.ensures.0
+
+pub returns-in_err-path-clause-none : goal.returns-in_err-path-clause-none
+returns-in_err-path-clause-none g c = on_err _ refl
+
+pub returns-clause-cause : goal.returns-clause-cause
+returns-clause-cause g c = mapped_err c.len.result c.map_err.result of_store _ c.map_err.ensures.cases (λ e is. store_fault e _ _ (λ failed. c.len.ensures.cause (is ∙ failed)))
+
+pub returns-clause-none : goal.returns-clause-none
+returns-clause-none g c = mapped_err c.len.result c.map_err.result of_store _ c.map_err.ensures.cases (λ e is. IfErr-at_err _ is c.len.ensures.refused_act)
+
+pub returns-clause-still : goal.returns-clause-still
+returns-clause-still g c = mapped_still c.len.result c.map_err.result of_store Failed c.map_err.ensures.cases c.len.ensures.still

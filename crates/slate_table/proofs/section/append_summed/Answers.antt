@@ -1,6 +1,6 @@
 use Rattle.std.proofs.Common.{◌∙◌, ◌++◌, ℕ, List, ap, length, take, refl}
 use Rattle.std.proofs.lemmas.List.{take_at}
-use Rattle.std.proofs.lemmas.Result.{on_ok_weaker, on_err_weaker}
+use Rattle.std.proofs.lemmas.Result.{on_ok_weaker, on_err_weaker, IfOk-from_err, err_from_is_err_and}
 use Rattle.slate_block.specs.RowSpelling.{be32}
 use Rattle.slate_table.proofs.Grown.{grown}
 use Rattle.slate_table.proofs.section.append_summed.Goals as goal
@@ -16,3 +16,9 @@ returns-clause-kept c =
     on_err_weaker c.append_u32.result
     (λ h. ap (λ (l : List ℕ). take (length old) l) (h ∙ c.in_ok-append.ensures.appended) ∙ take_at old c.args.bytes.now (length old) refl)
     c.append_u32.ensures.unchanged
+
+pub returns-in_err-append-clause-appended : goal.returns-in_err-append-clause-appended
+returns-in_err-append-clause-appended c = IfOk-from_err c.from_residual.result _ c.from_residual.ensures.0
+
+pub returns-in_err-append-clause-cause : goal.returns-in_err-append-clause-cause
+returns-in_err-append-clause-cause c = let p = err_from_is_err_and c.from_residual.result c.from_residual.ensures.1 in rw (p.1, p.2) c.in_err-append.ensures.cause

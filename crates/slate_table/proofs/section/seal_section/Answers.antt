@@ -1,6 +1,8 @@
+use Rattle.std.proofs.Math.Seq.{take-length}
+use Rattle.slate_table.proofs.Results.{on_err}
 use Rattle.slate_table.proofs.PartReads.{still_ok, still_err}
 use Rattle.std.proofs.Common.{◌∙◌, ◌++◌, ℕ, List, ap, inl, inr}
-use Rattle.std.proofs.lemmas.Result.{on_ok_weaker, IfErr-weaker, err_from_is_err_and}
+use Rattle.std.proofs.lemmas.Result.{on_ok_weaker, IfErr-weaker, err_from_is_err_and, IfOk-from_err}
 use Rattle.slate_table.specs.Parts.{summed}
 use Rattle.slate_table.proofs.section.seal_section.Goals as goal
 
@@ -23,3 +25,27 @@ returns-clause-still g c = inr (inr (still_ok c.in_ok-stored.stored c.in_ok-stor
 
 pub returns-clause-kept : goal.returns-clause-kept
 returns-clause-kept g c = c.append_summed-sealed.ensures.kept
+
+pub returns-clause-same_encoded : goal.returns-clause-same_encoded
+returns-clause-same_encoded g c = c.encoded.ensures.same_encoded
+
+pub returns-clause-same_decoded : goal.returns-clause-same_decoded
+returns-clause-same_decoded g c = c.encoded.ensures.same_decoded
+
+pub returns-clause-later : goal.returns-clause-later
+returns-clause-later g c = c.encoded.ensures.later
+
+pub returns-in_err-stored-clause-same_encoded : goal.returns-in_err-stored-clause-same_encoded
+returns-in_err-stored-clause-same_encoded g c = c.encoded.ensures.same_encoded
+
+pub returns-in_err-stored-clause-same_decoded : goal.returns-in_err-stored-clause-same_decoded
+returns-in_err-stored-clause-same_decoded g c = c.encoded.ensures.same_decoded
+
+pub returns-in_err-stored-clause-later : goal.returns-in_err-stored-clause-later
+returns-in_err-stored-clause-later g c = c.encoded.ensures.later
+
+pub returns-in_err-stored-clause-appended : goal.returns-in_err-stored-clause-appended
+returns-in_err-stored-clause-appended g c = IfOk-from_err c.from_residual.result _ c.from_residual.ensures.0
+
+pub returns-in_err-stored-clause-kept : goal.returns-in_err-stored-clause-kept
+returns-in_err-stored-clause-kept g c = on_err c.from_residual.result (take-length c.args.out.now.items)

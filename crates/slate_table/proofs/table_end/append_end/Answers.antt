@@ -73,3 +73,48 @@ returns-in_err-info-clause-appended g c = IfOk-from_err c.from_residual-in_err-i
 
 pub returns-in_err-info-clause-info : goal.returns-in_err-info-clause-info
 returns-in_err-info-clause-info g c = IfOk-from_err c.from_residual-in_err-info.result _ c.from_residual-in_err-info.ensures.0
+
+pub returns-in-Err-clause-appended : goal.returns-in-Err-clause-appended
+returns-in-Err-clause-appended g c = tt
+
+pub returns-in-Err-clause-info : goal.returns-in-Err-clause-info
+returns-in-Err-clause-info g c = tt
+
+pub returns-in-Err-clause-same_encoded : goal.returns-in-Err-clause-same_encoded
+returns-in-Err-clause-same_encoded g c = c.append_sections.ensures.same_encoded
+
+pub returns-in-Err-clause-same_decoded : goal.returns-in-Err-clause-same_decoded
+returns-in-Err-clause-same_decoded g c = c.append_sections.ensures.same_decoded
+
+pub returns-in-Err-clause-later : goal.returns-in-Err-clause-later
+returns-in-Err-clause-later g c = c.append_sections.ensures.later
+
+pub returns-in-Ok-clause-cause : goal.returns-in-Ok-clause-cause
+returns-in-Ok-clause-cause g c = tt
+
+pub returns-in-Ok-clause-same_encoded : goal.returns-in-Ok-clause-same_encoded
+returns-in-Ok-clause-same_encoded g c = c.append_sections.ensures.same_encoded
+
+pub returns-in-Ok-clause-same_decoded : goal.returns-in-Ok-clause-same_decoded
+returns-in-Ok-clause-same_decoded g c = c.append_sections.ensures.same_decoded
+
+pub returns-in-Ok-clause-later : goal.returns-in-Ok-clause-later
+returns-in-Ok-clause-later g c = c.append_sections.ensures.later
+
+pub returns-in_err-info-clause-same_encoded : goal.returns-in_err-info-clause-same_encoded
+returns-in_err-info-clause-same_encoded g c = c.append_sections.ensures.same_encoded
+
+pub returns-in_err-info-clause-same_decoded : goal.returns-in_err-info-clause-same_decoded
+returns-in_err-info-clause-same_decoded g c = c.append_sections.ensures.same_decoded
+
+pub returns-in_err-info-clause-later : goal.returns-in_err-info-clause-later
+returns-in_err-info-clause-later g c = c.append_sections.ensures.later
+
+pub returns-in_err-stats_offset-clause-same_encoded : goal.returns-in_err-stats_offset-clause-same_encoded
+returns-in_err-stats_offset-clause-same_encoded g c = c.append_sections.ensures.same_encoded
+
+pub returns-in_err-stats_offset-clause-same_decoded : goal.returns-in_err-stats_offset-clause-same_decoded
+returns-in_err-stats_offset-clause-same_decoded g c = c.append_sections.ensures.same_decoded
+
+pub returns-in_err-stats_offset-clause-later : goal.returns-in_err-stats_offset-clause-later
+returns-in_err-stats_offset-clause-later g c = c.append_sections.ensures.later

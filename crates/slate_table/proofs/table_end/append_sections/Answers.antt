@@ -2,7 +2,7 @@ use Rattle.slate_table.specs.SectionReading.{IsTransformFault}
 use Rattle.slate_types.specs.Faults.{faults_of}
 use Rattle.slate_table.proofs.PartReads.{still_ok, still_err, still_longer}
 use Rattle.std.proofs.lemmas.Result.{err_from_is_err_and, IfOk-from_err}
-use Rattle.std.proofs.Common.{◌∙◌, ◌++◌, ℕ, inr, subst}
+use Rattle.std.proofs.Common.{◌∙◌, ◌++◌, ℕ, inr, subst, arith}
 use Rattle.slate_table.specs.Parts.{section}
 use Rattle.slate_table.proofs.table_end.append_sections.Goals as goal
 
@@ -48,3 +48,27 @@ returns-in_err-seal_section-in-Ok-clause-appended g c = IfOk-from_err c.from_res
 
 pub returns-in_err-seal_section-in-Ok-clause-place : goal.returns-in_err-seal_section-in-Ok-clause-place
 returns-in_err-seal_section-in-Ok-clause-place g c = IfOk-from_err c.from_residual.result _ c.from_residual.ensures.0
+
+pub returns-in-Err-clause-appended : goal.returns-in-Err-clause-appended
+returns-in-Err-clause-appended g c = tt
+
+pub returns-in-Err-clause-place : goal.returns-in-Err-clause-place
+returns-in-Err-clause-place g c = tt
+
+pub returns-in-Err-clause-same_encoded : goal.returns-in-Err-clause-same_encoded
+returns-in-Err-clause-same_encoded g c = c.seal_section.ensures.same_encoded
+
+pub returns-in-Err-clause-same_decoded : goal.returns-in-Err-clause-same_decoded
+returns-in-Err-clause-same_decoded g c = c.seal_section.ensures.same_decoded
+
+pub returns-in-Err-clause-later : goal.returns-in-Err-clause-later
+returns-in-Err-clause-later g c = c.seal_section.ensures.later
+
+pub returns-in_err-seal_section-in-Ok-clause-later : goal.returns-in_err-seal_section-in-Ok-clause-later
+returns-in_err-seal_section-in-Ok-clause-later g c = omega (arith, c.seal_section.ensures.later, c.seal_section-in-Ok.ensures.later)
+
+pub returns-in_ok-seal_section-in-Ok-clause-later : goal.returns-in_ok-seal_section-in-Ok-clause-later
+returns-in_ok-seal_section-in-Ok-clause-later g c = omega (arith, c.seal_section.ensures.later, c.seal_section-in-Ok.ensures.later)
+
+pub returns-in_ok-seal_section-in-Ok-clause-cause : goal.returns-in_ok-seal_section-in-Ok-clause-cause
+returns-in_ok-seal_section-in-Ok-clause-cause g c = tt

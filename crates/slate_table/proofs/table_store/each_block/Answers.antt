@@ -1,5 +1,5 @@
 use Rattle.std.proofs.Common.{◌∙◌, arith, inl, inr}
-use Rattle.std.proofs.lemmas.Result.{err_from_is_err_and}
+use Rattle.std.proofs.lemmas.Result.{err_from_is_err_and, IfOk-from_err}
 use Rattle.slate_types.specs.Faults.{faults_of}
 use Rattle.slate_table.specs.IndexValue.{entries_of}
 use Rattle.slate_table.specs.SectionReading.{changed_by}
@@ -68,3 +68,45 @@ returns-in_err-push-clause-still g c = inr (inr (still_ok c.in_ok-block.block c.
 
 pub returns-clause-found : goal.returns-clause-found
 returns-clause-found g c = c.loop-at.invariant.read
+
+pub returns-in_err-section-clause-found : goal.returns-in_err-section-clause-found
+returns-in_err-section-clause-found g c = IfOk-from_err c.from_residual.result _ c.from_residual.ensures.0
+
+pub returns-in_err-section-clause-count : goal.returns-in_err-section-clause-count
+returns-in_err-section-clause-count g c = IfOk-from_err c.from_residual.result _ c.from_residual.ensures.0
+
+pub returns-in_err-block-clause-found : goal.returns-in_err-block-clause-found
+returns-in_err-block-clause-found g c = IfOk-from_err c.from_residual-in_err-block.result _ c.from_residual-in_err-block.ensures.0
+
+pub returns-in_err-block-clause-count : goal.returns-in_err-block-clause-count
+returns-in_err-block-clause-count g c = IfOk-from_err c.from_residual-in_err-block.result _ c.from_residual-in_err-block.ensures.0
+
+pub returns-in_err-push-clause-found : goal.returns-in_err-push-clause-found
+returns-in_err-push-clause-found g c = IfOk-from_err c.from_residual-in_err-push.result _ c.from_residual-in_err-push.ensures.0
+
+pub returns-in_err-push-clause-count : goal.returns-in_err-push-clause-count
+returns-in_err-push-clause-count g c = IfOk-from_err c.from_residual-in_err-push.result _ c.from_residual-in_err-push.ensures.0
+
+pub returns-in_err-section-clause-later : goal.returns-in_err-section-clause-later
+returns-in_err-section-clause-later g c = omega (arith, c.loop-at.invariant.still)
+
+pub returns-in_err-block-clause-later : goal.returns-in_err-block-clause-later
+returns-in_err-block-clause-later g c = omega (arith, c.loop-at.invariant.still, c.block_in.ensures.later)
+
+pub returns-in_err-push-clause-later : goal.returns-in_err-push-clause-later
+returns-in_err-push-clause-later g c = omega (arith, c.loop-at.invariant.still, c.block_in.ensures.later)
+
+pub returns-clause-later : goal.returns-clause-later
+returns-clause-later g c = omega (arith, c.loop-at.invariant.still)
+
+pub returns-clause-cause : goal.returns-clause-cause
+returns-clause-cause g c = tt
+
+pub returns-clause-same_encoded : goal.returns-clause-same_encoded
+returns-clause-same_encoded g c = c.loop-at.invariant.same_encoded
+
+pub returns-clause-same_decoded : goal.returns-clause-same_decoded
+returns-clause-same_decoded g c = c.loop-at.invariant.same_decoded
+
+pub returns-clause-still : goal.returns-clause-still
+returns-clause-still g c = inr (inr c.loop-at.invariant.still)

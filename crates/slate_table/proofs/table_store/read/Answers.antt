@@ -1,6 +1,7 @@
-use Rattle.std.proofs.Common.{◌∙◌, ℕ, List, subst}
+use Rattle.slate_table.proofs.Results.{on_err, store_fault, store_failed}
+use Rattle.std.proofs.Common.{◌∙◌, ℕ, List, subst, refl, inl}
 use Rattle.slate_table.specs.Reading.{IsRead}
-use Rattle.std.proofs.lemmas.Result.{IfOk-from_err}
+use Rattle.std.proofs.lemmas.Result.{IfOk-from_err, err_from_is_err_and}
 use Rattle.slate_table.proofs.table_store.read.Goals as goal
 
 pub returns-clause-read : goal.returns-clause-read
@@ -22,3 +23,18 @@ returns-in_err-answer-clause-read g c = IfOk-from_err c.from_residual-in_err-ans
 
 pub returns-in_err-answer-clause-whole : goal.returns-in_err-answer-clause-whole
 returns-in_err-answer-clause-whole g c = IfOk-from_err c.from_residual-in_err-answer.result _ c.from_residual-in_err-answer.ensures.0
+
+pub returns-in_err-path-clause-cause : goal.returns-in_err-path-clause-cause
+returns-in_err-path-clause-cause g c = let p = err_from_is_err_and c.from_residual.result c.from_residual.ensures.1 in rw (p.1, p.2) (inl c.in_err-path.ensures.cause)
+
+pub returns-in_err-path-clause-none : goal.returns-in_err-path-clause-none
+returns-in_err-path-clause-none g c = on_err c.from_residual.result refl
+
+pub returns-in_err-answer-clause-cause : goal.returns-in_err-answer-clause-cause
+returns-in_err-answer-clause-cause g c = let p = err_from_is_err_and c.from_residual-in_err-answer.result c.from_residual-in_err-answer.ensures.1 in rw (p.1, p.2) (store_fault c.in_err-answer.field-0.0 _ _ c.in_err-answer.ensures.cause)
+
+pub returns-in_err-answer-clause-still : goal.returns-in_err-answer-clause-still
+returns-in_err-answer-clause-still g c = let p = err_from_is_err_and c.from_residual-in_err-answer.result c.from_residual-in_err-answer.ensures.1 in rw (p.1, p.2) (store_failed c.in_err-answer.field-0.0 c.in_err-answer.ensures.still)
+
+pub returns-in_err-answer-clause-none : goal.returns-in_err-answer-clause-none
+returns-in_err-answer-clause-none g c = on_err c.from_residual-in_err-answer.result c.in_err-answer.ensures.refused_act

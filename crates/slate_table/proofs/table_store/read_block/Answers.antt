@@ -1,4 +1,4 @@
-use Rattle.std.proofs.Common.{◌+◌, ℕ, List, Option, inr, inl}
+use Rattle.std.proofs.Common.{◌+◌, ℕ, List, Option, inr, inl, arith, refl}
 use Rattle.std.proofs.lemmas.Result.{IfOk-weaker, IfErr-weaker, err_from_is_err_and, IfOk-from_err}
 use Rattle.slate_table.proofs.Results.{on_err, store_still, store_err}
 use Rattle.slate_types.specs.Faults.{faults_of}
@@ -71,3 +71,27 @@ returns-clause-objects g c = c.read.ensures.objects
 
 pub returns-in_err-answer-clause-found : goal.returns-in_err-answer-clause-found
 returns-in_err-answer-clause-found g c = IfOk-from_err c.from_residual.result _ c.from_residual.ensures.0
+
+pub returns-clause-same_encoded : goal.returns-clause-same_encoded
+returns-clause-same_encoded g c = c.block_in.ensures.same_encoded
+
+pub returns-clause-same_decoded : goal.returns-clause-same_decoded
+returns-clause-same_decoded g c = c.block_in.ensures.same_decoded
+
+pub returns-in_err-answer-clause-later : goal.returns-in_err-answer-clause-later
+returns-in_err-answer-clause-later g c = c.read.ensures.later
+
+pub returns-in_err-answer-clause-objects : goal.returns-in_err-answer-clause-objects
+returns-in_err-answer-clause-objects g c = c.read.ensures.objects
+
+pub returns-in_err-answer-clause-later_transformer : goal.returns-in_err-answer-clause-later_transformer
+returns-in_err-answer-clause-later_transformer g c = omega arith
+
+pub returns-in_err-answer-clause-same_encoded : goal.returns-in_err-answer-clause-same_encoded
+returns-in_err-answer-clause-same_encoded g c = refl
+
+pub returns-in_err-answer-clause-same_decoded : goal.returns-in_err-answer-clause-same_decoded
+returns-in_err-answer-clause-same_decoded g c = refl
+
+pub returns-in_err-answer-clause-still_transformer : goal.returns-in_err-answer-clause-still_transformer
+returns-in_err-answer-clause-still_transformer g c = inr (inr refl)

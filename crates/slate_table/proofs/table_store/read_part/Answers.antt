@@ -1,4 +1,4 @@
-use Rattle.std.proofs.Common.{◌≡◌, ℕ, List, Option, Some, refl, inr, inl}
+use Rattle.std.proofs.Common.{◌≡◌, ℕ, List, Option, Some, refl, inr, inl, arith}
 use Rattle.slate_types.specs.Faults.{faults_of}
 use Rattle.slate_block.specs.RowReading.{refusal}
 use Rattle.slate_table.specs.Paths.{path_of}
@@ -51,3 +51,27 @@ returns-clause-objects g c = c.read.ensures.objects
 
 pub returns-in_err-answer-clause-found : goal.returns-in_err-answer-clause-found
 returns-in_err-answer-clause-found g c = IfOk-from_err c.from_residual.result _ c.from_residual.ensures.0
+
+pub returns-clause-same_encoded : goal.returns-clause-same_encoded
+returns-clause-same_encoded g c = c.opened.ensures.same_encoded
+
+pub returns-clause-same_decoded : goal.returns-clause-same_decoded
+returns-clause-same_decoded g c = c.opened.ensures.same_decoded
+
+pub returns-in_err-answer-clause-later : goal.returns-in_err-answer-clause-later
+returns-in_err-answer-clause-later g c = c.read.ensures.later
+
+pub returns-in_err-answer-clause-objects : goal.returns-in_err-answer-clause-objects
+returns-in_err-answer-clause-objects g c = c.read.ensures.objects
+
+pub returns-in_err-answer-clause-later_transformer : goal.returns-in_err-answer-clause-later_transformer
+returns-in_err-answer-clause-later_transformer g c = omega arith
+
+pub returns-in_err-answer-clause-same_encoded : goal.returns-in_err-answer-clause-same_encoded
+returns-in_err-answer-clause-same_encoded g c = refl
+
+pub returns-in_err-answer-clause-same_decoded : goal.returns-in_err-answer-clause-same_decoded
+returns-in_err-answer-clause-same_decoded g c = refl
+
+pub returns-in_err-answer-clause-still_transformer : goal.returns-in_err-answer-clause-still_transformer
+returns-in_err-answer-clause-still_transformer g c = inr (inr refl)

@@ -1,4 +1,4 @@
-use Rattle.std.proofs.Common.{◌∙◌, ℕ, List, ap, inl, inr}
+use Rattle.std.proofs.Common.{◌∙◌, ℕ, List, ap, inl, inr, arith}
 use Rattle.std.specs.Prelude.{string_bytes}
 use Rattle.std.proofs.lemmas.Result.{IfOk-weaker, IfErr-weaker, err_from_is_err_and, IfOk-from_err}
 use Rattle.slate_table.proofs.Results.{on_err, store_still, store_err, store_longer}
@@ -184,3 +184,63 @@ returns-in_err-test_block-clause-found g c = IfOk-from_err c.from_residual-in_er
 
 pub returns-in_err-found-clause-found : goal.returns-in_err-found-clause-found
 returns-in_err-found-clause-found g c = IfOk-from_err c.from_residual-in_err-found.result _ c.from_residual-in_err-found.ensures.0
+
+pub returns-clause-later : goal.returns-clause-later
+returns-clause-later g c = omega (arith, c.index.ensures.later, c.read_block.ensures.later)
+
+pub returns-clause-later_transformer : goal.returns-clause-later_transformer
+returns-clause-later_transformer g c = omega (arith, c.index.ensures.later_transformer, c.read_block.ensures.later_transformer)
+
+pub returns-clause-objects : goal.returns-clause-objects
+returns-clause-objects g c = c.read_block.ensures.objects ∙ c.index.ensures.objects
+
+pub returns-clause-root : goal.returns-clause-root
+returns-clause-root g c = c.index.ensures.root
+
+pub returns-in_err-found-clause-later : goal.returns-in_err-found-clause-later
+returns-in_err-found-clause-later g c = omega (arith, c.index.ensures.later, c.read_block.ensures.later)
+
+pub returns-in_err-found-clause-later_transformer : goal.returns-in_err-found-clause-later_transformer
+returns-in_err-found-clause-later_transformer g c = omega (arith, c.index.ensures.later_transformer, c.read_block.ensures.later_transformer)
+
+pub returns-in_err-found-clause-objects : goal.returns-in_err-found-clause-objects
+returns-in_err-found-clause-objects g c = c.read_block.ensures.objects ∙ c.index.ensures.objects
+
+pub returns-in_err-found-clause-root : goal.returns-in_err-found-clause-root
+returns-in_err-found-clause-root g c = c.index.ensures.root
+
+pub returns-in_err-index-clause-same_encoded : goal.returns-in_err-index-clause-same_encoded
+returns-in_err-index-clause-same_encoded g c = c.index.ensures.same_encoded
+
+pub returns-in_err-index-clause-same_decoded : goal.returns-in_err-index-clause-same_decoded
+returns-in_err-index-clause-same_decoded g c = c.index.ensures.same_decoded
+
+pub returns-in_err-index-clause-later : goal.returns-in_err-index-clause-later
+returns-in_err-index-clause-later g c = c.index.ensures.later
+
+pub returns-in_err-index-clause-objects : goal.returns-in_err-index-clause-objects
+returns-in_err-index-clause-objects g c = c.index.ensures.objects
+
+pub returns-in_err-index-clause-later_transformer : goal.returns-in_err-index-clause-later_transformer
+returns-in_err-index-clause-later_transformer g c = c.index.ensures.later_transformer
+
+pub returns-in_err-index-clause-root : goal.returns-in_err-index-clause-root
+returns-in_err-index-clause-root g c = c.index.ensures.root
+
+pub returns-in_err-test_block-clause-same_encoded : goal.returns-in_err-test_block-clause-same_encoded
+returns-in_err-test_block-clause-same_encoded g c = c.index.ensures.same_encoded
+
+pub returns-in_err-test_block-clause-same_decoded : goal.returns-in_err-test_block-clause-same_decoded
+returns-in_err-test_block-clause-same_decoded g c = c.index.ensures.same_decoded
+
+pub returns-in_err-test_block-clause-later : goal.returns-in_err-test_block-clause-later
+returns-in_err-test_block-clause-later g c = c.index.ensures.later
+
+pub returns-in_err-test_block-clause-objects : goal.returns-in_err-test_block-clause-objects
+returns-in_err-test_block-clause-objects g c = c.index.ensures.objects
+
+pub returns-in_err-test_block-clause-later_transformer : goal.returns-in_err-test_block-clause-later_transformer
+returns-in_err-test_block-clause-later_transformer g c = c.index.ensures.later_transformer
+
+pub returns-in_err-test_block-clause-root : goal.returns-in_err-test_block-clause-root
+returns-in_err-test_block-clause-root g c = c.index.ensures.root

@@ -1,7 +1,7 @@
 use Rattle.slate_table.proofs.PartsLaws.{some_rows}
 use Rattle.slate_table.proofs.PartReads.{still_ok, still_err}
 use Rattle.std.proofs.lemmas.Result.{err_from_is_err_and, IfOk-from_err}
-use Rattle.std.proofs.Common.{sym, inr, inl, refl}
+use Rattle.std.proofs.Common.{sym, inr, inl, refl, arith}
 use Rattle.slate_table.proofs.table_parts.TableParts.add.Goals as goal
 
 pub returns-in_ok-take-in-Ok-clause-added : goal.returns-in_ok-take-in-Ok-clause-added
@@ -55,3 +55,60 @@ returns-in_err-take-in-Ok-clause-added g c = IfOk-from_err c.from_residual-in_er
 
 pub returns-in_err-take-in-Ok-clause-size : goal.returns-in_err-take-in-Ok-clause-size
 returns-in_err-take-in-Ok-clause-size g c = IfOk-from_err c.from_residual-in_err-take-in-Ok.result _ c.from_residual-in_err-take-in-Ok.ensures.0
+
+pub returns-in-Err-clause-added : goal.returns-in-Err-clause-added
+returns-in-Err-clause-added g c = tt
+
+pub returns-in-Err-clause-size : goal.returns-in-Err-clause-size
+returns-in-Err-clause-size g c = tt
+
+pub returns-in-Err-clause-same_encoded : goal.returns-in-Err-clause-same_encoded
+returns-in-Err-clause-same_encoded g c = c.end_block.ensures.same_encoded
+
+pub returns-in-Err-clause-same_decoded : goal.returns-in-Err-clause-same_decoded
+returns-in-Err-clause-same_decoded g c = c.end_block.ensures.same_decoded
+
+pub returns-in-Err-clause-later : goal.returns-in-Err-clause-later
+returns-in-Err-clause-later g c = c.end_block.ensures.later
+
+pub returns-in_err-take-clause-same_encoded : goal.returns-in_err-take-clause-same_encoded
+returns-in_err-take-clause-same_encoded g c = refl
+
+pub returns-in_err-take-clause-same_decoded : goal.returns-in_err-take-clause-same_decoded
+returns-in_err-take-clause-same_decoded g c = refl
+
+pub returns-in_err-take-clause-later : goal.returns-in_err-take-clause-later
+returns-in_err-take-clause-later g c = omega arith
+
+pub returns-in_err-take-in-Ok-clause-same_encoded : goal.returns-in_err-take-in-Ok-clause-same_encoded
+returns-in_err-take-in-Ok-clause-same_encoded g c = c.end_block.ensures.same_encoded
+
+pub returns-in_err-take-in-Ok-clause-same_decoded : goal.returns-in_err-take-in-Ok-clause-same_decoded
+returns-in_err-take-in-Ok-clause-same_decoded g c = c.end_block.ensures.same_decoded
+
+pub returns-in_err-take-in-Ok-clause-later : goal.returns-in_err-take-in-Ok-clause-later
+returns-in_err-take-in-Ok-clause-later g c = c.end_block.ensures.later
+
+pub returns-in_ok-take-in-Ok-clause-cause : goal.returns-in_ok-take-in-Ok-clause-cause
+returns-in_ok-take-in-Ok-clause-cause g c = tt
+
+pub returns-in_ok-take-in-Ok-clause-same_encoded : goal.returns-in_ok-take-in-Ok-clause-same_encoded
+returns-in_ok-take-in-Ok-clause-same_encoded g c = c.end_block.ensures.same_encoded
+
+pub returns-in_ok-take-in-Ok-clause-same_decoded : goal.returns-in_ok-take-in-Ok-clause-same_decoded
+returns-in_ok-take-in-Ok-clause-same_decoded g c = c.end_block.ensures.same_decoded
+
+pub returns-in_ok-take-in-Ok-clause-later : goal.returns-in_ok-take-in-Ok-clause-later
+returns-in_ok-take-in-Ok-clause-later g c = c.end_block.ensures.later
+
+pub returns-then-would_fit-clause-cause : goal.returns-then-would_fit-clause-cause
+returns-then-would_fit-clause-cause g c = tt
+
+pub returns-then-would_fit-clause-same_encoded : goal.returns-then-would_fit-clause-same_encoded
+returns-then-would_fit-clause-same_encoded g c = refl
+
+pub returns-then-would_fit-clause-same_decoded : goal.returns-then-would_fit-clause-same_decoded
+returns-then-would_fit-clause-same_decoded g c = refl
+
+pub returns-then-would_fit-clause-later : goal.returns-then-would_fit-clause-later
+returns-then-would_fit-clause-later g c = omega arith

@@ -83,3 +83,75 @@ returns-in_err-info-in-Ok-clause-info g c = IfOk-from_err c.from_residual-in_err
 
 pub returns-in_err-info-in-Ok-clause-version : goal.returns-in_err-info-in-Ok-clause-version
 returns-in_err-info-in-Ok-clause-version g c = IfOk-from_err c.from_residual-in_err-info-in-Ok.result _ c.from_residual-in_err-info-in-Ok.ensures.0
+
+pub returns-in-Err-clause-bytes : goal.returns-in-Err-clause-bytes
+returns-in-Err-clause-bytes g c = tt
+
+pub returns-in-Err-clause-info : goal.returns-in-Err-clause-info
+returns-in-Err-clause-info g c = tt
+
+pub returns-in-Err-clause-short : goal.returns-in-Err-clause-short
+returns-in-Err-clause-short g c = tt
+
+pub returns-in-Err-clause-version : goal.returns-in-Err-clause-version
+returns-in-Err-clause-version g c = tt
+
+pub returns-in-Err-clause-keys : goal.returns-in-Err-clause-keys
+returns-in-Err-clause-keys g c = omega arith
+
+pub returns-in-Err-clause-values : goal.returns-in-Err-clause-values
+returns-in-Err-clause-values g c = omega arith
+
+pub returns-in-Err-clause-same_encoded : goal.returns-in-Err-clause-same_encoded
+returns-in-Err-clause-same_encoded g c = refl
+
+pub returns-in-Err-clause-same_decoded : goal.returns-in-Err-clause-same_decoded
+returns-in-Err-clause-same_decoded g c = refl
+
+pub returns-in-Err-clause-later : goal.returns-in-Err-clause-later
+returns-in-Err-clause-later g c = omega arith
+
+pub returns-in_err-index-clause-keys : goal.returns-in_err-index-clause-keys
+returns-in_err-index-clause-keys g c = omega arith
+
+pub returns-in_err-index-clause-values : goal.returns-in_err-index-clause-values
+returns-in_err-index-clause-values g c = omega arith
+
+pub returns-in_err-index-clause-same_encoded : goal.returns-in_err-index-clause-same_encoded
+returns-in_err-index-clause-same_encoded g c = refl
+
+pub returns-in_err-index-clause-same_decoded : goal.returns-in_err-index-clause-same_decoded
+returns-in_err-index-clause-same_decoded g c = refl
+
+pub returns-in_err-index-clause-later : goal.returns-in_err-index-clause-later
+returns-in_err-index-clause-later g c = omega arith
+
+pub returns-in_err-info-in-Ok-clause-keys : goal.returns-in_err-info-in-Ok-clause-keys
+returns-in_err-info-in-Ok-clause-keys g c = omega arith
+
+pub returns-in_err-info-in-Ok-clause-values : goal.returns-in_err-info-in-Ok-clause-values
+returns-in_err-info-in-Ok-clause-values g c = omega arith
+
+pub returns-in_err-info-in-Ok-clause-same_encoded : goal.returns-in_err-info-in-Ok-clause-same_encoded
+returns-in_err-info-in-Ok-clause-same_encoded g c = c.append_end.ensures.same_encoded
+
+pub returns-in_err-info-in-Ok-clause-same_decoded : goal.returns-in_err-info-in-Ok-clause-same_decoded
+returns-in_err-info-in-Ok-clause-same_decoded g c = c.append_end.ensures.same_decoded
+
+pub returns-in_err-info-in-Ok-clause-later : goal.returns-in_err-info-in-Ok-clause-later
+returns-in_err-info-in-Ok-clause-later g c = c.append_end.ensures.later
+
+pub returns-in_ok-info-in-Ok-clause-keys : goal.returns-in_ok-info-in-Ok-clause-keys
+returns-in_ok-info-in-Ok-clause-keys g c = omega arith
+
+pub returns-in_ok-info-in-Ok-clause-values : goal.returns-in_ok-info-in-Ok-clause-values
+returns-in_ok-info-in-Ok-clause-values g c = omega arith
+
+pub returns-in_ok-info-in-Ok-clause-same_encoded : goal.returns-in_ok-info-in-Ok-clause-same_encoded
+returns-in_ok-info-in-Ok-clause-same_encoded g c = c.append_end.ensures.same_encoded
+
+pub returns-in_ok-info-in-Ok-clause-same_decoded : goal.returns-in_ok-info-in-Ok-clause-same_decoded
+returns-in_ok-info-in-Ok-clause-same_decoded g c = c.append_end.ensures.same_decoded
+
+pub returns-in_ok-info-in-Ok-clause-later : goal.returns-in_ok-info-in-Ok-clause-later
+returns-in_ok-info-in-Ok-clause-later g c = c.append_end.ensures.later

@@ -166,3 +166,24 @@ returns-clause-same_decoded g c = c.seal_section.ensures.same_decoded
 
 pub returns-clause-later : goal.returns-clause-later
 returns-clause-later g c = c.seal_section.ensures.later
+
+pub returns-in_err-empty-clause-same_encoded : goal.returns-in_err-empty-clause-same_encoded
+returns-in_err-empty-clause-same_encoded g c = refl
+
+pub returns-in_err-empty-clause-same_decoded : goal.returns-in_err-empty-clause-same_decoded
+returns-in_err-empty-clause-same_decoded g c = refl
+
+pub returns-in_err-empty-clause-later : goal.returns-in_err-empty-clause-later
+returns-in_err-empty-clause-later g c = omega arith
+
+pub returns-in_err-part-clause-same_encoded : goal.returns-in_err-part-clause-same_encoded
+returns-in_err-part-clause-same_encoded g c = refl
+
+pub returns-in_err-part-clause-same_decoded : goal.returns-in_err-part-clause-same_decoded
+returns-in_err-part-clause-same_decoded g c = refl
+
+pub returns-in_err-part-clause-later : goal.returns-in_err-part-clause-later
+returns-in_err-part-clause-later g c = omega arith
+
+pub returns-clause-cause : goal.returns-clause-cause
+returns-clause-cause g c = tt

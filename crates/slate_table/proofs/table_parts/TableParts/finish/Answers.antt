@@ -78,3 +78,15 @@ returns-in_err-end_block-clause-finished g c = IfOk-from_err c.from_residual.res
 
 pub returns-in_err-end_block-clause-version : goal.returns-in_err-end_block-clause-version
 returns-in_err-end_block-clause-version g c = IfOk-from_err c.from_residual.result _ c.from_residual.ensures.0
+
+pub returns-clause-later : goal.returns-clause-later
+returns-clause-later g c = omega (arith, c.end_block.ensures.later, c.assemble.ensures.later)
+
+pub returns-in_err-end_block-clause-same_encoded : goal.returns-in_err-end_block-clause-same_encoded
+returns-in_err-end_block-clause-same_encoded g c = c.end_block.ensures.same_encoded
+
+pub returns-in_err-end_block-clause-same_decoded : goal.returns-in_err-end_block-clause-same_decoded
+returns-in_err-end_block-clause-same_decoded g c = c.end_block.ensures.same_decoded
+
+pub returns-in_err-end_block-clause-later : goal.returns-in_err-end_block-clause-later
+returns-in_err-end_block-clause-later g c = c.end_block.ensures.later

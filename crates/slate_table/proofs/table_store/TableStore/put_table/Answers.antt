@@ -1,7 +1,7 @@
 use Rattle.std.proofs.Common.{◌≡◌, ◌∙◌, refl, inl, inr}
 use Rattle.slate_table.specs.Paths.{path_of}
 use Rattle.std.proofs.lemmas.Result.{IfOk-from_err, err_from_is_err_and}
-use Rattle.slate_table.proofs.Results.{on_err}
+use Rattle.slate_table.proofs.Results.{on_err, store_fault, store_failed}
 use Rattle.slate_table.proofs.table_store.TableStore.put_table.Goals as goal
 
 pub returns-in-Ok-clause-taken : goal.returns-in-Ok-clause-taken
@@ -78,3 +78,9 @@ returns-in_err-info-clause-cause g c =
 
 pub returns-in_err-info-clause-still : goal.returns-in_err-info-clause-still
 returns-in_err-info-clause-still g c = inr refl
+
+pub returns-clause-cause : goal.returns-clause-cause
+returns-clause-cause g c = rw c.from.ensures (store_fault c.in-Err.error _ _ c.in-Err.ensures.cause)
+
+pub returns-clause-still : goal.returns-clause-still
+returns-clause-still g c = rw c.from.ensures (store_failed c.in-Err.error c.in-Err.ensures.still)

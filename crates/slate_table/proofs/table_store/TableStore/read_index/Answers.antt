@@ -57,3 +57,24 @@ returns-clause-objects g c = c.read_part.ensures.objects
 
 pub returns-in_err-part-clause-found : goal.returns-in_err-part-clause-found
 returns-in_err-part-clause-found g c = IfOk-from_err c.from_residual.result _ c.from_residual.ensures.0
+
+pub returns-clause-same_encoded : goal.returns-clause-same_encoded
+returns-clause-same_encoded g c = c.read_part.ensures.same_encoded
+
+pub returns-clause-same_decoded : goal.returns-clause-same_decoded
+returns-clause-same_decoded g c = c.read_part.ensures.same_decoded
+
+pub returns-in_err-part-clause-same_encoded : goal.returns-in_err-part-clause-same_encoded
+returns-in_err-part-clause-same_encoded g c = c.read_part.ensures.same_encoded
+
+pub returns-in_err-part-clause-same_decoded : goal.returns-in_err-part-clause-same_decoded
+returns-in_err-part-clause-same_decoded g c = c.read_part.ensures.same_decoded
+
+pub returns-in_err-part-clause-later : goal.returns-in_err-part-clause-later
+returns-in_err-part-clause-later g c = c.read_part.ensures.later
+
+pub returns-in_err-part-clause-objects : goal.returns-in_err-part-clause-objects
+returns-in_err-part-clause-objects g c = c.read_part.ensures.objects
+
+pub returns-in_err-part-clause-later_transformer : goal.returns-in_err-part-clause-later_transformer
+returns-in_err-part-clause-later_transformer g c = c.read_part.ensures.later_transformer
