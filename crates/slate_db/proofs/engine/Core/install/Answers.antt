@@ -15,7 +15,7 @@ use Rattle.slate_db.specs.Installs.{tables_of}
 use Rattle.slate_db.specs.Model.{CoreModel}
 use Rattle.slate_db.specs.Sound.{IsKept}
 use Rattle.slate_db.specs.View.{view_of}
-use Rattle.slate_db.specs.Whole.{IsWhole}
+use Rattle.slate_db.specs.Whole.{IsWhole, LIMIT}
 use Rattle.slate_db.proofs.Installs.{whole_install, kept_install, can_flush, table_of_flush, moved}
 use Rattle.slate_db.proofs.Begins.{within_newest}
 use Rattle.slate_db.proofs.Built.{may_keep}
@@ -192,3 +192,30 @@ returns-in_err-put-clause-acts g c = IfOk-from_err c.from_residual-in_err-put.re
 
 pub returns-in_err-put-clause-taken : goal.returns-in_err-put-clause-taken
 returns-in_err-put-clause-taken g c = IfOk-from_err c.from_residual-in_err-put.result _ c.from_residual-in_err-put.ensures.0
+
+pub returns-in_err-reserve-clause-full : goal.returns-in_err-reserve-clause-full
+returns-in_err-reserve-clause-full g c past = absurd (omega (arith, subst (λ (v : CoreModel). LIMIT < length v.events + length v.state.txns + 1) (sym c.self.view_is) past, c.in_ok-reserve_events.ensures.place, c.len.ensures.len))
+
+pub returns-in_err-reserve-clause-full_objects : goal.returns-in_err-reserve-clause-full_objects
+returns-in_err-reserve-clause-full_objects g c past = absurd (omega (arith, subst (λ (v : CoreModel). LIMIT < length v.events + length v.state.txns + 1) (sym c.self.view_is) past, c.in_ok-reserve_events.ensures.place, c.len.ensures.len))
+
+pub returns-in_err-reserve-clause-limit : goal.returns-in_err-reserve-clause-limit
+returns-in_err-reserve-clause-limit g c past = absurd (omega (arith, subst (λ (v : CoreModel). LIMIT < length v.events + length v.state.txns + 1) (sym c.self.view_is) past, c.in_ok-reserve_events.ensures.place, c.len.ensures.len))
+
+pub returns-in_err-put-clause-full : goal.returns-in_err-put-clause-full
+returns-in_err-put-clause-full g c past = absurd (omega (arith, subst (λ (v : CoreModel). LIMIT < length v.events + length v.state.txns + 1) (sym c.self.view_is) past, c.in_ok-reserve_events.ensures.place, c.len.ensures.len))
+
+pub returns-in_err-put-clause-full_objects : goal.returns-in_err-put-clause-full_objects
+returns-in_err-put-clause-full_objects g c past = absurd (omega (arith, subst (λ (v : CoreModel). LIMIT < length v.events + length v.state.txns + 1) (sym c.self.view_is) past, c.in_ok-reserve_events.ensures.place, c.len.ensures.len))
+
+pub returns-in_err-put-clause-limit : goal.returns-in_err-put-clause-limit
+returns-in_err-put-clause-limit g c past = absurd (omega (arith, subst (λ (v : CoreModel). LIMIT < length v.events + length v.state.txns + 1) (sym c.self.view_is) past, c.in_ok-reserve_events.ensures.place, c.len.ensures.len))
+
+pub returns-clause-full : goal.returns-clause-full
+returns-clause-full g c past = absurd (omega (arith, subst (λ (v : CoreModel). LIMIT < length v.events + length v.state.txns + 1) (sym c.self.view_is) past, c.in_ok-reserve_events.ensures.place, c.len.ensures.len))
+
+pub returns-clause-full_objects : goal.returns-clause-full_objects
+returns-clause-full_objects g c past = absurd (omega (arith, subst (λ (v : CoreModel). LIMIT < length v.events + length v.state.txns + 1) (sym c.self.view_is) past, c.in_ok-reserve_events.ensures.place, c.len.ensures.len))
+
+pub returns-clause-limit : goal.returns-clause-limit
+returns-clause-limit g c past = absurd (omega (arith, subst (λ (v : CoreModel). LIMIT < length v.events + length v.state.txns + 1) (sym c.self.view_is) past, c.in_ok-reserve_events.ensures.place, c.len.ensures.len))
