@@ -1,4 +1,4 @@
-use Rattle.std.proofs.Common.{◌≡◌, ◌∙◌, ◌++◌, ℕ, List, take, ◌+◌, ◌-◌, ◌≤◌, drop, length-take, refl, sym, ap, subst, inl, length, length-append, arith}
+use Rattle.std.proofs.Common.{◌≡◌, ◌∙◌, ◌++◌, ℕ, List, take, ◌+◌, ◌-◌, ◌≤◌, drop, length-take, refl, sym, ap, subst, inl, inr, length, length-append, arith}
 use Rattle.std.specs.Prelude.{vec_len, slice_range}
 use Rattle.std.specs.Vec.{with_items}
 use Rattle.std.proofs.lemmas.List.{take-take, take-append-le}
@@ -93,3 +93,21 @@ read_front-requires-clause-some g c = omega (arith, c.min-room.ensures, c.len.en
 
 pub read_front-requires-clause-within : goal.read_front-requires-clause-within
 read_front-requires-clause-within g c = omega arith
+
+pub returns-then-self-eq-LIMIT-clause-too_long : goal.returns-then-self-eq-LIMIT-clause-too_long
+returns-then-self-eq-LIMIT-clause-too_long g c = λ e. c.if-self-eq-LIMIT.true
+
+pub returns-in-Ok-clause-limit : goal.returns-in-Ok-clause-limit
+returns-in-Ok-clause-limit g c = omega (arith, c.requires.whole.limit, c.if-self-eq-LIMIT.false)
+
+pub returns-in-Ok-clause-later : goal.returns-in-Ok-clause-later
+returns-in-Ok-clause-later g c = c.read_front.ensures.later
+
+pub returns-in-Ok-clause-still : goal.returns-in-Ok-clause-still
+returns-in-Ok-clause-still g c = inr c.in-Ok.ensures.still
+
+pub returns-in-Err-clause-read_fault : goal.returns-in-Err-clause-read_fault
+returns-in-Err-clause-read_fault g c = λ e. c.in-Err.ensures.cause
+
+pub returns-in-Err-clause-later : goal.returns-in-Err-clause-later
+returns-in-Err-clause-later g c = c.read_front.ensures.later
