@@ -81,7 +81,7 @@ all_taken taken rest whole none is = sym (append-nil taken) ∙ ap (λ rows. tak
 pub returns-clause-rows : goal.returns-clause-rows
 returns-clause-rows g c = λ sound.
     let ended = rw (c.in_default.is, c.loop-taken.invariant.told) at c.in_ok-row.ensures.rows in
-    all_taken _ _ _ (ended (c.loop-taken.invariant.still sound)).0 (c.loop-taken.invariant.rows sound)
+    all_taken c.loop-taken.taken.items (g.I.RowEntryIterator.rest c.loop-taken.rows (g.E.Outside.told c.args.env.now)) _ (ended (c.loop-taken.invariant.still sound)).0 (c.loop-taken.invariant.rows sound)
 
 pub returns-clause-takes : goal.returns-clause-takes
 returns-clause-takes g c = (c.loop-taken.rows, c.loop-taken.invariant.steps, rw (c.in_default.is, c.loop-taken.invariant.told) at c.in_ok-row.ensures.takes)
