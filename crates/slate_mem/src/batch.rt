@@ -325,7 +325,14 @@ fn add_ops(all: &mut Vec<(Bytes, WriteOp)>, key: &Bytes, ops: &[WriteOp]) -> Res
     ensures ops { OnOk result (all.new.items ≡ all.old.items ++ tagged key.now ops.now) }
 {
     for op in ops {
-        all.push((key.clone()?, op.clone()?))?;
+        let key = key.clone()?;
+        match op.clone() {
+            Ok(op) => all.push((key, op))?,
+            Err(error) => {
+                drop(key);
+                return Err(error);
+            }
+        }
     }
     Ok(())
 }

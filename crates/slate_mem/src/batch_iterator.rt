@@ -14,7 +14,7 @@ use slate_types::{
     BytesRange, IterationOrder, Outside, RowEntry, RowEntryIterator, RowsIterator, SlateDBError,
 };
 use smallvec::SmallVec;
-use std::alloc::Global;
+use std::alloc::{AllocError, Global};
 use std::collections::btree_map::Range;
 use std::marker::Model;
 
@@ -109,11 +109,10 @@ fn rows_in(
 }
 
 /// An equal range, which shares the keys.
-fn copied(range: &BytesRange) -> Result<BytesRange, SlateDBError>
+fn copied(range: &BytesRange) -> Result<BytesRange, AllocError>
     ensures copy { IfOk result (λ copy. copy ≡ range.now) }
-    ensures cause { IsOkUnless result SlateDBError.OutOfMemory }
 {
-    Ok(range.clone()?)
+    range.clone()
 }
 
 /// The rows of entries, keys upwards, and newest first within a key.

@@ -5,6 +5,7 @@ ghost use Rattle.slate_mem.specs.KeyRange as places;
 
 use bytes::Bytes;
 use slate_types::{BytesRange, SequencedKey, SlateDBError};
+use std::alloc::AllocError;
 use std::ops::Bound;
 
 /// The keys with sequences between two bounds.
@@ -25,9 +26,9 @@ impl KVTableInternalKeyRange {
         let start = at_sequences(&range.start, u64::MAX, 0)?;
         match at_sequences(&range.end, 0, u64::MAX) {
             Ok(end) => Ok(KVTableInternalKeyRange { start, end }),
-            Err(refusal) => {
+            Err(error) => {
                 drop(start);
-                Err(refusal)
+                Err(error.into())
             }
         }
     }
@@ -38,9 +39,8 @@ fn at_sequences(
     bound: &Bound<Bytes>,
     included: u64,
     excluded: u64,
-) -> Result<Bound<SequencedKey>, SlateDBError>
-    ensures place { IfOk result (λ place. place ≡ places.at_sequences bound.now included excluded) }
-    ensures cause { IsOkUnless result SlateDBError.OutOfMemory }
+) -> Result<Bound<SequencedKey>, AllocError>
+    ensures { IfOk result (λ place. place ≡ places.at_sequences bound.now included excluded) }
 {
     Ok(match bound {
         Bound::Included(key) => Bound::Included(SequencedKey::new(key.clone()?, included)),

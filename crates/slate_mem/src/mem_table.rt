@@ -292,10 +292,16 @@ fn places(key: &Bytes, first: u64, second: u64) -> Result<(SequencedKey, Sequenc
     ensures second { IfOk result (λ places. places.1 ≡ record { user_key = key.now; seq = second }) }
 {
     let copy = key.clone()?;
-    Ok((
-        SequencedKey::new(key.clone()?, first),
-        SequencedKey::new(copy, second),
-    ))
+    match key.clone() {
+        Ok(key) => Ok((
+            SequencedKey::new(key, first),
+            SequencedKey::new(copy, second),
+        )),
+        Err(error) => {
+            drop(copy);
+            Err(error)
+        }
+    }
 }
 
 /// Takes back what one put did.

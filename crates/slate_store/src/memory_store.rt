@@ -72,10 +72,7 @@ impl Store for MemoryStore {
         len: u64,
     ) -> Result<Option<Bytes>, StoreError> {
         self.plan.step()?;
-        match find(alloc, &self.objects, path)? {
-            Some(object) => Ok(range_of(object, start, len)?),
-            None => Ok(None),
-        }
+        Ok(read_object(alloc, &self.objects, path, start, len)?)
     }
 
     fn len(&mut self, alloc: Global, path: &str) -> Result<Option<u64>, StoreError> {
@@ -104,6 +101,22 @@ fn find<'a>(
     Ok(objects.get(&path))
 }
 
+/// A range of the object at a path, and none of a missing one.
+fn read_object(
+    alloc: Global,
+    objects: &BTreeMap<ByteStr, Bytes>,
+    path: &str,
+    start: u64,
+    len: u64,
+) -> Result<Option<Bytes>, AllocError>
+    ensures { IfOk result (λ range. range ≡ part_of (object_at objects.now.entries path.now) start len) }
+{
+    match find(alloc, objects, path)? {
+        Some(object) => range_of(object, start, len),
+        None => Ok(None),
+    }
+}
+
 /// A range of an object, and none past its end.
 fn range_of(object: &Bytes, start: u64, len: u64) -> Result<Option<Bytes>, AllocError>
     ensures { IfOk result (λ range. range ≡ part_of (Some object.now) start len) }
@@ -113,7 +126,7 @@ fn range_of(object: &Bytes, start: u64, len: u64) -> Result<Option<Bytes>, Alloc
         return Ok(None);
     }
     let (start, end) = (start as usize, (start + len) as usize);
-    Ok(Some(object.slice(start..end)?))
+    object.slice(start..end).map(Some)
 }
 
 /// The paths of all objects, rising.

@@ -1,10 +1,12 @@
 //! Ranges of keys.
-ghost use Rattle.std.specs.Prelude.{◌≡◌, ◌<◌, ◌≤◌, ◌-◌, ◌++◌, get_or, ◌⊎◌, IsTrue, IfOk, IfErr, Some, None, length, take, option_copied};
+ghost use Rattle.std.specs.Prelude.{◌≡◌, ◌<◌, ◌≤◌, ◌-◌, ◌++◌, get_or, ◌⊎◌, if◌then◌else◌, IsTrue, IfOk, IfErr, Some, None, length, take, option_copied};
 ghost use Rattle.slate_types.specs.Keys as keys;
-ghost use Rattle.slate_types.specs.Keys.{bound_now, common_range, in_range, is_refused, key_le, key_lt, is_past_start, is_before_end, point_of, prefix_range, prefix_start, prefix_end, prefix_subrange, range_of, successor, whole};
+ghost use Rattle.slate_types.specs.Keys.{bound_now, common_range, in_range, is_refused, is_past_start, is_before_end, point_of, prefix_range, prefix_start, prefix_end, prefix_subrange, range_of, successor, whole};
+ghost use Rattle.slate_types.specs.Partitions.{counts};
 
 use crate::byte_range_bounds::ByteRangeBounds;
 use crate::error::SlateDBError;
+use crate::iter::IterationOrder;
 use bytes::Bytes;
 use std::alloc::{AllocError, Global};
 use std::ops::{Bound, RangeFull};
@@ -45,7 +47,6 @@ impl BytesRange {
     }
 
     /// The range of two borrowed bounds, which are copied. Refuses by `InvalidRange` exactly where `new` does.
-    #[tactic(auto, using(crate::proofs::KeyLaws::behind_nothing, crate::proofs::KeyLaws::refused_behind_nothing))]
     pub fn from_slice(
         alloc: Global,
         start: Bound<&[u8]>,
@@ -59,7 +60,6 @@ impl BytesRange {
 
     /// The range of the keys that begin with a prefix: from the prefix on to before its increment. It has no
     /// end where each byte is 255, and neither bound where there is no byte.
-    #[tactic(auto, using(crate::proofs::KeyLaws::whole_is_given, crate::proofs::KeyLaws::whole_is_not_refused))]
     pub fn from_prefix(alloc: Global, prefix: &[u8]) -> Result<BytesRange, SlateDBError>
         ensures range { IfOk result (λ r. r ≡ prefix_range prefix.now) }
         ensures memory { IfErr result (λ e. e ≡ SlateDBError.OutOfMemory) }
@@ -78,8 +78,8 @@ impl BytesRange {
         ensures range { IfOk result (λ r. prefix_subrange prefix.now (B.start subrange.now) (B.end subrange.now) ≡ Some r) }
         ensures refused { IfErr result (λ e. (e ≡ SlateDBError.OutOfMemory) ⊎ ((e ≡ SlateDBError.InvalidRange) × (prefix_subrange prefix.now (B.start subrange.now) (B.end subrange.now) ≡ None))) }
     {
-        let start = start_behind(alloc, prefix, subrange.start_bound())?;
-        match end_behind(alloc, prefix, subrange.end_bound()) {
+        let start = behind(alloc, prefix, subrange.start_bound(), false)?;
+        match behind(alloc, prefix, subrange.end_bound(), true) {
             Ok(end) => BytesRange::new(start, end),
             Err(error) => {
                 drop(start);
@@ -93,8 +93,8 @@ impl BytesRange {
         ensures range { IfOk result (λ r. r ≡ common_range self.now other.now) }
         ensures memory { IfErr result (λ e. e ≡ SlateDBError.OutOfMemory) }
     {
-        let start = later_start(&self.start, &other.start).clone()?;
-        match earlier_end(&self.end, &other.end).clone() {
+        let start = narrower(&self.start, &other.start, IterationOrder::Ascending)?;
+        match narrower(&self.end, &other.end, IterationOrder::Descending) {
             Ok(end) => Ok(BytesRange::try_new(start, end)),
             Err(error) => {
                 drop(start);
@@ -115,24 +115,18 @@ impl BytesRange {
         ensures { option_copied result ≡ point_of self.now }
     {
         match (&self.start, &self.end) {
-            (Bound::Included(start), Bound::Included(end)) if start == end => Some(start),
+            (Bound::Included(start), Bound::Included(end)) => (start == end).then_some(start),
             _ => None,
         }
     }
 }
 
-/// Whether `a` stands before `b`.
-fn is_below(a: &[u8], b: &[u8]) -> bool
-    ensures { result ≡ key_lt a.now b.now }
+/// Whether `a` stands before `b`, or, where `upto` counts equal keys too, not past it.
+pub(crate) fn is_before(a: &[u8], b: &[u8], upto: bool) -> bool
+    ensures { result ≡ counts upto a.now b.now }
 {
-    a.cmp(b).is_lt()
-}
-
-/// Whether `a` does not stand past `b`.
-fn is_upto(a: &[u8], b: &[u8]) -> bool
-    ensures { result ≡ key_le a.now b.now }
-{
-    a.cmp(b).is_le()
+    let order = a.cmp(b);
+    if upto { order.is_le() } else { order.is_lt() }
 }
 
 /// Whether the key is not below the start.
@@ -140,8 +134,8 @@ fn passes_start(start: &Bound<Bytes>, key: &[u8]) -> bool
     ensures { result ≡ is_past_start start.now key.now }
 {
     match start {
-        Bound::Included(a) => is_upto(a.as_slice(), key),
-        Bound::Excluded(a) => is_below(a.as_slice(), key),
+        Bound::Included(a) => is_before(a.as_slice(), key, true),
+        Bound::Excluded(a) => is_before(a.as_slice(), key, false),
         Bound::Unbounded => true,
     }
 }
@@ -151,8 +145,8 @@ fn passes_end(end: &Bound<Bytes>, key: &[u8]) -> bool
     ensures { result ≡ is_before_end end.now key.now }
 {
     match end {
-        Bound::Included(b) => is_upto(key, b.as_slice()),
-        Bound::Excluded(b) => is_below(key, b.as_slice()),
+        Bound::Included(b) => is_before(key, b.as_slice(), true),
+        Bound::Excluded(b) => is_before(key, b.as_slice(), false),
         Bound::Unbounded => true,
     }
 }
@@ -162,42 +156,33 @@ fn leaves_none(start: &Bound<Bytes>, end: &Bound<Bytes>) -> bool
     ensures { result ≡ is_refused start.now end.now }
 {
     match (start, end) {
-        (Bound::Included(a), Bound::Included(b)) => is_below(b.as_slice(), a.as_slice()),
+        (Bound::Included(a), Bound::Included(b)) => is_before(b.as_slice(), a.as_slice(), false),
         (Bound::Included(a) | Bound::Excluded(a), Bound::Included(b) | Bound::Excluded(b)) => {
-            is_upto(b.as_slice(), a.as_slice())
+            is_before(b.as_slice(), a.as_slice(), true)
         }
         _ => false,
     }
 }
 
-/// The start that lets fewer keys through.
-fn later_start<'a>(a: &'a Bound<Bytes>, b: &'a Bound<Bytes>) -> &'a Bound<Bytes>
-    ensures { result.now ≡ keys.later_start a.now b.now }
+/// A copy of the bound that lets fewer keys through: of starts the later one, of ends the earlier one.
+fn narrower(
+    a: &Bound<Bytes>,
+    b: &Bound<Bytes>,
+    order: IterationOrder,
+) -> Result<Bound<Bytes>, AllocError>
+    ensures start { order ≡ IterationOrder.Ascending → IfOk result (λ bound. bound ≡ keys.later_start a.now b.now) }
+    ensures end { order ≡ IterationOrder.Descending → IfOk result (λ bound. bound ≡ keys.earlier_end a.now b.now) }
 {
     let second = match (a, b) {
         (_, Bound::Unbounded) => false,
         (Bound::Unbounded, _) => true,
-        (Bound::Included(x), Bound::Excluded(y)) => !is_below(y.as_slice(), x.as_slice()),
+        (Bound::Included(x), Bound::Excluded(y)) => !order.puts_before(y.as_slice(), x.as_slice()),
         (Bound::Included(x) | Bound::Excluded(x), Bound::Included(y) | Bound::Excluded(y)) => {
-            is_below(x.as_slice(), y.as_slice())
+            order.puts_before(x.as_slice(), y.as_slice())
         }
     };
-    if second { b } else { a }
-}
-
-/// The end that lets fewer keys through.
-fn earlier_end<'a>(a: &'a Bound<Bytes>, b: &'a Bound<Bytes>) -> &'a Bound<Bytes>
-    ensures { result.now ≡ keys.earlier_end a.now b.now }
-{
-    let second = match (a, b) {
-        (_, Bound::Unbounded) => false,
-        (Bound::Unbounded, _) => true,
-        (Bound::Included(x), Bound::Excluded(y)) => !is_below(x.as_slice(), y.as_slice()),
-        (Bound::Included(x) | Bound::Excluded(x), Bound::Included(y) | Bound::Excluded(y)) => {
-            is_below(y.as_slice(), x.as_slice())
-        }
-    };
-    if second { b } else { a }
+    let bound = if second { b } else { a };
+    bound.clone()
 }
 
 /// One byte string after another.
@@ -207,17 +192,7 @@ fn joined(alloc: Global, front: &[u8], back: &[u8]) -> Result<Bytes, AllocError>
     let mut bytes = Vec::with_capacity(alloc, front.len() + back.len())?;
     bytes.extend_from_slice(front)?;
     bytes.extend_from_slice(back)?;
-    Ok(Bytes::from_vec(bytes)?)
-}
-
-/// The start of the range of a prefix.
-fn first_of_prefix(alloc: Global, prefix: &[u8]) -> Result<Bound<Bytes>, AllocError>
-    ensures { IfOk result (λ b. b ≡ prefix_start prefix.now) }
-{
-    if prefix.is_empty() {
-        return Ok(Bound::Unbounded);
-    }
-    Bytes::copy_from_slice(alloc, prefix).map(Bound::Included)
+    Bytes::from_vec(bytes).map_err(AllocError::from)
 }
 
 /// How many bytes are left of a prefix without its trailing bytes 255.
@@ -245,28 +220,20 @@ fn end_of_prefix(alloc: Global, prefix: &[u8]) -> Result<Bound<Bytes>, AllocErro
     Ok(Bound::Excluded(joined(alloc, &prefix[..len - 1], &[last])?))
 }
 
-/// The start of the range of a prefix and a subrange with this start.
-fn start_behind(
+/// A bound of the range of a prefix and a subrange with this bound, which is its start or its end.
+fn behind(
     alloc: Global,
     prefix: &[u8],
-    start: Bound<&[u8]>,
+    bound: Bound<&[u8]>,
+    is_end: bool,
 ) -> Result<Bound<Bytes>, AllocError>
-    ensures { IfOk result (λ b. b ≡ keys.behind prefix.now (bound_now start.entry) (prefix_start prefix.now)) }
+    ensures { IfOk result (λ b. b ≡ keys.behind prefix.now (bound_now bound.entry) (if is_end then prefix_end prefix.now else prefix_start prefix.now)) }
 {
-    match start {
+    match bound {
         Bound::Included(key) => joined(alloc, prefix, key).map(Bound::Included),
         Bound::Excluded(key) => joined(alloc, prefix, key).map(Bound::Excluded),
-        Bound::Unbounded => first_of_prefix(alloc, prefix),
-    }
-}
-
-/// The end of the range of a prefix and a subrange with this end.
-fn end_behind(alloc: Global, prefix: &[u8], end: Bound<&[u8]>) -> Result<Bound<Bytes>, AllocError>
-    ensures { IfOk result (λ b. b ≡ keys.behind prefix.now (bound_now end.entry) (prefix_end prefix.now)) }
-{
-    match end {
-        Bound::Included(key) => joined(alloc, prefix, key).map(Bound::Included),
-        Bound::Excluded(key) => joined(alloc, prefix, key).map(Bound::Excluded),
-        Bound::Unbounded => end_of_prefix(alloc, prefix),
+        Bound::Unbounded if is_end => end_of_prefix(alloc, prefix),
+        Bound::Unbounded if prefix.is_empty() => Ok(Bound::Unbounded),
+        Bound::Unbounded => Bytes::copy_from_slice(alloc, prefix).map(Bound::Included),
     }
 }

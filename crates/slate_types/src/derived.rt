@@ -21,7 +21,6 @@ pub fn equal_values(a: &ValueDeletable, b: &ValueDeletable) -> bool
 }
 
 /// Of rows.
-#[tactic(auto, using(crate::specs::Equality::rows_decide))]
 pub fn equal_rows(a: &RowEntry, b: &RowEntry) -> bool
     ensures { IsTrue result ↔ (a.now ≡ b.now) }
 {

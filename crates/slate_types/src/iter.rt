@@ -6,6 +6,7 @@ ghost use Rattle.slate_types.specs.declared.types.RowEntry.{RowEntry};
 ghost use Rattle.slate_types.specs.Iteration.{comes_before, drop_before, IsInOrder, TakesAll, TakesRow};
 ghost use Rattle.slate_types.specs.Outside.{World, Counts, nothing, no_faults, IsLater, IsOuter};
 
+use crate::bytes_range::is_before;
 use crate::error::SlateDBError;
 use crate::types::RowEntry;
 use std::alloc::Global;
@@ -24,8 +25,8 @@ impl IterationOrder {
         ensures { result ≡ comes_before self first.now second.now }
     {
         match self {
-            IterationOrder::Ascending => first.cmp(second).is_lt(),
-            IterationOrder::Descending => second.cmp(first).is_lt(),
+            IterationOrder::Ascending => is_before(first, second, false),
+            IterationOrder::Descending => is_before(second, first, false),
         }
     }
 }

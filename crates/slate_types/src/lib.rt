@@ -43,24 +43,24 @@ fn crosses<T: Send + Sync>() {}
 pub fn types_cross_threads() {
     crosses::<
         (
-            ValueDeletable,
-            RowEntry,
-            KeyValue,
-            SequencedKey,
-            BytesRange,
-            FilterQuery,
+            (
+                ValueDeletable,
+                RowEntry,
+                KeyValue,
+                SequencedKey,
+                BytesRange,
+                FilterQuery,
+            ),
+            (
+                Ulid,
+                IsolationLevel,
+                Options,
+                ReadOptions,
+                ScanOptions,
+                RowsIterator,
+            ),
+            (PutOptions, MergeOptions, WriteOptions),
+            (SlateDBError, MergeOperatorError, TransformError),
         ),
     >();
-    crosses::<
-        (
-            Ulid,
-            IsolationLevel,
-            Options,
-            ReadOptions,
-            ScanOptions,
-            RowsIterator,
-        ),
-    >();
-    crosses::<(PutOptions, MergeOptions, WriteOptions)>();
-    crosses::<(SlateDBError, MergeOperatorError, TransformError)>();
 }

@@ -5,6 +5,7 @@ ghost use Rattle.slate_types.specs.Keys.{bound_now, in_range, is_refused, key_cm
 ghost use Rattle.slate_types.specs.Partitions as partitions;
 ghost use Rattle.slate_types.specs.Partitions.{CanHold, covering_end, covering_start, first_including, last_including, past_unless_at};
 
+use crate::bytes_range::is_before;
 use std::ops::{Bound, Range};
 
 /// Keys in partitions that follow one another. A partition's keys are not below its first key, nor below
@@ -148,16 +149,8 @@ fn count_to<K: RangePartitionedKeySpace>(space: &K, key: &[u8], upto: bool) -> u
         space,
         |first| -> bool
             ensures { result ≡ partitions.counts upto first.now key.entry.now }
-        { counts(first, key, upto) },
+        { is_before(first, key, upto) },
     )
-}
-
-/// Whether a first key is below the key, or not past it where `upto` counts one that is the key.
-fn counts(first: &[u8], key: &[u8], upto: bool) -> bool
-    ensures { result ≡ partitions.counts upto first.now key.now }
-{
-    let order = first.cmp(key);
-    if upto { order.is_le() } else { order.is_lt() }
 }
 
 /// Whether there is such a partition, and the key is its first.

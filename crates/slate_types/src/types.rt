@@ -104,14 +104,19 @@ impl Clone for RowEntry {
 
     fn clone(&self) -> Result<RowEntry, AllocError> {
         let key = self.key.clone()?;
-        let value = self.value.clone()?;
-        Ok(RowEntry {
-            key,
-            value,
-            seq: self.seq,
-            create_ts: self.create_ts,
-            expire_ts: self.expire_ts,
-        })
+        match self.value.clone() {
+            Ok(value) => Ok(RowEntry {
+                key,
+                value,
+                seq: self.seq,
+                create_ts: self.create_ts,
+                expire_ts: self.expire_ts,
+            }),
+            Err(error) => {
+                drop(key);
+                Err(error)
+            }
+        }
     }
 }
 
@@ -174,14 +179,19 @@ impl Clone for KeyValue {
 
     fn clone(&self) -> Result<KeyValue, AllocError> {
         let key = self.key.clone()?;
-        let value = self.value.clone()?;
-        Ok(KeyValue {
-            key,
-            value,
-            seq: self.seq,
-            create_ts: self.create_ts,
-            expire_ts: self.expire_ts,
-        })
+        match self.value.clone() {
+            Ok(value) => Ok(KeyValue {
+                key,
+                value,
+                seq: self.seq,
+                create_ts: self.create_ts,
+                expire_ts: self.expire_ts,
+            }),
+            Err(error) => {
+                drop(key);
+                Err(error)
+            }
+        }
     }
 }
 

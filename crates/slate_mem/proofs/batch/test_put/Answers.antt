@@ -22,3 +22,19 @@ returns-in-Ok c =
       cause = subst (λ o. IfErr c.test_value.result (λ e. o ≡ Some e)) (sym same) c.test_value.ensures.cause;
       fine = subst (λ o. OnOk c.test_value.result (o ≡ None)) (sym same) c.test_value.ensures.fine;
     }
+
+-- and the first refusal stays the first
+earlier : (es : List (Option SlateDBError)) (o : Option SlateDBError) (e : SlateDBError) → first_refusal es ≡ Some e → first_refusal (es ++ (o ∷ [])) ≡ Some e
+earlier [] o e h = cc
+earlier (None ∷ es) o e h = earlier es o e h
+earlier (Some x ∷ es) o e h = h
+
+pub returns-in-Err : goal.returns-in-Err
+returns-in-Err c =
+    let refusal = c.in-Err.refusal in
+    let same = earlier (key_refusals c.args.key.now) (value_refusal c.args.value.now) refusal c.in-Err.ensures.cause in
+    record {
+      refused = λ e h. let is : Some refusal ≡ Some e = sym same ∙ h in cc;
+      cause = same;
+      fine = tt;
+    }

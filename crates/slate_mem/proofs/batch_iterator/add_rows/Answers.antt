@@ -1,5 +1,6 @@
 use Rattle.std.proofs.Common.{◌∙◌, ◌++◌, ◌∷◌, [], ap, sym, reverse, map, append_assoc}
 use Rattle.std.proofs.lemmas.List.{reverse-append}
+use Rattle.std.proofs.lemmas.Result.{IfOk-from_err}
 use Rattle.slate_mem.specs.BatchRows.{stamped}
 use Rattle.slate_mem.proofs.batch_iterator.add_rows.Goals as goal
 
@@ -13,3 +14,9 @@ loop-op-preserved c =
     ∙ append_assoc before (row op ∷ []) (map row (reverse left))
     ∙ ap (λ os. before ++ map row os) (sym (ap reverse c.in-Some.ensures.steps ∙ reverse-append left (op ∷ [])))
     ∙ c.loop-op.invariant
+
+pub returns-in_err-row-clause-rows : goal.returns-in_err-row-clause-rows
+returns-in_err-row-clause-rows c = IfOk-from_err c.from_residual.result _ c.from_residual.ensures.0
+
+pub returns-in_err-push-clause-rows : goal.returns-in_err-push-clause-rows
+returns-in_err-push-clause-rows c = IfOk-from_err c.from_residual-in_err-push.result _ c.from_residual-in_err-push.ensures.0

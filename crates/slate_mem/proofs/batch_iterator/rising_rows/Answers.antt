@@ -1,4 +1,5 @@
 use Rattle.std.proofs.Common.{◌∙◌, ◌++◌, ap, sym, reverse, map, append_assoc}
+use Rattle.std.proofs.lemmas.Result.{IfOk-from_err}
 use Rattle.slate_mem.specs.BatchRows.{stamped, newest_rows}
 use Rattle.slate_mem.proofs.batch_iterator.rising_rows.Goals as goal
 
@@ -12,3 +13,6 @@ loop-key-preserved c =
     ∙ ap (λ ops. before ++ (map (stamped s c.in-Some.key.now) (reverse ops) ++ left)) c.as_slice.ensures
     ∙ ap (λ es. before ++ newest_rows s es) (sym c.in-Some.ensures.steps)
     ∙ c.loop-key.invariant
+
+pub returns-in_err-add_rows-clause-rows : goal.returns-in_err-add_rows-clause-rows
+returns-in_err-add_rows-clause-rows c = IfOk-from_err c.from_residual.result _ c.from_residual.ensures.0

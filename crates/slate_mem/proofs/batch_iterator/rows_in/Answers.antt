@@ -1,6 +1,7 @@
 use Rattle.std.proofs.Common.{◌∙◌, sym, subst, ap}
 use Rattle.std.specs.BTreeMap.Range.{IsLeBy, IsLtBy, entries_between}
 use Rattle.std.specs.Range.Bound.{IsForward}
+use Rattle.std.proofs.lemmas.Result.{IfOk-from_err}
 use Rattle.slate_types.specs.declared.iter.IterationOrder.TheVariants.{Ascending}
 use Rattle.slate_types.specs.declared.bytes_range.BytesRange.{BytesRange}
 use Rattle.slate_types.specs.Keys.{key_cmp}
@@ -36,3 +37,21 @@ returns-clause-rows c k =
     let walked = c.range.ensures.between tt ∙ ap (λ (t : BytesRange). entries_between key_cmp t.start t.end es) c.in_ok-start.ensures.copy in
     c.in_ok-ordered.ensures.keys k ∙ ap (of_key k) (c.in_ok-rows.ensures.rows ∙ ap (newest_rows s) walked)
     ∙ newest-between c.args.range.now s es c.args.batch.now.ops e.whole.rising e.whole.kept e.ops k
+
+pub returns-in_err-start-clause-rows : goal.returns-in_err-start-clause-rows
+returns-in_err-start-clause-rows c = IfOk-from_err c.from_residual.result _ c.from_residual.ensures.0
+
+pub returns-in_err-start-clause-in_order : goal.returns-in_err-start-clause-in_order
+returns-in_err-start-clause-in_order c = IfOk-from_err c.from_residual.result _ c.from_residual.ensures.0
+
+pub returns-in_err-rows-clause-rows : goal.returns-in_err-rows-clause-rows
+returns-in_err-rows-clause-rows c = IfOk-from_err c.from_residual-in_err-rows.result _ c.from_residual-in_err-rows.ensures.0
+
+pub returns-in_err-rows-clause-in_order : goal.returns-in_err-rows-clause-in_order
+returns-in_err-rows-clause-in_order c = IfOk-from_err c.from_residual-in_err-rows.result _ c.from_residual-in_err-rows.ensures.0
+
+pub returns-in_err-ordered-clause-rows : goal.returns-in_err-ordered-clause-rows
+returns-in_err-ordered-clause-rows c = IfOk-from_err c.from_residual-in_err-ordered.result _ c.from_residual-in_err-ordered.ensures.0
+
+pub returns-in_err-ordered-clause-in_order : goal.returns-in_err-ordered-clause-in_order
+returns-in_err-ordered-clause-in_order c = IfOk-from_err c.from_residual-in_err-ordered.result _ c.from_residual-in_err-ordered.ensures.0

@@ -1,4 +1,5 @@
 use Rattle.std.proofs.Common.{◌≡◌, ◌∷◌, ◌++◌, [], ◌∙◌, ℕ, List, rules, reverse, arith}
+use Rattle.std.proofs.lemmas.Result.{IfOk-from_err}
 use Rattle.slate_types.specs.Fold.{IsLawful, KeepsShort}
 use Rattle.slate_types.specs.Join.{AreOf}
 use Rattle.slate_mem.proofs.FoldingLaws.{Joined, joined, last_first}
@@ -18,3 +19,6 @@ loop-newer-preserved g c =
       are = λ k law keeps h. (one k law keeps h).are;
       fold = λ k law keeps h. (one k law keeps h).fold ∙ c.loop-newer.invariant.fold k law keeps h;
     }
+
+pub returns-in_err-row-clause-row : goal.returns-in_err-row-clause-row
+returns-in_err-row-clause-row g c = λ k law keeps of. IfOk-from_err c.from_residual.result _ c.from_residual.ensures.0

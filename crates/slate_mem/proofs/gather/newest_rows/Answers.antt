@@ -1,4 +1,5 @@
 use Rattle.std.proofs.Common.{List, ◌++◌, ap, sym, ◌∙◌}
+use Rattle.std.proofs.lemmas.Result.{IfOk-from_err}
 use Rattle.slate_types.specs.declared.types.RowEntry.{RowEntry}
 use Rattle.slate_mem.specs.Gathered.{newest_kept, last_row}
 use Rattle.slate_mem.proofs.GatherLaws.{keeps_one}
@@ -9,3 +10,6 @@ loop-row-preserved c =
     keeps_one c.args.barrier c.loop-row.kept.items _ _ c.in-Some.row c.in_ok-keep.ensures.rows
     ∙ ap (λ (xs : List RowEntry). c.loop-row.kept.items ++ newest_kept c.args.barrier (last_row c.loop-row.kept.items) xs) (sym c.in-Some.ensures.steps.0)
     ∙ c.loop-row.invariant
+
+pub returns-in_err-keep-clause-rows : goal.returns-in_err-keep-clause-rows
+returns-in_err-keep-clause-rows c = IfOk-from_err c.from_residual.result _ c.from_residual.ensures.0

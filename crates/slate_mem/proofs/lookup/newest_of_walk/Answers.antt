@@ -1,4 +1,5 @@
 use Rattle.std.proofs.Common.{◌≡◌, ◌∷◌, ◌++◌, None, ap, sym, subst, ◌∙◌}
+use Rattle.std.proofs.lemmas.Result.{IfOk-from_err}
 use Rattle.slate_types.specs.declared.iter.IterationOrder.TheVariants.{Ascending}
 use Rattle.slate_types.specs.Iteration.{IsInOrder, NoneBefore}
 use Rattle.slate_types.specs.Outside.{nothing}
@@ -30,3 +31,9 @@ loop-found-preserved g c =
           ∙ ap (λ xs. c.loop-found.found.items ++ newest c.args.key.now c.args.max_seq xs) (takes (rest c.loop-found.rows nothing) _ c.in-Some.row (rest c.next.new.self nothing) c.in-Some.is (c.in_ok-row.ensures.rows (was.sound s)))
           ∙ c.in_ok-goes_on.ensures.goes_on c.if-not-goes_on.false _;
     }
+
+pub returns-in_err-row-clause-found : goal.returns-in_err-row-clause-found
+returns-in_err-row-clause-found g c = λ s o n. IfOk-from_err c.from_residual.result _ c.from_residual.ensures.0
+
+pub returns-in_err-goes_on-clause-found : goal.returns-in_err-goes_on-clause-found
+returns-in_err-goes_on-clause-found g c = λ s o n. IfOk-from_err c.from_residual-in_err-goes_on.result _ c.from_residual-in_err-goes_on.ensures.0

@@ -1,4 +1,5 @@
 use Rattle.std.proofs.Common.{◌∙◌, ◌++◌, ap, sym}
+use Rattle.std.proofs.lemmas.Result.{IfOk-from_err}
 use Rattle.slate_types.specs.Keys.{keys_set}
 use Rattle.slate_mem.proofs.TableLaws.{set-moved, set-of-set}
 use Rattle.slate_mem.proofs.mem_table.join.Goals as goal
@@ -18,3 +19,15 @@ pub returns-clause-both : goal.returns-clause-both
 returns-clause-both c =
     let was = c.loop-prefix.invariant in
     sym (set-of-set _ was.rising) ∙ rw c.in-None.ensures.steps.0 at was.both
+
+pub returns-in_err-clone-clause-rising : goal.returns-in_err-clone-clause-rising
+returns-in_err-clone-clause-rising c = IfOk-from_err c.from_residual.result _ c.from_residual.ensures.0
+
+pub returns-in_err-clone-clause-both : goal.returns-in_err-clone-clause-both
+returns-in_err-clone-clause-both c = IfOk-from_err c.from_residual.result _ c.from_residual.ensures.0
+
+pub returns-in_err-insert-clause-rising : goal.returns-in_err-insert-clause-rising
+returns-in_err-insert-clause-rising c = IfOk-from_err c.from_residual-in_err-insert.result _ c.from_residual-in_err-insert.ensures.0
+
+pub returns-in_err-insert-clause-both : goal.returns-in_err-insert-clause-both
+returns-in_err-insert-clause-both c = IfOk-from_err c.from_residual-in_err-insert.result _ c.from_residual-in_err-insert.ensures.0

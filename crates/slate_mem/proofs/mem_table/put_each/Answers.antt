@@ -1,5 +1,6 @@
 use Rattle.std.proofs.Common.{◌∙◌, ap, sym, arith}
 use Rattle.std.specs.Vec.Iter.{into_iter_items}
+use Rattle.std.proofs.lemmas.Result.{IfOk-from_err}
 use Rattle.slate_mem.specs.Tied.{insert_rows, all_undone}
 use Rattle.slate_mem.proofs.TableLaws.{undone_last}
 use Rattle.slate_mem.proofs.mem_table.put_each.Goals as goal
@@ -14,3 +15,9 @@ loop-row-preserved c =
       kept = λ h. c.in-Ok.ensures.kept (was.kept h);
       room = omega (arith, was.room, c.push_reserved.ensures, c.in-Some.ensures);
     }
+
+pub returns-in_err-steps-clause-put : goal.returns-in_err-steps-clause-put
+returns-in_err-steps-clause-put c = IfOk-from_err c.from_residual.result _ c.from_residual.ensures.0
+
+pub returns-in_err-steps-clause-kept : goal.returns-in_err-steps-clause-kept
+returns-in_err-steps-clause-kept c = IfOk-from_err c.from_residual.result _ c.from_residual.ensures.0

@@ -1,6 +1,7 @@
-use Rattle.std.proofs.Common.{◌∙◌, subst, None, inl, arith}
+use Rattle.std.proofs.Common.{◌≡◌, ◌∙◌, List, [], ◌++◌, ap, sym, subst, None, inl, arith, append-nil, refl}
 use Rattle.std.proofs.lemmas.Grind.{common_steps}
 use Rattle.std.proofs.lemmas.Result.{err_from_is_err_and, IfOk-from_err}
+use Rattle.slate_types.specs.declared.types.RowEntry.{RowEntry}
 use Rattle.slate_types.proofs.IterationLaws.{steps_more}
 use Rattle.slate_types.proofs.OutsideLaws.{blamed_earlier, later_trans}
 use Rattle.slate_types.proofs.iter.collect_rows.Goals as goal
@@ -70,3 +71,22 @@ returns-clause-told g c = c.in_ok-row.ensures.told ∙ c.loop-taken.invariant.to
 
 pub returns-clause-later : goal.returns-clause-later
 returns-clause-later g c = later_trans _ _ _ c.loop-taken.invariant.later c.in_ok-row.ensures.later
+
+pub loop-taken-smaller : goal.loop-taken-smaller
+loop-taken-smaller g c = c.in_ok-row.ensures.smaller (rw c.in-Some.is refl)
+
+all_taken : (taken rest whole : List RowEntry) → rest ≡ [] → taken ++ rest ≡ whole → taken ≡ whole
+all_taken taken rest whole none is = sym (append-nil taken) ∙ ap (λ rows. taken ++ rows) (sym none) ∙ is
+
+pub returns-clause-rows : goal.returns-clause-rows
+returns-clause-rows g c = λ sound.
+    let ended = rw (c.in_default.is, c.loop-taken.invariant.told) at c.in_ok-row.ensures.rows in
+    all_taken c.loop-taken.taken.items (g.I.RowEntryIterator.rest c.loop-taken.rows (g.E.Outside.told c.args.env.now)) _ (ended (c.loop-taken.invariant.still sound)).0 (c.loop-taken.invariant.rows sound)
+
+pub returns-clause-takes : goal.returns-clause-takes
+returns-clause-takes g c = (c.loop-taken.rows, c.loop-taken.invariant.steps, rw (c.in_default.is, c.loop-taken.invariant.told) at c.in_ok-row.ensures.takes)
+
+pub returns-clause-spent : goal.returns-clause-spent
+returns-clause-spent g c = λ sound.
+    let ended = rw (c.in_default.is, c.loop-taken.invariant.told) at c.in_ok-row.ensures.rows in
+    (ended (c.loop-taken.invariant.still sound)).1

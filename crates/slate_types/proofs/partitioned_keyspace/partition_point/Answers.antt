@@ -32,3 +32,9 @@ returns-clause-before g c = λ i k. c.loop-low.invariant.before i (k, tt)
 
 pub returns-clause-behind : goal.returns-clause-behind
 returns-clause-behind g c = λ i k passes h. c.loop-low.invariant.behind i (k, tt) passes (omega (arith, h))
+
+pub partition_first_key-requires : goal.partition_first_key-requires
+partition_first_key-requires g c = omega (arith, c.loop-low.invariant.within)
+
+pub pred-requires : goal.pred-requires
+pred-requires g c = c.requires.callable.at _

@@ -1,5 +1,6 @@
 use Rattle.std.proofs.Common.{◌∙◌, ℤ, Some, ap, sym, subst, w64, refl}
 use Rattle.std.proofs.lemmas.Int.{to_z-of_z}
+use Rattle.std.proofs.lemmas.Result.{IfOk-from_err}
 use Rattle.slate_types.specs.Keys.{key_cmp}
 use Rattle.slate_mem.specs.declared.batch_iterator.Stamps.{Stamps}
 use Rattle.slate_mem.specs.BatchModel.{BatchModel}
@@ -23,3 +24,9 @@ returns-clause-rows c = λ combine.
     ∙ newest-single default c.args.seq c.args.now es (whole.told refl)
     ∙ sym (rows-listed combine default c.args.seq c.args.now es whole)
     ∙ ap (λ (b : BatchModel). commit_rows combine default c.args.seq c.args.now b.ops) c.self.view_is
+
+pub returns-in_err-rows-clause-rows : goal.returns-in_err-rows-clause-rows
+returns-in_err-rows-clause-rows c = IfOk-from_err c.from_residual.result _ c.from_residual.ensures.0
+
+pub returns-in_err-rows-clause-bytes : goal.returns-in_err-rows-clause-bytes
+returns-in_err-rows-clause-bytes c = IfOk-from_err c.from_residual.result _ c.from_residual.ensures.0

@@ -1,4 +1,5 @@
 use Rattle.std.proofs.Common.{◌∙◌, ap, sym}
+use Rattle.std.proofs.lemmas.Result.{IfOk-from_err}
 use Rattle.slate_mem.specs.BatchModel.{BatchModel}
 use Rattle.slate_mem.specs.Batch.{batch_keys}
 use Rattle.slate_mem.proofs.KeptLaws.{keys-listed}
@@ -9,3 +10,6 @@ returns-clause-keys c =
     let w = c.self.invariant in
     let keys = sym (keys-listed c.self.inside.ops.entries w.rising w.kept) ∙ ap (λ (b : BatchModel). batch_keys b.ops) c.self.view_is in
     c.in_ok-keys_of.ensures.keys ∙ keys
+
+pub returns-in_err-keys_of-clause-keys : goal.returns-in_err-keys_of-clause-keys
+returns-in_err-keys_of-clause-keys c = IfOk-from_err c.from_residual.result _ c.from_residual.ensures.0

@@ -1,5 +1,6 @@
 use Rattle.std.proofs.Common.{◌≡◌, ℕ, List, None, ◌∙◌, ap, sym, subst}
 use Rattle.std.specs.List.{AllByRecursion}
+use Rattle.std.proofs.lemmas.Result.{IfOk-from_err}
 use Rattle.slate_mem.specs.declared.WriteOp.{WriteOp}
 use Rattle.slate_mem.specs.BatchModel.{BatchModel, holds_merge}
 use Rattle.slate_mem.specs.Batch.{kept_ops}
@@ -37,3 +38,6 @@ pub returns-in_err-list_ops-clause-plain : goal.returns-in_err-list_ops-clause-p
 returns-in_err-list_ops-clause-plain c h =
     ap (λ (b : BatchModel). holds_merge b.ops) (sym c.self.view_is)
     ∙ plain-listed c.self.inside.ops.entries (c.self.invariant.told (ap (λ (b : BatchModel). b.held_merge) c.self.view_is ∙ h))
+
+pub returns-in_err-list_ops-clause-ops : goal.returns-in_err-list_ops-clause-ops
+returns-in_err-list_ops-clause-ops c = IfOk-from_err c.from_residual.result _ c.from_residual.ensures.0

@@ -1,4 +1,5 @@
 use Rattle.std.proofs.Common.{◌≡◌, ◌∙◌, ◌++◌, ◌∷◌, [], ap, sym, subst}
+use Rattle.std.proofs.lemmas.Result.{IfOk-from_err}
 use Rattle.slate_mem.specs.BatchModel.{with_op, IsBatchOf}
 use Rattle.slate_mem.specs.contracts.batch.WriteBatch.{the_view}
 use Rattle.slate_mem.proofs.KeptLaws.{whole-set, view-set, batch_of_more}
@@ -19,3 +20,9 @@ returns-clause-taken c = becomes c
 
 pub returns-clause-means : goal.returns-clause-means
 returns-clause-means c = λ ops h. subst (IsBatchOf (ops ++ ((c.args.key, c.args.op) ∷ []))) (sym (becomes c)) (batch_of_more c.args.self.now ops c.args.key c.args.op h)
+
+pub returns-in_err-insert-clause-taken : goal.returns-in_err-insert-clause-taken
+returns-in_err-insert-clause-taken c = IfOk-from_err c.from_residual.result _ c.from_residual.ensures.0
+
+pub returns-in_err-insert-clause-means : goal.returns-in_err-insert-clause-means
+returns-in_err-insert-clause-means c = λ ops is. IfOk-from_err c.from_residual.result _ c.from_residual.ensures.0

@@ -1,5 +1,5 @@
 use Rattle.std.proofs.Common.{◌∙◌, ap}
-use Rattle.std.proofs.lemmas.Result.{IfOk-weaker}
+use Rattle.std.proofs.lemmas.Result.{IfOk-weaker, IfOk-from_err}
 use Rattle.std.specs.Ordering.{is_gt}
 use Rattle.slate_types.specs.Rows.{sequenced_cmp}
 use Rattle.std.specs.Map.{values_of}
@@ -24,3 +24,6 @@ returns-clause-rows c =
     ∙ ap (λ (t : MemTableModel). newest c.args.key.now c.args.max_seq t.rows) c.self.view_is
     in
     IfOk-weaker c.rows_between.result _ _ (λ v h. h ∙ rows) c.rows_between.ensures.rows
+
+pub returns-in_err-first-clause-rows : goal.returns-in_err-first-clause-rows
+returns-in_err-first-clause-rows c = IfOk-from_err c.from_residual.result _ c.from_residual.ensures.0

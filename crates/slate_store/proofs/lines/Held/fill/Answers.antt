@@ -1,8 +1,10 @@
-use Rattle.std.proofs.Common.{◌≡◌, ◌∙◌, ◌++◌, ℕ, List, take, ◌+◌, ◌-◌, ◌≤◌, drop, length-take, refl, sym, ap, subst, inl, length, length-append, arith}
+use Rattle.std.proofs.Common.{◌≡◌, ◌∙◌, ◌++◌, ℕ, List, take, ◌+◌, ◌-◌, ◌≤◌, drop, length-take, refl, sym, ap, subst, inl, inr, length, length-append, arith, Result, Err}
 use Rattle.std.specs.Prelude.{vec_len, slice_range}
 use Rattle.std.specs.Vec.{with_items}
 use Rattle.std.proofs.lemmas.List.{take-take, take-append-le}
 use Rattle.std.proofs.lemmas.Result.{err_from_is_err_and, IfOk-from_err}
+use Rattle.slate_types.specs.declared.error.SlateDBError.{SlateDBError}
+use Rattle.slate_types.specs.declared.error.SlateDBError.TheVariants.{OutOfMemory, ReadFault, ScriptTooLong}
 use Rattle.slate_store.specs.declared.lines.Held.{Held}
 use Rattle.slate_store.specs.Lines.{HasNoEnd, script_limit}
 use Rattle.slate_store.specs.Held.{IsWhole, unread}
@@ -34,19 +36,21 @@ returns-in_err-make_piece-clause-bytes g c = λ left told. IfOk-from_err c.from_
 pub returns-in_err-make_piece-clause-err : goal.returns-in_err-make_piece-clause-err
 returns-in_err-make_piece-clause-err g c = on_err c.from_residual.result (c.requires.read, refl, refl)
 
+memory-no-fault : {T : Type 0} (r : Result T SlateDBError) (x : SlateDBError) → r ≡ Err x → x ≡ OutOfMemory → r ≡ Err ReadFault → ⊥
+memory-no-fault r x is memory e = cc
+
+memory-no-length : {T : Type 0} (r : Result T SlateDBError) (x : SlateDBError) → r ≡ Err x → x ≡ OutOfMemory → r ≡ Err ScriptTooLong → ⊥
+memory-no-length r x is memory e = cc
+
 pub returns-in_err-make_piece-clause-read_fault : goal.returns-in_err-make_piece-clause-read_fault
 returns-in_err-make_piece-clause-read_fault g c = λ e.
     let p = err_from_is_err_and c.from_residual.result c.from_residual.ensures.1 in
-    let is = p.1 in
-    let memory = p.2 in
-    cc
+    absurd (memory-no-fault c.from_residual.result _ p.1 p.2 e)
 
 pub returns-in_err-make_piece-clause-too_long : goal.returns-in_err-make_piece-clause-too_long
 returns-in_err-make_piece-clause-too_long g c = λ e.
     let p = err_from_is_err_and c.from_residual.result c.from_residual.ensures.1 in
-    let is = p.1 in
-    let memory = p.2 in
-    cc
+    absurd (memory-no-length c.from_residual.result _ p.1 p.2 e)
 
 pub returns-in_err-make_piece-clause-cause : goal.returns-in_err-make_piece-clause-cause
 returns-in_err-make_piece-clause-cause g c =
@@ -93,3 +97,21 @@ read_front-requires-clause-some g c = omega (arith, c.min-room.ensures, c.len.en
 
 pub read_front-requires-clause-within : goal.read_front-requires-clause-within
 read_front-requires-clause-within g c = omega arith
+
+pub returns-then-self-eq-LIMIT-clause-too_long : goal.returns-then-self-eq-LIMIT-clause-too_long
+returns-then-self-eq-LIMIT-clause-too_long g c = λ e. c.if-self-eq-LIMIT.true
+
+pub returns-in-Ok-clause-limit : goal.returns-in-Ok-clause-limit
+returns-in-Ok-clause-limit g c = omega (arith, c.requires.whole.limit, c.if-self-eq-LIMIT.false)
+
+pub returns-in-Ok-clause-later : goal.returns-in-Ok-clause-later
+returns-in-Ok-clause-later g c = c.read_front.ensures.later
+
+pub returns-in-Ok-clause-still : goal.returns-in-Ok-clause-still
+returns-in-Ok-clause-still g c = inr c.in-Ok.ensures.still
+
+pub returns-in-Err-clause-read_fault : goal.returns-in-Err-clause-read_fault
+returns-in-Err-clause-read_fault g c = λ e. c.in-Err.ensures.cause
+
+pub returns-in-Err-clause-later : goal.returns-in-Err-clause-later
+returns-in-Err-clause-later g c = c.read_front.ensures.later

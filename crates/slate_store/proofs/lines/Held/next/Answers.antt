@@ -8,11 +8,11 @@ use Rattle.std.proofs.lemmas.Result.{err_from_is_err_and, IfOk-from_err}
 use Rattle.slate_store.proofs.Steps.{last_further, last_counted, held_line, err_is, refused, on_err, keeps_same, gives_cut, gives_last, keeps_taken, held_taken}
 use Rattle.slate_store.proofs.lines.Held.next.Goals as goal
 
+no-refusal : {T : Type 0} (x : T) (e : SlateDBError) → Ok x ≡ Err e → ⊥
+no-refusal x e h = cc
+
 unless-fault : {P : Type 0} (n : ℕ) → (Ok n ≡ Err ReadFault) ⊎ P → P
-unless-fault n (inl is) = absurd (clash is)
-  where
-    clash : Ok n ≡ Err ReadFault → ⊥
-    clash h = cc
+unless-fault n (inl is) = absurd (no-refusal n ReadFault is)
 unless-fault n (inr is) = is
 
 memory-no-fault : {T : Type 0} (r : Result T SlateDBError) → r ≡ Err OutOfMemory → r ≡ Err ReadFault → ⊥
@@ -123,10 +123,10 @@ returns-in-Some-clause-counted g c =
     omega (arith, ap length line.1, length-append c.in-Some.line.items (10 ∷ held_bytes c.cut.new.self))
 
 pub returns-in-Some-clause-read_fault : goal.returns-in-Some-clause-read_fault
-returns-in-Some-clause-read_fault g c = λ e. cc
+returns-in-Some-clause-read_fault g c = λ e. absurd (no-refusal _ _ e)
 
 pub returns-in-Some-clause-too_long : goal.returns-in-Some-clause-too_long
-returns-in-Some-clause-too_long g c = λ e. cc
+returns-in-Some-clause-too_long g c = λ e. absurd (no-refusal _ _ e)
 
 pub returns-in-Some-clause-later : goal.returns-in-Some-clause-later
 returns-in-Some-clause-later g c = omega (arith, c.loop-line.invariant.still)
@@ -198,10 +198,10 @@ returns-then-branch-eq0-clause-at_once g c = λ some.
     absurd (some (subst HasNoEnd (none.0 ∙ (c.loop-line.invariant.first some).1) c.in_ok-line.ensures.whole.partial))
 
 pub returns-then-branch-eq0-clause-read_fault : goal.returns-then-branch-eq0-clause-read_fault
-returns-then-branch-eq0-clause-read_fault g c = λ e. cc
+returns-then-branch-eq0-clause-read_fault g c = λ e. absurd (no-refusal _ _ e)
 
 pub returns-then-branch-eq0-clause-too_long : goal.returns-then-branch-eq0-clause-too_long
-returns-then-branch-eq0-clause-too_long g c = λ e. cc
+returns-then-branch-eq0-clause-too_long g c = λ e. absurd (no-refusal _ _ e)
 
 pub returns-then-branch-eq0-clause-later : goal.returns-then-branch-eq0-clause-later
 returns-then-branch-eq0-clause-later g c = omega (arith, c.loop-line.invariant.still, c.in_ok-fill.ensures.later)

@@ -1,4 +1,4 @@
-use Rattle.std.proofs.Common.{◌≡◌, ◌∙◌, ◌≤◌, ap, subst, inl, inr, refl, Some, Result, Err}
+use Rattle.std.proofs.Common.{◌≡◌, ◌∙◌, ◌≤◌, ap, subst, inl, inr, refl, None, Some, Result, Ok, Err}
 use Rattle.std.proofs.lemmas.Result.{err_from_is_err_and, IfOk-from_err}
 use Rattle.slate_types.specs.Faults.{Rose}
 use Rattle.slate_store.specs.declared.store.StoreError.{StoreError}
@@ -86,8 +86,25 @@ returns-in_err-path-clause-refused c = λ os is. on_err c.from_residual-in_err-p
 pub returns-in-Err-clause-refused : goal.returns-in-Err-clause-refused
 returns-in-Err-clause-refused c = λ os is. inl (ap (λ s. Some s.objects) c.self.view_is ∙ is)
 
+done-no-fault : {T : Type 0} (x : T) → Ok x ≡ Err Failed → ⊥
+done-no-fault x e = cc
+
 pub returns-in_ok-insert-in-Ok-clause-cause : goal.returns-in_ok-insert-in-Ok-clause-cause
-returns-in_ok-insert-in-Ok-clause-cause c = λ e. cc
+returns-in_ok-insert-in-Ok-clause-cause c = λ e. absurd (done-no-fault _ e)
+
+told-none : {A : Type 0} (x : A) → None ≡ Some x → ⊥
+told-none x e = cc
+
+pub returns-in_ok-insert-in-Ok-clause-act : goal.returns-in_ok-insert-in-Ok-clause-act
+returns-in_ok-insert-in-Ok-clause-act c = λ known is. absurd (told-none _ is)
+
+pub returns-in-Err-clause-refused_act : goal.returns-in-Err-clause-refused_act
+returns-in-Err-clause-refused_act c = inl refl
+
+pub returns-in_err-step-clause-still : goal.returns-in_err-step-clause-still
+returns-in_err-step-clause-still c =
+    let p = err_from_is_err_and c.from_residual.result c.from_residual.ensures.1 in
+    inl (p.1 ∙ ap Err p.2)
 
 some_is : {A : Type 0} (x y : A) → Some x ≡ Some y → x ≡ y
 some_is x y h = cc

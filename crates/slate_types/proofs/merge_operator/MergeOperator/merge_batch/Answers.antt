@@ -1,5 +1,5 @@
 use Rattle.std.proofs.Common.{◌≡◌, refl, ◌∙◌, sym, ap, subst, ℕ, ◌+◌, ◌<◌, ◌≤◌, Option, None, Some, option_copied, IsSomeAnd, MatchOption, ok_or, Result, Ok, Err, IfOk, List, length, get_or, drop, Bor, arith}
-use Rattle.std.specs.Result.{result_ok}
+use Rattle.std.specs.Result.{OnOk, result_ok}
 use Rattle.std.proofs.lemmas.List.{at_drop_more, at_drop_all}
 use Rattle.std.proofs.lemmas.Result.{err_from_is_err_and, IfOk-from_err}
 use Rattle.slate_types.specs.declared.merge_operator.MergeOperatorError.{MergeOperatorError}
@@ -28,6 +28,12 @@ pub returns-in_err-merged-clause-empty : goal.returns-in_err-merged-clause-empty
 returns-in_err-merged-clause-empty g c =
     let p = err_from_is_err_and c.from_residual.result c.from_residual.ensures.1 in
     (λ e. absurd (not-empty c.from_residual.result _ p.1 p.2 e), λ none. absent c.args.existing_value _ c.in_err-merged.ensures none.0)
+
+pub returns-in_err-merged-clause-same : goal.returns-in_err-merged-clause-same
+returns-in_err-merged-clause-same g c = refl
+
+pub returns-in_err-merged-clause-later : goal.returns-in_err-merged-clause-later
+returns-in_err-merged-clause-later g c = omega arith
 
 pub returns-in_err-merged-clause-still : goal.returns-in_err-merged-clause-still
 returns-in_err-merged-clause-still g c = IfOk-from_err c.from_residual.result _ c.from_residual.ensures.0
@@ -113,3 +119,23 @@ returns-clause-empty g c =
       λ none. c.ok_or.ensures.value
           ∙ ap (λ o. ok_or o EmptyBatch) (all ∙ ap (λ o. merge_all (g.Self.MergeOperator.combine c.args.self.now c.args.key.now) o operands) none.0 ∙ ap (λ vs. merge_all (g.Self.MergeOperator.combine c.args.self.now c.args.key.now) None vs) none.1),
     )
+
+pub returns-clause-same : goal.returns-clause-same
+returns-clause-same g c = c.loop-operand.invariant.same
+
+pub returns-clause-later : goal.returns-clause-later
+returns-clause-later g c = omega (arith, c.loop-operand.invariant.still)
+
+always : {T E : Type 0} (r : Result T E) (P : Type 0) → P → OnOk r P
+always (Ok x) P h = h
+always (Err e) P h = tt
+
+pub returns-clause-still : goal.returns-clause-still
+returns-clause-still g c = always c.ok_or.result _ c.loop-operand.invariant.still
+
+no-call : (o : Option (List ℕ)) (message : List ℕ) → ok_or o EmptyBatch ≡ Err (Callback message) → ⊥
+no-call None message e = cc
+no-call (Some x) message e = cc
+
+pub returns-clause-cause : goal.returns-clause-cause
+returns-clause-cause g c = λ message e. absurd (no-call c.loop-operand.merged message (sym c.ok_or.ensures.value ∙ e))

@@ -1,0 +1,14 @@
+use Rattle.std.proofs.lemmas.Result.{IfOk-from_err}
+use Rattle.slate_mem.proofs.batch.WriteBatch.put_with_options.Goals as goal
+
+pub returns-in_err-test_put-clause-taken : goal.returns-in_err-test_put-clause-taken
+returns-in_err-test_put-clause-taken c = IfOk-from_err c.from_residual.result _ c.from_residual.ensures.0
+
+pub returns-in_err-test_put-clause-means : goal.returns-in_err-test_put-clause-means
+returns-in_err-test_put-clause-means c = λ ops is. IfOk-from_err c.from_residual.result _ c.from_residual.ensures.0
+
+pub returns-in_err-value-clause-taken : goal.returns-in_err-value-clause-taken
+returns-in_err-value-clause-taken c = IfOk-from_err c.from_residual-in_err-value.result _ c.from_residual-in_err-value.ensures.0
+
+pub returns-in_err-value-clause-means : goal.returns-in_err-value-clause-means
+returns-in_err-value-clause-means c = λ ops is. IfOk-from_err c.from_residual-in_err-value.result _ c.from_residual-in_err-value.ensures.0
