@@ -13,7 +13,6 @@ pub mod FieldLaws
 pub mod ReadRows
 pub mod ReadingLaws
 pub mod ReadingLawsV1
-pub mod Appending
 pub mod Prefixes
 pub mod OffsetLaws
 pub mod LongestFronts

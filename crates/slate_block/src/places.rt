@@ -36,7 +36,7 @@ fn between(body: &Bytes, from: usize, upto: usize) -> Result<Bytes, SlateDBError
     ensures damage { IfErr result (λ e. (e ≡ SlateDBError.OutOfMemory) ⊎ IsDamage e) }
 {
     if from <= upto && upto <= body.len() {
-        return Ok(body.slice(from..upto)?);
+        return body.slice(from..upto).map_err(SlateDBError::from);
     }
     Err(corrupt(from))
 }
