@@ -2,7 +2,7 @@
 ghost use Rattle.std.specs.Prelude.{◌≡◌, ◌≤◌, ◌<◌, ◌+◌, ◌*◌, ◌^◌, ◌++◌, length, OnOk, OnErr, IsOkUnless};
 ghost use Rattle.slate_block.specs.RowSpelling.{FitsStamp, v2_bytes, stamp_bytes};
 ghost use Rattle.slate_block.specs.BlockSpelling.{entry_v2, is_restart};
-ghost use Rattle.slate_block.specs.Building.{CanTake, number, row_bytes, is_named, named, part_size, next_front, IsSamePart, IsLongerPart};
+ghost use Rattle.slate_block.specs.Building.{CanTake, number, row_bytes, named, part_size, next_front, IsSamePart, IsLongerPart};
 
 use crate::varint::varint_len;
 use crate::{codec_v0, codec_v2};
@@ -51,16 +51,6 @@ impl RowsPart {
         }
     }
 
-    /// Whether the next row's place is one of the offsets.
-    fn names_next(&self) -> bool
-        ensures { result ≡ is_named (number self.now.version) self.now.num_rows }
-    {
-        match self.version {
-            Version::V1 => true,
-            Version::V2 => is_restart(self.num_rows),
-        }
-    }
-
     /// Takes a row that leaves out so many bytes of its key. `OutOfMemory` leaves all as it was.
     pub fn append(&mut self, shared: usize, entry: RowEntry) -> Result<(), SlateDBError>
         requires lengths { CanTake entry }
@@ -101,8 +91,9 @@ impl RowsPart {
         let place = self.body.len() as u16;
         self.offsets.reserve(1)?;
         append_row(self.version, &mut self.body, shared, entry)?;
-        if self.names_next() {
-            self.offsets.push_reserved(place);
+        match self.version {
+            Version::V2 if !is_restart(self.num_rows) => {}
+            _ => self.offsets.push_reserved(place),
         }
         Ok(())
     }
