@@ -1,5 +1,5 @@
 -- The row between two places is the one that begins the bytes there.
-use Rattle.std.proofs.Common.{◌≡◌, ℕ, ◌+◌, if◌then◌else◌, true, false, ◌<◌, ◌^◌, List, length, take, ◌++◌, Result, Ok, Err, refl, sym, ap, subst, ◌∙◌, ◌⊎◌, inl, inr, Bool, cond, arith}
+use Rattle.std.proofs.Common.{◌≡◌, ℕ, ◌+◌, if◌then◌else◌, true, false, ◌<◌, ◌^◌, List, length, take, Result, Ok, Err, refl, sym, ap, subst, ◌∙◌, ◌⊎◌, inl, inr, Bool, cond, arith}
 use Rattle.std.specs.Prelude.{IfOk, IfErr}
 use Rattle.slate_types.specs.declared.error.SlateDBError.{SlateDBError}
 use Rattle.slate_types.specs.declared.error.SlateDBError.TheVariants.{CorruptTable, OutOfMemory}

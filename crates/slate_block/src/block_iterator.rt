@@ -93,7 +93,7 @@ impl<B: BlockLike> BlockIterator<B> {
     {
         let place = place_in(self.order, self.start, self.end, index);
         let (body, offsets) = (self.block.body(), self.block.offsets());
-        let upto = place_behind(body.len(), offsets, place);
+        let upto = place_behind(body, offsets, place);
         row_upto(
             alloc,
             body,
