@@ -9,6 +9,7 @@ pub mod BackSteps
 pub mod BackLaws
 pub mod FlagLaws
 pub mod RowLaws
+pub mod Failing
 pub mod FieldLaws
 pub mod ReadRows
 pub mod ReadingLaws

@@ -1,5 +1,7 @@
 -- How many bytes two keys share.
-use Rattle.std.proofs.Common.{◌≡◌, ℕ, zero, suc, ◌+◌, ◌-◌, ◌<◌, ◌≤◌, Bool, true, false, cond, eqb, nat_eq, List, [], ◌∷◌, ◌++◌, length, get_or, take, drop, refl, sym, subst, ◌∙◌, arith}
+use Rattle.std.proofs.Common.{◌≡◌, ℕ, zero, suc, ◌+◌, ◌-◌, ◌<◌, ◌≤◌, Bool, true, false, cond, eqb, nat_eq, List, [], ◌∷◌, ◌++◌, length, get_or, take, drop, refl, sym, subst, ◌∙◌, arith, ◌^◌}
+use Rattle.slate_block.specs.WholeKeys.{IsRestored}
+use Rattle.std.proofs.lemmas.List.{length-append, length-take}
 use Rattle.std.specs.List.{common_prefix_len}
 use Rattle.std.specs.Prelude.{slice_range}
 use Rattle.std.proofs.lemmas.Bool.{eq-eqb}
@@ -33,3 +35,10 @@ chunk_again a b at h e =
     let k : at + 8 - at ≡ 8 = omega arith in
     let same : take 8 (drop at a) ≡ take 8 (drop at b) = subst (λ (n : ℕ). take n (drop at a) ≡ take n (drop at b)) k ((bytes_eq-Decides (slice_range a at (at + 8)) (slice_range b at (at + 8))).0 e) in
     chunk_more a b at 8 h same
+
+-- so many bytes of another key and a suffix are a key
+pub whole_restored : (n : ℕ) (other suffix : List ℕ) → n ≤ length other → 0 < n + length suffix → n + length suffix < 2 ^ 16 → IsRestored n other suffix
+whole_restored n other suffix le some few =
+    let front = length-take n other in
+    let whole = length-append (take n other) suffix in
+    (le, (omega (arith, front, whole, le, some), omega (arith, front, whole, le, few)))
