@@ -36,10 +36,6 @@ pub refused_or_done : (rows : List RowEntry) (whole now : List RowRead) (e m : S
 refused_or_done rows whole now e m h (inl same) = inl same
 refused_or_done rows whole now e m h (inr step) = inr (group_refused rows whole now e h step)
 
-pub begun_refused : (whole : List RowRead) (e m : SlateDBError) → (e ≡ m) ⊎ (whole ≡ Err e ∷ []) → (e ≡ m) ⊎ (all_ok whole ≡ Err e)
-begun_refused whole e m (inl h) = inl h
-begun_refused whole e m (inr h) = inr (ap all_ok h)
-
 -- ---- rows at the end
 
 abbrev pub back_of : List RowEntry → List RowRead
@@ -115,7 +111,3 @@ nothing_kept body offsets n rows e = ap (λ (l : List RowEntry). back_of l ++ re
 pub refused_or_back : (body offsets : List ℕ) (m n : ℕ) (e d : SlateDBError) → m ≡ suc n → (e ≡ d) ⊎ (all_ok (restart_at body offsets n) ≡ Err e) → (e ≡ d) ⊎ (slice_get (reads_back m body offsets) 0 ≡ Some (Err e))
 refused_or_back body offsets m n e d same (inl h) = inl h
 refused_or_back body offsets m n e d same (inr h) = inr (back_refused body offsets m n e same h)
-
-pub none_back : (body offsets : List ℕ) (n : ℕ) → n ≡ 0 → reads_back n body offsets ≡ []
-unfolding reads_back
-none_back body offsets n e = ap (λ (k : ℕ). reads_back k body offsets) e

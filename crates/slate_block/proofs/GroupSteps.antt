@@ -17,11 +17,6 @@ use Rattle.slate_block.proofs.GroupRows.{rows_v2, rows_are}
 
 -- ---- damage
 
-pub damage_in : (n : ℕ) (e : SlateDBError) → IsDamageIn n e → IsDamage e
-damage_in n (CorruptTable place) h = tt
-damage_in n (InvalidRowFlags b) h = tt
-damage_in n _ h = h
-
 pub damage_moved : (n at : ℕ) (e : SlateDBError) → IsDamageIn n e → IsDamage (moved at e)
 damage_moved n at (CorruptTable place) h = tt
 damage_moved n at (InvalidRowFlags b) h = tt

@@ -62,16 +62,6 @@ weight_small (suc (suc (suc zero))) p = omega arith
 weight_small (suc (suc (suc (suc zero)))) p = omega arith
 weight_small (suc (suc (suc (suc (suc k))))) p = absurd (omega arith)
 
-pub none_completed : (weight low index : ℕ) → completed weight low index None ≡ None
-none_completed weight low index = refl
-
-pub completed_first : (found : Option (ℕ × ℕ)) → completed 1 0 0 found ≡ found
-completed_first None = refl
-completed_first (Some x) =
-    let a : 0 + 1 * x.0 ≡ x.0 = omega arith in
-    let b : 0 + x.1 ≡ x.1 = omega arith in
-    λ i. Some (a i, b i)
-
 and_false : (t : Bool) → (t && false) ≡ false
 and_false true = refl
 and_false false = refl

@@ -9,11 +9,11 @@ pub mod BackSteps
 pub mod BackLaws
 pub mod FlagLaws
 pub mod RowLaws
+pub mod Failing
 pub mod FieldLaws
 pub mod ReadRows
 pub mod ReadingLaws
 pub mod ReadingLawsV1
-pub mod Appending
 pub mod Prefixes
 pub mod OffsetLaws
 pub mod LongestFronts

@@ -1,5 +1,5 @@
 -- The row between two places is the one that begins the bytes there.
-use Rattle.std.proofs.Common.{◌≡◌, ℕ, ◌+◌, if◌then◌else◌, true, false, ◌<◌, ◌^◌, List, length, Result, Ok, Err, refl, sym, ap, subst, ◌∙◌, ◌⊎◌, inl, inr, Bool, cond, arith}
+use Rattle.std.proofs.Common.{◌≡◌, ℕ, ◌+◌, if◌then◌else◌, true, false, ◌<◌, ◌^◌, List, length, take, Result, Ok, Err, refl, sym, ap, subst, ◌∙◌, ◌⊎◌, inl, inr, Bool, cond, arith}
 use Rattle.std.specs.Prelude.{IfOk, IfErr}
 use Rattle.slate_types.specs.declared.error.SlateDBError.{SlateDBError}
 use Rattle.slate_types.specs.declared.error.SlateDBError.TheVariants.{CorruptTable, OutOfMemory}
@@ -13,6 +13,10 @@ use Rattle.slate_block.specs.Damage.{◌>>=◌, layout_v1, layout_v2, IsDamageIn
 use Rattle.slate_block.specs.RowReading.{entry_of_v1, entry_of_v2, row_v1_of, row_v2_of}
 use Rattle.slate_block.specs.Walks.{between, entry_v2_in, is_restored, moved, moved_result, row_v1_in, row_v2_in, whole_v1, whole_v2}
 use Rattle.slate_block.specs.BlockWalks.{IsDamage}
+use Rattle.slate_block.specs.WholeKeys.{IsRestored}
+use Rattle.std.proofs.lemmas.Bool.{le-leb, lt-ltb}
+use Rattle.std.proofs.lemmas.List.{length-append, length-take}
+use Rattle.slate_block.proofs.WalkedBlocks.{restored, three_from}
 use Rattle.slate_block.specs.PlacedRows.{as_read, fields_of, found_of, placed, row_in, suffix_of, whole_of}
 
 abbrev found_v1 : List ℕ → ℕ → SstRowEntry × ℕ → Result (RowEntry × ℕ) SlateDBError
@@ -96,3 +100,20 @@ whole_damage P (Err e) from m h = whole_damaged from e m h
 pub restored_within : (from n place : ℕ) (e : SlateDBError) → from + n < 2 ^ 64 → (e ≡ OutOfMemory) ⊎ (e ≡ CorruptTable 0) → e ≡ CorruptTable place → from + place < 2 ^ 64
 restored_within from n place e lt (inl h) is = absurd cc
 restored_within from n place e lt (inr h) is = let same : place ≡ 0 = cc in omega (arith, lt, same)
+
+-- ---- keys that are restored, and others
+
+pub restored_true : (n : ℕ) (other suffix : List ℕ) → IsRestored n other suffix → is_restored n other suffix ≡ true
+restored_true n other suffix key =
+    let front = length-take n other in
+    let whole = length-append (take n other) suffix in
+    three_from _ _ _ (le-leb _ _ key.0) (lt-ltb _ _ (omega (arith, front, whole, key.0, key.1.0))) (lt-ltb _ _ (omega (arith, front, whole, key.0, key.1.1)))
+
+pub refused_key : (n from : ℕ) (other suffix : List ℕ) (e : SlateDBError) → (e ≡ OutOfMemory) ⊎ (e ≡ CorruptTable 0) → (IsRestored n other suffix → e ≡ OutOfMemory) →
+    (moved from e ≡ OutOfMemory) ⊎ ((is_restored n other suffix ≡ false) × (moved from e ≡ CorruptTable from))
+refused_key n from other suffix e (inl out) only = inl (ap (moved from) out)
+refused_key n from other suffix e (inr here) only = by (is_restored n other suffix) refl
+  where
+    by : (b : Bool) → is_restored n other suffix ≡ b → (moved from e ≡ OutOfMemory) ⊎ ((is_restored n other suffix ≡ false) × (moved from e ≡ CorruptTable from))
+    by true is = let key = restored n other suffix is in let out = only (key.0.0, key.1) in absurd cc
+    by false is = let place : from + 0 ≡ from = omega arith in inr (is, ap (moved from) here ∙ ap CorruptTable place)

@@ -1,5 +1,5 @@
 -- How many bytes a row has.
-use Rattle.std.proofs.Common.{◌≡◌, ℕ, zero, suc, ◌+◌, ◌-◌, ◌/◌, ◌%◌, ◌<◌, ◌≤◌, ◌^◌, Bool, true, false, cond, ltb, min, List, [], ◌∷◌, ◌++◌, length, drop, refl, ap, ◌∙◌, append_assoc, arith, length-append, length-drop}
+use Rattle.std.proofs.Common.{◌≡◌, ℕ, zero, suc, ◌+◌, ◌-◌, ◌/◌, ◌%◌, ◌<◌, ◌≤◌, ◌^◌, Bool, true, false, cond, ltb, min, List, [], ◌∷◌, ◌++◌, length, drop, refl, arith, length-append, length-drop}
 use Rattle.std.proofs.lemmas.Bool.{ltb-true, ltb-false}
 use Rattle.std.specs.Prelude.{Option, Some, None, ℤ}
 use Rattle.slate_types.specs.declared.types.ValueDeletable.{ValueDeletable}
@@ -103,9 +103,3 @@ small_v1 n r k v = omega (arith, small_stamp r.create_ts, small_stamp r.expire_t
 -- the size that a row is counted with is not cut
 pub counted_v1 : (n : ℕ) (r : RowEntry) → length r.key < 2 ^ 16 → length (operand r) < 2 ^ 32 → min (encoded_size n r) (2 ^ 64 - 1) ≡ length (v1_bytes (entry_v1 n r))
 counted_v1 n r k v = omega (arith, length_v1 n r, small_v1 n r k v)
-
--- what is written of a value that is no tombstone
-pub value_grown : (out now : List ℕ) (v : ValueDeletable) → (v ≡ Tombstone → ⊥) → now ≡ out ++ be32 (length (bytes_of v)) → now ++ bytes_of v ≡ out ++ v1_value v
-value_grown out now (Value bytes) some e = ap (λ (l : List ℕ). l ++ bytes) e ∙ append_assoc out (be32 (length bytes)) bytes
-value_grown out now (Merge bytes) some e = ap (λ (l : List ℕ). l ++ bytes) e ∙ append_assoc out (be32 (length bytes)) bytes
-value_grown out now Tombstone some e = absurd (some refl)

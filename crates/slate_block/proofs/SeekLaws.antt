@@ -51,9 +51,6 @@ last_counted order key reads n i row e at b =
     let size : suc i ≡ n = omega (arith, e) in
     subst (λ (k : ℕ). LastBefore order key (take k reads)) size (last_taken order key reads i row at b)
 
-pub last_of_none : (order : IterationOrder) (key : List ℕ) (reads : List RowRead) (n : ℕ) → n ≡ 0 → LastBefore order key (take n reads)
-last_of_none order key reads n e = subst (λ (k : ℕ). LastBefore order key (take k reads)) (sym e) tt
-
 pub past_counted : (order : IterationOrder) (key : List ℕ) (reads after : List RowRead) (n : ℕ) → after ≡ drop n reads → LastBefore order key (take n reads) → IsPast order key reads after
 past_counted order key reads after n e last = record { front = take n reads; parts = sym (take-append-drop n reads) ∙ ap (λ (l : List RowRead). take n reads ++ l) (sym e); last = last }
 

@@ -163,9 +163,6 @@ jump_start body offsets place start n key s le in_block b =
       begins = inr (some.0, more, first, begins_with Ascending key body offsets n some.0 some.1 some.2 b);
     }
 
-pub same_start : (order : IterationOrder) (key : List ℕ) (before start : List RowRead) → start ≡ before → IsStart order key before start
-same_start order key before start e = record { front = []; parts = sym e; begins = inl refl }
-
 -- ---- the whole seek
 
 stops_before : (order : IterationOrder) (key : List ℕ) (read : RowRead) (reads : List RowRead) → IsBeforeIfRead order key read → StopsAt order key (read ∷ reads) → BeginsRead (read ∷ reads) → ⊥

@@ -6,6 +6,7 @@ ghost use Rattle.slate_block.specs.BlockReading.{IsApart, offsets_of_block};
 ghost use Rattle.slate_block.specs.BlockSpelling.{block_spelling};
 
 use crate::offsets::{counted_offsets, offsets_from};
+use crate::writing::put;
 use bytes::Bytes;
 use slate_types::SlateDBError;
 use std::alloc::Global;
@@ -28,7 +29,7 @@ impl Block {
     {
         let len = self.body.len() + 2 * self.offsets.len() + 2;
         let mut out = Vec::with_capacity(alloc, len)?;
-        out.extend_from_slice(self.body.as_slice())?;
+        put(&mut out, self.body.as_slice());
         with_offsets(out, &self.offsets)
     }
 
@@ -73,11 +74,12 @@ pub(crate) fn with_offsets(mut body: Vec<u8>, offsets: &[u16]) -> Result<Bytes, 
     ensures spelling { IfOk result (λ bytes. bytes ≡ block_spelling body.items offsets.now) }
     ensures cause { IsOkUnless result SlateDBError.OutOfMemory }
 {
+    body.reserve(2 * offsets.len() + 2)?;
     for offset in offsets {
-        body.extend_from_slice(&offset.to_be_bytes())?;
+        put(&mut body, &offset.to_be_bytes());
     }
-    body.extend_from_slice(&(offsets.len() as u16).to_be_bytes())?;
-    Ok(Bytes::from_vec(body)?)
+    put(&mut body, &(offsets.len() as u16).to_be_bytes());
+    Bytes::from_vec(body).map_err(SlateDBError::from)
 }
 
 /// How many rows of each kind a block has.

@@ -93,7 +93,7 @@ impl<B: BlockLike> BlockIterator<B> {
     {
         let place = place_in(self.order, self.start, self.end, index);
         let (body, offsets) = (self.block.body(), self.block.offsets());
-        let upto = place_behind(body.len(), offsets, place);
+        let upto = place_behind(body, offsets, place);
         row_upto(
             alloc,
             body,
@@ -160,24 +160,16 @@ impl<B: BlockLike> BlockIterator<B> {
         ensures before { IfOk result (λ before. (row : RowEntry) → slice_get self.now.reads index ≡ Some (Ok row) → before ≡ comes_before self.now.order row.key key.now) }
         ensures cause { IfErr result (λ e. (e ≡ SlateDBError.OutOfMemory) ⊎ Refuses self.now.reads e) }
     {
-        if let Some(before) = self.key_is_before(index, key) {
+        let place = place_in(self.order, self.start, self.end, index);
+        let (body, offsets) = (self.block.body(), self.block.offsets());
+        let first = self.first_key.as_slice();
+        if let Some(before) = is_before_at(self.order, body, first, offsets, place, key) {
             return Ok(before);
         }
         let row = self.row(alloc, index)?;
         let before = self.order.puts_before(row.key.as_slice(), key);
         drop(row);
         Ok(before)
-    }
-
-    /// The same by the key alone, where it stands.
-    fn key_is_before(&self, index: usize, key: &[u8]) -> Option<bool>
-        requires { index < length self.now.reads }
-        ensures { IfSome result (λ before. (row : RowEntry) → slice_get self.now.reads index ≡ Some (Ok row) → before ≡ comes_before self.now.order row.key key.now) }
-    {
-        let place = place_in(self.order, self.start, self.end, index);
-        let first = self.first_key.as_slice();
-        let offsets = self.block.offsets();
-        is_before_at(self.order, self.block.body(), first, offsets, place, key)
     }
 
     /// Takes off exactly the leading rows that the order puts before the key, where the rows come in the order. Where some

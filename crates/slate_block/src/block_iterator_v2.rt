@@ -59,8 +59,13 @@ impl<B: BlockLike> AscendingState<B> {
         ensures cause { IfErr result (λ e. (e ≡ SlateDBError.OutOfMemory) ⊎ Refuses self.old.reads e) }
         ensures unchanged { OnErr result (self.new ≡ self.old) }
     {
-        let (body, offsets) = (self.block.body(), self.block.offsets());
-        self.place = seek_key(alloc, body, offsets, &self.place, key)?;
+        self.place = seek_key(
+            alloc,
+            self.block.body(),
+            self.block.offsets(),
+            &self.place,
+            key,
+        )?;
         Ok(())
     }
 }

@@ -1,5 +1,5 @@
 //! Rows of version 1 as bytes.
-ghost use Rattle.std.specs.Prelude.{◌≡◌, ◌≤◌, ◌<◌, ◌⊎◌, ◌++◌, ℕ, List, Some, Ok, Err, length, take, slice_index, OnOk, OnErr, IfOk, IfErr, IsOkUnless};
+ghost use Rattle.std.specs.Prelude.{◌≡◌, ◌≤◌, ◌<◌, ◌⊎◌, ◌++◌, ℕ, List, Some, Ok, Err, length, slice_index, OnOk, OnErr, IfOk, IfErr, IsOkUnless};
 ghost use Rattle.slate_block.specs.declared.row.SstRowEntry.{SstRowEntry};
 ghost use Rattle.slate_block.specs.Damage.{IsDamageIn};
 ghost use Rattle.slate_block.specs.RowSpelling.{v1_bytes, FitsV1};
@@ -7,7 +7,7 @@ ghost use Rattle.slate_block.specs.RowReading.{row_v1_of, refusal, BeginsV1};
 
 use crate::fields::fields_v1;
 use crate::row::{SstRowEntry, read_expiry, row_parts};
-use crate::writing::{append_meta, append_value_v1, cut_unwritten};
+use crate::writing::{MAX_FIELDS_LEN, put, put_meta, put_value_v1, value_bytes};
 use bytes::{Buf, Bytes};
 use slate_types::{SlateDBError, ValueDeletable};
 use std::alloc::AllocError;
@@ -23,12 +23,18 @@ impl SstRowCodecV0 {
         ensures unchanged { OnErr result (out.new.items ≡ out.old.items) }
         ensures cause { IsOkUnless result SlateDBError.OutOfMemory }
     {
-        let suffix = row.key_suffix.as_slice();
-        let (shared, value) = (row.key_prefix_len, &row.value);
+        let (suffix, value) = (row.key_suffix.as_slice(), &row.value);
         let (expire_ts, create_ts) = (row.expire_ts, row.create_ts);
-        let start = out.len();
-        let written = append_row(out, shared, suffix, row.seq, value, expire_ts, create_ts);
-        cut_unwritten(out, start, written)
+        append_row(
+            out,
+            row.key_prefix_len,
+            suffix,
+            row.seq,
+            value,
+            expire_ts,
+            create_ts,
+        )
+        .map_err(SlateDBError::from)
     }
 
     /// Takes the row off that begins the input; its suffix and its value share the input's buffer. A tombstone is read
@@ -54,7 +60,7 @@ impl SstRowCodecV0 {
     }
 }
 
-/// Appends the row of these parts. After an `Err` more may stand behind what `out` held.
+/// Appends the row of these parts. `AllocError` leaves `out` as it was.
 pub(crate) fn append_row(
     out: &mut Vec<u8>,
     shared: u16,
@@ -66,11 +72,13 @@ pub(crate) fn append_row(
 ) -> Result<(), AllocError>
     requires { FitsV1 (record { key_prefix_len = shared; key_suffix = suffix.now; seq = seq; expire_ts = expire_ts; create_ts = create_ts; value = value.now }) }
     ensures appended { OnOk result (out.new.items ≡ out.old.items ++ v1_bytes (record { key_prefix_len = shared; key_suffix = suffix.now; seq = seq; expire_ts = expire_ts; create_ts = create_ts; value = value.now })) }
-    ensures kept { OnErr result (take (length out.old.items) out.new.items ≡ out.old.items) }
+    ensures unchanged { OnErr result (out.new.items ≡ out.old.items) }
 {
-    out.extend_from_slice(&shared.to_be_bytes())?;
-    out.extend_from_slice(&(suffix.len() as u16).to_be_bytes())?;
-    out.extend_from_slice(suffix)?;
-    append_meta(out, seq, value, expire_ts, create_ts)?;
-    append_value_v1(out, value)
+    out.reserve(suffix.len() + value_bytes(value).len() + MAX_FIELDS_LEN)?;
+    put(out, &shared.to_be_bytes());
+    put(out, &(suffix.len() as u16).to_be_bytes());
+    put(out, suffix);
+    put_meta(out, seq, value, expire_ts, create_ts);
+    put_value_v1(out, value);
+    Ok(())
 }

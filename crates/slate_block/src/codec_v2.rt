@@ -1,5 +1,5 @@
 //! Rows of version 2 as bytes.
-ghost use Rattle.std.specs.Prelude.{◌≡◌, ◌≤◌, ◌⊎◌, ◌++◌, ℕ, List, Some, Ok, Err, ◌<◌, slice_index, length, take, OnOk, OnErr, IfOk, IfErr, IsOkUnless};
+ghost use Rattle.std.specs.Prelude.{◌≡◌, ◌≤◌, ◌⊎◌, ◌++◌, ℕ, List, Some, Ok, Err, ◌<◌, slice_index, length, OnOk, OnErr, IfOk, IfErr, IsOkUnless};
 ghost use Rattle.slate_block.specs.declared.row.SstRowEntryV2.{SstRowEntryV2};
 ghost use Rattle.slate_block.specs.Damage.{IsDamageIn};
 ghost use Rattle.slate_block.specs.RowSpelling.{v2_bytes, FitsV2};
@@ -7,8 +7,8 @@ ghost use Rattle.slate_block.specs.RowReading.{row_v2_of, key_v2_of, refusal, Be
 
 use crate::fields::{fields_v2, key_fields_v2};
 use crate::row::{SstRowEntryV2, row_parts};
-use crate::varint::append_varint;
-use crate::writing::{append_meta, cut_unwritten, value_bytes};
+use crate::varint::put_varint;
+use crate::writing::{MAX_FIELDS_LEN, put, put_meta, value_bytes};
 use bytes::{Buf, Bytes};
 use slate_types::{SlateDBError, ValueDeletable};
 use std::alloc::AllocError;
@@ -24,12 +24,18 @@ impl SstRowCodecV2 {
         ensures unchanged { OnErr result (out.new.items ≡ out.old.items) }
         ensures cause { IsOkUnless result SlateDBError.OutOfMemory }
     {
-        let suffix = row.key_suffix.as_slice();
-        let (shared, value) = (row.shared_bytes, &row.value);
+        let (suffix, value) = (row.key_suffix.as_slice(), &row.value);
         let (expire_ts, create_ts) = (row.expire_ts, row.create_ts);
-        let start = out.len();
-        let written = append_row(out, shared, suffix, row.seq, value, expire_ts, create_ts);
-        cut_unwritten(out, start, written)
+        append_row(
+            out,
+            row.shared_bytes,
+            suffix,
+            row.seq,
+            value,
+            expire_ts,
+            create_ts,
+        )
+        .map_err(SlateDBError::from)
     }
 
     /// Takes the row off that begins the input; its suffix and its value share the input's buffer. An `Err` leaves the input
@@ -70,7 +76,7 @@ impl SstRowCodecV2 {
     }
 }
 
-/// Appends the row of these parts. After an `Err` more may stand behind what `out` held.
+/// Appends the row of these parts. `AllocError` leaves `out` as it was.
 pub(crate) fn append_row(
     out: &mut Vec<u8>,
     shared: u32,
@@ -82,13 +88,15 @@ pub(crate) fn append_row(
 ) -> Result<(), AllocError>
     requires { FitsV2 (record { shared_bytes = shared; key_suffix = suffix.now; seq = seq; expire_ts = expire_ts; create_ts = create_ts; value = value.now }) }
     ensures appended { OnOk result (out.new.items ≡ out.old.items ++ v2_bytes (record { shared_bytes = shared; key_suffix = suffix.now; seq = seq; expire_ts = expire_ts; create_ts = create_ts; value = value.now })) }
-    ensures kept { OnErr result (take (length out.old.items) out.new.items ≡ out.old.items) }
+    ensures unchanged { OnErr result (out.new.items ≡ out.old.items) }
 {
     let bytes = value_bytes(value);
-    append_varint(out, shared)?;
-    append_varint(out, suffix.len() as u32)?;
-    append_varint(out, bytes.len() as u32)?;
-    out.extend_from_slice(suffix)?;
-    out.extend_from_slice(bytes)?;
-    append_meta(out, seq, value, expire_ts, create_ts)
+    out.reserve(suffix.len() + bytes.len() + MAX_FIELDS_LEN)?;
+    put_varint(out, shared);
+    put_varint(out, suffix.len() as u32);
+    put_varint(out, bytes.len() as u32);
+    put(out, suffix);
+    put(out, bytes);
+    put_meta(out, seq, value, expire_ts, create_ts);
+    Ok(())
 }

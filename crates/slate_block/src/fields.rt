@@ -77,11 +77,10 @@ pub fn u16_field(bytes: &[u8], at: usize) -> Result<(u16, usize), SlateDBError>
     ensures damage { IfErr result (IsDamageIn (length bytes.now)) }
     ensures within { IfOk result (λ field. field.1 ≤ length bytes.now) }
 {
-    let rest = &bytes[at..];
-    if rest.len() < 2 {
-        return Err(corrupt(at));
+    match bytes[at..].first_chunk::<2>() {
+        Some(number) => Ok((u16::from_be_bytes(*number), at + 2)),
+        None => Err(corrupt(at)),
     }
-    Ok((u16::from_be_bytes([rest[0], rest[1]]), at + 2))
 }
 
 /// A number of four bytes, and the place behind it. `CorruptTable` with the place where the bytes end before.
@@ -92,12 +91,10 @@ pub fn u32_field(bytes: &[u8], at: usize) -> Result<(u32, usize), SlateDBError>
     ensures damage { IfErr result (IsDamageIn (length bytes.now)) }
     ensures within { IfOk result (λ field. field.1 ≤ length bytes.now) }
 {
-    let rest = &bytes[at..];
-    if rest.len() < 4 {
-        return Err(corrupt(at));
+    match bytes[at..].first_chunk::<4>() {
+        Some(number) => Ok((u32::from_be_bytes(*number), at + 4)),
+        None => Err(corrupt(at)),
     }
-    let number = u32::from_be_bytes([rest[0], rest[1], rest[2], rest[3]]);
-    Ok((number, at + 4))
 }
 
 /// A number of eight bytes, and the place behind it. `CorruptTable` with the place where the bytes end before.
@@ -108,14 +105,10 @@ pub fn u64_field(bytes: &[u8], at: usize) -> Result<(u64, usize), SlateDBError>
     ensures damage { IfErr result (IsDamageIn (length bytes.now)) }
     ensures within { IfOk result (λ field. field.1 ≤ length bytes.now) }
 {
-    let rest = &bytes[at..];
-    if rest.len() < 8 {
-        return Err(corrupt(at));
+    match bytes[at..].first_chunk::<8>() {
+        Some(number) => Ok((u64::from_be_bytes(*number), at + 8)),
+        None => Err(corrupt(at)),
     }
-    let number = u64::from_be_bytes([
-        rest[0], rest[1], rest[2], rest[3], rest[4], rest[5], rest[6], rest[7],
-    ]);
-    Ok((number, at + 8))
 }
 
 /// So many bytes: their place, and the place behind them. `CorruptTable` with the place where the bytes end before.

@@ -36,7 +36,7 @@ pub fn is_before_at(
     ensures { IfSome result (λ before. (row : RowEntry) → slice_get (reads_v1 body.now first.now offsets.now (length body.now)) index ≡ Some (Ok row) → before ≡ comes_before order row.key key.now) }
 {
     let from = offsets[index] as usize;
-    let upto = place_behind(body.len(), offsets, index);
+    let upto = place_behind(body, offsets, index);
     if upto < from || body.len() < upto {
         return None;
     }

@@ -4,9 +4,10 @@ ghost use Rattle.std.specs.List.{common_prefix_len};
 ghost use Rattle.slate_block.specs.BlockSpelling.{whole_key};
 ghost use Rattle.slate_block.specs.WholeKeys.{IsRestored};
 
+use crate::writing::put;
 use bytes::Bytes;
 use slate_types::SlateDBError;
-use std::alloc::{AllocError, Global};
+use std::alloc::Global;
 
 /// Bytes that are compared at once.
 const CHUNK: usize = 8;
@@ -60,18 +61,10 @@ pub fn restored_key(
         return Err(SlateDBError::CorruptTable { place: 0 });
     }
     if shared == 0 {
-        return Ok(suffix.clone()?);
+        return suffix.clone().map_err(SlateDBError::from);
     }
-    let front = &other[..shared];
-    Ok(joined_key(alloc, front, suffix.as_slice(), len)?)
-}
-
-/// The key of two parts that have so many bytes together.
-fn joined_key(alloc: Global, front: &[u8], suffix: &[u8], len: usize) -> Result<Bytes, AllocError>
-    ensures { IfOk result (λ key. key ≡ front.now ++ suffix.now) }
-{
     let mut key = Vec::with_capacity(alloc, len)?;
-    key.extend_from_slice(front)?;
-    key.extend_from_slice(suffix)?;
-    Ok(Bytes::from_vec(key)?)
+    put(&mut key, &other[..shared]);
+    put(&mut key, suffix.as_slice());
+    Bytes::from_vec(key).map_err(SlateDBError::from)
 }

@@ -36,7 +36,7 @@ fn between(body: &Bytes, from: usize, upto: usize) -> Result<Bytes, SlateDBError
     ensures damage { IfErr result (λ e. (e ≡ SlateDBError.OutOfMemory) ⊎ IsDamage e) }
 {
     if from <= upto && upto <= body.len() {
-        return Ok(body.slice(from..upto)?);
+        return body.slice(from..upto).map_err(SlateDBError::from);
     }
     Err(corrupt(from))
 }
@@ -137,15 +137,15 @@ pub fn row_upto(
     Err(corrupt(end))
 }
 
-/// Where the row behind the one at an index begins.
-pub fn place_behind(end: usize, offsets: &[u16], index: usize) -> usize
+/// Where the row or the group behind the one at an index begins, or where the rows' part ends.
+pub fn place_behind(body: &Bytes, offsets: &[u16], index: usize) -> usize
     requires { index < length offsets.now }
-    ensures { result ≡ next_place end (drop (index + 1) offsets.now) }
+    ensures { result ≡ next_place (length body.now) (drop (index + 1) offsets.now) }
 {
     if index + 1 < offsets.len() {
         return offsets[index + 1] as usize;
     }
-    end
+    body.len()
 }
 
 /// Whether the offsets are as many as a block can name, and begin at 0.
@@ -168,7 +168,7 @@ pub fn block_key(alloc: Global, body: &Bytes, offsets: &[u16]) -> Result<Bytes, 
     if !are_named(offsets) {
         return Err(corrupt(0));
     }
-    let upto = place_behind(body.len(), offsets, 0);
+    let upto = place_behind(body, offsets, 0);
     let row = row_upto(alloc, body, &[], offsets[0] as usize, upto)?;
     drop(row.value);
     Ok(row.key)

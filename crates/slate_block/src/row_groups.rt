@@ -2,10 +2,10 @@
 ghost use Rattle.std.specs.Prelude.{◌≡◌, ◌<◌, ◌+◌, [], ◌∷◌, ◌⊎◌, ◌&&◌, ◌||◌, ◌==◌, false, Ok, Err, IfOk, IfErr, length};
 ghost use Rattle.slate_block.specs.Walks.{row_v2_in};
 ghost use Rattle.slate_block.specs.BlockWalks.{IsDamage};
-ghost use Rattle.slate_block.specs.GroupWalks.{group_end, group_left, is_over, restart_at};
+ghost use Rattle.slate_block.specs.GroupWalks.{group_left, is_over, restart_at};
 
 use crate::fields::corrupt;
-use crate::places::row_in;
+use crate::places::{place_behind, row_in};
 use crate::rows_part::Version;
 use bytes::Bytes;
 use slate_types::{RowEntry, SlateDBError};
@@ -51,7 +51,7 @@ pub fn first_of_group(
     ensures cause { IfErr result (λ e. (e ≡ SlateDBError.OutOfMemory) ⊎ (restart_at body.now offsets.now number ≡ Err e ∷ [])) }
     ensures damage { IfErr result (λ e. (e ≡ SlateDBError.OutOfMemory) ⊎ IsDamage e) }
 {
-    let end = group_end(body, offsets, number);
+    let end = place_behind(body, offsets, number);
     let group = RowGroup {
         at: offsets[number] as usize,
         end,
@@ -62,17 +62,6 @@ pub fn first_of_group(
     let first = row_and_rest(alloc, body, &group);
     drop(group);
     first
-}
-
-/// Where the group that begins at a restart ends: at the next restart, or with the rows' part.
-pub fn group_end(body: &Bytes, offsets: &[u16], number: usize) -> usize
-    requires { number < length offsets.now }
-    ensures { result ≡ group_end body.now offsets.now number }
-{
-    match offsets.get(number + 1) {
-        Some(end) => *end as usize,
-        None => body.len(),
-    }
 }
 
 /// The next row of a group that isn't over, and what is left behind it.

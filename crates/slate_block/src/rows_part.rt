@@ -2,13 +2,13 @@
 ghost use Rattle.std.specs.Prelude.{◌≡◌, ◌≤◌, ◌<◌, ◌+◌, ◌*◌, ◌^◌, ◌++◌, length, OnOk, OnErr, IsOkUnless};
 ghost use Rattle.slate_block.specs.RowSpelling.{FitsStamp, v2_bytes, stamp_bytes};
 ghost use Rattle.slate_block.specs.BlockSpelling.{entry_v2, is_restart};
-ghost use Rattle.slate_block.specs.Building.{CanTake, number, row_bytes, is_named, named, part_size, next_front, IsSamePart, IsLongerPart};
+ghost use Rattle.slate_block.specs.Building.{CanTake, number, row_bytes, named, part_size, next_front, IsSamePart, IsLongerPart};
 
 use crate::varint::varint_len;
-use crate::writing::cut_unwritten;
 use crate::{codec_v0, codec_v2};
 use bytes::Bytes;
 use slate_types::{RowEntry, SlateDBError};
+use std::alloc::AllocError;
 
 /// In version 2 every row that shares nothing stands so many rows behind the one before it.
 const RESTART_INTERVAL: u16 = 16;
@@ -48,16 +48,6 @@ impl RowsPart {
                 let restart = u64::from(is_restart(self.num_rows));
                 2 + 2 * (offsets + restart) + rows + encoded_size_v2(shared, entry)
             }
-        }
-    }
-
-    /// Whether the next row's place is one of the offsets.
-    fn names_next(&self) -> bool
-        ensures { result ≡ is_named (number self.now.version) self.now.num_rows }
-    {
-        match self.version {
-            Version::V1 => true,
-            Version::V2 => is_restart(self.num_rows),
         }
     }
 
@@ -101,8 +91,9 @@ impl RowsPart {
         let place = self.body.len() as u16;
         self.offsets.reserve(1)?;
         append_row(self.version, &mut self.body, shared, entry)?;
-        if self.names_next() {
-            self.offsets.push_reserved(place);
+        match self.version {
+            Version::V2 if !is_restart(self.num_rows) => {}
+            _ => self.offsets.push_reserved(place),
         }
         Ok(())
     }
@@ -158,25 +149,23 @@ fn stamp_size(stamp: Option<i64>) -> usize
     if stamp.is_some() { 8 } else { 0 }
 }
 
-/// Appends a row. `OutOfMemory` leaves `out` as it was.
+/// Appends a row. `AllocError` leaves `out` as it was.
 fn append_row(
     version: Version,
     out: &mut Vec<u8>,
     shared: usize,
     entry: &RowEntry,
-) -> Result<(), SlateDBError>
+) -> Result<(), AllocError>
     requires lengths { CanTake entry.now }
     requires shared { shared ≤ length entry.now.key }
     requires fits { (entry.now.seq < 2 ^ 64) × FitsStamp entry.now.expire_ts × FitsStamp entry.now.create_ts }
     ensures appended { OnOk result (out.new.items ≡ out.old.items ++ row_bytes (number version) shared entry.now) }
     ensures unchanged { OnErr result (out.new.items ≡ out.old.items) }
-    ensures cause { IsOkUnless result SlateDBError.OutOfMemory }
 {
     let suffix = &entry.key.as_slice()[shared..];
     let (seq, value) = (entry.seq, &entry.value);
     let (expire_ts, create_ts) = (entry.expire_ts, entry.create_ts);
-    let start = out.len();
-    let written = match version {
+    match version {
         Version::V1 => {
             let front = shared as u16;
             codec_v0::append_row(out, front, suffix, seq, value, expire_ts, create_ts)
@@ -185,6 +174,5 @@ fn append_row(
             let front = shared as u32;
             codec_v2::append_row(out, front, suffix, seq, value, expire_ts, create_ts)
         }
-    };
-    cut_unwritten(out, start, written)
+    }
 }

@@ -1,12 +1,12 @@
 //! Numbers of 32 bits in groups of 7 bits, the low group first.
-ghost use Rattle.std.specs.Prelude.{◌≡◌, ◌≤◌, ◌<◌, ◌^◌, ◌++◌, Some, ℕ, List, length, take, OnOk, OnErr, IfSome, IfOk, IfErr, IsOkUnless};
+ghost use Rattle.std.specs.Prelude.{◌≡◌, ◌≤◌, ◌<◌, ◌^◌, ◌+◌, ◌++◌, Some, ℕ, List, length, take, vec_len, vec_capacity, OnOk, OnErr, IfSome, IfOk, IfErr, IsOkUnless};
 ghost use Rattle.std.specs.Result.{result_ok};
 ghost use Rattle.slate_block.specs.Damage.{front_varint, of_32_bits};
 ghost use Rattle.slate_block.specs.Groups.{completed};
 ghost use Rattle.slate_block.specs.Varint.{varint, IsVarint};
 
+use crate::writing::put;
 use slate_types::SlateDBError;
-use std::alloc::AllocError;
 
 /// The longest spelling has five groups.
 const MAX_VARINT_LEN: usize = 5;
@@ -33,15 +33,18 @@ pub fn encode_varint(out: &mut Vec<u8>, value: u32) -> Result<(), SlateDBError>
     ensures unchanged { OnErr result (out.new.items ≡ out.old.items) }
     ensures cause { IsOkUnless result SlateDBError.OutOfMemory }
 {
-    append_varint(out, value)?;
+    out.reserve(MAX_VARINT_LEN)?;
+    put_varint(out, value);
     Ok(())
 }
 
-/// The same.
+/// The same, where there is room for the longest.
 #[tactic(auto, unfolding(crate::specs::Varint::varint))]
-pub(crate) fn append_varint(out: &mut Vec<u8>, value: u32) -> Result<(), AllocError>
-    ensures appended { OnOk result (out.new.items ≡ out.old.items ++ varint value) }
-    ensures unchanged { OnErr result (out.new.items ≡ out.old.items) }
+pub(crate) fn put_varint(out: &mut Vec<u8>, value: u32)
+    requires { vec_len out.old + 5 ≤ vec_capacity out.old }
+    ensures appended { out.new.items ≡ out.old.items ++ varint value }
+    ensures len { vec_len out.new ≤ vec_len out.old + 5 }
+    ensures capacity { vec_capacity out.old ≤ vec_capacity out.new }
 {
     let mut groups = [0u8; MAX_VARINT_LEN];
     let mut len = 0;
@@ -52,7 +55,7 @@ pub(crate) fn append_varint(out: &mut Vec<u8>, value: u32) -> Result<(), AllocEr
         len += 1;
     }
     groups[len] = rest as u8;
-    out.extend_from_slice(&groups[..len + 1])
+    put(out, &groups[..len + 1]);
 }
 
 /// The number whose spelling begins the input, and how many bytes it has. `CorruptTable` exactly where no spelling begins

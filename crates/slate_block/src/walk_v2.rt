@@ -7,7 +7,8 @@ ghost use Rattle.slate_block.specs.BlockWalks.{BeginsRead, IsDamage, IsPast, Ref
 ghost use Rattle.slate_block.specs.GroupWalks.{is_over, left_v2, restart_at, BeginsBefore, IsStart};
 
 use crate::fields::key_fields_v2;
-use crate::row_groups::{RowGroup, first_of_group, group_end, next_of_group};
+use crate::places::place_behind;
+use crate::row_groups::{RowGroup, first_of_group, next_of_group};
 use bytes::Bytes;
 use slate_types::{IterationOrder, RowEntry, SlateDBError};
 use std::alloc::{AllocError, Global};
@@ -172,7 +173,7 @@ pub fn begins_before(
     ensures { (row : RowEntry) (reads : List RowRead) → restart_at body.now offsets.now number ≡ Ok row ∷ reads → result ≡ comes_before order row.key key.now }
 {
     let from = offsets[number] as usize;
-    let end = group_end(body, offsets, number);
+    let end = place_behind(body, offsets, number);
     if from > end || end > body.len() {
         return false;
     }

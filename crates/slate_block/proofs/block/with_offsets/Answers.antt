@@ -1,21 +1,6 @@
 use Rattle.std.proofs.Common.{refl}
-use Rattle.std.proofs.lemmas.Result.{IfOk-from_err, err_from_is_err_and}
+use Rattle.slate_block.proofs.Failing.{out_of_memory}
 use Rattle.slate_block.proofs.block.with_offsets.Goals as goal
 
-pub returns-in_err-extend_from_slice-clause-spelling : goal.returns-in_err-extend_from_slice-clause-spelling
-returns-in_err-extend_from_slice-clause-spelling c = IfOk-from_err c.from_residual.result _ c.from_residual.ensures.0
-
-pub returns-in_err-extend_from_slice-clause-cause : goal.returns-in_err-extend_from_slice-clause-cause
-returns-in_err-extend_from_slice-clause-cause c = let p = err_from_is_err_and c.from_residual.result c.from_residual.ensures.1 in rw (p.1, p.2) refl
-
-pub returns-in_err-extend_from_slice-2-clause-spelling : goal.returns-in_err-extend_from_slice-2-clause-spelling
-returns-in_err-extend_from_slice-2-clause-spelling c = IfOk-from_err c.from_residual-in_err-extend_from_slice-2.result _ c.from_residual-in_err-extend_from_slice-2.ensures.0
-
-pub returns-in_err-extend_from_slice-2-clause-cause : goal.returns-in_err-extend_from_slice-2-clause-cause
-returns-in_err-extend_from_slice-2-clause-cause c = let p = err_from_is_err_and c.from_residual-in_err-extend_from_slice-2.result c.from_residual-in_err-extend_from_slice-2.ensures.1 in rw (p.1, p.2) refl
-
-pub returns-in_err-from_vec-clause-spelling : goal.returns-in_err-from_vec-clause-spelling
-returns-in_err-from_vec-clause-spelling c = IfOk-from_err c.from_residual-in_err-from_vec.result _ c.from_residual-in_err-from_vec.ensures.0
-
-pub returns-in_err-from_vec-clause-cause : goal.returns-in_err-from_vec-clause-cause
-returns-in_err-from_vec-clause-cause c = let p = err_from_is_err_and c.from_residual-in_err-from_vec.result c.from_residual-in_err-from_vec.ensures.1 in rw (p.1, p.2) refl
+pub returns-clause-cause : goal.returns-clause-cause
+returns-clause-cause c = out_of_memory c.from_vec.result c.map_err.result _ c.map_err.ensures.cases refl

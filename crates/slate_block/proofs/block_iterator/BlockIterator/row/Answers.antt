@@ -34,7 +34,7 @@ returns-clause-found g c =
     let offsets = g.B.BlockLike.row_offsets it.block in
     let e = ap (λ (w : ReadsLeft). w.reads) c.self.view_is in
     let within = index_left it.order body it.first_key offsets (length body) it.start it.end c.args.index c.args.self.now.reads c.self.invariant.0 c.self.invariant.1 e c.requires in
-    let found = rw (c.place_behind-upto.ensures, c.place_in-place.ensures, c.len.ensures.value, c.body-body.ensures, c.offsets-offsets.ensures, c.as_slice.ensures) at c.row_upto.ensures.found in
+    let found = rw (c.place_behind-upto.ensures, c.place_in-place.ensures, c.body-body.ensures, c.offsets-offsets.ensures, c.as_slice.ensures) at c.row_upto.ensures.found in
     found_at c.args.self.now.reads c.args.index _ c.row_upto.result (left_at it.order body it.first_key offsets (length body) it.start it.end c.args.index c.args.self.now.reads within c.self.invariant.1 e) found
 
 pub returns-clause-cause : goal.returns-clause-cause
@@ -44,7 +44,7 @@ returns-clause-cause g c =
     let offsets = g.B.BlockLike.row_offsets it.block in
     let e = ap (λ (w : ReadsLeft). w.reads) c.self.view_is in
     let within = index_left it.order body it.first_key offsets (length body) it.start it.end c.args.index c.args.self.now.reads c.self.invariant.0 c.self.invariant.1 e c.requires in
-    let cause = rw (c.place_behind-upto.ensures, c.place_in-place.ensures, c.len.ensures.value, c.body-body.ensures, c.offsets-offsets.ensures, c.as_slice.ensures) at c.row_upto.ensures.cause in
+    let cause = rw (c.place_behind-upto.ensures, c.place_in-place.ensures, c.body-body.ensures, c.offsets-offsets.ensures, c.as_slice.ensures) at c.row_upto.ensures.cause in
     cause_at c.args.self.now.reads c.args.index _ OutOfMemory c.row_upto.result (left_at it.order body it.first_key offsets (length body) it.start it.end c.args.index c.args.self.now.reads within c.self.invariant.1 e) cause
 
 pub returns-clause-damage : goal.returns-clause-damage

@@ -22,7 +22,7 @@ pub returns-in_err-self-inside-clause-cause : goal.returns-in_err-self-inside-cl
 returns-in_err-self-inside-clause-cause g c =
     let p = err_from_is_err_and c.from_residual.result c.from_residual.ensures.1 in
     let e = c.in_err-self-inside.field-0.0 in
-    let cause = rw (c.body-body.ensures, c.offsets-offsets.ensures) at c.in_err-self-inside.ensures.cause in
+    let cause = rw (c.body.ensures, c.offsets.ensures) at c.in_err-self-inside.ensures.cause in
     rw (p.1, p.2) (subst (λ (w : ReadsLeft). (e ≡ OutOfMemory) ⊎ Refuses w.reads e) c.self.view_is cause)
 
 -- ---- the place that was found
@@ -31,18 +31,18 @@ pub returns-clause-past : goal.returns-clause-past
 returns-clause-past g c =
     let block = c.self.inside.block in
     let after = left_v2 (g.B.BlockLike.body_bytes block) (g.B.BlockLike.row_offsets block) c.in_ok-self-inside.field-0 in
-    let past = rw (c.body-body.ensures, c.offsets-offsets.ensures) at c.in_ok-self-inside.ensures.past in
+    let past = rw (c.body.ensures, c.offsets.ensures) at c.in_ok-self-inside.ensures.past in
     subst (λ (w : ReadsLeft). IsPast w.order c.args.key.now w.reads after) c.self.view_is past
 
 pub returns-clause-stops : goal.returns-clause-stops
 returns-clause-stops g c =
     let block = c.self.inside.block in
     let after = left_v2 (g.B.BlockLike.body_bytes block) (g.B.BlockLike.row_offsets block) c.in_ok-self-inside.field-0 in
-    let stops = rw (c.body-body.ensures, c.offsets-offsets.ensures) at c.in_ok-self-inside.ensures.stops in
+    let stops = rw (c.body.ensures, c.offsets.ensures) at c.in_ok-self-inside.ensures.stops in
     subst (λ (w : ReadsLeft). StopsAt w.order c.args.key.now after) c.self.view_is stops
 
 pub returns-clause-read : goal.returns-clause-read
-returns-clause-read g c = rw (c.body-body.ensures, c.offsets-offsets.ensures) at c.in_ok-self-inside.ensures.read
+returns-clause-read g c = rw (c.body.ensures, c.offsets.ensures) at c.in_ok-self-inside.ensures.read
 
 pub returns-clause-rows : goal.returns-clause-rows
 returns-clause-rows g c = sought c.args.self.now.order c.args.key.now c.args.self.now.reads _ (returns-clause-past g c) (returns-clause-stops g c)

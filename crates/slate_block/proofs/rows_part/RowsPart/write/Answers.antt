@@ -18,7 +18,7 @@ pub returns-in_err-append_row-clause-offsets : goal.returns-in_err-append_row-cl
 returns-in_err-append_row-clause-offsets c = IfOk-from_err c.from_residual-in_err-append_row.result _ c.from_residual-in_err-append_row.ensures.0
 
 pub returns-in_err-append_row-clause-cause : goal.returns-in_err-append_row-clause-cause
-returns-in_err-append_row-clause-cause c = let p = err_from_is_err_and c.from_residual-in_err-append_row.result c.from_residual-in_err-append_row.ensures.1 in rw (p.1, p.2) c.in_err-append_row.ensures.cause
+returns-in_err-append_row-clause-cause c = let p = err_from_is_err_and c.from_residual-in_err-append_row.result c.from_residual-in_err-append_row.ensures.1 in rw (p.1, p.2) refl
 
 pub append_row-requires-clause-lengths : goal.append_row-requires-clause-lengths
 append_row-requires-clause-lengths c = c.requires.lengths

@@ -1,8 +1,7 @@
-use Rattle.std.proofs.Common.{◌++◌, List, ℕ, ap, arith, rules}
+use Rattle.std.proofs.Common.{◌∙◌, ◌++◌, List, ℕ, ap, arith, rules}
 use Rattle.slate_block.specs.Varint.{varint}
 use Rattle.slate_block.proofs.Groups.{rest_more, rest_len, group_written, last_written}
-use Rattle.slate_block.proofs.Appending.{grown_ok}
-use Rattle.slate_block.proofs.varint.append_varint.Goals as goal
+use Rattle.slate_block.proofs.varint.put_varint.Goals as goal
 
 pub loop-rest-preserved : goal.loop-rest-preserved
 loop-rest-preserved c =
@@ -16,4 +15,4 @@ loop-rest-preserved c =
 pub returns-clause-appended : goal.returns-clause-appended
 returns-clause-appended c =
     let written = last_written c.loop-rest.groups c.loop-rest.len c.loop-rest.rest (varint c.args.value) c.loop-rest.invariant.long (rest_len c.loop-rest.len c.loop-rest.rest c.loop-rest.invariant.rest) (omega arith) c.loop-rest.invariant.spelled in
-    grown_ok c.extend_from_slice.result c.args.out.now.items _ (c.args.out.now.items ++ varint c.args.value) c.extend_from_slice.new.self.items c.extend_from_slice.ensures.items (ap (λ (l : List ℕ). c.args.out.now.items ++ l) written)
+    c.put.ensures.appended ∙ ap (λ (l : List ℕ). c.args.out.now.items ++ l) written
