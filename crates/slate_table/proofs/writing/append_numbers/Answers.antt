@@ -1,5 +1,7 @@
 use Rattle.std.proofs.lemmas.Result.{IfOk-from_err, err_from_is_err_and}
-use Rattle.std.proofs.Common.{arith}
+use Rattle.std.proofs.Common.{ℕ, ◌<◌, ◌^◌, arith}
+use Rattle.slate_block.specs.RowSpelling.{be64}
+use Rattle.slate_table.proofs.Grown.{one_grown, one_holds, all_grew, all_hold}
 use Rattle.slate_table.proofs.writing.append_numbers.Goals as goal
 
 pub returns-in_err-append_u64-clause-appended : goal.returns-in_err-append_u64-clause-appended
@@ -22,3 +24,18 @@ loop-number-smaller c = omega arith
 
 pub returns-clause-cause : goal.returns-clause-cause
 returns-clause-cause c = tt
+
+pub loop-number-preserved : goal.loop-number-preserved
+loop-number-preserved c =
+    let i = c.loop-number.number-index in
+    let numbers = c.args.numbers.now in
+    record {
+      appended = one_grown be64 numbers i 0 c.args.out.now.items c.loop-number.out.items c.append_u64.new.out.items c.loop-number-test.true c.loop-number.invariant.appended c.in_ok-append_u64.ensures.appended;
+      fit = one_holds (λ (n : ℕ). n < 2 ^ 64) numbers i 0 c.loop-number-test.true c.loop-number.invariant.fit c.append_u64.ensures.fits;
+    }
+
+pub returns-clause-appended : goal.returns-clause-appended
+returns-clause-appended c = all_grew be64 c.args.numbers.now c.loop-number.number-index c.args.out.now.items c.loop-number.out.items c.loop-number-test.false c.loop-number.invariant.appended
+
+pub returns-clause-fit : goal.returns-clause-fit
+returns-clause-fit c = all_hold (λ (n : ℕ). n < 2 ^ 64) c.args.numbers.now c.loop-number.number-index c.loop-number-test.false c.loop-number.invariant.fit

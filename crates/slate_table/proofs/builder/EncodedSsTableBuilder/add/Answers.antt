@@ -8,6 +8,7 @@ use Rattle.slate_table.specs.Table.{AreInOrder}
 use Rattle.slate_table.specs.SectionReading.{changed_by, IsTransformFault}
 use Rattle.slate_table.specs.TableBuilding.{TableBuilding, AreEncoded, IsLimit, section_size}
 use Rattle.slate_table.specs.TableParts.{version_of, Stands, IsAdded}
+use Rattle.slate_table.proofs.Asking.{cause_of, later_of, still_of}
 use Rattle.slate_table.proofs.Results.{err_is, ok_is, where_ok}
 use Rattle.slate_table.proofs.PartsLaws.{added_stands, added_sections, added_rows, added_format, added_size, past_limit, within_none, old_size, ends_a_block}
 use Rattle.slate_table.proofs.builder.EncodedSsTableBuilder.add.Goals as goal
@@ -134,13 +135,13 @@ returns-in-Ok-clause-limit g c =
 
 pub returns-in-Ok-clause-empty : goal.returns-in-Ok-clause-empty
 returns-in-Ok-clause-empty g c = (
-  λ h. absurd (not_empty c.add-ended.result _ _ c.add-ended.ensures.cause h),
+  λ h. absurd (not_empty c.add-ended.result _ _ (cause_of _ _ c.add-ended.result c.add-ended.ensures.asks.counts) h),
   λ none. absurd (omega (arith, none, c.in-Ok.ensures.some)),
 )
 
 pub returns-in-Ok-clause-cause : goal.returns-in-Ok-clause-cause
 returns-in-Ok-clause-cause g c =
-    IfErr-weaker c.add-ended.result _ _ (λ e h. inl h) c.add-ended.ensures.cause
+    IfErr-weaker c.add-ended.result _ _ (λ e h. inl h) (cause_of _ _ c.add-ended.result c.add-ended.ensures.asks.counts)
 
 pub returns-in-Ok-clause-fault : goal.returns-in-Ok-clause-fault
 returns-in-Ok-clause-fault g c =
@@ -154,16 +155,16 @@ returns-in-Ok-clause-fault g c =
 
 pub returns-in-Ok-clause-same_encoded : goal.returns-in-Ok-clause-same_encoded
 returns-in-Ok-clause-same_encoded g c =
-    c.add-ended.ensures.same_encoded
+    c.add-ended.ensures.asks.same_encoded
 
 pub returns-in-Ok-clause-same_decoded : goal.returns-in-Ok-clause-same_decoded
 returns-in-Ok-clause-same_decoded g c =
-    c.add-ended.ensures.same_decoded
+    c.add-ended.ensures.asks.same_decoded
 
 pub returns-in-Ok-clause-later : goal.returns-in-Ok-clause-later
 returns-in-Ok-clause-later g c =
-    c.add-ended.ensures.later
+    later_of _ _ c.add-ended.result c.add-ended.ensures.asks.counts
 
 pub returns-in-Ok-clause-still : goal.returns-in-Ok-clause-still
 returns-in-Ok-clause-still g c =
-    c.add-ended.ensures.still
+    still_of _ _ c.add-ended.result c.add-ended.ensures.asks.counts

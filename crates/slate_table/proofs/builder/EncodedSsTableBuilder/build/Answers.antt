@@ -4,6 +4,7 @@ use Rattle.slate_types.specs.declared.types.RowEntry.{RowEntry}
 use Rattle.slate_table.specs.SectionReading.{changed_by}
 use Rattle.slate_table.specs.TableBuilding.{TableBuilding}
 use Rattle.slate_table.specs.TableParts.{Stands}
+use Rattle.slate_table.proofs.Asking.{cause_of, still_of, later_of}
 use Rattle.slate_table.proofs.BuiltLaws.{built_of, info_of_built}
 use Rattle.slate_table.proofs.builder.EncodedSsTableBuilder.build.Goals as goal
 
@@ -35,7 +36,16 @@ pub returns-clause-version : goal.returns-clause-version
 returns-clause-version g c = IfOk-weaker c.finish-table.result _ _ (λ table is. is ∙ ap (λ (b : TableBuilding). b.version) c.self.view_is) c.finish-table.ensures.version
 
 pub returns-clause-cause : goal.returns-clause-cause
-returns-clause-cause g c = c.finish-table.ensures.cause
+returns-clause-cause g c = cause_of _ _ c.finish-table.result c.finish-table.ensures.asks.counts
 
 pub returns-clause-still : goal.returns-clause-still
-returns-clause-still g c = c.finish-table.ensures.still
+returns-clause-still g c = still_of _ _ c.finish-table.result c.finish-table.ensures.asks.counts
+
+pub returns-clause-later : goal.returns-clause-later
+returns-clause-later g c = later_of _ _ c.finish-table.result c.finish-table.ensures.asks.counts
+
+pub returns-clause-same_encoded : goal.returns-clause-same_encoded
+returns-clause-same_encoded g c = c.finish-table.ensures.asks.same_encoded
+
+pub returns-clause-same_decoded : goal.returns-clause-same_decoded
+returns-clause-same_decoded g c = c.finish-table.ensures.asks.same_decoded
