@@ -6,7 +6,10 @@ use Rattle.slate_types.specs.declared.error.SlateDBError.{SlateDBError}
 use Rattle.slate_types.specs.declared.error.SlateDBError.TheVariants.{BlockTransformError, OutOfMemory}
 use Rattle.slate_types.specs.Faults.{faults_of}
 use Rattle.slate_table.specs.SectionReading.{changed_by, IsTransformFault}
-use Rattle.slate_table.specs.Asking.{Counts, Asks}
+use Rattle.slate_types.specs.Outside.{Objects}
+use Rattle.slate_table.specs.Asking.{Counts, Asks, Stays, Reaches}
+use Rattle.slate_table.proofs.PartReads.{still_ok, still_err, still_longer}
+use Rattle.slate_table.proofs.Results.{store_still, store_err, store_longer}
 
 -- want of memory, where nothing was asked, and behind a call that is Ok
 memory_counts : {A : Type 0} (n m : ℕ) (r : Result A SlateDBError) → m ≡ n → IsOkUnless r OutOfMemory → Counts n m r
@@ -83,3 +86,50 @@ pub still_of : {A : Type 0} (n m : ℕ) (r : Result A SlateDBError) → Counts n
 still_of n m (Ok x) c = inr (inr c)
 still_of n m (Err e) (inl memory, later) = inr (inl (ap (λ (x : SlateDBError). Err x) memory))
 still_of n m (Err e) (inr fault, later) = inl (ap (λ (x : SlateDBError). Err x) fault.0)
+
+-- ---- calls that read
+
+pub unchanged : {X A : Type 0} {encoded decoded : X → List ℕ → List ℕ} {faults : X → ℕ} {t : Option X} {r : Result A SlateDBError} → Stays encoded decoded faults t t r
+unchanged = record { same_encoded = refl; same_decoded = refl; later = omega arith; still = inr (inr refl) }
+
+pub stays_err : {X A B : Type 0} {encoded decoded : X → List ℕ → List ℕ} {faults : X → ℕ} {old new : Option X} {r : Result A SlateDBError} {e : SlateDBError} →
+    Stays {A = B} encoded decoded faults old new (Err e) → IsErrAnd r (λ d. d ≡ e) → Stays encoded decoded faults old new r
+stays_err {X} {A} {B} {encoded} {decoded} {faults} {old} {new} {r} {e} a is =
+    let p = err_from_is_err_and r is in
+    rw (p.1, p.2) (record { same_encoded = a.same_encoded; same_decoded = a.same_decoded; later = a.later; still = still_err e a.still })
+
+pub stays_ok : {X A B : Type 0} {encoded decoded : X → List ℕ → List ℕ} {faults : X → ℕ} {old new : Option X} {r : Result A SlateDBError} {x : B} →
+    Stays encoded decoded faults old new (Ok x) → Stays encoded decoded faults old new r
+stays_ok {x} a = record { same_encoded = a.same_encoded; same_decoded = a.same_decoded; later = a.later; still = inr (inr (still_ok x a.still)) }
+
+-- behind a count that stayed
+pub stays_behind : {X A : Type 0} {encoded decoded : X → List ℕ → List ℕ} {faults : X → ℕ} {old between new : Option X} {r : Result A SlateDBError} →
+    changed_by encoded between ≡ changed_by encoded old → changed_by decoded between ≡ changed_by decoded old → faults_of faults between ≡ faults_of faults old →
+    Stays encoded decoded faults between new r → Stays encoded decoded faults old new r
+stays_behind {X} {A} {encoded} {decoded} {faults} {old} {between} {new} {r} encodes decodes same a = record {
+  same_encoded = a.same_encoded ∙ encodes;
+  same_decoded = a.same_decoded ∙ decodes;
+  later = omega (arith, same, a.later);
+  still = still_longer (faults_of faults old) (faults_of faults between) (faults_of faults new) same a.still;
+}
+
+pub untouched : {X A : Type 0} {objects : X → Option Objects} {faults : X → ℕ} {t : X} {r : Result A SlateDBError} → Reaches objects faults t t r
+untouched = record { same_objects = refl; later = omega arith; still = inr refl }
+
+pub reaches_err : {X A B : Type 0} {objects : X → Option Objects} {faults : X → ℕ} {old new : X} {r : Result A SlateDBError} {e : SlateDBError} →
+    Reaches {A = B} objects faults old new (Err e) → IsErrAnd r (λ d. d ≡ e) → Reaches objects faults old new r
+reaches_err {X} {A} {B} {objects} {faults} {old} {new} {r} {e} a is =
+    let p = err_from_is_err_and r is in
+    rw (p.1, p.2) (record { same_objects = a.same_objects; later = a.later; still = store_err e a.still })
+
+pub reaches_ok : {X A B : Type 0} {objects : X → Option Objects} {faults : X → ℕ} {old new : X} {r : Result A SlateDBError} {x : B} →
+    Reaches objects faults old new (Ok x) → Reaches objects faults old new r
+reaches_ok {x} a = record { same_objects = a.same_objects; later = a.later; still = inr (store_still x a.still) }
+
+pub reaches_again : {X A B : Type 0} {objects : X → Option Objects} {faults : X → ℕ} {old between new : X} {r : Result A SlateDBError} {x : B} →
+    Reaches objects faults old between (Ok x) → Reaches objects faults between new r → Reaches objects faults old new r
+reaches_again {X} {A} {B} {objects} {faults} {old} {between} {new} {r} {x} a b = record {
+  same_objects = b.same_objects ∙ a.same_objects;
+  later = omega (arith, a.later, b.later);
+  still = store_longer (faults old) (faults between) (faults new) (store_still x a.still) b.still;
+}

@@ -6,6 +6,7 @@ use Rattle.slate_store.specs.Store.{Act, AddsAct, AnswersLen, of_store}
 use Rattle.slate_table.specs.Opening.{IsMeasured}
 use Rattle.slate_table.proofs.Results.{mapped, on_err, mapped_err, mapped_still, store_fault}
 use Rattle.std.proofs.lemmas.Result.{IfOk-from_err, IfErr-at_err}
+use Rattle.slate_table.proofs.Asking.{untouched}
 use Rattle.slate_table.proofs.opening.object_len.Goals as goal
 
 answered : {E : Type 0} (r : Result (Option ℕ) E) (objects : Option Objects) (before after : Option (List Act)) (path : List ℕ) → ((os : Objects) → objects ≡ Some os → IfOk r (λ size. AnswersLen os path size)) →
@@ -35,5 +36,12 @@ returns-clause-cause g c = mapped_err c.len.result c.map_err.result of_store _ c
 pub returns-clause-none : goal.returns-clause-none
 returns-clause-none g c = mapped_err c.len.result c.map_err.result of_store _ c.map_err.ensures.cases (λ e is. IfErr-at_err _ is c.len.ensures.refused_act)
 
-pub returns-clause-still : goal.returns-clause-still
-returns-clause-still g c = mapped_still c.len.result c.map_err.result of_store Failed c.map_err.ensures.cases c.len.ensures.still
+pub returns-in_err-path-clause-reaches : goal.returns-in_err-path-clause-reaches
+returns-in_err-path-clause-reaches g c = untouched
+
+pub returns-clause-reaches : goal.returns-clause-reaches
+returns-clause-reaches g c = record {
+  same_objects = c.len.ensures.objects;
+  later = c.len.ensures.later;
+  still = mapped_still c.len.result c.map_err.result of_store Failed c.map_err.ensures.cases c.len.ensures.still;
+}

@@ -1,7 +1,8 @@
-use Rattle.slate_table.proofs.Results.{on_err, store_fault, store_failed}
-use Rattle.std.proofs.Common.{◌∙◌, ℕ, List, subst, refl, inl}
+use Rattle.slate_table.proofs.Results.{on_err, read_still, store_fault, store_failed}
+use Rattle.std.proofs.Common.{◌∙◌, ℕ, List, subst, refl, inl, inr}
 use Rattle.slate_table.specs.Reading.{IsRead}
 use Rattle.std.proofs.lemmas.Result.{IfOk-from_err, err_from_is_err_and}
+use Rattle.slate_table.proofs.Asking.{untouched}
 use Rattle.slate_table.proofs.table_store.read.Goals as goal
 
 pub returns-clause-read : goal.returns-clause-read
@@ -33,8 +34,24 @@ returns-in_err-path-clause-none g c = on_err c.from_residual.result refl
 pub returns-in_err-answer-clause-cause : goal.returns-in_err-answer-clause-cause
 returns-in_err-answer-clause-cause g c = let p = err_from_is_err_and c.from_residual-in_err-answer.result c.from_residual-in_err-answer.ensures.1 in rw (p.1, p.2) (store_fault c.in_err-answer.field-0.0 _ _ c.in_err-answer.ensures.cause)
 
-pub returns-in_err-answer-clause-still : goal.returns-in_err-answer-clause-still
-returns-in_err-answer-clause-still g c = let p = err_from_is_err_and c.from_residual-in_err-answer.result c.from_residual-in_err-answer.ensures.1 in rw (p.1, p.2) (store_failed c.in_err-answer.field-0.0 c.in_err-answer.ensures.still)
-
 pub returns-in_err-answer-clause-none : goal.returns-in_err-answer-clause-none
 returns-in_err-answer-clause-none g c = on_err c.from_residual-in_err-answer.result c.in_err-answer.ensures.refused_act
+
+pub returns-in_err-path-clause-reaches : goal.returns-in_err-path-clause-reaches
+returns-in_err-path-clause-reaches g c = untouched
+
+pub returns-in_err-answer-clause-reaches : goal.returns-in_err-answer-clause-reaches
+returns-in_err-answer-clause-reaches g c =
+    let p = err_from_is_err_and c.from_residual-in_err-answer.result c.from_residual-in_err-answer.ensures.1 in
+    record {
+      same_objects = c.read_range.ensures.objects;
+      later = c.read_range.ensures.later;
+      still = rw (p.1, p.2) (store_failed c.in_err-answer.field-0.0 c.in_err-answer.ensures.still);
+    }
+
+pub returns-clause-reaches : goal.returns-clause-reaches
+returns-clause-reaches g c = record {
+  same_objects = c.read_range.ensures.objects;
+  later = c.read_range.ensures.later;
+  still = inr (read_still c.in_ok-answer.answer c.in_ok-answer.ensures.still);
+}

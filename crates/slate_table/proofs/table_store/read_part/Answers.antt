@@ -6,6 +6,7 @@ use Rattle.slate_table.specs.Reading.{stored_in, FailsDecoding}
 use Rattle.slate_table.proofs.BlockReads.{row_refused}
 use Rattle.std.proofs.lemmas.Result.{IfOk-weaker, IfErr-weaker, err_from_is_err_and, IfOk-from_err}
 use Rattle.slate_table.proofs.Results.{on_err, store_still, store_err}
+use Rattle.slate_table.proofs.Asking.{unchanged, reaches_err, reaches_ok}
 use Rattle.slate_table.proofs.table_store.read_part.Goals as goal
 
 pub returns-clause-found : goal.returns-clause-found
@@ -31,47 +32,17 @@ returns-in_err-answer-clause-cause g c = let p = err_from_is_err_and c.from_resi
 pub returns-in_err-answer-clause-once : goal.returns-in_err-answer-clause-once
 returns-in_err-answer-clause-once g c = let p = err_from_is_err_and c.from_residual.result c.from_residual.ensures.1 in rw p.1 (inl c.in_err-answer.ensures.none)
 
-pub returns-in_err-answer-clause-still : goal.returns-in_err-answer-clause-still
-returns-in_err-answer-clause-still g c = let p = err_from_is_err_and c.from_residual.result c.from_residual.ensures.1 in rw (p.1, p.2) (store_err c.in_err-answer.field-0.0 c.in_err-answer.ensures.still)
-
-pub returns-clause-still : goal.returns-clause-still
-returns-clause-still g c = inr (store_still c.in_ok-answer.answer c.in_ok-answer.ensures.still)
-
-pub returns-clause-still_transformer : goal.returns-clause-still_transformer
-returns-clause-still_transformer g c = c.opened.ensures.still
-
-pub returns-clause-later : goal.returns-clause-later
-returns-clause-later g c = c.read.ensures.later
-
-pub returns-clause-later_transformer : goal.returns-clause-later_transformer
-returns-clause-later_transformer g c = c.opened.ensures.later
-
-pub returns-clause-objects : goal.returns-clause-objects
-returns-clause-objects g c = c.read.ensures.objects
-
 pub returns-in_err-answer-clause-found : goal.returns-in_err-answer-clause-found
 returns-in_err-answer-clause-found g c = IfOk-from_err c.from_residual.result _ c.from_residual.ensures.0
 
-pub returns-clause-same_encoded : goal.returns-clause-same_encoded
-returns-clause-same_encoded g c = c.opened.ensures.same_encoded
+pub returns-in_err-answer-clause-reaches : goal.returns-in_err-answer-clause-reaches
+returns-in_err-answer-clause-reaches g c = reaches_err c.in_err-answer.ensures.reaches c.from_residual.ensures.1
 
-pub returns-clause-same_decoded : goal.returns-clause-same_decoded
-returns-clause-same_decoded g c = c.opened.ensures.same_decoded
+pub returns-in_err-answer-clause-stays : goal.returns-in_err-answer-clause-stays
+returns-in_err-answer-clause-stays g c = unchanged
 
-pub returns-in_err-answer-clause-later : goal.returns-in_err-answer-clause-later
-returns-in_err-answer-clause-later g c = c.read.ensures.later
+pub returns-clause-reaches : goal.returns-clause-reaches
+returns-clause-reaches g c = reaches_ok c.in_ok-answer.ensures.reaches
 
-pub returns-in_err-answer-clause-objects : goal.returns-in_err-answer-clause-objects
-returns-in_err-answer-clause-objects g c = c.read.ensures.objects
-
-pub returns-in_err-answer-clause-later_transformer : goal.returns-in_err-answer-clause-later_transformer
-returns-in_err-answer-clause-later_transformer g c = omega arith
-
-pub returns-in_err-answer-clause-same_encoded : goal.returns-in_err-answer-clause-same_encoded
-returns-in_err-answer-clause-same_encoded g c = refl
-
-pub returns-in_err-answer-clause-same_decoded : goal.returns-in_err-answer-clause-same_decoded
-returns-in_err-answer-clause-same_decoded g c = refl
-
-pub returns-in_err-answer-clause-still_transformer : goal.returns-in_err-answer-clause-still_transformer
-returns-in_err-answer-clause-still_transformer g c = inr (inr refl)
+pub returns-clause-stays : goal.returns-clause-stays
+returns-clause-stays g c = c.opened.ensures.stays

@@ -57,10 +57,10 @@ returns-in_err-found-clause-twice g c =
     c.index.ensures.objects there c.in_ok-index.ensures.found c.in_ok-test_block.ensures.within c.in_err-found.ensures.once)
 
 pub returns-in_err-found-clause-same_encoded : goal.returns-in_err-found-clause-same_encoded
-returns-in_err-found-clause-same_encoded g c = c.read_block.ensures.same_encoded ∙ c.index.ensures.same_encoded
+returns-in_err-found-clause-same_encoded g c = c.read_block.ensures.stays.same_encoded ∙ c.index.ensures.same_encoded
 
 pub returns-in_err-found-clause-same_decoded : goal.returns-in_err-found-clause-same_decoded
-returns-in_err-found-clause-same_decoded g c = c.read_block.ensures.same_decoded ∙ c.index.ensures.same_decoded
+returns-in_err-found-clause-same_decoded g c = c.read_block.ensures.stays.same_decoded ∙ c.index.ensures.same_decoded
 
 pub returns-clause-cause : goal.returns-clause-cause
 returns-clause-cause g c =
@@ -113,10 +113,10 @@ returns-clause-found g c =
     c.rows_of_block-rows.ensures.rows
 
 pub returns-clause-same_encoded : goal.returns-clause-same_encoded
-returns-clause-same_encoded g c = c.read_block.ensures.same_encoded ∙ c.index.ensures.same_encoded
+returns-clause-same_encoded g c = c.read_block.ensures.stays.same_encoded ∙ c.index.ensures.same_encoded
 
 pub returns-clause-same_decoded : goal.returns-clause-same_decoded
-returns-clause-same_decoded g c = c.read_block.ensures.same_decoded ∙ c.index.ensures.same_decoded
+returns-clause-same_decoded g c = c.read_block.ensures.stays.same_decoded ∙ c.index.ensures.same_decoded
 
 pub returns-in_err-test_block-clause-cause : goal.returns-in_err-test_block-clause-cause
 unfolding RefusesReadRows
@@ -160,21 +160,21 @@ returns-in_err-found-clause-still g c =
     let p = err_from_is_err_and c.from_residual-in_err-found.result c.from_residual-in_err-found.ensures.1 in
     let faults = g.S.Store.faults in
     rw (p.1, p.2) (store_err c.in_err-found.field-0.0
-    (store_longer (faults c.args.reader.now.store) (faults c.index.new.reader.store) (faults c.read_block.new.store) (store_still c.in_ok-index.index c.in_ok-index.ensures.still) c.in_err-found.ensures.still))
+    (store_longer (faults c.args.reader.now.store) (faults c.index.new.reader.store) (faults c.read_block.new.store) (store_still c.in_ok-index.index c.in_ok-index.ensures.still) c.in_err-found.ensures.reaches.still))
 
 pub returns-in_err-found-clause-still_transformer : goal.returns-in_err-found-clause-still_transformer
 returns-in_err-found-clause-still_transformer g c =
     let p = err_from_is_err_and c.from_residual-in_err-found.result c.from_residual-in_err-found.ensures.1 in
     let faults = faults_of g.T.BlockTransformer.faults in
     rw (p.1, p.2) (still_err c.in_err-found.field-0.0
-    (still_longer (faults c.args.reader.now.transformer) (faults c.index.new.reader.transformer) (faults c.read_block.new.transformer) (still_ok c.in_ok-index.index c.in_ok-index.ensures.still_transformer) c.in_err-found.ensures.still_transformer))
+    (still_longer (faults c.args.reader.now.transformer) (faults c.index.new.reader.transformer) (faults c.read_block.new.transformer) (still_ok c.in_ok-index.index c.in_ok-index.ensures.still_transformer) c.in_err-found.ensures.stays.still))
 
 pub returns-clause-still : goal.returns-clause-still
-returns-clause-still g c = inr (store_still c.in_ok-found.found c.in_ok-found.ensures.still ∙ store_still c.in_ok-index.index c.in_ok-index.ensures.still)
+returns-clause-still g c = inr (store_still c.in_ok-found.found c.in_ok-found.ensures.reaches.still ∙ store_still c.in_ok-index.index c.in_ok-index.ensures.still)
 
 pub returns-clause-still_transformer : goal.returns-clause-still_transformer
 returns-clause-still_transformer g c =
-    inr (inr (still_ok c.in_ok-found.found c.in_ok-found.ensures.still_transformer ∙ still_ok c.in_ok-index.index c.in_ok-index.ensures.still_transformer))
+    inr (inr (still_ok c.in_ok-found.found c.in_ok-found.ensures.stays.still ∙ still_ok c.in_ok-index.index c.in_ok-index.ensures.still_transformer))
 
 pub returns-in_err-index-clause-found : goal.returns-in_err-index-clause-found
 returns-in_err-index-clause-found g c = IfOk-from_err c.from_residual.result _ c.from_residual.ensures.0
@@ -186,25 +186,25 @@ pub returns-in_err-found-clause-found : goal.returns-in_err-found-clause-found
 returns-in_err-found-clause-found g c = IfOk-from_err c.from_residual-in_err-found.result _ c.from_residual-in_err-found.ensures.0
 
 pub returns-clause-later : goal.returns-clause-later
-returns-clause-later g c = omega (arith, c.index.ensures.later, c.read_block.ensures.later)
+returns-clause-later g c = omega (arith, c.index.ensures.later, c.read_block.ensures.reaches.later)
 
 pub returns-clause-later_transformer : goal.returns-clause-later_transformer
-returns-clause-later_transformer g c = omega (arith, c.index.ensures.later_transformer, c.read_block.ensures.later_transformer)
+returns-clause-later_transformer g c = omega (arith, c.index.ensures.later_transformer, c.read_block.ensures.stays.later)
 
 pub returns-clause-objects : goal.returns-clause-objects
-returns-clause-objects g c = c.read_block.ensures.objects ∙ c.index.ensures.objects
+returns-clause-objects g c = c.read_block.ensures.reaches.same_objects ∙ c.index.ensures.objects
 
 pub returns-clause-root : goal.returns-clause-root
 returns-clause-root g c = c.index.ensures.root
 
 pub returns-in_err-found-clause-later : goal.returns-in_err-found-clause-later
-returns-in_err-found-clause-later g c = omega (arith, c.index.ensures.later, c.read_block.ensures.later)
+returns-in_err-found-clause-later g c = omega (arith, c.index.ensures.later, c.read_block.ensures.reaches.later)
 
 pub returns-in_err-found-clause-later_transformer : goal.returns-in_err-found-clause-later_transformer
-returns-in_err-found-clause-later_transformer g c = omega (arith, c.index.ensures.later_transformer, c.read_block.ensures.later_transformer)
+returns-in_err-found-clause-later_transformer g c = omega (arith, c.index.ensures.later_transformer, c.read_block.ensures.stays.later)
 
 pub returns-in_err-found-clause-objects : goal.returns-in_err-found-clause-objects
-returns-in_err-found-clause-objects g c = c.read_block.ensures.objects ∙ c.index.ensures.objects
+returns-in_err-found-clause-objects g c = c.read_block.ensures.reaches.same_objects ∙ c.index.ensures.objects
 
 pub returns-in_err-found-clause-root : goal.returns-in_err-found-clause-root
 returns-in_err-found-clause-root g c = c.index.ensures.root

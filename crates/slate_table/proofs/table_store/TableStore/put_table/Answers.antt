@@ -1,4 +1,4 @@
-use Rattle.std.proofs.Common.{◌≡◌, ◌∙◌, refl, inl, inr}
+use Rattle.std.proofs.Common.{◌≡◌, ◌∙◌, arith, refl, inl, inr}
 use Rattle.slate_table.specs.Paths.{path_of}
 use Rattle.std.proofs.lemmas.Result.{IfOk-from_err, err_from_is_err_and}
 use Rattle.slate_table.proofs.Results.{on_err, store_fault, store_failed}
@@ -84,3 +84,42 @@ returns-clause-cause g c = rw c.from.ensures (store_fault c.in-Err.error _ _ c.i
 
 pub returns-clause-still : goal.returns-clause-still
 returns-clause-still g c = rw c.from.ensures (store_failed c.in-Err.error c.in-Err.ensures.still)
+
+pub returns-in_err-path-clause-later : goal.returns-in_err-path-clause-later
+returns-in_err-path-clause-later g c = omega arith
+
+pub returns-in_err-info-clause-later : goal.returns-in_err-info-clause-later
+returns-in_err-info-clause-later g c = omega arith
+
+pub returns-in-Ok-clause-id : goal.returns-in-Ok-clause-id
+returns-in-Ok-clause-id g c = refl
+
+pub returns-in-Ok-clause-refused : goal.returns-in-Ok-clause-refused
+returns-in-Ok-clause-refused g c = λ os told. tt
+
+pub returns-in-Ok-clause-refused_act : goal.returns-in-Ok-clause-refused_act
+returns-in-Ok-clause-refused_act g c = tt
+
+pub returns-in-Ok-clause-cause : goal.returns-in-Ok-clause-cause
+returns-in-Ok-clause-cause g c = tt
+
+pub returns-in-Ok-clause-later : goal.returns-in-Ok-clause-later
+returns-in-Ok-clause-later g c = c.put.ensures.later
+
+pub returns-clause-id : goal.returns-clause-id
+returns-clause-id g c = tt
+
+pub returns-clause-info : goal.returns-clause-info
+returns-clause-info g c = tt
+
+pub returns-clause-version : goal.returns-clause-version
+returns-clause-version g c = tt
+
+pub returns-clause-taken : goal.returns-clause-taken
+returns-clause-taken g c = λ os told. tt
+
+pub returns-clause-act : goal.returns-clause-act
+returns-clause-act g c = tt
+
+pub returns-clause-later : goal.returns-clause-later
+returns-clause-later g c = c.put.ensures.later

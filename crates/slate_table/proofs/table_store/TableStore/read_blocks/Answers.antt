@@ -55,22 +55,22 @@ pub returns-in_err-answer-clause-once : goal.returns-in_err-answer-clause-once
 returns-in_err-answer-clause-once g c = let p = err_from_is_err_and c.from_residual.result c.from_residual.ensures.1 in rw p.1 (inl c.in_err-answer.ensures.none)
 
 pub returns-in_err-answer-clause-still : goal.returns-in_err-answer-clause-still
-returns-in_err-answer-clause-still g c = let p = err_from_is_err_and c.from_residual.result c.from_residual.ensures.1 in rw (p.1, p.2) (store_err c.in_err-answer.field-0.0 c.in_err-answer.ensures.still)
+returns-in_err-answer-clause-still g c = let p = err_from_is_err_and c.from_residual.result c.from_residual.ensures.1 in rw (p.1, p.2) (store_err c.in_err-answer.field-0.0 c.in_err-answer.ensures.reaches.still)
 
 pub returns-clause-still : goal.returns-clause-still
-returns-clause-still g c = inr (store_still c.in_ok-answer.answer c.in_ok-answer.ensures.still)
+returns-clause-still g c = inr (store_still c.in_ok-answer.answer c.in_ok-answer.ensures.reaches.still)
 
 pub returns-clause-still_transformer : goal.returns-clause-still_transformer
-returns-clause-still_transformer g c = c.each_block-found.ensures.still
+returns-clause-still_transformer g c = c.each_block-found.ensures.stays.still
 
 pub returns-clause-later : goal.returns-clause-later
-returns-clause-later g c = c.read.ensures.later
+returns-clause-later g c = c.read.ensures.reaches.later
 
 pub returns-clause-later_transformer : goal.returns-clause-later_transformer
-returns-clause-later_transformer g c = c.each_block-found.ensures.later
+returns-clause-later_transformer g c = c.each_block-found.ensures.stays.later
 
 pub returns-clause-objects : goal.returns-clause-objects
-returns-clause-objects g c = c.read.ensures.objects
+returns-clause-objects g c = c.read.ensures.reaches.same_objects
 
 pub returns-clause-count : goal.returns-clause-count
 returns-clause-count g c = c.each_block-found.ensures.count
@@ -82,16 +82,16 @@ pub returns-in_err-answer-clause-count : goal.returns-in_err-answer-clause-count
 returns-in_err-answer-clause-count g c = IfOk-from_err c.from_residual.result _ c.from_residual.ensures.0
 
 pub returns-clause-same_encoded : goal.returns-clause-same_encoded
-returns-clause-same_encoded g c = c.each_block-found.ensures.same_encoded
+returns-clause-same_encoded g c = c.each_block-found.ensures.stays.same_encoded
 
 pub returns-clause-same_decoded : goal.returns-clause-same_decoded
-returns-clause-same_decoded g c = c.each_block-found.ensures.same_decoded
+returns-clause-same_decoded g c = c.each_block-found.ensures.stays.same_decoded
 
 pub returns-in_err-answer-clause-later : goal.returns-in_err-answer-clause-later
-returns-in_err-answer-clause-later g c = c.read.ensures.later
+returns-in_err-answer-clause-later g c = c.read.ensures.reaches.later
 
 pub returns-in_err-answer-clause-objects : goal.returns-in_err-answer-clause-objects
-returns-in_err-answer-clause-objects g c = c.read.ensures.objects
+returns-in_err-answer-clause-objects g c = c.read.ensures.reaches.same_objects
 
 pub returns-in_err-answer-clause-later_transformer : goal.returns-in_err-answer-clause-later_transformer
 returns-in_err-answer-clause-later_transformer g c = omega arith

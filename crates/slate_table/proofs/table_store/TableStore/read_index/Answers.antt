@@ -35,46 +35,46 @@ pub returns-in_err-part-clause-once : goal.returns-in_err-part-clause-once
 returns-in_err-part-clause-once g c = let p = err_from_is_err_and c.from_residual.result c.from_residual.ensures.1 in rw p.1 (c.in_err-part.ensures.once)
 
 pub returns-in_err-part-clause-still : goal.returns-in_err-part-clause-still
-returns-in_err-part-clause-still g c = let p = err_from_is_err_and c.from_residual.result c.from_residual.ensures.1 in rw (p.1, p.2) (store_err c.in_err-part.field-0.0 c.in_err-part.ensures.still)
+returns-in_err-part-clause-still g c = let p = err_from_is_err_and c.from_residual.result c.from_residual.ensures.1 in rw (p.1, p.2) (store_err c.in_err-part.field-0.0 c.in_err-part.ensures.reaches.still)
 
 pub returns-in_err-part-clause-still_transformer : goal.returns-in_err-part-clause-still_transformer
-returns-in_err-part-clause-still_transformer g c = let p = err_from_is_err_and c.from_residual.result c.from_residual.ensures.1 in rw (p.1, p.2) (still_err c.in_err-part.field-0.0 c.in_err-part.ensures.still_transformer)
+returns-in_err-part-clause-still_transformer g c = let p = err_from_is_err_and c.from_residual.result c.from_residual.ensures.1 in rw (p.1, p.2) (still_err c.in_err-part.field-0.0 c.in_err-part.ensures.stays.still)
 
 pub returns-clause-still : goal.returns-clause-still
-returns-clause-still g c = inr (store_still c.in_ok-part.part c.in_ok-part.ensures.still)
+returns-clause-still g c = inr (store_still c.in_ok-part.part c.in_ok-part.ensures.reaches.still)
 
 pub returns-clause-still_transformer : goal.returns-clause-still_transformer
-returns-clause-still_transformer g c = inr (inr (still_ok c.in_ok-part.part c.in_ok-part.ensures.still_transformer))
+returns-clause-still_transformer g c = inr (inr (still_ok c.in_ok-part.part c.in_ok-part.ensures.stays.still))
 
 pub returns-clause-later : goal.returns-clause-later
-returns-clause-later g c = c.read_part.ensures.later
+returns-clause-later g c = c.read_part.ensures.reaches.later
 
 pub returns-clause-later_transformer : goal.returns-clause-later_transformer
-returns-clause-later_transformer g c = c.read_part.ensures.later_transformer
+returns-clause-later_transformer g c = c.read_part.ensures.stays.later
 
 pub returns-clause-objects : goal.returns-clause-objects
-returns-clause-objects g c = c.read_part.ensures.objects
+returns-clause-objects g c = c.read_part.ensures.reaches.same_objects
 
 pub returns-in_err-part-clause-found : goal.returns-in_err-part-clause-found
 returns-in_err-part-clause-found g c = IfOk-from_err c.from_residual.result _ c.from_residual.ensures.0
 
 pub returns-clause-same_encoded : goal.returns-clause-same_encoded
-returns-clause-same_encoded g c = c.read_part.ensures.same_encoded
+returns-clause-same_encoded g c = c.read_part.ensures.stays.same_encoded
 
 pub returns-clause-same_decoded : goal.returns-clause-same_decoded
-returns-clause-same_decoded g c = c.read_part.ensures.same_decoded
+returns-clause-same_decoded g c = c.read_part.ensures.stays.same_decoded
 
 pub returns-in_err-part-clause-same_encoded : goal.returns-in_err-part-clause-same_encoded
-returns-in_err-part-clause-same_encoded g c = c.read_part.ensures.same_encoded
+returns-in_err-part-clause-same_encoded g c = c.read_part.ensures.stays.same_encoded
 
 pub returns-in_err-part-clause-same_decoded : goal.returns-in_err-part-clause-same_decoded
-returns-in_err-part-clause-same_decoded g c = c.read_part.ensures.same_decoded
+returns-in_err-part-clause-same_decoded g c = c.read_part.ensures.stays.same_decoded
 
 pub returns-in_err-part-clause-later : goal.returns-in_err-part-clause-later
-returns-in_err-part-clause-later g c = c.read_part.ensures.later
+returns-in_err-part-clause-later g c = c.read_part.ensures.reaches.later
 
 pub returns-in_err-part-clause-objects : goal.returns-in_err-part-clause-objects
-returns-in_err-part-clause-objects g c = c.read_part.ensures.objects
+returns-in_err-part-clause-objects g c = c.read_part.ensures.reaches.same_objects
 
 pub returns-in_err-part-clause-later_transformer : goal.returns-in_err-part-clause-later_transformer
-returns-in_err-part-clause-later_transformer g c = c.read_part.ensures.later_transformer
+returns-in_err-part-clause-later_transformer g c = c.read_part.ensures.stays.later
