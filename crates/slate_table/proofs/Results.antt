@@ -68,10 +68,6 @@ pub if_ok_both : {T E : Type 0} (r : Result T E) (P Q R : T → Type 0) → ((x 
 if_ok_both (Ok x) P Q R f p q = f x p q
 if_ok_both (Err e) P Q R f p q = tt
 
-pub if_ok_three : {T E : Type 0} (r : Result T E) (P Q R S : T → Type 0) → ((x : T) → P x → Q x → R x → S x) → IfOk r P → IfOk r Q → IfOk r R → IfOk r S
-if_ok_three (Ok x) P Q R S f p q s = f x p q s
-if_ok_three (Err e) P Q R S f p q s = tt
-
 pub ok_is : {T E : Type 0} (r : Result T E) (t : Bool) → t ≡ is_ok r → OnOk r (t ≡ true)
 ok_is (Ok x) t is = is
 ok_is (Err e) t is = tt

@@ -20,14 +20,16 @@ loop-at-preserved c =
     appended ∙ ap (λ (l : List ℕ). l ++ one) c.loop-at.invariant ∙ append_assoc (be32 (length offsets)) front one
     ∙ ap (λ (l : List ℕ). be32 (length offsets) ++ l) (sym (one_more offsets separators at c.loop-at-test.true c.requires.paired))
 
-pub returns-in_err-append_u32-clause-bytes : goal.returns-in_err-append_u32-clause-bytes
-returns-in_err-append_u32-clause-bytes c = IfOk-from_err c.from_residual.result _ c.from_residual.ensures.0
+pub returns-in_err-append_u32 : goal.returns-in_err-append_u32
+returns-in_err-append_u32 c =
+    record {
+      bytes = IfOk-from_err c.from_residual.result _ c.from_residual.ensures.0;
+      cause = memory_exit c.from_residual.result _ c.from_residual.ensures.1 OutOfMemory c.in_err-append_u32.ensures.cause;
+    }
 
-pub returns-in_err-append_u32-clause-cause : goal.returns-in_err-append_u32-clause-cause
-returns-in_err-append_u32-clause-cause c = memory_exit c.from_residual.result _ c.from_residual.ensures.1 OutOfMemory c.in_err-append_u32.ensures.cause
-
-pub returns-in_err-append_entry-clause-bytes : goal.returns-in_err-append_entry-clause-bytes
-returns-in_err-append_entry-clause-bytes c = IfOk-from_err c.from_residual-in_err-append_entry.result _ c.from_residual-in_err-append_entry.ensures.0
-
-pub returns-in_err-append_entry-clause-cause : goal.returns-in_err-append_entry-clause-cause
-returns-in_err-append_entry-clause-cause c = memory_exit c.from_residual-in_err-append_entry.result _ c.from_residual-in_err-append_entry.ensures.1 OutOfMemory c.in_err-append_entry.ensures.cause
+pub returns-in_err-append_entry : goal.returns-in_err-append_entry
+returns-in_err-append_entry c =
+    record {
+      bytes = IfOk-from_err c.from_residual-in_err-append_entry.result _ c.from_residual-in_err-append_entry.ensures.0;
+      cause = memory_exit c.from_residual-in_err-append_entry.result _ c.from_residual-in_err-append_entry.ensures.1 OutOfMemory c.in_err-append_entry.ensures.cause;
+    }

@@ -15,14 +15,23 @@ unfolding IsMeasured
 answered (Ok size) objects before after path answer act = (answer, act)
 answered (Err e) objects before after path answer act = tt
 
-pub returns-clause-measured : goal.returns-clause-measured
-returns-clause-measured g c =
-    let objects = g.S.Store.objects c.args.store.now in
-    let before = g.S.Store.acts c.args.store.now in
-    let after = g.S.Store.acts c.len.new.self in
-    let text = c.as_str.ensures.value ∙ c.in_ok-path.ensures.path in
-    mapped c.len.result c.map_err.result _ _ _ c.map_err.ensures.cases (λ size is. subst (λ (path : List ℕ). IsMeasured objects before after path size) text is)
-    (answered c.len.result objects before after c.as_str.result.now c.len.ensures.answer c.len.ensures.act)
+pub returns : goal.returns
+returns g c =
+    record {
+      measured = (let objects = g.S.Store.objects c.args.store.now in
+          let before = g.S.Store.acts c.args.store.now in
+          let after = g.S.Store.acts c.len.new.self in
+          let text = c.as_str.ensures.value ∙ c.in_ok-path.ensures.path in
+          mapped c.len.result c.map_err.result _ _ _ c.map_err.ensures.cases (λ size is. subst (λ (path : List ℕ). IsMeasured objects before after path size) text is)
+          (answered c.len.result objects before after c.as_str.result.now c.len.ensures.answer c.len.ensures.act));
+      cause = mapped_err c.len.result c.map_err.result of_store _ c.map_err.ensures.cases (λ e is. store_fault e _ _ (λ failed. c.len.ensures.cause (is ∙ failed)));
+      none = mapped_err c.len.result c.map_err.result of_store _ c.map_err.ensures.cases (λ e is. IfErr-at_err _ is c.len.ensures.refused_act);
+      reaches = (record {
+        same_objects = c.len.ensures.objects;
+        later = c.len.ensures.later;
+        still = mapped_still c.len.result c.map_err.result of_store Failed c.map_err.ensures.cases c.len.ensures.still;
+      });
+    }
 
 pub returns-in_err-path-clause-measured : goal.returns-in_err-path-clause-measured
 returns-in_err-path-clause-measured g c = IfOk-from_err c.from_residual.result _ c.from_residual.ensures.0
@@ -30,18 +39,5 @@ returns-in_err-path-clause-measured g c = IfOk-from_err c.from_residual.result _
 pub returns-in_err-path-clause-none : goal.returns-in_err-path-clause-none
 returns-in_err-path-clause-none g c = on_err _ refl
 
-pub returns-clause-cause : goal.returns-clause-cause
-returns-clause-cause g c = mapped_err c.len.result c.map_err.result of_store _ c.map_err.ensures.cases (λ e is. store_fault e _ _ (λ failed. c.len.ensures.cause (is ∙ failed)))
-
-pub returns-clause-none : goal.returns-clause-none
-returns-clause-none g c = mapped_err c.len.result c.map_err.result of_store _ c.map_err.ensures.cases (λ e is. IfErr-at_err _ is c.len.ensures.refused_act)
-
 pub returns-in_err-path-clause-reaches : goal.returns-in_err-path-clause-reaches
 returns-in_err-path-clause-reaches g c = untouched
-
-pub returns-clause-reaches : goal.returns-clause-reaches
-returns-clause-reaches g c = record {
-  same_objects = c.len.ensures.objects;
-  later = c.len.ensures.later;
-  still = mapped_still c.len.result c.map_err.result of_store Failed c.map_err.ensures.cases c.len.ensures.still;
-}

@@ -18,11 +18,11 @@ returns-clause-fit c =
     let f = c.in_ok-append_numbers.ensures.fit in
     on_ok_weaker c.append_u32.result (λ _. ((f.0, f.1.0, f.1.1.0), f.1.1.1.0, f.1.1.1.1.0)) c.append_u32.ensures.appended
 
-pub returns-in_err-append_numbers-clause-appended : goal.returns-in_err-append_numbers-clause-appended
-returns-in_err-append_numbers-clause-appended c = IfOk-from_err c.from_residual.result _ c.from_residual.ensures.0
-
-pub returns-in_err-append_numbers-clause-fit : goal.returns-in_err-append_numbers-clause-fit
-returns-in_err-append_numbers-clause-fit c = IfOk-from_err c.from_residual.result _ c.from_residual.ensures.0
-
-pub returns-in_err-append_numbers-clause-cause : goal.returns-in_err-append_numbers-clause-cause
-returns-in_err-append_numbers-clause-cause c = let p = err_from_is_err_and c.from_residual.result c.from_residual.ensures.1 in rw (p.1, p.2) c.in_err-append_numbers.ensures.cause
+pub returns-in_err-append_numbers : goal.returns-in_err-append_numbers
+returns-in_err-append_numbers c =
+    let p = err_from_is_err_and c.from_residual.result c.from_residual.ensures.1 in
+    record {
+      appended = IfOk-from_err c.from_residual.result _ c.from_residual.ensures.0;
+      fit = IfOk-from_err c.from_residual.result _ c.from_residual.ensures.0;
+      cause = rw (p.1, p.2) c.in_err-append_numbers.ensures.cause;
+    }

@@ -14,38 +14,25 @@ finish-table-requires-clause-stands g c = c.self.invariant (ap (λ (b : TableBui
 pub finish-table-requires-clause-row : goal.finish-table-requires-clause-row
 finish-table-requires-clause-row g c = subst (λ (rows : List RowEntry). 0 < length rows) (sym (ap (λ (b : TableBuilding). b.rows) c.self.view_is)) c.requires.rows
 
-pub returns-clause-built : goal.returns-clause-built
-returns-clause-built g c =
-    let inside = c.self.inside in
-    let encode = changed_by g.T.BlockTransformer.encoded c.args.transformer.now in
-    let whole : inside.is_whole ≡ true = ap (λ (b : TableBuilding). b.is_whole) c.self.view_is ∙ c.requires.whole in
-    let stands : Stands inside.parts = c.self.invariant whole in
-    IfOk-weaker c.finish-table.result _ _
-    (λ table made. built_of encode inside.parts inside.is_whole c.args.self table.bytes table.bytes table.info c.self.view_is stands c.requires.rows made refl)
-    c.finish-table.ensures.finished
-
-pub returns-clause-info : goal.returns-clause-info
-returns-clause-info g c =
-    let inside = c.self.inside in
-    let encode = changed_by g.T.BlockTransformer.encoded c.args.transformer.now in
-    IfOk-weaker c.finish-table.result _ _
-    (λ table made. info_of_built encode inside.parts inside.is_whole c.args.self table.bytes table.bytes table.info table.info c.self.view_is made refl refl)
-    c.finish-table.ensures.finished
-
-pub returns-clause-version : goal.returns-clause-version
-returns-clause-version g c = IfOk-weaker c.finish-table.result _ _ (λ table is. is ∙ ap (λ (b : TableBuilding). b.version) c.self.view_is) c.finish-table.ensures.version
-
-pub returns-clause-cause : goal.returns-clause-cause
-returns-clause-cause g c = cause_of _ _ c.finish-table.result c.finish-table.ensures.asks.counts
-
-pub returns-clause-still : goal.returns-clause-still
-returns-clause-still g c = still_of _ _ c.finish-table.result c.finish-table.ensures.asks.counts
-
-pub returns-clause-later : goal.returns-clause-later
-returns-clause-later g c = later_of _ _ c.finish-table.result c.finish-table.ensures.asks.counts
-
-pub returns-clause-same_encoded : goal.returns-clause-same_encoded
-returns-clause-same_encoded g c = c.finish-table.ensures.asks.same_encoded
-
-pub returns-clause-same_decoded : goal.returns-clause-same_decoded
-returns-clause-same_decoded g c = c.finish-table.ensures.asks.same_decoded
+pub returns : goal.returns
+returns g c =
+    record {
+      built = (let inside = c.self.inside in
+          let encode = changed_by g.T.BlockTransformer.encoded c.args.transformer.now in
+          let whole : inside.is_whole ≡ true = ap (λ (b : TableBuilding). b.is_whole) c.self.view_is ∙ c.requires.whole in
+          let stands : Stands inside.parts = c.self.invariant whole in
+          IfOk-weaker c.finish-table.result _ _
+          (λ table made. built_of encode inside.parts inside.is_whole c.args.self table.bytes table.bytes table.info c.self.view_is stands c.requires.rows made refl)
+          c.finish-table.ensures.finished);
+      info = (let inside = c.self.inside in
+          let encode = changed_by g.T.BlockTransformer.encoded c.args.transformer.now in
+          IfOk-weaker c.finish-table.result _ _
+          (λ table made. info_of_built encode inside.parts inside.is_whole c.args.self table.bytes table.bytes table.info table.info c.self.view_is made refl refl)
+          c.finish-table.ensures.finished);
+      version = IfOk-weaker c.finish-table.result _ _ (λ table is. is ∙ ap (λ (b : TableBuilding). b.version) c.self.view_is) c.finish-table.ensures.version;
+      cause = cause_of _ _ c.finish-table.result c.finish-table.ensures.asks.counts;
+      same_encoded = c.finish-table.ensures.asks.same_encoded;
+      same_decoded = c.finish-table.ensures.asks.same_decoded;
+      later = later_of _ _ c.finish-table.result c.finish-table.ensures.asks.counts;
+      still = still_of _ _ c.finish-table.result c.finish-table.ensures.asks.counts;
+    }

@@ -33,14 +33,16 @@ returns-clause-spelling c =
     })
     c.from_vec.ensures.ok
 
-pub returns-in_err-append_totals-clause-spelling : goal.returns-in_err-append_totals-clause-spelling
-returns-in_err-append_totals-clause-spelling c = IfOk-from_err c.from_residual.result _ c.from_residual.ensures.0
+pub returns-in_err-append_totals : goal.returns-in_err-append_totals
+returns-in_err-append_totals c =
+    record {
+      spelling = IfOk-from_err c.from_residual.result _ c.from_residual.ensures.0;
+      cause = memory_exit c.from_residual.result _ c.from_residual.ensures.1 OutOfMemory c.in_err-append_totals.ensures.cause;
+    }
 
-pub returns-in_err-append_totals-clause-cause : goal.returns-in_err-append_totals-clause-cause
-returns-in_err-append_totals-clause-cause c = memory_exit c.from_residual.result _ c.from_residual.ensures.1 OutOfMemory c.in_err-append_totals.ensures.cause
-
-pub returns-in_err-append_block_stats-clause-spelling : goal.returns-in_err-append_block_stats-clause-spelling
-returns-in_err-append_block_stats-clause-spelling c = IfOk-from_err c.from_residual-in_err-append_block_stats.result _ c.from_residual-in_err-append_block_stats.ensures.0
-
-pub returns-in_err-append_block_stats-clause-cause : goal.returns-in_err-append_block_stats-clause-cause
-returns-in_err-append_block_stats-clause-cause c = memory_exit c.from_residual-in_err-append_block_stats.result _ c.from_residual-in_err-append_block_stats.ensures.1 OutOfMemory c.in_err-append_block_stats.ensures.cause
+pub returns-in_err-append_block_stats : goal.returns-in_err-append_block_stats
+returns-in_err-append_block_stats c =
+    record {
+      spelling = IfOk-from_err c.from_residual-in_err-append_block_stats.result _ c.from_residual-in_err-append_block_stats.ensures.0;
+      cause = memory_exit c.from_residual-in_err-append_block_stats.result _ c.from_residual-in_err-append_block_stats.ensures.1 OutOfMemory c.in_err-append_block_stats.ensures.cause;
+    }

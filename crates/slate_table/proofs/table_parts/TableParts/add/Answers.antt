@@ -2,7 +2,7 @@ use Rattle.slate_table.proofs.PartsLaws.{some_rows}
 use Rattle.slate_types.specs.declared.error.SlateDBError.TheVariants.{OutOfMemory}
 use Rattle.slate_table.proofs.Asking.{unasked, asked_before, memory_exit, failed_again}
 use Rattle.std.proofs.lemmas.Result.{IfOk-from_err}
-use Rattle.std.proofs.Common.{sym, inr, inl, refl, arith}
+use Rattle.std.proofs.Common.{sym, inr}
 use Rattle.slate_table.proofs.table_parts.TableParts.add.Goals as goal
 
 pub returns-in_ok-take-in-Ok-clause-added : goal.returns-in_ok-take-in-Ok-clause-added
@@ -11,11 +11,23 @@ returns-in_ok-take-in-Ok-clause-added g c = inr (c.end_block.new.self, sym c.if-
 pub end_block-requires-clause-row : goal.end_block-requires-clause-row
 end_block-requires-clause-row g c = let b = c.args.self.now.block.builder in some_rows b.size b.version b.rows c.args.entry (sym c.if-would_fit.ensures)
 
-pub returns-in-Err-clause-fault : goal.returns-in-Err-clause-fault
-returns-in-Err-clause-fault g c = λ _. sym c.if-would_fit.ensures
+pub returns-in-Err : goal.returns-in-Err
+returns-in-Err g c =
+    record {
+      added = tt;
+      size = tt;
+      asks = failed_again c.in-Err.ensures.asks;
+      fault = λ _. sym c.if-would_fit.ensures;
+    }
 
-pub returns-in_err-take-in-Ok-clause-fault : goal.returns-in_err-take-in-Ok-clause-fault
-returns-in_err-take-in-Ok-clause-fault g c = λ _. sym c.if-would_fit.ensures
+pub returns-in_err-take-in-Ok : goal.returns-in_err-take-in-Ok
+returns-in_err-take-in-Ok g c =
+    record {
+      added = IfOk-from_err c.from_residual-in_err-take-in-Ok.result _ c.from_residual-in_err-take-in-Ok.ensures.0;
+      size = IfOk-from_err c.from_residual-in_err-take-in-Ok.result _ c.from_residual-in_err-take-in-Ok.ensures.0;
+      asks = asked_before c.in-Ok.ensures.asks (memory_exit c.from_residual-in_err-take-in-Ok.result _ c.from_residual-in_err-take-in-Ok.ensures.1 OutOfMemory c.in_err-take-in-Ok.ensures.cause);
+      fault = λ _. sym c.if-would_fit.ensures;
+    }
 
 pub returns-in_ok-take-in-Ok-clause-fault : goal.returns-in_ok-take-in-Ok-clause-fault
 returns-in_ok-take-in-Ok-clause-fault g c = λ _. sym c.if-would_fit.ensures
@@ -26,30 +38,11 @@ returns-in_err-take-clause-added g c = IfOk-from_err c.from_residual.result _ c.
 pub returns-in_err-take-clause-size : goal.returns-in_err-take-clause-size
 returns-in_err-take-clause-size g c = IfOk-from_err c.from_residual.result _ c.from_residual.ensures.0
 
-pub returns-in_err-take-in-Ok-clause-added : goal.returns-in_err-take-in-Ok-clause-added
-returns-in_err-take-in-Ok-clause-added g c = IfOk-from_err c.from_residual-in_err-take-in-Ok.result _ c.from_residual-in_err-take-in-Ok.ensures.0
-
-pub returns-in_err-take-in-Ok-clause-size : goal.returns-in_err-take-in-Ok-clause-size
-returns-in_err-take-in-Ok-clause-size g c = IfOk-from_err c.from_residual-in_err-take-in-Ok.result _ c.from_residual-in_err-take-in-Ok.ensures.0
-
-pub returns-in-Err-clause-added : goal.returns-in-Err-clause-added
-returns-in-Err-clause-added g c = tt
-
-pub returns-in-Err-clause-size : goal.returns-in-Err-clause-size
-returns-in-Err-clause-size g c = tt
-
 pub returns-then-would_fit-clause-asks : goal.returns-then-would_fit-clause-asks
 returns-then-would_fit-clause-asks g c = unasked tt
 
 pub returns-in_err-take-clause-asks : goal.returns-in_err-take-clause-asks
 returns-in_err-take-clause-asks g c = unasked (memory_exit c.from_residual.result _ c.from_residual.ensures.1 OutOfMemory c.in_err-take.ensures.cause)
-
-pub returns-in-Err-clause-asks : goal.returns-in-Err-clause-asks
-returns-in-Err-clause-asks g c = failed_again c.in-Err.ensures.asks
-
-pub returns-in_err-take-in-Ok-clause-asks : goal.returns-in_err-take-in-Ok-clause-asks
-returns-in_err-take-in-Ok-clause-asks g c =
-    asked_before c.in-Ok.ensures.asks (memory_exit c.from_residual-in_err-take-in-Ok.result _ c.from_residual-in_err-take-in-Ok.ensures.1 OutOfMemory c.in_err-take-in-Ok.ensures.cause)
 
 pub returns-in_ok-take-in-Ok-clause-asks : goal.returns-in_ok-take-in-Ok-clause-asks
 returns-in_ok-take-in-Ok-clause-asks g c = asked_before c.in-Ok.ensures.asks tt

@@ -15,57 +15,85 @@ not_empty : (rows taken : List RowEntry) (e : SlateDBError) → 0 < length rows 
 not_empty rows taken e some same none (inl empty) = absurd omega (arith, some, ap length (sym same ∙ none empty))
 not_empty rows taken e some same none (inr memory) = memory
 
-pub returns-in_err-empty-clause-ended : goal.returns-in_err-empty-clause-ended
-returns-in_err-empty-clause-ended g c = IfOk-from_err c.from_residual.result _ c.from_residual.ensures.0
-
-pub returns-in_err-empty-clause-size : goal.returns-in_err-empty-clause-size
-returns-in_err-empty-clause-size g c = IfOk-from_err c.from_residual.result _ c.from_residual.ensures.0
-
-pub returns-in_err-part-clause-ended : goal.returns-in_err-part-clause-ended
-returns-in_err-part-clause-ended g c = IfOk-from_err c.from_residual-in_err-part.result _ c.from_residual-in_err-part.ensures.0
-
-pub returns-in_err-part-clause-size : goal.returns-in_err-part-clause-size
-returns-in_err-part-clause-size g c = IfOk-from_err c.from_residual-in_err-part.result _ c.from_residual-in_err-part.ensures.0
-
-pub returns-in_err-seal_section-clause-ended : goal.returns-in_err-seal_section-clause-ended
-returns-in_err-seal_section-clause-ended g c = IfOk-from_err c.from_residual-in_err-seal_section.result _ c.from_residual-in_err-seal_section.ensures.0
-
-pub returns-in_err-seal_section-clause-size : goal.returns-in_err-seal_section-clause-size
-returns-in_err-seal_section-clause-size g c = IfOk-from_err c.from_residual-in_err-seal_section.result _ c.from_residual-in_err-seal_section.ensures.0
-
-pub returns-in_err-push-clause-ended : goal.returns-in_err-push-clause-ended
-returns-in_err-push-clause-ended g c = IfOk-from_err c.from_residual-in_err-push.result _ c.from_residual-in_err-push.ensures.0
-
-pub returns-in_err-push-clause-size : goal.returns-in_err-push-clause-size
-returns-in_err-push-clause-size g c = IfOk-from_err c.from_residual-in_err-push.result _ c.from_residual-in_err-push.ensures.0
-
-pub returns-in_err-push-2-clause-ended : goal.returns-in_err-push-2-clause-ended
-returns-in_err-push-2-clause-ended g c = IfOk-from_err c.from_residual-in_err-push-2.result _ c.from_residual-in_err-push-2.ensures.0
-
-pub returns-in_err-push-2-clause-size : goal.returns-in_err-push-2-clause-size
-returns-in_err-push-2-clause-size g c = IfOk-from_err c.from_residual-in_err-push-2.result _ c.from_residual-in_err-push-2.ensures.0
-
-pub returns-clause-ended : goal.returns-clause-ended
-returns-clause-ended g c =
-    let p = c.args.self.now in
-    let encode = changed_by g.T.BlockTransformer.encoded c.args.transformer.now in
-    let same : c.into_parts-builder.result.0 ≡ p.block.builder = c.into_parts-builder.ensures.builder ∙ (λ i. (c.replace.ensures.value i).builder) in
-    let counts = c.into_parts-builder.ensures.stats ∙ (λ i. (c.replace.ensures.value i).stats) in
-    let part = c.in_ok-part.ensures.bytes ∙ (λ i. block_bytes (same i).version (same i).rows) in
-    let begin : c.len-begin.result ≡ length p.bytes.items = search rules in
+pub returns-in_err-empty : goal.returns-in_err-empty
+returns-in_err-empty g c =
     record {
-      size = refl;
-      format = refl;
-      rows = refl;
-      separators = refl;
-      keys = refl;
-      values = refl;
-      builder = (λ i. (c.replace.ensures.after i).builder) ∙ c.in_ok-empty.ensures.builder;
-      counts = (λ i. (c.replace.ensures.after i).stats) ∙ c.in_ok-empty.ensures.counts;
-      bytes = c.in_ok-seal_section.ensures.appended ∙ (λ i. p.bytes.items ++ section encode (part i));
-      offsets = c.in_ok-push.ensures.items ∙ (λ i. p.offsets.items ++ begin i ∷ []);
-      stats = c.in_ok-push-2.ensures.items ∙ (λ i. p.block_stats.items ++ counts i ∷ []);
-      fits = subst (λ (b : Building). FitsBlock b.version b.rows) same c.in_ok-part.ensures.fits;
+      ended = IfOk-from_err c.from_residual.result _ c.from_residual.ensures.0;
+      size = IfOk-from_err c.from_residual.result _ c.from_residual.ensures.0;
+      asks = unasked (memory_exit c.from_residual.result _ c.from_residual.ensures.1 OutOfMemory c.in_err-empty.ensures.cause);
+    }
+
+pub returns-in_err-part : goal.returns-in_err-part
+returns-in_err-part g c =
+    record {
+      ended = IfOk-from_err c.from_residual-in_err-part.result _ c.from_residual-in_err-part.ensures.0;
+      size = IfOk-from_err c.from_residual-in_err-part.result _ c.from_residual-in_err-part.ensures.0;
+      asks = (let same = c.into_parts-builder.ensures.builder ∙ (λ i. (c.replace.ensures.value i).builder) in
+          let memory = not_empty c.args.self.now.block.builder.rows c.into_parts-builder.result.0.rows c.in_err-part.field-0.0 c.requires.row (λ i. (same i).rows)
+          (λ is. c.in_err-part.ensures.empty.0 (ap (λ (e : SlateDBError). Err e) is)) c.in_err-part.ensures.cause in
+          unasked (memory_exit c.from_residual-in_err-part.result _ c.from_residual-in_err-part.ensures.1 OutOfMemory memory));
+    }
+
+pub returns-in_err-seal_section : goal.returns-in_err-seal_section
+returns-in_err-seal_section g c =
+    record {
+      ended = IfOk-from_err c.from_residual-in_err-seal_section.result _ c.from_residual-in_err-seal_section.ensures.0;
+      size = IfOk-from_err c.from_residual-in_err-seal_section.result _ c.from_residual-in_err-seal_section.ensures.0;
+      asks = (let call = c.seal_section.ensures in
+          failed_asks (asks_of call.same_encoded call.same_decoded call.later c.in_err-seal_section.ensures.still c.in_err-seal_section.ensures.cause) c.from_residual-in_err-seal_section.ensures.1);
+    }
+
+pub returns-in_err-push : goal.returns-in_err-push
+returns-in_err-push g c =
+    record {
+      ended = IfOk-from_err c.from_residual-in_err-push.result _ c.from_residual-in_err-push.ensures.0;
+      size = IfOk-from_err c.from_residual-in_err-push.result _ c.from_residual-in_err-push.ensures.0;
+      asks = (let call = c.seal_section.ensures in
+          asked_before (asks_of call.same_encoded call.same_decoded call.later c.in_ok-seal_section.ensures.still tt) (memory_exit c.from_residual-in_err-push.result _ c.from_residual-in_err-push.ensures.1 OutOfMemory refl));
+    }
+
+pub returns-in_err-push-2 : goal.returns-in_err-push-2
+returns-in_err-push-2 g c =
+    record {
+      ended = IfOk-from_err c.from_residual-in_err-push-2.result _ c.from_residual-in_err-push-2.ensures.0;
+      size = IfOk-from_err c.from_residual-in_err-push-2.result _ c.from_residual-in_err-push-2.ensures.0;
+      asks = (let call = c.seal_section.ensures in
+          asked_before (asks_of call.same_encoded call.same_decoded call.later c.in_ok-seal_section.ensures.still tt) (memory_exit c.from_residual-in_err-push-2.result _ c.from_residual-in_err-push-2.ensures.1 OutOfMemory refl));
+    }
+
+pub returns : goal.returns
+returns g c =
+    record {
+      ended = (let p = c.args.self.now in
+          let encode = changed_by g.T.BlockTransformer.encoded c.args.transformer.now in
+          let same : c.into_parts-builder.result.0 ≡ p.block.builder = c.into_parts-builder.ensures.builder ∙ (λ i. (c.replace.ensures.value i).builder) in
+          let counts = c.into_parts-builder.ensures.stats ∙ (λ i. (c.replace.ensures.value i).stats) in
+          let part = c.in_ok-part.ensures.bytes ∙ (λ i. block_bytes (same i).version (same i).rows) in
+          let begin : c.len-begin.result ≡ length p.bytes.items = search rules in
+          record {
+            size = refl;
+            format = refl;
+            rows = refl;
+            separators = refl;
+            keys = refl;
+            values = refl;
+            builder = (λ i. (c.replace.ensures.after i).builder) ∙ c.in_ok-empty.ensures.builder;
+            counts = (λ i. (c.replace.ensures.after i).stats) ∙ c.in_ok-empty.ensures.counts;
+            bytes = c.in_ok-seal_section.ensures.appended ∙ (λ i. p.bytes.items ++ section encode (part i));
+            offsets = c.in_ok-push.ensures.items ∙ (λ i. p.offsets.items ++ begin i ∷ []);
+            stats = c.in_ok-push-2.ensures.items ∙ (λ i. p.block_stats.items ++ counts i ∷ []);
+            fits = subst (λ (b : Building). FitsBlock b.version b.rows) same c.in_ok-part.ensures.fits;
+          });
+      size = (let p = c.args.self.now in
+          let s = section (changed_by g.T.BlockTransformer.encoded c.args.transformer.now) (block_bytes p.block.builder.version p.block.builder.rows) in
+          let same : c.into_parts-builder.result.0 ≡ p.block.builder = c.into_parts-builder.ensures.builder ∙ (λ i. (c.replace.ensures.value i).builder) in
+          let part = c.in_ok-part.ensures.bytes ∙ (λ i. block_bytes (same i).version (same i).rows) in
+          let bytes : c.seal_section.new.out.items ≡ p.bytes.items ++ s = c.in_ok-seal_section.ensures.appended ∙ (λ i. p.bytes.items ++ section (changed_by g.T.BlockTransformer.encoded c.args.transformer.now) (part i)) in
+          let begin : c.len-begin.result ≡ length p.bytes.items = search rules in
+          let end : c.len.result ≡ length c.seal_section.new.out.items = search rules in
+          omega (arith, begin, end ∙ ap length bytes ∙ length-append p.bytes.items s));
+      asks = (let call = c.seal_section.ensures in
+          asked_before (asks_of call.same_encoded call.same_decoded call.later c.in_ok-seal_section.ensures.still tt) tt);
     }
 
 pub overflow_sub-result : goal.overflow_sub-result
@@ -75,44 +103,3 @@ overflow_sub-result g c =
     let begin : c.len-begin.result ≡ length p.bytes.items = search rules in
     let end : c.len.result ≡ length c.seal_section.new.out.items = search rules in
     omega (arith, begin, end ∙ ap length c.in_ok-seal_section.ensures.appended ∙ length-append p.bytes.items part)
-
-pub returns-clause-size : goal.returns-clause-size
-returns-clause-size g c =
-    let p = c.args.self.now in
-    let s = section (changed_by g.T.BlockTransformer.encoded c.args.transformer.now) (block_bytes p.block.builder.version p.block.builder.rows) in
-    let same : c.into_parts-builder.result.0 ≡ p.block.builder = c.into_parts-builder.ensures.builder ∙ (λ i. (c.replace.ensures.value i).builder) in
-    let part = c.in_ok-part.ensures.bytes ∙ (λ i. block_bytes (same i).version (same i).rows) in
-    let bytes : c.seal_section.new.out.items ≡ p.bytes.items ++ s = c.in_ok-seal_section.ensures.appended ∙ (λ i. p.bytes.items ++ section (changed_by g.T.BlockTransformer.encoded c.args.transformer.now) (part i)) in
-    let begin : c.len-begin.result ≡ length p.bytes.items = search rules in
-    let end : c.len.result ≡ length c.seal_section.new.out.items = search rules in
-    omega (arith, begin, end ∙ ap length bytes ∙ length-append p.bytes.items s)
-
-pub returns-in_err-empty-clause-asks : goal.returns-in_err-empty-clause-asks
-returns-in_err-empty-clause-asks g c = unasked (memory_exit c.from_residual.result _ c.from_residual.ensures.1 OutOfMemory c.in_err-empty.ensures.cause)
-
-pub returns-in_err-part-clause-asks : goal.returns-in_err-part-clause-asks
-returns-in_err-part-clause-asks g c =
-    let same = c.into_parts-builder.ensures.builder ∙ (λ i. (c.replace.ensures.value i).builder) in
-    let memory = not_empty c.args.self.now.block.builder.rows c.into_parts-builder.result.0.rows c.in_err-part.field-0.0 c.requires.row (λ i. (same i).rows)
-    (λ is. c.in_err-part.ensures.empty.0 (ap (λ (e : SlateDBError). Err e) is)) c.in_err-part.ensures.cause in
-    unasked (memory_exit c.from_residual-in_err-part.result _ c.from_residual-in_err-part.ensures.1 OutOfMemory memory)
-
-pub returns-in_err-seal_section-clause-asks : goal.returns-in_err-seal_section-clause-asks
-returns-in_err-seal_section-clause-asks g c =
-    let call = c.seal_section.ensures in
-    failed_asks (asks_of call.same_encoded call.same_decoded call.later c.in_err-seal_section.ensures.still c.in_err-seal_section.ensures.cause) c.from_residual-in_err-seal_section.ensures.1
-
-pub returns-in_err-push-clause-asks : goal.returns-in_err-push-clause-asks
-returns-in_err-push-clause-asks g c =
-    let call = c.seal_section.ensures in
-    asked_before (asks_of call.same_encoded call.same_decoded call.later c.in_ok-seal_section.ensures.still tt) (memory_exit c.from_residual-in_err-push.result _ c.from_residual-in_err-push.ensures.1 OutOfMemory refl)
-
-pub returns-in_err-push-2-clause-asks : goal.returns-in_err-push-2-clause-asks
-returns-in_err-push-2-clause-asks g c =
-    let call = c.seal_section.ensures in
-    asked_before (asks_of call.same_encoded call.same_decoded call.later c.in_ok-seal_section.ensures.still tt) (memory_exit c.from_residual-in_err-push-2.result _ c.from_residual-in_err-push-2.ensures.1 OutOfMemory refl)
-
-pub returns-clause-asks : goal.returns-clause-asks
-returns-clause-asks g c =
-    let call = c.seal_section.ensures in
-    asked_before (asks_of call.same_encoded call.same_decoded call.later c.in_ok-seal_section.ensures.still tt) tt

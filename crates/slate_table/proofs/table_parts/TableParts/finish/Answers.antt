@@ -44,40 +44,35 @@ close-requires g c =
       stats = omega (arith, s.place, ap length s.bytes, length-append (q.bytes.items ++ index) (section between (parts_stats q)));
     }
 
-pub returns-clause-finished : goal.returns-clause-finished
-returns-clause-finished g c =
-    let encode = changed_by g.T.BlockTransformer.encoded c.args.transformer.now in
-    let q = c.end_block.new.self in
-    let r = c.append_sections.new.self in
-    let at = c.in_ok-stats_offset.stats_offset in
-    let begin : c.len-index_offset.result ≡ length q.bytes.items = search rules in
-    let sealed = subst (λ (f : Encode). IsSealed f q at r) c.in_ok-end_block.ensures.asks.same_encoded c.in_ok-stats_offset.ensures.sealed in
-    if_ok_both c.close.result _ _ _
-    (λ made ended short. closed encode c.args.self.now q r c.len-index_offset.result at made.bytes made.info c.in_ok-end_block.ensures.ended sealed begin ended short)
-    c.close.ensures.ended c.close.ensures.short
+pub returns : goal.returns
+returns g c =
+    record {
+      finished = (let encode = changed_by g.T.BlockTransformer.encoded c.args.transformer.now in
+          let q = c.end_block.new.self in
+          let r = c.append_sections.new.self in
+          let at = c.in_ok-stats_offset.stats_offset in
+          let begin : c.len-index_offset.result ≡ length q.bytes.items = search rules in
+          let sealed = subst (λ (f : Encode). IsSealed f q at r) c.in_ok-end_block.ensures.asks.same_encoded c.in_ok-stats_offset.ensures.sealed in
+          if_ok_both c.close.result _ _ _
+          (λ made ended short. closed encode c.args.self.now q r c.len-index_offset.result at made.bytes made.info c.in_ok-end_block.ensures.ended sealed begin ended short)
+          c.close.ensures.ended c.close.ensures.short);
+      version = (let end : IsEnded (changed_by g.T.BlockTransformer.encoded c.args.transformer.now) c.args.self.now c.end_block.new.self = c.in_ok-end_block.ensures.ended in
+          IfOk-weaker c.close.result _ _ (λ made is. is ∙ ap version_of (c.in_ok-stats_offset.ensures.sealed.format ∙ end.format)) c.close.ensures.version);
+      asks = asks_again c.in_ok-end_block.ensures.asks (asked_before c.in_ok-stats_offset.ensures.asks c.close.ensures.cause);
+    }
 
-pub returns-clause-version : goal.returns-clause-version
-returns-clause-version g c =
-    let end : IsEnded (changed_by g.T.BlockTransformer.encoded c.args.transformer.now) c.args.self.now c.end_block.new.self = c.in_ok-end_block.ensures.ended in
-    IfOk-weaker c.close.result _ _ (λ made is. is ∙ ap version_of (c.in_ok-stats_offset.ensures.sealed.format ∙ end.format)) c.close.ensures.version
+pub returns-in_err-end_block : goal.returns-in_err-end_block
+returns-in_err-end_block g c =
+    record {
+      finished = IfOk-from_err c.from_residual.result _ c.from_residual.ensures.0;
+      version = IfOk-from_err c.from_residual.result _ c.from_residual.ensures.0;
+      asks = failed_asks c.in_err-end_block.ensures.asks c.from_residual.ensures.1;
+    }
 
-pub returns-clause-asks : goal.returns-clause-asks
-returns-clause-asks g c = asks_again c.in_ok-end_block.ensures.asks (asked_before c.in_ok-stats_offset.ensures.asks c.close.ensures.cause)
-
-pub returns-in_err-end_block-clause-finished : goal.returns-in_err-end_block-clause-finished
-returns-in_err-end_block-clause-finished g c = IfOk-from_err c.from_residual.result _ c.from_residual.ensures.0
-
-pub returns-in_err-end_block-clause-version : goal.returns-in_err-end_block-clause-version
-returns-in_err-end_block-clause-version g c = IfOk-from_err c.from_residual.result _ c.from_residual.ensures.0
-
-pub returns-in_err-end_block-clause-asks : goal.returns-in_err-end_block-clause-asks
-returns-in_err-end_block-clause-asks g c = failed_asks c.in_err-end_block.ensures.asks c.from_residual.ensures.1
-
-pub returns-in_err-stats_offset-clause-finished : goal.returns-in_err-stats_offset-clause-finished
-returns-in_err-stats_offset-clause-finished g c = IfOk-from_err c.from_residual-in_err-stats_offset.result _ c.from_residual-in_err-stats_offset.ensures.0
-
-pub returns-in_err-stats_offset-clause-version : goal.returns-in_err-stats_offset-clause-version
-returns-in_err-stats_offset-clause-version g c = IfOk-from_err c.from_residual-in_err-stats_offset.result _ c.from_residual-in_err-stats_offset.ensures.0
-
-pub returns-in_err-stats_offset-clause-asks : goal.returns-in_err-stats_offset-clause-asks
-returns-in_err-stats_offset-clause-asks g c = asks_again c.in_ok-end_block.ensures.asks (failed_asks c.in_err-stats_offset.ensures.asks c.from_residual-in_err-stats_offset.ensures.1)
+pub returns-in_err-stats_offset : goal.returns-in_err-stats_offset
+returns-in_err-stats_offset g c =
+    record {
+      finished = IfOk-from_err c.from_residual-in_err-stats_offset.result _ c.from_residual-in_err-stats_offset.ensures.0;
+      version = IfOk-from_err c.from_residual-in_err-stats_offset.result _ c.from_residual-in_err-stats_offset.ensures.0;
+      asks = asks_again c.in_ok-end_block.ensures.asks (failed_asks c.in_err-stats_offset.ensures.asks c.from_residual-in_err-stats_offset.ensures.1);
+    }
