@@ -1,11 +1,11 @@
 use Rattle.slate_store.specs.declared.store.StoreError.TheVariants.{Failed}
-use Rattle.std.proofs.Common.{◌≡◌, ◌∙◌, ℕ, List, Option, Some, Ok, Err, subst, refl}
+use Rattle.std.proofs.Common.{◌≡◌, ◌∙◌, ℕ, List, Option, Some, Ok, Err, inl, subst, refl}
 use Rattle.std.specs.Prelude.{Result, IfOk}
 use Rattle.slate_types.specs.Outside.{Objects}
 use Rattle.slate_store.specs.Store.{Act, AddsAct, AnswersLen, of_store}
 use Rattle.slate_table.specs.Opening.{IsMeasured}
 use Rattle.slate_table.proofs.Results.{mapped, on_err, mapped_err, mapped_still, store_fault}
-use Rattle.std.proofs.lemmas.Result.{IfOk-from_err, IfErr-at_err}
+use Rattle.std.proofs.lemmas.Result.{err_from_is_err_and, IfOk-from_err, IfErr-at_err}
 use Rattle.slate_table.proofs.Asking.{untouched}
 use Rattle.slate_table.proofs.opening.object_len.Goals as goal
 
@@ -33,11 +33,12 @@ returns g c =
       });
     }
 
-pub returns-in_err-path-clause-measured : goal.returns-in_err-path-clause-measured
-returns-in_err-path-clause-measured g c = IfOk-from_err c.from_residual.result _ c.from_residual.ensures.0
-
-pub returns-in_err-path-clause-none : goal.returns-in_err-path-clause-none
-returns-in_err-path-clause-none g c = on_err _ refl
-
-pub returns-in_err-path-clause-reaches : goal.returns-in_err-path-clause-reaches
-returns-in_err-path-clause-reaches g c = untouched
+pub returns-in_err-path : goal.returns-in_err-path
+returns-in_err-path g c =
+    let p = err_from_is_err_and c.from_residual.result c.from_residual.ensures.1 in
+    record {
+      measured = IfOk-from_err c.from_residual.result _ c.from_residual.ensures.0;
+      cause = rw (p.1, p.2) (inl c.in_err-path.ensures.cause);
+      none = on_err _ refl;
+      reaches = untouched;
+    }

@@ -70,45 +70,29 @@ returns g c =
       reaches = reaches_again c.in_ok-size.ensures.reaches (reaches_again c.in_ok-footer.ensures.reaches (reaches_ok c.in_ok-info.ensures.reaches));
     }
 
-pub returns-in_err-len-clause-calls : goal.returns-in_err-len-clause-calls
-returns-in_err-len-clause-calls g c =
-    let p = err_from_is_err_and c.from_residual-in_err-len.result c.from_residual-in_err-len.ensures.1 in
-    rw p.1
-    (may_size (g.S.Store.objects c.args.store.now) (g.S.Store.acts c.args.store.now) (g.S.Store.acts c.object_len.new.store) (path_of c.args.root.now c.args.id.0) c.in_ok-size.size c.in_ok-size.ensures.measured)
-
-pub returns-in_err-size-clause-cause : goal.returns-in_err-size-clause-cause
-returns-in_err-size-clause-cause g c = let p = err_from_is_err_and c.from_residual.result c.from_residual.ensures.1 in rw (p.1, p.2) (inl c.in_err-size.ensures.cause)
-
-pub returns-in_err-size-clause-calls : goal.returns-in_err-size-clause-calls
-unfolding MayOpen
-returns-in_err-size-clause-calls g c = let p = err_from_is_err_and c.from_residual.result c.from_residual.ensures.1 in rw p.1 (inl c.in_err-size.ensures.none)
-
-pub returns-in_err-len-clause-cause : goal.returns-in_err-len-clause-cause
+pub returns-in_err-len : goal.returns-in_err-len
 unfolding RefusesOpen
-returns-in_err-len-clause-cause g c =
+returns-in_err-len g c =
     let p = err_from_is_err_and c.from_residual-in_err-len.result c.from_residual-in_err-len.ensures.1 in
-    rw (p.1, p.2) (inr (inl (c.in_ok-size.size, c.in_ok-size.ensures.measured, sym c.in_err-len.ensures.value)))
+    record {
+      found = IfOk-from_err c.from_residual-in_err-len.result _ c.from_residual-in_err-len.ensures.0;
+      known = IfOk-from_err c.from_residual-in_err-len.result _ c.from_residual-in_err-len.ensures.0;
+      id = IfOk-from_err c.from_residual-in_err-len.result _ c.from_residual-in_err-len.ensures.0;
+      cause = rw (p.1, p.2) (inr (inl (c.in_ok-size.size, c.in_ok-size.ensures.measured, sym c.in_err-len.ensures.value)));
+      calls = (rw p.1
+          (may_size (g.S.Store.objects c.args.store.now) (g.S.Store.acts c.args.store.now) (g.S.Store.acts c.object_len.new.store) (path_of c.args.root.now c.args.id.0) c.in_ok-size.size c.in_ok-size.ensures.measured));
+      reaches = reaches_ok c.in_ok-size.ensures.reaches;
+    }
 
-pub returns-in_err-size-clause-found : goal.returns-in_err-size-clause-found
-returns-in_err-size-clause-found g c = IfOk-from_err c.from_residual.result _ c.from_residual.ensures.0
-
-pub returns-in_err-size-clause-known : goal.returns-in_err-size-clause-known
-returns-in_err-size-clause-known g c = IfOk-from_err c.from_residual.result _ c.from_residual.ensures.0
-
-pub returns-in_err-size-clause-id : goal.returns-in_err-size-clause-id
-returns-in_err-size-clause-id g c = IfOk-from_err c.from_residual.result _ c.from_residual.ensures.0
-
-pub returns-in_err-len-clause-found : goal.returns-in_err-len-clause-found
-returns-in_err-len-clause-found g c = IfOk-from_err c.from_residual-in_err-len.result _ c.from_residual-in_err-len.ensures.0
-
-pub returns-in_err-len-clause-known : goal.returns-in_err-len-clause-known
-returns-in_err-len-clause-known g c = IfOk-from_err c.from_residual-in_err-len.result _ c.from_residual-in_err-len.ensures.0
-
-pub returns-in_err-len-clause-id : goal.returns-in_err-len-clause-id
-returns-in_err-len-clause-id g c = IfOk-from_err c.from_residual-in_err-len.result _ c.from_residual-in_err-len.ensures.0
-
-pub returns-in_err-size-clause-reaches : goal.returns-in_err-size-clause-reaches
-returns-in_err-size-clause-reaches g c = reaches_err c.in_err-size.ensures.reaches c.from_residual.ensures.1
-
-pub returns-in_err-len-clause-reaches : goal.returns-in_err-len-clause-reaches
-returns-in_err-len-clause-reaches g c = reaches_ok c.in_ok-size.ensures.reaches
+pub returns-in_err-size : goal.returns-in_err-size
+unfolding MayOpen
+returns-in_err-size g c =
+    let p = err_from_is_err_and c.from_residual.result c.from_residual.ensures.1 in
+    record {
+      found = IfOk-from_err c.from_residual.result _ c.from_residual.ensures.0;
+      known = IfOk-from_err c.from_residual.result _ c.from_residual.ensures.0;
+      id = IfOk-from_err c.from_residual.result _ c.from_residual.ensures.0;
+      cause = rw (p.1, p.2) (inl c.in_err-size.ensures.cause);
+      calls = rw p.1 (inl c.in_err-size.ensures.none);
+      reaches = reaches_err c.in_err-size.ensures.reaches c.from_residual.ensures.1;
+    }

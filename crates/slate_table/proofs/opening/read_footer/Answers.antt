@@ -4,14 +4,16 @@ use Rattle.slate_table.proofs.Results.{on_err}
 use Rattle.slate_table.proofs.Asking.{reaches_err, reaches_ok}
 use Rattle.slate_table.proofs.opening.read_footer.Goals as goal
 
-pub returns-clause-found : goal.returns-clause-found
-returns-clause-found g c = IfOk-weaker c.footer_of-footer.result _ _ (λ footer found. (c.in_ok-answer.answer, c.in_ok-answer.ensures.read, found)) c.footer_of-footer.ensures.found
-
-pub returns-clause-cause : goal.returns-clause-cause
-returns-clause-cause g c = IfErr-weaker c.footer_of-footer.result _ _ (λ e fails. inr (c.in_ok-answer.answer, c.in_ok-answer.ensures.read, fails)) c.footer_of-footer.ensures.cause
-
-pub returns-clause-once : goal.returns-clause-once
-returns-clause-once g c = on_err c.footer_of-footer.result (inr (c.in_ok-answer.answer, c.in_ok-answer.ensures.read, tt))
+pub returns : goal.returns
+returns g c =
+    record {
+      found = IfOk-weaker c.footer_of-footer.result _ _ (λ footer found. (c.in_ok-answer.answer, c.in_ok-answer.ensures.read, found)) c.footer_of-footer.ensures.found;
+      known = c.footer_of-footer.ensures.known;
+      within = c.footer_of-footer.ensures.within;
+      cause = IfErr-weaker c.footer_of-footer.result _ _ (λ e fails. inr (c.in_ok-answer.answer, c.in_ok-answer.ensures.read, fails)) c.footer_of-footer.ensures.cause;
+      once = on_err c.footer_of-footer.result (inr (c.in_ok-answer.answer, c.in_ok-answer.ensures.read, tt));
+      reaches = reaches_ok c.in_ok-answer.ensures.reaches;
+    }
 
 pub returns-in_err-answer : goal.returns-in_err-answer
 returns-in_err-answer g c =
@@ -24,6 +26,3 @@ returns-in_err-answer g c =
       once = rw p.1 (inl c.in_err-answer.ensures.none);
       reaches = reaches_err c.in_err-answer.ensures.reaches c.from_residual.ensures.1;
     }
-
-pub returns-clause-reaches : goal.returns-clause-reaches
-returns-clause-reaches g c = reaches_ok c.in_ok-answer.ensures.reaches

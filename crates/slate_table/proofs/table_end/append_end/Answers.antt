@@ -6,18 +6,21 @@ use Rattle.slate_table.specs.SectionReading.{footer_bytes}
 use Rattle.slate_table.specs.TableEnd.{placed_info, part_of_info}
 use Rattle.slate_table.proofs.table_end.append_end.Goals as goal
 
-pub returns-in-Ok-clause-ended : goal.returns-in-Ok-clause-ended
-returns-in-Ok-clause-ended c =
-    let rows = c.args.rows.now in
-    let out = c.args.out.now.items in
-    let index = c.args.index_offset in
-    let stats = c.args.stats_offset in
-    let size : c.len.result ≡ length out = search rules in
-    let info : seen_info c.in_ok-info.info ≡ placed_info rows index stats (length out) = c.in_ok-info.ensures.value ∙ (λ j. placed_info rows index stats (size j)) in
-    let low = c.requires.index in
-    let high = c.requires.stats in
-    let lies : SectionsLieBefore (length out) (placed_info rows index stats (length out)) = (omega arith, omega arith, omega arith) in
+pub returns-in-Ok : goal.returns-in-Ok
+returns-in-Ok c =
     record {
-      is = c.in-Ok.ensures.appended ∙ (λ j. out ++ (summed (part_of_info c.args.version (info j)) ++ footer_bytes (length out) c.args.version));
-      info = c.in-Ok.ensures.info (subst (λ (made : Info). SectionsLieBefore (length out) made) (sym info) lies);
+      ended = (let rows = c.args.rows.now in
+          let out = c.args.out.now.items in
+          let index = c.args.index_offset in
+          let stats = c.args.stats_offset in
+          let size : c.len.result ≡ length out = search rules in
+          let info : seen_info c.in_ok-info.info ≡ placed_info rows index stats (length out) = c.in_ok-info.ensures.value ∙ (λ j. placed_info rows index stats (size j)) in
+          let low = c.requires.index in
+          let high = c.requires.stats in
+          let lies : SectionsLieBefore (length out) (placed_info rows index stats (length out)) = (omega arith, omega arith, omega arith) in
+          record {
+            is = c.in-Ok.ensures.appended ∙ (λ j. out ++ (summed (part_of_info c.args.version (info j)) ++ footer_bytes (length out) c.args.version));
+            info = c.in-Ok.ensures.info (subst (λ (made : Info). SectionsLieBefore (length out) made) (sym info) lies);
+          });
+      cause = tt;
     }

@@ -1,4 +1,4 @@
-use Rattle.std.proofs.Common.{◌∙◌, arith, inl}
+use Rattle.std.proofs.Common.{◌∙◌, arith, inl, refl}
 use Rattle.std.proofs.lemmas.Result.{err_from_is_err_and, IfOk-from_err}
 use Rattle.slate_types.specs.Faults.{faults_of}
 use Rattle.slate_table.specs.IndexValue.{entries_of}
@@ -49,20 +49,21 @@ returns-in_err-section g c =
       stays = stays_behind c.loop-at.invariant.same_encoded c.loop-at.invariant.same_decoded c.loop-at.invariant.still unchanged;
     }
 
-pub returns-clause-found : goal.returns-clause-found
-returns-clause-found g c = c.loop-at.invariant.read
+pub returns : goal.returns
+returns g c =
+    record {
+      found = c.loop-at.invariant.read;
+      count = omega arith;
+      cause = tt;
+      stays = stays_behind c.loop-at.invariant.same_encoded c.loop-at.invariant.same_decoded c.loop-at.invariant.still unchanged;
+    }
 
-pub returns-in_err-push-clause-found : goal.returns-in_err-push-clause-found
-returns-in_err-push-clause-found g c = IfOk-from_err c.from_residual-in_err-push.result _ c.from_residual-in_err-push.ensures.0
-
-pub returns-in_err-push-clause-count : goal.returns-in_err-push-clause-count
-returns-in_err-push-clause-count g c = IfOk-from_err c.from_residual-in_err-push.result _ c.from_residual-in_err-push.ensures.0
-
-pub returns-clause-cause : goal.returns-clause-cause
-returns-clause-cause g c = tt
-
-pub returns-in_err-push-clause-stays : goal.returns-in_err-push-clause-stays
-returns-in_err-push-clause-stays g c = stays_behind c.loop-at.invariant.same_encoded c.loop-at.invariant.same_decoded c.loop-at.invariant.still (stays_ok c.in_ok-block.ensures.stays)
-
-pub returns-clause-stays : goal.returns-clause-stays
-returns-clause-stays g c = stays_behind c.loop-at.invariant.same_encoded c.loop-at.invariant.same_decoded c.loop-at.invariant.still unchanged
+pub returns-in_err-push : goal.returns-in_err-push
+returns-in_err-push g c =
+    let p = err_from_is_err_and c.from_residual-in_err-push.result c.from_residual-in_err-push.ensures.1 in
+    record {
+      found = IfOk-from_err c.from_residual-in_err-push.result _ c.from_residual-in_err-push.ensures.0;
+      count = IfOk-from_err c.from_residual-in_err-push.result _ c.from_residual-in_err-push.ensures.0;
+      cause = rw (p.1, p.2) (inl refl);
+      stays = stays_behind c.loop-at.invariant.same_encoded c.loop-at.invariant.same_decoded c.loop-at.invariant.still (stays_ok c.in_ok-block.ensures.stays);
+    }

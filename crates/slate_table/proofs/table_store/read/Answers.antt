@@ -5,13 +5,23 @@ use Rattle.std.proofs.lemmas.Result.{IfOk-from_err, err_from_is_err_and}
 use Rattle.slate_table.proofs.Asking.{untouched}
 use Rattle.slate_table.proofs.table_store.read.Goals as goal
 
-pub returns-clause-read : goal.returns-clause-read
-returns-clause-read g c =
-    let store = c.args.store.now in
-    let after = c.read_range.new.self in
-    subst (λ (path : List ℕ). IsRead (g.S.Store.objects store) (g.S.Store.acts store) (g.S.Store.acts after) path c.args.place.0 c.args.place.1 c.whole_answer.result)
-    (c.as_str.ensures.value ∙ c.in_ok-path.ensures.path)
-    (c.in_ok-answer.answer, c.in_ok-answer.ensures.answer, c.in_ok-answer.ensures.act, c.whole_answer.ensures.value)
+pub returns : goal.returns
+returns g c =
+    record {
+      read = (let store = c.args.store.now in
+          let after = c.read_range.new.self in
+          subst (λ (path : List ℕ). IsRead (g.S.Store.objects store) (g.S.Store.acts store) (g.S.Store.acts after) path c.args.place.0 c.args.place.1 c.whole_answer.result)
+          (c.as_str.ensures.value ∙ c.in_ok-path.ensures.path)
+          (c.in_ok-answer.answer, c.in_ok-answer.ensures.answer, c.in_ok-answer.ensures.act, c.whole_answer.ensures.value));
+      whole = c.whole_answer.ensures.whole;
+      cause = tt;
+      none = tt;
+      reaches = (record {
+        same_objects = c.read_range.ensures.objects;
+        later = c.read_range.ensures.later;
+        still = inr (read_still c.in_ok-answer.answer c.in_ok-answer.ensures.still);
+      });
+    }
 
 pub returns-in_err-path : goal.returns-in_err-path
 returns-in_err-path g c =
@@ -38,10 +48,3 @@ returns-in_err-answer g c =
         still = rw (p.1, p.2) (store_failed c.in_err-answer.field-0.0 c.in_err-answer.ensures.still);
       });
     }
-
-pub returns-clause-reaches : goal.returns-clause-reaches
-returns-clause-reaches g c = record {
-  same_objects = c.read_range.ensures.objects;
-  later = c.read_range.ensures.later;
-  still = inr (read_still c.in_ok-answer.answer c.in_ok-answer.ensures.still);
-}

@@ -9,37 +9,29 @@ returns-clause-found c =
     footer_spelled c.args.bytes.now c.in_ok-info_offset.info_offset c.in_ok-info_offset.at c.in_ok-version.version c.in_ok-version.field-0-1
     (λ i. omega (arith, c.type_inv.bytes i)) c.requires.whole (sym c.in_ok-info_offset.ensures.value) (sym c.in_ok-version.ensures.value)
 
-pub returns-in_err-info_offset-clause-found : goal.returns-in_err-info_offset-clause-found
-returns-in_err-info_offset-clause-found c = IfOk-from_err c.from_residual.result _ c.from_residual.ensures.0
-
-pub returns-in_err-info_offset-clause-known : goal.returns-in_err-info_offset-clause-known
-returns-in_err-info_offset-clause-known c = IfOk-from_err c.from_residual.result _ c.from_residual.ensures.0
-
-pub returns-in_err-info_offset-clause-within : goal.returns-in_err-info_offset-clause-within
-returns-in_err-info_offset-clause-within c = IfOk-from_err c.from_residual.result _ c.from_residual.ensures.0
-
-pub returns-in_err-info_offset-clause-read : goal.returns-in_err-info_offset-clause-read
-returns-in_err-info_offset-clause-read c = IfOk-from_err c.from_residual.result _ c.from_residual.ensures.0
-
-pub returns-in_err-version-clause-found : goal.returns-in_err-version-clause-found
-returns-in_err-version-clause-found c = IfOk-from_err c.from_residual-in_err-version.result _ c.from_residual-in_err-version.ensures.0
-
-pub returns-in_err-version-clause-known : goal.returns-in_err-version-clause-known
-returns-in_err-version-clause-known c = IfOk-from_err c.from_residual-in_err-version.result _ c.from_residual-in_err-version.ensures.0
-
-pub returns-in_err-version-clause-within : goal.returns-in_err-version-clause-within
-returns-in_err-version-clause-within c = IfOk-from_err c.from_residual-in_err-version.result _ c.from_residual-in_err-version.ensures.0
-
-pub returns-in_err-version-clause-read : goal.returns-in_err-version-clause-read
-returns-in_err-version-clause-read c = IfOk-from_err c.from_residual-in_err-version.result _ c.from_residual-in_err-version.ensures.0
-
-pub returns-in_err-info_offset-clause-cause : goal.returns-in_err-info_offset-clause-cause
+pub returns-in_err-info_offset : goal.returns-in_err-info_offset
 unfolding footer_in
-returns-in_err-info_offset-clause-cause c = let p = err_from_is_err_and c.from_residual.result c.from_residual.ensures.1 in rw (p.1, p.2) (rw (← c.in_err-info_offset.ensures.value) refl)
+returns-in_err-info_offset c =
+    let p = err_from_is_err_and c.from_residual.result c.from_residual.ensures.1 in
+    record {
+      found = IfOk-from_err c.from_residual.result _ c.from_residual.ensures.0;
+      known = IfOk-from_err c.from_residual.result _ c.from_residual.ensures.0;
+      within = IfOk-from_err c.from_residual.result _ c.from_residual.ensures.0;
+      read = IfOk-from_err c.from_residual.result _ c.from_residual.ensures.0;
+      cause = rw (p.1, p.2) (rw (← c.in_err-info_offset.ensures.value) refl);
+    }
 
-pub returns-in_err-version-clause-cause : goal.returns-in_err-version-clause-cause
+pub returns-in_err-version : goal.returns-in_err-version
 unfolding footer_in
-returns-in_err-version-clause-cause c = let p = err_from_is_err_and c.from_residual-in_err-version.result c.from_residual-in_err-version.ensures.1 in rw (p.1, p.2) (rw (← c.in_ok-info_offset.ensures.value, ← c.in_err-version.ensures.value) refl)
+returns-in_err-version c =
+    let p = err_from_is_err_and c.from_residual-in_err-version.result c.from_residual-in_err-version.ensures.1 in
+    record {
+      found = IfOk-from_err c.from_residual-in_err-version.result _ c.from_residual-in_err-version.ensures.0;
+      known = IfOk-from_err c.from_residual-in_err-version.result _ c.from_residual-in_err-version.ensures.0;
+      within = IfOk-from_err c.from_residual-in_err-version.result _ c.from_residual-in_err-version.ensures.0;
+      read = IfOk-from_err c.from_residual-in_err-version.result _ c.from_residual-in_err-version.ensures.0;
+      cause = rw (p.1, p.2) (rw (← c.in_ok-info_offset.ensures.value, ← c.in_err-version.ensures.value) refl);
+    }
 
 pub returns-clause-cause : goal.returns-clause-cause
 returns-clause-cause c = tt

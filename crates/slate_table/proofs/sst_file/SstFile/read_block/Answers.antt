@@ -11,15 +11,31 @@ use Rattle.slate_table.proofs.FileReads.{reads_rows, index_refused, block_refuse
 use Rattle.slate_table.specs.FileReading.{RefusesReadRows, MayReadRows}
 use Rattle.slate_table.proofs.sst_file.SstFile.read_block.Goals as goal
 
-pub returns-in_err-index-clause-cause : goal.returns-in_err-index-clause-cause
-returns-in_err-index-clause-cause g c =
+pub returns-in_err-index : goal.returns-in_err-index
+unfolding MayReadRows
+returns-in_err-index g c =
     let p = err_from_is_err_and c.from_residual.result c.from_residual.ensures.1 in
-    let old = c.args.reader.now in
-    let table = c.args.self.now.handle in
-    rw (p.1, p.2)
-    (index_refused (changed_by g.T.BlockTransformer.decoded old.transformer) (g.S.Store.objects old.store) (g.S.Store.acts old.store) (g.S.Store.acts c.index.new.reader.store)
-    (path_of (string_bytes old.root_path) table.id.0) table c.args.block
-    (faults_of g.T.BlockTransformer.faults old.transformer) (faults_of g.T.BlockTransformer.faults c.index.new.reader.transformer) c.in_err-index.field-0.0 c.in_err-index.ensures.cause)
+    record {
+      found = IfOk-from_err c.from_residual.result _ c.from_residual.ensures.0;
+      cause = (let old = c.args.reader.now in
+          let table = c.args.self.now.handle in
+          rw (p.1, p.2)
+          (index_refused (changed_by g.T.BlockTransformer.decoded old.transformer) (g.S.Store.objects old.store) (g.S.Store.acts old.store) (g.S.Store.acts c.index.new.reader.store)
+          (path_of (string_bytes old.root_path) table.id.0) table c.args.block
+          (faults_of g.T.BlockTransformer.faults old.transformer) (faults_of g.T.BlockTransformer.faults c.index.new.reader.transformer) c.in_err-index.field-0.0 c.in_err-index.ensures.cause));
+      twice = (rw p.1 (elim c.in_err-index.ensures.once [
+        | inl unread ↦ inl unread
+        | inr read ↦ inr (inl read)
+      ]));
+      objects = c.index.ensures.objects;
+      root = c.index.ensures.root;
+      same_encoded = c.index.ensures.same_encoded;
+      same_decoded = c.index.ensures.same_decoded;
+      later = c.index.ensures.later;
+      still = rw (p.1, p.2) (store_err c.in_err-index.field-0.0 c.in_err-index.ensures.still);
+      later_transformer = c.index.ensures.later_transformer;
+      still_transformer = rw (p.1, p.2) (still_err c.in_err-index.field-0.0 c.in_err-index.ensures.still_transformer);
+    }
 
 pub returns-in_err-found : goal.returns-in_err-found
 returns-in_err-found g c =
@@ -121,81 +137,22 @@ returns g c =
       still_transformer = inr (inr (still_ok c.in_ok-found.found c.in_ok-found.ensures.stays.still ∙ still_ok c.in_ok-index.index c.in_ok-index.ensures.still_transformer));
     }
 
-pub returns-in_err-test_block-clause-cause : goal.returns-in_err-test_block-clause-cause
-unfolding RefusesReadRows
-returns-in_err-test_block-clause-cause g c =
+pub returns-in_err-test_block : goal.returns-in_err-test_block
+unfolding RefusesReadRows MayReadRows
+returns-in_err-test_block g c =
     let p = err_from_is_err_and c.from_residual-in_err-test_block.result c.from_residual-in_err-test_block.ensures.1 in
-    let past = c.in_err-test_block.ensures.past in
-    rw (p.1, p.2) (inr (inr (inr (inl (entries_of c.in_ok-index.index, c.in_ok-index.ensures.found, past.0, past.1)))))
-
-pub returns-in_err-test_block-clause-twice : goal.returns-in_err-test_block-clause-twice
-unfolding MayReadRows
-returns-in_err-test_block-clause-twice g c =
-    let p = err_from_is_err_and c.from_residual-in_err-test_block.result c.from_residual-in_err-test_block.ensures.1 in
-    let found = c.in_ok-index.ensures.found in
-    rw p.1 (inr (inl (found.0, found.1, tt)))
-
-pub returns-in_err-index-clause-twice : goal.returns-in_err-index-clause-twice
-unfolding MayReadRows
-returns-in_err-index-clause-twice g c =
-    let p = err_from_is_err_and c.from_residual.result c.from_residual.ensures.1 in
-    rw p.1 (elim c.in_err-index.ensures.once [
-      | inl unread ↦ inl unread
-      | inr read ↦ inr (inl read)
-    ])
-
-pub returns-in_err-index-clause-still : goal.returns-in_err-index-clause-still
-returns-in_err-index-clause-still g c =
-    let p = err_from_is_err_and c.from_residual.result c.from_residual.ensures.1 in rw (p.1, p.2) (store_err c.in_err-index.field-0.0 c.in_err-index.ensures.still)
-
-pub returns-in_err-index-clause-still_transformer : goal.returns-in_err-index-clause-still_transformer
-returns-in_err-index-clause-still_transformer g c =
-    let p = err_from_is_err_and c.from_residual.result c.from_residual.ensures.1 in rw (p.1, p.2) (still_err c.in_err-index.field-0.0 c.in_err-index.ensures.still_transformer)
-
-pub returns-in_err-test_block-clause-still : goal.returns-in_err-test_block-clause-still
-returns-in_err-test_block-clause-still g c = inr (store_still c.in_ok-index.index c.in_ok-index.ensures.still)
-
-pub returns-in_err-test_block-clause-still_transformer : goal.returns-in_err-test_block-clause-still_transformer
-returns-in_err-test_block-clause-still_transformer g c = inr (inr (still_ok c.in_ok-index.index c.in_ok-index.ensures.still_transformer))
-
-pub returns-in_err-index-clause-found : goal.returns-in_err-index-clause-found
-returns-in_err-index-clause-found g c = IfOk-from_err c.from_residual.result _ c.from_residual.ensures.0
-
-pub returns-in_err-test_block-clause-found : goal.returns-in_err-test_block-clause-found
-returns-in_err-test_block-clause-found g c = IfOk-from_err c.from_residual-in_err-test_block.result _ c.from_residual-in_err-test_block.ensures.0
-
-pub returns-in_err-index-clause-same_encoded : goal.returns-in_err-index-clause-same_encoded
-returns-in_err-index-clause-same_encoded g c = c.index.ensures.same_encoded
-
-pub returns-in_err-index-clause-same_decoded : goal.returns-in_err-index-clause-same_decoded
-returns-in_err-index-clause-same_decoded g c = c.index.ensures.same_decoded
-
-pub returns-in_err-index-clause-later : goal.returns-in_err-index-clause-later
-returns-in_err-index-clause-later g c = c.index.ensures.later
-
-pub returns-in_err-index-clause-objects : goal.returns-in_err-index-clause-objects
-returns-in_err-index-clause-objects g c = c.index.ensures.objects
-
-pub returns-in_err-index-clause-later_transformer : goal.returns-in_err-index-clause-later_transformer
-returns-in_err-index-clause-later_transformer g c = c.index.ensures.later_transformer
-
-pub returns-in_err-index-clause-root : goal.returns-in_err-index-clause-root
-returns-in_err-index-clause-root g c = c.index.ensures.root
-
-pub returns-in_err-test_block-clause-same_encoded : goal.returns-in_err-test_block-clause-same_encoded
-returns-in_err-test_block-clause-same_encoded g c = c.index.ensures.same_encoded
-
-pub returns-in_err-test_block-clause-same_decoded : goal.returns-in_err-test_block-clause-same_decoded
-returns-in_err-test_block-clause-same_decoded g c = c.index.ensures.same_decoded
-
-pub returns-in_err-test_block-clause-later : goal.returns-in_err-test_block-clause-later
-returns-in_err-test_block-clause-later g c = c.index.ensures.later
-
-pub returns-in_err-test_block-clause-objects : goal.returns-in_err-test_block-clause-objects
-returns-in_err-test_block-clause-objects g c = c.index.ensures.objects
-
-pub returns-in_err-test_block-clause-later_transformer : goal.returns-in_err-test_block-clause-later_transformer
-returns-in_err-test_block-clause-later_transformer g c = c.index.ensures.later_transformer
-
-pub returns-in_err-test_block-clause-root : goal.returns-in_err-test_block-clause-root
-returns-in_err-test_block-clause-root g c = c.index.ensures.root
+    record {
+      found = IfOk-from_err c.from_residual-in_err-test_block.result _ c.from_residual-in_err-test_block.ensures.0;
+      cause = (let past = c.in_err-test_block.ensures.past in
+          rw (p.1, p.2) (inr (inr (inr (inl (entries_of c.in_ok-index.index, c.in_ok-index.ensures.found, past.0, past.1))))));
+      twice = (let found = c.in_ok-index.ensures.found in
+          rw p.1 (inr (inl (found.0, found.1, tt))));
+      objects = c.index.ensures.objects;
+      root = c.index.ensures.root;
+      same_encoded = c.index.ensures.same_encoded;
+      same_decoded = c.index.ensures.same_decoded;
+      later = c.index.ensures.later;
+      still = inr (store_still c.in_ok-index.index c.in_ok-index.ensures.still);
+      later_transformer = c.index.ensures.later_transformer;
+      still_transformer = inr (inr (still_ok c.in_ok-index.index c.in_ok-index.ensures.still_transformer));
+    }
