@@ -1,4 +1,4 @@
-use Rattle.std.proofs.Common.{◌≡◌, ◌∙◌, ◌++◌, ◌∷◌, [], ℕ, List, true, Ok, Err, ap, subst, sym, inl, inr, arith}
+use Rattle.std.proofs.Common.{◌≡◌, ◌∙◌, ◌++◌, ◌∷◌, [], ℕ, List, true, Ok, Err, ap, subst, sym, inl, inr, refl, arith}
 use Rattle.std.specs.Prelude.{Result, IfErr, IsSome}
 use Rattle.std.proofs.lemmas.Result.{IfOk-weaker, IfErr-weaker, on_ok_weaker}
 use Rattle.slate_types.specs.declared.types.RowEntry.{RowEntry}
@@ -18,30 +18,41 @@ not_empty (Ok x) before after h is = absurd cc
 not_empty (Err e) before after (inl memory) is = absurd cc
 not_empty (Err e) before after (inr fault) is = let failed : e ≡ BlockTransformError = fault.0 in absurd cc
 
-pub returns-in-Err-clause-cause : goal.returns-in-Err-clause-cause
-returns-in-Err-clause-cause g c =
-    let inside = c.self.inside in
-    let whole : inside.is_whole ≡ true = ap (λ (b : TableBuilding). b.is_whole) c.self.view_is ∙ c.requires.whole in
-    let stands : Stands inside.parts = c.self.invariant whole in
-    elim c.in-Err.ensures.past [
-      | inl empty ↦ inr ((cc (c.self.view_is)), inl empty)
-      | inr past ↦
-          let limit = subst (λ (b : TableBuilding). IsLimit b c.args.entry past.0) c.self.view_is (past_limit inside.parts inside.is_whole c.args.entry past.0 stands past.2) in
-          inr ((cc (c.self.view_is)), inr (past.0, past.1, limit))
-    ]
-
-pub returns-in-Err-clause-limit : goal.returns-in-Err-clause-limit
-returns-in-Err-clause-limit g c =
-    λ limit h some. elim c.in-Err.ensures.past [
-      | inl empty ↦ let none = c.in-Err.ensures.empty.0 (ap Err empty) in absurd (omega (arith, none, some))
-      | inr past ↦ (past.0, ap Err past.1)
-    ]
-
-pub returns-in-Err-clause-empty : goal.returns-in-Err-clause-empty
-returns-in-Err-clause-empty g c = (
-  λ h. c.in-Err.ensures.empty.0 (ap (λ (x : SlateDBError). Err x) (err_is c.in-Err.error EmptyKey h)),
-  λ none. ap (λ (x : SlateDBError). Err x) (err_is c.in-Err.error EmptyKey (c.in-Err.ensures.empty.1 none)),
-)
+pub returns-in-Err : goal.returns-in-Err
+returns-in-Err g c =
+    record {
+      added = tt;
+      whole = tt;
+      version = tt;
+      size = tt;
+      encoded = tt;
+      ended = tt;
+      limit = (λ limit h some. elim c.in-Err.ensures.past [
+        | inl empty ↦ let none = c.in-Err.ensures.empty.0 (ap Err empty) in absurd (omega (arith, none, some))
+        | inr past ↦ (past.0, ap Err past.1)
+      ]);
+      empty = ((
+        λ h. c.in-Err.ensures.empty.0 (ap (λ (x : SlateDBError). Err x) (err_is c.in-Err.error EmptyKey h)),
+        λ none. ap (λ (x : SlateDBError). Err x) (err_is c.in-Err.error EmptyKey (c.in-Err.ensures.empty.1 none)),
+      ));
+      cause = (let inside = c.self.inside in
+          let whole : inside.is_whole ≡ true = ap (λ (b : TableBuilding). b.is_whole) c.self.view_is ∙ c.requires.whole in
+          let stands : Stands inside.parts = c.self.invariant whole in
+          elim c.in-Err.ensures.past [
+            | inl empty ↦ inr ((cc (c.self.view_is)), inl empty)
+            | inr past ↦
+                let limit = subst (λ (b : TableBuilding). IsLimit b c.args.entry past.0) c.self.view_is (past_limit inside.parts inside.is_whole c.args.entry past.0 stands past.2) in
+                inr ((cc (c.self.view_is)), inr (past.0, past.1, limit))
+          ]);
+      fault = (λ failed. elim c.in-Err.ensures.past [
+        | inl empty ↦ absurd (cc (empty, failed))
+        | inr past ↦ absurd (cc (past.1, failed))
+      ]);
+      same_encoded = refl;
+      same_decoded = refl;
+      later = omega arith;
+      still = inr (inr refl);
+    }
 
 pub add-ended-requires-clause-some : goal.add-ended-requires-clause-some
 add-ended-requires-clause-some g c =

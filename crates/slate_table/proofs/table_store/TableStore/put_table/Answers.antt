@@ -1,18 +1,26 @@
 use Rattle.std.proofs.Common.{◌≡◌, ◌∙◌, arith, refl, inl, inr}
 use Rattle.slate_table.specs.Paths.{path_of}
 use Rattle.std.proofs.lemmas.Result.{IfOk-from_err, err_from_is_err_and}
-use Rattle.slate_table.proofs.Results.{on_err, store_fault, store_failed}
+use Rattle.slate_table.proofs.Results.{on_err, read_still, store_fault, store_failed}
 use Rattle.slate_table.proofs.table_store.TableStore.put_table.Goals as goal
 
-pub returns-in-Ok-clause-taken : goal.returns-in-Ok-clause-taken
-returns-in-Ok-clause-taken g c = λ os told.
-    let path : c.as_str.result.now ≡ path_of c.args.root.now c.args.id.0 = c.as_str.ensures.value ∙ c.in_ok-path.ensures.path in
-    rw (path, c.as_slice.ensures) at (c.in-Ok.ensures.taken os told)
-
-pub returns-in-Ok-clause-act : goal.returns-in-Ok-clause-act
-returns-in-Ok-clause-act g c =
-    let path : c.as_str.result.now ≡ path_of c.args.root.now c.args.id.0 = c.as_str.ensures.value ∙ c.in_ok-path.ensures.path in
-    rw (path, c.as_slice.ensures) at c.in-Ok.ensures.act
+pub returns-in-Ok : goal.returns-in-Ok
+returns-in-Ok g c =
+    record {
+      id = refl;
+      info = c.in_ok-info.ensures.cases ∙ c.info.ensures;
+      version = c.version.ensures;
+      taken = (λ os told.
+          let path : c.as_str.result.now ≡ path_of c.args.root.now c.args.id.0 = c.as_str.ensures.value ∙ c.in_ok-path.ensures.path in
+          rw (path, c.as_slice.ensures) at (c.in-Ok.ensures.taken os told));
+      refused = λ os told. tt;
+      act = (let path : c.as_str.result.now ≡ path_of c.args.root.now c.args.id.0 = c.as_str.ensures.value ∙ c.in_ok-path.ensures.path in
+          rw (path, c.as_slice.ensures) at c.in-Ok.ensures.act);
+      refused_act = tt;
+      cause = tt;
+      later = c.put.ensures.later;
+      still = inr (read_still _ c.in-Ok.ensures.still);
+    }
 
 pub returns : goal.returns
 returns g c =
@@ -63,18 +71,3 @@ returns-in_err-info g c =
       later = omega arith;
       still = inr refl;
     }
-
-pub returns-in-Ok-clause-id : goal.returns-in-Ok-clause-id
-returns-in-Ok-clause-id g c = refl
-
-pub returns-in-Ok-clause-refused : goal.returns-in-Ok-clause-refused
-returns-in-Ok-clause-refused g c = λ os told. tt
-
-pub returns-in-Ok-clause-refused_act : goal.returns-in-Ok-clause-refused_act
-returns-in-Ok-clause-refused_act g c = tt
-
-pub returns-in-Ok-clause-cause : goal.returns-in-Ok-clause-cause
-returns-in-Ok-clause-cause g c = tt
-
-pub returns-in-Ok-clause-later : goal.returns-in-Ok-clause-later
-returns-in-Ok-clause-later g c = c.put.ensures.later
