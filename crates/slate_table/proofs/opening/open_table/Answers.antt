@@ -10,20 +10,18 @@ use Rattle.slate_table.proofs.opening.open_table.Goals as goal
 pub returns-in_err-footer : goal.returns-in_err-footer
 returns-in_err-footer g c =
     let p = err_from_is_err_and c.from_residual-in_err-footer.result c.from_residual-in_err-footer.ensures.1 in
+    let objects = g.S.Store.objects in
+    let acts = g.S.Store.acts in
     record {
       found = IfOk-from_err c.from_residual-in_err-footer.result _ c.from_residual-in_err-footer.ensures.0;
       known = IfOk-from_err c.from_residual-in_err-footer.result _ c.from_residual-in_err-footer.ensures.0;
       id = IfOk-from_err c.from_residual-in_err-footer.result _ c.from_residual-in_err-footer.ensures.0;
-      cause = (let objects = g.S.Store.objects in
-          let acts = g.S.Store.acts in
-          let faults = g.S.Store.faults in
+      cause = (let faults = g.S.Store.faults in
           rw (p.1, p.2)
           (last_refused (objects c.args.store.now) (objects c.object_len.new.store) (acts c.args.store.now) (acts c.object_len.new.store) (acts c.read_footer.new.store) (path_of c.args.root.now c.args.id.0)
           c.in_ok-len.len c.in_ok-size.size (faults c.args.store.now) (faults c.object_len.new.store) (faults c.read_footer.new.store) c.in_err-footer.field-0.0
           c.object_len.ensures.reaches.same_objects c.object_len.ensures.reaches.later c.in_ok-len.ensures.same c.in_ok-len.ensures.long c.in_ok-size.ensures.measured c.in_err-footer.ensures.cause));
-      calls = (let objects = g.S.Store.objects in
-          let acts = g.S.Store.acts in
-          rw p.1
+      calls = (rw p.1
           (may_last (objects c.args.store.now) (objects c.object_len.new.store) (acts c.args.store.now) (acts c.object_len.new.store) (acts c.read_footer.new.store) (path_of c.args.root.now c.args.id.0)
           c.in_ok-len.len c.in_ok-size.size c.object_len.ensures.reaches.same_objects c.in_ok-len.ensures.same c.in_ok-size.ensures.measured c.in_err-footer.ensures.once));
       reaches = reaches_again c.in_ok-size.ensures.reaches (reaches_err c.in_err-footer.ensures.reaches c.from_residual-in_err-footer.ensures.1);
@@ -32,22 +30,20 @@ returns-in_err-footer g c =
 pub returns-in_err-info : goal.returns-in_err-info
 returns-in_err-info g c =
     let p = err_from_is_err_and c.from_residual-in_err-info.result c.from_residual-in_err-info.ensures.1 in
+    let objects = g.S.Store.objects in
+    let acts = g.S.Store.acts in
     record {
       found = IfOk-from_err c.from_residual-in_err-info.result _ c.from_residual-in_err-info.ensures.0;
       known = IfOk-from_err c.from_residual-in_err-info.result _ c.from_residual-in_err-info.ensures.0;
       id = IfOk-from_err c.from_residual-in_err-info.result _ c.from_residual-in_err-info.ensures.0;
-      cause = (let objects = g.S.Store.objects in
-          let acts = g.S.Store.acts in
-          let faults = g.S.Store.faults in
+      cause = (let faults = g.S.Store.faults in
           rw (p.1, p.2)
           (info_refused (objects c.args.store.now) (objects c.object_len.new.store) (objects c.read_footer.new.store) (acts c.args.store.now) (acts c.object_len.new.store) (acts c.read_footer.new.store) (acts c.read_info.new.store)
           (path_of c.args.root.now c.args.id.0) c.in_ok-len.len c.in_ok-footer.footer.info_offset c.in_ok-footer.footer.version c.in_ok-size.size
           (faults c.args.store.now) (faults c.read_footer.new.store) (faults c.read_info.new.store) c.in_err-info.field-0.0
           c.object_len.ensures.reaches.same_objects (c.read_footer.ensures.reaches.same_objects ∙ c.object_len.ensures.reaches.same_objects) (omega (arith, c.object_len.ensures.reaches.later, c.read_footer.ensures.reaches.later))
           c.in_ok-len.ensures.same c.in_ok-len.ensures.long c.in_ok-size.ensures.measured c.in_ok-footer.ensures.found c.in_err-info.ensures.cause));
-      calls = (let objects = g.S.Store.objects in
-          let acts = g.S.Store.acts in
-          rw p.1
+      calls = (rw p.1
           (may_info (objects c.args.store.now) (objects c.object_len.new.store) (objects c.read_footer.new.store) (acts c.args.store.now) (acts c.object_len.new.store) (acts c.read_footer.new.store) (acts c.read_info.new.store)
           (path_of c.args.root.now c.args.id.0) c.in_ok-len.len c.in_ok-footer.footer.info_offset c.in_ok-footer.footer.version c.in_ok-size.size
           c.object_len.ensures.reaches.same_objects (c.read_footer.ensures.reaches.same_objects ∙ c.object_len.ensures.reaches.same_objects) c.in_ok-len.ensures.same c.in_ok-size.ensures.measured c.in_ok-footer.ensures.found c.in_err-info.ensures.once));

@@ -12,20 +12,17 @@ use Rattle.slate_table.proofs.table_store.read_block.Goals as goal
 
 pub returns : goal.returns
 returns g c =
+    let end = c.args.table.now.info.filter_offset in
+    let entries = entries_of c.args.index.now in
+    let place = c.place_of_block-place in
     record {
-      found = (let end = c.args.table.now.info.filter_offset in
-          let entries = entries_of c.args.index.now in
-          let place = c.place_of_block-place in
-          IfOk-weaker c.block_in.result _ _
+      found = (IfOk-weaker c.block_in.result _ _
           (λ block found. row_read (g.S.Store.objects c.args.store.now) (g.S.Store.acts c.args.store.now) (g.S.Store.acts c.read.new.store) (path_of c.args.root.now c.args.table.now.id.0)
           place.result.0 place.result.1 (block_start end entries c.args.block) (blocks_size end entries c.args.block (c.args.block + 1)) c.in_ok-answer.answer
           (λ (answer : Option (List ℕ)). IsBlockRead (changed_by g.T.BlockTransformer.decoded c.args.transformer.now) answer block)
           place.ensures.start place.ensures.size c.in_ok-answer.ensures.read found)
           c.block_in.ensures.found);
-      cause = (let end = c.args.table.now.info.filter_offset in
-          let entries = entries_of c.args.index.now in
-          let place = c.place_of_block-place in
-          IfErr-weaker c.block_in.result _ _
+      cause = (IfErr-weaker c.block_in.result _ _
           (λ e h. row_refused (g.S.Store.objects c.args.store.now) (g.S.Store.acts c.args.store.now) (g.S.Store.acts c.read.new.store) (path_of c.args.root.now c.args.table.now.id.0)
           place.result.0 place.result.1 (block_start end entries c.args.block) (blocks_size end entries c.args.block (c.args.block + 1))
           (g.S.Store.faults c.args.store.now) (g.S.Store.faults c.read.new.store) c.in_ok-answer.answer
@@ -33,10 +30,7 @@ returns g c =
           (λ (answer : Option (List ℕ)). RefusesBlock (changed_by g.T.BlockTransformer.decoded c.args.transformer.now) answer e) e
           place.ensures.start place.ensures.size c.in_ok-answer.ensures.read h)
           c.block_in.ensures.cause);
-      once = (let end = c.args.table.now.info.filter_offset in
-          let entries = entries_of c.args.index.now in
-          let place = c.place_of_block-place in
-          on_err c.block_in.result
+      once = (on_err c.block_in.result
           (inr (row_read (g.S.Store.objects c.args.store.now) (g.S.Store.acts c.args.store.now) (g.S.Store.acts c.read.new.store) (path_of c.args.root.now c.args.table.now.id.0)
           place.result.0 place.result.1 (block_start end entries c.args.block) (blocks_size end entries c.args.block (c.args.block + 1)) c.in_ok-answer.answer (λ (answer : Option (List ℕ)). Unit {0})
           place.ensures.start place.ensures.size c.in_ok-answer.ensures.read tt)));

@@ -97,27 +97,17 @@ invariant_of-self g c =
 
 pub returns-in-Ok : goal.returns-in-Ok
 returns-in-Ok g c =
+    let inside = c.self.inside in
+    let encode = changed_by g.T.BlockTransformer.encoded c.args.transformer.now in
+    let whole : inside.is_whole ≡ true = ap (λ (b : TableBuilding). b.is_whole) c.self.view_is ∙ c.requires.whole in
+    let stands : Stands inside.parts = c.self.invariant whole in
     record {
-      added = (let inside = c.self.inside in
-          let encode = changed_by g.T.BlockTransformer.encoded c.args.transformer.now in
-          on_ok_weaker c.add-ended.result (λ h. added_rows encode inside.parts c.add-ended.new.self c.args.entry h ∙ ap (λ (b : TableBuilding). b.rows ++ c.args.entry ∷ []) c.self.view_is) c.add-ended.ensures.added);
+      added = (on_ok_weaker c.add-ended.result (λ h. added_rows encode inside.parts c.add-ended.new.self c.args.entry h ∙ ap (λ (b : TableBuilding). b.rows ++ c.args.entry ∷ []) c.self.view_is) c.add-ended.ensures.added);
       whole = ok_is c.add-ended.result c.is_ok-self-inside.result c.is_ok-self-inside.ensures.value;
-      version = (let inside = c.self.inside in
-          let encode = changed_by g.T.BlockTransformer.encoded c.args.transformer.now in
-          on_ok_weaker c.add-ended.result (λ h. ap version_of (added_format encode inside.parts c.add-ended.new.self c.args.entry h) ∙ ap (λ (b : TableBuilding). b.version) c.self.view_is) c.add-ended.ensures.added);
-      size = (let inside = c.self.inside in
-          let encode = changed_by g.T.BlockTransformer.encoded c.args.transformer.now in
-          on_ok_weaker c.add-ended.result (λ h. added_size encode inside.parts c.add-ended.new.self c.args.entry h ∙ ap (λ (b : TableBuilding). b.size) c.self.view_is) c.add-ended.ensures.added);
-      encoded = (let inside = c.self.inside in
-          let whole : inside.is_whole ≡ true = ap (λ (b : TableBuilding). b.is_whole) c.self.view_is ∙ c.requires.whole in
-          let stands : Stands inside.parts = c.self.invariant whole in
-          let encode = changed_by g.T.BlockTransformer.encoded c.args.transformer.now in
-          on_ok_weaker c.add-ended.result (λ h old. added_sections encode inside.parts c.add-ended.new.self c.args.entry stands h (subst (λ (b : TableBuilding). AreEncoded encode b) (sym c.self.view_is) old)) c.add-ended.ensures.added);
-      ended = (let inside = c.self.inside in
-          let whole : inside.is_whole ≡ true = ap (λ (b : TableBuilding). b.is_whole) c.self.view_is ∙ c.requires.whole in
-          let stands : Stands inside.parts = c.self.invariant whole in
-          let encode = changed_by g.T.BlockTransformer.encoded c.args.transformer.now in
-          IfOk-weaker c.add-ended.result _ _
+      version = (on_ok_weaker c.add-ended.result (λ h. ap version_of (added_format encode inside.parts c.add-ended.new.self c.args.entry h) ∙ ap (λ (b : TableBuilding). b.version) c.self.view_is) c.add-ended.ensures.added);
+      size = (on_ok_weaker c.add-ended.result (λ h. added_size encode inside.parts c.add-ended.new.self c.args.entry h ∙ ap (λ (b : TableBuilding). b.size) c.self.view_is) c.add-ended.ensures.added);
+      encoded = (on_ok_weaker c.add-ended.result (λ h old. added_sections encode inside.parts c.add-ended.new.self c.args.entry stands h (subst (λ (b : TableBuilding). AreEncoded encode b) (sym c.self.view_is) old)) c.add-ended.ensures.added);
+      ended = (IfOk-weaker c.add-ended.result _ _
           (λ size h. h ∙ old_size encode inside.parts inside.is_whole c.args.entry stands ∙ ap (λ (b : TableBuilding). section_size encode b c.args.entry) c.self.view_is)
           c.add-ended.ensures.size);
       limit = (λ limit h some.
@@ -131,11 +121,7 @@ returns-in-Ok g c =
         λ none. absurd (omega (arith, none, c.in-Ok.ensures.some)),
       ));
       cause = IfErr-weaker c.add-ended.result _ _ (λ e h. inl h) (cause_of _ _ c.add-ended.result c.add-ended.ensures.asks.counts);
-      fault = (let inside = c.self.inside in
-          let whole : inside.is_whole ≡ true = ap (λ (b : TableBuilding). b.is_whole) c.self.view_is ∙ c.requires.whole in
-          let stands : Stands inside.parts = c.self.invariant whole in
-          let encode = changed_by g.T.BlockTransformer.encoded c.args.transformer.now in
-          λ failed.
+      fault = (λ failed.
           let some = ends_a_block encode inside.parts inside.is_whole c.args.entry stands (c.add-ended.ensures.fault failed) in
           subst (λ (b : TableBuilding). IsSome (section_size encode b c.args.entry)) c.self.view_is some);
       same_encoded = c.add-ended.ensures.asks.same_encoded;

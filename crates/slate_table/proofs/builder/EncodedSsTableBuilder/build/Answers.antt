@@ -16,17 +16,15 @@ finish-table-requires-clause-row g c = subst (λ (rows : List RowEntry). 0 < len
 
 pub returns : goal.returns
 returns g c =
+    let inside = c.self.inside in
+    let encode = changed_by g.T.BlockTransformer.encoded c.args.transformer.now in
     record {
-      built = (let inside = c.self.inside in
-          let encode = changed_by g.T.BlockTransformer.encoded c.args.transformer.now in
-          let whole : inside.is_whole ≡ true = ap (λ (b : TableBuilding). b.is_whole) c.self.view_is ∙ c.requires.whole in
+      built = (let whole : inside.is_whole ≡ true = ap (λ (b : TableBuilding). b.is_whole) c.self.view_is ∙ c.requires.whole in
           let stands : Stands inside.parts = c.self.invariant whole in
           IfOk-weaker c.finish-table.result _ _
           (λ table made. built_of encode inside.parts inside.is_whole c.args.self table.bytes table.bytes table.info c.self.view_is stands c.requires.rows made refl)
           c.finish-table.ensures.finished);
-      info = (let inside = c.self.inside in
-          let encode = changed_by g.T.BlockTransformer.encoded c.args.transformer.now in
-          IfOk-weaker c.finish-table.result _ _
+      info = (IfOk-weaker c.finish-table.result _ _
           (λ table made. info_of_built encode inside.parts inside.is_whole c.args.self table.bytes table.bytes table.info table.info c.self.view_is made refl refl)
           c.finish-table.ensures.finished);
       version = IfOk-weaker c.finish-table.result _ _ (λ table is. is ∙ ap (λ (b : TableBuilding). b.version) c.self.view_is) c.finish-table.ensures.version;

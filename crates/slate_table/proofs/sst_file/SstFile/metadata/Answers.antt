@@ -8,21 +8,16 @@ use Rattle.slate_table.proofs.sst_file.SstFile.metadata.Goals as goal
 
 pub returns-in-None : goal.returns-in-None
 returns-in-None g c =
+    let store = c.args.reader.now.store in
+    let after = c.object_len.new.store in
+    let id = c.args.self.now.handle.id.0 in
+    let measured = subst (λ (root : List ℕ). IsMeasured (g.S.Store.objects store) (g.S.Store.acts store) (g.S.Store.acts after) (path_of root id) c.in_ok-size.size) c.as_str.ensures.value c.in_ok-size.ensures.measured in
+    let none = subst (λ (size : Option ℕ). IsMeasured (g.S.Store.objects store) (g.S.Store.acts store) (g.S.Store.acts after) (path_of (string_bytes c.args.reader.now.root_path) id) size) c.in-None.is measured in
     record {
       size = tt;
       id = tt;
-      cause = (let store = c.args.reader.now.store in
-          let after = c.object_len.new.store in
-          let id = c.args.self.now.handle.id.0 in
-          let measured = subst (λ (root : List ℕ). IsMeasured (g.S.Store.objects store) (g.S.Store.acts store) (g.S.Store.acts after) (path_of root id) c.in_ok-size.size) c.as_str.ensures.value c.in_ok-size.ensures.measured in
-          let none = subst (λ (size : Option ℕ). IsMeasured (g.S.Store.objects store) (g.S.Store.acts store) (g.S.Store.acts after) (path_of (string_bytes c.args.reader.now.root_path) id) size) c.in-None.is measured in
-          inr (none, c.corrupt.ensures));
-      once = (let store = c.args.reader.now.store in
-          let after = c.object_len.new.store in
-          let id = c.args.self.now.handle.id.0 in
-          let measured = subst (λ (root : List ℕ). IsMeasured (g.S.Store.objects store) (g.S.Store.acts store) (g.S.Store.acts after) (path_of root id) c.in_ok-size.size) c.as_str.ensures.value c.in_ok-size.ensures.measured in
-          let none = subst (λ (size : Option ℕ). IsMeasured (g.S.Store.objects store) (g.S.Store.acts store) (g.S.Store.acts after) (path_of (string_bytes c.args.reader.now.root_path) id) size) c.in-None.is measured in
-          inr none);
+      cause = (inr (none, c.corrupt.ensures));
+      once = (inr none);
       objects = c.object_len.ensures.reaches.same_objects;
       root = refl;
       transformer = refl;

@@ -40,32 +40,24 @@ returns-in_err-index g c =
 pub returns-in_err-found : goal.returns-in_err-found
 returns-in_err-found g c =
     let p = err_from_is_err_and c.from_residual-in_err-found.result c.from_residual-in_err-found.ensures.1 in
+    let old = c.args.reader.now in
+    let middle = c.index.new.reader in
+    let table = c.args.self.now.handle in
+    let objects = g.S.Store.objects in
+    let acts = g.S.Store.acts in
+    let decoded = changed_by g.T.BlockTransformer.decoded in
+    let entries = entries_of c.in_ok-index.index in
+    let there = ap (λ (root : List ℕ). path_of root table.id.0) (c.as_str-root.ensures.value ∙ ap string_bytes c.index.ensures.root) in
     record {
       found = IfOk-from_err c.from_residual-in_err-found.result _ c.from_residual-in_err-found.ensures.0;
-      cause = (let old = c.args.reader.now in
-          let middle = c.index.new.reader in
-          let table = c.args.self.now.handle in
-          let objects = g.S.Store.objects in
-          let acts = g.S.Store.acts in
-          let decoded = changed_by g.T.BlockTransformer.decoded in
-          let entries = entries_of c.in_ok-index.index in
-          let there = ap (λ (root : List ℕ). path_of root table.id.0) (c.as_str-root.ensures.value ∙ ap string_bytes c.index.ensures.root) in
-          let faults = g.S.Store.faults in
+      cause = (let faults = g.S.Store.faults in
           let failed = faults_of g.T.BlockTransformer.faults in
           rw (p.1, p.2)
           (block_refused (decoded old.transformer) (decoded middle.transformer) (objects old.store) (objects middle.store) (acts old.store) (acts middle.store) (acts c.read_block.new.store)
           (path_of (string_bytes old.root_path) table.id.0) (path_of c.as_str-root.result.now table.id.0) table entries c.args.block
           (faults old.store) (faults middle.store) (faults c.read_block.new.store) (failed old.transformer) (failed middle.transformer) (failed c.read_block.new.transformer) c.in_err-found.field-0.0
           c.index.ensures.same_decoded c.index.ensures.objects there c.index.ensures.later (still_ok c.in_ok-index.index c.in_ok-index.ensures.still_transformer) c.in_ok-index.ensures.found c.in_ok-test_block.ensures.within c.in_err-found.ensures.cause));
-      twice = (let old = c.args.reader.now in
-          let middle = c.index.new.reader in
-          let table = c.args.self.now.handle in
-          let objects = g.S.Store.objects in
-          let acts = g.S.Store.acts in
-          let decoded = changed_by g.T.BlockTransformer.decoded in
-          let entries = entries_of c.in_ok-index.index in
-          let there = ap (λ (root : List ℕ). path_of root table.id.0) (c.as_str-root.ensures.value ∙ ap string_bytes c.index.ensures.root) in
-          rw p.1
+      twice = (rw p.1
           (may_block (decoded old.transformer) (objects old.store) (objects middle.store) (acts old.store) (acts middle.store) (acts c.read_block.new.store)
           (path_of (string_bytes old.root_path) table.id.0) (path_of c.as_str-root.result.now table.id.0) table entries c.args.block
           c.index.ensures.objects there c.in_ok-index.ensures.found c.in_ok-test_block.ensures.within c.in_err-found.ensures.once));
@@ -85,29 +77,21 @@ returns-in_err-found g c =
 
 pub returns : goal.returns
 returns g c =
+    let old = c.args.reader.now in
+    let middle = c.index.new.reader in
+    let table = c.args.self.now.handle in
+    let objects = g.S.Store.objects in
+    let acts = g.S.Store.acts in
+    let decoded = changed_by g.T.BlockTransformer.decoded in
+    let entries = entries_of c.in_ok-index.index in
+    let there = ap (λ (root : List ℕ). path_of root table.id.0) (c.as_str-root.ensures.value ∙ ap string_bytes c.index.ensures.root) in
     record {
-      found = (let old = c.args.reader.now in
-          let middle = c.index.new.reader in
-          let table = c.args.self.now.handle in
-          let objects = g.S.Store.objects in
-          let acts = g.S.Store.acts in
-          let decoded = changed_by g.T.BlockTransformer.decoded in
-          let entries = entries_of c.in_ok-index.index in
-          let there = ap (λ (root : List ℕ). path_of root table.id.0) (c.as_str-root.ensures.value ∙ ap string_bytes c.index.ensures.root) in
-          IfOk-weaker c.rows_of_block-rows.result _ _
+      found = (IfOk-weaker c.rows_of_block-rows.result _ _
           (λ rows read. reads_rows (decoded old.transformer) (decoded middle.transformer) (objects old.store) (objects middle.store) (acts old.store) (acts middle.store) (acts c.read_block.new.store)
           (path_of (string_bytes old.root_path) table.id.0) (path_of c.as_str-root.result.now table.id.0) table entries c.args.block c.in_ok-found.found rows.items
           c.index.ensures.same_decoded c.index.ensures.objects there c.in_ok-index.ensures.found c.in_ok-test_block.ensures.within c.rows_of_block-rows.ensures.bytes c.in_ok-found.ensures.found read)
           c.rows_of_block-rows.ensures.rows);
-      cause = (let old = c.args.reader.now in
-          let middle = c.index.new.reader in
-          let table = c.args.self.now.handle in
-          let objects = g.S.Store.objects in
-          let acts = g.S.Store.acts in
-          let decoded = changed_by g.T.BlockTransformer.decoded in
-          let entries = entries_of c.in_ok-index.index in
-          let there = ap (λ (root : List ℕ). path_of root table.id.0) (c.as_str-root.ensures.value ∙ ap string_bytes c.index.ensures.root) in
-          let faults = g.S.Store.faults in
+      cause = (let faults = g.S.Store.faults in
           let failed = faults_of g.T.BlockTransformer.faults in
           IfErr-weaker c.rows_of_block-rows.result _ _
           (λ e h. row_refused (decoded old.transformer) (decoded middle.transformer) (objects old.store) (objects middle.store) (acts old.store) (acts middle.store) (acts c.read_block.new.store)
@@ -115,15 +99,7 @@ returns g c =
           (faults old.store) (faults c.read_block.new.store) (failed old.transformer) (failed c.read_block.new.transformer) e
           c.index.ensures.same_decoded c.index.ensures.objects there c.in_ok-index.ensures.found c.in_ok-test_block.ensures.within c.rows_of_block-rows.ensures.bytes c.in_ok-found.ensures.found h)
           c.rows_of_block-rows.ensures.cause);
-      twice = (let old = c.args.reader.now in
-          let middle = c.index.new.reader in
-          let table = c.args.self.now.handle in
-          let objects = g.S.Store.objects in
-          let acts = g.S.Store.acts in
-          let decoded = changed_by g.T.BlockTransformer.decoded in
-          let entries = entries_of c.in_ok-index.index in
-          let there = ap (λ (root : List ℕ). path_of root table.id.0) (c.as_str-root.ensures.value ∙ ap string_bytes c.index.ensures.root) in
-          on_err c.rows_of_block-rows.result
+      twice = (on_err c.rows_of_block-rows.result
           (had_block (decoded old.transformer) (decoded middle.transformer) (objects old.store) (objects middle.store) (acts old.store) (acts middle.store) (acts c.read_block.new.store)
           (path_of (string_bytes old.root_path) table.id.0) (path_of c.as_str-root.result.now table.id.0) table entries c.args.block c.in_ok-found.found
           c.index.ensures.objects there c.in_ok-index.ensures.found c.in_ok-test_block.ensures.within c.in_ok-found.ensures.found));

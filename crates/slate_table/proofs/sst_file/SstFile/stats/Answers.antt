@@ -36,16 +36,14 @@ returns-in_err-part g c =
 pub returns : goal.returns
 unfolding IsStatsRead RefusesStats
 returns g c =
+    let f = c.in_ok-part.ensures.found in
     record {
       none = (λ h. absurd (not_none c.decode.result c.map.result c.map.ensures.cases h), λ none. absurd (omega (arith, none)));
       unread = λ none. absurd (omega (arith, none));
-      found = (let f = c.in_ok-part.ensures.found in
-          rw (← c.as_str-root.ensures.value) (mapped_some c.decode.result c.map.result _ _ c.map.ensures.cases (λ made h. (f.0, f.1, (c.in_ok-part.part, f.2, h))) c.decode.ensures.found));
-      cause = (let f = c.in_ok-part.ensures.found in
-          rw (← c.as_str-root.ensures.value)
+      found = (rw (← c.as_str-root.ensures.value) (mapped_some c.decode.result c.map.result _ _ c.map.ensures.cases (λ made h. (f.0, f.1, (c.in_ok-part.part, f.2, h))) c.decode.ensures.found));
+      cause = (rw (← c.as_str-root.ensures.value)
           (mapped_same c.decode.result c.map.result _ c.map.ensures.cases (IfErr-weaker c.decode.result _ _ (λ e h. spread (λ r. (f.0, f.1, inr (c.in_ok-part.part, f.2, r))) h) c.decode.ensures.cause)));
-      once = (let f = c.in_ok-part.ensures.found in
-          rw (← c.as_str-root.ensures.value) (on_err c.map.result (inr (f.0, f.1, tt))));
+      once = (rw (← c.as_str-root.ensures.value) (on_err c.map.result (inr (f.0, f.1, tt))));
       objects = c.read_part.ensures.reaches.same_objects;
       root = refl;
       same_encoded = c.read_part.ensures.stays.same_encoded;

@@ -63,13 +63,13 @@ returns-in_err-push-2 g c =
 
 pub returns : goal.returns
 returns g c =
+    let p = c.args.self.now in
+    let same : c.into_parts-builder.result.0 ≡ p.block.builder = c.into_parts-builder.ensures.builder ∙ (λ i. (c.replace.ensures.value i).builder) in
+    let part = c.in_ok-part.ensures.bytes ∙ (λ i. block_bytes (same i).version (same i).rows) in
+    let begin : c.len-begin.result ≡ length p.bytes.items = search rules in
     record {
-      ended = (let p = c.args.self.now in
-          let encode = changed_by g.T.BlockTransformer.encoded c.args.transformer.now in
-          let same : c.into_parts-builder.result.0 ≡ p.block.builder = c.into_parts-builder.ensures.builder ∙ (λ i. (c.replace.ensures.value i).builder) in
+      ended = (let encode = changed_by g.T.BlockTransformer.encoded c.args.transformer.now in
           let counts = c.into_parts-builder.ensures.stats ∙ (λ i. (c.replace.ensures.value i).stats) in
-          let part = c.in_ok-part.ensures.bytes ∙ (λ i. block_bytes (same i).version (same i).rows) in
-          let begin : c.len-begin.result ≡ length p.bytes.items = search rules in
           record {
             size = refl;
             format = refl;
@@ -84,12 +84,8 @@ returns g c =
             stats = c.in_ok-push-2.ensures.items ∙ (λ i. p.block_stats.items ++ counts i ∷ []);
             fits = subst (λ (b : Building). FitsBlock b.version b.rows) same c.in_ok-part.ensures.fits;
           });
-      size = (let p = c.args.self.now in
-          let s = section (changed_by g.T.BlockTransformer.encoded c.args.transformer.now) (block_bytes p.block.builder.version p.block.builder.rows) in
-          let same : c.into_parts-builder.result.0 ≡ p.block.builder = c.into_parts-builder.ensures.builder ∙ (λ i. (c.replace.ensures.value i).builder) in
-          let part = c.in_ok-part.ensures.bytes ∙ (λ i. block_bytes (same i).version (same i).rows) in
+      size = (let s = section (changed_by g.T.BlockTransformer.encoded c.args.transformer.now) (block_bytes p.block.builder.version p.block.builder.rows) in
           let bytes : c.seal_section.new.out.items ≡ p.bytes.items ++ s = c.in_ok-seal_section.ensures.appended ∙ (λ i. p.bytes.items ++ section (changed_by g.T.BlockTransformer.encoded c.args.transformer.now) (part i)) in
-          let begin : c.len-begin.result ≡ length p.bytes.items = search rules in
           let end : c.len.result ≡ length c.seal_section.new.out.items = search rules in
           omega (arith, begin, end ∙ ap length bytes ∙ length-append p.bytes.items s));
       asks = (let call = c.seal_section.ensures in

@@ -11,23 +11,19 @@ use Rattle.slate_table.proofs.table_store.TableStore.read_blocks.Goals as goal
 
 pub returns : goal.returns
 returns g c =
+    let end = c.args.table.now.info.filter_offset in
+    let entries = entries_of c.args.index.now in
+    let decoded = changed_by g.T.BlockTransformer.decoded c.args.transformer.now in
+    let size = c.saturating_sub-size.ensures ∙ (λ i. c.block_start.ensures i - c.block_start-start.ensures i) in
     record {
-      found = (let end = c.args.table.now.info.filter_offset in
-          let entries = entries_of c.args.index.now in
-          let decoded = changed_by g.T.BlockTransformer.decoded c.args.transformer.now in
-          let size = c.saturating_sub-size.ensures ∙ (λ i. c.block_start.ensures i - c.block_start-start.ensures i) in
-          IfOk-weaker c.each_block-found.result _ _
+      found = (IfOk-weaker c.each_block-found.result _ _
           (λ blocks found. row_read (g.S.Store.objects c.args.store.now) (g.S.Store.acts c.args.store.now) (g.S.Store.acts c.read.new.store) (path_of c.args.root.now c.args.table.now.id.0)
           c.block_start-start.result c.saturating_sub-size.result (block_start end entries c.args.blocks.start) (blocks_size end entries c.args.blocks.start c.args.blocks.end) c.in_ok-answer.answer
           (λ (answer : Option (List ℕ)). AreBlocksRead decoded (block_answer end entries c.args.blocks.start answer) c.args.blocks.start blocks.items)
           c.block_start-start.ensures size c.in_ok-answer.ensures.read found)
           c.each_block-found.ensures.found);
       count = c.each_block-found.ensures.count;
-      cause = (let end = c.args.table.now.info.filter_offset in
-          let entries = entries_of c.args.index.now in
-          let decoded = changed_by g.T.BlockTransformer.decoded c.args.transformer.now in
-          let size = c.saturating_sub-size.ensures ∙ (λ i. c.block_start.ensures i - c.block_start-start.ensures i) in
-          IfErr-weaker c.each_block-found.result _ _
+      cause = (IfErr-weaker c.each_block-found.result _ _
           (λ e h. row_refused (g.S.Store.objects c.args.store.now) (g.S.Store.acts c.args.store.now) (g.S.Store.acts c.read.new.store) (path_of c.args.root.now c.args.table.now.id.0)
           c.block_start-start.result c.saturating_sub-size.result (block_start end entries c.args.blocks.start) (blocks_size end entries c.args.blocks.start c.args.blocks.end)
           (g.S.Store.faults c.args.store.now) (g.S.Store.faults c.read.new.store) c.in_ok-answer.answer
@@ -36,10 +32,7 @@ returns g c =
           (λ (answer : Option (List ℕ)). RefusesBlocks decoded (block_answer end entries c.args.blocks.start answer) c.args.blocks.start c.args.blocks.end e) e
           c.block_start-start.ensures size c.in_ok-answer.ensures.read h)
           c.each_block-found.ensures.cause);
-      once = (let end = c.args.table.now.info.filter_offset in
-          let entries = entries_of c.args.index.now in
-          let size = c.saturating_sub-size.ensures ∙ (λ i. c.block_start.ensures i - c.block_start-start.ensures i) in
-          on_err c.each_block-found.result
+      once = (on_err c.each_block-found.result
           (inr (row_read (g.S.Store.objects c.args.store.now) (g.S.Store.acts c.args.store.now) (g.S.Store.acts c.read.new.store) (path_of c.args.root.now c.args.table.now.id.0)
           c.block_start-start.result c.saturating_sub-size.result (block_start end entries c.args.blocks.start) (blocks_size end entries c.args.blocks.start c.args.blocks.end) c.in_ok-answer.answer
           (λ (answer : Option (List ℕ)). Unit {0}) c.block_start-start.ensures size c.in_ok-answer.ensures.read tt)));

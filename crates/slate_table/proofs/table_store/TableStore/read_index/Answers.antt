@@ -29,13 +29,11 @@ returns-in_err-part g c =
 
 pub returns : goal.returns
 returns g c =
+    let f = c.in_ok-part.ensures.found in
     record {
-      found = (let f = c.in_ok-part.ensures.found in
-          IfOk-weaker c.decode.result _ _ (λ made h. (f.0, f.1, (c.in_ok-part.part, f.2, h))) c.decode.ensures.found);
-      cause = (let f = c.in_ok-part.ensures.found in
-          IfErr-weaker c.decode.result _ _ (λ e h. spread (λ r. (f.0, f.1, inr (c.in_ok-part.part, f.2, r))) h) c.decode.ensures.cause);
-      once = (let f = c.in_ok-part.ensures.found in
-          on_err c.decode.result (inr (f.0, f.1, tt)));
+      found = (IfOk-weaker c.decode.result _ _ (λ made h. (f.0, f.1, (c.in_ok-part.part, f.2, h))) c.decode.ensures.found);
+      cause = (IfErr-weaker c.decode.result _ _ (λ e h. spread (λ r. (f.0, f.1, inr (c.in_ok-part.part, f.2, r))) h) c.decode.ensures.cause);
+      once = (on_err c.decode.result (inr (f.0, f.1, tt)));
       objects = c.read_part.ensures.reaches.same_objects;
       same_encoded = c.read_part.ensures.stays.same_encoded;
       same_decoded = c.read_part.ensures.stays.same_decoded;
