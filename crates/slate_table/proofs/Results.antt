@@ -2,11 +2,15 @@
 use Rattle.std.proofs.Common.{◌≡◌, ◌⊎◌, ◌∙◌, ℕ, Bool, true, Option, Some, None, inl, inr, Ok, Err, refl, ap, sym, subst}
 use Rattle.std.specs.Prelude.{Result, IfOk, IfErr, OnOk, OnErr, MatchResult, IsErrAnd, IsOkAnd, IfSome, is_ok}
 use Rattle.slate_types.specs.declared.error.SlateDBError.{SlateDBError}
-use Rattle.slate_types.specs.declared.error.SlateDBError.TheVariants.{StoreFault}
+use Rattle.slate_types.specs.declared.error.SlateDBError.TheVariants.{StoreFault, BlockTransformError, OutOfMemory}
 use Rattle.slate_store.specs.declared.store.StoreError.{StoreError}
 use Rattle.slate_store.specs.declared.store.StoreError.TheVariants.{Failed, OutOfMemory as NoMemory}
 use Rattle.slate_store.specs.Store.{of_store}
+use Rattle.slate_types.specs.declared.block_transformer.TransformError.{TransformError}
+use Rattle.slate_types.specs.declared.block_transformer.TransformError.TheVariants.{Failed as TransformFailed, OutOfMemory as TransformerWantsMemory}
+use Rattle.slate_types.specs.Refusals.{of_transformer}
 use Rattle.slate_types.specs.Faults.{Rose}
+use Rattle.slate_table.specs.SectionReading.{IsTransformFault}
 use Rattle.slate_table.specs.Reading.{IsStoreFault}
 use Rattle.slate_block.specs.Damage.{◌>>=◌}
 
@@ -109,3 +113,14 @@ pub not_none : {T E : Type 0} (r : Result T E) (m : Result (Option T) E) → Mat
 not_none (Ok x) (Ok o) is none = absurd cc
 not_none (Ok x) (Err e) is none = absurd is
 not_none (Err e) m is none = absurd cc
+
+-- a transformer's error as a function's own
+pub transform_fault : {T : Type 0} (e : TransformError) (before after : ℕ) → (◌≡◌ {A = Result T TransformError} (Err e) (Err TransformFailed) → Rose before after) → IsTransformFault before after (of_transformer e)
+transform_fault TransformFailed before after rose = inr (refl, rose refl)
+transform_fault TransformerWantsMemory before after rose = inl refl
+
+pub transform_still : {T P : Type 0} (r : Result T TransformError) (m : Result T SlateDBError) → MatchResult r (λ x. m ≡ Ok x) (λ e. IsErrAnd m (λ d. d ≡ of_transformer e)) → OnOk r P → (m ≡ Err BlockTransformError) ⊎ (m ≡ Err OutOfMemory) ⊎ P
+transform_still (Ok x) m is p = inr (inr p)
+transform_still (Err e) (Ok x) is p = absurd is
+transform_still (Err TransformFailed) (Err d) is p = inl (ap (λ (x : SlateDBError). Err x) is)
+transform_still (Err TransformerWantsMemory) (Err d) is p = inr (inl (ap (λ (x : SlateDBError). Err x) is))
