@@ -1,16 +1,18 @@
 -- What stands behind the blocks of a table.
-use Rattle.std.proofs.Common.{◌≡◌, ℕ, ◌+◌, ◌-◌, List, [], ◌∷◌, ◌++◌, length, Option, refl, sym, ap, subst, ◌∙◌, append_assoc, arith}
+use Rattle.std.proofs.Common.{◌≡◌, ℕ, ◌+◌, ◌-◌, ◌^◌, ◌<◌, List, [], ◌∷◌, ◌++◌, length, Option, refl, sym, ap, subst, ◌∙◌, append_assoc, arith}
 use Rattle.std.specs.Prelude.{slice_get, option_map}
 use Rattle.std.proofs.lemmas.List.{append-nil, length-append}
 use Rattle.slate_types.specs.declared.types.RowEntry.{RowEntry}
 use Rattle.slate_block.specs.RowSpelling.{be16, be64}
 use Rattle.slate_table.specs.declared.info.SsTableInfo.{SsTableInfo}
-use Rattle.slate_table.specs.Parts.{summed}
+use Rattle.slate_types.specs.declared.config.BlockFormat.{BlockFormat}
+use Rattle.slate_table.specs.declared.table_parts.TableParts.{TableParts}
+use Rattle.slate_table.specs.Parts.{Encode, section, summed}
 use Rattle.slate_table.specs.Table.{some_first, some_last, info_of, sections_then_info}
-use Rattle.slate_table.specs.Decoded.{SectionsLieBefore}
 use Rattle.slate_table.specs.SectionReading.{footer_bytes}
 use Rattle.slate_table.specs.InfoReading.{seen_info}
-use Rattle.slate_table.specs.TableEnd.{placed_info, part_of_info, HasInfo}
+use Rattle.slate_table.specs.TableEnd.{placed_info, part_of_info, HasInfo, EndsAt, parts_index, parts_stats, IsSealed, IsFinished}
+use Rattle.slate_table.specs.TableParts.{version_of, IsEnded}
 
 -- ---- the first and the last key
 
@@ -72,14 +74,30 @@ table_end version rows a i s =
     ∙ (λ j. framed version a i s (summed (info j)) (whole j))
     ∙ frame_is version rows a i s
 
-pub sections_lie : (rows : List RowEntry) (a i s : List ℕ) → SectionsLieBefore (length ((a ++ i) ++ s)) (placed_info rows (length a) (length (a ++ i)) (length ((a ++ i) ++ s)))
-sections_lie rows a i s =
-    let second = length-append a i in
-    let third = length-append (a ++ i) s in
-    (omega (arith, second, third), omega (arith, second, third), omega (arith, second, third))
-
 pub info_moved : (a b : List ℕ) (v w : ℕ) (i j : SsTableInfo) → a ≡ b → v ≡ w → i ≡ j → HasInfo b v (seen_info j) → HasInfo a w (seen_info i)
 info_moved a b v w i j same version info h =
     let placed = subst (λ (l : List ℕ). HasInfo l v (seen_info j)) (sym same) h in
     let numbered = subst (λ (n : ℕ). HasInfo a n (seen_info j)) version placed in
     subst (λ (x : SsTableInfo). HasInfo a w (seen_info x)) (sym info) numbered
+
+pub ends_moved : {v w : ℕ} {xs ys : List RowEntry} {index stats : ℕ} {a b new made : List ℕ} {i j : SsTableInfo} → v ≡ w → xs ≡ ys → a ≡ b → made ≡ new → i ≡ j →
+    EndsAt v xs index stats a new (seen_info j) → EndsAt w ys index stats b made (seen_info i)
+ends_moved {v} {w} {xs} {ys} {index} {stats} {a} {b} {new} {made} {i} {j} version rows old same info e = record {
+  is = same ∙ e.is ∙ (λ k. old k ++ (summed (part_of_info (version k) (placed_info (rows k) index stats (length (old k)))) ++ footer_bytes (length (old k)) (version k)));
+  info = info_moved made new v w i j same version info e.info;
+}
+
+-- the three steps of a table that is finished
+pub closed : (encode : Encode) (p q r : TableParts) (first at : ℕ) (bytes : List ℕ) (i : SsTableInfo) → IsEnded encode p q → IsSealed encode q at r → first ≡ length q.bytes.items →
+    EndsAt (version_of r.format) r.rows.items first at r.bytes.items bytes (seen_info i) → length bytes < 2 ^ 64 → IsFinished encode p bytes i
+closed encode p q r first at bytes i e s begin d short = record {
+  ended = q;
+  end = e;
+  is = d.is
+      ∙ (λ k. s.bytes k ++ (summed (part_of_info (version_of (s.format k)) (placed_info (s.rows k) (begin k) (s.place k) (length (s.bytes k)))) ++ footer_bytes (length (s.bytes k)) (version_of (s.format k))))
+      ∙ table_end (version_of q.format) q.rows.items q.bytes.items (section encode (parts_index q)) (section encode (parts_stats q));
+  short = short;
+  keys = omega (arith, e.keys, s.keys);
+  values = omega (arith, e.values, s.values);
+  info = subst (λ (f : BlockFormat). HasInfo bytes (version_of f) (seen_info i)) (s.format ∙ e.format) d.info;
+}

@@ -1,4 +1,5 @@
 pub mod PartsLaws
+pub mod Asking
 pub mod BuiltLaws
 pub mod EndLaws
 pub mod Cuttings

@@ -1,12 +1,16 @@
 -- The result of a last call, which is returned as it is.
-use Rattle.std.proofs.Common.{◌≡◌, ◌⊎◌, ◌∙◌, ℕ, Bool, true, inl, inr, Ok, Err, refl, ap, sym, subst}
-use Rattle.std.specs.Prelude.{Result, IfOk, IfErr, OnOk, OnErr, MatchResult, IsErrAnd, is_ok}
+use Rattle.std.proofs.Common.{◌≡◌, ◌⊎◌, ◌∙◌, ℕ, Bool, true, Option, Some, None, inl, inr, Ok, Err, refl, ap, sym, subst}
+use Rattle.std.specs.Prelude.{Result, IfOk, IfErr, OnOk, OnErr, MatchResult, IsErrAnd, IsOkAnd, IfSome, is_ok}
 use Rattle.slate_types.specs.declared.error.SlateDBError.{SlateDBError}
-use Rattle.slate_types.specs.declared.error.SlateDBError.TheVariants.{StoreFault}
+use Rattle.slate_types.specs.declared.error.SlateDBError.TheVariants.{StoreFault, BlockTransformError, OutOfMemory}
 use Rattle.slate_store.specs.declared.store.StoreError.{StoreError}
 use Rattle.slate_store.specs.declared.store.StoreError.TheVariants.{Failed, OutOfMemory as NoMemory}
 use Rattle.slate_store.specs.Store.{of_store}
+use Rattle.slate_types.specs.declared.block_transformer.TransformError.{TransformError}
+use Rattle.slate_types.specs.declared.block_transformer.TransformError.TheVariants.{Failed as TransformFailed, OutOfMemory as TransformerWantsMemory}
+use Rattle.slate_types.specs.Refusals.{of_transformer}
 use Rattle.slate_types.specs.Faults.{Rose}
+use Rattle.slate_table.specs.SectionReading.{IsTransformFault}
 use Rattle.slate_table.specs.Reading.{IsStoreFault}
 use Rattle.slate_block.specs.Damage.{◌>>=◌}
 
@@ -14,6 +18,10 @@ use Rattle.slate_block.specs.Damage.{◌>>=◌}
 pub store_still : {T P : Type 0} (value : T) → (Ok value ≡ Err StoreFault) ⊎ P → P
 store_still value (inl failed) = absurd cc
 store_still value (inr same) = same
+
+pub read_still : {T P : Type 0} (value : T) → (◌≡◌ {A = Result T StoreError} (Ok value) (Err Failed)) ⊎ P → P
+read_still value (inl failed) = absurd cc
+read_still value (inr same) = same
 
 -- the same error as another result
 pub store_err : {T U P : Type 0} (e : SlateDBError) → (◌≡◌ {A = Result T SlateDBError} (Err e) (Err StoreFault)) ⊎ P → (◌≡◌ {A = Result U SlateDBError} (Err e) (Err StoreFault)) ⊎ P
@@ -64,10 +72,6 @@ pub if_ok_both : {T E : Type 0} (r : Result T E) (P Q R : T → Type 0) → ((x 
 if_ok_both (Ok x) P Q R f p q = f x p q
 if_ok_both (Err e) P Q R f p q = tt
 
-pub if_ok_three : {T E : Type 0} (r : Result T E) (P Q R S : T → Type 0) → ((x : T) → P x → Q x → R x → S x) → IfOk r P → IfOk r Q → IfOk r R → IfOk r S
-if_ok_three (Ok x) P Q R S f p q s = f x p q s
-if_ok_three (Err e) P Q R S f p q s = tt
-
 pub ok_is : {T E : Type 0} (r : Result T E) (t : Bool) → t ≡ is_ok r → OnOk r (t ≡ true)
 ok_is (Ok x) t is = is
 ok_is (Err e) t is = tt
@@ -93,3 +97,30 @@ mapped_still (Ok x) m of f is (inr p) = inr p
 mapped_still (Err e) (Ok x) of f is h = absurd is
 mapped_still (Err e) (Err d) of f is (inl failed) = let same : e ≡ f = cc in inl (ap (λ (x : SlateDBError). Err x) (is ∙ ap of same))
 mapped_still (Err e) (Err d) of f is (inr p) = inr p
+
+-- a call whose value becomes one that is there
+pub mapped_some : {T E : Type 0} (r : Result T E) (m : Result (Option T) E) (P R : T → Type 0) → MatchResult r (λ x. IsOkAnd m (λ o. o ≡ Some x)) (λ e. m ≡ Err e) → ((x : T) → P x → R x) → IfOk r P → IfOk m (λ o. IfSome o R)
+mapped_some (Ok x) (Ok o) P R is f p = subst (λ o. IfSome o R) (sym is) (f x p)
+mapped_some (Ok x) (Err e) P R is f p = absurd is
+mapped_some (Err e) m P R is f p = subst (λ r. IfOk r (λ o. IfSome o R)) (sym is) tt
+
+pub mapped_same : {T E : Type 0} (r : Result T E) (m : Result (Option T) E) (P : E → Type 0) → MatchResult r (λ x. IsOkAnd m (λ o. o ≡ Some x)) (λ e. m ≡ Err e) → IfErr r P → IfErr m P
+mapped_same (Ok x) (Ok o) P is p = tt
+mapped_same (Ok x) (Err e) P is p = absurd is
+mapped_same (Err e) m P is p = subst (λ r. IfErr r P) (sym is) p
+
+pub not_none : {T E : Type 0} (r : Result T E) (m : Result (Option T) E) → MatchResult r (λ x. IsOkAnd m (λ o. o ≡ Some x)) (λ e. m ≡ Err e) → m ≡ Ok None → ⊥
+not_none (Ok x) (Ok o) is none = absurd cc
+not_none (Ok x) (Err e) is none = absurd is
+not_none (Err e) m is none = absurd cc
+
+-- a transformer's error as a function's own
+pub transform_fault : {T : Type 0} (e : TransformError) (before after : ℕ) → (◌≡◌ {A = Result T TransformError} (Err e) (Err TransformFailed) → Rose before after) → IsTransformFault before after (of_transformer e)
+transform_fault TransformFailed before after rose = inr (refl, rose refl)
+transform_fault TransformerWantsMemory before after rose = inl refl
+
+pub transform_still : {T P : Type 0} (r : Result T TransformError) (m : Result T SlateDBError) → MatchResult r (λ x. m ≡ Ok x) (λ e. IsErrAnd m (λ d. d ≡ of_transformer e)) → OnOk r P → (m ≡ Err BlockTransformError) ⊎ (m ≡ Err OutOfMemory) ⊎ P
+transform_still (Ok x) m is p = inr (inr p)
+transform_still (Err e) (Ok x) is p = absurd is
+transform_still (Err TransformFailed) (Err d) is p = inl (ap (λ (x : SlateDBError). Err x) is)
+transform_still (Err TransformerWantsMemory) (Err d) is p = inr (inl (ap (λ (x : SlateDBError). Err x) is))

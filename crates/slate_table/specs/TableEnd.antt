@@ -3,7 +3,9 @@
 --     placed_info rows index stats end      the info of a table whose index and statistics begin there and end there
 --     part_of_info version i      the bytes of an info
 --     HasInfo bytes version i      the last bytes of the table lead to that info, whose sections lie before it
+--     EndsAt version rows index stats old new i      that info and the last bytes were appended, where the index and the statistics begin there
 --     parts_bytes encode p      the table, from what is kept once the last block was ended
+--     IsSealed encode old at new      the sections of the index and of the statistics were appended, of which the second begins there
 --     IsReady p      what is kept fits the fields of an index, of statistics and of an info
 --     IsFinished encode p bytes i      the bytes are the table of what was kept, once the last block was ended, with that info
 --     EncodedTable      what a built table is seen as: its bytes, its info and its version
@@ -45,6 +47,10 @@ pub record HasInfo (bytes : List ℕ) (version : ℕ) (i : Info) : Type 0 where
   pub spelled : IsInfo version part i
   pub lies : SectionsLieBefore (length before) i
 
+pub record EndsAt (version : ℕ) (rows : List RowEntry) (index stats : ℕ) (old new : List ℕ) (i : Info) : Type 0 where
+  pub is : new ≡ old ++ (summed (part_of_info version (placed_info rows index stats (length old))) ++ footer_bytes (length old) version)
+  pub info : HasInfo new version i
+
 abbrev pub parts_index : TableParts → List ℕ
 parts_index p = index_bytes p.offsets.items p.separators.items
 
@@ -53,6 +59,14 @@ parts_stats p = counted_bytes p.rows.items p.raw_key_size p.raw_val_size p.block
 
 abbrev pub parts_bytes : Encode → TableParts → List ℕ
 parts_bytes encode p = sections_then_info (version_of p.format) p.rows.items p.bytes.items [] (section encode (parts_index p)) (section encode (parts_stats p))
+
+pub record IsSealed (encode : Encode) (old : TableParts) (at : ℕ) (new : TableParts) : Type 0 where
+  pub place : at ≡ length (old.bytes.items ++ section encode (parts_index old))
+  pub bytes : new.bytes.items ≡ (old.bytes.items ++ section encode (parts_index old)) ++ section encode (parts_stats old)
+  pub rows : new.rows.items ≡ old.rows.items
+  pub format : new.format ≡ old.format
+  pub keys : old.raw_key_size < 2 ^ 64
+  pub values : old.raw_val_size < 2 ^ 64
 
 pub record IsReady (p : TableParts) : Type 0 where
   pub few : length p.offsets.items < 2 ^ 32

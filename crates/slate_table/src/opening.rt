@@ -2,6 +2,7 @@
 ghost use Rattle.std.specs.Prelude.{◌≡◌, ◌≤◌, ◌<◌, ◌+◌, ◌-◌, ◌⊎◌, ℕ, List, Option, Some, Err, Ok, length, OnOk, OnErr, IfOk, IfErr, IfSome};
 ghost use Rattle.slate_table.specs.Paths.{path_of};
 ghost use Rattle.slate_table.specs.InfoReading.{seen_info};
+ghost use Rattle.slate_table.specs.Asking.{Reaches};
 ghost use Rattle.slate_table.specs.Reading.{Reads, IsStoreFault};
 ghost use Rattle.slate_table.specs.Opening.{
   IsMeasured,
@@ -38,9 +39,7 @@ pub(crate) fn open_table<S: Store>(
     ensures id { IfOk result (λ table. table.id ≡ id) }
     ensures cause { IfErr result (λ e. IsStoreFault (S.faults store.old) (S.faults store.new) e ⊎ RefusesOpen (S.objects store.old) (S.acts store.old) (S.acts store.new) (path_of root.now id.0) e) }
     ensures calls { OnErr result (MayOpen (S.objects store.old) (S.acts store.old) (S.acts store.new) (path_of root.now id.0)) }
-    ensures objects { S.objects store.new ≡ S.objects store.old }
-    ensures later { S.faults store.old ≤ S.faults store.new }
-    ensures still { (result ≡ Err SlateDBError.StoreFault) ⊎ (S.faults store.new ≡ S.faults store.old) }
+    ensures reaches { Reaches S.objects S.faults store.old store.new result }
 {
     let size = object_len(alloc, store, root, id)?;
     let len = long_object(size)?;
@@ -63,9 +62,7 @@ pub(crate) fn object_len<S: Store>(
     ensures measured { IfOk result (λ size. IsMeasured (S.objects store.old) (S.acts store.old) (S.acts store.new) (path_of root.now id.0) size) }
     ensures cause { IfErr result (λ e. IsStoreFault (S.faults store.old) (S.faults store.new) e) }
     ensures none { OnErr result (S.acts store.new ≡ S.acts store.old) }
-    ensures objects { S.objects store.new ≡ S.objects store.old }
-    ensures later { S.faults store.old ≤ S.faults store.new }
-    ensures still { (result ≡ Err SlateDBError.StoreFault) ⊎ (S.faults store.new ≡ S.faults store.old) }
+    ensures reaches { Reaches S.objects S.faults store.old store.new result }
 {
     let path = table_path(alloc, root, id)?;
     store.len(alloc, path.as_str()).map_err(SlateDBError::from)
@@ -102,9 +99,7 @@ fn read_footer<S: Store>(
     ensures within { IfOk result (λ footer. footer.info_offset + 10 ≤ len) }
     ensures cause { IfErr result (λ e. IsStoreFault (S.faults store.old) (S.faults store.new) e ⊎ Reads (S.objects store.old) (S.acts store.old) (S.acts store.new) (path_of root.now id.0) (len - 10) 10 (λ answer. last_in len answer ≡ Err e)) }
     ensures once { OnErr result ((S.acts store.new ≡ S.acts store.old) ⊎ Reads (S.objects store.old) (S.acts store.old) (S.acts store.new) (path_of root.now id.0) (len - 10) 10 (λ _. Unit {0})) }
-    ensures objects { S.objects store.new ≡ S.objects store.old }
-    ensures later { S.faults store.old ≤ S.faults store.new }
-    ensures still { (result ≡ Err SlateDBError.StoreFault) ⊎ (S.faults store.new ≡ S.faults store.old) }
+    ensures reaches { Reaches S.objects S.faults store.old store.new result }
 {
     let place = (len - FOOTER_SIZE as u64, FOOTER_SIZE as u64);
     let answer = read(alloc, store, root, id, place)?;
@@ -142,9 +137,7 @@ fn read_info<S: Store>(
     ensures some { IfOk result (λ _. 4 < info_size len footer.info_offset) }
     ensures cause { IfErr result (λ e. IsStoreFault (S.faults store.old) (S.faults store.new) e ⊎ ((S.acts store.new ≡ S.acts store.old) × (info_size len footer.info_offset ≤ 4) × (e ≡ SlateDBError.EmptyBlockMeta (info_size len footer.info_offset))) ⊎ ((4 < info_size len footer.info_offset) × Reads (S.objects store.old) (S.acts store.old) (S.acts store.new) (path_of root.now id.0) footer.info_offset (info_size len footer.info_offset) (λ answer. RefusesInfo footer.version footer.info_offset answer e))) }
     ensures once { OnErr result ((S.acts store.new ≡ S.acts store.old) ⊎ Reads (S.objects store.old) (S.acts store.old) (S.acts store.new) (path_of root.now id.0) footer.info_offset (info_size len footer.info_offset) (λ _. Unit {0})) }
-    ensures objects { S.objects store.new ≡ S.objects store.old }
-    ensures later { S.faults store.old ≤ S.faults store.new }
-    ensures still { (result ≡ Err SlateDBError.StoreFault) ⊎ (S.faults store.new ≡ S.faults store.old) }
+    ensures reaches { Reaches S.objects S.faults store.old store.new result }
 {
     let size = len - FOOTER_SIZE as u64 - footer.info_offset;
     if size <= CHECKSUM_SIZE as u64 {

@@ -17,7 +17,7 @@ use crate::opening::object_len;
 use crate::sst_index::SstIndex;
 use crate::sst_reader::SstReader;
 use crate::sst_stats::SstStats;
-use crate::table_store::{TableStore, read_block, read_stats};
+use crate::table_store::{TableStore, read_block, read_part};
 use slate_block::fields::corrupt;
 use slate_block::{Block, DataBlockIterator};
 use slate_store::Store;
@@ -93,13 +93,21 @@ impl SstFile {
         ensures later_transformer { faults_of T.faults reader.old.transformer ≤ faults_of T.faults reader.new.transformer }
         ensures still_transformer { (result ≡ Err SlateDBError.BlockTransformError) ⊎ (result ≡ Err SlateDBError.OutOfMemory) ⊎ (faults_of T.faults reader.new.transformer ≡ faults_of T.faults reader.old.transformer) }
     {
-        if self.handle.info.stats_len == 0 {
+        let place = (self.handle.info.stats_offset, self.handle.info.stats_len);
+        if place.1 == 0 {
             return Ok(None);
         }
         let root = reader.root_path.as_str();
         let transformer = &mut reader.transformer;
-        let stats = read_stats(alloc, &mut reader.store, root, &self.handle, transformer)?;
-        Ok(Some(stats))
+        let part = read_part(
+            alloc,
+            &mut reader.store,
+            root,
+            self.handle.id,
+            place,
+            transformer,
+        )?;
+        SstStats::decode(alloc, part).map(Some)
     }
 
     /// The index, by one read of its section. It is refused as by `TableStore::read_index`.

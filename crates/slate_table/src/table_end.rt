@@ -1,76 +1,41 @@
 //! What stands behind the blocks of a table.
-ghost use Rattle.std.specs.Prelude.{◌≡◌, ◌≤◌, ◌<◌, ◌+◌, ◌^◌, ◌++◌, ◌⊎◌, length, [], Err, OnOk, IfOk, IfErr, IsOkUnless, option_map, option_copied};
-ghost use Rattle.slate_types.specs.Faults.{faults_of};
-ghost use Rattle.slate_table.specs.Parts.{section, summed};
-ghost use Rattle.slate_table.specs.Table.{some_first, some_last, sections_then_info};
+ghost use Rattle.std.specs.Prelude.{◌≡◌, ◌≤◌, ◌++◌, length, OnOk, IfOk, IsOkUnless, option_map, option_copied};
+ghost use Rattle.slate_table.specs.Parts.{summed};
+ghost use Rattle.slate_table.specs.Table.{some_first, some_last};
 ghost use Rattle.slate_table.specs.Decoded.{FitsShort, SectionsLieBefore};
 ghost use Rattle.slate_table.specs.InfoReading.{seen_info};
-ghost use Rattle.slate_table.specs.SectionReading.{changed_by, footer_bytes, IsTransformFault};
-ghost use Rattle.slate_table.specs.TableEnd.{placed_info, part_of_info, HasInfo};
+ghost use Rattle.slate_table.specs.SectionReading.{footer_bytes};
+ghost use Rattle.slate_table.specs.TableEnd.{placed_info, part_of_info, HasInfo, EndsAt};
 
 use crate::footer::Footer;
 use crate::info::SsTableInfo;
-use crate::section::{append_summed, seal_section};
+use crate::section::append_summed;
 use bytes::Bytes;
-use slate_types::{BlockTransformer, RowEntry, SlateDBError};
+use slate_types::{RowEntry, SlateDBError};
 use std::alloc::Global;
 
-/// Appends the sections of the index and of the statistics, the info, and the last bytes of a table of these rows.
-pub fn append_end<T: BlockTransformer>(
+/// Appends the info and the last bytes of a table of these rows, whose index begins there, and whose statistics begin there and
+/// end where `out` does.
+pub fn append_end(
     alloc: Global,
     out: &mut Vec<u8>,
     version: u16,
     rows: &[RowEntry],
-    index: Bytes,
-    stats: Bytes,
-    transformer: &mut Option<T>,
+    index_offset: u64,
+    stats_offset: u64,
 ) -> Result<SsTableInfo, SlateDBError>
     requires first { FitsShort (some_first rows.now) }
     requires last { FitsShort (some_last rows.now) }
-    ensures appended { OnOk result (out.new.items ≡ sections_then_info version rows.now out.old.items [] (section (changed_by T.encoded transformer.old) index) (section (changed_by T.encoded transformer.old) stats)) }
-    ensures info { IfOk result (λ info. HasInfo out.new.items version (seen_info info)) }
-    ensures same_encoded { changed_by T.encoded transformer.new ≡ changed_by T.encoded transformer.old }
-    ensures same_decoded { changed_by T.decoded transformer.new ≡ changed_by T.decoded transformer.old }
-    ensures later { faults_of T.faults transformer.old ≤ faults_of T.faults transformer.new }
-    ensures still { (result ≡ Err SlateDBError.BlockTransformError) ⊎ (result ≡ Err SlateDBError.OutOfMemory) ⊎ (faults_of T.faults transformer.new ≡ faults_of T.faults transformer.old) }
-    ensures cause { IfErr result (λ e. IsTransformFault (faults_of T.faults transformer.old) (faults_of T.faults transformer.new) e) }
+    requires index { index_offset ≤ stats_offset }
+    requires stats { stats_offset ≤ length out.old.items }
+    ensures ended { IfOk result (λ info. EndsAt version rows.now index_offset stats_offset out.old.items out.new.items (seen_info info)) }
+    ensures cause { IsOkUnless result SlateDBError.OutOfMemory }
 {
-    let index_offset = out.len() as u64;
-    let stats_offset = append_sections(alloc, out, index, stats, transformer)?;
     let info = placed_info(rows, index_offset, stats_offset, out.len() as u64)?;
     match append_info(alloc, out, version, &info) {
         Ok(()) => Ok(info),
         Err(error) => {
             drop(info);
-            Err(error)
-        }
-    }
-}
-
-/// Appends the sections of the index and of the statistics, and answers where the second begins.
-fn append_sections<T: BlockTransformer>(
-    alloc: Global,
-    out: &mut Vec<u8>,
-    index: Bytes,
-    stats: Bytes,
-    transformer: &mut Option<T>,
-) -> Result<u64, SlateDBError>
-    ensures appended { OnOk result (out.new.items ≡ (out.old.items ++ section (changed_by T.encoded transformer.old) index) ++ section (changed_by T.encoded transformer.old) stats) }
-    ensures place { IfOk result (λ at. at ≡ length (out.old.items ++ section (changed_by T.encoded transformer.old) index)) }
-    ensures same_encoded { changed_by T.encoded transformer.new ≡ changed_by T.encoded transformer.old }
-    ensures same_decoded { changed_by T.decoded transformer.new ≡ changed_by T.decoded transformer.old }
-    ensures later { faults_of T.faults transformer.old ≤ faults_of T.faults transformer.new }
-    ensures still { (result ≡ Err SlateDBError.BlockTransformError) ⊎ (result ≡ Err SlateDBError.OutOfMemory) ⊎ (faults_of T.faults transformer.new ≡ faults_of T.faults transformer.old) }
-    ensures cause { IfErr result (λ e. IsTransformFault (faults_of T.faults transformer.old) (faults_of T.faults transformer.new) e) }
-{
-    match seal_section(alloc, out, index, transformer) {
-        Ok(()) => {
-            let stats_offset = out.len() as u64;
-            seal_section(alloc, out, stats, transformer)?;
-            Ok(stats_offset)
-        }
-        Err(error) => {
-            drop(stats);
             Err(error)
         }
     }

@@ -1,6 +1,5 @@
 //! What a table builder keeps.
-ghost use Rattle.std.specs.Prelude.{◌≡◌, ◌≤◌, ◌<◌, ◌+◌, ◌-◌, ◌^◌, ◌⊎◌, ◌==◌, ◌++◌, ◌∷◌, ◌↔◌, if◌then◌else◌, ℕ, List, [], Ok, Err, true, false, length, OnOk, IfOk, IfErr, IsOkUnless};
-ghost use Rattle.slate_types.specs.Faults.{faults_of};
+ghost use Rattle.std.specs.Prelude.{◌≡◌, ◌≤◌, ◌<◌, ◌+◌, ◌^◌, ◌⊎◌, ◌==◌, ◌++◌, ◌∷◌, ◌↔◌, if◌then◌else◌, ℕ, List, [], Ok, Err, true, false, length, OnOk, IfOk, IfErr, IsOkUnless};
 ghost use Rattle.slate_types.specs.Rows.{operand};
 ghost use Rattle.slate_block.specs.Building.{CanTake, with_row};
 ghost use Rattle.slate_block.specs.Fitting.{fits_in};
@@ -8,10 +7,13 @@ ghost use Rattle.slate_types.specs.declared.types.RowEntry.{RowEntry};
 ghost use Rattle.slate_block.specs.BlockSpelling.{block_bytes};
 ghost use Rattle.slate_block.specs.Counting.{stats_of};
 ghost use Rattle.slate_table.specs.Parts.{section};
-ghost use Rattle.slate_table.specs.SectionReading.{changed_by, IsTransformFault};
+ghost use Rattle.slate_table.specs.SectionReading.{changed_by};
+ghost use Rattle.slate_table.specs.Asking.{Asks};
+ghost use Rattle.slate_table.specs.Table.{some_first, some_last};
+ghost use Rattle.slate_table.specs.Decoded.{FitsShort};
 ghost use Rattle.slate_table.specs.TableParts.{version_of, separator_behind, fits_parts, ended_size, IsAdded, IsEnded, IsTaken, IsPastLimit, IsWithinLimits, Stands};
 ghost use Rattle.slate_table.specs.InfoReading.{seen_info};
-ghost use Rattle.slate_table.specs.TableEnd.{HasInfo, parts_bytes, IsReady, IsFinished};
+ghost use Rattle.slate_table.specs.TableEnd.{EndsAt, IsReady, IsSealed, IsFinished};
 
 use crate::encoded_table::EncodedSsTable;
 use crate::index_writing::encode_index;
@@ -103,11 +105,7 @@ impl TableParts {
         requires row { 0 < length self.old.block.builder.rows }
         ensures ended { OnOk result (IsEnded (changed_by T.encoded transformer.old) self.old self.new) }
         ensures size { IfOk result (λ size. size ≡ length (section (changed_by T.encoded transformer.old) (block_bytes self.old.block.builder.version self.old.block.builder.rows))) }
-        ensures same_encoded { changed_by T.encoded transformer.new ≡ changed_by T.encoded transformer.old }
-        ensures same_decoded { changed_by T.decoded transformer.new ≡ changed_by T.decoded transformer.old }
-        ensures later { faults_of T.faults transformer.old ≤ faults_of T.faults transformer.new }
-        ensures still { (result ≡ Err SlateDBError.BlockTransformError) ⊎ (result ≡ Err SlateDBError.OutOfMemory) ⊎ (faults_of T.faults transformer.new ≡ faults_of T.faults transformer.old) }
-        ensures cause { IfErr result (λ e. IsTransformFault (faults_of T.faults transformer.old) (faults_of T.faults transformer.new) e) }
+        ensures asks { Asks T.encoded T.decoded T.faults transformer.old transformer.new result }
     {
         let empty = new_block(alloc, self.format, self.block_size)?;
         let (builder, stats) = mem::replace(&mut self.block, empty).into_parts();
@@ -129,52 +127,66 @@ impl TableParts {
         requires row { 0 < length self.old.rows.items }
         ensures finished { IfOk result (λ table. IsFinished (changed_by T.encoded transformer.old) self.old table.bytes table.info) }
         ensures version { IfOk result (λ table. table.version ≡ version_of self.old.format) }
-        ensures same_encoded { changed_by T.encoded transformer.new ≡ changed_by T.encoded transformer.old }
-        ensures same_decoded { changed_by T.decoded transformer.new ≡ changed_by T.decoded transformer.old }
-        ensures later { faults_of T.faults transformer.old ≤ faults_of T.faults transformer.new }
-        ensures still { (result ≡ Err SlateDBError.BlockTransformError) ⊎ (result ≡ Err SlateDBError.OutOfMemory) ⊎ (faults_of T.faults transformer.new ≡ faults_of T.faults transformer.old) }
-        ensures cause { IfErr result (λ e. IsTransformFault (faults_of T.faults transformer.old) (faults_of T.faults transformer.new) e) }
+        ensures asks { Asks T.encoded T.decoded T.faults transformer.old transformer.new result }
     {
         self.end_block(alloc, transformer)?;
-        self.assemble(alloc, transformer)
+        let index_offset = self.bytes.len() as u64;
+        let stats_offset = self.append_sections(alloc, transformer)?;
+        self.close(alloc, index_offset, stats_offset)
     }
 
-    /// The table, once the last block was ended.
-    fn assemble<T: BlockTransformer>(
+    /// Appends the sections of the index and of the statistics, once the last block was ended, and answers where the second begins.
+    fn append_sections<T: BlockTransformer>(
         &mut self,
         alloc: Global,
         transformer: &mut Option<T>,
-    ) -> Result<EncodedSsTable, SlateDBError>
+    ) -> Result<u64, SlateDBError>
         requires ready { IsReady self.old }
-        ensures bytes { IfOk result (λ table. table.bytes ≡ parts_bytes (changed_by T.encoded transformer.old) self.old) }
-        ensures short { IfOk result (λ table. length table.bytes < 2 ^ 64) }
-        ensures info { IfOk result (λ table. HasInfo table.bytes (version_of self.old.format) (seen_info table.info)) }
-        ensures version { IfOk result (λ table. table.version ≡ version_of self.old.format) }
-        ensures keys { self.old.raw_key_size < 2 ^ 64 }
-        ensures values { self.old.raw_val_size < 2 ^ 64 }
-        ensures same_encoded { changed_by T.encoded transformer.new ≡ changed_by T.encoded transformer.old }
-        ensures same_decoded { changed_by T.decoded transformer.new ≡ changed_by T.decoded transformer.old }
-        ensures later { faults_of T.faults transformer.old ≤ faults_of T.faults transformer.new }
-        ensures still { (result ≡ Err SlateDBError.BlockTransformError) ⊎ (result ≡ Err SlateDBError.OutOfMemory) ⊎ (faults_of T.faults transformer.new ≡ faults_of T.faults transformer.old) }
-        ensures cause { IfErr result (λ e. IsTransformFault (faults_of T.faults transformer.old) (faults_of T.faults transformer.new) e) }
+        ensures sealed { IfOk result (λ at. IsSealed (changed_by T.encoded transformer.old) self.old at self.new) }
+        ensures asks { Asks T.encoded T.decoded T.faults transformer.old transformer.new result }
     {
-        let rows = &self.rows;
-        let keys = self.raw_key_size;
-        let values = self.raw_val_size;
         let index = encode_index(alloc, &self.offsets, &self.separators)?;
+        seal_section(alloc, &mut self.bytes, index, transformer)?;
+        let stats_offset = self.bytes.len() as u64;
         let block_stats = mem::replace(&mut self.block_stats, Vec::new(alloc));
-        match encode_stats(alloc, rows, keys, values, block_stats) {
-            Ok(stats) => {
-                let version = version_number(self.format);
-                let mut bytes = mem::replace(&mut self.bytes, Vec::new(alloc));
-                let info = append_end(alloc, &mut bytes, version, rows, index, stats, transformer)?;
-                frozen(bytes, info, version)
-            }
-            Err(error) => {
-                drop(index);
-                Err(error)
-            }
-        }
+        let stats = encode_stats(
+            alloc,
+            &self.rows,
+            self.raw_key_size,
+            self.raw_val_size,
+            block_stats,
+        )?;
+        seal_section(alloc, &mut self.bytes, stats, transformer)?;
+        Ok(stats_offset)
+    }
+
+    /// The table, whose index and statistics begin there, and whose info doesn't stand there yet.
+    fn close(
+        &mut self,
+        alloc: Global,
+        index_offset: u64,
+        stats_offset: u64,
+    ) -> Result<EncodedSsTable, SlateDBError>
+        requires first { FitsShort (some_first self.old.rows.items) }
+        requires last { FitsShort (some_last self.old.rows.items) }
+        requires index { index_offset ≤ stats_offset }
+        requires stats { stats_offset ≤ length self.old.bytes.items }
+        ensures ended { IfOk result (λ table. EndsAt (version_of self.old.format) self.old.rows.items index_offset stats_offset self.old.bytes.items table.bytes (seen_info table.info)) }
+        ensures short { IfOk result (λ table. length table.bytes < 2 ^ 64) }
+        ensures version { IfOk result (λ table. table.version ≡ version_of self.old.format) }
+        ensures cause { IsOkUnless result SlateDBError.OutOfMemory }
+    {
+        let version = version_number(self.format);
+        let mut bytes = mem::replace(&mut self.bytes, Vec::new(alloc));
+        let info = append_end(
+            alloc,
+            &mut bytes,
+            version,
+            &self.rows,
+            index_offset,
+            stats_offset,
+        )?;
+        frozen(bytes, info, version)
     }
 
     /// Takes a row behind the others, and ends the block where it doesn't fit: then it answers the length of its section.
@@ -192,11 +204,7 @@ impl TableParts {
         requires values { self.old.raw_val_size + length (operand entry) < 2 ^ 64 }
         ensures added { OnOk result (IsAdded (changed_by T.encoded transformer.old) self.old entry self.new) }
         ensures size { IfOk result (λ size. size ≡ ended_size (changed_by T.encoded transformer.old) self.old entry) }
-        ensures same_encoded { changed_by T.encoded transformer.new ≡ changed_by T.encoded transformer.old }
-        ensures same_decoded { changed_by T.decoded transformer.new ≡ changed_by T.decoded transformer.old }
-        ensures later { faults_of T.faults transformer.old ≤ faults_of T.faults transformer.new }
-        ensures still { (result ≡ Err SlateDBError.BlockTransformError) ⊎ (result ≡ Err SlateDBError.OutOfMemory) ⊎ (faults_of T.faults transformer.new ≡ faults_of T.faults transformer.old) }
-        ensures cause { IfErr result (λ e. IsTransformFault (faults_of T.faults transformer.old) (faults_of T.faults transformer.new) e) }
+        ensures asks { Asks T.encoded T.decoded T.faults transformer.old transformer.new result }
         ensures fault { result ≡ Err SlateDBError.BlockTransformError → fits_parts self.old entry ≡ false }
     {
         if self.block.would_fit(&entry) {

@@ -6,8 +6,8 @@ ghost use Rattle.slate_store.specs.Store.{Act, AddsAct, RefusesPut, TakesPut, pa
 ghost use Rattle.slate_block.specs.RowReading.{refusal};
 ghost use Rattle.slate_table.specs.Paths.{path_of};
 ghost use Rattle.slate_table.specs.SectionReading.{changed_by};
+ghost use Rattle.slate_table.specs.Asking.{Reaches, Stays};
 ghost use Rattle.slate_table.specs.IndexValue.{entries_of};
-ghost use Rattle.slate_table.specs.StatsReading.{stats_of};
 ghost use Rattle.slate_table.specs.Reading.{
   IsRead,
   Reads,
@@ -18,8 +18,6 @@ ghost use Rattle.slate_table.specs.Reading.{
   FailsDecoding,
   IsIndexRead,
   RefusesIndex,
-  IsStatsRead,
-  RefusesStats,
   IsBlockRead,
   RefusesBlock,
   block_start,
@@ -35,7 +33,6 @@ use crate::info::SsTableHandle;
 use crate::paths::table_path;
 use crate::section::open_section;
 use crate::sst_index::SstIndex;
-use crate::sst_stats::SstStats;
 use bytes::Bytes;
 use slate_block::Block;
 use slate_block::fields::corrupt;
@@ -159,9 +156,7 @@ pub(crate) fn read<S: Store>(
     ensures whole { IfOk result (λ answer. IfSome answer (λ bytes. length bytes ≡ place.1)) }
     ensures cause { IfErr result (λ e. IsStoreFault (S.faults store.old) (S.faults store.new) e) }
     ensures none { OnErr result (S.acts store.new ≡ S.acts store.old) }
-    ensures objects { S.objects store.new ≡ S.objects store.old }
-    ensures later { S.faults store.old ≤ S.faults store.new }
-    ensures still { (result ≡ Err SlateDBError.StoreFault) ⊎ (S.faults store.new ≡ S.faults store.old) }
+    ensures reaches { Reaches S.objects S.faults store.old store.new result }
 {
     let path = table_path(alloc, root, id)?;
     let answer = store.read_range(alloc, path.as_str(), place.0, place.1)?;
@@ -193,10 +188,7 @@ pub(crate) fn opened<T: BlockTransformer>(
 ) -> Result<Bytes, SlateDBError>
     ensures found { IfOk result (λ part. IsPart (changed_by T.decoded transformer.old) answer part) }
     ensures cause { IfErr result (λ e. (e ≡ SlateDBError.OutOfMemory) ⊎ FailsDecoding (faults_of T.faults transformer.old) (faults_of T.faults transformer.new) answer e ⊎ (refusal (stored_in answer) ≡ Some e)) }
-    ensures same_encoded { changed_by T.encoded transformer.new ≡ changed_by T.encoded transformer.old }
-    ensures same_decoded { changed_by T.decoded transformer.new ≡ changed_by T.decoded transformer.old }
-    ensures later { faults_of T.faults transformer.old ≤ faults_of T.faults transformer.new }
-    ensures still { (result ≡ Err SlateDBError.BlockTransformError) ⊎ (result ≡ Err SlateDBError.OutOfMemory) ⊎ (faults_of T.faults transformer.new ≡ faults_of T.faults transformer.old) }
+    ensures stays { Stays T.encoded T.decoded T.faults transformer.old transformer.new result }
 {
     match answer {
         None => Err(corrupt(0)),
@@ -209,7 +201,7 @@ pub(crate) fn opened<T: BlockTransformer>(
 }
 
 /// The part of a section of a table, by one read.
-fn read_part<S: Store, T: BlockTransformer>(
+pub(crate) fn read_part<S: Store, T: BlockTransformer>(
     alloc: Global,
     store: &mut S,
     root: &str,
@@ -220,40 +212,11 @@ fn read_part<S: Store, T: BlockTransformer>(
     ensures found { IfOk result (λ part. Reads (S.objects store.old) (S.acts store.old) (S.acts store.new) (path_of root.now id.0) place.0 place.1 (λ answer. IsPart (changed_by T.decoded transformer.old) answer part)) }
     ensures cause { IfErr result (λ e. IsStoreFault (S.faults store.old) (S.faults store.new) e ⊎ Reads (S.objects store.old) (S.acts store.old) (S.acts store.new) (path_of root.now id.0) place.0 place.1 (λ answer. FailsDecoding (faults_of T.faults transformer.old) (faults_of T.faults transformer.new) answer e) ⊎ Reads (S.objects store.old) (S.acts store.old) (S.acts store.new) (path_of root.now id.0) place.0 place.1 (λ answer. refusal (stored_in answer) ≡ Some e)) }
     ensures once { OnErr result ((S.acts store.new ≡ S.acts store.old) ⊎ Reads (S.objects store.old) (S.acts store.old) (S.acts store.new) (path_of root.now id.0) place.0 place.1 (λ _. Unit {0})) }
-    ensures objects { S.objects store.new ≡ S.objects store.old }
-    ensures same_encoded { changed_by T.encoded transformer.new ≡ changed_by T.encoded transformer.old }
-    ensures same_decoded { changed_by T.decoded transformer.new ≡ changed_by T.decoded transformer.old }
-    ensures later { S.faults store.old ≤ S.faults store.new }
-    ensures still { (result ≡ Err SlateDBError.StoreFault) ⊎ (S.faults store.new ≡ S.faults store.old) }
-    ensures later_transformer { faults_of T.faults transformer.old ≤ faults_of T.faults transformer.new }
-    ensures still_transformer { (result ≡ Err SlateDBError.BlockTransformError) ⊎ (result ≡ Err SlateDBError.OutOfMemory) ⊎ (faults_of T.faults transformer.new ≡ faults_of T.faults transformer.old) }
+    ensures reaches { Reaches S.objects S.faults store.old store.new result }
+    ensures stays { Stays T.encoded T.decoded T.faults transformer.old transformer.new result }
 {
     let answer = read(alloc, store, root, id, place)?;
     opened(alloc, answer, transformer)
-}
-
-/// The statistics of a table, by one read of their section.
-pub(crate) fn read_stats<S: Store, T: BlockTransformer>(
-    alloc: Global,
-    store: &mut S,
-    root: &str,
-    table: &SsTableHandle,
-    transformer: &mut Option<T>,
-) -> Result<SstStats, SlateDBError>
-    ensures found { IfOk result (λ stats. Reads (S.objects store.old) (S.acts store.old) (S.acts store.new) (path_of root.now table.now.id.0) table.now.info.stats_offset table.now.info.stats_len (λ answer. IsStatsRead (changed_by T.decoded transformer.old) answer (stats_of stats))) }
-    ensures cause { IfErr result (λ e. IsStoreFault (S.faults store.old) (S.faults store.new) e ⊎ Reads (S.objects store.old) (S.acts store.old) (S.acts store.new) (path_of root.now table.now.id.0) table.now.info.stats_offset table.now.info.stats_len (λ answer. FailsDecoding (faults_of T.faults transformer.old) (faults_of T.faults transformer.new) answer e) ⊎ Reads (S.objects store.old) (S.acts store.old) (S.acts store.new) (path_of root.now table.now.id.0) table.now.info.stats_offset table.now.info.stats_len (λ answer. RefusesStats (changed_by T.decoded transformer.old) answer e)) }
-    ensures once { OnErr result ((S.acts store.new ≡ S.acts store.old) ⊎ Reads (S.objects store.old) (S.acts store.old) (S.acts store.new) (path_of root.now table.now.id.0) table.now.info.stats_offset table.now.info.stats_len (λ _. Unit {0})) }
-    ensures objects { S.objects store.new ≡ S.objects store.old }
-    ensures same_encoded { changed_by T.encoded transformer.new ≡ changed_by T.encoded transformer.old }
-    ensures same_decoded { changed_by T.decoded transformer.new ≡ changed_by T.decoded transformer.old }
-    ensures later { S.faults store.old ≤ S.faults store.new }
-    ensures still { (result ≡ Err SlateDBError.StoreFault) ⊎ (S.faults store.new ≡ S.faults store.old) }
-    ensures later_transformer { faults_of T.faults transformer.old ≤ faults_of T.faults transformer.new }
-    ensures still_transformer { (result ≡ Err SlateDBError.BlockTransformError) ⊎ (result ≡ Err SlateDBError.OutOfMemory) ⊎ (faults_of T.faults transformer.new ≡ faults_of T.faults transformer.old) }
-{
-    let place = (table.info.stats_offset, table.info.stats_len);
-    let part = read_part(alloc, store, root, table.id, place, transformer)?;
-    SstStats::decode(alloc, part)
 }
 
 /// A block of a table, by one read of its section.
@@ -270,13 +233,8 @@ pub(crate) fn read_block<S: Store, T: BlockTransformer>(
     ensures found { IfOk result (λ found. Reads (S.objects store.old) (S.acts store.old) (S.acts store.new) (path_of root.now table.now.id.0) (block_start table.now.info.filter_offset (entries_of index.now) block) (blocks_size table.now.info.filter_offset (entries_of index.now) block (block + 1)) (λ answer. IsBlockRead (changed_by T.decoded transformer.old) answer found)) }
     ensures cause { IfErr result (λ e. IsStoreFault (S.faults store.old) (S.faults store.new) e ⊎ Reads (S.objects store.old) (S.acts store.old) (S.acts store.new) (path_of root.now table.now.id.0) (block_start table.now.info.filter_offset (entries_of index.now) block) (blocks_size table.now.info.filter_offset (entries_of index.now) block (block + 1)) (λ answer. FailsDecoding (faults_of T.faults transformer.old) (faults_of T.faults transformer.new) answer e) ⊎ Reads (S.objects store.old) (S.acts store.old) (S.acts store.new) (path_of root.now table.now.id.0) (block_start table.now.info.filter_offset (entries_of index.now) block) (blocks_size table.now.info.filter_offset (entries_of index.now) block (block + 1)) (λ answer. RefusesBlock (changed_by T.decoded transformer.old) answer e)) }
     ensures once { OnErr result ((S.acts store.new ≡ S.acts store.old) ⊎ Reads (S.objects store.old) (S.acts store.old) (S.acts store.new) (path_of root.now table.now.id.0) (block_start table.now.info.filter_offset (entries_of index.now) block) (blocks_size table.now.info.filter_offset (entries_of index.now) block (block + 1)) (λ _. Unit {0})) }
-    ensures objects { S.objects store.new ≡ S.objects store.old }
-    ensures same_encoded { changed_by T.encoded transformer.new ≡ changed_by T.encoded transformer.old }
-    ensures same_decoded { changed_by T.decoded transformer.new ≡ changed_by T.decoded transformer.old }
-    ensures later { S.faults store.old ≤ S.faults store.new }
-    ensures still { (result ≡ Err SlateDBError.StoreFault) ⊎ (S.faults store.new ≡ S.faults store.old) }
-    ensures later_transformer { faults_of T.faults transformer.old ≤ faults_of T.faults transformer.new }
-    ensures still_transformer { (result ≡ Err SlateDBError.BlockTransformError) ⊎ (result ≡ Err SlateDBError.OutOfMemory) ⊎ (faults_of T.faults transformer.new ≡ faults_of T.faults transformer.old) }
+    ensures reaches { Reaches S.objects S.faults store.old store.new result }
+    ensures stays { Stays T.encoded T.decoded T.faults transformer.old transformer.new result }
 {
     let place = place_of_block(index, table.info.filter_offset, block);
     let answer = read(alloc, store, root, table.id, place)?;
@@ -349,10 +307,7 @@ fn block_in<T: BlockTransformer>(
 ) -> Result<Block, SlateDBError>
     ensures found { IfOk result (λ block. IsBlockRead (changed_by T.decoded transformer.old) answer block) }
     ensures cause { IfErr result (λ e. (e ≡ SlateDBError.OutOfMemory) ⊎ FailsDecoding (faults_of T.faults transformer.old) (faults_of T.faults transformer.new) answer e ⊎ RefusesBlock (changed_by T.decoded transformer.old) answer e) }
-    ensures same_encoded { changed_by T.encoded transformer.new ≡ changed_by T.encoded transformer.old }
-    ensures same_decoded { changed_by T.decoded transformer.new ≡ changed_by T.decoded transformer.old }
-    ensures later { faults_of T.faults transformer.old ≤ faults_of T.faults transformer.new }
-    ensures still { (result ≡ Err SlateDBError.BlockTransformError) ⊎ (result ≡ Err SlateDBError.OutOfMemory) ⊎ (faults_of T.faults transformer.new ≡ faults_of T.faults transformer.old) }
+    ensures stays { Stays T.encoded T.decoded T.faults transformer.old transformer.new result }
 {
     let part = opened(alloc, answer, transformer)?;
     Block::decode(alloc, part)
@@ -372,10 +327,7 @@ fn each_block<T: BlockTransformer>(
     ensures found { IfOk result (λ found. AreBlocksRead (changed_by T.decoded transformer.old) (block_answer end (entries_of index.now) blocks.start answer.now) blocks.start found.items) }
     ensures count { IfOk result (λ found. length found.items ≡ blocks.end - blocks.start) }
     ensures cause { IfErr result (λ e. (e ≡ SlateDBError.OutOfMemory) ⊎ FailsBlocks (changed_by T.decoded transformer.old) (block_answer end (entries_of index.now) blocks.start answer.now) blocks.start blocks.end (faults_of T.faults transformer.old) (faults_of T.faults transformer.new) e ⊎ RefusesBlocks (changed_by T.decoded transformer.old) (block_answer end (entries_of index.now) blocks.start answer.now) blocks.start blocks.end e) }
-    ensures same_encoded { changed_by T.encoded transformer.new ≡ changed_by T.encoded transformer.old }
-    ensures same_decoded { changed_by T.decoded transformer.new ≡ changed_by T.decoded transformer.old }
-    ensures later { faults_of T.faults transformer.old ≤ faults_of T.faults transformer.new }
-    ensures still { (result ≡ Err SlateDBError.BlockTransformError) ⊎ (result ≡ Err SlateDBError.OutOfMemory) ⊎ (faults_of T.faults transformer.new ≡ faults_of T.faults transformer.old) }
+    ensures stays { Stays T.encoded T.decoded T.faults transformer.old transformer.new result }
 {
     let first = blocks.start;
     let mut found = Vec::new(alloc);

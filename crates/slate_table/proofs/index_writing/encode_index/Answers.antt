@@ -3,6 +3,9 @@ use Rattle.std.proofs.lemmas.List.{get_or_read}
 use Rattle.slate_block.specs.RowSpelling.{be32}
 use Rattle.slate_table.specs.Parts.{index_entries}
 use Rattle.slate_table.proofs.IndexWrites.{one_entry, one_more}
+use Rattle.std.proofs.lemmas.Result.{IfOk-from_err}
+use Rattle.slate_types.specs.declared.error.SlateDBError.TheVariants.{OutOfMemory}
+use Rattle.slate_table.proofs.Asking.{memory_exit}
 use Rattle.slate_table.proofs.index_writing.encode_index.Goals as goal
 
 pub loop-at-preserved : goal.loop-at-preserved
@@ -16,3 +19,17 @@ loop-at-preserved c =
     let appended : c.append_entry.new.out.items ≡ c.loop-at.out.items ++ one = c.in_ok-append_entry.ensures.appended ∙ ap (λ (k : List ℕ). c.loop-at.out.items ++ one_entry (get_or offsets at 0) k) key in
     appended ∙ ap (λ (l : List ℕ). l ++ one) c.loop-at.invariant ∙ append_assoc (be32 (length offsets)) front one
     ∙ ap (λ (l : List ℕ). be32 (length offsets) ++ l) (sym (one_more offsets separators at c.loop-at-test.true c.requires.paired))
+
+pub returns-in_err-append_u32 : goal.returns-in_err-append_u32
+returns-in_err-append_u32 c =
+    record {
+      bytes = IfOk-from_err c.from_residual.result _ c.from_residual.ensures.0;
+      cause = memory_exit c.from_residual.result _ c.from_residual.ensures.1 OutOfMemory c.in_err-append_u32.ensures.cause;
+    }
+
+pub returns-in_err-append_entry : goal.returns-in_err-append_entry
+returns-in_err-append_entry c =
+    record {
+      bytes = IfOk-from_err c.from_residual-in_err-append_entry.result _ c.from_residual-in_err-append_entry.ensures.0;
+      cause = memory_exit c.from_residual-in_err-append_entry.result _ c.from_residual-in_err-append_entry.ensures.1 OutOfMemory c.in_err-append_entry.ensures.cause;
+    }

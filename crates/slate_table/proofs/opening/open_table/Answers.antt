@@ -1,140 +1,94 @@
-use Rattle.slate_table.proofs.Results.{store_still, store_err, store_longer}
-use Rattle.std.proofs.Common.{◌∙◌, arith, inl, inr, sym}
+use Rattle.std.proofs.Common.{◌∙◌, arith, inl, inr, refl, sym}
 use Rattle.std.proofs.lemmas.Result.{err_from_is_err_and, IfOk-from_err}
 use Rattle.slate_table.specs.Paths.{path_of}
 use Rattle.slate_table.specs.InfoReading.{seen_info}
 use Rattle.slate_table.specs.Opening.{RefusesOpen, MayOpen}
 use Rattle.slate_table.proofs.OpenReads.{last_refused, info_refused, opens, may_size, may_last, may_info}
+use Rattle.slate_table.proofs.Asking.{reaches_err, reaches_ok, reaches_again}
 use Rattle.slate_table.proofs.opening.open_table.Goals as goal
 
-pub returns-in_err-footer-clause-cause : goal.returns-in_err-footer-clause-cause
-returns-in_err-footer-clause-cause g c =
+pub returns-in_err-footer : goal.returns-in_err-footer
+returns-in_err-footer g c =
     let p = err_from_is_err_and c.from_residual-in_err-footer.result c.from_residual-in_err-footer.ensures.1 in
     let objects = g.S.Store.objects in
     let acts = g.S.Store.acts in
-    let faults = g.S.Store.faults in
-    rw (p.1, p.2)
-    (last_refused (objects c.args.store.now) (objects c.object_len.new.store) (acts c.args.store.now) (acts c.object_len.new.store) (acts c.read_footer.new.store) (path_of c.args.root.now c.args.id.0)
-    c.in_ok-len.len c.in_ok-size.size (faults c.args.store.now) (faults c.object_len.new.store) (faults c.read_footer.new.store) c.in_err-footer.field-0.0
-    c.object_len.ensures.objects c.object_len.ensures.later c.in_ok-len.ensures.same c.in_ok-len.ensures.long c.in_ok-size.ensures.measured c.in_err-footer.ensures.cause)
+    record {
+      found = IfOk-from_err c.from_residual-in_err-footer.result _ c.from_residual-in_err-footer.ensures.0;
+      known = IfOk-from_err c.from_residual-in_err-footer.result _ c.from_residual-in_err-footer.ensures.0;
+      id = IfOk-from_err c.from_residual-in_err-footer.result _ c.from_residual-in_err-footer.ensures.0;
+      cause = (let faults = g.S.Store.faults in
+          rw (p.1, p.2)
+          (last_refused (objects c.args.store.now) (objects c.object_len.new.store) (acts c.args.store.now) (acts c.object_len.new.store) (acts c.read_footer.new.store) (path_of c.args.root.now c.args.id.0)
+          c.in_ok-len.len c.in_ok-size.size (faults c.args.store.now) (faults c.object_len.new.store) (faults c.read_footer.new.store) c.in_err-footer.field-0.0
+          c.object_len.ensures.reaches.same_objects c.object_len.ensures.reaches.later c.in_ok-len.ensures.same c.in_ok-len.ensures.long c.in_ok-size.ensures.measured c.in_err-footer.ensures.cause));
+      calls = (rw p.1
+          (may_last (objects c.args.store.now) (objects c.object_len.new.store) (acts c.args.store.now) (acts c.object_len.new.store) (acts c.read_footer.new.store) (path_of c.args.root.now c.args.id.0)
+          c.in_ok-len.len c.in_ok-size.size c.object_len.ensures.reaches.same_objects c.in_ok-len.ensures.same c.in_ok-size.ensures.measured c.in_err-footer.ensures.once));
+      reaches = reaches_again c.in_ok-size.ensures.reaches (reaches_err c.in_err-footer.ensures.reaches c.from_residual-in_err-footer.ensures.1);
+    }
 
-pub returns-in_err-info-clause-cause : goal.returns-in_err-info-clause-cause
-returns-in_err-info-clause-cause g c =
+pub returns-in_err-info : goal.returns-in_err-info
+returns-in_err-info g c =
     let p = err_from_is_err_and c.from_residual-in_err-info.result c.from_residual-in_err-info.ensures.1 in
     let objects = g.S.Store.objects in
     let acts = g.S.Store.acts in
-    let faults = g.S.Store.faults in
-    rw (p.1, p.2)
-    (info_refused (objects c.args.store.now) (objects c.object_len.new.store) (objects c.read_footer.new.store) (acts c.args.store.now) (acts c.object_len.new.store) (acts c.read_footer.new.store) (acts c.read_info.new.store)
-    (path_of c.args.root.now c.args.id.0) c.in_ok-len.len c.in_ok-footer.footer.info_offset c.in_ok-footer.footer.version c.in_ok-size.size
-    (faults c.args.store.now) (faults c.read_footer.new.store) (faults c.read_info.new.store) c.in_err-info.field-0.0
-    c.object_len.ensures.objects (c.read_footer.ensures.objects ∙ c.object_len.ensures.objects) (omega (arith, c.object_len.ensures.later, c.read_footer.ensures.later))
-    c.in_ok-len.ensures.same c.in_ok-len.ensures.long c.in_ok-size.ensures.measured c.in_ok-footer.ensures.found c.in_err-info.ensures.cause)
+    record {
+      found = IfOk-from_err c.from_residual-in_err-info.result _ c.from_residual-in_err-info.ensures.0;
+      known = IfOk-from_err c.from_residual-in_err-info.result _ c.from_residual-in_err-info.ensures.0;
+      id = IfOk-from_err c.from_residual-in_err-info.result _ c.from_residual-in_err-info.ensures.0;
+      cause = (let faults = g.S.Store.faults in
+          rw (p.1, p.2)
+          (info_refused (objects c.args.store.now) (objects c.object_len.new.store) (objects c.read_footer.new.store) (acts c.args.store.now) (acts c.object_len.new.store) (acts c.read_footer.new.store) (acts c.read_info.new.store)
+          (path_of c.args.root.now c.args.id.0) c.in_ok-len.len c.in_ok-footer.footer.info_offset c.in_ok-footer.footer.version c.in_ok-size.size
+          (faults c.args.store.now) (faults c.read_footer.new.store) (faults c.read_info.new.store) c.in_err-info.field-0.0
+          c.object_len.ensures.reaches.same_objects (c.read_footer.ensures.reaches.same_objects ∙ c.object_len.ensures.reaches.same_objects) (omega (arith, c.object_len.ensures.reaches.later, c.read_footer.ensures.reaches.later))
+          c.in_ok-len.ensures.same c.in_ok-len.ensures.long c.in_ok-size.ensures.measured c.in_ok-footer.ensures.found c.in_err-info.ensures.cause));
+      calls = (rw p.1
+          (may_info (objects c.args.store.now) (objects c.object_len.new.store) (objects c.read_footer.new.store) (acts c.args.store.now) (acts c.object_len.new.store) (acts c.read_footer.new.store) (acts c.read_info.new.store)
+          (path_of c.args.root.now c.args.id.0) c.in_ok-len.len c.in_ok-footer.footer.info_offset c.in_ok-footer.footer.version c.in_ok-size.size
+          c.object_len.ensures.reaches.same_objects (c.read_footer.ensures.reaches.same_objects ∙ c.object_len.ensures.reaches.same_objects) c.in_ok-len.ensures.same c.in_ok-size.ensures.measured c.in_ok-footer.ensures.found c.in_err-info.ensures.once));
+      reaches = reaches_again c.in_ok-size.ensures.reaches (reaches_again c.in_ok-footer.ensures.reaches (reaches_err c.in_err-info.ensures.reaches c.from_residual-in_err-info.ensures.1));
+    }
 
-pub returns-clause-found : goal.returns-clause-found
-returns-clause-found g c =
-    let objects = g.S.Store.objects in
-    let acts = g.S.Store.acts in
-    opens (objects c.args.store.now) (objects c.object_len.new.store) (objects c.read_footer.new.store) (acts c.args.store.now) (acts c.object_len.new.store) (acts c.read_footer.new.store) (acts c.read_info.new.store)
-    (path_of c.args.root.now c.args.id.0) c.in_ok-len.len c.in_ok-footer.footer.info_offset c.in_ok-footer.footer.version c.in_ok-size.size (seen_info c.in_ok-info.info)
-    c.object_len.ensures.objects (c.read_footer.ensures.objects ∙ c.object_len.ensures.objects)
-    c.in_ok-len.ensures.same c.in_ok-len.ensures.long c.in_ok-size.ensures.measured c.in_ok-footer.ensures.found c.in_ok-info.ensures.some c.in_ok-info.ensures.found
+pub returns : goal.returns
+returns g c =
+    record {
+      found = (let objects = g.S.Store.objects in
+          let acts = g.S.Store.acts in
+          opens (objects c.args.store.now) (objects c.object_len.new.store) (objects c.read_footer.new.store) (acts c.args.store.now) (acts c.object_len.new.store) (acts c.read_footer.new.store) (acts c.read_info.new.store)
+          (path_of c.args.root.now c.args.id.0) c.in_ok-len.len c.in_ok-footer.footer.info_offset c.in_ok-footer.footer.version c.in_ok-size.size (seen_info c.in_ok-info.info)
+          c.object_len.ensures.reaches.same_objects (c.read_footer.ensures.reaches.same_objects ∙ c.object_len.ensures.reaches.same_objects)
+          c.in_ok-len.ensures.same c.in_ok-len.ensures.long c.in_ok-size.ensures.measured c.in_ok-footer.ensures.found c.in_ok-info.ensures.some c.in_ok-info.ensures.found);
+      known = c.in_ok-footer.ensures.known;
+      id = refl;
+      cause = tt;
+      calls = tt;
+      reaches = reaches_again c.in_ok-size.ensures.reaches (reaches_again c.in_ok-footer.ensures.reaches (reaches_ok c.in_ok-info.ensures.reaches));
+    }
 
-pub returns-in_err-len-clause-calls : goal.returns-in_err-len-clause-calls
-returns-in_err-len-clause-calls g c =
-    let p = err_from_is_err_and c.from_residual-in_err-len.result c.from_residual-in_err-len.ensures.1 in
-    rw p.1
-    (may_size (g.S.Store.objects c.args.store.now) (g.S.Store.acts c.args.store.now) (g.S.Store.acts c.object_len.new.store) (path_of c.args.root.now c.args.id.0) c.in_ok-size.size c.in_ok-size.ensures.measured)
-
-pub returns-in_err-footer-clause-calls : goal.returns-in_err-footer-clause-calls
-returns-in_err-footer-clause-calls g c =
-    let p = err_from_is_err_and c.from_residual-in_err-footer.result c.from_residual-in_err-footer.ensures.1 in
-    let objects = g.S.Store.objects in
-    let acts = g.S.Store.acts in
-    rw p.1
-    (may_last (objects c.args.store.now) (objects c.object_len.new.store) (acts c.args.store.now) (acts c.object_len.new.store) (acts c.read_footer.new.store) (path_of c.args.root.now c.args.id.0)
-    c.in_ok-len.len c.in_ok-size.size c.object_len.ensures.objects c.in_ok-len.ensures.same c.in_ok-size.ensures.measured c.in_err-footer.ensures.once)
-
-pub returns-in_err-info-clause-calls : goal.returns-in_err-info-clause-calls
-returns-in_err-info-clause-calls g c =
-    let p = err_from_is_err_and c.from_residual-in_err-info.result c.from_residual-in_err-info.ensures.1 in
-    let objects = g.S.Store.objects in
-    let acts = g.S.Store.acts in
-    rw p.1
-    (may_info (objects c.args.store.now) (objects c.object_len.new.store) (objects c.read_footer.new.store) (acts c.args.store.now) (acts c.object_len.new.store) (acts c.read_footer.new.store) (acts c.read_info.new.store)
-    (path_of c.args.root.now c.args.id.0) c.in_ok-len.len c.in_ok-footer.footer.info_offset c.in_ok-footer.footer.version c.in_ok-size.size
-    c.object_len.ensures.objects (c.read_footer.ensures.objects ∙ c.object_len.ensures.objects) c.in_ok-len.ensures.same c.in_ok-size.ensures.measured c.in_ok-footer.ensures.found c.in_err-info.ensures.once)
-
-pub returns-in_err-size-clause-cause : goal.returns-in_err-size-clause-cause
-returns-in_err-size-clause-cause g c = let p = err_from_is_err_and c.from_residual.result c.from_residual.ensures.1 in rw (p.1, p.2) (inl c.in_err-size.ensures.cause)
-
-pub returns-in_err-size-clause-calls : goal.returns-in_err-size-clause-calls
-unfolding MayOpen
-returns-in_err-size-clause-calls g c = let p = err_from_is_err_and c.from_residual.result c.from_residual.ensures.1 in rw p.1 (inl c.in_err-size.ensures.none)
-
-pub returns-in_err-size-clause-still : goal.returns-in_err-size-clause-still
-returns-in_err-size-clause-still g c =
-    let p = err_from_is_err_and c.from_residual.result c.from_residual.ensures.1 in rw (p.1, p.2) (store_err c.in_err-size.field-0.0 c.in_err-size.ensures.still)
-
-pub returns-in_err-len-clause-cause : goal.returns-in_err-len-clause-cause
+pub returns-in_err-len : goal.returns-in_err-len
 unfolding RefusesOpen
-returns-in_err-len-clause-cause g c =
+returns-in_err-len g c =
     let p = err_from_is_err_and c.from_residual-in_err-len.result c.from_residual-in_err-len.ensures.1 in
-    rw (p.1, p.2) (inr (inl (c.in_ok-size.size, c.in_ok-size.ensures.measured, sym c.in_err-len.ensures.value)))
+    record {
+      found = IfOk-from_err c.from_residual-in_err-len.result _ c.from_residual-in_err-len.ensures.0;
+      known = IfOk-from_err c.from_residual-in_err-len.result _ c.from_residual-in_err-len.ensures.0;
+      id = IfOk-from_err c.from_residual-in_err-len.result _ c.from_residual-in_err-len.ensures.0;
+      cause = rw (p.1, p.2) (inr (inl (c.in_ok-size.size, c.in_ok-size.ensures.measured, sym c.in_err-len.ensures.value)));
+      calls = (rw p.1
+          (may_size (g.S.Store.objects c.args.store.now) (g.S.Store.acts c.args.store.now) (g.S.Store.acts c.object_len.new.store) (path_of c.args.root.now c.args.id.0) c.in_ok-size.size c.in_ok-size.ensures.measured));
+      reaches = reaches_ok c.in_ok-size.ensures.reaches;
+    }
 
-pub returns-in_err-len-clause-still : goal.returns-in_err-len-clause-still
-returns-in_err-len-clause-still g c = inr (store_still c.in_ok-size.size c.in_ok-size.ensures.still)
-
-pub returns-in_err-footer-clause-still : goal.returns-in_err-footer-clause-still
-returns-in_err-footer-clause-still g c =
-    let p = err_from_is_err_and c.from_residual-in_err-footer.result c.from_residual-in_err-footer.ensures.1 in
-    let faults = g.S.Store.faults in
-    rw (p.1, p.2) (store_err c.in_err-footer.field-0.0
-    (store_longer (faults c.args.store.now) (faults c.object_len.new.store) (faults c.read_footer.new.store) (store_still c.in_ok-size.size c.in_ok-size.ensures.still) c.in_err-footer.ensures.still))
-
-pub returns-in_err-info-clause-still : goal.returns-in_err-info-clause-still
-returns-in_err-info-clause-still g c =
-    let p = err_from_is_err_and c.from_residual-in_err-info.result c.from_residual-in_err-info.ensures.1 in
-    let faults = g.S.Store.faults in
-    rw (p.1, p.2) (store_err c.in_err-info.field-0.0
-    (store_longer (faults c.args.store.now) (faults c.read_footer.new.store) (faults c.read_info.new.store) (store_still c.in_ok-footer.footer c.in_ok-footer.ensures.still ∙ store_still c.in_ok-size.size c.in_ok-size.ensures.still) c.in_err-info.ensures.still))
-
-pub returns-clause-still : goal.returns-clause-still
-returns-clause-still g c =
-    inr (store_still c.in_ok-info.info c.in_ok-info.ensures.still ∙ store_still c.in_ok-footer.footer c.in_ok-footer.ensures.still ∙ store_still c.in_ok-size.size c.in_ok-size.ensures.still)
-
-pub returns-in_err-size-clause-found : goal.returns-in_err-size-clause-found
-returns-in_err-size-clause-found g c = IfOk-from_err c.from_residual.result _ c.from_residual.ensures.0
-
-pub returns-in_err-size-clause-known : goal.returns-in_err-size-clause-known
-returns-in_err-size-clause-known g c = IfOk-from_err c.from_residual.result _ c.from_residual.ensures.0
-
-pub returns-in_err-size-clause-id : goal.returns-in_err-size-clause-id
-returns-in_err-size-clause-id g c = IfOk-from_err c.from_residual.result _ c.from_residual.ensures.0
-
-pub returns-in_err-len-clause-found : goal.returns-in_err-len-clause-found
-returns-in_err-len-clause-found g c = IfOk-from_err c.from_residual-in_err-len.result _ c.from_residual-in_err-len.ensures.0
-
-pub returns-in_err-len-clause-known : goal.returns-in_err-len-clause-known
-returns-in_err-len-clause-known g c = IfOk-from_err c.from_residual-in_err-len.result _ c.from_residual-in_err-len.ensures.0
-
-pub returns-in_err-len-clause-id : goal.returns-in_err-len-clause-id
-returns-in_err-len-clause-id g c = IfOk-from_err c.from_residual-in_err-len.result _ c.from_residual-in_err-len.ensures.0
-
-pub returns-in_err-footer-clause-found : goal.returns-in_err-footer-clause-found
-returns-in_err-footer-clause-found g c = IfOk-from_err c.from_residual-in_err-footer.result _ c.from_residual-in_err-footer.ensures.0
-
-pub returns-in_err-footer-clause-known : goal.returns-in_err-footer-clause-known
-returns-in_err-footer-clause-known g c = IfOk-from_err c.from_residual-in_err-footer.result _ c.from_residual-in_err-footer.ensures.0
-
-pub returns-in_err-footer-clause-id : goal.returns-in_err-footer-clause-id
-returns-in_err-footer-clause-id g c = IfOk-from_err c.from_residual-in_err-footer.result _ c.from_residual-in_err-footer.ensures.0
-
-pub returns-in_err-info-clause-found : goal.returns-in_err-info-clause-found
-returns-in_err-info-clause-found g c = IfOk-from_err c.from_residual-in_err-info.result _ c.from_residual-in_err-info.ensures.0
-
-pub returns-in_err-info-clause-known : goal.returns-in_err-info-clause-known
-returns-in_err-info-clause-known g c = IfOk-from_err c.from_residual-in_err-info.result _ c.from_residual-in_err-info.ensures.0
-
-pub returns-in_err-info-clause-id : goal.returns-in_err-info-clause-id
-returns-in_err-info-clause-id g c = IfOk-from_err c.from_residual-in_err-info.result _ c.from_residual-in_err-info.ensures.0
+pub returns-in_err-size : goal.returns-in_err-size
+unfolding MayOpen
+returns-in_err-size g c =
+    let p = err_from_is_err_and c.from_residual.result c.from_residual.ensures.1 in
+    record {
+      found = IfOk-from_err c.from_residual.result _ c.from_residual.ensures.0;
+      known = IfOk-from_err c.from_residual.result _ c.from_residual.ensures.0;
+      id = IfOk-from_err c.from_residual.result _ c.from_residual.ensures.0;
+      cause = rw (p.1, p.2) (inl c.in_err-size.ensures.cause);
+      calls = rw p.1 (inl c.in_err-size.ensures.none);
+      reaches = reaches_err c.in_err-size.ensures.reaches c.from_residual.ensures.1;
+    }

@@ -8,14 +8,13 @@ use Rattle.slate_table.proofs.reading_laws.parts_are_read.Goals as goal
 both : (version end : ℕ) (bytes : List ℕ) (info : Info) → InfoTakes version end bytes info → IsInfo version bytes info × SectionsLieBefore end info
 both version end bytes info t = (t.is, t.before)
 
-pub returns-clause-stats : goal.returns-clause-stats
-returns-clause-stats c = λ bytes stats fits. (stats_reads bytes stats fits, stats_again bytes stats)
-
-pub returns-clause-infos : goal.returns-clause-infos
-returns-clause-infos c = λ version end bytes info fits. (
-  λ read. both version end bytes info (info_reads version end bytes info fits read),
-  λ t. info_again version end bytes info (record { is = t.0; before = t.1 }),
-)
-
-pub returns-clause-indexes : goal.returns-clause-indexes
-returns-clause-indexes c = λ end bytes entries fits. (index_reads end bytes entries fits, index_again end bytes entries)
+pub returns : goal.returns
+returns c =
+    record {
+      stats = λ bytes stats fits. (stats_reads bytes stats fits, stats_again bytes stats);
+      infos = (λ version end bytes info fits. (
+        λ read. both version end bytes info (info_reads version end bytes info fits read),
+        λ t. info_again version end bytes info (record { is = t.0; before = t.1 }),
+      ));
+      indexes = λ end bytes entries fits. (index_reads end bytes entries fits, index_again end bytes entries);
+    }

@@ -7,15 +7,19 @@ use Rattle.slate_table.proofs.PartReads.{fails_decoding}
 use Rattle.slate_table.proofs.Results.{on_ok}
 use Rattle.slate_table.proofs.section.open_section.Goals as goal
 
-pub returns-clause-sum : goal.returns-clause-sum
-returns-clause-sum g c = on_ok c.decoded.result (c.in_ok-stored.ensures.found ∙ ap summed c.in_ok-stored.ensures.front)
-
-pub returns-clause-part : goal.returns-clause-part
-returns-clause-part g c = IfOk-weaker c.decoded.result _ _
-    (λ part h. h ∙ ap (changed_by g.T.BlockTransformer.decoded c.args.transformer.now) c.in_ok-stored.ensures.front) c.decoded.ensures.bytes
-
-pub returns-clause-cause : goal.returns-clause-cause
-returns-clause-cause g c =
-    let faults = faults_of g.T.BlockTransformer.faults in
-    IfErr-weaker c.decoded.result _ _
-    (λ e h. fails_decoding (faults c.args.transformer.now) (faults c.decoded.new.transformer) c.args.bytes.now c.in_ok-stored.stored e c.in_ok-stored.ensures.found h) c.decoded.ensures.cause
+pub returns : goal.returns
+returns g c =
+    record {
+      sum = on_ok c.decoded.result (c.in_ok-stored.ensures.found ∙ ap summed c.in_ok-stored.ensures.front);
+      part = (IfOk-weaker c.decoded.result _ _
+          (λ part h. h ∙ ap (changed_by g.T.BlockTransformer.decoded c.args.transformer.now) c.in_ok-stored.ensures.front) c.decoded.ensures.bytes);
+      only = λ stored is. c.decoded.ensures.cause;
+      cause = (let faults = faults_of g.T.BlockTransformer.faults in
+          IfErr-weaker c.decoded.result _ _
+          (λ e h. fails_decoding (faults c.args.transformer.now) (faults c.decoded.new.transformer) c.args.bytes.now c.in_ok-stored.stored e c.in_ok-stored.ensures.found h) c.decoded.ensures.cause);
+      unasked = λ e refused. absurd (cc (refused, c.in_ok-stored.ensures.fits));
+      same_encoded = c.decoded.ensures.same_encoded;
+      same_decoded = c.decoded.ensures.same_decoded;
+      later = c.decoded.ensures.later;
+      still = c.decoded.ensures.still;
+    }

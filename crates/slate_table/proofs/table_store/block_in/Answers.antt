@@ -1,36 +1,26 @@
 use Rattle.slate_table.specs.SectionReading.{changed_by}
 use Rattle.slate_block.specs.BlockReading.{offsets_of_block}
 use Rattle.slate_block.specs.RowReading.{refusal}
-use Rattle.slate_table.proofs.PartReads.{still_ok, refused_section, still_err}
+use Rattle.slate_table.proofs.PartReads.{refused_section}
 use Rattle.std.proofs.Common.{inr}
 use Rattle.std.proofs.lemmas.Result.{IfOk-weaker, IfErr-weaker, err_from_is_err_and, IfOk-from_err}
 use Rattle.slate_table.proofs.Results.{either}
+use Rattle.slate_table.proofs.Asking.{stays_err, stays_ok}
 use Rattle.slate_table.proofs.table_store.block_in.Goals as goal
 
-pub returns-clause-found : goal.returns-clause-found
-returns-clause-found g c = IfOk-weaker c.decode.result _ _ (λ block apart. (c.in_ok-part.part, c.in_ok-part.ensures.found, apart)) c.decode.ensures.found
+pub returns : goal.returns
+returns g c =
+    record {
+      found = IfOk-weaker c.decode.result _ _ (λ block apart. (c.in_ok-part.part, c.in_ok-part.ensures.found, apart)) c.decode.ensures.found;
+      cause = IfErr-weaker c.decode.result _ _ (λ e h. either (λ r. inr (inr (c.in_ok-part.part, c.in_ok-part.ensures.found, r))) h) c.decode.ensures.cause;
+      stays = stays_ok c.in_ok-part.ensures.stays;
+    }
 
-pub returns-clause-cause : goal.returns-clause-cause
-returns-clause-cause g c = IfErr-weaker c.decode.result _ _ (λ e h. either (λ r. inr (inr (c.in_ok-part.part, c.in_ok-part.ensures.found, r))) h) c.decode.ensures.cause
-
-pub returns-in_err-part-clause-cause : goal.returns-in_err-part-clause-cause
-returns-in_err-part-clause-cause g c =
-    let p = err_from_is_err_and c.from_residual.result c.from_residual.ensures.1 in rw (p.1, p.2) (refused_section (changed_by g.T.BlockTransformer.decoded c.args.transformer.now) (λ part. refusal (offsets_of_block part)) c.args.answer c.in_err-part.field-0.0 c.in_err-part.ensures.cause)
-
-pub returns-in_err-part-clause-still : goal.returns-in_err-part-clause-still
-returns-in_err-part-clause-still g c = let p = err_from_is_err_and c.from_residual.result c.from_residual.ensures.1 in rw (p.1, p.2) (still_err c.in_err-part.field-0.0 c.in_err-part.ensures.still)
-
-pub returns-clause-still : goal.returns-clause-still
-returns-clause-still g c = inr (inr (still_ok c.in_ok-part.part c.in_ok-part.ensures.still))
-
-pub returns-clause-later : goal.returns-clause-later
-returns-clause-later g c = c.opened.ensures.later
-
-pub returns-clause-same_encoded : goal.returns-clause-same_encoded
-returns-clause-same_encoded g c = c.opened.ensures.same_encoded
-
-pub returns-clause-same_decoded : goal.returns-clause-same_decoded
-returns-clause-same_decoded g c = c.opened.ensures.same_decoded
-
-pub returns-in_err-part-clause-found : goal.returns-in_err-part-clause-found
-returns-in_err-part-clause-found g c = IfOk-from_err c.from_residual.result _ c.from_residual.ensures.0
+pub returns-in_err-part : goal.returns-in_err-part
+returns-in_err-part g c =
+    let p = err_from_is_err_and c.from_residual.result c.from_residual.ensures.1 in
+    record {
+      found = IfOk-from_err c.from_residual.result _ c.from_residual.ensures.0;
+      cause = rw (p.1, p.2) (refused_section (changed_by g.T.BlockTransformer.decoded c.args.transformer.now) (λ part. refusal (offsets_of_block part)) c.args.answer c.in_err-part.field-0.0 c.in_err-part.ensures.cause);
+      stays = stays_err c.in_err-part.ensures.stays c.from_residual.ensures.1;
+    }

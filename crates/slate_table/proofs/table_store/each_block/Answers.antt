@@ -1,34 +1,28 @@
-use Rattle.std.proofs.Common.{◌∙◌, arith, inl, inr}
+use Rattle.std.proofs.Common.{◌∙◌, arith, inl, refl}
 use Rattle.std.proofs.lemmas.Result.{err_from_is_err_and, IfOk-from_err}
 use Rattle.slate_types.specs.Faults.{faults_of}
 use Rattle.slate_table.specs.IndexValue.{entries_of}
 use Rattle.slate_table.specs.SectionReading.{changed_by}
 use Rattle.slate_table.specs.Reading.{block_answer}
-use Rattle.slate_table.proofs.PartReads.{still_ok, still_longer, still_err}
+use Rattle.slate_table.proofs.PartReads.{still_ok}
 use Rattle.slate_table.proofs.BlockReads.{one_more, one_longer, stops}
+use Rattle.slate_table.proofs.Asking.{unchanged, stays_err, stays_ok, stays_behind}
 use Rattle.slate_table.proofs.table_store.each_block.Goals as goal
 
-pub returns-in_err-block-clause-cause : goal.returns-in_err-block-clause-cause
-returns-in_err-block-clause-cause g c =
+pub returns-in_err-block : goal.returns-in_err-block
+returns-in_err-block g c =
     let p = err_from_is_err_and c.from_residual-in_err-block.result c.from_residual-in_err-block.ensures.1 in
-    let decoded = changed_by g.T.BlockTransformer.decoded in
-    let faults = faults_of g.T.BlockTransformer.faults in
-    rw (p.1, p.2)
-    (stops (decoded c.args.transformer.now) (decoded c.loop-at.transformer) (block_answer c.args.end (entries_of c.args.index.now) c.args.blocks.start c.args.answer.now) c.in_ok-section.section
-    c.args.blocks.start c.loop-at.at c.args.blocks.end c.loop-at.found.items (faults c.args.transformer.now) (faults c.loop-at.transformer) (faults c.block_in.new.transformer) c.in_err-block.field-0.0
-    c.loop-at.invariant.same_decoded c.loop-at.invariant.still c.in_ok-section.ensures.found c.loop-at.invariant.from c.loop-at-test.true c.loop-at.invariant.count c.loop-at.invariant.read c.in_err-block.ensures.cause)
-
-pub returns-in_err-block-clause-same_encoded : goal.returns-in_err-block-clause-same_encoded
-returns-in_err-block-clause-same_encoded g c = c.block_in.ensures.same_encoded ∙ c.loop-at.invariant.same_encoded
-
-pub returns-in_err-block-clause-same_decoded : goal.returns-in_err-block-clause-same_decoded
-returns-in_err-block-clause-same_decoded g c = c.block_in.ensures.same_decoded ∙ c.loop-at.invariant.same_decoded
-
-pub returns-in_err-push-clause-same_encoded : goal.returns-in_err-push-clause-same_encoded
-returns-in_err-push-clause-same_encoded g c = c.block_in.ensures.same_encoded ∙ c.loop-at.invariant.same_encoded
-
-pub returns-in_err-push-clause-same_decoded : goal.returns-in_err-push-clause-same_decoded
-returns-in_err-push-clause-same_decoded g c = c.block_in.ensures.same_decoded ∙ c.loop-at.invariant.same_decoded
+    record {
+      found = IfOk-from_err c.from_residual-in_err-block.result _ c.from_residual-in_err-block.ensures.0;
+      count = IfOk-from_err c.from_residual-in_err-block.result _ c.from_residual-in_err-block.ensures.0;
+      cause = (let decoded = changed_by g.T.BlockTransformer.decoded in
+          let faults = faults_of g.T.BlockTransformer.faults in
+          rw (p.1, p.2)
+          (stops (decoded c.args.transformer.now) (decoded c.loop-at.transformer) (block_answer c.args.end (entries_of c.args.index.now) c.args.blocks.start c.args.answer.now) c.in_ok-section.section
+          c.args.blocks.start c.loop-at.at c.args.blocks.end c.loop-at.found.items (faults c.args.transformer.now) (faults c.loop-at.transformer) (faults c.block_in.new.transformer) c.in_err-block.field-0.0
+          c.loop-at.invariant.same_decoded c.loop-at.invariant.still c.in_ok-section.ensures.found c.loop-at.invariant.from c.loop-at-test.true c.loop-at.invariant.count c.loop-at.invariant.read c.in_err-block.ensures.cause));
+      stays = stays_behind c.loop-at.invariant.same_encoded c.loop-at.invariant.same_decoded c.loop-at.invariant.still (stays_err c.in_err-block.ensures.stays c.from_residual-in_err-block.ensures.1);
+    }
 
 pub loop-at-preserved : goal.loop-at-preserved
 loop-at-preserved g c =
@@ -40,73 +34,36 @@ loop-at-preserved g c =
           (one_more (decoded c.args.transformer.now) (decoded c.loop-at.transformer) (block_answer c.args.end (entries_of c.args.index.now) c.args.blocks.start c.args.answer.now) c.in_ok-section.section
           c.args.blocks.start c.loop-at.at c.loop-at.found.items c.in_ok-block.block
           c.loop-at.invariant.same_decoded c.in_ok-section.ensures.found c.loop-at.invariant.from c.loop-at.invariant.count c.loop-at.invariant.read c.in_ok-block.ensures.found);
-      same_encoded = c.block_in.ensures.same_encoded ∙ c.loop-at.invariant.same_encoded;
-      same_decoded = c.block_in.ensures.same_decoded ∙ c.loop-at.invariant.same_decoded;
-      still = still_ok c.in_ok-block.block c.in_ok-block.ensures.still ∙ c.loop-at.invariant.still;
+      same_encoded = c.block_in.ensures.stays.same_encoded ∙ c.loop-at.invariant.same_encoded;
+      same_decoded = c.block_in.ensures.stays.same_decoded ∙ c.loop-at.invariant.same_decoded;
+      still = still_ok c.in_ok-block.block c.in_ok-block.ensures.stays.still ∙ c.loop-at.invariant.still;
     }
 
-pub returns-in_err-section-clause-cause : goal.returns-in_err-section-clause-cause
-returns-in_err-section-clause-cause g c = let p = err_from_is_err_and c.from_residual.result c.from_residual.ensures.1 in rw (p.1, p.2) (inl c.in_err-section.ensures.cause)
+pub returns-in_err-section : goal.returns-in_err-section
+returns-in_err-section g c =
+    let p = err_from_is_err_and c.from_residual.result c.from_residual.ensures.1 in
+    record {
+      found = IfOk-from_err c.from_residual.result _ c.from_residual.ensures.0;
+      count = IfOk-from_err c.from_residual.result _ c.from_residual.ensures.0;
+      cause = rw (p.1, p.2) (inl c.in_err-section.ensures.cause);
+      stays = stays_behind c.loop-at.invariant.same_encoded c.loop-at.invariant.same_decoded c.loop-at.invariant.still unchanged;
+    }
 
-pub returns-in_err-section-clause-still : goal.returns-in_err-section-clause-still
-returns-in_err-section-clause-still g c = let p = err_from_is_err_and c.from_residual.result c.from_residual.ensures.1 in rw p.1 (inr (inr c.loop-at.invariant.still))
+pub returns : goal.returns
+returns g c =
+    record {
+      found = c.loop-at.invariant.read;
+      count = omega arith;
+      cause = tt;
+      stays = stays_behind c.loop-at.invariant.same_encoded c.loop-at.invariant.same_decoded c.loop-at.invariant.still unchanged;
+    }
 
-pub returns-in_err-section-clause-same_encoded : goal.returns-in_err-section-clause-same_encoded
-returns-in_err-section-clause-same_encoded g c = c.loop-at.invariant.same_encoded
-
-pub returns-in_err-section-clause-same_decoded : goal.returns-in_err-section-clause-same_decoded
-returns-in_err-section-clause-same_decoded g c = c.loop-at.invariant.same_decoded
-
-pub returns-in_err-block-clause-still : goal.returns-in_err-block-clause-still
-returns-in_err-block-clause-still g c =
-    let p = err_from_is_err_and c.from_residual-in_err-block.result c.from_residual-in_err-block.ensures.1 in
-    let faults = faults_of g.T.BlockTransformer.faults in
-    rw (p.1, p.2) (still_err c.in_err-block.field-0.0 (still_longer (faults c.args.transformer.now) (faults c.loop-at.transformer) (faults c.block_in.new.transformer) c.loop-at.invariant.still c.in_err-block.ensures.still))
-
-pub returns-in_err-push-clause-still : goal.returns-in_err-push-clause-still
-returns-in_err-push-clause-still g c = inr (inr (still_ok c.in_ok-block.block c.in_ok-block.ensures.still ∙ c.loop-at.invariant.still))
-
-pub returns-clause-found : goal.returns-clause-found
-returns-clause-found g c = c.loop-at.invariant.read
-
-pub returns-in_err-section-clause-found : goal.returns-in_err-section-clause-found
-returns-in_err-section-clause-found g c = IfOk-from_err c.from_residual.result _ c.from_residual.ensures.0
-
-pub returns-in_err-section-clause-count : goal.returns-in_err-section-clause-count
-returns-in_err-section-clause-count g c = IfOk-from_err c.from_residual.result _ c.from_residual.ensures.0
-
-pub returns-in_err-block-clause-found : goal.returns-in_err-block-clause-found
-returns-in_err-block-clause-found g c = IfOk-from_err c.from_residual-in_err-block.result _ c.from_residual-in_err-block.ensures.0
-
-pub returns-in_err-block-clause-count : goal.returns-in_err-block-clause-count
-returns-in_err-block-clause-count g c = IfOk-from_err c.from_residual-in_err-block.result _ c.from_residual-in_err-block.ensures.0
-
-pub returns-in_err-push-clause-found : goal.returns-in_err-push-clause-found
-returns-in_err-push-clause-found g c = IfOk-from_err c.from_residual-in_err-push.result _ c.from_residual-in_err-push.ensures.0
-
-pub returns-in_err-push-clause-count : goal.returns-in_err-push-clause-count
-returns-in_err-push-clause-count g c = IfOk-from_err c.from_residual-in_err-push.result _ c.from_residual-in_err-push.ensures.0
-
-pub returns-in_err-section-clause-later : goal.returns-in_err-section-clause-later
-returns-in_err-section-clause-later g c = omega (arith, c.loop-at.invariant.still)
-
-pub returns-in_err-block-clause-later : goal.returns-in_err-block-clause-later
-returns-in_err-block-clause-later g c = omega (arith, c.loop-at.invariant.still, c.block_in.ensures.later)
-
-pub returns-in_err-push-clause-later : goal.returns-in_err-push-clause-later
-returns-in_err-push-clause-later g c = omega (arith, c.loop-at.invariant.still, c.block_in.ensures.later)
-
-pub returns-clause-later : goal.returns-clause-later
-returns-clause-later g c = omega (arith, c.loop-at.invariant.still)
-
-pub returns-clause-cause : goal.returns-clause-cause
-returns-clause-cause g c = tt
-
-pub returns-clause-same_encoded : goal.returns-clause-same_encoded
-returns-clause-same_encoded g c = c.loop-at.invariant.same_encoded
-
-pub returns-clause-same_decoded : goal.returns-clause-same_decoded
-returns-clause-same_decoded g c = c.loop-at.invariant.same_decoded
-
-pub returns-clause-still : goal.returns-clause-still
-returns-clause-still g c = inr (inr c.loop-at.invariant.still)
+pub returns-in_err-push : goal.returns-in_err-push
+returns-in_err-push g c =
+    let p = err_from_is_err_and c.from_residual-in_err-push.result c.from_residual-in_err-push.ensures.1 in
+    record {
+      found = IfOk-from_err c.from_residual-in_err-push.result _ c.from_residual-in_err-push.ensures.0;
+      count = IfOk-from_err c.from_residual-in_err-push.result _ c.from_residual-in_err-push.ensures.0;
+      cause = rw (p.1, p.2) (inl refl);
+      stays = stays_behind c.loop-at.invariant.same_encoded c.loop-at.invariant.same_decoded c.loop-at.invariant.still (stays_ok c.in_ok-block.ensures.stays);
+    }

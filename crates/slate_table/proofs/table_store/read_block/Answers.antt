@@ -1,97 +1,50 @@
-use Rattle.std.proofs.Common.{◌+◌, ℕ, List, Option, inr, inl, arith, refl}
+use Rattle.std.proofs.Common.{◌+◌, ℕ, List, Option, inr, inl}
 use Rattle.std.proofs.lemmas.Result.{IfOk-weaker, IfErr-weaker, err_from_is_err_and, IfOk-from_err}
-use Rattle.slate_table.proofs.Results.{on_err, store_still, store_err}
+use Rattle.slate_table.proofs.Results.{on_err}
 use Rattle.slate_types.specs.Faults.{faults_of}
 use Rattle.slate_table.specs.IndexValue.{entries_of}
 use Rattle.slate_table.specs.Paths.{path_of}
 use Rattle.slate_table.specs.SectionReading.{changed_by}
 use Rattle.slate_table.specs.Reading.{block_start, blocks_size, FailsDecoding, IsBlockRead, RefusesBlock}
 use Rattle.slate_table.proofs.BlockReads.{row_read, row_refused}
+use Rattle.slate_table.proofs.Asking.{unchanged, reaches_err, reaches_ok}
 use Rattle.slate_table.proofs.table_store.read_block.Goals as goal
 
-pub returns-clause-cause : goal.returns-clause-cause
-returns-clause-cause g c =
+pub returns : goal.returns
+returns g c =
     let end = c.args.table.now.info.filter_offset in
     let entries = entries_of c.args.index.now in
     let place = c.place_of_block-place in
-    IfErr-weaker c.block_in.result _ _
-    (λ e h. row_refused (g.S.Store.objects c.args.store.now) (g.S.Store.acts c.args.store.now) (g.S.Store.acts c.read.new.store) (path_of c.args.root.now c.args.table.now.id.0)
-    place.result.0 place.result.1 (block_start end entries c.args.block) (blocks_size end entries c.args.block (c.args.block + 1))
-    (g.S.Store.faults c.args.store.now) (g.S.Store.faults c.read.new.store) c.in_ok-answer.answer
-    (λ (answer : Option (List ℕ)). FailsDecoding (faults_of g.T.BlockTransformer.faults c.args.transformer.now) (faults_of g.T.BlockTransformer.faults c.block_in.new.transformer) answer e)
-    (λ (answer : Option (List ℕ)). RefusesBlock (changed_by g.T.BlockTransformer.decoded c.args.transformer.now) answer e) e
-    place.ensures.start place.ensures.size c.in_ok-answer.ensures.read h)
-    c.block_in.ensures.cause
+    record {
+      found = (IfOk-weaker c.block_in.result _ _
+          (λ block found. row_read (g.S.Store.objects c.args.store.now) (g.S.Store.acts c.args.store.now) (g.S.Store.acts c.read.new.store) (path_of c.args.root.now c.args.table.now.id.0)
+          place.result.0 place.result.1 (block_start end entries c.args.block) (blocks_size end entries c.args.block (c.args.block + 1)) c.in_ok-answer.answer
+          (λ (answer : Option (List ℕ)). IsBlockRead (changed_by g.T.BlockTransformer.decoded c.args.transformer.now) answer block)
+          place.ensures.start place.ensures.size c.in_ok-answer.ensures.read found)
+          c.block_in.ensures.found);
+      cause = (IfErr-weaker c.block_in.result _ _
+          (λ e h. row_refused (g.S.Store.objects c.args.store.now) (g.S.Store.acts c.args.store.now) (g.S.Store.acts c.read.new.store) (path_of c.args.root.now c.args.table.now.id.0)
+          place.result.0 place.result.1 (block_start end entries c.args.block) (blocks_size end entries c.args.block (c.args.block + 1))
+          (g.S.Store.faults c.args.store.now) (g.S.Store.faults c.read.new.store) c.in_ok-answer.answer
+          (λ (answer : Option (List ℕ)). FailsDecoding (faults_of g.T.BlockTransformer.faults c.args.transformer.now) (faults_of g.T.BlockTransformer.faults c.block_in.new.transformer) answer e)
+          (λ (answer : Option (List ℕ)). RefusesBlock (changed_by g.T.BlockTransformer.decoded c.args.transformer.now) answer e) e
+          place.ensures.start place.ensures.size c.in_ok-answer.ensures.read h)
+          c.block_in.ensures.cause);
+      once = (on_err c.block_in.result
+          (inr (row_read (g.S.Store.objects c.args.store.now) (g.S.Store.acts c.args.store.now) (g.S.Store.acts c.read.new.store) (path_of c.args.root.now c.args.table.now.id.0)
+          place.result.0 place.result.1 (block_start end entries c.args.block) (blocks_size end entries c.args.block (c.args.block + 1)) c.in_ok-answer.answer (λ (answer : Option (List ℕ)). Unit {0})
+          place.ensures.start place.ensures.size c.in_ok-answer.ensures.read tt)));
+      reaches = reaches_ok c.in_ok-answer.ensures.reaches;
+      stays = c.block_in.ensures.stays;
+    }
 
-pub returns-clause-once : goal.returns-clause-once
-returns-clause-once g c =
-    let end = c.args.table.now.info.filter_offset in
-    let entries = entries_of c.args.index.now in
-    let place = c.place_of_block-place in
-    on_err c.block_in.result
-    (inr (row_read (g.S.Store.objects c.args.store.now) (g.S.Store.acts c.args.store.now) (g.S.Store.acts c.read.new.store) (path_of c.args.root.now c.args.table.now.id.0)
-    place.result.0 place.result.1 (block_start end entries c.args.block) (blocks_size end entries c.args.block (c.args.block + 1)) c.in_ok-answer.answer (λ (answer : Option (List ℕ)). Unit {0})
-    place.ensures.start place.ensures.size c.in_ok-answer.ensures.read tt))
-
-pub returns-clause-found : goal.returns-clause-found
-returns-clause-found g c =
-    let end = c.args.table.now.info.filter_offset in
-    let entries = entries_of c.args.index.now in
-    let place = c.place_of_block-place in
-    IfOk-weaker c.block_in.result _ _
-    (λ block found. row_read (g.S.Store.objects c.args.store.now) (g.S.Store.acts c.args.store.now) (g.S.Store.acts c.read.new.store) (path_of c.args.root.now c.args.table.now.id.0)
-    place.result.0 place.result.1 (block_start end entries c.args.block) (blocks_size end entries c.args.block (c.args.block + 1)) c.in_ok-answer.answer
-    (λ (answer : Option (List ℕ)). IsBlockRead (changed_by g.T.BlockTransformer.decoded c.args.transformer.now) answer block)
-    place.ensures.start place.ensures.size c.in_ok-answer.ensures.read found)
-    c.block_in.ensures.found
-
-pub returns-in_err-answer-clause-cause : goal.returns-in_err-answer-clause-cause
-returns-in_err-answer-clause-cause g c = let p = err_from_is_err_and c.from_residual.result c.from_residual.ensures.1 in rw (p.1, p.2) (inl c.in_err-answer.ensures.cause)
-
-pub returns-in_err-answer-clause-once : goal.returns-in_err-answer-clause-once
-returns-in_err-answer-clause-once g c = let p = err_from_is_err_and c.from_residual.result c.from_residual.ensures.1 in rw p.1 (inl c.in_err-answer.ensures.none)
-
-pub returns-in_err-answer-clause-still : goal.returns-in_err-answer-clause-still
-returns-in_err-answer-clause-still g c = let p = err_from_is_err_and c.from_residual.result c.from_residual.ensures.1 in rw (p.1, p.2) (store_err c.in_err-answer.field-0.0 c.in_err-answer.ensures.still)
-
-pub returns-clause-still : goal.returns-clause-still
-returns-clause-still g c = inr (store_still c.in_ok-answer.answer c.in_ok-answer.ensures.still)
-
-pub returns-clause-still_transformer : goal.returns-clause-still_transformer
-returns-clause-still_transformer g c = c.block_in.ensures.still
-
-pub returns-clause-later : goal.returns-clause-later
-returns-clause-later g c = c.read.ensures.later
-
-pub returns-clause-later_transformer : goal.returns-clause-later_transformer
-returns-clause-later_transformer g c = c.block_in.ensures.later
-
-pub returns-clause-objects : goal.returns-clause-objects
-returns-clause-objects g c = c.read.ensures.objects
-
-pub returns-in_err-answer-clause-found : goal.returns-in_err-answer-clause-found
-returns-in_err-answer-clause-found g c = IfOk-from_err c.from_residual.result _ c.from_residual.ensures.0
-
-pub returns-clause-same_encoded : goal.returns-clause-same_encoded
-returns-clause-same_encoded g c = c.block_in.ensures.same_encoded
-
-pub returns-clause-same_decoded : goal.returns-clause-same_decoded
-returns-clause-same_decoded g c = c.block_in.ensures.same_decoded
-
-pub returns-in_err-answer-clause-later : goal.returns-in_err-answer-clause-later
-returns-in_err-answer-clause-later g c = c.read.ensures.later
-
-pub returns-in_err-answer-clause-objects : goal.returns-in_err-answer-clause-objects
-returns-in_err-answer-clause-objects g c = c.read.ensures.objects
-
-pub returns-in_err-answer-clause-later_transformer : goal.returns-in_err-answer-clause-later_transformer
-returns-in_err-answer-clause-later_transformer g c = omega arith
-
-pub returns-in_err-answer-clause-same_encoded : goal.returns-in_err-answer-clause-same_encoded
-returns-in_err-answer-clause-same_encoded g c = refl
-
-pub returns-in_err-answer-clause-same_decoded : goal.returns-in_err-answer-clause-same_decoded
-returns-in_err-answer-clause-same_decoded g c = refl
-
-pub returns-in_err-answer-clause-still_transformer : goal.returns-in_err-answer-clause-still_transformer
-returns-in_err-answer-clause-still_transformer g c = inr (inr refl)
+pub returns-in_err-answer : goal.returns-in_err-answer
+returns-in_err-answer g c =
+    let p = err_from_is_err_and c.from_residual.result c.from_residual.ensures.1 in
+    record {
+      found = IfOk-from_err c.from_residual.result _ c.from_residual.ensures.0;
+      cause = rw (p.1, p.2) (inl c.in_err-answer.ensures.cause);
+      once = rw p.1 (inl c.in_err-answer.ensures.none);
+      reaches = reaches_err c.in_err-answer.ensures.reaches c.from_residual.ensures.1;
+      stays = unchanged;
+    }

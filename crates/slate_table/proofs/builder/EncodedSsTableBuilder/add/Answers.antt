@@ -1,4 +1,4 @@
-use Rattle.std.proofs.Common.{◌≡◌, ◌∙◌, ◌++◌, ◌∷◌, [], ℕ, List, true, Ok, Err, ap, subst, sym, inl, inr, arith}
+use Rattle.std.proofs.Common.{◌≡◌, ◌∙◌, ◌++◌, ◌∷◌, [], ℕ, List, true, Ok, Err, ap, subst, sym, inl, inr, refl, arith}
 use Rattle.std.specs.Prelude.{Result, IfErr, IsSome}
 use Rattle.std.proofs.lemmas.Result.{IfOk-weaker, IfErr-weaker, on_ok_weaker}
 use Rattle.slate_types.specs.declared.types.RowEntry.{RowEntry}
@@ -8,6 +8,7 @@ use Rattle.slate_table.specs.Table.{AreInOrder}
 use Rattle.slate_table.specs.SectionReading.{changed_by, IsTransformFault}
 use Rattle.slate_table.specs.TableBuilding.{TableBuilding, AreEncoded, IsLimit, section_size}
 use Rattle.slate_table.specs.TableParts.{version_of, Stands, IsAdded}
+use Rattle.slate_table.proofs.Asking.{cause_of, later_of, still_of}
 use Rattle.slate_table.proofs.Results.{err_is, ok_is, where_ok}
 use Rattle.slate_table.proofs.PartsLaws.{added_stands, added_sections, added_rows, added_format, added_size, past_limit, within_none, old_size, ends_a_block}
 use Rattle.slate_table.proofs.builder.EncodedSsTableBuilder.add.Goals as goal
@@ -17,30 +18,41 @@ not_empty (Ok x) before after h is = absurd cc
 not_empty (Err e) before after (inl memory) is = absurd cc
 not_empty (Err e) before after (inr fault) is = let failed : e ≡ BlockTransformError = fault.0 in absurd cc
 
-pub returns-in-Err-clause-cause : goal.returns-in-Err-clause-cause
-returns-in-Err-clause-cause g c =
-    let inside = c.self.inside in
-    let whole : inside.is_whole ≡ true = ap (λ (b : TableBuilding). b.is_whole) c.self.view_is ∙ c.requires.whole in
-    let stands : Stands inside.parts = c.self.invariant whole in
-    elim c.in-Err.ensures.past [
-      | inl empty ↦ inr ((cc (c.self.view_is)), inl empty)
-      | inr past ↦
-          let limit = subst (λ (b : TableBuilding). IsLimit b c.args.entry past.0) c.self.view_is (past_limit inside.parts inside.is_whole c.args.entry past.0 stands past.2) in
-          inr ((cc (c.self.view_is)), inr (past.0, past.1, limit))
-    ]
-
-pub returns-in-Err-clause-limit : goal.returns-in-Err-clause-limit
-returns-in-Err-clause-limit g c =
-    λ limit h some. elim c.in-Err.ensures.past [
-      | inl empty ↦ let none = c.in-Err.ensures.empty.0 (ap Err empty) in absurd (omega (arith, none, some))
-      | inr past ↦ (past.0, ap Err past.1)
-    ]
-
-pub returns-in-Err-clause-empty : goal.returns-in-Err-clause-empty
-returns-in-Err-clause-empty g c = (
-  λ h. c.in-Err.ensures.empty.0 (ap (λ (x : SlateDBError). Err x) (err_is c.in-Err.error EmptyKey h)),
-  λ none. ap (λ (x : SlateDBError). Err x) (err_is c.in-Err.error EmptyKey (c.in-Err.ensures.empty.1 none)),
-)
+pub returns-in-Err : goal.returns-in-Err
+returns-in-Err g c =
+    record {
+      added = tt;
+      whole = tt;
+      version = tt;
+      size = tt;
+      encoded = tt;
+      ended = tt;
+      limit = (λ limit h some. elim c.in-Err.ensures.past [
+        | inl empty ↦ let none = c.in-Err.ensures.empty.0 (ap Err empty) in absurd (omega (arith, none, some))
+        | inr past ↦ (past.0, ap Err past.1)
+      ]);
+      empty = ((
+        λ h. c.in-Err.ensures.empty.0 (ap (λ (x : SlateDBError). Err x) (err_is c.in-Err.error EmptyKey h)),
+        λ none. ap (λ (x : SlateDBError). Err x) (err_is c.in-Err.error EmptyKey (c.in-Err.ensures.empty.1 none)),
+      ));
+      cause = (let inside = c.self.inside in
+          let whole : inside.is_whole ≡ true = ap (λ (b : TableBuilding). b.is_whole) c.self.view_is ∙ c.requires.whole in
+          let stands : Stands inside.parts = c.self.invariant whole in
+          elim c.in-Err.ensures.past [
+            | inl empty ↦ inr ((cc (c.self.view_is)), inl empty)
+            | inr past ↦
+                let limit = subst (λ (b : TableBuilding). IsLimit b c.args.entry past.0) c.self.view_is (past_limit inside.parts inside.is_whole c.args.entry past.0 stands past.2) in
+                inr ((cc (c.self.view_is)), inr (past.0, past.1, limit))
+          ]);
+      fault = (λ failed. elim c.in-Err.ensures.past [
+        | inl empty ↦ absurd (cc (empty, failed))
+        | inr past ↦ absurd (cc (past.1, failed))
+      ]);
+      same_encoded = refl;
+      same_decoded = refl;
+      later = omega arith;
+      still = inr (inr refl);
+    }
 
 pub add-ended-requires-clause-some : goal.add-ended-requires-clause-some
 add-ended-requires-clause-some g c =
@@ -83,87 +95,37 @@ invariant_of-self g c =
     let added : IsAdded encode inside.parts c.args.entry c.add-ended.new.self = where_ok c.add-ended.result (sym c.is_ok-self-inside.ensures.value ∙ now) c.add-ended.ensures.added in
     added_stands encode inside.parts c.add-ended.new.self c.args.entry stands added order c.in-Ok.ensures.within
 
-pub returns-in-Ok-clause-added : goal.returns-in-Ok-clause-added
-returns-in-Ok-clause-added g c =
+pub returns-in-Ok : goal.returns-in-Ok
+returns-in-Ok g c =
     let inside = c.self.inside in
     let encode = changed_by g.T.BlockTransformer.encoded c.args.transformer.now in
-    on_ok_weaker c.add-ended.result (λ h. added_rows encode inside.parts c.add-ended.new.self c.args.entry h ∙ ap (λ (b : TableBuilding). b.rows ++ c.args.entry ∷ []) c.self.view_is) c.add-ended.ensures.added
-
-pub returns-in-Ok-clause-version : goal.returns-in-Ok-clause-version
-returns-in-Ok-clause-version g c =
-    let inside = c.self.inside in
-    let encode = changed_by g.T.BlockTransformer.encoded c.args.transformer.now in
-    on_ok_weaker c.add-ended.result (λ h. ap version_of (added_format encode inside.parts c.add-ended.new.self c.args.entry h) ∙ ap (λ (b : TableBuilding). b.version) c.self.view_is) c.add-ended.ensures.added
-
-pub returns-in-Ok-clause-size : goal.returns-in-Ok-clause-size
-returns-in-Ok-clause-size g c =
-    let inside = c.self.inside in
-    let encode = changed_by g.T.BlockTransformer.encoded c.args.transformer.now in
-    on_ok_weaker c.add-ended.result (λ h. added_size encode inside.parts c.add-ended.new.self c.args.entry h ∙ ap (λ (b : TableBuilding). b.size) c.self.view_is) c.add-ended.ensures.added
-
-pub returns-in-Ok-clause-whole : goal.returns-in-Ok-clause-whole
-returns-in-Ok-clause-whole g c =
-    ok_is c.add-ended.result c.is_ok-self-inside.result c.is_ok-self-inside.ensures.value
-
-pub returns-in-Ok-clause-encoded : goal.returns-in-Ok-clause-encoded
-returns-in-Ok-clause-encoded g c =
-    let inside = c.self.inside in
     let whole : inside.is_whole ≡ true = ap (λ (b : TableBuilding). b.is_whole) c.self.view_is ∙ c.requires.whole in
     let stands : Stands inside.parts = c.self.invariant whole in
-    let encode = changed_by g.T.BlockTransformer.encoded c.args.transformer.now in
-    on_ok_weaker c.add-ended.result (λ h old. added_sections encode inside.parts c.add-ended.new.self c.args.entry stands h (subst (λ (b : TableBuilding). AreEncoded encode b) (sym c.self.view_is) old)) c.add-ended.ensures.added
-
-pub returns-in-Ok-clause-ended : goal.returns-in-Ok-clause-ended
-returns-in-Ok-clause-ended g c =
-    let inside = c.self.inside in
-    let whole : inside.is_whole ≡ true = ap (λ (b : TableBuilding). b.is_whole) c.self.view_is ∙ c.requires.whole in
-    let stands : Stands inside.parts = c.self.invariant whole in
-    let encode = changed_by g.T.BlockTransformer.encoded c.args.transformer.now in
-    IfOk-weaker c.add-ended.result _ _
-    (λ size h. h ∙ old_size encode inside.parts inside.is_whole c.args.entry stands ∙ ap (λ (b : TableBuilding). section_size encode b c.args.entry) c.self.view_is)
-    c.add-ended.ensures.size
-
-pub returns-in-Ok-clause-limit : goal.returns-in-Ok-clause-limit
-returns-in-Ok-clause-limit g c =
-    λ limit h some.
-    let inside = c.self.inside in
-    let whole : inside.is_whole ≡ true = ap (λ (b : TableBuilding). b.is_whole) c.self.view_is ∙ c.requires.whole in
-    let stands : Stands inside.parts = c.self.invariant whole in
-    let past = subst (λ (b : TableBuilding). IsLimit b c.args.entry limit) (sym c.self.view_is) h in
-    absurd (within_none inside.parts inside.is_whole c.args.entry limit stands c.in-Ok.ensures.within past)
-
-pub returns-in-Ok-clause-empty : goal.returns-in-Ok-clause-empty
-returns-in-Ok-clause-empty g c = (
-  λ h. absurd (not_empty c.add-ended.result _ _ c.add-ended.ensures.cause h),
-  λ none. absurd (omega (arith, none, c.in-Ok.ensures.some)),
-)
-
-pub returns-in-Ok-clause-cause : goal.returns-in-Ok-clause-cause
-returns-in-Ok-clause-cause g c =
-    IfErr-weaker c.add-ended.result _ _ (λ e h. inl h) c.add-ended.ensures.cause
-
-pub returns-in-Ok-clause-fault : goal.returns-in-Ok-clause-fault
-returns-in-Ok-clause-fault g c =
-    let inside = c.self.inside in
-    let whole : inside.is_whole ≡ true = ap (λ (b : TableBuilding). b.is_whole) c.self.view_is ∙ c.requires.whole in
-    let stands : Stands inside.parts = c.self.invariant whole in
-    let encode = changed_by g.T.BlockTransformer.encoded c.args.transformer.now in
-    λ failed.
-    let some = ends_a_block encode inside.parts inside.is_whole c.args.entry stands (c.add-ended.ensures.fault failed) in
-    subst (λ (b : TableBuilding). IsSome (section_size encode b c.args.entry)) c.self.view_is some
-
-pub returns-in-Ok-clause-same_encoded : goal.returns-in-Ok-clause-same_encoded
-returns-in-Ok-clause-same_encoded g c =
-    c.add-ended.ensures.same_encoded
-
-pub returns-in-Ok-clause-same_decoded : goal.returns-in-Ok-clause-same_decoded
-returns-in-Ok-clause-same_decoded g c =
-    c.add-ended.ensures.same_decoded
-
-pub returns-in-Ok-clause-later : goal.returns-in-Ok-clause-later
-returns-in-Ok-clause-later g c =
-    c.add-ended.ensures.later
-
-pub returns-in-Ok-clause-still : goal.returns-in-Ok-clause-still
-returns-in-Ok-clause-still g c =
-    c.add-ended.ensures.still
+    record {
+      added = (on_ok_weaker c.add-ended.result (λ h. added_rows encode inside.parts c.add-ended.new.self c.args.entry h ∙ ap (λ (b : TableBuilding). b.rows ++ c.args.entry ∷ []) c.self.view_is) c.add-ended.ensures.added);
+      whole = ok_is c.add-ended.result c.is_ok-self-inside.result c.is_ok-self-inside.ensures.value;
+      version = (on_ok_weaker c.add-ended.result (λ h. ap version_of (added_format encode inside.parts c.add-ended.new.self c.args.entry h) ∙ ap (λ (b : TableBuilding). b.version) c.self.view_is) c.add-ended.ensures.added);
+      size = (on_ok_weaker c.add-ended.result (λ h. added_size encode inside.parts c.add-ended.new.self c.args.entry h ∙ ap (λ (b : TableBuilding). b.size) c.self.view_is) c.add-ended.ensures.added);
+      encoded = (on_ok_weaker c.add-ended.result (λ h old. added_sections encode inside.parts c.add-ended.new.self c.args.entry stands h (subst (λ (b : TableBuilding). AreEncoded encode b) (sym c.self.view_is) old)) c.add-ended.ensures.added);
+      ended = (IfOk-weaker c.add-ended.result _ _
+          (λ size h. h ∙ old_size encode inside.parts inside.is_whole c.args.entry stands ∙ ap (λ (b : TableBuilding). section_size encode b c.args.entry) c.self.view_is)
+          c.add-ended.ensures.size);
+      limit = (λ limit h some.
+          let inside = c.self.inside in
+          let whole : inside.is_whole ≡ true = ap (λ (b : TableBuilding). b.is_whole) c.self.view_is ∙ c.requires.whole in
+          let stands : Stands inside.parts = c.self.invariant whole in
+          let past = subst (λ (b : TableBuilding). IsLimit b c.args.entry limit) (sym c.self.view_is) h in
+          absurd (within_none inside.parts inside.is_whole c.args.entry limit stands c.in-Ok.ensures.within past));
+      empty = ((
+        λ h. absurd (not_empty c.add-ended.result _ _ (cause_of _ _ c.add-ended.result c.add-ended.ensures.asks.counts) h),
+        λ none. absurd (omega (arith, none, c.in-Ok.ensures.some)),
+      ));
+      cause = IfErr-weaker c.add-ended.result _ _ (λ e h. inl h) (cause_of _ _ c.add-ended.result c.add-ended.ensures.asks.counts);
+      fault = (λ failed.
+          let some = ends_a_block encode inside.parts inside.is_whole c.args.entry stands (c.add-ended.ensures.fault failed) in
+          subst (λ (b : TableBuilding). IsSome (section_size encode b c.args.entry)) c.self.view_is some);
+      same_encoded = c.add-ended.ensures.asks.same_encoded;
+      same_decoded = c.add-ended.ensures.asks.same_decoded;
+      later = later_of _ _ c.add-ended.result c.add-ended.ensures.asks.counts;
+      still = still_of _ _ c.add-ended.result c.add-ended.ensures.asks.counts;
+    }

@@ -4,6 +4,7 @@ use Rattle.slate_types.specs.declared.types.RowEntry.{RowEntry}
 use Rattle.slate_table.specs.SectionReading.{changed_by}
 use Rattle.slate_table.specs.TableBuilding.{TableBuilding}
 use Rattle.slate_table.specs.TableParts.{Stands}
+use Rattle.slate_table.proofs.Asking.{cause_of, still_of, later_of}
 use Rattle.slate_table.proofs.BuiltLaws.{built_of, info_of_built}
 use Rattle.slate_table.proofs.builder.EncodedSsTableBuilder.build.Goals as goal
 
@@ -13,29 +14,23 @@ finish-table-requires-clause-stands g c = c.self.invariant (ap (λ (b : TableBui
 pub finish-table-requires-clause-row : goal.finish-table-requires-clause-row
 finish-table-requires-clause-row g c = subst (λ (rows : List RowEntry). 0 < length rows) (sym (ap (λ (b : TableBuilding). b.rows) c.self.view_is)) c.requires.rows
 
-pub returns-clause-built : goal.returns-clause-built
-returns-clause-built g c =
+pub returns : goal.returns
+returns g c =
     let inside = c.self.inside in
     let encode = changed_by g.T.BlockTransformer.encoded c.args.transformer.now in
-    let whole : inside.is_whole ≡ true = ap (λ (b : TableBuilding). b.is_whole) c.self.view_is ∙ c.requires.whole in
-    let stands : Stands inside.parts = c.self.invariant whole in
-    IfOk-weaker c.finish-table.result _ _
-    (λ table made. built_of encode inside.parts inside.is_whole c.args.self table.bytes table.bytes table.info c.self.view_is stands c.requires.rows made refl)
-    c.finish-table.ensures.finished
-
-pub returns-clause-info : goal.returns-clause-info
-returns-clause-info g c =
-    let inside = c.self.inside in
-    let encode = changed_by g.T.BlockTransformer.encoded c.args.transformer.now in
-    IfOk-weaker c.finish-table.result _ _
-    (λ table made. info_of_built encode inside.parts inside.is_whole c.args.self table.bytes table.bytes table.info table.info c.self.view_is made refl refl)
-    c.finish-table.ensures.finished
-
-pub returns-clause-version : goal.returns-clause-version
-returns-clause-version g c = IfOk-weaker c.finish-table.result _ _ (λ table is. is ∙ ap (λ (b : TableBuilding). b.version) c.self.view_is) c.finish-table.ensures.version
-
-pub returns-clause-cause : goal.returns-clause-cause
-returns-clause-cause g c = c.finish-table.ensures.cause
-
-pub returns-clause-still : goal.returns-clause-still
-returns-clause-still g c = c.finish-table.ensures.still
+    record {
+      built = (let whole : inside.is_whole ≡ true = ap (λ (b : TableBuilding). b.is_whole) c.self.view_is ∙ c.requires.whole in
+          let stands : Stands inside.parts = c.self.invariant whole in
+          IfOk-weaker c.finish-table.result _ _
+          (λ table made. built_of encode inside.parts inside.is_whole c.args.self table.bytes table.bytes table.info c.self.view_is stands c.requires.rows made refl)
+          c.finish-table.ensures.finished);
+      info = (IfOk-weaker c.finish-table.result _ _
+          (λ table made. info_of_built encode inside.parts inside.is_whole c.args.self table.bytes table.bytes table.info table.info c.self.view_is made refl refl)
+          c.finish-table.ensures.finished);
+      version = IfOk-weaker c.finish-table.result _ _ (λ table is. is ∙ ap (λ (b : TableBuilding). b.version) c.self.view_is) c.finish-table.ensures.version;
+      cause = cause_of _ _ c.finish-table.result c.finish-table.ensures.asks.counts;
+      same_encoded = c.finish-table.ensures.asks.same_encoded;
+      same_decoded = c.finish-table.ensures.asks.same_decoded;
+      later = later_of _ _ c.finish-table.result c.finish-table.ensures.asks.counts;
+      still = still_of _ _ c.finish-table.result c.finish-table.ensures.asks.counts;
+    }

@@ -7,17 +7,14 @@ use Rattle.slate_table.proofs.InfoReads.{info_reads, refused_info}
 use Rattle.slate_table.proofs.Results.{either, if_ok_both}
 use Rattle.slate_table.proofs.info.SsTableInfo.decode.Goals as goal
 
-pub returns-clause-found : goal.returns-clause-found
-returns-clause-found c = if_ok_both c.read_info-info.result _ _ _
-    (λ info found bytes. (info_reads c.args.version c.args.end c.args.bytes (seen_info info) bytes found).is) c.read_info-info.ensures.found c.read_info-info.ensures.bytes
-
-pub returns-clause-before : goal.returns-clause-before
-returns-clause-before c = if_ok_both c.read_info-info.result _ _ _
-    (λ info found bytes. (info_reads c.args.version c.args.end c.args.bytes (seen_info info) bytes found).before) c.read_info-info.ensures.found c.read_info-info.ensures.bytes
-
-pub returns-clause-only : goal.returns-clause-only
-returns-clause-only c = λ info is before. IfErr-weaker c.read_info-info.result _ _
-    (λ e h. refused_info c.args.version c.args.end info c.args.bytes e OutOfMemory h is before) c.read_info-info.ensures.cause
-
-pub returns-clause-cause : goal.returns-clause-cause
-returns-clause-cause c = IfErr-weaker c.read_info-info.result _ _ (λ e h. either (λ fails. ap refusal fails) h) c.read_info-info.ensures.cause
+pub returns : goal.returns
+returns c =
+    record {
+      found = (if_ok_both c.read_info-info.result _ _ _
+          (λ info found bytes. (info_reads c.args.version c.args.end c.args.bytes (seen_info info) bytes found).is) c.read_info-info.ensures.found c.read_info-info.ensures.bytes);
+      before = (if_ok_both c.read_info-info.result _ _ _
+          (λ info found bytes. (info_reads c.args.version c.args.end c.args.bytes (seen_info info) bytes found).before) c.read_info-info.ensures.found c.read_info-info.ensures.bytes);
+      only = (λ info is before. IfErr-weaker c.read_info-info.result _ _
+          (λ e h. refused_info c.args.version c.args.end info c.args.bytes e OutOfMemory h is before) c.read_info-info.ensures.cause);
+      cause = IfErr-weaker c.read_info-info.result _ _ (λ e h. either (λ fails. ap refusal fails) h) c.read_info-info.ensures.cause;
+    }

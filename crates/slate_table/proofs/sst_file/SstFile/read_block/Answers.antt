@@ -11,236 +11,124 @@ use Rattle.slate_table.proofs.FileReads.{reads_rows, index_refused, block_refuse
 use Rattle.slate_table.specs.FileReading.{RefusesReadRows, MayReadRows}
 use Rattle.slate_table.proofs.sst_file.SstFile.read_block.Goals as goal
 
-pub returns-in_err-index-clause-cause : goal.returns-in_err-index-clause-cause
-returns-in_err-index-clause-cause g c =
-    let p = err_from_is_err_and c.from_residual.result c.from_residual.ensures.1 in
-    let old = c.args.reader.now in
-    let table = c.args.self.now.handle in
-    rw (p.1, p.2)
-    (index_refused (changed_by g.T.BlockTransformer.decoded old.transformer) (g.S.Store.objects old.store) (g.S.Store.acts old.store) (g.S.Store.acts c.index.new.reader.store)
-    (path_of (string_bytes old.root_path) table.id.0) table c.args.block
-    (faults_of g.T.BlockTransformer.faults old.transformer) (faults_of g.T.BlockTransformer.faults c.index.new.reader.transformer) c.in_err-index.field-0.0 c.in_err-index.ensures.cause)
-
-pub returns-in_err-found-clause-cause : goal.returns-in_err-found-clause-cause
-returns-in_err-found-clause-cause g c =
-    let p = err_from_is_err_and c.from_residual-in_err-found.result c.from_residual-in_err-found.ensures.1 in
-    let old = c.args.reader.now in
-    let middle = c.index.new.reader in
-    let table = c.args.self.now.handle in
-    let objects = g.S.Store.objects in
-    let acts = g.S.Store.acts in
-    let decoded = changed_by g.T.BlockTransformer.decoded in
-    let entries = entries_of c.in_ok-index.index in
-    let there = ap (λ (root : List ℕ). path_of root table.id.0) (c.as_str-root.ensures.value ∙ ap string_bytes c.index.ensures.root) in
-    let faults = g.S.Store.faults in
-    let failed = faults_of g.T.BlockTransformer.faults in
-    rw (p.1, p.2)
-    (block_refused (decoded old.transformer) (decoded middle.transformer) (objects old.store) (objects middle.store) (acts old.store) (acts middle.store) (acts c.read_block.new.store)
-    (path_of (string_bytes old.root_path) table.id.0) (path_of c.as_str-root.result.now table.id.0) table entries c.args.block
-    (faults old.store) (faults middle.store) (faults c.read_block.new.store) (failed old.transformer) (failed middle.transformer) (failed c.read_block.new.transformer) c.in_err-found.field-0.0
-    c.index.ensures.same_decoded c.index.ensures.objects there c.index.ensures.later (still_ok c.in_ok-index.index c.in_ok-index.ensures.still_transformer) c.in_ok-index.ensures.found c.in_ok-test_block.ensures.within c.in_err-found.ensures.cause)
-
-pub returns-in_err-found-clause-twice : goal.returns-in_err-found-clause-twice
-returns-in_err-found-clause-twice g c =
-    let p = err_from_is_err_and c.from_residual-in_err-found.result c.from_residual-in_err-found.ensures.1 in
-    let old = c.args.reader.now in
-    let middle = c.index.new.reader in
-    let table = c.args.self.now.handle in
-    let objects = g.S.Store.objects in
-    let acts = g.S.Store.acts in
-    let decoded = changed_by g.T.BlockTransformer.decoded in
-    let entries = entries_of c.in_ok-index.index in
-    let there = ap (λ (root : List ℕ). path_of root table.id.0) (c.as_str-root.ensures.value ∙ ap string_bytes c.index.ensures.root) in
-    rw p.1
-    (may_block (decoded old.transformer) (objects old.store) (objects middle.store) (acts old.store) (acts middle.store) (acts c.read_block.new.store)
-    (path_of (string_bytes old.root_path) table.id.0) (path_of c.as_str-root.result.now table.id.0) table entries c.args.block
-    c.index.ensures.objects there c.in_ok-index.ensures.found c.in_ok-test_block.ensures.within c.in_err-found.ensures.once)
-
-pub returns-in_err-found-clause-same_encoded : goal.returns-in_err-found-clause-same_encoded
-returns-in_err-found-clause-same_encoded g c = c.read_block.ensures.same_encoded ∙ c.index.ensures.same_encoded
-
-pub returns-in_err-found-clause-same_decoded : goal.returns-in_err-found-clause-same_decoded
-returns-in_err-found-clause-same_decoded g c = c.read_block.ensures.same_decoded ∙ c.index.ensures.same_decoded
-
-pub returns-clause-cause : goal.returns-clause-cause
-returns-clause-cause g c =
-    let old = c.args.reader.now in
-    let middle = c.index.new.reader in
-    let table = c.args.self.now.handle in
-    let objects = g.S.Store.objects in
-    let acts = g.S.Store.acts in
-    let decoded = changed_by g.T.BlockTransformer.decoded in
-    let entries = entries_of c.in_ok-index.index in
-    let there = ap (λ (root : List ℕ). path_of root table.id.0) (c.as_str-root.ensures.value ∙ ap string_bytes c.index.ensures.root) in
-    let faults = g.S.Store.faults in
-    let failed = faults_of g.T.BlockTransformer.faults in
-    IfErr-weaker c.rows_of_block-rows.result _ _
-    (λ e h. row_refused (decoded old.transformer) (decoded middle.transformer) (objects old.store) (objects middle.store) (acts old.store) (acts middle.store) (acts c.read_block.new.store)
-    (path_of (string_bytes old.root_path) table.id.0) (path_of c.as_str-root.result.now table.id.0) table entries c.args.block c.in_ok-found.found
-    (faults old.store) (faults c.read_block.new.store) (failed old.transformer) (failed c.read_block.new.transformer) e
-    c.index.ensures.same_decoded c.index.ensures.objects there c.in_ok-index.ensures.found c.in_ok-test_block.ensures.within c.rows_of_block-rows.ensures.bytes c.in_ok-found.ensures.found h)
-    c.rows_of_block-rows.ensures.cause
-
-pub returns-clause-twice : goal.returns-clause-twice
-returns-clause-twice g c =
-    let old = c.args.reader.now in
-    let middle = c.index.new.reader in
-    let table = c.args.self.now.handle in
-    let objects = g.S.Store.objects in
-    let acts = g.S.Store.acts in
-    let decoded = changed_by g.T.BlockTransformer.decoded in
-    let entries = entries_of c.in_ok-index.index in
-    let there = ap (λ (root : List ℕ). path_of root table.id.0) (c.as_str-root.ensures.value ∙ ap string_bytes c.index.ensures.root) in
-    on_err c.rows_of_block-rows.result
-    (had_block (decoded old.transformer) (decoded middle.transformer) (objects old.store) (objects middle.store) (acts old.store) (acts middle.store) (acts c.read_block.new.store)
-    (path_of (string_bytes old.root_path) table.id.0) (path_of c.as_str-root.result.now table.id.0) table entries c.args.block c.in_ok-found.found
-    c.index.ensures.objects there c.in_ok-index.ensures.found c.in_ok-test_block.ensures.within c.in_ok-found.ensures.found)
-
-pub returns-clause-found : goal.returns-clause-found
-returns-clause-found g c =
-    let old = c.args.reader.now in
-    let middle = c.index.new.reader in
-    let table = c.args.self.now.handle in
-    let objects = g.S.Store.objects in
-    let acts = g.S.Store.acts in
-    let decoded = changed_by g.T.BlockTransformer.decoded in
-    let entries = entries_of c.in_ok-index.index in
-    let there = ap (λ (root : List ℕ). path_of root table.id.0) (c.as_str-root.ensures.value ∙ ap string_bytes c.index.ensures.root) in
-    IfOk-weaker c.rows_of_block-rows.result _ _
-    (λ rows read. reads_rows (decoded old.transformer) (decoded middle.transformer) (objects old.store) (objects middle.store) (acts old.store) (acts middle.store) (acts c.read_block.new.store)
-    (path_of (string_bytes old.root_path) table.id.0) (path_of c.as_str-root.result.now table.id.0) table entries c.args.block c.in_ok-found.found rows.items
-    c.index.ensures.same_decoded c.index.ensures.objects there c.in_ok-index.ensures.found c.in_ok-test_block.ensures.within c.rows_of_block-rows.ensures.bytes c.in_ok-found.ensures.found read)
-    c.rows_of_block-rows.ensures.rows
-
-pub returns-clause-same_encoded : goal.returns-clause-same_encoded
-returns-clause-same_encoded g c = c.read_block.ensures.same_encoded ∙ c.index.ensures.same_encoded
-
-pub returns-clause-same_decoded : goal.returns-clause-same_decoded
-returns-clause-same_decoded g c = c.read_block.ensures.same_decoded ∙ c.index.ensures.same_decoded
-
-pub returns-in_err-test_block-clause-cause : goal.returns-in_err-test_block-clause-cause
-unfolding RefusesReadRows
-returns-in_err-test_block-clause-cause g c =
-    let p = err_from_is_err_and c.from_residual-in_err-test_block.result c.from_residual-in_err-test_block.ensures.1 in
-    let past = c.in_err-test_block.ensures.past in
-    rw (p.1, p.2) (inr (inr (inr (inl (entries_of c.in_ok-index.index, c.in_ok-index.ensures.found, past.0, past.1)))))
-
-pub returns-in_err-test_block-clause-twice : goal.returns-in_err-test_block-clause-twice
+pub returns-in_err-index : goal.returns-in_err-index
 unfolding MayReadRows
-returns-in_err-test_block-clause-twice g c =
-    let p = err_from_is_err_and c.from_residual-in_err-test_block.result c.from_residual-in_err-test_block.ensures.1 in
-    let found = c.in_ok-index.ensures.found in
-    rw p.1 (inr (inl (found.0, found.1, tt)))
-
-pub returns-in_err-index-clause-twice : goal.returns-in_err-index-clause-twice
-unfolding MayReadRows
-returns-in_err-index-clause-twice g c =
+returns-in_err-index g c =
     let p = err_from_is_err_and c.from_residual.result c.from_residual.ensures.1 in
-    rw p.1 (elim c.in_err-index.ensures.once [
-      | inl unread ↦ inl unread
-      | inr read ↦ inr (inl read)
-    ])
+    record {
+      found = IfOk-from_err c.from_residual.result _ c.from_residual.ensures.0;
+      cause = (let old = c.args.reader.now in
+          let table = c.args.self.now.handle in
+          rw (p.1, p.2)
+          (index_refused (changed_by g.T.BlockTransformer.decoded old.transformer) (g.S.Store.objects old.store) (g.S.Store.acts old.store) (g.S.Store.acts c.index.new.reader.store)
+          (path_of (string_bytes old.root_path) table.id.0) table c.args.block
+          (faults_of g.T.BlockTransformer.faults old.transformer) (faults_of g.T.BlockTransformer.faults c.index.new.reader.transformer) c.in_err-index.field-0.0 c.in_err-index.ensures.cause));
+      twice = (rw p.1 (elim c.in_err-index.ensures.once [
+        | inl unread ↦ inl unread
+        | inr read ↦ inr (inl read)
+      ]));
+      objects = c.index.ensures.objects;
+      root = c.index.ensures.root;
+      same_encoded = c.index.ensures.same_encoded;
+      same_decoded = c.index.ensures.same_decoded;
+      later = c.index.ensures.later;
+      still = rw (p.1, p.2) (store_err c.in_err-index.field-0.0 c.in_err-index.ensures.still);
+      later_transformer = c.index.ensures.later_transformer;
+      still_transformer = rw (p.1, p.2) (still_err c.in_err-index.field-0.0 c.in_err-index.ensures.still_transformer);
+    }
 
-pub returns-in_err-index-clause-still : goal.returns-in_err-index-clause-still
-returns-in_err-index-clause-still g c =
-    let p = err_from_is_err_and c.from_residual.result c.from_residual.ensures.1 in rw (p.1, p.2) (store_err c.in_err-index.field-0.0 c.in_err-index.ensures.still)
-
-pub returns-in_err-index-clause-still_transformer : goal.returns-in_err-index-clause-still_transformer
-returns-in_err-index-clause-still_transformer g c =
-    let p = err_from_is_err_and c.from_residual.result c.from_residual.ensures.1 in rw (p.1, p.2) (still_err c.in_err-index.field-0.0 c.in_err-index.ensures.still_transformer)
-
-pub returns-in_err-test_block-clause-still : goal.returns-in_err-test_block-clause-still
-returns-in_err-test_block-clause-still g c = inr (store_still c.in_ok-index.index c.in_ok-index.ensures.still)
-
-pub returns-in_err-test_block-clause-still_transformer : goal.returns-in_err-test_block-clause-still_transformer
-returns-in_err-test_block-clause-still_transformer g c = inr (inr (still_ok c.in_ok-index.index c.in_ok-index.ensures.still_transformer))
-
-pub returns-in_err-found-clause-still : goal.returns-in_err-found-clause-still
-returns-in_err-found-clause-still g c =
+pub returns-in_err-found : goal.returns-in_err-found
+returns-in_err-found g c =
     let p = err_from_is_err_and c.from_residual-in_err-found.result c.from_residual-in_err-found.ensures.1 in
-    let faults = g.S.Store.faults in
-    rw (p.1, p.2) (store_err c.in_err-found.field-0.0
-    (store_longer (faults c.args.reader.now.store) (faults c.index.new.reader.store) (faults c.read_block.new.store) (store_still c.in_ok-index.index c.in_ok-index.ensures.still) c.in_err-found.ensures.still))
+    let old = c.args.reader.now in
+    let middle = c.index.new.reader in
+    let table = c.args.self.now.handle in
+    let objects = g.S.Store.objects in
+    let acts = g.S.Store.acts in
+    let decoded = changed_by g.T.BlockTransformer.decoded in
+    let entries = entries_of c.in_ok-index.index in
+    let there = ap (λ (root : List ℕ). path_of root table.id.0) (c.as_str-root.ensures.value ∙ ap string_bytes c.index.ensures.root) in
+    record {
+      found = IfOk-from_err c.from_residual-in_err-found.result _ c.from_residual-in_err-found.ensures.0;
+      cause = (let faults = g.S.Store.faults in
+          let failed = faults_of g.T.BlockTransformer.faults in
+          rw (p.1, p.2)
+          (block_refused (decoded old.transformer) (decoded middle.transformer) (objects old.store) (objects middle.store) (acts old.store) (acts middle.store) (acts c.read_block.new.store)
+          (path_of (string_bytes old.root_path) table.id.0) (path_of c.as_str-root.result.now table.id.0) table entries c.args.block
+          (faults old.store) (faults middle.store) (faults c.read_block.new.store) (failed old.transformer) (failed middle.transformer) (failed c.read_block.new.transformer) c.in_err-found.field-0.0
+          c.index.ensures.same_decoded c.index.ensures.objects there c.index.ensures.later (still_ok c.in_ok-index.index c.in_ok-index.ensures.still_transformer) c.in_ok-index.ensures.found c.in_ok-test_block.ensures.within c.in_err-found.ensures.cause));
+      twice = (rw p.1
+          (may_block (decoded old.transformer) (objects old.store) (objects middle.store) (acts old.store) (acts middle.store) (acts c.read_block.new.store)
+          (path_of (string_bytes old.root_path) table.id.0) (path_of c.as_str-root.result.now table.id.0) table entries c.args.block
+          c.index.ensures.objects there c.in_ok-index.ensures.found c.in_ok-test_block.ensures.within c.in_err-found.ensures.once));
+      objects = c.read_block.ensures.reaches.same_objects ∙ c.index.ensures.objects;
+      root = c.index.ensures.root;
+      same_encoded = c.read_block.ensures.stays.same_encoded ∙ c.index.ensures.same_encoded;
+      same_decoded = c.read_block.ensures.stays.same_decoded ∙ c.index.ensures.same_decoded;
+      later = omega (arith, c.index.ensures.later, c.read_block.ensures.reaches.later);
+      still = (let faults = g.S.Store.faults in
+          rw (p.1, p.2) (store_err c.in_err-found.field-0.0
+          (store_longer (faults c.args.reader.now.store) (faults c.index.new.reader.store) (faults c.read_block.new.store) (store_still c.in_ok-index.index c.in_ok-index.ensures.still) c.in_err-found.ensures.reaches.still)));
+      later_transformer = omega (arith, c.index.ensures.later_transformer, c.read_block.ensures.stays.later);
+      still_transformer = (let faults = faults_of g.T.BlockTransformer.faults in
+          rw (p.1, p.2) (still_err c.in_err-found.field-0.0
+          (still_longer (faults c.args.reader.now.transformer) (faults c.index.new.reader.transformer) (faults c.read_block.new.transformer) (still_ok c.in_ok-index.index c.in_ok-index.ensures.still_transformer) c.in_err-found.ensures.stays.still)));
+    }
 
-pub returns-in_err-found-clause-still_transformer : goal.returns-in_err-found-clause-still_transformer
-returns-in_err-found-clause-still_transformer g c =
-    let p = err_from_is_err_and c.from_residual-in_err-found.result c.from_residual-in_err-found.ensures.1 in
-    let faults = faults_of g.T.BlockTransformer.faults in
-    rw (p.1, p.2) (still_err c.in_err-found.field-0.0
-    (still_longer (faults c.args.reader.now.transformer) (faults c.index.new.reader.transformer) (faults c.read_block.new.transformer) (still_ok c.in_ok-index.index c.in_ok-index.ensures.still_transformer) c.in_err-found.ensures.still_transformer))
+pub returns : goal.returns
+returns g c =
+    let old = c.args.reader.now in
+    let middle = c.index.new.reader in
+    let table = c.args.self.now.handle in
+    let objects = g.S.Store.objects in
+    let acts = g.S.Store.acts in
+    let decoded = changed_by g.T.BlockTransformer.decoded in
+    let entries = entries_of c.in_ok-index.index in
+    let there = ap (λ (root : List ℕ). path_of root table.id.0) (c.as_str-root.ensures.value ∙ ap string_bytes c.index.ensures.root) in
+    record {
+      found = (IfOk-weaker c.rows_of_block-rows.result _ _
+          (λ rows read. reads_rows (decoded old.transformer) (decoded middle.transformer) (objects old.store) (objects middle.store) (acts old.store) (acts middle.store) (acts c.read_block.new.store)
+          (path_of (string_bytes old.root_path) table.id.0) (path_of c.as_str-root.result.now table.id.0) table entries c.args.block c.in_ok-found.found rows.items
+          c.index.ensures.same_decoded c.index.ensures.objects there c.in_ok-index.ensures.found c.in_ok-test_block.ensures.within c.rows_of_block-rows.ensures.bytes c.in_ok-found.ensures.found read)
+          c.rows_of_block-rows.ensures.rows);
+      cause = (let faults = g.S.Store.faults in
+          let failed = faults_of g.T.BlockTransformer.faults in
+          IfErr-weaker c.rows_of_block-rows.result _ _
+          (λ e h. row_refused (decoded old.transformer) (decoded middle.transformer) (objects old.store) (objects middle.store) (acts old.store) (acts middle.store) (acts c.read_block.new.store)
+          (path_of (string_bytes old.root_path) table.id.0) (path_of c.as_str-root.result.now table.id.0) table entries c.args.block c.in_ok-found.found
+          (faults old.store) (faults c.read_block.new.store) (failed old.transformer) (failed c.read_block.new.transformer) e
+          c.index.ensures.same_decoded c.index.ensures.objects there c.in_ok-index.ensures.found c.in_ok-test_block.ensures.within c.rows_of_block-rows.ensures.bytes c.in_ok-found.ensures.found h)
+          c.rows_of_block-rows.ensures.cause);
+      twice = (on_err c.rows_of_block-rows.result
+          (had_block (decoded old.transformer) (decoded middle.transformer) (objects old.store) (objects middle.store) (acts old.store) (acts middle.store) (acts c.read_block.new.store)
+          (path_of (string_bytes old.root_path) table.id.0) (path_of c.as_str-root.result.now table.id.0) table entries c.args.block c.in_ok-found.found
+          c.index.ensures.objects there c.in_ok-index.ensures.found c.in_ok-test_block.ensures.within c.in_ok-found.ensures.found));
+      objects = c.read_block.ensures.reaches.same_objects ∙ c.index.ensures.objects;
+      root = c.index.ensures.root;
+      same_encoded = c.read_block.ensures.stays.same_encoded ∙ c.index.ensures.same_encoded;
+      same_decoded = c.read_block.ensures.stays.same_decoded ∙ c.index.ensures.same_decoded;
+      later = omega (arith, c.index.ensures.later, c.read_block.ensures.reaches.later);
+      still = inr (store_still c.in_ok-found.found c.in_ok-found.ensures.reaches.still ∙ store_still c.in_ok-index.index c.in_ok-index.ensures.still);
+      later_transformer = omega (arith, c.index.ensures.later_transformer, c.read_block.ensures.stays.later);
+      still_transformer = inr (inr (still_ok c.in_ok-found.found c.in_ok-found.ensures.stays.still ∙ still_ok c.in_ok-index.index c.in_ok-index.ensures.still_transformer));
+    }
 
-pub returns-clause-still : goal.returns-clause-still
-returns-clause-still g c = inr (store_still c.in_ok-found.found c.in_ok-found.ensures.still ∙ store_still c.in_ok-index.index c.in_ok-index.ensures.still)
-
-pub returns-clause-still_transformer : goal.returns-clause-still_transformer
-returns-clause-still_transformer g c =
-    inr (inr (still_ok c.in_ok-found.found c.in_ok-found.ensures.still_transformer ∙ still_ok c.in_ok-index.index c.in_ok-index.ensures.still_transformer))
-
-pub returns-in_err-index-clause-found : goal.returns-in_err-index-clause-found
-returns-in_err-index-clause-found g c = IfOk-from_err c.from_residual.result _ c.from_residual.ensures.0
-
-pub returns-in_err-test_block-clause-found : goal.returns-in_err-test_block-clause-found
-returns-in_err-test_block-clause-found g c = IfOk-from_err c.from_residual-in_err-test_block.result _ c.from_residual-in_err-test_block.ensures.0
-
-pub returns-in_err-found-clause-found : goal.returns-in_err-found-clause-found
-returns-in_err-found-clause-found g c = IfOk-from_err c.from_residual-in_err-found.result _ c.from_residual-in_err-found.ensures.0
-
-pub returns-clause-later : goal.returns-clause-later
-returns-clause-later g c = omega (arith, c.index.ensures.later, c.read_block.ensures.later)
-
-pub returns-clause-later_transformer : goal.returns-clause-later_transformer
-returns-clause-later_transformer g c = omega (arith, c.index.ensures.later_transformer, c.read_block.ensures.later_transformer)
-
-pub returns-clause-objects : goal.returns-clause-objects
-returns-clause-objects g c = c.read_block.ensures.objects ∙ c.index.ensures.objects
-
-pub returns-clause-root : goal.returns-clause-root
-returns-clause-root g c = c.index.ensures.root
-
-pub returns-in_err-found-clause-later : goal.returns-in_err-found-clause-later
-returns-in_err-found-clause-later g c = omega (arith, c.index.ensures.later, c.read_block.ensures.later)
-
-pub returns-in_err-found-clause-later_transformer : goal.returns-in_err-found-clause-later_transformer
-returns-in_err-found-clause-later_transformer g c = omega (arith, c.index.ensures.later_transformer, c.read_block.ensures.later_transformer)
-
-pub returns-in_err-found-clause-objects : goal.returns-in_err-found-clause-objects
-returns-in_err-found-clause-objects g c = c.read_block.ensures.objects ∙ c.index.ensures.objects
-
-pub returns-in_err-found-clause-root : goal.returns-in_err-found-clause-root
-returns-in_err-found-clause-root g c = c.index.ensures.root
-
-pub returns-in_err-index-clause-same_encoded : goal.returns-in_err-index-clause-same_encoded
-returns-in_err-index-clause-same_encoded g c = c.index.ensures.same_encoded
-
-pub returns-in_err-index-clause-same_decoded : goal.returns-in_err-index-clause-same_decoded
-returns-in_err-index-clause-same_decoded g c = c.index.ensures.same_decoded
-
-pub returns-in_err-index-clause-later : goal.returns-in_err-index-clause-later
-returns-in_err-index-clause-later g c = c.index.ensures.later
-
-pub returns-in_err-index-clause-objects : goal.returns-in_err-index-clause-objects
-returns-in_err-index-clause-objects g c = c.index.ensures.objects
-
-pub returns-in_err-index-clause-later_transformer : goal.returns-in_err-index-clause-later_transformer
-returns-in_err-index-clause-later_transformer g c = c.index.ensures.later_transformer
-
-pub returns-in_err-index-clause-root : goal.returns-in_err-index-clause-root
-returns-in_err-index-clause-root g c = c.index.ensures.root
-
-pub returns-in_err-test_block-clause-same_encoded : goal.returns-in_err-test_block-clause-same_encoded
-returns-in_err-test_block-clause-same_encoded g c = c.index.ensures.same_encoded
-
-pub returns-in_err-test_block-clause-same_decoded : goal.returns-in_err-test_block-clause-same_decoded
-returns-in_err-test_block-clause-same_decoded g c = c.index.ensures.same_decoded
-
-pub returns-in_err-test_block-clause-later : goal.returns-in_err-test_block-clause-later
-returns-in_err-test_block-clause-later g c = c.index.ensures.later
-
-pub returns-in_err-test_block-clause-objects : goal.returns-in_err-test_block-clause-objects
-returns-in_err-test_block-clause-objects g c = c.index.ensures.objects
-
-pub returns-in_err-test_block-clause-later_transformer : goal.returns-in_err-test_block-clause-later_transformer
-returns-in_err-test_block-clause-later_transformer g c = c.index.ensures.later_transformer
-
-pub returns-in_err-test_block-clause-root : goal.returns-in_err-test_block-clause-root
-returns-in_err-test_block-clause-root g c = c.index.ensures.root
+pub returns-in_err-test_block : goal.returns-in_err-test_block
+unfolding RefusesReadRows MayReadRows
+returns-in_err-test_block g c =
+    let p = err_from_is_err_and c.from_residual-in_err-test_block.result c.from_residual-in_err-test_block.ensures.1 in
+    record {
+      found = IfOk-from_err c.from_residual-in_err-test_block.result _ c.from_residual-in_err-test_block.ensures.0;
+      cause = (let past = c.in_err-test_block.ensures.past in
+          rw (p.1, p.2) (inr (inr (inr (inl (entries_of c.in_ok-index.index, c.in_ok-index.ensures.found, past.0, past.1))))));
+      twice = (let found = c.in_ok-index.ensures.found in
+          rw p.1 (inr (inl (found.0, found.1, tt))));
+      objects = c.index.ensures.objects;
+      root = c.index.ensures.root;
+      same_encoded = c.index.ensures.same_encoded;
+      same_decoded = c.index.ensures.same_decoded;
+      later = c.index.ensures.later;
+      still = inr (store_still c.in_ok-index.index c.in_ok-index.ensures.still);
+      later_transformer = c.index.ensures.later_transformer;
+      still_transformer = inr (inr (still_ok c.in_ok-index.index c.in_ok-index.ensures.still_transformer));
+    }

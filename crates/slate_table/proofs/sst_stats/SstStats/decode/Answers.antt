@@ -8,15 +8,14 @@ use Rattle.slate_table.proofs.StatsReads.{stats_reads, refused_stats}
 use Rattle.slate_table.proofs.Results.{either, if_ok_both}
 use Rattle.slate_table.proofs.sst_stats.SstStats.decode.Goals as goal
 
-pub returns-clause-found : goal.returns-clause-found
-returns-clause-found c = if_ok_both c.read_stats-stats.result _ _ _
-    (λ stats found bytes. subst (λ (b : List ℕ). IsStats b (stats_of stats)) c.as_slice.ensures (stats_reads c.as_slice.result.now (stats_of stats) bytes found))
-    c.read_stats-stats.ensures.found c.read_stats-stats.ensures.bytes
-
-pub returns-clause-only : goal.returns-clause-only
-returns-clause-only c = λ stats is. IfErr-weaker c.read_stats-stats.result _ _
-    (λ e h. refused_stats stats c.args.bytes c.as_slice.result.now e OutOfMemory c.as_slice.ensures h is) c.read_stats-stats.ensures.cause
-
-pub returns-clause-cause : goal.returns-clause-cause
-returns-clause-cause c = IfErr-weaker c.read_stats-stats.result _ _
-    (λ e h. either (λ fails. ap (λ (b : List ℕ). refusal (stats_in b)) (sym c.as_slice.ensures) ∙ ap refusal fails) h) c.read_stats-stats.ensures.cause
+pub returns : goal.returns
+returns c =
+    record {
+      found = (if_ok_both c.read_stats-stats.result _ _ _
+          (λ stats found bytes. subst (λ (b : List ℕ). IsStats b (stats_of stats)) c.as_slice.ensures (stats_reads c.as_slice.result.now (stats_of stats) bytes found))
+          c.read_stats-stats.ensures.found c.read_stats-stats.ensures.bytes);
+      only = (λ stats is. IfErr-weaker c.read_stats-stats.result _ _
+          (λ e h. refused_stats stats c.args.bytes c.as_slice.result.now e OutOfMemory c.as_slice.ensures h is) c.read_stats-stats.ensures.cause);
+      cause = (IfErr-weaker c.read_stats-stats.result _ _
+          (λ e h. either (λ fails. ap (λ (b : List ℕ). refusal (stats_in b)) (sym c.as_slice.ensures) ∙ ap refusal fails) h) c.read_stats-stats.ensures.cause);
+    }

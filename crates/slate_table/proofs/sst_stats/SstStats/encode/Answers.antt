@@ -7,6 +7,9 @@ use Rattle.slate_table.specs.Decoded.{FitCounts, counts_bytes}
 use Rattle.slate_table.specs.StatsReading.{counts_of, stats_of, totals_bytes}
 use Rattle.slate_table.proofs.Results.{mapped}
 use Rattle.slate_table.proofs.StatsReads.{spelled_map}
+use Rattle.std.proofs.lemmas.Result.{IfOk-from_err}
+use Rattle.slate_types.specs.declared.error.SlateDBError.TheVariants.{OutOfMemory}
+use Rattle.slate_table.proofs.Asking.{memory_exit}
 use Rattle.slate_table.proofs.sst_stats.SstStats.encode.Goals as goal
 
 pub returns-clause-spelling : goal.returns-clause-spelling
@@ -29,3 +32,17 @@ returns-clause-spelling c =
       is = is ∙ appended;
     })
     c.from_vec.ensures.ok
+
+pub returns-in_err-append_totals : goal.returns-in_err-append_totals
+returns-in_err-append_totals c =
+    record {
+      spelling = IfOk-from_err c.from_residual.result _ c.from_residual.ensures.0;
+      cause = memory_exit c.from_residual.result _ c.from_residual.ensures.1 OutOfMemory c.in_err-append_totals.ensures.cause;
+    }
+
+pub returns-in_err-append_block_stats : goal.returns-in_err-append_block_stats
+returns-in_err-append_block_stats c =
+    record {
+      spelling = IfOk-from_err c.from_residual-in_err-append_block_stats.result _ c.from_residual-in_err-append_block_stats.ensures.0;
+      cause = memory_exit c.from_residual-in_err-append_block_stats.result _ c.from_residual-in_err-append_block_stats.ensures.1 OutOfMemory c.in_err-append_block_stats.ensures.cause;
+    }

@@ -1,46 +1,18 @@
-use Rattle.std.specs.Prelude.{IfErr}
-use Rattle.slate_table.proofs.BuiltLaws.{last_has_row, ended_ready}
-use Rattle.slate_types.specs.Faults.{faults_of}
-use Rattle.slate_table.proofs.PartReads.{still_longer, still_ok, still_err}
-use Rattle.std.proofs.lemmas.Result.{err_from_is_err_and, IfOk-weaker, IfOk-from_err}
-use Rattle.std.proofs.Common.{◌∙◌, ap, subst, arith, ℕ}
-use Rattle.slate_types.specs.declared.config.BlockFormat.{BlockFormat}
-use Rattle.slate_table.specs.Parts.{Encode}
-use Rattle.slate_table.specs.SectionReading.{changed_by, IsTransformFault}
-use Rattle.slate_table.specs.InfoReading.{seen_info}
+use Rattle.std.proofs.Common.{◌≡◌, ◌∙◌, ◌++◌, List, ap, arith, length, rules, subst, sym}
+use Rattle.std.proofs.lemmas.List.{length-append}
+use Rattle.std.proofs.lemmas.Result.{IfOk-weaker, IfOk-from_err}
+use Rattle.slate_types.specs.declared.types.RowEntry.{RowEntry}
+use Rattle.slate_table.specs.Parts.{Encode, section}
+use Rattle.slate_table.specs.Table.{some_first, some_last}
+use Rattle.slate_table.specs.Decoded.{FitsShort}
+use Rattle.slate_table.specs.SectionReading.{changed_by}
 use Rattle.slate_table.specs.TableParts.{version_of, IsEnded}
-use Rattle.slate_table.specs.TableEnd.{HasInfo, parts_bytes}
-use Rattle.slate_table.proofs.Results.{if_ok_three}
+use Rattle.slate_table.specs.TableEnd.{parts_index, parts_stats, IsReady, IsSealed}
+use Rattle.slate_table.proofs.Asking.{asked_before, failed_asks, asks_again}
+use Rattle.slate_table.proofs.BuiltLaws.{last_has_row, ended_ready}
+use Rattle.slate_table.proofs.EndLaws.{closed}
+use Rattle.slate_table.proofs.Results.{if_ok_both}
 use Rattle.slate_table.proofs.table_parts.TableParts.finish.Goals as goal
-
-pub returns-clause-finished : goal.returns-clause-finished
-returns-clause-finished g c =
-    let encode = changed_by g.T.BlockTransformer.encoded c.args.transformer.now in
-    let q = c.end_block.new.self in
-    let end : IsEnded encode c.args.self.now q = c.in_ok-end_block.ensures.ended in
-    if_ok_three c.assemble.result _ _ _ _
-    (λ made bytes short info. record {
-      ended = q;
-      end = end;
-      is = bytes ∙ ap (λ (f : Encode). parts_bytes f q) c.end_block.ensures.same_encoded;
-      short = short;
-      keys = omega (arith, end.keys, c.assemble.ensures.keys);
-      values = omega (arith, end.values, c.assemble.ensures.values);
-      info = subst (λ (f : BlockFormat). HasInfo made.bytes (version_of f) (seen_info made.info)) end.format info;
-    })
-    c.assemble.ensures.bytes c.assemble.ensures.short c.assemble.ensures.info
-
-pub returns-clause-same_encoded : goal.returns-clause-same_encoded
-returns-clause-same_encoded g c = c.assemble.ensures.same_encoded ∙ c.end_block.ensures.same_encoded
-
-pub returns-clause-same_decoded : goal.returns-clause-same_decoded
-returns-clause-same_decoded g c = c.assemble.ensures.same_decoded ∙ c.end_block.ensures.same_decoded
-
-pub returns-in_err-end_block-clause-cause : goal.returns-in_err-end_block-clause-cause
-returns-in_err-end_block-clause-cause g c = let p = err_from_is_err_and c.from_residual.result c.from_residual.ensures.1 in rw (p.1, p.2) (c.in_err-end_block.ensures.cause)
-
-pub returns-in_err-end_block-clause-still : goal.returns-in_err-end_block-clause-still
-returns-in_err-end_block-clause-still g c = let p = err_from_is_err_and c.from_residual.result c.from_residual.ensures.1 in rw (p.1, p.2) (still_err c.in_err-end_block.field-0.0 c.in_err-end_block.ensures.still)
 
 pub end_block-requires-clause-some : goal.end_block-requires-clause-some
 end_block-requires-clause-some g c = c.requires.stands.some
@@ -51,42 +23,56 @@ end_block-requires-clause-few g c = c.requires.stands.few
 pub end_block-requires-clause-row : goal.end_block-requires-clause-row
 end_block-requires-clause-row g c = last_has_row c.args.self.now c.requires.stands c.requires.row
 
-pub assemble-requires : goal.assemble-requires
-assemble-requires g c = record {
+pub append_sections-requires : goal.append_sections-requires
+append_sections-requires g c = record {
   ready = ended_ready (changed_by g.T.BlockTransformer.encoded c.args.transformer.now) c.args.self.now c.end_block.new.self c.requires.stands c.requires.row c.in_ok-end_block.ensures.ended;
 }
 
-pub returns-clause-still : goal.returns-clause-still
-returns-clause-still g c =
-    let faults = faults_of g.T.BlockTransformer.faults in
-    let first = still_ok c.in_ok-end_block.field-0 c.in_ok-end_block.ensures.still in
-    still_longer (faults c.args.transformer.now) (faults c.end_block.new.transformer) (faults c.assemble.new.transformer) first c.assemble.ensures.still
+pub close-requires : goal.close-requires
+close-requires g c =
+    let encode = changed_by g.T.BlockTransformer.encoded c.args.transformer.now in
+    let between = changed_by g.T.BlockTransformer.encoded c.end_block.new.transformer in
+    let q = c.end_block.new.self in
+    let ready : IsReady q = ended_ready encode c.args.self.now q c.requires.stands c.requires.row c.in_ok-end_block.ensures.ended in
+    let s : IsSealed between q c.in_ok-stats_offset.stats_offset c.append_sections.new.self = c.in_ok-stats_offset.ensures.sealed in
+    let begin : c.len-index_offset.result ≡ length q.bytes.items = search rules in
+    let index = section between (parts_index q) in
+    record {
+      first = subst (λ (rows : List RowEntry). FitsShort (some_first rows)) (sym s.rows) ready.first;
+      last = subst (λ (rows : List RowEntry). FitsShort (some_last rows)) (sym s.rows) ready.last;
+      index = omega (arith, begin, s.place, length-append q.bytes.items index);
+      stats = omega (arith, s.place, ap length s.bytes, length-append (q.bytes.items ++ index) (section between (parts_stats q)));
+    }
 
-pub returns-clause-cause : goal.returns-clause-cause
-returns-clause-cause g c =
-    let faults = faults_of g.T.BlockTransformer.faults in
-    let first = still_ok c.in_ok-end_block.field-0 c.in_ok-end_block.ensures.still in
-    subst (λ (n : ℕ). IfErr c.assemble.result (λ e. IsTransformFault n (faults c.assemble.new.transformer) e)) first c.assemble.ensures.cause
+pub returns : goal.returns
+returns g c =
+    record {
+      finished = (let encode = changed_by g.T.BlockTransformer.encoded c.args.transformer.now in
+          let q = c.end_block.new.self in
+          let r = c.append_sections.new.self in
+          let at = c.in_ok-stats_offset.stats_offset in
+          let begin : c.len-index_offset.result ≡ length q.bytes.items = search rules in
+          let sealed = subst (λ (f : Encode). IsSealed f q at r) c.in_ok-end_block.ensures.asks.same_encoded c.in_ok-stats_offset.ensures.sealed in
+          if_ok_both c.close.result _ _ _
+          (λ made ended short. closed encode c.args.self.now q r c.len-index_offset.result at made.bytes made.info c.in_ok-end_block.ensures.ended sealed begin ended short)
+          c.close.ensures.ended c.close.ensures.short);
+      version = (let end : IsEnded (changed_by g.T.BlockTransformer.encoded c.args.transformer.now) c.args.self.now c.end_block.new.self = c.in_ok-end_block.ensures.ended in
+          IfOk-weaker c.close.result _ _ (λ made is. is ∙ ap version_of (c.in_ok-stats_offset.ensures.sealed.format ∙ end.format)) c.close.ensures.version);
+      asks = asks_again c.in_ok-end_block.ensures.asks (asked_before c.in_ok-stats_offset.ensures.asks c.close.ensures.cause);
+    }
 
-pub returns-clause-version : goal.returns-clause-version
-returns-clause-version g c =
-    let end : IsEnded (changed_by g.T.BlockTransformer.encoded c.args.transformer.now) c.args.self.now c.end_block.new.self = c.in_ok-end_block.ensures.ended in
-    IfOk-weaker c.assemble.result _ _ (λ made is. is ∙ ap version_of end.format) c.assemble.ensures.version
+pub returns-in_err-end_block : goal.returns-in_err-end_block
+returns-in_err-end_block g c =
+    record {
+      finished = IfOk-from_err c.from_residual.result _ c.from_residual.ensures.0;
+      version = IfOk-from_err c.from_residual.result _ c.from_residual.ensures.0;
+      asks = failed_asks c.in_err-end_block.ensures.asks c.from_residual.ensures.1;
+    }
 
-pub returns-in_err-end_block-clause-finished : goal.returns-in_err-end_block-clause-finished
-returns-in_err-end_block-clause-finished g c = IfOk-from_err c.from_residual.result _ c.from_residual.ensures.0
-
-pub returns-in_err-end_block-clause-version : goal.returns-in_err-end_block-clause-version
-returns-in_err-end_block-clause-version g c = IfOk-from_err c.from_residual.result _ c.from_residual.ensures.0
-
-pub returns-clause-later : goal.returns-clause-later
-returns-clause-later g c = omega (arith, c.end_block.ensures.later, c.assemble.ensures.later)
-
-pub returns-in_err-end_block-clause-same_encoded : goal.returns-in_err-end_block-clause-same_encoded
-returns-in_err-end_block-clause-same_encoded g c = c.end_block.ensures.same_encoded
-
-pub returns-in_err-end_block-clause-same_decoded : goal.returns-in_err-end_block-clause-same_decoded
-returns-in_err-end_block-clause-same_decoded g c = c.end_block.ensures.same_decoded
-
-pub returns-in_err-end_block-clause-later : goal.returns-in_err-end_block-clause-later
-returns-in_err-end_block-clause-later g c = c.end_block.ensures.later
+pub returns-in_err-stats_offset : goal.returns-in_err-stats_offset
+returns-in_err-stats_offset g c =
+    record {
+      finished = IfOk-from_err c.from_residual-in_err-stats_offset.result _ c.from_residual-in_err-stats_offset.ensures.0;
+      version = IfOk-from_err c.from_residual-in_err-stats_offset.result _ c.from_residual-in_err-stats_offset.ensures.0;
+      asks = asks_again c.in_ok-end_block.ensures.asks (failed_asks c.in_err-stats_offset.ensures.asks c.from_residual-in_err-stats_offset.ensures.1);
+    }

@@ -1,86 +1,73 @@
-use Rattle.std.proofs.Common.{◌≡◌, ◌∙◌, refl, inl, inr}
+use Rattle.std.proofs.Common.{◌≡◌, ◌∙◌, arith, refl, inl, inr}
 use Rattle.slate_table.specs.Paths.{path_of}
 use Rattle.std.proofs.lemmas.Result.{IfOk-from_err, err_from_is_err_and}
-use Rattle.slate_table.proofs.Results.{on_err, store_fault, store_failed}
+use Rattle.slate_table.proofs.Results.{on_err, read_still, store_fault, store_failed}
 use Rattle.slate_table.proofs.table_store.TableStore.put_table.Goals as goal
 
-pub returns-in-Ok-clause-taken : goal.returns-in-Ok-clause-taken
-returns-in-Ok-clause-taken g c = λ os told.
-    let path : c.as_str.result.now ≡ path_of c.args.root.now c.args.id.0 = c.as_str.ensures.value ∙ c.in_ok-path.ensures.path in
-    rw (path, c.as_slice.ensures) at (c.in-Ok.ensures.taken os told)
+pub returns-in-Ok : goal.returns-in-Ok
+returns-in-Ok g c =
+    record {
+      id = refl;
+      info = c.in_ok-info.ensures.cases ∙ c.info.ensures;
+      version = c.version.ensures;
+      taken = (λ os told.
+          let path : c.as_str.result.now ≡ path_of c.args.root.now c.args.id.0 = c.as_str.ensures.value ∙ c.in_ok-path.ensures.path in
+          rw (path, c.as_slice.ensures) at (c.in-Ok.ensures.taken os told));
+      refused = λ os told. tt;
+      act = (let path : c.as_str.result.now ≡ path_of c.args.root.now c.args.id.0 = c.as_str.ensures.value ∙ c.in_ok-path.ensures.path in
+          rw (path, c.as_slice.ensures) at c.in-Ok.ensures.act);
+      refused_act = tt;
+      cause = tt;
+      later = c.put.ensures.later;
+      still = inr (read_still _ c.in-Ok.ensures.still);
+    }
 
-pub returns-in-Ok-clause-act : goal.returns-in-Ok-clause-act
-returns-in-Ok-clause-act g c =
-    let path : c.as_str.result.now ≡ path_of c.args.root.now c.args.id.0 = c.as_str.ensures.value ∙ c.in_ok-path.ensures.path in
-    rw (path, c.as_slice.ensures) at c.in-Ok.ensures.act
+pub returns : goal.returns
+returns g c =
+    record {
+      id = tt;
+      info = tt;
+      version = tt;
+      taken = λ os told. tt;
+      refused = (λ os told.
+          let path : c.as_str.result.now ≡ path_of c.args.root.now c.args.id.0 = c.as_str.ensures.value ∙ c.in_ok-path.ensures.path in
+          rw (path, c.as_slice.ensures) at (c.in-Err.ensures.refused os told));
+      act = tt;
+      refused_act = (let path : c.as_str.result.now ≡ path_of c.args.root.now c.args.id.0 = c.as_str.ensures.value ∙ c.in_ok-path.ensures.path in
+          rw (path, c.as_slice.ensures) at c.in-Err.ensures.refused_act);
+      cause = rw c.from.ensures (store_fault c.in-Err.error _ _ c.in-Err.ensures.cause);
+      later = c.put.ensures.later;
+      still = rw c.from.ensures (store_failed c.in-Err.error c.in-Err.ensures.still);
+    }
 
-pub returns-clause-refused : goal.returns-clause-refused
-returns-clause-refused g c = λ os told.
-    let path : c.as_str.result.now ≡ path_of c.args.root.now c.args.id.0 = c.as_str.ensures.value ∙ c.in_ok-path.ensures.path in
-    rw (path, c.as_slice.ensures) at (c.in-Err.ensures.refused os told)
+pub returns-in_err-path : goal.returns-in_err-path
+returns-in_err-path g c =
+    let p = err_from_is_err_and c.from_residual.result c.from_residual.ensures.1 in
+    record {
+      id = IfOk-from_err c.from_residual.result _ c.from_residual.ensures.0;
+      info = IfOk-from_err c.from_residual.result _ c.from_residual.ensures.0;
+      version = IfOk-from_err c.from_residual.result _ c.from_residual.ensures.0;
+      taken = λ os told. IfOk-from_err c.from_residual.result _ c.from_residual.ensures.0;
+      refused = λ os told. on_err c.from_residual.result (inl told);
+      act = IfOk-from_err c.from_residual.result _ c.from_residual.ensures.0;
+      refused_act = on_err c.from_residual.result (inl refl);
+      cause = rw (p.1, p.2) (inl c.in_err-path.ensures.cause);
+      later = omega arith;
+      still = inr refl;
+    }
 
-pub returns-clause-refused_act : goal.returns-clause-refused_act
-returns-clause-refused_act g c =
-    let path : c.as_str.result.now ≡ path_of c.args.root.now c.args.id.0 = c.as_str.ensures.value ∙ c.in_ok-path.ensures.path in
-    rw (path, c.as_slice.ensures) at c.in-Err.ensures.refused_act
-
-pub returns-in_err-path-clause-id : goal.returns-in_err-path-clause-id
-returns-in_err-path-clause-id g c = IfOk-from_err c.from_residual.result _ c.from_residual.ensures.0
-
-pub returns-in_err-path-clause-info : goal.returns-in_err-path-clause-info
-returns-in_err-path-clause-info g c = IfOk-from_err c.from_residual.result _ c.from_residual.ensures.0
-
-pub returns-in_err-path-clause-version : goal.returns-in_err-path-clause-version
-returns-in_err-path-clause-version g c = IfOk-from_err c.from_residual.result _ c.from_residual.ensures.0
-
-pub returns-in_err-path-clause-act : goal.returns-in_err-path-clause-act
-returns-in_err-path-clause-act g c = IfOk-from_err c.from_residual.result _ c.from_residual.ensures.0
-
-pub returns-in_err-path-clause-taken : goal.returns-in_err-path-clause-taken
-returns-in_err-path-clause-taken g c = λ os told. IfOk-from_err c.from_residual.result _ c.from_residual.ensures.0
-
-pub returns-in_err-info-clause-id : goal.returns-in_err-info-clause-id
-returns-in_err-info-clause-id g c = IfOk-from_err c.from_residual-in_err-info.result _ c.from_residual-in_err-info.ensures.0
-
-pub returns-in_err-info-clause-info : goal.returns-in_err-info-clause-info
-returns-in_err-info-clause-info g c = IfOk-from_err c.from_residual-in_err-info.result _ c.from_residual-in_err-info.ensures.0
-
-pub returns-in_err-info-clause-version : goal.returns-in_err-info-clause-version
-returns-in_err-info-clause-version g c = IfOk-from_err c.from_residual-in_err-info.result _ c.from_residual-in_err-info.ensures.0
-
-pub returns-in_err-info-clause-act : goal.returns-in_err-info-clause-act
-returns-in_err-info-clause-act g c = IfOk-from_err c.from_residual-in_err-info.result _ c.from_residual-in_err-info.ensures.0
-
-pub returns-in_err-info-clause-taken : goal.returns-in_err-info-clause-taken
-returns-in_err-info-clause-taken g c = λ os told. IfOk-from_err c.from_residual-in_err-info.result _ c.from_residual-in_err-info.ensures.0
-
-pub returns-in_err-path-clause-refused : goal.returns-in_err-path-clause-refused
-returns-in_err-path-clause-refused g c = λ os told. on_err c.from_residual.result (inl told)
-
-pub returns-in_err-path-clause-refused_act : goal.returns-in_err-path-clause-refused_act
-returns-in_err-path-clause-refused_act g c = on_err c.from_residual.result (inl refl)
-
-pub returns-in_err-path-clause-cause : goal.returns-in_err-path-clause-cause
-returns-in_err-path-clause-cause g c = let p = err_from_is_err_and c.from_residual.result c.from_residual.ensures.1 in rw (p.1, p.2) (inl c.in_err-path.ensures.cause)
-
-pub returns-in_err-path-clause-still : goal.returns-in_err-path-clause-still
-returns-in_err-path-clause-still g c = inr refl
-
-pub returns-in_err-info-clause-refused : goal.returns-in_err-info-clause-refused
-returns-in_err-info-clause-refused g c = λ os told. on_err c.from_residual-in_err-info.result (inl told)
-
-pub returns-in_err-info-clause-refused_act : goal.returns-in_err-info-clause-refused_act
-returns-in_err-info-clause-refused_act g c = on_err c.from_residual-in_err-info.result (inl refl)
-
-pub returns-in_err-info-clause-cause : goal.returns-in_err-info-clause-cause
-returns-in_err-info-clause-cause g c =
-    let p = err_from_is_err_and c.from_residual-in_err-info.result c.from_residual-in_err-info.ensures.1 in rw (p.1, p.2) (inl refl)
-
-pub returns-in_err-info-clause-still : goal.returns-in_err-info-clause-still
-returns-in_err-info-clause-still g c = inr refl
-
-pub returns-clause-cause : goal.returns-clause-cause
-returns-clause-cause g c = rw c.from.ensures (store_fault c.in-Err.error _ _ c.in-Err.ensures.cause)
-
-pub returns-clause-still : goal.returns-clause-still
-returns-clause-still g c = rw c.from.ensures (store_failed c.in-Err.error c.in-Err.ensures.still)
+pub returns-in_err-info : goal.returns-in_err-info
+returns-in_err-info g c =
+    let p = err_from_is_err_and c.from_residual-in_err-info.result c.from_residual-in_err-info.ensures.1 in
+    record {
+      id = IfOk-from_err c.from_residual-in_err-info.result _ c.from_residual-in_err-info.ensures.0;
+      info = IfOk-from_err c.from_residual-in_err-info.result _ c.from_residual-in_err-info.ensures.0;
+      version = IfOk-from_err c.from_residual-in_err-info.result _ c.from_residual-in_err-info.ensures.0;
+      taken = λ os told. IfOk-from_err c.from_residual-in_err-info.result _ c.from_residual-in_err-info.ensures.0;
+      refused = λ os told. on_err c.from_residual-in_err-info.result (inl told);
+      act = IfOk-from_err c.from_residual-in_err-info.result _ c.from_residual-in_err-info.ensures.0;
+      refused_act = on_err c.from_residual-in_err-info.result (inl refl);
+      cause = rw (p.1, p.2) (inl refl);
+      later = omega arith;
+      still = inr refl;
+    }

@@ -9,98 +9,55 @@ use Rattle.slate_table.specs.Reading.{block_answer, block_start, blocks_size, Ar
 use Rattle.slate_table.proofs.BlockReads.{row_read, row_refused}
 use Rattle.slate_table.proofs.table_store.TableStore.read_blocks.Goals as goal
 
-pub returns-clause-cause : goal.returns-clause-cause
-returns-clause-cause g c =
+pub returns : goal.returns
+returns g c =
     let end = c.args.table.now.info.filter_offset in
     let entries = entries_of c.args.index.now in
     let decoded = changed_by g.T.BlockTransformer.decoded c.args.transformer.now in
     let size = c.saturating_sub-size.ensures ∙ (λ i. c.block_start.ensures i - c.block_start-start.ensures i) in
-    IfErr-weaker c.each_block-found.result _ _
-    (λ e h. row_refused (g.S.Store.objects c.args.store.now) (g.S.Store.acts c.args.store.now) (g.S.Store.acts c.read.new.store) (path_of c.args.root.now c.args.table.now.id.0)
-    c.block_start-start.result c.saturating_sub-size.result (block_start end entries c.args.blocks.start) (blocks_size end entries c.args.blocks.start c.args.blocks.end)
-    (g.S.Store.faults c.args.store.now) (g.S.Store.faults c.read.new.store) c.in_ok-answer.answer
-    (λ (answer : Option (List ℕ)). FailsBlocks decoded (block_answer end entries c.args.blocks.start answer) c.args.blocks.start c.args.blocks.end
-    (faults_of g.T.BlockTransformer.faults c.args.transformer.now) (faults_of g.T.BlockTransformer.faults c.each_block-found.new.transformer) e)
-    (λ (answer : Option (List ℕ)). RefusesBlocks decoded (block_answer end entries c.args.blocks.start answer) c.args.blocks.start c.args.blocks.end e) e
-    c.block_start-start.ensures size c.in_ok-answer.ensures.read h)
-    c.each_block-found.ensures.cause
+    record {
+      found = (IfOk-weaker c.each_block-found.result _ _
+          (λ blocks found. row_read (g.S.Store.objects c.args.store.now) (g.S.Store.acts c.args.store.now) (g.S.Store.acts c.read.new.store) (path_of c.args.root.now c.args.table.now.id.0)
+          c.block_start-start.result c.saturating_sub-size.result (block_start end entries c.args.blocks.start) (blocks_size end entries c.args.blocks.start c.args.blocks.end) c.in_ok-answer.answer
+          (λ (answer : Option (List ℕ)). AreBlocksRead decoded (block_answer end entries c.args.blocks.start answer) c.args.blocks.start blocks.items)
+          c.block_start-start.ensures size c.in_ok-answer.ensures.read found)
+          c.each_block-found.ensures.found);
+      count = c.each_block-found.ensures.count;
+      cause = (IfErr-weaker c.each_block-found.result _ _
+          (λ e h. row_refused (g.S.Store.objects c.args.store.now) (g.S.Store.acts c.args.store.now) (g.S.Store.acts c.read.new.store) (path_of c.args.root.now c.args.table.now.id.0)
+          c.block_start-start.result c.saturating_sub-size.result (block_start end entries c.args.blocks.start) (blocks_size end entries c.args.blocks.start c.args.blocks.end)
+          (g.S.Store.faults c.args.store.now) (g.S.Store.faults c.read.new.store) c.in_ok-answer.answer
+          (λ (answer : Option (List ℕ)). FailsBlocks decoded (block_answer end entries c.args.blocks.start answer) c.args.blocks.start c.args.blocks.end
+          (faults_of g.T.BlockTransformer.faults c.args.transformer.now) (faults_of g.T.BlockTransformer.faults c.each_block-found.new.transformer) e)
+          (λ (answer : Option (List ℕ)). RefusesBlocks decoded (block_answer end entries c.args.blocks.start answer) c.args.blocks.start c.args.blocks.end e) e
+          c.block_start-start.ensures size c.in_ok-answer.ensures.read h)
+          c.each_block-found.ensures.cause);
+      once = (on_err c.each_block-found.result
+          (inr (row_read (g.S.Store.objects c.args.store.now) (g.S.Store.acts c.args.store.now) (g.S.Store.acts c.read.new.store) (path_of c.args.root.now c.args.table.now.id.0)
+          c.block_start-start.result c.saturating_sub-size.result (block_start end entries c.args.blocks.start) (blocks_size end entries c.args.blocks.start c.args.blocks.end) c.in_ok-answer.answer
+          (λ (answer : Option (List ℕ)). Unit {0}) c.block_start-start.ensures size c.in_ok-answer.ensures.read tt)));
+      objects = c.read.ensures.reaches.same_objects;
+      same_encoded = c.each_block-found.ensures.stays.same_encoded;
+      same_decoded = c.each_block-found.ensures.stays.same_decoded;
+      later = c.read.ensures.reaches.later;
+      still = inr (store_still c.in_ok-answer.answer c.in_ok-answer.ensures.reaches.still);
+      later_transformer = c.each_block-found.ensures.stays.later;
+      still_transformer = c.each_block-found.ensures.stays.still;
+    }
 
-pub returns-clause-once : goal.returns-clause-once
-returns-clause-once g c =
-    let end = c.args.table.now.info.filter_offset in
-    let entries = entries_of c.args.index.now in
-    let size = c.saturating_sub-size.ensures ∙ (λ i. c.block_start.ensures i - c.block_start-start.ensures i) in
-    on_err c.each_block-found.result
-    (inr (row_read (g.S.Store.objects c.args.store.now) (g.S.Store.acts c.args.store.now) (g.S.Store.acts c.read.new.store) (path_of c.args.root.now c.args.table.now.id.0)
-    c.block_start-start.result c.saturating_sub-size.result (block_start end entries c.args.blocks.start) (blocks_size end entries c.args.blocks.start c.args.blocks.end) c.in_ok-answer.answer
-    (λ (answer : Option (List ℕ)). Unit {0}) c.block_start-start.ensures size c.in_ok-answer.ensures.read tt))
-
-pub returns-clause-found : goal.returns-clause-found
-returns-clause-found g c =
-    let end = c.args.table.now.info.filter_offset in
-    let entries = entries_of c.args.index.now in
-    let decoded = changed_by g.T.BlockTransformer.decoded c.args.transformer.now in
-    let size = c.saturating_sub-size.ensures ∙ (λ i. c.block_start.ensures i - c.block_start-start.ensures i) in
-    IfOk-weaker c.each_block-found.result _ _
-    (λ blocks found. row_read (g.S.Store.objects c.args.store.now) (g.S.Store.acts c.args.store.now) (g.S.Store.acts c.read.new.store) (path_of c.args.root.now c.args.table.now.id.0)
-    c.block_start-start.result c.saturating_sub-size.result (block_start end entries c.args.blocks.start) (blocks_size end entries c.args.blocks.start c.args.blocks.end) c.in_ok-answer.answer
-    (λ (answer : Option (List ℕ)). AreBlocksRead decoded (block_answer end entries c.args.blocks.start answer) c.args.blocks.start blocks.items)
-    c.block_start-start.ensures size c.in_ok-answer.ensures.read found)
-    c.each_block-found.ensures.found
-
-pub returns-in_err-answer-clause-cause : goal.returns-in_err-answer-clause-cause
-returns-in_err-answer-clause-cause g c = let p = err_from_is_err_and c.from_residual.result c.from_residual.ensures.1 in rw (p.1, p.2) (inl c.in_err-answer.ensures.cause)
-
-pub returns-in_err-answer-clause-once : goal.returns-in_err-answer-clause-once
-returns-in_err-answer-clause-once g c = let p = err_from_is_err_and c.from_residual.result c.from_residual.ensures.1 in rw p.1 (inl c.in_err-answer.ensures.none)
-
-pub returns-in_err-answer-clause-still : goal.returns-in_err-answer-clause-still
-returns-in_err-answer-clause-still g c = let p = err_from_is_err_and c.from_residual.result c.from_residual.ensures.1 in rw (p.1, p.2) (store_err c.in_err-answer.field-0.0 c.in_err-answer.ensures.still)
-
-pub returns-clause-still : goal.returns-clause-still
-returns-clause-still g c = inr (store_still c.in_ok-answer.answer c.in_ok-answer.ensures.still)
-
-pub returns-clause-still_transformer : goal.returns-clause-still_transformer
-returns-clause-still_transformer g c = c.each_block-found.ensures.still
-
-pub returns-clause-later : goal.returns-clause-later
-returns-clause-later g c = c.read.ensures.later
-
-pub returns-clause-later_transformer : goal.returns-clause-later_transformer
-returns-clause-later_transformer g c = c.each_block-found.ensures.later
-
-pub returns-clause-objects : goal.returns-clause-objects
-returns-clause-objects g c = c.read.ensures.objects
-
-pub returns-clause-count : goal.returns-clause-count
-returns-clause-count g c = c.each_block-found.ensures.count
-
-pub returns-in_err-answer-clause-found : goal.returns-in_err-answer-clause-found
-returns-in_err-answer-clause-found g c = IfOk-from_err c.from_residual.result _ c.from_residual.ensures.0
-
-pub returns-in_err-answer-clause-count : goal.returns-in_err-answer-clause-count
-returns-in_err-answer-clause-count g c = IfOk-from_err c.from_residual.result _ c.from_residual.ensures.0
-
-pub returns-clause-same_encoded : goal.returns-clause-same_encoded
-returns-clause-same_encoded g c = c.each_block-found.ensures.same_encoded
-
-pub returns-clause-same_decoded : goal.returns-clause-same_decoded
-returns-clause-same_decoded g c = c.each_block-found.ensures.same_decoded
-
-pub returns-in_err-answer-clause-later : goal.returns-in_err-answer-clause-later
-returns-in_err-answer-clause-later g c = c.read.ensures.later
-
-pub returns-in_err-answer-clause-objects : goal.returns-in_err-answer-clause-objects
-returns-in_err-answer-clause-objects g c = c.read.ensures.objects
-
-pub returns-in_err-answer-clause-later_transformer : goal.returns-in_err-answer-clause-later_transformer
-returns-in_err-answer-clause-later_transformer g c = omega arith
-
-pub returns-in_err-answer-clause-same_encoded : goal.returns-in_err-answer-clause-same_encoded
-returns-in_err-answer-clause-same_encoded g c = refl
-
-pub returns-in_err-answer-clause-same_decoded : goal.returns-in_err-answer-clause-same_decoded
-returns-in_err-answer-clause-same_decoded g c = refl
-
-pub returns-in_err-answer-clause-still_transformer : goal.returns-in_err-answer-clause-still_transformer
-returns-in_err-answer-clause-still_transformer g c = inr (inr refl)
+pub returns-in_err-answer : goal.returns-in_err-answer
+returns-in_err-answer g c =
+    let p = err_from_is_err_and c.from_residual.result c.from_residual.ensures.1 in
+    record {
+      found = IfOk-from_err c.from_residual.result _ c.from_residual.ensures.0;
+      count = IfOk-from_err c.from_residual.result _ c.from_residual.ensures.0;
+      cause = rw (p.1, p.2) (inl c.in_err-answer.ensures.cause);
+      once = rw p.1 (inl c.in_err-answer.ensures.none);
+      objects = c.read.ensures.reaches.same_objects;
+      same_encoded = refl;
+      same_decoded = refl;
+      later = c.read.ensures.reaches.later;
+      still = rw (p.1, p.2) (store_err c.in_err-answer.field-0.0 c.in_err-answer.ensures.reaches.still);
+      later_transformer = omega arith;
+      still_transformer = inr (inr refl);
+    }

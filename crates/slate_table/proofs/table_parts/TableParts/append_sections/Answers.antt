@@ -1,0 +1,66 @@
+use Rattle.std.proofs.Common.{◌≡◌, ◌∙◌, ◌++◌, ap, arith, length, refl, rules}
+use Rattle.std.proofs.lemmas.Result.{IfOk-from_err}
+use Rattle.slate_types.specs.declared.error.SlateDBError.TheVariants.{OutOfMemory}
+use Rattle.slate_table.specs.Parts.{section, index_bytes}
+use Rattle.slate_table.specs.SectionReading.{changed_by}
+use Rattle.slate_table.specs.TableEnd.{counted_bytes, parts_index, parts_stats}
+use Rattle.slate_table.proofs.Asking.{unasked, asked_before, memory_exit, failed_asks, asks_again, asks_of}
+use Rattle.slate_table.proofs.table_parts.TableParts.append_sections.Goals as goal
+
+pub returns : goal.returns
+returns g c =
+    record {
+      sealed = (let encode = changed_by g.T.BlockTransformer.encoded c.args.transformer.now in
+          let p = c.args.self.now in
+          let index : c.in_ok-index.index ≡ parts_index p = c.in_ok-index.ensures.bytes ∙ (λ i. index_bytes (c.deref.ensures.value i) (c.deref-2.ensures.value i)) in
+          let first = c.in_ok-seal_section.ensures.appended ∙ (λ i. p.bytes.items ++ section encode (index i)) in
+          let stats : c.in_ok-stats.stats ≡ parts_stats p = c.in_ok-stats.ensures.bytes
+          ∙ (λ i. counted_bytes (c.deref-3.ensures.value i) p.raw_key_size p.raw_val_size (c.replace-block_stats.ensures.value i).items) in
+          let size : c.len-stats_offset.result ≡ length c.seal_section.new.out.items = search rules in
+          record {
+            place = size ∙ ap length first;
+            bytes = c.in_ok-seal_section-2.ensures.appended ∙ (λ i. first i ++ section (c.seal_section.ensures.same_encoded i) (stats i));
+            rows = refl;
+            format = refl;
+            keys = omega arith;
+            values = omega arith;
+          });
+      asks = (let call = c.seal_section.ensures in
+          let again = c.seal_section-2.ensures in
+          asks_again (asks_of call.same_encoded call.same_decoded call.later c.in_ok-seal_section.ensures.still tt)
+          (asked_before (asks_of again.same_encoded again.same_decoded again.later c.in_ok-seal_section-2.ensures.still tt) tt));
+    }
+
+pub returns-in_err-index : goal.returns-in_err-index
+returns-in_err-index g c =
+    record {
+      sealed = IfOk-from_err c.from_residual.result _ c.from_residual.ensures.0;
+      asks = unasked (memory_exit c.from_residual.result _ c.from_residual.ensures.1 OutOfMemory c.in_err-index.ensures.cause);
+    }
+
+pub returns-in_err-seal_section : goal.returns-in_err-seal_section
+returns-in_err-seal_section g c =
+    record {
+      sealed = IfOk-from_err c.from_residual-in_err-seal_section.result _ c.from_residual-in_err-seal_section.ensures.0;
+      asks = (let call = c.seal_section.ensures in
+          failed_asks (asks_of call.same_encoded call.same_decoded call.later c.in_err-seal_section.ensures.still c.in_err-seal_section.ensures.cause) c.from_residual-in_err-seal_section.ensures.1);
+    }
+
+pub returns-in_err-stats : goal.returns-in_err-stats
+returns-in_err-stats g c =
+    record {
+      sealed = IfOk-from_err c.from_residual-in_err-stats.result _ c.from_residual-in_err-stats.ensures.0;
+      asks = (let call = c.seal_section.ensures in
+          asked_before (asks_of call.same_encoded call.same_decoded call.later c.in_ok-seal_section.ensures.still tt)
+          (memory_exit c.from_residual-in_err-stats.result _ c.from_residual-in_err-stats.ensures.1 OutOfMemory c.in_err-stats.ensures.cause));
+    }
+
+pub returns-in_err-seal_section-2 : goal.returns-in_err-seal_section-2
+returns-in_err-seal_section-2 g c =
+    record {
+      sealed = IfOk-from_err c.from_residual-in_err-seal_section-2.result _ c.from_residual-in_err-seal_section-2.ensures.0;
+      asks = (let call = c.seal_section.ensures in
+          let again = c.seal_section-2.ensures in
+          asks_again (asks_of call.same_encoded call.same_decoded call.later c.in_ok-seal_section.ensures.still tt)
+          (failed_asks (asks_of again.same_encoded again.same_decoded again.later c.in_err-seal_section-2.ensures.still c.in_err-seal_section-2.ensures.cause) c.from_residual-in_err-seal_section-2.ensures.1));
+    }
