@@ -118,19 +118,22 @@ fn answers_in_a_folder(rt: &HostRuntime) -> bool {
     let Some(mut store) = FileStore::new(alloc, rt, FOLDER).ok() else {
         return false;
     };
-    has(alloc, &mut store, 0)
+    let has_answered = has(alloc, &mut store, 0)
         && is_free(rt, FOLDER)
         && answers_well(alloc, &mut store)
         && are_refused(alloc, &mut store, NO_PATHS)
-        && has(alloc, &mut store, 4)
+        && has(alloc, &mut store, 4);
+    drop(store);
+    has_answered
 }
 
 // Whether a folder is none that is a file.
 fn is_no_folder(rt: &HostRuntime) -> bool {
-    match FileStore::new(rt.alloc(), rt, "stores-objects/a").ok() {
-        Some(mut store) => are_refused(rt.alloc(), &mut store, &["x"]),
-        None => false,
-    }
+    let store = FileStore::new(rt.alloc(), rt, "stores-objects/a").ok();
+    let Some(mut store) = store else { return false };
+    let is_refused = are_refused(rt.alloc(), &mut store, &["x"]);
+    drop(store);
+    is_refused
 }
 
 fn is_cleared(rt: &HostRuntime) -> bool {
