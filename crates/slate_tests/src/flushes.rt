@@ -60,7 +60,7 @@ fn stores_again(alloc: Global, store: &mut MemoryStore) -> bool {
         transformer: None,
     };
     let is_stored = is_flushed_again(alloc, &mut core, &mut env, &options);
-    drop(core);
+    core.close();
     is_stored
 }
 
