@@ -1,4 +1,5 @@
 // What a store over a folder answers.
+use bytes::Bytes;
 use slate_store::{FileStore, PathText, Store, StoreError};
 use std::alloc::Global;
 use std::fs;
@@ -40,15 +41,12 @@ fn are_put(alloc: Global, store: &mut Folder<'_>) -> bool {
 
 fn is_read(alloc: Global, store: &mut Folder<'_>, range: &Range<'_>) -> bool {
     let is_long = store.len(alloc, range.0) == Ok(range.4);
-    match store.read_range(alloc, range.0, range.1, range.2) {
-        Ok(Some(bytes)) => {
-            let is_same = range.3 == Some(bytes.as_slice());
-            drop(bytes);
-            is_same && is_long
-        }
-        Ok(None) => range.3.is_none() && is_long,
-        Err(_) => false,
-    }
+    let Some(found) = store.read_range(alloc, range.0, range.1, range.2).ok() else {
+        return false;
+    };
+    let is_same = found.as_ref().map(Bytes::as_slice) == range.3;
+    drop(found);
+    is_same && is_long
 }
 
 // How many ranges are read as they should be, up to the first that isn't.
@@ -63,16 +61,17 @@ fn well_read(alloc: Global, store: &mut Folder<'_>) -> usize {
     count
 }
 
+const LISTED: &[&str] = &["a", "b-z", "b/one", "b/two"];
+
 fn are_all(paths: &[PathText]) -> bool {
-    match paths {
-        [a, b_z, b_one, b_two] => {
-            a.as_str() == "a"
-                && b_z.as_str() == "b-z"
-                && b_one.as_str() == "b/one"
-                && b_two.as_str() == "b/two"
+    let mut paths = paths.iter();
+    for listed in LISTED {
+        match paths.next() {
+            Some(path) if path.as_str() == *listed => {}
+            _ => return false,
         }
-        _ => false,
     }
+    paths.next().is_none()
 }
 
 // Whether all ranges are well read, and all objects listed.

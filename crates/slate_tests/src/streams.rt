@@ -29,10 +29,8 @@ fn add_line(
 ) -> Option<bool> {
     match lines.next(source).ok() {
         Some(Some(line)) => {
-            if bytes.extend_from_slice(&line).is_err() || bytes.push(b'|').ok().is_none() {
-                return None;
-            }
-            Some(true)
+            let added = bytes.extend_from_slice(&line).ok();
+            added.and(bytes.push(b'|').ok()).and(Some(true))
         }
         Some(None) => Some(false),
         None => None,
