@@ -4,6 +4,7 @@ ghost use Rattle.slate_block.specs.Building.{CanTake};
 
 use crate::report::{Report, name_of};
 use crate::sums::Sums;
+use anyhow::Error;
 use bytes::Bytes;
 use slate_block::{Block, BlockBuilder};
 use slate_types::{RowEntry, SlateDBError};
@@ -20,36 +21,24 @@ const MAX_KEY_LEN: usize = 65535;
 const MAX_VALUE_LEN: usize = 4_294_967_295;
 
 /// Encodes the rows into blocks and decodes these, and reports both. `version` is 1 or 2.
-pub fn measure(report: &Report, rows: &[RowEntry], version: u16) -> Result<(), SlateDBError> {
-    let blocks = measure_encoding(report, rows, version)?;
-    measure_decoding(report, &blocks, version)
-}
-
-fn measure_encoding(
-    report: &Report,
-    rows: &[RowEntry],
-    version: u16,
-) -> Result<Vec<Bytes>, SlateDBError> {
+pub fn measure(report: &Report, rows: &[RowEntry], version: u16) -> Result<(), Error> {
     let start = report.start()?;
     let blocks = encode_blocks(report.alloc(), rows, version)?;
     let done = counts(report.alloc(), rows.len(), &blocks);
     report.finish(name_of(version, "encode v1", "encode v2"), done, start)?;
-    Ok(blocks)
-}
-
-fn measure_decoding(report: &Report, blocks: &[Bytes], version: u16) -> Result<(), SlateDBError> {
     let start = report.start()?;
-    let done = decode_blocks(report.alloc(), blocks, version);
+    let done = decode_blocks(report.alloc(), &blocks, version);
     report.finish(name_of(version, "decode v1", "decode v2"), done, start)
 }
 
 /// What is said of blocks that hold so many rows.
 fn counts(alloc: Global, rows: usize, blocks: &[Bytes]) -> Result<String, SlateDBError> {
-    Ok(format!(in alloc;
+    format!(in alloc;
         "{rows} rows, {} blocks, {} bytes",
         blocks.len(),
         bytes_in(blocks)
-    )?)
+    )
+    .map_err(SlateDBError::from)
 }
 
 fn new_builder(alloc: Global, version: u16) -> Result<BlockBuilder, SlateDBError> {
@@ -88,8 +77,7 @@ fn add_in_turn(
     }
     let full = mem::replace(builder, new_builder(alloc, version)?);
     blocks.push(encode(alloc, full)?)?;
-    add(builder, row)?;
-    Ok(())
+    add(builder, row).map(drop)
 }
 
 /// Adds a row, or answers false where it doesn't fit. Refuses as `check_lengths` does, or by `OutOfMemory`.

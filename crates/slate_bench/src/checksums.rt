@@ -1,8 +1,9 @@
 //! The checksum of many bytes.
 use crate::report::Report;
+use anyhow::Error;
 use slate_table::checksum;
 use slate_types::SlateDBError;
-use std::alloc::Global;
+use std::alloc::{AllocError, Global};
 
 /// How many bytes are summed at first.
 const BYTES: u32 = 4_194_304;
@@ -11,7 +12,7 @@ const BYTES: u32 = 4_194_304;
 const TIMES: u32 = 64;
 
 /// Bytes of all values.
-fn make_bytes(alloc: Global) -> Result<Vec<u8>, SlateDBError> {
+fn make_bytes(alloc: Global) -> Result<Vec<u8>, AllocError> {
     let mut bytes = Vec::with_capacity(alloc, BYTES as usize)?;
     for number in 0..BYTES {
         bytes.push((number % 251) as u8)?;
@@ -20,7 +21,7 @@ fn make_bytes(alloc: Global) -> Result<Vec<u8>, SlateDBError> {
 }
 
 /// Sums the bytes again and again. Reports it.
-pub fn measure(report: &Report) -> Result<(), SlateDBError> {
+pub fn measure(report: &Report) -> Result<(), Error> {
     let mut bytes = make_bytes(report.alloc())?;
     let start = report.start()?;
     let done = sum(report.alloc(), &mut bytes);
@@ -36,5 +37,5 @@ fn sum(alloc: Global, bytes: &mut Vec<u8>) -> Result<String, SlateDBError> {
         sums = sums.saturating_add(u64::from(checksum(bytes)));
         len = len.saturating_add(bytes.len() as u64);
     }
-    Ok(format!(in alloc; "{len} bytes, sums {sums}")?)
+    format!(in alloc; "{len} bytes, sums {sums}").map_err(SlateDBError::from)
 }

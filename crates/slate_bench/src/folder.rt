@@ -1,9 +1,11 @@
 //! Tables that are put into a folder again and again, while something else reads it.
 use crate::tables;
-use slate_store::{FileStore, Store};
+use slate_store::FileStore;
 use slate_table::{EncodedSsTable, TableStore};
 use slate_types::{RowEntry, SlateDBError, Ulid};
 use std::alloc::Global;
+
+type Folder<'a> = FileStore<&'a HostRuntime>;
 
 /// How often each of two tables is put.
 const TIMES: u32 = 200;
@@ -13,32 +15,28 @@ pub fn write(rt: &HostRuntime, folder: &str, rows: &[RowEntry]) -> Result<(), Sl
     let mut store = FileStore::new(rt.alloc(), rt, folder)?;
     let put = put_both(rt.alloc(), &mut store, rows);
     drop(store);
-    Ok(put?)
+    put
 }
 
-fn put_both<S: Store>(alloc: Global, store: &mut S, rows: &[RowEntry]) -> Result<(), SlateDBError> {
+/// Puts a short table and a long one of the rows.
+fn put_both(alloc: Global, store: &mut Folder<'_>, rows: &[RowEntry]) -> Result<(), SlateDBError> {
     let short = tables::build(alloc, &rows[..rows.len().min(100)], 2)?;
-    let put = put_beside(alloc, store, &short, rows);
-    drop(short);
-    put
+    match tables::build(alloc, &rows[..rows.len().min(10_000)], 1) {
+        Ok(long) => {
+            let put = put_in_turn(alloc, store, &short, &long);
+            drop((short, long));
+            put
+        }
+        Err(error) => {
+            drop(short);
+            Err(error)
+        }
+    }
 }
 
-/// Puts the short table and a long one of the rows.
-fn put_beside<S: Store>(
+fn put_in_turn(
     alloc: Global,
-    store: &mut S,
-    short: &EncodedSsTable,
-    rows: &[RowEntry],
-) -> Result<(), SlateDBError> {
-    let long = tables::build(alloc, &rows[..rows.len().min(10_000)], 1)?;
-    let put = put_in_turn(alloc, store, short, &long);
-    drop(long);
-    put
-}
-
-fn put_in_turn<S: Store>(
-    alloc: Global,
-    store: &mut S,
+    store: &mut Folder<'_>,
     short: &EncodedSsTable,
     long: &EncodedSsTable,
 ) -> Result<(), SlateDBError> {
@@ -51,12 +49,11 @@ fn put_in_turn<S: Store>(
     Ok(())
 }
 
-fn put<S: Store>(
+fn put(
     alloc: Global,
-    store: &mut S,
+    store: &mut Folder<'_>,
     id: Ulid,
     table: &EncodedSsTable,
 ) -> Result<(), SlateDBError> {
-    drop(TableStore::put_table(alloc, store, tables::ROOT, id, table)?);
-    Ok(())
+    TableStore::put_table(alloc, store, tables::ROOT, id, table).map(drop)
 }

@@ -1,4 +1,5 @@
 //! What is printed.
+use anyhow::Error;
 use slate_types::SlateDBError;
 use std::alloc::Global;
 use std::io;
@@ -21,8 +22,8 @@ impl<'a> Report<'a> {
     }
 
     /// When the work starts. Any error of the clock.
-    pub fn start(&self) -> Result<Instant, SlateDBError> {
-        Instant::now(self.rt).map_err(fault)
+    pub fn start(&self) -> io::Result<Instant> {
+        Instant::now(self.rt)
     }
 
     /// Prints what was done under the name, and the nanoseconds since the start. The error of what was not done, and any
@@ -32,25 +33,22 @@ impl<'a> Report<'a> {
         name: &str,
         done: Result<String, SlateDBError>,
         start: Instant,
-    ) -> Result<(), SlateDBError> {
+    ) -> Result<(), Error> {
         let done = done?;
-        let elapsed = start.elapsed(self.rt).map_err(fault)?;
-        println!(self.rt; "{name}: {done}").map_err(fault)?;
+        let printed = self.print(name, &done, start);
+        drop(done);
+        printed.map_err(Error::from)
+    }
+
+    fn print(&self, name: &str, done: &str, start: Instant) -> io::Result<()> {
+        let nanos = start.elapsed(self.rt)?.as_nanos();
+        println!(self.rt; "{name}: {done}")?;
         if self.is_timed {
-            self.finish_timed(name, elapsed.as_nanos())
+            println!(self.rt; "{name} took {nanos} ns")
         } else {
             Ok(())
         }
     }
-
-    fn finish_timed(&self, name: &str, nanos: u128) -> Result<(), SlateDBError> {
-        println!(self.rt; "{name} took {nanos} ns").map_err(fault)
-    }
-}
-
-/// What an error of the program's words, of the clock and of standard output becomes.
-pub fn fault(_error: io::Error) -> SlateDBError {
-    SlateDBError::WriteFault
 }
 
 /// The name of the work on the version, which is 1 or 2.

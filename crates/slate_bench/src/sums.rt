@@ -1,5 +1,5 @@
 //! Sums over the rows that were read.
-use slate_block::{BlockLike, DataBlockIterator};
+use slate_block::{Block, DataBlockIterator};
 use slate_types::{IterationOrder, RowEntry, SlateDBError};
 use std::alloc::Global;
 
@@ -23,10 +23,10 @@ impl Sums {
     }
 
     /// Counts the rows of a block. `version` is 1 or 2.
-    pub fn take_block<B: BlockLike>(
+    pub fn take_block(
         &mut self,
         alloc: Global,
-        block: B,
+        block: Block,
         version: u16,
     ) -> Result<(), SlateDBError> {
         let mut rows = DataBlockIterator::new(alloc, block, version, IterationOrder::Ascending)?;
@@ -34,10 +34,10 @@ impl Sums {
     }
 
     /// Counts the rows that are left of a block.
-    fn take_all<B: BlockLike>(
+    fn take_all(
         &mut self,
         alloc: Global,
-        rows: &mut DataBlockIterator<B>,
+        rows: &mut DataBlockIterator<Block>,
     ) -> Result<(), SlateDBError> {
         for _ in 0..u64::MAX {
             match rows.next_row(alloc)? {
@@ -50,9 +50,10 @@ impl Sums {
 
     /// As it is printed.
     pub fn text(&self, alloc: Global) -> Result<String, SlateDBError> {
-        Ok(format!(in alloc;
+        format!(in alloc;
             "{} rows, {} key bytes, {} value bytes, sequences {}",
             self.rows, self.key_bytes, self.value_bytes, self.seqs
-        )?)
+        )
+        .map_err(SlateDBError::from)
     }
 }

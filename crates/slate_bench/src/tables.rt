@@ -4,9 +4,10 @@ ghost use Rattle.std.specs.Prelude.{◌≡◌, ◌≤◌, ◌+◌, true, length,
 use crate::blocks;
 use crate::report::{Report, name_of};
 use crate::sums::Sums;
+use anyhow::Error;
 use bytes::Bytes;
 use slate_block::Block;
-use slate_store::{MemoryStore, Store};
+use slate_store::MemoryStore;
 use slate_table::{
     EncodedSsTable, EncodedSsTableBuilder, SsTableFormat, SsTableHandle, SstIndex, TableStore,
 };
@@ -38,38 +39,28 @@ impl BlockTransformer for Plain {
 }
 
 /// Builds the table of the rows, stores it and reads all of it, and reports both. `version` is 1 or 2.
-pub fn measure(report: &Report, rows: &[RowEntry], version: u16) -> Result<(), SlateDBError> {
+pub fn measure(report: &Report, rows: &[RowEntry], version: u16) -> Result<(), Error> {
     let start = report.start()?;
     let table = build(report.alloc(), rows, version)?;
-    let measured = measure_storing(report, &table, rows.len(), version, start);
-    // The table stands until it was read, beside its bytes in the store.
-    drop(table);
-    measured
-}
-
-fn measure_storing(
-    report: &Report,
-    table: &EncodedSsTable,
-    rows: usize,
-    version: u16,
-    start: Instant,
-) -> Result<(), SlateDBError> {
     let mut store = MemoryStore::new(report.alloc(), Vec::new(report.alloc()));
-    let measured = measure_in(report, &mut store, table, rows, version, start);
-    drop(store);
+    let measured = measure_in(report, &mut store, &table, rows.len(), version, start);
+    // The table stands until it was read, beside its bytes in the store.
+    drop((table, store));
     measured
 }
 
-fn measure_in<S: Store>(
+fn measure_in(
     report: &Report,
-    store: &mut S,
+    store: &mut MemoryStore,
     table: &EncodedSsTable,
     rows: usize,
     version: u16,
     start: Instant,
-) -> Result<(), SlateDBError> {
+) -> Result<(), Error> {
     let handle = TableStore::put_table(report.alloc(), store, ROOT, Ulid(1), table)?;
-    let measured = match report_table(report, table, rows, version, start) {
+    let done = counts(report.alloc(), rows, table);
+    let name = name_of(version, "build table v1", "build table v2");
+    let measured = match report.finish(name, done, start) {
         Ok(()) => measure_reading(report, store, &handle, version),
         Err(error) => Err(error),
     };
@@ -77,41 +68,24 @@ fn measure_in<S: Store>(
     measured
 }
 
-/// Reports what was built and stored.
-fn report_table(
-    report: &Report,
-    table: &EncodedSsTable,
-    rows: usize,
-    version: u16,
-    start: Instant,
-) -> Result<(), SlateDBError> {
-    let done = counts(report.alloc(), rows, table);
-    report.finish(
-        name_of(version, "build table v1", "build table v2"),
-        done,
-        start,
-    )
-}
-
 /// What is said of a table that holds so many rows.
 fn counts(alloc: Global, rows: usize, table: &EncodedSsTable) -> Result<String, SlateDBError> {
-    let len = table.remaining_as_bytes()?.len();
-    Ok(format!(in alloc; "{rows} rows, {len} bytes")?)
+    let bytes = table.remaining_as_bytes()?;
+    let len = bytes.len();
+    drop(bytes);
+    format!(in alloc; "{rows} rows, {len} bytes").map_err(SlateDBError::from)
 }
 
-fn measure_reading<S: Store>(
+fn measure_reading(
     report: &Report,
-    store: &mut S,
+    store: &mut MemoryStore,
     handle: &SsTableHandle,
     version: u16,
-) -> Result<(), SlateDBError> {
+) -> Result<(), Error> {
     let start = report.start()?;
     let done = read(report.alloc(), store, handle);
-    report.finish(
-        name_of(version, "read table v1", "read table v2"),
-        done,
-        start,
-    )
+    let name = name_of(version, "read table v1", "read table v2");
+    report.finish(name, done, start)
 }
 
 /// The table of the rows, in blocks of 4 KiB. `version` is 1 or 2. Refuses by `EmptyBlock` where there is no row, and as `add` does.
@@ -120,8 +94,11 @@ pub fn build(
     rows: &[RowEntry],
     version: u16,
 ) -> Result<EncodedSsTable, SlateDBError> {
+    if rows.is_empty() {
+        return Err(SlateDBError::EmptyBlock);
+    }
     let mut builder = EncodedSsTableBuilder::new(alloc, &format_of(version))?;
-    fill(alloc, &mut builder, rows)?;
+    add_all(alloc, &mut builder, rows)?;
     builder.build(alloc, &mut None::<Plain>)
 }
 
@@ -140,23 +117,6 @@ fn format_of(version: u16) -> SsTableFormat
     }
 }
 
-/// Adds the rows of a table. Refuses by `EmptyBlock` where there is none, and as `add` does.
-fn fill(
-    alloc: Global,
-    builder: &mut EncodedSsTableBuilder,
-    rows: &[RowEntry],
-) -> Result<(), SlateDBError>
-    requires { builder.old.is_whole ≡ true }
-    ensures whole { OnOk result (builder.new.is_whole ≡ true) }
-    ensures rows { OnOk result (1 ≤ length builder.new.rows) }
-{
-    let [first, later @ ..] = rows else {
-        return Err(SlateDBError::EmptyBlock);
-    };
-    add(alloc, builder, first)?;
-    add_all(alloc, builder, later)
-}
-
 /// Adds rows, one behind the other. Refuses as `add` does.
 fn add_all(
     alloc: Global,
@@ -165,7 +125,7 @@ fn add_all(
 ) -> Result<(), SlateDBError>
     requires { builder.old.is_whole ≡ true }
     ensures whole { OnOk result (builder.new.is_whole ≡ true) }
-    ensures rows { OnOk result (length builder.old.rows ≤ length builder.new.rows) }
+    ensures rows { OnOk result (length rows.now ≤ length builder.new.rows) }
 {
     for row in rows {
         add(alloc, builder, row)?;
@@ -190,14 +150,15 @@ fn add(
             next_seq: row.seq,
         });
     }
-    builder.add(alloc, row.clone()?, &mut None::<Plain>)?;
-    Ok(())
+    builder
+        .add(alloc, row.clone()?, &mut None::<Plain>)
+        .map(drop)
 }
 
 /// Reads the rows of a table, block by block, and says what was read.
-fn read<S: Store>(
+fn read(
     alloc: Global,
-    store: &mut S,
+    store: &mut MemoryStore,
     table: &SsTableHandle,
 ) -> Result<String, SlateDBError> {
     let index = TableStore::read_index(alloc, store, ROOT, table, &mut None::<Plain>)?;
@@ -207,9 +168,9 @@ fn read<S: Store>(
 }
 
 /// Reads the rows of a table that has the index, and says what was read.
-fn read_indexed<S: Store>(
+fn read_indexed(
     alloc: Global,
-    store: &mut S,
+    store: &mut MemoryStore,
     table: &SsTableHandle,
     index: &SstIndex,
 ) -> Result<String, SlateDBError> {

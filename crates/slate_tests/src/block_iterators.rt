@@ -1,5 +1,5 @@
 // Blocks of both versions, walked and sought in both orders.
-use crate::listing::{is_text, walked};
+use crate::listing::{Row, are_rows, walked};
 use bytes::Bytes;
 use slate_block::{Block, DataBlockIterator};
 use slate_types::IterationOrder;
@@ -20,56 +20,30 @@ type Case = (
     u16,
     IterationOrder,
     Option<&'static [u8]>,
-    &'static str,
+    &'static [Row],
 );
 
 const UP: IterationOrder = IterationOrder::Ascending;
 
 const DOWN: IterationOrder = IterationOrder::Descending;
 
+const A_2: Row = (b"a", 'v', b"x", 2, None, None);
+
+const A_1: Row = (b"a", 'v', b"y", 1, None, None);
+
+const B_3: Row = (b"b", 'v', b"z", 3, None, None);
+
+const ABC: Row = (b"abc", 'v', b"x", 1, None, None);
+
+const ABD: Row = (b"abd", 'v', b"y", 1, None, None);
+
 const CASES: &[Case] = &[
-    (
-        BLOCK_OF_V1,
-        1,
-        UP,
-        None,
-        "b\"a\" Value(b\"x\") 2 None None, b\"a\" Value(b\"y\") 1 None None, b\"b\" Value(b\"z\") 3 None None",
-    ),
-    (
-        BLOCK_OF_V1,
-        1,
-        DOWN,
-        None,
-        "b\"b\" Value(b\"z\") 3 None None, b\"a\" Value(b\"y\") 1 None None, b\"a\" Value(b\"x\") 2 None None",
-    ),
-    (
-        BLOCK_OF_V1,
-        1,
-        UP,
-        Some(b"b"),
-        "b\"b\" Value(b\"z\") 3 None None",
-    ),
-    (
-        BLOCK_OF_V1,
-        1,
-        DOWN,
-        Some(b"a"),
-        "b\"a\" Value(b\"y\") 1 None None, b\"a\" Value(b\"x\") 2 None None",
-    ),
-    (
-        BLOCK_OF_V2,
-        2,
-        UP,
-        None,
-        "b\"abc\" Value(b\"x\") 1 None None, b\"abd\" Value(b\"y\") 1 None None",
-    ),
-    (
-        BLOCK_OF_V2,
-        2,
-        DOWN,
-        Some(b"abd"),
-        "b\"abd\" Value(b\"y\") 1 None None, b\"abc\" Value(b\"x\") 1 None None",
-    ),
+    (BLOCK_OF_V1, 1, UP, None, &[A_2, A_1, B_3]),
+    (BLOCK_OF_V1, 1, DOWN, None, &[B_3, A_1, A_2]),
+    (BLOCK_OF_V1, 1, UP, Some(b"b"), &[B_3]),
+    (BLOCK_OF_V1, 1, DOWN, Some(b"a"), &[A_1, A_2]),
+    (BLOCK_OF_V2, 2, UP, None, &[ABC, ABD]),
+    (BLOCK_OF_V2, 2, DOWN, Some(b"abd"), &[ABD, ABC]),
 ];
 
 fn is_walked(alloc: Global, case: &Case) -> bool {
@@ -77,9 +51,9 @@ fn is_walked(alloc: Global, case: &Case) -> bool {
         return false;
     };
     let rows = DataBlockIterator::new(alloc, &block, case.1, case.2);
-    let text = walked(alloc, rows, case.3);
+    let rows = walked(alloc, rows, case.3);
     drop(block);
-    is_text(text, case.4)
+    are_rows(alloc, rows, case.4)
 }
 
 fn are_walked(alloc: Global) -> bool {

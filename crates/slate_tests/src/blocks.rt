@@ -25,26 +25,28 @@ const BLOCK_OF_V2: &[u8] =
 fn is_row_of_v1(alloc: Global, bytes: &'static [u8], first: &[u8], key: &[u8]) -> bool {
     let mut input = Bytes::from_static(bytes);
     let row = SstRowCodecV0::decode(&mut input).ok();
-    let is_all = is_bytes(Some(input), b"");
+    let is_all = input.is_empty();
+    drop(input);
     let Some(row) = row else { return false };
     let mut out = Vec::new(alloc);
     let written = SstRowCodecV0::encode(&mut out, &row).ok();
-    let is_key = is_bytes(row.restore_full_key(alloc, first).ok(), key);
+    let found = row.restore_full_key(alloc, first).ok();
     drop(row);
-    is_all && is_key && written.is_some() && out.as_slice() == bytes
+    is_bytes(found, key) && is_all && written.is_some() && out.as_slice() == bytes
 }
 
 // The same in version 2, where the key lies behind that of the row before.
 fn is_row_of_v2(alloc: Global, bytes: &'static [u8], previous: &[u8], key: &[u8]) -> bool {
     let mut input = Bytes::from_static(bytes);
     let row = SstRowCodecV2::decode(&mut input).ok();
-    let is_all = is_bytes(Some(input), b"");
+    let is_all = input.is_empty();
+    drop(input);
     let Some(row) = row else { return false };
     let mut out = Vec::new(alloc);
     let written = SstRowCodecV2::encode(&mut out, &row).ok();
-    let is_key = is_bytes(row.restore_full_key(alloc, previous).ok(), key);
+    let found = row.restore_full_key(alloc, previous).ok();
     drop(row);
-    is_all && is_key && written.is_some() && out.as_slice() == bytes
+    is_bytes(found, key) && is_all && written.is_some() && out.as_slice() == bytes
 }
 
 // Whether the row shares so much of a key, and has this suffix.

@@ -1,6 +1,7 @@
 // A flush whose store fails, and one more.
 ghost use Rattle.slate_types.specs.Config.{IsValid};
 
+use crate::listing::one;
 use slate_db::engine::Core;
 use slate_mem::WriteBatch;
 use slate_store::{Env, MemoryStore, Store};
@@ -14,15 +15,13 @@ const FIRST: &str = "db/compacted/00000000000000010000000000000000.sst";
 
 type Parts<'a> = Env<'a, MemoryStore, NoOperator, Xor>;
 
-// A core that has one commit, and a transaction that began behind it.
-fn one_put(alloc: Global, core: &mut Core) -> Option<Uuid> {
+// The transaction that begins behind a core's one commit, and its start.
+fn one_put(alloc: Global, core: &mut Core) -> Option<(Uuid, u64)> {
     let mut batch = WriteBatch::new(alloc);
     let put = batch.put(b"a", b"1").ok();
     let written = core.write(batch, 0).ok();
-    match core.begin(IsolationLevel::Snapshot).ok() {
-        Some((id, _start)) if put.is_some() && written.is_some() => Some(id),
-        _ => None,
-    }
+    let begun = core.begin(IsolationLevel::Snapshot).ok();
+    put.and(written).and(begun)
 }
 
 // Whether something is there, and no error.
@@ -39,7 +38,7 @@ fn finds(core: &mut Core, env: &mut Parts<'_>, id: &Uuid) -> bool {
 fn is_flushed_again(alloc: Global, core: &mut Core, env: &mut Parts<'_>, options: &Options) -> bool
     requires { IsValid options.now }
 {
-    let Some(id) = one_put(alloc, core) else {
+    let Some((id, _start)) = one_put(alloc, core) else {
         return false;
     };
     let flushed = core.flush(env, options);
@@ -61,7 +60,7 @@ fn stores_again(alloc: Global, store: &mut MemoryStore) -> bool {
         transformer: None,
     };
     let is_stored = is_flushed_again(alloc, &mut core, &mut env, &options);
-    drop(core);
+    core.close();
     is_stored
 }
 
@@ -75,10 +74,7 @@ fn has_one_table(alloc: Global, store: &mut MemoryStore) -> bool {
 
 // Whether this is so of a store whose first call fails.
 fn is_one_table_stored(alloc: Global) -> bool {
-    let Some(failing) = vec![in alloc; 1].ok() else {
-        return false;
-    };
-    let mut store = MemoryStore::new(alloc, failing);
+    let mut store = MemoryStore::new(alloc, one(alloc, 1));
     let is_stored = stores_again(alloc, &mut store) && has_one_table(alloc, &mut store);
     drop(store);
     is_stored

@@ -1,14 +1,46 @@
-// Rows as text, and answers beside what is expected.
+// Lists of few items, rows of a walk, and answers beside what is expected.
 use bytes::Bytes;
-use slate_types::{RowEntry, RowEntryIterator, SlateDBError, collect_rows};
-use std::alloc::{AllocError, Global};
+use slate_types::{RowEntry, RowEntryIterator, SlateDBError, ValueDeletable, collect_rows};
+use std::alloc::Global;
 
-/// The rows that are left of a walk, as text, behind a seek where there is a key.
+/// A row: its key, what it is, its bytes, its sequence, its creation and its expiry.
+pub type Row = (
+    &'static [u8],
+    char,
+    &'static [u8],
+    u64,
+    Option<i64>,
+    Option<i64>,
+);
+
+/// What it is: a value, a merge, or else a deletion.
+pub fn row(row: &Row) -> RowEntry {
+    RowEntry {
+        key: Bytes::from_static(row.0),
+        value: match row.1 {
+            'v' => ValueDeletable::Value(Bytes::from_static(row.2)),
+            'm' => ValueDeletable::Merge(Bytes::from_static(row.2)),
+            _ => ValueDeletable::Tombstone,
+        },
+        seq: row.3,
+        create_ts: row.4,
+        expire_ts: row.5,
+    }
+}
+
+/// A list of one item. It is empty where memory is wanting, which its test then sees.
+pub fn one<T: Drop>(alloc: Global, item: T) -> Vec<T> {
+    let mut items = Vec::new(alloc);
+    drop(items.push(item));
+    items
+}
+
+/// The rows that are left of a walk, behind a seek where there is a key.
 pub fn walked<I: RowEntryIterator<()>>(
     alloc: Global,
     rows: Result<I, SlateDBError>,
     key: Option<&[u8]>,
-) -> Option<String> {
+) -> Option<Vec<RowEntry>> {
     let Some(mut rows) = rows.ok() else {
         return None;
     };
@@ -18,29 +50,21 @@ pub fn walked<I: RowEntryIterator<()>>(
         None => ready,
     };
     let rows = collect_rows(alloc, &mut rows, &mut ()).ok();
-    match ready.and(sought).and(rows) {
-        Some(rows) => listed(alloc, rows.as_slice()),
-        None => None,
-    }
+    ready.and(sought).and(rows)
 }
 
-/// Of each row its key, value, sequence, creation and expiry.
-pub fn listed(alloc: Global, rows: &[RowEntry]) -> Option<String> {
-    let mut words = Vec::new(alloc);
-    for row in rows {
-        if add(alloc, &mut words, row).is_err() {
-            return None;
-        }
-    }
-    words.join(alloc, ", ").ok()
+/// Whether both are answered, and the same.
+pub fn are_same_rows(answer: Option<Vec<RowEntry>>, other: Option<Vec<RowEntry>>) -> bool {
+    answer.is_some() && answer == other
 }
 
-fn add(alloc: Global, words: &mut Vec<String>, row: &RowEntry) -> Result<(), AllocError> {
-    let text = format!(in alloc;
-        "{:?} {:?} {} {:?} {:?}",
-        row.key, row.value, row.seq, row.create_ts, row.expire_ts
-    )?;
-    Ok(words.push(text)?)
+/// Whether just these rows are answered.
+pub fn are_rows(alloc: Global, answer: Option<Vec<RowEntry>>, expected: &[Row]) -> bool {
+    let mut rows = Vec::new(alloc);
+    for expected in expected {
+        drop(rows.push(row(expected)));
+    }
+    are_same_rows(answer, Some(rows))
 }
 
 /// Whether these bytes are answered.
@@ -49,12 +73,4 @@ pub fn is_bytes(answer: Option<Bytes>, expected: &[u8]) -> bool {
     let is_same = bytes.as_slice() == expected;
     drop(bytes);
     is_same
-}
-
-/// Whether this text is answered.
-pub fn is_text(answer: Option<String>, expected: &str) -> bool {
-    match answer {
-        Some(text) => text.as_str() == expected,
-        None => false,
-    }
 }

@@ -1,4 +1,5 @@
 // Lists that are copied with ample memory.
+use crate::listing::one;
 use bytes::Bytes;
 use slate_txn::line::{ScanStep, StepList};
 use slate_txn::list::{KeyList, TableList};
@@ -6,31 +7,24 @@ use slate_types::Ulid;
 use std::alloc::Global;
 
 fn is_key_copied(alloc: Global) -> bool {
-    let Some(keys) = vec![in alloc; Bytes::from_static(b"key")].ok() else {
-        return false;
-    };
-    match KeyList::from_vec(keys).clone().ok() {
+    let keys = KeyList::from_vec(one(alloc, Bytes::from_static(b"key")));
+    match keys.clone().ok() {
         Some(copy) => copy.as_slice().len() == 1,
         None => false,
     }
 }
 
 fn is_step_copied(alloc: Global) -> bool {
-    let Some(steps) = vec![in alloc; ScanStep::Rows(3)].ok() else {
-        return false;
-    };
-    match StepList::from_vec(steps).clone().ok() {
+    let steps = StepList::from_vec(one(alloc, ScanStep::Rows(3)));
+    match steps.clone().ok() {
         Some(copy) => copy.as_slice().len() == 1,
         None => false,
     }
 }
 
 fn is_table_copied(alloc: Global) -> bool {
-    let table = (Ulid(7), Bytes::from_static(b"table"));
-    let Some(tables) = vec![in alloc; table].ok() else {
-        return false;
-    };
-    match TableList::from_vec(tables).clone().ok() {
+    let tables = TableList::from_vec(one(alloc, (Ulid(7), Bytes::from_static(b"table"))));
+    match tables.clone().ok() {
         Some(copy) => copy.as_slice().len() == 1,
         None => false,
     }

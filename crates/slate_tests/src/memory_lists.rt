@@ -6,7 +6,7 @@ ghost use Rattle.slate_types.specs.Keys.{key_cmp};
 ghost use Rattle.slate_types.specs.Rows.{sequenced, sequenced_cmp};
 ghost use Rattle.slate_mem.specs.Table.{no_rows, put_row, of_key, ranged, newest};
 
-use crate::listing::walked;
+use crate::listing::{Row, are_same_rows, one, row, walked};
 use bytes::Bytes;
 use slate_mem::MemTable;
 use slate_types::{
@@ -63,7 +63,7 @@ impl SortedRows {
         ensures rows { IfOk result (λ rows. rows.items ≡ newest key.now max_seq self.now.rows) }
         ensures cause { IsOkUnless result SlateDBError.OutOfMemory }
     {
-        newest_in(self.alloc, self.rows.as_slice(), key, max_seq)
+        newest_in(self.alloc, self.rows.as_slice(), key, max_seq).map_err(SlateDBError::from)
     }
 
     /// The rows whose keys are in the range, keys in the order.
@@ -111,9 +111,8 @@ fn newest_in(
     rows: &[RowEntry],
     key: &Bytes,
     max_seq: u64,
-) -> Result<Vec<RowEntry>, SlateDBError>
-    ensures rows { IfOk result (λ found. found.items ≡ newest key.now max_seq rows.now) }
-    ensures cause { IsOkUnless result SlateDBError.OutOfMemory }
+) -> Result<Vec<RowEntry>, AllocError>
+    ensures { IfOk result (λ found. found.items ≡ newest key.now max_seq rows.now) }
 {
     let mut found = Vec::new(alloc);
     for row in rows {
@@ -171,44 +170,23 @@ fn fall(rows: &mut Vec<RowEntry>) -> Result<(), AllocError>
     Ok(())
 }
 
-// A row: its key, sequence, what it is, and its bytes.
-type Put = (&'static [u8], u64, char, &'static [u8]);
-
 // The rows that are put in turn. The last writes over one.
-const PUTS: &[Put] = &[
-    (b"l", 1, 'v', b"1"),
-    (b"a", 1, 'v', b""),
-    (b"k", 2, 'v', b"2"),
-    (b"l", 2, 'd', b""),
-    (b"k", 3, 'm', b"3"),
-    (b"k", 5, 'm', b"5"),
-    (b"k", 4, 'm', b"4"),
-    (b"m", 5, 'v', b"5"),
-    (b"k", 4, 'v', b"again"),
+const PUTS: &[Row] = &[
+    (b"l", 'v', b"1", 1, Some(40), None),
+    (b"a", 'v', b"", 1, Some(40), None),
+    (b"k", 'v', b"2", 2, Some(40), None),
+    (b"l", 'd', b"", 2, Some(40), None),
+    (b"k", 'm', b"3", 3, Some(40), None),
+    (b"k", 'm', b"5", 5, Some(40), None),
+    (b"k", 'm', b"4", 4, Some(40), None),
+    (b"m", 'v', b"5", 5, Some(40), None),
+    (b"k", 'v', b"again", 4, Some(40), None),
 ];
-
-// What it is: a value, a merge, or else a deletion.
-fn row(put: &Put) -> RowEntry {
-    let bytes = Bytes::from_static(put.3);
-    RowEntry {
-        key: Bytes::from_static(put.0),
-        value: match put.2 {
-            'v' => ValueDeletable::Value(bytes),
-            'm' => ValueDeletable::Merge(bytes),
-            _ => ValueDeletable::Tombstone,
-        },
-        seq: put.1,
-        create_ts: Some(40),
-        expire_ts: None,
-    }
-}
 
 /// Puts the rows in a table.
 pub fn put_in_table(alloc: Global, table: &mut MemTable) -> bool {
     for put in PUTS {
-        let Some(rows) = vec![in alloc; row(put)].ok() else {
-            return false;
-        };
+        let rows = one(alloc, row(put));
         if table.put_all(rows, BTreeSet::new(alloc)).ok().is_none() {
             return false;
         }
@@ -244,7 +222,7 @@ fn is_same_read(alloc: Global, table: &MemTable, list: &SortedRows, read: &Read)
     let rows = table.rows_of_key(alloc, &key, read.1).ok();
     let listed = list.rows_of_key(&key, read.1).ok();
     drop(key);
-    rows.is_some() && rows == listed
+    are_same_rows(rows, listed)
 }
 
 // Where a range begins and ends, and the order of a walk.
@@ -285,7 +263,7 @@ fn is_same_walk(alloc: Global, table: &MemTable, list: &SortedRows, walk: &Walk)
     let rows = walked(alloc, table.range(alloc, &range, walk.2), None);
     let listed = walked(alloc, list.range(&range, walk.2), None);
     drop(range);
-    rows.is_some() && rows == listed
+    are_same_rows(rows, listed)
 }
 
 fn are_same(alloc: Global, table: &MemTable, list: &SortedRows) -> bool {
@@ -305,7 +283,10 @@ fn are_same(alloc: Global, table: &MemTable, list: &SortedRows) -> bool {
 fn are_both_same(alloc: Global) -> bool {
     let mut table = MemTable::new(alloc);
     let mut list = SortedRows::new(alloc);
-    put_in_table(alloc, &mut table) && put_in_list(&mut list) && are_same(alloc, &table, &list)
+    let are_put = put_in_table(alloc, &mut table) && put_in_list(&mut list);
+    let are_same = are_same(alloc, &table, &list);
+    drop((table, list));
+    are_put && are_same
 }
 
 #[test]

@@ -1,7 +1,7 @@
 // An operator of one's own.
 ghost use Rattle.slate_tests.specs.Parts.{appended, appended-short};
 
-use crate::listing::is_bytes;
+use crate::listing::{is_bytes, one};
 use bytes::Bytes;
 use slate_types::{MergeOperator, MergeOperatorError};
 use std::alloc::Global;
@@ -36,14 +36,12 @@ impl MergeOperator for Concat {
 
 // Two operands above a value, through the bounds.
 fn merged(alloc: Global, existing: Option<&Bytes>) -> Option<Bytes> {
-    let (first, second) = (Bytes::from_static(b"b"), Bytes::from_static(b"c"));
-    let Some(operands) = vec![in alloc; first, second].ok() else {
-        return None;
-    };
+    let mut operands = one(alloc, Bytes::from_static(b"b"));
+    let added = operands.push(Bytes::from_static(b"c")).ok();
     let key = Bytes::from_static(b"key");
-    let merged = Concat.merge_batch(alloc, &key, existing, &operands);
+    let merged = Concat.merge_batch(alloc, &key, existing, &operands).ok();
     drop(key);
-    merged.ok()
+    added.and(merged)
 }
 
 // Whether operands without a value are joined, and the same operands behind what came of that.

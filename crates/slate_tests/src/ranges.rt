@@ -1,15 +1,14 @@
 // Ranges: that calls succeed, and what they give.
-use crate::listing::is_text;
-use slate_types::BytesRange;
+use slate_types::{ByteRangeBounds, BytesRange};
 use std::alloc::Global;
 use std::ops::Bound;
 
-// Whether a range is this text.
-fn is_range(alloc: Global, range: Option<BytesRange>, expected: &str) -> bool {
+// Whether a range begins and ends there.
+fn is_range(range: Option<BytesRange>, start: Bound<&[u8]>, end: Bound<&[u8]>) -> bool {
     let Some(range) = range else { return false };
-    let text = format!(in alloc; "{:?} to {:?}", range.start, range.end);
+    let is_same = range.start_bound() == start && range.end_bound() == end;
     drop(range);
-    is_text(text.ok(), expected)
+    is_same
 }
 
 // Behind a key that the prefix is taken off.
@@ -20,10 +19,8 @@ fn behind(alloc: Global, prefix: &[u8], start: &[u8]) -> Option<BytesRange> {
 
 // What a range from a key on has in common with that of all keys.
 fn common(alloc: Global, start: &[u8]) -> Option<BytesRange> {
-    let (start, end) = (Bound::Included(start), Bound::Unbounded);
-    let Some(range) = BytesRange::from_slice(alloc, start, end).ok() else {
-        return None;
-    };
+    let range = BytesRange::from_slice(alloc, Bound::Included(start), Bound::Unbounded);
+    let Some(range) = range.ok() else { return None };
     let all = BytesRange::unbounded();
     let both = range.intersect(&all).ok();
     drop((range, all));
@@ -32,13 +29,13 @@ fn common(alloc: Global, start: &[u8]) -> Option<BytesRange> {
 
 fn are_ranges(alloc: Global) -> bool {
     let prefixed = BytesRange::from_prefix(alloc, b"p").ok();
-    is_range(alloc, prefixed, "Included(b\"p\") to Excluded(b\"q\")")
+    is_range(prefixed, Bound::Included(b"p"), Bound::Excluded(b"q"))
         && is_range(
-            alloc,
             behind(alloc, b"ab", b"x"),
-            "Excluded(b\"abx\") to Excluded(b\"ac\")",
+            Bound::Excluded(b"abx"),
+            Bound::Excluded(b"ac"),
         )
-        && is_range(alloc, common(alloc, b"c"), "Included(b\"c\") to Unbounded")
+        && is_range(common(alloc, b"c"), Bound::Included(b"c"), Bound::Unbounded)
 }
 
 #[test]

@@ -1,9 +1,9 @@
 // What readers answer of the table of one row, whole and damaged.
-use crate::listing::{is_text, listed};
+use crate::listing::{Row, are_rows, one};
 use crate::tables::TABLE;
 use bytes::Bytes;
 use slate_store::{MemoryStore, Store};
-use slate_table::{SsTableInfo, SstFile, SstReader};
+use slate_table::{SsTableInfo, SstFile, SstIndex, SstReader};
 use slate_txn::parts::Xor;
 use slate_types::{SlateDBError, Ulid};
 use std::alloc::Global;
@@ -12,7 +12,7 @@ const ID: Ulid = Ulid(18446744073709551616);
 
 const PATH: &str = "db/compacted/00000000000000010000000000000000.sst";
 
-const ROW: &str = "b\"a\" Value(b\"1\") 1 Some(0) None";
+const ROWS: &[Row] = &[(b"a", 'v', b"1", 1, Some(0), None)];
 
 // What a reader is answered of the whole table.
 const WHOLE: &str = "Ok(true)";
@@ -34,27 +34,24 @@ const DAMAGES: &[(usize, usize, u8, &str)] = &[
     (182, 179, 0xc4, "Err(EmptyBlockMeta { len: 4 })"),
 ];
 
-// Whether a reader answers of a file what was written: its size, count of rows, index, first block, and first and last key.
+// Whether a reader answers of a file what was written: its size, count of rows, first and last key, index and first block.
 fn is_whole(alloc: Global, reader: &mut Reader, file: &SstFile) -> Result<bool, SlateDBError> {
-    let is_sized = file.metadata(alloc, reader)?.size == 182;
+    let size = file.metadata(alloc, reader)?.size;
     let count = match file.stats(alloc, reader)? {
         Some(stats) => stats.num_rows(),
         None => 0,
     };
-    if is_sized && count == 1 && has_ends(file.info()) {
-        has_rows(alloc, reader, file)
-    } else {
-        Ok(false)
-    }
+    let has_block = has_block(file.index(alloc, reader)?);
+    let rows = file.read_block(alloc, reader, 0)?;
+    let has_rows = are_rows(alloc, Some(rows), ROWS);
+    Ok(size == 182 && count == 1 && has_ends(file.info()) && has_block && has_rows)
 }
 
 // The first block lies at 0, and a separates it.
-fn has_rows(alloc: Global, reader: &mut Reader, file: &SstFile) -> Result<bool, SlateDBError> {
-    let index = file.index(alloc, reader)?;
-    let has_block = index.get(0) == Some((0, b"a".as_slice()));
+fn has_block(index: SstIndex) -> bool {
+    let has_block = matches!(index.get(0), Some((0, b"a")));
     drop(index);
-    let rows = file.read_block(alloc, reader, 0)?;
-    Ok(has_block && is_text(listed(alloc, rows.as_slice()), ROW))
+    has_block
 }
 
 fn has_ends(info: &SsTableInfo) -> bool {
@@ -73,10 +70,7 @@ fn answer_of_reader(alloc: Global, reader: &mut Reader) -> Result<bool, SlateDBE
 
 // Whether the table over a store in memory with these bytes at its path is whole, or how it is refused. This call of the store fails.
 fn answer_of(alloc: Global, bytes: &[u8], call: u64) -> Option<String> {
-    let Some(failing) = vec![in alloc; call].ok() else {
-        return None;
-    };
-    let mut store = MemoryStore::new(alloc, failing);
+    let mut store = MemoryStore::new(alloc, one(alloc, call));
     let put = store.put(alloc, PATH, bytes).ok();
     let Some(mut reader) = Reader::new(alloc, "db", store, None).ok() else {
         return None;
@@ -90,10 +84,9 @@ fn answer_of(alloc: Global, bytes: &[u8], call: u64) -> Option<String> {
 
 // The same of the table, cut to a length, with these bits changed at a place.
 fn answer_of_damaged(alloc: Global, len: usize, at: usize, bits: u8) -> Option<String> {
-    let mut bytes = Vec::new(alloc);
-    if bytes.extend_from_slice(TABLE).is_err() {
+    let Some(mut bytes) = TABLE.to_vec(alloc).ok() else {
         return None;
-    }
+    };
     bytes.truncate(len);
     if let Some(byte) = bytes.get_mut(at) {
         *byte ^= bits;
@@ -101,14 +94,25 @@ fn answer_of_damaged(alloc: Global, len: usize, at: usize, bits: u8) -> Option<S
     answer_of(alloc, bytes.as_slice(), 0)
 }
 
+fn is_text(answer: Option<String>, expected: &str) -> bool {
+    match answer {
+        Some(text) => text.as_str() == expected,
+        None => false,
+    }
+}
+
+fn are_named(alloc: Global) -> bool {
+    for (len, at, bits, expected) in DAMAGES {
+        if !is_text(answer_of_damaged(alloc, *len, *at, *bits), expected) {
+            return false;
+        }
+    }
+    true
+}
+
 #[test]
 fn damage_is_named(rt: HostRuntime) {
-    for (len, at, bits, expected) in DAMAGES {
-        assert!(rt;
-            is_text(answer_of_damaged(rt.alloc(), *len, *at, *bits), expected),
-            "at {at}"
-        );
-    }
+    assert!(rt; are_named(rt.alloc()));
 }
 
 // Whether the table is whole or named as damaged, with the byte at a place changed.
@@ -119,21 +123,31 @@ fn is_well_with(alloc: Global, at: usize) -> bool {
     }
 }
 
-#[test]
-fn no_changed_byte_changes_an_answer(rt: HostRuntime) {
+fn is_well_with_each(alloc: Global) -> bool {
     for at in 0..TABLE.len() {
-        assert!(rt; is_well_with(rt.alloc(), at), "at {at}");
+        if !is_well_with(alloc, at) {
+            return false;
+        }
     }
+    true
 }
 
-// The first call puts the table.
+#[test]
+fn no_changed_byte_changes_an_answer(rt: HostRuntime) {
+    assert!(rt; is_well_with_each(rt.alloc()));
+}
+
+// The first call puts the table, and eight read it.
+fn fails_at_each_call(alloc: Global) -> bool {
+    for call in 2..10 {
+        if !is_text(answer_of(alloc, TABLE, call), "Err(StoreFault)") {
+            return false;
+        }
+    }
+    is_text(answer_of(alloc, TABLE, 10), WHOLE)
+}
+
 #[test]
 fn each_call_may_fail(rt: HostRuntime) {
-    for call in 2..11 {
-        let expected = if call < 10 { "Err(StoreFault)" } else { WHOLE };
-        assert!(rt;
-            is_text(answer_of(rt.alloc(), TABLE, call), expected),
-            "at call {call}"
-        );
-    }
+    assert!(rt; fails_at_each_call(rt.alloc()));
 }

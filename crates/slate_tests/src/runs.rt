@@ -1,4 +1,5 @@
 // Runs over parts in memory, of which one call fails. Runs without faults are tried by ./test, through the program.
+use crate::listing::one;
 use slate_script::run_main;
 use slate_store::{MemorySink, MemorySource, MemoryStore, Sink};
 use std::alloc::Global;
@@ -22,41 +23,33 @@ type Run = (&'static [u8], Failing, u8, &'static [u8]);
 
 // How a run ends, of which nothing more is said: what is written is what the test tries.
 fn status_of(alloc: Global, run: &Run, sink: &mut MemorySink) -> Option<u8> {
-    let mut script = Vec::new(alloc);
-    if script.extend_from_slice(run.0).is_err() {
-        return None;
-    }
-    let Some(reads) = vec![in alloc; run.1.read].ok() else {
+    let Some(script) = run.0.to_vec(alloc).ok() else {
         return None;
     };
-    let Some(calls) = vec![in alloc; run.1.stored].ok() else {
-        return None;
-    };
-    let mut source = MemorySource::new(script, reads);
-    let mut store = MemoryStore::new(alloc, calls);
-    Some(run_main(alloc, &[], &mut source, sink, &mut store))
+    let mut source = MemorySource::new(script, one(alloc, run.1.read));
+    let mut store = MemoryStore::new(alloc, one(alloc, run.1.stored));
+    let status = run_main(alloc, &[], &mut source, sink, &mut store);
+    drop((source, store));
+    Some(status)
 }
 
 // Whether a run ends with its status and has written just its replies.
 fn is_run(alloc: Global, run: &Run) -> bool {
-    let Some(writes) = vec![in alloc; run.1.write].ok() else {
-        return false;
-    };
-    let mut sink = MemorySink::new(alloc, writes);
+    let mut sink = MemorySink::new(alloc, one(alloc, run.1.write));
     let status = status_of(alloc, run, &mut sink);
-    status == Some(run.2) && sink.taken() == run.3
+    let is_run = status == Some(run.2) && sink.taken() == run.3;
+    drop(sink);
+    is_run
 }
 
-// How many runs end as they should, up to the first that doesn't.
-fn well_ended(alloc: Global) -> usize {
-    let mut count: usize = 0;
+// Whether all runs end as they should.
+fn are_run(alloc: Global) -> bool {
     for run in RUNS {
         if !is_run(alloc, run) {
-            break;
+            return false;
         }
-        count = count.saturating_add(1);
     }
-    count
+    true
 }
 
 const DAY: &[u8] = b"begin t si\nget t 'a\nwrite put 'a '1\nget t 'a\nrollback t\n";
@@ -131,6 +124,5 @@ const RUNS: &[Run] = &[
 
 #[test]
 fn a_call_that_fails_ends_a_run(rt: HostRuntime) {
-    let count = well_ended(rt.alloc());
-    assert!(rt; count == RUNS.len(), "at {count}");
+    assert!(rt; are_run(rt.alloc()));
 }

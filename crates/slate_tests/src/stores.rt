@@ -1,4 +1,5 @@
 // What a store over a folder answers.
+use bytes::Bytes;
 use slate_store::{FileStore, PathText, Store, StoreError};
 use std::alloc::Global;
 use std::fs;
@@ -40,15 +41,12 @@ fn are_put(alloc: Global, store: &mut Folder<'_>) -> bool {
 
 fn is_read(alloc: Global, store: &mut Folder<'_>, range: &Range<'_>) -> bool {
     let is_long = store.len(alloc, range.0) == Ok(range.4);
-    match store.read_range(alloc, range.0, range.1, range.2) {
-        Ok(Some(bytes)) => {
-            let is_same = range.3 == Some(bytes.as_slice());
-            drop(bytes);
-            is_same && is_long
-        }
-        Ok(None) => range.3.is_none() && is_long,
-        Err(_) => false,
-    }
+    let Some(found) = store.read_range(alloc, range.0, range.1, range.2).ok() else {
+        return false;
+    };
+    let is_same = found.as_ref().map(Bytes::as_slice) == range.3;
+    drop(found);
+    is_same && is_long
 }
 
 // How many ranges are read as they should be, up to the first that isn't.
@@ -63,16 +61,17 @@ fn well_read(alloc: Global, store: &mut Folder<'_>) -> usize {
     count
 }
 
+const LISTED: &[&str] = &["a", "b-z", "b/one", "b/two"];
+
 fn are_all(paths: &[PathText]) -> bool {
-    match paths {
-        [a, b_z, b_one, b_two] => {
-            a.as_str() == "a"
-                && b_z.as_str() == "b-z"
-                && b_one.as_str() == "b/one"
-                && b_two.as_str() == "b/two"
+    let mut paths = paths.iter();
+    for listed in LISTED {
+        match paths.next() {
+            Some(path) if path.as_str() == *listed => {}
+            _ => return false,
         }
-        _ => false,
     }
+    paths.next().is_none()
 }
 
 // Whether all ranges are well read, and all objects listed.
@@ -118,19 +117,22 @@ fn answers_in_a_folder(rt: &HostRuntime) -> bool {
     let Some(mut store) = FileStore::new(alloc, rt, FOLDER).ok() else {
         return false;
     };
-    has(alloc, &mut store, 0)
+    let has_answered = has(alloc, &mut store, 0)
         && is_free(rt, FOLDER)
         && answers_well(alloc, &mut store)
         && are_refused(alloc, &mut store, NO_PATHS)
-        && has(alloc, &mut store, 4)
+        && has(alloc, &mut store, 4);
+    drop(store);
+    has_answered
 }
 
 // Whether a folder is none that is a file.
 fn is_no_folder(rt: &HostRuntime) -> bool {
-    match FileStore::new(rt.alloc(), rt, "stores-objects/a").ok() {
-        Some(mut store) => are_refused(rt.alloc(), &mut store, &["x"]),
-        None => false,
-    }
+    let store = FileStore::new(rt.alloc(), rt, "stores-objects/a").ok();
+    let Some(mut store) = store else { return false };
+    let is_refused = are_refused(rt.alloc(), &mut store, &["x"]);
+    drop(store);
+    is_refused
 }
 
 fn is_cleared(rt: &HostRuntime) -> bool {

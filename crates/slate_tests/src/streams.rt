@@ -29,28 +29,28 @@ fn add_line(
 ) -> Option<bool> {
     match lines.next(source).ok() {
         Some(Some(line)) => {
-            if bytes.extend_from_slice(&line).is_err() || bytes.push(b'|').ok().is_none() {
-                return None;
-            }
-            Some(true)
+            let added = bytes.extend_from_slice(&line).ok();
+            added.and(bytes.push(b'|').ok()).and(Some(true))
         }
         Some(None) => Some(false),
         None => None,
     }
 }
 
-// The first lines of a source, each with a bar behind it.
-fn barred(alloc: Global, source: &mut ReaderSource<Trickle<'_>>) -> Option<Vec<u8>> {
-    let mut lines = Lines::new(alloc);
-    let mut bytes = Vec::new(alloc);
+// Whether the first lines of a source were added, each with a bar behind it.
+fn add_lines(
+    lines: &mut Lines,
+    source: &mut ReaderSource<Trickle<'_>>,
+    bytes: &mut Vec<u8>,
+) -> bool {
     for _ in 0..10 {
-        match add_line(&mut lines, source, &mut bytes) {
+        match add_line(lines, source, bytes) {
             Some(true) => {}
-            Some(false) => break,
-            None => return None,
+            Some(false) => return true,
+            None => return false,
         }
     }
-    Some(bytes)
+    true
 }
 
 // Bytes, and their lines.
@@ -62,15 +62,16 @@ const TRICKLES: &[(&[u8], &[u8])] = &[
     (b"one", b"one|"),
 ];
 
-fn is_trickled(alloc: Global, bytes: &[u8], lines: &[u8]) -> bool {
+fn is_trickled(alloc: Global, bytes: &[u8], expected: &[u8]) -> bool {
     let mut source = ReaderSource::new(Trickle {
         bytes,
         is_interrupted: false,
     });
-    match barred(alloc, &mut source) {
-        Some(bytes) => bytes.as_slice() == lines,
-        None => false,
-    }
+    let mut lines = Lines::new(alloc);
+    let mut bytes = Vec::new(alloc);
+    let is_read = add_lines(&mut lines, &mut source, &mut bytes);
+    drop(lines);
+    is_read && bytes.as_slice() == expected
 }
 
 fn are_trickled(alloc: Global) -> bool {

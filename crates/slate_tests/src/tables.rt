@@ -29,10 +29,7 @@ fn one_row(alloc: Global) -> Option<EncodedSsTable> {
     };
     match builder.add(alloc, row(), &mut unchanged).ok() {
         Some(_) => builder.build(alloc, &mut unchanged).ok(),
-        None => {
-            drop(builder);
-            None
-        }
+        None => None,
     }
 }
 
