@@ -190,9 +190,7 @@ impl Core {
         }
         self.frozen.reserve(1)?;
         self.journal.reserve(self.open.len() + 1)?;
-        let Ok(table) = self.active.freeze() else {
-            unreachable!()
-        };
+        let table = self.active.freeze()?;
         self.frozen.push_reserved(table);
         self.journal.push_reserved(Event::Freeze);
         Ok(self.last)

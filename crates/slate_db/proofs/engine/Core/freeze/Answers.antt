@@ -42,9 +42,9 @@ becomes c = same_model _ _ refl commits refl refl refl refl (sym (journal c)) re
 
     frozen : map (λ t. t.rows) c.self.inside.frozen.items ++ (c.self.inside.active.rows ∷ []) ≡ map (λ t. t.rows) c.push_reserved.new.self.items
     frozen =
-        ap (λ rs. map (λ t. t.rows) c.self.inside.frozen.items ++ (rs ∷ [])) (sym (ap rows_in c.in-Ok.ensures.frozen))
-        ∙ sym (ap (λ ts. map (λ t. t.rows) ts) (c.push_reserved.ensures.items ∙ ap (λ ts. ts ++ (c.in-Ok.table ∷ [])) c.reserve.ensures.items)
-        ∙ map-append (λ t. t.rows) c.self.inside.frozen.items (c.in-Ok.table ∷ []))
+        ap (λ rs. map (λ t. t.rows) c.self.inside.frozen.items ++ (rs ∷ [])) (sym (ap rows_in c.in_ok-table.ensures.frozen))
+        ∙ sym (ap (λ ts. map (λ t. t.rows) ts) (c.push_reserved.ensures.items ∙ ap (λ ts. ts ++ (c.in_ok-table.table ∷ [])) c.reserve.ensures.items)
+        ∙ map-append (λ t. t.rows) c.self.inside.frozen.items (c.in_ok-table.table ∷ []))
 
 pub invariant_of-self-2 : goal.invariant_of-self-2
 invariant_of-self-2 c =
@@ -94,3 +94,15 @@ returns-in_err-reserve-2-clause-quiet c = IfOk-from_err c.from_residual-in_err-r
 
 pub returns-in_err-reserve-2-clause-kept : goal.returns-in_err-reserve-2-clause-kept
 returns-in_err-reserve-2-clause-kept c = IfOk-from_err c.from_residual-in_err-reserve-2.result _ c.from_residual-in_err-reserve-2.ensures.0
+
+pub returns-in_err-table-clause-step : goal.returns-in_err-table-clause-step
+returns-in_err-table-clause-step c = IfOk-from_err c.from_residual-in_err-table.result _ c.from_residual-in_err-table.ensures.0
+
+pub returns-in_err-table-clause-event : goal.returns-in_err-table-clause-event
+returns-in_err-table-clause-event c = IfOk-from_err c.from_residual-in_err-table.result _ c.from_residual-in_err-table.ensures.0
+
+pub returns-in_err-table-clause-quiet : goal.returns-in_err-table-clause-quiet
+returns-in_err-table-clause-quiet c = IfOk-from_err c.from_residual-in_err-table.result _ c.from_residual-in_err-table.ensures.0
+
+pub returns-in_err-table-clause-kept : goal.returns-in_err-table-clause-kept
+returns-in_err-table-clause-kept c = IfOk-from_err c.from_residual-in_err-table.result _ c.from_residual-in_err-table.ensures.0
