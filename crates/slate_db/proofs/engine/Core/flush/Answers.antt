@@ -135,6 +135,12 @@ pub returns-then-is_empty-clause-acts : goal.returns-then-is_empty-clause-acts
 returns-then-is_empty-clause-acts g c =
     inl (ap (λ (v : CoreModel). tables_of v.events) c.self.view_is ∙ frozen_tables c.args.self.now c.freeze.new.self c.in_ok-freeze.ensures.event, refl)
 
+pub returns-then-is_empty-clause-taken : goal.returns-then-is_empty-clause-taken
+returns-then-is_empty-clause-taken g c = (
+  ap (λ (v : CoreModel). v.active) c.self.view_is ∙ frozen_idle c.args.self.now c.freeze.new.self c.in_ok-freeze.ensures.event,
+  none_frozen c.as_slice.result.now c.self.inside.frozen.items c.is_empty.result c.is_empty.ensures c.if-is_empty.true c.as_slice.ensures.value,
+)
+
 pub returns-then-is_empty-clause-full : goal.returns-then-is_empty-clause-full
 returns-then-is_empty-clause-full g c h = absurd (omega (arith, c.in_ok-place_for_flush.ensures.place, h))
 
