@@ -191,6 +191,7 @@ impl Session {
         ensures later { IsLater (counts_of (S.faults env.old.store.now) M.faults T.faults env.old.operator env.old.transformer) (counts_of (S.faults env.new.store.now) M.faults T.faults env.new.operator env.new.transformer) }
     {
         let Some(id) = self.names.get(&name) else {
+            drop(key);
             return Ok(Answer::Refused(Refusal::UnknownTransaction { name }));
         };
         let id = *id;
@@ -222,20 +223,10 @@ impl Session {
         ensures grows { OnOk result (Grows (Line.Write ops) self.old self.new) }
         ensures cause { IfErr result (λ e. (e ≡ SlateDBError.OutOfMemory) ⊎ IsLimit self.old e) }
     {
-        match batch_of(self.alloc, ops) {
-            Ok(batch) => self.commit(batch),
-            Err(error) => refused(error),
-        }
-    }
-
-    /// Commits the batch at the moment.
-    fn commit(&mut self, batch: WriteBatch) -> Result<Answer, SlateDBError>
-        requires { batch.held_merge ≡ false }
-        ensures step { (m : Meaning) (ops : Ops) → IsBatchOf ops batch → AreFine ops → AnswersAs m self.old self.new (Line.Write ops) result }
-        ensures stores { OnOk result (StoresNothing self.old self.new) }
-        ensures grows { (ops : Ops) → IsBatchOf ops batch → OnOk result (Grows (Line.Write ops) self.old self.new) }
-        ensures cause { IfErr result (λ e. (e ≡ SlateDBError.OutOfMemory) ⊎ IsLimit self.old e) }
-    {
+        let batch = match batch_of(self.alloc, ops) {
+            Ok(batch) => batch,
+            Err(error) => return refused(error),
+        };
         match self.core.write(batch, self.now) {
             Ok(seq) => Ok(Answer::Written(seq)),
             Err(error) => refused(error),
