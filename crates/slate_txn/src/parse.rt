@@ -120,8 +120,8 @@ fn read_as(alloc: Global, keyword: Keyword, tokens: &[&[u8]]) -> Result<Option<L
         Keyword::Get => read_get(alloc, tokens),
         Keyword::Rollback => read_rollback(alloc, tokens),
         Keyword::Write => read_write(alloc, tokens),
-        Keyword::Freeze => Ok(read_alone(Line::Freeze, tokens)),
-        Keyword::Flush => Ok(read_alone(Line::Flush, tokens)),
+        Keyword::Freeze => Ok(read_freeze(tokens)),
+        Keyword::Flush => Ok(read_flush(tokens)),
     }
 }
 
@@ -226,11 +226,24 @@ fn read_write(alloc: Global, tokens: &[&[u8]]) -> Result<Option<Line>, AllocErro
     }
 }
 
-/// The line, where no token stands behind its word.
-fn read_alone(line: Line, tokens: &[&[u8]]) -> Option<Line>
-    ensures { result ≡ built_alone line (texts tokens.now) }
+/// `freeze`
+fn read_freeze(tokens: &[&[u8]]) -> Option<Line>
+    ensures { result ≡ built_alone Line.Freeze (texts tokens.now) }
 {
-    tokens.is_empty().then_some(line)
+    match tokens {
+        [] => Some(Line::Freeze),
+        _ => None,
+    }
+}
+
+/// `flush`
+fn read_flush(tokens: &[&[u8]]) -> Option<Line>
+    ensures { result ≡ built_alone Line.Flush (texts tokens.now) }
+{
+    match tokens {
+        [] => Some(Line::Flush),
+        _ => None,
+    }
 }
 
 /// The operations, each a word with the tokens up to the next such word.
