@@ -1,11 +1,10 @@
 -- A flush is its freeze and an install.
-use Rattle.std.proofs.Common.{◌≡◌, ◌≢◌, ℕ, Bool, true, false, map, ◌+◌, ◌<◌, ◌≤◌, ◌⊎◌, List, [], ◌∷◌, ◌++◌, length, Option, Some, None, option_to_list, refl, sym, ap, subst, ◌∙◌, inl, inr, arith, length-append}
+use Rattle.std.proofs.Common.{◌≡◌, ℕ, Bool, true, false, map, ◌+◌, ◌<◌, ◌≤◌, ◌⊎◌, List, [], ◌∷◌, ◌++◌, length, Option, option_to_list, refl, sym, ap, subst, ◌∙◌, inl, inr, arith, length-append}
 use Rattle.std.proofs.lemmas.Bool.Decides.{nat_tests}
 use Rattle.std.proofs.lemmas.List.{length-map}
-use Rattle.std.specs.Prelude.{◌==◌, Result, Ok, Err, IfOk, IfErr, OnErr}
+use Rattle.std.specs.Prelude.{◌==◌, Result, Ok, Err, IfOk, IfErr, OnOk, OnErr}
 use Rattle.slate_types.specs.declared.error.SlateDBError.{SlateDBError}
 use Rattle.slate_types.specs.declared.error.SlateDBError.TheVariants.{OutOfMemory, LimitReached, StoreFault, BlockTransformError}
-use Rattle.slate_types.specs.declared.types.Ulid.{Ulid}
 use Rattle.slate_types.specs.Fold.{fold_rows}
 use Rattle.slate_types.specs.Outside.{Objects}
 use Rattle.slate_mem.specs.Table.{MemTableModel}
@@ -18,31 +17,19 @@ use Rattle.slate_txn.specs.Reply.{Flushed}
 use Rattle.slate_txn.specs.State.{last_of}
 use Rattle.slate_txn.specs.Step.{step}
 use Rattle.slate_txn.specs.Open.{least_begin}
-use Rattle.slate_db.specs.Flushed.{Layout, IsFlushed, IsFolded, MayTakeTable, TooLarge, events_of_flush}
+use Rattle.slate_db.specs.Flushed.{Layout, IsFlushed, IsFolded, TooLarge, events_of_flush, idle, stored}
 use Rattle.slate_db.specs.Frozen.{IsFrozen}
 use Rattle.slate_db.specs.Meaning.{Meaning, rules_of, combine_of}
 use Rattle.slate_db.specs.Model.{CoreModel, Rows, memory, IsSame}
 use Rattle.slate_db.specs.Sound.{IsKept, at_most, later}
 use Rattle.slate_db.specs.Whole.{IsWhole}
 use Rattle.slate_db.proofs.Keeps.{kept_event}
-use Rattle.slate_db.proofs.Lists.{none_behind}
 use Rattle.slate_db.proofs.Loads.{load_before}
 use Rattle.slate_db.proofs.Split.{all_up_to}
 use Rattle.slate_db.proofs.Wholes.{versions_frozen}
 
 abbrev pub frozen_of : CoreModel → ℕ → CoreModel
 frozen_of c spare = record c { events = c.events ++ (events.Freeze ∷ []); spare = spare; active = []; frozen = c.frozen ++ (c.active ∷ []) }
-
--- room that was made before changes nothing of a freeze
-pub frozen_from : (old mid between : CoreModel) → IsSame old mid → (old.active ≡ [] → mid ≡ old) → IsFrozen mid between → IsFrozen old between
-frozen_from old mid between same idle h = by h
-  where
-    active : mid.active ≡ old.active
-    active = ap (λ (v : CoreModel). v.active) same
-
-    by : ((mid.active ≡ []) × (between ≡ mid)) ⊎ ((mid.active ≢ []) × (between ≡ frozen_of mid between.spare)) → IsFrozen old between
-    by (inl (none, is)) = inl (sym active ∙ none, is ∙ idle (sym active ∙ none))
-    by (inr (some, is)) = inr ((λ e. some (active ∙ e)), is ∙ ap (λ (v : CoreModel). frozen_of v between.spare) same)
 
 pub frozen_idle : (old between : CoreModel) → IsFrozen old between → between.active ≡ []
 frozen_idle old between (inl (none, is)) = ap (λ (v : CoreModel). v.active) is ∙ none
@@ -102,10 +89,6 @@ whole_flushed c n ids runs hs active frozen w = record {
 pub kept_flushed : (m : Meaning) (c : CoreModel) (n : ℕ) → IsKept m c → IsKept m (record c { state = record c.state { flushed = n } })
 kept_flushed m c n k = kept_event m c (record c.state { flushed = n }) c.events c.spare refl refl refl k
 
-pub may_same : (P : Ulid × List ℕ → Type 0) (o : Option Objects) → MayTakeTable P o o
-may_same P None = tt
-may_same P (Some os) = inl refl
-
 -- ---- the limits
 
 two_events : (active : Rows) (layers : List Rows) → (active ≡ [] → ⊥) → events_of_flush active layers ≡ 2
@@ -117,11 +100,6 @@ one_event [] [] h some = absurd (omega arith)
 one_event [] (rows ∷ layers) h some = refl
 one_event (r ∷ rs) layers h some = cc
 
-no_event : (active : Rows) (layers : List Rows) → active ≡ [] → layers ≡ [] → events_of_flush active layers ≡ 0
-no_event [] [] h none = refl
-no_event [] (rows ∷ layers) h none = cc
-no_event (r ∷ rs) layers h none = cc
-
 abbrev pub held : CoreModel → ℕ
 held c = length c.events + length c.state.txns
 
@@ -131,50 +109,19 @@ passed c = held c + events_of_flush c.active c.frozen
 pub passes_two : (limit : ℕ) (c : CoreModel) → (c.active ≡ [] → ⊥) → limit < held c + 2 → limit < passed c
 passes_two limit c some h = let e : events_of_flush c.active c.frozen ≡ 2 = two_events c.active c.frozen some in omega arith
 
-pub two_passed : (limit : ℕ) (c : CoreModel) → (c.active ≡ [] → ⊥) → limit < passed c → limit < held c + 2
-two_passed limit c some h = let e : events_of_flush c.active c.frozen ≡ 2 = two_events c.active c.frozen some in omega arith
-
 frozen_held : (old between : CoreModel) → between ≡ frozen_of old between.spare → held between ≡ held old + 1
 frozen_held old between is = ap held is ∙ (let l : length (old.events ++ (events.Freeze ∷ [])) ≡ length old.events + 1 = length-append old.events (events.Freeze ∷ []) in let e : length (old.events ++ (events.Freeze ∷ [])) + length old.state.txns ≡ length old.events + length old.state.txns + 1 = omega arith in e)
 
--- an install passes the limit exactly where the flush does
-pub passes_one : (limit : ℕ) (old between : CoreModel) → IsFrozen old between → 0 < length between.frozen → limit < held between + 1 → limit < passed old
-passes_one limit old between (inl (none, is)) some h =
+-- an install has a place where the flush has
+pub place_left : (limit : ℕ) (old between : CoreModel) → IsFrozen old between → 0 < length between.frozen → passed old ≤ limit → held between + 1 ≤ limit
+place_left limit old between (inl (none, is)) some h =
     let e : events_of_flush old.active old.frozen ≡ 1 = one_event old.active old.frozen none (subst (λ (v : CoreModel). 0 < length v.frozen) is some) in
     let l : held between ≡ held old = ap held is in
     omega arith
-passes_one limit old between (inr (active, is)) some h =
+place_left limit old between (inr (active, is)) some h =
     let e : events_of_flush old.active old.frozen ≡ 2 = two_events old.active old.frozen active in
     let l : held between ≡ held old + 1 = frozen_held old between is in
     omega arith
-
-pub one_passed : (limit : ℕ) (old between : CoreModel) → IsFrozen old between → 0 < length between.frozen → limit < passed old → limit < held between + 1
-one_passed limit old between (inl (none, is)) some h =
-    let e : events_of_flush old.active old.frozen ≡ 1 = one_event old.active old.frozen none (subst (λ (v : CoreModel). 0 < length v.frozen) is some) in
-    let l : held between ≡ held old = ap held is in
-    omega arith
-one_passed limit old between (inr (active, is)) some h =
-    let e : events_of_flush old.active old.frozen ≡ 2 = two_events old.active old.frozen active in
-    let l : held between ≡ held old + 1 = frozen_held old between is in
-    omega arith
-
-pub none_passed : (limit : ℕ) (old between : CoreModel) → IsFrozen old between → between.frozen ≡ [] → held between ≤ limit → limit < passed old → ⊥
-none_passed limit old between (inl (none, is)) nothing bound h =
-    let e : events_of_flush old.active old.frozen ≡ 0 = no_event old.active old.frozen none (ap (λ (v : CoreModel). v.frozen) (sym is) ∙ nothing) in
-    let l : held between ≡ held old = ap held is in
-    absurd (omega arith)
-none_passed limit old between (inr (active, is)) nothing bound h = none_behind old.frozen old.active (ap (λ (v : CoreModel). v.frozen) (sym is) ∙ nothing)
-
--- at the limit a flush has no rows to freeze, and changes nothing
-pub no_room : {A : Type 0} (limit : ℕ) (old : CoreModel) → (old.active ≡ [] → ⊥) → ((old.active ≡ [] → ⊥) → held old + 2 ≤ limit) → limit < passed old → A
-no_room limit old some room h =
-    let over : limit < held old + 2 = two_passed limit old some h in
-    let under : held old + 2 ≤ limit = room some in
-    absurd (omega arith)
-
-pub full_frozen : (limit : ℕ) (old between : CoreModel) → IsFrozen old between → ((old.active ≡ [] → ⊥) → held old + 2 ≤ limit) → limit < passed old → between ≡ old
-full_frozen limit old between (inl (none, is)) room h = is
-full_frozen limit old between (inr (some, is)) room h = no_room limit old some room h
 
 -- the rows in memory are the same before the freeze
 folded_before : (m : Meaning) (b : ℕ) (old : CoreModel) (rows : Rows) → IsFolded m b ((old.frozen ++ (old.active ∷ [])) ++ ([] ∷ [])) rows → IsFolded m b (memory old) rows
@@ -237,15 +184,30 @@ no_fault limit r e at limited (inr x) (inr is) = let m : e ≡ LimitReached limi
 
 -- ---- what is said of a refusal before the install
 
-pub room_cause : {B C : Type 0} (limit a b : ℕ) (old : CoreModel) (e : SlateDBError) → (e ≡ OutOfMemory) ⊎ ((e ≡ LimitReached limit) × (old.active ≢ []) × (limit < held old + 2)) → IsStoreFault a b e ⊎ (B ⊎ (((e ≡ LimitReached limit) × (limit < passed old)) ⊎ C))
-room_cause limit a b old e (inl is) = inl (inl is)
-room_cause limit a b old e (inr (is, some, more)) = inr (inr (inl (is, passes_two limit old some more)))
+pub freeze_cause : {B C : Type 0} (limit a b : ℕ) (old : CoreModel) (e : SlateDBError) → (old.active ≡ [] → ⊥) → (e ≡ OutOfMemory) ⊎ ((e ≡ LimitReached limit) × (limit < held old + 1)) → IsStoreFault a b e ⊎ (B ⊎ (((e ≡ LimitReached limit) × (limit < passed old)) ⊎ C))
+freeze_cause limit a b old e some (inl is) = inl (inl is)
+freeze_cause limit a b old e some (inr (is, more)) = inr (inr (inl (is, passes_two limit old some (omega arith))))
 
-pub freeze_cause : {B C : Type 0} (limit a b : ℕ) (old mid : CoreModel) (e : SlateDBError) → IsSame old mid → (old.active ≡ [] → ⊥) → (e ≡ OutOfMemory) ⊎ ((e ≡ LimitReached limit) × (limit < held mid + 1)) → IsStoreFault a b e ⊎ (B ⊎ (((e ≡ LimitReached limit) × (limit < passed old)) ⊎ C))
-freeze_cause limit a b old mid e same some (inl is) = inl (inl is)
-freeze_cause limit a b old mid e same some (inr (is, more)) = inr (inr (inl (is, passes_two limit old some (let l : held mid ≡ held old = ap held same in omega arith))))
+pub place_cause : {A B C : Type 0} (limit : ℕ) (old : CoreModel) (e : SlateDBError) → (e ≡ LimitReached limit) × (limit < passed old) → A ⊎ (B ⊎ (((e ≡ LimitReached limit) × (limit < passed old)) ⊎ C))
+place_cause limit old e h = inr (inr (inl h))
 
-pub steps_after : {E : Type 0} (r : Result ℕ E) (old between new : CoreModel) → IsFrozen old between → IfOk r (λ n. n ≡ last_of between.settings.start_seq between.state.commits) → IfOk r (λ n. new.state ≡ record between.state { flushed = n }) →
+-- ---- what a flush has of its install
+
+flushed_is : (encode : Encode) (layout : Layout) (between new : CoreModel) (n : ℕ) (before after : Option Objects) → IsFlushed encode layout between new n before after → new.state ≡ record between.state { flushed = n }
+flushed_is encode layout between new n before after (idle none is kept) = ap (λ (v : CoreModel). v.state) is
+flushed_is encode layout between new n before after (stored t is table taken) = ap (λ (v : CoreModel). v.state) is
+
+pub settled : (r : Result ℕ SlateDBError) (encode : Encode) (layout : Layout) (between new : CoreModel) (before after : Option Objects) → IfOk r (λ n. IsFlushed encode layout between new n before after) → OnErr r (IsSame between new) → new.settings ≡ between.settings
+settled (Ok n) encode layout between new before after (idle none is kept) same = ap (λ (v : CoreModel). v.settings) is
+settled (Ok n) encode layout between new before after (stored t is table taken) same = ap (λ (v : CoreModel). v.settings) is
+settled (Err e) encode layout between new before after h same = ap (λ (v : CoreModel). v.settings) same
+
+pub all_taken : (r : Result ℕ SlateDBError) (encode : Encode) (layout : Layout) (between new : CoreModel) (before after : Option Objects) → between.active ≡ [] → IfOk r (λ n. IsFlushed encode layout between new n before after) → OnOk r ((new.active ≡ []) × (new.frozen ≡ []))
+all_taken (Ok n) encode layout between new before after none (idle frozen is kept) = (ap (λ (v : CoreModel). v.active) is ∙ none, ap (λ (v : CoreModel). v.frozen) is ∙ frozen)
+all_taken (Ok n) encode layout between new before after none (stored t is table taken) = (ap (λ (v : CoreModel). v.active) is ∙ none, ap (λ (v : CoreModel). v.frozen) is)
+all_taken (Err e) encode layout between new before after none h = tt
+
+pub steps_after : (r : Result ℕ SlateDBError) (encode : Encode) (layout : Layout) (old between new : CoreModel) (before after : Option Objects) → IsFrozen old between → IfOk r (λ n. n ≡ last_of between.settings.start_seq between.state.commits) → IfOk r (λ n. IsFlushed encode layout between new n before after) →
     IfOk r (λ n. (m : Meaning) → step (rules_of old.settings m) old.state lines.Flush ≡ (new.state, Flushed n))
-steps_after (Ok n) old between new frozen last is = λ m. step_flush m old between new n frozen last is
-steps_after (Err e) old between new frozen last is = tt
+steps_after (Ok n) encode layout old between new before after frozen last is = λ m. step_flush m old between new n frozen last (flushed_is encode layout between new n before after is)
+steps_after (Err e) encode layout old between new before after frozen last is = tt

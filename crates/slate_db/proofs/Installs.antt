@@ -1,5 +1,5 @@
 -- What a flush keeps.
-use Rattle.std.proofs.Common.{◌≡◌, ℕ, ◌+◌, ◌≤◌, ◌<◌, min, List, [], ◌∷◌, ◌++◌, length, refl, sym, ap, subst, ◌∙◌, arith, append-nil, length-append, nat_le, option_to_list}
+use Rattle.std.proofs.Common.{◌≡◌, ℕ, ◌+◌, ◌≤◌, ◌<◌, min, List, [], ◌∷◌, ◌++◌, length, refl, sym, ap, subst, ◌∙◌, arith, append-nil, length-append, nat_le}
 use Rattle.std.specs.List.{AllByRecursion}
 use Rattle.std.proofs.lemmas.Grind.{flat_map-append}
 use Rattle.std.proofs.lemmas.List.Elements.{filter-append}
@@ -15,9 +15,9 @@ use Rattle.slate_txn.specs.State.{Rules, Tx, Commit, opening, last_of}
 use Rattle.slate_txn.specs.Reads.{up_to, key_rows}
 use Rattle.slate_txn.specs.Replay.{replay, apply}
 use Rattle.slate_db.specs.Meaning.{Meaning, rules_of, combine_of, IsLawfulMeaning}
-use Rattle.slate_db.specs.Model.{CoreModel, Rows, memory, versions, versions_in}
+use Rattle.slate_db.specs.Model.{CoreModel, Rows, versions, versions_in}
 use Rattle.slate_db.specs.Installs.{tables_of, installed, NumberedFrom, IsHandle, AreHandles}
-use Rattle.slate_db.specs.Sound.{at_most, later, above, IsKept, IsSound, AreTables, AreBases}
+use Rattle.slate_db.specs.Sound.{at_most, above, IsKept, IsSound, AreTables, AreBases}
 use Rattle.slate_db.specs.Whole.{IsWhole, LIMIT, BeginsWithin, AreShortOps, AreRising}
 use Rattle.slate_txn.specs.Open.{least_begin}
 use Rattle.slate_db.specs.Flushed.{IsFolded, Layout, CanFlush, IsTableOfFlush, after_install}
@@ -179,13 +179,6 @@ can_flush c n ids runs hs w some = record {
 
 pub table_of_flush : (encode : Encode) (layout : Layout) (number b : ℕ) (layers : List Rows) (t : Ulid × List ℕ) (p : IsTableOfFlush encode layout number b layers t) → IsTable encode t.1 layout.version p.rows
 table_of_flush encode layout number b layers t p = subst (IsTable encode t.1 layout.version) p.read (built_has encode [] 0 layout.block_size layout.version t.1 p.rows p.built)
-
--- the same rows, with no active ones behind them
-pub folded_memory : (m : Meaning) (b : ℕ) (c : CoreModel) (rows : Rows) → c.active ≡ [] → IsFolded m b c.frozen rows → IsFolded m b (memory c) rows
-folded_memory m b c rows idle folded k = folded k ∙ ap (λ xs. option_to_list (fold_rows (combine_of m k) (at_most b xs)) ++ later b xs) (sym (same k))
-  where
-    same : (k : List ℕ) → versions_in k (memory c) ≡ versions_in k c.frozen
-    same k = ap (λ a. versions_in k (c.frozen ++ (a ∷ []))) idle ∙ flat_map-append (versions k) c.frozen ([] ∷ []) ∙ append-nil (versions_in k c.frozen)
 
 pub moved : (F : ℕ → ℕ → List Rows → Type 0) (r k b d : ℕ) (xs ys : List Rows) → r ≡ k → b ≡ d → xs ≡ ys → F (r + 1) b xs → F (k + 1) d ys
 moved F r k b d xs ys runs barrier layers h = subst (λ (n : ℕ). F (n + 1) d ys) runs (subst (λ (n : ℕ). F (r + 1) n ys) barrier (subst (λ (ls : List Rows). F (r + 1) b ls) layers h))

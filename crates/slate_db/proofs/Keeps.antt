@@ -1,12 +1,15 @@
 -- What is kept where nothing that counts is changed.
 use Rattle.std.proofs.Common.{◌≡◌, ℕ, ◌≤◌, List, [], ◌∷◌, ◌++◌, refl, sym, ap, subst, ◌∙◌}
 use Rattle.std.specs.List.{AllByRecursion}
-use Rattle.std.specs.Prelude.{Result, Ok, Err, OnOk, OnErr}
 use Rattle.slate_types.specs.Fold.{fold_rows}
 use Rattle.slate_types.specs.declared.types.Ulid.{Ulid}
 use Rattle.slate_txn.specs.Reads.{key_rows, up_to}
 use Rattle.slate_txn.specs.State.{State}
 use Rattle.slate_txn.specs.declared.event.Event.{Event}
+use Rattle.slate_txn.specs.JournalModel.{JournalModel}
+use Rattle.slate_txn.specs.Replay.{replay}
+use Rattle.slate_db.specs.declared.engine.Core.TheInside.{Inside}
+use Rattle.slate_db.specs.View.{view_of}
 use Rattle.slate_db.specs.Meaning.{Meaning, rules_of, combine_of}
 use Rattle.slate_db.specs.Model.{CoreModel, Rows, memory, versions_in, IsSame}
 use Rattle.slate_db.specs.Installs.{tables_of, installed}
@@ -63,6 +66,9 @@ same_model c v settings commits txns snapshots now flushed events spare active f
   floor = floor i;
 }
 
+pub room_made : (s : Inside) (j : JournalModel) → j.events ≡ s.journal.events → IsSame (view_of s) (view_of (record s { journal = j }))
+room_made s j is = same_model _ _ refl (ap (λ es. (replay es).commits) is) refl refl refl refl is refl refl refl refl
+
 -- of the same rows of each key in memory, cut otherwise
 pub kept_rows : (m : Meaning) (c : CoreModel) (active : Rows) (frozen : List Rows) → ((k : List ℕ) → versions_in k (frozen ++ (active ∷ [])) ≡ versions_in k (memory c)) → IsKept m c → IsKept m (record c { active = active; frozen = frozen })
 kept_rows m c active frozen same kept = (
@@ -72,7 +78,3 @@ kept_rows m c active frozen same kept = (
 
 pub kept_same : (m : Meaning) (a b : CoreModel) → IsSame a b → IsKept m a → IsKept m b
 kept_same m a b same k = subst (λ (v : CoreModel). IsKept m v) (sym same) (kept_event m a a.state a.events b.spare refl refl refl k)
-
-pub kept_after : {X E : Type 0} (m : Meaning) (a b : CoreModel) (r : Result X E) → OnOk r (IsKept m a → IsKept m b) → OnErr r (IsSame a b) → IsKept m a → IsKept m b
-kept_after m a b (Ok x) ok err k = ok k
-kept_after m a b (Err e) ok err k = kept_same m a b err k

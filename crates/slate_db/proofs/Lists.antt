@@ -1,6 +1,8 @@
 -- Facts of each item.
 use Rattle.std.proofs.Common.{◌≡◌, List, [], ◌∷◌, ◌++◌, map, flat_map, refl, ap}
 use Rattle.std.specs.List.{AllByRecursion}
+use Rattle.std.specs.Prelude.{Result, Ok, Err, OnOk}
+use Rattle.std.specs.Result.{result_and}
 
 pub all_more : {X : Type 0} (P : X → Type 0) (xs : List X) (x : X) → AllByRecursion P xs → P x → AllByRecursion P (xs ++ (x ∷ []))
 all_more P [] x h p = (p, tt)
@@ -25,3 +27,8 @@ all_front P (x ∷ xs) ys h = (h.0, all_front P xs ys h.1)
 pub all_behind : {X : Type 0} (P : X → Type 0) (xs ys : List X) → AllByRecursion P (xs ++ ys) → AllByRecursion P ys
 all_behind P [] ys h = h
 all_behind P (x ∷ xs) ys h = all_behind P xs ys h.1
+
+-- of two results, where both are made
+pub first_ok : {A B E P : Type 0} (a : Result A E) (b : Result B E) (x : B) → result_and a b ≡ Ok x → OnOk a P → P
+first_ok (Ok y) b x is p = p
+first_ok (Err e) b x is p = cc

@@ -1,12 +1,12 @@
 -- The refusals of a write, where there are no segments.
-use Rattle.std.proofs.Common.{◌≡◌, ℕ, ◌+◌, ◌-◌, ◌<◌, ◌^◌, true, false, List, [], ◌∷◌, ◌++◌, map, filter_map, Option, Some, None, refl, sym, ap, ◌∙◌, arith, append-nil, flat_map}
+use Rattle.std.proofs.Common.{◌≡◌, ℕ, ◌-◌, ◌<◌, ◌^◌, true, false, List, [], ◌∷◌, ◌++◌, map, filter_map, Option, Some, None, refl, ap, ◌∙◌, arith, append-nil, flat_map}
 use Rattle.std.specs.List.{AllByRecursion}
 use Rattle.std.specs.Prelude.{◌==◌}
 use Rattle.std.proofs.lemmas.Bool.Decides.{nat_tests}
 use Rattle.slate_types.specs.declared.error.SlateDBError.{SlateDBError}
 use Rattle.slate_types.specs.declared.error.SlateDBError.TheVariants as errors
 use Rattle.slate_types.specs.Keys.{keys_set}
-use Rattle.slate_mem.specs.Batch.{Ops, batch_keys, kept_ops}
+use Rattle.slate_mem.specs.Batch.{Ops, batch_keys}
 use Rattle.slate_txn.specs.State.{Rules, State, Commit, last_of}
 use Rattle.slate_txn.specs.declared.line.Line.TheVariants as lines
 use Rattle.slate_txn.specs.Step.{step, refused_or, with_reply, as_commit}
@@ -36,13 +36,6 @@ refusal_is r s (o ∷ os) some fine none =
 
 pub step_refused : (r : Rules) (s : State) (ops : Ops) (e : SlateDBError) → write_refusal r s ops ≡ Some e → step r s (lines.Write ops) ≡ (s, Refused e)
 step_refused r s ops e is = ap (λ o. refused_or o s (with_reply Written (as_commit r s ops (batch_keys ops)))) is
-
-pub step_written : (r : Rules) (s : State) (ops : Ops) (n : ℕ) → (ops ≡ [] → ⊥) → kept_ops ops ≡ ops → n ≡ last_of r.start_seq s.commits → write_refusal r s ops ≡ None →
-    step r s (lines.Write ops) ≡ (record s { commits = s.commits ++ (record { seq = n + 1; now = s.now; ops = ops; tracked = batch_keys ops } ∷ []) }, Written (Some (n + 1)))
-step_written r s [] n some kept last fine = absurd (some refl)
-step_written r s (o ∷ os) n some kept last fine =
-    ap (λ e. refused_or e s (with_reply Written (as_commit r s (o ∷ os) (batch_keys (o ∷ os))))) fine
-    ∙ (let l = sym last in λ i. (record s { commits = s.commits ++ (record { seq = l i + 1; now = s.now; ops = kept i; tracked = batch_keys (o ∷ os) } ∷ []) }, Written (Some (l i + 1))))
 
 -- a sequence is left
 pub not_exhausted : (r : Rules) (s : State) (n : ℕ) (es : List (Option SlateDBError)) → n ≡ last_of r.start_seq s.commits → n < 2 ^ 64 - 2 → first_refusal (exhausted_refusal r s ∷ es) ≡ first_refusal es

@@ -76,9 +76,6 @@ own_rows_short : (k : List ℕ) (ops : List WriteOp) → AllByRecursion (λ op. 
 own_rows_short k [] h = tt
 own_rows_short k (o ∷ os) h = (h.0, own_rows_short k os h.1)
 
-pub own_short : (k : List ℕ) (ops : Ops) → AreShortOps ops → AreShort (map (own_row k) (kept ops k))
-own_short k ops h = own_rows_short k (kept ops k) (kept_short k ops h)
-
 cons_short : (o : Option RowEntry) (rows : List RowEntry) → AreShort (option_to_list o) → AreShort rows → AreShort (cons_option o rows)
 cons_short None rows h k = k
 cons_short (Some r) rows h k = (h.0, k)

@@ -1,5 +1,5 @@
 -- The key alone as a range, and what a walk over blocks, one after another, finds of a key.
-use Rattle.std.proofs.Common.{◌≡◌, ℕ, true, false, ◌&&◌, List, [], ◌∷◌, ◌++◌, refl, sym, ap, ◌∙◌, append-nil, append_assoc}
+use Rattle.std.proofs.Common.{◌≡◌, ℕ, true, false, ◌&&◌, List, [], ◌∷◌, ◌++◌, sym, ap, ◌∙◌, append-nil, append_assoc}
 use Rattle.std.specs.Ordering.{is_lt, is_le}
 use Rattle.std.specs.List.{AllByRecursion}
 use Rattle.std.specs.Prelude.{flat_map}
@@ -32,9 +32,6 @@ pub record Walked (version : ℕ) (left : List Block) (lists : List Rows) (k : L
   pub are : AreBlocksOf version left rest
   pub order : AllByRecursion (IsInOrder Ascending) rest
   pub is_newest : found ≡ newest k n (flat_map (λ rows. rows) before)
-
-pub walk_begins : (version : ℕ) (left : List Block) (lists : List Rows) (k : List ℕ) (n : ℕ) → AreBlocksOf version left lists → AllByRecursion (IsInOrder Ascending) lists → Walked version left lists k n []
-walk_begins version left lists k n are order = record { before = []; rest = lists; split = refl; are = are; order = order; is_newest = refl }
 
 pub record Next (version : ℕ) (block : Block) (left : List Block) (lists : List Rows) (k : List ℕ) (n : ℕ) (found : Rows) : Type 0 where
   pub before : List Rows

@@ -45,7 +45,7 @@ use slate_mem::{ImmutableMemtable, MemTable, WriteBatch};
 use slate_store::{Env, Store};
 use slate_table::SsTableHandle;
 use slate_txn::fold::fold_found;
-use slate_txn::open::{Open, barrier, begin_of, close, note_get, open_at};
+use slate_txn::open::{Open, barrier, begin_of, close, close_all, note_get, open_at};
 use slate_txn::{Event, Journal, OpList};
 use slate_types::{
     BlockTransformer, IsolationLevel, KeyValue, MergeOperator, Options, ReadOptions, RowEntry,
@@ -218,7 +218,7 @@ impl Core {
         if self.last >= 18446744073709551614 {
             return Err(SlateDBError::SequenceExhausted);
         }
-        reserve_events(&mut self.journal, self.open.len(), 1)?;
+        reserve_event(&mut self.journal, self.open.len())?;
         let seq = self.last + 1;
         let (rows, _bytes) = batch.extract_entries(self.alloc, seq, now, self.default_millis)?;
         let ops = batch.ops(self.alloc)?;
@@ -263,7 +263,7 @@ impl Core {
         ensures operator { env.new.operator ≡ env.old.operator }
         ensures same_store { env.new.store.ghost_name ≡ env.old.store.ghost_name }
     {
-        self.make_room()?;
+        self.place_for_flush()?;
         self.freeze()?;
         if self.frozen.as_slice().is_empty() {
             self.flushed = self.last;
@@ -272,20 +272,31 @@ impl Core {
         self.install(env, options)
     }
 
-    /// Makes room for the events of a flush that freezes rows.
-    fn make_room(&mut self) -> Result<(), SlateDBError>
-        ensures same { IsSame self.old self.new }
-        ensures idle { self.old.active ≡ [] → self.new ≡ self.old }
-        ensures never { self.old.active ≡ [] → IsOk result }
-        ensures refused { OnErr result (self.new ≡ self.old) }
-        ensures room { OnOk result (self.old.active ≢ [] → length self.old.events + length self.old.state.txns + 2 ≤ LIMIT) }
-        ensures limit { self.old.active ≢ [] → LIMIT < length self.old.events + length self.old.state.txns + 2 → result ≡ Err (SlateDBError.LimitReached LIMIT) }
-        ensures cause { IfErr result (λ e. (e ≡ SlateDBError.OutOfMemory) ⊎ ((e ≡ SlateDBError.LimitReached LIMIT) × (self.old.active ≢ []) × (LIMIT < length self.old.events + length self.old.state.txns + 2))) }
+    /// `LimitReached` where the journal has no place for the events of a flush.
+    fn place_for_flush(&self) -> Result<(), SlateDBError>
+        ensures place { OnOk result (length self.now.events + length self.now.state.txns + events_of_flush self.now.active self.now.frozen ≤ LIMIT) }
+        ensures limit { IfErr result (λ e. (e ≡ SlateDBError.LimitReached LIMIT) × (LIMIT < length self.now.events + length self.now.state.txns + events_of_flush self.now.active self.now.frozen)) }
     {
-        if self.active.is_empty() {
-            return Ok(());
+        if self.journal.len() + self.open.len() > EVENTS - self.events_of_flush() {
+            return Err(SlateDBError::LimitReached {
+                limit: EVENTS as u64,
+            });
         }
-        reserve_events(&mut self.journal, self.open.len(), 2)
+        Ok(())
+    }
+
+    /// How many events a flush adds.
+    fn events_of_flush(&self) -> usize
+        ensures count { result ≡ events_of_flush self.now.active self.now.frozen }
+        ensures few { result ≤ 2 }
+    {
+        if !self.active.is_empty() {
+            2
+        } else if !self.frozen.as_slice().is_empty() {
+            1
+        } else {
+            0
+        }
     }
 
     /// Stores the frozen rows as a table.
@@ -297,19 +308,14 @@ impl Core {
         requires valid { IsValid options.now }
         requires idle { self.old.active ≡ [] }
         requires some { 0 < length self.old.frozen }
+        requires place { length self.old.events + length self.old.state.txns + 1 ≤ LIMIT }
         ensures newest { IfOk result (λ n. n ≡ last_of self.old.settings.start_seq self.old.state.commits) }
         ensures installed { IfOk result (λ n. IsFlushed (changed_by T.encoded env.old.transformer) (layout_of options.now) self.old self.new n (S.objects env.old.store.now) (S.objects env.new.store.now)) }
-        ensures flushed { IfOk result (λ n. self.new.state ≡ record self.old.state { flushed = n }) }
         ensures acts { OnOk result (AddsTables (tables_of self.old.events) (tables_of self.new.events) (S.acts env.old.store.now) (S.acts env.new.store.now)) }
-        ensures taken { OnOk result ((self.new.active ≡ []) × (self.new.frozen ≡ [])) }
         ensures same { OnErr result (IsSame self.old self.new) }
         ensures refused { OnErr result (MayFlush (changed_by T.encoded env.old.transformer) (layout_of options.now) self.old (S.objects env.old.store.now) (S.objects env.new.store.now)) }
         ensures kept { (m : Meaning) → m.encode ≡ changed_by T.encoded env.old.transformer → IsKept m self.old → IsKept m self.new }
-        ensures settings { self.new.settings ≡ self.old.settings }
-        ensures full { LIMIT < length self.old.events + length self.old.state.txns + 1 → self.new ≡ self.old }
-        ensures full_objects { LIMIT < length self.old.events + length self.old.state.txns + 1 → S.objects env.new.store.now ≡ S.objects env.old.store.now }
-        ensures limit { LIMIT < length self.old.events + length self.old.state.txns + 1 → result ≡ Err (SlateDBError.LimitReached LIMIT) }
-        ensures cause { IfErr result (λ e. IsStoreFault (S.faults env.old.store.now) (S.faults env.new.store.now) e ⊎ (IsTransformFault (faults_of T.faults env.old.transformer) (faults_of T.faults env.new.transformer) e ⊎ (((e ≡ SlateDBError.LimitReached LIMIT) × (LIMIT < length self.old.events + length self.old.state.txns + 1)) ⊎ TooLarge (layout_of options.now) self.old e))) }
+        ensures cause { IfErr result (λ e. IsStoreFault (S.faults env.old.store.now) (S.faults env.new.store.now) e ⊎ (IsTransformFault (faults_of T.faults env.old.transformer) (faults_of T.faults env.new.transformer) e ⊎ TooLarge (layout_of options.now) self.old e)) }
         ensures later { S.faults env.old.store.now ≤ S.faults env.new.store.now }
         ensures later_transformer { faults_of T.faults env.old.transformer ≤ faults_of T.faults env.new.transformer }
         ensures same_encoded { changed_by T.encoded env.new.transformer ≡ changed_by T.encoded env.old.transformer }
@@ -317,8 +323,9 @@ impl Core {
         ensures operator { env.new.operator ≡ env.old.operator }
         ensures same_store { env.new.store.ghost_name ≡ env.old.store.ghost_name }
     {
-        reserve_events(&mut self.journal, self.open.len(), 1)?;
-        self.tables.reserve(1)?;
+        self.journal
+            .reserve(self.open.len() + 1)
+            .and(self.tables.reserve(1))?;
         let barrier = barrier(&self.open, self.last);
         let number = self.runs + 1;
         let put = stored(self.alloc, &self.frozen, barrier, number, options, env)?;
@@ -444,27 +451,27 @@ impl Core {
         ensures stores { (m : Meaning) → IsLawfulMeaning m → IsKept m self → StoresState m self }
     {
         self.journal();
+        let Core { journal, open, .. } = self;
+        journal.close();
+        close_all(open);
     }
 }
 
-/// Makes room for more events beside those of the open transactions' ends. `LimitReached` where the journal has no place for them, or
-/// `OutOfMemory`, and then nothing is changed.
-fn reserve_events(journal: &mut Journal, ends: usize, more: usize) -> Result<(), SlateDBError>
-    requires held { length journal.old.events + ends ≤ LIMIT }
-    requires few { more ≤ 2 }
+/// Makes room for one more event beside those of the open transactions' ends. `LimitReached` where the journal has no place for it, or
+/// `OutOfMemory`.
+fn reserve_event(journal: &mut Journal, ends: usize) -> Result<(), SlateDBError>
+    requires { length journal.old.events + ends ≤ LIMIT }
     ensures events { journal.new.events ≡ journal.old.events }
     ensures wider { journal.old.spare ≤ journal.new.spare }
-    ensures room { OnOk result (ends + more ≤ journal.new.spare) }
-    ensures place { OnOk result (length journal.old.events + ends + more ≤ LIMIT) }
-    ensures same { OnErr result (journal.new ≡ journal.old) }
-    ensures limit { LIMIT < length journal.old.events + ends + more → result ≡ Err (SlateDBError.LimitReached LIMIT) }
-    ensures cause { IfErr result (λ e. (e ≡ SlateDBError.OutOfMemory) ⊎ ((e ≡ SlateDBError.LimitReached LIMIT) × (LIMIT < length journal.old.events + ends + more))) }
+    ensures room { OnOk result (ends + 1 ≤ journal.new.spare) }
+    ensures place { OnOk result (length journal.old.events + ends + 1 ≤ LIMIT) }
+    ensures limit { LIMIT < length journal.old.events + ends + 1 → result ≡ Err (SlateDBError.LimitReached LIMIT) }
+    ensures cause { IfErr result (λ e. (e ≡ SlateDBError.OutOfMemory) ⊎ ((e ≡ SlateDBError.LimitReached LIMIT) × (LIMIT < length journal.old.events + ends + 1))) }
 {
-    if journal.len() + ends > EVENTS - more {
+    if journal.len() + ends == EVENTS {
         return Err(SlateDBError::LimitReached {
             limit: EVENTS as u64,
         });
     }
-    journal.reserve(ends + more)?;
-    Ok(())
+    journal.reserve(ends + 1).map_err(SlateDBError::from)
 }

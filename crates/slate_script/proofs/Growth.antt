@@ -46,9 +46,6 @@ takes-nothing old new events txns same =
 pub takes-same : (old new : CoreModel) → IsSame old new → Takes old new 0
 takes-same old new is = takes-nothing old new (ap (λ (c : CoreModel). c.events) is) (ap (λ (c : CoreModel). c.state.txns) is) (ap load is)
 
-pub takes-itself : (c : CoreModel) → Takes c c 0
-takes-itself c = takes-nothing c c refl refl refl
-
 pub takes-noted : (old new : CoreModel) (s : State) → new ≡ record old { state = s } → length s.txns ≡ length old.state.txns → Takes old new 0
 takes-noted old new s is many =
     let n : length new.events ≡ length old.events = ap (λ (c : CoreModel). length c.events) is in

@@ -1,5 +1,5 @@
 -- Values under names: what is found after a name is given, changed or taken away, and that names stand once.
-use Rattle.std.proofs.Common.{◌≡◌, ℕ, Bool, true, false, cond, List, [], ◌∷◌, Option, Some, None, is_some, IfNone, option_map, refl, sym, ap, ◌∙◌}
+use Rattle.std.proofs.Common.{◌≡◌, ℕ, Bool, true, false, cond, List, [], ◌∷◌, Option, Some, None, is_some, option_map, refl, sym, ap, ◌∙◌}
 use Rattle.std.specs.Ordering.{is_eq}
 use Rattle.std.specs.Str.{bytes_eq}
 use Rattle.std.specs.Map.{lookup}
@@ -169,7 +169,3 @@ named-after name q w old new h = find_named-lookup q new ∙ h ∙ (λ i. cond (
 pub none-found : {X : Type 0} (o : Option X) → is_some o ≡ false → o ≡ None
 none-found None h = refl
 none-found (Some x) h = cc
-
-pub if-none : {X P : Type 0} (o : Option X) → is_some o ≡ false → IfNone o P → P
-if-none None h p = p
-if-none (Some x) h p = cc

@@ -1,5 +1,5 @@
 -- What is kept from line to line.
-use Rattle.std.proofs.Common.{◌≡◌, ℕ, true, false, List, [], ◌∷◌, Option, Some, Result, Ok, Err, OnOk, IsTrue, ◌⊎◌, inl, inr, refl, sym, ap, ◌∙◌, subst, arith}
+use Rattle.std.proofs.Common.{◌≡◌, ℕ, false, List, [], ◌∷◌, Option, Some, Result, Ok, Err, OnOk, IsTrue, ◌⊎◌, inl, inr, refl, sym, ap, ◌∙◌, subst, arith}
 use Rattle.slate_types.specs.declared.config.Options.{Options}
 use Rattle.slate_types.specs.declared.error.SlateDBError.{SlateDBError}
 use Rattle.slate_types.specs.declared.error.SlateDBError.TheVariants.{ChecksumMismatch, InvalidRowFlags, CorruptTable, InvalidSequenceOrder, MergeOperatorMissing, LimitReached}
@@ -51,9 +51,6 @@ pub line-reply : {m : Meaning} {r : Rules} {parts : Meaning} {objects : Option O
     (IsSettled parts objects e → AnswersAs parts e new line (Ok a)) → (s : State) → StandsFor e s → reply_line (reply_of a) ≡ replies_from meaning r s (l ∷ [])
 line-reply {r = r} l line a h loud is steps s stands =
     ap reply_line ((steps (is-settled h) s stands).1 ∙ ap (λ x. (step x s line).1) (its-rules h)) ∙ sym (one-reply r s l line loud is)
-
-pub silent-stands : {e : SessionModel} (r : Rules) (l : List ℕ) → is_silent l ≡ true → (s : State) → StandsFor e s → StandsFor e (after_lines meaning r s (l ∷ []))
-silent-stands {e = e} r l silent s h = subst (λ b. StandsFor e (after r s (onto_meanings b (meaning l) []))) (sym silent) h
 
 -- ---- the beginning
 

@@ -4,7 +4,6 @@ use Rattle.std.proofs.lemmas.List.{length-append}
 use Rattle.slate_mem.specs.Batch.{Ops}
 use Rattle.slate_txn.specs.declared.event.Event.{Event}
 use Rattle.slate_txn.specs.declared.event.Event.TheVariants as events
-use Rattle.slate_txn.specs.State.{State}
 use Rattle.slate_db.specs.Frozen.{IsFrozen}
 use Rattle.slate_db.specs.Installs.{tables_in, tables_of}
 use Rattle.slate_db.specs.Meaning.{Meaning}
@@ -41,9 +40,6 @@ leaves-all old new settings is = record {
 pub leaves-event : (old new : CoreModel) (e : Event) → new ≡ record old { state = new.state; events = old.events ++ (e ∷ []); spare = new.spare } → tables_in e ≡ [] → Leaves old new
 leaves-event old new e is none = leaves-one old new e (ap (λ (c : CoreModel). c.settings) is) (ap (λ (c : CoreModel). c.events) is) none
 
-pub leaves-noted : (old new : CoreModel) (s : State) → new ≡ record old { state = s } → Leaves old new
-leaves-noted old new s is = leaves-all old new (ap (λ (c : CoreModel). c.settings) is) (ap (λ (c : CoreModel). c.events) is)
-
 pub leaves-same : (old new : CoreModel) → IsSame old new → Leaves old new
 leaves-same old new is = leaves-all old new (ap (λ (c : CoreModel). c.settings) is) (ap (λ (c : CoreModel). c.events) is)
 
@@ -72,9 +68,6 @@ kept-same m old new is k = subst (λ (c : CoreModel). IsKept m c) (sym is) (kept
 
 pub stores : (e : SessionModel) (core : CoreModel) (names : List (List ℕ × List ℕ)) (now : ℤ) → Leaves e.core core → ((m : Meaning) → IsKept m e.core → IsKept m core) → StoresNothing e (record { core = core; names = names; now = now })
 stores e core names now leaves kept = record { settings = leaves.settings; tables = leaves.tables; later = leaves.later; kept = kept }
-
-pub stores-itself : (e : SessionModel) → StoresNothing e e
-stores-itself e = record { settings = refl; tables = refl; later = omega arith; kept = λ m k. k }
 
 pub stores-where : (result : Result Answer SlateDBError) (e : SessionModel) (core : CoreModel) → StoresNothing e (record e { core = core }) → OnOk result (StoresNothing e (record e { core = core }))
 stores-where (Ok a) e core h = h

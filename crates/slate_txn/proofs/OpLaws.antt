@@ -167,9 +167,6 @@ own-more ts i d within is =
     ap (λ us. length (grouped us).0) (texts-from ts i d within)
     ∙ word-none (get_or ts i d).now (grouped (texts (drop (i + 1) ts))) is ∙ sym (add-one (own_from ts (i + 1)))
 
-pub own-none : (ts : List (Bor (List ℕ))) → own_from ts (length ts) ≡ 0
-own-none ts = ap (λ us. length (grouped (texts us)).0) (drop_all (length ts) ts (omega arith))
-
 -- The operations from a place on are the one there, and those behind its tokens.
 pub ops-more : (ts : List (Bor (List ℕ))) (at n : ℕ) (d : Bor (List ℕ)) → at < length ts → n ≡ own_from ts (at + 1) →
     built_ops (texts (drop at ts)) ≡ both ◌∷◌ (built_op (get_or ts at d).now (texts (take n (drop (at + 1) ts)))) (built_ops (texts (drop (at + 1 + n) ts)))
@@ -188,9 +185,6 @@ ops-more ts at n d within is =
 
     later : drop (length (grouped us).0) us ≡ texts (drop (at + 1 + n) ts)
     later = ap (λ k. drop k us) (sym is) ∙ drop-map (λ t. t.now) n behind ∙ ap texts (sym (drop-add (at + 1) n ts))
-
-pub ops-none : (ts : List (Bor (List ℕ))) (at : ℕ) → length ts ≤ at → built_ops (texts (drop at ts)) ≡ Some []
-ops-none ts at past = ap (λ us. built_ops (texts us)) (drop_all at ts past)
 
 -- ---- a turn of the loop over them
 

@@ -34,9 +34,6 @@ use Rattle.slate_txn.specs.Parse.{with_byte, both, three, only_if, ◌>>=◌, sp
 abbrev no_space : ℕ → Bool
 no_space b = not (b == 32)
 
-NoSpace : List ℕ → Type 0
-NoSpace t = IsTrue (list_all no_space t)
-
 and-first : (a b : Bool) → (a && b) ≡ true → a ≡ true
 and-first true b h = refl
 and-first false b h = h

@@ -17,10 +17,6 @@ use Rattle.slate_mem.specs.RowOf.{op_expiry}
 use Rattle.slate_txn.specs.State.{Rules, Commit, Tx, State, last}
 use Rattle.slate_txn.specs.Conflict.{conflict}
 
-abbrev pub is_nil : {X : Type 0} → List X → Bool
-is_nil [] = true
-is_nil (x ∷ xs) = false
-
 abbrev pub operator_refusal : Rules → Option SlateDBError
 operator_refusal r = when (is_none r.combine) errors.MergeOperatorMissing
 

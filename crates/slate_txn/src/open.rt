@@ -72,6 +72,11 @@ pub fn close(items: &mut BTreeMap<Uuid, Open>, id: &Uuid)
     drop(items.remove(id));
 }
 
+/// Lets go of open transactions.
+pub fn close_all(items: BTreeMap<Uuid, Open>) {
+    drop(items);
+}
+
 /// The least begin, or the newest sequence. Begins rise with ids, so it is that of the first.
 pub fn barrier(items: &BTreeMap<Uuid, Open>, newest: u64) -> u64
     requires rise { BeginsRise items.now.entries }

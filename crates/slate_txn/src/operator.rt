@@ -23,6 +23,6 @@ impl MergeOperator for NoOperator {
         _existing_value: Option<&Bytes>,
         value: &Bytes,
     ) -> Result<Bytes, MergeOperatorError> {
-        Ok(value.clone()?)
+        value.clone().map_err(MergeOperatorError::from)
     }
 }

@@ -36,5 +36,5 @@ fn xored(alloc: Global, bytes: &[u8], mask: u8) -> Result<Bytes, TransformError>
     for byte in bytes {
         made.push(byte ^ mask)?;
     }
-    Ok(Bytes::from_vec(made)?)
+    Bytes::from_vec(made).map_err(TransformError::from)
 }

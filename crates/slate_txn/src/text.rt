@@ -11,7 +11,7 @@ pub fn show(alloc: Global, bytes: &[u8]) -> Result<Vec<u8>, SlateDBError>
     ensures text { IfOk result (λ v. v.items ≡ shown_bytes bytes.now) }
     ensures cause { IsOkUnless result SlateDBError.OutOfMemory }
 {
-    Ok(shown(alloc, bytes)?)
+    shown(alloc, bytes).map_err(SlateDBError::from)
 }
 
 #[tactic(auto, using(crate::proofs::TextLaws::hex_is))]

@@ -25,6 +25,11 @@ returns-in_err-handle-clause-refused g c encode layout number barrier layers is 
     rw p.1
     (may_take (IsTableOfFlush encode layout number barrier layers) (c.args.id, c.args.table.now.bytes) (g.S.Store.objects c.args.store.now) (g.S.Store.objects c.put_table.new.store) is (λ os h. c.in_err-handle.ensures.refused os h))
 
+pub returns-in_err-handle-clause-cause : goal.returns-in_err-handle-clause-cause
+returns-in_err-handle-clause-cause g c =
+    let p = err_from_is_err_and c.from_residual-in_err-handle.result c.from_residual-in_err-handle.ensures.1 in
+    rw (p.1, p.2) c.in_err-handle.ensures.cause
+
 pub returns-in_err-tables-clause-refused : goal.returns-in_err-tables-clause-refused
 returns-in_err-tables-clause-refused g c encode layout number barrier layers is =
     let p = err_from_is_err_and c.from_residual.result c.from_residual.ensures.1 in

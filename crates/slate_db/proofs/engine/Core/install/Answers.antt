@@ -1,5 +1,6 @@
-use Rattle.std.proofs.Common.{◌≡◌, ℕ, ◌+◌, ◌<◌, ◌++◌, ◌∷◌, [], List, map, length, refl, ap, sym, subst, ◌∙◌, arith}
+use Rattle.std.proofs.Common.{◌≡◌, ℕ, ◌+◌, ◌<◌, ◌≤◌, ◌++◌, ◌∷◌, [], List, map, length, refl, ap, sym, subst, ◌∙◌, arith}
 use Rattle.std.proofs.lemmas.Result.{err_from_is_err_and, IfOk-from_err}
+use Rattle.std.specs.Prelude.{Ok}
 use Rattle.slate_types.specs.declared.types.Ulid.{Ulid}
 use Rattle.slate_table.specs.declared.info.SsTableHandle.{SsTableHandle}
 use Rattle.slate_table.specs.Parts.{Encode}
@@ -20,7 +21,8 @@ use Rattle.slate_db.proofs.Installs.{whole_install, kept_install, can_flush, tab
 use Rattle.slate_db.proofs.Begins.{within_newest}
 use Rattle.slate_db.proofs.Built.{may_keep}
 use Rattle.slate_db.proofs.Journals.{apply_more}
-use Rattle.slate_db.proofs.Keeps.{same_model, kept_event}
+use Rattle.slate_db.proofs.Keeps.{same_model, kept_same, room_made}
+use Rattle.slate_db.proofs.Lists.{first_ok}
 use Rattle.slate_db.proofs.Loads.{last_cause, too_large_is}
 use Rattle.slate_db.proofs.Puttings.{adds_installed}
 use Rattle.slate_db.proofs.engine.Core.install.Goals as goal
@@ -30,7 +32,7 @@ abbrev table : (g : given.Over) → goal.After-self-3-1 g → Ulid × List ℕ
 table g c = c.in_ok-put.ensures.stored.t
 
 journal_is : (g : given.Over) (c : goal.After-self-3-1 g) → c.push_reserved.new.self.events ≡ c.self.inside.journal.events ++ (events.Install c.self.inside.last (table g c ∷ []) ∷ [])
-journal_is g c = c.push_reserved.ensures.events ∙ (λ i. c.reserve_events.ensures.events i ++ (events.Install c.self.inside.last (c.in_ok-put.ensures.stored.list i) ∷ []))
+journal_is g c = c.push_reserved.ensures.events ∙ (λ i. c.reserve.ensures.events i ++ (events.Install c.self.inside.last (c.in_ok-put.ensures.stored.list i) ∷ []))
 
 barrier_is : (g : given.Over) (c : goal.After-self-3-1 g) → c.barrier-barrier.result ≡ least_begin c.self.inside.last c.self.inside.«open».entries
 barrier_is g c = c.barrier-barrier.ensures
@@ -44,6 +46,13 @@ becomes g c = same_model _ _ refl
     (sym (ap (λ es. (replay es).commits) (journal_is g c) ∙ ap (λ s. s.commits) (apply_more _ c.self.inside.journal.events (events.Install c.self.inside.last (table g c ∷ [])))))
     refl refl refl refl (sym (journal_is g c)) refl refl (sym (ap (λ ts. map (λ t. t.rows) ts) c.clear.ensures.items)) (sym (barrier_is g c))
 
+-- room was made for the event
+room : (g : given.Over) (c : goal.After-self-3-1 g) → c.len.result + 1 ≤ c.reserve.new.self.spare
+room g c = first_ok c.reserve.result c.reserve-2.result _ (sym c.and.ensures ∙ went) c.reserve.ensures.ok
+  where
+    went : c.and.result ≡ Ok c.in_ok-and.field-0
+    went = grind (arith, c.branch-and.ensures, c.in_ok-and.is)
+
 -- the table is that of the core's flush
 made : (g : given.Over) (c : goal.After-self-3-1 g) →
     IsTableOfFlush (changed_by g.T.BlockTransformer.encoded c.args.env.now.transformer) (layout_of c.args.options.now) (length (tables_of (view_of c.self.inside).events) + 1) (least_begin c.self.inside.last (view_of c.self.inside).state.txns) (view_of c.self.inside).frozen (table g c)
@@ -55,11 +64,11 @@ made g c =
 pub invariant_of-self-2 : goal.invariant_of-self-2
 invariant_of-self-2 g c =
     subst (λ (hs : List SsTableHandle). IsWhole (after g c) c.self.inside.last c.self.inside.ids (c.self.inside.runs + 1) hs)
-    (sym (c.push_reserved-2.ensures.items ∙ ap (λ xs. xs ++ (c.in_ok-put.put.1 ∷ [])) c.reserve.ensures.items))
+    (sym (c.push_reserved-2.ensures.items ∙ ap (λ xs. xs ++ (c.in_ok-put.put.1 ∷ [])) c.reserve-2.ensures.items))
     (subst (λ (v : CoreModel). IsWhole v c.self.inside.last c.self.inside.ids (c.self.inside.runs + 1) (c.self.inside.tables.items ++ (c.in_ok-put.put.1 ∷ []))) (becomes g c)
     (whole_install (view_of c.self.inside) c.self.inside.last c.self.inside.ids c.self.inside.runs c.self.inside.tables.items (table g c) c.in_ok-put.put.1 c.push_reserved.new.self.spare
-    (omega (arith, c.in_ok-reserve_events.ensures.room, c.push_reserved.ensures.spare, c.len.ensures.len))
-    (omega (arith, c.in_ok-reserve_events.ensures.place, c.len.ensures.len))
+    (omega (arith, room g c, c.push_reserved.ensures.spare, c.len.ensures.len))
+    (subst (λ (v : CoreModel). length v.events + length v.state.txns + 1 ≤ LIMIT) (sym c.self.view_is) c.requires.place)
     c.in_ok-put.ensures.stored.table.id
     c.in_ok-put.ensures.stored.kept
     c.self.invariant))
@@ -87,10 +96,6 @@ returns-clause-installed g c =
     (subst (λ (v : CoreModel). IsTableOfFlush (changed_by g.T.BlockTransformer.encoded c.args.env.now.transformer) (layout_of c.args.options.now) (length (tables_of v.events) + 1) (least_begin c.self.inside.last v.state.txns) v.frozen (table g c)) c.self.view_is (made g c))
     c.in_ok-put.ensures.stored.taken
 
-pub returns-clause-flushed : goal.returns-clause-flushed
-returns-clause-flushed g c =
-    ap (λ (v : CoreModel). v.state) (sym (becomes g c) ∙ ap (λ (v : CoreModel). after_install v c.self.inside.last (table g c) c.push_reserved.new.self.spare) c.self.view_is)
-
 pub returns-clause-kept : goal.returns-clause-kept
 returns-clause-kept g c m same k =
     subst (λ (v : CoreModel). IsKept m v) (becomes g c)
@@ -103,10 +108,11 @@ returns-clause-kept g c m same k =
 -- room was made, and nothing else
 pub returns-in_err-put-clause-kept : goal.returns-in_err-put-clause-kept
 returns-in_err-put-clause-kept g c m same k =
-    subst (λ (v : CoreModel). IsKept m v)
-    (same_model (record (view_of c.self.inside) { spare = c.reserve_events.new.journal.spare }) (view_of (record c.self.inside { journal = c.reserve_events.new.journal; tables = c.reserve.new.self })) refl
-    (ap (λ es. (replay es).commits) (sym c.reserve_events.ensures.events)) refl refl refl refl (sym c.reserve_events.ensures.events) refl refl refl refl)
-    (kept_event m (view_of c.self.inside) (view_of c.self.inside).state c.self.inside.journal.events c.reserve_events.new.journal.spare refl refl refl (subst (λ (v : CoreModel). IsKept m v) (sym c.self.view_is) k))
+    kept_same m (view_of c.self.inside) (view_of (record c.self.inside { journal = c.reserve.new.self })) (room_made c.self.inside c.reserve.new.self c.reserve.ensures.events) (subst (λ (v : CoreModel). IsKept m v) (sym c.self.view_is) k)
+
+pub returns-in_err-and-clause-kept : goal.returns-in_err-and-clause-kept
+returns-in_err-and-clause-kept g c m same k =
+    kept_same m (view_of c.self.inside) (view_of (record c.self.inside { journal = c.reserve.new.self })) (room_made c.self.inside c.reserve.new.self c.reserve.ensures.events) (subst (λ (v : CoreModel). IsKept m v) (sym c.self.view_is) k)
 
 pub returns-in_err-put-clause-refused : goal.returns-in_err-put-clause-refused
 returns-in_err-put-clause-refused g c =
@@ -134,49 +140,21 @@ pub returns-clause-acts : goal.returns-clause-acts
 returns-clause-acts g c =
     subst (λ (v : CoreModel). AddsTables (tables_of v.events) (tables_of c.push_reserved.new.self.events) (g.S.Store.acts c.args.env.now.store.now) (g.S.Store.acts c.stored.new.env.store.now)) c.self.view_is
     (adds_installed c.self.inside.journal.events c.push_reserved.new.self.events c.self.inside.last c.in_ok-put.put.0 (g.S.Store.acts c.args.env.now.store.now) (g.S.Store.acts c.stored.new.env.store.now)
-    (c.push_reserved.ensures.events ∙ (λ i. c.reserve_events.ensures.events i ++ (events.Install c.self.inside.last c.in_ok-put.put.0 ∷ []))) c.in_ok-put.ensures.stored.t c.in_ok-put.ensures.stored.list c.in_ok-put.ensures.acts)
+    (c.push_reserved.ensures.events ∙ (λ i. c.reserve.ensures.events i ++ (events.Install c.self.inside.last c.in_ok-put.put.0 ∷ []))) c.in_ok-put.ensures.stored.t c.in_ok-put.ensures.stored.list c.in_ok-put.ensures.acts)
 
-pub returns-in_err-reserve_events-clause-refused : goal.returns-in_err-reserve_events-clause-refused
-returns-in_err-reserve_events-clause-refused g c =
+pub returns-in_err-and-clause-refused : goal.returns-in_err-and-clause-refused
+returns-in_err-and-clause-refused g c =
     let p = err_from_is_err_and c.from_residual.result c.from_residual.ensures.1 in
     rw p.1 (may_keep _ _ _ refl)
 
-pub returns-in_err-reserve-clause-kept : goal.returns-in_err-reserve-clause-kept
-returns-in_err-reserve-clause-kept g c m same k =
-    subst (λ (v : CoreModel). IsKept m v)
-    (same_model (record (view_of c.self.inside) { spare = c.reserve_events.new.journal.spare }) (view_of (record c.self.inside { journal = c.reserve_events.new.journal; tables = c.reserve.new.self })) refl
-    (ap (λ es. (replay es).commits) (sym c.reserve_events.ensures.events)) refl refl refl refl (sym c.reserve_events.ensures.events) refl refl refl refl)
-    (kept_event m (view_of c.self.inside) (view_of c.self.inside).state c.self.inside.journal.events c.reserve_events.new.journal.spare refl refl refl (subst (λ (v : CoreModel). IsKept m v) (sym c.self.view_is) k))
+pub returns-in_err-and-clause-newest : goal.returns-in_err-and-clause-newest
+returns-in_err-and-clause-newest g c = IfOk-from_err c.from_residual.result _ c.from_residual.ensures.0
 
-pub returns-in_err-reserve_events-clause-newest : goal.returns-in_err-reserve_events-clause-newest
-returns-in_err-reserve_events-clause-newest g c = IfOk-from_err c.from_residual.result _ c.from_residual.ensures.0
+pub returns-in_err-and-clause-installed : goal.returns-in_err-and-clause-installed
+returns-in_err-and-clause-installed g c = IfOk-from_err c.from_residual.result _ c.from_residual.ensures.0
 
-pub returns-in_err-reserve_events-clause-installed : goal.returns-in_err-reserve_events-clause-installed
-returns-in_err-reserve_events-clause-installed g c = IfOk-from_err c.from_residual.result _ c.from_residual.ensures.0
-
-pub returns-in_err-reserve_events-clause-flushed : goal.returns-in_err-reserve_events-clause-flushed
-returns-in_err-reserve_events-clause-flushed g c = IfOk-from_err c.from_residual.result _ c.from_residual.ensures.0
-
-pub returns-in_err-reserve_events-clause-acts : goal.returns-in_err-reserve_events-clause-acts
-returns-in_err-reserve_events-clause-acts g c = IfOk-from_err c.from_residual.result _ c.from_residual.ensures.0
-
-pub returns-in_err-reserve_events-clause-taken : goal.returns-in_err-reserve_events-clause-taken
-returns-in_err-reserve_events-clause-taken g c = IfOk-from_err c.from_residual.result _ c.from_residual.ensures.0
-
-pub returns-in_err-reserve-clause-newest : goal.returns-in_err-reserve-clause-newest
-returns-in_err-reserve-clause-newest g c = IfOk-from_err c.from_residual-in_err-reserve.result _ c.from_residual-in_err-reserve.ensures.0
-
-pub returns-in_err-reserve-clause-installed : goal.returns-in_err-reserve-clause-installed
-returns-in_err-reserve-clause-installed g c = IfOk-from_err c.from_residual-in_err-reserve.result _ c.from_residual-in_err-reserve.ensures.0
-
-pub returns-in_err-reserve-clause-flushed : goal.returns-in_err-reserve-clause-flushed
-returns-in_err-reserve-clause-flushed g c = IfOk-from_err c.from_residual-in_err-reserve.result _ c.from_residual-in_err-reserve.ensures.0
-
-pub returns-in_err-reserve-clause-acts : goal.returns-in_err-reserve-clause-acts
-returns-in_err-reserve-clause-acts g c = IfOk-from_err c.from_residual-in_err-reserve.result _ c.from_residual-in_err-reserve.ensures.0
-
-pub returns-in_err-reserve-clause-taken : goal.returns-in_err-reserve-clause-taken
-returns-in_err-reserve-clause-taken g c = IfOk-from_err c.from_residual-in_err-reserve.result _ c.from_residual-in_err-reserve.ensures.0
+pub returns-in_err-and-clause-acts : goal.returns-in_err-and-clause-acts
+returns-in_err-and-clause-acts g c = IfOk-from_err c.from_residual.result _ c.from_residual.ensures.0
 
 pub returns-in_err-put-clause-newest : goal.returns-in_err-put-clause-newest
 returns-in_err-put-clause-newest g c = IfOk-from_err c.from_residual-in_err-put.result _ c.from_residual-in_err-put.ensures.0
@@ -184,38 +162,5 @@ returns-in_err-put-clause-newest g c = IfOk-from_err c.from_residual-in_err-put.
 pub returns-in_err-put-clause-installed : goal.returns-in_err-put-clause-installed
 returns-in_err-put-clause-installed g c = IfOk-from_err c.from_residual-in_err-put.result _ c.from_residual-in_err-put.ensures.0
 
-pub returns-in_err-put-clause-flushed : goal.returns-in_err-put-clause-flushed
-returns-in_err-put-clause-flushed g c = IfOk-from_err c.from_residual-in_err-put.result _ c.from_residual-in_err-put.ensures.0
-
 pub returns-in_err-put-clause-acts : goal.returns-in_err-put-clause-acts
 returns-in_err-put-clause-acts g c = IfOk-from_err c.from_residual-in_err-put.result _ c.from_residual-in_err-put.ensures.0
-
-pub returns-in_err-put-clause-taken : goal.returns-in_err-put-clause-taken
-returns-in_err-put-clause-taken g c = IfOk-from_err c.from_residual-in_err-put.result _ c.from_residual-in_err-put.ensures.0
-
-pub returns-in_err-reserve-clause-full : goal.returns-in_err-reserve-clause-full
-returns-in_err-reserve-clause-full g c past = absurd (omega (arith, subst (λ (v : CoreModel). LIMIT < length v.events + length v.state.txns + 1) (sym c.self.view_is) past, c.in_ok-reserve_events.ensures.place, c.len.ensures.len))
-
-pub returns-in_err-reserve-clause-full_objects : goal.returns-in_err-reserve-clause-full_objects
-returns-in_err-reserve-clause-full_objects g c past = absurd (omega (arith, subst (λ (v : CoreModel). LIMIT < length v.events + length v.state.txns + 1) (sym c.self.view_is) past, c.in_ok-reserve_events.ensures.place, c.len.ensures.len))
-
-pub returns-in_err-reserve-clause-limit : goal.returns-in_err-reserve-clause-limit
-returns-in_err-reserve-clause-limit g c past = absurd (omega (arith, subst (λ (v : CoreModel). LIMIT < length v.events + length v.state.txns + 1) (sym c.self.view_is) past, c.in_ok-reserve_events.ensures.place, c.len.ensures.len))
-
-pub returns-in_err-put-clause-full : goal.returns-in_err-put-clause-full
-returns-in_err-put-clause-full g c past = absurd (omega (arith, subst (λ (v : CoreModel). LIMIT < length v.events + length v.state.txns + 1) (sym c.self.view_is) past, c.in_ok-reserve_events.ensures.place, c.len.ensures.len))
-
-pub returns-in_err-put-clause-full_objects : goal.returns-in_err-put-clause-full_objects
-returns-in_err-put-clause-full_objects g c past = absurd (omega (arith, subst (λ (v : CoreModel). LIMIT < length v.events + length v.state.txns + 1) (sym c.self.view_is) past, c.in_ok-reserve_events.ensures.place, c.len.ensures.len))
-
-pub returns-in_err-put-clause-limit : goal.returns-in_err-put-clause-limit
-returns-in_err-put-clause-limit g c past = absurd (omega (arith, subst (λ (v : CoreModel). LIMIT < length v.events + length v.state.txns + 1) (sym c.self.view_is) past, c.in_ok-reserve_events.ensures.place, c.len.ensures.len))
-
-pub returns-clause-full : goal.returns-clause-full
-returns-clause-full g c past = absurd (omega (arith, subst (λ (v : CoreModel). LIMIT < length v.events + length v.state.txns + 1) (sym c.self.view_is) past, c.in_ok-reserve_events.ensures.place, c.len.ensures.len))
-
-pub returns-clause-full_objects : goal.returns-clause-full_objects
-returns-clause-full_objects g c past = absurd (omega (arith, subst (λ (v : CoreModel). LIMIT < length v.events + length v.state.txns + 1) (sym c.self.view_is) past, c.in_ok-reserve_events.ensures.place, c.len.ensures.len))
-
-pub returns-clause-limit : goal.returns-clause-limit
-returns-clause-limit g c past = absurd (omega (arith, subst (λ (v : CoreModel). LIMIT < length v.events + length v.state.txns + 1) (sym c.self.view_is) past, c.in_ok-reserve_events.ensures.place, c.len.ensures.len))

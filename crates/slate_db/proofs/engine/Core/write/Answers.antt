@@ -63,7 +63,7 @@ becomes : (c : goal.After-drop-batch-inside-2) → after_write (view_of c.self.i
 becomes c = same_model _ _ refl commits refl refl refl refl (sym journal) refl refl refl refl
   where
     journal : c.push_reserved.new.self.events ≡ c.self.inside.journal.events ++ (events.Write (c.self.inside.last + 1) c.args.now c.args.batch.ops ∷ [])
-    journal = c.push_reserved.ensures.events ∙ (λ i. c.reserve_events.ensures.events i ++ (events.Write (c.self.inside.last + 1) (to_z-of_z w64 c.args.now c.ranges.now i) ((c.from_vec.ensures ∙ c.in_ok-ops.ensures.ops) i) ∷ []))
+    journal = c.push_reserved.ensures.events ∙ (λ i. c.reserve_event.ensures.events i ++ (events.Write (c.self.inside.last + 1) (to_z-of_z w64 c.args.now c.ranges.now i) ((c.from_vec.ensures ∙ c.in_ok-ops.ensures.ops) i) ∷ []))
 
     commits : (view_of c.self.inside).state.commits ++ (record { seq = c.self.inside.last + 1; now = c.args.now; ops = c.args.batch.ops; tracked = batch_keys c.args.batch.ops } ∷ []) ≡ (replay c.push_reserved.new.self.events).commits
     commits = sym (ap (λ es. (replay es).commits) journal ∙ ap (λ s. s.commits) (apply_more _ c.self.inside.journal.events (events.Write (c.self.inside.last + 1) c.args.now c.args.batch.ops)))
@@ -72,8 +72,8 @@ pub invariant_of-self-2 : goal.invariant_of-self-2
 invariant_of-self-2 c =
     subst (λ (v : CoreModel). IsWhole v (c.self.inside.last + 1) c.self.inside.ids c.self.inside.runs c.self.inside.tables.items) (becomes c)
     (whole_write (view_of c.self.inside) c.self.inside.last c.self.inside.ids _ _ c.args.now c.args.batch.ops c.put_all.new.self.rows c.push_reserved.new.self.spare
-    (omega (arith, c.in_ok-reserve_events.ensures.room, c.push_reserved.ensures.spare, c.len.ensures.len))
-    (omega (arith, c.in_ok-reserve_events.ensures.place, c.len.ensures.len))
+    (omega (arith, c.in_ok-reserve_event.ensures.room, c.push_reserved.ensures.spare, c.len.ensures.len))
+    (omega (arith, c.in_ok-reserve_event.ensures.place, c.len.ensures.len))
     (fits c)
     (record { some = some_ops c.args.batch.ops (some c); kept = c.ops.ensures.kept; fine = c.ops.ensures.fine })
     (subst AreInOrder (sym (rows_are c plain)) (order_puts c.self.inside.active.rows (commit_rows plain c.self.inside.default_millis (c.self.inside.last + 1) c.args.now c.args.batch.ops) c.self.invariant.active_order))
@@ -124,14 +124,14 @@ returns-clause-load c ops of =
     plain : List ℕ → Combine
     plain k = λ e v. v
 
-pub returns-in_err-reserve_events-clause-step : goal.returns-in_err-reserve_events-clause-step
-returns-in_err-reserve_events-clause-step c = IfOk-from_err c.from_residual.result _ c.from_residual.ensures.0
+pub returns-in_err-reserve_event-clause-step : goal.returns-in_err-reserve_event-clause-step
+returns-in_err-reserve_event-clause-step c = IfOk-from_err c.from_residual.result _ c.from_residual.ensures.0
 
-pub returns-in_err-reserve_events-clause-event : goal.returns-in_err-reserve_events-clause-event
-returns-in_err-reserve_events-clause-event c = IfOk-from_err c.from_residual.result _ c.from_residual.ensures.0
+pub returns-in_err-reserve_event-clause-event : goal.returns-in_err-reserve_event-clause-event
+returns-in_err-reserve_event-clause-event c = IfOk-from_err c.from_residual.result _ c.from_residual.ensures.0
 
-pub returns-in_err-reserve_events-clause-kept : goal.returns-in_err-reserve_events-clause-kept
-returns-in_err-reserve_events-clause-kept c = IfOk-from_err c.from_residual.result _ c.from_residual.ensures.0
+pub returns-in_err-reserve_event-clause-kept : goal.returns-in_err-reserve_event-clause-kept
+returns-in_err-reserve_event-clause-kept c = IfOk-from_err c.from_residual.result _ c.from_residual.ensures.0
 
 pub returns-in_err-rows-clause-step : goal.returns-in_err-rows-clause-step
 returns-in_err-rows-clause-step c = IfOk-from_err c.from_residual-in_err-rows.result _ c.from_residual-in_err-rows.ensures.0
