@@ -1,4 +1,6 @@
+use Rattle.std.proofs.Common.{refl, inl}
 use Rattle.std.proofs.lemmas.Result.{IfOk-from_err}
+use Rattle.slate_mem.proofs.Exits.{err_exit}
 use Rattle.slate_mem.proofs.batch.WriteBatch.put_with_options.Goals as goal
 
 pub returns-in_err-test_put-clause-taken : goal.returns-in_err-test_put-clause-taken
@@ -12,3 +14,6 @@ returns-in_err-value-clause-taken c = IfOk-from_err c.from_residual-in_err-value
 
 pub returns-in_err-value-clause-means : goal.returns-in_err-value-clause-means
 returns-in_err-value-clause-means c = λ ops is. IfOk-from_err c.from_residual-in_err-value.result _ c.from_residual-in_err-value.ensures.0
+
+pub returns-in_err-value-clause-cause : goal.returns-in_err-value-clause-cause
+returns-in_err-value-clause-cause c = err_exit c.from_residual-in_err-value.result _ c.from_residual-in_err-value.ensures.1 _ (inl refl)

@@ -1,0 +1,8 @@
+use Rattle.std.proofs.lemmas.Result.{IfOk-from_err}
+use Rattle.slate_mem.proofs.batch.WriteBatch.delete.Goals as goal
+
+pub returns-in_err-test_key-clause-taken : goal.returns-in_err-test_key-clause-taken
+returns-in_err-test_key-clause-taken c = IfOk-from_err c.from_residual.result _ c.from_residual.ensures.0
+
+pub returns-in_err-test_key-clause-means : goal.returns-in_err-test_key-clause-means
+returns-in_err-test_key-clause-means c = λ ops is. IfOk-from_err c.from_residual.result _ c.from_residual.ensures.0
