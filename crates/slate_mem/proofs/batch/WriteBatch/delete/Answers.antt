@@ -1,4 +1,6 @@
+use Rattle.std.proofs.Common.{inr}
 use Rattle.std.proofs.lemmas.Result.{IfOk-from_err}
+use Rattle.slate_mem.proofs.Exits.{err_exit}
 use Rattle.slate_mem.proofs.batch.WriteBatch.delete.Goals as goal
 
 pub returns-in_err-test_key-clause-taken : goal.returns-in_err-test_key-clause-taken
@@ -6,3 +8,6 @@ returns-in_err-test_key-clause-taken c = IfOk-from_err c.from_residual.result _ 
 
 pub returns-in_err-test_key-clause-means : goal.returns-in_err-test_key-clause-means
 returns-in_err-test_key-clause-means c = λ ops is. IfOk-from_err c.from_residual.result _ c.from_residual.ensures.0
+
+pub returns-in_err-test_key-clause-cause : goal.returns-in_err-test_key-clause-cause
+returns-in_err-test_key-clause-cause c = err_exit c.from_residual.result _ c.from_residual.ensures.1 _ (inr c.in_err-test_key.ensures.cause)

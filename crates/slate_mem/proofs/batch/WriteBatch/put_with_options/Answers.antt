@@ -1,4 +1,4 @@
-use Rattle.std.proofs.Common.{refl, inl}
+use Rattle.std.proofs.Common.{refl, inl, inr}
 use Rattle.std.proofs.lemmas.Result.{IfOk-from_err}
 use Rattle.slate_mem.proofs.Exits.{err_exit}
 use Rattle.slate_mem.proofs.batch.WriteBatch.put_with_options.Goals as goal
@@ -8,6 +8,9 @@ returns-in_err-test_put-clause-taken c = IfOk-from_err c.from_residual.result _ 
 
 pub returns-in_err-test_put-clause-means : goal.returns-in_err-test_put-clause-means
 returns-in_err-test_put-clause-means c = λ ops is. IfOk-from_err c.from_residual.result _ c.from_residual.ensures.0
+
+pub returns-in_err-test_put-clause-cause : goal.returns-in_err-test_put-clause-cause
+returns-in_err-test_put-clause-cause c = err_exit c.from_residual.result _ c.from_residual.ensures.1 _ (inr c.in_err-test_put.ensures.cause)
 
 pub returns-in_err-value-clause-taken : goal.returns-in_err-value-clause-taken
 returns-in_err-value-clause-taken c = IfOk-from_err c.from_residual-in_err-value.result _ c.from_residual-in_err-value.ensures.0
