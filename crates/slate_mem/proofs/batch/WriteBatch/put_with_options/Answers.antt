@@ -20,3 +20,12 @@ returns-in_err-value-clause-means c = λ ops is. IfOk-from_err c.from_residual-i
 
 pub returns-in_err-value-clause-cause : goal.returns-in_err-value-clause-cause
 returns-in_err-value-clause-cause c = err_exit c.from_residual-in_err-value.result _ c.from_residual-in_err-value.ensures.1 _ (inl refl)
+
+pub returns-in_err-test_put-clause-same : goal.returns-in_err-test_put-clause-same
+returns-in_err-test_put-clause-same c = err_exit c.from_residual.result _ c.from_residual.ensures.1 _ refl
+
+pub returns-in_err-value-clause-same : goal.returns-in_err-value-clause-same
+returns-in_err-value-clause-same c = err_exit c.from_residual-in_err-value.result _ c.from_residual-in_err-value.ensures.1 _ refl
+
+pub returns-clause-same : goal.returns-clause-same
+returns-clause-same c = c.replace_copied.ensures.same

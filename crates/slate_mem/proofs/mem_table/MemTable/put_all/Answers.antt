@@ -28,3 +28,6 @@ returns-in_err-put_each-clause-segments c = IfOk-from_err c.from_residual-in_err
 
 pub returns-in_err-put_each-clause-cause : goal.returns-in_err-put_each-clause-cause
 returns-in_err-put_each-clause-cause c = err_exit c.from_residual-in_err-put_each.result _ c.from_residual-in_err-put_each.ensures.1 _ refl
+
+pub returns-in_err-segments-clause-same : goal.returns-in_err-segments-clause-same
+returns-in_err-segments-clause-same c = err_exit c.from_residual.result _ c.from_residual.ensures.1 _ refl
