@@ -1,5 +1,5 @@
 use Rattle.std.proofs.Common.{◌∙◌, ◌++◌, ◌∷◌, [], ap, sym, reverse, map, append_assoc, refl}
-use Rattle.std.proofs.lemmas.List.{reverse-append}
+use Rattle.std.proofs.lemmas.List.{append-nil, nil_from_length, reverse-append}
 use Rattle.std.proofs.lemmas.Result.{IfOk-from_err}
 use Rattle.slate_mem.specs.BatchRows.{stamped}
 use Rattle.slate_mem.proofs.Exits.{err_exit}
@@ -28,4 +28,14 @@ returns-in_err-push c =
     record {
       rows = IfOk-from_err c.from_residual-in_err-push.result _ c.from_residual-in_err-push.ensures.0;
       cause = err_exit c.from_residual-in_err-push.result _ c.from_residual-in_err-push.ensures.1 _ refl;
+    }
+
+pub returns : goal.returns
+returns c =
+    let row = stamped c.args.stamps.now c.args.key.now in
+    let rows = c.loop-op.rows.items in
+    let none = nil_from_length _ c.in-None.ensures.steps.0 in
+    record {
+      rows = sym (append-nil rows) ∙ ap (λ os. rows ++ map row (reverse os)) (sym none) ∙ c.loop-op.invariant;
+      cause = tt;
     }
