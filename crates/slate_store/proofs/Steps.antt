@@ -1,8 +1,10 @@
 -- What a call of the line reader makes of the bytes that are left, from what its steps do.
 use Rattle.std.proofs.Common.{◌≡◌, ◌+◌, ◌<◌, ◌≤◌, ◌++◌, ◌∷◌, [], ℕ, List, Option, Some, None, MatchOption, take, drop, length, ap, sym, ◌∙◌, refl, append_assoc, arith, length-append, inl, inr}
-use Rattle.std.specs.Prelude.{◌-◌, slice_range, IfSome, IfNone, IsErr, MatchResult, OnErr, Result, Ok, Err}
+use Rattle.std.specs.Prelude.{◌-◌, slice_range, IfSome, IfNone, IsErr, IsErrAnd, MatchResult, OnErr, Result, Ok, Err}
 use Rattle.std.proofs.lemmas.Bool.{true≢false}
 use Rattle.std.proofs.lemmas.List.{take-append-drop, append-nil}
+use Rattle.slate_store.specs.declared.store.StoreError.{StoreError}
+use Rattle.slate_store.specs.declared.store.StoreError.TheVariants.{OutOfMemory, Failed}
 use Rattle.slate_store.specs.Lines.{HasNoEnd, LinesModel, GivesLine, IsEnd, KeepsAll, script_limit}
 
 -- what is held behind a piece that was taken
@@ -75,3 +77,8 @@ last_further items (Some l) held before after e some = omega (arith, e, ap lengt
 pub last_counted : {V : Type 0} (items : V → List ℕ) (o : Option V) (held : List ℕ) (before after : ℕ) → before + length held ≡ after → IfSome o (λ l. (items l ≡ held) × (0 < length (items l)) × HasNoEnd (items l)) → IfSome o (λ l. before + length (items l) ≤ after)
 last_counted items None held before after e some = tt
 last_counted items (Some l) held before after e some = omega (arith, e, ap length some.0)
+
+-- where memory is wanting, the store didn't fail
+pub no_fault : {T : Type 0} (r : Result T StoreError) → IsErrAnd r (λ e. e ≡ OutOfMemory) → r ≡ Err Failed → ⊥
+no_fault (Ok x) is e = absurd is
+no_fault (Err y) is e = cc

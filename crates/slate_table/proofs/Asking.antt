@@ -37,6 +37,10 @@ pub memory_exit : {A E : Type 0} (r : Result A E) (e : E) → IsErrAnd r (λ d. 
 memory_exit (Ok x) e is f same = absurd is
 memory_exit (Err d) e is f same = is ∙ same
 
+pub memory_no_fault : {A : Type 0} (r : Result A SlateDBError) → IsOkUnless r OutOfMemory → r ≡ Err BlockTransformError → ⊥
+memory_no_fault (Ok x) memory is = cc
+memory_no_fault (Err e) memory is = cc
+
 pub failed_asks : {X A B : Type 0} {encoded decoded : X → List ℕ → List ℕ} {faults : X → ℕ} {old new : Option X} {r : Result A SlateDBError} {e : SlateDBError} →
     Asks {A = B} encoded decoded faults old new (Err e) → IsErrAnd r (λ d. d ≡ e) → Asks encoded decoded faults old new r
 failed_asks {X} {A} {B} {encoded} {decoded} {faults} {old} {new} {r} {e} a is =

@@ -124,3 +124,8 @@ transform_still (Ok x) m is p = inr (inr p)
 transform_still (Err e) (Ok x) is p = absurd is
 transform_still (Err TransformFailed) (Err d) is p = inl (ap (λ (x : SlateDBError). Err x) is)
 transform_still (Err TransformerWantsMemory) (Err d) is p = inr (inl (ap (λ (x : SlateDBError). Err x) is))
+
+-- the exit of a `?`
+pub err_exit : {T E : Type 0} (r : Result T E) (e : E) → IsErrAnd r (λ d. d ≡ e) → (P : E → Type 0) → P e → IfErr r P
+err_exit (Ok x) e is P p = absurd is
+err_exit (Err d) e is P p = subst P (sym is) p

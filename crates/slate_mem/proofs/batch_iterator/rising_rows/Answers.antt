@@ -1,6 +1,7 @@
 use Rattle.std.proofs.Common.{◌∙◌, ◌++◌, ap, sym, reverse, map, append_assoc}
 use Rattle.std.proofs.lemmas.Result.{IfOk-from_err}
 use Rattle.slate_mem.specs.BatchRows.{stamped, newest_rows}
+use Rattle.slate_mem.proofs.Exits.{err_exit}
 use Rattle.slate_mem.proofs.batch_iterator.rising_rows.Goals as goal
 
 pub loop-key-preserved : goal.loop-key-preserved
@@ -14,5 +15,9 @@ loop-key-preserved c =
     ∙ ap (λ es. before ++ newest_rows s es) (sym c.in-Some.ensures.steps)
     ∙ c.loop-key.invariant
 
-pub returns-in_err-add_rows-clause-rows : goal.returns-in_err-add_rows-clause-rows
-returns-in_err-add_rows-clause-rows c = IfOk-from_err c.from_residual.result _ c.from_residual.ensures.0
+pub returns-in_err-add_rows : goal.returns-in_err-add_rows
+returns-in_err-add_rows c =
+    record {
+      rows = IfOk-from_err c.from_residual.result _ c.from_residual.ensures.0;
+      cause = err_exit c.from_residual.result _ c.from_residual.ensures.1 _ c.in_err-add_rows.ensures.cause;
+    }

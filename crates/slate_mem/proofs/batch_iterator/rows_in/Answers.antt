@@ -1,4 +1,4 @@
-use Rattle.std.proofs.Common.{◌∙◌, sym, subst, ap}
+use Rattle.std.proofs.Common.{◌∙◌, sym, subst, ap, refl}
 use Rattle.std.specs.BTreeMap.Range.{IsLeBy, IsLtBy, entries_between}
 use Rattle.std.specs.Range.Bound.{IsForward}
 use Rattle.std.proofs.lemmas.Result.{IfOk-from_err}
@@ -9,6 +9,7 @@ use Rattle.slate_types.specs.Iteration.{IsInOrder}
 use Rattle.slate_mem.specs.Table.{of_key}
 use Rattle.slate_mem.specs.BatchRows.{newest_rows}
 use Rattle.slate_mem.proofs.BatchRowLaws.{key-forward, newest-between, newest-rise, no-batch-rows}
+use Rattle.slate_mem.proofs.Exits.{err_exit}
 use Rattle.slate_mem.proofs.batch_iterator.rows_in.Goals as goal
 
 pub returns-then-holds_none-clause-rows : goal.returns-then-holds_none-clause-rows
@@ -38,20 +39,26 @@ returns-clause-rows c k =
     c.in_ok-ordered.ensures.keys k ∙ ap (of_key k) (c.in_ok-rows.ensures.rows ∙ ap (newest_rows s) walked)
     ∙ newest-between c.args.range.now s es c.args.batch.now.ops e.whole.rising e.whole.kept e.ops k
 
-pub returns-in_err-start-clause-rows : goal.returns-in_err-start-clause-rows
-returns-in_err-start-clause-rows c = IfOk-from_err c.from_residual.result _ c.from_residual.ensures.0
+pub returns-in_err-start : goal.returns-in_err-start
+returns-in_err-start c =
+    record {
+      rows = IfOk-from_err c.from_residual.result _ c.from_residual.ensures.0;
+      in_order = IfOk-from_err c.from_residual.result _ c.from_residual.ensures.0;
+      cause = err_exit c.from_residual.result _ c.from_residual.ensures.1 _ refl;
+    }
 
-pub returns-in_err-start-clause-in_order : goal.returns-in_err-start-clause-in_order
-returns-in_err-start-clause-in_order c = IfOk-from_err c.from_residual.result _ c.from_residual.ensures.0
+pub returns-in_err-rows : goal.returns-in_err-rows
+returns-in_err-rows c =
+    record {
+      rows = IfOk-from_err c.from_residual-in_err-rows.result _ c.from_residual-in_err-rows.ensures.0;
+      in_order = IfOk-from_err c.from_residual-in_err-rows.result _ c.from_residual-in_err-rows.ensures.0;
+      cause = err_exit c.from_residual-in_err-rows.result _ c.from_residual-in_err-rows.ensures.1 _ c.in_err-rows.ensures.cause;
+    }
 
-pub returns-in_err-rows-clause-rows : goal.returns-in_err-rows-clause-rows
-returns-in_err-rows-clause-rows c = IfOk-from_err c.from_residual-in_err-rows.result _ c.from_residual-in_err-rows.ensures.0
-
-pub returns-in_err-rows-clause-in_order : goal.returns-in_err-rows-clause-in_order
-returns-in_err-rows-clause-in_order c = IfOk-from_err c.from_residual-in_err-rows.result _ c.from_residual-in_err-rows.ensures.0
-
-pub returns-in_err-ordered-clause-rows : goal.returns-in_err-ordered-clause-rows
-returns-in_err-ordered-clause-rows c = IfOk-from_err c.from_residual-in_err-ordered.result _ c.from_residual-in_err-ordered.ensures.0
-
-pub returns-in_err-ordered-clause-in_order : goal.returns-in_err-ordered-clause-in_order
-returns-in_err-ordered-clause-in_order c = IfOk-from_err c.from_residual-in_err-ordered.result _ c.from_residual-in_err-ordered.ensures.0
+pub returns-in_err-ordered : goal.returns-in_err-ordered
+returns-in_err-ordered c =
+    record {
+      rows = IfOk-from_err c.from_residual-in_err-ordered.result _ c.from_residual-in_err-ordered.ensures.0;
+      in_order = IfOk-from_err c.from_residual-in_err-ordered.result _ c.from_residual-in_err-ordered.ensures.0;
+      cause = err_exit c.from_residual-in_err-ordered.result _ c.from_residual-in_err-ordered.ensures.1 _ refl;
+    }

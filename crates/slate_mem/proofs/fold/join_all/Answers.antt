@@ -22,3 +22,9 @@ loop-newer-preserved g c =
 
 pub returns-in_err-row-clause-row : goal.returns-in_err-row-clause-row
 returns-in_err-row-clause-row g c = λ k law keeps of. IfOk-from_err c.from_residual.result _ c.from_residual.ensures.0
+
+pub returns-in_err-row-clause-same : goal.returns-in_err-row-clause-same
+returns-in_err-row-clause-same g c = c.join.ensures.same ∙ c.loop-newer.invariant.same
+
+pub returns-in_err-row-clause-later : goal.returns-in_err-row-clause-later
+returns-in_err-row-clause-later g c = omega (arith, c.loop-newer.invariant.later, c.join.ensures.later)

@@ -1,8 +1,9 @@
-use Rattle.std.proofs.Common.{◌≡◌, ◌+◌, ◌-◌, ◌∷◌, ◌++◌, false, drop, map, rules, ap, ◌∙◌, arith}
+use Rattle.std.proofs.Common.{◌≡◌, ◌+◌, ◌-◌, ◌∷◌, ◌++◌, false, drop, map, rules, ap, ◌∙◌, arith, refl}
 use Rattle.std.proofs.lemmas.Result.{IfOk-from_err}
 use Rattle.slate_mem.specs.Table.{newest}
 use Rattle.slate_mem.specs.Lookup.{is_decided, newest_first}
 use Rattle.slate_mem.proofs.LayerLaws.{layer_step, layers_decide, layers_end, mapped_here}
+use Rattle.slate_mem.proofs.Exits.{err_exit}
 use Rattle.slate_mem.proofs.lookup.newest_of_frozen.Goals as goal
 use Rattle.slate_mem.proofs.lookup.newest_of_frozen.Goals.{then-loop-i-test+else-not-is_decided, else-loop-i-test}
 
@@ -27,8 +28,16 @@ returns-clause-found c above h =
       | else-loop-i-test w ↦ layers_end c.args.key.now c.args.max_seq c.loop-i.i above c.loop-i.found.items (map (λ t. t.rows) c.args.frozen.now) (c.loop-i.invariant.found above h) (omega (arith, w.loop-i-test.false))
     ]
 
-pub returns-in_err-more-clause-found : goal.returns-in_err-more-clause-found
-returns-in_err-more-clause-found c = IfOk-from_err c.from_residual.result _ c.from_residual.ensures.0
+pub returns-in_err-more : goal.returns-in_err-more
+returns-in_err-more c =
+    record {
+      found = IfOk-from_err c.from_residual.result _ c.from_residual.ensures.0;
+      cause = err_exit c.from_residual.result _ c.from_residual.ensures.1 _ c.in_err-more.ensures.cause;
+    }
 
-pub returns-in_err-append-clause-found : goal.returns-in_err-append-clause-found
-returns-in_err-append-clause-found c = IfOk-from_err c.from_residual-in_err-append.result _ c.from_residual-in_err-append.ensures.0
+pub returns-in_err-append : goal.returns-in_err-append
+returns-in_err-append c =
+    record {
+      found = IfOk-from_err c.from_residual-in_err-append.result _ c.from_residual-in_err-append.ensures.0;
+      cause = err_exit c.from_residual-in_err-append.result _ c.from_residual-in_err-append.ensures.1 _ refl;
+    }

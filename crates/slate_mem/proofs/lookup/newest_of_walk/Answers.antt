@@ -1,10 +1,11 @@
-use Rattle.std.proofs.Common.{◌≡◌, ◌∷◌, ◌++◌, None, ap, sym, subst, ◌∙◌}
+use Rattle.std.proofs.Common.{◌≡◌, ◌∷◌, ◌++◌, None, ap, sym, subst, ◌∙◌, refl, inl}
 use Rattle.std.proofs.lemmas.Result.{IfOk-from_err}
 use Rattle.slate_types.specs.declared.iter.IterationOrder.TheVariants.{Ascending}
 use Rattle.slate_types.specs.Iteration.{IsInOrder, NoneBefore}
 use Rattle.slate_types.specs.Outside.{nothing}
 use Rattle.slate_mem.specs.Table.{newest}
 use Rattle.slate_mem.proofs.WalkLaws.{takes}
+use Rattle.slate_mem.proofs.Exits.{err_exit}
 use Rattle.slate_mem.proofs.lookup.newest_of_walk.Goals as goal
 
 pub returns-then-not-goes_on-clause-found : goal.returns-then-not-goes_on-clause-found
@@ -35,5 +36,9 @@ loop-found-preserved g c =
 pub returns-in_err-row-clause-found : goal.returns-in_err-row-clause-found
 returns-in_err-row-clause-found g c = λ s o n. IfOk-from_err c.from_residual.result _ c.from_residual.ensures.0
 
-pub returns-in_err-goes_on-clause-found : goal.returns-in_err-goes_on-clause-found
-returns-in_err-goes_on-clause-found g c = λ s o n. IfOk-from_err c.from_residual-in_err-goes_on.result _ c.from_residual-in_err-goes_on.ensures.0
+pub returns-in_err-goes_on : goal.returns-in_err-goes_on
+returns-in_err-goes_on g c =
+    record {
+      found = λ s o n. IfOk-from_err c.from_residual-in_err-goes_on.result _ c.from_residual-in_err-goes_on.ensures.0;
+      cause = err_exit c.from_residual-in_err-goes_on.result _ c.from_residual-in_err-goes_on.ensures.1 _ (inl refl);
+    }

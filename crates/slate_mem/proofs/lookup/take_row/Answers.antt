@@ -1,5 +1,6 @@
 use Rattle.std.proofs.Common.{◌≡◌, ◌∷◌, ◌++◌, [], true, false, cond, not, rules, ap, sym, ◌∙◌, arith, bytes_eq, nat_le, append-nil, append_assoc}
 use Rattle.std.proofs.lemmas.Bool.Decides.{nat_tests}
+use Rattle.std.proofs.lemmas.Result.{IfOk-from_err}
 use Rattle.slate_mem.specs.Table.{newest}
 use Rattle.slate_mem.proofs.WalkLaws.{ends_past, passes_newer, takes_row}
 use Rattle.slate_mem.proofs.lookup.take_row.Goals as goal
@@ -33,3 +34,10 @@ returns-clause-ends c e rows none order =
     let upto : nat_le row.seq c.args.max_seq ≡ true = grind (arith, nat_tests, c.if-row-max_seq.false) in
     ap (λ xs. c.args.found.now.items ++ xs) (takes_row c.args.key.now c.args.max_seq row rows same upto ∙ ap (λ b. cond b (row ∷ []) (row ∷ left)) (ap not (sym c.is_merge-goes_on.ensures ∙ e)))
     ∙ sym c.in_ok-push.ensures.items
+
+pub returns-in_err-push : goal.returns-in_err-push
+returns-in_err-push c =
+    record {
+      goes_on = IfOk-from_err c.from_residual.result _ c.from_residual.ensures.0;
+      ends = IfOk-from_err c.from_residual.result _ c.from_residual.ensures.0;
+    }

@@ -1,5 +1,6 @@
 use Rattle.std.proofs.Common.{◌≡◌, Bool, true, false, List, ◌∷◌, [], ◌++◌, refl, ap, sym, ◌∙◌, append_assoc, rules}
 use Rattle.std.specs.Map.{values_of}
+use Rattle.std.proofs.lemmas.Result.{IfOk-from_err}
 use Rattle.slate_types.specs.declared.types.RowEntry.{RowEntry}
 use Rattle.slate_types.specs.Rows.{is_base}
 use Rattle.slate_mem.specs.Tied.{taken}
@@ -29,3 +30,15 @@ loop-row-preserved c =
     ∙ ap (λ rs. before ++ rs) (sym more)
     ∙ ap (λ es. before ++ taken b (values_of es)) (sym c.in-Some.ensures.steps)
     ∙ c.loop-row.invariant
+
+pub returns-in_err-clone : goal.returns-in_err-clone
+returns-in_err-clone c =
+    record {
+      rows = IfOk-from_err c.from_residual.result _ c.from_residual.ensures.0;
+    }
+
+pub returns-in_err-push : goal.returns-in_err-push
+returns-in_err-push c =
+    record {
+      rows = IfOk-from_err c.from_residual-in_err-push.result _ c.from_residual-in_err-push.ensures.0;
+    }

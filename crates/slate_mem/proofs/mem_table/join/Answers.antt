@@ -20,14 +20,16 @@ returns-clause-both c =
     let was = c.loop-prefix.invariant in
     sym (set-of-set _ was.rising) ∙ rw c.in-None.ensures.steps.0 at was.both
 
-pub returns-in_err-clone-clause-rising : goal.returns-in_err-clone-clause-rising
-returns-in_err-clone-clause-rising c = IfOk-from_err c.from_residual.result _ c.from_residual.ensures.0
+pub returns-in_err-clone : goal.returns-in_err-clone
+returns-in_err-clone c =
+    record {
+      rising = IfOk-from_err c.from_residual.result _ c.from_residual.ensures.0;
+      both = IfOk-from_err c.from_residual.result _ c.from_residual.ensures.0;
+    }
 
-pub returns-in_err-clone-clause-both : goal.returns-in_err-clone-clause-both
-returns-in_err-clone-clause-both c = IfOk-from_err c.from_residual.result _ c.from_residual.ensures.0
-
-pub returns-in_err-insert-clause-rising : goal.returns-in_err-insert-clause-rising
-returns-in_err-insert-clause-rising c = IfOk-from_err c.from_residual-in_err-insert.result _ c.from_residual-in_err-insert.ensures.0
-
-pub returns-in_err-insert-clause-both : goal.returns-in_err-insert-clause-both
-returns-in_err-insert-clause-both c = IfOk-from_err c.from_residual-in_err-insert.result _ c.from_residual-in_err-insert.ensures.0
+pub returns-in_err-insert : goal.returns-in_err-insert
+returns-in_err-insert c =
+    record {
+      rising = IfOk-from_err c.from_residual-in_err-insert.result _ c.from_residual-in_err-insert.ensures.0;
+      both = IfOk-from_err c.from_residual-in_err-insert.result _ c.from_residual-in_err-insert.ensures.0;
+    }

@@ -2,6 +2,7 @@ use Rattle.std.proofs.Common.{◌≡◌, ◌<◌, ◌^◌, ◌∙◌, ap, sym, s
 use Rattle.slate_types.specs.Rows.{sequenced_cmp}
 use Rattle.std.specs.Map.{lookup}
 use Rattle.std.specs.BTreeMap.{insert_entry, is_at}
+use Rattle.std.proofs.lemmas.Result.{IfOk-from_err}
 use Rattle.slate_mem.specs.Tied.{AreTied, insert_row}
 use Rattle.slate_mem.proofs.TableLaws.{undo-put, tied-put}
 use Rattle.slate_mem.proofs.mem_table.put_one.Goals as goal
@@ -26,3 +27,12 @@ pub returns-clause-kept : goal.returns-clause-kept
 returns-clause-kept c = λ h.
     let fits : c.args.row.seq < 2 ^ 64 = omega arith in
     record { tied = subst AreTied (sym (put c)) (tied-put c.args.row c.args.rows.now.entries fits h.tied); rising = c.in_ok-before.ensures.ordered }
+
+pub returns-in_err-before-clause-put : goal.returns-in_err-before-clause-put
+returns-in_err-before-clause-put c = IfOk-from_err c.from_residual.result _ c.from_residual.ensures.0
+
+pub returns-in_err-before-clause-undo : goal.returns-in_err-before-clause-undo
+returns-in_err-before-clause-undo c = IfOk-from_err c.from_residual.result _ c.from_residual.ensures.0
+
+pub returns-in_err-before-clause-kept : goal.returns-in_err-before-clause-kept
+returns-in_err-before-clause-kept c = IfOk-from_err c.from_residual.result _ c.from_residual.ensures.0

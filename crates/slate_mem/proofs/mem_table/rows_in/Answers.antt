@@ -1,11 +1,12 @@
 use Rattle.std.proofs.Common.{◌∙◌, sym, subst}
-use Rattle.std.proofs.lemmas.Result.{IfOk-weaker}
+use Rattle.std.proofs.lemmas.Result.{IfOk-weaker, IfOk-from_err}
 use Rattle.std.specs.BTreeMap.Range.{IsLeBy, IsLtBy, entries_between}
 use Rattle.std.specs.Range.Bound.{IsForward}
 use Rattle.std.specs.Map.{values_of}
 use Rattle.slate_types.specs.Rows.{sequenced_cmp}
 use Rattle.slate_mem.specs.KeyRange.{first_place}
 use Rattle.slate_mem.proofs.PlaceLaws.{forward, between-is-ranged, none-ranged}
+use Rattle.slate_mem.proofs.Exits.{err_exit}
 use Rattle.slate_mem.proofs.mem_table.rows_in.Goals as goal
 
 pub rows_between-requires : goal.rows_between-requires
@@ -26,3 +27,10 @@ returns-clause-rows c =
     let e = c.in_ok-start.ensures in
     let places = (λ i. values_of (entries_between sequenced_cmp (e.start i) (e.end i) c.args.rows.now.entries)) ∙ between-is-ranged c.args.range.now c.args.rows.now.entries c.requires.tied in
     IfOk-weaker c.rows_between.result _ _ (λ v h. h ∙ places) c.rows_between.ensures.rows
+
+pub returns-in_err-start : goal.returns-in_err-start
+returns-in_err-start c =
+    record {
+      rows = IfOk-from_err c.from_residual.result _ c.from_residual.ensures.0;
+      cause = err_exit c.from_residual.result _ c.from_residual.ensures.1 _ c.in_err-start.ensures.cause;
+    }

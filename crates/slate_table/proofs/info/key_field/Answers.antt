@@ -1,4 +1,6 @@
+use Rattle.std.proofs.Common.{refl, inl}
 use Rattle.std.proofs.lemmas.Result.{IfOk-from_err}
+use Rattle.slate_table.proofs.Results.{err_exit}
 use Rattle.slate_table.proofs.info.key_field.Goals as goal
 
 pub returns-in_err-is_there-clause-found : goal.returns-in_err-is_there-clause-found
@@ -19,11 +21,13 @@ returns-in_err-start-clause-found c = IfOk-from_err c.from_residual-in_err-start
 pub returns-in_err-start-clause-within : goal.returns-in_err-start-clause-within
 returns-in_err-start-clause-within c = IfOk-from_err c.from_residual-in_err-start.result _ c.from_residual-in_err-start.ensures.0
 
-pub returns-in_err-key-clause-found : goal.returns-in_err-key-clause-found
-returns-in_err-key-clause-found c = IfOk-from_err c.from_residual-in_err-key.result _ c.from_residual-in_err-key.ensures.0
-
-pub returns-in_err-key-clause-within : goal.returns-in_err-key-clause-within
-returns-in_err-key-clause-within c = IfOk-from_err c.from_residual-in_err-key.result _ c.from_residual-in_err-key.ensures.0
+pub returns-in_err-key : goal.returns-in_err-key
+returns-in_err-key c =
+    record {
+      found = IfOk-from_err c.from_residual-in_err-key.result _ c.from_residual-in_err-key.ensures.0;
+      cause = err_exit c.from_residual-in_err-key.result _ c.from_residual-in_err-key.ensures.1 _ (inl refl);
+      within = IfOk-from_err c.from_residual-in_err-key.result _ c.from_residual-in_err-key.ensures.0;
+    }
 
 pub returns-then-is_there-eq0-clause-cause : goal.returns-then-is_there-eq0-clause-cause
 returns-then-is_there-eq0-clause-cause c = tt

@@ -1,17 +1,24 @@
-use Rattle.std.proofs.Common.{ℕ, ◌-◌, ◌≡◌, ◌∙◌, take, ap, sym, arith}
-use Rattle.std.proofs.lemmas.Result.{err_from_is_err_and}
+use Rattle.std.proofs.Common.{ℕ, List, ◌-◌, ◌≡◌, ◌∙◌, take, ap, sym, arith, inr}
+use Rattle.std.proofs.lemmas.Result.{err_from_is_err_and, IfOk-from_err}
 use Rattle.slate_types.specs.declared.error.SlateDBError.TheVariants.{OutOfMemory}
+use Rattle.slate_block.specs.RowReading.{refusal}
 use Rattle.slate_table.specs.Parts.{summed}
-use Rattle.slate_table.specs.SectionReading.{part_of_sum}
-use Rattle.slate_table.proofs.Results.{mapped}
+use Rattle.slate_table.specs.SectionReading.{part_in, part_of_sum}
+use Rattle.slate_table.proofs.Results.{mapped, err_exit}
 use Rattle.slate_table.proofs.SectionReads.{part_reads, part_is_front, refused_part}
 use Rattle.slate_table.proofs.section.checked_part.Goals as goal
 
-pub returns-in_err-len-clause-only : goal.returns-in_err-len-clause-only
-returns-in_err-len-clause-only c =
+pub returns-in_err-len : goal.returns-in_err-len
+returns-in_err-len c =
     let p = err_from_is_err_and c.from_residual.result c.from_residual.ensures.1 in
-    λ part is. rw (p.1, p.2)
-    (refused_part c.args.bytes.now c.as_slice.result.now part c.in_err-len.field-0.0 OutOfMemory c.checked_len.ensures.bytes c.as_slice.ensures c.in_err-len.ensures.cause is)
+    record {
+      found = IfOk-from_err c.from_residual.result _ c.from_residual.ensures.0;
+      front = IfOk-from_err c.from_residual.result _ c.from_residual.ensures.0;
+      fits = IfOk-from_err c.from_residual.result _ c.from_residual.ensures.0;
+      only = (λ part is. rw (p.1, p.2)
+          (refused_part c.args.bytes.now c.as_slice.result.now part c.in_err-len.field-0.0 OutOfMemory c.checked_len.ensures.bytes c.as_slice.ensures c.in_err-len.ensures.cause is));
+      cause = err_exit c.from_residual.result _ c.from_residual.ensures.1 _ (inr (ap (λ (b : List ℕ). refusal (part_in b)) (sym c.as_slice.ensures) ∙ ap refusal c.in_err-len.ensures.cause));
+    }
 
 pub returns-clause-found : goal.returns-clause-found
 returns-clause-found c =

@@ -1,8 +1,10 @@
+use Rattle.std.proofs.Common.{refl, inl}
 use Rattle.std.proofs.lemmas.Result.{err_from_is_err_and, IfOk-from_err}
 use Rattle.slate_types.specs.declared.error.SlateDBError.TheVariants.{OutOfMemory}
 use Rattle.slate_block.specs.BlockWalks.{left}
 use Rattle.slate_block.specs.EitherVersion.{left_of}
 use Rattle.slate_table.proofs.FileReads.{rows_stop}
+use Rattle.slate_table.proofs.Results.{err_exit}
 use Rattle.slate_table.proofs.sst_file.all_rows.Goals as goal
 
 pub returns-in_err-row : goal.returns-in_err-row
@@ -12,4 +14,11 @@ returns-in_err-row c =
       rows = IfOk-from_err c.from_residual.result _ c.from_residual.ensures.0;
       cause = (rw (p.1, p.2)
           (rows_stop (left (left_of c.args.walk.now)) (left_of c.loop-rows.walk).reads c.loop-rows.rows.items c.in_err-row.field-0.0 OutOfMemory c.loop-rows.invariant c.in_err-row.ensures.cause));
+    }
+
+pub returns-in_err-push : goal.returns-in_err-push
+returns-in_err-push c =
+    record {
+      rows = IfOk-from_err c.from_residual-in_err-push.result _ c.from_residual-in_err-push.ensures.0;
+      cause = err_exit c.from_residual-in_err-push.result _ c.from_residual-in_err-push.ensures.1 _ (inl refl);
     }

@@ -1,7 +1,8 @@
-use Rattle.std.proofs.Common.{sym, inr}
+use Rattle.std.proofs.Common.{sym, inr, refl, inl}
 use Rattle.std.proofs.lemmas.Result.{err_from_is_err_and, IfOk-from_err}
 use Rattle.slate_table.specs.StatsReading.{block_stats_from}
 use Rattle.slate_table.proofs.StatsReads.{goes_on, stops, is_done}
+use Rattle.slate_table.proofs.Results.{err_exit}
 use Rattle.slate_table.proofs.sst_stats.block_stats_from.Goals as goal
 
 pub returns-in_err-block : goal.returns-in_err-block
@@ -30,4 +31,20 @@ returns c =
           (block_stats_from c.args.count c.args.bytes.now c.args.at) c.loop-test.false c.loop.invariant.read);
       cause = tt;
       within = c.loop.invariant.within;
+    }
+
+pub returns-in_err-blocks : goal.returns-in_err-blocks
+returns-in_err-blocks c =
+    record {
+      found = IfOk-from_err c.from_residual.result _ c.from_residual.ensures.0;
+      cause = err_exit c.from_residual.result _ c.from_residual.ensures.1 _ (inl refl);
+      within = IfOk-from_err c.from_residual.result _ c.from_residual.ensures.0;
+    }
+
+pub returns-in_err-push : goal.returns-in_err-push
+returns-in_err-push c =
+    record {
+      found = IfOk-from_err c.from_residual-in_err-push.result _ c.from_residual-in_err-push.ensures.0;
+      cause = err_exit c.from_residual-in_err-push.result _ c.from_residual-in_err-push.ensures.1 _ (inl refl);
+      within = IfOk-from_err c.from_residual-in_err-push.result _ c.from_residual-in_err-push.ensures.0;
     }

@@ -9,6 +9,7 @@ use Rattle.slate_mem.specs.CommitRows.{commit_rows}
 use Rattle.slate_mem.specs.Kept.{IsWhole}
 use Rattle.slate_mem.proofs.PlaceLaws.{all-between}
 use Rattle.slate_mem.proofs.KeptLaws.{rows-listed, newest-single}
+use Rattle.slate_mem.proofs.Exits.{err_exit}
 use Rattle.slate_mem.proofs.batch.WriteBatch.extract_entries.Goals as goal
 
 pub returns-clause-rows : goal.returns-clause-rows
@@ -25,8 +26,10 @@ returns-clause-rows c = λ combine.
     ∙ sym (rows-listed combine default c.args.seq c.args.now es whole)
     ∙ ap (λ (b : BatchModel). commit_rows combine default c.args.seq c.args.now b.ops) c.self.view_is
 
-pub returns-in_err-rows-clause-rows : goal.returns-in_err-rows-clause-rows
-returns-in_err-rows-clause-rows c = IfOk-from_err c.from_residual.result _ c.from_residual.ensures.0
-
-pub returns-in_err-rows-clause-bytes : goal.returns-in_err-rows-clause-bytes
-returns-in_err-rows-clause-bytes c = IfOk-from_err c.from_residual.result _ c.from_residual.ensures.0
+pub returns-in_err-rows : goal.returns-in_err-rows
+returns-in_err-rows c =
+    record {
+      rows = IfOk-from_err c.from_residual.result _ c.from_residual.ensures.0;
+      bytes = IfOk-from_err c.from_residual.result _ c.from_residual.ensures.0;
+      cause = err_exit c.from_residual.result _ c.from_residual.ensures.1 _ c.in_err-rows.ensures.cause;
+    }

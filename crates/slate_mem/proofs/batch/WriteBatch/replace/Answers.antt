@@ -1,8 +1,9 @@
-use Rattle.std.proofs.Common.{◌≡◌, ◌∙◌, ◌++◌, ◌∷◌, [], ap, sym, subst}
+use Rattle.std.proofs.Common.{◌≡◌, ◌∙◌, ◌++◌, ◌∷◌, [], ap, sym, subst, refl}
 use Rattle.std.proofs.lemmas.Result.{IfOk-from_err}
 use Rattle.slate_mem.specs.BatchModel.{with_op, IsBatchOf}
 use Rattle.slate_mem.specs.contracts.batch.WriteBatch.{the_view}
 use Rattle.slate_mem.proofs.KeptLaws.{whole-set, view-set, batch_of_more}
+use Rattle.slate_mem.proofs.Exits.{err_exit}
 use Rattle.slate_mem.proofs.batch.WriteBatch.replace.Goals as goal
 
 pub invariant_of-self-2 : goal.invariant_of-self-2
@@ -26,3 +27,6 @@ returns-in_err-insert-clause-taken c = IfOk-from_err c.from_residual.result _ c.
 
 pub returns-in_err-insert-clause-means : goal.returns-in_err-insert-clause-means
 returns-in_err-insert-clause-means c = λ ops is. IfOk-from_err c.from_residual.result _ c.from_residual.ensures.0
+
+pub returns-in_err-insert-clause-cause : goal.returns-in_err-insert-clause-cause
+returns-in_err-insert-clause-cause c = err_exit c.from_residual.result _ c.from_residual.ensures.1 _ refl

@@ -1,11 +1,12 @@
 use Rattle.std.proofs.lemmas.Result.{IfOk-from_err}
+use Rattle.slate_mem.proofs.Exits.{err_exit}
 use Rattle.slate_mem.proofs.batch_iterator.WriteBatchIterator.new.Goals as goal
 
-pub returns-in_err-rows-clause-rows : goal.returns-in_err-rows-clause-rows
-returns-in_err-rows-clause-rows c = IfOk-from_err c.from_residual.result _ c.from_residual.ensures.0
-
-pub returns-in_err-rows-clause-in_order : goal.returns-in_err-rows-clause-in_order
-returns-in_err-rows-clause-in_order c = IfOk-from_err c.from_residual.result _ c.from_residual.ensures.0
-
-pub returns-in_err-rows-clause-order : goal.returns-in_err-rows-clause-order
-returns-in_err-rows-clause-order c = IfOk-from_err c.from_residual.result _ c.from_residual.ensures.0
+pub returns-in_err-rows : goal.returns-in_err-rows
+returns-in_err-rows c =
+    record {
+      rows = IfOk-from_err c.from_residual.result _ c.from_residual.ensures.0;
+      in_order = IfOk-from_err c.from_residual.result _ c.from_residual.ensures.0;
+      order = IfOk-from_err c.from_residual.result _ c.from_residual.ensures.0;
+      cause = err_exit c.from_residual.result _ c.from_residual.ensures.1 _ c.in_err-rows.ensures.cause;
+    }

@@ -1,4 +1,4 @@
-use Rattle.std.proofs.Common.{◌∙◌, ap}
+use Rattle.std.proofs.Common.{◌∙◌, ap, refl}
 use Rattle.std.proofs.lemmas.Result.{IfOk-weaker, IfOk-from_err}
 use Rattle.std.specs.Ordering.{is_gt}
 use Rattle.slate_types.specs.Rows.{sequenced_cmp}
@@ -7,6 +7,7 @@ use Rattle.std.specs.BTreeMap.Range.{entries_between}
 use Rattle.std.specs.declared.ops.Bound.TheVariants.{Included}
 use Rattle.slate_mem.specs.Table.{MemTableModel, newest, to_base}
 use Rattle.slate_mem.proofs.TableLaws.{newest-first, newest-listed, tied-keyed}
+use Rattle.slate_mem.proofs.Exits.{err_exit}
 use Rattle.slate_mem.proofs.mem_table.MemTable.rows_of_key.Goals as goal
 
 pub rows_between-requires : goal.rows_between-requires
@@ -25,5 +26,9 @@ returns-clause-rows c =
     in
     IfOk-weaker c.rows_between.result _ _ (λ v h. h ∙ rows) c.rows_between.ensures.rows
 
-pub returns-in_err-first-clause-rows : goal.returns-in_err-first-clause-rows
-returns-in_err-first-clause-rows c = IfOk-from_err c.from_residual.result _ c.from_residual.ensures.0
+pub returns-in_err-first : goal.returns-in_err-first
+returns-in_err-first c =
+    record {
+      rows = IfOk-from_err c.from_residual.result _ c.from_residual.ensures.0;
+      cause = err_exit c.from_residual.result _ c.from_residual.ensures.1 _ refl;
+    }

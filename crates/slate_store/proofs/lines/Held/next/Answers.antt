@@ -21,6 +21,10 @@ memory-no-fault r h k = cc
 memory-no-length : {T : Type 0} (r : Result T SlateDBError) → r ≡ Err OutOfMemory → r ≡ Err ScriptTooLong → ⊥
 memory-no-length r h k = cc
 
+fault-or : {F : Type 0} (r : Result ℕ SlateDBError) (x : SlateDBError) (a b d : ℕ) → r ≡ Err x → (r ≡ Err ReadFault) ⊎ (a ≡ b) → (x ≡ ReadFault → F) → b ≡ d → F ⊎ (a ≡ d)
+fault-or r x a b d is (inl h) f e = inl (f (err_is r x ReadFault is h))
+fault-or r x a b d is (inr h) f e = inr (h ∙ e)
+
 pub returns-in-Some-clause-told : goal.returns-in-Some-clause-told
 returns-in-Some-clause-told g c = λ left told.
     let (rest, is, keeps) = c.loop-line.invariant.told left told in
@@ -64,47 +68,29 @@ loop-line-preserved g c =
       still = unless-fault c.in_ok-fill.field-0 c.in_ok-fill.ensures.still ∙ c.loop-line.invariant.still;
     }
 
-pub returns-in_err-line-clause-whole : goal.returns-in_err-line-clause-whole
-returns-in_err-line-clause-whole g c = c.in_err-line.ensures.whole
-
-pub returns-in_err-line-clause-told : goal.returns-in_err-line-clause-told
-returns-in_err-line-clause-told g c = λ left told.
-    let (rest, is, keeps) = c.loop-line.invariant.told left told in
-    let same = c.in_err-line.ensures.err.1 in
-    (rest, is, refused c.from_residual.result _ c.from_residual.ensures.0 (keeps_same (model_of c.args.self.now) (model_of c.loop-line.self) (model_of c.cut.new.self) left rest keeps same (omega (arith, ap length same))))
-
-pub returns-in_err-line-clause-at_once : goal.returns-in_err-line-clause-at_once
-returns-in_err-line-clause-at_once g c = λ some. (c.loop-line.invariant.first some).0
-
-pub returns-in_err-line-clause-further : goal.returns-in_err-line-clause-further
-returns-in_err-line-clause-further g c = IfOk-from_err c.from_residual.result _ c.from_residual.ensures.0
-
-pub returns-in_err-line-clause-counted : goal.returns-in_err-line-clause-counted
-returns-in_err-line-clause-counted g c = IfOk-from_err c.from_residual.result _ c.from_residual.ensures.0
-
-pub returns-in_err-line-clause-kept : goal.returns-in_err-line-clause-kept
-returns-in_err-line-clause-kept g c = on_err c.from_residual.result (omega (arith, ap length c.in_err-line.ensures.err.1))
-
-pub returns-in_err-line-clause-read_fault : goal.returns-in_err-line-clause-read_fault
-returns-in_err-line-clause-read_fault g c = λ e.
+pub returns-in_err-line : goal.returns-in_err-line
+returns-in_err-line g c =
     let p = err_from_is_err_and c.from_residual.result c.from_residual.ensures.1 in
-    absurd (memory-no-fault c.from_residual.result (p.1 ∙ ap Err (p.2 ∙ c.in_err-line.ensures.err.0)) e)
-
-pub returns-in_err-line-clause-too_long : goal.returns-in_err-line-clause-too_long
-returns-in_err-line-clause-too_long g c = λ e.
-    let p = err_from_is_err_and c.from_residual.result c.from_residual.ensures.1 in
-    absurd (memory-no-length c.from_residual.result (p.1 ∙ ap Err (p.2 ∙ c.in_err-line.ensures.err.0)) e)
-
-pub returns-in_err-line-clause-cause : goal.returns-in_err-line-clause-cause
-returns-in_err-line-clause-cause g c =
-    let p = err_from_is_err_and c.from_residual.result c.from_residual.ensures.1 in
-    rw p.1 (inl (p.2 ∙ c.in_err-line.ensures.err.0))
-
-pub returns-in_err-line-clause-later : goal.returns-in_err-line-clause-later
-returns-in_err-line-clause-later g c = omega (arith, c.loop-line.invariant.still)
-
-pub returns-in_err-line-clause-still : goal.returns-in_err-line-clause-still
-returns-in_err-line-clause-still g c = inr c.loop-line.invariant.still
+    record {
+      whole = c.in_err-line.ensures.whole;
+      told = (λ left told.
+          let (rest, is, keeps) = c.loop-line.invariant.told left told in
+          let same = c.in_err-line.ensures.err.1 in
+          (rest, is, refused c.from_residual.result _ c.from_residual.ensures.0 (keeps_same (model_of c.args.self.now) (model_of c.loop-line.self) (model_of c.cut.new.self) left rest keeps same (omega (arith, ap length same)))));
+      at_once = λ some. (c.loop-line.invariant.first some).0;
+      further = IfOk-from_err c.from_residual.result _ c.from_residual.ensures.0;
+      counted = IfOk-from_err c.from_residual.result _ c.from_residual.ensures.0;
+      kept = on_err c.from_residual.result (omega (arith, ap length c.in_err-line.ensures.err.1));
+      read_fault = (λ e.
+          let p = err_from_is_err_and c.from_residual.result c.from_residual.ensures.1 in
+          absurd (memory-no-fault c.from_residual.result (p.1 ∙ ap Err (p.2 ∙ c.in_err-line.ensures.err.0)) e));
+      too_long = (λ e.
+          let p = err_from_is_err_and c.from_residual.result c.from_residual.ensures.1 in
+          absurd (memory-no-length c.from_residual.result (p.1 ∙ ap Err (p.2 ∙ c.in_err-line.ensures.err.0)) e));
+      cause = rw p.1 (inl (p.2 ∙ c.in_err-line.ensures.err.0));
+      later = omega (arith, c.loop-line.invariant.still);
+      still = inr c.loop-line.invariant.still;
+    }
 
 pub returns-in-Some-clause-whole : goal.returns-in-Some-clause-whole
 returns-in-Some-clause-whole g c = c.in_ok-line.ensures.whole
@@ -134,63 +120,46 @@ returns-in-Some-clause-later g c = omega (arith, c.loop-line.invariant.still)
 pub returns-in-Some-clause-still : goal.returns-in-Some-clause-still
 returns-in-Some-clause-still g c = inr c.loop-line.invariant.still
 
-pub returns-in_err-fill-clause-told : goal.returns-in_err-fill-clause-told
-returns-in_err-fill-clause-told g c = λ left told.
-    let (rest, is, keeps) = c.loop-line.invariant.told left told in
-    let none = rw c.in_default.is at c.in_ok-line.ensures.none in
-    let err = c.in_err-fill.ensures.err in
-    let new = c.fill.new.self in
-    let same : held_bytes new ≡ held_bytes c.loop-line.self = held_line new.line.items new.piece.items new.start new.«end» err.0 ∙ c.in_err-fill.ensures.line ∙ none.0 in
-    (rest, err.2 ∙ is, refused c.from_residual-in_err-fill.result _ c.from_residual-in_err-fill.ensures.0 (keeps_same (model_of c.args.self.now) (model_of c.loop-line.self) (model_of new) left rest keeps same (omega (arith, ap length same, err.1))))
-
-pub returns-in_err-fill-clause-at_once : goal.returns-in_err-fill-clause-at_once
-returns-in_err-fill-clause-at_once g c = λ some.
-    let none = rw c.in_default.is at c.in_ok-line.ensures.none in
-    absurd (some (subst HasNoEnd (none.0 ∙ (c.loop-line.invariant.first some).1) c.in_ok-line.ensures.whole.partial))
-
-pub returns-in_err-fill-clause-further : goal.returns-in_err-fill-clause-further
-returns-in_err-fill-clause-further g c = IfOk-from_err c.from_residual-in_err-fill.result _ c.from_residual-in_err-fill.ensures.0
-
-pub returns-in_err-fill-clause-counted : goal.returns-in_err-fill-clause-counted
-returns-in_err-fill-clause-counted g c = IfOk-from_err c.from_residual-in_err-fill.result _ c.from_residual-in_err-fill.ensures.0
-
-pub returns-in_err-fill-clause-kept : goal.returns-in_err-fill-clause-kept
-returns-in_err-fill-clause-kept g c =
-    let none = rw c.in_default.is at c.in_ok-line.ensures.none in
-    let err = c.in_err-fill.ensures.err in
-    let new = c.fill.new.self in
-    let same : held_bytes new ≡ held_bytes c.loop-line.self = held_line new.line.items new.piece.items new.start new.«end» err.0 ∙ c.in_err-fill.ensures.line ∙ none.0 in
-    on_err c.from_residual-in_err-fill.result (omega (arith, ap length same, err.1))
-
-pub returns-in_err-fill-clause-read_fault : goal.returns-in_err-fill-clause-read_fault
-returns-in_err-fill-clause-read_fault g c = λ e.
+pub returns-in_err-fill : goal.returns-in_err-fill
+returns-in_err-fill g c =
     let p = err_from_is_err_and c.from_residual-in_err-fill.result c.from_residual-in_err-fill.ensures.1 in
-    let fault : c.in_err-fill.field-0.0 ≡ ReadFault = sym p.2 ∙ err_is c.from_residual-in_err-fill.result _ _ p.1 e in
-    let new = c.fill.new.self in (
-      subst (λ n. Rose n (g.R.Source.faults c.fill.new.source)) c.loop-line.invariant.still (c.in_err-fill.ensures.read_fault (ap Err fault)),
-      subst HasNoEnd (sym (held_line new.line.items new.piece.items new.start new.«end» c.in_err-fill.ensures.err.0 ∙ c.in_err-fill.ensures.line)) c.in_ok-line.ensures.whole.partial,
-    )
-
-pub returns-in_err-fill-clause-too_long : goal.returns-in_err-fill-clause-too_long
-returns-in_err-fill-clause-too_long g c = λ e.
-    let p = err_from_is_err_and c.from_residual-in_err-fill.result c.from_residual-in_err-fill.ensures.1 in
-    let long : c.in_err-fill.field-0.0 ≡ ScriptTooLong = sym p.2 ∙ err_is c.from_residual-in_err-fill.result _ _ p.1 e in
-    let new = c.fill.new.self in (
-      c.in_err-fill.ensures.too_long (ap Err long),
-      subst HasNoEnd (sym (held_line new.line.items new.piece.items new.start new.«end» c.in_err-fill.ensures.err.0 ∙ c.in_err-fill.ensures.line)) c.in_ok-line.ensures.whole.partial,
-    )
-
-pub returns-in_err-fill-clause-later : goal.returns-in_err-fill-clause-later
-returns-in_err-fill-clause-later g c = omega (arith, c.loop-line.invariant.still, c.in_err-fill.ensures.later)
-
-fault-or : {F : Type 0} (r : Result ℕ SlateDBError) (x : SlateDBError) (a b d : ℕ) → r ≡ Err x → (r ≡ Err ReadFault) ⊎ (a ≡ b) → (x ≡ ReadFault → F) → b ≡ d → F ⊎ (a ≡ d)
-fault-or r x a b d is (inl h) f e = inl (f (err_is r x ReadFault is h))
-fault-or r x a b d is (inr h) f e = inr (h ∙ e)
-
-pub returns-in_err-fill-clause-still : goal.returns-in_err-fill-clause-still
-returns-in_err-fill-clause-still g c =
-    let p = err_from_is_err_and c.from_residual-in_err-fill.result c.from_residual-in_err-fill.ensures.1 in
-    fault-or (Err c.in_err-fill.field-0.0) _ _ _ _ refl c.in_err-fill.ensures.still (λ h. p.1 ∙ ap Err (p.2 ∙ h)) c.loop-line.invariant.still
+    record {
+      whole = c.in_err-fill.ensures.whole;
+      told = (λ left told.
+          let (rest, is, keeps) = c.loop-line.invariant.told left told in
+          let none = rw c.in_default.is at c.in_ok-line.ensures.none in
+          let err = c.in_err-fill.ensures.err in
+          let new = c.fill.new.self in
+          let same : held_bytes new ≡ held_bytes c.loop-line.self = held_line new.line.items new.piece.items new.start new.«end» err.0 ∙ c.in_err-fill.ensures.line ∙ none.0 in
+          (rest, err.2 ∙ is, refused c.from_residual-in_err-fill.result _ c.from_residual-in_err-fill.ensures.0 (keeps_same (model_of c.args.self.now) (model_of c.loop-line.self) (model_of new) left rest keeps same (omega (arith, ap length same, err.1)))));
+      at_once = (λ some.
+          let none = rw c.in_default.is at c.in_ok-line.ensures.none in
+          absurd (some (subst HasNoEnd (none.0 ∙ (c.loop-line.invariant.first some).1) c.in_ok-line.ensures.whole.partial)));
+      further = IfOk-from_err c.from_residual-in_err-fill.result _ c.from_residual-in_err-fill.ensures.0;
+      counted = IfOk-from_err c.from_residual-in_err-fill.result _ c.from_residual-in_err-fill.ensures.0;
+      kept = (let none = rw c.in_default.is at c.in_ok-line.ensures.none in
+          let err = c.in_err-fill.ensures.err in
+          let new = c.fill.new.self in
+          let same : held_bytes new ≡ held_bytes c.loop-line.self = held_line new.line.items new.piece.items new.start new.«end» err.0 ∙ c.in_err-fill.ensures.line ∙ none.0 in
+          on_err c.from_residual-in_err-fill.result (omega (arith, ap length same, err.1)));
+      read_fault = (λ e.
+          let p = err_from_is_err_and c.from_residual-in_err-fill.result c.from_residual-in_err-fill.ensures.1 in
+          let fault : c.in_err-fill.field-0.0 ≡ ReadFault = sym p.2 ∙ err_is c.from_residual-in_err-fill.result _ _ p.1 e in
+          let new = c.fill.new.self in (
+            subst (λ n. Rose n (g.R.Source.faults c.fill.new.source)) c.loop-line.invariant.still (c.in_err-fill.ensures.read_fault (ap Err fault)),
+            subst HasNoEnd (sym (held_line new.line.items new.piece.items new.start new.«end» c.in_err-fill.ensures.err.0 ∙ c.in_err-fill.ensures.line)) c.in_ok-line.ensures.whole.partial,
+          ));
+      too_long = (λ e.
+          let p = err_from_is_err_and c.from_residual-in_err-fill.result c.from_residual-in_err-fill.ensures.1 in
+          let long : c.in_err-fill.field-0.0 ≡ ScriptTooLong = sym p.2 ∙ err_is c.from_residual-in_err-fill.result _ _ p.1 e in
+          let new = c.fill.new.self in (
+            c.in_err-fill.ensures.too_long (ap Err long),
+            subst HasNoEnd (sym (held_line new.line.items new.piece.items new.start new.«end» c.in_err-fill.ensures.err.0 ∙ c.in_err-fill.ensures.line)) c.in_ok-line.ensures.whole.partial,
+          ));
+      cause = rw (p.1, p.2) c.in_err-fill.ensures.cause;
+      later = omega (arith, c.loop-line.invariant.still, c.in_err-fill.ensures.later);
+      still = fault-or (Err c.in_err-fill.field-0.0) _ _ _ _ refl c.in_err-fill.ensures.still (λ h. p.1 ∙ ap Err (p.2 ∙ h)) c.loop-line.invariant.still;
+    }
 
 pub returns-then-branch-eq0-clause-at_once : goal.returns-then-branch-eq0-clause-at_once
 returns-then-branch-eq0-clause-at_once g c = λ some.
@@ -227,11 +196,3 @@ returns-then-branch-eq0-clause-counted g c =
 
 pub returns-then-branch-eq0-clause-whole : goal.returns-then-branch-eq0-clause-whole
 returns-then-branch-eq0-clause-whole g c = c.last.ensures.whole
-
-pub returns-in_err-fill-clause-whole : goal.returns-in_err-fill-clause-whole
-returns-in_err-fill-clause-whole g c = c.in_err-fill.ensures.whole
-
-pub returns-in_err-fill-clause-cause : goal.returns-in_err-fill-clause-cause
-returns-in_err-fill-clause-cause g c =
-    let p = err_from_is_err_and c.from_residual-in_err-fill.result c.from_residual-in_err-fill.ensures.1 in
-    rw (p.1, p.2) c.in_err-fill.ensures.cause

@@ -1,6 +1,6 @@
 use Rattle.slate_table.proofs.PartsLaws.{some_rows}
 use Rattle.slate_types.specs.declared.error.SlateDBError.TheVariants.{OutOfMemory}
-use Rattle.slate_table.proofs.Asking.{unasked, asked_before, memory_exit, failed_again}
+use Rattle.slate_table.proofs.Asking.{unasked, asked_before, memory_exit, memory_no_fault, failed_again}
 use Rattle.std.proofs.lemmas.Result.{IfOk-from_err}
 use Rattle.std.proofs.Common.{sym, inr}
 use Rattle.slate_table.proofs.table_parts.TableParts.add.Goals as goal
@@ -32,17 +32,17 @@ returns-in_err-take-in-Ok g c =
 pub returns-in_ok-take-in-Ok-clause-fault : goal.returns-in_ok-take-in-Ok-clause-fault
 returns-in_ok-take-in-Ok-clause-fault g c = λ _. sym c.if-would_fit.ensures
 
-pub returns-in_err-take-clause-added : goal.returns-in_err-take-clause-added
-returns-in_err-take-clause-added g c = IfOk-from_err c.from_residual.result _ c.from_residual.ensures.0
-
-pub returns-in_err-take-clause-size : goal.returns-in_err-take-clause-size
-returns-in_err-take-clause-size g c = IfOk-from_err c.from_residual.result _ c.from_residual.ensures.0
+pub returns-in_err-take : goal.returns-in_err-take
+returns-in_err-take g c =
+    record {
+      added = IfOk-from_err c.from_residual.result _ c.from_residual.ensures.0;
+      size = IfOk-from_err c.from_residual.result _ c.from_residual.ensures.0;
+      asks = unasked (memory_exit c.from_residual.result _ c.from_residual.ensures.1 OutOfMemory c.in_err-take.ensures.cause);
+      fault = λ is. absurd (memory_no_fault c.from_residual.result (memory_exit c.from_residual.result _ c.from_residual.ensures.1 OutOfMemory c.in_err-take.ensures.cause) is);
+    }
 
 pub returns-then-would_fit-clause-asks : goal.returns-then-would_fit-clause-asks
 returns-then-would_fit-clause-asks g c = unasked tt
-
-pub returns-in_err-take-clause-asks : goal.returns-in_err-take-clause-asks
-returns-in_err-take-clause-asks g c = unasked (memory_exit c.from_residual.result _ c.from_residual.ensures.1 OutOfMemory c.in_err-take.ensures.cause)
 
 pub returns-in_ok-take-in-Ok-clause-asks : goal.returns-in_ok-take-in-Ok-clause-asks
 returns-in_ok-take-in-Ok-clause-asks g c = asked_before c.in-Ok.ensures.asks tt

@@ -1,0 +1,14 @@
+use Rattle.std.proofs.lemmas.Result.{IfOk-from_err}
+use Rattle.slate_table.proofs.sst_index.read_entries.Goals as goal
+
+pub returns-in_err-count-clause-found : goal.returns-in_err-count-clause-found
+returns-in_err-count-clause-found c = IfOk-from_err c.from_residual.result _ c.from_residual.ensures.0
+
+pub returns-in_err-count-clause-bytes : goal.returns-in_err-count-clause-bytes
+returns-in_err-count-clause-bytes c = IfOk-from_err c.from_residual.result _ c.from_residual.ensures.0
+
+pub returns-in_err-entries-clause-found : goal.returns-in_err-entries-clause-found
+returns-in_err-entries-clause-found c = IfOk-from_err c.from_residual-in_err-entries.result _ c.from_residual-in_err-entries.ensures.0
+
+pub returns-in_err-entries-clause-bytes : goal.returns-in_err-entries-clause-bytes
+returns-in_err-entries-clause-bytes c = IfOk-from_err c.from_residual-in_err-entries.result _ c.from_residual-in_err-entries.ensures.0
