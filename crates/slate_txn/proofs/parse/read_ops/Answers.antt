@@ -1,4 +1,5 @@
-use Rattle.std.proofs.Common.{◌+◌, ◌++◌, [], drop, option_map, ap, ◌∙◌}
+use Rattle.std.proofs.Common.{◌+◌, ◌++◌, [], drop, option_map, Some, sym, ap, ◌∙◌, append-nil, arith}
+use Rattle.std.proofs.lemmas.List.{drop_all}
 use Rattle.std.proofs.lemmas.Result.{IfOk-from_err}
 use Rattle.slate_txn.specs.Built.{texts, built_ops}
 use Rattle.slate_txn.proofs.OpLaws.{own-within, ops-refused, ops-taken}
@@ -26,3 +27,11 @@ returns-in_err-op c = record { ops = IfOk-from_err c.from_residual.result _ c.fr
 
 pub returns-in_err-push : goal.returns-in_err-push
 returns-in_err-push c = record { ops = IfOk-from_err c.from_residual-in_err-push.result _ c.from_residual-in_err-push.ensures.0 }
+
+pub returns : goal.returns
+returns c = record {
+  ops =
+      ap Some (sym (append-nil c.loop-at.ops.items))
+      ∙ ap (λ ts. option_map (λ os. c.loop-at.ops.items ++ os) (built_ops (texts ts))) (sym (drop_all c.loop-at.at c.args.tokens.now (omega arith)))
+      ∙ c.loop-at.invariant.ops;
+}
