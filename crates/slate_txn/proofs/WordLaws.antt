@@ -125,3 +125,7 @@ known-ends text ws i d within other = known-step text ws i d within ∙ ap (λ b
 
 pub known-more : {A : Type 0} (text : A → List ℕ) (ws : List A) (i : ℕ) (d : A) → i < length ws → is_known (text (get_or ws i d)) ≡ true → list_all is_known (map text (drop i ws)) ≡ list_all is_known (map text (drop (i + 1) ws))
 known-more text ws i d within is = known-step text ws i d within ∙ ap (λ b. b && list_all is_known (map text (drop (i + 1) ws))) is
+
+pub only-found : (o : Option (List ℕ)) → at_most_one (with_value o []) ≡ Some o
+only-found None = refl
+only-found (Some v) = refl
