@@ -1,5 +1,6 @@
 -- The operators and the transformer are lawful.
-use Rattle.std.proofs.Common.{◌≡◌, ℕ, zero, suc, ◌-◌, ◌^◌, ◌≤◌, Bool, true, false, cond, List, [], ◌∷◌, ◌++◌, length, take, Option, Some, None, IfSome, refl, sym, ap, ◌∙◌, arith, append_assoc}
+use Rattle.std.proofs.Common.{◌≡◌, ℕ, zero, suc, ◌-◌, ◌^◌, ◌≤◌, Bool, true, false, cond, List, [], ◌∷◌, ◌++◌, length, take, Option, Some, None, IfSome, Result, Ok, Err, IfOk, refl, sym, ap, subst, ◌∙◌, arith, append_assoc}
+use Rattle.std.specs.Prelude.{IfErr, IsErrAnd, MatchResult}
 use Rattle.slate_types.specs.Fold.{IsShort, IsLawful, KeepsShort}
 use Rattle.slate_types.specs.Keys.{key_lt}
 use Rattle.slate_types.proofs.KeyOrder.{lt-trans, not-lt-trans}
@@ -82,3 +83,15 @@ xor-back n [] = refl
 xor-back n (b ∷ bs) =
     let back : bit_xor (bit_xor b n) n ≡ b = xor_assoc b n n ∙ ap (bit_xor b) (xor_self n) ∙ xor_zero_r b in
     λ i. back i ∷ xor-back n bs i
+
+-- ---- a result whose error is mapped to one
+
+pub ok_of : {T E D : Type 0} (r : Result T E) (m : Result T D) (P : T → Type 0) (d : D) → MatchResult r (λ x. m ≡ Ok x) (λ e. IsErrAnd m (λ y. y ≡ d)) → IfOk r P → IfOk m P
+ok_of (Ok x) m P d is p = subst (λ a. IfOk a P) (sym is) p
+ok_of (Err e) (Ok x) P d is p = absurd is
+ok_of (Err e) (Err y) P d is p = tt
+
+pub err_of : {T E D : Type 0} (r : Result T E) (m : Result T D) (d : D) → MatchResult r (λ x. m ≡ Ok x) (λ e. IsErrAnd m (λ y. y ≡ d)) → IfErr m (λ y. y ≡ d)
+err_of (Ok x) m d is = subst (λ a. IfErr a (λ y. y ≡ d)) (sym is) tt
+err_of (Err e) (Ok x) d is = absurd is
+err_of (Err e) (Err y) d is = is

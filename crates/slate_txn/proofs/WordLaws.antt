@@ -1,13 +1,15 @@
 -- The options that words set, and that words come in any order.
-use Rattle.std.proofs.Common.{◌≡◌, ℕ, ◌-◌, ◌^◌, Bool, true, false, cond, ◌&&◌, not, List, [], ◌∷◌, ◌++◌, Option, Some, None, is_some, codes, IsTrue, refl, sym, ap, ◌∙◌, ltb, leb}
+use Rattle.std.proofs.Common.{◌≡◌, ℕ, ◌+◌, ◌-◌, ◌<◌, ◌^◌, Bool, true, false, cond, ◌&&◌, not, List, [], ◌∷◌, ◌++◌, length, map, drop, get_or, Option, Some, None, is_some, codes, IsTrue, refl, sym, ap, ◌∙◌, add-one, ltb, leb}
 use Rattle.std.specs.Prelude.{◌↔◌}
 use Rattle.std.specs.List.{list_all}
+use Rattle.std.proofs.Math.Seq.{drop-cons}
 use Rattle.std.proofs.lemmas.Bool.{lt-ltb, le-leb, ltb-true, leb-true}
+use Rattle.slate_types.specs.declared.config.BlockFormat.{BlockFormat}
 use Rattle.slate_types.specs.declared.config.CompressionCodec.{CompressionCodec}
 use Rattle.slate_types.specs.declared.config.Options.{Options}
 use Rattle.slate_types.specs.Config.{IsValid}
 use Rattle.slate_txn.specs.Parse.{◌>>=◌, read_number}
-use Rattle.slate_txn.specs.Words.{are_valid, at_most_one, behind, if_valid, is_known, only_value, options, read_below, read_format, read_given, read_settings, read_words, values, with_value}
+use Rattle.slate_txn.specs.Words.{are_valid, at_most_one, behind, if_valid, is_known, only_value, options, read_below, read_format, read_given, read_settings, read_words, value_of, values, with_value}
 
 no-codec : (c : Option CompressionCodec) → not (is_some c) ≡ true → c ≡ None
 no-codec None h = refl
@@ -101,3 +103,29 @@ settings-swap before after v w = λ i. do
 -- Two words side by side may change places.
 pub words-any_order : (before after : List (List ℕ)) (v w : List ℕ) → read_words (before ++ (v ∷ w ∷ after)) ≡ read_words (before ++ (w ∷ v ∷ after))
 words-any_order before after v w = λ i. cond (known-swap before after v w i) (settings-swap before after v w i) None
+
+-- ---- the settings of words whose values are known
+
+pub words-read : (ws : List (List ℕ)) {block : Option (Option ℕ)} {format : Option (Option BlockFormat)} {ttl seq mask : Option (Option ℕ)} → list_all is_known ws ≡ true →
+    block ≡ value_of (read_below (2 ^ 32)) (codes "block=") ws → format ≡ value_of read_format (codes "format=") ws → ttl ≡ value_of read_number (codes "ttl=") ws →
+    seq ≡ value_of read_number (codes "seq=") ws → mask ≡ value_of (read_below (2 ^ 8)) (codes "xor=") ws →
+    (block >>= λ b. format >>= λ f. ttl >>= λ t. seq >>= λ s. mask >>= λ m. if_valid (record { options = options b f t s; mask = m })) ≡ read_words ws
+words-read ws known block format ttl seq mask =
+    λ i. cond (sym known i) (block i >>= λ b. format i >>= λ f. ttl i >>= λ t. seq i >>= λ s. mask i >>= λ m. if_valid (record { options = options b f t s; mask = m })) None
+
+-- ---- words read one by one
+
+known-step : {A : Type 0} (text : A → List ℕ) (ws : List A) (i : ℕ) (d : A) → i < length ws → list_all is_known (map text (drop i ws)) ≡ (is_known (text (get_or ws i d)) && list_all is_known (map text (drop (i + 1) ws)))
+known-step text ws i d within =
+    ap (λ us. list_all is_known (map text us)) (drop-cons ws i d within)
+    ∙ ap (λ n. is_known (text (get_or ws i d)) && list_all is_known (map text (drop n ws))) (sym (add-one i))
+
+pub known-ends : {A : Type 0} (text : A → List ℕ) (ws : List A) (i : ℕ) (d : A) → i < length ws → is_known (text (get_or ws i d)) ≡ false → list_all is_known (map text (drop i ws)) ≡ false
+known-ends text ws i d within other = known-step text ws i d within ∙ ap (λ b. b && list_all is_known (map text (drop (i + 1) ws))) other
+
+pub known-more : {A : Type 0} (text : A → List ℕ) (ws : List A) (i : ℕ) (d : A) → i < length ws → is_known (text (get_or ws i d)) ≡ true → list_all is_known (map text (drop i ws)) ≡ list_all is_known (map text (drop (i + 1) ws))
+known-more text ws i d within is = known-step text ws i d within ∙ ap (λ b. b && list_all is_known (map text (drop (i + 1) ws))) is
+
+pub only-found : (o : Option (List ℕ)) → at_most_one (with_value o []) ≡ Some o
+only-found None = refl
+only-found (Some v) = refl

@@ -1,4 +1,5 @@
 use Rattle.std.proofs.Common.{sym, ap, ◌∙◌, arith}
+use Rattle.std.proofs.lemmas.Result.{IfOk-from_err}
 use Rattle.slate_txn.specs.declared.line.Line.TheVariants as lines
 use Rattle.slate_txn.specs.Parse.{both}
 use Rattle.slate_txn.proofs.OpLaws.{begin-read, begin-unread}
@@ -16,3 +17,6 @@ pub returns-in-None : goal.returns-in-None
 returns-in-None c = record {
   line = ap (λ p. both lines.Begin p c.read_level.result) (sym c.in-None.is) ∙ begin-read c.args.tokens.now c.in_ok-name.field-0 c.read_level.result (omega (arith, c.in-len2.len_at_least, c.in-len2.len_below)) c.in_ok-name.ensures.name c.read_level.ensures;
 }
+
+pub returns-in_err-name : goal.returns-in_err-name
+returns-in_err-name c = record { line = IfOk-from_err c.from_residual.result _ c.from_residual.ensures.0 }

@@ -1,4 +1,6 @@
-use Rattle.std.proofs.Common.{◌+◌, ◌++◌, [], drop, option_map, ap, ◌∙◌}
+use Rattle.std.proofs.Common.{◌+◌, ◌++◌, [], drop, option_map, Some, sym, ap, ◌∙◌, append-nil, arith}
+use Rattle.std.proofs.lemmas.List.{drop_all}
+use Rattle.std.proofs.lemmas.Result.{IfOk-from_err}
 use Rattle.slate_txn.specs.Built.{texts, built_ops}
 use Rattle.slate_txn.proofs.OpLaws.{own-within, ops-refused, ops-taken}
 use Rattle.slate_txn.proofs.parse.read_ops.Goals as goal
@@ -19,3 +21,17 @@ loop-at-preserved c =
           ∙ ops-taken c.args.tokens.now c.loop-at.at c.own_len.result (record { ref_ptr = (0, 0); now = [] }) c.loop-at.ops.items c.in_ok-op.field-0 c.in-Some.op c.loop-at-test.true
           c.loop-at.invariant.ops c.own_len.ensures.len c.in_ok-op.ensures.op c.in-Some.is;
     }
+
+pub returns-in_err-op : goal.returns-in_err-op
+returns-in_err-op c = record { ops = IfOk-from_err c.from_residual.result _ c.from_residual.ensures.0 }
+
+pub returns-in_err-push : goal.returns-in_err-push
+returns-in_err-push c = record { ops = IfOk-from_err c.from_residual-in_err-push.result _ c.from_residual-in_err-push.ensures.0 }
+
+pub returns : goal.returns
+returns c = record {
+  ops =
+      ap Some (sym (append-nil c.loop-at.ops.items))
+      ∙ ap (λ ts. option_map (λ os. c.loop-at.ops.items ++ os) (built_ops (texts ts))) (sym (drop_all c.loop-at.at c.args.tokens.now (omega arith)))
+      ∙ c.loop-at.invariant.ops;
+}

@@ -1,4 +1,5 @@
 use Rattle.std.proofs.Common.{sym, ap, ◌∙◌}
+use Rattle.std.proofs.lemmas.Result.{IfOk-from_err}
 use Rattle.slate_mem.specs.declared.WriteOp.TheVariants as ops
 use Rattle.slate_txn.proofs.OpLaws.{with_ttl, put-read, put-unread}
 use Rattle.slate_txn.proofs.parse.read_put.Goals as goal
@@ -17,3 +18,6 @@ returns-in-None c = record {
   op = ap (λ p. with_ttl (λ k v ttl. (k, ops.Put v (record { ttl = ttl }))) p c.read_last_ttl.result) (sym c.in-None.is)
       ∙ put-read c.args.tokens.now c.in_ok-key.field-0 c.read_last_ttl.result c.in-len2-up.len_at_least c.in_ok-key.ensures.bytes c.read_last_ttl.ensures;
 }
+
+pub returns-in_err-key : goal.returns-in_err-key
+returns-in_err-key c = record { op = IfOk-from_err c.from_residual.result _ c.from_residual.ensures.0 }

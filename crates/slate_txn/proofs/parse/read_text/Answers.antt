@@ -1,5 +1,5 @@
 use Rattle.std.proofs.Common.{ap, ◌∙◌}
-use Rattle.std.proofs.lemmas.Result.{IfOk-weaker}
+use Rattle.std.proofs.lemmas.Result.{IfOk-weaker, IfOk-from_err}
 use Rattle.slate_txn.specs.Built.{built_tokens, texts}
 use Rattle.slate_txn.proofs.parse.read_text.Goals as goal
 
@@ -7,3 +7,6 @@ pub returns : goal.returns
 returns c = record {
   line = IfOk-weaker c.read_line-line.result _ _ (λ o is. is ∙ ap built_tokens (ap texts c.as_slice.ensures.value ∙ c.in_ok-tokens.ensures.tokens)) c.read_line-line.ensures.line;
 }
+
+pub returns-in_err-tokens : goal.returns-in_err-tokens
+returns-in_err-tokens c = record { line = IfOk-from_err c.from_residual.result _ c.from_residual.ensures.0 }

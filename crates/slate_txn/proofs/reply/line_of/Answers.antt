@@ -1,5 +1,7 @@
 use Rattle.std.proofs.Common.{◌≡◌, ℕ, ◌<◌, List, [], ◌∷◌, ◌++◌, map, length, take, get_or, sym, ap, ◌∙◌, append_assoc, arith}
 use Rattle.std.specs.List.{join_with_byte}
+use Rattle.std.proofs.lemmas.List.{take_all}
+use Rattle.std.proofs.lemmas.Result.{IfOk-from_err}
 use Rattle.slate_txn.specs.declared.reply.Word.{Word}
 use Rattle.slate_txn.specs.declared.reply.Word.TheVariants as words
 use Rattle.slate_txn.specs.Answers.{word_text}
@@ -25,3 +27,19 @@ loop-i-preserved c =
           ∙ ap (λ xs. xs ++ word) (c.loop-i.invariant ∙ ap (λ (n : ℕ). join_with_byte 32 (map word_text (take n c.args.words.now))) first)
           ∙ sym (joined_first 32 word_text c.args.words.now i d within first)
     ]
+
+pub returns-in_err-push : goal.returns-in_err-push
+returns-in_err-push c = record { text = IfOk-from_err c.from_residual.result _ c.from_residual.ensures.0 }
+
+pub returns-in_err-push-2 : goal.returns-in_err-push-2
+returns-in_err-push-2 c = record { text = IfOk-from_err c.from_residual-in_err-push-2.result _ c.from_residual-in_err-push-2.ensures.0 }
+
+pub returns-in_err-push_word : goal.returns-in_err-push_word
+returns-in_err-push_word c = record { text = IfOk-from_err c.from_residual-in_err-push_word.result _ c.from_residual-in_err-push_word.ensures.0 }
+
+pub returns : goal.returns
+returns c = record {
+  text =
+      c.in_ok-push-2.ensures.items
+      ∙ ap (λ xs. xs ++ (10 ∷ [])) (c.loop-i.invariant ∙ ap (λ ws. join_with_byte 32 (map word_text ws)) (take_all c.loop-i.i c.args.words.now (omega arith)));
+}

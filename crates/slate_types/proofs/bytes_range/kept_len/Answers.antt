@@ -12,3 +12,16 @@ loop-len-preserved c =
       within = omega arith;
       same = trimmed p n (omega arith) c.if-prefix-len.true ∙ ap (λ m. successor (take m p)) whole ∙ c.loop-len.invariant.same;
     }
+
+pub returns-after-loop-len : goal.returns-after-loop-len
+returns-after-loop-len c = record {
+  within = c.loop-len.invariant.within;
+  same = c.loop-len.invariant.same;
+  last = λ some. absurd (omega (arith, some));
+}
+
+pub returns-else-prefix-len-clause-within : goal.returns-else-prefix-len-clause-within
+returns-else-prefix-len-clause-within c = c.loop-len.invariant.within
+
+pub returns-else-prefix-len-clause-same : goal.returns-else-prefix-len-clause-same
+returns-else-prefix-len-clause-same c = c.loop-len.invariant.same

@@ -21,3 +21,9 @@ returns-clause-each g c = λ i k hold inside.
     let start : c.first_covering-first.result ≡ covering_start keys (bound_now c.args.start) = c.first_covering-first.ensures in
     let end : c.end_covering.result ≡ covering_end keys c.first_covering-first.result (bound_now c.args.end) = c.end_covering.ensures in
     (omega (arith, both.0, start), omega (arith, both.1, end ∙ ap (λ s. covering_end keys s (bound_now c.args.end)) start))
+
+pub returns-clause-start : goal.returns-clause-start
+returns-clause-start g c = c.first_covering-first.ensures
+
+pub returns-clause-end : goal.returns-clause-end
+returns-clause-end g c = c.end_covering.ensures
