@@ -6,44 +6,38 @@ use Rattle.slate_block.proofs.fields.fields_v2.Goals as goal
 pub returns-clause-bytes : goal.returns-clause-bytes
 returns-clause-bytes c = λ i. omega (arith, c.type_inv.bytes i)
 
-pub returns-in_err-key-clause-within : goal.returns-in_err-key-clause-within
-returns-in_err-key-clause-within c = IfOk-from_err c.from_residual.result _ c.from_residual.ensures.0
-
-pub returns-in_err-key-clause-bytes : goal.returns-in_err-key-clause-bytes
-returns-in_err-key-clause-bytes c = IfOk-from_err c.from_residual.result _ c.from_residual.ensures.0
-
-pub returns-in_err-key-clause-damage : goal.returns-in_err-key-clause-damage
-returns-in_err-key-clause-damage c = let p = err_from_is_err_and c.from_residual.result c.from_residual.ensures.1 in rw (p.1, p.2) c.in_err-key.ensures.damage
-
-pub returns-in_err-key-clause-value : goal.returns-in_err-key-clause-value
+pub returns-in_err-key : goal.returns-in_err-key
 unfolding layout_v2
-returns-in_err-key-clause-value c = let p = err_from_is_err_and c.from_residual.result c.from_residual.ensures.1 in rw (p.1, p.2, sym c.in_err-key.ensures.value) refl
+returns-in_err-key c =
+    let p = err_from_is_err_and c.from_residual.result c.from_residual.ensures.1 in
+    record {
+      value = rw (p.1, p.2, sym c.in_err-key.ensures.value) refl;
+      damage = rw (p.1, p.2) c.in_err-key.ensures.damage;
+      within = IfOk-from_err c.from_residual.result _ c.from_residual.ensures.0;
+      bytes = IfOk-from_err c.from_residual.result _ c.from_residual.ensures.0;
+    }
 
-pub returns-in_err-value_at-clause-within : goal.returns-in_err-value_at-clause-within
-returns-in_err-value_at-clause-within c = IfOk-from_err c.from_residual-in_err-value_at.result _ c.from_residual-in_err-value_at.ensures.0
-
-pub returns-in_err-value_at-clause-bytes : goal.returns-in_err-value_at-clause-bytes
-returns-in_err-value_at-clause-bytes c = IfOk-from_err c.from_residual-in_err-value_at.result _ c.from_residual-in_err-value_at.ensures.0
-
-pub returns-in_err-value_at-clause-damage : goal.returns-in_err-value_at-clause-damage
-returns-in_err-value_at-clause-damage c = let p = err_from_is_err_and c.from_residual-in_err-value_at.result c.from_residual-in_err-value_at.ensures.1 in rw (p.1, p.2) c.in_err-value_at.ensures.damage
-
-pub returns-in_err-value_at-clause-value : goal.returns-in_err-value_at-clause-value
+pub returns-in_err-value_at : goal.returns-in_err-value_at
 unfolding layout_v2
-returns-in_err-value_at-clause-value c = let p = err_from_is_err_and c.from_residual-in_err-value_at.result c.from_residual-in_err-value_at.ensures.1 in rw (p.1, p.2, sym c.in_ok-key.ensures.value, sym c.in_err-value_at.ensures.value) refl
+returns-in_err-value_at c =
+    let p = err_from_is_err_and c.from_residual-in_err-value_at.result c.from_residual-in_err-value_at.ensures.1 in
+    record {
+      value = rw (p.1, p.2, sym c.in_ok-key.ensures.value, sym c.in_err-value_at.ensures.value) refl;
+      damage = rw (p.1, p.2) c.in_err-value_at.ensures.damage;
+      within = IfOk-from_err c.from_residual-in_err-value_at.result _ c.from_residual-in_err-value_at.ensures.0;
+      bytes = IfOk-from_err c.from_residual-in_err-value_at.result _ c.from_residual-in_err-value_at.ensures.0;
+    }
 
-pub returns-in_err-seq-clause-within : goal.returns-in_err-seq-clause-within
-returns-in_err-seq-clause-within c = IfOk-from_err c.from_residual-in_err-seq.result _ c.from_residual-in_err-seq.ensures.0
-
-pub returns-in_err-seq-clause-bytes : goal.returns-in_err-seq-clause-bytes
-returns-in_err-seq-clause-bytes c = IfOk-from_err c.from_residual-in_err-seq.result _ c.from_residual-in_err-seq.ensures.0
-
-pub returns-in_err-seq-clause-damage : goal.returns-in_err-seq-clause-damage
-returns-in_err-seq-clause-damage c = let p = err_from_is_err_and c.from_residual-in_err-seq.result c.from_residual-in_err-seq.ensures.1 in rw (p.1, p.2) c.in_err-seq.ensures.damage
-
-pub returns-in_err-seq-clause-value : goal.returns-in_err-seq-clause-value
+pub returns-in_err-seq : goal.returns-in_err-seq
 unfolding layout_v2
-returns-in_err-seq-clause-value c = let p = err_from_is_err_and c.from_residual-in_err-seq.result c.from_residual-in_err-seq.ensures.1 in rw (p.1, p.2, sym c.in_ok-key.ensures.value, sym c.in_ok-value_at.ensures.value, sym c.in_err-seq.ensures.value) refl
+returns-in_err-seq c =
+    let p = err_from_is_err_and c.from_residual-in_err-seq.result c.from_residual-in_err-seq.ensures.1 in
+    record {
+      value = rw (p.1, p.2, sym c.in_ok-key.ensures.value, sym c.in_ok-value_at.ensures.value, sym c.in_err-seq.ensures.value) refl;
+      damage = rw (p.1, p.2) c.in_err-seq.ensures.damage;
+      within = IfOk-from_err c.from_residual-in_err-seq.result _ c.from_residual-in_err-seq.ensures.0;
+      bytes = IfOk-from_err c.from_residual-in_err-seq.result _ c.from_residual-in_err-seq.ensures.0;
+    }
 
 pub returns-in_err-expire_ts-clause-within : goal.returns-in_err-expire_ts-clause-within
 returns-in_err-expire_ts-clause-within c = IfOk-from_err c.from_residual-in_err-expire_ts.result _ c.from_residual-in_err-expire_ts.ensures.0

@@ -5,16 +5,15 @@ use Rattle.slate_block.specs.Damage.{head_layout, row_flags}
 use Rattle.slate_block.proofs.FieldLaws.{no_flags, flags_there, head_read}
 use Rattle.slate_block.proofs.fields.head_fields.Goals as goal
 
-pub returns-in_err-seq-clause-value : goal.returns-in_err-seq-clause-value
+pub returns-in_err-seq : goal.returns-in_err-seq
 unfolding head_layout
-returns-in_err-seq-clause-value c =
-    let p = err_from_is_err_and c.from_residual.result c.from_residual.ensures.1 in rw (p.1, p.2, sym c.in_err-seq.ensures.value) refl
-
-pub returns-in_err-seq-clause-damage : goal.returns-in_err-seq-clause-damage
-returns-in_err-seq-clause-damage c = let p = err_from_is_err_and c.from_residual.result c.from_residual.ensures.1 in rw (p.1, p.2) c.in_err-seq.ensures.damage
-
-pub returns-in_err-seq-clause-within : goal.returns-in_err-seq-clause-within
-returns-in_err-seq-clause-within c = IfOk-from_err c.from_residual.result _ c.from_residual.ensures.0
+returns-in_err-seq c =
+    let p = err_from_is_err_and c.from_residual.result c.from_residual.ensures.1 in
+    record {
+      value = rw (p.1, p.2, sym c.in_err-seq.ensures.value) refl;
+      damage = rw (p.1, p.2) c.in_err-seq.ensures.damage;
+      within = IfOk-from_err c.from_residual.result _ c.from_residual.ensures.0;
+    }
 
 pub returns-in_default-clause-value : goal.returns-in_default-clause-value
 returns-in_default-clause-value c =
@@ -39,3 +38,15 @@ pub returns-in-None-clause-value : goal.returns-in-None-clause-value
 returns-in-None-clause-value c =
     let read = c.in_ok-seq in
     sym (head_read c.args.bytes.now c.args.at read.seq read.at _ read.ensures.value (flags_there c.args.bytes.now read.at c.in-Some.byte.now false c.in-Some.ensures.lookup.0 c.in-Some.ensures.lookup.1 c.in-None.ensures.none))
+
+pub returns-in_default-clause-within : goal.returns-in_default-clause-within
+returns-in_default-clause-within c = tt
+
+pub returns-in-Some-from_byte-clause-damage : goal.returns-in-Some-from_byte-clause-damage
+returns-in-Some-from_byte-clause-damage c = tt
+
+pub returns-in-None-clause-within : goal.returns-in-None-clause-within
+returns-in-None-clause-within c = tt
+
+pub returns-in-None-clause-damage : goal.returns-in-None-clause-damage
+returns-in-None-clause-damage c = tt

@@ -11,15 +11,23 @@ use Rattle.slate_block.proofs.BackSteps.{back_read, kept_past, kept_stops, kept_
 use Rattle.slate_block.proofs.BackLaws.{held_past, no_rows_back}
 use Rattle.slate_block.proofs.walk_back_v2.before_key.Goals as goal
 
-pub returns-in_err-rows-clause-cause : goal.returns-in_err-rows-clause-cause
-returns-in_err-rows-clause-cause c =
-    let body = c.args.body.now in
-    let offsets = c.args.offsets.now in
-    let before = c.loop-before.before in
+pub returns-in_err-rows : goal.returns-in_err-rows
+returns-in_err-rows c =
     let p = err_from_is_err_and c.from_residual.result c.from_residual.ensures.1 in
-    let e = c.in_err-rows.field-0.0 in
-    let first = refused_or_back body offsets before (before - 1) e OutOfMemory (omega arith) c.in_err-rows.ensures.cause in
-    rw (p.1, p.2) (past_refused Descending c.args.key.now (reads_back c.args.groups body offsets) (reads_back before body offsets) e OutOfMemory c.loop-before.invariant.past first c.in_err-rows.ensures.damage)
+    record {
+      past = IfOk-from_err c.from_residual.result _ c.from_residual.ensures.0;
+      stops = IfOk-from_err c.from_residual.result _ c.from_residual.ensures.0;
+      read = IfOk-from_err c.from_residual.result _ c.from_residual.ensures.0;
+      within = IfOk-from_err c.from_residual.result _ c.from_residual.ensures.0;
+      cause = (let body = c.args.body.now in
+          let offsets = c.args.offsets.now in
+          let before = c.loop-before.before in
+          let p = err_from_is_err_and c.from_residual.result c.from_residual.ensures.1 in
+          let e = c.in_err-rows.field-0.0 in
+          let first = refused_or_back body offsets before (before - 1) e OutOfMemory (omega arith) c.in_err-rows.ensures.cause in
+          rw (p.1, p.2) (past_refused Descending c.args.key.now (reads_back c.args.groups body offsets) (reads_back before body offsets) e OutOfMemory c.loop-before.invariant.past first c.in_err-rows.ensures.damage));
+      damage = rw (p.1, p.2) c.in_err-rows.ensures.damage;
+    }
 
 pub returns-then-kept-gt0-clause-past : goal.returns-then-kept-gt0-clause-past
 returns-then-kept-gt0-clause-past c =
@@ -77,18 +85,3 @@ returns-clause-stops c = subst (λ (l : List RowRead). StopsAt Descending c.args
 
 pub returns-clause-read : goal.returns-clause-read
 returns-clause-read c = subst BeginsRead (sym (no_rows_back c.args.body.now c.args.offsets.now 0 c.new.result.items refl c.new.ensures.items)) tt
-
-pub returns-in_err-rows-clause-past : goal.returns-in_err-rows-clause-past
-returns-in_err-rows-clause-past c = IfOk-from_err c.from_residual.result _ c.from_residual.ensures.0
-
-pub returns-in_err-rows-clause-stops : goal.returns-in_err-rows-clause-stops
-returns-in_err-rows-clause-stops c = IfOk-from_err c.from_residual.result _ c.from_residual.ensures.0
-
-pub returns-in_err-rows-clause-read : goal.returns-in_err-rows-clause-read
-returns-in_err-rows-clause-read c = IfOk-from_err c.from_residual.result _ c.from_residual.ensures.0
-
-pub returns-in_err-rows-clause-within : goal.returns-in_err-rows-clause-within
-returns-in_err-rows-clause-within c = IfOk-from_err c.from_residual.result _ c.from_residual.ensures.0
-
-pub returns-in_err-rows-clause-damage : goal.returns-in_err-rows-clause-damage
-returns-in_err-rows-clause-damage c = let p = err_from_is_err_and c.from_residual.result c.from_residual.ensures.1 in rw (p.1, p.2) c.in_err-rows.ensures.damage

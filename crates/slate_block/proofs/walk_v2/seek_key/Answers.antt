@@ -29,3 +29,9 @@ pub returns-clause-cause : goal.returns-clause-cause
 returns-clause-cause c =
     let reads = left_v2 c.args.body.now c.args.offsets.now in
     all_refused Ascending c.args.key.now (reads c.args.place.now) (reads c.match-last_before.start) OutOfMemory c.behind_key.result (is_start c) c.behind_key.ensures.cause
+
+pub returns-clause-stops : goal.returns-clause-stops
+returns-clause-stops c = c.behind_key.ensures.stops
+
+pub returns-clause-read : goal.returns-clause-read
+returns-clause-read c = c.behind_key.ensures.read

@@ -1,11 +1,12 @@
 use Rattle.std.proofs.Common.{◌≡◌, Some, Ok, subst, List, length, sym, ap, ◌∙◌, arith}
 use Rattle.std.specs.Prelude.{slice_get, IfSome}
-use Rattle.std.proofs.lemmas.Result.{IfOk-from_err}
+use Rattle.std.proofs.lemmas.Result.{IfOk-from_err, err_from_is_err_and}
 use Rattle.slate_types.specs.declared.types.RowEntry.{RowEntry}
 use Rattle.slate_types.specs.Iteration.{comes_before}
 use Rattle.slate_block.specs.BlockWalks.{ReadsLeft, place_in}
 use Rattle.slate_block.specs.Walks.{RowRead, reads_v1}
-use Rattle.slate_block.proofs.WalkLaws.{as_many_reads, index_left, place_below, read_in_order, told_at}
+use Rattle.slate_block.proofs.WalkLaws.{as_many_reads, index_left, place_below, read_in_order, told_at, refused_at}
+use Rattle.slate_types.specs.declared.error.SlateDBError.TheVariants.{OutOfMemory}
 use Rattle.slate_block.proofs.block_iterator.BlockIterator.is_before.Goals as goal
 
 pub place_in-place-requires : goal.place_in-place-requires
@@ -39,3 +40,9 @@ returns-in-Some-clause-before g c =
 
 pub returns-in_err-row-clause-before : goal.returns-in_err-row-clause-before
 returns-in_err-row-clause-before g c = IfOk-from_err c.from_residual.result _ c.from_residual.ensures.0
+
+pub returns-in-Some-clause-cause : goal.returns-in-Some-clause-cause
+returns-in-Some-clause-cause g c = tt
+
+pub returns-in_err-row-clause-cause : goal.returns-in_err-row-clause-cause
+returns-in_err-row-clause-cause g c = let p = err_from_is_err_and c.from_residual.result c.from_residual.ensures.1 in rw (p.1, p.2) (refused_at c.args.self.now.reads c.args.index c.in_err-row.field-0.0 OutOfMemory c.in_err-row.ensures.cause c.in_err-row.ensures.damage)

@@ -1,8 +1,9 @@
-use Rattle.std.proofs.Common.{ap, sym, ◌∙◌}
+use Rattle.std.proofs.Common.{ap, sym, ◌∙◌, refl}
 use Rattle.std.proofs.lemmas.Bool.{false≢true}
 use Rattle.std.proofs.lemmas.Result.{IfOk-from_err, err_from_is_err_and}
 use Rattle.slate_block.specs.Walks.{all_ok}
 use Rattle.slate_block.proofs.SeekLaws.{some_left, first_taken}
+use Rattle.slate_block.proofs.Failing.{on_err}
 use Rattle.slate_block.proofs.block_iterator.BlockIterator.next_row.Goals as goal
 
 pub returns-in_err-row-clause-read : goal.returns-in_err-row-clause-read
@@ -38,3 +39,33 @@ returns-clause-read g c = first_taken c.args.self.now.reads c.skip.new.self.read
 
 pub returns-clause-rows : goal.returns-clause-rows
 returns-clause-rows g c = ap all_ok (returns-clause-read g c)
+
+pub returns-in_err-row-clause-order : goal.returns-in_err-row-clause-order
+returns-in_err-row-clause-order g c = refl
+
+pub returns-in_err-row-clause-unchanged : goal.returns-in_err-row-clause-unchanged
+returns-in_err-row-clause-unchanged g c = on_err c.from_residual.result refl
+
+pub returns-then-is_empty-clause-order : goal.returns-then-is_empty-clause-order
+returns-then-is_empty-clause-order g c = refl
+
+pub returns-then-is_empty-clause-cause : goal.returns-then-is_empty-clause-cause
+returns-then-is_empty-clause-cause g c = tt
+
+pub returns-then-is_empty-clause-damage : goal.returns-then-is_empty-clause-damage
+returns-then-is_empty-clause-damage g c = tt
+
+pub returns-then-is_empty-clause-unchanged : goal.returns-then-is_empty-clause-unchanged
+returns-then-is_empty-clause-unchanged g c = tt
+
+pub returns-clause-order : goal.returns-clause-order
+returns-clause-order g c = c.skip.ensures.order
+
+pub returns-clause-cause : goal.returns-clause-cause
+returns-clause-cause g c = tt
+
+pub returns-clause-damage : goal.returns-clause-damage
+returns-clause-damage g c = tt
+
+pub returns-clause-unchanged : goal.returns-clause-unchanged
+returns-clause-unchanged g c = tt

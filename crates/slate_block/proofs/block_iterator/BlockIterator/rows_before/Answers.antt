@@ -3,17 +3,15 @@ use Rattle.std.proofs.lemmas.Option.{slice_get_within}
 use Rattle.std.proofs.lemmas.Result.{IfOk-from_err, err_from_is_err_and}
 use Rattle.slate_block.proofs.block_iterator.BlockIterator.rows_before.Goals as goal
 
-pub returns-in_err-is_before-clause-within : goal.returns-in_err-is_before-clause-within
-returns-in_err-is_before-clause-within g c = IfOk-from_err c.from_residual.result _ c.from_residual.ensures.0
-
-pub returns-in_err-is_before-clause-last : goal.returns-in_err-is_before-clause-last
-returns-in_err-is_before-clause-last g c = IfOk-from_err c.from_residual.result _ c.from_residual.ensures.0
-
-pub returns-in_err-is_before-clause-next : goal.returns-in_err-is_before-clause-next
-returns-in_err-is_before-clause-next g c = IfOk-from_err c.from_residual.result _ c.from_residual.ensures.0
-
-pub returns-in_err-is_before-clause-cause : goal.returns-in_err-is_before-clause-cause
-returns-in_err-is_before-clause-cause g c = let p = err_from_is_err_and c.from_residual.result c.from_residual.ensures.1 in rw (p.1, p.2) c.in_err-is_before.ensures.cause
+pub returns-in_err-is_before : goal.returns-in_err-is_before
+returns-in_err-is_before g c =
+    let p = err_from_is_err_and c.from_residual.result c.from_residual.ensures.1 in
+    record {
+      within = IfOk-from_err c.from_residual.result _ c.from_residual.ensures.0;
+      last = IfOk-from_err c.from_residual.result _ c.from_residual.ensures.0;
+      next = IfOk-from_err c.from_residual.result _ c.from_residual.ensures.0;
+      cause = rw (p.1, p.2) c.in_err-is_before.ensures.cause;
+    }
 
 pub loop-low-init : goal.loop-low-init
 loop-low-init g c =

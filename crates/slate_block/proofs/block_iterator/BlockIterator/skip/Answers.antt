@@ -47,3 +47,9 @@ returns-in-Descending-clause-reads g c =
     let e = ap (λ (w : ReadsLeft). w.reads) c.self.view_is in
     let within = count_left it.order body it.first_key offsets (length body) it.start it.end c.args.count c.args.self.now.reads c.self.invariant.0 c.self.invariant.1 e c.requires in
     taken_downwards it.order body it.first_key offsets (length body) it.start it.end c.args.count c.args.self.now.reads c.in-Descending.is e within c.self.invariant.1
+
+pub returns-in-Ascending-clause-order : goal.returns-in-Ascending-clause-order
+returns-in-Ascending-clause-order g c = ap (λ (w : ReadsLeft). w.order) c.self.view_is
+
+pub returns-in-Descending-clause-order : goal.returns-in-Descending-clause-order
+returns-in-Descending-clause-order g c = ap (λ (w : ReadsLeft). w.order) c.self.view_is

@@ -4,6 +4,7 @@ use Rattle.slate_types.specs.declared.error.SlateDBError.TheVariants.{OutOfMemor
 use Rattle.slate_block.specs.BlockWalks.{LastBefore}
 use Rattle.slate_block.proofs.WalkLaws.{refused_at}
 use Rattle.slate_block.proofs.SeekLaws.{last_counted, past_counted, past_none, stops_counted, sought}
+use Rattle.slate_block.proofs.Failing.{on_err}
 use Rattle.slate_block.proofs.block_iterator.BlockIterator.skip_before.Goals as goal
 
 -- ---- nothing is taken off
@@ -63,3 +64,33 @@ pub returns-in_err-last-clause-cause : goal.returns-in_err-last-clause-cause
 returns-in_err-last-clause-cause g c =
     let p = err_from_is_err_and c.from_residual-in_err-last.result c.from_residual-in_err-last.ensures.1 in
     rw (p.1, p.2) (refused_at c.args.self.now.reads (c.in_ok-count.count - 1) c.in_err-last.field-0.0 OutOfMemory c.in_err-last.ensures.cause c.in_err-last.ensures.damage)
+
+pub returns-then-count-eq0-clause-order : goal.returns-then-count-eq0-clause-order
+returns-then-count-eq0-clause-order g c = refl
+
+pub returns-then-count-eq0-clause-cause : goal.returns-then-count-eq0-clause-cause
+returns-then-count-eq0-clause-cause g c = tt
+
+pub returns-then-count-eq0-clause-unchanged : goal.returns-then-count-eq0-clause-unchanged
+returns-then-count-eq0-clause-unchanged g c = tt
+
+pub returns-clause-order : goal.returns-clause-order
+returns-clause-order g c = c.skip.ensures.order
+
+pub returns-clause-cause : goal.returns-clause-cause
+returns-clause-cause g c = tt
+
+pub returns-clause-unchanged : goal.returns-clause-unchanged
+returns-clause-unchanged g c = tt
+
+pub returns-in_err-count-clause-order : goal.returns-in_err-count-clause-order
+returns-in_err-count-clause-order g c = refl
+
+pub returns-in_err-count-clause-unchanged : goal.returns-in_err-count-clause-unchanged
+returns-in_err-count-clause-unchanged g c = on_err c.from_residual.result refl
+
+pub returns-in_err-last-clause-order : goal.returns-in_err-last-clause-order
+returns-in_err-last-clause-order g c = refl
+
+pub returns-in_err-last-clause-unchanged : goal.returns-in_err-last-clause-unchanged
+returns-in_err-last-clause-unchanged g c = on_err c.from_residual-in_err-last.result refl

@@ -1,10 +1,11 @@
-use Rattle.std.proofs.Common.{◌≡◌, ◌⊎◌, [], ◌∷◌, Some, Ok, Err, ap, subst}
+use Rattle.std.proofs.Common.{◌≡◌, ◌⊎◌, [], ◌∷◌, Some, Ok, Err, ap, subst, refl}
 use Rattle.std.specs.Prelude.{slice_get}
 use Rattle.std.proofs.lemmas.Result.{IfOk-from_err, err_from_is_err_and}
 use Rattle.slate_types.specs.declared.error.SlateDBError.TheVariants.{OutOfMemory}
 use Rattle.slate_block.specs.Walks.{all_ok}
 use Rattle.slate_block.specs.BlockWalks.{ReadsLeft}
 use Rattle.slate_block.specs.GroupWalks.{left_v2}
+use Rattle.slate_block.proofs.Failing.{on_err}
 use Rattle.slate_block.proofs.block_iterator_v2.AscendingState.next_row.Goals as goal
 
 pub returns-in_err-row-clause-read : goal.returns-in_err-row-clause-read
@@ -48,3 +49,33 @@ returns-clause-read g c =
 
 pub returns-clause-rows : goal.returns-clause-rows
 returns-clause-rows g c = ap all_ok (returns-clause-read g c)
+
+pub returns-in_err-row-clause-order : goal.returns-in_err-row-clause-order
+returns-in_err-row-clause-order g c = refl
+
+pub returns-in_err-row-clause-unchanged : goal.returns-in_err-row-clause-unchanged
+returns-in_err-row-clause-unchanged g c = on_err c.from_residual.result refl
+
+pub returns-then-is_at_end-clause-order : goal.returns-then-is_at_end-clause-order
+returns-then-is_at_end-clause-order g c = refl
+
+pub returns-then-is_at_end-clause-cause : goal.returns-then-is_at_end-clause-cause
+returns-then-is_at_end-clause-cause g c = tt
+
+pub returns-then-is_at_end-clause-damage : goal.returns-then-is_at_end-clause-damage
+returns-then-is_at_end-clause-damage g c = tt
+
+pub returns-then-is_at_end-clause-unchanged : goal.returns-then-is_at_end-clause-unchanged
+returns-then-is_at_end-clause-unchanged g c = tt
+
+pub returns-clause-order : goal.returns-clause-order
+returns-clause-order g c = ap (λ (w : ReadsLeft). w.order) c.self.view_is
+
+pub returns-clause-cause : goal.returns-clause-cause
+returns-clause-cause g c = tt
+
+pub returns-clause-damage : goal.returns-clause-damage
+returns-clause-damage g c = tt
+
+pub returns-clause-unchanged : goal.returns-clause-unchanged
+returns-clause-unchanged g c = tt

@@ -1,9 +1,10 @@
-use Rattle.std.proofs.Common.{◌≡◌, ◌⊎◌, subst}
+use Rattle.std.proofs.Common.{◌≡◌, ◌⊎◌, subst, ap, refl}
 use Rattle.std.proofs.lemmas.Result.{IfOk-from_err, err_from_is_err_and}
 use Rattle.slate_types.specs.declared.error.SlateDBError.TheVariants.{OutOfMemory}
 use Rattle.slate_block.specs.BlockWalks.{ReadsLeft, IsPast, Refuses, StopsAt}
 use Rattle.slate_block.specs.GroupWalks.{left_v2}
 use Rattle.slate_block.proofs.SeekLaws.{sought}
+use Rattle.slate_block.proofs.Failing.{on_err}
 use Rattle.slate_block.proofs.block_iterator_v2.AscendingState.skip_before.Goals as goal
 
 pub returns-in_err-self-inside-clause-past : goal.returns-in_err-self-inside-clause-past
@@ -46,3 +47,18 @@ returns-clause-read g c = rw (c.body.ensures, c.offsets.ensures) at c.in_ok-self
 
 pub returns-clause-rows : goal.returns-clause-rows
 returns-clause-rows g c = sought c.args.self.now.order c.args.key.now c.args.self.now.reads _ (returns-clause-past g c) (returns-clause-stops g c)
+
+pub returns-in_err-self-inside-clause-order : goal.returns-in_err-self-inside-clause-order
+returns-in_err-self-inside-clause-order g c = refl
+
+pub returns-in_err-self-inside-clause-unchanged : goal.returns-in_err-self-inside-clause-unchanged
+returns-in_err-self-inside-clause-unchanged g c = on_err c.from_residual.result refl
+
+pub returns-clause-order : goal.returns-clause-order
+returns-clause-order g c = ap (λ (w : ReadsLeft). w.order) c.self.view_is
+
+pub returns-clause-cause : goal.returns-clause-cause
+returns-clause-cause g c = tt
+
+pub returns-clause-unchanged : goal.returns-clause-unchanged
+returns-clause-unchanged g c = tt

@@ -6,26 +6,18 @@ use Rattle.slate_block.proofs.BackLaws.{named_is_ok}
 use Rattle.slate_block.proofs.EitherLaws.{upwards}
 use Rattle.slate_block.proofs.block_iterator_v2.BlockIteratorV2.new.Goals as goal
 
-pub returns-in_err-rows-clause-reads : goal.returns-in_err-rows-clause-reads
-returns-in_err-rows-clause-reads g c = IfOk-from_err c.from_residual.result _ c.from_residual.ensures.0
-
-pub returns-in_err-rows-clause-rows : goal.returns-in_err-rows-clause-rows
-returns-in_err-rows-clause-rows g c = IfOk-from_err c.from_residual.result _ c.from_residual.ensures.0
-
-pub returns-in_err-rows-clause-only : goal.returns-in_err-rows-clause-only
-returns-in_err-rows-clause-only g c = IfOk-from_err c.from_residual.result _ c.from_residual.ensures.0
-
-pub returns-in_err-rows-clause-order : goal.returns-in_err-rows-clause-order
-returns-in_err-rows-clause-order g c = IfOk-from_err c.from_residual.result _ c.from_residual.ensures.0
-
-pub returns-in_err-rows-clause-begins : goal.returns-in_err-rows-clause-begins
-returns-in_err-rows-clause-begins g c = IfOk-from_err c.from_residual.result _ c.from_residual.ensures.0
-
-pub returns-in_err-rows-clause-damage : goal.returns-in_err-rows-clause-damage
-returns-in_err-rows-clause-damage g c = let p = err_from_is_err_and c.from_residual.result c.from_residual.ensures.1 in rw (p.1, p.2) c.in_err-rows.ensures.damage
-
-pub returns-in_err-rows-clause-cause : goal.returns-in_err-rows-clause-cause
-returns-in_err-rows-clause-cause g c = let p = err_from_is_err_and c.from_residual.result c.from_residual.ensures.1 in rw (p.1, p.2) c.in_err-rows.ensures.cause
+pub returns-in_err-rows : goal.returns-in_err-rows
+returns-in_err-rows g c =
+    let p = err_from_is_err_and c.from_residual.result c.from_residual.ensures.1 in
+    record {
+      reads = IfOk-from_err c.from_residual.result _ c.from_residual.ensures.0;
+      rows = IfOk-from_err c.from_residual.result _ c.from_residual.ensures.0;
+      only = IfOk-from_err c.from_residual.result _ c.from_residual.ensures.0;
+      order = IfOk-from_err c.from_residual.result _ c.from_residual.ensures.0;
+      begins = IfOk-from_err c.from_residual.result _ c.from_residual.ensures.0;
+      cause = rw (p.1, p.2) c.in_err-rows.ensures.cause;
+      damage = rw (p.1, p.2) c.in_err-rows.ensures.damage;
+    }
 
 -- ---- downwards
 
@@ -76,3 +68,33 @@ returns-clause-order g c = sym (upwards c.args.order c.in_default.not-Descending
 
 pub returns-clause-begins : goal.returns-clause-begins
 returns-clause-begins g c = named_is_ok (g.B.BlockLike.body_bytes c.args.block) (g.B.BlockLike.row_offsets c.args.block) (rw c.offsets.ensures at (sym c.are_named.ensures ∙ c.if-not-are_named.false))
+
+pub returns-in-Descending-clause-cause : goal.returns-in-Descending-clause-cause
+returns-in-Descending-clause-cause g c = tt
+
+pub returns-in-Descending-clause-damage : goal.returns-in-Descending-clause-damage
+returns-in-Descending-clause-damage g c = tt
+
+pub returns-then-not-are_named-clause-reads : goal.returns-then-not-are_named-clause-reads
+returns-then-not-are_named-clause-reads g c = tt
+
+pub returns-then-not-are_named-clause-rows : goal.returns-then-not-are_named-clause-rows
+returns-then-not-are_named-clause-rows g c = tt
+
+pub returns-then-not-are_named-clause-only : goal.returns-then-not-are_named-clause-only
+returns-then-not-are_named-clause-only g c = tt
+
+pub returns-then-not-are_named-clause-order : goal.returns-then-not-are_named-clause-order
+returns-then-not-are_named-clause-order g c = tt
+
+pub returns-then-not-are_named-clause-begins : goal.returns-then-not-are_named-clause-begins
+returns-then-not-are_named-clause-begins g c = tt
+
+pub returns-then-not-are_named-clause-damage : goal.returns-then-not-are_named-clause-damage
+returns-then-not-are_named-clause-damage g c = rw c.corrupt.ensures tt
+
+pub returns-clause-cause : goal.returns-clause-cause
+returns-clause-cause g c = tt
+
+pub returns-clause-damage : goal.returns-clause-damage
+returns-clause-damage g c = tt

@@ -1,4 +1,4 @@
-use Rattle.std.proofs.Common.{◌≡◌, List, [], ℕ, refl, ap, subst, arith, ◌∙◌}
+use Rattle.std.proofs.Common.{◌≡◌, List, [], ℕ, refl, ap, subst, arith, ◌∙◌, inl}
 use Rattle.std.proofs.lemmas.List.{nil_from_length}
 use Rattle.std.specs.Prelude.{IfOk}
 use Rattle.slate_block.specs.BlockSpelling.{block_bytes}
@@ -19,3 +19,12 @@ returns-clause-bytes c =
     let inside = c.self.inside in
     let bytes = held_bytes inside.part inside.held inside.part.body.items refl ∙ ap (λ (b : Building). block_bytes b.version b.rows) c.self.view_is in
     subst (λ (l : List ℕ). IfOk c.with_offsets.result (λ bytes. bytes ≡ l)) bytes (rw c.deref.ensures.value at c.with_offsets.ensures.spelling)
+
+pub returns-then-part-eq0-clause-bytes : goal.returns-then-part-eq0-clause-bytes
+returns-then-part-eq0-clause-bytes c = tt
+
+pub returns-then-part-eq0-clause-fits : goal.returns-then-part-eq0-clause-fits
+returns-then-part-eq0-clause-fits c = tt
+
+pub returns-then-part-eq0-clause-cause : goal.returns-then-part-eq0-clause-cause
+returns-then-part-eq0-clause-cause c = inl refl

@@ -1,4 +1,4 @@
-use Rattle.std.proofs.Common.{◌≡◌, ◌⊎◌, ◌-◌, [], length, Some, None, Ok, Err, subst, arith, vec_len, sym, ◌∙◌}
+use Rattle.std.proofs.Common.{◌≡◌, ◌⊎◌, ◌-◌, [], length, Some, None, Ok, Err, subst, arith, vec_len, sym, ◌∙◌, ap, refl}
 use Rattle.std.proofs.lemmas.Bool.{eqb-true}
 use Rattle.std.proofs.lemmas.List.{nil_from_length}
 use Rattle.std.proofs.lemmas.Result.{err_from_is_err_and, IfOk-from_err}
@@ -9,6 +9,7 @@ use Rattle.slate_block.specs.BlockWalks.{ReadsLeft, TakesRead}
 use Rattle.slate_block.specs.GroupWalks.{left_back, restart_at}
 use Rattle.slate_block.proofs.SeekLaws.{step_left}
 use Rattle.slate_block.proofs.BackLaws.{no_rows_back, left_refused_or, more_groups, pop_some, pop_group, rows_held}
+use Rattle.slate_block.proofs.Failing.{on_err}
 use Rattle.slate_block.proofs.descending_block_iterator_v2.DescendingBlockIteratorV2.next_row.Goals as goal
 
 -- ---- a row is held
@@ -86,3 +87,45 @@ invariant_of-self g c = c.self.invariant
 
 pub invariant_of-self-2 : goal.invariant_of-self-2
 invariant_of-self-2 g c = omega (arith, c.self.invariant)
+
+pub returns-then-not-is_empty-clause-order : goal.returns-then-not-is_empty-clause-order
+returns-then-not-is_empty-clause-order g c = ap (λ (w : ReadsLeft). w.order) c.self.view_is
+
+pub returns-then-not-is_empty-clause-cause : goal.returns-then-not-is_empty-clause-cause
+returns-then-not-is_empty-clause-cause g c = tt
+
+pub returns-then-not-is_empty-clause-damage : goal.returns-then-not-is_empty-clause-damage
+returns-then-not-is_empty-clause-damage g c = tt
+
+pub returns-then-not-is_empty-clause-unchanged : goal.returns-then-not-is_empty-clause-unchanged
+returns-then-not-is_empty-clause-unchanged g c = tt
+
+pub returns-then-self-eq0-clause-order : goal.returns-then-self-eq0-clause-order
+returns-then-self-eq0-clause-order g c = refl
+
+pub returns-then-self-eq0-clause-cause : goal.returns-then-self-eq0-clause-cause
+returns-then-self-eq0-clause-cause g c = tt
+
+pub returns-then-self-eq0-clause-damage : goal.returns-then-self-eq0-clause-damage
+returns-then-self-eq0-clause-damage g c = tt
+
+pub returns-then-self-eq0-clause-unchanged : goal.returns-then-self-eq0-clause-unchanged
+returns-then-self-eq0-clause-unchanged g c = tt
+
+pub returns-clause-order : goal.returns-clause-order
+returns-clause-order g c = ap (λ (w : ReadsLeft). w.order) c.self.view_is
+
+pub returns-clause-cause : goal.returns-clause-cause
+returns-clause-cause g c = tt
+
+pub returns-clause-damage : goal.returns-clause-damage
+returns-clause-damage g c = tt
+
+pub returns-clause-unchanged : goal.returns-clause-unchanged
+returns-clause-unchanged g c = tt
+
+pub returns-in_err-self-inside-clause-order : goal.returns-in_err-self-inside-clause-order
+returns-in_err-self-inside-clause-order g c = refl
+
+pub returns-in_err-self-inside-clause-unchanged : goal.returns-in_err-self-inside-clause-unchanged
+returns-in_err-self-inside-clause-unchanged g c = on_err c.from_residual.result refl

@@ -1,4 +1,4 @@
-use Rattle.std.proofs.Common.{◌≡◌, ◌<◌, ◌⊎◌, List, length, take, subst, sym, arith}
+use Rattle.std.proofs.Common.{◌≡◌, ◌<◌, ◌⊎◌, List, length, take, subst, sym, arith, ap, refl}
 use Rattle.std.proofs.lemmas.List.{length-take}
 use Rattle.std.proofs.lemmas.Result.{err_from_is_err_and, IfOk-from_err}
 use Rattle.slate_types.specs.declared.error.SlateDBError.TheVariants.{OutOfMemory}
@@ -9,6 +9,7 @@ use Rattle.slate_block.specs.GroupWalks.{left_back}
 use Rattle.slate_block.proofs.SeekLaws.{sought}
 use Rattle.slate_block.proofs.BackSteps.{back_of, kept_past, kept_read, kept_stops}
 use Rattle.slate_block.proofs.BackLaws.{past_back, refused_held, refused_or_behind}
+use Rattle.slate_block.proofs.Failing.{on_err}
 use Rattle.slate_block.proofs.descending_block_iterator_v2.DescendingBlockIteratorV2.skip_before.Goals as goal
 
 -- ---- some row of those held stays
@@ -140,3 +141,33 @@ returns-then-kept-gt0-clause-read g c =
 
 pub returns-clause-read : goal.returns-clause-read
 returns-clause-read g c = rw (c.body-body.ensures, c.offsets-offsets.ensures) at c.in_ok-groups.ensures.read
+
+pub returns-then-kept-gt0-clause-order : goal.returns-then-kept-gt0-clause-order
+returns-then-kept-gt0-clause-order g c = ap (λ (w : ReadsLeft). w.order) c.self.view_is
+
+pub returns-then-kept-gt0-clause-cause : goal.returns-then-kept-gt0-clause-cause
+returns-then-kept-gt0-clause-cause g c = tt
+
+pub returns-then-kept-gt0-clause-unchanged : goal.returns-then-kept-gt0-clause-unchanged
+returns-then-kept-gt0-clause-unchanged g c = tt
+
+pub returns-clause-order : goal.returns-clause-order
+returns-clause-order g c = ap (λ (w : ReadsLeft). w.order) c.self.view_is
+
+pub returns-clause-cause : goal.returns-clause-cause
+returns-clause-cause g c = tt
+
+pub returns-clause-unchanged : goal.returns-clause-unchanged
+returns-clause-unchanged g c = tt
+
+pub returns-in_err-upto-clause-order : goal.returns-in_err-upto-clause-order
+returns-in_err-upto-clause-order g c = refl
+
+pub returns-in_err-upto-clause-unchanged : goal.returns-in_err-upto-clause-unchanged
+returns-in_err-upto-clause-unchanged g c = on_err c.from_residual.result refl
+
+pub returns-in_err-groups-clause-order : goal.returns-in_err-groups-clause-order
+returns-in_err-groups-clause-order g c = refl
+
+pub returns-in_err-groups-clause-unchanged : goal.returns-in_err-groups-clause-unchanged
+returns-in_err-groups-clause-unchanged g c = on_err c.from_residual-in_err-groups.result refl
