@@ -2,9 +2,9 @@
 use Rattle.std.proofs.Common.{◌≡◌, ℕ, zero, suc, ◌+◌, ◌-◌, ◌^◌, ◌<◌, ◌≤◌, Bool, true, false, cond, ltb, List, [], ◌∷◌, ◌++◌, length, get_or, take, drop, Option, Some, None, is_some, Result, Ok, Err, ℤ, refl, sym, ap, subst, ◌∙◌, arith, inl, inr}
 use Rattle.std.specs.Prelude.{FitsSigned, slice_get, slice_range}
 use Rattle.std.specs.Int.{Width, w16, w32, w64, byte_len, from_be_bytes, to_be_bytes, cast_signed, cast_unsigned}
-use Rattle.std.proofs.lemmas.Bool.{cases_lt, ltb-true, ltb-false, le-ltb}
+use Rattle.std.proofs.lemmas.Bool.{cases_lt, ltb-true, ltb-false, le-ltb, lt-ltb}
 use Rattle.std.proofs.lemmas.Int.{of_z-to_z, to_z-of_z, ints}
-use Rattle.std.proofs.lemmas.List.{take_at, drop_at, take-append-drop, length-append, length-take, drop-drop, get_or-drop, get_or-take, get_or_past, at_drop_more}
+use Rattle.std.proofs.lemmas.List.{take_at, drop_at, take-append-drop, length-append, length-take, length-drop, drop-drop, get_or-drop, get_or-take, get_or_past, at_drop_more}
 use Rattle.std.proofs.lemmas.Nat.{be_bytes_2, be_bytes_4, be_bytes_8, from_be_bytes-to_be_bytes_2, from_be_bytes-to_be_bytes_4, from_be_bytes-to_be_bytes_8}
 use Rattle.std.proofs.lemmas.Option.{slice_get_past, slice_get-get_or, slice_get_within, get_or_from_slice_get}
 use Rattle.slate_types.specs.declared.error.SlateDBError.{SlateDBError}
@@ -117,6 +117,12 @@ number_takes w limit wide bytes at n next fits e =
     let same : to_be_bytes w (from_be_bytes w front) ≡ front = wide.back front (omega (arith, length-take (byte_len w) rest, long)) bytes_there in
     let here : Stands bytes at (to_be_bytes w (from_be_bytes w front)) (at + byte_len w) = subst (λ (t : List ℕ). Stands bytes at t (at + byte_len w)) (sym same) (stands bytes at (byte_len w) long) in
     subst (λ (p : ℕ × ℕ). Stands bytes at (to_be_bytes w p.0) p.1 × (p.0 < limit)) g.1 (here, wide.below front bytes_there)
+
+pub no_number : (w : Width) (bytes : List ℕ) (at : ℕ) → length (take (length bytes - at) (drop at bytes)) < byte_len w → number_field w bytes at ≡ Err (CorruptTable at)
+unfolding number_field
+no_number w bytes at short =
+    let less : ltb (length (drop at bytes)) (byte_len w) ≡ true = lt-ltb _ _ (omega (arith, short, length-take (length bytes - at) (drop at bytes), length-drop at bytes)) in
+    rw less refl
 
 pub number_again : (w : Width) (limit : ℕ) (wide : IsWide w limit) (bytes rest : List ℕ) (at n : ℕ) → n < limit → drop at bytes ≡ to_be_bytes w n ++ rest → number_field w bytes at ≡ Ok (n, at + byte_len w)
 unfolding number_field

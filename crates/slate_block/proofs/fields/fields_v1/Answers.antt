@@ -3,8 +3,21 @@ use Rattle.std.proofs.lemmas.Result.{IfOk-from_err, err_from_is_err_and}
 use Rattle.slate_block.specs.Damage.{layout_v1}
 use Rattle.slate_block.proofs.fields.fields_v1.Goals as goal
 
-pub returns-clause-bytes : goal.returns-clause-bytes
-returns-clause-bytes c = λ i. omega (arith, c.type_inv.bytes i)
+pub returns : goal.returns
+unfolding layout_v1
+returns c =
+    record {
+      value = rw (sym c.in_ok-shared.ensures.value, sym c.in_ok-seq.ensures.value, sym c.in_ok-expire_ts.ensures.value, sym (c.contains.ensures tt), sym c.in_ok-value_at.ensures.value) refl;
+      damage = tt;
+      within = (record {
+        suffix = c.in_ok-shared.ensures.within.0;
+        value = c.in_ok-value_at.ensures.within.0;
+        suffix_in = c.in_ok-shared.ensures.within.1;
+        value_in = c.in_ok-value_at.ensures.within.1;
+        end_in = c.in_ok-value_at.ensures.within.1;
+      });
+      bytes = λ i. omega (arith, c.type_inv.bytes i);
+    }
 
 pub returns-in_err-shared : goal.returns-in_err-shared
 unfolding layout_v1
@@ -50,10 +63,6 @@ returns-in_err-value_at c =
       bytes = IfOk-from_err c.from_residual-in_err-value_at.result _ c.from_residual-in_err-value_at.ensures.0;
     }
 
-pub returns-clause-value : goal.returns-clause-value
-unfolding layout_v1
-returns-clause-value c = rw (sym c.in_ok-shared.ensures.value, sym c.in_ok-seq.ensures.value, sym c.in_ok-expire_ts.ensures.value, sym (c.contains.ensures tt), sym c.in_ok-value_at.ensures.value) refl
-
 pub head_fields-requires : goal.head_fields-requires
 head_fields-requires c = c.in_ok-shared.ensures.within.1
 
@@ -62,15 +71,3 @@ stamp_fields-requires c = c.in_ok-seq.ensures.within
 
 pub value_fields-requires : goal.value_fields-requires
 value_fields-requires c = c.in_ok-expire_ts.ensures.within
-
-pub returns-clause-within : goal.returns-clause-within
-returns-clause-within c = record {
-  suffix = c.in_ok-shared.ensures.within.0;
-  value = c.in_ok-value_at.ensures.within.0;
-  suffix_in = c.in_ok-shared.ensures.within.1;
-  value_in = c.in_ok-value_at.ensures.within.1;
-  end_in = c.in_ok-value_at.ensures.within.1;
-}
-
-pub returns-clause-damage : goal.returns-clause-damage
-returns-clause-damage c = tt

@@ -1,6 +1,7 @@
-use Rattle.std.proofs.Common.{arith, refl, sym}
+use Rattle.std.proofs.Common.{arith, refl, sym, ◌∙◌}
 use Rattle.std.proofs.lemmas.Result.{IfOk-from_err, err_from_is_err_and}
-use Rattle.slate_block.specs.Damage.{layout_v2}
+use Rattle.std.proofs.lemmas.Bool.{lt-ltb}
+use Rattle.slate_block.specs.Damage.{layout_v2, length_agrees}
 use Rattle.slate_block.proofs.fields.fields_v2.Goals as goal
 
 pub returns-clause-bytes : goal.returns-clause-bytes
@@ -65,3 +66,14 @@ head_fields-requires c = c.in_ok-value_at.ensures.within.1
 
 pub stamp_fields-requires : goal.stamp_fields-requires
 stamp_fields-requires c = c.in_ok-seq.ensures.within
+
+pub returns-then-key-gt0 : goal.returns-then-key-gt0
+unfolding layout_v2 length_agrees
+returns-then-key-gt0 c =
+    let tombstone = sym (c.contains.ensures tt) ∙ c.if-contains.true in
+    record {
+      value = rw (c.corrupt.ensures, sym c.in_ok-key.ensures.value, sym c.in_ok-value_at.ensures.value, sym c.in_ok-seq.ensures.value, tombstone, lt-ltb 0 c.in_ok-key.key.value_len c.if-key-gt0.true) refl;
+      damage = rw c.corrupt.ensures c.in_ok-key.ensures.value_within;
+      within = tt;
+      bytes = tt;
+    }

@@ -33,12 +33,11 @@ returns-in_err-suffix c =
       within = IfOk-from_err c.from_residual-in_err-suffix.result _ c.from_residual-in_err-suffix.ensures.0;
     }
 
-pub returns-clause-value : goal.returns-clause-value
+pub returns : goal.returns
 unfolding key_layout_v1
-returns-clause-value c = rw (sym c.in_ok-shared.ensures.value, sym c.in_ok-suffix_len.ensures.value, sym c.in_ok-suffix.ensures.value) refl
-
-pub returns-clause-damage : goal.returns-clause-damage
-returns-clause-damage c = tt
-
-pub returns-clause-within : goal.returns-clause-within
-returns-clause-within c = c.in_ok-suffix.ensures.within
+returns c =
+    record {
+      value = rw (sym c.in_ok-shared.ensures.value, sym c.in_ok-suffix_len.ensures.value, sym c.in_ok-suffix.ensures.value) refl;
+      damage = tt;
+      within = c.in_ok-suffix.ensures.within;
+    }

@@ -3,8 +3,16 @@ use Rattle.std.proofs.lemmas.Result.{IfOk-from_err, err_from_is_err_and}
 use Rattle.slate_block.specs.Damage.{key_layout_v2}
 use Rattle.slate_block.proofs.fields.key_fields_v2.Goals as goal
 
-pub returns-clause-bytes : goal.returns-clause-bytes
-returns-clause-bytes c = λ i. omega (arith, c.type_inv.bytes i)
+pub returns : goal.returns
+unfolding key_layout_v2
+returns c =
+    record {
+      value = rw (sym c.in_ok-shared_bytes.ensures.value, sym c.in_ok-suffix_len.ensures.value, sym c.in_ok-value_len.ensures.value, sym c.in_ok-suffix_at.ensures.value) refl;
+      damage = tt;
+      within = c.in_ok-suffix_at.ensures.within;
+      value_within = c.in_ok-suffix_len.ensures.within;
+      bytes = λ i. omega (arith, c.type_inv.bytes i);
+    }
 
 pub returns-in_err-shared_bytes : goal.returns-in_err-shared_bytes
 unfolding key_layout_v2
@@ -54,16 +62,6 @@ returns-in_err-suffix_at c =
       bytes = IfOk-from_err c.from_residual-in_err-suffix_at.result _ c.from_residual-in_err-suffix_at.ensures.0;
     }
 
-pub returns-clause-value : goal.returns-clause-value
-unfolding key_layout_v2
-returns-clause-value c = rw (sym c.in_ok-shared_bytes.ensures.value, sym c.in_ok-suffix_len.ensures.value, sym c.in_ok-value_len.ensures.value, sym c.in_ok-suffix_at.ensures.value) refl
-
-pub returns-clause-within : goal.returns-clause-within
-returns-clause-within c = c.in_ok-suffix_at.ensures.within
-
-pub returns-clause-value_within : goal.returns-clause-value_within
-returns-clause-value_within c = c.in_ok-suffix_len.ensures.within
-
 pub varint_field-requires-2 : goal.varint_field-requires-2
 varint_field-requires-2 c = c.in_ok-shared_bytes.ensures.within
 
@@ -72,6 +70,3 @@ varint_field-requires-3 c = c.in_ok-suffix_len.ensures.within
 
 pub block_field-requires : goal.block_field-requires
 block_field-requires c = c.in_ok-value_len.ensures.within
-
-pub returns-clause-damage : goal.returns-clause-damage
-returns-clause-damage c = tt

@@ -23,12 +23,11 @@ returns-in_err-create_ts c =
       within = IfOk-from_err c.from_residual-in_err-create_ts.result _ c.from_residual-in_err-create_ts.ensures.0;
     }
 
-pub returns-clause-value : goal.returns-clause-value
+pub returns : goal.returns
 unfolding stamps_layout
-returns-clause-value c = rw (sym (c.contains.ensures tt), sym c.in_ok-expire_ts.ensures.value, sym (c.contains-2.ensures tt), sym c.in_ok-create_ts.ensures.value) refl
-
-pub returns-clause-damage : goal.returns-clause-damage
-returns-clause-damage c = tt
-
-pub returns-clause-within : goal.returns-clause-within
-returns-clause-within c = c.in_ok-create_ts.ensures.within
+returns c =
+    record {
+      value = rw (sym (c.contains.ensures tt), sym c.in_ok-expire_ts.ensures.value, sym (c.contains-2.ensures tt), sym c.in_ok-create_ts.ensures.value) refl;
+      damage = tt;
+      within = c.in_ok-create_ts.ensures.within;
+    }

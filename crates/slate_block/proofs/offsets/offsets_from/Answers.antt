@@ -23,9 +23,13 @@ loop-preserved c = record {
       (offsets_from c.args.count 0 (min 1 c.args.end) c.args.end c.args.bytes.now c.args.end) c.loop-test.true (sym c.in_ok-offset.ensures.value) c.loop.invariant.read);
 }
 
-pub returns-clause-found : goal.returns-clause-found
-returns-clause-found c = is_done c.loop.offsets.items c.args.count c.loop.counter c.loop.low c.loop.high c.args.end c.args.bytes.now c.loop.at
-    (offsets_from c.args.count 0 (min 1 c.args.end) c.args.end c.args.bytes.now c.args.end) c.loop-test.false c.loop.invariant.read
+pub returns : goal.returns
+returns c =
+    record {
+      found = (is_done c.loop.offsets.items c.args.count c.loop.counter c.loop.low c.loop.high c.args.end c.args.bytes.now c.loop.at
+          (offsets_from c.args.count 0 (min 1 c.args.end) c.args.end c.args.bytes.now c.args.end) c.loop-test.false c.loop.invariant.read);
+      cause = tt;
+    }
 
 pub returns-in_err-offsets : goal.returns-in_err-offsets
 returns-in_err-offsets c =
@@ -34,6 +38,3 @@ returns-in_err-offsets c =
       found = IfOk-from_err c.from_residual.result _ c.from_residual.ensures.0;
       cause = rw (p.1, p.2) (inl refl);
     }
-
-pub returns-clause-cause : goal.returns-clause-cause
-returns-clause-cause c = tt

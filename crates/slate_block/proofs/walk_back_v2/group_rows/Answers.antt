@@ -27,10 +27,14 @@ returns-in_err-row c =
       damage = rw (p.1, p.2) c.in_err-row.ensures.damage;
     }
 
-pub returns-clause-rows : goal.returns-clause-rows
-returns-clause-rows c =
-    let over = sym c.is_over.ensures ∙ c.loop-alloc-test.false in
-    group_done c.loop-alloc.rows.items (restart_at c.args.body.now c.args.offsets.now c.args.number) (group_left c.args.body.now c.loop-alloc.group) c.loop-alloc.invariant.rows (over_left c.args.body.now c.loop-alloc.group over)
+pub returns : goal.returns
+returns c =
+    record {
+      rows = (let over = sym c.is_over.ensures ∙ c.loop-alloc-test.false in
+          group_done c.loop-alloc.rows.items (restart_at c.args.body.now c.args.offsets.now c.args.number) (group_left c.args.body.now c.loop-alloc.group) c.loop-alloc.invariant.rows (over_left c.args.body.now c.loop-alloc.group over));
+      cause = tt;
+      damage = tt;
+    }
 
 pub returns-in_err-rows : goal.returns-in_err-rows
 returns-in_err-rows c =
@@ -64,9 +68,3 @@ loop-alloc-preserved c = record {
   rows = group_grown c.loop-alloc.rows.items _ c.in_ok-row.row _ _ _ c.loop-alloc.invariant.rows c.in_ok-row.ensures.found c.push_reserved-in-loop-alloc.ensures.items;
   room = omega (arith, c.loop-alloc.invariant.room, c.in_ok-row.ensures.room, c.push_reserved-in-loop-alloc.ensures.len, c.push_reserved-in-loop-alloc.ensures.capacity);
 }
-
-pub returns-clause-cause : goal.returns-clause-cause
-returns-clause-cause c = tt
-
-pub returns-clause-damage : goal.returns-clause-damage
-returns-clause-damage c = tt

@@ -31,34 +31,26 @@ loop-alloc-init c = record { past = past_none Ascending c.args.key.now (left_v2 
 pub next_of_block-requires : goal.next_of_block-requires
 next_of_block-requires c = c.is_at_end.ensures.more c.loop-alloc-test.true
 
-pub returns-then-not-is_past-clause-past : goal.returns-then-not-is_past-clause-past
-returns-then-not-is_past-clause-past c = c.loop-alloc.invariant.past
+pub returns-then-not-is_past : goal.returns-then-not-is_past
+returns-then-not-is_past c =
+    record {
+      past = c.loop-alloc.invariant.past;
+      stops = (let reads = left_v2 c.args.body.now c.args.offsets.now in
+          let behind = rw c.as_slice.ensures at (sym c.puts_before-is_past.ensures ∙ c.if-not-is_past.true) in
+          next_stops Ascending c.args.key.now (reads c.loop-alloc.place) (reads c.in_ok-row.after) c.in_ok-row.row c.in_ok-row.ensures.found behind);
+      read = (let reads = left_v2 c.args.body.now c.args.offsets.now in next_read (reads c.loop-alloc.place) (reads c.in_ok-row.after) c.in_ok-row.row c.in_ok-row.ensures.found);
+      cause = tt;
+    }
 
-pub returns-clause-past : goal.returns-clause-past
-returns-clause-past c = c.loop-alloc.invariant.past
+pub returns : goal.returns
+returns c =
+    record {
+      past = c.loop-alloc.invariant.past;
+      stops = end_stops Ascending c.args.key.now (left_v2 c.args.body.now c.args.offsets.now c.loop-alloc.place) (c.is_at_end.ensures.end c.args.body.now c.loop-alloc-test.false);
+      read = end_read (left_v2 c.args.body.now c.args.offsets.now c.loop-alloc.place) (c.is_at_end.ensures.end c.args.body.now c.loop-alloc-test.false);
+      cause = tt;
+    }
 
 pub loop-alloc-smaller : goal.loop-alloc-smaller
 loop-alloc-smaller c =
     let reads = left_v2 c.args.body.now c.args.offsets.now in next_smaller (reads c.loop-alloc.place) (reads c.in_ok-row.after) c.in_ok-row.row c.in_ok-row.ensures.found
-
-pub returns-then-not-is_past-clause-stops : goal.returns-then-not-is_past-clause-stops
-returns-then-not-is_past-clause-stops c =
-    let reads = left_v2 c.args.body.now c.args.offsets.now in
-    let behind = rw c.as_slice.ensures at (sym c.puts_before-is_past.ensures ∙ c.if-not-is_past.true) in
-    next_stops Ascending c.args.key.now (reads c.loop-alloc.place) (reads c.in_ok-row.after) c.in_ok-row.row c.in_ok-row.ensures.found behind
-
-pub returns-then-not-is_past-clause-read : goal.returns-then-not-is_past-clause-read
-returns-then-not-is_past-clause-read c =
-    let reads = left_v2 c.args.body.now c.args.offsets.now in next_read (reads c.loop-alloc.place) (reads c.in_ok-row.after) c.in_ok-row.row c.in_ok-row.ensures.found
-
-pub returns-clause-stops : goal.returns-clause-stops
-returns-clause-stops c = end_stops Ascending c.args.key.now (left_v2 c.args.body.now c.args.offsets.now c.loop-alloc.place) (c.is_at_end.ensures.end c.args.body.now c.loop-alloc-test.false)
-
-pub returns-clause-read : goal.returns-clause-read
-returns-clause-read c = end_read (left_v2 c.args.body.now c.args.offsets.now c.loop-alloc.place) (c.is_at_end.ensures.end c.args.body.now c.loop-alloc-test.false)
-
-pub returns-then-not-is_past-clause-cause : goal.returns-then-not-is_past-clause-cause
-returns-then-not-is_past-clause-cause c = tt
-
-pub returns-clause-cause : goal.returns-clause-cause
-returns-clause-cause c = tt

@@ -41,19 +41,17 @@ returns-in_err-offsets c =
       cause = rw (p.1, p.2) (refused (offsets_of_block c.args.bytes) c.in_err-offsets.field-0.0 OutOfMemory (no_list c));
     }
 
-pub returns-clause-found : goal.returns-clause-found
-returns-clause-found c =
-    let bytes = c.args.bytes in
-    let end = c.in_ok-end.end in
-    let count = c.in_ok-end.count in
-    let offsets = c.in_ok-offsets.offsets.items in
-    let read = offsets_read bytes end count offsets (c.in_ok-end.ensures.value ∙ ap counted_offsets c.as_slice.ensures)
-    (subst (λ (b : List ℕ). offsets_from count 0 (min 1 end) end b end ≡ Ok offsets) c.as_slice-2.ensures c.in_ok-offsets.ensures.found) in
-    subst (λ (b : List ℕ). IsApart b offsets bytes) (sym c.truncate.ensures)
-    (block_takes_apart bytes end offsets (subst (λ (b : List ℕ). IsBytes b) c.as_slice.ensures c.in_ok-end.ensures.bytes) read)
-
-pub returns-clause-only : goal.returns-clause-only
-returns-clause-only c = λ _ _ _. tt
-
-pub returns-clause-cause : goal.returns-clause-cause
-returns-clause-cause c = tt
+pub returns : goal.returns
+returns c =
+    record {
+      found = (let bytes = c.args.bytes in
+          let end = c.in_ok-end.end in
+          let count = c.in_ok-end.count in
+          let offsets = c.in_ok-offsets.offsets.items in
+          let read = offsets_read bytes end count offsets (c.in_ok-end.ensures.value ∙ ap counted_offsets c.as_slice.ensures)
+          (subst (λ (b : List ℕ). offsets_from count 0 (min 1 end) end b end ≡ Ok offsets) c.as_slice-2.ensures c.in_ok-offsets.ensures.found) in
+          subst (λ (b : List ℕ). IsApart b offsets bytes) (sym c.truncate.ensures)
+          (block_takes_apart bytes end offsets (subst (λ (b : List ℕ). IsBytes b) c.as_slice.ensures c.in_ok-end.ensures.bytes) read));
+      only = λ _ _ _. tt;
+      cause = tt;
+    }

@@ -24,25 +24,27 @@ is_before_at-requires g c =
     let within = index_left it.order body it.first_key offsets (length body) it.start it.end c.args.index c.args.self.now.reads c.self.invariant.0 c.self.invariant.1 (ap (λ (w : ReadsLeft). w.reads) c.self.view_is) c.requires in
     rw (c.place_in-place.ensures, c.offsets-offsets.ensures) (place_below it.order it.start it.end c.args.index (length offsets) within c.self.invariant.1)
 
-pub returns-in-Some-clause-before : goal.returns-in-Some-clause-before
-returns-in-Some-clause-before g c =
-    let it = c.self.inside in
-    let body = g.B.BlockLike.body_bytes it.block in
-    let offsets = g.B.BlockLike.row_offsets it.block in
-    let reads = reads_v1 body it.first_key offsets (length body) in
-    let e = ap (λ (w : ReadsLeft). w.reads) c.self.view_is in
-    let within = index_left it.order body it.first_key offsets (length body) it.start it.end c.args.index c.args.self.now.reads c.self.invariant.0 c.self.invariant.1 e c.requires in
-    let size = as_many_reads body it.first_key offsets (length body) in
-    let there = ap (λ (l : List RowRead). slice_get l c.args.index) (sym e) ∙ read_in_order it.order reads it.start it.end c.args.index within (omega (arith, size, c.self.invariant.1)) in
-    let told = rw (c.place_in-place.ensures, c.body-body.ensures, c.offsets-offsets.ensures, c.as_slice-first.ensures) at c.in-Some.ensures in
-    subst (λ (w : ReadsLeft). IfSome (Some c.in-Some.before) (λ before. (row : RowEntry) → slice_get c.args.self.now.reads c.args.index ≡ Some (Ok row) → before ≡ comes_before w.order row.key c.args.key.now)) c.self.view_is
-    (told_at it.order c.args.key.now c.args.self.now.reads reads c.args.index (place_in it.order it.start it.end c.args.index) (Some c.in-Some.before) there told)
+pub returns-in-Some : goal.returns-in-Some
+returns-in-Some g c =
+    record {
+      before = (let it = c.self.inside in
+          let body = g.B.BlockLike.body_bytes it.block in
+          let offsets = g.B.BlockLike.row_offsets it.block in
+          let reads = reads_v1 body it.first_key offsets (length body) in
+          let e = ap (λ (w : ReadsLeft). w.reads) c.self.view_is in
+          let within = index_left it.order body it.first_key offsets (length body) it.start it.end c.args.index c.args.self.now.reads c.self.invariant.0 c.self.invariant.1 e c.requires in
+          let size = as_many_reads body it.first_key offsets (length body) in
+          let there = ap (λ (l : List RowRead). slice_get l c.args.index) (sym e) ∙ read_in_order it.order reads it.start it.end c.args.index within (omega (arith, size, c.self.invariant.1)) in
+          let told = rw (c.place_in-place.ensures, c.body-body.ensures, c.offsets-offsets.ensures, c.as_slice-first.ensures) at c.in-Some.ensures in
+          subst (λ (w : ReadsLeft). IfSome (Some c.in-Some.before) (λ before. (row : RowEntry) → slice_get c.args.self.now.reads c.args.index ≡ Some (Ok row) → before ≡ comes_before w.order row.key c.args.key.now)) c.self.view_is
+          (told_at it.order c.args.key.now c.args.self.now.reads reads c.args.index (place_in it.order it.start it.end c.args.index) (Some c.in-Some.before) there told));
+      cause = tt;
+    }
 
-pub returns-in_err-row-clause-before : goal.returns-in_err-row-clause-before
-returns-in_err-row-clause-before g c = IfOk-from_err c.from_residual.result _ c.from_residual.ensures.0
-
-pub returns-in-Some-clause-cause : goal.returns-in-Some-clause-cause
-returns-in-Some-clause-cause g c = tt
-
-pub returns-in_err-row-clause-cause : goal.returns-in_err-row-clause-cause
-returns-in_err-row-clause-cause g c = let p = err_from_is_err_and c.from_residual.result c.from_residual.ensures.1 in rw (p.1, p.2) (refused_at c.args.self.now.reads c.args.index c.in_err-row.field-0.0 OutOfMemory c.in_err-row.ensures.cause c.in_err-row.ensures.damage)
+pub returns-in_err-row : goal.returns-in_err-row
+returns-in_err-row g c =
+    let p = err_from_is_err_and c.from_residual.result c.from_residual.ensures.1 in
+    record {
+      before = IfOk-from_err c.from_residual.result _ c.from_residual.ensures.0;
+      cause = rw (p.1, p.2) (refused_at c.args.self.now.reads c.args.index c.in_err-row.field-0.0 OutOfMemory c.in_err-row.ensures.cause c.in_err-row.ensures.damage);
+    }

@@ -16,26 +16,20 @@ returns-in_err-first_key g c =
       damage = rw (p.1, p.2) c.in_err-first_key.ensures.damage;
     }
 
-pub returns-clause-reads : goal.returns-clause-reads
-returns-clause-reads g c =
+pub returns : goal.returns
+returns g c =
+    let reads_holds =
     let body = g.B.BlockLike.body_bytes c.args.block in
     let offsets = g.B.BlockLike.row_offsets c.args.block in
     let reads = reads_v1 body c.in_ok-first_key.first_key offsets (length body) in
     let read = rw (c.body.ensures, c.offsets.ensures) at c.in_ok-first_key.ensures.reads in
     let all : length c.offsets-end.result.now ≡ length reads = ap length c.offsets-end.ensures ∙ sym (as_many_reads body c.in_ok-first_key.first_key offsets (length body)) in
-    read ∙ ap Ok (sym (whole_in_order c.args.order reads (length c.offsets-end.result.now) all))
-
-pub returns-clause-rows : goal.returns-clause-rows
-returns-clause-rows g c = λ rows. rows_in_order c.args.order (g.B.BlockLike.body_bytes c.args.block) (g.B.BlockLike.row_offsets c.args.block) _ rows (returns-clause-reads g c)
-
-pub returns-clause-only : goal.returns-clause-only
-returns-clause-only g c = λ rows. only_in_order c.args.order (g.B.BlockLike.body_bytes c.args.block) (g.B.BlockLike.row_offsets c.args.block) _ rows (returns-clause-reads g c)
-
-pub returns-clause-order : goal.returns-clause-order
-returns-clause-order g c = refl
-
-pub returns-clause-cause : goal.returns-clause-cause
-returns-clause-cause g c = tt
-
-pub returns-clause-damage : goal.returns-clause-damage
-returns-clause-damage g c = tt
+    read ∙ ap Ok (sym (whole_in_order c.args.order reads (length c.offsets-end.result.now) all)) in
+    record {
+      reads = reads_holds;
+      rows = λ rows. rows_in_order c.args.order (g.B.BlockLike.body_bytes c.args.block) (g.B.BlockLike.row_offsets c.args.block) _ rows reads_holds;
+      only = λ rows. only_in_order c.args.order (g.B.BlockLike.body_bytes c.args.block) (g.B.BlockLike.row_offsets c.args.block) _ rows reads_holds;
+      order = refl;
+      cause = tt;
+      damage = tt;
+    }

@@ -6,10 +6,15 @@ use Rattle.slate_block.specs.Building.{Building}
 use Rattle.slate_block.proofs.HeldLaws.{held_bytes, few_held}
 use Rattle.slate_block.proofs.builder.BlockBuilder.build_encoded.Goals as goal
 
-pub returns-then-part-eq0-clause-empty : goal.returns-then-part-eq0-clause-empty
-returns-then-part-eq0-clause-empty c =
-    let none = nil_from_length c.self.inside.held.0.0 (omega (arith, c.self.inside.held.0.1.counted, c.if-part-eq0.true)) in
-    (λ _. subst (λ (b : Building). b.rows ≡ []) c.self.view_is none, λ _. refl)
+pub returns-then-part-eq0 : goal.returns-then-part-eq0
+returns-then-part-eq0 c =
+    record {
+      empty = (let none = nil_from_length c.self.inside.held.0.0 (omega (arith, c.self.inside.held.0.1.counted, c.if-part-eq0.true)) in
+          (λ _. subst (λ (b : Building). b.rows ≡ []) c.self.view_is none, λ _. refl));
+      bytes = tt;
+      fits = tt;
+      cause = inl refl;
+    }
 
 pub with_offsets-requires : goal.with_offsets-requires
 with_offsets-requires c = rw c.deref.ensures.value (few_held c.self.inside.part c.self.inside.held)
@@ -19,12 +24,3 @@ returns-clause-bytes c =
     let inside = c.self.inside in
     let bytes = held_bytes inside.part inside.held inside.part.body.items refl ∙ ap (λ (b : Building). block_bytes b.version b.rows) c.self.view_is in
     subst (λ (l : List ℕ). IfOk c.with_offsets.result (λ bytes. bytes ≡ l)) bytes (rw c.deref.ensures.value at c.with_offsets.ensures.spelling)
-
-pub returns-then-part-eq0-clause-bytes : goal.returns-then-part-eq0-clause-bytes
-returns-then-part-eq0-clause-bytes c = tt
-
-pub returns-then-part-eq0-clause-fits : goal.returns-then-part-eq0-clause-fits
-returns-then-part-eq0-clause-fits c = tt
-
-pub returns-then-part-eq0-clause-cause : goal.returns-then-part-eq0-clause-cause
-returns-then-part-eq0-clause-cause c = inl refl
