@@ -1,4 +1,4 @@
-use Rattle.std.proofs.Common.{ℕ, List, ap, arith, length}
+use Rattle.std.proofs.Common.{arith}
 use Rattle.slate_block.proofs.codec_v2.append_row.Goals as goal
 
 pub put_varint-requires : goal.put_varint-requires
