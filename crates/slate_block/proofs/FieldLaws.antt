@@ -1,5 +1,5 @@
 -- A field that is read stands in the bytes, and a field that stands in the bytes is read.
-use Rattle.std.proofs.Common.{◌≡◌, ℕ, zero, suc, ◌+◌, ◌-◌, ◌^◌, ◌<◌, ◌≤◌, Bool, true, false, cond, ltb, List, [], ◌∷◌, ◌++◌, length, get_or, take, drop, Option, Some, None, is_some, Result, Ok, Err, ℤ, refl, sym, ap, subst, ◌∙◌, arith, inl, inr}
+use Rattle.std.proofs.Common.{◌≡◌, ℕ, zero, suc, ◌+◌, ◌-◌, ◌^◌, ◌<◌, ◌≤◌, Bool, true, false, cond, ltb, List, [], ◌∷◌, ◌++◌, length, get_or, take, drop, Option, Some, None, is_some, Result, Ok, Err, ℤ, refl, sym, ap, subst, ◌∙◌, arith, inl, inr, ◌⊎◌}
 use Rattle.std.specs.Prelude.{FitsSigned, slice_get, slice_range}
 use Rattle.std.specs.Int.{Width, w16, w32, w64, byte_len, from_be_bytes, to_be_bytes, cast_signed, cast_unsigned}
 use Rattle.std.proofs.lemmas.Bool.{cases_lt, ltb-true, ltb-false, le-ltb, lt-ltb}
@@ -9,10 +9,11 @@ use Rattle.std.proofs.lemmas.Nat.{be_bytes_2, be_bytes_4, be_bytes_8, from_be_by
 use Rattle.std.proofs.lemmas.Option.{slice_get_past, slice_get-get_or, slice_get_within, get_or_from_slice_get}
 use Rattle.slate_types.specs.declared.error.SlateDBError.{SlateDBError}
 use Rattle.slate_types.specs.declared.error.SlateDBError.TheVariants.{CorruptTable, InvalidRowFlags}
+use Rattle.slate_block.specs.declared.fields.KeyFields.{KeyFields}
 use Rattle.slate_block.specs.declared.flags.RowFlags.{RowFlags}
 use Rattle.slate_block.specs.Varint.{IsVarint, varint}
 use Rattle.slate_block.specs.RowSpelling.{be64, are_flags, stamp_bytes, FitsStamp}
-use Rattle.slate_block.specs.Damage.{◌>>=◌, Field, head_layout, front_varint, varint_at, varint_field, number_field, block_field, row_flags, flags_at, flags_field, stamp_field}
+use Rattle.slate_block.specs.Damage.{◌>>=◌, Field, head_layout, front_varint, varint_at, varint_field, number_field, block_field, row_flags, flags_at, flags_field, stamp_field, has, length_agrees}
 use Rattle.slate_block.proofs.Groups.{IsBytes, front_found, front_again}
 use Rattle.slate_block.proofs.VarintLaws.{one_varint}
 
@@ -227,3 +228,10 @@ flags_there bytes at b t h e f =
 pub head_read : (bytes : List ℕ) (at seq next : ℕ) (flags : Field RowFlags) → Ok (seq, next) ≡ number_field w64 bytes at → flags_field bytes next ≡ flags → head_layout bytes at ≡ (flags >>= λ found. Ok ((seq, found.0), found.1))
 unfolding head_layout
 head_read bytes at seq next flags e h = rw (sym e, h) refl
+
+-- ---- the length of a tombstone's value
+
+pub agreed : (flags : RowFlags) (key : KeyFields) (is_tombstone : Bool) → is_tombstone ≡ has 1 flags → (is_tombstone ≡ true) × (key.value_len ≤ 0) ⊎ (is_tombstone ≡ false) → length_agrees flags key ≡ Ok flags
+unfolding length_agrees
+agreed flags key is_tombstone is (inl h) = rw (sym is, h.0, le-ltb 0 key.value_len h.1) refl
+agreed flags key is_tombstone is (inr h) = rw (sym is, h) refl
