@@ -1,4 +1,4 @@
-use Rattle.std.proofs.Common.{◌≡◌, Some, Ok, subst, List, length, sym, ap, ◌∙◌, arith}
+use Rattle.std.proofs.Common.{◌≡◌, Some, Ok, subst, List, length, sym, ap, ◌∙◌, arith, ℕ, Option}
 use Rattle.std.specs.Prelude.{slice_get, IfSome}
 use Rattle.std.proofs.lemmas.Result.{IfOk-from_err, err_from_is_err_and}
 use Rattle.slate_types.specs.declared.types.RowEntry.{RowEntry}
@@ -8,6 +8,9 @@ use Rattle.slate_block.specs.Walks.{RowRead, reads_v1}
 use Rattle.slate_block.proofs.WalkLaws.{as_many_reads, index_left, place_below, read_in_order, told_at, refused_at}
 use Rattle.slate_types.specs.declared.error.SlateDBError.TheVariants.{OutOfMemory}
 use Rattle.slate_block.proofs.block_iterator.BlockIterator.is_before.Goals as goal
+
+one_row : (x y : RowEntry) → ◌≡◌ {A = Option RowRead} (Some (Ok x)) (Some (Ok y)) → x ≡ y
+one_row x y e = cc
 
 pub place_in-place-requires : goal.place_in-place-requires
 place_in-place-requires g c =
@@ -47,4 +50,15 @@ returns-in_err-row g c =
     record {
       before = IfOk-from_err c.from_residual.result _ c.from_residual.ensures.0;
       cause = rw (p.1, p.2) (refused_at c.args.self.now.reads c.args.index c.in_err-row.field-0.0 OutOfMemory c.in_err-row.ensures.cause c.in_err-row.ensures.damage);
+    }
+
+pub returns : goal.returns
+returns g c =
+    let order = c.self.inside.order in
+    let key = c.args.key.now in
+    record {
+      before = λ row found.
+          let same = one_row c.in_ok-row.row row (sym c.in_ok-row.ensures.found ∙ found) in
+          c.puts_before-before.ensures ∙ ap (λ (k : List ℕ). comes_before order k key) (c.as_slice.ensures ∙ ap (λ (r : RowEntry). r.key) same) ∙ ap (λ (w : ReadsLeft). comes_before w.order row.key key) c.self.view_is;
+      cause = tt;
     }

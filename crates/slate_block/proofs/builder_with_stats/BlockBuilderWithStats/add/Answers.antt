@@ -1,12 +1,14 @@
-use Rattle.std.proofs.Common.{◌≡◌, ap, sym, ◌∙◌, ◌+◌, List, [], ◌∷◌, ◌++◌, Bool, cond}
+use Rattle.std.proofs.Common.{◌≡◌, ap, sym, ◌∙◌, ◌+◌, List, [], ◌∷◌, ◌++◌, Bool, cond, Ok, Result, arith, length}
 use Rattle.std.proofs.lemmas.Result.{on_err_weaker}
 use Rattle.std.specs.List.{count_by}
 use Rattle.std.proofs.lemmas.List.Sums.{sum_by-append}
+use Rattle.std.proofs.lemmas.List.{length-append}
 use Rattle.slate_block.specs.declared.block.BlockStats.{BlockStats}
 use Rattle.slate_block.specs.Building.{Building}
-use Rattle.slate_block.specs.Counting.{Counting, stats_of, sum_of}
+use Rattle.slate_block.specs.Counting.{Counting, stats_of, sum_of, counted_rows}
 use Rattle.slate_types.specs.declared.types.RowEntry.{RowEntry}
 use Rattle.slate_types.specs.Rows.{is_put, is_tombstone, is_operand}
+use Rattle.slate_types.specs.declared.error.SlateDBError.{SlateDBError}
 use Rattle.slate_block.proofs.builder_with_stats.BlockBuilderWithStats.add.Goals as goal
 
 abbrev with_stats : BlockStats → Building → Counting
@@ -17,6 +19,9 @@ seen stats e = ap (λ (m : Counting). m.builder) e
 
 stood : (stats : BlockStats) {builder : Building} {m : Counting} → with_stats stats builder ≡ m → stats ≡ m.stats
 stood stats e = ap (λ (m : Counting). m.stats) e
+
+abbrev took : Bool → Result Bool SlateDBError
+took is_taken = Ok is_taken
 
 more_by : (p : RowEntry → Bool) (rows : List RowEntry) (row : RowEntry) → count_by p rows + count_by p (row ∷ []) ≡ count_by p (rows ++ row ∷ [])
 more_by p rows row = sym (sum_by-append (λ r. cond (p r) 1 0) rows (row ∷ []))
@@ -57,3 +62,12 @@ returns-in-Ok-true c =
       few = c.in-Ok-true.ensures.few;
       cause = tt;
     }
+
+pub invariant_of-self : goal.invariant_of-self
+invariant_of-self c =
+    let taken = c.in-Ok-true.ensures.taken (ap took c.in-Ok-true.field-0-test) in
+    let sum = ap counted_rows c.sum_of-self-inside.ensures in
+    omega (arith, sum, c.stats_of_row-one.ensures.one, c.self.invariant, ap (λ (b : Building). length b.rows) taken, length-append c.self.inside.builder.rows (c.args.entry ∷ []))
+
+pub add-is_taken-requires : goal.add-is_taken-requires
+add-is_taken-requires c = c.requires
