@@ -1,20 +1,8 @@
 use Rattle.std.proofs.Common.{ap}
 use Rattle.std.proofs.lemmas.Result.{on_err_weaker}
-use Rattle.slate_block.specs.declared.data_block_iterator.DataBlockIterator.TheVariants.{V1, V2}
+use Rattle.slate_block.specs.declared.data_block_iterator.DataBlockIterator.TheVariants.{V2}
 use Rattle.slate_block.proofs.StepLaws.{taken_smaller}
 use Rattle.slate_block.proofs.data_block_iterator.DataBlockIterator.next_row.Goals as goal
-
-pub returns-in-V1 : goal.returns-in-V1
-returns-in-V1 g c =
-    record {
-      read = rw c.in-V1.is c.next_row.ensures.read;
-      rows = rw c.in-V1.is c.next_row.ensures.rows;
-      smaller = rw c.in-V1.is (taken_smaller c.next_row.result c.in-V1.rows c.next_row.new.self c.next_row.ensures.read);
-      order = rw c.in-V1.is c.next_row.ensures.order;
-      cause = rw c.in-V1.is c.next_row.ensures.cause;
-      damage = c.next_row.ensures.damage;
-      unchanged = rw c.in-V1.is (on_err_weaker c.next_row.result (ap V1) c.next_row.ensures.unchanged);
-    }
 
 pub returns-in-V2 : goal.returns-in-V2
 returns-in-V2 g c =
