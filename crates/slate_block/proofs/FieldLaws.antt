@@ -1,18 +1,19 @@
 -- A field that is read stands in the bytes, and a field that stands in the bytes is read.
-use Rattle.std.proofs.Common.{◌≡◌, ℕ, zero, suc, ◌+◌, ◌-◌, ◌^◌, ◌<◌, ◌≤◌, Bool, true, false, cond, ltb, List, [], ◌∷◌, ◌++◌, length, get_or, take, drop, Option, Some, None, is_some, Result, Ok, Err, ℤ, refl, sym, ap, subst, ◌∙◌, arith, inl, inr}
+use Rattle.std.proofs.Common.{◌≡◌, ℕ, zero, suc, ◌+◌, ◌-◌, ◌^◌, ◌<◌, ◌≤◌, Bool, true, false, cond, ltb, List, [], ◌∷◌, ◌++◌, length, get_or, take, drop, Option, Some, None, is_some, Result, Ok, Err, ℤ, refl, sym, ap, subst, ◌∙◌, arith, inl, inr, ◌⊎◌}
 use Rattle.std.specs.Prelude.{FitsSigned, slice_get, slice_range}
 use Rattle.std.specs.Int.{Width, w16, w32, w64, byte_len, from_be_bytes, to_be_bytes, cast_signed, cast_unsigned}
-use Rattle.std.proofs.lemmas.Bool.{cases_lt, ltb-true, ltb-false, le-ltb}
+use Rattle.std.proofs.lemmas.Bool.{cases_lt, ltb-true, ltb-false, le-ltb, lt-ltb}
 use Rattle.std.proofs.lemmas.Int.{of_z-to_z, to_z-of_z, ints}
-use Rattle.std.proofs.lemmas.List.{take_at, drop_at, take-append-drop, length-append, length-take, drop-drop, get_or-drop, get_or-take, get_or_past, at_drop_more}
+use Rattle.std.proofs.lemmas.List.{take_at, drop_at, take-append-drop, length-append, length-take, length-drop, drop-drop, get_or-drop, get_or-take, get_or_past, at_drop_more}
 use Rattle.std.proofs.lemmas.Nat.{be_bytes_2, be_bytes_4, be_bytes_8, from_be_bytes-to_be_bytes_2, from_be_bytes-to_be_bytes_4, from_be_bytes-to_be_bytes_8}
 use Rattle.std.proofs.lemmas.Option.{slice_get_past, slice_get-get_or, slice_get_within, get_or_from_slice_get}
 use Rattle.slate_types.specs.declared.error.SlateDBError.{SlateDBError}
 use Rattle.slate_types.specs.declared.error.SlateDBError.TheVariants.{CorruptTable, InvalidRowFlags}
+use Rattle.slate_block.specs.declared.fields.KeyFields.{KeyFields}
 use Rattle.slate_block.specs.declared.flags.RowFlags.{RowFlags}
 use Rattle.slate_block.specs.Varint.{IsVarint, varint}
 use Rattle.slate_block.specs.RowSpelling.{be64, are_flags, stamp_bytes, FitsStamp}
-use Rattle.slate_block.specs.Damage.{◌>>=◌, Field, head_layout, front_varint, varint_at, varint_field, number_field, block_field, row_flags, flags_at, flags_field, stamp_field}
+use Rattle.slate_block.specs.Damage.{◌>>=◌, Field, head_layout, front_varint, varint_at, varint_field, number_field, block_field, row_flags, flags_at, flags_field, stamp_field, has, length_agrees}
 use Rattle.slate_block.proofs.Groups.{IsBytes, front_found, front_again}
 use Rattle.slate_block.proofs.VarintLaws.{one_varint}
 
@@ -118,6 +119,12 @@ number_takes w limit wide bytes at n next fits e =
     let here : Stands bytes at (to_be_bytes w (from_be_bytes w front)) (at + byte_len w) = subst (λ (t : List ℕ). Stands bytes at t (at + byte_len w)) (sym same) (stands bytes at (byte_len w) long) in
     subst (λ (p : ℕ × ℕ). Stands bytes at (to_be_bytes w p.0) p.1 × (p.0 < limit)) g.1 (here, wide.below front bytes_there)
 
+pub no_number : (w : Width) (bytes : List ℕ) (at : ℕ) → length (take (length bytes - at) (drop at bytes)) < byte_len w → number_field w bytes at ≡ Err (CorruptTable at)
+unfolding number_field
+no_number w bytes at short =
+    let less : ltb (length (drop at bytes)) (byte_len w) ≡ true = lt-ltb _ _ (omega (arith, short, length-take (length bytes - at) (drop at bytes), length-drop at bytes)) in
+    rw less refl
+
 pub number_again : (w : Width) (limit : ℕ) (wide : IsWide w limit) (bytes rest : List ℕ) (at n : ℕ) → n < limit → drop at bytes ≡ to_be_bytes w n ++ rest → number_field w bytes at ≡ Ok (n, at + byte_len w)
 unfolding number_field
 number_again w limit wide bytes rest at n lt h =
@@ -221,3 +228,10 @@ flags_there bytes at b t h e f =
 pub head_read : (bytes : List ℕ) (at seq next : ℕ) (flags : Field RowFlags) → Ok (seq, next) ≡ number_field w64 bytes at → flags_field bytes next ≡ flags → head_layout bytes at ≡ (flags >>= λ found. Ok ((seq, found.0), found.1))
 unfolding head_layout
 head_read bytes at seq next flags e h = rw (sym e, h) refl
+
+-- ---- the length of a tombstone's value
+
+pub agreed : (flags : RowFlags) (key : KeyFields) (is_tombstone : Bool) → is_tombstone ≡ has 1 flags → (is_tombstone ≡ true) × (key.value_len ≤ 0) ⊎ (is_tombstone ≡ false) → length_agrees flags key ≡ Ok flags
+unfolding length_agrees
+agreed flags key is_tombstone is (inl h) = rw (sym is, h.0, le-ltb 0 key.value_len h.1) refl
+agreed flags key is_tombstone is (inr h) = rw (sym is, h) refl

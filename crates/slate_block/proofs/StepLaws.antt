@@ -6,7 +6,7 @@ use Rattle.slate_types.specs.declared.error.SlateDBError.TheVariants.{OutOfMemor
 use Rattle.slate_types.specs.declared.types.RowEntry.{RowEntry}
 use Rattle.slate_types.specs.declared.iter.IterationOrder.{IterationOrder}
 use Rattle.slate_types.specs.Iteration.{drop_before, TakesRow}
-use Rattle.slate_types.specs.Outside.{Counts, IsOuter}
+use Rattle.slate_types.specs.Outside.{Counts, IsLater, IsOuter}
 use Rattle.slate_block.specs.Walks.{RowRead}
 use Rattle.slate_block.specs.BlockWalks.{left, rows_of, IsDamage, IsPast, IsRising, ReadsLeft, Refuses, TakesRead}
 use Rattle.slate_block.proofs.SeekLaws.{step_rows, step_rising, step_fewer, step_smaller, step_no_larger, sought_rising, past_fewer, past_no_larger, first_refuses}
@@ -29,6 +29,13 @@ step_cause (Err e) faults after before h d = blamed faults after before.reads e 
 pub refused_again : {A : Type 0} (r : Result A SlateDBError) (before after : ReadsLeft) → OnErr r (after ≡ before) → IfErr r (λ refusal. (at : Option (List ℕ)) (e : SlateDBError) → Refuses after.reads e → Refuses before.reads e ⊎ (e ≡ refusal))
 refused_again (Ok x) before after u = tt
 refused_again (Err d) before after u = λ at e h. inl (subst (λ (w : ReadsLeft). Refuses w.reads e) u h)
+
+pub stays : {A : Type 0} (r : Result A SlateDBError) (S : Type 0) (P : SlateDBError → Type 0) → OnErr r S → IfErr r P → IfErr r (λ e. S × P e)
+stays (Ok x) S P s h = tt
+stays (Err e) S P s h = (s, h)
+
+pub steady : (a : Counts) → IsLater a a
+steady a = record { store = omega arith; operator = omega arith; transformer = omega arith }
 
 -- ---- a step
 
@@ -69,3 +76,7 @@ sought_fewer (Err e) key before after p = tt
 pub sought_no_larger : {A : Type 0} (r : Result A SlateDBError) (key : List ℕ) (before after : ReadsLeft) → OnOk r (IsPast before.order key before.reads after.reads) → OnErr r (after ≡ before) → length after.reads ≤ length before.reads
 sought_no_larger (Ok x) key before after p u = past_no_larger before.order key before.reads after.reads p
 sought_no_larger (Err e) key before after p u = let n = ap (λ (w : ReadsLeft). length w.reads) u in omega (arith, n)
+
+pub on_ok_both : {A : Type 0} (r : Result A SlateDBError) (P Q : Type 0) → OnOk r P → OnOk r Q → OnOk r (P × Q)
+on_ok_both (Ok x) P Q p q = (p, q)
+on_ok_both (Err e) P Q p q = tt

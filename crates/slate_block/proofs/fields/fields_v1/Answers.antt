@@ -3,66 +3,65 @@ use Rattle.std.proofs.lemmas.Result.{IfOk-from_err, err_from_is_err_and}
 use Rattle.slate_block.specs.Damage.{layout_v1}
 use Rattle.slate_block.proofs.fields.fields_v1.Goals as goal
 
-pub returns-clause-bytes : goal.returns-clause-bytes
-returns-clause-bytes c = λ i. omega (arith, c.type_inv.bytes i)
-
-pub returns-in_err-shared-clause-within : goal.returns-in_err-shared-clause-within
-returns-in_err-shared-clause-within c = IfOk-from_err c.from_residual.result _ c.from_residual.ensures.0
-
-pub returns-in_err-shared-clause-bytes : goal.returns-in_err-shared-clause-bytes
-returns-in_err-shared-clause-bytes c = IfOk-from_err c.from_residual.result _ c.from_residual.ensures.0
-
-pub returns-in_err-shared-clause-damage : goal.returns-in_err-shared-clause-damage
-returns-in_err-shared-clause-damage c = let p = err_from_is_err_and c.from_residual.result c.from_residual.ensures.1 in rw (p.1, p.2) c.in_err-shared.ensures.damage
-
-pub returns-in_err-shared-clause-value : goal.returns-in_err-shared-clause-value
+pub returns : goal.returns
 unfolding layout_v1
-returns-in_err-shared-clause-value c = let p = err_from_is_err_and c.from_residual.result c.from_residual.ensures.1 in rw (p.1, p.2, sym c.in_err-shared.ensures.value) refl
+returns c =
+    record {
+      value = rw (sym c.in_ok-shared.ensures.value, sym c.in_ok-seq.ensures.value, sym c.in_ok-expire_ts.ensures.value, sym (c.contains.ensures tt), sym c.in_ok-value_at.ensures.value) refl;
+      damage = tt;
+      within = (record {
+        suffix = c.in_ok-shared.ensures.within.0;
+        value = c.in_ok-value_at.ensures.within.0;
+        suffix_in = c.in_ok-shared.ensures.within.1;
+        value_in = c.in_ok-value_at.ensures.within.1;
+        end_in = c.in_ok-value_at.ensures.within.1;
+      });
+      bytes = λ i. omega (arith, c.type_inv.bytes i);
+    }
 
-pub returns-in_err-seq-clause-within : goal.returns-in_err-seq-clause-within
-returns-in_err-seq-clause-within c = IfOk-from_err c.from_residual-in_err-seq.result _ c.from_residual-in_err-seq.ensures.0
-
-pub returns-in_err-seq-clause-bytes : goal.returns-in_err-seq-clause-bytes
-returns-in_err-seq-clause-bytes c = IfOk-from_err c.from_residual-in_err-seq.result _ c.from_residual-in_err-seq.ensures.0
-
-pub returns-in_err-seq-clause-damage : goal.returns-in_err-seq-clause-damage
-returns-in_err-seq-clause-damage c = let p = err_from_is_err_and c.from_residual-in_err-seq.result c.from_residual-in_err-seq.ensures.1 in rw (p.1, p.2) c.in_err-seq.ensures.damage
-
-pub returns-in_err-seq-clause-value : goal.returns-in_err-seq-clause-value
+pub returns-in_err-shared : goal.returns-in_err-shared
 unfolding layout_v1
-returns-in_err-seq-clause-value c = let p = err_from_is_err_and c.from_residual-in_err-seq.result c.from_residual-in_err-seq.ensures.1 in rw (p.1, p.2, sym c.in_ok-shared.ensures.value, sym c.in_err-seq.ensures.value) refl
+returns-in_err-shared c =
+    let p = err_from_is_err_and c.from_residual.result c.from_residual.ensures.1 in
+    record {
+      value = rw (p.1, p.2, sym c.in_err-shared.ensures.value) refl;
+      damage = rw (p.1, p.2) c.in_err-shared.ensures.damage;
+      within = IfOk-from_err c.from_residual.result _ c.from_residual.ensures.0;
+      bytes = IfOk-from_err c.from_residual.result _ c.from_residual.ensures.0;
+    }
 
-pub returns-in_err-expire_ts-clause-within : goal.returns-in_err-expire_ts-clause-within
-returns-in_err-expire_ts-clause-within c = IfOk-from_err c.from_residual-in_err-expire_ts.result _ c.from_residual-in_err-expire_ts.ensures.0
-
-pub returns-in_err-expire_ts-clause-bytes : goal.returns-in_err-expire_ts-clause-bytes
-returns-in_err-expire_ts-clause-bytes c = IfOk-from_err c.from_residual-in_err-expire_ts.result _ c.from_residual-in_err-expire_ts.ensures.0
-
-pub returns-in_err-expire_ts-clause-damage : goal.returns-in_err-expire_ts-clause-damage
-returns-in_err-expire_ts-clause-damage c = let p = err_from_is_err_and c.from_residual-in_err-expire_ts.result c.from_residual-in_err-expire_ts.ensures.1 in rw (p.1, p.2) c.in_err-expire_ts.ensures.damage
-
-pub returns-in_err-expire_ts-clause-value : goal.returns-in_err-expire_ts-clause-value
+pub returns-in_err-seq : goal.returns-in_err-seq
 unfolding layout_v1
-returns-in_err-expire_ts-clause-value c = let p = err_from_is_err_and c.from_residual-in_err-expire_ts.result c.from_residual-in_err-expire_ts.ensures.1 in rw (p.1, p.2, sym c.in_ok-shared.ensures.value, sym c.in_ok-seq.ensures.value, sym c.in_err-expire_ts.ensures.value) refl
+returns-in_err-seq c =
+    let p = err_from_is_err_and c.from_residual-in_err-seq.result c.from_residual-in_err-seq.ensures.1 in
+    record {
+      value = rw (p.1, p.2, sym c.in_ok-shared.ensures.value, sym c.in_err-seq.ensures.value) refl;
+      damage = rw (p.1, p.2) c.in_err-seq.ensures.damage;
+      within = IfOk-from_err c.from_residual-in_err-seq.result _ c.from_residual-in_err-seq.ensures.0;
+      bytes = IfOk-from_err c.from_residual-in_err-seq.result _ c.from_residual-in_err-seq.ensures.0;
+    }
 
-pub returns-in_err-value_at-clause-within : goal.returns-in_err-value_at-clause-within
-returns-in_err-value_at-clause-within c = IfOk-from_err c.from_residual-in_err-value_at.result _ c.from_residual-in_err-value_at.ensures.0
-
-pub returns-in_err-value_at-clause-bytes : goal.returns-in_err-value_at-clause-bytes
-returns-in_err-value_at-clause-bytes c = IfOk-from_err c.from_residual-in_err-value_at.result _ c.from_residual-in_err-value_at.ensures.0
-
-pub returns-in_err-value_at-clause-damage : goal.returns-in_err-value_at-clause-damage
-returns-in_err-value_at-clause-damage c = let p = err_from_is_err_and c.from_residual-in_err-value_at.result c.from_residual-in_err-value_at.ensures.1 in rw (p.1, p.2) c.in_err-value_at.ensures.damage
-
-pub returns-clause-value : goal.returns-clause-value
+pub returns-in_err-expire_ts : goal.returns-in_err-expire_ts
 unfolding layout_v1
-returns-clause-value c = rw (sym c.in_ok-shared.ensures.value, sym c.in_ok-seq.ensures.value, sym c.in_ok-expire_ts.ensures.value, sym (c.contains.ensures tt), sym c.in_ok-value_at.ensures.value) refl
+returns-in_err-expire_ts c =
+    let p = err_from_is_err_and c.from_residual-in_err-expire_ts.result c.from_residual-in_err-expire_ts.ensures.1 in
+    record {
+      value = rw (p.1, p.2, sym c.in_ok-shared.ensures.value, sym c.in_ok-seq.ensures.value, sym c.in_err-expire_ts.ensures.value) refl;
+      damage = rw (p.1, p.2) c.in_err-expire_ts.ensures.damage;
+      within = IfOk-from_err c.from_residual-in_err-expire_ts.result _ c.from_residual-in_err-expire_ts.ensures.0;
+      bytes = IfOk-from_err c.from_residual-in_err-expire_ts.result _ c.from_residual-in_err-expire_ts.ensures.0;
+    }
 
-pub returns-in_err-value_at-clause-value : goal.returns-in_err-value_at-clause-value
+pub returns-in_err-value_at : goal.returns-in_err-value_at
 unfolding layout_v1
-returns-in_err-value_at-clause-value c =
+returns-in_err-value_at c =
     let p = err_from_is_err_and c.from_residual-in_err-value_at.result c.from_residual-in_err-value_at.ensures.1 in
-    rw (p.1, p.2, sym c.in_ok-shared.ensures.value, sym c.in_ok-seq.ensures.value, sym c.in_ok-expire_ts.ensures.value, sym (c.contains.ensures tt), sym c.in_err-value_at.ensures.value) refl
+    record {
+      value = rw (p.1, p.2, sym c.in_ok-shared.ensures.value, sym c.in_ok-seq.ensures.value, sym c.in_ok-expire_ts.ensures.value, sym (c.contains.ensures tt), sym c.in_err-value_at.ensures.value) refl;
+      damage = rw (p.1, p.2) c.in_err-value_at.ensures.damage;
+      within = IfOk-from_err c.from_residual-in_err-value_at.result _ c.from_residual-in_err-value_at.ensures.0;
+      bytes = IfOk-from_err c.from_residual-in_err-value_at.result _ c.from_residual-in_err-value_at.ensures.0;
+    }
 
 pub head_fields-requires : goal.head_fields-requires
 head_fields-requires c = c.in_ok-shared.ensures.within.1
@@ -72,12 +71,3 @@ stamp_fields-requires c = c.in_ok-seq.ensures.within
 
 pub value_fields-requires : goal.value_fields-requires
 value_fields-requires c = c.in_ok-expire_ts.ensures.within
-
-pub returns-clause-within : goal.returns-clause-within
-returns-clause-within c = record {
-  suffix = c.in_ok-shared.ensures.within.0;
-  value = c.in_ok-value_at.ensures.within.0;
-  suffix_in = c.in_ok-shared.ensures.within.1;
-  value_in = c.in_ok-value_at.ensures.within.1;
-  end_in = c.in_ok-value_at.ensures.within.1;
-}

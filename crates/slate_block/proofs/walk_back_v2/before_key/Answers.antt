@@ -11,43 +11,50 @@ use Rattle.slate_block.proofs.BackSteps.{back_read, kept_past, kept_stops, kept_
 use Rattle.slate_block.proofs.BackLaws.{held_past, no_rows_back}
 use Rattle.slate_block.proofs.walk_back_v2.before_key.Goals as goal
 
-pub returns-in_err-rows-clause-cause : goal.returns-in_err-rows-clause-cause
-returns-in_err-rows-clause-cause c =
-    let body = c.args.body.now in
-    let offsets = c.args.offsets.now in
-    let before = c.loop-before.before in
+pub returns-in_err-rows : goal.returns-in_err-rows
+returns-in_err-rows c =
     let p = err_from_is_err_and c.from_residual.result c.from_residual.ensures.1 in
-    let e = c.in_err-rows.field-0.0 in
-    let first = refused_or_back body offsets before (before - 1) e OutOfMemory (omega arith) c.in_err-rows.ensures.cause in
-    rw (p.1, p.2) (past_refused Descending c.args.key.now (reads_back c.args.groups body offsets) (reads_back before body offsets) e OutOfMemory c.loop-before.invariant.past first c.in_err-rows.ensures.damage)
+    record {
+      past = IfOk-from_err c.from_residual.result _ c.from_residual.ensures.0;
+      stops = IfOk-from_err c.from_residual.result _ c.from_residual.ensures.0;
+      read = IfOk-from_err c.from_residual.result _ c.from_residual.ensures.0;
+      within = IfOk-from_err c.from_residual.result _ c.from_residual.ensures.0;
+      cause = (let body = c.args.body.now in
+          let offsets = c.args.offsets.now in
+          let before = c.loop-before.before in
+          let p = err_from_is_err_and c.from_residual.result c.from_residual.ensures.1 in
+          let e = c.in_err-rows.field-0.0 in
+          let first = refused_or_back body offsets before (before - 1) e OutOfMemory (omega arith) c.in_err-rows.ensures.cause in
+          rw (p.1, p.2) (past_refused Descending c.args.key.now (reads_back c.args.groups body offsets) (reads_back before body offsets) e OutOfMemory c.loop-before.invariant.past first c.in_err-rows.ensures.damage));
+      damage = rw (p.1, p.2) c.in_err-rows.ensures.damage;
+    }
 
-pub returns-then-kept-gt0-clause-past : goal.returns-then-kept-gt0-clause-past
-returns-then-kept-gt0-clause-past c =
-    let body = c.args.body.now in
-    let offsets = c.args.offsets.now in
-    let before = c.loop-before.before in
-    let key = c.args.key.now in
-    let rows = c.in_ok-rows.rows.items in
-    let kept = take c.rows_upto_key-kept.result rows in
-    let held = rw c.deref.ensures.value at c.rows_upto_key-kept.ensures.past in
-    let group = back_read body offsets before (before - 1) rows (omega arith) c.in_ok-rows.ensures.rows in
-    let past = subst (λ (l : List RowRead). IsPast Descending key l (left_back body offsets (before - 1) kept)) (sym group) (kept_past Descending key body offsets (before - 1) rows kept held) in
-    rw c.truncate.ensures.items (past_trans Descending key (reads_back c.args.groups body offsets) (reads_back before body offsets) (left_back body offsets (before - 1) kept) c.loop-before.invariant.past past)
-
-pub returns-then-kept-gt0-clause-stops : goal.returns-then-kept-gt0-clause-stops
-returns-then-kept-gt0-clause-stops c =
-    let kept = take c.rows_upto_key-kept.result c.in_ok-rows.rows.items in
-    let within = rw c.deref.ensures.value at c.rows_upto_key-kept.ensures.within in
-    let stops = rw c.deref.ensures.value at c.rows_upto_key-kept.ensures.stops in
-    let some : 0 < length kept = omega (arith, length-take c.rows_upto_key-kept.result c.in_ok-rows.rows.items, within) in
-    rw c.truncate.ensures.items (kept_stops Descending c.args.key.now c.args.body.now c.args.offsets.now (c.loop-before.before - 1) kept some stops)
-
-pub returns-then-kept-gt0-clause-read : goal.returns-then-kept-gt0-clause-read
-returns-then-kept-gt0-clause-read c =
-    let kept = take c.rows_upto_key-kept.result c.in_ok-rows.rows.items in
-    let within = rw c.deref.ensures.value at c.rows_upto_key-kept.ensures.within in
-    let some : 0 < length kept = omega (arith, length-take c.rows_upto_key-kept.result c.in_ok-rows.rows.items, within) in
-    rw c.truncate.ensures.items (kept_read c.args.body.now c.args.offsets.now (c.loop-before.before - 1) kept some)
+pub returns-then-kept-gt0 : goal.returns-then-kept-gt0
+returns-then-kept-gt0 c =
+    record {
+      past = (let body = c.args.body.now in
+          let offsets = c.args.offsets.now in
+          let before = c.loop-before.before in
+          let key = c.args.key.now in
+          let rows = c.in_ok-rows.rows.items in
+          let kept = take c.rows_upto_key-kept.result rows in
+          let held = rw c.deref.ensures.value at c.rows_upto_key-kept.ensures.past in
+          let group = back_read body offsets before (before - 1) rows (omega arith) c.in_ok-rows.ensures.rows in
+          let past = subst (λ (l : List RowRead). IsPast Descending key l (left_back body offsets (before - 1) kept)) (sym group) (kept_past Descending key body offsets (before - 1) rows kept held) in
+          rw c.truncate.ensures.items (past_trans Descending key (reads_back c.args.groups body offsets) (reads_back before body offsets) (left_back body offsets (before - 1) kept) c.loop-before.invariant.past past));
+      stops = (let kept = take c.rows_upto_key-kept.result c.in_ok-rows.rows.items in
+          let within = rw c.deref.ensures.value at c.rows_upto_key-kept.ensures.within in
+          let stops = rw c.deref.ensures.value at c.rows_upto_key-kept.ensures.stops in
+          let some : 0 < length kept = omega (arith, length-take c.rows_upto_key-kept.result c.in_ok-rows.rows.items, within) in
+          rw c.truncate.ensures.items (kept_stops Descending c.args.key.now c.args.body.now c.args.offsets.now (c.loop-before.before - 1) kept some stops));
+      read = (let kept = take c.rows_upto_key-kept.result c.in_ok-rows.rows.items in
+          let within = rw c.deref.ensures.value at c.rows_upto_key-kept.ensures.within in
+          let some : 0 < length kept = omega (arith, length-take c.rows_upto_key-kept.result c.in_ok-rows.rows.items, within) in
+          rw c.truncate.ensures.items (kept_read c.args.body.now c.args.offsets.now (c.loop-before.before - 1) kept some));
+      within = omega (arith, c.loop-before.invariant.within);
+      cause = tt;
+      damage = tt;
+    }
 
 pub loop-before-preserved : goal.loop-before-preserved
 loop-before-preserved c =
@@ -64,31 +71,17 @@ loop-before-preserved c =
       past = past_trans Descending key (reads_back c.args.groups body offsets) (reads_back before body offsets) (reads_back (before - 1) body offsets) c.loop-before.invariant.past past;
     }
 
-pub returns-clause-past : goal.returns-clause-past
-returns-clause-past c =
-    let body = c.args.body.now in
-    let offsets = c.args.offsets.now in
-    let over : 0 ≡ c.loop-before.before = omega arith in
-    let same = nothing_kept body offsets 0 c.new.result.items c.new.ensures.items ∙ ap (λ (k : ℕ). reads_back k body offsets) over in
-    subst (λ (l : List RowRead). IsPast Descending c.args.key.now (reads_back c.args.groups body offsets) l) (sym same) c.loop-before.invariant.past
-
-pub returns-clause-stops : goal.returns-clause-stops
-returns-clause-stops c = subst (λ (l : List RowRead). StopsAt Descending c.args.key.now l) (sym (no_rows_back c.args.body.now c.args.offsets.now 0 c.new.result.items refl c.new.ensures.items)) tt
-
-pub returns-clause-read : goal.returns-clause-read
-returns-clause-read c = subst BeginsRead (sym (no_rows_back c.args.body.now c.args.offsets.now 0 c.new.result.items refl c.new.ensures.items)) tt
-
-pub returns-in_err-rows-clause-past : goal.returns-in_err-rows-clause-past
-returns-in_err-rows-clause-past c = IfOk-from_err c.from_residual.result _ c.from_residual.ensures.0
-
-pub returns-in_err-rows-clause-stops : goal.returns-in_err-rows-clause-stops
-returns-in_err-rows-clause-stops c = IfOk-from_err c.from_residual.result _ c.from_residual.ensures.0
-
-pub returns-in_err-rows-clause-read : goal.returns-in_err-rows-clause-read
-returns-in_err-rows-clause-read c = IfOk-from_err c.from_residual.result _ c.from_residual.ensures.0
-
-pub returns-in_err-rows-clause-within : goal.returns-in_err-rows-clause-within
-returns-in_err-rows-clause-within c = IfOk-from_err c.from_residual.result _ c.from_residual.ensures.0
-
-pub returns-in_err-rows-clause-damage : goal.returns-in_err-rows-clause-damage
-returns-in_err-rows-clause-damage c = let p = err_from_is_err_and c.from_residual.result c.from_residual.ensures.1 in rw (p.1, p.2) c.in_err-rows.ensures.damage
+pub returns : goal.returns
+returns c =
+    record {
+      past = (let body = c.args.body.now in
+          let offsets = c.args.offsets.now in
+          let over : 0 ≡ c.loop-before.before = omega arith in
+          let same = nothing_kept body offsets 0 c.new.result.items c.new.ensures.items ∙ ap (λ (k : ℕ). reads_back k body offsets) over in
+          subst (λ (l : List RowRead). IsPast Descending c.args.key.now (reads_back c.args.groups body offsets) l) (sym same) c.loop-before.invariant.past);
+      stops = subst (λ (l : List RowRead). StopsAt Descending c.args.key.now l) (sym (no_rows_back c.args.body.now c.args.offsets.now 0 c.new.result.items refl c.new.ensures.items)) tt;
+      read = subst BeginsRead (sym (no_rows_back c.args.body.now c.args.offsets.now 0 c.new.result.items refl c.new.ensures.items)) tt;
+      within = omega arith;
+      cause = tt;
+      damage = tt;
+    }

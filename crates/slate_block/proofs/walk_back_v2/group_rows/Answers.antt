@@ -7,42 +7,43 @@ use Rattle.slate_block.proofs.GroupSteps.{over_left}
 use Rattle.slate_block.proofs.BackSteps.{group_begun, group_grown, group_done, refused_or_done}
 use Rattle.slate_block.proofs.walk_back_v2.group_rows.Goals as goal
 
-pub returns-in_err-first-clause-cause : goal.returns-in_err-first-clause-cause
-returns-in_err-first-clause-cause c =
-    let whole = restart_at c.args.body.now c.args.offsets.now c.args.number in
+pub returns-in_err-first : goal.returns-in_err-first
+returns-in_err-first c =
     let p = err_from_is_err_and c.from_residual-in_err-first.result c.from_residual-in_err-first.ensures.1 in
-    rw (p.1, p.2) (refused_or_done [] whole whole c.in_err-first.field-0.0 OutOfMemory refl c.in_err-first.ensures.cause)
+    record {
+      rows = IfOk-from_err c.from_residual-in_err-first.result _ c.from_residual-in_err-first.ensures.0;
+      cause = (let whole = restart_at c.args.body.now c.args.offsets.now c.args.number in
+          let p = err_from_is_err_and c.from_residual-in_err-first.result c.from_residual-in_err-first.ensures.1 in
+          rw (p.1, p.2) (refused_or_done [] whole whole c.in_err-first.field-0.0 OutOfMemory refl c.in_err-first.ensures.cause));
+      damage = rw (p.1, p.2) c.in_err-first.ensures.damage;
+    }
 
-pub returns-in_err-row-clause-cause : goal.returns-in_err-row-clause-cause
-returns-in_err-row-clause-cause c =
+pub returns-in_err-row : goal.returns-in_err-row
+returns-in_err-row c =
     let p = err_from_is_err_and c.from_residual-in_err-row.result c.from_residual-in_err-row.ensures.1 in
-    rw (p.1, p.2) (refused_or_done c.loop-alloc.rows.items (restart_at c.args.body.now c.args.offsets.now c.args.number) _ c.in_err-row.field-0.0 OutOfMemory c.loop-alloc.invariant.rows c.in_err-row.ensures.cause)
+    record {
+      rows = IfOk-from_err c.from_residual-in_err-row.result _ c.from_residual-in_err-row.ensures.0;
+      cause = rw (p.1, p.2) (refused_or_done c.loop-alloc.rows.items (restart_at c.args.body.now c.args.offsets.now c.args.number) _ c.in_err-row.field-0.0 OutOfMemory c.loop-alloc.invariant.rows c.in_err-row.ensures.cause);
+      damage = rw (p.1, p.2) c.in_err-row.ensures.damage;
+    }
 
-pub returns-clause-rows : goal.returns-clause-rows
-returns-clause-rows c =
-    let over = sym c.is_over.ensures ∙ c.loop-alloc-test.false in
-    group_done c.loop-alloc.rows.items (restart_at c.args.body.now c.args.offsets.now c.args.number) (group_left c.args.body.now c.loop-alloc.group) c.loop-alloc.invariant.rows (over_left c.args.body.now c.loop-alloc.group over)
+pub returns : goal.returns
+returns c =
+    record {
+      rows = (let over = sym c.is_over.ensures ∙ c.loop-alloc-test.false in
+          group_done c.loop-alloc.rows.items (restart_at c.args.body.now c.args.offsets.now c.args.number) (group_left c.args.body.now c.loop-alloc.group) c.loop-alloc.invariant.rows (over_left c.args.body.now c.loop-alloc.group over));
+      cause = tt;
+      damage = tt;
+    }
 
-pub returns-in_err-rows-clause-rows : goal.returns-in_err-rows-clause-rows
-returns-in_err-rows-clause-rows c = IfOk-from_err c.from_residual.result _ c.from_residual.ensures.0
-
-pub returns-in_err-rows-clause-damage : goal.returns-in_err-rows-clause-damage
-returns-in_err-rows-clause-damage c = let p = err_from_is_err_and c.from_residual.result c.from_residual.ensures.1 in rw (p.1, p.2) (inl refl)
-
-pub returns-in_err-rows-clause-cause : goal.returns-in_err-rows-clause-cause
-returns-in_err-rows-clause-cause c = let p = err_from_is_err_and c.from_residual.result c.from_residual.ensures.1 in rw (p.1, p.2) (inl refl)
-
-pub returns-in_err-first-clause-rows : goal.returns-in_err-first-clause-rows
-returns-in_err-first-clause-rows c = IfOk-from_err c.from_residual-in_err-first.result _ c.from_residual-in_err-first.ensures.0
-
-pub returns-in_err-first-clause-damage : goal.returns-in_err-first-clause-damage
-returns-in_err-first-clause-damage c = let p = err_from_is_err_and c.from_residual-in_err-first.result c.from_residual-in_err-first.ensures.1 in rw (p.1, p.2) c.in_err-first.ensures.damage
-
-pub returns-in_err-row-clause-rows : goal.returns-in_err-row-clause-rows
-returns-in_err-row-clause-rows c = IfOk-from_err c.from_residual-in_err-row.result _ c.from_residual-in_err-row.ensures.0
-
-pub returns-in_err-row-clause-damage : goal.returns-in_err-row-clause-damage
-returns-in_err-row-clause-damage c = let p = err_from_is_err_and c.from_residual-in_err-row.result c.from_residual-in_err-row.ensures.1 in rw (p.1, p.2) c.in_err-row.ensures.damage
+pub returns-in_err-rows : goal.returns-in_err-rows
+returns-in_err-rows c =
+    let p = err_from_is_err_and c.from_residual.result c.from_residual.ensures.1 in
+    record {
+      rows = IfOk-from_err c.from_residual.result _ c.from_residual.ensures.0;
+      cause = rw (p.1, p.2) (inl refl);
+      damage = rw (p.1, p.2) (inl refl);
+    }
 
 pub push_reserved-requires : goal.push_reserved-requires
 push_reserved-requires c = omega (arith, c.in_ok-rows.ensures.len, c.in_ok-rows.ensures.capacity)

@@ -20,12 +20,12 @@ is_start c =
       | in-None+in_ok-start-in-None w ↦ rw w.start-is (start_here c.args.key.now (left_v2 body offsets place) _ (ap (left_v2 body offsets) (sym w.in_ok-start-in-None.ensures)))
     ]
 
-pub returns-clause-past : goal.returns-clause-past
-returns-clause-past c =
+pub returns : goal.returns
+returns c =
     let reads = left_v2 c.args.body.now c.args.offsets.now in
-    all_past Ascending c.args.key.now (reads c.args.place.now) (reads c.match-last_before.start) reads c.behind_key.result (is_start c) c.behind_key.ensures.past c.behind_key.ensures.stops c.behind_key.ensures.read
-
-pub returns-clause-cause : goal.returns-clause-cause
-returns-clause-cause c =
-    let reads = left_v2 c.args.body.now c.args.offsets.now in
-    all_refused Ascending c.args.key.now (reads c.args.place.now) (reads c.match-last_before.start) OutOfMemory c.behind_key.result (is_start c) c.behind_key.ensures.cause
+    record {
+      past = (all_past Ascending c.args.key.now (reads c.args.place.now) (reads c.match-last_before.start) reads c.behind_key.result (is_start c) c.behind_key.ensures.past c.behind_key.ensures.stops c.behind_key.ensures.read);
+      stops = c.behind_key.ensures.stops;
+      read = c.behind_key.ensures.read;
+      cause = (all_refused Ascending c.args.key.now (reads c.args.place.now) (reads c.match-last_before.start) OutOfMemory c.behind_key.result (is_start c) c.behind_key.ensures.cause);
+    }

@@ -23,39 +23,35 @@ no_list c =
     no_offsets c.args.bytes end count e OutOfMemory (c.in_ok-end.ensures.value ∙ ap counted_offsets c.as_slice.ensures)
     (subst (λ (b : List ℕ). (e ≡ OutOfMemory) ⊎ (offsets_from count 0 (min 1 end) end b end ≡ Err e)) c.as_slice-2.ensures c.in_err-offsets.ensures.cause)
 
-pub returns-in_err-end-clause-only : goal.returns-in_err-end-clause-only
-returns-in_err-end-clause-only c =
+pub returns-in_err-end : goal.returns-in_err-end
+returns-in_err-end c =
     let p = err_from_is_err_and c.from_residual.result c.from_residual.ensures.1 in
-    λ body offsets apart. rw (p.1, p.2) (refused_block body offsets c.args.bytes c.in_err-end.field-0.0 OutOfMemory (inr (no_end c)) apart)
+    record {
+      found = IfOk-from_err c.from_residual.result _ c.from_residual.ensures.0;
+      only = λ body offsets apart. rw (p.1, p.2) (refused_block body offsets c.args.bytes c.in_err-end.field-0.0 OutOfMemory (inr (no_end c)) apart);
+      cause = rw (p.1, p.2) (inr (ap refusal (no_end c)));
+    }
 
-pub returns-in_err-end-clause-cause : goal.returns-in_err-end-clause-cause
-returns-in_err-end-clause-cause c =
-    let p = err_from_is_err_and c.from_residual.result c.from_residual.ensures.1 in
-    rw (p.1, p.2) (inr (ap refusal (no_end c)))
-
-pub returns-in_err-offsets-clause-only : goal.returns-in_err-offsets-clause-only
-returns-in_err-offsets-clause-only c =
+pub returns-in_err-offsets : goal.returns-in_err-offsets
+returns-in_err-offsets c =
     let p = err_from_is_err_and c.from_residual-in_err-offsets.result c.from_residual-in_err-offsets.ensures.1 in
-    λ body offsets apart. rw (p.1, p.2) (refused_block body offsets c.args.bytes c.in_err-offsets.field-0.0 OutOfMemory (no_list c) apart)
+    record {
+      found = IfOk-from_err c.from_residual-in_err-offsets.result _ c.from_residual-in_err-offsets.ensures.0;
+      only = λ body offsets apart. rw (p.1, p.2) (refused_block body offsets c.args.bytes c.in_err-offsets.field-0.0 OutOfMemory (no_list c) apart);
+      cause = rw (p.1, p.2) (refused (offsets_of_block c.args.bytes) c.in_err-offsets.field-0.0 OutOfMemory (no_list c));
+    }
 
-pub returns-in_err-offsets-clause-cause : goal.returns-in_err-offsets-clause-cause
-returns-in_err-offsets-clause-cause c =
-    let p = err_from_is_err_and c.from_residual-in_err-offsets.result c.from_residual-in_err-offsets.ensures.1 in
-    rw (p.1, p.2) (refused (offsets_of_block c.args.bytes) c.in_err-offsets.field-0.0 OutOfMemory (no_list c))
-
-pub returns-clause-found : goal.returns-clause-found
-returns-clause-found c =
-    let bytes = c.args.bytes in
-    let end = c.in_ok-end.end in
-    let count = c.in_ok-end.count in
-    let offsets = c.in_ok-offsets.offsets.items in
-    let read = offsets_read bytes end count offsets (c.in_ok-end.ensures.value ∙ ap counted_offsets c.as_slice.ensures)
-    (subst (λ (b : List ℕ). offsets_from count 0 (min 1 end) end b end ≡ Ok offsets) c.as_slice-2.ensures c.in_ok-offsets.ensures.found) in
-    subst (λ (b : List ℕ). IsApart b offsets bytes) (sym c.truncate.ensures)
-    (block_takes_apart bytes end offsets (subst (λ (b : List ℕ). IsBytes b) c.as_slice.ensures c.in_ok-end.ensures.bytes) read)
-
-pub returns-in_err-end-clause-found : goal.returns-in_err-end-clause-found
-returns-in_err-end-clause-found c = IfOk-from_err c.from_residual.result _ c.from_residual.ensures.0
-
-pub returns-in_err-offsets-clause-found : goal.returns-in_err-offsets-clause-found
-returns-in_err-offsets-clause-found c = IfOk-from_err c.from_residual-in_err-offsets.result _ c.from_residual-in_err-offsets.ensures.0
+pub returns : goal.returns
+returns c =
+    record {
+      found = (let bytes = c.args.bytes in
+          let end = c.in_ok-end.end in
+          let count = c.in_ok-end.count in
+          let offsets = c.in_ok-offsets.offsets.items in
+          let read = offsets_read bytes end count offsets (c.in_ok-end.ensures.value ∙ ap counted_offsets c.as_slice.ensures)
+          (subst (λ (b : List ℕ). offsets_from count 0 (min 1 end) end b end ≡ Ok offsets) c.as_slice-2.ensures c.in_ok-offsets.ensures.found) in
+          subst (λ (b : List ℕ). IsApart b offsets bytes) (sym c.truncate.ensures)
+          (block_takes_apart bytes end offsets (subst (λ (b : List ℕ). IsBytes b) c.as_slice.ensures c.in_ok-end.ensures.bytes) read));
+      only = λ _ _ _. tt;
+      cause = tt;
+    }

@@ -1,4 +1,4 @@
-use Rattle.std.proofs.Common.{◌≡◌, ◌<◌, ◌^◌, ◌∙◌, ◌+◌, true, refl, sym, ap, length, arith, rules, inr}
+use Rattle.std.proofs.Common.{◌≡◌, ◌<◌, ◌^◌, ◌∙◌, ◌+◌, true, refl, sym, ap, length, arith, rules, inr, inl, Bool, Ok, Result, false, Err}
 use Rattle.std.proofs.lemmas.Bool.{eqb-true}
 use Rattle.std.proofs.lemmas.Bool.Decides.{nat_tests}
 use Rattle.std.proofs.lemmas.Result.{err_from_is_err_and, IfOk-from_err}
@@ -7,7 +7,13 @@ use Rattle.slate_block.specs.BlockSpelling.{FitsRow, longest}
 use Rattle.slate_block.specs.Building.{Building, number, front_key, with_row}
 use Rattle.slate_block.specs.Fitting.{fits_in}
 use Rattle.slate_block.proofs.HeldLaws.{PartHeld, Leaves, no_key, other_error, taken_or_not, held_room, tried_held, seen_same, seen_longer}
+use Rattle.slate_block.proofs.Failing.{never}
+use Rattle.slate_types.specs.declared.error.SlateDBError.{SlateDBError}
+use Rattle.slate_types.specs.declared.error.SlateDBError.TheVariants.{EmptyKey}
 use Rattle.slate_block.proofs.builder.BlockBuilder.add.Goals as goal
+
+yes_no : ◌≡◌ {A = Result Bool SlateDBError} (Ok false) (Ok true) → ⊥
+yes_no e = cc
 
 -- what is known where the row is taken
 leaves : (c : goal.After-append-arg-1) → Leaves c.shared-shared.result c.self.inside.part c.self.inside.held c.args.entry
@@ -37,11 +43,19 @@ pub invariant_of-self-inside : goal.invariant_of-self-inside
 invariant_of-self-inside c =
     (tried_held c.append.result c.shared-shared.result c.self.inside.part c.append.new.self c.args.entry c.self.inside.held (leaves c.before) (fits_row c.before) (space c.before) c.append.ensures.appended c.append.ensures.unchanged, tt)
 
-pub returns-in_err-append-clause-unchanged : goal.returns-in_err-append-clause-unchanged
-returns-in_err-append-clause-unchanged c =
+pub returns-in_err-append : goal.returns-in_err-append
+returns-in_err-append c =
     let p = err_from_is_err_and c.from_residual.result c.from_residual.ensures.1 in
-    let same = λ (k : PartHeld c.append.new.self). seen_same c.self.inside.block_size c.self.inside.part c.append.new.self c.self.inside.held k c.in_err-append.ensures.unchanged ∙ c.self.view_is in
-    rw p.1 (search (rules, same))
+    record {
+      empty = (λ e. absurd (other_error _ _ p.1 (p.2 ∙ c.in_err-append.ensures.cause) e), λ zero. absurd (no_key c.is_empty.result c.args.entry.key c.is_empty.ensures c.if-is_empty.false zero));
+      fits = IfOk-from_err c.from_residual.result _ c.from_residual.ensures.0;
+      taken = never c.from_residual.result c.from_residual.ensures.0;
+      refused = never c.from_residual.result c.from_residual.ensures.0;
+      unchanged = (let same = λ (k : PartHeld c.append.new.self). seen_same c.self.inside.block_size c.self.inside.part c.append.new.self c.self.inside.held k c.in_err-append.ensures.unchanged ∙ c.self.view_is in
+          rw p.1 (search (rules, same)));
+      few = never c.from_residual.result c.from_residual.ensures.0;
+      cause = rw (p.1, p.2) (inr c.in_err-append.ensures.cause);
+    }
 
 pub returns-clause-taken : goal.returns-clause-taken
 returns-clause-taken c =
@@ -50,16 +64,19 @@ returns-clause-taken c =
     ∙ ap (λ (b : Building). with_row b c.args.entry) c.self.view_is in
     λ _. search (rules, longer)
 
-pub returns-in_err-append-clause-fits : goal.returns-in_err-append-clause-fits
-returns-in_err-append-clause-fits c = IfOk-from_err c.from_residual.result _ c.from_residual.ensures.0
-
-pub returns-in_err-append-clause-cause : goal.returns-in_err-append-clause-cause
-returns-in_err-append-clause-cause c = let p = err_from_is_err_and c.from_residual.result c.from_residual.ensures.1 in rw (p.1, p.2) (inr c.in_err-append.ensures.cause)
-
 -- ---- no key
 
-pub returns-then-is_empty-clause-empty : goal.returns-then-is_empty-clause-empty
-returns-then-is_empty-clause-empty c = (λ _. eqb-true (length c.args.entry.key) 0 (sym c.is_empty.ensures ∙ c.if-is_empty.true), λ _. refl)
+pub returns-then-is_empty : goal.returns-then-is_empty
+returns-then-is_empty c =
+    record {
+      empty = (λ _. eqb-true (length c.args.entry.key) 0 (sym c.is_empty.ensures ∙ c.if-is_empty.true), λ _. refl);
+      fits = tt;
+      taken = never {T = Bool} (Err EmptyKey) refl;
+      refused = never {T = Bool} (Err EmptyKey) refl;
+      unchanged = refl;
+      few = never {T = Bool} (Err EmptyKey) refl;
+      cause = inl refl;
+    }
 
 pub has_room-requires-clause-front : goal.has_room-requires-clause-front
 has_room-requires-clause-front c = c.shared-shared.ensures.front
@@ -78,21 +95,19 @@ invariant_of-self-2 c = c.self.invariant
 
 -- ---- no room
 
-pub returns-then-not-has_room-clause-empty : goal.returns-then-not-has_room-clause-empty
-returns-then-not-has_room-clause-empty c = (λ e. absurd (taken_or_not _ _ e), λ zero. absurd (no_key c.is_empty.result c.args.entry.key c.is_empty.ensures c.if-is_empty.false zero))
-
-pub returns-then-not-has_room-clause-fits : goal.returns-then-not-has_room-clause-fits
-returns-then-not-has_room-clause-fits c = sym c.if-not-has_room.true ∙ c.has_room.ensures
-
-pub returns-then-not-has_room-clause-refused : goal.returns-then-not-has_room-clause-refused
-returns-then-not-has_room-clause-refused c = λ _. refl
+pub returns-then-not-has_room : goal.returns-then-not-has_room
+returns-then-not-has_room c =
+    record {
+      empty = (λ e. absurd (taken_or_not _ _ e), λ zero. absurd (no_key c.is_empty.result c.args.entry.key c.is_empty.ensures c.if-is_empty.false zero));
+      fits = sym c.if-not-has_room.true ∙ c.has_room.ensures;
+      taken = λ e. absurd (yes_no e);
+      refused = λ _. refl;
+      unchanged = tt;
+      few = λ e. absurd (yes_no e);
+      cause = tt;
+    }
 
 -- ---- the row is tried
-
-pub returns-in_err-append-clause-empty : goal.returns-in_err-append-clause-empty
-returns-in_err-append-clause-empty c =
-    let p = err_from_is_err_and c.from_residual.result c.from_residual.ensures.1 in
-    (λ e. absurd (other_error _ _ p.1 (p.2 ∙ c.in_err-append.ensures.cause) e), λ zero. absurd (no_key c.is_empty.result c.args.entry.key c.is_empty.ensures c.if-is_empty.false zero))
 
 pub returns-clause-empty : goal.returns-clause-empty
 returns-clause-empty c = (λ e. absurd (taken_or_not _ _ e), λ zero. absurd (no_key c.is_empty.result c.args.entry.key c.is_empty.ensures c.if-is_empty.false zero))

@@ -1,4 +1,4 @@
-use Rattle.std.proofs.Common.{◌≡◌, List, [], ℕ, refl, ap, subst, arith, ◌∙◌}
+use Rattle.std.proofs.Common.{◌≡◌, List, [], ℕ, refl, ap, subst, arith, ◌∙◌, inl}
 use Rattle.std.proofs.lemmas.List.{nil_from_length}
 use Rattle.std.specs.Prelude.{IfOk}
 use Rattle.slate_block.specs.BlockSpelling.{block_bytes}
@@ -6,10 +6,15 @@ use Rattle.slate_block.specs.Building.{Building}
 use Rattle.slate_block.proofs.HeldLaws.{held_bytes, few_held}
 use Rattle.slate_block.proofs.builder.BlockBuilder.build_encoded.Goals as goal
 
-pub returns-then-part-eq0-clause-empty : goal.returns-then-part-eq0-clause-empty
-returns-then-part-eq0-clause-empty c =
-    let none = nil_from_length c.self.inside.held.0.0 (omega (arith, c.self.inside.held.0.1.counted, c.if-part-eq0.true)) in
-    (λ _. subst (λ (b : Building). b.rows ≡ []) c.self.view_is none, λ _. refl)
+pub returns-then-part-eq0 : goal.returns-then-part-eq0
+returns-then-part-eq0 c =
+    record {
+      empty = (let none = nil_from_length c.self.inside.held.0.0 (omega (arith, c.self.inside.held.0.1.counted, c.if-part-eq0.true)) in
+          (λ _. subst (λ (b : Building). b.rows ≡ []) c.self.view_is none, λ _. refl));
+      bytes = tt;
+      fits = tt;
+      cause = inl refl;
+    }
 
 pub with_offsets-requires : goal.with_offsets-requires
 with_offsets-requires c = rw c.deref.ensures.value (few_held c.self.inside.part c.self.inside.held)
