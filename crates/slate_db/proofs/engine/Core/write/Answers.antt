@@ -1,14 +1,15 @@
-use Rattle.std.proofs.Common.{◌≡◌, ℕ, ◌+◌, ◌-◌, ◌^◌, ◌<◌, ◌≤◌, ◌++◌, ◌∷◌, [], List, Some, refl, ap, sym, subst, ◌∙◌, arith, inr, true, false, w64, option_to_list}
-use Rattle.std.proofs.lemmas.Result.{IfOk-from_err}
+use Rattle.std.proofs.Common.{◌≡◌, ℕ, ◌+◌, ◌-◌, ◌^◌, ◌<◌, ◌≤◌, ◌++◌, ◌∷◌, [], List, Some, refl, ap, sym, subst, ◌∙◌, arith, inr, true, false, w64, option_to_list, inl, length, true≢false}
+use Rattle.std.proofs.lemmas.Result.{IfOk-from_err, err_from_is_err_and}
 use Rattle.std.specs.Prelude.{sum_by}
 use Rattle.std.specs.List.{AllByRecursion}
 use Rattle.std.proofs.lemmas.Int.{to_z-of_z}
+use Rattle.slate_txn.specs.State.{last_of}
 use Rattle.slate_types.specs.declared.error.SlateDBError.TheVariants as errors
 use Rattle.slate_types.specs.Fold.{Combine}
 use Rattle.slate_mem.specs.Batch.{batch_keys}
 use Rattle.slate_mem.specs.CommitRows.{commit_rows}
 use Rattle.slate_mem.specs.RowOf.{row_of}
-use Rattle.slate_mem.specs.Table.{put_rows}
+use Rattle.slate_mem.specs.Table.{put_rows, MemTableModel}
 use Rattle.slate_table.specs.Table.{AreInOrder}
 use Rattle.slate_txn.specs.declared.event.Event.TheVariants as events
 use Rattle.slate_txn.specs.declared.line.Line.TheVariants as lines
@@ -17,12 +18,12 @@ use Rattle.slate_txn.specs.Reply.{Written, Refused}
 use Rattle.slate_txn.specs.Step.{step}
 use Rattle.slate_db.specs.Load.{load, ops_load, rows_load}
 use Rattle.slate_db.specs.Meaning.{rules_of, combine_of}
-use Rattle.slate_db.specs.Model.{CoreModel, Rows, at, versions, versions_in, memory}
+use Rattle.slate_db.specs.Model.{CoreModel, Rows, at, versions, versions_in, memory, IsSame}
 use Rattle.slate_db.specs.View.{view_of}
 use Rattle.slate_db.specs.Sound.{IsKept}
-use Rattle.slate_db.specs.Whole.{IsWhole, FitsMemory, AreRising}
+use Rattle.slate_db.specs.Whole.{IsWhole, FitsMemory, AreRising, LIMIT}
 use Rattle.slate_db.specs.Written.{after_write}
-use Rattle.slate_db.proofs.Keeps.{same_model}
+use Rattle.slate_db.proofs.Keeps.{same_model, room_made}
 use Rattle.slate_db.proofs.Journals.{apply_more}
 use Rattle.slate_db.proofs.Lists.{all_map, all_behind}
 use Rattle.slate_db.proofs.Loads.{write_load}
@@ -133,29 +134,50 @@ returns-in_err-reserve_event-clause-event c = IfOk-from_err c.from_residual.resu
 pub returns-in_err-reserve_event-clause-kept : goal.returns-in_err-reserve_event-clause-kept
 returns-in_err-reserve_event-clause-kept c = IfOk-from_err c.from_residual.result _ c.from_residual.ensures.0
 
-pub returns-in_err-rows-clause-step : goal.returns-in_err-rows-clause-step
-returns-in_err-rows-clause-step c = IfOk-from_err c.from_residual-in_err-rows.result _ c.from_residual-in_err-rows.ensures.0
+pub returns-in_err-rows : goal.returns-in_err-rows
+returns-in_err-rows c =
+    let p = err_from_is_err_and c.from_residual-in_err-rows.result c.from_residual-in_err-rows.ensures.1 in
+    record {
+      step = IfOk-from_err c.from_residual-in_err-rows.result _ c.from_residual-in_err-rows.ensures.0;
+      refused = rw (p.1, p.2) (inl c.in_err-rows.ensures.cause);
+      event = IfOk-from_err c.from_residual-in_err-rows.result _ c.from_residual-in_err-rows.ensures.0;
+      kept = IfOk-from_err c.from_residual-in_err-rows.result _ c.from_residual-in_err-rows.ensures.0;
+      load = λ ops of. IfOk-from_err c.from_residual-in_err-rows.result _ c.from_residual-in_err-rows.ensures.0;
+      same = rw p.1 (subst (λ (v : CoreModel). IsSame v (view_of (record c.self.inside { journal = c.reserve_event.new.journal }))) c.self.view_is (room_made c.self.inside c.reserve_event.new.journal c.reserve_event.ensures.events));
+      idle = λ none. absurd (true≢false (sym (c.is_empty.ensures.1 none) ∙ c.if-is_empty.false));
+      exhausted = λ some full. let last : c.self.inside.last ≡ 2 ^ 64 - 2 = c.self.invariant.last ∙ ap (λ (v : CoreModel). last_of v.settings.start_seq v.state.commits) c.self.view_is ∙ full in absurd (omega (arith, last));
+      limit = λ some below past. let place = subst (λ (v : CoreModel). LIMIT < length v.events + length v.state.txns + 1) (sym c.self.view_is) past in absurd (omega (arith, c.in_ok-reserve_event.ensures.place, c.len.ensures.len, place));
+      cause = rw (p.1, p.2) (inl c.in_err-rows.ensures.cause);
+    }
 
-pub returns-in_err-rows-clause-event : goal.returns-in_err-rows-clause-event
-returns-in_err-rows-clause-event c = IfOk-from_err c.from_residual-in_err-rows.result _ c.from_residual-in_err-rows.ensures.0
+pub returns-in_err-ops : goal.returns-in_err-ops
+returns-in_err-ops c =
+    let p = err_from_is_err_and c.from_residual-in_err-ops.result c.from_residual-in_err-ops.ensures.1 in
+    record {
+      step = IfOk-from_err c.from_residual-in_err-ops.result _ c.from_residual-in_err-ops.ensures.0;
+      refused = rw (p.1, p.2) (inl c.in_err-ops.ensures.cause);
+      event = IfOk-from_err c.from_residual-in_err-ops.result _ c.from_residual-in_err-ops.ensures.0;
+      kept = IfOk-from_err c.from_residual-in_err-ops.result _ c.from_residual-in_err-ops.ensures.0;
+      load = λ ops of. IfOk-from_err c.from_residual-in_err-ops.result _ c.from_residual-in_err-ops.ensures.0;
+      same = rw p.1 (subst (λ (v : CoreModel). IsSame v (view_of (record c.self.inside { journal = c.reserve_event.new.journal }))) c.self.view_is (room_made c.self.inside c.reserve_event.new.journal c.reserve_event.ensures.events));
+      idle = λ none. absurd (true≢false (sym (c.is_empty.ensures.1 none) ∙ c.if-is_empty.false));
+      exhausted = λ some full. let last : c.self.inside.last ≡ 2 ^ 64 - 2 = c.self.invariant.last ∙ ap (λ (v : CoreModel). last_of v.settings.start_seq v.state.commits) c.self.view_is ∙ full in absurd (omega (arith, last));
+      limit = λ some below past. let place = subst (λ (v : CoreModel). LIMIT < length v.events + length v.state.txns + 1) (sym c.self.view_is) past in absurd (omega (arith, c.in_ok-reserve_event.ensures.place, c.len.ensures.len, place));
+      cause = rw (p.1, p.2) (inl c.in_err-ops.ensures.cause);
+    }
 
-pub returns-in_err-rows-clause-kept : goal.returns-in_err-rows-clause-kept
-returns-in_err-rows-clause-kept c = IfOk-from_err c.from_residual-in_err-rows.result _ c.from_residual-in_err-rows.ensures.0
-
-pub returns-in_err-ops-clause-step : goal.returns-in_err-ops-clause-step
-returns-in_err-ops-clause-step c = IfOk-from_err c.from_residual-in_err-ops.result _ c.from_residual-in_err-ops.ensures.0
-
-pub returns-in_err-ops-clause-event : goal.returns-in_err-ops-clause-event
-returns-in_err-ops-clause-event c = IfOk-from_err c.from_residual-in_err-ops.result _ c.from_residual-in_err-ops.ensures.0
-
-pub returns-in_err-ops-clause-kept : goal.returns-in_err-ops-clause-kept
-returns-in_err-ops-clause-kept c = IfOk-from_err c.from_residual-in_err-ops.result _ c.from_residual-in_err-ops.ensures.0
-
-pub returns-in_err-put_all-clause-step : goal.returns-in_err-put_all-clause-step
-returns-in_err-put_all-clause-step c = IfOk-from_err c.from_residual-in_err-put_all.result _ c.from_residual-in_err-put_all.ensures.0
-
-pub returns-in_err-put_all-clause-event : goal.returns-in_err-put_all-clause-event
-returns-in_err-put_all-clause-event c = IfOk-from_err c.from_residual-in_err-put_all.result _ c.from_residual-in_err-put_all.ensures.0
-
-pub returns-in_err-put_all-clause-kept : goal.returns-in_err-put_all-clause-kept
-returns-in_err-put_all-clause-kept c = IfOk-from_err c.from_residual-in_err-put_all.result _ c.from_residual-in_err-put_all.ensures.0
+pub returns-in_err-put_all : goal.returns-in_err-put_all
+returns-in_err-put_all c =
+    let p = err_from_is_err_and c.from_residual-in_err-put_all.result c.from_residual-in_err-put_all.ensures.1 in
+    record {
+      step = IfOk-from_err c.from_residual-in_err-put_all.result _ c.from_residual-in_err-put_all.ensures.0;
+      refused = rw (p.1, p.2) (inl c.in_err-put_all.ensures.cause);
+      event = IfOk-from_err c.from_residual-in_err-put_all.result _ c.from_residual-in_err-put_all.ensures.0;
+      kept = IfOk-from_err c.from_residual-in_err-put_all.result _ c.from_residual-in_err-put_all.ensures.0;
+      load = λ ops of. IfOk-from_err c.from_residual-in_err-put_all.result _ c.from_residual-in_err-put_all.ensures.0;
+      same = rw p.1 (subst (λ (t : MemTableModel). IsSame c.args.self.now (view_of (record c.self.inside { journal = c.reserve_event.new.journal; active = t }))) (sym c.in_err-put_all.ensures.same) (subst (λ (v : CoreModel). IsSame v (view_of (record c.self.inside { journal = c.reserve_event.new.journal }))) c.self.view_is (room_made c.self.inside c.reserve_event.new.journal c.reserve_event.ensures.events)));
+      idle = λ none. absurd (true≢false (sym (c.is_empty.ensures.1 none) ∙ c.if-is_empty.false));
+      exhausted = λ some full. let last : c.self.inside.last ≡ 2 ^ 64 - 2 = c.self.invariant.last ∙ ap (λ (v : CoreModel). last_of v.settings.start_seq v.state.commits) c.self.view_is ∙ full in absurd (omega (arith, last));
+      limit = λ some below past. let place = subst (λ (v : CoreModel). LIMIT < length v.events + length v.state.txns + 1) (sym c.self.view_is) past in absurd (omega (arith, c.in_ok-reserve_event.ensures.place, c.len.ensures.len, place));
+      cause = rw (p.1, p.2) (inl c.in_err-put_all.ensures.cause);
+    }
