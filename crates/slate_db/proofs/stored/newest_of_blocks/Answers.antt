@@ -1,7 +1,8 @@
-use Rattle.std.proofs.Common.{◌≡◌, ◌+◌, ◌∷◌, ◌∙◌, [], suc, true, List, length, rules, ap, sym, subst, arith}
+use Rattle.std.proofs.Common.{◌≡◌, ◌+◌, ◌∷◌, ◌∙◌, [], suc, true, List, length, rules, ap, sym, subst, arith, inl, refl}
 use Rattle.std.proofs.lemmas.List.{nil_from_length}
 use Rattle.std.specs.List.{AllByRecursion}
 use Rattle.std.specs.Vec.Iter.{into_iter_items, into_iter_len}
+use Rattle.std.proofs.lemmas.Result.{IfOk-from_err, err_from_is_err_and}
 use Rattle.slate_types.specs.declared.iter.IterationOrder.TheVariants.{Ascending}
 use Rattle.slate_types.specs.Iteration.{IsInOrder}
 use Rattle.slate_table.specs.Finding.{AreBlocksOf}
@@ -50,4 +51,19 @@ returns c =
           walk_ends c.args.version lists c.args.key.now c.args.max_seq c.loop-block.found.items (subst (λ bs. Walked c.args.version bs lists c.args.key.now c.args.max_seq c.loop-block.found.items) none (c.loop-block.invariant.walked lists are order)));
       whole = λ lists are order. tt;
       cause = tt;
+    }
+
+pub returns-in_err-more-clause-found : goal.returns-in_err-more-clause-found
+returns-in_err-more-clause-found c = λ lists are order. IfOk-from_err c.from_residual.result _ c.from_residual.ensures.0
+
+pub returns-in_err-more-clause-cause : goal.returns-in_err-more-clause-cause
+returns-in_err-more-clause-cause c = let p = err_from_is_err_and c.from_residual.result c.from_residual.ensures.1 in rw (p.1, p.2) c.in_err-more.ensures.cause
+
+pub returns-in_err-append : goal.returns-in_err-append
+returns-in_err-append c =
+    let p = err_from_is_err_and c.from_residual-in_err-append.result c.from_residual-in_err-append.ensures.1 in
+    record {
+      found = λ lists are order. IfOk-from_err c.from_residual-in_err-append.result _ c.from_residual-in_err-append.ensures.0;
+      whole = λ lists are order. let p = err_from_is_err_and c.from_residual-in_err-append.result c.from_residual-in_err-append.ensures.1 in rw (p.1, p.2) refl;
+      cause = rw (p.1, p.2) (inl refl);
     }

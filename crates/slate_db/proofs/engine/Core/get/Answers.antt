@@ -79,18 +79,30 @@ returns-in-Err g c =
       later_operator = c.seen.ensures.later_operator;
     }
 
-pub returns-in-Err-note_get-clause-kept : goal.returns-in-Err-note_get-clause-kept
-returns-in-Err-note_get-clause-kept g c m kept_m =
-    subst (λ (v : CoreModel). IsKept m v)
-    (same_model (view_of c.self.inside) (view_of (record c.self.inside { «open» = c.note_get.new.items })) refl refl (sym c.in-Err-note_get.ensures.err) refl refl refl refl refl refl refl refl)
-    (subst (λ (v : CoreModel). IsKept m v) (sym c.self.view_is) kept_m)
-
-pub returns-in-Err-note_get-clause-same : goal.returns-in-Err-note_get-clause-same
-returns-in-Err-note_get-clause-same g c =
-    sym (same_model (view_of c.self.inside) (view_of (record c.self.inside { «open» = c.note_get.new.items })) refl refl (sym c.in-Err-note_get.ensures.err) refl refl refl refl refl refl refl refl) ∙ c.self.view_is
-
-pub returns-in-Err-note_get-clause-settings : goal.returns-in-Err-note_get-clause-settings
-returns-in-Err-note_get-clause-settings g c = ap (λ (v : CoreModel). v.settings) c.self.view_is
+pub returns-in-Err-note_get : goal.returns-in-Err-note_get
+returns-in-Err-note_get g c =
+    record {
+      noted = tt;
+      answer = λ m has law kept held. tt;
+      whole = λ m has law kept held. inl (inl c.from.ensures);
+      truthful = λ m os has law kept held answers. inl (inl c.from.ensures);
+      same = sym (same_model (view_of c.self.inside) (view_of (record c.self.inside { «open» = c.note_get.new.items })) refl refl (sym c.in-Err-note_get.ensures.err) refl refl refl refl refl refl refl refl) ∙ c.self.view_is;
+      kept = (λ m kept_m.
+          subst (λ (v : CoreModel). IsKept m v)
+          (same_model (view_of c.self.inside) (view_of (record c.self.inside { «open» = c.note_get.new.items })) refl refl (sym c.in-Err-note_get.ensures.err) refl refl refl refl refl refl refl refl)
+          (subst (λ (v : CoreModel). IsKept m v) (sym c.self.view_is) kept_m));
+      settings = ap (λ (v : CoreModel). v.settings) c.self.view_is;
+      cause = inl (inl c.from.ensures);
+      told = c.seen.ensures.told;
+      objects = c.seen.ensures.objects;
+      same_encoded = c.seen.ensures.same_encoded;
+      same_decoded = c.seen.ensures.same_decoded;
+      same_combine = c.seen.ensures.same_combine;
+      same_store = c.seen.ensures.same_store;
+      later = c.seen.ensures.later;
+      later_transformer = c.seen.ensures.later_transformer;
+      later_operator = c.seen.ensures.later_operator;
+    }
 
 -- the step that is noted
 abbrev noted_step : (g : given.Over) → goal.In_default-note_get g → TranscriptStep
@@ -130,39 +142,6 @@ from_floor g c =
     subst (λ n. c.args.self.now.floor ≤ n) (sym (begin_is g c))
     (subst (λ (v : CoreModel). v.floor ≤ (reader g c).begin) c.self.view_is
     (found_all (λ (t : Tx). (c.self.inside.floor ≤ t.begin) × (t.begin ≤ c.self.inside.last)) c.args.id.now c.self.inside.«open».entries (reader g c) c.self.invariant.begins (reader_is g c)).0)
-
-pub returns-in-Err-note_get-clause-told : goal.returns-in-Err-note_get-clause-told
-returns-in-Err-note_get-clause-told g c = c.seen.ensures.told
-
-pub returns-in-Err-note_get-clause-objects : goal.returns-in-Err-note_get-clause-objects
-returns-in-Err-note_get-clause-objects g c = c.seen.ensures.objects
-
-pub returns-in-Err-note_get-clause-same_encoded : goal.returns-in-Err-note_get-clause-same_encoded
-returns-in-Err-note_get-clause-same_encoded g c = c.seen.ensures.same_encoded
-
-pub returns-in-Err-note_get-clause-same_decoded : goal.returns-in-Err-note_get-clause-same_decoded
-returns-in-Err-note_get-clause-same_decoded g c = c.seen.ensures.same_decoded
-
-pub returns-in-Err-note_get-clause-same_combine : goal.returns-in-Err-note_get-clause-same_combine
-returns-in-Err-note_get-clause-same_combine g c = c.seen.ensures.same_combine
-
-pub returns-in-Err-note_get-clause-same_store : goal.returns-in-Err-note_get-clause-same_store
-returns-in-Err-note_get-clause-same_store g c = c.seen.ensures.same_store
-
-pub returns-in-Err-note_get-clause-later : goal.returns-in-Err-note_get-clause-later
-returns-in-Err-note_get-clause-later g c = c.seen.ensures.later
-
-pub returns-in-Err-note_get-clause-later_transformer : goal.returns-in-Err-note_get-clause-later_transformer
-returns-in-Err-note_get-clause-later_transformer g c = c.seen.ensures.later_transformer
-
-pub returns-in-Err-note_get-clause-later_operator : goal.returns-in-Err-note_get-clause-later_operator
-returns-in-Err-note_get-clause-later_operator g c = c.seen.ensures.later_operator
-
-pub returns-in-Err-note_get-clause-noted : goal.returns-in-Err-note_get-clause-noted
-returns-in-Err-note_get-clause-noted g c = tt
-
-pub returns-in-Err-note_get-clause-answer : goal.returns-in-Err-note_get-clause-answer
-returns-in-Err-note_get-clause-answer g c = λ m has law kept held. tt
 
 pub returns : goal.returns
 returns g c =

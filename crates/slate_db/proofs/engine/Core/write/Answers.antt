@@ -33,17 +33,41 @@ use Rattle.slate_db.proofs.Puts.{order_puts, some_more, versions_more, active_wi
 use Rattle.slate_db.proofs.Writes.{whole_write, kept_write}
 use Rattle.slate_db.proofs.engine.Core.write.Goals as goal
 
-pub returns-then-is_empty-clause-step : goal.returns-then-is_empty-clause-step
-returns-then-is_empty-clause-step c m ops of fine =
-    step_nothing (rules_of c.args.self.now.settings m) (at c.args.now c.args.self.now.state) ops c.args.batch of (c.is_empty.ensures.0 c.if-is_empty.true)
+pub returns-then-is_empty : goal.returns-then-is_empty
+returns-then-is_empty c =
+    record {
+      step = (λ m ops of fine.
+          step_nothing (rules_of c.args.self.now.settings m) (at c.args.now c.args.self.now.state) ops c.args.batch of (c.is_empty.ensures.0 c.if-is_empty.true));
+      refused = tt;
+      event = (c.is_empty.ensures.0 c.if-is_empty.true, refl);
+      kept = λ m k. k;
+      load = λ ops of. omega arith;
+      same = tt;
+      idle = λ none. refl;
+      exhausted = λ some full. absurd (some (c.is_empty.ensures.0 c.if-is_empty.true));
+      limit = λ some below past. absurd (some (c.is_empty.ensures.0 c.if-is_empty.true));
+      cause = tt;
+    }
 
-pub returns-then-self-ge18446744073709551614-clause-refused : goal.returns-then-self-ge18446744073709551614-clause-refused
-returns-then-self-ge18446744073709551614-clause-refused c = inr (inr (λ m ops of fine.
-    sym (ap (λ (v : CoreModel). step (rules_of v.settings m) (at c.args.now v.state) (lines.Write ops)) c.self.view_is)
-    ∙ step_exhausted (rules_of (view_of c.self.inside).settings m) (at c.args.now (view_of c.self.inside).state) ops c.args.batch c.self.inside.last of
-    (λ e. let t : true ≡ false = sym (c.is_empty.ensures.1 e) ∙ c.if-is_empty.false in cc) fine refl c.self.invariant.last
-    (let h : c.self.inside.last ≤ 2 ^ 64 - 2 = c.self.invariant.last_fits in omega arith)
-    ∙ ap (λ (v : CoreModel). (at c.args.now v.state, Refused errors.SequenceExhausted)) c.self.view_is))
+pub returns-then-self-ge18446744073709551614 : goal.returns-then-self-ge18446744073709551614
+returns-then-self-ge18446744073709551614 c =
+    record {
+      step = tt;
+      refused = (inr (inr (λ m ops of fine.
+          sym (ap (λ (v : CoreModel). step (rules_of v.settings m) (at c.args.now v.state) (lines.Write ops)) c.self.view_is)
+          ∙ step_exhausted (rules_of (view_of c.self.inside).settings m) (at c.args.now (view_of c.self.inside).state) ops c.args.batch c.self.inside.last of
+          (λ e. let t : true ≡ false = sym (c.is_empty.ensures.1 e) ∙ c.if-is_empty.false in cc) fine refl c.self.invariant.last
+          (let h : c.self.inside.last ≤ 2 ^ 64 - 2 = c.self.invariant.last_fits in omega arith)
+          ∙ ap (λ (v : CoreModel). (at c.args.now v.state, Refused errors.SequenceExhausted)) c.self.view_is)));
+      event = tt;
+      kept = tt;
+      load = λ ops of. tt;
+      same = refl;
+      idle = λ none. absurd (true≢false (sym (c.is_empty.ensures.1 none) ∙ c.if-is_empty.false));
+      exhausted = λ some full. refl;
+      limit = λ some below past. let last = subst (λ n. n < 2 ^ 64 - 2) (sym (c.self.invariant.last ∙ ap (λ (v : CoreModel). last_of v.settings.start_seq v.state.commits) c.self.view_is)) below in absurd (omega (arith, last));
+      cause = (let fits : c.self.inside.last ≤ 2 ^ 64 - 2 = c.self.invariant.last_fits in let last : c.self.inside.last ≡ 2 ^ 64 - 2 = omega (arith, fits) in inr (inl (refl, sym (c.self.invariant.last ∙ ap (λ (v : CoreModel). last_of v.settings.start_seq v.state.commits) c.self.view_is) ∙ last)));
+    }
 
 some : (c : goal.After-drop-batch-inside-2) → c.args.batch.ops ≡ [] → ⊥
 some c e = let t : true ≡ false = sym (c.is_empty.ensures.1 e) ∙ c.if-is_empty.false in cc
@@ -181,3 +205,33 @@ returns-in_err-put_all c =
       limit = λ some below past. let place = subst (λ (v : CoreModel). LIMIT < length v.events + length v.state.txns + 1) (sym c.self.view_is) past in absurd (omega (arith, c.in_ok-reserve_event.ensures.place, c.len.ensures.len, place));
       cause = rw (p.1, p.2) (inl c.in_err-put_all.ensures.cause);
     }
+
+pub returns-clause-refused : goal.returns-clause-refused
+returns-clause-refused c = tt
+
+pub returns-clause-same : goal.returns-clause-same
+returns-clause-same c = tt
+
+pub returns-clause-idle : goal.returns-clause-idle
+returns-clause-idle c = λ none. absurd (true≢false (sym (c.is_empty.ensures.1 none) ∙ c.if-is_empty.false))
+
+pub returns-clause-exhausted : goal.returns-clause-exhausted
+returns-clause-exhausted c = λ some full. let last : c.self.inside.last ≡ 2 ^ 64 - 2 = c.self.invariant.last ∙ ap (λ (v : CoreModel). last_of v.settings.start_seq v.state.commits) c.self.view_is ∙ full in absurd (omega (arith, last))
+
+pub returns-clause-limit : goal.returns-clause-limit
+returns-clause-limit c = λ some below past. let place = subst (λ (v : CoreModel). LIMIT < length v.events + length v.state.txns + 1) (sym c.self.view_is) past in absurd (omega (arith, c.in_ok-reserve_event.ensures.place, c.len.ensures.len, place))
+
+pub returns-clause-cause : goal.returns-clause-cause
+returns-clause-cause c = tt
+
+pub returns-in_err-reserve_event-clause-load : goal.returns-in_err-reserve_event-clause-load
+returns-in_err-reserve_event-clause-load c = λ ops of. IfOk-from_err c.from_residual.result _ c.from_residual.ensures.0
+
+pub returns-in_err-reserve_event-clause-same : goal.returns-in_err-reserve_event-clause-same
+returns-in_err-reserve_event-clause-same c = let p = err_from_is_err_and c.from_residual.result c.from_residual.ensures.1 in rw p.1 (subst (λ (v : CoreModel). IsSame v (view_of (record c.self.inside { journal = c.reserve_event.new.journal }))) c.self.view_is (room_made c.self.inside c.reserve_event.new.journal c.reserve_event.ensures.events))
+
+pub returns-in_err-reserve_event-clause-idle : goal.returns-in_err-reserve_event-clause-idle
+returns-in_err-reserve_event-clause-idle c = λ none. absurd (true≢false (sym (c.is_empty.ensures.1 none) ∙ c.if-is_empty.false))
+
+pub returns-in_err-reserve_event-clause-exhausted : goal.returns-in_err-reserve_event-clause-exhausted
+returns-in_err-reserve_event-clause-exhausted c = λ some full. let last : c.self.inside.last ≡ 2 ^ 64 - 2 = c.self.invariant.last ∙ ap (λ (v : CoreModel). last_of v.settings.start_seq v.state.commits) c.self.view_is ∙ full in absurd (omega (arith, last))
