@@ -1,5 +1,5 @@
 -- The parts that the words of a run name.
-use Rattle.std.proofs.Common.{◌≡◌, ◌<◌, ℕ, List, Option, Some, None, option_map, ◌⊎◌, inl, inr, refl, sym, ap, ◌∙◌, arith}
+use Rattle.std.proofs.Common.{◌≡◌, ℕ, List, Option, Some, None, option_map, ◌⊎◌, inl, inr, refl, sym, ap, ◌∙◌, arith}
 use Rattle.slate_types.specs.Faults.{Rose, faults_of}
 use Rattle.slate_types.specs.Fold.{Combine}
 use Rattle.slate_types.specs.Outside.{Objects}
@@ -40,9 +40,9 @@ same-settings o a b h k = cc
 pub some-not-none : (o : Option Settings) (a : Settings) → o ≡ Some a → o ≡ None → ⊥
 some-not-none o a h k = cc
 
-pub zero-or : {P : Type 0} (a b : ℕ) → 0 < a → 0 < b → (0 ≡ a) ⊎ (0 ≡ b) → P
-zero-or a b some more (inl h) = absurd (omega arith)
-zero-or a b some more (inr h) = absurd (omega arith)
+pub neither : {A B P : Type 0} → (A → ⊥) → (B → ⊥) → A ⊎ B → P
+neither f k (inl h) = absurd (f h)
+neither f k (inr h) = absurd (k h)
 
 pub status-or-either : {n k a b : ℕ} → n ≡ k → (n ≡ a) ⊎ (n ≡ b) → (k ≡ a) ⊎ (k ≡ b)
 status-or-either is (inl h) = inl (sym is ∙ h)

@@ -17,7 +17,7 @@ use Rattle.slate_types.specs.Faults.{Rose}
 use Rattle.slate_types.specs.Outside.{Objects}
 use Rattle.slate_db.specs.Flushed.{layout_of}
 use Rattle.slate_db.specs.Meaning.{Meaning}
-use Rattle.slate_script.proofs.Mains.{lawful, premises, none-rose, none-rose-before, same-settings, status-or-either, words-are, some-not-none, zero-or}
+use Rattle.slate_script.proofs.Mains.{lawful, premises, none-rose, none-rose-before, same-settings, status-or-either, words-are, some-not-none, neither}
 use Rattle.slate_script.proofs.RunEnds.{unless-error}
 use Rattle.slate_script.proofs.program.run_main.Goals as goal
 
@@ -54,10 +54,10 @@ returns-in-Ok g c =
       complete = λ s script named is formed empty no-read no-write no-store. inl refl;
       source_still = inr (unless-error _ ReadFault c.in-Ok.ensures.source_still);
       sink_still = inr (unless-error _ WriteFault c.in-Ok.ensures.sink_still);
-      by_script = λ s script before named is told empty which. zero-or 3 4 (omega arith) (omega arith) which;
+      by_script = λ s script before named is told empty which. neither (λ h. omega (arith, h)) (λ h. omega (arith, h)) which;
       by_source = λ s script before named is told empty five. absurd (omega (arith, five));
       by_sink = λ s script before named is told empty six. absurd (omega (arith, six));
-      by_part = λ s script before named is told empty which. zero-or 7 20 (omega arith) (omega arith) which;
+      by_part = λ s script before named is told empty which. neither (λ h. omega (arith, h)) (λ h. omega (arith, h)) which;
       all = λ script is four. absurd (omega (arith, four));
       taken = c.run_script.ensures.taken;
       later = c.run_script.ensures.later;
@@ -129,8 +129,34 @@ returns-in-Err g c =
       later = c.run_script.ensures.later;
     }
 
-pub returns-in_default-clause-undamaged : goal.returns-in_default-clause-undamaged
-returns-in_default-clause-undamaged g c s named empty which = absurd (omega (arith, (damage-between 2 which).0))
-
-pub returns-in_default-clause-untrue : goal.returns-in_default-clause-untrue
-returns-in_default-clause-untrue g c which = absurd (omega (arith, (damage-between 2 which).0))
+pub returns-in_default : goal.returns-in_default
+returns-in_default g c =
+    record {
+      statuses = inr (inl refl);
+      unknown = λ none. refl;
+      known = λ s named two. absurd (some-not-none c.parse_words.result s (c.parse_words.ensures.settings ∙ named) c.in_default.is);
+      unread = λ two. refl;
+      unwritten = λ two. refl;
+      unstored = λ two. refl;
+      answered = λ s script before named is told empty zero. absurd (omega (arith, zero));
+      stored = λ s script named is empty zero. absurd (omega (arith, zero));
+      read = λ script is zero. absurd (omega (arith, zero));
+      no_error = λ script is zero. absurd (omega (arith, zero));
+      syntax = λ script is three. absurd (omega (arith, three));
+      too_long = λ script is four. absurd (omega (arith, four));
+      read_fault = λ five. absurd (omega (arith, five));
+      write_fault = λ six. absurd (omega (arith, six));
+      store_fault = λ seven. absurd (omega (arith, seven));
+      undamaged = λ s named empty which. absurd (omega (arith, (damage-between 2 which).0));
+      untrue = λ which. absurd (omega (arith, (damage-between 2 which).0));
+      complete = λ s script named is formed empty no-read no-write no-store. absurd (some-not-none c.parse_words.result s (c.parse_words.ensures.settings ∙ named) c.in_default.is);
+      source_still = inr refl;
+      sink_still = inr refl;
+      by_script = λ s script before named is told empty which. neither (λ h. omega (arith, h)) (λ h. omega (arith, h)) which;
+      by_source = λ s script before named is told empty five. absurd (omega (arith, five));
+      by_sink = λ s script before named is told empty six. absurd (omega (arith, six));
+      by_part = λ s script before named is told empty which. neither (λ h. omega (arith, h)) (λ h. omega (arith, h)) which;
+      all = λ script is four. absurd (omega (arith, four));
+      taken = λ script is. (0, omega arith, is);
+      later = (omega arith, omega arith);
+    }
