@@ -20,11 +20,11 @@ use Rattle.slate_script.proofs.Taken.{IsCut, IsAt, Took, taken-first, lines-begi
 
 -- ---- which errors
 
+pub is-no-error : {V : Type 0} {v : V} {e : SlateDBError} → Ok v ≡ Err e → ⊥
+is-no-error h = cc
+
 pub unless-error : {T P : Type 0} (x : T) (e : SlateDBError) → (Ok x ≡ Err e) ⊎ P → P
-unless-error x e (inl is) = absurd (clash is)
-  where
-    clash : Ok x ≡ Err e → ⊥
-    clash h = cc
+unless-error x e (inl is) = absurd (is-no-error is)
 unless-error x e (inr is) = is
 
 some-error : (e f : SlateDBError) → Some f ≡ Some e → e ≡ f

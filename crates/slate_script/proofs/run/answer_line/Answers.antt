@@ -1,4 +1,4 @@
-use Rattle.std.proofs.Common.{◌≡◌, ◌<◌, ◌≤◌, arith, ◌++◌, ◌∷◌, [], ℕ, inr, Some, take, length, refl, sym, ap, subst, ◌∙◌}
+use Rattle.std.proofs.Common.{◌≡◌, ◌<◌, ◌≤◌, arith, ◌++◌, ◌∷◌, [], ℕ, inr, Some, take, length, refl, sym, ap, subst, ◌∙◌, Ok, append-nil}
 use Rattle.slate_db.specs.Flushed.{layout_of}
 use Rattle.slate_db.specs.Installs.{tables_of}
 use Rattle.slate_db.specs.Meaning.{Meaning}
@@ -6,14 +6,14 @@ use Rattle.slate_db.specs.Parts.{meaning_of, counts_of}
 use Rattle.slate_txn.specs.Answers.{reply_of}
 use Rattle.slate_txn.specs.Replies.{replies_from, reply_line}
 use Rattle.slate_script.specs.Run.{IsPartCause}
-use Rattle.slate_script.specs.Session.{HasTablesAlone, line_load}
+use Rattle.slate_script.specs.Session.{HasTablesAlone, line_load, StandsFor}
 use Rattle.slate_txn.specs.Stage.{meaning}
 use Rattle.slate_script.proofs.Answered.{one-built}
 use Rattle.slate_script.proofs.LineEnds.{parse-error, parse-cause, parse-no-part, parse-no-damage, parse-wrote, session-cause, session-part, session-wrote, writing-cause, writing-no-part, writing-no-damage, error-of, meant-line}
 use Rattle.slate_script.proofs.LineLoads.{line-load}
-use Rattle.slate_script.proofs.RunEnds.{never-less}
+use Rattle.slate_script.proofs.RunEnds.{never-less, is-no-error}
 use Rattle.slate_script.proofs.ToldLaws.{follows-itself}
-use Rattle.slate_script.proofs.Running.{line-stands, line-reply, runs-on, is-settled, one-moment, always, at-ok, not-damage}
+use Rattle.slate_script.proofs.Running.{line-stands, line-reply, runs-on, is-settled, one-moment, always, at-ok, not-damage, silent-line, silent-after, silent-says}
 use Rattle.slate_script.proofs.run.answer_line.Goals as goal
 
 pub answer-requires-clause-built : goal.answer-requires-clause-built
@@ -127,8 +127,27 @@ returns-in-Err g c =
       later = omega arith;
     }
 
-pub returns-in-Ok-None-clause-parts_later : goal.returns-in-Ok-None-clause-parts_later
-returns-in-Ok-None-clause-parts_later g c = never-less _
-
-pub returns-in-Ok-None-clause-follows : goal.returns-in-Ok-None-clause-follows
-returns-in-Ok-None-clause-follows g c os settled = follows-itself (meaning_of g.M.MergeOperator.combine g.T.BlockTransformer.encoded g.T.BlockTransformer.decoded c.args.env.now.operator c.args.env.now.transformer) os c.args.session.now (g.S.Store.acts c.args.env.now.store.now) settled
+pub returns-in-Ok-None : goal.returns-in-Ok-None
+returns-in-Ok-None g c =
+    record {
+      meant = silent-line c.args.line.now (c.in-Ok-None.ensures.silent (ap Ok c.in-Ok-None.field-0-is));
+      running = λ m r running. running;
+      stands = λ m r running s stands. subst (StandsFor c.args.session.now) (silent-after r s c.args.line.now (c.in-Ok-None.ensures.silent (ap Ok c.in-Ok-None.field-0-is))) stands;
+      answered = λ m r running s before stands told. told ∙ ap Some (sym (append-nil before)) ∙ ap (λ bs. Some (before ++ bs)) (silent-says r s c.args.line.now (c.in-Ok-None.ensures.silent (ap Ok c.in-Ok-None.field-0-is)));
+      grows = (omega arith, omega arith);
+      alone = λ m r running alone. alone;
+      cause = tt;
+      part = tt;
+      undamaged = λ m r running. tt;
+      follows = λ os settled. follows-itself (meaning_of g.M.MergeOperator.combine g.T.BlockTransformer.encoded g.T.BlockTransformer.decoded c.args.env.now.operator c.args.env.now.transformer) os c.args.session.now (g.S.Store.acts c.args.env.now.store.now) settled;
+      untrue = λ os settled. tt;
+      meaning = refl;
+      write_fault = λ is. absurd (is-no-error is);
+      begun = λ m r running s before stands told is. absurd (is-no-error is);
+      still = refl;
+      same_store = refl;
+      parts_later = never-less _;
+      uncounted = tt;
+      unanswered = tt;
+      later = omega arith;
+    }

@@ -12,7 +12,7 @@ use Rattle.slate_store.specs.Lines.{lines_of}
 use Rattle.slate_script.proofs.Taken.{begin, answer-it, took-told, end-told}
 use Rattle.slate_script.proofs.Running.{begins}
 use Rattle.slate_script.proofs.TablesAlone.{begins-alone, stored-state}
-use Rattle.slate_script.proofs.RunEnds.{LineError, unless-error, rose-from, never-less, later-on, line-cause, no-part, only-memory, store-rose, operator-rose, transformer-rose, reader-no-part, reader-not-write, reader-undamaged, reader-error, reader-complete, reader-kinds, reader-read, reader-full, line-not-long, line-not-read, line-kinds, line-read, line-complete, untouched, reader-script, reader-source, reader-memory, line-error, line-script, line-sink, line-memory, end-there, end-read, end-answered, end-formed, end-no_error}
+use Rattle.slate_script.proofs.RunEnds.{LineError, unless-error, is-no-error, rose-from, never-less, later-on, line-cause, no-part, only-memory, store-rose, operator-rose, transformer-rose, reader-no-part, reader-not-write, reader-undamaged, reader-error, reader-complete, reader-kinds, reader-read, reader-full, line-not-long, line-not-read, line-kinds, line-read, line-complete, untouched, reader-script, reader-source, reader-memory, line-error, line-script, line-sink, line-memory, end-there, end-read, end-answered, end-formed, end-no_error}
 use Rattle.slate_types.specs.Outside.{Objects}
 use Rattle.slate_db.specs.Meaning.{Meaning}
 use Rattle.slate_script.specs.Session.{IsSettled}
@@ -23,9 +23,6 @@ use Rattle.slate_script.proofs.run.run_script.Goals as goal
 
 same-error : {T : Type 0} (e f : SlateDBError) (r : Result T SlateDBError) → r ≡ Err e → r ≡ Err f → e ≡ f
 same-error e f r is was = cc
-
-is-no-error : {V : Type 0} {v : V} {e : SlateDBError} → Ok v ≡ Err e → ⊥
-is-no-error h = cc
 
 -- an error of a step is the run's, and else no count rose
 error-or : {A B P Q : Type 0} (e f : SlateDBError) (step : Result A SlateDBError) (run : Result B SlateDBError) → step ≡ Err e → run ≡ Err e → (step ≡ Err f) ⊎ P → (P → Q) → (run ≡ Err f) ⊎ Q
