@@ -1,4 +1,4 @@
-use Rattle.std.proofs.Common.{◌≤◌, ◌≡◌, ◌⊎◌, ◌<◌, ◌++◌, ◌∷◌, [], ℕ, IfSome, Some, Result, Ok, Err, take, length, ◌+◌, sym, ap, subst, ◌∙◌, arith, append_assoc, refl, inl, inr}
+use Rattle.std.proofs.Common.{◌≤◌, ◌≡◌, ◌⊎◌, ◌<◌, ◌++◌, ◌∷◌, [], ℕ, IfSome, Some, Result, Err, take, length, ◌+◌, sym, ap, subst, ◌∙◌, arith, append_assoc, refl, inl, inr}
 use Rattle.slate_types.specs.declared.error.SlateDBError.{SlateDBError}
 use Rattle.slate_types.specs.declared.error.SlateDBError.TheVariants.{ScriptTooLong, ReadFault, WriteFault, StoreFault, Callback, BlockTransformError}
 use Rattle.slate_txn.specs.State.{opening}

@@ -1,4 +1,4 @@
-use Rattle.std.proofs.Common.{◌≡◌, ℕ, ◌+◌, ◌-◌, ◌^◌, ◌<◌, ◌≤◌, ◌++◌, ◌∷◌, [], List, Some, refl, ap, sym, subst, ◌∙◌, arith, inr, true, false, w64, option_to_list, inl, length, true≢false}
+use Rattle.std.proofs.Common.{◌≡◌, ℕ, ◌+◌, ◌-◌, ◌^◌, ◌<◌, ◌≤◌, ◌++◌, ◌∷◌, [], List, Some, refl, ap, sym, subst, ◌∙◌, arith, inr, true, false, w64, inl, length, true≢false}
 use Rattle.std.proofs.lemmas.Result.{IfOk-from_err, err_from_is_err_and}
 use Rattle.std.specs.Prelude.{sum_by}
 use Rattle.std.specs.List.{AllByRecursion}
@@ -8,7 +8,6 @@ use Rattle.slate_types.specs.declared.error.SlateDBError.TheVariants as errors
 use Rattle.slate_types.specs.Fold.{Combine}
 use Rattle.slate_mem.specs.Batch.{batch_keys}
 use Rattle.slate_mem.specs.CommitRows.{commit_rows}
-use Rattle.slate_mem.specs.RowOf.{row_of}
 use Rattle.slate_mem.specs.Table.{put_rows, MemTableModel}
 use Rattle.slate_table.specs.Table.{AreInOrder}
 use Rattle.slate_txn.specs.declared.event.Event.TheVariants as events
@@ -69,6 +68,9 @@ returns-then-self-ge18446744073709551614 c =
       cause = (let fits : c.self.inside.last ≤ 2 ^ 64 - 2 = c.self.invariant.last_fits in let last : c.self.inside.last ≡ 2 ^ 64 - 2 = omega (arith, fits) in inr (inl (refl, sym (c.self.invariant.last ∙ ap (λ (v : CoreModel). last_of v.settings.start_seq v.state.commits) c.self.view_is) ∙ last)));
     }
 
+plain : List ℕ → Combine
+plain k = λ e v. v
+
 some : (c : goal.After-drop-batch-inside-2) → c.args.batch.ops ≡ [] → ⊥
 some c e = let t : true ≡ false = sym (c.is_empty.ensures.1 e) ∙ c.if-is_empty.false in cc
 
@@ -108,46 +110,37 @@ invariant_of-self-2 c =
     (λ k. subst (λ (rows : Rows). AreRising (versions_in k ((view_of c.self.inside).frozen ++ (rows ∷ [])))) (sym (rows_are c plain)) (rise_more (view_of c.self.inside) plain c.self.inside.default_millis c.self.inside.last c.args.now c.args.batch.ops c.self.invariant.rows_within c.self.invariant.rows_rise k))
     c.self.invariant)
   where
-    plain : List ℕ → Combine
-    plain k = λ e v. v
-
     active_part : (P : Rows → Type 0) → AllByRecursion P (memory (view_of c.self.inside)) → P c.self.inside.active.rows
     active_part P h = (all_behind P (view_of c.self.inside).frozen (c.self.inside.active.rows ∷ []) h).0
 
     wider : (m : ℕ) → m ≤ c.self.inside.last → m ≤ c.self.inside.last + 1
     wider m h = omega arith
 
-pub returns-clause-step : goal.returns-clause-step
-returns-clause-step c m ops of fine =
-    sym (ap (λ (v : CoreModel). step (rules_of v.settings m) (at c.args.now v.state) (lines.Write ops)) c.self.view_is)
-    ∙ step_plain (rules_of (view_of c.self.inside).settings m) (at c.args.now (view_of c.self.inside).state) ops c.args.batch c.self.inside.last of (some c) c.requires fine refl c.self.invariant.last (fits c)
-    ∙ (λ i. (at c.args.now (becomes c i).state, Written (Some (c.self.inside.last + 1))))
-
-pub returns-clause-event : goal.returns-clause-event
-returns-clause-event c = sym (becomes c) ∙ ap (λ (v : CoreModel). after_write v (c.self.inside.last + 1) c.args.now c.args.batch.ops c.put_all.new.self.rows c.push_reserved.new.self.spare) c.self.view_is
-
-pub returns-clause-kept : goal.returns-clause-kept
-returns-clause-kept c m k =
-    subst (λ (v : CoreModel). IsKept m v) (becomes c)
-    (kept_write m (view_of c.self.inside) c.self.inside.last c.self.inside.ids _ _ c.args.now c.args.batch.ops c.put_all.new.self.rows c.push_reserved.new.self.spare each c.self.invariant old)
-  where
-    old : IsKept m (view_of c.self.inside)
-    old = subst (λ (v : CoreModel). IsKept m v) (sym c.self.view_is) k
-
-    each : (j : List ℕ) → versions j c.put_all.new.self.rows ≡ versions j c.self.inside.active.rows ++ option_to_list (row_of (combine_of m j) c.self.inside.default_millis (c.self.inside.last + 1) c.args.now c.args.batch.ops j)
-    each j =
-        ap (versions j) (rows_are c (combine_of m))
-        ∙ versions_more (combine_of m) c.self.inside.default_millis (c.self.inside.last + 1) c.args.now c.args.batch.ops c.self.inside.active.rows j
-        (active_within m (view_of c.self.inside) c.self.inside.last c.self.inside.ids _ _ c.self.invariant old j)
-
-pub returns-clause-load : goal.returns-clause-load
-returns-clause-load c ops of =
-    subst (λ (v : CoreModel). load (view_of (record c.self.inside { last = c.self.inside.last + 1; journal = c.push_reserved.new.self; active = c.put_all.new.self })) ≤ load v + ops_load ops) c.self.view_is
-    (subst (λ (rows : Rows). sum_by rows_load ((view_of c.self.inside).frozen ++ (rows ∷ [])) ≤ load (view_of c.self.inside) + ops_load ops) (sym (rows_are c plain))
-    (write_load (view_of c.self.inside) plain c.self.inside.default_millis (c.self.inside.last + 1) c.args.now c.args.batch.ops ops (c.ops.ensures.plain c.requires) of.0))
-  where
-    plain : List ℕ → Combine
-    plain k = λ e v. v
+pub returns : goal.returns
+returns c =
+    record {
+      step = (λ m ops of fine.
+          sym (ap (λ (v : CoreModel). step (rules_of v.settings m) (at c.args.now v.state) (lines.Write ops)) c.self.view_is)
+          ∙ step_plain (rules_of (view_of c.self.inside).settings m) (at c.args.now (view_of c.self.inside).state) ops c.args.batch c.self.inside.last of (some c) c.requires fine refl c.self.invariant.last (fits c)
+          ∙ (λ i. (at c.args.now (becomes c i).state, Written (Some (c.self.inside.last + 1)))));
+      refused = tt;
+      event = sym (becomes c) ∙ ap (λ (v : CoreModel). after_write v (c.self.inside.last + 1) c.args.now c.args.batch.ops c.put_all.new.self.rows c.push_reserved.new.self.spare) c.self.view_is;
+      kept = (λ m k.
+          let old : IsKept m (view_of c.self.inside) = subst (λ (v : CoreModel). IsKept m v) (sym c.self.view_is) k in
+          subst (λ (v : CoreModel). IsKept m v) (becomes c)
+          (kept_write m (view_of c.self.inside) c.self.inside.last c.self.inside.ids _ _ c.args.now c.args.batch.ops c.put_all.new.self.rows c.push_reserved.new.self.spare
+          (λ j. ap (versions j) (rows_are c (combine_of m)) ∙ versions_more (combine_of m) c.self.inside.default_millis (c.self.inside.last + 1) c.args.now c.args.batch.ops c.self.inside.active.rows j (active_within m (view_of c.self.inside) c.self.inside.last c.self.inside.ids _ _ c.self.invariant old j))
+          c.self.invariant old));
+      load = (λ ops of.
+          subst (λ (v : CoreModel). load (view_of (record c.self.inside { last = c.self.inside.last + 1; journal = c.push_reserved.new.self; active = c.put_all.new.self })) ≤ load v + ops_load ops) c.self.view_is
+          (subst (λ (rows : Rows). sum_by rows_load ((view_of c.self.inside).frozen ++ (rows ∷ [])) ≤ load (view_of c.self.inside) + ops_load ops) (sym (rows_are c plain))
+          (write_load (view_of c.self.inside) plain c.self.inside.default_millis (c.self.inside.last + 1) c.args.now c.args.batch.ops ops (c.ops.ensures.plain c.requires) of.0)));
+      same = tt;
+      idle = λ none. absurd (true≢false (sym (c.is_empty.ensures.1 none) ∙ c.if-is_empty.false));
+      exhausted = λ some full. let last : c.self.inside.last ≡ 2 ^ 64 - 2 = c.self.invariant.last ∙ ap (λ (v : CoreModel). last_of v.settings.start_seq v.state.commits) c.self.view_is ∙ full in absurd (omega (arith, last));
+      limit = λ some below past. let place = subst (λ (v : CoreModel). LIMIT < length v.events + length v.state.txns + 1) (sym c.self.view_is) past in absurd (omega (arith, c.in_ok-reserve_event.ensures.place, c.len.ensures.len, place));
+      cause = tt;
+    }
 
 pub returns-in_err-reserve_event-clause-step : goal.returns-in_err-reserve_event-clause-step
 returns-in_err-reserve_event-clause-step c = IfOk-from_err c.from_residual.result _ c.from_residual.ensures.0
@@ -205,24 +198,6 @@ returns-in_err-put_all c =
       limit = λ some below past. let place = subst (λ (v : CoreModel). LIMIT < length v.events + length v.state.txns + 1) (sym c.self.view_is) past in absurd (omega (arith, c.in_ok-reserve_event.ensures.place, c.len.ensures.len, place));
       cause = rw (p.1, p.2) (inl c.in_err-put_all.ensures.cause);
     }
-
-pub returns-clause-refused : goal.returns-clause-refused
-returns-clause-refused c = tt
-
-pub returns-clause-same : goal.returns-clause-same
-returns-clause-same c = tt
-
-pub returns-clause-idle : goal.returns-clause-idle
-returns-clause-idle c = λ none. absurd (true≢false (sym (c.is_empty.ensures.1 none) ∙ c.if-is_empty.false))
-
-pub returns-clause-exhausted : goal.returns-clause-exhausted
-returns-clause-exhausted c = λ some full. let last : c.self.inside.last ≡ 2 ^ 64 - 2 = c.self.invariant.last ∙ ap (λ (v : CoreModel). last_of v.settings.start_seq v.state.commits) c.self.view_is ∙ full in absurd (omega (arith, last))
-
-pub returns-clause-limit : goal.returns-clause-limit
-returns-clause-limit c = λ some below past. let place = subst (λ (v : CoreModel). LIMIT < length v.events + length v.state.txns + 1) (sym c.self.view_is) past in absurd (omega (arith, c.in_ok-reserve_event.ensures.place, c.len.ensures.len, place))
-
-pub returns-clause-cause : goal.returns-clause-cause
-returns-clause-cause c = tt
 
 pub returns-in_err-reserve_event-clause-load : goal.returns-in_err-reserve_event-clause-load
 returns-in_err-reserve_event-clause-load c = λ ops of. IfOk-from_err c.from_residual.result _ c.from_residual.ensures.0
