@@ -30,7 +30,7 @@ use Rattle.slate_db.proofs.Newest.{folds_as_all, versions_are}
 use Rattle.slate_db.proofs.Seen.{seen_fold}
 use Rattle.slate_db.proofs.Tables.{all_same}
 use Rattle.slate_db.proofs.Short.{all_append, all_filter, all_from_last, commits_short, fine_short}
-use Rattle.slate_db.proofs.Versions.{all_versions, all_versions_in, short_versions}
+use Rattle.slate_db.proofs.Versions.{all_versions_in, short_versions}
 
 -- ---- the store holds the tables that the core knows
 

@@ -37,6 +37,13 @@ none-rose (Some p) (Some q) h = omega arith
 pub same-settings : (o : Option Settings) (a b : Settings) → o ≡ Some a → o ≡ Some b → a ≡ b
 same-settings o a b h k = cc
 
+pub some-not-none : (o : Option Settings) (a : Settings) → o ≡ Some a → o ≡ None → ⊥
+some-not-none o a h k = cc
+
+pub neither : {A B P : Type 0} → (A → ⊥) → (B → ⊥) → A ⊎ B → P
+neither f k (inl h) = absurd (f h)
+neither f k (inr h) = absurd (k h)
+
 pub status-or-either : {n k a b : ℕ} → n ≡ k → (n ≡ a) ⊎ (n ≡ b) → (k ≡ a) ⊎ (k ≡ b)
 status-or-either is (inl h) = inl (sym is ∙ h)
 status-or-either is (inr h) = inr (sym is ∙ h)

@@ -1,5 +1,5 @@
 -- How a run ends: at an error of the reader, at a line that isn't answered, and at the end of the script.
-use Rattle.std.proofs.Common.{◌≡◌, ℕ, ◌+◌, ◌≤◌, ◌<◌, true, false, ◌⊎◌, inl, inr, List, [], ◌∷◌, ◌++◌, length, take, drop, Option, Some, None, IsTrue, refl, sym, ap, subst, ◌∙◌, arith, append_assoc}
+use Rattle.std.proofs.Common.{◌≡◌, ℕ, ◌+◌, ◌≤◌, ◌<◌, true, false, ◌⊎◌, inl, inr, Ok, Err, List, [], ◌∷◌, ◌++◌, length, take, drop, Option, Some, None, IsTrue, refl, sym, ap, subst, ◌∙◌, arith, append_assoc}
 use Rattle.std.proofs.lemmas.List.{append-nil, length-append, take-append-drop, length-drop}
 use Rattle.std.proofs.Math.Seq.{drop-append_seam}
 use Rattle.slate_types.specs.declared.error.SlateDBError.{SlateDBError}
@@ -19,6 +19,13 @@ use Rattle.slate_script.proofs.Answered.{lines-more, replies-append, replies-sto
 use Rattle.slate_script.proofs.Taken.{IsCut, IsAt, Took, taken-first, lines-begin, ends, first-empty, too-long, lines-no_error, formed-no_error}
 
 -- ---- which errors
+
+pub is-no-error : {V : Type 0} {v : V} {e : SlateDBError} → Ok v ≡ Err e → ⊥
+is-no-error h = cc
+
+pub unless-error : {T P : Type 0} (x : T) (e : SlateDBError) → (Ok x ≡ Err e) ⊎ P → P
+unless-error x e (inl is) = absurd (is-no-error is)
+unless-error x e (inr is) = is
 
 some-error : (e f : SlateDBError) → Some f ≡ Some e → e ≡ f
 some-error e f h = cc

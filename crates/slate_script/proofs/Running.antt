@@ -1,5 +1,6 @@
 -- What is kept from line to line.
-use Rattle.std.proofs.Common.{◌≡◌, ℕ, false, List, [], ◌∷◌, Option, Some, Result, Ok, Err, OnOk, IsTrue, ◌⊎◌, inl, inr, refl, sym, ap, ◌∙◌, subst, arith}
+use Rattle.std.proofs.Common.{◌≡◌, ℕ, true, false, ◌||◌, is_some, List, [], ◌∷◌, Option, Some, Result, Ok, Err, OnOk, IsTrue, ◌⊎◌, inl, inr, refl, sym, ap, ◌∙◌, subst, arith}
+use Rattle.std.specs.List.{flat_map}
 use Rattle.slate_types.specs.declared.config.Options.{Options}
 use Rattle.slate_types.specs.declared.error.SlateDBError.{SlateDBError}
 use Rattle.slate_types.specs.declared.error.SlateDBError.TheVariants.{ChecksumMismatch, InvalidRowFlags, CorruptTable, InvalidSequenceOrder, MergeOperatorMissing, LimitReached}
@@ -8,7 +9,7 @@ use Rattle.slate_txn.specs.declared.line.Line.{Line}
 use Rattle.slate_txn.specs.declared.line.Line.TheVariants as lines
 use Rattle.slate_txn.specs.Settings.{settings_of}
 use Rattle.slate_txn.specs.State.{Rules, State}
-use Rattle.slate_txn.specs.Step.{step, after}
+use Rattle.slate_txn.specs.Step.{step, after, answers}
 use Rattle.slate_db.specs.Installs.{HoldsTables}
 use Rattle.slate_db.specs.Meaning.{Meaning, rules_of}
 use Rattle.slate_db.specs.Parts.{IsDamage}
@@ -16,7 +17,7 @@ use Rattle.slate_db.specs.Sound.{IsKept}
 use Rattle.slate_txn.specs.declared.reply.Answer.{Answer}
 use Rattle.slate_txn.specs.Answers.{reply_of}
 use Rattle.slate_txn.specs.Replies.{is_silent, onto_meanings, reply_line, after_lines, replies_from}
-use Rattle.slate_script.specs.Run.{run_rules, Premises}
+use Rattle.slate_script.specs.Run.{run_rules, Premises, is_line}
 use Rattle.slate_script.specs.Session.{SessionModel, StandsFor, AnswersAs, HasTables, IsSettled, IsRunning, has_moment}
 use Rattle.slate_txn.specs.Grammar.{IsLine}
 use Rattle.slate_txn.specs.Stage.{meaning}
@@ -38,6 +39,15 @@ runs-on {m = m} {after = after} {new = new} h same settings settled = record {
 }
 
 -- ---- one line
+
+pub silent-line : (l : List ℕ) → is_silent l ≡ true → IsTrue (is_line l)
+silent-line l silent = ap (λ b. b || is_some (meaning l)) silent
+
+pub silent-after : (r : Rules) (s : State) (l : List ℕ) → is_silent l ≡ true → s ≡ after_lines meaning r s (l ∷ [])
+silent-after r s l silent = let none = sym silent in λ i. after r s (onto_meanings (none i) (meaning l) [])
+
+pub silent-says : (r : Rules) (s : State) (l : List ℕ) → is_silent l ≡ true → [] ≡ replies_from meaning r s (l ∷ [])
+silent-says r s l silent = let none = sym silent in λ i. flat_map reply_line (answers r s (onto_meanings (none i) (meaning l) []))
 
 one-after : (r : Rules) (s : State) (l : List ℕ) (line : Line) → is_silent l ≡ false → meaning l ≡ Some line → after_lines meaning r s (l ∷ []) ≡ (step r s line).0
 one-after r s l line loud is = λ i. after r s (onto_meanings (loud i) (is i) [])

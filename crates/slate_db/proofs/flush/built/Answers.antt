@@ -1,4 +1,4 @@
-use Rattle.std.proofs.Common.{inl, ◌≡◌, ℕ, ◌<◌, ◌⊎◌, ◌++◌, [], length, Err, rules, ap, sym, subst, ◌∙◌, arith}
+use Rattle.std.proofs.Common.{inl, ◌≡◌, ℕ, ◌<◌, ◌⊎◌, ◌++◌, [], length, Err, rules, ap, sym, subst, ◌∙◌, arith, refl}
 use Rattle.std.proofs.lemmas.List.{nil_from_length}
 use Rattle.std.specs.Vec.Iter.{into_iter_items}
 use Rattle.std.proofs.lemmas.Result.{err_from_is_err_and, IfOk-from_err}
@@ -60,52 +60,47 @@ build-requires g c =
     let none : into_iter_items c.loop-row.row-iterator ≡ [] = nil_from_length _ (omega (arith, c.in-None.ensures.steps.0)) in
     record { whole = was.whole; rows = subst (λ (xs : Rows). 0 < length xs) (sym (all_taken _ _ _ none was.rows)) c.requires.some }
 
-pub returns-in_err-add-clause-cause : goal.returns-in_err-add-clause-cause
-returns-in_err-add-clause-cause g c =
+pub returns-in_err-add : goal.returns-in_err-add
+returns-in_err-add g c =
     let p = err_from_is_err_and c.from_residual-in_err-add.result c.from_residual-in_err-add.ensures.1 in
-    let was = c.loop-row.invariant in
-    let row_ok = row_fits _ _ _ _ _ c.in-Some.ensures.steps.0 was.rows c.requires.fit in
-    let faults = faults_of g.T.BlockTransformer.faults in
-    rw (p.1, p.2)
-    (subst (λ (rows : Rows). IsTransformFault (faults c.args.transformer.now) (faults c.add.new.transformer) c.in_err-add.field-0.0 ⊎ IsTooLarge (layout_of c.args.options.now) rows c.in_err-add.field-0.0)
-    (one_more _ _ _ _ _ c.in-Some.ensures.steps.0 was.rows)
-    (add_refused (layout_of c.args.options.now) c.loop-row.builder c.add.new.self c.in-Some.row (into_iter_items c.next.new.self) (faults c.args.transformer.now) (faults c.loop-row.transformer) (faults c.add.new.transformer) c.in_err-add.field-0.0
-    was.later was.version was.size row_ok.key.0 (λ is. c.add.ensures.empty.0 (c.in_err-add.was ∙ ap Err is)) c.in_err-add.ensures.cause))
+    record {
+      built = IfOk-from_err c.from_residual-in_err-add.result _ c.from_residual-in_err-add.ensures.0;
+      version = IfOk-from_err c.from_residual-in_err-add.result _ c.from_residual-in_err-add.ensures.0;
+      info = IfOk-from_err c.from_residual-in_err-add.result _ c.from_residual-in_err-add.ensures.0;
+      cause = (let was = c.loop-row.invariant in
+          let row_ok = row_fits _ _ _ _ _ c.in-Some.ensures.steps.0 was.rows c.requires.fit in
+          let faults = faults_of g.T.BlockTransformer.faults in
+          rw (p.1, p.2)
+          (subst (λ (rows : Rows). IsTransformFault (faults c.args.transformer.now) (faults c.add.new.transformer) c.in_err-add.field-0.0 ⊎ IsTooLarge (layout_of c.args.options.now) rows c.in_err-add.field-0.0)
+          (one_more _ _ _ _ _ c.in-Some.ensures.steps.0 was.rows)
+          (add_refused (layout_of c.args.options.now) c.loop-row.builder c.add.new.self c.in-Some.row (into_iter_items c.next.new.self) (faults c.args.transformer.now) (faults c.loop-row.transformer) (faults c.add.new.transformer) c.in_err-add.field-0.0
+          was.later was.version was.size row_ok.key.0 (λ is. c.add.ensures.empty.0 (c.in_err-add.was ∙ ap Err is)) c.in_err-add.ensures.cause)));
+      same_encoded = c.add.ensures.same_encoded ∙ c.loop-row.invariant.same_encoded;
+      same_decoded = c.add.ensures.same_decoded ∙ c.loop-row.invariant.same_decoded;
+      later = omega (arith, c.loop-row.invariant.later, c.add.ensures.later);
+    }
 
-pub returns-in_err-add-clause-same_encoded : goal.returns-in_err-add-clause-same_encoded
-returns-in_err-add-clause-same_encoded g c = c.add.ensures.same_encoded ∙ c.loop-row.invariant.same_encoded
-
-pub returns-in_err-add-clause-same_decoded : goal.returns-in_err-add-clause-same_decoded
-returns-in_err-add-clause-same_decoded g c = c.add.ensures.same_decoded ∙ c.loop-row.invariant.same_decoded
-
-pub returns-clause-cause : goal.returns-clause-cause
-returns-clause-cause g c = if_err c.build.result _ _ (λ e h. inl (wider_fault _ _ _ e c.loop-row.invariant.later h)) c.build.ensures.cause
-
-pub returns-clause-same_encoded : goal.returns-clause-same_encoded
-returns-clause-same_encoded g c = c.build.ensures.same_encoded ∙ c.loop-row.invariant.same_encoded
-
-pub returns-clause-same_decoded : goal.returns-clause-same_decoded
-returns-clause-same_decoded g c = c.build.ensures.same_decoded ∙ c.loop-row.invariant.same_decoded
-
-pub returns-clause-version : goal.returns-clause-version
-returns-clause-version g c = if_ok c.build.result _ _ (λ table h. h ∙ c.loop-row.invariant.version) c.build.ensures.version
-
-pub returns-clause-built : goal.returns-clause-built
-returns-clause-built g c =
-    let was = c.loop-row.invariant in
-    let same = was.same_encoded in
-    let none : into_iter_items c.loop-row.row-iterator ≡ [] = nil_from_length _ (omega (arith, c.in-None.ensures.steps.0)) in
-    let rows = all_taken _ _ _ none was.rows in
-    let encoded = subst (λ (encode : Encode). AreEncoded encode c.loop-row.builder) (sym same) was.encoded in
-    if_ok c.build.result _ _
-    (λ table h. subst (λ (encode : Encode). IsBuilt encode [] 0 c.args.options.now.block_size (version_of c.args.options.now.block_format) table.bytes c.args.rows.items) same
-    (subst (λ (xs : Rows). IsBuilt (changed_by g.T.BlockTransformer.encoded c.loop-row.transformer) [] 0 c.args.options.now.block_size (version_of c.args.options.now.block_format) table.bytes xs) rows
-    (subst (λ (n : ℕ). IsBuilt (changed_by g.T.BlockTransformer.encoded c.loop-row.transformer) [] 0 n (version_of c.args.options.now.block_format) table.bytes c.loop-row.builder.rows) was.size
-    (subst (λ (n : ℕ). IsBuilt (changed_by g.T.BlockTransformer.encoded c.loop-row.transformer) [] 0 c.loop-row.builder.size n table.bytes c.loop-row.builder.rows) was.version (h encoded 0)))))
-    c.build.ensures.built
-
-pub returns-clause-info : goal.returns-clause-info
-returns-clause-info g c = if_ok c.build.result _ _ (λ table h. subst (λ (n : ℕ). HasInfo table.bytes n (seen_info table.info)) c.loop-row.invariant.version h) c.build.ensures.info
+pub returns : goal.returns
+returns g c =
+    record {
+      built = (let was = c.loop-row.invariant in
+          let same = was.same_encoded in
+          let none : into_iter_items c.loop-row.row-iterator ≡ [] = nil_from_length _ (omega (arith, c.in-None.ensures.steps.0)) in
+          let rows = all_taken _ _ _ none was.rows in
+          let encoded = subst (λ (encode : Encode). AreEncoded encode c.loop-row.builder) (sym same) was.encoded in
+          if_ok c.build.result _ _
+          (λ table h. subst (λ (encode : Encode). IsBuilt encode [] 0 c.args.options.now.block_size (version_of c.args.options.now.block_format) table.bytes c.args.rows.items) same
+          (subst (λ (xs : Rows). IsBuilt (changed_by g.T.BlockTransformer.encoded c.loop-row.transformer) [] 0 c.args.options.now.block_size (version_of c.args.options.now.block_format) table.bytes xs) rows
+          (subst (λ (n : ℕ). IsBuilt (changed_by g.T.BlockTransformer.encoded c.loop-row.transformer) [] 0 n (version_of c.args.options.now.block_format) table.bytes c.loop-row.builder.rows) was.size
+          (subst (λ (n : ℕ). IsBuilt (changed_by g.T.BlockTransformer.encoded c.loop-row.transformer) [] 0 c.loop-row.builder.size n table.bytes c.loop-row.builder.rows) was.version (h encoded 0)))))
+          c.build.ensures.built);
+      version = if_ok c.build.result _ _ (λ table h. h ∙ c.loop-row.invariant.version) c.build.ensures.version;
+      info = if_ok c.build.result _ _ (λ table h. subst (λ (n : ℕ). HasInfo table.bytes n (seen_info table.info)) c.loop-row.invariant.version h) c.build.ensures.info;
+      cause = if_err c.build.result _ _ (λ e h. inl (wider_fault _ _ _ e c.loop-row.invariant.later h)) c.build.ensures.cause;
+      same_encoded = c.build.ensures.same_encoded ∙ c.loop-row.invariant.same_encoded;
+      same_decoded = c.build.ensures.same_decoded ∙ c.loop-row.invariant.same_decoded;
+      later = omega (arith, c.loop-row.invariant.later, c.build.ensures.later);
+    }
 
 pub returns-in_err-builder-clause-built : goal.returns-in_err-builder-clause-built
 returns-in_err-builder-clause-built g c = IfOk-from_err c.from_residual.result _ c.from_residual.ensures.0
@@ -116,11 +111,11 @@ returns-in_err-builder-clause-version g c = IfOk-from_err c.from_residual.result
 pub returns-in_err-builder-clause-info : goal.returns-in_err-builder-clause-info
 returns-in_err-builder-clause-info g c = IfOk-from_err c.from_residual.result _ c.from_residual.ensures.0
 
-pub returns-in_err-add-clause-built : goal.returns-in_err-add-clause-built
-returns-in_err-add-clause-built g c = IfOk-from_err c.from_residual-in_err-add.result _ c.from_residual-in_err-add.ensures.0
+pub returns-in_err-builder-clause-same_encoded : goal.returns-in_err-builder-clause-same_encoded
+returns-in_err-builder-clause-same_encoded g c = refl
 
-pub returns-in_err-add-clause-version : goal.returns-in_err-add-clause-version
-returns-in_err-add-clause-version g c = IfOk-from_err c.from_residual-in_err-add.result _ c.from_residual-in_err-add.ensures.0
+pub returns-in_err-builder-clause-same_decoded : goal.returns-in_err-builder-clause-same_decoded
+returns-in_err-builder-clause-same_decoded g c = refl
 
-pub returns-in_err-add-clause-info : goal.returns-in_err-add-clause-info
-returns-in_err-add-clause-info g c = IfOk-from_err c.from_residual-in_err-add.result _ c.from_residual-in_err-add.ensures.0
+pub returns-in_err-builder-clause-later : goal.returns-in_err-builder-clause-later
+returns-in_err-builder-clause-later g c = omega arith

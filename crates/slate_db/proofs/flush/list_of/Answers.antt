@@ -4,3 +4,6 @@ use Rattle.slate_db.proofs.flush.list_of.Goals as goal
 
 pub returns-clause-bytes : goal.returns-clause-bytes
 returns-clause-bytes c = subst (λ (bs : List ℕ). EachIsAByte bs) (c.as_slice.ensures ∙ c.in_ok-bytes.ensures.whole) c.are_bytes.ensures
+
+pub returns-clause-cause : goal.returns-clause-cause
+returns-clause-cause c = tt

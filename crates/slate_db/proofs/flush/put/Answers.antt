@@ -1,42 +1,51 @@
-use Rattle.std.proofs.Common.{ℕ, List, inr}
+use Rattle.std.proofs.Common.{ℕ, List, inr, inl, arith}
 use Rattle.std.proofs.lemmas.Result.{err_from_is_err_and, IfOk-from_err}
 use Rattle.slate_types.specs.declared.types.Ulid.{Ulid}
 use Rattle.slate_db.specs.Flushed.{IsTableOfFlush}
 use Rattle.slate_db.proofs.Built.{takes, may_take, may_keep, handle_of}
 use Rattle.slate_db.proofs.flush.put.Goals as goal
 
-pub returns-clause-stored : goal.returns-clause-stored
-returns-clause-stored g c encode layout number barrier layers is known version info =
-    let t : Ulid × List ℕ = (c.args.id, c.args.table.now.bytes) in
+pub returns : goal.returns
+returns g c =
     record {
-      t = t;
-      list = c.in_ok-tables.ensures.list;
-      kept = handle_of t c.in_ok-handle.handle layout.version c.args.table.now.version c.args.table.now.info known c.in_ok-handle.ensures.id c.in_ok-handle.ensures.info c.in_ok-handle.ensures.version version info c.in_ok-tables.ensures.bytes;
-      table = is;
-      taken = takes t (g.S.Store.objects c.args.store.now) (g.S.Store.objects c.put_table.new.store) (λ os h. c.in_ok-handle.ensures.taken os h);
+      stored = (λ encode layout number barrier layers is known version info.
+          let t : Ulid × List ℕ = (c.args.id, c.args.table.now.bytes) in
+          record {
+            t = t;
+            list = c.in_ok-tables.ensures.list;
+            kept = handle_of t c.in_ok-handle.handle layout.version c.args.table.now.version c.args.table.now.info known c.in_ok-handle.ensures.id c.in_ok-handle.ensures.info c.in_ok-handle.ensures.version version info c.in_ok-tables.ensures.bytes;
+            table = is;
+            taken = takes t (g.S.Store.objects c.args.store.now) (g.S.Store.objects c.put_table.new.store) (λ os h. c.in_ok-handle.ensures.taken os h);
+          });
+      acts = inr ((c.args.id, c.args.table.now.bytes), c.in_ok-tables.ensures.list, c.in_ok-handle.ensures.act);
+      refused = λ encode layout number barrier layers is. tt;
+      cause = tt;
+      later = c.put_table.ensures.later;
     }
 
-pub returns-clause-acts : goal.returns-clause-acts
-returns-clause-acts g c = inr ((c.args.id, c.args.table.now.bytes), c.in_ok-tables.ensures.list, c.in_ok-handle.ensures.act)
-
-pub returns-in_err-handle-clause-refused : goal.returns-in_err-handle-clause-refused
-returns-in_err-handle-clause-refused g c encode layout number barrier layers is =
+pub returns-in_err-handle : goal.returns-in_err-handle
+returns-in_err-handle g c =
     let p = err_from_is_err_and c.from_residual-in_err-handle.result c.from_residual-in_err-handle.ensures.1 in
-    rw p.1
-    (may_take (IsTableOfFlush encode layout number barrier layers) (c.args.id, c.args.table.now.bytes) (g.S.Store.objects c.args.store.now) (g.S.Store.objects c.put_table.new.store) is (λ os h. c.in_err-handle.ensures.refused os h))
+    record {
+      stored = λ encode layout number barrier layers is known version info. IfOk-from_err c.from_residual-in_err-handle.result _ c.from_residual-in_err-handle.ensures.0;
+      acts = IfOk-from_err c.from_residual-in_err-handle.result _ c.from_residual-in_err-handle.ensures.0;
+      refused = (λ encode layout number barrier layers is.
+          let p = err_from_is_err_and c.from_residual-in_err-handle.result c.from_residual-in_err-handle.ensures.1 in
+          rw p.1
+          (may_take (IsTableOfFlush encode layout number barrier layers) (c.args.id, c.args.table.now.bytes) (g.S.Store.objects c.args.store.now) (g.S.Store.objects c.put_table.new.store) is (λ os h. c.in_err-handle.ensures.refused os h)));
+      cause = rw (p.1, p.2) c.in_err-handle.ensures.cause;
+      later = c.put_table.ensures.later;
+    }
 
-pub returns-in_err-handle-clause-cause : goal.returns-in_err-handle-clause-cause
-returns-in_err-handle-clause-cause g c =
-    let p = err_from_is_err_and c.from_residual-in_err-handle.result c.from_residual-in_err-handle.ensures.1 in
-    rw (p.1, p.2) c.in_err-handle.ensures.cause
-
-pub returns-in_err-tables-clause-refused : goal.returns-in_err-tables-clause-refused
-returns-in_err-tables-clause-refused g c encode layout number barrier layers is =
+pub returns-in_err-tables : goal.returns-in_err-tables
+returns-in_err-tables g c =
     let p = err_from_is_err_and c.from_residual.result c.from_residual.ensures.1 in
-    rw p.1 (may_keep _ _ _ (λ i. g.S.Store.objects c.args.store.now))
-
-pub returns-in_err-tables-clause-acts : goal.returns-in_err-tables-clause-acts
-returns-in_err-tables-clause-acts g c = IfOk-from_err c.from_residual.result _ c.from_residual.ensures.0
-
-pub returns-in_err-handle-clause-acts : goal.returns-in_err-handle-clause-acts
-returns-in_err-handle-clause-acts g c = IfOk-from_err c.from_residual-in_err-handle.result _ c.from_residual-in_err-handle.ensures.0
+    record {
+      stored = λ encode layout number barrier layers is known version info. IfOk-from_err c.from_residual.result _ c.from_residual.ensures.0;
+      acts = IfOk-from_err c.from_residual.result _ c.from_residual.ensures.0;
+      refused = (λ encode layout number barrier layers is.
+          let p = err_from_is_err_and c.from_residual.result c.from_residual.ensures.1 in
+          rw p.1 (may_keep _ _ _ (λ i. g.S.Store.objects c.args.store.now)));
+      cause = rw (p.1, p.2) (inl c.in_err-tables.ensures.cause);
+      later = omega arith;
+    }

@@ -1,11 +1,15 @@
-use Rattle.std.proofs.Common.{◌*◌, ◌^◌, map, inl, arith}
-use Rattle.std.proofs.lemmas.Result.{IfOk-from_err}
+use Rattle.std.proofs.Common.{◌*◌, ◌^◌, map, inl, arith, refl, inr, ◌⊎◌}
+use Rattle.std.proofs.lemmas.Result.{IfOk-from_err, err_from_is_err_and}
 use Rattle.slate_table.specs.SectionReading.{changed_by}
 use Rattle.slate_db.specs.Flushed.{IsTableOfFlush, layout_of}
 use Rattle.slate_db.proofs.Blocks.{if_err}
-use Rattle.slate_db.proofs.Built.{read_again, version_known}
+use Rattle.slate_db.proofs.Built.{read_again, version_known, may_keep}
 use Rattle.slate_db.proofs.flush.stored.Goals as goal
 use Rattle.slate_db.proofs.flush.stored.Given as given
+
+or_large : {A B C : Type 0} → (B → C) → A ⊎ B → A ⊎ C
+or_large f (inl a) = inl a
+or_large f (inr b) = inr (f b)
 
 is_table : (g : given.Over) (c : goal.After-drop g) → IsTableOfFlush (changed_by g.T.BlockTransformer.encoded c.args.env.now.transformer) (layout_of c.args.options.now) c.args.number c.args.barrier (map (λ t. t.rows) c.args.frozen.now) (record { 0 = c.args.number * 2 ^ 64 }, c.in_ok-table.table.bytes)
 is_table g c = record {
@@ -16,26 +20,50 @@ is_table g c = record {
   read = read_again c.args.options.now.block_format c.in_ok-rows.rows.items c.in_ok-rows.ensures.fit;
 }
 
-pub returns-clause-stored : goal.returns-clause-stored
-returns-clause-stored g c =
-    c.put-kept.ensures.stored (changed_by g.T.BlockTransformer.encoded c.args.env.now.transformer) (layout_of c.args.options.now) c.args.number c.args.barrier (map (λ t. t.rows) c.args.frozen.now) (is_table g c)
-    (version_known c.args.options.now.block_format) c.in_ok-table.ensures.version c.in_ok-table.ensures.info
+pub returns : goal.returns
+returns g c =
+    record {
+      stored = (c.put-kept.ensures.stored (changed_by g.T.BlockTransformer.encoded c.args.env.now.transformer) (layout_of c.args.options.now) c.args.number c.args.barrier (map (λ t. t.rows) c.args.frozen.now) (is_table g c)
+          (version_known c.args.options.now.block_format) c.in_ok-table.ensures.version c.in_ok-table.ensures.info);
+      acts = c.put-kept.ensures.acts;
+      refused = c.put-kept.ensures.refused (changed_by g.T.BlockTransformer.encoded c.args.env.now.transformer) (layout_of c.args.options.now) c.args.number c.args.barrier (map (λ t. t.rows) c.args.frozen.now) (is_table g c);
+      cause = if_err c.put-kept.result _ _ (λ e h. inl h) c.put-kept.ensures.cause;
+      later = c.put-kept.ensures.later;
+      later_transformer = c.built.ensures.later;
+      same_encoded = c.built.ensures.same_encoded;
+      same_decoded = c.built.ensures.same_decoded;
+      operator = refl;
+      same_store = refl;
+    }
 
-pub returns-clause-refused : goal.returns-clause-refused
-returns-clause-refused g c =
-    c.put-kept.ensures.refused (changed_by g.T.BlockTransformer.encoded c.args.env.now.transformer) (layout_of c.args.options.now) c.args.number c.args.barrier (map (λ t. t.rows) c.args.frozen.now) (is_table g c)
+pub returns-in_err-rows : goal.returns-in_err-rows
+returns-in_err-rows g c =
+    let p = err_from_is_err_and c.from_residual.result c.from_residual.ensures.1 in
+    record {
+      stored = IfOk-from_err c.from_residual.result _ c.from_residual.ensures.0;
+      acts = IfOk-from_err c.from_residual.result _ c.from_residual.ensures.0;
+      refused = rw p.1 (may_keep _ _ _ (λ i. g.S.Store.objects c.args.env.now.store.now));
+      cause = rw (p.1, p.2) (inl (inl c.in_err-rows.ensures.cause));
+      later = omega arith;
+      later_transformer = omega arith;
+      same_encoded = refl;
+      same_decoded = refl;
+      operator = refl;
+      same_store = refl;
+    }
 
-pub returns-clause-cause : goal.returns-clause-cause
-returns-clause-cause g c = if_err c.put-kept.result _ _ (λ e h. inl h) c.put-kept.ensures.cause
-
-pub returns-in_err-rows-clause-stored : goal.returns-in_err-rows-clause-stored
-returns-in_err-rows-clause-stored g c = IfOk-from_err c.from_residual.result _ c.from_residual.ensures.0
-
-pub returns-in_err-rows-clause-acts : goal.returns-in_err-rows-clause-acts
-returns-in_err-rows-clause-acts g c = IfOk-from_err c.from_residual.result _ c.from_residual.ensures.0
-
-pub returns-in_err-table-clause-stored : goal.returns-in_err-table-clause-stored
-returns-in_err-table-clause-stored g c = IfOk-from_err c.from_residual-in_err-table.result _ c.from_residual-in_err-table.ensures.0
-
-pub returns-in_err-table-clause-acts : goal.returns-in_err-table-clause-acts
-returns-in_err-table-clause-acts g c = IfOk-from_err c.from_residual-in_err-table.result _ c.from_residual-in_err-table.ensures.0
+pub returns-in_err-table : goal.returns-in_err-table
+returns-in_err-table g c =
+    let p = err_from_is_err_and c.from_residual-in_err-table.result c.from_residual-in_err-table.ensures.1 in
+    record {
+      stored = IfOk-from_err c.from_residual-in_err-table.result _ c.from_residual-in_err-table.ensures.0;
+      acts = IfOk-from_err c.from_residual-in_err-table.result _ c.from_residual-in_err-table.ensures.0;
+      refused = rw p.1 (may_keep _ _ _ (λ i. g.S.Store.objects c.args.env.now.store.now));
+      cause = rw (p.1, p.2) (inr (or_large (λ large. (c.in_ok-rows.rows.items, c.in_ok-rows.ensures.folded, c.in_ok-rows.ensures.order, large)) c.in_err-table.ensures.cause));
+      later = omega arith;
+      later_transformer = c.built.ensures.later;
+      same_encoded = c.built.ensures.same_encoded;
+      same_decoded = c.built.ensures.same_decoded;
+      operator = refl;
+      same_store = refl;
+    }

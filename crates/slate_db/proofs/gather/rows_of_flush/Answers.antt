@@ -13,19 +13,13 @@ use Rattle.slate_db.proofs.gather.rows_of_flush.Goals as goal
 keys : (b : ℕ) (layers : List Rows) (out : Rows) (g : IsGathered b layers out) (k : List ℕ) → versions k g.sorted ≡ versions_in k layers
 keys b layers out g k = ap reverse (g.same k) ∙ all_versions_are k layers
 
-pub returns-clause-folded : goal.returns-clause-folded
-returns-clause-folded c =
-    if_ok c.gathered.result _ _ (λ rows g m. subst (λ (xs : Rows). IsFolded m c.args.barrier (map (λ t. t.rows) c.args.frozen.now) xs) (sym g.kept)
-    (flush_folds m c.args.barrier (map (λ t. t.rows) c.args.frozen.now) g.sorted g.order (keys _ _ _ g) c.requires.rise c.requires.fit)) c.gathered.ensures.rows
-
-pub returns-clause-order : goal.returns-clause-order
-returns-clause-order c =
-    if_ok c.gathered.result _ _ (λ rows g. subst AreInOrder (sym g.kept) (flush_order c.args.barrier (map (λ t. t.rows) c.args.frozen.now) g.sorted g.order (keys _ _ _ g) c.requires.rise)) c.gathered.ensures.rows
-
-pub returns-clause-fit : goal.returns-clause-fit
-returns-clause-fit c =
-    if_ok c.gathered.result _ _ (λ rows g. subst (AllByRecursion FitsMemory) (sym g.kept) (flush_fits c.args.barrier (map (λ t. t.rows) c.args.frozen.now) g.sorted (keys _ _ _ g) c.requires.fit)) c.gathered.ensures.rows
-
-pub returns-clause-some : goal.returns-clause-some
-returns-clause-some c =
-    if_ok c.gathered.result _ _ (λ rows g. subst (λ (xs : Rows). 0 < length xs) (sym g.kept) (flush_some c.args.barrier (map (λ t. t.rows) c.args.frozen.now) g.sorted (keys _ _ _ g) c.requires.some c.requires.each)) c.gathered.ensures.rows
+pub returns : goal.returns
+returns c =
+    record {
+      folded = (if_ok c.gathered.result _ _ (λ rows g m. subst (λ (xs : Rows). IsFolded m c.args.barrier (map (λ t. t.rows) c.args.frozen.now) xs) (sym g.kept)
+          (flush_folds m c.args.barrier (map (λ t. t.rows) c.args.frozen.now) g.sorted g.order (keys _ _ _ g) c.requires.rise c.requires.fit)) c.gathered.ensures.rows);
+      order = if_ok c.gathered.result _ _ (λ rows g. subst AreInOrder (sym g.kept) (flush_order c.args.barrier (map (λ t. t.rows) c.args.frozen.now) g.sorted g.order (keys _ _ _ g) c.requires.rise)) c.gathered.ensures.rows;
+      fit = if_ok c.gathered.result _ _ (λ rows g. subst (AllByRecursion FitsMemory) (sym g.kept) (flush_fits c.args.barrier (map (λ t. t.rows) c.args.frozen.now) g.sorted (keys _ _ _ g) c.requires.fit)) c.gathered.ensures.rows;
+      some = if_ok c.gathered.result _ _ (λ rows g. subst (λ (xs : Rows). 0 < length xs) (sym g.kept) (flush_some c.args.barrier (map (λ t. t.rows) c.args.frozen.now) g.sorted (keys _ _ _ g) c.requires.some c.requires.each)) c.gathered.ensures.rows;
+      cause = c.gathered.ensures.cause;
+    }

@@ -1,5 +1,5 @@
-use Rattle.std.proofs.Common.{Some, ◌≡◌, ◌+◌, ◌-◌, ◌∙◌, ◌++◌, false, drop, length, refl, rules, ap, arith}
-use Rattle.std.proofs.lemmas.Result.{err_from_is_err_and}
+use Rattle.std.proofs.Common.{Some, ◌≡◌, ◌+◌, ◌-◌, ◌∙◌, ◌++◌, false, drop, length, refl, rules, ap, arith, inl}
+use Rattle.std.proofs.lemmas.Result.{err_from_is_err_and, IfOk-from_err}
 use Rattle.slate_mem.specs.Table.{newest}
 use Rattle.slate_table.specs.SectionReading.{changed_by}
 use Rattle.slate_mem.specs.Lookup.{is_decided, newest_first}
@@ -45,42 +45,57 @@ loop-i-preserved g c =
           (c.loop-i.invariant.found layers os are (answering_first os _ _ _ _ c.loop-i.invariant.told c.newest_of_table.ensures.told answers) above h ∙ ap (λ j. newest c.args.key.now c.args.max_seq (above ++ newest_first (drop j layers))) next) undecided (c.in_ok-more.ensures.found at.rows os at.is (answering_last os _ _ _ _ _ c.loop-i.invariant.objects c.loop-i.invariant.told c.newest_of_table.ensures.told answers)) c.in_ok-append.ensures.items;
     }
 
-pub returns-clause-found : goal.returns-clause-found
-returns-clause-found g c layers os are answers above h =
-    elim c.loop-i-test.branch [
-      | then-loop-i-test+else-not-is_decided w ↦ layers_decide c.args.key.now c.args.max_seq c.loop-i.i above c.loop-i.found.items layers (c.loop-i.invariant.found layers os are answers above h) (search rules)
-      | else-loop-i-test w ↦ layers_end c.args.key.now c.args.max_seq c.loop-i.i above c.loop-i.found.items layers (c.loop-i.invariant.found layers os are answers above h) (omega (arith, w.loop-i-test.false))
-    ]
+pub returns : goal.returns
+returns g c =
+    record {
+      found = (λ layers os are answers above h.
+          elim c.loop-i-test.branch [
+            | then-loop-i-test+else-not-is_decided w ↦ layers_decide c.args.key.now c.args.max_seq c.loop-i.i above c.loop-i.found.items layers (c.loop-i.invariant.found layers os are answers above h) (search rules)
+            | else-loop-i-test w ↦ layers_end c.args.key.now c.args.max_seq c.loop-i.i above c.loop-i.found.items layers (c.loop-i.invariant.found layers os are answers above h) (omega (arith, w.loop-i-test.false))
+          ]);
+      whole = λ layers os are answers. tt;
+      cause = tt;
+      told = c.loop-i.invariant.told;
+      objects = c.loop-i.invariant.objects;
+      same_encoded = c.loop-i.invariant.encoded;
+      same_decoded = c.loop-i.invariant.decoded;
+      later = c.loop-i.invariant.later;
+      later_transformer = c.loop-i.invariant.later_transformer;
+    }
 
-pub returns-in_err-more-clause-same_encoded : goal.returns-in_err-more-clause-same_encoded
-returns-in_err-more-clause-same_encoded g c = c.newest_of_table.ensures.same_encoded ∙ c.loop-i.invariant.encoded
-
-pub returns-in_err-more-clause-same_decoded : goal.returns-in_err-more-clause-same_decoded
-returns-in_err-more-clause-same_decoded g c = c.newest_of_table.ensures.same_decoded ∙ c.loop-i.invariant.decoded
-
-pub returns-in_err-more-clause-whole : goal.returns-in_err-more-clause-whole
-returns-in_err-more-clause-whole g c layers os are answers =
-    let at = table_at (changed_by g.T.BlockTransformer.encoded c.args.transformer.now) (changed_by g.T.BlockTransformer.encoded c.loop-i.transformer) (changed_by g.T.BlockTransformer.decoded c.args.transformer.now) (changed_by g.T.BlockTransformer.decoded c.loop-i.transformer)
-    (Some os) (Some os) c.args.tables.now layers (c.loop-i.i - 1) c.index-tables-i.result c.loop-i.invariant.encoded c.loop-i.invariant.decoded refl are
-    (omega (arith, c.loop-i-test.true, c.loop-i.invariant.within)) c.index-tables-i.is in
+pub returns-in_err-more : goal.returns-in_err-more
+returns-in_err-more g c =
     let p = err_from_is_err_and c.from_residual.result c.from_residual.ensures.1 in
-    rw (p.1, p.2) (faults_earlier _ _ _ _ _ _ _ c.loop-i.invariant.later c.loop-i.invariant.later_transformer
-    (c.in_err-more.ensures.whole at.rows os at.is (answering_last os _ _ _ _ _ c.loop-i.invariant.objects c.loop-i.invariant.told c.newest_of_table.ensures.told answers)))
+    record {
+      found = λ layers os are answers. IfOk-from_err c.from_residual.result _ c.from_residual.ensures.0;
+      whole = (λ layers os are answers.
+          let at = table_at (changed_by g.T.BlockTransformer.encoded c.args.transformer.now) (changed_by g.T.BlockTransformer.encoded c.loop-i.transformer) (changed_by g.T.BlockTransformer.decoded c.args.transformer.now) (changed_by g.T.BlockTransformer.decoded c.loop-i.transformer)
+          (Some os) (Some os) c.args.tables.now layers (c.loop-i.i - 1) c.index-tables-i.result c.loop-i.invariant.encoded c.loop-i.invariant.decoded refl are
+          (omega (arith, c.loop-i-test.true, c.loop-i.invariant.within)) c.index-tables-i.is in
+          let p = err_from_is_err_and c.from_residual.result c.from_residual.ensures.1 in
+          rw (p.1, p.2) (faults_earlier _ _ _ _ _ _ _ c.loop-i.invariant.later c.loop-i.invariant.later_transformer
+          (c.in_err-more.ensures.whole at.rows os at.is (answering_last os _ _ _ _ _ c.loop-i.invariant.objects c.loop-i.invariant.told c.newest_of_table.ensures.told answers))));
+      cause = (rw (p.1, p.2) (cause_earlier _ _ _ _ _ _ _ c.loop-i.invariant.later c.loop-i.invariant.later_transformer
+          (at_table c.args.tables.now (c.loop-i.i - 1) c.index-tables-i.result _ (omega (arith, c.loop-i-test.true, c.loop-i.invariant.within)) c.index-tables-i.is c.in_err-more.ensures.cause)));
+      told = adds_both _ _ _ c.loop-i.invariant.told c.newest_of_table.ensures.told;
+      objects = c.newest_of_table.ensures.objects ∙ c.loop-i.invariant.objects;
+      same_encoded = c.newest_of_table.ensures.same_encoded ∙ c.loop-i.invariant.encoded;
+      same_decoded = c.newest_of_table.ensures.same_decoded ∙ c.loop-i.invariant.decoded;
+      later = omega (arith, c.loop-i.invariant.later, c.newest_of_table.ensures.later);
+      later_transformer = omega (arith, c.loop-i.invariant.later_transformer, c.newest_of_table.ensures.later_transformer);
+    }
 
-pub returns-in_err-more-clause-told : goal.returns-in_err-more-clause-told
-returns-in_err-more-clause-told g c = adds_both _ _ _ c.loop-i.invariant.told c.newest_of_table.ensures.told
-
-pub returns-in_err-append-clause-told : goal.returns-in_err-append-clause-told
-returns-in_err-append-clause-told g c = adds_both _ _ _ c.loop-i.invariant.told c.newest_of_table.ensures.told
-
-pub returns-in_err-append-clause-same_encoded : goal.returns-in_err-append-clause-same_encoded
-returns-in_err-append-clause-same_encoded g c = c.newest_of_table.ensures.same_encoded ∙ c.loop-i.invariant.encoded
-
-pub returns-in_err-append-clause-same_decoded : goal.returns-in_err-append-clause-same_decoded
-returns-in_err-append-clause-same_decoded g c = c.newest_of_table.ensures.same_decoded ∙ c.loop-i.invariant.decoded
-
-pub returns-in_err-more-clause-cause : goal.returns-in_err-more-clause-cause
-returns-in_err-more-clause-cause g c =
-    let p = err_from_is_err_and c.from_residual.result c.from_residual.ensures.1 in
-    rw (p.1, p.2) (cause_earlier _ _ _ _ _ _ _ c.loop-i.invariant.later c.loop-i.invariant.later_transformer
-    (at_table c.args.tables.now (c.loop-i.i - 1) c.index-tables-i.result _ (omega (arith, c.loop-i-test.true, c.loop-i.invariant.within)) c.index-tables-i.is c.in_err-more.ensures.cause))
+pub returns-in_err-append : goal.returns-in_err-append
+returns-in_err-append g c =
+    let p = err_from_is_err_and c.from_residual-in_err-append.result c.from_residual-in_err-append.ensures.1 in
+    record {
+      found = λ layers os are answers. IfOk-from_err c.from_residual-in_err-append.result _ c.from_residual-in_err-append.ensures.0;
+      whole = λ layers os are answers. let p = err_from_is_err_and c.from_residual-in_err-append.result c.from_residual-in_err-append.ensures.1 in rw (p.1, p.2) (inl (inl refl));
+      cause = rw (p.1, p.2) (inl (inl refl));
+      told = adds_both _ _ _ c.loop-i.invariant.told c.newest_of_table.ensures.told;
+      objects = c.newest_of_table.ensures.objects ∙ c.loop-i.invariant.objects;
+      same_encoded = c.newest_of_table.ensures.same_encoded ∙ c.loop-i.invariant.encoded;
+      same_decoded = c.newest_of_table.ensures.same_decoded ∙ c.loop-i.invariant.decoded;
+      later = omega (arith, c.loop-i.invariant.later, c.newest_of_table.ensures.later);
+      later_transformer = omega (arith, c.loop-i.invariant.later_transformer, c.newest_of_table.ensures.later_transformer);
+    }

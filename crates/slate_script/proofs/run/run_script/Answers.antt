@@ -1,4 +1,4 @@
-use Rattle.std.proofs.Common.{◌≤◌, ◌≡◌, ◌⊎◌, ◌<◌, ◌++◌, ◌∷◌, [], ℕ, IfSome, Some, Result, Ok, Err, take, length, ◌+◌, sym, ap, subst, ◌∙◌, arith, append_assoc, refl, inl, inr}
+use Rattle.std.proofs.Common.{◌≤◌, ◌≡◌, ◌⊎◌, ◌<◌, ◌++◌, ◌∷◌, [], ℕ, IfSome, Some, Result, Err, take, length, ◌+◌, sym, ap, subst, ◌∙◌, arith, append_assoc, refl, inl, inr}
 use Rattle.slate_types.specs.declared.error.SlateDBError.{SlateDBError}
 use Rattle.slate_types.specs.declared.error.SlateDBError.TheVariants.{ScriptTooLong, ReadFault, WriteFault, StoreFault, Callback, BlockTransformError}
 use Rattle.slate_txn.specs.State.{opening}
@@ -12,7 +12,7 @@ use Rattle.slate_store.specs.Lines.{lines_of}
 use Rattle.slate_script.proofs.Taken.{begin, answer-it, took-told, end-told}
 use Rattle.slate_script.proofs.Running.{begins}
 use Rattle.slate_script.proofs.TablesAlone.{begins-alone, stored-state}
-use Rattle.slate_script.proofs.RunEnds.{LineError, rose-from, never-less, later-on, line-cause, no-part, only-memory, store-rose, operator-rose, transformer-rose, reader-no-part, reader-not-write, reader-undamaged, reader-error, reader-complete, reader-kinds, reader-read, reader-full, line-not-long, line-not-read, line-kinds, line-read, line-complete, untouched, reader-script, reader-source, reader-memory, line-error, line-script, line-sink, line-memory, end-there, end-read, end-answered, end-formed, end-no_error}
+use Rattle.slate_script.proofs.RunEnds.{LineError, unless-error, is-no-error, rose-from, never-less, later-on, line-cause, no-part, only-memory, store-rose, operator-rose, transformer-rose, reader-no-part, reader-not-write, reader-undamaged, reader-error, reader-complete, reader-kinds, reader-read, reader-full, line-not-long, line-not-read, line-kinds, line-read, line-complete, untouched, reader-script, reader-source, reader-memory, line-error, line-script, line-sink, line-memory, end-there, end-read, end-answered, end-formed, end-no_error}
 use Rattle.slate_types.specs.Outside.{Objects}
 use Rattle.slate_db.specs.Meaning.{Meaning}
 use Rattle.slate_script.specs.Session.{IsSettled}
@@ -23,16 +23,6 @@ use Rattle.slate_script.proofs.run.run_script.Goals as goal
 
 same-error : {T : Type 0} (e f : SlateDBError) (r : Result T SlateDBError) → r ≡ Err e → r ≡ Err f → e ≡ f
 same-error e f r is was = cc
-
-unless-error : {T P : Type 0} (x : T) (e : SlateDBError) → (Ok x ≡ Err e) ⊎ P → P
-unless-error x e (inl is) = absurd (clash is)
-  where
-    clash : Ok x ≡ Err e → ⊥
-    clash h = cc
-unless-error x e (inr is) = is
-
-is-no-error : {V : Type 0} {v : V} {e : SlateDBError} → Ok v ≡ Err e → ⊥
-is-no-error h = cc
 
 -- an error of a step is the run's, and else no count rose
 error-or : {A B P Q : Type 0} (e f : SlateDBError) (step : Result A SlateDBError) (run : Result B SlateDBError) → step ≡ Err e → run ≡ Err e → (step ≡ Err f) ⊎ P → (P → Q) → (run ≡ Err f) ⊎ Q
@@ -68,101 +58,66 @@ loop-line-init g c = record {
 
 -- ---- at an error of the reader
 
-pub returns-in-Err-clause-source_still : goal.returns-in-Err-clause-source_still
-returns-in-Err-clause-source_still g c =
-    error-or c.in-Err.error ReadFault _ (Err c.in-Err.error) refl refl c.in-Err.ensures.still (λ h. h ∙ c.loop-line.invariant.source_still)
-
-pub returns-in-Err-clause-too_long : goal.returns-in-Err-clause-too_long
-returns-in-Err-clause-too_long g c script is long =
-    let kind : c.in-Err.error ≡ ScriptTooLong = same-error c.in-Err.error ScriptTooLong (Err c.in-Err.error) refl long in
-    let at = c.loop-line.invariant.told script is in
-    let told = c.in-Err.ensures.told at.left at.rest in
-    reader-full c.next.new.self told.0 (g.R.Source.left c.next.new.source) at told.2 (c.in-Err.ensures.too_long (ap Err kind)).0 told.1
-
-pub returns-in-Err-clause-error : goal.returns-in-Err-clause-error
-returns-in-Err-clause-error g c script is =
-    let at = c.loop-line.invariant.told script is in
-    let told = c.in-Err.ensures.told at.left at.rest in
-    (reader-error c.next.new.self told.0 c.in-Err.error at told.2 (λ h. c.in-Err.ensures.too_long (ap Err h)) c.in-Err.ensures.cause)
-
-pub returns-in-Err-clause-complete : goal.returns-in-Err-clause-complete
-returns-in-Err-clause-complete g c script is formed premises no-read no-write no-store no-operator no-transformer =
-    let at = c.loop-line.invariant.told script is in
-    let told = c.in-Err.ensures.told at.left at.rest in
-    let by = reader-error c.next.new.self told.0 c.in-Err.error at told.2 (λ h. c.in-Err.ensures.too_long (ap Err h)) c.in-Err.ensures.cause in
-    (reader-complete script c.in-Err.error by c.in-Err.ensures.cause formed (λ h. no-read (rose-from _ _ _ c.loop-line.invariant.source_later (c.in-Err.ensures.read_fault (ap Err h)).0)))
-
-pub returns-in-Err-clause-by_script : goal.returns-in-Err-clause-by_script
-returns-in-Err-clause-by_script g c script before is told-is premises =
-    let at = c.loop-line.invariant.told script is in
-    let told = c.in-Err.ensures.told at.left at.rest in
-    (λ by. reader-script c.next.new.self told.0 before c.in-Err.error at told.2 (λ h. c.in-Err.ensures.too_long (ap Err h)) c.in-Err.ensures.cause premises told-is by)
-
-pub returns-in-Err-clause-by_source : goal.returns-in-Err-clause-by_source
-returns-in-Err-clause-by_source g c script before is told-is premises fault =
-    let kind : c.in-Err.error ≡ ReadFault = same-error c.in-Err.error ReadFault (Err c.in-Err.error) refl fault in
-    let at = c.loop-line.invariant.told script is in
-    let told = c.in-Err.ensures.told at.left at.rest in
-    (told.0, replies_to meaning (run_rules c.args.options.now (meaning_of g.M.MergeOperator.combine g.T.BlockTransformer.encoded g.T.BlockTransformer.decoded c.args.env.now.operator c.args.env.now.transformer)) (lines_of at.done), told.1, at.said premises before told-is, reader-source c.next.new.self told.0 at told.2 (c.in-Err.ensures.read_fault (ap Err kind)).1)
-
-pub returns-in-Err-clause-by_part : goal.returns-in-Err-clause-by_part
-returns-in-Err-clause-by_part g c script before is told-is premises =
-    let at = c.loop-line.invariant.told script is in
-    (λ which. (replies_to meaning (run_rules c.args.options.now (meaning_of g.M.MergeOperator.combine g.T.BlockTransformer.encoded g.T.BlockTransformer.decoded c.args.env.now.operator c.args.env.now.transformer)) (lines_of at.done), at.said premises before told-is, reader-memory at))
-
-pub returns-in-Err-clause-undamaged : goal.returns-in-Err-clause-undamaged
-returns-in-Err-clause-undamaged g c premises =
-    (reader-undamaged c.in-Err.error c.in-Err.ensures.cause)
-
-pub returns-in-Err-clause-store_fault : goal.returns-in-Err-clause-store_fault
-returns-in-Err-clause-store_fault g c fault =
-    absurd (reader-no-part c.in-Err.error c.in-Err.ensures.cause (subst IsPartError (sym (same-error c.in-Err.error StoreFault (Err c.in-Err.error) refl fault)) tt))
-
-pub returns-in-Err-clause-operator_fault : goal.returns-in-Err-clause-operator_fault
-returns-in-Err-clause-operator_fault g c message fault =
-    absurd (reader-no-part c.in-Err.error c.in-Err.ensures.cause (subst IsPartError (sym (same-error c.in-Err.error (Callback message) (Err c.in-Err.error) refl fault)) tt))
-
-pub returns-in-Err-clause-transform_fault : goal.returns-in-Err-clause-transform_fault
-returns-in-Err-clause-transform_fault g c fault =
-    absurd (reader-no-part c.in-Err.error c.in-Err.ensures.cause (subst IsPartError (sym (same-error c.in-Err.error BlockTransformError (Err c.in-Err.error) refl fault)) tt))
-
-pub returns-in-Err-clause-kinds : goal.returns-in-Err-clause-kinds
-returns-in-Err-clause-kinds g c =
-    (reader-kinds c.in-Err.error c.in-Err.ensures.cause)
-
-pub returns-in-Err-clause-taken : goal.returns-in-Err-clause-taken
-returns-in-Err-clause-taken g c script is =
-    let at = c.loop-line.invariant.told script is in
-    let told = c.in-Err.ensures.told at.left at.rest in
-    reader-read c.next.new.self told.0 (g.R.Source.left c.next.new.source) at told.2 c.in-Err.ensures.within told.1
-
-pub returns-in-Err-clause-read_fault : goal.returns-in-Err-clause-read_fault
-returns-in-Err-clause-read_fault g c fault =
-    rose-from _ _ _ c.loop-line.invariant.source_later (c.in-Err.ensures.read_fault (ap Err (same-error c.in-Err.error ReadFault (Err c.in-Err.error) refl fault))).0
-
-pub returns-in-Err-clause-write_fault : goal.returns-in-Err-clause-write_fault
-returns-in-Err-clause-write_fault g c fault =
-    absurd (reader-not-write c.in-Err.error c.in-Err.ensures.cause (same-error c.in-Err.error WriteFault (Err c.in-Err.error) refl fault))
-
-pub returns-in-Err-clause-by_sink : goal.returns-in-Err-clause-by_sink
-returns-in-Err-clause-by_sink g c script before is told premises fault =
-    absurd (reader-not-write c.in-Err.error c.in-Err.ensures.cause (same-error c.in-Err.error WriteFault (Err c.in-Err.error) refl fault))
-
-pub returns-in-Err-clause-untrue : goal.returns-in-Err-clause-untrue
-returns-in-Err-clause-untrue g c lawful =
-    (λ damage. absurd (reader-undamaged c.in-Err.error c.in-Err.ensures.cause damage))
-
-pub returns-in-Err-clause-sink_still : goal.returns-in-Err-clause-sink_still
-returns-in-Err-clause-sink_still g c = inr c.loop-line.invariant.sink_still
-
-pub returns-in-Err-clause-later : goal.returns-in-Err-clause-later
-returns-in-Err-clause-later g c = (omega (arith, c.loop-line.invariant.source_later, c.next.ensures.later), c.loop-line.invariant.sink_later)
-
-pub returns-in-Err-clause-parts_later : goal.returns-in-Err-clause-parts_later
-returns-in-Err-clause-parts_later g c = c.loop-line.invariant.parts_later
-
-pub returns-in-Err-clause-same_store : goal.returns-in-Err-clause-same_store
-returns-in-Err-clause-same_store g c = c.loop-line.invariant.same_store
+pub returns-in-Err : goal.returns-in-Err
+returns-in-Err g c =
+    record {
+      answered = λ script before is told premises. tt;
+      stored = λ script is premises. tt;
+      read = λ script is. tt;
+      no_error = λ script is. tt;
+      error = (λ script is.
+          let at = c.loop-line.invariant.told script is in
+          let told = c.in-Err.ensures.told at.left at.rest in
+          (reader-error c.next.new.self told.0 c.in-Err.error at told.2 (λ h. c.in-Err.ensures.too_long (ap Err h)) c.in-Err.ensures.cause));
+      kinds = (reader-kinds c.in-Err.error c.in-Err.ensures.cause);
+      read_fault = (λ fault.
+          rose-from _ _ _ c.loop-line.invariant.source_later (c.in-Err.ensures.read_fault (ap Err (same-error c.in-Err.error ReadFault (Err c.in-Err.error) refl fault))).0);
+      write_fault = (λ fault.
+          absurd (reader-not-write c.in-Err.error c.in-Err.ensures.cause (same-error c.in-Err.error WriteFault (Err c.in-Err.error) refl fault)));
+      store_fault = (λ fault.
+          absurd (reader-no-part c.in-Err.error c.in-Err.ensures.cause (subst IsPartError (sym (same-error c.in-Err.error StoreFault (Err c.in-Err.error) refl fault)) tt)));
+      operator_fault = (λ message fault.
+          absurd (reader-no-part c.in-Err.error c.in-Err.ensures.cause (subst IsPartError (sym (same-error c.in-Err.error (Callback message) (Err c.in-Err.error) refl fault)) tt)));
+      transform_fault = (λ fault.
+          absurd (reader-no-part c.in-Err.error c.in-Err.ensures.cause (subst IsPartError (sym (same-error c.in-Err.error BlockTransformError (Err c.in-Err.error) refl fault)) tt)));
+      undamaged = (λ premises.
+          (reader-undamaged c.in-Err.error c.in-Err.ensures.cause));
+      untrue = (λ lawful.
+          (λ damage. absurd (reader-undamaged c.in-Err.error c.in-Err.ensures.cause damage)));
+      complete = (λ script is formed premises no-read no-write no-store no-operator no-transformer.
+          let at = c.loop-line.invariant.told script is in
+          let told = c.in-Err.ensures.told at.left at.rest in
+          let by = reader-error c.next.new.self told.0 c.in-Err.error at told.2 (λ h. c.in-Err.ensures.too_long (ap Err h)) c.in-Err.ensures.cause in
+          (reader-complete script c.in-Err.error by c.in-Err.ensures.cause formed (λ h. no-read (rose-from _ _ _ c.loop-line.invariant.source_later (c.in-Err.ensures.read_fault (ap Err h)).0))));
+      source_still = error-or c.in-Err.error ReadFault _ (Err c.in-Err.error) refl refl c.in-Err.ensures.still (λ h. h ∙ c.loop-line.invariant.source_still);
+      sink_still = inr c.loop-line.invariant.sink_still;
+      by_script = (λ script before is told-is premises.
+          let at = c.loop-line.invariant.told script is in
+          let told = c.in-Err.ensures.told at.left at.rest in
+          (λ by. reader-script c.next.new.self told.0 before c.in-Err.error at told.2 (λ h. c.in-Err.ensures.too_long (ap Err h)) c.in-Err.ensures.cause premises told-is by));
+      by_source = (λ script before is told-is premises fault.
+          let kind : c.in-Err.error ≡ ReadFault = same-error c.in-Err.error ReadFault (Err c.in-Err.error) refl fault in
+          let at = c.loop-line.invariant.told script is in
+          let told = c.in-Err.ensures.told at.left at.rest in
+          (told.0, replies_to meaning (run_rules c.args.options.now (meaning_of g.M.MergeOperator.combine g.T.BlockTransformer.encoded g.T.BlockTransformer.decoded c.args.env.now.operator c.args.env.now.transformer)) (lines_of at.done), told.1, at.said premises before told-is, reader-source c.next.new.self told.0 at told.2 (c.in-Err.ensures.read_fault (ap Err kind)).1));
+      by_sink = (λ script before is told premises fault.
+          absurd (reader-not-write c.in-Err.error c.in-Err.ensures.cause (same-error c.in-Err.error WriteFault (Err c.in-Err.error) refl fault)));
+      by_part = (λ script before is told-is premises.
+          let at = c.loop-line.invariant.told script is in
+          (λ which. (replies_to meaning (run_rules c.args.options.now (meaning_of g.M.MergeOperator.combine g.T.BlockTransformer.encoded g.T.BlockTransformer.decoded c.args.env.now.operator c.args.env.now.transformer)) (lines_of at.done), at.said premises before told-is, reader-memory at)));
+      too_long = (λ script is long.
+          let kind : c.in-Err.error ≡ ScriptTooLong = same-error c.in-Err.error ScriptTooLong (Err c.in-Err.error) refl long in
+          let at = c.loop-line.invariant.told script is in
+          let told = c.in-Err.ensures.told at.left at.rest in
+          reader-full c.next.new.self told.0 (g.R.Source.left c.next.new.source) at told.2 (c.in-Err.ensures.too_long (ap Err kind)).0 told.1);
+      taken = (λ script is.
+          let at = c.loop-line.invariant.told script is in
+          let told = c.in-Err.ensures.told at.left at.rest in
+          reader-read c.next.new.self told.0 (g.R.Source.left c.next.new.source) at told.2 c.in-Err.ensures.within told.1);
+      later = (omega (arith, c.loop-line.invariant.source_later, c.next.ensures.later), c.loop-line.invariant.sink_later);
+      same_store = c.loop-line.invariant.same_store;
+      parts_later = c.loop-line.invariant.parts_later;
+    }
 
 -- ---- at a line that isn't answered
 
@@ -172,106 +127,71 @@ its-cause g c =
     line-cause c.loop-line.session c.loop-line.number c.loop-line.lines.given c.in-Err-answer_line.error c.loop-line.invariant.weighs c.loop-line.invariant.loads c.loop-line.invariant.counted c.loop-line.invariant.within
     c.in-Err-answer_line.ensures.cause
 
-pub returns-in-Err-answer_line-clause-source_still : goal.returns-in-Err-answer_line-clause-source_still
-returns-in-Err-answer_line-clause-source_still g c = inr (unless-error c.in-Ok-Some.field-0 ReadFault c.in-Ok-Some.ensures.still ∙ c.loop-line.invariant.source_still)
-
-pub returns-in-Err-answer_line-clause-sink_still : goal.returns-in-Err-answer_line-clause-sink_still
-returns-in-Err-answer_line-clause-sink_still g c =
-    error-is-or c.in-Err-answer_line.error WriteFault (Err c.in-Err-answer_line.error) refl c.in-Err-answer_line.ensures.uncounted (λ h. h ∙ c.loop-line.invariant.sink_still)
-
-pub returns-in-Err-answer_line-clause-too_long : goal.returns-in-Err-answer_line-clause-too_long
-returns-in-Err-answer_line-clause-too_long g c script is long =
-    let kind : c.in-Err-answer_line.error ≡ ScriptTooLong = same-error c.in-Err-answer_line.error ScriptTooLong (Err c.in-Err-answer_line.error) refl long in
-    absurd (line-not-long (c.loop-line.number + 1) c.as_slice.result.now c.in-Err-answer_line.error (its-cause g c) kind)
-
-pub returns-in-Err-answer_line-clause-error : goal.returns-in-Err-answer_line-clause-error
-returns-in-Err-answer_line-clause-error g c script is =
-    let took = took-told (λ v. v.items) c.in-Ok-Some.field-0 c.in-Ok-Some.line c.as_slice.result.now (g.R.Source.left c.next.new.source) c.next.new.self c.in-Ok-Some.ensures.told c.in-Ok-Some.ensures.within c.in-Ok-Some.field-0-is c.as_slice.ensures.value (c.loop-line.invariant.told script is) in
-    (line-error c.in-Err-answer_line.error took (its-cause g c))
-
-pub returns-in-Err-answer_line-clause-complete : goal.returns-in-Err-answer_line-clause-complete
-returns-in-Err-answer_line-clause-complete g c script is formed premises no-read no-write no-store no-operator no-transformer =
-    let took = took-told (λ v. v.items) c.in-Ok-Some.field-0 c.in-Ok-Some.line c.as_slice.result.now (g.R.Source.left c.next.new.source) c.next.new.self c.in-Ok-Some.ensures.told c.in-Ok-Some.ensures.within c.in-Ok-Some.field-0-is c.as_slice.ensures.value (c.loop-line.invariant.told script is) in
-    let by = line-error c.in-Err-answer_line.error took (its-cause g c) in
-    (only-memory c.in-Err-answer_line.error (line-complete script c.as_slice.result.now (c.loop-line.number + 1) c.in-Err-answer_line.error by (its-cause g c) formed (λ h. no-write (rose-from _ _ _ c.loop-line.invariant.sink_later (c.in-Err-answer_line.ensures.write_fault (ap Err h)).0)))
-    (λ part. no-part (counts_of (g.S.Store.faults c.loop-line.env.store.now) g.M.MergeOperator.faults g.T.BlockTransformer.faults c.loop-line.env.operator c.loop-line.env.transformer) (counts_of (g.S.Store.faults c.answer_line.new.env.store.now) g.M.MergeOperator.faults g.T.BlockTransformer.faults c.answer_line.new.env.operator c.answer_line.new.env.transformer) c.in-Err-answer_line.error (λ h. no-store (rose-from _ _ _ c.loop-line.invariant.parts_later.store h)) (λ h. no-operator (rose-from _ _ _ c.loop-line.invariant.parts_later.operator h)) (λ h. no-transformer (rose-from _ _ _ c.loop-line.invariant.parts_later.transformer h))
-    (c.in-Err-answer_line.ensures.undamaged (meaning_of g.M.MergeOperator.combine g.T.BlockTransformer.encoded g.T.BlockTransformer.decoded c.args.env.now.operator c.args.env.now.transformer) (run_rules c.args.options.now (meaning_of g.M.MergeOperator.combine g.T.BlockTransformer.encoded g.T.BlockTransformer.decoded c.args.env.now.operator c.args.env.now.transformer)) (c.loop-line.invariant.running premises)) part (c.in-Err-answer_line.ensures.part part)))
-
-pub returns-in-Err-answer_line-clause-by_script : goal.returns-in-Err-answer_line-clause-by_script
-returns-in-Err-answer_line-clause-by_script g c script before is told-is premises =
-    let took = took-told (λ v. v.items) c.in-Ok-Some.field-0 c.in-Ok-Some.line c.as_slice.result.now (g.R.Source.left c.next.new.source) c.next.new.self c.in-Ok-Some.ensures.told c.in-Ok-Some.ensures.within c.in-Ok-Some.field-0-is c.as_slice.ensures.value (c.loop-line.invariant.told script is) in
-    (λ by. line-script (g.W.Sink.content c.answer_line.new.sink) before c.in-Err-answer_line.error took (its-cause g c) c.in-Err-answer_line.ensures.unanswered premises told-is by)
-
-pub returns-in-Err-answer_line-clause-by_sink : goal.returns-in-Err-answer_line-clause-by_sink
-returns-in-Err-answer_line-clause-by_sink g c script before is told-is premises fault =
-    let kind : c.in-Err-answer_line.error ≡ WriteFault = same-error c.in-Err-answer_line.error WriteFault (Err c.in-Err-answer_line.error) refl fault in
-    let took = took-told (λ v. v.items) c.in-Ok-Some.field-0 c.in-Ok-Some.line c.as_slice.result.now (g.R.Source.left c.next.new.source) c.next.new.self c.in-Ok-Some.ensures.told c.in-Ok-Some.ensures.within c.in-Ok-Some.field-0-is c.as_slice.ensures.value (c.loop-line.invariant.told script is) in
-    let done = replies_to meaning (run_rules c.args.options.now (meaning_of g.M.MergeOperator.combine g.T.BlockTransformer.encoded g.T.BlockTransformer.decoded c.args.env.now.operator c.args.env.now.transformer)) (lines_of took.done) in
-    let state = after_lines meaning (run_rules c.args.options.now (meaning_of g.M.MergeOperator.combine g.T.BlockTransformer.encoded g.T.BlockTransformer.decoded c.args.env.now.operator c.args.env.now.transformer)) opening (lines_of took.done) in
-    let reply = replies_from meaning (run_rules c.args.options.now (meaning_of g.M.MergeOperator.combine g.T.BlockTransformer.encoded g.T.BlockTransformer.decoded c.args.env.now.operator c.args.env.now.transformer)) state (c.as_slice.result.now ∷ []) in
-    let begun : (n : ℕ) × (n < length reply) × (g.W.Sink.content c.answer_line.new.sink ≡ Some ((before ++ done) ++ take n reply)) =
-    c.in-Err-answer_line.ensures.begun (meaning_of g.M.MergeOperator.combine g.T.BlockTransformer.encoded g.T.BlockTransformer.decoded c.args.env.now.operator c.args.env.now.transformer) (run_rules c.args.options.now (meaning_of g.M.MergeOperator.combine g.T.BlockTransformer.encoded g.T.BlockTransformer.decoded c.args.env.now.operator c.args.env.now.transformer)) (c.loop-line.invariant.running premises) state (before ++ done) (took.session premises) (took.said premises before told-is) (ap Err kind) in
-    (done ++ take begun.0 reply, begun.2 ∙ ap Some (append_assoc before done (take begun.0 reply)), line-sink begun.0 took (c.in-Err-answer_line.ensures.write_fault (ap Err kind)).1 begun.1)
-
-pub returns-in-Err-answer_line-clause-by_part : goal.returns-in-Err-answer_line-clause-by_part
-returns-in-Err-answer_line-clause-by_part g c script before is told-is premises =
-    let took = took-told (λ v. v.items) c.in-Ok-Some.field-0 c.in-Ok-Some.line c.as_slice.result.now (g.R.Source.left c.next.new.source) c.next.new.self c.in-Ok-Some.ensures.told c.in-Ok-Some.ensures.within c.in-Ok-Some.field-0-is c.as_slice.ensures.value (c.loop-line.invariant.told script is) in
-    (λ which. (
-      replies_to meaning (run_rules c.args.options.now (meaning_of g.M.MergeOperator.combine g.T.BlockTransformer.encoded g.T.BlockTransformer.decoded c.args.env.now.operator c.args.env.now.transformer)) (lines_of took.done),
-      untouched c.in-Err-answer_line.error (g.W.Sink.content c.loop-line.sink) (g.W.Sink.content c.answer_line.new.sink) c.in-Err-answer_line.ensures.unanswered which ∙ took.said premises before told-is,
-      line-memory took,
-    ))
-
-pub returns-in-Err-answer_line-clause-undamaged : goal.returns-in-Err-answer_line-clause-undamaged
-returns-in-Err-answer_line-clause-undamaged g c premises =
-    (c.in-Err-answer_line.ensures.undamaged (meaning_of g.M.MergeOperator.combine g.T.BlockTransformer.encoded g.T.BlockTransformer.decoded c.args.env.now.operator c.args.env.now.transformer) (run_rules c.args.options.now (meaning_of g.M.MergeOperator.combine g.T.BlockTransformer.encoded g.T.BlockTransformer.decoded c.args.env.now.operator c.args.env.now.transformer)) (c.loop-line.invariant.running premises))
-
-pub returns-in-Err-answer_line-clause-store_fault : goal.returns-in-Err-answer_line-clause-store_fault
-returns-in-Err-answer_line-clause-store_fault g c fault =
-    let kind : c.in-Err-answer_line.error ≡ StoreFault = same-error c.in-Err-answer_line.error StoreFault (Err c.in-Err-answer_line.error) refl fault in
-    rose-from _ _ _ c.loop-line.invariant.parts_later.store (store-rose (counts_of (g.S.Store.faults c.loop-line.env.store.now) g.M.MergeOperator.faults g.T.BlockTransformer.faults c.loop-line.env.operator c.loop-line.env.transformer) (counts_of (g.S.Store.faults c.answer_line.new.env.store.now) g.M.MergeOperator.faults g.T.BlockTransformer.faults c.answer_line.new.env.operator c.answer_line.new.env.transformer) c.in-Err-answer_line.error kind (c.in-Err-answer_line.ensures.part (subst IsPartError (sym kind) tt)))
-
-pub returns-in-Err-answer_line-clause-operator_fault : goal.returns-in-Err-answer_line-clause-operator_fault
-returns-in-Err-answer_line-clause-operator_fault g c message fault =
-    let kind : c.in-Err-answer_line.error ≡ (Callback message) = same-error c.in-Err-answer_line.error (Callback message) (Err c.in-Err-answer_line.error) refl fault in
-    rose-from _ _ _ c.loop-line.invariant.parts_later.operator (operator-rose (counts_of (g.S.Store.faults c.loop-line.env.store.now) g.M.MergeOperator.faults g.T.BlockTransformer.faults c.loop-line.env.operator c.loop-line.env.transformer) (counts_of (g.S.Store.faults c.answer_line.new.env.store.now) g.M.MergeOperator.faults g.T.BlockTransformer.faults c.answer_line.new.env.operator c.answer_line.new.env.transformer) c.in-Err-answer_line.error message kind (c.in-Err-answer_line.ensures.part (subst IsPartError (sym kind) tt)))
-
-pub returns-in-Err-answer_line-clause-transform_fault : goal.returns-in-Err-answer_line-clause-transform_fault
-returns-in-Err-answer_line-clause-transform_fault g c fault =
-    let kind : c.in-Err-answer_line.error ≡ BlockTransformError = same-error c.in-Err-answer_line.error BlockTransformError (Err c.in-Err-answer_line.error) refl fault in
-    rose-from _ _ _ c.loop-line.invariant.parts_later.transformer (transformer-rose (counts_of (g.S.Store.faults c.loop-line.env.store.now) g.M.MergeOperator.faults g.T.BlockTransformer.faults c.loop-line.env.operator c.loop-line.env.transformer) (counts_of (g.S.Store.faults c.answer_line.new.env.store.now) g.M.MergeOperator.faults g.T.BlockTransformer.faults c.answer_line.new.env.operator c.answer_line.new.env.transformer) c.in-Err-answer_line.error kind (c.in-Err-answer_line.ensures.part (subst IsPartError (sym kind) tt)))
-
-pub returns-in-Err-answer_line-clause-parts_later : goal.returns-in-Err-answer_line-clause-parts_later
-returns-in-Err-answer_line-clause-parts_later g c = later-on c.loop-line.invariant.parts_later c.answer_line.ensures.parts_later
-
-pub returns-in-Err-answer_line-clause-kinds : goal.returns-in-Err-answer_line-clause-kinds
-returns-in-Err-answer_line-clause-kinds g c =
-    (line-kinds (c.loop-line.number + 1) c.as_slice.result.now c.in-Err-answer_line.error (its-cause g c))
-
-pub returns-in-Err-answer_line-clause-taken : goal.returns-in-Err-answer_line-clause-taken
-returns-in-Err-answer_line-clause-taken g c script is =
-    let took = took-told (λ v. v.items) c.in-Ok-Some.field-0 c.in-Ok-Some.line c.as_slice.result.now (g.R.Source.left c.next.new.source) c.next.new.self c.in-Ok-Some.ensures.told c.in-Ok-Some.ensures.within c.in-Ok-Some.field-0-is c.as_slice.ensures.value (c.loop-line.invariant.told script is) in
-    line-read took c.in-Ok-Some.ensures.within
-
-pub returns-in-Err-answer_line-clause-untrue : goal.returns-in-Err-answer_line-clause-untrue
-returns-in-Err-answer_line-clause-untrue g c lawful =
-    (λ damage. untrue-on (meaning_of g.M.MergeOperator.combine g.T.BlockTransformer.encoded g.T.BlockTransformer.decoded c.args.env.now.operator c.args.env.now.transformer) c.loop-line.session (g.S.Store.acts c.args.env.now.store.now) (g.S.Store.acts c.loop-line.env.store.now) (g.S.Store.acts c.answer_line.new.env.store.now) (c.loop-line.invariant.followed lawful)
-    (subst (λ (m : Meaning). (os : Objects) → IsSettled m (Some os) c.loop-line.session → IsUntrue os (g.S.Store.acts c.loop-line.env.store.now) (g.S.Store.acts c.answer_line.new.env.store.now)) c.loop-line.invariant.meaning (λ os settled. c.in-Err-answer_line.ensures.untrue os settled damage)))
-
-pub returns-in-Err-answer_line-clause-read_fault : goal.returns-in-Err-answer_line-clause-read_fault
-returns-in-Err-answer_line-clause-read_fault g c fault = absurd (line-not-read (c.loop-line.number + 1) c.as_slice.result.now c.in-Err-answer_line.error (its-cause g c) (same-error c.in-Err-answer_line.error ReadFault (Err c.in-Err-answer_line.error) refl fault))
-
-pub returns-in-Err-answer_line-clause-by_source : goal.returns-in-Err-answer_line-clause-by_source
-returns-in-Err-answer_line-clause-by_source g c script before is told premises fault = absurd (line-not-read (c.loop-line.number + 1) c.as_slice.result.now c.in-Err-answer_line.error (its-cause g c) (same-error c.in-Err-answer_line.error ReadFault (Err c.in-Err-answer_line.error) refl fault))
-
-pub returns-in-Err-answer_line-clause-write_fault : goal.returns-in-Err-answer_line-clause-write_fault
-returns-in-Err-answer_line-clause-write_fault g c fault = rose-from _ _ _ c.loop-line.invariant.sink_later (c.in-Err-answer_line.ensures.write_fault (ap Err (same-error c.in-Err-answer_line.error WriteFault (Err c.in-Err-answer_line.error) refl fault))).0
-
-pub returns-in-Err-answer_line-clause-later : goal.returns-in-Err-answer_line-clause-later
-returns-in-Err-answer_line-clause-later g c = (omega (arith, c.loop-line.invariant.source_later, c.next.ensures.later), omega (arith, c.loop-line.invariant.sink_later, c.answer_line.ensures.later))
-
-pub returns-in-Err-answer_line-clause-same_store : goal.returns-in-Err-answer_line-clause-same_store
-returns-in-Err-answer_line-clause-same_store g c = c.answer_line.ensures.same_store ∙ c.loop-line.invariant.same_store
+pub returns-in-Err-answer_line : goal.returns-in-Err-answer_line
+returns-in-Err-answer_line g c =
+    record {
+      answered = λ script before is told premises. tt;
+      stored = λ script is premises. tt;
+      read = λ script is. tt;
+      no_error = λ script is. tt;
+      error = (λ script is.
+          let took = took-told (λ v. v.items) c.in-Ok-Some.field-0 c.in-Ok-Some.line c.as_slice.result.now (g.R.Source.left c.next.new.source) c.next.new.self c.in-Ok-Some.ensures.told c.in-Ok-Some.ensures.within c.in-Ok-Some.field-0-is c.as_slice.ensures.value (c.loop-line.invariant.told script is) in
+          (line-error c.in-Err-answer_line.error took (its-cause g c)));
+      kinds = (line-kinds (c.loop-line.number + 1) c.as_slice.result.now c.in-Err-answer_line.error (its-cause g c));
+      read_fault = λ fault. absurd (line-not-read (c.loop-line.number + 1) c.as_slice.result.now c.in-Err-answer_line.error (its-cause g c) (same-error c.in-Err-answer_line.error ReadFault (Err c.in-Err-answer_line.error) refl fault));
+      write_fault = λ fault. rose-from _ _ _ c.loop-line.invariant.sink_later (c.in-Err-answer_line.ensures.write_fault (ap Err (same-error c.in-Err-answer_line.error WriteFault (Err c.in-Err-answer_line.error) refl fault))).0;
+      store_fault = (λ fault.
+          let kind : c.in-Err-answer_line.error ≡ StoreFault = same-error c.in-Err-answer_line.error StoreFault (Err c.in-Err-answer_line.error) refl fault in
+          rose-from _ _ _ c.loop-line.invariant.parts_later.store (store-rose (counts_of (g.S.Store.faults c.loop-line.env.store.now) g.M.MergeOperator.faults g.T.BlockTransformer.faults c.loop-line.env.operator c.loop-line.env.transformer) (counts_of (g.S.Store.faults c.answer_line.new.env.store.now) g.M.MergeOperator.faults g.T.BlockTransformer.faults c.answer_line.new.env.operator c.answer_line.new.env.transformer) c.in-Err-answer_line.error kind (c.in-Err-answer_line.ensures.part (subst IsPartError (sym kind) tt))));
+      operator_fault = (λ message fault.
+          let kind : c.in-Err-answer_line.error ≡ (Callback message) = same-error c.in-Err-answer_line.error (Callback message) (Err c.in-Err-answer_line.error) refl fault in
+          rose-from _ _ _ c.loop-line.invariant.parts_later.operator (operator-rose (counts_of (g.S.Store.faults c.loop-line.env.store.now) g.M.MergeOperator.faults g.T.BlockTransformer.faults c.loop-line.env.operator c.loop-line.env.transformer) (counts_of (g.S.Store.faults c.answer_line.new.env.store.now) g.M.MergeOperator.faults g.T.BlockTransformer.faults c.answer_line.new.env.operator c.answer_line.new.env.transformer) c.in-Err-answer_line.error message kind (c.in-Err-answer_line.ensures.part (subst IsPartError (sym kind) tt))));
+      transform_fault = (λ fault.
+          let kind : c.in-Err-answer_line.error ≡ BlockTransformError = same-error c.in-Err-answer_line.error BlockTransformError (Err c.in-Err-answer_line.error) refl fault in
+          rose-from _ _ _ c.loop-line.invariant.parts_later.transformer (transformer-rose (counts_of (g.S.Store.faults c.loop-line.env.store.now) g.M.MergeOperator.faults g.T.BlockTransformer.faults c.loop-line.env.operator c.loop-line.env.transformer) (counts_of (g.S.Store.faults c.answer_line.new.env.store.now) g.M.MergeOperator.faults g.T.BlockTransformer.faults c.answer_line.new.env.operator c.answer_line.new.env.transformer) c.in-Err-answer_line.error kind (c.in-Err-answer_line.ensures.part (subst IsPartError (sym kind) tt))));
+      undamaged = (λ premises.
+          (c.in-Err-answer_line.ensures.undamaged (meaning_of g.M.MergeOperator.combine g.T.BlockTransformer.encoded g.T.BlockTransformer.decoded c.args.env.now.operator c.args.env.now.transformer) (run_rules c.args.options.now (meaning_of g.M.MergeOperator.combine g.T.BlockTransformer.encoded g.T.BlockTransformer.decoded c.args.env.now.operator c.args.env.now.transformer)) (c.loop-line.invariant.running premises)));
+      untrue = (λ lawful.
+          (λ damage. untrue-on (meaning_of g.M.MergeOperator.combine g.T.BlockTransformer.encoded g.T.BlockTransformer.decoded c.args.env.now.operator c.args.env.now.transformer) c.loop-line.session (g.S.Store.acts c.args.env.now.store.now) (g.S.Store.acts c.loop-line.env.store.now) (g.S.Store.acts c.answer_line.new.env.store.now) (c.loop-line.invariant.followed lawful)
+          (subst (λ (m : Meaning). (os : Objects) → IsSettled m (Some os) c.loop-line.session → IsUntrue os (g.S.Store.acts c.loop-line.env.store.now) (g.S.Store.acts c.answer_line.new.env.store.now)) c.loop-line.invariant.meaning (λ os settled. c.in-Err-answer_line.ensures.untrue os settled damage))));
+      complete = (λ script is formed premises no-read no-write no-store no-operator no-transformer.
+          let took = took-told (λ v. v.items) c.in-Ok-Some.field-0 c.in-Ok-Some.line c.as_slice.result.now (g.R.Source.left c.next.new.source) c.next.new.self c.in-Ok-Some.ensures.told c.in-Ok-Some.ensures.within c.in-Ok-Some.field-0-is c.as_slice.ensures.value (c.loop-line.invariant.told script is) in
+          let by = line-error c.in-Err-answer_line.error took (its-cause g c) in
+          (only-memory c.in-Err-answer_line.error (line-complete script c.as_slice.result.now (c.loop-line.number + 1) c.in-Err-answer_line.error by (its-cause g c) formed (λ h. no-write (rose-from _ _ _ c.loop-line.invariant.sink_later (c.in-Err-answer_line.ensures.write_fault (ap Err h)).0)))
+          (λ part. no-part (counts_of (g.S.Store.faults c.loop-line.env.store.now) g.M.MergeOperator.faults g.T.BlockTransformer.faults c.loop-line.env.operator c.loop-line.env.transformer) (counts_of (g.S.Store.faults c.answer_line.new.env.store.now) g.M.MergeOperator.faults g.T.BlockTransformer.faults c.answer_line.new.env.operator c.answer_line.new.env.transformer) c.in-Err-answer_line.error (λ h. no-store (rose-from _ _ _ c.loop-line.invariant.parts_later.store h)) (λ h. no-operator (rose-from _ _ _ c.loop-line.invariant.parts_later.operator h)) (λ h. no-transformer (rose-from _ _ _ c.loop-line.invariant.parts_later.transformer h))
+          (c.in-Err-answer_line.ensures.undamaged (meaning_of g.M.MergeOperator.combine g.T.BlockTransformer.encoded g.T.BlockTransformer.decoded c.args.env.now.operator c.args.env.now.transformer) (run_rules c.args.options.now (meaning_of g.M.MergeOperator.combine g.T.BlockTransformer.encoded g.T.BlockTransformer.decoded c.args.env.now.operator c.args.env.now.transformer)) (c.loop-line.invariant.running premises)) part (c.in-Err-answer_line.ensures.part part))));
+      source_still = inr (unless-error c.in-Ok-Some.field-0 ReadFault c.in-Ok-Some.ensures.still ∙ c.loop-line.invariant.source_still);
+      sink_still = error-is-or c.in-Err-answer_line.error WriteFault (Err c.in-Err-answer_line.error) refl c.in-Err-answer_line.ensures.uncounted (λ h. h ∙ c.loop-line.invariant.sink_still);
+      by_script = (λ script before is told-is premises.
+          let took = took-told (λ v. v.items) c.in-Ok-Some.field-0 c.in-Ok-Some.line c.as_slice.result.now (g.R.Source.left c.next.new.source) c.next.new.self c.in-Ok-Some.ensures.told c.in-Ok-Some.ensures.within c.in-Ok-Some.field-0-is c.as_slice.ensures.value (c.loop-line.invariant.told script is) in
+          (λ by. line-script (g.W.Sink.content c.answer_line.new.sink) before c.in-Err-answer_line.error took (its-cause g c) c.in-Err-answer_line.ensures.unanswered premises told-is by));
+      by_source = λ script before is told premises fault. absurd (line-not-read (c.loop-line.number + 1) c.as_slice.result.now c.in-Err-answer_line.error (its-cause g c) (same-error c.in-Err-answer_line.error ReadFault (Err c.in-Err-answer_line.error) refl fault));
+      by_sink = (λ script before is told-is premises fault.
+          let kind : c.in-Err-answer_line.error ≡ WriteFault = same-error c.in-Err-answer_line.error WriteFault (Err c.in-Err-answer_line.error) refl fault in
+          let took = took-told (λ v. v.items) c.in-Ok-Some.field-0 c.in-Ok-Some.line c.as_slice.result.now (g.R.Source.left c.next.new.source) c.next.new.self c.in-Ok-Some.ensures.told c.in-Ok-Some.ensures.within c.in-Ok-Some.field-0-is c.as_slice.ensures.value (c.loop-line.invariant.told script is) in
+          let done = replies_to meaning (run_rules c.args.options.now (meaning_of g.M.MergeOperator.combine g.T.BlockTransformer.encoded g.T.BlockTransformer.decoded c.args.env.now.operator c.args.env.now.transformer)) (lines_of took.done) in
+          let state = after_lines meaning (run_rules c.args.options.now (meaning_of g.M.MergeOperator.combine g.T.BlockTransformer.encoded g.T.BlockTransformer.decoded c.args.env.now.operator c.args.env.now.transformer)) opening (lines_of took.done) in
+          let reply = replies_from meaning (run_rules c.args.options.now (meaning_of g.M.MergeOperator.combine g.T.BlockTransformer.encoded g.T.BlockTransformer.decoded c.args.env.now.operator c.args.env.now.transformer)) state (c.as_slice.result.now ∷ []) in
+          let begun : (n : ℕ) × (n < length reply) × (g.W.Sink.content c.answer_line.new.sink ≡ Some ((before ++ done) ++ take n reply)) =
+          c.in-Err-answer_line.ensures.begun (meaning_of g.M.MergeOperator.combine g.T.BlockTransformer.encoded g.T.BlockTransformer.decoded c.args.env.now.operator c.args.env.now.transformer) (run_rules c.args.options.now (meaning_of g.M.MergeOperator.combine g.T.BlockTransformer.encoded g.T.BlockTransformer.decoded c.args.env.now.operator c.args.env.now.transformer)) (c.loop-line.invariant.running premises) state (before ++ done) (took.session premises) (took.said premises before told-is) (ap Err kind) in
+          (done ++ take begun.0 reply, begun.2 ∙ ap Some (append_assoc before done (take begun.0 reply)), line-sink begun.0 took (c.in-Err-answer_line.ensures.write_fault (ap Err kind)).1 begun.1));
+      by_part = (λ script before is told-is premises.
+          let took = took-told (λ v. v.items) c.in-Ok-Some.field-0 c.in-Ok-Some.line c.as_slice.result.now (g.R.Source.left c.next.new.source) c.next.new.self c.in-Ok-Some.ensures.told c.in-Ok-Some.ensures.within c.in-Ok-Some.field-0-is c.as_slice.ensures.value (c.loop-line.invariant.told script is) in
+          (λ which. (
+            replies_to meaning (run_rules c.args.options.now (meaning_of g.M.MergeOperator.combine g.T.BlockTransformer.encoded g.T.BlockTransformer.decoded c.args.env.now.operator c.args.env.now.transformer)) (lines_of took.done),
+            untouched c.in-Err-answer_line.error (g.W.Sink.content c.loop-line.sink) (g.W.Sink.content c.answer_line.new.sink) c.in-Err-answer_line.ensures.unanswered which ∙ took.said premises before told-is,
+            line-memory took,
+          )));
+      too_long = (λ script is long.
+          let kind : c.in-Err-answer_line.error ≡ ScriptTooLong = same-error c.in-Err-answer_line.error ScriptTooLong (Err c.in-Err-answer_line.error) refl long in
+          absurd (line-not-long (c.loop-line.number + 1) c.as_slice.result.now c.in-Err-answer_line.error (its-cause g c) kind));
+      taken = (λ script is.
+          let took = took-told (λ v. v.items) c.in-Ok-Some.field-0 c.in-Ok-Some.line c.as_slice.result.now (g.R.Source.left c.next.new.source) c.next.new.self c.in-Ok-Some.ensures.told c.in-Ok-Some.ensures.within c.in-Ok-Some.field-0-is c.as_slice.ensures.value (c.loop-line.invariant.told script is) in
+          line-read took c.in-Ok-Some.ensures.within);
+      later = (omega (arith, c.loop-line.invariant.source_later, c.next.ensures.later), omega (arith, c.loop-line.invariant.sink_later, c.answer_line.ensures.later));
+      same_store = c.answer_line.ensures.same_store ∙ c.loop-line.invariant.same_store;
+      parts_later = later-on c.loop-line.invariant.parts_later c.answer_line.ensures.parts_later;
+    }
 
 -- ---- the next turn
 
@@ -308,77 +228,53 @@ loop-line-preserved g c = record {
 
 -- ---- the end
 
-pub returns-clause-answered : goal.returns-clause-answered
-returns-clause-answered g c script before is told premises =
-    let at = c.loop-line.invariant.told script is in
-    let end = end-told (λ v. v.items) c.in-Ok-None.field-0 (g.R.Source.left c.next.new.source) c.next.new.self c.in-Ok-None.ensures.told c.in-Ok-None.field-0-is at in
-    end-answered c.next.new.self end.0 before at end.2 premises told
-
-pub returns-clause-stored : goal.returns-clause-stored
-returns-clause-stored g c script is premises =
-    let m = meaning_of g.M.MergeOperator.combine g.T.BlockTransformer.encoded g.T.BlockTransformer.decoded c.args.env.now.operator c.args.env.now.transformer in
-    let r = run_rules c.args.options.now m in
-    let at = c.loop-line.invariant.told script is in
-    let end = end-told (λ v. v.items) c.in-Ok-None.field-0 (g.R.Source.left c.next.new.source) c.next.new.self c.in-Ok-None.ensures.told c.in-Ok-None.field-0-is at in
-    let running = c.loop-line.invariant.running premises in
-    stored-state m r (layout_of c.args.options.now) (g.S.Store.objects c.loop-line.env.store.now) c.loop-line.session (after_lines meaning r opening (lines_of script)) running.rules
-    (c.close-2.ensures.stores m running.settled.lawful running.settled.kept)
-    (subst (λ bs. StandsFor c.loop-line.session (after_lines meaning r opening (lines_of bs))) (sym (end-there c.next.new.self end.0 at end.2).0) (at.session premises))
-    (c.loop-line.invariant.alone premises)
-
-pub returns-clause-read : goal.returns-clause-read
-returns-clause-read g c script is =
-    let at = c.loop-line.invariant.told script is in
-    let end = end-told (λ v. v.items) c.in-Ok-None.field-0 (g.R.Source.left c.next.new.source) c.next.new.self c.in-Ok-None.ensures.told c.in-Ok-None.field-0-is at in
-    (end-formed c.next.new.self end.0 at end.2, end.1 ∙ ap Some (end-there c.next.new.self end.0 at end.2).2)
-
-pub returns-clause-no_error : goal.returns-clause-no_error
-returns-clause-no_error g c script is =
-    let at = c.loop-line.invariant.told script is in
-    let end = end-told (λ v. v.items) c.in-Ok-None.field-0 (g.R.Source.left c.next.new.source) c.next.new.self c.in-Ok-None.ensures.told c.in-Ok-None.field-0-is at in
-    end-no_error c.next.new.self end.0 at end.2
-
-pub returns-clause-taken : goal.returns-clause-taken
-returns-clause-taken g c script is =
-    let at = c.loop-line.invariant.told script is in
-    let end = end-told (λ v. v.items) c.in-Ok-None.field-0 (g.R.Source.left c.next.new.source) c.next.new.self c.in-Ok-None.ensures.told c.in-Ok-None.field-0-is at in
-    end-read c.next.new.self end.0 (g.R.Source.left c.next.new.source) at end.2 c.in-Ok-None.ensures.within end.1
-
-pub returns-clause-source_still : goal.returns-clause-source_still
-returns-clause-source_still g c = inr (unless-error c.in-Ok-None.field-0 ReadFault c.in-Ok-None.ensures.still ∙ c.loop-line.invariant.source_still)
-
-pub returns-clause-read_fault : goal.returns-clause-read_fault
-returns-clause-read_fault g c fault = absurd (is-no-error fault)
-
-pub returns-clause-write_fault : goal.returns-clause-write_fault
-returns-clause-write_fault g c fault = absurd (is-no-error fault)
-
-pub returns-clause-store_fault : goal.returns-clause-store_fault
-returns-clause-store_fault g c fault = absurd (is-no-error fault)
-
-pub returns-clause-transform_fault : goal.returns-clause-transform_fault
-returns-clause-transform_fault g c fault = absurd (is-no-error fault)
-
-pub returns-clause-operator_fault : goal.returns-clause-operator_fault
-returns-clause-operator_fault g c message fault = absurd (is-no-error fault)
-
-pub returns-clause-too_long : goal.returns-clause-too_long
-returns-clause-too_long g c script is long = absurd (is-no-error long)
-
-pub returns-clause-by_source : goal.returns-clause-by_source
-returns-clause-by_source g c script before is told premises fault = absurd (is-no-error fault)
-
-pub returns-clause-by_sink : goal.returns-clause-by_sink
-returns-clause-by_sink g c script before is told premises fault = absurd (is-no-error fault)
-
-pub returns-clause-sink_still : goal.returns-clause-sink_still
-returns-clause-sink_still g c = inr c.loop-line.invariant.sink_still
-
-pub returns-clause-later : goal.returns-clause-later
-returns-clause-later g c = (omega (arith, c.loop-line.invariant.source_later, c.next.ensures.later), c.loop-line.invariant.sink_later)
-
-pub returns-clause-parts_later : goal.returns-clause-parts_later
-returns-clause-parts_later g c = c.loop-line.invariant.parts_later
-
-pub returns-clause-same_store : goal.returns-clause-same_store
-returns-clause-same_store g c = c.loop-line.invariant.same_store
+pub returns : goal.returns
+returns g c =
+    record {
+      answered = (λ script before is told premises.
+          let at = c.loop-line.invariant.told script is in
+          let end = end-told (λ v. v.items) c.in-Ok-None.field-0 (g.R.Source.left c.next.new.source) c.next.new.self c.in-Ok-None.ensures.told c.in-Ok-None.field-0-is at in
+          end-answered c.next.new.self end.0 before at end.2 premises told);
+      stored = (λ script is premises.
+          let m = meaning_of g.M.MergeOperator.combine g.T.BlockTransformer.encoded g.T.BlockTransformer.decoded c.args.env.now.operator c.args.env.now.transformer in
+          let r = run_rules c.args.options.now m in
+          let at = c.loop-line.invariant.told script is in
+          let end = end-told (λ v. v.items) c.in-Ok-None.field-0 (g.R.Source.left c.next.new.source) c.next.new.self c.in-Ok-None.ensures.told c.in-Ok-None.field-0-is at in
+          let running = c.loop-line.invariant.running premises in
+          stored-state m r (layout_of c.args.options.now) (g.S.Store.objects c.loop-line.env.store.now) c.loop-line.session (after_lines meaning r opening (lines_of script)) running.rules
+          (c.close-2.ensures.stores m running.settled.lawful running.settled.kept)
+          (subst (λ bs. StandsFor c.loop-line.session (after_lines meaning r opening (lines_of bs))) (sym (end-there c.next.new.self end.0 at end.2).0) (at.session premises))
+          (c.loop-line.invariant.alone premises));
+      read = (λ script is.
+          let at = c.loop-line.invariant.told script is in
+          let end = end-told (λ v. v.items) c.in-Ok-None.field-0 (g.R.Source.left c.next.new.source) c.next.new.self c.in-Ok-None.ensures.told c.in-Ok-None.field-0-is at in
+          (end-formed c.next.new.self end.0 at end.2, end.1 ∙ ap Some (end-there c.next.new.self end.0 at end.2).2));
+      no_error = (λ script is.
+          let at = c.loop-line.invariant.told script is in
+          let end = end-told (λ v. v.items) c.in-Ok-None.field-0 (g.R.Source.left c.next.new.source) c.next.new.self c.in-Ok-None.ensures.told c.in-Ok-None.field-0-is at in
+          end-no_error c.next.new.self end.0 at end.2);
+      error = λ script is. tt;
+      kinds = tt;
+      read_fault = λ fault. absurd (is-no-error fault);
+      write_fault = λ fault. absurd (is-no-error fault);
+      store_fault = λ fault. absurd (is-no-error fault);
+      operator_fault = λ message fault. absurd (is-no-error fault);
+      transform_fault = λ fault. absurd (is-no-error fault);
+      undamaged = λ premises. tt;
+      untrue = λ lawful. tt;
+      complete = λ script is formed premises no-read no-write no-store no-operator no-transformer. tt;
+      source_still = inr (unless-error c.in-Ok-None.field-0 ReadFault c.in-Ok-None.ensures.still ∙ c.loop-line.invariant.source_still);
+      sink_still = inr c.loop-line.invariant.sink_still;
+      by_script = λ script before is told premises. tt;
+      by_source = λ script before is told premises fault. absurd (is-no-error fault);
+      by_sink = λ script before is told premises fault. absurd (is-no-error fault);
+      by_part = λ script before is told premises. tt;
+      too_long = λ script is long. absurd (is-no-error long);
+      taken = (λ script is.
+          let at = c.loop-line.invariant.told script is in
+          let end = end-told (λ v. v.items) c.in-Ok-None.field-0 (g.R.Source.left c.next.new.source) c.next.new.self c.in-Ok-None.ensures.told c.in-Ok-None.field-0-is at in
+          end-read c.next.new.self end.0 (g.R.Source.left c.next.new.source) at end.2 c.in-Ok-None.ensures.within end.1);
+      later = (omega (arith, c.loop-line.invariant.source_later, c.next.ensures.later), c.loop-line.invariant.sink_later);
+      same_store = c.loop-line.invariant.same_store;
+      parts_later = c.loop-line.invariant.parts_later;
+    }

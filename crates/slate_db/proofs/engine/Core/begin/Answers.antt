@@ -1,5 +1,5 @@
-use Rattle.std.proofs.Common.{◌≡◌, ℕ, List, ◌+◌, ◌++◌, ◌∷◌, [], length, refl, ap, sym, subst, ◌∙◌, arith, length-append}
-use Rattle.std.proofs.lemmas.Result.{IfOk-from_err}
+use Rattle.std.proofs.Common.{◌≡◌, ℕ, List, ◌+◌, ◌++◌, ◌∷◌, [], length, refl, ap, sym, subst, ◌∙◌, arith, length-append, inl, inr, ◌<◌}
+use Rattle.std.proofs.lemmas.Result.{IfOk-from_err, err_from_is_err_and}
 use Rattle.std.specs.BTreeMap.{insert_entry}
 use Rattle.slate_types.specs.Keys.{key_cmp}
 use Rattle.slate_txn.specs.declared.event.Event.TheVariants as events
@@ -15,7 +15,7 @@ use Rattle.slate_db.specs.Meaning.{rules_of}
 use Rattle.slate_db.specs.Model.{CoreModel}
 use Rattle.slate_db.specs.View.{view_of}
 use Rattle.slate_db.specs.Sound.{IsKept}
-use Rattle.slate_db.specs.Whole.{IsWhole}
+use Rattle.slate_db.specs.Whole.{IsWhole, LIMIT}
 use Rattle.slate_db.specs.Ids.{id_of}
 use Rattle.slate_db.proofs.Keeps.{same_model}
 use Rattle.slate_db.proofs.Journals.{apply_more}
@@ -87,14 +87,45 @@ stays c =
 pub invariant_of-self-in-Err : goal.invariant_of-self-in-Err
 invariant_of-self-in-Err c = subst (λ (v : CoreModel). IsWhole v c.self.inside.last c.self.inside.ids c.self.inside.runs c.self.inside.tables.items) (stays c) c.self.invariant
 
-pub returns-in-Err-clause-same : goal.returns-in-Err-clause-same
-returns-in-Err-clause-same c = sym (stays c) ∙ c.self.view_is
+pub returns-in-Err : goal.returns-in-Err
+returns-in-Err c =
+    record {
+      step = tt;
+      event = tt;
+      kept = tt;
+      same = sym (stays c) ∙ c.self.view_is;
+      limit = λ past. let place = subst (λ (v : CoreModel). LIMIT < length v.events + length v.state.txns + 2) (sym c.self.view_is) past in absurd (omega (arith, c.if-len.false, c.len.ensures, c.len-2.ensures.len, place));
+      cause = inl c.from.ensures;
+    }
 
-pub returns-in_err-open_at-clause-step : goal.returns-in_err-open_at-clause-step
-returns-in_err-open_at-clause-step c = IfOk-from_err c.from_residual.result _ c.from_residual.ensures.0
+pub returns-in_err-open_at : goal.returns-in_err-open_at
+returns-in_err-open_at c =
+    let p = err_from_is_err_and c.from_residual.result c.from_residual.ensures.1 in
+    record {
+      step = IfOk-from_err c.from_residual.result _ c.from_residual.ensures.0;
+      event = IfOk-from_err c.from_residual.result _ c.from_residual.ensures.0;
+      kept = IfOk-from_err c.from_residual.result _ c.from_residual.ensures.0;
+      same = rw p.1 (sym (same_model (view_of c.self.inside) (view_of (record c.self.inside { «open» = c.open_at.new.items })) refl refl (sym c.in_err-open_at.ensures.err) refl refl refl refl refl refl refl refl) ∙ c.self.view_is);
+      limit = λ past. let place = subst (λ (v : CoreModel). LIMIT < length v.events + length v.state.txns + 2) (sym c.self.view_is) past in absurd (omega (arith, c.if-len.false, c.len.ensures, c.len-2.ensures.len, place));
+      cause = rw (p.1, p.2) (inl c.in_err-open_at.ensures.cause);
+    }
 
-pub returns-in_err-open_at-clause-event : goal.returns-in_err-open_at-clause-event
-returns-in_err-open_at-clause-event c = IfOk-from_err c.from_residual.result _ c.from_residual.ensures.0
+pub returns-then-len : goal.returns-then-len
+returns-then-len c =
+    record {
+      step = tt;
+      event = tt;
+      kept = tt;
+      same = refl;
+      limit = λ past. refl;
+      cause = (let over : LIMIT < length c.self.inside.journal.events + length c.self.inside.«open».entries + 2 = omega (arith, c.if-len.true, c.len.ensures, c.len-2.ensures.len) in inr (refl, subst (λ (v : CoreModel). LIMIT < length v.events + length v.state.txns + 2) c.self.view_is over));
+    }
 
-pub returns-in_err-open_at-clause-kept : goal.returns-in_err-open_at-clause-kept
-returns-in_err-open_at-clause-kept c = IfOk-from_err c.from_residual.result _ c.from_residual.ensures.0
+pub returns-clause-same : goal.returns-clause-same
+returns-clause-same c = tt
+
+pub returns-clause-cause : goal.returns-clause-cause
+returns-clause-cause c = tt
+
+pub returns-clause-limit : goal.returns-clause-limit
+returns-clause-limit c = λ past. let place = subst (λ (v : CoreModel). LIMIT < length v.events + length v.state.txns + 2) (sym c.self.view_is) past in absurd (omega (arith, c.if-len.false, c.len.ensures, c.len-2.ensures.len, place))

@@ -8,7 +8,8 @@ use Rattle.slate_table.specs.SectionReading.{changed_by, IsTransformFault}
 use Rattle.slate_types.specs.declared.types.Ulid.{Ulid}
 use Rattle.slate_db.specs.Answered.{AddsTables}
 use Rattle.slate_db.specs.Installs.{tables_of}
-use Rattle.slate_db.specs.Flushed.{TooLarge, idle, layout_of}
+use Rattle.slate_db.specs.Frozen.{IsFrozen}
+use Rattle.slate_db.specs.Flushed.{Layout, TooLarge, idle, layout_of}
 use Rattle.slate_db.specs.Model.{CoreModel}
 use Rattle.slate_db.specs.Sound.{IsKept}
 use Rattle.slate_db.specs.Whole.{LIMIT}
@@ -38,88 +39,59 @@ install-requires g c =
 
 -- ---- no place
 
-pub returns-in_err-place_for_flush-clause-step : goal.returns-in_err-place_for_flush-clause-step
-returns-in_err-place_for_flush-clause-step g c = IfOk-from_err c.from_residual.result _ c.from_residual.ensures.0
-
-pub returns-in_err-place_for_flush-clause-installed : goal.returns-in_err-place_for_flush-clause-installed
-returns-in_err-place_for_flush-clause-installed g c = IfOk-from_err c.from_residual.result _ c.from_residual.ensures.0
-
-pub returns-in_err-place_for_flush-clause-acts : goal.returns-in_err-place_for_flush-clause-acts
-returns-in_err-place_for_flush-clause-acts g c = IfOk-from_err c.from_residual.result _ c.from_residual.ensures.0
-
-pub returns-in_err-place_for_flush-clause-taken : goal.returns-in_err-place_for_flush-clause-taken
-returns-in_err-place_for_flush-clause-taken g c = IfOk-from_err c.from_residual.result _ c.from_residual.ensures.0
-
-pub returns-in_err-place_for_flush-clause-refused : goal.returns-in_err-place_for_flush-clause-refused
-returns-in_err-place_for_flush-clause-refused g c =
+pub returns-in_err-place_for_flush : goal.returns-in_err-place_for_flush
+returns-in_err-place_for_flush g c =
     let p = err_from_is_err_and c.from_residual.result c.from_residual.ensures.1 in
-    rw p.1 (c.args.self.now, inl refl, refl, may_keep _ _ _ refl)
-
-pub returns-in_err-place_for_flush-clause-frozen : goal.returns-in_err-place_for_flush-clause-frozen
-returns-in_err-place_for_flush-clause-frozen g c h =
-    let p = err_from_is_err_and c.from_residual.result c.from_residual.ensures.1 in
-    no_fault LIMIT c.from_residual.result _ (p.1 ∙ ap Err p.2) (λ x. x) (inr c.in_err-place_for_flush.ensures.limit.0) h
-
-pub returns-in_err-place_for_flush-clause-cause : goal.returns-in_err-place_for_flush-clause-cause
-returns-in_err-place_for_flush-clause-cause g c =
-    let p = err_from_is_err_and c.from_residual.result c.from_residual.ensures.1 in
-    rw (p.1, p.2) (place_cause LIMIT c.args.self.now c.in_err-place_for_flush.field-0.0 c.in_err-place_for_flush.ensures.limit)
-
-pub returns-in_err-place_for_flush-clause-full : goal.returns-in_err-place_for_flush-clause-full
-returns-in_err-place_for_flush-clause-full g c h = refl
-
-pub returns-in_err-place_for_flush-clause-full_objects : goal.returns-in_err-place_for_flush-clause-full_objects
-returns-in_err-place_for_flush-clause-full_objects g c h = refl
-
-pub returns-in_err-place_for_flush-clause-kept : goal.returns-in_err-place_for_flush-clause-kept
-returns-in_err-place_for_flush-clause-kept g c m same k = k
-
-pub returns-in_err-place_for_flush-clause-settings : goal.returns-in_err-place_for_flush-clause-settings
-returns-in_err-place_for_flush-clause-settings g c = refl
+    record {
+      step = IfOk-from_err c.from_residual.result _ c.from_residual.ensures.0;
+      installed = IfOk-from_err c.from_residual.result _ c.from_residual.ensures.0;
+      acts = IfOk-from_err c.from_residual.result _ c.from_residual.ensures.0;
+      taken = IfOk-from_err c.from_residual.result _ c.from_residual.ensures.0;
+      refused = rw p.1 (c.args.self.now, inl refl, refl, may_keep _ _ _ refl);
+      frozen = (λ h.
+          let p = err_from_is_err_and c.from_residual.result c.from_residual.ensures.1 in
+          no_fault LIMIT c.from_residual.result _ (p.1 ∙ ap Err p.2) (λ x. x) (inr c.in_err-place_for_flush.ensures.limit.0) h);
+      full = λ h. refl;
+      full_objects = λ h. refl;
+      kept = λ m same k. k;
+      settings = refl;
+      limit = λ h. let p = err_from_is_err_and c.from_residual.result c.from_residual.ensures.1 in p.1 ∙ ap Err (p.2 ∙ c.in_err-place_for_flush.ensures.limit.0);
+      cause = rw (p.1, p.2) (place_cause LIMIT c.args.self.now c.in_err-place_for_flush.field-0.0 c.in_err-place_for_flush.ensures.limit);
+      later = omega arith;
+      later_transformer = omega arith;
+      same_encoded = refl;
+      same_decoded = refl;
+      operator = refl;
+      same_store = refl;
+    }
 
 -- ---- no freeze
 
-pub returns-in_err-freeze-clause-step : goal.returns-in_err-freeze-clause-step
-returns-in_err-freeze-clause-step g c = IfOk-from_err c.from_residual-in_err-freeze.result _ c.from_residual-in_err-freeze.ensures.0
-
-pub returns-in_err-freeze-clause-installed : goal.returns-in_err-freeze-clause-installed
-returns-in_err-freeze-clause-installed g c = IfOk-from_err c.from_residual-in_err-freeze.result _ c.from_residual-in_err-freeze.ensures.0
-
-pub returns-in_err-freeze-clause-acts : goal.returns-in_err-freeze-clause-acts
-returns-in_err-freeze-clause-acts g c = IfOk-from_err c.from_residual-in_err-freeze.result _ c.from_residual-in_err-freeze.ensures.0
-
-pub returns-in_err-freeze-clause-taken : goal.returns-in_err-freeze-clause-taken
-returns-in_err-freeze-clause-taken g c = IfOk-from_err c.from_residual-in_err-freeze.result _ c.from_residual-in_err-freeze.ensures.0
-
-pub returns-in_err-freeze-clause-refused : goal.returns-in_err-freeze-clause-refused
-returns-in_err-freeze-clause-refused g c =
+pub returns-in_err-freeze : goal.returns-in_err-freeze
+returns-in_err-freeze g c =
     let p = err_from_is_err_and c.from_residual-in_err-freeze.result c.from_residual-in_err-freeze.ensures.1 in
-    rw p.1 (c.freeze.new.self, inl (subst (λ (v : CoreModel). v ≡ record c.args.self.now { spare = v.spare }) (sym c.in_err-freeze.ensures.same) refl), refl, may_keep _ _ _ refl)
-
-pub returns-in_err-freeze-clause-frozen : goal.returns-in_err-freeze-clause-frozen
-returns-in_err-freeze-clause-frozen g c h =
-    let p = err_from_is_err_and c.from_residual-in_err-freeze.result c.from_residual-in_err-freeze.ensures.1 in
-    no_fault LIMIT c.from_residual-in_err-freeze.result _ (p.1 ∙ ap Err p.2) (λ x. x.0) c.in_err-freeze.ensures.cause h
-
-pub returns-in_err-freeze-clause-cause : goal.returns-in_err-freeze-clause-cause
-returns-in_err-freeze-clause-cause g c =
-    let p = err_from_is_err_and c.from_residual-in_err-freeze.result c.from_residual-in_err-freeze.ensures.1 in
-    rw (p.1, p.2) (freeze_cause LIMIT _ _ c.args.self.now c.in_err-freeze.field-0.0 (λ e. let t : false ≡ true = c.in_err-freeze.ensures.idle e in cc) c.in_err-freeze.ensures.cause)
-
-pub returns-in_err-freeze-clause-full : goal.returns-in_err-freeze-clause-full
-returns-in_err-freeze-clause-full g c h = c.in_err-freeze.ensures.same
-
-pub returns-in_err-freeze-clause-full_objects : goal.returns-in_err-freeze-clause-full_objects
-returns-in_err-freeze-clause-full_objects g c h = refl
-
-pub returns-in_err-freeze-clause-limit : goal.returns-in_err-freeze-clause-limit
-returns-in_err-freeze-clause-limit g c h = absurd (omega (arith, c.in_ok-place_for_flush.ensures.place, h))
-
-pub returns-in_err-freeze-clause-kept : goal.returns-in_err-freeze-clause-kept
-returns-in_err-freeze-clause-kept g c m same k = subst (λ (v : CoreModel). IsKept m v) (sym c.in_err-freeze.ensures.same) k
-
-pub returns-in_err-freeze-clause-settings : goal.returns-in_err-freeze-clause-settings
-returns-in_err-freeze-clause-settings g c = ap (λ (v : CoreModel). v.settings) c.in_err-freeze.ensures.same
+    record {
+      step = IfOk-from_err c.from_residual-in_err-freeze.result _ c.from_residual-in_err-freeze.ensures.0;
+      installed = IfOk-from_err c.from_residual-in_err-freeze.result _ c.from_residual-in_err-freeze.ensures.0;
+      acts = IfOk-from_err c.from_residual-in_err-freeze.result _ c.from_residual-in_err-freeze.ensures.0;
+      taken = IfOk-from_err c.from_residual-in_err-freeze.result _ c.from_residual-in_err-freeze.ensures.0;
+      refused = rw p.1 (c.freeze.new.self, inl (subst (λ (v : CoreModel). v ≡ record c.args.self.now { spare = v.spare }) (sym c.in_err-freeze.ensures.same) refl), refl, may_keep _ _ _ refl);
+      frozen = (λ h.
+          let p = err_from_is_err_and c.from_residual-in_err-freeze.result c.from_residual-in_err-freeze.ensures.1 in
+          no_fault LIMIT c.from_residual-in_err-freeze.result _ (p.1 ∙ ap Err p.2) (λ x. x.0) c.in_err-freeze.ensures.cause h);
+      full = λ h. c.in_err-freeze.ensures.same;
+      full_objects = λ h. refl;
+      kept = λ m same k. subst (λ (v : CoreModel). IsKept m v) (sym c.in_err-freeze.ensures.same) k;
+      settings = ap (λ (v : CoreModel). v.settings) c.in_err-freeze.ensures.same;
+      limit = λ h. absurd (omega (arith, c.in_ok-place_for_flush.ensures.place, h));
+      cause = rw (p.1, p.2) (freeze_cause LIMIT _ _ c.args.self.now c.in_err-freeze.field-0.0 (λ e. let t : false ≡ true = c.in_err-freeze.ensures.idle e in cc) c.in_err-freeze.ensures.cause);
+      later = omega arith;
+      later_transformer = omega arith;
+      same_encoded = refl;
+      same_decoded = refl;
+      operator = refl;
+      same_store = refl;
+    }
 
 -- ---- no rows
 
@@ -154,55 +126,60 @@ pub returns-then-is_empty-clause-kept : goal.returns-then-is_empty-clause-kept
 returns-then-is_empty-clause-kept g c m same k =
     kept_flushed m (view_of c.self.inside) c.self.inside.last (subst (λ (v : CoreModel). IsKept m v) (sym c.self.view_is) (c.in_ok-freeze.ensures.kept m k))
 
+pub returns-then-is_empty-clause-later : goal.returns-then-is_empty-clause-later
+returns-then-is_empty-clause-later g c = omega arith
+
+pub returns-then-is_empty-clause-later_transformer : goal.returns-then-is_empty-clause-later_transformer
+returns-then-is_empty-clause-later_transformer g c = omega arith
+
+pub returns-then-is_empty-clause-same_encoded : goal.returns-then-is_empty-clause-same_encoded
+returns-then-is_empty-clause-same_encoded g c = refl
+
+pub returns-then-is_empty-clause-same_decoded : goal.returns-then-is_empty-clause-same_decoded
+returns-then-is_empty-clause-same_decoded g c = refl
+
+pub returns-then-is_empty-clause-operator : goal.returns-then-is_empty-clause-operator
+returns-then-is_empty-clause-operator g c = refl
+
+pub returns-then-is_empty-clause-same_store : goal.returns-then-is_empty-clause-same_store
+returns-then-is_empty-clause-same_store g c = refl
+
+pub returns-then-is_empty-clause-refused : goal.returns-then-is_empty-clause-refused
+returns-then-is_empty-clause-refused g c = tt
+
+pub returns-then-is_empty-clause-cause : goal.returns-then-is_empty-clause-cause
+returns-then-is_empty-clause-cause g c = tt
+
 -- ---- the install
 
-pub returns-clause-step : goal.returns-clause-step
-returns-clause-step g c = steps_after c.install.result (changed_by g.T.BlockTransformer.encoded c.args.env.now.transformer) (layout_of c.args.options.now) c.args.self.now c.freeze.new.self c.install.new.self (g.S.Store.objects c.args.env.now.store.now) (g.S.Store.objects c.install.new.env.store.now) c.in_ok-freeze.ensures.event c.install.ensures.newest c.install.ensures.installed
+-- what refuses it, said of the core before the freeze
+behind : (layout : Layout) (old between : CoreModel) (A B : SlateDBError → Type 0) → IsFrozen old between → (e : SlateDBError) → A e ⊎ (B e ⊎ TooLarge layout between e) → A e ⊎ (B e ⊎ (((e ≡ errors.LimitReached LIMIT) × (LIMIT < passed old)) ⊎ TooLarge layout old e))
+behind layout old between A B froze e (inl store) = inl store
+behind layout old between A B froze e (inr (inl transform)) = inr (inl transform)
+behind layout old between A B froze e (inr (inr large)) = inr (inr (inr (too_large_before layout old between e froze large)))
 
-pub returns-clause-installed : goal.returns-clause-installed
-returns-clause-installed g c = installed_after c.install.result (changed_by g.T.BlockTransformer.encoded c.args.env.now.transformer) (layout_of c.args.options.now) c.args.self.now c.freeze.new.self c.install.new.self (g.S.Store.objects c.args.env.now.store.now) (g.S.Store.objects c.install.new.env.store.now) c.in_ok-freeze.ensures.event c.install.ensures.installed
-
-pub returns-clause-acts : goal.returns-clause-acts
-returns-clause-acts g c =
-    subst (λ (ts : List (Ulid × List ℕ)). OnOk c.install.result (AddsTables ts (tables_of c.install.new.self.events) (g.S.Store.acts c.args.env.now.store.now) (g.S.Store.acts c.install.new.env.store.now)))
-    (frozen_tables c.args.self.now c.freeze.new.self c.in_ok-freeze.ensures.event) c.install.ensures.acts
-
-pub returns-clause-taken : goal.returns-clause-taken
-returns-clause-taken g c = all_taken c.install.result (changed_by g.T.BlockTransformer.encoded c.args.env.now.transformer) (layout_of c.args.options.now) c.freeze.new.self c.install.new.self (g.S.Store.objects c.args.env.now.store.now) (g.S.Store.objects c.install.new.env.store.now) (frozen_idle c.args.self.now c.freeze.new.self c.in_ok-freeze.ensures.event) c.install.ensures.installed
-
-pub returns-clause-refused : goal.returns-clause-refused
-returns-clause-refused g c =
-    both_err c.install.result (λ same may. (c.freeze.new.self, inr c.in_ok-freeze.ensures.event, same, may)) c.install.ensures.same c.install.ensures.refused
-
-pub returns-clause-frozen : goal.returns-clause-frozen
-returns-clause-frozen g c = frozen_at_fault c.install.result c.args.self.now c.freeze.new.self c.install.new.self c.in_ok-freeze.ensures.event c.install.ensures.same
-
-pub returns-clause-full : goal.returns-clause-full
-returns-clause-full g c h = absurd (omega (arith, c.in_ok-place_for_flush.ensures.place, h))
-
-pub returns-clause-full_objects : goal.returns-clause-full_objects
-returns-clause-full_objects g c h = absurd (omega (arith, c.in_ok-place_for_flush.ensures.place, h))
-
-pub returns-clause-limit : goal.returns-clause-limit
-returns-clause-limit g c h = absurd (omega (arith, c.in_ok-place_for_flush.ensures.place, h))
-
-pub returns-clause-kept : goal.returns-clause-kept
-returns-clause-kept g c m same k = c.install.ensures.kept m same (c.in_ok-freeze.ensures.kept m k)
-
-pub returns-clause-settings : goal.returns-clause-settings
-returns-clause-settings g c = settled c.install.result (changed_by g.T.BlockTransformer.encoded c.args.env.now.transformer) (layout_of c.args.options.now) c.freeze.new.self c.install.new.self (g.S.Store.objects c.args.env.now.store.now) (g.S.Store.objects c.install.new.env.store.now) c.install.ensures.installed c.install.ensures.same ∙ frozen_settings c.args.self.now c.freeze.new.self c.in_ok-freeze.ensures.event
-
-pub returns-clause-cause : goal.returns-clause-cause
-returns-clause-cause g c =
-    cause_after c.install.result _ _ behind c.install.ensures.cause
-  where
-    behind : (e : SlateDBError) →
-        IsStoreFault (g.S.Store.faults c.args.env.now.store.now) (g.S.Store.faults c.install.new.env.store.now) e
-        ⊎ (IsTransformFault (faults_of g.T.BlockTransformer.faults c.args.env.now.transformer) (faults_of g.T.BlockTransformer.faults c.install.new.env.transformer) e
-        ⊎ TooLarge (layout_of c.args.options.now) c.freeze.new.self e) →
-        IsStoreFault (g.S.Store.faults c.args.env.now.store.now) (g.S.Store.faults c.install.new.env.store.now) e
-        ⊎ (IsTransformFault (faults_of g.T.BlockTransformer.faults c.args.env.now.transformer) (faults_of g.T.BlockTransformer.faults c.install.new.env.transformer) e
-        ⊎ (((e ≡ errors.LimitReached LIMIT) × (LIMIT < passed c.args.self.now)) ⊎ TooLarge (layout_of c.args.options.now) c.args.self.now e))
-    behind e (inl store) = inl store
-    behind e (inr (inl transform)) = inr (inl transform)
-    behind e (inr (inr large)) = inr (inr (inr (too_large_before (layout_of c.args.options.now) c.args.self.now c.freeze.new.self e c.in_ok-freeze.ensures.event large)))
+pub returns : goal.returns
+returns g c =
+    record {
+      step = steps_after c.install.result (changed_by g.T.BlockTransformer.encoded c.args.env.now.transformer) (layout_of c.args.options.now) c.args.self.now c.freeze.new.self c.install.new.self (g.S.Store.objects c.args.env.now.store.now) (g.S.Store.objects c.install.new.env.store.now) c.in_ok-freeze.ensures.event c.install.ensures.newest c.install.ensures.installed;
+      installed = installed_after c.install.result (changed_by g.T.BlockTransformer.encoded c.args.env.now.transformer) (layout_of c.args.options.now) c.args.self.now c.freeze.new.self c.install.new.self (g.S.Store.objects c.args.env.now.store.now) (g.S.Store.objects c.install.new.env.store.now) c.in_ok-freeze.ensures.event c.install.ensures.installed;
+      acts = (subst (λ (ts : List (Ulid × List ℕ)). OnOk c.install.result (AddsTables ts (tables_of c.install.new.self.events) (g.S.Store.acts c.args.env.now.store.now) (g.S.Store.acts c.install.new.env.store.now)))
+          (frozen_tables c.args.self.now c.freeze.new.self c.in_ok-freeze.ensures.event) c.install.ensures.acts);
+      taken = all_taken c.install.result (changed_by g.T.BlockTransformer.encoded c.args.env.now.transformer) (layout_of c.args.options.now) c.freeze.new.self c.install.new.self (g.S.Store.objects c.args.env.now.store.now) (g.S.Store.objects c.install.new.env.store.now) (frozen_idle c.args.self.now c.freeze.new.self c.in_ok-freeze.ensures.event) c.install.ensures.installed;
+      refused = both_err c.install.result (λ same may. (c.freeze.new.self, inr c.in_ok-freeze.ensures.event, same, may)) c.install.ensures.same c.install.ensures.refused;
+      frozen = frozen_at_fault c.install.result c.args.self.now c.freeze.new.self c.install.new.self c.in_ok-freeze.ensures.event c.install.ensures.same;
+      full = λ h. absurd (omega (arith, c.in_ok-place_for_flush.ensures.place, h));
+      full_objects = λ h. absurd (omega (arith, c.in_ok-place_for_flush.ensures.place, h));
+      kept = λ m same k. c.install.ensures.kept m same (c.in_ok-freeze.ensures.kept m k);
+      settings = settled c.install.result (changed_by g.T.BlockTransformer.encoded c.args.env.now.transformer) (layout_of c.args.options.now) c.freeze.new.self c.install.new.self (g.S.Store.objects c.args.env.now.store.now) (g.S.Store.objects c.install.new.env.store.now) c.install.ensures.installed c.install.ensures.same ∙ frozen_settings c.args.self.now c.freeze.new.self c.in_ok-freeze.ensures.event;
+      limit = λ h. absurd (omega (arith, c.in_ok-place_for_flush.ensures.place, h));
+      cause = (cause_after c.install.result _ _
+          (behind (layout_of c.args.options.now) c.args.self.now c.freeze.new.self (IsStoreFault (g.S.Store.faults c.args.env.now.store.now) (g.S.Store.faults c.install.new.env.store.now)) (IsTransformFault (faults_of g.T.BlockTransformer.faults c.args.env.now.transformer) (faults_of g.T.BlockTransformer.faults c.install.new.env.transformer)) c.in_ok-freeze.ensures.event)
+          c.install.ensures.cause);
+      later = c.install.ensures.later;
+      later_transformer = c.install.ensures.later_transformer;
+      same_encoded = c.install.ensures.same_encoded;
+      same_decoded = c.install.ensures.same_decoded;
+      operator = c.install.ensures.operator;
+      same_store = c.install.ensures.same_store;
+    }

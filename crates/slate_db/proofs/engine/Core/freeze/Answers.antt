@@ -1,7 +1,8 @@
-use Rattle.std.proofs.Common.{◌≡◌, ◌++◌, ◌∷◌, [], map, refl, ap, sym, subst, ◌∙◌, arith, inr, true, false}
-use Rattle.std.proofs.lemmas.Result.{IfOk-from_err}
+use Rattle.std.proofs.Common.{◌≡◌, ◌++◌, ◌∷◌, [], map, refl, ap, sym, subst, ◌∙◌, arith, inr, true, false, inl, true≢false, length, ◌<◌, ◌+◌}
+use Rattle.std.proofs.lemmas.Result.{IfOk-from_err, err_from_is_err_and}
 use Rattle.std.specs.Prelude.{Result, Ok, Err}
 use Rattle.std.proofs.lemmas.List.{map-append}
+use Rattle.slate_txn.specs.JournalModel.{JournalModel}
 use Rattle.slate_types.specs.declared.error.SlateDBError.{SlateDBError}
 use Rattle.slate_mem.specs.Table.{MemTableModel}
 use Rattle.slate_txn.specs.declared.event.Event.TheVariants as events
@@ -14,7 +15,7 @@ use Rattle.slate_db.specs.Meaning.{rules_of}
 use Rattle.slate_db.specs.Model.{CoreModel, Rows}
 use Rattle.slate_db.specs.View.{view_of}
 use Rattle.slate_db.specs.Sound.{IsKept}
-use Rattle.slate_db.specs.Whole.{IsWhole}
+use Rattle.slate_db.specs.Whole.{IsWhole, LIMIT}
 use Rattle.slate_db.proofs.Keeps.{same_model}
 use Rattle.slate_db.proofs.Journals.{apply_more}
 use Rattle.slate_db.proofs.Quiet.{quiet_frozen}
@@ -55,45 +56,50 @@ invariant_of-self-2 c =
     (some_rows _ (λ e. let t : true ≡ false = sym (c.is_empty.ensures.1 e) ∙ c.if-is_empty.false in cc))
     c.self.invariant)
 
-pub returns-clause-step : goal.returns-clause-step
-returns-clause-step c m =
-    sym (ap (λ v. step (rules_of v.settings m) v.state lines.Freeze) c.self.view_is)
-    ∙ (let n = sym c.self.invariant.last in λ i. ((becomes c i).state, Frozen (n i)))
+pub returns : goal.returns
+returns c =
+    record {
+      step = (λ m.
+          sym (ap (λ v. step (rules_of v.settings m) v.state lines.Freeze) c.self.view_is)
+          ∙ (let n = sym c.self.invariant.last in λ i. ((becomes c i).state, Frozen (n i))));
+      event = inr ((λ e. let t : true ≡ false = sym (c.is_empty.ensures.1 (ap (λ (v : CoreModel). v.active) c.self.view_is ∙ e)) ∙ c.if-is_empty.false in cc), sym (becomes c) ∙ ap (λ v. after_freeze v c.push_reserved-2.new.self.spare) c.self.view_is);
+      quiet = subst IsQuiet (sym (journal c)) (quiet_frozen c.self.inside.journal.events);
+      idle = λ none. refl;
+      kept = (λ m k.
+          subst (λ (v : CoreModel). IsKept m v) (becomes c)
+          (kept_freeze m (view_of c.self.inside) c.push_reserved-2.new.self.spare (subst (λ (v : CoreModel). IsKept m v) (sym c.self.view_is) k)));
+      same = tt;
+      limit = λ some past. let place = subst (λ (v : CoreModel). LIMIT < length v.events + length v.state.txns + 1) (sym c.self.view_is) past in absurd (omega (arith, c.if-len.false, c.len.ensures, c.len-2.ensures.len, place));
+      cause = tt;
+    }
 
-pub returns-clause-event : goal.returns-clause-event
-returns-clause-event c = inr ((λ e. let t : true ≡ false = sym (c.is_empty.ensures.1 (ap (λ (v : CoreModel). v.active) c.self.view_is ∙ e)) ∙ c.if-is_empty.false in cc), sym (becomes c) ∙ ap (λ v. after_freeze v c.push_reserved-2.new.self.spare) c.self.view_is)
+pub returns-in_err-reserve : goal.returns-in_err-reserve
+returns-in_err-reserve c =
+    let p = err_from_is_err_and c.from_residual.result c.from_residual.ensures.1 in
+    record {
+      step = IfOk-from_err c.from_residual.result _ c.from_residual.ensures.0;
+      event = IfOk-from_err c.from_residual.result _ c.from_residual.ensures.0;
+      quiet = IfOk-from_err c.from_residual.result _ c.from_residual.ensures.0;
+      idle = λ none. absurd (true≢false (sym (c.is_empty.ensures.1 (ap (λ (v : CoreModel). v.active) c.self.view_is ∙ none)) ∙ c.if-is_empty.false));
+      kept = IfOk-from_err c.from_residual.result _ c.from_residual.ensures.0;
+      same = rw p.1 (sym (same_model (view_of c.self.inside) (view_of (record c.self.inside { frozen = c.reserve.new.self })) refl refl refl refl refl refl refl refl refl (ap (λ ts. map (λ t. t.rows) ts) (sym c.reserve.ensures.items)) refl) ∙ c.self.view_is);
+      limit = λ some past. let place = subst (λ (v : CoreModel). LIMIT < length v.events + length v.state.txns + 1) (sym c.self.view_is) past in absurd (omega (arith, c.if-len.false, c.len.ensures, c.len-2.ensures.len, place));
+      cause = rw (p.1, p.2) (inl refl);
+    }
 
-pub returns-clause-quiet : goal.returns-clause-quiet
-returns-clause-quiet c = subst IsQuiet (sym (journal c)) (quiet_frozen c.self.inside.journal.events)
-
-pub returns-clause-kept : goal.returns-clause-kept
-returns-clause-kept c m k =
-    subst (λ (v : CoreModel). IsKept m v) (becomes c)
-    (kept_freeze m (view_of c.self.inside) c.push_reserved-2.new.self.spare (subst (λ (v : CoreModel). IsKept m v) (sym c.self.view_is) k))
-
-pub returns-in_err-reserve-clause-step : goal.returns-in_err-reserve-clause-step
-returns-in_err-reserve-clause-step c = IfOk-from_err c.from_residual.result _ c.from_residual.ensures.0
-
-pub returns-in_err-reserve-clause-event : goal.returns-in_err-reserve-clause-event
-returns-in_err-reserve-clause-event c = IfOk-from_err c.from_residual.result _ c.from_residual.ensures.0
-
-pub returns-in_err-reserve-clause-quiet : goal.returns-in_err-reserve-clause-quiet
-returns-in_err-reserve-clause-quiet c = IfOk-from_err c.from_residual.result _ c.from_residual.ensures.0
-
-pub returns-in_err-reserve-clause-kept : goal.returns-in_err-reserve-clause-kept
-returns-in_err-reserve-clause-kept c = IfOk-from_err c.from_residual.result _ c.from_residual.ensures.0
-
-pub returns-in_err-reserve-2-clause-step : goal.returns-in_err-reserve-2-clause-step
-returns-in_err-reserve-2-clause-step c = IfOk-from_err c.from_residual-in_err-reserve-2.result _ c.from_residual-in_err-reserve-2.ensures.0
-
-pub returns-in_err-reserve-2-clause-event : goal.returns-in_err-reserve-2-clause-event
-returns-in_err-reserve-2-clause-event c = IfOk-from_err c.from_residual-in_err-reserve-2.result _ c.from_residual-in_err-reserve-2.ensures.0
-
-pub returns-in_err-reserve-2-clause-quiet : goal.returns-in_err-reserve-2-clause-quiet
-returns-in_err-reserve-2-clause-quiet c = IfOk-from_err c.from_residual-in_err-reserve-2.result _ c.from_residual-in_err-reserve-2.ensures.0
-
-pub returns-in_err-reserve-2-clause-kept : goal.returns-in_err-reserve-2-clause-kept
-returns-in_err-reserve-2-clause-kept c = IfOk-from_err c.from_residual-in_err-reserve-2.result _ c.from_residual-in_err-reserve-2.ensures.0
+pub returns-in_err-reserve-2 : goal.returns-in_err-reserve-2
+returns-in_err-reserve-2 c =
+    let p = err_from_is_err_and c.from_residual-in_err-reserve-2.result c.from_residual-in_err-reserve-2.ensures.1 in
+    record {
+      step = IfOk-from_err c.from_residual-in_err-reserve-2.result _ c.from_residual-in_err-reserve-2.ensures.0;
+      event = IfOk-from_err c.from_residual-in_err-reserve-2.result _ c.from_residual-in_err-reserve-2.ensures.0;
+      quiet = IfOk-from_err c.from_residual-in_err-reserve-2.result _ c.from_residual-in_err-reserve-2.ensures.0;
+      idle = λ none. absurd (true≢false (sym (c.is_empty.ensures.1 (ap (λ (v : CoreModel). v.active) c.self.view_is ∙ none)) ∙ c.if-is_empty.false));
+      kept = IfOk-from_err c.from_residual-in_err-reserve-2.result _ c.from_residual-in_err-reserve-2.ensures.0;
+      same = rw p.1 (sym (subst (λ (j : JournalModel). view_of c.self.inside ≡ view_of (record c.self.inside { journal = j; frozen = c.reserve.new.self })) (sym c.in_err-reserve-2.ensures.err) (same_model (view_of c.self.inside) (view_of (record c.self.inside { frozen = c.reserve.new.self })) refl refl refl refl refl refl refl refl refl (ap (λ ts. map (λ t. t.rows) ts) (sym c.reserve.ensures.items)) refl)) ∙ c.self.view_is);
+      limit = λ some past. let place = subst (λ (v : CoreModel). LIMIT < length v.events + length v.state.txns + 1) (sym c.self.view_is) past in absurd (omega (arith, c.if-len.false, c.len.ensures, c.len-2.ensures.len, place));
+      cause = rw (p.1, p.2) (inl refl);
+    }
 
 pub returns-in_err-table-clause-step : goal.returns-in_err-table-clause-step
 returns-in_err-table-clause-step c = IfOk-from_err c.from_residual-in_err-table.result _ c.from_residual-in_err-table.ensures.0
@@ -106,3 +112,16 @@ returns-in_err-table-clause-quiet c = IfOk-from_err c.from_residual-in_err-table
 
 pub returns-in_err-table-clause-kept : goal.returns-in_err-table-clause-kept
 returns-in_err-table-clause-kept c = IfOk-from_err c.from_residual-in_err-table.result _ c.from_residual-in_err-table.ensures.0
+
+pub returns-then-len : goal.returns-then-len
+returns-then-len c =
+    record {
+      step = tt;
+      event = tt;
+      quiet = tt;
+      idle = λ none. absurd (true≢false (sym (c.is_empty.ensures.1 (ap (λ (v : CoreModel). v.active) c.self.view_is ∙ none)) ∙ c.if-is_empty.false));
+      kept = tt;
+      same = refl;
+      limit = λ some past. refl;
+      cause = (let over : LIMIT < length c.self.inside.journal.events + length c.self.inside.«open».entries + 1 = omega (arith, c.if-len.true, c.len.ensures, c.len-2.ensures.len) in inr (refl, subst (λ (v : CoreModel). LIMIT < length v.events + length v.state.txns + 1) c.self.view_is over));
+    }

@@ -1,5 +1,5 @@
-use Rattle.std.proofs.Common.{inl, inr, ◌≡◌, ℕ, ◌≤◌, List, [], ◌∷◌, ◌++◌, map, Option, Some, unwrap_or, option_map, refl, ap, sym, subst, ◌∙◌, append-nil}
-use Rattle.std.proofs.lemmas.Result.{IfOk-from_err}
+use Rattle.std.proofs.Common.{inl, inr, ◌≡◌, ℕ, ◌≤◌, List, [], ◌∷◌, ◌++◌, map, Option, Some, unwrap_or, option_map, refl, ap, sym, subst, ◌∙◌, append-nil, arith}
+use Rattle.std.proofs.lemmas.Result.{IfOk-from_err, err_from_is_err_and}
 use Rattle.std.specs.Prelude.{IfSome}
 use Rattle.slate_types.specs.Fold.{fold_rows}
 use Rattle.slate_mem.specs.Batch.{Ops, kept}
@@ -31,33 +31,78 @@ invariant_of-self g c =
     (same_model (view_of c.self.inside) (view_of (record c.self.inside { «open» = c.note_get.new.items })) refl refl (sym c.in-Err-note_get.ensures.err) refl refl refl refl refl refl refl refl)
     c.self.invariant
 
-pub returns-in_err-key-clause-told : goal.returns-in_err-key-clause-told
-returns-in_err-key-clause-told g c = adds_none _
+pub returns-in_err-key : goal.returns-in_err-key
+returns-in_err-key g c =
+    let p = err_from_is_err_and c.from_residual.result c.from_residual.ensures.1 in
+    record {
+      noted = IfOk-from_err c.from_residual.result _ c.from_residual.ensures.0;
+      answer = λ m has law kept held. IfOk-from_err c.from_residual.result _ c.from_residual.ensures.0;
+      whole = λ m has law kept held. let p = err_from_is_err_and c.from_residual.result c.from_residual.ensures.1 in rw (p.1, p.2) (inl (inl refl));
+      truthful = λ m os has law kept held answers. let p = err_from_is_err_and c.from_residual.result c.from_residual.ensures.1 in rw (p.1, p.2) (inl (inl refl));
+      same = rw p.1 refl;
+      kept = λ m k. k;
+      settings = refl;
+      cause = rw (p.1, p.2) (inl (inl refl));
+      told = adds_none _;
+      objects = refl;
+      same_encoded = refl;
+      same_decoded = refl;
+      same_combine = refl;
+      same_store = refl;
+      later = omega arith;
+      later_transformer = omega arith;
+      later_operator = omega arith;
+    }
 
-pub returns-in-Err-clause-whole : goal.returns-in-Err-clause-whole
-returns-in-Err-clause-whole g c m has law kept held =
-    let here = held_by _ _ held in
-    c.in-Err.ensures.whole m here.0 has law kept here.2 (inl here.1)
+pub returns-in-Err : goal.returns-in-Err
+returns-in-Err g c =
+    record {
+      noted = tt;
+      answer = λ m has law kept held. tt;
+      whole = (λ m has law kept held.
+          let here = held_by _ _ held in
+          c.in-Err.ensures.whole m here.0 has law kept here.2 (inl here.1));
+      truthful = (λ m os has law kept held answers.
+          c.in-Err.ensures.whole m os has law kept held (inr answers));
+      same = refl;
+      kept = λ m k. k;
+      settings = refl;
+      cause = c.in-Err.ensures.cause;
+      told = c.seen.ensures.told;
+      objects = c.seen.ensures.objects;
+      same_encoded = c.seen.ensures.same_encoded;
+      same_decoded = c.seen.ensures.same_decoded;
+      same_combine = c.seen.ensures.same_combine;
+      same_store = c.seen.ensures.same_store;
+      later = c.seen.ensures.later;
+      later_transformer = c.seen.ensures.later_transformer;
+      later_operator = c.seen.ensures.later_operator;
+    }
 
-pub returns-in-Err-clause-truthful : goal.returns-in-Err-clause-truthful
-returns-in-Err-clause-truthful g c m os has law kept held answers =
-    c.in-Err.ensures.whole m os has law kept held (inr answers)
-
-pub returns-in-Err-note_get-clause-kept : goal.returns-in-Err-note_get-clause-kept
-returns-in-Err-note_get-clause-kept g c m kept_m =
-    subst (λ (v : CoreModel). IsKept m v)
-    (same_model (view_of c.self.inside) (view_of (record c.self.inside { «open» = c.note_get.new.items })) refl refl (sym c.in-Err-note_get.ensures.err) refl refl refl refl refl refl refl refl)
-    (subst (λ (v : CoreModel). IsKept m v) (sym c.self.view_is) kept_m)
-
-pub returns-in-Err-note_get-clause-same : goal.returns-in-Err-note_get-clause-same
-returns-in-Err-note_get-clause-same g c =
-    sym (same_model (view_of c.self.inside) (view_of (record c.self.inside { «open» = c.note_get.new.items })) refl refl (sym c.in-Err-note_get.ensures.err) refl refl refl refl refl refl refl refl) ∙ c.self.view_is
-
-pub returns-in-Err-note_get-clause-settings : goal.returns-in-Err-note_get-clause-settings
-returns-in-Err-note_get-clause-settings g c = ap (λ (v : CoreModel). v.settings) c.self.view_is
-
-pub returns-in-Err-clause-cause : goal.returns-in-Err-clause-cause
-returns-in-Err-clause-cause g c = c.in-Err.ensures.cause
+pub returns-in-Err-note_get : goal.returns-in-Err-note_get
+returns-in-Err-note_get g c =
+    record {
+      noted = tt;
+      answer = λ m has law kept held. tt;
+      whole = λ m has law kept held. inl (inl c.from.ensures);
+      truthful = λ m os has law kept held answers. inl (inl c.from.ensures);
+      same = sym (same_model (view_of c.self.inside) (view_of (record c.self.inside { «open» = c.note_get.new.items })) refl refl (sym c.in-Err-note_get.ensures.err) refl refl refl refl refl refl refl refl) ∙ c.self.view_is;
+      kept = (λ m kept_m.
+          subst (λ (v : CoreModel). IsKept m v)
+          (same_model (view_of c.self.inside) (view_of (record c.self.inside { «open» = c.note_get.new.items })) refl refl (sym c.in-Err-note_get.ensures.err) refl refl refl refl refl refl refl refl)
+          (subst (λ (v : CoreModel). IsKept m v) (sym c.self.view_is) kept_m));
+      settings = ap (λ (v : CoreModel). v.settings) c.self.view_is;
+      cause = inl (inl c.from.ensures);
+      told = c.seen.ensures.told;
+      objects = c.seen.ensures.objects;
+      same_encoded = c.seen.ensures.same_encoded;
+      same_decoded = c.seen.ensures.same_decoded;
+      same_combine = c.seen.ensures.same_combine;
+      same_store = c.seen.ensures.same_store;
+      later = c.seen.ensures.later;
+      later_transformer = c.seen.ensures.later_transformer;
+      later_operator = c.seen.ensures.later_operator;
+    }
 
 -- the step that is noted
 abbrev noted_step : (g : given.Over) → goal.In_default-note_get g → TranscriptStep
@@ -79,9 +124,6 @@ invariant_of-self-2 g c =
     subst (λ (v : CoreModel). IsWhole v c.self.inside.last c.self.inside.ids c.self.inside.runs c.self.inside.tables.items) (becomes g c)
     (whole_note (view_of c.self.inside) c.self.inside.last c.self.inside.ids _ _ c.args.id.now (noted_step g c ∷ []) c.self.invariant)
 
-pub returns-clause-noted : goal.returns-clause-noted
-returns-clause-noted g c = sym (becomes g c) ∙ ap (λ v. after_note v c.args.id.now (noted_step g c ∷ [])) c.self.view_is
-
 -- the transaction that reads
 abbrev reader : (g : given.Over) → goal.In_default-note_get g → Tx
 reader g c = (t_of g c).value
@@ -101,32 +143,42 @@ from_floor g c =
     (subst (λ (v : CoreModel). v.floor ≤ (reader g c).begin) c.self.view_is
     (found_all (λ (t : Tx). (c.self.inside.floor ≤ t.begin) × (t.begin ≤ c.self.inside.last)) c.args.id.now c.self.inside.«open».entries (reader g c) c.self.invariant.begins (reader_is g c)).0)
 
-pub returns-clause-answer : goal.returns-clause-answer
-returns-clause-answer g c m has law kept_m held =
-    let r = rules_of c.args.self.now.settings m in
-    let k = c.args.key.now in
-    let commits = c.args.self.now.state.commits in
-    let here = held_by _ _ held in
-    let row : c.in-Ok.row ≡ fold_rows (combine_of m k) (key_rows r k (up_to (reader g c).begin commits) ++ map (own_row k) (kept (reader g c).ops k)) =
-    c.in-Ok.ensures.row m here.0 has law kept_m here.2 (inl here.1) (from_floor g c)
-    ∙ ap (λ (j : List ℕ). fold_rows (combine_of m j) (key_rows r j (up_to c.in-Some.at commits))) c.in_ok-key.ensures
-    ∙ ap (λ n. fold_rows (combine_of m k) (key_rows r k (up_to n commits))) (begin_is g c)
-    ∙ ap (fold_rows (combine_of m k)) (sym (append-nil (key_rows r k (up_to (reader g c).begin commits))))
-    ∙ ap (λ (os : Ops). fold_rows (combine_of m k) (key_rows r k (up_to (reader g c).begin commits) ++ map (own_row k) (kept os k))) (no_ops g c) in
-    let found : find_named c.args.id.now c.args.self.now.state.txns ≡ Some (reader g c) = ap (λ (v : CoreModel). find_named c.args.id.now v.state.txns) (sym c.self.view_is) ∙ reader_is g c in
-    step_get r c.args.self.now.state c.args.id.now k (reader g c) c.in-Ok.row found row
-    ∙ (let a = sym c.answer-found.ensures in λ j. (noted c.args.self.now.state c.args.id.now (steps.Get k (a j) ∷ []), Found (a j)))
-    ∙ (let v = sym c.self.view_is in λ j. (noted (v j).state c.args.id.now (noted_step g c ∷ []), Found c.answer-found.result))
-    ∙ (λ j. ((becomes g c j).state, Found c.answer-found.result))
-
-pub returns-clause-kept : goal.returns-clause-kept
-returns-clause-kept g c m kept_m =
-    subst (λ (v : CoreModel). IsKept m v) (becomes g c)
-    (kept_event m (view_of c.self.inside) (noted (view_of c.self.inside).state c.args.id.now (noted_step g c ∷ [])) c.self.inside.journal.events c.self.inside.journal.spare refl refl refl
-    (subst (λ (v : CoreModel). IsKept m v) (sym c.self.view_is) kept_m))
-
-pub returns-clause-settings : goal.returns-clause-settings
-returns-clause-settings g c = ap (λ (v : CoreModel). v.settings) c.self.view_is
-
-pub returns-in_err-key-clause-noted : goal.returns-in_err-key-clause-noted
-returns-in_err-key-clause-noted g c = IfOk-from_err c.from_residual.result _ c.from_residual.ensures.0
+pub returns : goal.returns
+returns g c =
+    record {
+      noted = sym (becomes g c) ∙ ap (λ v. after_note v c.args.id.now (noted_step g c ∷ [])) c.self.view_is;
+      answer = (λ m has law kept_m held.
+          let r = rules_of c.args.self.now.settings m in
+          let k = c.args.key.now in
+          let commits = c.args.self.now.state.commits in
+          let here = held_by _ _ held in
+          let row : c.in-Ok.row ≡ fold_rows (combine_of m k) (key_rows r k (up_to (reader g c).begin commits) ++ map (own_row k) (kept (reader g c).ops k)) =
+          c.in-Ok.ensures.row m here.0 has law kept_m here.2 (inl here.1) (from_floor g c)
+          ∙ ap (λ (j : List ℕ). fold_rows (combine_of m j) (key_rows r j (up_to c.in-Some.at commits))) c.in_ok-key.ensures
+          ∙ ap (λ n. fold_rows (combine_of m k) (key_rows r k (up_to n commits))) (begin_is g c)
+          ∙ ap (fold_rows (combine_of m k)) (sym (append-nil (key_rows r k (up_to (reader g c).begin commits))))
+          ∙ ap (λ (os : Ops). fold_rows (combine_of m k) (key_rows r k (up_to (reader g c).begin commits) ++ map (own_row k) (kept os k))) (no_ops g c) in
+          let found : find_named c.args.id.now c.args.self.now.state.txns ≡ Some (reader g c) = ap (λ (v : CoreModel). find_named c.args.id.now v.state.txns) (sym c.self.view_is) ∙ reader_is g c in
+          step_get r c.args.self.now.state c.args.id.now k (reader g c) c.in-Ok.row found row
+          ∙ (let a = sym c.answer-found.ensures in λ j. (noted c.args.self.now.state c.args.id.now (steps.Get k (a j) ∷ []), Found (a j)))
+          ∙ (let v = sym c.self.view_is in λ j. (noted (v j).state c.args.id.now (noted_step g c ∷ []), Found c.answer-found.result))
+          ∙ (λ j. ((becomes g c j).state, Found c.answer-found.result)));
+      whole = λ m has law kept held. tt;
+      truthful = λ m os has law kept held answers. tt;
+      same = tt;
+      kept = (λ m kept_m.
+          subst (λ (v : CoreModel). IsKept m v) (becomes g c)
+          (kept_event m (view_of c.self.inside) (noted (view_of c.self.inside).state c.args.id.now (noted_step g c ∷ [])) c.self.inside.journal.events c.self.inside.journal.spare refl refl refl
+          (subst (λ (v : CoreModel). IsKept m v) (sym c.self.view_is) kept_m)));
+      settings = ap (λ (v : CoreModel). v.settings) c.self.view_is;
+      cause = tt;
+      told = c.seen.ensures.told;
+      objects = c.seen.ensures.objects;
+      same_encoded = c.seen.ensures.same_encoded;
+      same_decoded = c.seen.ensures.same_decoded;
+      same_combine = c.seen.ensures.same_combine;
+      same_store = c.seen.ensures.same_store;
+      later = c.seen.ensures.later;
+      later_transformer = c.seen.ensures.later_transformer;
+      later_operator = c.seen.ensures.later_operator;
+    }

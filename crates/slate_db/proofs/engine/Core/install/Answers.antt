@@ -1,4 +1,4 @@
-use Rattle.std.proofs.Common.{◌≡◌, ℕ, ◌+◌, ◌<◌, ◌≤◌, ◌++◌, ◌∷◌, [], List, map, length, refl, ap, sym, subst, ◌∙◌, arith}
+use Rattle.std.proofs.Common.{◌≡◌, ℕ, ◌+◌, ◌<◌, ◌≤◌, ◌++◌, ◌∷◌, [], List, map, length, refl, ap, sym, subst, ◌∙◌, arith, inl}
 use Rattle.std.proofs.lemmas.Result.{err_from_is_err_and, IfOk-from_err}
 use Rattle.std.specs.Prelude.{Ok}
 use Rattle.slate_types.specs.declared.types.Ulid.{Ulid}
@@ -13,7 +13,7 @@ use Rattle.slate_txn.specs.Open.{least_begin}
 use Rattle.slate_db.specs.Flushed.{after_install, layout_of, CanFlush, IsTableOfFlush, MayFlush, MayTakeTable, TooLarge, stored}
 use Rattle.slate_db.specs.Answered.{AddsTables}
 use Rattle.slate_db.specs.Installs.{tables_of}
-use Rattle.slate_db.specs.Model.{CoreModel}
+use Rattle.slate_db.specs.Model.{CoreModel, IsSame}
 use Rattle.slate_db.specs.Sound.{IsKept}
 use Rattle.slate_db.specs.View.{view_of}
 use Rattle.slate_db.specs.Whole.{IsWhole, LIMIT}
@@ -86,81 +86,84 @@ stored-requires g c = record {
       (can_flush (view_of c.self.inside) c.self.inside.last c.self.inside.ids c.self.inside.runs c.self.inside.tables.items c.self.invariant (subst (λ (v : CoreModel). 0 < length v.frozen) (sym c.self.view_is) c.requires.some));
 }
 
-pub returns-clause-newest : goal.returns-clause-newest
-returns-clause-newest g c = c.self.invariant.last ∙ ap (λ (v : CoreModel). last_of v.settings.start_seq v.state.commits) c.self.view_is
-
-pub returns-clause-installed : goal.returns-clause-installed
-returns-clause-installed g c =
-    stored (table g c)
-    (sym (becomes g c) ∙ ap (λ (v : CoreModel). after_install v c.self.inside.last (table g c) c.push_reserved.new.self.spare) c.self.view_is)
-    (subst (λ (v : CoreModel). IsTableOfFlush (changed_by g.T.BlockTransformer.encoded c.args.env.now.transformer) (layout_of c.args.options.now) (length (tables_of v.events) + 1) (least_begin c.self.inside.last v.state.txns) v.frozen (table g c)) c.self.view_is (made g c))
-    c.in_ok-put.ensures.stored.taken
-
-pub returns-clause-kept : goal.returns-clause-kept
-returns-clause-kept g c m same k =
-    subst (λ (v : CoreModel). IsKept m v) (becomes g c)
-    (kept_install m (view_of c.self.inside) c.self.inside.last c.self.inside.ids c.self.inside.runs c.self.inside.tables.items (table g c) c.push_reserved.new.self.spare (layout_of c.args.options.now).version (made g c).rows c.self.invariant
-    (ap (λ (v : CoreModel). v.active) c.self.view_is ∙ c.requires.idle)
-    (subst (λ (encode : Encode). IsTable encode (table g c).1 (layout_of c.args.options.now).version (made g c).rows) (sym same) (table_of_flush _ _ _ _ _ (table g c) (made g c)))
-    ((made g c).folded m)
-    (subst (λ (v : CoreModel). IsKept m v) (sym c.self.view_is) k))
+pub returns : goal.returns
+returns g c =
+    record {
+      newest = c.self.invariant.last ∙ ap (λ (v : CoreModel). last_of v.settings.start_seq v.state.commits) c.self.view_is;
+      installed = (stored (table g c)
+          (sym (becomes g c) ∙ ap (λ (v : CoreModel). after_install v c.self.inside.last (table g c) c.push_reserved.new.self.spare) c.self.view_is)
+          (subst (λ (v : CoreModel). IsTableOfFlush (changed_by g.T.BlockTransformer.encoded c.args.env.now.transformer) (layout_of c.args.options.now) (length (tables_of v.events) + 1) (least_begin c.self.inside.last v.state.txns) v.frozen (table g c)) c.self.view_is (made g c))
+          c.in_ok-put.ensures.stored.taken);
+      acts = (subst (λ (v : CoreModel). AddsTables (tables_of v.events) (tables_of c.push_reserved.new.self.events) (g.S.Store.acts c.args.env.now.store.now) (g.S.Store.acts c.stored.new.env.store.now)) c.self.view_is
+          (adds_installed c.self.inside.journal.events c.push_reserved.new.self.events c.self.inside.last c.in_ok-put.put.0 (g.S.Store.acts c.args.env.now.store.now) (g.S.Store.acts c.stored.new.env.store.now)
+          (c.push_reserved.ensures.events ∙ (λ i. c.reserve.ensures.events i ++ (events.Install c.self.inside.last c.in_ok-put.put.0 ∷ []))) c.in_ok-put.ensures.stored.t c.in_ok-put.ensures.stored.list c.in_ok-put.ensures.acts));
+      same = tt;
+      refused = tt;
+      kept = (λ m same k.
+          subst (λ (v : CoreModel). IsKept m v) (becomes g c)
+          (kept_install m (view_of c.self.inside) c.self.inside.last c.self.inside.ids c.self.inside.runs c.self.inside.tables.items (table g c) c.push_reserved.new.self.spare (layout_of c.args.options.now).version (made g c).rows c.self.invariant
+          (ap (λ (v : CoreModel). v.active) c.self.view_is ∙ c.requires.idle)
+          (subst (λ (encode : Encode). IsTable encode (table g c).1 (layout_of c.args.options.now).version (made g c).rows) (sym same) (table_of_flush _ _ _ _ _ (table g c) (made g c)))
+          ((made g c).folded m)
+          (subst (λ (v : CoreModel). IsKept m v) (sym c.self.view_is) k)));
+      cause = tt;
+      later = c.stored.ensures.later;
+      later_transformer = c.stored.ensures.later_transformer;
+      same_encoded = c.stored.ensures.same_encoded;
+      same_decoded = c.stored.ensures.same_decoded;
+      operator = c.stored.ensures.operator;
+      same_store = c.stored.ensures.same_store;
+    }
 
 -- room was made, and nothing else
-pub returns-in_err-put-clause-kept : goal.returns-in_err-put-clause-kept
-returns-in_err-put-clause-kept g c m same k =
-    kept_same m (view_of c.self.inside) (view_of (record c.self.inside { journal = c.reserve.new.self })) (room_made c.self.inside c.reserve.new.self c.reserve.ensures.events) (subst (λ (v : CoreModel). IsKept m v) (sym c.self.view_is) k)
-
-pub returns-in_err-and-clause-kept : goal.returns-in_err-and-clause-kept
-returns-in_err-and-clause-kept g c m same k =
-    kept_same m (view_of c.self.inside) (view_of (record c.self.inside { journal = c.reserve.new.self })) (room_made c.self.inside c.reserve.new.self c.reserve.ensures.events) (subst (λ (v : CoreModel). IsKept m v) (sym c.self.view_is) k)
-
-pub returns-in_err-put-clause-refused : goal.returns-in_err-put-clause-refused
-returns-in_err-put-clause-refused g c =
+pub returns-in_err-put : goal.returns-in_err-put
+returns-in_err-put g c =
     let p = err_from_is_err_and c.from_residual-in_err-put.result c.from_residual-in_err-put.ensures.1 in
-    let enc = changed_by g.T.BlockTransformer.encoded c.args.env.now.transformer in
-    let barrier = c.barrier-barrier.ensures ∙ ap (λ n. least_begin n (view_of c.self.inside).state.txns) c.self.invariant.last in
-    rw p.1
-    (subst (λ (v : CoreModel). MayFlush enc (layout_of c.args.options.now) v (g.S.Store.objects c.args.env.now.store.now) (g.S.Store.objects c.stored.new.env.store.now)) c.self.view_is
-    (moved (λ n b layers. MayTakeTable (IsTableOfFlush enc (layout_of c.args.options.now) n b layers) (g.S.Store.objects c.args.env.now.store.now) (g.S.Store.objects c.stored.new.env.store.now))
-    c.self.inside.runs (length (tables_of (view_of c.self.inside).events)) c.barrier-barrier.result (least_begin (last_of (view_of c.self.inside).settings.start_seq (view_of c.self.inside).state.commits) (view_of c.self.inside).state.txns) (map (λ t. t.rows) c.deref.result.now) (view_of c.self.inside).frozen
-    c.self.invariant.runs_counted barrier (ap (λ ts. map (λ t. t.rows) ts) c.deref.ensures.value) c.in_err-put.ensures.refused))
+    record {
+      newest = IfOk-from_err c.from_residual-in_err-put.result _ c.from_residual-in_err-put.ensures.0;
+      installed = IfOk-from_err c.from_residual-in_err-put.result _ c.from_residual-in_err-put.ensures.0;
+      acts = IfOk-from_err c.from_residual-in_err-put.result _ c.from_residual-in_err-put.ensures.0;
+      same = rw p.1 (subst (λ (v : CoreModel). IsSame v (view_of (record c.self.inside { journal = c.reserve.new.self }))) c.self.view_is (room_made c.self.inside c.reserve.new.self c.reserve.ensures.events));
+      refused = (let enc = changed_by g.T.BlockTransformer.encoded c.args.env.now.transformer in
+          let barrier = c.barrier-barrier.ensures ∙ ap (λ n. least_begin n (view_of c.self.inside).state.txns) c.self.invariant.last in
+          rw p.1
+          (subst (λ (v : CoreModel). MayFlush enc (layout_of c.args.options.now) v (g.S.Store.objects c.args.env.now.store.now) (g.S.Store.objects c.stored.new.env.store.now)) c.self.view_is
+          (moved (λ n b layers. MayTakeTable (IsTableOfFlush enc (layout_of c.args.options.now) n b layers) (g.S.Store.objects c.args.env.now.store.now) (g.S.Store.objects c.stored.new.env.store.now))
+          c.self.inside.runs (length (tables_of (view_of c.self.inside).events)) c.barrier-barrier.result (least_begin (last_of (view_of c.self.inside).settings.start_seq (view_of c.self.inside).state.commits) (view_of c.self.inside).state.txns) (map (λ t. t.rows) c.deref.result.now) (view_of c.self.inside).frozen
+          c.self.invariant.runs_counted barrier (ap (λ ts. map (λ t. t.rows) ts) c.deref.ensures.value) c.in_err-put.ensures.refused)));
+      kept = (λ m same k.
+          kept_same m (view_of c.self.inside) (view_of (record c.self.inside { journal = c.reserve.new.self })) (room_made c.self.inside c.reserve.new.self c.reserve.ensures.events) (subst (λ (v : CoreModel). IsKept m v) (sym c.self.view_is) k));
+      cause = (let layout = layout_of c.args.options.now in
+          let barrier = c.barrier-barrier.ensures ∙ ap (λ n. least_begin n (view_of c.self.inside).state.txns) c.self.invariant.last in
+          rw (p.1, p.2)
+          (last_cause (λ large. subst (λ (v : CoreModel). TooLarge layout v c.in_err-put.field-0.0) c.self.view_is
+          (too_large_is layout (view_of c.self.inside) c.barrier-barrier.result (map (λ t. t.rows) c.deref.result.now) large.0 c.in_err-put.field-0.0
+          (ap (λ (v : CoreModel). v.active) c.self.view_is ∙ c.requires.idle) barrier (ap (λ ts. map (λ t. t.rows) ts) c.deref.ensures.value) c.self.invariant.rows_fit large.1 large.2 large.3))
+          c.in_err-put.ensures.cause));
+      later = c.stored.ensures.later;
+      later_transformer = c.stored.ensures.later_transformer;
+      same_encoded = c.stored.ensures.same_encoded;
+      same_decoded = c.stored.ensures.same_decoded;
+      operator = c.stored.ensures.operator;
+      same_store = c.stored.ensures.same_store;
+    }
 
-pub returns-in_err-put-clause-cause : goal.returns-in_err-put-clause-cause
-returns-in_err-put-clause-cause g c =
-    let p = err_from_is_err_and c.from_residual-in_err-put.result c.from_residual-in_err-put.ensures.1 in
-    let layout = layout_of c.args.options.now in
-    let barrier = c.barrier-barrier.ensures ∙ ap (λ n. least_begin n (view_of c.self.inside).state.txns) c.self.invariant.last in
-    rw (p.1, p.2)
-    (last_cause (λ large. subst (λ (v : CoreModel). TooLarge layout v c.in_err-put.field-0.0) c.self.view_is
-    (too_large_is layout (view_of c.self.inside) c.barrier-barrier.result (map (λ t. t.rows) c.deref.result.now) large.0 c.in_err-put.field-0.0
-    (ap (λ (v : CoreModel). v.active) c.self.view_is ∙ c.requires.idle) barrier (ap (λ ts. map (λ t. t.rows) ts) c.deref.ensures.value) c.self.invariant.rows_fit large.1 large.2 large.3))
-    c.in_err-put.ensures.cause)
-
-pub returns-clause-acts : goal.returns-clause-acts
-returns-clause-acts g c =
-    subst (λ (v : CoreModel). AddsTables (tables_of v.events) (tables_of c.push_reserved.new.self.events) (g.S.Store.acts c.args.env.now.store.now) (g.S.Store.acts c.stored.new.env.store.now)) c.self.view_is
-    (adds_installed c.self.inside.journal.events c.push_reserved.new.self.events c.self.inside.last c.in_ok-put.put.0 (g.S.Store.acts c.args.env.now.store.now) (g.S.Store.acts c.stored.new.env.store.now)
-    (c.push_reserved.ensures.events ∙ (λ i. c.reserve.ensures.events i ++ (events.Install c.self.inside.last c.in_ok-put.put.0 ∷ []))) c.in_ok-put.ensures.stored.t c.in_ok-put.ensures.stored.list c.in_ok-put.ensures.acts)
-
-pub returns-in_err-and-clause-refused : goal.returns-in_err-and-clause-refused
-returns-in_err-and-clause-refused g c =
+pub returns-in_err-and : goal.returns-in_err-and
+returns-in_err-and g c =
     let p = err_from_is_err_and c.from_residual.result c.from_residual.ensures.1 in
-    rw p.1 (may_keep _ _ _ refl)
-
-pub returns-in_err-and-clause-newest : goal.returns-in_err-and-clause-newest
-returns-in_err-and-clause-newest g c = IfOk-from_err c.from_residual.result _ c.from_residual.ensures.0
-
-pub returns-in_err-and-clause-installed : goal.returns-in_err-and-clause-installed
-returns-in_err-and-clause-installed g c = IfOk-from_err c.from_residual.result _ c.from_residual.ensures.0
-
-pub returns-in_err-and-clause-acts : goal.returns-in_err-and-clause-acts
-returns-in_err-and-clause-acts g c = IfOk-from_err c.from_residual.result _ c.from_residual.ensures.0
-
-pub returns-in_err-put-clause-newest : goal.returns-in_err-put-clause-newest
-returns-in_err-put-clause-newest g c = IfOk-from_err c.from_residual-in_err-put.result _ c.from_residual-in_err-put.ensures.0
-
-pub returns-in_err-put-clause-installed : goal.returns-in_err-put-clause-installed
-returns-in_err-put-clause-installed g c = IfOk-from_err c.from_residual-in_err-put.result _ c.from_residual-in_err-put.ensures.0
-
-pub returns-in_err-put-clause-acts : goal.returns-in_err-put-clause-acts
-returns-in_err-put-clause-acts g c = IfOk-from_err c.from_residual-in_err-put.result _ c.from_residual-in_err-put.ensures.0
+    record {
+      newest = IfOk-from_err c.from_residual.result _ c.from_residual.ensures.0;
+      installed = IfOk-from_err c.from_residual.result _ c.from_residual.ensures.0;
+      acts = IfOk-from_err c.from_residual.result _ c.from_residual.ensures.0;
+      same = rw p.1 (subst (λ (v : CoreModel). IsSame v (view_of (record c.self.inside { journal = c.reserve.new.self }))) c.self.view_is (room_made c.self.inside c.reserve.new.self c.reserve.ensures.events));
+      refused = rw p.1 (may_keep _ _ _ refl);
+      kept = (λ m same k.
+          kept_same m (view_of c.self.inside) (view_of (record c.self.inside { journal = c.reserve.new.self })) (room_made c.self.inside c.reserve.new.self c.reserve.ensures.events) (subst (λ (v : CoreModel). IsKept m v) (sym c.self.view_is) k));
+      cause = rw (p.1, p.2) (inl (inl refl));
+      later = omega arith;
+      later_transformer = omega arith;
+      same_encoded = refl;
+      same_decoded = refl;
+      operator = refl;
+      same_store = refl;
+    }

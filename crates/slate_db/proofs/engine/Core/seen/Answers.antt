@@ -1,4 +1,4 @@
-use Rattle.std.proofs.Common.{inl, ◌≡◌, ℕ, ◌++◌, List, Some, false, map, refl, reverse, sym, ap, subst, ◌∙◌}
+use Rattle.std.proofs.Common.{inl, ◌≡◌, ℕ, ◌++◌, List, Some, false, map, refl, reverse, sym, ap, subst, ◌∙◌, arith}
 use Rattle.std.proofs.lemmas.Result.{err_from_is_err_and}
 use Rattle.slate_types.specs.Outside.{Objects}
 use Rattle.slate_types.specs.Fold.{IsLawful, KeepsShort, fold_rows}
@@ -38,50 +38,70 @@ found_is g c m os has law held answers layers tables =
     c.in_ok-found.ensures.found layers os (stored_known m c.args.self.now (view_of c.self.inside) c.self.inside.last c.self.inside.ids c.self.inside.runs c.self.inside.tables.items c.deref-2.result.now (Some os) layers _ _ c.self.view_is c.deref-2.ensures.value has.encodes has.decodes c.self.invariant law tables held) answers (c.args.self.now.active ++ newest_first c.args.self.now.frozen) (near g c)
     ∙ ap (λ (k : List ℕ). newest k c.args.at ((c.args.self.now.active ++ newest_first c.args.self.now.frozen) ++ newest_first layers)) c.as_slice.ensures
 
-pub returns-in_err-near-clause-row : goal.returns-in_err-near-clause-row
-returns-in_err-near-clause-row g c m os has law kept held answers above = let p = err_from_is_err_and c.from_residual.result c.from_residual.ensures.1 in rw p.1 tt
+pub returns-in_err-near : goal.returns-in_err-near
+returns-in_err-near g c =
+    let p = err_from_is_err_and c.from_residual.result c.from_residual.ensures.1 in
+    record {
+      row = λ m os has law kept held answers above. let p = err_from_is_err_and c.from_residual.result c.from_residual.ensures.1 in rw p.1 tt;
+      whole = λ m os has law kept held answers. let p = err_from_is_err_and c.from_residual.result c.from_residual.ensures.1 in rw (p.1, p.2) (inl (inl c.in_err-near.ensures.cause));
+      cause = rw (p.1, p.2) (inl (inl c.in_err-near.ensures.cause));
+      told = adds_none _;
+      objects = refl;
+      same_encoded = refl;
+      same_decoded = refl;
+      same_combine = refl;
+      same_store = refl;
+      later = omega arith;
+      later_transformer = omega arith;
+      later_operator = omega arith;
+    }
 
-pub returns-in_err-near-clause-whole : goal.returns-in_err-near-clause-whole
-returns-in_err-near-clause-whole g c m os has law kept held answers = let p = err_from_is_err_and c.from_residual.result c.from_residual.ensures.1 in rw (p.1, p.2) (inl (inl c.in_err-near.ensures.cause))
-
-pub returns-in_err-near-clause-cause : goal.returns-in_err-near-clause-cause
-returns-in_err-near-clause-cause g c = let p = err_from_is_err_and c.from_residual.result c.from_residual.ensures.1 in rw (p.1, p.2) (inl (inl c.in_err-near.ensures.cause))
-
-pub returns-in_err-near-clause-told : goal.returns-in_err-near-clause-told
-returns-in_err-near-clause-told g c = adds_none _
-
-pub returns-in_err-found-clause-row : goal.returns-in_err-found-clause-row
-returns-in_err-found-clause-row g c m os has law kept held answers above = let p = err_from_is_err_and c.from_residual-in_err-found.result c.from_residual-in_err-found.ensures.1 in rw p.1 tt
-
-pub returns-in_err-found-clause-whole : goal.returns-in_err-found-clause-whole
-returns-in_err-found-clause-whole g c m os has law kept held answers =
-    let sound : IsSound m c.args.self.now = kept.1 law in
+pub returns-in_err-found : goal.returns-in_err-found
+returns-in_err-found g c =
     let p = err_from_is_err_and c.from_residual-in_err-found.result c.from_residual-in_err-found.ensures.1 in
-    rw (p.1, p.2) (read_whole_cause _ _ _ _ _ _ _ (c.in_err-found.ensures.whole sound.layers os (stored_known m c.args.self.now (view_of c.self.inside) c.self.inside.last c.self.inside.ids c.self.inside.runs c.self.inside.tables.items c.deref-2.result.now (Some os) sound.layers _ _ c.self.view_is c.deref-2.ensures.value has.encodes has.decodes c.self.invariant law sound.tables held) answers))
+    record {
+      row = λ m os has law kept held answers above. let p = err_from_is_err_and c.from_residual-in_err-found.result c.from_residual-in_err-found.ensures.1 in rw p.1 tt;
+      whole = (λ m os has law kept held answers.
+          let sound : IsSound m c.args.self.now = kept.1 law in
+          let p = err_from_is_err_and c.from_residual-in_err-found.result c.from_residual-in_err-found.ensures.1 in
+          rw (p.1, p.2) (read_whole_cause _ _ _ _ _ _ _ (c.in_err-found.ensures.whole sound.layers os (stored_known m c.args.self.now (view_of c.self.inside) c.self.inside.last c.self.inside.ids c.self.inside.runs c.self.inside.tables.items c.deref-2.result.now (Some os) sound.layers _ _ c.self.view_is c.deref-2.ensures.value has.encodes has.decodes c.self.invariant law sound.tables held) answers)));
+      cause = rw (p.1, p.2) (read_cause _ _ _ _ _ _ _ _ (known_cause (tables_of (view_of c.self.inside).events) c.deref-2.result.now c.self.inside.tables.items _ c.deref-2.ensures.value c.self.invariant.tables c.in_err-found.ensures.cause));
+      told = c.newest_of_tables.ensures.told;
+      objects = c.newest_of_tables.ensures.objects;
+      same_encoded = c.newest_of_tables.ensures.same_encoded;
+      same_decoded = c.newest_of_tables.ensures.same_decoded;
+      same_combine = refl;
+      same_store = refl;
+      later = c.newest_of_tables.ensures.later;
+      later_transformer = c.newest_of_tables.ensures.later_transformer;
+      later_operator = omega arith;
+    }
 
-pub returns-in_err-found-clause-cause : goal.returns-in_err-found-clause-cause
-returns-in_err-found-clause-cause g c =
-    let p = err_from_is_err_and c.from_residual-in_err-found.result c.from_residual-in_err-found.ensures.1 in
-    rw (p.1, p.2) (read_cause _ _ _ _ _ _ _ _ (known_cause (tables_of (view_of c.self.inside).events) c.deref-2.result.now c.self.inside.tables.items _ c.deref-2.ensures.value c.self.invariant.tables c.in_err-found.ensures.cause))
-
-pub returns-clause-row : goal.returns-clause-row
-returns-clause-row g c m os has law kept held answers above =
-    let k = c.args.key.now in
-    let whole : IsWhole c.args.self.now c.self.inside.last c.self.inside.ids c.self.inside.runs c.self.inside.tables.items = subst (λ (v : CoreModel). IsWhole v c.self.inside.last c.self.inside.ids c.self.inside.runs c.self.inside.tables.items) c.self.view_is c.self.invariant in
-    let sound : IsSound m c.args.self.now = kept.1 law in
-    let folds : Folds m c.args.self.now k c.args.at c.in_ok-found.found.items = found_folds m c.args.self.now _ _ _ _ k c.args.at c.in_ok-found.found.items sound.layers whole law kept sound.tables sound.short above
-    (found_is g c m os has law held answers sound.layers sound.tables) in
-    let same : m.combine ≡ part_of g.M.MergeOperator.combine c.args.env.now.operator = has.operator in
-    if_ok c.fold_found.result _ _ (λ row h. h ∙ ap (λ x. fold_rows (operator_at x k) (reverse c.in_ok-found.found.items)) (sym same) ∙ folds.fold)
-    (c.fold_found.ensures.row k (subst (λ x. IsLawful (operator_at x k)) same (law.operator k)) (subst (λ x. KeepsShort (operator_at x k)) same (law.short k)) folds.are)
-
-pub returns-clause-whole : goal.returns-clause-whole
-returns-clause-whole g c m os has law kept held answers =
-    let whole : IsWhole c.args.self.now c.self.inside.last c.self.inside.ids c.self.inside.runs c.self.inside.tables.items = subst (λ (v : CoreModel). IsWhole v c.self.inside.last c.self.inside.ids c.self.inside.runs c.self.inside.tables.items) c.self.view_is c.self.invariant in
-    let sound : IsSound m c.args.self.now = kept.1 law in
-    let none : is_merge_among c.in_ok-found.found.items ≡ false = found_bases c.args.self.now _ _ _ _ c.args.key.now c.args.at c.in_ok-found.found.items sound.layers whole sound.bases (found_is g c m os has law held answers sound.layers sound.tables) in
-    if_err c.fold_found.result _ _ (λ e h. fold_whole_cause _ _ _ _ _ _ _ _ (is_merge_among c.in_ok-found.found.items) e refl none h) c.fold_found.ensures.cause
-
-pub returns-clause-cause : goal.returns-clause-cause
-returns-clause-cause g c =
-    if_err c.fold_found.result _ _ (λ e h. fold_cause _ _ _ _ _ _ _ _ _ (is_merge_among c.in_ok-found.found.items) e refl refl h) c.fold_found.ensures.cause
+pub returns : goal.returns
+returns g c =
+    record {
+      row = (λ m os has law kept held answers above.
+          let k = c.args.key.now in
+          let whole : IsWhole c.args.self.now c.self.inside.last c.self.inside.ids c.self.inside.runs c.self.inside.tables.items = subst (λ (v : CoreModel). IsWhole v c.self.inside.last c.self.inside.ids c.self.inside.runs c.self.inside.tables.items) c.self.view_is c.self.invariant in
+          let sound : IsSound m c.args.self.now = kept.1 law in
+          let folds : Folds m c.args.self.now k c.args.at c.in_ok-found.found.items = found_folds m c.args.self.now _ _ _ _ k c.args.at c.in_ok-found.found.items sound.layers whole law kept sound.tables sound.short above
+          (found_is g c m os has law held answers sound.layers sound.tables) in
+          let same : m.combine ≡ part_of g.M.MergeOperator.combine c.args.env.now.operator = has.operator in
+          if_ok c.fold_found.result _ _ (λ row h. h ∙ ap (λ x. fold_rows (operator_at x k) (reverse c.in_ok-found.found.items)) (sym same) ∙ folds.fold)
+          (c.fold_found.ensures.row k (subst (λ x. IsLawful (operator_at x k)) same (law.operator k)) (subst (λ x. KeepsShort (operator_at x k)) same (law.short k)) folds.are));
+      whole = (λ m os has law kept held answers.
+          let whole : IsWhole c.args.self.now c.self.inside.last c.self.inside.ids c.self.inside.runs c.self.inside.tables.items = subst (λ (v : CoreModel). IsWhole v c.self.inside.last c.self.inside.ids c.self.inside.runs c.self.inside.tables.items) c.self.view_is c.self.invariant in
+          let sound : IsSound m c.args.self.now = kept.1 law in
+          let none : is_merge_among c.in_ok-found.found.items ≡ false = found_bases c.args.self.now _ _ _ _ c.args.key.now c.args.at c.in_ok-found.found.items sound.layers whole sound.bases (found_is g c m os has law held answers sound.layers sound.tables) in
+          if_err c.fold_found.result _ _ (λ e h. fold_whole_cause _ _ _ _ _ _ _ _ (is_merge_among c.in_ok-found.found.items) e refl none h) c.fold_found.ensures.cause);
+      cause = if_err c.fold_found.result _ _ (λ e h. fold_cause _ _ _ _ _ _ _ _ _ (is_merge_among c.in_ok-found.found.items) e refl refl h) c.fold_found.ensures.cause;
+      told = c.newest_of_tables.ensures.told;
+      objects = c.newest_of_tables.ensures.objects;
+      same_encoded = c.newest_of_tables.ensures.same_encoded;
+      same_decoded = c.newest_of_tables.ensures.same_decoded;
+      same_combine = c.fold_found.ensures.same;
+      same_store = refl;
+      later = c.newest_of_tables.ensures.later;
+      later_transformer = c.newest_of_tables.ensures.later_transformer;
+      later_operator = c.fold_found.ensures.later;
+    }

@@ -9,49 +9,59 @@ use Rattle.slate_script.specs.Session.{SessionModel, AnswersAs, Grows, has_momen
 use Rattle.slate_script.proofs.SessionSteps.{now-set, given-moment}
 use Rattle.slate_script.proofs.session.Session.answer_within.Goals as goal
 
-pub returns-in-Now-clause-step : goal.returns-in-Now-clause-step
-returns-in-Now-clause-step c m =
-    let before : SessionModel = record { core = c.self.inside.core; names = c.self.inside.names.entries; now = c.self.inside.now } in
-    let fits : is_moment c.in-Now.moment ≡ true = ap has_moment (sym c.in-Now.is) ∙ c.requires.moment in
-    subst (λ (t : ℤ). AnswersAs m c.args.self.now (record before { now = t }) c.args.line (Ok (answers.NowIs t))) (sym (given-moment c.in-Now.moment fits))
-    (subst (λ (line : Line). AnswersAs m c.args.self.now (record before { now = c.in-Now.moment }) line (Ok (answers.NowIs c.in-Now.moment))) (sym c.in-Now.is)
-    (subst (λ (v : SessionModel). AnswersAs m v (record before { now = c.in-Now.moment }) (lines.Now c.in-Now.moment) (Ok (answers.NowIs c.in-Now.moment))) c.self.view_is (now-set m before c.in-Now.moment)))
-
-pub returns-in-Now-clause-stores : goal.returns-in-Now-clause-stores
-returns-in-Now-clause-stores c =
-    let same : length c.self.inside.core.events ≡ length c.args.self.now.core.events = ap (λ (v : SessionModel). length v.core.events) c.self.view_is in
+pub returns-in-Now : goal.returns-in-Now
+returns-in-Now c =
     record {
-      settings = ap (λ (v : SessionModel). v.core.settings) c.self.view_is;
-      tables = ap (λ (v : SessionModel). tables_of v.core.events) c.self.view_is;
-      later = omega (arith, same);
-      kept = λ m k. subst (λ (v : SessionModel). IsKept m v.core) (sym c.self.view_is) k;
+      step = (λ m.
+          let before : SessionModel = record { core = c.self.inside.core; names = c.self.inside.names.entries; now = c.self.inside.now } in
+          let fits : is_moment c.in-Now.moment ≡ true = ap has_moment (sym c.in-Now.is) ∙ c.requires.moment in
+          subst (λ (t : ℤ). AnswersAs m c.args.self.now (record before { now = t }) c.args.line (Ok (answers.NowIs t))) (sym (given-moment c.in-Now.moment fits))
+          (subst (λ (line : Line). AnswersAs m c.args.self.now (record before { now = c.in-Now.moment }) line (Ok (answers.NowIs c.in-Now.moment))) (sym c.in-Now.is)
+          (subst (λ (v : SessionModel). AnswersAs m v (record before { now = c.in-Now.moment }) (lines.Now c.in-Now.moment) (Ok (answers.NowIs c.in-Now.moment))) c.self.view_is (now-set m before c.in-Now.moment))));
+      stores = (let same : length c.self.inside.core.events ≡ length c.args.self.now.core.events = ap (λ (v : SessionModel). length v.core.events) c.self.view_is in
+          record {
+            settings = ap (λ (v : SessionModel). v.core.settings) c.self.view_is;
+            tables = ap (λ (v : SessionModel). tables_of v.core.events) c.self.view_is;
+            later = omega (arith, same);
+            kept = λ m k. subst (λ (v : SessionModel). IsKept m v.core) (sym c.self.view_is) k;
+          });
+      grows = (let before : SessionModel = record { core = c.self.inside.core; names = c.self.inside.names.entries; now = c.self.inside.now } in
+          subst (λ (v : SessionModel). Grows c.args.line v before) c.self.view_is (omega arith, omega arith));
+      cause = tt;
     }
 
-pub returns-in-Now-clause-grows : goal.returns-in-Now-clause-grows
-returns-in-Now-clause-grows c =
-    let before : SessionModel = record { core = c.self.inside.core; names = c.self.inside.names.entries; now = c.self.inside.now } in
-    subst (λ (v : SessionModel). Grows c.args.line v before) c.self.view_is (omega arith, omega arith)
+pub returns-in-Begin : goal.returns-in-Begin
+returns-in-Begin c =
+    record {
+      step = λ m. subst (λ (line : Line). AnswersAs m c.args.self.now c.begin.new.self line c.begin.result) (sym c.in-Begin.is) (c.begin.ensures.step m);
+      stores = c.begin.ensures.stores;
+      grows = subst (λ (line : Line). OnOk c.begin.result (Grows line c.args.self.now c.begin.new.self)) (sym c.in-Begin.is) c.begin.ensures.grows;
+      cause = c.begin.ensures.cause;
+    }
 
-pub returns-in-Begin-clause-step : goal.returns-in-Begin-clause-step
-returns-in-Begin-clause-step c m = subst (λ (line : Line). AnswersAs m c.args.self.now c.begin.new.self line c.begin.result) (sym c.in-Begin.is) (c.begin.ensures.step m)
+pub returns-in-Write : goal.returns-in-Write
+returns-in-Write c =
+    record {
+      step = λ m. subst (λ (line : Line). AnswersAs m c.args.self.now c.write.new.self line c.write.result) (sym c.in-Write.is) (c.write.ensures.step m);
+      stores = c.write.ensures.stores;
+      grows = subst (λ (line : Line). OnOk c.write.result (Grows line c.args.self.now c.write.new.self)) (sym c.in-Write.is) c.write.ensures.grows;
+      cause = c.write.ensures.cause;
+    }
 
-pub returns-in-Begin-clause-grows : goal.returns-in-Begin-clause-grows
-returns-in-Begin-clause-grows c = subst (λ (line : Line). OnOk c.begin.result (Grows line c.args.self.now c.begin.new.self)) (sym c.in-Begin.is) c.begin.ensures.grows
+pub returns-in-Freeze : goal.returns-in-Freeze
+returns-in-Freeze c =
+    record {
+      step = λ m. subst (λ (line : Line). AnswersAs m c.args.self.now c.freeze.new.self line c.freeze.result) (sym c.in-Freeze.is) (c.freeze.ensures.step m);
+      stores = c.freeze.ensures.stores;
+      grows = subst (λ (line : Line). OnOk c.freeze.result (Grows line c.args.self.now c.freeze.new.self)) (sym c.in-Freeze.is) c.freeze.ensures.grows;
+      cause = c.freeze.ensures.cause;
+    }
 
-pub returns-in-Write-clause-step : goal.returns-in-Write-clause-step
-returns-in-Write-clause-step c m = subst (λ (line : Line). AnswersAs m c.args.self.now c.write.new.self line c.write.result) (sym c.in-Write.is) (c.write.ensures.step m)
-
-pub returns-in-Write-clause-grows : goal.returns-in-Write-clause-grows
-returns-in-Write-clause-grows c = subst (λ (line : Line). OnOk c.write.result (Grows line c.args.self.now c.write.new.self)) (sym c.in-Write.is) c.write.ensures.grows
-
-pub returns-in-Freeze-clause-step : goal.returns-in-Freeze-clause-step
-returns-in-Freeze-clause-step c m = subst (λ (line : Line). AnswersAs m c.args.self.now c.freeze.new.self line c.freeze.result) (sym c.in-Freeze.is) (c.freeze.ensures.step m)
-
-pub returns-in-Freeze-clause-grows : goal.returns-in-Freeze-clause-grows
-returns-in-Freeze-clause-grows c = subst (λ (line : Line). OnOk c.freeze.result (Grows line c.args.self.now c.freeze.new.self)) (sym c.in-Freeze.is) c.freeze.ensures.grows
-
-pub returns-in-Rollback-clause-step : goal.returns-in-Rollback-clause-step
-returns-in-Rollback-clause-step c m = subst (λ (line : Line). AnswersAs m c.args.self.now c.rollback.new.self line (Ok c.rollback.result)) (sym c.in-Rollback.is) (c.rollback.ensures.step m)
-
-pub returns-in-Rollback-clause-grows : goal.returns-in-Rollback-clause-grows
-returns-in-Rollback-clause-grows c = subst (λ (line : Line). Grows line c.args.self.now c.rollback.new.self) (sym c.in-Rollback.is) c.rollback.ensures.grows
+pub returns-in-Rollback : goal.returns-in-Rollback
+returns-in-Rollback c =
+    record {
+      step = λ m. subst (λ (line : Line). AnswersAs m c.args.self.now c.rollback.new.self line (Ok c.rollback.result)) (sym c.in-Rollback.is) (c.rollback.ensures.step m);
+      stores = c.rollback.ensures.stores;
+      grows = subst (λ (line : Line). Grows line c.args.self.now c.rollback.new.self) (sym c.in-Rollback.is) c.rollback.ensures.grows;
+      cause = tt;
+    }

@@ -1,5 +1,5 @@
-use Rattle.std.proofs.Common.{arith, ◌≡◌, cond, Some, None, is_some, Ok, refl, sym, subst, ap, ◌∙◌}
-use Rattle.std.proofs.lemmas.Result.{IfOk-from_err}
+use Rattle.std.proofs.Common.{arith, ◌≡◌, cond, Some, None, is_some, Ok, refl, sym, subst, ap, ◌∙◌, inl}
+use Rattle.std.proofs.lemmas.Result.{IfOk-from_err, err_from_is_err_and}
 use Rattle.std.specs.Map.{lookup}
 use Rattle.std.specs.BTreeMap.{is_at}
 use Rattle.slate_types.specs.Keys.{key_cmp}
@@ -17,12 +17,18 @@ use Rattle.slate_script.proofs.SessionLeaves.{leaves-event, stores}
 use Rattle.slate_script.proofs.Growth.{grows, takes-event, opened-more}
 use Rattle.slate_script.proofs.session.Session.begin.Goals as goal
 
-pub returns-then-contains_key-clause-step : goal.returns-then-contains_key-clause-step
-returns-then-contains_key-clause-step c m =
-    let before : SessionModel = record { core = c.self.inside.core; names = c.self.inside.names.entries; now = c.self.inside.now } in
-    let named : IsNamed (find_named c.args.name before.names) = named-by (find_named c.args.name before.names) (ap is_some (find_named-lookup c.args.name before.names) ∙ sym c.if-contains_key.ensures) in
-    subst (λ (v : SessionModel). AnswersAs m v v (lines.Begin c.args.name c.args.level) (Ok (answers.Refused (refusals.DuplicateTransaction c.args.name)))) c.self.view_is
-    (begin-refused m before c.args.name named.value c.args.level c.self.invariant.0 named.is)
+pub returns-then-contains_key : goal.returns-then-contains_key
+returns-then-contains_key c =
+    record {
+      step = (λ m.
+          let before : SessionModel = record { core = c.self.inside.core; names = c.self.inside.names.entries; now = c.self.inside.now } in
+          let named : IsNamed (find_named c.args.name before.names) = named-by (find_named c.args.name before.names) (ap is_some (find_named-lookup c.args.name before.names) ∙ sym c.if-contains_key.ensures) in
+          subst (λ (v : SessionModel). AnswersAs m v v (lines.Begin c.args.name c.args.level) (Ok (answers.Refused (refusals.DuplicateTransaction c.args.name)))) c.self.view_is
+          (begin-refused m before c.args.name named.value c.args.level c.self.invariant.0 named.is));
+      stores = record { settings = refl; tables = refl; later = omega arith; kept = λ m k. k };
+      grows = (omega arith, omega arith);
+      cause = tt;
+    }
 
 pub invariant_of-self-in_err-insert : goal.invariant_of-self-in_err-insert
 invariant_of-self-in_err-insert c =
@@ -40,37 +46,39 @@ invariant_of-self-2 c =
       c.self.invariant.1,
     )
 
-pub returns-clause-step : goal.returns-clause-step
-returns-clause-step c m =
-    let before : SessionModel = record { core = c.self.inside.core; names = c.self.inside.names.entries; now = c.self.inside.now } in
-    let none : find_named c.args.name before.names ≡ None = none-found (find_named c.args.name before.names) (ap is_some (find_named-lookup c.args.name before.names) ∙ sym c.if-contains_key.ensures) in
-    subst (λ (v : SessionModel). AnswersAs m v (record before { core = c.begin.new.self; names = c.insert.new.self.entries }) (lines.Begin c.args.name c.args.level) (Ok (answers.Begun c.args.name c.in_ok-id.start))) c.self.view_is
-    (begin-opens m before c.begin.new.self c.insert.new.self.entries c.args.name c.in_ok-id.id c.args.level c.in_ok-id.start c.self.invariant.0 none
-    (opens-fresh (rules_of before.core.settings m) before.core.state c.begin.new.self.state c.in_ok-id.id c.args.level c.in_ok-id.start (c.in_ok-id.ensures.step m))
-    (λ q. named-after c.args.name q (Some c.in_ok-id.id) before.names c.insert.new.self.entries
-    (c.in_ok-insert.ensures.updates.0 q ∙ ap (λ k. cond (is_at (key_cmp k) q) (Some c.in_ok-id.id) (lookup (is_at (key_cmp q)) before.names)) c.in_ok-key.ensures.cases)))
+pub returns : goal.returns
+returns c =
+    record {
+      step = (λ m.
+          let before : SessionModel = record { core = c.self.inside.core; names = c.self.inside.names.entries; now = c.self.inside.now } in
+          let none : find_named c.args.name before.names ≡ None = none-found (find_named c.args.name before.names) (ap is_some (find_named-lookup c.args.name before.names) ∙ sym c.if-contains_key.ensures) in
+          subst (λ (v : SessionModel). AnswersAs m v (record before { core = c.begin.new.self; names = c.insert.new.self.entries }) (lines.Begin c.args.name c.args.level) (Ok (answers.Begun c.args.name c.in_ok-id.start))) c.self.view_is
+          (begin-opens m before c.begin.new.self c.insert.new.self.entries c.args.name c.in_ok-id.id c.args.level c.in_ok-id.start c.self.invariant.0 none
+          (opens-fresh (rules_of before.core.settings m) before.core.state c.begin.new.self.state c.in_ok-id.id c.args.level c.in_ok-id.start (c.in_ok-id.ensures.step m))
+          (λ q. named-after c.args.name q (Some c.in_ok-id.id) before.names c.insert.new.self.entries
+          (c.in_ok-insert.ensures.updates.0 q ∙ ap (λ k. cond (is_at (key_cmp k) q) (Some c.in_ok-id.id) (lookup (is_at (key_cmp q)) before.names)) c.in_ok-key.ensures.cases))));
+      stores = (let before : SessionModel = record { core = c.self.inside.core; names = c.self.inside.names.entries; now = c.self.inside.now } in
+          subst (λ (v : SessionModel). StoresNothing v (record before { core = c.begin.new.self; names = c.insert.new.self.entries })) c.self.view_is
+          (stores before c.begin.new.self c.insert.new.self.entries before.now
+          (leaves-event c.self.inside.core c.begin.new.self (events.Begin c.in_ok-id.id c.args.level c.in_ok-id.start) c.in_ok-id.ensures.event refl) c.in_ok-id.ensures.kept));
+      grows = (let before : SessionModel = record { core = c.self.inside.core; names = c.self.inside.names.entries; now = c.self.inside.now } in
+          subst (λ (v : SessionModel). Grows (lines.Begin c.args.name c.args.level) v (record before { core = c.begin.new.self; names = c.insert.new.self.entries })) c.self.view_is
+          (grows before c.begin.new.self c.insert.new.self.entries before.now (lines.Begin c.args.name c.args.level) 0 (omega arith)
+          (takes-event c.self.inside.core c.begin.new.self (events.Begin c.in_ok-id.id c.args.level c.in_ok-id.start) c.in_ok-id.ensures.event
+          (opened-more (rules_of c.self.inside.core.settings plain-meaning) c.self.inside.core.state c.begin.new.self.state c.in_ok-id.id c.args.level c.in_ok-id.start
+          (opens-fresh (rules_of c.self.inside.core.settings plain-meaning) c.self.inside.core.state c.begin.new.self.state c.in_ok-id.id c.args.level c.in_ok-id.start (c.in_ok-id.ensures.step plain-meaning))))));
+      cause = tt;
+    }
 
-pub returns-clause-stores : goal.returns-clause-stores
-returns-clause-stores c =
-    let before : SessionModel = record { core = c.self.inside.core; names = c.self.inside.names.entries; now = c.self.inside.now } in
-    subst (λ (v : SessionModel). StoresNothing v (record before { core = c.begin.new.self; names = c.insert.new.self.entries })) c.self.view_is
-    (stores before c.begin.new.self c.insert.new.self.entries before.now
-    (leaves-event c.self.inside.core c.begin.new.self (events.Begin c.in_ok-id.id c.args.level c.in_ok-id.start) c.in_ok-id.ensures.event refl) c.in_ok-id.ensures.kept)
-
-pub returns-clause-grows : goal.returns-clause-grows
-returns-clause-grows c =
-    let before : SessionModel = record { core = c.self.inside.core; names = c.self.inside.names.entries; now = c.self.inside.now } in
-    subst (λ (v : SessionModel). Grows (lines.Begin c.args.name c.args.level) v (record before { core = c.begin.new.self; names = c.insert.new.self.entries })) c.self.view_is
-    (grows before c.begin.new.self c.insert.new.self.entries before.now (lines.Begin c.args.name c.args.level) 0 (omega arith)
-    (takes-event c.self.inside.core c.begin.new.self (events.Begin c.in_ok-id.id c.args.level c.in_ok-id.start) c.in_ok-id.ensures.event
-    (opened-more (rules_of c.self.inside.core.settings plain-meaning) c.self.inside.core.state c.begin.new.self.state c.in_ok-id.id c.args.level c.in_ok-id.start
-    (opens-fresh (rules_of c.self.inside.core.settings plain-meaning) c.self.inside.core.state c.begin.new.self.state c.in_ok-id.id c.args.level c.in_ok-id.start (c.in_ok-id.ensures.step plain-meaning)))))
-
-pub returns-in_err-key-clause-stores : goal.returns-in_err-key-clause-stores
-returns-in_err-key-clause-stores c = IfOk-from_err c.from_residual.result _ c.from_residual.ensures.0
-
-pub returns-in_err-key-clause-grows : goal.returns-in_err-key-clause-grows
-returns-in_err-key-clause-grows c = IfOk-from_err c.from_residual.result _ c.from_residual.ensures.0
+pub returns-in_err-key : goal.returns-in_err-key
+returns-in_err-key c =
+    let p = err_from_is_err_and c.from_residual.result c.from_residual.ensures.1 in
+    record {
+      step = λ m s stands. IfOk-from_err c.from_residual.result _ c.from_residual.ensures.0;
+      stores = IfOk-from_err c.from_residual.result _ c.from_residual.ensures.0;
+      grows = IfOk-from_err c.from_residual.result _ c.from_residual.ensures.0;
+      cause = rw (p.1, p.2) (inl refl);
+    }
 
 pub returns-in_err-id-clause-stores : goal.returns-in_err-id-clause-stores
 returns-in_err-id-clause-stores c = IfOk-from_err c.from_residual-in_err-id.result _ c.from_residual-in_err-id.ensures.0
@@ -78,8 +86,15 @@ returns-in_err-id-clause-stores c = IfOk-from_err c.from_residual-in_err-id.resu
 pub returns-in_err-id-clause-grows : goal.returns-in_err-id-clause-grows
 returns-in_err-id-clause-grows c = IfOk-from_err c.from_residual-in_err-id.result _ c.from_residual-in_err-id.ensures.0
 
-pub returns-in_err-insert-clause-stores : goal.returns-in_err-insert-clause-stores
-returns-in_err-insert-clause-stores c = IfOk-from_err c.from_residual-in_err-insert.result _ c.from_residual-in_err-insert.ensures.0
+pub returns-in_err-insert : goal.returns-in_err-insert
+returns-in_err-insert c =
+    let p = err_from_is_err_and c.from_residual-in_err-insert.result c.from_residual-in_err-insert.ensures.1 in
+    record {
+      step = λ m s stands. IfOk-from_err c.from_residual-in_err-insert.result _ c.from_residual-in_err-insert.ensures.0;
+      stores = IfOk-from_err c.from_residual-in_err-insert.result _ c.from_residual-in_err-insert.ensures.0;
+      grows = IfOk-from_err c.from_residual-in_err-insert.result _ c.from_residual-in_err-insert.ensures.0;
+      cause = rw (p.1, p.2) (inl refl);
+    }
 
-pub returns-in_err-insert-clause-grows : goal.returns-in_err-insert-clause-grows
-returns-in_err-insert-clause-grows c = IfOk-from_err c.from_residual-in_err-insert.result _ c.from_residual-in_err-insert.ensures.0
+pub returns-in_err-id-clause-step : goal.returns-in_err-id-clause-step
+returns-in_err-id-clause-step c = λ m s stands. IfOk-from_err c.from_residual-in_err-id.result _ c.from_residual-in_err-id.ensures.0

@@ -1,4 +1,4 @@
-use Rattle.std.proofs.Common.{◌≡◌, ◌⊎◌, Some, Ok, refl, ap, sym, subst, arith}
+use Rattle.std.proofs.Common.{◌≡◌, ◌⊎◌, ◌∙◌, Some, Ok, refl, ap, sym, subst, arith}
 use Rattle.std.proofs.lemmas.Result.{err_from_is_err_and, IfOk-from_err}
 use Rattle.slate_types.specs.declared.error.SlateDBError.TheVariants.{LimitReached}
 use Rattle.slate_types.specs.Faults.{faults_of}
@@ -20,85 +20,77 @@ use Rattle.slate_script.proofs.ToldLaws.{follows-flush}
 use Rattle.slate_script.proofs.Growth.{grows, takes-flushed}
 use Rattle.slate_script.proofs.session.Session.flush.Goals as goal
 
-pub returns-clause-step : goal.returns-clause-step
-returns-clause-step g c m =
-    let before : SessionModel = record { core = c.self.inside.core; names = c.self.inside.names.entries; now = c.self.inside.now } in
-    subst (λ (v : SessionModel). AnswersAs m v (record before { core = c.flush.new.self }) lines.Flush (Ok (answers.Flushed c.in_ok-seq.seq))) c.self.view_is
-    (flush-as m before c.flush.new.self c.in_ok-seq.seq (c.in_ok-seq.ensures.step m))
+pub returns : goal.returns
+returns g c =
+    record {
+      step = (λ m.
+          let before : SessionModel = record { core = c.self.inside.core; names = c.self.inside.names.entries; now = c.self.inside.now } in
+          subst (λ (v : SessionModel). AnswersAs m v (record before { core = c.flush.new.self }) lines.Flush (Ok (answers.Flushed c.in_ok-seq.seq))) c.self.view_is
+          (flush-as m before c.flush.new.self c.in_ok-seq.seq (c.in_ok-seq.ensures.step m)));
+      settings = c.flush.ensures.settings ∙ ap (λ (v : SessionModel). v.core.settings) c.self.view_is;
+      grows = (let before : SessionModel = record { core = c.self.inside.core; names = c.self.inside.names.entries; now = c.self.inside.now } in
+          subst (λ (v : SessionModel). Grows lines.Flush v (record before { core = c.flush.new.self })) c.self.view_is
+          (grows before c.flush.new.self before.names before.now lines.Flush 0 (omega arith)
+          (takes-flushed _ _ c.self.inside.core c.in_ok-seq.ensures.installed.0 c.flush.new.self c.in_ok-seq.seq _ _ c.in_ok-seq.ensures.installed.1 c.in_ok-seq.ensures.installed.2 c.in_ok-seq.ensures.taken.0 c.in_ok-seq.ensures.taken.1)));
+      kept = (λ settled.
+          let before : SessionModel = record { core = c.self.inside.core; names = c.self.inside.names.entries; now = c.self.inside.now } in
+          let m = meaning_of g.M.MergeOperator.combine g.T.BlockTransformer.encoded g.T.BlockTransformer.decoded c.args.env.now.operator c.args.env.now.transformer in
+          let encode = changed_by g.T.BlockTransformer.encoded c.args.env.now.transformer in
+          let went : c.flush.result ≡ Ok c.in_ok-seq.seq = grind (arith, c.branch-seq.ensures, c.in_ok-seq.is) in
+          let old = g.S.Store.objects c.args.env.now.store.now in
+          flush-settled m encode _ old (g.S.Store.objects c.flush.new.env.store.now) before c.in_ok-seq.ensures.installed.0 c.flush.new.self c.in_ok-seq.seq
+          c.in_ok-seq.ensures.installed.1 c.in_ok-seq.ensures.installed.2
+          (has-room LIMIT _ _ _ c.flush.result c.in_ok-seq.seq (LimitReached LIMIT) went c.flush.ensures.limit)
+          (c.flush.ensures.kept m refl)
+          (subst (λ (v : SessionModel). IsSettled m old v) (sym c.self.view_is) settled));
+      alone = (λ settled alone.
+          let m = meaning_of g.M.MergeOperator.combine g.T.BlockTransformer.encoded g.T.BlockTransformer.decoded c.args.env.now.operator c.args.env.now.transformer in
+          let layout = layout_of c.args.options.now in
+          let went : c.flush.result ≡ Ok c.in_ok-seq.seq = grind (arith, c.branch-seq.ensures, c.in_ok-seq.is) in
+          let old = g.S.Store.objects c.args.env.now.store.now in
+          flush-alone m layout c.self.inside.core c.in_ok-seq.ensures.installed.0 c.flush.new.self c.in_ok-seq.seq old (g.S.Store.objects c.flush.new.env.store.now)
+          c.in_ok-seq.ensures.installed.1 c.in_ok-seq.ensures.installed.2
+          (subst (λ (v : SessionModel). IsSettled m old v) (sym c.self.view_is) settled).tables.few
+          (has-room LIMIT _ _ _ c.flush.result c.in_ok-seq.seq (LimitReached LIMIT) went c.flush.ensures.limit)
+          (subst (λ (v : SessionModel). HasTablesAlone m layout old (tables_of v.core.events)) (sym c.self.view_is) alone));
+      follows = (λ os settled.
+          let before : SessionModel = record { core = c.self.inside.core; names = c.self.inside.names.entries; now = c.self.inside.now } in
+          let m = meaning_of g.M.MergeOperator.combine g.T.BlockTransformer.encoded g.T.BlockTransformer.decoded c.args.env.now.operator c.args.env.now.transformer in
+          let went : c.flush.result ≡ Ok c.in_ok-seq.seq = grind (arith, c.branch-seq.ensures, c.in_ok-seq.is) in
+          follows-flush m (changed_by g.T.BlockTransformer.encoded c.args.env.now.transformer) _ os _ _ before c.in_ok-seq.ensures.installed.0 c.flush.new.self c.in_ok-seq.seq (g.S.Store.acts c.args.env.now.store.now) (g.S.Store.acts c.flush.new.env.store.now)
+          c.in_ok-seq.ensures.installed.1 c.in_ok-seq.ensures.installed.2 c.in_ok-seq.ensures.acts
+          (has-room LIMIT _ _ _ c.flush.result c.in_ok-seq.seq (LimitReached LIMIT) went c.flush.ensures.limit)
+          (c.flush.ensures.kept m refl)
+          (subst (λ (v : SessionModel). IsSettled m (Some os) v) (sym c.self.view_is) settled));
+      cause = tt;
+      meaning = parts-same _ _ (ap (λ o. combine_of g.M.MergeOperator.combine o) c.flush.ensures.operator) c.flush.ensures.same_encoded c.flush.ensures.same_decoded;
+      same_store = c.flush.ensures.same_store;
+      later = (record {
+        store = c.flush.ensures.later;
+        operator = untouched (λ o. faults_of g.M.MergeOperator.faults o) c.args.env.now.operator c.flush.new.env.operator c.flush.ensures.operator;
+        transformer = c.flush.ensures.later_transformer;
+      });
+    }
 
-pub returns-clause-kept : goal.returns-clause-kept
-returns-clause-kept g c settled =
-    let before : SessionModel = record { core = c.self.inside.core; names = c.self.inside.names.entries; now = c.self.inside.now } in
-    let m = meaning_of g.M.MergeOperator.combine g.T.BlockTransformer.encoded g.T.BlockTransformer.decoded c.args.env.now.operator c.args.env.now.transformer in
-    let encode = changed_by g.T.BlockTransformer.encoded c.args.env.now.transformer in
-    let went : c.flush.result ≡ Ok c.in_ok-seq.seq = grind (arith, c.branch-seq.ensures, c.in_ok-seq.is) in
-    let old = g.S.Store.objects c.args.env.now.store.now in
-    flush-settled m encode _ old (g.S.Store.objects c.flush.new.env.store.now) before c.in_ok-seq.ensures.installed.0 c.flush.new.self c.in_ok-seq.seq
-    c.in_ok-seq.ensures.installed.1 c.in_ok-seq.ensures.installed.2
-    (has-room LIMIT _ _ _ c.flush.result c.in_ok-seq.seq (LimitReached LIMIT) went c.flush.ensures.limit)
-    (c.flush.ensures.kept m refl)
-    (subst (λ (v : SessionModel). IsSettled m old v) (sym c.self.view_is) settled)
-
-pub returns-clause-alone : goal.returns-clause-alone
-returns-clause-alone g c settled alone =
-    let m = meaning_of g.M.MergeOperator.combine g.T.BlockTransformer.encoded g.T.BlockTransformer.decoded c.args.env.now.operator c.args.env.now.transformer in
-    let layout = layout_of c.args.options.now in
-    let went : c.flush.result ≡ Ok c.in_ok-seq.seq = grind (arith, c.branch-seq.ensures, c.in_ok-seq.is) in
-    let old = g.S.Store.objects c.args.env.now.store.now in
-    flush-alone m layout c.self.inside.core c.in_ok-seq.ensures.installed.0 c.flush.new.self c.in_ok-seq.seq old (g.S.Store.objects c.flush.new.env.store.now)
-    c.in_ok-seq.ensures.installed.1 c.in_ok-seq.ensures.installed.2
-    (subst (λ (v : SessionModel). IsSettled m old v) (sym c.self.view_is) settled).tables.few
-    (has-room LIMIT _ _ _ c.flush.result c.in_ok-seq.seq (LimitReached LIMIT) went c.flush.ensures.limit)
-    (subst (λ (v : SessionModel). HasTablesAlone m layout old (tables_of v.core.events)) (sym c.self.view_is) alone)
-
-pub returns-clause-meaning : goal.returns-clause-meaning
-returns-clause-meaning g c = parts-same _ _ (ap (λ o. combine_of g.M.MergeOperator.combine o) c.flush.ensures.operator) c.flush.ensures.same_encoded c.flush.ensures.same_decoded
-
-pub returns-in_err-seq-clause-meaning : goal.returns-in_err-seq-clause-meaning
-returns-in_err-seq-clause-meaning g c = parts-same _ _ (ap (λ o. combine_of g.M.MergeOperator.combine o) c.flush.ensures.operator) c.flush.ensures.same_encoded c.flush.ensures.same_decoded
-
-pub returns-clause-later : goal.returns-clause-later
-returns-clause-later g c = record {
-  store = c.flush.ensures.later;
-  operator = untouched (λ o. faults_of g.M.MergeOperator.faults o) c.args.env.now.operator c.flush.new.env.operator c.flush.ensures.operator;
-  transformer = c.flush.ensures.later_transformer;
-}
-
-pub returns-in_err-seq-clause-later : goal.returns-in_err-seq-clause-later
-returns-in_err-seq-clause-later g c = record {
-  store = c.flush.ensures.later;
-  operator = untouched (λ o. faults_of g.M.MergeOperator.faults o) c.args.env.now.operator c.flush.new.env.operator c.flush.ensures.operator;
-  transformer = c.flush.ensures.later_transformer;
-}
-
-pub returns-in_err-seq-clause-cause : goal.returns-in_err-seq-clause-cause
-returns-in_err-seq-clause-cause g c =
+pub returns-in_err-seq : goal.returns-in_err-seq
+returns-in_err-seq g c =
     let p = err_from_is_err_and c.from_residual.result c.from_residual.ensures.1 in
-    let before : Counts = counts_of (g.S.Store.faults c.args.env.now.store.now) g.M.MergeOperator.faults g.T.BlockTransformer.faults c.args.env.now.operator c.args.env.now.transformer in
-    let after : Counts = counts_of (g.S.Store.faults c.flush.new.env.store.now) g.M.MergeOperator.faults g.T.BlockTransformer.faults c.flush.new.env.operator c.flush.new.env.transformer in
-    rw (p.1, p.2) (subst (λ (v : SessionModel). IsOuter before after c.in_err-seq.field-0.0 ⊎ IsLimit v c.in_err-seq.field-0.0) c.self.view_is
-    (flush-cause before after (layout_of c.args.options.now) (record { core = c.self.inside.core; names = c.self.inside.names.entries; now = c.self.inside.now }) c.in_err-seq.field-0.0 c.in_err-seq.ensures.cause))
-
-pub returns-clause-grows : goal.returns-clause-grows
-returns-clause-grows g c =
-    let before : SessionModel = record { core = c.self.inside.core; names = c.self.inside.names.entries; now = c.self.inside.now } in
-    subst (λ (v : SessionModel). Grows lines.Flush v (record before { core = c.flush.new.self })) c.self.view_is
-    (grows before c.flush.new.self before.names before.now lines.Flush 0 (omega arith)
-    (takes-flushed _ _ c.self.inside.core c.in_ok-seq.ensures.installed.0 c.flush.new.self c.in_ok-seq.seq _ _ c.in_ok-seq.ensures.installed.1 c.in_ok-seq.ensures.installed.2 c.in_ok-seq.ensures.taken.0 c.in_ok-seq.ensures.taken.1))
-
-pub returns-clause-follows : goal.returns-clause-follows
-returns-clause-follows g c os settled =
-    let before : SessionModel = record { core = c.self.inside.core; names = c.self.inside.names.entries; now = c.self.inside.now } in
-    let m = meaning_of g.M.MergeOperator.combine g.T.BlockTransformer.encoded g.T.BlockTransformer.decoded c.args.env.now.operator c.args.env.now.transformer in
-    let went : c.flush.result ≡ Ok c.in_ok-seq.seq = grind (arith, c.branch-seq.ensures, c.in_ok-seq.is) in
-    follows-flush m (changed_by g.T.BlockTransformer.encoded c.args.env.now.transformer) _ os _ _ before c.in_ok-seq.ensures.installed.0 c.flush.new.self c.in_ok-seq.seq (g.S.Store.acts c.args.env.now.store.now) (g.S.Store.acts c.flush.new.env.store.now)
-    c.in_ok-seq.ensures.installed.1 c.in_ok-seq.ensures.installed.2 c.in_ok-seq.ensures.acts
-    (has-room LIMIT _ _ _ c.flush.result c.in_ok-seq.seq (LimitReached LIMIT) went c.flush.ensures.limit)
-    (c.flush.ensures.kept m refl)
-    (subst (λ (v : SessionModel). IsSettled m (Some os) v) (sym c.self.view_is) settled)
-
-pub returns-in_err-seq-clause-settings : goal.returns-in_err-seq-clause-settings
-returns-in_err-seq-clause-settings g c = IfOk-from_err c.from_residual.result _ c.from_residual.ensures.0
-
-pub returns-in_err-seq-clause-grows : goal.returns-in_err-seq-clause-grows
-returns-in_err-seq-clause-grows g c = IfOk-from_err c.from_residual.result _ c.from_residual.ensures.0
+    record {
+      step = λ m s stands. IfOk-from_err c.from_residual.result _ c.from_residual.ensures.0;
+      settings = IfOk-from_err c.from_residual.result _ c.from_residual.ensures.0;
+      grows = IfOk-from_err c.from_residual.result _ c.from_residual.ensures.0;
+      kept = λ settled. IfOk-from_err c.from_residual.result _ c.from_residual.ensures.0;
+      alone = λ settled alone. IfOk-from_err c.from_residual.result _ c.from_residual.ensures.0;
+      follows = λ os settled. IfOk-from_err c.from_residual.result _ c.from_residual.ensures.0;
+      cause = (let before : Counts = counts_of (g.S.Store.faults c.args.env.now.store.now) g.M.MergeOperator.faults g.T.BlockTransformer.faults c.args.env.now.operator c.args.env.now.transformer in
+          let after : Counts = counts_of (g.S.Store.faults c.flush.new.env.store.now) g.M.MergeOperator.faults g.T.BlockTransformer.faults c.flush.new.env.operator c.flush.new.env.transformer in
+          rw (p.1, p.2) (subst (λ (v : SessionModel). IsOuter before after c.in_err-seq.field-0.0 ⊎ IsLimit v c.in_err-seq.field-0.0) c.self.view_is
+          (flush-cause before after (layout_of c.args.options.now) (record { core = c.self.inside.core; names = c.self.inside.names.entries; now = c.self.inside.now }) c.in_err-seq.field-0.0 c.in_err-seq.ensures.cause)));
+      meaning = parts-same _ _ (ap (λ o. combine_of g.M.MergeOperator.combine o) c.flush.ensures.operator) c.flush.ensures.same_encoded c.flush.ensures.same_decoded;
+      same_store = c.flush.ensures.same_store;
+      later = (record {
+        store = c.flush.ensures.later;
+        operator = untouched (λ o. faults_of g.M.MergeOperator.faults o) c.args.env.now.operator c.flush.new.env.operator c.flush.ensures.operator;
+        transformer = c.flush.ensures.later_transformer;
+      });
+    }

@@ -28,13 +28,26 @@ use Rattle.slate_script.proofs.session.Session.get.Goals as goal
 has-parts : {combine : Option (List ℕ → Option (List ℕ) → List ℕ → List ℕ)} {encode decode : List ℕ → List ℕ} → HasParts (record { combine = combine; encode = encode; decode = decode }) combine encode decode
 has-parts = record { operator = refl; encodes = refl; decodes = refl }
 
-pub returns-in_default-clause-step : goal.returns-in_default-clause-step
-returns-in_default-clause-step g c settled =
-    let before : SessionModel = record { core = c.self.inside.core; names = c.self.inside.names.entries; now = c.self.inside.now } in
-    let m = meaning_of g.M.MergeOperator.combine g.T.BlockTransformer.encoded g.T.BlockTransformer.decoded c.args.env.now.operator c.args.env.now.transformer in
-    let none : find_named c.args.name before.names ≡ None = find_named-lookup c.args.name before.names ∙ sym c.in_default.ensures.value in
-    subst (λ (v : SessionModel). AnswersAs m v v (lines.Get c.args.name c.args.key) (Ok (answers.Refused (refusals.UnknownTransaction c.args.name)))) c.self.view_is
-    (get-refused m before c.args.name c.args.key none)
+pub returns-in_default : goal.returns-in_default
+returns-in_default g c =
+    record {
+      step = (λ settled.
+          let before : SessionModel = record { core = c.self.inside.core; names = c.self.inside.names.entries; now = c.self.inside.now } in
+          let m = meaning_of g.M.MergeOperator.combine g.T.BlockTransformer.encoded g.T.BlockTransformer.decoded c.args.env.now.operator c.args.env.now.transformer in
+          let none : find_named c.args.name before.names ≡ None = find_named-lookup c.args.name before.names ∙ sym c.in_default.ensures.value in
+          subst (λ (v : SessionModel). AnswersAs m v v (lines.Get c.args.name c.args.key) (Ok (answers.Refused (refusals.UnknownTransaction c.args.name)))) c.self.view_is
+          (get-refused m before c.args.name c.args.key none));
+      stores = record { settings = refl; tables = refl; later = omega arith; kept = λ m k. k };
+      grows = (omega arith, omega arith);
+      objects = refl;
+      cause = tt;
+      undamaged = λ settled. tt;
+      truthful = λ os settled answers. tt;
+      told = λ known told. ([], told ∙ ap (λ l. Some l) (sym (append-nil known)), tt);
+      meaning = refl;
+      same_store = refl;
+      later = never-less _;
+    }
 
 pub get-read-requires : goal.get-read-requires
 get-read-requires g c = c.self.invariant.0.opened c.args.name c.in-Some.id.now (find_named-lookup c.args.name c.self.inside.names.entries ∙ sym c.in-Some.ensures.value)
@@ -46,83 +59,64 @@ invariant_of-self-2 g c = (
   c.self.invariant.1,
 )
 
-pub returns-clause-step : goal.returns-clause-step
-returns-clause-step g c settled =
-    let before : SessionModel = record { core = c.self.inside.core; names = c.self.inside.names.entries; now = c.self.inside.now } in
-    let m = meaning_of g.M.MergeOperator.combine g.T.BlockTransformer.encoded g.T.BlockTransformer.decoded c.args.env.now.operator c.args.env.now.transformer in
-    let here : IsSettled m (g.S.Store.objects c.args.env.now.store.now) before = subst (λ (v : SessionModel). IsSettled m (g.S.Store.objects c.args.env.now.store.now) v) (sym c.self.view_is) settled in
-    let stepped = c.in_ok-row.ensures.answer m has-parts here.lawful here.kept here.tables.holds in
-    subst (λ (v : SessionModel). AnswersAs m v (record before { core = c.get-read.new.self }) (lines.Get c.args.name c.args.key) (Ok (answers.Found c.in_ok-row.row))) c.self.view_is
-    (get-found m before c.get-read.new.self c.args.name c.in-Some.id.now c.args.key c.in_ok-row.row c.self.invariant.0 (find_named-lookup c.args.name before.names ∙ sym c.in-Some.ensures.value)
-    (subst (λ (k : List ℕ). ◌≡◌ {A = State × Reply} (step (rules_of c.self.inside.core.settings m) c.self.inside.core.state (lines.Get c.in-Some.id.now k)) (c.get-read.new.self.state, replies.Found c.in_ok-row.row)) c.as_slice.ensures stepped))
+pub returns : goal.returns
+returns g c =
+    record {
+      step = (λ settled.
+          let before : SessionModel = record { core = c.self.inside.core; names = c.self.inside.names.entries; now = c.self.inside.now } in
+          let m = meaning_of g.M.MergeOperator.combine g.T.BlockTransformer.encoded g.T.BlockTransformer.decoded c.args.env.now.operator c.args.env.now.transformer in
+          let here : IsSettled m (g.S.Store.objects c.args.env.now.store.now) before = subst (λ (v : SessionModel). IsSettled m (g.S.Store.objects c.args.env.now.store.now) v) (sym c.self.view_is) settled in
+          let stepped = c.in_ok-row.ensures.answer m has-parts here.lawful here.kept here.tables.holds in
+          subst (λ (v : SessionModel). AnswersAs m v (record before { core = c.get-read.new.self }) (lines.Get c.args.name c.args.key) (Ok (answers.Found c.in_ok-row.row))) c.self.view_is
+          (get-found m before c.get-read.new.self c.args.name c.in-Some.id.now c.args.key c.in_ok-row.row c.self.invariant.0 (find_named-lookup c.args.name before.names ∙ sym c.in-Some.ensures.value)
+          (subst (λ (k : List ℕ). ◌≡◌ {A = State × Reply} (step (rules_of c.self.inside.core.settings m) c.self.inside.core.state (lines.Get c.in-Some.id.now k)) (c.get-read.new.self.state, replies.Found c.in_ok-row.row)) c.as_slice.ensures stepped)));
+      stores = (let before : SessionModel = record { core = c.self.inside.core; names = c.self.inside.names.entries; now = c.self.inside.now } in
+          let same : length c.get-read.new.self.events ≡ length c.self.inside.core.events = ap (λ (v : CoreModel). length v.events) c.in_ok-row.ensures.noted in
+          subst (λ (v : SessionModel). StoresNothing v (record before { core = c.get-read.new.self })) c.self.view_is
+          (record { settings = c.get-read.ensures.settings; tables = ap (λ (v : CoreModel). tables_of v.events) c.in_ok-row.ensures.noted; later = omega (arith, same); kept = c.get-read.ensures.kept }));
+      grows = (let before : SessionModel = record { core = c.self.inside.core; names = c.self.inside.names.entries; now = c.self.inside.now } in
+          subst (λ (v : SessionModel). Grows (lines.Get c.args.name c.args.key) v (record before { core = c.get-read.new.self })) c.self.view_is
+          (grows before c.get-read.new.self before.names before.now (lines.Get c.args.name c.args.key) 0 (omega arith)
+          (takes-noted c.self.inside.core c.get-read.new.self _ c.in_ok-row.ensures.noted (as-many c.in-Some.id.now _ c.self.inside.core.state.txns))));
+      objects = c.get-read.ensures.objects;
+      cause = tt;
+      undamaged = λ settled. tt;
+      truthful = λ os settled answers. tt;
+      told = c.get-read.ensures.told;
+      meaning = parts-same _ _ c.get-read.ensures.same_combine c.get-read.ensures.same_encoded c.get-read.ensures.same_decoded;
+      same_store = c.get-read.ensures.same_store;
+      later = record { store = c.get-read.ensures.later; operator = c.get-read.ensures.later_operator; transformer = c.get-read.ensures.later_transformer };
+    }
 
-pub returns-clause-meaning : goal.returns-clause-meaning
-returns-clause-meaning g c = parts-same _ _ c.get-read.ensures.same_combine c.get-read.ensures.same_encoded c.get-read.ensures.same_decoded
-
-pub returns-in_err-row-clause-meaning : goal.returns-in_err-row-clause-meaning
-returns-in_err-row-clause-meaning g c = parts-same _ _ c.get-read.ensures.same_combine c.get-read.ensures.same_encoded c.get-read.ensures.same_decoded
-
-pub returns-clause-later : goal.returns-clause-later
-returns-clause-later g c = record { store = c.get-read.ensures.later; operator = c.get-read.ensures.later_operator; transformer = c.get-read.ensures.later_transformer }
-
-pub returns-in_err-row-clause-later : goal.returns-in_err-row-clause-later
-returns-in_err-row-clause-later g c = record { store = c.get-read.ensures.later; operator = c.get-read.ensures.later_operator; transformer = c.get-read.ensures.later_transformer }
-
-pub returns-in_err-row-clause-cause : goal.returns-in_err-row-clause-cause
-returns-in_err-row-clause-cause g c =
+pub returns-in_err-row : goal.returns-in_err-row
+returns-in_err-row g c =
     let p = err_from_is_err_and c.from_residual.result c.from_residual.ensures.1 in
-    let before : Counts = counts_of (g.S.Store.faults c.args.env.now.store.now) g.M.MergeOperator.faults g.T.BlockTransformer.faults c.args.env.now.operator c.args.env.now.transformer in
-    let after : Counts = counts_of (g.S.Store.faults c.get-read.new.env.store.now) g.M.MergeOperator.faults g.T.BlockTransformer.faults c.get-read.new.env.operator c.get-read.new.env.transformer in
-    rw (p.1, p.2) (get-cause before after (combine_of g.M.MergeOperator.combine c.args.env.now.operator) _ c.in_err-row.ensures.cause)
-
-pub returns-in_err-row-clause-undamaged : goal.returns-in_err-row-clause-undamaged
-returns-in_err-row-clause-undamaged g c settled =
-    let before : SessionModel = record { core = c.self.inside.core; names = c.self.inside.names.entries; now = c.self.inside.now } in
-    let m = meaning_of g.M.MergeOperator.combine g.T.BlockTransformer.encoded g.T.BlockTransformer.decoded c.args.env.now.operator c.args.env.now.transformer in
-    let here : IsSettled m (g.S.Store.objects c.args.env.now.store.now) before = subst (λ (v : SessionModel). IsSettled m (g.S.Store.objects c.args.env.now.store.now) v) (sym c.self.view_is) settled in
-    let p = err_from_is_err_and c.from_residual.result c.from_residual.ensures.1 in
-    let first : Counts = counts_of (g.S.Store.faults c.args.env.now.store.now) g.M.MergeOperator.faults g.T.BlockTransformer.faults c.args.env.now.operator c.args.env.now.transformer in
-    let after : Counts = counts_of (g.S.Store.faults c.get-read.new.env.store.now) g.M.MergeOperator.faults g.T.BlockTransformer.faults c.get-read.new.env.operator c.get-read.new.env.transformer in
-    rw (p.1, p.2) (get-outer first after _ (c.in_err-row.ensures.whole m has-parts here.lawful here.kept here.tables.holds))
-
-pub returns-clause-grows : goal.returns-clause-grows
-returns-clause-grows g c =
-    let before : SessionModel = record { core = c.self.inside.core; names = c.self.inside.names.entries; now = c.self.inside.now } in
-    subst (λ (v : SessionModel). Grows (lines.Get c.args.name c.args.key) v (record before { core = c.get-read.new.self })) c.self.view_is
-    (grows before c.get-read.new.self before.names before.now (lines.Get c.args.name c.args.key) 0 (omega arith)
-    (takes-noted c.self.inside.core c.get-read.new.self _ c.in_ok-row.ensures.noted (as-many c.in-Some.id.now _ c.self.inside.core.state.txns)))
-
-pub returns-in_err-row-clause-truthful : goal.returns-in_err-row-clause-truthful
-returns-in_err-row-clause-truthful g c os settled answers =
-    let before : SessionModel = record { core = c.self.inside.core; names = c.self.inside.names.entries; now = c.self.inside.now } in
-    let m = meaning_of g.M.MergeOperator.combine g.T.BlockTransformer.encoded g.T.BlockTransformer.decoded c.args.env.now.operator c.args.env.now.transformer in
-    let here : IsSettled m (Some os) before = subst (λ (v : SessionModel). IsSettled m (Some os) v) (sym c.self.view_is) settled in
-    let p = err_from_is_err_and c.from_residual.result c.from_residual.ensures.1 in
-    let first : Counts = counts_of (g.S.Store.faults c.args.env.now.store.now) g.M.MergeOperator.faults g.T.BlockTransformer.faults c.args.env.now.operator c.args.env.now.transformer in
-    let after : Counts = counts_of (g.S.Store.faults c.get-read.new.env.store.now) g.M.MergeOperator.faults g.T.BlockTransformer.faults c.get-read.new.env.operator c.get-read.new.env.transformer in
-    rw (p.1, p.2) (get-outer first after _ (c.in_err-row.ensures.truthful m os has-parts here.lawful here.kept here.tables.holds answers))
-
-pub returns-in_default-clause-stores : goal.returns-in_default-clause-stores
-returns-in_default-clause-stores g c = record { settings = refl; tables = refl; later = omega arith; kept = λ m k. k }
-
-pub returns-in_default-clause-grows : goal.returns-in_default-clause-grows
-returns-in_default-clause-grows g c = (omega arith, omega arith)
-
-pub returns-in_default-clause-told : goal.returns-in_default-clause-told
-returns-in_default-clause-told g c = λ known told. ([], told ∙ ap (λ l. Some l) (sym (append-nil known)), tt)
-
-pub returns-in_default-clause-later : goal.returns-in_default-clause-later
-returns-in_default-clause-later g c = never-less _
-
-pub returns-clause-stores : goal.returns-clause-stores
-returns-clause-stores g c =
-    let before : SessionModel = record { core = c.self.inside.core; names = c.self.inside.names.entries; now = c.self.inside.now } in
-    let same : length c.get-read.new.self.events ≡ length c.self.inside.core.events = ap (λ (v : CoreModel). length v.events) c.in_ok-row.ensures.noted in
-    subst (λ (v : SessionModel). StoresNothing v (record before { core = c.get-read.new.self })) c.self.view_is
-    (record { settings = c.get-read.ensures.settings; tables = ap (λ (v : CoreModel). tables_of v.events) c.in_ok-row.ensures.noted; later = omega (arith, same); kept = c.get-read.ensures.kept })
-
-pub returns-in_err-row-clause-stores : goal.returns-in_err-row-clause-stores
-returns-in_err-row-clause-stores g c = IfOk-from_err c.from_residual.result _ c.from_residual.ensures.0
-
-pub returns-in_err-row-clause-grows : goal.returns-in_err-row-clause-grows
-returns-in_err-row-clause-grows g c = IfOk-from_err c.from_residual.result _ c.from_residual.ensures.0
+    record {
+      step = λ settled s stands. IfOk-from_err c.from_residual.result _ c.from_residual.ensures.0;
+      stores = IfOk-from_err c.from_residual.result _ c.from_residual.ensures.0;
+      grows = IfOk-from_err c.from_residual.result _ c.from_residual.ensures.0;
+      objects = c.get-read.ensures.objects;
+      cause = (let before : Counts = counts_of (g.S.Store.faults c.args.env.now.store.now) g.M.MergeOperator.faults g.T.BlockTransformer.faults c.args.env.now.operator c.args.env.now.transformer in
+          let after : Counts = counts_of (g.S.Store.faults c.get-read.new.env.store.now) g.M.MergeOperator.faults g.T.BlockTransformer.faults c.get-read.new.env.operator c.get-read.new.env.transformer in
+          rw (p.1, p.2) (get-cause before after (combine_of g.M.MergeOperator.combine c.args.env.now.operator) _ c.in_err-row.ensures.cause));
+      undamaged = (λ settled.
+          let before : SessionModel = record { core = c.self.inside.core; names = c.self.inside.names.entries; now = c.self.inside.now } in
+          let m = meaning_of g.M.MergeOperator.combine g.T.BlockTransformer.encoded g.T.BlockTransformer.decoded c.args.env.now.operator c.args.env.now.transformer in
+          let here : IsSettled m (g.S.Store.objects c.args.env.now.store.now) before = subst (λ (v : SessionModel). IsSettled m (g.S.Store.objects c.args.env.now.store.now) v) (sym c.self.view_is) settled in
+          let p = err_from_is_err_and c.from_residual.result c.from_residual.ensures.1 in
+          let first : Counts = counts_of (g.S.Store.faults c.args.env.now.store.now) g.M.MergeOperator.faults g.T.BlockTransformer.faults c.args.env.now.operator c.args.env.now.transformer in
+          let after : Counts = counts_of (g.S.Store.faults c.get-read.new.env.store.now) g.M.MergeOperator.faults g.T.BlockTransformer.faults c.get-read.new.env.operator c.get-read.new.env.transformer in
+          rw (p.1, p.2) (get-outer first after _ (c.in_err-row.ensures.whole m has-parts here.lawful here.kept here.tables.holds)));
+      truthful = (λ os settled answers.
+          let before : SessionModel = record { core = c.self.inside.core; names = c.self.inside.names.entries; now = c.self.inside.now } in
+          let m = meaning_of g.M.MergeOperator.combine g.T.BlockTransformer.encoded g.T.BlockTransformer.decoded c.args.env.now.operator c.args.env.now.transformer in
+          let here : IsSettled m (Some os) before = subst (λ (v : SessionModel). IsSettled m (Some os) v) (sym c.self.view_is) settled in
+          let p = err_from_is_err_and c.from_residual.result c.from_residual.ensures.1 in
+          let first : Counts = counts_of (g.S.Store.faults c.args.env.now.store.now) g.M.MergeOperator.faults g.T.BlockTransformer.faults c.args.env.now.operator c.args.env.now.transformer in
+          let after : Counts = counts_of (g.S.Store.faults c.get-read.new.env.store.now) g.M.MergeOperator.faults g.T.BlockTransformer.faults c.get-read.new.env.operator c.get-read.new.env.transformer in
+          rw (p.1, p.2) (get-outer first after _ (c.in_err-row.ensures.truthful m os has-parts here.lawful here.kept here.tables.holds answers)));
+      told = c.get-read.ensures.told;
+      meaning = parts-same _ _ c.get-read.ensures.same_combine c.get-read.ensures.same_encoded c.get-read.ensures.same_decoded;
+      same_store = c.get-read.ensures.same_store;
+      later = record { store = c.get-read.ensures.later; operator = c.get-read.ensures.later_operator; transformer = c.get-read.ensures.later_transformer };
+    }

@@ -1,4 +1,4 @@
-use Rattle.std.proofs.Common.{arith, OnOk, Result, sym, subst}
+use Rattle.std.proofs.Common.{arith, OnOk, Result, sym, subst, refl}
 use Rattle.slate_txn.specs.Reply.{Written}
 use Rattle.slate_db.specs.Load.{ops_load}
 use Rattle.slate_db.specs.Meaning.{rules_of}
@@ -10,6 +10,7 @@ use Rattle.slate_script.specs.Session.{SessionModel, AnswersAs, Grows, IsLimit, 
 use Rattle.slate_script.proofs.SessionSteps.{batch-refused, refused-cause, write-as, commit-refused, at-meaning, at-moment, refused-at-moment, given-moment}
 use Rattle.slate_script.proofs.SessionLeaves.{leaves-written, leaves-same, written-txns, written-flushed, kept-same, stores, stores-where}
 use Rattle.slate_script.proofs.Growth.{grows, grows-where, takes-written, takes-same}
+use Rattle.slate_script.proofs.Running.{always}
 use Rattle.slate_script.proofs.session.Session.write.Goals as goal
 use Rattle.slate_script.proofs.session.Session.write.Goals.{in-Ok-write, in-Err-write}
 
@@ -44,8 +45,11 @@ returns-clause-grows c =
       | in-Err-write w ↦ grows before c.write.new.self before.names before.now (lines.Write c.args.ops) 0 (omega arith) (takes-same c.self.inside.core c.write.new.self w.in-Err-write.ensures.same)
     ]))
 
-pub returns-in-Err-clause-step : goal.returns-in-Err-clause-step
-returns-in-Err-clause-step c m = batch-refused m c.args.self.now c.args.ops c.in-Err.error c.refused.result c.refused.ensures.reply c.refused.ensures.answered c.in-Err.ensures.refused
-
-pub returns-in-Err-clause-cause : goal.returns-in-Err-clause-cause
-returns-in-Err-clause-cause c = refused-cause (λ e. IsLimit c.args.self.now e) c.args.ops c.in-Err.error c.refused.result c.refused.ensures.other c.in-Err.ensures.refused
+pub returns-in-Err : goal.returns-in-Err
+returns-in-Err c =
+    record {
+      step = λ m. batch-refused m c.args.self.now c.args.ops c.in-Err.error c.refused.result c.refused.ensures.reply c.refused.ensures.answered c.in-Err.ensures.refused;
+      stores = always c.refused.result (record { settings = refl; tables = refl; later = omega arith; kept = λ m k. k });
+      grows = always c.refused.result (omega arith, omega arith);
+      cause = refused-cause (λ e. IsLimit c.args.self.now e) c.args.ops c.in-Err.error c.refused.result c.refused.ensures.other c.in-Err.ensures.refused;
+    }
