@@ -4,6 +4,7 @@ ghost use Rattle.slate_types.specs.declared.types.RowEntry.{RowEntry};
 ghost use Rattle.slate_types.specs.Iteration.{drop_before};
 ghost use Rattle.slate_block.specs.Walks.{block_reads, block_rows, reads_v2};
 ghost use Rattle.slate_block.specs.BlockWalks.{in_order, left, rising_rows, rows_of, BeginsRead, Blames, IsDamage, IsPast, IsRising, IsSought, Refuses, StopsAt, TakesLeft, TakesRead};
+ghost use Rattle.slate_block.specs.WholeWalks.{none_refused};
 ghost use Rattle.slate_block.specs.GroupWalks.{walk_in};
 
 use crate::block_like::BlockLike;
@@ -173,17 +174,21 @@ impl<E: Outside, B: BlockLike> RowEntryIterator<E> for BlockIteratorV2<B> {
 
     ghost bound = { λ it. length it.reads };
 
-    ghost refuses = { λ it _ _ e. Refuses it.reads e };
+    ghost refuses = { λ it _ _ _ e. Refuses it.reads e };
 
-    ghost begins = { λ before _ after. after ≡ before };
+    ghost begins = { λ before _ _ after. after ≡ before };
 
-    ghost takes = { λ before _ answer after. TakesRead before.reads answer after.reads };
+    ghost takes = { λ before _ _ answer after. TakesRead before.reads answer after.reads };
 
-    ghost seeks = { λ before _ key after. IsSought key before after × BeginsRead after.reads };
+    ghost seeks = { λ before _ _ key after. IsSought key before after × BeginsRead after.reads };
 
-    ghost stays = { λ before _ at e after. (after ≡ before) × Blames at before e };
+    ghost stays = { λ before _ _ at e after. (after ≡ before) × Blames at before e };
 
     ghost rising = { λ it _ h. rising_rows it.order (left it) h };
+
+    ghost more = { λ _ _ _ _ _ _ h. h };
+
+    ghost whole = { λ it _ _ _ e h _ r _. none_refused it e h r };
 
     fn init(&mut self, _alloc: Global, _env: &mut E) -> Result<(), SlateDBError> {
         Ok(())

@@ -1,32 +1,20 @@
 -- What is known of a read by the acts of the call that it stands in.
-use Rattle.std.proofs.Common.{◌≡◌, ℕ, ◌⊎◌, inl, inr, List, [], ◌∷◌, ◌++◌, Option, Some, refl, sym, ap, subst, ◌∙◌, append-nil, append_assoc}
+use Rattle.std.proofs.Common.{◌≡◌, ℕ, ◌⊎◌, inl, inr, List, [], ◌∷◌, ◌++◌, Option, Some, refl, sym, ap, subst, ◌∙◌, append_assoc}
 use Rattle.std.specs.List.{AllByRecursion}
 use Rattle.std.proofs.lemmas.List.{append_cancel_left}
 use Rattle.std.proofs.lemmas.Option.{same_Some}
-use Rattle.slate_types.specs.Outside.{Objects}
+use Rattle.slate_types.specs.Outside.{Objects, OnlyReads, Reach}
+use Rattle.slate_types.proofs.Reaching.{adds_none}
 use Rattle.slate_store.specs.Store.{Act, AnswersRead, object_at, part_of}
 use Rattle.slate_table.specs.Reading.{IsRead, Reads}
 use Rattle.slate_table.proofs.FrameReads.{answered}
-use Rattle.slate_db.specs.Answered.{AddsReads, AnswersAct, AnswersAs, Answering, PutsNothing}
+use Rattle.slate_db.specs.Answered.{AddsReads, AnswersAct, AnswersAs, AnswersFrom, Answering}
 use Rattle.slate_db.proofs.Lists.{all_front, all_behind}
 
 -- ---- acts are only added
 
-all_both : {X : Type 0} (P : X → Type 0) (xs ys : List X) → AllByRecursion P xs → AllByRecursion P ys → AllByRecursion P (xs ++ ys)
-all_both P [] ys h k = k
-all_both P (x ∷ xs) ys h k = (h.0, all_both P xs ys h.1 k)
-
-pub adds_none : (acts : Option (List Act)) → AddsReads acts acts
-adds_none acts known is = ([], is ∙ ap (λ (l : List Act). Some l) (sym (append-nil known)), tt)
-
 pub adds_same : (before after : Option (List Act)) → after ≡ before → AddsReads before after
 adds_same before after same = subst (AddsReads before) (sym same) (adds_none before)
-
-pub adds_both : (first middle last : Option (List Act)) → AddsReads first middle → AddsReads middle last → AddsReads first last
-adds_both first middle last f l known is =
-    let some = f known is in
-    let rest = l (known ++ some.0) some.1 in
-    (some.0 ++ rest.0, rest.1 ∙ ap (λ (a : List Act). Some a) (append_assoc known some.0 rest.0), all_both PutsNothing some.0 rest.0 some.2 rest.2)
 
 pub adds_read : (objects : Option Objects) (before after : Option (List Act)) (path : List ℕ) (start size : ℕ) (means : Option (List ℕ) → Type 0) → Reads objects before after path start size means → AddsReads before after
 adds_read objects before after path start size means r known is = (Act.read path start size r.1.0 ∷ [], r.1.2 known is, (tt, tt))
@@ -62,6 +50,12 @@ answering_first os objects first middle last f l (inr a) = inr (answers_first os
 pub answering_last : (os : Objects) (objects objects2 : Option Objects) (first middle last : Option (List Act)) → objects2 ≡ objects → AddsReads first middle → AddsReads middle last → Answering os objects first last → Answering os objects2 middle last
 answering_last os objects objects2 first middle last same f l (inl is) = inl (same ∙ is)
 answering_last os objects objects2 first middle last same f l (inr a) = inr (answers_last os first middle last f l a)
+
+pub from_first : (os : Objects) (a b c : Reach) → OnlyReads a b → OnlyReads b c → AnswersFrom os a c → AnswersFrom os a b
+from_first os a b c f l h = answering_first os a.objects a.acts b.acts c.acts f.acts l.acts h
+
+pub from_last : (os : Objects) (a b c : Reach) → OnlyReads a b → OnlyReads b c → AnswersFrom os a c → AnswersFrom os b c
+from_last os a b c f l h = answering_last os a.objects b.objects a.acts b.acts c.acts f.objects f.acts l.acts h
 
 -- ---- a read of an object whose bytes are known
 

@@ -4,7 +4,7 @@ use Rattle.std.specs.Prelude.{IfOk, IfErr, slice_get}
 use Rattle.slate_types.specs.declared.error.SlateDBError.{SlateDBError}
 use Rattle.slate_types.specs.declared.error.SlateDBError.TheVariants.{OutOfMemory, StoreFault, Callback, BlockTransformError}
 use Rattle.slate_types.specs.declared.types.RowEntry.{RowEntry}
-use Rattle.slate_types.specs.Outside.{IsOuter, no_faults}
+use Rattle.slate_types.specs.Outside.{IsCounted, no_faults}
 use Rattle.slate_block.specs.BlockSpelling.{AreRows, IsBlockOf}
 use Rattle.slate_block.specs.BlockWalks.{Refuses}
 use Rattle.slate_block.specs.Damage.{◌>>=◌}
@@ -17,6 +17,10 @@ use Rattle.slate_block.proofs.BlocksReadAgainV2.{block_again as again_v2}
 pub if_ok : {X E : Type 0} (r : Result X E) (P Q : X → Type 0) → ((x : X) → P x → Q x) → IfOk r P → IfOk r Q
 if_ok (Ok x) P Q f h = f x h
 if_ok (Err e) P Q f h = tt
+
+pub if_ok_where : {X E P : Type 0} (r : Result X E) (Q : X → Type 0) → (P → IfOk r Q) → IfOk r (λ x. P → Q x)
+if_ok_where (Ok x) Q h = h
+if_ok_where (Err e) Q h = tt
 
 pub if_err : {X E : Type 0} (r : Result X E) (P Q : E → Type 0) → ((e : E) → P e → Q e) → IfErr r P → IfErr r Q
 if_err (Ok x) P Q f h = tt
@@ -42,7 +46,7 @@ pub only_memory : (version : ℕ) (body offsets : List ℕ) (rows : List RowEntr
 only_memory version body offsets rows e m (inl h) ok = h
 only_memory version body offsets rows e m (inr h) ok = let clash : Ok rows ≡ Err e = sym ok ∙ unread version body offsets e h in absurd cc
 
-pub outer_memory : (e : SlateDBError) → IsOuter no_faults no_faults e → e ≡ OutOfMemory
+pub outer_memory : (e : SlateDBError) → IsCounted no_faults no_faults e → e ≡ OutOfMemory
 outer_memory OutOfMemory h = refl
 outer_memory StoreFault h = absurd (omega (arith, h))
 outer_memory (Callback m) h = absurd (omega (arith, h))
@@ -62,11 +66,11 @@ none_refused (read ∷ reads) rows (suc i) e h at =
 nothing_refused : (reads : List RowRead) (rows : List RowEntry) (e : SlateDBError) → all_ok reads ≡ Ok rows → Refuses reads e → ⊥
 nothing_refused reads rows e h r = none_refused reads rows r.1.0 e h r.1.1
 
-pub seek_memory : (reads : List RowRead) (rows : List RowEntry) (e : SlateDBError) → all_ok reads ≡ Ok rows → IsOuter no_faults no_faults e ⊎ Refuses reads e → e ≡ OutOfMemory
+pub seek_memory : (reads : List RowRead) (rows : List RowEntry) (e : SlateDBError) → all_ok reads ≡ Ok rows → IsCounted no_faults no_faults e ⊎ Refuses reads e → e ≡ OutOfMemory
 seek_memory reads rows e h (inl outer) = outer_memory e outer
 seek_memory reads rows e h (inr r) = absurd (nothing_refused reads rows e h r)
 
-pub seek_refuses : (reads : List RowRead) (e : SlateDBError) → IsOuter no_faults no_faults e ⊎ Refuses reads e → (e ≡ OutOfMemory) ⊎ Refuses reads e
+pub seek_refuses : (reads : List RowRead) (e : SlateDBError) → IsCounted no_faults no_faults e ⊎ Refuses reads e → (e ≡ OutOfMemory) ⊎ Refuses reads e
 seek_refuses reads e (inl outer) = inl (outer_memory e outer)
 seek_refuses reads e (inr r) = inr r
 

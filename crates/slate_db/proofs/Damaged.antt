@@ -8,7 +8,7 @@ use Rattle.std.proofs.lemmas.List.Elements.{All-contains, All-from_recursion, Co
 use Rattle.slate_types.specs.declared.error.SlateDBError.{SlateDBError}
 use Rattle.slate_types.specs.declared.error.SlateDBError.TheVariants.{CorruptTable, ChecksumMismatch, InvalidRowFlags, InvalidVersion, OutOfMemory}
 use Rattle.slate_types.specs.declared.types.Ulid.{Ulid}
-use Rattle.slate_types.specs.Outside.{Objects, IsOuter, no_faults}
+use Rattle.slate_types.specs.Outside.{Objects, IsCounted, no_faults}
 use Rattle.slate_store.specs.Store.{Act}
 use Rattle.slate_block.specs.BlockReading.{counted_offsets, offset_field as block_offset_field, offsets_from, offsets_of_block}
 use Rattle.slate_block.specs.BlockWalks.{Refuses, IsDamage as IsBlockDamage}
@@ -148,10 +148,6 @@ cause_earlier a b c x y z e h k (inl f) = inl (store_earlier a b c e h f)
 cause_earlier a b c x y z e h k (inr (inl f)) = inr (inl (transform_earlier x y z e k f))
 cause_earlier a b c x y z e h k (inr (inr d)) = inr (inr d)
 
-pub found_cause : {D : Type 0} (a b x y : ℕ) (e : SlateDBError) → (e ≡ OutOfMemory) ⊎ D → IsStoreFault a b e ⊎ IsTransformFault x y e ⊎ D
-found_cause a b x y e (inl m) = inl (inl m)
-found_cause a b x y e (inr d) = inr (inr d)
-
 -- ---- rows of a block
 
 in_block : (e : SlateDBError) → IsBlockDamage e → IsDamage e
@@ -176,7 +172,7 @@ begin_cause version r e is known unknown = by (eqb version 1) (eqb version 2) re
         let same : e ≡ InvalidVersion version = cc in
         inr (inr (not_one, not_two, same))
 
-pub seek_cause : {U : Type 0} (reads : List RowRead) (e : SlateDBError) → IsOuter no_faults no_faults e ⊎ Refuses reads e → (e ≡ OutOfMemory) ⊎ IsDamage e ⊎ U
+pub seek_cause : {U : Type 0} (reads : List RowRead) (e : SlateDBError) → IsCounted no_faults no_faults e ⊎ Refuses reads e → (e ≡ OutOfMemory) ⊎ IsDamage e ⊎ U
 seek_cause reads e (inl outer) = inl (outer_memory e outer)
 seek_cause reads e (inr r) = inr (inl (in_block e r.0))
 
@@ -186,12 +182,11 @@ walk_cause reads e (inr r) = inr (inl (in_block e r.0))
 
 -- ---- tables whose versions are known
 
-pub at_table : {A B : Type 0} (hs : List SsTableHandle) (i : ℕ) (h : SsTableHandle) (e : SlateDBError) → i < length hs → h ≡ get_or hs i h → A ⊎ B ⊎ IsDamage e ⊎ IsUnknown h.format_version e →
-    A ⊎ B ⊎ IsDamage e ⊎ ((x : SsTableHandle) × Contains hs x × IsUnknown x.format_version e)
+pub at_table : {A : Type 0} (hs : List SsTableHandle) (i : ℕ) (h : SsTableHandle) (e : SlateDBError) → i < length hs → h ≡ get_or hs i h → A ⊎ IsDamage e ⊎ IsUnknown h.format_version e →
+    A ⊎ IsDamage e ⊎ ((x : SsTableHandle) × Contains hs x × IsUnknown x.format_version e)
 at_table hs i h e within is (inl a) = inl a
-at_table hs i h e within is (inr (inl b)) = inr (inl b)
-at_table hs i h e within is (inr (inr (inl d))) = inr (inr (inl d))
-at_table hs i h e within is (inr (inr (inr u))) = inr (inr (inr (h, subst (Contains hs) (sym is) (Contains-get_or hs i h within), u)))
+at_table hs i h e within is (inr (inl d)) = inr (inl d)
+at_table hs i h e within is (inr (inr u)) = inr (inr (h, subst (Contains hs) (sym is) (Contains-get_or hs i h within), u))
 
 known_all : (ts : List (Ulid × List ℕ)) (hs : List SsTableHandle) → AreHandles ts hs → AllByRecursion (λ (h : SsTableHandle). (h.format_version ≡ 1) ⊎ (h.format_version ≡ 2)) hs
 known_all [] [] are = tt
@@ -199,12 +194,11 @@ known_all (t ∷ ts) (h ∷ hs) are = (are.0.version, known_all ts hs are.1)
 known_all [] (h ∷ hs) are = absurd are
 known_all (t ∷ ts) [] are = absurd are
 
-pub known_cause : {A B : Type 0} (ts : List (Ulid × List ℕ)) (tables hs : List SsTableHandle) (e : SlateDBError) → tables ≡ hs → AreHandles ts hs →
-    A ⊎ B ⊎ IsDamage e ⊎ ((x : SsTableHandle) × Contains tables x × IsUnknown x.format_version e) → A ⊎ B ⊎ IsDamage e
+pub known_cause : {A : Type 0} (ts : List (Ulid × List ℕ)) (tables hs : List SsTableHandle) (e : SlateDBError) → tables ≡ hs → AreHandles ts hs →
+    A ⊎ IsDamage e ⊎ ((x : SsTableHandle) × Contains tables x × IsUnknown x.format_version e) → A ⊎ IsDamage e
 known_cause ts tables hs e same are (inl a) = inl a
-known_cause ts tables hs e same are (inr (inl b)) = inr (inl b)
-known_cause ts tables hs e same are (inr (inr (inl d))) = inr (inr d)
-known_cause ts tables hs e same are (inr (inr (inr (x, among, u)))) = absurd (by (All-contains (λ (h : SsTableHandle). (h.format_version ≡ 1) ⊎ (h.format_version ≡ 2)) hs x (All-from_recursion _ hs (known_all ts hs are)) (subst (λ (ys : List SsTableHandle). Contains ys x) same among)))
+known_cause ts tables hs e same are (inr (inl d)) = inr d
+known_cause ts tables hs e same are (inr (inr (x, among, u))) = absurd (by (All-contains (λ (h : SsTableHandle). (h.format_version ≡ 1) ⊎ (h.format_version ≡ 2)) hs x (All-from_recursion _ hs (known_all ts hs are)) (subst (λ (ys : List SsTableHandle). Contains ys x) same among)))
   where
     by : (x.format_version ≡ 1) ⊎ (x.format_version ≡ 2) → ⊥
     by (inl first) = u.0 first

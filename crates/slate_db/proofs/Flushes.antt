@@ -6,11 +6,10 @@ use Rattle.std.specs.Prelude.{◌==◌, Result, Ok, Err, IfOk, IfErr, OnOk, OnEr
 use Rattle.slate_types.specs.declared.error.SlateDBError.{SlateDBError}
 use Rattle.slate_types.specs.declared.error.SlateDBError.TheVariants.{OutOfMemory, LimitReached, StoreFault, BlockTransformError}
 use Rattle.slate_types.specs.Fold.{fold_rows}
-use Rattle.slate_types.specs.Outside.{Objects}
+use Rattle.slate_types.specs.Outside.{Counts, IsCounted, Objects}
 use Rattle.slate_mem.specs.Table.{MemTableModel}
 use Rattle.slate_table.specs.declared.info.SsTableHandle.{SsTableHandle}
 use Rattle.slate_table.specs.Parts.{Encode}
-use Rattle.slate_table.specs.Reading.{IsStoreFault}
 use Rattle.slate_txn.specs.declared.event.Event.TheVariants as events
 use Rattle.slate_txn.specs.declared.line.Line.TheVariants as lines
 use Rattle.slate_txn.specs.Reply.{Flushed}
@@ -184,12 +183,12 @@ no_fault limit r e at limited (inr x) (inr is) = let m : e ≡ LimitReached limi
 
 -- ---- what is said of a refusal before the install
 
-pub freeze_cause : {B C : Type 0} (limit a b : ℕ) (old : CoreModel) (e : SlateDBError) → (old.active ≡ [] → ⊥) → (e ≡ OutOfMemory) ⊎ ((e ≡ LimitReached limit) × (limit < held old + 1)) → IsStoreFault a b e ⊎ (B ⊎ (((e ≡ LimitReached limit) × (limit < passed old)) ⊎ C))
-freeze_cause limit a b old e some (inl is) = inl (inl is)
-freeze_cause limit a b old e some (inr (is, more)) = inr (inr (inl (is, passes_two limit old some (omega arith))))
+pub freeze_cause : {C : Type 0} (limit : ℕ) (a b : Counts) (old : CoreModel) (e : SlateDBError) → (old.active ≡ [] → ⊥) → (e ≡ OutOfMemory) ⊎ ((e ≡ LimitReached limit) × (limit < held old + 1)) → IsCounted a b e ⊎ ((e ≡ LimitReached limit) × (limit < passed old)) ⊎ C
+freeze_cause limit a b old e some (inl is) = inl (subst (IsCounted a b) (sym is) tt)
+freeze_cause limit a b old e some (inr (is, more)) = inr (inl (is, passes_two limit old some (omega arith)))
 
-pub place_cause : {A B C : Type 0} (limit : ℕ) (old : CoreModel) (e : SlateDBError) → (e ≡ LimitReached limit) × (limit < passed old) → A ⊎ (B ⊎ (((e ≡ LimitReached limit) × (limit < passed old)) ⊎ C))
-place_cause limit old e h = inr (inr (inl h))
+pub place_cause : {A C : Type 0} (limit : ℕ) (old : CoreModel) (e : SlateDBError) → (e ≡ LimitReached limit) × (limit < passed old) → A ⊎ ((e ≡ LimitReached limit) × (limit < passed old)) ⊎ C
+place_cause limit old e h = inr (inl h)
 
 -- ---- what a flush has of its install
 

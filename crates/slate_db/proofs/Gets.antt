@@ -18,7 +18,7 @@ use Rattle.slate_txn.specs.declared.event.Event.{Event}
 use Rattle.slate_txn.specs.Reads.{up_to, key_rows}
 use Rattle.slate_db.specs.Installs.{tables_of, installed, root, AreHandles, Holds, HoldsTables}
 use Rattle.slate_mem.specs.Lookup.{newest_first, is_merge_among}
-use Rattle.slate_db.specs.Lookup.{AreStored}
+use Rattle.slate_db.specs.Lookup.{AreStored, AreStoredAs}
 use Rattle.slate_db.specs.Meaning.{Meaning, IsLawfulMeaning, rules_of, combine_of}
 use Rattle.slate_db.specs.Model.{CoreModel, Rows, memory, of_key, versions, versions_in}
 use Rattle.slate_db.specs.Sound.{AreBases, AreTables, IsKept, at_most, above}
@@ -65,6 +65,10 @@ stored_known m c d n ids runs hs known objects layers encode decode same kept en
     (stored_tables m d n ids runs hs objects layers w law
     (subst (λ (v : CoreModel). AreTables m (tables_of v.events) layers) (sym same) tables)
     (subst (λ (v : CoreModel). HoldsTables objects v.events) (sym same) held)))
+
+pub stored_as : (m : Meaning) (c d : CoreModel) (n ids runs : ℕ) (hs known : List SsTableHandle) (os : Objects) (layers : List Rows) → d ≡ c → known ≡ hs →
+    IsWhole d n ids runs hs → IsLawfulMeaning m → AreTables m (tables_of c.events) layers → Holds os (tables_of c.events) → AreStoredAs m os known layers
+stored_as m c d n ids runs hs known os layers same kept w law tables held = stored_known m c d n ids runs hs known (Some os) layers m.encode m.decode same kept refl refl w law tables held
 
 -- a store that holds tables tells its objects
 pub held : (objects : Option Objects) (events : List Event) → HoldsTables objects events → (os : Objects) × (objects ≡ Some os) × HoldsTables (Some os) events

@@ -294,10 +294,9 @@ too_large_is layout c b layers rows e idle barrier frozen fit folded order large
         ∙ ap (λ xs. option_to_list (fold_rows (combine_of m k) (at_most (least_begin (last_of c.settings.start_seq c.state.commits) c.state.txns) xs)) ++ later (least_begin (last_of c.settings.start_seq c.state.commits) c.state.txns) xs) (no_layer k c.frozen c.active idle)
 
 -- of the causes the last one is said in other words
-pub last_cause : {A B D E : Type 0} → (D → E) → A ⊎ (B ⊎ D) → A ⊎ (B ⊎ E)
+pub last_cause : {A D E : Type 0} → (D → E) → A ⊎ D → A ⊎ E
 last_cause f (inl a) = inl a
-last_cause f (inr (inl b)) = inr (inl b)
-last_cause f (inr (inr d)) = inr (inr (f d))
+last_cause f (inr d) = inr (f d)
 
 -- ---- the rows of a write
 

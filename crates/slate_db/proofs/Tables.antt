@@ -8,7 +8,7 @@ use Rattle.slate_types.specs.declared.error.SlateDBError.{SlateDBError}
 use Rattle.slate_types.specs.declared.iter.IterationOrder.TheVariants.{Ascending}
 use Rattle.slate_types.specs.Faults.{Rose}
 use Rattle.slate_types.specs.Iteration.{IsInOrder}
-use Rattle.slate_types.specs.Outside.{Objects}
+use Rattle.slate_types.specs.Outside.{Objects, Meaning}
 use Rattle.slate_types.specs.Partitions.{CanHold}
 use Rattle.slate_store.specs.Store.{Act, object_at, part_of}
 use Rattle.slate_block.specs.declared.block.Block.{Block}
@@ -26,7 +26,7 @@ use Rattle.slate_db.proofs.Answered.{Knows, knows}
 use Rattle.slate_db.proofs.Newest.{newest_same}
 use Rattle.slate_table.specs.declared.info.SsTableHandle.{SsTableHandle}
 use Rattle.slate_table.specs.Parts.{Encode}
-use Rattle.slate_db.specs.Lookup.{IsStored, AreStored}
+use Rattle.slate_db.specs.Lookup.{IsStored, AreStored, AreStoredAs}
 use Rattle.slate_db.specs.Model.{Rows}
 
 pub as_many : (encode decode : Encode) (objects : Option Objects) (hs : List SsTableHandle) (layers : List Rows) → AreStored encode decode objects hs layers → length layers ≡ length hs
@@ -58,11 +58,15 @@ pub all_same : (encode encode2 decode decode2 : Encode) (objects : Option Object
 all_same encode encode2 decode decode2 objects hs layers e d s =
     subst (λ x. AreStored x decode2 objects hs layers) (sym e) (subst (λ x. AreStored encode x objects hs layers) (sym d) s)
 
-pub table_at : (encode encode2 decode decode2 : Encode) (objects objects2 : Option Objects) (hs : List SsTableHandle) (layers : List Rows) (i : ℕ) (h : SsTableHandle) → encode2 ≡ encode → decode2 ≡ decode → objects2 ≡ objects →
+table_at : (encode encode2 decode decode2 : Encode) (objects objects2 : Option Objects) (hs : List SsTableHandle) (layers : List Rows) (i : ℕ) (h : SsTableHandle) → encode2 ≡ encode → decode2 ≡ decode → objects2 ≡ objects →
     AreStored encode decode objects hs layers → i < length hs → h ≡ get_or hs i h → StoredAt encode2 decode2 objects2 layers i h
 table_at encode encode2 decode decode2 objects objects2 hs layers i h e d o are within same =
     let at = stored_at encode decode objects hs layers i h are within in
     record { rows = at.rows; here = at.here; is = stored_same encode encode2 decode decode2 objects objects2 h at.rows e d o (subst (λ x. IsStored encode decode objects x at.rows) (sym same) at.is) }
+
+-- the same where a read changed nothing
+pub table_as : (m m2 : Meaning) (os : Objects) (hs : List SsTableHandle) (layers : List Rows) (i : ℕ) (h : SsTableHandle) → m2 ≡ m → AreStoredAs m os hs layers → i < length hs → h ≡ get_or hs i h → StoredAt m2.encode m2.decode (Some os) layers i h
+table_as m m2 os hs layers i h same are within is = table_at m.encode m2.encode m.decode m2.decode (Some os) (Some os) hs layers i h (ap (λ x. x.encode) same) (ap (λ x. x.decode) same) refl are within is
 
 -- ---- one table
 

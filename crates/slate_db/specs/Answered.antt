@@ -2,12 +2,13 @@
 --     AnswersAct os act      where the act is a read, it was answered by the objects
 --     AnswersAs os before after      the store tells its acts, and answered each read of a call by the objects; before, after: the acts that it tells
 --     Answering os objects before after      the store holds the objects, or tells its acts, and answered each read of a call by them
---     PutsNothing act, AddsReads before after      the act is no put; the acts from before are still told, and behind them more of which none is a put
+--     AnswersFrom os before after      the same of what a call reaches
 --     AddsTables old new before after      of two lists of tables the second has no more, and no act was told, or one more, and its put was
 use Rattle.std.specs.Prelude.{◌≡◌, ◌⊎◌, ℕ, List, [], ◌∷◌, ◌++◌, Option, Some}
 use Rattle.std.specs.List.{AllByRecursion}
 use Rattle.slate_types.specs.declared.types.Ulid.{Ulid}
-use Rattle.slate_types.specs.Outside.{Objects}
+use Rattle.slate_types.specs.Outside.{Objects, Reach}
+pub use Rattle.slate_types.specs.Outside.{PutsNothing, AddsReads}
 use Rattle.slate_store.specs.Store.{Act, AddsAct, AnswersRead}
 use Rattle.slate_table.specs.Paths.{path_of}
 use Rattle.slate_db.specs.Installs.{root}
@@ -26,12 +27,8 @@ pub record AnswersAs (os : Objects) (before after : Option (List Act)) : Type 0 
 abbrev pub Answering : Objects → Option Objects → Option (List Act) → Option (List Act) → Type 0
 Answering os objects before after = (objects ≡ Some os) ⊎ AnswersAs os before after
 
-abbrev pub PutsNothing : Act → Type 0
-PutsNothing (Act.put path bytes) = ⊥
-PutsNothing _ = Unit {0}
-
-abbrev pub AddsReads : Option (List Act) → Option (List Act) → Type 0
-AddsReads before after = (known : List Act) → before ≡ Some known → (more : List Act) × (after ≡ Some (known ++ more)) × AllByRecursion PutsNothing more
+abbrev pub AnswersFrom : Objects → Reach → Reach → Type 0
+AnswersFrom os before after = Answering os before.objects before.acts after.acts
 
 abbrev pub AddsTables : List (Ulid × List ℕ) → List (Ulid × List ℕ) → Option (List Act) → Option (List Act) → Type 0
 AddsTables old new before after = ((new ≡ old) × (after ≡ before)) ⊎ ((t : Ulid × List ℕ) × (new ≡ old ++ (t ∷ [])) × AddsAct before (Act.put (path_of root t.0.0) t.1) after)

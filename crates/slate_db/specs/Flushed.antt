@@ -11,6 +11,11 @@
 --     MayFlush encode layout c before after      what a refused flush leaves of the objects
 --     TooLarge layout c e      the flush of all rows in memory would pass a limit of a table; so there is much in memory
 --     IsFlushed encode layout old new n before after      a flush behind its freeze, with the store's objects before and after
+--     NoPlace n c, NoPlaceToFlush c      the journal has no place for so many events more, and for those of a flush
+--     of what a call reaches before and after it:
+--     Flushes layout before after old new n      a flush behind its freeze
+--     MayPut layout before after c      what a refused flush leaves of the objects
+--     IsFlushError layout before after c e      a fault that came in the flush, or want of memory or of a place, or too much in memory
 use Rattle.std.specs.Prelude.{◌≡◌, ℕ, ◌+◌, ◌-◌, ◌^◌, ◌<◌, ◌≤◌, ◌⊎◌, sum_by, List, [], ◌∷◌, ◌++◌, map, length, option_to_list, Option, Some, IfSome}
 use Rattle.std.specs.List.{AllByRecursion}
 use Rattle.slate_types.specs.declared.error.SlateDBError.{SlateDBError}
@@ -18,7 +23,7 @@ use Rattle.slate_types.specs.declared.error.SlateDBError.TheVariants.{LimitReach
 use Rattle.slate_types.specs.declared.types.Ulid.{Ulid}
 use Rattle.slate_types.specs.declared.config.Options.{Options}
 use Rattle.slate_types.specs.Fold.{fold_rows}
-use Rattle.slate_types.specs.Outside.{Objects}
+use Rattle.slate_types.specs.Outside.{Objects, IsFault, Reach}
 use Rattle.slate_types.specs.Rows.{operand}
 use Rattle.slate_block.specs.BlockSpelling.{as_read}
 use Rattle.slate_store.specs.Store.{with_object}
@@ -34,7 +39,7 @@ use Rattle.slate_db.specs.Meaning.{Meaning, combine_of}
 use Rattle.slate_db.specs.Model.{CoreModel, Rows, memory, versions, versions_in}
 use Rattle.slate_db.specs.Sound.{at_most, later}
 use Rattle.slate_db.specs.Installs.{tables_of, root, IsHandle}
-use Rattle.slate_db.specs.Whole.{FitsMemory, AreRising}
+use Rattle.slate_db.specs.Whole.{FitsMemory, AreRising, LIMIT}
 use Rattle.slate_table.specs.Paths.{path_of, table_id}
 
 abbrev pub IsFolded : Meaning → ℕ → List Rows → Rows → Type 0
@@ -114,3 +119,18 @@ MayFlush encode layout c before after = MayTakeTable (IsTableOfFlush encode layo
 -- the rows that a flush would store, in the order of a table, make too large a one
 abbrev pub TooLarge : Layout → CoreModel → SlateDBError → Type 0
 TooLarge layout c e = (rows : Rows) × ((m : Meaning) → IsFolded m (least_begin (last_of c.settings.start_seq c.state.commits) c.state.txns) (memory c) rows) × AreInOrder rows × IsTooLarge layout rows e × (2 ^ 32 - 1 < load c)
+
+abbrev pub NoPlace : ℕ → CoreModel → Type 0
+NoPlace n c = LIMIT < length c.events + length c.state.txns + n
+
+abbrev pub NoPlaceToFlush : CoreModel → Type 0
+NoPlaceToFlush c = NoPlace (events_of_flush c.active c.frozen) c
+
+abbrev pub Flushes : Layout → Reach → Reach → CoreModel → CoreModel → ℕ → Type 0
+Flushes layout before after old new n = IsFlushed before.meaning.encode layout old new n before.objects after.objects
+
+abbrev pub MayPut : Layout → Reach → Reach → CoreModel → Type 0
+MayPut layout before after c = MayFlush before.meaning.encode layout c before.objects after.objects
+
+abbrev pub IsFlushError : Layout → Reach → Reach → CoreModel → SlateDBError → Type 0
+IsFlushError layout before after c e = IsFault before after e ⊎ ((e ≡ LimitReached LIMIT) × NoPlaceToFlush c) ⊎ TooLarge layout c e

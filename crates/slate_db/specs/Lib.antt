@@ -16,3 +16,4 @@ pub mod View
 pub mod Vectors
 pub mod Parts
 pub mod Answered
+pub mod Readable

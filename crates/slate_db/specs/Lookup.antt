@@ -1,6 +1,7 @@
 -- What a read finds of a key.
 --     IsStored encode decode objects h rows      the store tells that a table of the rows stands at its path, whose info was kept, and the transformer is undone
 --     AreStored encode decode objects hs layers      of several, the oldest first
+--     IsStoredAs m os h rows, AreStoredAs m os hs layers      the same of objects, for what the parts mean
 --     IsDamage e      a refusal of what a store answered
 --     IsUnknown version e      a refusal of a version that is neither 1 nor 2
 --     IsOperatorFault combine before after e      a failure of the operator, whose count rose, or there is no operator
@@ -8,7 +9,7 @@ use Rattle.std.specs.Prelude.{◌≡◌, ◌≢◌, ◌⊎◌, ℕ, List, [], �
 use Rattle.slate_types.specs.declared.error.SlateDBError.{SlateDBError}
 use Rattle.slate_types.specs.declared.error.SlateDBError.TheVariants.{CorruptTable, ChecksumMismatch, InvalidRowFlags, InvalidVersion, MergeOperatorMissing}
 use Rattle.slate_types.specs.Lawful.{IsLawfulTransform}
-use Rattle.slate_types.specs.Outside.{Objects}
+use Rattle.slate_types.specs.Outside.{Objects, Meaning}
 use Rattle.slate_store.specs.Store.{object_at}
 use Rattle.slate_block.specs.ReadingLaws.{EachIsAByte}
 use Rattle.slate_mem.specs.Lookup.{IsCallback}
@@ -34,6 +35,12 @@ AreStored encode decode objects [] [] = Unit {0}
 AreStored encode decode objects (h ∷ hs) (rows ∷ layers) = IsStored encode decode objects h rows × AreStored encode decode objects hs layers
 AreStored encode decode objects [] (rows ∷ layers) = ⊥
 AreStored encode decode objects (h ∷ hs) [] = ⊥
+
+abbrev pub IsStoredAs : Meaning → Objects → SsTableHandle → Rows → Type 0
+IsStoredAs m os h rows = IsStored m.encode m.decode (Some os) h rows
+
+abbrev pub AreStoredAs : Meaning → Objects → List SsTableHandle → List Rows → Type 0
+AreStoredAs m os hs layers = AreStored m.encode m.decode (Some os) hs layers
 
 abbrev pub IsDamage : SlateDBError → Type 0
 IsDamage (CorruptTable place) = Unit {0}

@@ -1,14 +1,10 @@
 //! The core: the journal of a store, what is open in it, and the rows in memory.
 ghost use Rattle.std.specs.Prelude.{◌≡◌, ◌≢◌, ◌⊎◌, ◌+◌, ◌-◌, ◌^◌, ◌≤◌, ◌<◌, ◌∷◌, List, [], ◌++◌, length, IfOk, IfErr, OnOk, OnErr, IsOk, Err, IsSome, Some, false, is_some};
 ghost use Rattle.slate_types.specs.Config.{IsValid};
-ghost use Rattle.slate_types.specs.Faults.{faults_of};
 ghost use Rattle.slate_types.specs.declared.error.SlateDBError.{SlateDBError};
-ghost use Rattle.slate_types.specs.Outside.{Objects};
 ghost use Rattle.slate_types.specs.Fold.{fold_rows};
-ghost use Rattle.slate_store.specs.Env.{combine_of as part_of};
+ghost use Rattle.slate_types.specs.Outside.{IsFault, Puts};
 ghost use Rattle.slate_mem.specs.Table.{newest};
-ghost use Rattle.slate_table.specs.Reading.{IsStoreFault};
-ghost use Rattle.slate_table.specs.SectionReading.{changed_by, IsTransformFault};
 ghost use Rattle.slate_txn.specs.declared.event.TranscriptStep.TheVariants as steps;
 ghost use Rattle.slate_txn.specs.Reads.{key_rows, up_to};
 ghost use Rattle.slate_txn.specs.declared.event.Event.TheVariants as events;
@@ -22,14 +18,13 @@ ghost use Rattle.slate_txn.specs.Reply.{Done, Refused, Begun, Found, Written, Fr
 ghost use Rattle.slate_txn.specs.Settings.{settings_of};
 ghost use Rattle.slate_txn.specs.State.{opening, last_of};
 ghost use Rattle.slate_txn.specs.Step.{noted, step};
-ghost use Rattle.slate_db.specs.Answered.{AddsReads, AddsTables, AnswersAs, Answering};
-ghost use Rattle.slate_db.specs.Meaning.{Meaning, HasParts, IsLawfulMeaning, combine_of, rules_of};
+ghost use Rattle.slate_db.specs.Answered.{AddsTables};
+ghost use Rattle.slate_db.specs.Meaning.{Meaning, IsLawfulMeaning, combine_of, rules_of};
 ghost use Rattle.slate_db.specs.Frozen.{IsFrozen};
-ghost use Rattle.slate_db.specs.Flushed.{IsFlushed, MayFlush, TooLarge, events_of_flush, layout_of};
+ghost use Rattle.slate_db.specs.Flushed.{Flushes, IsFlushError, MayPut, NoPlaceToFlush, TooLarge, events_of_flush, layout_of};
 ghost use Rattle.slate_db.specs.Load.{load, ops_load};
-ghost use Rattle.slate_db.specs.Installs.{HoldsTables, Replays, tables_of};
-ghost use Rattle.slate_mem.specs.Lookup.{IsCallback, newest_first};
-ghost use Rattle.slate_db.specs.Lookup.{IsDamage, IsOperatorFault};
+ghost use Rattle.slate_db.specs.Installs.{Replays, tables_of};
+ghost use Rattle.slate_db.specs.Readable.{IsRead};
 ghost use Rattle.slate_db.specs.Model.{CoreModel, IsSame, Rows, at};
 ghost use Rattle.slate_db.specs.Sound.{AreTables, IsKept, FoldsToState};
 ghost use Rattle.slate_db.specs.StoredState.{StoresState};
@@ -42,14 +37,14 @@ use bytes::Bytes;
 use slate_mem::fold::answer;
 use slate_mem::lookup::newest_of_memory;
 use slate_mem::{ImmutableMemtable, MemTable, WriteBatch};
-use slate_store::{Env, Store};
+use slate_store::{Env, EnvOf, Store};
 use slate_table::SsTableHandle;
 use slate_txn::fold::fold_found;
 use slate_txn::open::{Open, barrier, begin_of, close, close_all, note_get, open_at};
 use slate_txn::{Event, Journal, OpList};
 use slate_types::{
-    BlockTransformer, IsolationLevel, KeyValue, MergeOperator, Options, ReadOptions, RowEntry,
-    SlateDBError,
+    BlockTransformer, IsolationLevel, KeyValue, MergeOperator, Options, Outside, ReadOptions,
+    RowEntry, SlateDBError,
 };
 use std::alloc::Global;
 use std::collections::{BTreeMap, BTreeSet};
@@ -245,23 +240,18 @@ impl Core {
     ) -> Result<u64, SlateDBError>
         requires { IsValid options.now }
         ensures step { IfOk result (λ n. (m : Meaning) → step (rules_of self.old.settings m) self.old.state lines.Flush ≡ (self.new.state, Flushed n)) }
-        ensures installed { IfOk result (λ n. (between : CoreModel) × IsFrozen self.old between × IsFlushed (changed_by T.encoded env.old.transformer) (layout_of options.now) between self.new n (S.objects env.old.store.now) (S.objects env.new.store.now)) }
-        ensures acts { OnOk result (AddsTables (tables_of self.old.events) (tables_of self.new.events) (S.acts env.old.store.now) (S.acts env.new.store.now)) }
+        ensures installed { let reach = ⟦<EnvOf<S, M, T> as Outside>⟧.reach in IfOk result (λ n. (between : CoreModel) × IsFrozen self.old between × Flushes (layout_of options.now) (reach env.old) (reach env.new) between self.new n) }
+        ensures acts { let reach = ⟦<EnvOf<S, M, T> as Outside>⟧.reach in OnOk result (AddsTables (tables_of self.old.events) (tables_of self.new.events) (reach env.old).acts (reach env.new).acts) }
         ensures taken { OnOk result ((self.new.active ≡ []) × (self.new.frozen ≡ [])) }
-        ensures refused { OnErr result ((between : CoreModel) × (IsSame self.old between ⊎ IsFrozen self.old between) × IsSame between self.new × MayFlush (changed_by T.encoded env.old.transformer) (layout_of options.now) between (S.objects env.old.store.now) (S.objects env.new.store.now)) }
+        ensures refused { let reach = ⟦<EnvOf<S, M, T> as Outside>⟧.reach in OnErr result ((between : CoreModel) × (IsSame self.old between ⊎ IsFrozen self.old between) × IsSame between self.new × MayPut (layout_of options.now) (reach env.old) (reach env.new) between) }
         ensures frozen { (result ≡ Err SlateDBError.StoreFault) ⊎ (result ≡ Err SlateDBError.BlockTransformError) → (between : CoreModel) × IsFrozen self.old between × IsSame between self.new }
-        ensures full { LIMIT < length self.old.events + length self.old.state.txns + events_of_flush self.old.active self.old.frozen → self.new ≡ self.old }
-        ensures full_objects { LIMIT < length self.old.events + length self.old.state.txns + events_of_flush self.old.active self.old.frozen → S.objects env.new.store.now ≡ S.objects env.old.store.now }
-        ensures kept { (m : Meaning) → m.encode ≡ changed_by T.encoded env.old.transformer → IsKept m self.old → IsKept m self.new }
+        ensures full { NoPlaceToFlush self.old → self.new ≡ self.old }
+        ensures full_objects { let reach = ⟦<EnvOf<S, M, T> as Outside>⟧.reach in NoPlaceToFlush self.old → (reach env.new).objects ≡ (reach env.old).objects }
+        ensures kept { let reach = ⟦<EnvOf<S, M, T> as Outside>⟧.reach in (m : Meaning) → m.encode ≡ (reach env.old).meaning.encode → IsKept m self.old → IsKept m self.new }
         ensures settings { self.new.settings ≡ self.old.settings }
-        ensures limit { LIMIT < length self.old.events + length self.old.state.txns + events_of_flush self.old.active self.old.frozen → result ≡ Err (SlateDBError.LimitReached LIMIT) }
-        ensures cause { IfErr result (λ e. IsStoreFault (S.faults env.old.store.now) (S.faults env.new.store.now) e ⊎ (IsTransformFault (faults_of T.faults env.old.transformer) (faults_of T.faults env.new.transformer) e ⊎ (((e ≡ SlateDBError.LimitReached LIMIT) × (LIMIT < length self.old.events + length self.old.state.txns + events_of_flush self.old.active self.old.frozen)) ⊎ TooLarge (layout_of options.now) self.old e))) }
-        ensures later { S.faults env.old.store.now ≤ S.faults env.new.store.now }
-        ensures later_transformer { faults_of T.faults env.old.transformer ≤ faults_of T.faults env.new.transformer }
-        ensures same_encoded { changed_by T.encoded env.new.transformer ≡ changed_by T.encoded env.old.transformer }
-        ensures same_decoded { changed_by T.decoded env.new.transformer ≡ changed_by T.decoded env.old.transformer }
-        ensures operator { env.new.operator ≡ env.old.operator }
-        ensures same_store { env.new.store.ghost_name ≡ env.old.store.ghost_name }
+        ensures limit { NoPlaceToFlush self.old → result ≡ Err (SlateDBError.LimitReached LIMIT) }
+        ensures cause { let reach = ⟦<EnvOf<S, M, T> as Outside>⟧.reach in IfErr result (IsFlushError (layout_of options.now) (reach env.old) (reach env.new) self.old) }
+        ensures puts { let reach = ⟦<EnvOf<S, M, T> as Outside>⟧.reach in Puts (reach env.old) (reach env.new) }
     {
         self.place_for_flush()?;
         self.freeze()?;
@@ -310,18 +300,13 @@ impl Core {
         requires some { 0 < length self.old.frozen }
         requires place { length self.old.events + length self.old.state.txns + 1 ≤ LIMIT }
         ensures newest { IfOk result (λ n. n ≡ last_of self.old.settings.start_seq self.old.state.commits) }
-        ensures installed { IfOk result (λ n. IsFlushed (changed_by T.encoded env.old.transformer) (layout_of options.now) self.old self.new n (S.objects env.old.store.now) (S.objects env.new.store.now)) }
-        ensures acts { OnOk result (AddsTables (tables_of self.old.events) (tables_of self.new.events) (S.acts env.old.store.now) (S.acts env.new.store.now)) }
+        ensures installed { let reach = ⟦<EnvOf<S, M, T> as Outside>⟧.reach in IfOk result (Flushes (layout_of options.now) (reach env.old) (reach env.new) self.old self.new) }
+        ensures acts { let reach = ⟦<EnvOf<S, M, T> as Outside>⟧.reach in OnOk result (AddsTables (tables_of self.old.events) (tables_of self.new.events) (reach env.old).acts (reach env.new).acts) }
         ensures same { OnErr result (IsSame self.old self.new) }
-        ensures refused { OnErr result (MayFlush (changed_by T.encoded env.old.transformer) (layout_of options.now) self.old (S.objects env.old.store.now) (S.objects env.new.store.now)) }
-        ensures kept { (m : Meaning) → m.encode ≡ changed_by T.encoded env.old.transformer → IsKept m self.old → IsKept m self.new }
-        ensures cause { IfErr result (λ e. IsStoreFault (S.faults env.old.store.now) (S.faults env.new.store.now) e ⊎ (IsTransformFault (faults_of T.faults env.old.transformer) (faults_of T.faults env.new.transformer) e ⊎ TooLarge (layout_of options.now) self.old e)) }
-        ensures later { S.faults env.old.store.now ≤ S.faults env.new.store.now }
-        ensures later_transformer { faults_of T.faults env.old.transformer ≤ faults_of T.faults env.new.transformer }
-        ensures same_encoded { changed_by T.encoded env.new.transformer ≡ changed_by T.encoded env.old.transformer }
-        ensures same_decoded { changed_by T.decoded env.new.transformer ≡ changed_by T.decoded env.old.transformer }
-        ensures operator { env.new.operator ≡ env.old.operator }
-        ensures same_store { env.new.store.ghost_name ≡ env.old.store.ghost_name }
+        ensures refused { let reach = ⟦<EnvOf<S, M, T> as Outside>⟧.reach in OnErr result (MayPut (layout_of options.now) (reach env.old) (reach env.new) self.old) }
+        ensures kept { let reach = ⟦<EnvOf<S, M, T> as Outside>⟧.reach in (m : Meaning) → m.encode ≡ (reach env.old).meaning.encode → IsKept m self.old → IsKept m self.new }
+        ensures cause { let reach = ⟦<EnvOf<S, M, T> as Outside>⟧.reach in IfErr result (λ e. IsFault (reach env.old) (reach env.new) e ⊎ TooLarge (layout_of options.now) self.old e) }
+        ensures puts { let reach = ⟦<EnvOf<S, M, T> as Outside>⟧.reach in Puts (reach env.old) (reach env.new) }
     {
         self.journal
             .reserve(self.open.len() + 1)
@@ -348,31 +333,12 @@ impl Core {
         at: u64,
         env: &mut Env<'_, S, M, T>,
     ) -> Result<Option<RowEntry>, SlateDBError>
-        ensures row { (m : Meaning) (os : Objects) → HasParts m (part_of M.combine env.old.operator) (changed_by T.encoded env.old.transformer) (changed_by T.decoded env.old.transformer) → IsLawfulMeaning m → IsKept m self.now → HoldsTables (Some os) self.now.events → Answering os (S.objects env.old.store.now) (S.acts env.old.store.now) (S.acts env.new.store.now) → self.now.floor ≤ at
-            → IfOk result (λ row. row ≡ fold_rows (combine_of m key.now) (key_rows (rules_of self.now.settings m) key.now (up_to at self.now.state.commits))) }
-        ensures whole { (m : Meaning) (os : Objects) → HasParts m (part_of M.combine env.old.operator) (changed_by T.encoded env.old.transformer) (changed_by T.decoded env.old.transformer) → IsLawfulMeaning m → IsKept m self.now → HoldsTables (Some os) self.now.events → Answering os (S.objects env.old.store.now) (S.acts env.old.store.now) (S.acts env.new.store.now)
-            → IfErr result (λ e. IsStoreFault (S.faults env.old.store.now) (S.faults env.new.store.now) e ⊎ IsTransformFault (faults_of T.faults env.old.transformer) (faults_of T.faults env.new.transformer) e ⊎ IsCallback (faults_of M.faults env.old.operator) (faults_of M.faults env.new.operator) e) }
-        ensures cause { IfErr result (λ e. IsStoreFault (S.faults env.old.store.now) (S.faults env.new.store.now) e ⊎ IsTransformFault (faults_of T.faults env.old.transformer) (faults_of T.faults env.new.transformer) e ⊎ IsOperatorFault (part_of M.combine env.old.operator) (faults_of M.faults env.old.operator) (faults_of M.faults env.new.operator) e ⊎ IsDamage e) }
-        ensures told { AddsReads (S.acts env.old.store.now) (S.acts env.new.store.now) }
-        ensures objects { S.objects env.new.store.now ≡ S.objects env.old.store.now }
-        ensures same_encoded { changed_by T.encoded env.new.transformer ≡ changed_by T.encoded env.old.transformer }
-        ensures same_decoded { changed_by T.decoded env.new.transformer ≡ changed_by T.decoded env.old.transformer }
-        ensures same_combine { part_of M.combine env.new.operator ≡ part_of M.combine env.old.operator }
-        ensures same_store { env.new.store.ghost_name ≡ env.old.store.ghost_name }
-        ensures later { S.faults env.old.store.now ≤ S.faults env.new.store.now }
-        ensures later_transformer { faults_of T.faults env.old.transformer ≤ faults_of T.faults env.new.transformer }
-        ensures later_operator { faults_of M.faults env.old.operator ≤ faults_of M.faults env.new.operator }
+        ensures read { let reach = ⟦<EnvOf<S, M, T> as Outside>⟧.reach in
+            let m = (reach env.old).meaning in
+            IsRead (reach env.old) (reach env.new) self.now (λ row. self.now.floor ≤ at → row ≡ fold_rows (combine_of m key.now) (key_rows (rules_of self.now.settings m) key.now (up_to at self.now.state.commits))) result }
     {
         let near = newest_of_memory(self.alloc, &self.active, &self.frozen, key, at)?;
-        let found = newest_of_tables(
-            self.alloc,
-            near,
-            &self.tables,
-            key.as_slice(),
-            at,
-            env.store,
-            &mut env.transformer,
-        )?;
+        let found = newest_of_tables(self.alloc, near, &self.tables, key.as_slice(), at, env)?;
         fold_found(self.alloc, found, &mut env.operator)
     }
 
@@ -392,25 +358,11 @@ impl Core {
     ) -> Result<Option<KeyValue>, SlateDBError>
         requires { IsSome (find_named id.now self.old.state.txns) }
         ensures noted { IfOk result (λ a. self.new ≡ record self.old { state = noted self.old.state id.now (steps.Get key.now a ∷ []) }) }
-        ensures answer { (m : Meaning) → HasParts m (part_of M.combine env.old.operator) (changed_by T.encoded env.old.transformer) (changed_by T.decoded env.old.transformer) → IsLawfulMeaning m → IsKept m self.old → HoldsTables (S.objects env.old.store.now) self.old.events
-            → IfOk result (λ a. step (rules_of self.old.settings m) self.old.state (lines.Get id.now key.now) ≡ (self.new.state, Found a)) }
-        ensures whole { (m : Meaning) → HasParts m (part_of M.combine env.old.operator) (changed_by T.encoded env.old.transformer) (changed_by T.decoded env.old.transformer) → IsLawfulMeaning m → IsKept m self.old → HoldsTables (S.objects env.old.store.now) self.old.events
-            → IfErr result (λ e. IsStoreFault (S.faults env.old.store.now) (S.faults env.new.store.now) e ⊎ IsTransformFault (faults_of T.faults env.old.transformer) (faults_of T.faults env.new.transformer) e ⊎ IsCallback (faults_of M.faults env.old.operator) (faults_of M.faults env.new.operator) e) }
-        ensures truthful { (m : Meaning) (os : Objects) → HasParts m (part_of M.combine env.old.operator) (changed_by T.encoded env.old.transformer) (changed_by T.decoded env.old.transformer) → IsLawfulMeaning m → IsKept m self.old → HoldsTables (Some os) self.old.events → AnswersAs os (S.acts env.old.store.now) (S.acts env.new.store.now)
-            → IfErr result (λ e. IsStoreFault (S.faults env.old.store.now) (S.faults env.new.store.now) e ⊎ IsTransformFault (faults_of T.faults env.old.transformer) (faults_of T.faults env.new.transformer) e ⊎ IsCallback (faults_of M.faults env.old.operator) (faults_of M.faults env.new.operator) e) }
+        ensures read { let reach = ⟦<EnvOf<S, M, T> as Outside>⟧.reach in
+            IsRead (reach env.old) (reach env.new) self.old (λ a. step (rules_of self.old.settings (reach env.old).meaning) self.old.state (lines.Get id.now key.now) ≡ (self.new.state, Found a)) result }
         ensures same { OnErr result (self.new ≡ self.old) }
         ensures kept { (m : Meaning) → IsKept m self.old → IsKept m self.new }
         ensures settings { self.new.settings ≡ self.old.settings }
-        ensures cause { IfErr result (λ e. IsStoreFault (S.faults env.old.store.now) (S.faults env.new.store.now) e ⊎ IsTransformFault (faults_of T.faults env.old.transformer) (faults_of T.faults env.new.transformer) e ⊎ IsOperatorFault (part_of M.combine env.old.operator) (faults_of M.faults env.old.operator) (faults_of M.faults env.new.operator) e ⊎ IsDamage e) }
-        ensures told { AddsReads (S.acts env.old.store.now) (S.acts env.new.store.now) }
-        ensures objects { S.objects env.new.store.now ≡ S.objects env.old.store.now }
-        ensures same_encoded { changed_by T.encoded env.new.transformer ≡ changed_by T.encoded env.old.transformer }
-        ensures same_decoded { changed_by T.decoded env.new.transformer ≡ changed_by T.decoded env.old.transformer }
-        ensures same_combine { part_of M.combine env.new.operator ≡ part_of M.combine env.old.operator }
-        ensures same_store { env.new.store.ghost_name ≡ env.old.store.ghost_name }
-        ensures later { S.faults env.old.store.now ≤ S.faults env.new.store.now }
-        ensures later_transformer { faults_of T.faults env.old.transformer ≤ faults_of T.faults env.new.transformer }
-        ensures later_operator { faults_of M.faults env.old.operator ≤ faults_of M.faults env.new.operator }
     {
         let _options = options;
         let Some(at) = begin_of(&self.open, id) else {

@@ -3,6 +3,7 @@ ghost use Rattle.std.specs.Prelude.{◌≡◌, ◌≤◌, ◌<◌, ◌⊎◌, �
 ghost use Rattle.std.specs.List.{AllByRecursion};
 ghost use Rattle.slate_types.specs.Config.{IsValid};
 ghost use Rattle.slate_types.specs.Faults.{faults_of};
+ghost use Rattle.slate_types.specs.Outside.{IsFault, Puts};
 ghost use Rattle.slate_block.specs.ReadingLaws.{EachIsAByte};
 ghost use Rattle.slate_table.specs.InfoReading.{seen_info};
 ghost use Rattle.slate_table.specs.SectionReading.{changed_by, IsTransformFault};
@@ -20,12 +21,14 @@ ghost use Rattle.slate_db.specs.Whole.{FitsMemory};
 use crate::gather::rows_of_flush;
 use crate::stored::are_bytes;
 use slate_mem::ImmutableMemtable;
-use slate_store::{Env, Store};
+use slate_store::{Env, EnvOf, Store};
 use slate_table::{
     EncodedSsTable, EncodedSsTableBuilder, SsTableFormat, SsTableHandle, TableStore,
 };
 use slate_txn::TableList;
-use slate_types::{BlockTransformer, MergeOperator, Options, RowEntry, SlateDBError, Ulid};
+use slate_types::{
+    BlockTransformer, MergeOperator, Options, Outside, RowEntry, SlateDBError, Ulid,
+};
 use std::alloc::Global;
 
 /// The folder of the store's objects.
@@ -45,17 +48,12 @@ pub fn stored<S: Store, M: MergeOperator, T: BlockTransformer>(
 ) -> Result<(TableList, SsTableHandle), SlateDBError>
     requires valid { IsValid options.now }
     requires ready { CanFlush (map (λ t. t.rows) frozen.now) }
-    ensures stored { IfOk result (λ a. IsPut (changed_by T.encoded env.old.transformer) (layout_of options.now) number barrier (map (λ t. t.rows) frozen.now) a.0 a.1 (S.objects env.old.store.now) (S.objects env.new.store.now)) }
-    ensures acts { IfOk result (λ a. AddsTables [] a.0 (S.acts env.old.store.now) (S.acts env.new.store.now)) }
-    ensures refused { OnErr result (MayTakeTable (IsTableOfFlush (changed_by T.encoded env.old.transformer) (layout_of options.now) number barrier (map (λ t. t.rows) frozen.now)) (S.objects env.old.store.now) (S.objects env.new.store.now)) }
-    ensures cause { IfErr result (λ e. IsStoreFault (S.faults env.old.store.now) (S.faults env.new.store.now) e ⊎ (IsTransformFault (faults_of T.faults env.old.transformer) (faults_of T.faults env.new.transformer) e
-        ⊎ ((rows : Rows) × ((m : Meaning) → IsFolded m barrier (map (λ t. t.rows) frozen.now) rows) × AreInOrder rows × IsTooLarge (layout_of options.now) rows e))) }
-    ensures later { S.faults env.old.store.now ≤ S.faults env.new.store.now }
-    ensures later_transformer { faults_of T.faults env.old.transformer ≤ faults_of T.faults env.new.transformer }
-    ensures same_encoded { changed_by T.encoded env.new.transformer ≡ changed_by T.encoded env.old.transformer }
-    ensures same_decoded { changed_by T.decoded env.new.transformer ≡ changed_by T.decoded env.old.transformer }
-    ensures operator { env.new.operator ≡ env.old.operator }
-    ensures same_store { env.new.store.ghost_name ≡ env.old.store.ghost_name }
+    ensures stored { let reach = ⟦<EnvOf<S, M, T> as Outside>⟧.reach in IfOk result (λ a. IsPut (reach env.old).meaning.encode (layout_of options.now) number barrier (map (λ t. t.rows) frozen.now) a.0 a.1 (reach env.old).objects (reach env.new).objects) }
+    ensures acts { let reach = ⟦<EnvOf<S, M, T> as Outside>⟧.reach in IfOk result (λ a. AddsTables [] a.0 (reach env.old).acts (reach env.new).acts) }
+    ensures refused { let reach = ⟦<EnvOf<S, M, T> as Outside>⟧.reach in OnErr result (MayTakeTable (IsTableOfFlush (reach env.old).meaning.encode (layout_of options.now) number barrier (map (λ t. t.rows) frozen.now)) (reach env.old).objects (reach env.new).objects) }
+    ensures cause { let reach = ⟦<EnvOf<S, M, T> as Outside>⟧.reach in IfErr result (λ e. IsFault (reach env.old) (reach env.new) e
+        ⊎ ((rows : Rows) × ((m : Meaning) → IsFolded m barrier (map (λ t. t.rows) frozen.now) rows) × AreInOrder rows × IsTooLarge (layout_of options.now) rows e)) }
+    ensures puts { let reach = ⟦<EnvOf<S, M, T> as Outside>⟧.reach in Puts (reach env.old) (reach env.new) }
 {
     let rows = rows_of_flush(alloc, frozen, barrier)?;
     let table = built(alloc, rows, options, &mut env.transformer)?;

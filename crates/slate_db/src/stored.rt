@@ -4,9 +4,8 @@ ghost use Rattle.std.specs.List.{AllByRecursion};
 ghost use Rattle.slate_types.specs.declared.error.SlateDBError.{SlateDBError};
 ghost use Rattle.slate_types.specs.declared.iter.IterationOrder.{IterationOrder};
 ghost use Rattle.slate_types.specs.declared.types.RowEntry.{RowEntry};
-ghost use Rattle.slate_types.specs.Faults.{faults_of};
 ghost use Rattle.slate_types.specs.Iteration.{IsInOrder};
-ghost use Rattle.slate_types.specs.Outside.{Objects};
+ghost use Rattle.slate_types.specs.Outside.{Objects, IsFault, OnlyReads};
 ghost use Rattle.slate_types.specs.Partitions.{CanHold};
 ghost use Rattle.slate_block.specs.BlockSpelling.{IsBlockOf};
 ghost use Rattle.slate_block.specs.BlockWalks.{left, Refuses};
@@ -18,20 +17,18 @@ ghost use Rattle.slate_table.specs.Finding.{encloses, AreBlocksOf};
 ghost use Rattle.slate_table.specs.IndexReading.{index_keys};
 ghost use Rattle.slate_table.specs.IndexValue.{entries_of};
 ghost use Rattle.slate_table.specs.InfoReading.{seen_info};
-ghost use Rattle.slate_table.specs.Reading.{IsStoreFault};
-ghost use Rattle.slate_table.specs.SectionReading.{changed_by, IsTransformFault};
-ghost use Rattle.slate_db.specs.Answered.{AddsReads, Answering};
+ghost use Rattle.slate_db.specs.Answered.{AnswersFrom};
 ghost use Rattle.slate_mem.specs.Lookup.{newest_first};
-ghost use Rattle.slate_db.specs.Lookup.{IsDamage, IsUnknown, IsStored, AreStored};
+ghost use Rattle.slate_db.specs.Lookup.{IsDamage, IsUnknown, IsStoredAs, AreStoredAs};
 ghost use Rattle.slate_db.specs.Model.{Rows};
 
 use slate_block::{Block, DataBlockIterator};
 use slate_mem::lookup::{is_decided, newest_of_walk};
-use slate_store::Store;
+use slate_store::{Env, EnvOf, Store};
 use slate_table::{SsTableHandle, SsTableInfo, SstIndex, TableStore};
 use slate_types::{
-    BlockTransformer, IterationOrder, RowEntry, RowEntryIterator, SlateDBError,
-    partitions_covering_range,
+    BlockTransformer, IterationOrder, MergeOperator, Outside, RowEntry, RowEntryIterator,
+    SlateDBError, partitions_covering_range,
 };
 use std::alloc::Global;
 use std::ops::{Bound, Range};
@@ -124,59 +121,56 @@ fn newest_of_blocks(
 }
 
 /// The rows of the key in a table.
-fn newest_of_table<S: Store, T: BlockTransformer>(
+fn newest_of_table<S: Store, M: MergeOperator, T: BlockTransformer>(
     alloc: Global,
-    store: &mut S,
     table: &SsTableHandle,
     key: &[u8],
     max_seq: u64,
-    transformer: &mut Option<T>,
+    env: &mut Env<'_, S, M, T>,
 ) -> Result<Vec<RowEntry>, SlateDBError>
-    ensures found { (rows : Rows) (os : Objects) → IsStored (changed_by T.encoded transformer.old) (changed_by T.decoded transformer.old) (Some os) table.now rows → Answering os (S.objects store.old) (S.acts store.old) (S.acts store.new) → IfOk result (λ found. found.items ≡ newest key.now max_seq rows) }
-    ensures whole { (rows : Rows) (os : Objects) → IsStored (changed_by T.encoded transformer.old) (changed_by T.decoded transformer.old) (Some os) table.now rows → Answering os (S.objects store.old) (S.acts store.old) (S.acts store.new) → IfErr result (λ e. IsStoreFault (S.faults store.old) (S.faults store.new) e ⊎ IsTransformFault (faults_of T.faults transformer.old) (faults_of T.faults transformer.new) e) }
-    ensures cause { IfErr result (λ e. IsStoreFault (S.faults store.old) (S.faults store.new) e ⊎ IsTransformFault (faults_of T.faults transformer.old) (faults_of T.faults transformer.new) e ⊎ IsDamage e ⊎ IsUnknown table.now.format_version e) }
-    ensures told { AddsReads (S.acts store.old) (S.acts store.new) }
-    ensures objects { S.objects store.new ≡ S.objects store.old }
-    ensures same_encoded { changed_by T.encoded transformer.new ≡ changed_by T.encoded transformer.old }
-    ensures same_decoded { changed_by T.decoded transformer.new ≡ changed_by T.decoded transformer.old }
-    ensures later { S.faults store.old ≤ S.faults store.new }
-    ensures later_transformer { faults_of T.faults transformer.old ≤ faults_of T.faults transformer.new }
+    ensures found { let reach = ⟦<EnvOf<S, M, T> as Outside>⟧.reach in (rows : Rows) (os : Objects) → IsStoredAs (reach env.old).meaning os table.now rows → AnswersFrom os (reach env.old) (reach env.new) → IfOk result (λ found. found.items ≡ newest key.now max_seq rows) }
+    ensures whole { let reach = ⟦<EnvOf<S, M, T> as Outside>⟧.reach in (rows : Rows) (os : Objects) → IsStoredAs (reach env.old).meaning os table.now rows → AnswersFrom os (reach env.old) (reach env.new) → IfErr result (IsFault (reach env.old) (reach env.new)) }
+    ensures cause { let reach = ⟦<EnvOf<S, M, T> as Outside>⟧.reach in IfErr result (λ e. IsFault (reach env.old) (reach env.new) e ⊎ IsDamage e ⊎ IsUnknown table.now.format_version e) }
+    ensures reads { let reach = ⟦<EnvOf<S, M, T> as Outside>⟧.reach in OnlyReads (reach env.old) (reach env.new) }
 {
     if !encloses(&table.info, key) {
         return Ok(Vec::new(alloc));
     }
-    let index = TableStore::read_index(alloc, store, ROOT, table, transformer)?;
+    let index = TableStore::read_index(alloc, env.store, ROOT, table, &mut env.transformer)?;
     let covered = covering(&index, key);
-    let blocks = TableStore::read_blocks(alloc, store, ROOT, table, &index, covered, transformer)?;
+    let blocks = TableStore::read_blocks(
+        alloc,
+        env.store,
+        ROOT,
+        table,
+        &index,
+        covered,
+        &mut env.transformer,
+    )?;
     newest_of_blocks(alloc, blocks, table.format_version, key, max_seq)
 }
 
 /// Adds the rows of the key in stored tables, of which the newest stands last, behind those that were found in newer layers.
 /// Where the store holds the tables, or its acts tell that each read of this call was answered by them, damage isn't answered.
-pub fn newest_of_tables<S: Store, T: BlockTransformer>(
+pub fn newest_of_tables<S: Store, M: MergeOperator, T: BlockTransformer>(
     alloc: Global,
     newer: Vec<RowEntry>,
     tables: &[SsTableHandle],
     key: &[u8],
     max_seq: u64,
-    store: &mut S,
-    transformer: &mut Option<T>,
+    env: &mut Env<'_, S, M, T>,
 ) -> Result<Vec<RowEntry>, SlateDBError>
-    ensures found { (layers : List Rows) (os : Objects) → AreStored (changed_by T.encoded transformer.old) (changed_by T.decoded transformer.old) (Some os) tables.now layers → Answering os (S.objects store.old) (S.acts store.old) (S.acts store.new) → IfOk result (λ all. (above : Rows) → newer.items ≡ newest key.now max_seq above → all.items ≡ newest key.now max_seq (above ++ newest_first layers)) }
-    ensures whole { (layers : List Rows) (os : Objects) → AreStored (changed_by T.encoded transformer.old) (changed_by T.decoded transformer.old) (Some os) tables.now layers → Answering os (S.objects store.old) (S.acts store.old) (S.acts store.new) → IfErr result (λ e. IsStoreFault (S.faults store.old) (S.faults store.new) e ⊎ IsTransformFault (faults_of T.faults transformer.old) (faults_of T.faults transformer.new) e) }
-    ensures cause { IfErr result (λ e. IsStoreFault (S.faults store.old) (S.faults store.new) e ⊎ IsTransformFault (faults_of T.faults transformer.old) (faults_of T.faults transformer.new) e ⊎ IsDamage e ⊎ ((h : SsTableHandle) × Contains tables.now h × IsUnknown h.format_version e)) }
-    ensures told { AddsReads (S.acts store.old) (S.acts store.new) }
-    ensures objects { S.objects store.new ≡ S.objects store.old }
-    ensures same_encoded { changed_by T.encoded transformer.new ≡ changed_by T.encoded transformer.old }
-    ensures same_decoded { changed_by T.decoded transformer.new ≡ changed_by T.decoded transformer.old }
-    ensures later { S.faults store.old ≤ S.faults store.new }
-    ensures later_transformer { faults_of T.faults transformer.old ≤ faults_of T.faults transformer.new }
+    ensures found { let reach = ⟦<EnvOf<S, M, T> as Outside>⟧.reach in (layers : List Rows) (os : Objects) → AreStoredAs (reach env.old).meaning os tables.now layers → AnswersFrom os (reach env.old) (reach env.new)
+        → IfOk result (λ all. (above : Rows) → newer.items ≡ newest key.now max_seq above → all.items ≡ newest key.now max_seq (above ++ newest_first layers)) }
+    ensures whole { let reach = ⟦<EnvOf<S, M, T> as Outside>⟧.reach in (layers : List Rows) (os : Objects) → AreStoredAs (reach env.old).meaning os tables.now layers → AnswersFrom os (reach env.old) (reach env.new) → IfErr result (IsFault (reach env.old) (reach env.new)) }
+    ensures cause { let reach = ⟦<EnvOf<S, M, T> as Outside>⟧.reach in IfErr result (λ e. IsFault (reach env.old) (reach env.new) e ⊎ IsDamage e ⊎ ((h : SsTableHandle) × Contains tables.now h × IsUnknown h.format_version e)) }
+    ensures reads { let reach = ⟦<EnvOf<S, M, T> as Outside>⟧.reach in OnlyReads (reach env.old) (reach env.new) }
 {
     let mut found = newer;
     let mut i = tables.len();
     while i > 0 && !is_decided(&found) {
         i -= 1;
-        let mut more = newest_of_table(alloc, store, &tables[i], key, max_seq, transformer)?;
+        let mut more = newest_of_table(alloc, &tables[i], key, max_seq, env)?;
         found.append(&mut more)?;
     }
     Ok(found)

@@ -159,17 +159,21 @@ impl<E: Outside> RowEntryIterator<E> for WriteBatchIterator {
 
     ghost bound = { λ it. length it.rows };
 
-    ghost refuses = { λ _ _ _ _. ⊥ };
+    ghost refuses = { λ _ _ _ _ _. ⊥ };
 
-    ghost begins = { λ before _ after. after ≡ before };
+    ghost begins = { λ before _ _ after. after ≡ before };
 
-    ghost takes = { λ before _ answer after. TakesRow before.rows answer after.rows };
+    ghost takes = { λ before _ _ answer after. TakesRow before.rows answer after.rows };
 
-    ghost seeks = { λ before _ key after. after.rows ≡ drop_before before.order key before.rows };
+    ghost seeks = { λ before _ _ key after. after.rows ≡ drop_before before.order key before.rows };
 
-    ghost stays = { λ _ _ _ _ _. ⊥ };
+    ghost stays = { λ _ _ _ _ _ _. ⊥ };
 
     ghost rising = { λ _ _ h. h };
+
+    ghost more = { λ _ _ _ _ _ _ h. h };
+
+    ghost whole = { λ _ _ _ _ _ _ _ h _. h };
 
     fn init(&mut self, alloc: Global, env: &mut E) -> Result<(), SlateDBError> {
         self.rows.init(alloc, env)

@@ -1,11 +1,12 @@
 //! The rows of a key, newest first, to the first that decides.
-ghost use Rattle.std.specs.Prelude.{◌≡◌, ◌⊎◌, true, false, List, ◌∷◌, ◌++◌, map, None, IfOk, IfErr, IsOkUnless};
+ghost use Rattle.std.specs.Prelude.{◌≡◌, ◌⊎◌, true, false, List, [], ◌∷◌, ◌++◌, map, None, IfOk, IfErr, IsOkUnless};
 ghost use Rattle.slate_types.specs.declared.error.SlateDBError.{SlateDBError};
 ghost use Rattle.slate_types.specs.declared.iter.IterationOrder.{IterationOrder};
 ghost use Rattle.slate_types.specs.declared.types.RowEntry.{RowEntry};
 ghost use Rattle.slate_types.specs.Iteration.{IsInOrder, NoneBefore};
-ghost use Rattle.slate_types.specs.Outside.{nothing};
+ghost use Rattle.slate_types.specs.Outside.{no_parts};
 ghost use Rattle.slate_types.specs.Rows.{is_operand};
+ghost use Rattle.slate_types.specs.World.{nothing};
 ghost use Rattle.slate_mem.specs.Table.{newest};
 ghost use Rattle.slate_mem.specs.Lookup.{is_decided, newest_first};
 
@@ -76,7 +77,7 @@ pub fn newest_of_walk<I: RowEntryIterator<()>>(
     max_seq: u64,
 ) -> Result<Vec<RowEntry>, SlateDBError>
     ensures found { I.sound rows.old nothing → I.order rows.old ≡ IterationOrder.Ascending → NoneBefore IterationOrder.Ascending key.now (I.rest rows.old nothing) → IfOk result (λ found. found.items ≡ newest key.now max_seq (I.rest rows.old nothing)) }
-    ensures cause { IfErr result (λ e. (e ≡ SlateDBError.OutOfMemory) ⊎ I.refuses rows.old nothing None e) }
+    ensures cause { IfErr result (λ e. (e ≡ SlateDBError.OutOfMemory) ⊎ I.refuses rows.old no_parts [] None e) }
 {
     let mut found = Vec::new(alloc);
     while let Some(row) = rows.next(alloc, &mut ())? {

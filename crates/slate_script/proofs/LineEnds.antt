@@ -3,7 +3,7 @@ use Rattle.std.proofs.Common.{◌≡◌, ℕ, ◌⊎◌, inl, inr, List, Bool, f
 use Rattle.std.specs.Prelude.{IfErr}
 use Rattle.slate_types.specs.declared.error.SlateDBError.{SlateDBError}
 use Rattle.slate_types.specs.declared.error.SlateDBError.TheVariants.{OutOfMemory, StoreFault, Callback, BlockTransformError, WriteFault, ScriptSyntax, LimitReached}
-use Rattle.slate_types.specs.Outside.{Objects, Counts, IsOuter}
+use Rattle.slate_types.specs.Outside.{Objects, Counts, IsCounted}
 use Rattle.slate_txn.specs.declared.line.Line.{Line}
 use Rattle.slate_db.specs.Meaning.{Meaning}
 use Rattle.slate_db.specs.Parts.{IsDamage}
@@ -26,32 +26,32 @@ keeps-settled (Err x) m objects after e new same stores settled = tt
 
 -- ---- which errors
 
-pub memory-or-limit : {V : Type 0} (result : Result V SlateDBError) (before after : Counts) (e : SessionModel) → IfErr result (λ x. (x ≡ OutOfMemory) ⊎ IsLimit e x) → IfErr result (λ x. IsOuter before after x ⊎ IsLimit e x)
+pub memory-or-limit : {V : Type 0} (result : Result V SlateDBError) (before after : Counts) (e : SessionModel) → IfErr result (λ x. (x ≡ OutOfMemory) ⊎ IsLimit e x) → IfErr result (λ x. IsCounted before after x ⊎ IsLimit e x)
 memory-or-limit (Ok v) before after e cause = tt
-memory-or-limit (Err x) before after e (inl is) = inl (subst (IsOuter before after) (sym is) tt)
+memory-or-limit (Err x) before after e (inl is) = inl (subst (IsCounted before after) (sym is) tt)
 memory-or-limit (Err x) before after e (inr limit) = inr limit
 
-pub or-limit : {V : Type 0} (result : Result V SlateDBError) (before after : Counts) (e : SessionModel) → IfErr result (λ x. IsOuter before after x) → IfErr result (λ x. IsOuter before after x ⊎ IsLimit e x)
+pub or-limit : {V : Type 0} (result : Result V SlateDBError) (before after : Counts) (e : SessionModel) → IfErr result (λ x. IsCounted before after x) → IfErr result (λ x. IsCounted before after x ⊎ IsLimit e x)
 or-limit (Ok v) before after e cause = tt
 or-limit (Err x) before after e cause = inl cause
 
-pub or-damage : {V : Type 0} (result : Result V SlateDBError) (before after : Counts) (e : SessionModel) → IfErr result (λ x. IsOuter before after x ⊎ IsLimit e x) → IfErr result (λ x. IsOuter before after x ⊎ IsLimit e x ⊎ IsDamage x)
+pub or-damage : {V : Type 0} (result : Result V SlateDBError) (before after : Counts) (e : SessionModel) → IfErr result (λ x. IsCounted before after x ⊎ IsLimit e x) → IfErr result (λ x. IsCounted before after x ⊎ IsLimit e x ⊎ IsDamage x)
 or-damage (Ok v) before after e cause = tt
 or-damage (Err x) before after e (inl outer) = inl outer
 or-damage (Err x) before after e (inr limit) = inr (inl limit)
 
-pub limit-between : {V : Type 0} (result : Result V SlateDBError) (before after : Counts) (e : SessionModel) → IfErr result (λ x. IsOuter before after x ⊎ IsDamage x) → IfErr result (λ x. IsOuter before after x ⊎ IsLimit e x ⊎ IsDamage x)
+pub limit-between : {V : Type 0} (result : Result V SlateDBError) (before after : Counts) (e : SessionModel) → IfErr result (λ x. IsCounted before after x ⊎ IsDamage x) → IfErr result (λ x. IsCounted before after x ⊎ IsLimit e x ⊎ IsDamage x)
 limit-between (Ok v) before after e cause = tt
 limit-between (Err x) before after e (inl outer) = inl outer
 limit-between (Err x) before after e (inr damage) = inr (inr damage)
 
-pub no-damage : {V : Type 0} (P : Type 0) (result : Result V SlateDBError) (before after : Counts) (e : SessionModel) → IfErr result (λ x. IsOuter before after x ⊎ IsLimit e x) → IfErr result (λ x. IsDamage x → P)
+pub no-damage : {V : Type 0} (P : Type 0) (result : Result V SlateDBError) (before after : Counts) (e : SessionModel) → IfErr result (λ x. IsCounted before after x ⊎ IsLimit e x) → IfErr result (λ x. IsDamage x → P)
 no-damage P (Ok v) before after e cause = tt
 no-damage P (Err x) before after e cause = λ damage. absurd (not-damage before after x cause damage)
 
 -- ---- in a run, at an error of the session
 
-outer-kind : (before after : Counts) (x : SlateDBError) → IsOuter before after x → (x ≡ OutOfMemory) ⊎ IsPartError x
+outer-kind : (before after : Counts) (x : SlateDBError) → IsCounted before after x → (x ≡ OutOfMemory) ⊎ IsPartError x
 outer-kind before after OutOfMemory h = inl refl
 outer-kind before after StoreFault h = inr tt
 outer-kind before after (Callback message) h = inr tt
@@ -65,7 +65,7 @@ damage-kind BlockTransformError h = tt
 damage-kind x h = h
 
 abbrev pub SessionError : Counts → Counts → SessionModel → SlateDBError → Type 0
-SessionError before after e x = IsOuter before after x ⊎ IsLimit e x ⊎ IsDamage x
+SessionError before after e x = IsCounted before after x ⊎ IsLimit e x ⊎ IsDamage x
 
 abbrev pub AnyError : ℕ → List ℕ → SessionModel → SlateDBError → Type 0
 AnyError number line e x = (x ≡ OutOfMemory) ⊎ (x ≡ WriteFault) ⊎ ((x ≡ ScriptSyntax number) × (is_line line ≡ false)) ⊎ IsPartError x ⊎ IsLimit e x
@@ -88,7 +88,7 @@ not-limit : (x : SlateDBError) (n : ℕ) → x ≡ LimitReached n → x ≡ Writ
 not-limit x n is was = cc
 
 pub session-wrote : (before after : Counts) (e : SessionModel) (x : SlateDBError) → SessionError before after e x → x ≡ WriteFault → ⊥
-session-wrote before after e x (inl outer) is = subst (IsOuter before after) is outer
+session-wrote before after e x (inl outer) is = subst (IsCounted before after) is outer
 session-wrote before after e x (inr (inl limit)) is = not-limit x limit.0 limit.1 is
 session-wrote before after e x (inr (inr damage)) is = subst IsDamage is damage
 

@@ -4,7 +4,7 @@ use Rattle.std.proofs.lemmas.List.{append-nil, length-append, take-append-drop, 
 use Rattle.std.proofs.Math.Seq.{drop-append_seam}
 use Rattle.slate_types.specs.declared.error.SlateDBError.{SlateDBError}
 use Rattle.slate_types.specs.declared.error.SlateDBError.TheVariants.{ScriptSyntax, ScriptTooLong, OutOfMemory, ReadFault, WriteFault, StoreFault, Callback, BlockTransformError}
-use Rattle.slate_types.specs.Outside.{Counts, IsOuter, IsLater}
+use Rattle.slate_types.specs.Outside.{Counts, IsCounted, IsLater}
 use Rattle.slate_types.specs.Faults.{Rose}
 use Rattle.slate_store.specs.Lines.{lines_of, whole_part, script_limit, HasNoEnd, LinesModel, IsEnd, KeepsAll}
 use Rattle.slate_store.proofs.LineLaws.{partial_line_is_not_whole}
@@ -56,7 +56,7 @@ complete-from script e (inr is) formed no-read no-write = absurd (some (sym (for
 
 -- ---- the parts
 
-outer-none : (before after : Counts) (e : SlateDBError) → (Rose before.store after.store → ⊥) → (Rose before.operator after.operator → ⊥) → (Rose before.transformer after.transformer → ⊥) → IsPartError e → IsOuter before after e → ⊥
+outer-none : (before after : Counts) (e : SlateDBError) → (Rose before.store after.store → ⊥) → (Rose before.operator after.operator → ⊥) → (Rose before.transformer after.transformer → ⊥) → IsPartError e → IsCounted before after e → ⊥
 outer-none before after StoreFault store operator transformer part h = store h
 outer-none before after (Callback message) store operator transformer part h = operator h
 outer-none before after BlockTransformError store operator transformer part h = transformer h
@@ -70,15 +70,15 @@ no-part before after e store operator transformer undamaged part (inl h) = outer
 no-part before after e store operator transformer undamaged part (inr h) = undamaged h
 
 pub store-rose : (before after : Counts) (e : SlateDBError) → e ≡ StoreFault → IsPartCause before after e → Rose before.store after.store
-store-rose before after e is (inl h) = subst (IsOuter before after) is h
+store-rose before after e is (inl h) = subst (IsCounted before after) is h
 store-rose before after e is (inr h) = absurd (subst IsDamage is h)
 
 pub operator-rose : (before after : Counts) (e : SlateDBError) (message : List ℕ) → e ≡ Callback message → IsPartCause before after e → Rose before.operator after.operator
-operator-rose before after e message is (inl h) = subst (IsOuter before after) is h
+operator-rose before after e message is (inl h) = subst (IsCounted before after) is h
 operator-rose before after e message is (inr h) = absurd (subst IsDamage is h)
 
 pub transformer-rose : (before after : Counts) (e : SlateDBError) → e ≡ BlockTransformError → IsPartCause before after e → Rose before.transformer after.transformer
-transformer-rose before after e is (inl h) = subst (IsOuter before after) is h
+transformer-rose before after e is (inl h) = subst (IsCounted before after) is h
 transformer-rose before after e is (inr h) = absurd (subst IsDamage is h)
 
 pub only-memory : (e : SlateDBError) → (e ≡ OutOfMemory) ⊎ IsPartError e → (IsPartError e → ⊥) → e ≡ OutOfMemory

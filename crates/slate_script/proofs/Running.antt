@@ -4,7 +4,7 @@ use Rattle.std.specs.List.{flat_map}
 use Rattle.slate_types.specs.declared.config.Options.{Options}
 use Rattle.slate_types.specs.declared.error.SlateDBError.{SlateDBError}
 use Rattle.slate_types.specs.declared.error.SlateDBError.TheVariants.{ChecksumMismatch, InvalidRowFlags, CorruptTable, InvalidSequenceOrder, MergeOperatorMissing, LimitReached}
-use Rattle.slate_types.specs.Outside.{Objects, Counts, IsOuter}
+use Rattle.slate_types.specs.Outside.{Objects, Counts, IsCounted}
 use Rattle.slate_txn.specs.declared.line.Line.{Line}
 use Rattle.slate_txn.specs.declared.line.Line.TheVariants as lines
 use Rattle.slate_txn.specs.Settings.{settings_of}
@@ -107,7 +107,7 @@ pub at-ok : {V E P Q : Type 0} (result : Result V E) → (P → Q) → OnOk resu
 at-ok (Ok v) f p = f p
 at-ok (Err e) f p = tt
 
-damage-outer : (before after : Counts) (e : SlateDBError) → IsOuter before after e → IsDamage e → ⊥
+damage-outer : (before after : Counts) (e : SlateDBError) → IsCounted before after e → IsDamage e → ⊥
 damage-outer before after (ChecksumMismatch stored computed) h d = h
 damage-outer before after (InvalidRowFlags flags) h d = h
 damage-outer before after (CorruptTable place) h d = h
@@ -115,6 +115,6 @@ damage-outer before after (InvalidSequenceOrder a b) h d = h
 damage-outer before after MergeOperatorMissing h d = h
 damage-outer before after e h d = d
 
-pub not-damage : {X : Type 0} (before after : Counts) (e : SlateDBError) → IsOuter before after e ⊎ ((n : ℕ) × (e ≡ LimitReached n) × X) → IsDamage e → ⊥
+pub not-damage : {X : Type 0} (before after : Counts) (e : SlateDBError) → IsCounted before after e ⊎ ((n : ℕ) × (e ≡ LimitReached n) × X) → IsDamage e → ⊥
 not-damage before after e (inl h) d = damage-outer before after e h d
 not-damage before after e (inr h) d = subst IsDamage h.1 d

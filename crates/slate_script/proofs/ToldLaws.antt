@@ -5,7 +5,7 @@ use Rattle.std.specs.List.{AllByRecursion}
 use Rattle.std.proofs.lemmas.List.{append-nil, append_cancel_left, length-append}
 use Rattle.slate_types.specs.declared.error.SlateDBError.{SlateDBError}
 use Rattle.slate_types.specs.declared.types.Ulid.{Ulid}
-use Rattle.slate_types.specs.Outside.{Objects, Counts, IsOuter}
+use Rattle.slate_types.specs.Outside.{Objects, Counts, IsCounted}
 use Rattle.slate_store.specs.Store.{Act, with_object}
 use Rattle.slate_table.specs.Parts.{Encode}
 use Rattle.slate_table.specs.Paths.{path_of}
@@ -97,7 +97,7 @@ follows-flush m encode layout os objects left e mid core n before after frozen f
 
 -- ---- damage
 
-pub untrue-get : {X : Type 0} (r : Result X SlateDBError) (os : Objects) (before after : Option (List Act)) (a b : Counts) → AddsReads before after → (AnswersAs os before after → IfErr r (λ e. IsOuter a b e)) → IfErr r (λ e. IsDamage e → IsUntrue os before after)
+pub untrue-get : {X : Type 0} (r : Result X SlateDBError) (os : Objects) (before after : Option (List Act)) (a b : Counts) → AddsReads before after → (AnswersAs os before after → IfErr r (λ e. IsCounted a b e)) → IfErr r (λ e. IsDamage e → IsUntrue os before after)
 untrue-get (Ok x) os before after a b adds truthful = tt
 untrue-get (Err e) os before after a b adds truthful = λ damage known is.
     let r = adds known is in

@@ -14,7 +14,7 @@ use Rattle.std.specs.List.{AllByRecursion}
 use Rattle.slate_types.specs.declared.config.Options.{Options}
 use Rattle.slate_types.specs.declared.error.SlateDBError.{SlateDBError}
 use Rattle.slate_types.specs.declared.error.SlateDBError.TheVariants.{ScriptSyntax, ScriptTooLong, OutOfMemory, ReadFault, WriteFault, StoreFault, Callback, BlockTransformError}
-use Rattle.slate_types.specs.Outside.{Objects, Counts, IsOuter}
+use Rattle.slate_types.specs.Outside.{Objects, Counts, IsCounted}
 use Rattle.slate_store.specs.Lines.{lines_of, whole_part, script_limit}
 use Rattle.slate_store.specs.Store.{IsEmpty}
 use Rattle.slate_txn.specs.Settings.{settings_of}
@@ -60,7 +60,7 @@ IsPartError e = IsDamage e
 
 -- before, after: the parts' counts of faults
 abbrev pub IsPartCause : Counts → Counts → SlateDBError → Type 0
-IsPartCause before after e = IsOuter before after e ⊎ IsDamage e
+IsPartCause before after e = IsCounted before after e ⊎ IsDamage e
 
 -- errors that a source, a sink, a part or memory brings
 abbrev pub IsOutside : SlateDBError → Type 0

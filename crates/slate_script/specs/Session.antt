@@ -9,6 +9,7 @@
 --     IsTableUpTo m layout n o      an object is a table that a flush put, and there were no more flushes than these
 --     HasTablesAlone m layout objects ts      the store holds nothing but these tables, and for each key its rows by sequence are theirs
 --     IsSettled m objects e      the parts are lawful, what is kept of the rows holds, and so does this
+--     IsSettledIn reach e      the same of what a call reaches
 --     IsRunning m r parts objects e      the same for rules of a run, whose parts mean what they did
 --     line_load line, Grows line old new      what a line adds to memory at most; so do its events and its rows
 --     IsFull e, IsLimit e error      the journal or memory has passed what no script fills; a limit was reached, so one of them has
@@ -20,7 +21,7 @@ use Rattle.std.specs.List.{AllByRecursion}
 use Rattle.slate_types.specs.declared.error.SlateDBError.{SlateDBError}
 use Rattle.slate_types.specs.declared.error.SlateDBError.TheVariants.{EmptyKey, KeyTooLong, ValueTooLong, SequenceExhausted, LimitReached}
 use Rattle.slate_types.specs.declared.types.Ulid.{Ulid}
-use Rattle.slate_types.specs.Outside.{Objects}
+use Rattle.slate_types.specs.Outside.{Objects, Reach}
 use Rattle.slate_table.specs.Stored.{HoldRows, by_seq}
 use Rattle.slate_txn.specs.declared.event.Event.{Event}
 use Rattle.slate_txn.specs.declared.line.Line.{Line}
@@ -97,6 +98,9 @@ pub record IsSettled (m : Meaning) (objects : Option Objects) (e : SessionModel)
   pub lawful : IsLawfulMeaning m
   pub kept : IsKept m e.core
   pub tables : HasTables objects e.core.events
+
+abbrev pub IsSettledIn : Reach → SessionModel → Type 0
+IsSettledIn reach e = IsSettled reach.meaning reach.objects e
 
 -- ---- how much a session holds
 

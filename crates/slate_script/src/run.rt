@@ -1,15 +1,15 @@
 //! A run over a whole script.
 ghost use Rattle.std.specs.Prelude.{◌≡◌, ◌⊎◌, ◌≤◌, ◌<◌, ◌+◌, ◌++◌, ◌∷◌, [], ℕ, List, Some, None, Ok, Err, OnOk, IfErr, IsTrue, false, take, drop, length};
 ghost use Rattle.slate_types.specs.Config.{IsValid};
-ghost use Rattle.slate_types.specs.Faults.{Rose, faults_of};
-ghost use Rattle.slate_types.specs.Outside.{IsLater, Objects};
+ghost use Rattle.slate_types.specs.Faults.{Rose};
+ghost use Rattle.slate_types.specs.Outside.{Objects, Puts};
 ghost use Rattle.slate_store.specs.Lines.{lines_of, script_limit};
 ghost use Rattle.slate_txn.specs.State.{Rules, State, opening};
 ghost use Rattle.slate_db.specs.Flushed.{layout_of};
 ghost use Rattle.slate_db.specs.Installs.{tables_of};
 ghost use Rattle.slate_db.specs.Load.{load, weight};
 ghost use Rattle.slate_db.specs.Meaning.{Meaning, IsLawfulMeaning};
-ghost use Rattle.slate_db.specs.Parts.{meaning_of, counts_of, IsDamage};
+ghost use Rattle.slate_db.specs.Parts.{IsDamage};
 ghost use Rattle.slate_txn.specs.Replies.{replies, replies_to, after_lines, replies_from, reply_line, IsWellFormed};
 ghost use Rattle.slate_txn.specs.Answers.{reply_of};
 ghost use Rattle.slate_txn.specs.Stage.{meaning};
@@ -19,10 +19,10 @@ ghost use Rattle.slate_script.specs.StoredState.{IsStoredState};
 ghost use Rattle.slate_script.specs.Told.{Follows, IsUntrue};
 
 use crate::session::Session;
-use slate_store::{Env, Lines, Sink, Source, Store, write_all};
+use slate_store::{Env, EnvOf, Lines, Sink, Source, Store, write_all};
 use slate_txn::parse_line;
 use slate_txn::reply::{Answer, reply_text};
-use slate_types::{BlockTransformer, MergeOperator, Options, SlateDBError};
+use slate_types::{BlockTransformer, MergeOperator, Options, Outside, SlateDBError};
 use std::alloc::Global;
 
 /// Answers each line of the source into the sink, and reads on to the end. Rows are stored where `env` says.
@@ -52,10 +52,10 @@ pub fn run_script<R: Source, W: Sink, S: Store, M: MergeOperator, T: BlockTransf
     requires { IsValid options.now }
 
     // Ok: each line was answered as the model answers it, to the end of a script of lines.
-    ensures answered { (script before : List ℕ) → R.left source.old ≡ Some script → W.content sink.old ≡ Some before → Premises (meaning_of M.combine T.encoded T.decoded env.old.operator env.old.transformer) (S.objects env.old.store.now) →
-        OnOk result (W.content sink.new ≡ Some (before ++ replies (run_rules options.now (meaning_of M.combine T.encoded T.decoded env.old.operator env.old.transformer)) script)) }
-    ensures stored { (script : List ℕ) → R.left source.old ≡ Some script → Premises (meaning_of M.combine T.encoded T.decoded env.old.operator env.old.transformer) (S.objects env.old.store.now) →
-        OnOk result (IsStoredState (meaning_of M.combine T.encoded T.decoded env.old.operator env.old.transformer) (run_rules options.now (meaning_of M.combine T.encoded T.decoded env.old.operator env.old.transformer)) (layout_of options.now) (S.objects env.new.store.now) (after_lines meaning (run_rules options.now (meaning_of M.combine T.encoded T.decoded env.old.operator env.old.transformer)) opening (lines_of script))) }
+    ensures answered { let reach = ⟦<EnvOf<S, M, T> as Outside>⟧.reach in (script before : List ℕ) → R.left source.old ≡ Some script → W.content sink.old ≡ Some before → Premises (reach env.old).meaning (reach env.old).objects →
+        OnOk result (W.content sink.new ≡ Some (before ++ replies (run_rules options.now (reach env.old).meaning) script)) }
+    ensures stored { let reach = ⟦<EnvOf<S, M, T> as Outside>⟧.reach in (script : List ℕ) → R.left source.old ≡ Some script → Premises (reach env.old).meaning (reach env.old).objects →
+        OnOk result (IsStoredState (reach env.old).meaning (run_rules options.now (reach env.old).meaning) (layout_of options.now) (reach env.new).objects (after_lines meaning (run_rules options.now (reach env.old).meaning) opening (lines_of script))) }
     ensures read { (script : List ℕ) → R.left source.old ≡ Some script → OnOk result (IsWellFormed script × (R.left source.new ≡ Some [])) }
 
     // which errors there are, and when
@@ -64,14 +64,14 @@ pub fn run_script<R: Source, W: Sink, S: Store, M: MergeOperator, T: BlockTransf
     ensures kinds { IfErr result (λ e. IsOutside e ⊎ IsScriptError e) }
     ensures read_fault { result ≡ Err SlateDBError.ReadFault → Rose (R.faults source.old) (R.faults source.new) }
     ensures write_fault { result ≡ Err SlateDBError.WriteFault → Rose (W.faults sink.old) (W.faults sink.new) }
-    ensures store_fault { result ≡ Err SlateDBError.StoreFault → Rose (S.faults env.old.store.now) (S.faults env.new.store.now) }
-    ensures operator_fault { (message : List ℕ) → result ≡ Err (SlateDBError.Callback message) → Rose (faults_of M.faults env.old.operator) (faults_of M.faults env.new.operator) }
-    ensures transform_fault { result ≡ Err SlateDBError.BlockTransformError → Rose (faults_of T.faults env.old.transformer) (faults_of T.faults env.new.transformer) }
-    ensures undamaged { Premises (meaning_of M.combine T.encoded T.decoded env.old.operator env.old.transformer) (S.objects env.old.store.now) → IfErr result (λ e. IsDamage e → ⊥) }
-    ensures untrue { IsLawfulMeaning (meaning_of M.combine T.encoded T.decoded env.old.operator env.old.transformer) → IfErr result (λ e. IsDamage e → IsUntrue [] (S.acts env.old.store.now) (S.acts env.new.store.now)) }
-    ensures complete { (script : List ℕ) → R.left source.old ≡ Some script → IsWellFormed script → Premises (meaning_of M.combine T.encoded T.decoded env.old.operator env.old.transformer) (S.objects env.old.store.now) →
-        (Rose (R.faults source.old) (R.faults source.new) → ⊥) → (Rose (W.faults sink.old) (W.faults sink.new) → ⊥) → (Rose (S.faults env.old.store.now) (S.faults env.new.store.now) → ⊥) →
-        (Rose (faults_of M.faults env.old.operator) (faults_of M.faults env.new.operator) → ⊥) → (Rose (faults_of T.faults env.old.transformer) (faults_of T.faults env.new.transformer) → ⊥) →
+    ensures store_fault { let reach = ⟦<EnvOf<S, M, T> as Outside>⟧.reach in result ≡ Err SlateDBError.StoreFault → Rose (reach env.old).faults.store (reach env.new).faults.store }
+    ensures operator_fault { let reach = ⟦<EnvOf<S, M, T> as Outside>⟧.reach in (message : List ℕ) → result ≡ Err (SlateDBError.Callback message) → Rose (reach env.old).faults.operator (reach env.new).faults.operator }
+    ensures transform_fault { let reach = ⟦<EnvOf<S, M, T> as Outside>⟧.reach in result ≡ Err SlateDBError.BlockTransformError → Rose (reach env.old).faults.transformer (reach env.new).faults.transformer }
+    ensures undamaged { let reach = ⟦<EnvOf<S, M, T> as Outside>⟧.reach in Premises (reach env.old).meaning (reach env.old).objects → IfErr result (λ e. IsDamage e → ⊥) }
+    ensures untrue { let reach = ⟦<EnvOf<S, M, T> as Outside>⟧.reach in IsLawfulMeaning (reach env.old).meaning → IfErr result (λ e. IsDamage e → IsUntrue [] (reach env.old).acts (reach env.new).acts) }
+    ensures complete { let reach = ⟦<EnvOf<S, M, T> as Outside>⟧.reach in (script : List ℕ) → R.left source.old ≡ Some script → IsWellFormed script → Premises (reach env.old).meaning (reach env.old).objects →
+        (Rose (R.faults source.old) (R.faults source.new) → ⊥) → (Rose (W.faults sink.old) (W.faults sink.new) → ⊥) → (Rose (reach env.old).faults.store (reach env.new).faults.store → ⊥) →
+        (Rose (reach env.old).faults.operator (reach env.new).faults.operator → ⊥) → (Rose (reach env.old).faults.transformer (reach env.new).faults.transformer → ⊥) →
         IfErr result (λ e. e ≡ SlateDBError.OutOfMemory) }
 
     // no fault is passed over
@@ -79,21 +79,20 @@ pub fn run_script<R: Source, W: Sink, S: Store, M: MergeOperator, T: BlockTransf
     ensures sink_still { (result ≡ Err SlateDBError.WriteFault) ⊎ (W.faults sink.new ≡ W.faults sink.old) }
 
     // what the sink took at an error
-    ensures by_script { (script before : List ℕ) → R.left source.old ≡ Some script → W.content sink.old ≡ Some before → Premises (meaning_of M.combine T.encoded T.decoded env.old.operator env.old.transformer) (S.objects env.old.store.now) →
-        IfErr result (λ e. script_error script ≡ Some e → W.content sink.new ≡ Some (before ++ replies_to meaning (run_rules options.now (meaning_of M.combine T.encoded T.decoded env.old.operator env.old.transformer)) (lines_taken script))) }
-    ensures by_source { (script before : List ℕ) → R.left source.old ≡ Some script → W.content sink.old ≡ Some before → Premises (meaning_of M.combine T.encoded T.decoded env.old.operator env.old.transformer) (S.objects env.old.store.now) → result ≡ Err SlateDBError.ReadFault →
-        (left said : List ℕ) × (R.left source.new ≡ Some left) × (W.content sink.new ≡ Some (before ++ said)) × HasAnsweredAll (run_rules options.now (meaning_of M.combine T.encoded T.decoded env.old.operator env.old.transformer)) script left said }
-    ensures by_sink { (script before : List ℕ) → R.left source.old ≡ Some script → W.content sink.old ≡ Some before → Premises (meaning_of M.combine T.encoded T.decoded env.old.operator env.old.transformer) (S.objects env.old.store.now) → result ≡ Err SlateDBError.WriteFault →
-        (said : List ℕ) × (W.content sink.new ≡ Some (before ++ said)) × HasBegun (run_rules options.now (meaning_of M.combine T.encoded T.decoded env.old.operator env.old.transformer)) script said }
-    ensures by_part { (script before : List ℕ) → R.left source.old ≡ Some script → W.content sink.old ≡ Some before → Premises (meaning_of M.combine T.encoded T.decoded env.old.operator env.old.transformer) (S.objects env.old.store.now) →
-        IfErr result (λ e. (e ≡ SlateDBError.OutOfMemory) ⊎ IsPartError e → (said : List ℕ) × (W.content sink.new ≡ Some (before ++ said)) × HasAnswered (run_rules options.now (meaning_of M.combine T.encoded T.decoded env.old.operator env.old.transformer)) script said) }
+    ensures by_script { let reach = ⟦<EnvOf<S, M, T> as Outside>⟧.reach in (script before : List ℕ) → R.left source.old ≡ Some script → W.content sink.old ≡ Some before → Premises (reach env.old).meaning (reach env.old).objects →
+        IfErr result (λ e. script_error script ≡ Some e → W.content sink.new ≡ Some (before ++ replies_to meaning (run_rules options.now (reach env.old).meaning) (lines_taken script))) }
+    ensures by_source { let reach = ⟦<EnvOf<S, M, T> as Outside>⟧.reach in (script before : List ℕ) → R.left source.old ≡ Some script → W.content sink.old ≡ Some before → Premises (reach env.old).meaning (reach env.old).objects → result ≡ Err SlateDBError.ReadFault →
+        (left said : List ℕ) × (R.left source.new ≡ Some left) × (W.content sink.new ≡ Some (before ++ said)) × HasAnsweredAll (run_rules options.now (reach env.old).meaning) script left said }
+    ensures by_sink { let reach = ⟦<EnvOf<S, M, T> as Outside>⟧.reach in (script before : List ℕ) → R.left source.old ≡ Some script → W.content sink.old ≡ Some before → Premises (reach env.old).meaning (reach env.old).objects → result ≡ Err SlateDBError.WriteFault →
+        (said : List ℕ) × (W.content sink.new ≡ Some (before ++ said)) × HasBegun (run_rules options.now (reach env.old).meaning) script said }
+    ensures by_part { let reach = ⟦<EnvOf<S, M, T> as Outside>⟧.reach in (script before : List ℕ) → R.left source.old ≡ Some script → W.content sink.old ≡ Some before → Premises (reach env.old).meaning (reach env.old).objects →
+        IfErr result (λ e. (e ≡ SlateDBError.OutOfMemory) ⊎ IsPartError e → (said : List ℕ) × (W.content sink.new ≡ Some (before ++ said)) × HasAnswered (run_rules options.now (reach env.old).meaning) script said) }
 
     // what was read: all that a run can take of a script that is too long, and never more
     ensures too_long { (script : List ℕ) → R.left source.old ≡ Some script → result ≡ Err SlateDBError.ScriptTooLong → R.left source.new ≡ Some (drop script_limit script) }
     ensures taken { (script : List ℕ) → R.left source.old ≡ Some script → (n : ℕ) × (n ≤ script_limit) × (R.left source.new ≡ Some (drop n script)) }
     ensures later { (R.faults source.old ≤ R.faults source.new) × (W.faults sink.old ≤ W.faults sink.new) }
-    ensures same_store { env.new.store.ghost_name ≡ env.old.store.ghost_name }
-    ensures parts_later { IsLater (counts_of (S.faults env.old.store.now) M.faults T.faults env.old.operator env.old.transformer) (counts_of (S.faults env.new.store.now) M.faults T.faults env.new.operator env.new.transformer) }
+    ensures puts { let reach = ⟦<EnvOf<S, M, T> as Outside>⟧.reach in Puts (reach env.old) (reach env.new) }
 {
     let mut lines = Lines::new(alloc);
     let mut session = Session::new(alloc, options);
@@ -143,25 +142,23 @@ fn answer_line<W: Sink, S: Store, M: MergeOperator, T: BlockTransformer>(
 ) -> Result<(), SlateDBError>
     requires { IsValid options.now }
     ensures meant { OnOk result (IsTrue (is_line line.now)) }
-    ensures running { (m : Meaning) (r : Rules) → IsRunning m r (meaning_of M.combine T.encoded T.decoded env.old.operator env.old.transformer) (S.objects env.old.store.now) session.old → OnOk result (IsRunning m r (meaning_of M.combine T.encoded T.decoded env.new.operator env.new.transformer) (S.objects env.new.store.now) session.new) }
-    ensures stands { (m : Meaning) (r : Rules) → IsRunning m r (meaning_of M.combine T.encoded T.decoded env.old.operator env.old.transformer) (S.objects env.old.store.now) session.old → (s : State) → StandsFor session.old s → OnOk result (StandsFor session.new (after_lines meaning r s (line.now ∷ []))) }
-    ensures answered { (m : Meaning) (r : Rules) → IsRunning m r (meaning_of M.combine T.encoded T.decoded env.old.operator env.old.transformer) (S.objects env.old.store.now) session.old → (s : State) (before : List ℕ) → StandsFor session.old s → W.content sink.old ≡ Some before →
+    ensures running { let reach = ⟦<EnvOf<S, M, T> as Outside>⟧.reach in (m : Meaning) (r : Rules) → IsRunning m r (reach env.old).meaning (reach env.old).objects session.old → OnOk result (IsRunning m r (reach env.new).meaning (reach env.new).objects session.new) }
+    ensures stands { let reach = ⟦<EnvOf<S, M, T> as Outside>⟧.reach in (m : Meaning) (r : Rules) → IsRunning m r (reach env.old).meaning (reach env.old).objects session.old → (s : State) → StandsFor session.old s → OnOk result (StandsFor session.new (after_lines meaning r s (line.now ∷ []))) }
+    ensures answered { let reach = ⟦<EnvOf<S, M, T> as Outside>⟧.reach in (m : Meaning) (r : Rules) → IsRunning m r (reach env.old).meaning (reach env.old).objects session.old → (s : State) (before : List ℕ) → StandsFor session.old s → W.content sink.old ≡ Some before →
         OnOk result (W.content sink.new ≡ Some (before ++ replies_from meaning r s (line.now ∷ []))) }
     ensures grows { OnOk result ((weight session.new.core ≤ weight session.old.core + 2) × (load session.new.core ≤ load session.old.core + length line.now)) }
-    ensures alone { (m : Meaning) (r : Rules) → IsRunning m r (meaning_of M.combine T.encoded T.decoded env.old.operator env.old.transformer) (S.objects env.old.store.now) session.old → HasTablesAlone m (layout_of options.now) (S.objects env.old.store.now) (tables_of session.old.core.events) →
-        OnOk result (HasTablesAlone m (layout_of options.now) (S.objects env.new.store.now) (tables_of session.new.core.events)) }
+    ensures alone { let reach = ⟦<EnvOf<S, M, T> as Outside>⟧.reach in (m : Meaning) (r : Rules) → IsRunning m r (reach env.old).meaning (reach env.old).objects session.old → HasTablesAlone m (layout_of options.now) (reach env.old).objects (tables_of session.old.core.events) →
+        OnOk result (HasTablesAlone m (layout_of options.now) (reach env.new).objects (tables_of session.new.core.events)) }
     ensures cause { IfErr result (λ e. (e ≡ SlateDBError.OutOfMemory) ⊎ (e ≡ SlateDBError.WriteFault) ⊎ ((e ≡ SlateDBError.ScriptSyntax number) × (is_line line.now ≡ false)) ⊎ IsPartError e ⊎ IsLimit session.old e) }
-    ensures part { IfErr result (λ e. IsPartError e → IsPartCause (counts_of (S.faults env.old.store.now) M.faults T.faults env.old.operator env.old.transformer) (counts_of (S.faults env.new.store.now) M.faults T.faults env.new.operator env.new.transformer) e) }
-    ensures undamaged { (m : Meaning) (r : Rules) → IsRunning m r (meaning_of M.combine T.encoded T.decoded env.old.operator env.old.transformer) (S.objects env.old.store.now) session.old → IfErr result (λ e. IsDamage e → ⊥) }
-    ensures follows { (os : Objects) → IsSettled (meaning_of M.combine T.encoded T.decoded env.old.operator env.old.transformer) (Some os) session.old → OnOk result (Follows (meaning_of M.combine T.encoded T.decoded env.old.operator env.old.transformer) os session.new (S.acts env.old.store.now) (S.acts env.new.store.now)) }
-    ensures untrue { (os : Objects) → IsSettled (meaning_of M.combine T.encoded T.decoded env.old.operator env.old.transformer) (Some os) session.old → IfErr result (λ e. IsDamage e → IsUntrue os (S.acts env.old.store.now) (S.acts env.new.store.now)) }
-    ensures meaning { OnOk result (meaning_of M.combine T.encoded T.decoded env.new.operator env.new.transformer ≡ (meaning_of M.combine T.encoded T.decoded env.old.operator env.old.transformer)) }
+    ensures part { let reach = ⟦<EnvOf<S, M, T> as Outside>⟧.reach in IfErr result (λ e. IsPartError e → IsPartCause (reach env.old).faults (reach env.new).faults e) }
+    ensures undamaged { let reach = ⟦<EnvOf<S, M, T> as Outside>⟧.reach in (m : Meaning) (r : Rules) → IsRunning m r (reach env.old).meaning (reach env.old).objects session.old → IfErr result (λ e. IsDamage e → ⊥) }
+    ensures follows { let reach = ⟦<EnvOf<S, M, T> as Outside>⟧.reach in (os : Objects) → IsSettled (reach env.old).meaning (Some os) session.old → OnOk result (Follows (reach env.old).meaning os session.new (reach env.old).acts (reach env.new).acts) }
+    ensures untrue { let reach = ⟦<EnvOf<S, M, T> as Outside>⟧.reach in (os : Objects) → IsSettled (reach env.old).meaning (Some os) session.old → IfErr result (λ e. IsDamage e → IsUntrue os (reach env.old).acts (reach env.new).acts) }
     ensures write_fault { result ≡ Err SlateDBError.WriteFault → Rose (W.faults sink.old) (W.faults sink.new) × IsTrue (is_line line.now) }
-    ensures begun { (m : Meaning) (r : Rules) → IsRunning m r (meaning_of M.combine T.encoded T.decoded env.old.operator env.old.transformer) (S.objects env.old.store.now) session.old → (s : State) (before : List ℕ) → StandsFor session.old s → W.content sink.old ≡ Some before → result ≡ Err SlateDBError.WriteFault →
+    ensures begun { let reach = ⟦<EnvOf<S, M, T> as Outside>⟧.reach in (m : Meaning) (r : Rules) → IsRunning m r (reach env.old).meaning (reach env.old).objects session.old → (s : State) (before : List ℕ) → StandsFor session.old s → W.content sink.old ≡ Some before → result ≡ Err SlateDBError.WriteFault →
         (n : ℕ) × (n < length (replies_from meaning r s (line.now ∷ []))) × (W.content sink.new ≡ Some (before ++ take n (replies_from meaning r s (line.now ∷ [])))) }
     ensures still { OnOk result (W.faults sink.new ≡ W.faults sink.old) }
-    ensures same_store { env.new.store.ghost_name ≡ env.old.store.ghost_name }
-    ensures parts_later { IsLater (counts_of (S.faults env.old.store.now) M.faults T.faults env.old.operator env.old.transformer) (counts_of (S.faults env.new.store.now) M.faults T.faults env.new.operator env.new.transformer) }
+    ensures puts { let reach = ⟦<EnvOf<S, M, T> as Outside>⟧.reach in Puts (reach env.old) (reach env.new) }
     ensures uncounted { IfErr result (λ e. (e ≡ SlateDBError.WriteFault) ⊎ (W.faults sink.new ≡ W.faults sink.old)) }
     ensures unanswered { IfErr result (λ e. (e ≡ SlateDBError.WriteFault) ⊎ (W.content sink.new ≡ W.content sink.old)) }
     ensures later { W.faults sink.old ≤ W.faults sink.new }

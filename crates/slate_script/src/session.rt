@@ -1,7 +1,7 @@
 //! The core, the open names with their ids, and the moment.
 ghost use Rattle.std.specs.Prelude.{◌≡◌, ◌≢◌, ◌⊎◌, ◌∷◌, ℕ, List, ◌++◌, [], map, Some, Ok, IfOk, IfErr, OnOk, IsTrue, IsOkUnless, length, drop, false};
 ghost use Rattle.slate_types.specs.Config.{IsValid};
-ghost use Rattle.slate_types.specs.Outside.{IsLater, IsOuter, Objects};
+ghost use Rattle.slate_types.specs.Outside.{Objects, IsFault, OnlyReads, Puts};
 ghost use Rattle.slate_mem.specs.Batch.{Ops};
 ghost use Rattle.slate_mem.specs.BatchModel.{IsBatchOf};
 ghost use Rattle.slate_mem.specs.Refusals.{first_refusal, op_refusal};
@@ -9,29 +9,29 @@ ghost use Rattle.slate_txn.specs.Named.{find_named};
 ghost use Rattle.slate_txn.specs.Reply.{Refused};
 ghost use Rattle.slate_txn.specs.Settings.{settings_of};
 ghost use Rattle.slate_txn.specs.State.{opening};
-ghost use Rattle.slate_db.specs.Answered.{AddsReads, AnswersAs as IsAnsweredBy};
 ghost use Rattle.slate_db.specs.Flushed.{layout_of};
 ghost use Rattle.slate_db.specs.Installs.{tables_of};
 ghost use Rattle.slate_db.specs.Load.{load, weight};
 ghost use Rattle.slate_db.specs.Meaning.{Meaning, IsLawfulMeaning};
-ghost use Rattle.slate_db.specs.Parts.{meaning_of, counts_of, IsDamage};
+ghost use Rattle.slate_db.specs.Parts.{IsDamage};
+ghost use Rattle.slate_db.specs.Readable.{IsAnswered};
 ghost use Rattle.slate_db.specs.Sound.{IsKept};
 ghost use Rattle.slate_db.specs.StoredState.{StoresState};
 ghost use Rattle.slate_db.specs.Whole.{AreFine};
 ghost use Rattle.slate_txn.specs.Answers.{reply_of};
-ghost use Rattle.slate_script.specs.Session.{StandsFor, AnswersAs, HasTablesAlone, Grows, IsSettled, IsLimit, IsRefusal, StoresNothing, has_moment};
+ghost use Rattle.slate_script.specs.Session.{StandsFor, AnswersAs, HasTablesAlone, Grows, IsSettled, IsSettledIn, IsLimit, IsRefusal, StoresNothing, has_moment};
 ghost use Rattle.slate_txn.specs.Stage.{is_built, is_built_op, is_built_batch};
 ghost use Rattle.slate_script.specs.Told.{Follows, IsUntrue};
 
 use bytes::Bytes;
 use slate_db::engine::Core;
 use slate_mem::{WriteBatch, WriteOp};
-use slate_store::{Env, Store};
+use slate_store::{Env, EnvOf, Store};
 use slate_txn::line::Line;
 use slate_txn::list::OpList;
 use slate_txn::reply::{Answer, Refusal};
 use slate_types::{
-    BlockTransformer, IsolationLevel, MergeOperator, Options, ReadOptions, SlateDBError,
+    BlockTransformer, IsolationLevel, MergeOperator, Options, Outside, ReadOptions, SlateDBError,
 };
 use std::alloc::Global;
 use std::collections::BTreeMap;
@@ -95,22 +95,20 @@ impl Session {
         requires built { IsTrue (is_built line) }
         requires moment { IsTrue (has_moment line) }
         requires valid { IsValid options.now }
-        ensures step { IsSettled (meaning_of M.combine T.encoded T.decoded env.old.operator env.old.transformer) (S.objects env.old.store.now) self.old →
-            AnswersAs (meaning_of M.combine T.encoded T.decoded env.old.operator env.old.transformer) self.old self.new line result }
+        ensures step { let reach = ⟦<EnvOf<S, M, T> as Outside>⟧.reach in IsSettledIn (reach env.old) self.old →
+            AnswersAs (reach env.old).meaning self.old self.new line result }
         ensures settings { OnOk result (self.new.core.settings ≡ self.old.core.settings) }
         ensures grows { OnOk result (Grows line self.old self.new) }
-        ensures kept { IsSettled (meaning_of M.combine T.encoded T.decoded env.old.operator env.old.transformer) (S.objects env.old.store.now) self.old →
-            OnOk result (IsSettled (meaning_of M.combine T.encoded T.decoded env.old.operator env.old.transformer) (S.objects env.new.store.now) self.new) }
-        ensures alone { IsSettled (meaning_of M.combine T.encoded T.decoded env.old.operator env.old.transformer) (S.objects env.old.store.now) self.old → HasTablesAlone (meaning_of M.combine T.encoded T.decoded env.old.operator env.old.transformer) (layout_of options.now) (S.objects env.old.store.now) (tables_of self.old.core.events) →
-            OnOk result (HasTablesAlone (meaning_of M.combine T.encoded T.decoded env.old.operator env.old.transformer) (layout_of options.now) (S.objects env.new.store.now) (tables_of self.new.core.events)) }
-        ensures cause { IfErr result (λ e. IsOuter (counts_of (S.faults env.old.store.now) M.faults T.faults env.old.operator env.old.transformer) (counts_of (S.faults env.new.store.now) M.faults T.faults env.new.operator env.new.transformer) e ⊎ IsLimit self.old e ⊎ IsDamage e) }
-        ensures undamaged { IsSettled (meaning_of M.combine T.encoded T.decoded env.old.operator env.old.transformer) (S.objects env.old.store.now) self.old →
-            IfErr result (λ e. IsOuter (counts_of (S.faults env.old.store.now) M.faults T.faults env.old.operator env.old.transformer) (counts_of (S.faults env.new.store.now) M.faults T.faults env.new.operator env.new.transformer) e ⊎ IsLimit self.old e) }
-        ensures follows { (os : Objects) → IsSettled (meaning_of M.combine T.encoded T.decoded env.old.operator env.old.transformer) (Some os) self.old → OnOk result (Follows (meaning_of M.combine T.encoded T.decoded env.old.operator env.old.transformer) os self.new (S.acts env.old.store.now) (S.acts env.new.store.now)) }
-        ensures untrue { (os : Objects) → IsSettled (meaning_of M.combine T.encoded T.decoded env.old.operator env.old.transformer) (Some os) self.old → IfErr result (λ e. IsDamage e → IsUntrue os (S.acts env.old.store.now) (S.acts env.new.store.now)) }
-        ensures meaning { meaning_of M.combine T.encoded T.decoded env.new.operator env.new.transformer ≡ meaning_of M.combine T.encoded T.decoded env.old.operator env.old.transformer }
-        ensures same_store { env.new.store.ghost_name ≡ env.old.store.ghost_name }
-        ensures later { IsLater (counts_of (S.faults env.old.store.now) M.faults T.faults env.old.operator env.old.transformer) (counts_of (S.faults env.new.store.now) M.faults T.faults env.new.operator env.new.transformer) }
+        ensures kept { let reach = ⟦<EnvOf<S, M, T> as Outside>⟧.reach in IsSettledIn (reach env.old) self.old →
+            OnOk result (IsSettled (reach env.old).meaning (reach env.new).objects self.new) }
+        ensures alone { let reach = ⟦<EnvOf<S, M, T> as Outside>⟧.reach in IsSettledIn (reach env.old) self.old → HasTablesAlone (reach env.old).meaning (layout_of options.now) (reach env.old).objects (tables_of self.old.core.events) →
+            OnOk result (HasTablesAlone (reach env.old).meaning (layout_of options.now) (reach env.new).objects (tables_of self.new.core.events)) }
+        ensures cause { let reach = ⟦<EnvOf<S, M, T> as Outside>⟧.reach in IfErr result (λ e. IsFault (reach env.old) (reach env.new) e ⊎ IsLimit self.old e ⊎ IsDamage e) }
+        ensures undamaged { let reach = ⟦<EnvOf<S, M, T> as Outside>⟧.reach in IsSettledIn (reach env.old) self.old →
+            IfErr result (λ e. IsFault (reach env.old) (reach env.new) e ⊎ IsLimit self.old e) }
+        ensures follows { let reach = ⟦<EnvOf<S, M, T> as Outside>⟧.reach in (os : Objects) → IsSettled (reach env.old).meaning (Some os) self.old → OnOk result (Follows (reach env.old).meaning os self.new (reach env.old).acts (reach env.new).acts) }
+        ensures untrue { let reach = ⟦<EnvOf<S, M, T> as Outside>⟧.reach in (os : Objects) → IsSettled (reach env.old).meaning (Some os) self.old → IfErr result (λ e. IsDamage e → IsUntrue os (reach env.old).acts (reach env.new).acts) }
+        ensures puts { let reach = ⟦<EnvOf<S, M, T> as Outside>⟧.reach in Puts (reach env.old) (reach env.new) }
     {
         match line {
             Line::Get { name, key } => self.get(name, key, env),
@@ -175,20 +173,13 @@ impl Session {
         key: Bytes,
         env: &mut Env<'_, S, M, T>,
     ) -> Result<Answer, SlateDBError>
-        ensures step { IsSettled (meaning_of M.combine T.encoded T.decoded env.old.operator env.old.transformer) (S.objects env.old.store.now) self.old →
-            AnswersAs (meaning_of M.combine T.encoded T.decoded env.old.operator env.old.transformer) self.old self.new (Line.Get name key) result }
+        ensures step { let reach = ⟦<EnvOf<S, M, T> as Outside>⟧.reach in IsAnswered (reach env.old) (reach env.new) self.old.core →
+            AnswersAs (reach env.old).meaning self.old self.new (Line.Get name key) result }
         ensures stores { OnOk result (StoresNothing self.old self.new) }
         ensures grows { OnOk result (Grows (Line.Get name key) self.old self.new) }
-        ensures objects { S.objects env.new.store.now ≡ S.objects env.old.store.now }
-        ensures cause { IfErr result (λ e. IsOuter (counts_of (S.faults env.old.store.now) M.faults T.faults env.old.operator env.old.transformer) (counts_of (S.faults env.new.store.now) M.faults T.faults env.new.operator env.new.transformer) e ⊎ IsDamage e) }
-        ensures undamaged { IsSettled (meaning_of M.combine T.encoded T.decoded env.old.operator env.old.transformer) (S.objects env.old.store.now) self.old →
-            IfErr result (λ e. IsOuter (counts_of (S.faults env.old.store.now) M.faults T.faults env.old.operator env.old.transformer) (counts_of (S.faults env.new.store.now) M.faults T.faults env.new.operator env.new.transformer) e) }
-        ensures truthful { (os : Objects) → IsSettled (meaning_of M.combine T.encoded T.decoded env.old.operator env.old.transformer) (Some os) self.old → IsAnsweredBy os (S.acts env.old.store.now) (S.acts env.new.store.now) →
-            IfErr result (λ e. IsOuter (counts_of (S.faults env.old.store.now) M.faults T.faults env.old.operator env.old.transformer) (counts_of (S.faults env.new.store.now) M.faults T.faults env.new.operator env.new.transformer) e) }
-        ensures told { AddsReads (S.acts env.old.store.now) (S.acts env.new.store.now) }
-        ensures meaning { meaning_of M.combine T.encoded T.decoded env.new.operator env.new.transformer ≡ meaning_of M.combine T.encoded T.decoded env.old.operator env.old.transformer }
-        ensures same_store { env.new.store.ghost_name ≡ env.old.store.ghost_name }
-        ensures later { IsLater (counts_of (S.faults env.old.store.now) M.faults T.faults env.old.operator env.old.transformer) (counts_of (S.faults env.new.store.now) M.faults T.faults env.new.operator env.new.transformer) }
+        ensures cause { let reach = ⟦<EnvOf<S, M, T> as Outside>⟧.reach in IfErr result (λ e. IsFault (reach env.old) (reach env.new) e ⊎ IsDamage e) }
+        ensures undamaged { let reach = ⟦<EnvOf<S, M, T> as Outside>⟧.reach in IsAnswered (reach env.old) (reach env.new) self.old.core → IfErr result (IsFault (reach env.old) (reach env.new)) }
+        ensures reads { let reach = ⟦<EnvOf<S, M, T> as Outside>⟧.reach in OnlyReads (reach env.old) (reach env.new) }
     {
         let Some(id) = self.names.get(&name) else {
             drop(key);
@@ -254,15 +245,13 @@ impl Session {
         ensures step { (m : Meaning) → AnswersAs m self.old self.new Line.Flush result }
         ensures settings { OnOk result (self.new.core.settings ≡ self.old.core.settings) }
         ensures grows { OnOk result (Grows Line.Flush self.old self.new) }
-        ensures kept { IsSettled (meaning_of M.combine T.encoded T.decoded env.old.operator env.old.transformer) (S.objects env.old.store.now) self.old →
-            OnOk result (IsSettled (meaning_of M.combine T.encoded T.decoded env.old.operator env.old.transformer) (S.objects env.new.store.now) self.new) }
-        ensures alone { IsSettled (meaning_of M.combine T.encoded T.decoded env.old.operator env.old.transformer) (S.objects env.old.store.now) self.old → HasTablesAlone (meaning_of M.combine T.encoded T.decoded env.old.operator env.old.transformer) (layout_of options.now) (S.objects env.old.store.now) (tables_of self.old.core.events) →
-            OnOk result (HasTablesAlone (meaning_of M.combine T.encoded T.decoded env.old.operator env.old.transformer) (layout_of options.now) (S.objects env.new.store.now) (tables_of self.new.core.events)) }
-        ensures follows { (os : Objects) → IsSettled (meaning_of M.combine T.encoded T.decoded env.old.operator env.old.transformer) (Some os) self.old → OnOk result (Follows (meaning_of M.combine T.encoded T.decoded env.old.operator env.old.transformer) os self.new (S.acts env.old.store.now) (S.acts env.new.store.now)) }
-        ensures cause { IfErr result (λ e. IsOuter (counts_of (S.faults env.old.store.now) M.faults T.faults env.old.operator env.old.transformer) (counts_of (S.faults env.new.store.now) M.faults T.faults env.new.operator env.new.transformer) e ⊎ IsLimit self.old e) }
-        ensures meaning { meaning_of M.combine T.encoded T.decoded env.new.operator env.new.transformer ≡ meaning_of M.combine T.encoded T.decoded env.old.operator env.old.transformer }
-        ensures same_store { env.new.store.ghost_name ≡ env.old.store.ghost_name }
-        ensures later { IsLater (counts_of (S.faults env.old.store.now) M.faults T.faults env.old.operator env.old.transformer) (counts_of (S.faults env.new.store.now) M.faults T.faults env.new.operator env.new.transformer) }
+        ensures kept { let reach = ⟦<EnvOf<S, M, T> as Outside>⟧.reach in IsSettledIn (reach env.old) self.old →
+            OnOk result (IsSettled (reach env.old).meaning (reach env.new).objects self.new) }
+        ensures alone { let reach = ⟦<EnvOf<S, M, T> as Outside>⟧.reach in IsSettledIn (reach env.old) self.old → HasTablesAlone (reach env.old).meaning (layout_of options.now) (reach env.old).objects (tables_of self.old.core.events) →
+            OnOk result (HasTablesAlone (reach env.old).meaning (layout_of options.now) (reach env.new).objects (tables_of self.new.core.events)) }
+        ensures follows { let reach = ⟦<EnvOf<S, M, T> as Outside>⟧.reach in (os : Objects) → IsSettled (reach env.old).meaning (Some os) self.old → OnOk result (Follows (reach env.old).meaning os self.new (reach env.old).acts (reach env.new).acts) }
+        ensures cause { let reach = ⟦<EnvOf<S, M, T> as Outside>⟧.reach in IfErr result (λ e. IsFault (reach env.old) (reach env.new) e ⊎ IsLimit self.old e) }
+        ensures puts { let reach = ⟦<EnvOf<S, M, T> as Outside>⟧.reach in Puts (reach env.old) (reach env.new) }
     {
         let seq = self.core.flush(env, options)?;
         Ok(Answer::Flushed(seq))

@@ -4,3 +4,4 @@ pub mod Lines
 pub mod Memory
 pub mod Store
 pub mod Env
+pub mod Reach

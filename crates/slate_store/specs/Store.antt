@@ -1,38 +1,26 @@
 -- What is known of a store, and what its calls answer.
---     object_at os path, with_object os path bytes      objects by their paths, rising
---     part at len bytes, part_of object start len      a range of bytes, and of an object where both are there
+--     with_object os path bytes      objects by their paths, rising, with one more
 --     AnswersRead, AnswersLen, AnswersList      the answers of a store that tells its objects
 --     IsRising paths      the paths rise in byte order, each once
 --     TakesPut, RefusesPut      what a put that is taken or refused leaves, as the store then tells it
 --     IsHonest objects, IsEmpty objects      premises on a store's objects, as it tells them
 --     HoldsAll os tables      the objects hold each of the tables
---     Act, KeepsReads acts      a put, a read that was returned, or an answer of the length; the store tells them
+--     KeepsReads acts      the store tells its acts
 --     AddsAct before act after      what a store tells of its acts, after one more
 --     of_store e      a store's error as the one error type has it
-use Rattle.std.specs.Prelude.{◌≡◌, ℕ, ◌+◌, nat_le, if◌then◌else◌, List, [], ◌∷◌, ◌++◌, length, take, drop, map, Contains, Option, Some, None, ◌⊎◌, bytes_eq}
+use Rattle.std.specs.Prelude.{◌≡◌, ℕ, List, [], ◌∷◌, ◌++◌, length, map, Contains, Option, Some, None, ◌⊎◌}
 use Rattle.std.specs.BTreeMap.{insert_entry}
 use Rattle.std.specs.List.Sorted.{IsStrictlySortedBy}
 use Rattle.slate_types.specs.declared.error.SlateDBError.{SlateDBError}
 use Rattle.slate_types.specs.declared.error.SlateDBError.TheVariants.{StoreFault, OutOfMemory}
 use Rattle.slate_types.specs.Keys.{key_cmp}
 use Rattle.slate_types.specs.Outside.{Objects}
+pub use Rattle.slate_types.specs.Outside.{Act, object_at, part, part_of}
 use Rattle.slate_store.specs.declared.store.StoreError.{StoreError}
 use Rattle.slate_store.specs.declared.store.StoreError.TheVariants.{Failed, OutOfMemory as NoMemory}
 
-abbrev pub object_at : Objects → List ℕ → Option (List ℕ)
-object_at [] path = None
-object_at (o ∷ os) path = if bytes_eq o.0 path then Some o.1 else object_at os path
-
 abbrev pub with_object : Objects → List ℕ → List ℕ → Objects
 with_object os path bytes = insert_entry key_cmp os path bytes
-
-abbrev pub part : ℕ → ℕ → List ℕ → List ℕ
-part at len bytes = take len (drop at bytes)
-
--- none for a missing object or a range past its end
-abbrev pub part_of : Option (List ℕ) → ℕ → ℕ → Option (List ℕ)
-part_of None start len = None
-part_of (Some bytes) start len = if nat_le (start + len) (length bytes) then Some (part start len bytes) else None
 
 abbrev pub len_of : Option (List ℕ) → Option ℕ
 len_of None = None
@@ -72,11 +60,6 @@ abbrev pub HoldsAll : Objects → Objects → Type 0
 HoldsAll os tables = (t : List ℕ × List ℕ) → Contains tables t → object_at os t.0 ≡ Some t.1
 
 -- ---- a store that keeps its reads
-
-pub data Act : Type 0 where
-  put : (path bytes : List ℕ) → Act
-  read : (path : List ℕ) (start len : ℕ) (answer : Option (List ℕ)) → Act
-  len : (path : List ℕ) (answer : Option ℕ) → Act
 
 -- acts: what the store tells, oldest first, and none where it doesn't
 abbrev pub KeepsReads : Option (List Act) → Type 0

@@ -1,7 +1,5 @@
 //! What a call reaches outside by.
-ghost use Rattle.slate_types.specs.Faults.{faults_of};
-ghost use Rattle.slate_types.specs.Outside.{World, Counts};
-ghost use Rattle.slate_store.specs.Env.{combine_of, decode_of};
+ghost use Rattle.slate_store.specs.Reach.{reach_of};
 
 use crate::store::Store;
 use slate_types::{BlockTransformer, MergeOperator, Outside};
@@ -14,9 +12,9 @@ pub struct Env<'a, S, M, T> {
     pub transformer: Option<T>,
 }
 
-impl<S: Store, M: MergeOperator, T: BlockTransformer> Outside for Env<'_, S, M, T> {
-    ghost told = { λ e. record { objects = S.objects e.store.now; combine = combine_of M.combine e.operator; decode = decode_of T.decoded e.transformer } };
+/// The environment of a call as its clauses name it.
+pub type EnvOf<S, M, T> = Env<'static, S, M, T>;
 
-    /// A part that isn't there has none.
-    ghost faults = { λ e. record { store = S.faults e.store.now; operator = faults_of M.faults e.operator; transformer = faults_of T.faults e.transformer } };
+impl<S: Store, M: MergeOperator, T: BlockTransformer> Outside for Env<'_, S, M, T> {
+    ghost reach = { reach_of S.Store M.MergeOperator T.BlockTransformer };
 }

@@ -14,7 +14,7 @@ pub mod source;
 pub mod store;
 pub mod stream;
 
-pub use env::Env;
+pub use env::{Env, EnvOf};
 pub use file_store::FileStore;
 pub use lines::Lines;
 pub use memory::{MemorySink, MemorySource};

@@ -10,6 +10,7 @@ use Rattle.std.specs.Int.{w16, w32, w64, from_be_bytes}
 use Rattle.slate_types.specs.declared.error.SlateDBError.{SlateDBError}
 use Rattle.slate_types.specs.declared.error.SlateDBError.TheVariants.{CorruptTable, ChecksumMismatch, InvalidVersion, BlockTransformError, OutOfMemory}
 use Rattle.slate_types.specs.Faults.{Rose}
+pub use Rattle.slate_store.specs.Env.{changed_by}
 use Rattle.slate_block.specs.RowSpelling.{be16, be64}
 use Rattle.slate_block.specs.Damage.{◌>>=◌, number_field}
 use Rattle.slate_table.specs.Checksum.{crc32}
@@ -23,10 +24,6 @@ stored_sum bytes = from_be_bytes w32 (drop (length bytes - 4) bytes)
 unfoldable pub part_in : List ℕ → Result (List ℕ) SlateDBError
 part_in bytes = if nat_lt (length bytes) 4 then Err (CorruptTable 0)
     else (if stored_sum bytes == crc32 (part_of_sum bytes) then Ok (part_of_sum bytes) else Err (ChecksumMismatch (stored_sum bytes) (crc32 (part_of_sum bytes))))
-
-abbrev pub changed_by : {T : Type 0} → (T → List ℕ → List ℕ) → Option T → List ℕ → List ℕ
-changed_by change None bytes = bytes
-changed_by change (Some t) bytes = change t bytes
 
 abbrev pub IsTransformFault : ℕ → ℕ → SlateDBError → Type 0
 IsTransformFault before after e = (e ≡ OutOfMemory) ⊎ ((e ≡ BlockTransformError) × Rose before after)

@@ -10,6 +10,9 @@ pub mod Lawful
 pub mod Iteration
 pub mod Laws
 pub mod Outside
+pub mod Refusing
+pub mod Steps
+pub mod World
 pub mod Refusals
 pub mod Partitions
 pub mod Vectors

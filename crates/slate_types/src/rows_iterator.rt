@@ -64,27 +64,33 @@ impl<E: Outside> RowEntryIterator<E> for RowsIterator {
 
     ghost bound = { λ s. length s.rows };
 
-    ghost refuses = { λ _ _ _ _. ⊥ };
+    ghost refuses = { λ _ _ _ _ _. ⊥ };
 
-    ghost begins = { λ before _ after. after ≡ before };
+    ghost begins = { λ before _ _ after. after ≡ before };
 
-    ghost takes = { λ before _ answer after. TakesRow before.rows answer after.rows };
+    ghost takes = { λ before _ _ answer after. TakesRow before.rows answer after.rows };
 
-    ghost seeks = { λ before _ key after. after.rows ≡ drop_before before.order key before.rows };
+    ghost seeks = { λ before _ _ key after. after.rows ≡ drop_before before.order key before.rows };
 
-    ghost stays = { λ _ _ _ _ _. ⊥ };
+    ghost stays = { λ _ _ _ _ _ _. ⊥ };
 
     ghost rising = { λ _ _ h. h };
 
+    ghost more = { λ _ _ _ _ _ _ h. h };
+
+    ghost whole = { λ _ _ _ _ _ _ _ h _. h };
+
+    #[tactic(auto, using(crate::proofs::Reaching::reads_none))]
     fn init(&mut self, _alloc: Global, _env: &mut E) -> Result<(), SlateDBError> {
         Ok(())
     }
 
+    #[tactic(auto, using(crate::proofs::Reaching::reads_none))]
     fn next(&mut self, _alloc: Global, _env: &mut E) -> Result<Option<RowEntry>, SlateDBError> {
         Ok(self.rows.pop_front())
     }
 
-    #[tactic(auto, using(crate::proofs::IterationLaws::drops_first, crate::proofs::IterationLaws::fewer_behind, crate::proofs::IterationLaws::drops_none, crate::proofs::IterationLaws::in_order_dropped))]
+    #[tactic(auto, using(crate::proofs::Reaching::reads_none, crate::proofs::IterationLaws::drops_first, crate::proofs::IterationLaws::fewer_behind, crate::proofs::IterationLaws::drops_none, crate::proofs::IterationLaws::in_order_dropped))]
     fn seek(&mut self, _alloc: Global, key: &[u8], _env: &mut E) -> Result<(), SlateDBError> {
         while self.begins_before(key) {
             self.drop_first();

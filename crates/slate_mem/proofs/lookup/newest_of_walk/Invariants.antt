@@ -1,8 +1,9 @@
-use Rattle.std.proofs.Common.{◌≡◌, ◌++◌}
+use Rattle.std.proofs.Common.{◌≡◌, ◌++◌, []}
 use Rattle.slate_types.specs.declared.error.SlateDBError.{SlateDBError}
 use Rattle.slate_types.specs.declared.iter.IterationOrder.TheVariants.{Ascending}
 use Rattle.slate_types.specs.Iteration.{NoneBefore}
-use Rattle.slate_types.specs.Outside.{nothing}
+use Rattle.slate_types.specs.Outside.{no_parts}
+use Rattle.slate_types.specs.World.{nothing}
 use Rattle.std.specs.Prelude.{None}
 use Rattle.slate_mem.specs.Table.{newest}
 use Rattle.slate_mem.proofs.lookup.newest_of_walk.Given as goal
@@ -11,7 +12,7 @@ abbrev pub invariant-loop-found : goal.invariant-loop-found
 invariant-loop-found g l = record {
   sound : g.I.RowEntryIterator.sound l.initial.rows nothing → g.I.RowEntryIterator.sound l.rows nothing;
   order : g.I.RowEntryIterator.order l.rows ≡ g.I.RowEntryIterator.order l.initial.rows;
-  fewer : (e : SlateDBError) → g.I.RowEntryIterator.refuses l.rows nothing None e → g.I.RowEntryIterator.refuses l.initial.rows nothing None e;
+  fewer : (e : SlateDBError) → g.I.RowEntryIterator.refuses l.rows no_parts [] None e → g.I.RowEntryIterator.refuses l.initial.rows no_parts [] None e;
   none : g.I.RowEntryIterator.sound l.initial.rows nothing → NoneBefore Ascending l.key (g.I.RowEntryIterator.rest l.initial.rows nothing) → NoneBefore Ascending l.key (g.I.RowEntryIterator.rest l.rows nothing);
   found : g.I.RowEntryIterator.sound l.initial.rows nothing → g.I.RowEntryIterator.order l.initial.rows ≡ Ascending → NoneBefore Ascending l.key (g.I.RowEntryIterator.rest l.initial.rows nothing) →
       newest l.key l.max_seq (g.I.RowEntryIterator.rest l.initial.rows nothing) ≡ l.found.items ++ newest l.key l.max_seq (g.I.RowEntryIterator.rest l.rows nothing);

@@ -38,7 +38,7 @@ returns-in-Ok g c =
           let same : c.in-Some.settings ≡ s = same-settings c.parse_words.result c.in-Some.settings s c.in-Some.is (c.parse_words.ensures.settings ∙ named) in
           let ends = λ (x : Meaning) (t : Settings) (objects : Option Objects). IsStoredState x (main_rules t.options) (layout_of t.options) objects (after_lines meaning (main_rules t.options) opening (lines_of script)) in
           let objects = g.S.Store.objects c.run_script.new.env.store.now in
-          subst (λ t. ends (parts_of s.mask) s (g.S.Store.objects t)) (sym (c.store-1.given.1 (sym c.in-Ok.ensures.same_store)))
+          subst (λ t. ends (parts_of s.mask) s (g.S.Store.objects t)) (sym (c.store-1.given.1 (sym c.in-Ok.ensures.puts.store)))
           (subst (λ (t : Settings). ends (parts_of t.mask) t objects) same
           (subst (λ (x : Meaning). ends x c.in-Some.settings objects) (words-are {M = ℕ} (λ _ k e v. v) c.transformer_of.result c.in-Some.settings.mask c.transformer_of.ensures)
           (c.in-Ok.ensures.stored script is (premises {M = ℕ} (λ _ k e v. v) _ _ empty)))));
@@ -96,16 +96,16 @@ returns-in-Err g c =
       write_fault = λ six. c.in-Err.ensures.write_fault (ap Err (is-write c.in-Err.error c.in-Err.ensures.kinds (sym c.status_of-status.ensures ∙ six)));
       store_fault = (λ seven.
           let rose = c.in-Err.ensures.store_fault (ap Err (is-store c.in-Err.error c.in-Err.ensures.kinds (sym c.status_of-status.ensures ∙ seven))) in
-          subst (λ t. Rose (g.S.Store.faults c.args.store.now) (g.S.Store.faults t)) (sym (c.store-1.given.1 (sym c.in-Err.ensures.same_store))) rose);
+          subst (λ t. Rose (g.S.Store.faults c.args.store.now) (g.S.Store.faults t)) (sym (c.store-1.given.1 (sym c.in-Err.ensures.puts.store))) rose);
       undamaged = (λ s named empty which.
           let within = subst (λ (n : ℕ). (12 ≤ n) × (n ≤ 19)) c.status_of-status.ensures (damage-between c.status_of-status.result which) in
           c.in-Err.ensures.undamaged (premises {M = ℕ} (λ _ k e v. v) _ _ empty) (is-damage c.in-Err.error c.in-Err.ensures.kinds within.0 within.1));
       untrue = (λ which.
           let within = subst (λ (n : ℕ). (12 ≤ n) × (n ≤ 19)) c.status_of-status.ensures (damage-between c.status_of-status.result which) in
-          subst (λ t. IsUntrue [] (g.S.Store.acts c.args.store.now) (g.S.Store.acts t)) (sym (c.store-1.given.1 (sym c.in-Err.ensures.same_store)))
+          subst (λ t. IsUntrue [] (g.S.Store.acts c.args.store.now) (g.S.Store.acts t)) (sym (c.store-1.given.1 (sym c.in-Err.ensures.puts.store)))
           (c.in-Err.ensures.untrue (lawful {M = ℕ} (λ _ k e v. v) _) (is-damage c.in-Err.error c.in-Err.ensures.kinds within.0 within.1)));
       complete = (λ s script named is formed empty no-read no-write no-store.
-          inr (c.status_of-status.ensures ∙ ap status (c.in-Err.ensures.complete script is formed (premises {M = ℕ} (λ _ k e v. v) _ _ empty) no-read no-write (λ h. no-store (subst (λ t. Rose (g.S.Store.faults c.args.store.now) (g.S.Store.faults t)) (sym (c.store-1.given.1 (sym c.in-Err.ensures.same_store))) h)) (none-rose-before c.run_script.new.env.operator) (none-rose c.transformer_of.result c.run_script.new.env.transformer))));
+          inr (c.status_of-status.ensures ∙ ap status (c.in-Err.ensures.complete script is formed (premises {M = ℕ} (λ _ k e v. v) _ _ empty) no-read no-write (λ h. no-store (subst (λ t. Rose (g.S.Store.faults c.args.store.now) (g.S.Store.faults t)) (sym (c.store-1.given.1 (sym c.in-Err.ensures.puts.store))) h)) (none-rose-before c.run_script.new.env.operator) (none-rose c.transformer_of.result c.run_script.new.env.transformer))));
       source_still = status-or c.in-Err.error ReadFault c.status_of-status.result _ c.status_of-status.ensures refl c.in-Err.ensures.source_still;
       sink_still = status-or c.in-Err.error WriteFault c.status_of-status.result _ c.status_of-status.ensures refl c.in-Err.ensures.sink_still;
       by_script = (λ s script before named is told empty which.

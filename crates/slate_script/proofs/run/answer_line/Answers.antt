@@ -1,4 +1,5 @@
 use Rattle.std.proofs.Common.{◌≡◌, ◌<◌, ◌≤◌, arith, ◌++◌, ◌∷◌, [], ℕ, inr, Some, take, length, refl, sym, ap, subst, ◌∙◌, Ok, append-nil}
+use Rattle.slate_types.proofs.Reaching.{puts_none}
 use Rattle.slate_db.specs.Flushed.{layout_of}
 use Rattle.slate_db.specs.Installs.{tables_of}
 use Rattle.slate_db.specs.Meaning.{Meaning}
@@ -11,7 +12,7 @@ use Rattle.slate_txn.specs.Stage.{meaning}
 use Rattle.slate_script.proofs.Answered.{one-built}
 use Rattle.slate_script.proofs.LineEnds.{parse-error, parse-cause, parse-no-part, parse-no-damage, parse-wrote, session-cause, session-part, session-wrote, writing-cause, writing-no-part, writing-no-damage, error-of, meant-line}
 use Rattle.slate_script.proofs.LineLoads.{line-load}
-use Rattle.slate_script.proofs.RunEnds.{never-less, is-no-error}
+use Rattle.slate_script.proofs.RunEnds.{is-no-error}
 use Rattle.slate_script.proofs.ToldLaws.{follows-itself}
 use Rattle.slate_script.proofs.Running.{line-stands, line-reply, runs-on, is-settled, one-moment, always, at-ok, not-damage, silent-line, silent-after, silent-says}
 use Rattle.slate_script.proofs.run.answer_line.Goals as goal
@@ -40,12 +41,10 @@ returns-in-Err-answer g c =
       undamaged = λ m r running. not-damage _ _ c.in-Err-answer.error (c.in-Err-answer.ensures.undamaged (is-settled running));
       follows = λ os settled. tt;
       untrue = λ os settled. c.in-Err-answer.ensures.untrue os settled;
-      meaning = tt;
       write_fault = λ is. absurd (session-wrote _ _ c.args.session.now c.in-Err-answer.error c.in-Err-answer.ensures.cause (error-of c.in-Err-answer.error is));
       begun = λ m r running s before stands told is. absurd (session-wrote _ _ c.args.session.now c.in-Err-answer.error c.in-Err-answer.ensures.cause (error-of c.in-Err-answer.error is));
       still = tt;
-      same_store = c.answer.ensures.same_store;
-      parts_later = c.answer.ensures.later;
+      puts = c.answer.ensures.puts;
       uncounted = inr refl;
       unanswered = inr refl;
       later = omega arith;
@@ -56,7 +55,7 @@ returns-in-Ok g c =
     record {
       meant = (let meant = rw c.in-Ok-Some.field-0-is at c.in-Ok-Some.ensures.meant in
           always c.write_reply.result (meant-line c.args.line.now c.in-Ok-Some.meaning meant.1));
-      running = λ m r running. always c.write_reply.result (runs-on running c.answer.ensures.meaning c.in-Ok.ensures.settings (c.in-Ok.ensures.kept (is-settled running)));
+      running = λ m r running. always c.write_reply.result (runs-on running c.answer.ensures.puts.meaning c.in-Ok.ensures.settings (c.in-Ok.ensures.kept (is-settled running)));
       stands = (λ m r running s stands.
           let meant = rw c.in-Ok-Some.field-0-is at c.in-Ok-Some.ensures.meant in
           always c.write_reply.result (line-stands c.args.line.now c.in-Ok-Some.meaning c.in-Ok.answer running meant.0 meant.1 c.in-Ok.ensures.step s stands));
@@ -75,7 +74,6 @@ returns-in-Ok g c =
       undamaged = λ m r running. writing-no-damage _ c.write_reply.result c.write_reply.ensures.cause;
       follows = λ os settled. always c.write_reply.result (c.in-Ok.ensures.follows os settled);
       untrue = λ os settled. writing-no-damage _ c.write_reply.result c.write_reply.ensures.cause;
-      meaning = always c.write_reply.result c.answer.ensures.meaning;
       write_fault = (λ is.
           let meant = rw c.in-Ok-Some.field-0-is at c.in-Ok-Some.ensures.meant in
           (c.write_reply.ensures.write_fault is, meant-line c.args.line.now c.in-Ok-Some.meaning meant.1));
@@ -84,8 +82,7 @@ returns-in-Ok g c =
           let text : reply_line (reply_of c.in-Ok.answer) ≡ replies_from meaning r s (c.args.line.now ∷ []) = line-reply c.args.line.now c.in-Ok-Some.meaning c.in-Ok.answer running meant.0 meant.1 c.in-Ok.ensures.step s stands in
           subst (λ bs. (n : ℕ) × (n < length bs) × (g.W.Sink.content c.write_reply.new.sink ≡ Some (before ++ take n bs))) text (c.write_reply.ensures.part before told is));
       still = c.write_reply.ensures.still;
-      same_store = c.answer.ensures.same_store;
-      parts_later = c.answer.ensures.later;
+      puts = c.answer.ensures.puts;
       uncounted = c.write_reply.ensures.uncounted;
       unanswered = c.write_reply.ensures.unanswered;
       later = c.write_reply.ensures.later;
@@ -112,7 +109,6 @@ returns-in-Err g c =
       untrue = (λ os settled damage.
           let by = parse-error c.args.number c.args.line.now c.in-Err.error c.at_line.result c.in-Err.ensures.cause c.at_line.ensures.memory c.at_line.ensures.syntax in
           absurd (parse-no-damage c.args.number c.args.line.now c.at_line.result by damage));
-      meaning = tt;
       write_fault = (λ is.
           let by = parse-error c.args.number c.args.line.now c.in-Err.error c.at_line.result c.in-Err.ensures.cause c.at_line.ensures.memory c.at_line.ensures.syntax in
           absurd (parse-wrote c.args.number c.args.line.now c.at_line.result by (error-of c.at_line.result is)));
@@ -120,8 +116,7 @@ returns-in-Err g c =
           let by = parse-error c.args.number c.args.line.now c.in-Err.error c.at_line.result c.in-Err.ensures.cause c.at_line.ensures.memory c.at_line.ensures.syntax in
           absurd (parse-wrote c.args.number c.args.line.now c.at_line.result by (error-of c.at_line.result is)));
       still = tt;
-      same_store = refl;
-      parts_later = never-less _;
+      puts = puts_none _;
       uncounted = inr refl;
       unanswered = inr refl;
       later = omega arith;
@@ -141,12 +136,10 @@ returns-in-Ok-None g c =
       undamaged = λ m r running. tt;
       follows = λ os settled. follows-itself (meaning_of g.M.MergeOperator.combine g.T.BlockTransformer.encoded g.T.BlockTransformer.decoded c.args.env.now.operator c.args.env.now.transformer) os c.args.session.now (g.S.Store.acts c.args.env.now.store.now) settled;
       untrue = λ os settled. tt;
-      meaning = refl;
       write_fault = λ is. absurd (is-no-error is);
       begun = λ m r running s before stands told is. absurd (is-no-error is);
       still = refl;
-      same_store = refl;
-      parts_later = never-less _;
+      puts = puts_none _;
       uncounted = tt;
       unanswered = tt;
       later = omega arith;

@@ -9,10 +9,11 @@ use Rattle.slate_db.specs.Flushed.{layout_of}
 use Rattle.slate_script.specs.Session.{StandsFor}
 use Rattle.slate_script.specs.Run.{run_rules, Premises, IsPartError}
 use Rattle.slate_store.specs.Lines.{lines_of}
+use Rattle.slate_types.proofs.Reaching.{puts_none, puts_then}
 use Rattle.slate_script.proofs.Taken.{begin, answer-it, took-told, end-told}
 use Rattle.slate_script.proofs.Running.{begins}
 use Rattle.slate_script.proofs.TablesAlone.{begins-alone, stored-state}
-use Rattle.slate_script.proofs.RunEnds.{LineError, unless-error, is-no-error, rose-from, never-less, later-on, line-cause, no-part, only-memory, store-rose, operator-rose, transformer-rose, reader-no-part, reader-not-write, reader-undamaged, reader-error, reader-complete, reader-kinds, reader-read, reader-full, line-not-long, line-not-read, line-kinds, line-read, line-complete, untouched, reader-script, reader-source, reader-memory, line-error, line-script, line-sink, line-memory, end-there, end-read, end-answered, end-formed, end-no_error}
+use Rattle.slate_script.proofs.RunEnds.{LineError, unless-error, is-no-error, rose-from, line-cause, no-part, only-memory, store-rose, operator-rose, transformer-rose, reader-no-part, reader-not-write, reader-undamaged, reader-error, reader-complete, reader-kinds, reader-read, reader-full, line-not-long, line-not-read, line-kinds, line-read, line-complete, untouched, reader-script, reader-source, reader-memory, line-error, line-script, line-sink, line-memory, end-there, end-read, end-answered, end-formed, end-no_error}
 use Rattle.slate_types.specs.Outside.{Objects}
 use Rattle.slate_db.specs.Meaning.{Meaning}
 use Rattle.slate_script.specs.Session.{IsSettled}
@@ -45,15 +46,13 @@ loop-line-init g c = record {
   loads = omega (arith, c.new-session.ensures.holds.1);
   running = λ premises. begins (meaning_of g.M.MergeOperator.combine g.T.BlockTransformer.encoded g.T.BlockTransformer.decoded c.args.env.now.operator c.args.env.now.transformer) c.args.options.now (g.S.Store.objects c.args.env.now.store.now) c.new-session.result premises c.new-session.ensures.settings c.new-session.ensures.events c.new-session.ensures.kept;
   alone = λ premises. begins-alone (meaning_of g.M.MergeOperator.combine g.T.BlockTransformer.encoded g.T.BlockTransformer.decoded c.args.env.now.operator c.args.env.now.transformer) (layout_of c.args.options.now) (g.S.Store.objects c.args.env.now.store.now) c.new-session.result premises.empty c.new-session.ensures.events;
-  meaning = refl;
   followed = λ lawful. follows-itself (meaning_of g.M.MergeOperator.combine g.T.BlockTransformer.encoded g.T.BlockTransformer.decoded c.args.env.now.operator c.args.env.now.transformer) [] c.new-session.result (g.S.Store.acts c.args.env.now.store.now)
       (begins (meaning_of g.M.MergeOperator.combine g.T.BlockTransformer.encoded g.T.BlockTransformer.decoded c.args.env.now.operator c.args.env.now.transformer) c.args.options.now (Some []) c.new-session.result (record { lawful = lawful; empty = refl }) c.new-session.ensures.settings c.new-session.ensures.events c.new-session.ensures.kept).settled;
   source_later = omega arith;
   sink_later = omega arith;
   source_still = refl;
   sink_still = refl;
-  same_store = refl;
-  parts_later = never-less _;
+  puts = puts_none _;
 }
 
 -- ---- at an error of the reader
@@ -115,8 +114,7 @@ returns-in-Err g c =
           let told = c.in-Err.ensures.told at.left at.rest in
           reader-read c.next.new.self told.0 (g.R.Source.left c.next.new.source) at told.2 c.in-Err.ensures.within told.1);
       later = (omega (arith, c.loop-line.invariant.source_later, c.next.ensures.later), c.loop-line.invariant.sink_later);
-      same_store = c.loop-line.invariant.same_store;
-      parts_later = c.loop-line.invariant.parts_later;
+      puts = c.loop-line.invariant.puts;
     }
 
 -- ---- at a line that isn't answered
@@ -142,23 +140,23 @@ returns-in-Err-answer_line g c =
       write_fault = λ fault. rose-from _ _ _ c.loop-line.invariant.sink_later (c.in-Err-answer_line.ensures.write_fault (ap Err (same-error c.in-Err-answer_line.error WriteFault (Err c.in-Err-answer_line.error) refl fault))).0;
       store_fault = (λ fault.
           let kind : c.in-Err-answer_line.error ≡ StoreFault = same-error c.in-Err-answer_line.error StoreFault (Err c.in-Err-answer_line.error) refl fault in
-          rose-from _ _ _ c.loop-line.invariant.parts_later.store (store-rose (counts_of (g.S.Store.faults c.loop-line.env.store.now) g.M.MergeOperator.faults g.T.BlockTransformer.faults c.loop-line.env.operator c.loop-line.env.transformer) (counts_of (g.S.Store.faults c.answer_line.new.env.store.now) g.M.MergeOperator.faults g.T.BlockTransformer.faults c.answer_line.new.env.operator c.answer_line.new.env.transformer) c.in-Err-answer_line.error kind (c.in-Err-answer_line.ensures.part (subst IsPartError (sym kind) tt))));
+          rose-from _ _ _ c.loop-line.invariant.puts.later.store (store-rose (counts_of (g.S.Store.faults c.loop-line.env.store.now) g.M.MergeOperator.faults g.T.BlockTransformer.faults c.loop-line.env.operator c.loop-line.env.transformer) (counts_of (g.S.Store.faults c.answer_line.new.env.store.now) g.M.MergeOperator.faults g.T.BlockTransformer.faults c.answer_line.new.env.operator c.answer_line.new.env.transformer) c.in-Err-answer_line.error kind (c.in-Err-answer_line.ensures.part (subst IsPartError (sym kind) tt))));
       operator_fault = (λ message fault.
           let kind : c.in-Err-answer_line.error ≡ (Callback message) = same-error c.in-Err-answer_line.error (Callback message) (Err c.in-Err-answer_line.error) refl fault in
-          rose-from _ _ _ c.loop-line.invariant.parts_later.operator (operator-rose (counts_of (g.S.Store.faults c.loop-line.env.store.now) g.M.MergeOperator.faults g.T.BlockTransformer.faults c.loop-line.env.operator c.loop-line.env.transformer) (counts_of (g.S.Store.faults c.answer_line.new.env.store.now) g.M.MergeOperator.faults g.T.BlockTransformer.faults c.answer_line.new.env.operator c.answer_line.new.env.transformer) c.in-Err-answer_line.error message kind (c.in-Err-answer_line.ensures.part (subst IsPartError (sym kind) tt))));
+          rose-from _ _ _ c.loop-line.invariant.puts.later.operator (operator-rose (counts_of (g.S.Store.faults c.loop-line.env.store.now) g.M.MergeOperator.faults g.T.BlockTransformer.faults c.loop-line.env.operator c.loop-line.env.transformer) (counts_of (g.S.Store.faults c.answer_line.new.env.store.now) g.M.MergeOperator.faults g.T.BlockTransformer.faults c.answer_line.new.env.operator c.answer_line.new.env.transformer) c.in-Err-answer_line.error message kind (c.in-Err-answer_line.ensures.part (subst IsPartError (sym kind) tt))));
       transform_fault = (λ fault.
           let kind : c.in-Err-answer_line.error ≡ BlockTransformError = same-error c.in-Err-answer_line.error BlockTransformError (Err c.in-Err-answer_line.error) refl fault in
-          rose-from _ _ _ c.loop-line.invariant.parts_later.transformer (transformer-rose (counts_of (g.S.Store.faults c.loop-line.env.store.now) g.M.MergeOperator.faults g.T.BlockTransformer.faults c.loop-line.env.operator c.loop-line.env.transformer) (counts_of (g.S.Store.faults c.answer_line.new.env.store.now) g.M.MergeOperator.faults g.T.BlockTransformer.faults c.answer_line.new.env.operator c.answer_line.new.env.transformer) c.in-Err-answer_line.error kind (c.in-Err-answer_line.ensures.part (subst IsPartError (sym kind) tt))));
+          rose-from _ _ _ c.loop-line.invariant.puts.later.transformer (transformer-rose (counts_of (g.S.Store.faults c.loop-line.env.store.now) g.M.MergeOperator.faults g.T.BlockTransformer.faults c.loop-line.env.operator c.loop-line.env.transformer) (counts_of (g.S.Store.faults c.answer_line.new.env.store.now) g.M.MergeOperator.faults g.T.BlockTransformer.faults c.answer_line.new.env.operator c.answer_line.new.env.transformer) c.in-Err-answer_line.error kind (c.in-Err-answer_line.ensures.part (subst IsPartError (sym kind) tt))));
       undamaged = (λ premises.
           (c.in-Err-answer_line.ensures.undamaged (meaning_of g.M.MergeOperator.combine g.T.BlockTransformer.encoded g.T.BlockTransformer.decoded c.args.env.now.operator c.args.env.now.transformer) (run_rules c.args.options.now (meaning_of g.M.MergeOperator.combine g.T.BlockTransformer.encoded g.T.BlockTransformer.decoded c.args.env.now.operator c.args.env.now.transformer)) (c.loop-line.invariant.running premises)));
       untrue = (λ lawful.
           (λ damage. untrue-on (meaning_of g.M.MergeOperator.combine g.T.BlockTransformer.encoded g.T.BlockTransformer.decoded c.args.env.now.operator c.args.env.now.transformer) c.loop-line.session (g.S.Store.acts c.args.env.now.store.now) (g.S.Store.acts c.loop-line.env.store.now) (g.S.Store.acts c.answer_line.new.env.store.now) (c.loop-line.invariant.followed lawful)
-          (subst (λ (m : Meaning). (os : Objects) → IsSettled m (Some os) c.loop-line.session → IsUntrue os (g.S.Store.acts c.loop-line.env.store.now) (g.S.Store.acts c.answer_line.new.env.store.now)) c.loop-line.invariant.meaning (λ os settled. c.in-Err-answer_line.ensures.untrue os settled damage))));
+          (subst (λ (m : Meaning). (os : Objects) → IsSettled m (Some os) c.loop-line.session → IsUntrue os (g.S.Store.acts c.loop-line.env.store.now) (g.S.Store.acts c.answer_line.new.env.store.now)) c.loop-line.invariant.puts.meaning (λ os settled. c.in-Err-answer_line.ensures.untrue os settled damage))));
       complete = (λ script is formed premises no-read no-write no-store no-operator no-transformer.
           let took = took-told (λ v. v.items) c.in-Ok-Some.field-0 c.in-Ok-Some.line c.as_slice.result.now (g.R.Source.left c.next.new.source) c.next.new.self c.in-Ok-Some.ensures.told c.in-Ok-Some.ensures.within c.in-Ok-Some.field-0-is c.as_slice.ensures.value (c.loop-line.invariant.told script is) in
           let by = line-error c.in-Err-answer_line.error took (its-cause g c) in
           (only-memory c.in-Err-answer_line.error (line-complete script c.as_slice.result.now (c.loop-line.number + 1) c.in-Err-answer_line.error by (its-cause g c) formed (λ h. no-write (rose-from _ _ _ c.loop-line.invariant.sink_later (c.in-Err-answer_line.ensures.write_fault (ap Err h)).0)))
-          (λ part. no-part (counts_of (g.S.Store.faults c.loop-line.env.store.now) g.M.MergeOperator.faults g.T.BlockTransformer.faults c.loop-line.env.operator c.loop-line.env.transformer) (counts_of (g.S.Store.faults c.answer_line.new.env.store.now) g.M.MergeOperator.faults g.T.BlockTransformer.faults c.answer_line.new.env.operator c.answer_line.new.env.transformer) c.in-Err-answer_line.error (λ h. no-store (rose-from _ _ _ c.loop-line.invariant.parts_later.store h)) (λ h. no-operator (rose-from _ _ _ c.loop-line.invariant.parts_later.operator h)) (λ h. no-transformer (rose-from _ _ _ c.loop-line.invariant.parts_later.transformer h))
+          (λ part. no-part (counts_of (g.S.Store.faults c.loop-line.env.store.now) g.M.MergeOperator.faults g.T.BlockTransformer.faults c.loop-line.env.operator c.loop-line.env.transformer) (counts_of (g.S.Store.faults c.answer_line.new.env.store.now) g.M.MergeOperator.faults g.T.BlockTransformer.faults c.answer_line.new.env.operator c.answer_line.new.env.transformer) c.in-Err-answer_line.error (λ h. no-store (rose-from _ _ _ c.loop-line.invariant.puts.later.store h)) (λ h. no-operator (rose-from _ _ _ c.loop-line.invariant.puts.later.operator h)) (λ h. no-transformer (rose-from _ _ _ c.loop-line.invariant.puts.later.transformer h))
           (c.in-Err-answer_line.ensures.undamaged (meaning_of g.M.MergeOperator.combine g.T.BlockTransformer.encoded g.T.BlockTransformer.decoded c.args.env.now.operator c.args.env.now.transformer) (run_rules c.args.options.now (meaning_of g.M.MergeOperator.combine g.T.BlockTransformer.encoded g.T.BlockTransformer.decoded c.args.env.now.operator c.args.env.now.transformer)) (c.loop-line.invariant.running premises)) part (c.in-Err-answer_line.ensures.part part))));
       source_still = inr (unless-error c.in-Ok-Some.field-0 ReadFault c.in-Ok-Some.ensures.still ∙ c.loop-line.invariant.source_still);
       sink_still = error-is-or c.in-Err-answer_line.error WriteFault (Err c.in-Err-answer_line.error) refl c.in-Err-answer_line.ensures.uncounted (λ h. h ∙ c.loop-line.invariant.sink_still);
@@ -189,8 +187,7 @@ returns-in-Err-answer_line g c =
           let took = took-told (λ v. v.items) c.in-Ok-Some.field-0 c.in-Ok-Some.line c.as_slice.result.now (g.R.Source.left c.next.new.source) c.next.new.self c.in-Ok-Some.ensures.told c.in-Ok-Some.ensures.within c.in-Ok-Some.field-0-is c.as_slice.ensures.value (c.loop-line.invariant.told script is) in
           line-read took c.in-Ok-Some.ensures.within);
       later = (omega (arith, c.loop-line.invariant.source_later, c.next.ensures.later), omega (arith, c.loop-line.invariant.sink_later, c.answer_line.ensures.later));
-      same_store = c.answer_line.ensures.same_store ∙ c.loop-line.invariant.same_store;
-      parts_later = later-on c.loop-line.invariant.parts_later c.answer_line.ensures.parts_later;
+      puts = puts_then _ _ _ c.loop-line.invariant.puts c.answer_line.ensures.puts;
     }
 
 -- ---- the next turn
@@ -215,15 +212,13 @@ loop-line-preserved g c = record {
       omega (arith, c.in-Ok.ensures.grows.1, c.loop-line.invariant.loads, taken, line);
   running = λ premises. c.in-Ok.ensures.running (meaning_of g.M.MergeOperator.combine g.T.BlockTransformer.encoded g.T.BlockTransformer.decoded c.args.env.now.operator c.args.env.now.transformer) (run_rules c.args.options.now (meaning_of g.M.MergeOperator.combine g.T.BlockTransformer.encoded g.T.BlockTransformer.decoded c.args.env.now.operator c.args.env.now.transformer)) (c.loop-line.invariant.running premises);
   alone = λ premises. c.in-Ok.ensures.alone (meaning_of g.M.MergeOperator.combine g.T.BlockTransformer.encoded g.T.BlockTransformer.decoded c.args.env.now.operator c.args.env.now.transformer) (run_rules c.args.options.now (meaning_of g.M.MergeOperator.combine g.T.BlockTransformer.encoded g.T.BlockTransformer.decoded c.args.env.now.operator c.args.env.now.transformer)) (c.loop-line.invariant.running premises) (c.loop-line.invariant.alone premises);
-  meaning = c.in-Ok.ensures.meaning ∙ c.loop-line.invariant.meaning;
   followed = λ lawful. follows-on (meaning_of g.M.MergeOperator.combine g.T.BlockTransformer.encoded g.T.BlockTransformer.decoded c.args.env.now.operator c.args.env.now.transformer) c.loop-line.session c.answer_line.new.session (g.S.Store.acts c.args.env.now.store.now) (g.S.Store.acts c.loop-line.env.store.now) (g.S.Store.acts c.answer_line.new.env.store.now) (c.loop-line.invariant.followed lawful)
-      (subst (λ (m : Meaning). (os : Objects) → IsSettled m (Some os) c.loop-line.session → Follows m os c.answer_line.new.session (g.S.Store.acts c.loop-line.env.store.now) (g.S.Store.acts c.answer_line.new.env.store.now)) c.loop-line.invariant.meaning c.in-Ok.ensures.follows);
+      (subst (λ (m : Meaning). (os : Objects) → IsSettled m (Some os) c.loop-line.session → Follows m os c.answer_line.new.session (g.S.Store.acts c.loop-line.env.store.now) (g.S.Store.acts c.answer_line.new.env.store.now)) c.loop-line.invariant.puts.meaning c.in-Ok.ensures.follows);
   source_later = omega (arith, c.next.ensures.later);
   sink_later = omega (arith, c.answer_line.ensures.later);
   source_still = unless-error c.in-Ok-Some.field-0 ReadFault c.in-Ok-Some.ensures.still ∙ c.loop-line.invariant.source_still;
   sink_still = c.in-Ok.ensures.still ∙ c.loop-line.invariant.sink_still;
-  same_store = c.answer_line.ensures.same_store ∙ c.loop-line.invariant.same_store;
-  parts_later = later-on c.loop-line.invariant.parts_later c.answer_line.ensures.parts_later;
+  puts = puts_then _ _ _ c.loop-line.invariant.puts c.answer_line.ensures.puts;
 }
 
 -- ---- the end
@@ -275,6 +270,5 @@ returns g c =
           let end = end-told (λ v. v.items) c.in-Ok-None.field-0 (g.R.Source.left c.next.new.source) c.next.new.self c.in-Ok-None.ensures.told c.in-Ok-None.field-0-is at in
           end-read c.next.new.self end.0 (g.R.Source.left c.next.new.source) at end.2 c.in-Ok-None.ensures.within end.1);
       later = (omega (arith, c.loop-line.invariant.source_later, c.next.ensures.later), c.loop-line.invariant.sink_later);
-      same_store = c.loop-line.invariant.same_store;
-      parts_later = c.loop-line.invariant.parts_later;
+      puts = c.loop-line.invariant.puts;
     }

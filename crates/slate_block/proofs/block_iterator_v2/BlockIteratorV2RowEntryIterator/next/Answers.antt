@@ -1,19 +1,16 @@
-use Rattle.std.proofs.Common.{refl}
-use Rattle.slate_block.proofs.StepLaws.{stays, steady, step_cause, refused_again, taken_rows, taken_rising, taken_fewer, taken_smaller, taken_no_larger}
+use Rattle.slate_types.proofs.Reaching.{reads_none}
+use Rattle.slate_block.proofs.StepLaws.{all_checked, step_cause, taken_made, taken_rows, taken_rising, taken_smaller, taken_no_larger}
 use Rattle.slate_block.proofs.block_iterator_v2.BlockIteratorV2RowEntryIterator.next.Goals as goal
 
 pub returns : goal.returns
 returns g c = record {
-  rows = taken_rows c.next_row.result c.args.self.now c.next_row.new.self c.next_row.ensures.read;
-  still = taken_rising c.next_row.result c.args.self.now c.next_row.new.self c.next_row.ensures.read c.next_row.ensures.order c.next_row.ensures.unchanged;
-  cause = step_cause c.next_row.result _ _ c.args.self.now c.next_row.ensures.cause c.next_row.ensures.damage;
-  fewer = taken_fewer c.next_row.result c.args.self.now c.next_row.new.self c.next_row.ensures.read;
-  again = refused_again c.next_row.result c.args.self.now c.next_row.new.self c.next_row.ensures.unchanged;
-  takes = c.next_row.ensures.read;
-  stays = stays c.next_row.result _ _ c.next_row.ensures.unchanged c.next_row.ensures.cause;
+  rows = λ w sees. taken_rows c.next_row.result c.args.self.now c.next_row.new.self c.next_row.ensures.read;
+  still = λ w sees. taken_rising c.next_row.result c.args.self.now c.next_row.new.self c.next_row.ensures.read c.next_row.ensures.order c.next_row.ensures.unchanged;
+  checked = λ w sound. all_checked c.next_row.result w _;
+  cause = step_cause c.next_row.result _ c.args.self.now c.next_row.new.self _ c.next_row.ensures.unchanged c.next_row.ensures.unchanged c.next_row.ensures.cause c.next_row.ensures.damage;
+  taken = taken_made c.next_row.result _ c.args.self.now c.next_row.new.self c.next_row.ensures.read;
   smaller = taken_smaller c.next_row.result c.args.self.now c.next_row.new.self c.next_row.ensures.read;
   no_larger = taken_no_larger c.next_row.result c.args.self.now c.next_row.new.self c.next_row.ensures.read c.next_row.ensures.unchanged;
   order = c.next_row.ensures.order;
-  told = refl;
-  later = steady _;
+  reads = reads_none _;
 }

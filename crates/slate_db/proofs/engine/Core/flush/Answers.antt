@@ -2,9 +2,8 @@ use Rattle.std.proofs.Common.{◌≡◌, ℕ, List, OnOk, refl, true, false, ◌
 use Rattle.std.proofs.lemmas.Result.{err_from_is_err_and, IfOk-from_err}
 use Rattle.slate_types.specs.declared.error.SlateDBError.{SlateDBError}
 use Rattle.slate_types.specs.declared.error.SlateDBError.TheVariants as errors
-use Rattle.slate_types.specs.Faults.{faults_of}
-use Rattle.slate_table.specs.Reading.{IsStoreFault}
-use Rattle.slate_table.specs.SectionReading.{changed_by, IsTransformFault}
+use Rattle.slate_types.proofs.Reaching.{puts_none}
+use Rattle.slate_table.specs.SectionReading.{changed_by}
 use Rattle.slate_types.specs.declared.types.Ulid.{Ulid}
 use Rattle.slate_db.specs.Answered.{AddsTables}
 use Rattle.slate_db.specs.Installs.{tables_of}
@@ -57,12 +56,7 @@ returns-in_err-place_for_flush g c =
       settings = refl;
       limit = λ h. let p = err_from_is_err_and c.from_residual.result c.from_residual.ensures.1 in p.1 ∙ ap Err (p.2 ∙ c.in_err-place_for_flush.ensures.limit.0);
       cause = rw (p.1, p.2) (place_cause LIMIT c.args.self.now c.in_err-place_for_flush.field-0.0 c.in_err-place_for_flush.ensures.limit);
-      later = omega arith;
-      later_transformer = omega arith;
-      same_encoded = refl;
-      same_decoded = refl;
-      operator = refl;
-      same_store = refl;
+      puts = puts_none _;
     }
 
 -- ---- no freeze
@@ -85,12 +79,7 @@ returns-in_err-freeze g c =
       settings = ap (λ (v : CoreModel). v.settings) c.in_err-freeze.ensures.same;
       limit = λ h. absurd (omega (arith, c.in_ok-place_for_flush.ensures.place, h));
       cause = rw (p.1, p.2) (freeze_cause LIMIT _ _ c.args.self.now c.in_err-freeze.field-0.0 (λ e. let t : false ≡ true = c.in_err-freeze.ensures.idle e in cc) c.in_err-freeze.ensures.cause);
-      later = omega arith;
-      later_transformer = omega arith;
-      same_encoded = refl;
-      same_decoded = refl;
-      operator = refl;
-      same_store = refl;
+      puts = puts_none _;
     }
 
 -- ---- no rows
@@ -126,23 +115,8 @@ pub returns-then-is_empty-clause-kept : goal.returns-then-is_empty-clause-kept
 returns-then-is_empty-clause-kept g c m same k =
     kept_flushed m (view_of c.self.inside) c.self.inside.last (subst (λ (v : CoreModel). IsKept m v) (sym c.self.view_is) (c.in_ok-freeze.ensures.kept m k))
 
-pub returns-then-is_empty-clause-later : goal.returns-then-is_empty-clause-later
-returns-then-is_empty-clause-later g c = omega arith
-
-pub returns-then-is_empty-clause-later_transformer : goal.returns-then-is_empty-clause-later_transformer
-returns-then-is_empty-clause-later_transformer g c = omega arith
-
-pub returns-then-is_empty-clause-same_encoded : goal.returns-then-is_empty-clause-same_encoded
-returns-then-is_empty-clause-same_encoded g c = refl
-
-pub returns-then-is_empty-clause-same_decoded : goal.returns-then-is_empty-clause-same_decoded
-returns-then-is_empty-clause-same_decoded g c = refl
-
-pub returns-then-is_empty-clause-operator : goal.returns-then-is_empty-clause-operator
-returns-then-is_empty-clause-operator g c = refl
-
-pub returns-then-is_empty-clause-same_store : goal.returns-then-is_empty-clause-same_store
-returns-then-is_empty-clause-same_store g c = refl
+pub returns-then-is_empty-clause-puts : goal.returns-then-is_empty-clause-puts
+returns-then-is_empty-clause-puts g c = puts_none _
 
 pub returns-then-is_empty-clause-refused : goal.returns-then-is_empty-clause-refused
 returns-then-is_empty-clause-refused g c = tt
@@ -153,10 +127,9 @@ returns-then-is_empty-clause-cause g c = tt
 -- ---- the install
 
 -- what refuses it, said of the core before the freeze
-behind : (layout : Layout) (old between : CoreModel) (A B : SlateDBError → Type 0) → IsFrozen old between → (e : SlateDBError) → A e ⊎ (B e ⊎ TooLarge layout between e) → A e ⊎ (B e ⊎ (((e ≡ errors.LimitReached LIMIT) × (LIMIT < passed old)) ⊎ TooLarge layout old e))
-behind layout old between A B froze e (inl store) = inl store
-behind layout old between A B froze e (inr (inl transform)) = inr (inl transform)
-behind layout old between A B froze e (inr (inr large)) = inr (inr (inr (too_large_before layout old between e froze large)))
+behind : {A : Type 0} (layout : Layout) (old between : CoreModel) (e : SlateDBError) → IsFrozen old between → A ⊎ TooLarge layout between e → A ⊎ ((e ≡ errors.LimitReached LIMIT) × (LIMIT < passed old)) ⊎ TooLarge layout old e
+behind layout old between e froze (inl fault) = inl fault
+behind layout old between e froze (inr large) = inr (inr (too_large_before layout old between e froze large))
 
 pub returns : goal.returns
 returns g c =
@@ -173,13 +146,6 @@ returns g c =
       kept = λ m same k. c.install.ensures.kept m same (c.in_ok-freeze.ensures.kept m k);
       settings = settled c.install.result (changed_by g.T.BlockTransformer.encoded c.args.env.now.transformer) (layout_of c.args.options.now) c.freeze.new.self c.install.new.self (g.S.Store.objects c.args.env.now.store.now) (g.S.Store.objects c.install.new.env.store.now) c.install.ensures.installed c.install.ensures.same ∙ frozen_settings c.args.self.now c.freeze.new.self c.in_ok-freeze.ensures.event;
       limit = λ h. absurd (omega (arith, c.in_ok-place_for_flush.ensures.place, h));
-      cause = (cause_after c.install.result _ _
-          (behind (layout_of c.args.options.now) c.args.self.now c.freeze.new.self (IsStoreFault (g.S.Store.faults c.args.env.now.store.now) (g.S.Store.faults c.install.new.env.store.now)) (IsTransformFault (faults_of g.T.BlockTransformer.faults c.args.env.now.transformer) (faults_of g.T.BlockTransformer.faults c.install.new.env.transformer)) c.in_ok-freeze.ensures.event)
-          c.install.ensures.cause);
-      later = c.install.ensures.later;
-      later_transformer = c.install.ensures.later_transformer;
-      same_encoded = c.install.ensures.same_encoded;
-      same_decoded = c.install.ensures.same_decoded;
-      operator = c.install.ensures.operator;
-      same_store = c.install.ensures.same_store;
+      cause = cause_after c.install.result _ _ (λ e h. behind (layout_of c.args.options.now) c.args.self.now c.freeze.new.self e c.in_ok-freeze.ensures.event h) c.install.ensures.cause;
+      puts = c.install.ensures.puts;
     }

@@ -2,6 +2,9 @@ use Rattle.std.proofs.Common.{inl, inr, ◌≡◌, ℕ, ◌≤◌, List, [], ◌
 use Rattle.std.proofs.lemmas.Result.{IfOk-from_err, err_from_is_err_and}
 use Rattle.std.specs.Prelude.{IfSome}
 use Rattle.slate_types.specs.Fold.{fold_rows}
+use Rattle.slate_types.specs.Outside.{IsCounted}
+use Rattle.slate_store.specs.Reach.{reach_of}
+use Rattle.slate_types.proofs.Reaching.{reads_none}
 use Rattle.slate_mem.specs.Batch.{Ops, kept}
 use Rattle.slate_mem.specs.RowOf.{own_row}
 use Rattle.slate_txn.specs.declared.event.TranscriptStep.{TranscriptStep}
@@ -16,11 +19,9 @@ use Rattle.slate_db.specs.Model.{CoreModel}
 use Rattle.slate_db.specs.View.{view_of}
 use Rattle.slate_db.specs.Sound.{IsKept}
 use Rattle.slate_db.specs.Whole.{IsWhole}
-use Rattle.slate_db.proofs.Answered.{adds_none}
 use Rattle.slate_txn.proofs.NamedLaws.{IsNamed, open_is}
 use Rattle.slate_db.proofs.Notes.{after_note, whole_note, step_get}
 use Rattle.slate_db.proofs.Keeps.{same_model, kept_event}
-use Rattle.slate_db.proofs.Gets.{held as held_by}
 use Rattle.slate_db.proofs.Seen.{found_all}
 use Rattle.slate_db.proofs.engine.Core.get.Goals as goal
 use Rattle.slate_db.proofs.engine.Core.get.Given as given
@@ -36,72 +37,43 @@ returns-in_err-key g c =
     let p = err_from_is_err_and c.from_residual.result c.from_residual.ensures.1 in
     record {
       noted = IfOk-from_err c.from_residual.result _ c.from_residual.ensures.0;
-      answer = λ m has law kept held. IfOk-from_err c.from_residual.result _ c.from_residual.ensures.0;
-      whole = λ m has law kept held. let p = err_from_is_err_and c.from_residual.result c.from_residual.ensures.1 in rw (p.1, p.2) (inl (inl refl));
-      truthful = λ m os has law kept held answers. let p = err_from_is_err_and c.from_residual.result c.from_residual.ensures.1 in rw (p.1, p.2) (inl (inl refl));
+      read = record {
+        answer = λ is. IfOk-from_err c.from_residual.result _ c.from_residual.ensures.0;
+        undamaged = λ is. let p = err_from_is_err_and c.from_residual.result c.from_residual.ensures.1 in rw (p.1, p.2) tt;
+        cause = rw (p.1, p.2) (inl tt);
+        reads = reads_none _;
+      };
       same = rw p.1 refl;
       kept = λ m k. k;
       settings = refl;
-      cause = rw (p.1, p.2) (inl (inl refl));
-      told = adds_none _;
-      objects = refl;
-      same_encoded = refl;
-      same_decoded = refl;
-      same_combine = refl;
-      same_store = refl;
-      later = omega arith;
-      later_transformer = omega arith;
-      later_operator = omega arith;
     }
 
 pub returns-in-Err : goal.returns-in-Err
 returns-in-Err g c =
     record {
       noted = tt;
-      answer = λ m has law kept held. tt;
-      whole = (λ m has law kept held.
-          let here = held_by _ _ held in
-          c.in-Err.ensures.whole m here.0 has law kept here.2 (inl here.1));
-      truthful = (λ m os has law kept held answers.
-          c.in-Err.ensures.whole m os has law kept held (inr answers));
+      read = record { answer = λ is. tt; undamaged = c.in-Err.ensures.read.undamaged; cause = c.in-Err.ensures.read.cause; reads = c.seen.ensures.read.reads };
       same = refl;
       kept = λ m k. k;
       settings = refl;
-      cause = c.in-Err.ensures.cause;
-      told = c.seen.ensures.told;
-      objects = c.seen.ensures.objects;
-      same_encoded = c.seen.ensures.same_encoded;
-      same_decoded = c.seen.ensures.same_decoded;
-      same_combine = c.seen.ensures.same_combine;
-      same_store = c.seen.ensures.same_store;
-      later = c.seen.ensures.later;
-      later_transformer = c.seen.ensures.later_transformer;
-      later_operator = c.seen.ensures.later_operator;
     }
 
 pub returns-in-Err-note_get : goal.returns-in-Err-note_get
 returns-in-Err-note_get g c =
     record {
       noted = tt;
-      answer = λ m has law kept held. tt;
-      whole = λ m has law kept held. inl (inl c.from.ensures);
-      truthful = λ m os has law kept held answers. inl (inl c.from.ensures);
+      read = record {
+        answer = λ is. tt;
+        undamaged = λ is. subst (IsCounted _ _) (sym c.from.ensures) tt;
+        cause = inl (subst (IsCounted _ _) (sym c.from.ensures) tt);
+        reads = c.seen.ensures.read.reads;
+      };
       same = sym (same_model (view_of c.self.inside) (view_of (record c.self.inside { «open» = c.note_get.new.items })) refl refl (sym c.in-Err-note_get.ensures.err) refl refl refl refl refl refl refl refl) ∙ c.self.view_is;
       kept = (λ m kept_m.
           subst (λ (v : CoreModel). IsKept m v)
           (same_model (view_of c.self.inside) (view_of (record c.self.inside { «open» = c.note_get.new.items })) refl refl (sym c.in-Err-note_get.ensures.err) refl refl refl refl refl refl refl refl)
           (subst (λ (v : CoreModel). IsKept m v) (sym c.self.view_is) kept_m));
       settings = ap (λ (v : CoreModel). v.settings) c.self.view_is;
-      cause = inl (inl c.from.ensures);
-      told = c.seen.ensures.told;
-      objects = c.seen.ensures.objects;
-      same_encoded = c.seen.ensures.same_encoded;
-      same_decoded = c.seen.ensures.same_decoded;
-      same_combine = c.seen.ensures.same_combine;
-      same_store = c.seen.ensures.same_store;
-      later = c.seen.ensures.later;
-      later_transformer = c.seen.ensures.later_transformer;
-      later_operator = c.seen.ensures.later_operator;
     }
 
 -- the step that is noted
@@ -147,38 +119,31 @@ pub returns : goal.returns
 returns g c =
     record {
       noted = sym (becomes g c) ∙ ap (λ v. after_note v c.args.id.now (noted_step g c ∷ [])) c.self.view_is;
-      answer = (λ m has law kept_m held.
-          let r = rules_of c.args.self.now.settings m in
-          let k = c.args.key.now in
-          let commits = c.args.self.now.state.commits in
-          let here = held_by _ _ held in
-          let row : c.in-Ok.row ≡ fold_rows (combine_of m k) (key_rows r k (up_to (reader g c).begin commits) ++ map (own_row k) (kept (reader g c).ops k)) =
-          c.in-Ok.ensures.row m here.0 has law kept_m here.2 (inl here.1) (from_floor g c)
-          ∙ ap (λ (j : List ℕ). fold_rows (combine_of m j) (key_rows r j (up_to c.in-Some.at commits))) c.in_ok-key.ensures
-          ∙ ap (λ n. fold_rows (combine_of m k) (key_rows r k (up_to n commits))) (begin_is g c)
-          ∙ ap (fold_rows (combine_of m k)) (sym (append-nil (key_rows r k (up_to (reader g c).begin commits))))
-          ∙ ap (λ (os : Ops). fold_rows (combine_of m k) (key_rows r k (up_to (reader g c).begin commits) ++ map (own_row k) (kept os k))) (no_ops g c) in
-          let found : find_named c.args.id.now c.args.self.now.state.txns ≡ Some (reader g c) = ap (λ (v : CoreModel). find_named c.args.id.now v.state.txns) (sym c.self.view_is) ∙ reader_is g c in
-          step_get r c.args.self.now.state c.args.id.now k (reader g c) c.in-Ok.row found row
-          ∙ (let a = sym c.answer-found.ensures in λ j. (noted c.args.self.now.state c.args.id.now (steps.Get k (a j) ∷ []), Found (a j)))
-          ∙ (let v = sym c.self.view_is in λ j. (noted (v j).state c.args.id.now (noted_step g c ∷ []), Found c.answer-found.result))
-          ∙ (λ j. ((becomes g c j).state, Found c.answer-found.result)));
-      whole = λ m has law kept held. tt;
-      truthful = λ m os has law kept held answers. tt;
+      read = record {
+        answer = (λ is.
+            let m = (reach_of g.S.Store g.M.MergeOperator g.T.BlockTransformer c.args.env.now).meaning in
+            let r = rules_of c.args.self.now.settings m in
+            let k = c.args.key.now in
+            let commits = c.args.self.now.state.commits in
+            let row : c.in-Ok.row ≡ fold_rows (combine_of m k) (key_rows r k (up_to (reader g c).begin commits) ++ map (own_row k) (kept (reader g c).ops k)) =
+            c.in-Ok.ensures.read.answer is (from_floor g c)
+            ∙ ap (λ (j : List ℕ). fold_rows (combine_of m j) (key_rows r j (up_to c.in-Some.at commits))) c.in_ok-key.ensures
+            ∙ ap (λ n. fold_rows (combine_of m k) (key_rows r k (up_to n commits))) (begin_is g c)
+            ∙ ap (fold_rows (combine_of m k)) (sym (append-nil (key_rows r k (up_to (reader g c).begin commits))))
+            ∙ ap (λ (os : Ops). fold_rows (combine_of m k) (key_rows r k (up_to (reader g c).begin commits) ++ map (own_row k) (kept os k))) (no_ops g c) in
+            let found : find_named c.args.id.now c.args.self.now.state.txns ≡ Some (reader g c) = ap (λ (v : CoreModel). find_named c.args.id.now v.state.txns) (sym c.self.view_is) ∙ reader_is g c in
+            step_get r c.args.self.now.state c.args.id.now k (reader g c) c.in-Ok.row found row
+            ∙ (let a = sym c.answer-found.ensures in λ j. (noted c.args.self.now.state c.args.id.now (steps.Get k (a j) ∷ []), Found (a j)))
+            ∙ (let v = sym c.self.view_is in λ j. (noted (v j).state c.args.id.now (noted_step g c ∷ []), Found c.answer-found.result))
+            ∙ (λ j. ((becomes g c j).state, Found c.answer-found.result)));
+        undamaged = λ is. tt;
+        cause = tt;
+        reads = c.seen.ensures.read.reads;
+      };
       same = tt;
       kept = (λ m kept_m.
           subst (λ (v : CoreModel). IsKept m v) (becomes g c)
           (kept_event m (view_of c.self.inside) (noted (view_of c.self.inside).state c.args.id.now (noted_step g c ∷ [])) c.self.inside.journal.events c.self.inside.journal.spare refl refl refl
           (subst (λ (v : CoreModel). IsKept m v) (sym c.self.view_is) kept_m)));
       settings = ap (λ (v : CoreModel). v.settings) c.self.view_is;
-      cause = tt;
-      told = c.seen.ensures.told;
-      objects = c.seen.ensures.objects;
-      same_encoded = c.seen.ensures.same_encoded;
-      same_decoded = c.seen.ensures.same_decoded;
-      same_combine = c.seen.ensures.same_combine;
-      same_store = c.seen.ensures.same_store;
-      later = c.seen.ensures.later;
-      later_transformer = c.seen.ensures.later_transformer;
-      later_operator = c.seen.ensures.later_operator;
     }

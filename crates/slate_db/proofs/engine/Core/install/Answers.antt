@@ -2,6 +2,7 @@ use Rattle.std.proofs.Common.{◌≡◌, ℕ, ◌+◌, ◌<◌, ◌≤◌, ◌++
 use Rattle.std.proofs.lemmas.Result.{err_from_is_err_and, IfOk-from_err}
 use Rattle.std.specs.Prelude.{Ok}
 use Rattle.slate_types.specs.declared.types.Ulid.{Ulid}
+use Rattle.slate_types.proofs.Reaching.{puts_none}
 use Rattle.slate_table.specs.declared.info.SsTableHandle.{SsTableHandle}
 use Rattle.slate_table.specs.Parts.{Encode}
 use Rattle.slate_table.specs.SectionReading.{changed_by}
@@ -107,12 +108,7 @@ returns g c =
           ((made g c).folded m)
           (subst (λ (v : CoreModel). IsKept m v) (sym c.self.view_is) k)));
       cause = tt;
-      later = c.stored.ensures.later;
-      later_transformer = c.stored.ensures.later_transformer;
-      same_encoded = c.stored.ensures.same_encoded;
-      same_decoded = c.stored.ensures.same_decoded;
-      operator = c.stored.ensures.operator;
-      same_store = c.stored.ensures.same_store;
+      puts = c.stored.ensures.puts;
     }
 
 -- room was made, and nothing else
@@ -140,12 +136,7 @@ returns-in_err-put g c =
           (too_large_is layout (view_of c.self.inside) c.barrier-barrier.result (map (λ t. t.rows) c.deref.result.now) large.0 c.in_err-put.field-0.0
           (ap (λ (v : CoreModel). v.active) c.self.view_is ∙ c.requires.idle) barrier (ap (λ ts. map (λ t. t.rows) ts) c.deref.ensures.value) c.self.invariant.rows_fit large.1 large.2 large.3))
           c.in_err-put.ensures.cause));
-      later = c.stored.ensures.later;
-      later_transformer = c.stored.ensures.later_transformer;
-      same_encoded = c.stored.ensures.same_encoded;
-      same_decoded = c.stored.ensures.same_decoded;
-      operator = c.stored.ensures.operator;
-      same_store = c.stored.ensures.same_store;
+      puts = c.stored.ensures.puts;
     }
 
 pub returns-in_err-and : goal.returns-in_err-and
@@ -159,11 +150,6 @@ returns-in_err-and g c =
       refused = rw p.1 (may_keep _ _ _ refl);
       kept = (λ m same k.
           kept_same m (view_of c.self.inside) (view_of (record c.self.inside { journal = c.reserve.new.self })) (room_made c.self.inside c.reserve.new.self c.reserve.ensures.events) (subst (λ (v : CoreModel). IsKept m v) (sym c.self.view_is) k));
-      cause = rw (p.1, p.2) (inl (inl refl));
-      later = omega arith;
-      later_transformer = omega arith;
-      same_encoded = refl;
-      same_decoded = refl;
-      operator = refl;
-      same_store = refl;
+      cause = rw (p.1, p.2) (inl tt);
+      puts = puts_none _;
     }

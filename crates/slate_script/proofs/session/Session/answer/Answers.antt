@@ -1,9 +1,11 @@
-use Rattle.std.proofs.Common.{OnOk, refl, sym, subst}
+use Rattle.std.proofs.Common.{OnOk, ap, inr, refl, sym, subst}
+use Rattle.slate_store.specs.Reach.{reach_of}
+use Rattle.slate_types.proofs.Reaching.{puts_none, reads_put_nothing}
 use Rattle.slate_txn.specs.declared.line.Line.{Line}
 use Rattle.slate_db.specs.Parts.{meaning_of, counts_of}
 use Rattle.slate_script.specs.Session.{AnswersAs, Grows}
 use Rattle.slate_script.proofs.LineEnds.{keeps-settings, keeps-settled, memory-or-limit, or-limit, or-damage, limit-between, no-damage}
-use Rattle.slate_script.proofs.RunEnds.{never-less}
+use Rattle.slate_script.proofs.SessionParts.{settled-answered, true-answered}
 use Rattle.slate_script.proofs.TablesAlone.{stays-where}
 use Rattle.slate_script.proofs.ToldLaws.{follows-reads, follows-still, untrue-get}
 use Rattle.slate_script.proofs.session.Session.answer.Goals as goal
@@ -25,9 +27,7 @@ returns-in_default g c =
       untrue = (λ os settled.
           let counts = counts_of (g.S.Store.faults c.args.env.now.store.now) g.M.MergeOperator.faults g.T.BlockTransformer.faults c.args.env.now.operator c.args.env.now.transformer in
           no-damage _ c.answer_within.result counts counts c.args.self.now (memory-or-limit c.answer_within.result counts counts c.args.self.now c.answer_within.ensures.cause));
-      meaning = refl;
-      same_store = refl;
-      later = never-less _;
+      puts = puts_none _;
     }
 
 pub returns-in-Flush : goal.returns-in-Flush
@@ -44,9 +44,7 @@ returns-in-Flush g c =
       undamaged = λ settled. c.flush.ensures.cause;
       follows = c.flush.ensures.follows;
       untrue = λ os settled. no-damage _ c.flush.result (counts_of (g.S.Store.faults c.args.env.now.store.now) g.M.MergeOperator.faults g.T.BlockTransformer.faults c.args.env.now.operator c.args.env.now.transformer) (counts_of (g.S.Store.faults c.flush.new.env.store.now) g.M.MergeOperator.faults g.T.BlockTransformer.faults c.flush.new.env.operator c.flush.new.env.transformer) c.args.self.now c.flush.ensures.cause;
-      meaning = c.flush.ensures.meaning;
-      same_store = c.flush.ensures.same_store;
-      later = c.flush.ensures.later;
+      puts = c.flush.ensures.puts;
     }
 
 pub returns-in-Get : goal.returns-in-Get
@@ -54,18 +52,16 @@ returns-in-Get g c =
     record {
       step = (λ settled.
           let m = meaning_of g.M.MergeOperator.combine g.T.BlockTransformer.encoded g.T.BlockTransformer.decoded c.args.env.now.operator c.args.env.now.transformer in
-          subst (λ (line : Line). AnswersAs m c.args.self.now c.get.new.self line c.get.result) (sym c.in-Get.is) (c.get.ensures.step settled));
+          subst (λ (line : Line). AnswersAs m c.args.self.now c.get.new.self line c.get.result) (sym c.in-Get.is) (c.get.ensures.step (settled-answered (reach_of g.S.Store g.M.MergeOperator g.T.BlockTransformer c.args.env.now) (reach_of g.S.Store g.M.MergeOperator g.T.BlockTransformer c.get.new.env) c.args.self.now settled)));
       settings = keeps-settings c.get.result c.args.self.now c.get.new.self c.get.ensures.stores;
       grows = subst (λ (line : Line). OnOk c.get.result (Grows line c.args.self.now c.get.new.self)) (sym c.in-Get.is) c.get.ensures.grows;
-      kept = λ settled. keeps-settled c.get.result _ _ _ c.args.self.now c.get.new.self c.get.ensures.objects c.get.ensures.stores settled;
-      alone = λ settled alone. stays-where c.get.result _ _ _ _ c.args.self.now c.get.new.self c.get.ensures.objects c.get.ensures.stores alone;
+      kept = λ settled. keeps-settled c.get.result _ _ _ c.args.self.now c.get.new.self c.get.ensures.reads.objects c.get.ensures.stores settled;
+      alone = λ settled alone. stays-where c.get.result _ _ _ _ c.args.self.now c.get.new.self c.get.ensures.reads.objects c.get.ensures.stores alone;
       cause = limit-between c.get.result (counts_of (g.S.Store.faults c.args.env.now.store.now) g.M.MergeOperator.faults g.T.BlockTransformer.faults c.args.env.now.operator c.args.env.now.transformer) (counts_of (g.S.Store.faults c.get.new.env.store.now) g.M.MergeOperator.faults g.T.BlockTransformer.faults c.get.new.env.operator c.get.new.env.transformer) c.args.self.now c.get.ensures.cause;
-      undamaged = λ settled. or-limit c.get.result (counts_of (g.S.Store.faults c.args.env.now.store.now) g.M.MergeOperator.faults g.T.BlockTransformer.faults c.args.env.now.operator c.args.env.now.transformer) (counts_of (g.S.Store.faults c.get.new.env.store.now) g.M.MergeOperator.faults g.T.BlockTransformer.faults c.get.new.env.operator c.get.new.env.transformer) c.args.self.now (c.get.ensures.undamaged settled);
-      follows = λ os settled. follows-reads c.get.result (meaning_of g.M.MergeOperator.combine g.T.BlockTransformer.encoded g.T.BlockTransformer.decoded c.args.env.now.operator c.args.env.now.transformer) os c.args.self.now c.get.new.self (g.S.Store.acts c.args.env.now.store.now) (g.S.Store.acts c.get.new.env.store.now) c.get.ensures.told c.get.ensures.stores settled;
-      untrue = λ os settled. untrue-get c.get.result os (g.S.Store.acts c.args.env.now.store.now) (g.S.Store.acts c.get.new.env.store.now) _ _ c.get.ensures.told (c.get.ensures.truthful os settled);
-      meaning = c.get.ensures.meaning;
-      same_store = c.get.ensures.same_store;
-      later = c.get.ensures.later;
+      undamaged = λ settled. or-limit c.get.result (counts_of (g.S.Store.faults c.args.env.now.store.now) g.M.MergeOperator.faults g.T.BlockTransformer.faults c.args.env.now.operator c.args.env.now.transformer) (counts_of (g.S.Store.faults c.get.new.env.store.now) g.M.MergeOperator.faults g.T.BlockTransformer.faults c.get.new.env.operator c.get.new.env.transformer) c.args.self.now (c.get.ensures.undamaged (settled-answered (reach_of g.S.Store g.M.MergeOperator g.T.BlockTransformer c.args.env.now) (reach_of g.S.Store g.M.MergeOperator g.T.BlockTransformer c.get.new.env) c.args.self.now settled));
+      follows = λ os settled. follows-reads c.get.result (meaning_of g.M.MergeOperator.combine g.T.BlockTransformer.encoded g.T.BlockTransformer.decoded c.args.env.now.operator c.args.env.now.transformer) os c.args.self.now c.get.new.self (g.S.Store.acts c.args.env.now.store.now) (g.S.Store.acts c.get.new.env.store.now) c.get.ensures.reads.acts c.get.ensures.stores settled;
+      untrue = λ os settled. untrue-get c.get.result os (g.S.Store.acts c.args.env.now.store.now) (g.S.Store.acts c.get.new.env.store.now) _ _ c.get.ensures.reads.acts (λ answers. c.get.ensures.undamaged (true-answered (reach_of g.S.Store g.M.MergeOperator g.T.BlockTransformer c.args.env.now) (reach_of g.S.Store g.M.MergeOperator g.T.BlockTransformer c.get.new.env) os c.args.self.now settled (inr answers)));
+      puts = reads_put_nothing _ _ c.get.ensures.reads;
     }
 
 pub answer_within-requires : goal.answer_within-requires

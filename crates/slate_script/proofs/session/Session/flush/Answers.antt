@@ -1,18 +1,17 @@
 use Rattle.std.proofs.Common.{◌≡◌, ◌⊎◌, ◌∙◌, Some, Ok, refl, ap, sym, subst, arith}
 use Rattle.std.proofs.lemmas.Result.{err_from_is_err_and, IfOk-from_err}
 use Rattle.slate_types.specs.declared.error.SlateDBError.TheVariants.{LimitReached}
-use Rattle.slate_types.specs.Faults.{faults_of}
-use Rattle.slate_types.specs.Outside.{Counts, IsOuter}
-use Rattle.slate_store.specs.Env.{combine_of}
+use Rattle.slate_types.specs.Outside.{IsFault}
+use Rattle.slate_store.specs.Reach.{reach_of}
 use Rattle.slate_table.specs.SectionReading.{changed_by}
 use Rattle.slate_txn.specs.declared.line.Line.TheVariants as lines
 use Rattle.slate_db.specs.Flushed.{layout_of}
 use Rattle.slate_db.specs.Installs.{tables_of}
-use Rattle.slate_db.specs.Parts.{meaning_of, counts_of}
+use Rattle.slate_db.specs.Parts.{meaning_of}
 use Rattle.slate_db.specs.Whole.{LIMIT}
 use Rattle.slate_txn.specs.declared.reply.Answer.TheVariants as answers
 use Rattle.slate_script.specs.Session.{SessionModel, AnswersAs, Grows, HasTablesAlone, IsLimit, IsSettled}
-use Rattle.slate_script.proofs.SessionParts.{parts-same, flush-cause, untouched, has-room}
+use Rattle.slate_script.proofs.SessionParts.{flush-cause, has-room}
 use Rattle.slate_script.proofs.SessionSteps.{flush-as}
 use Rattle.slate_script.proofs.SessionStores.{flush-settled}
 use Rattle.slate_script.proofs.TablesAlone.{flush-alone}
@@ -63,13 +62,7 @@ returns g c =
           (c.flush.ensures.kept m refl)
           (subst (λ (v : SessionModel). IsSettled m (Some os) v) (sym c.self.view_is) settled));
       cause = tt;
-      meaning = parts-same _ _ (ap (λ o. combine_of g.M.MergeOperator.combine o) c.flush.ensures.operator) c.flush.ensures.same_encoded c.flush.ensures.same_decoded;
-      same_store = c.flush.ensures.same_store;
-      later = (record {
-        store = c.flush.ensures.later;
-        operator = untouched (λ o. faults_of g.M.MergeOperator.faults o) c.args.env.now.operator c.flush.new.env.operator c.flush.ensures.operator;
-        transformer = c.flush.ensures.later_transformer;
-      });
+      puts = c.flush.ensures.puts;
     }
 
 pub returns-in_err-seq : goal.returns-in_err-seq
@@ -82,15 +75,9 @@ returns-in_err-seq g c =
       kept = λ settled. IfOk-from_err c.from_residual.result _ c.from_residual.ensures.0;
       alone = λ settled alone. IfOk-from_err c.from_residual.result _ c.from_residual.ensures.0;
       follows = λ os settled. IfOk-from_err c.from_residual.result _ c.from_residual.ensures.0;
-      cause = (let before : Counts = counts_of (g.S.Store.faults c.args.env.now.store.now) g.M.MergeOperator.faults g.T.BlockTransformer.faults c.args.env.now.operator c.args.env.now.transformer in
-          let after : Counts = counts_of (g.S.Store.faults c.flush.new.env.store.now) g.M.MergeOperator.faults g.T.BlockTransformer.faults c.flush.new.env.operator c.flush.new.env.transformer in
-          rw (p.1, p.2) (subst (λ (v : SessionModel). IsOuter before after c.in_err-seq.field-0.0 ⊎ IsLimit v c.in_err-seq.field-0.0) c.self.view_is
-          (flush-cause before after (layout_of c.args.options.now) (record { core = c.self.inside.core; names = c.self.inside.names.entries; now = c.self.inside.now }) c.in_err-seq.field-0.0 c.in_err-seq.ensures.cause)));
-      meaning = parts-same _ _ (ap (λ o. combine_of g.M.MergeOperator.combine o) c.flush.ensures.operator) c.flush.ensures.same_encoded c.flush.ensures.same_decoded;
-      same_store = c.flush.ensures.same_store;
-      later = (record {
-        store = c.flush.ensures.later;
-        operator = untouched (λ o. faults_of g.M.MergeOperator.faults o) c.args.env.now.operator c.flush.new.env.operator c.flush.ensures.operator;
-        transformer = c.flush.ensures.later_transformer;
-      });
+      cause = (let old = reach_of g.S.Store g.M.MergeOperator g.T.BlockTransformer c.args.env.now in
+          let new = reach_of g.S.Store g.M.MergeOperator g.T.BlockTransformer c.flush.new.env in
+          rw (p.1, p.2) (subst (λ (v : SessionModel). IsFault old new c.in_err-seq.field-0.0 ⊎ IsLimit v c.in_err-seq.field-0.0) c.self.view_is
+          (flush-cause old new (layout_of c.args.options.now) (record { core = c.self.inside.core; names = c.self.inside.names.entries; now = c.self.inside.now }) c.in_err-seq.field-0.0 c.in_err-seq.ensures.cause)));
+      puts = c.flush.ensures.puts;
     }

@@ -1,8 +1,7 @@
 use Rattle.std.proofs.Common.{◌≡◌, ℕ, List, [], length, Option, Some, None, Ok, refl, sym, ap, subst, ◌∙◌, arith}
-use Rattle.std.proofs.lemmas.List.{append-nil}
 use Rattle.std.proofs.lemmas.Result.{err_from_is_err_and, IfOk-from_err}
-use Rattle.slate_types.specs.Outside.{Counts}
-use Rattle.slate_store.specs.Env.{combine_of}
+use Rattle.slate_store.specs.Reach.{reach_of}
+use Rattle.slate_types.proofs.Reaching.{reads_none}
 use Rattle.slate_txn.specs.Named.{find_named}
 use Rattle.slate_txn.specs.Reply as replies
 use Rattle.slate_txn.specs.Reply.{Reply}
@@ -10,28 +9,24 @@ use Rattle.slate_txn.specs.State.{State}
 use Rattle.slate_txn.specs.Step.{step}
 use Rattle.slate_txn.specs.declared.line.Line.TheVariants as lines
 use Rattle.slate_db.specs.Installs.{tables_of}
-use Rattle.slate_db.specs.Meaning.{HasParts, rules_of}
+use Rattle.slate_db.specs.Meaning.{rules_of}
 use Rattle.slate_db.specs.Model.{CoreModel}
-use Rattle.slate_db.specs.Parts.{meaning_of, counts_of}
+use Rattle.slate_db.specs.Parts.{meaning_of}
+use Rattle.slate_db.specs.Readable.{IsAnswered}
 use Rattle.slate_txn.specs.declared.reply.Answer.TheVariants as answers
 use Rattle.slate_txn.specs.declared.reply.Refusal.TheVariants as refusals
-use Rattle.slate_script.specs.Session.{SessionModel, AreNames, AnswersAs, Grows, IsSettled, StoresNothing}
-use Rattle.slate_script.proofs.RunEnds.{never-less}
+use Rattle.slate_script.specs.Session.{SessionModel, AreNames, AnswersAs, Grows, StoresNothing}
 use Rattle.slate_script.proofs.NamesLaws.{find_named-lookup}
 use Rattle.slate_script.proofs.SessionNames.{names-noted}
-use Rattle.slate_script.proofs.SessionParts.{parts-same, get-cause, get-outer}
+use Rattle.slate_script.proofs.SessionParts.{get-cause}
 use Rattle.slate_script.proofs.SessionSteps.{get-refused, get-found}
 use Rattle.slate_script.proofs.Growth.{as-many, grows, takes-noted}
 use Rattle.slate_script.proofs.session.Session.get.Goals as goal
 
--- the meaning is that of the parts
-has-parts : {combine : Option (List ℕ → Option (List ℕ) → List ℕ → List ℕ)} {encode decode : List ℕ → List ℕ} → HasParts (record { combine = combine; encode = encode; decode = decode }) combine encode decode
-has-parts = record { operator = refl; encodes = refl; decodes = refl }
-
 pub returns-in_default : goal.returns-in_default
 returns-in_default g c =
     record {
-      step = (λ settled.
+      step = (λ is.
           let before : SessionModel = record { core = c.self.inside.core; names = c.self.inside.names.entries; now = c.self.inside.now } in
           let m = meaning_of g.M.MergeOperator.combine g.T.BlockTransformer.encoded g.T.BlockTransformer.decoded c.args.env.now.operator c.args.env.now.transformer in
           let none : find_named c.args.name before.names ≡ None = find_named-lookup c.args.name before.names ∙ sym c.in_default.ensures.value in
@@ -39,14 +34,9 @@ returns-in_default g c =
           (get-refused m before c.args.name c.args.key none));
       stores = record { settings = refl; tables = refl; later = omega arith; kept = λ m k. k };
       grows = (omega arith, omega arith);
-      objects = refl;
       cause = tt;
-      undamaged = λ settled. tt;
-      truthful = λ os settled answers. tt;
-      told = λ known told. ([], told ∙ ap (λ l. Some l) (sym (append-nil known)), tt);
-      meaning = refl;
-      same_store = refl;
-      later = never-less _;
+      undamaged = λ is. tt;
+      reads = reads_none _;
     }
 
 pub get-read-requires : goal.get-read-requires
@@ -62,11 +52,12 @@ invariant_of-self-2 g c = (
 pub returns : goal.returns
 returns g c =
     record {
-      step = (λ settled.
+      step = (λ is.
           let before : SessionModel = record { core = c.self.inside.core; names = c.self.inside.names.entries; now = c.self.inside.now } in
           let m = meaning_of g.M.MergeOperator.combine g.T.BlockTransformer.encoded g.T.BlockTransformer.decoded c.args.env.now.operator c.args.env.now.transformer in
-          let here : IsSettled m (g.S.Store.objects c.args.env.now.store.now) before = subst (λ (v : SessionModel). IsSettled m (g.S.Store.objects c.args.env.now.store.now) v) (sym c.self.view_is) settled in
-          let stepped = c.in_ok-row.ensures.answer m has-parts here.lawful here.kept here.tables.holds in
+          let old = reach_of g.S.Store g.M.MergeOperator g.T.BlockTransformer c.args.env.now in
+          let new = reach_of g.S.Store g.M.MergeOperator g.T.BlockTransformer c.get-read.new.env in
+          let stepped = c.in_ok-row.ensures.read.answer (subst (λ (v : SessionModel). IsAnswered old new v.core) (sym c.self.view_is) is) in
           subst (λ (v : SessionModel). AnswersAs m v (record before { core = c.get-read.new.self }) (lines.Get c.args.name c.args.key) (Ok (answers.Found c.in_ok-row.row))) c.self.view_is
           (get-found m before c.get-read.new.self c.args.name c.in-Some.id.now c.args.key c.in_ok-row.row c.self.invariant.0 (find_named-lookup c.args.name before.names ∙ sym c.in-Some.ensures.value)
           (subst (λ (k : List ℕ). ◌≡◌ {A = State × Reply} (step (rules_of c.self.inside.core.settings m) c.self.inside.core.state (lines.Get c.in-Some.id.now k)) (c.get-read.new.self.state, replies.Found c.in_ok-row.row)) c.as_slice.ensures stepped)));
@@ -78,45 +69,23 @@ returns g c =
           subst (λ (v : SessionModel). Grows (lines.Get c.args.name c.args.key) v (record before { core = c.get-read.new.self })) c.self.view_is
           (grows before c.get-read.new.self before.names before.now (lines.Get c.args.name c.args.key) 0 (omega arith)
           (takes-noted c.self.inside.core c.get-read.new.self _ c.in_ok-row.ensures.noted (as-many c.in-Some.id.now _ c.self.inside.core.state.txns))));
-      objects = c.get-read.ensures.objects;
       cause = tt;
-      undamaged = λ settled. tt;
-      truthful = λ os settled answers. tt;
-      told = c.get-read.ensures.told;
-      meaning = parts-same _ _ c.get-read.ensures.same_combine c.get-read.ensures.same_encoded c.get-read.ensures.same_decoded;
-      same_store = c.get-read.ensures.same_store;
-      later = record { store = c.get-read.ensures.later; operator = c.get-read.ensures.later_operator; transformer = c.get-read.ensures.later_transformer };
+      undamaged = λ is. tt;
+      reads = c.get-read.ensures.read.reads;
     }
 
 pub returns-in_err-row : goal.returns-in_err-row
 returns-in_err-row g c =
     let p = err_from_is_err_and c.from_residual.result c.from_residual.ensures.1 in
     record {
-      step = λ settled s stands. IfOk-from_err c.from_residual.result _ c.from_residual.ensures.0;
+      step = λ is s stands. IfOk-from_err c.from_residual.result _ c.from_residual.ensures.0;
       stores = IfOk-from_err c.from_residual.result _ c.from_residual.ensures.0;
       grows = IfOk-from_err c.from_residual.result _ c.from_residual.ensures.0;
-      objects = c.get-read.ensures.objects;
-      cause = (let before : Counts = counts_of (g.S.Store.faults c.args.env.now.store.now) g.M.MergeOperator.faults g.T.BlockTransformer.faults c.args.env.now.operator c.args.env.now.transformer in
-          let after : Counts = counts_of (g.S.Store.faults c.get-read.new.env.store.now) g.M.MergeOperator.faults g.T.BlockTransformer.faults c.get-read.new.env.operator c.get-read.new.env.transformer in
-          rw (p.1, p.2) (get-cause before after (combine_of g.M.MergeOperator.combine c.args.env.now.operator) _ c.in_err-row.ensures.cause));
-      undamaged = (λ settled.
-          let before : SessionModel = record { core = c.self.inside.core; names = c.self.inside.names.entries; now = c.self.inside.now } in
-          let m = meaning_of g.M.MergeOperator.combine g.T.BlockTransformer.encoded g.T.BlockTransformer.decoded c.args.env.now.operator c.args.env.now.transformer in
-          let here : IsSettled m (g.S.Store.objects c.args.env.now.store.now) before = subst (λ (v : SessionModel). IsSettled m (g.S.Store.objects c.args.env.now.store.now) v) (sym c.self.view_is) settled in
+      cause = rw (p.1, p.2) (get-cause (reach_of g.S.Store g.M.MergeOperator g.T.BlockTransformer c.args.env.now) (reach_of g.S.Store g.M.MergeOperator g.T.BlockTransformer c.get-read.new.env) _ c.in_err-row.ensures.read.cause);
+      undamaged = (λ is.
+          let old = reach_of g.S.Store g.M.MergeOperator g.T.BlockTransformer c.args.env.now in
+          let new = reach_of g.S.Store g.M.MergeOperator g.T.BlockTransformer c.get-read.new.env in
           let p = err_from_is_err_and c.from_residual.result c.from_residual.ensures.1 in
-          let first : Counts = counts_of (g.S.Store.faults c.args.env.now.store.now) g.M.MergeOperator.faults g.T.BlockTransformer.faults c.args.env.now.operator c.args.env.now.transformer in
-          let after : Counts = counts_of (g.S.Store.faults c.get-read.new.env.store.now) g.M.MergeOperator.faults g.T.BlockTransformer.faults c.get-read.new.env.operator c.get-read.new.env.transformer in
-          rw (p.1, p.2) (get-outer first after _ (c.in_err-row.ensures.whole m has-parts here.lawful here.kept here.tables.holds)));
-      truthful = (λ os settled answers.
-          let before : SessionModel = record { core = c.self.inside.core; names = c.self.inside.names.entries; now = c.self.inside.now } in
-          let m = meaning_of g.M.MergeOperator.combine g.T.BlockTransformer.encoded g.T.BlockTransformer.decoded c.args.env.now.operator c.args.env.now.transformer in
-          let here : IsSettled m (Some os) before = subst (λ (v : SessionModel). IsSettled m (Some os) v) (sym c.self.view_is) settled in
-          let p = err_from_is_err_and c.from_residual.result c.from_residual.ensures.1 in
-          let first : Counts = counts_of (g.S.Store.faults c.args.env.now.store.now) g.M.MergeOperator.faults g.T.BlockTransformer.faults c.args.env.now.operator c.args.env.now.transformer in
-          let after : Counts = counts_of (g.S.Store.faults c.get-read.new.env.store.now) g.M.MergeOperator.faults g.T.BlockTransformer.faults c.get-read.new.env.operator c.get-read.new.env.transformer in
-          rw (p.1, p.2) (get-outer first after _ (c.in_err-row.ensures.truthful m os has-parts here.lawful here.kept here.tables.holds answers)));
-      told = c.get-read.ensures.told;
-      meaning = parts-same _ _ c.get-read.ensures.same_combine c.get-read.ensures.same_encoded c.get-read.ensures.same_decoded;
-      same_store = c.get-read.ensures.same_store;
-      later = record { store = c.get-read.ensures.later; operator = c.get-read.ensures.later_operator; transformer = c.get-read.ensures.later_transformer };
+          rw (p.1, p.2) (c.in_err-row.ensures.read.undamaged (subst (λ (v : SessionModel). IsAnswered old new v.core) (sym c.self.view_is) is)));
+      reads = c.get-read.ensures.read.reads;
     }

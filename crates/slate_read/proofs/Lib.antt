@@ -1,0 +1,10 @@
+pub mod Filters
+pub mod Fetches
+pub mod Few
+pub mod Damaged
+pub mod Openings
+pub mod Cursors
+pub mod Walks
+pub mod Ranges
+pub mod Seeks
+pub mod Readable

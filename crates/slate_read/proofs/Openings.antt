@@ -1,0 +1,172 @@
+-- A block that is opened by one read, and an index that is.
+use Rattle.std.proofs.Common.{◌≡◌, ◌⊎◌, inl, inr, ◌<◌, ◌≤◌, ℕ, List, length, [], ◌∷◌, ◌++◌, Option, Some, None, refl, sym, ap, subst, ◌∙◌, append-nil, arith}
+use Rattle.std.specs.Prelude.{Contains, IfOk, OnErr, Result, Ok, Err}
+use Rattle.std.specs.List.{AllByRecursion}
+use Rattle.std.proofs.lemmas.List.Elements.{Contains-append_left}
+use Rattle.slate_types.specs.declared.error.SlateDBError.{SlateDBError}
+use Rattle.slate_types.specs.declared.error.SlateDBError.TheVariants.{OutOfMemory, StoreFault, BlockTransformError}
+use Rattle.slate_types.specs.declared.iter.IterationOrder.{IterationOrder}
+use Rattle.slate_types.specs.Faults.{Rose}
+use Rattle.slate_types.specs.Outside.{Counts, IsCounted, IsFault, IsLater, Meaning, OnlyReads, PutsNothing, Reach}
+use Rattle.slate_store.specs.Store.{Act}
+use Rattle.slate_block.specs.declared.block.Block.{Block}
+use Rattle.slate_block.specs.BlockWalks.{ReadsLeft, IsDamage as IsBlockDamage}
+use Rattle.slate_block.specs.ReadingLaws.{EachIsAByte}
+use Rattle.slate_block.specs.Walks.{block_reads}
+use Rattle.slate_table.specs.declared.info.SsTableHandle.{SsTableHandle}
+use Rattle.slate_table.specs.Reading.{Reads, IsStoreFault, FailsDecoding, IsIndexRead, RefusesIndex, IsBlockRead, RefusesBlock, whole_answer}
+use Rattle.slate_table.specs.SectionReading.{IsTransformFault}
+use Rattle.slate_types.specs.World.{IsCall, IsReadAct, Made}
+use Rattle.slate_types.specs.Refusing.{IsDamage}
+use Rattle.slate_read.specs.TableWalk.{IsIndexed, RefusesIndexed, IsOpened, IsWalkRead, RefusesRows, RefusesSome, RefusesWalk, Walks, path_in, size_of, start_of}
+use Rattle.slate_read.proofs.Damaged.{block_refusal, in_block, index_refusal}
+
+pub rows_known : (version : ℕ) (order : IterationOrder) (block : Block) (e : SlateDBError) → (version ≡ 1) ⊎ (version ≡ 2) → (e ≡ OutOfMemory) ⊎ (block_reads version block.body block.offsets.items ≡ Err e) → (e ≡ OutOfMemory) ⊎ IsBlockDamage e →
+    (e ≡ OutOfMemory) ⊎ (IsDamage e × RefusesRows version order block e)
+rows_known version order block e known (inl m) k = inl m
+rows_known version order block e known (inr h) (inl m) = inl m
+rows_known version order block e known (inr h) (inr d) = inr (in_block e d, inl (known, h))
+
+pub meaning_of : (a b : Meaning) → b.combine ≡ a.combine → b.encode ≡ a.encode → b.decode ≡ a.decode → b ≡ a
+meaning_of a b combine encode decode = λ i. record { combine = combine i; encode = encode i; decode = decode i }
+
+-- one read is a call
+pub call_of : (a b : Reach) (path : List ℕ) (start size : ℕ) (means : Option (List ℕ) → Type 0) → b.objects ≡ a.objects → b.meaning ≡ a.meaning → Reads a.objects a.acts b.acts path start size means →
+    (given : Option (List ℕ)) × IsCall a b (Act.read path start size given ∷ []) × means (whole_answer size given)
+call_of a b path start size means same meaning (answer, (given, by_objects, adds, is), h) = (
+  given,
+  record {
+    objects = same;
+    meaning = meaning;
+    adds = λ known began. adds known began;
+    each = (tt, tt);
+    answered = λ os tells. (by_objects os tells, tt);
+  },
+  subst means is h,
+)
+
+-- and none is one too
+pub call_once : (a b : Reach) (path : List ℕ) (start size : ℕ) → b.objects ≡ a.objects → b.meaning ≡ a.meaning → (b.acts ≡ a.acts) ⊎ Reads a.objects a.acts b.acts path start size (λ _. Unit {0}) → (reads : List Act) × IsCall a b reads
+call_once a b path start size same meaning (inl none) = (
+  [],
+  record {
+    objects = same;
+    meaning = meaning;
+    adds = λ known began. none ∙ began ∙ ap (λ (l : List Act). Some l) (sym (append-nil known));
+    each = tt;
+    answered = λ os tells. tt;
+  },
+)
+call_once a b path start size same meaning (inr r) =
+    let c = call_of a b path start size (λ _. Unit {0}) same meaning r in
+    (Act.read path start size c.0 ∷ [], c.1)
+
+-- what a call read puts nothing
+no_puts : (reads : List Act) → AllByRecursion IsReadAct reads → AllByRecursion PutsNothing reads
+no_puts [] h = tt
+no_puts (Act.put path bytes ∷ reads) h = absurd h.0
+no_puts (Act.read path start len answer ∷ reads) h = (tt, no_puts reads h.1)
+no_puts (Act.len path answer ∷ reads) h = (tt, no_puts reads h.1)
+
+pub only_reads : (a b : Reach) (reads : List Act) → IsCall a b reads → IsLater a.faults b.faults → b.store ≡ a.store → OnlyReads a b
+only_reads a b reads call later store = record {
+  objects = call.objects;
+  meaning = call.meaning;
+  acts = λ known began. (reads, call.adds known began, no_puts reads call.each);
+  later = later;
+  store = store;
+}
+
+pub outer_memory : (i j : Counts) (e : SlateDBError) → e ≡ OutOfMemory → IsCounted i j e
+outer_memory i j e h = subst (IsCounted i j) (sym h) tt
+
+pub outer_store : (i j : Counts) (e : SlateDBError) → IsStoreFault i.store j.store e → IsCounted i j e
+outer_store i j e (inl m) = outer_memory i j e m
+outer_store i j e (inr f) = subst (IsCounted i j) (sym f.0) f.1
+
+pub outer_transform : (i j : Counts) (e : SlateDBError) → IsTransformFault i.transformer j.transformer e → IsCounted i j e
+outer_transform i j e (inl m) = outer_memory i j e m
+outer_transform i j e (inr f) = subst (IsCounted i j) (sym f.0) f.1
+
+here : (act : Act) → Contains (act ∷ []) act
+here act = (0, omega arith, refl)
+
+-- the section of a block is refused
+pub section_refused : (a b : Reach) (h : SsTableHandle) (entries : List (ℕ × List ℕ)) (block : ℕ) (order : IterationOrder) (e : SlateDBError) →
+    b.objects ≡ a.objects → b.meaning ≡ a.meaning → block < length entries →
+    (b.acts ≡ a.acts) ⊎ Reads a.objects a.acts b.acts (path_in h) (start_of h entries block) (size_of h entries block) (λ _. Unit {0}) →
+    IsStoreFault a.faults.store b.faults.store e ⊎ IsTransformFault a.faults.transformer b.faults.transformer e ⊎ Reads a.objects a.acts b.acts (path_in h) (start_of h entries block) (size_of h entries block) (λ answer. RefusesBlock a.meaning.decode answer e) →
+    Made a b (λ reads. IsFault a b e ⊎ (IsDamage e × RefusesSome a.meaning h entries order reads e))
+unfolding RefusesWalk
+section_refused a b h entries block order e same meaning within once (inl f) =
+    let c = call_once a b (path_in h) (start_of h entries block) (size_of h entries block) same meaning once in
+    (c.0, c.1, inl (outer_store a.faults b.faults e f))
+section_refused a b h entries block order e same meaning within once (inr (inl f)) =
+    let c = call_once a b (path_in h) (start_of h entries block) (size_of h entries block) same meaning once in
+    (c.0, c.1, inl (outer_transform a.faults b.faults e f))
+section_refused a b h entries block order e same meaning within once (inr (inr r)) =
+    let c = call_of a b (path_in h) (start_of h entries block) (size_of h entries block) (λ answer. RefusesBlock a.meaning.decode answer e) same meaning r in
+    let act = Act.read (path_in h) (start_of h entries block) (size_of h entries block) c.0 in
+    (act ∷ [], c.1, inr (block_refusal a.meaning.decode (whole_answer (size_of h entries block) c.0) e c.2, (block, c.0, within, here act, inl c.2)))
+
+-- the block is, or one of its rows
+pub rows_refused : (a b : Reach) (h : SsTableHandle) (entries : List (ℕ × List ℕ)) (block : ℕ) (order : IterationOrder) (found : Block) (e : SlateDBError) →
+    b.objects ≡ a.objects → b.meaning ≡ a.meaning → block < length entries → EachIsAByte found.body →
+    Reads a.objects a.acts b.acts (path_in h) (start_of h entries block) (size_of h entries block) (λ answer. IsBlockRead a.meaning.decode answer found) →
+    (e ≡ OutOfMemory) ⊎ (IsDamage e × RefusesRows h.format_version order found e) →
+    Made a b (λ reads. IsFault a b e ⊎ (IsDamage e × RefusesSome a.meaning h entries order reads e))
+unfolding RefusesWalk
+rows_refused a b h entries block order found e same meaning within bytes r why =
+    (act ∷ [], c.1, by why)
+  where
+    c : (given : Option (List ℕ)) × IsCall a b (Act.read (path_in h) (start_of h entries block) (size_of h entries block) given ∷ []) × IsBlockRead a.meaning.decode (whole_answer (size_of h entries block) given) found
+    c = call_of a b (path_in h) (start_of h entries block) (size_of h entries block) (λ answer. IsBlockRead a.meaning.decode answer found) same meaning r
+
+    act : Act
+    act = Act.read (path_in h) (start_of h entries block) (size_of h entries block) c.0
+
+    by : (e ≡ OutOfMemory) ⊎ (IsDamage e × RefusesRows h.format_version order found e) → IsFault a b e ⊎ (IsDamage e × RefusesSome a.meaning h entries order (act ∷ []) e)
+    by (inl m) = inl (outer_memory a.faults b.faults e m)
+    by (inr d) = inr (d.0, (block, c.0, within, here act, inr (found, bytes, c.2, d.1)))
+
+-- the block is walked
+pub block_opened : (a b : Reach) (h : SsTableHandle) (entries : List (ℕ × List ℕ)) (block : ℕ) (order : IterationOrder) (found : Block) (it : ReadsLeft) →
+    b.objects ≡ a.objects → b.meaning ≡ a.meaning → EachIsAByte found.body →
+    Reads a.objects a.acts b.acts (path_in h) (start_of h entries block) (size_of h entries block) (λ answer. IsBlockRead a.meaning.decode answer found) → Walks h.format_version order found it →
+    Made a b (λ reads. IsOpened a.meaning h entries block order reads it)
+unfolding IsOpened IsWalkRead
+block_opened a b h entries block order found it same meaning bytes r walks =
+    let c = call_of a b (path_in h) (start_of h entries block) (size_of h entries block) (λ answer. IsBlockRead a.meaning.decode answer found) same meaning r in
+    (Act.read (path_in h) (start_of h entries block) (size_of h entries block) c.0 ∷ [], c.1, (c.0, refl, (found, bytes, c.2, walks)))
+
+-- ---- the index
+
+pub index_opened : (a b : Reach) (h : SsTableHandle) (entries : List (ℕ × List ℕ)) → b.objects ≡ a.objects → b.meaning ≡ a.meaning →
+    Reads a.objects a.acts b.acts (path_in h) h.info.index_offset h.info.index_len (λ answer. IsIndexRead a.meaning.decode h.info.filter_offset answer entries) →
+    Made a b (λ reads. IsIndexed a.meaning h reads entries)
+unfolding IsIndexed
+index_opened a b h entries same meaning r =
+    let c = call_of a b (path_in h) h.info.index_offset h.info.index_len (λ answer. IsIndexRead a.meaning.decode h.info.filter_offset answer entries) same meaning r in
+    (Act.read (path_in h) h.info.index_offset h.info.index_len c.0 ∷ [], c.1, (c.0, refl, c.2))
+
+pub index_refused : (a b : Reach) (h : SsTableHandle) (e : SlateDBError) → b.objects ≡ a.objects → b.meaning ≡ a.meaning →
+    IsStoreFault a.faults.store b.faults.store e
+    ⊎ Reads a.objects a.acts b.acts (path_in h) h.info.index_offset h.info.index_len (λ answer. FailsDecoding a.faults.transformer b.faults.transformer answer e)
+    ⊎ Reads a.objects a.acts b.acts (path_in h) h.info.index_offset h.info.index_len (λ answer. RefusesIndex a.meaning.decode h.info.filter_offset answer e) →
+    (b.acts ≡ a.acts) ⊎ Reads a.objects a.acts b.acts (path_in h) h.info.index_offset h.info.index_len (λ _. Unit {0}) →
+    Made a b (λ reads. IsFault a b e ⊎ (IsDamage e × RefusesIndexed a.meaning h reads e))
+index_refused a b h e same meaning (inl f) once =
+    let c = call_once a b (path_in h) h.info.index_offset h.info.index_len same meaning once in
+    (c.0, c.1, inl (outer_store a.faults b.faults e f))
+index_refused a b h e same meaning (inr (inl f)) once =
+    let c = call_once a b (path_in h) h.info.index_offset h.info.index_len same meaning once in
+    (c.0, c.1, inl (outer_transform a.faults b.faults e (inr (f.2.0, f.2.1))))
+index_refused a b h e same meaning (inr (inr r)) once =
+    let c = call_of a b (path_in h) h.info.index_offset h.info.index_len (λ answer. RefusesIndex a.meaning.decode h.info.filter_offset answer e) same meaning r in
+    let act = Act.read (path_in h) h.info.index_offset h.info.index_len c.0 in
+    (act ∷ [], c.1, inr (index_refusal a.meaning.decode h.info.filter_offset (whole_answer h.info.index_len c.0) e c.2, (c.0, here act, c.2)))
+
+pub index_read_only : {X : Type 0} (r : Result X SlateDBError) (a b : Reach) (path : List ℕ) (start size : ℕ) (means : X → Option (List ℕ) → Type 0) → b.objects ≡ a.objects → b.meaning ≡ a.meaning →
+    IfOk r (λ x. Reads a.objects a.acts b.acts path start size (means x)) → OnErr r ((b.acts ≡ a.acts) ⊎ Reads a.objects a.acts b.acts path start size (λ _. Unit {0})) → IsLater a.faults b.faults → b.store ≡ a.store → OnlyReads a b
+index_read_only (Ok x) a b path start size means same meaning found once later store = let c = call_of a b path start size (means x) same meaning found in only_reads a b (Act.read path start size c.0 ∷ []) c.1 later store
+index_read_only (Err e) a b path start size means same meaning found once later store = let c = call_once a b path start size same meaning once in only_reads a b c.0 c.1 later store

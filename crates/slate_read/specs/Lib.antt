@@ -1,0 +1,4 @@
+pub mod Filtering
+pub mod TableWalk
+pub mod WalkLaws
+pub mod RangeRows

@@ -1,0 +1,87 @@
+//! The rows of a stored table, as an iterator.
+ghost use Rattle.slate_read.specs.TableWalk.{bound_in, IsSoundWalk, no_words, refuses_in, rest_of};
+ghost use Rattle.slate_read.specs.WalkLaws.{refuses_more, refuses_whole};
+
+use crate::table_state::{TableState, TableWalk};
+use crate::table_walk::{copy_of, open_index};
+use slate_store::{Env, Store};
+use slate_types::{BlockTransformer, MergeOperator, RowEntry, RowEntryIterator, SlateDBError};
+use std::alloc::Global;
+
+impl<S: Store, M: MergeOperator, T: BlockTransformer> RowEntryIterator<Env<'_, S, M, T>>
+    for TableWalk {
+    ghost rest = { rest_of };
+
+    ghost sound = { IsSoundWalk };
+
+    ghost order = { λ it. it.order };
+
+    ghost bound = { λ it. bound_in it.state };
+
+    ghost refuses = { λ it p reads at e. refuses_in it.state it.table it.order p reads at e };
+
+    ghost begins = { λ _ _ _ _. Unit {0} };
+
+    ghost takes = { no_words };
+
+    ghost seeks = { λ _ _ _ _ _. Unit {0} };
+
+    ghost stays = { λ _ _ _ _ _ _. Unit {0} };
+
+    ghost rising = { λ _ _ h. h.rising };
+
+    ghost more = { λ it p done reads at e h. refuses_more it.state it.table it.order p done reads at e h };
+
+    ghost whole = { λ it w reads at e h k r. refuses_whole it.range it.table it.order it.state w reads at e h k r };
+
+    #[tactic(auto, using(slate_types::proofs::Reaching::reads_none))]
+    fn init(&mut self, alloc: Global, env: &mut Env<'_, S, M, T>) -> Result<(), SlateDBError> {
+        match &self.state {
+            TableState::New => {}
+            TableState::Walking(_) => return Ok(()),
+            TableState::Refused(error) => return Err(copy_of(error)),
+        }
+        match open_index(alloc, env, &self.table) {
+            Ok(index) => {
+                self.begin(index);
+                Ok(())
+            }
+            Err(error) => Err(self.refuse(error)),
+        }
+    }
+
+    #[tactic(auto, using(slate_types::proofs::Reaching::reads_none))]
+    fn next(
+        &mut self,
+        alloc: Global,
+        env: &mut Env<'_, S, M, T>,
+    ) -> Result<Option<RowEntry>, SlateDBError> {
+        let answer = match &mut self.state {
+            TableState::New => return Err(SlateDBError::IteratorNotInitialized),
+            TableState::Refused(error) => return Err(copy_of(error)),
+            TableState::Walking(cursor) => cursor.advance(alloc, env, &self.table, self.order),
+        };
+        match answer {
+            Ok(row) => Ok(row),
+            Err(error) => Err(self.refuse(error)),
+        }
+    }
+
+    #[tactic(auto, using(slate_types::proofs::Reaching::reads_none))]
+    fn seek(
+        &mut self,
+        alloc: Global,
+        key: &[u8],
+        env: &mut Env<'_, S, M, T>,
+    ) -> Result<(), SlateDBError> {
+        let answer = match &mut self.state {
+            TableState::New => return Err(SlateDBError::IteratorNotInitialized),
+            TableState::Refused(error) => return Err(copy_of(error)),
+            TableState::Walking(cursor) => cursor.seek(alloc, env, &self.table, self.order, key),
+        };
+        match answer {
+            Ok(()) => Ok(()),
+            Err(error) => Err(self.refuse(error)),
+        }
+    }
+}
