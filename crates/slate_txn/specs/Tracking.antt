@@ -8,20 +8,12 @@ use Rattle.slate_types.specs.declared.types.KeyValue.{KeyValue}
 use Rattle.slate_types.specs.declared.bytes_range.BytesRange.{BytesRange}
 use Rattle.slate_types.specs.declared.iter.IterationOrder.{IterationOrder}
 use Rattle.slate_types.specs.Keys.{among, in_range}
+use Rattle.slate_txn.specs.declared.reading.Part.{Part}
+use Rattle.slate_txn.specs.declared.reading.Part.TheVariants.{Nothing, UpTo, ToEnd}
+use Rattle.slate_txn.specs.declared.reading.Scanned.{Scanned}
 use Rattle.slate_txn.specs.declared.event.TranscriptStep.{TranscriptStep}
 use Rattle.slate_txn.specs.declared.event.TranscriptStep.TheVariants.{Get, Scan, Next, Seek, View, Own}
 use Rattle.slate_txn.specs.Reads.{comes_before}
-
--- how far a scan has read: nothing, up to a key in its order, or to the end
-pub data Part : Type 0 where
-  Nothing : Part
-  UpTo : List ℕ → Part
-  ToEnd : Part
-
-pub record Scanned : Type 0 where
-  pub order : IterationOrder
-  pub range : BytesRange
-  pub part : Part
 
 pub record Reading : Type 0 where
   pub keys : List (List ℕ)
@@ -77,3 +69,7 @@ tracks s k = tracks_range s k
 
 abbrev pub is_read : Reading → List ℕ → Bool
 is_read rs k = among k rs.keys || list_any (λ s. tracks s k) rs.scans || list_any (λ range. in_range range k) rs.views
+
+-- the same where each scan tracks what it read
+abbrev pub is_read_part : Reading → List ℕ → Bool
+is_read_part rs k = among k rs.keys || list_any (λ s. tracks_part s k) rs.scans || list_any (λ range. in_range range k) rs.views
