@@ -1,7 +1,7 @@
 -- Filters of lawful policies deny no query that a row of their table matches.
 use Rattle.std.proofs.Common.{◌≡◌, ℕ, Bool, true, false, cond, ◌||◌, ltb, List, [], ◌∷◌, length, map, filter_map, Option, Some, None, inl, inr, refl, sym, ap, subst, ◌∙◌}
 use Rattle.std.specs.Prelude.{bytes_eq, Contains, IfSome}
-use Rattle.std.specs.List.{list_any, AllByRecursion, cons_option}
+use Rattle.std.specs.List.{AllByRecursion, cons_option}
 use Rattle.std.proofs.lemmas.Bool.{false≢true}
 use Rattle.std.proofs.lemmas.Slice.Eq.{bytes_eq-Decides}
 use Rattle.slate_types.specs.declared.types.RowEntry.{RowEntry}
@@ -9,14 +9,16 @@ use Rattle.slate_types.specs.declared.filter_policy.FilterQuery.{FilterQuery}
 use Rattle.slate_types.specs.Keys.{among}
 use Rattle.slate_filter.proofs.BloomLaws.{Has}
 use Rattle.slate_filter.specs.Laws.{AreDistinct}
-use Rattle.slate_filter.specs.Policy.{Policy, IsLawfulPolicy, IsOf, named, denies, filters_of, is_denied_by, is_denied}
+use Rattle.slate_filter.proofs.AskingLaws.{denied}
+use Rattle.slate_filter.specs.Asking.{also, asked_by, asked}
+use Rattle.slate_filter.specs.Policy.{Policy, IsLawfulPolicy, IsOf, named, filters_of, is_denied}
 
-none_denies : (ps : List Policy) (query : FilterQuery) (name bytes : List ℕ) → AllByRecursion (λ (q : Policy). bytes_eq q.name name ≡ true → q.answers bytes query ≡ Some true) ps → is_denied_by ps query (name, bytes) ≡ false
-none_denies [] query name bytes h = refl
-none_denies (p ∷ ps) query name bytes h = by (bytes_eq p.name name) refl (none_denies ps query name bytes h.1)
+asked_one : (ps : List Policy) (query : FilterQuery) (name bytes : List ℕ) → AllByRecursion (λ (q : Policy). bytes_eq q.name name ≡ true → q.answers bytes query ≡ Some true) ps → asked_by ps query (name, bytes) ≡ Some true
+asked_one [] query name bytes h = refl
+asked_one (p ∷ ps) query name bytes h = by (bytes_eq p.name name) refl (asked_one ps query name bytes h.1)
   where
-    by : (t : Bool) → bytes_eq p.name name ≡ t → is_denied_by ps query (name, bytes) ≡ false → (cond t (denies (p.answers bytes query)) false || is_denied_by ps query (name, bytes)) ≡ false
-    by true e rest = let yes = h.0 e in λ i. denies (yes i) || rest i
+    by : (t : Bool) → bytes_eq p.name name ≡ t → asked_by ps query (name, bytes) ≡ Some true → also (cond t (p.answers bytes query) (Some true)) (asked_by ps query (name, bytes)) ≡ Some true
+    by true e rest = ap (λ (o : Option Bool). also o (asked_by ps query (name, bytes))) (h.0 e) ∙ rest
     by false e rest = rest
 
 name_of : Policy → List ℕ
@@ -58,27 +60,33 @@ all_has P [] p f h = absurd h
 all_has P (q ∷ ps) p f (inl e) = subst P e f.0
 all_has P (q ∷ ps) p f (inr h) = all_has P ps p f.1 h
 
-none_denied : (all ps : List Policy) (query : FilterQuery) (rows : List RowEntry) → ((p : Policy) → Has ps p → Has all p) → AreDistinct (map name_of all) →
+all_asked : (all ps : List Policy) (query : FilterQuery) (rows : List RowEntry) → ((p : Policy) → Has ps p → Has all p) → AreDistinct (map name_of all) →
     ((p : Policy) → Has all p → IfSome (p.builds rows) (λ bytes. p.answers bytes query ≡ Some true)) →
-    list_any (λ f. is_denied_by all query f) (filter_map (λ (p : Policy). named p.name (p.builds rows)) ps) ≡ false
+    asked all (filter_map (λ (p : Policy). named p.name (p.builds rows)) ps) query ≡ Some true
 unfolding Has
-none_denied all [] query rows within d ans = refl
-none_denied all (p ∷ ps) query rows within d ans =
-    by (p.builds rows) (ans p (within p (inl refl))) (none_denied all ps query rows (λ q h. within q (inr h)) d ans)
+all_asked all [] query rows within d ans = refl
+all_asked all (p ∷ ps) query rows within d ans =
+    by (p.builds rows) (ans p (within p (inl refl))) (all_asked all ps query rows (λ q h. within q (inr h)) d ans)
   where
-    by : (o : Option (List ℕ)) → IfSome o (λ bytes. p.answers bytes query ≡ Some true) → list_any (λ f. is_denied_by all query f) (filter_map (λ (q : Policy). named q.name (q.builds rows)) ps) ≡ false →
-        list_any (λ f. is_denied_by all query f) (cons_option (named p.name o) (filter_map (λ (q : Policy). named q.name (q.builds rows)) ps)) ≡ false
+    by : (o : Option (List ℕ)) → IfSome o (λ bytes. p.answers bytes query ≡ Some true) → asked all (filter_map (λ (q : Policy). named q.name (q.builds rows)) ps) query ≡ Some true →
+        asked all (cons_option (named p.name o) (filter_map (λ (q : Policy). named q.name (q.builds rows)) ps)) query ≡ Some true
     by None a rest = rest
     by (Some bytes) a rest =
-        let mine = none_denies all query p.name bytes (for_each all (λ q k e. ap (λ (y : Policy). y.answers bytes query) (one_of_name all p q d (within p (inl refl)) k e) ∙ a)) in
-        λ i. mine i || rest i
+        let mine = asked_one all query p.name bytes (for_each all (λ q k e. ap (λ (y : Policy). y.answers bytes query) (one_of_name all p q d (within p (inl refl)) k e) ∙ a)) in
+        ap (λ (o : Option Bool). also o (asked all (filter_map (λ (q : Policy). named q.name (q.builds rows)) ps) query)) mine ∙ rest
+
+pub all_let_through : (policies : List Policy) → AreDistinct (map (λ (p : Policy). p.name) policies) → AllByRecursion (λ (p : Policy). IsLawfulPolicy p.builds p.answers) policies →
+    (min : ℕ) (rows : List RowEntry) (row : RowEntry) (query : FilterQuery) → Contains rows row → IsOf query.target row.key → asked policies (filters_of policies min rows) query ≡ Some true
+unfolding name_of
+all_let_through policies d lawful min rows row query c m = by (ltb (length rows) min)
+  where
+    by : (t : Bool) → asked policies (cond t [] (filter_map (λ (p : Policy). named p.name (p.builds rows)) policies)) query ≡ Some true
+    by true = refl
+    by false = all_asked policies policies query rows (λ p h. h) d
+        (λ p h. (all_has (λ (q : Policy). IsLawfulPolicy q.builds q.answers) policies p lawful h).keeps rows row query c m)
 
 pub nothing_denied : (policies : List Policy) → AreDistinct (map (λ (p : Policy). p.name) policies) → AllByRecursion (λ (p : Policy). IsLawfulPolicy p.builds p.answers) policies →
     (min : ℕ) (rows : List RowEntry) (row : RowEntry) (query : FilterQuery) → Contains rows row → IsOf query.target row.key → is_denied policies (filters_of policies min rows) query ≡ false
-unfolding name_of
-nothing_denied policies d lawful min rows row query c m = by (ltb (length rows) min)
-  where
-    by : (t : Bool) → is_denied policies (cond t [] (filter_map (λ (p : Policy). named p.name (p.builds rows)) policies)) query ≡ false
-    by true = refl
-    by false = none_denied policies policies query rows (λ p h. h) d
-        (λ p h. (all_has (λ (q : Policy). IsLawfulPolicy q.builds q.answers) policies p lawful h).keeps rows row query c m)
+nothing_denied policies d lawful min rows row query c m =
+    let told = denied policies (filters_of policies min rows) query in
+    rw (all_let_through policies d lawful min rows row query c m) at told

@@ -2,12 +2,7 @@
 --     filter_hash bytes      the hash, a number below 2 ^ 64
 use Rattle.std.specs.Prelude.{ℕ, ◌+◌, ◌*◌, ◌%◌, ◌^◌, bit_xor, List, [], ◌∷◌, length}
 use Rattle.std.specs.Int.{w64, rotate_left}
-
-pub record Sip : Type 0 where
-  pub v0 : ℕ
-  pub v1 : ℕ
-  pub v2 : ℕ
-  pub v3 : ℕ
+use Rattle.slate_filter.specs.declared.hash.Sip.{Sip}
 
 abbrev pub plus64 : ℕ → ℕ → ℕ
 plus64 a b = (a + b) % 2 ^ 64

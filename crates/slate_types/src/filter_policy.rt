@@ -17,6 +17,19 @@ pub enum PrefixTarget {
     Prefix(Bytes),
 }
 
+impl PrefixTarget {
+    ghost use Rattle.slate_types.specs.Lawful.{target_bytes};
+
+    /// The key, or the prefix.
+    pub fn as_bytes(&self) -> &[u8]
+        ensures { result.now ≡ target_bytes self.now }
+    {
+        match self {
+            Self::Point(bytes) | Self::Prefix(bytes) => bytes.as_slice(),
+        }
+    }
+}
+
 /// A question to a filter.
 #[derive(Drop)]
 pub struct FilterQuery {

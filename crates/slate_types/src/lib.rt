@@ -12,6 +12,7 @@ pub mod iter;
 pub mod laws;
 pub mod merge_operator;
 pub mod partitioned_keyspace;
+pub mod prefix_extractor;
 pub mod rows_iterator;
 pub mod sequenced_key;
 pub mod types;
@@ -33,6 +34,7 @@ pub use partitioned_keyspace::{
     first_partition_including_or_after_key, last_partition_including_key, partition_point,
     partitions_covering_range,
 };
+pub use prefix_extractor::PrefixExtractor;
 pub use rows_iterator::RowsIterator;
 pub use sequenced_key::SequencedKey;
 pub use types::{KeyValue, RowEntry, Ulid, ValueDeletable};
