@@ -8,12 +8,12 @@ use Rattle.slate_types.specs.declared.bytes_range.BytesRange.{BytesRange}
 use Rattle.slate_types.specs.Keys.{key_cmp, key_lt, key_le, among, in_range, common_range}
 use Rattle.slate_types.proofs.KeyOrder.{turned-key}
 use Rattle.slate_types.proofs.RangeLaws.{common-is-both, no-common-key}
-use Rattle.slate_txn.specs.Conflict.{greatest}
-use Rattle.slate_txn.specs.HandedOver.{AreKeysOf, Grown, SameKeys, TakesIn, HandsOver, conflict_part}
+use Rattle.slate_txn.specs.Conflict.{greatest, conflict_of}
+use Rattle.slate_txn.specs.HandedOver.{AreKeysOf, Grown, SameKeys, TakesIn, HandsOver}
 use Rattle.slate_txn.specs.Managers.{Active, Manager, StandsFor, reading_of, conflict_among}
 use Rattle.slate_txn.specs.Named.{find_named, without, update_named}
 use Rattle.slate_txn.specs.State.{Commit}
-use Rattle.slate_txn.specs.Tracking.{Reading, tracks_part, is_read, is_read_part}
+use Rattle.slate_txn.specs.Tracking.{Reading, tracks, is_read}
 use Rattle.slate_txn.proofs.Standing.{Actives}
 
 -- ---- the part of a scan
@@ -146,15 +146,15 @@ four false false false false = refl
 
 pub handed_all : (n : ℕ) (ws ms : List (List ℕ)) (rs : Reading) (a b : Option Active) →
     SameKeys (Some (record { start = n; writes = ws; reads = ms ++ rs.keys; ranges = [] })) a → TakesIn (λ k. list_any (λ r. in_range r k) rs.views) (Some (record { start = n; writes = ws; reads = ms ++ rs.keys; ranges = [] })) a →
-    SameKeys a b → TakesIn (λ k. list_any (λ s. tracks_part s k) rs.scans) a b → HandsOver n ws ms rs b
+    SameKeys a b → TakesIn (λ k. list_any (λ s. tracks s k) rs.scans) a b → HandsOver n ws ms rs b
 handed_all n ws ms rs None b s t u v = absurd s
 handed_all n ws ms rs (Some x) None s t u v = absurd u
 handed_all n ws ms rs (Some x) (Some y) s t u v = (
   u.0 ∙ s.0,
   u.1 ∙ s.1,
   λ k.
-      (let keys = ap (among k) (u.2 ∙ s.2) ∙ list_any-append (λ j. bytes_eq j k) ms rs.keys in let ranges = v k ∙ ap (λ b. b || list_any (λ z. tracks_part z k) rs.scans) (t k) in λ i. (keys i || false) || ranges i)
-      ∙ four (among k ms) (among k rs.keys) (list_any (λ r. in_range r k) rs.views) (list_any (λ z. tracks_part z k) rs.scans),
+      (let keys = ap (among k) (u.2 ∙ s.2) ∙ list_any-append (λ j. bytes_eq j k) ms rs.keys in let ranges = v k ∙ ap (λ b. b || list_any (λ z. tracks z k) rs.scans) (t k) in λ i. (keys i || false) || ranges i)
+      ∙ four (among k ms) (among k rs.keys) (list_any (λ r. in_range r k) rs.views) (list_any (λ z. tracks z k) rs.scans),
 )
 
 -- ---- what a conflict makes of it
@@ -167,18 +167,18 @@ filter-same : {X : Type 0} (p q : X → Bool) → ((x : X) → p x ≡ q x) → 
 filter-same p q h [] = refl
 filter-same p q h (x ∷ xs) = let r = filter-same p q h xs in λ i. cond (h x i) (x ∷ r i) (r i)
 
-pub conflict_handed : (cs : List Commit) (n : ℕ) (ws ms : List (List ℕ)) (rs : Reading) (o : Option Active) → HandsOver n ws ms rs o → conflict_among cs o ≡ conflict_part cs n (ws ++ ms) rs
+pub conflict_handed : (cs : List Commit) (n : ℕ) (ws ms : List (List ℕ)) (rs : Reading) (o : Option Active) → HandsOver n ws ms rs o → conflict_among cs o ≡ conflict_of cs n (ws ++ ms) rs
 conflict_handed cs n ws ms rs None h = absurd h
 conflict_handed cs n ws ms rs (Some t) h =
     ap (λ ds. greatest (map (λ (c : Commit). c.seq) ds))
-    (filter-same (λ (c : Commit). ltb t.start c.seq && list_any (λ k. among k t.writes || is_read (reading_of t) k) c.tracked) (λ (c : Commit). ltb n c.seq && list_any (λ k. among k (ws ++ ms) || is_read_part rs k) c.tracked)
-    (λ c. let start = h.0 in let keys = list_any-same (λ k. among k t.writes || is_read (reading_of t) k) (λ k. among k (ws ++ ms) || is_read_part rs k) each c.tracked in λ i. ltb (start i) c.seq && keys i) cs)
+    (filter-same (λ (c : Commit). ltb t.start c.seq && list_any (λ k. among k t.writes || is_read (reading_of t) k) c.tracked) (λ (c : Commit). ltb n c.seq && list_any (λ k. among k (ws ++ ms) || is_read rs k) c.tracked)
+    (λ c. let start = h.0 in let keys = list_any-same (λ k. among k t.writes || is_read (reading_of t) k) (λ k. among k (ws ++ ms) || is_read rs k) each c.tracked in λ i. ltb (start i) c.seq && keys i) cs)
   where
-    each : (k : List ℕ) → (among k t.writes || is_read (reading_of t) k) ≡ (among k (ws ++ ms) || is_read_part rs k)
+    each : (k : List ℕ) → (among k t.writes || is_read (reading_of t) k) ≡ (among k (ws ++ ms) || is_read rs k)
     each k =
         (let w = h.1 in let r = h.2 k in λ i. among k (w i) || r i)
-        ∙ sym (or-assoc (among k ws) (among k ms) (is_read_part rs k))
-        ∙ ap (λ b. b || is_read_part rs k) (sym (list_any-append (λ j. bytes_eq j k) ws ms))
+        ∙ sym (or-assoc (among k ws) (among k ms) (is_read rs k))
+        ∙ ap (λ b. b || is_read rs k) (sym (list_any-append (λ j. bytes_eq j k) ws ms))
 
 pub grown_refl : (id : List ℕ) (a : Manager) → Grown id a a
 grown_refl id a = record { others = refl; apart = refl; stands = λ cs h. h }

@@ -93,7 +93,7 @@ find-bare name (p ∷ ps) = by (bytes_eq p.0 name) (find-bare name ps)
     by true later = refl
     by false later = later
 
-found-bare : (name : List ℕ) (s : State) (t : Tx) → find_named name s.txns ≡ Some t → find_named name (bare_txns s.txns) ≡ Some (bare t)
+pub found-bare : (name : List ℕ) (s : State) (t : Tx) → find_named name s.txns ≡ Some t → find_named name (bare_txns s.txns) ≡ Some (bare t)
 found-bare name s t e = find-bare name s.txns ∙ ap (option_map bare) e
 
 is-found : {X : Type 0} (o : Option X) (x : X) → o ≡ Some x → IsSome o

@@ -17,7 +17,7 @@ counts-same : (n : ℕ) (cs : List Commit) → Counts n cs → Counts n (cs ++ [
 counts-same n [] h = tt
 counts-same n (x ∷ xs) h = (h.0, counts-same x.seq xs h.1)
 
-apply-counts : (n0 : ℕ) (s : State) (used : List (List ℕ)) (e : Event) → Counts n0 s.commits → Allowed n0 s used e → Counts n0 (apply s e).commits
+pub apply-counts : (n0 : ℕ) (s : State) (used : List (List ℕ)) (e : Event) → Counts n0 s.commits → Allowed n0 s used e → Counts n0 (apply s e).commits
 apply-counts n0 s used (events.Begin id level start) h a = h
 apply-counts n0 s used (events.End id) h a = h
 apply-counts n0 s used (events.Commit id None now os tracked ts) h a = counts-same n0 s.commits h

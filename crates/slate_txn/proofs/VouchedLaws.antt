@@ -42,10 +42,10 @@ all-map P Q (p ∷ ps) g hs = (g p.1 hs.0, all-map P Q ps g hs.1)
 
 -- ---- one transaction
 
-record IsFine (r : Rules) (cs : List Commit) (t : Tx) : Type 0 where
-  begins : t.begin ≤ last_of r.start_seq cs
-  same : t.ops ≡ own_of t.transcript
-  vouched : IsVouched r cs t
+pub record IsFine (r : Rules) (cs : List Commit) (t : Tx) : Type 0 where
+  pub begins : t.begin ≤ last_of r.start_seq cs
+  pub same : t.ops ≡ own_of t.transcript
+  pub vouched : IsVouched r cs t
 
 more-alone : (r : Rules) (cs : List Commit) (t : Tx) (more : List TranscriptStep) → IsFine r cs t → AloneFrom r cs t.begin t.ops (scans_left r cs t.begin t.transcript) more → AloneFrom r cs t.begin [] [] (t.transcript ++ more)
 more-alone r cs t more h a = alone-more r cs t.begin [] [] t.transcript more h.vouched (subst (λ (os : Ops). AloneFrom r cs t.begin os (scans_left r cs t.begin t.transcript) more) h.same a)
@@ -86,10 +86,10 @@ fine-commit r cs c t e h = record {
 
 -- ---- all of a state
 
-abbrev AreFine : Rules → State → Type 0
+abbrev pub AreFine : Rules → State → Type 0
 AreFine r s = AllByRecursion (λ p. IsFine r s.commits p.1) s.txns
 
-fine : (r : Rules) → Keeps r (AreFine r)
+pub fine : (r : Rules) → Keeps r (AreFine r)
 fine r = record {
   moment = λ s m h. h;
   flush = λ s h. h;

@@ -2,18 +2,16 @@
 --     AreKeysOf f o      the keys that pass a test are those of a range, or none
 --     Grown id old new      a manager tracks more of the open transaction, and nothing else is changed
 --     HandsOver n ws ms rs o      the transaction that began at n tracks these writes, and its marked keys and reads
---     conflict_part cs n ks rs      the greatest sequence above n of a commit that tracks one of the keys, or one that is read, where scans track what they read
-use Rattle.std.specs.Prelude.{◌≡◌, ℕ, Bool, false, ◌&&◌, ◌||◌, nat_lt, List, map, filter, Option, Some, None}
+use Rattle.std.specs.Prelude.{◌≡◌, ℕ, Bool, false, ◌||◌, List, Option, Some, None}
 use Rattle.std.specs.List.{list_any}
 use Rattle.slate_types.specs.declared.bytes_range.BytesRange.{BytesRange}
 use Rattle.slate_types.specs.declared.error.SlateDBError.{SlateDBError}
 use Rattle.slate_types.specs.declared.error.SlateDBError.TheVariants.{TransactionConflict}
 use Rattle.slate_types.specs.Keys.{among, in_range}
-use Rattle.slate_txn.specs.Conflict.{greatest}
 use Rattle.slate_txn.specs.Managers.{Active, Manager, StandsFor, reading_of}
 use Rattle.slate_txn.specs.Named.{without}
 use Rattle.slate_txn.specs.State.{Commit}
-use Rattle.slate_txn.specs.Tracking.{Reading, is_read, is_read_part}
+use Rattle.slate_txn.specs.Tracking.{Reading, is_read}
 
 abbrev pub AreKeysOf : (List ℕ → Bool) → Option BytesRange → Type 0
 AreKeysOf f None = (k : List ℕ) → f k ≡ false
@@ -42,10 +40,7 @@ TakesIn f (Some t) (Some u) = (k : List ℕ) → list_any (λ r. in_range r k) u
 
 abbrev pub HandsOver : ℕ → List (List ℕ) → List (List ℕ) → Reading → Option Active → Type 0
 HandsOver n ws ms rs None = ⊥
-HandsOver n ws ms rs (Some t) = (t.start ≡ n) × (t.writes ≡ ws) × ((k : List ℕ) → is_read (reading_of t) k ≡ (among k ms || is_read_part rs k))
-
-abbrev pub conflict_part : List Commit → ℕ → List (List ℕ) → Reading → Option ℕ
-conflict_part cs n ks rs = greatest (map (λ c. c.seq) (filter (λ c. nat_lt n c.seq && list_any (λ k. among k ks || is_read_part rs k) c.tracked) cs))
+HandsOver n ws ms rs (Some t) = (t.start ≡ n) × (t.writes ≡ ws) × ((k : List ℕ) → is_read (reading_of t) k ≡ (among k ms || is_read rs k))
 
 -- the refusal shows it
 abbrev pub IsConflict : Option ℕ → SlateDBError → Type 0

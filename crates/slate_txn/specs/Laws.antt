@@ -4,11 +4,13 @@
 --     StaysAlone, AloneGoesOn, EachIsVouched      of transcripts
 --     StorageIsSilent, GoesOn, WritesWhatIsKept      of replies
 --     SequencesCount, CommitsAreMade, EachNameOnce, FindsEach      of states that lines and legal journals make
---     EventsReplay, EventsAreLegal      of the events of lines
+--     EventsReplay, EventsAreLegal, EventsAreVouched      of the events of lines
+--     StandsAtItsPlace, EachStandsAtItsPlace      of the commits of legal journals
 --     NoOperatorIsLawful      of what stands where no operator is set
-use Rattle.std.specs.Prelude.{◌≡◌, ℕ, ◌+◌, ◌≤◌, ◌<◌, Bool, true, false, not, if◌then◌else◌, filter, map, length, List, [], ◌∷◌, ◌++◌, Option, Some, None}
+use Rattle.std.specs.Prelude.{◌≡◌, ℕ, ◌+◌, ◌≤◌, ◌<◌, Bool, true, false, not, if◌then◌else◌, filter, map, length, List, [], ◌∷◌, ◌++◌, Option, Some, None, ℤ}
 use Rattle.std.specs.List.{AllByRecursion, list_any}
 use Rattle.slate_types.specs.declared.bytes_range.BytesRange.{BytesRange}
+use Rattle.slate_types.specs.declared.config.IsolationLevel.TheVariants.{SerializableSnapshot}
 use Rattle.slate_types.specs.declared.iter.IterationOrder.{IterationOrder}
 use Rattle.slate_types.specs.declared.types.Ulid.{Ulid}
 use Rattle.slate_types.specs.Fold.{IsShort}
@@ -16,12 +18,13 @@ use Rattle.slate_mem.specs.Batch.{Ops, kept_ops}
 use Rattle.slate_txn.specs.declared.line.Line.{Line}
 use Rattle.slate_txn.specs.declared.line.Line.TheVariants as lines
 use Rattle.slate_txn.specs.declared.event.Event.{Event}
+use Rattle.slate_txn.specs.declared.event.Event.TheVariants as events
 use Rattle.slate_txn.specs.declared.event.TranscriptStep.{TranscriptStep}
 use Rattle.slate_txn.specs.Named.{find_named}
-use Rattle.slate_txn.specs.State.{Rules, Commit, Tx, State, opening, operator_at, NamesStandOnce}
+use Rattle.slate_txn.specs.State.{Rules, Commit, Tx, State, opening, last, operator_at, NamesStandOnce}
 use Rattle.slate_txn.specs.Reads.{state_at, seen, rows_seen}
 use Rattle.slate_txn.specs.Conflict.{conflict, conflict_of}
-use Rattle.slate_txn.specs.Tracking.{Reading}
+use Rattle.slate_txn.specs.Tracking.{Reading, reads_of}
 use Rattle.slate_mem.specs.Refusals.{first_refusal, op_refusal}
 use Rattle.slate_mem.specs.BatchModel.{is_merge_op}
 use Rattle.slate_txn.specs.Reply.{Reply}
@@ -29,6 +32,7 @@ use Rattle.slate_txn.specs.Step.{step, answers, after, write}
 use Rattle.slate_txn.specs.Replay.{apply_all, replay, IsLegal, NewIds, AreKept, AreKeysOf}
 use Rattle.slate_txn.specs.Events.{as_replayed, line_events, all_events}
 use Rattle.slate_txn.specs.Alone.{IsAlone, IsVouched, AloneFrom, own_of, scans_left}
+use Rattle.slate_txn.specs.Vouched.{VouchedAt, AreVouched, TracksReads, AreAlone}
 
 -- Where nothing was committed since it began, a transaction has no conflict.
 abbrev pub ConflictsNeedACommit : Type 0
@@ -102,6 +106,10 @@ EventsReplay = (r : Rules) (tables : List (Ulid × List ℕ)) →
 abbrev pub EventsAreLegal : Type 0
 EventsAreLegal = (r : Rules) (tables : List (Ulid × List ℕ)) (ls : List Line) → NewIds [] (all_events r tables opening ls) → IsLegal r.start_seq (all_events r tables opening ls)
 
+-- Each commit's transcript is answered as it is at its transaction's begin.
+abbrev pub EventsAreVouched : Type 0
+EventsAreVouched = (r : Rules) (tables : List (Ulid × List ℕ)) (ls : List Line) → AreVouched r (all_events r tables opening ls)
+
 -- A transaction that conflicts by none of more keys conflicts by none of fewer.
 abbrev pub FewerKeysFewerConflicts : Type 0
 FewerKeysFewerConflicts = (cs : List Commit) (begin : ℕ) (keys more : List (List ℕ)) (read : Reading) → conflict_of cs begin (keys ++ more) read ≡ None → conflict_of cs begin keys read ≡ None
@@ -136,3 +144,16 @@ NoOperatorIsLawful = (k : List ℕ) →
     ((v : List ℕ) → operator_at None k None v ≡ v)
     × ((u v w : List ℕ) → operator_at None k (Some (operator_at None k (Some u) v)) w ≡ operator_at None k (Some u) (operator_at None k (Some v) w))
     × ((u : Option (List ℕ)) (v : List ℕ) → IsShort v → IsShort (operator_at None k u v))
+
+-- Serializable at its place. In a legal journal take a commit of a serializable transaction, whose transcript was answered as it is at its begin.
+-- Where each commit since then tracks what it wrote of the keys that this one read, all answers are those of a reader who begins just
+-- before the commit: whole rows, with their sequences and stamps.
+abbrev pub StandsAtItsPlace : Type 0
+StandsAtItsPlace = (r : Rules) (before later : List Event) (id : List ℕ) (n : Option ℕ) (now : ℤ) (ops : Ops) (tracked : List (List ℕ)) (ts : List TranscriptStep) (t : Tx) →
+    IsLegal r.start_seq (before ++ (events.Commit id n now ops tracked ts ∷ later)) → VouchedAt r (replay before) (events.Commit id n now ops tracked ts) →
+    find_named id (replay before).txns ≡ Some t → t.level ≡ SerializableSnapshot → TracksReads (replay before).commits t.begin (reads_of ts) →
+    IsAlone r (replay before).commits (last r (replay before)) ts
+
+-- So it is with each commit of a legal journal whose transcripts are all answered as they are at their begins.
+abbrev pub EachStandsAtItsPlace : Type 0
+EachStandsAtItsPlace = (r : Rules) (es : List Event) → IsLegal r.start_seq es → AreVouched r es → AreAlone r es

@@ -1,7 +1,8 @@
 -- What a transcript reads.
 --     reads_of ts      the keys, scans and ranges of views, from a transcript
 --     is_read rs k      the reads take in the key
--- A scan tracks its whole range (`tracks_range`). Where scans are to track what they read, `tracks` is `tracks_part`.
+--     tracks s k      the part of a scan that was read takes in the key: all of its range once it reported its end, and before that what its order doesn't put
+--                     after the farthest of the rows handed out and the keys sought
 use Rattle.std.specs.Prelude.{ℕ, zero, suc, Bool, true, false, not, ◌&&◌, ◌||◌, if◌then◌else◌, List, [], ◌∷◌, ◌++◌, Option, Some, None}
 use Rattle.std.specs.List.{list_any}
 use Rattle.slate_types.specs.declared.types.KeyValue.{KeyValue}
@@ -53,23 +54,13 @@ nothing_read = record { keys = []; scans = []; views = [] }
 abbrev pub reads_of : List TranscriptStep → Reading
 reads_of ts = with_steps nothing_read ts
 
-abbrev pub tracks_range : Scanned → List ℕ → Bool
-tracks_range s k = in_range s.range k
-
 abbrev pub is_within : IterationOrder → Part → List ℕ → Bool
 is_within order Nothing k = false
 is_within order (UpTo j) k = not (comes_before order j k)
 is_within order ToEnd k = true
 
-abbrev pub tracks_part : Scanned → List ℕ → Bool
-tracks_part s k = in_range s.range k && is_within s.order s.part k
-
 abbrev pub tracks : Scanned → List ℕ → Bool
-tracks s k = tracks_range s k
+tracks s k = in_range s.range k && is_within s.order s.part k
 
 abbrev pub is_read : Reading → List ℕ → Bool
 is_read rs k = among k rs.keys || list_any (λ s. tracks s k) rs.scans || list_any (λ range. in_range range k) rs.views
-
--- the same where each scan tracks what it read
-abbrev pub is_read_part : Reading → List ℕ → Bool
-is_read_part rs k = among k rs.keys || list_any (λ s. tracks_part s k) rs.scans || list_any (λ range. in_range range k) rs.views

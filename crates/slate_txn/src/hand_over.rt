@@ -3,11 +3,12 @@ ghost use Rattle.std.specs.Prelude.{◌≡◌, ◌⊎◌, ◌&&◌, ◌||◌, �
 ghost use Rattle.std.specs.List.{list_any};
 ghost use Rattle.slate_types.specs.declared.error.SlateDBError.{SlateDBError};
 ghost use Rattle.slate_types.specs.Keys.{in_range};
-ghost use Rattle.slate_txn.specs.HandedOver.{Grown, SameKeys, TakesIn, HandsOver, IsConflict, conflict_part};
+ghost use Rattle.slate_txn.specs.HandedOver.{Grown, SameKeys, TakesIn, HandsOver, IsConflict};
+ghost use Rattle.slate_txn.specs.Conflict.{conflict_of};
 ghost use Rattle.slate_txn.specs.Managers.{StandsFor, untracked};
 ghost use Rattle.slate_txn.specs.Named.{find_named};
 ghost use Rattle.slate_txn.specs.State.{Commit};
-ghost use Rattle.slate_txn.specs.Tracking.{tracks_part};
+ghost use Rattle.slate_txn.specs.Tracking.{tracks};
 
 use crate::reading::{Reading, Scanned};
 use crate::transaction_manager::TransactionManager;
@@ -27,8 +28,8 @@ pub fn test_conflict(
 ) -> Result<(), SlateDBError>
     ensures grown { Grown id.now manager.old manager.new }
     ensures handed { (n : ℕ) → find_named id.now manager.old.active ≡ Some (untracked n) → OnOk result (HandsOver n writes.items marked.items reading (find_named id.now manager.new.active)) }
-    ensures free { (cs : List Commit) (n : ℕ) → StandsFor manager.old cs → find_named id.now manager.old.active ≡ Some (untracked n) → OnOk result (conflict_part cs n (writes.items ++ marked.items) reading ≡ None) }
-    ensures met { (cs : List Commit) (n : ℕ) → StandsFor manager.old cs → find_named id.now manager.old.active ≡ Some (untracked n) → IfErr result (λ e. (e ≡ SlateDBError.OutOfMemory) ⊎ IsConflict (conflict_part cs n (writes.items ++ marked.items) reading) e) }
+    ensures free { (cs : List Commit) (n : ℕ) → StandsFor manager.old cs → find_named id.now manager.old.active ≡ Some (untracked n) → OnOk result (conflict_of cs n (writes.items ++ marked.items) reading ≡ None) }
+    ensures met { (cs : List Commit) (n : ℕ) → StandsFor manager.old cs → find_named id.now manager.old.active ≡ Some (untracked n) → IfErr result (λ e. (e ≡ SlateDBError.OutOfMemory) ⊎ IsConflict (conflict_of cs n (writes.items ++ marked.items) reading) e) }
 {
     hand_over(manager, id, writes, marked, reading)?;
     match manager.check_has_conflict(id) {
@@ -82,7 +83,7 @@ fn track_scans(
 ) -> Result<(), SlateDBError>
     ensures grown { Grown id.now manager.old manager.new }
     ensures same { OnOk result (SameKeys (find_named id.now manager.old.active) (find_named id.now manager.new.active)) }
-    ensures takes { OnOk result (TakesIn (λ k. list_any (λ s. tracks_part s k) scans.now) (find_named id.now manager.old.active) (find_named id.now manager.new.active)) }
+    ensures takes { OnOk result (TakesIn (λ k. list_any (λ s. tracks s k) scans.now) (find_named id.now manager.old.active) (find_named id.now manager.new.active)) }
     ensures cause { IsOkUnless result SlateDBError.OutOfMemory }
 {
     for scan in scans {
@@ -99,7 +100,7 @@ fn track_scan(
 ) -> Result<(), SlateDBError>
     ensures grown { Grown id.now manager.old manager.new }
     ensures same { OnOk result (SameKeys (find_named id.now manager.old.active) (find_named id.now manager.new.active)) }
-    ensures takes { OnOk result (TakesIn (tracks_part scan.now) (find_named id.now manager.old.active) (find_named id.now manager.new.active)) }
+    ensures takes { OnOk result (TakesIn (tracks scan.now) (find_named id.now manager.old.active) (find_named id.now manager.new.active)) }
     ensures cause { IsOkUnless result SlateDBError.OutOfMemory }
 {
     match scan.tracked()? {

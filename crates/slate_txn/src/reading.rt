@@ -4,7 +4,7 @@ ghost use Rattle.slate_types.specs.declared.error.SlateDBError.{SlateDBError};
 ghost use Rattle.slate_txn.specs.Reads.{comes_before};
 ghost use Rattle.slate_types.specs.Keys.{in_range};
 ghost use Rattle.slate_txn.specs.HandedOver.{AreKeysOf};
-ghost use Rattle.slate_txn.specs.Tracking.{tracks_part};
+ghost use Rattle.slate_txn.specs.Tracking.{tracks};
 
 use bytes::Bytes;
 use slate_types::{BytesRange, IterationOrder, SlateDBError};
@@ -34,7 +34,7 @@ pub struct Scanned {
 impl Scanned {
     /// The keys that the scan has read, which are those of a range, or none.
     pub fn tracked(&self) -> Result<Option<BytesRange>, SlateDBError>
-        ensures keys { IfOk result (AreKeysOf (tracks_part self.now)) }
+        ensures keys { IfOk result (AreKeysOf (tracks self.now)) }
         ensures cause { IsOkUnless result SlateDBError.OutOfMemory }
     {
         match &self.part {

@@ -6,7 +6,7 @@ use Rattle.slate_txn.specs.declared.reading.Scanned.{Scanned}
 use Rattle.slate_txn.specs.HandedOver.{SameKeys, TakesIn, HandsOver}
 use Rattle.slate_txn.specs.Managers.{Active}
 use Rattle.slate_txn.specs.Named.{find_named}
-use Rattle.slate_txn.specs.Tracking.{Reading, tracks_part}
+use Rattle.slate_txn.specs.Tracking.{Reading, tracks}
 use Rattle.slate_txn.proofs.HandOver.{grown_trans, grown_of, found_of, handed_all}
 use Rattle.slate_txn.proofs.hand_over.hand_over.Goals as goal
 
@@ -95,5 +95,5 @@ returns-clause-handed c n e =
     (subst (λ (o : Option Active). SameKeys o (find_named id m4.active)) f c.in_ok-track_views.ensures.same)
     (subst (λ (o : Option Active). TakesIn (λ k. list_any (λ r. in_range r k) c.reading.inside.views.items) o (find_named id m4.active)) f c.in_ok-track_views.ensures.takes)
     same
-    (subst (λ (xs : List Scanned). TakesIn (λ k. list_any (λ s. tracks_part s k) xs) (find_named id m4.active) (find_named id m5.active)) c.as_slice.ensures.value takes)))
+    (subst (λ (xs : List Scanned). TakesIn (λ k. list_any (λ s. tracks s k) xs) (find_named id m4.active) (find_named id m5.active)) c.as_slice.ensures.value takes)))
     c.track_scans.ensures.same c.track_scans.ensures.takes

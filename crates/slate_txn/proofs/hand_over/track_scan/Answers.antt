@@ -2,7 +2,7 @@ use Rattle.std.proofs.Common.{◌++◌, ◌∷◌, [], Option, subst}
 use Rattle.slate_types.specs.declared.bytes_range.BytesRange.{BytesRange}
 use Rattle.slate_txn.specs.HandedOver.{AreKeysOf}
 use Rattle.slate_txn.specs.Managers.{Active}
-use Rattle.slate_txn.specs.Tracking.{tracks_part}
+use Rattle.slate_txn.specs.Tracking.{tracks}
 use Rattle.slate_txn.proofs.NamedLaws.{on_ok}
 use Rattle.slate_txn.proofs.HandOver.{grown_of, same_after, takes_after}
 use Rattle.slate_txn.proofs.hand_over.track_scan.Goals as goal
@@ -19,5 +19,5 @@ returns-in-Some-clause-same c =
 pub returns-in-Some-clause-takes : goal.returns-in-Some-clause-takes
 returns-in-Some-clause-takes c =
     on_ok c.track_read_range.result
-    (λ e. takes_after c.in-Some.range (tracks_part c.args.scan.now) (subst (λ (o : Option BytesRange). AreKeysOf (tracks_part c.args.scan.now) o) c.in-Some.is c.in_ok-range.ensures.keys) c.args.id.now c.args.manager.now c.track_read_range.new.self e)
+    (λ e. takes_after c.in-Some.range (tracks c.args.scan.now) (subst (λ (o : Option BytesRange). AreKeysOf (tracks c.args.scan.now) o) c.in-Some.is c.in_ok-range.ensures.keys) c.args.id.now c.args.manager.now c.track_read_range.new.self e)
     c.track_read_range.ensures.tracked

@@ -2,7 +2,7 @@ use Rattle.std.proofs.Common.{◌≡◌, ◌∷◌, ◌+◌, drop, ap, refl, sym
 use Rattle.std.specs.List.{list_any}
 use Rattle.std.proofs.lemmas.List.{drop_all}
 use Rattle.slate_txn.specs.Named.{find_named}
-use Rattle.slate_txn.specs.Tracking.{tracks_part}
+use Rattle.slate_txn.specs.Tracking.{tracks}
 use Rattle.slate_txn.proofs.HandOver.{grown_refl, grown_trans, same_refl, same_trans, rest_start, rest_turn, rest_end}
 use Rattle.slate_txn.proofs.hand_over.track_scans.Goals as goal
 
@@ -10,7 +10,7 @@ pub loop-scan-init : goal.loop-scan-init
 loop-scan-init c = record {
   grown = grown_refl c.args.id.now c.args.manager.now;
   same = same_refl (find_named c.args.id.now c.args.manager.now.active);
-  rest = rest_start (λ s k. tracks_part s k) c.args.scans.now c.args.scans.now refl (find_named c.args.id.now c.args.manager.now.active);
+  rest = rest_start (λ s k. tracks s k) c.args.scans.now c.args.scans.now refl (find_named c.args.id.now c.args.manager.now.active);
 }
 
 pub loop-scan-preserved : goal.loop-scan-preserved
@@ -26,8 +26,8 @@ loop-scan-preserved c =
     record {
       grown = grown_trans id c.args.manager.now before after was.grown c.track_scan.ensures.grown;
       same = same_trans (find_named id c.args.manager.now.active) (find_named id before.active) (find_named id after.active) was.same c.in_ok-track_scan.ensures.same;
-      rest = rest_turn (λ k. list_any (λ s. tracks_part s k) c.args.scans.now) (λ k. list_any (λ s. tracks_part s k) (drop i c.args.scans.now)) (λ k. list_any (λ s. tracks_part s k) (drop (i + 1) c.args.scans.now))
-          (tracks_part scan) (λ k. ap (list_any (λ s. tracks_part s k)) first)
+      rest = rest_turn (λ k. list_any (λ s. tracks s k) c.args.scans.now) (λ k. list_any (λ s. tracks s k) (drop i c.args.scans.now)) (λ k. list_any (λ s. tracks s k) (drop (i + 1) c.args.scans.now))
+          (tracks scan) (λ k. ap (list_any (λ s. tracks s k)) first)
           (find_named id c.args.manager.now.active) (find_named id before.active) (find_named id after.active) was.rest c.in_ok-track_scan.ensures.takes;
     }
 
@@ -37,6 +37,6 @@ returns-in_err-track_scan-clause-grown c =
 
 pub returns-clause-takes : goal.returns-clause-takes
 returns-clause-takes c =
-    rest_end (λ k. list_any (λ s. tracks_part s k) c.args.scans.now) (λ k. list_any (λ s. tracks_part s k) (drop c.loop-scan.scan-index c.args.scans.now))
-    (λ k. ap (list_any (λ s. tracks_part s k)) (drop_all c.loop-scan.scan-index c.args.scans.now c.loop-scan-test.false))
+    rest_end (λ k. list_any (λ s. tracks s k) c.args.scans.now) (λ k. list_any (λ s. tracks s k) (drop c.loop-scan.scan-index c.args.scans.now))
+    (λ k. ap (list_any (λ s. tracks s k)) (drop_all c.loop-scan.scan-index c.args.scans.now c.loop-scan-test.false))
     (find_named c.args.id.now c.args.manager.now.active) (find_named c.args.id.now c.loop-scan.manager.active) c.loop-scan.invariant.rest
