@@ -20,7 +20,6 @@ pub(crate) mod hashing;
 pub(crate) mod holding;
 pub mod laws;
 pub mod named_filter;
-pub mod policies;
 pub mod probes;
 pub mod vectors;
 
