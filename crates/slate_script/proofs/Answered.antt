@@ -6,12 +6,12 @@ use Rattle.std.proofs.lemmas.List.Concat.{flat_map-append}
 use Rattle.slate_txn.specs.declared.line.Line.{Line}
 use Rattle.slate_txn.specs.State.{Rules, State, opening}
 use Rattle.slate_txn.specs.Step.{step, answers, after}
-use Rattle.slate_txn.specs.Parse.{parse, only_if, ◌>>=◌}
-use Rattle.slate_txn.specs.Stage.{is_built, if_built, IsBuiltLine, meaning}
-use Rattle.slate_txn.specs.Replies.{is_silent, onto_meanings, meanings, reply_line, after_lines, replies_from, replies_to}
+use Rattle.slate_language.specs.Parse.{parse, only_if, ◌>>=◌}
+use Rattle.slate_language.specs.Stage.{is_built, if_built, IsBuiltLine, meaning}
+use Rattle.slate_language.specs.Replies.{is_silent, onto_meanings, meanings, reply_line, after_lines, replies_from, replies_to}
 use Rattle.slate_script.specs.Run.{is_line, first_other, AreLines}
-use Rattle.slate_txn.proofs.ParseLaws.{parse-is}
-use Rattle.slate_txn.proofs.ParseOnly.{parse-only}
+use Rattle.slate_language.proofs.ParseLaws.{parse-is}
+use Rattle.slate_language.proofs.ParseOnly.{parse-only}
 
 -- ---- more lines
 

@@ -20,7 +20,7 @@ use Rattle.slate_db.specs.Load.{load, rows_load, weight}
 use Rattle.slate_db.specs.Model.{CoreModel, IsSame}
 use Rattle.slate_db.specs.Whole.{LIMIT}
 use Rattle.slate_db.specs.Written.{IsWritten}
-use Rattle.slate_txn.specs.declared.reply.Answer.{Answer}
+use Rattle.slate_language.specs.declared.reply.Answer.{Answer}
 use Rattle.slate_script.specs.Session.{SessionModel, Grows, IsLimit, line_load}
 use Rattle.slate_script.proofs.SessionNames.{Fresh}
 

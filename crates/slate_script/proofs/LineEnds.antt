@@ -7,10 +7,10 @@ use Rattle.slate_types.specs.Outside.{Objects, Counts, IsCounted}
 use Rattle.slate_txn.specs.declared.line.Line.{Line}
 use Rattle.slate_db.specs.Meaning.{Meaning}
 use Rattle.slate_db.specs.Parts.{IsDamage}
-use Rattle.slate_txn.specs.Replies.{is_silent}
+use Rattle.slate_language.specs.Replies.{is_silent}
 use Rattle.slate_script.specs.Run.{is_line, IsPartError, IsPartCause}
 use Rattle.slate_script.specs.Session.{SessionModel, IsLimit, IsSettled, StoresNothing}
-use Rattle.slate_txn.specs.Stage.{meaning}
+use Rattle.slate_language.specs.Stage.{meaning}
 use Rattle.slate_script.proofs.Running.{not-damage}
 use Rattle.slate_script.proofs.SessionStores.{stays-settled}
 

@@ -10,10 +10,10 @@ use Rattle.slate_mem.specs.declared.WriteOp.TheVariants as ops
 use Rattle.slate_txn.specs.declared.line.Line.{Line}
 use Rattle.slate_txn.specs.declared.line.Line.TheVariants as lines
 use Rattle.slate_db.specs.Load.{op_load, ops_load}
-use Rattle.slate_txn.specs.Grammar.{AreOps, IsBytes, IsLine, IsOp, IsPair, Spells}
+use Rattle.slate_language.specs.Grammar.{AreOps, IsBytes, IsLine, IsOp, IsPair, Spells}
 use Rattle.slate_script.specs.Session.{line_load}
-use Rattle.slate_txn.specs.Stage.{meaning}
-use Rattle.slate_txn.specs.Text.{hex}
+use Rattle.slate_language.specs.Stage.{meaning}
+use Rattle.slate_language.specs.Text.{hex}
 use Rattle.slate_script.proofs.Answered.{built-line}
 
 -- the bytes of the tokens

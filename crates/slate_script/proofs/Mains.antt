@@ -6,12 +6,12 @@ use Rattle.slate_types.specs.Outside.{Objects}
 use Rattle.slate_store.specs.Store.{IsEmpty}
 use Rattle.slate_db.specs.Meaning.{Meaning, IsLawfulMeaning}
 use Rattle.slate_db.specs.Parts.{meaning_of}
-use Rattle.slate_txn.specs.declared.parts.Xor.{Xor}
-use Rattle.slate_txn.specs.declared.words.Settings.{Settings}
-use Rattle.slate_txn.specs.Parts.{xored}
+use Rattle.slate_language.specs.declared.parts.Xor.{Xor}
+use Rattle.slate_language.specs.declared.words.Settings.{Settings}
+use Rattle.slate_language.specs.Parts.{xored}
 use Rattle.slate_script.specs.Program.{parts_of}
 use Rattle.slate_script.specs.Run.{Premises}
-use Rattle.slate_txn.proofs.PartsLaws.{xor-back}
+use Rattle.slate_language.proofs.PartsLaws.{xor-back}
 
 abbrev pub words-mean : {M : Type 0} → (M → List ℕ → Combine) → Option Xor → Meaning
 words-mean combine transformer = meaning_of combine (λ (x : Xor). xored x.mask) (λ (x : Xor). xored x.mask) None transformer

@@ -9,8 +9,8 @@ use Rattle.slate_types.specs.Faults.{Rose}
 use Rattle.slate_store.specs.Lines.{lines_of, whole_part, script_limit, HasNoEnd, LinesModel, IsEnd, KeepsAll}
 use Rattle.slate_store.proofs.LineLaws.{partial_line_is_not_whole}
 use Rattle.slate_txn.specs.State.{Rules, opening}
-use Rattle.slate_txn.specs.Stage.{meaning}
-use Rattle.slate_txn.specs.Replies.{after_lines, replies_from, replies_to, replies, IsWellFormed}
+use Rattle.slate_language.specs.Stage.{meaning}
+use Rattle.slate_language.specs.Replies.{after_lines, replies_from, replies_to, replies, IsWellFormed}
 use Rattle.slate_db.specs.Parts.{IsDamage}
 use Rattle.slate_db.specs.Load.{load, weight}
 use Rattle.slate_script.specs.Session.{SessionModel, IsLimit, IsFull}

@@ -14,13 +14,13 @@ use Rattle.slate_db.specs.Installs.{HoldsTables}
 use Rattle.slate_db.specs.Meaning.{Meaning, rules_of}
 use Rattle.slate_db.specs.Parts.{IsDamage}
 use Rattle.slate_db.specs.Sound.{IsKept}
-use Rattle.slate_txn.specs.declared.reply.Answer.{Answer}
-use Rattle.slate_txn.specs.Answers.{reply_of}
-use Rattle.slate_txn.specs.Replies.{is_silent, onto_meanings, reply_line, after_lines, replies_from}
+use Rattle.slate_language.specs.declared.reply.Answer.{Answer}
+use Rattle.slate_language.specs.Answers.{reply_of}
+use Rattle.slate_language.specs.Replies.{is_silent, onto_meanings, reply_line, after_lines, replies_from}
 use Rattle.slate_script.specs.Run.{run_rules, Premises, is_line}
 use Rattle.slate_script.specs.Session.{SessionModel, StandsFor, AnswersAs, HasTables, IsSettled, IsRunning, has_moment}
-use Rattle.slate_txn.specs.Grammar.{IsLine}
-use Rattle.slate_txn.specs.Stage.{meaning}
+use Rattle.slate_language.specs.Grammar.{IsLine}
+use Rattle.slate_language.specs.Stage.{meaning}
 use Rattle.slate_script.proofs.Answered.{one-reply, built-line}
 
 pub is-settled : {m : Meaning} {r : Rules} {parts : Meaning} {objects : Option Objects} {e : SessionModel} → IsRunning m r parts objects e → IsSettled parts objects e

@@ -11,7 +11,7 @@ use Rattle.slate_db.specs.Model.{CoreModel, IsSame}
 use Rattle.slate_db.specs.Sound.{IsKept}
 use Rattle.slate_db.specs.Written.{IsWritten}
 use Rattle.slate_types.specs.declared.error.SlateDBError.{SlateDBError}
-use Rattle.slate_txn.specs.declared.reply.Answer.{Answer}
+use Rattle.slate_language.specs.declared.reply.Answer.{Answer}
 use Rattle.slate_script.specs.Session.{SessionModel, StoresNothing}
 use Rattle.slate_script.proofs.SessionStores.{none-more}
 

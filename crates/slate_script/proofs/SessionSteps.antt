@@ -30,11 +30,11 @@ use Rattle.slate_txn.specs.Reply.{Reply}
 use Rattle.slate_db.specs.Meaning.{Meaning, rules_of}
 use Rattle.slate_db.specs.Model.{CoreModel, IsSame, at}
 use Rattle.slate_db.specs.Whole.{LIMIT}
-use Rattle.slate_txn.specs.declared.reply.Answer.{Answer}
-use Rattle.slate_txn.specs.declared.reply.Answer.TheVariants as answers
-use Rattle.slate_txn.specs.declared.reply.Refusal.TheVariants as refusals
-use Rattle.slate_txn.specs.Answers.{reply_of}
-use Rattle.slate_txn.specs.Grammar.{is_moment}
+use Rattle.slate_language.specs.declared.reply.Answer.{Answer}
+use Rattle.slate_language.specs.declared.reply.Answer.TheVariants as answers
+use Rattle.slate_language.specs.declared.reply.Refusal.TheVariants as refusals
+use Rattle.slate_language.specs.Answers.{reply_of}
+use Rattle.slate_language.specs.Grammar.{is_moment}
 use Rattle.slate_script.specs.Session.{SessionModel, tx_under, AreNames, StandsFor, IsStep, AnswersAs, IsRefusal}
 use Rattle.slate_script.proofs.NamesLaws.{bytes_eq-is, bytes_eq-refl, find_named-set, find_named-updated, find_named-without, once-set, once-update, once-without}
 use Rattle.slate_script.proofs.SessionNames.{Fresh, other-id}

@@ -10,8 +10,8 @@ use Rattle.std.proofs.Math.Seq.{take-append_seam, take-append-add}
 use Rattle.slate_store.specs.Lines.{lines_of, whole_part, script_limit, HasNoEnd, LinesModel, GivesLine, IsEnd, KeepsAll}
 use Rattle.slate_store.proofs.LineLaws.{taken_line_is_first, whole_lines_join, whole_parts_join, partial_line_is_not_whole, end_makes_whole}
 use Rattle.slate_txn.specs.State.{Rules, State, opening}
-use Rattle.slate_txn.specs.Stage.{meaning}
-use Rattle.slate_txn.specs.Replies.{after_lines, replies_from, replies_to, IsWellFormed}
+use Rattle.slate_language.specs.Stage.{meaning}
+use Rattle.slate_language.specs.Replies.{after_lines, replies_from, replies_to, IsWellFormed}
 use Rattle.slate_script.specs.Session.{SessionModel, StandsFor}
 use Rattle.slate_script.specs.Run.{is_line, first_other, is_too_long, lines_taken, error_of, script_error, AreLines}
 use Rattle.slate_script.proofs.Answered.{lines-more, replies-append, state-append, other-none, none-other, lines-built, built-lines}

@@ -10,7 +10,7 @@ use Rattle.slate_types.specs.declared.error.SlateDBError.TheVariants.{ScriptSynt
 use Rattle.slate_txn.specs.Settings.{settings_of, rules}
 use Rattle.slate_txn.specs.State.{Rules}
 use Rattle.slate_db.specs.Meaning.{Meaning}
-use Rattle.slate_txn.specs.Parts.{xored}
+use Rattle.slate_language.specs.Parts.{xored}
 
 abbrev pub main_rules : Options → Rules
 main_rules o = rules (settings_of o) None None

@@ -21,8 +21,8 @@ use Rattle.slate_txn.specs.Settings.{settings_of}
 use Rattle.slate_txn.specs.State.{Rules}
 use Rattle.slate_db.specs.Meaning.{Meaning, IsLawfulMeaning, rules_of}
 use Rattle.slate_db.specs.Parts.{IsDamage}
-use Rattle.slate_txn.specs.Stage.{meaning}
-use Rattle.slate_txn.specs.Replies.{is_silent, replies_to}
+use Rattle.slate_language.specs.Stage.{meaning}
+use Rattle.slate_language.specs.Replies.{is_silent, replies_to}
 
 abbrev pub run_rules : Options → Meaning → Rules
 run_rules o m = rules_of (settings_of o) m

@@ -37,9 +37,9 @@ use Rattle.slate_db.specs.Meaning.{Meaning, IsLawfulMeaning, rules_of}
 use Rattle.slate_db.specs.Model.{CoreModel, Rows, of_key, versions_in}
 use Rattle.slate_db.specs.Sound.{IsKept, AreTables}
 use Rattle.slate_db.specs.Whole.{AreRising, LIMIT}
-use Rattle.slate_txn.specs.declared.reply.Answer.{Answer}
-use Rattle.slate_txn.specs.Answers.{reply_of}
-use Rattle.slate_txn.specs.Grammar.{is_moment}
+use Rattle.slate_language.specs.declared.reply.Answer.{Answer}
+use Rattle.slate_language.specs.Answers.{reply_of}
+use Rattle.slate_language.specs.Grammar.{is_moment}
 use Rattle.slate_script.specs.StoredState.{IsTableObject}
 
 -- names: rising, each with the id that the core gave

@@ -7,21 +7,19 @@ ghost use Rattle.slate_store.specs.Lines.{lines_of, script_limit};
 ghost use Rattle.slate_store.specs.Store.{IsEmpty};
 ghost use Rattle.slate_txn.specs.State.{opening};
 ghost use Rattle.slate_db.specs.Flushed.{layout_of};
-ghost use Rattle.slate_txn.specs.declared.words.Settings.{Settings};
+ghost use Rattle.slate_language.specs.declared.words.Settings.{Settings};
 ghost use Rattle.slate_script.specs.Program.{main_rules, parts_of, status, IsStatus};
-ghost use Rattle.slate_txn.specs.Replies.{after_lines, replies, replies_to, IsWellFormed};
-ghost use Rattle.slate_txn.specs.Stage.{meaning};
-ghost use Rattle.slate_txn.specs.Words.{read_words};
+ghost use Rattle.slate_language.specs.Replies.{after_lines, replies, replies_to, IsWellFormed};
+ghost use Rattle.slate_language.specs.Stage.{meaning};
+ghost use Rattle.slate_language.specs.Words.{read_words};
 ghost use Rattle.slate_script.specs.Run.{script_error, lines_taken, IsOutside, IsScriptError, HasAnswered, HasAnsweredAll, HasBegun};
 ghost use Rattle.slate_script.specs.StoredState.{IsStoredState};
 ghost use Rattle.slate_script.specs.Told.{IsUntrue};
 
 use crate::run::run_script;
+use slate_language::{Xor, parse_words};
 use slate_store::{Env, Sink, Source, Store};
-use slate_txn::operator::NoOperator;
-use slate_txn::parse_words;
-use slate_txn::parts::Xor;
-use slate_types::SlateDBError;
+use slate_types::{NoOperator, SlateDBError};
 use std::alloc::Global;
 
 /// Runs the script that the source gives over the store, as the words say, and answers the status to end with: 0

@@ -10,18 +10,17 @@ ghost use Rattle.slate_db.specs.Installs.{tables_of};
 ghost use Rattle.slate_db.specs.Load.{load, weight};
 ghost use Rattle.slate_db.specs.Meaning.{Meaning, IsLawfulMeaning};
 ghost use Rattle.slate_db.specs.Parts.{IsDamage};
-ghost use Rattle.slate_txn.specs.Replies.{replies, replies_to, after_lines, replies_from, reply_line, IsWellFormed};
-ghost use Rattle.slate_txn.specs.Answers.{reply_of};
-ghost use Rattle.slate_txn.specs.Stage.{meaning};
+ghost use Rattle.slate_language.specs.Replies.{replies, replies_to, after_lines, replies_from, reply_line, IsWellFormed};
+ghost use Rattle.slate_language.specs.Answers.{reply_of};
+ghost use Rattle.slate_language.specs.Stage.{meaning};
 ghost use Rattle.slate_script.specs.Session.{StandsFor, HasTablesAlone, IsRunning, IsSettled, IsLimit};
 ghost use Rattle.slate_script.specs.Run.{run_rules, Premises, is_line, script_error, lines_taken, IsPartError, IsPartCause, IsOutside, IsScriptError, HasAnswered, HasAnsweredAll, HasBegun};
 ghost use Rattle.slate_script.specs.StoredState.{IsStoredState};
 ghost use Rattle.slate_script.specs.Told.{Follows, IsUntrue};
 
 use crate::session::Session;
+use slate_language::{Answer, parse_line, reply_text};
 use slate_store::{Env, EnvOf, Lines, Sink, Source, Store, write_all};
-use slate_txn::parse_line;
-use slate_txn::reply::{Answer, reply_text};
 use slate_types::{BlockTransformer, MergeOperator, Options, Outside, SlateDBError};
 use std::alloc::Global;
 

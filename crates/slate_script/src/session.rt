@@ -18,18 +18,18 @@ ghost use Rattle.slate_db.specs.Readable.{IsAnswered};
 ghost use Rattle.slate_db.specs.Sound.{IsKept};
 ghost use Rattle.slate_db.specs.StoredState.{StoresState};
 ghost use Rattle.slate_db.specs.Whole.{AreFine};
-ghost use Rattle.slate_txn.specs.Answers.{reply_of};
+ghost use Rattle.slate_language.specs.Answers.{reply_of};
 ghost use Rattle.slate_script.specs.Session.{StandsFor, AnswersAs, HasTablesAlone, Grows, IsSettled, IsSettledIn, IsLimit, IsRefusal, StoresNothing, has_moment};
-ghost use Rattle.slate_txn.specs.Stage.{is_built, is_built_op, is_built_batch};
+ghost use Rattle.slate_language.specs.Stage.{is_built, is_built_op, is_built_batch};
 ghost use Rattle.slate_script.specs.Told.{Follows, IsUntrue};
 
 use bytes::Bytes;
 use slate_db::engine::Core;
+use slate_language::reply::{Answer, Refusal};
 use slate_mem::{WriteBatch, WriteOp};
 use slate_store::{Env, EnvOf, Store};
 use slate_txn::line::Line;
 use slate_txn::list::OpList;
-use slate_txn::reply::{Answer, Refusal};
 use slate_types::{
     BlockTransformer, IsolationLevel, MergeOperator, Options, Outside, ReadOptions, SlateDBError,
 };
@@ -54,7 +54,7 @@ pub struct Session {
 
 impl Model for Session {
     ghost use Rattle.std.specs.Prelude.{IsTrue};
-    ghost use Rattle.slate_txn.specs.Grammar.{is_moment};
+    ghost use Rattle.slate_language.specs.Grammar.{is_moment};
     ghost use Rattle.slate_script.specs.Session.{SessionModel, AreNames};
 
     ghost Value = { SessionModel };

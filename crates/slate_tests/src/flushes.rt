@@ -3,11 +3,10 @@ ghost use Rattle.slate_types.specs.Config.{IsValid};
 
 use crate::listing::one;
 use slate_db::engine::Core;
+use slate_language::Xor;
 use slate_mem::WriteBatch;
 use slate_store::{Env, MemoryStore, Store};
-use slate_txn::operator::NoOperator;
-use slate_txn::parts::Xor;
-use slate_types::{IsolationLevel, Options, ReadOptions, SlateDBError};
+use slate_types::{IsolationLevel, NoOperator, Options, ReadOptions, SlateDBError};
 use std::alloc::Global;
 use uuid::Uuid;
 

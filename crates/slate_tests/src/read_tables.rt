@@ -2,9 +2,9 @@
 use crate::listing::{Row, are_rows, one};
 use crate::tables::TABLE;
 use bytes::Bytes;
+use slate_language::Xor;
 use slate_store::{MemoryStore, Store};
 use slate_table::{SsTableInfo, SstFile, SstIndex, SstReader};
-use slate_txn::parts::Xor;
 use slate_types::{SlateDBError, Ulid};
 use std::alloc::Global;
 

@@ -2,8 +2,8 @@
 use crate::blocks::row;
 use crate::listing::is_bytes;
 use bytes::Bytes;
+use slate_language::Xor;
 use slate_table::{EncodedSsTable, EncodedSsTableBuilder, SsTableFormat};
-use slate_txn::parts::Xor;
 use slate_types::BlockFormat;
 use std::alloc::Global;
 

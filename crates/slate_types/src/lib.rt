@@ -28,7 +28,7 @@ pub use config::{
 pub use error::SlateDBError;
 pub use filter_policy::{FilterContext, FilterQuery, PrefixTarget};
 pub use iter::{IterationOrder, Outside, RowEntryIterator, TrackedRowEntryIterator, collect_rows};
-pub use merge_operator::{MergeOperator, MergeOperatorError};
+pub use merge_operator::{MergeOperator, MergeOperatorError, NoOperator};
 pub use partitioned_keyspace::{
     RangePartitionedKeySpace, first_partition_including_key,
     first_partition_including_or_after_key, last_partition_including_key, partition_point,

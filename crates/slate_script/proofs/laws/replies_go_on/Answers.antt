@@ -2,8 +2,8 @@ use Rattle.std.proofs.Common.{ap, ◌∙◌}
 use Rattle.slate_txn.specs.State.{opening}
 use Rattle.slate_store.specs.Lines.{lines_of}
 use Rattle.slate_store.proofs.LineLaws.{whole_lines_join}
-use Rattle.slate_txn.specs.Stage.{meaning}
-use Rattle.slate_txn.specs.Replies.{replies_to}
+use Rattle.slate_language.specs.Stage.{meaning}
+use Rattle.slate_language.specs.Replies.{replies_to}
 use Rattle.slate_script.proofs.Answered.{replies-append, built-lines}
 use Rattle.slate_script.proofs.laws.replies_go_on.Goals as goal
 

@@ -4,11 +4,11 @@ use Rattle.slate_types.specs.declared.error.SlateDBError.TheVariants.{ReadFault,
 use Rattle.slate_script.specs.Program.{status}
 use Rattle.slate_script.specs.Run.{script_error}
 use Rattle.slate_script.proofs.Statuses.{is-status, is-ended, is-read, is-write, is-store, is-too_long, is-syntax, is-damage, is-part, damage-between, its-own}
-use Rattle.slate_txn.specs.declared.words.Settings.{Settings}
+use Rattle.slate_language.specs.declared.words.Settings.{Settings}
 use Rattle.slate_script.specs.Program.{main_rules, parts_of}
-use Rattle.slate_txn.specs.Replies.{after_lines, replies, replies_to}
+use Rattle.slate_language.specs.Replies.{after_lines, replies, replies_to}
 use Rattle.slate_script.specs.Run.{lines_taken, HasAnswered, HasAnsweredAll, HasBegun}
-use Rattle.slate_txn.specs.Stage.{meaning}
+use Rattle.slate_language.specs.Stage.{meaning}
 use Rattle.slate_script.specs.StoredState.{IsStoredState}
 use Rattle.slate_script.specs.Told.{IsUntrue}
 use Rattle.slate_store.specs.Lines.{lines_of}

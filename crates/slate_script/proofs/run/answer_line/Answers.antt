@@ -4,11 +4,11 @@ use Rattle.slate_db.specs.Flushed.{layout_of}
 use Rattle.slate_db.specs.Installs.{tables_of}
 use Rattle.slate_db.specs.Meaning.{Meaning}
 use Rattle.slate_db.specs.Parts.{meaning_of, counts_of}
-use Rattle.slate_txn.specs.Answers.{reply_of}
-use Rattle.slate_txn.specs.Replies.{replies_from, reply_line}
+use Rattle.slate_language.specs.Answers.{reply_of}
+use Rattle.slate_language.specs.Replies.{replies_from, reply_line}
 use Rattle.slate_script.specs.Run.{IsPartCause}
 use Rattle.slate_script.specs.Session.{HasTablesAlone, line_load, StandsFor}
-use Rattle.slate_txn.specs.Stage.{meaning}
+use Rattle.slate_language.specs.Stage.{meaning}
 use Rattle.slate_script.proofs.Answered.{one-built}
 use Rattle.slate_script.proofs.LineEnds.{parse-error, parse-cause, parse-no-part, parse-no-damage, parse-wrote, session-cause, session-part, session-wrote, writing-cause, writing-no-part, writing-no-damage, error-of, meant-line}
 use Rattle.slate_script.proofs.LineLoads.{line-load}

@@ -2,8 +2,8 @@ use Rattle.std.proofs.Common.{◌≤◌, ◌≡◌, ◌⊎◌, ◌<◌, ◌++◌
 use Rattle.slate_types.specs.declared.error.SlateDBError.{SlateDBError}
 use Rattle.slate_types.specs.declared.error.SlateDBError.TheVariants.{ScriptTooLong, ReadFault, WriteFault, StoreFault, Callback, BlockTransformError}
 use Rattle.slate_txn.specs.State.{opening}
-use Rattle.slate_txn.specs.Stage.{meaning}
-use Rattle.slate_txn.specs.Replies.{after_lines, replies_from, replies_to}
+use Rattle.slate_language.specs.Stage.{meaning}
+use Rattle.slate_language.specs.Replies.{after_lines, replies_from, replies_to}
 use Rattle.slate_db.specs.Parts.{meaning_of, counts_of}
 use Rattle.slate_db.specs.Flushed.{layout_of}
 use Rattle.slate_script.specs.Session.{StandsFor}

@@ -3,8 +3,8 @@ use Rattle.std.proofs.lemmas.Result.{IfErr-at_err, IfErr-weaker, IfOk-from_err, 
 use Rattle.slate_types.specs.Faults.{Rose}
 use Rattle.slate_types.specs.declared.error.SlateDBError.TheVariants.{OutOfMemory, WriteFault}
 use Rattle.slate_types.specs.declared.error.SlateDBError.{SlateDBError}
-use Rattle.slate_txn.specs.Answers.{reply_of}
-use Rattle.slate_txn.specs.Replies.{reply_line}
+use Rattle.slate_language.specs.Answers.{reply_of}
+use Rattle.slate_language.specs.Replies.{reply_line}
 use Rattle.slate_script.proofs.Running.{at-ok}
 use Rattle.slate_script.proofs.run.write_reply.Goals as goal
 

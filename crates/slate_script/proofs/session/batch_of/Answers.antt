@@ -2,7 +2,7 @@ use Rattle.std.proofs.Common.{◌≡◌, true, ◌∷◌, [], List, length, refl
 use Rattle.std.specs.Vec.Iter.{into_iter_items}
 use Rattle.std.proofs.lemmas.Result.{err_from_is_err_and, IfOk-from_err}
 use Rattle.slate_mem.specs.Batch.{Ops}
-use Rattle.slate_txn.specs.Stage.{is_built_batch}
+use Rattle.slate_language.specs.Stage.{is_built_batch}
 use Rattle.slate_script.proofs.SessionBatch.{Batched, batched-none, batched-more, batched-refused, batched-all, fine-all, next-plain, plain-all, or-refused}
 use Rattle.slate_script.proofs.session.batch_of.Goals as goal
 

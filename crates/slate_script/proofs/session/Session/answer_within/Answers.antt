@@ -1,8 +1,8 @@
 use Rattle.std.proofs.Common.{◌≡◌, length, true, ℤ, Ok, OnOk, sym, ap, ◌∙◌, subst, arith}
 use Rattle.slate_txn.specs.declared.line.Line.{Line}
 use Rattle.slate_txn.specs.declared.line.Line.TheVariants as lines
-use Rattle.slate_txn.specs.declared.reply.Answer.TheVariants as answers
-use Rattle.slate_txn.specs.Grammar.{is_moment}
+use Rattle.slate_language.specs.declared.reply.Answer.TheVariants as answers
+use Rattle.slate_language.specs.Grammar.{is_moment}
 use Rattle.slate_db.specs.Installs.{tables_of}
 use Rattle.slate_db.specs.Sound.{IsKept}
 use Rattle.slate_script.specs.Session.{SessionModel, AnswersAs, Grows, has_moment}

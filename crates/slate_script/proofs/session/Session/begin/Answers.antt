@@ -7,8 +7,8 @@ use Rattle.slate_txn.specs.Named.{find_named}
 use Rattle.slate_txn.specs.declared.event.Event.TheVariants as events
 use Rattle.slate_txn.specs.declared.line.Line.TheVariants as lines
 use Rattle.slate_db.specs.Meaning.{rules_of}
-use Rattle.slate_txn.specs.declared.reply.Answer.TheVariants as answers
-use Rattle.slate_txn.specs.declared.reply.Refusal.TheVariants as refusals
+use Rattle.slate_language.specs.declared.reply.Answer.TheVariants as answers
+use Rattle.slate_language.specs.declared.reply.Refusal.TheVariants as refusals
 use Rattle.slate_script.specs.Session.{SessionModel, AreNames, AnswersAs, Grows, StoresNothing}
 use Rattle.slate_script.proofs.NamesLaws.{find_named-lookup, named-after, none-found}
 use Rattle.slate_script.proofs.SessionNames.{opens-fresh, names-begun, names-opened}

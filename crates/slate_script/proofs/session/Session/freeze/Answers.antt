@@ -1,6 +1,6 @@
 use Rattle.std.proofs.Common.{arith, Ok, subst}
 use Rattle.slate_txn.specs.declared.line.Line.TheVariants as lines
-use Rattle.slate_txn.specs.declared.reply.Answer.TheVariants as answers
+use Rattle.slate_language.specs.declared.reply.Answer.TheVariants as answers
 use Rattle.slate_script.specs.Session.{SessionModel, AnswersAs, Grows, StoresNothing}
 use Rattle.slate_script.proofs.SessionSteps.{freeze-as}
 use Rattle.slate_script.proofs.SessionLeaves.{leaves-frozen, stores}

@@ -13,8 +13,8 @@ use Rattle.slate_db.specs.Meaning.{rules_of}
 use Rattle.slate_db.specs.Model.{CoreModel}
 use Rattle.slate_db.specs.Parts.{meaning_of}
 use Rattle.slate_db.specs.Readable.{IsAnswered}
-use Rattle.slate_txn.specs.declared.reply.Answer.TheVariants as answers
-use Rattle.slate_txn.specs.declared.reply.Refusal.TheVariants as refusals
+use Rattle.slate_language.specs.declared.reply.Answer.TheVariants as answers
+use Rattle.slate_language.specs.declared.reply.Refusal.TheVariants as refusals
 use Rattle.slate_script.specs.Session.{SessionModel, AreNames, AnswersAs, Grows, StoresNothing}
 use Rattle.slate_script.proofs.NamesLaws.{find_named-lookup}
 use Rattle.slate_script.proofs.SessionNames.{names-noted}

@@ -4,8 +4,8 @@ use Rattle.slate_db.specs.Load.{ops_load}
 use Rattle.slate_db.specs.Meaning.{rules_of}
 use Rattle.slate_types.specs.declared.error.SlateDBError.{SlateDBError}
 use Rattle.slate_txn.specs.declared.line.Line.TheVariants as lines
-use Rattle.slate_txn.specs.declared.reply.Answer.{Answer}
-use Rattle.slate_txn.specs.declared.reply.Answer.TheVariants as answers
+use Rattle.slate_language.specs.declared.reply.Answer.{Answer}
+use Rattle.slate_language.specs.declared.reply.Answer.TheVariants as answers
 use Rattle.slate_script.specs.Session.{SessionModel, AnswersAs, Grows, IsLimit, StoresNothing}
 use Rattle.slate_script.proofs.SessionSteps.{batch-refused, refused-cause, write-as, commit-refused, at-meaning, at-moment, refused-at-moment, given-moment}
 use Rattle.slate_script.proofs.SessionLeaves.{leaves-written, leaves-same, written-txns, written-flushed, kept-same, stores, stores-where}

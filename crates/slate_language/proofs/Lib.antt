@@ -1,0 +1,10 @@
+pub mod ParseLaws
+pub mod ParseOnly
+pub mod TokenLaws
+pub mod OpLaws
+pub mod BuiltLaws
+pub mod TextLaws
+pub mod PartsLaws
+pub mod JoinLaws
+pub mod WordLaws
+pub mod LongRows

@@ -1,0 +1,314 @@
+-- The operations of a write, read one after the other.
+use Rattle.std.proofs.Common.{◌≡◌, ℕ, zero, suc, ◌+◌, ◌-◌, ◌<◌, ◌≤◌, Bool, true, false, cond, ◌&&◌, List, [], ◌∷◌, ◌++◌, length, take, drop, get_or, Option, Some, None, option_map, is_some, codes, bytes_eq, refl, sym, ap, ◌∙◌, arith, add-one, append_assoc}
+use Rattle.std.specs.Borrow.{Bor}
+use Rattle.std.proofs.lemmas.List.{take-map, drop-map, drop_all, length-drop}
+use Rattle.std.proofs.Math.Seq.{drop-cons}
+use Rattle.slate_mem.specs.declared.WriteOp.TheVariants as ops
+use Rattle.slate_types.specs.declared.config.IsolationLevel.{IsolationLevel}
+use Rattle.slate_types.specs.declared.config.Ttl.{Ttl}
+use Rattle.slate_mem.specs.Batch.{Ops}
+use Rattle.slate_txn.specs.declared.line.Line.TheVariants as lines
+use Rattle.slate_language.specs.Parse.{both, three, only_if, ◌>>=◌, read_bytes, read_name, read_ttl, read_all, OpWord, PutWord, MergeWord, DeleteWord, op_word, op_as, Groups, group_token, grouped, ops_of_groups}
+use Rattle.slate_language.specs.Stage.{is_built_op, is_built_batch}
+use Rattle.slate_language.specs.Built.{texts, is_op_word, Op, built_level, built_begin, built_get, built_rollback, built_put, built_delete, built_op, built_ops, if_batch_built}
+use Rattle.slate_language.proofs.ParseOnly.{same-bytes}
+
+-- ---- the tokens of the first operation
+
+front-take : (ts : List (List ℕ)) → take (length (grouped ts).0) ts ≡ (grouped ts).0
+front-take [] = refl
+front-take (t ∷ ts) = by (op_word t) (front-take ts)
+  where
+    by : (o : Option OpWord) → take (length (grouped ts).0) ts ≡ (grouped ts).0 →
+        take (length (group_token o t (grouped ts)).0) (t ∷ ts) ≡ (group_token o t (grouped ts)).0
+    by None later = ap (λ us. t ∷ us) later
+    by (Some w) later = refl
+
+rest-grouped : (ts : List (List ℕ)) → grouped (drop (length (grouped ts).0) ts) ≡ ([], (grouped ts).1)
+rest-grouped [] = refl
+rest-grouped (t ∷ ts) = by (op_word t) refl (rest-grouped ts)
+  where
+    by : (o : Option OpWord) → op_word t ≡ o → grouped (drop (length (grouped ts).0) ts) ≡ ([], (grouped ts).1) →
+        grouped (drop (length (group_token o t (grouped ts)).0) (t ∷ ts)) ≡ ([], (group_token o t (grouped ts)).1)
+    by None e later = later
+    by (Some w) e later = ap (λ o. group_token o t (grouped ts)) e
+
+pub front-within : (ts : List (List ℕ)) → length (grouped ts).0 ≤ length ts
+front-within [] = omega arith
+front-within (t ∷ ts) = by (op_word t) (front-within ts)
+  where
+    by : (o : Option OpWord) → length (grouped ts).0 ≤ length ts → length (group_token o t (grouped ts)).0 ≤ length (t ∷ ts)
+    by None later = omega (arith, later)
+    by (Some w) later = omega arith
+
+-- ---- one operation, and those behind it
+
+abbrev if_op_built : Op → Option Op
+if_op_built o = only_if (is_built_op o.1) o
+
+batch-step : (a : Option Op) (b : Option Ops) → (both ◌∷◌ a b >>= if_batch_built) ≡ both ◌∷◌ (a >>= if_op_built) (b >>= if_batch_built)
+batch-step None b = refl
+batch-step (Some o) None = by (is_built_op o.1)
+  where
+    by : (p : Bool) → let none : Option Ops = None in none ≡ both ◌∷◌ (only_if p o) None
+    by true = refl
+    by false = refl
+batch-step (Some o) (Some os) = by (is_built_op o.1) (is_built_batch os)
+  where
+    by : (p q : Bool) → only_if (p && q) (o ∷ os) ≡ both ◌∷◌ (only_if p o) (only_if q os)
+    by true true = refl
+    by true false = refl
+    by false true = refl
+    by false false = refl
+
+abbrev put_op : List ℕ → List ℕ → Ttl → Op
+put_op k v ttl = (k, ops.Put v (record { ttl = ttl }))
+
+abbrev merge_op : List ℕ → List ℕ → Ttl → Op
+merge_op k v ttl = (k, ops.Merge v (record { ttl = ttl }))
+
+put-three : (a b : Option (List ℕ)) (c : Option Ttl) → (three put_op a b c >>= if_op_built) ≡ three put_op a b c
+put-three None b c = refl
+put-three (Some k) None c = refl
+put-three (Some k) (Some v) None = refl
+put-three (Some k) (Some v) (Some ttl) = refl
+
+merge-three : (a b : Option (List ℕ)) (c : Option Ttl) → (three merge_op a b c >>= if_op_built) ≡ None
+merge-three None b c = refl
+merge-three (Some k) None c = refl
+merge-three (Some k) (Some v) None = refl
+merge-three (Some k) (Some v) (Some ttl) = refl
+
+put-as : (ts : List (List ℕ)) → (op_as PutWord ts >>= if_op_built) ≡ built_put ts
+put-as [] = refl
+put-as (k ∷ []) = refl
+put-as (k ∷ v ∷ ts) = put-three (read_bytes k) (read_bytes v) (read_ttl ts)
+
+merge-as : (ts : List (List ℕ)) → (op_as MergeWord ts >>= if_op_built) ≡ None
+merge-as [] = refl
+merge-as (k ∷ []) = refl
+merge-as (k ∷ v ∷ ts) = merge-three (read_bytes k) (read_bytes v) (read_ttl ts)
+
+delete-as : (ts : List (List ℕ)) → (op_as DeleteWord ts >>= if_op_built) ≡ built_delete ts
+delete-as [] = refl
+delete-as (k ∷ []) = by (read_bytes k)
+  where
+    by : (o : Option (List ℕ)) → let make : List ℕ → Op = λ key. (key, ops.Delete) in (option_map make o >>= if_op_built) ≡ option_map make o
+    by None = refl
+    by (Some key) = refl
+delete-as (k ∷ t ∷ ts) = refl
+
+abbrev word_by : Bool → Bool → Bool → Option OpWord
+word_by p m d = cond p (Some PutWord) (cond m (Some MergeWord) (only_if d DeleteWord))
+
+op-is : (w : List ℕ) (ts : List (List ℕ)) → (op_word w >>= λ x. op_as x ts >>= if_op_built) ≡ built_op w ts
+op-is w ts = by (bytes_eq w (codes "put")) (bytes_eq w (codes "merge")) refl (bytes_eq w (codes "delete")) refl
+  where
+    by : (p m : Bool) → bytes_eq w (codes "merge") ≡ m → (d : Bool) → bytes_eq w (codes "delete") ≡ d →
+        (word_by p m d >>= λ x. op_as x ts >>= if_op_built) ≡ cond p (built_put ts) (cond d (built_delete ts) None)
+    by true m e d f = put-as ts
+    by false true e true f =
+        let bad : false ≡ true = sym (ap (λ u. bytes_eq u (codes "delete")) (same-bytes w (codes "merge") e)) ∙ f in
+        cc
+    by false true e false f = merge-as ts
+    by false false e true f = delete-as ts
+    by false false e false f = refl
+
+ops-step : (w : List ℕ) (ts : List (List ℕ)) → built_ops (w ∷ ts) ≡ both ◌∷◌ (built_op w (grouped ts).0) (built_ops (drop (length (grouped ts).0) ts))
+ops-step w ts = by (op_word w) ∙ (λ i. both ◌∷◌ (op-is w (grouped ts).0 i) (behind i))
+  where
+    found : Option Ops
+    found = read_all (λ p. op_as p.0 p.1) (grouped ts).1
+
+    behind : (found >>= if_batch_built) ≡ built_ops (drop (length (grouped ts).0) ts)
+    behind = sym (ap (λ g. ops_of_groups g >>= if_batch_built) (rest-grouped ts))
+
+    by : (o : Option OpWord) → (ops_of_groups (group_token o w (grouped ts)) >>= if_batch_built) ≡ both ◌∷◌ (o >>= λ x. op_as x (grouped ts).0 >>= if_op_built) (found >>= if_batch_built)
+    by None = refl
+    by (Some x) = batch-step (op_as x (grouped ts).0) found
+
+-- ---- tokens from a place on
+
+drop-nothing : {A : Type 0} (n : ℕ) → let none : List A = [] in drop n none ≡ none
+drop-nothing zero = refl
+drop-nothing (suc n) = refl
+
+drop-add : {A : Type 0} (i j : ℕ) (l : List A) → drop (i + j) l ≡ drop j (drop i l)
+drop-add zero j l = let same : 0 + j ≡ j = omega arith in ap (λ n. drop n l) same
+drop-add (suc i) j [] = drop-nothing (suc i + j) ∙ sym (drop-nothing j)
+drop-add (suc i) j (x ∷ l) = let more : suc i + j ≡ suc (i + j) = omega arith in ap (λ n. drop n (x ∷ l)) more ∙ drop-add i j l
+
+texts-from : (ts : List (Bor (List ℕ))) (i : ℕ) (d : Bor (List ℕ)) → i < length ts → texts (drop i ts) ≡ (get_or ts i d).now ∷ texts (drop (i + 1) ts)
+texts-from ts i d within = ap texts (drop-cons ts i d within) ∙ ap (λ n. (get_or ts i d).now ∷ texts (drop n ts)) (sym (add-one i))
+
+-- how many tokens of the first operation stand from a place on
+abbrev pub own_from : List (Bor (List ℕ)) → ℕ → ℕ
+own_from ts i = length (grouped (texts (drop i ts))).0
+
+word-some : (t : List ℕ) (g : Groups) → is_op_word t ≡ true → length (group_token (op_word t) t g).0 ≡ 0
+word-some t g h = by (op_word t) h
+  where
+    by : (o : Option OpWord) → is_some o ≡ true → length (group_token o t g).0 ≡ 0
+    by None e = cc
+    by (Some w) e = refl
+
+word-none : (t : List ℕ) (g : Groups) → is_op_word t ≡ false → length (group_token (op_word t) t g).0 ≡ suc (length g.0)
+word-none t g h = by (op_word t) h
+  where
+    by : (o : Option OpWord) → is_some o ≡ false → length (group_token o t g).0 ≡ suc (length g.0)
+    by None e = refl
+    by (Some w) e = cc
+
+pub own-ends : (ts : List (Bor (List ℕ))) (i : ℕ) (d : Bor (List ℕ)) → i < length ts → is_op_word (get_or ts i d).now ≡ true → own_from ts i ≡ 0
+own-ends ts i d within is = ap (λ us. length (grouped us).0) (texts-from ts i d within) ∙ word-some (get_or ts i d).now (grouped (texts (drop (i + 1) ts))) is
+
+pub own-more : (ts : List (Bor (List ℕ))) (i : ℕ) (d : Bor (List ℕ)) → i < length ts → is_op_word (get_or ts i d).now ≡ false → own_from ts i ≡ own_from ts (i + 1) + 1
+own-more ts i d within is =
+    ap (λ us. length (grouped us).0) (texts-from ts i d within)
+    ∙ word-none (get_or ts i d).now (grouped (texts (drop (i + 1) ts))) is ∙ sym (add-one (own_from ts (i + 1)))
+
+-- The operations from a place on are the one there, and those behind its tokens.
+pub ops-more : (ts : List (Bor (List ℕ))) (at n : ℕ) (d : Bor (List ℕ)) → at < length ts → n ≡ own_from ts (at + 1) →
+    built_ops (texts (drop at ts)) ≡ both ◌∷◌ (built_op (get_or ts at d).now (texts (take n (drop (at + 1) ts)))) (built_ops (texts (drop (at + 1 + n) ts)))
+ops-more ts at n d within is =
+    ap built_ops (texts-from ts at d within) ∙ ops-step (get_or ts at d).now us
+    ∙ (λ i. both ◌∷◌ (built_op (get_or ts at d).now (front i)) (built_ops (later i)))
+  where
+    behind : List (Bor (List ℕ))
+    behind = drop (at + 1) ts
+
+    us : List (List ℕ)
+    us = texts behind
+
+    front : (grouped us).0 ≡ texts (take n behind)
+    front = sym (front-take us) ∙ ap (λ k. take k us) (sym is) ∙ take-map (λ t. t.now) n behind
+
+    later : drop (length (grouped us).0) us ≡ texts (drop (at + 1 + n) ts)
+    later = ap (λ k. drop k us) (sym is) ∙ drop-map (λ t. t.now) n behind ∙ ap texts (sym (drop-add (at + 1) n ts))
+
+-- ---- a turn of the loop over them
+
+take-whole : {A : Type 0} (n : ℕ) (l : List A) → length l ≤ n → take n l ≡ l
+take-whole zero [] h = refl
+take-whole zero (x ∷ l) h = absurd (omega (arith, h))
+take-whole (suc n) [] h = refl
+take-whole (suc n) (x ∷ l) h = ap (λ ys. x ∷ ys) (take-whole n l (omega (arith, h)))
+
+behind-all : {A : Type 0} (ts : List A) (i : ℕ) → take (length ts - i) (drop i ts) ≡ drop i ts
+behind-all ts i = let size : length (drop i ts) ≡ length ts - i = length-drop i ts in take-whole (length ts - i) (drop i ts) (omega (arith, size))
+
+pub own-within : {A : Type 0} (ts : List A) (at n : ℕ) → at < length ts → n ≤ length (take (length ts - (at + 1)) (drop (at + 1) ts)) → at + 1 + n ≤ length ts
+own-within ts at n within h =
+    let size : length (take (length ts - (at + 1)) (drop (at + 1) ts)) ≡ length ts - (at + 1) = ap length (behind-all ts (at + 1)) ∙ length-drop (at + 1) ts in
+    omega (arith, size, h)
+
+-- the tokens' operation at a place, as the code names its parts
+abbrev op_at : List (Bor (List ℕ)) → ℕ → ℕ → Bor (List ℕ) → Option Op
+op_at ts at n d = built_op (get_or ts at d).now (texts (take (at + 1 + n - (at + 1)) (drop (at + 1) ts)))
+
+abbrev own_at : List (Bor (List ℕ)) → ℕ → ℕ
+own_at ts at = length (grouped (texts (take (length ts - (at + 1)) (drop (at + 1) ts)))).0
+
+turn : (ts : List (Bor (List ℕ))) (at n : ℕ) (d : Bor (List ℕ)) (o : Option Op) → at < length ts → n ≡ own_at ts at → o ≡ op_at ts at n d →
+    built_ops (texts (drop at ts)) ≡ both ◌∷◌ o (built_ops (texts (drop (at + 1 + n) ts)))
+turn ts at n d o within len is =
+    let own : n ≡ own_from ts (at + 1) = len ∙ ap (λ us. length (grouped (texts us)).0) (behind-all ts (at + 1)) in
+    let count : n ≡ at + 1 + n - (at + 1) = omega arith in
+    ops-more ts at n d within own
+    ∙ ap (λ p. both ◌∷◌ p (built_ops (texts (drop (at + 1 + n) ts)))) (ap (λ k. built_op (get_or ts at d).now (texts (take k (drop (at + 1) ts)))) count ∙ sym is)
+
+pub ops-refused : (ts : List (Bor (List ℕ))) (at n : ℕ) (d : Bor (List ℕ)) (held : Ops) (o : Option Op) → at < length ts →
+    option_map (λ os. held ++ os) (built_ops (texts (drop at ts))) ≡ built_ops (texts ts) → n ≡ own_at ts at → o ≡ op_at ts at n d → o ≡ None → None ≡ built_ops (texts ts)
+ops-refused ts at n d held o within kept len is none =
+    let later = built_ops (texts (drop (at + 1 + n) ts)) in
+    sym (ap (λ p. option_map (λ os. held ++ os) (both ◌∷◌ p later)) none) ∙ ap (λ b. option_map (λ os. held ++ os) b) (sym (turn ts at n d o within len is)) ∙ kept
+
+push-op : (held : Ops) (x : Op) (b : Option Ops) → option_map (λ os. (held ++ (x ∷ [])) ++ os) b ≡ option_map (λ os. held ++ os) (both ◌∷◌ (Some x) b)
+push-op held x None = refl
+push-op held x (Some os) = ap Some (append_assoc held (x ∷ []) os)
+
+pub ops-taken : (ts : List (Bor (List ℕ))) (at n : ℕ) (d : Bor (List ℕ)) (held : Ops) (o : Option Op) (x : Op) → at < length ts →
+    option_map (λ os. held ++ os) (built_ops (texts (drop at ts))) ≡ built_ops (texts ts) → n ≡ own_at ts at → o ≡ op_at ts at n d → o ≡ Some x →
+    option_map (λ os. (held ++ (x ∷ [])) ++ os) (built_ops (texts (drop (at + 1 + n) ts))) ≡ built_ops (texts ts)
+ops-taken ts at n d held o x within kept len is some =
+    let later = built_ops (texts (drop (at + 1 + n) ts)) in
+    push-op held x later ∙ ap (λ p. option_map (λ os. held ++ os) (both ◌∷◌ p later)) (sym some) ∙ ap (λ b. option_map (λ os. held ++ os) b) (sym (turn ts at n d o within len is)) ∙ kept
+
+-- ---- tokens that a pattern takes apart
+
+-- what is made of a pair and a time to live, where both are there
+abbrev pub with_ttl : {A : Type 0} → (List ℕ → List ℕ → Ttl → A) → Option (List ℕ × List ℕ) → Option Ttl → Option A
+with_ttl make p o = p >>= λ q. o >>= λ ttl. Some (make q.0 q.1 ttl)
+
+both-three : {A : Type 0} (make : List ℕ → List ℕ → Ttl → A) (a b : Option (List ℕ)) (o : Option Ttl) → with_ttl make (both (λ k v. (k, v)) a b) o ≡ three make a b o
+both-three make None b o = refl
+both-three make (Some k) None o = refl
+both-three make (Some k) (Some v) o = refl
+
+abbrev put_of : List ℕ → List ℕ → Ttl → Op
+put_of k v ttl = (k, ops.Put v (record { ttl = ttl }))
+
+-- a key, a value, and the tokens behind them
+pub put-read : (ts : List (Bor (List ℕ))) (p : Option (List ℕ × List ℕ)) (o : Option Ttl) → 2 ≤ length ts →
+    p ≡ both (λ k v. (k, v)) (read_bytes (get_or ts 0 (record { ref_ptr = (0, 0); now = [] })).now) (read_bytes (get_or ts 1 (record { ref_ptr = (0, 0); now = [] })).now) →
+    o ≡ read_ttl (texts (take (length ts - 2) (drop 2 ts))) →
+    with_ttl (λ k v ttl. (k, ops.Put v (record { ttl = ttl }))) p o ≡ built_put (texts ts)
+put-read [] p o some e f = absurd (omega (arith, some))
+put-read (t ∷ []) p o some e f = absurd (omega (arith, some))
+put-read (t ∷ u ∷ us) p o some e f =
+    (λ i. with_ttl put_of (e i) ((f ∙ ap (λ vs. read_ttl (texts vs)) (behind-all (t ∷ u ∷ us) 2)) i)) ∙ both-three put_of (read_bytes t.now) (read_bytes u.now) (read_ttl (texts us))
+
+pub put-unread : (ts : List (Bor (List ℕ))) → 2 ≤ length ts → read_ttl (texts (take (length ts - 2) (drop 2 ts))) ≡ None → None ≡ built_put (texts ts)
+put-unread [] some e = refl
+put-unread (t ∷ []) some e = refl
+put-unread (t ∷ u ∷ us) some e =
+    nothing (both (λ k v. (k, v)) (read_bytes t.now) (read_bytes u.now)) ∙ put-read (t ∷ u ∷ us) (both (λ k v. (k, v)) (read_bytes t.now) (read_bytes u.now)) None some refl (sym e)
+  where
+    nothing : (p : Option (List ℕ × List ℕ)) → None ≡ with_ttl put_of p None
+    nothing None = refl
+    nothing (Some q) = refl
+
+-- a name and a key
+pub get-read : (ts : List (Bor (List ℕ))) (p : Option (List ℕ × List ℕ)) → length ts ≡ 2 →
+    p ≡ both (λ n k. (n, k)) (read_name (get_or ts 0 (record { ref_ptr = (0, 0); now = [] })).now) (read_bytes (get_or ts 1 (record { ref_ptr = (0, 0); now = [] })).now) →
+    option_map (λ (q : List ℕ × List ℕ). lines.Get q.0 q.1) p ≡ built_get (texts ts)
+get-read [] p two e = absurd (omega (arith, two))
+get-read (t ∷ []) p two e = absurd (omega (arith, two))
+get-read (t ∷ u ∷ v ∷ us) p two e = absurd (omega (arith, two))
+get-read (t ∷ u ∷ []) p two e = ap (option_map (λ (q : List ℕ × List ℕ). lines.Get q.0 q.1)) e ∙ by (read_name t.now) (read_bytes u.now)
+  where
+    by : (a b : Option (List ℕ)) → option_map (λ (q : List ℕ × List ℕ). lines.Get q.0 q.1) (both (λ n k. (n, k)) a b) ≡ both lines.Get a b
+    by None b = refl
+    by (Some n) None = refl
+    by (Some n) (Some k) = refl
+
+-- a name and a level
+pub begin-read : (ts : List (Bor (List ℕ))) (p : Option (List ℕ)) (o : Option IsolationLevel) → length ts ≡ 2 →
+    p ≡ read_name (get_or ts 0 (record { ref_ptr = (0, 0); now = [] })).now → o ≡ built_level (get_or ts 1 (record { ref_ptr = (0, 0); now = [] })).now →
+    both lines.Begin p o ≡ built_begin (texts ts)
+begin-read [] p o two e f = absurd (omega (arith, two))
+begin-read (t ∷ []) p o two e f = absurd (omega (arith, two))
+begin-read (t ∷ u ∷ v ∷ us) p o two e f = absurd (omega (arith, two))
+begin-read (t ∷ u ∷ []) p o two e f = λ i. both lines.Begin (e i) (f i)
+
+pub begin-unread : (ts : List (Bor (List ℕ))) → length ts ≡ 2 → built_level (get_or ts 1 (record { ref_ptr = (0, 0); now = [] })).now ≡ None → None ≡ built_begin (texts ts)
+begin-unread ts two e =
+    nothing (read_name (get_or ts 0 (record { ref_ptr = (0, 0); now = [] })).now)
+    ∙ begin-read ts (read_name (get_or ts 0 (record { ref_ptr = (0, 0); now = [] })).now) None two refl (sym e)
+  where
+    nothing : (p : Option (List ℕ)) → None ≡ both lines.Begin p None
+    nothing None = refl
+    nothing (Some n) = refl
+
+-- a name, and a key
+pub rollback-read : (ts : List (Bor (List ℕ))) (p : Option (List ℕ)) → length ts ≡ 1 → p ≡ read_name (get_or ts 0 (record { ref_ptr = (0, 0); now = [] })).now →
+    option_map lines.Rollback p ≡ built_rollback (texts ts)
+rollback-read [] p one e = absurd (omega (arith, one))
+rollback-read (t ∷ u ∷ us) p one e = absurd (omega (arith, one))
+rollback-read (t ∷ []) p one e = ap (option_map lines.Rollback) e
+
+pub delete-read : (ts : List (Bor (List ℕ))) (p : Option (List ℕ)) → length ts ≡ 1 → p ≡ read_bytes (get_or ts 0 (record { ref_ptr = (0, 0); now = [] })).now →
+    option_map (λ (key : List ℕ). (key, ops.Delete)) p ≡ built_delete (texts ts)
+delete-read [] p one e = absurd (omega (arith, one))
+delete-read (t ∷ u ∷ us) p one e = absurd (omega (arith, one))
+delete-read (t ∷ []) p one e = ap (option_map (λ (key : List ℕ). (key, ops.Delete))) e

@@ -1,0 +1,131 @@
+-- The options that words set, and that words come in any order.
+use Rattle.std.proofs.Common.{◌≡◌, ℕ, ◌+◌, ◌-◌, ◌<◌, ◌^◌, Bool, true, false, cond, ◌&&◌, not, List, [], ◌∷◌, ◌++◌, length, map, drop, get_or, Option, Some, None, is_some, codes, IsTrue, refl, sym, ap, ◌∙◌, add-one, ltb, leb}
+use Rattle.std.specs.Prelude.{◌↔◌}
+use Rattle.std.specs.List.{list_all}
+use Rattle.std.proofs.Math.Seq.{drop-cons}
+use Rattle.std.proofs.lemmas.Bool.{lt-ltb, le-leb, ltb-true, leb-true}
+use Rattle.slate_types.specs.declared.config.BlockFormat.{BlockFormat}
+use Rattle.slate_types.specs.declared.config.CompressionCodec.{CompressionCodec}
+use Rattle.slate_types.specs.declared.config.Options.{Options}
+use Rattle.slate_types.specs.Config.{IsValid}
+use Rattle.slate_language.specs.Parse.{◌>>=◌, read_number}
+use Rattle.slate_language.specs.Words.{are_valid, at_most_one, behind, if_valid, is_known, only_value, options, read_below, read_format, read_given, read_settings, read_words, value_of, values, with_value}
+
+no-codec : (c : Option CompressionCodec) → not (is_some c) ≡ true → c ≡ None
+no-codec None h = refl
+no-codec (Some c) h = cc
+
+all-parts : (a b c d e f g : Bool) → (a && b && c && d && e && f && g) ≡ true → (a ≡ true) × (b ≡ true) × (c ≡ true) × (d ≡ true) × (e ≡ true) × (f ≡ true) × (g ≡ true)
+all-parts true true true true true true true h = (refl, refl, refl, refl, refl, refl, refl)
+all-parts true true true true true true false h = cc
+all-parts true true true true true false g h = cc
+all-parts true true true true false f g h = cc
+all-parts true true true false e f g h = cc
+all-parts true true false d e f g h = cc
+all-parts true false c d e f g h = cc
+all-parts false b c d e f g h = cc
+
+valid-is : (o : Options) → are_valid o ≡ true → IsValid o
+valid-is o h =
+    let parts = all-parts (ltb 0 o.block_size) (leb o.block_size 65535) (ltb 0 o.table_bytes) (ltb 0 o.max_fetch_tasks) (ltb 0 o.target_bytes_to_fetch) (leb o.start_seq (2 ^ 64 - 2)) (not (is_some o.compression_codec)) h in
+    record {
+      some_block = ltb-true 0 o.block_size parts.0;
+      block = leb-true o.block_size 65535 parts.1;
+      table = ltb-true 0 o.table_bytes parts.2;
+      tasks = ltb-true 0 o.max_fetch_tasks parts.3;
+      fetch = ltb-true 0 o.target_bytes_to_fetch parts.4;
+      start = leb-true o.start_seq (2 ^ 64 - 2) parts.5;
+      codec = no-codec o.compression_codec parts.6;
+    }
+
+is-valid : (o : Options) → IsValid o → are_valid o ≡ true
+is-valid o v =
+    λ i. lt-ltb 0 o.block_size v.some_block i && le-leb o.block_size 65535 v.block i && lt-ltb 0 o.table_bytes v.table i && lt-ltb 0 o.max_fetch_tasks v.tasks i
+    && lt-ltb 0 o.target_bytes_to_fetch v.fetch i && le-leb o.start_seq (2 ^ 64 - 2) v.start i && not (is_some (v.codec i))
+
+-- The test of the options is that of the definition.
+pub test_is : (o : Options) (b : Bool) → (IsTrue b ↔ IsValid o) → b ≡ are_valid o
+test_is o true h = sym (is-valid o (h.0 refl))
+test_is o false h = by (are_valid o) refl
+  where
+    by : (t : Bool) → are_valid o ≡ t → false ≡ t
+    by true e = h.1 (valid-is o e)
+    by false e = refl
+
+-- ---- the order of words
+
+and-swap : (a b c : Bool) → (a && (b && c)) ≡ (b && (a && c))
+and-swap true true c = refl
+and-swap true false c = refl
+and-swap false true c = refl
+and-swap false false c = refl
+
+known-swap : (before after : List (List ℕ)) (v w : List ℕ) → list_all is_known (before ++ (v ∷ w ∷ after)) ≡ list_all is_known (before ++ (w ∷ v ∷ after))
+known-swap [] after v w = and-swap (is_known v) (is_known w) (list_all is_known after)
+known-swap (u ∷ before) after v w = ap (λ b. is_known u && b) (known-swap before after v w)
+
+values-append : (name : List ℕ) (ws us : List (List ℕ)) → values name (ws ++ us) ≡ values name ws ++ values name us
+values-append name [] us = refl
+values-append name (w ∷ ws) us = ap (with_value (behind name w)) (values-append name ws us) ∙ by (behind name w)
+  where
+    by : (o : Option (List ℕ)) → with_value o (values name ws ++ values name us) ≡ with_value o (values name ws) ++ values name us
+    by None = refl
+    by (Some v) = refl
+
+many : (vs us : List (List ℕ)) (x y : List ℕ) → at_most_one (vs ++ (x ∷ y ∷ us)) ≡ None
+many [] us x y = refl
+many (v ∷ []) us x y = refl
+many (v ∷ u ∷ vs) us x y = refl
+
+one-swap : (vs us : List (List ℕ)) (o p : Option (List ℕ)) → at_most_one (vs ++ with_value o (with_value p us)) ≡ at_most_one (vs ++ with_value p (with_value o us))
+one-swap vs us None p = refl
+one-swap vs us (Some x) None = refl
+one-swap vs us (Some x) (Some y) = many vs us x y ∙ sym (many vs us y x)
+
+only-swap : (name : List ℕ) (before after : List (List ℕ)) (v w : List ℕ) → only_value name (before ++ (v ∷ w ∷ after)) ≡ only_value name (before ++ (w ∷ v ∷ after))
+only-swap name before after v w =
+    ap at_most_one (values-append name before (v ∷ w ∷ after))
+    ∙ one-swap (values name before) (values name after) (behind name v) (behind name w)
+    ∙ ap at_most_one (sym (values-append name before (w ∷ v ∷ after)))
+
+settings-swap : (before after : List (List ℕ)) (v w : List ℕ) → read_settings (before ++ (v ∷ w ∷ after)) ≡ read_settings (before ++ (w ∷ v ∷ after))
+settings-swap before after v w = λ i. do
+  block ← swapped (codes "block=") i >>= read_given (read_below (2 ^ 32))
+  format ← swapped (codes "format=") i >>= read_given read_format
+  ttl ← swapped (codes "ttl=") i >>= read_given read_number
+  seq ← swapped (codes "seq=") i >>= read_given read_number
+  mask ← swapped (codes "xor=") i >>= read_given (read_below (2 ^ 8))
+  if_valid (record { options = options block format ttl seq; mask = mask })
+  where
+    swapped : (name : List ℕ) → only_value name (before ++ (v ∷ w ∷ after)) ≡ only_value name (before ++ (w ∷ v ∷ after))
+    swapped name = only-swap name before after v w
+
+-- Two words side by side may change places.
+pub words-any_order : (before after : List (List ℕ)) (v w : List ℕ) → read_words (before ++ (v ∷ w ∷ after)) ≡ read_words (before ++ (w ∷ v ∷ after))
+words-any_order before after v w = λ i. cond (known-swap before after v w i) (settings-swap before after v w i) None
+
+-- ---- the settings of words whose values are known
+
+pub words-read : (ws : List (List ℕ)) {block : Option (Option ℕ)} {format : Option (Option BlockFormat)} {ttl seq mask : Option (Option ℕ)} → list_all is_known ws ≡ true →
+    block ≡ value_of (read_below (2 ^ 32)) (codes "block=") ws → format ≡ value_of read_format (codes "format=") ws → ttl ≡ value_of read_number (codes "ttl=") ws →
+    seq ≡ value_of read_number (codes "seq=") ws → mask ≡ value_of (read_below (2 ^ 8)) (codes "xor=") ws →
+    (block >>= λ b. format >>= λ f. ttl >>= λ t. seq >>= λ s. mask >>= λ m. if_valid (record { options = options b f t s; mask = m })) ≡ read_words ws
+words-read ws known block format ttl seq mask =
+    λ i. cond (sym known i) (block i >>= λ b. format i >>= λ f. ttl i >>= λ t. seq i >>= λ s. mask i >>= λ m. if_valid (record { options = options b f t s; mask = m })) None
+
+-- ---- words read one by one
+
+known-step : {A : Type 0} (text : A → List ℕ) (ws : List A) (i : ℕ) (d : A) → i < length ws → list_all is_known (map text (drop i ws)) ≡ (is_known (text (get_or ws i d)) && list_all is_known (map text (drop (i + 1) ws)))
+known-step text ws i d within =
+    ap (λ us. list_all is_known (map text us)) (drop-cons ws i d within)
+    ∙ ap (λ n. is_known (text (get_or ws i d)) && list_all is_known (map text (drop n ws))) (sym (add-one i))
+
+pub known-ends : {A : Type 0} (text : A → List ℕ) (ws : List A) (i : ℕ) (d : A) → i < length ws → is_known (text (get_or ws i d)) ≡ false → list_all is_known (map text (drop i ws)) ≡ false
+known-ends text ws i d within other = known-step text ws i d within ∙ ap (λ b. b && list_all is_known (map text (drop (i + 1) ws))) other
+
+pub known-more : {A : Type 0} (text : A → List ℕ) (ws : List A) (i : ℕ) (d : A) → i < length ws → is_known (text (get_or ws i d)) ≡ true → list_all is_known (map text (drop i ws)) ≡ list_all is_known (map text (drop (i + 1) ws))
+known-more text ws i d within is = known-step text ws i d within ∙ ap (λ b. b && list_all is_known (map text (drop (i + 1) ws))) is
+
+pub only-found : (o : Option (List ℕ)) → at_most_one (with_value o []) ≡ Some o
+only-found None = refl
+only-found (Some v) = refl

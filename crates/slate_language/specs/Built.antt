@@ -1,0 +1,127 @@
+-- The lines that are built, read from their tokens.
+--     texts ts      the tokens' bytes
+--     is_name t, is_numeral t, is_moment_text t      what a name, a number and a moment look like
+--     keyword t      the word that begins a line
+--     built_ops ts      the operations that the tokens of a write mean
+--     built_tokens ts      the line that the tokens mean
+-- `built_tokens` of a line's tokens is `meaning`, as proved in proofs/BuiltLaws.antt.
+use Rattle.std.specs.Prelude.{ℕ, Bool, false, ◌&&◌, ◌||◌, not, if◌then◌else◌, ◌==◌, nat_lt, nat_le, List, [], ◌∷◌, length, map, Option, Some, None, option_map, codes, bytes_eq, is_some}
+use Rattle.std.specs.List.{list_all}
+use Rattle.std.specs.Borrow.{Bor}
+use Rattle.slate_types.specs.declared.config.IsolationLevel.{IsolationLevel}
+use Rattle.slate_types.specs.declared.config.IsolationLevel.TheVariants as levels
+use Rattle.slate_mem.specs.declared.WriteOp.{WriteOp}
+use Rattle.slate_mem.specs.declared.WriteOp.TheVariants as ops
+use Rattle.slate_mem.specs.Batch.{Ops}
+use Rattle.slate_txn.specs.declared.line.Line.{Line}
+use Rattle.slate_txn.specs.declared.line.Line.TheVariants as lines
+use Rattle.slate_language.specs.declared.parse.Keyword.{Keyword}
+use Rattle.slate_language.specs.declared.parse.Keyword.TheVariants.{Now, Begin, Get, Rollback, Write, Freeze, Flush}
+use Rattle.slate_language.specs.Grammar.{is_name_byte}
+use Rattle.slate_language.specs.Parse.{only_if, ◌>>=◌, both, read_bytes, read_moment, read_name, read_pair, op_word, grouped, ops_of_groups}
+use Rattle.slate_language.specs.Stage.{is_built_batch}
+
+abbrev pub texts : List (Bor (List ℕ)) → List (List ℕ)
+texts ts = map (λ t. t.now) ts
+
+-- ---- tokens
+
+abbrev pub is_name : List ℕ → Bool
+is_name t = nat_lt 0 (length t) && nat_le (length t) 64 && list_all is_name_byte t
+
+abbrev pub is_digit : ℕ → Bool
+is_digit b = nat_le 48 b && nat_le b 57
+
+-- no zero stands before other digits
+abbrev pub is_numeral : List ℕ → Bool
+is_numeral [] = false
+is_numeral (b ∷ []) = is_digit b
+is_numeral (b ∷ c ∷ bs) = not (b == 48) && list_all is_digit (b ∷ c ∷ bs)
+
+-- `-` and 0 is none
+abbrev pub is_moment_text : List ℕ → Bool
+is_moment_text [] = false
+is_moment_text (b ∷ bs) = if b == 45 then not (bytes_eq bs (codes "0")) && is_numeral bs else is_numeral (b ∷ bs)
+
+abbrev pub is_hex_digit : ℕ → Bool
+is_hex_digit b = nat_le 48 b && nat_le b 57 || nat_le 97 b && nat_le b 102
+
+abbrev pub built_level : List ℕ → Option IsolationLevel
+built_level t = only_if (bytes_eq t (codes "si")) levels.Snapshot
+
+abbrev pub keyword_among : List (List ℕ × Keyword) → List ℕ → Option Keyword
+keyword_among [] t = None
+keyword_among (p ∷ ps) t = if bytes_eq t p.0 then Some p.1 else keyword_among ps t
+
+abbrev pub keywords : List (List ℕ × Keyword)
+keywords =
+    (codes "now", Now) ∷ (codes "begin", Begin) ∷ (codes "get", Get) ∷ (codes "rollback", Rollback) ∷
+    (codes "write", Write) ∷ (codes "freeze", Freeze) ∷ (codes "flush", Flush) ∷ []
+
+abbrev pub keyword : List ℕ → Option Keyword
+keyword t = keyword_among keywords t
+
+-- ---- operations
+
+abbrev pub is_op_word : List ℕ → Bool
+is_op_word t = is_some (op_word t)
+
+abbrev pub Op : Type 0
+Op = List ℕ × WriteOp
+
+abbrev pub built_put : List (List ℕ) → Option Op
+built_put ts = read_pair (λ k v ttl. (k, ops.Put v (record { ttl = ttl }))) ts
+
+abbrev pub built_delete : List (List ℕ) → Option Op
+built_delete (k ∷ []) = option_map (λ key. (key, ops.Delete)) (read_bytes k)
+built_delete _ = None
+
+-- from its word and the tokens behind it
+abbrev pub built_op : List ℕ → List (List ℕ) → Option Op
+built_op w ts = if bytes_eq w (codes "put") then built_put ts
+    else if bytes_eq w (codes "delete") then built_delete ts
+    else None
+
+abbrev pub if_batch_built : Ops → Option Ops
+if_batch_built batch = only_if (is_built_batch batch) batch
+
+abbrev pub built_ops : List (List ℕ) → Option Ops
+built_ops ts = ops_of_groups (grouped ts) >>= if_batch_built
+
+-- ---- lines
+
+abbrev pub built_now : List (List ℕ) → Option Line
+built_now (t ∷ []) = option_map lines.Now (read_moment t)
+built_now _ = None
+
+abbrev pub built_begin : List (List ℕ) → Option Line
+built_begin (n ∷ t ∷ []) = both lines.Begin (read_name n) (built_level t)
+built_begin _ = None
+
+abbrev pub built_get : List (List ℕ) → Option Line
+built_get (n ∷ k ∷ []) = both lines.Get (read_name n) (read_bytes k)
+built_get _ = None
+
+abbrev pub built_rollback : List (List ℕ) → Option Line
+built_rollback (n ∷ []) = option_map lines.Rollback (read_name n)
+built_rollback _ = None
+
+abbrev pub built_write : List (List ℕ) → Option Line
+built_write ts = option_map lines.Write (built_ops ts)
+
+abbrev pub built_alone : Line → List (List ℕ) → Option Line
+built_alone line [] = Some line
+built_alone line (t ∷ ts) = None
+
+abbrev pub built_as : Keyword → List (List ℕ) → Option Line
+built_as Now ts = built_now ts
+built_as Begin ts = built_begin ts
+built_as Get ts = built_get ts
+built_as Rollback ts = built_rollback ts
+built_as Write ts = built_write ts
+built_as Freeze ts = built_alone lines.Freeze ts
+built_as Flush ts = built_alone lines.Flush ts
+
+abbrev pub built_tokens : List (List ℕ) → Option Line
+built_tokens [] = None
+built_tokens (t ∷ ts) = keyword t >>= λ w. built_as w ts

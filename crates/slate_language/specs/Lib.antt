@@ -1,0 +1,12 @@
+pub mod Text
+pub mod Grammar
+pub mod Parse
+pub mod Stage
+pub mod Built
+pub mod Replies
+pub mod Answers
+pub mod Parts
+pub mod Generate
+pub mod WorkedRows
+pub mod Words
+pub mod ScriptLaws

@@ -1,0 +1,46 @@
+-- Which lines are built today. A line of the grammar that isn't built is no line yet: its case here is false.
+--     is_built line      its meaning can be answered
+--     IsBuiltLine bytes line      the bytes are a line that is built, with this meaning
+--     meaning bytes      the same, computed
+use Rattle.std.specs.Prelude.{ℕ, Bool, true, false, ◌&&◌, List, [], ◌∷◌, Option, IsTrue}
+use Rattle.slate_types.specs.declared.config.IsolationLevel.{IsolationLevel}
+use Rattle.slate_types.specs.declared.config.IsolationLevel.TheVariants.{Snapshot, SerializableSnapshot}
+use Rattle.slate_mem.specs.declared.WriteOp.{WriteOp}
+use Rattle.slate_mem.specs.declared.WriteOp.TheVariants as ops
+use Rattle.slate_mem.specs.Batch.{Ops}
+use Rattle.slate_txn.specs.declared.line.Line.{Line}
+use Rattle.slate_txn.specs.declared.line.Line.TheVariants as lines
+use Rattle.slate_language.specs.Grammar.{IsLine}
+use Rattle.slate_language.specs.Parse.{parse, only_if, ◌>>=◌}
+
+abbrev pub is_built_level : IsolationLevel → Bool
+is_built_level Snapshot = true
+is_built_level SerializableSnapshot = false
+
+abbrev pub is_built_op : WriteOp → Bool
+is_built_op (ops.Put v o) = true
+is_built_op ops.Delete = true
+is_built_op (ops.Merge v o) = false
+
+abbrev pub is_built_batch : Ops → Bool
+is_built_batch [] = true
+is_built_batch (o ∷ os) = is_built_op o.1 && is_built_batch os
+
+abbrev pub is_built : Line → Bool
+is_built (lines.Now m) = true
+is_built (lines.Begin name level) = is_built_level level
+is_built (lines.Get name k) = true
+is_built (lines.Rollback name) = true
+is_built (lines.Write batch) = is_built_batch batch
+is_built lines.Freeze = true
+is_built lines.Flush = true
+is_built _ = false
+
+abbrev pub IsBuiltLine : List ℕ → Line → Type 0
+IsBuiltLine bytes line = IsLine bytes line × IsTrue (is_built line)
+
+abbrev pub if_built : Line → Option Line
+if_built line = only_if (is_built line) line
+
+abbrev pub meaning : List ℕ → Option Line
+meaning bytes = parse bytes >>= if_built

@@ -1,0 +1,90 @@
+-- What the words of a run say: the options, and the number that stored bytes are changed by.
+--     behind name w      the text behind the name in a word that begins with it
+--     only_value name ws      that text in the one word that has it; none where no word has; and nothing where more have
+--     read_words ws      the settings of all words
+-- Each word begins with one of the names, no two with the same one, the texts behind the names are the values, and what isn't set is as by default.
+use Rattle.std.specs.Prelude.{ℕ, ◌-◌, ◌^◌, Bool, ◌&&◌, not, if◌then◌else◌, nat_lt, nat_le, List, [], ◌∷◌, length, take, drop, Option, Some, None, option_map, is_some, unwrap_or, codes, bytes_eq}
+use Rattle.std.specs.List.{list_all, list_any}
+use Rattle.slate_types.specs.declared.config.BlockFormat.{BlockFormat}
+use Rattle.slate_types.specs.declared.config.BlockFormat.TheVariants.{V1, V2, Latest}
+use Rattle.slate_types.specs.declared.config.Options.{Options}
+use Rattle.slate_types.specs.Config.{defaults}
+use Rattle.slate_language.specs.declared.words.Settings.{Settings}
+use Rattle.slate_language.specs.Parse.{only_if, ◌>>=◌, read_number}
+
+-- ---- values
+
+abbrev pub read_below : ℕ → List ℕ → Option ℕ
+read_below most t = do
+  n ← read_number t
+  only_if (nat_lt n most) n
+
+abbrev pub read_format : List ℕ → Option BlockFormat
+read_format t = if bytes_eq t (codes "v1") then Some V1
+    else if bytes_eq t (codes "v2") then Some V2
+    else only_if (bytes_eq t (codes "latest")) Latest
+
+-- ---- words
+
+abbrev pub behind : List ℕ → List ℕ → Option (List ℕ)
+behind name w = only_if (bytes_eq (take (length name) w) name) (drop (length name) w)
+
+abbrev pub with_value : Option (List ℕ) → List (List ℕ) → List (List ℕ)
+with_value None vs = vs
+with_value (Some v) vs = v ∷ vs
+
+abbrev pub values : List ℕ → List (List ℕ) → List (List ℕ)
+values name [] = []
+values name (w ∷ ws) = with_value (behind name w) (values name ws)
+
+abbrev pub at_most_one : List (List ℕ) → Option (Option (List ℕ))
+at_most_one [] = Some None
+at_most_one (v ∷ []) = Some (Some v)
+at_most_one (v ∷ u ∷ vs) = None
+
+abbrev pub only_value : List ℕ → List (List ℕ) → Option (Option (List ℕ))
+only_value name ws = at_most_one (values name ws)
+
+-- a value that may be missing
+abbrev pub read_given : {A : Type 0} → (List ℕ → Option A) → Option (List ℕ) → Option (Option A)
+read_given read None = Some None
+read_given read (Some v) = option_map Some (read v)
+
+abbrev pub value_of : {A : Type 0} → (List ℕ → Option A) → List ℕ → List (List ℕ) → Option (Option A)
+value_of read name ws = only_value name ws >>= read_given read
+
+abbrev pub names : List (List ℕ)
+names = codes "block=" ∷ codes "format=" ∷ codes "ttl=" ∷ codes "seq=" ∷ codes "xor=" ∷ []
+
+abbrev pub is_known : List ℕ → Bool
+is_known w = list_any (λ name. is_some (behind name w)) names
+
+-- ---- settings
+
+abbrev pub options : Option ℕ → Option BlockFormat → Option ℕ → Option ℕ → Options
+options block format ttl seq = record defaults {
+  block_size = unwrap_or block 4096;
+  block_format = unwrap_or format Latest;
+  default_ttl_millis = ttl;
+  start_seq = unwrap_or seq 0;
+}
+
+-- `IsValid` as a test
+abbrev pub are_valid : Options → Bool
+are_valid o = nat_lt 0 o.block_size && nat_le o.block_size 65535 && nat_lt 0 o.table_bytes && nat_lt 0 o.max_fetch_tasks
+    && nat_lt 0 o.target_bytes_to_fetch && nat_le o.start_seq (2 ^ 64 - 2) && not (is_some o.compression_codec)
+
+abbrev pub if_valid : Settings → Option Settings
+if_valid s = only_if (are_valid s.options) s
+
+abbrev pub read_settings : List (List ℕ) → Option Settings
+read_settings ws = do
+  block ← value_of (read_below (2 ^ 32)) (codes "block=") ws
+  format ← value_of read_format (codes "format=") ws
+  ttl ← value_of read_number (codes "ttl=") ws
+  seq ← value_of read_number (codes "seq=") ws
+  mask ← value_of (read_below (2 ^ 8)) (codes "xor=") ws
+  if_valid (record { options = options block format ttl seq; mask = mask })
+
+abbrev pub read_words : List (List ℕ) → Option Settings
+read_words ws = if list_all is_known ws then read_settings ws else None

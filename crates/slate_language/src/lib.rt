@@ -1,0 +1,28 @@
+//! The language of a script: the bytes that spell its lines and its replies, the words of a run, and the parts that words name.
+//!
+//! The definitions stand in `specs/`: `Grammar` says what a line's bytes are, `Parse` reads them, `Stage` says which lines are
+//! built, `Text` what the bytes of a reply are, `Replies` what a script is answered, and `Words` what the words of a run set. What
+//! lines do stands in `slate_txn`. `script_laws` has the laws of these, and `rows` worked scripts with their replies.
+#![tactic(auto)]
+
+pub mod parse;
+pub mod parts;
+pub mod reply;
+pub mod rows;
+pub mod script_laws;
+pub mod text;
+pub mod token;
+pub mod words;
+
+pub use parse::parse_line;
+pub use parts::Xor;
+pub use reply::{Answer, reply_text};
+pub use text::show;
+pub use words::{Settings, parse_words};
+
+fn crosses<T: Send + Sync>() {}
+
+/// The types of this crate go to other threads, and are shared between them.
+pub fn types_cross_threads() {
+    crosses::<(Answer, Settings, Xor)>();
+}

@@ -1,0 +1,155 @@
+//! What single tokens of a line mean.
+ghost use Rattle.std.specs.Prelude.{◌≡◌, IfOk, bytes_eq};
+ghost use Rattle.std.specs.List.{list_all};
+ghost use Rattle.std.specs.Option.{option_copied};
+ghost use Rattle.slate_language.specs.Text.{is_visible};
+ghost use Rattle.slate_language.specs.Grammar.{is_name_byte};
+ghost use Rattle.slate_language.specs.Parse.{only_if, unhex, read_bytes, read_number, read_moment, read_name, read_ttl_token};
+ghost use Rattle.slate_language.specs.Built.{is_name, is_digit, is_numeral, is_moment_text, is_hex_digit};
+
+use crate::text::is_visible;
+use bytes::Bytes;
+use hex::FromHexError;
+use slate_types::Ttl;
+use std::alloc::{AllocError, Global};
+
+/// The most bytes of a name.
+const MAX_NAME_LEN: usize = 64;
+
+/// Whether the token is this word.
+pub fn is_word(token: &[u8], word: &[u8]) -> bool
+    ensures { result ≡ bytes_eq token.now word.now }
+{
+    token == word
+}
+
+/// A name: letters and digits.
+pub(crate) fn read_name(token: &[u8]) -> Option<&[u8]>
+    ensures { option_copied result ≡ read_name token.now }
+{
+    is_name(token).then_some(token)
+}
+
+fn is_name(token: &[u8]) -> bool
+    ensures { result ≡ is_name token.now }
+{
+    !token.is_empty() && token.len() <= MAX_NAME_LEN && is_alphanumeric(token)
+}
+
+fn is_alphanumeric(bytes: &[u8]) -> bool
+    ensures { result ≡ list_all is_name_byte bytes.now }
+{
+    bytes.iter().all(|byte| byte.is_ascii_alphanumeric())
+}
+
+/// The bytes of a byte token: text behind `'`, or pairs of hex digits behind `0x`.
+pub(crate) fn read_bytes(alloc: Global, token: &[u8]) -> Result<Option<Bytes>, AllocError>
+    ensures bytes { IfOk result (λ o. o ≡ read_bytes token.now) }
+{
+    match token {
+        [b'\'', text @ ..] => read_text(alloc, text),
+        [b'0', b'x', digits @ ..] => read_hex(alloc, digits),
+        _ => Ok(None),
+    }
+}
+
+fn read_text(alloc: Global, text: &[u8]) -> Result<Option<Bytes>, AllocError>
+    ensures bytes { IfOk result (λ o. o ≡ only_if (list_all is_visible text.now) text.now) }
+{
+    if !is_visible(text) {
+        return Ok(None);
+    }
+    Bytes::copy_from_slice(alloc, text).map(Some)
+}
+
+/// Digits are lower case.
+fn read_hex(alloc: Global, digits: &[u8]) -> Result<Option<Bytes>, AllocError>
+    ensures bytes { IfOk result (λ o. o ≡ unhex digits.now) }
+{
+    if !is_hex(digits) {
+        return Ok(None);
+    }
+    match hex::decode(alloc, digits) {
+        Ok(bytes) => Ok(Some(Bytes::from_vec(bytes)?)),
+        Err(error) => match error {
+            FromHexError::OutOfMemory => Err(AllocError),
+            _ => Ok(None),
+        },
+    }
+}
+
+fn is_hex(digits: &[u8]) -> bool
+    ensures { result ≡ list_all is_hex_digit digits.now }
+{
+    digits
+        .iter()
+        .all(|digit| matches!(digit, b'0'..=b'9' | b'a'..=b'f'))
+}
+
+/// A number of 64 bits.
+pub fn read_number(token: &[u8]) -> Option<u64>
+    ensures { result ≡ read_number token.now }
+{
+    if !is_numeral(token) {
+        return None;
+    }
+    match str::from_utf8(token) {
+        Ok(text) => text.parse().ok(),
+        Err(_) => None,
+    }
+}
+
+/// A moment: a number of 63 bits, or `-` and one that isn't 0 or one more than that.
+pub(crate) fn read_moment(token: &[u8]) -> Option<i64>
+    ensures { result ≡ read_moment token.now }
+{
+    if !is_moment_text(token) {
+        return None;
+    }
+    match str::from_utf8(token) {
+        Ok(text) => text.parse().ok(),
+        Err(_) => None,
+    }
+}
+
+fn is_moment_text(token: &[u8]) -> bool
+    ensures { result ≡ is_moment_text token.now }
+{
+    match token {
+        b"-0" => false,
+        [b'-', digits @ ..] => is_numeral(digits),
+        _ => is_numeral(token),
+    }
+}
+
+/// Whether the token is digits, with no zero before others.
+fn is_numeral(token: &[u8]) -> bool
+    ensures { result ≡ is_numeral token.now }
+{
+    match token {
+        [] | [b'0', _, ..] => false,
+        _ => is_digits(token),
+    }
+}
+
+fn is_digits(token: &[u8]) -> bool
+    ensures { result ≡ list_all is_digit token.now }
+{
+    token.iter().all(|byte| byte.is_ascii_digit())
+}
+
+/// A time to live: `t` and milliseconds, or `t-` for none.
+pub(crate) fn read_ttl(token: &[u8]) -> Option<Ttl>
+    ensures { result ≡ read_ttl_token token.now }
+{
+    let [b't', text @ ..] = token else {
+        return None;
+    };
+    if is_word(text, b"-") {
+        return Some(Ttl::NoExpiry);
+    }
+    match read_number(text) {
+        Some(millis) => Some(Ttl::ExpireAfter(millis)),
+        None => None,
+    }
+}
