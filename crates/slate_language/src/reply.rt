@@ -1,32 +1,21 @@
 //! Answers to lines, and their texts.
-ghost use Rattle.std.specs.Prelude.{◌≡◌, ◌++◌, ◌∷◌, [], Some, map, codes, IfOk, OnOk};
+ghost use Rattle.std.specs.Prelude.{◌≡◌, ◌++◌, ◌∷◌, [], Some, map, IfOk, OnOk};
 ghost use Rattle.std.specs.List.{join_with_byte};
 ghost use Rattle.slate_language.specs.Replies.{reply_line};
-ghost use Rattle.slate_language.specs.Answers.{reply_of, word_text};
-ghost use Rattle.slate_language.specs.Text.{stamp, sequence};
+ghost use Rattle.slate_language.specs.Answers.{reply_of, word_text, words_text};
+ghost use Rattle.slate_language.specs.Text.{error_words, stamp, sequence};
+ghost use Rattle.slate_txn.specs.Reply.{Refused};
 
 use crate::text::shown;
 use bytes::Bytes;
-use slate_types::KeyValue;
+use slate_types::{KeyValue, SlateDBError};
 use std::alloc::{AllocError, Global};
-
-/// Why a line is refused: its name is open already or isn't open, no sequence is left, or an operation's
-/// key is empty or past 65535 bytes, or its value past 4294967295. `len` is the length in bytes.
-#[derive(Drop)]
-pub enum Refusal {
-    DuplicateTransaction { name: Bytes },
-    UnknownTransaction { name: Bytes },
-    SequenceExhausted,
-    EmptyKey,
-    KeyTooLong { len: u64 },
-    ValueTooLong { len: u64 },
-}
 
 /// What a line is answered.
 #[derive(Drop)]
 pub enum Answer {
     Done,
-    Refused(Refusal),
+    Refused(SlateDBError),
     NowIs(i64),
     Begun { name: Bytes, start: u64 },
     Found(Option<KeyValue>),
@@ -46,13 +35,22 @@ enum Word<'a> {
     Moment(i64),
 }
 
+/// The words of an error: its name, and what shows its cause.
+#[derive(Clone, Copy)]
+enum ErrorWords<'a> {
+    Alone(&'a [u8]),
+    With(&'a [u8], Word<'a>),
+    WithTwo(&'a [u8], Word<'a>, Word<'a>),
+    WithThree(&'a [u8], Word<'a>, Word<'a>, Word<'a>),
+}
+
 /// The reply, with its line end.
 pub fn reply_text(alloc: Global, answer: &Answer) -> Result<Vec<u8>, AllocError>
     ensures text { IfOk result (λ v. v.items ≡ reply_line (reply_of answer.now)) }
 {
     match answer {
         Answer::Done => line_of(alloc, &[Word::Text(b"ok")]),
-        Answer::Refused(refusal) => refusal_text(alloc, refusal),
+        Answer::Refused(error) => refusal_text(alloc, error),
         Answer::NowIs(moment) => line_of(alloc, &[Word::Text(b"now"), Word::Moment(*moment)]),
         Answer::Begun { name, start } => line_of(
             alloc,
@@ -70,30 +68,143 @@ pub fn reply_text(alloc: Global, answer: &Answer) -> Result<Vec<u8>, AllocError>
     }
 }
 
-fn refusal_text(alloc: Global, refusal: &Refusal) -> Result<Vec<u8>, AllocError>
-    ensures text { IfOk result (λ v. v.items ≡ reply_line (reply_of (Answer.Refused refusal.now))) }
+/// The reply to a line that is refused by the error.
+fn refusal_text(alloc: Global, error: &SlateDBError) -> Result<Vec<u8>, AllocError>
+    ensures text { IfOk result (λ v. v.items ≡ reply_line (Refused error.now)) }
 {
-    match refusal {
-        Refusal::DuplicateTransaction { name } => {
-            refused(alloc, b"DuplicateTransaction", Word::Text(name.as_slice()))
+    match error_words(error) {
+        ErrorWords::Alone(name) => line_of(alloc, &[Word::Text(b"refused"), Word::Text(name)]),
+        ErrorWords::With(name, detail) => {
+            line_of(alloc, &[Word::Text(b"refused"), Word::Text(name), detail])
         }
-        Refusal::UnknownTransaction { name } => {
-            refused(alloc, b"UnknownTransaction", Word::Text(name.as_slice()))
-        }
-        Refusal::SequenceExhausted => line_of(
+        ErrorWords::WithTwo(name, first, second) => line_of(
             alloc,
-            &[Word::Text(b"refused"), Word::Text(b"SequenceExhausted")],
+            &[Word::Text(b"refused"), Word::Text(name), first, second],
         ),
-        Refusal::EmptyKey => line_of(alloc, &[Word::Text(b"refused"), Word::Text(b"EmptyKey")]),
-        Refusal::KeyTooLong { len } => refused(alloc, b"KeyTooLong", Word::Number(*len)),
-        Refusal::ValueTooLong { len } => refused(alloc, b"ValueTooLong", Word::Number(*len)),
+        ErrorWords::WithThree(name, first, second, third) => line_of(
+            alloc,
+            &[
+                Word::Text(b"refused"),
+                Word::Text(name),
+                first,
+                second,
+                third,
+            ],
+        ),
     }
 }
 
-fn refused<'a>(alloc: Global, kind: &'a [u8], detail: Word<'a>) -> Result<Vec<u8>, AllocError>
-    ensures text { IfOk result (λ v. v.items ≡ join_with_byte 32 (codes "refused" ∷ kind.now ∷ word_text detail.entry ∷ []) ++ (10 ∷ [])) }
+/// The words of an error, as they stand in a reply.
+fn error_words(error: &SlateDBError) -> ErrorWords<'_>
+    ensures { words_text result ≡ error_words error.now }
 {
-    line_of(alloc, &[Word::Text(b"refused"), Word::Text(kind), detail])
+    match error {
+        SlateDBError::TransactionConflict { seq } => ErrorWords::With(
+            b"TransactionConflict",
+            Word::Number(*seq),
+        ),
+        SlateDBError::IncompatibleMergeTtls {
+            key,
+            previous_expire_ts,
+            current_expire_ts,
+        } => ErrorWords::WithThree(
+            b"IncompatibleMergeTtls",
+            Word::Shown(key.as_slice()),
+            stamp(*previous_expire_ts),
+            stamp(*current_expire_ts),
+        ),
+        SlateDBError::InvalidSegmentPrefix { prefix, conflict } => ErrorWords::WithTwo(
+            b"InvalidSegmentPrefix",
+            Word::Shown(prefix.as_slice()),
+            Word::Shown(conflict.as_slice()),
+        ),
+        SlateDBError::EmptyKey => ErrorWords::Alone(b"EmptyKey"),
+        SlateDBError::KeyTooLong { len } => ErrorWords::With(b"KeyTooLong", Word::Number(*len)),
+        SlateDBError::ValueTooLong { len } => ErrorWords::With(b"ValueTooLong", Word::Number(*len)),
+        SlateDBError::InvalidRange => ErrorWords::Alone(b"InvalidRange"),
+        SlateDBError::ChecksumMismatch { stored, computed } => ErrorWords::WithTwo(
+            b"ChecksumMismatch",
+            Word::Number(u64::from(*stored)),
+            Word::Number(u64::from(*computed)),
+        ),
+        SlateDBError::MergeOperatorMissing => ErrorWords::Alone(b"MergeOperatorMissing"),
+        SlateDBError::EmptySegmentPrefix { key } => ErrorWords::With(
+            b"EmptySegmentPrefix",
+            Word::Shown(key.as_slice()),
+        ),
+        SlateDBError::UnknownTransaction { name } => ErrorWords::With(
+            b"UnknownTransaction",
+            Word::Text(name.as_slice()),
+        ),
+        SlateDBError::DuplicateTransaction { name } => ErrorWords::With(
+            b"DuplicateTransaction",
+            Word::Text(name.as_slice()),
+        ),
+        SlateDBError::SequenceExhausted => ErrorWords::Alone(b"SequenceExhausted"),
+        SlateDBError::ScriptSyntax { line } => ErrorWords::With(
+            b"ScriptSyntax",
+            Word::Number(*line),
+        ),
+        SlateDBError::ScriptTooLong => ErrorWords::Alone(b"ScriptTooLong"),
+        SlateDBError::ReadFault => ErrorWords::Alone(b"ReadFault"),
+        SlateDBError::WriteFault => ErrorWords::Alone(b"WriteFault"),
+        SlateDBError::StoreFault => ErrorWords::Alone(b"StoreFault"),
+        SlateDBError::Callback { message } => ErrorWords::With(
+            b"Callback",
+            Word::Shown(message.as_slice()),
+        ),
+        SlateDBError::EmptyBatch => ErrorWords::Alone(b"EmptyBatch"),
+        SlateDBError::BlockTransformError => ErrorWords::Alone(b"BlockTransformError"),
+        SlateDBError::EmptySSTable { len } => ErrorWords::With(b"EmptySSTable", Word::Number(*len)),
+        SlateDBError::EmptyBlockMeta { len } => ErrorWords::With(
+            b"EmptyBlockMeta",
+            Word::Number(*len),
+        ),
+        SlateDBError::InvalidVersion { actual_version } => ErrorWords::With(
+            b"InvalidVersion",
+            Word::Number(u64::from(*actual_version)),
+        ),
+        SlateDBError::InvalidRowFlags { encoded_bits } => ErrorWords::With(
+            b"InvalidRowFlags",
+            Word::Number(u64::from(*encoded_bits)),
+        ),
+        SlateDBError::InvalidFilterBlock { len } => ErrorWords::With(
+            b"InvalidFilterBlock",
+            Word::Number(*len),
+        ),
+        SlateDBError::CorruptTable { place } => ErrorWords::With(
+            b"CorruptTable",
+            Word::Number(*place),
+        ),
+        SlateDBError::UnsupportedCompression { codec } => ErrorWords::With(
+            b"UnsupportedCompression",
+            Word::Number(u64::from(*codec)),
+        ),
+        SlateDBError::BlockOutOfRange { block, blocks } => ErrorWords::WithTwo(
+            b"BlockOutOfRange",
+            Word::Number(*block),
+            Word::Number(*blocks),
+        ),
+        SlateDBError::EmptyBlock => ErrorWords::Alone(b"EmptyBlock"),
+        SlateDBError::IteratorNotInitialized => ErrorWords::Alone(b"IteratorNotInitialized"),
+        SlateDBError::SeekKeyOutOfKeyRange { key } => ErrorWords::With(
+            b"SeekKeyOutOfKeyRange",
+            Word::Shown(key.as_slice()),
+        ),
+        SlateDBError::InvalidSequenceOrder {
+            current_seq,
+            next_seq,
+        } => ErrorWords::WithTwo(
+            b"InvalidSequenceOrder",
+            Word::Number(*current_seq),
+            Word::Number(*next_seq),
+        ),
+        SlateDBError::LimitReached { limit } => ErrorWords::With(
+            b"LimitReached",
+            Word::Number(*limit),
+        ),
+        SlateDBError::OutOfMemory => ErrorWords::Alone(b"OutOfMemory"),
+    }
 }
 
 fn row_text(alloc: Global, row: &KeyValue) -> Result<Vec<u8>, AllocError>

@@ -32,7 +32,6 @@ use Rattle.slate_db.specs.Model.{CoreModel, IsSame, at}
 use Rattle.slate_db.specs.Whole.{LIMIT}
 use Rattle.slate_language.specs.declared.reply.Answer.{Answer}
 use Rattle.slate_language.specs.declared.reply.Answer.TheVariants as answers
-use Rattle.slate_language.specs.declared.reply.Refusal.TheVariants as refusals
 use Rattle.slate_language.specs.Answers.{reply_of}
 use Rattle.slate_language.specs.Grammar.{is_moment}
 use Rattle.slate_script.specs.Session.{SessionModel, tx_under, AreNames, StandsFor, IsStep, AnswersAs, IsRefusal}
@@ -78,10 +77,10 @@ now-set m e moment s h = (record { commits = h.commits; txns = h.txns; once = h.
 -- ---- begin
 
 pub begin-refused : (m : Meaning) (e : SessionModel) (name id : List ℕ) (level : IsolationLevel) → AreNames e.names e.core.state.txns → find_named name e.names ≡ Some id →
-    AnswersAs m e e (lines.Begin name level) (Ok (answers.Refused (refusals.DuplicateTransaction name)))
+    AnswersAs m e e (lines.Begin name level) (Ok (answers.Refused (errors.DuplicateTransaction name)))
 begin-refused m e name id level names is s h =
     subst (λ b. IsStep e (cond b (s, replies.Refused (errors.DuplicateTransaction name)) (record s { txns = set_named name (begun level (last (rules_of e.core.settings m) s)) s.txns }, replies.Begun name (last (rules_of e.core.settings m) s)))
-    (answers.Refused (refusals.DuplicateTransaction name)))
+    (answers.Refused (errors.DuplicateTransaction name)))
     (sym (is-open e s name id h names is)) (h, refl)
 
 pub begin-opens : (m : Meaning) (e : SessionModel) (core : CoreModel) (more : List (List ℕ × List ℕ)) (name id : List ℕ) (level : IsolationLevel) (n : ℕ) → AreNames e.names e.core.state.txns → find_named name e.names ≡ None →
@@ -145,9 +144,9 @@ begin-opens m e core more name id level n names none fresh updates s h =
 
 -- ---- rollback
 
-pub rollback-refused : (m : Meaning) (e : SessionModel) (name : List ℕ) → find_named name e.names ≡ None → AnswersAs m e e (lines.Rollback name) (Ok (answers.Refused (refusals.UnknownTransaction name)))
+pub rollback-refused : (m : Meaning) (e : SessionModel) (name : List ℕ) → find_named name e.names ≡ None → AnswersAs m e e (lines.Rollback name) (Ok (answers.Refused (errors.UnknownTransaction name)))
 rollback-refused m e name none s h =
-    subst (λ b. IsStep e (cond b (closed s name, replies.Done) (s, replies.Refused (errors.UnknownTransaction name))) (answers.Refused (refusals.UnknownTransaction name)))
+    subst (λ b. IsStep e (cond b (closed s name, replies.Done) (s, replies.Refused (errors.UnknownTransaction name))) (answers.Refused (errors.UnknownTransaction name)))
     (sym (is-shut e s name h none)) (h, refl)
 
 -- what is under the other names, where one name's id is taken away or changed
@@ -188,10 +187,10 @@ rollback-closes m e core fewer name id names known is updates s h =
 
 -- ---- get
 
-pub get-refused : (m : Meaning) (e : SessionModel) (name k : List ℕ) → find_named name e.names ≡ None → AnswersAs m e e (lines.Get name k) (Ok (answers.Refused (refusals.UnknownTransaction name)))
+pub get-refused : (m : Meaning) (e : SessionModel) (name k : List ℕ) → find_named name e.names ≡ None → AnswersAs m e e (lines.Get name k) (Ok (answers.Refused (errors.UnknownTransaction name)))
 get-refused m e name k none s h =
-    subst (λ ps. IsStep e (get (rules_of e.core.settings m) s name k (reader_or_snapshot (find_named name s.txns) (find_named name ps))) (answers.Refused (refusals.UnknownTransaction name))) (sym h.snapshots)
-    (subst (λ o. IsStep e (get (rules_of e.core.settings m) s name k (reader_or_snapshot o None)) (answers.Refused (refusals.UnknownTransaction name)))
+    subst (λ ps. IsStep e (get (rules_of e.core.settings m) s name k (reader_or_snapshot (find_named name s.txns) (find_named name ps))) (answers.Refused (errors.UnknownTransaction name))) (sym h.snapshots)
+    (subst (λ o. IsStep e (get (rules_of e.core.settings m) s name k (reader_or_snapshot o None)) (answers.Refused (errors.UnknownTransaction name)))
     (sym (h.txns name ∙ ap (tx_under e.core.state.txns) none)) (h, refl))
 
 abbrev pub with_steps : List TranscriptStep → Tx → Tx

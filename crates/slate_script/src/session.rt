@@ -25,7 +25,7 @@ ghost use Rattle.slate_script.specs.Told.{Follows, IsUntrue};
 
 use bytes::Bytes;
 use slate_db::engine::Core;
-use slate_language::reply::{Answer, Refusal};
+use slate_language::Answer;
 use slate_mem::{WriteBatch, WriteOp};
 use slate_store::{Env, EnvOf, Store};
 use slate_txn::line::Line;
@@ -158,7 +158,7 @@ impl Session {
         ensures cause { IfErr result (λ e. (e ≡ SlateDBError.OutOfMemory) ⊎ IsLimit self.old e) }
     {
         if self.names.contains_key(&name) {
-            return Ok(Answer::Refused(Refusal::DuplicateTransaction { name }));
+            return Ok(Answer::Refused(SlateDBError::DuplicateTransaction { name }));
         }
         let key = name.clone()?;
         let (id, start) = self.core.begin(level)?;
@@ -183,7 +183,7 @@ impl Session {
     {
         let Some(id) = self.names.get(&name) else {
             drop(key);
-            return Ok(Answer::Refused(Refusal::UnknownTransaction { name }));
+            return Ok(Answer::Refused(SlateDBError::UnknownTransaction { name }));
         };
         let id = *id;
         drop(name);
@@ -200,7 +200,7 @@ impl Session {
         ensures grows { Grows (Line.Rollback name) self.old self.new }
     {
         let Some(id) = self.names.remove(&name) else {
-            return Answer::Refused(Refusal::UnknownTransaction { name });
+            return Answer::Refused(SlateDBError::UnknownTransaction { name });
         };
         self.core.rollback(&id);
         Answer::Done
@@ -295,10 +295,10 @@ fn refused(error: SlateDBError) -> Result<Answer, SlateDBError>
     ensures other { IfErr result (λ e. (e ≡ error) × (IsRefusal error → ⊥)) }
 {
     match error {
-        SlateDBError::EmptyKey => Ok(Answer::Refused(Refusal::EmptyKey)),
-        SlateDBError::KeyTooLong { len } => Ok(Answer::Refused(Refusal::KeyTooLong { len })),
-        SlateDBError::ValueTooLong { len } => Ok(Answer::Refused(Refusal::ValueTooLong { len })),
-        SlateDBError::SequenceExhausted => Ok(Answer::Refused(Refusal::SequenceExhausted)),
+        SlateDBError::EmptyKey
+        | SlateDBError::KeyTooLong { .. }
+        | SlateDBError::ValueTooLong { .. }
+        | SlateDBError::SequenceExhausted => Ok(Answer::Refused(error)),
         other => Err(other),
     }
 }

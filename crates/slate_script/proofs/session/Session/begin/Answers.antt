@@ -8,7 +8,7 @@ use Rattle.slate_txn.specs.declared.event.Event.TheVariants as events
 use Rattle.slate_txn.specs.declared.line.Line.TheVariants as lines
 use Rattle.slate_db.specs.Meaning.{rules_of}
 use Rattle.slate_language.specs.declared.reply.Answer.TheVariants as answers
-use Rattle.slate_language.specs.declared.reply.Refusal.TheVariants as refusals
+use Rattle.slate_types.specs.declared.error.SlateDBError.TheVariants as errors
 use Rattle.slate_script.specs.Session.{SessionModel, AreNames, AnswersAs, Grows, StoresNothing}
 use Rattle.slate_script.proofs.NamesLaws.{find_named-lookup, named-after, none-found}
 use Rattle.slate_script.proofs.SessionNames.{opens-fresh, names-begun, names-opened}
@@ -23,7 +23,7 @@ returns-then-contains_key c =
       step = (λ m.
           let before : SessionModel = record { core = c.self.inside.core; names = c.self.inside.names.entries; now = c.self.inside.now } in
           let named : IsNamed (find_named c.args.name before.names) = named-by (find_named c.args.name before.names) (ap is_some (find_named-lookup c.args.name before.names) ∙ sym c.if-contains_key.ensures) in
-          subst (λ (v : SessionModel). AnswersAs m v v (lines.Begin c.args.name c.args.level) (Ok (answers.Refused (refusals.DuplicateTransaction c.args.name)))) c.self.view_is
+          subst (λ (v : SessionModel). AnswersAs m v v (lines.Begin c.args.name c.args.level) (Ok (answers.Refused (errors.DuplicateTransaction c.args.name)))) c.self.view_is
           (begin-refused m before c.args.name named.value c.args.level c.self.invariant.0 named.is));
       stores = record { settings = refl; tables = refl; later = omega arith; kept = λ m k. k };
       grows = (omega arith, omega arith);

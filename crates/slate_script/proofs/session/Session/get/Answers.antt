@@ -14,7 +14,7 @@ use Rattle.slate_db.specs.Model.{CoreModel}
 use Rattle.slate_db.specs.Parts.{meaning_of}
 use Rattle.slate_db.specs.Readable.{IsAnswered}
 use Rattle.slate_language.specs.declared.reply.Answer.TheVariants as answers
-use Rattle.slate_language.specs.declared.reply.Refusal.TheVariants as refusals
+use Rattle.slate_types.specs.declared.error.SlateDBError.TheVariants as errors
 use Rattle.slate_script.specs.Session.{SessionModel, AreNames, AnswersAs, Grows, StoresNothing}
 use Rattle.slate_script.proofs.NamesLaws.{find_named-lookup}
 use Rattle.slate_script.proofs.SessionNames.{names-noted}
@@ -30,7 +30,7 @@ returns-in_default g c =
           let before : SessionModel = record { core = c.self.inside.core; names = c.self.inside.names.entries; now = c.self.inside.now } in
           let m = meaning_of g.M.MergeOperator.combine g.T.BlockTransformer.encoded g.T.BlockTransformer.decoded c.args.env.now.operator c.args.env.now.transformer in
           let none : find_named c.args.name before.names ≡ None = find_named-lookup c.args.name before.names ∙ sym c.in_default.ensures.value in
-          subst (λ (v : SessionModel). AnswersAs m v v (lines.Get c.args.name c.args.key) (Ok (answers.Refused (refusals.UnknownTransaction c.args.name)))) c.self.view_is
+          subst (λ (v : SessionModel). AnswersAs m v v (lines.Get c.args.name c.args.key) (Ok (answers.Refused (errors.UnknownTransaction c.args.name)))) c.self.view_is
           (get-refused m before c.args.name c.args.key none));
       stores = record { settings = refl; tables = refl; later = omega arith; kept = λ m k. k };
       grows = (omega arith, omega arith);
