@@ -118,3 +118,25 @@ pub trait MergeOperator: Drop {
     /// Short values give a short one.
     ghost short: { (operator : Self) (key : List ℕ) → KeepsShort (combine operator key) };
 }
+
+/// Keeps the newest operand. It stands where there is no operator, and is never asked.
+#[derive(Drop)]
+pub struct NoOperator;
+
+impl MergeOperator for NoOperator {
+    ghost combine = { λ _ key existing value. value };
+
+    ghost short = { λ operator key existing value given held. held };
+
+    ghost faults = { λ _. 0 };
+
+    fn merge(
+        &mut self,
+        _alloc: Global,
+        _key: &Bytes,
+        _existing_value: Option<&Bytes>,
+        value: &Bytes,
+    ) -> Result<Bytes, MergeOperatorError> {
+        value.clone().map_err(MergeOperatorError::from)
+    }
+}
