@@ -89,3 +89,23 @@ pub trait BlockTransformer: Drop {
         ensures still { OnOk result (faults self.new ≡ faults self.old) }
         ensures cause { result ≡ Err TransformError.Failed → Rose (faults self.old) (faults self.new) };
 }
+
+/// Leaves bytes as they are. It stands where there is no transformer, and is never asked.
+#[derive(Drop)]
+pub struct NoTransformer;
+
+impl BlockTransformer for NoTransformer {
+    ghost encoded = { λ _ bytes. bytes };
+
+    ghost decoded = { λ _ bytes. bytes };
+
+    ghost faults = { λ _. 0 };
+
+    fn encode(&mut self, _alloc: Global, bytes: Bytes) -> Result<Bytes, TransformError> {
+        Ok(bytes)
+    }
+
+    fn decode(&mut self, _alloc: Global, bytes: Bytes) -> Result<Bytes, TransformError> {
+        Ok(bytes)
+    }
+}

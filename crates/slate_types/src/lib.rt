@@ -18,7 +18,7 @@ pub mod sequenced_key;
 pub mod types;
 pub mod vectors;
 
-pub use block_transformer::{BlockTransformer, TransformError};
+pub use block_transformer::{BlockTransformer, NoTransformer, TransformError};
 pub use byte_range_bounds::ByteRangeBounds;
 pub use bytes_range::BytesRange;
 pub use config::{
@@ -34,7 +34,7 @@ pub use partitioned_keyspace::{
     first_partition_including_or_after_key, last_partition_including_key, partition_point,
     partitions_covering_range,
 };
-pub use prefix_extractor::PrefixExtractor;
+pub use prefix_extractor::{NoExtractor, PrefixExtractor};
 pub use rows_iterator::RowsIterator;
 pub use sequenced_key::SequencedKey;
 pub use types::{KeyValue, RowEntry, Ulid, ValueDeletable};

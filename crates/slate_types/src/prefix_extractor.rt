@@ -1,5 +1,5 @@
 //! What gives keys their prefixes.
-ghost use Rattle.std.specs.Prelude.{◌≡◌, ℕ, List};
+ghost use Rattle.std.specs.Prelude.{◌≡◌, ℕ, List, None, codes};
 ghost use Rattle.slate_types.specs.Lawful.{IsWithinTarget, Lengths};
 
 use crate::filter_policy::PrefixTarget;
@@ -23,4 +23,24 @@ pub trait PrefixExtractor: Send + Sync + Drop {
 
     /// No prefix is longer than its target.
     ghost within: { (extractor : Self) → IsWithinTarget (lengths extractor) };
+}
+
+/// Gives no prefix. It stands where there is no extractor, and is never asked.
+#[derive(Clone, Copy)]
+pub struct NoExtractor;
+
+impl PrefixExtractor for NoExtractor {
+    ghost label = { λ _. codes "none" };
+
+    ghost lengths = { λ _ target. None };
+
+    ghost within = { λ _ target. tt };
+
+    fn name(&self) -> &str {
+        "none"
+    }
+
+    fn prefix_len(&self, _target: &PrefixTarget) -> Option<usize> {
+        None
+    }
 }
