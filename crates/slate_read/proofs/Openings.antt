@@ -7,7 +7,7 @@ use Rattle.slate_types.specs.declared.error.SlateDBError.{SlateDBError}
 use Rattle.slate_types.specs.declared.error.SlateDBError.TheVariants.{OutOfMemory, StoreFault, BlockTransformError}
 use Rattle.slate_types.specs.declared.iter.IterationOrder.{IterationOrder}
 use Rattle.slate_types.specs.Faults.{Rose}
-use Rattle.slate_types.specs.Outside.{Counts, IsCounted, IsFault, IsLater, Meaning, OnlyReads, PutsNothing, Reach}
+use Rattle.slate_types.specs.Outside.{Counts, IsCounted, IsFault, IsLater, Meaning, OnlyReads, Reach}
 use Rattle.slate_store.specs.Store.{Act}
 use Rattle.slate_block.specs.declared.block.Block.{Block}
 use Rattle.slate_block.specs.BlockWalks.{ReadsLeft, IsDamage as IsBlockDamage}
@@ -16,8 +16,9 @@ use Rattle.slate_block.specs.Walks.{block_reads}
 use Rattle.slate_table.specs.declared.info.SsTableHandle.{SsTableHandle}
 use Rattle.slate_table.specs.Reading.{Reads, IsStoreFault, FailsDecoding, IsIndexRead, RefusesIndex, IsBlockRead, RefusesBlock, whole_answer}
 use Rattle.slate_table.specs.SectionReading.{IsTransformFault}
-use Rattle.slate_types.specs.World.{IsCall, IsReadAct, Made}
+use Rattle.slate_types.specs.World.{IsCall, Made}
 use Rattle.slate_types.specs.Refusing.{IsDamage}
+use Rattle.slate_types.proofs.Calls.{only_reads}
 use Rattle.slate_read.specs.TableWalk.{IsIndexed, RefusesIndexed, IsOpened, IsWalkRead, RefusesRows, RefusesSome, RefusesWalk, Walks, path_in, size_of, start_of}
 use Rattle.slate_read.proofs.Damaged.{block_refusal, in_block, index_refusal}
 
@@ -60,22 +61,6 @@ call_once a b path start size same meaning (inl none) = (
 call_once a b path start size same meaning (inr r) =
     let c = call_of a b path start size (λ _. Unit {0}) same meaning r in
     (Act.read path start size c.0 ∷ [], c.1)
-
--- what a call read puts nothing
-no_puts : (reads : List Act) → AllByRecursion IsReadAct reads → AllByRecursion PutsNothing reads
-no_puts [] h = tt
-no_puts (Act.put path bytes ∷ reads) h = absurd h.0
-no_puts (Act.read path start len answer ∷ reads) h = (tt, no_puts reads h.1)
-no_puts (Act.len path answer ∷ reads) h = (tt, no_puts reads h.1)
-
-pub only_reads : (a b : Reach) (reads : List Act) → IsCall a b reads → IsLater a.faults b.faults → b.store ≡ a.store → OnlyReads a b
-only_reads a b reads call later store = record {
-  objects = call.objects;
-  meaning = call.meaning;
-  acts = λ known began. (reads, call.adds known began, no_puts reads call.each);
-  later = later;
-  store = store;
-}
 
 pub outer_memory : (i j : Counts) (e : SlateDBError) → e ≡ OutOfMemory → IsCounted i j e
 outer_memory i j e h = subst (IsCounted i j) (sym h) tt

@@ -9,12 +9,17 @@
 --     IsPartCause before after e      a part's error has its cause
 --     HasAnswered r script said      what was written is the replies to the first lines
 --     HasBegun r script said      the same, and a front of one reply more
-use Rattle.std.specs.Prelude.{◌≡◌, ◌≢◌, ℕ, suc, ◌-◌, ◌⊎◌, Bool, ◌||◌, if◌then◌else◌, nat_lt, List, [], ◌∷◌, ◌++◌, length, take, Option, Some, None, is_some, option_map, IsTrue}
+--     HasSaid r script left before after result      what the sink took in a run, by what ended it
+--     HasRead script left result      what the source gave in a run, and which errors the script has
+--     HasCause source sink before after result      an error of a run with its cause; source, sink: their counts of faults rose
+--     NoneRose source sink before after      no count of faults rose
+use Rattle.std.specs.Prelude.{◌≡◌, ◌≢◌, ℕ, suc, ◌-◌, ◌⊎◌, Bool, ◌||◌, if◌then◌else◌, nat_lt, List, [], ◌∷◌, ◌++◌, length, take, drop, Option, Some, None, is_some, option_map, Result, Err, OnOk, IfErr, IsTrue}
 use Rattle.std.specs.List.{AllByRecursion}
 use Rattle.slate_types.specs.declared.config.Options.{Options}
 use Rattle.slate_types.specs.declared.error.SlateDBError.{SlateDBError}
 use Rattle.slate_types.specs.declared.error.SlateDBError.TheVariants.{ScriptSyntax, ScriptTooLong, OutOfMemory, ReadFault, WriteFault, StoreFault, Callback, BlockTransformError}
-use Rattle.slate_types.specs.Outside.{Objects, Counts, IsCounted}
+use Rattle.slate_types.specs.Faults.{Rose}
+use Rattle.slate_types.specs.Outside.{Objects, Counts, IsCounted, Reach}
 use Rattle.slate_store.specs.Lines.{lines_of, whole_part, script_limit}
 use Rattle.slate_store.specs.Store.{IsEmpty}
 use Rattle.slate_txn.specs.Settings.{settings_of}
@@ -22,7 +27,7 @@ use Rattle.slate_txn.specs.State.{Rules}
 use Rattle.slate_db.specs.Meaning.{Meaning, IsLawfulMeaning, rules_of}
 use Rattle.slate_db.specs.Parts.{IsDamage}
 use Rattle.slate_language.specs.Stage.{meaning}
-use Rattle.slate_language.specs.Replies.{is_silent, replies_to}
+use Rattle.slate_language.specs.Replies.{is_silent, replies, replies_to, IsWellFormed}
 
 abbrev pub run_rules : Options → Meaning → Rules
 run_rules o m = rules_of (settings_of o) m
@@ -102,3 +107,36 @@ pub record HasAnsweredAll (r : Rules) (script left said : List ℕ) : Type 0 whe
   pub whole : (done ≡ whole_part given) ⊎ ((done ≡ given) × (left ≡ []))
   pub meant : AreLines (lines_of done)
   pub all : said ≡ replies_to meaning r (lines_of done)
+
+-- ---- a run, by its result
+
+-- left: what the source still has; before, after: what the sink tells
+pub record HasSaid {T : Type 0} (r : Rules) (script : List ℕ) (left : Option (List ℕ)) (before : List ℕ) (after : Option (List ℕ)) (result : Result T SlateDBError) : Type 0 where
+  pub whole : OnOk result (after ≡ Some (before ++ replies r script))
+  pub by_script : IfErr result (λ e. script_error script ≡ Some e → after ≡ Some (before ++ replies_to meaning r (lines_taken script)))
+  pub by_source : result ≡ Err ReadFault → (rest said : List ℕ) × (left ≡ Some rest) × (after ≡ Some (before ++ said)) × HasAnsweredAll r script rest said
+  pub by_sink : result ≡ Err WriteFault → (said : List ℕ) × (after ≡ Some (before ++ said)) × HasBegun r script said
+  pub by_part : IfErr result (λ e. (e ≡ OutOfMemory) ⊎ IsPartError e → (said : List ℕ) × (after ≡ Some (before ++ said)) × HasAnswered r script said)
+
+-- all that a run can take of a script that is too long, and never more
+pub record HasRead {T : Type 0} (script : List ℕ) (left : Option (List ℕ)) (result : Result T SlateDBError) : Type 0 where
+  pub whole : OnOk result (IsWellFormed script × (left ≡ Some []))
+  pub no_error : OnOk result (script_error script ≡ None)
+  pub error : IfErr result (λ e. IsOutside e ⊎ (script_error script ≡ Some e))
+  pub too_long : result ≡ Err ScriptTooLong → left ≡ Some (drop script_limit script)
+  pub taken : (n : ℕ) × (n ≤ script_limit) × (left ≡ Some (drop n script))
+
+pub record HasCause {T : Type 0} (source sink : Type 0) (before after : Reach) (result : Result T SlateDBError) : Type 0 where
+  pub kinds : IfErr result (λ e. IsOutside e ⊎ IsScriptError e)
+  pub read_fault : result ≡ Err ReadFault → source
+  pub write_fault : result ≡ Err WriteFault → sink
+  pub store_fault : result ≡ Err StoreFault → Rose before.faults.store after.faults.store
+  pub operator_fault : (message : List ℕ) → result ≡ Err (Callback message) → Rose before.faults.operator after.faults.operator
+  pub transform_fault : result ≡ Err BlockTransformError → Rose before.faults.transformer after.faults.transformer
+
+pub record NoneRose (source sink : Type 0) (before after : Reach) : Type 0 where
+  pub source_still : source → ⊥
+  pub sink_still : sink → ⊥
+  pub store : Rose before.faults.store after.faults.store → ⊥
+  pub operator : Rose before.faults.operator after.faults.operator → ⊥
+  pub transformer : Rose before.faults.transformer after.faults.transformer → ⊥

@@ -14,7 +14,7 @@ ghost use Rattle.slate_language.specs.Replies.{replies, replies_to, after_lines,
 ghost use Rattle.slate_language.specs.Answers.{reply_of};
 ghost use Rattle.slate_language.specs.Stage.{meaning};
 ghost use Rattle.slate_script.specs.Session.{StandsFor, HasTablesAlone, IsRunning, IsSettled, IsLimit};
-ghost use Rattle.slate_script.specs.Run.{run_rules, Premises, is_line, script_error, lines_taken, IsPartError, IsPartCause, IsOutside, IsScriptError, HasAnswered, HasAnsweredAll, HasBegun};
+ghost use Rattle.slate_script.specs.Run.{run_rules, Premises, is_line, script_error, lines_taken, IsPartError, IsPartCause, HasCause, HasRead, HasSaid, NoneRose};
 ghost use Rattle.slate_script.specs.StoredState.{IsStoredState};
 ghost use Rattle.slate_script.specs.Told.{Follows, IsUntrue};
 
@@ -50,46 +50,20 @@ pub fn run_script<R: Source, W: Sink, S: Store, M: MergeOperator, T: BlockTransf
 ) -> Result<(), SlateDBError>
     requires { IsValid options.now }
 
-    // Ok: each line was answered as the model answers it, to the end of a script of lines.
-    ensures answered { let reach = ⟦<EnvOf<S, M, T> as Outside>⟧.reach in (script before : List ℕ) → R.left source.old ≡ Some script → W.content sink.old ≡ Some before → Premises (reach env.old).meaning (reach env.old).objects →
-        OnOk result (W.content sink.new ≡ Some (before ++ replies (run_rules options.now (reach env.old).meaning) script)) }
+    ensures said { let reach = ⟦<EnvOf<S, M, T> as Outside>⟧.reach in (script before : List ℕ) → R.left source.old ≡ Some script → W.content sink.old ≡ Some before → Premises (reach env.old).meaning (reach env.old).objects →
+        HasSaid (run_rules options.now (reach env.old).meaning) script (R.left source.new) before (W.content sink.new) result }
     ensures stored { let reach = ⟦<EnvOf<S, M, T> as Outside>⟧.reach in (script : List ℕ) → R.left source.old ≡ Some script → Premises (reach env.old).meaning (reach env.old).objects →
         OnOk result (IsStoredState (reach env.old).meaning (run_rules options.now (reach env.old).meaning) (layout_of options.now) (reach env.new).objects (after_lines meaning (run_rules options.now (reach env.old).meaning) opening (lines_of script))) }
-    ensures read { (script : List ℕ) → R.left source.old ≡ Some script → OnOk result (IsWellFormed script × (R.left source.new ≡ Some [])) }
+    ensures read { (script : List ℕ) → R.left source.old ≡ Some script → HasRead script (R.left source.new) result }
 
-    // which errors there are, and when
-    ensures no_error { (script : List ℕ) → R.left source.old ≡ Some script → OnOk result (script_error script ≡ None) }
-    ensures error { (script : List ℕ) → R.left source.old ≡ Some script → IfErr result (λ e. IsOutside e ⊎ (script_error script ≡ Some e)) }
-    ensures kinds { IfErr result (λ e. IsOutside e ⊎ IsScriptError e) }
-    ensures read_fault { result ≡ Err SlateDBError.ReadFault → Rose (R.faults source.old) (R.faults source.new) }
-    ensures write_fault { result ≡ Err SlateDBError.WriteFault → Rose (W.faults sink.old) (W.faults sink.new) }
-    ensures store_fault { let reach = ⟦<EnvOf<S, M, T> as Outside>⟧.reach in result ≡ Err SlateDBError.StoreFault → Rose (reach env.old).faults.store (reach env.new).faults.store }
-    ensures operator_fault { let reach = ⟦<EnvOf<S, M, T> as Outside>⟧.reach in (message : List ℕ) → result ≡ Err (SlateDBError.Callback message) → Rose (reach env.old).faults.operator (reach env.new).faults.operator }
-    ensures transform_fault { let reach = ⟦<EnvOf<S, M, T> as Outside>⟧.reach in result ≡ Err SlateDBError.BlockTransformError → Rose (reach env.old).faults.transformer (reach env.new).faults.transformer }
+    // errors: each has its cause, and no fault is passed over
+    ensures cause { let reach = ⟦<EnvOf<S, M, T> as Outside>⟧.reach in HasCause (Rose (R.faults source.old) (R.faults source.new)) (Rose (W.faults sink.old) (W.faults sink.new)) (reach env.old) (reach env.new) result }
     ensures undamaged { let reach = ⟦<EnvOf<S, M, T> as Outside>⟧.reach in Premises (reach env.old).meaning (reach env.old).objects → IfErr result (λ e. IsDamage e → ⊥) }
     ensures untrue { let reach = ⟦<EnvOf<S, M, T> as Outside>⟧.reach in IsLawfulMeaning (reach env.old).meaning → IfErr result (λ e. IsDamage e → IsUntrue [] (reach env.old).acts (reach env.new).acts) }
     ensures complete { let reach = ⟦<EnvOf<S, M, T> as Outside>⟧.reach in (script : List ℕ) → R.left source.old ≡ Some script → IsWellFormed script → Premises (reach env.old).meaning (reach env.old).objects →
-        (Rose (R.faults source.old) (R.faults source.new) → ⊥) → (Rose (W.faults sink.old) (W.faults sink.new) → ⊥) → (Rose (reach env.old).faults.store (reach env.new).faults.store → ⊥) →
-        (Rose (reach env.old).faults.operator (reach env.new).faults.operator → ⊥) → (Rose (reach env.old).faults.transformer (reach env.new).faults.transformer → ⊥) →
-        IfErr result (λ e. e ≡ SlateDBError.OutOfMemory) }
-
-    // no fault is passed over
+        NoneRose (Rose (R.faults source.old) (R.faults source.new)) (Rose (W.faults sink.old) (W.faults sink.new)) (reach env.old) (reach env.new) → IfErr result (λ e. e ≡ SlateDBError.OutOfMemory) }
     ensures source_still { (result ≡ Err SlateDBError.ReadFault) ⊎ (R.faults source.new ≡ R.faults source.old) }
     ensures sink_still { (result ≡ Err SlateDBError.WriteFault) ⊎ (W.faults sink.new ≡ W.faults sink.old) }
-
-    // what the sink took at an error
-    ensures by_script { let reach = ⟦<EnvOf<S, M, T> as Outside>⟧.reach in (script before : List ℕ) → R.left source.old ≡ Some script → W.content sink.old ≡ Some before → Premises (reach env.old).meaning (reach env.old).objects →
-        IfErr result (λ e. script_error script ≡ Some e → W.content sink.new ≡ Some (before ++ replies_to meaning (run_rules options.now (reach env.old).meaning) (lines_taken script))) }
-    ensures by_source { let reach = ⟦<EnvOf<S, M, T> as Outside>⟧.reach in (script before : List ℕ) → R.left source.old ≡ Some script → W.content sink.old ≡ Some before → Premises (reach env.old).meaning (reach env.old).objects → result ≡ Err SlateDBError.ReadFault →
-        (left said : List ℕ) × (R.left source.new ≡ Some left) × (W.content sink.new ≡ Some (before ++ said)) × HasAnsweredAll (run_rules options.now (reach env.old).meaning) script left said }
-    ensures by_sink { let reach = ⟦<EnvOf<S, M, T> as Outside>⟧.reach in (script before : List ℕ) → R.left source.old ≡ Some script → W.content sink.old ≡ Some before → Premises (reach env.old).meaning (reach env.old).objects → result ≡ Err SlateDBError.WriteFault →
-        (said : List ℕ) × (W.content sink.new ≡ Some (before ++ said)) × HasBegun (run_rules options.now (reach env.old).meaning) script said }
-    ensures by_part { let reach = ⟦<EnvOf<S, M, T> as Outside>⟧.reach in (script before : List ℕ) → R.left source.old ≡ Some script → W.content sink.old ≡ Some before → Premises (reach env.old).meaning (reach env.old).objects →
-        IfErr result (λ e. (e ≡ SlateDBError.OutOfMemory) ⊎ IsPartError e → (said : List ℕ) × (W.content sink.new ≡ Some (before ++ said)) × HasAnswered (run_rules options.now (reach env.old).meaning) script said) }
-
-    // what was read: all that a run can take of a script that is too long, and never more
-    ensures too_long { (script : List ℕ) → R.left source.old ≡ Some script → result ≡ Err SlateDBError.ScriptTooLong → R.left source.new ≡ Some (drop script_limit script) }
-    ensures taken { (script : List ℕ) → R.left source.old ≡ Some script → (n : ℕ) × (n ≤ script_limit) × (R.left source.new ≡ Some (drop n script)) }
     ensures later { (R.faults source.old ≤ R.faults source.new) × (W.faults sink.old ≤ W.faults sink.new) }
     ensures puts { let reach = ⟦<EnvOf<S, M, T> as Outside>⟧.reach in Puts (reach env.old) (reach env.new) }
 {

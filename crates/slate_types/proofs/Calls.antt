@@ -6,7 +6,7 @@ use Rattle.std.proofs.lemmas.List.{append_cancel_left}
 use Rattle.std.proofs.lemmas.List.Elements.{Contains-append_left, Contains-append_right}
 use Rattle.std.proofs.lemmas.Option.{same_Some}
 use Rattle.slate_types.specs.declared.error.SlateDBError.{SlateDBError}
-use Rattle.slate_types.specs.Outside.{Objects, Act, object_at, part_of, no_reach, Reach}
+use Rattle.slate_types.specs.Outside.{Objects, Act, object_at, part_of, no_reach, IsLater, OnlyReads, PutsNothing, Reach}
 use Rattle.slate_types.specs.World.{Kept, World, nothing, IsReadAct, AnswersObjects, AnswersAs, IsCall, Made, HoldsWorld, Honest, Answered, Sees, IsSlip, Slips, Checks}
 use Rattle.slate_types.specs.Refusing.{Refusals, NoMore, NoMoreBut}
 
@@ -99,6 +99,22 @@ sees_nothing = met nothing no_reach no_reach [] [] refl refl (call_none no_reach
 -- and read nothing
 pub reads_no_act : (reads : List Act) → IsCall no_reach no_reach reads → reads ≡ []
 reads_no_act reads call = sym (same_Some _ _ (call.adds [] refl))
+
+-- what a call read puts nothing
+no_puts : (reads : List Act) → AllByRecursion IsReadAct reads → AllByRecursion PutsNothing reads
+no_puts [] h = tt
+no_puts (Act.put path bytes ∷ reads) h = absurd h.0
+no_puts (Act.read path start len answer ∷ reads) h = (tt, no_puts reads h.1)
+no_puts (Act.len path answer ∷ reads) h = (tt, no_puts reads h.1)
+
+pub only_reads : (a b : Reach) (reads : List Act) → IsCall a b reads → IsLater a.faults b.faults → b.store ≡ a.store → OnlyReads a b
+only_reads a b reads call later store = record {
+  objects = call.objects;
+  meaning = call.meaning;
+  acts = λ known began. (reads, call.adds known began, no_puts reads call.each);
+  later = later;
+  store = store;
+}
 
 -- ---- what slips
 

@@ -4,9 +4,10 @@ ghost use Rattle.std.specs.List.{AllByRecursion};
 ghost use Rattle.slate_types.specs.declared.error.SlateDBError.{SlateDBError};
 ghost use Rattle.slate_types.specs.declared.iter.IterationOrder.{IterationOrder};
 ghost use Rattle.slate_types.specs.declared.types.RowEntry.{RowEntry};
-ghost use Rattle.slate_types.specs.Iteration.{comes_before, drop_before, IsInOrder, TakesAll, TakesRow};
+ghost use Rattle.slate_types.specs.Iteration.{comes_before, drop_before, IsInOrder, TakesRow};
 ghost use Rattle.slate_types.specs.Outside.{Act, Meaning, Reach, no_reach, IsFault, OnlyReads};
 ghost use Rattle.slate_types.specs.Refusing.{IsDamage, IsReady, NoMore, NoMoreBut};
+ghost use Rattle.slate_types.specs.Steps.{TakesAll};
 ghost use Rattle.slate_types.specs.World.{World, AnswersAs, Checks, Made, Sees};
 
 use crate::bytes_range::is_before;
@@ -147,7 +148,7 @@ pub fn collect_rows<E: Outside, I: RowEntryIterator<E>>(
     env: &mut E,
 ) -> Result<Vec<RowEntry>, SlateDBError>
     ensures rows { (w : World) → Sees w (E.reach env.old) (E.reach env.new) → I.sound rows.old w → IfOk result (λ taken. taken.items ≡ I.rest rows.old w) }
-    ensures takes { IfOk result (λ taken. TakesAll (λ before answer after. (reads : List Act) × I.takes before (E.reach env.old).meaning reads answer after) rows.old taken.items rows.new) }
+    ensures takes { IfOk result (λ taken. Made (E.reach env.old) (E.reach env.new) (λ reads. TakesAll (λ x by answer y. I.takes x (E.reach env.old).meaning by answer y) rows.old reads taken.items rows.new)) }
     ensures spent { (w : World) → Sees w (E.reach env.old) (E.reach env.new) → I.sound rows.old w → OnOk result (I.rest rows.new w ≡ []) }
     ensures checked { (w : World) → I.sound rows.old w → OnOk result (Checks w (E.reach env.old) (E.reach env.new)) }
     ensures cause { IfErr result (λ e. Made (E.reach env.old) (E.reach env.new) (λ reads. IsFault (E.reach env.old) (E.reach env.new) e ⊎ I.refuses rows.old (E.reach env.old).meaning reads None e)) }

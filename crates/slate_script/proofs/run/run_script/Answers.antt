@@ -60,59 +60,61 @@ loop-line-init g c = record {
 pub returns-in-Err : goal.returns-in-Err
 returns-in-Err g c =
     record {
-      answered = λ script before is told premises. tt;
-      stored = λ script is premises. tt;
-      read = λ script is. tt;
-      no_error = λ script is. tt;
-      error = (λ script is.
-          let at = c.loop-line.invariant.told script is in
-          let told = c.in-Err.ensures.told at.left at.rest in
-          (reader-error c.next.new.self told.0 c.in-Err.error at told.2 (λ h. c.in-Err.ensures.too_long (ap Err h)) c.in-Err.ensures.cause));
-      kinds = (reader-kinds c.in-Err.error c.in-Err.ensures.cause);
-      read_fault = (λ fault.
-          rose-from _ _ _ c.loop-line.invariant.source_later (c.in-Err.ensures.read_fault (ap Err (same-error c.in-Err.error ReadFault (Err c.in-Err.error) refl fault))).0);
-      write_fault = (λ fault.
-          absurd (reader-not-write c.in-Err.error c.in-Err.ensures.cause (same-error c.in-Err.error WriteFault (Err c.in-Err.error) refl fault)));
-      store_fault = (λ fault.
-          absurd (reader-no-part c.in-Err.error c.in-Err.ensures.cause (subst IsPartError (sym (same-error c.in-Err.error StoreFault (Err c.in-Err.error) refl fault)) tt)));
-      operator_fault = (λ message fault.
-          absurd (reader-no-part c.in-Err.error c.in-Err.ensures.cause (subst IsPartError (sym (same-error c.in-Err.error (Callback message) (Err c.in-Err.error) refl fault)) tt)));
-      transform_fault = (λ fault.
-          absurd (reader-no-part c.in-Err.error c.in-Err.ensures.cause (subst IsPartError (sym (same-error c.in-Err.error BlockTransformError (Err c.in-Err.error) refl fault)) tt)));
-      undamaged = (λ premises.
-          (reader-undamaged c.in-Err.error c.in-Err.ensures.cause));
-      untrue = (λ lawful.
-          (λ damage. absurd (reader-undamaged c.in-Err.error c.in-Err.ensures.cause damage)));
-      complete = (λ script is formed premises no-read no-write no-store no-operator no-transformer.
-          let at = c.loop-line.invariant.told script is in
-          let told = c.in-Err.ensures.told at.left at.rest in
-          let by = reader-error c.next.new.self told.0 c.in-Err.error at told.2 (λ h. c.in-Err.ensures.too_long (ap Err h)) c.in-Err.ensures.cause in
-          (reader-complete script c.in-Err.error by c.in-Err.ensures.cause formed (λ h. no-read (rose-from _ _ _ c.loop-line.invariant.source_later (c.in-Err.ensures.read_fault (ap Err h)).0))));
-      source_still = error-or c.in-Err.error ReadFault _ (Err c.in-Err.error) refl refl c.in-Err.ensures.still (λ h. h ∙ c.loop-line.invariant.source_still);
-      sink_still = inr c.loop-line.invariant.sink_still;
-      by_script = (λ script before is told-is premises.
-          let at = c.loop-line.invariant.told script is in
+      said = λ script before is told-is premises. record {
+        whole = (tt);
+        by_script = (let at = c.loop-line.invariant.told script is in
           let told = c.in-Err.ensures.told at.left at.rest in
           (λ by. reader-script c.next.new.self told.0 before c.in-Err.error at told.2 (λ h. c.in-Err.ensures.too_long (ap Err h)) c.in-Err.ensures.cause premises told-is by));
-      by_source = (λ script before is told-is premises fault.
+        by_source = (λ fault.
           let kind : c.in-Err.error ≡ ReadFault = same-error c.in-Err.error ReadFault (Err c.in-Err.error) refl fault in
           let at = c.loop-line.invariant.told script is in
           let told = c.in-Err.ensures.told at.left at.rest in
           (told.0, replies_to meaning (run_rules c.args.options.now (meaning_of g.M.MergeOperator.combine g.T.BlockTransformer.encoded g.T.BlockTransformer.decoded c.args.env.now.operator c.args.env.now.transformer)) (lines_of at.done), told.1, at.said premises before told-is, reader-source c.next.new.self told.0 at told.2 (c.in-Err.ensures.read_fault (ap Err kind)).1));
-      by_sink = (λ script before is told premises fault.
+        by_sink = (λ fault.
           absurd (reader-not-write c.in-Err.error c.in-Err.ensures.cause (same-error c.in-Err.error WriteFault (Err c.in-Err.error) refl fault)));
-      by_part = (λ script before is told-is premises.
-          let at = c.loop-line.invariant.told script is in
+        by_part = (let at = c.loop-line.invariant.told script is in
           (λ which. (replies_to meaning (run_rules c.args.options.now (meaning_of g.M.MergeOperator.combine g.T.BlockTransformer.encoded g.T.BlockTransformer.decoded c.args.env.now.operator c.args.env.now.transformer)) (lines_of at.done), at.said premises before told-is, reader-memory at)));
-      too_long = (λ script is long.
+      };
+      stored = λ script is premises. tt;
+      read = λ script is. record {
+        whole = (tt);
+        no_error = (tt);
+        error = (let at = c.loop-line.invariant.told script is in
+          let told = c.in-Err.ensures.told at.left at.rest in
+          (reader-error c.next.new.self told.0 c.in-Err.error at told.2 (λ h. c.in-Err.ensures.too_long (ap Err h)) c.in-Err.ensures.cause));
+        too_long = (λ long.
           let kind : c.in-Err.error ≡ ScriptTooLong = same-error c.in-Err.error ScriptTooLong (Err c.in-Err.error) refl long in
           let at = c.loop-line.invariant.told script is in
           let told = c.in-Err.ensures.told at.left at.rest in
           reader-full c.next.new.self told.0 (g.R.Source.left c.next.new.source) at told.2 (c.in-Err.ensures.too_long (ap Err kind)).0 told.1);
-      taken = (λ script is.
-          let at = c.loop-line.invariant.told script is in
+        taken = (let at = c.loop-line.invariant.told script is in
           let told = c.in-Err.ensures.told at.left at.rest in
           reader-read c.next.new.self told.0 (g.R.Source.left c.next.new.source) at told.2 c.in-Err.ensures.within told.1);
+      };
+      cause = record {
+        kinds = (reader-kinds c.in-Err.error c.in-Err.ensures.cause);
+        read_fault = (λ fault.
+          rose-from _ _ _ c.loop-line.invariant.source_later (c.in-Err.ensures.read_fault (ap Err (same-error c.in-Err.error ReadFault (Err c.in-Err.error) refl fault))).0);
+        write_fault = (λ fault.
+          absurd (reader-not-write c.in-Err.error c.in-Err.ensures.cause (same-error c.in-Err.error WriteFault (Err c.in-Err.error) refl fault)));
+        store_fault = (λ fault.
+          absurd (reader-no-part c.in-Err.error c.in-Err.ensures.cause (subst IsPartError (sym (same-error c.in-Err.error StoreFault (Err c.in-Err.error) refl fault)) tt)));
+        operator_fault = (λ message fault.
+          absurd (reader-no-part c.in-Err.error c.in-Err.ensures.cause (subst IsPartError (sym (same-error c.in-Err.error (Callback message) (Err c.in-Err.error) refl fault)) tt)));
+        transform_fault = (λ fault.
+          absurd (reader-no-part c.in-Err.error c.in-Err.ensures.cause (subst IsPartError (sym (same-error c.in-Err.error BlockTransformError (Err c.in-Err.error) refl fault)) tt)));
+      };
+      undamaged = (λ premises.
+          (reader-undamaged c.in-Err.error c.in-Err.ensures.cause));
+      untrue = (λ lawful.
+          (λ damage. absurd (reader-undamaged c.in-Err.error c.in-Err.ensures.cause damage)));
+      complete = (λ script is formed premises none.
+          let at = c.loop-line.invariant.told script is in
+          let told = c.in-Err.ensures.told at.left at.rest in
+          let by = reader-error c.next.new.self told.0 c.in-Err.error at told.2 (λ h. c.in-Err.ensures.too_long (ap Err h)) c.in-Err.ensures.cause in
+          (reader-complete script c.in-Err.error by c.in-Err.ensures.cause formed (λ h. none.source_still (rose-from _ _ _ c.loop-line.invariant.source_later (c.in-Err.ensures.read_fault (ap Err h)).0))));
+      source_still = error-or c.in-Err.error ReadFault _ (Err c.in-Err.error) refl refl c.in-Err.ensures.still (λ h. h ∙ c.loop-line.invariant.source_still);
+      sink_still = inr c.loop-line.invariant.sink_still;
       later = (omega (arith, c.loop-line.invariant.source_later, c.next.ensures.later), c.loop-line.invariant.sink_later);
       puts = c.loop-line.invariant.puts;
     }
@@ -128,43 +130,13 @@ its-cause g c =
 pub returns-in-Err-answer_line : goal.returns-in-Err-answer_line
 returns-in-Err-answer_line g c =
     record {
-      answered = λ script before is told premises. tt;
-      stored = λ script is premises. tt;
-      read = λ script is. tt;
-      no_error = λ script is. tt;
-      error = (λ script is.
-          let took = took-told (λ v. v.items) c.in-Ok-Some.field-0 c.in-Ok-Some.line c.as_slice.result.now (g.R.Source.left c.next.new.source) c.next.new.self c.in-Ok-Some.ensures.told c.in-Ok-Some.ensures.within c.in-Ok-Some.field-0-is c.as_slice.ensures.value (c.loop-line.invariant.told script is) in
-          (line-error c.in-Err-answer_line.error took (its-cause g c)));
-      kinds = (line-kinds (c.loop-line.number + 1) c.as_slice.result.now c.in-Err-answer_line.error (its-cause g c));
-      read_fault = λ fault. absurd (line-not-read (c.loop-line.number + 1) c.as_slice.result.now c.in-Err-answer_line.error (its-cause g c) (same-error c.in-Err-answer_line.error ReadFault (Err c.in-Err-answer_line.error) refl fault));
-      write_fault = λ fault. rose-from _ _ _ c.loop-line.invariant.sink_later (c.in-Err-answer_line.ensures.write_fault (ap Err (same-error c.in-Err-answer_line.error WriteFault (Err c.in-Err-answer_line.error) refl fault))).0;
-      store_fault = (λ fault.
-          let kind : c.in-Err-answer_line.error ≡ StoreFault = same-error c.in-Err-answer_line.error StoreFault (Err c.in-Err-answer_line.error) refl fault in
-          rose-from _ _ _ c.loop-line.invariant.puts.later.store (store-rose (counts_of (g.S.Store.faults c.loop-line.env.store.now) g.M.MergeOperator.faults g.T.BlockTransformer.faults c.loop-line.env.operator c.loop-line.env.transformer) (counts_of (g.S.Store.faults c.answer_line.new.env.store.now) g.M.MergeOperator.faults g.T.BlockTransformer.faults c.answer_line.new.env.operator c.answer_line.new.env.transformer) c.in-Err-answer_line.error kind (c.in-Err-answer_line.ensures.part (subst IsPartError (sym kind) tt))));
-      operator_fault = (λ message fault.
-          let kind : c.in-Err-answer_line.error ≡ (Callback message) = same-error c.in-Err-answer_line.error (Callback message) (Err c.in-Err-answer_line.error) refl fault in
-          rose-from _ _ _ c.loop-line.invariant.puts.later.operator (operator-rose (counts_of (g.S.Store.faults c.loop-line.env.store.now) g.M.MergeOperator.faults g.T.BlockTransformer.faults c.loop-line.env.operator c.loop-line.env.transformer) (counts_of (g.S.Store.faults c.answer_line.new.env.store.now) g.M.MergeOperator.faults g.T.BlockTransformer.faults c.answer_line.new.env.operator c.answer_line.new.env.transformer) c.in-Err-answer_line.error message kind (c.in-Err-answer_line.ensures.part (subst IsPartError (sym kind) tt))));
-      transform_fault = (λ fault.
-          let kind : c.in-Err-answer_line.error ≡ BlockTransformError = same-error c.in-Err-answer_line.error BlockTransformError (Err c.in-Err-answer_line.error) refl fault in
-          rose-from _ _ _ c.loop-line.invariant.puts.later.transformer (transformer-rose (counts_of (g.S.Store.faults c.loop-line.env.store.now) g.M.MergeOperator.faults g.T.BlockTransformer.faults c.loop-line.env.operator c.loop-line.env.transformer) (counts_of (g.S.Store.faults c.answer_line.new.env.store.now) g.M.MergeOperator.faults g.T.BlockTransformer.faults c.answer_line.new.env.operator c.answer_line.new.env.transformer) c.in-Err-answer_line.error kind (c.in-Err-answer_line.ensures.part (subst IsPartError (sym kind) tt))));
-      undamaged = (λ premises.
-          (c.in-Err-answer_line.ensures.undamaged (meaning_of g.M.MergeOperator.combine g.T.BlockTransformer.encoded g.T.BlockTransformer.decoded c.args.env.now.operator c.args.env.now.transformer) (run_rules c.args.options.now (meaning_of g.M.MergeOperator.combine g.T.BlockTransformer.encoded g.T.BlockTransformer.decoded c.args.env.now.operator c.args.env.now.transformer)) (c.loop-line.invariant.running premises)));
-      untrue = (λ lawful.
-          (λ damage. untrue-on (meaning_of g.M.MergeOperator.combine g.T.BlockTransformer.encoded g.T.BlockTransformer.decoded c.args.env.now.operator c.args.env.now.transformer) c.loop-line.session (g.S.Store.acts c.args.env.now.store.now) (g.S.Store.acts c.loop-line.env.store.now) (g.S.Store.acts c.answer_line.new.env.store.now) (c.loop-line.invariant.followed lawful)
-          (subst (λ (m : Meaning). (os : Objects) → IsSettled m (Some os) c.loop-line.session → IsUntrue os (g.S.Store.acts c.loop-line.env.store.now) (g.S.Store.acts c.answer_line.new.env.store.now)) c.loop-line.invariant.puts.meaning (λ os settled. c.in-Err-answer_line.ensures.untrue os settled damage))));
-      complete = (λ script is formed premises no-read no-write no-store no-operator no-transformer.
-          let took = took-told (λ v. v.items) c.in-Ok-Some.field-0 c.in-Ok-Some.line c.as_slice.result.now (g.R.Source.left c.next.new.source) c.next.new.self c.in-Ok-Some.ensures.told c.in-Ok-Some.ensures.within c.in-Ok-Some.field-0-is c.as_slice.ensures.value (c.loop-line.invariant.told script is) in
-          let by = line-error c.in-Err-answer_line.error took (its-cause g c) in
-          (only-memory c.in-Err-answer_line.error (line-complete script c.as_slice.result.now (c.loop-line.number + 1) c.in-Err-answer_line.error by (its-cause g c) formed (λ h. no-write (rose-from _ _ _ c.loop-line.invariant.sink_later (c.in-Err-answer_line.ensures.write_fault (ap Err h)).0)))
-          (λ part. no-part (counts_of (g.S.Store.faults c.loop-line.env.store.now) g.M.MergeOperator.faults g.T.BlockTransformer.faults c.loop-line.env.operator c.loop-line.env.transformer) (counts_of (g.S.Store.faults c.answer_line.new.env.store.now) g.M.MergeOperator.faults g.T.BlockTransformer.faults c.answer_line.new.env.operator c.answer_line.new.env.transformer) c.in-Err-answer_line.error (λ h. no-store (rose-from _ _ _ c.loop-line.invariant.puts.later.store h)) (λ h. no-operator (rose-from _ _ _ c.loop-line.invariant.puts.later.operator h)) (λ h. no-transformer (rose-from _ _ _ c.loop-line.invariant.puts.later.transformer h))
-          (c.in-Err-answer_line.ensures.undamaged (meaning_of g.M.MergeOperator.combine g.T.BlockTransformer.encoded g.T.BlockTransformer.decoded c.args.env.now.operator c.args.env.now.transformer) (run_rules c.args.options.now (meaning_of g.M.MergeOperator.combine g.T.BlockTransformer.encoded g.T.BlockTransformer.decoded c.args.env.now.operator c.args.env.now.transformer)) (c.loop-line.invariant.running premises)) part (c.in-Err-answer_line.ensures.part part))));
-      source_still = inr (unless-error c.in-Ok-Some.field-0 ReadFault c.in-Ok-Some.ensures.still ∙ c.loop-line.invariant.source_still);
-      sink_still = error-is-or c.in-Err-answer_line.error WriteFault (Err c.in-Err-answer_line.error) refl c.in-Err-answer_line.ensures.uncounted (λ h. h ∙ c.loop-line.invariant.sink_still);
-      by_script = (λ script before is told-is premises.
-          let took = took-told (λ v. v.items) c.in-Ok-Some.field-0 c.in-Ok-Some.line c.as_slice.result.now (g.R.Source.left c.next.new.source) c.next.new.self c.in-Ok-Some.ensures.told c.in-Ok-Some.ensures.within c.in-Ok-Some.field-0-is c.as_slice.ensures.value (c.loop-line.invariant.told script is) in
+      said = λ script before is told-is premises. record {
+        whole = (tt);
+        by_script = (let took = took-told (λ v. v.items) c.in-Ok-Some.field-0 c.in-Ok-Some.line c.as_slice.result.now (g.R.Source.left c.next.new.source) c.next.new.self c.in-Ok-Some.ensures.told c.in-Ok-Some.ensures.within c.in-Ok-Some.field-0-is c.as_slice.ensures.value (c.loop-line.invariant.told script is) in
           (λ by. line-script (g.W.Sink.content c.answer_line.new.sink) before c.in-Err-answer_line.error took (its-cause g c) c.in-Err-answer_line.ensures.unanswered premises told-is by));
-      by_source = λ script before is told premises fault. absurd (line-not-read (c.loop-line.number + 1) c.as_slice.result.now c.in-Err-answer_line.error (its-cause g c) (same-error c.in-Err-answer_line.error ReadFault (Err c.in-Err-answer_line.error) refl fault));
-      by_sink = (λ script before is told-is premises fault.
+        by_source = (λ fault.
+          absurd (line-not-read (c.loop-line.number + 1) c.as_slice.result.now c.in-Err-answer_line.error (its-cause g c) (same-error c.in-Err-answer_line.error ReadFault (Err c.in-Err-answer_line.error) refl fault)));
+        by_sink = (λ fault.
           let kind : c.in-Err-answer_line.error ≡ WriteFault = same-error c.in-Err-answer_line.error WriteFault (Err c.in-Err-answer_line.error) refl fault in
           let took = took-told (λ v. v.items) c.in-Ok-Some.field-0 c.in-Ok-Some.line c.as_slice.result.now (g.R.Source.left c.next.new.source) c.next.new.self c.in-Ok-Some.ensures.told c.in-Ok-Some.ensures.within c.in-Ok-Some.field-0-is c.as_slice.ensures.value (c.loop-line.invariant.told script is) in
           let done = replies_to meaning (run_rules c.args.options.now (meaning_of g.M.MergeOperator.combine g.T.BlockTransformer.encoded g.T.BlockTransformer.decoded c.args.env.now.operator c.args.env.now.transformer)) (lines_of took.done) in
@@ -173,19 +145,52 @@ returns-in-Err-answer_line g c =
           let begun : (n : ℕ) × (n < length reply) × (g.W.Sink.content c.answer_line.new.sink ≡ Some ((before ++ done) ++ take n reply)) =
           c.in-Err-answer_line.ensures.begun (meaning_of g.M.MergeOperator.combine g.T.BlockTransformer.encoded g.T.BlockTransformer.decoded c.args.env.now.operator c.args.env.now.transformer) (run_rules c.args.options.now (meaning_of g.M.MergeOperator.combine g.T.BlockTransformer.encoded g.T.BlockTransformer.decoded c.args.env.now.operator c.args.env.now.transformer)) (c.loop-line.invariant.running premises) state (before ++ done) (took.session premises) (took.said premises before told-is) (ap Err kind) in
           (done ++ take begun.0 reply, begun.2 ∙ ap Some (append_assoc before done (take begun.0 reply)), line-sink begun.0 took (c.in-Err-answer_line.ensures.write_fault (ap Err kind)).1 begun.1));
-      by_part = (λ script before is told-is premises.
-          let took = took-told (λ v. v.items) c.in-Ok-Some.field-0 c.in-Ok-Some.line c.as_slice.result.now (g.R.Source.left c.next.new.source) c.next.new.self c.in-Ok-Some.ensures.told c.in-Ok-Some.ensures.within c.in-Ok-Some.field-0-is c.as_slice.ensures.value (c.loop-line.invariant.told script is) in
+        by_part = (let took = took-told (λ v. v.items) c.in-Ok-Some.field-0 c.in-Ok-Some.line c.as_slice.result.now (g.R.Source.left c.next.new.source) c.next.new.self c.in-Ok-Some.ensures.told c.in-Ok-Some.ensures.within c.in-Ok-Some.field-0-is c.as_slice.ensures.value (c.loop-line.invariant.told script is) in
           (λ which. (
             replies_to meaning (run_rules c.args.options.now (meaning_of g.M.MergeOperator.combine g.T.BlockTransformer.encoded g.T.BlockTransformer.decoded c.args.env.now.operator c.args.env.now.transformer)) (lines_of took.done),
             untouched c.in-Err-answer_line.error (g.W.Sink.content c.loop-line.sink) (g.W.Sink.content c.answer_line.new.sink) c.in-Err-answer_line.ensures.unanswered which ∙ took.said premises before told-is,
             line-memory took,
           )));
-      too_long = (λ script is long.
+      };
+      stored = λ script is premises. tt;
+      read = λ script is. record {
+        whole = (tt);
+        no_error = (tt);
+        error = (let took = took-told (λ v. v.items) c.in-Ok-Some.field-0 c.in-Ok-Some.line c.as_slice.result.now (g.R.Source.left c.next.new.source) c.next.new.self c.in-Ok-Some.ensures.told c.in-Ok-Some.ensures.within c.in-Ok-Some.field-0-is c.as_slice.ensures.value (c.loop-line.invariant.told script is) in
+          (line-error c.in-Err-answer_line.error took (its-cause g c)));
+        too_long = (λ long.
           let kind : c.in-Err-answer_line.error ≡ ScriptTooLong = same-error c.in-Err-answer_line.error ScriptTooLong (Err c.in-Err-answer_line.error) refl long in
           absurd (line-not-long (c.loop-line.number + 1) c.as_slice.result.now c.in-Err-answer_line.error (its-cause g c) kind));
-      taken = (λ script is.
-          let took = took-told (λ v. v.items) c.in-Ok-Some.field-0 c.in-Ok-Some.line c.as_slice.result.now (g.R.Source.left c.next.new.source) c.next.new.self c.in-Ok-Some.ensures.told c.in-Ok-Some.ensures.within c.in-Ok-Some.field-0-is c.as_slice.ensures.value (c.loop-line.invariant.told script is) in
+        taken = (let took = took-told (λ v. v.items) c.in-Ok-Some.field-0 c.in-Ok-Some.line c.as_slice.result.now (g.R.Source.left c.next.new.source) c.next.new.self c.in-Ok-Some.ensures.told c.in-Ok-Some.ensures.within c.in-Ok-Some.field-0-is c.as_slice.ensures.value (c.loop-line.invariant.told script is) in
           line-read took c.in-Ok-Some.ensures.within);
+      };
+      cause = record {
+        kinds = (line-kinds (c.loop-line.number + 1) c.as_slice.result.now c.in-Err-answer_line.error (its-cause g c));
+        read_fault = λ fault. absurd (line-not-read (c.loop-line.number + 1) c.as_slice.result.now c.in-Err-answer_line.error (its-cause g c) (same-error c.in-Err-answer_line.error ReadFault (Err c.in-Err-answer_line.error) refl fault));
+        write_fault = λ fault. rose-from _ _ _ c.loop-line.invariant.sink_later (c.in-Err-answer_line.ensures.write_fault (ap Err (same-error c.in-Err-answer_line.error WriteFault (Err c.in-Err-answer_line.error) refl fault))).0;
+        store_fault = (λ fault.
+          let kind : c.in-Err-answer_line.error ≡ StoreFault = same-error c.in-Err-answer_line.error StoreFault (Err c.in-Err-answer_line.error) refl fault in
+          rose-from _ _ _ c.loop-line.invariant.puts.later.store (store-rose (counts_of (g.S.Store.faults c.loop-line.env.store.now) g.M.MergeOperator.faults g.T.BlockTransformer.faults c.loop-line.env.operator c.loop-line.env.transformer) (counts_of (g.S.Store.faults c.answer_line.new.env.store.now) g.M.MergeOperator.faults g.T.BlockTransformer.faults c.answer_line.new.env.operator c.answer_line.new.env.transformer) c.in-Err-answer_line.error kind (c.in-Err-answer_line.ensures.part (subst IsPartError (sym kind) tt))));
+        operator_fault = (λ message fault.
+          let kind : c.in-Err-answer_line.error ≡ (Callback message) = same-error c.in-Err-answer_line.error (Callback message) (Err c.in-Err-answer_line.error) refl fault in
+          rose-from _ _ _ c.loop-line.invariant.puts.later.operator (operator-rose (counts_of (g.S.Store.faults c.loop-line.env.store.now) g.M.MergeOperator.faults g.T.BlockTransformer.faults c.loop-line.env.operator c.loop-line.env.transformer) (counts_of (g.S.Store.faults c.answer_line.new.env.store.now) g.M.MergeOperator.faults g.T.BlockTransformer.faults c.answer_line.new.env.operator c.answer_line.new.env.transformer) c.in-Err-answer_line.error message kind (c.in-Err-answer_line.ensures.part (subst IsPartError (sym kind) tt))));
+        transform_fault = (λ fault.
+          let kind : c.in-Err-answer_line.error ≡ BlockTransformError = same-error c.in-Err-answer_line.error BlockTransformError (Err c.in-Err-answer_line.error) refl fault in
+          rose-from _ _ _ c.loop-line.invariant.puts.later.transformer (transformer-rose (counts_of (g.S.Store.faults c.loop-line.env.store.now) g.M.MergeOperator.faults g.T.BlockTransformer.faults c.loop-line.env.operator c.loop-line.env.transformer) (counts_of (g.S.Store.faults c.answer_line.new.env.store.now) g.M.MergeOperator.faults g.T.BlockTransformer.faults c.answer_line.new.env.operator c.answer_line.new.env.transformer) c.in-Err-answer_line.error kind (c.in-Err-answer_line.ensures.part (subst IsPartError (sym kind) tt))));
+      };
+      undamaged = (λ premises.
+          (c.in-Err-answer_line.ensures.undamaged (meaning_of g.M.MergeOperator.combine g.T.BlockTransformer.encoded g.T.BlockTransformer.decoded c.args.env.now.operator c.args.env.now.transformer) (run_rules c.args.options.now (meaning_of g.M.MergeOperator.combine g.T.BlockTransformer.encoded g.T.BlockTransformer.decoded c.args.env.now.operator c.args.env.now.transformer)) (c.loop-line.invariant.running premises)));
+      untrue = (λ lawful.
+          (λ damage. untrue-on (meaning_of g.M.MergeOperator.combine g.T.BlockTransformer.encoded g.T.BlockTransformer.decoded c.args.env.now.operator c.args.env.now.transformer) c.loop-line.session (g.S.Store.acts c.args.env.now.store.now) (g.S.Store.acts c.loop-line.env.store.now) (g.S.Store.acts c.answer_line.new.env.store.now) (c.loop-line.invariant.followed lawful)
+          (subst (λ (m : Meaning). (os : Objects) → IsSettled m (Some os) c.loop-line.session → IsUntrue os (g.S.Store.acts c.loop-line.env.store.now) (g.S.Store.acts c.answer_line.new.env.store.now)) c.loop-line.invariant.puts.meaning (λ os settled. c.in-Err-answer_line.ensures.untrue os settled damage))));
+      complete = (λ script is formed premises none.
+          let took = took-told (λ v. v.items) c.in-Ok-Some.field-0 c.in-Ok-Some.line c.as_slice.result.now (g.R.Source.left c.next.new.source) c.next.new.self c.in-Ok-Some.ensures.told c.in-Ok-Some.ensures.within c.in-Ok-Some.field-0-is c.as_slice.ensures.value (c.loop-line.invariant.told script is) in
+          let by = line-error c.in-Err-answer_line.error took (its-cause g c) in
+          (only-memory c.in-Err-answer_line.error (line-complete script c.as_slice.result.now (c.loop-line.number + 1) c.in-Err-answer_line.error by (its-cause g c) formed (λ h. none.sink_still (rose-from _ _ _ c.loop-line.invariant.sink_later (c.in-Err-answer_line.ensures.write_fault (ap Err h)).0)))
+          (λ part. no-part (counts_of (g.S.Store.faults c.loop-line.env.store.now) g.M.MergeOperator.faults g.T.BlockTransformer.faults c.loop-line.env.operator c.loop-line.env.transformer) (counts_of (g.S.Store.faults c.answer_line.new.env.store.now) g.M.MergeOperator.faults g.T.BlockTransformer.faults c.answer_line.new.env.operator c.answer_line.new.env.transformer) c.in-Err-answer_line.error (λ h. none.store (rose-from _ _ _ c.loop-line.invariant.puts.later.store h)) (λ h. none.operator (rose-from _ _ _ c.loop-line.invariant.puts.later.operator h)) (λ h. none.transformer (rose-from _ _ _ c.loop-line.invariant.puts.later.transformer h))
+          (c.in-Err-answer_line.ensures.undamaged (meaning_of g.M.MergeOperator.combine g.T.BlockTransformer.encoded g.T.BlockTransformer.decoded c.args.env.now.operator c.args.env.now.transformer) (run_rules c.args.options.now (meaning_of g.M.MergeOperator.combine g.T.BlockTransformer.encoded g.T.BlockTransformer.decoded c.args.env.now.operator c.args.env.now.transformer)) (c.loop-line.invariant.running premises)) part (c.in-Err-answer_line.ensures.part part))));
+      source_still = inr (unless-error c.in-Ok-Some.field-0 ReadFault c.in-Ok-Some.ensures.still ∙ c.loop-line.invariant.source_still);
+      sink_still = error-is-or c.in-Err-answer_line.error WriteFault (Err c.in-Err-answer_line.error) refl c.in-Err-answer_line.ensures.uncounted (λ h. h ∙ c.loop-line.invariant.sink_still);
       later = (omega (arith, c.loop-line.invariant.source_later, c.next.ensures.later), omega (arith, c.loop-line.invariant.sink_later, c.answer_line.ensures.later));
       puts = puts_then _ _ _ c.loop-line.invariant.puts c.answer_line.ensures.puts;
     }
@@ -226,10 +231,17 @@ loop-line-preserved g c = record {
 pub returns : goal.returns
 returns g c =
     record {
-      answered = (λ script before is told premises.
-          let at = c.loop-line.invariant.told script is in
+      said = λ script before is told-is premises. record {
+        whole = (let at = c.loop-line.invariant.told script is in
           let end = end-told (λ v. v.items) c.in-Ok-None.field-0 (g.R.Source.left c.next.new.source) c.next.new.self c.in-Ok-None.ensures.told c.in-Ok-None.field-0-is at in
-          end-answered c.next.new.self end.0 before at end.2 premises told);
+          end-answered c.next.new.self end.0 before at end.2 premises told-is);
+        by_script = (tt);
+        by_source = (λ fault.
+          absurd (is-no-error fault));
+        by_sink = (λ fault.
+          absurd (is-no-error fault));
+        by_part = (tt);
+      };
       stored = (λ script is premises.
           let m = meaning_of g.M.MergeOperator.combine g.T.BlockTransformer.encoded g.T.BlockTransformer.decoded c.args.env.now.operator c.args.env.now.transformer in
           let r = run_rules c.args.options.now m in
@@ -240,35 +252,34 @@ returns g c =
           (c.close-2.ensures.stores m running.settled.lawful running.settled.kept)
           (subst (λ bs. StandsFor c.loop-line.session (after_lines meaning r opening (lines_of bs))) (sym (end-there c.next.new.self end.0 at end.2).0) (at.session premises))
           (c.loop-line.invariant.alone premises));
-      read = (λ script is.
-          let at = c.loop-line.invariant.told script is in
+      read = λ script is. record {
+        whole = (let at = c.loop-line.invariant.told script is in
           let end = end-told (λ v. v.items) c.in-Ok-None.field-0 (g.R.Source.left c.next.new.source) c.next.new.self c.in-Ok-None.ensures.told c.in-Ok-None.field-0-is at in
           (end-formed c.next.new.self end.0 at end.2, end.1 ∙ ap Some (end-there c.next.new.self end.0 at end.2).2));
-      no_error = (λ script is.
-          let at = c.loop-line.invariant.told script is in
+        no_error = (let at = c.loop-line.invariant.told script is in
           let end = end-told (λ v. v.items) c.in-Ok-None.field-0 (g.R.Source.left c.next.new.source) c.next.new.self c.in-Ok-None.ensures.told c.in-Ok-None.field-0-is at in
           end-no_error c.next.new.self end.0 at end.2);
-      error = λ script is. tt;
-      kinds = tt;
-      read_fault = λ fault. absurd (is-no-error fault);
-      write_fault = λ fault. absurd (is-no-error fault);
-      store_fault = λ fault. absurd (is-no-error fault);
-      operator_fault = λ message fault. absurd (is-no-error fault);
-      transform_fault = λ fault. absurd (is-no-error fault);
-      undamaged = λ premises. tt;
-      untrue = λ lawful. tt;
-      complete = λ script is formed premises no-read no-write no-store no-operator no-transformer. tt;
-      source_still = inr (unless-error c.in-Ok-None.field-0 ReadFault c.in-Ok-None.ensures.still ∙ c.loop-line.invariant.source_still);
-      sink_still = inr c.loop-line.invariant.sink_still;
-      by_script = λ script before is told premises. tt;
-      by_source = λ script before is told premises fault. absurd (is-no-error fault);
-      by_sink = λ script before is told premises fault. absurd (is-no-error fault);
-      by_part = λ script before is told premises. tt;
-      too_long = λ script is long. absurd (is-no-error long);
-      taken = (λ script is.
-          let at = c.loop-line.invariant.told script is in
+        error = (tt);
+        too_long = (λ long.
+          absurd (is-no-error long));
+        taken = (let at = c.loop-line.invariant.told script is in
           let end = end-told (λ v. v.items) c.in-Ok-None.field-0 (g.R.Source.left c.next.new.source) c.next.new.self c.in-Ok-None.ensures.told c.in-Ok-None.field-0-is at in
           end-read c.next.new.self end.0 (g.R.Source.left c.next.new.source) at end.2 c.in-Ok-None.ensures.within end.1);
+      };
+      cause = record {
+        kinds = tt;
+        read_fault = λ fault. absurd (is-no-error fault);
+        write_fault = λ fault. absurd (is-no-error fault);
+        store_fault = λ fault. absurd (is-no-error fault);
+        operator_fault = λ message fault. absurd (is-no-error fault);
+        transform_fault = λ fault. absurd (is-no-error fault);
+      };
+      undamaged = λ premises. tt;
+      untrue = λ lawful. tt;
+      complete = (λ script is formed premises none.
+          tt);
+      source_still = inr (unless-error c.in-Ok-None.field-0 ReadFault c.in-Ok-None.ensures.still ∙ c.loop-line.invariant.source_still);
+      sink_still = inr c.loop-line.invariant.sink_still;
       later = (omega (arith, c.loop-line.invariant.source_later, c.next.ensures.later), c.loop-line.invariant.sink_later);
       puts = c.loop-line.invariant.puts;
     }
