@@ -11,7 +11,7 @@ returns-then-not-is_moment_text c =
 pub returns-in-Ok : goal.returns-in-Ok
 returns-in-Ok c =
     let value = c.ok.ensures.value
-        ∙ moment-is c.args.token.now c.parse.result (sym c.is_moment_text.ensures ∙ c.if-not-is_moment_text.false) (rw c.in-Ok.ensures.cases.0 at c.parse.ensures.value.0) in
+    ∙ moment-is c.args.token.now c.parse.result (sym c.is_moment_text.ensures ∙ c.if-not-is_moment_text.false) (rw c.in-Ok.ensures.cases.0 at c.parse.ensures.value.0) in
     record { moment = value; spelled = moment_spelled c.args.token.now _ value }
 
 pub returns-in-Err : goal.returns-in-Err

@@ -11,7 +11,7 @@ returns-then-not-is_numeral c =
 pub returns-in-Ok : goal.returns-in-Ok
 returns-in-Ok c =
     let value = c.ok.ensures.value
-        ∙ number-is c.args.token.now c.parse.result (sym c.is_numeral.ensures ∙ c.if-not-is_numeral.false) (rw c.in-Ok.ensures.cases.0 at c.parse.ensures.value.0) in
+    ∙ number-is c.args.token.now c.parse.result (sym c.is_numeral.ensures ∙ c.if-not-is_numeral.false) (rw c.in-Ok.ensures.cases.0 at c.parse.ensures.value.0) in
     record { number = value; spelled = number_spelled c.args.token.now _ value }
 
 pub returns-in-Err : goal.returns-in-Err

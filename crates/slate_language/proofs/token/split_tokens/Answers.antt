@@ -13,8 +13,8 @@ pub returns : goal.returns
 returns c =
     let line = c.args.line.now in
     let split : IfOk c.collect.result (λ v. texts v.items ≡ tokens_of line) =
-        IfOk-weaker c.collect.result _ _ (λ v is. is ∙ slice_split-tokens line)
-            (map_from_collect _ c.collect.ensures.ran (YieldsList-from_slice_split _ (λ b. b == 32) line c.split.ensures.rest c.split.ensures.done c.split.ensures.closure (λ x r q k. search (rules, tests)))) in
+    IfOk-weaker c.collect.result _ _ (λ v is. is ∙ slice_split-tokens line)
+    (map_from_collect _ c.collect.ensures.ran (YieldsList-from_slice_split _ (λ b. b == 32) line c.split.ensures.rest c.split.ensures.done c.split.ensures.closure (λ x r q k. search (rules, tests)))) in
     record {
       tokens = split;
       joined = IfOk-weaker c.collect.result _ _ (λ v is. ap (join_with_byte 32) is ∙ join-tokens line) split;

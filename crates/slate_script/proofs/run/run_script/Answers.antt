@@ -63,46 +63,46 @@ returns-in-Err g c =
       said = λ script before is told-is premises. record {
         whole = (tt);
         by_script = (let at = c.loop-line.invariant.told script is in
-          let told = c.in-Err.ensures.told at.left at.rest in
-          (λ by. reader-script c.next.new.self told.0 before c.in-Err.error at told.2 (λ h. c.in-Err.ensures.too_long (ap Err h)) c.in-Err.ensures.cause premises told-is by));
+            let told = c.in-Err.ensures.told at.left at.rest in
+            (λ by. reader-script c.next.new.self told.0 before c.in-Err.error at told.2 (λ h. c.in-Err.ensures.too_long (ap Err h)) c.in-Err.ensures.cause premises told-is by));
         by_source = (λ fault.
-          let kind : c.in-Err.error ≡ ReadFault = same-error c.in-Err.error ReadFault (Err c.in-Err.error) refl fault in
-          let at = c.loop-line.invariant.told script is in
-          let told = c.in-Err.ensures.told at.left at.rest in
-          (told.0, replies_to meaning (run_rules c.args.options.now (meaning_of g.M.MergeOperator.combine g.T.BlockTransformer.encoded g.T.BlockTransformer.decoded c.args.env.now.operator c.args.env.now.transformer)) (lines_of at.done), told.1, at.said premises before told-is, reader-source c.next.new.self told.0 at told.2 (c.in-Err.ensures.read_fault (ap Err kind)).1));
+            let kind : c.in-Err.error ≡ ReadFault = same-error c.in-Err.error ReadFault (Err c.in-Err.error) refl fault in
+            let at = c.loop-line.invariant.told script is in
+            let told = c.in-Err.ensures.told at.left at.rest in
+            (told.0, replies_to meaning (run_rules c.args.options.now (meaning_of g.M.MergeOperator.combine g.T.BlockTransformer.encoded g.T.BlockTransformer.decoded c.args.env.now.operator c.args.env.now.transformer)) (lines_of at.done), told.1, at.said premises before told-is, reader-source c.next.new.self told.0 at told.2 (c.in-Err.ensures.read_fault (ap Err kind)).1));
         by_sink = (λ fault.
-          absurd (reader-not-write c.in-Err.error c.in-Err.ensures.cause (same-error c.in-Err.error WriteFault (Err c.in-Err.error) refl fault)));
+            absurd (reader-not-write c.in-Err.error c.in-Err.ensures.cause (same-error c.in-Err.error WriteFault (Err c.in-Err.error) refl fault)));
         by_part = (let at = c.loop-line.invariant.told script is in
-          (λ which. (replies_to meaning (run_rules c.args.options.now (meaning_of g.M.MergeOperator.combine g.T.BlockTransformer.encoded g.T.BlockTransformer.decoded c.args.env.now.operator c.args.env.now.transformer)) (lines_of at.done), at.said premises before told-is, reader-memory at)));
+            (λ which. (replies_to meaning (run_rules c.args.options.now (meaning_of g.M.MergeOperator.combine g.T.BlockTransformer.encoded g.T.BlockTransformer.decoded c.args.env.now.operator c.args.env.now.transformer)) (lines_of at.done), at.said premises before told-is, reader-memory at)));
       };
       stored = λ script is premises. tt;
       read = λ script is. record {
         whole = (tt);
         no_error = (tt);
         error = (let at = c.loop-line.invariant.told script is in
-          let told = c.in-Err.ensures.told at.left at.rest in
-          (reader-error c.next.new.self told.0 c.in-Err.error at told.2 (λ h. c.in-Err.ensures.too_long (ap Err h)) c.in-Err.ensures.cause));
+            let told = c.in-Err.ensures.told at.left at.rest in
+            (reader-error c.next.new.self told.0 c.in-Err.error at told.2 (λ h. c.in-Err.ensures.too_long (ap Err h)) c.in-Err.ensures.cause));
         too_long = (λ long.
-          let kind : c.in-Err.error ≡ ScriptTooLong = same-error c.in-Err.error ScriptTooLong (Err c.in-Err.error) refl long in
-          let at = c.loop-line.invariant.told script is in
-          let told = c.in-Err.ensures.told at.left at.rest in
-          reader-full c.next.new.self told.0 (g.R.Source.left c.next.new.source) at told.2 (c.in-Err.ensures.too_long (ap Err kind)).0 told.1);
+            let kind : c.in-Err.error ≡ ScriptTooLong = same-error c.in-Err.error ScriptTooLong (Err c.in-Err.error) refl long in
+            let at = c.loop-line.invariant.told script is in
+            let told = c.in-Err.ensures.told at.left at.rest in
+            reader-full c.next.new.self told.0 (g.R.Source.left c.next.new.source) at told.2 (c.in-Err.ensures.too_long (ap Err kind)).0 told.1);
         taken = (let at = c.loop-line.invariant.told script is in
-          let told = c.in-Err.ensures.told at.left at.rest in
-          reader-read c.next.new.self told.0 (g.R.Source.left c.next.new.source) at told.2 c.in-Err.ensures.within told.1);
+            let told = c.in-Err.ensures.told at.left at.rest in
+            reader-read c.next.new.self told.0 (g.R.Source.left c.next.new.source) at told.2 c.in-Err.ensures.within told.1);
       };
       cause = record {
         kinds = (reader-kinds c.in-Err.error c.in-Err.ensures.cause);
         read_fault = (λ fault.
-          rose-from _ _ _ c.loop-line.invariant.source_later (c.in-Err.ensures.read_fault (ap Err (same-error c.in-Err.error ReadFault (Err c.in-Err.error) refl fault))).0);
+            rose-from _ _ _ c.loop-line.invariant.source_later (c.in-Err.ensures.read_fault (ap Err (same-error c.in-Err.error ReadFault (Err c.in-Err.error) refl fault))).0);
         write_fault = (λ fault.
-          absurd (reader-not-write c.in-Err.error c.in-Err.ensures.cause (same-error c.in-Err.error WriteFault (Err c.in-Err.error) refl fault)));
+            absurd (reader-not-write c.in-Err.error c.in-Err.ensures.cause (same-error c.in-Err.error WriteFault (Err c.in-Err.error) refl fault)));
         store_fault = (λ fault.
-          absurd (reader-no-part c.in-Err.error c.in-Err.ensures.cause (subst IsPartError (sym (same-error c.in-Err.error StoreFault (Err c.in-Err.error) refl fault)) tt)));
+            absurd (reader-no-part c.in-Err.error c.in-Err.ensures.cause (subst IsPartError (sym (same-error c.in-Err.error StoreFault (Err c.in-Err.error) refl fault)) tt)));
         operator_fault = (λ message fault.
-          absurd (reader-no-part c.in-Err.error c.in-Err.ensures.cause (subst IsPartError (sym (same-error c.in-Err.error (Callback message) (Err c.in-Err.error) refl fault)) tt)));
+            absurd (reader-no-part c.in-Err.error c.in-Err.ensures.cause (subst IsPartError (sym (same-error c.in-Err.error (Callback message) (Err c.in-Err.error) refl fault)) tt)));
         transform_fault = (λ fault.
-          absurd (reader-no-part c.in-Err.error c.in-Err.ensures.cause (subst IsPartError (sym (same-error c.in-Err.error BlockTransformError (Err c.in-Err.error) refl fault)) tt)));
+            absurd (reader-no-part c.in-Err.error c.in-Err.ensures.cause (subst IsPartError (sym (same-error c.in-Err.error BlockTransformError (Err c.in-Err.error) refl fault)) tt)));
       };
       undamaged = (λ premises.
           (reader-undamaged c.in-Err.error c.in-Err.ensures.cause));
@@ -133,50 +133,50 @@ returns-in-Err-answer_line g c =
       said = λ script before is told-is premises. record {
         whole = (tt);
         by_script = (let took = took-told (λ v. v.items) c.in-Ok-Some.field-0 c.in-Ok-Some.line c.as_slice.result.now (g.R.Source.left c.next.new.source) c.next.new.self c.in-Ok-Some.ensures.told c.in-Ok-Some.ensures.within c.in-Ok-Some.field-0-is c.as_slice.ensures.value (c.loop-line.invariant.told script is) in
-          (λ by. line-script (g.W.Sink.content c.answer_line.new.sink) before c.in-Err-answer_line.error took (its-cause g c) c.in-Err-answer_line.ensures.unanswered premises told-is by));
+            (λ by. line-script (g.W.Sink.content c.answer_line.new.sink) before c.in-Err-answer_line.error took (its-cause g c) c.in-Err-answer_line.ensures.unanswered premises told-is by));
         by_source = (λ fault.
-          absurd (line-not-read (c.loop-line.number + 1) c.as_slice.result.now c.in-Err-answer_line.error (its-cause g c) (same-error c.in-Err-answer_line.error ReadFault (Err c.in-Err-answer_line.error) refl fault)));
+            absurd (line-not-read (c.loop-line.number + 1) c.as_slice.result.now c.in-Err-answer_line.error (its-cause g c) (same-error c.in-Err-answer_line.error ReadFault (Err c.in-Err-answer_line.error) refl fault)));
         by_sink = (λ fault.
-          let kind : c.in-Err-answer_line.error ≡ WriteFault = same-error c.in-Err-answer_line.error WriteFault (Err c.in-Err-answer_line.error) refl fault in
-          let took = took-told (λ v. v.items) c.in-Ok-Some.field-0 c.in-Ok-Some.line c.as_slice.result.now (g.R.Source.left c.next.new.source) c.next.new.self c.in-Ok-Some.ensures.told c.in-Ok-Some.ensures.within c.in-Ok-Some.field-0-is c.as_slice.ensures.value (c.loop-line.invariant.told script is) in
-          let done = replies_to meaning (run_rules c.args.options.now (meaning_of g.M.MergeOperator.combine g.T.BlockTransformer.encoded g.T.BlockTransformer.decoded c.args.env.now.operator c.args.env.now.transformer)) (lines_of took.done) in
-          let state = after_lines meaning (run_rules c.args.options.now (meaning_of g.M.MergeOperator.combine g.T.BlockTransformer.encoded g.T.BlockTransformer.decoded c.args.env.now.operator c.args.env.now.transformer)) opening (lines_of took.done) in
-          let reply = replies_from meaning (run_rules c.args.options.now (meaning_of g.M.MergeOperator.combine g.T.BlockTransformer.encoded g.T.BlockTransformer.decoded c.args.env.now.operator c.args.env.now.transformer)) state (c.as_slice.result.now ∷ []) in
-          let begun : (n : ℕ) × (n < length reply) × (g.W.Sink.content c.answer_line.new.sink ≡ Some ((before ++ done) ++ take n reply)) =
-          c.in-Err-answer_line.ensures.begun (meaning_of g.M.MergeOperator.combine g.T.BlockTransformer.encoded g.T.BlockTransformer.decoded c.args.env.now.operator c.args.env.now.transformer) (run_rules c.args.options.now (meaning_of g.M.MergeOperator.combine g.T.BlockTransformer.encoded g.T.BlockTransformer.decoded c.args.env.now.operator c.args.env.now.transformer)) (c.loop-line.invariant.running premises) state (before ++ done) (took.session premises) (took.said premises before told-is) (ap Err kind) in
-          (done ++ take begun.0 reply, begun.2 ∙ ap Some (append_assoc before done (take begun.0 reply)), line-sink begun.0 took (c.in-Err-answer_line.ensures.write_fault (ap Err kind)).1 begun.1));
+            let kind : c.in-Err-answer_line.error ≡ WriteFault = same-error c.in-Err-answer_line.error WriteFault (Err c.in-Err-answer_line.error) refl fault in
+            let took = took-told (λ v. v.items) c.in-Ok-Some.field-0 c.in-Ok-Some.line c.as_slice.result.now (g.R.Source.left c.next.new.source) c.next.new.self c.in-Ok-Some.ensures.told c.in-Ok-Some.ensures.within c.in-Ok-Some.field-0-is c.as_slice.ensures.value (c.loop-line.invariant.told script is) in
+            let done = replies_to meaning (run_rules c.args.options.now (meaning_of g.M.MergeOperator.combine g.T.BlockTransformer.encoded g.T.BlockTransformer.decoded c.args.env.now.operator c.args.env.now.transformer)) (lines_of took.done) in
+            let state = after_lines meaning (run_rules c.args.options.now (meaning_of g.M.MergeOperator.combine g.T.BlockTransformer.encoded g.T.BlockTransformer.decoded c.args.env.now.operator c.args.env.now.transformer)) opening (lines_of took.done) in
+            let reply = replies_from meaning (run_rules c.args.options.now (meaning_of g.M.MergeOperator.combine g.T.BlockTransformer.encoded g.T.BlockTransformer.decoded c.args.env.now.operator c.args.env.now.transformer)) state (c.as_slice.result.now ∷ []) in
+            let begun : (n : ℕ) × (n < length reply) × (g.W.Sink.content c.answer_line.new.sink ≡ Some ((before ++ done) ++ take n reply)) =
+            c.in-Err-answer_line.ensures.begun (meaning_of g.M.MergeOperator.combine g.T.BlockTransformer.encoded g.T.BlockTransformer.decoded c.args.env.now.operator c.args.env.now.transformer) (run_rules c.args.options.now (meaning_of g.M.MergeOperator.combine g.T.BlockTransformer.encoded g.T.BlockTransformer.decoded c.args.env.now.operator c.args.env.now.transformer)) (c.loop-line.invariant.running premises) state (before ++ done) (took.session premises) (took.said premises before told-is) (ap Err kind) in
+            (done ++ take begun.0 reply, begun.2 ∙ ap Some (append_assoc before done (take begun.0 reply)), line-sink begun.0 took (c.in-Err-answer_line.ensures.write_fault (ap Err kind)).1 begun.1));
         by_part = (let took = took-told (λ v. v.items) c.in-Ok-Some.field-0 c.in-Ok-Some.line c.as_slice.result.now (g.R.Source.left c.next.new.source) c.next.new.self c.in-Ok-Some.ensures.told c.in-Ok-Some.ensures.within c.in-Ok-Some.field-0-is c.as_slice.ensures.value (c.loop-line.invariant.told script is) in
-          (λ which. (
-            replies_to meaning (run_rules c.args.options.now (meaning_of g.M.MergeOperator.combine g.T.BlockTransformer.encoded g.T.BlockTransformer.decoded c.args.env.now.operator c.args.env.now.transformer)) (lines_of took.done),
-            untouched c.in-Err-answer_line.error (g.W.Sink.content c.loop-line.sink) (g.W.Sink.content c.answer_line.new.sink) c.in-Err-answer_line.ensures.unanswered which ∙ took.said premises before told-is,
-            line-memory took,
-          )));
+            (λ which. (
+              replies_to meaning (run_rules c.args.options.now (meaning_of g.M.MergeOperator.combine g.T.BlockTransformer.encoded g.T.BlockTransformer.decoded c.args.env.now.operator c.args.env.now.transformer)) (lines_of took.done),
+              untouched c.in-Err-answer_line.error (g.W.Sink.content c.loop-line.sink) (g.W.Sink.content c.answer_line.new.sink) c.in-Err-answer_line.ensures.unanswered which ∙ took.said premises before told-is,
+              line-memory took,
+            )));
       };
       stored = λ script is premises. tt;
       read = λ script is. record {
         whole = (tt);
         no_error = (tt);
         error = (let took = took-told (λ v. v.items) c.in-Ok-Some.field-0 c.in-Ok-Some.line c.as_slice.result.now (g.R.Source.left c.next.new.source) c.next.new.self c.in-Ok-Some.ensures.told c.in-Ok-Some.ensures.within c.in-Ok-Some.field-0-is c.as_slice.ensures.value (c.loop-line.invariant.told script is) in
-          (line-error c.in-Err-answer_line.error took (its-cause g c)));
+            (line-error c.in-Err-answer_line.error took (its-cause g c)));
         too_long = (λ long.
-          let kind : c.in-Err-answer_line.error ≡ ScriptTooLong = same-error c.in-Err-answer_line.error ScriptTooLong (Err c.in-Err-answer_line.error) refl long in
-          absurd (line-not-long (c.loop-line.number + 1) c.as_slice.result.now c.in-Err-answer_line.error (its-cause g c) kind));
+            let kind : c.in-Err-answer_line.error ≡ ScriptTooLong = same-error c.in-Err-answer_line.error ScriptTooLong (Err c.in-Err-answer_line.error) refl long in
+            absurd (line-not-long (c.loop-line.number + 1) c.as_slice.result.now c.in-Err-answer_line.error (its-cause g c) kind));
         taken = (let took = took-told (λ v. v.items) c.in-Ok-Some.field-0 c.in-Ok-Some.line c.as_slice.result.now (g.R.Source.left c.next.new.source) c.next.new.self c.in-Ok-Some.ensures.told c.in-Ok-Some.ensures.within c.in-Ok-Some.field-0-is c.as_slice.ensures.value (c.loop-line.invariant.told script is) in
-          line-read took c.in-Ok-Some.ensures.within);
+            line-read took c.in-Ok-Some.ensures.within);
       };
       cause = record {
         kinds = (line-kinds (c.loop-line.number + 1) c.as_slice.result.now c.in-Err-answer_line.error (its-cause g c));
         read_fault = λ fault. absurd (line-not-read (c.loop-line.number + 1) c.as_slice.result.now c.in-Err-answer_line.error (its-cause g c) (same-error c.in-Err-answer_line.error ReadFault (Err c.in-Err-answer_line.error) refl fault));
         write_fault = λ fault. rose-from _ _ _ c.loop-line.invariant.sink_later (c.in-Err-answer_line.ensures.write_fault (ap Err (same-error c.in-Err-answer_line.error WriteFault (Err c.in-Err-answer_line.error) refl fault))).0;
         store_fault = (λ fault.
-          let kind : c.in-Err-answer_line.error ≡ StoreFault = same-error c.in-Err-answer_line.error StoreFault (Err c.in-Err-answer_line.error) refl fault in
-          rose-from _ _ _ c.loop-line.invariant.puts.later.store (store-rose (counts_of (g.S.Store.faults c.loop-line.env.store.now) g.M.MergeOperator.faults g.T.BlockTransformer.faults c.loop-line.env.operator c.loop-line.env.transformer) (counts_of (g.S.Store.faults c.answer_line.new.env.store.now) g.M.MergeOperator.faults g.T.BlockTransformer.faults c.answer_line.new.env.operator c.answer_line.new.env.transformer) c.in-Err-answer_line.error kind (c.in-Err-answer_line.ensures.part (subst IsPartError (sym kind) tt))));
+            let kind : c.in-Err-answer_line.error ≡ StoreFault = same-error c.in-Err-answer_line.error StoreFault (Err c.in-Err-answer_line.error) refl fault in
+            rose-from _ _ _ c.loop-line.invariant.puts.later.store (store-rose (counts_of (g.S.Store.faults c.loop-line.env.store.now) g.M.MergeOperator.faults g.T.BlockTransformer.faults c.loop-line.env.operator c.loop-line.env.transformer) (counts_of (g.S.Store.faults c.answer_line.new.env.store.now) g.M.MergeOperator.faults g.T.BlockTransformer.faults c.answer_line.new.env.operator c.answer_line.new.env.transformer) c.in-Err-answer_line.error kind (c.in-Err-answer_line.ensures.part (subst IsPartError (sym kind) tt))));
         operator_fault = (λ message fault.
-          let kind : c.in-Err-answer_line.error ≡ (Callback message) = same-error c.in-Err-answer_line.error (Callback message) (Err c.in-Err-answer_line.error) refl fault in
-          rose-from _ _ _ c.loop-line.invariant.puts.later.operator (operator-rose (counts_of (g.S.Store.faults c.loop-line.env.store.now) g.M.MergeOperator.faults g.T.BlockTransformer.faults c.loop-line.env.operator c.loop-line.env.transformer) (counts_of (g.S.Store.faults c.answer_line.new.env.store.now) g.M.MergeOperator.faults g.T.BlockTransformer.faults c.answer_line.new.env.operator c.answer_line.new.env.transformer) c.in-Err-answer_line.error message kind (c.in-Err-answer_line.ensures.part (subst IsPartError (sym kind) tt))));
+            let kind : c.in-Err-answer_line.error ≡ (Callback message) = same-error c.in-Err-answer_line.error (Callback message) (Err c.in-Err-answer_line.error) refl fault in
+            rose-from _ _ _ c.loop-line.invariant.puts.later.operator (operator-rose (counts_of (g.S.Store.faults c.loop-line.env.store.now) g.M.MergeOperator.faults g.T.BlockTransformer.faults c.loop-line.env.operator c.loop-line.env.transformer) (counts_of (g.S.Store.faults c.answer_line.new.env.store.now) g.M.MergeOperator.faults g.T.BlockTransformer.faults c.answer_line.new.env.operator c.answer_line.new.env.transformer) c.in-Err-answer_line.error message kind (c.in-Err-answer_line.ensures.part (subst IsPartError (sym kind) tt))));
         transform_fault = (λ fault.
-          let kind : c.in-Err-answer_line.error ≡ BlockTransformError = same-error c.in-Err-answer_line.error BlockTransformError (Err c.in-Err-answer_line.error) refl fault in
-          rose-from _ _ _ c.loop-line.invariant.puts.later.transformer (transformer-rose (counts_of (g.S.Store.faults c.loop-line.env.store.now) g.M.MergeOperator.faults g.T.BlockTransformer.faults c.loop-line.env.operator c.loop-line.env.transformer) (counts_of (g.S.Store.faults c.answer_line.new.env.store.now) g.M.MergeOperator.faults g.T.BlockTransformer.faults c.answer_line.new.env.operator c.answer_line.new.env.transformer) c.in-Err-answer_line.error kind (c.in-Err-answer_line.ensures.part (subst IsPartError (sym kind) tt))));
+            let kind : c.in-Err-answer_line.error ≡ BlockTransformError = same-error c.in-Err-answer_line.error BlockTransformError (Err c.in-Err-answer_line.error) refl fault in
+            rose-from _ _ _ c.loop-line.invariant.puts.later.transformer (transformer-rose (counts_of (g.S.Store.faults c.loop-line.env.store.now) g.M.MergeOperator.faults g.T.BlockTransformer.faults c.loop-line.env.operator c.loop-line.env.transformer) (counts_of (g.S.Store.faults c.answer_line.new.env.store.now) g.M.MergeOperator.faults g.T.BlockTransformer.faults c.answer_line.new.env.operator c.answer_line.new.env.transformer) c.in-Err-answer_line.error kind (c.in-Err-answer_line.ensures.part (subst IsPartError (sym kind) tt))));
       };
       undamaged = (λ premises.
           (c.in-Err-answer_line.ensures.undamaged (meaning_of g.M.MergeOperator.combine g.T.BlockTransformer.encoded g.T.BlockTransformer.decoded c.args.env.now.operator c.args.env.now.transformer) (run_rules c.args.options.now (meaning_of g.M.MergeOperator.combine g.T.BlockTransformer.encoded g.T.BlockTransformer.decoded c.args.env.now.operator c.args.env.now.transformer)) (c.loop-line.invariant.running premises)));
@@ -233,13 +233,13 @@ returns g c =
     record {
       said = λ script before is told-is premises. record {
         whole = (let at = c.loop-line.invariant.told script is in
-          let end = end-told (λ v. v.items) c.in-Ok-None.field-0 (g.R.Source.left c.next.new.source) c.next.new.self c.in-Ok-None.ensures.told c.in-Ok-None.field-0-is at in
-          end-answered c.next.new.self end.0 before at end.2 premises told-is);
+            let end = end-told (λ v. v.items) c.in-Ok-None.field-0 (g.R.Source.left c.next.new.source) c.next.new.self c.in-Ok-None.ensures.told c.in-Ok-None.field-0-is at in
+            end-answered c.next.new.self end.0 before at end.2 premises told-is);
         by_script = (tt);
         by_source = (λ fault.
-          absurd (is-no-error fault));
+            absurd (is-no-error fault));
         by_sink = (λ fault.
-          absurd (is-no-error fault));
+            absurd (is-no-error fault));
         by_part = (tt);
       };
       stored = (λ script is premises.
@@ -254,17 +254,17 @@ returns g c =
           (c.loop-line.invariant.alone premises));
       read = λ script is. record {
         whole = (let at = c.loop-line.invariant.told script is in
-          let end = end-told (λ v. v.items) c.in-Ok-None.field-0 (g.R.Source.left c.next.new.source) c.next.new.self c.in-Ok-None.ensures.told c.in-Ok-None.field-0-is at in
-          (end-formed c.next.new.self end.0 at end.2, end.1 ∙ ap Some (end-there c.next.new.self end.0 at end.2).2));
+            let end = end-told (λ v. v.items) c.in-Ok-None.field-0 (g.R.Source.left c.next.new.source) c.next.new.self c.in-Ok-None.ensures.told c.in-Ok-None.field-0-is at in
+            (end-formed c.next.new.self end.0 at end.2, end.1 ∙ ap Some (end-there c.next.new.self end.0 at end.2).2));
         no_error = (let at = c.loop-line.invariant.told script is in
-          let end = end-told (λ v. v.items) c.in-Ok-None.field-0 (g.R.Source.left c.next.new.source) c.next.new.self c.in-Ok-None.ensures.told c.in-Ok-None.field-0-is at in
-          end-no_error c.next.new.self end.0 at end.2);
+            let end = end-told (λ v. v.items) c.in-Ok-None.field-0 (g.R.Source.left c.next.new.source) c.next.new.self c.in-Ok-None.ensures.told c.in-Ok-None.field-0-is at in
+            end-no_error c.next.new.self end.0 at end.2);
         error = (tt);
         too_long = (λ long.
-          absurd (is-no-error long));
+            absurd (is-no-error long));
         taken = (let at = c.loop-line.invariant.told script is in
-          let end = end-told (λ v. v.items) c.in-Ok-None.field-0 (g.R.Source.left c.next.new.source) c.next.new.self c.in-Ok-None.ensures.told c.in-Ok-None.field-0-is at in
-          end-read c.next.new.self end.0 (g.R.Source.left c.next.new.source) at end.2 c.in-Ok-None.ensures.within end.1);
+            let end = end-told (λ v. v.items) c.in-Ok-None.field-0 (g.R.Source.left c.next.new.source) c.next.new.self c.in-Ok-None.ensures.told c.in-Ok-None.field-0-is at in
+            end-read c.next.new.self end.0 (g.R.Source.left c.next.new.source) at end.2 c.in-Ok-None.ensures.within end.1);
       };
       cause = record {
         kinds = tt;
