@@ -9,7 +9,7 @@ use Rattle.slate_types.specs.declared.iter.IterationOrder.{IterationOrder}
 use Rattle.slate_types.specs.Iteration.{comes_before}
 use Rattle.slate_block.specs.Damage.{◌>>=◌}
 use Rattle.slate_block.specs.Walks.{RowRead, all_ok, before, reads_v2, are_named, block_reads, block_rows}
-use Rattle.slate_block.specs.BlockWalks.{LastBefore, IsDamage, IsPast, Refuses, TakesRead}
+use Rattle.slate_block.specs.BlockWalks.{LastBefore, IsBlockDamage, IsPast, Refuses, TakesRead}
 use Rattle.slate_block.specs.GroupWalks.{restart_at, BeginsBefore, turned, reads_back, left_back}
 use Rattle.slate_block.proofs.FieldLaws.{ok_is}
 use Rattle.slate_block.proofs.GroupRows.{Left, joined, joined_ok, all_ok_joined}
@@ -223,12 +223,12 @@ refused_or_behind body offsets groups n rows e m le (inl h) = inl h
 refused_or_behind body offsets groups n rows e m le (inr h) = inr (refused_back body offsets groups n rows e le h)
 
 -- a group that is refused as a whole
-group_refuses : (body offsets : List ℕ) (groups n : ℕ) (e : SlateDBError) → n < groups → all_ok (restart_at body offsets n) ≡ Err e → IsDamage e → Refuses (reads_back groups body offsets) e
+group_refuses : (body offsets : List ℕ) (groups n : ℕ) (e : SlateDBError) → n < groups → all_ok (restart_at body offsets n) ≡ Err e → IsBlockDamage e → Refuses (reads_back groups body offsets) e
 group_refuses body offsets groups n e lt r damage =
     let s = back_split body offsets groups (suc n) (omega arith) in
     part_fewer s.0 (reads_back groups body offsets) (reads_back (suc n) body offsets) e s.1 (damage, (0, back_refused body offsets (suc n) n e refl r))
 
-pub refused_group : (body offsets : List ℕ) (groups n : ℕ) (e m : SlateDBError) → n < groups → (e ≡ m) ⊎ (all_ok (restart_at body offsets n) ≡ Err e) → (e ≡ m) ⊎ IsDamage e → (e ≡ m) ⊎ Refuses (reads_back groups body offsets) e
+pub refused_group : (body offsets : List ℕ) (groups n : ℕ) (e m : SlateDBError) → n < groups → (e ≡ m) ⊎ (all_ok (restart_at body offsets n) ≡ Err e) → (e ≡ m) ⊎ IsBlockDamage e → (e ≡ m) ⊎ Refuses (reads_back groups body offsets) e
 refused_group body offsets groups n e m lt (inl h) d = inl h
 refused_group body offsets groups n e m lt (inr h) (inl d) = inl d
 refused_group body offsets groups n e m lt (inr h) (inr d) = inr (group_refuses body offsets groups n e lt h d)

@@ -6,7 +6,7 @@ use Rattle.slate_types.specs.declared.iter.IterationOrder.{IterationOrder}
 use Rattle.slate_types.specs.declared.iter.IterationOrder.TheVariants.{Ascending, Descending}
 use Rattle.slate_block.specs.Damage.{◌>>=◌}
 use Rattle.slate_block.specs.Walks.{RowRead, all_ok, are_named, block_reads, block_rows, reads_v2}
-use Rattle.slate_block.specs.BlockWalks.{in_order}
+use Rattle.slate_types.specs.Iteration.{in_order}
 use Rattle.slate_block.specs.GroupWalks.{walk_in}
 use Rattle.slate_block.proofs.GroupSteps.{named_reads, unnamed_reads}
 

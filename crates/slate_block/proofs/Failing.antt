@@ -3,14 +3,7 @@ use Rattle.std.proofs.Common.{◌≡◌, Result, Ok, Err, sym, subst}
 use Rattle.std.specs.Prelude.{IfErr, IsErr, IsErrAnd, MatchResult, OnErr, OnOk}
 use Rattle.slate_types.specs.declared.error.SlateDBError.{SlateDBError}
 use Rattle.slate_types.specs.declared.error.SlateDBError.TheVariants.{OutOfMemory}
-
-pub on_ok : {T E P : Type 0} (r : Result T E) → P → OnOk r P
-on_ok (Ok x) p = p
-on_ok (Err e) p = tt
-
-pub on_err : {T E P : Type 0} (r : Result T E) → P → OnErr r P
-on_err (Ok x) p = tt
-on_err (Err e) p = p
+use Rattle.slate_types.proofs.Exits.{on_ok, on_err}
 
 pub out_of_memory : {T E : Type 0} (r : Result T E) (m : Result T SlateDBError) (P : SlateDBError → Type 0) → MatchResult r (λ x. m ≡ Ok x) (λ e. IsErrAnd m (λ d. d ≡ OutOfMemory)) → P OutOfMemory → IfErr m P
 out_of_memory (Ok x) m P is p = subst (λ a. IfErr a P) (sym is) tt

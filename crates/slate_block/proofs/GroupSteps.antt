@@ -11,13 +11,13 @@ use Rattle.slate_block.specs.declared.row_groups.RowGroup.{RowGroup}
 use Rattle.slate_block.specs.declared.walk_v2.BlockPlace.{BlockPlace}
 use Rattle.slate_block.specs.Damage.{◌>>=◌, IsDamageIn}
 use Rattle.slate_block.specs.Walks.{RowRead, all_ok, moved, row_v2_in, read_then, group_reads, restart_reads, is_none_left, reads_v2, are_named, block_reads, block_rows}
-use Rattle.slate_block.specs.BlockWalks.{IsDamage}
+use Rattle.slate_block.specs.BlockWalks.{IsBlockDamage}
 use Rattle.slate_block.specs.GroupWalks.{group_end, restart_at, group_left, is_over, left_v2}
 use Rattle.slate_block.proofs.GroupRows.{rows_v2, rows_are}
 
 -- ---- damage
 
-pub damage_moved : (n at : ℕ) (e : SlateDBError) → IsDamageIn n e → IsDamage (moved at e)
+pub damage_moved : (n at : ℕ) (e : SlateDBError) → IsDamageIn n e → IsBlockDamage (moved at e)
 damage_moved n at (CorruptTable place) h = tt
 damage_moved n at (InvalidRowFlags b) h = tt
 damage_moved n at _ h = h

@@ -11,6 +11,7 @@ use Rattle.slate_block.specs.Varint.{SpellsVarint, IsVarint, varint_within}
 use Rattle.slate_block.specs.Groups.{completed, weight_of, IsRest}
 use Rattle.slate_block.proofs.VarintLaws.{spells_group}
 use Rattle.slate_block.specs.Damage.{front_groups, before_high, of_32_bits, front_varint}
+use Rattle.std.proofs.Math.Bool.{and-false}
 
 pub one_group : (k n : ℕ) → n < 128 → varint_within (suc k) n ≡ n ∷ []
 one_group k n p = rw lt-ltb refl
@@ -62,10 +63,6 @@ weight_small (suc (suc (suc zero))) p = omega arith
 weight_small (suc (suc (suc (suc zero)))) p = omega arith
 weight_small (suc (suc (suc (suc (suc k))))) p = absurd (omega arith)
 
-and_false : (t : Bool) → (t && false) ≡ false
-and_false true = refl
-and_false false = refl
-
 regrouped : (low weight d h : ℕ) → low + weight * (d + 128 * h) ≡ low + d * weight + weight * 128 * h
 regrouped low weight d h = omega arith
 
@@ -82,7 +79,7 @@ completed_more weight low index b (Some x) = by (eqb x.0 0) refl
         let not_0 : eqb (b - 128 + 128 * x.0) 0 ≡ false = grind (arith, nat_tests) in
         let number : low + weight * (b - 128 + 128 * x.0) ≡ low + (b - 128) * weight + weight * 128 * x.0 = regrouped low weight (b - 128) x.0 in
         let long : index + (x.1 + 1) ≡ index + 1 + x.1 = omega arith in
-        rw (not_0, and_false (ltb 0 index), and_false (ltb 0 (index + 1))) (λ i. Some (number i, long i))
+        rw (not_0, and-false (ltb 0 index), and-false (ltb 0 (index + 1))) (λ i. Some (number i, long i))
 
 pub too_long : (weight low index : ℕ) (found : Option (ℕ × ℕ)) → 0 < index → 2 ^ 32 ≤ weight → of_32_bits (completed weight low index found) ≡ None
 too_long weight low index None p q = refl
@@ -93,7 +90,7 @@ too_long weight low index (Some x) p q = by (eqb x.0 0) refl
     by false e =
         let some : 1 ≤ x.0 = grind (arith, nat_tests) in
         let far : 2 ^ 32 * 1 ≤ weight * x.0 = mul-le-mul q some in
-        rw (and_false (ltb 0 index), le-ltb (low + weight * x.0) (2 ^ 32) (omega arith)) refl
+        rw (and-false (ltb 0 index), le-ltb (low + weight * x.0) (2 ^ 32) (omega arith)) refl
 
 -- ---- what begins with a number
 

@@ -12,7 +12,7 @@ use Rattle.slate_block.specs.declared.rows_part.Version.TheVariants.{V1, V2}
 use Rattle.slate_block.specs.Damage.{◌>>=◌, layout_v1, layout_v2, IsDamageIn}
 use Rattle.slate_block.specs.RowReading.{entry_of_v1, entry_of_v2, row_v1_of, row_v2_of}
 use Rattle.slate_block.specs.Walks.{between, entry_v2_in, is_restored, moved, moved_result, row_v1_in, row_v2_in, whole_v1, whole_v2}
-use Rattle.slate_block.specs.BlockWalks.{IsDamage}
+use Rattle.slate_block.specs.BlockWalks.{IsBlockDamage}
 use Rattle.slate_block.specs.WholeKeys.{IsRestored}
 use Rattle.std.proofs.lemmas.Bool.{le-leb, lt-ltb}
 use Rattle.std.proofs.lemmas.List.{length-append, length-take}
@@ -89,11 +89,11 @@ no_row_refused version body other from upto e m (inr h) = inr (no_row_placed ver
 pub place_within : (from : ℕ) (bytes : List ℕ) (e : SlateDBError) → from + length bytes < 2 ^ 64 → IsDamageIn (length bytes) e → (place : ℕ) → e ≡ CorruptTable place → from + place < 2 ^ 64
 place_within from bytes e lt h place is = let inside = subst (IsDamageIn (length bytes)) is h in omega (arith, lt, inside)
 
-whole_damaged : {P : Type 0} (from : ℕ) (e m : SlateDBError) → (e ≡ m) ⊎ (P × (e ≡ CorruptTable from)) → (e ≡ m) ⊎ IsDamage e
+whole_damaged : {P : Type 0} (from : ℕ) (e m : SlateDBError) → (e ≡ m) ⊎ (P × (e ≡ CorruptTable from)) → (e ≡ m) ⊎ IsBlockDamage e
 whole_damaged from e m (inl h) = inl h
-whole_damaged from e m (inr h) = inr (subst IsDamage (sym h.1) tt)
+whole_damaged from e m (inr h) = inr (subst IsBlockDamage (sym h.1) tt)
 
-pub whole_damage : {A : Type 0} (P : Type 0) (r : Result A SlateDBError) (from : ℕ) (m : SlateDBError) → IfErr r (λ e. (e ≡ m) ⊎ (P × (e ≡ CorruptTable from))) → IfErr r (λ e. (e ≡ m) ⊎ IsDamage e)
+pub whole_damage : {A : Type 0} (P : Type 0) (r : Result A SlateDBError) (from : ℕ) (m : SlateDBError) → IfErr r (λ e. (e ≡ m) ⊎ (P × (e ≡ CorruptTable from))) → IfErr r (λ e. (e ≡ m) ⊎ IsBlockDamage e)
 whole_damage P (Ok x) from m h = tt
 whole_damage P (Err e) from m h = whole_damaged from e m h
 

@@ -8,7 +8,7 @@ use Rattle.slate_types.specs.declared.iter.IterationOrder.{IterationOrder}
 use Rattle.slate_types.specs.Iteration.{comes_before, drop_before, IsInOrder, NoneBefore, TakesRow}
 use Rattle.slate_types.proofs.IterationLaws.{not_before, in_order_dropped}
 use Rattle.slate_block.specs.Walks.{RowRead, all_ok, before as put}
-use Rattle.slate_block.specs.BlockWalks.{rows_of, IsDamage, IsRising, TakesRead, TakesLeft, IsReadBefore, LastBefore, IsPast, StopsAt, Refuses}
+use Rattle.slate_block.specs.BlockWalks.{rows_of, IsBlockDamage, IsRising, TakesRead, TakesLeft, IsReadBefore, LastBefore, IsPast, StopsAt, Refuses}
 use Rattle.slate_block.proofs.WalkLaws.{ok_read, ok_rows, reads_of_ok, all_ok_map}
 
 -- ---- the last of those that are taken off
@@ -171,12 +171,12 @@ past_no_larger order key before after p = let n : length before ≡ length (p.fr
 
 -- ---- refusals
 
-pub first_refuses : (reads : List RowRead) (e m : SlateDBError) → (e ≡ m) ⊎ (slice_get reads 0 ≡ Some (Err e)) → (e ≡ m) ⊎ IsDamage e → (e ≡ m) ⊎ Refuses reads e
+pub first_refuses : (reads : List RowRead) (e m : SlateDBError) → (e ≡ m) ⊎ (slice_get reads 0 ≡ Some (Err e)) → (e ≡ m) ⊎ IsBlockDamage e → (e ≡ m) ⊎ Refuses reads e
 first_refuses reads e m (inl h) d = inl h
 first_refuses reads e m (inr h) (inl d) = inl d
 first_refuses reads e m (inr h) (inr d) = inr (d, (0, h))
 
-pub past_refused : (order : IterationOrder) (key : List ℕ) (before now : List RowRead) (e m : SlateDBError) → IsPast order key before now → (e ≡ m) ⊎ (slice_get now 0 ≡ Some (Err e)) → (e ≡ m) ⊎ IsDamage e → (e ≡ m) ⊎ Refuses before e
+pub past_refused : (order : IterationOrder) (key : List ℕ) (before now : List RowRead) (e m : SlateDBError) → IsPast order key before now → (e ≡ m) ⊎ (slice_get now 0 ≡ Some (Err e)) → (e ≡ m) ⊎ IsBlockDamage e → (e ≡ m) ⊎ Refuses before e
 past_refused order key before now e m p h d = by (first_refuses now e m h d)
   where
     by : (e ≡ m) ⊎ Refuses now e → (e ≡ m) ⊎ Refuses before e

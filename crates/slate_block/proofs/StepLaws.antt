@@ -11,7 +11,7 @@ use Rattle.slate_types.specs.Refusing.{NoMore, NoMoreBut}
 use Rattle.slate_types.specs.World.{Checks, Made, World}
 use Rattle.slate_types.proofs.Calls.{call_none, checks_none}
 use Rattle.slate_block.specs.Walks.{RowRead}
-use Rattle.slate_block.specs.BlockWalks.{left, rows_of, IsDamage, IsPast, IsRising, ReadsLeft, Refuses, TakesRead}
+use Rattle.slate_block.specs.BlockWalks.{left, rows_of, IsBlockDamage, IsPast, IsRising, ReadsLeft, Refuses, TakesRead}
 use Rattle.slate_block.proofs.SeekLaws.{step_rows, step_rising, step_fewer, step_smaller, step_no_larger, sought_rising, past_fewer, past_no_larger, first_refuses}
 
 -- ---- refusals
@@ -29,7 +29,7 @@ pub seek_cause : {A : Type 0} (r : Result A SlateDBError) (a : Reach) (before af
 seek_cause (Ok x) a before after S P s u p h = tt
 seek_cause (Err e) a before after S P s u p h = ([], call_none a, (blamed a a before.reads e h, (s, p), no_more_here before after e u))
 
-pub step_cause : {A : Type 0} (r : Result A SlateDBError) (a : Reach) (before after : ReadsLeft) (S : Type 0) → OnErr r S → OnErr r (after ≡ before) → IfErr r (λ e. (e ≡ OutOfMemory) ⊎ (slice_get before.reads 0 ≡ Some (Err e))) → IfErr r (λ e. (e ≡ OutOfMemory) ⊎ IsDamage e) →
+pub step_cause : {A : Type 0} (r : Result A SlateDBError) (a : Reach) (before after : ReadsLeft) (S : Type 0) → OnErr r S → OnErr r (after ≡ before) → IfErr r (λ e. (e ≡ OutOfMemory) ⊎ (slice_get before.reads 0 ≡ Some (Err e))) → IfErr r (λ e. (e ≡ OutOfMemory) ⊎ IsBlockDamage e) →
     IfErr r (λ e. Made a a (λ reads. (IsFault a a e ⊎ Refuses before.reads e) × (S × ((e ≡ OutOfMemory) ⊎ (slice_get before.reads 0 ≡ Some (Err e)))) × NoMoreBut e (λ reads at d. Refuses before.reads d) reads (λ reads at d. Refuses after.reads d)))
 step_cause (Ok x) a before after S s u h d = tt
 step_cause (Err e) a before after S s u h d = ([], call_none a, (blamed a a before.reads e (first_refuses before.reads e OutOfMemory h d), (s, h), no_more_here before after e u))

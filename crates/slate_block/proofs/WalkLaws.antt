@@ -9,10 +9,10 @@ use Rattle.slate_types.specs.declared.error.SlateDBError.TheVariants.{OutOfMemor
 use Rattle.slate_types.specs.declared.types.RowEntry.{RowEntry}
 use Rattle.slate_types.specs.declared.iter.IterationOrder.{IterationOrder}
 use Rattle.slate_types.specs.declared.iter.IterationOrder.TheVariants.{Ascending, Descending}
-use Rattle.slate_types.specs.Iteration.{comes_before}
+use Rattle.slate_types.specs.Iteration.{comes_before, in_order}
 use Rattle.slate_block.specs.Damage.{◌>>=◌}
 use Rattle.slate_block.specs.Walks.{next_place, row_upto, RowRead, reads_v1, are_named, all_ok, before, block_reads, block_rows}
-use Rattle.slate_block.specs.BlockWalks.{in_order, place_in, IsDamage, Refuses}
+use Rattle.slate_block.specs.BlockWalks.{place_in, IsBlockDamage, Refuses}
 
 -- the row at an index is read up to the next place
 pub read_at : (body first ats : List ℕ) (end i : ℕ) → i < length ats → slice_get (reads_v1 body first ats end) i ≡ Some (row_upto body first (get_or ats i 0) (next_place end (drop (i + 1) ats)))
@@ -146,7 +146,7 @@ only_in_order order body offsets reads rows r e = ap (λ (x : Result (List RowRe
 
 -- ---- refusals
 
-pub refused_at : (reads : List RowRead) (i : ℕ) (e m : SlateDBError) → (e ≡ m) ⊎ (slice_get reads i ≡ Some (Err e)) → (e ≡ m) ⊎ IsDamage e → (e ≡ m) ⊎ Refuses reads e
+pub refused_at : (reads : List RowRead) (i : ℕ) (e m : SlateDBError) → (e ≡ m) ⊎ (slice_get reads i ≡ Some (Err e)) → (e ≡ m) ⊎ IsBlockDamage e → (e ≡ m) ⊎ Refuses reads e
 refused_at reads i e m (inl h) d = inl h
 refused_at reads i e m (inr h) (inl d) = inl d
 refused_at reads i e m (inr h) (inr d) = inr (d, (i, h))

@@ -2,7 +2,7 @@
 use Rattle.std.proofs.Common.{◌≡◌, ℕ, ◌+◌, ◌-◌, ◌^◌, ◌<◌, ◌≤◌, Bool, true, false, cond, ◌&&◌, eqb, ltb, leb, List, [], ◌∷◌, ◌++◌, length, take, drop, flat_map, Result, Ok, Err, refl, sym, ap, subst, ◌∙◌, arith, inl, inr}
 use Rattle.std.specs.Prelude.{slice_range}
 use Rattle.std.specs.List.{AllByRecursion}
-use Rattle.std.proofs.lemmas.Bool.{leb-true, le-leb, ltb-true, lt-ltb, eqb-true, eq-eqb, and_from}
+use Rattle.std.proofs.lemmas.Bool.{leb-true, le-leb, ltb-true, lt-ltb, eqb-true, eq-eqb, and_from, and_parts}
 use Rattle.std.proofs.lemmas.List.{append-nil, length-append, length-take, length-drop, take-append-drop, take_at, drop_at, drop_all}
 use Rattle.std.proofs.lemmas.List.Folds.{drop_split}
 use Rattle.slate_types.specs.declared.error.SlateDBError.{SlateDBError}
@@ -20,10 +20,6 @@ use Rattle.slate_block.proofs.ReadingLawsV1.{row_v1_begins, row_v1_within, row_v
 use Rattle.slate_block.proofs.BlockLaws.{next_v1}
 
 -- ---- tests that did not fail
-
-pub both_true : (x y : Bool) → (x && y) ≡ true → (x ≡ true) × (y ≡ true)
-both_true true y e = (refl, e)
-both_true false y e = absurd cc
 
 pub passed : {A : Type 0} (b : Bool) (d : SlateDBError) (x y : A) → cond b (Ok x) (Err d) ≡ Ok y → (b ≡ true) × (x ≡ y)
 passed true d x y e = (refl, cc)
@@ -114,7 +110,7 @@ row_runs body other at upto row e =
     let f = passed (is_restored entry.key_prefix_len other entry.key_suffix) (CorruptTable at) made a.0 d.2 in
     let bytes = slice_range body at upto in
     let g = passed (leb at upto && leb upto (length body)) (CorruptTable at) bytes c.0 c.1 in
-    let h = both_true (leb at upto) (leb upto (length body)) g.0 in
+    let h = and_parts (leb at upto) (leb upto (length body)) g.0 in
     let read : row_v1_of bytes ≡ Ok d.0 = ap row_v1_of g.1 ∙ unmoved at (row_v1_of c.0) d.0 d.1 in
     record {
       entry = entry;
@@ -237,7 +233,7 @@ block_found body (at ∷ ats) rows fits below e =
     let p = next_place (length body) ats in
     let k = bind_ok (block_reads 1 body (at ∷ ats)) all_ok rows e in
     let g = passed_on (eqb at 0 && ltb (length (at ∷ ats)) (2 ^ 16)) (CorruptTable 0) (block_reads_v1 body (at ∷ ats)) k.0 k.1 in
-    let h = both_true (eqb at 0) (ltb (length (at ∷ ats)) (2 ^ 16)) g.0 in
+    let h = and_parts (eqb at 0) (ltb (length (at ∷ ats)) (2 ^ 16)) g.0 in
     let m = bind_ok (first_key_v1 body (at ∷ ats)) (λ first. Ok (reads_v1 body first (at ∷ ats) (length body))) k.0 g.1 in
     let n = bind_ok (row_upto body [] at p) (λ row. Ok row.key) m.0 m.1 in
     let r : RowEntry = n.0 in

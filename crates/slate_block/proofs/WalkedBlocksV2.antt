@@ -2,7 +2,7 @@
 use Rattle.std.proofs.Common.{◌≡◌, ℕ, zero, suc, ◌+◌, ◌-◌, ◌*◌, ◌%◌, ◌^◌, ◌<◌, ◌≤◌, Bool, true, false, cond, ◌&&◌, eqb, ltb, leb, List, [], ◌∷◌, ◌++◌, length, drop, flat_map, Ok, Err, refl, sym, ap, subst, ◌∙◌, arith, inl, inr, ◌⊎◌, append_assoc}
 use Rattle.std.specs.Prelude.{slice_range}
 use Rattle.std.specs.List.{AllByRecursion}
-use Rattle.std.proofs.lemmas.Bool.{leb-true, ltb-true, eqb-true, eq-eqb, ne_eqb}
+use Rattle.std.proofs.lemmas.Bool.{leb-true, ltb-true, eqb-true, eq-eqb, ne_eqb, and_parts}
 use Rattle.std.proofs.lemmas.List.{length-append, take-append-drop, drop_all}
 use Rattle.slate_types.specs.declared.error.SlateDBError.TheVariants.{CorruptTable}
 use Rattle.slate_types.specs.declared.types.RowEntry.{RowEntry}
@@ -15,7 +15,7 @@ use Rattle.slate_block.specs.Walks.{moved_result, between, is_restored, whole_v2
 use Rattle.slate_block.proofs.Groups.{IsBytes}
 use Rattle.slate_block.proofs.FieldLaws.{bind_ok, ok_is, behind}
 use Rattle.slate_block.proofs.ReadingLaws.{row_v2_begins, row_v2_end}
-use Rattle.slate_block.proofs.WalkedBlocks.{both_true, passed, unmoved, length_between, IsBytes-between, restored, passed_on}
+use Rattle.slate_block.proofs.WalkedBlocks.{passed, unmoved, length_between, IsBytes-between, restored, passed_on}
 use Rattle.slate_block.proofs.GroupRows.{group_v2, restart_v2, rows_v2, rows_are, joined_ok}
 
 -- ---- one row
@@ -41,7 +41,7 @@ row_found body other at end found fits e =
     let b = bind_ok (between body at end) (λ bytes. moved_result at (row_v2_of bytes)) a.0 a.1 in
     let bytes = slice_range body at end in
     let g = passed (leb at end && leb end (length body)) (CorruptTable at) bytes b.0 b.1 in
-    let h = both_true (leb at end) (leb end (length body)) g.0 in
+    let h = and_parts (leb at end) (leb end (length body)) g.0 in
     let ordered : at ≤ end = leb-true _ _ h.0 in
     let within : end ≤ length body = leb-true _ _ h.1 in
     let read : row_v2_of bytes ≡ Ok a.0 = ap row_v2_of g.1 ∙ unmoved at (row_v2_of b.0) a.0 b.2 in
@@ -133,7 +133,7 @@ group_found (suc n) body i q previous at end last ats rows more fits e few ends 
     let walk = row_v2_in body previous at end >>= λ found. before found.0 (group_v2 n body found.0.key found.1 end last) in
     elim (both (last && eqb at end)) as (λ _. GroupStands body i previous at ats (rows ++ more)) [
       | inl over ↦
-          let t = both_true last (eqb at end) over in
+          let t = and_parts last (eqb at end) over in
           let none : [] ≡ rows = ok_is [] rows (sym (ap (λ (b : Bool). cond b (Ok []) walk) over) ∙ g) in
           subst (λ (l : List RowEntry). GroupStands body i previous at ats (l ++ more)) none (ended body i previous at end ats more (eqb-true at end t.1) (ends t.0))
       | inr on ↦
@@ -196,7 +196,7 @@ block_found body [] rows fits below e = absurd cc
 block_found body (at ∷ ats) rows fits below e =
     let k = bind_ok (block_reads 2 body (at ∷ ats)) all_ok rows e in
     let g = passed_on (eqb at 0 && ltb (length (at ∷ ats)) (2 ^ 16)) (CorruptTable 0) (Ok (reads_v2 body (at ∷ ats) (length body))) k.0 k.1 in
-    let h = both_true (eqb at 0) (ltb (length (at ∷ ats)) (2 ^ 16)) g.0 in
+    let h = and_parts (eqb at 0) (ltb (length (at ∷ ats)) (2 ^ 16)) g.0 in
     let start : at ≡ 0 = eqb-true at 0 h.0 in
     let read : rows_v2 body (at ∷ ats) (length body) ≡ Ok rows = sym (rows_are body (at ∷ ats) (length body)) ∙ ap all_ok (ok_is (reads_v2 body (at ∷ ats) (length body)) k.0 g.1) ∙ k.2 in
     let s = rows_found body 0 (at ∷ ats) rows fits read in

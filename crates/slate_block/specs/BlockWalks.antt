@@ -1,5 +1,4 @@
 -- What is left of a walk over a block whose rows are read each by itself.
---     in_order order xs      a list, or its reverse where the order is downwards
 --     place_in order start end index      where in the block the row stands that is at an index of those from the start on and before the end
 --     ReadsLeft      what the rows that are left are read as, in the order of the walk
 --     left it      the rows that are left, or the first refusal
@@ -9,12 +8,12 @@
 --     IsPast order key before after      some first rows are taken off, and the last of them is such a row
 --     StopsAt order key reads      the order doesn't put the first row, where it is read, before a key
 --     BeginsRead reads      the first row is read, or there is none
---     IsDamage e      a refusal for damage
+--     IsBlockDamage e      a refusal that a row of a block can have
 --     Refuses reads e      one of the rows is refused so
 --     IsSought key before after      what a seek to a key leaves
 --     Blames at it e      what a step, or a seek to a key, is refused for
 --     rows_of left, IsRising order left      the rows of a walk that is refused nowhere; it is none, and they come in the order
-use Rattle.std.specs.Prelude.{◌≡◌, ◌⊎◌, ℕ, ◌+◌, ◌-◌, true, false, List, [], ◌∷◌, ◌++◌, reverse, slice_get, Option, Some, None, Result, Ok, Err}
+use Rattle.std.specs.Prelude.{◌≡◌, ◌⊎◌, ℕ, ◌+◌, ◌-◌, true, false, List, [], ◌∷◌, ◌++◌, slice_get, Option, Some, None, Result, Ok, Err}
 use Rattle.slate_types.specs.declared.error.SlateDBError.{SlateDBError}
 use Rattle.slate_types.specs.declared.error.SlateDBError.TheVariants.{CorruptTable, InvalidRowFlags, OutOfMemory}
 use Rattle.slate_types.specs.declared.types.RowEntry.{RowEntry}
@@ -22,10 +21,6 @@ use Rattle.slate_types.specs.declared.iter.IterationOrder.{IterationOrder}
 use Rattle.slate_types.specs.declared.iter.IterationOrder.TheVariants.{Ascending, Descending}
 use Rattle.slate_types.specs.Iteration.{comes_before, IsInOrder}
 use Rattle.slate_block.specs.Walks.{RowRead, all_ok, before}
-
-abbrev pub in_order : {A : Type 0} → IterationOrder → List A → List A
-in_order Ascending xs = xs
-in_order Descending xs = reverse xs
 
 abbrev pub place_in : IterationOrder → ℕ → ℕ → ℕ → ℕ
 place_in Ascending start end index = start + index
@@ -71,13 +66,13 @@ BeginsRead [] = Unit {0}
 BeginsRead (Ok row ∷ reads) = Unit {0}
 BeginsRead (Err e ∷ reads) = ⊥
 
-abbrev pub IsDamage : SlateDBError → Type 0
-IsDamage (CorruptTable place) = Unit {0}
-IsDamage (InvalidRowFlags b) = Unit {0}
-IsDamage e = ⊥
+abbrev pub IsBlockDamage : SlateDBError → Type 0
+IsBlockDamage (CorruptTable place) = Unit {0}
+IsBlockDamage (InvalidRowFlags b) = Unit {0}
+IsBlockDamage e = ⊥
 
 abbrev pub Refuses : List RowRead → SlateDBError → Type 0
-Refuses reads e = IsDamage e × ((i : ℕ) × (slice_get reads i ≡ Some (Err e)))
+Refuses reads e = IsBlockDamage e × ((i : ℕ) × (slice_get reads i ≡ Some (Err e)))
 
 -- a seek
 abbrev pub IsSought : List ℕ → ReadsLeft → ReadsLeft → Type 0

@@ -1,9 +1,9 @@
 //! The rows of a block of version 1, one at a time.
 ghost use Rattle.std.specs.Prelude.{◌≡◌, ◌↔◌, ◌+◌, ◌≤◌, ◌<◌, ◌⊎◌, ℕ, List, [], Ok, Err, Some, length, drop, take, true, false, slice_get, IsTrue, IfOk, IfErr, IfSome, OnOk, OnErr};
 ghost use Rattle.slate_types.specs.declared.types.RowEntry.{RowEntry};
-ghost use Rattle.slate_types.specs.Iteration.{comes_before, drop_before};
+ghost use Rattle.slate_types.specs.Iteration.{comes_before, drop_before, in_order};
 ghost use Rattle.slate_block.specs.Walks.{block_reads, block_rows};
-ghost use Rattle.slate_block.specs.BlockWalks.{in_order, left, place_in, rows_of, Blames, IsDamage, IsPast, IsRising, IsSought, Refuses, StopsAt, TakesLeft, TakesRead, rising_rows};
+ghost use Rattle.slate_block.specs.BlockWalks.{left, place_in, rows_of, Blames, IsBlockDamage, IsPast, IsRising, IsSought, Refuses, StopsAt, TakesLeft, TakesRead, rising_rows};
 ghost use Rattle.slate_block.specs.WholeWalks.{none_refused};
 
 use crate::block_like::BlockLike;
@@ -27,8 +27,9 @@ pub struct BlockIterator<B: BlockLike> {
 
 impl<B: BlockLike> Model for BlockIterator<B> {
     ghost use Rattle.std.specs.Prelude.{◌≤◌, length, slice_range};
+    ghost use Rattle.slate_types.specs.Iteration.{in_order};
     ghost use Rattle.slate_block.specs.Walks.{reads_v1};
-    ghost use Rattle.slate_block.specs.BlockWalks.{in_order, ReadsLeft};
+    ghost use Rattle.slate_block.specs.BlockWalks.{ReadsLeft};
 
     ghost Value = { ReadsLeft };
 
@@ -58,7 +59,7 @@ impl<B: BlockLike> BlockIterator<B> {
         ensures only { IfOk result (λ it. (rows : List RowEntry) → left it ≡ Ok (in_order order rows) → block_rows 1 (B.body_bytes block) (B.row_offsets block) ≡ Ok rows) }
         ensures order { IfOk result (λ it. it.order ≡ order) }
         ensures cause { IfErr result (λ e. (e ≡ SlateDBError.OutOfMemory) ⊎ (block_reads 1 (B.body_bytes block) (B.row_offsets block) ≡ Err e)) }
-        ensures damage { IfErr result (λ e. (e ≡ SlateDBError.OutOfMemory) ⊎ IsDamage e) }
+        ensures damage { IfErr result (λ e. (e ≡ SlateDBError.OutOfMemory) ⊎ IsBlockDamage e) }
     {
         let first_key = block_key(alloc, block.body(), block.offsets())?;
         let end = block.offsets().len();
@@ -90,7 +91,7 @@ impl<B: BlockLike> BlockIterator<B> {
         requires { index < length self.now.reads }
         ensures found { IfOk result (λ row. slice_get self.now.reads index ≡ Some (Ok row)) }
         ensures cause { IfErr result (λ e. (e ≡ SlateDBError.OutOfMemory) ⊎ (slice_get self.now.reads index ≡ Some (Err e))) }
-        ensures damage { IfErr result (λ e. (e ≡ SlateDBError.OutOfMemory) ⊎ IsDamage e) }
+        ensures damage { IfErr result (λ e. (e ≡ SlateDBError.OutOfMemory) ⊎ IsBlockDamage e) }
     {
         let place = place_in(self.order, self.start, self.end, index);
         let (body, offsets) = (self.block.body(), self.block.offsets());
@@ -123,7 +124,7 @@ impl<B: BlockLike> BlockIterator<B> {
         ensures rows { IfOk result (λ answer. TakesLeft (left self.old) answer (left self.new)) }
         ensures order { self.new.order ≡ self.old.order }
         ensures cause { IfErr result (λ e. (e ≡ SlateDBError.OutOfMemory) ⊎ (slice_get self.old.reads 0 ≡ Some (Err e))) }
-        ensures damage { IfErr result (λ e. (e ≡ SlateDBError.OutOfMemory) ⊎ IsDamage e) }
+        ensures damage { IfErr result (λ e. (e ≡ SlateDBError.OutOfMemory) ⊎ IsBlockDamage e) }
         ensures unchanged { OnErr result (self.new ≡ self.old) }
     {
         if self.is_empty() {

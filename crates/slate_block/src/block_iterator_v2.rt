@@ -1,9 +1,9 @@
 //! The rows of a block of version 2, one at a time.
 ghost use Rattle.std.specs.Prelude.{◌≡◌, ◌⊎◌, ◌↔◌, List, [], Ok, Err, Some, length, slice_get, IsOk, IsTrue, IfOk, IfErr, OnOk, OnErr};
 ghost use Rattle.slate_types.specs.declared.types.RowEntry.{RowEntry};
-ghost use Rattle.slate_types.specs.Iteration.{drop_before};
+ghost use Rattle.slate_types.specs.Iteration.{drop_before, in_order};
 ghost use Rattle.slate_block.specs.Walks.{block_reads, block_rows, reads_v2};
-ghost use Rattle.slate_block.specs.BlockWalks.{in_order, left, rising_rows, rows_of, BeginsRead, Blames, IsDamage, IsPast, IsRising, IsSought, Refuses, StopsAt, TakesLeft, TakesRead};
+ghost use Rattle.slate_block.specs.BlockWalks.{left, rising_rows, rows_of, BeginsRead, Blames, IsBlockDamage, IsPast, IsRising, IsSought, Refuses, StopsAt, TakesLeft, TakesRead};
 ghost use Rattle.slate_block.specs.WholeWalks.{none_refused};
 ghost use Rattle.slate_block.specs.GroupWalks.{walk_in};
 
@@ -39,7 +39,7 @@ impl<B: BlockLike> AscendingState<B> {
         ensures rows { IfOk result (λ answer. TakesLeft (left self.old) answer (left self.new)) }
         ensures order { self.new.order ≡ self.old.order }
         ensures cause { IfErr result (λ e. (e ≡ SlateDBError.OutOfMemory) ⊎ (slice_get self.old.reads 0 ≡ Some (Err e))) }
-        ensures damage { IfErr result (λ e. (e ≡ SlateDBError.OutOfMemory) ⊎ IsDamage e) }
+        ensures damage { IfErr result (λ e. (e ≡ SlateDBError.OutOfMemory) ⊎ IsBlockDamage e) }
         ensures unchanged { OnErr result (self.new ≡ self.old) }
     {
         let (body, offsets) = (self.block.body(), self.block.offsets());
@@ -103,7 +103,7 @@ impl<B: BlockLike> BlockIteratorV2<B> {
         ensures order { IfOk result (λ it. it.order ≡ order) }
         ensures begins { IfOk result (λ _. IsOk (block_reads 2 (B.body_bytes block) (B.row_offsets block))) }
         ensures cause { IfErr result (λ e. block_reads 2 (B.body_bytes block) (B.row_offsets block) ≡ Err e) }
-        ensures damage { IfErr result IsDamage }
+        ensures damage { IfErr result IsBlockDamage }
     {
         if let IterationOrder::Descending = order {
             let rows = DescendingBlockIteratorV2::new(alloc, block)?;
@@ -136,7 +136,7 @@ impl<B: BlockLike> BlockIteratorV2<B> {
         ensures rows { IfOk result (λ answer. TakesLeft (left self.old) answer (left self.new)) }
         ensures order { self.new.order ≡ self.old.order }
         ensures cause { IfErr result (λ e. (e ≡ SlateDBError.OutOfMemory) ⊎ (slice_get self.old.reads 0 ≡ Some (Err e))) }
-        ensures damage { IfErr result (λ e. (e ≡ SlateDBError.OutOfMemory) ⊎ IsDamage e) }
+        ensures damage { IfErr result (λ e. (e ≡ SlateDBError.OutOfMemory) ⊎ IsBlockDamage e) }
         ensures unchanged { OnErr result (self.new ≡ self.old) }
     {
         match &mut self.inner {

@@ -1,9 +1,9 @@
 //! The rows of a block of either version, one at a time.
 ghost use Rattle.std.specs.Prelude.{◌≡◌, ◌<◌, ◌⊎◌, ◌↔◌, ◌≢◌, List, [], Ok, Err, Some, length, slice_get, IsOk, IsSome, IsTrue, IfOk, IfErr, OnOk, OnErr};
 ghost use Rattle.slate_types.specs.declared.types.RowEntry.{RowEntry};
-ghost use Rattle.slate_types.specs.Iteration.{drop_before};
+ghost use Rattle.slate_types.specs.Iteration.{drop_before, in_order};
 ghost use Rattle.slate_block.specs.Walks.{block_reads, block_rows};
-ghost use Rattle.slate_block.specs.BlockWalks.{in_order, left, rising_rows, rows_of, Blames, IsDamage, IsPast, IsRising, IsSought, Refuses, StopsAt, TakesLeft, TakesRead};
+ghost use Rattle.slate_block.specs.BlockWalks.{left, rising_rows, rows_of, Blames, IsBlockDamage, IsPast, IsRising, IsSought, Refuses, StopsAt, TakesLeft, TakesRead};
 ghost use Rattle.slate_block.specs.WholeWalks.{none_refused};
 ghost use Rattle.slate_block.specs.GroupWalks.{walk_in};
 ghost use Rattle.slate_block.specs.EitherVersion.{left_of};
@@ -39,7 +39,7 @@ impl<B: BlockLike> DataBlockIterator<B> {
         ensures version { version ≢ 1 → version ≢ 2 → result ≡ Err (SlateDBError.InvalidVersion version) }
         ensures begins { IfOk result (λ _. IsOk (block_reads version (B.body_bytes block) (B.row_offsets block))) }
         ensures cause { (version ≡ 1) ⊎ (version ≡ 2) → IfErr result (λ e. (e ≡ SlateDBError.OutOfMemory) ⊎ (block_reads version (B.body_bytes block) (B.row_offsets block) ≡ Err e)) }
-        ensures damage { (version ≡ 1) ⊎ (version ≡ 2) → IfErr result (λ e. (e ≡ SlateDBError.OutOfMemory) ⊎ IsDamage e) }
+        ensures damage { (version ≡ 1) ⊎ (version ≡ 2) → IfErr result (λ e. (e ≡ SlateDBError.OutOfMemory) ⊎ IsBlockDamage e) }
     {
         match version {
             1 => Ok(DataBlockIterator::V1(BlockIterator::new(alloc, block, order)?)),
@@ -68,7 +68,7 @@ impl<B: BlockLike> DataBlockIterator<B> {
         ensures smaller { IfOk result (λ answer. IsSome answer → length (left_of self.new).reads < length (left_of self.old).reads) }
         ensures order { (left_of self.new).order ≡ (left_of self.old).order }
         ensures cause { IfErr result (λ e. (e ≡ SlateDBError.OutOfMemory) ⊎ (slice_get (left_of self.old).reads 0 ≡ Some (Err e))) }
-        ensures damage { IfErr result (λ e. (e ≡ SlateDBError.OutOfMemory) ⊎ IsDamage e) }
+        ensures damage { IfErr result (λ e. (e ≡ SlateDBError.OutOfMemory) ⊎ IsBlockDamage e) }
         ensures unchanged { OnErr result (self.new ≡ self.old) }
     {
         match self {

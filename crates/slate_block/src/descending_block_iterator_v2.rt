@@ -3,7 +3,7 @@ ghost use Rattle.std.specs.Prelude.{◌≡◌, ◌⊎◌, ◌↔◌, List, [], O
 ghost use Rattle.slate_types.specs.declared.types.RowEntry.{RowEntry};
 ghost use Rattle.slate_types.specs.Iteration.{drop_before};
 ghost use Rattle.slate_block.specs.Walks.{block_reads, block_rows};
-ghost use Rattle.slate_block.specs.BlockWalks.{left, rising_rows, rows_of, BeginsRead, Blames, IsDamage, IsPast, IsRising, IsSought, Refuses, StopsAt, TakesLeft, TakesRead};
+ghost use Rattle.slate_block.specs.BlockWalks.{left, rising_rows, rows_of, BeginsRead, Blames, IsBlockDamage, IsPast, IsRising, IsSought, Refuses, StopsAt, TakesLeft, TakesRead};
 ghost use Rattle.slate_block.specs.WholeWalks.{none_refused};
 ghost use Rattle.slate_block.specs.GroupWalks.{reads_back};
 
@@ -49,7 +49,7 @@ impl<B: BlockLike> DescendingBlockIteratorV2<B> {
         ensures order { IfOk result (λ it. it.order ≡ IterationOrder.Descending) }
         ensures begins { IfOk result (λ _. IsOk (block_reads 2 (B.body_bytes block) (B.row_offsets block))) }
         ensures cause { IfErr result (λ e. block_reads 2 (B.body_bytes block) (B.row_offsets block) ≡ Err e) }
-        ensures damage { IfErr result IsDamage }
+        ensures damage { IfErr result IsBlockDamage }
     {
         if !are_named(block.offsets()) {
             return Err(corrupt(0));
@@ -77,7 +77,7 @@ impl<B: BlockLike> DescendingBlockIteratorV2<B> {
         ensures rows { IfOk result (λ answer. TakesLeft (left self.old) answer (left self.new)) }
         ensures order { self.new.order ≡ self.old.order }
         ensures cause { IfErr result (λ e. (e ≡ SlateDBError.OutOfMemory) ⊎ (slice_get self.old.reads 0 ≡ Some (Err e))) }
-        ensures damage { IfErr result (λ e. (e ≡ SlateDBError.OutOfMemory) ⊎ IsDamage e) }
+        ensures damage { IfErr result (λ e. (e ≡ SlateDBError.OutOfMemory) ⊎ IsBlockDamage e) }
         ensures unchanged { OnErr result (self.new ≡ self.old) }
     {
         if !self.rows.is_empty() {

@@ -2,7 +2,7 @@
 ghost use Rattle.std.specs.Prelude.{◌≡◌, ◌+◌, ◌<◌, ◌^◌, ◌⊎◌, ℕ, true, false, Some, Ok, Err, length, drop, slice_get, IfOk, IfErr};
 ghost use Rattle.slate_block.specs.Damage.{AreWithin, IsDamageIn};
 ghost use Rattle.slate_block.specs.Walks.{moved, between, next_place, row_upto, is_restored, reads_v1, first_key_v1, are_named, block_reads};
-ghost use Rattle.slate_block.specs.BlockWalks.{IsDamage};
+ghost use Rattle.slate_block.specs.BlockWalks.{IsBlockDamage};
 ghost use Rattle.slate_block.specs.PlacedRows.{fields_of, placed, row_in, suffix_of, whole_of};
 
 use crate::fields::{RowFields, corrupt, fields_v1, fields_v2};
@@ -33,7 +33,7 @@ fn between(body: &Bytes, from: usize, upto: usize) -> Result<Bytes, SlateDBError
     ensures found { IfOk result (λ bytes. between body.now from upto ≡ Ok bytes) }
     ensures within { IfOk result (λ bytes. from + length bytes < 2 ^ 64) }
     ensures cause { IfErr result (λ e. (e ≡ SlateDBError.OutOfMemory) ⊎ (between body.now from upto ≡ Err e)) }
-    ensures damage { IfErr result (λ e. (e ≡ SlateDBError.OutOfMemory) ⊎ IsDamage e) }
+    ensures damage { IfErr result (λ e. (e ≡ SlateDBError.OutOfMemory) ⊎ IsBlockDamage e) }
 {
     if from <= upto && upto <= body.len() {
         return body.slice(from..upto).map_err(SlateDBError::from);
@@ -105,7 +105,7 @@ pub fn row_in(
 ) -> Result<(RowEntry, usize), SlateDBError>
     ensures found { IfOk result (λ found. row_in version body.now other.now from upto ≡ Ok found) }
     ensures cause { IfErr result (λ e. (e ≡ SlateDBError.OutOfMemory) ⊎ (row_in version body.now other.now from upto ≡ Err e)) }
-    ensures damage { IfErr result (λ e. (e ≡ SlateDBError.OutOfMemory) ⊎ IsDamage e) }
+    ensures damage { IfErr result (λ e. (e ≡ SlateDBError.OutOfMemory) ⊎ IsBlockDamage e) }
 {
     let bytes = between(body, from, upto)?;
     let row = match fields_of(version, bytes.as_slice()) {
@@ -127,7 +127,7 @@ pub fn row_upto(
 ) -> Result<RowEntry, SlateDBError>
     ensures found { IfOk result (λ row. row_upto body.now other.now at upto ≡ Ok row) }
     ensures cause { IfErr result (λ e. (e ≡ SlateDBError.OutOfMemory) ⊎ (row_upto body.now other.now at upto ≡ Err e)) }
-    ensures damage { IfErr result (λ e. (e ≡ SlateDBError.OutOfMemory) ⊎ IsDamage e) }
+    ensures damage { IfErr result (λ e. (e ≡ SlateDBError.OutOfMemory) ⊎ IsBlockDamage e) }
 {
     let (row, end) = row_in(Version::V1, alloc, body, other, at, upto)?;
     if end == upto {
@@ -163,7 +163,7 @@ pub fn are_named(offsets: &[u16]) -> bool
 pub fn block_key(alloc: Global, body: &Bytes, offsets: &[u16]) -> Result<Bytes, SlateDBError>
     ensures reads { IfOk result (λ key. block_reads 1 body.now offsets.now ≡ Ok (reads_v1 body.now key offsets.now (length body.now))) }
     ensures cause { IfErr result (λ e. (e ≡ SlateDBError.OutOfMemory) ⊎ (block_reads 1 body.now offsets.now ≡ Err e)) }
-    ensures damage { IfErr result (λ e. (e ≡ SlateDBError.OutOfMemory) ⊎ IsDamage e) }
+    ensures damage { IfErr result (λ e. (e ≡ SlateDBError.OutOfMemory) ⊎ IsBlockDamage e) }
 {
     if !are_named(offsets) {
         return Err(corrupt(0));

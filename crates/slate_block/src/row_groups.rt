@@ -1,7 +1,7 @@
 //! Rows of version 2, read where they stand. A group of up to 16 rows begins at each restart.
 ghost use Rattle.std.specs.Prelude.{◌≡◌, ◌<◌, ◌+◌, [], ◌∷◌, ◌⊎◌, ◌&&◌, ◌||◌, ◌==◌, false, Ok, Err, IfOk, IfErr, length};
 ghost use Rattle.slate_block.specs.Walks.{row_v2_in};
-ghost use Rattle.slate_block.specs.BlockWalks.{IsDamage};
+ghost use Rattle.slate_block.specs.BlockWalks.{IsBlockDamage};
 ghost use Rattle.slate_block.specs.GroupWalks.{group_left, is_over, restart_at};
 
 use crate::fields::corrupt;
@@ -49,7 +49,7 @@ pub fn first_of_group(
     ensures found { IfOk result (λ found. restart_at body.now offsets.now number ≡ Ok found.0 ∷ group_left body.now found.1) }
     ensures room { IfOk result (λ found. found.1.room < 16) }
     ensures cause { IfErr result (λ e. (e ≡ SlateDBError.OutOfMemory) ⊎ (restart_at body.now offsets.now number ≡ Err e ∷ [])) }
-    ensures damage { IfErr result (λ e. (e ≡ SlateDBError.OutOfMemory) ⊎ IsDamage e) }
+    ensures damage { IfErr result (λ e. (e ≡ SlateDBError.OutOfMemory) ⊎ IsBlockDamage e) }
 {
     let end = place_behind(body, offsets, number);
     let group = RowGroup {
@@ -74,7 +74,7 @@ pub fn next_of_group(
     ensures found { IfOk result (λ found. group_left body.now group.now ≡ Ok found.0 ∷ group_left body.now found.1) }
     ensures room { IfOk result (λ found. found.1.room < group.now.room) }
     ensures cause { IfErr result (λ e. (e ≡ SlateDBError.OutOfMemory) ⊎ (group_left body.now group.now ≡ Err e ∷ [])) }
-    ensures damage { IfErr result (λ e. (e ≡ SlateDBError.OutOfMemory) ⊎ IsDamage e) }
+    ensures damage { IfErr result (λ e. (e ≡ SlateDBError.OutOfMemory) ⊎ IsBlockDamage e) }
 {
     if group.room == 0 {
         return Err(corrupt(group.at));
@@ -92,7 +92,7 @@ fn row_and_rest(
     ensures found { IfOk result (λ found. row_v2_in body.now group.now.previous group.now.at group.now.end ≡ Ok (found.0, found.1.at)) }
     ensures rest { IfOk result (λ found. (found.1.end ≡ group.now.end) × (group.now.room ≡ found.1.room + 1) × (found.1.is_last ≡ group.now.is_last) × (found.1.previous ≡ found.0.key)) }
     ensures cause { IfErr result (λ e. (e ≡ SlateDBError.OutOfMemory) ⊎ (row_v2_in body.now group.now.previous group.now.at group.now.end ≡ Err e)) }
-    ensures damage { IfErr result (λ e. (e ≡ SlateDBError.OutOfMemory) ⊎ IsDamage e) }
+    ensures damage { IfErr result (λ e. (e ≡ SlateDBError.OutOfMemory) ⊎ IsBlockDamage e) }
 {
     let key = group.previous.as_slice();
     let (row, at) = row_in(Version::V2, alloc, body, key, group.at, group.end)?;

@@ -1,7 +1,7 @@
 //! A walk over the rows of a block of version 2, from its end to its front, group by group.
 ghost use Rattle.std.specs.Prelude.{◌≡◌, ◌≤◌, ◌<◌, ◌⊎◌, Ok, Err, IsOk, IfOk, IfErr, length, take};
 ghost use Rattle.slate_block.specs.Walks.{all_ok};
-ghost use Rattle.slate_block.specs.BlockWalks.{BeginsRead, IsDamage, IsPast, Refuses, StopsAt};
+ghost use Rattle.slate_block.specs.BlockWalks.{BeginsRead, IsBlockDamage, IsPast, Refuses, StopsAt};
 ghost use Rattle.slate_block.specs.GroupWalks.{left_back, reads_back, restart_at, turned, BeginsBefore};
 
 use crate::row_groups::{GROUP_LEN, first_of_group, next_of_group};
@@ -20,7 +20,7 @@ pub fn group_rows(
     requires { number < length offsets.now }
     ensures rows { IfOk result (λ rows. all_ok (restart_at body.now offsets.now number) ≡ Ok rows.items) }
     ensures cause { IfErr result (λ e. (e ≡ SlateDBError.OutOfMemory) ⊎ (all_ok (restart_at body.now offsets.now number) ≡ Err e)) }
-    ensures damage { IfErr result (λ e. (e ≡ SlateDBError.OutOfMemory) ⊎ IsDamage e) }
+    ensures damage { IfErr result (λ e. (e ≡ SlateDBError.OutOfMemory) ⊎ IsBlockDamage e) }
 {
     let mut rows = Vec::with_capacity(alloc, GROUP_LEN)?;
     let (first, mut group) = first_of_group(alloc, body, offsets, number)?;
@@ -97,7 +97,7 @@ pub fn before_key(
     ensures read { IfOk result (λ found. BeginsRead (left_back body.now offsets.now found.0 found.1.items)) }
     ensures within { IfOk result (λ found. found.0 ≤ groups) }
     ensures cause { IfErr result (λ e. (e ≡ SlateDBError.OutOfMemory) ⊎ Refuses (reads_back groups body.now offsets.now) e) }
-    ensures damage { IfErr result (λ e. (e ≡ SlateDBError.OutOfMemory) ⊎ IsDamage e) }
+    ensures damage { IfErr result (λ e. (e ≡ SlateDBError.OutOfMemory) ⊎ IsBlockDamage e) }
 {
     let mut before = groups;
     while before > 0 {

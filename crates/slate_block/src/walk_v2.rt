@@ -3,7 +3,7 @@ ghost use Rattle.std.specs.Prelude.{◌≡◌, ◌≤◌, ◌<◌, ◌⊎◌, �
 ghost use Rattle.slate_types.specs.declared.types.RowEntry.{RowEntry};
 ghost use Rattle.slate_types.specs.Iteration.{comes_before};
 ghost use Rattle.slate_block.specs.Walks.{reads_v2, RowRead};
-ghost use Rattle.slate_block.specs.BlockWalks.{BeginsRead, IsDamage, IsPast, Refuses, StopsAt};
+ghost use Rattle.slate_block.specs.BlockWalks.{BeginsRead, IsBlockDamage, IsPast, Refuses, StopsAt};
 ghost use Rattle.slate_block.specs.GroupWalks.{is_over, left_v2, restart_at, BeginsBefore, IsStart};
 
 use crate::fields::key_fields_v2;
@@ -81,7 +81,7 @@ pub fn next_of_block(
     requires { is_over place.now.group ≡ true → place.now.next < length offsets.now }
     ensures found { IfOk result (λ found. left_v2 body.now offsets.now place.now ≡ Ok found.0 ∷ left_v2 body.now offsets.now found.1) }
     ensures cause { IfErr result (λ e. (e ≡ SlateDBError.OutOfMemory) ⊎ (slice_get (left_v2 body.now offsets.now place.now) 0 ≡ Some (Err e))) }
-    ensures damage { IfErr result (λ e. (e ≡ SlateDBError.OutOfMemory) ⊎ IsDamage e) }
+    ensures damage { IfErr result (λ e. (e ≡ SlateDBError.OutOfMemory) ⊎ IsBlockDamage e) }
 {
     if !place.group.is_over() {
         let (row, group) = next_of_group(alloc, body, &place.group)?;

@@ -11,7 +11,7 @@ use Rattle.slate_types.specs.declared.types.Ulid.{Ulid}
 use Rattle.slate_types.specs.Outside.{Objects, IsCounted, no_faults}
 use Rattle.slate_store.specs.Store.{Act}
 use Rattle.slate_block.specs.BlockReading.{counted_offsets, offset_field as block_offset_field, offsets_from, offsets_of_block}
-use Rattle.slate_block.specs.BlockWalks.{Refuses, IsDamage as IsBlockDamage}
+use Rattle.slate_block.specs.BlockWalks.{Refuses, IsBlockDamage}
 use Rattle.slate_block.specs.Damage.{◌>>=◌, number_field, block_field}
 use Rattle.slate_block.specs.RowReading.{refusal}
 use Rattle.slate_block.specs.Walks.{RowRead}

@@ -12,13 +12,13 @@ use Rattle.slate_types.specs.declared.iter.IterationOrder.TheVariants.{Ascending
 use Rattle.slate_types.specs.Fold.{Combine, fold_rows}
 use Rattle.slate_types.specs.Iteration.{NoneBefore, IsInOrder}
 use Rattle.slate_types.specs.Keys.{key_cmp, key_lt}
-use Rattle.slate_types.specs.Rows.{row_lt, is_base}
+use Rattle.slate_types.specs.Rows.{row_lt, is_base, of_key}
 use Rattle.slate_types.proofs.FoldLaws.{hides-older}
 use Rattle.slate_types.proofs.KeyOrder.{same-key, turned-key}
 use Rattle.slate_table.specs.Table.{AreInOrder}
 use Rattle.slate_db.specs.Flushed.{IsFolded}
 use Rattle.slate_db.specs.Meaning.{Meaning, combine_of}
-use Rattle.slate_db.specs.Model.{Rows, of_key, versions, versions_in}
+use Rattle.slate_db.specs.Model.{Rows, versions, versions_in}
 use Rattle.slate_mem.specs.Gathered.{is_older, newest_kept}
 use Rattle.slate_db.specs.Sound.{at_most, later}
 use Rattle.slate_db.specs.Whole.{FitsMemory, AreRising}

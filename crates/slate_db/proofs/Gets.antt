@@ -7,7 +7,7 @@ use Rattle.slate_types.specs.declared.types.Ulid.{Ulid}
 use Rattle.slate_types.specs.Fold.{AreShort, fold_rows, taken}
 use Rattle.slate_types.specs.Join.{AreOf}
 use Rattle.slate_types.specs.Outside.{Objects}
-use Rattle.slate_types.specs.Rows.{is_base}
+use Rattle.slate_types.specs.Rows.{is_base, of_key}
 use Rattle.slate_store.specs.Store.{object_at}
 use Rattle.slate_mem.specs.Table.{newest, up_to as rows_up_to}
 use Rattle.slate_mem.proofs.MemLaws.{taken-newest}
@@ -20,7 +20,7 @@ use Rattle.slate_db.specs.Installs.{tables_of, installed, root, AreHandles, Hold
 use Rattle.slate_mem.specs.Lookup.{newest_first, is_merge_among}
 use Rattle.slate_db.specs.Lookup.{AreStored, AreStoredAs}
 use Rattle.slate_db.specs.Meaning.{Meaning, IsLawfulMeaning, rules_of, combine_of}
-use Rattle.slate_db.specs.Model.{CoreModel, Rows, memory, of_key, versions, versions_in}
+use Rattle.slate_db.specs.Model.{CoreModel, Rows, memory, versions, versions_in}
 use Rattle.slate_db.specs.Sound.{AreBases, AreTables, IsKept, at_most, above}
 use Rattle.slate_db.specs.Whole.{IsWhole}
 use Rattle.slate_db.proofs.Bases.{bases_in, none_found}

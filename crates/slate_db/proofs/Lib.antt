@@ -1,7 +1,6 @@
 mod Lists
 mod Begins
 mod Journals
-mod IdLaws
 mod Split
 mod Short
 mod Folds

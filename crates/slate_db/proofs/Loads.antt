@@ -14,7 +14,7 @@ use Rattle.slate_types.specs.declared.error.SlateDBError.{SlateDBError}
 use Rattle.slate_types.specs.declared.types.RowEntry.{RowEntry}
 use Rattle.slate_types.specs.Fold.{Combine, fold_rows, fold_taken, taken, from_last}
 use Rattle.slate_types.specs.Keys.{key_cmp, among, keys_set}
-use Rattle.slate_types.specs.Rows.{is_base, operand, sequenced, sequenced_cmp}
+use Rattle.slate_types.specs.Rows.{is_base, operand, sequenced, sequenced_cmp, of_key}
 use Rattle.slate_types.proofs.KeySetLaws.{among-above, set-keeps, set-rises}
 use Rattle.slate_block.specs.Fitting.{fits_in}
 use Rattle.slate_mem.specs.declared.WriteOp.{WriteOp}
@@ -29,7 +29,7 @@ use Rattle.slate_txn.specs.Open.{least_begin}
 use Rattle.slate_db.specs.Flushed.{Layout, IsFolded, IsTooLarge, TooLarge}
 use Rattle.slate_db.specs.Load.{row_load, rows_load, load, op_load, ops_load}
 use Rattle.slate_db.specs.Meaning.{Meaning, combine_of}
-use Rattle.slate_db.specs.Model.{CoreModel, Rows, of_key, memory, versions, versions_in}
+use Rattle.slate_db.specs.Model.{CoreModel, Rows, memory, versions, versions_in}
 use Rattle.slate_db.specs.Sound.{at_most, later}
 use Rattle.slate_db.specs.Whole.{FitsMemory}
 use Rattle.slate_db.proofs.Lists.{all_map}

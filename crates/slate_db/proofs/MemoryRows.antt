@@ -10,7 +10,7 @@ use Rattle.slate_types.specs.declared.error.SlateDBError.{SlateDBError}
 use Rattle.slate_types.specs.declared.error.SlateDBError.TheVariants.{EmptyKey, KeyTooLong}
 use Rattle.slate_types.specs.declared.types.RowEntry.{RowEntry}
 use Rattle.slate_types.specs.Fold.{Combine, fold_rows}
-use Rattle.slate_types.specs.Rows.{sequenced, sequenced_cmp}
+use Rattle.slate_types.specs.Rows.{sequenced, sequenced_cmp, of_key}
 use Rattle.slate_block.specs.BlockSpelling.{IsKey}
 use Rattle.slate_mem.specs.declared.WriteOp.{WriteOp}
 use Rattle.slate_mem.specs.declared.WriteOp.TheVariants.{Put, Delete, Merge as MergeOp}
@@ -20,7 +20,7 @@ use Rattle.slate_mem.specs.CommitRows.{commit_rows}
 use Rattle.slate_mem.specs.Refusals.{op_refusal, first_refusal, when, value_refusal}
 use Rattle.slate_mem.specs.RowOf.{op_row, row_of}
 use Rattle.slate_mem.specs.Table.{put_row, put_rows}
-use Rattle.slate_db.specs.Model.{CoreModel, Rows, of_key, versions, versions_in, memory}
+use Rattle.slate_db.specs.Model.{CoreModel, Rows, versions, versions_in, memory}
 use Rattle.slate_db.specs.Whole.{FitsMemory, AreRising, AreFine}
 use Rattle.slate_db.proofs.Folds.{row_of_seq}
 use Rattle.slate_db.proofs.Lists.{all_map, all_behind}

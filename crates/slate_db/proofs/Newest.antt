@@ -8,7 +8,8 @@ use Rattle.slate_mem.specs.Table.{to_base, up_to, newest}
 use Rattle.slate_mem.proofs.MemLaws.{newest-folds}
 use Rattle.slate_mem.specs.Lookup.{newest_first}
 use Rattle.slate_mem.proofs.LayerLaws.{both, first_more}
-use Rattle.slate_db.specs.Model.{Rows, of_key, versions, versions_in}
+use Rattle.slate_db.specs.Model.{Rows, versions, versions_in}
+use Rattle.slate_types.specs.Rows.{of_key}
 use Rattle.slate_db.specs.Sound.{at_most}
 
 pub up_to_is : (k : List ℕ) (n : ℕ) (rows : Rows) → up_to k n rows ≡ at_most n (of_key k rows)

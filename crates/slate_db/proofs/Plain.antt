@@ -1,6 +1,6 @@
 -- The write of a batch that took no merge.
 use Rattle.std.proofs.Common.{◌≡◌, ℕ, ◌+◌, ◌-◌, ◌<◌, ◌≤◌, ◌^◌, Bool, true, false, ◌&&◌, ◌||◌, cond, List, [], ◌∷◌, ◌++◌, map, filter, reverse, length, Option, Some, None, ℤ, refl, sym, ap, ◌∙◌, arith, bytes_eq}
-use Rattle.std.specs.Prelude.{is_none}
+use Rattle.std.specs.Prelude.{is_some, not}
 use Rattle.std.specs.List.{AllByRecursion}
 use Rattle.slate_types.specs.declared.error.SlateDBError.TheVariants as errors
 use Rattle.slate_types.specs.Fold.{from_last}
@@ -12,7 +12,8 @@ use Rattle.slate_mem.specs.Refusals.{first_refusal, when}
 use Rattle.slate_mem.specs.RowOf.{op_expiry}
 use Rattle.slate_mem.proofs.BatchLaws.{keeps-keys}
 use Rattle.slate_txn.specs.declared.line.Line.TheVariants as lines
-use Rattle.slate_txn.specs.Refusals.{segment_refusal, ttl_refusal, key_refusal, merges_refusal, write_refusal}
+use Rattle.slate_mem.specs.KeyTests.{segment_refusal, ttl_refusal, key_refusal, merges_refusal}
+use Rattle.slate_txn.specs.Refusals.{write_refusal}
 use Rattle.slate_txn.specs.Reply.{Written, Refused}
 use Rattle.slate_txn.specs.State.{Rules, State, last_of}
 use Rattle.slate_txn.specs.Step.{step, refused_or, with_reply, as_commit}
@@ -58,21 +59,21 @@ no_ttl k f [] h = refl
 no_ttl k f (x ∷ []) h = refl
 no_ttl k f (x ∷ y ∷ ys) h = absurd (omega arith)
 
-no_key : (r : Rules) (now : ℤ) (ops : Ops) (k : List ℕ) → r.segment ≡ None → holds_merge ops ≡ false → key_refusal r now ops k ≡ None
+no_key : (r : Rules) (now : ℤ) (ops : Ops) (k : List ℕ) → r.segment ≡ None → holds_merge ops ≡ false → key_refusal r.segment r.default_millis now ops k ≡ None
 no_key r now ops k none h =
     (λ i. first_refusal (segment_refusal (none i) k ∷ no_ttl k (op_expiry r.default_millis now) (kept ops k) (few_kept ops k h) i ∷ []))
 
-no_keys : (r : Rules) (now : ℤ) (ops : Ops) (ks : List (List ℕ)) → r.segment ≡ None → holds_merge ops ≡ false → first_refusal (map (key_refusal r now ops) ks) ≡ None
+no_keys : (r : Rules) (now : ℤ) (ops : Ops) (ks : List (List ℕ)) → r.segment ≡ None → holds_merge ops ≡ false → first_refusal (map (key_refusal r.segment r.default_millis now ops) ks) ≡ None
 no_keys r now ops [] none h = refl
-no_keys r now ops (k ∷ ks) none h = ap (λ e. first_refusal (e ∷ map (key_refusal r now ops) ks)) (no_key r now ops k none h) ∙ no_keys r now ops ks none h
+no_keys r now ops (k ∷ ks) none h = ap (λ e. first_refusal (e ∷ map (key_refusal r.segment r.default_millis now ops) ks)) (no_key r now ops k none h) ∙ no_keys r now ops ks none h
 
-no_operator : (r : Rules) (ops : Ops) → holds_merge ops ≡ false → merges_refusal r ops ≡ None
-no_operator r ops h = ap (λ b. when (b && is_none r.combine) errors.MergeOperatorMissing) h
+no_operator : (r : Rules) (ops : Ops) → holds_merge ops ≡ false → merges_refusal (is_some r.combine) (holds_merge ops) ≡ None
+no_operator r ops h = ap (λ b. when (b && not (is_some r.combine)) errors.MergeOperatorMissing) h
 
 -- what is left of the tests of a batch with operations
 left : (r : Rules) (s : State) (ops : Ops) → (ops ≡ [] → ⊥) → AreFine ops → holds_merge ops ≡ false → r.segment ≡ None →
-    first_refusal (merges_refusal r ops ∷ map (key_refusal r s.now ops) (batch_keys ops)) ≡ None
-left r s ops some fine h none = ap (λ e. first_refusal (e ∷ map (key_refusal r s.now ops) (batch_keys ops))) (no_operator r ops h) ∙ no_keys r s.now ops (batch_keys ops) none h
+    first_refusal (merges_refusal (is_some r.combine) (holds_merge ops) ∷ map (key_refusal r.segment r.default_millis s.now ops) (batch_keys ops)) ≡ None
+left r s ops some fine h none = ap (λ e. first_refusal (e ∷ map (key_refusal r.segment r.default_millis s.now ops) (batch_keys ops))) (no_operator r ops h) ∙ no_keys r s.now ops (batch_keys ops) none h
 
 pub plain_fits : (r : Rules) (s : State) (ops : Ops) (n : ℕ) → (ops ≡ [] → ⊥) → AreFine ops → holds_merge ops ≡ false → r.segment ≡ None → n ≡ last_of r.start_seq s.commits → n < 2 ^ 64 - 2 → write_refusal r s ops ≡ None
 plain_fits r s ops n some fine h none last fits = refusal_is r s ops some fine none ∙ not_exhausted r s n _ last fits ∙ left r s ops some fine h none

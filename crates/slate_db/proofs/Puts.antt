@@ -9,7 +9,7 @@ use Rattle.std.proofs.lemmas.List.{reverse-append}
 use Rattle.std.proofs.lemmas.Slice.Eq.{bytes_eq-Decides}
 use Rattle.slate_types.specs.declared.types.RowEntry.{RowEntry}
 use Rattle.slate_types.specs.Keys.{key_cmp, among}
-use Rattle.slate_types.specs.Rows.{row_lt, sequenced, sequenced_cmp}
+use Rattle.slate_types.specs.Rows.{row_lt, sequenced, sequenced_cmp, of_key}
 use Rattle.slate_types.specs.Fold.{Combine}
 use Rattle.slate_types.proofs.KeySetLaws.{set-rises, among-above, AllAbove}
 use Rattle.slate_types.proofs.RowLaws.{sequenced-total, sequenced-same, rows-by-sequenced}
@@ -25,7 +25,7 @@ use Rattle.slate_table.specs.Table.{AreInOrder}
 use Rattle.slate_txn.specs.State.{Rules, Commit, last_of, combine_at}
 use Rattle.slate_txn.specs.Reads.{key_rows}
 use Rattle.slate_db.specs.Meaning.{Meaning, rules_of}
-use Rattle.slate_db.specs.Model.{CoreModel, Rows, of_key, versions, versions_in}
+use Rattle.slate_db.specs.Model.{CoreModel, Rows, versions, versions_in}
 use Rattle.slate_db.specs.Installs.{installed}
 use Rattle.slate_db.specs.Sound.{above, IsKept}
 use Rattle.slate_db.specs.Whole.{IsWhole, Rising}

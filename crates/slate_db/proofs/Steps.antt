@@ -9,10 +9,10 @@ use Rattle.slate_txn.specs.Reply.{Begun, Done}
 use Rattle.slate_txn.specs.Step.{step}
 use Rattle.slate_db.specs.Meaning.{Meaning, rules_of}
 use Rattle.slate_db.specs.Model.{CoreModel}
-use Rattle.slate_db.specs.Ids.{id_of}
+use Rattle.slate_txn.specs.Ids.{id_of}
 use Rattle.slate_db.specs.Whole.{IsWhole}
 use Rattle.slate_db.proofs.Wholes.{after_begin, after_end}
-use Rattle.slate_db.proofs.IdLaws.{fresh_named}
+use Rattle.slate_txn.proofs.IdLaws.{fresh_named}
 
 pub step_begin : (m : Meaning) (c : CoreModel) (n ids runs : ℕ) (hs : List SsTableHandle) (level : IsolationLevel) (spare : ℕ) → IsWhole c n ids runs hs →
     step (rules_of c.settings m) c.state (lines.Begin (id_of (ids + 1)) level) ≡ ((after_begin c level n (id_of (ids + 1)) spare).state, Begun (id_of (ids + 1)) n)

@@ -13,7 +13,8 @@ use Rattle.slate_types.specs.Partitions.{CanHold}
 use Rattle.slate_store.specs.Store.{Act, object_at, part_of}
 use Rattle.slate_block.specs.declared.block.Block.{Block}
 use Rattle.slate_mem.specs.Table.{newest}
-use Rattle.slate_table.specs.Finding.{encloses, blocks_answer, of_key, AreBlocksOf}
+use Rattle.slate_table.specs.Finding.{encloses, blocks_answer, AreBlocksOf}
+use Rattle.slate_types.specs.Rows.{of_key}
 use Rattle.slate_table.specs.IndexReading.{index_keys}
 use Rattle.slate_table.specs.InfoReading.{seen_info}
 use Rattle.slate_table.specs.Paths.{path_of}

@@ -4,9 +4,9 @@ use Rattle.std.specs.List.{AllByRecursion}
 use Rattle.std.proofs.lemmas.List.{reverse-append}
 use Rattle.std.proofs.lemmas.Slice.Eq.{bytes_eq-Decides}
 use Rattle.slate_types.specs.declared.types.RowEntry.{RowEntry}
-use Rattle.slate_types.specs.Rows.{operand}
+use Rattle.slate_types.specs.Rows.{operand, of_key}
 use Rattle.slate_types.specs.Fold.{AreShort, IsShort}
-use Rattle.slate_db.specs.Model.{Rows, of_key, versions, versions_in}
+use Rattle.slate_db.specs.Model.{Rows, versions, versions_in}
 use Rattle.slate_db.proofs.Short.{all_append, all_filter}
 
 pub all_reverse : {X : Type 0} (P : X → Type 0) (xs : List X) → AllByRecursion P xs → AllByRecursion P (reverse xs)

@@ -13,10 +13,10 @@ use Rattle.slate_txn.specs.declared.event.Event.{Event}
 use Rattle.slate_txn.specs.declared.event.Event.TheVariants as events
 use Rattle.slate_txn.specs.Named.{find_named, without}
 use Rattle.slate_txn.specs.State.{Tx, begun, opening, last_of}
-use Rattle.slate_txn.specs.Replay.{replay, apply}
+use Rattle.slate_txn.specs.Replay.{replay, apply, used_from}
 use Rattle.slate_db.specs.Model.{CoreModel, Rows, versions, versions_in, memory}
 use Rattle.slate_db.specs.Installs.{as_begun, tables_of, tables_in, NumberedFrom, AreHandles}
-use Rattle.slate_db.specs.Ids.{id_of, IsOfCount, used_from}
+use Rattle.slate_txn.specs.Ids.{id_of, IsOfCount}
 use Rattle.slate_db.specs.Meaning.{Meaning}
 use Rattle.slate_db.specs.Sound.{IsKept}
 use Rattle.slate_db.specs.Whole.{IsWhole, LIMIT, AreRising}
@@ -26,7 +26,7 @@ use Rattle.slate_db.proofs.Quiet.{quiet_more, quiet_frozen}
 use Rattle.slate_db.proofs.Lists.{all_more, all_map, none_behind}
 use Rattle.slate_db.proofs.Begins.{rise_more, rise_without, within_newest}
 use Rattle.slate_txn.proofs.NamedLaws.{length_without, all_without, without_map, open_map, put_last, without_last}
-use Rattle.slate_db.proofs.IdLaws.{fresh_among, fresh_named, all_past, wider}
+use Rattle.slate_txn.proofs.IdLaws.{fresh_among, fresh_named, all_past, wider}
 
 pub tables_more : (es : List Event) (e : Event) → tables_of (es ++ (e ∷ [])) ≡ tables_of es ++ tables_in e
 tables_more es e = flat_map-append tables_in es (e ∷ []) ∙ ap (λ ts. tables_of es ++ ts) (append-nil (tables_in e))

@@ -5,7 +5,6 @@ pub mod Model
 pub mod Installs
 pub mod Sound
 pub mod StoredState
-pub mod Ids
 pub mod Whole
 pub mod Frozen
 pub mod Load

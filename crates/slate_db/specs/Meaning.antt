@@ -4,10 +4,10 @@
 --     combine_of m k      what the operator does at a key
 --     IsLawfulMeaning m      the operator is lawful, and the transformer is undone
 use Rattle.std.specs.Prelude.{ℕ, List, None}
-use Rattle.slate_types.specs.Fold.{Combine, IsLawful, KeepsShort}
+use Rattle.slate_types.specs.Fold.{Combine, IsLawful, KeepsShort, operator_at}
 use Rattle.slate_types.specs.Lawful.{IsLawfulTransform}
 pub use Rattle.slate_types.specs.Outside.{Meaning}
-use Rattle.slate_txn.specs.State.{Rules, operator_at}
+use Rattle.slate_txn.specs.State.{Rules}
 use Rattle.slate_txn.specs.Settings.{Settings, rules}
 
 -- there are no segments

@@ -5,8 +5,9 @@
 --     memory c      the memtables, the newest last
 --     at now s      the state at a moment
 --     IsSame old new      what a refused call leaves
-use Rattle.std.specs.Prelude.{◌≡◌, ℕ, List, [], ◌∷◌, ◌++◌, ℤ, filter, flat_map, reverse, bytes_eq}
+use Rattle.std.specs.Prelude.{◌≡◌, ℕ, List, [], ◌∷◌, ◌++◌, ℤ, flat_map, reverse}
 use Rattle.slate_types.specs.declared.types.RowEntry.{RowEntry}
+use Rattle.slate_types.specs.Rows.{of_key}
 use Rattle.slate_txn.specs.declared.event.Event.{Event}
 use Rattle.slate_txn.specs.State.{State}
 use Rattle.slate_txn.specs.Settings.{Settings}
@@ -24,9 +25,6 @@ pub record CoreModel : Type 0 where
   pub active : Rows
   pub frozen : List Rows
   pub floor : ℕ
-
-abbrev pub of_key : List ℕ → Rows → Rows
-of_key k rows = filter (λ r. bytes_eq r.key k) rows
 
 abbrev pub versions : List ℕ → Rows → Rows
 versions k rows = reverse (of_key k rows)

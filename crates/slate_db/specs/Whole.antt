@@ -16,14 +16,14 @@ use Rattle.slate_mem.specs.Batch.{Ops, op_value}
 use Rattle.slate_txn.specs.Open.{BeginsRise}
 use Rattle.slate_txn.specs.State.{Commit, Tx, last_of}
 use Rattle.slate_txn.specs.Reads.{up_to}
-use Rattle.slate_txn.specs.Replay.{IsLegal}
+use Rattle.slate_txn.specs.Replay.{IsLegal, used_from}
 use Rattle.slate_txn.specs.Places.{IsQuiet}
 use Rattle.slate_mem.specs.Refusals.{op_refusal}
 use Rattle.slate_table.specs.declared.info.SsTableHandle.{SsTableHandle}
 use Rattle.slate_table.specs.Table.{AreInOrder}
 use Rattle.slate_db.specs.Model.{CoreModel, Rows, memory, versions_in}
 use Rattle.slate_db.specs.Installs.{tables_of, installed, Replays, NumberedFrom, AreHandles}
-use Rattle.slate_db.specs.Ids.{IsOfCount, used_from}
+use Rattle.slate_txn.specs.Ids.{IsOfCount}
 
 abbrev pub LIMIT : ℕ
 LIMIT = 9223372036854775807

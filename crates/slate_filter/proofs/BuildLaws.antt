@@ -99,7 +99,3 @@ built_keys bloom keys later last hashes shown made n e f m =
     no_hashes : (l : List ℕ) → l ++ [] ≡ l
     no_hashes [] = refl
     no_hashes (x ∷ l) = ap (λ (r : List ℕ). x ∷ r) (no_hashes l)
-
-pub if_ok : {T E : Type 0} (r : Result T E) (P Q : T → Type 0) → ((x : T) → P x → Q x) → IfOk r P → IfOk r Q
-if_ok (Ok x) P Q f h = f x h
-if_ok (Err e) P Q f h = tt

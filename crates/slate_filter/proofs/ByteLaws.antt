@@ -8,6 +8,7 @@ use Rattle.std.specs.Int.{bit_at}
 use Rattle.std.proofs.lemmas.Bool.Decides.{nat_tests}
 use Rattle.std.proofs.Math.Nat.{zero-div}
 use Rattle.slate_filter.specs.Bloom.{byte_of_bits, bits_from, is_set}
+use Rattle.std.proofs.Math.Bool.{or_assoc, or-false}
 
 -- ---- the eight bits of a byte
 
@@ -229,14 +230,6 @@ zeros_clear (suc n) b = by (ltb b 8) refl (zeros_clear n (b - 8))
 pub all_clear : (xs : List ℕ) (b : ℕ) (rest : Bool) → xs ≡ replicate (length xs) 0 → (is_set xs b || rest) ≡ rest
 all_clear xs b rest e = ap (λ (l : List ℕ). is_set l b || rest) e ∙ ap (λ (t : Bool). t || rest) (zeros_clear (length xs) b)
 
-or_assoc : (a b c : Bool) → ((a || b) || c) ≡ (a || (b || c))
-or_assoc true b c = refl
-or_assoc false b c = refl
-
-or_false : (a : Bool) → (a || false) ≡ a
-or_false true = refl
-or_false false = refl
-
 -- the bits of one hash more
 pub hash_set : (f : ℕ → List ℕ) (hashes : List ℕ) (i b : ℕ) (was is all : Bool) → i < length hashes →
     (was || list_any (λ p. eqb p b) (flat_map f (drop i hashes))) ≡ all → is ≡ (was || list_any (λ p. eqb p b) (f (get_or hashes i 0))) →
@@ -264,5 +257,5 @@ all_set f hashes i n xs p l h inv =
     let size = from_length n 0 (flat_map f hashes) in
     same_bytes xs (bits_from n 0 (flat_map f hashes)) (omega (arith, l, size)) (byte_items xs h) (from_bytes n 0 (flat_map f hashes))
     (λ b q. let place : 0 + b ≡ b = omega arith in
-    sym (or_false (is_set xs b)) ∙ sym (ap (λ (r : List ℕ). is_set xs b || list_any (λ p. eqb p b) (flat_map f r)) end) ∙ inv b
+    sym (or-false (is_set xs b)) ∙ sym (ap (λ (r : List ℕ). is_set xs b || list_any (λ p. eqb p b) (flat_map f r)) end) ∙ inv b
     ∙ sym (ap (λ (k : ℕ). list_any (λ p. eqb p k) (flat_map f hashes)) place) ∙ sym (from_at n 0 (flat_map f hashes) b (omega (arith, q, l))))

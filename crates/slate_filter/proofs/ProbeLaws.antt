@@ -7,6 +7,7 @@ use Rattle.std.proofs.lemmas.Bool.Decides.{nat_tests}
 use Rattle.std.proofs.lemmas.Nat.Bits.{bit_at_set_same, bit_at_set_other}
 use Rattle.slate_filter.specs.Hash.{filter_hash}
 use Rattle.slate_filter.specs.Bloom.{is_set, is_held, probes, probes_from}
+use Rattle.std.proofs.Math.Bool.{or_assoc, or-false}
 
 -- ---- a probe more
 
@@ -48,14 +49,6 @@ held_some count (x ∷ xs) s p = refl
 pub held_of : (count : ℕ) (bits s : List ℕ) (hash : ℕ) → 0 < length bits → hash ≡ filter_hash s → list_all (λ b. is_set bits b) (probes hash count (8 * length bits)) ≡ is_held count bits s
 held_of count bits s hash p e = ap (λ (h : ℕ). list_all (λ b. is_set bits b) (probes h count (8 * length bits))) e ∙ sym (held_some count bits s p)
 
-or_assoc : (a b c : Bool) → ((a || b) || c) ≡ (a || (b || c))
-or_assoc true b c = refl
-or_assoc false b c = refl
-
-or_false : (a : Bool) → (a || false) ≡ a
-or_false true = refl
-or_false false = refl
-
 pub any_more : (was is : Bool) (b count i bits h d h' d' : ℕ) (all : Bool) → i < count → (was || list_any (λ p. eqb p b) (probes_from (count - i) i bits h d)) ≡ all → is ≡ (was || eqb h b) →
     d' ≡ (d + i) % bits → h' ≡ (h + d') % bits → (is || list_any (λ p. eqb p b) (probes_from (count - (i + 1)) (i + 1) bits h' d')) ≡ all
 any_more was is b count i bits h d h' d' all p inv e f g =
@@ -64,7 +57,7 @@ any_more was is b count i bits h d h' d' all p inv e f g =
     ap (λ (t : Bool). t || rest) e ∙ or_assoc was (eqb h b) rest ∙ sym (ap (λ (l : List ℕ). was || list_any (λ p. eqb p b) l) here) ∙ inv
 
 pub any_done : (was : Bool) (b count i bits h d : ℕ) (all : Bool) → count ≤ i → (was || list_any (λ p. eqb p b) (probes_from (count - i) i bits h d)) ≡ all → was ≡ all
-any_done was b count i bits h d all p inv = sym (ap (λ (l : List ℕ). was || list_any (λ p. eqb p b) l) (none count i bits h d p) ∙ or_false was) ∙ inv
+any_done was b count i bits h d all p inv = sym (ap (λ (l : List ℕ). was || list_any (λ p. eqb p b) l) (none count i bits h d p) ∙ or-false was) ∙ inv
 
 pub list_more : (found : List ℕ) (count i bits h d h' d' : ℕ) (all : List ℕ) → i < count → found ++ probes_from (count - i) i bits h d ≡ all →
     d' ≡ (d + i) % bits → h' ≡ (h + d') % bits → (found ++ h ∷ []) ++ probes_from (count - (i + 1)) (i + 1) bits h' d' ≡ all
@@ -105,7 +98,7 @@ or_one x bit b p q = by (eqb bit b) refl
     by false e =
         let other : b ≢ bit = grind (arith, nat_tests) in
         let kept = bit_at_set_other w8 x bit p b other in
-        ap (λ (n : ℕ). eqb n 1) kept ∙ sym (or_false (eqb (bit_at x b) 1))
+        ap (λ (n : ℕ). eqb n 1) kept ∙ sym (or-false (eqb (bit_at x b) 1))
 
 pub set_one : (xs : List ℕ) (bit b : ℕ) → bit < 8 * length xs → is_set (set xs (bit / 8) (bit_or (get_or xs (bit / 8) 0) (1 * 2 ^ (bit % 8) % 256))) b ≡ (is_set xs b || eqb bit b)
 set_one [] bit b p = absurd (omega (arith, p))
@@ -125,13 +118,13 @@ set_one (x ∷ xs) bit b p = by (ltb bit 8) (ltb b 8) refl refl (λ (far : 8 ≤
         let there : 8 ≤ b = grind (arith, nat_tests) in
         let first : bit / 8 ≡ 0 = omega (arith, near) in
         let apart : eqb bit b ≡ false = grind (arith, nat_tests) in
-        rw (first, f, apart) (sym (or_false (is_set xs (b - 8))))
+        rw (first, f, apart) (sym (or-false (is_set xs (b - 8))))
     by false true e f rest =
         let far : 8 ≤ bit = grind (arith, nat_tests) in
         let here : b < 8 = grind (arith, nat_tests) in
         let later : bit / 8 ≡ suc ((bit - 8) / 8) = omega (arith, far) in
         let apart : eqb bit b ≡ false = grind (arith, nat_tests) in
-        rw (later, f, apart) (sym (or_false (eqb (bit_at x b) 1)))
+        rw (later, f, apart) (sym (or-false (eqb (bit_at x b) 1)))
     by false false e f rest =
         let far : 8 ≤ bit = grind (arith, nat_tests) in
         let there : 8 ≤ b = grind (arith, nat_tests) in

@@ -10,7 +10,7 @@ use Rattle.slate_mem.specs.declared.WriteOp.{WriteOp}
 use Rattle.slate_mem.specs.Batch.{Ops, ops_of, replaces, batch_keys}
 use Rattle.slate_mem.specs.Refusals.{first_refusal, when}
 use Rattle.slate_mem.specs.RowOf.{op_expiry}
-use Rattle.slate_mem.specs.BatchModel.{plain_put}
+use Rattle.slate_mem.specs.BatchModel.{holds_merge, plain_put}
 use Rattle.slate_store.specs.Lines.{before_lines, lines_of}
 use Rattle.slate_txn.specs.declared.line.Line.TheVariants as lines
 use Rattle.slate_language.specs.Grammar.{IsLine}
@@ -18,7 +18,8 @@ use Rattle.slate_language.specs.Parse.{parse}
 use Rattle.slate_language.specs.Stage.{meaning}
 use Rattle.slate_txn.specs.State.{opening}
 use Rattle.slate_txn.specs.Reply.{Written}
-use Rattle.slate_txn.specs.Refusals.{exhausted_refusal, merges_refusal, ttl_refusal}
+use Rattle.slate_mem.specs.KeyTests.{merges_refusal, ttl_refusal}
+use Rattle.slate_txn.specs.Refusals.{exhausted_refusal}
 use Rattle.slate_txn.specs.Step.{answers, refused_or, with_reply, as_commit}
 use Rattle.slate_language.specs.Replies.{Read, onto_meanings, reply_line, replies_to, replies}
 use Rattle.slate_language.specs.Text.{is_visible}
@@ -70,7 +71,7 @@ batch_refusal n os = first_refusal (None ∷ ttl_refusal (key n) (reverse (map (
 
 abbrev shown : ℕ → List WriteOp → Option SlateDBError → List ℕ
 shown n os o =
-    let rest = exhausted_refusal plain opening ∷ merges_refusal plain (batch n) ∷ batch_refusal n os ∷ [] in
+    let rest = exhausted_refusal plain opening ∷ merges_refusal false (holds_merge (batch n)) ∷ batch_refusal n os ∷ [] in
     flat_map reply_line ((refused_or (first_refusal (o ∷ rest)) opening (with_reply Written (as_commit plain opening (batch n) (batch_keys (batch n))))).1 ∷ [])
 
 own : (n : ℕ) → ops_of (batch n) (key n) ≡ plain_put (49 ∷ []) ∷ []

@@ -1,8 +1,10 @@
 -- Worked scripts with their replies, and the options that they run with.
 use Rattle.std.specs.Prelude.{◌≡◌, ℕ, replicate, ◌-◌, ◌^◌, List, [], ◌∷◌, ◌++◌, map, flat_map, Some, None, codes}
 use Prim.Native.String.{String}
+use Rattle.slate_types.specs.declared.filter_policy.PrefixTarget.TheVariants.{Point}
+use Rattle.slate_filter.specs.Extractors.{last_colon}
 use Rattle.slate_txn.specs.State.{Rules}
-use Rattle.slate_language.specs.Parts.{concat, last_colon}
+use Rattle.slate_language.specs.Parts.{concat}
 use Rattle.slate_language.specs.Generate.{generate, summary}
 use Rattle.slate_language.specs.Replies.{whole_replies, replies}
 
@@ -16,7 +18,7 @@ abbrev pub near_the_end : Rules
 near_the_end = record { default_millis = None; start_seq = 2 ^ 64 - 3; combine = None; segment = None }
 
 abbrev pub by_last_colon : Rules
-by_last_colon = record { default_millis = None; start_seq = 0; combine = None; segment = Some last_colon }
+by_last_colon = record { default_millis = None; start_seq = 0; combine = None; segment = Some (λ k. last_colon (Point k)) }
 
 abbrev pub ten_millis : Rules
 ten_millis = record { default_millis = Some 10; start_seq = 0; combine = None; segment = None }

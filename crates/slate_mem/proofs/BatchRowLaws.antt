@@ -1,19 +1,17 @@
 -- The rows of a batch: those of a key, and their order.
-use Rattle.std.proofs.Common.{◌≡◌, ℕ, ◌&&◌, Bool, true, false, cond, not, List, [], ◌∷◌, ◌++◌, map, flat_map, filter, reverse, Option, Some, None, ℤ, bytes_eq, refl, sym, ap, subst, ◌∙◌, Ordering, Less, Equal, Greater}
-use Rattle.std.specs.Ordering.{is_lt, is_le, is_gt, ordering_reverse}
+use Rattle.std.proofs.Common.{◌≡◌, ℕ, Bool, true, false, cond, List, [], ◌∷◌, ◌++◌, map, flat_map, filter, reverse, Option, Some, None, ℤ, bytes_eq, refl, sym, ap, subst, ◌∙◌, Less}
+use Rattle.std.specs.Ordering.{is_lt, ordering_reverse}
 use Rattle.std.specs.List.Sorted.{IsStrictlySortedBy}
 use Rattle.std.specs.Map.{keys_of}
-use Rattle.std.specs.BTreeMap.Range.{IsLeBy, IsLtBy, is_past_end, range_contains, entries_between}
-use Rattle.std.specs.Range.Bound.{IsForward}
+use Rattle.std.specs.BTreeMap.Range.{range_contains, entries_between}
 use Rattle.std.specs.declared.ops.Bound.{Bound}
-use Rattle.std.specs.declared.ops.Bound.TheVariants.{Included, Excluded, Unbounded}
 use Rattle.std.proofs.lemmas.List.Elements.{filter-append}
 use Rattle.std.proofs.lemmas.List.Kept.{IsStrictlySortedBy-filter}
 use Rattle.std.proofs.lemmas.Slice.Eq.{bytes_eq-Decides}
 use Rattle.slate_types.specs.declared.types.RowEntry.{RowEntry}
 use Rattle.slate_types.specs.declared.bytes_range.BytesRange.{BytesRange}
 use Rattle.slate_types.specs.declared.iter.IterationOrder.TheVariants.{Ascending}
-use Rattle.slate_types.specs.Keys.{key_cmp, key_lt, is_past_start, is_before_end, in_range, is_refused}
+use Rattle.slate_types.specs.Keys.{key_cmp, key_lt, in_range, is_refused}
 use Rattle.slate_types.specs.Iteration.{NoneBefore, IsInOrder}
 use Rattle.slate_types.proofs.KeyOrder.{turned-key, lt-irreflexive}
 use Rattle.slate_types.proofs.KeySetLaws.{AllAbove}
@@ -24,10 +22,10 @@ use Rattle.slate_mem.specs.Batch.{Ops, kept}
 use Rattle.slate_mem.specs.BatchRows.{batch_rows, stamped, newest_rows}
 use Rattle.slate_mem.specs.Kept.{Entries, listed, AreKept}
 use Rattle.slate_mem.specs.RowOf.{row_at}
-use Rattle.slate_mem.specs.Table.{of_key}
-use Rattle.slate_mem.proofs.BatchLaws.{append-nil}
+use Rattle.slate_types.specs.Rows.{of_key}
+use Rattle.std.proofs.lemmas.List.{append-nil}
 use Rattle.slate_mem.proofs.KeptLaws.{items_at, none-at, kept-listed}
-use Rattle.slate_mem.proofs.PlaceLaws.{less-from}
+use Rattle.slate_types.proofs.KeyBounds.{range_contains-in_range}
 
 -- ---- the rows of entries
 
@@ -113,43 +111,6 @@ rows-rise s turn (e ∷ es) h = in-front s e.0 (turn e.1.items) (rows_by s turn 
 
 -- ---- the entries of a range
 
-pub key-forward : (start end : Bound (List ℕ)) → is_refused start end ≡ false → IsForward (IsLeBy key_cmp) (IsLtBy key_cmp) start end
-key-forward Unbounded end h = tt
-key-forward (Included a) (Included b) h = upto (key_cmp a b) (sym (ap is_lt (turned-key b a)) ∙ h)
-  where
-    upto : (o : Ordering) → is_lt (ordering_reverse o) ≡ false → is_gt o ≡ false
-    upto Less g = refl
-    upto Equal g = refl
-    upto Greater g = cc
-key-forward (Included a) (Excluded b) h = ap is_gt (less-from a b h)
-key-forward (Included a) Unbounded h = tt
-key-forward (Excluded a) (Included b) h = ap is_gt (less-from a b h)
-key-forward (Excluded a) (Excluded b) h = less-from a b h
-key-forward (Excluded a) Unbounded h = tt
-
-upto-end : (end : Bound (List ℕ)) (k : List ℕ) → not (is_past_end key_cmp end k) ≡ is_before_end end k
-upto-end Unbounded k = refl
-upto-end (Included b) k = by (key_cmp b k) ∙ sym (ap is_le (turned-key k b))
-  where
-    by : (o : Ordering) → not (is_lt o) ≡ is_le (ordering_reverse o)
-    by Less = refl
-    by Equal = refl
-    by Greater = refl
-upto-end (Excluded b) k = by (key_cmp b k) ∙ sym (ap is_lt (turned-key k b))
-  where
-    by : (o : Ordering) → not (is_le o) ≡ is_lt (ordering_reverse o)
-    by Less = refl
-    by Equal = refl
-    by Greater = refl
-
-from-start : (start : Bound (List ℕ)) (end : Bound (List ℕ)) (k : List ℕ) → range_contains key_cmp start end k ≡ (is_past_start start k && not (is_past_end key_cmp end k))
-from-start Unbounded end k = refl
-from-start (Included a) end k = refl
-from-start (Excluded a) end k = refl
-
-contains : (range : BytesRange) (k : List ℕ) → range_contains key_cmp range.start range.end k ≡ in_range range k
-contains range k = from-start range.start range.end k ∙ ap (λ b. is_past_start range.start k && b) (upto-end range.end k)
-
 keys-between : (start end : Bound (List ℕ)) (es : Entries) → keys_of (entries_between key_cmp start end es) ≡ filter (range_contains key_cmp start end) (keys_of es)
 keys-between start end [] = refl
 keys-between start end (e ∷ es) = by (range_contains key_cmp start end e.0) (keys-between start end es)
@@ -203,7 +164,7 @@ rows-between : (range : BytesRange) (s : Stamps) (turn : List WriteOp → List W
 rows-between range s turn es k none rising whole =
     of_key-rows s turn (entries_between key_cmp range.start range.end es) k none (between-rises range.start range.end es rising)
     ∙ ap (λ ops. map (stamped s k) (turn ops))
-    (at-between range.start range.end es k ∙ (λ i. cond (contains range k i) (sym (kept-listed es k rising whole) i) []))
+    (at-between range.start range.end es k ∙ (λ i. cond (range_contains-in_range range k i) (sym (kept-listed es k rising whole) i) []))
 
 newest-first : (s : Stamps) (k : List ℕ) (ops : List WriteOp) (b : Bool) → map (stamped s k) (reverse (cond b ops [])) ≡ cond b (map (stamped s k) (reverse ops)) []
 newest-first s k ops true = refl

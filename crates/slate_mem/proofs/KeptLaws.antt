@@ -1,6 +1,6 @@
 -- The entries that a batch keeps are what is kept of the operations that it took.
 use Rattle.std.proofs.Common.{◌≡◌, ℕ, ◌+◌, ◌<◌, Bool, true, false, cond, ◌||◌, length-append, List, [], ◌∷◌, ◌++◌, suc, map, filter_map, flat_map, reverse, Option, Some, None, ℤ, length, bytes_eq, refl, sym, ap, subst, ◌∙◌, arith, Ordering, Less, Equal, Greater}
-use Rattle.std.specs.Ordering.{is_eq, ordering_reverse, match_ordering}
+use Rattle.std.specs.Ordering.{is_eq, match_ordering}
 use Rattle.std.specs.List.{list_any, sum_by, cons_option, AllByRecursion, AllZip}
 use Rattle.std.specs.List.Sorted.{IsStrictlySortedBy}
 use Rattle.std.specs.Map.{keys_of, values_of}
@@ -13,7 +13,7 @@ use Rattle.smallvec.specs.SmallVec.{SmallVec}
 use Rattle.slate_types.specs.Keys.{key_cmp, among}
 use Rattle.slate_types.specs.declared.types.RowEntry.{RowEntry}
 use Rattle.slate_types.specs.Fold.{Combine, from_last, fold_rows}
-use Rattle.slate_types.proofs.KeyOrder.{same-key, turned-key}
+use Rattle.slate_types.proofs.KeyOrder.{same-key, bytes_eq-below, bytes_eq-above}
 use Rattle.slate_types.proofs.KeySetLaws.{set-rises, same-set, AllAbove}
 use Rattle.slate_mem.specs.declared.WriteOp.{WriteOp}
 use Rattle.slate_mem.specs.declared.WriteOp.TheVariants.{Put, Delete, Merge}
@@ -25,18 +25,15 @@ use Rattle.slate_mem.specs.CommitRows.{commit_rows}
 use Rattle.slate_mem.specs.Kept.{Entries, listed, tagged, IsKept, AreKept, IsSingle, AreFineAt, AreFine, IsWhole, single_row, single_rows}
 use Rattle.slate_mem.specs.declared.batch_iterator.Stamps.{Stamps}
 use Rattle.slate_mem.specs.BatchRows.{stamped, newest_rows}
-use Rattle.slate_mem.proofs.BatchLaws.{ops_of-append, ops_of-one, append-nil, some_of, none-left, among-keys, some-kept, ops_of-kept}
+use Rattle.std.proofs.lemmas.List.{append-nil}
+use Rattle.slate_mem.proofs.BatchLaws.{ops_of-append, ops_of-one, some_of, none-left, among-keys, some-kept, ops_of-kept}
+use Rattle.std.proofs.Math.Bool.{or-false}
+use Rattle.slate_types.proofs.Lists.{AllByRecursion-append}
 
 -- ---- keys
 
-below-other : (a b : List ℕ) → key_cmp a b ≡ Less → bytes_eq a b ≡ false
-below-other a b e = sym (is_eq-slice_cmp a b) ∙ ap is_eq e
-
 above-other : (a b : List ℕ) → key_cmp a b ≡ Greater → bytes_eq a b ≡ false
 above-other a b e = sym (is_eq-slice_cmp a b) ∙ ap is_eq e
-
-other-below : (a b : List ℕ) → key_cmp a b ≡ Less → bytes_eq b a ≡ false
-other-below a b e = sym (is_eq-slice_cmp b a) ∙ ap is_eq (turned-key b a ∙ ap ordering_reverse e)
 
 -- ---- what entries have at a key
 
@@ -46,7 +43,7 @@ items_at (e ∷ es) k = cond (bytes_eq e.0 k) e.1.items (items_at es k)
 
 pub none-at : (es : Entries) (k : List ℕ) → AllAbove k (keys_of es) → items_at es k ≡ []
 none-at [] k h = refl
-none-at (e ∷ es) k h = ap (λ b. cond b e.1.items (items_at es k)) (other-below k e.0 h.0) ∙ none-at es k h.1
+none-at (e ∷ es) k h = ap (λ b. cond b e.1.items (items_at es k)) (bytes_eq-above k e.0 h.0) ∙ none-at es k h.1
 
 -- the operations of a key that are listed are those that are kept under it
 ops_of-listed : (es : Entries) (k : List ℕ) → IsStrictlySortedBy key_cmp (keys_of es) → ops_of (listed es) k ≡ items_at es k
@@ -110,7 +107,7 @@ listed-by f (e ∷ es) h = λ i. map (λ op. (e.0, op)) (h.0 i) ++ listed-by f e
 
 gives-more : (e : List ℕ × SmallVec WriteOp) (es fs : Entries) → AllAbove e.0 (keys_of fs) → Gives (items_at es) fs → Gives (items_at (e ∷ es)) fs
 gives-more e es [] above h = tt
-gives-more e es (f ∷ fs) above h = (ap (λ b. cond b e.1.items (items_at es f.0)) (below-other e.0 f.0 above.0) ∙ h.0, gives-more e es fs above.1 h.1)
+gives-more e es (f ∷ fs) above h = (ap (λ b. cond b e.1.items (items_at es f.0)) (bytes_eq-below e.0 f.0 above.0) ∙ h.0, gives-more e es fs above.1 h.1)
 
 gives-each : (es : Entries) → IsStrictlySortedBy key_cmp (keys_of es) → Gives (items_at es) es
 unfolding IsStrictlySortedBy
@@ -202,10 +199,6 @@ not-merge k (Put v o) h = refl
 not-merge k Delete h = refl
 not-merge k (Merge v o) h = cc
 
-or-false : (b : Bool) → (b || false) ≡ b
-or-false true = refl
-or-false false = refl
-
 single-kept : (v : SmallVec WriteOp) (op : WriteOp) → v.items ≡ op ∷ [] → IsKept v.items
 single-kept v op h = subst IsKept (sym h) (omega arith, refl)
 
@@ -295,27 +288,16 @@ length-tagged : (k : List ℕ) (ops : List WriteOp) → length (tagged k ops) �
 length-tagged k [] = refl
 length-tagged k (op ∷ ops) = ap suc (length-tagged k ops)
 
--- what is true of each operation is so of each that is listed
-all-both : {A : Type 0} (P : A → Type 0) (xs ys : List A) → AllByRecursion P xs → AllByRecursion P ys → AllByRecursion P (xs ++ ys)
-all-both P [] ys h g = g
-all-both P (x ∷ xs) ys h g = (h.0, all-both P xs ys h.1 g)
-
 fine-tagged : (k : List ℕ) (ops : List WriteOp) → AreFineAt k ops → AllByRecursion (λ (o : List ℕ × WriteOp). op_refusal o.0 o.1 ≡ None) (tagged k ops)
 fine-tagged k [] h = tt
 fine-tagged k (op ∷ ops) h = (h.0, fine-tagged k ops h.1)
 
 pub fine-listed : (es : Entries) → AreFine es → AllByRecursion (λ (o : List ℕ × WriteOp). op_refusal o.0 o.1 ≡ None) (listed es)
 fine-listed [] h = tt
-fine-listed (e ∷ es) h = all-both (λ (o : List ℕ × WriteOp). op_refusal o.0 o.1 ≡ None) (tagged e.0 e.1.items) (listed es) (fine-tagged e.0 e.1.items h.0) (fine-listed es h.1)
-
--- puts and deletes are no merges
-no-merge : (k : List ℕ) (op : WriteOp) → replaces op ≡ true → is_merge_op (k, op) ≡ false
-no-merge k (Put v o) h = refl
-no-merge k Delete h = refl
-no-merge k (Merge v o) h = cc
+fine-listed (e ∷ es) h = AllByRecursion-append (λ (o : List ℕ × WriteOp). op_refusal o.0 o.1 ≡ None) (tagged e.0 e.1.items) (listed es) (fine-tagged e.0 e.1.items h.0) (fine-listed es h.1)
 
 none-tagged : (k : List ℕ) (ops : List WriteOp) → IsSingle ops → holds_merge (tagged k ops) ≡ false
-none-tagged k ops (op, is, h) = ap (λ os. holds_merge (tagged k os)) is ∙ ap (λ b. b || false) (no-merge k op h)
+none-tagged k ops (op, is, h) = ap (λ os. holds_merge (tagged k os)) is ∙ ap (λ b. b || false) (not-merge k op h)
 
 either : (xs ys : Ops) → holds_merge xs ≡ false → holds_merge ys ≡ false → holds_merge (xs ++ ys) ≡ false
 either xs ys h g = list_any-append is_merge_op xs ys ∙ (λ i. h i || g i)

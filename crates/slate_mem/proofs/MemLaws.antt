@@ -1,23 +1,23 @@
 -- Rows of a commit go in front of the older ones of their keys, and the newest rows of a key are those that a fold takes.
 use Rattle.std.proofs.Common.{◌≡◌, ℕ, ◌<◌, Bool, true, false, cond, ◌||◌, List, [], ◌∷◌, ◌++◌, map, reverse, bytes_eq, refl, sym, ap, subst, ◌∙◌, arith, Ordering, Less, Equal, Greater}
-use Rattle.std.specs.Ordering.{is_eq, ordering_then, ordering_reverse, match_ordering, nat_cmp}
+use Rattle.std.specs.Ordering.{ordering_then, match_ordering, nat_cmp}
 use Rattle.std.specs.List.{list_any, AllByRecursion}
 use Rattle.std.specs.List.Sorted.{IsStrictlySortedBy}
 use Rattle.std.proofs.lemmas.Cmp.{nat_list_cmp_total, tied_itself}
 use Rattle.std.proofs.lemmas.Bool.Decides.{nat_tests}
 use Rattle.std.proofs.lemmas.Grind.{reverse_onto}
-use Rattle.std.proofs.lemmas.Map.Text.{is_eq-slice_cmp}
 use Rattle.std.proofs.lemmas.Slice.Eq.{bytes_eq-Decides}
 use Rattle.slate_types.specs.declared.types.RowEntry.{RowEntry}
 use Rattle.slate_types.specs.Keys.{key_cmp}
-use Rattle.slate_types.specs.Rows.{sequenced, sequenced_cmp, is_base}
+use Rattle.slate_types.specs.Rows.{sequenced, sequenced_cmp, is_base, of_key}
 use Rattle.slate_types.specs.Fold.{Combine, from_last, fold_taken, fold_rows}
-use Rattle.slate_types.proofs.KeyOrder.{turned-key}
+use Rattle.slate_types.proofs.KeyOrder.{bytes_eq-above}
 use Rattle.slate_types.proofs.RowLaws.{sequenced-same}
 use Rattle.slate_types.proofs.KeySetLaws.{AllAbove}
-use Rattle.slate_mem.specs.Table.{put_row, put_rows, of_key, to_base, up_to, newest}
+use Rattle.slate_mem.specs.Table.{put_row, put_rows, to_base, up_to, newest}
 use Rattle.slate_mem.proofs.BatchLaws.{from_last-again}
 use Rattle.slate_mem.proofs.KeptLaws.{from-last-passes}
+use Rattle.std.proofs.lemmas.List.Folds.{list_any-append}
 
 -- ---- one row more
 
@@ -73,16 +73,13 @@ put-other k row (r ∷ rs) is = by (sequenced_cmp (sequenced row) (sequenced r))
 
 -- ---- the rows of a commit
 
-other-below : (a b : List ℕ) → key_cmp a b ≡ Less → bytes_eq b a ≡ false
-other-below a b e = sym (is_eq-slice_cmp b a) ∙ ap is_eq (turned-key b a ∙ ap ordering_reverse e)
-
 none-above : (k : List ℕ) (rows : List RowEntry) → AllAbove k (map (λ r. r.key) rows) → of_key k rows ≡ []
 none-above k [] h = refl
-none-above k (r ∷ rs) h = dropped-first k r rs (other-below k r.key h.0) ∙ none-above k rs h.1
+none-above k (r ∷ rs) h = dropped-first k r rs (bytes_eq-above k r.key h.0) ∙ none-above k rs h.1
 
 puts-above : (k : List ℕ) (rows more : List RowEntry) → AllAbove k (map (λ r. r.key) more) → of_key k (put_rows rows more) ≡ of_key k rows
 puts-above k rows [] h = refl
-puts-above k rows (m ∷ more) h = puts-above k (put_row rows m) more h.1 ∙ put-other k m rows (other-below k m.key h.0)
+puts-above k rows (m ∷ more) h = puts-above k (put_row rows m) more h.1 ∙ put-other k m rows (bytes_eq-above k m.key h.0)
 
 pub puts-in-front : (k : List ℕ) (n : ℕ) (rows more : List RowEntry) → AllByRecursion (λ r. r.seq < n) (of_key k rows) → AllByRecursion (λ r. r.seq ≡ n) more → IsStrictlySortedBy key_cmp (map (λ r. r.key) more) →
     of_key k (put_rows rows more) ≡ of_key k more ++ of_key k rows
@@ -149,27 +146,19 @@ none-taken test (x ∷ xs) h = by (test x) (list_any test xs) refl h
     by false true e h = cc
     by false false e h = ap (λ c. cond c (from_last test xs) (x ∷ xs)) e
 
-any-both : {A : Type 0} (test : A → Bool) (xs ys : List A) → list_any test (xs ++ ys) ≡ (list_any test xs || list_any test ys)
-any-both test [] ys = refl
-any-both test (x ∷ xs) ys = by (test x) (any-both test xs ys)
-  where
-    by : (b : Bool) → list_any test (xs ++ ys) ≡ (list_any test xs || list_any test ys) → (b || list_any test (xs ++ ys)) ≡ ((b || list_any test xs) || list_any test ys)
-    by true later = refl
-    by false later = later
-
 from-last-behind : {A : Type 0} (test : A → Bool) (xs ys : List A) → from_last test (xs ++ from_last test ys) ≡ from_last test (xs ++ ys)
 from-last-behind test [] ys = from_last-again test ys
 from-last-behind test (x ∷ xs) ys = by (list_any test (xs ++ ys)) refl (from-last-behind test xs ys)
   where
     same : list_any test (xs ++ from_last test ys) ≡ list_any test (xs ++ ys)
-    same = any-both test xs (from_last test ys) ∙ ap (λ b. list_any test xs || b) (any-taken test ys) ∙ sym (any-both test xs ys)
+    same = list_any-append test xs (from_last test ys) ∙ ap (λ b. list_any test xs || b) (any-taken test ys) ∙ sym (list_any-append test xs ys)
 
     by : (b : Bool) → list_any test (xs ++ ys) ≡ b → from_last test (xs ++ from_last test ys) ≡ from_last test (xs ++ ys) →
         from_last test (x ∷ (xs ++ from_last test ys)) ≡ cond b (from_last test (xs ++ ys)) (x ∷ (xs ++ ys))
     by true e later = ap (λ b. cond b (from_last test (xs ++ from_last test ys)) (x ∷ (xs ++ from_last test ys))) (same ∙ e) ∙ later
     by false e later =
         ap (λ b. cond b (from_last test (xs ++ from_last test ys)) (x ∷ (xs ++ from_last test ys))) (same ∙ e)
-        ∙ ap (λ zs. x ∷ (xs ++ zs)) (none-taken test ys (second (list_any test xs) (list_any test ys) (sym (any-both test xs ys) ∙ e)))
+        ∙ ap (λ zs. x ∷ (xs ++ zs)) (none-taken test ys (second (list_any test xs) (list_any test ys) (sym (list_any-append test xs ys) ∙ e)))
       where
         second : (a b : Bool) → (a || b) ≡ false → b ≡ false
         second true b h = cc

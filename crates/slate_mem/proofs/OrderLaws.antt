@@ -12,10 +12,9 @@ use Rattle.slate_types.specs.declared.types.RowEntry.{RowEntry}
 use Rattle.slate_types.specs.declared.types.ValueDeletable.TheVariants.{Tombstone}
 use Rattle.slate_types.specs.declared.iter.IterationOrder.TheVariants.{Ascending, Descending}
 use Rattle.slate_types.specs.Keys.{key_cmp, key_lt}
-use Rattle.slate_types.specs.Rows.{sequenced, sequenced_cmp}
+use Rattle.slate_types.specs.Rows.{sequenced, sequenced_cmp, of_key}
 use Rattle.slate_types.specs.Iteration.{NoneBefore, IsInOrder}
 use Rattle.slate_types.proofs.KeyOrder.{turned-key}
-use Rattle.slate_mem.specs.Table.{of_key}
 use Rattle.slate_mem.specs.Tied.{TableEntries, IsRows}
 use Rattle.slate_mem.proofs.TableLaws.{AreKeyed, tied-keyed}
 

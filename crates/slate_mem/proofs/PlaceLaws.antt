@@ -10,7 +10,7 @@ use Rattle.std.specs.declared.ops.Bound.TheVariants.{Included, Excluded, Unbound
 use Rattle.std.proofs.lemmas.Bool.Decides.{nat_tests}
 use Rattle.slate_types.specs.declared.types.RowEntry.{RowEntry}
 use Rattle.slate_types.specs.declared.bytes_range.BytesRange.{BytesRange}
-use Rattle.slate_types.specs.Keys.{key_cmp, key_lt, key_le, is_past_start, is_before_end, in_range, is_refused}
+use Rattle.slate_types.specs.Keys.{key_cmp, key_lt, is_past_start, is_before_end, in_range, is_refused}
 use Rattle.slate_types.specs.Rows.{sequenced, sequenced_cmp}
 use Rattle.slate_types.proofs.KeyOrder.{turned-key}
 use Rattle.slate_types.proofs.RangeLaws.{refused-holds-none}
@@ -18,6 +18,7 @@ use Rattle.slate_mem.specs.Table.{ranged}
 use Rattle.slate_mem.specs.Tied.{TableEntries, AreTied}
 use Rattle.slate_mem.specs.KeyRange.{first_place, last_place}
 use Rattle.slate_mem.proofs.TableLaws.{values-filtered}
+use Rattle.slate_types.proofs.KeyBounds.{less_from}
 
 -- ---- numbers
 
@@ -28,14 +29,6 @@ never-below : (m : ℕ) → is_lt (nat_cmp m 0) ≡ false
 never-below m = grind (arith, nat_tests)
 
 -- ---- the bounds of a range that holds keys are forward
-
-pub less-from : (a b : List ℕ) → key_le b a ≡ false → key_cmp a b ≡ Less
-less-from a b h = by (key_cmp a b) (sym (ap is_le (turned-key b a)) ∙ h)
-  where
-    by : (o : Ordering) → is_le (ordering_reverse o) ≡ false → o ≡ Less
-    by Less g = refl
-    by Equal g = cc
-    by Greater g = cc
 
 upto-from : (a b : List ℕ) → key_lt b a ≡ false → is_gt (ordering_then (key_cmp a b) (nat_cmp 0 (2 ^ 64 - 1))) ≡ false
 upto-from a b h = by (key_cmp a b) (sym (ap is_lt (turned-key b a)) ∙ h)
@@ -48,10 +41,10 @@ upto-from a b h = by (key_cmp a b) (sym (ap is_lt (turned-key b a)) ∙ h)
 pub forward : (start end : Bound (List ℕ)) → is_refused start end ≡ false → IsForward (IsLeBy sequenced_cmp) (IsLtBy sequenced_cmp) (first_place start) (last_place end)
 forward Unbounded end h = tt
 forward (Included a) (Included b) h = upto-from a b h
-forward (Included a) (Excluded b) h = ap (λ o. is_gt (ordering_then o (nat_cmp (2 ^ 64 - 1) (2 ^ 64 - 1)))) (less-from a b h)
+forward (Included a) (Excluded b) h = ap (λ o. is_gt (ordering_then o (nat_cmp (2 ^ 64 - 1) (2 ^ 64 - 1)))) (less_from a b h)
 forward (Included a) Unbounded h = tt
-forward (Excluded a) (Included b) h = ap (λ o. is_gt (ordering_then o (nat_cmp 0 0))) (less-from a b h)
-forward (Excluded a) (Excluded b) h = ap (λ o. ordering_then o (nat_cmp (2 ^ 64 - 1) 0)) (less-from a b h)
+forward (Excluded a) (Included b) h = ap (λ o. is_gt (ordering_then o (nat_cmp 0 0))) (less_from a b h)
+forward (Excluded a) (Excluded b) h = ap (λ o. ordering_then o (nat_cmp (2 ^ 64 - 1) 0)) (less_from a b h)
 forward (Excluded a) Unbounded h = tt
 
 -- ---- rows between the bounds are those of the range

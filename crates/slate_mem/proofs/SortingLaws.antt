@@ -12,7 +12,7 @@ use Rattle.slate_types.specs.declared.iter.IterationOrder.TheVariants.{Ascending
 use Rattle.slate_types.specs.Keys.{key_cmp}
 use Rattle.slate_types.specs.Iteration.{NoneBefore, IsInOrder}
 use Rattle.slate_types.proofs.KeyOrder.{turned-key}
-use Rattle.slate_mem.specs.Table.{of_key}
+use Rattle.slate_types.specs.Rows.{of_key}
 
 abbrev pub rises : RowEntry → RowEntry → Bool
 rises a b = is_lt (key_cmp a.key b.key)

@@ -8,7 +8,7 @@ use Rattle.slate_types.specs.declared.types.RowEntry.{RowEntry}
 use Rattle.slate_types.specs.declared.iter.IterationOrder.TheVariants.{Ascending}
 use Rattle.slate_types.specs.Iteration.{IsInOrder}
 use Rattle.slate_mem.specs.Lookup.{newest_first}
-use Rattle.slate_mem.specs.Table.{of_key}
+use Rattle.slate_types.specs.Rows.{of_key}
 
 abbrev pub is_older : ℕ → Option RowEntry → RowEntry → Bool
 is_older b None r = false

@@ -3,7 +3,6 @@
 --     no_rows      the table without rows and prefixes
 --     put_row rows row      the rows with one more, in place of one of the same key and sequence
 --     put_rows rows more      the same of several, one after another
---     of_key k rows      the rows of a key
 --     last_tick rows, first_seq rows      the greatest creation, and the least moment where there is none; the least sequence, and 0 where there is none
 --     ranged range rows      the rows whose keys are in the range
 --     up_to k n rows      those with sequences of at most n
@@ -30,9 +29,6 @@ put_row (r ∷ rs) row = match_ordering (sequenced_cmp (sequenced row) (sequence
 abbrev pub put_rows : List RowEntry → List RowEntry → List RowEntry
 put_rows rows [] = rows
 put_rows rows (m ∷ more) = put_rows (put_row rows m) more
-
-abbrev pub of_key : List ℕ → List RowEntry → List RowEntry
-of_key k rows = filter (λ r. bytes_eq r.key k) rows
 
 abbrev pub ranged : BytesRange → List RowEntry → List RowEntry
 ranged range rows = filter (λ r. in_range range r.key) rows

@@ -2,13 +2,12 @@
 ghost use Rattle.std.specs.Prelude.{◌≡◌, ℕ, List, ◌++◌, map, reverse, IfOk, OnOk, IsOkUnless};
 ghost use Rattle.slate_types.specs.declared.error.SlateDBError.{SlateDBError};
 ghost use Rattle.slate_types.specs.Iteration.{IsInOrder};
-ghost use Rattle.slate_mem.specs.Table.{of_key};
-ghost use Rattle.slate_mem.specs.RowOf.{row_at};
+ghost use Rattle.slate_types.specs.Rows.{of_key};
 ghost use Rattle.slate_mem.specs.BatchRows.{batch_rows, stamped, newest_rows};
 
 use crate::WriteOp;
 use crate::batch::WriteBatch;
-use crate::mem_table::{holds_none, ordered};
+use crate::mem_table::ordered;
 use bytes::Bytes;
 use slate_types::{
     BytesRange, IterationOrder, Outside, RowEntry, RowEntryIterator, RowsIterator, SlateDBError,
@@ -100,7 +99,7 @@ fn rows_in(
     ensures in_order { IfOk result (λ rows. IsInOrder order rows.items) }
     ensures cause { IsOkUnless result SlateDBError.OutOfMemory }
 {
-    if holds_none(range) {
+    if range.leaves_none() {
         return Ok(Vec::new(alloc));
     }
     let BytesRange { start, end } = copied(range)?;

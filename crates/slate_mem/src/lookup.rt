@@ -16,7 +16,7 @@ use slate_types::{RowEntry, RowEntryIterator, SlateDBError, ValueDeletable};
 use std::alloc::{AllocError, Global};
 
 /// Whether a row is an operand.
-pub fn is_merge(row: &RowEntry) -> bool
+pub(crate) fn is_merge(row: &RowEntry) -> bool
     ensures { result ≡ is_operand row.now }
 {
     matches!(row.value, ValueDeletable::Merge(_))

@@ -1,5 +1,5 @@
 //! Rows in memory, until a flush.
-ghost use Rattle.std.specs.Prelude.{◌≡◌, ◌<◌, ◌^◌, ◌++◌, ◌↔◌, ◌&&◌, nat_le, bytes_eq, filter, List, [], ◌∷◌, length, IsTrue, OnOk, OnErr, IfOk, IsOkUnless, Ok, ℕ, ◌-◌, ◌==◌, min, not};
+ghost use Rattle.std.specs.Prelude.{◌≡◌, ◌<◌, ◌^◌, ◌++◌, ◌↔◌, ◌&&◌, filter, List, [], length, IsTrue, OnOk, OnErr, IfOk, IsOkUnless, Ok, ℕ, ◌-◌, ◌==◌, min, not};
 ghost use Rattle.std.specs.BTreeMap.{IsUnchanged};
 ghost use Rattle.std.specs.BTreeMap.Range.{IsLeBy, IsLtBy, entries_between};
 ghost use Rattle.std.specs.Range.Bound.{IsForward};
@@ -9,12 +9,12 @@ ghost use Rattle.std.specs.BTreeSet as set;
 ghost use Rattle.std.specs.List.{sum_by};
 ghost use Rattle.std.specs.Map.{set_value, values_of};
 ghost use Rattle.slate_types.specs.declared.error.SlateDBError.{SlateDBError};
-ghost use Rattle.slate_types.specs.Rows.{sequenced, sequenced_cmp, estimated_size};
-ghost use Rattle.slate_types.specs.Keys.{key_cmp, keys_set, among, is_refused};
+ghost use Rattle.slate_types.specs.Rows.{sequenced_cmp, estimated_size, of_key};
+ghost use Rattle.slate_types.specs.Keys.{key_cmp, keys_set, among};
 ghost use Rattle.slate_types.specs.Fold.{greatest_seq};
 ghost use Rattle.slate_types.specs.Iteration.{IsInOrder};
-ghost use Rattle.slate_mem.specs.Table.{no_rows, put_rows, of_key, ranged, newest, last_tick, first_seq};
-ghost use Rattle.slate_mem.specs.Tied.{IsRows, insert_row, insert_rows, undone, all_undone, newest_entries, taken};
+ghost use Rattle.slate_mem.specs.Table.{no_rows, put_rows, ranged, newest, last_tick, first_seq};
+ghost use Rattle.slate_mem.specs.Tied.{IsRows, insert_row, insert_rows, undone, all_undone, taken};
 
 use crate::key_range::KVTableInternalKeyRange;
 use crate::lookup::is_merge;
@@ -369,23 +369,11 @@ fn rows_in(
     ensures rows { IfOk result (λ found. found.items ≡ ranged range.now (values_of rows.now.entries)) }
     ensures cause { IsOkUnless result SlateDBError.OutOfMemory }
 {
-    if holds_none(range) {
+    if range.leaves_none() {
         return Ok(Vec::new(alloc));
     }
     let KVTableInternalKeyRange { start, end } = KVTableInternalKeyRange::from_range(range)?;
     rows_between(alloc, rows, start, end, false)
-}
-
-/// Whether the bounds of the range leave no key.
-pub(crate) fn holds_none(range: &BytesRange) -> bool
-    ensures { result ≡ is_refused range.now.start range.now.end }
-{
-    match (&range.start, &range.end) {
-        (Bound::Included(start), Bound::Included(end)) => end.cmp(start).is_lt(),
-        (Bound::Included(start) | Bound::Excluded(start), Bound::Excluded(end))
-        | (Bound::Excluded(start), Bound::Included(end)) => end.cmp(start).is_le(),
-        _ => false,
-    }
 }
 
 /// Copies of the rows between two bounds, and of no more than those to the first that is no merge where that is asked for.

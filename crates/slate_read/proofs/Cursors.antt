@@ -15,12 +15,12 @@ use Rattle.slate_types.specs.declared.error.SlateDBError.TheVariants.{OutOfMemor
 use Rattle.slate_types.specs.declared.types.RowEntry.{RowEntry}
 use Rattle.slate_types.specs.declared.iter.IterationOrder.{IterationOrder}
 use Rattle.slate_types.specs.declared.iter.IterationOrder.TheVariants.{Ascending, Descending}
-use Rattle.slate_types.specs.Iteration.{TakesRow}
+use Rattle.slate_types.specs.Iteration.{TakesRow, in_order}
 use Rattle.slate_types.specs.Outside.{Counts, IsLater, IsCounted}
 use Rattle.slate_store.specs.Store.{Act, part, part_of}
 use Rattle.slate_block.specs.declared.block.Block.{Block}
 use Rattle.slate_block.specs.declared.data_block_iterator.DataBlockIterator.{DataBlockIterator}
-use Rattle.slate_block.specs.BlockWalks.{ReadsLeft, in_order, left, rows_of, Refuses, TakesRead}
+use Rattle.slate_block.specs.BlockWalks.{ReadsLeft, left, rows_of, Refuses, TakesRead}
 use Rattle.slate_block.specs.EitherVersion.{left_of}
 use Rattle.slate_block.specs.ReadingLaws.{EachIsAByte}
 use Rattle.slate_block.specs.Walks.{RowRead, all_ok, before, block_rows}
@@ -29,7 +29,7 @@ use Rattle.slate_table.specs.IndexValue.{entries_of}
 use Rattle.slate_table.specs.Parts.{summed}
 use Rattle.slate_table.specs.Reading.{whole_answer, IsBlockRead}
 use Rattle.slate_read.specs.declared.table_state.Cursor.{Cursor}
-use Rattle.slate_types.specs.World.{Kept, World, Place, AnswersAs, IsCall, IsSlip, IsSlipOf, Made, Sees, Slips, Checks}
+use Rattle.slate_types.specs.World.{Kept, World, Place, AnswersWorld, IsCall, IsSlip, IsSlipOf, Made, Sees, Slips, Checks}
 use Rattle.slate_types.specs.Outside.{Meaning, Reach}
 use Rattle.slate_types.specs.Refusing.{IsDamage, NoMore}
 use Rattle.slate_read.specs.TableWalk.{AreOpened, IsOpened, IsReadable, IsSoundCursor, IsWalkRead, IsWhole, Opens, RefusesLeft, RefusesRows, RefusesSome, RefusesWalk, TakesOpen, Walks, block_part, left_in, next_block, next_first, next_stop, path_in, reads_in, no_words, refuses_behind, rest_after, rest_behind, rows_between, size_of, start_of}
@@ -42,11 +42,11 @@ use Rattle.slate_types.specs.Steps.{Step}
 
 -- an opened block of the table has its rows
 opened_rows : (w : World) (p : Meaning) (h : SsTableHandle) (kept : Kept) (table : IsReadable w h kept) (block : ℕ) (order : IterationOrder) (reads : List Act) (it : ReadsLeft) (rows : List RowEntry) →
-    w.meaning ≡ p → IsOpened p h table.entries block order reads it → AllByRecursion (AnswersAs w) reads → slice_get kept.blocks block ≡ Some rows → (left it ≡ Ok (in_order order rows)) × (it.order ≡ order)
+    w.meaning ≡ p → IsOpened p h table.entries block order reads it → AllByRecursion (AnswersWorld w) reads → slice_get kept.blocks block ≡ Some rows → (left it ≡ Ok (in_order order rows)) × (it.order ≡ order)
 unfolding IsOpened IsWalkRead
 opened_rows w p h kept table block order reads it rows same (given, once, (found, bytes, read, walks)) answered at =
     let act = Act.read (path_in h) (start_of h table.entries block) (size_of h table.entries block) given in
-    let by_world = subst (AllByRecursion (AnswersAs w)) once answered in
+    let by_world = subst (AllByRecursion (AnswersWorld w)) once answered in
     let is : given ≡ block_part h kept table.entries block = known_answer w (path_in h) kept (start_of h table.entries block) (size_of h table.entries block) given table.held by_world.0 in
     let answer : whole_answer (size_of h table.entries block) given ≡ block_part h kept table.entries block = ap (whole_answer (size_of h table.entries block)) is ∙ whole_part kept.bytes (start_of h table.entries block) (size_of h table.entries block) in
     let here : IsBlockRead w.meaning.decode (block_part h kept table.entries block) found = subst (λ (a : Option (List ℕ)). IsBlockRead w.meaning.decode a found) answer (subst (λ (q : Meaning). IsBlockRead q.decode (whole_answer (size_of h table.entries block) given) found) (sym same) read) in
@@ -64,7 +64,7 @@ whole_bytes size (Some x) bytes h = by (eqb (length x) size) refl h
 
 -- a section that was read, whose checksum fits, is the world's, or it slipped
 pub section_checked : (w : World) (path : List ℕ) (kept : Kept) (start size : ℕ) (given : Option (List ℕ)) (stored : List ℕ) → w.holds path ≡ Some kept → Contains kept.sections (record { at = start; len = size }) → start + size ≤ length kept.bytes → w.fits (summed stored) ≡ true →
-    whole_answer size given ≡ Some (summed stored) → AnswersAs w (Act.read path start size given) ⊎ IsSlip w (Act.read path start size given)
+    whole_answer size given ≡ Some (summed stored) → AnswersWorld w (Act.read path start size given) ⊎ IsSlip w (Act.read path start size given)
 section_checked w path kept start size given stored held among inside fits is = by (bytes_eq (summed stored) (part start size kept.bytes)) refl
   where
     known : (given ≡ Some (summed stored)) × (length (summed stored) ≡ size)
@@ -76,7 +76,7 @@ section_checked w path kept start size given stored held among inside fits is = 
     all : part (start - start) size (summed stored) ≡ summed stored
     all = ap (λ (n : ℕ). take size (drop n (summed stored))) (sub_self start) ∙ ap (λ (n : ℕ). take n (summed stored)) (sym known.1) ∙ take-length (summed stored)
 
-    by : (b : Bool) → bytes_eq (summed stored) (part start size kept.bytes) ≡ b → AnswersAs w (Act.read path start size given) ⊎ IsSlip w (Act.read path start size given)
+    by : (b : Bool) → bytes_eq (summed stored) (part start size kept.bytes) ≡ b → AnswersWorld w (Act.read path start size given) ⊎ IsSlip w (Act.read path start size given)
     by true e = inl (subst (λ (o : Option Kept). IfSome o (λ k. given ≡ part_of (Some k.bytes) start size)) (sym held) (known.0 ∙ ap (λ (l : List ℕ). Some l) ((bytes_eq-Decides (summed stored) (part start size kept.bytes)).0 e) ∙ sym there))
     by false e = inr (
       kept,
@@ -177,7 +177,7 @@ refused_left p h entries block order reads later (Some it) e within ((given, onc
     (block, given, within, Contains-append_left reads later act (subst (λ (l : List Act). Contains l act) (sym once) (0, omega arith, refl)), inr (found, bytes, read, inr (inr (left_of it, walks, r))))
 
 abbrev pub AllOrSlip : World → List Act → Type 0
-AllOrSlip w reads = AllByRecursion (AnswersAs w) reads ⊎ ((act : Act) × Contains reads act × IsSlip w act)
+AllOrSlip w reads = AllByRecursion (AnswersWorld w) reads ⊎ ((act : Act) × Contains reads act × IsSlip w act)
 
 opened_checked : (w : World) (p : Meaning) (h : SsTableHandle) (kept : Kept) (table : IsReadable w h kept) (block : ℕ) (order : IterationOrder) (reads : List Act) (o : Option (DataBlockIterator Block)) → block < length table.entries → AreOpened p h table.entries block order reads o → AllOrSlip w reads
 unfolding IsOpened IsWalkRead
@@ -188,8 +188,8 @@ opened_checked w p h kept table block order reads (Some it) within ((given, once
     act : Act
     act = Act.read (path_in h) (start_of h table.entries block) (size_of h table.entries block) given
 
-    by : AnswersAs w act ⊎ IsSlip w act → AllOrSlip w reads
-    by (inl k) = inl (subst (AllByRecursion (AnswersAs w)) (sym once) (k, tt))
+    by : AnswersWorld w act ⊎ IsSlip w act → AllOrSlip w reads
+    by (inl k) = inl (subst (AllByRecursion (AnswersWorld w)) (sym once) (k, tt))
     by (inr k) = inr (act, subst (λ (l : List Act). Contains l act) (sym once) (0, omega arith, refl), k)
 
 pub call_checked : (w : World) (a b : Reach) (reads : List Act) → IsCall a b reads → AllOrSlip w reads → Checks w a b

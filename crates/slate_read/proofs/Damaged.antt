@@ -6,7 +6,7 @@ use Rattle.std.proofs.lemmas.Bool.{eqb-true}
 use Rattle.slate_types.specs.declared.error.SlateDBError.{SlateDBError}
 use Rattle.slate_types.specs.declared.error.SlateDBError.TheVariants.{CorruptTable, ChecksumMismatch, InvalidRowFlags, InvalidVersion, OutOfMemory}
 use Rattle.slate_block.specs.BlockReading.{counted_offsets, offset_field as block_offset_field, offsets_from, offsets_of_block}
-use Rattle.slate_block.specs.BlockWalks.{Refuses, IsDamage as IsBlockDamage}
+use Rattle.slate_block.specs.BlockWalks.{Refuses, IsBlockDamage}
 use Rattle.slate_block.specs.Damage.{◌>>=◌, number_field, block_field}
 use Rattle.slate_block.specs.RowReading.{refusal}
 use Rattle.slate_table.specs.Checksum.{crc32}

@@ -10,7 +10,7 @@ use Rattle.slate_types.specs.Faults.{Rose}
 use Rattle.slate_types.specs.Outside.{Counts, IsCounted, IsFault, IsLater, Meaning, OnlyReads, Reach}
 use Rattle.slate_store.specs.Store.{Act}
 use Rattle.slate_block.specs.declared.block.Block.{Block}
-use Rattle.slate_block.specs.BlockWalks.{ReadsLeft, IsDamage as IsBlockDamage}
+use Rattle.slate_block.specs.BlockWalks.{ReadsLeft, IsBlockDamage}
 use Rattle.slate_block.specs.ReadingLaws.{EachIsAByte}
 use Rattle.slate_block.specs.Walks.{block_reads}
 use Rattle.slate_table.specs.declared.info.SsTableHandle.{SsTableHandle}

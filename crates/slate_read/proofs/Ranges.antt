@@ -8,7 +8,7 @@ use Rattle.slate_types.specs.declared.bytes_range.BytesRange.{BytesRange}
 use Rattle.slate_types.specs.declared.types.RowEntry.{RowEntry}
 use Rattle.slate_types.specs.declared.iter.IterationOrder.{IterationOrder}
 use Rattle.slate_types.specs.declared.iter.IterationOrder.TheVariants.{Ascending, Descending}
-use Rattle.slate_types.specs.Iteration.{IsInOrder, NoneBefore, comes_before}
+use Rattle.slate_types.specs.Iteration.{IsInOrder, NoneBefore, comes_before, in_order}
 use Rattle.slate_types.specs.Keys.{in_range, is_refused, key_lt}
 use Rattle.slate_read.specs.RangeRows.{IsRangeOf}
 use Rattle.slate_read.specs.declared.filter_iterator.FilterIterator.{FilterIterator}
@@ -17,7 +17,6 @@ use Rattle.slate_read.specs.declared.table_state.TableWalk.{TableWalk}
 use Rattle.slate_types.specs.Partitions.{CanHold, covering_end, covering_start}
 use Rattle.slate_types.proofs.PartitionLaws.{covers}
 use Rattle.slate_types.proofs.IterationLaws.{in_order_filtered}
-use Rattle.slate_block.specs.BlockWalks.{in_order}
 use Rattle.slate_table.specs.declared.info.SsTableHandle.{SsTableHandle}
 use Rattle.slate_types.specs.World.{Kept, World}
 use Rattle.slate_read.specs.TableWalk.{IsReadable, IsSoundAt, IsSoundWalk, rest_of, is_in, path_in, rest_at, rest_covered, rest_in, rows_between, rows_in}

@@ -6,12 +6,12 @@ use Rattle.slate_types.specs.declared.error.SlateDBError.{SlateDBError}
 use Rattle.slate_types.specs.declared.error.SlateDBError.TheVariants.{OutOfMemory}
 use Rattle.slate_types.specs.declared.types.RowEntry.{RowEntry}
 use Rattle.slate_types.specs.declared.iter.IterationOrder.{IterationOrder}
-use Rattle.slate_types.specs.Iteration.{IsInOrder, NoneBefore, comes_before, drop_before}
+use Rattle.slate_types.specs.Iteration.{IsInOrder, NoneBefore, comes_before, drop_before, in_order}
 use Rattle.slate_types.specs.Outside.{Counts, IsCounted}
 use Rattle.slate_store.specs.Store.{Act}
 use Rattle.slate_block.specs.declared.block.Block.{Block}
 use Rattle.slate_block.specs.declared.data_block_iterator.DataBlockIterator.{DataBlockIterator}
-use Rattle.slate_block.specs.BlockWalks.{IsRising, in_order, left, rows_of, Refuses}
+use Rattle.slate_block.specs.BlockWalks.{IsRising, left, rows_of, Refuses}
 use Rattle.slate_block.specs.EitherVersion.{left_of}
 use Rattle.slate_block.specs.Walks.{RowRead, all_ok}
 use Rattle.slate_table.specs.declared.info.SsTableHandle.{SsTableHandle}

@@ -8,13 +8,13 @@ use Rattle.slate_types.specs.declared.error.SlateDBError.{SlateDBError}
 use Rattle.slate_types.specs.declared.error.SlateDBError.TheVariants.{IteratorNotInitialized, OutOfMemory, StoreFault, Callback, BlockTransformError, CorruptTable, ChecksumMismatch, InvalidRowFlags, InvalidVersion, InvalidFilterBlock, InvalidSequenceOrder}
 use Rattle.slate_types.specs.declared.types.RowEntry.{RowEntry}
 use Rattle.slate_types.specs.declared.iter.IterationOrder.{IterationOrder}
-use Rattle.slate_types.specs.Iteration.{IsInOrder}
+use Rattle.slate_types.specs.Iteration.{IsInOrder, in_order}
 use Rattle.slate_types.specs.Outside.{Counts, IsCounted}
 use Rattle.slate_types.proofs.IterationLaws.{taken_in_order}
 use Rattle.slate_store.specs.Store.{Act}
 use Rattle.slate_block.specs.declared.block.Block.{Block}
 use Rattle.slate_block.specs.declared.data_block_iterator.DataBlockIterator.{DataBlockIterator}
-use Rattle.slate_block.specs.BlockWalks.{ReadsLeft, in_order, left, Refuses}
+use Rattle.slate_block.specs.BlockWalks.{ReadsLeft, left, Refuses}
 use Rattle.slate_block.specs.Damage.{◌>>=◌}
 use Rattle.slate_block.specs.EitherVersion.{left_of}
 use Rattle.slate_block.specs.Walks.{RowRead, all_ok, before, block_reads, block_rows}
@@ -25,7 +25,7 @@ use Rattle.slate_table.specs.Reading.{whole_answer, IsBlockRead, IsIndexRead, Re
 use Rattle.slate_read.specs.declared.table_state.Cursor.{Cursor}
 use Rattle.slate_read.specs.declared.table_state.TableState.{TableState}
 use Rattle.slate_read.specs.declared.table_state.TableState.TheVariants.{New, Walking, Refused}
-use Rattle.slate_types.specs.World.{IsSlip, Kept, World, AnswersAs, IsCall, Made, Sees, Checks}
+use Rattle.slate_types.specs.World.{IsSlip, Kept, World, AnswersWorld, IsCall, Made, Sees, Checks}
 use Rattle.slate_types.specs.Outside.{Meaning, Reach}
 use Rattle.slate_types.specs.Refusing.{IsDamage, NoMore, NoMoreBut}
 use Rattle.slate_types.specs.Steps.{Step}
@@ -122,10 +122,10 @@ unread_fails h order a b i j x at e is (reads, call, inr k) = (reads, call, inr 
 
 -- ---- the index is read
 
-indexed : (w : World) (p : Meaning) (h : SsTableHandle) (kept : Kept) (table : IsReadable w h kept) (reads : List Act) (entries : List (ℕ × List ℕ)) → w.meaning ≡ p → IsIndexed p h reads entries → AllByRecursion (AnswersAs w) reads → entries ≡ table.entries
+indexed : (w : World) (p : Meaning) (h : SsTableHandle) (kept : Kept) (table : IsReadable w h kept) (reads : List Act) (entries : List (ℕ × List ℕ)) → w.meaning ≡ p → IsIndexed p h reads entries → AllByRecursion (AnswersWorld w) reads → entries ≡ table.entries
 unfolding IsIndexed
 indexed w p h kept table reads entries same (given, once, read) answered =
-    let by_world = subst (AllByRecursion (AnswersAs w)) once answered in
+    let by_world = subst (AllByRecursion (AnswersWorld w)) once answered in
     let is : given ≡ index_part h kept = known_answer w (path_in h) kept h.info.index_offset h.info.index_len given table.held by_world.0 in
     let answer : whole_answer h.info.index_len given ≡ index_part h kept = ap (whole_answer h.info.index_len) is ∙ whole_part kept.bytes h.info.index_offset h.info.index_len in
     table.index entries (subst (λ (a : Option (List ℕ)). IsIndexRead w.meaning.decode h.info.filter_offset a entries) answer (subst (λ (q : Meaning). IsIndexRead q.decode h.info.filter_offset (whole_answer h.info.index_len given) entries) (sym same) read))
@@ -138,8 +138,8 @@ index_checked w p h kept table reads entries (given, once, read) =
     act : Act
     act = Act.read (path_in h) h.info.index_offset h.info.index_len given
 
-    by : AnswersAs w act ⊎ IsSlip w act → AllOrSlip w reads
-    by (inl k) = inl (subst (AllByRecursion (AnswersAs w)) (sym once) (k, tt))
+    by : AnswersWorld w act ⊎ IsSlip w act → AllOrSlip w reads
+    by (inl k) = inl (subst (AllByRecursion (AnswersWorld w)) (sym once) (k, tt))
     by (inr k) = inr (act, subst (λ (l : List Act). Contains l act) (sym once) (0, omega arith, refl), k)
 
 indexed_fewer : (p : Meaning) (h : SsTableHandle) (order : IterationOrder) (reads later : List Act) (entries : List (ℕ × List ℕ)) (e : SlateDBError) → IsIndexed p h reads entries → RefusesSome p h entries order later e → RefusesUnread p h order (reads ++ later) e

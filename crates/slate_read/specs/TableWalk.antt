@@ -17,13 +17,13 @@ use Rattle.slate_types.specs.declared.error.SlateDBError.TheVariants.{InvalidVer
 use Rattle.slate_types.specs.declared.types.RowEntry.{RowEntry}
 use Rattle.slate_types.specs.declared.iter.IterationOrder.{IterationOrder}
 use Rattle.slate_types.specs.declared.iter.IterationOrder.TheVariants.{Ascending, Descending}
-use Rattle.slate_types.specs.Iteration.{IsInOrder, drop_before}
+use Rattle.slate_types.specs.Iteration.{IsInOrder, drop_before, in_order}
 use Rattle.slate_types.specs.Keys.{in_range, key_cmp}
 use Rattle.slate_types.specs.Partitions.{covering_start, covering_end, CanHold}
 use Rattle.slate_store.specs.Store.{Act, part_of}
 use Rattle.slate_block.specs.declared.block.Block.{Block}
 use Rattle.slate_block.specs.declared.data_block_iterator.DataBlockIterator.{DataBlockIterator}
-use Rattle.slate_block.specs.BlockWalks.{IsRising, ReadsLeft, in_order, left, rows_of, Refuses, TakesRead}
+use Rattle.slate_block.specs.BlockWalks.{IsRising, ReadsLeft, left, rows_of, Refuses, TakesRead}
 use Rattle.slate_block.specs.EitherVersion.{left_of}
 use Rattle.slate_block.specs.GroupWalks.{walk_in}
 use Rattle.slate_block.specs.ReadingLaws.{EachIsAByte}

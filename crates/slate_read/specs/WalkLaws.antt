@@ -10,12 +10,12 @@ use Rattle.slate_types.specs.declared.error.SlateDBError.{SlateDBError}
 use Rattle.slate_types.specs.declared.error.SlateDBError.TheVariants.{IteratorNotInitialized, OutOfMemory, StoreFault, Callback, BlockTransformError, CorruptTable, ChecksumMismatch, InvalidRowFlags, InvalidVersion, InvalidFilterBlock, InvalidSequenceOrder}
 use Rattle.slate_types.specs.declared.types.RowEntry.{RowEntry}
 use Rattle.slate_types.specs.declared.iter.IterationOrder.{IterationOrder}
-use Rattle.slate_types.specs.Iteration.{IsInOrder}
+use Rattle.slate_types.specs.Iteration.{IsInOrder, in_order}
 use Rattle.slate_types.specs.Outside.{Counts, IsCounted}
 use Rattle.slate_store.specs.Store.{Act, part_of}
 use Rattle.slate_block.specs.declared.block.Block.{Block}
 use Rattle.slate_block.specs.declared.data_block_iterator.DataBlockIterator.{DataBlockIterator}
-use Rattle.slate_block.specs.BlockWalks.{ReadsLeft, in_order, left, Refuses}
+use Rattle.slate_block.specs.BlockWalks.{ReadsLeft, left, Refuses}
 use Rattle.slate_block.specs.Damage.{◌>>=◌}
 use Rattle.slate_block.specs.EitherVersion.{left_of}
 use Rattle.slate_block.specs.Walks.{RowRead, all_ok, before, block_reads, block_rows}
@@ -26,7 +26,7 @@ use Rattle.slate_table.specs.Reading.{whole_answer, IsBlockRead, IsIndexRead, Re
 use Rattle.slate_read.specs.declared.table_state.Cursor.{Cursor}
 use Rattle.slate_read.specs.declared.table_state.TableState.{TableState}
 use Rattle.slate_read.specs.declared.table_state.TableState.TheVariants.{New, Walking, Refused}
-use Rattle.slate_types.specs.World.{Kept, World, AnswersAs, IsCall, Made, Sees, Checks}
+use Rattle.slate_types.specs.World.{Kept, World, AnswersWorld, IsCall, Made, Sees, Checks}
 use Rattle.slate_types.specs.Outside.{Meaning, Reach}
 use Rattle.slate_types.specs.Refusing.{IsDamage, NoMore, NoMoreBut}
 use Rattle.slate_read.specs.TableWalk.{IsReadable, IsSoundAt, IsSoundCursor, IsWhole, Keeps, RefusesLeft, RefusesRows, RefusesSome, RefusesUnread, RefusesWalk, Walks, block_part, index_part, no_words, path_in, refuses_at, refuses_behind, refuses_in, rest_after, rest_at, size_of, start_of}
@@ -45,7 +45,7 @@ whole_part bytes start len = by (leb (start + len) (length bytes)) refl
         ap (λ (t : Bool). cond t (Some cut) None) (eq-eqb (length cut) len size)
     by false is = refl
 
-pub known_answer : (w : World) (path : List ℕ) (kept : Kept) (start len : ℕ) (given : Option (List ℕ)) → w.holds path ≡ Some kept → AnswersAs w (Act.read path start len given) → given ≡ part_of (Some kept.bytes) start len
+pub known_answer : (w : World) (path : List ℕ) (kept : Kept) (start len : ℕ) (given : Option (List ℕ)) → w.holds path ≡ Some kept → AnswersWorld w (Act.read path start len given) → given ≡ part_of (Some kept.bytes) start len
 known_answer w path kept start len given is h = subst (λ (o : Option Kept). IfSome o (λ k. given ≡ part_of (Some k.bytes) start len)) is h
 
 -- ---- what some reads refuse, more do
@@ -99,10 +99,10 @@ get_some [] i h = absurd (omega (arith, h))
 get_some (x ∷ xs) zero h = (x, refl)
 get_some (x ∷ xs) (suc i) h = get_some xs i (omega (arith, h))
 
-of_read : (w : World) (reads : List Act) (act : Act) → AllByRecursion (AnswersAs w) reads → Contains reads act → AnswersAs w act
-of_read w reads act h among = All-contains (AnswersAs w) reads act (All-from_recursion (AnswersAs w) reads h) among
+of_read : (w : World) (reads : List Act) (act : Act) → AllByRecursion (AnswersWorld w) reads → Contains reads act → AnswersWorld w act
+of_read w reads act h among = All-contains (AnswersWorld w) reads act (All-from_recursion (AnswersWorld w) reads h) among
 
-some_whole : (w : World) (h : SsTableHandle) (kept : Kept) (table : IsReadable w h kept) (order : IterationOrder) (reads : List Act) (e : SlateDBError) → AllByRecursion (AnswersAs w) reads → RefusesSome w.meaning h table.entries order reads e → ⊥
+some_whole : (w : World) (h : SsTableHandle) (kept : Kept) (table : IsReadable w h kept) (order : IterationOrder) (reads : List Act) (e : SlateDBError) → AllByRecursion (AnswersWorld w) reads → RefusesSome w.meaning h table.entries order reads e → ⊥
 unfolding RefusesWalk
 some_whole w h kept table order reads e answered (block, given, within, among, why) = by (subst (λ (a : Option (List ℕ)). RefusesWalk w.meaning.decode h.format_version order a e) answer why)
   where
@@ -118,7 +118,7 @@ some_whole w h kept table order reads e answered (block, given, within, among, w
         let there = get_some kept.blocks block (let n = table.count in omega (arith, within, n)) in
         rows_whole h.format_version order found there.0 e table.known (table.block block there.0 found there.1 bytes read) rows
 
-unread_whole : (w : World) (h : SsTableHandle) (kept : Kept) (table : IsReadable w h kept) (order : IterationOrder) (reads : List Act) (e : SlateDBError) → AllByRecursion (AnswersAs w) reads → RefusesUnread w.meaning h order reads e → ⊥
+unread_whole : (w : World) (h : SsTableHandle) (kept : Kept) (table : IsReadable w h kept) (order : IterationOrder) (reads : List Act) (e : SlateDBError) → AllByRecursion (AnswersWorld w) reads → RefusesUnread w.meaning h order reads e → ⊥
 unread_whole w h kept table order reads e answered (given, among, why) = by why
   where
     is : given ≡ index_part h kept
@@ -133,7 +133,7 @@ unread_whole w h kept table order reads e answered (given, among, why) = by why
         let same = table.index entries (subst (λ (a : Option (List ℕ)). IsIndexRead w.meaning.decode h.info.filter_offset a entries) answer read) in
         some_whole w h kept table order reads e answered (subst (λ (es : List (ℕ × List ℕ)). RefusesSome w.meaning h es order reads e) same some)
 
-pub refuses_whole : (range : BytesRange) (h : SsTableHandle) (order : IterationOrder) (s : TableState) (w : World) (reads : List Act) (at : Option (List ℕ)) (e : SlateDBError) → IsSoundAt range h order s w → AllByRecursion (AnswersAs w) reads → refuses_in s h order w.meaning reads at e → ¬ IsDamage e
+pub refuses_whole : (range : BytesRange) (h : SsTableHandle) (order : IterationOrder) (s : TableState) (w : World) (reads : List Act) (at : Option (List ℕ)) (e : SlateDBError) → IsSoundAt range h order s w → AllByRecursion (AnswersWorld w) reads → refuses_in s h order w.meaning reads at e → ¬ IsDamage e
 refuses_whole range h order New w reads at e sound answered (inl k) = λ damage. subst IsDamage k damage
 refuses_whole range h order New w reads at e sound answered (inr k) = λ damage. unread_whole w h sound.state.0 sound.state.1 order reads e answered k.1
 refuses_whole range h order (Walking cursor) w reads at e sound answered (damage, inl k) = λ d. left_whole order cursor.rows e sound.state.whole k

@@ -3,10 +3,10 @@
 --     parts_of mask      what the parts mean that the words name
 --     status e      the exit status of a run that an error ended
 --     IsStatus n      the statuses that there are: 0, 2 for words that aren't known, and those of errors
-use Rattle.std.specs.Prelude.{◌≡◌, ℕ, ◌⊎◌, Option, Some, None}
+use Rattle.std.specs.Prelude.{◌≡◌, ℕ, ◌⊎◌, Option, Some, None, unwrap_or}
 use Rattle.slate_types.specs.declared.config.Options.{Options}
 use Rattle.slate_types.specs.declared.error.SlateDBError.{SlateDBError}
-use Rattle.slate_types.specs.declared.error.SlateDBError.TheVariants.{ScriptSyntax, ScriptTooLong, ReadFault, WriteFault, StoreFault, Callback, BlockTransformError, ChecksumMismatch, InvalidRowFlags, CorruptTable, InvalidSequenceOrder, MergeOperatorMissing}
+use Rattle.slate_types.specs.ExitStatus as exit
 use Rattle.slate_txn.specs.Settings.{settings_of, rules}
 use Rattle.slate_txn.specs.State.{Rules}
 use Rattle.slate_db.specs.Meaning.{Meaning}
@@ -19,21 +19,9 @@ abbrev pub parts_of : Option ℕ → Meaning
 parts_of None = record { combine = None; encode = λ bytes. bytes; decode = λ bytes. bytes }
 parts_of (Some mask) = record { combine = None; encode = xored mask; decode = xored mask }
 
--- Besides these a run is ended by want of memory alone.
+-- a run is ended by no error that has no status
 abbrev pub status : SlateDBError → ℕ
-status (ScriptSyntax n) = 3
-status ScriptTooLong = 4
-status ReadFault = 5
-status WriteFault = 6
-status StoreFault = 7
-status (Callback message) = 8
-status BlockTransformError = 9
-status (ChecksumMismatch stored computed) = 12
-status (InvalidRowFlags flags) = 14
-status (CorruptTable place) = 16
-status (InvalidSequenceOrder before after) = 18
-status MergeOperatorMissing = 19
-status _ = 20
+status e = unwrap_or (exit.status e) 20
 
 abbrev pub IsStatus : ℕ → Type 0
 IsStatus n = (n ≡ 0) ⊎ (n ≡ 2) ⊎ (n ≡ 3) ⊎ (n ≡ 4) ⊎ (n ≡ 5) ⊎ (n ≡ 6) ⊎ (n ≡ 7) ⊎ (n ≡ 12) ⊎ (n ≡ 14) ⊎ (n ≡ 16) ⊎ (n ≡ 18) ⊎ (n ≡ 19) ⊎ (n ≡ 20)

@@ -34,7 +34,8 @@ use Rattle.slate_db.specs.Flushed.{Layout}
 use Rattle.slate_db.specs.Load.{load, ops_load, weight}
 use Rattle.slate_db.specs.Installs.{HoldsTables, NumberedFrom, tables_of}
 use Rattle.slate_db.specs.Meaning.{Meaning, IsLawfulMeaning, rules_of}
-use Rattle.slate_db.specs.Model.{CoreModel, Rows, of_key, versions_in}
+use Rattle.slate_db.specs.Model.{CoreModel, Rows, versions_in}
+use Rattle.slate_types.specs.Rows.{of_key}
 use Rattle.slate_db.specs.Sound.{IsKept, AreTables}
 use Rattle.slate_db.specs.Whole.{AreRising, LIMIT}
 use Rattle.slate_language.specs.declared.reply.Answer.{Answer}

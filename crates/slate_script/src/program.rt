@@ -120,19 +120,5 @@ fn status_of(error: &SlateDBError) -> u8
     requires { IsOutside error.now ⊎ IsScriptError error.now }
     ensures { result ≡ status error.now }
 {
-    match error {
-        SlateDBError::ScriptSyntax { .. } => 3,
-        SlateDBError::ScriptTooLong => 4,
-        SlateDBError::ReadFault => 5,
-        SlateDBError::WriteFault => 6,
-        SlateDBError::StoreFault => 7,
-        SlateDBError::Callback { .. } => 8,
-        SlateDBError::BlockTransformError => 9,
-        SlateDBError::ChecksumMismatch { .. } => 12,
-        SlateDBError::InvalidRowFlags { .. } => 14,
-        SlateDBError::CorruptTable { .. } => 16,
-        SlateDBError::InvalidSequenceOrder { .. } => 18,
-        SlateDBError::MergeOperatorMissing => 19,
-        _ => 20,
-    }
+    error.status().unwrap_or(20)
 }

@@ -11,13 +11,12 @@ use Rattle.std.proofs.lemmas.Slice.Eq.{bytes_eq-Decides}
 use Rattle.slate_types.specs.declared.types.RowEntry.{RowEntry}
 use Rattle.slate_types.specs.Keys.{key_cmp, key_lt, key_le}
 use Rattle.slate_types.specs.Partitions.{CanHold}
-use Rattle.slate_types.specs.Rows.{row_lt}
+use Rattle.slate_types.specs.Rows.{row_lt, of_key}
 use Rattle.slate_types.proofs.KeyOrder.{lt-le, le-lt-trans}
 use Rattle.slate_types.proofs.PartitionLaws.{le-trans}
 use Rattle.slate_block.specs.BlockSpelling.{longest}
 use Rattle.slate_table.specs.Parts.{first_key, last_key, separator, later_separators, separators}
 use Rattle.slate_table.specs.Table.{AreInOrder}
-use Rattle.slate_table.specs.Finding.{of_key}
 
 -- ---- fronts of keys
 

@@ -12,7 +12,7 @@ use Rattle.slate_types.specs.Iteration.{IsInOrder, NoneBefore}
 use Rattle.slate_types.specs.Keys.{key_lt, key_le}
 use Rattle.slate_types.specs.Lawful.{IsLawfulTransform}
 use Rattle.slate_types.specs.Partitions.{CanHold}
-use Rattle.slate_types.specs.Rows.{row_lt}
+use Rattle.slate_types.specs.Rows.{row_lt, of_key}
 use Rattle.slate_store.specs.Store.{part_of}
 use Rattle.slate_block.specs.declared.block.Block.{Block}
 use Rattle.slate_block.specs.RowSpelling.{be16, be32, be64}
@@ -27,7 +27,7 @@ use Rattle.slate_block.proofs.OffsetLaws.{block_again_apart}
 use Rattle.slate_block.proofs.Pieces.{same_pieces, same_ends, same_be16, same_be32, same_be64, same_whole}
 use Rattle.slate_table.specs.Checksum.{crc32}
 use Rattle.slate_table.specs.Decoded.{Info, IsIndex, FitsShort, FitsEntry, RisesFrom, RisesFromZero, entry_bytes}
-use Rattle.slate_table.specs.Finding.{of_key, encloses, is_from, is_upto, IsTableWith, AreBlocksOf, index_answer, blocks_answer}
+use Rattle.slate_table.specs.Finding.{encloses, is_from, is_upto, IsTableWith, AreBlocksOf, index_answer, blocks_answer}
 use Rattle.slate_table.specs.IndexReading.{index_keys, index_of}
 use Rattle.slate_table.specs.InfoReading.{info_in}
 use Rattle.slate_table.specs.Parts.{Encode, section, summed, separators, later_separators, index_bytes, index_entries, stats_bytes, first_key, last_key}

@@ -1,5 +1,4 @@
 -- What a reader of a key finds in a table by its info. Each statement is proved in src/finding_laws.rt.
---     of_key k rows      the rows of a key
 --     encloses info k      the key stands between the first and the last one
 --     IsTableWith encode bytes version i rows      the bytes are a table of the rows, and have this version and this info
 --     AreBlocksOf version blocks found      the blocks are blocks of these lists of rows, one of each
@@ -7,7 +6,7 @@
 --     KeysOutsideHaveNoRows      a table has no row of a key that it doesn't enclose
 --     BlocksHoldTheKey      blocks that hold all partitions of a key hold all its rows
 --     TablesAreNotRefused      neither their indexes nor their blocks
-use Rattle.std.specs.Prelude.{◌≡◌, ℕ, ◌-◌, ◌≤◌, ◌<◌, Bool, false, ◌&&◌, List, [], ◌∷◌, length, filter, flat_map, Option, Some, None, bytes_eq}
+use Rattle.std.specs.Prelude.{◌≡◌, ℕ, ◌-◌, ◌≤◌, ◌<◌, Bool, false, ◌&&◌, List, [], ◌∷◌, length, flat_map, Option, Some, None}
 use Rattle.std.specs.List.{AllByRecursion}
 use Rattle.slate_types.specs.declared.error.SlateDBError.{SlateDBError}
 use Rattle.slate_types.specs.declared.types.RowEntry.{RowEntry}
@@ -15,6 +14,7 @@ use Rattle.slate_types.specs.declared.iter.IterationOrder.TheVariants.{Ascending
 use Rattle.slate_types.specs.Iteration.{IsInOrder}
 use Rattle.slate_types.specs.Keys.{key_le}
 use Rattle.slate_types.specs.Lawful.{IsLawfulTransform}
+use Rattle.slate_types.specs.Rows.{of_key}
 use Rattle.slate_types.specs.Partitions.{CanHold}
 use Rattle.slate_store.specs.Store.{part_of}
 use Rattle.slate_block.specs.declared.block.Block.{Block}
@@ -26,9 +26,6 @@ use Rattle.slate_table.specs.Parts.{Encode}
 use Rattle.slate_table.specs.Reading.{IsIndexRead, RefusesIndex, AreBlocksRead, RefusesBlocks, block_answer, block_start, blocks_size}
 use Rattle.slate_table.specs.Table.{IsTable}
 use Rattle.slate_table.specs.TableEnd.{HasInfo}
-
-abbrev pub of_key : List ℕ → List RowEntry → List RowEntry
-of_key k rows = filter (λ r. bytes_eq r.key k) rows
 
 abbrev pub is_from : Option (List ℕ) → List ℕ → Bool
 is_from None k = false

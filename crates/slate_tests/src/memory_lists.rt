@@ -3,8 +3,8 @@ ghost use Rattle.std.specs.Prelude.{◌≡◌, ◌++◌, List, ℕ, filter, leng
 ghost use Rattle.slate_types.specs.declared.error.SlateDBError.{SlateDBError};
 ghost use Rattle.slate_types.specs.Iteration.{IsInOrder};
 ghost use Rattle.slate_types.specs.Keys.{key_cmp};
-ghost use Rattle.slate_types.specs.Rows.{sequenced, sequenced_cmp};
-ghost use Rattle.slate_mem.specs.Table.{no_rows, put_row, of_key, ranged, newest};
+ghost use Rattle.slate_types.specs.Rows.{sequenced, sequenced_cmp, of_key};
+ghost use Rattle.slate_mem.specs.Table.{no_rows, put_row, ranged, newest};
 
 use crate::listing::{Row, are_same_rows, one, row, walked};
 use bytes::Bytes;

@@ -11,7 +11,8 @@ use Rattle.slate_txn.specs.ManagersView.{StartsRise, IsKeptWithin, AreKept, IsTi
 use Rattle.slate_txn.proofs.Newest.{newest, is, newest_more}
 use Rattle.slate_txn.proofs.Keeps.{Entries, commit_writes, commits_writes}
 use Rattle.slate_txn.proofs.NamedLaws.{update_all}
-use Rattle.slate_txn.proofs.Standing.{Actives, all_more, all_weaker, commits_within}
+use Rattle.slate_types.proofs.Lists.{AllByRecursion-push, AllByRecursion-weaken}
+use Rattle.slate_txn.proofs.Standing.{Actives, commits_within}
 
 -- ---- what is tracked
 
@@ -52,13 +53,13 @@ module _ (f : Active → Active) (same : (t : Active) → (f t).start ≡ t.star
 -- ---- a commit
 
 pub are_kept_more : (n m : ℕ) (es : Entries) → n ≤ m → AreKept n es → AreKept m es
-are_kept_more n m es l h = record { rising = h.rising; within = all_weaker (IsKeptWithin n) (IsKeptWithin m) (λ e w. let high : e.1 ≤ n = w.1 in (w.0, omega arith)) es h.within }
+are_kept_more n m es l h = record { rising = h.rising; within = AllByRecursion-weaken (IsKeptWithin n) (IsKeptWithin m) (λ e w. let high : e.1 ≤ n = w.1 in (w.0, omega arith)) es h.within }
 
 pub tidy_committed : (m : Manager) (n : ℕ) (fs : Entries) → IsTidy m → m.last < n → AreKept n fs → IsTidy (record m { last = n; kept = fs })
 tidy_committed m n fs h l k = record {
   counted = h.counted;
   rise = h.rise;
-  started = all_weaker (λ (p : List ℕ × Active). p.1.start ≤ m.last) (λ (p : List ℕ × Active). p.1.start ≤ n) (λ p a. let low : p.1.start ≤ m.last = a in omega arith) m.active h.started;
+  started = AllByRecursion-weaken (λ (p : List ℕ × Active). p.1.start ≤ m.last) (λ (p : List ℕ × Active). p.1.start ≤ n) (λ p a. let low : p.1.start ≤ m.last = a in omega arith) m.active h.started;
   kept = k;
 }
 
@@ -89,13 +90,13 @@ above-written s n l true o = let past : ltb s n ≡ true = grind (arith, nat_tes
 above-written s n l false o = refl
 
 raise-all : (n m : ℕ) → n ≤ m → (cs : List Commit) → AllUpTo n cs → AllUpTo m cs
-raise-all n m l cs h = all_weaker (λ (c : Commit). c.seq ≤ n) (λ (c : Commit). c.seq ≤ m) (λ c a. let low : c.seq ≤ n = a in omega arith) cs h
+raise-all n m l cs h = AllByRecursion-weaken (λ (c : Commit). c.seq ≤ n) (λ (c : Commit). c.seq ≤ m) (λ c a. let low : c.seq ≤ n = a in omega arith) cs h
 
 -- the keys of the commit are kept
 pub stands_written : (m : Manager) (n : ℕ) (ks : List (List ℕ)) (fs : Entries) (cs : List Commit) (c : Commit) → IsTidy m → m.last < n → IsWritten n ks m.kept fs → IsCommitOf n ks c → StandsFor m cs →
     StandsFor (record m { last = n; kept = fs }) (cs ++ (c ∷ []))
 stands_written m n ks fs cs c tidy l wrote is-it h =
-    (all_more (λ (d : Commit). d.seq ≤ n) cs c up (let q : c.seq ≡ n = is-it.0 in omega arith), by (least_start m.active) (least-within m.last m.active tidy.started) h.1)
+    (AllByRecursion-push (λ (d : Commit). d.seq ≤ n) cs c up (let q : c.seq ≡ n = is-it.0 in omega arith), by (least_start m.active) (least-within m.last m.active tidy.started) h.1)
   where
     up : AllUpTo n cs
     up = raise-all m.last n (omega arith) cs h.0
@@ -141,7 +142,7 @@ stands_committed m id n fs gs tidy l how dropped cs c is-it h = by (find_named i
     by (Some t) e (inl wrote) is = dropped (cs ++ (c ∷ [])) (stands_written m n t.writes fs cs c tidy l wrote is h)
     by (Some t) e (inr same) is =
         let none = alone id m.active t same.0 e in (
-          all_more (λ (d : Commit). d.seq ≤ n) cs c (raise-all m.last n (omega arith) cs h.0) (let q : c.seq ≡ n = is.0 in omega arith),
+          AllByRecursion-push (λ (d : Commit). d.seq ≤ n) cs c (raise-all m.last n (omega arith) cs h.0) (let q : c.seq ≡ n = is.0 in omega arith),
           subst (λ (ps : Actives). IfSome (least_start ps) (λ s. KeepsAbove s gs (cs ++ (c ∷ [])))) (sym none) tt,
         )
 
@@ -152,6 +153,6 @@ pub stands_batch : (m : Manager) (ks : List (List ℕ)) (n : ℕ) (fs : Entries)
     (cs : List Commit) (c : Commit) → IsCommitOf n ks c → StandsFor m cs → StandsFor (record m { last = n; kept = fs }) (cs ++ (c ∷ []))
 stands_batch m ks n fs tidy l (inl wrote) cs c is-it h = stands_written m n ks fs cs c tidy l wrote is-it h
 stands_batch m ks n fs tidy l (inr same) cs c is-it h = (
-  all_more (λ (d : Commit). d.seq ≤ n) cs c (raise-all m.last n (omega arith) cs h.0) (let q : c.seq ≡ n = is-it.0 in omega arith),
+  AllByRecursion-push (λ (d : Commit). d.seq ≤ n) cs c (raise-all m.last n (omega arith) cs h.0) (let q : c.seq ≡ n = is-it.0 in omega arith),
   subst (λ (ps : Actives). IfSome (least_start ps) (λ s. KeepsAbove s fs (cs ++ (c ∷ [])))) (sym same.0) tt,
 )

@@ -15,6 +15,7 @@ use Rattle.slate_txn.specs.Named.{find_named, without, update_named}
 use Rattle.slate_txn.specs.State.{Commit}
 use Rattle.slate_txn.specs.Tracking.{Reading, tracks, is_read}
 use Rattle.slate_txn.proofs.Standing.{Actives}
+use Rattle.std.proofs.Math.Bool.{or-false, or_assoc}
 
 -- ---- the part of a scan
 
@@ -25,10 +26,6 @@ le_not_lt a b = by (key_cmp a b) ∙ sym (ap (λ o. not (is_lt o)) (turned-key b
     by Less = refl
     by Equal = refl
     by Greater = refl
-
-pub and-true : (a : Bool) → (a && true) ≡ a
-and-true true = refl
-and-true false = refl
 
 pub common_keys : (r near : BytesRange) (f : List ℕ → Bool) → ((k : List ℕ) → in_range near k ≡ f k) → (o : Option BytesRange) → o ≡ common_range r near → AreKeysOf (λ k. in_range r k && f k) o
 common_keys r near f h None e = λ k. ap (λ b. in_range r k && b) (sym (h k)) ∙ no-common-key r near k (sym e)
@@ -87,14 +84,6 @@ same_trans (Some t) None c h k = absurd h
 same_trans (Some t) (Some u) None h k = absurd k
 same_trans (Some t) (Some u) (Some v) h k = (k.0 ∙ h.0, k.1 ∙ h.1, k.2 ∙ h.2)
 
-or-false : (a : Bool) → (a || false) ≡ a
-or-false true = refl
-or-false false = refl
-
-or-assoc : (a b c : Bool) → ((a || b) || c) ≡ (a || (b || c))
-or-assoc true b c = refl
-or-assoc false b c = refl
-
 -- what is left to be taken in passes the second test
 abbrev pub TakesRest : (List ℕ → Bool) → (List ℕ → Bool) → Option Active → Option Active → Type 0
 TakesRest f g None o = o ≡ None
@@ -111,7 +100,7 @@ rest_turn f g h one is None (Some u) c r t = let clash : Some u ≡ None = r in 
 rest_turn f g h one is (Some s) None c r t = absurd r
 rest_turn f g h one is (Some s) (Some u) None r t = absurd t
 rest_turn f g h one is (Some s) (Some u) (Some v) r t = λ k.
-    ap (λ b. b || h k) (t k) ∙ or-assoc (list_any (λ x. in_range x k) u.ranges) (one k) (h k) ∙ ap (λ b. list_any (λ x. in_range x k) u.ranges || b) (sym (is k)) ∙ r k
+    ap (λ b. b || h k) (t k) ∙ or_assoc (list_any (λ x. in_range x k) u.ranges) (one k) (h k) ∙ ap (λ b. list_any (λ x. in_range x k) u.ranges || b) (sym (is k)) ∙ r k
 
 pub rest_end : (f g : List ℕ → Bool) → ((k : List ℕ) → g k ≡ false) → (a b : Option Active) → TakesRest f g a b → TakesIn f a b
 rest_end f g none None b r = r
@@ -177,7 +166,7 @@ conflict_handed cs n ws ms rs (Some t) h =
     each : (k : List ℕ) → (among k t.writes || is_read (reading_of t) k) ≡ (among k (ws ++ ms) || is_read rs k)
     each k =
         (let w = h.1 in let r = h.2 k in λ i. among k (w i) || r i)
-        ∙ sym (or-assoc (among k ws) (among k ms) (is_read rs k))
+        ∙ sym (or_assoc (among k ws) (among k ms) (is_read rs k))
         ∙ ap (λ b. b || is_read rs k) (sym (list_any-append (λ j. bytes_eq j k) ws ms))
 
 pub grown_refl : (id : List ℕ) (a : Manager) → Grown id a a

@@ -6,15 +6,14 @@ use Rattle.std.specs.Map.{keys_of}
 use Rattle.std.specs.declared.cmp.Ordering.TheVariants.{Less}
 use Rattle.std.proofs.lemmas.Slice.Eq.{bytes_eq-Decides}
 use Rattle.slate_types.specs.Keys.{key_cmp}
-use Rattle.std.specs.Ordering.{is_eq, ordering_reverse}
 use Rattle.std.proofs.lemmas.Cmp.{nat_list_eq_equiv}
-use Rattle.std.proofs.lemmas.Map.Text.{is_eq-slice_cmp}
-use Rattle.slate_types.proofs.KeyOrder.{turned-key}
+use Rattle.slate_types.proofs.KeyOrder.{bytes_eq-above}
 use Rattle.slate_txn.specs.State.{Commit}
 use Rattle.slate_txn.specs.Conflict.{with_greatest, greatest}
 use Rattle.slate_txn.specs.Named.{find_named}
 use Rattle.slate_txn.specs.Managers.{above, KeepsAbove, newest_kept, later}
 use Rattle.slate_txn.proofs.Newest.{Write, newest, is, same_newest}
+use Rattle.std.proofs.Math.Bool.{or-false, and-false}
 
 abbrev pub Entries : Type 0
 Entries = List (List ℕ × ℕ)
@@ -24,14 +23,6 @@ writes_of es = map (λ e. (e.1, e.0 ∷ [])) es
 
 abbrev pub commit_writes : List Commit → List Write
 commit_writes cs = map (λ c. (c.seq, c.tracked)) cs
-
-or-false : (a : Bool) → (a || false) ≡ a
-or-false true = refl
-or-false false = refl
-
-and-false : (a : Bool) → (a && false) ≡ false
-and-false true = refl
-and-false false = refl
 
 pub kept_writes : (p : List ℕ → Bool) (b : ℕ) (es : Entries) → newest_kept p b es ≡ newest p b (writes_of es)
 kept_writes p b [] = refl
@@ -48,13 +39,10 @@ commits_writes p b (c ∷ cs) = by (ltb b c.seq && list_any p c.tracked) (commit
 
 -- ---- one key
 
-other-key : (a b : List ℕ) → key_cmp a b ≡ Less → bytes_eq b a ≡ false
-other-key a b e = sym (is_eq-slice_cmp b a) ∙ ap is_eq (turned-key b a ∙ ap ordering_reverse e)
-
 none-of-key : (k : List ℕ) (b : ℕ) (es : Entries) → AllByRecursion (λ x. key_cmp k x ≡ Less) (keys_of es) → newest_kept (is k) b es ≡ None
 none-of-key k b [] h = refl
 none-of-key k b (e ∷ es) h =
-    (let t = other-key k e.0 h.0 in λ i. cond (ltb b e.1 && t i) (with_greatest e.1 (newest_kept (is k) b es)) (newest_kept (is k) b es))
+    (let t = bytes_eq-above k e.0 h.0 in λ i. cond (ltb b e.1 && t i) (with_greatest e.1 (newest_kept (is k) b es)) (newest_kept (is k) b es))
     ∙ ap (λ t. cond t (with_greatest e.1 (newest_kept (is k) b es)) (newest_kept (is k) b es)) (and-false (ltb b e.1))
     ∙ none-of-key k b es h.1
 

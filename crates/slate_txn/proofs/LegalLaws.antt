@@ -27,16 +27,10 @@ use Rattle.slate_txn.proofs.MadeLaws.{keys-of-kept}
 use Rattle.slate_txn.proofs.StepLaws.{Keeps, step-keeps}
 use Rattle.slate_txn.proofs.NameLaws.{names}
 use Rattle.slate_txn.proofs.EventLaws.{begun_at, opened_at, rolled_back, agrees-step}
+use Rattle.std.proofs.lemmas.List.Folds.{list_any-append}
+use Rattle.std.proofs.Math.Nat.{le_refl}
 
 -- ---- fewer keys meet fewer commits
-
-any-append : {A : Type 0} (test : A → Bool) (xs ys : List A) → list_any test (xs ++ ys) ≡ (list_any test xs || list_any test ys)
-any-append test [] ys = refl
-any-append test (x ∷ xs) ys = by (test x) (any-append test xs ys)
-  where
-    by : (b : Bool) → list_any test (xs ++ ys) ≡ (list_any test xs || list_any test ys) → (b || list_any test (xs ++ ys)) ≡ ((b || list_any test xs) || list_any test ys)
-    by true later = refl
-    by false later = later
 
 -- where the longer test fails so does the shorter
 fewer-test : (a b c : Bool) → ((a || b) || c) ≡ false → (a || c) ≡ false
@@ -57,7 +51,7 @@ fewer-any keys more read [] h = refl
 fewer-any keys more read (k ∷ ks) h =
     let here : (among k (keys ++ more) || is_read read k) ≡ false = or-left (among k (keys ++ more) || is_read read k) (list_any (λ k. among k (keys ++ more) || is_read read k) ks) h in
     let there : list_any (λ k. among k (keys ++ more) || is_read read k) ks ≡ false = or-right (among k (keys ++ more) || is_read read k) (list_any (λ k. among k (keys ++ more) || is_read read k) ks) h in
-    let fewer : (among k keys || is_read read k) ≡ false = fewer-test (among k keys) (among k more) (is_read read k) (ap (λ b. b || is_read read k) (sym (any-append (λ x. bytes_eq x k) keys more)) ∙ here) in
+    let fewer : (among k keys || is_read read k) ≡ false = fewer-test (among k keys) (among k more) (is_read read k) (ap (λ b. b || is_read read k) (sym (list_any-append (λ x. bytes_eq x k) keys more)) ∙ here) in
     ap (λ b. b || list_any (λ k. among k keys || is_read read k) ks) fewer ∙ fewer-any keys more read ks there
 
 some-greatest : (n : ℕ) (ns : List ℕ) → greatest (n ∷ ns) ≡ None → ⊥
@@ -117,9 +111,6 @@ IsBelow r s = s.flushed ≤ last r s
 zero-below : (n : ℕ) → 0 ≤ n
 zero-below n = omega arith
 
-le-self : (n : ℕ) → n ≤ n
-le-self n = omega arith
-
 is-none : {X : Type 0} (o : Option X) → o ≡ None → IsNone o
 is-none o e = ap is_some e
 
@@ -129,7 +120,7 @@ le-more a b c h e = omega (arith, h, e)
 below : (r : Rules) → Keeps r (IsBelow r)
 below r = record {
   moment = λ s m h. h;
-  flush = λ s h. le-self (last r s);
+  flush = λ s h. le_refl (last r s);
   begin = λ s name level e h. h;
   snapshot = λ s name e h. h;
   changed = λ s name f g h. h;
@@ -210,7 +201,7 @@ module _ (r : Rules) (tables : List (Ulid × List ℕ)) (s : State) (once : Name
   legal-step (lines.Rollback name) ids = legal-rollback name (find_named name s.txns) (find_named name s.snapshots) refl refl ids
   legal-step (lines.Write batch) ids = legal-write batch (write_refusal r s batch) ids
   legal-step lines.Freeze ids = (tt, tt)
-  legal-step lines.Flush ids = (tt, ((low, le-self (last r s)), tt))
+  legal-step lines.Flush ids = (tt, ((low, le_refl (last r s)), tt))
   legal-step lines.Journal ids = tt
 
 -- ---- all lines

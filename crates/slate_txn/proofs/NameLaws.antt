@@ -11,18 +11,16 @@ use Rattle.slate_txn.specs.State.{Rules, Tx, State, begun, last, opening, is_ope
 use Rattle.slate_txn.specs.Step.{after}
 use Rattle.slate_txn.specs.Replay.{apply, apply_all, Allowed, LegalFrom, IsLegal, replay, ids_of}
 use Rattle.slate_txn.proofs.StepLaws.{Keeps, after-keeps}
+use Rattle.slate_types.proofs.KeyOrder.{bytes_eq-same}
 
 -- ---- tests of names
-
-same-bytes : (k : List ℕ) → bytes_eq k k ≡ true
-same-bytes k = (bytes_eq-Decides k k).1 refl
 
 -- the test is the same either way
 other-way : (j k : List ℕ) → bytes_eq j k ≡ false → bytes_eq k j ≡ false
 other-way j k e = by (bytes_eq k j) refl
   where
     by : (b : Bool) → bytes_eq k j ≡ b → b ≡ false
-    by true d = sym (same-bytes j) ∙ ap (bytes_eq j) (sym ((bytes_eq-Decides k j).0 d)) ∙ e
+    by true d = sym (bytes_eq-same j) ∙ ap (bytes_eq j) (sym ((bytes_eq-Decides k j).0 d)) ∙ e
     by false d = refl
 
 -- none under the name, in a list that begins with a pair
@@ -109,7 +107,7 @@ found-later p ps (q ∷ qs) e h = (by (bytes_eq p.0 q.0) refl, found-later p ps 
 
 pub finds : {X : Type 0} (ps : List (List ℕ × X)) → StandOnce ps → AllByRecursion (λ p. find_named p.0 ps ≡ Some p.1) ps
 finds [] h = tt
-finds (p ∷ ps) h = (ap (λ b. cond b (Some p.1) (find_named p.0 ps)) (same-bytes p.0), found-later p ps ps h.0 (finds ps h.1))
+finds (p ∷ ps) h = (ap (λ b. cond b (Some p.1) (find_named p.0 ps)) (bytes_eq-same p.0), found-later p ps ps h.0 (finds ps h.1))
 
 -- ---- states
 

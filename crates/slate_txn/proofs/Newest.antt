@@ -1,7 +1,7 @@
 -- The greatest sequence of some writes, each a sequence and its keys, at the keys that pass a test.
 use Rattle.std.proofs.Common.{◌≡◌, ℕ, ◌<◌, ◌≤◌, ◌⊎◌, inl, inr, Bool, true, false, cond, ◌&&◌, ◌||◌, max, ltb, List, [], ◌∷◌, ◌++◌, bytes_eq, Option, Some, None, refl, sym, ap, subst, ◌∙◌, arith}
 use Rattle.std.specs.List.{list_any, AllByRecursion}
-use Rattle.std.proofs.lemmas.Bool.{cases_lt}
+use Rattle.std.proofs.lemmas.Bool.{cases_lt, or_right, and_parts}
 use Rattle.std.proofs.lemmas.Bool.Decides.{nat_tests}
 use Rattle.std.proofs.lemmas.Slice.Eq.{bytes_eq-Decides}
 use Rattle.slate_txn.specs.Conflict.{with_greatest}
@@ -80,21 +80,13 @@ more p b w ws = by (ltb b w.0 && list_any p w.1)
     by true = rest w.0 (newest p b ws)
     by false = up_to-refl (newest p b ws)
 
-both : (a b : Bool) → (a && b) ≡ true → (a ≡ true) × (b ≡ true)
-both true b h = (refl, h)
-both false b h = cc
-
-or-right : (a b : Bool) → b ≡ true → (a || b) ≡ true
-or-right true b e = refl
-or-right false b e = e
-
 any-of : (p : List ℕ → Bool) (k : List ℕ) → p k ≡ true → (ks : List (List ℕ)) → list_any (is k) ks ≡ true → list_any p ks ≡ true
 any-of p k h [] e = cc
 any-of p k h (x ∷ xs) e = by (bytes_eq x k) refl e (any-of p k h xs)
   where
     by : (t : Bool) → bytes_eq x k ≡ t → (t || list_any (is k) xs) ≡ true → (list_any (is k) xs ≡ true → list_any p xs ≡ true) → (p x || list_any p xs) ≡ true
     by true d g later = ap (λ b. b || list_any p xs) (ap p ((bytes_eq-Decides x k).0 d) ∙ h)
-    by false d g later = or-right (p x) (list_any p xs) (later g)
+    by false d g later = or_right (p x) (list_any p xs) (later g)
 
 record Hit (p : List ℕ → Bool) (ks : List (List ℕ)) : Type 0 where
   key : List ℕ
@@ -107,7 +99,7 @@ some-key p (x ∷ xs) e = by (p x) refl e (some-key p xs)
   where
     by : (t : Bool) → p x ≡ t → (t || list_any p xs) ≡ true → (list_any p xs ≡ true → Hit p xs) → Hit p (x ∷ xs)
     by true d g others = record { key = x; passes = d; stands = ap (λ b. b || list_any (is x) xs) ((bytes_eq-Decides x x).1 refl) }
-    by false d g others = let h = others g in record { key = h.key; passes = h.passes; stands = or-right (bytes_eq x h.key) (list_any (is h.key) xs) h.stands }
+    by false d g others = let h = others g in record { key = h.key; passes = h.passes; stands = or_right (bytes_eq x h.key) (list_any (is h.key) xs) h.stands }
 
 -- what is reached at one key that passes is reached
 reach : (p : List ℕ → Bool) (k : List ℕ) → p k ≡ true → (s b n : ℕ) → b < n → (ws : List Write) → UpTo (Some n) (newest (is k) s ws) → UpTo (Some n) (newest p b ws)
@@ -125,7 +117,7 @@ reach p k t s b n l (w ∷ ws) h = by (ltb s w.0 && list_any (is k) w.1) refl h 
 
     by : (c : Bool) → (ltb s w.0 && list_any (is k) w.1) ≡ c → UpTo (Some n) (cond c (with_greatest w.0 (newest (is k) s ws)) (newest (is k) s ws)) →
         (UpTo (Some n) (newest (is k) s ws) → UpTo (Some n) (newest p b (w ∷ ws))) → UpTo (Some n) (newest p b (w ∷ ws))
-    by true d g on = cases (both (ltb s w.0) (list_any (is k) w.1) d).1 on (either n w.0 (newest (is k) s ws) g)
+    by true d g on = cases (and_parts (ltb s w.0) (list_any (is k) w.1) d).1 on (either n w.0 (newest (is k) s ws) g)
     by false d g on = on g
 
 -- writes that have at each key no more than others have at any test no more
@@ -152,7 +144,7 @@ within p s b l (w ∷ ws) vs h = by (ltb b w.0 && list_any p w.1) refl (within p
         nat n l r g m = omega arith
 
     by : (c : Bool) → (ltb b w.0 && list_any p w.1) ≡ c → UpTo (newest p b ws) (newest p b vs) → UpTo (cond c (with_greatest w.0 (newest p b ws)) (newest p b ws)) (newest p b vs)
-    by true d others = let t = both (ltb b w.0) (list_any p w.1) d in all w.0 (newest p b ws) (newest p b vs) (one (some-key p w.1 t.1) t.0) others
+    by true d others = let t = and_parts (ltb b w.0) (list_any p w.1) d in all w.0 (newest p b ws) (newest p b vs) (one (some-key p w.1 t.1) t.0) others
     by false d others = others
 
 -- Writes that have the same at each key above s have the same at any test above b, which is no lower.

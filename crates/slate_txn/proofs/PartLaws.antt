@@ -15,8 +15,9 @@ use Rattle.slate_types.specs.declared.iter.IterationOrder.TheVariants.{Ascending
 use Rattle.slate_types.specs.Keys.{key_cmp, key_lt, in_range, among}
 use Rattle.slate_types.proofs.KeyOrder.{lt-trans, not-lt-trans, lt-irreflexive}
 use Rattle.slate_types.proofs.KeySetLaws.{same-set}
-use Rattle.slate_txn.specs.Reads.{in_order, comes_before, drop_before}
+use Rattle.slate_types.specs.Iteration.{comes_before, drop_before, in_order}
 use Rattle.slate_txn.specs.Alone.{Left, first_left, advanced, sought}
+use Rattle.slate_types.proofs.Lists.{AllByRecursion-append, AllByRecursion-weaken, AllByRecursion-reverse, AllByRecursion-filter, filter-all}
 
 -- ---- the order
 
@@ -41,22 +42,6 @@ not-before-itself o a = by (comes_before o a a) refl
 
 -- ---- lists
 
-pub all-append : {X : Type 0} (P : X → Type 0) (xs ys : List X) → AllByRecursion P xs → AllByRecursion P ys → AllByRecursion P (xs ++ ys)
-all-append P [] ys h k = k
-all-append P (x ∷ xs) ys h k = (h.0, all-append P xs ys h.1 k)
-
-pub all-reverse : {X : Type 0} (P : X → Type 0) (xs : List X) → AllByRecursion P xs → AllByRecursion P (reverse xs)
-all-reverse P [] h = tt
-all-reverse P (x ∷ xs) h = subst (AllByRecursion P) (sym (reverse-append (x ∷ []) xs)) (all-append P (reverse xs) (x ∷ []) (all-reverse P xs h.1) (h.0, tt))
-
-pub all-filter : {X : Type 0} (P : X → Type 0) (t : X → Bool) (xs : List X) → AllByRecursion P xs → AllByRecursion P (filter t xs)
-all-filter P t [] h = tt
-all-filter P t (x ∷ xs) h = by (t x) (all-filter P t xs h.1)
-  where
-    by : (b : Bool) → AllByRecursion P (filter t xs) → AllByRecursion P (cond b (x ∷ filter t xs) (filter t xs))
-    by true later = (h.0, later)
-    by false later = later
-
 pub filter-passes : {X : Type 0} (t : X → Bool) (xs : List X) → AllByRecursion (λ x. t x ≡ true) (filter t xs)
 filter-passes t [] = tt
 filter-passes t (x ∷ xs) = by (t x) refl (filter-passes t xs)
@@ -64,14 +49,6 @@ filter-passes t (x ∷ xs) = by (t x) refl (filter-passes t xs)
     by : (b : Bool) → t x ≡ b → AllByRecursion (λ x. t x ≡ true) (filter t xs) → AllByRecursion (λ x. t x ≡ true) (cond b (x ∷ filter t xs) (filter t xs))
     by true e later = (e, later)
     by false e later = later
-
-pub all-map : {X : Type 0} (P Q : X → Type 0) → ((x : X) → P x → Q x) → (xs : List X) → AllByRecursion P xs → AllByRecursion Q xs
-all-map P Q f [] h = tt
-all-map P Q f (x ∷ xs) h = (f x h.0, all-map P Q f xs h.1)
-
-keeps-all : {X : Type 0} (t : X → Bool) (xs : List X) → AllByRecursion (λ x. t x ≡ true) xs → filter t xs ≡ xs
-keeps-all t [] h = refl
-keeps-all t (x ∷ xs) h = ap (λ b. cond b (x ∷ filter t xs) (filter t xs)) h.0 ∙ ap (λ ys. x ∷ ys) (keeps-all t xs h.1)
 
 filter-swap : {X : Type 0} (p q : X → Bool) (xs : List X) → filter p (filter q xs) ≡ filter q (filter p xs)
 filter-swap p q [] = refl
@@ -111,7 +88,7 @@ filter-order Descending u xs = filter-reverse u xs
 
 all-order : {X : Type 0} (P : X → Type 0) (o : IterationOrder) (xs : List X) → AllByRecursion P xs → AllByRecursion P (in_order o xs)
 all-order P Ascending xs h = h
-all-order P Descending xs h = all-reverse P xs h
+all-order P Descending xs h = AllByRecursion-reverse P xs h
 
 -- ---- rising keys and rows
 
@@ -125,17 +102,17 @@ Rises o (x ∷ xs) = AllByRecursion (λ y. comes_before o x.key y.key ≡ true) 
 
 rise-last : (o : IterationOrder) (ks : List (List ℕ)) (k : List ℕ) → KeysRise o ks → AllByRecursion (λ j. comes_before o j k ≡ true) ks → KeysRise o (ks ++ (k ∷ []))
 rise-last o [] k h a = (tt, tt)
-rise-last o (j ∷ js) k h a = (all-append (λ i. comes_before o j i ≡ true) js (k ∷ []) h.0 (a.0, tt), rise-last o js k h.1 a.1)
+rise-last o (j ∷ js) k h a = (AllByRecursion-append (λ i. comes_before o j i ≡ true) js (k ∷ []) h.0 (a.0, tt), rise-last o js k h.1 a.1)
 
 rise-up : (ks : List (List ℕ)) → IsStrictlySortedBy key_cmp ks → KeysRise Ascending ks
 unfolding IsStrictlySortedBy
 rise-up [] h = tt
-rise-up (k ∷ ks) h = (all-map (λ j. key_cmp k j ≡ Less) (λ j. key_lt k j ≡ true) (λ j e. ap is_lt e) ks h.0, rise-up ks h.1)
+rise-up (k ∷ ks) h = (AllByRecursion-weaken (λ j. key_cmp k j ≡ Less) (λ j. key_lt k j ≡ true) (λ j e. ap is_lt e) ks h.0, rise-up ks h.1)
 
 rise-down : (ks : List (List ℕ)) → KeysRise Ascending ks → KeysRise Descending (reverse ks)
 rise-down [] h = tt
 rise-down (k ∷ ks) h =
-    subst (KeysRise Descending) (sym (reverse-append (k ∷ []) ks)) (rise-last Descending (reverse ks) k (rise-down ks h.1) (all-reverse (λ j. key_lt k j ≡ true) ks h.0))
+    subst (KeysRise Descending) (sym (reverse-append (k ∷ []) ks)) (rise-last Descending (reverse ks) k (rise-down ks h.1) (AllByRecursion-reverse (λ j. key_lt k j ≡ true) ks h.0))
 
 rise-order : (o : IterationOrder) (ks : List (List ℕ)) → IsStrictlySortedBy key_cmp ks → KeysRise o (in_order o ks)
 rise-order Ascending ks h = rise-up ks h
@@ -167,7 +144,7 @@ rises-filter o t [] h = tt
 rises-filter o t (x ∷ xs) h = by (t x) (rises-filter o t xs h.1)
   where
     by : (b : Bool) → Rises o (filter t xs) → Rises o (cond b (x ∷ filter t xs) (filter t xs))
-    by true later = (all-filter (λ y. comes_before o x.key y.key ≡ true) t xs h.0, later)
+    by true later = (AllByRecursion-filter (λ y. comes_before o x.key y.key ≡ true) t xs h.0, later)
     by false later = later
 
 -- ---- a seek
@@ -188,7 +165,7 @@ drop-filters o k (x ∷ xs) h = by (comes_before o x.key k) refl (drop-filters o
 
     by : (t : Bool) → comes_before o x.key k ≡ t → drop_before o k xs ≡ filter (is_left o k) xs → cond t (drop_before o k xs) (x ∷ xs) ≡ cond (not t) (x ∷ filter (is_left o k) xs) (filter (is_left o k) xs)
     by true e later = later
-    by false e later = ap (λ ys. x ∷ ys) (sym (keeps-all (is_left o k) xs (all-map (λ y. comes_before o x.key y.key ≡ true) (λ y. is_left o k y ≡ true) (behind e) xs h.0)))
+    by false e later = ap (λ ys. x ∷ ys) (sym (filter-all (is_left o k) xs (AllByRecursion-weaken (λ y. comes_before o x.key y.key ≡ true) (λ y. is_left o k y ≡ true) (behind e) xs h.0)))
 
 -- ---- two lists that are alike at quiet keys
 
@@ -217,8 +194,8 @@ agree-sought u o range k l m h = record {
   other_order = h.other_order;
   rises = subst (Rises o) (sym p) (rises-filter o (is_left o k) l.1 h.rises);
   other_rises = subst (Rises o) (sym q) (rises-filter o (is_left o k) m.1 h.other_rises);
-  within = subst (AreIn range) (sym p) (all-filter (λ x. in_range range x.key ≡ true) (is_left o k) l.1 h.within);
-  other_within = subst (AreIn range) (sym q) (all-filter (λ x. in_range range x.key ≡ true) (is_left o k) m.1 h.other_within);
+  within = subst (AreIn range) (sym p) (AllByRecursion-filter (λ x. in_range range x.key ≡ true) (is_left o k) l.1 h.within);
+  other_within = subst (AreIn range) (sym q) (AllByRecursion-filter (λ x. in_range range x.key ≡ true) (is_left o k) m.1 h.other_within);
   alike = ap (quiet u) p ∙ filter-swap (λ x. u x.key) (is_left o k) l.1 ∙ ap (filter (is_left o k)) h.alike ∙ sym (filter-swap (λ x. u x.key) (is_left o k) m.1) ∙ sym (ap (quiet u) q);
 }
   where
@@ -250,9 +227,9 @@ next-row u o range x xs (y ∷ ys) here rises within clear same = by (comes_befo
     by : (t : Bool) → comes_before o x.key y.key ≡ t → AreNext u (x ∷ xs) (y ∷ ys)
     by true e =
         let after : AllByRecursion (λ z. comes_before o x.key z.key ≡ true) (y ∷ ys) =
-        (e, all-map (λ z. comes_before o y.key z.key ≡ true) (λ z. comes_before o x.key z.key ≡ true) (λ z f. before-trans o x.key y.key z.key e f) ys rises.0) in
+        (e, AllByRecursion-weaken (λ z. comes_before o y.key z.key ≡ true) (λ z. comes_before o x.key z.key ≡ true) (λ z f. before-trans o x.key y.key z.key e f) ys rises.0) in
         let all : AllByRecursion (λ z. comes_before o x.key z.key ≡ true) (x ∷ quiet u xs) =
-        subst (AllByRecursion (λ z. comes_before o x.key z.key ≡ true)) (sym one) (all-filter (λ z. comes_before o x.key z.key ≡ true) (λ z. u z.key) (y ∷ ys) after) in
+        subst (AllByRecursion (λ z. comes_before o x.key z.key ≡ true)) (sym one) (AllByRecursion-filter (λ z. comes_before o x.key z.key ≡ true) (λ z. u z.key) (y ∷ ys) after) in
         before-itself o x.key all.0
     by false e =
         let both : x ∷ quiet u xs ≡ y ∷ quiet u ys = one ∙ ap (λ b. cond b (y ∷ quiet u ys) (quiet u ys)) (clear y.key within.0 e) in

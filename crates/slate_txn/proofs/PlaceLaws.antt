@@ -36,6 +36,8 @@ use Rattle.slate_txn.specs.Laws.{Counts, StandsAtItsPlace, EachStandsAtItsPlace}
 use Rattle.slate_txn.proofs.SequenceLaws.{apply-counts}
 use Rattle.slate_txn.proofs.PartLaws.{Agree, IsOfKeys, agree-opened}
 use Rattle.slate_txn.proofs.TrackedLaws.{IsQuiet, alone-there}
+use Rattle.std.proofs.Math.Nat.{le_refl}
+use Rattle.std.proofs.lemmas.Bool.{or_right}
 
 -- ---- what a reader finds under a key has the key
 
@@ -197,10 +199,6 @@ among-fails t k (j ∷ js) h e = by (bytes_eq j k) refl (among-fails t k js both
     by true is later = let clash : true ≡ false = sym e ∙ ap t (sym ((bytes_eq-Decides j k).0 is)) ∙ both.0 in cc
     by false is later = later
 
-or-last : (a b : Bool) → b ≡ true → (a || b) ≡ true
-or-last true b e = refl
-or-last false b e = e
-
 read-still : (b : ℕ) (keys : List (List ℕ)) (rs : Reading) (cs : List Commit) → IsNone (conflict_of cs b keys rs) → TracksReads cs b rs → IsQuiet (still b cs) rs
 read-still b keys rs [] none tracks k e = refl
 read-still b keys rs (c ∷ cs) none tracks k e = by (ltb b c.seq) (meets keys rs c) refl refl none (λ free. read-still b keys rs cs free tracks.1 k e)
@@ -211,7 +209,7 @@ read-still b keys rs (c ∷ cs) none tracks k e = by (ltb b c.seq) (meets keys r
     wrote : (a : Bool) → among k (batch_keys c.ops) ≡ a → ltb b c.seq ≡ true → meets keys rs c ≡ false → a ≡ false
     wrote true w later m =
         let tracked : among k c.tracked ≡ true = tracks.0 (lt-test b c.seq later) k w e in
-        let fails : among k c.tracked ≡ false = among-fails (λ j. among j keys || is_read rs j) k c.tracked m (or-last (among k keys) (is_read rs k) e) in
+        let fails : among k c.tracked ≡ false = among-fails (λ j. among j keys || is_read rs j) k c.tracked m (or_right (among k keys) (is_read rs k) e) in
         let clash : true ≡ false = sym tracked ∙ fails in cc
     wrote false w later m = refl
 
@@ -227,14 +225,11 @@ read-still b keys rs (c ∷ cs) none tracks k e = by (ltb b c.seq) (meets keys r
 
 -- ---- journals
 
-le-self : (n : ℕ) → n ≤ n
-le-self n = omega arith
-
 le-next : (a b c : ℕ) → a ≡ b + 1 → a ≤ c → b ≤ c
 le-next a b c e h = omega (arith, e, h)
 
 counts-last : (n : ℕ) (cs : List Commit) → Counts n cs → (n ≤ last_of n cs) × AreUpTo (last_of n cs) cs
-counts-last n [] h = (le-self n, tt)
+counts-last n [] h = (le_refl n, tt)
 counts-last n (c ∷ cs) h = let later = counts-last c.seq cs h.1 in (le-next c.seq n (last_of c.seq cs) h.0 later.0, (later.0, later.1))
 
 abbrev Counted : Rules → State → Type 0

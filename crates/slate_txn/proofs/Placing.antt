@@ -1,6 +1,6 @@
 -- Keys that are taken in, and what is found of each.
 use Rattle.std.proofs.Common.{◌≡◌, ℕ, ◌+◌, ◌-◌, ◌<◌, ◌≤◌, Bool, true, false, cond, ◌||◌, ltb, is_some, List, [], ◌∷◌, length, drop, get_or, bytes_eq, Option, Some, None, unwrap_or, refl, sym, ap, ◌∙◌, arith, Less, Equal, Greater, Ordering, add-one, drop-cons}
-use Rattle.std.specs.Ordering.{is_eq, match_ordering}
+use Rattle.std.specs.Ordering.{match_ordering}
 use Rattle.std.specs.Map.{lookup, set_value, keys_of}
 use Rattle.std.specs.BTreeMap.{insert_entry, is_at}
 use Rattle.std.specs.List.{AllByRecursion}
@@ -10,7 +10,7 @@ use Rattle.std.proofs.lemmas.List.{drop_all}
 use Rattle.std.proofs.lemmas.Map.Text.{is_eq-slice_cmp}
 use Rattle.std.proofs.lemmas.Slice.Eq.{bytes_eq-Decides}
 use Rattle.slate_types.specs.Keys.{key_cmp, among}
-use Rattle.slate_types.proofs.KeyOrder.{same-key}
+use Rattle.slate_types.proofs.KeyOrder.{same-key, bytes_eq-below}
 use Rattle.slate_txn.specs.Named.{find_named}
 use Rattle.slate_txn.specs.Managers.{written}
 use Rattle.slate_txn.specs.ManagersView.{placed, over, real, IsKeptWithin, AreKept}
@@ -149,12 +149,9 @@ written_is n false (Some m) = refl
 
 -- ---- what is found of keys that rise
 
-later-key : (a b : List ℕ) → key_cmp a b ≡ Less → bytes_eq a b ≡ false
-later-key a b e = sym (is_eq-slice_cmp a b) ∙ ap is_eq e
-
 found-later : (e : List ℕ × ℕ) (es fs : Entries) → AllByRecursion (λ x. key_cmp e.0 x ≡ Less) (keys_of fs) → AllByRecursion (λ f. find_named f.0 es ≡ Some f.1) fs → AllByRecursion (λ f. find_named f.0 (e ∷ es) ≡ Some f.1) fs
 found-later e es [] h g = tt
-found-later e es (f ∷ fs) h g = (ap (λ t. cond t (Some e.1) (find_named f.0 es)) (later-key e.0 f.0 h.0) ∙ g.0, found-later e es fs h.1 g.1)
+found-later e es (f ∷ fs) h g = (ap (λ t. cond t (Some e.1) (find_named f.0 es)) (bytes_eq-below e.0 f.0 h.0) ∙ g.0, found-later e es fs h.1 g.1)
 
 pub finds_each : (es : Entries) → IsStrictlySortedBy key_cmp (keys_of es) → AllByRecursion (λ e. find_named e.0 es ≡ Some e.1) es
 unfolding IsStrictlySortedBy

@@ -14,7 +14,8 @@ use Rattle.slate_mem.specs.RowOf.{own_row}
 use Rattle.slate_txn.specs.declared.event.TranscriptStep.{TranscriptStep}
 use Rattle.slate_txn.specs.declared.event.TranscriptStep.TheVariants.{Get, Scan, Next, Seek, View, Own}
 use Rattle.slate_txn.specs.State.{Rules, Commit, combine_at}
-use Rattle.slate_txn.specs.Reads.{up_to, key_rows, seen, rows_seen, in_order}
+use Rattle.slate_types.specs.Iteration.{in_order}
+use Rattle.slate_txn.specs.Reads.{up_to, key_rows, seen, rows_seen}
 use Rattle.slate_txn.specs.Alone.{Left, AloneFrom, own_of, scans_after, advanced, sought}
 use Rattle.slate_txn.specs.Tracking.{update_at}
 

@@ -19,6 +19,7 @@ use Rattle.slate_txn.proofs.Keeps.{Entries, writes_of, kept_writes, commit_write
 use Rattle.slate_txn.specs.Ids.{id_of}
 use Rattle.slate_txn.proofs.IdLaws.{all_past, wider}
 use Rattle.slate_txn.proofs.NamedLaws.{all_without, put_last}
+use Rattle.slate_types.proofs.Lists.{AllByRecursion-push, AllByRecursion-weaken}
 
 abbrev pub Actives : Type 0
 Actives = List (List ℕ × Active)
@@ -238,17 +239,9 @@ rise_without id (p ∷ ps) h = by (bytes_eq p.0 id) (rise_without id ps h.1)
     by true rest = h.1
     by false rest = (all_without _ id ps h.0, rest)
 
-pub all_more : {X : Type 0} (P : X → Type 0) (xs : List X) (x : X) → AllByRecursion P xs → P x → AllByRecursion P (xs ++ (x ∷ []))
-all_more P [] x h p = (p, tt)
-all_more P (y ∷ ys) x h p = (h.0, all_more P ys x h.1 p)
-
-pub all_weaker : {X : Type 0} (P Q : X → Type 0) → ((x : X) → P x → Q x) → (xs : List X) → AllByRecursion P xs → AllByRecursion Q xs
-all_weaker P Q f [] h = tt
-all_weaker P Q f (x ∷ xs) h = (f x h.0, all_weaker P Q f xs h.1)
-
 pub rise_more : (ps : Actives) (p : List ℕ × Active) → StartsRise ps → AllByRecursion (λ q. q.1.start ≤ p.1.start) ps → StartsRise (ps ++ (p ∷ []))
 rise_more [] p h w = (tt, tt)
-rise_more (q ∷ ps) p h w = (all_more _ ps p h.0 w.0, rise_more ps p h.1 w.1)
+rise_more (q ∷ ps) p h w = (AllByRecursion-push _ ps p h.0 w.0, rise_more ps p h.1 w.1)
 
 pub tidy_dropped : (m : Manager) (id : List ℕ) (fs : Entries) → IsTidy m → AreKept m.last fs → IsTidy (record m { active = without id m.active; kept = fs })
 tidy_dropped m id fs h k = record { counted = all_without _ id m.active h.counted; rise = rise_without id m.active h.rise; started = all_without _ id m.active h.started; kept = k }
@@ -263,9 +256,9 @@ put_new m h l = put_last (id_of (m.ids + 1)) (untracked m.last) m.active (all_pa
 
 pub tidy_new : (m : Manager) → IsTidy m → IsTidy (after_new m)
 tidy_new m h = record {
-  counted = all_more _ m.active _ (all_weaker _ _ (λ p o. wider m.ids (m.ids + 1) (omega arith) p.0 o) m.active h.counted) (record { count = m.ids + 1; within = omega arith; is = refl });
+  counted = AllByRecursion-push _ m.active _ (AllByRecursion-weaken _ _ (λ p o. wider m.ids (m.ids + 1) (omega arith) p.0 o) m.active h.counted) (record { count = m.ids + 1; within = omega arith; is = refl });
   rise = rise_more m.active (id_of (m.ids + 1), untracked m.last) h.rise h.started;
-  started = all_more _ m.active _ h.started (omega arith);
+  started = AllByRecursion-push _ m.active _ h.started (omega arith);
   kept = h.kept;
 }
 

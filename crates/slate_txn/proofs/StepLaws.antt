@@ -28,7 +28,8 @@ use Rattle.slate_txn.specs.declared.event.TranscriptStep.{TranscriptStep}
 use Rattle.slate_txn.specs.declared.event.TranscriptStep.TheVariants as steps
 use Rattle.slate_txn.specs.declared.line.ScanStep.TheVariants.{Rows, Seek}
 use Rattle.slate_txn.specs.Tracking.{update_at}
-use Rattle.slate_txn.specs.Reads.{seen, rows_seen, nexts, step_walk, steps_walk, walk, drop_before}
+use Rattle.slate_types.specs.Iteration.{drop_before}
+use Rattle.slate_txn.specs.Reads.{seen, rows_seen, nexts, step_walk, steps_walk, walk}
 use Rattle.slate_txn.specs.Alone.{Left, AloneFrom, IsNextOf, own_of, advanced, sought, scans_after, scans_left}
 
 -- how a line changes an open transaction: marks alone, more of its transcript by a read, or an operation of its own

@@ -15,23 +15,18 @@ use Rattle.slate_txn.specs.declared.reading.Scanned.{Scanned}
 use Rattle.slate_txn.specs.declared.event.TranscriptStep.{TranscriptStep}
 use Rattle.slate_txn.specs.declared.event.TranscriptStep.TheVariants.{Get, Scan, Next, Seek, View, Own}
 use Rattle.slate_txn.specs.State.{Rules, Commit}
-use Rattle.slate_txn.specs.Reads.{comes_before, seen, rows_seen}
+use Rattle.slate_types.specs.Iteration.{comes_before}
+use Rattle.slate_txn.specs.Reads.{seen, rows_seen}
 use Rattle.slate_txn.specs.Tracking.{Reading, farther, after_answer, update_at, with_step, with_steps, is_within, tracks, is_read}
 use Rattle.slate_txn.specs.Alone.{Left, AloneFrom, IsNextOf, advanced, sought}
 use Rattle.slate_txn.proofs.PartLaws.{Agree, ReadsKeys, before-trans, not-before-trans, agree-next, agree-sought}
+use Rattle.std.proofs.lemmas.Bool.{or_right, or_left}
 
 -- ---- tests
 
-or-left : (a b : Bool) → a ≡ true → (a || b) ≡ true
-or-left a b h = ap (λ t. t || b) h
-
-or-right : (a b : Bool) → b ≡ true → (a || b) ≡ true
-or-right true b h = refl
-or-right false b h = h
-
 or-more : (a b c d : Bool) → (a ≡ true → c ≡ true) → (b ≡ true → d ≡ true) → (a || b) ≡ true → (c || d) ≡ true
-or-more true b c d f g h = or-left c d (f refl)
-or-more false b c d f g h = or-right c d (g h)
+or-more true b c d f g h = or_left c d (f refl)
+or-more false b c d f g h = or_right c d (g h)
 
 and-more : (a b c : Bool) → (b ≡ true → c ≡ true) → (a && b) ≡ true → (a && c) ≡ true
 and-more true b c f h = f h
@@ -45,7 +40,7 @@ stays : (a : Bool) → a ≡ true → a ≡ true
 stays a h = h
 
 any-front : {X : Type 0} (t : X → Bool) (xs ys : List X) → list_any t xs ≡ true → list_any t (xs ++ ys) ≡ true
-any-front t xs ys h = list_any-append t xs ys ∙ or-left (list_any t xs) (list_any t ys) h
+any-front t xs ys h = list_any-append t xs ys ∙ or_left (list_any t xs) (list_any t ys) h
 
 any-update : {X : Type 0} (t : X → Bool) (f : X → X) → ((x : X) → t x ≡ true → t (f x) ≡ true) → (i : ℕ) (xs : List X) → list_any t xs ≡ true → list_any t (update_at i f xs) ≡ true
 any-update t f more i [] h = h
@@ -135,7 +130,7 @@ quiet-first : (u : List ℕ → Bool) (rs : Reading) (ts : List TranscriptStep) 
 quiet-first u rs ts h k e = h k (steps-read rs ts k e)
 
 quiet-got : (u : List ℕ → Bool) (rs : Reading) (j : List ℕ) (a : Option KeyValue) → IsQuiet u (with_step rs (Get j a)) → u j ≡ true
-quiet-got u rs j a h = h j (first (among j (rs.keys ++ (j ∷ []))) _ _ (list_any-append (λ x. bytes_eq x j) rs.keys (j ∷ []) ∙ or-right (among j rs.keys) (among j (j ∷ [])) (or-left (bytes_eq j j) false ((bytes_eq-Decides j j).1 refl))))
+quiet-got u rs j a h = h j (first (among j (rs.keys ++ (j ∷ []))) _ _ (list_any-append (λ x. bytes_eq x j) rs.keys (j ∷ []) ∙ or_right (among j rs.keys) (among j (j ∷ [])) (or_left (bytes_eq j j) false ((bytes_eq-Decides j j).1 refl))))
   where
     first : (a b c : Bool) → a ≡ true → (a || b || c) ≡ true
     first true b c e = refl
@@ -166,14 +161,14 @@ agreed-next : (u : List ℕ → Bool) (i : ℕ) (a : Option KeyValue) (ss : List
     IsNextOf (slice_get ms i) a × AreAgreed u (update_at i (λ s. after_answer s a) ss) (update_at i advanced ls) (update_at i advanced ms)
 agreed-next u i a [] [] [] h clear is = absurd is
 agreed-next u zero a (s ∷ ss) (l ∷ ls) (m ∷ ms) h clear is =
-    let next = agree-next u s.order s.range a l m h.0 (answer-tracked u a s (λ k e. clear k (or-left (tracks (after_answer s a) k) (list_any (λ s. tracks s k) ss) e))) is in
+    let next = agree-next u s.order s.range a l m h.0 (answer-tracked u a s (λ k e. clear k (or_left (tracks (after_answer s a) k) (list_any (λ s. tracks s k) ss) e))) is in
     (next.0, (answered a s next.1, h.1))
   where
     answered : (b : Option KeyValue) (s : Scanned) → Agree u s.order s.range (advanced l) (advanced m) → Agree u (after_answer s b).order (after_answer s b).range (advanced l) (advanced m)
     answered None s g = g
     answered (Some kv) s g = g
 agreed-next u (suc i) a (s ∷ ss) (l ∷ ls) (m ∷ ms) h clear is =
-    let next = agreed-next u i a ss ls ms h.1 (λ k e. clear k (or-right (tracks s k) (list_any (λ s. tracks s k) (update_at i (λ s. after_answer s a) ss)) e)) is in
+    let next = agreed-next u i a ss ls ms h.1 (λ k e. clear k (or_right (tracks s k) (list_any (λ s. tracks s k) (update_at i (λ s. after_answer s a) ss)) e)) is in
     (next.0, (h.0, next.1))
 agreed-next u i a ss ls ms h clear is = absurd h
 

@@ -11,6 +11,7 @@ use Rattle.slate_txn.specs.Step.{after}
 use Rattle.slate_txn.specs.Alone.{AloneFrom, IsVouched, own_of, scans_left}
 use Rattle.slate_txn.proofs.ReadLaws.{same-commits, alone-same, alone-more}
 use Rattle.slate_txn.proofs.StepLaws.{Keeps, Grows, marks, reads, own, after-keeps, own-append}
+use Rattle.std.proofs.Math.Nat.{le_refl}
 
 -- ---- values under names
 
@@ -73,9 +74,6 @@ le-more a b c h e = omega (arith, h, e)
 lt-more : (a b : ℕ) → a ≤ b → a < b + 1
 lt-more a b h = omega (arith, h)
 
-le-self : (n : ℕ) → n ≤ n
-le-self n = omega arith
-
 fine-commit : (r : Rules) (cs : List Commit) (c : Commit) (t : Tx) → c.seq ≡ last_of r.start_seq cs + 1 → IsFine r cs t → IsFine r (cs ++ (c ∷ [])) t
 fine-commit r cs c t e h = record {
   begins = le-more t.begin (last_of r.start_seq cs) (last_of r.start_seq (cs ++ (c ∷ []))) h.begins (last-more r.start_seq cs c ∙ e);
@@ -93,7 +91,7 @@ pub fine : (r : Rules) → Keeps r (AreFine r)
 fine r = record {
   moment = λ s m h. h;
   flush = λ s h. h;
-  begin = λ s name level e h. all-set (IsFine r s.commits) name (begun level (last r s)) s.txns (record { begins = le-self (last r s); same = refl; vouched = tt }) h;
+  begin = λ s name level e h. all-set (IsFine r s.commits) name (begun level (last r s)) s.txns (record { begins = le_refl (last r s); same = refl; vouched = tt }) h;
   snapshot = λ s name e h. h;
   changed = λ s name f g h. all-update (IsFine r s.commits) name f s.txns (λ t e k. fine-grows r s.commits t (f t) (g t e) k) h;
   closes = λ s name h. all-without (IsFine r s.commits) name s.txns h;

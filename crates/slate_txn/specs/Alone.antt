@@ -13,7 +13,8 @@ use Rattle.slate_txn.specs.declared.event.TranscriptStep.{TranscriptStep}
 use Rattle.slate_txn.specs.declared.event.TranscriptStep.TheVariants.{Get, Scan, Next, Seek, View, Own}
 use Rattle.slate_txn.specs.Tracking.{update_at}
 use Rattle.slate_txn.specs.State.{Rules, Commit, Tx}
-use Rattle.slate_txn.specs.Reads.{seen, rows_seen, drop_before}
+use Rattle.slate_types.specs.Iteration.{drop_before}
+use Rattle.slate_txn.specs.Reads.{seen, rows_seen}
 
 -- an opened scan: its order, and the rows that are left of the list that was fixed at its opening
 abbrev pub Left : Type 0

@@ -13,7 +13,7 @@ use Rattle.slate_types.specs.declared.bytes_range.BytesRange.{BytesRange}
 use Rattle.slate_types.specs.declared.config.IsolationLevel.TheVariants.{SerializableSnapshot}
 use Rattle.slate_types.specs.declared.iter.IterationOrder.{IterationOrder}
 use Rattle.slate_types.specs.declared.types.Ulid.{Ulid}
-use Rattle.slate_types.specs.Fold.{IsShort}
+use Rattle.slate_types.specs.Fold.{IsShort, operator_at}
 use Rattle.slate_mem.specs.Batch.{Ops, kept_ops}
 use Rattle.slate_txn.specs.declared.line.Line.{Line}
 use Rattle.slate_txn.specs.declared.line.Line.TheVariants as lines
@@ -21,7 +21,7 @@ use Rattle.slate_txn.specs.declared.event.Event.{Event}
 use Rattle.slate_txn.specs.declared.event.Event.TheVariants as events
 use Rattle.slate_txn.specs.declared.event.TranscriptStep.{TranscriptStep}
 use Rattle.slate_txn.specs.Named.{find_named}
-use Rattle.slate_txn.specs.State.{Rules, Commit, Tx, State, opening, last, operator_at, NamesStandOnce}
+use Rattle.slate_txn.specs.State.{Rules, Commit, Tx, State, opening, last, NamesStandOnce}
 use Rattle.slate_txn.specs.Reads.{state_at, seen, rows_seen}
 use Rattle.slate_txn.specs.Conflict.{conflict, conflict_of}
 use Rattle.slate_txn.specs.Tracking.{Reading, reads_of}

@@ -4,13 +4,13 @@
 --     rows_seen r cs n ops order range      the rows of a range, in the order
 --     walk order i left steps      the transcript of a scan's steps, from the rows that are left
 --     handed steps      the rows that they handed out
-use Rattle.std.specs.Prelude.{ℕ, Bool, if◌then◌else◌, nat_le, nat_lt, List, [], ◌∷◌, ◌++◌, map, filter, filter_map, flat_map, reverse, take, drop, length, Option, Some, None}
+use Rattle.std.specs.Prelude.{ℕ, if◌then◌else◌, nat_le, nat_lt, List, [], ◌∷◌, ◌++◌, map, filter, filter_map, flat_map, take, drop, length, Option, Some, None}
 use Rattle.slate_types.specs.declared.types.RowEntry.{RowEntry}
 use Rattle.slate_types.specs.declared.types.KeyValue.{KeyValue}
 use Rattle.slate_types.specs.declared.bytes_range.BytesRange.{BytesRange}
 use Rattle.slate_types.specs.declared.iter.IterationOrder.{IterationOrder}
-use Rattle.slate_types.specs.declared.iter.IterationOrder.TheVariants.{Ascending, Descending}
-use Rattle.slate_types.specs.Keys.{key_lt, in_range, keys_set}
+use Rattle.slate_types.specs.Iteration.{in_order, drop_before}
+use Rattle.slate_types.specs.Keys.{in_range, keys_set}
 use Rattle.slate_types.specs.Rows.{key_value}
 use Rattle.slate_types.specs.Fold.{shown}
 use Rattle.slate_mem.specs.Batch.{Ops, kept, batch_keys}
@@ -36,22 +36,8 @@ seen r cs n ops k = shown (combine_at r k) (key_rows r k (up_to n cs) ++ map (ow
 abbrev pub keys_seen : List Commit → ℕ → Ops → List (List ℕ)
 keys_seen cs n ops = keys_set (flat_map (λ c. batch_keys c.ops) (up_to n cs) ++ batch_keys ops)
 
-abbrev pub in_order : {X : Type 0} → IterationOrder → List X → List X
-in_order Ascending xs = xs
-in_order Descending xs = reverse xs
-
 abbrev pub rows_seen : Rules → List Commit → ℕ → Ops → IterationOrder → BytesRange → List RowEntry
 rows_seen r cs n ops order range = filter_map (seen r cs n ops) (in_order order (filter (in_range range) (keys_seen cs n ops)))
-
--- the order puts a before b
-abbrev pub comes_before : IterationOrder → List ℕ → List ℕ → Bool
-comes_before Ascending a b = key_lt a b
-comes_before Descending a b = key_lt b a
-
--- the rows without the leading ones that the order puts before k
-abbrev pub drop_before : IterationOrder → List ℕ → List RowEntry → List RowEntry
-drop_before order k [] = []
-drop_before order k (r ∷ rs) = if comes_before order r.key k then drop_before order k rs else r ∷ rs
 
 abbrev pub left_after : IterationOrder → ScanStep → List RowEntry → List RowEntry
 left_after order (Rows n) left = drop n left

@@ -9,8 +9,9 @@
 -- so that it may be above the `flushed` of the journal's replay; no commit lies between the two.
 use Rattle.std.specs.Prelude.{◌≡◌, ℕ, Bool, ◌||◌, ◌⊎◌, List, [], ◌∷◌, Option, Some, None, is_some, ℤ, pos}
 use Rattle.slate_types.specs.declared.config.IsolationLevel.{IsolationLevel}
-use Rattle.slate_types.specs.Fold.{Combine}
+use Rattle.slate_types.specs.Fold.{Combine, operator_at}
 use Rattle.slate_mem.specs.Batch.{Ops}
+use Rattle.slate_mem.specs.KeyTests.{Segments}
 use Rattle.slate_txn.specs.declared.event.TranscriptStep.{TranscriptStep}
 use Rattle.slate_txn.specs.Named.{find_named, StandOnce}
 
@@ -18,8 +19,8 @@ use Rattle.slate_txn.specs.Named.{find_named, StandOnce}
 pub record Rules : Type 0 where
   pub default_millis : Option ℕ
   pub start_seq : ℕ
-  pub combine : Option (List ℕ → Option (List ℕ) → List ℕ → List ℕ)
-  pub segment : Option (List ℕ → Option ℕ)
+  pub combine : Option (List ℕ → Combine)
+  pub segment : Segments
 
 -- `ops` are the kept operations, keys rising
 pub record Commit : Type 0 where
@@ -74,11 +75,6 @@ IsApart s name = (find_named name s.txns ≡ None) ⊎ (find_named name s.snapsh
 
 abbrev pub NamesStandOnce : State → Type 0
 NamesStandOnce s = StandOnce s.txns × StandOnce s.snapshots × ((name : List ℕ) → IsApart s name)
-
--- Without an operator no operand is ever kept, and what stands here is never asked.
-abbrev pub operator_at : Option (List ℕ → Option (List ℕ) → List ℕ → List ℕ) → List ℕ → Combine
-operator_at None k = λ e v. v
-operator_at (Some f) k = f k
 
 abbrev pub combine_at : Rules → List ℕ → Combine
 combine_at r k = operator_at r.combine k

@@ -14,7 +14,7 @@ use Rattle.slate_txn.specs.declared.reading.Part.TheVariants.{Nothing, UpTo, ToE
 use Rattle.slate_txn.specs.declared.reading.Scanned.{Scanned}
 use Rattle.slate_txn.specs.declared.event.TranscriptStep.{TranscriptStep}
 use Rattle.slate_txn.specs.declared.event.TranscriptStep.TheVariants.{Get, Scan, Next, Seek, View, Own}
-use Rattle.slate_txn.specs.Reads.{comes_before}
+use Rattle.slate_types.specs.Iteration.{comes_before}
 
 pub record Reading : Type 0 where
   pub keys : List (List ℕ)

@@ -2,11 +2,10 @@
 ghost use Rattle.std.specs.Prelude.{◌≡◌, ◌⊎◌, ◌≤◌, ℕ, List, None, true, reverse, IfOk, IfErr};
 ghost use Rattle.slate_types.specs.declared.error.SlateDBError.{SlateDBError};
 ghost use Rattle.slate_types.specs.Faults.{faults_of};
-ghost use Rattle.slate_types.specs.Fold.{IsLawful, KeepsShort, fold_rows};
+ghost use Rattle.slate_types.specs.Fold.{IsLawful, KeepsShort, fold_rows, operator_at};
 ghost use Rattle.slate_types.specs.Join.{AreOf};
 ghost use Rattle.slate_store.specs.Env.{combine_of};
 ghost use Rattle.slate_mem.specs.Lookup.{is_merge_among, IsCallback};
-ghost use Rattle.slate_txn.specs.State.{operator_at};
 
 use slate_mem::fold::{first, has_merge, join_all};
 use slate_types::{MergeOperator, RowEntry, SlateDBError};

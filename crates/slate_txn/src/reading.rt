@@ -1,7 +1,7 @@
 //! What an open transaction has read, as far as a conflict asks for it.
 ghost use Rattle.std.specs.Prelude.{◌≡◌, ◌&&◌, ℕ, List, not, IfOk, IsOkUnless};
 ghost use Rattle.slate_types.specs.declared.error.SlateDBError.{SlateDBError};
-ghost use Rattle.slate_txn.specs.Reads.{comes_before};
+ghost use Rattle.slate_types.specs.Iteration.{comes_before};
 ghost use Rattle.slate_types.specs.Keys.{in_range};
 ghost use Rattle.slate_txn.specs.HandedOver.{AreKeysOf};
 ghost use Rattle.slate_txn.specs.Tracking.{tracks};

@@ -1,10 +1,10 @@
 //! The open transactions, and what is kept of commits to tell which of them conflict.
-ghost use Rattle.std.specs.Prelude.{◌≡◌, ◌⊎◌, ◌+◌, ◌-◌, ◌^◌, ◌<◌, ◌≤◌, ℕ, List, ◌++◌, ◌∷◌, [], true, false, not, nat_lt, length, bytes_eq, IsSome, Some, None, Err, IfOk, IfErr, OnOk, OnErr, IsOkUnless};
+ghost use Rattle.std.specs.Prelude.{◌≡◌, ◌⊎◌, ◌+◌, ◌-◌, ◌^◌, ◌<◌, ◌≤◌, ℕ, List, ◌++◌, ◌∷◌, [], true, false, nat_lt, length, bytes_eq, Some, None, Err, IfOk, IfErr, OnOk, OnErr, IsOkUnless};
 ghost use Rattle.std.specs.BTreeMap as map;
-ghost use Rattle.std.specs.List.{list_any, AllByRecursion};
+ghost use Rattle.std.specs.List.{list_any};
 ghost use Rattle.std.specs.Map.{keys_of};
 ghost use Rattle.slate_types.specs.declared.error.SlateDBError.{SlateDBError};
-ghost use Rattle.slate_types.specs.Keys.{key_cmp, among, in_range, is_refused};
+ghost use Rattle.slate_types.specs.Keys.{key_cmp, among, in_range};
 ghost use Rattle.slate_txn.specs.State.{Commit};
 ghost use Rattle.slate_txn.specs.Named.{find_named, without, update_named};
 ghost use Rattle.slate_txn.specs.Ids.{id_of};
@@ -17,7 +17,6 @@ use std::alloc::{AllocError, Global};
 use std::collections::BTreeMap;
 use std::collections::btree_map::Range;
 use std::marker::Model;
-use std::ops::Bound;
 use uuid::Uuid;
 
 /// What is tracked of an open transaction.
@@ -48,18 +47,6 @@ impl TransactionState {
             read_keys: Vec::new(alloc),
             read_ranges: Vec::new(alloc),
         }
-    }
-}
-
-/// Whether the bounds of the range leave no key.
-fn holds_none(range: &BytesRange) -> bool
-    ensures { result ≡ is_refused range.now.start range.now.end }
-{
-    match (&range.start, &range.end) {
-        (Bound::Included(start), Bound::Included(end)) => end.cmp(start).is_lt(),
-        (Bound::Included(start) | Bound::Excluded(start), Bound::Excluded(end))
-        | (Bound::Excluded(start), Bound::Included(end)) => end.cmp(start).is_le(),
-        _ => false,
     }
 }
 
@@ -111,7 +98,7 @@ fn newest_of(entries: Range<'_, Bytes, u64>, start: u64) -> Option<u64>
 fn newest_in(kept: &BTreeMap<Bytes, u64>, start: u64, range: &BytesRange) -> Option<u64>
     ensures { result ≡ newest_kept (in_range range.now) start kept.now.entries }
 {
-    if holds_none(range) {
+    if range.leaves_none() {
         return None;
     }
     newest_of(

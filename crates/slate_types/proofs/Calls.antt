@@ -1,26 +1,15 @@
 -- Calls that follow one another, and the worlds that they meet.
 use Rattle.std.proofs.Common.{◌≡◌, ◌⊎◌, inl, inr, ℕ, List, [], ◌∷◌, ◌++◌, Option, Some, None, refl, sym, ap, subst, ◌∙◌, append-nil, append_assoc}
-use Rattle.std.specs.Prelude.{Contains, IfSome, Result, Ok, Err, OnOk, OnErr, IfOk, IfErr}
+use Rattle.std.specs.Prelude.{Contains, IfSome}
 use Rattle.std.specs.List.{AllByRecursion}
 use Rattle.std.proofs.lemmas.List.{append_cancel_left}
 use Rattle.std.proofs.lemmas.List.Elements.{Contains-append_left, Contains-append_right}
 use Rattle.std.proofs.lemmas.Option.{same_Some}
 use Rattle.slate_types.specs.declared.error.SlateDBError.{SlateDBError}
 use Rattle.slate_types.specs.Outside.{Objects, Act, object_at, part_of, no_reach, IsLater, OnlyReads, PutsNothing, Reach}
-use Rattle.slate_types.specs.World.{Kept, World, nothing, IsReadAct, AnswersObjects, AnswersAs, IsCall, Made, HoldsWorld, Honest, Answered, Sees, IsSlip, Slips, Checks}
+use Rattle.slate_types.specs.World.{Kept, World, nothing, IsReadAct, AnswersObjects, AnswersWorld, IsCall, Made, HoldsWorld, Honest, Answered, Sees, IsSlip, Slips, Checks}
 use Rattle.slate_types.specs.Refusing.{Refusals, NoMore, NoMoreBut}
-
-pub all_both : {X : Type 0} (P : X → Type 0) (xs ys : List X) → AllByRecursion P xs → AllByRecursion P ys → AllByRecursion P (xs ++ ys)
-all_both P [] ys h k = k
-all_both P (x ∷ xs) ys h k = (h.0, all_both P xs ys h.1 k)
-
-pub all_front : {X : Type 0} (P : X → Type 0) (xs ys : List X) → AllByRecursion P (xs ++ ys) → AllByRecursion P xs
-all_front P [] ys h = tt
-all_front P (x ∷ xs) ys h = (h.0, all_front P xs ys h.1)
-
-pub all_behind : {X : Type 0} (P : X → Type 0) (xs ys : List X) → AllByRecursion P (xs ++ ys) → AllByRecursion P ys
-all_behind P [] ys h = h
-all_behind P (x ∷ xs) ys h = all_behind P xs ys h.1
+use Rattle.slate_types.proofs.Lists.{AllByRecursion-append, AllByRecursion-front, AllByRecursion-behind}
 
 -- ---- calls
 
@@ -38,13 +27,13 @@ call_both a b c r s f l = record {
   objects = l.objects ∙ f.objects;
   meaning = l.meaning ∙ f.meaning;
   adds = λ known is. l.adds (known ++ r) (f.adds known is) ∙ ap (λ (x : List Act). Some x) (append_assoc known r s);
-  each = all_both IsReadAct r s f.each l.each;
-  answered = λ os is. all_both (AnswersObjects os) r s (f.answered os is) (l.answered os (f.objects ∙ is));
+  each = AllByRecursion-append IsReadAct r s f.each l.each;
+  answered = λ os is. AllByRecursion-append (AnswersObjects os) r s (f.answered os is) (l.answered os (f.objects ∙ is));
 }
 
 -- ---- worlds
 
-by_objects : (os : Objects) (w : World) (acts : List Act) → HoldsWorld os w → AllByRecursion (AnswersObjects os) acts → AllByRecursion (AnswersAs w) acts
+by_objects : (os : Objects) (w : World) (acts : List Act) → HoldsWorld os w → AllByRecursion (AnswersObjects os) acts → AllByRecursion (AnswersWorld w) acts
 by_objects os w [] holds h = tt
 by_objects os w (act ∷ acts) holds h = (one act h.0, by_objects os w acts holds h.1)
   where
@@ -52,7 +41,7 @@ by_objects os w (act ∷ acts) holds h = (one act h.0, by_objects os w acts hold
     known path start len answer is None at = tt
     known path start len answer is (Some kept) at = is ∙ ap (λ (o : Option (List ℕ)). part_of o start len) (holds path kept at)
 
-    one : (a : Act) → AnswersObjects os a → AnswersAs w a
+    one : (a : Act) → AnswersObjects os a → AnswersWorld w a
     one (Act.put path bytes) k = tt
     one (Act.read path start len answer) k = known path start len answer k (w.holds path) refl
     one (Act.len path answer) k = tt
@@ -61,36 +50,36 @@ more_same : (known more reads : List Act) (acts : Option (List Act)) → acts �
 more_same known more reads acts is too = append_cancel_left known more reads (same_Some _ _ (sym is ∙ too))
 
 -- each read of a call that met a world was answered by it
-pub seen : (w : World) (a b : Reach) (r : List Act) → Sees w a b → IsCall a b r → AllByRecursion (AnswersAs w) r
+pub seen : (w : World) (a b : Reach) (r : List Act) → Sees w a b → IsCall a b r → AllByRecursion (AnswersWorld w) r
 seen w a b r s call = by s.met
   where
-    by : Honest w a ⊎ Answered w a b → AllByRecursion (AnswersAs w) r
+    by : Honest w a ⊎ Answered w a b → AllByRecursion (AnswersWorld w) r
     by (inl h) = by_objects h.os w r h.holds (call.answered h.os h.tells)
-    by (inr h) = subst (AllByRecursion (AnswersAs w)) (more_same h.known h.reads r b.acts h.ended (call.adds h.known h.began)) h.each
+    by (inr h) = subst (AllByRecursion (AnswersWorld w)) (more_same h.known h.reads r b.acts h.ended (call.adds h.known h.began)) h.each
 
 -- and one whose reads were answered by it met it
-pub met : (w : World) (a b : Reach) (known r : List Act) → w.meaning ≡ a.meaning → a.acts ≡ Some known → IsCall a b r → AllByRecursion (AnswersAs w) r → Sees w a b
+pub met : (w : World) (a b : Reach) (known r : List Act) → w.meaning ≡ a.meaning → a.acts ≡ Some known → IsCall a b r → AllByRecursion (AnswersWorld w) r → Sees w a b
 met w a b known r same began call each = record { meaning = same; met = inr (record { known = known; reads = r; began = began; ended = call.adds known began; each = each }) }
 
 pub sees_first : (w : World) (a b c : Reach) (r s : List Act) → IsCall a b r → IsCall b c s → Sees w a c → Sees w a b
 sees_first w a b c r s f l h = record { meaning = h.meaning; met = by h.met }
   where
-    both : AllByRecursion (AnswersAs w) (r ++ s)
+    both : AllByRecursion (AnswersWorld w) (r ++ s)
     both = seen w a c (r ++ s) h (call_both a b c r s f l)
 
     by : Honest w a ⊎ Answered w a c → Honest w a ⊎ Answered w a b
     by (inl k) = inl k
-    by (inr k) = inr (record { known = k.known; reads = r; began = k.began; ended = f.adds k.known k.began; each = all_front (AnswersAs w) r s both })
+    by (inr k) = inr (record { known = k.known; reads = r; began = k.began; ended = f.adds k.known k.began; each = AllByRecursion-front (AnswersWorld w) r s both })
 
 pub sees_last : (w : World) (a b c : Reach) (r s : List Act) → IsCall a b r → IsCall b c s → Sees w a c → Sees w b c
 sees_last w a b c r s f l h = record { meaning = h.meaning ∙ sym f.meaning; met = by h.met }
   where
-    both : AllByRecursion (AnswersAs w) (r ++ s)
+    both : AllByRecursion (AnswersWorld w) (r ++ s)
     both = seen w a c (r ++ s) h (call_both a b c r s f l)
 
     by : Honest w a ⊎ Answered w a c → Honest w b ⊎ Answered w b c
     by (inl k) = inl (record { os = k.os; tells = f.objects ∙ k.tells; holds = k.holds })
-    by (inr k) = inr (record { known = k.known ++ r; reads = s; began = f.adds k.known k.began; ended = l.adds (k.known ++ r) (f.adds k.known k.began); each = all_behind (AnswersAs w) r s both })
+    by (inr k) = inr (record { known = k.known ++ r; reads = s; began = f.adds k.known k.began; ended = l.adds (k.known ++ r) (f.adds k.known k.began); each = AllByRecursion-behind (AnswersWorld w) r s both })
 
 -- sources in memory meet their world
 pub sees_nothing : Sees nothing no_reach no_reach
@@ -126,7 +115,7 @@ pub checks_both : (w : World) (a b c : Reach) (r s : List Act) → IsCall a b r 
 checks_both w a b c r s f l first then_last = λ known began parts. by known began parts (first known began parts)
   where
     last : (known : List Act) → a.acts ≡ Some known → w.meaning ≡ a.meaning → Sees w a b → Sees w b c ⊎ Slips w b c → Sees w a c ⊎ Slips w a c
-    last known began parts h (inl k) = inl (met w a c known (r ++ s) parts began (call_both a b c r s f l) (all_both (AnswersAs w) r s (seen w a b r h f) (seen w b c s k l)))
+    last known began parts h (inl k) = inl (met w a c known (r ++ s) parts began (call_both a b c r s f l) (AllByRecursion-append (AnswersWorld w) r s (seen w a b r h f) (seen w b c s k l)))
     last known began parts h (inr k) =
         let here : k.reads ≡ s = more_same k.known k.reads s c.acts k.ended (l.adds k.known k.began) in
         inr (record { known = known; reads = r ++ s; began = began; ended = (call_both a b c r s f l).adds known began; act = k.act; among = Contains-append_right r s k.act (subst (λ (x : List Act). Contains x k.act) here k.among); slip = k.slip })
@@ -148,29 +137,3 @@ no_more_but x y z refusal r s f l = λ later at e h. by later at e (l later at e
     by : (later : List Act) (at : Option (List ℕ)) (e : SlateDBError) → y (s ++ later) at e ⊎ (e ≡ refusal) → x ((r ++ s) ++ later) at e ⊎ (e ≡ refusal)
     by later at e (inl h) = inl (subst (λ (reads : List Act). x reads at e) (sym (append_assoc r s later)) (f (s ++ later) at e h))
     by later at e (inr h) = inr h
-
--- ---- results
-
-pub on_ok : {X E : Type 0} (r : Result X E) (P Q : Type 0) → (P → Q) → OnOk r P → OnOk r Q
-on_ok (Ok x) P Q f h = f h
-on_ok (Err e) P Q f h = tt
-
-pub if_ok : {X E : Type 0} (r : Result X E) (P Q : X → Type 0) → ((x : X) → P x → Q x) → IfOk r P → IfOk r Q
-if_ok (Ok x) P Q f h = f x h
-if_ok (Err e) P Q f h = tt
-
-pub if_err : {X E : Type 0} (r : Result X E) (P Q : E → Type 0) → ((e : E) → P e → Q e) → IfErr r P → IfErr r Q
-if_err (Ok x) P Q f h = tt
-if_err (Err e) P Q f h = f e h
-
-pub if_ok_both : {X E : Type 0} (r : Result X E) (P Q R : X → Type 0) → ((x : X) → P x → Q x → R x) → IfOk r P → IfOk r Q → IfOk r R
-if_ok_both (Ok x) P Q R f h k = f x h k
-if_ok_both (Err e) P Q R f h k = tt
-
-pub if_err_both : {X E : Type 0} (r : Result X E) (P Q R : E → Type 0) → ((x : E) → P x → Q x → R x) → IfErr r P → IfErr r Q → IfErr r R
-if_err_both (Ok x) P Q R f h k = tt
-if_err_both (Err e) P Q R f h k = f e h k
-
-pub if_err_on : {X E : Type 0} (r : Result X E) (P R : E → Type 0) (Q : Type 0) → ((x : E) → P x → Q → R x) → IfErr r P → OnErr r Q → IfErr r R
-if_err_on (Ok x) P R Q f h k = tt
-if_err_on (Err e) P R Q f h k = f e h k

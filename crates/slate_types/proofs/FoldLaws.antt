@@ -9,6 +9,7 @@ use Rattle.slate_types.specs.declared.types.RowEntry.{RowEntry}
 use Rattle.slate_types.specs.Rows.{is_base, is_merge, operand, bytes_of, latest, earliest}
 use Rattle.slate_types.specs.Join.{join_value, picked, join, joins, AreOf}
 use Rattle.slate_types.specs.Fold.{Combine, taken, onto, value_of_taken, greatest_seq, latest_creation, earliest_expiry, fold_taken, fold_rows, IsShort, AreShort, IsLawful, KeepsShort, merge_all}
+use Rattle.std.proofs.lemmas.Bool.{or_right}
 
 -- ---- the stamps
 
@@ -326,13 +327,9 @@ merge-pieces c law keeps e ((v ∷ vs) ∷ ps) he hs =
 
 -- ---- a row that is no operand
 
-or-base : (a b : Bool) → b ≡ true → (a || b) ≡ true
-or-base true b h = refl
-or-base false b h = h
-
 any-base : (os : List RowEntry) (r : RowEntry) (rs : List RowEntry) → is_base r ≡ true → list_any is_base (os ++ (r ∷ rs)) ≡ true
 any-base [] r rs h = ap (λ b. b || list_any is_base rs) h
-any-base (o ∷ os) r rs h = or-base (is_base o) (list_any is_base (os ++ (r ∷ rs))) (any-base os r rs h)
+any-base (o ∷ os) r rs h = or_right (is_base o) (list_any is_base (os ++ (r ∷ rs))) (any-base os r rs h)
 
 pub hides-older : (c : Combine) (older newer : List RowEntry) (r : RowEntry) → is_base r ≡ true → fold_rows c (older ++ (r ∷ newer)) ≡ fold_rows c (r ∷ newer)
 hides-older c [] newer r h = refl

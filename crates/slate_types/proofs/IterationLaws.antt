@@ -1,10 +1,11 @@
 -- What filters, seeks and steps do to rows in order.
-use Rattle.std.proofs.Common.{◌≡◌, ℕ, Bool, true, false, List, [], ◌∷◌, ◌++◌, Option, Some, None, filter, not, drop, length, ◌<◌, arith, refl, sym, ap, subst, inl, inr, ◌⊎◌}
+use Rattle.std.proofs.Common.{◌≡◌, ℕ, Bool, true, false, List, [], ◌∷◌, ◌++◌, Option, Some, None, filter, not, drop, length, ◌<◌, arith, refl, sym, ap, subst, inl, inr}
 use Rattle.slate_types.specs.declared.types.RowEntry.{RowEntry}
 use Rattle.slate_types.specs.declared.iter.IterationOrder.{IterationOrder}
 use Rattle.slate_types.specs.declared.iter.IterationOrder.TheVariants.{Ascending, Descending}
 use Rattle.slate_types.specs.Iteration.{comes_before, drop_before, begins_before, NoneBefore, IsInOrder, TakesRow}
 use Rattle.slate_types.proofs.KeyOrder.{not-lt-trans}
+use Rattle.std.proofs.lemmas.Bool.{cases_Bool}
 
 -- what does not come before a key does not come before an earlier one
 pub not_before : (order : IterationOrder) (a b c : List ℕ) → comes_before order b a ≡ false → comes_before order c b ≡ false → comes_before order c a ≡ false
@@ -19,14 +20,10 @@ pub drop_before_none : (order : IterationOrder) (key : List ℕ) (rows : List Ro
 drop_before_none order key [] h = refl
 drop_before_none order key (row ∷ rows) h = rw h.0 refl
 
-both : (b : Bool) → (b ≡ true) ⊎ (b ≡ false)
-both true = inl refl
-both false = inr refl
-
 pub none_before_filtered : (order : IterationOrder) (key : List ℕ) (p : RowEntry → Bool) (rows : List RowEntry) → NoneBefore order key rows → NoneBefore order key (filter p rows)
 none_before_filtered order key p [] h = tt
 none_before_filtered order key p (row ∷ rows) h =
-    elim (both (p row)) as (λ _. NoneBefore order key (filter p (row ∷ rows))) [
+    elim (cases_Bool (p row)) as (λ _. NoneBefore order key (filter p (row ∷ rows))) [
       | inl e ↦ rw e (h.0, none_before_filtered order key p rows h.1)
       | inr e ↦ rw e (none_before_filtered order key p rows h.1)
     ]
@@ -35,7 +32,7 @@ none_before_filtered order key p (row ∷ rows) h =
 pub in_order_filtered : (order : IterationOrder) (p : RowEntry → Bool) (rows : List RowEntry) → IsInOrder order rows → IsInOrder order (filter p rows)
 in_order_filtered order p [] h = tt
 in_order_filtered order p (row ∷ rows) h =
-    elim (both (p row)) as (λ _. IsInOrder order (filter p (row ∷ rows))) [
+    elim (cases_Bool (p row)) as (λ _. IsInOrder order (filter p (row ∷ rows))) [
       | inl e ↦ rw e (none_before_filtered order row.key p rows h.0, in_order_filtered order p rows h.1)
       | inr e ↦ rw e (in_order_filtered order p rows h.1)
     ]
@@ -44,8 +41,8 @@ in_order_filtered order p (row ∷ rows) h =
 pub drop_before_filtered : (order : IterationOrder) (key : List ℕ) (p : RowEntry → Bool) (rows : List RowEntry) → IsInOrder order rows → filter p (drop_before order key rows) ≡ drop_before order key (filter p rows)
 drop_before_filtered order key p [] h = refl
 drop_before_filtered order key p (row ∷ rows) h =
-    elim (both (comes_before order row.key key)) as (λ _. filter p (drop_before order key (row ∷ rows)) ≡ drop_before order key (filter p (row ∷ rows))) [
-      | inl before ↦ elim (both (p row)) as (λ _. filter p (drop_before order key (row ∷ rows)) ≡ drop_before order key (filter p (row ∷ rows))) [
+    elim (cases_Bool (comes_before order row.key key)) as (λ _. filter p (drop_before order key (row ∷ rows)) ≡ drop_before order key (filter p (row ∷ rows))) [
+      | inl before ↦ elim (cases_Bool (p row)) as (λ _. filter p (drop_before order key (row ∷ rows)) ≡ drop_before order key (filter p (row ∷ rows))) [
         | inl e ↦ rw (before, e, before) (drop_before_filtered order key p rows h.1)
         | inr e ↦ rw (before, e) (drop_before_filtered order key p rows h.1)
       ]
@@ -58,7 +55,7 @@ drop_before_filtered order key p (row ∷ rows) h =
 pub in_order_dropped : (order : IterationOrder) (key : List ℕ) (rows : List RowEntry) → IsInOrder order rows → IsInOrder order (drop_before order key rows)
 in_order_dropped order key [] h = tt
 in_order_dropped order key (row ∷ rows) h =
-    elim (both (comes_before order row.key key)) as (λ _. IsInOrder order (drop_before order key (row ∷ rows))) [
+    elim (cases_Bool (comes_before order row.key key)) as (λ _. IsInOrder order (drop_before order key (row ∷ rows))) [
       | inl before ↦ rw before (in_order_dropped order key rows h.1)
       | inr after ↦ rw after h
     ]
@@ -95,7 +92,7 @@ kept order key (row ∷ rows) h = rw h.0 (ap (λ rest. row ∷ rest) (kept order
 pub seek_filters : (order : IterationOrder) (key : List ℕ) (rows : List RowEntry) → IsInOrder order rows → drop_before order key rows ≡ filter (λ r. not (comes_before order r.key key)) rows
 seek_filters order key [] h = refl
 seek_filters order key (row ∷ rows) h =
-    elim (both (comes_before order row.key key)) as (λ _. drop_before order key (row ∷ rows) ≡ filter (λ r. not (comes_before order r.key key)) (row ∷ rows)) [
+    elim (cases_Bool (comes_before order row.key key)) as (λ _. drop_before order key (row ∷ rows) ≡ filter (λ r. not (comes_before order r.key key)) (row ∷ rows)) [
       | inl before ↦ rw before (seek_filters order key rows h.1)
       | inr after ↦ rw after (sym (ap (λ rest. row ∷ rest) (kept order key rows (none_before_earlier order key row.key rows after h.0))))
     ]

@@ -1,5 +1,5 @@
 -- The order of keys is total, and tests by it chain.
-use Rattle.std.proofs.Common.{◌≡◌, ℕ, Bool, true, false, List, refl, sym, ap, ◌∙◌, Ordering, Less, Equal, Greater}
+use Rattle.std.proofs.Common.{◌≡◌, ℕ, Bool, true, false, List, bytes_eq, refl, sym, ap, ◌∙◌, Ordering, Less, Equal, Greater}
 use Rattle.std.specs.Ordering.{is_eq, is_lt, is_le, ordering_reverse}
 use Rattle.std.proofs.lemmas.Cmp.{nat_list_cmp_total, tied_itself}
 use Rattle.std.proofs.lemmas.Map.Text.{is_eq-slice_cmp}
@@ -12,7 +12,17 @@ same-key a b e = (bytes_eq-Decides a b).0 (sym (is_eq-slice_cmp a b) ∙ ap is_e
 pub turned-key : (a b : List ℕ) → key_cmp a b ≡ ordering_reverse (key_cmp b a)
 turned-key a b = nat_list_cmp_total.antisymm a b
 
-is-less : (o : Ordering) → is_lt o ≡ true → o ≡ Less
+-- keys as bytes
+pub bytes_eq-same : (a : List ℕ) → bytes_eq a a ≡ true
+bytes_eq-same a = (bytes_eq-Decides a a).1 refl
+
+pub bytes_eq-below : (a b : List ℕ) → key_cmp a b ≡ Less → bytes_eq a b ≡ false
+bytes_eq-below a b e = sym (is_eq-slice_cmp a b) ∙ ap is_eq e
+
+pub bytes_eq-above : (a b : List ℕ) → key_cmp a b ≡ Less → bytes_eq b a ≡ false
+bytes_eq-above a b e = sym (is_eq-slice_cmp b a) ∙ ap is_eq (turned-key b a ∙ ap ordering_reverse e)
+
+pub is-less : (o : Ordering) → is_lt o ≡ true → o ≡ Less
 is-less Less h = refl
 is-less Equal h = cc
 is-less Greater h = cc

@@ -1,20 +1,13 @@
 -- A set of keys rises, has the keys that it was made of, and is known by them.
 use Rattle.std.proofs.Common.{◌≡◌, ℕ, Bool, true, false, ◌||◌, List, [], ◌∷◌, bytes_eq, refl, sym, ap, ◌∙◌, Ordering, Less, Equal, Greater}
-use Rattle.std.specs.Ordering.{is_eq, ordering_reverse, match_ordering}
+use Rattle.std.specs.Ordering.{ordering_reverse, match_ordering}
 use Rattle.std.specs.List.{AllByRecursion}
 use Rattle.std.specs.List.Sorted.{IsStrictlySortedBy}
 use Rattle.std.specs.BTreeSet.{insert_key}
 use Rattle.std.proofs.lemmas.Cmp.{nat_list_cmp_total}
-use Rattle.std.proofs.lemmas.Map.Text.{is_eq-slice_cmp}
 use Rattle.std.proofs.lemmas.Slice.Eq.{bytes_eq-Decides}
 use Rattle.slate_types.specs.Keys.{key_cmp, keys_set, among}
-use Rattle.slate_types.proofs.KeyOrder.{same-key, turned-key}
-
-other-key : (a b : List ℕ) → key_cmp a b ≡ Less → bytes_eq b a ≡ false
-other-key a b e = sym (is_eq-slice_cmp b a) ∙ ap is_eq (turned-key b a ∙ ap ordering_reverse e)
-
-same-bytes : (a : List ℕ) → bytes_eq a a ≡ true
-same-bytes a = (bytes_eq-Decides a a).1 refl
+use Rattle.slate_types.proofs.KeyOrder.{same-key, turned-key, bytes_eq-above, bytes_eq-same}
 
 -- ---- a set rises
 
@@ -78,10 +71,10 @@ set-keeps (j ∷ js) k = among-insert k j (keys_set js) ∙ ap (λ b. bytes_eq j
 
 pub among-above : (k : List ℕ) (xs : List (List ℕ)) → AllAbove k xs → among k xs ≡ false
 among-above k [] h = refl
-among-above k (x ∷ xs) h = λ i. other-key k x h.0 i || among-above k xs h.1 i
+among-above k (x ∷ xs) h = λ i. bytes_eq-above k x h.0 i || among-above k xs h.1 i
 
 among-first : (k : List ℕ) (ks : List (List ℕ)) → among k (k ∷ ks) ≡ true
-among-first k ks = ap (λ b. b || among k ks) (same-bytes k)
+among-first k ks = ap (λ b. b || among k ks) (bytes_eq-same k)
 
 no-lower : {A : Type 0} (x y : List ℕ) (xs ys : List (List ℕ)) → key_cmp x y ≡ Less → AllAbove y ys → among x (x ∷ xs) ≡ among x (y ∷ ys) → A
 no-lower x y xs ys e above same =

@@ -9,6 +9,8 @@ use Rattle.std.specs.declared.ops.Bound.TheVariants.{Included, Excluded, Unbound
 use Rattle.slate_types.specs.declared.bytes_range.BytesRange.{BytesRange}
 use Rattle.slate_types.specs.Keys.{key_cmp, key_lt, AreBytes, carried, successor, is_past_start, is_before_end, in_range, is_refused, prefix_start, prefix_end, excluded_or_open, prefix_range, behind, prefix_subrange}
 use Rattle.slate_types.proofs.KeyOrder.{same-key, turned-key, lt-irreflexive, lt-trans}
+use Rattle.std.proofs.lemmas.List.{append-nil}
+use Rattle.std.proofs.Math.Bool.{and-true}
 
 begins : List ℕ → List ℕ → Bool
 begins p k = starts_with nat_eq k p
@@ -33,10 +35,6 @@ cmp-behind (b ∷ p) a (x ∷ k) =
     same-front (ltb b x) (nat_eq b x) apart (begins p k) (key_cmp (p ++ a) k) (key_cmp a (drop (length p) k)) (key_cmp p k) (cmp-behind p a k)
 
 -- ---- what begins with a prefix
-
-append-nil : {A : Type 0} (xs : List A) → xs ++ [] ≡ xs
-append-nil [] = refl
-append-nil (x ∷ xs) = ap (λ ys. x ∷ ys) (append-nil xs)
 
 nil-le : (k : List ℕ) → is_le (key_cmp [] k) ≡ true
 nil-le [] = refl
@@ -212,10 +210,6 @@ unfolding begins
 subrange-behind p start end r k e bytes =
     let is = some-range (is_refused (behind p start (prefix_start p)) (behind p end (prefix_end p))) (record { start = behind p start (prefix_start p); end = behind p end (prefix_end p) }) r e in
     ap (λ q. in_range q k) (sym is) ∙ bounds-behind p start end k bytes
-
-and-true : (t : Bool) → (t && true) ≡ t
-and-true true = refl
-and-true false = refl
 
 -- The range of a prefix has the keys that begin with it.
 pub prefix-range : (p k : List ℕ) → AreBytes k → in_range (prefix_range p) k ≡ starts_with nat_eq k p

@@ -1,13 +1,9 @@
 -- What calls leave of what they reach, one after another.
-use Rattle.std.proofs.Common.{◌≡◌, ◌⊎◌, ℕ, List, [], ◌++◌, ◌∷◌, Option, Some, refl, sym, ap, subst, ◌∙◌, append-nil, append_assoc, arith}
-use Rattle.std.specs.List.{AllByRecursion}
+use Rattle.std.proofs.Common.{◌≡◌, List, [], ◌++◌, Option, Some, refl, sym, ap, ◌∙◌, append-nil, append_assoc, arith}
 use Rattle.slate_types.specs.Outside.{Act, Counts, IsFault, IsLater, Reach, PutsNothing, AddsReads, OnlyReads, Puts}
 use Rattle.slate_types.specs.declared.error.SlateDBError.{SlateDBError}
-use Rattle.slate_types.proofs.OutsideLaws.{blamed_earlier, later_trans, counted_earlier}
-
-all_both : {X : Type 0} (P : X → Type 0) (xs ys : List X) → AllByRecursion P xs → AllByRecursion P ys → AllByRecursion P (xs ++ ys)
-all_both P [] ys h k = k
-all_both P (x ∷ xs) ys h k = (h.0, all_both P xs ys h.1 k)
+use Rattle.slate_types.proofs.Lists.{AllByRecursion-append}
+use Rattle.slate_types.proofs.OutsideLaws.{later_trans, counted_earlier}
 
 pub adds_none : (acts : Option (List Act)) → AddsReads acts acts
 adds_none acts known is = ([], is ∙ ap (λ (l : List Act). Some l) (sym (append-nil known)), tt)
@@ -16,7 +12,7 @@ pub adds_both : (first middle last : Option (List Act)) → AddsReads first midd
 adds_both first middle last f l known is =
     let some = f known is in
     let rest = l (known ++ some.0) some.1 in
-    (some.0 ++ rest.0, rest.1 ∙ ap (λ (a : List Act). Some a) (append_assoc known some.0 rest.0), all_both PutsNothing some.0 rest.0 some.2 rest.2)
+    (some.0 ++ rest.0, rest.1 ∙ ap (λ (a : List Act). Some a) (append_assoc known some.0 rest.0), AllByRecursion-append PutsNothing some.0 rest.0 some.2 rest.2)
 
 pub later_none : (a : Counts) → IsLater a a
 later_none a = record { store = omega arith; operator = omega arith; transformer = omega arith }

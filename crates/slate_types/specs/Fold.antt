@@ -1,4 +1,5 @@
 -- The fold of the rows of one key, oldest first. `c` combines an operand onto a value, or onto none.
+--     operator_at combine k      what an operator does at a key, where there is one
 --     fold_rows c rows      the row that stands for all
 --     shown c rows      the same for a reader, to whom a tombstone is no row
 --     KeepsShort c      of every operator: short values, of at most 2 ^ 32 - 1 bytes, give a short one
@@ -13,6 +14,11 @@ use Rattle.slate_types.specs.Rows.{is_base, operand, hide_tombstone, latest, ear
 -- what an operator does at one key: the existing value, the operand, and what they make
 abbrev pub Combine : Type 0
 Combine = Option (List ℕ) → List ℕ → List ℕ
+
+-- Without an operator no operand is ever kept, and what stands here is never asked.
+abbrev pub operator_at : Option (List ℕ → Combine) → List ℕ → Combine
+operator_at None k = λ e v. v
+operator_at (Some f) k = f k
 
 -- the items from the last one on that passes, or all where none does
 abbrev pub from_last : {X : Type 0} → (X → Bool) → List X → List X

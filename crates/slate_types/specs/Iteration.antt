@@ -1,14 +1,19 @@
 -- An iterator as the rest of a list of rows in its order.
+--     in_order order xs      a list, or its reverse where the order is downwards
 --     comes_before order a b      the order puts one key before another
 --     drop_before order key rows      the rows without the leading ones that the order puts before the key
 --     IsInOrder order rows      no row's key comes before an earlier one's
 --     TakesRow rows answer after      the answer is the first row, or there is none
 --     RowList      rows with an order
-use Rattle.std.specs.Prelude.{ℕ, ◌≡◌, List, [], ◌∷◌, Bool, false, if◌then◌else◌, Option, Some, None}
+use Rattle.std.specs.Prelude.{ℕ, ◌≡◌, List, [], ◌∷◌, Bool, false, if◌then◌else◌, reverse, Option, Some, None}
 use Rattle.slate_types.specs.declared.types.RowEntry.{RowEntry}
 use Rattle.slate_types.specs.declared.iter.IterationOrder.{IterationOrder}
 use Rattle.slate_types.specs.declared.iter.IterationOrder.TheVariants.{Ascending, Descending}
 use Rattle.slate_types.specs.Keys.{key_lt}
+
+abbrev pub in_order : {X : Type 0} → IterationOrder → List X → List X
+in_order Ascending xs = xs
+in_order Descending xs = reverse xs
 
 abbrev pub comes_before : IterationOrder → List ℕ → List ℕ → Bool
 comes_before Ascending a b = key_lt a b

@@ -14,5 +14,6 @@ pub mod Refusing
 pub mod Steps
 pub mod World
 pub mod Refusals
+pub mod ExitStatus
 pub mod Partitions
 pub mod Vectors

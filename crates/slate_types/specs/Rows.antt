@@ -1,5 +1,6 @@
 -- Rows: the order of rows, and what a reader sees of one.
 --     row_lt r s      r stands before s: by key upwards, then by sequence downwards
+--     of_key k rows      the rows of a key, in their order
 --     sequenced r, sequenced_cmp a b      a row's key with its sequence, and the order of these
 --     is_operand r, is_base r      the row is a merge, or no merge
 --     is_put r, is_tombstone r      the row holds a value, or is a deletion
@@ -11,7 +12,7 @@
 --     latest a b, earliest a b      the greater and the lesser stamp; an absent one yields to a present one
 --     encoded_size prefix r      the bytes that a row is counted with where it shares that many bytes of its key
 --     estimated_size r      the bytes of key, value, sequence and stamps
-use Rattle.std.specs.Prelude.{ℕ, ◌+◌, ◌-◌, Bool, true, false, not, ◌&&◌, ◌||◌, nat_lt, List, [], ◌++◌, length, Option, Some, None, ℤ, pos, unwrap_or, bytes_eq}
+use Rattle.std.specs.Prelude.{ℕ, ◌+◌, ◌-◌, Bool, true, false, not, ◌&&◌, ◌||◌, nat_lt, List, [], ◌++◌, length, filter, Option, Some, None, ℤ, pos, unwrap_or, bytes_eq}
 use Rattle.std.specs.declared.cmp.Ordering.{Ordering}
 use Rattle.std.specs.Ordering.{nat_cmp, int_cmp, on, flip_args, then_cmp}
 use Rattle.std.specs.Option.{option_cmp}
@@ -27,6 +28,9 @@ use Rattle.slate_types.specs.Keys.{key_cmp, key_lt}
 
 abbrev pub row_lt : RowEntry → RowEntry → Bool
 row_lt r s = key_lt r.key s.key || (bytes_eq r.key s.key && nat_lt s.seq r.seq)
+
+abbrev pub of_key : List ℕ → List RowEntry → List RowEntry
+of_key k rows = filter (λ r. bytes_eq r.key k) rows
 
 abbrev pub sequenced : RowEntry → SequencedKey
 sequenced r = record { user_key = r.key; seq = r.seq }

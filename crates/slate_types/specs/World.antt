@@ -4,7 +4,7 @@
 --     World      what the outside is taken for: the objects that an iterator may read, by their paths, what a checksum fits, and the meaning
 --     nothing      the world of sources in memory
 --     IsReadAct act      the act is a read
---     AnswersObjects os act, AnswersAs w act      a read was answered by these objects, or by the object that the world has
+--     AnswersObjects os act, AnswersWorld w act      a read was answered by these objects, or by the object that the world has
 --     IsCall before after reads      a call made these reads, and nothing else; of a store that tells its objects each was answered by them
 --     Made before after means      a call made some reads, and they mean this
 --     HoldsWorld os w      the objects hold those of the world
@@ -45,9 +45,9 @@ abbrev pub AnswersObjects : Objects → Act → Type 0
 AnswersObjects os (Act.read path start len answer) = answer ≡ part_of (object_at os path) start len
 AnswersObjects os _ = Unit {0}
 
-abbrev pub AnswersAs : World → Act → Type 0
-AnswersAs w (Act.read path start len answer) = IfSome (w.holds path) (λ kept. answer ≡ part_of (Some kept.bytes) start len)
-AnswersAs w _ = Unit {0}
+abbrev pub AnswersWorld : World → Act → Type 0
+AnswersWorld w (Act.read path start len answer) = IfSome (w.holds path) (λ kept. answer ≡ part_of (Some kept.bytes) start len)
+AnswersWorld w _ = Unit {0}
 
 pub record IsCall (before after : Reach) (reads : List Act) : Type 0 where
   pub objects : after.objects ≡ before.objects
@@ -74,7 +74,7 @@ pub record Answered (w : World) (before after : Reach) : Type 0 where
   pub reads : List Act
   pub began : before.acts ≡ Some known
   pub ended : after.acts ≡ Some (known ++ reads)
-  pub each : AllByRecursion (AnswersAs w) reads
+  pub each : AllByRecursion (AnswersWorld w) reads
 
 pub record Sees (w : World) (before after : Reach) : Type 0 where
   pub meaning : w.meaning ≡ before.meaning

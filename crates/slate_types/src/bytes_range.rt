@@ -103,6 +103,13 @@ impl BytesRange {
         }
     }
 
+    /// Whether `new` refuses the bounds, so that no key passes both.
+    pub fn leaves_none(&self) -> bool
+        ensures { result ≡ is_refused self.now.start self.now.end }
+    {
+        leaves_none(&self.start, &self.end)
+    }
+
     /// Whether the key passes both bounds.
     pub fn contains(&self, key: &[u8]) -> bool
         ensures { result ≡ in_range self.now key.now }

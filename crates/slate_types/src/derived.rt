@@ -14,126 +14,126 @@ use std::cmp::Ordering;
 use std::hash::{Hash, Hasher};
 
 /// Of what rows hold.
-pub fn equal_values(a: &ValueDeletable, b: &ValueDeletable) -> bool
+pub(crate) fn equal_values(a: &ValueDeletable, b: &ValueDeletable) -> bool
     ensures { IsTrue result ↔ (a.now ≡ b.now) }
 {
     a == b
 }
 
 /// Of rows.
-pub fn equal_rows(a: &RowEntry, b: &RowEntry) -> bool
+pub(crate) fn equal_rows(a: &RowEntry, b: &RowEntry) -> bool
     ensures { IsTrue result ↔ (a.now ≡ b.now) }
 {
     a == b
 }
 
 /// Of rows as readers get them.
-pub fn equal_key_values(a: &KeyValue, b: &KeyValue) -> bool
+pub(crate) fn equal_key_values(a: &KeyValue, b: &KeyValue) -> bool
     ensures { IsTrue result ↔ (a.now ≡ b.now) }
 {
     a == b
 }
 
 /// Of what filters are asked for.
-pub fn equal_targets(a: &PrefixTarget, b: &PrefixTarget) -> bool
+pub(crate) fn equal_targets(a: &PrefixTarget, b: &PrefixTarget) -> bool
     ensures { IsTrue result ↔ (a.now ≡ b.now) }
 {
     a == b
 }
 
 /// Of ranges.
-pub fn equal_ranges(a: &BytesRange, b: &BytesRange) -> bool
+pub(crate) fn equal_ranges(a: &BytesRange, b: &BytesRange) -> bool
     ensures { IsTrue result ↔ (a.now ≡ b.now) }
 {
     a == b
 }
 
 /// Of times to live.
-pub fn equal_ttls(a: Ttl, b: Ttl) -> bool
+pub(crate) fn equal_ttls(a: Ttl, b: Ttl) -> bool
     ensures { IsTrue result ↔ (a ≡ b) }
 {
     a == b
 }
 
 /// Of options of puts.
-pub fn equal_put_options(a: PutOptions, b: PutOptions) -> bool
+pub(crate) fn equal_put_options(a: PutOptions, b: PutOptions) -> bool
     ensures { IsTrue result ↔ (a ≡ b) }
 {
     a == b
 }
 
 /// Of options of merges.
-pub fn equal_merge_options(a: MergeOptions, b: MergeOptions) -> bool
+pub(crate) fn equal_merge_options(a: MergeOptions, b: MergeOptions) -> bool
     ensures { IsTrue result ↔ (a ≡ b) }
 {
     a == b
 }
 
 /// Of versions of blocks.
-pub fn equal_formats(a: BlockFormat, b: BlockFormat) -> bool
+pub(crate) fn equal_formats(a: BlockFormat, b: BlockFormat) -> bool
     ensures { IsTrue result ↔ (a ≡ b) }
 {
     a == b
 }
 
 /// Of isolation levels.
-pub fn equal_levels(a: IsolationLevel, b: IsolationLevel) -> bool
+pub(crate) fn equal_levels(a: IsolationLevel, b: IsolationLevel) -> bool
     ensures { IsTrue result ↔ (a ≡ b) }
 {
     a == b
 }
 
 /// Of ids of tables.
-pub fn equal_ids(a: Ulid, b: Ulid) -> bool
+pub(crate) fn equal_ids(a: Ulid, b: Ulid) -> bool
     ensures { IsTrue result ↔ (a ≡ b) }
 {
     a == b
 }
 
 /// Of rows as readers get them: the order.
-pub fn compare_key_values(a: &KeyValue, b: &KeyValue) -> Ordering
+pub(crate) fn compare_key_values(a: &KeyValue, b: &KeyValue) -> Ordering
     ensures { result ≡ key_value_cmp a.now b.now }
 {
     a.cmp(b)
 }
 
 /// Of rows as readers get them: what a hasher is fed, their fields in turn.
-pub fn hash_key_value<H: Hasher>(row: &KeyValue, state: &mut H)
+pub(crate) fn hash_key_value<H: Hasher>(row: &KeyValue, state: &mut H)
     ensures { state.new ≡ fold H.write state.old (key_value_writes row.now) }
 {
     row.hash(state);
 }
 
 /// A transaction is a snapshot unless it says otherwise.
-pub fn default_level() -> IsolationLevel
+pub(crate) fn default_level() -> IsolationLevel
     ensures { result ≡ IsolationLevel.Snapshot }
 {
     IsolationLevel::default()
 }
 
 /// A put lives as long as the database says.
-pub fn default_put_options() -> PutOptions
+pub(crate) fn default_put_options() -> PutOptions
     ensures { result.ttl ≡ Ttl.Default }
 {
     PutOptions::default()
 }
 
 /// So does a merge.
-pub fn default_merge_options() -> MergeOptions
+pub(crate) fn default_merge_options() -> MergeOptions
     ensures { result.ttl ≡ Ttl.Default }
 {
     MergeOptions::default()
 }
 
 /// A get has no context.
-pub fn default_read_options() -> ReadOptions
+pub(crate) fn default_read_options() -> ReadOptions
     ensures { result.filter_context ≡ None }
 {
     ReadOptions::default()
 }
 
 /// A scan goes upwards and has no context.
-pub fn default_scan_options() -> ScanOptions
+pub(crate) fn default_scan_options() -> ScanOptions
     ensures order { result.order ≡ IterationOrder.Ascending }
     ensures context { result.filter_context ≡ None }
 {

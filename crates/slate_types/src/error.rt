@@ -1,5 +1,6 @@
 //! The one error type.
 ghost use Rattle.std.specs.Prelude.{◌≡◌};
+ghost use Rattle.slate_types.specs.ExitStatus as exit;
 ghost use Rattle.slate_types.specs.declared.error.SlateDBError.TheVariants.{OutOfMemory};
 
 use bytes::Bytes;
@@ -140,6 +141,29 @@ impl Display for SlateDBError {
 }
 
 impl SlateDBError {
+    /// The exit status of a run that this error ended, or `None` where no run ends with it.
+    pub fn status(&self) -> Option<u8>
+        ensures { result ≡ exit.status self.now }
+    {
+        match self {
+            Self::ScriptSyntax { .. } => Some(3),
+            Self::ScriptTooLong => Some(4),
+            Self::ReadFault => Some(5),
+            Self::WriteFault => Some(6),
+            Self::StoreFault => Some(7),
+            Self::Callback { .. } => Some(8),
+            Self::BlockTransformError => Some(9),
+            Self::ChecksumMismatch { .. } => Some(12),
+            Self::InvalidRowFlags { .. } => Some(14),
+            Self::InvalidFilterBlock { .. } => Some(15),
+            Self::CorruptTable { .. } => Some(16),
+            Self::InvalidSequenceOrder { .. } => Some(18),
+            Self::MergeOperatorMissing => Some(19),
+            Self::OutOfMemory => Some(20),
+            _ => None,
+        }
+    }
+
     /// What is wrong.
     fn text(&self) -> &'static str {
         match self {

@@ -8,7 +8,7 @@ ghost use Rattle.slate_types.specs.Iteration.{comes_before, drop_before, IsInOrd
 ghost use Rattle.slate_types.specs.Outside.{Act, Meaning, Reach, no_reach, IsFault, OnlyReads};
 ghost use Rattle.slate_types.specs.Refusing.{IsDamage, IsReady, NoMore, NoMoreBut};
 ghost use Rattle.slate_types.specs.Steps.{TakesAll};
-ghost use Rattle.slate_types.specs.World.{World, AnswersAs, Checks, Made, Sees};
+ghost use Rattle.slate_types.specs.World.{World, AnswersWorld, Checks, Made, Sees};
 
 use crate::bytes_range::is_before;
 use crate::error::SlateDBError;
@@ -128,7 +128,7 @@ pub trait RowEntryIterator<E: Outside>: Drop {
     ghost more: { (x : Self) (m : Meaning) (done : List Act) (reads : List Act) (at : Option (List ℕ)) (e : SlateDBError) → refuses x m reads at e → refuses x m (done ++ reads) at e };
 
     /// Where each read is answered by the world, nothing is damaged.
-    ghost whole: { (x : Self) (w : World) (reads : List Act) (at : Option (List ℕ)) (e : SlateDBError) → sound x w → AllByRecursion (AnswersAs w) reads → refuses x w.meaning reads at e → ¬ IsDamage e };
+    ghost whole: { (x : Self) (w : World) (reads : List Act) (at : Option (List ℕ)) (e : SlateDBError) → sound x w → AllByRecursion (AnswersWorld w) reads → refuses x w.meaning reads at e → ¬ IsDamage e };
 }
 
 /// An iterator that tells how many bytes it processed.

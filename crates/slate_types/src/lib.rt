@@ -5,7 +5,7 @@ pub mod block_transformer;
 pub mod byte_range_bounds;
 pub mod bytes_range;
 pub mod config;
-pub mod derived;
+mod derived;
 pub mod error;
 pub mod filter_policy;
 pub mod iter;

@@ -1,6 +1,6 @@
 use Rattle.std.proofs.Common.{ℕ, List, ap, arith, length}
 use Rattle.std.proofs.lemmas.Result.{IfOk-from_err}
-use Rattle.slate_block.proofs.Failing.{on_err}
+use Rattle.slate_types.proofs.Exits.{on_err}
 use Rattle.slate_block.proofs.codec_v0.append_row.Goals as goal
 
 pub put-requires : goal.put-requires

@@ -1,6 +1,7 @@
 use Rattle.std.proofs.Common.{inl, refl, arith, inr}
 use Rattle.std.proofs.lemmas.Result.{IfOk-from_err, err_from_is_err_and}
-use Rattle.slate_block.proofs.Failing.{on_ok, out_of_memory}
+use Rattle.slate_types.proofs.Exits.{on_ok}
+use Rattle.slate_block.proofs.Failing.{out_of_memory}
 use Rattle.slate_block.proofs.Prefixes.{whole_restored}
 use Rattle.slate_block.proofs.keys.restored_key.Goals as goal
 

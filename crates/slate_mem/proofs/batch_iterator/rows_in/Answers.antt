@@ -6,21 +6,22 @@ use Rattle.slate_types.specs.declared.iter.IterationOrder.TheVariants.{Ascending
 use Rattle.slate_types.specs.declared.bytes_range.BytesRange.{BytesRange}
 use Rattle.slate_types.specs.Keys.{key_cmp}
 use Rattle.slate_types.specs.Iteration.{IsInOrder}
-use Rattle.slate_mem.specs.Table.{of_key}
+use Rattle.slate_types.specs.Rows.{of_key}
 use Rattle.slate_mem.specs.BatchRows.{newest_rows}
-use Rattle.slate_mem.proofs.BatchRowLaws.{key-forward, newest-between, newest-rise, no-batch-rows}
-use Rattle.slate_mem.proofs.Exits.{err_exit}
+use Rattle.slate_types.proofs.KeyBounds.{forward_bounds}
+use Rattle.slate_mem.proofs.BatchRowLaws.{newest-between, newest-rise, no-batch-rows}
+use Rattle.slate_types.proofs.Exits.{err_exit}
 use Rattle.slate_mem.proofs.batch_iterator.rows_in.Goals as goal
 
-pub returns-then-holds_none-clause-rows : goal.returns-then-holds_none-clause-rows
-returns-then-holds_none-clause-rows c k =
+pub returns-then-leaves_none-clause-rows : goal.returns-then-leaves_none-clause-rows
+returns-then-leaves_none-clause-rows c k =
     let s = c.args.stamps.now in
-    ap (of_key k) c.new.ensures.items ∙ sym (no-batch-rows c.args.range.now s.seq s.default_ttl_millis s.create_ts c.args.batch.now.ops k (sym c.holds_none.ensures ∙ c.if-holds_none.true))
+    ap (of_key k) c.new.ensures.items ∙ sym (no-batch-rows c.args.range.now s.seq s.default_ttl_millis s.create_ts c.args.batch.now.ops k (sym c.leaves_none.ensures ∙ c.if-leaves_none.true))
 
 pub range-requires : goal.range-requires
 range-requires c =
     subst (λ r. IsForward (IsLeBy key_cmp) (IsLtBy key_cmp) r.start r.end) (sym c.in_ok-start.ensures.copy)
-    (key-forward c.args.range.now.start c.args.range.now.end (sym c.holds_none.ensures ∙ c.if-holds_none.false))
+    (forward_bounds c.args.range.now.start c.args.range.now.end (sym c.leaves_none.ensures ∙ c.if-leaves_none.false))
 
 pub ordered-requires : goal.ordered-requires
 ordered-requires c =

@@ -5,9 +5,9 @@ use Rattle.std.proofs.lemmas.Result.{IfOk-weaker, IfOk-from_err}
 use Rattle.slate_types.specs.declared.iter.IterationOrder.TheVariants.{Ascending}
 use Rattle.slate_types.specs.Iteration.{IsInOrder}
 use Rattle.slate_mem.specs.Lookup.{newest_first}
-use Rattle.slate_mem.specs.Table.{of_key}
+use Rattle.slate_types.specs.Rows.{of_key}
 use Rattle.slate_mem.proofs.SortingLaws.{rises, rises_weakly, stable_keys, sorted_rises}
-use Rattle.slate_mem.proofs.Exits.{err_exit}
+use Rattle.slate_types.proofs.Exits.{err_exit}
 use Rattle.slate_mem.proofs.gather.gathered.Goals as goal
 
 -- the sorted rows

@@ -1,6 +1,6 @@
 use Rattle.std.proofs.Common.{refl}
 use Rattle.std.proofs.lemmas.Result.{IfOk-from_err}
-use Rattle.slate_mem.proofs.Exits.{err_exit}
+use Rattle.slate_types.proofs.Exits.{err_exit}
 use Rattle.slate_mem.proofs.gather.keep.Goals as goal
 
 pub returns-in_err-push : goal.returns-in_err-push

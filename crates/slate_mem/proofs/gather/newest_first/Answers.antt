@@ -2,7 +2,7 @@ use Rattle.std.proofs.Common.{List, ◌-◌, ◌++◌, ◌∙◌, ap, arith, ref
 use Rattle.std.proofs.lemmas.Result.{IfOk-from_err}
 use Rattle.slate_types.specs.declared.types.RowEntry.{RowEntry}
 use Rattle.slate_mem.proofs.GatherLaws.{layers_down}
-use Rattle.slate_mem.proofs.Exits.{err_exit}
+use Rattle.slate_types.proofs.Exits.{err_exit}
 use Rattle.slate_mem.proofs.gather.newest_first.Goals as goal
 
 pub loop-at-preserved : goal.loop-at-preserved

@@ -3,7 +3,7 @@ use Rattle.std.proofs.lemmas.Result.{IfOk-from_err}
 use Rattle.slate_types.specs.declared.types.RowEntry.{RowEntry}
 use Rattle.slate_mem.specs.Gathered.{newest_kept, last_row}
 use Rattle.slate_mem.proofs.GatherLaws.{keeps_one}
-use Rattle.slate_mem.proofs.Exits.{err_exit}
+use Rattle.slate_types.proofs.Exits.{err_exit}
 use Rattle.slate_mem.proofs.gather.newest_rows.Goals as goal
 
 pub loop-row-preserved : goal.loop-row-preserved

@@ -3,7 +3,7 @@ use Rattle.std.proofs.lemmas.Result.{IfOk-from_err}
 use Rattle.slate_mem.specs.Table.{newest}
 use Rattle.slate_mem.specs.Lookup.{is_decided, newest_first}
 use Rattle.slate_mem.proofs.LayerLaws.{layer_step, layers_decide, layers_end, mapped_here}
-use Rattle.slate_mem.proofs.Exits.{err_exit}
+use Rattle.slate_types.proofs.Exits.{err_exit}
 use Rattle.slate_mem.proofs.lookup.newest_of_frozen.Goals as goal
 use Rattle.slate_mem.proofs.lookup.newest_of_frozen.Goals.{then-loop-i-test+else-not-is_decided, else-loop-i-test}
 

@@ -1,5 +1,5 @@
 use Rattle.std.proofs.lemmas.Result.{IfOk-weaker, IfOk-from_err}
-use Rattle.slate_mem.proofs.Exits.{err_exit}
+use Rattle.slate_types.proofs.Exits.{err_exit}
 use Rattle.slate_mem.proofs.lookup.newest_of_memory.Goals as goal
 
 pub returns-clause-found : goal.returns-clause-found

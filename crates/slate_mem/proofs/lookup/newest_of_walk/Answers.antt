@@ -8,7 +8,7 @@ use Rattle.slate_types.proofs.Calls.{sees_nothing}
 use Rattle.slate_mem.proofs.MemoryCalls.{cause_before, cause_here, fewer_here}
 use Rattle.slate_mem.specs.Table.{newest}
 use Rattle.slate_mem.proofs.WalkLaws.{takes}
-use Rattle.slate_mem.proofs.Exits.{err_exit}
+use Rattle.slate_types.proofs.Exits.{err_exit}
 use Rattle.slate_mem.proofs.lookup.newest_of_walk.Goals as goal
 
 pub returns-then-not-goes_on-clause-found : goal.returns-then-not-goes_on-clause-found

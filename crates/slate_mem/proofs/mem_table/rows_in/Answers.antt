@@ -6,7 +6,7 @@ use Rattle.std.specs.Map.{values_of}
 use Rattle.slate_types.specs.Rows.{sequenced_cmp}
 use Rattle.slate_mem.specs.KeyRange.{first_place}
 use Rattle.slate_mem.proofs.PlaceLaws.{forward, between-is-ranged, none-ranged}
-use Rattle.slate_mem.proofs.Exits.{err_exit}
+use Rattle.slate_types.proofs.Exits.{err_exit}
 use Rattle.slate_mem.proofs.mem_table.rows_in.Goals as goal
 
 pub rows_between-requires : goal.rows_between-requires
@@ -16,11 +16,11 @@ rows_between-requires c =
     let end = sym e.end in
     subst (λ s. IsForward (IsLeBy sequenced_cmp) (IsLtBy sequenced_cmp) s c.in_ok-start.field-0.end) start
     (subst (λ t. IsForward (IsLeBy sequenced_cmp) (IsLtBy sequenced_cmp) (first_place c.args.range.now.start) t) end
-    (forward c.args.range.now.start c.args.range.now.end (sym c.holds_none.ensures ∙ c.if-holds_none.false)))
+    (forward c.args.range.now.start c.args.range.now.end (sym c.leaves_none.ensures ∙ c.if-leaves_none.false)))
 
-pub returns-then-holds_none-clause-rows : goal.returns-then-holds_none-clause-rows
-returns-then-holds_none-clause-rows c =
-    c.new.ensures.items ∙ sym (none-ranged c.args.range.now (values_of c.args.rows.now.entries) (sym c.holds_none.ensures ∙ c.if-holds_none.true))
+pub returns-then-leaves_none-clause-rows : goal.returns-then-leaves_none-clause-rows
+returns-then-leaves_none-clause-rows c =
+    c.new.ensures.items ∙ sym (none-ranged c.args.range.now (values_of c.args.rows.now.entries) (sym c.leaves_none.ensures ∙ c.if-leaves_none.true))
 
 pub returns-clause-rows : goal.returns-clause-rows
 returns-clause-rows c =

@@ -1,5 +1,5 @@
 use Rattle.std.proofs.Common.{rules, ◌≡◌, refl, arith}
-use Rattle.std.proofs.lemmas.Result.{err_from_is_err_and, IfOk-from_err}
+use Rattle.std.proofs.lemmas.Result.{err_from_is_err_and, IfOk-from_err, IfOk-weaker, IfErr-weaker}
 use Rattle.slate_table.specs.IndexValue.{entries_of}
 use Rattle.slate_table.specs.SectionReading.{changed_by}
 use Rattle.slate_block.specs.EitherVersion.{left_of}
@@ -23,8 +23,8 @@ returns g c =
     let e = c.in_ok-found.ensures in
     let w = c.walk_block.ensures in
     record {
-      found = if_ok c.walk_block.result _ _ (λ it h. block_opened _ _ c.args.table.now (entries_of c.args.index.now) c.args.block c.args.order c.in_ok-found.found (left_of it) e.objects (meaning_of _ _ refl e.same_encoded e.same_decoded) w.bytes e.found h) w.walks;
+      found = IfOk-weaker c.walk_block.result _ _ (λ it h. block_opened _ _ c.args.table.now (entries_of c.args.index.now) c.args.block c.args.order c.in_ok-found.found (left_of it) e.objects (meaning_of _ _ refl e.same_encoded e.same_decoded) w.bytes e.found h) w.walks;
       few = w.few;
-      cause = if_err c.walk_block.result _ _ (λ x h. rows_refused _ _ c.args.table.now (entries_of c.args.index.now) c.args.block c.args.order c.in_ok-found.found x e.objects (meaning_of _ _ refl e.same_encoded e.same_decoded) c.requires w.bytes e.found h) w.cause;
+      cause = IfErr-weaker c.walk_block.result _ _ (λ x h. rows_refused _ _ c.args.table.now (entries_of c.args.index.now) c.args.block c.args.order c.in_ok-found.found x e.objects (meaning_of _ _ refl e.same_encoded e.same_decoded) c.requires w.bytes e.found h) w.cause;
       reads = only_reads _ _ _ (call_of _ _ _ _ _ _ e.objects (meaning_of _ _ refl e.same_encoded e.same_decoded) e.found).1 (record { store = e.later; operator = omega arith; transformer = e.later_transformer }) refl;
     }

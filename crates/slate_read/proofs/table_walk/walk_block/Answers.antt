@@ -7,7 +7,7 @@ use Rattle.slate_read.proofs.Openings.{rows_known}
 use Rattle.slate_block.specs.EitherVersion.{left_of}
 use Rattle.slate_block.specs.Walks.{block_reads}
 use Rattle.slate_read.specs.TableWalk.{RefusesRows, Walks, max_reads}
-use Rattle.slate_types.proofs.Calls.{if_ok_both, if_err_both}
+use Rattle.slate_types.proofs.Exits.{if_ok_both, if_err_both}
 use Rattle.slate_read.proofs.Few.{walk_few}
 use Rattle.slate_read.proofs.table_walk.walk_block.Goals as goal
 

@@ -1,7 +1,7 @@
 use Rattle.std.proofs.Common.{Some, inl, inr, ap, sym, ◌∙◌}
 use Rattle.std.proofs.lemmas.Result.{IfErr-weaker}
 use Rattle.slate_store.specs.Env.{combine_of}
-use Rattle.slate_txn.specs.State.{operator_at}
+use Rattle.slate_types.specs.Fold.{operator_at}
 use Rattle.slate_mem.specs.Lookup.{is_merge_among}
 use Rattle.slate_txn.proofs.fold.fold_found.Goals as goal
 

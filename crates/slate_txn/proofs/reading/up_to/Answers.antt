@@ -1,8 +1,9 @@
 use Rattle.std.proofs.Common.{ℕ, List, ap, sym, ◌∙◌, not}
 use Rattle.slate_types.specs.declared.iter.IterationOrder.{IterationOrder}
 use Rattle.slate_types.specs.Keys.{key_le, key_lt}
-use Rattle.slate_txn.specs.Reads.{comes_before}
-use Rattle.slate_txn.proofs.HandOver.{le_not_lt, and-true}
+use Rattle.slate_types.specs.Iteration.{comes_before}
+use Rattle.std.proofs.Math.Bool.{and-true}
+use Rattle.slate_txn.proofs.HandOver.{le_not_lt}
 use Rattle.slate_txn.proofs.reading.up_to.Goals as goal
 
 pub returns-in-Ascending : goal.returns-in-Ascending

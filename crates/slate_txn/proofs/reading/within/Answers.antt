@@ -2,7 +2,7 @@ use Rattle.std.proofs.Common.{◌≡◌, Option, not}
 use Rattle.std.proofs.lemmas.Result.{IfOk-weaker}
 use Rattle.slate_types.specs.declared.bytes_range.BytesRange.{BytesRange}
 use Rattle.slate_types.specs.Keys.{common_range}
-use Rattle.slate_txn.specs.Reads.{comes_before}
+use Rattle.slate_types.specs.Iteration.{comes_before}
 use Rattle.slate_txn.proofs.HandOver.{common_keys}
 use Rattle.slate_txn.proofs.reading.within.Goals as goal
 

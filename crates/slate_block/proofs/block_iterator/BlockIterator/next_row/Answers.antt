@@ -3,7 +3,7 @@ use Rattle.std.proofs.lemmas.Bool.{false≢true}
 use Rattle.std.proofs.lemmas.Result.{IfOk-from_err, err_from_is_err_and}
 use Rattle.slate_block.specs.Walks.{all_ok}
 use Rattle.slate_block.proofs.SeekLaws.{some_left, first_taken}
-use Rattle.slate_block.proofs.Failing.{on_err}
+use Rattle.slate_types.proofs.Exits.{on_err}
 use Rattle.slate_block.proofs.block_iterator.BlockIterator.next_row.Goals as goal
 
 pub returns-in_err-row : goal.returns-in_err-row

@@ -4,7 +4,7 @@ use Rattle.slate_types.specs.declared.error.SlateDBError.TheVariants.{OutOfMemor
 use Rattle.slate_block.specs.BlockWalks.{LastBefore}
 use Rattle.slate_block.proofs.WalkLaws.{refused_at}
 use Rattle.slate_block.proofs.SeekLaws.{last_counted, past_counted, past_none, stops_counted, sought}
-use Rattle.slate_block.proofs.Failing.{on_err}
+use Rattle.slate_types.proofs.Exits.{on_err}
 use Rattle.slate_block.proofs.block_iterator.BlockIterator.skip_before.Goals as goal
 
 -- ---- nothing is taken off

@@ -5,7 +5,7 @@ use Rattle.slate_types.specs.declared.error.SlateDBError.TheVariants.{OutOfMemor
 use Rattle.slate_block.specs.Walks.{all_ok}
 use Rattle.slate_block.specs.BlockWalks.{ReadsLeft}
 use Rattle.slate_block.specs.GroupWalks.{left_v2}
-use Rattle.slate_block.proofs.Failing.{on_err}
+use Rattle.slate_types.proofs.Exits.{on_err}
 use Rattle.slate_block.proofs.block_iterator_v2.AscendingState.next_row.Goals as goal
 
 pub returns-in_err-row : goal.returns-in_err-row

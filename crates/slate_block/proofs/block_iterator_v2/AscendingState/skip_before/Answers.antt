@@ -4,7 +4,7 @@ use Rattle.slate_types.specs.declared.error.SlateDBError.TheVariants.{OutOfMemor
 use Rattle.slate_block.specs.BlockWalks.{ReadsLeft, IsPast, Refuses, StopsAt}
 use Rattle.slate_block.specs.GroupWalks.{left_v2}
 use Rattle.slate_block.proofs.SeekLaws.{sought}
-use Rattle.slate_block.proofs.Failing.{on_err}
+use Rattle.slate_types.proofs.Exits.{on_err}
 use Rattle.slate_block.proofs.block_iterator_v2.AscendingState.skip_before.Goals as goal
 
 pub returns-in_err-self-inside : goal.returns-in_err-self-inside

@@ -7,7 +7,7 @@ use Rattle.slate_block.specs.RowReading.{entry_of_v1, row_v1_of, refusal, Begins
 use Rattle.slate_block.proofs.Groups.{IsBytes}
 use Rattle.slate_block.proofs.ReadRows.{no_row_v1, begins_v1}
 use Rattle.slate_block.proofs.ReadingLawsV1.{refused_v1}
-use Rattle.slate_block.proofs.Failing.{on_err}
+use Rattle.slate_types.proofs.Exits.{on_err}
 use Rattle.slate_block.proofs.codec_v0.SstRowCodecV0.decode.Goals as goal
 
 no_row : (c : goal.After-from_residual) → row_v1_of c.args.input.now ≡ Err c.in_err-key_prefix_len.field-0.0

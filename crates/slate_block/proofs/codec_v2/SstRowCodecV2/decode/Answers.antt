@@ -7,7 +7,7 @@ use Rattle.slate_block.specs.RowReading.{entry_of_v2, row_v2_of, refusal, Begins
 use Rattle.slate_block.proofs.Groups.{IsBytes}
 use Rattle.slate_block.proofs.ReadRows.{no_row_v2, begins_v2}
 use Rattle.slate_block.proofs.ReadingLaws.{refused_begins}
-use Rattle.slate_block.proofs.Failing.{on_err}
+use Rattle.slate_types.proofs.Exits.{on_err}
 use Rattle.slate_block.proofs.codec_v2.SstRowCodecV2.decode.Goals as goal
 
 no_row : (c : goal.After-from_residual) → row_v2_of c.args.input.now ≡ Err c.in_err-shared_bytes.field-0.0

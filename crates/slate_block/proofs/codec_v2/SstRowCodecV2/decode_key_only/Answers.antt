@@ -6,7 +6,7 @@ use Rattle.slate_block.specs.RowReading.{key_v2_of, refusal, BeginsKeyV2}
 use Rattle.slate_block.proofs.Groups.{IsBytes}
 use Rattle.slate_block.proofs.ReadRows.{no_key_v2, begins_key_v2}
 use Rattle.slate_block.proofs.ReadingLaws.{refused_key}
-use Rattle.slate_block.proofs.Failing.{on_err}
+use Rattle.slate_types.proofs.Exits.{on_err}
 use Rattle.slate_block.proofs.codec_v2.SstRowCodecV2.decode_key_only.Goals as goal
 
 no_key : (c : goal.After-from_residual) → key_v2_of c.args.input.now ≡ Err c.in_err-key.field-0.0

@@ -9,7 +9,7 @@ use Rattle.slate_block.specs.BlockWalks.{ReadsLeft, TakesRead}
 use Rattle.slate_block.specs.GroupWalks.{left_back, restart_at}
 use Rattle.slate_block.proofs.SeekLaws.{step_left}
 use Rattle.slate_block.proofs.BackLaws.{no_rows_back, left_refused_or, more_groups, pop_some, pop_group, rows_held}
-use Rattle.slate_block.proofs.Failing.{on_err}
+use Rattle.slate_types.proofs.Exits.{on_err}
 use Rattle.slate_block.proofs.descending_block_iterator_v2.DescendingBlockIteratorV2.next_row.Goals as goal
 
 -- ---- a row is held

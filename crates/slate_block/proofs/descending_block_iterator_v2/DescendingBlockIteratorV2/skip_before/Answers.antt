@@ -9,7 +9,7 @@ use Rattle.slate_block.specs.GroupWalks.{left_back}
 use Rattle.slate_block.proofs.SeekLaws.{sought}
 use Rattle.slate_block.proofs.BackSteps.{back_of, kept_past, kept_read, kept_stops}
 use Rattle.slate_block.proofs.BackLaws.{past_back, refused_held, refused_or_behind}
-use Rattle.slate_block.proofs.Failing.{on_err}
+use Rattle.slate_types.proofs.Exits.{on_err}
 use Rattle.slate_block.proofs.descending_block_iterator_v2.DescendingBlockIteratorV2.skip_before.Goals as goal
 
 -- ---- some row of those held stays

@@ -16,7 +16,7 @@ use Rattle.slate_db.specs.Model.{CoreModel}
 use Rattle.slate_db.specs.View.{view_of}
 use Rattle.slate_db.specs.Sound.{IsKept}
 use Rattle.slate_db.specs.Whole.{IsWhole, LIMIT}
-use Rattle.slate_db.specs.Ids.{id_of}
+use Rattle.slate_txn.specs.Ids.{id_of}
 use Rattle.slate_db.proofs.Keeps.{same_model}
 use Rattle.slate_db.proofs.Journals.{apply_more}
 use Rattle.slate_db.proofs.Wholes.{after_begin, whole_begin, kept_begin, put_begun, taken_back}

@@ -1,11 +1,10 @@
 use Rattle.std.proofs.Common.{inl, ◌≡◌, ℕ, ◌++◌, List, false, map, refl, reverse, sym, ap, subst, ◌∙◌, arith}
 use Rattle.std.proofs.lemmas.Result.{err_from_is_err_and}
-use Rattle.slate_types.specs.Fold.{IsLawful, KeepsShort, fold_rows}
+use Rattle.slate_types.specs.Fold.{IsLawful, KeepsShort, fold_rows, operator_at}
 use Rattle.slate_types.specs.Outside.{IsCounted, Reach}
 use Rattle.slate_store.specs.Reach.{reach_of}
 use Rattle.slate_types.proofs.Reaching.{adds_none, later_none, reads_none, reads_of, reads_then}
 use Rattle.slate_mem.specs.Table.{newest}
-use Rattle.slate_txn.specs.State.{operator_at}
 use Rattle.slate_db.specs.Installs.{tables_of}
 use Rattle.slate_mem.specs.Lookup.{is_merge_among, newest_first}
 use Rattle.slate_db.specs.Model.{CoreModel, Rows}

@@ -9,7 +9,7 @@ use Rattle.slate_mem.specs.CommitRows.{commit_rows}
 use Rattle.slate_mem.specs.Kept.{IsWhole}
 use Rattle.slate_mem.proofs.PlaceLaws.{all-between}
 use Rattle.slate_mem.proofs.KeptLaws.{rows-listed, newest-single}
-use Rattle.slate_mem.proofs.Exits.{err_exit}
+use Rattle.slate_types.proofs.Exits.{err_exit}
 use Rattle.slate_mem.proofs.batch.WriteBatch.extract_entries.Goals as goal
 
 pub returns-clause-rows : goal.returns-clause-rows

@@ -3,7 +3,7 @@ use Rattle.std.proofs.lemmas.Result.{IfOk-from_err}
 use Rattle.slate_mem.specs.BatchModel.{BatchModel}
 use Rattle.slate_mem.specs.Batch.{batch_keys}
 use Rattle.slate_mem.proofs.KeptLaws.{keys-listed}
-use Rattle.slate_mem.proofs.Exits.{err_exit}
+use Rattle.slate_types.proofs.Exits.{err_exit}
 use Rattle.slate_mem.proofs.batch.WriteBatch.keys.Goals as goal
 
 pub returns-clause-keys : goal.returns-clause-keys

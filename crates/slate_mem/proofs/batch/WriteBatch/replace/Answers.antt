@@ -3,7 +3,7 @@ use Rattle.std.proofs.lemmas.Result.{IfOk-from_err}
 use Rattle.slate_mem.specs.BatchModel.{with_op, IsBatchOf}
 use Rattle.slate_mem.specs.contracts.batch.WriteBatch.{the_view}
 use Rattle.slate_mem.proofs.KeptLaws.{whole-set, view-set, batch_of_more}
-use Rattle.slate_mem.proofs.Exits.{err_exit}
+use Rattle.slate_types.proofs.Exits.{err_exit}
 use Rattle.slate_mem.proofs.batch.WriteBatch.replace.Goals as goal
 
 pub invariant_of-self-2 : goal.invariant_of-self-2

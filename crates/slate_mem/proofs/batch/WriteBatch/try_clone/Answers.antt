@@ -3,7 +3,7 @@ use Rattle.std.proofs.lemmas.Result.{IfOk-from_err}
 use Rattle.slate_mem.specs.contracts.WriteOpClone.TheImpl.{ghosts}
 use Rattle.slate_mem.specs.BatchModel.{BatchModel}
 use Rattle.slate_mem.proofs.KeptLaws.{AreSame, copied-listed, copied-whole}
-use Rattle.slate_mem.proofs.Exits.{err_exit}
+use Rattle.slate_types.proofs.Exits.{err_exit}
 use Rattle.slate_mem.proofs.batch.WriteBatch.try_clone.Goals as goal
 
 same-op : AreSame ghosts.is_clone

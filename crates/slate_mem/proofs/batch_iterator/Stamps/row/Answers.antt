@@ -1,5 +1,5 @@
 use Rattle.std.proofs.lemmas.Result.{IfOk-from_err}
-use Rattle.slate_mem.proofs.Exits.{err_exit}
+use Rattle.slate_types.proofs.Exits.{err_exit}
 use Rattle.slate_mem.proofs.batch_iterator.Stamps.row.Goals as goal
 
 pub returns-in_err-to_row-in-None : goal.returns-in_err-to_row-in-None

@@ -1,6 +1,6 @@
 use Rattle.std.proofs.Common.{refl}
 use Rattle.std.proofs.lemmas.Result.{IfOk-from_err}
-use Rattle.slate_mem.proofs.Exits.{err_exit}
+use Rattle.slate_types.proofs.Exits.{err_exit}
 use Rattle.slate_mem.proofs.key_range.KVTableInternalKeyRange.from_range.Goals as goal
 
 pub returns-in_err-start : goal.returns-in_err-start

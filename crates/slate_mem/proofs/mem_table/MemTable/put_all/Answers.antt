@@ -3,7 +3,7 @@ use Rattle.std.specs.Map.{values_of}
 use Rattle.std.proofs.lemmas.Result.{IfOk-from_err}
 use Rattle.slate_mem.specs.Table.{MemTableModel, put_rows}
 use Rattle.slate_mem.proofs.TableLaws.{rows-put-all, tied-keyed}
-use Rattle.slate_mem.proofs.Exits.{err_exit}
+use Rattle.slate_types.proofs.Exits.{err_exit}
 use Rattle.slate_mem.proofs.mem_table.MemTable.put_all.Goals as goal
 
 pub returns-clause-rows : goal.returns-clause-rows

@@ -5,7 +5,7 @@ use Rattle.slate_types.specs.Keys.{in_range}
 use Rattle.slate_types.specs.Iteration.{IsInOrder}
 use Rattle.slate_types.proofs.IterationLaws.{in_order_filtered}
 use Rattle.slate_mem.proofs.OrderLaws.{rows-ascend}
-use Rattle.slate_mem.proofs.Exits.{err_exit}
+use Rattle.slate_types.proofs.Exits.{err_exit}
 use Rattle.slate_mem.proofs.mem_table.MemTable.range.Goals as goal
 
 pub ordered-requires : goal.ordered-requires

@@ -7,7 +7,7 @@ use Rattle.std.specs.BTreeMap.Range.{entries_between}
 use Rattle.std.specs.declared.ops.Bound.TheVariants.{Included}
 use Rattle.slate_mem.specs.Table.{MemTableModel, newest, to_base}
 use Rattle.slate_mem.proofs.TableLaws.{newest-first, newest-listed, tied-keyed}
-use Rattle.slate_mem.proofs.Exits.{err_exit}
+use Rattle.slate_types.proofs.Exits.{err_exit}
 use Rattle.slate_mem.proofs.mem_table.MemTable.rows_of_key.Goals as goal
 
 pub rows_between-requires : goal.rows_between-requires
