@@ -1,5 +1,5 @@
 -- What stays consistent of a lying store as acts are noted.
-use Rattle.std.proofs.Common.{◌≡◌, suc, Bool, false, Some, Result, Ok, Err, ◌+◌, ◌++◌, ◌∷◌, [], ℕ, List, Option, length, ap, sym, ◌∙◌, refl, append_assoc, arith, subst, length-append}
+use Rattle.std.proofs.Common.{◌≡◌, suc, Bool, false, None, Some, Result, Ok, Err, ◌+◌, ◌++◌, ◌∷◌, [], ℕ, List, Option, length, ap, sym, ◌∙◌, refl, append_assoc, arith, subst, length-append}
 use Rattle.std.specs.Prelude.{map, OnOk}
 use Rattle.std.specs.Result.{is_err}
 use Rattle.std.proofs.lemmas.Bool.{true≢false}
@@ -8,8 +8,8 @@ use Rattle.slate_types.specs.Outside.{Objects}
 use Rattle.slate_store.specs.declared.lying_store.Noted.{Noted}
 use Rattle.slate_store.specs.declared.lying_store.Noted.TheVariants.{Put, Read, Len}
 use Rattle.slate_store.specs.declared.lying_store.StoreRead.{StoreRead}
-use Rattle.slate_store.specs.Store.{Act, part_of, object_at, len_of, with_object}
-use Rattle.slate_store.specs.Lying.{Chosen, LyingStoreModel, act_of, after_act, after_acts, reads_of, chosen_for, answer_as, IsAnswered, AreAnswered}
+use Rattle.slate_store.specs.Store.{Act, part_of, object_at, len_of, with_object, IsHonest}
+use Rattle.slate_store.specs.Lying.{Chosen, LyingStoreModel, told_objects, act_of, after_act, after_acts, reads_of, chosen_for, answer_as, IsAnswered, AreAnswered}
 use Rattle.slate_store.specs.Noted.{acts_of, places, IsConsistent}
 
 -- ---- one more act
@@ -110,6 +110,14 @@ keeps_read answers os noted reads read h is =
     (is ∙ ap (λ objects. answer_as (chosen_for (length (reads_of (acts_of noted reads)) + 1) answers) (part_of (object_at objects read.path) read.start read.len)) h.left)
 
 -- ---- as calls have it
+
+told-none : {A : Type 0} (x : A) → None ≡ Some x → ⊥
+told-none x e = cc
+
+-- what tells its objects has no chosen answers
+pub honest_answered : (cs : Chosen) (os : Objects) (acts : List Act) → AreAnswered cs [] acts → IsHonest (told_objects cs os) → AreAnswered [] [] acts
+honest_answered [] os acts h k = h
+honest_answered (c ∷ cs) os acts h k = absurd (told-none k.0 k.1)
 
 pub push_told : (after before now known : List Act) (act : Act) → after ≡ before ++ (act ∷ []) → before ≡ now → Some now ≡ Some known → Some after ≡ Some (known ++ (act ∷ []))
 push_told after before now known act push same is =

@@ -2,7 +2,7 @@
 ghost use Rattle.std.specs.Prelude.{◌≡◌, ◌+◌, ◌==◌, [], Some, map, length, IfOk};
 ghost use Rattle.std.specs.Option.{option_copied};
 ghost use Rattle.slate_store.specs.Lying.{act_of, answer_as, chosen_for, reads_of, AreAnswered};
-ghost use Rattle.slate_store.specs.Store.{object_at, part_of};
+ghost use Rattle.slate_store.specs.Store.{object_at, part_of, IsHonest};
 
 use crate::memory_store::{object_len, paths_of, put_object, read_object};
 use crate::{PathText, Store, StoreError};
@@ -20,7 +20,7 @@ pub struct StoreRead {
     pub bytes: Option<Bytes>,
 }
 
-/// An act as it is noted. Of a read its place alone is, since the reads stand beside.
+/// An act as it is noted. A read has its place alone here, since the reads stand beside.
 #[derive(Drop)]
 enum Noted {
     Put { path: PathText, bytes: Bytes },
@@ -71,6 +71,7 @@ impl LyingStore {
         ensures told { ⟦<LyingStore as Store>⟧.acts self.now ≡ Some self.now.acts }
         ensures reads { map act_of result.now ≡ reads_of self.now.acts }
         ensures answered { AreAnswered self.now.answers [] self.now.acts }
+        ensures honest { IsHonest (⟦<LyingStore as Store>⟧.objects self.now) → AreAnswered [] [] self.now.acts }
     {
         &self.reads
     }
