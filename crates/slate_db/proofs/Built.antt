@@ -13,7 +13,7 @@ use Rattle.slate_types.specs.Rows.{operand}
 use Rattle.slate_block.specs.BlockSpelling.{as_read}
 use Rattle.slate_block.specs.Building.{CanTake}
 use Rattle.slate_block.specs.ReadingLaws.{EachIsAByte}
-use Rattle.slate_store.specs.Store.{TakesPut, RefusesPut, with_object}
+use Rattle.slate_store.specs.Store.{Act, TakesPut, RefusesPut, with_object}
 use Rattle.slate_table.specs.declared.info.SsTableHandle.{SsTableHandle}
 use Rattle.slate_table.specs.declared.info.SsTableInfo.{SsTableInfo}
 use Rattle.slate_table.specs.InfoReading.{seen_info}
@@ -93,17 +93,17 @@ pub takes : (t : Ulid × List ℕ) (before after : Option Objects) → ((os : Ob
 takes t None after h = tt
 takes t (Some os) after h = h os refl
 
-pub may_take : (P : Ulid × List ℕ → Type 0) (t : Ulid × List ℕ) (before after : Option Objects) → P t → ((os : Objects) → before ≡ Some os → RefusesPut os (path_of root t.0.0) t.1 after) → MayTakeTable P before after
-may_take P t None after p h = tt
-may_take P t (Some os) after p h = by (h os refl)
-  where
-    by : (after ≡ Some os) ⊎ (after ≡ Some (with_object os (path_of root t.0.0) t.1)) → (after ≡ Some os) ⊎ ((x : Ulid × List ℕ) × P x × (after ≡ Some (with_object os (path_of root x.0.0) x.1)))
-    by (inl same) = inl same
-    by (inr taken) = inr (t, p, taken)
-
 pub may_keep : (P : Ulid × List ℕ → Type 0) (before after : Option Objects) → after ≡ before → MayTakeTable P before after
 may_keep P None after h = tt
 may_keep P (Some os) after h = inl h
+
+pub may_take : {S : Type 0} (P : Ulid × List ℕ → Type 0) (objects : S → Option Objects) (acts : S → Option (List Act)) (t : Ulid × List ℕ) (before after : S) → P t → RefusesPut objects acts (path_of root t.0.0) t.1 before after → MayTakeTable P (objects before) (objects after)
+may_take P objects acts t before after p (inl left) = may_keep P (objects before) (objects after) left.stands
+may_take P objects acts t before after p (inr took) = by (objects before) took.stands
+  where
+    by : (told : Option Objects) → ((os : Objects) → told ≡ Some os → TakesPut os (path_of root t.0.0) t.1 (objects after)) → MayTakeTable P told (objects after)
+    by None taken = tt
+    by (Some os) taken = inr (t, p, taken os refl)
 
 -- what is kept of a table has the info that its bytes have
 pub handle_of : (t : Ulid × List ℕ) (h : SsTableHandle) (version made : ℕ) (info : SsTableInfo) → (version ≡ 1) ⊎ (version ≡ 2) → h.id ≡ t.0 → h.info ≡ info → h.format_version ≡ made → made ≡ version → HasInfo t.1 version (seen_info info) → EachIsAByte t.1 → IsHandle t h

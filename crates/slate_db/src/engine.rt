@@ -377,7 +377,7 @@ impl Core {
             }
         };
         let found = answer(row);
-        if let Err(error) = note_get(&mut self.open, id, key, &found) {
+        if let Err(error) = note_get(self.alloc, &mut self.open, id, key, &found) {
             drop(found);
             return Err(SlateDBError::from(error));
         }

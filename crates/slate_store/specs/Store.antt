@@ -2,7 +2,8 @@
 --     with_object os path bytes      objects by their paths, rising, with one more
 --     AnswersRead, AnswersLen, AnswersList      the answers of a store that tells its objects
 --     IsRising paths      the paths rise in byte order, each once
---     TakesPut, RefusesPut      what a put that is taken or refused leaves, as the store then tells it
+--     TakesPut      what a put that is taken leaves, as the store then tells it
+--     RefusesPut      a put that is refused changed nothing and told nothing (LeftAlone), or was taken and told (TookPut)
 --     IsHonest objects, IsEmpty objects      premises on a store's objects, as it tells them
 --     HoldsAll os tables      the objects hold each of the tables
 --     KeepsReads acts      the store tells its acts
@@ -44,9 +45,6 @@ IsRising paths = IsStrictlySortedBy key_cmp paths
 abbrev pub TakesPut : Objects → List ℕ → List ℕ → Option Objects → Type 0
 TakesPut os path bytes after = after ≡ Some (with_object os path bytes)
 
-abbrev pub RefusesPut : Objects → List ℕ → List ℕ → Option Objects → Type 0
-RefusesPut os path bytes after = (after ≡ Some os) ⊎ TakesPut os path bytes after
-
 -- objects: what the store tells, and none where it doesn't. A store that tells its objects answers by them, as the
 -- calls of every store have it. So one that answers otherwise tells none.
 abbrev pub IsHonest : Option Objects → Type 0
@@ -68,6 +66,18 @@ KeepsReads acts = (known : List Act) × (acts ≡ Some known)
 -- nothing is asked of a store that doesn't tell its acts
 abbrev pub AddsAct : Option (List Act) → Act → Option (List Act) → Type 0
 AddsAct before act after = (known : List Act) → before ≡ Some known → after ≡ Some (known ++ (act ∷ []))
+
+-- objects, acts: what the store tells. Nothing is said of what it doesn't tell.
+pub record TookPut {S : Type 0} (objects : S → Option Objects) (acts : S → Option (List Act)) (path bytes : List ℕ) (before after : S) : Type 0 where
+  pub stands : (os : Objects) → objects before ≡ Some os → TakesPut os path bytes (objects after)
+  pub told : AddsAct (acts before) (Act.put path bytes) (acts after)
+
+pub record LeftAlone {S : Type 0} (objects : S → Option Objects) (acts : S → Option (List Act)) (before after : S) : Type 0 where
+  pub stands : objects after ≡ objects before
+  pub told : acts after ≡ acts before
+
+abbrev pub RefusesPut : {S : Type 0} → (S → Option Objects) → (S → Option (List Act)) → List ℕ → List ℕ → S → S → Type 0
+RefusesPut objects acts path bytes before after = LeftAlone objects acts before after ⊎ TookPut objects acts path bytes before after
 
 abbrev pub of_store : StoreError → SlateDBError
 of_store Failed = StoreFault

@@ -1,8 +1,8 @@
 //! A store in memory, whose calls fail where they are told to.
-ghost use Rattle.std.specs.Prelude.{◌≡◌, [], Some, None, IfOk, IsOkUnless};
+ghost use Rattle.std.specs.Prelude.{◌≡◌, [], Some, None, IfOk, OnOk, OnErr, IsOkUnless};
 ghost use Rattle.std.specs.BTreeMap.{keys};
 ghost use Rattle.std.specs.Option.{option_copied};
-ghost use Rattle.slate_store.specs.Store.{object_at, part_of, IsRising};
+ghost use Rattle.slate_store.specs.Store.{len_of, object_at, part_of, with_object, IsRising};
 
 use crate::faults::FaultPlan;
 use crate::{PathText, Store, StoreError};
@@ -50,17 +50,7 @@ impl Store for MemoryStore {
 
     fn put(&mut self, alloc: Global, path: &str, bytes: &[u8]) -> Result<(), StoreError> {
         self.plan.step()?;
-        let path = ByteStr::copy_from_str(alloc, path)?;
-        match Bytes::copy_from_slice(alloc, bytes) {
-            Ok(bytes) => {
-                drop(self.objects.insert(path, bytes)?);
-                Ok(())
-            }
-            Err(error) => {
-                drop(path);
-                Err(error.into())
-            }
-        }
+        put_object(alloc, &mut self.objects, path, bytes)
     }
 
     /// Copies no byte of the object: the answer shares its memory.
@@ -77,15 +67,36 @@ impl Store for MemoryStore {
 
     fn len(&mut self, alloc: Global, path: &str) -> Result<Option<u64>, StoreError> {
         self.plan.step()?;
-        match find(alloc, &self.objects, path)? {
-            Some(object) => Ok(Some(object.len() as u64)),
-            None => Ok(None),
-        }
+        Ok(object_len(alloc, &self.objects, path)?)
     }
 
     fn list(&mut self, alloc: Global) -> Result<Vec<PathText>, StoreError> {
         self.plan.step()?;
         paths_of(alloc, &self.objects)
+    }
+}
+
+/// Puts an object in place of one that was there. Where memory is wanting, nothing is done.
+pub(crate) fn put_object(
+    alloc: Global,
+    objects: &mut BTreeMap<ByteStr, Bytes>,
+    path: &str,
+    bytes: &[u8],
+) -> Result<(), StoreError>
+    ensures taken { OnOk result (objects.new.entries ≡ with_object objects.old.entries path.now bytes.now) }
+    ensures refused { OnErr result (objects.new.entries ≡ objects.old.entries) }
+    ensures memory { IsOkUnless result StoreError.OutOfMemory }
+{
+    let path = ByteStr::copy_from_str(alloc, path)?;
+    match Bytes::copy_from_slice(alloc, bytes) {
+        Ok(bytes) => {
+            drop(objects.insert(path, bytes)?);
+            Ok(())
+        }
+        Err(error) => {
+            drop(path);
+            Err(error.into())
+        }
     }
 }
 
@@ -101,8 +112,22 @@ fn find<'a>(
     Ok(objects.get(&path))
 }
 
+/// The length of the object at a path, and none of a missing one.
+pub(crate) fn object_len(
+    alloc: Global,
+    objects: &BTreeMap<ByteStr, Bytes>,
+    path: &str,
+) -> Result<Option<u64>, AllocError>
+    ensures { IfOk result (λ len. len ≡ len_of (object_at objects.now.entries path.now)) }
+{
+    match find(alloc, objects, path)? {
+        Some(object) => Ok(Some(object.len() as u64)),
+        None => Ok(None),
+    }
+}
+
 /// A range of the object at a path, and none of a missing one.
-fn read_object(
+pub(crate) fn read_object(
     alloc: Global,
     objects: &BTreeMap<ByteStr, Bytes>,
     path: &str,
@@ -130,7 +155,10 @@ fn range_of(object: &Bytes, start: u64, len: u64) -> Result<Option<Bytes>, Alloc
 }
 
 /// The paths of all objects, rising.
-fn paths_of(alloc: Global, objects: &BTreeMap<ByteStr, Bytes>) -> Result<Vec<PathText>, StoreError>
+pub(crate) fn paths_of(
+    alloc: Global,
+    objects: &BTreeMap<ByteStr, Bytes>,
+) -> Result<Vec<PathText>, StoreError>
     ensures paths { IfOk result (λ paths. paths.items ≡ keys objects.now) }
     ensures order { IfOk result (λ paths. IsRising paths.items) }
     ensures memory { IsOkUnless result StoreError.OutOfMemory }

@@ -27,12 +27,11 @@ pub trait Store: Drop {
     ghost faults: { Self → ℕ };
 
     /// Puts the bytes at the path, in place of an object that was there, and changes nothing else. A put that
-    /// is refused did that or nothing.
+    /// is refused did that and told it, or did nothing and told nothing.
     fn put(&mut self, alloc: Global, path: &str, bytes: &[u8]) -> Result<(), StoreError>
         ensures taken { (os : Objects) → objects self.old ≡ Some os → OnOk result (TakesPut os path.now bytes.now (objects self.new)) }
-        ensures refused { (os : Objects) → objects self.old ≡ Some os → OnErr result (RefusesPut os path.now bytes.now (objects self.new)) }
+        ensures refused { OnErr result (RefusesPut objects acts path.now bytes.now self.old self.new) }
         ensures act { OnOk result (AddsAct (acts self.old) (Act.put path.now bytes.now) (acts self.new)) }
-        ensures refused_act { OnErr result ((acts self.new ≡ acts self.old) ⊎ AddsAct (acts self.old) (Act.put path.now bytes.now) (acts self.new)) }
         ensures later { faults self.old ≤ faults self.new }
         ensures still { (result ≡ Err StoreError.Failed) ⊎ (faults self.new ≡ faults self.old) }
         ensures cause { result ≡ Err StoreError.Failed → Rose (faults self.old) (faults self.new) };

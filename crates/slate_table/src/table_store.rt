@@ -46,7 +46,7 @@ pub struct TableStore;
 
 impl TableStore {
     /// Puts a table at its path, by one put, and answers its handle. `StoreFault`, only where the store's count of faults rose,
-    /// or `OutOfMemory`; then the store is as it was, or has the table.
+    /// or `OutOfMemory`; then the store is as it was, or has the table and tells so.
     pub fn put_table<S: Store>(
         alloc: Global,
         store: &mut S,
@@ -58,9 +58,8 @@ impl TableStore {
         ensures info { IfOk result (λ handle. handle.info ≡ table.now.info) }
         ensures version { IfOk result (λ handle. handle.format_version ≡ table.now.version) }
         ensures taken { (os : Objects) → S.objects store.old ≡ Some os → OnOk result (TakesPut os (path_of root.now id.0) table.now.bytes (S.objects store.new)) }
-        ensures refused { (os : Objects) → S.objects store.old ≡ Some os → OnErr result (RefusesPut os (path_of root.now id.0) table.now.bytes (S.objects store.new)) }
+        ensures refused { OnErr result (RefusesPut S.objects S.acts (path_of root.now id.0) table.now.bytes store.old store.new) }
         ensures act { OnOk result (AddsAct (S.acts store.old) (Act.put (path_of root.now id.0) table.now.bytes) (S.acts store.new)) }
-        ensures refused_act { OnErr result ((S.acts store.new ≡ S.acts store.old) ⊎ AddsAct (S.acts store.old) (Act.put (path_of root.now id.0) table.now.bytes) (S.acts store.new)) }
         ensures cause { IfErr result (λ e. IsStoreFault (S.faults store.old) (S.faults store.new) e) }
         ensures later { S.faults store.old ≤ S.faults store.new }
         ensures still { (result ≡ Err SlateDBError.StoreFault) ⊎ (S.faults store.new ≡ S.faults store.old) }

@@ -1,5 +1,5 @@
 //! Open transactions.
-ghost use Rattle.std.specs.Prelude.{◌≡◌, ◌≤◌, ◌++◌, ◌∷◌, [], IfSome, option_map, OnOk, OnErr, IsOkUnless};
+ghost use Rattle.std.specs.Prelude.{◌≡◌, ◌≤◌, ◌++◌, ◌∷◌, [], IfOk, IfSome, option_map, OnOk, OnErr, IsOkUnless};
 ghost use Rattle.std.specs.BTreeMap.{insert_entry};
 ghost use Rattle.std.specs.List.{AllByRecursion};
 ghost use Rattle.slate_types.specs.declared.error.SlateDBError.{SlateDBError};
@@ -103,6 +103,7 @@ pub fn begin_of(items: &BTreeMap<Uuid, Open>, id: &Uuid) -> Option<u64>
 /// Notes a get of this key and its answer in the transcript of the open transaction with this id. Where memory is wanting
 /// nothing is noted.
 pub fn note_get(
+    alloc: Global,
     items: &mut BTreeMap<Uuid, Open>,
     id: &Uuid,
     key: Bytes,
@@ -111,13 +112,55 @@ pub fn note_get(
     ensures ok { OnOk result (items.new.entries ≡ update_named id.now (λ t. record t { transcript = t.transcript ++ steps.Get key answer.now ∷ [] }) items.old.entries) }
     ensures err { OnErr result (items.new.entries ≡ items.old.entries) }
 {
-    match answer.clone() {
+    match unshared(alloc, &key, answer) {
         Ok(answer) => note(items, id, TranscriptStep::Get { key, answer }),
         Err(error) => {
             drop(key);
             Err(error)
         }
     }
+}
+
+/// The same answer without the buffers that it came in, of which it may be a small part. Its key shares `key` where they are equal.
+fn unshared(
+    alloc: Global,
+    key: &Bytes,
+    answer: &Option<KeyValue>,
+) -> Result<Option<KeyValue>, AllocError>
+    ensures { IfOk result (λ same. same ≡ answer.now) }
+{
+    match answer {
+        Some(row) => unshared_row(alloc, key, row).map(Some),
+        None => Ok(None),
+    }
+}
+
+fn unshared_row(alloc: Global, key: &Bytes, row: &KeyValue) -> Result<KeyValue, AllocError>
+    ensures { IfOk result (λ same. same ≡ row.now) }
+{
+    let value = Bytes::copy_from_slice(alloc, row.value.as_slice())?;
+    match unshared_key(alloc, key, &row.key) {
+        Ok(key) => Ok(KeyValue {
+            key,
+            value,
+            seq: row.seq,
+            create_ts: row.create_ts,
+            expire_ts: row.expire_ts,
+        }),
+        Err(error) => {
+            drop(value);
+            Err(error)
+        }
+    }
+}
+
+fn unshared_key(alloc: Global, key: &Bytes, same: &Bytes) -> Result<Bytes, AllocError>
+    ensures { IfOk result (λ own. own ≡ same.now) }
+{
+    if key == same {
+        return key.clone();
+    }
+    Bytes::copy_from_slice(alloc, same.as_slice())
 }
 
 /// Adds a step to the transcript of the open transaction with this id. Where memory is wanting nothing is added.

@@ -32,7 +32,7 @@ returns-in_err-handle g c =
       refused = (λ encode layout number barrier layers is.
           let p = err_from_is_err_and c.from_residual-in_err-handle.result c.from_residual-in_err-handle.ensures.1 in
           rw p.1
-          (may_take (IsTableOfFlush encode layout number barrier layers) (c.args.id, c.args.table.now.bytes) (g.S.Store.objects c.args.store.now) (g.S.Store.objects c.put_table.new.store) is (λ os h. c.in_err-handle.ensures.refused os h)));
+          (may_take (IsTableOfFlush encode layout number barrier layers) g.S.Store.objects g.S.Store.acts (c.args.id, c.args.table.now.bytes) c.args.store.now c.put_table.new.store is c.in_err-handle.ensures.refused));
       cause = rw (p.1, p.2) c.in_err-handle.ensures.cause;
       later = c.put_table.ensures.later;
     }

@@ -17,14 +17,14 @@ returns-in_err-step c =
       cause = λ e. subst (λ s. Rose s.faults c.step.new.self.faults.count) c.self.view_is c.in_err-step.ensures.cause;
     }
 
-pub returns-in_err-object : goal.returns-in_err-object
-returns-in_err-object c =
+pub returns-in_err-object_len : goal.returns-in_err-object_len
+returns-in_err-object_len c =
     record {
-      answer = λ os is. IfOk-from_err c.from_residual-in_err-object.result _ c.from_residual-in_err-object.ensures.0;
+      answer = λ os is. IfOk-from_err c.from_residual-in_err-object_len.result _ c.from_residual-in_err-object_len.ensures.0;
       objects = ap (λ s. Some s.objects) c.self.view_is;
-      act = IfOk-from_err c.from_residual-in_err-object.result _ c.from_residual-in_err-object.ensures.0;
-      refused_act = on_err c.from_residual-in_err-object.result refl;
+      act = IfOk-from_err c.from_residual-in_err-object_len.result _ c.from_residual-in_err-object_len.ensures.0;
+      refused_act = on_err c.from_residual-in_err-object_len.result refl;
       later = subst (λ s. s.faults ≤ c.step.new.self.faults.count) c.self.view_is c.in_ok-step.ensures.later;
       still = inr (c.in_ok-step.ensures.still ∙ ap (λ s. s.faults) c.self.view_is);
-      cause = λ e. absurd (no_fault c.from_residual-in_err-object.result c.from_residual-in_err-object.ensures.1 e);
+      cause = λ e. absurd (no_fault c.from_residual-in_err-object_len.result c.from_residual-in_err-object_len.ensures.1 e);
     }

@@ -13,10 +13,9 @@ returns-in-Ok g c =
       taken = (λ os told.
           let path : c.as_str.result.now ≡ path_of c.args.root.now c.args.id.0 = c.as_str.ensures.value ∙ c.in_ok-path.ensures.path in
           rw (path, c.as_slice.ensures) at (c.in-Ok.ensures.taken os told));
-      refused = λ os told. tt;
+      refused = tt;
       act = (let path : c.as_str.result.now ≡ path_of c.args.root.now c.args.id.0 = c.as_str.ensures.value ∙ c.in_ok-path.ensures.path in
           rw (path, c.as_slice.ensures) at c.in-Ok.ensures.act);
-      refused_act = tt;
       cause = tt;
       later = c.put.ensures.later;
       still = inr (read_still _ c.in-Ok.ensures.still);
@@ -29,12 +28,9 @@ returns g c =
       info = tt;
       version = tt;
       taken = λ os told. tt;
-      refused = (λ os told.
-          let path : c.as_str.result.now ≡ path_of c.args.root.now c.args.id.0 = c.as_str.ensures.value ∙ c.in_ok-path.ensures.path in
-          rw (path, c.as_slice.ensures) at (c.in-Err.ensures.refused os told));
+      refused = (let path : c.as_str.result.now ≡ path_of c.args.root.now c.args.id.0 = c.as_str.ensures.value ∙ c.in_ok-path.ensures.path in
+          rw (path, c.as_slice.ensures) at c.in-Err.ensures.refused);
       act = tt;
-      refused_act = (let path : c.as_str.result.now ≡ path_of c.args.root.now c.args.id.0 = c.as_str.ensures.value ∙ c.in_ok-path.ensures.path in
-          rw (path, c.as_slice.ensures) at c.in-Err.ensures.refused_act);
       cause = rw c.from.ensures (store_fault c.in-Err.error _ _ c.in-Err.ensures.cause);
       later = c.put.ensures.later;
       still = rw c.from.ensures (store_failed c.in-Err.error c.in-Err.ensures.still);
@@ -48,9 +44,8 @@ returns-in_err-path g c =
       info = IfOk-from_err c.from_residual.result _ c.from_residual.ensures.0;
       version = IfOk-from_err c.from_residual.result _ c.from_residual.ensures.0;
       taken = λ os told. IfOk-from_err c.from_residual.result _ c.from_residual.ensures.0;
-      refused = λ os told. on_err c.from_residual.result (inl told);
+      refused = on_err c.from_residual.result (inl (record { stands = refl; told = refl }));
       act = IfOk-from_err c.from_residual.result _ c.from_residual.ensures.0;
-      refused_act = on_err c.from_residual.result (inl refl);
       cause = rw (p.1, p.2) (inl c.in_err-path.ensures.cause);
       later = omega arith;
       still = inr refl;
@@ -64,9 +59,8 @@ returns-in_err-info g c =
       info = IfOk-from_err c.from_residual-in_err-info.result _ c.from_residual-in_err-info.ensures.0;
       version = IfOk-from_err c.from_residual-in_err-info.result _ c.from_residual-in_err-info.ensures.0;
       taken = λ os told. IfOk-from_err c.from_residual-in_err-info.result _ c.from_residual-in_err-info.ensures.0;
-      refused = λ os told. on_err c.from_residual-in_err-info.result (inl told);
+      refused = on_err c.from_residual-in_err-info.result (inl (record { stands = refl; told = refl }));
       act = IfOk-from_err c.from_residual-in_err-info.result _ c.from_residual-in_err-info.ensures.0;
-      refused_act = on_err c.from_residual-in_err-info.result (inl refl);
       cause = rw (p.1, p.2) (inl refl);
       later = omega arith;
       still = inr refl;
