@@ -8,5 +8,5 @@
 pub mod engine;
 pub mod flush;
 pub mod gather;
-pub mod stored;
+pub mod lookup;
 pub mod vectors;

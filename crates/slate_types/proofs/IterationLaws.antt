@@ -3,7 +3,7 @@ use Rattle.std.proofs.Common.{◌≡◌, ℕ, Bool, true, false, List, [], ◌�
 use Rattle.slate_types.specs.declared.types.RowEntry.{RowEntry}
 use Rattle.slate_types.specs.declared.iter.IterationOrder.{IterationOrder}
 use Rattle.slate_types.specs.declared.iter.IterationOrder.TheVariants.{Ascending, Descending}
-use Rattle.slate_types.specs.Iteration.{comes_before, drop_before, begins_before, NoneBefore, IsInOrder, TakesRow}
+use Rattle.slate_types.specs.Iteration.{comes_before, drop_before, begins_before, NoneBefore, IsInOrder, Steps, TakesRow}
 use Rattle.slate_types.proofs.KeyOrder.{not-lt-trans}
 use Rattle.std.proofs.lemmas.Bool.{cases_Bool}
 
@@ -96,3 +96,8 @@ seek_filters order key (row ∷ rows) h =
       | inl before ↦ rw before (seek_filters order key rows h.1)
       | inr after ↦ rw after (sym (ap (λ rest. row ∷ rest) (kept order key rows (none_before_earlier order key row.key rows after h.0))))
     ]
+
+-- one step more
+pub steps_more : {A : Type 0} (step : A → Option RowEntry → A → Type 0) (before now after : A) (rows : List RowEntry) (row : RowEntry) → Steps step before rows now → step now (Some row) after → Steps step before (rows ++ (row ∷ [])) after
+steps_more step before now after [] row s t = (after, subst (λ x. step x (Some row) after) (sym s) t, refl)
+steps_more step before now after (first ∷ rows) row s t = (s.0, s.1, steps_more step s.0 now after rows row s.2 t)

@@ -4,6 +4,7 @@
 --     drop_before order key rows      the rows without the leading ones that the order puts before the key
 --     IsInOrder order rows      no row's key comes before an earlier one's
 --     TakesRow rows answer after      the answer is the first row, or there is none
+--     Steps step before rows after      steps that answer these rows, one by one
 --     RowList      rows with an order
 use Rattle.std.specs.Prelude.{ℕ, ◌≡◌, List, [], ◌∷◌, Bool, false, if◌then◌else◌, reverse, Option, Some, None}
 use Rattle.slate_types.specs.declared.types.RowEntry.{RowEntry}
@@ -35,6 +36,11 @@ IsInOrder order (row ∷ rows) = NoneBefore order row.key rows × IsInOrder orde
 abbrev pub TakesRow : List RowEntry → Option RowEntry → List RowEntry → Type 0
 TakesRow rows None after = (rows ≡ []) × (after ≡ [])
 TakesRow rows (Some row) after = rows ≡ row ∷ after
+
+-- step: what one call may answer, and what becomes of the iterator then
+abbrev pub Steps : {A : Type 0} → (A → Option RowEntry → A → Type 0) → A → List RowEntry → A → Type 0
+Steps {A} step before [] after = before ≡ after
+Steps {A} step before (row ∷ rows) after = (next : A) × step before (Some row) next × Steps step next rows after
 
 -- the order puts the first row before a key
 abbrev pub begins_before : IterationOrder → List ℕ → List RowEntry → Bool
