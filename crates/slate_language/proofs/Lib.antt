@@ -1,6 +1,7 @@
 pub mod ParseLaws
 pub mod ParseOnly
 pub mod TokenLaws
+pub mod SpelledLaws
 pub mod OpLaws
 pub mod BuiltLaws
 pub mod TextLaws

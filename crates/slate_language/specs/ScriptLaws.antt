@@ -8,7 +8,9 @@ use Rattle.slate_txn.specs.declared.line.Line.{Line}
 use Rattle.slate_txn.specs.State.{Rules, opening}
 use Rattle.slate_txn.specs.Laws.{is_storage, other_answers}
 use Rattle.slate_language.specs.Parts.{concat, greater, xored}
-use Rattle.slate_language.specs.Grammar.{IsLine}
+use Rattle.slate_types.specs.Keys.{AreBytes}
+use Rattle.slate_language.specs.Text.{shown_bytes}
+use Rattle.slate_language.specs.Grammar.{IsBytes, IsLine}
 use Rattle.slate_language.specs.Parse.{parse}
 use Rattle.slate_language.specs.Stage.{IsBuiltLine, meaning}
 use Rattle.slate_language.specs.Words.{read_words}
@@ -25,6 +27,10 @@ ReadsNothingElse = (bytes : List ℕ) (line : Line) → parse bytes ≡ Some lin
 -- A line that is built is read with its meaning, and nothing else is.
 abbrev pub ReadsWhatIsBuilt : Type 0
 ReadsWhatIsBuilt = (bytes : List ℕ) (line : Line) → IsBuiltLine bytes line ↔ (meaning bytes ≡ Some line)
+
+-- What bytes are shown as spells them.
+abbrev pub ReadsWhatIsShown : Type 0
+ReadsWhatIsShown = (v : List ℕ) → AreBytes v → IsBytes (shown_bytes v) v
 
 -- No bytes have two meanings.
 abbrev pub HasOneMeaning : Type 0

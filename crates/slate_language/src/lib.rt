@@ -18,6 +18,7 @@ pub use parse::parse_line;
 pub use parts::Xor;
 pub use reply::{Answer, reply_text};
 pub use text::show;
+pub use token::{is_word, read_bytes, read_moment, read_name, read_number, split_tokens};
 pub use words::{Settings, parse_words};
 
 fn crosses<T: Send + Sync>() {}

@@ -5,7 +5,7 @@ ghost use Rattle.slate_language.specs.Stage.{meaning};
 ghost use Rattle.slate_language.specs.Built.{texts, built_level, keyword, built_now, built_begin, built_get, built_rollback, built_put, built_delete, built_op, built_ops, built_write, built_alone, built_as, built_tokens, is_op_word, keyword_among};
 ghost use Rattle.slate_language.specs.Replies.{is_silent};
 
-use crate::token::{is_word, read_bytes, read_moment, read_name, read_ttl};
+use crate::token::{is_word, read_bytes, read_moment, read_name, read_ttl, split_tokens};
 use bytes::Bytes;
 use slate_mem::WriteOp;
 use slate_txn::{Line, OpList};
@@ -56,13 +56,6 @@ fn read_text(alloc: Global, text: &[u8]) -> Result<Option<Line>, AllocError>
     let line = read_line(alloc, tokens.as_slice());
     drop(tokens);
     line
-}
-
-/// The bytes between single spaces.
-fn split_tokens(alloc: Global, line: &[u8]) -> Result<Vec<&[u8]>, AllocError>
-    ensures tokens { IfOk result (λ v. texts v.items ≡ tokens_of line.now) }
-{
-    line.split(|byte| *byte == b' ').collect(alloc)
 }
 
 /// The line that the tokens mean, if any.

@@ -1,5 +1,5 @@
 //! The laws of lines, of replies, of the words of a run, and of the parts that words can name. Each is proved of all values, and no call does anything.
-ghost use Rattle.slate_language.specs.ScriptLaws.{ConcatIsLawful, CutsALine, EmptyIsSilent, GreaterIsLawful, HasOneMeaning, ReadsNothingElse, ReadsTheGrammar, ReadsWhatIsBuilt, StoringIsSilent, WordsInAnyOrder, XorIsLawful};
+ghost use Rattle.slate_language.specs.ScriptLaws.{ConcatIsLawful, CutsALine, EmptyIsSilent, GreaterIsLawful, HasOneMeaning, ReadsNothingElse, ReadsTheGrammar, ReadsWhatIsBuilt, ReadsWhatIsShown, StoringIsSilent, WordsInAnyOrder, XorIsLawful};
 
 /// What the grammar has is read, with its meaning.
 pub fn reads_the_grammar()
@@ -14,6 +14,11 @@ pub fn reads_nothing_else()
 /// A line that is built is read with its meaning, and nothing else is.
 pub fn reads_what_is_built()
     ensures { ReadsWhatIsBuilt }
+{}
+
+/// What bytes are shown as spells them.
+pub fn reads_what_is_shown()
+    ensures { ReadsWhatIsShown }
 {}
 
 /// No bytes have two meanings.

@@ -1,11 +1,11 @@
-//! What single tokens of a line mean.
-ghost use Rattle.std.specs.Prelude.{◌≡◌, IfOk, bytes_eq};
-ghost use Rattle.std.specs.List.{list_all};
+//! The tokens of a line, and what single ones spell.
+ghost use Rattle.std.specs.Prelude.{◌≡◌, ◌↔◌, ℕ, ℤ, List, Some, IfOk, bytes_eq};
+ghost use Rattle.std.specs.List.{list_all, join_with_byte};
 ghost use Rattle.std.specs.Option.{option_copied};
 ghost use Rattle.slate_language.specs.Text.{is_visible};
-ghost use Rattle.slate_language.specs.Grammar.{is_name_byte};
-ghost use Rattle.slate_language.specs.Parse.{only_if, unhex, read_bytes, read_number, read_moment, read_name, read_ttl_token};
-ghost use Rattle.slate_language.specs.Built.{is_name, is_digit, is_numeral, is_moment_text, is_hex_digit};
+ghost use Rattle.slate_language.specs.Grammar.{IsBytes, IsMoment, IsName, IsNumber, is_name_byte};
+ghost use Rattle.slate_language.specs.Parse.{only_if, unhex, tokens_of, read_bytes, read_number, read_moment, read_name, read_ttl_token};
+ghost use Rattle.slate_language.specs.Built.{texts, is_name, is_digit, is_numeral, is_moment_text, is_hex_digit};
 
 use crate::text::is_visible;
 use bytes::Bytes;
@@ -16,6 +16,14 @@ use std::alloc::{AllocError, Global};
 /// The most bytes of a name.
 const MAX_NAME_LEN: usize = 64;
 
+/// The bytes between single spaces.
+pub fn split_tokens(alloc: Global, line: &[u8]) -> Result<Vec<&[u8]>, AllocError>
+    ensures tokens { IfOk result (λ v. texts v.items ≡ tokens_of line.now) }
+    ensures joined { IfOk result (λ v. join_with_byte 32 (texts v.items) ≡ line.now) }
+{
+    line.split(|byte| *byte == b' ').collect(alloc)
+}
+
 /// Whether the token is this word.
 pub fn is_word(token: &[u8], word: &[u8]) -> bool
     ensures { result ≡ bytes_eq token.now word.now }
@@ -23,9 +31,11 @@ pub fn is_word(token: &[u8], word: &[u8]) -> bool
     token == word
 }
 
-/// A name: letters and digits.
-pub(crate) fn read_name(token: &[u8]) -> Option<&[u8]>
-    ensures { option_copied result ≡ read_name token.now }
+/// The token, where it is a name: 1 to 64 letters and digits.
+#[tactic(auto, using(crate::proofs::SpelledLaws::name_spelled))]
+pub fn read_name(token: &[u8]) -> Option<&[u8]>
+    ensures name { option_copied result ≡ read_name token.now }
+    ensures spelled { IsName token.now ↔ (option_copied result ≡ Some token.now) }
 {
     is_name(token).then_some(token)
 }
@@ -42,8 +52,15 @@ fn is_alphanumeric(bytes: &[u8]) -> bool
     bytes.iter().all(|byte| byte.is_ascii_alphanumeric())
 }
 
-/// The bytes of a byte token: text behind `'`, or pairs of hex digits behind `0x`.
-pub(crate) fn read_bytes(alloc: Global, token: &[u8]) -> Result<Option<Bytes>, AllocError>
+/// The bytes that the token spells, if any: text behind `'`, or pairs of lower-case hex digits behind `0x`.
+pub fn read_bytes(alloc: Global, token: &[u8]) -> Result<Option<Bytes>, AllocError>
+    ensures bytes { IfOk result (λ o. o ≡ read_bytes token.now) }
+    ensures spelled { IfOk result (λ o. (v : List ℕ) → IsBytes token.now v ↔ (o ≡ Some v)) }
+{
+    read_text_or_hex(alloc, token)
+}
+
+fn read_text_or_hex(alloc: Global, token: &[u8]) -> Result<Option<Bytes>, AllocError>
     ensures bytes { IfOk result (λ o. o ≡ read_bytes token.now) }
 {
     match token {
@@ -86,9 +103,10 @@ fn is_hex(digits: &[u8]) -> bool
         .all(|digit| matches!(digit, b'0'..=b'9' | b'a'..=b'f'))
 }
 
-/// A number of 64 bits.
+/// The number of 64 bits that the token spells, if any: digits, with no zero before others.
 pub fn read_number(token: &[u8]) -> Option<u64>
-    ensures { result ≡ read_number token.now }
+    ensures number { result ≡ read_number token.now }
+    ensures spelled { (n : ℕ) → IsNumber token.now n ↔ (result ≡ Some n) }
 {
     if !is_numeral(token) {
         return None;
@@ -99,9 +117,10 @@ pub fn read_number(token: &[u8]) -> Option<u64>
     }
 }
 
-/// A moment: a number of 63 bits, or `-` and one that isn't 0 or one more than that.
-pub(crate) fn read_moment(token: &[u8]) -> Option<i64>
-    ensures { result ≡ read_moment token.now }
+/// The moment that the token spells, if any: a number of 63 bits, or `-` and one that isn't 0 or one more than that.
+pub fn read_moment(token: &[u8]) -> Option<i64>
+    ensures moment { result ≡ read_moment token.now }
+    ensures spelled { (z : ℤ) → IsMoment token.now z ↔ (result ≡ Some z) }
 {
     if !is_moment_text(token) {
         return None;
