@@ -1,5 +1,5 @@
 -- What is read of a token is what it spells.
-use Rattle.std.proofs.Common.{◌≡◌, ℕ, ℤ, List, Option, Some, Bool, true, false, cond, ◌∷◌, ◌++◌, inl, inr, codes, Result, Ok, Err, IfOk, sym, ap, refl, ◌∙◌}
+use Rattle.std.proofs.Common.{◌≡◌, ℕ, ℤ, List, Option, Some, Bool, true, false, cond, ◌∷◌, ◌++◌, inl, inr, codes, Result, Ok, Err, IfOk, sym, refl, ◌∙◌}
 use Rattle.std.specs.Prelude.{◌↔◌}
 use Rattle.std.specs.List.{list_all}
 use Rattle.slate_types.specs.Keys.{AreBytes}

@@ -53,10 +53,15 @@ fn is_alphanumeric(bytes: &[u8]) -> bool
 }
 
 /// The bytes that the token spells, if any: text behind `'`, or pairs of lower-case hex digits behind `0x`.
-#[tactic(auto, using(crate::proofs::SpelledLaws::bytes_spelled))]
 pub fn read_bytes(alloc: Global, token: &[u8]) -> Result<Option<Bytes>, AllocError>
     ensures bytes { IfOk result (λ o. o ≡ read_bytes token.now) }
     ensures spelled { IfOk result (λ o. (v : List ℕ) → IsBytes token.now v ↔ (o ≡ Some v)) }
+{
+    read_text_or_hex(alloc, token)
+}
+
+fn read_text_or_hex(alloc: Global, token: &[u8]) -> Result<Option<Bytes>, AllocError>
+    ensures bytes { IfOk result (λ o. o ≡ read_bytes token.now) }
 {
     match token {
         [b'\'', text @ ..] => read_text(alloc, text),

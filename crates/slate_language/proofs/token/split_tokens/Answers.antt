@@ -1,4 +1,4 @@
-use Rattle.std.proofs.Common.{◌≡◌, ℕ, List, Result, Ok, Err, IfOk, ap, ◌∙◌, ◌==◌, rules, tests}
+use Rattle.std.proofs.Common.{◌≡◌, IfOk, ap, ◌∙◌, ◌==◌, rules, tests}
 use Rattle.std.specs.List.{join_with_byte}
 use Rattle.std.proofs.lemmas.Iterator.Consumers.{map_from_collect}
 use Rattle.std.proofs.lemmas.Iterator.Splits.{YieldsList-from_slice_split}

@@ -3,7 +3,7 @@ use Rattle.std.proofs.lemmas.Result.{err_from_is_err_and, IfOk-from_err, IfOk-we
 use Rattle.slate_table.specs.IndexValue.{entries_of}
 use Rattle.slate_table.specs.SectionReading.{changed_by}
 use Rattle.slate_block.specs.EitherVersion.{left_of}
-use Rattle.slate_types.proofs.Calls.{if_ok, if_err, only_reads}
+use Rattle.slate_types.proofs.Calls.{only_reads}
 use Rattle.slate_read.proofs.Openings.{call_of, call_once, meaning_of, section_refused, rows_refused, block_opened}
 use Rattle.slate_read.proofs.table_walk.open_block.Goals as goal
 
