@@ -1,7 +1,5 @@
 mod Lists
-mod Begins
 mod Journals
-mod IdLaws
 mod Split
 mod Short
 mod Folds
@@ -9,7 +7,11 @@ mod AllRows
 mod Kept
 pub mod Keeps
 mod Quiet
+mod Logs
+mod LogViews
+mod MemoryLayers
 mod Wholes
+mod Calls
 mod Writes
 mod Puts
 mod Versions

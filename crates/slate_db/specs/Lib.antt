@@ -6,6 +6,8 @@ pub mod Installs
 pub mod Sound
 pub mod StoredState
 pub mod Ids
+pub mod Log
+pub mod Layers
 pub mod Whole
 pub mod Frozen
 pub mod Load

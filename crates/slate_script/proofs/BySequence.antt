@@ -8,7 +8,7 @@ use Rattle.std.proofs.lemmas.List.Elements.{filter-append}
 use Rattle.slate_types.specs.declared.types.RowEntry.{RowEntry}
 use Rattle.slate_table.specs.Stored.{insert_row, by_seq}
 use Rattle.slate_db.specs.Model.{Rows, of_key, versions, versions_in}
-use Rattle.slate_db.specs.Whole.{AreRising}
+use Rattle.slate_db.specs.Layers.{AreRising}
 
 -- ---- each row
 

@@ -11,7 +11,7 @@ use Rattle.slate_db.specs.Lookup.{IsDamage as IsTableDamage}
 use Rattle.slate_db.specs.Readable.{IsAnswered, IsReadError}
 use Rattle.slate_db.specs.Model.{Rows}
 use Rattle.slate_db.specs.Parts.{IsDamage}
-use Rattle.slate_db.specs.Whole.{LIMIT}
+use Rattle.slate_db.specs.Log.{LIMIT}
 use Rattle.slate_script.specs.Session.{SessionModel, IsLimit, IsSettled, IsSettledIn}
 
 two-at-most : (active : Rows) (layers : List Rows) → events_of_flush active layers ≤ 2

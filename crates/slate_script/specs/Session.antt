@@ -36,7 +36,8 @@ use Rattle.slate_db.specs.Installs.{HoldsTables, NumberedFrom, tables_of}
 use Rattle.slate_db.specs.Meaning.{Meaning, IsLawfulMeaning, rules_of}
 use Rattle.slate_db.specs.Model.{CoreModel, Rows, of_key, versions_in}
 use Rattle.slate_db.specs.Sound.{IsKept, AreTables}
-use Rattle.slate_db.specs.Whole.{AreRising, LIMIT}
+use Rattle.slate_db.specs.Layers.{AreRising}
+use Rattle.slate_db.specs.Log.{LIMIT}
 use Rattle.slate_txn.specs.declared.reply.Answer.{Answer}
 use Rattle.slate_txn.specs.Answers.{reply_of}
 use Rattle.slate_txn.specs.Grammar.{is_moment}
