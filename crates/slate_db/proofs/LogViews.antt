@@ -5,7 +5,7 @@ use Rattle.slate_txn.specs.JournalModel.{JournalModel}
 use Rattle.slate_txn.specs.Replay.{replay, apply}
 use Rattle.slate_txn.specs.State.{Commit, opening}
 use Rattle.slate_db.specs.declared.log.Log.TheInside.{Inside}
-use Rattle.slate_db.specs.View.{log_view}
+use Rattle.slate_db.specs.LogView.{log_view}
 use Rattle.slate_db.proofs.Journals.{apply_more}
 
 -- room was made

@@ -14,6 +14,8 @@ pub mod Load
 pub mod Flushed
 pub mod Written
 pub mod Lookup
+pub mod LogView
+pub mod LayersView
 pub mod View
 pub mod Vectors
 pub mod Parts

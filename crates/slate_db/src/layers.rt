@@ -28,7 +28,7 @@ pub struct Layers {
 
 impl Model for Layers {
     ghost use Rattle.slate_db.specs.Layers.{LayersModel, AreLayers};
-    ghost use Rattle.slate_db.specs.View.{layers_view};
+    ghost use Rattle.slate_db.specs.LayersView.{layers_view};
 
     ghost Value = { LayersModel };
 

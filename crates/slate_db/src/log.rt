@@ -38,7 +38,7 @@ pub struct Log {
 
 impl Model for Log {
     ghost use Rattle.slate_db.specs.Log.{LogModel, IsLog};
-    ghost use Rattle.slate_db.specs.View.{log_view};
+    ghost use Rattle.slate_db.specs.LogView.{log_view};
 
     ghost Value = { LogModel };
 

@@ -27,8 +27,8 @@ begin-requires c = record {
 pub push_begin-requires : goal.push_begin-requires
 push_begin-requires c = record { next = c.next_id-id.ensures; place = c.in_ok-place.ensures.place }
 
-pub invariant_of-self-2 : goal.invariant_of-self-2
-invariant_of-self-2 c =
+pub invariant_of-self-in_default : goal.invariant_of-self-in_default
+invariant_of-self-in_default c =
     subst IsWholeInside (begun_is c.self.inside c.push_begin.new.self c.begin.new.self c.args.level c.next_id-id.result c.last-start.result c.next_id-id.ensures c.last-start.ensures c.in_default.ensures.value c.in_ok-begin.ensures.ok)
     (whole_begin (view_of c.self.inside) (unseen_of c.self.inside) c.args.level c.push_begin.new.self.spare (subst IsLog c.in_default.ensures.value c.push_begin.ensures.whole) c.self.invariant)
 

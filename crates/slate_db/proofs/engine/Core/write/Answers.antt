@@ -82,8 +82,8 @@ higher n m h = omega arith
 pub put-requires : goal.put-requires
 put-requires c =
     let n : ℕ = c.self.inside.log.last in
-    let rows : c.in_ok-rows.field-0.0.items ≡ commit_rows plain c.self.inside.default_millis (n + 1) c.args.now c.args.batch.ops =
-    made plain c.self.inside.default_millis (n + 1) (c.last-2.result + 1) _ c.args.now c.args.batch.ops c.in_ok-rows.field-0.0.items (c.in_ok-rows.ensures.rows plain) (ap (λ n. n + 1) (c.last-2.ensures ∙ ap (λ (l : LogModel). l.last) c.reserve.ensures.value)) (to_z-of_z w64 c.args.now c.ranges.now) in
+    let rows : c.in_ok-rows.rows.items ≡ commit_rows plain c.self.inside.default_millis (n + 1) c.args.now c.args.batch.ops =
+    made plain c.self.inside.default_millis (n + 1) (c.last-seq.result + 1) _ c.args.now c.args.batch.ops c.in_ok-rows.rows.items (c.in_ok-rows.ensures.rows plain) (ap (λ n. n + 1) (c.last-seq.ensures ∙ ap (λ (l : LogModel). l.last) c.reserve.ensures.value)) (to_z-of_z w64 c.args.now c.ranges.now) in
     record {
       fit = subst (AllByRecursion FitsMemory) (sym rows) (commit_fits plain c.self.inside.default_millis (n + 1) c.args.now c.args.batch.ops c.ops.ensures.fine (c.ops.ensures.plain c.requires));
       rise = λ k. subst (λ (rows : Rows). AreRising (versions_in k (c.self.inside.layers.frozen ++ (put_rows c.self.inside.layers.active rows ∷ [])))) (sym rows)
@@ -100,8 +100,8 @@ push_write-requires c = record {
 pub invariant_of-self-2 : goal.invariant_of-self-2
 invariant_of-self-2 c =
     let n : ℕ = c.self.inside.log.last in
-    let rows : c.in_ok-rows.field-0.0.items ≡ commit_rows plain c.self.inside.default_millis (n + 1) c.args.now c.args.batch.ops =
-    made plain c.self.inside.default_millis (n + 1) (c.last-2.result + 1) _ c.args.now c.args.batch.ops c.in_ok-rows.field-0.0.items (c.in_ok-rows.ensures.rows plain) (ap (λ n. n + 1) (c.last-2.ensures ∙ ap (λ (l : LogModel). l.last) c.reserve.ensures.value)) (to_z-of_z w64 c.args.now c.ranges.now) in
+    let rows : c.in_ok-rows.rows.items ≡ commit_rows plain c.self.inside.default_millis (n + 1) c.args.now c.args.batch.ops =
+    made plain c.self.inside.default_millis (n + 1) (c.last-seq.result + 1) _ c.args.now c.args.batch.ops c.in_ok-rows.rows.items (c.in_ok-rows.ensures.rows plain) (ap (λ n. n + 1) (c.last-seq.ensures ∙ ap (λ (l : LogModel). l.last) c.reserve.ensures.value)) (to_z-of_z w64 c.args.now c.ranges.now) in
     let layers : c.put.new.self ≡ record c.self.inside.layers { active = put_rows c.self.inside.layers.active (commit_rows plain c.self.inside.default_millis (n + 1) c.args.now c.args.batch.ops) } =
     c.in_ok-put.ensures.value ∙ ap (λ rs. record c.self.inside.layers { active = put_rows c.self.inside.layers.active rs }) rows in
     let log : c.push_write.new.self ≡ with_write c.self.inside.log c.args.now c.args.batch.ops c.push_write.new.self.spare =
@@ -115,9 +115,9 @@ invariant_of-self-2 c =
 pub returns : goal.returns
 returns c =
     let n : ℕ = c.self.inside.log.last in
-    let seq : c.last-2.result + 1 ≡ n + 1 = ap (λ n. n + 1) (c.last-2.ensures ∙ ap (λ (l : LogModel). l.last) c.reserve.ensures.value) in
-    let rows_of : (f : List ℕ → Combine) → c.in_ok-rows.field-0.0.items ≡ commit_rows f c.self.inside.default_millis (n + 1) c.args.now c.args.batch.ops =
-    λ f. made f c.self.inside.default_millis (n + 1) (c.last-2.result + 1) _ c.args.now c.args.batch.ops c.in_ok-rows.field-0.0.items (c.in_ok-rows.ensures.rows f) seq (to_z-of_z w64 c.args.now c.ranges.now) in
+    let seq : c.last-seq.result + 1 ≡ n + 1 = ap (λ n. n + 1) (c.last-seq.ensures ∙ ap (λ (l : LogModel). l.last) c.reserve.ensures.value) in
+    let rows_of : (f : List ℕ → Combine) → c.in_ok-rows.rows.items ≡ commit_rows f c.self.inside.default_millis (n + 1) c.args.now c.args.batch.ops =
+    λ f. made f c.self.inside.default_millis (n + 1) (c.last-seq.result + 1) _ c.args.now c.args.batch.ops c.in_ok-rows.rows.items (c.in_ok-rows.ensures.rows f) seq (to_z-of_z w64 c.args.now c.ranges.now) in
     let written : Rows = put_rows c.self.inside.layers.active (commit_rows plain c.self.inside.default_millis (n + 1) c.args.now c.args.batch.ops) in
     let layers : c.put.new.self ≡ record c.self.inside.layers { active = put_rows c.self.inside.layers.active (commit_rows plain c.self.inside.default_millis (n + 1) c.args.now c.args.batch.ops) } =
     c.in_ok-put.ensures.value ∙ ap (λ rs. record c.self.inside.layers { active = put_rows c.self.inside.layers.active rs }) (rows_of plain) in

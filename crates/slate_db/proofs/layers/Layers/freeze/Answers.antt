@@ -5,7 +5,7 @@ use Rattle.slate_types.specs.declared.error.SlateDBError.{SlateDBError}
 use Rattle.slate_mem.specs.Table.{MemTableModel}
 use Rattle.slate_db.specs.Layers.{LayersModel, AreLayers}
 use Rattle.slate_db.specs.Model.{Rows}
-use Rattle.slate_db.specs.View.{layers_view}
+use Rattle.slate_db.specs.LayersView.{layers_view}
 use Rattle.slate_db.proofs.FlushRows.{some_rows}
 use Rattle.slate_db.proofs.MemoryLayers.{layers_frozen}
 use Rattle.slate_db.proofs.layers.Layers.freeze.Goals as goal

@@ -2,7 +2,7 @@ use Rattle.std.proofs.Common.{◌≡◌, ◌∷◌, ◌++◌, [], ℕ, List, sym
 use Rattle.slate_mem.specs.Table.{MemTableModel, put_rows}
 use Rattle.slate_db.specs.Layers.{LayersModel, AreLayers, AreRising}
 use Rattle.slate_db.specs.Model.{Rows, versions_in}
-use Rattle.slate_db.specs.View.{layers_view}
+use Rattle.slate_db.specs.LayersView.{layers_view}
 use Rattle.slate_db.proofs.MemoryLayers.{layers_put, either_way}
 use Rattle.slate_txn.proofs.NamedLaws.{on_ok, on_err}
 use Rattle.slate_db.proofs.layers.Layers.put.Goals as goal

@@ -2,7 +2,7 @@ use Rattle.std.proofs.Common.{◌≡◌, ◌-◌, List, sym, ap, subst, ◌∙�
 use Rattle.std.specs.Prelude.{vec_len, vec_capacity}
 use Rattle.slate_table.specs.declared.info.SsTableHandle.{SsTableHandle}
 use Rattle.slate_db.specs.Layers.{LayersModel, AreLayers}
-use Rattle.slate_db.specs.View.{layers_view}
+use Rattle.slate_db.specs.LayersView.{layers_view}
 use Rattle.slate_db.proofs.MemoryLayers.{layers_room}
 use Rattle.slate_db.proofs.layers.Layers.reserve_table.Goals as goal
 

@@ -2,7 +2,7 @@ use Rattle.std.proofs.Common.{◌≡◌, ap, sym, subst}
 use Rattle.slate_txn.specs.Reads.{up_to}
 use Rattle.slate_db.specs.Installs.{installed}
 use Rattle.slate_db.specs.Log.{LogModel, IsLog, with_flush}
-use Rattle.slate_db.specs.View.{log_view}
+use Rattle.slate_db.specs.LogView.{log_view}
 use Rattle.slate_db.proofs.Logs.{log_flushed}
 use Rattle.slate_db.proofs.log.Log.note_flush.Goals as goal
 

@@ -3,8 +3,9 @@ use Rattle.std.proofs.lemmas.Result.{IfOk-from_err, err_from_is_err_and}
 use Rattle.slate_txn.specs.JournalModel.{JournalModel}
 use Rattle.slate_txn.specs.declared.event.Event.TheVariants as events
 use Rattle.slate_txn.specs.Ids.{id_of}
+use Rattle.slate_db.specs.declared.log.Log.TheInside.{Inside}
 use Rattle.slate_db.specs.Log.{LogModel, IsLog, LIMIT, held_by, with_begin}
-use Rattle.slate_db.specs.View.{log_view}
+use Rattle.slate_db.specs.LogView.{log_view}
 use Rattle.slate_db.proofs.LogViews.{journal_more}
 use Rattle.slate_db.proofs.Logs.{log_begun}
 use Rattle.slate_db.proofs.log.Log.push_begin.Goals as goal
@@ -32,17 +33,17 @@ returns c = record {
 }
 
 -- where memory is wanting
-same : (c : goal.In_err-reserve) → log_view (record c.self.inside { journal = c.reserve.new.self }) ≡ log_view c.self.inside
-same c = ap (λ (j : JournalModel). log_view (record c.self.inside { journal = j })) c.in_err-reserve.ensures.err
+same : (s : Inside) (j : JournalModel) → j ≡ s.journal → log_view (record s { journal = j }) ≡ log_view s
+same s j is = ap (λ (x : JournalModel). log_view (record s { journal = x })) is
 
 pub invariant_of-self : goal.invariant_of-self
-invariant_of-self c = subst IsLog (sym (same c)) c.self.invariant
+invariant_of-self c = subst IsLog (sym (same c.self.inside c.reserve.new.self c.in_err-reserve.ensures.err)) c.self.invariant
 
 pub returns-in_err-reserve : goal.returns-in_err-reserve
 returns-in_err-reserve c =
     let p = err_from_is_err_and c.from_residual.result c.from_residual.ensures.1 in
     record {
       value = IfOk-from_err c.from_residual.result _ c.from_residual.ensures.0;
-      same = rw p.1 (same c ∙ c.self.view_is);
-      whole = subst IsLog (sym (same c)) c.self.invariant;
+      same = rw p.1 (same c.self.inside c.reserve.new.self c.in_err-reserve.ensures.err ∙ c.self.view_is);
+      whole = subst IsLog (sym (same c.self.inside c.reserve.new.self c.in_err-reserve.ensures.err)) c.self.invariant;
     }

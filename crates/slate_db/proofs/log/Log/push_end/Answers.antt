@@ -5,7 +5,7 @@ use Rattle.slate_txn.specs.Named.{find_named}
 use Rattle.slate_txn.specs.Replay.{replay}
 use Rattle.slate_txn.proofs.NamedLaws.{length_without}
 use Rattle.slate_db.specs.Log.{LogModel, IsLog, with_end}
-use Rattle.slate_db.specs.View.{log_view}
+use Rattle.slate_db.specs.LogView.{log_view}
 use Rattle.slate_db.proofs.LogViews.{journal_more}
 use Rattle.slate_db.proofs.Logs.{log_ended, some_ends}
 use Rattle.slate_db.proofs.log.Log.push_end.Goals as goal

@@ -1,7 +1,7 @@
 use Rattle.std.proofs.Common.{◌≡◌, ◌+◌, ◌++◌, ◌∷◌, [], refl, sym, ap, subst, ◌∙◌, arith}
 use Rattle.slate_txn.specs.declared.event.Event.TheVariants as events
 use Rattle.slate_db.specs.Log.{LogModel, IsLog, HasPlace, with_freeze}
-use Rattle.slate_db.specs.View.{log_view}
+use Rattle.slate_db.specs.LogView.{log_view}
 use Rattle.slate_db.proofs.LogViews.{journal_more}
 use Rattle.slate_db.proofs.Logs.{log_frozen}
 use Rattle.slate_db.proofs.log.Log.push_freeze.Goals as goal

@@ -3,7 +3,7 @@ use Rattle.slate_types.specs.declared.types.Ulid.{Ulid}
 use Rattle.slate_table.specs.Paths.{table_id}
 use Rattle.slate_txn.specs.declared.event.Event.TheVariants as events
 use Rattle.slate_db.specs.Log.{LogModel, IsLog, HasPlace, with_install}
-use Rattle.slate_db.specs.View.{log_view}
+use Rattle.slate_db.specs.LogView.{log_view}
 use Rattle.slate_db.proofs.LogViews.{journal_more}
 use Rattle.slate_db.proofs.Logs.{log_installed}
 use Rattle.slate_db.proofs.log.Log.push_install.Goals as goal
@@ -16,8 +16,8 @@ becomes c t is = journal_more (record c.self.inside { installs = c.self.inside.i
     (c.push_reserved.ensures.events ∙ ap (λ ts. c.self.inside.journal.events ++ (events.Install c.self.inside.last ts ∷ [])) is) refl
 
 stays : (c : goal.After-push_reserved) → IsLog (log_view (record c.self.inside { installs = c.self.inside.installs + 1; flushed = c.self.inside.last; journal = c.push_reserved.new.self }))
-stays c = subst IsLog (becomes c c.requires.table.0 c.requires.table.1.0) (log_installed (log_view c.self.inside) c.requires.table.0 c.push_reserved.new.self.spare (subst (HasPlace 1) (sym c.self.view_is) c.requires.place) c.push_reserved.ensures.spare
-    (subst (λ (l : LogModel). c.requires.table.0.0.0 ≡ table_id (l.installs + 1) 0) (sym c.self.view_is) c.requires.table.1.1) c.self.invariant)
+stays c = subst IsLog (becomes c c.requires.table.0 c.requires.table.1) (log_installed (log_view c.self.inside) c.requires.table.0 c.push_reserved.new.self.spare (subst (HasPlace 1) (sym c.self.view_is) c.requires.place) c.push_reserved.ensures.spare
+    (subst (λ (l : LogModel). c.requires.table.0.0.0 ≡ table_id (l.installs + 1) 0) (sym c.self.view_is) c.requires.table.2) c.self.invariant)
 
 pub invariant_of-self : goal.invariant_of-self
 invariant_of-self c = stays c

@@ -3,7 +3,7 @@ use Rattle.std.proofs.lemmas.Int.{to_z-of_z}
 use Rattle.slate_mem.specs.Batch.{batch_keys}
 use Rattle.slate_txn.specs.declared.event.Event.TheVariants as events
 use Rattle.slate_db.specs.Log.{LogModel, IsLog, HasPlace, with_write}
-use Rattle.slate_db.specs.View.{log_view}
+use Rattle.slate_db.specs.LogView.{log_view}
 use Rattle.slate_db.proofs.LogViews.{journal_more}
 use Rattle.slate_db.proofs.Logs.{log_written}
 use Rattle.slate_db.proofs.log.Log.push_write.Goals as goal

@@ -3,7 +3,7 @@ use Rattle.std.specs.Prelude.{OnOk}
 use Rattle.slate_txn.specs.JournalModel.{JournalModel}
 use Rattle.slate_txn.proofs.NamedLaws.{on_ok, on_err}
 use Rattle.slate_db.specs.Log.{LogModel, IsLog}
-use Rattle.slate_db.specs.View.{log_view}
+use Rattle.slate_db.specs.LogView.{log_view}
 use Rattle.slate_db.proofs.LogViews.{journal_room}
 use Rattle.slate_db.proofs.Logs.{log_room}
 use Rattle.slate_db.proofs.log.Log.reserve.Goals as goal
