@@ -51,9 +51,10 @@ contains_here xs ys x = Contains-append_right xs (x ∷ ys) x (0, omega arith, r
 steps_reads : {A : Type 0} (left : A → List RowRead) (before after : A) (rows : List RowEntry) → Steps (λ u answer v. (reads : List Act) × TakesRead (left u) answer (left v)) before rows after → AllByRecursion (λ r. Contains (left before) (Ok r)) rows
 steps_reads left before after [] h = tt
 steps_reads left before after (r ∷ rs) (next, step, rest) =
-    let is : left before ≡ Ok r ∷ left next = step.1 in
-    (subst (λ (xs : List RowRead). Contains xs (Ok r)) (sym is) (contains_here [] (left next) (Ok r)),
-      all_map (λ (x : RowEntry). Contains (left next) (Ok x)) (λ (x : RowEntry). Contains (left before) (Ok x)) (λ x h. subst (λ (xs : List RowRead). Contains xs (Ok x)) (sym is) (Contains-append_right (Ok r ∷ []) (left next) (Ok x) h)) rs (steps_reads left next after rs rest))
+    let is : left before ≡ Ok r ∷ left next = step.1 in (
+      subst (λ (xs : List RowRead). Contains xs (Ok r)) (sym is) (contains_here [] (left next) (Ok r)),
+      all_map (λ (x : RowEntry). Contains (left next) (Ok x)) (λ (x : RowEntry). Contains (left before) (Ok x)) (λ x h. subst (λ (xs : List RowRead). Contains xs (Ok x)) (sym is) (Contains-append_right (Ok r ∷ []) (left next) (Ok x) h)) rs (steps_reads left next after rs rest),
+    )
 
 -- rows that steps brought, behind a seek
 pub brought_reads : {A : Type 0} (left : A → List RowRead) (before : A) (all front : List RowRead) (found : List RowEntry) → all ≡ front ++ left before → Brings (λ u answer v. (reads : List Act) × TakesRead (left u) answer (left v)) before found → AllByRecursion (λ r. Contains all (Ok r)) found
@@ -140,7 +141,7 @@ both_calls : (a c : Reach) (h : SsTableHandle) (now : Encode) (entries : List (�
     Made a c (λ reads. (table : IsOpened a.meaning.decode h reads) × (table.first ≡ first) × (table.stop ≡ stop) × means a.meaning.decode (section_at table))
 both_calls a c h now entries first stop objects acts means k r =
     let both = two_calls a c (path_of root h.id.0) h.info.index_offset h.info.index_len (block_start h.info.filter_offset entries first) (blocks_size h.info.filter_offset entries first stop)
-      (λ answer. IsIndexRead a.meaning.decode h.info.filter_offset answer entries) (λ answer. means now (block_answer h.info.filter_offset entries first answer)) objects acts k.first_objects k.last_objects (same_meaning a.meaning c.meaning k.combine k.encode k.decode) k.index r in
+    (λ answer. IsIndexRead a.meaning.decode h.info.filter_offset answer entries) (λ answer. means now (block_answer h.info.filter_offset entries first answer)) objects acts k.first_objects k.last_objects (same_meaning a.meaning c.meaning k.combine k.encode k.decode) k.index r in
     let table : IsOpened a.meaning.decode h (index_act h both.0 ∷ blocks_act h entries first stop both.1 ∷ []) = record { index = both.0; entries = entries; read = both.3; first = first; stop = stop; order = k.order; within = k.within; blocks = both.1; are = refl } in
     (index_act h both.0 ∷ blocks_act h entries first stop both.1 ∷ [], both.2, (table, refl, refl, subst (λ (d : Encode). means d (section_at table)) k.decodes both.4))
 
@@ -155,9 +156,12 @@ pub table_rows : (a c : Reach) (h : SsTableHandle) (now : Encode) (entries : Lis
     AllByRecursion (λ r. (block : Block) × Contains blocks block × IsRowOf h.format_version block r) found → Made a c (λ reads. AllByRecursion (HasRow a.meaning.decode h reads) found)
 table_rows a c h now entries first stop objects acts blocks found k count r each =
     let both = both_calls a c h now entries first stop objects acts (λ decode answers. AreBlocksRead decode answers first blocks) k r in
-    let t = both.2 in
-    (both.0, both.1, all_map (λ (r : RowEntry). (block : Block) × Contains blocks block × IsRowOf h.format_version block r) (HasRow a.meaning.decode h both.0)
-    (λ r row. (row.0, has_block a.meaning.decode h both.0 t.0 first stop blocks row.0 t.1 t.2 count t.3 row.1, row.2)) found each)
+    let t = both.2 in (
+      both.0,
+      both.1,
+      all_map (λ (r : RowEntry). (block : Block) × Contains blocks block × IsRowOf h.format_version block r) (HasRow a.meaning.decode h both.0)
+          (λ r row. (row.0, has_block a.meaning.decode h both.0 t.0 first stop blocks row.0 t.1 t.2 count t.3 row.1, row.2)) found each,
+    )
 
 -- ---- refusals
 
@@ -232,17 +236,17 @@ rows_on a b c hs h newer found more all among first last is = (
   first.0 ++ last.0,
   call_both a b c first.0 last.0 first.1 last.1,
   subst (AllByRecursion (Found a.meaning.decode hs newer (first.0 ++ last.0))) (sym is)
-  (all_both (Found a.meaning.decode hs newer (first.0 ++ last.0)) found more
-  (all_map (Found a.meaning.decode hs newer first.0) (Found a.meaning.decode hs newer (first.0 ++ last.0)) (found_still a.meaning.decode hs newer first.0 last.0) found first.2)
-  (all_map (HasRow a.meaning.decode h last.0) (Found a.meaning.decode hs newer (first.0 ++ last.0)) (λ r row. inr (record {
-    table = h;
-    among = among;
-    earlier = first.0;
-    acts = last.0;
-    later = [];
-    split = ap (λ (l : List Act). first.0 ++ l) (sym (append-nil last.0));
-    row = row;
-  })) more (subst (λ (m : Meaning). AllByRecursion (HasRow m.decode h last.0) more) first.1.meaning last.2))),
+      (all_both (Found a.meaning.decode hs newer (first.0 ++ last.0)) found more
+      (all_map (Found a.meaning.decode hs newer first.0) (Found a.meaning.decode hs newer (first.0 ++ last.0)) (found_still a.meaning.decode hs newer first.0 last.0) found first.2)
+      (all_map (HasRow a.meaning.decode h last.0) (Found a.meaning.decode hs newer (first.0 ++ last.0)) (λ r row. inr (record {
+        table = h;
+        among = among;
+        earlier = first.0;
+        acts = last.0;
+        later = [];
+        split = ap (λ (l : List Act). first.0 ++ l) (sym (append-nil last.0));
+        row = row;
+      })) more (subst (λ (m : Meaning). AllByRecursion (HasRow m.decode h last.0) more) first.1.meaning last.2))),
 )
 
 pub damage_on : {X : List Act → Type 0} (a b c : Reach) (hs : List SsTableHandle) (h : SsTableHandle) (e : SlateDBError) → Contains hs h → IsLater a.faults b.faults → Made a b X →
@@ -294,11 +298,15 @@ pub fold_refused : (a b d : Reach) (c : CoreModel) (hs : List SsTableHandle) (k 
 fold_refused a b d c hs k n near found e are is later objects meaning acts made (inl m) = inl (subst (IsCounted a.faults d.faults) (sym m) tt)
 fold_refused a b d c hs k n near found e are is later objects meaning acts made (inr (inl f)) =
     let one = operand_among (λ (r : RowEntry). Contains near r ⊎ BringsRow a.meaning.decode hs made.0 r) found made.2 f.2 in
-    inr (made.0, subst (IsCall a d) (append-nil made.0) (call_both a b d made.0 [] made.1 (call_quiet b d objects meaning acts)), record {
-      handles = hs;
-      are = are;
-      refused = inl (record { is = f.0; none = sym (ap (λ (m : Meaning). m.combine) made.1.meaning) ∙ f.1; row = one.0; operand = one.2; found = by one.0 one.1 });
-    })
+    inr (
+      made.0,
+      subst (IsCall a d) (append-nil made.0) (call_both a b d made.0 [] made.1 (call_quiet b d objects meaning acts)),
+      record {
+        handles = hs;
+        are = are;
+        refused = inl (record { is = f.0; none = sym (ap (λ (m : Meaning). m.combine) made.1.meaning) ∙ f.1; row = one.0; operand = one.2; found = by one.0 one.1 });
+      },
+    )
   where
     by : (r : RowEntry) → Contains near r ⊎ BringsRow a.meaning.decode hs made.0 r → Contains (newest_first (memory c)) r ⊎ BringsRow a.meaning.decode hs made.0 r
     by r (inl m) = inl (from_memory c k n near r is m)
