@@ -32,6 +32,7 @@ mod Tables
 mod Blocks
 mod Damaged
 mod Causes
+pub mod Shown
 mod Loads
 mod Steps
 mod Notes

@@ -20,4 +20,5 @@ pub mod View
 pub mod Vectors
 pub mod Parts
 pub mod Answered
+pub mod Shown
 pub mod Readable

@@ -2,17 +2,14 @@
 --     IsStored encode decode objects h rows      the store tells that a table of the rows stands at its path, whose info was kept, and the transformer is undone
 --     AreStored encode decode objects hs layers      of several, the oldest first
 --     IsStoredAs m os h rows, AreStoredAs m os hs layers      the same of objects, for what the parts mean
---     IsDamage e      a refusal of what a store answered
 --     IsUnknown version e      a refusal of a version that is neither 1 nor 2
---     IsOperatorFault combine before after e      a failure of the operator, whose count rose, or there is no operator
-use Rattle.std.specs.Prelude.{◌≡◌, ◌≢◌, ◌⊎◌, ℕ, List, [], ◌∷◌, Option, Some, None}
+use Rattle.std.specs.Prelude.{◌≡◌, ◌≢◌, ℕ, List, [], ◌∷◌, Option, Some}
 use Rattle.slate_types.specs.declared.error.SlateDBError.{SlateDBError}
-use Rattle.slate_types.specs.declared.error.SlateDBError.TheVariants.{CorruptTable, ChecksumMismatch, InvalidRowFlags, InvalidVersion, MergeOperatorMissing}
+use Rattle.slate_types.specs.declared.error.SlateDBError.TheVariants.{InvalidVersion}
 use Rattle.slate_types.specs.Lawful.{IsLawfulTransform}
 use Rattle.slate_types.specs.Outside.{Objects, Meaning}
 use Rattle.slate_store.specs.Store.{object_at}
 use Rattle.slate_block.specs.ReadingLaws.{EachIsAByte}
-use Rattle.slate_mem.specs.Lookup.{IsCallback}
 use Rattle.slate_table.specs.declared.info.SsTableHandle.{SsTableHandle}
 use Rattle.slate_table.specs.Finding.{IsTableWith}
 use Rattle.slate_table.specs.InfoReading.{seen_info}
@@ -42,14 +39,5 @@ IsStoredAs m os h rows = IsStored m.encode m.decode (Some os) h rows
 abbrev pub AreStoredAs : Meaning → Objects → List SsTableHandle → List Rows → Type 0
 AreStoredAs m os hs layers = AreStored m.encode m.decode (Some os) hs layers
 
-abbrev pub IsDamage : SlateDBError → Type 0
-IsDamage (CorruptTable place) = Unit {0}
-IsDamage (ChecksumMismatch stored computed) = Unit {0}
-IsDamage (InvalidRowFlags bits) = Unit {0}
-IsDamage e = ⊥
-
 abbrev pub IsUnknown : ℕ → SlateDBError → Type 0
 IsUnknown version e = (version ≢ 1) × (version ≢ 2) × (e ≡ InvalidVersion version)
-
-abbrev pub IsOperatorFault : Option (List ℕ → Option (List ℕ) → List ℕ → List ℕ) → ℕ → ℕ → SlateDBError → Type 0
-IsOperatorFault combine before after e = ((e ≡ MergeOperatorMissing) × (combine ≡ None)) ⊎ IsCallback before after e

@@ -1,7 +1,7 @@
 -- What the parts that a call is handed mean, and their counts of faults.
 --     meaning_of combine encoded decoded operator transformer      what an operator and a transformer mean, where there are any
 --     counts_of store operator_faults transformer_faults operator transformer      the counts of faults
---     IsDamage e      what a get answers where a table isn't what was stored
+--     IsTableError e      an error of a table that isn't what was stored: of its bytes, of the order of its rows, or of an operand that none wrote
 use Rattle.std.specs.Prelude.{ℕ, List, Option}
 use Rattle.slate_types.specs.declared.error.SlateDBError.{SlateDBError}
 use Rattle.slate_types.specs.declared.error.SlateDBError.TheVariants.{ChecksumMismatch, InvalidRowFlags, CorruptTable, MergeOperatorMissing, InvalidSequenceOrder}
@@ -20,10 +20,10 @@ abbrev pub counts_of : {M T : Type 0} → ℕ → (M → ℕ) → (T → ℕ) �
 counts_of store operator_faults transformer_faults operator transformer =
     record { store = store; operator = faults_of operator_faults operator; transformer = faults_of transformer_faults transformer }
 
-abbrev pub IsDamage : SlateDBError → Type 0
-IsDamage (ChecksumMismatch stored computed) = Unit {0}
-IsDamage (InvalidRowFlags flags) = Unit {0}
-IsDamage (CorruptTable at) = Unit {0}
-IsDamage (InvalidSequenceOrder before after) = Unit {0}
-IsDamage MergeOperatorMissing = Unit {0}
-IsDamage _ = ⊥
+abbrev pub IsTableError : SlateDBError → Type 0
+IsTableError (ChecksumMismatch stored computed) = Unit {0}
+IsTableError (InvalidRowFlags flags) = Unit {0}
+IsTableError (CorruptTable at) = Unit {0}
+IsTableError (InvalidSequenceOrder before after) = Unit {0}
+IsTableError MergeOperatorMissing = Unit {0}
+IsTableError _ = ⊥

@@ -1,17 +1,24 @@
 -- What a read of a core rests on, and what it refuses for. before, after: what the call reaches
 --     IsReadable m os c      the parts are lawful, for them what is kept of the rows holds, and these objects hold the tables that the journal names
 --     IsAnswered before after c      objects of which this is true answered each read of the call
+--     LacksOperator m c hs reads e      there is no operator, and an operand was found, in memory or by the reads
+--     IsRefusedBy m c reads e      the reads show so of the tables that the journal names
+--     IsReadError before after c e      a fault that came in the call, or want of memory, or such a refusal by its reads
 --     IsRead before after c means result      what a call answers that reads: what it means, when it is refused, and what it leaves
---     IsReadError before after e      a fault that came in the call, or want of memory or of an operator, or damage
-use Rattle.std.specs.Prelude.{◌≡◌, ◌⊎◌, IfErr, IfOk, None, Result}
+use Rattle.std.specs.Prelude.{◌≡◌, ◌⊎◌, true, List, Contains, IfErr, IfOk, None, Result}
 use Rattle.slate_types.specs.declared.error.SlateDBError.{SlateDBError}
 use Rattle.slate_types.specs.declared.error.SlateDBError.TheVariants.{MergeOperatorMissing}
-use Rattle.slate_types.specs.Outside.{Objects, IsFault, Meaning, OnlyReads, Reach}
+use Rattle.slate_types.specs.declared.types.RowEntry.{RowEntry}
+use Rattle.slate_types.specs.Outside.{Act, Objects, IsFault, Meaning, OnlyReads, Reach}
+use Rattle.slate_types.specs.Rows.{is_operand}
+use Rattle.slate_types.specs.World.{Made}
+use Rattle.slate_mem.specs.Lookup.{newest_first}
+use Rattle.slate_table.specs.declared.info.SsTableHandle.{SsTableHandle}
 use Rattle.slate_db.specs.Answered.{AnswersFrom}
-use Rattle.slate_db.specs.Installs.{Holds, tables_of}
-use Rattle.slate_db.specs.Lookup.{IsDamage}
+use Rattle.slate_db.specs.Installs.{AreHandles, Holds, tables_of}
 use Rattle.slate_db.specs.Meaning.{IsLawfulMeaning}
-use Rattle.slate_db.specs.Model.{CoreModel}
+use Rattle.slate_db.specs.Model.{CoreModel, memory}
+use Rattle.slate_db.specs.Shown.{BringsRow, ShowsDamage}
 use Rattle.slate_db.specs.Sound.{IsKept}
 
 pub record IsReadable (m : Meaning) (os : Objects) (c : CoreModel) : Type 0 where
@@ -24,12 +31,25 @@ pub record IsAnswered (before after : Reach) (c : CoreModel) : Type 0 where
   pub readable : IsReadable before.meaning os c
   pub answers : AnswersFrom os before after
 
-abbrev pub IsReadError : Reach → Reach → SlateDBError → Type 0
-IsReadError before after e = IsFault before after e ⊎ ((e ≡ MergeOperatorMissing) × (before.meaning.combine ≡ None)) ⊎ IsDamage e
+pub record LacksOperator (m : Meaning) (c : CoreModel) (hs : List SsTableHandle) (reads : List Act) (e : SlateDBError) : Type 0 where
+  pub is : e ≡ MergeOperatorMissing
+  pub none : m.combine ≡ None
+  pub row : RowEntry
+  pub operand : is_operand row ≡ true
+  pub found : Contains (newest_first (memory c)) row ⊎ BringsRow m.decode hs reads row
+
+-- handles: what is kept of the tables that the journal names
+pub record IsRefusedBy (m : Meaning) (c : CoreModel) (reads : List Act) (e : SlateDBError) : Type 0 where
+  pub handles : List SsTableHandle
+  pub are : AreHandles (tables_of c.events) handles
+  pub refused : LacksOperator m c handles reads e ⊎ ShowsDamage m.decode handles reads e
+
+abbrev pub IsReadError : Reach → Reach → CoreModel → SlateDBError → Type 0
+IsReadError before after c e = IsFault before after e ⊎ Made before after (λ reads. IsRefusedBy before.meaning c reads e)
 
 -- means: what an answer means, where each read was answered so
 pub record IsRead {A : Type 0} (before after : Reach) (c : CoreModel) (means : A → Type 0) (result : Result A SlateDBError) : Type 0 where
   pub answer : IsAnswered before after c → IfOk result means
   pub undamaged : IsAnswered before after c → IfErr result (IsFault before after)
-  pub cause : IfErr result (IsReadError before after)
+  pub cause : IfErr result (IsReadError before after c)
   pub reads : OnlyReads before after

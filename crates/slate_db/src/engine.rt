@@ -35,7 +35,7 @@ ghost use Rattle.slate_db.specs.Written.{IsWritten};
 use crate::flush::stored;
 use crate::layers::Layers;
 use crate::log::Log;
-use crate::stored::newest_of_tables;
+use crate::lookup::newest_of_tables;
 use bytes::Bytes;
 use slate_mem::fold::answer;
 use slate_mem::lookup::newest_of_memory;
@@ -302,9 +302,10 @@ impl Core {
     /// recorded in the transaction's transcript.
     ///
     /// Refuses by `StoreFault`, `BlockTransformError` and `Callback`, each only where its count of faults rose; by
-    /// `MergeOperatorMissing`, only where there is no operator; by a refusal of damage; and by `OutOfMemory`. Then nothing is
-    /// recorded. Neither damage nor a missing operator is answered where the store holds the tables that the journal names, nor where
-    /// its acts tell that each read of this call was answered by them.
+    /// `MergeOperatorMissing`, only where there is no operator and an operand was found; by `ChecksumMismatch`, `CorruptTable` or
+    /// `InvalidRowFlags`, only where the last reads of this call show it, of a table that the journal names; and by `OutOfMemory`.
+    /// Then nothing is recorded. Neither damage nor a missing operator is answered where the store holds the tables that the journal
+    /// names, nor where its acts tell that each read of this call was answered by them.
     pub fn get<S: Store, M: MergeOperator, T: BlockTransformer>(
         &mut self,
         id: &Uuid,

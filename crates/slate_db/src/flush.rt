@@ -19,7 +19,7 @@ ghost use Rattle.slate_db.specs.Model.{Rows};
 ghost use Rattle.slate_db.specs.Layers.{FitsMemory};
 
 use crate::gather::rows_of_flush;
-use crate::stored::are_bytes;
+use crate::lookup::are_bytes;
 use slate_mem::ImmutableMemtable;
 use slate_store::{Env, EnvOf, Store};
 use slate_table::{

@@ -10,5 +10,5 @@ pub mod flush;
 pub mod gather;
 pub mod layers;
 pub mod log;
-pub mod stored;
+pub mod lookup;
 pub mod vectors;

@@ -3,15 +3,18 @@ use Rattle.std.proofs.Common.{◌≡◌, ℕ, ◌⊎◌, inl, inr, List, Bool, f
 use Rattle.std.specs.Prelude.{IfErr}
 use Rattle.slate_types.specs.declared.error.SlateDBError.{SlateDBError}
 use Rattle.slate_types.specs.declared.error.SlateDBError.TheVariants.{OutOfMemory, StoreFault, Callback, BlockTransformError, WriteFault, ScriptSyntax, LimitReached}
-use Rattle.slate_types.specs.Outside.{Objects, Counts, IsCounted}
+use Rattle.slate_types.specs.Outside.{Objects, Counts, IsCounted, IsFault, Reach}
+use Rattle.slate_types.specs.World.{Made}
 use Rattle.slate_txn.specs.declared.line.Line.{Line}
 use Rattle.slate_db.specs.Meaning.{Meaning}
-use Rattle.slate_db.specs.Parts.{IsDamage}
+use Rattle.slate_db.specs.Parts.{IsTableError}
+use Rattle.slate_db.specs.Readable.{IsReadError, IsRefusedBy}
 use Rattle.slate_txn.specs.Replies.{is_silent}
 use Rattle.slate_script.specs.Run.{is_line, IsPartError, IsPartCause}
 use Rattle.slate_script.specs.Session.{SessionModel, IsLimit, IsSettled, StoresNothing}
 use Rattle.slate_txn.specs.Stage.{meaning}
 use Rattle.slate_script.proofs.Running.{not-damage}
+use Rattle.slate_script.proofs.SessionParts.{get-cause, get-shown}
 use Rattle.slate_script.proofs.SessionStores.{stays-settled}
 
 -- ---- what a line keeps
@@ -35,19 +38,32 @@ pub or-limit : {V : Type 0} (result : Result V SlateDBError) (before after : Cou
 or-limit (Ok v) before after e cause = tt
 or-limit (Err x) before after e cause = inl cause
 
-pub or-damage : {V : Type 0} (result : Result V SlateDBError) (before after : Counts) (e : SessionModel) → IfErr result (λ x. IsCounted before after x ⊎ IsLimit e x) → IfErr result (λ x. IsCounted before after x ⊎ IsLimit e x ⊎ IsDamage x)
+pub or-damage : {V : Type 0} (result : Result V SlateDBError) (before after : Counts) (e : SessionModel) → IfErr result (λ x. IsCounted before after x ⊎ IsLimit e x) → IfErr result (λ x. IsCounted before after x ⊎ IsLimit e x ⊎ IsTableError x)
 or-damage (Ok v) before after e cause = tt
 or-damage (Err x) before after e (inl outer) = inl outer
 or-damage (Err x) before after e (inr limit) = inr (inl limit)
 
-pub limit-between : {V : Type 0} (result : Result V SlateDBError) (before after : Counts) (e : SessionModel) → IfErr result (λ x. IsCounted before after x ⊎ IsDamage x) → IfErr result (λ x. IsCounted before after x ⊎ IsLimit e x ⊎ IsDamage x)
+pub limit-between : {V : Type 0} (result : Result V SlateDBError) (before after : Reach) (e : SessionModel) → IfErr result (IsReadError before after e.core) → IfErr result (λ x. IsFault before after x ⊎ IsLimit e x ⊎ IsTableError x)
 limit-between (Ok v) before after e cause = tt
-limit-between (Err x) before after e (inl outer) = inl outer
-limit-between (Err x) before after e (inr damage) = inr (inr damage)
+limit-between (Err x) before after e cause = by (get-cause before after e.core x cause)
+  where
+    by : IsFault before after x ⊎ IsTableError x → IsFault before after x ⊎ IsLimit e x ⊎ IsTableError x
+    by (inl fault) = inl fault
+    by (inr error) = inr (inr error)
 
-pub no-damage : {V : Type 0} (P : Type 0) (result : Result V SlateDBError) (before after : Counts) (e : SessionModel) → IfErr result (λ x. IsCounted before after x ⊎ IsLimit e x) → IfErr result (λ x. IsDamage x → P)
+-- what isn't a fault of a read is shown by its reads
+pub shown-of : {V : Type 0} (result : Result V SlateDBError) (before after : Reach) (e : SessionModel) → IfErr result (IsReadError before after e.core) → IfErr result (λ x. IsTableError x → Made before after (λ reads. IsRefusedBy before.meaning e.core reads x))
+shown-of (Ok v) before after e cause = tt
+shown-of (Err x) before after e cause = get-shown before after e.core x cause
+
+pub no-damage : {V : Type 0} (P : Type 0) (result : Result V SlateDBError) (before after : Counts) (e : SessionModel) → IfErr result (λ x. IsCounted before after x ⊎ IsLimit e x) → IfErr result (λ x. IsTableError x → P)
 no-damage P (Ok v) before after e cause = tt
 no-damage P (Err x) before after e cause = λ damage. absurd (not-damage before after x cause damage)
+
+-- the same of what is said of the error
+pub no-error : {V : Type 0} (P : SlateDBError → Type 0) (result : Result V SlateDBError) (before after : Counts) (e : SessionModel) → IfErr result (λ x. IsCounted before after x ⊎ IsLimit e x) → IfErr result (λ x. IsTableError x → P x)
+no-error P (Ok v) before after e cause = tt
+no-error P (Err x) before after e cause = λ error. absurd (not-damage before after x cause error)
 
 -- ---- in a run, at an error of the session
 
@@ -58,14 +74,14 @@ outer-kind before after (Callback message) h = inr tt
 outer-kind before after BlockTransformError h = inr tt
 outer-kind before after x h = absurd h
 
-damage-kind : (x : SlateDBError) → IsDamage x → IsPartError x
+damage-kind : (x : SlateDBError) → IsTableError x → IsPartError x
 damage-kind StoreFault h = tt
 damage-kind (Callback message) h = tt
 damage-kind BlockTransformError h = tt
 damage-kind x h = h
 
 abbrev pub SessionError : Counts → Counts → SessionModel → SlateDBError → Type 0
-SessionError before after e x = IsCounted before after x ⊎ IsLimit e x ⊎ IsDamage x
+SessionError before after e x = IsCounted before after x ⊎ IsLimit e x ⊎ IsTableError x
 
 abbrev pub AnyError : ℕ → List ℕ → SessionModel → SlateDBError → Type 0
 AnyError number line e x = (x ≡ OutOfMemory) ⊎ (x ≡ WriteFault) ⊎ ((x ≡ ScriptSyntax number) × (is_line line ≡ false)) ⊎ IsPartError x ⊎ IsLimit e x
@@ -90,7 +106,7 @@ not-limit x n is was = cc
 pub session-wrote : (before after : Counts) (e : SessionModel) (x : SlateDBError) → SessionError before after e x → x ≡ WriteFault → ⊥
 session-wrote before after e x (inl outer) is = subst (IsCounted before after) is outer
 session-wrote before after e x (inr (inl limit)) is = not-limit x limit.0 limit.1 is
-session-wrote before after e x (inr (inr damage)) is = subst IsDamage is damage
+session-wrote before after e x (inr (inr damage)) is = subst IsTableError is damage
 
 -- ---- and at one of writing
 
@@ -104,10 +120,15 @@ writing-no-part P (Ok v) cause = tt
 writing-no-part P (Err x) (inl is) = λ part. absurd (subst IsPartError is part)
 writing-no-part P (Err x) (inr is) = λ part. absurd (subst IsPartError is part)
 
-pub writing-no-damage : {V : Type 0} (P : Type 0) (result : Result V SlateDBError) → IfErr result (λ x. (x ≡ OutOfMemory) ⊎ (x ≡ WriteFault)) → IfErr result (λ x. IsDamage x → P)
+pub writing-no-error : {V : Type 0} (P : SlateDBError → Type 0) (result : Result V SlateDBError) → IfErr result (λ x. (x ≡ OutOfMemory) ⊎ (x ≡ WriteFault)) → IfErr result (λ x. IsTableError x → P x)
+writing-no-error P (Ok v) cause = tt
+writing-no-error P (Err x) (inl is) = λ error. absurd (subst IsTableError is error)
+writing-no-error P (Err x) (inr is) = λ error. absurd (subst IsTableError is error)
+
+pub writing-no-damage : {V : Type 0} (P : Type 0) (result : Result V SlateDBError) → IfErr result (λ x. (x ≡ OutOfMemory) ⊎ (x ≡ WriteFault)) → IfErr result (λ x. IsTableError x → P)
 writing-no-damage P (Ok v) cause = tt
-writing-no-damage P (Err x) (inl is) = λ damage. absurd (subst IsDamage is damage)
-writing-no-damage P (Err x) (inr is) = λ damage. absurd (subst IsDamage is damage)
+writing-no-damage P (Err x) (inl is) = λ damage. absurd (subst IsTableError is damage)
+writing-no-damage P (Err x) (inr is) = λ damage. absurd (subst IsTableError is damage)
 
 -- ---- and at one of parsing
 
@@ -130,9 +151,9 @@ pub parse-no-part : (number : ℕ) (line : List ℕ) (x : SlateDBError) → Pars
 parse-no-part number line x (inl is) part = subst IsPartError is part
 parse-no-part number line x (inr is) part = subst IsPartError is.0 part
 
-pub parse-no-damage : (number : ℕ) (line : List ℕ) (x : SlateDBError) → ParseError number line x → IsDamage x → ⊥
-parse-no-damage number line x (inl is) damage = subst IsDamage is damage
-parse-no-damage number line x (inr is) damage = subst IsDamage is.0 damage
+pub parse-no-damage : (number : ℕ) (line : List ℕ) (x : SlateDBError) → ParseError number line x → IsTableError x → ⊥
+parse-no-damage number line x (inl is) damage = subst IsTableError is damage
+parse-no-damage number line x (inr is) damage = subst IsTableError is.0 damage
 
 pub parse-wrote : (number : ℕ) (line : List ℕ) (x : SlateDBError) → ParseError number line x → x ≡ WriteFault → ⊥
 parse-wrote number line x (inl is) was = cc

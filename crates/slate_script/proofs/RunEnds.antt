@@ -11,7 +11,7 @@ use Rattle.slate_store.proofs.LineLaws.{partial_line_is_not_whole}
 use Rattle.slate_txn.specs.State.{Rules, opening}
 use Rattle.slate_txn.specs.Stage.{meaning}
 use Rattle.slate_txn.specs.Replies.{after_lines, replies_from, replies_to, replies, IsWellFormed}
-use Rattle.slate_db.specs.Parts.{IsDamage}
+use Rattle.slate_db.specs.Parts.{IsTableError}
 use Rattle.slate_db.specs.Load.{load, weight}
 use Rattle.slate_script.specs.Session.{SessionModel, IsLimit, IsFull}
 use Rattle.slate_script.specs.Run.{is_line, first_other, is_too_long, lines_taken, error_of, script_error, IsPartError, IsPartCause, IsOutside, IsScriptError, AreLines, HasAnswered, HasBegun, HasAnsweredAll}
@@ -64,22 +64,22 @@ outer-none before after OutOfMemory store operator transformer part h = part
 outer-none before after e store operator transformer part h = h
 
 -- where no count rose, damage is the one error of a part
-pub no-part : (before after : Counts) (e : SlateDBError) → (Rose before.store after.store → ⊥) → (Rose before.operator after.operator → ⊥) → (Rose before.transformer after.transformer → ⊥) → (IsDamage e → ⊥) →
+pub no-part : (before after : Counts) (e : SlateDBError) → (Rose before.store after.store → ⊥) → (Rose before.operator after.operator → ⊥) → (Rose before.transformer after.transformer → ⊥) → (IsTableError e → ⊥) →
     IsPartError e → IsPartCause before after e → ⊥
 no-part before after e store operator transformer undamaged part (inl h) = outer-none before after e store operator transformer part h
 no-part before after e store operator transformer undamaged part (inr h) = undamaged h
 
 pub store-rose : (before after : Counts) (e : SlateDBError) → e ≡ StoreFault → IsPartCause before after e → Rose before.store after.store
 store-rose before after e is (inl h) = subst (IsCounted before after) is h
-store-rose before after e is (inr h) = absurd (subst IsDamage is h)
+store-rose before after e is (inr h) = absurd (subst IsTableError is h)
 
 pub operator-rose : (before after : Counts) (e : SlateDBError) (message : List ℕ) → e ≡ Callback message → IsPartCause before after e → Rose before.operator after.operator
 operator-rose before after e message is (inl h) = subst (IsCounted before after) is h
-operator-rose before after e message is (inr h) = absurd (subst IsDamage is h)
+operator-rose before after e message is (inr h) = absurd (subst IsTableError is h)
 
 pub transformer-rose : (before after : Counts) (e : SlateDBError) → e ≡ BlockTransformError → IsPartCause before after e → Rose before.transformer after.transformer
 transformer-rose before after e is (inl h) = subst (IsCounted before after) is h
-transformer-rose before after e is (inr h) = absurd (subst IsDamage is h)
+transformer-rose before after e is (inr h) = absurd (subst IsTableError is h)
 
 pub only-memory : (e : SlateDBError) → (e ≡ OutOfMemory) ⊎ IsPartError e → (IsPartError e → ⊥) → e ≡ OutOfMemory
 only-memory e (inl is) none = is
@@ -162,10 +162,10 @@ reader-no-part e (inl is) part = subst IsPartError is part
 reader-no-part e (inr (inl is)) part = subst IsPartError is part
 reader-no-part e (inr (inr is)) part = subst IsPartError is part
 
-pub reader-undamaged : (e : SlateDBError) → ReaderError e → IsDamage e → ⊥
-reader-undamaged e (inl is) damage = subst IsDamage is damage
-reader-undamaged e (inr (inl is)) damage = subst IsDamage is damage
-reader-undamaged e (inr (inr is)) damage = subst IsDamage is damage
+pub reader-undamaged : (e : SlateDBError) → ReaderError e → IsTableError e → ⊥
+reader-undamaged e (inl is) damage = subst IsTableError is damage
+reader-undamaged e (inr (inl is)) damage = subst IsTableError is damage
+reader-undamaged e (inr (inr is)) damage = subst IsTableError is damage
 
 pub reader-not-write : (e : SlateDBError) → ReaderError e → e ≡ WriteFault → ⊥
 reader-not-write e (inl is) was = cc

@@ -12,7 +12,7 @@ use Rattle.slate_txn.specs.State.{Rules, State}
 use Rattle.slate_txn.specs.Step.{step, after, answers}
 use Rattle.slate_db.specs.Installs.{HoldsTables}
 use Rattle.slate_db.specs.Meaning.{Meaning, rules_of}
-use Rattle.slate_db.specs.Parts.{IsDamage}
+use Rattle.slate_db.specs.Parts.{IsTableError}
 use Rattle.slate_db.specs.Sound.{IsKept}
 use Rattle.slate_txn.specs.declared.reply.Answer.{Answer}
 use Rattle.slate_txn.specs.Answers.{reply_of}
@@ -107,7 +107,7 @@ pub at-ok : {V E P Q : Type 0} (result : Result V E) → (P → Q) → OnOk resu
 at-ok (Ok v) f p = f p
 at-ok (Err e) f p = tt
 
-damage-outer : (before after : Counts) (e : SlateDBError) → IsCounted before after e → IsDamage e → ⊥
+damage-outer : (before after : Counts) (e : SlateDBError) → IsCounted before after e → IsTableError e → ⊥
 damage-outer before after (ChecksumMismatch stored computed) h d = h
 damage-outer before after (InvalidRowFlags flags) h d = h
 damage-outer before after (CorruptTable place) h d = h
@@ -115,6 +115,6 @@ damage-outer before after (InvalidSequenceOrder a b) h d = h
 damage-outer before after MergeOperatorMissing h d = h
 damage-outer before after e h d = d
 
-pub not-damage : {X : Type 0} (before after : Counts) (e : SlateDBError) → IsCounted before after e ⊎ ((n : ℕ) × (e ≡ LimitReached n) × X) → IsDamage e → ⊥
+pub not-damage : {X : Type 0} (before after : Counts) (e : SlateDBError) → IsCounted before after e ⊎ ((n : ℕ) × (e ≡ LimitReached n) × X) → IsTableError e → ⊥
 not-damage before after e (inl h) d = damage-outer before after e h d
-not-damage before after e (inr h) d = subst IsDamage h.1 d
+not-damage before after e (inr h) d = subst IsTableError h.1 d

@@ -2,15 +2,17 @@
 use Rattle.std.proofs.Common.{◌≡◌, ℕ, List, [], ◌∷◌, suc, ◌≤◌, ◌<◌, ◌+◌, ◌⊎◌, inl, inr, Option, Some, None, Result, Ok, Err, refl, sym, ◌∙◌, subst, arith}
 use Rattle.std.proofs.Math.Nat.{lt_of_not-le}
 use Rattle.slate_types.specs.declared.error.SlateDBError.{SlateDBError}
-use Rattle.slate_types.specs.declared.error.SlateDBError.TheVariants.{ChecksumMismatch, CorruptTable, InvalidRowFlags, LimitReached}
+use Rattle.slate_types.specs.declared.error.SlateDBError.TheVariants.{LimitReached}
 use Rattle.slate_types.specs.Outside.{Objects, IsFault, Reach}
 use Rattle.slate_db.specs.Answered.{AnswersFrom}
 use Rattle.slate_db.specs.Flushed.{IsFlushError, Layout, events_of_flush}
 use Rattle.slate_db.specs.Installs.{HoldsTables}
-use Rattle.slate_db.specs.Lookup.{IsDamage as IsTableDamage}
-use Rattle.slate_db.specs.Readable.{IsAnswered, IsReadError}
-use Rattle.slate_db.specs.Model.{Rows}
-use Rattle.slate_db.specs.Parts.{IsDamage}
+use Rattle.slate_types.specs.World.{Made}
+use Rattle.slate_db.specs.Readable.{IsAnswered, IsReadError, IsRefusedBy}
+use Rattle.slate_db.specs.Model.{CoreModel, Rows}
+use Rattle.slate_db.proofs.Shown.{refused_kind}
+use Rattle.slate_script.proofs.Running.{not-damage}
+use Rattle.slate_db.specs.Parts.{IsTableError}
 use Rattle.slate_db.specs.Log.{LIMIT}
 use Rattle.slate_script.specs.Session.{SessionModel, IsLimit, IsSettled, IsSettledIn}
 
@@ -31,16 +33,14 @@ has-room n events txns more r seq e ok limit = let below : events < suc n = lt_o
     passed : suc n ≤ events → ⊥
     passed over = let clash : Ok seq ≡ Err e = sym ok ∙ limit (omega (arith, over)) in cc
 
-table-damage : (e : SlateDBError) → IsTableDamage e → IsDamage e
-table-damage (CorruptTable place) h = tt
-table-damage (ChecksumMismatch stored computed) h = tt
-table-damage (InvalidRowFlags bits) h = tt
-table-damage e h = absurd h
+pub get-cause : (before after : Reach) (c : CoreModel) (e : SlateDBError) → IsReadError before after c e → IsFault before after e ⊎ IsTableError e
+get-cause before after c e (inl fault) = inl fault
+get-cause before after c e (inr made) = inr (refused_kind before.meaning c made.0 e made.2)
 
-pub get-cause : (before after : Reach) (e : SlateDBError) → IsReadError before after e → IsFault before after e ⊎ IsDamage e
-get-cause before after e (inl fault) = inl fault
-get-cause before after e (inr (inl missing)) = inr (subst IsDamage (sym missing.0) tt)
-get-cause before after e (inr (inr damage)) = inr (table-damage e damage)
+-- what isn't a fault is shown
+pub get-shown : (before after : Reach) (c : CoreModel) (e : SlateDBError) → IsReadError before after c e → IsTableError e → Made before after (λ reads. IsRefusedBy before.meaning c reads e)
+get-shown before after c e (inl fault) error = absurd (not-damage {X = Unit {0}} before.faults after.faults e (inl fault) error)
+get-shown before after c e (inr made) error = made
 
 -- ---- what a settled session reads
 

@@ -2,7 +2,7 @@
 use Rattle.std.proofs.Common.{◌≡◌, ◌⊎◌, ◌≤◌, inl, inr, ℕ, List, Option, Some, arith, refl, sym, subst}
 use Rattle.slate_types.specs.declared.error.SlateDBError.{SlateDBError}
 use Rattle.slate_types.specs.declared.error.SlateDBError.TheVariants.{ScriptSyntax, ScriptTooLong, OutOfMemory, ReadFault, WriteFault, StoreFault, Callback, BlockTransformError, ChecksumMismatch, InvalidRowFlags, CorruptTable, InvalidSequenceOrder, MergeOperatorMissing}
-use Rattle.slate_db.specs.Parts.{IsDamage}
+use Rattle.slate_db.specs.Parts.{IsTableError}
 use Rattle.slate_script.specs.Program.{status, IsStatus}
 use Rattle.slate_script.specs.Run.{IsPartError, IsOutside, IsScriptError}
 
@@ -52,7 +52,7 @@ part-store (InvalidSequenceOrder before after) part h = absurd (omega (arith, h)
 part-store MergeOperatorMissing part h = absurd (omega (arith, h))
 part-store e part h = absurd part
 
-part-damage : (e : SlateDBError) → IsPartError e → 12 ≤ status e → status e ≤ 19 → IsDamage e
+part-damage : (e : SlateDBError) → IsPartError e → 12 ≤ status e → status e ≤ 19 → IsTableError e
 part-damage StoreFault part low high = absurd (omega (arith, low))
 part-damage (Callback message) part low high = absurd (omega (arith, low))
 part-damage BlockTransformError part low high = absurd (omega (arith, low))
@@ -91,9 +91,9 @@ is-too_long = by-kind (λ e. status e ≡ 4 → e ≡ ScriptTooLong) (λ h. absu
 pub is-syntax : (e : SlateDBError) → EndsRun e → status e ≡ 3 → (n : ℕ) × (e ≡ ScriptSyntax n)
 is-syntax = by-kind (λ e. status e ≡ 3 → (n : ℕ) × (e ≡ ScriptSyntax n)) (λ h. absurd (omega (arith, h))) (λ h. absurd (omega (arith, h))) (λ h. absurd (omega (arith, h))) (λ e part h. absurd (omega (arith, h, part-above e part))) (λ h. absurd (omega (arith, h))) (λ n h. (n, refl))
 
-pub is-damage : (e : SlateDBError) → EndsRun e → 12 ≤ status e → status e ≤ 19 → IsDamage e
+pub is-damage : (e : SlateDBError) → EndsRun e → 12 ≤ status e → status e ≤ 19 → IsTableError e
 is-damage =
-    by-kind (λ e. 12 ≤ status e → status e ≤ 19 → IsDamage e) (λ low high. absurd (omega (arith, high))) (λ low high. absurd (omega (arith, low))) (λ low high. absurd (omega (arith, low))) part-damage
+    by-kind (λ e. 12 ≤ status e → status e ≤ 19 → IsTableError e) (λ low high. absurd (omega (arith, high))) (λ low high. absurd (omega (arith, low))) (λ low high. absurd (omega (arith, low))) part-damage
     (λ low high. absurd (omega (arith, low))) (λ n low high. absurd (omega (arith, low)))
 
 pub damage-between : (n : ℕ) → (n ≡ 12) ⊎ (n ≡ 14) ⊎ (n ≡ 16) ⊎ (n ≡ 18) ⊎ (n ≡ 19) → (12 ≤ n) × (n ≤ 19)

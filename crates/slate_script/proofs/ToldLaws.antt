@@ -1,11 +1,13 @@
 -- What acts that a store tells leave of its objects, line by line.
 use Rattle.std.proofs.Common.{◌≡◌, ℕ, ◌+◌, ◌≤◌, inl, inr, List, [], ◌∷◌, ◌++◌, length, Option, Some, Result, Ok, Err, OnOk, refl, sym, ap, ◌∙◌, subst, arith, append_assoc}
-use Rattle.std.specs.Prelude.{IfErr}
+use Rattle.std.specs.Prelude.{Contains, IfErr}
 use Rattle.std.specs.List.{AllByRecursion}
 use Rattle.std.proofs.lemmas.List.{append-nil, append_cancel_left, length-append}
+use Rattle.std.proofs.lemmas.List.Elements.{Contains-append_left, Contains-append_right}
 use Rattle.slate_types.specs.declared.error.SlateDBError.{SlateDBError}
 use Rattle.slate_types.specs.declared.types.Ulid.{Ulid}
-use Rattle.slate_types.specs.Outside.{Objects, Counts, IsCounted}
+use Rattle.slate_types.specs.Outside.{Objects, Counts, IsCounted, Reach}
+use Rattle.slate_types.specs.World.{Made}
 use Rattle.slate_store.specs.Store.{Act, with_object}
 use Rattle.slate_table.specs.Parts.{Encode}
 use Rattle.slate_table.specs.Paths.{path_of}
@@ -16,11 +18,12 @@ use Rattle.slate_db.specs.Frozen.{IsFrozen}
 use Rattle.slate_db.specs.Installs.{root, tables_of}
 use Rattle.slate_db.specs.Meaning.{Meaning}
 use Rattle.slate_db.specs.Model.{CoreModel}
-use Rattle.slate_db.specs.Parts.{IsDamage}
+use Rattle.slate_db.specs.Parts.{IsTableError}
+use Rattle.slate_db.specs.Readable.{IsRefusedBy}
 use Rattle.slate_db.specs.Sound.{IsKept}
 use Rattle.slate_db.specs.Log.{LIMIT}
 use Rattle.slate_script.specs.Session.{SessionModel, IsSettled, StoresNothing}
-use Rattle.slate_script.specs.Told.{AreTrue, Follows, IsUntrue, after_act, after_acts}
+use Rattle.slate_script.specs.Told.{ArePut, AreTrue, Follows, IsShownAtEnd, IsUntrue, PutsTables, after_act, after_acts}
 use Rattle.slate_script.proofs.Running.{not-damage}
 use Rattle.slate_script.proofs.SessionLeaves.{leaves-frozen}
 use Rattle.slate_script.proofs.SessionStores.{flush-settled, stays-settled, tables-more}
@@ -97,7 +100,7 @@ follows-flush m encode layout os objects left e mid core n before after frozen f
 
 -- ---- damage
 
-pub untrue-get : {X : Type 0} (r : Result X SlateDBError) (os : Objects) (before after : Option (List Act)) (a b : Counts) → AddsReads before after → (AnswersAs os before after → IfErr r (λ e. IsCounted a b e)) → IfErr r (λ e. IsDamage e → IsUntrue os before after)
+pub untrue-get : {X : Type 0} (r : Result X SlateDBError) (os : Objects) (before after : Option (List Act)) (a b : Counts) → AddsReads before after → (AnswersAs os before after → IfErr r (λ e. IsCounted a b e)) → IfErr r (λ e. IsTableError e → IsUntrue os before after)
 untrue-get (Ok x) os before after a b adds truthful = tt
 untrue-get (Err e) os before after a b adds truthful = λ damage known is.
     let r = adds known is in
@@ -116,3 +119,46 @@ untrue-on m e first middle last f g known is =
     let a = f known is in
     let b = g (after_acts [] a.0) a.2 (known ++ a.0) a.1 in
     (a.0 ++ b.0, b.1 ∙ ap (λ (l : List Act). Some l) (append_assoc known a.0 b.0), λ true. b.2 (true-behind [] a.0 b.0 true))
+
+-- ---- tables that were put
+
+puts-more : (acts more : List Act) (ts : List (Ulid × List ℕ)) → ArePut acts ts → ArePut (acts ++ more) ts
+puts-more acts more [] h = tt
+puts-more acts more (t ∷ ts) h = (Contains-append_left acts more _ h.0, puts-more acts more ts h.1)
+
+puts-behind : (acts more : List Act) (ts : List (Ulid × List ℕ)) → ArePut more ts → ArePut (acts ++ more) ts
+puts-behind acts more [] h = tt
+puts-behind acts more (t ∷ ts) h = (Contains-append_right acts more _ h.0, puts-behind acts more ts h.1)
+
+puts-both : (acts : List Act) (ts us : List (Ulid × List ℕ)) → ArePut acts ts → ArePut acts us → ArePut acts (ts ++ us)
+puts-both acts [] us h k = k
+puts-both acts (t ∷ ts) us h k = (h.0, puts-both acts ts us h.1 k)
+
+-- where nothing was put
+pub stores-none : {V : Type 0} (result : Result V SlateDBError) (e new : SessionModel) (before after : Option (List Act)) → AddsReads before after → OnOk result (StoresNothing e new) → OnOk result (PutsTables (tables_of e.core.events) (tables_of new.core.events) before after)
+stores-none (Ok v) e new before after adds stores = λ known is. let r = adds known is in (r.0, [], r.1, stores.tables ∙ sym (append-nil (tables_of e.core.events)), tt)
+stores-none (Err x) e new before after adds stores = tt
+
+pub stores-added : (old new : List (Ulid × List ℕ)) (before after : Option (List Act)) → AddsTables old new before after → PutsTables old new before after
+stores-added old new before after (inl same) known is = ([], [], same.1 ∙ is ∙ ap (λ (l : List Act). Some l) (sym (append-nil known)), same.0 ∙ sym (append-nil old), tt)
+stores-added old new before after (inr (t, grown, act)) known is = (Act.put (path_of root t.0.0) t.1 ∷ [], t ∷ [], act known is, grown, ((0, omega arith, refl), tt))
+
+pub stores-itself : (ts : List (Ulid × List ℕ)) (acts : Option (List Act)) → PutsTables ts ts acts acts
+stores-itself ts acts known is = ([], [], is ∙ ap (λ (l : List Act). Some l) (sym (append-nil known)), sym (append-nil ts), tt)
+
+-- one line after others
+pub stores-on : (ts us : List (Ulid × List ℕ)) (first middle last : Option (List Act)) → PutsTables [] ts first middle → PutsTables ts us middle last → PutsTables [] us first last
+stores-on ts us first middle last f g known is =
+    let a = f known is in
+    let b = g (known ++ a.0) a.2 in
+    (a.0 ++ b.0, us, b.2 ∙ ap (λ (l : List Act). Some l) (append_assoc known a.0 b.0), refl, subst (ArePut (a.0 ++ b.0)) (sym (b.3 ∙ ap (λ (l : List (Ulid × List ℕ)). l ++ b.1) a.3)) (puts-both (a.0 ++ b.0) a.1 b.1 (puts-more a.0 b.0 a.1 a.4) (puts-behind a.0 b.0 b.1 b.4)))
+
+-- what is refused by the reads of the last line
+pub shown-at-end : (before now after : Reach) (core : CoreModel) (e : SlateDBError) → now.meaning ≡ before.meaning → PutsTables [] (tables_of core.events) before.acts now.acts → Made now after (λ reads. IsRefusedBy now.meaning core reads e) → IsShownAtEnd before after e
+shown-at-end before now after core e same stores made = record {
+  core = core;
+  reads = made.0;
+  each = made.1.each;
+  refused = subst (λ (m : Meaning). IsRefusedBy m core made.0 e) same made.2;
+  last = λ known is. let a = stores known is in (a.0, made.1.adds (known ++ a.0) a.2, subst (ArePut a.0) (sym a.3) a.4);
+}

@@ -20,7 +20,7 @@ use Rattle.slate_store.specs.Store.{IsEmpty}
 use Rattle.slate_txn.specs.Settings.{settings_of}
 use Rattle.slate_txn.specs.State.{Rules}
 use Rattle.slate_db.specs.Meaning.{Meaning, IsLawfulMeaning, rules_of}
-use Rattle.slate_db.specs.Parts.{IsDamage}
+use Rattle.slate_db.specs.Parts.{IsTableError}
 use Rattle.slate_txn.specs.Stage.{meaning}
 use Rattle.slate_txn.specs.Replies.{is_silent, replies_to}
 
@@ -56,11 +56,11 @@ abbrev pub IsPartError : SlateDBError → Type 0
 IsPartError StoreFault = Unit {0}
 IsPartError (Callback message) = Unit {0}
 IsPartError BlockTransformError = Unit {0}
-IsPartError e = IsDamage e
+IsPartError e = IsTableError e
 
 -- before, after: the parts' counts of faults
 abbrev pub IsPartCause : Counts → Counts → SlateDBError → Type 0
-IsPartCause before after e = IsCounted before after e ⊎ IsDamage e
+IsPartCause before after e = IsCounted before after e ⊎ IsTableError e
 
 -- errors that a source, a sink, a part or memory brings
 abbrev pub IsOutside : SlateDBError → Type 0

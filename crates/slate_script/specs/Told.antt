@@ -3,11 +3,22 @@
 --     AreTrue os acts      each read was answered by the objects as they were by then
 --     IsUntrue os before after      behind the acts from before a store that tells its acts told of some that aren't so
 --     Follows m os e before after      behind those a session is settled over the objects as the acts left them
-use Rattle.std.specs.Prelude.{◌≡◌, List, [], ◌∷◌, ◌++◌, Option, Some}
-use Rattle.slate_types.specs.Outside.{Objects}
+--     ArePut acts ts      each of the tables was put by one of the acts
+--     PutsTables old new before after      of two lists of tables the second has those of the first and more, which were put by the acts in between
+--     IsShownAtEnd before after e      the last acts are reads that show the error, by tables that were put before them
+use Rattle.std.specs.Prelude.{◌≡◌, ℕ, List, [], ◌∷◌, ◌++◌, Contains, Option, Some}
+use Rattle.std.specs.List.{AllByRecursion}
+use Rattle.slate_types.specs.declared.error.SlateDBError.{SlateDBError}
+use Rattle.slate_types.specs.declared.types.Ulid.{Ulid}
+use Rattle.slate_types.specs.Outside.{Objects, Reach}
+use Rattle.slate_types.specs.World.{IsReadAct}
 use Rattle.slate_store.specs.Store.{Act, with_object}
 use Rattle.slate_db.specs.Answered.{AnswersAct}
+use Rattle.slate_table.specs.Paths.{path_of}
+use Rattle.slate_db.specs.Installs.{root, tables_of}
 use Rattle.slate_db.specs.Meaning.{Meaning}
+use Rattle.slate_db.specs.Model.{CoreModel}
+use Rattle.slate_db.specs.Readable.{IsRefusedBy}
 use Rattle.slate_script.specs.Session.{SessionModel, IsSettled}
 
 abbrev pub after_act : Objects → Act → Objects
@@ -28,3 +39,18 @@ IsUntrue os before after = (known : List Act) → before ≡ Some known → (mor
 
 abbrev pub Follows : Meaning → Objects → SessionModel → Option (List Act) → Option (List Act) → Type 0
 Follows m os e before after = (known : List Act) → before ≡ Some known → (more : List Act) × (after ≡ Some (known ++ more)) × IsSettled m (Some (after_acts os more)) e
+
+abbrev pub ArePut : List Act → List (Ulid × List ℕ) → Type 0
+ArePut acts ts = AllByRecursion (λ t. Contains acts (Act.put (path_of root t.0.0) t.1)) ts
+
+abbrev pub PutsTables : List (Ulid × List ℕ) → List (Ulid × List ℕ) → Option (List Act) → Option (List Act) → Type 0
+PutsTables old new before after = (known : List Act) → before ≡ Some known →
+    (more : List Act) × (added : List (Ulid × List ℕ)) × (after ≡ Some (known ++ more)) × (new ≡ old ++ added) × ArePut more added
+
+-- core: as it was before the reads
+pub record IsShownAtEnd (before after : Reach) (e : SlateDBError) : Type 0 where
+  pub core : CoreModel
+  pub reads : List Act
+  pub each : AllByRecursion IsReadAct reads
+  pub refused : IsRefusedBy before.meaning core reads e
+  pub last : (known : List Act) → before.acts ≡ Some known → (earlier : List Act) × (after.acts ≡ Some ((known ++ earlier) ++ reads)) × ArePut earlier (tables_of core.events)

@@ -3,20 +3,22 @@ ghost use Rattle.std.specs.Prelude.{◌≡◌, ◌⊎◌, ◌≤◌, ◌<◌, �
 ghost use Rattle.slate_types.specs.Config.{IsValid};
 ghost use Rattle.slate_types.specs.Faults.{Rose};
 ghost use Rattle.slate_types.specs.Outside.{Objects, Puts};
+ghost use Rattle.slate_types.specs.World.{Made};
 ghost use Rattle.slate_store.specs.Lines.{lines_of, script_limit};
 ghost use Rattle.slate_txn.specs.State.{Rules, State, opening};
 ghost use Rattle.slate_db.specs.Flushed.{layout_of};
 ghost use Rattle.slate_db.specs.Installs.{tables_of};
 ghost use Rattle.slate_db.specs.Load.{load, weight};
 ghost use Rattle.slate_db.specs.Meaning.{Meaning, IsLawfulMeaning};
-ghost use Rattle.slate_db.specs.Parts.{IsDamage};
+ghost use Rattle.slate_db.specs.Parts.{IsTableError};
+ghost use Rattle.slate_db.specs.Readable.{IsRefusedBy};
 ghost use Rattle.slate_txn.specs.Replies.{replies, replies_to, after_lines, replies_from, reply_line, IsWellFormed};
 ghost use Rattle.slate_txn.specs.Answers.{reply_of};
 ghost use Rattle.slate_txn.specs.Stage.{meaning};
 ghost use Rattle.slate_script.specs.Session.{StandsFor, HasTablesAlone, IsRunning, IsSettled, IsLimit};
 ghost use Rattle.slate_script.specs.Run.{run_rules, Premises, is_line, script_error, lines_taken, IsPartError, IsPartCause, IsOutside, IsScriptError, HasAnswered, HasAnsweredAll, HasBegun};
 ghost use Rattle.slate_script.specs.StoredState.{IsStoredState};
-ghost use Rattle.slate_script.specs.Told.{Follows, IsUntrue};
+ghost use Rattle.slate_script.specs.Told.{Follows, IsShownAtEnd, IsUntrue, PutsTables};
 
 use crate::session::Session;
 use slate_store::{Env, EnvOf, Lines, Sink, Source, Store, write_all};
@@ -36,8 +38,9 @@ use std::alloc::Global;
 /// another error came first. `ReadFault`, `WriteFault`, `StoreFault`, `Callback` and `BlockTransformError` come only
 /// where that object's count of faults rose in this call, and a source's or a sink's count that rose is never passed
 /// over. Damage is answered only where the store isn't honest, wasn't empty, or a part isn't lawful; where the parts are
-/// lawful and the store tells its acts, only where a read was answered otherwise than by what this run had put. No limit
-/// is reached: of a script no more bytes are taken than the least of them.
+/// lawful and the store tells its acts, only where a read was answered otherwise than by what this run had put. It is shown
+/// by the last reads of the run, of a table that the run had put. No limit is reached: of a script no more bytes are taken
+/// than the least of them.
 ///
 /// What is written at an error is replies: at one of the script those to all lines before it, at `ReadFault` those to
 /// all whole lines that the source gave, or to the whole script, at `WriteFault` those to some first lines and a front
@@ -67,8 +70,9 @@ pub fn run_script<R: Source, W: Sink, S: Store, M: MergeOperator, T: BlockTransf
     ensures store_fault { let reach = ⟦<EnvOf<S, M, T> as Outside>⟧.reach in result ≡ Err SlateDBError.StoreFault → Rose (reach env.old).faults.store (reach env.new).faults.store }
     ensures operator_fault { let reach = ⟦<EnvOf<S, M, T> as Outside>⟧.reach in (message : List ℕ) → result ≡ Err (SlateDBError.Callback message) → Rose (reach env.old).faults.operator (reach env.new).faults.operator }
     ensures transform_fault { let reach = ⟦<EnvOf<S, M, T> as Outside>⟧.reach in result ≡ Err SlateDBError.BlockTransformError → Rose (reach env.old).faults.transformer (reach env.new).faults.transformer }
-    ensures undamaged { let reach = ⟦<EnvOf<S, M, T> as Outside>⟧.reach in Premises (reach env.old).meaning (reach env.old).objects → IfErr result (λ e. IsDamage e → ⊥) }
-    ensures untrue { let reach = ⟦<EnvOf<S, M, T> as Outside>⟧.reach in IsLawfulMeaning (reach env.old).meaning → IfErr result (λ e. IsDamage e → IsUntrue [] (reach env.old).acts (reach env.new).acts) }
+    ensures undamaged { let reach = ⟦<EnvOf<S, M, T> as Outside>⟧.reach in Premises (reach env.old).meaning (reach env.old).objects → IfErr result (λ e. IsTableError e → ⊥) }
+    ensures untrue { let reach = ⟦<EnvOf<S, M, T> as Outside>⟧.reach in IsLawfulMeaning (reach env.old).meaning → IfErr result (λ e. IsTableError e → IsUntrue [] (reach env.old).acts (reach env.new).acts) }
+    ensures shown { let reach = ⟦<EnvOf<S, M, T> as Outside>⟧.reach in IfErr result (λ e. IsTableError e → IsShownAtEnd (reach env.old) (reach env.new) e) }
     ensures complete { let reach = ⟦<EnvOf<S, M, T> as Outside>⟧.reach in (script : List ℕ) → R.left source.old ≡ Some script → IsWellFormed script → Premises (reach env.old).meaning (reach env.old).objects →
         (Rose (R.faults source.old) (R.faults source.new) → ⊥) → (Rose (W.faults sink.old) (W.faults sink.new) → ⊥) → (Rose (reach env.old).faults.store (reach env.new).faults.store → ⊥) →
         (Rose (reach env.old).faults.operator (reach env.new).faults.operator → ⊥) → (Rose (reach env.old).faults.transformer (reach env.new).faults.transformer → ⊥) →
@@ -151,9 +155,11 @@ fn answer_line<W: Sink, S: Store, M: MergeOperator, T: BlockTransformer>(
         OnOk result (HasTablesAlone m (layout_of options.now) (reach env.new).objects (tables_of session.new.core.events)) }
     ensures cause { IfErr result (λ e. (e ≡ SlateDBError.OutOfMemory) ⊎ (e ≡ SlateDBError.WriteFault) ⊎ ((e ≡ SlateDBError.ScriptSyntax number) × (is_line line.now ≡ false)) ⊎ IsPartError e ⊎ IsLimit session.old e) }
     ensures part { let reach = ⟦<EnvOf<S, M, T> as Outside>⟧.reach in IfErr result (λ e. IsPartError e → IsPartCause (reach env.old).faults (reach env.new).faults e) }
-    ensures undamaged { let reach = ⟦<EnvOf<S, M, T> as Outside>⟧.reach in (m : Meaning) (r : Rules) → IsRunning m r (reach env.old).meaning (reach env.old).objects session.old → IfErr result (λ e. IsDamage e → ⊥) }
+    ensures undamaged { let reach = ⟦<EnvOf<S, M, T> as Outside>⟧.reach in (m : Meaning) (r : Rules) → IsRunning m r (reach env.old).meaning (reach env.old).objects session.old → IfErr result (λ e. IsTableError e → ⊥) }
     ensures follows { let reach = ⟦<EnvOf<S, M, T> as Outside>⟧.reach in (os : Objects) → IsSettled (reach env.old).meaning (Some os) session.old → OnOk result (Follows (reach env.old).meaning os session.new (reach env.old).acts (reach env.new).acts) }
-    ensures untrue { let reach = ⟦<EnvOf<S, M, T> as Outside>⟧.reach in (os : Objects) → IsSettled (reach env.old).meaning (Some os) session.old → IfErr result (λ e. IsDamage e → IsUntrue os (reach env.old).acts (reach env.new).acts) }
+    ensures untrue { let reach = ⟦<EnvOf<S, M, T> as Outside>⟧.reach in (os : Objects) → IsSettled (reach env.old).meaning (Some os) session.old → IfErr result (λ e. IsTableError e → IsUntrue os (reach env.old).acts (reach env.new).acts) }
+    ensures tables { let reach = ⟦<EnvOf<S, M, T> as Outside>⟧.reach in OnOk result (PutsTables (tables_of session.old.core.events) (tables_of session.new.core.events) (reach env.old).acts (reach env.new).acts) }
+    ensures shown { let reach = ⟦<EnvOf<S, M, T> as Outside>⟧.reach in IfErr result (λ e. IsTableError e → Made (reach env.old) (reach env.new) (λ reads. IsRefusedBy (reach env.old).meaning session.old.core reads e)) }
     ensures write_fault { result ≡ Err SlateDBError.WriteFault → Rose (W.faults sink.old) (W.faults sink.new) × IsTrue (is_line line.now) }
     ensures begun { let reach = ⟦<EnvOf<S, M, T> as Outside>⟧.reach in (m : Meaning) (r : Rules) → IsRunning m r (reach env.old).meaning (reach env.old).objects session.old → (s : State) (before : List ℕ) → StandsFor session.old s → W.content sink.old ≡ Some before → result ≡ Err SlateDBError.WriteFault →
         (n : ℕ) × (n < length (replies_from meaning r s (line.now ∷ []))) × (W.content sink.new ≡ Some (before ++ take n (replies_from meaning r s (line.now ∷ [])))) }

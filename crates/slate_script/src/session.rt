@@ -2,6 +2,7 @@
 ghost use Rattle.std.specs.Prelude.{◌≡◌, ◌≢◌, ◌⊎◌, ◌∷◌, ℕ, List, ◌++◌, [], map, Some, Ok, IfOk, IfErr, OnOk, IsTrue, IsOkUnless, length, drop, false};
 ghost use Rattle.slate_types.specs.Config.{IsValid};
 ghost use Rattle.slate_types.specs.Outside.{Objects, IsFault, OnlyReads, Puts};
+ghost use Rattle.slate_types.specs.World.{Made};
 ghost use Rattle.slate_mem.specs.Batch.{Ops};
 ghost use Rattle.slate_mem.specs.BatchModel.{IsBatchOf};
 ghost use Rattle.slate_mem.specs.Refusals.{first_refusal, op_refusal};
@@ -13,15 +14,15 @@ ghost use Rattle.slate_db.specs.Flushed.{layout_of};
 ghost use Rattle.slate_db.specs.Installs.{tables_of};
 ghost use Rattle.slate_db.specs.Load.{load, weight};
 ghost use Rattle.slate_db.specs.Meaning.{Meaning, IsLawfulMeaning};
-ghost use Rattle.slate_db.specs.Parts.{IsDamage};
-ghost use Rattle.slate_db.specs.Readable.{IsAnswered};
+ghost use Rattle.slate_db.specs.Parts.{IsTableError};
+ghost use Rattle.slate_db.specs.Readable.{IsAnswered, IsReadError, IsRefusedBy};
 ghost use Rattle.slate_db.specs.Sound.{IsKept};
 ghost use Rattle.slate_db.specs.StoredState.{StoresState};
 ghost use Rattle.slate_db.specs.Log.{AreFine};
 ghost use Rattle.slate_txn.specs.Answers.{reply_of};
 ghost use Rattle.slate_script.specs.Session.{StandsFor, AnswersAs, HasTablesAlone, Grows, IsSettled, IsSettledIn, IsLimit, IsRefusal, StoresNothing, has_moment};
 ghost use Rattle.slate_txn.specs.Stage.{is_built, is_built_op, is_built_batch};
-ghost use Rattle.slate_script.specs.Told.{Follows, IsUntrue};
+ghost use Rattle.slate_script.specs.Told.{Follows, IsUntrue, PutsTables};
 
 use bytes::Bytes;
 use slate_db::engine::Core;
@@ -103,11 +104,13 @@ impl Session {
             OnOk result (IsSettled (reach env.old).meaning (reach env.new).objects self.new) }
         ensures alone { let reach = ⟦<EnvOf<S, M, T> as Outside>⟧.reach in IsSettledIn (reach env.old) self.old → HasTablesAlone (reach env.old).meaning (layout_of options.now) (reach env.old).objects (tables_of self.old.core.events) →
             OnOk result (HasTablesAlone (reach env.old).meaning (layout_of options.now) (reach env.new).objects (tables_of self.new.core.events)) }
-        ensures cause { let reach = ⟦<EnvOf<S, M, T> as Outside>⟧.reach in IfErr result (λ e. IsFault (reach env.old) (reach env.new) e ⊎ IsLimit self.old e ⊎ IsDamage e) }
+        ensures cause { let reach = ⟦<EnvOf<S, M, T> as Outside>⟧.reach in IfErr result (λ e. IsFault (reach env.old) (reach env.new) e ⊎ IsLimit self.old e ⊎ IsTableError e) }
+        ensures shown { let reach = ⟦<EnvOf<S, M, T> as Outside>⟧.reach in IfErr result (λ e. IsTableError e → Made (reach env.old) (reach env.new) (λ reads. IsRefusedBy (reach env.old).meaning self.old.core reads e)) }
         ensures undamaged { let reach = ⟦<EnvOf<S, M, T> as Outside>⟧.reach in IsSettledIn (reach env.old) self.old →
             IfErr result (λ e. IsFault (reach env.old) (reach env.new) e ⊎ IsLimit self.old e) }
         ensures follows { let reach = ⟦<EnvOf<S, M, T> as Outside>⟧.reach in (os : Objects) → IsSettled (reach env.old).meaning (Some os) self.old → OnOk result (Follows (reach env.old).meaning os self.new (reach env.old).acts (reach env.new).acts) }
-        ensures untrue { let reach = ⟦<EnvOf<S, M, T> as Outside>⟧.reach in (os : Objects) → IsSettled (reach env.old).meaning (Some os) self.old → IfErr result (λ e. IsDamage e → IsUntrue os (reach env.old).acts (reach env.new).acts) }
+        ensures tables { let reach = ⟦<EnvOf<S, M, T> as Outside>⟧.reach in OnOk result (PutsTables (tables_of self.old.core.events) (tables_of self.new.core.events) (reach env.old).acts (reach env.new).acts) }
+        ensures untrue { let reach = ⟦<EnvOf<S, M, T> as Outside>⟧.reach in (os : Objects) → IsSettled (reach env.old).meaning (Some os) self.old → IfErr result (λ e. IsTableError e → IsUntrue os (reach env.old).acts (reach env.new).acts) }
         ensures puts { let reach = ⟦<EnvOf<S, M, T> as Outside>⟧.reach in Puts (reach env.old) (reach env.new) }
     {
         match line {
@@ -177,7 +180,7 @@ impl Session {
             AnswersAs (reach env.old).meaning self.old self.new (Line.Get name key) result }
         ensures stores { OnOk result (StoresNothing self.old self.new) }
         ensures grows { OnOk result (Grows (Line.Get name key) self.old self.new) }
-        ensures cause { let reach = ⟦<EnvOf<S, M, T> as Outside>⟧.reach in IfErr result (λ e. IsFault (reach env.old) (reach env.new) e ⊎ IsDamage e) }
+        ensures cause { let reach = ⟦<EnvOf<S, M, T> as Outside>⟧.reach in IfErr result (IsReadError (reach env.old) (reach env.new) self.old.core) }
         ensures undamaged { let reach = ⟦<EnvOf<S, M, T> as Outside>⟧.reach in IsAnswered (reach env.old) (reach env.new) self.old.core → IfErr result (IsFault (reach env.old) (reach env.new)) }
         ensures reads { let reach = ⟦<EnvOf<S, M, T> as Outside>⟧.reach in OnlyReads (reach env.old) (reach env.new) }
     {
@@ -250,6 +253,7 @@ impl Session {
         ensures alone { let reach = ⟦<EnvOf<S, M, T> as Outside>⟧.reach in IsSettledIn (reach env.old) self.old → HasTablesAlone (reach env.old).meaning (layout_of options.now) (reach env.old).objects (tables_of self.old.core.events) →
             OnOk result (HasTablesAlone (reach env.old).meaning (layout_of options.now) (reach env.new).objects (tables_of self.new.core.events)) }
         ensures follows { let reach = ⟦<EnvOf<S, M, T> as Outside>⟧.reach in (os : Objects) → IsSettled (reach env.old).meaning (Some os) self.old → OnOk result (Follows (reach env.old).meaning os self.new (reach env.old).acts (reach env.new).acts) }
+        ensures tables { let reach = ⟦<EnvOf<S, M, T> as Outside>⟧.reach in OnOk result (PutsTables (tables_of self.old.core.events) (tables_of self.new.core.events) (reach env.old).acts (reach env.new).acts) }
         ensures cause { let reach = ⟦<EnvOf<S, M, T> as Outside>⟧.reach in IfErr result (λ e. IsFault (reach env.old) (reach env.new) e ⊎ IsLimit self.old e) }
         ensures puts { let reach = ⟦<EnvOf<S, M, T> as Outside>⟧.reach in Puts (reach env.old) (reach env.new) }
     {

@@ -26,6 +26,7 @@ mod EqualStats
 mod OpenReads
 mod FileReads
 pub mod FrameReads
+pub mod ReadCalls
 mod OpenLaws
 mod IndexOrder
 mod HeldParts

@@ -38,6 +38,7 @@ returns-clause-ends c e rows none order =
 pub returns-in_err-push : goal.returns-in_err-push
 returns-in_err-push c =
     record {
+      row = IfOk-from_err c.from_residual.result _ c.from_residual.ensures.0;
       goes_on = IfOk-from_err c.from_residual.result _ c.from_residual.ensures.0;
       ends = IfOk-from_err c.from_residual.result _ c.from_residual.ensures.0;
     }

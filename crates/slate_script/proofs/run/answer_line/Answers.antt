@@ -10,10 +10,10 @@ use Rattle.slate_script.specs.Run.{IsPartCause}
 use Rattle.slate_script.specs.Session.{HasTablesAlone, line_load, StandsFor}
 use Rattle.slate_txn.specs.Stage.{meaning}
 use Rattle.slate_script.proofs.Answered.{one-built}
-use Rattle.slate_script.proofs.LineEnds.{parse-error, parse-cause, parse-no-part, parse-no-damage, parse-wrote, session-cause, session-part, session-wrote, writing-cause, writing-no-part, writing-no-damage, error-of, meant-line}
+use Rattle.slate_script.proofs.LineEnds.{parse-error, parse-cause, parse-no-part, parse-no-damage, parse-wrote, session-cause, session-part, session-wrote, writing-cause, writing-no-part, writing-no-damage, writing-no-error, error-of, meant-line}
 use Rattle.slate_script.proofs.LineLoads.{line-load}
 use Rattle.slate_script.proofs.RunEnds.{is-no-error}
-use Rattle.slate_script.proofs.ToldLaws.{follows-itself}
+use Rattle.slate_script.proofs.ToldLaws.{follows-itself, stores-itself}
 use Rattle.slate_script.proofs.Running.{line-stands, line-reply, runs-on, is-settled, one-moment, always, at-ok, not-damage, silent-line, silent-after, silent-says}
 use Rattle.slate_script.proofs.run.answer_line.Goals as goal
 
@@ -41,6 +41,8 @@ returns-in-Err-answer g c =
       undamaged = λ m r running. not-damage _ _ c.in-Err-answer.error (c.in-Err-answer.ensures.undamaged (is-settled running));
       follows = λ os settled. tt;
       untrue = λ os settled. c.in-Err-answer.ensures.untrue os settled;
+      tables = tt;
+      shown = c.in-Err-answer.ensures.shown;
       write_fault = λ is. absurd (session-wrote _ _ c.args.session.now c.in-Err-answer.error c.in-Err-answer.ensures.cause (error-of c.in-Err-answer.error is));
       begun = λ m r running s before stands told is. absurd (session-wrote _ _ c.args.session.now c.in-Err-answer.error c.in-Err-answer.ensures.cause (error-of c.in-Err-answer.error is));
       still = tt;
@@ -74,6 +76,8 @@ returns-in-Ok g c =
       undamaged = λ m r running. writing-no-damage _ c.write_reply.result c.write_reply.ensures.cause;
       follows = λ os settled. always c.write_reply.result (c.in-Ok.ensures.follows os settled);
       untrue = λ os settled. writing-no-damage _ c.write_reply.result c.write_reply.ensures.cause;
+      tables = always c.write_reply.result c.in-Ok.ensures.tables;
+      shown = writing-no-error _ c.write_reply.result c.write_reply.ensures.cause;
       write_fault = (λ is.
           let meant = rw c.in-Ok-Some.field-0-is at c.in-Ok-Some.ensures.meant in
           (c.write_reply.ensures.write_fault is, meant-line c.args.line.now c.in-Ok-Some.meaning meant.1));
@@ -109,6 +113,10 @@ returns-in-Err g c =
       untrue = (λ os settled damage.
           let by = parse-error c.args.number c.args.line.now c.in-Err.error c.at_line.result c.in-Err.ensures.cause c.at_line.ensures.memory c.at_line.ensures.syntax in
           absurd (parse-no-damage c.args.number c.args.line.now c.at_line.result by damage));
+      tables = tt;
+      shown = (λ damage.
+          let by = parse-error c.args.number c.args.line.now c.in-Err.error c.at_line.result c.in-Err.ensures.cause c.at_line.ensures.memory c.at_line.ensures.syntax in
+          absurd (parse-no-damage c.args.number c.args.line.now c.at_line.result by damage));
       write_fault = (λ is.
           let by = parse-error c.args.number c.args.line.now c.in-Err.error c.at_line.result c.in-Err.ensures.cause c.at_line.ensures.memory c.at_line.ensures.syntax in
           absurd (parse-wrote c.args.number c.args.line.now c.at_line.result by (error-of c.at_line.result is)));
@@ -136,6 +144,8 @@ returns-in-Ok-None g c =
       undamaged = λ m r running. tt;
       follows = λ os settled. follows-itself (meaning_of g.M.MergeOperator.combine g.T.BlockTransformer.encoded g.T.BlockTransformer.decoded c.args.env.now.operator c.args.env.now.transformer) os c.args.session.now (g.S.Store.acts c.args.env.now.store.now) settled;
       untrue = λ os settled. tt;
+      tables = stores-itself (tables_of c.args.session.now.core.events) (g.S.Store.acts c.args.env.now.store.now);
+      shown = tt;
       write_fault = λ is. absurd (is-no-error is);
       begun = λ m r running s before stands told is. absurd (is-no-error is);
       still = refl;

@@ -1,11 +1,13 @@
-use Rattle.std.proofs.Common.{◌≤◌, ◌≡◌, ◌⊎◌, ◌<◌, ◌++◌, ◌∷◌, [], ℕ, IfSome, Some, Result, Err, take, length, ◌+◌, sym, ap, subst, ◌∙◌, arith, append_assoc, refl, inl, inr}
+use Rattle.std.proofs.Common.{◌≤◌, ◌≡◌, ◌⊎◌, ◌<◌, ◌++◌, ◌∷◌, [], ℕ, List, IfSome, Some, Result, Err, take, length, ◌+◌, sym, ap, subst, ◌∙◌, arith, append_assoc, refl, inl, inr}
 use Rattle.slate_types.specs.declared.error.SlateDBError.{SlateDBError}
 use Rattle.slate_types.specs.declared.error.SlateDBError.TheVariants.{ScriptTooLong, ReadFault, WriteFault, StoreFault, Callback, BlockTransformError}
 use Rattle.slate_txn.specs.State.{opening}
 use Rattle.slate_txn.specs.Stage.{meaning}
 use Rattle.slate_txn.specs.Replies.{after_lines, replies_from, replies_to}
 use Rattle.slate_db.specs.Parts.{meaning_of, counts_of}
+use Rattle.slate_txn.specs.declared.event.Event.{Event}
 use Rattle.slate_db.specs.Flushed.{layout_of}
+use Rattle.slate_db.specs.Installs.{tables_of}
 use Rattle.slate_script.specs.Session.{StandsFor}
 use Rattle.slate_script.specs.Run.{run_rules, Premises, IsPartError}
 use Rattle.slate_store.specs.Lines.{lines_of}
@@ -17,8 +19,8 @@ use Rattle.slate_script.proofs.RunEnds.{LineError, unless-error, is-no-error, ro
 use Rattle.slate_types.specs.Outside.{Objects}
 use Rattle.slate_db.specs.Meaning.{Meaning}
 use Rattle.slate_script.specs.Session.{IsSettled}
-use Rattle.slate_script.specs.Told.{Follows, IsUntrue}
-use Rattle.slate_script.proofs.ToldLaws.{follows-itself, follows-on, untrue-on}
+use Rattle.slate_script.specs.Told.{Follows, IsUntrue, PutsTables}
+use Rattle.slate_script.proofs.ToldLaws.{follows-itself, follows-on, shown-at-end, stores-itself, stores-on, untrue-on}
 use Rattle.slate_script.proofs.run.run_script.Given as given
 use Rattle.slate_script.proofs.run.run_script.Goals as goal
 
@@ -48,6 +50,7 @@ loop-line-init g c = record {
   alone = λ premises. begins-alone (meaning_of g.M.MergeOperator.combine g.T.BlockTransformer.encoded g.T.BlockTransformer.decoded c.args.env.now.operator c.args.env.now.transformer) (layout_of c.args.options.now) (g.S.Store.objects c.args.env.now.store.now) c.new-session.result premises.empty c.new-session.ensures.events;
   followed = λ lawful. follows-itself (meaning_of g.M.MergeOperator.combine g.T.BlockTransformer.encoded g.T.BlockTransformer.decoded c.args.env.now.operator c.args.env.now.transformer) [] c.new-session.result (g.S.Store.acts c.args.env.now.store.now)
       (begins (meaning_of g.M.MergeOperator.combine g.T.BlockTransformer.encoded g.T.BlockTransformer.decoded c.args.env.now.operator c.args.env.now.transformer) c.args.options.now (Some []) c.new-session.result (record { lawful = lawful; empty = refl }) c.new-session.ensures.settings c.new-session.ensures.events c.new-session.ensures.kept).settled;
+  stored = subst (λ (es : List Event). PutsTables [] (tables_of es) (g.S.Store.acts c.args.env.now.store.now) (g.S.Store.acts c.args.env.now.store.now)) (sym c.new-session.ensures.events) (stores-itself [] (g.S.Store.acts c.args.env.now.store.now));
   source_later = omega arith;
   sink_later = omega arith;
   source_still = refl;
@@ -83,6 +86,7 @@ returns-in-Err g c =
           (reader-undamaged c.in-Err.error c.in-Err.ensures.cause));
       untrue = (λ lawful.
           (λ damage. absurd (reader-undamaged c.in-Err.error c.in-Err.ensures.cause damage)));
+      shown = λ damage. absurd (reader-undamaged c.in-Err.error c.in-Err.ensures.cause damage);
       complete = (λ script is formed premises no-read no-write no-store no-operator no-transformer.
           let at = c.loop-line.invariant.told script is in
           let told = c.in-Err.ensures.told at.left at.rest in
@@ -152,6 +156,7 @@ returns-in-Err-answer_line g c =
       untrue = (λ lawful.
           (λ damage. untrue-on (meaning_of g.M.MergeOperator.combine g.T.BlockTransformer.encoded g.T.BlockTransformer.decoded c.args.env.now.operator c.args.env.now.transformer) c.loop-line.session (g.S.Store.acts c.args.env.now.store.now) (g.S.Store.acts c.loop-line.env.store.now) (g.S.Store.acts c.answer_line.new.env.store.now) (c.loop-line.invariant.followed lawful)
           (subst (λ (m : Meaning). (os : Objects) → IsSettled m (Some os) c.loop-line.session → IsUntrue os (g.S.Store.acts c.loop-line.env.store.now) (g.S.Store.acts c.answer_line.new.env.store.now)) c.loop-line.invariant.puts.meaning (λ os settled. c.in-Err-answer_line.ensures.untrue os settled damage))));
+      shown = λ damage. shown-at-end _ _ _ c.loop-line.session.core c.in-Err-answer_line.error c.loop-line.invariant.puts.meaning c.loop-line.invariant.stored (c.in-Err-answer_line.ensures.shown damage);
       complete = (λ script is formed premises no-read no-write no-store no-operator no-transformer.
           let took = took-told (λ v. v.items) c.in-Ok-Some.field-0 c.in-Ok-Some.line c.as_slice.result.now (g.R.Source.left c.next.new.source) c.next.new.self c.in-Ok-Some.ensures.told c.in-Ok-Some.ensures.within c.in-Ok-Some.field-0-is c.as_slice.ensures.value (c.loop-line.invariant.told script is) in
           let by = line-error c.in-Err-answer_line.error took (its-cause g c) in
@@ -214,6 +219,7 @@ loop-line-preserved g c = record {
   alone = λ premises. c.in-Ok.ensures.alone (meaning_of g.M.MergeOperator.combine g.T.BlockTransformer.encoded g.T.BlockTransformer.decoded c.args.env.now.operator c.args.env.now.transformer) (run_rules c.args.options.now (meaning_of g.M.MergeOperator.combine g.T.BlockTransformer.encoded g.T.BlockTransformer.decoded c.args.env.now.operator c.args.env.now.transformer)) (c.loop-line.invariant.running premises) (c.loop-line.invariant.alone premises);
   followed = λ lawful. follows-on (meaning_of g.M.MergeOperator.combine g.T.BlockTransformer.encoded g.T.BlockTransformer.decoded c.args.env.now.operator c.args.env.now.transformer) c.loop-line.session c.answer_line.new.session (g.S.Store.acts c.args.env.now.store.now) (g.S.Store.acts c.loop-line.env.store.now) (g.S.Store.acts c.answer_line.new.env.store.now) (c.loop-line.invariant.followed lawful)
       (subst (λ (m : Meaning). (os : Objects) → IsSettled m (Some os) c.loop-line.session → Follows m os c.answer_line.new.session (g.S.Store.acts c.loop-line.env.store.now) (g.S.Store.acts c.answer_line.new.env.store.now)) c.loop-line.invariant.puts.meaning c.in-Ok.ensures.follows);
+  stored = stores-on (tables_of c.loop-line.session.core.events) (tables_of c.answer_line.new.session.core.events) _ _ _ c.loop-line.invariant.stored c.in-Ok.ensures.tables;
   source_later = omega (arith, c.next.ensures.later);
   sink_later = omega (arith, c.answer_line.ensures.later);
   source_still = unless-error c.in-Ok-Some.field-0 ReadFault c.in-Ok-Some.ensures.still ∙ c.loop-line.invariant.source_still;
@@ -257,6 +263,7 @@ returns g c =
       transform_fault = λ fault. absurd (is-no-error fault);
       undamaged = λ premises. tt;
       untrue = λ lawful. tt;
+      shown = tt;
       complete = λ script is formed premises no-read no-write no-store no-operator no-transformer. tt;
       source_still = inr (unless-error c.in-Ok-None.field-0 ReadFault c.in-Ok-None.ensures.still ∙ c.loop-line.invariant.source_still);
       sink_still = inr c.loop-line.invariant.sink_still;

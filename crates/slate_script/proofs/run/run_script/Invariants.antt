@@ -8,7 +8,7 @@ use Rattle.slate_db.specs.Load.{load, weight}
 use Rattle.slate_db.specs.Meaning.{IsLawfulMeaning}
 use Rattle.slate_script.specs.Run.{run_rules, Premises}
 use Rattle.slate_script.specs.Session.{HasTablesAlone, IsRunning}
-use Rattle.slate_script.specs.Told.{Follows}
+use Rattle.slate_script.specs.Told.{Follows, PutsTables}
 use Rattle.slate_script.proofs.Taken.{IsAt}
 use Rattle.slate_script.proofs.run.run_script.Given as goal
 
@@ -33,6 +33,7 @@ invariant-loop-line g l =
           → HasTablesAlone before.meaning
           (layout_of l.options) now.objects (tables_of l.session.core.events);
       followed : IsLawfulMeaning before.meaning → Follows before.meaning [] l.session before.acts now.acts;
+      stored : PutsTables [] (tables_of l.session.core.events) before.acts now.acts;
       source_later : g.R.Source.faults l.initial.source ≤ g.R.Source.faults l.source;
       sink_later : g.W.Sink.faults l.initial.sink ≤ g.W.Sink.faults l.sink;
       source_still : g.R.Source.faults l.source ≡ g.R.Source.faults l.initial.source;

@@ -6,7 +6,8 @@ use Rattle.slate_store.specs.Reach.{reach_of}
 use Rattle.slate_types.proofs.Reaching.{adds_none, later_none, reads_none, reads_of, reads_then}
 use Rattle.slate_mem.specs.Table.{newest}
 use Rattle.slate_txn.specs.State.{operator_at}
-use Rattle.slate_db.specs.Installs.{tables_of}
+use Rattle.slate_table.specs.declared.info.SsTableHandle.{SsTableHandle}
+use Rattle.slate_db.specs.Installs.{AreHandles, tables_of}
 use Rattle.slate_mem.specs.Lookup.{is_merge_among, newest_first}
 use Rattle.slate_db.specs.Model.{CoreModel, Rows}
 use Rattle.slate_db.specs.Readable.{IsAnswered}
@@ -14,8 +15,8 @@ use Rattle.slate_db.specs.Sound.{IsSound}
 use Rattle.slate_db.specs.View.{view_of, unseen_of}
 use Rattle.slate_db.specs.Whole.{IsWhole}
 use Rattle.slate_db.proofs.Blocks.{if_ok, if_ok_where, if_err}
-use Rattle.slate_db.proofs.Causes.{fold_error, fold_fault, no_operator}
-use Rattle.slate_db.proofs.Damaged.{known_cause}
+use Rattle.slate_db.proofs.Causes.{fold_fault}
+use Rattle.slate_db.proofs.Shown.{fold_refused, journal_damage}
 use Rattle.slate_db.proofs.Gets.{found_bases, found_folds, stored_as, Folds}
 use Rattle.slate_db.proofs.engine.Core.seen.Goals as goal
 use Rattle.slate_db.proofs.engine.Core.seen.Given as given
@@ -51,6 +52,9 @@ found_is g c is =
 whole : (g : given.Over) (c : goal.After-fold_found g) → IsWhole c.args.self.now (unseen_of c.self.inside)
 whole g c = subst (λ (v : CoreModel). IsWhole v (unseen_of c.self.inside)) c.self.view_is c.self.invariant
 
+handles : (g : given.Over) (c : goal.After-fold_found g) → AreHandles (tables_of c.args.self.now.events) c.tables.result.now
+handles g c = subst (λ (hs : List SsTableHandle). AreHandles (tables_of c.args.self.now.events) hs) (sym c.tables.ensures) (whole g c).tied.tables
+
 pub returns-in_err-near : goal.returns-in_err-near
 returns-in_err-near g c =
     let p = err_from_is_err_and c.from_residual.result c.from_residual.ensures.1 in
@@ -74,7 +78,7 @@ returns-in_err-found g c =
             let sound : IsSound m c.args.self.now = is.readable.kept.1 is.readable.lawful in
             let p = err_from_is_err_and c.from_residual-in_err-found.result c.from_residual-in_err-found.ensures.1 in
             rw (p.1, p.2) (c.in_err-found.ensures.whole sound.layers is.os (stored_as m c.args.self.now (view_of c.self.inside) (unseen_of c.self.inside) c.tables.result.now is.os sound.layers c.self.view_is c.tables.ensures c.self.invariant is.readable.lawful sound.tables is.readable.holds) is.answers));
-        cause = rw (p.1, p.2) (no_operator (known_cause (tables_of (view_of c.self.inside).events) c.tables.result.now c.self.inside.layers.tables _ c.tables.ensures c.self.invariant.tied.tables c.in_err-found.ensures.cause));
+        cause = rw (p.1, p.2) (journal_damage _ _ c.args.self.now c.tables.result.now _ (subst (λ (hs : List SsTableHandle). AreHandles (tables_of c.args.self.now.events) hs) (sym c.tables.ensures) (subst (λ (v : CoreModel). AreHandles (tables_of v.events) c.self.inside.layers.tables) c.self.view_is c.self.invariant.tied.tables)) c.in_err-found.ensures.cause);
         reads = c.newest_of_tables.ensures.reads;
       };
     }
@@ -94,7 +98,8 @@ returns g c =
         undamaged = (λ is.
             let none : is_merge_among c.in_ok-found.found.items ≡ false = found_bases c.args.self.now _ c.args.key.now c.args.at c.in_ok-found.found.items (sound g c is).layers (whole g c) (sound g c is).bases (found_is g c is) in
             if_err c.fold_found.result _ _ (λ e h. fold_fault _ _ _ (is_merge_among c.in_ok-found.found.items) e tables.later none h) c.fold_found.ensures.cause);
-        cause = if_err c.fold_found.result _ _ (λ e h. fold_error _ (between g c).faults _ _ _ e tables.later (ap (λ m. m.combine) tables.meaning) h) c.fold_found.ensures.cause;
+        cause = if_err c.fold_found.result _ _ (λ e h. fold_refused (before g c) (between g c) (after g c) c.args.self.now c.tables.result.now c.as_slice.result.now c.args.at c.in_ok-near.near.items c.in_ok-found.found.items e (handles g c) (near g c) tables.later refl
+            (λ i. record (between g c).meaning { combine = c.fold_found.ensures.same i }) refl c.in_ok-found.ensures.rows h) c.fold_found.ensures.cause;
         reads = reads_then _ _ _ tables (reads_of _ _ refl c.fold_found.ensures.same refl refl (adds_none _) (record { store = omega arith; operator = c.fold_found.ensures.later; transformer = omega arith }) refl);
       };
     }

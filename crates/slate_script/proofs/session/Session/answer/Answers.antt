@@ -1,13 +1,13 @@
 use Rattle.std.proofs.Common.{OnOk, ap, inr, refl, sym, subst}
 use Rattle.slate_store.specs.Reach.{reach_of}
-use Rattle.slate_types.proofs.Reaching.{puts_none, reads_put_nothing}
+use Rattle.slate_types.proofs.Reaching.{adds_none, puts_none, reads_put_nothing}
 use Rattle.slate_txn.specs.declared.line.Line.{Line}
 use Rattle.slate_db.specs.Parts.{meaning_of, counts_of}
 use Rattle.slate_script.specs.Session.{AnswersAs, Grows}
-use Rattle.slate_script.proofs.LineEnds.{keeps-settings, keeps-settled, memory-or-limit, or-limit, or-damage, limit-between, no-damage}
+use Rattle.slate_script.proofs.LineEnds.{keeps-settings, keeps-settled, memory-or-limit, or-limit, or-damage, limit-between, no-damage, no-error, shown-of}
 use Rattle.slate_script.proofs.SessionParts.{settled-answered, true-answered}
 use Rattle.slate_script.proofs.TablesAlone.{stays-where}
-use Rattle.slate_script.proofs.ToldLaws.{follows-reads, follows-still, untrue-get}
+use Rattle.slate_script.proofs.ToldLaws.{follows-reads, follows-still, stores-none, untrue-get}
 use Rattle.slate_script.proofs.session.Session.answer.Goals as goal
 
 pub returns-in_default : goal.returns-in_default
@@ -20,10 +20,13 @@ returns-in_default g c =
       alone = λ settled alone. stays-where c.answer_within.result _ _ _ _ c.args.self.now c.answer_within.new.self refl c.answer_within.ensures.stores alone;
       cause = (let counts = counts_of (g.S.Store.faults c.args.env.now.store.now) g.M.MergeOperator.faults g.T.BlockTransformer.faults c.args.env.now.operator c.args.env.now.transformer in
           or-damage c.answer_within.result counts counts c.args.self.now (memory-or-limit c.answer_within.result counts counts c.args.self.now c.answer_within.ensures.cause));
+      shown = (let counts = counts_of (g.S.Store.faults c.args.env.now.store.now) g.M.MergeOperator.faults g.T.BlockTransformer.faults c.args.env.now.operator c.args.env.now.transformer in
+          no-error _ c.answer_within.result counts counts c.args.self.now (memory-or-limit c.answer_within.result counts counts c.args.self.now c.answer_within.ensures.cause));
       undamaged = (λ settled.
           let counts = counts_of (g.S.Store.faults c.args.env.now.store.now) g.M.MergeOperator.faults g.T.BlockTransformer.faults c.args.env.now.operator c.args.env.now.transformer in
           memory-or-limit c.answer_within.result counts counts c.args.self.now c.answer_within.ensures.cause);
       follows = λ os settled. follows-still c.answer_within.result (meaning_of g.M.MergeOperator.combine g.T.BlockTransformer.encoded g.T.BlockTransformer.decoded c.args.env.now.operator c.args.env.now.transformer) os c.args.self.now c.answer_within.new.self (g.S.Store.acts c.args.env.now.store.now) c.answer_within.ensures.stores settled;
+      tables = stores-none c.answer_within.result c.args.self.now c.answer_within.new.self _ _ (adds_none _) c.answer_within.ensures.stores;
       untrue = (λ os settled.
           let counts = counts_of (g.S.Store.faults c.args.env.now.store.now) g.M.MergeOperator.faults g.T.BlockTransformer.faults c.args.env.now.operator c.args.env.now.transformer in
           no-damage _ c.answer_within.result counts counts c.args.self.now (memory-or-limit c.answer_within.result counts counts c.args.self.now c.answer_within.ensures.cause));
@@ -41,8 +44,10 @@ returns-in-Flush g c =
       kept = c.flush.ensures.kept;
       alone = c.flush.ensures.alone;
       cause = or-damage c.flush.result (counts_of (g.S.Store.faults c.args.env.now.store.now) g.M.MergeOperator.faults g.T.BlockTransformer.faults c.args.env.now.operator c.args.env.now.transformer) (counts_of (g.S.Store.faults c.flush.new.env.store.now) g.M.MergeOperator.faults g.T.BlockTransformer.faults c.flush.new.env.operator c.flush.new.env.transformer) c.args.self.now c.flush.ensures.cause;
+      shown = no-error _ c.flush.result (counts_of (g.S.Store.faults c.args.env.now.store.now) g.M.MergeOperator.faults g.T.BlockTransformer.faults c.args.env.now.operator c.args.env.now.transformer) (counts_of (g.S.Store.faults c.flush.new.env.store.now) g.M.MergeOperator.faults g.T.BlockTransformer.faults c.flush.new.env.operator c.flush.new.env.transformer) c.args.self.now c.flush.ensures.cause;
       undamaged = λ settled. c.flush.ensures.cause;
       follows = c.flush.ensures.follows;
+      tables = c.flush.ensures.tables;
       untrue = λ os settled. no-damage _ c.flush.result (counts_of (g.S.Store.faults c.args.env.now.store.now) g.M.MergeOperator.faults g.T.BlockTransformer.faults c.args.env.now.operator c.args.env.now.transformer) (counts_of (g.S.Store.faults c.flush.new.env.store.now) g.M.MergeOperator.faults g.T.BlockTransformer.faults c.flush.new.env.operator c.flush.new.env.transformer) c.args.self.now c.flush.ensures.cause;
       puts = c.flush.ensures.puts;
     }
@@ -57,9 +62,11 @@ returns-in-Get g c =
       grows = subst (λ (line : Line). OnOk c.get.result (Grows line c.args.self.now c.get.new.self)) (sym c.in-Get.is) c.get.ensures.grows;
       kept = λ settled. keeps-settled c.get.result _ _ _ c.args.self.now c.get.new.self c.get.ensures.reads.objects c.get.ensures.stores settled;
       alone = λ settled alone. stays-where c.get.result _ _ _ _ c.args.self.now c.get.new.self c.get.ensures.reads.objects c.get.ensures.stores alone;
-      cause = limit-between c.get.result (counts_of (g.S.Store.faults c.args.env.now.store.now) g.M.MergeOperator.faults g.T.BlockTransformer.faults c.args.env.now.operator c.args.env.now.transformer) (counts_of (g.S.Store.faults c.get.new.env.store.now) g.M.MergeOperator.faults g.T.BlockTransformer.faults c.get.new.env.operator c.get.new.env.transformer) c.args.self.now c.get.ensures.cause;
+      cause = limit-between c.get.result (reach_of g.S.Store g.M.MergeOperator g.T.BlockTransformer c.args.env.now) (reach_of g.S.Store g.M.MergeOperator g.T.BlockTransformer c.get.new.env) c.args.self.now c.get.ensures.cause;
+      shown = shown-of c.get.result (reach_of g.S.Store g.M.MergeOperator g.T.BlockTransformer c.args.env.now) (reach_of g.S.Store g.M.MergeOperator g.T.BlockTransformer c.get.new.env) c.args.self.now c.get.ensures.cause;
       undamaged = λ settled. or-limit c.get.result (counts_of (g.S.Store.faults c.args.env.now.store.now) g.M.MergeOperator.faults g.T.BlockTransformer.faults c.args.env.now.operator c.args.env.now.transformer) (counts_of (g.S.Store.faults c.get.new.env.store.now) g.M.MergeOperator.faults g.T.BlockTransformer.faults c.get.new.env.operator c.get.new.env.transformer) c.args.self.now (c.get.ensures.undamaged (settled-answered (reach_of g.S.Store g.M.MergeOperator g.T.BlockTransformer c.args.env.now) (reach_of g.S.Store g.M.MergeOperator g.T.BlockTransformer c.get.new.env) c.args.self.now settled));
       follows = λ os settled. follows-reads c.get.result (meaning_of g.M.MergeOperator.combine g.T.BlockTransformer.encoded g.T.BlockTransformer.decoded c.args.env.now.operator c.args.env.now.transformer) os c.args.self.now c.get.new.self (g.S.Store.acts c.args.env.now.store.now) (g.S.Store.acts c.get.new.env.store.now) c.get.ensures.reads.acts c.get.ensures.stores settled;
+      tables = stores-none c.get.result c.args.self.now c.get.new.self _ _ c.get.ensures.reads.acts c.get.ensures.stores;
       untrue = λ os settled. untrue-get c.get.result os (g.S.Store.acts c.args.env.now.store.now) (g.S.Store.acts c.get.new.env.store.now) _ _ c.get.ensures.reads.acts (λ answers. c.get.ensures.undamaged (true-answered (reach_of g.S.Store g.M.MergeOperator g.T.BlockTransformer c.args.env.now) (reach_of g.S.Store g.M.MergeOperator g.T.BlockTransformer c.get.new.env) os c.args.self.now settled (inr answers)));
       puts = reads_put_nothing _ _ c.get.ensures.reads;
     }

@@ -5,6 +5,7 @@ use Rattle.slate_types.specs.Outside.{IsFault}
 use Rattle.slate_store.specs.Reach.{reach_of}
 use Rattle.slate_table.specs.SectionReading.{changed_by}
 use Rattle.slate_txn.specs.declared.line.Line.TheVariants as lines
+use Rattle.slate_db.specs.Answered.{AddsTables}
 use Rattle.slate_db.specs.Flushed.{layout_of}
 use Rattle.slate_db.specs.Installs.{tables_of}
 use Rattle.slate_db.specs.Parts.{meaning_of}
@@ -15,7 +16,7 @@ use Rattle.slate_script.proofs.SessionParts.{flush-cause, has-room}
 use Rattle.slate_script.proofs.SessionSteps.{flush-as}
 use Rattle.slate_script.proofs.SessionStores.{flush-settled}
 use Rattle.slate_script.proofs.TablesAlone.{flush-alone}
-use Rattle.slate_script.proofs.ToldLaws.{follows-flush}
+use Rattle.slate_script.proofs.ToldLaws.{follows-flush, stores-added}
 use Rattle.slate_script.proofs.Growth.{grows, takes-flushed}
 use Rattle.slate_script.proofs.session.Session.flush.Goals as goal
 
@@ -61,6 +62,7 @@ returns g c =
           (has-room LIMIT _ _ _ c.flush.result c.in_ok-seq.seq (LimitReached LIMIT) went c.flush.ensures.limit)
           (c.flush.ensures.kept m refl)
           (subst (λ (v : SessionModel). IsSettled m (Some os) v) (sym c.self.view_is) settled));
+      tables = stores-added _ _ _ _ (subst (λ (v : SessionModel). AddsTables (tables_of v.core.events) (tables_of c.flush.new.self.events) (g.S.Store.acts c.args.env.now.store.now) (g.S.Store.acts c.flush.new.env.store.now)) c.self.view_is c.in_ok-seq.ensures.acts);
       cause = tt;
       puts = c.flush.ensures.puts;
     }
@@ -75,6 +77,7 @@ returns-in_err-seq g c =
       kept = λ settled. IfOk-from_err c.from_residual.result _ c.from_residual.ensures.0;
       alone = λ settled alone. IfOk-from_err c.from_residual.result _ c.from_residual.ensures.0;
       follows = λ os settled. IfOk-from_err c.from_residual.result _ c.from_residual.ensures.0;
+      tables = IfOk-from_err c.from_residual.result _ c.from_residual.ensures.0;
       cause = (let old = reach_of g.S.Store g.M.MergeOperator g.T.BlockTransformer c.args.env.now in
           let new = reach_of g.S.Store g.M.MergeOperator g.T.BlockTransformer c.flush.new.env in
           rw (p.1, p.2) (subst (λ (v : SessionModel). IsFault old new c.in_err-seq.field-0.0 ⊎ IsLimit v c.in_err-seq.field-0.0) c.self.view_is

@@ -12,13 +12,12 @@ use Rattle.slate_db.specs.Installs.{tables_of}
 use Rattle.slate_db.specs.Meaning.{rules_of}
 use Rattle.slate_db.specs.Model.{CoreModel}
 use Rattle.slate_db.specs.Parts.{meaning_of}
-use Rattle.slate_db.specs.Readable.{IsAnswered}
+use Rattle.slate_db.specs.Readable.{IsAnswered, IsReadError}
 use Rattle.slate_txn.specs.declared.reply.Answer.TheVariants as answers
 use Rattle.slate_txn.specs.declared.reply.Refusal.TheVariants as refusals
 use Rattle.slate_script.specs.Session.{SessionModel, AreNames, AnswersAs, Grows, StoresNothing}
 use Rattle.slate_script.proofs.NamesLaws.{find_named-lookup}
 use Rattle.slate_script.proofs.SessionNames.{names-noted}
-use Rattle.slate_script.proofs.SessionParts.{get-cause}
 use Rattle.slate_script.proofs.SessionSteps.{get-refused, get-found}
 use Rattle.slate_script.proofs.Growth.{as-many, grows, takes-noted}
 use Rattle.slate_script.proofs.session.Session.get.Goals as goal
@@ -81,7 +80,10 @@ returns-in_err-row g c =
       step = λ is s stands. IfOk-from_err c.from_residual.result _ c.from_residual.ensures.0;
       stores = IfOk-from_err c.from_residual.result _ c.from_residual.ensures.0;
       grows = IfOk-from_err c.from_residual.result _ c.from_residual.ensures.0;
-      cause = rw (p.1, p.2) (get-cause (reach_of g.S.Store g.M.MergeOperator g.T.BlockTransformer c.args.env.now) (reach_of g.S.Store g.M.MergeOperator g.T.BlockTransformer c.get-read.new.env) _ c.in_err-row.ensures.read.cause);
+      cause = (let old = reach_of g.S.Store g.M.MergeOperator g.T.BlockTransformer c.args.env.now in
+          let new = reach_of g.S.Store g.M.MergeOperator g.T.BlockTransformer c.get-read.new.env in
+          let p = err_from_is_err_and c.from_residual.result c.from_residual.ensures.1 in
+          rw (p.1, p.2) (subst (λ (v : SessionModel). IsReadError old new v.core c.in_err-row.field-0.0) c.self.view_is c.in_err-row.ensures.read.cause));
       undamaged = (λ is.
           let old = reach_of g.S.Store g.M.MergeOperator g.T.BlockTransformer c.args.env.now in
           let new = reach_of g.S.Store g.M.MergeOperator g.T.BlockTransformer c.get-read.new.env in

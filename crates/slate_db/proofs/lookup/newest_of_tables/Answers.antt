@@ -1,21 +1,22 @@
-use Rattle.std.proofs.Common.{◌≡◌, ◌+◌, ◌-◌, ◌∙◌, ◌++◌, false, drop, length, rules, ap, arith, inl}
+use Rattle.std.proofs.Common.{◌≡◌, [], ◌+◌, ◌-◌, ◌∙◌, ◌++◌, false, drop, length, rules, ap, arith, inl}
 use Rattle.std.proofs.lemmas.Result.{err_from_is_err_and, IfOk-from_err}
+use Rattle.slate_types.proofs.Calls.{call_none}
 use Rattle.slate_types.proofs.OutsideLaws.{counted_earlier}
 use Rattle.slate_types.proofs.Reaching.{reads_none, reads_then}
 use Rattle.slate_mem.specs.Table.{newest}
 use Rattle.slate_mem.specs.Lookup.{is_decided, newest_first}
 use Rattle.slate_db.proofs.Answered.{from_first, from_last}
-use Rattle.slate_db.proofs.Causes.{fault_since}
-use Rattle.slate_db.proofs.Damaged.{at_table}
+use Rattle.slate_db.proofs.Shown.{at_table, damage_on, newer_found, rows_on}
 use Rattle.slate_mem.proofs.LayerLaws.{layers_begin, layer_step, layers_decide, layers_end}
 use Rattle.slate_db.proofs.Tables.{as_many, table_as}
-use Rattle.slate_db.proofs.stored.newest_of_tables.Goals as goal
-use Rattle.slate_db.proofs.stored.newest_of_tables.Goals.{then-loop-i-test+else-not-is_decided, else-loop-i-test}
+use Rattle.slate_db.proofs.lookup.newest_of_tables.Goals as goal
+use Rattle.slate_db.proofs.lookup.newest_of_tables.Goals.{then-loop-i-test+else-not-is_decided, else-loop-i-test}
 
 pub loop-i-init : goal.loop-i-init
 loop-i-init g c = record {
   within = omega arith;
   reads = reads_none _;
+  rows = ([], call_none _, newer_found _ c.args.tables.now c.args.newer.items []);
   found = λ layers os are answers above h.
       layers_begin c.args.key.now c.args.max_seq (length c.args.tables.now) above c.args.newer.items layers h
       (as_many _ _ _ c.args.tables.now layers are);
@@ -31,6 +32,7 @@ loop-i-preserved g c =
     record {
       within = omega (arith, c.loop-i.invariant.within);
       reads = reads_then _ _ _ first last;
+      rows = rows_on _ _ _ c.args.tables.now c.index-tables-i.result c.args.newer.items c.loop-i.found.items c.in_ok-more.more.items c.append.new.self.items (at_table c.args.tables.now i c.index-tables-i.result (omega (arith, c.loop-i-test.true, c.loop-i.invariant.within)) c.index-tables-i.is) c.loop-i.invariant.rows c.in_ok-more.ensures.rows c.in_ok-append.ensures.items;
       found = λ layers os are answers above h.
           let at = table_as _ _ os c.args.tables.now layers i c.index-tables-i.result first.meaning are (omega (arith, c.loop-i-test.true, c.loop-i.invariant.within)) c.index-tables-i.is in
           layer_step c.args.key.now c.args.max_seq i above c.loop-i.found.items c.in_ok-more.more.items c.append.new.self.items at.rows layers at.here
@@ -46,6 +48,7 @@ returns g c =
             | else-loop-i-test w ↦ layers_end c.args.key.now c.args.max_seq c.loop-i.i above c.loop-i.found.items layers (c.loop-i.invariant.found layers os are answers above h) (omega (arith, w.loop-i-test.false))
           ]);
       whole = λ layers os are answers. tt;
+      rows = c.loop-i.invariant.rows;
       cause = tt;
       reads = c.loop-i.invariant.reads;
     }
@@ -61,8 +64,8 @@ returns-in_err-more g c =
           let at = table_as _ _ os c.args.tables.now layers (c.loop-i.i - 1) c.index-tables-i.result first.meaning are (omega (arith, c.loop-i-test.true, c.loop-i.invariant.within)) c.index-tables-i.is in
           let p = err_from_is_err_and c.from_residual.result c.from_residual.ensures.1 in
           rw (p.1, p.2) (counted_earlier _ _ _ _ first.later (c.in_err-more.ensures.whole at.rows os at.is (from_last os _ _ _ first last answers))));
-      cause = (rw (p.1, p.2) (fault_since _ _ _ _ first.later
-          (at_table c.args.tables.now (c.loop-i.i - 1) c.index-tables-i.result _ (omega (arith, c.loop-i-test.true, c.loop-i.invariant.within)) c.index-tables-i.is c.in_err-more.ensures.cause)));
+      rows = IfOk-from_err c.from_residual.result _ c.from_residual.ensures.0;
+      cause = rw (p.1, p.2) (damage_on _ _ _ c.args.tables.now c.index-tables-i.result _ (at_table c.args.tables.now (c.loop-i.i - 1) c.index-tables-i.result (omega (arith, c.loop-i-test.true, c.loop-i.invariant.within)) c.index-tables-i.is) first.later c.loop-i.invariant.rows c.in_err-more.ensures.cause);
       reads = reads_then _ _ _ first last;
     }
 
@@ -72,6 +75,7 @@ returns-in_err-append g c =
     record {
       found = λ layers os are answers. IfOk-from_err c.from_residual-in_err-append.result _ c.from_residual-in_err-append.ensures.0;
       whole = λ layers os are answers. let p = err_from_is_err_and c.from_residual-in_err-append.result c.from_residual-in_err-append.ensures.1 in rw (p.1, p.2) tt;
+      rows = IfOk-from_err c.from_residual-in_err-append.result _ c.from_residual-in_err-append.ensures.0;
       cause = rw (p.1, p.2) (inl tt);
       reads = reads_then _ _ _ c.loop-i.invariant.reads c.newest_of_table.ensures.reads;
     }

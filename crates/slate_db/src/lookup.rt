@@ -7,6 +7,8 @@ ghost use Rattle.slate_types.specs.declared.types.RowEntry.{RowEntry};
 ghost use Rattle.slate_types.specs.Iteration.{IsInOrder};
 ghost use Rattle.slate_types.specs.Outside.{Objects, IsFault, OnlyReads};
 ghost use Rattle.slate_types.specs.Partitions.{CanHold};
+ghost use Rattle.slate_types.specs.World.{Made};
+ghost use Rattle.slate_block.specs.declared.block.Block.{Block};
 ghost use Rattle.slate_block.specs.BlockSpelling.{IsBlockOf};
 ghost use Rattle.slate_block.specs.BlockWalks.{left, Refuses};
 ghost use Rattle.slate_block.specs.EitherVersion.{left_of};
@@ -19,9 +21,11 @@ ghost use Rattle.slate_table.specs.IndexValue.{entries_of};
 ghost use Rattle.slate_table.specs.InfoReading.{seen_info};
 ghost use Rattle.slate_db.specs.Answered.{AnswersFrom};
 ghost use Rattle.slate_mem.specs.Lookup.{newest_first};
-ghost use Rattle.slate_db.specs.Lookup.{IsDamage, IsUnknown, IsStoredAs, AreStoredAs};
+ghost use Rattle.slate_db.specs.Lookup.{IsUnknown, IsStoredAs, AreStoredAs};
 ghost use Rattle.slate_db.specs.Model.{Rows};
+ghost use Rattle.slate_db.specs.Shown.{IsRowOf, IsUnreadable, RefusesRow, HasRow, Shows, BringsRow, ShowsDamage};
 
+use crate::flush::ROOT;
 use slate_block::{Block, DataBlockIterator};
 use slate_mem::lookup::{is_decided, newest_of_walk};
 use slate_store::{Env, EnvOf, Store};
@@ -32,9 +36,6 @@ use slate_types::{
 };
 use std::alloc::Global;
 use std::ops::{Bound, Range};
-
-/// The folder of the store's objects.
-pub const ROOT: &str = "db";
 
 /// Whether the key stands between the first and the last key of a table.
 fn encloses(info: &SsTableInfo, key: &[u8]) -> bool
@@ -59,7 +60,7 @@ fn covering(index: &SstIndex, key: &[u8]) -> Range<usize>
 }
 
 /// The numbers of a slice of bytes are bytes.
-pub fn are_bytes(bytes: &[u8])
+pub(crate) fn are_bytes(bytes: &[u8])
     ensures { EachIsAByte bytes.now }
 {}
 
@@ -73,7 +74,8 @@ fn newest_of_block(
 ) -> Result<Vec<RowEntry>, SlateDBError>
     ensures found { (rows : List RowEntry) → IsBlockOf block.body block.offsets.items version rows → IsInOrder IterationOrder.Ascending rows → IfOk result (λ found. found.items ≡ newest key.now max_seq rows) }
     ensures whole { (rows : List RowEntry) → IsBlockOf block.body block.offsets.items version rows → IsInOrder IterationOrder.Ascending rows → IfErr result (λ e. e ≡ SlateDBError.OutOfMemory) }
-    ensures cause { IfErr result (λ e. (e ≡ SlateDBError.OutOfMemory) ⊎ IsDamage e ⊎ IsUnknown version e) }
+    ensures rows { IfOk result (λ found. AllByRecursion (IsRowOf version block) found.items) }
+    ensures cause { IfErr result (λ e. (e ≡ SlateDBError.OutOfMemory) ⊎ (IsUnreadable e × RefusesRow version block e) ⊎ IsUnknown version e) }
 {
     are_bytes(block.body.as_slice());
     let mut rows = DataBlockIterator::new(alloc, block, version, IterationOrder::Ascending)?;
@@ -91,6 +93,7 @@ fn newest_from(
 ) -> Result<Vec<RowEntry>, SlateDBError>
     ensures found { (all : List RowEntry) → left (left_of rows.old) ≡ Ok all → (left_of rows.old).order ≡ IterationOrder.Ascending → IsInOrder IterationOrder.Ascending all → IfOk result (λ found. found.items ≡ newest key.now max_seq all) }
     ensures whole { (all : List RowEntry) → left (left_of rows.old) ≡ Ok all → IfErr result (λ e. e ≡ SlateDBError.OutOfMemory) }
+    ensures rows { IfOk result (λ found. AllByRecursion (λ r. Contains (left_of rows.old).reads (Ok r)) found.items) }
     ensures cause { IfErr result (λ e. (e ≡ SlateDBError.OutOfMemory) ⊎ Refuses (left_of rows.old).reads e) }
 {
     rows.seek(alloc, key, &mut ())?;
@@ -107,7 +110,8 @@ fn newest_of_blocks(
 ) -> Result<Vec<RowEntry>, SlateDBError>
     ensures found { (lists : List Rows) → AreBlocksOf version blocks.items lists → AllByRecursion (IsInOrder IterationOrder.Ascending) lists → IfOk result (λ found. found.items ≡ newest key.now max_seq (flat_map (λ rows. rows) lists)) }
     ensures whole { (lists : List Rows) → AreBlocksOf version blocks.items lists → AllByRecursion (IsInOrder IterationOrder.Ascending) lists → IfErr result (λ e. e ≡ SlateDBError.OutOfMemory) }
-    ensures cause { IfErr result (λ e. (e ≡ SlateDBError.OutOfMemory) ⊎ IsDamage e ⊎ IsUnknown version e) }
+    ensures rows { IfOk result (λ found. AllByRecursion (λ r. (block : Block) × Contains blocks.items block × IsRowOf version block r) found.items) }
+    ensures cause { IfErr result (λ e. (e ≡ SlateDBError.OutOfMemory) ⊎ ((block : Block) × Contains blocks.items block × IsUnreadable e × RefusesRow version block e) ⊎ IsUnknown version e) }
 {
     let mut found = Vec::new(alloc);
     for block in blocks {
@@ -130,7 +134,8 @@ fn newest_of_table<S: Store, M: MergeOperator, T: BlockTransformer>(
 ) -> Result<Vec<RowEntry>, SlateDBError>
     ensures found { let reach = ⟦<EnvOf<S, M, T> as Outside>⟧.reach in (rows : Rows) (os : Objects) → IsStoredAs (reach env.old).meaning os table.now rows → AnswersFrom os (reach env.old) (reach env.new) → IfOk result (λ found. found.items ≡ newest key.now max_seq rows) }
     ensures whole { let reach = ⟦<EnvOf<S, M, T> as Outside>⟧.reach in (rows : Rows) (os : Objects) → IsStoredAs (reach env.old).meaning os table.now rows → AnswersFrom os (reach env.old) (reach env.new) → IfErr result (IsFault (reach env.old) (reach env.new)) }
-    ensures cause { let reach = ⟦<EnvOf<S, M, T> as Outside>⟧.reach in IfErr result (λ e. IsFault (reach env.old) (reach env.new) e ⊎ IsDamage e ⊎ IsUnknown table.now.format_version e) }
+    ensures rows { let reach = ⟦<EnvOf<S, M, T> as Outside>⟧.reach in IfOk result (λ found. Made (reach env.old) (reach env.new) (λ reads. AllByRecursion (HasRow (reach env.old).meaning.decode table.now reads) found.items)) }
+    ensures cause { let reach = ⟦<EnvOf<S, M, T> as Outside>⟧.reach in IfErr result (λ e. IsFault (reach env.old) (reach env.new) e ⊎ Made (reach env.old) (reach env.new) (λ reads. Shows (reach env.old).meaning.decode table.now reads e) ⊎ IsUnknown table.now.format_version e) }
     ensures reads { let reach = ⟦<EnvOf<S, M, T> as Outside>⟧.reach in OnlyReads (reach env.old) (reach env.new) }
 {
     if !encloses(&table.info, key) {
@@ -152,6 +157,7 @@ fn newest_of_table<S: Store, M: MergeOperator, T: BlockTransformer>(
 
 /// Adds the rows of the key in stored tables, of which the newest stands last, behind those that were found in newer layers.
 /// Where the store holds the tables, or its acts tell that each read of this call was answered by them, damage isn't answered.
+/// Else it is answered only where the last reads of this call show it, of the index of a table, or of its blocks.
 pub fn newest_of_tables<S: Store, M: MergeOperator, T: BlockTransformer>(
     alloc: Global,
     newer: Vec<RowEntry>,
@@ -163,7 +169,9 @@ pub fn newest_of_tables<S: Store, M: MergeOperator, T: BlockTransformer>(
     ensures found { let reach = ⟦<EnvOf<S, M, T> as Outside>⟧.reach in (layers : List Rows) (os : Objects) → AreStoredAs (reach env.old).meaning os tables.now layers → AnswersFrom os (reach env.old) (reach env.new)
         → IfOk result (λ all. (above : Rows) → newer.items ≡ newest key.now max_seq above → all.items ≡ newest key.now max_seq (above ++ newest_first layers)) }
     ensures whole { let reach = ⟦<EnvOf<S, M, T> as Outside>⟧.reach in (layers : List Rows) (os : Objects) → AreStoredAs (reach env.old).meaning os tables.now layers → AnswersFrom os (reach env.old) (reach env.new) → IfErr result (IsFault (reach env.old) (reach env.new)) }
-    ensures cause { let reach = ⟦<EnvOf<S, M, T> as Outside>⟧.reach in IfErr result (λ e. IsFault (reach env.old) (reach env.new) e ⊎ IsDamage e ⊎ ((h : SsTableHandle) × Contains tables.now h × IsUnknown h.format_version e)) }
+    ensures rows { let reach = ⟦<EnvOf<S, M, T> as Outside>⟧.reach in IfOk result (λ all. Made (reach env.old) (reach env.new) (λ reads. AllByRecursion (λ r. Contains newer.items r ⊎ BringsRow (reach env.old).meaning.decode tables.now reads r) all.items)) }
+    ensures cause { let reach = ⟦<EnvOf<S, M, T> as Outside>⟧.reach in IfErr result (λ e. IsFault (reach env.old) (reach env.new) e ⊎ Made (reach env.old) (reach env.new) (λ reads. ShowsDamage (reach env.old).meaning.decode tables.now reads e)
+        ⊎ ((h : SsTableHandle) × Contains tables.now h × IsUnknown h.format_version e)) }
     ensures reads { let reach = ⟦<EnvOf<S, M, T> as Outside>⟧.reach in OnlyReads (reach env.old) (reach env.new) }
 {
     let mut found = newer;
