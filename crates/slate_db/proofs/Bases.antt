@@ -11,7 +11,7 @@ use Rattle.slate_db.specs.Meaning.{Meaning, combine_of}
 use Rattle.slate_db.specs.Flushed.{IsFolded}
 use Rattle.slate_db.specs.Model.{Rows, versions_in}
 use Rattle.slate_db.specs.Sound.{AreBases}
-use Rattle.slate_db.specs.Whole.{FitsMemory}
+use Rattle.slate_db.specs.Layers.{FitsMemory}
 use Rattle.slate_db.proofs.Lists.{all_map}
 use Rattle.slate_db.proofs.Short.{all_append, all_filter, all_from_last}
 use Rattle.slate_db.proofs.Versions.{all_by_versions, all_versions_in, twice}

@@ -27,7 +27,7 @@ use Rattle.slate_table.specs.TableParts.{version_of}
 use Rattle.slate_db.specs.Flushed.{Layout, IsTooLarge, TakesTable, MayTakeTable}
 use Rattle.slate_db.specs.Installs.{root, IsHandle}
 use Rattle.slate_db.specs.Model.{Rows}
-use Rattle.slate_db.specs.Whole.{FitsMemory}
+use Rattle.slate_db.specs.Layers.{FitsMemory}
 use Rattle.slate_db.proofs.FlushRows.{order_front}
 use Rattle.slate_db.proofs.Lists.{all_behind}
 

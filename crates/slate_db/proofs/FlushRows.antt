@@ -21,7 +21,7 @@ use Rattle.slate_db.specs.Meaning.{Meaning, combine_of}
 use Rattle.slate_db.specs.Model.{Rows, versions, versions_in}
 use Rattle.slate_mem.specs.Gathered.{is_older, newest_kept}
 use Rattle.slate_db.specs.Sound.{at_most, later}
-use Rattle.slate_db.specs.Whole.{FitsMemory, AreRising}
+use Rattle.slate_db.specs.Layers.{FitsMemory, AreRising}
 use Rattle.slate_db.proofs.Folds.{none_pass}
 use Rattle.slate_db.proofs.Lists.{all_map, all_front, all_behind}
 use Rattle.slate_db.proofs.Short.{all_filter}

@@ -8,10 +8,10 @@ use Rattle.slate_types.specs.declared.error.SlateDBError.TheVariants.{OutOfMemor
 use Rattle.slate_types.specs.Fold.{fold_rows}
 use Rattle.slate_types.specs.Outside.{Counts, IsCounted, Objects}
 use Rattle.slate_mem.specs.Table.{MemTableModel}
-use Rattle.slate_table.specs.declared.info.SsTableHandle.{SsTableHandle}
 use Rattle.slate_table.specs.Parts.{Encode}
 use Rattle.slate_txn.specs.declared.event.Event.TheVariants as events
 use Rattle.slate_txn.specs.declared.line.Line.TheVariants as lines
+use Rattle.slate_txn.specs.Places.{IsQuiet}
 use Rattle.slate_txn.specs.Reply.{Flushed}
 use Rattle.slate_txn.specs.State.{last_of}
 use Rattle.slate_txn.specs.Step.{step}
@@ -21,11 +21,11 @@ use Rattle.slate_db.specs.Frozen.{IsFrozen}
 use Rattle.slate_db.specs.Meaning.{Meaning, rules_of, combine_of}
 use Rattle.slate_db.specs.Model.{CoreModel, Rows, memory, IsSame}
 use Rattle.slate_db.specs.Sound.{IsKept, at_most, later}
-use Rattle.slate_db.specs.Whole.{IsWhole}
 use Rattle.slate_db.proofs.Keeps.{kept_event}
+use Rattle.slate_db.proofs.Quiet.{quiet_more}
 use Rattle.slate_db.proofs.Loads.{load_before}
 use Rattle.slate_db.proofs.Split.{all_up_to}
-use Rattle.slate_db.proofs.Wholes.{versions_frozen}
+use Rattle.slate_db.proofs.MemoryLayers.{versions_frozen}
 
 abbrev pub frozen_of : CoreModel → ℕ → CoreModel
 frozen_of c spare = record c { events = c.events ++ (events.Freeze ∷ []); spare = spare; active = []; frozen = c.frozen ++ (c.active ∷ []) }
@@ -50,41 +50,6 @@ step_flush m old between new n f last is =
     ∙ (let s = sym is in λ i. (s i, Flushed n))
 
 -- a flush that finds no rows
-pub whole_flushed : (c : CoreModel) (n ids runs : ℕ) (hs : List SsTableHandle) → c.active ≡ [] → c.frozen ≡ [] → IsWhole c n ids runs hs → IsWhole (record c { state = record c.state { flushed = n } }) n ids runs hs
-whole_flushed c n ids runs hs active frozen w = record {
-  legal = w.legal;
-  replays = record { commits = w.replays.commits; txns = w.replays.txns; snapshots = w.replays.snapshots };
-  no_snapshots = w.no_snapshots;
-  last = w.last;
-  last_fits = w.last_fits;
-  rising = w.rising;
-  fine = w.fine;
-  own_fine = w.own_fine;
-  room = w.room;
-  bound = w.bound;
-  used = w.used;
-  named = w.named;
-  counted = w.counted;
-  floor_within = w.floor_within;
-  begins = w.begins;
-  begins_rise = w.begins_rise;
-  installed_within = w.installed_within;
-  flushed_within = omega arith;
-  flushed_through = all_up_to c.settings.start_seq n c.state.commits w.rising (let l : n ≡ last_of c.settings.start_seq c.state.commits = w.last in omega arith) ∙ sym (w.all_installed active frozen);
-  all_installed = w.all_installed;
-  numbered = w.numbered;
-  runs_counted = w.runs_counted;
-  runs_within = w.runs_within;
-  tables = w.tables;
-  quiet = w.quiet;
-  active_order = w.active_order;
-  frozen_order = w.frozen_order;
-  frozen_some = w.frozen_some;
-  rows_fit = w.rows_fit;
-  rows_within = w.rows_within;
-  rows_rise = w.rows_rise;
-}
-
 pub kept_flushed : (m : Meaning) (c : CoreModel) (n : ℕ) → IsKept m c → IsKept m (record c { state = record c.state { flushed = n } })
 kept_flushed m c n k = kept_event m c (record c.state { flushed = n }) c.events c.spare refl refl refl k
 
@@ -124,7 +89,7 @@ place_left limit old between (inr (active, is)) some h =
 
 -- the rows in memory are the same before the freeze
 folded_before : (m : Meaning) (b : ℕ) (old : CoreModel) (rows : Rows) → IsFolded m b ((old.frozen ++ (old.active ∷ [])) ++ ([] ∷ [])) rows → IsFolded m b (memory old) rows
-folded_before m b old rows folded k = folded k ∙ ap (λ xs. option_to_list (fold_rows (combine_of m k) (at_most b xs)) ++ later b xs) (versions_frozen k old)
+folded_before m b old rows folded k = folded k ∙ ap (λ xs. option_to_list (fold_rows (combine_of m k) (at_most b xs)) ++ later b xs) (versions_frozen k old.frozen old.active)
 
 pub too_large_before : (layout : Layout) (old between : CoreModel) (e : SlateDBError) → IsFrozen old between → TooLarge layout between e → TooLarge layout old e
 too_large_before layout old between e (inl (none, is)) h = subst (λ (v : CoreModel). TooLarge layout v e) is h
@@ -210,3 +175,9 @@ pub steps_after : (r : Result ℕ SlateDBError) (encode : Encode) (layout : Layo
     IfOk r (λ n. (m : Meaning) → step (rules_of old.settings m) old.state lines.Flush ≡ (new.state, Flushed n))
 steps_after (Ok n) encode layout old between new before after frozen last is = λ m. step_flush m old between new n frozen last (flushed_is encode layout between new n before after is)
 steps_after (Err e) encode layout old between new before after frozen last is = tt
+
+-- nothing is committed behind its freeze
+pub quiet_after : (r : Result ℕ SlateDBError) (encode : Encode) (layout : Layout) (between new : CoreModel) (before after : Option Objects) → IsQuiet between.events → IfOk r (λ n. IsFlushed encode layout between new n before after) → OnOk r (IsQuiet new.events)
+quiet_after (Ok n) encode layout between new before after quiet (idle none is kept) = subst (λ (v : CoreModel). IsQuiet v.events) (sym is) quiet
+quiet_after (Ok n) encode layout between new before after quiet (stored t is table taken) = subst (λ (v : CoreModel). IsQuiet v.events) (sym is) (quiet_more between.events (events.Install n (t ∷ [])) refl refl quiet)
+quiet_after (Err e) encode layout between new before after quiet h = tt

@@ -22,7 +22,7 @@ use Rattle.slate_db.specs.Lookup.{AreStored, AreStoredAs}
 use Rattle.slate_db.specs.Meaning.{Meaning, IsLawfulMeaning, rules_of, combine_of}
 use Rattle.slate_db.specs.Model.{CoreModel, Rows, memory, versions, versions_in}
 use Rattle.slate_db.specs.Sound.{AreBases, AreTables, IsKept, at_most, above}
-use Rattle.slate_db.specs.Whole.{IsWhole}
+use Rattle.slate_db.specs.Whole.{IsWhole, Unseen}
 use Rattle.slate_db.proofs.Bases.{bases_in, none_found}
 use Rattle.slate_db.proofs.Lists.{all_map}
 use Rattle.slate_mem.proofs.LayerLaws.{first_both}
@@ -52,23 +52,23 @@ all_stored m law os (t ∷ ts) (h ∷ hs) layers (version, rows, rest, is, other
       all_stored m law os ts hs rest others handles.1 holds.1,
     )
 
-pub stored_tables : (m : Meaning) (c : CoreModel) (n ids runs : ℕ) (hs : List SsTableHandle) (objects : Option Objects) (layers : List Rows) → IsWhole c n ids runs hs → IsLawfulMeaning m → AreTables m (tables_of c.events) layers → HoldsTables objects c.events →
-    AreStored m.encode m.decode objects hs layers
-stored_tables m c n ids runs hs None layers w law tables held = absurd held
-stored_tables m c n ids runs hs (Some os) layers w law tables held = all_stored m law os (tables_of c.events) hs layers tables w.tables held
+pub stored_tables : (m : Meaning) (c : CoreModel) (u : Unseen) (objects : Option Objects) (layers : List Rows) → IsWhole c u → IsLawfulMeaning m → AreTables m (tables_of c.events) layers → HoldsTables objects c.events →
+    AreStored m.encode m.decode objects u.tables layers
+stored_tables m c u None layers w law tables held = absurd held
+stored_tables m c u (Some os) layers w law tables held = all_stored m law os (tables_of c.events) u.tables layers tables w.tied.tables held
 
-pub stored_known : (m : Meaning) (c d : CoreModel) (n ids runs : ℕ) (hs known : List SsTableHandle) (objects : Option Objects) (layers : List Rows) (encode decode : Encode) → d ≡ c → known ≡ hs → m.encode ≡ encode → m.decode ≡ decode →
-    IsWhole d n ids runs hs → IsLawfulMeaning m → AreTables m (tables_of c.events) layers → HoldsTables objects c.events → AreStored encode decode objects known layers
-stored_known m c d n ids runs hs known objects layers encode decode same kept encodes decodes w law tables held =
+pub stored_known : (m : Meaning) (c d : CoreModel) (u : Unseen) (known : List SsTableHandle) (objects : Option Objects) (layers : List Rows) (encode decode : Encode) → d ≡ c → known ≡ u.tables → m.encode ≡ encode → m.decode ≡ decode →
+    IsWhole d u → IsLawfulMeaning m → AreTables m (tables_of c.events) layers → HoldsTables objects c.events → AreStored encode decode objects known layers
+stored_known m c d u known objects layers encode decode same kept encodes decodes w law tables held =
     subst (λ (xs : List SsTableHandle). AreStored encode decode objects xs layers) (sym kept)
-    (all_same m.encode encode m.decode decode objects hs layers (sym encodes) (sym decodes)
-    (stored_tables m d n ids runs hs objects layers w law
+    (all_same m.encode encode m.decode decode objects u.tables layers (sym encodes) (sym decodes)
+    (stored_tables m d u objects layers w law
     (subst (λ (v : CoreModel). AreTables m (tables_of v.events) layers) (sym same) tables)
     (subst (λ (v : CoreModel). HoldsTables objects v.events) (sym same) held)))
 
-pub stored_as : (m : Meaning) (c d : CoreModel) (n ids runs : ℕ) (hs known : List SsTableHandle) (os : Objects) (layers : List Rows) → d ≡ c → known ≡ hs →
-    IsWhole d n ids runs hs → IsLawfulMeaning m → AreTables m (tables_of c.events) layers → Holds os (tables_of c.events) → AreStoredAs m os known layers
-stored_as m c d n ids runs hs known os layers same kept w law tables held = stored_known m c d n ids runs hs known (Some os) layers m.encode m.decode same kept refl refl w law tables held
+pub stored_as : (m : Meaning) (c d : CoreModel) (u : Unseen) (known : List SsTableHandle) (os : Objects) (layers : List Rows) → d ≡ c → known ≡ u.tables →
+    IsWhole d u → IsLawfulMeaning m → AreTables m (tables_of c.events) layers → Holds os (tables_of c.events) → AreStoredAs m os known layers
+stored_as m c d u known os layers same kept w law tables held = stored_known m c d u known (Some os) layers m.encode m.decode same kept refl refl w law tables held
 
 -- a store that holds tables tells its objects
 pub held : (objects : Option Objects) (events : List Event) → HoldsTables objects events → (os : Objects) × (objects ≡ Some os) × HoldsTables (Some os) events
@@ -97,9 +97,9 @@ pairs : (k : List ℕ) (rows : Rows) → AllByRecursion (λ r. r.key ≡ k) rows
 pairs k [] h s = tt
 pairs k (r ∷ rs) h s = ((h.0, s.0), pairs k rs h.1 s.1)
 
-memory_short : (m : Meaning) (c : CoreModel) (n ids runs : ℕ) (hs : List SsTableHandle) (k : List ℕ) → IsWhole c n ids runs hs → IsLawfulMeaning m → IsKept m c → AreShort (versions_in k (memory c))
-memory_short m c n ids runs hs k w law kept =
-    subst (λ (xs : Rows). AreShort xs) (sym (kept.0 k)) (commits_short (rules_of c.settings m) k (law.short k) _ (all_filter _ (λ x. nat_lt (installed c.events) x.seq) c.state.commits (all_map _ _ (λ x. fine_short x.ops) c.state.commits w.fine)))
+memory_short : (m : Meaning) (c : CoreModel) (u : Unseen) (k : List ℕ) → IsWhole c u → IsLawfulMeaning m → IsKept m c → AreShort (versions_in k (memory c))
+memory_short m c u k w law kept =
+    subst (λ (xs : Rows). AreShort xs) (sym (kept.0 k)) (commits_short (rules_of c.settings m) k (law.short k) _ (all_filter _ (λ x. nat_lt (installed c.events) x.seq) c.state.commits (all_map _ _ (λ x. fine_short x.ops) c.state.commits w.log.fine)))
 
 -- the rows that were found can be folded, and fold as the commits do
 pub record Folds (m : Meaning) (c : CoreModel) (k : List ℕ) (at : ℕ) (found : Rows) : Type 0 where
@@ -110,18 +110,18 @@ found_turned : (c : CoreModel) (k : List ℕ) (at : ℕ) (found : Rows) (layers 
 found_turned c k at found layers is = ap reverse (is ∙ ap (newest k at) (sym (layers_are c layers))) ∙ taken-newest (rows_up_to k at (newest_first (layers ++ memory c))) ∙ ap taken (versions_are k at (layers ++ memory c))
 
 -- none of them is a merge
-pub found_bases : (c : CoreModel) (n ids runs : ℕ) (hs : List SsTableHandle) (k : List ℕ) (at : ℕ) (found : Rows) (layers : List Rows) →
-    IsWhole c n ids runs hs → AllByRecursion AreBases layers → found ≡ newest k at ((c.active ++ newest_first c.frozen) ++ newest_first layers) → is_merge_among found ≡ false
-found_bases c n ids runs hs k at found layers w bases is = none_found found (at_most at (versions_in k (layers ++ memory c))) (found_turned c k at found layers is)
-    (all_filter _ (λ r. nat_le r.seq at) _ (all_versions_in (λ r. is_base r ≡ true) k (layers ++ memory c) (all_append AreBases layers (memory c) bases (bases_in (memory c) w.rows_fit))))
+pub found_bases : (c : CoreModel) (u : Unseen) (k : List ℕ) (at : ℕ) (found : Rows) (layers : List Rows) →
+    IsWhole c u → AllByRecursion AreBases layers → found ≡ newest k at ((c.active ++ newest_first c.frozen) ++ newest_first layers) → is_merge_among found ≡ false
+found_bases c u k at found layers w bases is = none_found found (at_most at (versions_in k (layers ++ memory c))) (found_turned c k at found layers is)
+    (all_filter _ (λ r. nat_le r.seq at) _ (all_versions_in (λ r. is_base r ≡ true) k (layers ++ memory c) (all_append AreBases layers (memory c) bases (bases_in (memory c) w.layers.fit))))
 
-pub found_folds : (m : Meaning) (c : CoreModel) (n ids runs : ℕ) (hs : List SsTableHandle) (k : List ℕ) (at : ℕ) (found : Rows) (layers : List Rows) →
-    IsWhole c n ids runs hs → IsLawfulMeaning m → IsKept m c → AreTables m (tables_of c.events) layers → AllByRecursion AreShort layers → c.floor ≤ at → found ≡ newest k at ((c.active ++ newest_first c.frozen) ++ newest_first layers) → Folds m c k at found
-found_folds m c n ids runs hs k at found layers w law kept tables short above is = record {
+pub found_folds : (m : Meaning) (c : CoreModel) (u : Unseen) (k : List ℕ) (at : ℕ) (found : Rows) (layers : List Rows) →
+    IsWhole c u → IsLawfulMeaning m → IsKept m c → AreTables m (tables_of c.events) layers → AllByRecursion AreShort layers → c.floor ≤ at → found ≡ newest k at ((c.active ++ newest_first c.frozen) ++ newest_first layers) → Folds m c k at found
+found_folds m c u k at found layers w law kept tables short above is = record {
   are = subst (AreOf k) (sym turned) (pairs k (taken (at_most at (versions_in k all))) (all_from_last _ is_base _ (all_filter _ (λ r. nat_le r.seq at) _ (key_versions k all))) (all_from_last _ is_base _ (all_filter _ (λ r. nat_le r.seq at) _ all_short)));
   fold = ap (λ f. fold_rows (combine_of m k) (reverse f)) newest_is ∙ folds_as_all (combine_of m k) k at all
       ∙ ap (fold_rows (combine_of m k)) (sym (append-nil (at_most at (versions_in k all))))
-      ∙ seen_fold m c n ids runs hs layers k at [] w law kept tables above tt
+      ∙ seen_fold m c u layers k at [] w law kept tables above tt
       ∙ ap (fold_rows (combine_of m k)) (append-nil (key_rows (rules_of c.settings m) k (up_to at c.state.commits)));
 }
   where
@@ -135,4 +135,4 @@ found_folds m c n ids runs hs k at found layers w law kept tables short above is
     turned = found_turned c k at found layers is
 
     all_short : AreShort (versions_in k all)
-    all_short = subst (λ (xs : Rows). AreShort xs) (sym (flat_map-append (versions k) layers (memory c))) (all_append _ (versions_in k layers) (versions_in k (memory c)) (short_versions k layers short) (memory_short m c n ids runs hs k w law kept))
+    all_short = subst (λ (xs : Rows). AreShort xs) (sym (flat_map-append (versions k) layers (memory c))) (all_append _ (versions_in k layers) (versions_in k (memory c)) (short_versions k layers short) (memory_short m c u k w law kept))

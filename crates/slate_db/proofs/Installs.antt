@@ -18,7 +18,9 @@ use Rattle.slate_db.specs.Meaning.{Meaning, rules_of, combine_of, IsLawfulMeanin
 use Rattle.slate_db.specs.Model.{CoreModel, Rows, versions, versions_in}
 use Rattle.slate_db.specs.Installs.{tables_of, installed, NumberedFrom, IsHandle, AreHandles}
 use Rattle.slate_db.specs.Sound.{at_most, above, IsKept, IsSound, AreTables, AreBases}
-use Rattle.slate_db.specs.Whole.{IsWhole, LIMIT, BeginsWithin, AreShortOps, AreRising}
+use Rattle.slate_db.specs.Layers.{AreRising}
+use Rattle.slate_db.specs.Log.{LIMIT, AreShortOps}
+use Rattle.slate_db.specs.Whole.{IsWhole, Unseen, BeginsWithin, layers_of}
 use Rattle.slate_txn.specs.Open.{least_begin}
 use Rattle.slate_db.specs.Flushed.{IsFolded, Layout, CanFlush, IsTableOfFlush, after_install}
 use Rattle.slate_table.specs.Paths.{table_id}
@@ -33,113 +35,43 @@ use Rattle.slate_db.proofs.AllRows.{flush_fold}
 use Rattle.slate_db.proofs.Lists.{all_more, all_map, all_front, all_behind}
 use Rattle.slate_db.proofs.MemoryRows.{rising_behind}
 use Rattle.slate_db.proofs.Quiet.{quiet_more}
-use Rattle.slate_db.proofs.Wholes.{tables_more}
+use Rattle.slate_db.proofs.Logs.{tables_more}
+use Rattle.slate_db.proofs.MemoryLayers.{frozen_rise}
+use Rattle.slate_db.proofs.Wholes.{least_within}
 use Rattle.slate_db.proofs.Versions.{short_versions, short_by_key}
-
-least_within : (n : ℕ) (ps : List (List ℕ × Tx)) → least_begin n ps ≤ n
-least_within n [] = omega arith
-least_within n (p ∷ ps) = let h : least_begin (min n p.1.begin) ps ≤ min n p.1.begin = least_within (min n p.1.begin) ps in omega arith
-
-least_each : (n floor last : ℕ) (ps : List (List ℕ × Tx)) → AllByRecursion (λ p. BeginsWithin floor last p) ps → AllByRecursion (λ p. BeginsWithin (least_begin n ps) last p) ps
-least_each n floor last [] h = tt
-least_each n floor last (p ∷ ps) h =
-    ((let k : least_begin (min n p.1.begin) ps ≤ min n p.1.begin = least_within (min n p.1.begin) ps in omega arith, h.0.1), least_each (min n p.1.begin) floor last ps h.1)
 
 -- the barrier is at or above the floor
 floor_least : (n floor last : ℕ) (ps : List (List ℕ × Tx)) → floor ≤ n → AllByRecursion (λ p. BeginsWithin floor last p) ps → floor ≤ least_begin n ps
 floor_least n floor last [] h hs = h
 floor_least n floor last (p ∷ ps) h hs = floor_least (min n p.1.begin) floor last ps (let k : floor ≤ p.1.begin = hs.0.0 in omega arith) hs.1
 
-numbered_more : (i : ℕ) (ts : List (Ulid × List ℕ)) (t : Ulid × List ℕ) → NumberedFrom i ts → t.0.0 ≡ table_id (i + length ts) 0 → NumberedFrom i (ts ++ (t ∷ []))
-numbered_more i [] t h e = (e ∙ ap (λ x. table_id x 0) (let z : i + 0 ≡ i = omega arith in z), tt)
-numbered_more i (x ∷ ts) t h e = (h.0, numbered_more (i + 1) ts t h.1 (e ∙ ap (λ x. table_id x 0) (let z : i + length (x ∷ ts) ≡ (i + 1) + length ts = omega arith in z)))
-
-handles_more : (ts : List (Ulid × List ℕ)) (hs : List SsTableHandle) (t : Ulid × List ℕ) (h : SsTableHandle) → AreHandles ts hs → IsHandle t h → AreHandles (ts ++ (t ∷ [])) (hs ++ (h ∷ []))
-handles_more [] [] t h are is = (is, tt)
-handles_more (x ∷ ts) (y ∷ hs) t h are is = (are.0, handles_more ts hs t h are.1 is)
-handles_more [] (y ∷ hs) t h are is = absurd are
-handles_more (x ∷ ts) [] t h are is = absurd are
-
 tables_append : (m : Meaning) (ts : List (Ulid × List ℕ)) (t : Ulid × List ℕ) (version : ℕ) (layers : List Rows) (rows : Rows) → AreTables m ts layers → IsTable m.encode t.1 version rows → AreTables m (ts ++ (t ∷ [])) (layers ++ (rows ∷ []))
 tables_append m [] t version layers rows h is = (version, rows, [], is, refl, ap (λ ls. ls ++ (rows ∷ [])) h)
 tables_append m (x ∷ ts) t version layers rows (v, first, rest, table, others, same) is =
     (v, first, rest ++ (rows ∷ []), table, tables_append m ts t version rest rows others is, ap (λ ls. ls ++ (rows ∷ [])) same)
 
-pub whole_install : (c : CoreModel) (n ids runs : ℕ) (hs : List SsTableHandle) (t : Ulid × List ℕ) (h : SsTableHandle) (spare : ℕ) →
-    length c.state.txns ≤ spare → length c.events + length c.state.txns + 1 ≤ LIMIT → t.0.0 ≡ table_id (runs + 1) 0 → IsHandle t h → IsWhole c n ids runs hs →
-    IsWhole (after_install c n t spare) n ids (runs + 1) (hs ++ (h ∷ []))
-whole_install c n ids runs hs t h spare room bound id kept w = record {
-  legal = legal_more start opening [] c.events e w.legal (w.installed_within, (let l : n ≡ last_of start (replay c.events).commits = w.last ∙ ap (λ cs. last_of start cs) (sym w.replays.commits) in omega arith));
-  replays = record {
-    commits = ap (λ s. s.commits) more ∙ w.replays.commits;
-    txns = ap (λ s. s.txns) more ∙ w.replays.txns;
-    snapshots = ap (λ s. s.snapshots) more ∙ w.replays.snapshots;
-  };
-  no_snapshots = w.no_snapshots;
-  last = w.last;
-  last_fits = w.last_fits;
-  rising = w.rising;
-  fine = w.fine;
-  own_fine = w.own_fine;
-  room = room;
-  bound = rw length-append (omega arith);
-  used = rw used_more w.used;
-  named = w.named;
-  counted = rw length-append (let h : ids ≤ length c.events = w.counted in omega arith);
-  floor_within = least_within n c.state.txns;
-  begins = least_each n c.floor n c.state.txns w.begins;
-  begins_rise = w.begins_rise;
-  installed_within = rw (ap (λ s. s.flushed) more) (omega arith);
-  flushed_within = omega arith;
-  flushed_through = ap (λ i. up_to i c.state.commits) (sym (ap (λ s. s.flushed) more));
-  all_installed = λ active frozen. ap (λ i. up_to i c.state.commits) (ap (λ s. s.flushed) more) ∙ all_up_to start n c.state.commits w.rising (let l : n ≡ last_of start c.state.commits = w.last in omega arith);
-  numbered = subst (NumberedFrom 1) (sym (tables_more c.events e)) (numbered_more 1 (tables_of c.events) t w.numbered (id ∙ ap (λ x. table_id x 0) (let h : runs ≡ length (tables_of c.events) = w.runs_counted in let z : runs + 1 ≡ 1 + length (tables_of c.events) = omega arith in z)));
-  runs_counted = (let h : runs ≡ length (tables_of c.events) = w.runs_counted in let z : runs + 1 ≡ length (tables_of c.events) + length (t ∷ []) = omega arith in z) ∙ sym (ap length (tables_more c.events e) ∙ length-append (tables_of c.events) (t ∷ []));
-  tables = subst (λ (ts : List (Ulid × List ℕ)). AreHandles ts (hs ++ (h ∷ []))) (sym (tables_more c.events e)) (handles_more (tables_of c.events) hs t h w.tables kept);
-  runs_within = rw length-append (let h : runs ≤ length c.events = w.runs_within in omega arith);
-  quiet = λ idle. quiet_more c.events e refl refl (w.quiet idle);
-  active_order = w.active_order;
-  frozen_order = tt;
-  frozen_some = tt;
-  rows_fit = all_behind _ c.frozen (c.active ∷ []) w.rows_fit;
-  rows_within = all_behind _ c.frozen (c.active ∷ []) w.rows_within;
-  rows_rise = λ k. rising_behind (versions_in k c.frozen) (versions_in k (c.active ∷ [])) (subst (λ (xs : Rows). AreRising xs) (flat_map-append (versions k) c.frozen (c.active ∷ [])) (w.rows_rise k));
-}
-  where
-    start : ℕ
-    start = c.settings.start_seq
-
-    e : Event
-    e = events.Install n (t ∷ [])
-
-    more : replay (c.events ++ (e ∷ [])) ≡ apply (replay c.events) e
-    more = apply_more opening c.events e
-
-frozen_rise : (c : CoreModel) (n ids runs : ℕ) (hs : List SsTableHandle) → IsWhole c n ids runs hs → (k : List ℕ) → AreRising (versions_in k c.frozen)
-frozen_rise c n ids runs hs w k = rising_front (versions_in k c.frozen) (versions_in k (c.active ∷ [])) (subst (λ (xs : Rows). AreRising xs) (flat_map-append (versions k) c.frozen (c.active ∷ [])) (w.rows_rise k))
-
-pub kept_install : (m : Meaning) (c : CoreModel) (n ids runs : ℕ) (hs : List SsTableHandle) (t : Ulid × List ℕ) (spare version : ℕ) (rows : Rows) →
-    IsWhole c n ids runs hs → c.active ≡ [] → IsTable m.encode t.1 version rows → IsFolded m (least_begin n c.state.txns) c.frozen rows → IsKept m c →
-    IsKept m (after_install c n t spare)
-kept_install m c n ids runs hs t spare version rows w idle table folded kept = (
-  λ k. ap (λ a. versions_in k (a ∷ [])) idle ∙ sym (ap (λ i. key_rows r k (above i cs)) through ∙ ap (key_rows r k) (none_above start n cs w.rising last)),
+pub kept_install : (m : Meaning) (c : CoreModel) (u : Unseen) (t : Ulid × List ℕ) (spare version : ℕ) (rows : Rows) →
+    IsWhole c u → c.active ≡ [] → IsTable m.encode t.1 version rows → IsFolded m (least_begin u.last c.state.txns) c.frozen rows → IsKept m c →
+    IsKept m (after_install c u.last t spare)
+kept_install m c u t spare version rows w idle table folded kept = (
+  λ k. ap (λ a. versions_in k (a ∷ [])) idle ∙ sym (ap (λ i. key_rows r k (above i cs)) through ∙ ap (key_rows r k) (none_above start u.last cs w.log.rising last)),
   λ law. let z : IsSound m c = kept.1 law in record {
     layers = z.layers ++ (rows ∷ []);
-    tables = subst (λ (ts : List (Ulid × List ℕ)). AreTables m ts (z.layers ++ (rows ∷ []))) (sym (tables_more c.events (events.Install n (t ∷ [])))) (tables_append m (tables_of c.events) t version z.layers rows z.tables table);
+    tables = subst (λ (ts : List (Ulid × List ℕ)). AreTables m ts (z.layers ++ (rows ∷ []))) (sym (tables_more c.events (events.Install u.last (t ∷ [])))) (tables_append m (tables_of c.events) t version z.layers rows z.tables table);
     short = all_more AreShort z.layers rows z.short (short_by_key rows (λ k.
         subst (λ (xs : Rows). AreShort xs) (sym (folded k)) (all_append _ _ _ (fold_short (combine_of m k) (law.short k) _ (all_filter _ _ _ (memory_short k law))) (all_filter _ _ _ (memory_short k law)))));
-    bases = all_more AreBases z.layers rows z.bases (folded_bases m (least_begin n c.state.txns) c.frozen rows (bases_in c.frozen (all_front _ c.frozen (c.active ∷ []) w.rows_fit)) folded);
+    bases = all_more AreBases z.layers rows z.bases (folded_bases m (least_begin u.last c.state.txns) c.frozen rows (bases_in c.frozen (all_front _ c.frozen (c.active ∷ []) w.layers.fit)) folded);
     within = subst (λ (i : ℕ). AllByRecursion (λ layer. AllByRecursion (λ r. r.seq ≤ i) layer) (z.layers ++ (rows ∷ []))) (sym through)
-        (all_more _ z.layers rows (all_map _ _ (wider (installed c.events) n w.installed_within) z.layers z.within) (folded_within m (least_begin n c.state.txns) n c.frozen rows (all_front _ c.frozen (c.active ∷ []) w.rows_within) folded));
-    rise = λ k. tables_rise m (least_begin n c.state.txns) (installed c.events) k z.layers c.frozen rows folded (z.rise k) z.within (frozen_rise c n ids runs hs w k) (subst (AllByRecursion (λ x. installed c.events < x.seq)) (sym (tied k)) (rows_above r k (installed c.events) cs));
+        (all_more _ z.layers rows (all_map _ _ (wider (installed c.events) u.last w.log.installed_within) z.layers z.within) (folded_within m (least_begin u.last c.state.txns) u.last c.frozen rows (all_front _ c.frozen (c.active ∷ []) w.tied.rows_within) folded));
+    rise = λ k. tables_rise m (least_begin u.last c.state.txns) (installed c.events) k z.layers c.frozen rows folded (z.rise k) z.within (frozen_rise (layers_of c u) w.layers k) (subst (AllByRecursion (λ x. installed c.events < x.seq)) (sym (tied k)) (rows_above r k (installed c.events) cs));
     folds = λ k x h.
-        let below : c.floor ≤ x = (let f : c.floor ≤ least_begin n c.state.txns = floor_least n c.floor n c.state.txns w.floor_within w.begins in omega arith) in
+        let below : c.floor ≤ x = (let f : c.floor ≤ least_begin u.last c.state.txns = floor_least u.last c.floor u.last c.state.txns w.tied.floor_within w.tied.begins in omega arith) in
         ap (λ xs. fold_rows (combine_of m k) (at_most x xs)) (flat_map-append (versions k) z.layers (rows ∷ []) ∙ ap (λ xs. versions_in k z.layers ++ xs) (append-nil (versions k rows)))
         ∙ ap (fold_rows (combine_of m k)) (filter-append (λ r. nat_le r.seq x) (versions_in k z.layers) (versions k rows))
         ∙ ap (λ xs. fold_rows (combine_of m k) (at_most x (versions_in k z.layers) ++ at_most x xs)) (folded k)
-        ∙ flush_fold r k (law.operator k) (law.short k) start (installed c.events) (least_begin n c.state.txns) x cs (versions_in k z.layers) (versions_in k c.frozen) h w.rising short_commits
+        ∙ flush_fold r k (law.operator k) (law.short k) start (installed c.events) (least_begin u.last c.state.txns) x cs (versions_in k z.layers) (versions_in k c.frozen) h w.log.rising short_commits
         (short_versions k z.layers z.short) (tied k) (z.folds k x below)
-        ∙ ap (λ ds. fold_rows (combine_of m k) (key_rows r k (up_to x ds))) (sym (ap (λ i. up_to i cs) through ∙ all_up_to start n cs w.rising last));
+        ∙ ap (λ ds. fold_rows (combine_of m k) (key_rows r k (up_to x ds))) (sym (ap (λ i. up_to i cs) through ∙ all_up_to start u.last cs w.log.rising last));
   },
 )
   where
@@ -152,33 +84,33 @@ kept_install m c n ids runs hs t spare version rows w idle table folded kept = (
     start : ℕ
     start = c.settings.start_seq
 
-    through : installed (c.events ++ (events.Install n (t ∷ []) ∷ [])) ≡ n
-    through = ap (λ s. s.flushed) (apply_more opening c.events (events.Install n (t ∷ [])))
+    through : installed (c.events ++ (events.Install u.last (t ∷ []) ∷ [])) ≡ u.last
+    through = ap (λ s. s.flushed) (apply_more opening c.events (events.Install u.last (t ∷ [])))
 
-    last : last_of c.settings.start_seq c.state.commits ≤ n
-    last = let e : n ≡ last_of c.settings.start_seq c.state.commits = w.last in omega arith
+    last : last_of c.settings.start_seq c.state.commits ≤ u.last
+    last = let e : u.last ≡ last_of c.settings.start_seq c.state.commits = w.log.last in omega arith
 
     tied : (k : List ℕ) → versions_in k c.frozen ≡ key_rows (rules_of c.settings m) k (above (installed c.events) c.state.commits)
     tied k = sym (append-nil (versions_in k c.frozen)) ∙ sym (ap (λ a. versions_in k c.frozen ++ versions_in k (a ∷ [])) idle) ∙ sym (flat_map-append (versions k) c.frozen (c.active ∷ [])) ∙ kept.0 k
 
     short_commits : AllByRecursion (λ x. AreShortOps x.ops) c.state.commits
-    short_commits = all_map _ _ (λ x. fine_short x.ops) c.state.commits w.fine
+    short_commits = all_map _ _ (λ x. fine_short x.ops) c.state.commits w.log.fine
 
     memory_short : (k : List ℕ) → IsLawfulMeaning m → AreShort (versions_in k c.frozen)
     memory_short k law = subst (λ (xs : Rows). AreShort xs) (sym (tied k)) (commits_short (rules_of c.settings m) k (law.short k) _ (all_filter _ _ c.state.commits short_commits))
 
 -- ---- the rows and the table of a flush
 
-pub can_flush : (c : CoreModel) (n ids runs : ℕ) (hs : List SsTableHandle) → IsWhole c n ids runs hs → 0 < length c.frozen → CanFlush c.frozen
-can_flush c n ids runs hs w some = record {
+pub can_flush : (c : CoreModel) (u : Unseen) → IsWhole c u → 0 < length c.frozen → CanFlush c.frozen
+can_flush c u w some = record {
   some = some;
-  each = w.frozen_some;
-  fit = all_front _ c.frozen (c.active ∷ []) w.rows_fit;
-  rise = frozen_rise c n ids runs hs w;
+  each = w.layers.frozen_some;
+  fit = all_front _ c.frozen (c.active ∷ []) w.layers.fit;
+  rise = frozen_rise (layers_of c u) w.layers;
 }
 
 pub table_of_flush : (encode : Encode) (layout : Layout) (number b : ℕ) (layers : List Rows) (t : Ulid × List ℕ) (p : IsTableOfFlush encode layout number b layers t) → IsTable encode t.1 layout.version p.rows
 table_of_flush encode layout number b layers t p = subst (IsTable encode t.1 layout.version) p.read (built_has encode [] 0 layout.block_size layout.version t.1 p.rows p.built)
 
-pub moved : (F : ℕ → ℕ → List Rows → Type 0) (r k b d : ℕ) (xs ys : List Rows) → r ≡ k → b ≡ d → xs ≡ ys → F (r + 1) b xs → F (k + 1) d ys
-moved F r k b d xs ys runs barrier layers h = subst (λ (n : ℕ). F (n + 1) d ys) runs (subst (λ (n : ℕ). F (r + 1) n ys) barrier (subst (λ (ls : List Rows). F (r + 1) b ls) layers h))
+pub moved : (F : ℕ → ℕ → List Rows → Type 0) (r k b d : ℕ) (xs ys : List Rows) → r ≡ k → b ≡ d → xs ≡ ys → F r b xs → F k d ys
+moved F r k b d xs ys number barrier layers h = subst (λ (n : ℕ). F n d ys) number (subst (λ (n : ℕ). F r n ys) barrier (subst (λ (ls : List Rows). F r b ls) layers h))

@@ -6,10 +6,9 @@ use Rattle.slate_types.specs.declared.types.Ulid.{Ulid}
 use Rattle.slate_txn.specs.Reads.{key_rows, up_to}
 use Rattle.slate_txn.specs.State.{State}
 use Rattle.slate_txn.specs.declared.event.Event.{Event}
-use Rattle.slate_txn.specs.JournalModel.{JournalModel}
-use Rattle.slate_txn.specs.Replay.{replay}
 use Rattle.slate_db.specs.declared.engine.Core.TheInside.{Inside}
 use Rattle.slate_db.specs.View.{view_of}
+use Rattle.slate_db.specs.Log.{LogModel}
 use Rattle.slate_db.specs.Meaning.{Meaning, rules_of, combine_of}
 use Rattle.slate_db.specs.Model.{CoreModel, Rows, memory, versions_in, IsSame}
 use Rattle.slate_db.specs.Installs.{tables_of, installed}
@@ -53,21 +52,9 @@ kept_event m c s es spare commits install tables kept = (
     same_commits : c.state.commits ≡ s.commits
     same_commits = sym commits
 
--- models are equal where their parts are
-pub same_model : (c v : CoreModel) → c.settings ≡ v.settings → c.state.commits ≡ v.state.commits → c.state.txns ≡ v.state.txns → c.state.snapshots ≡ v.state.snapshots → c.state.now ≡ v.state.now →
-    c.state.flushed ≡ v.state.flushed → c.events ≡ v.events → c.spare ≡ v.spare → c.active ≡ v.active → c.frozen ≡ v.frozen → c.floor ≡ v.floor → c ≡ v
-same_model c v settings commits txns snapshots now flushed events spare active frozen floor = λ i. record {
-  settings = settings i;
-  state = record { commits = commits i; txns = txns i; snapshots = snapshots i; now = now i; flushed = flushed i };
-  events = events i;
-  spare = spare i;
-  active = active i;
-  frozen = frozen i;
-  floor = floor i;
-}
-
-pub room_made : (s : Inside) (j : JournalModel) → j.events ≡ s.journal.events → IsSame (view_of s) (view_of (record s { journal = j }))
-room_made s j is = same_model _ _ refl (ap (λ es. (replay es).commits) is) refl refl refl refl is refl refl refl refl
+-- room was made in the log
+pub room_made : (s : Inside) (l : LogModel) → l ≡ record s.log { spare = l.spare } → IsSame (view_of s) (view_of (record s { log = l }))
+room_made s l is = ap (λ (x : LogModel). view_of (record s { log = x })) is
 
 -- of the same rows of each key in memory, cut otherwise
 pub kept_rows : (m : Meaning) (c : CoreModel) (active : Rows) (frozen : List Rows) → ((k : List ℕ) → versions_in k (frozen ++ (active ∷ [])) ≡ versions_in k (memory c)) → IsKept m c → IsKept m (record c { active = active; frozen = frozen })

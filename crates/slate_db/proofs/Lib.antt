@@ -1,5 +1,4 @@
 mod Lists
-mod Begins
 mod Journals
 mod Split
 mod Short
@@ -8,7 +7,11 @@ mod AllRows
 mod Kept
 pub mod Keeps
 mod Quiet
+mod Logs
+mod LogViews
+mod MemoryLayers
 mod Wholes
+mod Calls
 mod Writes
 mod Puts
 mod Versions

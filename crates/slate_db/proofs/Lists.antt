@@ -32,3 +32,8 @@ all_behind P (x ∷ xs) ys h = all_behind P xs ys h.1
 pub first_ok : {A B E P : Type 0} (a : Result A E) (b : Result B E) (x : B) → result_and a b ≡ Ok x → OnOk a P → P
 first_ok (Ok y) b x is p = p
 first_ok (Err e) b x is p = cc
+
+pub second_ok : {A B E P : Type 0} (a : Result A E) (b : Result B E) (x : B) → result_and a b ≡ Ok x → OnOk b P → P
+second_ok (Ok y) (Ok z) x is p = p
+second_ok (Ok y) (Err e) x is p = cc
+second_ok (Err e) b x is p = cc

@@ -31,7 +31,7 @@ use Rattle.slate_db.specs.Load.{row_load, rows_load, load, op_load, ops_load}
 use Rattle.slate_db.specs.Meaning.{Meaning, combine_of}
 use Rattle.slate_db.specs.Model.{CoreModel, Rows, memory, versions, versions_in}
 use Rattle.slate_db.specs.Sound.{at_most, later}
-use Rattle.slate_db.specs.Whole.{FitsMemory}
+use Rattle.slate_db.specs.Layers.{FitsMemory}
 use Rattle.slate_db.proofs.Lists.{all_map}
 use Rattle.slate_db.proofs.Plain.{few_kept}
 use Rattle.slate_db.proofs.Short.{all_filter}

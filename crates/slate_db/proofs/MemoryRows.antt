@@ -21,7 +21,8 @@ use Rattle.slate_mem.specs.Refusals.{op_refusal, first_refusal, when, value_refu
 use Rattle.slate_mem.specs.RowOf.{op_row, row_of}
 use Rattle.slate_mem.specs.Table.{put_row, put_rows}
 use Rattle.slate_db.specs.Model.{CoreModel, Rows, versions, versions_in, memory}
-use Rattle.slate_db.specs.Whole.{FitsMemory, AreRising, AreFine}
+use Rattle.slate_db.specs.Layers.{FitsMemory, AreRising}
+use Rattle.slate_db.specs.Log.{AreFine}
 use Rattle.slate_db.proofs.Folds.{row_of_seq}
 use Rattle.slate_db.proofs.Lists.{all_map, all_behind}
 use Rattle.slate_db.proofs.Plain.{few_kept, no_merge, neither}

@@ -18,7 +18,7 @@ use Rattle.slate_txn.specs.Reply.{Written, Refused}
 use Rattle.slate_txn.specs.State.{Rules, State, last_of}
 use Rattle.slate_txn.specs.Step.{step, refused_or, with_reply, as_commit}
 use Rattle.slate_txn.proofs.BatchKeys.{some-kept, HasSome}
-use Rattle.slate_db.specs.Whole.{AreFine}
+use Rattle.slate_db.specs.Log.{AreFine}
 use Rattle.slate_db.proofs.Refused.{refusal_is, not_exhausted, exhausted, step_refused}
 
 -- ---- each key keeps one operation at most

@@ -20,7 +20,6 @@ use Rattle.slate_mem.specs.Table.{put_row, put_rows}
 use Rattle.slate_mem.proofs.BatchLaws.{has-a-row, among-keys, some_of}
 use Rattle.slate_mem.proofs.MemLaws.{puts-in-front}
 use Rattle.slate_mem.proofs.RowOfLaws.{row-has}
-use Rattle.slate_table.specs.declared.info.SsTableHandle.{SsTableHandle}
 use Rattle.slate_table.specs.Table.{AreInOrder}
 use Rattle.slate_txn.specs.State.{Rules, Commit, last_of, combine_at}
 use Rattle.slate_txn.specs.Reads.{key_rows}
@@ -28,7 +27,8 @@ use Rattle.slate_db.specs.Meaning.{Meaning, rules_of}
 use Rattle.slate_db.specs.Model.{CoreModel, Rows, versions, versions_in}
 use Rattle.slate_db.specs.Installs.{installed}
 use Rattle.slate_db.specs.Sound.{above, IsKept}
-use Rattle.slate_db.specs.Whole.{IsWhole, Rising}
+use Rattle.slate_db.specs.Log.{Rising}
+use Rattle.slate_db.specs.Whole.{IsWhole, Unseen}
 use Rattle.slate_db.proofs.Folds.{row_of_seq}
 use Rattle.slate_db.proofs.Lists.{all_behind}
 use Rattle.slate_db.proofs.Short.{all_filter}
@@ -243,14 +243,14 @@ within_last start n [] r h = tt
 within_last start n (c ∷ cs) r h = (let l : c.seq ≤ last_of c.seq cs = last_within c.seq cs r.1 in omega arith, within_last c.seq n cs r.1 h)
 
 -- of every memtable that is tied to the commits
-pub active_within : (m : Meaning) (c : CoreModel) (n ids runs : ℕ) (hs : List SsTableHandle) → IsWhole c n ids runs hs → IsKept m c → (k : List ℕ) → AllByRecursion (λ r. r.seq < n + 1) (of_key k c.active)
-active_within m c n ids runs hs w kept k = twice _ (of_key k c.active) (subst (AllByRecursion (λ r. r.seq < n + 1)) (append-nil (versions k c.active)) last)
+pub active_within : (m : Meaning) (c : CoreModel) (u : Unseen) → IsWhole c u → IsKept m c → (k : List ℕ) → AllByRecursion (λ r. r.seq < u.last + 1) (of_key k c.active)
+active_within m c u w kept k = twice _ (of_key k c.active) (subst (AllByRecursion (λ r. r.seq < u.last + 1)) (append-nil (versions k c.active)) last)
   where
     cs : List Commit
     cs = above (installed c.events) c.state.commits
 
-    all : AllByRecursion (λ r. r.seq < n + 1) (key_rows (rules_of c.settings m) k cs)
-    all = within_rows (rules_of c.settings m) k (n + 1) cs (all_filter _ (λ x. nat_lt (installed c.events) x.seq) c.state.commits (within_last c.settings.start_seq (n + 1) c.state.commits w.rising (let l : n ≡ last_of c.settings.start_seq c.state.commits = w.last in omega arith)))
+    all : AllByRecursion (λ r. r.seq < u.last + 1) (key_rows (rules_of c.settings m) k cs)
+    all = within_rows (rules_of c.settings m) k (u.last + 1) cs (all_filter _ (λ x. nat_lt (installed c.events) x.seq) c.state.commits (within_last c.settings.start_seq (u.last + 1) c.state.commits w.log.rising (let l : u.last ≡ last_of c.settings.start_seq c.state.commits = w.log.last in omega arith)))
 
-    last : AllByRecursion (λ r. r.seq < n + 1) (versions k c.active ++ [])
-    last = all_behind _ (versions_in k c.frozen) _ (subst (AllByRecursion (λ r. r.seq < n + 1)) (sym (kept.0 k) ∙ flat_map-append (versions k) c.frozen (c.active ∷ [])) all)
+    last : AllByRecursion (λ r. r.seq < u.last + 1) (versions k c.active ++ [])
+    last = all_behind _ (versions_in k c.frozen) _ (subst (AllByRecursion (λ r. r.seq < u.last + 1)) (sym (kept.0 k) ∙ flat_map-append (versions k) c.frozen (c.active ∷ [])) all)

@@ -8,7 +8,7 @@ use Rattle.slate_db.specs.Answered.{AddsTables}
 use Rattle.slate_db.specs.Frozen.{IsFrozen}
 use Rattle.slate_db.specs.Installs.{tables_of}
 use Rattle.slate_db.specs.Model.{CoreModel}
-use Rattle.slate_db.proofs.Wholes.{tables_more, tables_same}
+use Rattle.slate_db.proofs.Logs.{tables_more, tables_same}
 
 pub frozen_tables : (old new : CoreModel) → IsFrozen old new → tables_of new.events ≡ tables_of old.events
 frozen_tables old new (inl same) = ap (λ (c : CoreModel). tables_of c.events) same.1

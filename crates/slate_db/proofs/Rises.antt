@@ -12,7 +12,7 @@ use Rattle.slate_db.specs.Flushed.{IsFolded}
 use Rattle.slate_db.specs.Meaning.{Meaning, combine_of}
 use Rattle.slate_db.specs.Model.{Rows, versions, versions_in}
 use Rattle.slate_db.specs.Sound.{above, at_most, later}
-use Rattle.slate_db.specs.Whole.{AreRising}
+use Rattle.slate_db.specs.Layers.{AreRising}
 use Rattle.slate_db.proofs.Folds.{at_most_within, fold_within, rows_of_commits}
 use Rattle.slate_db.proofs.Lists.{all_map}
 use Rattle.slate_db.proofs.Short.{all_append, all_filter, all_from_last}

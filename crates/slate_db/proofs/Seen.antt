@@ -7,7 +7,6 @@ use Rattle.std.proofs.lemmas.List.Elements.{filter-append}
 use Rattle.slate_types.specs.declared.types.Ulid.{Ulid}
 use Rattle.slate_types.specs.Rows.{hide_tombstone}
 use Rattle.slate_types.specs.Fold.{fold_rows, AreShort}
-use Rattle.slate_table.specs.declared.info.SsTableHandle.{SsTableHandle}
 use Rattle.slate_table.proofs.StoredLaws.{same_rows}
 use Rattle.slate_txn.specs.Named.{find_named}
 use Rattle.slate_txn.specs.Reads.{up_to, key_rows}
@@ -17,7 +16,8 @@ use Rattle.slate_db.specs.Model.{CoreModel, Rows, memory, versions, versions_in}
 use Rattle.slate_db.specs.Installs.{tables_of, installed}
 use Rattle.slate_db.specs.Sound.{at_most, IsKept, FoldsToState, AreTables}
 use Rattle.slate_db.specs.StoredState.{StoresState}
-use Rattle.slate_db.specs.Whole.{AreRising, IsWhole}
+use Rattle.slate_db.specs.Layers.{AreRising}
+use Rattle.slate_db.specs.Whole.{IsWhole, Unseen}
 use Rattle.slate_db.proofs.Short.{fine_short}
 use Rattle.slate_db.proofs.Lists.{all_map}
 use Rattle.slate_db.proofs.AllRows.{all_fold}
@@ -39,15 +39,15 @@ same_tables m law [] a b h k = h ∙ sym k
 same_tables m law (t ∷ ts) a b (v, first, rest, is, others, same) (w, first2, rest2, is2, others2, same2) =
     same ∙ (λ i. same_rows m.encode m.decode law.transformer t.1 v w first first2 is is2 i ∷ same_tables m law ts rest rest2 others others2 i) ∙ sym same2
 
-pub seen_fold : (m : Meaning) (c : CoreModel) (n ids runs : ℕ) (hs : List SsTableHandle) (layers : List Rows) (k : List ℕ) (at : ℕ) (own : Rows) →
-    IsWhole c n ids runs hs → IsLawfulMeaning m → IsKept m c → AreTables m (tables_of c.events) layers → c.floor ≤ at → AreShort own →
+pub seen_fold : (m : Meaning) (c : CoreModel) (u : Unseen) (layers : List Rows) (k : List ℕ) (at : ℕ) (own : Rows) →
+    IsWhole c u → IsLawfulMeaning m → IsKept m c → AreTables m (tables_of c.events) layers → c.floor ≤ at → AreShort own →
     fold_rows (combine_of m k) (at_most at (versions_in k (layers ++ memory c)) ++ own)
     ≡ fold_rows (combine_of m k) (key_rows (rules_of c.settings m) k (up_to at c.state.commits) ++ own)
-seen_fold m c n ids runs hs layers k at own w law kept tables above short_own =
+seen_fold m c u layers k at own w law kept tables above short_own =
     ap (λ xs. fold_rows (combine_of m k) (xs ++ own)) (ap (at_most at) (flat_map-append (versions k) layers (memory c)) ∙ filter-append (λ r. nat_le r.seq at) (versions_in k layers) (versions_in k (memory c)))
     ∙ ap (fold_rows (combine_of m k)) (append_assoc (at_most at (versions_in k layers)) (at_most at (versions_in k (memory c))) own)
     ∙ all_fold (rules_of c.settings m) k (law.operator k) (law.short k) c.settings.start_seq (installed c.events) at c.state.commits (versions_in k layers) (versions_in k (memory c)) own
-    w.rising (all_map _ _ (λ x. fine_short x.ops) c.state.commits w.fine) (short_versions k layers short) short_own (kept.0 k) folds
+    w.log.rising (all_map _ _ (λ x. fine_short x.ops) c.state.commits w.log.fine) (short_versions k layers short) short_own (kept.0 k) folds
   where
     same : (kept.1 law).layers ≡ layers
     same = same_tables m law (tables_of c.events) (kept.1 law).layers layers (kept.1 law).tables tables
@@ -59,30 +59,30 @@ seen_fold m c n ids runs hs layers k at own w law kept tables above short_own =
     folds = ap (λ ls. fold_rows (combine_of m k) (at_most at (versions_in k ls))) (sym same) ∙ (kept.1 law).folds k at above
 
 -- all rows fold to the state, at each sequence from the floor on
-pub folds_to_state : (m : Meaning) (c : CoreModel) (n ids runs : ℕ) (hs : List SsTableHandle) → IsWhole c n ids runs hs → IsLawfulMeaning m → IsKept m c → FoldsToState m c
-folds_to_state m c n ids runs hs w law kept layers tables k at above below =
+pub folds_to_state : (m : Meaning) (c : CoreModel) (u : Unseen) → IsWhole c u → IsLawfulMeaning m → IsKept m c → FoldsToState m c
+folds_to_state m c u w law kept layers tables k at above below =
     ap (option_and_then (λ r. hide_tombstone r.value r))
     (ap (fold_rows (combine_of m k)) (sym (append-nil (at_most at (versions_in k (layers ++ memory c)))))
-    ∙ seen_fold m c n ids runs hs layers k at [] w law kept tables above tt
+    ∙ seen_fold m c u layers k at [] w law kept tables above tt
     ∙ ap (fold_rows (combine_of m k)) (append-nil (key_rows (rules_of c.settings m) k (up_to at c.state.commits))))
 
 -- the rows of the tables rise, and fold to the state at the last flush
-pub stores_state : (m : Meaning) (c : CoreModel) (n ids runs : ℕ) (hs : List SsTableHandle) → IsWhole c n ids runs hs → IsLawfulMeaning m → IsKept m c → StoresState m c
-stores_state m c n ids runs hs w law kept layers tables k =
+pub stores_state : (m : Meaning) (c : CoreModel) (u : Unseen) → IsWhole c u → IsLawfulMeaning m → IsKept m c → StoresState m c
+stores_state m c u w law kept layers tables k =
     (subst (λ (ls : List Rows). AreRising (versions_in k ls)) same ((kept.1 law).rise k), ap (option_and_then (λ r. hide_tombstone r.value r)) folds)
   where
     same : (kept.1 law).layers ≡ layers
     same = same_tables m law (tables_of c.events) (kept.1 law).layers layers (kept.1 law).tables tables
 
-    last : last_of c.settings.start_seq c.state.commits ≤ n
-    last = let e : n ≡ last_of c.settings.start_seq c.state.commits = w.last in omega arith
+    last : last_of c.settings.start_seq c.state.commits ≤ u.last
+    last = let e : u.last ≡ last_of c.settings.start_seq c.state.commits = w.log.last in omega arith
 
-    within : AllByRecursion (λ r. r.seq ≤ n) (versions_in k (kept.1 law).layers)
-    within = wider (installed c.events) n w.installed_within _ (all_versions_in (λ r. r.seq ≤ installed c.events) k (kept.1 law).layers (kept.1 law).within)
+    within : AllByRecursion (λ r. r.seq ≤ u.last) (versions_in k (kept.1 law).layers)
+    within = wider (installed c.events) u.last w.log.installed_within _ (all_versions_in (λ r. r.seq ≤ installed c.events) k (kept.1 law).layers (kept.1 law).within)
 
     folds : fold_rows (combine_of m k) (versions_in k layers) ≡ fold_rows (combine_of m k) (key_rows (rules_of c.settings m) k (up_to c.state.flushed c.state.commits))
     folds =
         ap (λ ls. fold_rows (combine_of m k) (versions_in k ls)) (sym same)
-        ∙ ap (fold_rows (combine_of m k)) (sym (at_most_all n (versions_in k (kept.1 law).layers) within))
-        ∙ (kept.1 law).folds k n w.floor_within
-        ∙ ap (λ cs. fold_rows (combine_of m k) (key_rows (rules_of c.settings m) k cs)) (up_to_within c.settings.start_seq n (installed c.events) c.state.commits w.rising last ∙ sym w.flushed_through)
+        ∙ ap (fold_rows (combine_of m k)) (sym (at_most_all u.last (versions_in k (kept.1 law).layers) within))
+        ∙ (kept.1 law).folds k u.last w.tied.floor_within
+        ∙ ap (λ cs. fold_rows (combine_of m k) (key_rows (rules_of c.settings m) k cs)) (up_to_within c.settings.start_seq u.last (installed c.events) c.state.commits w.log.rising last ∙ sym w.log.flushed_through)

@@ -11,7 +11,7 @@ use Rattle.slate_mem.specs.Batch.{Ops, kept, replaces, op_value, ops_of}
 use Rattle.slate_mem.specs.RowOf.{op_row, own_row}
 use Rattle.slate_txn.specs.State.{Rules, Commit, combine_at}
 use Rattle.slate_txn.specs.Reads.{key_rows}
-use Rattle.slate_db.specs.Whole.{AreShortOps, AreFine}
+use Rattle.slate_db.specs.Log.{AreShortOps, AreFine}
 use Rattle.slate_mem.specs.declared.WriteOp.TheVariants.{Put, Delete, Merge as MergeOp}
 use Rattle.slate_mem.specs.Refusals.{op_refusal, first_refusal, when}
 use Rattle.slate_types.specs.declared.error.SlateDBError.{SlateDBError}

@@ -4,7 +4,7 @@ use Rattle.std.proofs.lemmas.Bool.Decides.{nat_tests}
 use Rattle.slate_txn.specs.State.{Commit, last_of}
 use Rattle.slate_txn.specs.Reads.{up_to}
 use Rattle.slate_db.specs.Sound.{above}
-use Rattle.slate_db.specs.Whole.{Rising}
+use Rattle.slate_db.specs.Log.{Rising}
 
 rising_from : (m n : ℕ) (cs : List Commit) → m ≤ n → Rising n cs → Rising m cs
 rising_from m n [] h r = tt

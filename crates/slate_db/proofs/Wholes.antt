@@ -1,39 +1,82 @@
--- What is true of every core stays so: begins, ends and freezes.
+-- What ties the parts of a core stays so.
 --     after_begin, after_end, after_freeze      the core after each
-use Rattle.std.proofs.Common.{◌≡◌, ℕ, ◌+◌, ◌≤◌, ◌<◌, List, [], ◌∷◌, ◌++◌, length, refl, sym, ap, subst, ◌∙◌, arith, length-append, append-nil}
-use Rattle.std.proofs.lemmas.List.{map-append}
-use Rattle.std.proofs.lemmas.Grind.{flat_map-append}
+use Rattle.std.proofs.Common.{◌≡◌, ℕ, ◌+◌, ◌-◌, ◌^◌, ◌≤◌, ◌<◌, min, List, [], ◌∷◌, ◌++◌, length, map, refl, sym, ap, subst, ◌∙◌, arith, ℤ, Greater, length-append, Option, Some}
+use Rattle.std.proofs.lemmas.List.{map-append, length-map}
 use Rattle.std.specs.Prelude.{IsSome}
-use Rattle.std.specs.BTreeMap.{insert_entry}
+use Rattle.std.specs.List.{AllByRecursion}
 use Rattle.slate_types.specs.Keys.{key_cmp}
 use Rattle.slate_types.specs.declared.config.IsolationLevel.{IsolationLevel}
+use Rattle.slate_types.specs.declared.types.RowEntry.{RowEntry}
 use Rattle.slate_types.specs.declared.types.Ulid.{Ulid}
 use Rattle.slate_table.specs.declared.info.SsTableHandle.{SsTableHandle}
+use Rattle.slate_mem.specs.Batch.{Ops}
 use Rattle.slate_txn.specs.declared.event.Event.{Event}
 use Rattle.slate_txn.specs.declared.event.Event.TheVariants as events
-use Rattle.slate_txn.specs.Named.{find_named, without}
-use Rattle.slate_txn.specs.State.{Tx, begun, opening, last_of}
-use Rattle.slate_txn.specs.Replay.{replay, apply, used_from}
-use Rattle.slate_db.specs.Model.{CoreModel, Rows, versions, versions_in, memory}
-use Rattle.slate_db.specs.Installs.{as_begun, tables_of, tables_in, NumberedFrom, AreHandles}
+use Rattle.slate_txn.specs.declared.event.TranscriptStep.{TranscriptStep}
 use Rattle.slate_txn.specs.Ids.{id_of, IsOfCount}
+use Rattle.slate_txn.specs.Named.{find_named, without, update_named}
+use Rattle.slate_txn.specs.Open.{least_begin}
+use Rattle.slate_txn.specs.Places.{IsQuiet}
+use Rattle.slate_txn.specs.Reads.{up_to}
+use Rattle.slate_txn.specs.Replay.{replay, apply, used_from}
+use Rattle.slate_txn.specs.State.{Tx, begun, opening, last_of}
+use Rattle.slate_txn.specs.Step.{noted}
+use Rattle.slate_db.specs.Flushed.{after_install}
+use Rattle.slate_db.specs.Installs.{as_begun, tables_of, installed, IsHandle, AreHandles, Replays}
+use Rattle.slate_db.specs.Layers.{AreLayers}
+use Rattle.slate_db.specs.Log.{IsLog, LogModel, HasPlace, ends_of}
 use Rattle.slate_db.specs.Meaning.{Meaning}
+use Rattle.slate_db.specs.Model.{CoreModel, Rows, versions_in, memory}
 use Rattle.slate_db.specs.Sound.{IsKept}
-use Rattle.slate_db.specs.Whole.{IsWhole, LIMIT, AreRising}
+use Rattle.slate_db.specs.Whole.{IsWhole, AreTied, Unseen, BeginsWithin, log_of, layers_of}
+use Rattle.slate_db.specs.Written.{after_write}
+use Rattle.slate_db.proofs.Journals.{apply_more}
 use Rattle.slate_db.proofs.Keeps.{kept_event, kept_rows}
-use Rattle.slate_db.proofs.Journals.{apply_more, used_more, legal_more}
+use Rattle.slate_db.proofs.Lists.{all_more, all_map, all_front, all_behind, none_behind}
+use Rattle.slate_db.proofs.Logs.{tables_same, tables_more}
+use Rattle.slate_db.proofs.MemoryLayers.{versions_frozen}
 use Rattle.slate_db.proofs.Quiet.{quiet_more, quiet_frozen}
-use Rattle.slate_db.proofs.Lists.{all_more, all_map, none_behind}
-use Rattle.slate_db.proofs.Begins.{rise_more, rise_without, within_newest}
-use Rattle.slate_txn.proofs.NamedLaws.{length_without, all_without, without_map, open_map, put_last, without_last}
-use Rattle.slate_txn.proofs.IdLaws.{fresh_among, fresh_named, all_past, wider}
+use Rattle.slate_db.proofs.Split.{all_up_to}
+use Rattle.slate_txn.proofs.IdLaws.{fresh_named, all_past, wider}
+use Rattle.slate_txn.proofs.NamedLaws.{all_without, without_map, open_map, without_last, update_map, update_all}
 
-pub tables_more : (es : List Event) (e : Event) → tables_of (es ++ (e ∷ [])) ≡ tables_of es ++ tables_in e
-tables_more es e = flat_map-append tables_in es (e ∷ []) ∙ ap (λ ts. tables_of es ++ ts) (append-nil (tables_in e))
+-- what is open in a core is what is open in its journal
+pub ends_are : (c : CoreModel) (x : Unseen) → IsWhole c x → x.ends ≡ length c.state.txns
+ends_are c x w =
+    let txns : length (replay c.events).txns ≡ length c.state.txns = ap length w.tied.txns ∙ length-map c.state.txns as_begun in
+    let none : length (replay c.events).snapshots ≡ 0 = ap length (w.tied.snapshots ∙ w.tied.no_snapshots) in
+    let ends : x.ends ≡ ends_of (replay c.events) = w.log.ends in
+    omega arith
 
--- an event that installs nothing
-pub tables_same : (es : List Event) (e : Event) → tables_in e ≡ [] → tables_of (es ++ (e ∷ [])) ≡ tables_of es
-tables_same es e h = tables_more es e ∙ ap (λ ts. tables_of es ++ ts) h ∙ append-nil (tables_of es)
+pub replays_of : (c : CoreModel) (x : Unseen) → IsWhole c x → Replays c.events c.state
+replays_of c x w = record { commits = w.log.replays; txns = w.tied.txns; snapshots = w.tied.snapshots }
+
+pub named_in_journal : (c : CoreModel) (x : Unseen) (id : List ℕ) → IsWhole c x → IsSome (find_named id c.state.txns) → IsSome (find_named id (replay c.events).txns)
+named_in_journal c x id w h = subst (λ (ts : List (List ℕ × Tx)). IsSome (find_named id ts)) (sym w.tied.txns) (open_map as_begun (λ p. refl) id c.state.txns h)
+
+pub within_newest : (floor n : ℕ) (ps : List (List ℕ × Tx)) → AllByRecursion (λ p. BeginsWithin floor n p) ps → AllByRecursion (λ p. p.1.begin ≤ n) ps
+within_newest floor n ps h = all_map _ _ (λ p w. w.1) ps h
+
+-- of nothing
+pub whole_first : (c : CoreModel) (x : Unseen) → IsLog (log_of c x) → AreLayers (layers_of c x) → c.events ≡ [] → c.state.commits ≡ [] → c.state.txns ≡ [] → c.state.snapshots ≡ [] → x.tables ≡ [] → c.active ≡ [] → c.frozen ≡ [] → c.floor ≡ 0 →
+    IsWhole c x
+whole_first c x log layers e cs ts ss hs a f z = record {
+  log = log;
+  layers = layers;
+  tied = record {
+    txns = ap (λ (es : List Event). (replay es).txns) e ∙ sym (ap (map as_begun) ts);
+    snapshots = ap (λ (es : List Event). (replay es).snapshots) e ∙ sym ss;
+    no_snapshots = ss;
+    named = subst (λ (ps : List (List ℕ × Tx)). AllByRecursion (λ p. IsOfCount x.ids p.0) ps) (sym ts) tt;
+    floor_within = omega arith;
+    begins = subst (λ (ps : List (List ℕ × Tx)). AllByRecursion (λ p. BeginsWithin c.floor x.last p) ps) (sym ts) tt;
+    all_installed = λ active frozen. ap (up_to (installed c.events)) cs ∙ sym cs;
+    tables = subst (λ (ks : List SsTableHandle). AreHandles (tables_of c.events) ks) (sym hs) (subst (λ (es : List Event). AreHandles (tables_of es) []) (sym e) tt);
+    quiet = λ idle. subst IsQuiet (sym e) refl;
+    rows_within = subst (λ (rows : Rows). AllByRecursion (λ rows. AllByRecursion (λ r. r.seq ≤ x.last) rows) (c.frozen ++ (rows ∷ []))) (sym a)
+        (subst (λ (layers : List Rows). AllByRecursion (λ rows. AllByRecursion (λ r. r.seq ≤ x.last) rows) (layers ++ ([] ∷ []))) (sym f) (tt, tt));
+  };
+}
 
 -- ---- a begin
 
@@ -44,71 +87,46 @@ after_begin c level n id spare = record c {
   spare = spare;
 }
 
-pub whole_begin : (c : CoreModel) (n ids runs : ℕ) (hs : List SsTableHandle) (level : IsolationLevel) (spare : ℕ) →
-    length c.state.txns + 1 ≤ spare → length c.events + length c.state.txns + 2 ≤ LIMIT → IsWhole c n ids runs hs →
-    IsWhole (after_begin c level n (id_of (ids + 1)) spare) n (ids + 1) runs hs
-whole_begin c n ids runs hs level spare room bound w = record {
-  legal = legal_more start opening [] c.events e w.legal (fresh_among ids (ids + 1) (used_from [] c.events) (omega arith) (omega (arith, w.counted)) w.used, w.last ∙ ap (λ cs. last_of start cs) (sym w.replays.commits));
-  replays = record {
-    commits = ap (λ s. s.commits) more ∙ w.replays.commits;
-    txns = ap (λ s. s.txns) more ∙ ap (λ ts. ts ++ ((id, begun level n) ∷ [])) w.replays.txns ∙ sym (map-append as_begun c.state.txns ((id, begun level n) ∷ []));
-    snapshots = ap (λ s. s.snapshots) more ∙ w.replays.snapshots;
+abbrev pub with_one : Unseen → Unseen
+with_one x = record x { ids = x.ids + 1; ends = x.ends + 1 }
+
+pub whole_begin : (c : CoreModel) (x : Unseen) (level : IsolationLevel) (spare : ℕ) → IsLog (log_of (after_begin c level x.last (id_of (x.ids + 1)) spare) (with_one x)) → IsWhole c x →
+    IsWhole (after_begin c level x.last (id_of (x.ids + 1)) spare) (with_one x)
+whole_begin c x level spare log w = record {
+  log = log;
+  layers = w.layers;
+  tied = record {
+    txns = ap (λ s. s.txns) more ∙ ap (λ ts. ts ++ ((id, begun level x.last) ∷ [])) w.tied.txns ∙ sym (map-append as_begun c.state.txns ((id, begun level x.last) ∷ []));
+    snapshots = ap (λ s. s.snapshots) more ∙ w.tied.snapshots;
+    no_snapshots = w.tied.no_snapshots;
+    named = all_more _ _ _ (all_map _ _ (λ p. wider x.ids (x.ids + 1) (omega arith) p.0) _ w.tied.named) (record { count = x.ids + 1; within = omega arith; is = refl });
+    floor_within = w.tied.floor_within;
+    begins = all_more _ _ _ w.tied.begins (w.tied.floor_within, omega arith);
+    all_installed = λ active frozen. rw (ap (λ s. s.flushed) more) (w.tied.all_installed active frozen);
+    tables = subst (λ (ts : List (Ulid × List ℕ)). AreHandles ts x.tables) (sym (tables_same c.events e refl)) w.tied.tables;
+    quiet = λ idle. quiet_more c.events e refl refl (w.tied.quiet idle);
+    rows_within = w.tied.rows_within;
   };
-  no_snapshots = w.no_snapshots;
-  last = w.last;
-  last_fits = w.last_fits;
-  rising = w.rising;
-  fine = w.fine;
-  own_fine = all_more _ _ _ w.own_fine tt;
-  room = rw length-append (omega arith);
-  bound = rw (length-append c.events (e ∷ []), length-append c.state.txns ((id, begun level n) ∷ [])) (omega arith);
-  used = rw used_more (new, all_map _ _ (wider ids (ids + 1) (omega arith)) _ w.used);
-  named = all_more _ _ _ (all_map _ _ (λ p. wider ids (ids + 1) (omega arith) p.0) _ w.named) new;
-  counted = rw length-append (let h : ids ≤ length c.events = w.counted in omega arith);
-  floor_within = w.floor_within;
-  begins = all_more _ _ _ w.begins (w.floor_within, omega arith);
-  begins_rise = rise_more c.state.txns (id, begun level n) w.begins_rise (within_newest c.floor n c.state.txns w.begins);
-  installed_within = rw (ap (λ s. s.flushed) more) w.installed_within;
-  flushed_within = w.flushed_within;
-  flushed_through = rw (ap (λ s. s.flushed) more) w.flushed_through;
-  all_installed = λ active frozen. rw (ap (λ s. s.flushed) more) (w.all_installed active frozen);
-  numbered = subst (NumberedFrom 1) (sym same) w.numbered;
-  runs_counted = w.runs_counted ∙ ap length (sym same);
-  runs_within = rw length-append (let h : runs ≤ length c.events = w.runs_within in omega arith);
-  tables = subst (λ (ts : List (Ulid × List ℕ)). AreHandles ts hs) (sym same) w.tables;
-  quiet = λ idle. quiet_more c.events e refl refl (w.quiet idle);
-  active_order = w.active_order;
-  frozen_order = w.frozen_order;
-  frozen_some = w.frozen_some;
-  rows_fit = w.rows_fit;
-  rows_within = w.rows_within;
-  rows_rise = w.rows_rise;
 }
   where
-    start : ℕ
-    start = c.settings.start_seq
-
     id : List ℕ
-    id = id_of (ids + 1)
+    id = id_of (x.ids + 1)
 
     e : Event
-    e = events.Begin id level n
+    e = events.Begin id level x.last
 
     more : replay (c.events ++ (e ∷ [])) ≡ apply (replay c.events) e
     more = apply_more opening c.events e
 
-    same : tables_of (c.events ++ (e ∷ [])) ≡ tables_of c.events
-    same = tables_same c.events e refl
+pub few : (c : CoreModel) (x : Unseen) → IsWhole c x → x.ids + 1 < 2 ^ 128
+few c x w = let counted : x.ids ≤ length c.events = w.log.counted in omega (arith, w.log.bound)
 
-    new : IsOfCount (ids + 1) id
-    new = record { count = ids + 1; within = omega arith; is = refl }
+-- a new id stands past all others, and is taken out again
+pub past_begun : (c : CoreModel) (x : Unseen) → IsWhole c x → AllByRecursion (λ p. key_cmp (id_of (x.ids + 1)) p.0 ≡ Greater) c.state.txns
+past_begun c x w = all_past x.ids (x.ids + 1) c.state.txns (omega arith) (few c x w) w.tied.named
 
--- a new id goes behind all others, and is taken out again
-pub put_begun : (c : CoreModel) (n ids runs : ℕ) (hs : List SsTableHandle) (x : Tx) → IsWhole c n ids runs hs → insert_entry key_cmp c.state.txns (id_of (ids + 1)) x ≡ c.state.txns ++ ((id_of (ids + 1), x) ∷ [])
-put_begun c n ids runs hs x w = put_last (id_of (ids + 1)) x c.state.txns (all_past ids (ids + 1) c.state.txns (omega arith) (omega (arith, w.counted, w.bound)) w.named)
-
-pub taken_back : (c : CoreModel) (n ids runs : ℕ) (hs : List SsTableHandle) (x : Tx) → IsWhole c n ids runs hs → without (id_of (ids + 1)) (c.state.txns ++ ((id_of (ids + 1), x) ∷ [])) ≡ c.state.txns
-taken_back c n ids runs hs x w = without_last (id_of (ids + 1)) x c.state.txns (fresh_named ids (ids + 1) c.state.txns (omega arith) (omega (arith, w.counted, w.bound)) w.named)
+pub taken_back : (c : CoreModel) (x : Unseen) (t : Tx) → IsWhole c x → without (id_of (x.ids + 1)) (c.state.txns ++ ((id_of (x.ids + 1), t) ∷ [])) ≡ c.state.txns
+taken_back c x t w = without_last (id_of (x.ids + 1)) t c.state.txns (fresh_named x.ids (x.ids + 1) c.state.txns (omega arith) (few c x w) w.tied.named)
 
 pub kept_begin : (m : Meaning) (c : CoreModel) (level : IsolationLevel) (n : ℕ) (id : List ℕ) (spare : ℕ) → IsKept m c → IsKept m (after_begin c level n id spare)
 kept_begin m c level n id spare = kept_event m c _ _ spare refl
@@ -124,136 +142,210 @@ after_end c id spare = record c {
   spare = spare;
 }
 
-pub whole_end : (c : CoreModel) (n ids runs : ℕ) (hs : List SsTableHandle) (id : List ℕ) (spare : ℕ) →
-    IsSome (find_named id c.state.txns) → spare + 1 ≡ c.spare → IsWhole c n ids runs hs →
-    IsWhole (after_end c id spare) n ids runs hs
-whole_end c n ids runs hs id spare h room w = record {
-  legal = legal_more start opening [] c.events e w.legal (subst (λ (ts : List (List ℕ × Tx)). IsSome (find_named id ts)) (sym w.replays.txns) (open_map as_begun (λ p. refl) id c.state.txns h));
-  replays = record {
-    commits = ap (λ s. s.commits) more ∙ w.replays.commits;
-    txns = ap (λ s. s.txns) more ∙ ap (λ ts. without id ts) w.replays.txns ∙ without_map as_begun (λ p. refl) id c.state.txns;
-    snapshots = ap (λ s. s.snapshots) more ∙ w.replays.snapshots;
+abbrev pub less_one : Unseen → Unseen
+less_one x = record x { ends = x.ends - 1 }
+
+pub whole_end : (c : CoreModel) (x : Unseen) (id : List ℕ) (spare : ℕ) → IsLog (log_of (after_end c id spare) (less_one x)) → IsWhole c x → IsWhole (after_end c id spare) (less_one x)
+whole_end c x id spare log w = record {
+  log = log;
+  layers = w.layers;
+  tied = record {
+    txns = ap (λ s. s.txns) more ∙ ap (λ ts. without id ts) w.tied.txns ∙ without_map as_begun (λ p. refl) id c.state.txns;
+    snapshots = ap (λ s. s.snapshots) more ∙ w.tied.snapshots;
+    no_snapshots = w.tied.no_snapshots;
+    named = all_without _ id _ w.tied.named;
+    floor_within = w.tied.floor_within;
+    begins = all_without _ id _ w.tied.begins;
+    all_installed = λ active frozen. rw (ap (λ s. s.flushed) more) (w.tied.all_installed active frozen);
+    tables = subst (λ (ts : List (Ulid × List ℕ)). AreHandles ts x.tables) (sym (tables_same c.events e refl)) w.tied.tables;
+    quiet = λ idle. quiet_more c.events e refl refl (w.tied.quiet idle);
+    rows_within = w.tied.rows_within;
   };
-  no_snapshots = w.no_snapshots;
-  last = w.last;
-  last_fits = w.last_fits;
-  rising = w.rising;
-  fine = w.fine;
-  own_fine = all_without _ id _ w.own_fine;
-  room = omega (arith, len, w.room);
-  bound = rw length-append (omega (arith, len, w.bound));
-  used = rw used_more w.used;
-  named = all_without _ id _ w.named;
-  counted = rw length-append (let h : ids ≤ length c.events = w.counted in omega arith);
-  floor_within = w.floor_within;
-  begins = all_without _ id _ w.begins;
-  begins_rise = rise_without id c.state.txns w.begins_rise;
-  installed_within = rw (ap (λ s. s.flushed) more) w.installed_within;
-  flushed_within = w.flushed_within;
-  flushed_through = rw (ap (λ s. s.flushed) more) w.flushed_through;
-  all_installed = λ active frozen. rw (ap (λ s. s.flushed) more) (w.all_installed active frozen);
-  numbered = subst (NumberedFrom 1) (sym same) w.numbered;
-  runs_counted = w.runs_counted ∙ ap length (sym same);
-  runs_within = rw length-append (let h : runs ≤ length c.events = w.runs_within in omega arith);
-  tables = subst (λ (ts : List (Ulid × List ℕ)). AreHandles ts hs) (sym same) w.tables;
-  quiet = λ idle. quiet_more c.events e refl refl (w.quiet idle);
-  active_order = w.active_order;
-  frozen_order = w.frozen_order;
-  frozen_some = w.frozen_some;
-  rows_fit = w.rows_fit;
-  rows_within = w.rows_within;
-  rows_rise = w.rows_rise;
 }
   where
-    start : ℕ
-    start = c.settings.start_seq
-
     e : Event
     e = events.End id
 
     more : replay (c.events ++ (e ∷ [])) ≡ apply (replay c.events) e
     more = apply_more opening c.events e
 
-    same : tables_of (c.events ++ (e ∷ [])) ≡ tables_of c.events
-    same = tables_same c.events e refl
-
-    len : length (without id c.state.txns) + 1 ≡ length c.state.txns
-    len = length_without id c.state.txns h
-
 pub kept_end : (m : Meaning) (c : CoreModel) (id : List ℕ) (spare : ℕ) → IsKept m c → IsKept m (after_end c id spare)
 kept_end m c id spare = kept_event m c _ _ spare refl
     (ap (λ s. s.flushed) (apply_more opening c.events (events.End id)))
     (tables_same c.events (events.End id) refl)
+
+-- ---- a step that is noted
+
+abbrev pub after_note : CoreModel → List ℕ → List TranscriptStep → CoreModel
+after_note c id ts = record c { state = noted c.state id ts }
+
+pub whole_note : (c : CoreModel) (x : Unseen) (id : List ℕ) (ts : List TranscriptStep) → IsWhole c x → IsWhole (after_note c id ts) x
+whole_note c x id ts w = record {
+  log = w.log;
+  layers = w.layers;
+  tied = record {
+    txns = w.tied.txns ∙ sym (update_map as_begun id with_steps c.state.txns (λ p. refl));
+    snapshots = w.tied.snapshots;
+    no_snapshots = w.tied.no_snapshots;
+    named = update_all _ id with_steps c.state.txns (λ p h. h) w.tied.named;
+    floor_within = w.tied.floor_within;
+    begins = update_all _ id with_steps c.state.txns (λ p h. h) w.tied.begins;
+    all_installed = w.tied.all_installed;
+    tables = w.tied.tables;
+    quiet = w.tied.quiet;
+    rows_within = w.tied.rows_within;
+  };
+}
+  where
+    with_steps : Tx → Tx
+    with_steps t = record t { transcript = t.transcript ++ ts }
 
 -- ---- a freeze
 
 abbrev pub after_freeze : CoreModel → ℕ → CoreModel
 after_freeze c spare = record c { events = c.events ++ (events.Freeze ∷ []); spare = spare; active = []; frozen = c.frozen ++ (c.active ∷ []) }
 
--- the rows in memory stay where they are
-pub versions_frozen : (k : List ℕ) (c : CoreModel) → versions_in k ((c.frozen ++ (c.active ∷ [])) ++ ([] ∷ [])) ≡ versions_in k (memory c)
-versions_frozen k c = flat_map-append (versions k) (memory c) ([] ∷ []) ∙ append-nil (versions_in k (memory c))
-
-pub whole_freeze : (c : CoreModel) (n ids runs : ℕ) (hs : List SsTableHandle) (spare : ℕ) →
-    length c.state.txns ≤ spare → length c.events + length c.state.txns + 1 ≤ LIMIT → 0 < length c.active → IsWhole c n ids runs hs →
-    IsWhole (after_freeze c spare) n ids runs hs
-whole_freeze c n ids runs hs spare room bound some w = record {
-  legal = legal_more start opening [] c.events e w.legal tt;
-  replays = record {
-    commits = ap (λ s. s.commits) more ∙ w.replays.commits;
-    txns = ap (λ s. s.txns) more ∙ w.replays.txns;
-    snapshots = ap (λ s. s.snapshots) more ∙ w.replays.snapshots;
+pub whole_freeze : (c : CoreModel) (x : Unseen) (spare freeze : ℕ) → IsLog (log_of (after_freeze c spare) (record x { for_freeze = freeze })) → AreLayers (layers_of (after_freeze c spare) (record x { for_freeze = freeze })) → IsWhole c x →
+    IsWhole (after_freeze c spare) (record x { for_freeze = freeze })
+whole_freeze c x spare freeze log layers w = record {
+  log = log;
+  layers = layers;
+  tied = record {
+    txns = ap (λ s. s.txns) more ∙ w.tied.txns;
+    snapshots = ap (λ s. s.snapshots) more ∙ w.tied.snapshots;
+    no_snapshots = w.tied.no_snapshots;
+    named = w.tied.named;
+    floor_within = w.tied.floor_within;
+    begins = w.tied.begins;
+    all_installed = λ active frozen. absurd (none_behind c.frozen c.active frozen);
+    tables = subst (λ (ts : List (Ulid × List ℕ)). AreHandles ts x.tables) (sym (tables_same c.events events.Freeze refl)) w.tied.tables;
+    quiet = λ idle. quiet_frozen c.events;
+    rows_within = all_more _ (memory c) [] w.tied.rows_within tt;
   };
-  no_snapshots = w.no_snapshots;
-  last = w.last;
-  last_fits = w.last_fits;
-  rising = w.rising;
-  fine = w.fine;
-  own_fine = w.own_fine;
-  room = room;
-  bound = rw length-append (omega arith);
-  used = rw used_more w.used;
-  named = w.named;
-  counted = rw length-append (let h : ids ≤ length c.events = w.counted in omega arith);
-  floor_within = w.floor_within;
-  begins = w.begins;
-  begins_rise = w.begins_rise;
-  installed_within = rw (ap (λ s. s.flushed) more) w.installed_within;
-  flushed_within = w.flushed_within;
-  flushed_through = rw (ap (λ s. s.flushed) more) w.flushed_through;
-  all_installed = λ active frozen. absurd (none_behind c.frozen c.active frozen);
-  numbered = subst (NumberedFrom 1) (sym same) w.numbered;
-  runs_counted = w.runs_counted ∙ ap length (sym same);
-  runs_within = rw length-append (let h : runs ≤ length c.events = w.runs_within in omega arith);
-  tables = subst (λ (ts : List (Ulid × List ℕ)). AreHandles ts hs) (sym same) w.tables;
-  quiet = λ idle. quiet_frozen c.events;
-  active_order = tt;
-  frozen_order = all_more _ _ _ w.frozen_order w.active_order;
-  frozen_some = all_more _ _ _ w.frozen_some some;
-  rows_fit = all_more _ (memory c) [] w.rows_fit tt;
-  rows_within = all_more _ (memory c) [] w.rows_within tt;
-  rows_rise = λ k. subst (λ (xs : Rows). AreRising xs) (sym (versions_frozen k c)) (w.rows_rise k);
 }
   where
-    start : ℕ
-    start = c.settings.start_seq
-
-    e : Event
-    e = events.Freeze
-
-    more : replay (c.events ++ (e ∷ [])) ≡ apply (replay c.events) e
-    more = apply_more opening c.events e
-
-    same : tables_of (c.events ++ (e ∷ [])) ≡ tables_of c.events
-    same = tables_same c.events e refl
+    more : replay (c.events ++ (events.Freeze ∷ [])) ≡ apply (replay c.events) events.Freeze
+    more = apply_more opening c.events events.Freeze
 
 pub kept_freeze : (m : Meaning) (c : CoreModel) (spare : ℕ) → IsKept m c → IsKept m (after_freeze c spare)
-kept_freeze m c spare kept = kept_rows m (after c) [] (c.frozen ++ (c.active ∷ [])) same (kept_event m c _ _ spare refl
+kept_freeze m c spare kept = kept_rows m (after c) [] (c.frozen ++ (c.active ∷ [])) (λ k. versions_frozen k c.frozen c.active) (kept_event m c _ _ spare refl
     (ap (λ s. s.flushed) (apply_more opening c.events events.Freeze))
     (tables_same c.events events.Freeze refl) kept)
   where
     after : CoreModel → CoreModel
     after c = record c { events = c.events ++ (events.Freeze ∷ []); spare = spare }
 
-    same : (k : List ℕ) → versions_in k ((c.frozen ++ (c.active ∷ [])) ++ ([] ∷ [])) ≡ versions_in k (memory c)
-    same k = versions_frozen k c
+-- ---- a write
+
+pub whole_write : (c : CoreModel) (x : Unseen) (now : ℤ) (ops : Ops) (rows : Rows) (spare : ℕ) → (rows ≡ [] → ⊥) → AllByRecursion (λ r. r.seq ≤ x.last + 1) rows →
+    IsLog (log_of (after_write c (x.last + 1) now ops rows spare) (record x { last = x.last + 1 })) → AreLayers (layers_of (after_write c (x.last + 1) now ops rows spare) x) → IsWhole c x →
+    IsWhole (after_write c (x.last + 1) now ops rows spare) (record x { last = x.last + 1 })
+whole_write c x now ops rows spare some within log layers w = record {
+  log = log;
+  layers = layers;
+  tied = record {
+    txns = ap (λ s. s.txns) more ∙ w.tied.txns;
+    snapshots = ap (λ s. s.snapshots) more ∙ w.tied.snapshots;
+    no_snapshots = w.tied.no_snapshots;
+    named = w.tied.named;
+    floor_within = let h : c.floor ≤ x.last = w.tied.floor_within in omega arith;
+    begins = all_map _ _ (λ p h. (h.0, let k : p.1.begin ≤ x.last = h.1 in omega arith)) _ w.tied.begins;
+    all_installed = λ active frozen. absurd (some active);
+    tables = subst (λ (ts : List (Ulid × List ℕ)). AreHandles ts x.tables) (sym (tables_same c.events e refl)) w.tied.tables;
+    quiet = λ idle. absurd (some idle);
+    rows_within = all_more _ c.frozen rows (all_map _ _ (λ layer h. all_map _ _ higher layer h) c.frozen (all_front _ c.frozen (c.active ∷ []) w.tied.rows_within)) within;
+  };
+}
+  where
+    e : Event
+    e = events.Write (x.last + 1) now ops
+
+    more : replay (c.events ++ (e ∷ [])) ≡ apply (replay c.events) e
+    more = apply_more opening c.events e
+
+    higher : (r : RowEntry) → r.seq ≤ x.last → r.seq ≤ x.last + 1
+    higher r h = omega arith
+
+-- ---- an install
+
+pub least_within : (n : ℕ) (ps : List (List ℕ × Tx)) → least_begin n ps ≤ n
+least_within n [] = omega arith
+least_within n (p ∷ ps) = let h : least_begin (min n p.1.begin) ps ≤ min n p.1.begin = least_within (min n p.1.begin) ps in omega arith
+
+least_each : (n floor last : ℕ) (ps : List (List ℕ × Tx)) → AllByRecursion (λ p. BeginsWithin floor last p) ps → AllByRecursion (λ p. BeginsWithin (least_begin n ps) last p) ps
+least_each n floor last [] h = tt
+least_each n floor last (p ∷ ps) h =
+    ((let k : least_begin (min n p.1.begin) ps ≤ min n p.1.begin = least_within (min n p.1.begin) ps in omega arith, h.0.1), least_each (min n p.1.begin) floor last ps h.1)
+
+handles_more : (ts : List (Ulid × List ℕ)) (hs : List SsTableHandle) (t : Ulid × List ℕ) (h : SsTableHandle) → AreHandles ts hs → IsHandle t h → AreHandles (ts ++ (t ∷ [])) (hs ++ (h ∷ []))
+handles_more [] [] t h are is = (is, tt)
+handles_more (x ∷ ts) (y ∷ hs) t h are is = (are.0, handles_more ts hs t h are.1 is)
+handles_more [] (y ∷ hs) t h are is = absurd are
+handles_more (x ∷ ts) [] t h are is = absurd are
+
+abbrev pub with_table : Unseen → SsTableHandle → ℕ → ℕ → Unseen
+with_table x h freeze table = record x { installs = x.installs + 1; tables = x.tables ++ (h ∷ []); for_freeze = freeze; for_table = table }
+
+pub whole_install : (c : CoreModel) (x : Unseen) (t : Ulid × List ℕ) (h : SsTableHandle) (spare freeze table : ℕ) → IsHandle t h →
+    IsLog (log_of (after_install c x.last t spare) (with_table x h freeze table)) → AreLayers (layers_of (after_install c x.last t spare) (with_table x h freeze table)) → IsWhole c x →
+    IsWhole (after_install c x.last t spare) (with_table x h freeze table)
+whole_install c x t h spare freeze table kept log layers w = record {
+  log = log;
+  layers = layers;
+  tied = record {
+    txns = ap (λ s. s.txns) more ∙ w.tied.txns;
+    snapshots = ap (λ s. s.snapshots) more ∙ w.tied.snapshots;
+    no_snapshots = w.tied.no_snapshots;
+    named = w.tied.named;
+    floor_within = least_within x.last c.state.txns;
+    begins = least_each x.last c.floor x.last c.state.txns w.tied.begins;
+    all_installed = λ active frozen. ap (λ i. up_to i c.state.commits) (ap (λ s. s.flushed) more) ∙ all_up_to c.settings.start_seq x.last c.state.commits w.log.rising (let l : x.last ≡ last_of c.settings.start_seq c.state.commits = w.log.last in omega arith);
+    tables = subst (λ (ts : List (Ulid × List ℕ)). AreHandles ts (x.tables ++ (h ∷ []))) (sym (tables_more c.events e)) (handles_more (tables_of c.events) x.tables t h w.tied.tables kept);
+    quiet = λ idle. quiet_more c.events e refl refl (w.tied.quiet idle);
+    rows_within = all_behind _ c.frozen (c.active ∷ []) w.tied.rows_within;
+  };
+}
+  where
+    e : Event
+    e = events.Install x.last (t ∷ [])
+
+    more : replay (c.events ++ (e ∷ [])) ≡ apply (replay c.events) e
+    more = apply_more opening c.events e
+
+-- a flush that finds no rows
+pub whole_flushed : (c : CoreModel) (x : Unseen) → IsLog (log_of (record c { state = record c.state { flushed = x.last } }) x) → IsWhole c x → IsWhole (record c { state = record c.state { flushed = x.last } }) x
+whole_flushed c x log w = record {
+  log = log;
+  layers = w.layers;
+  tied = record {
+    txns = w.tied.txns;
+    snapshots = w.tied.snapshots;
+    no_snapshots = w.tied.no_snapshots;
+    named = w.tied.named;
+    floor_within = w.tied.floor_within;
+    begins = w.tied.begins;
+    all_installed = w.tied.all_installed;
+    tables = w.tied.tables;
+    quiet = w.tied.quiet;
+    rows_within = w.tied.rows_within;
+  };
+}
+
+-- room was made in the parts
+pub whole_room : (c : CoreModel) (x : Unseen) (spare freeze table : ℕ) → IsLog (log_of (record c { spare = spare }) x) → IsWhole c x → IsWhole (record c { spare = spare }) (record x { for_freeze = freeze; for_table = table })
+whole_room c x spare freeze table log w = record {
+  log = log;
+  layers = record { active_order = w.layers.active_order; frozen_order = w.layers.frozen_order; frozen_some = w.layers.frozen_some; fit = w.layers.fit; rise = w.layers.rise };
+  tied = record {
+    txns = w.tied.txns;
+    snapshots = w.tied.snapshots;
+    no_snapshots = w.tied.no_snapshots;
+    named = w.tied.named;
+    floor_within = w.tied.floor_within;
+    begins = w.tied.begins;
+    all_installed = w.tied.all_installed;
+    tables = w.tied.tables;
+    quiet = w.tied.quiet;
+    rows_within = w.tied.rows_within;
+  };
+}

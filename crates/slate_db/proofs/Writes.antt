@@ -9,7 +9,6 @@ use Rattle.slate_types.specs.declared.types.RowEntry.{RowEntry}
 use Rattle.slate_types.specs.Fold.{fold_rows}
 use Rattle.slate_mem.specs.Batch.{Ops, batch_keys, kept_ops}
 use Rattle.slate_mem.specs.RowOf.{row_of}
-use Rattle.slate_table.specs.declared.info.SsTableHandle.{SsTableHandle}
 use Rattle.slate_table.specs.Table.{AreInOrder}
 use Rattle.slate_txn.specs.declared.event.Event.{Event}
 use Rattle.slate_txn.specs.declared.event.Event.TheVariants as events
@@ -20,91 +19,23 @@ use Rattle.slate_db.specs.Meaning.{Meaning, rules_of, combine_of}
 use Rattle.slate_db.specs.Model.{CoreModel, Rows, versions, versions_in}
 use Rattle.slate_db.specs.Installs.{tables_of, installed, NumberedFrom, AreHandles}
 use Rattle.slate_db.specs.Sound.{above, IsKept, IsSound, AreTables}
-use Rattle.slate_db.specs.Whole.{IsWhole, LIMIT, AreFine, FitsMemory, AreRising}
+use Rattle.slate_db.specs.Layers.{FitsMemory, AreRising}
+use Rattle.slate_db.specs.Log.{LIMIT, AreFine}
+use Rattle.slate_db.specs.Whole.{IsWhole, Unseen}
 use Rattle.slate_db.specs.Written.{after_write}
 use Rattle.slate_db.proofs.Journals.{apply_more, used_more, legal_more}
 use Rattle.slate_db.proofs.Lists.{all_more, all_map, all_front}
 use Rattle.slate_db.proofs.Split.{rising_more, last_more, up_to_more}
-use Rattle.slate_db.proofs.Wholes.{tables_same}
-
--- what a batch is that becomes a commit
-pub record IsWhollyKept (ops : Ops) : Type 0 where
-  pub some : 0 < length ops
-  pub kept : kept_ops ops ≡ ops
-  pub fine : AreFine ops
-
-pub whole_write : (c : CoreModel) (n ids runs : ℕ) (hs : List SsTableHandle) (now : ℤ) (ops : Ops) (rows : Rows) (spare : ℕ) →
-    length c.state.txns ≤ spare → length c.events + length c.state.txns + 1 ≤ LIMIT → n < 2 ^ 64 - 2 → IsWhollyKept ops → AreInOrder rows → (rows ≡ [] → ⊥) → AllByRecursion FitsMemory rows → AllByRecursion (λ r. r.seq ≤ n + 1) rows →
-    ((k : List ℕ) → AreRising (versions_in k (c.frozen ++ (rows ∷ [])))) → IsWhole c n ids runs hs →
-    IsWhole (after_write c (n + 1) now ops rows spare) (n + 1) ids runs hs
-whole_write c n ids runs hs now ops rows spare room bound fits batch order some fit within rise w = record {
-  legal = legal_more start opening [] c.events e w.legal ((ap (λ x. x + 1) (w.last ∙ ap (λ cs. last_of start cs) (sym w.replays.commits)), batch.some), batch.kept);
-  replays = record {
-    commits = ap (λ s. s.commits) more ∙ ap (λ cs. cs ++ (commit ∷ [])) w.replays.commits;
-    txns = ap (λ s. s.txns) more ∙ w.replays.txns;
-    snapshots = ap (λ s. s.snapshots) more ∙ w.replays.snapshots;
-  };
-  no_snapshots = w.no_snapshots;
-  last = sym (last_more start c.state.commits commit);
-  last_fits = omega arith;
-  rising = rising_more start c.state.commits commit w.rising (let l : n ≡ last_of start c.state.commits = w.last in omega arith);
-  fine = all_more _ _ _ w.fine batch.fine;
-  own_fine = w.own_fine;
-  room = room;
-  bound = rw length-append (omega arith);
-  used = rw used_more w.used;
-  named = w.named;
-  counted = rw length-append (let h : ids ≤ length c.events = w.counted in omega arith);
-  floor_within = let h : c.floor ≤ n = w.floor_within in omega arith;
-  begins = all_map _ _ (λ p h. (h.0, let k : p.1.begin ≤ n = h.1 in omega arith)) _ w.begins;
-  begins_rise = w.begins_rise;
-  installed_within = rw (ap (λ s. s.flushed) more) (let h : installed c.events ≤ n = w.installed_within in omega arith);
-  flushed_within = let h : c.state.flushed ≤ n = w.flushed_within in omega arith;
-  flushed_through =
-      up_to_more c.state.flushed c.state.commits commit (let h : c.state.flushed ≤ n = w.flushed_within in omega arith)
-      ∙ w.flushed_through
-      ∙ sym (up_to_more (installed c.events) c.state.commits commit (let h : installed c.events ≤ n = w.installed_within in omega arith))
-      ∙ ap (λ i. up_to i (c.state.commits ++ (commit ∷ []))) (sym (ap (λ s. s.flushed) more));
-  all_installed = λ active frozen. absurd (some active);
-  numbered = subst (NumberedFrom 1) (sym same) w.numbered;
-  runs_counted = w.runs_counted ∙ ap length (sym same);
-  runs_within = rw length-append (let h : runs ≤ length c.events = w.runs_within in omega arith);
-  tables = subst (λ (ts : List (Ulid × List ℕ)). AreHandles ts hs) (sym same) w.tables;
-  quiet = λ idle. absurd (some idle);
-  active_order = order;
-  frozen_order = w.frozen_order;
-  frozen_some = w.frozen_some;
-  rows_fit = all_more _ c.frozen rows (all_front _ c.frozen (c.active ∷ []) w.rows_fit) fit;
-  rows_within = all_more _ c.frozen rows (all_map _ _ (λ layer h. all_map _ _ wider layer h) c.frozen (all_front _ c.frozen (c.active ∷ []) w.rows_within)) within;
-  rows_rise = rise;
-}
-  where
-    start : ℕ
-    start = c.settings.start_seq
-
-    e : Event
-    e = events.Write (n + 1) now ops
-
-    commit : Commit
-    commit = record { seq = n + 1; now = now; ops = ops; tracked = batch_keys ops }
-
-    more : replay (c.events ++ (e ∷ [])) ≡ apply (replay c.events) e
-    more = apply_more opening c.events e
-
-    same : tables_of (c.events ++ (e ∷ [])) ≡ tables_of c.events
-    same = tables_same c.events e refl
-
-    wider : (r : RowEntry) → r.seq ≤ n → r.seq ≤ n + 1
-    wider r h = omega arith
+use Rattle.slate_db.proofs.Logs.{tables_same}
 
 cons_list : {X : Type 0} (o : Option X) → cons_option o [] ≡ option_to_list o
 cons_list None = refl
 cons_list (Some x) = refl
 
-pub kept_write : (m : Meaning) (c : CoreModel) (n ids runs : ℕ) (hs : List SsTableHandle) (now : ℤ) (ops : Ops) (rows : Rows) (spare : ℕ) →
-    ((k : List ℕ) → versions k rows ≡ versions k c.active ++ option_to_list (row_of (combine_of m k) c.settings.default_millis (n + 1) now ops k)) → IsWhole c n ids runs hs → IsKept m c →
-    IsKept m (after_write c (n + 1) now ops rows spare)
-kept_write m c n ids runs hs now ops rows spare each w kept = (
+pub kept_write : (m : Meaning) (c : CoreModel) (u : Unseen) (now : ℤ) (ops : Ops) (rows : Rows) (spare : ℕ) →
+    ((k : List ℕ) → versions k rows ≡ versions k c.active ++ option_to_list (row_of (combine_of m k) c.settings.default_millis (u.last + 1) now ops k)) → IsWhole c u → IsKept m c →
+    IsKept m (after_write c (u.last + 1) now ops rows spare)
+kept_write m c u now ops rows spare each w kept = (
   λ k.
       flat_map-append (versions k) c.frozen (rows ∷ [])
       ∙ ap (λ xs. versions_in k c.frozen ++ xs) (append-nil (versions k rows) ∙ each k ∙ ap (λ xs. xs ++ option_to_list (row k)) (sym (append-nil (versions k c.active))))
@@ -132,19 +63,19 @@ kept_write m c n ids runs hs now ops rows spare each w kept = (
     r = rules_of c.settings m
 
     row : List ℕ → Option RowEntry
-    row k = row_of (combine_of m k) c.settings.default_millis (n + 1) now ops k
+    row k = row_of (combine_of m k) c.settings.default_millis (u.last + 1) now ops k
 
     e : Event
-    e = events.Write (n + 1) now ops
+    e = events.Write (u.last + 1) now ops
 
     commit : Commit
-    commit = record { seq = n + 1; now = now; ops = ops; tracked = batch_keys ops }
+    commit = record { seq = u.last + 1; now = now; ops = ops; tracked = batch_keys ops }
 
-    through : installed (c.events ++ (events.Write (n + 1) now ops ∷ [])) ≡ installed c.events
-    through = ap (λ s. s.flushed) (apply_more opening c.events (events.Write (n + 1) now ops))
+    through : installed (c.events ++ (events.Write (u.last + 1) now ops ∷ [])) ≡ installed c.events
+    through = ap (λ s. s.flushed) (apply_more opening c.events (events.Write (u.last + 1) now ops))
 
-    new : nat_lt (installed c.events) (n + 1) ≡ true
-    new = let h : installed c.events ≤ n = w.installed_within in grind (arith, nat_tests)
+    new : nat_lt (installed c.events) (u.last + 1) ≡ true
+    new = let h : installed c.events ≤ u.last = w.log.installed_within in grind (arith, nat_tests)
 
-    old : installed c.events < n + 1
-    old = let h : installed c.events ≤ n = w.installed_within in omega arith
+    old : installed c.events < u.last + 1
+    old = let h : installed c.events ≤ u.last = w.log.installed_within in omega arith

@@ -39,7 +39,8 @@ use Rattle.slate_db.specs.Meaning.{Meaning, combine_of}
 use Rattle.slate_db.specs.Model.{CoreModel, Rows, memory, versions, versions_in}
 use Rattle.slate_db.specs.Sound.{at_most, later}
 use Rattle.slate_db.specs.Installs.{tables_of, root, IsHandle}
-use Rattle.slate_db.specs.Whole.{FitsMemory, AreRising, LIMIT}
+use Rattle.slate_db.specs.Layers.{FitsMemory, AreRising}
+use Rattle.slate_db.specs.Log.{LIMIT}
 use Rattle.slate_table.specs.Paths.{path_of, table_id}
 
 abbrev pub IsFolded : Meaning → ℕ → List Rows → Rows → Type 0

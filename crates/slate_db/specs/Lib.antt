@@ -5,12 +5,16 @@ pub mod Model
 pub mod Installs
 pub mod Sound
 pub mod StoredState
+pub mod Log
+pub mod Layers
 pub mod Whole
 pub mod Frozen
 pub mod Load
 pub mod Flushed
 pub mod Written
 pub mod Lookup
+pub mod LogView
+pub mod LayersView
 pub mod View
 pub mod Vectors
 pub mod Parts

@@ -18,7 +18,7 @@ use Rattle.slate_txn.specs.Reads.{up_to, key_rows, state_at}
 use Rattle.slate_db.specs.Meaning.{Meaning, IsLawfulMeaning, rules_of, combine_of}
 use Rattle.slate_db.specs.Model.{CoreModel, Rows, memory, versions_in}
 use Rattle.slate_db.specs.Installs.{tables_of, installed}
-use Rattle.slate_db.specs.Whole.{AreRising}
+use Rattle.slate_db.specs.Layers.{AreRising}
 
 abbrev pub at_most : ℕ → Rows → Rows
 at_most n rows = filter (λ r. nat_le r.seq n) rows

@@ -7,7 +7,7 @@ use Rattle.slate_db.specs.Meaning.{Meaning, combine_of, rules_of}
 use Rattle.slate_db.specs.Model.{CoreModel, Rows, versions_in}
 use Rattle.slate_db.specs.Installs.{tables_of}
 use Rattle.slate_db.specs.Sound.{AreTables}
-use Rattle.slate_db.specs.Whole.{AreRising}
+use Rattle.slate_db.specs.Layers.{AreRising}
 
 abbrev pub StoresState : Meaning → CoreModel → Type 0
 StoresState m c = (layers : List Rows) → AreTables m (tables_of c.events) layers → (k : List ℕ) →

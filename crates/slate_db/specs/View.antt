@@ -1,20 +1,23 @@
 -- How contracts see a core.
-use Rattle.std.specs.Prelude.{[], map, pos}
-use Rattle.slate_txn.specs.Replay.{replay}
+use Rattle.std.specs.Prelude.{[], pos}
 use Rattle.slate_db.specs.declared.engine.Core.TheInside.{Inside}
 use Rattle.slate_db.specs.Model.{CoreModel}
-use Rattle.slate_db.specs.Whole.{IsWhole}
+use Rattle.slate_db.specs.Whole.{Unseen, IsWhole}
 
 abbrev pub view_of : Inside → CoreModel
 view_of s = record {
-  settings = record { default_millis = s.default_millis; start_seq = s.start_seq };
-  state = record { commits = (replay s.journal.events).commits; txns = s.open.entries; snapshots = []; now = pos 0; flushed = s.flushed };
-  events = s.journal.events;
-  spare = s.journal.spare;
-  active = s.active.rows;
-  frozen = map (λ t. t.rows) s.frozen.items;
-  floor = s.floor;
+  settings = record { default_millis = s.default_millis; start_seq = s.log.start };
+  state = record { commits = s.log.commits; txns = s.transactions; snapshots = []; now = pos 0; flushed = s.log.flushed };
+  events = s.log.events;
+  spare = s.log.spare;
+  active = s.layers.active;
+  frozen = s.layers.frozen;
+  floor = s.layers.floor;
 }
 
+-- what of the parts isn't in it
+abbrev pub unseen_of : Inside → Unseen
+unseen_of s = record { last = s.log.last; ids = s.log.ids; installs = s.log.installs; ends = s.log.ends; tables = s.layers.tables; for_freeze = s.layers.for_freeze; for_table = s.layers.for_table }
+
 abbrev pub IsWholeInside : Inside → Type 0
-IsWholeInside s = IsWhole (view_of s) s.last s.ids s.runs s.tables.items
+IsWholeInside s = IsWhole (view_of s) (unseen_of s)

@@ -1,5 +1,6 @@
 //! The core: the journal of a store, what is open in it, and the rows in memory.
 ghost use Rattle.std.specs.Prelude.{◌≡◌, ◌≢◌, ◌⊎◌, ◌+◌, ◌-◌, ◌^◌, ◌≤◌, ◌<◌, ◌∷◌, List, [], ◌++◌, length, IfOk, IfErr, OnOk, OnErr, IsOk, Err, IsSome, Some, false, is_some};
+ghost use Rattle.std.specs.List.{AllByRecursion};
 ghost use Rattle.slate_types.specs.Config.{IsValid};
 ghost use Rattle.slate_types.specs.declared.error.SlateDBError.{SlateDBError};
 ghost use Rattle.slate_types.specs.Fold.{fold_rows};
@@ -23,55 +24,42 @@ ghost use Rattle.slate_db.specs.Meaning.{Meaning, IsLawfulMeaning, combine_of, r
 ghost use Rattle.slate_db.specs.Frozen.{IsFrozen};
 ghost use Rattle.slate_db.specs.Flushed.{Flushes, IsFlushError, MayPut, NoPlaceToFlush, TooLarge, events_of_flush, layout_of};
 ghost use Rattle.slate_db.specs.Load.{load, ops_load};
-ghost use Rattle.slate_db.specs.Installs.{Replays, tables_of};
+ghost use Rattle.slate_db.specs.Installs.{Replays, installed, tables_of};
 ghost use Rattle.slate_db.specs.Readable.{IsRead};
 ghost use Rattle.slate_db.specs.Model.{CoreModel, IsSame, Rows, at};
 ghost use Rattle.slate_db.specs.Sound.{AreTables, IsKept, FoldsToState};
 ghost use Rattle.slate_db.specs.StoredState.{StoresState};
-ghost use Rattle.slate_db.specs.Whole.{LIMIT, AreFine};
+ghost use Rattle.slate_db.specs.Log.{LIMIT, AreFine};
 ghost use Rattle.slate_db.specs.Written.{IsWritten};
 
 use crate::flush::stored;
+use crate::layers::Layers;
+use crate::log::Log;
 use crate::lookup::newest_of_tables;
 use bytes::Bytes;
 use slate_mem::fold::answer;
 use slate_mem::lookup::newest_of_memory;
-use slate_mem::{ImmutableMemtable, MemTable, WriteBatch};
+use slate_mem::WriteBatch;
 use slate_store::{Env, EnvOf, Store};
-use slate_table::SsTableHandle;
 use slate_txn::fold::fold_found;
-use slate_txn::open::{Open, barrier, begin_of, close, close_all, note_get, open_at};
-use slate_txn::{Event, Journal, OpList};
+use slate_txn::{Journal, OpList, OpenTransactions};
 use slate_types::{
     BlockTransformer, IsolationLevel, KeyValue, MergeOperator, Options, Outside, ReadOptions,
     RowEntry, SlateDBError,
 };
 use std::alloc::Global;
-use std::collections::{BTreeMap, BTreeSet};
 use std::marker::Model;
 use uuid::Uuid;
 
-/// The journal's events, with one more for each open transaction, are no more than these.
-pub const EVENTS: usize = 9223372036854775807;
-
-/// A store on one thread: its journal, the transactions that are open, and the rows in memory. What it is given
+/// A store on one thread: its log, the transactions that are open, and the layers of its rows. What it is given
 /// of the outside it is given call by call.
 #[derive(Drop)]
 pub struct Core {
     alloc: Global,
     default_millis: Option<u64>,
-    start_seq: u64,
-    last: u64,
-    flushed: u64,
-    floor: u64,
-    ids: u64,
-    runs: u64,
-    journal: Journal,
-    open: BTreeMap<Uuid, Open>,
-    active: MemTable,
-    frozen: Vec<ImmutableMemtable>,
-    /// What is kept of the tables that were installed, the newest last.
-    tables: Vec<SsTableHandle>,
+    log: Log,
+    transactions: OpenTransactions,
+    layers: Layers,
 }
 
 impl Model for Core {
@@ -95,21 +83,14 @@ impl Core {
         ensures journal { result.events ≡ [] }
         ensures kept { (m : Meaning) → IsKept m result }
         ensures memory { (result.active ≡ []) × (result.frozen ≡ []) }
+        ensures floor { result.floor ≡ 0 }
     {
         Core {
             alloc,
             default_millis: options.default_ttl_millis,
-            start_seq: options.start_seq,
-            last: options.start_seq,
-            flushed: 0,
-            floor: 0,
-            ids: 0,
-            runs: 0,
-            journal: Journal::new(alloc),
-            open: BTreeMap::new(alloc),
-            active: MemTable::new(alloc),
-            frozen: Vec::new(alloc),
-            tables: Vec::new(alloc),
+            log: Log::new(alloc, options.start_seq),
+            transactions: OpenTransactions::new(alloc),
+            layers: Layers::new(alloc),
         }
     }
 
@@ -117,7 +98,7 @@ impl Core {
     pub fn is_open(&self, id: &Uuid) -> bool
         ensures { result ≡ is_some (find_named id.now self.now.state.txns) }
     {
-        self.open.contains_key(id)
+        self.transactions.is_open(id)
     }
 
     /// Opens a transaction at the newest sequence, and gives its id and that sequence. Room for the event of its end
@@ -131,24 +112,15 @@ impl Core {
         ensures limit { LIMIT < length self.old.events + length self.old.state.txns + 2 → result ≡ Err (SlateDBError.LimitReached LIMIT) }
         ensures cause { IfErr result (λ e. (e ≡ SlateDBError.OutOfMemory) ⊎ ((e ≡ SlateDBError.LimitReached LIMIT) × (LIMIT < length self.old.events + length self.old.state.txns + 2))) }
     {
-        if self.journal.len() + self.open.len() > EVENTS - 2 {
-            return Err(SlateDBError::LimitReached {
-                limit: EVENTS as u64,
-            });
-        }
-        let id = Uuid::from_u128((self.ids + 1) as u128);
-        open_at(self.alloc, &mut self.open, id, level, self.last)?;
-        if let Err(error) = self.journal.reserve(self.open.len() + 1) {
-            close(&mut self.open, &id);
+        self.log.place(2)?;
+        let id = self.log.next_id();
+        let start = self.log.last();
+        self.transactions.begin(self.alloc, id, level, start)?;
+        if let Err(error) = self.log.push_begin(id, level) {
+            self.transactions.end(&id);
             return Err(SlateDBError::from(error));
         }
-        self.ids += 1;
-        self.journal.push_reserved(Event::Begin {
-            id,
-            level,
-            start: self.last,
-        });
-        Ok((id, self.last))
+        Ok((id, start))
     }
 
     /// Ends an open transaction without a commit, in the room that its begin made.
@@ -158,8 +130,8 @@ impl Core {
         ensures event { self.new ≡ record self.old { state = self.new.state; events = self.old.events ++ events.End id.now ∷ []; spare = self.new.spare } }
         ensures kept { (m : Meaning) → IsKept m self.old → IsKept m self.new }
     {
-        close(&mut self.open, id);
-        self.journal.push_reserved(Event::End { id: *id });
+        self.transactions.end(id);
+        self.log.push_end(*id);
     }
 
     /// Moves the active rows behind those that wait for a flush, and gives the newest sequence. Where there are none
@@ -175,20 +147,15 @@ impl Core {
         ensures limit { self.old.active ≢ [] → LIMIT < length self.old.events + length self.old.state.txns + 1 → result ≡ Err (SlateDBError.LimitReached LIMIT) }
         ensures cause { IfErr result (λ e. (e ≡ SlateDBError.OutOfMemory) ⊎ ((e ≡ SlateDBError.LimitReached LIMIT) × (LIMIT < length self.old.events + length self.old.state.txns + 1))) }
     {
-        if self.active.is_empty() {
-            return Ok(self.last);
+        if self.layers.active().is_empty() {
+            return Ok(self.log.last());
         }
-        if self.journal.len() + self.open.len() > EVENTS - 1 {
-            return Err(SlateDBError::LimitReached {
-                limit: EVENTS as u64,
-            });
-        }
-        self.frozen.reserve(1)?;
-        self.journal.reserve(self.open.len() + 1)?;
-        let table = self.active.freeze()?;
-        self.frozen.push_reserved(table);
-        self.journal.push_reserved(Event::Freeze);
-        Ok(self.last)
+        self.log.place(1)?;
+        self.layers.reserve_freeze()?;
+        self.log.reserve()?;
+        self.layers.freeze();
+        self.log.push_freeze();
+        Ok(self.log.last())
     }
 
     /// Commits a batch by itself, at the next sequence, which it gives. An empty batch commits nothing, and is never
@@ -210,20 +177,16 @@ impl Core {
         if batch.is_empty() {
             return Ok(None);
         }
-        if self.last >= 18446744073709551614 {
+        if self.log.last() >= 18446744073709551614 {
             return Err(SlateDBError::SequenceExhausted);
         }
-        reserve_event(&mut self.journal, self.open.len())?;
-        let seq = self.last + 1;
+        self.log.place(1)?;
+        self.log.reserve()?;
+        let seq = self.log.last() + 1;
         let (rows, _bytes) = batch.extract_entries(self.alloc, seq, now, self.default_millis)?;
         let ops = batch.ops(self.alloc)?;
-        self.active.put_all(rows, BTreeSet::new(self.alloc))?;
-        self.journal.push_reserved(Event::Write {
-            seq,
-            now,
-            ops: OpList::from_vec(ops),
-        });
-        self.last = seq;
+        self.layers.put(self.alloc, rows)?;
+        self.log.push_write(now, OpList::from_vec(ops));
         Ok(Some(seq))
     }
 
@@ -243,6 +206,7 @@ impl Core {
         ensures installed { let reach = ⟦<EnvOf<S, M, T> as Outside>⟧.reach in IfOk result (λ n. (between : CoreModel) × IsFrozen self.old between × Flushes (layout_of options.now) (reach env.old) (reach env.new) between self.new n) }
         ensures acts { let reach = ⟦<EnvOf<S, M, T> as Outside>⟧.reach in OnOk result (AddsTables (tables_of self.old.events) (tables_of self.new.events) (reach env.old).acts (reach env.new).acts) }
         ensures taken { OnOk result ((self.new.active ≡ []) × (self.new.frozen ≡ [])) }
+        ensures quiet { OnOk result (IsQuiet self.new.events) }
         ensures refused { let reach = ⟦<EnvOf<S, M, T> as Outside>⟧.reach in OnErr result ((between : CoreModel) × (IsSame self.old between ⊎ IsFrozen self.old between) × IsSame between self.new × MayPut (layout_of options.now) (reach env.old) (reach env.new) between) }
         ensures frozen { (result ≡ Err SlateDBError.StoreFault) ⊎ (result ≡ Err SlateDBError.BlockTransformError) → (between : CoreModel) × IsFrozen self.old between × IsSame between self.new }
         ensures full { NoPlaceToFlush self.old → self.new ≡ self.old }
@@ -255,9 +219,9 @@ impl Core {
     {
         self.place_for_flush()?;
         self.freeze()?;
-        if self.frozen.as_slice().is_empty() {
-            self.flushed = self.last;
-            return Ok(self.last);
+        if self.layers.frozen().is_empty() {
+            self.log.note_flush();
+            return Ok(self.log.last());
         }
         self.install(env, options)
     }
@@ -267,26 +231,7 @@ impl Core {
         ensures place { OnOk result (length self.now.events + length self.now.state.txns + events_of_flush self.now.active self.now.frozen ≤ LIMIT) }
         ensures limit { IfErr result (λ e. (e ≡ SlateDBError.LimitReached LIMIT) × (LIMIT < length self.now.events + length self.now.state.txns + events_of_flush self.now.active self.now.frozen)) }
     {
-        if self.journal.len() + self.open.len() > EVENTS - self.events_of_flush() {
-            return Err(SlateDBError::LimitReached {
-                limit: EVENTS as u64,
-            });
-        }
-        Ok(())
-    }
-
-    /// How many events a flush adds.
-    fn events_of_flush(&self) -> usize
-        ensures count { result ≡ events_of_flush self.now.active self.now.frozen }
-        ensures few { result ≤ 2 }
-    {
-        if !self.active.is_empty() {
-            2
-        } else if !self.frozen.as_slice().is_empty() {
-            1
-        } else {
-            0
-        }
+        self.log.place(self.layers.events_of_flush())
     }
 
     /// Stores the frozen rows as a table.
@@ -308,22 +253,20 @@ impl Core {
         ensures cause { let reach = ⟦<EnvOf<S, M, T> as Outside>⟧.reach in IfErr result (λ e. IsFault (reach env.old) (reach env.new) e ⊎ TooLarge (layout_of options.now) self.old e) }
         ensures puts { let reach = ⟦<EnvOf<S, M, T> as Outside>⟧.reach in Puts (reach env.old) (reach env.new) }
     {
-        self.journal
-            .reserve(self.open.len() + 1)
-            .and(self.tables.reserve(1))?;
-        let barrier = barrier(&self.open, self.last);
-        let number = self.runs + 1;
-        let put = stored(self.alloc, &self.frozen, barrier, number, options, env)?;
-        self.journal.push_reserved(Event::Install {
-            through: self.last,
-            tables: put.0,
-        });
-        self.tables.push_reserved(put.1);
-        self.runs = number;
-        self.frozen.clear();
-        self.floor = barrier;
-        self.flushed = self.last;
-        Ok(self.last)
+        self.log.reserve().and(self.layers.reserve_table())?;
+        let barrier = self.transactions.barrier(self.log.last());
+        let number = self.log.next_install();
+        let put = stored(
+            self.alloc,
+            self.layers.frozen(),
+            barrier,
+            number,
+            options,
+            env,
+        )?;
+        self.log.push_install(put.0);
+        self.layers.install(put.1, barrier);
+        Ok(self.log.last())
     }
 
     /// The row that a reader at a sequence sees at a key, where it has no operations of its own.
@@ -337,8 +280,21 @@ impl Core {
             let m = (reach env.old).meaning in
             IsRead (reach env.old) (reach env.new) self.now (λ row. self.now.floor ≤ at → row ≡ fold_rows (combine_of m key.now) (key_rows (rules_of self.now.settings m) key.now (up_to at self.now.state.commits))) result }
     {
-        let near = newest_of_memory(self.alloc, &self.active, &self.frozen, key, at)?;
-        let found = newest_of_tables(self.alloc, near, &self.tables, key.as_slice(), at, env)?;
+        let near = newest_of_memory(
+            self.alloc,
+            self.layers.active(),
+            self.layers.frozen(),
+            key,
+            at,
+        )?;
+        let found = newest_of_tables(
+            self.alloc,
+            near,
+            self.layers.tables(),
+            key.as_slice(),
+            at,
+            env,
+        )?;
         fold_found(self.alloc, found, &mut env.operator)
     }
 
@@ -366,7 +322,7 @@ impl Core {
         ensures settings { self.new.settings ≡ self.old.settings }
     {
         let _options = options;
-        let Some(at) = begin_of(&self.open, id) else {
+        let Some(at) = self.transactions.begin_of(id) else {
             unreachable!()
         };
         let key = Bytes::copy_from_slice(self.alloc, key)?;
@@ -378,7 +334,7 @@ impl Core {
             }
         };
         let found = answer(row);
-        if let Err(error) = note_get(self.alloc, &mut self.open, id, key, &found) {
+        if let Err(error) = self.transactions.note_get(self.alloc, id, key, &found) {
             drop(found);
             return Err(SlateDBError::from(error));
         }
@@ -386,16 +342,19 @@ impl Core {
     }
 
     /// All events so far, with room for the end of each open transaction. The tables that they name hold the state at the
-    /// last flush.
+    /// last flush. No commit lies between that flush and the last install, and each open transaction began at or above the floor.
     pub fn journal(&self) -> &Journal
         ensures events { result.now.events ≡ self.now.events }
         ensures legal { IsLegal self.now.settings.start_seq self.now.events }
         ensures replays { Replays self.now.events self.now.state }
         ensures room { length self.now.state.txns ≤ self.now.spare }
+        ensures flushed { up_to self.now.state.flushed self.now.state.commits ≡ up_to (installed self.now.events) self.now.state.commits }
+        ensures floor { self.now.floor ≤ last_of self.now.settings.start_seq self.now.state.commits }
+        ensures begins { AllByRecursion (λ p. self.now.floor ≤ p.1.begin) self.now.state.txns }
         ensures folds { (m : Meaning) → IsLawfulMeaning m → IsKept m self.now → FoldsToState m self.now }
         ensures stored { (m : Meaning) → IsLawfulMeaning m → IsKept m self.now → StoresState m self.now }
     {
-        &self.journal
+        self.log.journal()
     }
 
     /// Lets go of the core. For lawful parts for which what is kept of the rows holds, the rows of the tables that the
@@ -404,27 +363,10 @@ impl Core {
         ensures stores { (m : Meaning) → IsLawfulMeaning m → IsKept m self → StoresState m self }
     {
         self.journal();
-        let Core { journal, open, .. } = self;
-        journal.close();
-        close_all(open);
+        let Core {
+            log, transactions, ..
+        } = self;
+        log.close();
+        transactions.close();
     }
-}
-
-/// Makes room for one more event beside those of the open transactions' ends. `LimitReached` where the journal has no place for it, or
-/// `OutOfMemory`.
-fn reserve_event(journal: &mut Journal, ends: usize) -> Result<(), SlateDBError>
-    requires { length journal.old.events + ends ≤ LIMIT }
-    ensures events { journal.new.events ≡ journal.old.events }
-    ensures wider { journal.old.spare ≤ journal.new.spare }
-    ensures room { OnOk result (ends + 1 ≤ journal.new.spare) }
-    ensures place { OnOk result (length journal.old.events + ends + 1 ≤ LIMIT) }
-    ensures limit { LIMIT < length journal.old.events + ends + 1 → result ≡ Err (SlateDBError.LimitReached LIMIT) }
-    ensures cause { IfErr result (λ e. (e ≡ SlateDBError.OutOfMemory) ⊎ ((e ≡ SlateDBError.LimitReached LIMIT) × (LIMIT < length journal.old.events + ends + 1))) }
-{
-    if journal.len() + ends == EVENTS {
-        return Err(SlateDBError::LimitReached {
-            limit: EVENTS as u64,
-        });
-    }
-    journal.reserve(ends + 1).map_err(SlateDBError::from)
 }

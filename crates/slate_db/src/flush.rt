@@ -16,7 +16,7 @@ ghost use Rattle.slate_db.specs.Answered.{AddsTables};
 ghost use Rattle.slate_db.specs.Flushed.{layout_of, CanFlush, IsFolded, IsPut, IsTableOfFlush, IsTooLarge, Layout, MayTakeTable};
 ghost use Rattle.slate_db.specs.Meaning.{Meaning};
 ghost use Rattle.slate_db.specs.Model.{Rows};
-ghost use Rattle.slate_db.specs.Whole.{FitsMemory};
+ghost use Rattle.slate_db.specs.Layers.{FitsMemory};
 
 use crate::gather::rows_of_flush;
 use crate::lookup::are_bytes;

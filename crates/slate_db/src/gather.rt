@@ -5,7 +5,7 @@ ghost use Rattle.slate_types.specs.declared.error.SlateDBError.{SlateDBError};
 ghost use Rattle.slate_table.specs.Table.{AreInOrder};
 ghost use Rattle.slate_db.specs.Flushed.{IsFolded, CanFlush};
 ghost use Rattle.slate_db.specs.Meaning.{Meaning};
-ghost use Rattle.slate_db.specs.Whole.{FitsMemory};
+ghost use Rattle.slate_db.specs.Layers.{FitsMemory};
 
 use slate_mem::ImmutableMemtable;
 use slate_mem::gather::gathered;

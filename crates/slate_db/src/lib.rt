@@ -8,5 +8,7 @@
 pub mod engine;
 pub mod flush;
 pub mod gather;
+pub mod layers;
+pub mod log;
 pub mod lookup;
 pub mod vectors;

@@ -7,9 +7,9 @@ use Rattle.std.proofs.lemmas.List.{reverse-append}
 use Rattle.std.proofs.lemmas.List.Elements.{filter-append}
 use Rattle.slate_types.specs.declared.types.RowEntry.{RowEntry}
 use Rattle.slate_table.specs.Stored.{insert_row, by_seq}
-use Rattle.slate_db.specs.Model.{Rows, versions, versions_in}
 use Rattle.slate_types.specs.Rows.{of_key}
-use Rattle.slate_db.specs.Whole.{AreRising}
+use Rattle.slate_db.specs.Model.{Rows, versions, versions_in}
+use Rattle.slate_db.specs.Layers.{AreRising}
 
 -- ---- each row
 

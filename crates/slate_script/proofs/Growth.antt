@@ -18,7 +18,7 @@ use Rattle.slate_db.specs.Flushed.{IsFlushed, Layout, idle, stored}
 use Rattle.slate_db.specs.Frozen.{IsFrozen}
 use Rattle.slate_db.specs.Load.{load, rows_load, weight}
 use Rattle.slate_db.specs.Model.{CoreModel, IsSame}
-use Rattle.slate_db.specs.Whole.{LIMIT}
+use Rattle.slate_db.specs.Log.{LIMIT}
 use Rattle.slate_db.specs.Written.{IsWritten}
 use Rattle.slate_language.specs.declared.reply.Answer.{Answer}
 use Rattle.slate_script.specs.Session.{SessionModel, Grows, IsLimit, line_load}

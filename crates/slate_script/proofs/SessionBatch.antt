@@ -8,7 +8,7 @@ use Rattle.slate_mem.specs.declared.WriteOp.TheVariants.{Put, Delete, Merge}
 use Rattle.slate_mem.specs.Batch.{Ops}
 use Rattle.slate_mem.specs.BatchModel.{BatchModel, IsBatchOf, no_ops, is_merge_op, holds_merge}
 use Rattle.slate_mem.specs.Refusals.{first_refusal, op_refusal}
-use Rattle.slate_db.specs.Whole.{AreFine}
+use Rattle.slate_db.specs.Log.{AreFine}
 use Rattle.slate_language.specs.Stage.{is_built_op, is_built_batch}
 
 -- rest: the operations that aren't added yet

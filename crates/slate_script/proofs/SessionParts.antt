@@ -13,7 +13,7 @@ use Rattle.slate_db.specs.Model.{CoreModel, Rows}
 use Rattle.slate_db.proofs.Shown.{refused_kind}
 use Rattle.slate_script.proofs.Running.{not-damage}
 use Rattle.slate_db.specs.Parts.{IsTableError}
-use Rattle.slate_db.specs.Whole.{LIMIT}
+use Rattle.slate_db.specs.Log.{LIMIT}
 use Rattle.slate_script.specs.Session.{SessionModel, IsLimit, IsSettled, IsSettledIn}
 
 two-at-most : (active : Rows) (layers : List Rows) → events_of_flush active layers ≤ 2

@@ -16,7 +16,7 @@ use Rattle.slate_db.specs.Frozen.{IsFrozen}
 use Rattle.slate_db.specs.Installs.{tables_in, tables_of, root, Holds, HoldsTables, NumberedFrom}
 use Rattle.slate_db.specs.Meaning.{Meaning}
 use Rattle.slate_db.specs.Model.{CoreModel}
-use Rattle.slate_db.specs.Whole.{LIMIT}
+use Rattle.slate_db.specs.Log.{LIMIT}
 use Rattle.slate_db.specs.Sound.{IsKept}
 use Rattle.slate_script.specs.Session.{SessionModel, HasTables, IsSettled, StoresNothing}
 use Rattle.slate_script.proofs.PathsApart.{others-apart, numbered-more}

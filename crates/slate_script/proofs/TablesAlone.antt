@@ -26,7 +26,7 @@ use Rattle.slate_db.specs.Meaning.{Meaning, combine_of, rules_of}
 use Rattle.slate_db.specs.Model.{CoreModel, Rows}
 use Rattle.slate_db.specs.Sound.{AreTables}
 use Rattle.slate_db.specs.StoredState.{StoresState}
-use Rattle.slate_db.specs.Whole.{LIMIT}
+use Rattle.slate_db.specs.Log.{LIMIT}
 use Rattle.slate_script.specs.Session.{SessionModel, StandsFor, StoresNothing, IsTableUpTo, HasTablesAlone}
 use Rattle.slate_script.specs.StoredState.{IsStoredState, IsTableObject}
 use Rattle.slate_script.proofs.BySequence.{all-front, all-behind, all-both, one-table-more}

@@ -21,7 +21,7 @@ use Rattle.slate_db.specs.Model.{CoreModel}
 use Rattle.slate_db.specs.Parts.{IsTableError}
 use Rattle.slate_db.specs.Readable.{IsRefusedBy}
 use Rattle.slate_db.specs.Sound.{IsKept}
-use Rattle.slate_db.specs.Whole.{LIMIT}
+use Rattle.slate_db.specs.Log.{LIMIT}
 use Rattle.slate_script.specs.Session.{SessionModel, IsSettled, StoresNothing}
 use Rattle.slate_script.specs.Told.{ArePut, AreTrue, Follows, IsShownAtEnd, IsUntrue, PutsTables, after_act, after_acts}
 use Rattle.slate_script.proofs.Running.{not-damage}

@@ -37,7 +37,8 @@ use Rattle.slate_db.specs.Meaning.{Meaning, IsLawfulMeaning, rules_of}
 use Rattle.slate_db.specs.Model.{CoreModel, Rows, versions_in}
 use Rattle.slate_types.specs.Rows.{of_key}
 use Rattle.slate_db.specs.Sound.{IsKept, AreTables}
-use Rattle.slate_db.specs.Whole.{AreRising, LIMIT}
+use Rattle.slate_db.specs.Layers.{AreRising}
+use Rattle.slate_db.specs.Log.{LIMIT}
 use Rattle.slate_language.specs.declared.reply.Answer.{Answer}
 use Rattle.slate_language.specs.Answers.{reply_of}
 use Rattle.slate_language.specs.Grammar.{is_moment}

@@ -18,7 +18,7 @@ ghost use Rattle.slate_db.specs.Parts.{IsTableError};
 ghost use Rattle.slate_db.specs.Readable.{IsAnswered, IsReadError, IsRefusedBy};
 ghost use Rattle.slate_db.specs.Sound.{IsKept};
 ghost use Rattle.slate_db.specs.StoredState.{StoresState};
-ghost use Rattle.slate_db.specs.Whole.{AreFine};
+ghost use Rattle.slate_db.specs.Log.{AreFine};
 ghost use Rattle.slate_language.specs.Answers.{reply_of};
 ghost use Rattle.slate_script.specs.Session.{StandsFor, AnswersAs, HasTablesAlone, Grows, IsSettled, IsSettledIn, IsLimit, IsRefusal, StoresNothing, has_moment};
 ghost use Rattle.slate_language.specs.Stage.{is_built, is_built_op, is_built_batch};

@@ -1,9 +1,13 @@
--- Where the open transactions of a core began.
+-- The open transactions of a core, and where they began.
+--     Transactions      what is open, under ids, in the order of these
 --     least_begin n ps      the least of n and the begins: the barrier of a flush, where n is the newest sequence
 --     BeginsRise ps      no open transaction began before one that stands in front of it
 use Rattle.std.specs.Prelude.{ℕ, ◌≤◌, min, List, [], ◌∷◌}
 use Rattle.std.specs.List.{AllByRecursion}
 use Rattle.slate_txn.specs.State.{Tx}
+
+abbrev pub Transactions : Type 0
+Transactions = List (List ℕ × Tx)
 
 abbrev pub least_begin : ℕ → List (List ℕ × Tx) → ℕ
 least_begin n [] = n

@@ -4,7 +4,7 @@ use Rattle.slate_mem.specs.Gathered.{IsGathered}
 use Rattle.slate_table.specs.Table.{AreInOrder}
 use Rattle.slate_db.specs.Flushed.{IsFolded}
 use Rattle.slate_db.specs.Model.{Rows, versions, versions_in}
-use Rattle.slate_db.specs.Whole.{FitsMemory}
+use Rattle.slate_db.specs.Layers.{FitsMemory}
 use Rattle.slate_db.proofs.Blocks.{if_ok}
 use Rattle.slate_db.proofs.FlushRows.{flush_folds, flush_order, flush_fits, flush_some}
 use Rattle.slate_db.proofs.Newest.{all_versions_are}

@@ -1,91 +1,60 @@
-use Rattle.std.proofs.Common.{◌≡◌, ℕ, List, ◌+◌, ◌++◌, ◌∷◌, [], length, refl, ap, sym, subst, ◌∙◌, arith, length-append, inl, inr, ◌<◌}
+use Rattle.std.proofs.Common.{◌≡◌, ℕ, List, ◌+◌, ◌≤◌, refl, ap, sym, subst, ◌∙◌, inl, inr, Err, Greater}
 use Rattle.std.proofs.lemmas.Result.{IfOk-from_err, err_from_is_err_and}
-use Rattle.std.specs.BTreeMap.{insert_entry}
+use Rattle.std.specs.List.{AllByRecursion}
 use Rattle.slate_types.specs.Keys.{key_cmp}
-use Rattle.slate_txn.specs.declared.event.Event.TheVariants as events
 use Rattle.slate_txn.specs.declared.line.Line.TheVariants as lines
-use Rattle.slate_types.specs.declared.config.IsolationLevel.{IsolationLevel}
-use Rattle.slate_table.specs.declared.info.SsTableHandle.{SsTableHandle}
-use Rattle.slate_txn.specs.Named.{without}
-use Rattle.slate_txn.specs.State.{Tx, begun}
-use Rattle.slate_txn.specs.Replay.{replay}
+use Rattle.slate_txn.specs.Ids.{id_of}
+use Rattle.slate_txn.specs.Open.{Transactions}
 use Rattle.slate_txn.specs.Reply.{Begun}
 use Rattle.slate_txn.specs.Step.{step}
+use Rattle.slate_db.specs.declared.engine.Core.TheInside.{Inside}
+use Rattle.slate_db.specs.Log.{IsLog}
 use Rattle.slate_db.specs.Meaning.{rules_of}
 use Rattle.slate_db.specs.Model.{CoreModel}
-use Rattle.slate_db.specs.View.{view_of}
+use Rattle.slate_db.specs.View.{view_of, unseen_of, IsWholeInside}
 use Rattle.slate_db.specs.Sound.{IsKept}
-use Rattle.slate_db.specs.Whole.{IsWhole, LIMIT}
-use Rattle.slate_txn.specs.Ids.{id_of}
-use Rattle.slate_db.proofs.Keeps.{same_model}
-use Rattle.slate_db.proofs.Journals.{apply_more}
-use Rattle.slate_db.proofs.Wholes.{after_begin, whole_begin, kept_begin, put_begun, taken_back}
+use Rattle.slate_db.proofs.Calls.{begun_is, event_begun, past_place, placed, unbegun_is}
 use Rattle.slate_db.proofs.Steps.{step_begin}
+use Rattle.slate_db.proofs.Wholes.{whole_begin, kept_begin, past_begun, within_newest}
 use Rattle.slate_db.proofs.engine.Core.begin.Goals as goal
 
--- the list of open transactions after the insert
-put_of : (v : CoreModel) (n ids runs : ℕ) (hs : List SsTableHandle) (level : IsolationLevel) (id : List ℕ) (txns : List (List ℕ × Tx)) → id ≡ id_of (ids + 1) →
-    txns ≡ insert_entry key_cmp v.state.txns id (begun level n) → IsWhole v n ids runs hs → txns ≡ v.state.txns ++ ((id_of (ids + 1), begun level n) ∷ [])
-put_of v n ids runs hs level id txns same is whole =
-    is ∙ (λ i. insert_entry key_cmp v.state.txns (same i) (begun level n)) ∙ put_begun v n ids runs hs (begun level n) whole
+pub begin-requires : goal.begin-requires
+begin-requires c = record {
+  past = subst (λ (id : List ℕ). AllByRecursion (λ p. key_cmp id p.0 ≡ Greater) c.self.inside.transactions) (sym c.next_id-id.ensures) (past_begun (view_of c.self.inside) (unseen_of c.self.inside) c.self.invariant);
+  newest = subst (λ (n : ℕ). AllByRecursion (λ p. p.1.begin ≤ n) c.self.inside.transactions) (sym c.last-start.ensures) (within_newest c.self.inside.layers.floor c.self.inside.log.last c.self.inside.transactions c.self.invariant.tied.begins);
+}
 
-opened : (c : goal.After-push_reserved) → c.open_at.new.items.entries ≡ c.self.inside.«open».entries ++ ((id_of (c.self.inside.ids + 1), begun c.args.level c.self.inside.last) ∷ [])
-opened c =
-    put_of (view_of c.self.inside) c.self.inside.last c.self.inside.ids c.self.inside.runs c.self.inside.tables.items c.args.level c.from_u128-id.result c.open_at.new.items.entries
-    c.from_u128-id.ensures c.in_ok-open_at.ensures.ok c.self.invariant
+pub push_begin-requires : goal.push_begin-requires
+push_begin-requires c = record { next = c.next_id-id.ensures; place = c.in_ok-place.ensures.place }
 
--- what the fields are after the call
-becomes : (c : goal.After-push_reserved) → after_begin (view_of c.self.inside) c.args.level c.self.inside.last (id_of (c.self.inside.ids + 1)) c.push_reserved.new.self.spare
-    ≡ view_of (record c.self.inside { ids = c.self.inside.ids + 1; journal = c.push_reserved.new.self; «open» = c.open_at.new.items })
-becomes c = same_model _ _ refl commits (sym (opened c)) refl refl refl journal refl refl refl refl
-  where
-    id : c.from_u128-id.result ≡ id_of (c.self.inside.ids + 1)
-    id = c.from_u128-id.ensures
+pub invariant_of-self-in_default : goal.invariant_of-self-in_default
+invariant_of-self-in_default c =
+    subst IsWholeInside (begun_is c.self.inside c.push_begin.new.self c.begin.new.self c.args.level c.next_id-id.result c.last-start.result c.next_id-id.ensures c.last-start.ensures c.in_default.ensures.value c.in_ok-begin.ensures.ok)
+    (whole_begin (view_of c.self.inside) (unseen_of c.self.inside) c.args.level c.push_begin.new.self.spare (subst IsLog c.in_default.ensures.value c.push_begin.ensures.whole) c.self.invariant)
 
-    journal : c.self.inside.journal.events ++ (events.Begin (id_of (c.self.inside.ids + 1)) c.args.level c.self.inside.last ∷ []) ≡ c.push_reserved.new.self.events
-    journal = sym (c.push_reserved.ensures.events ∙ (λ i. c.reserve.ensures.events i ++ (events.Begin (id i) c.args.level c.self.inside.last ∷ [])))
-
-    commits : (replay c.self.inside.journal.events).commits ≡ (replay c.push_reserved.new.self.events).commits
-    commits = sym (ap (λ es. (replay es).commits) (sym journal) ∙ ap (λ s. s.commits) (apply_more _ c.self.inside.journal.events (events.Begin (id_of (c.self.inside.ids + 1)) c.args.level c.self.inside.last)))
-
-pub invariant_of-self-2 : goal.invariant_of-self-2
-invariant_of-self-2 c =
-    subst (λ (v : CoreModel). IsWhole v c.self.inside.last (c.self.inside.ids + 1) c.self.inside.runs c.self.inside.tables.items) (becomes c)
-    (whole_begin (view_of c.self.inside) c.self.inside.last c.self.inside.ids _ _ c.args.level c.push_reserved.new.self.spare
-    (omega (arith, c.in_default.ensures.ok, c.push_reserved.ensures.spare, c.len-3.ensures.len, ap length (opened c) ∙ length-append c.self.inside.«open».entries ((id_of (c.self.inside.ids + 1), begun c.args.level c.self.inside.last) ∷ [])))
-    (omega (arith, c.if-len.false, c.len.ensures, c.len-2.ensures.len))
-    c.self.invariant)
-
-pub returns-clause-step : goal.returns-clause-step
-returns-clause-step c m =
-    sym (ap (λ v. step (rules_of v.settings m) v.state (lines.Begin c.from_u128-id.result c.args.level)) c.self.view_is)
-    ∙ (λ i. step (rules_of (view_of c.self.inside).settings m) (view_of c.self.inside).state (lines.Begin (c.from_u128-id.ensures i) c.args.level))
-    ∙ step_begin m (view_of c.self.inside) c.self.inside.last c.self.inside.ids _ _ c.args.level c.push_reserved.new.self.spare c.self.invariant
-    ∙ (let id = sym c.from_u128-id.ensures in λ i. ((becomes c i).state, Begun (id i) c.self.inside.last))
-
-pub returns-clause-kept : goal.returns-clause-kept
-returns-clause-kept c m k =
-    subst (λ (v : CoreModel). IsKept m v) (becomes c)
-    (kept_begin m (view_of c.self.inside) c.args.level c.self.inside.last (id_of (c.self.inside.ids + 1)) c.push_reserved.new.self.spare
-    (subst (λ (v : CoreModel). IsKept m v) (sym c.self.view_is) k))
+pub returns : goal.returns
+returns c =
+    let becomes = begun_is c.self.inside c.push_begin.new.self c.begin.new.self c.args.level c.next_id-id.result c.last-start.result c.next_id-id.ensures c.last-start.ensures c.in_default.ensures.value c.in_ok-begin.ensures.ok in
+    record {
+      step = (λ m.
+          sym (ap (λ (v : CoreModel). step (rules_of v.settings m) v.state (lines.Begin c.next_id-id.result c.args.level)) c.self.view_is)
+          ∙ (let id = c.next_id-id.ensures in λ i. step (rules_of (view_of c.self.inside).settings m) (view_of c.self.inside).state (lines.Begin (id i) c.args.level))
+          ∙ step_begin m (view_of c.self.inside) (unseen_of c.self.inside) c.args.level c.push_begin.new.self.spare c.self.invariant
+          ∙ (let id = sym c.next_id-id.ensures in let at = sym c.last-start.ensures in λ i. ((view_of (becomes i)).state, Begun (id i) (at i))));
+      event = event_begun c.self.inside c.args.self.now c.push_begin.new.self c.begin.new.self c.args.level c.next_id-id.result c.last-start.result c.self.view_is c.next_id-id.ensures c.last-start.ensures c.in_default.ensures.value;
+      kept = (λ m k.
+          subst (λ (s : Inside). IsKept m (view_of s)) becomes
+          (kept_begin m (view_of c.self.inside) c.args.level c.self.inside.log.last (id_of (c.self.inside.log.ids + 1)) c.push_begin.new.self.spare
+          (subst (λ (v : CoreModel). IsKept m v) (sym c.self.view_is) k)));
+      same = tt;
+      limit = placed (view_of c.self.inside) c.args.self.now (unseen_of c.self.inside) 2 c.self.view_is c.self.invariant c.in_ok-place.ensures.place;
+      cause = tt;
+    }
 
 -- without room for the event it is taken out again
-taken : (c : goal.After-from) → c.close.new.items.entries ≡ c.self.inside.«open».entries
-taken c =
-    let put : c.open_at.new.items.entries ≡ c.self.inside.«open».entries ++ ((id_of (c.self.inside.ids + 1), begun c.args.level c.self.inside.last) ∷ []) =
-    put_of (view_of c.self.inside) c.self.inside.last c.self.inside.ids c.self.inside.runs c.self.inside.tables.items c.args.level c.from_u128-id.result c.open_at.new.items.entries
-    c.from_u128-id.ensures c.in_ok-open_at.ensures.ok c.self.invariant in
-    c.close.ensures
-    ∙ (let id = c.from_u128-id.ensures in λ i. without (id i) (put i))
-    ∙ taken_back (view_of c.self.inside) c.self.inside.last c.self.inside.ids c.self.inside.runs c.self.inside.tables.items (begun c.args.level c.self.inside.last) c.self.invariant
-
-stays : (c : goal.After-from) → view_of c.self.inside ≡ view_of (record c.self.inside { journal = c.reserve.new.self; «open» = c.close.new.items })
-stays c =
-    let same : c.self.inside.journal ≡ c.reserve.new.self = sym c.in-Err.ensures.err in
-    same_model _ _ refl (ap (λ j. (replay j.events).commits) same) (sym (taken c)) refl refl refl (ap (λ j. j.events) same) (ap (λ j. j.spare) same) refl refl refl
-
 pub invariant_of-self-in-Err : goal.invariant_of-self-in-Err
-invariant_of-self-in-Err c = subst (λ (v : CoreModel). IsWhole v c.self.inside.last c.self.inside.ids c.self.inside.runs c.self.inside.tables.items) (stays c) c.self.invariant
+invariant_of-self-in-Err c =
+    subst IsWholeInside (sym (unbegun_is c.self.inside c.push_begin.new.self c.begin.new.self c.end.new.self c.args.level c.next_id-id.result c.last-start.result c.self.invariant c.next_id-id.ensures c.last-start.ensures c.in-Err.ensures.same c.in_ok-begin.ensures.ok c.end.ensures)) c.self.invariant
 
 pub returns-in-Err : goal.returns-in-Err
 returns-in-Err c =
@@ -93,39 +62,35 @@ returns-in-Err c =
       step = tt;
       event = tt;
       kept = tt;
-      same = sym (stays c) ∙ c.self.view_is;
-      limit = λ past. let place = subst (λ (v : CoreModel). LIMIT < length v.events + length v.state.txns + 2) (sym c.self.view_is) past in absurd (omega (arith, c.if-len.false, c.len.ensures, c.len-2.ensures.len, place));
+      same = ap view_of (unbegun_is c.self.inside c.push_begin.new.self c.begin.new.self c.end.new.self c.args.level c.next_id-id.result c.last-start.result c.self.invariant c.next_id-id.ensures c.last-start.ensures c.in-Err.ensures.same c.in_ok-begin.ensures.ok c.end.ensures) ∙ c.self.view_is;
+      limit = placed (view_of c.self.inside) c.args.self.now (unseen_of c.self.inside) 2 c.self.view_is c.self.invariant c.in_ok-place.ensures.place;
       cause = inl c.from.ensures;
     }
 
-pub returns-in_err-open_at : goal.returns-in_err-open_at
-returns-in_err-open_at c =
+pub invariant_of-self : goal.invariant_of-self
+invariant_of-self c = subst IsWholeInside (ap (λ (ts : Transactions). record c.self.inside { transactions = ts }) (sym c.in_err-begin.ensures.same)) c.self.invariant
+
+pub returns-in_err-begin : goal.returns-in_err-begin
+returns-in_err-begin c =
+    let p = err_from_is_err_and c.from_residual-in_err-begin.result c.from_residual-in_err-begin.ensures.1 in
+    record {
+      step = IfOk-from_err c.from_residual-in_err-begin.result _ c.from_residual-in_err-begin.ensures.0;
+      event = IfOk-from_err c.from_residual-in_err-begin.result _ c.from_residual-in_err-begin.ensures.0;
+      kept = IfOk-from_err c.from_residual-in_err-begin.result _ c.from_residual-in_err-begin.ensures.0;
+      same = rw p.1 (ap (λ (ts : Transactions). view_of (record c.self.inside { transactions = ts })) c.in_err-begin.ensures.same ∙ c.self.view_is);
+      limit = placed (view_of c.self.inside) c.args.self.now (unseen_of c.self.inside) 2 c.self.view_is c.self.invariant c.in_ok-place.ensures.place;
+      cause = rw (p.1, p.2) (inl c.in_err-begin.ensures.cause);
+    }
+
+pub returns-in_err-place : goal.returns-in_err-place
+returns-in_err-place c =
     let p = err_from_is_err_and c.from_residual.result c.from_residual.ensures.1 in
+    let limit = c.in_err-place.ensures.limit in
     record {
       step = IfOk-from_err c.from_residual.result _ c.from_residual.ensures.0;
       event = IfOk-from_err c.from_residual.result _ c.from_residual.ensures.0;
       kept = IfOk-from_err c.from_residual.result _ c.from_residual.ensures.0;
-      same = rw p.1 (sym (same_model (view_of c.self.inside) (view_of (record c.self.inside { «open» = c.open_at.new.items })) refl refl (sym c.in_err-open_at.ensures.err) refl refl refl refl refl refl refl refl) ∙ c.self.view_is);
-      limit = λ past. let place = subst (λ (v : CoreModel). LIMIT < length v.events + length v.state.txns + 2) (sym c.self.view_is) past in absurd (omega (arith, c.if-len.false, c.len.ensures, c.len-2.ensures.len, place));
-      cause = rw (p.1, p.2) (inl c.in_err-open_at.ensures.cause);
+      same = rw p.1 refl;
+      limit = λ past. p.1 ∙ ap Err (p.2 ∙ limit.0);
+      cause = rw (p.1, p.2) (inr (limit.0, past_place (view_of c.self.inside) c.args.self.now (unseen_of c.self.inside) 2 c.self.view_is c.self.invariant limit.1));
     }
-
-pub returns-then-len : goal.returns-then-len
-returns-then-len c =
-    record {
-      step = tt;
-      event = tt;
-      kept = tt;
-      same = refl;
-      limit = λ past. refl;
-      cause = (let over : LIMIT < length c.self.inside.journal.events + length c.self.inside.«open».entries + 2 = omega (arith, c.if-len.true, c.len.ensures, c.len-2.ensures.len) in inr (refl, subst (λ (v : CoreModel). LIMIT < length v.events + length v.state.txns + 2) c.self.view_is over));
-    }
-
-pub returns-clause-same : goal.returns-clause-same
-returns-clause-same c = tt
-
-pub returns-clause-cause : goal.returns-clause-cause
-returns-clause-cause c = tt
-
-pub returns-clause-limit : goal.returns-clause-limit
-returns-clause-limit c = λ past. let place = subst (λ (v : CoreModel). LIMIT < length v.events + length v.state.txns + 2) (sym c.self.view_is) past in absurd (omega (arith, c.if-len.false, c.len.ensures, c.len-2.ensures.len, place))

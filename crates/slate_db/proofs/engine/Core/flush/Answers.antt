@@ -5,30 +5,37 @@ use Rattle.slate_types.specs.declared.error.SlateDBError.TheVariants as errors
 use Rattle.slate_types.proofs.Reaching.{puts_none}
 use Rattle.slate_table.specs.SectionReading.{changed_by}
 use Rattle.slate_types.specs.declared.types.Ulid.{Ulid}
+use Rattle.slate_txn.specs.Places.{IsQuiet}
+use Rattle.slate_txn.specs.State.{last_of}
+use Rattle.slate_db.specs.declared.engine.Core.TheInside.{Inside}
 use Rattle.slate_db.specs.Answered.{AddsTables}
 use Rattle.slate_db.specs.Installs.{tables_of}
 use Rattle.slate_db.specs.Frozen.{IsFrozen}
 use Rattle.slate_db.specs.Flushed.{Layout, TooLarge, idle, layout_of}
 use Rattle.slate_db.specs.Model.{CoreModel}
 use Rattle.slate_db.specs.Sound.{IsKept}
-use Rattle.slate_db.specs.Whole.{LIMIT}
-use Rattle.slate_db.specs.View.{view_of}
-use Rattle.slate_db.proofs.Flushes.{whole_flushed, kept_flushed, frozen_settings, steps_after, place_cause, freeze_cause, frozen_idle, none_frozen, installed_after, cause_after, too_large_before, passed, place_left, some_frozen, frozen_at_fault, no_fault, settled, all_taken}
+use Rattle.slate_db.specs.Log.{LIMIT, LogModel, IsLog, with_flush}
+use Rattle.slate_db.specs.View.{view_of, unseen_of, IsWholeInside}
+use Rattle.slate_db.proofs.Flushes.{kept_flushed, step_flush, frozen_settings, steps_after, place_cause, freeze_cause, frozen_idle, none_frozen, installed_after, cause_after, too_large_before, passed, place_left, some_frozen, frozen_at_fault, no_fault, settled, all_taken, quiet_after}
 use Rattle.slate_db.proofs.Built.{may_keep}
+use Rattle.slate_db.proofs.Wholes.{whole_flushed}
 use Rattle.slate_txn.proofs.NamedLaws.{both_err}
 use Rattle.slate_db.proofs.Puttings.{frozen_tables}
 use Rattle.slate_db.proofs.engine.Core.flush.Goals as goal
 
+pub note_flush-requires : goal.note_flush-requires
+note_flush-requires g c = c.self.invariant.tied.all_installed
+    (ap (λ (v : CoreModel). v.active) c.self.view_is ∙ frozen_idle c.args.self.now c.freeze.new.self c.in_ok-freeze.ensures.event)
+    (sym c.frozen.ensures ∙ none_frozen c.frozen.result.now c.frozen.result.now c.is_empty.result c.is_empty.ensures c.if-is_empty.true refl)
+
 pub invariant_of-self : goal.invariant_of-self
 invariant_of-self g c =
-    whole_flushed (view_of c.self.inside) c.self.inside.last c.self.inside.ids c.self.inside.runs c.self.inside.tables.items
-    (ap (λ (v : CoreModel). v.active) c.self.view_is ∙ frozen_idle c.args.self.now c.freeze.new.self c.in_ok-freeze.ensures.event)
-    (none_frozen c.as_slice.result.now c.self.inside.frozen.items c.is_empty.result c.is_empty.ensures c.if-is_empty.true c.as_slice.ensures.value)
-    c.self.invariant
+    subst IsWholeInside (ap (λ (l : LogModel). record c.self.inside { log = l }) (sym c.note_flush.ensures.value))
+    (whole_flushed (view_of c.self.inside) (unseen_of c.self.inside) (subst IsLog c.note_flush.ensures.value c.note_flush.ensures.whole) c.self.invariant)
 
 pub install-requires : goal.install-requires
 install-requires g c =
-    let some : 0 < length c.freeze.new.self.frozen = some_frozen c.as_slice.result.now c.self.inside.frozen.items c.is_empty.result c.freeze.new.self.frozen c.is_empty.ensures c.if-is_empty.false c.as_slice.ensures.value (ap (λ (v : CoreModel). v.frozen) c.self.view_is) in
+    let some : 0 < length c.freeze.new.self.frozen = some_frozen c.frozen.result.now c.frozen.result.now c.is_empty.result c.freeze.new.self.frozen c.is_empty.ensures c.if-is_empty.false refl (c.frozen.ensures ∙ ap (λ (v : CoreModel). v.frozen) c.self.view_is) in
     record {
       valid = c.requires;
       idle = frozen_idle c.args.self.now c.freeze.new.self c.in_ok-freeze.ensures.event;
@@ -46,6 +53,7 @@ returns-in_err-place_for_flush g c =
       installed = IfOk-from_err c.from_residual.result _ c.from_residual.ensures.0;
       acts = IfOk-from_err c.from_residual.result _ c.from_residual.ensures.0;
       taken = IfOk-from_err c.from_residual.result _ c.from_residual.ensures.0;
+      quiet = IfOk-from_err c.from_residual.result _ c.from_residual.ensures.0;
       refused = rw p.1 (c.args.self.now, inl refl, refl, may_keep _ _ _ refl);
       frozen = (λ h.
           let p = err_from_is_err_and c.from_residual.result c.from_residual.ensures.1 in
@@ -69,6 +77,7 @@ returns-in_err-freeze g c =
       installed = IfOk-from_err c.from_residual-in_err-freeze.result _ c.from_residual-in_err-freeze.ensures.0;
       acts = IfOk-from_err c.from_residual-in_err-freeze.result _ c.from_residual-in_err-freeze.ensures.0;
       taken = IfOk-from_err c.from_residual-in_err-freeze.result _ c.from_residual-in_err-freeze.ensures.0;
+      quiet = IfOk-from_err c.from_residual-in_err-freeze.result _ c.from_residual-in_err-freeze.ensures.0;
       refused = rw p.1 (c.freeze.new.self, inl (subst (λ (v : CoreModel). v ≡ record c.args.self.now { spare = v.spare }) (sym c.in_err-freeze.ensures.same) refl), refl, may_keep _ _ _ refl);
       frozen = (λ h.
           let p = err_from_is_err_and c.from_residual-in_err-freeze.result c.from_residual-in_err-freeze.ensures.1 in
@@ -84,22 +93,37 @@ returns-in_err-freeze g c =
 
 -- ---- no rows
 
+-- what the fields are after the call
+noted : (s : Inside) (c : CoreModel) (l : LogModel) → view_of s ≡ c → l ≡ with_flush s.log → view_of (record s { log = l }) ≡ record c { state = record c.state { flushed = s.log.last } }
+noted s c l is log = ap (λ (x : LogModel). view_of (record s { log = x })) log ∙ ap (λ (v : CoreModel). record v { state = record v.state { flushed = s.log.last } }) is
+
+pub returns-then-is_empty-clause-step : goal.returns-then-is_empty-clause-step
+returns-then-is_empty-clause-step g c m = step_flush m c.args.self.now c.freeze.new.self (view_of (record c.self.inside { log = c.note_flush.new.self })) c.last.result c.in_ok-freeze.ensures.event
+    (c.last.ensures ∙ ap (λ (l : LogModel). l.last) c.note_flush.ensures.value ∙ c.self.invariant.log.last ∙ ap (λ (v : CoreModel). last_of v.settings.start_seq v.state.commits) c.self.view_is)
+    (ap (λ (v : CoreModel). v.state) (noted c.self.inside c.freeze.new.self c.note_flush.new.self c.self.view_is c.note_flush.ensures.value) ∙ (let n = sym (c.last.ensures ∙ ap (λ (l : LogModel). l.last) c.note_flush.ensures.value) in λ i. record c.freeze.new.self.state { flushed = n i }))
+
+pub returns-then-is_empty-clause-settings : goal.returns-then-is_empty-clause-settings
+returns-then-is_empty-clause-settings g c = ap (λ (v : CoreModel). v.settings) (noted c.self.inside c.freeze.new.self c.note_flush.new.self c.self.view_is c.note_flush.ensures.value) ∙ frozen_settings c.args.self.now c.freeze.new.self c.in_ok-freeze.ensures.event
+
+pub returns-then-is_empty-clause-quiet : goal.returns-then-is_empty-clause-quiet
+returns-then-is_empty-clause-quiet g c = subst (λ (v : CoreModel). IsQuiet v.events) (sym (noted c.self.inside c.freeze.new.self c.note_flush.new.self c.self.view_is c.note_flush.ensures.value)) c.in_ok-freeze.ensures.quiet
+
 pub returns-then-is_empty-clause-installed : goal.returns-then-is_empty-clause-installed
 returns-then-is_empty-clause-installed g c = (
   c.freeze.new.self,
   c.in_ok-freeze.ensures.event,
-  idle (sym (ap (λ (v : CoreModel). v.frozen) c.self.view_is) ∙ none_frozen c.as_slice.result.now c.self.inside.frozen.items c.is_empty.result c.is_empty.ensures c.if-is_empty.true c.as_slice.ensures.value)
-      (ap (λ (v : CoreModel). record v { state = record v.state { flushed = c.self.inside.last } }) c.self.view_is) refl,
+  idle (sym (ap (λ (v : CoreModel). v.frozen) c.self.view_is) ∙ sym c.frozen.ensures ∙ none_frozen c.frozen.result.now c.frozen.result.now c.is_empty.result c.is_empty.ensures c.if-is_empty.true refl)
+      (noted c.self.inside c.freeze.new.self c.note_flush.new.self c.self.view_is c.note_flush.ensures.value ∙ (let n = sym (c.last.ensures ∙ ap (λ (l : LogModel). l.last) c.note_flush.ensures.value) in λ i. record c.freeze.new.self { state = record c.freeze.new.self.state { flushed = n i } })) refl,
 )
 
 pub returns-then-is_empty-clause-acts : goal.returns-then-is_empty-clause-acts
 returns-then-is_empty-clause-acts g c =
-    inl (ap (λ (v : CoreModel). tables_of v.events) c.self.view_is ∙ frozen_tables c.args.self.now c.freeze.new.self c.in_ok-freeze.ensures.event, refl)
+    inl (ap (λ (l : LogModel). tables_of l.events) c.note_flush.ensures.value ∙ ap (λ (v : CoreModel). tables_of v.events) c.self.view_is ∙ frozen_tables c.args.self.now c.freeze.new.self c.in_ok-freeze.ensures.event, refl)
 
 pub returns-then-is_empty-clause-taken : goal.returns-then-is_empty-clause-taken
 returns-then-is_empty-clause-taken g c = (
   ap (λ (v : CoreModel). v.active) c.self.view_is ∙ frozen_idle c.args.self.now c.freeze.new.self c.in_ok-freeze.ensures.event,
-  none_frozen c.as_slice.result.now c.self.inside.frozen.items c.is_empty.result c.is_empty.ensures c.if-is_empty.true c.as_slice.ensures.value,
+  sym c.frozen.ensures ∙ none_frozen c.frozen.result.now c.frozen.result.now c.is_empty.result c.is_empty.ensures c.if-is_empty.true refl,
 )
 
 pub returns-then-is_empty-clause-full : goal.returns-then-is_empty-clause-full
@@ -113,7 +137,8 @@ returns-then-is_empty-clause-limit g c h = absurd (omega (arith, c.in_ok-place_f
 
 pub returns-then-is_empty-clause-kept : goal.returns-then-is_empty-clause-kept
 returns-then-is_empty-clause-kept g c m same k =
-    kept_flushed m (view_of c.self.inside) c.self.inside.last (subst (λ (v : CoreModel). IsKept m v) (sym c.self.view_is) (c.in_ok-freeze.ensures.kept m k))
+    subst (λ (l : LogModel). IsKept m (view_of (record c.self.inside { log = l }))) (sym c.note_flush.ensures.value)
+    (kept_flushed m (view_of c.self.inside) c.self.inside.log.last (subst (λ (v : CoreModel). IsKept m v) (sym c.self.view_is) (c.in_ok-freeze.ensures.kept m k)))
 
 pub returns-then-is_empty-clause-puts : goal.returns-then-is_empty-clause-puts
 returns-then-is_empty-clause-puts g c = puts_none _
@@ -139,6 +164,7 @@ returns g c =
       acts = (subst (λ (ts : List (Ulid × List ℕ)). OnOk c.install.result (AddsTables ts (tables_of c.install.new.self.events) (g.S.Store.acts c.args.env.now.store.now) (g.S.Store.acts c.install.new.env.store.now)))
           (frozen_tables c.args.self.now c.freeze.new.self c.in_ok-freeze.ensures.event) c.install.ensures.acts);
       taken = all_taken c.install.result (changed_by g.T.BlockTransformer.encoded c.args.env.now.transformer) (layout_of c.args.options.now) c.freeze.new.self c.install.new.self (g.S.Store.objects c.args.env.now.store.now) (g.S.Store.objects c.install.new.env.store.now) (frozen_idle c.args.self.now c.freeze.new.self c.in_ok-freeze.ensures.event) c.install.ensures.installed;
+      quiet = quiet_after c.install.result (changed_by g.T.BlockTransformer.encoded c.args.env.now.transformer) (layout_of c.args.options.now) c.freeze.new.self c.install.new.self (g.S.Store.objects c.args.env.now.store.now) (g.S.Store.objects c.install.new.env.store.now) c.in_ok-freeze.ensures.quiet c.install.ensures.installed;
       refused = both_err c.install.result (λ same may. (c.freeze.new.self, inr c.in_ok-freeze.ensures.event, same, may)) c.install.ensures.same c.install.ensures.refused;
       frozen = frozen_at_fault c.install.result c.args.self.now c.freeze.new.self c.install.new.self c.in_ok-freeze.ensures.event c.install.ensures.same;
       full = λ h. absurd (omega (arith, c.in_ok-place_for_flush.ensures.place, h));

@@ -10,27 +10,30 @@ use Rattle.slate_mem.specs.RowOf.{own_row}
 use Rattle.slate_txn.specs.declared.event.TranscriptStep.{TranscriptStep}
 use Rattle.slate_txn.specs.declared.event.TranscriptStep.TheVariants as steps
 use Rattle.slate_txn.specs.Named.{find_named, update_named}
+use Rattle.slate_txn.specs.Open.{Transactions}
 use Rattle.slate_txn.specs.Reads.{key_rows, up_to}
 use Rattle.slate_txn.specs.State.{Tx}
 use Rattle.slate_txn.specs.Step.{noted}
 use Rattle.slate_txn.specs.Reply.{Found}
+use Rattle.slate_db.specs.declared.engine.Core.TheInside.{Inside}
 use Rattle.slate_db.specs.Meaning.{combine_of, rules_of}
 use Rattle.slate_db.specs.Model.{CoreModel}
-use Rattle.slate_db.specs.View.{view_of}
+use Rattle.slate_db.specs.View.{view_of, unseen_of, IsWholeInside}
 use Rattle.slate_db.specs.Sound.{IsKept}
-use Rattle.slate_db.specs.Whole.{IsWhole}
 use Rattle.slate_txn.proofs.NamedLaws.{IsNamed, open_is}
-use Rattle.slate_db.proofs.Notes.{after_note, whole_note, step_get}
-use Rattle.slate_db.proofs.Keeps.{same_model, kept_event}
+use Rattle.slate_db.proofs.Notes.{step_get}
+use Rattle.slate_db.proofs.Wholes.{after_note, whole_note}
+use Rattle.slate_db.proofs.Keeps.{kept_event}
 use Rattle.slate_db.proofs.Seen.{found_all}
 use Rattle.slate_db.proofs.engine.Core.get.Goals as goal
 use Rattle.slate_db.proofs.engine.Core.get.Given as given
 
+-- nothing is noted
+unnoted : (s : Inside) (ts : Transactions) → ts ≡ s.transactions → record s { transactions = ts } ≡ s
+unnoted s ts same = ap (λ (us : Transactions). record s { transactions = us }) same
+
 pub invariant_of-self : goal.invariant_of-self
-invariant_of-self g c =
-    subst (λ (v : CoreModel). IsWhole v c.self.inside.last c.self.inside.ids c.self.inside.runs c.self.inside.tables.items)
-    (same_model (view_of c.self.inside) (view_of (record c.self.inside { «open» = c.note_get.new.items })) refl refl (sym c.in-Err-note_get.ensures.err) refl refl refl refl refl refl refl refl)
-    c.self.invariant
+invariant_of-self g c = subst IsWholeInside (sym (unnoted c.self.inside c.note_get.new.self c.in-Err-note_get.ensures.err)) c.self.invariant
 
 pub returns-in_err-key : goal.returns-in_err-key
 returns-in_err-key g c =
@@ -68,10 +71,9 @@ returns-in-Err-note_get g c =
         cause = inl (subst (IsCounted _ _) (sym c.from.ensures) tt);
         reads = c.seen.ensures.read.reads;
       };
-      same = sym (same_model (view_of c.self.inside) (view_of (record c.self.inside { «open» = c.note_get.new.items })) refl refl (sym c.in-Err-note_get.ensures.err) refl refl refl refl refl refl refl refl) ∙ c.self.view_is;
+      same = ap view_of (unnoted c.self.inside c.note_get.new.self c.in-Err-note_get.ensures.err) ∙ c.self.view_is;
       kept = (λ m kept_m.
-          subst (λ (v : CoreModel). IsKept m v)
-          (same_model (view_of c.self.inside) (view_of (record c.self.inside { «open» = c.note_get.new.items })) refl refl (sym c.in-Err-note_get.ensures.err) refl refl refl refl refl refl refl refl)
+          subst (λ (s : Inside). IsKept m (view_of s)) (sym (unnoted c.self.inside c.note_get.new.self c.in-Err-note_get.ensures.err))
           (subst (λ (v : CoreModel). IsKept m v) (sym c.self.view_is) kept_m));
       settings = ap (λ (v : CoreModel). v.settings) c.self.view_is;
     }
@@ -83,24 +85,19 @@ noted_step g c = steps.Get c.args.key.now c.answer-found.result
 t_of : (g : given.Over) (c : goal.In_default-note_get g) → IsNamed (find_named c.args.id.now c.args.self.now.state.txns)
 t_of g c = open_is (find_named c.args.id.now c.args.self.now.state.txns) c.requires
 
-becomes : (g : given.Over) (c : goal.In_default-note_get g) → after_note (view_of c.self.inside) c.args.id.now (noted_step g c ∷ []) ≡ view_of (record c.self.inside { «open» = c.note_get.new.items })
-becomes g c = same_model _ _ refl refl txns refl refl refl refl refl refl refl refl
-  where
-    txns : update_named c.args.id.now (λ t. record t { transcript = t.transcript ++ (steps.Get c.args.key.now c.answer-found.result ∷ []) }) c.self.inside.«open».entries ≡ c.note_get.new.items.entries
-    txns =
-        (let key = sym c.in_ok-key.ensures in λ j. update_named c.args.id.now (λ t. record t { transcript = t.transcript ++ (steps.Get (key j) c.answer-found.result ∷ []) }) c.self.inside.«open».entries)
-        ∙ sym c.in_default-note_get.ensures.ok
+becomes : (g : given.Over) (c : goal.In_default-note_get g) → record c.self.inside { transactions = update_named c.args.id.now (λ t. record t { transcript = t.transcript ++ (noted_step g c ∷ []) }) c.self.inside.transactions } ≡ record c.self.inside { transactions = c.note_get.new.self }
+becomes g c = ap (λ (ts : Transactions). record c.self.inside { transactions = ts })
+    ((let key = sym c.in_ok-key.ensures in λ j. update_named c.args.id.now (λ t. record t { transcript = t.transcript ++ (steps.Get (key j) c.answer-found.result ∷ []) }) c.self.inside.transactions)
+    ∙ sym c.in_default-note_get.ensures.ok)
 
 pub invariant_of-self-2 : goal.invariant_of-self-2
-invariant_of-self-2 g c =
-    subst (λ (v : CoreModel). IsWhole v c.self.inside.last c.self.inside.ids c.self.inside.runs c.self.inside.tables.items) (becomes g c)
-    (whole_note (view_of c.self.inside) c.self.inside.last c.self.inside.ids _ _ c.args.id.now (noted_step g c ∷ []) c.self.invariant)
+invariant_of-self-2 g c = subst IsWholeInside (becomes g c) (whole_note (view_of c.self.inside) (unseen_of c.self.inside) c.args.id.now (noted_step g c ∷ []) c.self.invariant)
 
 -- the transaction that reads
 abbrev reader : (g : given.Over) → goal.In_default-note_get g → Tx
 reader g c = (t_of g c).value
 
-reader_is : (g : given.Over) (c : goal.In_default-note_get g) → find_named c.args.id.now c.self.inside.«open».entries ≡ Some (reader g c)
+reader_is : (g : given.Over) (c : goal.In_default-note_get g) → find_named c.args.id.now c.self.inside.transactions ≡ Some (reader g c)
 reader_is g c = ap (λ (v : CoreModel). find_named c.args.id.now v.state.txns) c.self.view_is ∙ (t_of g c).is
 
 begin_is : (g : given.Over) (c : goal.In_default-note_get g) → c.in-Some.at ≡ (reader g c).begin
@@ -113,12 +110,12 @@ from_floor : (g : given.Over) (c : goal.In_default-note_get g) → c.args.self.n
 from_floor g c =
     subst (λ n. c.args.self.now.floor ≤ n) (sym (begin_is g c))
     (subst (λ (v : CoreModel). v.floor ≤ (reader g c).begin) c.self.view_is
-    (found_all (λ (t : Tx). (c.self.inside.floor ≤ t.begin) × (t.begin ≤ c.self.inside.last)) c.args.id.now c.self.inside.«open».entries (reader g c) c.self.invariant.begins (reader_is g c)).0)
+    (found_all (λ (t : Tx). (c.self.inside.layers.floor ≤ t.begin) × (t.begin ≤ c.self.inside.log.last)) c.args.id.now c.self.inside.transactions (reader g c) c.self.invariant.tied.begins (reader_is g c)).0)
 
 pub returns : goal.returns
 returns g c =
     record {
-      noted = sym (becomes g c) ∙ ap (λ v. after_note v c.args.id.now (noted_step g c ∷ [])) c.self.view_is;
+      noted = sym (ap view_of (becomes g c)) ∙ ap (λ v. after_note v c.args.id.now (noted_step g c ∷ [])) c.self.view_is;
       read = record {
         answer = (λ is.
             let m = (reach_of g.S.Store g.M.MergeOperator g.T.BlockTransformer c.args.env.now).meaning in
@@ -135,15 +132,15 @@ returns g c =
             step_get r c.args.self.now.state c.args.id.now k (reader g c) c.in-Ok.row found row
             ∙ (let a = sym c.answer-found.ensures in λ j. (noted c.args.self.now.state c.args.id.now (steps.Get k (a j) ∷ []), Found (a j)))
             ∙ (let v = sym c.self.view_is in λ j. (noted (v j).state c.args.id.now (noted_step g c ∷ []), Found c.answer-found.result))
-            ∙ (λ j. ((becomes g c j).state, Found c.answer-found.result)));
+            ∙ (λ j. ((view_of (becomes g c j)).state, Found c.answer-found.result)));
         undamaged = λ is. tt;
         cause = tt;
         reads = c.seen.ensures.read.reads;
       };
       same = tt;
       kept = (λ m kept_m.
-          subst (λ (v : CoreModel). IsKept m v) (becomes g c)
-          (kept_event m (view_of c.self.inside) (noted (view_of c.self.inside).state c.args.id.now (noted_step g c ∷ [])) c.self.inside.journal.events c.self.inside.journal.spare refl refl refl
+          subst (λ (s : Inside). IsKept m (view_of s)) (becomes g c)
+          (kept_event m (view_of c.self.inside) (noted (view_of c.self.inside).state c.args.id.now (noted_step g c ∷ [])) c.self.inside.log.events c.self.inside.log.spare refl refl refl
           (subst (λ (v : CoreModel). IsKept m v) (sym c.self.view_is) kept_m)));
       settings = ap (λ (v : CoreModel). v.settings) c.self.view_is;
     }

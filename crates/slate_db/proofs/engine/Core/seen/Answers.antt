@@ -12,7 +12,7 @@ use Rattle.slate_mem.specs.Lookup.{is_merge_among, newest_first}
 use Rattle.slate_db.specs.Model.{CoreModel, Rows}
 use Rattle.slate_db.specs.Readable.{IsAnswered}
 use Rattle.slate_db.specs.Sound.{IsSound}
-use Rattle.slate_db.specs.View.{view_of}
+use Rattle.slate_db.specs.View.{view_of, unseen_of}
 use Rattle.slate_db.specs.Whole.{IsWhole}
 use Rattle.slate_db.proofs.Blocks.{if_ok, if_ok_where, if_err}
 use Rattle.slate_db.proofs.Causes.{fold_fault}
@@ -35,7 +35,7 @@ after g c = reach_of g.S.Store g.M.MergeOperator g.T.BlockTransformer (record c.
 near : (g : given.Over) (c : goal.After-fold_found g) → c.in_ok-near.near.items ≡ newest c.as_slice.result.now c.args.at (c.args.self.now.active ++ newest_first c.args.self.now.frozen)
 near g c =
     c.in_ok-near.ensures.found
-    ∙ ap (λ ts. newest c.args.key.now c.args.at (c.self.inside.active.rows ++ newest_first (map (λ t. t.rows) ts))) c.deref.ensures.value
+    ∙ (λ i. newest c.args.key.now c.args.at (c.active.ensures i ++ newest_first (c.frozen.ensures i)))
     ∙ ap (λ (v : CoreModel). newest c.args.key.now c.args.at (v.active ++ newest_first v.frozen)) c.self.view_is
     ∙ ap (λ (k : List ℕ). newest k c.args.at (c.args.self.now.active ++ newest_first c.args.self.now.frozen)) (sym c.as_slice.ensures)
 
@@ -46,14 +46,14 @@ sound g c is = is.readable.kept.1 is.readable.lawful
 found_is : (g : given.Over) (c : goal.After-fold_found g) (is : IsAnswered (before g c) (after g c) c.args.self.now) →
     c.in_ok-found.found.items ≡ newest c.args.key.now c.args.at ((c.args.self.now.active ++ newest_first c.args.self.now.frozen) ++ newest_first (sound g c is).layers)
 found_is g c is =
-    c.in_ok-found.ensures.found (sound g c is).layers is.os (stored_as (before g c).meaning c.args.self.now (view_of c.self.inside) c.self.inside.last c.self.inside.ids c.self.inside.runs c.self.inside.tables.items c.deref-2.result.now is.os (sound g c is).layers c.self.view_is c.deref-2.ensures.value c.self.invariant is.readable.lawful (sound g c is).tables is.readable.holds) is.answers (c.args.self.now.active ++ newest_first c.args.self.now.frozen) (near g c)
+    c.in_ok-found.ensures.found (sound g c is).layers is.os (stored_as (before g c).meaning c.args.self.now (view_of c.self.inside) (unseen_of c.self.inside) c.tables.result.now is.os (sound g c is).layers c.self.view_is c.tables.ensures c.self.invariant is.readable.lawful (sound g c is).tables is.readable.holds) is.answers (c.args.self.now.active ++ newest_first c.args.self.now.frozen) (near g c)
     ∙ ap (λ (k : List ℕ). newest k c.args.at ((c.args.self.now.active ++ newest_first c.args.self.now.frozen) ++ newest_first (sound g c is).layers)) c.as_slice.ensures
 
-whole : (g : given.Over) (c : goal.After-fold_found g) → IsWhole c.args.self.now c.self.inside.last c.self.inside.ids c.self.inside.runs c.self.inside.tables.items
-whole g c = subst (λ (v : CoreModel). IsWhole v c.self.inside.last c.self.inside.ids c.self.inside.runs c.self.inside.tables.items) c.self.view_is c.self.invariant
+whole : (g : given.Over) (c : goal.After-fold_found g) → IsWhole c.args.self.now (unseen_of c.self.inside)
+whole g c = subst (λ (v : CoreModel). IsWhole v (unseen_of c.self.inside)) c.self.view_is c.self.invariant
 
-handles : (g : given.Over) (c : goal.After-fold_found g) → AreHandles (tables_of c.args.self.now.events) c.deref-2.result.now
-handles g c = subst (λ (hs : List SsTableHandle). AreHandles (tables_of c.args.self.now.events) hs) (sym c.deref-2.ensures.value) (whole g c).tables
+handles : (g : given.Over) (c : goal.After-fold_found g) → AreHandles (tables_of c.args.self.now.events) c.tables.result.now
+handles g c = subst (λ (hs : List SsTableHandle). AreHandles (tables_of c.args.self.now.events) hs) (sym c.tables.ensures) (whole g c).tied.tables
 
 pub returns-in_err-near : goal.returns-in_err-near
 returns-in_err-near g c =
@@ -77,8 +77,8 @@ returns-in_err-found g c =
             let m = (reach_of g.S.Store g.M.MergeOperator g.T.BlockTransformer c.args.env.now).meaning in
             let sound : IsSound m c.args.self.now = is.readable.kept.1 is.readable.lawful in
             let p = err_from_is_err_and c.from_residual-in_err-found.result c.from_residual-in_err-found.ensures.1 in
-            rw (p.1, p.2) (c.in_err-found.ensures.whole sound.layers is.os (stored_as m c.args.self.now (view_of c.self.inside) c.self.inside.last c.self.inside.ids c.self.inside.runs c.self.inside.tables.items c.deref-2.result.now is.os sound.layers c.self.view_is c.deref-2.ensures.value c.self.invariant is.readable.lawful sound.tables is.readable.holds) is.answers));
-        cause = rw (p.1, p.2) (journal_damage _ _ c.args.self.now c.deref-2.result.now _ (subst (λ (hs : List SsTableHandle). AreHandles (tables_of c.args.self.now.events) hs) (sym c.deref-2.ensures.value) (subst (λ (v : CoreModel). AreHandles (tables_of v.events) c.self.inside.tables.items) c.self.view_is c.self.invariant.tables)) c.in_err-found.ensures.cause);
+            rw (p.1, p.2) (c.in_err-found.ensures.whole sound.layers is.os (stored_as m c.args.self.now (view_of c.self.inside) (unseen_of c.self.inside) c.tables.result.now is.os sound.layers c.self.view_is c.tables.ensures c.self.invariant is.readable.lawful sound.tables is.readable.holds) is.answers));
+        cause = rw (p.1, p.2) (journal_damage _ _ c.args.self.now c.tables.result.now _ (subst (λ (hs : List SsTableHandle). AreHandles (tables_of c.args.self.now.events) hs) (sym c.tables.ensures) (subst (λ (v : CoreModel). AreHandles (tables_of v.events) c.self.inside.layers.tables) c.self.view_is c.self.invariant.tied.tables)) c.in_err-found.ensures.cause);
         reads = c.newest_of_tables.ensures.reads;
       };
     }
@@ -91,14 +91,14 @@ returns g c =
         answer = (λ is. if_ok_where c.fold_found.result _ (λ above.
             let m = (before g c).meaning in
             let k = c.args.key.now in
-            let folds : Folds m c.args.self.now k c.args.at c.in_ok-found.found.items = found_folds m c.args.self.now _ _ _ _ k c.args.at c.in_ok-found.found.items (sound g c is).layers (whole g c) is.readable.lawful is.readable.kept (sound g c is).tables (sound g c is).short above (found_is g c is) in
+            let folds : Folds m c.args.self.now k c.args.at c.in_ok-found.found.items = found_folds m c.args.self.now _ k c.args.at c.in_ok-found.found.items (sound g c is).layers (whole g c) is.readable.lawful is.readable.kept (sound g c is).tables (sound g c is).short above (found_is g c is) in
             let same : m.combine ≡ (between g c).meaning.combine = sym (ap (λ m. m.combine) tables.meaning) in
             if_ok c.fold_found.result _ _ (λ row h. h ∙ ap (λ x. fold_rows (operator_at x k) (reverse c.in_ok-found.found.items)) (sym same) ∙ folds.fold)
             (c.fold_found.ensures.row k (subst (λ x. IsLawful (operator_at x k)) same (is.readable.lawful.operator k)) (subst (λ x. KeepsShort (operator_at x k)) same (is.readable.lawful.short k)) folds.are)));
         undamaged = (λ is.
-            let none : is_merge_among c.in_ok-found.found.items ≡ false = found_bases c.args.self.now _ _ _ _ c.args.key.now c.args.at c.in_ok-found.found.items (sound g c is).layers (whole g c) (sound g c is).bases (found_is g c is) in
+            let none : is_merge_among c.in_ok-found.found.items ≡ false = found_bases c.args.self.now _ c.args.key.now c.args.at c.in_ok-found.found.items (sound g c is).layers (whole g c) (sound g c is).bases (found_is g c is) in
             if_err c.fold_found.result _ _ (λ e h. fold_fault _ _ _ (is_merge_among c.in_ok-found.found.items) e tables.later none h) c.fold_found.ensures.cause);
-        cause = if_err c.fold_found.result _ _ (λ e h. fold_refused (before g c) (between g c) (after g c) c.args.self.now c.deref-2.result.now c.as_slice.result.now c.args.at c.in_ok-near.near.items c.in_ok-found.found.items e (handles g c) (near g c) tables.later refl
+        cause = if_err c.fold_found.result _ _ (λ e h. fold_refused (before g c) (between g c) (after g c) c.args.self.now c.tables.result.now c.as_slice.result.now c.args.at c.in_ok-near.near.items c.in_ok-found.found.items e (handles g c) (near g c) tables.later refl
             (λ i. record (between g c).meaning { combine = c.fold_found.ensures.same i }) refl c.in_ok-found.ensures.rows h) c.fold_found.ensures.cause;
         reads = reads_then _ _ _ tables (reads_of _ _ refl c.fold_found.ensures.same refl refl (adds_none _) (record { store = omega arith; operator = c.fold_found.ensures.later; transformer = omega arith }) refl);
       };

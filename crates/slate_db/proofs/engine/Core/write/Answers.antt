@@ -1,4 +1,4 @@
-use Rattle.std.proofs.Common.{◌≡◌, ℕ, ◌+◌, ◌-◌, ◌^◌, ◌<◌, ◌≤◌, ◌++◌, ◌∷◌, [], List, Some, refl, ap, sym, subst, ◌∙◌, arith, inr, true, false, w64, inl, length, true≢false}
+use Rattle.std.proofs.Common.{◌≡◌, ℕ, ◌+◌, ◌-◌, ◌^◌, ◌<◌, ◌≤◌, ◌++◌, ◌∷◌, [], List, Option, Some, ℤ, refl, ap, sym, subst, ◌∙◌, arith, inr, true, false, w64, inl, length, true≢false, Err}
 use Rattle.std.proofs.lemmas.Result.{IfOk-from_err, err_from_is_err_and}
 use Rattle.std.specs.Prelude.{sum_by}
 use Rattle.std.specs.List.{AllByRecursion}
@@ -6,30 +6,31 @@ use Rattle.std.proofs.lemmas.Int.{to_z-of_z}
 use Rattle.slate_txn.specs.State.{last_of}
 use Rattle.slate_types.specs.declared.error.SlateDBError.TheVariants as errors
 use Rattle.slate_types.specs.Fold.{Combine}
-use Rattle.slate_mem.specs.Batch.{batch_keys}
+use Rattle.slate_mem.specs.Batch.{Ops}
 use Rattle.slate_mem.specs.CommitRows.{commit_rows}
-use Rattle.slate_mem.specs.Table.{put_rows, MemTableModel}
-use Rattle.slate_table.specs.Table.{AreInOrder}
-use Rattle.slate_txn.specs.declared.event.Event.TheVariants as events
+use Rattle.slate_mem.specs.Table.{put_rows}
 use Rattle.slate_txn.specs.declared.line.Line.TheVariants as lines
-use Rattle.slate_txn.specs.Replay.{replay}
 use Rattle.slate_txn.specs.Reply.{Written, Refused}
 use Rattle.slate_txn.specs.Step.{step}
+use Rattle.slate_db.specs.declared.engine.Core.TheInside.{Inside}
 use Rattle.slate_db.specs.Load.{load, ops_load, rows_load}
 use Rattle.slate_db.specs.Meaning.{rules_of, combine_of}
 use Rattle.slate_db.specs.Model.{CoreModel, Rows, at, versions, versions_in, memory, IsSame}
-use Rattle.slate_db.specs.View.{view_of}
+use Rattle.slate_db.specs.View.{view_of, unseen_of, IsWholeInside}
 use Rattle.slate_db.specs.Sound.{IsKept}
-use Rattle.slate_db.specs.Whole.{IsWhole, FitsMemory, AreRising, LIMIT}
+use Rattle.slate_db.specs.Layers.{AreLayers, LayersModel, FitsMemory, AreRising}
+use Rattle.slate_db.specs.Log.{LIMIT, IsLog, LogModel, IsWhollyKept, held_by, with_write}
 use Rattle.slate_db.specs.Written.{after_write}
-use Rattle.slate_db.proofs.Keeps.{same_model, room_made}
-use Rattle.slate_db.proofs.Journals.{apply_more}
+use Rattle.slate_db.proofs.Keeps.{room_made}
+use Rattle.slate_db.proofs.Calls.{none_left, past_place, placed, room_in_log, written_is}
 use Rattle.slate_db.proofs.Lists.{all_map, all_behind}
 use Rattle.slate_db.proofs.Loads.{write_load}
 use Rattle.slate_db.proofs.MemoryRows.{commit_fits, commit_within, puts_all, rise_more}
 use Rattle.slate_db.proofs.Plain.{step_nothing, step_plain, step_exhausted, some_ops}
-use Rattle.slate_db.proofs.Puts.{order_puts, some_more, versions_more, active_within}
-use Rattle.slate_db.proofs.Writes.{whole_write, kept_write}
+use Rattle.slate_db.proofs.Puts.{some_more, versions_more, active_within}
+use Rattle.slate_db.proofs.Logs.{has_place}
+use Rattle.slate_db.proofs.Wholes.{whole_write}
+use Rattle.slate_db.proofs.Writes.{kept_write}
 use Rattle.slate_db.proofs.engine.Core.write.Goals as goal
 
 pub returns-then-is_empty : goal.returns-then-is_empty
@@ -48,15 +49,15 @@ returns-then-is_empty c =
       cause = tt;
     }
 
-pub returns-then-self-ge18446744073709551614 : goal.returns-then-self-ge18446744073709551614
-returns-then-self-ge18446744073709551614 c =
+pub returns-then-last-ge18446744073709551614 : goal.returns-then-last-ge18446744073709551614
+returns-then-last-ge18446744073709551614 c =
     record {
       step = tt;
       refused = (inr (inr (λ m ops of fine.
           sym (ap (λ (v : CoreModel). step (rules_of v.settings m) (at c.args.now v.state) (lines.Write ops)) c.self.view_is)
-          ∙ step_exhausted (rules_of (view_of c.self.inside).settings m) (at c.args.now (view_of c.self.inside).state) ops c.args.batch c.self.inside.last of
-          (λ e. let t : true ≡ false = sym (c.is_empty.ensures.1 e) ∙ c.if-is_empty.false in cc) fine refl c.self.invariant.last
-          (let h : c.self.inside.last ≤ 2 ^ 64 - 2 = c.self.invariant.last_fits in omega arith)
+          ∙ step_exhausted (rules_of (view_of c.self.inside).settings m) (at c.args.now (view_of c.self.inside).state) ops c.args.batch c.self.inside.log.last of
+          (λ e. let t : true ≡ false = sym (c.is_empty.ensures.1 e) ∙ c.if-is_empty.false in cc) fine refl c.self.invariant.log.last
+          (let h : c.self.inside.log.last ≤ 2 ^ 64 - 2 = c.self.invariant.log.last_fits in omega (arith, c.last.ensures))
           ∙ ap (λ (v : CoreModel). (at c.args.now v.state, Refused errors.SequenceExhausted)) c.self.view_is)));
       event = tt;
       kept = tt;
@@ -64,149 +65,186 @@ returns-then-self-ge18446744073709551614 c =
       same = refl;
       idle = λ none. absurd (true≢false (sym (c.is_empty.ensures.1 none) ∙ c.if-is_empty.false));
       exhausted = λ some full. refl;
-      limit = λ some below past. let last = subst (λ n. n < 2 ^ 64 - 2) (sym (c.self.invariant.last ∙ ap (λ (v : CoreModel). last_of v.settings.start_seq v.state.commits) c.self.view_is)) below in absurd (omega (arith, last));
-      cause = (let fits : c.self.inside.last ≤ 2 ^ 64 - 2 = c.self.invariant.last_fits in let last : c.self.inside.last ≡ 2 ^ 64 - 2 = omega (arith, fits) in inr (inl (refl, sym (c.self.invariant.last ∙ ap (λ (v : CoreModel). last_of v.settings.start_seq v.state.commits) c.self.view_is) ∙ last)));
+      limit = λ some below past. let last = subst (λ n. n < 2 ^ 64 - 2) (sym (c.self.invariant.log.last ∙ ap (λ (v : CoreModel). last_of v.settings.start_seq v.state.commits) c.self.view_is)) below in absurd (omega (arith, last, c.last.ensures));
+      cause = (let fits : c.self.inside.log.last ≤ 2 ^ 64 - 2 = c.self.invariant.log.last_fits in let last : c.self.inside.log.last ≡ 2 ^ 64 - 2 = omega (arith, fits, c.last.ensures) in inr (inl (refl, sym (c.self.invariant.log.last ∙ ap (λ (v : CoreModel). last_of v.settings.start_seq v.state.commits) c.self.view_is) ∙ last)));
     }
 
 plain : List ℕ → Combine
 plain k = λ e v. v
 
-some : (c : goal.After-drop-batch-inside-2) → c.args.batch.ops ≡ [] → ⊥
-some c e = let t : true ≡ false = sym (c.is_empty.ensures.1 e) ∙ c.if-is_empty.false in cc
+-- the commit's rows, of the operations at the next sequence
+made : (f : List ℕ → Combine) (d : Option ℕ) (n seq : ℕ) (at now : ℤ) (ops : Ops) (rows : Rows) → rows ≡ commit_rows f d seq at ops → seq ≡ n → at ≡ now → rows ≡ commit_rows f d n now ops
+made f d n seq at now ops rows is seqs ats = is ∙ (λ i. commit_rows f d (seqs i) (ats i) ops)
 
-fits : (c : goal.After-drop-batch-inside-2) → c.self.inside.last < 2 ^ 64 - 2
-fits c = omega arith
+higher : (n m : ℕ) → m ≤ n → m ≤ n + 1
+higher n m h = omega arith
 
--- the rows in memory
-rows_are : (c : goal.After-drop-batch-inside-2) (f : List ℕ → Combine) →
-    c.put_all.new.self.rows ≡ put_rows c.self.inside.active.rows (commit_rows f c.self.inside.default_millis (c.self.inside.last + 1) c.args.now c.args.batch.ops)
-rows_are c f =
-    c.in_ok-put_all.ensures.rows
-    ∙ ap (λ rs. put_rows c.self.inside.active.rows rs) (c.in_ok-rows.ensures.rows f ∙ ap (λ now. commit_rows f c.self.inside.default_millis (c.self.inside.last + 1) now c.args.batch.ops) (to_z-of_z w64 c.args.now c.ranges.now))
+pub put-requires : goal.put-requires
+put-requires c =
+    let n : ℕ = c.self.inside.log.last in
+    let rows : c.in_ok-rows.rows.items ≡ commit_rows plain c.self.inside.default_millis (n + 1) c.args.now c.args.batch.ops =
+    made plain c.self.inside.default_millis (n + 1) (c.last-seq.result + 1) _ c.args.now c.args.batch.ops c.in_ok-rows.rows.items (c.in_ok-rows.ensures.rows plain) (ap (λ n. n + 1) (c.last-seq.ensures ∙ ap (λ (l : LogModel). l.last) c.reserve.ensures.value)) (to_z-of_z w64 c.args.now c.ranges.now) in
+    record {
+      fit = subst (AllByRecursion FitsMemory) (sym rows) (commit_fits plain c.self.inside.default_millis (n + 1) c.args.now c.args.batch.ops c.ops.ensures.fine (c.ops.ensures.plain c.requires));
+      rise = λ k. subst (λ (rows : Rows). AreRising (versions_in k (c.self.inside.layers.frozen ++ (put_rows c.self.inside.layers.active rows ∷ [])))) (sym rows)
+          (rise_more (view_of c.self.inside) plain c.self.inside.default_millis n c.args.now c.args.batch.ops c.self.invariant.tied.rows_within c.self.invariant.layers.rise k);
+    }
 
--- what the fields are after the call
-becomes : (c : goal.After-drop-batch-inside-2) → after_write (view_of c.self.inside) (c.self.inside.last + 1) c.args.now c.args.batch.ops c.put_all.new.self.rows c.push_reserved.new.self.spare
-    ≡ view_of (record c.self.inside { last = c.self.inside.last + 1; journal = c.push_reserved.new.self; active = c.put_all.new.self })
-becomes c = same_model _ _ refl commits refl refl refl refl (sym journal) refl refl refl refl
-  where
-    journal : c.push_reserved.new.self.events ≡ c.self.inside.journal.events ++ (events.Write (c.self.inside.last + 1) c.args.now c.args.batch.ops ∷ [])
-    journal = c.push_reserved.ensures.events ∙ (λ i. c.reserve_event.ensures.events i ++ (events.Write (c.self.inside.last + 1) (to_z-of_z w64 c.args.now c.ranges.now i) ((c.from_vec.ensures ∙ c.in_ok-ops.ensures.ops) i) ∷ []))
-
-    commits : (view_of c.self.inside).state.commits ++ (record { seq = c.self.inside.last + 1; now = c.args.now; ops = c.args.batch.ops; tracked = batch_keys c.args.batch.ops } ∷ []) ≡ (replay c.push_reserved.new.self.events).commits
-    commits = sym (ap (λ es. (replay es).commits) journal ∙ ap (λ s. s.commits) (apply_more _ c.self.inside.journal.events (events.Write (c.self.inside.last + 1) c.args.now c.args.batch.ops)))
+pub push_write-requires : goal.push_write-requires
+push_write-requires c = record {
+  place = has_place c.self.inside.log c.reserve.new.self c.reserve.ensures.value c.in_ok-reserve.ensures.room c.in_ok-place.ensures.place;
+  next = subst (λ (l : LogModel). l.last < 2 ^ 64 - 2) (sym c.reserve.ensures.value) (let h : c.self.inside.log.last < 2 ^ 64 - 2 = omega (arith, c.last.ensures) in h);
+  kept = subst IsWhollyKept (sym (c.from_vec.ensures ∙ c.in_ok-ops.ensures.ops)) (record { some = some_ops c.args.batch.ops (λ e. let t : true ≡ false = sym (c.is_empty.ensures.1 e) ∙ c.if-is_empty.false in cc); kept = c.ops.ensures.kept; fine = c.ops.ensures.fine });
+}
 
 pub invariant_of-self-2 : goal.invariant_of-self-2
 invariant_of-self-2 c =
-    subst (λ (v : CoreModel). IsWhole v (c.self.inside.last + 1) c.self.inside.ids c.self.inside.runs c.self.inside.tables.items) (becomes c)
-    (whole_write (view_of c.self.inside) c.self.inside.last c.self.inside.ids _ _ c.args.now c.args.batch.ops c.put_all.new.self.rows c.push_reserved.new.self.spare
-    (omega (arith, c.in_ok-reserve_event.ensures.room, c.push_reserved.ensures.spare, c.len.ensures.len))
-    (omega (arith, c.in_ok-reserve_event.ensures.place, c.len.ensures.len))
-    (fits c)
-    (record { some = some_ops c.args.batch.ops (some c); kept = c.ops.ensures.kept; fine = c.ops.ensures.fine })
-    (subst AreInOrder (sym (rows_are c plain)) (order_puts c.self.inside.active.rows (commit_rows plain c.self.inside.default_millis (c.self.inside.last + 1) c.args.now c.args.batch.ops) c.self.invariant.active_order))
-    (λ e. some_more plain c.self.inside.default_millis (c.self.inside.last + 1) c.args.now c.args.batch.ops c.self.inside.active.rows (some c) (sym (rows_are c plain) ∙ e))
-    (subst (AllByRecursion FitsMemory) (sym (rows_are c plain)) (puts_all FitsMemory c.self.inside.active.rows _ (active_part (λ rows. AllByRecursion FitsMemory rows) c.self.invariant.rows_fit) (commit_fits plain c.self.inside.default_millis (c.self.inside.last + 1) c.args.now c.args.batch.ops c.ops.ensures.fine (c.ops.ensures.plain c.requires))))
-    (subst (AllByRecursion (λ r. r.seq ≤ c.self.inside.last + 1)) (sym (rows_are c plain)) (puts_all _ c.self.inside.active.rows _ (all_map _ _ (λ r h. wider r.seq h) _ (active_part (λ rows. AllByRecursion (λ r. r.seq ≤ c.self.inside.last) rows) c.self.invariant.rows_within)) (commit_within plain c.self.inside.default_millis (c.self.inside.last + 1) c.args.now c.args.batch.ops)))
-    (λ k. subst (λ (rows : Rows). AreRising (versions_in k ((view_of c.self.inside).frozen ++ (rows ∷ [])))) (sym (rows_are c plain)) (rise_more (view_of c.self.inside) plain c.self.inside.default_millis c.self.inside.last c.args.now c.args.batch.ops c.self.invariant.rows_within c.self.invariant.rows_rise k))
-    c.self.invariant)
-  where
-    active_part : (P : Rows → Type 0) → AllByRecursion P (memory (view_of c.self.inside)) → P c.self.inside.active.rows
-    active_part P h = (all_behind P (view_of c.self.inside).frozen (c.self.inside.active.rows ∷ []) h).0
-
-    wider : (m : ℕ) → m ≤ c.self.inside.last → m ≤ c.self.inside.last + 1
-    wider m h = omega arith
+    let n : ℕ = c.self.inside.log.last in
+    let rows : c.in_ok-rows.rows.items ≡ commit_rows plain c.self.inside.default_millis (n + 1) c.args.now c.args.batch.ops =
+    made plain c.self.inside.default_millis (n + 1) (c.last-seq.result + 1) _ c.args.now c.args.batch.ops c.in_ok-rows.rows.items (c.in_ok-rows.ensures.rows plain) (ap (λ n. n + 1) (c.last-seq.ensures ∙ ap (λ (l : LogModel). l.last) c.reserve.ensures.value)) (to_z-of_z w64 c.args.now c.ranges.now) in
+    let layers : c.put.new.self ≡ record c.self.inside.layers { active = put_rows c.self.inside.layers.active (commit_rows plain c.self.inside.default_millis (n + 1) c.args.now c.args.batch.ops) } =
+    c.in_ok-put.ensures.value ∙ ap (λ rs. record c.self.inside.layers { active = put_rows c.self.inside.layers.active rs }) rows in
+    let log : c.push_write.new.self ≡ with_write c.self.inside.log c.args.now c.args.batch.ops c.push_write.new.self.spare =
+    c.push_write.ensures.value ∙ (λ i. with_write (c.reserve.ensures.value i) (to_z-of_z w64 c.args.now c.ranges.now i) ((c.from_vec.ensures ∙ c.in_ok-ops.ensures.ops) i) c.push_write.new.self.spare) in
+    subst IsWholeInside (written_is c.self.inside c.reserve.new.self c.push_write.new.self c.put.new.self c.args.now _ c.args.batch.ops _ _ c.reserve.ensures.value (to_z-of_z w64 c.args.now c.ranges.now) (c.from_vec.ensures ∙ c.in_ok-ops.ensures.ops) c.push_write.ensures.value layers)
+    (whole_write (view_of c.self.inside) (unseen_of c.self.inside) c.args.now c.args.batch.ops (put_rows c.self.inside.layers.active (commit_rows plain c.self.inside.default_millis (n + 1) c.args.now c.args.batch.ops)) c.push_write.new.self.spare
+    (some_more plain c.self.inside.default_millis (n + 1) c.args.now c.args.batch.ops c.self.inside.layers.active (λ e. let t : true ≡ false = sym (c.is_empty.ensures.1 e) ∙ c.if-is_empty.false in cc))
+    (puts_all _ c.self.inside.layers.active _ (all_map _ _ (λ r h. higher n r.seq h) _ (all_behind (λ rows. AllByRecursion (λ r. r.seq ≤ n) rows) c.self.inside.layers.frozen (c.self.inside.layers.active ∷ []) c.self.invariant.tied.rows_within).0) (commit_within plain c.self.inside.default_millis (n + 1) c.args.now c.args.batch.ops))
+    (subst IsLog log c.push_write.ensures.whole) (subst AreLayers layers c.put.ensures.whole) c.self.invariant)
 
 pub returns : goal.returns
 returns c =
+    let n : ℕ = c.self.inside.log.last in
+    let seq : c.last-seq.result + 1 ≡ n + 1 = ap (λ n. n + 1) (c.last-seq.ensures ∙ ap (λ (l : LogModel). l.last) c.reserve.ensures.value) in
+    let rows_of : (f : List ℕ → Combine) → c.in_ok-rows.rows.items ≡ commit_rows f c.self.inside.default_millis (n + 1) c.args.now c.args.batch.ops =
+    λ f. made f c.self.inside.default_millis (n + 1) (c.last-seq.result + 1) _ c.args.now c.args.batch.ops c.in_ok-rows.rows.items (c.in_ok-rows.ensures.rows f) seq (to_z-of_z w64 c.args.now c.ranges.now) in
+    let written : Rows = put_rows c.self.inside.layers.active (commit_rows plain c.self.inside.default_millis (n + 1) c.args.now c.args.batch.ops) in
+    let layers : c.put.new.self ≡ record c.self.inside.layers { active = put_rows c.self.inside.layers.active (commit_rows plain c.self.inside.default_millis (n + 1) c.args.now c.args.batch.ops) } =
+    c.in_ok-put.ensures.value ∙ ap (λ rs. record c.self.inside.layers { active = put_rows c.self.inside.layers.active rs }) (rows_of plain) in
+    let becomes = written_is c.self.inside c.reserve.new.self c.push_write.new.self c.put.new.self c.args.now _ c.args.batch.ops _ _ c.reserve.ensures.value (to_z-of_z w64 c.args.now c.ranges.now) (c.from_vec.ensures ∙ c.in_ok-ops.ensures.ops) c.push_write.ensures.value layers in
+    let below : n < 2 ^ 64 - 2 = omega (arith, c.last.ensures) in
     record {
       step = (λ m ops of fine.
           sym (ap (λ (v : CoreModel). step (rules_of v.settings m) (at c.args.now v.state) (lines.Write ops)) c.self.view_is)
-          ∙ step_plain (rules_of (view_of c.self.inside).settings m) (at c.args.now (view_of c.self.inside).state) ops c.args.batch c.self.inside.last of (some c) c.requires fine refl c.self.invariant.last (fits c)
-          ∙ (λ i. (at c.args.now (becomes c i).state, Written (Some (c.self.inside.last + 1)))));
+          ∙ step_plain (rules_of (view_of c.self.inside).settings m) (at c.args.now (view_of c.self.inside).state) ops c.args.batch n of (λ e. let t : true ≡ false = sym (c.is_empty.ensures.1 e) ∙ c.if-is_empty.false in cc) c.requires fine refl c.self.invariant.log.last below
+          ∙ (let s = sym seq in λ i. (at c.args.now (view_of (becomes i)).state, Written (Some (s i)))));
       refused = tt;
-      event = sym (becomes c) ∙ ap (λ (v : CoreModel). after_write v (c.self.inside.last + 1) c.args.now c.args.batch.ops c.put_all.new.self.rows c.push_reserved.new.self.spare) c.self.view_is;
+      event = sym (ap view_of becomes) ∙ ap (λ (v : CoreModel). after_write v (n + 1) c.args.now c.args.batch.ops (put_rows c.self.inside.layers.active (commit_rows plain c.self.inside.default_millis (n + 1) c.args.now c.args.batch.ops)) c.push_write.new.self.spare) c.self.view_is
+          ∙ (let s = sym seq in let rows = sym (ap (λ (y : LayersModel). y.active) layers) in λ i. after_write c.args.self.now (s i) c.args.now c.args.batch.ops (rows i) c.push_write.new.self.spare);
       kept = (λ m k.
           let old : IsKept m (view_of c.self.inside) = subst (λ (v : CoreModel). IsKept m v) (sym c.self.view_is) k in
-          subst (λ (v : CoreModel). IsKept m v) (becomes c)
-          (kept_write m (view_of c.self.inside) c.self.inside.last c.self.inside.ids _ _ c.args.now c.args.batch.ops c.put_all.new.self.rows c.push_reserved.new.self.spare
-          (λ j. ap (versions j) (rows_are c (combine_of m)) ∙ versions_more (combine_of m) c.self.inside.default_millis (c.self.inside.last + 1) c.args.now c.args.batch.ops c.self.inside.active.rows j (active_within m (view_of c.self.inside) c.self.inside.last c.self.inside.ids _ _ c.self.invariant old j))
+          subst (λ (s : Inside). IsKept m (view_of s)) becomes
+          (kept_write m (view_of c.self.inside) (unseen_of c.self.inside) c.args.now c.args.batch.ops _ c.push_write.new.self.spare
+          (λ j. ap (λ rs. versions j (put_rows c.self.inside.layers.active rs)) (sym (rows_of plain) ∙ rows_of (combine_of m)) ∙ versions_more (combine_of m) c.self.inside.default_millis (n + 1) c.args.now c.args.batch.ops c.self.inside.layers.active j (active_within m (view_of c.self.inside) (unseen_of c.self.inside) c.self.invariant old j))
           c.self.invariant old));
       load = (λ ops of.
-          subst (λ (v : CoreModel). load (view_of (record c.self.inside { last = c.self.inside.last + 1; journal = c.push_reserved.new.self; active = c.put_all.new.self })) ≤ load v + ops_load ops) c.self.view_is
-          (subst (λ (rows : Rows). sum_by rows_load ((view_of c.self.inside).frozen ++ (rows ∷ [])) ≤ load (view_of c.self.inside) + ops_load ops) (sym (rows_are c plain))
-          (write_load (view_of c.self.inside) plain c.self.inside.default_millis (c.self.inside.last + 1) c.args.now c.args.batch.ops ops (c.ops.ensures.plain c.requires) of.0)));
+          subst (λ (v : CoreModel). load (view_of (record c.self.inside { log = c.push_write.new.self; layers = c.put.new.self })) ≤ load v + ops_load ops) c.self.view_is
+          (subst (λ (s : Inside). load (view_of s) ≤ load (view_of c.self.inside) + ops_load ops) becomes
+          (write_load (view_of c.self.inside) plain c.self.inside.default_millis (n + 1) c.args.now c.args.batch.ops ops (c.ops.ensures.plain c.requires) of.0)));
       same = tt;
       idle = λ none. absurd (true≢false (sym (c.is_empty.ensures.1 none) ∙ c.if-is_empty.false));
-      exhausted = λ some full. let last : c.self.inside.last ≡ 2 ^ 64 - 2 = c.self.invariant.last ∙ ap (λ (v : CoreModel). last_of v.settings.start_seq v.state.commits) c.self.view_is ∙ full in absurd (omega (arith, last));
-      limit = λ some below past. let place = subst (λ (v : CoreModel). LIMIT < length v.events + length v.state.txns + 1) (sym c.self.view_is) past in absurd (omega (arith, c.in_ok-reserve_event.ensures.place, c.len.ensures.len, place));
+      exhausted = λ some. none_left (view_of c.self.inside) c.args.self.now (unseen_of c.self.inside) (2 ^ 64 - 2) c.self.view_is c.self.invariant below;
+      limit = λ some below. placed (view_of c.self.inside) c.args.self.now (unseen_of c.self.inside) 1 c.self.view_is c.self.invariant c.in_ok-place.ensures.place;
       cause = tt;
     }
 
-pub returns-in_err-reserve_event-clause-step : goal.returns-in_err-reserve_event-clause-step
-returns-in_err-reserve_event-clause-step c = IfOk-from_err c.from_residual.result _ c.from_residual.ensures.0
+-- ---- refusals: at most room was made
 
-pub returns-in_err-reserve_event-clause-event : goal.returns-in_err-reserve_event-clause-event
-returns-in_err-reserve_event-clause-event c = IfOk-from_err c.from_residual.result _ c.from_residual.ensures.0
+pub invariant_of-self : goal.invariant_of-self
+invariant_of-self c = room_in_log c.self.inside c.reserve.new.self c.reserve.ensures.value c.reserve.ensures.whole c.self.invariant
 
-pub returns-in_err-reserve_event-clause-kept : goal.returns-in_err-reserve_event-clause-kept
-returns-in_err-reserve_event-clause-kept c = IfOk-from_err c.from_residual.result _ c.from_residual.ensures.0
+pub invariant_of-self-in_err-rows : goal.invariant_of-self-in_err-rows
+invariant_of-self-in_err-rows c = room_in_log c.self.inside c.reserve.new.self c.reserve.ensures.value c.reserve.ensures.whole c.self.invariant
+
+pub invariant_of-self-in_err-ops : goal.invariant_of-self-in_err-ops
+invariant_of-self-in_err-ops c = room_in_log c.self.inside c.reserve.new.self c.reserve.ensures.value c.reserve.ensures.whole c.self.invariant
+
+pub invariant_of-self-in_err-put : goal.invariant_of-self-in_err-put
+invariant_of-self-in_err-put c = subst IsWholeInside (ap (λ (y : LayersModel). record c.self.inside { log = c.reserve.new.self; layers = y }) (sym c.in_err-put.ensures.same))
+    (room_in_log c.self.inside c.reserve.new.self c.reserve.ensures.value c.reserve.ensures.whole c.self.invariant)
+
+pub returns-in_err-place : goal.returns-in_err-place
+returns-in_err-place c =
+    let p = err_from_is_err_and c.from_residual.result c.from_residual.ensures.1 in
+    let limit = c.in_err-place.ensures.limit in
+    let below : c.self.inside.log.last < 2 ^ 64 - 2 = omega (arith, c.last.ensures) in
+    record {
+      step = IfOk-from_err c.from_residual.result _ c.from_residual.ensures.0;
+      refused = rw (p.1, p.2) (inr (inl limit.0));
+      event = IfOk-from_err c.from_residual.result _ c.from_residual.ensures.0;
+      kept = IfOk-from_err c.from_residual.result _ c.from_residual.ensures.0;
+      load = λ ops of. IfOk-from_err c.from_residual.result _ c.from_residual.ensures.0;
+      same = rw p.1 refl;
+      idle = λ none. absurd (true≢false (sym (c.is_empty.ensures.1 none) ∙ c.if-is_empty.false));
+      exhausted = λ some. none_left (view_of c.self.inside) c.args.self.now (unseen_of c.self.inside) (2 ^ 64 - 2) c.self.view_is c.self.invariant below;
+      limit = λ some below past. p.1 ∙ ap Err (p.2 ∙ limit.0);
+      cause = rw (p.1, p.2) (inr (inr (limit.0, past_place (view_of c.self.inside) c.args.self.now (unseen_of c.self.inside) 1 c.self.view_is c.self.invariant limit.1)));
+    }
+
+pub returns-in_err-reserve : goal.returns-in_err-reserve
+returns-in_err-reserve c =
+    let p = err_from_is_err_and c.from_residual-in_err-reserve.result c.from_residual-in_err-reserve.ensures.1 in
+    let below : c.self.inside.log.last < 2 ^ 64 - 2 = omega (arith, c.last.ensures) in
+    record {
+      step = IfOk-from_err c.from_residual-in_err-reserve.result _ c.from_residual-in_err-reserve.ensures.0;
+      refused = rw (p.1, p.2) (inl refl);
+      event = IfOk-from_err c.from_residual-in_err-reserve.result _ c.from_residual-in_err-reserve.ensures.0;
+      kept = IfOk-from_err c.from_residual-in_err-reserve.result _ c.from_residual-in_err-reserve.ensures.0;
+      load = λ ops of. IfOk-from_err c.from_residual-in_err-reserve.result _ c.from_residual-in_err-reserve.ensures.0;
+      same = rw p.1 (subst (λ (v : CoreModel). IsSame v (view_of (record c.self.inside { log = c.reserve.new.self }))) c.self.view_is (room_made c.self.inside c.reserve.new.self c.reserve.ensures.value));
+      idle = λ none. absurd (true≢false (sym (c.is_empty.ensures.1 none) ∙ c.if-is_empty.false));
+      exhausted = λ some. none_left (view_of c.self.inside) c.args.self.now (unseen_of c.self.inside) (2 ^ 64 - 2) c.self.view_is c.self.invariant below;
+      limit = λ some below. placed (view_of c.self.inside) c.args.self.now (unseen_of c.self.inside) 1 c.self.view_is c.self.invariant c.in_ok-place.ensures.place;
+      cause = rw (p.1, p.2) (inl refl);
+    }
 
 pub returns-in_err-rows : goal.returns-in_err-rows
 returns-in_err-rows c =
     let p = err_from_is_err_and c.from_residual-in_err-rows.result c.from_residual-in_err-rows.ensures.1 in
+    let below : c.self.inside.log.last < 2 ^ 64 - 2 = omega (arith, c.last.ensures) in
     record {
       step = IfOk-from_err c.from_residual-in_err-rows.result _ c.from_residual-in_err-rows.ensures.0;
       refused = rw (p.1, p.2) (inl c.in_err-rows.ensures.cause);
       event = IfOk-from_err c.from_residual-in_err-rows.result _ c.from_residual-in_err-rows.ensures.0;
       kept = IfOk-from_err c.from_residual-in_err-rows.result _ c.from_residual-in_err-rows.ensures.0;
       load = λ ops of. IfOk-from_err c.from_residual-in_err-rows.result _ c.from_residual-in_err-rows.ensures.0;
-      same = rw p.1 (subst (λ (v : CoreModel). IsSame v (view_of (record c.self.inside { journal = c.reserve_event.new.journal }))) c.self.view_is (room_made c.self.inside c.reserve_event.new.journal c.reserve_event.ensures.events));
+      same = rw p.1 (subst (λ (v : CoreModel). IsSame v (view_of (record c.self.inside { log = c.reserve.new.self }))) c.self.view_is (room_made c.self.inside c.reserve.new.self c.reserve.ensures.value));
       idle = λ none. absurd (true≢false (sym (c.is_empty.ensures.1 none) ∙ c.if-is_empty.false));
-      exhausted = λ some full. let last : c.self.inside.last ≡ 2 ^ 64 - 2 = c.self.invariant.last ∙ ap (λ (v : CoreModel). last_of v.settings.start_seq v.state.commits) c.self.view_is ∙ full in absurd (omega (arith, last));
-      limit = λ some below past. let place = subst (λ (v : CoreModel). LIMIT < length v.events + length v.state.txns + 1) (sym c.self.view_is) past in absurd (omega (arith, c.in_ok-reserve_event.ensures.place, c.len.ensures.len, place));
+      exhausted = λ some. none_left (view_of c.self.inside) c.args.self.now (unseen_of c.self.inside) (2 ^ 64 - 2) c.self.view_is c.self.invariant below;
+      limit = λ some below. placed (view_of c.self.inside) c.args.self.now (unseen_of c.self.inside) 1 c.self.view_is c.self.invariant c.in_ok-place.ensures.place;
       cause = rw (p.1, p.2) (inl c.in_err-rows.ensures.cause);
     }
 
 pub returns-in_err-ops : goal.returns-in_err-ops
 returns-in_err-ops c =
     let p = err_from_is_err_and c.from_residual-in_err-ops.result c.from_residual-in_err-ops.ensures.1 in
+    let below : c.self.inside.log.last < 2 ^ 64 - 2 = omega (arith, c.last.ensures) in
     record {
       step = IfOk-from_err c.from_residual-in_err-ops.result _ c.from_residual-in_err-ops.ensures.0;
       refused = rw (p.1, p.2) (inl c.in_err-ops.ensures.cause);
       event = IfOk-from_err c.from_residual-in_err-ops.result _ c.from_residual-in_err-ops.ensures.0;
       kept = IfOk-from_err c.from_residual-in_err-ops.result _ c.from_residual-in_err-ops.ensures.0;
       load = λ ops of. IfOk-from_err c.from_residual-in_err-ops.result _ c.from_residual-in_err-ops.ensures.0;
-      same = rw p.1 (subst (λ (v : CoreModel). IsSame v (view_of (record c.self.inside { journal = c.reserve_event.new.journal }))) c.self.view_is (room_made c.self.inside c.reserve_event.new.journal c.reserve_event.ensures.events));
+      same = rw p.1 (subst (λ (v : CoreModel). IsSame v (view_of (record c.self.inside { log = c.reserve.new.self }))) c.self.view_is (room_made c.self.inside c.reserve.new.self c.reserve.ensures.value));
       idle = λ none. absurd (true≢false (sym (c.is_empty.ensures.1 none) ∙ c.if-is_empty.false));
-      exhausted = λ some full. let last : c.self.inside.last ≡ 2 ^ 64 - 2 = c.self.invariant.last ∙ ap (λ (v : CoreModel). last_of v.settings.start_seq v.state.commits) c.self.view_is ∙ full in absurd (omega (arith, last));
-      limit = λ some below past. let place = subst (λ (v : CoreModel). LIMIT < length v.events + length v.state.txns + 1) (sym c.self.view_is) past in absurd (omega (arith, c.in_ok-reserve_event.ensures.place, c.len.ensures.len, place));
+      exhausted = λ some. none_left (view_of c.self.inside) c.args.self.now (unseen_of c.self.inside) (2 ^ 64 - 2) c.self.view_is c.self.invariant below;
+      limit = λ some below. placed (view_of c.self.inside) c.args.self.now (unseen_of c.self.inside) 1 c.self.view_is c.self.invariant c.in_ok-place.ensures.place;
       cause = rw (p.1, p.2) (inl c.in_err-ops.ensures.cause);
     }
 
-pub returns-in_err-put_all : goal.returns-in_err-put_all
-returns-in_err-put_all c =
-    let p = err_from_is_err_and c.from_residual-in_err-put_all.result c.from_residual-in_err-put_all.ensures.1 in
+pub returns-in_err-put : goal.returns-in_err-put
+returns-in_err-put c =
+    let p = err_from_is_err_and c.from_residual-in_err-put.result c.from_residual-in_err-put.ensures.1 in
+    let below : c.self.inside.log.last < 2 ^ 64 - 2 = omega (arith, c.last.ensures) in
     record {
-      step = IfOk-from_err c.from_residual-in_err-put_all.result _ c.from_residual-in_err-put_all.ensures.0;
-      refused = rw (p.1, p.2) (inl c.in_err-put_all.ensures.cause);
-      event = IfOk-from_err c.from_residual-in_err-put_all.result _ c.from_residual-in_err-put_all.ensures.0;
-      kept = IfOk-from_err c.from_residual-in_err-put_all.result _ c.from_residual-in_err-put_all.ensures.0;
-      load = λ ops of. IfOk-from_err c.from_residual-in_err-put_all.result _ c.from_residual-in_err-put_all.ensures.0;
-      same = rw p.1 (subst (λ (t : MemTableModel). IsSame c.args.self.now (view_of (record c.self.inside { journal = c.reserve_event.new.journal; active = t }))) (sym c.in_err-put_all.ensures.same) (subst (λ (v : CoreModel). IsSame v (view_of (record c.self.inside { journal = c.reserve_event.new.journal }))) c.self.view_is (room_made c.self.inside c.reserve_event.new.journal c.reserve_event.ensures.events)));
+      step = IfOk-from_err c.from_residual-in_err-put.result _ c.from_residual-in_err-put.ensures.0;
+      refused = rw (p.1, p.2) (inl c.in_err-put.ensures.cause);
+      event = IfOk-from_err c.from_residual-in_err-put.result _ c.from_residual-in_err-put.ensures.0;
+      kept = IfOk-from_err c.from_residual-in_err-put.result _ c.from_residual-in_err-put.ensures.0;
+      load = λ ops of. IfOk-from_err c.from_residual-in_err-put.result _ c.from_residual-in_err-put.ensures.0;
+      same = rw p.1 (ap (λ (y : LayersModel). view_of (record c.self.inside { log = c.reserve.new.self; layers = y })) c.in_err-put.ensures.same ∙ subst (λ (v : CoreModel). IsSame v (view_of (record c.self.inside { log = c.reserve.new.self }))) c.self.view_is (room_made c.self.inside c.reserve.new.self c.reserve.ensures.value));
       idle = λ none. absurd (true≢false (sym (c.is_empty.ensures.1 none) ∙ c.if-is_empty.false));
-      exhausted = λ some full. let last : c.self.inside.last ≡ 2 ^ 64 - 2 = c.self.invariant.last ∙ ap (λ (v : CoreModel). last_of v.settings.start_seq v.state.commits) c.self.view_is ∙ full in absurd (omega (arith, last));
-      limit = λ some below past. let place = subst (λ (v : CoreModel). LIMIT < length v.events + length v.state.txns + 1) (sym c.self.view_is) past in absurd (omega (arith, c.in_ok-reserve_event.ensures.place, c.len.ensures.len, place));
-      cause = rw (p.1, p.2) (inl c.in_err-put_all.ensures.cause);
+      exhausted = λ some. none_left (view_of c.self.inside) c.args.self.now (unseen_of c.self.inside) (2 ^ 64 - 2) c.self.view_is c.self.invariant below;
+      limit = λ some below. placed (view_of c.self.inside) c.args.self.now (unseen_of c.self.inside) 1 c.self.view_is c.self.invariant c.in_ok-place.ensures.place;
+      cause = rw (p.1, p.2) (inl c.in_err-put.ensures.cause);
     }
-
-pub returns-in_err-reserve_event-clause-load : goal.returns-in_err-reserve_event-clause-load
-returns-in_err-reserve_event-clause-load c = λ ops of. IfOk-from_err c.from_residual.result _ c.from_residual.ensures.0
-
-pub returns-in_err-reserve_event-clause-same : goal.returns-in_err-reserve_event-clause-same
-returns-in_err-reserve_event-clause-same c = let p = err_from_is_err_and c.from_residual.result c.from_residual.ensures.1 in rw p.1 (subst (λ (v : CoreModel). IsSame v (view_of (record c.self.inside { journal = c.reserve_event.new.journal }))) c.self.view_is (room_made c.self.inside c.reserve_event.new.journal c.reserve_event.ensures.events))
-
-pub returns-in_err-reserve_event-clause-idle : goal.returns-in_err-reserve_event-clause-idle
-returns-in_err-reserve_event-clause-idle c = λ none. absurd (true≢false (sym (c.is_empty.ensures.1 none) ∙ c.if-is_empty.false))
-
-pub returns-in_err-reserve_event-clause-exhausted : goal.returns-in_err-reserve_event-clause-exhausted
-returns-in_err-reserve_event-clause-exhausted c = λ some full. let last : c.self.inside.last ≡ 2 ^ 64 - 2 = c.self.invariant.last ∙ ap (λ (v : CoreModel). last_of v.settings.start_seq v.state.commits) c.self.view_is ∙ full in absurd (omega (arith, last))

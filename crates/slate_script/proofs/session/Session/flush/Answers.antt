@@ -9,7 +9,7 @@ use Rattle.slate_db.specs.Answered.{AddsTables}
 use Rattle.slate_db.specs.Flushed.{layout_of}
 use Rattle.slate_db.specs.Installs.{tables_of}
 use Rattle.slate_db.specs.Parts.{meaning_of}
-use Rattle.slate_db.specs.Whole.{LIMIT}
+use Rattle.slate_db.specs.Log.{LIMIT}
 use Rattle.slate_language.specs.declared.reply.Answer.TheVariants as answers
 use Rattle.slate_script.specs.Session.{SessionModel, AnswersAs, Grows, HasTablesAlone, IsLimit, IsSettled}
 use Rattle.slate_script.proofs.SessionParts.{flush-cause, has-room}

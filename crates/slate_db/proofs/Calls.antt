@@ -1,0 +1,125 @@
+-- What a core's calls make of its parts.
+--     placed, past_place      whether the journal has a place for so many events more
+--     room_in_log, room_to_freeze, room_for_table      room was made
+--     begun_is, ended_is, frozen_is, written_is, installed_is      the parts after a call, from what is said of each
+use Rattle.std.proofs.Common.{◌≡◌, ℕ, ◌+◌, ◌≤◌, ◌<◌, List, [], ◌∷◌, ◌++◌, length, ℤ, refl, sym, ap, subst, ◌∙◌, arith}
+use Rattle.slate_types.specs.declared.config.IsolationLevel.{IsolationLevel}
+use Rattle.slate_types.specs.declared.types.Ulid.{Ulid}
+use Rattle.slate_table.specs.declared.info.SsTableHandle.{SsTableHandle}
+use Rattle.slate_mem.specs.Batch.{Ops}
+use Rattle.slate_txn.specs.declared.event.Event.TheVariants as events
+use Rattle.slate_txn.specs.Ids.{id_of}
+use Rattle.slate_txn.specs.Named.{find_named, without}
+use Rattle.slate_txn.specs.Open.{Transactions}
+use Rattle.slate_txn.specs.State.{begun, last_of}
+use Rattle.slate_db.specs.declared.engine.Core.TheInside.{Inside}
+use Rattle.slate_db.specs.Layers.{LayersModel}
+use Rattle.slate_db.specs.Log.{IsLog, LogModel, LIMIT, with_begin, with_end, with_freeze, with_write, with_install}
+use Rattle.slate_db.specs.Model.{CoreModel, Rows}
+use Rattle.slate_db.specs.View.{view_of, unseen_of, IsWholeInside}
+use Rattle.slate_db.specs.Whole.{IsWhole, Unseen}
+use Rattle.slate_db.proofs.Wholes.{ends_are, taken_back, whole_room}
+
+-- ---- places
+
+pub placed : {A : Type 0} (c d : CoreModel) (x : Unseen) (n : ℕ) → c ≡ d → IsWhole c x → length c.events + x.ends + n ≤ LIMIT → LIMIT < length d.events + length d.state.txns + n → A
+placed c d x n same w place past =
+    let over : LIMIT < length c.events + length c.state.txns + n = subst (λ (v : CoreModel). LIMIT < length v.events + length v.state.txns + n) (sym same) past in
+    absurd (omega (arith, ends_are c x w))
+
+pub past_place : (c d : CoreModel) (x : Unseen) (n : ℕ) → c ≡ d → IsWhole c x → LIMIT < length c.events + x.ends + n → LIMIT < length d.events + length d.state.txns + n
+past_place c d x n same w past =
+    let over : LIMIT < length c.events + length c.state.txns + n = omega (arith, ends_are c x w) in
+    subst (λ (v : CoreModel). LIMIT < length v.events + length v.state.txns + n) same over
+
+pub place_in : (c d : CoreModel) (x : Unseen) (n : ℕ) → c ≡ d → IsWhole c x → length d.events + length d.state.txns + n ≤ LIMIT → length c.events + x.ends + n ≤ LIMIT
+place_in c d x n same w place =
+    let free : length c.events + length c.state.txns + n ≤ LIMIT = subst (λ (v : CoreModel). length v.events + length v.state.txns + n ≤ LIMIT) (sym same) place in
+    omega (arith, ends_are c x w)
+
+-- no sequence is left, and one is
+pub none_left : {A : Type 0} (c d : CoreModel) (x : Unseen) (n : ℕ) → c ≡ d → IsWhole c x → x.last < n → last_of d.settings.start_seq d.state.commits ≡ n → A
+none_left c d x n same w below full =
+    let last : x.last ≡ n = w.log.last ∙ ap (λ (v : CoreModel). last_of v.settings.start_seq v.state.commits) same ∙ full in
+    absurd (omega arith)
+
+-- ---- room
+
+pub room_in_log : (s : Inside) (l : LogModel) → l ≡ record s.log { spare = l.spare } → IsLog l → IsWholeInside s → IsWholeInside (record s { log = l })
+room_in_log s l is log w =
+    subst IsWholeInside (ap (λ (x : LogModel). record s { log = x }) (sym is)) (whole_room (view_of s) (unseen_of s) l.spare s.layers.for_freeze s.layers.for_table (subst IsLog is log) w)
+
+pub room_to_freeze : (s : Inside) (y : LayersModel) → y ≡ record s.layers { for_freeze = y.for_freeze } → IsWholeInside s → IsWholeInside (record s { layers = y })
+room_to_freeze s y is w =
+    subst IsWholeInside (ap (λ (x : LayersModel). record s { layers = x }) (sym is)) (whole_room (view_of s) (unseen_of s) s.log.spare y.for_freeze s.layers.for_table w.log w)
+
+pub room_for_table : (s : Inside) (y : LayersModel) → y ≡ record s.layers { for_table = y.for_table } → IsWholeInside s → IsWholeInside (record s { layers = y })
+room_for_table s y is w =
+    subst IsWholeInside (ap (λ (x : LayersModel). record s { layers = x }) (sym is)) (whole_room (view_of s) (unseen_of s) s.log.spare s.layers.for_freeze y.for_table w.log w)
+
+-- no contract sees it
+pub unseen_freeze : (s : Inside) (y : LayersModel) → y ≡ record s.layers { for_freeze = y.for_freeze } → view_of (record s { layers = y }) ≡ view_of s
+unseen_freeze s y is = ap (λ (x : LayersModel). view_of (record s { layers = x })) is
+
+-- ---- a begin and an end
+
+pub begun_is : (s : Inside) (l : LogModel) (ts : Transactions) (level : IsolationLevel) (id : List ℕ) (at : ℕ) → id ≡ id_of (s.log.ids + 1) → at ≡ s.log.last → l ≡ with_begin s.log level l.spare → ts ≡ s.transactions ++ ((id, begun level at) ∷ []) →
+    record s { log = with_begin s.log level l.spare; transactions = s.transactions ++ ((id_of (s.log.ids + 1), begun level s.log.last) ∷ []) } ≡ record s { log = l; transactions = ts }
+begun_is s l ts level id at ids ats log txns =
+    let a = sym log in
+    let b : s.transactions ++ ((id_of (s.log.ids + 1), begun level s.log.last) ∷ []) ≡ ts = sym (txns ∙ (λ i. s.transactions ++ ((ids i, begun level (ats i)) ∷ []))) in
+    λ i. record s { log = a i; transactions = b i }
+
+pub event_begun : (s : Inside) (c : CoreModel) (l : LogModel) (ts : Transactions) (level : IsolationLevel) (id : List ℕ) (at : ℕ) → view_of s ≡ c → id ≡ id_of (s.log.ids + 1) → at ≡ s.log.last → l ≡ with_begin s.log level l.spare →
+    view_of (record s { log = l; transactions = ts }) ≡ record c { state = (view_of (record s { log = l; transactions = ts })).state; events = c.events ++ (events.Begin id level at ∷ []); spare = l.spare }
+event_begun s c l ts level id at is ids ats log =
+    (λ i. record (view_of (record s { log = log i; transactions = ts })) { state = (view_of (record s { log = l; transactions = ts })).state })
+    ∙ (let a = sym ids in let b = sym ats in λ i. record (view_of s) { state = (view_of (record s { log = l; transactions = ts })).state; events = s.log.events ++ (events.Begin (a i) level (b i) ∷ []); spare = l.spare })
+    ∙ ap (λ (v : CoreModel). record v { state = (view_of (record s { log = l; transactions = ts })).state; events = v.events ++ (events.Begin id level at ∷ []); spare = l.spare }) is
+
+-- without room for the event it is taken out again
+pub unbegun_is : (s : Inside) (l : LogModel) (ts us : Transactions) (level : IsolationLevel) (id : List ℕ) (at : ℕ) → IsWholeInside s → id ≡ id_of (s.log.ids + 1) → at ≡ s.log.last → l ≡ s.log → ts ≡ s.transactions ++ ((id, begun level at) ∷ []) → us ≡ without id ts →
+    record s { log = l; transactions = us } ≡ s
+unbegun_is s l ts us level id at w ids ats log txns out =
+    let back : us ≡ s.transactions = out ∙ ap (without id) txns ∙ (λ i. without (ids i) (s.transactions ++ ((ids i, begun level (ats i)) ∷ []))) ∙ taken_back (view_of s) (unseen_of s) (begun level s.log.last) w in
+    λ i. record s { log = log i; transactions = back i }
+
+pub ended_is : (s : Inside) (l : LogModel) (ts : Transactions) (id : List ℕ) → l ≡ with_end s.log id l.spare → ts ≡ without id s.transactions →
+    record s { log = with_end s.log id l.spare; transactions = without id s.transactions } ≡ record s { log = l; transactions = ts }
+ended_is s l ts id log txns = let a = sym log in let b = sym txns in λ i. record s { log = a i; transactions = b i }
+
+pub event_ended : (s : Inside) (c : CoreModel) (l : LogModel) (ts : Transactions) (id : List ℕ) → view_of s ≡ c → l ≡ with_end s.log id l.spare →
+    view_of (record s { log = l; transactions = ts }) ≡ record c { state = (view_of (record s { log = l; transactions = ts })).state; events = c.events ++ (events.End id ∷ []); spare = l.spare }
+event_ended s c l ts id is log =
+    (λ i. record (view_of (record s { log = log i; transactions = ts })) { state = (view_of (record s { log = l; transactions = ts })).state })
+    ∙ ap (λ (v : CoreModel). record v { state = (view_of (record s { log = l; transactions = ts })).state; events = v.events ++ (events.End id ∷ []); spare = l.spare }) is
+
+-- ---- a freeze, a write, an install
+
+abbrev pub layers_frozen_of : LayersModel → ℕ → LayersModel
+layers_frozen_of y room = record y { active = []; frozen = y.frozen ++ (y.active ∷ []); for_freeze = room }
+
+pub frozen_is : (s : Inside) (l0 l : LogModel) (y0 y : LayersModel) → l0 ≡ record s.log { spare = l0.spare } → l ≡ with_freeze l0 l.spare → y0 ≡ record s.layers { for_freeze = y0.for_freeze } → y ≡ layers_frozen_of y0 y.for_freeze →
+    record s { log = with_freeze s.log l.spare; layers = layers_frozen_of s.layers y.for_freeze } ≡ record s { log = l; layers = y }
+frozen_is s l0 l y0 y room log fit layers =
+    let a = sym (log ∙ ap (λ (x : LogModel). with_freeze x l.spare) room) in
+    let b = sym (layers ∙ ap (λ (x : LayersModel). layers_frozen_of x y.for_freeze) fit) in
+    λ i. record s { log = a i; layers = b i }
+
+pub written_is : (s : Inside) (l0 l : LogModel) (y : LayersModel) (now at : ℤ) (ops made : Ops) (rows : Rows) → l0 ≡ record s.log { spare = l0.spare } → at ≡ now → made ≡ ops → l ≡ with_write l0 at made l.spare → y ≡ record s.layers { active = rows } →
+    record s { log = with_write s.log now ops l.spare; layers = record s.layers { active = rows } } ≡ record s { log = l; layers = y }
+written_is s l0 l y now at ops made rows room ats ops_are log layers =
+    let a = sym (log ∙ (λ i. with_write (room i) (ats i) (ops_are i) l.spare)) in
+    let b = sym layers in
+    λ i. record s { log = a i; layers = b i }
+
+abbrev pub layers_installed_of : LayersModel → SsTableHandle → ℕ → ℕ → ℕ → LayersModel
+layers_installed_of y h floor freeze table = record y { frozen = []; tables = y.tables ++ (h ∷ []); floor = floor; for_freeze = freeze; for_table = table }
+
+pub installed_is : (s : Inside) (l0 l : LogModel) (y0 y : LayersModel) (t : Ulid × List ℕ) (h : SsTableHandle) (barrier floor : ℕ) → l0 ≡ record s.log { spare = l0.spare } → l ≡ with_install l0 t l.spare → y0 ≡ record s.layers { for_table = y0.for_table } →
+    y ≡ layers_installed_of y0 h barrier y.for_freeze y.for_table → barrier ≡ floor →
+    record s { log = with_install s.log t l.spare; layers = layers_installed_of s.layers h floor y.for_freeze y.for_table } ≡ record s { log = l; layers = y }
+installed_is s l0 l y0 y t h barrier floor room log fit layers floors =
+    let a = sym (log ∙ ap (λ (x : LogModel). with_install x t l.spare) room) in
+    let b = sym (layers ∙ (λ i. layers_installed_of (fit i) h (floors i) y.for_freeze y.for_table)) in
+    λ i. record s { log = a i; layers = b i }

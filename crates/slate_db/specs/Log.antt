@@ -1,0 +1,113 @@
+-- The log of a core: its journal, and what is counted of it.
+--     LIMIT      the journal's events, with one more for whatever is open, are no more than these
+--     Rising n cs      each sequence is above those before
+--     AreFine ops, AreShortOps ops      no operation is refused by itself; the values are short
+--     IsWhollyKept ops      what a batch is that becomes a commit
+--     LogModel      what contracts see of a log
+--     ends_of s      what is open in a state, of which each will end
+--     held_by l      the journal's events, with one more for whatever is open
+--     IsLog l      what is true of every log; no commit lies between the last install and the last flush
+--     HasPlace more l      room was made for so many events more beside the ends, and the journal has a place for them
+--     with_begin, with_end, with_freeze, with_write, with_install, with_flush      the log after each
+use Rattle.std.specs.Prelude.{◌≡◌, ℕ, ◌+◌, ◌-◌, ◌^◌, ◌≤◌, ◌<◌, List, [], ◌∷◌, ◌++◌, length, None, ℤ}
+use Rattle.std.specs.List.{AllByRecursion}
+use Rattle.slate_types.specs.declared.config.IsolationLevel.{IsolationLevel}
+use Rattle.slate_types.specs.declared.types.Ulid.{Ulid}
+use Rattle.slate_types.specs.Fold.{IsShort}
+use Rattle.slate_types.specs.Rows.{bytes_of}
+use Rattle.slate_mem.specs.Batch.{Ops, batch_keys, kept_ops, op_value}
+use Rattle.slate_mem.specs.Refusals.{op_refusal}
+use Rattle.slate_txn.specs.declared.event.Event.{Event}
+use Rattle.slate_txn.specs.declared.event.Event.TheVariants as events
+use Rattle.slate_txn.specs.Ids.{id_of, IsOfCount}
+use Rattle.slate_txn.specs.Reads.{up_to}
+use Rattle.slate_txn.specs.Replay.{replay, used_from, IsLegal}
+use Rattle.slate_txn.specs.State.{Commit, State, last_of}
+use Rattle.slate_db.specs.Installs.{tables_of, installed, NumberedFrom}
+
+abbrev pub LIMIT : ℕ
+LIMIT = 9223372036854775807
+
+abbrev pub Rising : ℕ → List Commit → Type 0
+Rising n [] = Unit {0}
+Rising n (c ∷ cs) = (n < c.seq) × Rising c.seq cs
+
+-- no operation is refused by itself: keys are keys, and values are short
+abbrev pub AreFine : Ops → Type 0
+AreFine ops = AllByRecursion (λ o. op_refusal o.0 o.1 ≡ None) ops
+
+abbrev pub AreShortOps : Ops → Type 0
+AreShortOps ops = AllByRecursion (λ o. IsShort (bytes_of (op_value o.1))) ops
+
+pub record IsWhollyKept (ops : Ops) : Type 0 where
+  pub some : 0 < length ops
+  pub kept : kept_ops ops ≡ ops
+  pub fine : AreFine ops
+
+-- start: where sequences start; last: the newest sequence; flushed: the newest one at the last flush; ids, installs: how many ids were given, and tables
+-- installed; ends: how many are open; spare: how many more events the journal takes without memory
+pub record LogModel : Type 0 where
+  pub start : ℕ
+  pub last : ℕ
+  pub flushed : ℕ
+  pub ids : ℕ
+  pub installs : ℕ
+  pub ends : ℕ
+  pub commits : List Commit
+  pub events : List Event
+  pub spare : ℕ
+
+abbrev pub ends_of : State → ℕ
+ends_of s = length s.txns + length s.snapshots
+
+abbrev pub held_by : LogModel → ℕ
+held_by l = length l.events + l.ends
+
+pub record IsLog (l : LogModel) : Type 0 where
+  pub legal : IsLegal l.start l.events
+  pub replays : (replay l.events).commits ≡ l.commits
+  pub last : l.last ≡ last_of l.start l.commits
+  pub last_fits : l.last ≤ 2 ^ 64 - 2
+  pub rising : Rising l.start l.commits
+  pub fine : AllByRecursion (λ x. AreFine x.ops) l.commits
+  pub used : AllByRecursion (λ id. IsOfCount l.ids id) (used_from [] l.events)
+  pub counted : l.ids ≤ length l.events
+  pub installed_within : installed l.events ≤ l.last
+  pub flushed_within : l.flushed ≤ l.last
+  pub flushed_through : up_to l.flushed l.commits ≡ up_to (installed l.events) l.commits
+  pub numbered : NumberedFrom 1 (tables_of l.events)
+  pub installs : l.installs ≡ length (tables_of l.events)
+  pub installs_within : l.installs ≤ length l.events
+  pub ends : l.ends ≡ ends_of (replay l.events)
+  pub room : l.ends ≤ l.spare
+  pub bound : length l.events + l.ends ≤ LIMIT
+
+pub record HasPlace (more : ℕ) (l : LogModel) : Type 0 where
+  pub room : l.ends + more ≤ l.spare
+  pub place : length l.events + l.ends + more ≤ LIMIT
+
+-- each with the room that is left
+
+abbrev pub with_begin : LogModel → IsolationLevel → ℕ → LogModel
+with_begin l level spare = record l { ids = l.ids + 1; ends = l.ends + 1; events = l.events ++ (events.Begin (id_of (l.ids + 1)) level l.last ∷ []); spare = spare }
+
+abbrev pub with_end : LogModel → List ℕ → ℕ → LogModel
+with_end l id spare = record l { ends = l.ends - 1; events = l.events ++ (events.End id ∷ []); spare = spare }
+
+abbrev pub with_freeze : LogModel → ℕ → LogModel
+with_freeze l spare = record l { events = l.events ++ (events.Freeze ∷ []); spare = spare }
+
+abbrev pub with_write : LogModel → ℤ → Ops → ℕ → LogModel
+with_write l now ops spare = record l {
+  last = l.last + 1;
+  commits = l.commits ++ (record { seq = l.last + 1; now = now; ops = ops; tracked = batch_keys ops } ∷ []);
+  events = l.events ++ (events.Write (l.last + 1) now ops ∷ []);
+  spare = spare;
+}
+
+abbrev pub with_install : LogModel → Ulid × List ℕ → ℕ → LogModel
+with_install l t spare = record l { flushed = l.last; installs = l.installs + 1; events = l.events ++ (events.Install l.last (t ∷ []) ∷ []); spare = spare }
+
+-- where nothing is to be installed
+abbrev pub with_flush : LogModel → LogModel
+with_flush l = record l { flushed = l.last }

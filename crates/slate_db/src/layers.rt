@@ -1,0 +1,143 @@
+//! The layers of rows: the memtables, and what is kept of tables.
+ghost use Rattle.std.specs.Prelude.{◌≡◌, ◌≢◌, ◌≤◌, ◌<◌, ◌∷◌, ◌++◌, [], ℕ, List, map, length, IsTrue, ◌↔◌, OnOk, OnErr, IsOkUnless};
+ghost use Rattle.std.specs.List.{AllByRecursion};
+ghost use Rattle.slate_types.specs.declared.error.SlateDBError.{SlateDBError};
+ghost use Rattle.slate_mem.specs.Table.{put_rows};
+ghost use Rattle.slate_db.specs.Flushed.{events_of_flush};
+ghost use Rattle.slate_db.specs.Layers.{AreLayers, AreRising, FitsMemory};
+ghost use Rattle.slate_db.specs.Model.{versions_in};
+
+use slate_mem::{ImmutableMemtable, MemTable};
+use slate_table::SsTableHandle;
+use slate_types::{RowEntry, SlateDBError};
+use std::alloc::{AllocError, Global};
+use std::collections::BTreeSet;
+use std::marker::Model;
+
+/// The rows in memory, and what is kept of the tables that were installed.
+#[derive(Drop)]
+pub struct Layers {
+    active: MemTable,
+    /// The rows that wait for a flush, the newest last.
+    frozen: Vec<ImmutableMemtable>,
+    /// What is kept of the tables, the newest last.
+    tables: Vec<SsTableHandle>,
+    /// The greatest barrier of a flush so far.
+    floor: u64,
+}
+
+impl Model for Layers {
+    ghost use Rattle.slate_db.specs.Layers.{LayersModel, AreLayers};
+    ghost use Rattle.slate_db.specs.LayersView.{layers_view};
+
+    ghost Value = { LayersModel };
+
+    ghost view = { layers_view };
+
+    ghost invariant = { λ s. AreLayers (layers_view s) };
+}
+
+impl Layers {
+    /// No rows and no tables. Takes no memory.
+    pub fn new(alloc: Global) -> Layers
+        ensures memory { (result.active ≡ []) × (result.frozen ≡ []) }
+        ensures tables { (result.tables ≡ []) × (result.floor ≡ 0) }
+        ensures whole { AreLayers result }
+    {
+        Layers {
+            active: MemTable::new(alloc),
+            frozen: Vec::new(alloc),
+            tables: Vec::new(alloc),
+            floor: 0,
+        }
+    }
+
+    /// The rows that aren't frozen.
+    pub fn active(&self) -> &MemTable
+        ensures { result.now.rows ≡ self.now.active }
+    {
+        &self.active
+    }
+
+    /// The rows that wait for a flush, the newest last.
+    pub fn frozen(&self) -> &[ImmutableMemtable]
+        ensures { map (λ t. t.rows) result.now ≡ self.now.frozen }
+    {
+        self.frozen.as_slice()
+    }
+
+    /// What is kept of the tables, the newest last.
+    pub fn tables(&self) -> &[SsTableHandle]
+        ensures { result.now ≡ self.now.tables }
+    {
+        self.tables.as_slice()
+    }
+
+    /// How many events a flush adds.
+    pub fn events_of_flush(&self) -> usize
+        ensures count { result ≡ events_of_flush self.now.active self.now.frozen }
+        ensures few { result ≤ 2 }
+    {
+        if !self.active.is_empty() {
+            2
+        } else if !self.frozen.as_slice().is_empty() {
+            1
+        } else {
+            0
+        }
+    }
+
+    /// Puts the rows of a commit. Where memory is wanting none is put.
+    pub fn put(&mut self, alloc: Global, rows: Vec<RowEntry>) -> Result<(), SlateDBError>
+        requires fit { AllByRecursion FitsMemory rows.items }
+        requires rise { (k : List ℕ) → AreRising (versions_in k (self.old.frozen ++ put_rows self.old.active rows.items ∷ [])) }
+        ensures value { OnOk result (self.new ≡ record self.old { active = put_rows self.old.active rows.items }) }
+        ensures same { OnErr result (self.new ≡ self.old) }
+        ensures whole { AreLayers self.new }
+        ensures cause { IsOkUnless result SlateDBError.OutOfMemory }
+    {
+        self.active.put_all(rows, BTreeSet::new(alloc))
+    }
+
+    /// Makes room for one freeze.
+    pub fn reserve_freeze(&mut self) -> Result<(), AllocError>
+        ensures value { self.new ≡ record self.old { for_freeze = self.new.for_freeze } }
+        ensures room { OnOk result (0 < self.new.for_freeze) }
+        ensures whole { AreLayers self.new }
+    {
+        self.frozen.reserve(1)
+    }
+
+    /// Moves the active rows behind those that wait for a flush, in the room that was made.
+    pub fn freeze(&mut self)
+        requires room { 0 < self.old.for_freeze }
+        requires some { self.old.active ≢ [] }
+        ensures value { self.new ≡ record self.old { active = []; frozen = self.old.frozen ++ self.old.active ∷ []; for_freeze = self.new.for_freeze } }
+        ensures whole { AreLayers self.new }
+    {
+        let Ok(table) = self.active.freeze() else {
+            unreachable!()
+        };
+        self.frozen.push_reserved(table);
+    }
+
+    /// Makes room for one table.
+    pub fn reserve_table(&mut self) -> Result<(), AllocError>
+        ensures value { self.new ≡ record self.old { for_table = self.new.for_table } }
+        ensures room { OnOk result (0 < self.new.for_table) }
+        ensures whole { AreLayers self.new }
+    {
+        self.tables.reserve(1)
+    }
+
+    /// Keeps a table in place of the rows that waited, in the room that was made.
+    pub fn install(&mut self, table: SsTableHandle, floor: u64)
+        requires { 0 < self.old.for_table }
+        ensures value { self.new ≡ record self.old { frozen = []; tables = self.old.tables ++ table ∷ []; floor = floor; for_freeze = self.new.for_freeze; for_table = self.new.for_table } }
+        ensures whole { AreLayers self.new }
+    {
+        self.floor = floor;
+        self.tables.push_reserved(table);
+        self.frozen.clear();
+    }
+}
