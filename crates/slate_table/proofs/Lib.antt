@@ -1,4 +1,5 @@
 pub mod PartsLaws
+mod SumLaws
 pub mod Asking
 pub mod BuiltLaws
 pub mod EndLaws
