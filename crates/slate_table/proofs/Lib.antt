@@ -32,3 +32,4 @@ mod IndexOrder
 mod HeldParts
 pub mod Covering
 pub mod TableFinds
+pub mod Damaged
