@@ -1,5 +1,5 @@
 //! Building a table, putting it into a store in memory, and reading it from there.
-ghost use Rattle.std.specs.Prelude.{◌≡◌, ◌≤◌, ◌+◌, true, length, OnOk};
+ghost use Rattle.std.specs.Prelude.{◌≡◌, ◌≤◌, ◌+◌, length, OnOk};
 
 use crate::blocks;
 use crate::report::{Report, name_of};
@@ -123,8 +123,6 @@ fn add_all(
     builder: &mut EncodedSsTableBuilder,
     rows: &[RowEntry],
 ) -> Result<(), SlateDBError>
-    requires { builder.old.is_whole ≡ true }
-    ensures whole { OnOk result (builder.new.is_whole ≡ true) }
     ensures rows { OnOk result (length rows.now ≤ length builder.new.rows) }
 {
     for row in rows {
@@ -139,8 +137,6 @@ fn add(
     builder: &mut EncodedSsTableBuilder,
     row: &RowEntry,
 ) -> Result<(), SlateDBError>
-    requires { builder.old.is_whole ≡ true }
-    ensures whole { OnOk result (builder.new.is_whole ≡ true) }
     ensures rows { OnOk result (length builder.new.rows ≡ length builder.old.rows + 1) }
 {
     blocks::check_lengths(row)?;

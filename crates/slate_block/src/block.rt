@@ -20,17 +20,13 @@ pub struct Block {
 }
 
 impl Block {
-    /// The rows' bytes, the offsets, and their count. It copies them: who builds a block for its bytes alone calls
-    /// `BlockBuilder::build_encoded`. The one error is `OutOfMemory`.
+    /// The rows' bytes, the offsets, and their count. The one error is `OutOfMemory`.
     pub fn encode(&self, alloc: Global) -> Result<Bytes, SlateDBError>
         requires { length self.now.offsets.items < 2 ^ 16 }
         ensures spelling { IfOk result (λ bytes. bytes ≡ block_spelling self.now.body self.now.offsets.items) }
         ensures cause { IsOkUnless result SlateDBError.OutOfMemory }
     {
-        let len = self.body.len() + 2 * self.offsets.len() + 2;
-        let mut out = Vec::with_capacity(alloc, len)?;
-        put(&mut out, self.body.as_slice());
-        with_offsets(out, &self.offsets)
+        encoded(alloc, self.body.as_slice(), &self.offsets)
     }
 
     /// Takes a block's bytes apart; the rows share their buffer. `CorruptTable` exactly where they are no rows' part and
@@ -68,18 +64,19 @@ impl Block {
     }
 }
 
-/// The bytes of a block whose rows' part stands in the buffer: the offsets and their count are put behind it.
-pub(crate) fn with_offsets(mut body: Vec<u8>, offsets: &[u16]) -> Result<Bytes, SlateDBError>
+/// The bytes of a block: the rows' part, the offsets, and their count.
+pub(crate) fn encoded(alloc: Global, body: &[u8], offsets: &[u16]) -> Result<Bytes, SlateDBError>
     requires { length offsets.now < 2 ^ 16 }
-    ensures spelling { IfOk result (λ bytes. bytes ≡ block_spelling body.items offsets.now) }
+    ensures spelling { IfOk result (λ bytes. bytes ≡ block_spelling body.now offsets.now) }
     ensures cause { IsOkUnless result SlateDBError.OutOfMemory }
 {
-    body.reserve(2 * offsets.len() + 2)?;
+    let mut out = Vec::with_capacity(alloc, body.len() + 2 * offsets.len() + 2)?;
+    put(&mut out, body);
     for offset in offsets {
-        put(&mut body, &offset.to_be_bytes());
+        put(&mut out, &offset.to_be_bytes());
     }
-    put(&mut body, &(offsets.len() as u16).to_be_bytes());
-    Bytes::from_vec(body).map_err(SlateDBError::from)
+    put(&mut out, &(offsets.len() as u16).to_be_bytes());
+    Bytes::from_vec(out).map_err(SlateDBError::from)
 }
 
 /// How many rows of each kind a block has.

@@ -4,7 +4,7 @@ ghost use Rattle.slate_block.specs.BlockSpelling.{IsBlockOf, FitsBlock, block_sp
 ghost use Rattle.slate_block.specs.Building.{number, front_key, Held, Held-prop, CanTake, Building, with_row};
 ghost use Rattle.slate_block.specs.Fitting.{fits_in};
 
-use crate::block::{Block, with_offsets};
+use crate::block::{Block, encoded};
 use crate::keys::compute_prefix;
 use crate::rows_part::{RowsPart, Version};
 use bytes::Bytes;
@@ -159,21 +159,16 @@ impl BlockBuilder {
         })
     }
 
-    /// The bytes of the block of the rows that were taken: the offsets are put behind the rows in the buffer where these
-    /// stand. `EmptyBlock` exactly where there are none, or `OutOfMemory`.
-    #[tactic(auto, using(crate::proofs::HeldLaws::few_held, crate::proofs::HeldLaws::encoded_held))]
-    pub fn build_encoded(self) -> Result<Bytes, SlateDBError>
-        ensures empty { (result ≡ Err SlateDBError.EmptyBlock) ↔ (self.rows ≡ []) }
-        ensures bytes { IfOk result (λ bytes. bytes ≡ block_bytes self.version self.rows) }
-        ensures fits { OnOk result (FitsBlock self.version self.rows) }
+    /// The bytes of the block of the rows that were taken. `EmptyBlock` exactly where there are none, or `OutOfMemory`.
+    pub fn encode(&self, alloc: Global) -> Result<Bytes, SlateDBError>
+        ensures empty { (result ≡ Err SlateDBError.EmptyBlock) ↔ (self.now.rows ≡ []) }
+        ensures bytes { IfOk result (λ bytes. bytes ≡ block_bytes self.now.version self.now.rows) }
+        ensures fits { OnOk result (FitsBlock self.now.version self.now.rows) }
         ensures cause { IfErr result (λ e. (e ≡ SlateDBError.EmptyBlock) ⊎ (e ≡ SlateDBError.OutOfMemory)) }
     {
-        let BlockBuilder { part, .. } = self;
-        if part.num_rows == 0 {
-            drop(part);
+        if self.part.num_rows == 0 {
             return Err(SlateDBError::EmptyBlock);
         }
-        drop(part.front_key);
-        with_offsets(part.body, &part.offsets)
+        encoded(alloc, self.part.body.as_slice(), &self.part.offsets)
     }
 }

@@ -1,13 +1,16 @@
 //! Blocks, built row by row, whose rows are counted by their kinds.
-ghost use Rattle.std.specs.Prelude.{◌≡◌, ◌≤◌, ◌<◌, ◌+◌, ◌^◌, ◌↔◌, ◌⊎◌, ◌==◌, ◌++◌, [], ◌∷◌, true, false, Ok, Err, List, length, IfOk, IfErr, OnErr};
+ghost use Rattle.std.specs.Prelude.{◌≡◌, ◌≤◌, ◌<◌, ◌+◌, ◌^◌, ◌↔◌, ◌⊎◌, ◌==◌, ◌++◌, [], ◌∷◌, true, false, Ok, Err, List, length, IfOk, IfErr, OnOk, OnErr};
 ghost use Rattle.slate_types.specs.declared.types.RowEntry.{RowEntry};
+ghost use Rattle.slate_block.specs.BlockSpelling.{FitsBlock, block_bytes};
 ghost use Rattle.slate_block.specs.Building.{CanTake, with_row};
 ghost use Rattle.slate_block.specs.Counting.{stats_of, sum_of, counted_rows};
 ghost use Rattle.slate_block.specs.Fitting.{fits_in};
 
 use crate::block::BlockStats;
 use crate::builder::BlockBuilder;
+use bytes::Bytes;
 use slate_types::{RowEntry, SlateDBError, ValueDeletable};
+use std::alloc::Global;
 use std::marker::Model;
 
 /// A builder that counts the rows that it takes. Contracts see the builder and the counts.
@@ -74,6 +77,23 @@ impl BlockBuilderWithStats {
             self.stats = sum_of(self.stats, one);
         }
         is_taken
+    }
+
+    /// The counts of the rows that were taken and counted.
+    pub fn stats(&self) -> BlockStats
+        ensures { result ≡ self.now.stats }
+    {
+        self.stats
+    }
+
+    /// The bytes of the block of the rows that were taken. `EmptyBlock` exactly where there are none, or `OutOfMemory`.
+    pub fn encode(&self, alloc: Global) -> Result<Bytes, SlateDBError>
+        ensures empty { (result ≡ Err SlateDBError.EmptyBlock) ↔ (self.now.builder.rows ≡ []) }
+        ensures bytes { IfOk result (λ bytes. bytes ≡ block_bytes self.now.builder.version self.now.builder.rows) }
+        ensures fits { OnOk result (FitsBlock self.now.builder.version self.now.builder.rows) }
+        ensures cause { IfErr result (λ e. (e ≡ SlateDBError.EmptyBlock) ⊎ (e ≡ SlateDBError.OutOfMemory)) }
+    {
+        self.builder.encode(alloc)
     }
 
     /// The builder, and the counts of the rows that were taken and counted.

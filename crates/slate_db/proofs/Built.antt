@@ -1,6 +1,5 @@
 -- A table that is built row by row of rows that were in memory.
 use Rattle.std.proofs.Common.{◌≡◌, ℕ, ◌+◌, ◌-◌, ◌^◌, ◌≤◌, ◌<◌, ◌⊎◌, min, List, [], ◌∷◌, ◌++◌, map, length, Option, Some, None, refl, sym, ap, subst, ◌∙◌, inl, inr, arith, append_assoc, append-nil}
-use Rattle.std.specs.Prelude.{sum_by}
 use Rattle.std.specs.List.{AllByRecursion}
 use Rattle.slate_types.specs.declared.config.BlockFormat.{BlockFormat}
 use Rattle.slate_types.specs.declared.config.BlockFormat.TheVariants.{V1, V2, Latest}
@@ -9,7 +8,6 @@ use Rattle.slate_types.specs.declared.error.SlateDBError.TheVariants.{EmptyKey, 
 use Rattle.slate_types.specs.declared.types.RowEntry.{RowEntry}
 use Rattle.slate_types.specs.declared.types.Ulid.{Ulid}
 use Rattle.slate_types.specs.Outside.{Objects}
-use Rattle.slate_types.specs.Rows.{operand}
 use Rattle.slate_block.specs.BlockSpelling.{as_read}
 use Rattle.slate_block.specs.Building.{CanTake}
 use Rattle.slate_block.specs.ReadingLaws.{EachIsAByte}
@@ -21,7 +19,7 @@ use Rattle.slate_table.specs.Paths.{path_of}
 use Rattle.slate_table.specs.TableEnd.{HasInfo}
 use Rattle.slate_table.specs.Parts.{Encode}
 use Rattle.slate_table.specs.SectionReading.{IsTransformFault}
-use Rattle.slate_table.specs.TableBuilding.{TableBuilding, IsLimit, AreEncoded, begun, cutting}
+use Rattle.slate_table.specs.TableBuilding.{TableBuilding, HasTooManyBlocks, AreEncoded, begun, cutting, max_blocks}
 use Rattle.slate_table.specs.Table.{AreInOrder, cut}
 use Rattle.slate_table.specs.TableParts.{version_of}
 use Rattle.slate_db.specs.Flushed.{Layout, IsTooLarge, TakesTable, MayTakeTable}
@@ -53,17 +51,15 @@ pub begun_encoded : (encode : Encode) (version size : ℕ) → AreEncoded encode
 unfolding cutting
 begun_encoded encode version size = record { are_bytes = refl; are_offsets = refl }
 
-pub too_large : (layout : Layout) (b : TableBuilding) (r : RowEntry) (rest : Rows) (e : SlateDBError) (limit : ℕ) → b.version ≡ layout.version → b.size ≡ layout.block_size → e ≡ LimitReached limit → IsLimit b r limit →
+pub too_large : (layout : Layout) (b : TableBuilding) (r : RowEntry) (rest : Rows) (e : SlateDBError) → b.version ≡ layout.version → b.size ≡ layout.block_size → e ≡ LimitReached max_blocks → HasTooManyBlocks b r →
     IsTooLarge layout ((b.rows ++ (r ∷ [])) ++ rest) e
-too_large layout b r rest e limit version size is passes = record { limit = limit; is = is; first = first; rest = rest; cut_off = refl; passes = by passes }
+too_large layout b r rest e version size is passes = record { is = is; first = first; rest = rest; cut_off = refl; passes = more }
   where
     first : Rows
     first = b.rows ++ (r ∷ [])
 
-    by : IsLimit b r limit → ((limit ≡ 2 ^ 32 - 1) × (2 ^ 32 - 1 < length (cut layout.block_size layout.version (b.rows ++ (r ∷ [])))))
-        ⊎ ((limit ≡ 2 ^ 64 - 1) × ((2 ^ 64 ≤ sum_by (λ x. length x.key) (b.rows ++ (r ∷ []))) ⊎ (2 ^ 64 ≤ sum_by (λ x. length (operand x)) (b.rows ++ (r ∷ [])))))
-    by (inl (l, more)) = inl (l, subst (λ (s : ℕ). 2 ^ 32 - 1 < length (cut s layout.version (b.rows ++ (r ∷ [])))) size (subst (λ (v : ℕ). 2 ^ 32 - 1 < length (cut b.size v (b.rows ++ (r ∷ [])))) version more))
-    by (inr sums) = inr sums
+    more : max_blocks < length (cut layout.block_size layout.version first)
+    more = subst (λ (s : ℕ). max_blocks < length (cut s layout.version first)) size (subst (λ (v : ℕ). max_blocks < length (cut b.size v first)) version passes)
 
 -- ---- one row more
 
@@ -79,13 +75,13 @@ row_order b rest it all row step is order = order_front (b ++ (row ∷ [])) rest
 pub all_taken : (b it all : Rows) → it ≡ [] → b ++ it ≡ all → b ≡ all
 all_taken b it all none is = sym (append-nil b) ∙ ap (λ xs. b ++ xs) (sym none) ∙ is
 
-pub add_refused : (layout : Layout) (b new : TableBuilding) (row : RowEntry) (rest : Rows) (before middle after : ℕ) (e : SlateDBError) → before ≤ middle → b.version ≡ layout.version → b.size ≡ layout.block_size →
-    0 < length row.key → (e ≡ EmptyKey → length row.key ≡ 0) →
-    IsTransformFault middle after e ⊎ ((new ≡ b) × ((e ≡ EmptyKey) ⊎ ((limit : ℕ) × (e ≡ LimitReached limit) × IsLimit b row limit))) →
+pub add_refused : (layout : Layout) (b : TableBuilding) (row : RowEntry) (rest : Rows) (before middle after : ℕ) (e : SlateDBError) → before ≤ middle → b.version ≡ layout.version → b.size ≡ layout.block_size →
+    0 < length row.key → (e ≡ EmptyKey → length row.key ≡ 0) → (e ≡ LimitReached max_blocks → HasTooManyBlocks b row) →
+    IsTransformFault middle after e ⊎ (e ≡ EmptyKey) ⊎ (e ≡ LimitReached max_blocks) →
     IsTransformFault before after e ⊎ IsTooLarge layout ((b.rows ++ (row ∷ [])) ++ rest) e
-add_refused layout b new row rest before middle after e h version size some empty (inl fault) = inl (wider_fault before middle after e h fault)
-add_refused layout b new row rest before middle after e h version size some empty (inr (same, inl is)) = let none : length row.key ≡ 0 = empty is in absurd (omega arith)
-add_refused layout b new row rest before middle after e h version size some empty (inr (same, inr (limit, is, passes))) = inr (too_large layout b row rest e limit version size is passes)
+add_refused layout b row rest before middle after e h version size some empty full (inl fault) = inl (wider_fault before middle after e h fault)
+add_refused layout b row rest before middle after e h version size some empty full (inr (inl is)) = let none : length row.key ≡ 0 = empty is in absurd (omega arith)
+add_refused layout b row rest before middle after e h version size some empty full (inr (inr is)) = inr (too_large layout b row rest e version size is (full is))
 
 -- ---- the put
 

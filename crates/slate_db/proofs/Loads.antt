@@ -245,30 +245,13 @@ length_load (r ∷ rs) = let rest : length rs ≤ total row_load rs = length_loa
 
 too_large_load : (m : Meaning) (b : ℕ) (layers : List Rows) (layout : Layout) (rows : Rows) (e : SlateDBError) → IsFolded m b layers rows → AllByRecursion (λ xs. AllByRecursion FitsMemory xs) layers → IsTooLarge layout rows e →
     2 ^ 32 - 1 < sum_by rows_load layers
-too_large_load m b layers layout rows e folded fit large = by large.passes
-  where
-    front : total row_load large.first ≤ sum_by rows_load layers
-    front =
-        let all : total row_load rows ≤ sum_by rows_load layers = folded_load m b layers rows folded fit in
-        let two : total row_load rows ≡ total row_load large.first + total row_load large.rest = ap (total row_load) large.cut_off ∙ total_append row_load large.first large.rest in
-        omega arith
-
-    bytes : (f : RowEntry → ℕ) → ((r : RowEntry) → f r ≤ row_load r) → 2 ^ 64 ≤ sum_by f large.first → 2 ^ 32 - 1 < sum_by rows_load layers
-    bytes f less h =
-        let is : sum_by f large.first ≡ total f large.first = total_is f large.first in
-        let few : total f large.first ≤ total row_load large.first = total_each f row_load large.first less in
-        let all : total row_load large.first ≤ sum_by rows_load layers = front in
-        omega arith
-
-    by : ((large.limit ≡ 2 ^ 32 - 1) × (2 ^ 32 - 1 < length (cut layout.block_size layout.version large.first)))
-        ⊎ ((large.limit ≡ 2 ^ 64 - 1) × ((2 ^ 64 ≤ sum_by (λ r. length r.key) large.first) ⊎ (2 ^ 64 ≤ sum_by (λ r. length (operand r)) large.first))) → 2 ^ 32 - 1 < sum_by rows_load layers
-    by (inl (is, blocks)) =
-        let few : length (cut layout.block_size layout.version large.first) ≤ length large.first = few_cut layout.block_size layout.version large.first in
-        let some : length large.first ≤ total row_load large.first = length_load large.first in
-        let all : total row_load large.first ≤ sum_by rows_load layers = front in
-        omega arith
-    by (inr (is, inl keys)) = bytes (λ r. length r.key) (λ r. omega arith) keys
-    by (inr (is, inr values)) = bytes (λ r. length (operand r)) (λ r. omega arith) values
+too_large_load m b layers layout rows e folded fit large =
+    let all : total row_load rows ≤ sum_by rows_load layers = folded_load m b layers rows folded fit in
+    let two : total row_load rows ≡ total row_load large.first + total row_load large.rest = ap (total row_load) large.cut_off ∙ total_append row_load large.first large.rest in
+    let blocks : 2 ^ 32 - 1 < length (cut layout.block_size layout.version large.first) = large.passes in
+    let few : length (cut layout.block_size layout.version large.first) ≤ length large.first = few_cut layout.block_size layout.version large.first in
+    let some : length large.first ≤ total row_load large.first = length_load large.first in
+    omega arith
 
 -- an empty memtable weighs nothing
 pub load_before : (c : CoreModel) → 2 ^ 32 - 1 < sum_by rows_load ((c.frozen ++ (c.active ∷ [])) ++ ([] ∷ [])) → 2 ^ 32 - 1 < load c

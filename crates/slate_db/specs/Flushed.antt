@@ -6,17 +6,17 @@
 --     IsTableOfFlush ..      a table is built of the folded rows, under the id of its flush
 --     IsPut ..      that table was put, and these are what an install names and what is kept of it
 --     TakesTable t before after, MayTakeTable      the store took the table at its path; or it may have
---     IsTooLarge layout rows e      a table of some first rows would pass a limit
+--     IsTooLarge layout rows e      a table of some first rows would have too many blocks
 --     after_install c n t spare      the core after the table t was installed through n
 --     MayFlush encode layout c before after      what a refused flush leaves of the objects
---     TooLarge layout c e      the flush of all rows in memory would pass a limit of a table; so there is much in memory
+--     TooLarge layout c e      the table of all rows in memory would have too many blocks; so there is much in memory
 --     IsFlushed encode layout old new n before after      a flush behind its freeze, with the store's objects before and after
 --     NoPlace n c, NoPlaceToFlush c      the journal has no place for so many events more, and for those of a flush
 --     of what a call reaches before and after it:
 --     Flushes layout before after old new n      a flush behind its freeze
 --     MayPut layout before after c      what a refused flush leaves of the objects
 --     IsFlushError layout before after c e      a fault that came in the flush, or want of memory or of a place, or too much in memory
-use Rattle.std.specs.Prelude.{◌≡◌, ℕ, ◌+◌, ◌-◌, ◌^◌, ◌<◌, ◌≤◌, ◌⊎◌, sum_by, List, [], ◌∷◌, ◌++◌, map, length, option_to_list, Option, Some, IfSome}
+use Rattle.std.specs.Prelude.{◌≡◌, ℕ, ◌+◌, ◌-◌, ◌^◌, ◌<◌, ◌≤◌, ◌⊎◌, List, [], ◌∷◌, ◌++◌, map, length, option_to_list, Option, Some, IfSome}
 use Rattle.std.specs.List.{AllByRecursion}
 use Rattle.slate_types.specs.declared.error.SlateDBError.{SlateDBError}
 use Rattle.slate_types.specs.declared.error.SlateDBError.TheVariants.{LimitReached}
@@ -24,12 +24,12 @@ use Rattle.slate_types.specs.declared.types.Ulid.{Ulid}
 use Rattle.slate_types.specs.declared.config.Options.{Options}
 use Rattle.slate_types.specs.Fold.{fold_rows}
 use Rattle.slate_types.specs.Outside.{Objects, IsFault, Reach}
-use Rattle.slate_types.specs.Rows.{operand}
 use Rattle.slate_block.specs.BlockSpelling.{as_read}
 use Rattle.slate_store.specs.Store.{with_object}
 use Rattle.slate_table.specs.declared.info.SsTableHandle.{SsTableHandle}
 use Rattle.slate_table.specs.Parts.{Encode}
 use Rattle.slate_table.specs.Table.{AreInOrder, IsBuilt, cut}
+use Rattle.slate_table.specs.TableBuilding.{max_blocks}
 use Rattle.slate_table.specs.TableParts.{version_of}
 use Rattle.slate_txn.specs.declared.event.Event.TheVariants as events
 use Rattle.slate_txn.specs.Open.{least_begin}
@@ -88,15 +88,12 @@ pub record IsPut (encode : Encode) (layout : Layout) (number barrier : ℕ) (lay
 abbrev pub MayTakeTable : (Ulid × List ℕ → Type 0) → Option Objects → Option Objects → Type 0
 MayTakeTable P before after = IfSome before (λ os. (after ≡ Some os) ⊎ ((t : Ulid × List ℕ) × P t × (after ≡ Some (with_object os (path_of root t.0.0) t.1))))
 
--- of blocks, or of the bytes of keys or of values
 pub record IsTooLarge (layout : Layout) (rows : Rows) (e : SlateDBError) : Type 0 where
-  pub limit : ℕ
-  pub is : e ≡ LimitReached limit
+  pub is : e ≡ LimitReached max_blocks
   pub first : Rows
   pub rest : Rows
   pub cut_off : rows ≡ first ++ rest
-  pub passes : ((limit ≡ 2 ^ 32 - 1) × (2 ^ 32 - 1 < length (cut layout.block_size layout.version first)))
-      ⊎ ((limit ≡ 2 ^ 64 - 1) × ((2 ^ 64 ≤ sum_by (λ r. length r.key) first) ⊎ (2 ^ 64 ≤ sum_by (λ r. length (operand r)) first)))
+  pub passes : max_blocks < length (cut layout.block_size layout.version first)
 
 abbrev pub after_install : CoreModel → ℕ → Ulid × List ℕ → ℕ → CoreModel
 after_install c n t spare = record c {

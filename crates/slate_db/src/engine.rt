@@ -37,9 +37,9 @@ use crate::layers::Layers;
 use crate::log::Log;
 use crate::lookup::newest_of_tables;
 use bytes::Bytes;
+use slate_mem::WriteBatch;
 use slate_mem::fold::answer;
 use slate_mem::lookup::newest_of_memory;
-use slate_mem::WriteBatch;
 use slate_store::{Env, EnvOf, Store};
 use slate_txn::fold::fold_found;
 use slate_txn::{Journal, OpList, OpenTransactions};
@@ -364,7 +364,9 @@ impl Core {
     {
         self.journal();
         let Core {
-            log, transactions, ..
+            log,
+            transactions,
+            ..
         } = self;
         log.close();
         transactions.close();

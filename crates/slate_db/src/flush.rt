@@ -96,7 +96,7 @@ fn list_of(alloc: Global, id: Ulid, table: &EncodedSsTable) -> Result<TableList,
 }
 
 /// The table of these rows, without filters. `BlockTransformError`, only where the transformer's count of faults rose;
-/// `LimitReached` where the table would have too many blocks, or too many bytes of keys or values; or `OutOfMemory`.
+/// `LimitReached` where the table would have too many blocks; or `OutOfMemory`.
 pub fn built<T: BlockTransformer>(
     alloc: Global,
     rows: Vec<RowEntry>,

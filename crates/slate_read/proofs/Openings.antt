@@ -20,7 +20,8 @@ use Rattle.slate_types.specs.World.{IsCall, Made}
 use Rattle.slate_types.specs.Refusing.{IsDamage}
 use Rattle.slate_types.proofs.Calls.{only_reads}
 use Rattle.slate_read.specs.TableWalk.{IsIndexed, RefusesIndexed, IsOpened, IsWalkRead, RefusesRows, RefusesSome, RefusesWalk, Walks, path_in, size_of, start_of}
-use Rattle.slate_read.proofs.Damaged.{block_refusal, in_block, index_refusal}
+use Rattle.slate_table.proofs.Damaged.{block_refusal, index_refusal}
+use Rattle.slate_read.proofs.Damaged.{in_block}
 
 pub rows_known : (version : ℕ) (order : IterationOrder) (block : Block) (e : SlateDBError) → (version ≡ 1) ⊎ (version ≡ 2) → (e ≡ OutOfMemory) ⊎ (block_reads version block.body block.offsets.items ≡ Err e) → (e ≡ OutOfMemory) ⊎ IsBlockDamage e →
     (e ≡ OutOfMemory) ⊎ (IsDamage e × RefusesRows version order block e)

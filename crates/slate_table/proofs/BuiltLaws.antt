@@ -209,9 +209,9 @@ finished_table encode p q bytes s h e a is short keys values =
 
 -- ---- as a builder is seen
 
-pub built_of : (encode : Encode) (p : TableParts) (w : Bool) (v : TableBuilding) (bytes out : List ℕ) (i : SsTableInfo) → seen p w ≡ v → Stands p → 0 < length v.rows →
+pub built_of : (encode : Encode) (p : TableParts) (v : TableBuilding) (bytes out : List ℕ) (i : SsTableInfo) → seen p ≡ v → Stands p → 0 < length v.rows →
     IsFinished encode p bytes i → out ≡ bytes → AreEncoded encode v → (min : ℕ) → IsBuilt encode [] min v.size v.version out v.rows
-built_of encode p w v bytes out i is s h f same a min =
+built_of encode p v bytes out i is s h f same a min =
     let row = subst (λ (b : TableBuilding). 0 < length b.rows) (sym is) h in
     let sections = subst (λ (b : TableBuilding). AreEncoded encode b) (sym is) a in
     let table = finished_table encode p f.ended bytes s row f.end sections f.is f.short f.keys f.values in
@@ -219,8 +219,8 @@ built_of encode p w v bytes out i is s h f same a min =
     let shown : IsTableOf encode out v.version (cut v.size v.version v.rows) [] = subst (λ (b : TableBuilding). IsTableOf encode out b.version (cut b.size b.version b.rows) []) is there in
     subst (λ (fs : List (List ℕ × List ℕ)). IsTableOf encode out v.version (cut v.size v.version v.rows) fs) (no_filters min v.rows) shown
 
-pub info_of_built : (encode : Encode) (p : TableParts) (w : Bool) (v : TableBuilding) (bytes out : List ℕ) (i j : SsTableInfo) → seen p w ≡ v → IsFinished encode p bytes i → out ≡ bytes → j ≡ i → HasInfo out v.version (seen_info j)
-info_of_built encode p w v bytes out i j is f same info =
+pub info_of_built : (encode : Encode) (p : TableParts) (v : TableBuilding) (bytes out : List ℕ) (i j : SsTableInfo) → seen p ≡ v → IsFinished encode p bytes i → out ≡ bytes → j ≡ i → HasInfo out v.version (seen_info j)
+info_of_built encode p v bytes out i j is f same info =
     let there = subst (λ (l : List ℕ). HasInfo l (version_of p.format) (seen_info i)) (sym same) f.info in
     let shown = subst (λ (b : TableBuilding). HasInfo out b.version (seen_info i)) is there in
     subst (λ (k : SsTableInfo). HasInfo out v.version (seen_info k)) (sym info) shown

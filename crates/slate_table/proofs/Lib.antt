@@ -1,4 +1,5 @@
 pub mod PartsLaws
+mod SumLaws
 pub mod Asking
 pub mod BuiltLaws
 pub mod EndLaws
@@ -32,3 +33,4 @@ mod IndexOrder
 mod HeldParts
 pub mod Covering
 pub mod TableFinds
+pub mod Damaged

@@ -2,7 +2,6 @@
 use Rattle.std.proofs.Common.{◌≡◌, ℕ, ◌+◌, ◌-◌, ◌^◌, ◌<◌, ◌≤◌, Bool, true, false, cond, ◌==◌, List, [], ◌∷◌, ◌++◌, length, fold, flat_map, Option, Some, None, refl, sym, ap, subst, ◌∙◌, ◌⊎◌, inl, inr, arith}
 use Rattle.std.specs.Prelude.{slice_get, sum_by, IsSome}
 use Rattle.std.specs.List.{AllByRecursion}
-use Rattle.std.specs.Option.{SomeIff, is_some}
 use Rattle.std.proofs.lemmas.List.{append-nil, length-append, map-append}
 use Rattle.std.proofs.lemmas.List.Sums.{sum_by-append}
 use Rattle.std.proofs.lemmas.Bool.Decides.{nat_tests}
@@ -11,14 +10,14 @@ use Rattle.slate_types.specs.declared.types.RowEntry.{RowEntry}
 use Rattle.slate_types.specs.declared.config.BlockFormat.{BlockFormat}
 use Rattle.slate_types.specs.Rows.{operand}
 use Rattle.slate_block.specs.BlockSpelling.{block_bytes, places, FitsBlock}
-use Rattle.slate_block.specs.Building.{Building, with_row}
-use Rattle.slate_block.specs.Counting.{stats_of}
+use Rattle.slate_block.specs.Building.{Building, CanTake, with_row}
+use Rattle.slate_block.specs.Counting.{Counting, stats_of}
 use Rattle.slate_block.specs.Fitting.{fits_in}
 use Rattle.slate_table.specs.declared.table_parts.TableParts.{TableParts}
-use Rattle.slate_table.specs.Parts.{Encode, section, separator, separators, last_key}
+use Rattle.slate_table.specs.Parts.{Encode, section, summed, separator, separators, last_key}
 use Rattle.slate_table.specs.Table.{AreInOrder, block_sections, cut}
-use Rattle.slate_table.specs.TableBuilding.{Cutting, cut_more, cutting, with_last, all_blocks, AreSections, section_size, IsLimit}
-use Rattle.slate_table.specs.TableParts.{version_of, separator_behind, cut_parts, filled, seen, ended_size, IsPastLimit, StandsOn, Stands, IsEnded, IsTaken, fits_parts, IsAdded, IsWithinLimits}
+use Rattle.slate_table.specs.TableBuilding.{Cutting, cut_more, cutting, with_last, all_blocks, AreSections, section_size, HasTooManyBlocks}
+use Rattle.slate_table.specs.TableParts.{version_of, separator_behind, cut_parts, filled, seen, ended_size, fits_parts, HasSums, IsAdded, IsBegun, IsBehind, IsEnded, IsEndedBy, IsFull, IsInBlock, IsKept, IsSame, IsTaken, IsWritten, StandsOn, Stands}
 use Rattle.slate_table.proofs.IndexLaws.{separators_count}
 use Rattle.slate_table.proofs.Cuttings.{Begun, cut_is, cutting_more, cut_same, cut_next, cutting_rows, separators_next, separators_same, places_end}
 
@@ -141,8 +140,8 @@ next_same p q r s fit t = next_rows p q r t.size t.format t.rows ∙ cut_same p.
 taken_separators : (p q : TableParts) (r : RowEntry) → Stands p → IsTaken p r q → q.separators.items ≡ with_separator (cut_parts p).filling p.separators.items p.rows.items r
 taken_separators p q r s t = t.separators ∙ ap (λ (b : Building). with_separator b.rows p.separators.items p.rows.items r) s.builder
 
-pub taken_stands : (p q : TableParts) (r : RowEntry) → Stands p → fits_parts p r ≡ true → IsTaken p r q → AreInOrder (p.rows.items ++ r ∷ []) → Stands q
-taken_stands p q r s fit t order =
+pub taken_stands : (p q : TableParts) (r : RowEntry) → Stands p → fits_parts p r ≡ true → IsTaken p r q → AreInOrder (p.rows.items ++ r ∷ []) → CanTake r → Stands q
+taken_stands p q r s fit t order lengths =
     let c = cut_parts p in
     let begun = either_begun p.block_size (version_of p.format) p.rows.items in
     let seps = taken_separators p q r s t in
@@ -157,23 +156,17 @@ taken_stands p q r s fit t order =
       blocks = subst (λ (l : List (List ℕ)). length l < 2 ^ 32) (sym seps) (sep_few c.ended c.filling p.rows.items p.separators.items r s.separators s.blocks begun);
       each = subst (λ (f : BlockFormat). AllByRecursion (FitsBlock (version_of f)) c.ended) (sym t.format) s.each;
       order = subst AreInOrder (sym t.rows) order;
+      lengths = subst (AllByRecursion CanTake) (sym t.rows) (all_end CanTake p.rows.items r s.lengths lengths);
       keys = t.keys ∙ ap (λ (n : ℕ). n + length r.key) s.keys ∙ key_sum p.rows.items r ∙ ap (λ (l : List RowEntry). sum_by (λ x. length x.key) l) (sym t.rows);
       values = t.values ∙ ap (λ (n : ℕ). n + length (operand r)) s.values ∙ value_sum p.rows.items r ∙ ap (λ (l : List RowEntry). sum_by (λ x. length (operand x)) l) (sym t.rows);
     })
 
 -- ---- a row that ends the block
 
-next_ended : (encode : Encode) (p m q : TableParts) (r : RowEntry) → Stands p → fits_parts p r ≡ false → IsEnded encode p m → IsTaken m r q →
+next_behind : (encode : Encode) (p q : TableParts) (r : RowEntry) → Stands p → fits_parts p r ≡ false → IsBehind encode p r q →
     cut_parts q ≡ record { ended = (cut_parts p).ended ++ (cut_parts p).filling ∷ []; filling = r ∷ [] }
-next_ended encode p m q r s fit e t =
-    next_rows p q r (t.size ∙ e.size) (t.format ∙ e.format) (t.rows ∙ ap (λ (l : List RowEntry). l ++ r ∷ []) e.rows)
-    ∙ cut_next p.block_size (version_of p.format) (cut_parts p) r (fits_on (cut_parts p) p r false s fit)
-
-ended_separators : (encode : Encode) (p m q : TableParts) (r : RowEntry) → Stands p → fits_parts p r ≡ false → IsEnded encode p m → IsTaken m r q →
-    q.separators.items ≡ p.separators.items ++ separator_behind p.rows.items r.key ∷ []
-ended_separators encode p m q r s fit e t =
-    t.separators ∙ ap (λ (b : Building). with_separator b.rows m.separators.items m.rows.items r) e.builder
-    ∙ (λ i. e.separators i ++ separator_behind (e.rows i) r.key ∷ [])
+next_behind encode p q r s fit b =
+    next_rows p q r b.size b.format b.rows ∙ cut_next p.block_size (version_of p.format) (cut_parts p) r (fits_on (cut_parts p) p r false s fit)
 
 spelled_separators : (p : TableParts) (r : RowEntry) → Stands p → Begun (cut_parts p).filling →
     p.separators.items ++ separator_behind p.rows.items r.key ∷ [] ≡ separators (with_last ((cut_parts p).ended ++ (cut_parts p).filling ∷ []) (r ∷ []))
@@ -186,33 +179,149 @@ spelled_separators p r s begun =
 pub fits_block : (c : Cutting) (p : TableParts) → StandsOn c p → FitsBlock p.block.builder.version p.block.builder.rows → FitsBlock (version_of p.format) c.filling
 fits_block c p s f = subst (λ (b : Building). FitsBlock b.version b.rows) s.builder f
 
-pub ended_stands : (encode : Encode) (p m q : TableParts) (r : RowEntry) → Stands p → fits_parts p r ≡ false → IsEnded encode p m → IsTaken m r q → AreInOrder (p.rows.items ++ r ∷ []) →
+pub behind_stands : (encode : Encode) (p q : TableParts) (r : RowEntry) → Stands p → fits_parts p r ≡ false → IsBehind encode p r q → AreInOrder (p.rows.items ++ r ∷ []) → CanTake r →
     length p.separators.items + 1 < 2 ^ 32 → Stands q
-ended_stands encode p m q r s fit e t order room =
+behind_stands encode p q r s fit b order lengths room =
     let c = cut_parts p in
     let begun = begun_full p.block_size (version_of p.format) c.filling r (fits_on c p r false s fit) in
-    let seps = ended_separators encode p m q r s fit e t in
-    let rows : q.rows.items ≡ p.rows.items ++ r ∷ [] = t.rows ∙ ap (λ (l : List RowEntry). l ++ r ∷ []) e.rows in
-    let count : length q.separators.items ≡ length p.separators.items + 1 = ap length seps ∙ length-append p.separators.items (separator_behind p.rows.items r.key ∷ []) in
-    subst (λ (d : Cutting). StandsOn d q) (sym (next_ended encode p m q r s fit e t)) (record {
-      some = omega (arith, t.size, e.size, s.some);
-      few = omega (arith, t.size, e.size, s.few);
-      builder = t.builder ∙ ap (λ (b : Building). with_row b r) e.builder ∙ next_filled p q (r ∷ []) (t.size ∙ e.size) (t.format ∙ e.format);
-      counts = t.counts [] e.counts;
-      separators = seps ∙ spelled_separators p r s begun;
-      stats = t.stats ∙ e.stats ∙ (λ i. s.stats i ++ s.counts i ∷ []) ∙ sym (map-append stats_of c.ended (c.filling ∷ []));
-      begins = omega (arith, ap length (t.offsets ∙ e.offsets), length-append p.offsets.items (length p.bytes.items ∷ []), s.begins, length-append c.ended (c.filling ∷ []));
+    let count : length q.separators.items ≡ length p.separators.items + 1 = ap length b.separators ∙ length-append p.separators.items (separator_behind p.rows.items r.key ∷ []) in
+    subst (λ (d : Cutting). StandsOn d q) (sym (next_behind encode p q r s fit b)) (record {
+      some = omega (arith, b.size, s.some);
+      few = omega (arith, b.size, s.few);
+      builder = b.builder ∙ next_filled p q (r ∷ []) b.size b.format;
+      counts = b.counts;
+      separators = b.separators ∙ spelled_separators p r s begun;
+      stats = b.stats ∙ (λ i. s.stats i ++ s.counts i ∷ []) ∙ sym (map-append stats_of c.ended (c.filling ∷ []));
+      begins = omega (arith, ap length b.offsets, length-append p.offsets.items (length p.bytes.items ∷ []), s.begins, length-append c.ended (c.filling ∷ []));
       blocks = omega (arith, count, room);
-      each = subst (λ (f : BlockFormat). AllByRecursion (FitsBlock (version_of f)) (c.ended ++ c.filling ∷ [])) (sym (t.format ∙ e.format))
-          (all_end (FitsBlock (version_of p.format)) c.ended c.filling s.each (fits_block c p s e.fits));
-      order = subst AreInOrder (sym rows) order;
-      keys = t.keys ∙ ap (λ (n : ℕ). n + length r.key) (e.keys ∙ s.keys) ∙ key_sum p.rows.items r ∙ ap (λ (l : List RowEntry). sum_by (λ x. length x.key) l) (sym rows);
-      values = t.values ∙ ap (λ (n : ℕ). n + length (operand r)) (e.values ∙ s.values) ∙ value_sum p.rows.items r ∙ ap (λ (l : List RowEntry). sum_by (λ x. length (operand x)) l) (sym rows);
+      each = subst (λ (f : BlockFormat). AllByRecursion (FitsBlock (version_of f)) (c.ended ++ c.filling ∷ [])) (sym b.format)
+          (all_end (FitsBlock (version_of p.format)) c.ended c.filling s.each (fits_block c p s b.fits));
+      order = subst AreInOrder (sym b.rows) order;
+      lengths = subst (AllByRecursion CanTake) (sym b.rows) (all_end CanTake p.rows.items r s.lengths lengths);
+      keys = b.keys ∙ ap (λ (n : ℕ). n + length r.key) s.keys ∙ key_sum p.rows.items r ∙ ap (λ (l : List RowEntry). sum_by (λ x. length x.key) l) (sym b.rows);
+      values = b.values ∙ ap (λ (n : ℕ). n + length (operand r)) s.values ∙ value_sum p.rows.items r ∙ ap (λ (l : List RowEntry). sum_by (λ x. length (operand x)) l) (sym b.rows);
     })
 
-pub added_stands : (encode : Encode) (p q : TableParts) (r : RowEntry) → Stands p → IsAdded encode p r q → AreInOrder (p.rows.items ++ r ∷ []) → IsWithinLimits p r → Stands q
-added_stands encode p q r s (inl a) order limits = taken_stands p q r s a.0 a.1 order
-added_stands encode p q r s (inr a) order limits = ended_stands encode p a.0 q r s a.1 a.2 a.3 order (limits.blocks a.1)
+pub added_stands : (encode : Encode) (p q : TableParts) (r : RowEntry) → Stands p → IsAdded encode p r q → AreInOrder (p.rows.items ++ r ∷ []) → CanTake r →
+    (fits_parts p r ≡ false → length p.separators.items + 1 < 2 ^ 32) → Stands q
+added_stands encode p q r s (inl a) order lengths room = taken_stands p q r s a.0 a.1 order lengths
+added_stands encode p q r s (inr a) order lengths room = behind_stands encode p q r s a.0 a.1 order lengths (room a.0)
+
+-- where nothing changed but room
+pub same_stands : (p q : TableParts) → IsSame p q → Stands p → Stands q
+same_stands p q e s =
+    let same : cut_parts q ≡ cut_parts p = λ i. cutting (e.size i) (version_of (e.format i)) (e.rows i) in
+    let c = cut_parts p in
+    subst (λ (d : Cutting). StandsOn d q) (sym same) (record {
+      some = omega (arith, e.size, s.some);
+      few = omega (arith, e.size, s.few);
+      builder = (λ i. (e.block i).builder) ∙ s.builder ∙ next_filled p q c.filling e.size e.format;
+      counts = (λ i. (e.block i).stats) ∙ s.counts;
+      separators = e.separators ∙ s.separators;
+      stats = e.stats ∙ s.stats;
+      begins = ap length e.offsets ∙ s.begins;
+      blocks = omega (arith, ap length e.separators, s.blocks);
+      each = subst (λ (f : BlockFormat). AllByRecursion (FitsBlock (version_of f)) c.ended) (sym e.format) s.each;
+      order = subst AreInOrder (sym e.rows) s.order;
+      lengths = subst (AllByRecursion CanTake) (sym e.rows) s.lengths;
+      keys = e.keys ∙ s.keys ∙ ap (λ (l : List RowEntry). sum_by (λ x. length x.key) l) (sym e.rows);
+      values = e.values ∙ s.values ∙ ap (λ (l : List RowEntry). sum_by (λ x. length (operand x)) l) (sym e.rows);
+    })
+
+pub same_seen : (p q : TableParts) → IsSame p q → seen q ≡ seen p
+same_seen p q e = λ i. record { version = version_of (e.format i); size = e.size i; rows = e.rows i; bytes = e.bytes i; offsets = e.offsets i }
+
+pub same_again : (p : TableParts) → IsSame p p
+same_again p = record { size = refl; format = refl; rows = refl; block = refl; bytes = refl; offsets = refl; separators = refl; stats = refl; keys = refl; values = refl }
+
+pub same_then : (p m q : TableParts) → IsSame p m → IsSame m q → IsSame p q
+same_then p m q a b = record {
+  size = b.size ∙ a.size;
+  format = b.format ∙ a.format;
+  rows = b.rows ∙ a.rows;
+  block = b.block ∙ a.block;
+  bytes = b.bytes ∙ a.bytes;
+  offsets = b.offsets ∙ a.offsets;
+  separators = b.separators ∙ a.separators;
+  stats = b.stats ∙ a.stats;
+  keys = b.keys ∙ a.keys;
+  values = b.values ∙ a.values;
+}
+
+pub begun_again : (p m q : TableParts) (stored part : List ℕ) (r : RowEntry) → IsSame p m → IsBegun stored m r q → stored ≡ part → IsBegun part p r q
+begun_again p m q stored part r e b is = record {
+  size = b.size ∙ e.size;
+  format = b.format ∙ e.format;
+  rows = b.rows ∙ e.rows;
+  separators = b.separators ∙ (λ i. e.separators i ++ separator_behind (e.rows i) r.key ∷ []);
+  keys = b.keys ∙ e.keys;
+  values = b.values ∙ e.values;
+  builder = b.builder ∙ next_filled m p (r ∷ []) (sym e.size) (sym e.format);
+  counts = b.counts;
+  bytes = b.bytes ∙ (λ i. e.bytes i ++ summed (is i));
+  offsets = b.offsets ∙ (λ i. e.offsets i ++ length (e.bytes i) ∷ []);
+  stats = b.stats ∙ (λ i. e.stats i ++ (e.block i).stats ∷ []);
+}
+
+-- ---- a block that was ended, once there was room for its section
+
+pub ended_of : (encode : Encode) (p m q : TableParts) (stored : List ℕ) (next : Counting) → IsSame p m → IsEndedBy stored next m q → q.rows ≡ m.rows →
+    stored ≡ encode (block_bytes p.block.builder.version p.block.builder.rows) → FitsBlock p.block.builder.version p.block.builder.rows → IsEnded encode p q
+ended_of encode p m q stored next e b rows is fits = record {
+  size = b.size ∙ e.size;
+  format = b.format ∙ e.format;
+  rows = (λ i. (rows i).items) ∙ e.rows;
+  separators = b.separators ∙ e.separators;
+  keys = b.keys ∙ e.keys;
+  values = b.values ∙ e.values;
+  bytes = b.bytes ∙ (λ i. e.bytes i ++ summed (is i));
+  offsets = b.offsets ∙ (λ i. e.offsets i ++ length (e.bytes i) ∷ []);
+  stats = b.stats ∙ (λ i. e.stats i ++ (e.block i).stats ∷ []);
+  fits = fits;
+}
+
+-- ---- a row that was written, and then kept
+
+kept_taken : (p m q : TableParts) (r : RowEntry) → IsInBlock p r m → IsKept m r q → IsTaken p r q
+kept_taken p m q r w k = record {
+  size = k.size ∙ w.size;
+  format = k.format ∙ w.format;
+  rows = k.rows ∙ ap (λ (l : List RowEntry). l ++ r ∷ []) w.rows;
+  separators = (λ i. (k.separators i).items) ∙ w.separators;
+  keys = k.keys ∙ ap (λ (n : ℕ). n + length r.key) w.keys;
+  values = k.values ∙ ap (λ (n : ℕ). n + length (operand r)) w.values;
+  builder = (λ i. (k.block i).builder) ∙ w.builder;
+  counts = λ counted h. (λ i. (k.block i).stats) ∙ w.counts counted h;
+  bytes = (λ i. (k.bytes i).items) ∙ w.bytes;
+  offsets = (λ i. (k.offsets i).items) ∙ w.offsets;
+  stats = (λ i. (k.stats i).items) ∙ w.stats;
+}
+
+kept_behind : (encode : Encode) (p m q : TableParts) (r : RowEntry) → FitsBlock p.block.builder.version p.block.builder.rows →
+    IsBegun (encode (block_bytes p.block.builder.version p.block.builder.rows)) p r m → IsKept m r q → IsBehind encode p r q
+kept_behind encode p m q r fits w k = record {
+  size = k.size ∙ w.size;
+  format = k.format ∙ w.format;
+  rows = k.rows ∙ ap (λ (l : List RowEntry). l ++ r ∷ []) w.rows;
+  separators = (λ i. (k.separators i).items) ∙ w.separators;
+  keys = k.keys ∙ ap (λ (n : ℕ). n + length r.key) w.keys;
+  values = k.values ∙ ap (λ (n : ℕ). n + length (operand r)) w.values;
+  builder = (λ i. (k.block i).builder) ∙ w.builder;
+  counts = (λ i. (k.block i).stats) ∙ w.counts;
+  bytes = (λ i. (k.bytes i).items) ∙ w.bytes;
+  offsets = (λ i. (k.offsets i).items) ∙ w.offsets;
+  stats = (λ i. (k.stats i).items) ∙ w.stats;
+  fits = fits;
+}
+
+pub kept_added : (encode : Encode) (p m q : TableParts) (r : RowEntry) → IsWritten encode p r m → IsKept m r q → IsAdded encode p r q
+kept_added encode p m q r (inl w) k = inl (w.0, kept_taken p m q r w.1 k)
+kept_added encode p m q r (inr w) k = inr (w.0, kept_behind encode p m q r w.1 w.2 k)
+
+-- room for the sums, behind what was written
+pub written_sums : (encode : Encode) (p m : TableParts) (r q : RowEntry) → IsWritten encode p r m → HasSums p q → HasSums m q
+written_sums encode p m r q (inl w) h = record { keys = omega (arith, w.1.keys, h.keys); values = omega (arith, w.1.values, h.values) }
+written_sums encode p m r q (inr w) h = record { keys = omega (arith, w.2.keys, h.keys); values = omega (arith, w.2.values, h.values) }
 
 -- ---- sections
 
@@ -228,26 +337,26 @@ taken_sections encode p q r s fit t a =
 pub flat_end : (ss : List (List ℕ)) (x : List ℕ) → flat_map (λ y. y) (ss ++ x ∷ []) ≡ flat_map (λ y. y) ss ++ x
 flat_end ss x = flat_map-append (λ (y : List ℕ). y) ss (x ∷ []) ∙ ap (λ (l : List ℕ). flat_map (λ y. y) ss ++ l) (append-nil x)
 
-ended_sections : (encode : Encode) (p m q : TableParts) (r : RowEntry) → Stands p → fits_parts p r ≡ false → IsEnded encode p m → IsTaken m r q → Sections encode p → Sections encode q
-ended_sections encode p m q r s fit e t a =
+behind_sections : (encode : Encode) (p q : TableParts) (r : RowEntry) → Stands p → fits_parts p r ≡ false → IsBehind encode p r q → Sections encode p → Sections encode q
+behind_sections encode p q r s fit b a =
     let c = cut_parts p in
     let version = version_of p.format in
     let ss = block_sections encode version c.ended in
     let x = section encode (block_bytes version c.filling) in
-    let next = ap (λ (d : Cutting). d.ended) (next_ended encode p m q r s fit e t) in
+    let next = ap (λ (d : Cutting). d.ended) (next_behind encode p q r s fit b) in
     let more : ss ++ x ∷ [] ≡ block_sections encode version (c.ended ++ c.filling ∷ []) = sym (map-append (λ (b : List RowEntry). section encode (block_bytes version b)) c.ended (c.filling ∷ [])) in
-    let same : ss ++ x ∷ [] ≡ block_sections encode (version_of q.format) (cut_parts q).ended = more ∙ (λ i. block_sections encode (version_of (sym (t.format ∙ e.format) i)) (sym next i)) in
+    let same : ss ++ x ∷ [] ≡ block_sections encode (version_of q.format) (cut_parts q).ended = more ∙ (λ i. block_sections encode (version_of (sym b.format i)) (sym next i)) in
     let last = ap (λ (b : Building). section encode (block_bytes b.version b.rows)) s.builder in
-    let whole : q.bytes.items ≡ flat_map (λ y. y) ss ++ x = t.bytes ∙ e.bytes ∙ (λ i. a.are_bytes i ++ last i) in
+    let whole : q.bytes.items ≡ flat_map (λ y. y) ss ++ x = b.bytes ∙ (λ i. a.are_bytes i ++ last i) in
     let begin : length p.bytes.items ≡ 0 + length (flat_map (λ y. y) ss) = ap length a.are_bytes ∙ omega arith in
     record {
       are_bytes = whole ∙ sym (flat_end ss x) ∙ ap (λ (l : List (List ℕ)). flat_map (λ y. y) l) same;
-      are_offsets = t.offsets ∙ e.offsets ∙ (λ i. a.are_offsets i ++ begin i ∷ []) ∙ sym (places_end 0 ss x) ∙ ap (places 0) same;
+      are_offsets = b.offsets ∙ (λ i. a.are_offsets i ++ begin i ∷ []) ∙ sym (places_end 0 ss x) ∙ ap (places 0) same;
     }
 
 pub added_sections : (encode : Encode) (p q : TableParts) (r : RowEntry) → Stands p → IsAdded encode p r q → Sections encode p → Sections encode q
 added_sections encode p q r s (inl a) h = taken_sections encode p q r s a.0 a.1 h
-added_sections encode p q r s (inr a) h = ended_sections encode p a.0 q r s a.1 a.2 a.3 h
+added_sections encode p q r s (inr a) h = behind_sections encode p q r s a.0 a.1 h
 
 -- ---- a builder with no row, and what it refuses
 
@@ -267,18 +376,19 @@ fresh_stands p some few rows builder counts seps stats offsets keys values =
       blocks = omega (arith, ap length seps);
       each = tt;
       order = subst AreInOrder (sym rows) tt;
+      lengths = subst (AllByRecursion CanTake) (sym rows) tt;
       keys = keys ∙ ap (λ (l : List RowEntry). sum_by (λ x. length x.key) l) (sym rows);
       values = values ∙ ap (λ (l : List RowEntry). sum_by (λ x. length (operand x)) l) (sym rows);
     })
 
-pub old_size : (encode : Encode) (p : TableParts) (w : Bool) (r : RowEntry) → Stands p → ended_size encode p r ≡ section_size encode (seen p w) r
-old_size encode p w r s = ap (λ (b : Building). cond (fits_in b.size b.version b.rows r) None (Some (length (section encode (block_bytes b.version b.rows))))) s.builder
+pub old_size : (encode : Encode) (p : TableParts) (r : RowEntry) → Stands p → ended_size encode p r ≡ section_size encode (seen p) r
+old_size encode p r s = ap (λ (b : Building). cond (fits_in b.size b.version b.rows r) None (Some (length (section encode (block_bytes b.version b.rows))))) s.builder
 
-pub ends_a_block : (encode : Encode) (p : TableParts) (w : Bool) (r : RowEntry) → Stands p → fits_parts p r ≡ false → IsSome (section_size encode (seen p w) r)
-ends_a_block encode p w r s past =
+pub ends_a_block : (encode : Encode) (p : TableParts) (r : RowEntry) → Stands p → fits_parts p r ≡ false → IsSome (section_size encode (seen p) r)
+ends_a_block encode p r s past =
     let size = length (section encode (block_bytes p.block.builder.version p.block.builder.rows)) in
     let ended : ended_size encode p r ≡ Some size = ap (λ (t : Bool). cond t None (Some size)) past in
-    subst (λ (o : Option ℕ). IsSome o) (sym ended ∙ old_size encode p w r s) refl
+    subst (λ (o : Option ℕ). IsSome o) (sym ended ∙ old_size encode p r s) refl
 
 with_begun_count : (ended : List (List RowEntry)) (filling : List RowEntry) → Begun filling → length (with_last ended filling) ≡ length ended + 1
 with_begun_count ended [] h = absurd h
@@ -295,16 +405,10 @@ full_count p r s fit =
     let before = ap length s.separators ∙ separators_count (all_blocks c) ∙ with_begun_count c.ended c.filling begun in
     omega (arith, now, more, before)
 
-pub past_limit : (p : TableParts) (w : Bool) (r : RowEntry) (limit : ℕ) → Stands p → IsPastLimit p r limit → IsLimit (seen p w) r limit
-past_limit p w r limit s (inl h) = let count = full_count p r s h.1 in inl (h.0, omega (arith, h.2, count))
-past_limit p w r limit s (inr h) = inr (h.0, by h.1)
-  where
-    by : (2 ^ 64 ≤ p.raw_key_size + length r.key) ⊎ (2 ^ 64 ≤ p.raw_val_size + length (operand r)) →
-        (2 ^ 64 ≤ sum_by (λ x. length x.key) (p.rows.items ++ r ∷ [])) ⊎ (2 ^ 64 ≤ sum_by (λ x. length (operand x)) (p.rows.items ++ r ∷ []))
-    by (inl k) = let sum = key_sum p.rows.items r in let old = s.keys in inl (omega (arith, k, sum, old))
-    by (inr k) = let sum = value_sum p.rows.items r in let old = s.values in inr (omega (arith, k, sum, old))
+pub full_passes : (p : TableParts) (r : RowEntry) → Stands p → IsFull p r → HasTooManyBlocks (seen p) r
+full_passes p r s h = let count = full_count p r s h.0 in omega (arith, h.1, count)
 
--- ---- a row within the limits passes none
+-- ---- a row for which there is a place makes none too many
 
 begun_snoc : (b : List RowEntry) (r : RowEntry) → Begun (b ++ r ∷ [])
 begun_snoc [] r = tt
@@ -317,7 +421,7 @@ same_count p r s fit =
     let next = sym (cut_is p.block_size (version_of p.format) (p.rows.items ++ r ∷ [])) ∙ ap all_blocks (cutting_more p.block_size (version_of p.format) p.rows.items r ∙ cut_same p.block_size (version_of p.format) c r more) in
     ap length next ∙ with_begun_count c.ended (c.filling ++ r ∷ []) (begun_snoc c.filling r)
 
-few_ended : (p : TableParts) (rows : List RowEntry) → p.rows.items ≡ rows → Stands p → length (cut_parts p).ended + 1 < 2 ^ 32
+pub few_ended : (p : TableParts) (rows : List RowEntry) → p.rows.items ≡ rows → Stands p → length (cut_parts p).ended + 1 < 2 ^ 32
 unfolding cutting
 few_ended p [] is s =
     let none : length (cut_parts p).ended ≡ 0 = ap (λ (l : List RowEntry). length (cutting p.block_size (version_of p.format) l).ended) is in
@@ -329,46 +433,29 @@ few_ended p (x ∷ xs) is s =
     let blocks = s.blocks in
     omega (arith, count, blocks)
 
-pub within_none : (p : TableParts) (w : Bool) (r : RowEntry) (limit : ℕ) → Stands p → IsWithinLimits p r → IsLimit (seen p w) r limit → ⊥
-within_none p w r limit s i (inl h) = by (fits_parts p r) refl
+pub room_passes_none : (p : TableParts) (r : RowEntry) → Stands p → (fits_parts p r ≡ false → length p.separators.items + 1 < 2 ^ 32) → HasTooManyBlocks (seen p) r → ⊥
+room_passes_none p r s room past = by (fits_parts p r) refl
   where
     by : (t : Bool) → fits_parts p r ≡ t → ⊥
     by true fit =
         let count = same_count p r s fit in
         let few = few_ended p p.rows.items refl s in
-        let past = h.1 in
         absurd (omega (arith, count, few, past))
     by false fit =
         let count = full_count p r s fit in
-        let few = i.blocks fit in
-        let past = h.1 in
+        let few = room fit in
         absurd (omega (arith, count, few, past))
-within_none p w r limit s i (inr h) = by h.1
-  where
-    by : (2 ^ 64 ≤ sum_by (λ x. length x.key) (p.rows.items ++ r ∷ [])) ⊎ (2 ^ 64 ≤ sum_by (λ x. length (operand x)) (p.rows.items ++ r ∷ [])) → ⊥
-    by (inl k) = let sum = key_sum p.rows.items r in let old = s.keys in let few = i.keys in absurd (omega (arith, k, sum, old, few))
-    by (inr k) = let sum = value_sum p.rows.items r in let old = s.values in let few = i.values in absurd (omega (arith, k, sum, old, few))
-
--- ---- limits
-
-pub holds_where_some : {A : Type 0} (o : Option A) (P : Type 0) (v : A) → SomeIff o P v → is_some o ≡ true → P
-holds_where_some None P v h is = absurd cc
-holds_where_some (Some x) P v h is = h.0
-
-pub fails_where_none : {A : Type 0} (o : Option A) (P : Type 0) (v : A) → SomeIff o P v → is_some o ≡ false → P → ⊥
-fails_where_none None P v h is = h
-fails_where_none (Some x) P v h is = absurd cc
 
 -- ---- a row that was added, as a builder is seen
 
 pub added_rows : (encode : Encode) (p q : TableParts) (r : RowEntry) → IsAdded encode p r q → q.rows.items ≡ p.rows.items ++ r ∷ []
 added_rows encode p q r (inl a) = a.1.rows
-added_rows encode p q r (inr a) = a.3.rows ∙ ap (λ (l : List RowEntry). l ++ r ∷ []) a.2.rows
+added_rows encode p q r (inr a) = a.1.rows
 
 pub added_format : (encode : Encode) (p q : TableParts) (r : RowEntry) → IsAdded encode p r q → q.format ≡ p.format
 added_format encode p q r (inl a) = a.1.format
-added_format encode p q r (inr a) = a.3.format ∙ a.2.format
+added_format encode p q r (inr a) = a.1.format
 
 pub added_size : (encode : Encode) (p q : TableParts) (r : RowEntry) → IsAdded encode p r q → q.block_size ≡ p.block_size
 added_size encode p q r (inl a) = a.1.size
-added_size encode p q r (inr a) = a.3.size ∙ a.2.size
+added_size encode p q r (inr a) = a.1.size

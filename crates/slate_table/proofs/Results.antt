@@ -64,6 +64,10 @@ pub on_err : {T E P : Type 0} (r : Result T E) → P → OnErr r P
 on_err (Ok x) p = tt
 on_err (Err e) p = p
 
+pub either_way : {T E P : Type 0} (r : Result T E) → OnOk r P → OnErr r P → P
+either_way (Ok x) ok err = ok
+either_way (Err e) ok err = err
+
 pub if_ok : {T E : Type 0} (r : Result T E) (P : T → Type 0) → ((x : T) → P x) → IfOk r P
 if_ok (Ok x) P f = f x
 if_ok (Err e) P f = tt

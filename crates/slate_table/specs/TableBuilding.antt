@@ -4,15 +4,14 @@
 --     cutting size version rows      the rows, cut one after the other
 --     all_blocks c      the blocks of a cutting, the last one not ended
 --     TableBuilding      what a builder is seen as: its version, its block size, the rows that were added, the sections of the
---                        blocks that were ended and where they begin, and whether more may be added
+--                        blocks that were ended and where they begin
 --     AreSections encode version blocks bytes offsets      the bytes are the sections of the blocks, which begin at the offsets
 --     begun version size      a builder with no row
 --     section_size encode b r      the size of the section of the block that a row ends
---     IsLimit b r limit      what a row would pass
+--     max_blocks, HasTooManyBlocks b r      how many blocks a table has at most; with this row it would have more
 --     AreEncoded encode b      the sections of the blocks that were ended were made by this transformer
-use Rattle.std.specs.Prelude.{◌≡◌, ℕ, ◌-◌, ◌^◌, ◌<◌, ◌≤◌, ◌⊎◌, Bool, true, if◌then◌else◌, List, [], ◌∷◌, ◌++◌, length, sum_by, fold, flat_map, Option, Some, None}
+use Rattle.std.specs.Prelude.{◌≡◌, ℕ, ◌-◌, ◌^◌, ◌<◌, if◌then◌else◌, List, [], ◌∷◌, ◌++◌, length, fold, flat_map, Option, Some, None}
 use Rattle.slate_types.specs.declared.types.RowEntry.{RowEntry}
-use Rattle.slate_types.specs.Rows.{operand}
 use Rattle.slate_block.specs.BlockSpelling.{places, block_bytes}
 use Rattle.slate_block.specs.Fitting.{fits_in}
 use Rattle.slate_table.specs.Parts.{Encode, section}
@@ -42,7 +41,6 @@ pub record TableBuilding : Type 0 where
   pub rows : List RowEntry
   pub bytes : List ℕ
   pub offsets : List ℕ
-  pub is_whole : Bool
 
 abbrev pub cut_rows : TableBuilding → Cutting
 cut_rows b = cutting b.size b.version b.rows
@@ -55,13 +53,14 @@ abbrev pub AreEncoded : Encode → TableBuilding → Type 0
 AreEncoded encode b = AreSections encode b.version (cut_rows b).ended b.bytes b.offsets
 
 abbrev pub begun : ℕ → ℕ → TableBuilding
-begun version size = record { version = version; size = size; rows = []; bytes = []; offsets = []; is_whole = true }
+begun version size = record { version = version; size = size; rows = []; bytes = []; offsets = [] }
 
 -- of the block that the row ends, where it doesn't fit
 abbrev pub section_size : Encode → TableBuilding → RowEntry → Option ℕ
 section_size encode b r = if fits_in b.size b.version (cut_rows b).filling r then None else Some (length (section encode (block_bytes b.version (cut_rows b).filling)))
 
--- of blocks, or of the bytes of keys or of values
-abbrev pub IsLimit : TableBuilding → RowEntry → ℕ → Type 0
-IsLimit b r limit = ((limit ≡ 2 ^ 32 - 1) × (2 ^ 32 - 1 < length (cut b.size b.version (b.rows ++ r ∷ []))))
-    ⊎ ((limit ≡ 2 ^ 64 - 1) × ((2 ^ 64 ≤ sum_by (λ x. length x.key) (b.rows ++ r ∷ [])) ⊎ (2 ^ 64 ≤ sum_by (λ x. length (operand x)) (b.rows ++ r ∷ []))))
+abbrev pub max_blocks : ℕ
+max_blocks = 2 ^ 32 - 1
+
+abbrev pub HasTooManyBlocks : TableBuilding → RowEntry → Type 0
+HasTooManyBlocks b r = max_blocks < length (cut b.size b.version (b.rows ++ r ∷ []))

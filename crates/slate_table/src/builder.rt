@@ -10,7 +10,7 @@ ghost use Rattle.slate_table.specs.TableEnd.{HasInfo};
 ghost use Rattle.slate_table.specs.Parts.{Encode};
 ghost use Rattle.slate_table.specs.SectionReading.{changed_by, IsTransformFault};
 ghost use Rattle.slate_table.specs.TableParts.{version_of};
-ghost use Rattle.slate_table.specs.TableBuilding.{begun, section_size, IsLimit, AreEncoded};
+ghost use Rattle.slate_table.specs.TableBuilding.{begun, max_blocks, section_size, AreEncoded, HasTooManyBlocks};
 
 use crate::encoded_table::EncodedSsTable;
 use crate::info::SsTableFormat;
@@ -20,26 +20,23 @@ use std::alloc::Global;
 use std::marker::Model;
 
 /// Takes rows in their order, key upwards and sequence downwards, and gives their table. A block ends just before a row that
-/// doesn't fit. Contracts see the version and the block size, the rows that were added, the sections of the blocks that were
-/// ended and where they begin, and whether more may be added: after a refusal for want of memory, or by the transformer, the
-/// builder may only be dropped.
+/// doesn't fit. Contracts see the version and the block size, the rows that were added, and the sections of the blocks that were
+/// ended and where they begin.
 #[derive(Drop)]
 pub struct EncodedSsTableBuilder {
     parts: TableParts,
-    is_whole: bool,
 }
 
 impl Model for EncodedSsTableBuilder {
-    ghost use Rattle.std.specs.Prelude.{◌≡◌, true};
     ghost use Rattle.slate_table.specs.TableBuilding.{TableBuilding};
 
     ghost Value = { TableBuilding };
 
     ghost use Rattle.slate_table.specs.TableParts.{seen, Stands};
 
-    ghost view = { λ b. seen b.parts b.is_whole };
+    ghost view = { λ b. seen b.parts };
 
-    ghost invariant = { λ b. b.is_whole ≡ true → Stands b.parts };
+    ghost invariant = { λ b. Stands b.parts };
 }
 
 impl EncodedSsTableBuilder {
@@ -69,16 +66,12 @@ impl EncodedSsTableBuilder {
             raw_key_size: 0,
             raw_val_size: 0,
         };
-        Ok(EncodedSsTableBuilder {
-            parts,
-            is_whole: true,
-        })
+        Ok(EncodedSsTableBuilder { parts })
     }
 
     /// Whether a row may be added behind the others: its key is greater than that of the last one, or the same with a lower
     /// sequence.
     pub fn follows(&self, entry: &RowEntry) -> bool
-        requires { self.now.is_whole ≡ true }
         ensures { IsTrue result ↔ AreInOrder (self.now.rows ++ entry.now ∷ []) }
     {
         match self.parts.rows.last() {
@@ -87,29 +80,27 @@ impl EncodedSsTableBuilder {
         }
     }
 
-    /// Adds a row behind the others, which it must follow, and answers the size of the section of a block that it ended. `EmptyKey` exactly for an
-    /// empty key, and `LimitReached` exactly where there would be more than 4294967295 blocks, or a sum of the lengths of keys
-    /// or values past `u64::MAX`: these leave the builder as it was. After `BlockTransformError`, which comes only where the row
-    /// ends a block and the transformer's count of faults rose, and after `OutOfMemory` it may only be dropped.
+    /// Adds a row behind the others, which it must follow, and answers the size of the section of a block that it ended. `EmptyKey`
+    /// exactly for an empty key, and then `LimitReached` exactly where there would be more than 4294967295 blocks;
+    /// `BlockTransformError`, which comes only where the row ends a block and the transformer's count of faults rose, or
+    /// `OutOfMemory`. Each of them leaves the builder as it was.
     pub fn add<T: BlockTransformer>(
         &mut self,
         alloc: Global,
         entry: RowEntry,
         transformer: &mut Option<T>,
     ) -> Result<Option<u64>, SlateDBError>
-        requires whole { self.old.is_whole ≡ true }
         requires lengths { CanTake entry }
         requires order { AreInOrder (self.old.rows ++ entry ∷ []) }
         ensures added { OnOk result (self.new.rows ≡ self.old.rows ++ entry ∷ []) }
-        ensures whole { OnOk result (self.new.is_whole ≡ true) }
-        ensures version { OnOk result (self.new.version ≡ self.old.version) }
-        ensures size { OnOk result (self.new.size ≡ self.old.size) }
-        ensures encoded { OnOk result (AreEncoded (changed_by T.encoded transformer.old) self.old → AreEncoded (changed_by T.encoded transformer.old) self.new) }
+        ensures unspoilt { OnErr result (self.new ≡ self.old) }
+        ensures version { self.new.version ≡ self.old.version }
+        ensures size { self.new.size ≡ self.old.size }
+        ensures encoded { AreEncoded (changed_by T.encoded transformer.old) self.old → AreEncoded (changed_by T.encoded transformer.old) self.new }
         ensures ended { IfOk result (λ size. size ≡ section_size (changed_by T.encoded transformer.old) self.old entry) }
-        ensures limit { (limit : ℕ) → IsLimit self.old entry limit → 0 < length entry.key → (reached : ℕ) × (result ≡ Err (SlateDBError.LimitReached reached)) }
+        ensures limit { (result ≡ Err (SlateDBError.LimitReached max_blocks)) ↔ (HasTooManyBlocks self.old entry × (0 < length entry.key)) }
         ensures empty { (result ≡ Err SlateDBError.EmptyKey) ↔ (length entry.key ≡ 0) }
-        ensures cause { IfErr result (λ e. IsTransformFault (faults_of T.faults transformer.old) (faults_of T.faults transformer.new) e
-            ⊎ ((self.new ≡ self.old) × ((e ≡ SlateDBError.EmptyKey) ⊎ ((limit : ℕ) × (e ≡ SlateDBError.LimitReached limit) × IsLimit self.old entry limit)))) }
+        ensures cause { IfErr result (λ e. IsTransformFault (faults_of T.faults transformer.old) (faults_of T.faults transformer.new) e ⊎ (e ≡ SlateDBError.EmptyKey) ⊎ (e ≡ SlateDBError.LimitReached max_blocks)) }
         ensures fault { result ≡ Err SlateDBError.BlockTransformError → IsSome (section_size (changed_by T.encoded transformer.old) self.old entry) }
         ensures same_encoded { changed_by T.encoded transformer.new ≡ changed_by T.encoded transformer.old }
         ensures same_decoded { changed_by T.decoded transformer.new ≡ changed_by T.decoded transformer.old }
@@ -117,12 +108,7 @@ impl EncodedSsTableBuilder {
         ensures still { (result ≡ Err SlateDBError.BlockTransformError) ⊎ (result ≡ Err SlateDBError.OutOfMemory) ⊎ (faults_of T.faults transformer.new ≡ faults_of T.faults transformer.old) }
     {
         match self.parts.test(&entry) {
-            Ok(()) => {
-                self.is_whole = false;
-                let ended = self.parts.add(alloc, entry, transformer);
-                self.is_whole = ended.is_ok();
-                ended
-            }
+            Ok(()) => self.parts.add(alloc, entry, transformer),
             Err(error) => {
                 drop(entry);
                 Err(error)
@@ -137,7 +123,6 @@ impl EncodedSsTableBuilder {
         alloc: Global,
         transformer: &mut Option<T>,
     ) -> Result<EncodedSsTable, SlateDBError>
-        requires whole { self.is_whole ≡ true }
         requires rows { 0 < length self.rows }
         ensures built { IfOk result (λ table. AreEncoded (changed_by T.encoded transformer.old) self → (min : ℕ) → IsBuilt (changed_by T.encoded transformer.old) [] min self.size self.version table.bytes self.rows) }
         ensures info { IfOk result (λ table. HasInfo table.bytes self.version (seen_info table.info)) }

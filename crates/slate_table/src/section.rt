@@ -1,5 +1,5 @@
 //! Sections: the parts of a table as they are stored, each with its checksum behind it.
-ghost use Rattle.std.specs.Prelude.{◌≡◌, ◌≤◌, ◌<◌, ◌++◌, ◌⊎◌, ℕ, List, Some, None, Err, Ok, length, take, slice_index, OnOk, OnErr, IfOk, IfErr, IsOkUnless};
+ghost use Rattle.std.specs.Prelude.{◌≡◌, ◌+◌, ◌≤◌, ◌<◌, ◌++◌, ◌⊎◌, ℕ, List, Some, None, Err, Ok, length, take, slice_index, vec_len, vec_capacity, OnOk, OnErr, IfOk, IfErr, IsOkUnless};
 ghost use Rattle.slate_types.specs.declared.error.SlateDBError.{SlateDBError};
 ghost use Rattle.slate_types.specs.Faults.{faults_of};
 ghost use Rattle.slate_block.specs.RowReading.{refusal};
@@ -14,7 +14,7 @@ ghost use Rattle.slate_table.specs.SectionReading.{
 };
 
 use crate::crc::checksum;
-use crate::writing::{append, append_u32};
+use crate::writing::put;
 use bytes::Bytes;
 use slate_block::fields::corrupt;
 use slate_types::{BlockTransformer, SlateDBError};
@@ -80,7 +80,7 @@ pub fn open_section<T: BlockTransformer>(
 }
 
 /// Appends the section of a part. `BlockTransformError`, only where the transformer's count of faults rose, or `OutOfMemory`;
-/// then more may stand behind what `out` held.
+/// then `out` is as it was.
 pub fn seal_section<T: BlockTransformer>(
     alloc: Global,
     out: &mut Vec<u8>,
@@ -88,7 +88,7 @@ pub fn seal_section<T: BlockTransformer>(
     transformer: &mut Option<T>,
 ) -> Result<(), SlateDBError>
     ensures appended { OnOk result (out.new.items ≡ out.old.items ++ section (changed_by T.encoded transformer.old) part) }
-    ensures kept { OnErr result (take (length out.old.items) out.new.items ≡ out.old.items) }
+    ensures unchanged { OnErr result (out.new.items ≡ out.old.items) }
     ensures cause { IfErr result (λ e. IsTransformFault (faults_of T.faults transformer.old) (faults_of T.faults transformer.new) e) }
     ensures same_encoded { changed_by T.encoded transformer.new ≡ changed_by T.encoded transformer.old }
     ensures same_decoded { changed_by T.decoded transformer.new ≡ changed_by T.decoded transformer.old }
@@ -101,17 +101,28 @@ pub fn seal_section<T: BlockTransformer>(
     sealed
 }
 
-/// Appends bytes and their checksum. The one error is `OutOfMemory`, after which more may stand behind what `out` held.
+/// Appends bytes and their checksum. The one error is `OutOfMemory`, after which `out` is as it was.
 pub fn append_summed(out: &mut Vec<u8>, bytes: &[u8]) -> Result<(), SlateDBError>
     ensures appended { OnOk result (out.new.items ≡ out.old.items ++ summed bytes.now) }
-    ensures kept { OnErr result (take (length out.old.items) out.new.items ≡ out.old.items) }
+    ensures unchanged { OnErr result (out.new.items ≡ out.old.items) }
     ensures cause { IsOkUnless result SlateDBError.OutOfMemory }
 {
-    append(out, bytes)?;
-    append_u32(out, checksum(bytes))
+    out.reserve(bytes.len() + CHECKSUM_SIZE)?;
+    put_summed(out, bytes);
+    Ok(())
 }
 
-fn encoded<T: BlockTransformer>(
+/// Appends bytes and their checksum, for which there is room.
+pub(crate) fn put_summed(out: &mut Vec<u8>, bytes: &[u8])
+    requires { vec_len out.old + (length bytes.now + 4) ≤ vec_capacity out.old }
+    ensures { out.new.items ≡ out.old.items ++ summed bytes.now }
+{
+    put(out, bytes);
+    put(out, &checksum(bytes).to_be_bytes());
+}
+
+/// The part as it is stored.
+pub(crate) fn encoded<T: BlockTransformer>(
     alloc: Global,
     part: Bytes,
     transformer: &mut Option<T>,

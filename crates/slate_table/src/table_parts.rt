@@ -1,24 +1,24 @@
 //! What a table builder keeps.
-ghost use Rattle.std.specs.Prelude.{◌≡◌, ◌≤◌, ◌<◌, ◌+◌, ◌^◌, ◌⊎◌, ◌==◌, ◌++◌, ◌∷◌, ◌↔◌, if◌then◌else◌, ℕ, List, [], Ok, Err, true, false, length, OnOk, IfOk, IfErr, IsOkUnless};
-ghost use Rattle.slate_types.specs.Rows.{operand};
+ghost use Rattle.std.specs.Prelude.{◌≡◌, ◌≤◌, ◌<◌, ◌+◌, ◌^◌, ◌⊎◌, ◌==◌, ◌++◌, ◌∷◌, ◌↔◌, if◌then◌else◌, List, [], Ok, Err, true, false, length, vec_len, vec_capacity, OnOk, OnErr, IfOk, IfErr, IsOkUnless};
 ghost use Rattle.slate_block.specs.Building.{CanTake, with_row};
 ghost use Rattle.slate_block.specs.Fitting.{fits_in};
 ghost use Rattle.slate_types.specs.declared.types.RowEntry.{RowEntry};
-ghost use Rattle.slate_block.specs.BlockSpelling.{block_bytes};
+ghost use Rattle.slate_block.specs.BlockSpelling.{FitsBlock, block_bytes};
 ghost use Rattle.slate_block.specs.Counting.{stats_of};
-ghost use Rattle.slate_table.specs.Parts.{section};
+ghost use Rattle.slate_table.specs.Parts.{summed};
+ghost use Rattle.slate_table.specs.TableBuilding.{max_blocks};
 ghost use Rattle.slate_table.specs.SectionReading.{changed_by};
 ghost use Rattle.slate_table.specs.Asking.{Asks};
 ghost use Rattle.slate_table.specs.Table.{some_first, some_last};
 ghost use Rattle.slate_table.specs.Decoded.{FitsShort};
-ghost use Rattle.slate_table.specs.TableParts.{version_of, separator_behind, fits_parts, ended_size, IsAdded, IsEnded, IsTaken, IsPastLimit, IsWithinLimits, Stands};
+ghost use Rattle.slate_table.specs.TableParts.{version_of, separator_behind, fits_parts, ended_size, HasSectionRoom, HasSums, IsAdded, IsBegun, IsEnded, IsEndedBy, IsFull, IsKept, IsSame, IsWritten, Stands};
 ghost use Rattle.slate_table.specs.InfoReading.{seen_info};
 ghost use Rattle.slate_table.specs.TableEnd.{EndsAt, IsReady, IsSealed, IsFinished};
 
 use crate::encoded_table::EncodedSsTable;
 use crate::index_writing::encode_index;
 use crate::info::SsTableInfo;
-use crate::section::seal_section;
+use crate::section::{CHECKSUM_SIZE, encoded, put_summed, seal_section};
 use crate::separator::separator;
 use crate::stats_writing::encode_stats;
 use crate::table_end::append_end;
@@ -69,14 +69,13 @@ pub fn new_block(
 }
 
 impl TableParts {
-    /// `EmptyKey` exactly for an empty key, and then `LimitReached` exactly where a row would make a block too many, or a sum of
-    /// lengths too great.
+    /// `EmptyKey` exactly for an empty key, and then `LimitReached` exactly where a row would make a block too many.
     pub fn test(&self, entry: &RowEntry) -> Result<(), SlateDBError>
         requires { CanTake entry.now }
         ensures empty { (result ≡ Err SlateDBError.EmptyKey) ↔ (length entry.now.key ≡ 0) }
         ensures some { OnOk result (0 < length entry.now.key) }
-        ensures within { OnOk result (IsWithinLimits self.now entry.now) }
-        ensures past { IfErr result (λ e. (e ≡ SlateDBError.EmptyKey) ⊎ ((limit : ℕ) × (e ≡ SlateDBError.LimitReached limit) × IsPastLimit self.now entry.now limit)) }
+        ensures room { OnOk result (fits_parts self.now entry.now ≡ false → length self.now.separators.items + 1 < 2 ^ 32) }
+        ensures past { IfErr result (λ e. (e ≡ SlateDBError.EmptyKey) ⊎ ((e ≡ SlateDBError.LimitReached max_blocks) × IsFull self.now entry.now)) }
     {
         if entry.key.is_empty() {
             return Err(SlateDBError::EmptyKey);
@@ -86,35 +85,159 @@ impl TableParts {
                 limit: MAX_BLOCKS as u64,
             });
         }
-        let keys = self.raw_key_size.checked_add(entry.key.len() as u64);
-        let values = self.raw_val_size.checked_add(entry.value.len() as u64);
-        if keys.is_some() && values.is_some() {
-            return Ok(());
-        }
-        Err(SlateDBError::LimitReached { limit: u64::MAX })
+        Ok(())
     }
 
-    /// Ends the block, which has a row, and answers the length of its section.
-    pub fn end_block<T: BlockTransformer>(
+    /// Takes a row behind the others, and ends the block where it doesn't fit: then it answers the length of its section. An
+    /// error leaves all as it was.
+    pub fn add<T: BlockTransformer>(
+        &mut self,
+        alloc: Global,
+        entry: RowEntry,
+        transformer: &mut Option<T>,
+    ) -> Result<Option<u64>, SlateDBError>
+        requires some { 0 < self.old.block_size }
+        requires few { self.old.block_size ≤ 65535 }
+        requires lengths { CanTake entry }
+        requires key { 0 < length entry.key }
+        requires sums { HasSums self.old entry }
+        ensures added { OnOk result (IsAdded (changed_by T.encoded transformer.old) self.old entry self.new) }
+        ensures same { OnErr result (IsSame self.old self.new) }
+        ensures size { IfOk result (λ size. size ≡ ended_size (changed_by T.encoded transformer.old) self.old entry) }
+        ensures asks { Asks T.encoded T.decoded T.faults transformer.old transformer.new result }
+        ensures fault { result ≡ Err SlateDBError.BlockTransformError → fits_parts self.old entry ≡ false }
+    {
+        match self.write(alloc, &entry, transformer) {
+            Ok(size) => {
+                self.keep(entry);
+                Ok(size)
+            }
+            Err(error) => {
+                drop(entry);
+                Err(error)
+            }
+        }
+    }
+
+    /// Writes a row into the block, or into the next one, and makes room to keep it.
+    fn write<T: BlockTransformer>(
+        &mut self,
+        alloc: Global,
+        entry: &RowEntry,
+        transformer: &mut Option<T>,
+    ) -> Result<Option<u64>, SlateDBError>
+        requires some { 0 < self.old.block_size }
+        requires few { self.old.block_size ≤ 65535 }
+        requires lengths { CanTake entry.now }
+        requires key { 0 < length entry.now.key }
+        ensures written { OnOk result (IsWritten (changed_by T.encoded transformer.old) self.old entry.now self.new) }
+        ensures room { OnOk result (vec_len self.new.rows < vec_capacity self.new.rows) }
+        ensures same { OnErr result (IsSame self.old self.new) }
+        ensures size { IfOk result (λ size. size ≡ ended_size (changed_by T.encoded transformer.old) self.old entry.now) }
+        ensures asks { Asks T.encoded T.decoded T.faults transformer.old transformer.new result }
+        ensures fault { result ≡ Err SlateDBError.BlockTransformError → fits_parts self.old entry.now ≡ false }
+    {
+        self.rows.reserve(1)?;
+        if self.block.would_fit(entry) {
+            write_row(&mut self.block, &mut self.separators, &self.rows, entry)?;
+            return Ok(None);
+        }
+        let stored = self.stored_block(alloc, transformer)?;
+        let size = self.begin(alloc, stored.as_slice(), entry)?;
+        Ok(Some(size))
+    }
+
+    /// The block, which has a row, as its section stores it.
+    fn stored_block<T: BlockTransformer>(
+        &self,
+        alloc: Global,
+        transformer: &mut Option<T>,
+    ) -> Result<Bytes, SlateDBError>
+        requires { 0 < length self.now.block.builder.rows }
+        ensures stored { IfOk result (λ stored. stored ≡ changed_by T.encoded transformer.old (block_bytes self.now.block.builder.version self.now.block.builder.rows)) }
+        ensures fits { OnOk result (FitsBlock self.now.block.builder.version self.now.block.builder.rows) }
+        ensures asks { Asks T.encoded T.decoded T.faults transformer.old transformer.new result }
+    {
+        let part = self.block.encode(alloc)?;
+        encoded(alloc, part, transformer)
+    }
+
+    /// Ends the block, which is stored so, and writes a row into the next one. It answers the length of the section.
+    fn begin(&mut self, alloc: Global, stored: &[u8], entry: &RowEntry) -> Result<u64, SlateDBError>
+        requires some { 0 < self.old.block_size }
+        requires few { self.old.block_size ≤ 65535 }
+        requires lengths { CanTake entry.now }
+        requires key { 0 < length entry.now.key }
+        ensures begun { OnOk result (IsBegun stored.now self.old entry.now self.new) }
+        ensures rows { self.new.rows ≡ self.old.rows }
+        ensures same { OnErr result (IsSame self.old self.new) }
+        ensures size { IfOk result (λ size. size ≡ length (summed stored.now)) }
+        ensures cause { IsOkUnless result SlateDBError.OutOfMemory }
+    {
+        let mut next = new_block(alloc, self.format, self.block_size)?;
+        self.reserve_section(stored)?;
+        write_row(&mut next, &mut self.separators, &self.rows, entry)?;
+        Ok(self.end_with(stored, next))
+    }
+
+    /// Makes room for the section of a block that is stored so.
+    fn reserve_section(&mut self, stored: &[u8]) -> Result<(), SlateDBError>
+        ensures same { IsSame self.old self.new }
+        ensures rows { self.new.rows ≡ self.old.rows }
+        ensures separators { self.new.separators ≡ self.old.separators }
+        ensures room { OnOk result (HasSectionRoom (length stored.now) self.new) }
+        ensures cause { IsOkUnless result SlateDBError.OutOfMemory }
+    {
+        self.bytes.reserve(stored.len() + CHECKSUM_SIZE)?;
+        self.offsets.reserve(1)?;
+        self.block_stats.reserve(1)?;
+        Ok(())
+    }
+
+    /// Appends the section of the block, which is stored so, and goes on with the next block. It answers the section's length.
+    fn end_with(&mut self, stored: &[u8], next: BlockBuilderWithStats) -> u64
+        requires { HasSectionRoom (length stored.now) self.old }
+        ensures ended { IsEndedBy stored.now next self.old self.new }
+        ensures rows { self.new.rows ≡ self.old.rows }
+        ensures size { result ≡ length (summed stored.now) }
+    {
+        let begin = self.bytes.len();
+        put_summed(&mut self.bytes, stored);
+        self.offsets.push_reserved(begin as u64);
+        self.block_stats.push_reserved(self.block.stats());
+        drop(mem::replace(&mut self.block, next));
+        (self.bytes.len() - begin) as u64
+    }
+
+    /// Keeps a row that was written, for which there is room.
+    fn keep(&mut self, entry: RowEntry)
+        requires room { vec_len self.old.rows < vec_capacity self.old.rows }
+        requires sums { HasSums self.old entry }
+        ensures { IsKept self.old entry self.new }
+    {
+        self.raw_key_size += entry.key.len() as u64;
+        self.raw_val_size += entry.value.len() as u64;
+        self.rows.push_reserved(entry);
+    }
+
+    /// Ends the last block, which has a row.
+    fn end_block<T: BlockTransformer>(
         &mut self,
         alloc: Global,
         transformer: &mut Option<T>,
-    ) -> Result<u64, SlateDBError>
+    ) -> Result<(), SlateDBError>
         requires some { 0 < self.old.block_size }
         requires few { self.old.block_size ≤ 65535 }
         requires row { 0 < length self.old.block.builder.rows }
         ensures ended { OnOk result (IsEnded (changed_by T.encoded transformer.old) self.old self.new) }
-        ensures size { IfOk result (λ size. size ≡ length (section (changed_by T.encoded transformer.old) (block_bytes self.old.block.builder.version self.old.block.builder.rows))) }
         ensures asks { Asks T.encoded T.decoded T.faults transformer.old transformer.new result }
     {
+        let stored = self.stored_block(alloc, transformer)?;
         let empty = new_block(alloc, self.format, self.block_size)?;
-        let (builder, stats) = mem::replace(&mut self.block, empty).into_parts();
-        let part = builder.build_encoded()?;
-        let begin = self.bytes.len();
-        seal_section(alloc, &mut self.bytes, part, transformer)?;
-        self.offsets.push(begin as u64)?;
-        self.block_stats.push(stats)?;
-        Ok((self.bytes.len() - begin) as u64)
+        let bytes = stored.as_slice();
+        self.reserve_section(bytes)?;
+        self.end_with(bytes, empty);
+        Ok(())
     }
 
     /// Ends the last block, and gives the table.
@@ -188,63 +311,6 @@ impl TableParts {
         )?;
         frozen(bytes, info, version)
     }
-
-    /// Takes a row behind the others, and ends the block where it doesn't fit: then it answers the length of its section.
-    pub fn add<T: BlockTransformer>(
-        &mut self,
-        alloc: Global,
-        entry: RowEntry,
-        transformer: &mut Option<T>,
-    ) -> Result<Option<u64>, SlateDBError>
-        requires some { 0 < self.old.block_size }
-        requires few { self.old.block_size ≤ 65535 }
-        requires lengths { CanTake entry }
-        requires key { 0 < length entry.key }
-        requires keys { self.old.raw_key_size + length entry.key < 2 ^ 64 }
-        requires values { self.old.raw_val_size + length (operand entry) < 2 ^ 64 }
-        ensures added { OnOk result (IsAdded (changed_by T.encoded transformer.old) self.old entry self.new) }
-        ensures size { IfOk result (λ size. size ≡ ended_size (changed_by T.encoded transformer.old) self.old entry) }
-        ensures asks { Asks T.encoded T.decoded T.faults transformer.old transformer.new result }
-        ensures fault { result ≡ Err SlateDBError.BlockTransformError → fits_parts self.old entry ≡ false }
-    {
-        if self.block.would_fit(&entry) {
-            self.take(entry)?;
-            return Ok(None);
-        }
-        match self.end_block(alloc, transformer) {
-            Ok(size) => {
-                self.take(entry)?;
-                Ok(Some(size))
-            }
-            Err(error) => {
-                drop(entry);
-                Err(error)
-            }
-        }
-    }
-
-    /// Takes a row that fits into the block.
-    fn take(&mut self, entry: RowEntry) -> Result<(), SlateDBError>
-        requires lengths { CanTake entry }
-        requires key { 0 < length entry.key }
-        requires fits { fits_parts self.old entry ≡ true }
-        requires keys { self.old.raw_key_size + length entry.key < 2 ^ 64 }
-        requires values { self.old.raw_val_size + length (operand entry) < 2 ^ 64 }
-        ensures taken { OnOk result (IsTaken self.old entry self.new) }
-        ensures cause { IsOkUnless result SlateDBError.OutOfMemory }
-    {
-        match write_row(&mut self.block, &mut self.separators, &self.rows, &entry) {
-            Ok(()) => {
-                self.raw_key_size += entry.key.len() as u64;
-                self.raw_val_size += entry.value.len() as u64;
-                self.rows.push(entry).map_err(SlateDBError::from)
-            }
-            Err(error) => {
-                drop(entry);
-                Err(error)
-            }
-        }
-    }
 }
 
 /// The number of a format in the bytes of a table.
@@ -286,23 +352,8 @@ fn separator_behind(rows: &[RowEntry], key: &Bytes) -> Result<Bytes, SlateDBErro
     }
 }
 
-/// Adds the separator of a block that begins with the key.
-fn begin_block(
-    separators: &mut Vec<Bytes>,
-    block: &BlockBuilderWithStats,
-    rows: &[RowEntry],
-    key: &Bytes,
-) -> Result<(), SlateDBError>
-    ensures begun { OnOk result (separators.new.items ≡ (if length block.now.builder.rows == 0 then separators.old.items ++ separator_behind rows.now key.now ∷ [] else separators.old.items)) }
-    ensures cause { IsOkUnless result SlateDBError.OutOfMemory }
-{
-    if block.is_empty() {
-        separators.push(separator_behind(rows, key)?)?;
-    }
-    Ok(())
-}
-
-/// Writes a row that fits into the block, behind these rows.
+/// Writes a row that fits into the block, behind these rows. Where it is the block's first one, the block's separator is put behind
+/// the others. `OutOfMemory` leaves both as they were.
 fn write_row(
     block: &mut BlockBuilderWithStats,
     separators: &mut Vec<Bytes>,
@@ -315,9 +366,30 @@ fn write_row(
     ensures begun { OnOk result (separators.new.items ≡ (if length block.old.builder.rows == 0 then separators.old.items ++ separator_behind rows.now entry.now.key ∷ [] else separators.old.items)) }
     ensures taken { OnOk result (block.new.builder ≡ with_row block.old.builder entry.now) }
     ensures counted { OnOk result ((counted : List RowEntry) → block.old.stats ≡ stats_of counted → block.new.stats ≡ stats_of (counted ++ entry.now ∷ [])) }
+    ensures same_block { OnErr result (block.new ≡ block.old) }
+    ensures same_separators { OnErr result (separators.new.items ≡ separators.old.items) }
     ensures cause { IsOkUnless result SlateDBError.OutOfMemory }
 {
-    begin_block(separators, block, rows, &entry.key)?;
+    if !block.is_empty() {
+        return take_row(block, entry);
+    }
+    separators.reserve(1)?;
+    let front = separator_behind(rows, &entry.key)?;
+    take_row(block, entry)?;
+    separators.push_reserved(front);
+    Ok(())
+}
+
+/// Takes a row that fits into the block. `OutOfMemory` leaves it as it was.
+fn take_row(block: &mut BlockBuilderWithStats, entry: &RowEntry) -> Result<(), SlateDBError>
+    requires lengths { CanTake entry.now }
+    requires key { 0 < length entry.now.key }
+    requires fits { fits_in block.old.builder.size block.old.builder.version block.old.builder.rows entry.now ≡ true }
+    ensures taken { OnOk result (block.new.builder ≡ with_row block.old.builder entry.now) }
+    ensures counted { OnOk result ((counted : List RowEntry) → block.old.stats ≡ stats_of counted → block.new.stats ≡ stats_of (counted ++ entry.now ∷ [])) }
+    ensures same { OnErr result (block.new ≡ block.old) }
+    ensures cause { IsOkUnless result SlateDBError.OutOfMemory }
+{
     let copy = entry.clone()?;
     block.add(copy)?;
     Ok(())

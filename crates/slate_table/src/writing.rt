@@ -1,9 +1,19 @@
 //! Numbers in the parts of a table, the highest byte first.
-ghost use Rattle.std.specs.Prelude.{◌≡◌, ◌<◌, ◌^◌, ◌++◌, length, flat_map, OnOk, OnErr, IsOkUnless};
+ghost use Rattle.std.specs.Prelude.{◌≡◌, ◌+◌, ◌≤◌, ◌<◌, ◌^◌, ◌++◌, length, flat_map, vec_len, vec_capacity, OnOk, OnErr, IsOkUnless};
 ghost use Rattle.std.specs.List.{AllByRecursion};
 ghost use Rattle.slate_block.specs.RowSpelling.{be16, be32, be64};
 
 use slate_types::SlateDBError;
+
+/// Appends bytes for which there is room.
+pub(crate) fn put(out: &mut Vec<u8>, bytes: &[u8])
+    requires { vec_len out.old + length bytes.now ≤ vec_capacity out.old }
+    ensures appended { out.new.items ≡ out.old.items ++ bytes.now }
+    ensures len { vec_len out.new ≡ vec_len out.old + length bytes.now }
+    ensures capacity { vec_capacity out.old ≤ vec_capacity out.new }
+{
+    out.extend_from_slice(bytes).unwrap();
+}
 
 /// Appends bytes. The one error is `OutOfMemory`.
 pub(crate) fn append(out: &mut Vec<u8>, bytes: &[u8]) -> Result<(), SlateDBError>

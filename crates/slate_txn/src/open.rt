@@ -224,7 +224,11 @@ fn unshared_key(alloc: Global, key: &Bytes, same: &Bytes) -> Result<Bytes, Alloc
 }
 
 /// Adds a step to the transcript of the open transaction with this id. Where memory is wanting nothing is added.
-fn note(items: &mut BTreeMap<Uuid, DbTransactionInner>, id: &Uuid, step: TranscriptStep) -> Result<(), AllocError>
+fn note(
+    items: &mut BTreeMap<Uuid, DbTransactionInner>,
+    id: &Uuid,
+    step: TranscriptStep,
+) -> Result<(), AllocError>
     ensures ok { OnOk result (items.new.entries ≡ update_named id.now (λ t. record t { transcript = t.transcript ++ step ∷ [] }) items.old.entries) }
     ensures err { OnErr result (items.new.entries ≡ items.old.entries) }
 {

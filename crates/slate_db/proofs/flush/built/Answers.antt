@@ -22,7 +22,6 @@ loop-row-init g c =
     let gives : into_iter_items c.into_iter-row-iterator.result ≡ c.args.rows.items = search rules in
     record {
       rows = (λ i. (begun i).rows ++ into_iter_items c.into_iter-row-iterator.result) ∙ gives;
-      whole = ap (λ (b : TableBuilding). b.is_whole) begun;
       version = ap (λ (b : TableBuilding). b.version) begun;
       size = ap (λ (b : TableBuilding). b.size) begun;
       encoded = subst (λ (b : TableBuilding). AreEncoded (changed_by g.T.BlockTransformer.encoded c.args.transformer.now) b) (sym begun) (begun_encoded _ _ _);
@@ -36,10 +35,9 @@ loop-row-preserved g c =
     let was = c.loop-row.invariant in
     record {
       rows = ap (λ (xs : Rows). xs ++ into_iter_items c.next.new.self) c.in_ok-add.ensures.added ∙ one_more _ _ _ _ _ c.in-Some.ensures.steps.0 was.rows;
-      whole = c.in_ok-add.ensures.whole;
-      version = c.in_ok-add.ensures.version ∙ was.version;
-      size = c.in_ok-add.ensures.size ∙ was.size;
-      encoded = subst (λ (encode : Encode). AreEncoded encode c.add.new.self) was.same_encoded (c.in_ok-add.ensures.encoded (subst (λ (encode : Encode). AreEncoded encode c.loop-row.builder) (sym was.same_encoded) was.encoded));
+      version = c.add.ensures.version ∙ was.version;
+      size = c.add.ensures.size ∙ was.size;
+      encoded = subst (λ (encode : Encode). AreEncoded encode c.add.new.self) was.same_encoded (c.add.ensures.encoded (subst (λ (encode : Encode). AreEncoded encode c.loop-row.builder) (sym was.same_encoded) was.encoded));
       same_encoded = c.add.ensures.same_encoded ∙ was.same_encoded;
       same_decoded = c.add.ensures.same_decoded ∙ was.same_decoded;
       later = omega (arith, c.add.ensures.later, was.later);
@@ -49,7 +47,6 @@ pub add-requires : goal.add-requires
 add-requires g c =
     let was = c.loop-row.invariant in
     record {
-      whole = was.whole;
       lengths = can_take _ (row_fits _ _ _ _ _ c.in-Some.ensures.steps.0 was.rows c.requires.fit);
       order = row_order _ _ _ _ _ c.in-Some.ensures.steps.0 was.rows c.requires.order;
     }
@@ -58,7 +55,7 @@ pub build-requires : goal.build-requires
 build-requires g c =
     let was = c.loop-row.invariant in
     let none : into_iter_items c.loop-row.row-iterator ≡ [] = nil_from_length _ (omega (arith, c.in-None.ensures.steps.0)) in
-    record { whole = was.whole; rows = subst (λ (xs : Rows). 0 < length xs) (sym (all_taken _ _ _ none was.rows)) c.requires.some }
+    subst (λ (xs : Rows). 0 < length xs) (sym (all_taken _ _ _ none was.rows)) c.requires.some
 
 pub returns-in_err-add : goal.returns-in_err-add
 returns-in_err-add g c =
@@ -73,8 +70,8 @@ returns-in_err-add g c =
           rw (p.1, p.2)
           (subst (λ (rows : Rows). IsTransformFault (faults c.args.transformer.now) (faults c.add.new.transformer) c.in_err-add.field-0.0 ⊎ IsTooLarge (layout_of c.args.options.now) rows c.in_err-add.field-0.0)
           (one_more _ _ _ _ _ c.in-Some.ensures.steps.0 was.rows)
-          (add_refused (layout_of c.args.options.now) c.loop-row.builder c.add.new.self c.in-Some.row (into_iter_items c.next.new.self) (faults c.args.transformer.now) (faults c.loop-row.transformer) (faults c.add.new.transformer) c.in_err-add.field-0.0
-          was.later was.version was.size row_ok.key.0 (λ is. c.add.ensures.empty.0 (c.in_err-add.was ∙ ap Err is)) c.in_err-add.ensures.cause)));
+          (add_refused (layout_of c.args.options.now) c.loop-row.builder c.in-Some.row (into_iter_items c.next.new.self) (faults c.args.transformer.now) (faults c.loop-row.transformer) (faults c.add.new.transformer) c.in_err-add.field-0.0
+          was.later was.version was.size row_ok.key.0 (λ is. c.add.ensures.empty.0 (c.in_err-add.was ∙ ap Err is)) (λ is. (c.add.ensures.limit.0 (c.in_err-add.was ∙ ap Err is)).0) c.in_err-add.ensures.cause)));
       same_encoded = c.add.ensures.same_encoded ∙ c.loop-row.invariant.same_encoded;
       same_decoded = c.add.ensures.same_decoded ∙ c.loop-row.invariant.same_decoded;
       later = omega (arith, c.loop-row.invariant.later, c.add.ensures.later);

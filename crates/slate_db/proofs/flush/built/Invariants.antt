@@ -1,4 +1,4 @@
-use Rattle.std.proofs.Common.{◌≡◌, ◌≤◌, ◌++◌, true}
+use Rattle.std.proofs.Common.{◌≡◌, ◌≤◌, ◌++◌}
 use Rattle.std.specs.Vec.Iter.{into_iter_items}
 use Rattle.slate_types.specs.Faults.{faults_of}
 use Rattle.slate_table.specs.SectionReading.{changed_by}
@@ -9,7 +9,6 @@ use Rattle.slate_db.proofs.flush.built.Given as goal
 abbrev pub invariant-loop-row : goal.invariant-loop-row
 invariant-loop-row g l = record {
   rows : l.builder.rows ++ into_iter_items l.row-iterator ≡ l.fn.rows.items;
-  whole : l.builder.is_whole ≡ true;
   version : l.builder.version ≡ version_of l.options.block_format;
   size : l.builder.size ≡ l.options.block_size;
   encoded : AreEncoded (changed_by g.T.BlockTransformer.encoded l.initial.transformer) l.builder;

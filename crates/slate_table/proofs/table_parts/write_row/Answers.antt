@@ -1,39 +1,56 @@
-use Rattle.std.proofs.Common.{◌≡◌, ◌∙◌, ◌++◌, ◌∷◌, [], true, Ok, Err, length, ap, inl, inr, rules, arith}
-use Rattle.std.proofs.lemmas.Result.{err_from_is_err_and, IfOk-from_err}
-use Rattle.slate_types.specs.declared.types.RowEntry.{RowEntry}
-use Rattle.slate_block.specs.Building.{with_row}
-use Rattle.slate_block.specs.Counting.{stats_of}
-use Rattle.slate_block.specs.Fitting.{fits_in}
+use Rattle.std.proofs.Common.{◌≡◌, ◌∙◌, ◌++◌, ◌∷◌, [], List, ℕ, Bool, true, false, length, refl, cond, ◌==◌, sym, ap}
+use Rattle.std.proofs.lemmas.Result.{IfOk-from_err}
+use Rattle.slate_types.specs.declared.error.SlateDBError.TheVariants.{OutOfMemory}
+use Rattle.slate_table.specs.TableParts.{separator_behind}
+use Rattle.slate_table.proofs.Asking.{memory_exit}
+use Rattle.slate_table.proofs.Results.{on_ok, on_err}
 use Rattle.slate_table.proofs.table_parts.write_row.Goals as goal
 
-copy_is : (c : goal.In_ok-add) → c.in_ok-copy.copy ≡ c.args.entry.now
-copy_is c = search rules
+pub returns-then-not-is_empty-clause-begun : goal.returns-then-not-is_empty-clause-begun
+returns-then-not-is_empty-clause-begun c =
+    let old = c.args.separators.now.items in
+    let some : (length c.args.block.now.builder.rows == 0) ≡ false = sym c.is_empty.ensures ∙ c.if-not-is_empty.true in
+    on_ok c.take_row.result (sym (ap (λ (t : Bool). cond t (old ++ separator_behind c.args.rows.now c.args.entry.now.key ∷ []) old) some))
 
-is_taken : (c : goal.In_ok-add) → c.in_ok-add.field-0 ≡ true
-is_taken c =
-    let b = c.args.block.now.builder in
-    c.in_ok-add.ensures.fits ∙ ap (λ (r : RowEntry). fits_in b.size b.version b.rows r) (copy_is c) ∙ c.requires.fits
+pub returns-then-not-is_empty-clause-same_separators : goal.returns-then-not-is_empty-clause-same_separators
+returns-then-not-is_empty-clause-same_separators c = on_err c.take_row.result refl
 
-pub returns-in_err-add : goal.returns-in_err-add
-returns-in_err-add c =
-    let p = err_from_is_err_and c.from_residual-in_err-add.result c.from_residual-in_err-add.ensures.1 in
+pub returns-in_err-reserve : goal.returns-in_err-reserve
+returns-in_err-reserve c =
     record {
-      begun = IfOk-from_err c.from_residual-in_err-add.result _ c.from_residual-in_err-add.ensures.0;
-      taken = IfOk-from_err c.from_residual-in_err-add.result _ c.from_residual-in_err-add.ensures.0;
-      counted = IfOk-from_err c.from_residual-in_err-add.result _ c.from_residual-in_err-add.ensures.0;
-      cause = (let key : length c.in_ok-copy.copy.key ≡ length c.args.entry.now.key = ap (λ (r : RowEntry). length r.key) c.in_ok-copy.ensures.cases in
-          rw (p.1, p.2)
-          (elim c.in_err-add.ensures.cause [
-            | inl h ↦ absurd (omega (arith, c.in_err-add.ensures.empty.0 (ap Err h), key))
-            | inr h ↦ h
-          ]));
+      begun = IfOk-from_err c.from_residual.result _ c.from_residual.ensures.0;
+      taken = IfOk-from_err c.from_residual.result _ c.from_residual.ensures.0;
+      counted = IfOk-from_err c.from_residual.result _ c.from_residual.ensures.0;
+      same_block = on_err c.from_residual.result refl;
+      same_separators = on_err c.from_residual.result c.in_err-reserve.ensures.items;
+      cause = memory_exit c.from_residual.result _ c.from_residual.ensures.1 OutOfMemory refl;
     }
 
-pub returns : goal.returns
-returns c =
+pub returns-in_err-front : goal.returns-in_err-front
+returns-in_err-front c =
     record {
-      begun = c.in_ok-begin_block.ensures.begun;
-      taken = c.in_ok-add.ensures.taken (ap Ok (is_taken c)) ∙ ap (with_row c.args.block.now.builder) (copy_is c);
-      counted = λ counted h. c.in_ok-add.ensures.counted counted (ap Ok (is_taken c)) h ∙ ap (λ (r : RowEntry). stats_of (counted ++ r ∷ [])) (copy_is c);
-      cause = tt;
+      begun = IfOk-from_err c.from_residual-in_err-front.result _ c.from_residual-in_err-front.ensures.0;
+      taken = IfOk-from_err c.from_residual-in_err-front.result _ c.from_residual-in_err-front.ensures.0;
+      counted = IfOk-from_err c.from_residual-in_err-front.result _ c.from_residual-in_err-front.ensures.0;
+      same_block = on_err c.from_residual-in_err-front.result refl;
+      same_separators = on_err c.from_residual-in_err-front.result c.in_ok-reserve.ensures.items;
+      cause = memory_exit c.from_residual-in_err-front.result _ c.from_residual-in_err-front.ensures.1 OutOfMemory c.in_err-front.ensures.cause;
     }
+
+pub returns-in_err-take_row : goal.returns-in_err-take_row
+returns-in_err-take_row c =
+    record {
+      begun = IfOk-from_err c.from_residual-in_err-take_row.result _ c.from_residual-in_err-take_row.ensures.0;
+      taken = IfOk-from_err c.from_residual-in_err-take_row.result _ c.from_residual-in_err-take_row.ensures.0;
+      counted = IfOk-from_err c.from_residual-in_err-take_row.result _ c.from_residual-in_err-take_row.ensures.0;
+      same_block = on_err c.from_residual-in_err-take_row.result c.in_err-take_row.ensures.same;
+      same_separators = on_err c.from_residual-in_err-take_row.result c.in_ok-reserve.ensures.items;
+      cause = memory_exit c.from_residual-in_err-take_row.result _ c.from_residual-in_err-take_row.ensures.1 OutOfMemory c.in_err-take_row.ensures.cause;
+    }
+
+pub returns-clause-begun : goal.returns-clause-begun
+returns-clause-begun c =
+    let old = c.args.separators.now.items in
+    let none : (length c.args.block.now.builder.rows == 0) ≡ true = sym c.is_empty.ensures ∙ c.if-not-is_empty.false in
+    c.push_reserved.ensures.items ∙ (λ i. c.in_ok-reserve.ensures.items i ++ c.in_ok-front.ensures.value i ∷ [])
+    ∙ sym (ap (λ (t : Bool). cond t (old ++ separator_behind c.args.rows.now c.args.entry.now.key ∷ []) old) none)

@@ -1,4 +1,4 @@
-use Rattle.std.proofs.Common.{◌≡◌, ◌∙◌, ◌<◌, List, true, length, ap, subst, sym, refl}
+use Rattle.std.proofs.Common.{◌∙◌, ◌<◌, List, length, ap, subst, sym, refl}
 use Rattle.std.proofs.lemmas.Result.{IfOk-weaker}
 use Rattle.slate_types.specs.declared.types.RowEntry.{RowEntry}
 use Rattle.slate_table.specs.SectionReading.{changed_by}
@@ -9,7 +9,7 @@ use Rattle.slate_table.proofs.BuiltLaws.{built_of, info_of_built}
 use Rattle.slate_table.proofs.builder.EncodedSsTableBuilder.build.Goals as goal
 
 pub finish-table-requires-clause-stands : goal.finish-table-requires-clause-stands
-finish-table-requires-clause-stands g c = c.self.invariant (ap (λ (b : TableBuilding). b.is_whole) c.self.view_is ∙ c.requires.whole)
+finish-table-requires-clause-stands g c = c.self.invariant
 
 pub finish-table-requires-clause-row : goal.finish-table-requires-clause-row
 finish-table-requires-clause-row g c = subst (λ (rows : List RowEntry). 0 < length rows) (sym (ap (λ (b : TableBuilding). b.rows) c.self.view_is)) c.requires.rows
@@ -19,13 +19,12 @@ returns g c =
     let inside = c.self.inside in
     let encode = changed_by g.T.BlockTransformer.encoded c.args.transformer.now in
     record {
-      built = (let whole : inside.is_whole ≡ true = ap (λ (b : TableBuilding). b.is_whole) c.self.view_is ∙ c.requires.whole in
-          let stands : Stands inside.parts = c.self.invariant whole in
+      built = (let stands : Stands inside.parts = c.self.invariant in
           IfOk-weaker c.finish-table.result _ _
-          (λ table made. built_of encode inside.parts inside.is_whole c.args.self table.bytes table.bytes table.info c.self.view_is stands c.requires.rows made refl)
+          (λ table made. built_of encode inside.parts c.args.self table.bytes table.bytes table.info c.self.view_is stands c.requires.rows made refl)
           c.finish-table.ensures.finished);
       info = (IfOk-weaker c.finish-table.result _ _
-          (λ table made. info_of_built encode inside.parts inside.is_whole c.args.self table.bytes table.bytes table.info table.info c.self.view_is made refl refl)
+          (λ table made. info_of_built encode inside.parts c.args.self table.bytes table.bytes table.info table.info c.self.view_is made refl refl)
           c.finish-table.ensures.finished);
       version = IfOk-weaker c.finish-table.result _ _ (λ table is. is ∙ ap (λ (b : TableBuilding). b.version) c.self.view_is) c.finish-table.ensures.version;
       cause = cause_of _ _ c.finish-table.result c.finish-table.ensures.asks.counts;

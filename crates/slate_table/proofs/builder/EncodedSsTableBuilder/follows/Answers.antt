@@ -1,4 +1,4 @@
-use Rattle.std.proofs.Common.{◌≡◌, ◌∙◌, ◌++◌, ◌∷◌, [], List, true, ap, subst, sym}
+use Rattle.std.proofs.Common.{◌++◌, ◌∷◌, [], List, true, ap, subst, sym}
 use Rattle.std.specs.Prelude.{◌↔◌, IsTrue}
 use Rattle.slate_types.specs.declared.types.RowEntry.{RowEntry}
 use Rattle.slate_table.specs.Table.{AreInOrder}
@@ -10,8 +10,7 @@ use Rattle.slate_table.proofs.builder.EncodedSsTableBuilder.follows.Goals as goa
 pub returns-in-Some : goal.returns-in-Some
 returns-in-Some c =
     let inside = c.self.inside in
-    let whole : inside.is_whole ≡ true = ap (λ (b : TableBuilding). b.is_whole) c.self.view_is ∙ c.requires in
-    let stands : Stands inside.parts = c.self.invariant whole in
+    let stands : Stands inside.parts = c.self.invariant in
     subst (λ (rows : List RowEntry). IsTrue c.stands_before.result ↔ AreInOrder (rows ++ c.args.entry.now ∷ [])) (ap (λ (b : TableBuilding). b.rows) c.self.view_is)
     (follows_tells inside.parts.rows.items c.deref.result.now c.in-Some.last.now c.args.entry.now c.stands_before.result c.deref.ensures.value (sym c.in-Some.ensures.value) c.stands_before.ensures stands.order)
 
