@@ -12,6 +12,8 @@ mod listing;
 #[cfg(test)]
 mod lists;
 #[cfg(test)]
+mod lying;
+#[cfg(test)]
 mod memory;
 #[cfg(test)]
 mod memory_lists;

@@ -56,7 +56,7 @@ const DAY: &[u8] = b"begin t si\nget t 'a\nwrite put 'a '1\nget t 'a\nrollback t
 
 const DAY_REPLIES: &[u8] = b"begun t 0\nnone\nwritten 1\nnone\nok\n";
 
-const TWICE: &[u8] =
+pub const TWICE: &[u8] =
     b"write put 'a '1\nflush\nbegin t si\nget t 'a\nwrite put 'b '2\nflush\nbegin u si\nget u 'b\nget u 'a\n";
 
 // The replies to its lines, up to the call of the store that fails.
@@ -72,7 +72,7 @@ const BEGUN_TWICE: &[u8] =
 const ONE_ROW: &[u8] =
     b"written 1\nflushed 1\nbegun t 1\nrow 'a '1 1 0 -\nwritten 2\nflushed 2\nbegun u 2\nrow 'b '2 2 0 -\n";
 
-const TWO_ROWS: &[u8] =
+pub const TWO_ROWS: &[u8] =
     b"written 1\nflushed 1\nbegun t 1\nrow 'a '1 1 0 -\nwritten 2\nflushed 2\nbegun u 2\nrow 'b '2 2 0 -\nrow 'a '1 1 0 -\n";
 
 const RUNS: &[Run] = &[
