@@ -1,0 +1,62 @@
+use Rattle.std.proofs.Common.{inl, is_some, refl, sym, ap, ◌∙◌, subst}
+use Rattle.slate_types.specs.declared.config.IsolationLevel.TheVariants.{Snapshot}
+use Rattle.slate_mem.specs.BatchModel.{BatchModel, plain_put, with_op}
+use Rattle.slate_mem.specs.Refusals.{op_refusal}
+use Rattle.slate_txn.specs.Named.{find_named}
+use Rattle.slate_txn.specs.Settings.{settings_of}
+use Rattle.slate_db.specs.Installs.{tables_of, Holds}
+use Rattle.slate_db.specs.Model.{CoreModel}
+use Rattle.slatedb.proofs.FirstCalls.{put-first, opened-first, finds-first, kept-first, none-refused, lawful-without}
+use Rattle.slatedb.proofs.FirstRead.{is-open, is-open-still}
+use Rattle.slatedb.proofs.FirstTable.{flushed-first, none-more}
+use Rattle.slatedb.proofs.first_steps.put_and_get.Goals as goal
+
+pub get-requires : goal.get-requires
+get-requires g c =
+    let p = put-first c.args.key.now c.args.value.now c.new-core.result c.write.new.self c.put.new.self c.in_ok-write.field-0
+    (c.new-core.ensures.settings ∙ ap settings_of c.new-options.ensures) c.new-core.ensures.state c.new-core.ensures.journal
+    (c.in_ok-put.ensures.taken ∙ ap (λ (b : BatchModel). with_op b c.args.key.now (plain_put c.args.value.now)) c.new-batch.ensures)
+    (none-refused (op_refusal c.args.key.now (plain_put c.args.value.now)) c.put.result c.in_ok-put.field-0 c.put.ensures.refused c.in_ok-put.was)
+    c.in_ok-write.ensures.step c.in_ok-write.ensures.event in
+    let opened = opened-first c.args.key.now c.args.value.now c.in_ok-reader.reader Snapshot c.write.new.self c.flush.new.self c.begin.new.self c.in_ok-flush.field-0 c.in_ok-reader._start p
+    c.flush.ensures.settings c.in_ok-flush.ensures.step c.in_ok-reader.ensures.step in
+    ap is_some (is-open c.in_ok-reader.reader Snapshot p.ops p.tracked c.begin.new.self.state opened)
+
+pub rollback-requires : goal.rollback-requires
+rollback-requires g c =
+    let p = put-first c.args.key.now c.args.value.now c.new-core.result c.write.new.self c.put.new.self c.in_ok-write.field-0
+    (c.new-core.ensures.settings ∙ ap settings_of c.new-options.ensures) c.new-core.ensures.state c.new-core.ensures.journal
+    (c.in_ok-put.ensures.taken ∙ ap (λ (b : BatchModel). with_op b c.args.key.now (plain_put c.args.value.now)) c.new-batch.ensures)
+    (none-refused (op_refusal c.args.key.now (plain_put c.args.value.now)) c.put.result c.in_ok-put.field-0 c.put.ensures.refused c.in_ok-put.was)
+    c.in_ok-write.ensures.step c.in_ok-write.ensures.event in
+    let opened = opened-first c.args.key.now c.args.value.now c.in_ok-reader.reader Snapshot c.write.new.self c.flush.new.self c.begin.new.self c.in_ok-flush.field-0 c.in_ok-reader._start p
+    c.flush.ensures.settings c.in_ok-flush.ensures.step c.in_ok-reader.ensures.step in
+    ap (λ (x : CoreModel). is_some (find_named c.in_ok-reader.reader x.state.txns)) c.in_ok-found.ensures.noted
+    ∙ ap is_some (is-open-still c.in_ok-reader.reader Snapshot p.ops p.tracked c.begin.new.self.state _ opened)
+
+pub returns : goal.returns
+returns g c =
+    let p = put-first c.args.key.now c.args.value.now c.new-core.result c.write.new.self c.put.new.self c.in_ok-write.field-0
+    (c.new-core.ensures.settings ∙ ap settings_of c.new-options.ensures) c.new-core.ensures.state c.new-core.ensures.journal
+    (c.in_ok-put.ensures.taken ∙ ap (λ (b : BatchModel). with_op b c.args.key.now (plain_put c.args.value.now)) c.new-batch.ensures)
+    (none-refused (op_refusal c.args.key.now (plain_put c.args.value.now)) c.put.result c.in_ok-put.field-0 c.put.ensures.refused c.in_ok-put.was)
+    c.in_ok-write.ensures.step c.in_ok-write.ensures.event in
+    let opened = opened-first c.args.key.now c.args.value.now c.in_ok-reader.reader Snapshot c.write.new.self c.flush.new.self c.begin.new.self c.in_ok-flush.field-0 c.in_ok-reader._start p
+    c.flush.ensures.settings c.in_ok-flush.ensures.step c.in_ok-reader.ensures.step in
+    let meant = c.flush.ensures.puts.meaning in
+    record {
+      found = (λ os told.
+          let table = flushed-first _ _ os c.write.new.self c.in_ok-flush.ensures.installed.0 c.flush.new.self c.in_ok-flush.field-0 _ _ told p.tables c.in_ok-flush.ensures.installed.1 c.in_ok-flush.ensures.installed.2 in
+          finds-first c.args.key.now c.args.value.now c.in_ok-reader.reader Snapshot c.write.new.self c.begin.new.self c.get.new.self.state c.in_ok-found.found _ _ p
+          (ap (λ (x : CoreModel). x.settings) c.in_ok-reader.ensures.event ∙ c.flush.ensures.settings)
+          meant refl opened
+          (c.in_ok-found.ensures.read.answer (record {
+            os = table.os;
+            readable = record {
+              lawful = lawful-without _ _ _ meant (λ d. refl);
+              kept = kept-first _ _ c.new-core.result c.write.new.self c.flush.new.self c.begin.new.self meant c.new-core.ensures.kept c.in_ok-write.ensures.kept c.flush.ensures.kept c.in_ok-reader.ensures.kept;
+              holds = subst (Holds table.os) (sym (ap (λ (x : CoreModel). tables_of x.events) c.in_ok-reader.ensures.event ∙ none-more c.flush.new.self.events _ refl)) table.holds;
+            };
+            answers = inl table.is;
+          })));
+    }
