@@ -55,7 +55,7 @@ pub build-requires : goal.build-requires
 build-requires g c =
     let was = c.loop-row.invariant in
     let none : into_iter_items c.loop-row.row-iterator ≡ [] = nil_from_length _ (omega (arith, c.in-None.ensures.steps.0)) in
-    subst (λ (xs : Rows). 0 < length xs) (sym (all_taken _ _ _ none was.rows)) c.requires.some
+    record { rows = subst (λ (xs : Rows). 0 < length xs) (sym (all_taken _ _ _ none was.rows)) c.requires.some }
 
 pub returns-in_err-add : goal.returns-in_err-add
 returns-in_err-add g c =
