@@ -16,7 +16,7 @@ use Rattle.slate_db.specs.Installs.{tables_of}
 use Rattle.slate_db.specs.Meaning.{Meaning, IsLawfulMeaning, rules_of}
 use Rattle.slate_db.specs.Model.{CoreModel, at}
 use Rattle.slate_db.specs.Sound.{IsKept}
-use Rattle.slate_db.specs.Whole.{AreFine}
+use Rattle.slate_db.specs.Log.{AreFine}
 use Rattle.slate_db.specs.Written.{IsWritten, after_write}
 use Rattle.slatedb.specs.FirstSteps.{first_put}
 use Rattle.slatedb.proofs.FirstRead.{plain, put-op, first-commit, written-state, begun-state, is-first, opened-is, reads-first}
