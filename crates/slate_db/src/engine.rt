@@ -215,6 +215,7 @@ impl Core {
         ensures settings { self.new.settings ≡ self.old.settings }
         ensures limit { NoPlaceToFlush self.old → result ≡ Err (SlateDBError.LimitReached LIMIT) }
         ensures cause { let reach = ⟦<EnvOf<S, M, T> as Outside>⟧.reach in IfErr result (IsFlushError (layout_of options.now) (reach env.old) (reach env.new) self.old) }
+        ensures operator { env.new.operator ≡ env.old.operator }
         ensures puts { let reach = ⟦<EnvOf<S, M, T> as Outside>⟧.reach in Puts (reach env.old) (reach env.new) }
     {
         self.place_for_flush()?;
@@ -251,6 +252,7 @@ impl Core {
         ensures refused { let reach = ⟦<EnvOf<S, M, T> as Outside>⟧.reach in OnErr result (MayPut (layout_of options.now) (reach env.old) (reach env.new) self.old) }
         ensures kept { let reach = ⟦<EnvOf<S, M, T> as Outside>⟧.reach in (m : Meaning) → m.encode ≡ (reach env.old).meaning.encode → IsKept m self.old → IsKept m self.new }
         ensures cause { let reach = ⟦<EnvOf<S, M, T> as Outside>⟧.reach in IfErr result (λ e. IsFault (reach env.old) (reach env.new) e ⊎ TooLarge (layout_of options.now) self.old e) }
+        ensures operator { env.new.operator ≡ env.old.operator }
         ensures puts { let reach = ⟦<EnvOf<S, M, T> as Outside>⟧.reach in Puts (reach env.old) (reach env.new) }
     {
         self.log.reserve().and(self.layers.reserve_table())?;

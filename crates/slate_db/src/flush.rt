@@ -53,6 +53,7 @@ pub fn stored<S: Store, M: MergeOperator, T: BlockTransformer>(
     ensures refused { let reach = ⟦<EnvOf<S, M, T> as Outside>⟧.reach in OnErr result (MayTakeTable (IsTableOfFlush (reach env.old).meaning.encode (layout_of options.now) number barrier (map (λ t. t.rows) frozen.now)) (reach env.old).objects (reach env.new).objects) }
     ensures cause { let reach = ⟦<EnvOf<S, M, T> as Outside>⟧.reach in IfErr result (λ e. IsFault (reach env.old) (reach env.new) e
         ⊎ ((rows : Rows) × ((m : Meaning) → IsFolded m barrier (map (λ t. t.rows) frozen.now) rows) × AreInOrder rows × IsTooLarge (layout_of options.now) rows e)) }
+    ensures operator { env.new.operator ≡ env.old.operator }
     ensures puts { let reach = ⟦<EnvOf<S, M, T> as Outside>⟧.reach in Puts (reach env.old) (reach env.new) }
 {
     let rows = rows_of_flush(alloc, frozen, barrier)?;

@@ -32,6 +32,7 @@ returns g c =
       acts = c.put-kept.ensures.acts;
       refused = c.put-kept.ensures.refused (changed_by g.T.BlockTransformer.encoded c.args.env.now.transformer) (layout_of c.args.options.now) c.args.number c.args.barrier (map (λ t. t.rows) c.args.frozen.now) (is_table g c);
       cause = if_err c.put-kept.result _ _ (λ e h. inl (store_fault _ _ e h)) c.put-kept.ensures.cause;
+      operator = refl;
       puts = puts_of _ _ refl c.built.ensures.same_encoded c.built.ensures.same_decoded (record { store = c.put-kept.ensures.later; operator = omega arith; transformer = c.built.ensures.later }) refl;
     }
 
@@ -43,6 +44,7 @@ returns-in_err-rows g c =
       acts = IfOk-from_err c.from_residual.result _ c.from_residual.ensures.0;
       refused = rw p.1 (may_keep _ _ _ (λ i. g.S.Store.objects c.args.env.now.store.now));
       cause = rw (p.1, p.2) (inl (subst (IsCounted _ _) (sym c.in_err-rows.ensures.cause) tt));
+      operator = refl;
       puts = puts_none _;
     }
 
@@ -54,5 +56,6 @@ returns-in_err-table g c =
       acts = IfOk-from_err c.from_residual-in_err-table.result _ c.from_residual-in_err-table.ensures.0;
       refused = rw p.1 (may_keep _ _ _ (λ i. g.S.Store.objects c.args.env.now.store.now));
       cause = rw (p.1, p.2) (or_large _ _ _ (λ large. (c.in_ok-rows.rows.items, c.in_ok-rows.ensures.folded, c.in_ok-rows.ensures.order, large)) c.in_err-table.ensures.cause);
+      operator = refl;
       puts = puts_of _ _ refl c.built.ensures.same_encoded c.built.ensures.same_decoded (record { store = omega arith; operator = omega arith; transformer = c.built.ensures.later }) refl;
     }

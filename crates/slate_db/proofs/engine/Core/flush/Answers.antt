@@ -64,6 +64,7 @@ returns-in_err-place_for_flush g c =
       settings = refl;
       limit = λ h. let p = err_from_is_err_and c.from_residual.result c.from_residual.ensures.1 in p.1 ∙ ap Err (p.2 ∙ c.in_err-place_for_flush.ensures.limit.0);
       cause = rw (p.1, p.2) (place_cause LIMIT c.args.self.now c.in_err-place_for_flush.field-0.0 c.in_err-place_for_flush.ensures.limit);
+      operator = refl;
       puts = puts_none _;
     }
 
@@ -88,6 +89,7 @@ returns-in_err-freeze g c =
       settings = ap (λ (v : CoreModel). v.settings) c.in_err-freeze.ensures.same;
       limit = λ h. absurd (omega (arith, c.in_ok-place_for_flush.ensures.place, h));
       cause = rw (p.1, p.2) (freeze_cause LIMIT _ _ c.args.self.now c.in_err-freeze.field-0.0 (λ e. let t : false ≡ true = c.in_err-freeze.ensures.idle e in cc) c.in_err-freeze.ensures.cause);
+      operator = refl;
       puts = puts_none _;
     }
 
@@ -173,5 +175,6 @@ returns g c =
       settings = settled c.install.result (changed_by g.T.BlockTransformer.encoded c.args.env.now.transformer) (layout_of c.args.options.now) c.freeze.new.self c.install.new.self (g.S.Store.objects c.args.env.now.store.now) (g.S.Store.objects c.install.new.env.store.now) c.install.ensures.installed c.install.ensures.same ∙ frozen_settings c.args.self.now c.freeze.new.self c.in_ok-freeze.ensures.event;
       limit = λ h. absurd (omega (arith, c.in_ok-place_for_flush.ensures.place, h));
       cause = cause_after c.install.result _ _ (λ e h. behind (layout_of c.args.options.now) c.args.self.now c.freeze.new.self e c.in_ok-freeze.ensures.event h) c.install.ensures.cause;
+      operator = c.install.ensures.operator;
       puts = c.install.ensures.puts;
     }

@@ -93,6 +93,7 @@ returns g c =
           (made.folded m)
           (subst (λ (v : CoreModel). IsKept m v) (sym c.self.view_is) k)));
       cause = tt;
+      operator = c.stored.ensures.operator;
       puts = c.stored.ensures.puts;
     }
 
@@ -131,6 +132,7 @@ returns-in_err-put g c =
           (too_large_is layout (view_of c.self.inside) c.barrier-barrier.result (map (λ t. t.rows) c.frozen.result.now) large.0 c.in_err-put.field-0.0
           (ap (λ (v : CoreModel). v.active) c.self.view_is ∙ c.requires.idle) barrier (c.frozen.ensures ∙ ap (λ (y : LayersModel). y.frozen) c.reserve_table.ensures.value) c.self.invariant.layers.fit large.1 large.2 large.3))
           c.in_err-put.ensures.cause));
+      operator = c.stored.ensures.operator;
       puts = c.stored.ensures.puts;
     }
 
@@ -146,5 +148,6 @@ returns-in_err-and g c =
       kept = (λ m same k.
           kept_same m (view_of c.self.inside) (view_of (record c.self.inside { log = c.reserve.new.self; layers = c.reserve_table.new.self })) (same_room c.self.inside c.reserve.new.self c.reserve_table.new.self c.reserve.ensures.value c.reserve_table.ensures.value) (subst (λ (v : CoreModel). IsKept m v) (sym c.self.view_is) k));
       cause = rw (p.1, p.2) (inl tt);
+      operator = refl;
       puts = puts_none _;
     }
