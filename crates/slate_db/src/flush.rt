@@ -36,7 +36,7 @@ pub const ROOT: &str = "db";
 
 /// Stores the rows of memtables, of which the newest stands last, as the table of the flush with this number, and gives what an
 /// install names and what is kept of the table. `StoreFault` and `BlockTransformError`, each only where its count of
-/// faults rose; `LimitReached` where the table would have too many blocks, or too many bytes of keys or values; or
+/// faults rose; `LimitReached` where the table would have too many blocks; or
 /// `OutOfMemory`. Then the store is as it was, or has the table.
 pub fn stored<S: Store, M: MergeOperator, T: BlockTransformer>(
     alloc: Global,
