@@ -318,7 +318,7 @@ row_moves h order t x y took index first stop = record {
         (λ i. (spent_left y.rows spent.1 ∙ sym (spent_left x.rows spent.0)) i ++ in_order order (rows_between s.kept (first i) (stop i))) in
         ap (rest_behind y order) held ∙ here ∙ sym (ap (rest_behind x order) held)
 
-nothing : (o : IterationOrder) → in_order {A = RowEntry} o [] ≡ []
+nothing : (o : IterationOrder) → in_order {X = RowEntry} o [] ≡ []
 nothing Ascending = refl
 nothing Descending = refl
 
