@@ -4,6 +4,7 @@ use Rattle.std.proofs.Math.Nat.{lt_of_not-le}
 use Rattle.slate_types.specs.declared.error.SlateDBError.{SlateDBError}
 use Rattle.slate_types.specs.declared.error.SlateDBError.TheVariants.{LimitReached}
 use Rattle.slate_types.specs.Outside.{Objects, IsFault, Reach}
+use Rattle.slate_table.specs.TableBuilding.{max_blocks}
 use Rattle.slate_db.specs.Answered.{AnswersFrom}
 use Rattle.slate_db.specs.Flushed.{IsFlushError, Layout, events_of_flush}
 use Rattle.slate_db.specs.Installs.{HoldsTables}
@@ -24,7 +25,7 @@ two-at-most (r ∷ rs) layers = omega arith
 pub flush-cause : (before after : Reach) (layout : Layout) (session : SessionModel) (e : SlateDBError) → IsFlushError layout before after session.core e → IsFault before after e ⊎ IsLimit session e
 flush-cause before after layout session e (inl fault) = inl fault
 flush-cause before after layout session e (inr (inl (is, more))) = inr (LIMIT, is, inl (omega (arith, more, two-at-most session.core.active session.core.frozen)))
-flush-cause before after layout session e (inr (inr (rows, folded, order, large, much))) = inr (large.limit, large.is, inr much)
+flush-cause before after layout session e (inr (inr (rows, folded, order, large, much))) = inr (max_blocks, large.is, inr much)
 
 -- what isn't refused has room
 pub has-room : (n events txns more : ℕ) (r : Result ℕ SlateDBError) (seq : ℕ) (e : SlateDBError) → r ≡ Ok seq → (n < events + txns + more → r ≡ Err e) → events ≤ n
