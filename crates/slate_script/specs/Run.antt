@@ -13,7 +13,7 @@
 --     HasRead script left result      what the source gave in a run, and which errors the script has
 --     HasCause source sink before after result      an error of a run with its cause; source, sink: their counts of faults rose
 --     NoneRose source sink before after      no count of faults rose
-use Rattle.std.specs.Prelude.{◌≡◌, ◌≢◌, ℕ, suc, ◌-◌, ◌⊎◌, Bool, ◌||◌, if◌then◌else◌, nat_lt, List, [], ◌∷◌, ◌++◌, length, take, drop, Option, Some, None, is_some, option_map, Result, Err, OnOk, IfErr, IsTrue}
+use Rattle.std.specs.Prelude.{◌≡◌, ◌≢◌, ◌≤◌, ℕ, suc, ◌-◌, ◌⊎◌, Bool, ◌||◌, if◌then◌else◌, nat_lt, List, [], ◌∷◌, ◌++◌, length, take, drop, Option, Some, None, is_some, option_map, Result, Err, OnOk, IfErr, IsTrue}
 use Rattle.std.specs.List.{AllByRecursion}
 use Rattle.slate_types.specs.declared.config.Options.{Options}
 use Rattle.slate_types.specs.declared.error.SlateDBError.{SlateDBError}
