@@ -223,6 +223,10 @@ impl<E: Outside, B: BlockLike> RowEntryIterator<E> for BlockIterator<B> {
 
     ghost whole = { λ it _ _ _ e h _ r _. none_refused it e h r };
 
+    fn iteration_order(&self) -> IterationOrder {
+        self.order
+    }
+
     fn init(&mut self, _alloc: Global, _env: &mut E) -> Result<(), SlateDBError> {
         Ok(())
     }

@@ -190,6 +190,13 @@ impl<E: Outside, B: BlockLike> RowEntryIterator<E> for BlockIteratorV2<B> {
 
     ghost whole = { λ it _ _ _ e h _ r _. none_refused it e h r };
 
+    fn iteration_order(&self) -> IterationOrder {
+        match &self.inner {
+            BlockIteratorInner::Ascending(_) => IterationOrder::Ascending,
+            BlockIteratorInner::Descending(_) => IterationOrder::Descending,
+        }
+    }
+
     fn init(&mut self, _alloc: Global, _env: &mut E) -> Result<(), SlateDBError> {
         Ok(())
     }

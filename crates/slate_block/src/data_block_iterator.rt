@@ -121,6 +121,13 @@ impl<E: Outside, B: BlockLike> RowEntryIterator<E> for DataBlockIterator<B> {
 
     ghost whole = { λ it _ _ _ e h _ r _. none_refused (left_of it) e h r };
 
+    fn iteration_order(&self) -> IterationOrder {
+        match self {
+            DataBlockIterator::V1(rows) => RowEntryIterator::<E>::iteration_order(rows),
+            DataBlockIterator::V2(rows) => RowEntryIterator::<E>::iteration_order(rows),
+        }
+    }
+
     fn init(&mut self, _alloc: Global, _env: &mut E) -> Result<(), SlateDBError> {
         Ok(())
     }

@@ -144,6 +144,10 @@ impl<E: Outside, B: BlockLike> RowEntryIterator<E> for DescendingBlockIteratorV2
 
     ghost whole = { λ it _ _ _ e h _ r _. none_refused it e h r };
 
+    fn iteration_order(&self) -> IterationOrder {
+        IterationOrder::Descending
+    }
+
     fn init(&mut self, _alloc: Global, _env: &mut E) -> Result<(), SlateDBError> {
         Ok(())
     }

@@ -174,6 +174,10 @@ impl<E: Outside> RowEntryIterator<E> for WriteBatchIterator {
 
     ghost whole = { λ _ _ _ _ _ _ _ h _. h };
 
+    fn iteration_order(&self) -> IterationOrder {
+        RowEntryIterator::<E>::iteration_order(&self.rows)
+    }
+
     fn init(&mut self, alloc: Global, env: &mut E) -> Result<(), SlateDBError> {
         self.rows.init(alloc, env)
     }

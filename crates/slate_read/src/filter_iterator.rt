@@ -85,6 +85,10 @@ impl<E: Outside, I: RowEntryIterator<E>, P: RowPredicate> RowEntryIterator<E>
 
     ghost whole = { λ it w reads at e h k r. I.whole it.iterator w reads at e h k r };
 
+    fn iteration_order(&self) -> IterationOrder {
+        self.iterator.iteration_order()
+    }
+
     fn init(&mut self, alloc: Global, env: &mut E) -> Result<(), SlateDBError> {
         self.iterator.init(alloc, env)
     }

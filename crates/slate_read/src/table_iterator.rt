@@ -5,7 +5,7 @@ ghost use Rattle.slate_read.specs.WalkLaws.{refuses_more, refuses_whole};
 use crate::table_state::{TableState, TableWalk};
 use crate::table_walk::{copy_of, open_index};
 use slate_store::{Env, Store};
-use slate_types::{BlockTransformer, MergeOperator, RowEntry, RowEntryIterator, SlateDBError};
+use slate_types::{BlockTransformer, IterationOrder, MergeOperator, RowEntry, RowEntryIterator, SlateDBError};
 use std::alloc::Global;
 
 impl<S: Store, M: MergeOperator, T: BlockTransformer> RowEntryIterator<Env<'_, S, M, T>>
@@ -33,6 +33,10 @@ impl<S: Store, M: MergeOperator, T: BlockTransformer> RowEntryIterator<Env<'_, S
     ghost more = { λ it p done reads at e h. refuses_more it.state it.table it.order p done reads at e h };
 
     ghost whole = { λ it w reads at e h k r. refuses_whole it.range it.table it.order it.state w reads at e h k r };
+
+    fn iteration_order(&self) -> IterationOrder {
+        self.order
+    }
 
     #[tactic(auto, using(slate_types::proofs::Reaching::reads_none))]
     fn init(&mut self, alloc: Global, env: &mut Env<'_, S, M, T>) -> Result<(), SlateDBError> {

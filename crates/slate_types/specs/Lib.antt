@@ -8,6 +8,7 @@ pub mod Fold
 pub mod Join
 pub mod Lawful
 pub mod Iteration
+pub mod RowTurns
 pub mod Laws
 pub mod Outside
 pub mod Refusing

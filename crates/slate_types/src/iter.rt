@@ -86,6 +86,10 @@ pub trait RowEntryIterator<E: Outside>: Drop {
     /// calls.
     ghost stays: { Self → Meaning → List Act → Option (List ℕ) → SlateDBError → Self → Type 0 };
 
+    /// The order in which its rows come.
+    fn iteration_order(&self) -> IterationOrder
+        ensures { result ≡ order self.now };
+
     /// Makes it ready for `next` and `seek`, which may answer `IteratorNotInitialized` before.
     fn init(&mut self, alloc: Global, env: &mut E) -> Result<(), SlateDBError>
         ensures rows { (w : World) → Sees w (E.reach env.old) (E.reach env.new) → sound self.old w → OnOk result (rest self.new w ≡ rest self.old w) }

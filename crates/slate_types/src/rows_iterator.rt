@@ -80,6 +80,10 @@ impl<E: Outside> RowEntryIterator<E> for RowsIterator {
 
     ghost whole = { λ _ _ _ _ _ _ _ h _. h };
 
+    fn iteration_order(&self) -> IterationOrder {
+        self.order
+    }
+
     #[tactic(auto, using(crate::proofs::Reaching::reads_none))]
     fn init(&mut self, _alloc: Global, _env: &mut E) -> Result<(), SlateDBError> {
         Ok(())
