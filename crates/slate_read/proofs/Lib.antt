@@ -8,3 +8,6 @@ pub mod Walks
 pub mod Ranges
 pub mod Seeks
 pub mod Readable
+pub mod Turns
+pub mod Grouping
+pub mod Newests

@@ -1,4 +1,4 @@
--- A table that is put is what a walk rests on, where its separators are sorted and none of its blocks is refused, which isn't proved here.
+-- A table that is put is what a walk rests on.
 use Rattle.std.proofs.Common.{◌≡◌, ◌⊎◌, inl, inr, ◌<◌, ◌≤◌, ◌+◌, ◌-◌, ◌^◌, ℕ, suc, zero, Bool, true, false, List, [], ◌∷◌, ◌++◌, length, map, flat_map, take, drop, Option, Some, None, refl, sym, ap, subst, ◌∙◌, arith}
 use Rattle.std.specs.Prelude.{Contains, IsSorted, Result, Ok, Err, bytes_eq, slice_get}
 use Rattle.std.specs.List.{AllByRecursion}
@@ -6,11 +6,14 @@ use Rattle.std.proofs.lemmas.List.{length-append, length-map}
 use Rattle.std.proofs.lemmas.Option.{same_Some}
 use Rattle.std.proofs.lemmas.List.Elements.{All-contains, All-from_recursion}
 use Rattle.std.proofs.lemmas.Slice.Eq.{bytes_eq-Decides}
+use Rattle.std.proofs.lemmas.Bool.{ltb-true}
 use Rattle.slate_types.specs.declared.error.SlateDBError.{SlateDBError}
 use Rattle.slate_types.specs.declared.types.RowEntry.{RowEntry}
 use Rattle.slate_types.specs.declared.iter.IterationOrder.TheVariants.{Ascending}
 use Rattle.slate_types.specs.Iteration.{IsInOrder, NoneBefore}
 use Rattle.slate_types.specs.Keys.{key_cmp, key_lt}
+use Rattle.slate_types.specs.RowTurns.{AreInTurn, NoneEarlier, row_before}
+use Rattle.slate_types.proofs.KeyOrder.{is-less, turned-key}
 use Rattle.slate_types.specs.Lawful.{IsLawfulTransform}
 use Rattle.slate_types.specs.Outside.{Objects}
 use Rattle.slate_types.specs.Partitions.{CanHold}
@@ -30,22 +33,39 @@ use Rattle.slate_table.specs.Finding.{IsTableWith, blocks_answer, index_answer}
 use Rattle.slate_table.specs.IndexReading.{index_keys}
 use Rattle.slate_table.specs.InfoReading.{seen_info}
 use Rattle.slate_table.specs.Parts as P
-use Rattle.slate_table.specs.Parts.{Encode, section, separators, sum_fits, summed}
+use Rattle.slate_table.specs.Parts.{Encode, index_bytes, section, separators, sum_fits, summed}
 use Rattle.slate_table.specs.Reading.{AreBlocksRead, IsBlockRead, IsIndexRead, Reads, RefusesBlock, RefusesBlocks, RefusesIndex, block_answer, block_start, blocks_size, whole_answer}
 use Rattle.slate_table.specs.Table.{filter_section, info_of, later_sections, placed, AreInOrder, IsTableOf, block_sections, blocks_end, table_places}
 use Rattle.slate_table.specs.TableEnd.{HasInfo}
 use Rattle.slate_table.proofs.IndexLaws.{places_count, separators_count}
 use Rattle.slate_table.proofs.Covering.{AreSome, Holds, not_above, separators_hold}
+use Rattle.slate_table.proofs.IndexOrder.{index_is}
+use Rattle.slate_table.proofs.IndexReads.{sorted_keys}
+use Rattle.slate_table.proofs.TableFinds.{Found, flat, found_in, not_refused}
+use Rattle.slate_table.specs.Decoded.{IsIndex}
 use Rattle.std.proofs.lemmas.List.{drop_at, take_at}
-use Rattle.std.specs.Prelude.{◌==◌}
+use Rattle.std.specs.Prelude.{◌==◌, ◌||◌, ◌&&◌, nat_lt}
+use Rattle.std.specs.Ordering.{is_lt, nat_cmp, ordering_then, ordering_reverse}
+use Rattle.std.specs.declared.cmp.Ordering.{Ordering}
+use Rattle.std.specs.declared.cmp.Ordering.TheVariants.{Less, Equal, Greater}
+use Rattle.std.proofs.lemmas.Cmp.{nat_list_cmp_total, tied_itself}
 use Rattle.std.proofs.Common.{cond}
 use Rattle.slate_block.specs.RowSpelling.{be16, be32, be64, read_expiry}
 use Rattle.slate_block.specs.BlockSpelling.{FitsBlock, block_bytes}
 use Rattle.slate_table.specs.Checksum.{crc32}
 use Rattle.slate_types.specs.World.{Kept, Place, World}
+use Rattle.slate_read.specs.Readable.{kept_of}
 use Rattle.slate_read.specs.TableWalk.{IsReadable, block_part, index_part, path_in, size_of, start_of}
 use Rattle.slate_read.specs.WalkLaws.{whole_part}
 use Rattle.slate_read.proofs.Fetches.{one_answer}
+
+not_newer : (a b : ℕ) → nat_lt b a ≡ true → is_lt (nat_cmp a b) ≡ false
+not_newer a b h = by (nat_lt a b) (a == b) refl
+  where
+    by : (t u : Bool) → nat_lt a b ≡ t → is_lt (cond t Less (cond u Equal Greater)) ≡ false
+    by true u e = absurd (let x = ltb-true a b e in let y = ltb-true b a h in omega (arith, x, y))
+    by false true e = refl
+    by false false e = refl
 
 -- a read of a store that holds the bytes
 held_read : (os : Objects) (path bytes : List ℕ) (start len : ℕ) (means : Option (List ℕ) → Type 0) → object_at os path ≡ Some bytes → means (part_of (Some bytes) start len) → Reads (Some os) None None path start len means
@@ -66,6 +86,35 @@ none_read version r (s ∷ rs) h = (ap (λ k. key_lt k (as_read version r).key) 
 read_order : (version : ℕ) (rows : List RowEntry) → AreInOrder rows → IsInOrder Ascending (map (as_read version) rows)
 read_order version [] h = tt
 read_order version (r ∷ rs) h = (none_read version r rs h.0, read_order version rs h.1)
+
+-- no row stands before an earlier one
+row_later : (r s : RowEntry) → row_lt r s ≡ true → row_before Ascending s r ≡ false
+row_later r s h = by (key_lt r.key s.key) (bytes_eq r.key s.key) refl refl h
+  where
+    then_ordered : (o p : Ordering) → o ≡ Greater → is_lt (ordering_then o p) ≡ false
+    then_ordered o p e = rw e refl
+
+    then_equal : (o p : Ordering) → o ≡ Equal → is_lt p ≡ false → is_lt (ordering_then o p) ≡ false
+    then_equal o p e k = rw e k
+
+    by : (t u : Bool) → key_lt r.key s.key ≡ t → bytes_eq r.key s.key ≡ u → (t || (u && nat_lt s.seq r.seq)) ≡ true → row_before Ascending s r ≡ false
+    by true u e f k = then_ordered (key_cmp s.key r.key) (nat_cmp r.seq s.seq) (turned-key s.key r.key ∙ ap ordering_reverse (is-less (key_cmp r.key s.key) e))
+    by false true e f k =
+        let same = (bytes_eq-Decides r.key s.key).0 f in
+        then_equal (key_cmp s.key r.key) (nat_cmp r.seq s.seq) (ap (λ (x : List ℕ). key_cmp x r.key) (sym same) ∙ tied_itself nat_list_cmp_total r.key) (not_newer r.seq s.seq k)
+    by false false e f k = absurd cc
+
+none_earlier : (version : ℕ) (r : RowEntry) (rs : List RowEntry) → AllByRecursion (λ s. IsTrue (row_lt r s)) rs → NoneEarlier (row_before Ascending) (as_read version r) (map (as_read version) rs)
+none_earlier version r [] h = tt
+none_earlier version r (s ∷ rs) h = (by (version == 1), none_earlier version r rs h.1)
+  where
+    by : (b : Bool) → row_before Ascending (cond b (record s { expire_ts = read_expiry s.value s.expire_ts }) s) (cond b (record r { expire_ts = read_expiry r.value r.expire_ts }) r) ≡ false
+    by true = row_later r s h.0
+    by false = row_later r s h.0
+
+read_turn : (version : ℕ) (rows : List RowEntry) → AreInOrder rows → AreInTurn (row_before Ascending) (map (as_read version) rows)
+read_turn version [] h = tt
+read_turn version (r ∷ rs) h = (none_earlier version r rs h.0, read_turn version rs h.1)
 
 read_append : (version : ℕ) (xs ys : List RowEntry) → map (as_read version) (xs ++ ys) ≡ map (as_read version) xs ++ map (as_read version) ys
 read_append version [] ys = refl
@@ -194,21 +243,11 @@ conv_all : (n : ℕ) (ps : List P.Place) → AllByRecursion (λ (p : P.Place). p
 conv_all n [] h = tt
 conv_all n (p ∷ ps) h = (h.0, conv_all n ps h.1)
 
--- what the world keeps of it
-pub kept_of : Encode → ℕ → List (List RowEntry) → List (List ℕ × List ℕ) → List ℕ → Kept
-kept_of encode version bs fs bytes = record {
-  bytes = bytes;
-  sections = map (λ p. record { at = p.at; len = p.len }) (table_places encode version bs fs);
-  keys = separators bs;
-  blocks = map (map (as_read version)) bs;
-}
-
 pub readable : InfosAreTheTables → IndexIsTheTables → IndexIsFound → BlocksReadAreTheTables → (encode decode : Encode) → IsLawfulTransform encode decode → (w : World) (h : SsTableHandle) (bytes : List ℕ) (bs : List (List RowEntry)) (fs : List (List ℕ × List ℕ)) →
     w.meaning.decode ≡ decode → w.fits ≡ sum_fits → w.holds (path_in h) ≡ Some (kept_of encode h.format_version bs fs bytes) → EachIsAByte bytes → IsTableOf encode bytes h.format_version bs fs → HasInfo bytes h.format_version (seen_info h.info) →
-    IsSorted key_cmp (separators bs) → ((i : ℕ) (e : SlateDBError) → i < length (table_entries encode h.format_version bs) → RefusesBlock w.meaning.decode (block_part h (kept_of encode h.format_version bs fs bytes) (table_entries encode h.format_version bs) i) e → ⊥) →
     IsReadable w h (kept_of encode h.format_version bs fs bytes)
-unfolding kept_of
-readable same_end index_held index_found blocks_held encode decode lawful w h bytes bs fs decodes sums held each table ends sorted fine = record {
+unfolding flat
+readable same_end index_held index_found blocks_held encode decode lawful w h bytes bs fs decodes sums held each table ends = record {
   held = held;
   entries = entries;
   keys = paired_keys (places 0 ss) (separators bs) count;
@@ -230,7 +269,7 @@ readable same_end index_held index_found blocks_held encode decode lawful w h by
       (single decode end entries i (part_of (Some bytes) (block_start end entries i) (blocks_size end entries i (i + 1))) block (whole_part bytes (block_start end entries i) (blocks_size end entries i (i + 1))) moved))
       refl (omega arith) (ap (slice_get bs) zero_more ∙ m.1) in
       read_whole h.format_version block.body block.offsets.items rows fits (subst (IsBlockOf block.body block.offsets.items h.format_version) (sym m.2) is) table.known;
-  block_fine = fine;
+  block_fine = λ i e within refused. fine i e (omega (arith, within)) refused;
   index_place =
       let z : 0 + length (flat_map (λ x. x) ss) ≡ length (flat_map (λ x. x) ss) = omega arith in
       let got = place_behind 0 ss (later_sections encode h.format_version bs fs) 1 ∙ (λ i. Some (record { at = z i + length (filter_section encode fs); len = length (index_section encode h.format_version bs) })) in
@@ -245,7 +284,8 @@ readable same_end index_held index_found blocks_held encode decode lawful w h by
       (All-from_recursion (λ (q : Place). q.at + q.len ≤ length bytes) (kept_of encode h.format_version bs fs bytes).sections (conv_all (length bytes) (table_places encode h.format_version bs fs) (weaker (0 + length (flat_map (λ x. x) (ss ++ later_sections encode h.format_version bs fs))) (length bytes) total (table_places encode h.format_version bs fs) (upto_end 0 (ss ++ later_sections encode h.format_version bs fs))))) among;
   sums = λ stored. ap (λ (f : List ℕ → Bool). f (summed stored)) sums ∙ sum_passes stored;
   rising = subst (IsInOrder Ascending) (sym (read_flat h.format_version bs)) (read_order h.format_version (flat_map (λ b. b) bs) table.order);
-  sorted = sorted;
+  turn = subst (λ (rows : List RowEntry). AreInTurn (row_before Ascending) rows) (sym (read_flat h.format_version bs)) (read_turn h.format_version (flat_map (λ b. b) bs) table.order);
+  sorted = subst (IsSorted key_cmp) (paired_keys (places 0 ss) (separators bs) count) (sorted_keys entries stands.rises);
   holds = holds_read h.format_version bs table.each table.order;
 }
   where
@@ -298,6 +338,29 @@ readable same_end index_held index_found blocks_held encode decode lawful w h by
         let l5 = length-append (b ++ f) i in
         let l6 = length-append b f in
         omega (arith, c, m1, m2, m3, m4, whole, l1, l2, l3, l4, l5, l6)
+
+    at : Found encode bytes h.format_version (seen_info h.info) bs
+    at = found_in encode bytes h.format_version (seen_info h.info) h.format_version bs fs table ends
+
+    short : length (flat_map (λ x. x) ss) < 2 ^ 64
+    short = let l = length-append (flat_map (λ x. x) at.ss) at.rest in let n = ap length at.is in let few = table.short in let are = ap (λ (x : List (List ℕ)). length (flat_map (λ y. y) x)) at.are in omega (arith, l, n, few, are)
+
+    stands : IsIndex end (index_bytes (places 0 ss) (separators bs)) entries
+    stands = index_is encode h.format_version end bs table.each table.some table.few table.order refl short
+
+    read : IsIndexRead decode (seen_info h.info).filters.at (index_answer bytes (seen_info h.info)) entries
+    read =
+        let text = index_bytes (places 0 ss) (separators bs) in
+        (text, (encode text, at.index ∙ ap (λ (x : List (List ℕ)). Some (section encode (index_bytes (places 0 x) (separators bs)))) at.are, sym (lawful text)), subst (λ (n : ℕ). IsIndex n text entries) (sym end_is) stands)
+
+    fine : (i : ℕ) (e : SlateDBError) → i < length entries → RefusesBlock w.meaning.decode (block_part h kept entries i) e → ⊥
+    fine i e within refused =
+        let with_info : IsTableWith encode bytes h.format_version (seen_info h.info) (map (as_read h.format_version) (flat_map (λ b. b) bs)) = record { written = h.format_version; is = (bs, fs, table, refl); info = ends } in
+        let whole = whole_part bytes (start_of h entries i) (size_of h entries i) in
+        let is : block_answer h.info.filter_offset entries i (block_part h kept entries i) i ≡ block_part h kept entries i = ap (λ (a : Option (List ℕ)). block_answer h.info.filter_offset entries i a i) (sym whole) ∙ one_answer h.info.filter_offset entries i (block_part h kept entries i) ∙ whole in
+        let here = subst (λ (d : Encode). RefusesBlock d (block_part h kept entries i) e) decodes refused in
+        (not_refused encode decode lawful bytes h.format_version (seen_info h.info) (map (as_read h.format_version) (flat_map (λ b. b) bs)) each with_info).1 entries read i (i + 1) (omega arith) (omega (arith, within)) e
+        (i, omega arith, omega arith, subst (λ (a : Option (List ℕ)). RefusesBlock decode a e) (sym is) here, λ j from below. absurd (omega (arith, from, below)))
 
     count : length (places 0 ss) ≡ length (separators bs)
     count = places_count 0 ss ∙ length-map bs _ ∙ sym (separators_count bs)

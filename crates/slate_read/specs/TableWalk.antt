@@ -19,6 +19,7 @@ use Rattle.slate_types.specs.declared.iter.IterationOrder.{IterationOrder}
 use Rattle.slate_types.specs.declared.iter.IterationOrder.TheVariants.{Ascending, Descending}
 use Rattle.slate_types.specs.Iteration.{IsInOrder, drop_before, in_order}
 use Rattle.slate_types.specs.Keys.{in_range, key_cmp}
+use Rattle.slate_types.specs.RowTurns.{AreInTurn, row_before}
 use Rattle.slate_types.specs.Partitions.{covering_start, covering_end, CanHold}
 use Rattle.slate_store.specs.Store.{Act, part_of}
 use Rattle.slate_block.specs.declared.block.Block.{Block}
@@ -171,6 +172,7 @@ pub record IsReadable (w : World) (h : SsTableHandle) (kept : Kept) : Type 0 whe
   pub inside : (place : Place) → Contains kept.sections place → place.at + place.len ≤ length kept.bytes
   pub sums : (stored : List ℕ) → w.fits (summed stored) ≡ true
   pub rising : IsInOrder Ascending (flat_map (λ b. b) kept.blocks)
+  pub turn : AreInTurn (row_before Ascending) (flat_map (λ b. b) kept.blocks)
   pub sorted : IsSorted key_cmp kept.keys
   pub holds : (i : ℕ) (rows : List RowEntry) → slice_get kept.blocks i ≡ Some rows → AllByRecursion (λ r. CanHold kept.keys i r.key) rows
 

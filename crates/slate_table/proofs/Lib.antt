@@ -28,9 +28,9 @@ mod OpenReads
 mod FileReads
 pub mod FrameReads
 pub mod ReadCalls
-mod OpenLaws
-mod IndexOrder
-mod HeldParts
+pub mod OpenLaws
+pub mod IndexOrder
+pub mod HeldParts
 pub mod Covering
 pub mod TableFinds
 pub mod Damaged

@@ -211,7 +211,7 @@ part_twice bytes a m d n whole inner =
 
 -- ---- where blocks begin
 
-flat : List (List ℕ) → List ℕ
+pub flat : List (List ℕ) → List ℕ
 flat ss = flat_map (λ s. s) ss
 
 abbrev no_sections : List (List ℕ)
@@ -424,7 +424,7 @@ mid_bytes : (front mid rest : List ℕ) → EachIsAByte (front ++ (mid ++ rest))
 mid_bytes [] mid rest fits = front_bytes mid rest fits
 mid_bytes (x ∷ front) mid rest fits = mid_bytes front mid rest (λ i. fits (suc i))
 
-record Found (encode : Encode) (bytes : List ℕ) (version : ℕ) (info : Info) (bs : List (List RowEntry)) : Type 0 where
+pub record Found (encode : Encode) (bytes : List ℕ) (version : ℕ) (info : Info) (bs : List (List RowEntry)) : Type 0 where
   pub ss : List (List ℕ)
   pub are : ss ≡ block_sections encode version bs
   pub rest : List ℕ
@@ -433,7 +433,7 @@ record Found (encode : Encode) (bytes : List ℕ) (version : ℕ) (info : Info) 
   pub index : index_answer bytes info ≡ Some (section encode (index_bytes (places 0 ss) (separators bs)))
   pub index_is : EachIsAByte bytes → EachIsAByte (section encode (index_bytes (places 0 ss) (separators bs)))
 
-found_in : (encode : Encode) (bytes : List ℕ) (v : ℕ) (info : Info) (version : ℕ) (bs : List (List RowEntry)) (fs : List (List ℕ × List ℕ)) → IsTableOf encode bytes version bs fs → HasInfo bytes v info → Found encode bytes version info bs
+pub found_in : (encode : Encode) (bytes : List ℕ) (v : ℕ) (info : Info) (version : ℕ) (bs : List (List RowEntry)) (fs : List (List ℕ × List ℕ)) → IsTableOf encode bytes version bs fs → HasInfo bytes v info → Found encode bytes version info bs
 unfolding made_info body_of index_part flat rows_in
 found_in encode bytes v info version bs fs t h =
     let is = table_info encode bytes v info version bs fs t h in
