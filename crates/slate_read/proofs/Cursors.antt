@@ -152,7 +152,7 @@ next_rows Descending kept cursor lt le =
 
 -- ---- opening
 
-spent_left : (o : Option (DataBlockIterator Block)) → reads_in o ≡ 0 → left_in o ≡ []
+pub spent_left : (o : Option (DataBlockIterator Block)) → reads_in o ≡ 0 → left_in o ≡ []
 spent_left None h = refl
 spent_left (Some it) h = by (left_of it).reads h
   where

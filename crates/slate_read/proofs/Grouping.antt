@@ -40,7 +40,7 @@ all_last : (P : RowEntry → Type 0) (rows : List RowEntry) (r : RowEntry) → A
 all_last P [] r h p = (p, tt)
 all_last P (x ∷ rows) r h p = (h.0, all_last P rows r h.1 p)
 
-all_back : (P : RowEntry → Type 0) (rows : List RowEntry) → AllByRecursion P rows → AllByRecursion P (reverse rows)
+pub all_back : (P : RowEntry → Type 0) (rows : List RowEntry) → AllByRecursion P rows → AllByRecursion P (reverse rows)
 all_back P [] h = tt
 all_back P (r ∷ rows) h = subst (AllByRecursion P) (sym (reverse-append (r ∷ []) rows)) (all_last P (reverse rows) r (all_back P rows h.1) h.0)
 
@@ -124,11 +124,14 @@ module _ {I : Type 0} (rest : I → World → List RowEntry) (sound : I → Worl
       Moves (rest_grouped rest order) (sound_grouped rest sound order) (refuses_grouped refuses) b c (y, g) (z, h)
   gathered_moves takes b c y z g h row down same s ready gathered one = record {
     rows = rows;
-    still = λ w sees k. (s.still w sees k.0, record {
-      turn = same_turn (order y) (order z) (rest_grouped rest order (y, g) w) (rest_grouped rest order (z, h) w) same (rows w sees k) k.1.turn;
-      one_ready = subst IsOneKey (sym ready) k.1.one_ready;
-      one_gathered = subst IsOneKey (sym gathered) (one k.1.one_gathered);
-    });
+    still = λ w sees k. (
+      s.still w sees k.0,
+      record {
+        turn = same_turn (order y) (order z) (rest_grouped rest order (y, g) w) (rest_grouped rest order (z, h) w) same (rows w sees k) k.1.turn;
+        one_ready = subst IsOneKey (sym ready) k.1.one_ready;
+        one_gathered = subst IsOneKey (sym gathered) (one k.1.one_gathered);
+      },
+    );
     checked = λ w k. s.checked w k.0;
     made = (s.taken.0, s.taken.1, s.taken.2.1);
   }
@@ -147,11 +150,14 @@ module _ {I : Type 0} (rest : I → World → List RowEntry) (sound : I → Worl
       Moves (rest_grouped rest order) (sound_grouped rest sound order) (refuses_grouped refuses) b c (y, g) (z, h)
   turned_moves takes b c y z g h row down same s none ready gathered apart = record {
     rows = rows;
-    still = λ w sees k. (s.still w sees k.0, record {
-      turn = same_turn (order y) (order z) (rest_grouped rest order (y, g) w) (rest_grouped rest order (z, h) w) same (rows w sees k) k.1.turn;
-      one_ready = subst IsOneKey (sym ready) k.1.one_gathered;
-      one_gathered = subst IsOneKey (sym gathered) tt;
-    });
+    still = λ w sees k. (
+      s.still w sees k.0,
+      record {
+        turn = same_turn (order y) (order z) (rest_grouped rest order (y, g) w) (rest_grouped rest order (z, h) w) same (rows w sees k) k.1.turn;
+        one_ready = subst IsOneKey (sym ready) k.1.one_gathered;
+        one_gathered = subst IsOneKey (sym gathered) tt;
+      },
+    );
     checked = λ w k. s.checked w k.0;
     made = (s.taken.0, s.taken.1, s.taken.2.1);
   }
@@ -175,11 +181,14 @@ module _ {I : Type 0} (rest : I → World → List RowEntry) (sound : I → Worl
       Moves (rest_grouped rest order) (sound_grouped rest sound order) (refuses_grouped refuses) b c (y, g) (z, h)
   spent_moves takes b c y z g h down same s none ready gathered = record {
     rows = rows;
-    still = λ w sees k. (s.still w sees k.0, record {
-      turn = same_turn (order y) (order z) (rest_grouped rest order (y, g) w) (rest_grouped rest order (z, h) w) same (rows w sees k) k.1.turn;
-      one_ready = subst IsOneKey (sym ready) k.1.one_gathered;
-      one_gathered = subst IsOneKey (sym gathered) tt;
-    });
+    still = λ w sees k. (
+      s.still w sees k.0,
+      record {
+        turn = same_turn (order y) (order z) (rest_grouped rest order (y, g) w) (rest_grouped rest order (z, h) w) same (rows w sees k) k.1.turn;
+        one_ready = subst IsOneKey (sym ready) k.1.one_gathered;
+        one_gathered = subst IsOneKey (sym gathered) tt;
+      },
+    );
     checked = λ w k. s.checked w k.0;
     made = (s.taken.0, s.taken.1, s.taken.2.1);
   }
@@ -208,11 +217,14 @@ module _ {I : Type 0} (rest : I → World → List RowEntry) (sound : I → Worl
   pub same_moves : (t : Reach) (x : I) (g h : Groups) → h.ready.items ≡ g.ready.items → h.gathered.items ≡ g.gathered.items → Moves (rest_grouped rest order) (sound_grouped rest sound order) (refuses_grouped refuses) t t (x, g) (x, h)
   same_moves t x g h ready gathered = record {
     rows = λ w sees k. is w;
-    still = λ w sees k. (k.0, record {
-      turn = subst (AreInTurn (row_before (order x))) (sym (is w)) k.1.turn;
-      one_ready = subst IsOneKey (sym ready) k.1.one_ready;
-      one_gathered = subst IsOneKey (sym gathered) k.1.one_gathered;
-    });
+    still = λ w sees k. (
+      k.0,
+      record {
+        turn = subst (AreInTurn (row_before (order x))) (sym (is w)) k.1.turn;
+        one_ready = subst IsOneKey (sym ready) k.1.one_ready;
+        one_gathered = subst IsOneKey (sym gathered) k.1.one_gathered;
+      },
+    );
     checked = λ w k. checks_none w t;
     made = ([], call_none t, λ later at e r. r);
   }
@@ -226,11 +238,14 @@ module _ {I : Type 0} (rest : I → World → List RowEntry) (sound : I → Worl
       Step (rest_grouped rest order) (sound_grouped rest sound order) (refuses_grouped refuses) no_rows t t (x, g) (Some row) (x, h)
   popped_step t x g h row down ready gathered = record {
     rows = λ w sees k. rows w;
-    still = λ w sees k. (k.0, record {
-      turn = turn_taken (row_before (order x)) (rest_grouped rest order (x, g) w) (rest_grouped rest order (x, h) w) (Some row) (rows w) k.1.turn;
-      one_ready = one_front h.ready.items (row ∷ []) (subst IsOneKey ready k.1.one_ready);
-      one_gathered = subst IsOneKey (sym gathered) k.1.one_gathered;
-    });
+    still = λ w sees k. (
+      k.0,
+      record {
+        turn = turn_taken (row_before (order x)) (rest_grouped rest order (x, g) w) (rest_grouped rest order (x, h) w) (Some row) (rows w) k.1.turn;
+        one_ready = one_front h.ready.items (row ∷ []) (subst IsOneKey ready k.1.one_ready);
+        one_gathered = subst IsOneKey (sym gathered) k.1.one_gathered;
+      },
+    );
     checked = λ w k. checks_none w t;
     taken = ([], call_none t, (tt, λ later at e r. r));
   }
@@ -246,11 +261,14 @@ module _ {I : Type 0} (rest : I → World → List RowEntry) (sound : I → Worl
       Step (rest_grouped rest order) (sound_grouped rest sound order) (refuses_grouped refuses) no_rows a b x None z
   none_step a b x y z m none same ready gathered = record {
     rows = λ w sees k. (sym (m.rows w sees k) ∙ none w sees k, (is w) ∙ none w sees k);
-    still = λ w sees k. let s = m.still w sees k in (subst (λ (i : I). sound i w) (sym same) s.0, record {
-      turn = same_turn (order y.0) (order z.0) (rest_grouped rest order y w) (rest_grouped rest order z w) (ap order same) (is w) s.1.turn;
-      one_ready = subst IsOneKey (sym ready) s.1.one_ready;
-      one_gathered = subst IsOneKey (sym gathered) s.1.one_gathered;
-    });
+    still = λ w sees k. let s = m.still w sees k in (
+      subst (λ (i : I). sound i w) (sym same) s.0,
+      record {
+        turn = same_turn (order y.0) (order z.0) (rest_grouped rest order y w) (rest_grouped rest order z w) (ap order same) (is w) s.1.turn;
+        one_ready = subst IsOneKey (sym ready) s.1.one_ready;
+        one_gathered = subst IsOneKey (sym gathered) s.1.one_gathered;
+      },
+    );
     checked = m.checked;
     taken = (m.made.0, m.made.1, (tt, λ later at e r. m.made.2 later at e (subst (λ (i : I). refuses i a.meaning later at e) same r)));
   }
@@ -278,11 +296,14 @@ module _ {I : Type 0} (rest : I → World → List RowEntry) (sound : I → Worl
       Step (rest_grouped rest order) (sound_grouped rest sound order) (refuses_grouped refuses) no_rows b c (y, g) answer (z, g)
   upwards_step takes b c y z g answer up same s = record {
     rows = rows;
-    still = λ w sees k. (s.still w sees k.0, record {
-      turn = subst (λ (o : IterationOrder). AreInTurn (row_before o) (rest_grouped rest order (z, g) w)) (sym same) (turn_taken (row_before (order y)) (rest_grouped rest order (y, g) w) (rest_grouped rest order (z, g) w) answer (rows w sees k) k.1.turn);
-      one_ready = k.1.one_ready;
-      one_gathered = k.1.one_gathered;
-    });
+    still = λ w sees k. (
+      s.still w sees k.0,
+      record {
+        turn = subst (λ (o : IterationOrder). AreInTurn (row_before o) (rest_grouped rest order (z, g) w)) (sym same) (turn_taken (row_before (order y)) (rest_grouped rest order (y, g) w) (rest_grouped rest order (z, g) w) answer (rows w sees k) k.1.turn);
+        one_ready = k.1.one_ready;
+        one_gathered = k.1.one_gathered;
+      },
+    );
     checked = λ w k. s.checked w k.0;
     taken = (s.taken.0, s.taken.1, (tt, s.taken.2.1));
   }
@@ -301,11 +322,14 @@ module _ {I : Type 0} (rest : I → World → List RowEntry) (sound : I → Worl
       Seeks (rest_grouped rest order) (sound_grouped rest sound order) (refuses_grouped refuses) (order x) key t t (x, g) (x, h)
   still_seeks key t x g h down drops ready gathered = record {
     rows = λ w sees k. rows w k;
-    still = λ w sees k. (k.0, record {
-      turn = subst (AreInTurn (row_before (order x))) (sym (rows w k)) (turn_dropped (row_before (order x)) (order x) key (rest_grouped rest order (x, g) w) k.1.turn);
-      one_ready = ready k.1.one_ready;
-      one_gathered = gathered k.1.one_gathered;
-    });
+    still = λ w sees k. (
+      k.0,
+      record {
+        turn = subst (AreInTurn (row_before (order x))) (sym (rows w k)) (turn_dropped (row_before (order x)) (order x) key (rest_grouped rest order (x, g) w) k.1.turn);
+        one_ready = ready k.1.one_ready;
+        one_gathered = gathered k.1.one_gathered;
+      },
+    );
     checked = λ w k. checks_none w t;
     made = ([], call_none t, λ later at e r. r);
   }
@@ -333,11 +357,14 @@ module _ {I : Type 0} (rest : I → World → List RowEntry) (sound : I → Worl
       Seeks rest sound refuses (order y) key b c y z → Seeks (rest_grouped rest order) (sound_grouped rest sound order) (refuses_grouped refuses) (order y) key b c (y, g) (z, h)
   source_seeks key b c y z g h down same leaves leaves_too ready gathered s = record {
     rows = λ w sees k. rows w sees k;
-    still = λ w sees k. (s.still w sees k.0, record {
-      turn = subst (λ (o : IterationOrder). AreInTurn (row_before o) (rest_grouped rest order (z, h) w)) (sym same) (subst (AreInTurn (row_before (order y))) (sym (rows w sees k)) (turn_dropped (row_before (order y)) (order y) key (rest_grouped rest order (y, g) w) k.1.turn));
-      one_ready = subst IsOneKey (sym ready) tt;
-      one_gathered = subst IsOneKey (sym gathered) tt;
-    });
+    still = λ w sees k. (
+      s.still w sees k.0,
+      record {
+        turn = subst (λ (o : IterationOrder). AreInTurn (row_before o) (rest_grouped rest order (z, h) w)) (sym same) (subst (AreInTurn (row_before (order y))) (sym (rows w sees k)) (turn_dropped (row_before (order y)) (order y) key (rest_grouped rest order (y, g) w) k.1.turn));
+        one_ready = subst IsOneKey (sym ready) tt;
+        one_gathered = subst IsOneKey (sym gathered) tt;
+      },
+    );
     checked = λ w k. s.checked w k.0;
     made = s.made;
   }
@@ -354,11 +381,14 @@ module _ {I : Type 0} (rest : I → World → List RowEntry) (sound : I → Worl
       Seeks (rest_grouped rest order) (sound_grouped rest sound order) (refuses_grouped refuses) (order y) key b c (y, g) (z, g)
   upwards_seeks key b c y z g up same s = record {
     rows = rows;
-    still = λ w sees k. (s.still w sees k.0, record {
-      turn = subst (λ (o : IterationOrder). AreInTurn (row_before o) (rest_grouped rest order (z, g) w)) (sym same) (subst (AreInTurn (row_before (order y))) (sym (rows w sees k)) (turn_dropped (row_before (order y)) (order y) key (rest_grouped rest order (y, g) w) k.1.turn));
-      one_ready = k.1.one_ready;
-      one_gathered = k.1.one_gathered;
-    });
+    still = λ w sees k. (
+      s.still w sees k.0,
+      record {
+        turn = subst (λ (o : IterationOrder). AreInTurn (row_before o) (rest_grouped rest order (z, g) w)) (sym same) (subst (AreInTurn (row_before (order y))) (sym (rows w sees k)) (turn_dropped (row_before (order y)) (order y) key (rest_grouped rest order (y, g) w) k.1.turn));
+        one_ready = k.1.one_ready;
+        one_gathered = k.1.one_gathered;
+      },
+    );
     checked = λ w k. s.checked w k.0;
     made = s.made;
   }

@@ -11,3 +11,5 @@ pub mod Readable
 pub mod Turns
 pub mod Grouping
 pub mod Newests
+pub mod Jumps
+pub mod SstRows

@@ -98,7 +98,7 @@ in_front o (x ∷ xs) ys h = (none xs h.0, in_front o xs ys h.1)
     none [] k = tt
     none (z ∷ zs) k = (k.0, none zs k.1)
 
-in_back : (o : IterationOrder) (xs ys : List RowEntry) → IsInOrder o (xs ++ ys) → IsInOrder o ys
+pub in_back : (o : IterationOrder) (xs ys : List RowEntry) → IsInOrder o (xs ++ ys) → IsInOrder o ys
 in_back o [] ys h = h
 in_back o (x ∷ xs) ys h = in_back o xs ys h.1
 

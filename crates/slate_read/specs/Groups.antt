@@ -89,4 +89,3 @@ pub record Seeks {A : Type 0} (rest : A → World → List RowEntry) (sound : A 
 abbrev pub stays_at : List ℕ → List RowEntry → Bool
 stays_at key [] = false
 stays_at key (row ∷ rows) = not (comes_before Descending row.key key)
-

@@ -6,3 +6,5 @@ pub mod Readable
 pub mod Groups
 pub mod NewestFirst
 pub mod NewestLaws
+pub mod SstOptions
+pub mod SstIterators

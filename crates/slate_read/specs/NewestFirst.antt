@@ -3,7 +3,7 @@
 --     RefusesSeek range at e      a seek to such a key is refused
 --     rest_newest, sound_newest, refuses_newest, bound_newest      of an iterator that is new, goes on, or was refused
 --     IsKept e progress      a refusal is kept, or want of memory in its place
---     Begins progress      it goes on, and nothing has come yet
+--     Begins before after      one that was new goes on, and nothing has come yet; another one stays
 use Rattle.std.specs.Prelude.{◌≡◌, ◌≢◌, ◌⊎◌, ℕ, ◌+◌, true, not, Bool, List, [], Option, IsSomeAnd}
 use Rattle.slate_types.specs.declared.bytes_range.BytesRange.{BytesRange}
 use Rattle.slate_types.specs.declared.error.SlateDBError.{SlateDBError}
@@ -52,8 +52,9 @@ bound_newest bound (Refused e) = 0
 abbrev pub IsKept : SlateDBError → Progress → Type 0
 IsKept e s = (s ≡ Refused e) ⊎ (s ≡ Refused OutOfMemory)
 
--- nothing has come yet
-abbrev pub Begins : Progress → Type 0
-Begins New = ⊥
-Begins (Going groups) = (groups.ready.items ≡ []) × (groups.gathered.items ≡ [])
-Begins (Refused e) = ⊥
+-- one that was new goes on, and nothing has come yet
+abbrev pub Begins : Progress → Progress → Type 0
+Begins New (Going groups) = (groups.ready.items ≡ []) × (groups.gathered.items ≡ [])
+Begins New s = ⊥
+Begins (Going groups) s = s ≡ Going groups
+Begins (Refused e) s = s ≡ Refused e

@@ -17,7 +17,7 @@ use Rattle.slate_types.specs.declared.error.SlateDBError.TheVariants.{InvalidVer
 use Rattle.slate_types.specs.declared.types.RowEntry.{RowEntry}
 use Rattle.slate_types.specs.declared.iter.IterationOrder.{IterationOrder}
 use Rattle.slate_types.specs.declared.iter.IterationOrder.TheVariants.{Ascending, Descending}
-use Rattle.slate_types.specs.Iteration.{IsInOrder, drop_before, in_order}
+use Rattle.slate_types.specs.Iteration.{IsInOrder, comes_before, drop_before, in_order}
 use Rattle.slate_types.specs.Keys.{in_range, key_cmp}
 use Rattle.slate_types.specs.RowTurns.{AreInTurn, row_before}
 use Rattle.slate_types.specs.Partitions.{covering_start, covering_end, CanHold}
@@ -306,3 +306,16 @@ pub record Sought {A : Type 0} (rest : A → World → List RowEntry) (sound : A
   pub still : (w : World) → Sees w before after → sound x w → sound y w
   pub checked : (w : World) → sound x w → Checks w before after
   pub made : Made before after (λ reads. NoMore (refuses x before.meaning) reads (refuses y before.meaning))
+
+-- blocks that the order puts before a key as a whole are passed over
+abbrev pub StaysAtEnd : IterationOrder → Cursor → Cursor → Type 0
+StaysAtEnd Ascending before after = after.stop ≡ before.stop
+StaysAtEnd Descending before after = after.first ≡ before.first
+
+pub record Jumps (order : IterationOrder) (key : List ℕ) (before after : Cursor) : Type 0 where
+  pub index : after.index ≡ before.index
+  pub rows : after.rows ≡ before.rows
+  pub first : before.first ≤ after.first
+  pub stop : after.stop ≤ before.stop
+  pub end : StaysAtEnd order before after
+  pub passed : (i : ℕ) (k : List ℕ) → CanHold (index_keys (entries_of before.index)) i k → before.first ≤ i → i < before.stop → (after.first ≤ i → i < after.stop → ⊥) → comes_before order k key ≡ true

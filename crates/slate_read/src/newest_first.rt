@@ -76,12 +76,16 @@ impl<I: Drop> NewestFirst<I> {
         error
     }
 
-    /// Begins, with no rows from the source yet.
+    /// Begins with no rows from the source, where it is new.
     fn begin(&mut self, alloc: Global)
-        ensures progress { Begins self.new.progress }
+        ensures progress { Begins self.old.progress self.new.progress }
         ensures range { self.new.range ≡ self.old.range }
         ensures iterator { self.new.iterator ≡ self.old.iterator }
     {
+        match &self.progress {
+            Progress::New => {}
+            Progress::Going(_) | Progress::Refused(_) => return,
+        }
         let groups = Groups {
             ready: Vec::new(alloc),
             gathered: Vec::new(alloc),
@@ -121,10 +125,8 @@ impl<E: Outside, I: RowEntryIterator<E>> RowEntryIterator<E> for NewestFirst<I> 
 
     #[tactic(auto, using(slate_types::proofs::Reaching::reads_none))]
     fn init(&mut self, alloc: Global, env: &mut E) -> Result<(), SlateDBError> {
-        match &self.progress {
-            Progress::New => {}
-            Progress::Going(_) => return Ok(()),
-            Progress::Refused(error) => return Err(copy_of(error)),
+        if let Progress::Refused(error) = &self.progress {
+            return Err(copy_of(error));
         }
         match self.iterator.init(alloc, env) {
             Ok(()) => {

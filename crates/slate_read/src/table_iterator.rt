@@ -5,7 +5,9 @@ ghost use Rattle.slate_read.specs.WalkLaws.{refuses_more, refuses_whole};
 use crate::table_state::{TableState, TableWalk};
 use crate::table_walk::{copy_of, open_index};
 use slate_store::{Env, Store};
-use slate_types::{BlockTransformer, IterationOrder, MergeOperator, RowEntry, RowEntryIterator, SlateDBError};
+use slate_types::{
+    BlockTransformer, IterationOrder, MergeOperator, RowEntry, RowEntryIterator, SlateDBError,
+};
 use std::alloc::Global;
 
 impl<S: Store, M: MergeOperator, T: BlockTransformer> RowEntryIterator<Env<'_, S, M, T>>

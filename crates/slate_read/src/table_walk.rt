@@ -1,9 +1,9 @@
 //! The rows of a stored table, block by block.
-ghost use Rattle.std.specs.Prelude.{◌≡◌, ◌≢◌, ◌⊎◌, ◌<◌, ◌≤◌, ◌+◌, ◌-◌, ◌*◌, ◌++◌, ℕ, List, Option, Some, None, Ok, Err, length, IfOk, IfErr, IsSome, OnOk, OnErr, false};
+ghost use Rattle.std.specs.Prelude.{◌≡◌, ◌≢◌, ◌⊎◌, ◌<◌, ◌≤◌, ◌+◌, ◌-◌, ◌*◌, ◌++◌, ℕ, List, Option, Some, None, Ok, Err, length, IfOk, IfErr, IsSome, OnOk, OnErr, true, false};
 ghost use Rattle.slate_types.specs.declared.error.SlateDBError.{SlateDBError};
 ghost use Rattle.slate_types.specs.Faults.{faults_of};
-ghost use Rattle.slate_types.specs.Keys.{is_refused};
-ghost use Rattle.slate_types.specs.Partitions.{covering_end, covering_start};
+ghost use Rattle.slate_types.specs.Keys.{is_refused, key_lt};
+ghost use Rattle.slate_types.specs.Partitions.{CanHold, covering_end, covering_start};
 ghost use Rattle.slate_block.specs.BlockWalks.{TakesRead, Refuses};
 ghost use Rattle.slate_block.specs.EitherVersion.{left_of};
 ghost use Rattle.slate_block.specs.ReadingLaws.{EachIsAByte};
@@ -15,7 +15,7 @@ ghost use Rattle.slate_types.specs.Outside.{IsFault, OnlyReads};
 ghost use Rattle.slate_types.specs.Refusing.{IsDamage};
 ghost use Rattle.slate_types.specs.World.{Made};
 ghost use Rattle.slate_types.specs.Steps.{Step};
-ghost use Rattle.slate_read.specs.TableWalk.{IsSoundRising, SkipsOpen, Sought, Begins, IsIndexed, Keeps, RefusesIndexed, bound_behind, max_blocks, IsOpened, IsSoundCursor, no_words, Opens, refuses_behind, rest_after, next_block, next_first, next_stop, reads_in, RefusesLeft, TakesOpen, IsWalkRead, RefusesRows, RefusesSome, RefusesWalk, Walks, max_reads, path_in, size_of, start_of};
+ghost use Rattle.slate_read.specs.TableWalk.{IsSoundRising, SkipsOpen, Sought, Begins, IsIndexed, Keeps, RefusesIndexed, bound_behind, max_blocks, IsOpened, IsSoundCursor, Jumps, no_words, Opens, refuses_behind, rest_after, next_block, next_first, next_stop, reads_in, RefusesLeft, TakesOpen, IsWalkRead, RefusesRows, RefusesSome, RefusesWalk, Walks, max_reads, path_in, size_of, start_of};
 
 use crate::table_state::{Cursor, TableState, TableWalk};
 use slate_block::{Block, DataBlockIterator};
@@ -27,6 +27,7 @@ use slate_types::{
 };
 use std::alloc::Global;
 use std::mem;
+use std::ops::Bound;
 
 /// The folder of the store's objects.
 pub const ROOT: &str = "db";
@@ -95,6 +96,20 @@ fn open_block<S: Store, M: MergeOperator, T: BlockTransformer>(
 {
     let found = fetch(alloc, env.store, table, index, block, &mut env.transformer)?;
     walk_block(alloc, found, table.format_version, order)
+}
+
+/// The first block that can hold a key from this one on. Those before it hold lower keys alone.
+fn first_from(index: &SstIndex, key: &[u8]) -> usize
+    ensures { (i : ℕ) (k : List ℕ) → CanHold (index_keys (entries_of index.now)) i k → i < result → key_lt k key.now ≡ true }
+{
+    partitions_covering_range(index, Bound::Included(key), Bound::Unbounded).start
+}
+
+/// The number one past the last block that can hold a key up to this one. Those from there on hold higher keys alone.
+fn end_upto(index: &SstIndex, key: &[u8]) -> usize
+    ensures { (i : ℕ) (k : List ℕ) → CanHold (index_keys (entries_of index.now)) i k → result ≤ i → key_lt key.now k ≡ true }
+{
+    partitions_covering_range(index, Bound::Unbounded, Bound::Included(key)).end
 }
 
 impl Cursor {
@@ -199,8 +214,24 @@ impl Cursor {
         }
     }
 
-    /// Takes off the rows that the order puts before a key, and reads blocks until one has another row.
-    pub(crate) fn seek<S: Store, M: MergeOperator, T: BlockTransformer>(
+    /// Passes over the blocks that hold only keys which the order puts before a key.
+    fn jump(&mut self, order: IterationOrder, key: &[u8])
+        ensures { Jumps order key.now self.old self.new }
+    {
+        match order {
+            IterationOrder::Ascending => {
+                let start = first_from(&self.index, key);
+                self.first = self.first.max(start).min(self.stop);
+            }
+            IterationOrder::Descending => {
+                let end = end_upto(&self.index, key);
+                self.stop = self.stop.min(end).max(self.first);
+            }
+        }
+    }
+
+    /// Takes off the rows that the order puts before a key, and reads block after block until one has another row.
+    fn walk_to<S: Store, M: MergeOperator, T: BlockTransformer>(
         &mut self,
         alloc: Global,
         env: &mut Env<'_, S, M, T>,
@@ -222,6 +253,27 @@ impl Cursor {
             }
             self.open(alloc, env, table, order)?;
         }
+    }
+
+    /// Takes off the rows that the order puts before a key. Blocks that the index puts before the key aren't read.
+    pub(crate) fn seek<S: Store, M: MergeOperator, T: BlockTransformer>(
+        &mut self,
+        alloc: Global,
+        env: &mut Env<'_, S, M, T>,
+        table: &SsTableHandle,
+        order: IterationOrder,
+        key: &[u8],
+    ) -> Result<(), SlateDBError>
+        ensures sought { let reach = ⟦<EnvOf<S, M, T> as Outside>⟧.reach in OnOk result (Sought (rest_after table.now order) (IsSoundRising table.now order) (refuses_behind table.now order) order key.now (reach env.old) (reach env.new) self.old self.new) }
+        ensures cause { let reach = ⟦<EnvOf<S, M, T> as Outside>⟧.reach in IfErr result (λ e. Made (reach env.old) (reach env.new) (λ reads. IsFault (reach env.old) (reach env.new) e ⊎ refuses_behind table.now order self.old (reach env.old).meaning reads (Some key.now) e)) }
+        ensures no_larger { OnOk result (bound_behind self.new ≤ bound_behind self.old) }
+        ensures reads { let reach = ⟦<EnvOf<S, M, T> as Outside>⟧.reach in OnlyReads (reach env.old) (reach env.new) }
+    {
+        if self.skip(alloc, key)? {
+            return Ok(());
+        }
+        self.jump(order, key);
+        self.walk_to(alloc, env, table, order, key)
     }
 }
 

@@ -211,7 +211,7 @@ part_twice bytes a m d n whole inner =
 
 -- ---- where blocks begin
 
-pub flat : List (List ℕ) → List ℕ
+unfoldable pub flat : List (List ℕ) → List ℕ
 flat ss = flat_map (λ s. s) ss
 
 abbrev no_sections : List (List ℕ)

@@ -3,5 +3,5 @@ use Rattle.slate_table.proofs.OpenLaws.{same_end}
 use Rattle.slate_read.proofs.Readable.{readable}
 use Rattle.slate_read.proofs.readable_laws.tables_are_readable.Goals as goal
 
-pub returns-clause-readable : goal.returns-clause-readable
-returns-clause-readable c = readable same_end index_held index_found blocks_held
+pub returns : goal.returns
+returns c = record { readable = readable same_end index_held index_found blocks_held }

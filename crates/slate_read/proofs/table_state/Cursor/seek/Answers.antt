@@ -1,84 +1,54 @@
-use Rattle.std.proofs.Common.{◌≡◌, ◌-◌, ◌∙◌, Some, refl, sym, ap, subst, arith}
-use Rattle.std.proofs.lemmas.Result.{err_from_is_err_and, IfOk-from_err}
-use Rattle.slate_types.proofs.Reaching.{reads_none, reads_then}
-use Rattle.slate_read.proofs.Cursors.{opens_moves, row_fails, some_fails}
-use Rattle.slate_types.proofs.Moves.{moves_both, moves_fails}
-use Rattle.slate_read.proofs.Seeks.{done_none, done_some, lifted, skip_moves, skipped_no_larger, skipped_none}
+use Rattle.std.proofs.Common.{◌≡◌, ◌∙◌, ◌≤◌, ◌-◌, ap, Some, refl, arith}
+use Rattle.std.proofs.lemmas.Result.{err_from_is_err_and, on_ok_weaker, IfErr-weaker}
+use Rattle.slate_types.proofs.Reaching.{later_none, reads_none}
+use Rattle.slate_types.proofs.Moves.{moves_both, moves_fails, moves_none}
+use Rattle.slate_read.specs.TableWalk.{bound_behind, reads_in}
+use Rattle.slate_read.proofs.Cursors.{row_fails}
+use Rattle.slate_read.proofs.Jumps.{jump_moves, sought_behind}
+use Rattle.slate_read.proofs.Seeks.{done_some, skip_moves, skipped_no_larger, skipped_none}
 use Rattle.slate_read.proofs.table_state.Cursor.seek.Goals as goal
-
-pub loop-self-preserved : goal.loop-self-preserved
-loop-self-preserved g c =
-    let i = c.loop-self.invariant in
-    let r = c.in_ok-skip.ensures in
-    let skips = rw c.if-branch.false at r.skipped in
-    let moved = skip_moves c.args.table.now c.args.order c.args.key.now _ c.loop-self.self c.skip.new.self _ skips r.index r.first r.stop in
-    let o = c.in_ok-open.ensures in
-    let opened = lifted c.args.table.now c.args.order c.args.key.now _ _ c.skip.new.self c.open.new.self
-    (opens_moves c.args.table.now c.args.order _ _ o.opened.0 c.skip.new.self c.open.new.self o.opened.1 o.opened.2 (skipped_none _ _ _ skips) (omega (arith, c.if-self.false))) in
-    let d : c.skip.new.self.stop - c.skip.new.self.first ≡ c.loop-self.self.stop - c.loop-self.self.first = (λ k. r.stop k - r.first k) in
-    record {
-      moves = moves_both _ _ _ _ _ _ _ _ _ i.moves (moves_both _ _ _ _ _ _ _ _ _ moved opened);
-      bound = omega (arith, i.bound, o.small, o.fewer, d);
-      reads = reads_then _ _ _ i.reads o.reads;
-    }
-
-pub loop-self-smaller : goal.loop-self-smaller
-loop-self-smaller g c =
-    let r = c.in_ok-skip.ensures in
-    let o = c.in_ok-open.ensures in
-    let d : c.skip.new.self.stop - c.skip.new.self.first ≡ c.loop-self.self.stop - c.loop-self.self.first = (λ k. r.stop k - r.first k) in
-    omega (arith, o.fewer, d)
 
 pub returns-in_err-skip : goal.returns-in_err-skip
 returns-in_err-skip g c =
-    let i = c.loop-self.invariant in
     let p = err_from_is_err_and c.from_residual.result c.from_residual.ensures.1 in
     record {
       sought = rw p.1 tt;
-      cause = rw (p.1, p.2) (moves_fails _ _ _ _ _ _ _ _ (Some c.args.key.now) _ i.moves i.reads.later (row_fails c.args.table.now c.args.order _ _ c.loop-self.self _ c.in_err-skip.ensures.cause));
+      cause = rw (p.1, p.2) (row_fails c.args.table.now c.args.order _ _ c.args.self.now _ c.in_err-skip.ensures.cause);
       no_larger = rw p.1 tt;
-      reads = i.reads;
+      reads = reads_none _;
     }
 
 pub returns-then-branch : goal.returns-then-branch
 returns-then-branch g c =
-    let i = c.loop-self.invariant in
     let r = c.in_ok-skip.ensures in
     let skips = rw c.if-branch.true at r.skipped in
-    let d : c.skip.new.self.stop - c.skip.new.self.first ≡ c.loop-self.self.stop - c.loop-self.self.first = (λ k. r.stop k - r.first k) in
+    let d : c.skip.new.self.stop - c.skip.new.self.first ≡ c.args.self.now.stop - c.args.self.now.first = (λ k. r.stop k - r.first k) in
     let less = skipped_no_larger _ _ _ _ skips in
     record {
-      sought = done_some c.args.table.now c.args.order c.args.key.now _ _ c.args.self.now c.loop-self.self c.skip.new.self i.moves skips r.index r.first r.stop;
+      sought = done_some c.args.table.now c.args.order c.args.key.now _ _ c.args.self.now c.args.self.now c.skip.new.self (moves_none _ _ _ _ _) skips r.index r.first r.stop;
       cause = tt;
-      no_larger = omega (arith, i.bound, less, d);
-      reads = i.reads;
+      no_larger = omega (arith, less, d);
+      reads = reads_none _;
     }
 
-pub returns-then-self : goal.returns-then-self
-returns-then-self g c =
-    let i = c.loop-self.invariant in
+pub returns : goal.returns
+returns g c =
     let r = c.in_ok-skip.ensures in
     let skips = rw c.if-branch.false at r.skipped in
-    let d : c.skip.new.self.stop - c.skip.new.self.first ≡ c.loop-self.self.stop - c.loop-self.self.first = (λ k. r.stop k - r.first k) in
+    let j = c.jump.ensures in
+    let o = c.walk_to.ensures in
     let less = skipped_no_larger _ _ _ _ skips in
+    let first = r.first in
+    let stop = r.stop in
+    let low = j.first in
+    let high = j.stop in
+    let open_rows = ap reads_in j.rows in
+    let moved = moves_both _ _ _ _ _ _ _ _ _ (skip_moves c.args.table.now c.args.order c.args.key.now _ c.args.self.now c.skip.new.self _ skips r.index r.first r.stop)
+    (jump_moves c.args.table.now c.args.order c.args.key.now _ c.skip.new.self c.jump.new.self j (skipped_none _ _ _ skips)) in
+    let smaller : bound_behind c.jump.new.self ≤ bound_behind c.args.self.now = omega (arith, less, first, stop, low, high, open_rows) in
     record {
-      sought = done_none c.args.table.now c.args.order c.args.key.now _ _ c.args.self.now c.loop-self.self c.skip.new.self i.moves skips r.index r.first r.stop (omega (arith, c.if-self.true));
-      cause = tt;
-      no_larger = omega (arith, i.bound, less, d);
-      reads = i.reads;
-    }
-
-pub returns-in_err-open : goal.returns-in_err-open
-returns-in_err-open g c =
-    let i = c.loop-self.invariant in
-    let r = c.in_ok-skip.ensures in
-    let skips = rw c.if-branch.false at r.skipped in
-    let moved = skip_moves c.args.table.now c.args.order c.args.key.now _ c.loop-self.self c.skip.new.self _ skips r.index r.first r.stop in
-    let p = err_from_is_err_and c.from_residual-in_err-open.result c.from_residual-in_err-open.ensures.1 in
-    let o = c.in_err-open.ensures in
-    record {
-      sought = rw p.1 tt;
-      cause = rw (p.1, p.2) (moves_fails _ _ _ _ _ _ _ _ (Some c.args.key.now) _ (moves_both _ _ _ _ _ _ _ _ _ i.moves moved) i.reads.later (some_fails c.args.table.now c.args.order _ _ _ _ c.skip.new.self _ o.cause));
-      no_larger = rw p.1 tt;
-      reads = reads_then _ _ _ i.reads o.reads;
+      sought = on_ok_weaker c.walk_to.result (λ k. sought_behind c.args.table.now c.args.order c.args.key.now _ _ _ c.args.self.now c.jump.new.self c.walk_to.new.self moved k) o.sought;
+      cause = IfErr-weaker c.walk_to.result _ _ (λ e made. moves_fails _ _ _ _ _ _ _ _ (Some c.args.key.now) e moved (later_none _) made) o.cause;
+      no_larger = on_ok_weaker c.walk_to.result (λ k. omega (arith, k, smaller)) o.no_larger;
+      reads = o.reads;
     }

@@ -3,7 +3,7 @@ use Rattle.slate_types.specs.Outside.{OnlyReads}
 use Rattle.slate_store.specs.Reach.{reach_of}
 use Rattle.slate_read.specs.TableWalk.{IsSoundRising, bound_behind, refuses_behind, rest_sought}
 use Rattle.slate_types.proofs.Moves.{Moves}
-use Rattle.slate_read.proofs.table_state.Cursor.seek.Given as goal
+use Rattle.slate_read.proofs.table_state.Cursor.walk_to.Given as goal
 
 abbrev pub invariant-loop-self : goal.invariant-loop-self
 invariant-loop-self g l = record {

@@ -1,0 +1,42 @@
+-- Iterators over one stored table.
+--     sst_rest, sst_sound      what is left of one, and what it rests on
+--     BringsRows w order it rows      it is sound in a world, these rows are left there, and they stand in turn
+--     IsTableIterator range table order it      in each world that has the table, the rows in the range are left, the newest of each key first
+use Rattle.std.specs.Prelude.{◌≡◌, List, filter}
+use Rattle.slate_types.specs.declared.bytes_range.BytesRange.{BytesRange}
+use Rattle.slate_types.specs.declared.iter.IterationOrder.{IterationOrder}
+use Rattle.slate_types.specs.declared.types.RowEntry.{RowEntry}
+use Rattle.slate_types.specs.RowTurns.{AreInTurn, row_before}
+use Rattle.slate_types.specs.World.{Kept, World}
+use Rattle.slate_table.specs.declared.info.SsTableHandle.{SsTableHandle}
+use Rattle.slate_read.specs.declared.filter_iterator.FilterIterator.{FilterIterator}
+use Rattle.slate_read.specs.declared.newest_first.NewestFirst.{NewestFirst}
+use Rattle.slate_read.specs.declared.range_rows.InRange.{InRange}
+use Rattle.slate_read.specs.declared.table_state.TableWalk.{TableWalk}
+use Rattle.slate_read.specs.Groups.{in_turn}
+use Rattle.slate_read.specs.NewestFirst.{rest_newest, sound_newest}
+use Rattle.slate_read.specs.TableWalk.{IsReadable, IsSoundWalk, is_in, rest_of, rows_in}
+
+abbrev pub source_rest : FilterIterator TableWalk InRange → World → List RowEntry
+source_rest source w = filter (is_in source.predicate.range) (rest_of source.iterator w)
+
+abbrev pub source_sound : FilterIterator TableWalk InRange → World → Type 0
+source_sound source w = IsSoundWalk source.iterator w
+
+abbrev pub source_order : FilterIterator TableWalk InRange → IterationOrder
+source_order source = source.iterator.order
+
+abbrev pub sst_rest : NewestFirst (FilterIterator TableWalk InRange) → World → List RowEntry
+sst_rest it w = rest_newest source_rest source_order it.iterator it.progress w
+
+abbrev pub sst_sound : NewestFirst (FilterIterator TableWalk InRange) → World → Type 0
+sst_sound it w = sound_newest source_rest source_sound source_order it.iterator it.progress w
+
+pub record BringsRows (w : World) (order : IterationOrder) (it : NewestFirst (FilterIterator TableWalk InRange)) (rows : List RowEntry) : Type 0 where
+  pub sound : sst_sound it w
+  pub rest : sst_rest it w ≡ rows
+  pub turn : AreInTurn (row_before order) rows
+  pub same_order : it.iterator.iterator.order ≡ order
+
+abbrev pub IsTableIterator : BytesRange → SsTableHandle → IterationOrder → NewestFirst (FilterIterator TableWalk InRange) → Type 0
+IsTableIterator range table order it = (w : World) (kept : Kept) → IsReadable w table kept → BringsRows w order it (in_turn order (rows_in range order kept))
