@@ -8,3 +8,4 @@ pub mod NewestFirst
 pub mod NewestLaws
 pub mod SstOptions
 pub mod SstIterators
+pub mod SstLaws

@@ -1,8 +1,11 @@
 -- Iterators over one stored table.
---     sst_rest, sst_sound      what is left of one, and what it rests on
+--     source_rest, source_sound, source_order, source_refuses      of the rows in the range, as they stand in the table
+--     sst_rest, sst_sound, sst_refuses, sst_bound      of one that hands out the newest of each key first
 --     BringsRows w order it rows      it is sound in a world, these rows are left there, and they stand in turn
 --     IsTableIterator range table order it      in each world that has the table, the rows in the range are left, the newest of each key first
-use Rattle.std.specs.Prelude.{◌≡◌, List, filter}
+use Rattle.std.specs.Prelude.{◌≡◌, ℕ, List, Option, filter}
+use Rattle.slate_types.specs.declared.error.SlateDBError.{SlateDBError}
+use Rattle.slate_types.specs.Outside.{Act, Meaning}
 use Rattle.slate_types.specs.declared.bytes_range.BytesRange.{BytesRange}
 use Rattle.slate_types.specs.declared.iter.IterationOrder.{IterationOrder}
 use Rattle.slate_types.specs.declared.types.RowEntry.{RowEntry}
@@ -14,8 +17,8 @@ use Rattle.slate_read.specs.declared.newest_first.NewestFirst.{NewestFirst}
 use Rattle.slate_read.specs.declared.range_rows.InRange.{InRange}
 use Rattle.slate_read.specs.declared.table_state.TableWalk.{TableWalk}
 use Rattle.slate_read.specs.Groups.{in_turn}
-use Rattle.slate_read.specs.NewestFirst.{rest_newest, sound_newest}
-use Rattle.slate_read.specs.TableWalk.{IsReadable, IsSoundWalk, is_in, rest_of, rows_in}
+use Rattle.slate_read.specs.NewestFirst.{bound_newest, refuses_newest, rest_newest, sound_newest}
+use Rattle.slate_read.specs.TableWalk.{IsReadable, IsSoundWalk, bound_in, is_in, refuses_in, rest_of, rows_in}
 
 abbrev pub source_rest : FilterIterator TableWalk InRange → World → List RowEntry
 source_rest source w = filter (is_in source.predicate.range) (rest_of source.iterator w)
@@ -31,6 +34,15 @@ sst_rest it w = rest_newest source_rest source_order it.iterator it.progress w
 
 abbrev pub sst_sound : NewestFirst (FilterIterator TableWalk InRange) → World → Type 0
 sst_sound it w = sound_newest source_rest source_sound source_order it.iterator it.progress w
+
+abbrev pub source_refuses : FilterIterator TableWalk InRange → Meaning → List Act → Option (List ℕ) → SlateDBError → Type 0
+source_refuses source m reads at e = refuses_in source.iterator.state source.iterator.table source.iterator.order m reads at e
+
+abbrev pub sst_refuses : NewestFirst (FilterIterator TableWalk InRange) → Meaning → List Act → Option (List ℕ) → SlateDBError → Type 0
+sst_refuses it m reads at e = refuses_newest source_refuses it.range it.iterator it.progress m reads at e
+
+abbrev pub sst_bound : NewestFirst (FilterIterator TableWalk InRange) → ℕ
+sst_bound it = bound_newest (bound_in it.iterator.iterator.state) it.progress
 
 pub record BringsRows (w : World) (order : IterationOrder) (it : NewestFirst (FilterIterator TableWalk InRange)) (rows : List RowEntry) : Type 0 where
   pub sound : sst_sound it w

@@ -3,6 +3,7 @@
 
 pub mod filter_iterator;
 pub mod groups;
+pub mod internal_sst_iterator;
 pub mod newest_first;
 pub mod progress;
 pub mod range_rows;

@@ -1,38 +1,96 @@
-//! The rows of a stored table in a range.
+//! The rows of a stored table in a range, with the policies of its filters.
 ghost use Rattle.std.specs.Prelude.{◌≡◌, IfOk, IfErr, false};
 ghost use Rattle.slate_types.specs.declared.error.SlateDBError.{SlateDBError};
 ghost use Rattle.slate_types.specs.Keys.{is_refused};
-ghost use Rattle.slate_read.specs.SstIterators.{IsTableIterator};
+ghost use Rattle.slate_read.specs.SstIterators.{IsTableIterator, sst_bound, sst_refuses, sst_rest, sst_sound};
+ghost use Rattle.slate_read.specs.SstLaws.{sst_more, sst_rising, sst_whole};
 ghost use Rattle.slate_read.specs.SstOptions.{CanFetch};
 
-use crate::filter_iterator::FilterIterator;
-use crate::newest_first::NewestFirst;
-use crate::range_rows::{InRange, range_rows};
+use crate::internal_sst_iterator::InternalSstIterator;
 use crate::sst_iterator_options::SstIteratorOptions;
-use crate::table_state::TableWalk;
+use slate_filter::FilterPolicy;
+use slate_store::{Env, Store};
 use slate_table::SsTableHandle;
-use slate_types::{BytesRange, SlateDBError};
+use slate_types::{
+    BlockTransformer, BytesRange, IterationOrder, MergeOperator, RowEntry, RowEntryIterator,
+    SlateDBError,
+};
 use std::alloc::Global;
 
-/// The rows of a stored table in a range, in an order, the newest of each key first. `init` reads the index, and the calls after it
-/// read the blocks that can hold keys of the range, each once.
-pub type InternalSstIterator = NewestFirst<FilterIterator<TableWalk, InRange>>;
+/// The rows of a stored table in a range, in an order, the newest of each key first. Its filters aren't asked yet.
+#[derive(Drop)]
+pub struct SstIterator<'a> {
+    pub(crate) rows: InternalSstIterator,
+    pub(crate) policies: &'a [Box<dyn FilterPolicy>],
+}
 
-impl NewestFirst<FilterIterator<TableWalk, InRange>> {
+impl<'a> SstIterator<'a> {
     /// The rows of a table in a range. Nothing is read yet. `OutOfMemory` alone is refused.
     pub fn new(
         alloc: Global,
         range: BytesRange,
         table: SsTableHandle,
         options: SstIteratorOptions,
-    ) -> Result<InternalSstIterator, SlateDBError>
+        policies: &'a [Box<dyn FilterPolicy>],
+    ) -> Result<SstIterator<'a>, SlateDBError>
         requires range { is_refused range.start range.end ≡ false }
         requires fetches { CanFetch options }
-        ensures rows { IfOk result (λ it. IsTableIterator range table options.order it) }
+        ensures rows { IfOk result (λ it. IsTableIterator range table options.order it.rows) }
         ensures cause { IfErr result (λ e. e ≡ SlateDBError.OutOfMemory) }
     {
-        let kept = range.clone()?;
-        let source = range_rows(alloc, range, table, options.order)?;
-        Ok(NewestFirst::over(kept, source))
+        let rows = InternalSstIterator::new(alloc, range, table, options)?;
+        Ok(SstIterator { rows, policies })
+    }
+}
+
+impl<S: Store, M: MergeOperator, T: BlockTransformer> RowEntryIterator<Env<'_, S, M, T>>
+    for SstIterator<'_> {
+    ghost rest = { λ it w. sst_rest it.rows w };
+
+    ghost sound = { λ it w. sst_sound it.rows w };
+
+    ghost order = { λ it. it.rows.iterator.iterator.order };
+
+    ghost bound = { λ it. sst_bound it.rows };
+
+    ghost refuses = { λ it m reads at e. sst_refuses it.rows m reads at e };
+
+    ghost begins = { λ _ _ _ _. Unit {0} };
+
+    ghost takes = { λ _ _ _ _ _. Unit {0} };
+
+    ghost seeks = { λ _ _ _ _ _. Unit {0} };
+
+    ghost stays = { λ _ _ _ _ _ _. Unit {0} };
+
+    ghost rising = { λ it w h. sst_rising it.rows w h };
+
+    ghost more = { λ it m done reads at e h. sst_more it.rows m done reads at e h };
+
+    ghost whole = { λ it w reads at e h k r. sst_whole it.rows w reads at e h k r };
+
+    fn iteration_order(&self) -> IterationOrder {
+        <InternalSstIterator as RowEntryIterator<Env<'_, S, M, T>>>::iteration_order(&self.rows)
+    }
+
+    fn init(&mut self, alloc: Global, env: &mut Env<'_, S, M, T>) -> Result<(), SlateDBError> {
+        self.rows.init(alloc, env)
+    }
+
+    fn next(
+        &mut self,
+        alloc: Global,
+        env: &mut Env<'_, S, M, T>,
+    ) -> Result<Option<RowEntry>, SlateDBError> {
+        self.rows.next(alloc, env)
+    }
+
+    fn seek(
+        &mut self,
+        alloc: Global,
+        key: &[u8],
+        env: &mut Env<'_, S, M, T>,
+    ) -> Result<(), SlateDBError> {
+        self.rows.seek(alloc, key, env)
     }
 }

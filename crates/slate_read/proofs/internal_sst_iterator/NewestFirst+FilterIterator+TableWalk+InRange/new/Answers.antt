@@ -1,6 +1,6 @@
 use Rattle.std.proofs.Common.{rules, ◌≡◌}
 use Rattle.slate_read.proofs.SstRows.{is_table_iterator}
-use Rattle.slate_read.proofs.sst_iterator.NewestFirst+FilterIterator+TableWalk+InRange.new.Goals as goal
+use Rattle.slate_read.proofs.internal_sst_iterator.NewestFirst+FilterIterator+TableWalk+InRange.new.Goals as goal
 
 pub returns-clause-rows : goal.returns-clause-rows
 returns-clause-rows c = is_table_iterator c.args.range c.args.table c.args.options.order c.in_ok-source.source c.over.result c.in_ok-source.ensures.rows c.in_ok-source.ensures.order c.over.ensures.iterator c.over.ensures.progress
