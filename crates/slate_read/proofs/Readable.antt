@@ -13,11 +13,11 @@ use Rattle.slate_types.specs.declared.iter.IterationOrder.TheVariants.{Ascending
 use Rattle.slate_types.specs.Iteration.{IsInOrder, NoneBefore}
 use Rattle.slate_types.specs.Keys.{key_cmp, key_lt}
 use Rattle.slate_types.specs.RowTurns.{AreInTurn, NoneEarlier, row_before}
-use Rattle.slate_types.proofs.KeyOrder.{is-less, turned-key}
+use Rattle.slate_types.proofs.KeyOrder.{bytes_eq-same, is-less, turned-key}
 use Rattle.slate_types.specs.Lawful.{IsLawfulTransform}
 use Rattle.slate_types.specs.Outside.{Objects}
 use Rattle.slate_types.specs.Partitions.{CanHold}
-use Rattle.slate_types.specs.Rows.{row_lt}
+use Rattle.slate_types.specs.Rows.{of_key, row_lt}
 use Rattle.std.specs.Prelude.{IsTrue}
 use Rattle.slate_store.specs.Store.{Act, object_at, part_of}
 use Rattle.slate_block.specs.declared.block.Block.{Block}
@@ -29,7 +29,7 @@ use Rattle.slate_block.proofs.BlocksReadAgainV2.{block_again as again_v2}
 use Rattle.slate_table.specs.declared.info.SsTableHandle.{SsTableHandle}
 use Rattle.slate_table.specs.Decoded.{Info}
 use Rattle.slate_table.specs.FileLaws.{BlocksReadAreTheTables, IndexIsFound, IndexIsTheTables, InfosAreTheTables, index_section, stats_section, HoldsTable, paired, table_entries, table_info}
-use Rattle.slate_table.specs.Finding.{IsTableWith, blocks_answer, index_answer}
+use Rattle.slate_table.specs.Finding.{IsTableWith, encloses, blocks_answer, index_answer}
 use Rattle.slate_table.specs.IndexReading.{index_keys}
 use Rattle.slate_table.specs.InfoReading.{seen_info}
 use Rattle.slate_table.specs.Parts as P
@@ -41,7 +41,7 @@ use Rattle.slate_table.proofs.IndexLaws.{places_count, separators_count}
 use Rattle.slate_table.proofs.Covering.{AreSome, Holds, not_above, separators_hold}
 use Rattle.slate_table.proofs.IndexOrder.{index_is}
 use Rattle.slate_table.proofs.IndexReads.{sorted_keys}
-use Rattle.slate_table.proofs.TableFinds.{Found, flat, found_in, not_refused}
+use Rattle.slate_table.proofs.TableFinds.{Found, flat, found_in, not_refused, outside_none}
 use Rattle.slate_table.specs.Decoded.{IsIndex}
 use Rattle.std.proofs.lemmas.List.{drop_at, take_at}
 use Rattle.std.specs.Prelude.{◌==◌, ◌||◌, ◌&&◌, nat_lt}
@@ -86,6 +86,25 @@ none_read version r (s ∷ rs) h = (ap (λ k. key_lt k (as_read version r).key) 
 read_order : (version : ℕ) (rows : List RowEntry) → AreInOrder rows → IsInOrder Ascending (map (as_read version) rows)
 read_order version [] h = tt
 read_order version (r ∷ rs) h = (none_read version r rs h.0, read_order version rs h.1)
+
+-- where keys outside have no rows, each row's key stands inside
+all_enclosed : (info : Info) (rows : List RowEntry) → ((k : List ℕ) → encloses info k ≡ false → of_key k rows ≡ []) → AllByRecursion (λ r. encloses info r.key ≡ true) rows
+all_enclosed info [] none = tt
+all_enclosed info (r ∷ rows) none = (inside (encloses info r.key) refl, all_enclosed info rows (λ k out. later k (bytes_eq r.key k) (none k out)))
+  where
+    inside : (t : Bool) → encloses info r.key ≡ t → t ≡ true
+    inside true e = refl
+    inside false e =
+        let clash : cond (bytes_eq r.key r.key) (r ∷ of_key r.key rows) (of_key r.key rows) ≡ [] = none r.key e in
+        absurd (found (bytes_eq r.key r.key) (bytes_eq-same r.key) clash)
+      where
+        found : (t : Bool) → t ≡ true → cond t (r ∷ of_key r.key rows) (of_key r.key rows) ≡ [] → ⊥
+        found true same h = cc
+        found false same h = cc
+
+    later : (k : List ℕ) (t : Bool) → cond t (r ∷ of_key k rows) (of_key k rows) ≡ [] → of_key k rows ≡ []
+    later k true h = cc
+    later k false h = h
 
 -- no row stands before an earlier one
 row_later : (r s : RowEntry) → row_lt r s ≡ true → row_before Ascending s r ≡ false
@@ -285,6 +304,7 @@ readable same_end index_held index_found blocks_held encode decode lawful w h by
   sums = λ stored. ap (λ (f : List ℕ → Bool). f (summed stored)) sums ∙ sum_passes stored;
   rising = subst (IsInOrder Ascending) (sym (read_flat h.format_version bs)) (read_order h.format_version (flat_map (λ b. b) bs) table.order);
   turn = subst (λ (rows : List RowEntry). AreInTurn (row_before Ascending) rows) (sym (read_flat h.format_version bs)) (read_turn h.format_version (flat_map (λ b. b) bs) table.order);
+  enclosed = subst (AllByRecursion (λ r. encloses (seen_info h.info) r.key ≡ true)) (sym (read_flat h.format_version bs)) (all_enclosed (seen_info h.info) (map (as_read h.format_version) (flat_map (λ b. b) bs)) (λ k out. outside_none encode bytes h.format_version (seen_info h.info) (map (as_read h.format_version) (flat_map (λ b. b) bs)) with_info k out));
   sorted = subst (IsSorted key_cmp) (paired_keys (places 0 ss) (separators bs) count) (sorted_keys entries stands.rises);
   holds = holds_read h.format_version bs table.each table.order;
 }
@@ -353,9 +373,11 @@ readable same_end index_held index_found blocks_held encode decode lawful w h by
         let text = index_bytes (places 0 ss) (separators bs) in
         (text, (encode text, at.index ∙ ap (λ (x : List (List ℕ)). Some (section encode (index_bytes (places 0 x) (separators bs)))) at.are, sym (lawful text)), subst (λ (n : ℕ). IsIndex n text entries) (sym end_is) stands)
 
+    with_info : IsTableWith encode bytes h.format_version (seen_info h.info) (map (as_read h.format_version) (flat_map (λ b. b) bs))
+    with_info = record { written = h.format_version; is = (bs, fs, table, refl); info = ends }
+
     fine : (i : ℕ) (e : SlateDBError) → i < length entries → RefusesBlock w.meaning.decode (block_part h kept entries i) e → ⊥
     fine i e within refused =
-        let with_info : IsTableWith encode bytes h.format_version (seen_info h.info) (map (as_read h.format_version) (flat_map (λ b. b) bs)) = record { written = h.format_version; is = (bs, fs, table, refl); info = ends } in
         let whole = whole_part bytes (start_of h entries i) (size_of h entries i) in
         let is : block_answer h.info.filter_offset entries i (block_part h kept entries i) i ≡ block_part h kept entries i = ap (λ (a : Option (List ℕ)). block_answer h.info.filter_offset entries i a i) (sym whole) ∙ one_answer h.info.filter_offset entries i (block_part h kept entries i) ∙ whole in
         let here = subst (λ (d : Encode). RefusesBlock d (block_part h kept entries i) e) decodes refused in

@@ -30,6 +30,8 @@ use Rattle.slate_block.specs.GroupWalks.{walk_in}
 use Rattle.slate_block.specs.ReadingLaws.{EachIsAByte}
 use Rattle.slate_block.specs.Walks.{RowRead, block_reads, block_rows}
 use Rattle.slate_table.specs.declared.info.SsTableHandle.{SsTableHandle}
+use Rattle.slate_table.specs.Finding.{encloses}
+use Rattle.slate_table.specs.InfoReading.{seen_info}
 use Rattle.slate_table.specs.IndexReading.{index_keys}
 use Rattle.slate_table.specs.IndexValue.{entries_of}
 use Rattle.slate_table.specs.Parts.{Encode, summed}
@@ -173,6 +175,7 @@ pub record IsReadable (w : World) (h : SsTableHandle) (kept : Kept) : Type 0 whe
   pub sums : (stored : List ℕ) → w.fits (summed stored) ≡ true
   pub rising : IsInOrder Ascending (flat_map (λ b. b) kept.blocks)
   pub turn : AreInTurn (row_before Ascending) (flat_map (λ b. b) kept.blocks)
+  pub enclosed : AllByRecursion (λ r. encloses (seen_info h.info) r.key ≡ true) (flat_map (λ b. b) kept.blocks)
   pub sorted : IsSorted key_cmp kept.keys
   pub holds : (i : ℕ) (rows : List RowEntry) → slice_get kept.blocks i ≡ Some rows → AllByRecursion (λ r. CanHold kept.keys i r.key) rows
 

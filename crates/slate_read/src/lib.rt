@@ -13,3 +13,17 @@ pub mod sst_iterator_options;
 pub mod table_iterator;
 pub mod table_state;
 pub mod table_walk;
+
+pub use filter_iterator::{FilterIterator, MaxSeq, RowPredicate};
+pub use internal_sst_iterator::InternalSstIterator;
+pub use sst_iterator::SstIterator;
+pub use sst_iterator_options::{SortedRun, SstIteratorOptions};
+
+fn crosses<T: Send + Sync>() {}
+
+/// A run and iterators over tables go to other threads, and are shared between them.
+pub fn types_cross_threads() {
+    crosses::<SortedRun>();
+    crosses::<SstIteratorOptions>();
+    crosses::<InternalSstIterator>();
+}
