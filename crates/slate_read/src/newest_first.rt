@@ -1,5 +1,5 @@
 //! The newest row of each key first, in both orders.
-ghost use Rattle.std.specs.Prelude.{◌≡◌, ◌⊎◌, Bool, true, not, IfOk, IfErr};
+ghost use Rattle.std.specs.Prelude.{◌≡◌, ◌⊎◌, false};
 ghost use Rattle.slate_types.specs.declared.error.SlateDBError.{SlateDBError};
 ghost use Rattle.slate_read.specs.NewestFirst.{Begins, IsKept, bound_newest, is_below, refuses_newest, rest_newest, sound_newest};
 ghost use Rattle.slate_read.specs.NewestLaws.{newest_more, newest_order, newest_whole};
@@ -109,7 +109,7 @@ impl<E: Outside, I: RowEntryIterator<E>> RowEntryIterator<E> for NewestFirst<I> 
 
     ghost takes = { λ _ _ _ _ _. Unit {0} };
 
-    ghost seeks = { λ _ _ _ _ _. Unit {0} };
+    ghost seeks = { λ before _ _ key _. is_below before.range key ≡ false };
 
     ghost stays = { λ _ _ _ _ _ _. Unit {0} };
 

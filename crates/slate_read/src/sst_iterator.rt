@@ -4,6 +4,7 @@ ghost use Rattle.slate_types.specs.declared.error.SlateDBError.{SlateDBError};
 ghost use Rattle.slate_types.specs.Keys.{is_refused};
 ghost use Rattle.slate_read.specs.SstIterators.{IsTableIterator, sst_bound, sst_refuses, sst_rest, sst_sound};
 ghost use Rattle.slate_read.specs.SstLaws.{sst_more, sst_rising, sst_whole};
+ghost use Rattle.slate_read.specs.NewestFirst.{is_below};
 ghost use Rattle.slate_read.specs.SstOptions.{CanFetch};
 
 use crate::internal_sst_iterator::InternalSstIterator;
@@ -59,7 +60,7 @@ impl<S: Store, M: MergeOperator, T: BlockTransformer> RowEntryIterator<Env<'_, S
 
     ghost takes = { λ _ _ _ _ _. Unit {0} };
 
-    ghost seeks = { λ _ _ _ _ _. Unit {0} };
+    ghost seeks = { λ before _ _ key _. is_below before.rows.range key ≡ false };
 
     ghost stays = { λ _ _ _ _ _ _. Unit {0} };
 
