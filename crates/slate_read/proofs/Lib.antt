@@ -8,3 +8,15 @@ pub mod Walks
 pub mod Ranges
 pub mod Seeks
 pub mod Readable
+pub mod Shuffles
+pub mod HeadLaws
+pub mod StepLaws
+pub mod SeekLaws
+pub mod BeginLaws
+pub mod RenewLaws
+pub mod DecidedLaws
+pub mod Blames
+pub mod Goings
+pub mod MergeLoops
+pub mod MergeStateSteps
+pub mod Requires
