@@ -1,10 +1,10 @@
 -- What the sources of a merge refuse, behind the reads of one of them.
-use Rattle.std.proofs.Common.{◌≡◌, ◌⊎◌, inl, inr, ℕ, List, [], ◌∷◌, ◌++◌, Option, None, IsPermutation}
+use Rattle.std.proofs.Common.{inl, inr, ℕ, List, ◌∷◌, ◌++◌, Option, None, IsPermutation}
 use Rattle.slate_types.specs.declared.error.SlateDBError.{SlateDBError}
 use Rattle.slate_types.specs.Outside.{Act, Meaning}
 use Rattle.slate_types.specs.Refusing.{NoMore}
 use Rattle.slate_read.specs.declared.head.Head.{Head}
-use Rattle.slate_read.specs.Merging.{AnyByRecursion, Sources, IsBlamed, either_refusal, blames}
+use Rattle.slate_read.specs.Merging.{AnyByRecursion, either_refusal, blames}
 use Rattle.slate_read.specs.MergeStateLaws.{any_weaker, either_more}
 use Rattle.slate_read.proofs.StepLaws.{any_shuffled}
 

@@ -1,14 +1,13 @@
 -- What the call of one source does to a merge under way.
-use Rattle.std.proofs.Common.{◌≡◌, ◌⊎◌, inl, inr, ℕ, ◌≤◌, ◌<◌, Bool, true, false, List, [], ◌∷◌, ◌++◌, length, Option, Some, None, refl, sym, ap, subst, ◌∙◌, arith, IsPermutation, slice_index_or}
+use Rattle.std.proofs.Common.{◌≡◌, ◌⊎◌, inl, inr, ℕ, ◌≤◌, ◌<◌, true, List, [], ◌∷◌, ◌++◌, length, Option, Some, None, sym, ap, subst, ◌∙◌, arith, IsPermutation, slice_index_or}
 use Rattle.std.proofs.lemmas.List.Sorted.{length_permutation}
-use Rattle.std.specs.List.{AllByRecursion}
 use Rattle.std.specs.BinaryHeap.{IsHeap, IsUpperBound, KeepsHeap}
 use Rattle.slate_types.specs.declared.error.SlateDBError.{SlateDBError}
 use Rattle.slate_types.specs.declared.types.RowEntry.{RowEntry}
 use Rattle.slate_types.specs.declared.iter.IterationOrder.{IterationOrder}
 use Rattle.slate_types.specs.Iteration.{comes_before, drop_before}
 use Rattle.slate_types.specs.Outside.{Act, Meaning, Reach, IsFault, IsLater}
-use Rattle.slate_types.specs.Refusing.{Refusals, NoMore, IsReady}
+use Rattle.slate_types.specs.Refusing.{NoMore, IsReady}
 use Rattle.slate_types.specs.Steps.{Step}
 use Rattle.slate_types.specs.World.{World, Checks, IsCall, Made, Sees}
 use Rattle.slate_types.proofs.Calls.{call_none, call_both, sees_first, sees_last, checks_none, checks_both, no_more_both}
@@ -16,7 +15,7 @@ use Rattle.slate_types.proofs.Moves.{Moves}
 use Rattle.slate_types.proofs.Reaching.{fault_earlier}
 use Rattle.slate_read.specs.declared.head.Head.{Head}
 use Rattle.slate_read.specs.Heads.{head_cmp}
-use Rattle.slate_read.specs.Merging.{AnyByRecursion, Sources, left_rows, left_in, IsMerging, IsMergingIn, IsSoundHead, blames, either_refusal, begun_sources, merging_bound, AreReady, IsFront}
+use Rattle.slate_read.specs.Merging.{AnyByRecursion, Sources, left_in, IsMergingIn, IsSoundHead, blames, either_refusal, begun_sources, merging_bound, AreReady, IsFront}
 use Rattle.slate_read.specs.MergeSteps.{Gives, Falls, Goes, Joins, takes_front}
 use Rattle.slate_read.proofs.HeadLaws.{each_shuffled}
 use Rattle.slate_read.proofs.StepLaws.{joins_weaker, steps_still, steps_rows, steps_smaller}

@@ -20,3 +20,4 @@ pub mod Goings
 pub mod MergeLoops
 pub mod MergeStateSteps
 pub mod Requires
+pub mod Peeks

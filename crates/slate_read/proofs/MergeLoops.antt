@@ -1,28 +1,27 @@
 -- Loops over the steps of a merge.
-use Rattle.std.proofs.Common.{◌≡◌, ◌⊎◌, inl, inr, ℕ, ◌+◌, ◌-◌, ◌^◌, ◌≤◌, ◌&&◌, min, Bool, true, false, List, [], ◌∷◌, ◌++◌, length, Option, Some, None, refl, sym, ap, subst, ◌∙◌, arith, IsPermutation}
+use Rattle.std.proofs.Common.{◌≡◌, ℕ, ◌+◌, ◌-◌, ◌^◌, ◌≤◌, ◌&&◌, min, Bool, true, false, List, [], ◌∷◌, ◌++◌, Option, Some, None, refl, sym, ap, subst, ◌∙◌, arith, IsPermutation}
 use Rattle.std.specs.Prelude.{bytes_eq}
 use Rattle.std.specs.List.{AllByRecursion}
 use Rattle.std.specs.BinaryHeap.{IsHeap}
 use Rattle.slate_types.specs.declared.error.SlateDBError.{SlateDBError}
 use Rattle.slate_types.specs.declared.types.RowEntry.{RowEntry}
 use Rattle.slate_types.specs.declared.iter.IterationOrder.{IterationOrder}
-use Rattle.slate_types.specs.Iteration.{TakesRow}
 use Rattle.slate_types.specs.Outside.{Act, Meaning, Reach}
 use Rattle.slate_types.specs.Refusing.{NoMore, IsReady}
 use Rattle.slate_types.specs.Rows.{is_base}
 use Rattle.slate_types.specs.Steps.{Step}
-use Rattle.slate_types.specs.World.{World, Made, Sees}
+use Rattle.slate_types.specs.World.{World, Sees}
 use Rattle.slate_types.proofs.Calls.{call_both, sees_first, sees_last, checks_both, no_more_both}
 use Rattle.slate_types.proofs.Lists.{AllByRecursion-push}
 use Rattle.slate_types.proofs.Moves.{Moves, moves_both}
 use Rattle.slate_read.specs.declared.head.Head.{Head}
 use Rattle.slate_read.specs.Heads.{head_cmp}
 use Rattle.slate_read.specs.Merge.{begins_with, counted, past_key, row_bytes, shown_rows, with_key}
-use Rattle.slate_read.specs.Merging.{ArePlaced, Sources, left_rows, left_in, IsMerging, IsMergingIn, IsSoundHead, IsTop, has_key, blames, begun_sources, merging_bound, AreReady, IsFront}
-use Rattle.slate_read.specs.MergeSteps.{CountsKey, CountsTaken, Renewed, Renews, takes_front, TakesMerged}
+use Rattle.slate_read.specs.Merging.{ArePlaced, left_rows, left_in, IsMergingIn, IsSoundHead, IsTop, has_key, blames, begun_sources, AreReady, IsFront}
+use Rattle.slate_read.specs.MergeSteps.{CountsKey, CountsTaken, Renewed, Renews, TakesMerged}
 use Rattle.slate_read.proofs.HeadLaws.{each_shuffled}
-use Rattle.slate_read.proofs.SeekLaws.{past_none, past_one, with_none, counted_one}
-use Rattle.slate_read.proofs.DecidedLaws.{takes_alone, shown_alone, takes_older, shown_older}
+use Rattle.slate_read.proofs.SeekLaws.{past_none, past_one, counted_one}
+use Rattle.slate_read.proofs.DecidedLaws.{shown_alone, takes_older, shown_older}
 use Rattle.slate_read.proofs.RenewLaws.{moved_out, moved_in, renewed_begun, renewed_placed, renewed_rows}
 use Rattle.slate_read.proofs.Blames.{blamed_put}
 

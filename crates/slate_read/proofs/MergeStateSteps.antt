@@ -1,5 +1,5 @@
 -- What the steps of its sources do to a merge iterator.
-use Rattle.std.proofs.Common.{◌≡◌, ◌≢◌, ◌⊎◌, inl, inr, ℕ, ◌≤◌, Bool, false, List, [], ◌∷◌, ◌++◌, Option, Some, None, refl, sym, ap, subst, ◌∙◌, arith}
+use Rattle.std.proofs.Common.{◌≡◌, ◌≢◌, ◌⊎◌, inl, inr, ℕ, ◌≤◌, Bool, false, List, [], ◌∷◌, ◌++◌, Option, None, refl, sym, ap, subst, ◌∙◌, arith}
 use Rattle.std.specs.Prelude.{IsSome}
 use Rattle.std.specs.List.{AllByRecursion}
 use Rattle.std.specs.BinaryHeap.{heap_items, IsHeap}
@@ -23,7 +23,7 @@ use Rattle.slate_read.specs.Heads.{head_cmp}
 use Rattle.slate_read.specs.Kept.{Copies, IsKept}
 use Rattle.slate_read.specs.Merge.{shown_rows}
 use Rattle.slate_read.specs.MergeLaws.{fresh_merge}
-use Rattle.slate_read.specs.Merging.{AnyByRecursion, AreReady, Sources, IsMergingIn, begun_sources, blames, either_refusal, left_in, waiting_sources}
+use Rattle.slate_read.specs.Merging.{AnyByRecursion, AreReady, IsMergingIn, begun_sources, blames, either_refusal, left_in, waiting_sources}
 use Rattle.slate_read.specs.MergeSteps.{takes_front}
 use Rattle.slate_read.specs.MergeStates.{CopiedIn, HasBegun, IsFrontIn, IsSoundIn, IsWaiting, Keeps, Stays, bound_in, heads_in, waiting_in, refuses_in, rest_in}
 use Rattle.slate_read.specs.MergeStateLaws.{refuses_whole}

@@ -1,7 +1,7 @@
 -- What an iterator that refuses operands owes by what its source owes.
-use Rattle.std.proofs.Common.{◌≡◌, ◌⊎◌, inl, inr, ℕ, List, ◌++◌, Option}
+use Rattle.std.proofs.Common.{◌≡◌, ◌⊎◌, inl, inr, List, ◌++◌}
 use Rattle.slate_types.specs.declared.error.SlateDBError.{SlateDBError}
-use Rattle.slate_types.specs.declared.error.SlateDBError.TheVariants.{MergeOperatorMissing, IteratorNotInitialized}
+use Rattle.slate_types.specs.declared.error.SlateDBError.TheVariants.{MergeOperatorMissing}
 use Rattle.slate_types.specs.Outside.{Act}
 use Rattle.slate_types.specs.Refusing.{Refusals, IsReady, NoMore, NoMoreBut}
 

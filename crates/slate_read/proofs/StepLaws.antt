@@ -1,5 +1,5 @@
 -- What one step does to a merge under way.
-use Rattle.std.proofs.Common.{◌≡◌, ℕ, ◌+◌, ◌≤◌, ◌<◌, List, [], ◌∷◌, length, refl, sym, ap, ◌∙◌, subst, inl, inr, ◌⊎◌, arith, sum_by, Option, Some, None, IsPermutation}
+use Rattle.std.proofs.Common.{◌≡◌, ℕ, ◌+◌, ◌≤◌, ◌<◌, List, [], ◌∷◌, length, refl, sym, ap, ◌∙◌, subst, inl, inr, arith, sum_by, Option, Some, None, IsPermutation}
 use Rattle.std.specs.List.{AllByRecursion}
 use Rattle.std.specs.BinaryHeap.{IsHeap, IsUpperBound, KeepsHeap}
 use Rattle.std.proofs.lemmas.List.Sorted.{sum_by-IsPermutation}

@@ -3,11 +3,8 @@
 --     Copies k e      e is the refusal k once more, or want of memory in its place
 --     fault_undamaged, kept_undamaged      what they are no damage for
 use Rattle.std.specs.Prelude.{◌≡◌, ◌⊎◌, ◌≢◌}
-use Rattle.std.proofs.Common.{inl, inr, refl, subst}
 use Rattle.slate_types.specs.declared.error.SlateDBError.{SlateDBError}
-use Rattle.slate_types.specs.declared.error.SlateDBError.TheVariants.{OutOfMemory, StoreFault, Callback, BlockTransformError}
-use Rattle.slate_types.specs.Outside.{Reach, Counts, IsCounted, IsFault}
-use Rattle.slate_types.specs.Refusing.{IsDamage}
+use Rattle.slate_types.specs.declared.error.SlateDBError.TheVariants.{OutOfMemory}
 
 abbrev pub IsKept : SlateDBError → SlateDBError → Type 0
 IsKept k e = (k ≢ OutOfMemory) × (e ≡ k)

@@ -17,3 +17,4 @@ pub mod MergeStates
 pub mod MergeStateLaws
 pub mod MergedLaws
 pub mod Required
+pub mod Peeking

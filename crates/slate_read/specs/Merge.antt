@@ -5,7 +5,7 @@
 --     merged order dedup lists      all rows of the lists in turn, of rows that stand alike that of the earlier list first; with
 --                                   dedup only the decided ones
 --     row_bytes r, rows_bytes rows      the bytes of a row's key and value, and of all rows
-use Rattle.std.specs.Prelude.{ℕ, ◌≡◌, ◌+◌, ◌-◌, ◌^◌, min, ◌&&◌, Bool, false, if◌then◌else◌, List, [], ◌∷◌, length, Option, Some, None, bytes_eq, flat_map}
+use Rattle.std.specs.Prelude.{ℕ, ◌+◌, ◌-◌, ◌^◌, min, ◌&&◌, Bool, false, if◌then◌else◌, List, [], ◌∷◌, length, Option, Some, None, bytes_eq, flat_map}
 use Rattle.slate_types.specs.declared.types.RowEntry.{RowEntry}
 use Rattle.slate_types.specs.declared.iter.IterationOrder.{IterationOrder}
 use Rattle.slate_types.specs.Rows.{is_operand, is_base, operand}

@@ -2,10 +2,10 @@
 --     rest_rises, refuses_more, refuses_whole      its rest comes in the order; other reads before take no refusal away; and where each
 --                                            read is answered by the world, nothing is damaged
 --     merges      a new merge is sound where its sources are, and brings their rows merged
-use Rattle.std.specs.Prelude.{◌≡◌, ℕ, Bool, List, [], ◌∷◌, ◌++◌, map, Option, None, refl}
-use Rattle.std.proofs.Common.{◌⊎◌, inl, inr, sym, ap, ◌∙◌, subst}
+use Rattle.std.specs.Prelude.{◌≡◌, ℕ, Bool, List, [], ◌∷◌, ◌++◌, map, Option, None}
+use Rattle.std.proofs.Common.{inl, inr, sym, ap, ◌∙◌, subst}
 use Rattle.std.specs.List.{AllByRecursion}
-use Rattle.std.specs.BinaryHeap.{heap_items, IsHeap}
+use Rattle.std.specs.BinaryHeap.{heap_items}
 use Rattle.slate_types.specs.declared.error.SlateDBError.{SlateDBError}
 use Rattle.slate_types.specs.declared.iter.IterationOrder.{IterationOrder}
 use Rattle.slate_types.specs.declared.types.RowEntry.{RowEntry}
@@ -17,10 +17,9 @@ use Rattle.slate_read.specs.declared.head.Head.{Head}
 use Rattle.slate_read.specs.declared.merge_iterator.MergeIterator.{MergeIterator}
 use Rattle.slate_read.specs.declared.merge_iterator.MergeState.{MergeState}
 use Rattle.slate_read.specs.declared.merge_iterator.MergeState.TheVariants.{New, Begun, Refused}
-use Rattle.slate_read.specs.Heads.{head_cmp}
 use Rattle.slate_read.specs.Merge.{merged, shown_rows}
 use Rattle.slate_read.specs.MergeLaws.{fresh_rows}
-use Rattle.slate_read.specs.Merging.{AnyByRecursion, CanMerge, IsMergingIn, IsSoundHead, Sources, begun_sources, blames, either_refusal, left_rows, waiting_sources}
+use Rattle.slate_read.specs.Merging.{AnyByRecursion, CanMerge, IsSoundHead, Sources, begun_sources, blames, either_refusal, left_rows, waiting_sources}
 use Rattle.slate_read.specs.MergeStates.{IsMergeOf, IsSoundIn, WaitingAre, refuses_in, rest_in}
 use Rattle.slate_read.specs.Rising.{shown_left}
 

@@ -8,7 +8,7 @@
 --     Stays before at e after      how it stands after it refused
 --     IsSameMerge before after      a merge by the same order and dedup
 --     IsMergeOf sources order dedup it      a merge of these sources, none of which has begun
-use Rattle.std.specs.Prelude.{◌≡◌, ◌⊎◌, ℕ, Bool, List, [], map, Option, Some, None, IsSome}
+use Rattle.std.specs.Prelude.{◌≡◌, ◌⊎◌, ℕ, Bool, List, [], Option, IsSome}
 use Rattle.std.specs.List.{AllByRecursion}
 use Rattle.std.specs.BinaryHeap.{heap_items}
 use Rattle.slate_types.specs.declared.error.SlateDBError.{SlateDBError}
@@ -23,7 +23,7 @@ use Rattle.slate_read.specs.declared.merge_iterator.MergeIterator.{MergeIterator
 use Rattle.slate_read.specs.declared.merge_iterator.MergeState.{MergeState}
 use Rattle.slate_read.specs.declared.merge_iterator.MergeState.TheVariants.{New, Begun, Refused}
 use Rattle.slate_read.specs.Kept.{Copies, IsKept}
-use Rattle.slate_read.specs.Merge.{shown_rows, merged}
+use Rattle.slate_read.specs.Merge.{shown_rows}
 use Rattle.slate_read.specs.Merging.{CanMerge, IsFront, IsMergingIn, begun_sources, blames, left_in, merging_bound, waiting_sources}
 
 module _ {S : Type 0} where

@@ -46,7 +46,7 @@ pub fn put_back<E: Outside, I: RowEntryIterator<E>>(
             Ok(heads.push(head)?)
         }
         Ok(None) => Ok(()),
-        Err(error) => Err(error),
+        Err(refusal) => Err(refusal),
     }
 }
 

@@ -8,6 +8,7 @@ pub mod heads;
 pub mod kept;
 pub mod laws;
 pub mod merge_iterator;
+pub mod peeking_iterator;
 pub mod range_rows;
 pub mod required_iterator;
 pub mod table_iterator;

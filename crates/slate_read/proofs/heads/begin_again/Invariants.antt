@@ -1,4 +1,4 @@
-use Rattle.std.proofs.Common.{◌≡◌, ◌≤◌, ◌++◌, [], length}
+use Rattle.std.proofs.Common.{◌≤◌, ◌++◌, [], length}
 use Rattle.std.specs.BinaryHeap.{heap_items, IsHeap}
 use Rattle.slate_types.specs.declared.iter.IterationOrder.{IterationOrder}
 use Rattle.slate_types.specs.Outside.{OnlyReads}

@@ -1,9 +1,9 @@
-use Rattle.std.proofs.Common.{◌≡◌, ◌∙◌, sym, ap, subst, arith, None, [], ◌∷◌, List, length}
+use Rattle.std.proofs.Common.{◌≡◌, ◌∙◌, sym, ap, subst, arith, None, ◌∷◌, List, length}
 use Rattle.std.specs.BinaryHeap.{heap_items}
 use Rattle.slate_types.specs.Outside.{Meaning}
 use Rattle.slate_types.proofs.Moves.{Moves, moves_none, moves_both}
 use Rattle.slate_types.proofs.Reaching.{reads_none, reads_then}
-use Rattle.slate_read.specs.Merging.{Sources, left_in, IsMergingIn, blames, waiting_sources, merging_bound, AreReady}
+use Rattle.slate_read.specs.Merging.{left_in, IsMergingIn, blames, waiting_sources, merging_bound, AreReady}
 use Rattle.slate_read.proofs.Goings.{then_fails, source_fails}
 use Rattle.slate_read.proofs.heads.begin_all.Goals as goal
 

@@ -1,4 +1,4 @@
-use Rattle.std.proofs.Common.{◌≡◌, None}
+use Rattle.std.proofs.Common.{None}
 use Rattle.std.specs.BinaryHeap.{heap_items}
 use Rattle.slate_read.proofs.Goings.{then_fails, begin_moves, begin_ready, begin_bound}
 use Rattle.slate_read.proofs.heads.begin_source.Goals as goal

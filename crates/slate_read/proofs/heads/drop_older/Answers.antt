@@ -1,4 +1,4 @@
-use Rattle.std.proofs.Common.{◌≡◌, ◌∙◌, refl, sym, arith, true, false, None, Some, []}
+use Rattle.std.proofs.Common.{◌≡◌, ◌∙◌, refl, sym, arith, true, false, None}
 use Rattle.std.specs.BinaryHeap.{heap_items}
 use Rattle.slate_types.specs.declared.iter.IterationOrder.{IterationOrder}
 use Rattle.slate_types.specs.declared.iter.IterationOrder.TheVariants.{Ascending}

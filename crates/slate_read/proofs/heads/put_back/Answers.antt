@@ -1,4 +1,4 @@
-use Rattle.std.proofs.Common.{◌≡◌, ◌∙◌, inl, inr, sym, refl}
+use Rattle.std.proofs.Common.{inl, inr, refl}
 use Rattle.slate_read.proofs.heads.put_back.Goals as goal
 
 pub returns-in_ok-push-in-Ok-Some-clause-joins : goal.returns-in_ok-push-in-Ok-Some-clause-joins

@@ -1,4 +1,4 @@
-use Rattle.std.proofs.Common.{◌≡◌, ◌≤◌, [], List}
+use Rattle.std.proofs.Common.{◌≤◌, []}
 use Rattle.std.specs.BinaryHeap.{heap_items}
 use Rattle.slate_types.specs.declared.iter.IterationOrder.{IterationOrder}
 use Rattle.slate_types.specs.Iteration.{drop_before}

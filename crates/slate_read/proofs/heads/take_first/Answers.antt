@@ -1,6 +1,6 @@
-use Rattle.std.proofs.Common.{◌≡◌, ◌∙◌, [], sym, arith, None}
+use Rattle.std.proofs.Common.{◌∙◌, sym, arith}
 use Rattle.std.specs.BinaryHeap.{heap_items}
-use Rattle.slate_read.proofs.Goings.{none_step, first_step, first_smaller, made_weaker, head_fails}
+use Rattle.slate_read.proofs.Goings.{none_step, first_step, first_smaller}
 use Rattle.slate_read.proofs.heads.take_first.Goals as goal
 
 pub returns-in_default-clause-step : goal.returns-in_default-clause-step

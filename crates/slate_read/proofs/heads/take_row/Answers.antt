@@ -1,4 +1,4 @@
-use Rattle.std.proofs.Common.{◌≡◌, ◌∙◌, sym, None, []}
+use Rattle.std.proofs.Common.{◌∙◌, sym, None}
 use Rattle.std.specs.BinaryHeap.{heap_items}
 use Rattle.slate_types.specs.declared.iter.IterationOrder.TheVariants.{Ascending}
 use Rattle.slate_read.specs.Merging.{left_in, IsMergingIn, blames, begun_sources}

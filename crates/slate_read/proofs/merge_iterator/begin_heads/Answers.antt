@@ -1,4 +1,4 @@
-use Rattle.std.proofs.Common.{◌≡◌, ◌≤◌, ◌⊎◌, None, sym, subst, List, []}
+use Rattle.std.proofs.Common.{◌≤◌, ◌⊎◌, None, sym, subst, []}
 use Rattle.std.specs.BinaryHeap.{heap_items}
 use Rattle.std.proofs.lemmas.Result.{IfOk-weaker, IfErr-weaker}
 use Rattle.slate_types.specs.Outside.{IsFault}
@@ -6,7 +6,7 @@ use Rattle.slate_types.specs.World.{Made}
 use Rattle.slate_types.proofs.Moves.{Moves}
 use Rattle.slate_types.proofs.Reaching.{reads_none}
 use Rattle.slate_read.specs.declared.merge_iterator.MergeState.{MergeState}
-use Rattle.slate_read.specs.declared.merge_iterator.MergeState.TheVariants.{New, Begun, Refused}
+use Rattle.slate_read.specs.declared.merge_iterator.MergeState.TheVariants.{New, Begun}
 use Rattle.slate_read.specs.Merging.{merging_bound}
 use Rattle.slate_read.specs.MergeStates.{IsSoundIn, bound_in, refuses_in, rest_in}
 use Rattle.slate_read.proofs.MergeStateSteps.{state_begins, state_again, begun_fails, waiting_fails, again_fails}

@@ -1,11 +1,11 @@
-use Rattle.std.proofs.Common.{◌≡◌, ◌≤◌, ◌<◌, ◌∙◌, [], refl, sym, subst, arith, None, Some}
+use Rattle.std.proofs.Common.{◌≤◌, ◌<◌, [], refl, sym, subst, arith, None}
 use Rattle.std.specs.BinaryHeap.{heap_items}
 use Rattle.slate_types.proofs.Reaching.{reads_none}
 use Rattle.slate_read.specs.declared.merge_iterator.MergeState.{MergeState}
-use Rattle.slate_read.specs.declared.merge_iterator.MergeState.TheVariants.{New, Begun, Refused}
+use Rattle.slate_read.specs.declared.merge_iterator.MergeState.TheVariants.{Begun, Refused}
 use Rattle.slate_read.specs.Merging.{merging_bound}
 use Rattle.slate_read.specs.MergeStates.{bound_in}
-use Rattle.slate_read.proofs.MergeStateSteps.{again_stays, begun_fails, copied_bound, fails_still, not_waiting, refused_stays, state_ready, state_seek, state_step, unbegun_stays}
+use Rattle.slate_read.proofs.MergeStateSteps.{again_stays, begun_fails, copied_bound, fails_still, not_waiting, refused_stays, state_step, unbegun_stays}
 use Rattle.slate_read.proofs.merge_iterator.MergeIteratorRowEntryIterator.next.Goals as goal
 
 pub returns-in-New : goal.returns-in-New

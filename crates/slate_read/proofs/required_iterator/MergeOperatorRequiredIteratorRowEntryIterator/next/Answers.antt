@@ -1,7 +1,7 @@
-use Rattle.std.proofs.Common.{◌≡◌, ◌∙◌, [], inl, inr, refl, sym, arith}
+use Rattle.std.proofs.Common.{◌∙◌, [], inl, inr, refl, sym, arith}
 use Rattle.slate_types.proofs.Calls.{call_none}
 use Rattle.slate_types.proofs.Reaching.{reads_none}
-use Rattle.slate_read.proofs.Requires.{or_no_more, or_but, or_ready, or_why}
+use Rattle.slate_read.proofs.Requires.{or_no_more, or_but, or_why}
 use Rattle.slate_read.proofs.required_iterator.MergeOperatorRequiredIteratorRowEntryIterator.next.Goals as goal
 
 pub returns-then-self : goal.returns-then-self
