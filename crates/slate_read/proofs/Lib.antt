@@ -13,3 +13,16 @@ pub mod Grouping
 pub mod Newests
 pub mod Jumps
 pub mod SstRows
+pub mod Shuffles
+pub mod HeadLaws
+pub mod StepLaws
+pub mod SeekLaws
+pub mod BeginLaws
+pub mod RenewLaws
+pub mod DecidedLaws
+pub mod Blames
+pub mod Goings
+pub mod MergeLoops
+pub mod MergeStateSteps
+pub mod Requires
+pub mod Peeks

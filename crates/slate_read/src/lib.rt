@@ -1,6 +1,7 @@
 //! Iterators over stored tables, and over others.
 #![tactic(auto)]
 
+pub mod empty_iterator;
 pub mod filter_iterator;
 pub mod groups;
 pub mod internal_sst_iterator;
@@ -10,6 +11,13 @@ pub mod range_rows;
 pub mod readable_laws;
 pub mod sst_iterator;
 pub mod sst_iterator_options;
+pub mod head;
+pub mod heads;
+pub mod kept;
+pub mod laws;
+pub mod merge_iterator;
+pub mod peeking_iterator;
+pub mod required_iterator;
 pub mod table_iterator;
 pub mod table_state;
 pub mod table_walk;

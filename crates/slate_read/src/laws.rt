@@ -1,0 +1,44 @@
+// The laws of the definitions. Each is proved of all values, and no call does anything.
+ghost use Rattle.std.specs.Prelude.{◌≡◌, List, map};
+ghost use Rattle.std.specs.List.{AllByRecursion};
+ghost use Rattle.slate_types.specs.World.{World};
+ghost use Rattle.slate_read.specs.Merge.{merged};
+ghost use Rattle.slate_read.specs.MergedLaws.{CountIsTheSum, DedupDecides, MergeHasAll, MergeIsByPlace, MergeIsInOrder, MergeIsInTurn, MergeKeepsTests, MergeOfNone, MergeOfOne};
+ghost use Rattle.slate_read.specs.MergeStates.{IsMergeOf, IsSoundMerge, rest_of_merge};
+ghost use Rattle.slate_read.specs.Merging.{CanMerge};
+
+use crate::merge_iterator::MergeIterator;
+use slate_types::{IterationOrder, Outside, RowEntryIterator};
+
+/// Of merges. Without dedup one has exactly the rows of its lists, by key and falling sequence, and rows that stand alike by their
+/// lists' places; a test keeps of it what the merge of the rows that it keeps has; one list in turn is its own merge, and an
+/// empty list changes nothing.
+pub fn merges()
+    ensures has_all { MergeHasAll }
+    ensures in_turn { MergeIsInTurn }
+    ensures by_place { MergeIsByPlace }
+    ensures keeps_tests { MergeKeepsTests }
+    ensures of_one { MergeOfOne }
+    ensures of_none { MergeOfNone }
+{}
+
+/// Of dedup. What it leaves comes by key, and of the rows of a key it leaves those up to the first one that is no operand; and
+/// bytes are counted up to the greatest number.
+pub fn duplicates()
+    ensures in_order { MergeIsInOrder }
+    ensures decides { DedupDecides }
+    ensures count { CountIsTheSum }
+{}
+
+/// Of a new merge. In each world in which each source is sound, of the order and in turn, the merge is sound, and its rest is
+/// their rows merged.
+pub fn new_merges<E: Outside, I: RowEntryIterator<E>>(
+    sources: &Vec<I>,
+    order: IterationOrder,
+    dedup: bool,
+    it: &MergeIterator<I>,
+)
+    requires { IsMergeOf sources.now.items order dedup it.now }
+    ensures sound { (w : World) → AllByRecursion (CanMerge (λ s. I.rest s w) (λ s. I.sound s w × (I.order s ≡ order)) order) sources.now.items → IsSoundMerge I.rest I.sound I.order it.now w }
+    ensures rest { (w : World) → AllByRecursion (CanMerge (λ s. I.rest s w) (λ s. I.sound s w × (I.order s ≡ order)) order) sources.now.items → rest_of_merge I.rest it.now w ≡ merged order dedup (map (λ s. I.rest s w) sources.now.items) }
+{}
