@@ -7,6 +7,7 @@ mod AllRows
 mod Kept
 pub mod Keeps
 mod Quiet
+mod RunsOf
 mod Logs
 mod LogViews
 mod MemoryLayers
@@ -17,6 +18,8 @@ mod Puts
 mod Versions
 mod MemoryRows
 mod FlushRows
+mod Cuts
+mod Runs
 mod Built
 mod Flushes
 mod Installs
@@ -28,7 +31,9 @@ mod Rises
 mod Gets
 mod Answered
 mod Puttings
+mod RunSoFar
 mod Tables
+mod RunReads
 mod Blocks
 mod Damaged
 mod Causes

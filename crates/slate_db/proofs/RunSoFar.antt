@@ -1,0 +1,91 @@
+-- The tables of a flush, of which some first ones are stored.
+--     IsSoFar before now layout number parts left ts handles      these tables were put of the first lists of rows, and the others are left
+use Rattle.std.proofs.Common.{◌≡◌, ℕ, ◌+◌, ◌*◌, ◌<◌, ◌^◌, ◌⊎◌, inl, inr, List, [], ◌∷◌, ◌++◌, length, Option, Some, None, refl, sym, ap, subst, ◌∙◌, arith, append-nil, append_assoc}
+use Rattle.std.specs.List.{AllByRecursion}
+use Rattle.slate_types.specs.declared.error.SlateDBError.{SlateDBError}
+use Rattle.slate_types.specs.declared.types.Ulid.{Ulid}
+use Rattle.slate_types.specs.Outside.{Objects, Puts, Reach}
+use Rattle.slate_table.specs.declared.info.SsTableHandle.{SsTableHandle}
+use Rattle.slate_table.specs.Parts.{Encode}
+use Rattle.slate_table.specs.Paths.{table_id}
+use Rattle.slate_db.specs.Answered.{AddsPuts}
+use Rattle.slate_db.specs.Flushed.{AreTablesAt, IsTableAt, IsTooLarge, Layout, MayTakeTables, TakesTables}
+use Rattle.slate_db.specs.Installs.{AreHandles}
+use Rattle.slate_db.specs.Model.{Rows}
+use Rattle.slate_db.specs.StoredParts.{AreFirstParts, ArePartsPut, CanBuild, IsOneTable, IsPartTooLarge, IsPlace, IsTablePut}
+use Rattle.slate_db.proofs.Lists.{all_behind}
+use Rattle.slate_db.proofs.Puttings.{adds_more, may_more, takes_more}
+use Rattle.slate_db.proofs.Runs.{handles_more, made_more}
+
+pub record IsSoFar (before now : Reach) (layout : Layout) (number : ℕ) (parts left : List Rows) (ts : List (Ulid × List ℕ)) (handles : List SsTableHandle) : Type 0 where
+  pub done : List Rows
+  pub split : done ++ left ≡ parts
+  pub made : AreTablesAt before.meaning.encode layout number 0 done ts
+  pub kept : AreHandles ts handles
+  pub taken : TakesTables ts before.objects now.objects
+  pub acts : AddsPuts ts before.acts now.acts
+
+-- before the first
+pub none_so_far : (before : Reach) (layout : Layout) (number : ℕ) (parts left : List Rows) (ts : List (Ulid × List ℕ)) (handles : List SsTableHandle) → left ≡ parts → ts ≡ [] → handles ≡ [] → IsSoFar before before layout number parts left ts handles
+none_so_far before layout number parts left ts handles all none empty =
+    subst (λ (xs : List (Ulid × List ℕ)). IsSoFar before before layout number parts left xs handles) (sym none)
+    (subst (λ (xs : List SsTableHandle). IsSoFar before before layout number parts left [] xs) (sym empty)
+    (record { done = []; split = all; made = tt; kept = tt; taken = same before.objects; acts = refl }))
+  where
+    same : (o : Option Objects) → TakesTables [] o o
+    same None = tt
+    same (Some os) = refl
+
+-- the next is one that can be built
+pub next_builds : (before now : Reach) (layout : Layout) (number : ℕ) (parts left rest : List Rows) (rows : Rows) (ts : List (Ulid × List ℕ)) (handles : List SsTableHandle) → IsSoFar before now layout number parts left ts handles → left ≡ rows ∷ rest →
+    AllByRecursion CanBuild parts → CanBuild rows
+next_builds before now layout number parts left rest rows ts handles far next each =
+    (all_behind CanBuild far.done (rows ∷ rest) (subst (AllByRecursion CanBuild) (sym (ap (λ xs. far.done ++ xs) (sym next) ∙ far.split)) each)).0
+
+pub one_so_far : (before now after : Reach) (layout : Layout) (number : ℕ) (parts left rest : List Rows) (rows : Rows) (ts us : List (Ulid × List ℕ)) (handles more : List SsTableHandle) (t : Ulid × List ℕ) (h : SsTableHandle) →
+    IsSoFar before now layout number parts left ts handles → left ≡ rows ∷ rest → now.meaning.encode ≡ before.meaning.encode → IsTablePut now.meaning.encode layout number (length ts) rows t h now.objects after.objects →
+    AddsPuts (t ∷ []) now.acts after.acts → us ≡ ts ++ (t ∷ []) → more ≡ handles ++ (h ∷ []) → IsSoFar before after layout number parts rest us more
+one_so_far before now after layout number parts left rest rows ts us handles more t h far next same put acts tables kept =
+    subst (λ (xs : List (Ulid × List ℕ)). IsSoFar before after layout number parts rest xs more) (sym tables)
+    (subst (λ (xs : List SsTableHandle). IsSoFar before after layout number parts rest (ts ++ (t ∷ [])) xs) (sym kept)
+    (record {
+      done = far.done ++ (rows ∷ []);
+      split = append_assoc far.done (rows ∷ []) rest ∙ ap (λ xs. far.done ++ xs) (sym next) ∙ far.split;
+      made = made_more before.meaning.encode layout number 0 far.done ts rows t far.made (subst (λ (e : Encode). IsTableAt e layout number (0 + length ts) rows t) same (subst (λ (n : ℕ). IsTableAt now.meaning.encode layout number n rows t) (let z : length ts ≡ 0 + length ts = omega arith in z) put.made));
+      kept = handles_more ts (t ∷ []) handles (h ∷ []) far.kept (put.kept, tt);
+      taken = takes_more ts (t ∷ []) before.objects now.objects after.objects far.taken put.taken;
+      acts = adds_more ts t before.acts now.acts after.acts far.acts acts;
+    }))
+
+pub all_stored : (before now : Reach) (layout : Layout) (number : ℕ) (parts left : List Rows) (ts : List (Ulid × List ℕ)) (handles : List SsTableHandle) → IsSoFar before now layout number parts left ts handles → left ≡ [] →
+    ArePartsPut before.meaning.encode layout number parts ts handles before.objects now.objects
+all_stored before now layout number parts left ts handles far none = record {
+  made = subst (λ (xs : List Rows). AreTablesAt before.meaning.encode layout number 0 xs ts) (sym (append-nil far.done) ∙ ap (λ xs. far.done ++ xs) (sym none) ∙ far.split) far.made;
+  kept = far.kept;
+  taken = far.taken;
+}
+
+-- ---- refused
+
+pub some_taken : (before now after : Reach) (layout : Layout) (number : ℕ) (parts left rest : List Rows) (rows : Rows) (ts : List (Ulid × List ℕ)) (handles : List SsTableHandle) → IsSoFar before now layout number parts left ts handles → left ≡ rows ∷ rest →
+    now.meaning.encode ≡ before.meaning.encode → MayTakeTables (IsOneTable now.meaning.encode layout number (length ts) rows) now.objects after.objects → MayTakeTables (AreFirstParts before.meaning.encode layout number parts) before.objects after.objects
+some_taken before now after layout number parts left rest rows ts handles far next same may =
+    may_more (IsOneTable now.meaning.encode layout number (length ts) rows) (AreFirstParts before.meaning.encode layout number parts) ts before.objects now.objects after.objects far.taken
+    (record { done = far.done; left = left; split = far.split; made = far.made })
+    one_more may
+  where
+    one_more : (us : List (Ulid × List ℕ)) → IsOneTable now.meaning.encode layout number (length ts) rows us → AreFirstParts before.meaning.encode layout number parts (ts ++ us)
+    one_more us (t, is, made) = subst (λ (xs : List (Ulid × List ℕ)). AreFirstParts before.meaning.encode layout number parts (ts ++ xs)) (sym is) (record {
+      done = far.done ++ (rows ∷ []);
+      left = rest;
+      split = append_assoc far.done (rows ∷ []) rest ∙ ap (λ xs. far.done ++ xs) (sym next) ∙ far.split;
+      made = made_more before.meaning.encode layout number 0 far.done ts rows t far.made (subst (λ (e : Encode). IsTableAt e layout number (0 + length ts) rows t) same (subst (λ (n : ℕ). IsTableAt now.meaning.encode layout number n rows t) (let z : length ts ≡ 0 + length ts = omega arith in z) made));
+    })
+
+pub part_too_large : (before now : Reach) (layout : Layout) (number : ℕ) (parts left rest : List Rows) (rows : Rows) (ts : List (Ulid × List ℕ)) (handles : List SsTableHandle) (e : SlateDBError) → IsSoFar before now layout number parts left ts handles → left ≡ rows ∷ rest →
+    IsTooLarge layout rows e → IsPartTooLarge layout parts e
+part_too_large before now layout number parts left rest rows ts handles e far next large =
+    record { before = far.done; table = rows; behind = rest; split = ap (λ xs. far.done ++ xs) (sym next) ∙ far.split; large = large }
+
+pub place_of : (id : Ulid) (number place : ℕ) → id.0 ≡ number * 2 ^ 64 + place → place < 2 ^ 64 → IsPlace id number place
+place_of id number place is fits = record { is = is; fits = fits }
