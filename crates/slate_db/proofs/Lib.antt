@@ -7,7 +7,7 @@ mod AllRows
 mod Kept
 pub mod Keeps
 mod Quiet
-mod RunsOf
+pub mod RunsOf
 mod Logs
 mod LogViews
 mod MemoryLayers

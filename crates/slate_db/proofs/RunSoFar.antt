@@ -2,20 +2,26 @@
 --     IsSoFar before now layout number parts left ts handles      these tables were put of the first lists of rows, and the others are left
 use Rattle.std.proofs.Common.{◌≡◌, ℕ, ◌+◌, ◌*◌, ◌<◌, ◌^◌, ◌⊎◌, inl, inr, List, [], ◌∷◌, ◌++◌, length, Option, Some, None, refl, sym, ap, subst, ◌∙◌, arith, append-nil, append_assoc}
 use Rattle.std.specs.List.{AllByRecursion}
+use Rattle.std.specs.Prelude.{IfOk, OnErr, Result, Ok, Err}
 use Rattle.slate_types.specs.declared.error.SlateDBError.{SlateDBError}
 use Rattle.slate_types.specs.declared.types.Ulid.{Ulid}
 use Rattle.slate_types.specs.Outside.{Objects, Puts, Reach}
 use Rattle.slate_table.specs.declared.info.SsTableHandle.{SsTableHandle}
 use Rattle.slate_table.specs.Parts.{Encode}
-use Rattle.slate_table.specs.Paths.{table_id}
+use Rattle.slate_table.specs.Table.{AreInOrder}
+use Rattle.slate_read.specs.declared.sorted_run.SortedRun.{SortedRun}
 use Rattle.slate_db.specs.Answered.{AddsPuts}
-use Rattle.slate_db.specs.Flushed.{AreTablesAt, IsTableAt, IsTooLarge, Layout, MayTakeTables, TakesTables}
+use Rattle.slate_db.specs.Cut.{AreCut}
+use Rattle.slate_db.specs.Flushed.{AreSomeOfFlush, AreTablesAt, HasTooLarge, IsFolded, IsPut, IsTableAt, IsTooLarge, Layout, MayTakeTables, TakesTables}
 use Rattle.slate_db.specs.Installs.{AreHandles}
+use Rattle.slate_db.specs.Layers.{FitsMemory}
+use Rattle.slate_db.specs.Meaning.{Meaning}
 use Rattle.slate_db.specs.Model.{Rows}
 use Rattle.slate_db.specs.StoredParts.{AreFirstParts, ArePartsPut, CanBuild, IsOneTable, IsPartTooLarge, IsPlace, IsTablePut}
+use Rattle.slate_db.proofs.Cuts.{parts_all, parts_order}
 use Rattle.slate_db.proofs.Lists.{all_behind}
-use Rattle.slate_db.proofs.Puttings.{adds_more, may_more, takes_more}
-use Rattle.slate_db.proofs.Runs.{handles_more, made_more}
+use Rattle.slate_db.proofs.Puttings.{adds_more, may_as, may_more, takes_more}
+use Rattle.slate_db.proofs.Runs.{handles_more, kept_apart, made_more}
 
 pub record IsSoFar (before now : Reach) (layout : Layout) (number : ℕ) (parts left : List Rows) (ts : List (Ulid × List ℕ)) (handles : List SsTableHandle) : Type 0 where
   pub done : List Rows
@@ -89,3 +95,56 @@ part_too_large before now layout number parts left rest rows ts handles e far ne
 
 pub place_of : (id : Ulid) (number place : ℕ) → id.0 ≡ number * 2 ^ 64 + place → place < 2 ^ 64 → IsPlace id number place
 place_of id number place is fits = record { is = is; fits = fits }
+
+-- ---- the whole run
+
+pub parts_build : (tables : List Rows) → AllByRecursion (λ rows. 0 < length rows) tables → AllByRecursion AreInOrder tables → AllByRecursion (λ rows. AllByRecursion FitsMemory rows) tables → AllByRecursion CanBuild tables
+parts_build [] some order fit = tt
+parts_build (t ∷ ts) some order fit = (record { some = some.0; order = order.0; fit = fit.0 }, parts_build ts some.1 order.1 fit.1)
+
+pub can_build : (limit : ℕ) (rows : Rows) (parts : List Rows) → AreCut limit rows parts → AreInOrder rows → AllByRecursion FitsMemory rows → AllByRecursion CanBuild parts
+can_build limit rows parts cut order fit =
+    parts_build parts cut.some (parts_order parts (subst AreInOrder (sym cut.all) order)) (parts_all FitsMemory parts (subst (AllByRecursion FitsMemory) (sym cut.all) fit))
+
+pub run_is_put : (encode : Encode) (layout : Layout) (number barrier : ℕ) (layers : List Rows) (rows : Rows) (parts : List Rows) (ts : List (Ulid × List ℕ)) (run : SortedRun) (before after : Option Objects) → 0 < length rows →
+    ((m : Meaning) → IsFolded m barrier layers rows) → AreInOrder rows → AreCut layout.table_bytes rows parts → run.prefix ≡ [] → ArePartsPut encode layout number parts ts run.tables.items before after → IsPut encode layout number barrier layers ts run before after
+run_is_put encode layout number barrier layers rows parts ts run before after some folded order cut prefix put = record {
+  kept = record {
+    prefix = prefix;
+    handles = put.kept;
+    apart = kept_apart encode layout number 0 layout.table_bytes parts ts run.tables.items (subst AreInOrder (sym cut.all) order) cut.some cut.ended put.made put.kept;
+  };
+  made = record {
+    rows = rows;
+    some = some;
+    folded = folded;
+    order = order;
+    parts = parts;
+    cut = subst (AreCut layout.table_bytes rows) (sym (append-nil parts)) cut;
+    built = put.made;
+  };
+  taken = put.taken;
+}
+
+pub some_of_flush : (encode : Encode) (layout : Layout) (number barrier : ℕ) (layers : List Rows) (rows : Rows) (parts : List Rows) (before after : Option Objects) → 0 < length rows → ((m : Meaning) → IsFolded m barrier layers rows) → AreInOrder rows →
+    AreCut layout.table_bytes rows parts → MayTakeTables (AreFirstParts encode layout number parts) before after → MayTakeTables (AreSomeOfFlush encode layout number barrier layers) before after
+some_of_flush encode layout number barrier layers rows parts before after some folded order cut may =
+    may_as (AreFirstParts encode layout number parts) (AreSomeOfFlush encode layout number barrier layers) before after
+    (λ ts p. (p.left, record { rows = rows; some = some; folded = folded; order = order; parts = p.done; cut = subst (AreCut layout.table_bytes rows) (sym p.split) cut; built = p.made })) may
+
+pub has_too_large : (layout : Layout) (rows : Rows) (parts : List Rows) (e : SlateDBError) → AreCut layout.table_bytes rows parts → IsPartTooLarge layout parts e → HasTooLarge layout rows e
+has_too_large layout rows parts e cut p = record { before = p.before; table = p.table; behind = p.behind; cut = subst (AreCut layout.table_bytes rows) (sym p.split) cut; large = p.large }
+
+-- ---- of results
+
+pub both_ok : {X E : Type 0} (r : Result X E) (P Q R : X → Type 0) → ((x : X) → P x → Q x → R x) → IfOk r P → IfOk r Q → IfOk r R
+both_ok (Ok x) P Q R f p q = f x p q
+both_ok (Err e) P Q R f p q = tt
+
+pub refused_as : {X E P Q : Type 0} (r : Result X E) → (P → Q) → OnErr r P → OnErr r Q
+refused_as (Ok x) f p = tt
+refused_as (Err e) f p = f p
+
+pub or_part : {A P Q : Type 0} → (P → Q) → A ⊎ P → A ⊎ Q
+or_part f (inl a) = inl a
+or_part f (inr p) = inr (f p)

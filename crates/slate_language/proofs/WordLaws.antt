@@ -106,12 +106,12 @@ words-any_order before after v w = λ i. cond (known-swap before after v w i) (s
 
 -- ---- the settings of words whose values are known
 
-pub words-read : (ws : List (List ℕ)) {block : Option (Option ℕ)} {format : Option (Option BlockFormat)} {ttl seq mask : Option (Option ℕ)} → list_all is_known ws ≡ true →
-    block ≡ value_of (read_below (2 ^ 32)) (codes "block=") ws → format ≡ value_of read_format (codes "format=") ws → ttl ≡ value_of read_number (codes "ttl=") ws →
+pub words-read : (ws : List (List ℕ)) {block table : Option (Option ℕ)} {format : Option (Option BlockFormat)} {ttl seq mask : Option (Option ℕ)} → list_all is_known ws ≡ true →
+    block ≡ value_of (read_below (2 ^ 32)) (codes "block=") ws → table ≡ value_of read_number (codes "table=") ws → format ≡ value_of read_format (codes "format=") ws → ttl ≡ value_of read_number (codes "ttl=") ws →
     seq ≡ value_of read_number (codes "seq=") ws → mask ≡ value_of (read_below (2 ^ 8)) (codes "xor=") ws →
-    (block >>= λ b. format >>= λ f. ttl >>= λ t. seq >>= λ s. mask >>= λ m. if_valid (record { options = options b f t s; mask = m })) ≡ read_words ws
-words-read ws known block format ttl seq mask =
-    λ i. cond (sym known i) (block i >>= λ b. format i >>= λ f. ttl i >>= λ t. seq i >>= λ s. mask i >>= λ m. if_valid (record { options = options b f t s; mask = m })) None
+    (block >>= λ b. table >>= λ n. format >>= λ f. ttl >>= λ t. seq >>= λ s. mask >>= λ m. if_valid (record { options = options b n f t s; mask = m })) ≡ read_words ws
+words-read ws known block table format ttl seq mask =
+    λ i. cond (sym known i) (block i >>= λ b. table i >>= λ n. format i >>= λ f. ttl i >>= λ t. seq i >>= λ s. mask i >>= λ m. if_valid (record { options = options b n f t s; mask = m })) None
 
 -- ---- words read one by one
 
