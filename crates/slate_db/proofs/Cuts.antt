@@ -1,9 +1,11 @@
 -- Rows that are cut into tables.
 --     tables_from limit table rows      the tables of rows, of which the first has begun with these
-use Rattle.std.proofs.Common.{◌≡◌, ℕ, ◌+◌, ◌-◌, ◌<◌, Bool, true, false, cond, ◌&&◌, ◌||◌, ◌⊎◌, inl, inr, List, [], ◌∷◌, ◌++◌, reverse, length, flat_map, Option, Some, None, refl, sym, ap, subst, ◌∙◌, arith, append_assoc, append-nil, length-append, bytes_eq, nat_le, nat_lt}
+use Rattle.std.proofs.Common.{◌≡◌, ℕ, ◌+◌, ◌-◌, ◌<◌, Bool, true, false, cond, ◌&&◌, ◌||◌, ◌⊎◌, inl, inr, List, [], ◌∷◌, ◌++◌, ◌≤◌, ◌^◌, min, suc, rules, reverse, length, flat_map, Option, Some, None, refl, sym, ap, subst, ◌∙◌, arith, append_assoc, append-nil, length-append, bytes_eq, nat_le, nat_lt}
 use Rattle.std.specs.Prelude.{IsTrue, not, slice_get, sum_by}
 use Rattle.std.specs.List.{AllByRecursion}
+use Rattle.std.proofs.lemmas.Bool.Decides.{nat_tests}
 use Rattle.std.proofs.lemmas.List.{reverse-append}
+use Rattle.std.proofs.lemmas.List.Sums.{sum_by_push}
 use Rattle.std.proofs.lemmas.List.Elements.{filter-append}
 use Rattle.std.proofs.lemmas.Slice.Eq.{bytes_eq-Decides}
 use Rattle.slate_types.specs.declared.types.RowEntry.{RowEntry}
@@ -76,6 +78,50 @@ cut_all limit [] some = absurd (omega arith)
 cut_all limit (r ∷ rs) some =
     let on : ends_before limit [] r ≡ false = never (nat_le limit (sum_by estimated_size [])) in
     subst (λ (b : Bool). AreCut limit (r ∷ rs) (cond b ([] ∷ tables_from limit (r ∷ []) rs) (tables_from limit (r ∷ []) rs))) (sym on) (cut_on limit (r ∷ []) rs (omega arith) (one_goes_on limit r))
+
+-- ---- one row more
+
+pub cut_ends : (limit : ℕ) (tables tables2 : List Rows) (table table2 rest : Rows) (r : RowEntry) → ends_before limit table r ≡ true → tables2 ≡ tables ++ (table ∷ []) → table2 ≡ [] → tables2 ++ tables_from limit (table2 ++ (r ∷ [])) rest ≡ tables ++ tables_from limit table (r ∷ rest)
+cut_ends limit tables tables2 table table2 rest r ends is none =
+    (λ i. is i ++ tables_from limit (none i ++ (r ∷ [])) rest) ∙ append_assoc tables (table ∷ []) (tables_from limit (r ∷ []) rest)
+    ∙ ap (λ b. tables ++ cond b (table ∷ tables_from limit (r ∷ []) rest) (tables_from limit (table ++ (r ∷ [])) rest)) (sym ends)
+
+pub cut_goes_on : (limit : ℕ) (tables tables2 : List Rows) (table table2 rest : Rows) (r : RowEntry) → ends_before limit table r ≡ false → tables2 ≡ tables → table2 ≡ table → tables2 ++ tables_from limit (table2 ++ (r ∷ [])) rest ≡ tables ++ tables_from limit table (r ∷ rest)
+cut_goes_on limit tables tables2 table table2 rest r ends is same =
+    (λ i. is i ++ tables_from limit (same i ++ (r ∷ [])) rest) ∙ ap (λ b. tables ++ cond b (table ∷ tables_from limit (r ∷ []) rest) (tables_from limit (table ++ (r ∷ [])) rest)) (sym ends)
+
+-- a size past the greatest number stands there
+both : (a b : Bool) → a ≡ true → b ≡ true → (a && b) ≡ true
+both true b h k = k
+both false b h k = cc
+
+first_not : (a b : Bool) → a ≡ false → (a && b) ≡ false
+first_not true b h = cc
+first_not false b h = refl
+
+pub ends_full : (limit size : ℕ) (table : Rows) (r : RowEntry) → size ≡ min (sum_by estimated_size table) (2 ^ 64 - 1) → limit ≤ size → begins_key (last_row table) r ≡ true → ends_before limit table r ≡ true
+ends_full limit size table r is full other =
+    let within : limit ≤ sum_by estimated_size table = omega arith in
+    let test : nat_le limit (sum_by estimated_size table) ≡ true = grind (arith, nat_tests) in
+    both (nat_le limit (sum_by estimated_size table)) (begins_key (last_row table) r) test other
+
+pub ends_small : (limit size : ℕ) (table : Rows) (r : RowEntry) → size ≡ min (sum_by estimated_size table) (2 ^ 64 - 1) → limit < 2 ^ 64 → size < limit → ends_before limit table r ≡ false
+ends_small limit size table r is fits small =
+    let past : sum_by estimated_size table < limit = omega arith in
+    let test : nat_le limit (sum_by estimated_size table) ≡ false = grind (arith, nat_tests) in
+    first_not (nat_le limit (sum_by estimated_size table)) (begins_key (last_row table) r) test
+
+pub ends_same : (limit : ℕ) (table : Rows) (r : RowEntry) → begins_key (last_row table) r ≡ false → ends_before limit table r ≡ false
+ends_same limit table r same = ap (λ b. nat_le limit (sum_by estimated_size table) && b) same ∙ never (nat_le limit (sum_by estimated_size table))
+
+pub no_size : (size : ℕ) (table : Rows) → size ≡ 0 → table ≡ [] → size ≡ min (sum_by estimated_size table) (2 ^ 64 - 1)
+no_size size table is none = let e : sum_by estimated_size table ≡ 0 = ap (sum_by estimated_size) none in omega arith
+
+pub more_size : (size new more : ℕ) (table after : Rows) (r : RowEntry) → size ≡ min (sum_by estimated_size table) (2 ^ 64 - 1) → more ≡ min (estimated_size r) (2 ^ 64 - 1) → new ≡ min (size + more) (2 ^ 64 - 1) → after ≡ table ++ (r ∷ []) →
+    new ≡ min (sum_by estimated_size after) (2 ^ 64 - 1)
+more_size size new more table after r was one is behind =
+    let e : sum_by estimated_size after ≡ sum_by estimated_size table + estimated_size r = ap (sum_by estimated_size) behind ∙ sum_by_push estimated_size table r in
+    omega arith
 
 -- ---- what the tables have of the rows
 

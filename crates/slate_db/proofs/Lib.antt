@@ -8,7 +8,7 @@ mod Kept
 pub mod Keeps
 mod Quiet
 pub mod RunsOf
-mod Logs
+pub mod Logs
 mod LogViews
 mod MemoryLayers
 mod Wholes
@@ -19,7 +19,7 @@ mod Versions
 mod MemoryRows
 mod FlushRows
 mod Cuts
-mod Runs
+pub mod Runs
 mod Built
 mod Flushes
 mod Installs
@@ -30,6 +30,7 @@ mod Bases
 mod Rises
 mod Gets
 mod Answered
+pub mod PathsApart
 mod Puttings
 mod RunSoFar
 mod Tables

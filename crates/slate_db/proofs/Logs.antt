@@ -140,7 +140,7 @@ log_written l now ops spare place room fits batch w = record {
     through : installed (l.events ++ (e ∷ [])) ≡ installed l.events
     through = ap (λ s. s.flushed) more
 
-numbered_more : (i : ℕ) (runs : List (List (Ulid × List ℕ))) (ts : List (Ulid × List ℕ)) → NumberedFrom i runs → ArePlaced (i + length runs) 0 ts → NumberedFrom i (runs ++ (ts ∷ []))
+pub numbered_more : (i : ℕ) (runs : List (List (Ulid × List ℕ))) (ts : List (Ulid × List ℕ)) → NumberedFrom i runs → ArePlaced (i + length runs) 0 ts → NumberedFrom i (runs ++ (ts ∷ []))
 numbered_more i [] ts h placed = (subst (λ (n : ℕ). ArePlaced n 0 ts) (let z : i + 0 ≡ i = omega arith in z) placed, tt)
 numbered_more i (x ∷ runs) ts h placed = (h.0, numbered_more (i + 1) runs ts h.1 (subst (λ (n : ℕ). ArePlaced n 0 ts) (let z : i + length (x ∷ runs) ≡ (i + 1) + length runs = omega arith in z) placed))
 

@@ -82,6 +82,15 @@ runs_decide m os runs i k n newer found so_far decided layers are above h =
 pub runs_end : (m : Meaning) (os : Objects) (runs : List SortedRun) (i : ℕ) (k : List ℕ) (n : ℕ) (newer found : List RowEntry) → FoundSoFar m os (drop i runs) k n newer found → i ≤ 0 → FoundSoFar m os runs k n newer found
 runs_end m os runs i k n newer found so_far none = subst (λ (j : ℕ). FoundSoFar m os (drop j runs) k n newer found) (let z : i ≡ 0 = omega (arith, none) in z) so_far
 
+-- the tables of one run are stored
+pub run_stored : (m : Meaning) (os : Objects) (runs : List SortedRun) (i : ℕ) (run : SortedRun) (layers : List Rows) → i < length runs → run ≡ get_or runs i run → AreStoredAs m os (handles_of runs) layers → (own : List Rows) × AreStoredAs m os run.tables.items own
+run_stored m os runs i run layers within is are =
+    let all : handles_of runs ≡ handles_of (take i runs) ++ (run.tables.items ++ handles_of (drop (i + 1) runs)) =
+    ap handles_of (sym (take-append-drop i runs)) ∙ flat_map-append (λ (r : SortedRun). r.tables.items) (take i runs) (drop i runs) ∙ ap (λ (rs : List SortedRun). handles_of (take i runs) ++ handles_of rs) (run_here runs i run within is) in
+    let s = split_stored m.encode m.decode _ (handles_of (take i runs)) (run.tables.items ++ handles_of (drop (i + 1) runs)) layers (subst (λ (hs : List SsTableHandle). AreStoredAs m os hs layers) all are) in
+    let t = split_stored m.encode m.decode _ run.tables.items (handles_of (drop (i + 1) runs)) s.last s.back_stored in
+    (t.first, t.front_stored)
+
 -- ---- which rows are brought, and what damage is shown
 
 abbrev Found : Encode → List SsTableHandle → List RowEntry → List Act → RowEntry → Type 0

@@ -5,7 +5,8 @@ use Rattle.std.specs.List.{AllByRecursion}
 use Rattle.std.specs.Prelude.{IfOk, OnErr, Result, Ok, Err}
 use Rattle.slate_types.specs.declared.error.SlateDBError.{SlateDBError}
 use Rattle.slate_types.specs.declared.types.Ulid.{Ulid}
-use Rattle.slate_types.specs.Outside.{Objects, Puts, Reach}
+use Rattle.slate_types.specs.Outside.{IsFault, IsLater, Objects, Reach}
+use Rattle.slate_types.proofs.Reaching.{fault_earlier}
 use Rattle.slate_table.specs.declared.info.SsTableHandle.{SsTableHandle}
 use Rattle.slate_table.specs.Parts.{Encode}
 use Rattle.slate_table.specs.Table.{AreInOrder}
@@ -93,8 +94,11 @@ pub part_too_large : (before now : Reach) (layout : Layout) (number : ℕ) (part
 part_too_large before now layout number parts left rest rows ts handles e far next large =
     record { before = far.done; table = rows; behind = rest; split = ap (λ xs. far.done ++ xs) (sym next) ∙ far.split; large = large }
 
-pub place_of : (id : Ulid) (number place : ℕ) → id.0 ≡ number * 2 ^ 64 + place → place < 2 ^ 64 → IsPlace id number place
-place_of id number place is fits = record { is = is; fits = fits }
+-- what the store is refused for, behind the tables that were stored
+pub refused_run : (before now after : Reach) (layout : Layout) (number : ℕ) (parts left rest : List Rows) (rows : Rows) (ts : List (Ulid × List ℕ)) (handles : List SsTableHandle) (e : SlateDBError) → IsSoFar before now layout number parts left ts handles → left ≡ rows ∷ rest →
+    IsLater before.faults now.faults → IsFault now after e ⊎ IsTooLarge layout rows e → IsFault before after e ⊎ IsPartTooLarge layout parts e
+refused_run before now after layout number parts left rest rows ts handles e far next later (inl fault) = inl (fault_earlier before now after e later fault)
+refused_run before now after layout number parts left rest rows ts handles e far next later (inr large) = inr (part_too_large before now layout number parts left rest rows ts handles e far next large)
 
 -- ---- the whole run
 

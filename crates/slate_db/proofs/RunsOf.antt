@@ -26,4 +26,3 @@ tables_are (e ∷ es) = ap (λ ts. tables_in e ++ ts) (tables_are es) ∙ ap (λ
     one events.Freeze = refl
     one (events.Snapshot id seq) = refl
     one (events.Release id) = refl
-

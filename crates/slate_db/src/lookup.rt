@@ -205,10 +205,10 @@ pub fn newest_of_runs<S: Store, M: MergeOperator, T: BlockTransformer>(
     ensures reads { let reach = ⟦<EnvOf<S, M, T> as Outside>⟧.reach in OnlyReads (reach env.old) (reach env.new) }
 {
     let mut found = newer;
-    let mut i = runs.len();
-    while i > 0 && !is_decided(&found) {
-        i -= 1;
-        found = newest_of_tables(alloc, found, runs[i].tables.as_slice(), key, max_seq, env)?;
+    let mut at = runs.len();
+    while at > 0 && !is_decided(&found) {
+        at -= 1;
+        found = newest_of_tables(alloc, found, runs[at].tables.as_slice(), key, max_seq, env)?;
     }
     Ok(found)
 }

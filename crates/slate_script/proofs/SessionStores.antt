@@ -11,17 +11,18 @@ use Rattle.slate_table.specs.Parts.{Encode}
 use Rattle.slate_table.specs.Paths.{path_of, table_id}
 use Rattle.slate_txn.specs.declared.event.Event.{Event}
 use Rattle.slate_txn.specs.declared.event.Event.TheVariants as events
-use Rattle.slate_db.specs.Flushed.{AreTablesAt, IsFlushed, idle, stored, Layout, with_tables}
+use Rattle.slate_db.specs.Flushed.{IsFlushed, idle, stored, Layout, with_tables}
 use Rattle.slate_db.specs.Frozen.{IsFrozen}
 use Rattle.slate_db.specs.Installs.{runs_of, tables_in, tables_of, root, ArePlaced, Holds, HoldsTables, NumberedFrom}
 use Rattle.slate_db.specs.Meaning.{Meaning}
-use Rattle.slate_db.specs.Model.{CoreModel, Rows}
+use Rattle.slate_db.specs.Model.{CoreModel}
 use Rattle.slate_db.specs.Log.{LIMIT}
 use Rattle.slate_db.specs.Sound.{IsKept}
 use Rattle.slate_script.specs.Session.{SessionModel, HasTables, IsSettled, StoresNothing}
+use Rattle.slate_db.proofs.Runs.{are_placed}
 use Rattle.slate_db.proofs.RunsOf.{runs_more, runs_same, tables_are}
-use Rattle.slate_script.proofs.BySequence.{all-both}
-use Rattle.slate_script.proofs.PathsApart.{IsEarlier, earlier-all, earlier-apart, numbered-more, still-earlier}
+use Rattle.slate_db.proofs.Logs.{numbered_more}
+use Rattle.slate_db.proofs.PathsApart.{IsEarlier, earlier_all, holds_puts}
 
 pub tables-more : (es : List Event) (e : Event) → tables_of (es ++ (e ∷ [])) ≡ tables_of es ++ tables_in e
 tables-more es e = flat_map-append tables_in es (e ∷ []) ∙ ap (λ ts. tables_of es ++ ts) (append-nil (tables_in e))
@@ -29,28 +30,6 @@ tables-more es e = flat_map-append tables_in es (e ∷ []) ∙ ap (λ ts. tables
 -- an event that installs nothing
 pub none-more : (es : List Event) (e : Event) → tables_in e ≡ [] → tables_of (es ++ (e ∷ [])) ≡ tables_of es
 none-more es e none = tables-more es e ∙ ap (λ ts. tables_of es ++ ts) none ∙ append-nil (tables_of es)
-
-holds-still : (os : Objects) (path bytes : List ℕ) (ts : List (Ulid × List ℕ)) → AllByRecursion (λ t. path ≡ path_of root t.0.0 → ⊥) ts → Holds os ts → Holds (with_object os path bytes) ts
-holds-still os path bytes [] apart h = tt
-holds-still os path bytes (t ∷ ts) apart h = (others_stay os path bytes (path_of root t.0.0) apart.0 ∙ h.0, holds-still os path bytes ts apart.1 h.1)
-
-holds-more : (os : Objects) (t : Ulid × List ℕ) (ts : List (Ulid × List ℕ)) → object_at os (path_of root t.0.0) ≡ Some t.1 → Holds os ts → Holds os (ts ++ (t ∷ []))
-holds-more os t [] is h = (is, tt)
-holds-more os t (u ∷ ts) is h = (h.0, holds-more os t ts is h.1)
-
-apart-from : (n p : ℕ) (t : Ulid × List ℕ) (ts : List (Ulid × List ℕ)) → t.0.0 ≡ table_id n p → n < 2 ^ 64 → p < 2 ^ 64 → AllByRecursion (IsEarlier n p) ts → AllByRecursion (λ u. path_of root t.0.0 ≡ path_of root u.0.0 → ⊥) ts
-apart-from n p t [] id fits place h = tt
-apart-from n p t (u ∷ ts) id fits place h = (λ same. earlier-apart n p u h.0 fits place (sym (ap (path_of root) id) ∙ same), apart-from n p t ts id fits place h.1)
-
--- tables of one flush are put, from a place on
-holds-puts : (os : Objects) (n p : ℕ) (ts us : List (Ulid × List ℕ)) → n < 2 ^ 64 → AllByRecursion (IsEarlier n p) ts → ArePlaced n p us → Holds os ts → Holds (with_tables os us) (ts ++ us)
-holds-puts os n p ts [] fits earlier placed h = subst (Holds os) (sym (append-nil ts)) h
-holds-puts os n p ts (u ∷ us) fits earlier placed h =
-    let path : List ℕ = path_of root u.0.0 in
-    let one : Holds (with_object os path u.1) (ts ++ (u ∷ [])) = holds-more (with_object os path u.1) u ts (put_is_there os path u.1) (holds-still os path u.1 ts (apart-from n p u ts placed.0 fits placed.1 earlier) h) in
-    let before : AllByRecursion (IsEarlier n (p + 1)) (ts ++ (u ∷ [])) =
-    all-both (IsEarlier n (p + 1)) ts (u ∷ []) (still-earlier n p ts earlier) (record { number = n; place = p; id = placed.0; fits = placed.1; earlier = inr (refl, omega arith) }, tt) in
-    subst (Holds (with_tables (with_object os path u.1) us)) (append_assoc ts (u ∷ []) us) (holds-puts (with_object os path u.1) n (p + 1) (ts ++ (u ∷ [])) us fits before placed.2 one)
 
 -- a freeze installs nothing
 frozen-tables : (old mid : CoreModel) (objects : Option Objects) → IsFrozen old mid → HasTables objects old.events → HasTables objects mid.events
@@ -75,13 +54,6 @@ frozen-length : (old mid : CoreModel) → IsFrozen old mid → length mid.events
 frozen-length old mid (inl same) = subst (λ (c : CoreModel). length c.events ≤ length old.events + 1) (sym same.1) (omega arith)
 frozen-length old mid (inr frozen) = subst (λ (c : CoreModel). length c.events ≤ length old.events + 1) (sym frozen.1) (let n : length (old.events ++ (events.Freeze ∷ [])) ≡ length old.events + 1 = length-append old.events (events.Freeze ∷ []) in omega (arith, n))
 
--- the tables of a flush have places
-pub placed : (encode : Encode) (layout : Layout) (number place : ℕ) (parts : List Rows) (ts : List (Ulid × List ℕ)) → AreTablesAt encode layout number place parts ts → ArePlaced number place ts
-placed encode layout number place [] [] h = tt
-placed encode layout number place (rows ∷ parts) (t ∷ ts) h = (h.0.id, h.0.fits, placed encode layout number (place + 1) parts ts h.1)
-placed encode layout number place [] (t ∷ ts) h = absurd h
-placed encode layout number place (rows ∷ parts) [] h = absurd h
-
 -- a flush puts what it installs
 pub flushed-tables : (encode : Encode) (layout : Layout) (old mid new : CoreModel) (n : ℕ) (before after : Option Objects) → IsFrozen old mid → IsFlushed encode layout mid new n before after → length old.events ≤ LIMIT → HasTables before old.events → HasTables after new.events
 flushed-tables encode layout old mid new n before after frozen flushed room h = by flushed (frozen-tables old mid before frozen h)
@@ -93,9 +65,9 @@ flushed-tables encode layout old mid new n before after frozen flushed room h = 
     put None ts k places takes = absurd k.holds
     put (Some os) ts k places takes = subst (λ o. HasTables o (mid.events ++ (events.Install n ts ∷ []))) (sym takes) (record {
       holds = subst (Holds (with_tables os ts)) (sym (tables-more mid.events (events.Install n ts)))
-          (holds-puts os (length (runs_of mid.events) + 1) 0 (tables_of mid.events) ts (omega (arith, k.few, size))
-          (subst (AllByRecursion (IsEarlier (length (runs_of mid.events) + 1) 0)) (sym (tables_are mid.events)) (earlier-all 1 (length (runs_of mid.events) + 1) (runs_of mid.events) k.numbered (omega arith))) places k.holds);
-      numbered = subst (NumberedFrom 1) (sym more) (numbered-more 1 (runs_of mid.events) ts k.numbered (subst (λ (i : ℕ). ArePlaced i 0 ts) (turn (length (runs_of mid.events))) places));
+          (holds_puts os (length (runs_of mid.events) + 1) 0 (tables_of mid.events) ts (omega (arith, k.few, size))
+          (subst (AllByRecursion (IsEarlier (length (runs_of mid.events) + 1) 0)) (sym (tables_are mid.events)) (earlier_all 1 (length (runs_of mid.events) + 1) (runs_of mid.events) k.numbered (omega arith))) places k.holds);
+      numbered = subst (NumberedFrom 1) (sym more) (numbered_more 1 (runs_of mid.events) ts k.numbered (subst (λ (i : ℕ). ArePlaced i 0 ts) (turn (length (runs_of mid.events))) places));
       few = subst (λ rs. length rs ≤ length (mid.events ++ (events.Install n ts ∷ []))) (sym more)
           (let a : length (mid.events ++ (events.Install n ts ∷ [])) ≡ length mid.events + 1 = length-append mid.events (events.Install n ts ∷ []) in
           let b : length (runs_of mid.events ++ (ts ∷ [])) ≡ length (runs_of mid.events) + 1 = length-append (runs_of mid.events) (ts ∷ []) in omega (arith, a, b, k.few));
@@ -109,7 +81,7 @@ flushed-tables encode layout old mid new n before after frozen flushed room h = 
 
     by : IsFlushed encode layout mid new n before after → HasTables before mid.events → HasTables after new.events
     by (idle none is same) k = subst (λ (c : CoreModel). HasTables after c.events) (sym is) (subst (λ o. HasTables o mid.events) (sym same) k)
-    by (stored ts is made takes) k = subst (λ (c : CoreModel). HasTables after c.events) (sym is) (put before ts k (placed encode layout _ 0 made.parts ts made.built) takes)
+    by (stored ts is made takes) k = subst (λ (c : CoreModel). HasTables after c.events) (sym is) (put before ts k (are_placed encode layout _ 0 made.parts ts made.built) takes)
 
 pub flush-settled : (m : Meaning) (encode : Encode) (layout : Layout) (objects after : Option Objects) (e : SessionModel) (mid core : CoreModel) (n : ℕ) → IsFrozen e.core mid → IsFlushed encode layout mid core n objects after → length e.core.events ≤ LIMIT →
     (IsKept m e.core → IsKept m core) → IsSettled m objects e → IsSettled m after (record e { core = core })

@@ -33,7 +33,7 @@ use Rattle.slate_script.specs.Session.{SessionModel, StandsFor, StoresNothing, I
 use Rattle.slate_script.specs.StoredState.{IsStoredState, IsTableObject}
 use Rattle.slate_script.proofs.BySequence.{all-front, all-behind, all-both, one-table-more}
 use Rattle.slate_db.proofs.RunsOf.{runs_more, tables_are}
-use Rattle.slate_script.proofs.PathsApart.{ids-same}
+use Rattle.slate_db.proofs.PathsApart.{ids_same}
 use Rattle.slate_script.proofs.SessionLeaves.{leaves-frozen}
 
 each-as : {X : Type 0} (P Q : X → Type 0) → ((x : X) → P x → Q x) → (xs : List X) → AllByRecursion P xs → AllByRecursion Q xs
@@ -111,7 +111,7 @@ path-apart : (m : Meaning) (layout : Layout) (n p : ℕ) (o : List ℕ × List �
 path-apart m layout n p o fits place (t, h) same = by h
   where
     is : (n ≡ t.number) × (p ≡ t.place)
-    is = ids-same n t.number p t.place fits t.fits place t.place_fits (same ∙ t.path)
+    is = ids_same n t.number p t.place fits t.fits place t.place_fits (same ∙ t.path)
 
     by : (t.number < n) ⊎ ((t.number ≡ n) × (t.place < p)) → ⊥
     by (inl below) = let e : n ≡ t.number = is.0 in omega arith

@@ -10,16 +10,16 @@ use Rattle.slate_db.specs.Shown.{BringsRow}
 use Rattle.slate_db.proofs.RunReads.{FoundSoFar}
 use Rattle.slate_db.proofs.lookup.newest_of_runs.Given as goal
 
-abbrev pub invariant-loop-i : goal.invariant-loop-i
-invariant-loop-i g l =
+abbrev pub invariant-loop-at : goal.invariant-loop-at
+invariant-loop-at g l =
     let before = reach_of g.S.Store g.M.MergeOperator g.T.BlockTransformer l.initial.env in
     let now = reach_of g.S.Store g.M.MergeOperator g.T.BlockTransformer l.env in
     record {
-      within : l.i ≤ length l.runs;
+      within : l.at ≤ length l.runs;
       reads : OnlyReads before now;
       rows : Made before now (λ reads. AllByRecursion (λ r. Contains l.initial.found.items r ⊎ BringsRow before.meaning.decode (handles_of l.runs) reads r) l.found.items);
-      found : (os : Objects) → AnswersFrom os before now → FoundSoFar before.meaning os (drop l.i l.runs) l.key l.max_seq l.initial.found.items l.found.items;
+      found : (os : Objects) → AnswersFrom os before now → FoundSoFar before.meaning os (drop l.at l.runs) l.key l.max_seq l.initial.found.items l.found.items;
     }
 
-abbrev pub decreases-loop-i : goal.decreases-loop-i
-decreases-loop-i g l = l.i
+abbrev pub decreases-loop-at : goal.decreases-loop-at
+decreases-loop-at g l = l.at
