@@ -91,11 +91,12 @@ only-swap name before after v w =
 settings-swap : (before after : List (List ℕ)) (v w : List ℕ) → read_settings (before ++ (v ∷ w ∷ after)) ≡ read_settings (before ++ (w ∷ v ∷ after))
 settings-swap before after v w = λ i. do
   block ← swapped (codes "block=") i >>= read_given (read_below (2 ^ 32))
+  table ← swapped (codes "table=") i >>= read_given read_number
   format ← swapped (codes "format=") i >>= read_given read_format
   ttl ← swapped (codes "ttl=") i >>= read_given read_number
   seq ← swapped (codes "seq=") i >>= read_given read_number
   mask ← swapped (codes "xor=") i >>= read_given (read_below (2 ^ 8))
-  if_valid (record { options = options block format ttl seq; mask = mask })
+  if_valid (record { options = options block table format ttl seq; mask = mask })
   where
     swapped : (name : List ℕ) → only_value name (before ++ (v ∷ w ∷ after)) ≡ only_value name (before ++ (w ∷ v ∷ after))
     swapped name = only-swap name before after v w
