@@ -22,7 +22,7 @@ use Rattle.slate_table.specs.SectionReading.{IsTransformFault}
 use Rattle.slate_table.specs.TableBuilding.{TableBuilding, HasTooManyBlocks, AreEncoded, begun, cutting, max_blocks}
 use Rattle.slate_table.specs.Table.{AreInOrder, cut}
 use Rattle.slate_table.specs.TableParts.{version_of}
-use Rattle.slate_db.specs.Flushed.{Layout, IsTooLarge, TakesTable, MayTakeTable}
+use Rattle.slate_db.specs.Flushed.{Layout, IsTooLarge, TakesTables, MayTakeTables}
 use Rattle.slate_db.specs.Installs.{root, IsHandle}
 use Rattle.slate_db.specs.Model.{Rows}
 use Rattle.slate_db.specs.Layers.{FitsMemory}
@@ -85,21 +85,21 @@ add_refused layout b row rest before middle after e h version size some empty fu
 
 -- ---- the put
 
-pub takes : (t : Ulid × List ℕ) (before after : Option Objects) → ((os : Objects) → before ≡ Some os → TakesPut os (path_of root t.0.0) t.1 after) → TakesTable t before after
+pub takes : (t : Ulid × List ℕ) (before after : Option Objects) → ((os : Objects) → before ≡ Some os → TakesPut os (path_of root t.0.0) t.1 after) → TakesTables (t ∷ []) before after
 takes t None after h = tt
 takes t (Some os) after h = h os refl
 
-pub may_keep : (P : Ulid × List ℕ → Type 0) (before after : Option Objects) → after ≡ before → MayTakeTable P before after
+pub may_keep : (P : List (Ulid × List ℕ) → Type 0) (before after : Option Objects) → after ≡ before → MayTakeTables P before after
 may_keep P None after h = tt
 may_keep P (Some os) after h = inl h
 
-pub may_take : {S : Type 0} (P : Ulid × List ℕ → Type 0) (objects : S → Option Objects) (acts : S → Option (List Act)) (t : Ulid × List ℕ) (before after : S) → P t → RefusesPut objects acts (path_of root t.0.0) t.1 before after → MayTakeTable P (objects before) (objects after)
+pub may_take : {S : Type 0} (P : List (Ulid × List ℕ) → Type 0) (objects : S → Option Objects) (acts : S → Option (List Act)) (t : Ulid × List ℕ) (before after : S) → P (t ∷ []) → RefusesPut objects acts (path_of root t.0.0) t.1 before after → MayTakeTables P (objects before) (objects after)
 may_take P objects acts t before after p (inl left) = may_keep P (objects before) (objects after) left.stands
 may_take P objects acts t before after p (inr took) = by (objects before) took.stands
   where
-    by : (told : Option Objects) → ((os : Objects) → told ≡ Some os → TakesPut os (path_of root t.0.0) t.1 (objects after)) → MayTakeTable P told (objects after)
+    by : (told : Option Objects) → ((os : Objects) → told ≡ Some os → TakesPut os (path_of root t.0.0) t.1 (objects after)) → MayTakeTables P told (objects after)
     by None taken = tt
-    by (Some os) taken = inr (t, p, taken os refl)
+    by (Some os) taken = inr (t ∷ [], p, taken os refl)
 
 -- what is kept of a table has the info that its bytes have
 pub handle_of : (t : Ulid × List ℕ) (h : SsTableHandle) (version made : ℕ) (info : SsTableInfo) → (version ≡ 1) ⊎ (version ≡ 2) → h.id ≡ t.0 → h.info ≡ info → h.format_version ≡ made → made ≡ version → HasInfo t.1 version (seen_info info) → EachIsAByte t.1 → IsHandle t h

@@ -159,16 +159,16 @@ place_cause limit old e h = inr (inl h)
 
 flushed_is : (encode : Encode) (layout : Layout) (between new : CoreModel) (n : ℕ) (before after : Option Objects) → IsFlushed encode layout between new n before after → new.state ≡ record between.state { flushed = n }
 flushed_is encode layout between new n before after (idle none is kept) = ap (λ (v : CoreModel). v.state) is
-flushed_is encode layout between new n before after (stored t is table taken) = ap (λ (v : CoreModel). v.state) is
+flushed_is encode layout between new n before after (stored ts is tables taken) = ap (λ (v : CoreModel). v.state) is
 
 pub settled : (r : Result ℕ SlateDBError) (encode : Encode) (layout : Layout) (between new : CoreModel) (before after : Option Objects) → IfOk r (λ n. IsFlushed encode layout between new n before after) → OnErr r (IsSame between new) → new.settings ≡ between.settings
 settled (Ok n) encode layout between new before after (idle none is kept) same = ap (λ (v : CoreModel). v.settings) is
-settled (Ok n) encode layout between new before after (stored t is table taken) same = ap (λ (v : CoreModel). v.settings) is
+settled (Ok n) encode layout between new before after (stored ts is tables taken) same = ap (λ (v : CoreModel). v.settings) is
 settled (Err e) encode layout between new before after h same = ap (λ (v : CoreModel). v.settings) same
 
 pub all_taken : (r : Result ℕ SlateDBError) (encode : Encode) (layout : Layout) (between new : CoreModel) (before after : Option Objects) → between.active ≡ [] → IfOk r (λ n. IsFlushed encode layout between new n before after) → OnOk r ((new.active ≡ []) × (new.frozen ≡ []))
 all_taken (Ok n) encode layout between new before after none (idle frozen is kept) = (ap (λ (v : CoreModel). v.active) is ∙ none, ap (λ (v : CoreModel). v.frozen) is ∙ frozen)
-all_taken (Ok n) encode layout between new before after none (stored t is table taken) = (ap (λ (v : CoreModel). v.active) is ∙ none, ap (λ (v : CoreModel). v.frozen) is)
+all_taken (Ok n) encode layout between new before after none (stored ts is tables taken) = (ap (λ (v : CoreModel). v.active) is ∙ none, ap (λ (v : CoreModel). v.frozen) is)
 all_taken (Err e) encode layout between new before after none h = tt
 
 pub steps_after : (r : Result ℕ SlateDBError) (encode : Encode) (layout : Layout) (old between new : CoreModel) (before after : Option Objects) → IsFrozen old between → IfOk r (λ n. n ≡ last_of between.settings.start_seq between.state.commits) → IfOk r (λ n. IsFlushed encode layout between new n before after) →
@@ -179,5 +179,5 @@ steps_after (Err e) encode layout old between new before after frozen last is = 
 -- nothing is committed behind its freeze
 pub quiet_after : (r : Result ℕ SlateDBError) (encode : Encode) (layout : Layout) (between new : CoreModel) (before after : Option Objects) → IsQuiet between.events → IfOk r (λ n. IsFlushed encode layout between new n before after) → OnOk r (IsQuiet new.events)
 quiet_after (Ok n) encode layout between new before after quiet (idle none is kept) = subst (λ (v : CoreModel). IsQuiet v.events) (sym is) quiet
-quiet_after (Ok n) encode layout between new before after quiet (stored t is table taken) = subst (λ (v : CoreModel). IsQuiet v.events) (sym is) (quiet_more between.events (events.Install n (t ∷ [])) refl refl quiet)
+quiet_after (Ok n) encode layout between new before after quiet (stored ts is tables taken) = subst (λ (v : CoreModel). IsQuiet v.events) (sym is) (quiet_more between.events (events.Install n ts) refl refl quiet)
 quiet_after (Err e) encode layout between new before after quiet h = tt

@@ -16,7 +16,7 @@ use Rattle.slate_table.specs.Parts.{Encode}
 use Rattle.slate_table.specs.Paths.{path_of}
 use Rattle.slate_txn.specs.declared.event.Event.{Event}
 use Rattle.slate_txn.specs.Reads.{up_to, key_rows}
-use Rattle.slate_db.specs.Installs.{tables_of, installed, root, AreHandles, Holds, HoldsTables}
+use Rattle.slate_db.specs.Installs.{tables_of, installed, root, AreHandles, Holds, HoldsTables, handles_of}
 use Rattle.slate_mem.specs.Lookup.{newest_first, is_merge_among}
 use Rattle.slate_db.specs.Lookup.{AreStored, AreStoredAs}
 use Rattle.slate_db.specs.Meaning.{Meaning, IsLawfulMeaning, rules_of, combine_of}
@@ -27,6 +27,7 @@ use Rattle.slate_db.proofs.Bases.{bases_in, none_found}
 use Rattle.slate_db.proofs.Lists.{all_map}
 use Rattle.slate_mem.proofs.LayerLaws.{first_both}
 use Rattle.slate_db.proofs.Newest.{folds_as_all, versions_are}
+use Rattle.slate_db.proofs.Runs.{all_handles}
 use Rattle.slate_db.proofs.Seen.{seen_fold}
 use Rattle.slate_db.proofs.Tables.{all_same}
 use Rattle.slate_db.proofs.Short.{all_append, all_filter, all_from_last, commits_short, fine_short}
@@ -53,20 +54,20 @@ all_stored m law os (t ∷ ts) (h ∷ hs) layers (version, rows, rest, is, other
     )
 
 pub stored_tables : (m : Meaning) (c : CoreModel) (u : Unseen) (objects : Option Objects) (layers : List Rows) → IsWhole c u → IsLawfulMeaning m → AreTables m (tables_of c.events) layers → HoldsTables objects c.events →
-    AreStored m.encode m.decode objects u.tables layers
+    AreStored m.encode m.decode objects (handles_of u.runs) layers
 stored_tables m c u None layers w law tables held = absurd held
-stored_tables m c u (Some os) layers w law tables held = all_stored m law os (tables_of c.events) u.tables layers tables w.tied.tables held
+stored_tables m c u (Some os) layers w law tables held = all_stored m law os (tables_of c.events) (handles_of u.runs) layers tables (all_handles c.events u.runs w.tied.runs) held
 
-pub stored_known : (m : Meaning) (c d : CoreModel) (u : Unseen) (known : List SsTableHandle) (objects : Option Objects) (layers : List Rows) (encode decode : Encode) → d ≡ c → known ≡ u.tables → m.encode ≡ encode → m.decode ≡ decode →
+pub stored_known : (m : Meaning) (c d : CoreModel) (u : Unseen) (known : List SsTableHandle) (objects : Option Objects) (layers : List Rows) (encode decode : Encode) → d ≡ c → known ≡ handles_of u.runs → m.encode ≡ encode → m.decode ≡ decode →
     IsWhole d u → IsLawfulMeaning m → AreTables m (tables_of c.events) layers → HoldsTables objects c.events → AreStored encode decode objects known layers
 stored_known m c d u known objects layers encode decode same kept encodes decodes w law tables held =
     subst (λ (xs : List SsTableHandle). AreStored encode decode objects xs layers) (sym kept)
-    (all_same m.encode encode m.decode decode objects u.tables layers (sym encodes) (sym decodes)
+    (all_same m.encode encode m.decode decode objects (handles_of u.runs) layers (sym encodes) (sym decodes)
     (stored_tables m d u objects layers w law
     (subst (λ (v : CoreModel). AreTables m (tables_of v.events) layers) (sym same) tables)
     (subst (λ (v : CoreModel). HoldsTables objects v.events) (sym same) held)))
 
-pub stored_as : (m : Meaning) (c d : CoreModel) (u : Unseen) (known : List SsTableHandle) (os : Objects) (layers : List Rows) → d ≡ c → known ≡ u.tables →
+pub stored_as : (m : Meaning) (c d : CoreModel) (u : Unseen) (known : List SsTableHandle) (os : Objects) (layers : List Rows) → d ≡ c → known ≡ handles_of u.runs →
     IsWhole d u → IsLawfulMeaning m → AreTables m (tables_of c.events) layers → Holds os (tables_of c.events) → AreStoredAs m os known layers
 stored_as m c d u known os layers same kept w law tables held = stored_known m c d u known (Some os) layers m.encode m.decode same kept refl refl w law tables held
 

@@ -7,7 +7,8 @@ mod AllRows
 mod Kept
 pub mod Keeps
 mod Quiet
-mod Logs
+pub mod RunsOf
+pub mod Logs
 mod LogViews
 mod MemoryLayers
 mod Wholes
@@ -17,6 +18,8 @@ mod Puts
 mod Versions
 mod MemoryRows
 mod FlushRows
+mod Cuts
+pub mod Runs
 mod Built
 mod Flushes
 mod Installs
@@ -27,8 +30,11 @@ mod Bases
 mod Rises
 mod Gets
 mod Answered
+pub mod PathsApart
 mod Puttings
+mod RunSoFar
 mod Tables
+mod RunReads
 mod Blocks
 mod Damaged
 mod Causes

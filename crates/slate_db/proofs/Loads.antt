@@ -26,7 +26,7 @@ use Rattle.slate_mem.specs.Table.{put_row, put_rows}
 use Rattle.slate_table.specs.Table.{AreInOrder, cut, cut_from}
 use Rattle.slate_txn.specs.State.{last_of}
 use Rattle.slate_txn.specs.Open.{least_begin}
-use Rattle.slate_db.specs.Flushed.{Layout, IsFolded, IsTooLarge, TooLarge}
+use Rattle.slate_db.specs.Flushed.{Layout, IsFolded, HasTooLarge, TooLarge}
 use Rattle.slate_db.specs.Load.{row_load, rows_load, load, op_load, ops_load}
 use Rattle.slate_db.specs.Meaning.{Meaning, combine_of}
 use Rattle.slate_db.specs.Model.{CoreModel, Rows, memory, versions, versions_in}
@@ -243,11 +243,20 @@ length_load : (rows : Rows) → length rows ≤ total row_load rows
 length_load [] = omega arith
 length_load (r ∷ rs) = let rest : length rs ≤ total row_load rs = length_load rs in omega arith
 
-too_large_load : (m : Meaning) (b : ℕ) (layers : List Rows) (layout : Layout) (rows : Rows) (e : SlateDBError) → IsFolded m b layers rows → AllByRecursion (λ xs. AllByRecursion FitsMemory xs) layers → IsTooLarge layout rows e →
+part_load : (before : List Rows) (table : Rows) (behind : List Rows) → total row_load table ≤ total row_load (flat_map (λ rows. rows) (before ++ (table ∷ behind)))
+part_load [] table behind = let all : total row_load (table ++ flat_map (λ rows. rows) behind) ≡ total row_load table + total row_load (flat_map (λ rows. rows) behind) = total_append row_load table (flat_map (λ rows. rows) behind) in omega arith
+part_load (x ∷ before) table behind =
+    let all : total row_load (x ++ flat_map (λ rows. rows) (before ++ (table ∷ behind))) ≡ total row_load x + total row_load (flat_map (λ rows. rows) (before ++ (table ∷ behind))) = total_append row_load x (flat_map (λ rows. rows) (before ++ (table ∷ behind))) in
+    let rest : total row_load table ≤ total row_load (flat_map (λ rows. rows) (before ++ (table ∷ behind))) = part_load before table behind in
+    omega arith
+
+too_large_load : (m : Meaning) (b : ℕ) (layers : List Rows) (layout : Layout) (rows : Rows) (e : SlateDBError) → IsFolded m b layers rows → AllByRecursion (λ xs. AllByRecursion FitsMemory xs) layers → HasTooLarge layout rows e →
     2 ^ 32 - 1 < sum_by rows_load layers
-too_large_load m b layers layout rows e folded fit large =
+too_large_load m b layers layout rows e folded fit has =
+    let large = has.large in
     let all : total row_load rows ≤ sum_by rows_load layers = folded_load m b layers rows folded fit in
-    let two : total row_load rows ≡ total row_load large.first + total row_load large.rest = ap (total row_load) large.cut_off ∙ total_append row_load large.first large.rest in
+    let part : total row_load has.table ≤ total row_load rows = subst (λ (xs : Rows). total row_load has.table ≤ total row_load xs) has.cut.all (part_load has.before has.table has.behind) in
+    let two : total row_load has.table ≡ total row_load large.first + total row_load large.rest = ap (total row_load) large.cut_off ∙ total_append row_load large.first large.rest in
     let blocks : 2 ^ 32 - 1 < length (cut layout.block_size layout.version large.first) = large.passes in
     let few : length (cut layout.block_size layout.version large.first) ≤ length large.first = few_cut layout.block_size layout.version large.first in
     let some : length large.first ≤ total row_load large.first = length_load large.first in
@@ -263,7 +272,7 @@ no_layer k layers rows none =
 
 -- b, layers: those of the call that stores them
 pub too_large_is : (layout : Layout) (c : CoreModel) (b : ℕ) (layers : List Rows) (rows : Rows) (e : SlateDBError) → c.active ≡ [] → b ≡ least_begin (last_of c.settings.start_seq c.state.commits) c.state.txns → layers ≡ c.frozen →
-    AllByRecursion (λ xs. AllByRecursion FitsMemory xs) (memory c) → ((m : Meaning) → IsFolded m b layers rows) → AreInOrder rows → IsTooLarge layout rows e → TooLarge layout c e
+    AllByRecursion (λ xs. AllByRecursion FitsMemory xs) (memory c) → ((m : Meaning) → IsFolded m b layers rows) → AreInOrder rows → HasTooLarge layout rows e → TooLarge layout c e
 too_large_is layout c b layers rows e idle barrier frozen fit folded order large =
     (rows, moved, order, large, too_large_load plain (least_begin (last_of c.settings.start_seq c.state.commits) c.state.txns) (memory c) layout rows e (moved plain) fit large)
   where

@@ -6,7 +6,6 @@ use Rattle.std.specs.List.{AllByRecursion}
 use Rattle.slate_types.specs.declared.config.IsolationLevel.{IsolationLevel}
 use Rattle.slate_types.specs.declared.types.Ulid.{Ulid}
 use Rattle.slate_mem.specs.Batch.{Ops, batch_keys}
-use Rattle.slate_table.specs.Paths.{table_id}
 use Rattle.slate_txn.specs.declared.event.Event.{Event}
 use Rattle.slate_txn.specs.declared.event.Event.TheVariants as events
 use Rattle.slate_txn.specs.Ids.{id_of, IsOfCount}
@@ -16,10 +15,11 @@ use Rattle.slate_txn.specs.Replay.{replay, apply, used_from, Allowed}
 use Rattle.slate_txn.specs.State.{Commit, opening, last_of}
 use Rattle.slate_txn.proofs.IdLaws.{fresh_among, wider}
 use Rattle.slate_txn.proofs.NamedLaws.{length_without}
-use Rattle.slate_db.specs.Installs.{tables_of, tables_in, installed, NumberedFrom}
+use Rattle.slate_db.specs.Installs.{tables_of, tables_in, runs_of, runs_in, installed, ArePlaced, NumberedFrom}
 use Rattle.slate_db.specs.Log.{LogModel, IsLog, IsWhollyKept, HasPlace, LIMIT, ends_of, with_begin, with_end, with_freeze, with_write, with_install, with_flush}
 use Rattle.slate_db.proofs.Journals.{apply_more, used_more, legal_more}
 use Rattle.slate_db.proofs.Lists.{all_more, all_map}
+use Rattle.slate_db.proofs.RunsOf.{runs_more, runs_same}
 use Rattle.slate_db.proofs.Split.{rising_more, last_more, up_to_more, all_up_to}
 
 pub tables_more : (es : List Event) (e : Event) → tables_of (es ++ (e ∷ [])) ≡ tables_of es ++ tables_in e
@@ -53,7 +53,7 @@ log_room l spare room w = record {
 
 -- an event that neither commits nor installs
 log_event : (l : LogModel) (e : Event) (ids ends spare : ℕ) → Allowed l.start (replay l.events) (used_from [] l.events) e → (apply (replay l.events) e).commits ≡ (replay l.events).commits →
-    (apply (replay l.events) e).flushed ≡ installed l.events → tables_in e ≡ [] → AllByRecursion (λ id. IsOfCount ids id) (used_from [] (l.events ++ (e ∷ []))) → ids ≤ l.ids + 1 → ends ≡ ends_of (apply (replay l.events) e) →
+    (apply (replay l.events) e).flushed ≡ installed l.events → runs_in e ≡ [] → AllByRecursion (λ id. IsOfCount ids id) (used_from [] (l.events ++ (e ∷ []))) → ids ≤ l.ids + 1 → ends ≡ ends_of (apply (replay l.events) e) →
     ends ≤ spare → length l.events + 1 + ends ≤ LIMIT → IsLog l → IsLog (record l { ids = ids; ends = ends; events = l.events ++ (e ∷ []); spare = spare })
 log_event l e ids ends spare may commits flushed none used few counts room bound w = record {
   legal = legal_more l.start opening [] l.events e w.legal may;
@@ -67,8 +67,8 @@ log_event l e ids ends spare may commits flushed none used few counts room bound
   installed_within = subst (λ (n : ℕ). n ≤ l.last) (sym through) w.installed_within;
   flushed_within = w.flushed_within;
   flushed_through = w.flushed_through ∙ ap (λ n. up_to n l.commits) (sym through);
-  numbered = subst (NumberedFrom 1) (sym (tables_same l.events e none)) w.numbered;
-  installs = w.installs ∙ ap length (sym (tables_same l.events e none));
+  numbered = subst (NumberedFrom 1) (sym (runs_same l.events e none)) w.numbered;
+  installs = w.installs ∙ ap length (sym (runs_same l.events e none));
   installs_within = rw length-append (let h : l.installs ≤ length l.events = w.installs_within in omega arith);
   ends = counts ∙ ap ends_of (sym more);
   room = room;
@@ -120,8 +120,8 @@ log_written l now ops spare place room fits batch w = record {
       ∙ w.flushed_through
       ∙ sym (up_to_more (installed l.events) l.commits commit (let h : installed l.events ≤ l.last = w.installed_within in omega arith))
       ∙ ap (λ i. up_to i (l.commits ++ (commit ∷ []))) (sym through);
-  numbered = subst (NumberedFrom 1) (sym (tables_same l.events e refl)) w.numbered;
-  installs = w.installs ∙ ap length (sym (tables_same l.events e refl));
+  numbered = subst (NumberedFrom 1) (sym (runs_same l.events e refl)) w.numbered;
+  installs = w.installs ∙ ap length (sym (runs_same l.events e refl));
   installs_within = rw length-append (let h : l.installs ≤ length l.events = w.installs_within in omega arith);
   ends = w.ends ∙ ap ends_of (sym more);
   room = omega (arith, place.room);
@@ -140,12 +140,12 @@ log_written l now ops spare place room fits batch w = record {
     through : installed (l.events ++ (e ∷ [])) ≡ installed l.events
     through = ap (λ s. s.flushed) more
 
-numbered_more : (i : ℕ) (ts : List (Ulid × List ℕ)) (t : Ulid × List ℕ) → NumberedFrom i ts → t.0.0 ≡ table_id (i + length ts) 0 → NumberedFrom i (ts ++ (t ∷ []))
-numbered_more i [] t h e = (e ∙ ap (λ x. table_id x 0) (let z : i + 0 ≡ i = omega arith in z), tt)
-numbered_more i (x ∷ ts) t h e = (h.0, numbered_more (i + 1) ts t h.1 (e ∙ ap (λ x. table_id x 0) (let z : i + length (x ∷ ts) ≡ (i + 1) + length ts = omega arith in z)))
+pub numbered_more : (i : ℕ) (runs : List (List (Ulid × List ℕ))) (ts : List (Ulid × List ℕ)) → NumberedFrom i runs → ArePlaced (i + length runs) 0 ts → NumberedFrom i (runs ++ (ts ∷ []))
+numbered_more i [] ts h placed = (subst (λ (n : ℕ). ArePlaced n 0 ts) (let z : i + 0 ≡ i = omega arith in z) placed, tt)
+numbered_more i (x ∷ runs) ts h placed = (h.0, numbered_more (i + 1) runs ts h.1 (subst (λ (n : ℕ). ArePlaced n 0 ts) (let z : i + length (x ∷ runs) ≡ (i + 1) + length runs = omega arith in z) placed))
 
-pub log_installed : (l : LogModel) (t : Ulid × List ℕ) (spare : ℕ) → HasPlace 1 l → spare + 1 ≡ l.spare → t.0.0 ≡ table_id (l.installs + 1) 0 → IsLog l → IsLog (with_install l t spare)
-log_installed l t spare place room id w = record {
+pub log_installed : (l : LogModel) (ts : List (Ulid × List ℕ)) (spare : ℕ) → HasPlace 1 l → spare + 1 ≡ l.spare → ArePlaced (l.installs + 1) 0 ts → IsLog l → IsLog (with_install l ts spare)
+log_installed l ts spare place room placed w = record {
   legal = legal_more l.start opening [] l.events e w.legal (w.installed_within, (let h : l.last ≡ last_of l.start (replay l.events).commits = w.last ∙ ap (λ cs. last_of l.start cs) (sym w.replays) in omega arith));
   replays = ap (λ s. s.commits) more ∙ w.replays;
   last = w.last;
@@ -157,8 +157,9 @@ log_installed l t spare place room id w = record {
   installed_within = subst (λ (n : ℕ). n ≤ l.last) (sym through) (omega arith);
   flushed_within = omega arith;
   flushed_through = ap (λ i. up_to i l.commits) (sym through);
-  numbered = subst (NumberedFrom 1) (sym (tables_more l.events e)) (numbered_more 1 (tables_of l.events) t w.numbered (id ∙ ap (λ x. table_id x 0) (let h : l.installs ≡ length (tables_of l.events) = w.installs in let z : l.installs + 1 ≡ 1 + length (tables_of l.events) = omega arith in z)));
-  installs = (let h : l.installs ≡ length (tables_of l.events) = w.installs in let z : l.installs + 1 ≡ length (tables_of l.events) + length (t ∷ []) = omega arith in z) ∙ sym (ap length (tables_more l.events e) ∙ length-append (tables_of l.events) (t ∷ []));
+  numbered = subst (NumberedFrom 1) (sym (runs_more l.events e)) (numbered_more 1 (runs_of l.events) ts w.numbered
+      (subst (λ (n : ℕ). ArePlaced n 0 ts) (let h : l.installs ≡ length (runs_of l.events) = w.installs in let z : l.installs + 1 ≡ 1 + length (runs_of l.events) = omega arith in z) placed));
+  installs = (let h : l.installs ≡ length (runs_of l.events) = w.installs in let z : l.installs + 1 ≡ length (runs_of l.events) + length (ts ∷ []) = omega arith in z) ∙ sym (ap length (runs_more l.events e) ∙ length-append (runs_of l.events) (ts ∷ []));
   installs_within = rw length-append (let h : l.installs ≤ length l.events = w.installs_within in omega arith);
   ends = w.ends ∙ ap ends_of (sym more);
   room = omega (arith, place.room);
@@ -166,7 +167,7 @@ log_installed l t spare place room id w = record {
 }
   where
     e : Event
-    e = events.Install l.last (t ∷ [])
+    e = events.Install l.last ts
 
     more : replay (l.events ++ (e ∷ [])) ≡ apply (replay l.events) e
     more = apply_more opening l.events e

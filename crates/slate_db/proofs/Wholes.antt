@@ -8,7 +8,7 @@ use Rattle.slate_types.specs.Keys.{key_cmp}
 use Rattle.slate_types.specs.declared.config.IsolationLevel.{IsolationLevel}
 use Rattle.slate_types.specs.declared.types.RowEntry.{RowEntry}
 use Rattle.slate_types.specs.declared.types.Ulid.{Ulid}
-use Rattle.slate_table.specs.declared.info.SsTableHandle.{SsTableHandle}
+use Rattle.slate_read.specs.declared.sorted_run.SortedRun.{SortedRun}
 use Rattle.slate_mem.specs.Batch.{Ops}
 use Rattle.slate_txn.specs.declared.event.Event.{Event}
 use Rattle.slate_txn.specs.declared.event.Event.TheVariants as events
@@ -22,7 +22,7 @@ use Rattle.slate_txn.specs.Replay.{replay, apply, used_from}
 use Rattle.slate_txn.specs.State.{Tx, begun, opening, last_of}
 use Rattle.slate_txn.specs.Step.{noted}
 use Rattle.slate_db.specs.Flushed.{after_install}
-use Rattle.slate_db.specs.Installs.{as_begun, tables_of, installed, IsHandle, AreHandles, Replays}
+use Rattle.slate_db.specs.Installs.{as_begun, runs_of, installed, IsRun, AreRuns, Replays}
 use Rattle.slate_db.specs.Layers.{AreLayers}
 use Rattle.slate_db.specs.Log.{IsLog, LogModel, HasPlace, ends_of}
 use Rattle.slate_db.specs.Meaning.{Meaning}
@@ -33,8 +33,10 @@ use Rattle.slate_db.specs.Written.{after_write}
 use Rattle.slate_db.proofs.Journals.{apply_more}
 use Rattle.slate_db.proofs.Keeps.{kept_event, kept_rows}
 use Rattle.slate_db.proofs.Lists.{all_more, all_map, all_front, all_behind, none_behind}
-use Rattle.slate_db.proofs.Logs.{tables_same, tables_more}
+use Rattle.slate_db.proofs.Logs.{tables_same}
 use Rattle.slate_db.proofs.MemoryLayers.{versions_frozen}
+use Rattle.slate_db.proofs.Runs.{run_more}
+use Rattle.slate_db.proofs.RunsOf.{runs_more, runs_same}
 use Rattle.slate_db.proofs.Quiet.{quiet_more, quiet_frozen}
 use Rattle.slate_db.proofs.Split.{all_up_to}
 use Rattle.slate_txn.proofs.IdLaws.{fresh_named, all_past, wider}
@@ -58,7 +60,7 @@ pub within_newest : (floor n : ℕ) (ps : List (List ℕ × Tx)) → AllByRecurs
 within_newest floor n ps h = all_map _ _ (λ p w. w.1) ps h
 
 -- of nothing
-pub whole_first : (c : CoreModel) (x : Unseen) → IsLog (log_of c x) → AreLayers (layers_of c x) → c.events ≡ [] → c.state.commits ≡ [] → c.state.txns ≡ [] → c.state.snapshots ≡ [] → x.tables ≡ [] → c.active ≡ [] → c.frozen ≡ [] → c.floor ≡ 0 →
+pub whole_first : (c : CoreModel) (x : Unseen) → IsLog (log_of c x) → AreLayers (layers_of c x) → c.events ≡ [] → c.state.commits ≡ [] → c.state.txns ≡ [] → c.state.snapshots ≡ [] → x.runs ≡ [] → c.active ≡ [] → c.frozen ≡ [] → c.floor ≡ 0 →
     IsWhole c x
 whole_first c x log layers e cs ts ss hs a f z = record {
   log = log;
@@ -71,7 +73,7 @@ whole_first c x log layers e cs ts ss hs a f z = record {
     floor_within = omega arith;
     begins = subst (λ (ps : List (List ℕ × Tx)). AllByRecursion (λ p. BeginsWithin c.floor x.last p) ps) (sym ts) tt;
     all_installed = λ active frozen. ap (up_to (installed c.events)) cs ∙ sym cs;
-    tables = subst (λ (ks : List SsTableHandle). AreHandles (tables_of c.events) ks) (sym hs) (subst (λ (es : List Event). AreHandles (tables_of es) []) (sym e) tt);
+    runs = subst (λ (ks : List SortedRun). AreRuns (runs_of c.events) ks) (sym hs) (subst (λ (es : List Event). AreRuns (runs_of es) []) (sym e) tt);
     quiet = λ idle. subst IsQuiet (sym e) refl;
     rows_within = subst (λ (rows : Rows). AllByRecursion (λ rows. AllByRecursion (λ r. r.seq ≤ x.last) rows) (c.frozen ++ (rows ∷ []))) (sym a)
         (subst (λ (layers : List Rows). AllByRecursion (λ rows. AllByRecursion (λ r. r.seq ≤ x.last) rows) (layers ++ ([] ∷ []))) (sym f) (tt, tt));
@@ -103,7 +105,7 @@ whole_begin c x level spare log w = record {
     floor_within = w.tied.floor_within;
     begins = all_more _ _ _ w.tied.begins (w.tied.floor_within, omega arith);
     all_installed = λ active frozen. rw (ap (λ s. s.flushed) more) (w.tied.all_installed active frozen);
-    tables = subst (λ (ts : List (Ulid × List ℕ)). AreHandles ts x.tables) (sym (tables_same c.events e refl)) w.tied.tables;
+    runs = subst (λ (rs : List (List (Ulid × List ℕ))). AreRuns rs x.runs) (sym (runs_same c.events e refl)) w.tied.runs;
     quiet = λ idle. quiet_more c.events e refl refl (w.tied.quiet idle);
     rows_within = w.tied.rows_within;
   };
@@ -157,7 +159,7 @@ whole_end c x id spare log w = record {
     floor_within = w.tied.floor_within;
     begins = all_without _ id _ w.tied.begins;
     all_installed = λ active frozen. rw (ap (λ s. s.flushed) more) (w.tied.all_installed active frozen);
-    tables = subst (λ (ts : List (Ulid × List ℕ)). AreHandles ts x.tables) (sym (tables_same c.events e refl)) w.tied.tables;
+    runs = subst (λ (rs : List (List (Ulid × List ℕ))). AreRuns rs x.runs) (sym (runs_same c.events e refl)) w.tied.runs;
     quiet = λ idle. quiet_more c.events e refl refl (w.tied.quiet idle);
     rows_within = w.tied.rows_within;
   };
@@ -191,7 +193,7 @@ whole_note c x id ts w = record {
     floor_within = w.tied.floor_within;
     begins = update_all _ id with_steps c.state.txns (λ p h. h) w.tied.begins;
     all_installed = w.tied.all_installed;
-    tables = w.tied.tables;
+    runs = w.tied.runs;
     quiet = w.tied.quiet;
     rows_within = w.tied.rows_within;
   };
@@ -218,7 +220,7 @@ whole_freeze c x spare freeze log layers w = record {
     floor_within = w.tied.floor_within;
     begins = w.tied.begins;
     all_installed = λ active frozen. absurd (none_behind c.frozen c.active frozen);
-    tables = subst (λ (ts : List (Ulid × List ℕ)). AreHandles ts x.tables) (sym (tables_same c.events events.Freeze refl)) w.tied.tables;
+    runs = subst (λ (rs : List (List (Ulid × List ℕ))). AreRuns rs x.runs) (sym (runs_same c.events events.Freeze refl)) w.tied.runs;
     quiet = λ idle. quiet_frozen c.events;
     rows_within = all_more _ (memory c) [] w.tied.rows_within tt;
   };
@@ -251,7 +253,7 @@ whole_write c x now ops rows spare some within log layers w = record {
     floor_within = let h : c.floor ≤ x.last = w.tied.floor_within in omega arith;
     begins = all_map _ _ (λ p h. (h.0, let k : p.1.begin ≤ x.last = h.1 in omega arith)) _ w.tied.begins;
     all_installed = λ active frozen. absurd (some active);
-    tables = subst (λ (ts : List (Ulid × List ℕ)). AreHandles ts x.tables) (sym (tables_same c.events e refl)) w.tied.tables;
+    runs = subst (λ (rs : List (List (Ulid × List ℕ))). AreRuns rs x.runs) (sym (runs_same c.events e refl)) w.tied.runs;
     quiet = λ idle. absurd (some idle);
     rows_within = all_more _ c.frozen rows (all_map _ _ (λ layer h. all_map _ _ higher layer h) c.frozen (all_front _ c.frozen (c.active ∷ []) w.tied.rows_within)) within;
   };
@@ -277,19 +279,13 @@ least_each n floor last [] h = tt
 least_each n floor last (p ∷ ps) h =
     ((let k : least_begin (min n p.1.begin) ps ≤ min n p.1.begin = least_within (min n p.1.begin) ps in omega arith, h.0.1), least_each (min n p.1.begin) floor last ps h.1)
 
-handles_more : (ts : List (Ulid × List ℕ)) (hs : List SsTableHandle) (t : Ulid × List ℕ) (h : SsTableHandle) → AreHandles ts hs → IsHandle t h → AreHandles (ts ++ (t ∷ [])) (hs ++ (h ∷ []))
-handles_more [] [] t h are is = (is, tt)
-handles_more (x ∷ ts) (y ∷ hs) t h are is = (are.0, handles_more ts hs t h are.1 is)
-handles_more [] (y ∷ hs) t h are is = absurd are
-handles_more (x ∷ ts) [] t h are is = absurd are
+abbrev pub with_run : Unseen → SortedRun → ℕ → ℕ → Unseen
+with_run x run freeze room = record x { installs = x.installs + 1; runs = x.runs ++ (run ∷ []); for_freeze = freeze; for_run = room }
 
-abbrev pub with_table : Unseen → SsTableHandle → ℕ → ℕ → Unseen
-with_table x h freeze table = record x { installs = x.installs + 1; tables = x.tables ++ (h ∷ []); for_freeze = freeze; for_table = table }
-
-pub whole_install : (c : CoreModel) (x : Unseen) (t : Ulid × List ℕ) (h : SsTableHandle) (spare freeze table : ℕ) → IsHandle t h →
-    IsLog (log_of (after_install c x.last t spare) (with_table x h freeze table)) → AreLayers (layers_of (after_install c x.last t spare) (with_table x h freeze table)) → IsWhole c x →
-    IsWhole (after_install c x.last t spare) (with_table x h freeze table)
-whole_install c x t h spare freeze table kept log layers w = record {
+pub whole_install : (c : CoreModel) (x : Unseen) (ts : List (Ulid × List ℕ)) (run : SortedRun) (spare freeze room : ℕ) → IsRun ts run →
+    IsLog (log_of (after_install c x.last ts spare) (with_run x run freeze room)) → AreLayers (layers_of (after_install c x.last ts spare) (with_run x run freeze room)) → IsWhole c x →
+    IsWhole (after_install c x.last ts spare) (with_run x run freeze room)
+whole_install c x ts run spare freeze room kept log layers w = record {
   log = log;
   layers = layers;
   tied = record {
@@ -300,14 +296,14 @@ whole_install c x t h spare freeze table kept log layers w = record {
     floor_within = least_within x.last c.state.txns;
     begins = least_each x.last c.floor x.last c.state.txns w.tied.begins;
     all_installed = λ active frozen. ap (λ i. up_to i c.state.commits) (ap (λ s. s.flushed) more) ∙ all_up_to c.settings.start_seq x.last c.state.commits w.log.rising (let l : x.last ≡ last_of c.settings.start_seq c.state.commits = w.log.last in omega arith);
-    tables = subst (λ (ts : List (Ulid × List ℕ)). AreHandles ts (x.tables ++ (h ∷ []))) (sym (tables_more c.events e)) (handles_more (tables_of c.events) x.tables t h w.tied.tables kept);
+    runs = subst (λ (rs : List (List (Ulid × List ℕ))). AreRuns rs (x.runs ++ (run ∷ []))) (sym (runs_more c.events e)) (run_more (runs_of c.events) x.runs ts run w.tied.runs kept);
     quiet = λ idle. quiet_more c.events e refl refl (w.tied.quiet idle);
     rows_within = all_behind _ c.frozen (c.active ∷ []) w.tied.rows_within;
   };
 }
   where
     e : Event
-    e = events.Install x.last (t ∷ [])
+    e = events.Install x.last ts
 
     more : replay (c.events ++ (e ∷ [])) ≡ apply (replay c.events) e
     more = apply_more opening c.events e
@@ -325,15 +321,15 @@ whole_flushed c x log w = record {
     floor_within = w.tied.floor_within;
     begins = w.tied.begins;
     all_installed = w.tied.all_installed;
-    tables = w.tied.tables;
+    runs = w.tied.runs;
     quiet = w.tied.quiet;
     rows_within = w.tied.rows_within;
   };
 }
 
 -- room was made in the parts
-pub whole_room : (c : CoreModel) (x : Unseen) (spare freeze table : ℕ) → IsLog (log_of (record c { spare = spare }) x) → IsWhole c x → IsWhole (record c { spare = spare }) (record x { for_freeze = freeze; for_table = table })
-whole_room c x spare freeze table log w = record {
+pub whole_room : (c : CoreModel) (x : Unseen) (spare freeze room : ℕ) → IsLog (log_of (record c { spare = spare }) x) → IsWhole c x → IsWhole (record c { spare = spare }) (record x { for_freeze = freeze; for_run = room })
+whole_room c x spare freeze room log w = record {
   log = log;
   layers = record { active_order = w.layers.active_order; frozen_order = w.layers.frozen_order; frozen_some = w.layers.frozen_some; fit = w.layers.fit; rise = w.layers.rise };
   tied = record {
@@ -344,7 +340,7 @@ whole_room c x spare freeze table log w = record {
     floor_within = w.tied.floor_within;
     begins = w.tied.begins;
     all_installed = w.tied.all_installed;
-    tables = w.tied.tables;
+    runs = w.tied.runs;
     quiet = w.tied.quiet;
     rows_within = w.tied.rows_within;
   };

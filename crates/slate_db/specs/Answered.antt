@@ -3,7 +3,8 @@
 --     AnswersAs os before after      the store tells its acts, and answered each read of a call by the objects; before, after: the acts that it tells
 --     Answering os objects before after      the store holds the objects, or tells its acts, and answered each read of a call by them
 --     AnswersFrom os before after      the same of what a call reaches
---     AddsTables old new before after      of two lists of tables the second has no more, and no act was told, or one more, and its put was
+--     AddsPuts ts before after      of what a store tells of its acts: the puts of these tables were added, in order
+--     AddsTables old new before after      of two lists of tables the second has some more, and their puts were told
 use Rattle.std.specs.Prelude.{◌≡◌, ◌⊎◌, ℕ, List, [], ◌∷◌, ◌++◌, Option, Some}
 use Rattle.std.specs.List.{AllByRecursion}
 use Rattle.slate_types.specs.declared.types.Ulid.{Ulid}
@@ -30,5 +31,9 @@ Answering os objects before after = (objects ≡ Some os) ⊎ AnswersAs os befor
 abbrev pub AnswersFrom : Objects → Reach → Reach → Type 0
 AnswersFrom os before after = Answering os before.objects before.acts after.acts
 
+abbrev pub AddsPuts : List (Ulid × List ℕ) → Option (List Act) → Option (List Act) → Type 0
+AddsPuts [] before after = after ≡ before
+AddsPuts (t ∷ ts) before after = (middle : Option (List Act)) × AddsAct before (Act.put (path_of root t.0.0) t.1) middle × AddsPuts ts middle after
+
 abbrev pub AddsTables : List (Ulid × List ℕ) → List (Ulid × List ℕ) → Option (List Act) → Option (List Act) → Type 0
-AddsTables old new before after = ((new ≡ old) × (after ≡ before)) ⊎ ((t : Ulid × List ℕ) × (new ≡ old ++ (t ∷ [])) × AddsAct before (Act.put (path_of root t.0.0) t.1) after)
+AddsTables old new before after = (ts : List (Ulid × List ℕ)) × (new ≡ old ++ ts) × AddsPuts ts before after

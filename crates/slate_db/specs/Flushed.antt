@@ -3,13 +3,17 @@
 --     CanFlush layers      there are memtables, each with rows, which fit a table and of each key rise from memtable to memtable
 --     events_of_flush active frozen      how many events a flush adds
 --     Layout, layout_of options      how a flush cuts and spells rows
---     IsTableOfFlush ..      a table is built of the folded rows, under the id of its flush
---     IsPut ..      that table was put, and these are what an install names and what is kept of it
---     TakesTable t before after, MayTakeTable      the store took the table at its path; or it may have
---     IsTooLarge layout rows e      a table of some first rows would have too many blocks
---     after_install c n t spare      the core after the table t was installed through n
+--     IsTableAt .. place rows t, AreTablesAt      a table is built of these rows, under the id of its flush and its place; tables are, one of each list
+--     AreFirstTables .. left tables      the folded rows are cut into tables, of which these are the first, and the rows of the others are left
+--     AreTablesOfFlush, AreSomeOfFlush      these are all of them; or some first ones
+--     with_tables os ts, TakesTables ts before after      objects with these tables at their paths, in order; the store took them
+--     MayTakeTables P before after      the store is as it was, or took such tables
+--     IsPut ..      the tables of a flush were put, and these are what an install names and what is kept of them
+--     IsTooLarge layout rows e      a table of some first of the rows would have too many blocks
+--     HasTooLarge layout rows e      so would one of the tables into which the rows are cut
+--     after_install c n ts spare      the core after the tables were installed through n
 --     MayFlush encode layout c before after      what a refused flush leaves of the objects
---     TooLarge layout c e      the table of all rows in memory would have too many blocks; so there is much in memory
+--     TooLarge layout c e      a table of the rows in memory would have too many blocks; so there is much in memory
 --     IsFlushed encode layout old new n before after      a flush behind its freeze, with the store's objects before and after
 --     NoPlace n c, NoPlaceToFlush c      the journal has no place for so many events more, and for those of a flush
 --     of what a call reaches before and after it:
@@ -26,7 +30,6 @@ use Rattle.slate_types.specs.Fold.{fold_rows}
 use Rattle.slate_types.specs.Outside.{Objects, IsFault, Reach}
 use Rattle.slate_block.specs.BlockSpelling.{as_read}
 use Rattle.slate_store.specs.Store.{with_object}
-use Rattle.slate_table.specs.declared.info.SsTableHandle.{SsTableHandle}
 use Rattle.slate_table.specs.Parts.{Encode}
 use Rattle.slate_table.specs.Table.{AreInOrder, IsBuilt, cut}
 use Rattle.slate_table.specs.TableBuilding.{max_blocks}
@@ -34,11 +37,13 @@ use Rattle.slate_table.specs.TableParts.{version_of}
 use Rattle.slate_txn.specs.declared.event.Event.TheVariants as events
 use Rattle.slate_txn.specs.Open.{least_begin}
 use Rattle.slate_txn.specs.State.{last_of}
+use Rattle.slate_read.specs.declared.sorted_run.SortedRun.{SortedRun}
+use Rattle.slate_db.specs.Cut.{AreCut}
 use Rattle.slate_db.specs.Load.{load}
 use Rattle.slate_db.specs.Meaning.{Meaning, combine_of}
 use Rattle.slate_db.specs.Model.{CoreModel, Rows, memory, versions, versions_in}
 use Rattle.slate_db.specs.Sound.{at_most, later}
-use Rattle.slate_db.specs.Installs.{tables_of, root, IsHandle}
+use Rattle.slate_db.specs.Installs.{runs_of, root, IsRun}
 use Rattle.slate_db.specs.Layers.{FitsMemory, AreRising}
 use Rattle.slate_db.specs.Log.{LIMIT}
 use Rattle.slate_table.specs.Paths.{path_of, table_id}
@@ -58,35 +63,59 @@ events_of_flush [] [] = 0
 events_of_flush [] (rows ∷ layers) = 1
 events_of_flush (r ∷ rs) layers = 2
 
--- the options of a flush: the blocks' size and the version
+-- the options of a flush: the blocks' size, the version, and the size of a table
 pub record Layout : Type 0 where
   pub block_size : ℕ
   pub version : ℕ
+  pub table_bytes : ℕ
 
 abbrev pub layout_of : Options → Layout
-layout_of o = record { block_size = o.block_size; version = version_of o.block_format }
+layout_of o = record { block_size = o.block_size; version = version_of o.block_format; table_bytes = o.table_bytes }
 
--- the rows are those of all memtables; the version reads them as they were
-pub record IsTableOfFlush (encode : Encode) (layout : Layout) (number barrier : ℕ) (layers : List Rows) (t : Ulid × List ℕ) : Type 0 where
-  pub rows : Rows
-  pub id : t.0.0 ≡ table_id number 0
-  pub folded : (m : Meaning) → IsFolded m barrier layers rows
+-- the version reads the rows as they were
+pub record IsTableAt (encode : Encode) (layout : Layout) (number place : ℕ) (rows : Rows) (t : Ulid × List ℕ) : Type 0 where
+  pub id : t.0.0 ≡ table_id number place
+  pub fits : place < 2 ^ 64
   pub built : IsBuilt encode [] 0 layout.block_size layout.version t.1 rows
   pub read : map (as_read layout.version) rows ≡ rows
 
-abbrev pub TakesTable : Ulid × List ℕ → Option Objects → Option Objects → Type 0
-TakesTable t before after = IfSome before (λ os. after ≡ Some (with_object os (path_of root t.0.0) t.1))
+-- place: that of the first
+abbrev pub AreTablesAt : Encode → Layout → ℕ → ℕ → List Rows → List (Ulid × List ℕ) → Type 0
+AreTablesAt encode layout number place [] [] = Unit {0}
+AreTablesAt encode layout number place (rows ∷ parts) (t ∷ ts) = IsTableAt encode layout number place rows t × AreTablesAt encode layout number (place + 1) parts ts
+AreTablesAt encode layout number place [] (t ∷ ts) = ⊥
+AreTablesAt encode layout number place (rows ∷ parts) [] = ⊥
 
-pub record IsPut (encode : Encode) (layout : Layout) (number barrier : ℕ) (layers : List Rows) (tables : List (Ulid × List ℕ)) (handle : SsTableHandle) (before after : Option Objects) : Type 0 where
-  pub t : Ulid × List ℕ
-  pub list : tables ≡ t ∷ []
-  pub kept : IsHandle t handle
-  pub table : IsTableOfFlush encode layout number barrier layers t
-  pub taken : TakesTable t before after
+-- rows: those of all memtables
+pub record AreFirstTables (encode : Encode) (layout : Layout) (number barrier : ℕ) (layers left : List Rows) (tables : List (Ulid × List ℕ)) : Type 0 where
+  pub rows : Rows
+  pub some : 0 < length rows
+  pub folded : (m : Meaning) → IsFolded m barrier layers rows
+  pub order : AreInOrder rows
+  pub parts : List Rows
+  pub cut : AreCut layout.table_bytes rows (parts ++ left)
+  pub built : AreTablesAt encode layout number 0 parts tables
 
--- a flush that is refused leaves the objects as they were, or put its table
-abbrev pub MayTakeTable : (Ulid × List ℕ → Type 0) → Option Objects → Option Objects → Type 0
-MayTakeTable P before after = IfSome before (λ os. (after ≡ Some os) ⊎ ((t : Ulid × List ℕ) × P t × (after ≡ Some (with_object os (path_of root t.0.0) t.1))))
+abbrev pub AreTablesOfFlush : Encode → Layout → ℕ → ℕ → List Rows → List (Ulid × List ℕ) → Type 0
+AreTablesOfFlush encode layout number barrier layers tables = AreFirstTables encode layout number barrier layers [] tables
+
+abbrev pub AreSomeOfFlush : Encode → Layout → ℕ → ℕ → List Rows → List (Ulid × List ℕ) → Type 0
+AreSomeOfFlush encode layout number barrier layers tables = (left : List Rows) × AreFirstTables encode layout number barrier layers left tables
+
+abbrev pub with_tables : Objects → List (Ulid × List ℕ) → Objects
+with_tables os [] = os
+with_tables os (t ∷ ts) = with_tables (with_object os (path_of root t.0.0) t.1) ts
+
+abbrev pub TakesTables : List (Ulid × List ℕ) → Option Objects → Option Objects → Type 0
+TakesTables ts before after = IfSome before (λ os. after ≡ Some (with_tables os ts))
+
+pub record IsPut (encode : Encode) (layout : Layout) (number barrier : ℕ) (layers : List Rows) (tables : List (Ulid × List ℕ)) (run : SortedRun) (before after : Option Objects) : Type 0 where
+  pub kept : IsRun tables run
+  pub made : AreTablesOfFlush encode layout number barrier layers tables
+  pub taken : TakesTables tables before after
+
+abbrev pub MayTakeTables : (List (Ulid × List ℕ) → Type 0) → Option Objects → Option Objects → Type 0
+MayTakeTables P before after = IfSome before (λ os. (after ≡ Some os) ⊎ ((ts : List (Ulid × List ℕ)) × P ts × (after ≡ Some (with_tables os ts))))
 
 pub record IsTooLarge (layout : Layout) (rows : Rows) (e : SlateDBError) : Type 0 where
   pub is : e ≡ LimitReached max_blocks
@@ -95,28 +124,35 @@ pub record IsTooLarge (layout : Layout) (rows : Rows) (e : SlateDBError) : Type 
   pub cut_off : rows ≡ first ++ rest
   pub passes : max_blocks < length (cut layout.block_size layout.version first)
 
-abbrev pub after_install : CoreModel → ℕ → Ulid × List ℕ → ℕ → CoreModel
-after_install c n t spare = record c {
+pub record HasTooLarge (layout : Layout) (rows : Rows) (e : SlateDBError) : Type 0 where
+  pub before : List Rows
+  pub table : Rows
+  pub behind : List Rows
+  pub cut : AreCut layout.table_bytes rows (before ++ (table ∷ behind))
+  pub large : IsTooLarge layout table e
+
+abbrev pub after_install : CoreModel → ℕ → List (Ulid × List ℕ) → ℕ → CoreModel
+after_install c n ts spare = record c {
   state = record c.state { flushed = n };
-  events = c.events ++ (events.Install n (t ∷ []) ∷ []);
+  events = c.events ++ (events.Install n ts ∷ []);
   spare = spare;
   frozen = [];
   floor = least_begin n c.state.txns;
 }
 
--- nothing to store, or one table more
+-- nothing to store, or a flush's tables more, whose number is one above that of the installs before
 pub data IsFlushed (encode : Encode) (layout : Layout) (old new : CoreModel) (n : ℕ) (before after : Option Objects) : Type 0 where
   idle : old.frozen ≡ [] → new ≡ record old { state = record old.state { flushed = n } } → after ≡ before → IsFlushed encode layout old new n before after
-  stored : (t : Ulid × List ℕ) → new ≡ after_install old n t new.spare → IsTableOfFlush encode layout (length (tables_of old.events) + 1) (least_begin n old.state.txns) old.frozen t →
-      TakesTable t before after → IsFlushed encode layout old new n before after
+  stored : (ts : List (Ulid × List ℕ)) → new ≡ after_install old n ts new.spare → AreTablesOfFlush encode layout (length (runs_of old.events) + 1) (least_begin n old.state.txns) old.frozen ts →
+      TakesTables ts before after → IsFlushed encode layout old new n before after
 
 -- what a flush that is refused behind its freeze leaves of the objects
 abbrev pub MayFlush : Encode → Layout → CoreModel → Option Objects → Option Objects → Type 0
-MayFlush encode layout c before after = MayTakeTable (IsTableOfFlush encode layout (length (tables_of c.events) + 1) (least_begin (last_of c.settings.start_seq c.state.commits) c.state.txns) c.frozen) before after
+MayFlush encode layout c before after = MayTakeTables (AreSomeOfFlush encode layout (length (runs_of c.events) + 1) (least_begin (last_of c.settings.start_seq c.state.commits) c.state.txns) c.frozen) before after
 
--- the rows that a flush would store, in the order of a table, make too large a one
+-- the rows that a flush would store make too large a table
 abbrev pub TooLarge : Layout → CoreModel → SlateDBError → Type 0
-TooLarge layout c e = (rows : Rows) × ((m : Meaning) → IsFolded m (least_begin (last_of c.settings.start_seq c.state.commits) c.state.txns) (memory c) rows) × AreInOrder rows × IsTooLarge layout rows e × (2 ^ 32 - 1 < load c)
+TooLarge layout c e = (rows : Rows) × ((m : Meaning) → IsFolded m (least_begin (last_of c.settings.start_seq c.state.commits) c.state.txns) (memory c) rows) × AreInOrder rows × HasTooLarge layout rows e × (2 ^ 32 - 1 < load c)
 
 abbrev pub NoPlace : ℕ → CoreModel → Type 0
 NoPlace n c = LIMIT < length c.events + length c.state.txns + n

@@ -1,4 +1,4 @@
--- The layers of a core: rows in memory, and what is kept of tables.
+-- The layers of a core: rows in memory, and what is kept of runs of tables.
 --     FitsMemory r      what is true of each row in memory: it fits a table as it is, and is no merge
 --     AreRising rows      of the rows of a key, oldest first: the sequences rise
 --     LayersModel      what contracts see of layers
@@ -10,7 +10,7 @@ use Rattle.slate_types.specs.declared.types.RowEntry.{RowEntry}
 use Rattle.slate_types.specs.Rows.{is_base, operand}
 use Rattle.slate_types.specs.Fold.{IsShort}
 use Rattle.slate_block.specs.BlockSpelling.{IsKey, as_read}
-use Rattle.slate_table.specs.declared.info.SsTableHandle.{SsTableHandle}
+use Rattle.slate_read.specs.declared.sorted_run.SortedRun.{SortedRun}
 use Rattle.slate_table.specs.Table.{AreInOrder}
 use Rattle.slate_db.specs.Model.{Rows, versions_in}
 
@@ -25,15 +25,15 @@ abbrev pub AreRising : Rows → Type 0
 AreRising [] = Unit {0}
 AreRising (r ∷ rs) = AllByRecursion (λ s. r.seq < s.seq) rs × AreRising rs
 
--- frozen: the oldest memtable first; tables: what is kept of those that were installed, the newest last; floor: the greatest barrier of a flush so far;
--- for_freeze, for_table: how many more of each are taken without memory
+-- frozen: the oldest memtable first; runs: what is kept of the tables of each install, the newest last; floor: the greatest barrier of a flush so far;
+-- for_freeze, for_run: how many more of each are taken without memory
 pub record LayersModel : Type 0 where
   pub active : Rows
   pub frozen : List Rows
-  pub tables : List SsTableHandle
+  pub runs : List SortedRun
   pub floor : ℕ
   pub for_freeze : ℕ
-  pub for_table : ℕ
+  pub for_run : ℕ
 
 abbrev pub in_memory : LayersModel → List Rows
 in_memory y = y.frozen ++ (y.active ∷ [])

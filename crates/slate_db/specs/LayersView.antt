@@ -7,8 +7,8 @@ abbrev pub layers_view : Inside → LayersModel
 layers_view s = record {
   active = s.active.rows;
   frozen = map (λ t. t.rows) s.frozen.items;
-  tables = s.tables.items;
+  runs = s.runs.items;
   floor = s.floor;
   for_freeze = vec_capacity s.frozen - vec_len s.frozen;
-  for_table = vec_capacity s.tables - vec_len s.tables;
+  for_run = vec_capacity s.runs - vec_len s.runs;
 }

@@ -2,6 +2,7 @@ pub mod StoredTable
 pub mod Asked
 pub mod Meaning
 pub mod Model
+pub mod Cut
 pub mod Installs
 pub mod Sound
 pub mod StoredState
@@ -11,6 +12,7 @@ pub mod Whole
 pub mod Frozen
 pub mod Load
 pub mod Flushed
+pub mod StoredParts
 pub mod Written
 pub mod Lookup
 pub mod LogView

@@ -23,7 +23,7 @@ use Rattle.slate_txn.specs.Ids.{id_of, IsOfCount}
 use Rattle.slate_txn.specs.Reads.{up_to}
 use Rattle.slate_txn.specs.Replay.{replay, used_from, IsLegal}
 use Rattle.slate_txn.specs.State.{Commit, State, last_of}
-use Rattle.slate_db.specs.Installs.{tables_of, installed, NumberedFrom}
+use Rattle.slate_db.specs.Installs.{runs_of, installed, NumberedFrom}
 
 abbrev pub LIMIT : ℕ
 LIMIT = 9223372036854775807
@@ -44,8 +44,8 @@ pub record IsWhollyKept (ops : Ops) : Type 0 where
   pub kept : kept_ops ops ≡ ops
   pub fine : AreFine ops
 
--- start: where sequences start; last: the newest sequence; flushed: the newest one at the last flush; ids, installs: how many ids were given, and tables
--- installed; ends: how many are open; spare: how many more events the journal takes without memory
+-- start: where sequences start; last: the newest sequence; flushed: the newest one at the last flush; ids, installs: how many ids were given, and
+-- installs made; ends: how many are open; spare: how many more events the journal takes without memory
 pub record LogModel : Type 0 where
   pub start : ℕ
   pub last : ℕ
@@ -75,8 +75,8 @@ pub record IsLog (l : LogModel) : Type 0 where
   pub installed_within : installed l.events ≤ l.last
   pub flushed_within : l.flushed ≤ l.last
   pub flushed_through : up_to l.flushed l.commits ≡ up_to (installed l.events) l.commits
-  pub numbered : NumberedFrom 1 (tables_of l.events)
-  pub installs : l.installs ≡ length (tables_of l.events)
+  pub numbered : NumberedFrom 1 (runs_of l.events)
+  pub installs : l.installs ≡ length (runs_of l.events)
   pub installs_within : l.installs ≤ length l.events
   pub ends : l.ends ≡ ends_of (replay l.events)
   pub room : l.ends ≤ l.spare
@@ -105,8 +105,8 @@ with_write l now ops spare = record l {
   spare = spare;
 }
 
-abbrev pub with_install : LogModel → Ulid × List ℕ → ℕ → LogModel
-with_install l t spare = record l { flushed = l.last; installs = l.installs + 1; events = l.events ++ (events.Install l.last (t ∷ []) ∷ []); spare = spare }
+abbrev pub with_install : LogModel → List (Ulid × List ℕ) → ℕ → LogModel
+with_install l ts spare = record l { flushed = l.last; installs = l.installs + 1; events = l.events ++ (events.Install l.last ts ∷ []); spare = spare }
 
 -- where nothing is to be installed
 abbrev pub with_flush : LogModel → LogModel

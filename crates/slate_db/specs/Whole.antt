@@ -6,13 +6,13 @@
 --     IsWhole c x      the parts are whole, and tied
 use Rattle.std.specs.Prelude.{◌≡◌, ℕ, ◌≤◌, List, [], map}
 use Rattle.std.specs.List.{AllByRecursion}
-use Rattle.slate_table.specs.declared.info.SsTableHandle.{SsTableHandle}
+use Rattle.slate_read.specs.declared.sorted_run.SortedRun.{SortedRun}
 use Rattle.slate_txn.specs.Ids.{IsOfCount}
 use Rattle.slate_txn.specs.Places.{IsQuiet}
 use Rattle.slate_txn.specs.Reads.{up_to}
 use Rattle.slate_txn.specs.Replay.{replay}
 use Rattle.slate_txn.specs.State.{Tx}
-use Rattle.slate_db.specs.Installs.{tables_of, installed, as_begun, AreHandles}
+use Rattle.slate_db.specs.Installs.{runs_of, installed, as_begun, AreRuns}
 use Rattle.slate_db.specs.Layers.{LayersModel, AreLayers}
 use Rattle.slate_db.specs.Log.{LogModel, IsLog}
 use Rattle.slate_db.specs.Model.{CoreModel, memory}
@@ -25,15 +25,15 @@ pub record Unseen : Type 0 where
   pub ids : ℕ
   pub installs : ℕ
   pub ends : ℕ
-  pub tables : List SsTableHandle
+  pub runs : List SortedRun
   pub for_freeze : ℕ
-  pub for_table : ℕ
+  pub for_run : ℕ
 
 abbrev pub log_of : CoreModel → Unseen → LogModel
 log_of c x = record { start = c.settings.start_seq; last = x.last; flushed = c.state.flushed; ids = x.ids; installs = x.installs; ends = x.ends; commits = c.state.commits; events = c.events; spare = c.spare }
 
 abbrev pub layers_of : CoreModel → Unseen → LayersModel
-layers_of c x = record { active = c.active; frozen = c.frozen; tables = x.tables; floor = c.floor; for_freeze = x.for_freeze; for_table = x.for_table }
+layers_of c x = record { active = c.active; frozen = c.frozen; runs = x.runs; floor = c.floor; for_freeze = x.for_freeze; for_run = x.for_run }
 
 pub record AreTied (c : CoreModel) (x : Unseen) : Type 0 where
   pub txns : (replay c.events).txns ≡ map as_begun c.state.txns
@@ -43,7 +43,7 @@ pub record AreTied (c : CoreModel) (x : Unseen) : Type 0 where
   pub floor_within : c.floor ≤ x.last
   pub begins : AllByRecursion (λ p. BeginsWithin c.floor x.last p) c.state.txns
   pub all_installed : c.active ≡ [] → c.frozen ≡ [] → up_to (installed c.events) c.state.commits ≡ c.state.commits
-  pub tables : AreHandles (tables_of c.events) x.tables
+  pub runs : AreRuns (runs_of c.events) x.runs
   pub quiet : c.active ≡ [] → IsQuiet c.events
   pub rows_within : AllByRecursion (λ rows. AllByRecursion (λ r. r.seq ≤ x.last) rows) (memory c)
 

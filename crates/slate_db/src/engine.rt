@@ -35,7 +35,7 @@ ghost use Rattle.slate_db.specs.Written.{IsWritten};
 use crate::flush::stored;
 use crate::layers::Layers;
 use crate::log::Log;
-use crate::lookup::newest_of_tables;
+use crate::lookup::newest_of_runs;
 use bytes::Bytes;
 use slate_mem::WriteBatch;
 use slate_mem::fold::answer;
@@ -190,12 +190,12 @@ impl Core {
         Ok(Some(seq))
     }
 
-    /// Freezes, stores the rows that wait as one table, and gives the newest sequence. Of each key the rows at or below the
+    /// Freezes, stores the rows that wait as tables, and gives the newest sequence. Of each key the rows at or below the
     /// barrier, which is the least begin of an open transaction or else the newest sequence, become their fold. Where no
     /// rows are in memory nothing is stored. Refuses by `LimitReached` where the journal has no place for the events, and
-    /// then nothing is changed, or where the table would pass a limit; by `StoreFault` and `BlockTransformError`, each only
+    /// then nothing is changed, or where a table would pass a limit; by `StoreFault` and `BlockTransformError`, each only
     /// where its count of faults rose, and then the rows are frozen; and by `OutOfMemory`. Else the rows are in memory as
-    /// before, or frozen, and the store's objects are as they were, or have the table, which no event names.
+    /// before, or frozen, and the store's objects are as they were, or have some first of the tables, which no event names.
     pub fn flush<S: Store, M: MergeOperator, T: BlockTransformer>(
         &mut self,
         env: &mut Env<'_, S, M, T>,
@@ -235,7 +235,7 @@ impl Core {
         self.log.place(self.layers.events_of_flush())
     }
 
-    /// Stores the frozen rows as a table.
+    /// Stores the frozen rows as a run of tables.
     fn install<S: Store, M: MergeOperator, T: BlockTransformer>(
         &mut self,
         env: &mut Env<'_, S, M, T>,
@@ -255,7 +255,7 @@ impl Core {
         ensures operator { env.new.operator ≡ env.old.operator }
         ensures puts { let reach = ⟦<EnvOf<S, M, T> as Outside>⟧.reach in Puts (reach env.old) (reach env.new) }
     {
-        self.log.reserve().and(self.layers.reserve_table())?;
+        self.log.reserve().and(self.layers.reserve_run())?;
         let barrier = self.transactions.barrier(self.log.last());
         let number = self.log.next_install();
         let put = stored(
@@ -289,10 +289,10 @@ impl Core {
             key,
             at,
         )?;
-        let found = newest_of_tables(
+        let found = newest_of_runs(
             self.alloc,
             near,
-            self.layers.tables(),
+            self.layers.runs(),
             key.as_slice(),
             at,
             env,

@@ -1,4 +1,4 @@
-//! The table of a flush.
+//! The tables of a flush.
 ghost use Rattle.std.specs.Prelude.{◌≡◌, ◌≤◌, ◌<◌, ◌⊎◌, ◌∷◌, ℕ, List, [], map, length, OnOk, OnErr, IfOk, IfErr, IsOkUnless};
 ghost use Rattle.std.specs.List.{AllByRecursion};
 ghost use Rattle.slate_types.specs.Config.{IsValid};
@@ -12,15 +12,19 @@ ghost use Rattle.slate_table.specs.TableEnd.{HasInfo};
 ghost use Rattle.slate_table.specs.TableParts.{version_of};
 ghost use Rattle.slate_table.specs.Parts.{Encode};
 ghost use Rattle.slate_table.specs.Reading.{IsStoreFault};
-ghost use Rattle.slate_db.specs.Answered.{AddsTables};
-ghost use Rattle.slate_db.specs.Flushed.{layout_of, CanFlush, IsFolded, IsPut, IsTableOfFlush, IsTooLarge, Layout, MayTakeTable};
+ghost use Rattle.slate_db.specs.Answered.{AddsPuts};
+ghost use Rattle.slate_db.specs.Flushed.{layout_of, AreSomeOfFlush, CanFlush, HasTooLarge, IsFolded, IsPut, IsTableAt, IsTooLarge, Layout, MayTakeTables};
+ghost use Rattle.slate_db.specs.StoredParts.{AreFirstParts, ArePartsPut, CanBuild, IsOneTable, IsPartTooLarge, IsPlace, IsTablePut};
 ghost use Rattle.slate_db.specs.Meaning.{Meaning};
 ghost use Rattle.slate_db.specs.Model.{Rows};
 ghost use Rattle.slate_db.specs.Layers.{FitsMemory};
 
+use crate::cut::cut_tables;
 use crate::gather::rows_of_flush;
 use crate::lookup::are_bytes;
+use bytes::Bytes;
 use slate_mem::ImmutableMemtable;
+use slate_read::SortedRun;
 use slate_store::{Env, EnvOf, Store};
 use slate_table::{
     EncodedSsTable, EncodedSsTableBuilder, SsTableFormat, SsTableHandle, TableStore,
@@ -34,10 +38,10 @@ use std::alloc::Global;
 /// The folder of the store's objects.
 pub const ROOT: &str = "db";
 
-/// Stores the rows of memtables, of which the newest stands last, as the table of the flush with this number, and gives what an
-/// install names and what is kept of the table. `StoreFault` and `BlockTransformError`, each only where its count of
-/// faults rose; `LimitReached` where the table would have too many blocks; or
-/// `OutOfMemory`. Then the store is as it was, or has the table.
+/// Stores the rows of memtables, of which the newest stands last, as the tables of the flush with this number, and gives what an
+/// install names and what is kept of them. `StoreFault` and `BlockTransformError`, each only where its count of
+/// faults rose; `LimitReached` where a table would have too many blocks; or
+/// `OutOfMemory`. Then the store is as it was, or has some first of the tables.
 pub fn stored<S: Store, M: MergeOperator, T: BlockTransformer>(
     alloc: Global,
     frozen: &[ImmutableMemtable],
@@ -45,20 +49,73 @@ pub fn stored<S: Store, M: MergeOperator, T: BlockTransformer>(
     number: u64,
     options: &Options,
     env: &mut Env<'_, S, M, T>,
-) -> Result<(TableList, SsTableHandle), SlateDBError>
+) -> Result<(TableList, SortedRun), SlateDBError>
     requires valid { IsValid options.now }
     requires ready { CanFlush (map (λ t. t.rows) frozen.now) }
     ensures stored { let reach = ⟦<EnvOf<S, M, T> as Outside>⟧.reach in IfOk result (λ a. IsPut (reach env.old).meaning.encode (layout_of options.now) number barrier (map (λ t. t.rows) frozen.now) a.0 a.1 (reach env.old).objects (reach env.new).objects) }
-    ensures acts { let reach = ⟦<EnvOf<S, M, T> as Outside>⟧.reach in IfOk result (λ a. AddsTables [] a.0 (reach env.old).acts (reach env.new).acts) }
-    ensures refused { let reach = ⟦<EnvOf<S, M, T> as Outside>⟧.reach in OnErr result (MayTakeTable (IsTableOfFlush (reach env.old).meaning.encode (layout_of options.now) number barrier (map (λ t. t.rows) frozen.now)) (reach env.old).objects (reach env.new).objects) }
+    ensures acts { let reach = ⟦<EnvOf<S, M, T> as Outside>⟧.reach in IfOk result (λ a. AddsPuts a.0 (reach env.old).acts (reach env.new).acts) }
+    ensures refused { let reach = ⟦<EnvOf<S, M, T> as Outside>⟧.reach in OnErr result (MayTakeTables (AreSomeOfFlush (reach env.old).meaning.encode (layout_of options.now) number barrier (map (λ t. t.rows) frozen.now)) (reach env.old).objects (reach env.new).objects) }
     ensures cause { let reach = ⟦<EnvOf<S, M, T> as Outside>⟧.reach in IfErr result (λ e. IsFault (reach env.old) (reach env.new) e
-        ⊎ ((rows : Rows) × ((m : Meaning) → IsFolded m barrier (map (λ t. t.rows) frozen.now) rows) × AreInOrder rows × IsTooLarge (layout_of options.now) rows e)) }
+        ⊎ ((rows : Rows) × ((m : Meaning) → IsFolded m barrier (map (λ t. t.rows) frozen.now) rows) × AreInOrder rows × HasTooLarge (layout_of options.now) rows e)) }
     ensures operator { env.new.operator ≡ env.old.operator }
     ensures puts { let reach = ⟦<EnvOf<S, M, T> as Outside>⟧.reach in Puts (reach env.old) (reach env.new) }
 {
     let rows = rows_of_flush(alloc, frozen, barrier)?;
+    let parts = cut_tables(alloc, rows, options.table_bytes)?;
+    stored_run(alloc, number, parts, options, env)
+}
+
+/// Stores a table of each of these lists of rows.
+fn stored_run<S: Store, M: MergeOperator, T: BlockTransformer>(
+    alloc: Global,
+    number: u64,
+    parts: Vec<Vec<RowEntry>>,
+    options: &Options,
+    env: &mut Env<'_, S, M, T>,
+) -> Result<(TableList, SortedRun), SlateDBError>
+    requires valid { IsValid options.now }
+    requires each { AllByRecursion CanBuild (map (λ t. t.items) parts.items) }
+    ensures stored { let reach = ⟦<EnvOf<S, M, T> as Outside>⟧.reach in IfOk result (λ a. ArePartsPut (reach env.old).meaning.encode (layout_of options.now) number (map (λ t. t.items) parts.items) a.0 a.1.tables.items (reach env.old).objects (reach env.new).objects) }
+    ensures acts { let reach = ⟦<EnvOf<S, M, T> as Outside>⟧.reach in IfOk result (λ a. AddsPuts a.0 (reach env.old).acts (reach env.new).acts) }
+    ensures prefix { IfOk result (λ a. a.1.prefix ≡ []) }
+    ensures refused { let reach = ⟦<EnvOf<S, M, T> as Outside>⟧.reach in OnErr result (MayTakeTables (AreFirstParts (reach env.old).meaning.encode (layout_of options.now) number (map (λ t. t.items) parts.items)) (reach env.old).objects (reach env.new).objects) }
+    ensures cause { let reach = ⟦<EnvOf<S, M, T> as Outside>⟧.reach in IfErr result (λ e. IsFault (reach env.old) (reach env.new) e ⊎ IsPartTooLarge (layout_of options.now) (map (λ t. t.items) parts.items) e) }
+    ensures operator { env.new.operator ≡ env.old.operator }
+    ensures puts { let reach = ⟦<EnvOf<S, M, T> as Outside>⟧.reach in Puts (reach env.old) (reach env.new) }
+{
+    let mut tables = Vec::with_capacity(alloc, parts.len())?;
+    let mut kept = Vec::with_capacity(alloc, parts.len())?;
+    for rows in parts {
+        let id = Ulid(number as u128 * 18446744073709551616 + tables.len() as u128);
+        let (table, handle) = stored_table(alloc, id, rows, options, env)?;
+        tables.push_reserved(table);
+        kept.push_reserved(handle);
+    }
+    let run = SortedRun {
+        prefix: Bytes::new(),
+        tables: kept,
+    };
+    Ok((TableList::from_vec(tables), run))
+}
+
+/// Stores a table of these rows under this id, and gives what an install names and what is kept of it.
+fn stored_table<S: Store, M: MergeOperator, T: BlockTransformer>(
+    alloc: Global,
+    id: Ulid,
+    rows: Vec<RowEntry>,
+    options: &Options,
+    env: &mut Env<'_, S, M, T>,
+) -> Result<((Ulid, Bytes), SsTableHandle), SlateDBError>
+    requires valid { IsValid options.now }
+    requires ready { CanBuild rows.items }
+    ensures stored { let reach = ⟦<EnvOf<S, M, T> as Outside>⟧.reach in (number place : ℕ) → IsPlace id number place → IfOk result (λ a. IsTablePut (reach env.old).meaning.encode (layout_of options.now) number place rows.items a.0 a.1 (reach env.old).objects (reach env.new).objects) }
+    ensures acts { let reach = ⟦<EnvOf<S, M, T> as Outside>⟧.reach in IfOk result (λ a. AddsPuts (a.0 ∷ []) (reach env.old).acts (reach env.new).acts) }
+    ensures refused { let reach = ⟦<EnvOf<S, M, T> as Outside>⟧.reach in (number place : ℕ) → IsPlace id number place → OnErr result (MayTakeTables (IsOneTable (reach env.old).meaning.encode (layout_of options.now) number place rows.items) (reach env.old).objects (reach env.new).objects) }
+    ensures cause { let reach = ⟦<EnvOf<S, M, T> as Outside>⟧.reach in IfErr result (λ e. IsFault (reach env.old) (reach env.new) e ⊎ IsTooLarge (layout_of options.now) rows.items e) }
+    ensures operator { env.new.operator ≡ env.old.operator }
+    ensures puts { let reach = ⟦<EnvOf<S, M, T> as Outside>⟧.reach in Puts (reach env.old) (reach env.new) }
+{
     let table = built(alloc, rows, options, &mut env.transformer)?;
-    let id = Ulid(number as u128 * 18446744073709551616);
     let kept = put(alloc, id, &table, env.store);
     drop(table);
     kept
@@ -70,30 +127,27 @@ fn put<S: Store>(
     id: Ulid,
     table: &EncodedSsTable,
     store: &mut S,
-) -> Result<(TableList, SsTableHandle), SlateDBError>
-    ensures stored { (encode : Encode) (layout : Layout) (number barrier : ℕ) (layers : List Rows) → IsTableOfFlush encode layout number barrier layers (id, table.now.bytes) → (layout.version ≡ 1) ⊎ (layout.version ≡ 2) → table.now.version ≡ layout.version → HasInfo table.now.bytes layout.version (seen_info table.now.info)
-        → IfOk result (λ a. IsPut encode layout number barrier layers a.0 a.1 (S.objects store.old) (S.objects store.new)) }
-    ensures acts { IfOk result (λ a. AddsTables [] a.0 (S.acts store.old) (S.acts store.new)) }
-    ensures refused { (encode : Encode) (layout : Layout) (number barrier : ℕ) (layers : List Rows) → IsTableOfFlush encode layout number barrier layers (id, table.now.bytes) → OnErr result (MayTakeTable (IsTableOfFlush encode layout number barrier layers) (S.objects store.old) (S.objects store.new)) }
+) -> Result<((Ulid, Bytes), SsTableHandle), SlateDBError>
+    ensures stored { (encode : Encode) (layout : Layout) (number place : ℕ) (rows : Rows) → IsTableAt encode layout number place rows (id, table.now.bytes) → (layout.version ≡ 1) ⊎ (layout.version ≡ 2) → table.now.version ≡ layout.version → HasInfo table.now.bytes layout.version (seen_info table.now.info)
+        → IfOk result (λ a. IsTablePut encode layout number place rows a.0 a.1 (S.objects store.old) (S.objects store.new)) }
+    ensures acts { IfOk result (λ a. AddsPuts (a.0 ∷ []) (S.acts store.old) (S.acts store.new)) }
+    ensures refused { (encode : Encode) (layout : Layout) (number place : ℕ) (rows : Rows) → IsTableAt encode layout number place rows (id, table.now.bytes) → OnErr result (MayTakeTables (IsOneTable encode layout number place rows) (S.objects store.old) (S.objects store.new)) }
     ensures cause { IfErr result (λ e. IsStoreFault (S.faults store.old) (S.faults store.new) e) }
     ensures later { S.faults store.old ≤ S.faults store.new }
 {
-    let tables = list_of(alloc, id, table)?;
+    let bytes = bytes_of(table)?;
     let handle = TableStore::put_table(alloc, store, ROOT, id, table)?;
-    Ok((tables, handle))
+    Ok(((id, bytes), handle))
 }
 
-/// The list of one table.
-fn list_of(alloc: Global, id: Ulid, table: &EncodedSsTable) -> Result<TableList, SlateDBError>
-    ensures list { IfOk result (λ list. list ≡ (id, table.now.bytes) ∷ []) }
-    ensures bytes { OnOk result (EachIsAByte table.now.bytes) }
+/// The bytes of a table.
+fn bytes_of(table: &EncodedSsTable) -> Result<Bytes, SlateDBError>
+    ensures bytes { IfOk result (λ bytes. (bytes ≡ table.now.bytes) × EachIsAByte bytes) }
     ensures cause { IsOkUnless result SlateDBError.OutOfMemory }
 {
     let bytes = table.remaining_as_bytes()?;
     are_bytes(bytes.as_slice());
-    let mut tables = Vec::new(alloc);
-    tables.push((id, bytes))?;
-    Ok(TableList::from_vec(tables))
+    Ok(bytes)
 }
 
 /// The table of these rows, without filters. `BlockTransformError`, only where the transformer's count of faults rose;
@@ -105,9 +159,7 @@ pub fn built<T: BlockTransformer>(
     transformer: &mut Option<T>,
 ) -> Result<EncodedSsTable, SlateDBError>
     requires valid { IsValid options.now }
-    requires some { 0 < length rows.items }
-    requires order { AreInOrder rows.items }
-    requires fit { AllByRecursion FitsMemory rows.items }
+    requires ready { CanBuild rows.items }
     ensures built { IfOk result (λ table. IsBuilt (changed_by T.encoded transformer.old) [] 0 options.now.block_size (version_of options.now.block_format) table.bytes rows.items) }
     ensures version { IfOk result (λ table. table.version ≡ version_of options.now.block_format) }
     ensures info { IfOk result (λ table. HasInfo table.bytes (version_of options.now.block_format) (seen_info table.info)) }

@@ -1,4 +1,4 @@
-//! The layers of rows: the memtables, and what is kept of tables.
+//! The layers of rows: the memtables, and what is kept of runs of tables.
 ghost use Rattle.std.specs.Prelude.{◌≡◌, ◌≢◌, ◌≤◌, ◌<◌, ◌∷◌, ◌++◌, [], ℕ, List, map, length, IsTrue, ◌↔◌, OnOk, OnErr, IsOkUnless};
 ghost use Rattle.std.specs.List.{AllByRecursion};
 ghost use Rattle.slate_types.specs.declared.error.SlateDBError.{SlateDBError};
@@ -8,20 +8,20 @@ ghost use Rattle.slate_db.specs.Layers.{AreLayers, AreRising, FitsMemory};
 ghost use Rattle.slate_db.specs.Model.{versions_in};
 
 use slate_mem::{ImmutableMemtable, MemTable};
-use slate_table::SsTableHandle;
+use slate_read::SortedRun;
 use slate_types::{RowEntry, SlateDBError};
 use std::alloc::{AllocError, Global};
 use std::collections::BTreeSet;
 use std::marker::Model;
 
-/// The rows in memory, and what is kept of the tables that were installed.
+/// The rows in memory, and what is kept of the runs that were installed.
 #[derive(Drop)]
 pub struct Layers {
     active: MemTable,
     /// The rows that wait for a flush, the newest last.
     frozen: Vec<ImmutableMemtable>,
-    /// What is kept of the tables, the newest last.
-    tables: Vec<SsTableHandle>,
+    /// What is kept of the tables of each install, the newest last.
+    runs: Vec<SortedRun>,
     /// The greatest barrier of a flush so far.
     floor: u64,
 }
@@ -38,16 +38,16 @@ impl Model for Layers {
 }
 
 impl Layers {
-    /// No rows and no tables. Takes no memory.
+    /// No rows and no runs. Takes no memory.
     pub fn new(alloc: Global) -> Layers
         ensures memory { (result.active ≡ []) × (result.frozen ≡ []) }
-        ensures tables { (result.tables ≡ []) × (result.floor ≡ 0) }
+        ensures runs { (result.runs ≡ []) × (result.floor ≡ 0) }
         ensures whole { AreLayers result }
     {
         Layers {
             active: MemTable::new(alloc),
             frozen: Vec::new(alloc),
-            tables: Vec::new(alloc),
+            runs: Vec::new(alloc),
             floor: 0,
         }
     }
@@ -66,11 +66,11 @@ impl Layers {
         self.frozen.as_slice()
     }
 
-    /// What is kept of the tables, the newest last.
-    pub fn tables(&self) -> &[SsTableHandle]
-        ensures { result.now ≡ self.now.tables }
+    /// What is kept of the tables of each install, the newest last.
+    pub fn runs(&self) -> &[SortedRun]
+        ensures { result.now ≡ self.now.runs }
     {
-        self.tables.as_slice()
+        self.runs.as_slice()
     }
 
     /// How many events a flush adds.
@@ -121,23 +121,23 @@ impl Layers {
         self.frozen.push_reserved(table);
     }
 
-    /// Makes room for one table.
-    pub fn reserve_table(&mut self) -> Result<(), AllocError>
-        ensures value { self.new ≡ record self.old { for_table = self.new.for_table } }
-        ensures room { OnOk result (0 < self.new.for_table) }
+    /// Makes room for one run.
+    pub fn reserve_run(&mut self) -> Result<(), AllocError>
+        ensures value { self.new ≡ record self.old { for_run = self.new.for_run } }
+        ensures room { OnOk result (0 < self.new.for_run) }
         ensures whole { AreLayers self.new }
     {
-        self.tables.reserve(1)
+        self.runs.reserve(1)
     }
 
-    /// Keeps a table in place of the rows that waited, in the room that was made.
-    pub fn install(&mut self, table: SsTableHandle, floor: u64)
-        requires { 0 < self.old.for_table }
-        ensures value { self.new ≡ record self.old { frozen = []; tables = self.old.tables ++ table ∷ []; floor = floor; for_freeze = self.new.for_freeze; for_table = self.new.for_table } }
+    /// Keeps a run in place of the rows that waited, in the room that was made.
+    pub fn install(&mut self, run: SortedRun, floor: u64)
+        requires { 0 < self.old.for_run }
+        ensures value { self.new ≡ record self.old { frozen = []; runs = self.old.runs ++ run ∷ []; floor = floor; for_freeze = self.new.for_freeze; for_run = self.new.for_run } }
         ensures whole { AreLayers self.new }
     {
         self.floor = floor;
-        self.tables.push_reserved(table);
+        self.runs.push_reserved(run);
         self.frozen.clear();
     }
 }

@@ -1,10 +1,11 @@
 //! The store: flushes, and what reads of stored tables are asked for.
 //!
-//! A flush that has rows writes one table, at the path that its number gives: `specs/Paths.antt` of `slate_table` says which,
-//! and `specs/Flushed.antt` what a flush leaves. `specs/StoredTable.antt` and `specs/Asked.antt` are for later parts: no
+//! A flush that has rows writes tables, at the paths that its number gives: `specs/Paths.antt` of `slate_table` says which,
+//! `specs/Cut.antt` how many, and `specs/Flushed.antt` what a flush leaves. `specs/StoredTable.antt` and `specs/Asked.antt` are for later parts: no
 //! contract cites them yet.
 #![tactic(auto)]
 
+pub mod cut;
 pub mod engine;
 pub mod flush;
 pub mod gather;

@@ -1,13 +1,11 @@
 //! The log: all events so far, and what is counted of them.
 ghost use Rattle.std.specs.Prelude.{◌≡◌, ◌+◌, ◌-◌, ◌^◌, ◌≤◌, ◌<◌, ◌∷◌, [], ℕ, List, length, IfErr, OnOk, OnErr, Err, IsSome};
 ghost use Rattle.slate_types.specs.declared.error.SlateDBError.{SlateDBError};
-ghost use Rattle.slate_types.specs.declared.types.Ulid.{Ulid};
-ghost use Rattle.slate_table.specs.Paths.{table_id};
 ghost use Rattle.slate_txn.specs.Ids.{id_of};
 ghost use Rattle.slate_txn.specs.Named.{find_named};
 ghost use Rattle.slate_txn.specs.Reads.{up_to};
 ghost use Rattle.slate_txn.specs.Replay.{replay};
-ghost use Rattle.slate_db.specs.Installs.{installed};
+ghost use Rattle.slate_db.specs.Installs.{ArePlaced, installed};
 ghost use Rattle.slate_db.specs.Log.{LIMIT, IsLog, IsWhollyKept, HasPlace, held_by, with_begin, with_end, with_freeze, with_write, with_install, with_flush};
 
 use slate_txn::{Event, Journal, OpList, TableList};
@@ -29,7 +27,7 @@ pub struct Log {
     flushed: u64,
     /// How many ids were given.
     ids: u64,
-    /// How many tables were installed.
+    /// How many installs were made.
     installs: u64,
     /// How many are open.
     ends: usize,
@@ -166,11 +164,11 @@ impl Log {
         });
     }
 
-    /// Installs the table of the next flush through the newest sequence, in the room that was made.
+    /// Installs the tables of the next flush through the newest sequence, in the room that was made.
     pub fn push_install(&mut self, tables: TableList)
         requires place { HasPlace 1 self.old }
-        requires table { (t : Ulid × List ℕ) × (tables ≡ t ∷ []) × (t.0.0 ≡ table_id (self.old.installs + 1) 0) }
-        ensures value { (t : Ulid × List ℕ) → tables ≡ t ∷ [] → self.new ≡ with_install self.old t self.new.spare }
+        requires tables { ArePlaced (self.old.installs + 1) 0 tables }
+        ensures value { self.new ≡ with_install self.old tables self.new.spare }
         ensures whole { IsLog self.new }
     {
         self.installs += 1;

@@ -20,6 +20,7 @@ ghost use Rattle.slate_table.specs.IndexReading.{index_keys};
 ghost use Rattle.slate_table.specs.IndexValue.{entries_of};
 ghost use Rattle.slate_table.specs.InfoReading.{seen_info};
 ghost use Rattle.slate_db.specs.Answered.{AnswersFrom};
+ghost use Rattle.slate_db.specs.Installs.{handles_of};
 ghost use Rattle.slate_mem.specs.Lookup.{newest_first};
 ghost use Rattle.slate_db.specs.Lookup.{IsUnknown, IsStoredAs, AreStoredAs};
 ghost use Rattle.slate_db.specs.Model.{Rows};
@@ -28,6 +29,7 @@ ghost use Rattle.slate_db.specs.Shown.{IsRowOf, IsUnreadable, RefusesRow, HasRow
 use crate::flush::ROOT;
 use slate_block::{Block, DataBlockIterator};
 use slate_mem::lookup::{is_decided, newest_of_walk};
+use slate_read::SortedRun;
 use slate_store::{Env, EnvOf, Store};
 use slate_table::{SsTableHandle, SsTableInfo, SstIndex, TableStore};
 use slate_types::{
@@ -158,7 +160,7 @@ fn newest_of_table<S: Store, M: MergeOperator, T: BlockTransformer>(
 /// Adds the rows of the key in stored tables, of which the newest stands last, behind those that were found in newer layers.
 /// Where the store holds the tables, or its acts tell that each read of this call was answered by them, damage isn't answered.
 /// Else it is answered only where the last reads of this call show it, of the index of a table, or of its blocks.
-pub fn newest_of_tables<S: Store, M: MergeOperator, T: BlockTransformer>(
+fn newest_of_tables<S: Store, M: MergeOperator, T: BlockTransformer>(
     alloc: Global,
     newer: Vec<RowEntry>,
     tables: &[SsTableHandle],
@@ -180,6 +182,33 @@ pub fn newest_of_tables<S: Store, M: MergeOperator, T: BlockTransformer>(
         i -= 1;
         let mut more = newest_of_table(alloc, &tables[i], key, max_seq, env)?;
         found.append(&mut more)?;
+    }
+    Ok(found)
+}
+
+/// Adds the rows of the key in runs of stored tables, of which the newest stands last, as `newest_of_tables` does those in tables.
+/// No call is made of a table that doesn't enclose the key.
+pub fn newest_of_runs<S: Store, M: MergeOperator, T: BlockTransformer>(
+    alloc: Global,
+    newer: Vec<RowEntry>,
+    runs: &[SortedRun],
+    key: &[u8],
+    max_seq: u64,
+    env: &mut Env<'_, S, M, T>,
+) -> Result<Vec<RowEntry>, SlateDBError>
+    ensures found { let reach = ⟦<EnvOf<S, M, T> as Outside>⟧.reach in (layers : List Rows) (os : Objects) → AreStoredAs (reach env.old).meaning os (handles_of runs.now) layers → AnswersFrom os (reach env.old) (reach env.new)
+        → IfOk result (λ all. (above : Rows) → newer.items ≡ newest key.now max_seq above → all.items ≡ newest key.now max_seq (above ++ newest_first layers)) }
+    ensures whole { let reach = ⟦<EnvOf<S, M, T> as Outside>⟧.reach in (layers : List Rows) (os : Objects) → AreStoredAs (reach env.old).meaning os (handles_of runs.now) layers → AnswersFrom os (reach env.old) (reach env.new) → IfErr result (IsFault (reach env.old) (reach env.new)) }
+    ensures rows { let reach = ⟦<EnvOf<S, M, T> as Outside>⟧.reach in IfOk result (λ all. Made (reach env.old) (reach env.new) (λ reads. AllByRecursion (λ r. Contains newer.items r ⊎ BringsRow (reach env.old).meaning.decode (handles_of runs.now) reads r) all.items)) }
+    ensures cause { let reach = ⟦<EnvOf<S, M, T> as Outside>⟧.reach in IfErr result (λ e. IsFault (reach env.old) (reach env.new) e ⊎ Made (reach env.old) (reach env.new) (λ reads. ShowsDamage (reach env.old).meaning.decode (handles_of runs.now) reads e)
+        ⊎ ((h : SsTableHandle) × Contains (handles_of runs.now) h × IsUnknown h.format_version e)) }
+    ensures reads { let reach = ⟦<EnvOf<S, M, T> as Outside>⟧.reach in OnlyReads (reach env.old) (reach env.new) }
+{
+    let mut found = newer;
+    let mut at = runs.len();
+    while at > 0 && !is_decided(&found) {
+        at -= 1;
+        found = newest_of_tables(alloc, found, runs[at].tables.as_slice(), key, max_seq, env)?;
     }
     Ok(found)
 }

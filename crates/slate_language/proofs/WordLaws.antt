@@ -91,11 +91,12 @@ only-swap name before after v w =
 settings-swap : (before after : List (List ℕ)) (v w : List ℕ) → read_settings (before ++ (v ∷ w ∷ after)) ≡ read_settings (before ++ (w ∷ v ∷ after))
 settings-swap before after v w = λ i. do
   block ← swapped (codes "block=") i >>= read_given (read_below (2 ^ 32))
+  table ← swapped (codes "table=") i >>= read_given read_number
   format ← swapped (codes "format=") i >>= read_given read_format
   ttl ← swapped (codes "ttl=") i >>= read_given read_number
   seq ← swapped (codes "seq=") i >>= read_given read_number
   mask ← swapped (codes "xor=") i >>= read_given (read_below (2 ^ 8))
-  if_valid (record { options = options block format ttl seq; mask = mask })
+  if_valid (record { options = options block table format ttl seq; mask = mask })
   where
     swapped : (name : List ℕ) → only_value name (before ++ (v ∷ w ∷ after)) ≡ only_value name (before ++ (w ∷ v ∷ after))
     swapped name = only-swap name before after v w
@@ -106,12 +107,12 @@ words-any_order before after v w = λ i. cond (known-swap before after v w i) (s
 
 -- ---- the settings of words whose values are known
 
-pub words-read : (ws : List (List ℕ)) {block : Option (Option ℕ)} {format : Option (Option BlockFormat)} {ttl seq mask : Option (Option ℕ)} → list_all is_known ws ≡ true →
-    block ≡ value_of (read_below (2 ^ 32)) (codes "block=") ws → format ≡ value_of read_format (codes "format=") ws → ttl ≡ value_of read_number (codes "ttl=") ws →
+pub words-read : (ws : List (List ℕ)) {block table : Option (Option ℕ)} {format : Option (Option BlockFormat)} {ttl seq mask : Option (Option ℕ)} → list_all is_known ws ≡ true →
+    block ≡ value_of (read_below (2 ^ 32)) (codes "block=") ws → table ≡ value_of read_number (codes "table=") ws → format ≡ value_of read_format (codes "format=") ws → ttl ≡ value_of read_number (codes "ttl=") ws →
     seq ≡ value_of read_number (codes "seq=") ws → mask ≡ value_of (read_below (2 ^ 8)) (codes "xor=") ws →
-    (block >>= λ b. format >>= λ f. ttl >>= λ t. seq >>= λ s. mask >>= λ m. if_valid (record { options = options b f t s; mask = m })) ≡ read_words ws
-words-read ws known block format ttl seq mask =
-    λ i. cond (sym known i) (block i >>= λ b. format i >>= λ f. ttl i >>= λ t. seq i >>= λ s. mask i >>= λ m. if_valid (record { options = options b f t s; mask = m })) None
+    (block >>= λ b. table >>= λ n. format >>= λ f. ttl >>= λ t. seq >>= λ s. mask >>= λ m. if_valid (record { options = options b n f t s; mask = m })) ≡ read_words ws
+words-read ws known block table format ttl seq mask =
+    λ i. cond (sym known i) (block i >>= λ b. table i >>= λ n. format i >>= λ f. ttl i >>= λ t. seq i >>= λ s. mask i >>= λ m. if_valid (record { options = options b n f t s; mask = m })) None
 
 -- ---- words read one by one
 

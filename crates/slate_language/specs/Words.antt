@@ -54,16 +54,17 @@ abbrev pub value_of : {A : Type 0} → (List ℕ → Option A) → List ℕ → 
 value_of read name ws = only_value name ws >>= read_given read
 
 abbrev pub names : List (List ℕ)
-names = codes "block=" ∷ codes "format=" ∷ codes "ttl=" ∷ codes "seq=" ∷ codes "xor=" ∷ []
+names = codes "block=" ∷ codes "table=" ∷ codes "format=" ∷ codes "ttl=" ∷ codes "seq=" ∷ codes "xor=" ∷ []
 
 abbrev pub is_known : List ℕ → Bool
 is_known w = list_any (λ name. is_some (behind name w)) names
 
 -- ---- settings
 
-abbrev pub options : Option ℕ → Option BlockFormat → Option ℕ → Option ℕ → Options
-options block format ttl seq = record defaults {
+abbrev pub options : Option ℕ → Option ℕ → Option BlockFormat → Option ℕ → Option ℕ → Options
+options block table format ttl seq = record defaults {
   block_size = unwrap_or block 4096;
+  table_bytes = unwrap_or table 67108864;
   block_format = unwrap_or format Latest;
   default_ttl_millis = ttl;
   start_seq = unwrap_or seq 0;
@@ -80,11 +81,12 @@ if_valid s = only_if (are_valid s.options) s
 abbrev pub read_settings : List (List ℕ) → Option Settings
 read_settings ws = do
   block ← value_of (read_below (2 ^ 32)) (codes "block=") ws
+  table ← value_of read_number (codes "table=") ws
   format ← value_of read_format (codes "format=") ws
   ttl ← value_of read_number (codes "ttl=") ws
   seq ← value_of read_number (codes "seq=") ws
   mask ← value_of (read_below (2 ^ 8)) (codes "xor=") ws
-  if_valid (record { options = options block format ttl seq; mask = mask })
+  if_valid (record { options = options block table format ttl seq; mask = mask })
 
 abbrev pub read_words : List (List ℕ) → Option Settings
 read_words ws = if list_all is_known ws then read_settings ws else None

@@ -18,7 +18,7 @@ pub struct Settings {
     pub mask: Option<u8>,
 }
 
-/// The settings of the words `block=`, `format=`, `ttl=`, `seq=` and `xor=`, each at most once and in any
+/// The settings of the words `block=`, `table=`, `format=`, `ttl=`, `seq=` and `xor=`, each at most once and in any
 /// order. What no word sets is as by default. None exactly where a word is none of these, two have one name,
 /// a value isn't read, or the options aren't valid.
 pub fn parse_words(words: &[String]) -> Option<Settings>
@@ -29,12 +29,19 @@ pub fn parse_words(words: &[String]) -> Option<Settings>
         return None;
     }
     let block_size = block_size(words)?;
+    let table_bytes = number(words, b"table=")?;
     let block_format = block_format(words)?;
     let default_ttl_millis = number(words, b"ttl=")?;
     let start_seq = number(words, b"seq=")?;
     let mask = mask(words)?;
     if_valid(Settings {
-        options: options(block_size, block_format, default_ttl_millis, start_seq),
+        options: options(
+            block_size,
+            table_bytes,
+            block_format,
+            default_ttl_millis,
+            start_seq,
+        ),
         mask,
     })
 }
@@ -50,14 +57,16 @@ fn if_valid(settings: Settings) -> Option<Settings>
 /// The defaults, with these in their place.
 fn options(
     block_size: Option<u32>,
+    table_bytes: Option<u64>,
     block_format: Option<BlockFormat>,
     default_ttl_millis: Option<u64>,
     start_seq: Option<u64>,
 ) -> Options
-    ensures { result ≡ options block_size block_format default_ttl_millis start_seq }
+    ensures { result ≡ options block_size table_bytes block_format default_ttl_millis start_seq }
 {
     let mut options = Options::new();
     options.block_size = block_size.unwrap_or(options.block_size);
+    options.table_bytes = table_bytes.unwrap_or(options.table_bytes);
     options.block_format = block_format.unwrap_or(options.block_format);
     options.default_ttl_millis = default_ttl_millis;
     options.start_seq = start_seq.unwrap_or(options.start_seq);
@@ -80,6 +89,7 @@ fn is_known(word: &[u8]) -> bool
     ensures { result ≡ is_known word.now }
 {
     has_name(b"block=", word)
+        || has_name(b"table=", word)
         || has_name(b"format=", word)
         || has_name(b"ttl=", word)
         || has_name(b"seq=", word)

@@ -4,28 +4,34 @@
 pub mod empty_iterator;
 pub mod filter_iterator;
 pub mod groups;
-pub mod internal_sst_iterator;
-pub mod newest_first;
-pub mod progress;
-pub mod range_rows;
-pub mod readable_laws;
-pub mod sst_iterator;
-pub mod sst_iterator_options;
 pub mod head;
 pub mod heads;
+pub mod internal_sst_iterator;
 pub mod kept;
 pub mod laws;
 pub mod merge_iterator;
+pub mod newest_first;
 pub mod peeking_iterator;
+pub mod progress;
+pub mod range_rows;
+pub mod readable_laws;
 pub mod required_iterator;
+pub mod sorted_run;
+pub mod sst_iterator;
+pub mod sst_iterator_options;
 pub mod table_iterator;
 pub mod table_state;
 pub mod table_walk;
 
+pub use empty_iterator::EmptyIterator;
 pub use filter_iterator::{FilterIterator, MaxSeq, RowPredicate};
 pub use internal_sst_iterator::InternalSstIterator;
+pub use merge_iterator::MergeIterator;
+pub use peeking_iterator::PeekingIterator;
+pub use required_iterator::MergeOperatorRequiredIterator;
+pub use sorted_run::SortedRun;
 pub use sst_iterator::SstIterator;
-pub use sst_iterator_options::{SortedRun, SstIteratorOptions};
+pub use sst_iterator_options::SstIteratorOptions;
 
 fn crosses<T: Send + Sync>() {}
 

@@ -1,6 +1,5 @@
 //! How stored tables are read.
 use bytes::Bytes;
-use slate_table::SsTableHandle;
 use slate_types::{FilterContext, IterationOrder};
 
 /// How the rows of stored tables are read.
@@ -36,12 +35,4 @@ impl Default for SstIteratorOptions {
             filter_context: None,
         }
     }
-}
-
-/// Tables whose keys rise from each to the next, and none of whose keys is in two of them.
-#[derive(Drop)]
-pub struct SortedRun {
-    /// What all keys of the run begin with.
-    pub prefix: Bytes,
-    pub tables: Vec<SsTableHandle>,
 }

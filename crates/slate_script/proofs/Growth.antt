@@ -102,8 +102,8 @@ takes-flushed encode layout old mid new n before after frozen flushed active non
         let e : length new.events ≡ length mid.events = ap (λ (c : CoreModel). length c.events) is in
         let t : length new.state.txns ≡ length mid.state.txns = ap (λ (c : CoreModel). length c.state.txns) is in
         omega (arith, e, t, more, txns)
-    heavier (stored t is table takes) =
-        let e : length new.events ≡ length mid.events + 1 = ap (λ (c : CoreModel). length c.events) is ∙ length-append mid.events (events.Install n (t ∷ []) ∷ []) in
+    heavier (stored ts is made takes) =
+        let e : length new.events ≡ length mid.events + 1 = ap (λ (c : CoreModel). length c.events) is ∙ length-append mid.events (events.Install n ts ∷ []) in
         let t : length new.state.txns ≡ length mid.state.txns = ap (λ (c : CoreModel). length c.state.txns) is in
         omega (arith, e, t, more, txns)
 

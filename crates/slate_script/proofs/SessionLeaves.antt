@@ -5,7 +5,7 @@ use Rattle.slate_mem.specs.Batch.{Ops}
 use Rattle.slate_txn.specs.declared.event.Event.{Event}
 use Rattle.slate_txn.specs.declared.event.Event.TheVariants as events
 use Rattle.slate_db.specs.Frozen.{IsFrozen}
-use Rattle.slate_db.specs.Installs.{tables_in, tables_of}
+use Rattle.slate_db.specs.Installs.{runs_in, runs_of}
 use Rattle.slate_db.specs.Meaning.{Meaning}
 use Rattle.slate_db.specs.Model.{CoreModel, IsSame}
 use Rattle.slate_db.specs.Sound.{IsKept}
@@ -13,31 +13,31 @@ use Rattle.slate_db.specs.Written.{IsWritten}
 use Rattle.slate_types.specs.declared.error.SlateDBError.{SlateDBError}
 use Rattle.slate_language.specs.declared.reply.Answer.{Answer}
 use Rattle.slate_script.specs.Session.{SessionModel, StoresNothing}
-use Rattle.slate_script.proofs.SessionStores.{none-more}
+use Rattle.slate_db.proofs.RunsOf.{runs_same}
 
 pub record Leaves (old new : CoreModel) : Type 0 where
   pub settings : new.settings ≡ old.settings
-  pub tables : tables_of new.events ≡ tables_of old.events
+  pub runs : runs_of new.events ≡ runs_of old.events
   pub later : length old.events ≤ length new.events
 
 one-more : (es : List Event) (e : Event) → length es ≤ length (es ++ (e ∷ []))
 one-more es e = let n : length (es ++ (e ∷ [])) ≡ length es + 1 = length-append es (e ∷ []) in omega (arith, n)
 
-leaves-one : (old new : CoreModel) (e : Event) → new.settings ≡ old.settings → new.events ≡ old.events ++ (e ∷ []) → tables_in e ≡ [] → Leaves old new
+leaves-one : (old new : CoreModel) (e : Event) → new.settings ≡ old.settings → new.events ≡ old.events ++ (e ∷ []) → runs_in e ≡ [] → Leaves old new
 leaves-one old new e settings is none = record {
   settings = settings;
-  tables = ap tables_of is ∙ none-more old.events e none;
+  runs = ap runs_of is ∙ runs_same old.events e none;
   later = subst (λ es. length old.events ≤ length es) (sym is) (one-more old.events e);
 }
 
 leaves-all : (old new : CoreModel) → new.settings ≡ old.settings → new.events ≡ old.events → Leaves old new
 leaves-all old new settings is = record {
   settings = settings;
-  tables = ap tables_of is;
+  runs = ap runs_of is;
   later = subst (λ es. length old.events ≤ length es) (sym is) (omega arith);
 }
 
-pub leaves-event : (old new : CoreModel) (e : Event) → new ≡ record old { state = new.state; events = old.events ++ (e ∷ []); spare = new.spare } → tables_in e ≡ [] → Leaves old new
+pub leaves-event : (old new : CoreModel) (e : Event) → new ≡ record old { state = new.state; events = old.events ++ (e ∷ []); spare = new.spare } → runs_in e ≡ [] → Leaves old new
 leaves-event old new e is none = leaves-one old new e (ap (λ (c : CoreModel). c.settings) is) (ap (λ (c : CoreModel). c.events) is) none
 
 pub leaves-same : (old new : CoreModel) → IsSame old new → Leaves old new
@@ -67,7 +67,7 @@ pub kept-same : (m : Meaning) (old new : CoreModel) → IsSame old new → IsKep
 kept-same m old new is k = subst (λ (c : CoreModel). IsKept m c) (sym is) (kept-spare m old new.spare k)
 
 pub stores : (e : SessionModel) (core : CoreModel) (names : List (List ℕ × List ℕ)) (now : ℤ) → Leaves e.core core → ((m : Meaning) → IsKept m e.core → IsKept m core) → StoresNothing e (record { core = core; names = names; now = now })
-stores e core names now leaves kept = record { settings = leaves.settings; tables = leaves.tables; later = leaves.later; kept = kept }
+stores e core names now leaves kept = record { settings = leaves.settings; runs = leaves.runs; later = leaves.later; kept = kept }
 
 pub stores-where : (result : Result Answer SlateDBError) (e : SessionModel) (core : CoreModel) → StoresNothing e (record e { core = core }) → OnOk result (StoresNothing e (record e { core = core }))
 stores-where (Ok a) e core h = h

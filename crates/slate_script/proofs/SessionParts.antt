@@ -25,7 +25,7 @@ two-at-most (r ∷ rs) layers = omega arith
 pub flush-cause : (before after : Reach) (layout : Layout) (session : SessionModel) (e : SlateDBError) → IsFlushError layout before after session.core e → IsFault before after e ⊎ IsLimit session e
 flush-cause before after layout session e (inl fault) = inl fault
 flush-cause before after layout session e (inr (inl (is, more))) = inr (LIMIT, is, inl (omega (arith, more, two-at-most session.core.active session.core.frozen)))
-flush-cause before after layout session e (inr (inr (rows, folded, order, large, much))) = inr (max_blocks, large.is, inr much)
+flush-cause before after layout session e (inr (inr (rows, folded, order, large, much))) = inr (max_blocks, large.large.is, inr much)
 
 -- what isn't refused has room
 pub has-room : (n events txns more : ℕ) (r : Result ℕ SlateDBError) (seq : ℕ) (e : SlateDBError) → r ≡ Ok seq → (n < events + txns + more → r ≡ Err e) → events ≤ n

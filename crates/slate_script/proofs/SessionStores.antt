@@ -1,5 +1,5 @@
 -- What a flush and other lines leave of the store's tables.
-use Rattle.std.proofs.Common.{◌≡◌, ℕ, ◌+◌, ◌≤◌, inl, inr, List, [], ◌∷◌, ◌++◌, length, Option, Some, None, IfSome, refl, sym, ap, ◌∙◌, subst, arith}
+use Rattle.std.proofs.Common.{◌≡◌, ℕ, ◌+◌, ◌<◌, ◌≤◌, ◌^◌, inl, inr, List, [], ◌∷◌, ◌++◌, append_assoc, flat_map, length, Option, Some, None, IfSome, refl, sym, ap, ◌∙◌, subst, arith}
 use Rattle.std.specs.List.{AllByRecursion}
 use Rattle.std.proofs.lemmas.List.{append-nil, length-append}
 use Rattle.std.proofs.lemmas.List.Concat.{flat_map-append}
@@ -11,15 +11,18 @@ use Rattle.slate_table.specs.Parts.{Encode}
 use Rattle.slate_table.specs.Paths.{path_of, table_id}
 use Rattle.slate_txn.specs.declared.event.Event.{Event}
 use Rattle.slate_txn.specs.declared.event.Event.TheVariants as events
-use Rattle.slate_db.specs.Flushed.{IsFlushed, idle, stored, Layout}
+use Rattle.slate_db.specs.Flushed.{IsFlushed, idle, stored, Layout, with_tables}
 use Rattle.slate_db.specs.Frozen.{IsFrozen}
-use Rattle.slate_db.specs.Installs.{tables_in, tables_of, root, Holds, HoldsTables, NumberedFrom}
+use Rattle.slate_db.specs.Installs.{runs_of, tables_in, tables_of, root, ArePlaced, Holds, HoldsTables, NumberedFrom}
 use Rattle.slate_db.specs.Meaning.{Meaning}
 use Rattle.slate_db.specs.Model.{CoreModel}
 use Rattle.slate_db.specs.Log.{LIMIT}
 use Rattle.slate_db.specs.Sound.{IsKept}
 use Rattle.slate_script.specs.Session.{SessionModel, HasTables, IsSettled, StoresNothing}
-use Rattle.slate_script.proofs.PathsApart.{others-apart, numbered-more}
+use Rattle.slate_db.proofs.Runs.{are_placed}
+use Rattle.slate_db.proofs.RunsOf.{runs_more, runs_same, tables_are}
+use Rattle.slate_db.proofs.Logs.{numbered_more}
+use Rattle.slate_db.proofs.PathsApart.{IsEarlier, earlier_all, holds_puts}
 
 pub tables-more : (es : List Event) (e : Event) → tables_of (es ++ (e ∷ [])) ≡ tables_of es ++ tables_in e
 tables-more es e = flat_map-append tables_in es (e ∷ []) ∙ ap (λ ts. tables_of es ++ ts) (append-nil (tables_in e))
@@ -28,23 +31,18 @@ tables-more es e = flat_map-append tables_in es (e ∷ []) ∙ ap (λ ts. tables
 pub none-more : (es : List Event) (e : Event) → tables_in e ≡ [] → tables_of (es ++ (e ∷ [])) ≡ tables_of es
 none-more es e none = tables-more es e ∙ ap (λ ts. tables_of es ++ ts) none ∙ append-nil (tables_of es)
 
-holds-still : (os : Objects) (path bytes : List ℕ) (ts : List (Ulid × List ℕ)) → AllByRecursion (λ t. path ≡ path_of root t.0.0 → ⊥) ts → Holds os ts → Holds (with_object os path bytes) ts
-holds-still os path bytes [] apart h = tt
-holds-still os path bytes (t ∷ ts) apart h = (others_stay os path bytes (path_of root t.0.0) apart.0 ∙ h.0, holds-still os path bytes ts apart.1 h.1)
-
-holds-more : (os : Objects) (t : Ulid × List ℕ) (ts : List (Ulid × List ℕ)) → object_at os (path_of root t.0.0) ≡ Some t.1 → Holds os ts → Holds os (ts ++ (t ∷ []))
-holds-more os t [] is h = (is, tt)
-holds-more os t (u ∷ ts) is h = (h.0, holds-more os t ts is h.1)
-
 -- a freeze installs nothing
 frozen-tables : (old mid : CoreModel) (objects : Option Objects) → IsFrozen old mid → HasTables objects old.events → HasTables objects mid.events
 frozen-tables old mid objects (inl same) h = subst (λ (c : CoreModel). HasTables objects c.events) (sym same.1) h
 frozen-tables old mid objects (inr frozen) h = subst (λ (c : CoreModel). HasTables objects c.events) (sym frozen.1) (record {
   holds = by objects h.holds;
-  numbered = subst (NumberedFrom 1) (sym same) h.numbered;
-  few = let n : length (old.events ++ (events.Freeze ∷ [])) ≡ length old.events + 1 = length-append old.events (events.Freeze ∷ []) in subst (λ ts. length ts ≤ length (old.events ++ (events.Freeze ∷ []))) (sym same) (omega (arith, n, h.few));
+  numbered = subst (NumberedFrom 1) (sym runs) h.numbered;
+  few = let n : length (old.events ++ (events.Freeze ∷ [])) ≡ length old.events + 1 = length-append old.events (events.Freeze ∷ []) in subst (λ rs. length rs ≤ length (old.events ++ (events.Freeze ∷ []))) (sym runs) (omega (arith, n, h.few));
 })
   where
+    runs : runs_of (old.events ++ (events.Freeze ∷ [])) ≡ runs_of old.events
+    runs = runs_same old.events events.Freeze refl
+
     same : tables_of (old.events ++ (events.Freeze ∷ [])) ≡ tables_of old.events
     same = none-more old.events events.Freeze refl
 
@@ -63,30 +61,27 @@ flushed-tables encode layout old mid new n before after frozen flushed room h = 
     size : length mid.events ≤ 9223372036854775808
     size = let a : length mid.events ≤ length old.events + 1 = frozen-length old mid frozen in let b : length old.events ≤ 9223372036854775807 = room in omega arith
 
-    put : (o : Option Objects) (t : Ulid × List ℕ) → HasTables o mid.events → t.0.0 ≡ table_id (length (tables_of mid.events) + 1) 0 → IfSome o (λ os. after ≡ Some (with_object os (path_of root t.0.0) t.1)) → HasTables after (mid.events ++ (events.Install n (t ∷ []) ∷ []))
-    put None t k id takes = absurd k.holds
-    put (Some os) t k id takes = subst (λ o. HasTables o (mid.events ++ (events.Install n (t ∷ []) ∷ []))) (sym takes) (record {
-      holds = subst (Holds (with_object os (path_of root t.0.0) t.1)) (sym more)
-          (holds-more (with_object os (path_of root t.0.0) t.1) t (tables_of mid.events) (put_is_there os (path_of root t.0.0) t.1) (holds-still os (path_of root t.0.0) t.1 (tables_of mid.events) apart k.holds));
-      numbered = subst (NumberedFrom 1) (sym more) (numbered-more 1 (tables_of mid.events) t k.numbered (id ∙ ap (λ i. table_id i 0) (turn (length (tables_of mid.events)))));
-      few = subst (λ ts. length ts ≤ length (mid.events ++ (events.Install n (t ∷ []) ∷ []))) (sym more)
-          (let a : length (mid.events ++ (events.Install n (t ∷ []) ∷ [])) ≡ length mid.events + 1 = length-append mid.events (events.Install n (t ∷ []) ∷ []) in
-          let b : length (tables_of mid.events ++ (t ∷ [])) ≡ length (tables_of mid.events) + 1 = length-append (tables_of mid.events) (t ∷ []) in omega (arith, a, b, k.few));
+    put : (o : Option Objects) (ts : List (Ulid × List ℕ)) → HasTables o mid.events → ArePlaced (length (runs_of mid.events) + 1) 0 ts → IfSome o (λ os. after ≡ Some (with_tables os ts)) → HasTables after (mid.events ++ (events.Install n ts ∷ []))
+    put None ts k places takes = absurd k.holds
+    put (Some os) ts k places takes = subst (λ o. HasTables o (mid.events ++ (events.Install n ts ∷ []))) (sym takes) (record {
+      holds = subst (Holds (with_tables os ts)) (sym (tables-more mid.events (events.Install n ts)))
+          (holds_puts os (length (runs_of mid.events) + 1) 0 (tables_of mid.events) ts (omega (arith, k.few, size))
+          (subst (AllByRecursion (IsEarlier (length (runs_of mid.events) + 1) 0)) (sym (tables_are mid.events)) (earlier_all 1 (length (runs_of mid.events) + 1) (runs_of mid.events) k.numbered (omega arith))) places k.holds);
+      numbered = subst (NumberedFrom 1) (sym more) (numbered_more 1 (runs_of mid.events) ts k.numbered (subst (λ (i : ℕ). ArePlaced i 0 ts) (turn (length (runs_of mid.events))) places));
+      few = subst (λ rs. length rs ≤ length (mid.events ++ (events.Install n ts ∷ []))) (sym more)
+          (let a : length (mid.events ++ (events.Install n ts ∷ [])) ≡ length mid.events + 1 = length-append mid.events (events.Install n ts ∷ []) in
+          let b : length (runs_of mid.events ++ (ts ∷ [])) ≡ length (runs_of mid.events) + 1 = length-append (runs_of mid.events) (ts ∷ []) in omega (arith, a, b, k.few));
     })
       where
         turn : (i : ℕ) → i + 1 ≡ 1 + i
         turn i = omega arith
 
-        more : tables_of (mid.events ++ (events.Install n (t ∷ []) ∷ [])) ≡ tables_of mid.events ++ (t ∷ [])
-        more = tables-more mid.events (events.Install n (t ∷ []))
-
-        apart : AllByRecursion (λ u. path_of root t.0.0 ≡ path_of root u.0.0 → ⊥) (tables_of mid.events)
-        apart = subst (λ i. AllByRecursion (λ u. path_of root i ≡ path_of root u.0.0 → ⊥) (tables_of mid.events)) (sym id)
-            (others-apart 1 (length (tables_of mid.events) + 1) (tables_of mid.events) k.numbered (omega arith) (omega (arith, k.few, size)))
+        more : runs_of (mid.events ++ (events.Install n ts ∷ [])) ≡ runs_of mid.events ++ (ts ∷ [])
+        more = runs_more mid.events (events.Install n ts)
 
     by : IsFlushed encode layout mid new n before after → HasTables before mid.events → HasTables after new.events
     by (idle none is same) k = subst (λ (c : CoreModel). HasTables after c.events) (sym is) (subst (λ o. HasTables o mid.events) (sym same) k)
-    by (stored t is table takes) k = subst (λ (c : CoreModel). HasTables after c.events) (sym is) (put before t k table.id takes)
+    by (stored ts is made takes) k = subst (λ (c : CoreModel). HasTables after c.events) (sym is) (put before ts k (are_placed encode layout _ 0 made.parts ts made.built) takes)
 
 pub flush-settled : (m : Meaning) (encode : Encode) (layout : Layout) (objects after : Option Objects) (e : SessionModel) (mid core : CoreModel) (n : ℕ) → IsFrozen e.core mid → IsFlushed encode layout mid core n objects after → length e.core.events ≤ LIMIT →
     (IsKept m e.core → IsKept m core) → IsSettled m objects e → IsSettled m after (record e { core = core })
@@ -97,17 +92,23 @@ flush-settled m encode layout objects after e mid core n frozen flushed room kep
 }
 
 -- what a line leaves that stores nothing
+pub same-tables : (es fs : List Event) → runs_of es ≡ runs_of fs → tables_of es ≡ tables_of fs
+same-tables es fs same = tables_are es ∙ ap (flat_map (λ (ts : List (Ulid × List ℕ)). ts)) same ∙ sym (tables_are fs)
+
+pub tables-still : (e new : SessionModel) → StoresNothing e new → tables_of new.core.events ≡ tables_of e.core.events
+tables-still e new s = same-tables new.core.events e.core.events s.runs
+
 pub stays-settled : (m : Meaning) (objects : Option Objects) (e new : SessionModel) → StoresNothing e new → IsSettled m objects e → IsSettled m objects new
 stays-settled m objects e new s h = record {
   lawful = h.lawful;
   kept = s.kept m h.kept;
   tables = record {
     holds = by objects h.tables.holds;
-    numbered = subst (NumberedFrom 1) (sym s.tables) h.tables.numbered;
-    few = let a : length (tables_of new.core.events) ≡ length (tables_of e.core.events) = ap length s.tables in omega (arith, a, h.tables.few, s.later);
+    numbered = subst (NumberedFrom 1) (sym s.runs) h.tables.numbered;
+    few = let a : length (runs_of new.core.events) ≡ length (runs_of e.core.events) = ap length s.runs in omega (arith, a, h.tables.few, s.later);
   };
 }
   where
     by : (o : Option Objects) → HoldsTables o e.core.events → HoldsTables o new.core.events
     by None holds = holds
-    by (Some os) holds = subst (Holds os) (sym s.tables) holds
+    by (Some os) holds = subst (Holds os) (sym (tables-still e new s)) holds

@@ -1,5 +1,5 @@
 -- What acts that a store tells leave of its objects, line by line.
-use Rattle.std.proofs.Common.{◌≡◌, ℕ, ◌+◌, ◌≤◌, inl, inr, List, [], ◌∷◌, ◌++◌, length, Option, Some, Result, Ok, Err, OnOk, refl, sym, ap, ◌∙◌, subst, arith, append_assoc}
+use Rattle.std.proofs.Common.{◌≡◌, ℕ, ◌+◌, ◌≤◌, inl, inr, List, [], ◌∷◌, ◌++◌, length, map, Option, Some, Result, Ok, Err, OnOk, refl, sym, ap, ◌∙◌, subst, arith, append_assoc}
 use Rattle.std.specs.Prelude.{Contains, IfErr}
 use Rattle.std.specs.List.{AllByRecursion}
 use Rattle.std.proofs.lemmas.List.{append-nil, append_cancel_left, length-append}
@@ -12,8 +12,8 @@ use Rattle.slate_store.specs.Store.{Act, with_object}
 use Rattle.slate_table.specs.Parts.{Encode}
 use Rattle.slate_table.specs.Paths.{path_of}
 use Rattle.slate_txn.specs.declared.event.Event.TheVariants as events
-use Rattle.slate_db.specs.Answered.{AddsReads, AddsTables, AnswersAct, AnswersAs, PutsNothing}
-use Rattle.slate_db.specs.Flushed.{IsFlushed, Layout, idle, stored}
+use Rattle.slate_db.specs.Answered.{AddsPuts, AddsReads, AddsTables, AnswersAct, AnswersAs, PutsNothing}
+use Rattle.slate_db.specs.Flushed.{IsFlushed, Layout, idle, stored, with_tables}
 use Rattle.slate_db.specs.Frozen.{IsFrozen}
 use Rattle.slate_db.specs.Installs.{root, tables_of}
 use Rattle.slate_db.specs.Meaning.{Meaning}
@@ -26,7 +26,7 @@ use Rattle.slate_script.specs.Session.{SessionModel, IsSettled, StoresNothing}
 use Rattle.slate_script.specs.Told.{ArePut, AreTrue, Follows, IsShownAtEnd, IsUntrue, PutsTables, after_act, after_acts}
 use Rattle.slate_script.proofs.Running.{not-damage}
 use Rattle.slate_script.proofs.SessionLeaves.{leaves-frozen}
-use Rattle.slate_script.proofs.SessionStores.{flush-settled, stays-settled, tables-more}
+use Rattle.slate_script.proofs.SessionStores.{flush-settled, same-tables, stays-settled, tables-more, tables-still}
 
 -- ---- acts
 
@@ -66,37 +66,54 @@ follows-reads (Ok v) m os e new before after adds stores settled = λ known is.
     (r.0, r.1, subst (λ (x : Objects). IsSettled m (Some x) new) (sym (reads-keep os r.0 r.2)) (stays-settled m (Some os) e new stores settled))
 follows-reads (Err x) m os e new before after adds stores settled = tt
 
-one-longer : {X : Type 0} (xs : List X) (x : X) → xs ≡ xs ++ (x ∷ []) → ⊥
-one-longer xs x h = let n : length xs ≡ length (xs ++ (x ∷ [])) = ap length h in let k : length (xs ++ (x ∷ [])) ≡ length xs + 1 = length-append xs (x ∷ []) in omega (arith, n, k)
+-- the puts of tables, as acts
+abbrev put-acts : List (Ulid × List ℕ) → List Act
+put-acts ts = map (λ (t : Ulid × List ℕ). Act.put (path_of root t.0.0) t.1) ts
 
-same-last : {X : Type 0} (xs : List X) (x y : X) → xs ++ (x ∷ []) ≡ xs ++ (y ∷ []) → x ≡ y
-same-last xs x y h = let e : x ∷ [] ≡ y ∷ [] = append_cancel_left xs (x ∷ []) (y ∷ []) h in cc
+puts-told : (ts : List (Ulid × List ℕ)) (before after : Option (List Act)) (known : List Act) → AddsPuts ts before after → before ≡ Some known → after ≡ Some (known ++ put-acts ts)
+puts-told [] before after known same is = same ∙ is ∙ ap (λ (l : List Act). Some l) (sym (append-nil known))
+puts-told (t ∷ ts) before after known (middle, act, rest) is =
+    puts-told ts middle after (known ++ (Act.put (path_of root t.0.0) t.1 ∷ [])) rest (act known is) ∙ ap (λ (l : List Act). Some l) (append_assoc known (Act.put (path_of root t.0.0) t.1 ∷ []) (put-acts ts))
+
+puts-objects : (os : Objects) (ts : List (Ulid × List ℕ)) → after_acts os (put-acts ts) ≡ with_tables os ts
+puts-objects os [] = refl
+puts-objects os (t ∷ ts) = puts-objects (with_object os (path_of root t.0.0) t.1) ts
+
+puts-are : (ts before : List (Ulid × List ℕ)) → ArePut (put-acts before ++ put-acts ts) ts
+puts-are [] before = tt
+puts-are (t ∷ ts) before = (
+  Contains-append_right (put-acts before) (put-acts (t ∷ ts)) _ (0, omega arith, refl),
+  subst (λ (acts : List Act). ArePut acts ts) (ap (λ (acts : List Act). acts ++ put-acts ts) (more before t) ∙ append_assoc (put-acts before) (Act.put (path_of root t.0.0) t.1 ∷ []) (put-acts ts)) (puts-are ts (before ++ (t ∷ []))),
+)
+  where
+    more : (us : List (Ulid × List ℕ)) (t : Ulid × List ℕ) → put-acts (us ++ (t ∷ [])) ≡ put-acts us ++ (Act.put (path_of root t.0.0) t.1 ∷ [])
+    more [] t = refl
+    more (u ∷ us) t = ap (λ (acts : List Act). Act.put (path_of root u.0.0) u.1 ∷ acts) (more us t)
 
 pub follows-flush : (m : Meaning) (encode : Encode) (layout : Layout) (os : Objects) (objects left : Option Objects) (e : SessionModel) (mid core : CoreModel) (n : ℕ) (before after : Option (List Act)) → IsFrozen e.core mid → IsFlushed encode layout mid core n objects left →
     AddsTables (tables_of e.core.events) (tables_of core.events) before after → length e.core.events ≤ LIMIT → (IsKept m e.core → IsKept m core) → IsSettled m (Some os) e → Follows m os (record e { core = core }) before after
-follows-flush m encode layout os objects left e mid core n before after frozen flushed adds room kept settled = by flushed adds
+follows-flush m encode layout os objects left e mid core n before after frozen flushed (us, grown, acts) room kept settled known told = by flushed
   where
     new : SessionModel
     new = record e { core = core }
 
     same : tables_of mid.events ≡ tables_of e.core.events
-    same = (leaves-frozen e.core mid frozen).tables
+    same = same-tables mid.events e.core.events (leaves-frozen e.core mid frozen).runs
 
-    by : IsFlushed encode layout mid core n objects left → AddsTables (tables_of e.core.events) (tables_of core.events) before after → Follows m os new before after
-    by (idle none is untouched) (inl (tables, acts)) =
-        subst (λ (o : Option (List Act)). Follows m os new before o) (sym acts)
-        (follows-itself m os new before (flush-settled m encode layout (Some os) (Some os) e mid core n frozen (idle none is refl) room kept settled))
-    by (idle none is untouched) (inr (t, tables, act)) =
-        absurd (one-longer (tables_of e.core.events) t (sym (ap (λ (c : CoreModel). tables_of c.events) is ∙ same) ∙ tables))
-    by (stored t is table takes) (inl (tables, acts)) =
-        absurd (one-longer (tables_of e.core.events) t (sym tables ∙ ap (λ (c : CoreModel). tables_of c.events) is ∙ tables-more mid.events (events.Install n (t ∷ [])) ∙ ap (λ ts. ts ++ (t ∷ [])) same))
-    by (stored t is table takes) (inr (u, tables, act)) = λ known told.
-        let it : u ≡ t = same-last (tables_of e.core.events) u t (sym tables ∙ ap (λ (c : CoreModel). tables_of c.events) is ∙ tables-more mid.events (events.Install n (t ∷ [])) ∙ ap (λ ts. ts ++ (t ∷ [])) same) in (
-          Act.put (path_of root u.0.0) u.1 ∷ [],
-          act known told,
-          subst (λ (x : Ulid × List ℕ). IsSettled m (Some (with_object os (path_of root x.0.0) x.1)) new) (sym it)
-              (flush-settled m encode layout (Some os) (Some (with_object os (path_of root t.0.0) t.1)) e mid core n frozen (stored t is table refl) room kept settled),
-        )
+    settles : (ts : List (Ulid × List ℕ)) → us ≡ ts → IsSettled m (Some (with_tables os ts)) new → (more : List Act) × (after ≡ Some (known ++ more)) × IsSettled m (Some (after_acts os more)) new
+    settles ts it s = (
+      put-acts us,
+      puts-told us before after known acts told,
+      subst (λ (x : Objects). IsSettled m (Some x) new) (sym (puts-objects os us ∙ ap (with_tables os) it)) s,
+    )
+
+    by : IsFlushed encode layout mid core n objects left → (more : List Act) × (after ≡ Some (known ++ more)) × IsSettled m (Some (after_acts os more)) new
+    by (idle none is untouched) =
+        settles [] (append_cancel_left (tables_of e.core.events) us [] (sym grown ∙ ap (λ (c : CoreModel). tables_of c.events) is ∙ same ∙ sym (append-nil (tables_of e.core.events))))
+        (flush-settled m encode layout (Some os) (Some os) e mid core n frozen (idle none is refl) room kept settled)
+    by (stored ts is made takes) =
+        settles ts (append_cancel_left (tables_of e.core.events) us ts (sym grown ∙ ap (λ (c : CoreModel). tables_of c.events) is ∙ tables-more mid.events (events.Install n ts) ∙ ap (λ xs. xs ++ ts) same))
+        (flush-settled m encode layout (Some os) (Some (with_tables os ts)) e mid core n frozen (stored ts is made refl) room kept settled)
 
 -- ---- damage
 
@@ -136,12 +153,11 @@ puts-both acts (t ∷ ts) us h k = (h.0, puts-both acts ts us h.1 k)
 
 -- where nothing was put
 pub stores-none : {V : Type 0} (result : Result V SlateDBError) (e new : SessionModel) (before after : Option (List Act)) → AddsReads before after → OnOk result (StoresNothing e new) → OnOk result (PutsTables (tables_of e.core.events) (tables_of new.core.events) before after)
-stores-none (Ok v) e new before after adds stores = λ known is. let r = adds known is in (r.0, [], r.1, stores.tables ∙ sym (append-nil (tables_of e.core.events)), tt)
+stores-none (Ok v) e new before after adds stores = λ known is. let r = adds known is in (r.0, [], r.1, tables-still e new stores ∙ sym (append-nil (tables_of e.core.events)), tt)
 stores-none (Err x) e new before after adds stores = tt
 
 pub stores-added : (old new : List (Ulid × List ℕ)) (before after : Option (List Act)) → AddsTables old new before after → PutsTables old new before after
-stores-added old new before after (inl same) known is = ([], [], same.1 ∙ is ∙ ap (λ (l : List Act). Some l) (sym (append-nil known)), same.0 ∙ sym (append-nil old), tt)
-stores-added old new before after (inr (t, grown, act)) known is = (Act.put (path_of root t.0.0) t.1 ∷ [], t ∷ [], act known is, grown, ((0, omega arith, refl), tt))
+stores-added old new before after (ts, grown, acts) known is = (put-acts ts, ts, puts-told ts before after known acts is, grown, puts-are ts [])
 
 pub stores-itself : (ts : List (Ulid × List ℕ)) (acts : Option (List Act)) → PutsTables ts ts acts acts
 stores-itself ts acts known is = ([], [], is ∙ ap (λ (l : List Act). Some l) (sym (append-nil known)), sym (append-nil ts), tt)

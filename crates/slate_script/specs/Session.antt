@@ -7,7 +7,7 @@
 --     AnswersAs m before after line result      so is the answer to the line, for what the parts mean
 --     HasTables objects es      the store holds the journal's tables, and no two lie at one path
 --     IsTableUpTo m layout n o      an object is a table that a flush put, and there were no more flushes than these
---     HasTablesAlone m layout objects ts      the store holds nothing but these tables, and for each key its rows by sequence are theirs
+--     HasTablesAlone m layout objects runs      the store holds nothing but the tables of these installs, and for each key its rows by sequence are theirs
 --     IsSettled m objects e      the parts are lawful, what is kept of the rows holds, and so does this
 --     IsSettledIn reach e      the same of what a call reaches
 --     IsRunning m r parts objects e      the same for rules of a run, whose parts mean what they did
@@ -16,7 +16,7 @@
 --     IsRefusal error      a write is answered so
 --     has_moment line      a line that sets the moment sets one
 --     StoresNothing old new      what a line keeps that stores nothing
-use Rattle.std.specs.Prelude.{◌≡◌, ℕ, ◌+◌, ◌-◌, ◌^◌, ◌<◌, ◌⊎◌, Bool, true, ◌≤◌, List, [], length, Option, Some, None, Result, IfOk, IsSome, ℤ}
+use Rattle.std.specs.Prelude.{◌≡◌, ℕ, ◌+◌, ◌-◌, ◌^◌, ◌<◌, ◌⊎◌, Bool, true, ◌≤◌, List, [], flat_map, length, Option, Some, None, Result, IfOk, IsSome, ℤ}
 use Rattle.std.specs.List.{AllByRecursion}
 use Rattle.slate_types.specs.declared.error.SlateDBError.{SlateDBError}
 use Rattle.slate_types.specs.declared.error.SlateDBError.TheVariants.{EmptyKey, KeyTooLong, ValueTooLong, SequenceExhausted, LimitReached}
@@ -32,7 +32,7 @@ use Rattle.slate_txn.specs.State.{Rules, Tx, State}
 use Rattle.slate_txn.specs.Step.{step}
 use Rattle.slate_db.specs.Flushed.{Layout}
 use Rattle.slate_db.specs.Load.{load, ops_load, weight}
-use Rattle.slate_db.specs.Installs.{HoldsTables, NumberedFrom, tables_of}
+use Rattle.slate_db.specs.Installs.{HoldsTables, NumberedFrom, runs_of}
 use Rattle.slate_db.specs.Meaning.{Meaning, IsLawfulMeaning, rules_of}
 use Rattle.slate_db.specs.Model.{CoreModel, Rows, versions_in}
 use Rattle.slate_types.specs.Rows.{of_key}
@@ -76,22 +76,22 @@ IsStep e stepped a = StandsFor e stepped.0 × (reply_of a ≡ stepped.1)
 abbrev pub AnswersAs : Meaning → SessionModel → SessionModel → Line → Result Answer SlateDBError → Type 0
 AnswersAs m before after line result = (s : State) → StandsFor before s → IfOk result (IsStep after (step (rules_of before.core.settings m) s line))
 
--- objects: what the store tells; flushes are numbered, each with one table
+-- objects: what the store tells; flushes are numbered, and the tables of each have places
 pub record HasTables (objects : Option Objects) (es : List Event) : Type 0 where
   pub holds : HoldsTables objects es
-  pub numbered : NumberedFrom 1 (tables_of es)
-  pub few : length (tables_of es) ≤ length es
+  pub numbered : NumberedFrom 1 (runs_of es)
+  pub few : length (runs_of es) ≤ length es
 
 abbrev pub IsTableUpTo : Meaning → Layout → ℕ → List ℕ × List ℕ → Type 0
 IsTableUpTo m layout n o = (t : IsTableObject m layout o) × (t.number ≤ n)
 
 -- The objects stand by their paths and not by their age, so the rows of a key are those of the tables where these rise.
-pub record HasTablesAlone (m : Meaning) (layout : Layout) (objects : Option Objects) (ts : List (Ulid × List ℕ)) : Type 0 where
+pub record HasTablesAlone (m : Meaning) (layout : Layout) (objects : Option Objects) (runs : List (List (Ulid × List ℕ))) : Type 0 where
   pub os : Objects
   pub told : objects ≡ Some os
-  pub each : AllByRecursion (IsTableUpTo m layout (length ts)) os
+  pub each : AllByRecursion (IsTableUpTo m layout (length runs)) os
   pub layers : List Rows
-  pub tables : AreTables m ts layers
+  pub tables : AreTables m (flat_map (λ ts. ts) runs) layers
   pub rows : Rows
   pub held : HoldRows m.encode os rows
   pub sorted : (k : List ℕ) → AreRising (versions_in k layers) → by_seq (of_key k rows) ≡ versions_in k layers
@@ -134,7 +134,7 @@ IsRefusal _ = ⊥
 -- what a line that stores nothing keeps
 pub record StoresNothing (old new : SessionModel) : Type 0 where
   pub settings : new.core.settings ≡ old.core.settings
-  pub tables : tables_of new.core.events ≡ tables_of old.core.events
+  pub runs : runs_of new.core.events ≡ runs_of old.core.events
   pub later : length old.core.events ≤ length new.core.events
   pub kept : (m : Meaning) → IsKept m old.core → IsKept m new.core
 

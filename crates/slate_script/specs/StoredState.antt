@@ -14,13 +14,15 @@ use Rattle.slate_db.specs.Flushed.{Layout}
 use Rattle.slate_db.specs.Installs.{root}
 use Rattle.slate_db.specs.Meaning.{Meaning, combine_of}
 
--- number: that of the flush, from 1
+-- number: that of the flush, from 1; place: that of the table in it, from 0
 pub record IsTableObject (m : Meaning) (layout : Layout) (o : List ℕ × List ℕ) : Type 0 where
   pub number : ℕ
   pub first : 1 ≤ number
   pub fits : number < 2 ^ 64
+  pub place : ℕ
+  pub place_fits : place < 2 ^ 64
   pub rows : List RowEntry
-  pub path : o.0 ≡ path_of root (table_id number 0)
+  pub path : o.0 ≡ path_of root (table_id number place)
   pub built : IsBuilt m.encode [] 0 layout.block_size layout.version o.1 rows
 
 pub record IsStoredState (m : Meaning) (r : Rules) (layout : Layout) (objects : Option Objects) (s : State) : Type 0 where

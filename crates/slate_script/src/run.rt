@@ -7,7 +7,7 @@ ghost use Rattle.slate_types.specs.World.{Made};
 ghost use Rattle.slate_store.specs.Lines.{lines_of, script_limit};
 ghost use Rattle.slate_txn.specs.State.{Rules, State, opening};
 ghost use Rattle.slate_db.specs.Flushed.{layout_of};
-ghost use Rattle.slate_db.specs.Installs.{tables_of};
+ghost use Rattle.slate_db.specs.Installs.{runs_of, tables_of};
 ghost use Rattle.slate_db.specs.Load.{load, weight};
 ghost use Rattle.slate_db.specs.Meaning.{Meaning, IsLawfulMeaning};
 ghost use Rattle.slate_db.specs.Parts.{IsTableError};
@@ -124,8 +124,8 @@ fn answer_line<W: Sink, S: Store, M: MergeOperator, T: BlockTransformer>(
     ensures answered { let reach = ⟦<EnvOf<S, M, T> as Outside>⟧.reach in (m : Meaning) (r : Rules) → IsRunning m r (reach env.old).meaning (reach env.old).objects session.old → (s : State) (before : List ℕ) → StandsFor session.old s → W.content sink.old ≡ Some before →
         OnOk result (W.content sink.new ≡ Some (before ++ replies_from meaning r s (line.now ∷ []))) }
     ensures grows { OnOk result ((weight session.new.core ≤ weight session.old.core + 2) × (load session.new.core ≤ load session.old.core + length line.now)) }
-    ensures alone { let reach = ⟦<EnvOf<S, M, T> as Outside>⟧.reach in (m : Meaning) (r : Rules) → IsRunning m r (reach env.old).meaning (reach env.old).objects session.old → HasTablesAlone m (layout_of options.now) (reach env.old).objects (tables_of session.old.core.events) →
-        OnOk result (HasTablesAlone m (layout_of options.now) (reach env.new).objects (tables_of session.new.core.events)) }
+    ensures alone { let reach = ⟦<EnvOf<S, M, T> as Outside>⟧.reach in (m : Meaning) (r : Rules) → IsRunning m r (reach env.old).meaning (reach env.old).objects session.old → HasTablesAlone m (layout_of options.now) (reach env.old).objects (runs_of session.old.core.events) →
+        OnOk result (HasTablesAlone m (layout_of options.now) (reach env.new).objects (runs_of session.new.core.events)) }
     ensures cause { IfErr result (λ e. (e ≡ SlateDBError.OutOfMemory) ⊎ (e ≡ SlateDBError.WriteFault) ⊎ ((e ≡ SlateDBError.ScriptSyntax number) × (is_line line.now ≡ false)) ⊎ IsPartError e ⊎ IsLimit session.old e) }
     ensures part { let reach = ⟦<EnvOf<S, M, T> as Outside>⟧.reach in IfErr result (λ e. IsPartError e → IsPartCause (reach env.old).faults (reach env.new).faults e) }
     ensures undamaged { let reach = ⟦<EnvOf<S, M, T> as Outside>⟧.reach in (m : Meaning) (r : Rules) → IsRunning m r (reach env.old).meaning (reach env.old).objects session.old → IfErr result (λ e. IsTableError e → ⊥) }

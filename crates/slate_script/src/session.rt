@@ -11,7 +11,7 @@ ghost use Rattle.slate_txn.specs.Reply.{Refused};
 ghost use Rattle.slate_txn.specs.Settings.{settings_of};
 ghost use Rattle.slate_txn.specs.State.{opening};
 ghost use Rattle.slate_db.specs.Flushed.{layout_of};
-ghost use Rattle.slate_db.specs.Installs.{tables_of};
+ghost use Rattle.slate_db.specs.Installs.{runs_of, tables_of};
 ghost use Rattle.slate_db.specs.Load.{load, weight};
 ghost use Rattle.slate_db.specs.Meaning.{Meaning, IsLawfulMeaning};
 ghost use Rattle.slate_db.specs.Parts.{IsTableError};
@@ -102,8 +102,8 @@ impl Session {
         ensures grows { OnOk result (Grows line self.old self.new) }
         ensures kept { let reach = ⟦<EnvOf<S, M, T> as Outside>⟧.reach in IsSettledIn (reach env.old) self.old →
             OnOk result (IsSettled (reach env.old).meaning (reach env.new).objects self.new) }
-        ensures alone { let reach = ⟦<EnvOf<S, M, T> as Outside>⟧.reach in IsSettledIn (reach env.old) self.old → HasTablesAlone (reach env.old).meaning (layout_of options.now) (reach env.old).objects (tables_of self.old.core.events) →
-            OnOk result (HasTablesAlone (reach env.old).meaning (layout_of options.now) (reach env.new).objects (tables_of self.new.core.events)) }
+        ensures alone { let reach = ⟦<EnvOf<S, M, T> as Outside>⟧.reach in IsSettledIn (reach env.old) self.old → HasTablesAlone (reach env.old).meaning (layout_of options.now) (reach env.old).objects (runs_of self.old.core.events) →
+            OnOk result (HasTablesAlone (reach env.old).meaning (layout_of options.now) (reach env.new).objects (runs_of self.new.core.events)) }
         ensures cause { let reach = ⟦<EnvOf<S, M, T> as Outside>⟧.reach in IfErr result (λ e. IsFault (reach env.old) (reach env.new) e ⊎ IsLimit self.old e ⊎ IsTableError e) }
         ensures shown { let reach = ⟦<EnvOf<S, M, T> as Outside>⟧.reach in IfErr result (λ e. IsTableError e → Made (reach env.old) (reach env.new) (λ reads. IsRefusedBy (reach env.old).meaning self.old.core reads e)) }
         ensures undamaged { let reach = ⟦<EnvOf<S, M, T> as Outside>⟧.reach in IsSettledIn (reach env.old) self.old →
@@ -238,7 +238,7 @@ impl Session {
         Ok(Answer::Frozen(seq))
     }
 
-    /// Stores the rows in memory as a table.
+    /// Stores the rows in memory as tables.
     fn flush<S: Store, M: MergeOperator, T: BlockTransformer>(
         &mut self,
         env: &mut Env<'_, S, M, T>,
@@ -250,8 +250,8 @@ impl Session {
         ensures grows { OnOk result (Grows Line.Flush self.old self.new) }
         ensures kept { let reach = ⟦<EnvOf<S, M, T> as Outside>⟧.reach in IsSettledIn (reach env.old) self.old →
             OnOk result (IsSettled (reach env.old).meaning (reach env.new).objects self.new) }
-        ensures alone { let reach = ⟦<EnvOf<S, M, T> as Outside>⟧.reach in IsSettledIn (reach env.old) self.old → HasTablesAlone (reach env.old).meaning (layout_of options.now) (reach env.old).objects (tables_of self.old.core.events) →
-            OnOk result (HasTablesAlone (reach env.old).meaning (layout_of options.now) (reach env.new).objects (tables_of self.new.core.events)) }
+        ensures alone { let reach = ⟦<EnvOf<S, M, T> as Outside>⟧.reach in IsSettledIn (reach env.old) self.old → HasTablesAlone (reach env.old).meaning (layout_of options.now) (reach env.old).objects (runs_of self.old.core.events) →
+            OnOk result (HasTablesAlone (reach env.old).meaning (layout_of options.now) (reach env.new).objects (runs_of self.new.core.events)) }
         ensures follows { let reach = ⟦<EnvOf<S, M, T> as Outside>⟧.reach in (os : Objects) → IsSettled (reach env.old).meaning (Some os) self.old → OnOk result (Follows (reach env.old).meaning os self.new (reach env.old).acts (reach env.new).acts) }
         ensures tables { let reach = ⟦<EnvOf<S, M, T> as Outside>⟧.reach in OnOk result (PutsTables (tables_of self.old.core.events) (tables_of self.new.core.events) (reach env.old).acts (reach env.new).acts) }
         ensures cause { let reach = ⟦<EnvOf<S, M, T> as Outside>⟧.reach in IfErr result (λ e. IsFault (reach env.old) (reach env.new) e ⊎ IsLimit self.old e) }

@@ -625,3 +625,12 @@ not_refused encode decode lawful bytes version info rows fits t = (index_fine, b
               (ap refusal again.1) refuses.3
           | inr past ↦ absurd (omega (arith, past.0, refuses.2, within, count))
         ]
+
+-- ---- the keys of an info
+
+pub info_keys : (encode : Encode) (bytes : List ℕ) (v : ℕ) (info : Info) (version : ℕ) (bs : List (List RowEntry)) (fs : List (List ℕ × List ℕ)) → IsTableOf encode bytes version bs fs → HasInfo bytes v info →
+    (info.first ≡ some_first (flat_map (λ b. b) bs)) × (info.last ≡ some_last (flat_map (λ b. b) bs))
+unfolding rows_in made_info
+info_keys encode bytes v info version bs fs t h =
+    let is = table_info encode bytes v info version bs fs t h in
+    (ap (λ (x : Info). x.first) is.1, ap (λ (x : Info). x.last) is.1)

@@ -12,6 +12,8 @@ use uuid::Uuid;
 
 const FIRST: &str = "db/compacted/00000000000000010000000000000000.sst";
 
+const SECOND: &str = "db/compacted/00000000000000010000000000000001.sst";
+
 type Parts<'a> = Env<'a, MemoryStore, NoOperator, Xor>;
 
 // The transaction that begins behind a core's one commit, and its start.
@@ -82,4 +84,72 @@ fn is_one_table_stored(alloc: Global) -> bool {
 #[test]
 fn a_flush_that_failed_is_tried_again(rt: HostRuntime) {
     assert!(rt; is_one_table_stored(rt.alloc()));
+}
+
+// The transaction that begins behind a core's one commit, of two keys.
+fn two_puts(alloc: Global, core: &mut Core) -> Option<Uuid> {
+    let mut batch = WriteBatch::new(alloc);
+    let first = batch.put(b"a", b"1").ok();
+    let second = batch.put(b"b", b"2").ok();
+    let written = core.write(batch, 0).ok();
+    let begun = core.begin(IsolationLevel::Snapshot).ok();
+    let (id, _start) = first.and(second).and(written).and(begun)?;
+    Some(id)
+}
+
+// Whether an open transaction finds a row at each of two keys.
+fn finds_both(core: &mut Core, env: &mut Parts<'_>, id: &Uuid) -> bool {
+    finds(core, env, id)
+        && core.is_open(id)
+        && is_there(core.get(id, b"b", &ReadOptions::default(), env))
+}
+
+// Whether both are found behind a flush.
+fn are_flushed(alloc: Global, core: &mut Core, env: &mut Parts<'_>, options: &Options) -> bool
+    requires { IsValid options.now }
+{
+    let Some(id) = two_puts(alloc, core) else {
+        return false;
+    };
+    matches!(core.flush(env, options).ok(), Some(1)) && finds_both(core, env, &id)
+}
+
+// The same of a core over the store whose tables take one key each.
+fn stores_two(alloc: Global, store: &mut MemoryStore) -> bool {
+    let mut options = Options::new();
+    options.table_bytes = 1;
+    let mut core = Core::new(alloc, &options);
+    let mut env: Parts<'_> = Env {
+        store,
+        operator: None,
+        transformer: None,
+    };
+    let are_stored = are_flushed(alloc, &mut core, &mut env, &options);
+    core.close();
+    are_stored
+}
+
+// Whether a store has the first two tables of a flush and no other object.
+fn has_two_tables(alloc: Global, store: &mut MemoryStore) -> bool {
+    match store.list(alloc) {
+        Ok(paths) => {
+            paths.len() == 2
+                && matches!(store.len(alloc, FIRST), Ok(Some(_)))
+                && matches!(store.len(alloc, SECOND), Ok(Some(_)))
+        }
+        Err(_) => false,
+    }
+}
+
+// Whether this is so of a store in memory.
+fn are_two_tables_stored(alloc: Global) -> bool {
+    let mut store = MemoryStore::new(alloc, Vec::new(alloc));
+    let are_stored = stores_two(alloc, &mut store) && has_two_tables(alloc, &mut store);
+    drop(store);
+    are_stored
+}
+
+#[test]
+fn a_flush_stores_two_tables(rt: HostRuntime) {
+    assert!(rt; are_two_tables_stored(rt.alloc()));
 }

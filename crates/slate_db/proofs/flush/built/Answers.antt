@@ -47,15 +47,15 @@ pub add-requires : goal.add-requires
 add-requires g c =
     let was = c.loop-row.invariant in
     record {
-      lengths = can_take _ (row_fits _ _ _ _ _ c.in-Some.ensures.steps.0 was.rows c.requires.fit);
-      order = row_order _ _ _ _ _ c.in-Some.ensures.steps.0 was.rows c.requires.order;
+      lengths = can_take _ (row_fits _ _ _ _ _ c.in-Some.ensures.steps.0 was.rows c.requires.ready.fit);
+      order = row_order _ _ _ _ _ c.in-Some.ensures.steps.0 was.rows c.requires.ready.order;
     }
 
 pub build-requires : goal.build-requires
 build-requires g c =
     let was = c.loop-row.invariant in
     let none : into_iter_items c.loop-row.row-iterator ≡ [] = nil_from_length _ (omega (arith, c.in-None.ensures.steps.0)) in
-    record { rows = subst (λ (xs : Rows). 0 < length xs) (sym (all_taken _ _ _ none was.rows)) c.requires.some }
+    record { rows = subst (λ (xs : Rows). 0 < length xs) (sym (all_taken _ _ _ none was.rows)) c.requires.ready.some }
 
 pub returns-in_err-add : goal.returns-in_err-add
 returns-in_err-add g c =
@@ -65,7 +65,7 @@ returns-in_err-add g c =
       version = IfOk-from_err c.from_residual-in_err-add.result _ c.from_residual-in_err-add.ensures.0;
       info = IfOk-from_err c.from_residual-in_err-add.result _ c.from_residual-in_err-add.ensures.0;
       cause = (let was = c.loop-row.invariant in
-          let row_ok = row_fits _ _ _ _ _ c.in-Some.ensures.steps.0 was.rows c.requires.fit in
+          let row_ok = row_fits _ _ _ _ _ c.in-Some.ensures.steps.0 was.rows c.requires.ready.fit in
           let faults = faults_of g.T.BlockTransformer.faults in
           rw (p.1, p.2)
           (subst (λ (rows : Rows). IsTransformFault (faults c.args.transformer.now) (faults c.add.new.transformer) c.in_err-add.field-0.0 ⊎ IsTooLarge (layout_of c.args.options.now) rows c.in_err-add.field-0.0)

@@ -1,39 +1,32 @@
-use Rattle.std.proofs.Common.{◌*◌, ◌^◌, map, inl, arith, refl, inr, ◌⊎◌, sym, subst}
+use Rattle.std.proofs.Common.{map, inl, inr, subst, sym, refl}
 use Rattle.std.proofs.lemmas.Result.{IfOk-from_err, err_from_is_err_and}
-use Rattle.slate_types.specs.declared.error.SlateDBError.{SlateDBError}
-use Rattle.slate_types.specs.Outside.{Counts, IsCounted}
-use Rattle.slate_types.proofs.Reaching.{puts_none, puts_of}
-use Rattle.slate_table.specs.SectionReading.{changed_by, IsTransformFault}
-use Rattle.slate_db.specs.Flushed.{IsTableOfFlush, layout_of}
+use Rattle.slate_types.specs.Outside.{IsCounted}
+use Rattle.slate_types.proofs.Reaching.{puts_none}
+use Rattle.slate_table.specs.SectionReading.{changed_by}
+use Rattle.slate_db.specs.Flushed.{layout_of}
 use Rattle.slate_db.proofs.Blocks.{if_err}
-use Rattle.slate_db.proofs.Causes.{store_fault, transform_fault}
-use Rattle.slate_db.proofs.Built.{read_again, version_known, may_keep}
+use Rattle.slate_db.proofs.Built.{may_keep}
+use Rattle.slate_db.proofs.RunSoFar.{both_ok, can_build, has_too_large, or_part, refused_as, run_is_put, some_of_flush}
 use Rattle.slate_db.proofs.flush.stored.Goals as goal
-use Rattle.slate_db.proofs.flush.stored.Given as given
 
-or_large : {B C : Type 0} (a b : Counts) (e : SlateDBError) → (B → C) → IsTransformFault a.transformer b.transformer e ⊎ B → IsCounted a b e ⊎ C
-or_large a b e f (inl h) = inl (transform_fault a b e h)
-or_large a b e f (inr h) = inr (f h)
-
-is_table : (g : given.Over) (c : goal.After-drop g) → IsTableOfFlush (changed_by g.T.BlockTransformer.encoded c.args.env.now.transformer) (layout_of c.args.options.now) c.args.number c.args.barrier (map (λ t. t.rows) c.args.frozen.now) (record { 0 = c.args.number * 2 ^ 64 }, c.in_ok-table.table.bytes)
-is_table g c = record {
-  rows = c.in_ok-rows.rows.items;
-  id = omega arith;
-  folded = c.in_ok-rows.ensures.folded;
-  built = c.in_ok-table.ensures.built;
-  read = read_again c.args.options.now.block_format c.in_ok-rows.rows.items c.in_ok-rows.ensures.fit;
-}
+pub stored_run-requires : goal.stored_run-requires
+stored_run-requires g c = record { valid = c.requires.valid; each = can_build c.args.options.now.table_bytes c.in_ok-rows.rows.items (map (λ t. t.items) c.in_ok-parts.parts.items) c.in_ok-parts.ensures.cut c.in_ok-rows.ensures.order c.in_ok-rows.ensures.fit }
 
 pub returns : goal.returns
 returns g c =
+    let encode = changed_by g.T.BlockTransformer.encoded c.args.env.now.transformer in
+    let layout = layout_of c.args.options.now in
+    let parts = map (λ t. t.items) c.in_ok-parts.parts.items in
+    let rows = c.in_ok-rows.ensures in
     record {
-      stored = (c.put-kept.ensures.stored (changed_by g.T.BlockTransformer.encoded c.args.env.now.transformer) (layout_of c.args.options.now) c.args.number c.args.barrier (map (λ t. t.rows) c.args.frozen.now) (is_table g c)
-          (version_known c.args.options.now.block_format) c.in_ok-table.ensures.version c.in_ok-table.ensures.info);
-      acts = c.put-kept.ensures.acts;
-      refused = c.put-kept.ensures.refused (changed_by g.T.BlockTransformer.encoded c.args.env.now.transformer) (layout_of c.args.options.now) c.args.number c.args.barrier (map (λ t. t.rows) c.args.frozen.now) (is_table g c);
-      cause = if_err c.put-kept.result _ _ (λ e h. inl (store_fault _ _ e h)) c.put-kept.ensures.cause;
-      operator = refl;
-      puts = puts_of _ _ refl c.built.ensures.same_encoded c.built.ensures.same_decoded (record { store = c.put-kept.ensures.later; operator = omega arith; transformer = c.built.ensures.later }) refl;
+      stored = both_ok c.stored_run.result _ _ _
+          (λ a put prefix. run_is_put encode layout c.args.number c.args.barrier _ c.in_ok-rows.rows.items parts a.0 a.1 _ _ rows.some rows.folded rows.order c.in_ok-parts.ensures.cut prefix put)
+          c.stored_run.ensures.stored c.stored_run.ensures.prefix;
+      acts = c.stored_run.ensures.acts;
+      refused = refused_as c.stored_run.result (some_of_flush encode layout c.args.number c.args.barrier _ c.in_ok-rows.rows.items parts _ _ rows.some rows.folded rows.order c.in_ok-parts.ensures.cut) c.stored_run.ensures.refused;
+      cause = if_err c.stored_run.result _ _ (λ e h. or_part (λ large. (c.in_ok-rows.rows.items, rows.folded, rows.order, has_too_large layout c.in_ok-rows.rows.items parts e c.in_ok-parts.ensures.cut large)) h) c.stored_run.ensures.cause;
+      operator = c.stored_run.ensures.operator;
+      puts = c.stored_run.ensures.puts;
     }
 
 pub returns-in_err-rows : goal.returns-in_err-rows
@@ -48,14 +41,14 @@ returns-in_err-rows g c =
       puts = puts_none _;
     }
 
-pub returns-in_err-table : goal.returns-in_err-table
-returns-in_err-table g c =
-    let p = err_from_is_err_and c.from_residual-in_err-table.result c.from_residual-in_err-table.ensures.1 in
+pub returns-in_err-parts : goal.returns-in_err-parts
+returns-in_err-parts g c =
+    let p = err_from_is_err_and c.from_residual-in_err-parts.result c.from_residual-in_err-parts.ensures.1 in
     record {
-      stored = IfOk-from_err c.from_residual-in_err-table.result _ c.from_residual-in_err-table.ensures.0;
-      acts = IfOk-from_err c.from_residual-in_err-table.result _ c.from_residual-in_err-table.ensures.0;
+      stored = IfOk-from_err c.from_residual-in_err-parts.result _ c.from_residual-in_err-parts.ensures.0;
+      acts = IfOk-from_err c.from_residual-in_err-parts.result _ c.from_residual-in_err-parts.ensures.0;
       refused = rw p.1 (may_keep _ _ _ (λ i. g.S.Store.objects c.args.env.now.store.now));
-      cause = rw (p.1, p.2) (or_large _ _ _ (λ large. (c.in_ok-rows.rows.items, c.in_ok-rows.ensures.folded, c.in_ok-rows.ensures.order, large)) c.in_err-table.ensures.cause);
+      cause = rw (p.1, p.2) (inl (subst (IsCounted _ _) (sym c.in_err-parts.ensures.cause) tt));
       operator = refl;
-      puts = puts_of _ _ refl c.built.ensures.same_encoded c.built.ensures.same_decoded (record { store = omega arith; operator = omega arith; transformer = c.built.ensures.later }) refl;
+      puts = puts_none _;
     }

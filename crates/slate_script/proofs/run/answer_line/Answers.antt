@@ -1,7 +1,7 @@
 use Rattle.std.proofs.Common.{◌≡◌, ◌<◌, ◌≤◌, arith, ◌++◌, ◌∷◌, [], ℕ, inr, Some, take, length, refl, sym, ap, subst, ◌∙◌, Ok, append-nil}
 use Rattle.slate_types.proofs.Reaching.{puts_none}
 use Rattle.slate_db.specs.Flushed.{layout_of}
-use Rattle.slate_db.specs.Installs.{tables_of}
+use Rattle.slate_db.specs.Installs.{runs_of, tables_of}
 use Rattle.slate_db.specs.Meaning.{Meaning}
 use Rattle.slate_db.specs.Parts.{meaning_of, counts_of}
 use Rattle.slate_language.specs.Answers.{reply_of}
@@ -69,8 +69,8 @@ returns-in-Ok g c =
           always c.write_reply.result (c.in-Ok.ensures.grows.0, let few : line_load c.in-Ok-Some.meaning ≤ length c.args.line.now = line-load c.args.line.now c.in-Ok-Some.meaning meant.1 in omega (arith, c.in-Ok.ensures.grows.1, few)));
       alone = (λ m r running alone.
           let layout = layout_of c.args.options.now in
-          always c.write_reply.result (subst (λ (x : Meaning). HasTablesAlone x layout (g.S.Store.objects c.answer.new.env.store.now) (tables_of c.answer.new.self.core.events)) running.meaning
-          (c.in-Ok.ensures.alone (is-settled running) (subst (λ (x : Meaning). HasTablesAlone x layout (g.S.Store.objects c.args.env.now.store.now) (tables_of c.args.session.now.core.events)) (sym running.meaning) alone))));
+          always c.write_reply.result (subst (λ (x : Meaning). HasTablesAlone x layout (g.S.Store.objects c.answer.new.env.store.now) (runs_of c.answer.new.self.core.events)) running.meaning
+          (c.in-Ok.ensures.alone (is-settled running) (subst (λ (x : Meaning). HasTablesAlone x layout (g.S.Store.objects c.args.env.now.store.now) (runs_of c.args.session.now.core.events)) (sym running.meaning) alone))));
       cause = writing-cause c.write_reply.result c.args.number c.args.line.now c.args.session.now c.write_reply.ensures.cause;
       part = writing-no-part (IsPartCause (counts_of (g.S.Store.faults c.args.env.now.store.now) g.M.MergeOperator.faults g.T.BlockTransformer.faults c.args.env.now.operator c.args.env.now.transformer) (counts_of (g.S.Store.faults c.answer.new.env.store.now) g.M.MergeOperator.faults g.T.BlockTransformer.faults c.answer.new.env.operator c.answer.new.env.transformer)) c.write_reply.result c.write_reply.ensures.cause;
       undamaged = λ m r running. writing-no-damage _ c.write_reply.result c.write_reply.ensures.cause;

@@ -3,7 +3,7 @@ use Rattle.slate_types.specs.Outside.{Puts}
 use Rattle.slate_store.specs.Reach.{reach_of}
 use Rattle.slate_store.specs.Lines.{script_limit}
 use Rattle.slate_db.specs.Flushed.{layout_of}
-use Rattle.slate_db.specs.Installs.{tables_of}
+use Rattle.slate_db.specs.Installs.{runs_of, tables_of}
 use Rattle.slate_db.specs.Load.{load, weight}
 use Rattle.slate_db.specs.Meaning.{IsLawfulMeaning}
 use Rattle.slate_script.specs.Run.{run_rules, Premises}
@@ -31,7 +31,7 @@ invariant-loop-line g l =
           now.meaning now.objects l.session;
       alone : Premises before.meaning before.objects
           → HasTablesAlone before.meaning
-          (layout_of l.options) now.objects (tables_of l.session.core.events);
+          (layout_of l.options) now.objects (runs_of l.session.core.events);
       followed : IsLawfulMeaning before.meaning → Follows before.meaning [] l.session before.acts now.acts;
       stored : PutsTables [] (tables_of l.session.core.events) before.acts now.acts;
       source_later : g.R.Source.faults l.initial.source ≤ g.R.Source.faults l.source;

@@ -46,7 +46,7 @@ returns g c =
     let meant = c.flush.ensures.puts.meaning in
     record {
       found = (λ os told.
-          let table = flushed-first _ _ os c.write.new.self c.in_ok-flush.ensures.installed.0 c.flush.new.self c.in_ok-flush.field-0 _ _ told p.tables c.in_ok-flush.ensures.installed.1 c.in_ok-flush.ensures.installed.2 in
+          let table = flushed-first _ _ os c.write.new.self c.in_ok-flush.ensures.installed.0 c.flush.new.self c.in_ok-flush.field-0 _ _ told p.runs c.in_ok-flush.ensures.installed.1 c.in_ok-flush.ensures.installed.2 in
           finds-first c.args.key.now c.args.value.now c.in_ok-reader.reader Snapshot c.write.new.self c.begin.new.self c.get.new.self.state c.in_ok-found.found _ _ p
           (ap (λ (x : CoreModel). x.settings) c.in_ok-reader.ensures.event ∙ c.flush.ensures.settings)
           meant refl opened

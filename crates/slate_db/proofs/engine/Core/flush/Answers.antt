@@ -1,4 +1,4 @@
-use Rattle.std.proofs.Common.{◌≡◌, ℕ, List, OnOk, refl, true, false, ◌<◌, ◌⊎◌, length, Err, inl, inr, sym, ap, subst, ◌∙◌, arith}
+use Rattle.std.proofs.Common.{◌≡◌, ℕ, List, OnOk, refl, true, false, ◌<◌, ◌⊎◌, length, Err, inl, inr, sym, ap, subst, ◌∙◌, arith, [], append-nil}
 use Rattle.std.proofs.lemmas.Result.{err_from_is_err_and, IfOk-from_err}
 use Rattle.slate_types.specs.declared.error.SlateDBError.{SlateDBError}
 use Rattle.slate_types.specs.declared.error.SlateDBError.TheVariants as errors
@@ -120,7 +120,7 @@ returns-then-is_empty-clause-installed g c = (
 
 pub returns-then-is_empty-clause-acts : goal.returns-then-is_empty-clause-acts
 returns-then-is_empty-clause-acts g c =
-    inl (ap (λ (l : LogModel). tables_of l.events) c.note_flush.ensures.value ∙ ap (λ (v : CoreModel). tables_of v.events) c.self.view_is ∙ frozen_tables c.args.self.now c.freeze.new.self c.in_ok-freeze.ensures.event, refl)
+    ([], ap (λ (l : LogModel). tables_of l.events) c.note_flush.ensures.value ∙ ap (λ (v : CoreModel). tables_of v.events) c.self.view_is ∙ frozen_tables c.args.self.now c.freeze.new.self c.in_ok-freeze.ensures.event ∙ sym (append-nil (tables_of c.args.self.now.events)), refl)
 
 pub returns-then-is_empty-clause-taken : goal.returns-then-is_empty-clause-taken
 returns-then-is_empty-clause-taken g c = (

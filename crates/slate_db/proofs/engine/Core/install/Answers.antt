@@ -1,4 +1,4 @@
-use Rattle.std.proofs.Common.{◌≡◌, ℕ, ◌+◌, ◌<◌, ◌≤◌, ◌++◌, ◌∷◌, [], List, map, length, refl, ap, sym, subst, ◌∙◌, arith, inl}
+use Rattle.std.proofs.Common.{◌≡◌, ℕ, ◌+◌, ◌<◌, ◌≤◌, ◌++◌, ◌∷◌, [], List, map, length, refl, ap, sym, subst, ◌∙◌, arith, append-nil, inl}
 use Rattle.std.proofs.lemmas.Result.{err_from_is_err_and, IfOk-from_err}
 use Rattle.std.specs.Prelude.{Ok}
 use Rattle.std.specs.List.{AllByRecursion}
@@ -12,32 +12,34 @@ use Rattle.slate_txn.specs.declared.event.Event.TheVariants as events
 use Rattle.slate_txn.specs.State.{last_of}
 use Rattle.slate_txn.specs.Open.{least_begin}
 use Rattle.slate_db.specs.declared.engine.Core.TheInside.{Inside}
-use Rattle.slate_db.specs.Flushed.{after_install, layout_of, CanFlush, IsTableOfFlush, MayFlush, MayTakeTable, IsFlushed, TooLarge, stored}
+use Rattle.slate_db.specs.Flushed.{after_install, layout_of, AreSomeOfFlush, AreTablesOfFlush, CanFlush, MayFlush, MayTakeTables, IsFlushed, TooLarge, stored}
+use Rattle.slate_db.specs.Cut.{AreCut}
 use Rattle.slate_db.specs.Answered.{AddsTables}
-use Rattle.slate_db.specs.Installs.{tables_of}
+use Rattle.slate_db.specs.Installs.{ArePlaced, runs_of, tables_of}
 use Rattle.slate_db.specs.Layers.{AreLayers, LayersModel}
 use Rattle.slate_db.specs.Log.{IsLog, LogModel, with_install}
 use Rattle.slate_db.specs.Model.{CoreModel, IsSame, Rows}
 use Rattle.slate_db.specs.Sound.{IsKept}
 use Rattle.slate_db.specs.View.{view_of, unseen_of, IsWholeInside}
-use Rattle.slate_db.proofs.Installs.{kept_install, can_flush, table_of_flush, moved}
+use Rattle.slate_db.proofs.Installs.{kept_install, can_flush, tables_of_parts, moved}
 use Rattle.slate_db.proofs.Built.{may_keep}
 use Rattle.slate_db.proofs.Keeps.{kept_same, room_made}
 use Rattle.slate_db.proofs.Lists.{first_ok, second_ok}
 use Rattle.slate_db.proofs.Loads.{last_cause, too_large_is}
 use Rattle.slate_db.proofs.Logs.{has_place}
 use Rattle.slate_db.proofs.Puttings.{adds_installed}
-use Rattle.slate_db.proofs.Calls.{installed_is, layers_installed_of, place_in, room_for_table, room_in_log}
+use Rattle.slate_db.proofs.Runs.{are_placed}
+use Rattle.slate_db.proofs.Calls.{installed_is, layers_installed_of, place_in, room_for_run, room_in_log}
 use Rattle.slate_db.proofs.Wholes.{whole_install, within_newest}
 use Rattle.slate_db.proofs.engine.Core.install.Goals as goal
 use Rattle.slate_db.proofs.engine.Core.install.Given as given
 
 pub invariant_of-self-2 : goal.invariant_of-self-2
 invariant_of-self-2 g c =
-    subst IsWholeInside (installed_is c.self.inside c.reserve.new.self c.push_install.new.self c.reserve_table.new.self c.install.new.self c.in_ok-put.ensures.stored.t c.in_ok-put.put.1 c.barrier-barrier.result (least_begin c.self.inside.log.last c.self.inside.transactions) c.reserve.ensures.value (c.push_install.ensures.value c.in_ok-put.ensures.stored.t c.in_ok-put.ensures.stored.list) c.reserve_table.ensures.value c.install.ensures.value (c.barrier-barrier.ensures ∙ ap (λ n. least_begin n c.self.inside.transactions) (c.last.ensures ∙ ap (λ (l : LogModel). l.last) c.reserve.ensures.value)))
-    (whole_install (view_of c.self.inside) (unseen_of c.self.inside) c.in_ok-put.ensures.stored.t c.in_ok-put.put.1 c.push_install.new.self.spare c.install.new.self.for_freeze c.install.new.self.for_table c.in_ok-put.ensures.stored.kept
-    (subst IsLog (c.push_install.ensures.value c.in_ok-put.ensures.stored.t c.in_ok-put.ensures.stored.list ∙ ap (λ (l : LogModel). with_install l c.in_ok-put.ensures.stored.t c.push_install.new.self.spare) c.reserve.ensures.value) c.push_install.ensures.whole)
-    (subst AreLayers (c.install.ensures.value ∙ (let y = c.reserve_table.ensures.value in let b = (c.barrier-barrier.ensures ∙ ap (λ n. least_begin n c.self.inside.transactions) (c.last.ensures ∙ ap (λ (l : LogModel). l.last) c.reserve.ensures.value)) in λ i. layers_installed_of (y i) c.in_ok-put.put.1 (b i) c.install.new.self.for_freeze c.install.new.self.for_table)) c.install.ensures.whole) c.self.invariant)
+    subst IsWholeInside (installed_is c.self.inside c.reserve.new.self c.push_install.new.self c.reserve_run.new.self c.install.new.self c.in_ok-put.put.0 c.in_ok-put.put.1 c.barrier-barrier.result (least_begin c.self.inside.log.last c.self.inside.transactions) c.reserve.ensures.value c.push_install.ensures.value c.reserve_run.ensures.value c.install.ensures.value (c.barrier-barrier.ensures ∙ ap (λ n. least_begin n c.self.inside.transactions) (c.last.ensures ∙ ap (λ (l : LogModel). l.last) c.reserve.ensures.value)))
+    (whole_install (view_of c.self.inside) (unseen_of c.self.inside) c.in_ok-put.put.0 c.in_ok-put.put.1 c.push_install.new.self.spare c.install.new.self.for_freeze c.install.new.self.for_run c.in_ok-put.ensures.stored.kept
+    (subst IsLog (c.push_install.ensures.value ∙ ap (λ (l : LogModel). with_install l c.in_ok-put.put.0 c.push_install.new.self.spare) c.reserve.ensures.value) c.push_install.ensures.whole)
+    (subst AreLayers (c.install.ensures.value ∙ (let y = c.reserve_run.ensures.value in let b = (c.barrier-barrier.ensures ∙ ap (λ n. least_begin n c.self.inside.transactions) (c.last.ensures ∙ ap (λ (l : LogModel). l.last) c.reserve.ensures.value)) in λ i. layers_installed_of (y i) c.in_ok-put.put.1 (b i) c.install.new.self.for_freeze c.install.new.self.for_run)) c.install.ensures.whole) c.self.invariant)
 
 pub barrier-barrier-requires : goal.barrier-barrier-requires
 barrier-barrier-requires g c = subst (λ (n : ℕ). AllByRecursion (λ p. p.1.begin ≤ n) c.self.inside.transactions) (sym (c.last.ensures ∙ ap (λ (l : LogModel). l.last) c.reserve.ensures.value))
@@ -46,7 +48,7 @@ barrier-barrier-requires g c = subst (λ (n : ℕ). AllByRecursion (λ p. p.1.be
 pub stored-requires : goal.stored-requires
 stored-requires g c = record {
   valid = c.requires.valid;
-  ready = subst CanFlush (sym (c.frozen.ensures ∙ ap (λ (y : LayersModel). y.frozen) c.reserve_table.ensures.value))
+  ready = subst CanFlush (sym (c.frozen.ensures ∙ ap (λ (y : LayersModel). y.frozen) c.reserve_run.ensures.value))
       (can_flush (view_of c.self.inside) (unseen_of c.self.inside) c.self.invariant (subst (λ (v : CoreModel). 0 < length v.frozen) (sym c.self.view_is) c.requires.some));
 }
 
@@ -54,42 +56,44 @@ pub push_install-requires : goal.push_install-requires
 push_install-requires g c =
     let went : c.and.result ≡ Ok c.in_ok-and.field-0 = grind (arith, c.branch-and.ensures, c.in_ok-and.is) in
     record {
-      place = has_place c.self.inside.log c.reserve.new.self c.reserve.ensures.value (first_ok c.reserve.result c.reserve_table.result _ (sym c.and.ensures ∙ went) c.reserve.ensures.room) (place_in (view_of c.self.inside) c.args.self.now (unseen_of c.self.inside) 1 c.self.view_is c.self.invariant c.requires.place);
-      table = (c.in_ok-put.ensures.stored.t, c.in_ok-put.ensures.stored.list, c.in_ok-put.ensures.stored.table.id ∙ ap (λ n. table_id n 0) c.next_install-number.ensures);
+      place = has_place c.self.inside.log c.reserve.new.self c.reserve.ensures.value (first_ok c.reserve.result c.reserve_run.result _ (sym c.and.ensures ∙ went) c.reserve.ensures.room) (place_in (view_of c.self.inside) c.args.self.now (unseen_of c.self.inside) 1 c.self.view_is c.self.invariant c.requires.place);
+      tables = subst (λ (n : ℕ). ArePlaced n 0 c.in_ok-put.put.0) c.next_install-number.ensures (are_placed _ _ _ _ c.in_ok-put.ensures.stored.made.parts c.in_ok-put.put.0 c.in_ok-put.ensures.stored.made.built);
     }
 
 pub install-requires : goal.install-requires
 install-requires g c =
     let went : c.and.result ≡ Ok c.in_ok-and.field-0 = grind (arith, c.branch-and.ensures, c.in_ok-and.is) in
-    second_ok c.reserve.result c.reserve_table.result _ (sym c.and.ensures ∙ went) c.reserve_table.ensures.room
+    second_ok c.reserve.result c.reserve_run.result _ (sym c.and.ensures ∙ went) c.reserve_run.ensures.room
 
 pub returns : goal.returns
 returns g c =
-    let becomes = installed_is c.self.inside c.reserve.new.self c.push_install.new.self c.reserve_table.new.self c.install.new.self c.in_ok-put.ensures.stored.t c.in_ok-put.put.1 c.barrier-barrier.result (least_begin c.self.inside.log.last c.self.inside.transactions) c.reserve.ensures.value (c.push_install.ensures.value c.in_ok-put.ensures.stored.t c.in_ok-put.ensures.stored.list) c.reserve_table.ensures.value c.install.ensures.value (c.barrier-barrier.ensures ∙ ap (λ n. least_begin n c.self.inside.transactions) (c.last.ensures ∙ ap (λ (l : LogModel). l.last) c.reserve.ensures.value)) in
-    let log : c.push_install.new.self ≡ with_install c.self.inside.log c.in_ok-put.ensures.stored.t c.push_install.new.self.spare = c.push_install.ensures.value c.in_ok-put.ensures.stored.t c.in_ok-put.ensures.stored.list ∙ ap (λ (l : LogModel). with_install l c.in_ok-put.ensures.stored.t c.push_install.new.self.spare) c.reserve.ensures.value in
+    let becomes = installed_is c.self.inside c.reserve.new.self c.push_install.new.self c.reserve_run.new.self c.install.new.self c.in_ok-put.put.0 c.in_ok-put.put.1 c.barrier-barrier.result (least_begin c.self.inside.log.last c.self.inside.transactions) c.reserve.ensures.value c.push_install.ensures.value c.reserve_run.ensures.value c.install.ensures.value (c.barrier-barrier.ensures ∙ ap (λ n. least_begin n c.self.inside.transactions) (c.last.ensures ∙ ap (λ (l : LogModel). l.last) c.reserve.ensures.value)) in
+    let log : c.push_install.new.self ≡ with_install c.self.inside.log c.in_ok-put.put.0 c.push_install.new.self.spare = c.push_install.ensures.value ∙ ap (λ (l : LogModel). with_install l c.in_ok-put.put.0 c.push_install.new.self.spare) c.reserve.ensures.value in
     let encode : Encode = changed_by g.T.BlockTransformer.encoded c.args.env.now.transformer in
-    let made : IsTableOfFlush (changed_by g.T.BlockTransformer.encoded c.args.env.now.transformer) (layout_of c.args.options.now) (length (tables_of (view_of c.self.inside).events) + 1) (least_begin c.self.inside.log.last (view_of c.self.inside).state.txns) (view_of c.self.inside).frozen c.in_ok-put.ensures.stored.t =
-    moved (λ n b layers. IsTableOfFlush (changed_by g.T.BlockTransformer.encoded c.args.env.now.transformer) (layout_of c.args.options.now) n b layers c.in_ok-put.ensures.stored.t)
-    c.next_install-number.result (length (tables_of (view_of c.self.inside).events) + 1) c.barrier-barrier.result (least_begin c.self.inside.log.last (view_of c.self.inside).state.txns) (map (λ t. t.rows) c.frozen.result.now) (view_of c.self.inside).frozen
-    (c.next_install-number.ensures ∙ ap (λ (l : LogModel). l.installs + 1) c.reserve.ensures.value ∙ ap (λ n. n + 1) c.self.invariant.log.installs) (c.barrier-barrier.ensures ∙ ap (λ n. least_begin n c.self.inside.transactions) (c.last.ensures ∙ ap (λ (l : LogModel). l.last) c.reserve.ensures.value)) (c.frozen.ensures ∙ ap (λ (y : LayersModel). y.frozen) c.reserve_table.ensures.value) c.in_ok-put.ensures.stored.table in
+    let made : AreTablesOfFlush (changed_by g.T.BlockTransformer.encoded c.args.env.now.transformer) (layout_of c.args.options.now) (length (runs_of (view_of c.self.inside).events) + 1) (least_begin c.self.inside.log.last (view_of c.self.inside).state.txns) (view_of c.self.inside).frozen c.in_ok-put.put.0 =
+    moved (λ n b layers. AreTablesOfFlush (changed_by g.T.BlockTransformer.encoded c.args.env.now.transformer) (layout_of c.args.options.now) n b layers c.in_ok-put.put.0)
+    c.next_install-number.result (length (runs_of (view_of c.self.inside).events) + 1) c.barrier-barrier.result (least_begin c.self.inside.log.last (view_of c.self.inside).state.txns) (map (λ t. t.rows) c.frozen.result.now) (view_of c.self.inside).frozen
+    (c.next_install-number.ensures ∙ ap (λ (l : LogModel). l.installs + 1) c.reserve.ensures.value ∙ ap (λ n. n + 1) c.self.invariant.log.installs) (c.barrier-barrier.ensures ∙ ap (λ n. least_begin n c.self.inside.transactions) (c.last.ensures ∙ ap (λ (l : LogModel). l.last) c.reserve.ensures.value)) (c.frozen.ensures ∙ ap (λ (y : LayersModel). y.frozen) c.reserve_run.ensures.value) c.in_ok-put.ensures.stored.made in
     record {
       newest = c.last-2.ensures ∙ ap (λ (l : LogModel). l.last) log ∙ c.self.invariant.log.last ∙ ap (λ (v : CoreModel). last_of v.settings.start_seq v.state.commits) c.self.view_is;
       installed = (
           subst (λ (n : ℕ). IsFlushed (changed_by g.T.BlockTransformer.encoded c.args.env.now.transformer) (layout_of c.args.options.now) c.args.self.now (view_of (record c.self.inside { log = c.push_install.new.self; layers = c.install.new.self })) n (g.S.Store.objects c.args.env.now.store.now) (g.S.Store.objects c.stored.new.env.store.now)) (sym (c.last-2.ensures ∙ ap (λ (l : LogModel). l.last) log))
-          (stored c.in_ok-put.ensures.stored.t
-          (sym (ap view_of becomes) ∙ ap (λ (v : CoreModel). after_install v c.self.inside.log.last c.in_ok-put.ensures.stored.t c.push_install.new.self.spare) c.self.view_is)
-          (subst (λ (v : CoreModel). IsTableOfFlush (changed_by g.T.BlockTransformer.encoded c.args.env.now.transformer) (layout_of c.args.options.now) (length (tables_of v.events) + 1) (least_begin c.self.inside.log.last v.state.txns) v.frozen c.in_ok-put.ensures.stored.t) c.self.view_is made)
+          (stored c.in_ok-put.put.0
+          (sym (ap view_of becomes) ∙ ap (λ (v : CoreModel). after_install v c.self.inside.log.last c.in_ok-put.put.0 c.push_install.new.self.spare) c.self.view_is)
+          (subst (λ (v : CoreModel). AreTablesOfFlush (changed_by g.T.BlockTransformer.encoded c.args.env.now.transformer) (layout_of c.args.options.now) (length (runs_of v.events) + 1) (least_begin c.self.inside.log.last v.state.txns) v.frozen c.in_ok-put.put.0) c.self.view_is made)
           c.in_ok-put.ensures.stored.taken));
       acts = (subst (λ (v : CoreModel). AddsTables (tables_of v.events) (tables_of c.push_install.new.self.events) (g.S.Store.acts c.args.env.now.store.now) (g.S.Store.acts c.stored.new.env.store.now)) c.self.view_is
           (adds_installed c.self.inside.log.events c.push_install.new.self.events c.self.inside.log.last c.in_ok-put.put.0 (g.S.Store.acts c.args.env.now.store.now) (g.S.Store.acts c.stored.new.env.store.now)
-          (ap (λ (l : LogModel). l.events) log ∙ ap (λ ts. c.self.inside.log.events ++ (events.Install c.self.inside.log.last ts ∷ [])) (sym c.in_ok-put.ensures.stored.list)) c.in_ok-put.ensures.stored.t c.in_ok-put.ensures.stored.list c.in_ok-put.ensures.acts));
+          (ap (λ (l : LogModel). l.events) log) c.in_ok-put.ensures.acts));
       same = tt;
       refused = tt;
       kept = (λ m same k.
           subst (λ (s : Inside). IsKept m (view_of s)) becomes
-          (kept_install m (view_of c.self.inside) (unseen_of c.self.inside) c.in_ok-put.ensures.stored.t c.push_install.new.self.spare (layout_of c.args.options.now).version made.rows c.self.invariant
+          (kept_install m (view_of c.self.inside) (unseen_of c.self.inside) c.in_ok-put.put.0 c.push_install.new.self.spare (layout_of c.args.options.now).table_bytes made.rows made.parts c.self.invariant
           (ap (λ (v : CoreModel). v.active) c.self.view_is ∙ c.requires.idle)
-          (subst (λ (encode : Encode). IsTable encode c.in_ok-put.ensures.stored.t.1 (layout_of c.args.options.now).version made.rows) (sym same) (table_of_flush _ _ _ _ _ c.in_ok-put.ensures.stored.t made))
+          (tables_of_parts m _ _ _ _ made.parts c.in_ok-put.put.0 same made.built)
+          made.order
+          (subst (AreCut (layout_of c.args.options.now).table_bytes made.rows) (append-nil made.parts) made.cut)
           (made.folded m)
           (subst (λ (v : CoreModel). IsKept m v) (sym c.self.view_is) k)));
       cause = tt;
@@ -99,14 +103,14 @@ returns g c =
 
 -- room was made, and nothing else
 
-same_room : (s : Inside) (l : LogModel) (y : LayersModel) → l ≡ record s.log { spare = l.spare } → y ≡ record s.layers { for_table = y.for_table } → IsSame (view_of s) (view_of (record s { log = l; layers = y }))
+same_room : (s : Inside) (l : LogModel) (y : LayersModel) → l ≡ record s.log { spare = l.spare } → y ≡ record s.layers { for_run = y.for_run } → IsSame (view_of s) (view_of (record s { log = l; layers = y }))
 same_room s l y room table = λ i. view_of (record s { log = room i; layers = table i })
 
 pub invariant_of-self : goal.invariant_of-self
-invariant_of-self g c = room_for_table (record c.self.inside { log = c.reserve.new.self }) c.reserve_table.new.self c.reserve_table.ensures.value (room_in_log c.self.inside c.reserve.new.self c.reserve.ensures.value c.reserve.ensures.whole c.self.invariant)
+invariant_of-self g c = room_for_run (record c.self.inside { log = c.reserve.new.self }) c.reserve_run.new.self c.reserve_run.ensures.value (room_in_log c.self.inside c.reserve.new.self c.reserve.ensures.value c.reserve.ensures.whole c.self.invariant)
 
 pub invariant_of-self-in_err-put : goal.invariant_of-self-in_err-put
-invariant_of-self-in_err-put g c = room_for_table (record c.self.inside { log = c.reserve.new.self }) c.reserve_table.new.self c.reserve_table.ensures.value (room_in_log c.self.inside c.reserve.new.self c.reserve.ensures.value c.reserve.ensures.whole c.self.invariant)
+invariant_of-self-in_err-put g c = room_for_run (record c.self.inside { log = c.reserve.new.self }) c.reserve_run.new.self c.reserve_run.ensures.value (room_in_log c.self.inside c.reserve.new.self c.reserve.ensures.value c.reserve.ensures.whole c.self.invariant)
 
 pub returns-in_err-put : goal.returns-in_err-put
 returns-in_err-put g c =
@@ -115,22 +119,22 @@ returns-in_err-put g c =
       newest = IfOk-from_err c.from_residual-in_err-put.result _ c.from_residual-in_err-put.ensures.0;
       installed = IfOk-from_err c.from_residual-in_err-put.result _ c.from_residual-in_err-put.ensures.0;
       acts = IfOk-from_err c.from_residual-in_err-put.result _ c.from_residual-in_err-put.ensures.0;
-      same = rw p.1 (subst (λ (v : CoreModel). IsSame v (view_of (record c.self.inside { log = c.reserve.new.self; layers = c.reserve_table.new.self }))) c.self.view_is (same_room c.self.inside c.reserve.new.self c.reserve_table.new.self c.reserve.ensures.value c.reserve_table.ensures.value));
+      same = rw p.1 (subst (λ (v : CoreModel). IsSame v (view_of (record c.self.inside { log = c.reserve.new.self; layers = c.reserve_run.new.self }))) c.self.view_is (same_room c.self.inside c.reserve.new.self c.reserve_run.new.self c.reserve.ensures.value c.reserve_run.ensures.value));
       refused = (let enc = changed_by g.T.BlockTransformer.encoded c.args.env.now.transformer in
           let barrier = (c.barrier-barrier.ensures ∙ ap (λ n. least_begin n c.self.inside.transactions) (c.last.ensures ∙ ap (λ (l : LogModel). l.last) c.reserve.ensures.value)) ∙ ap (λ n. least_begin n (view_of c.self.inside).state.txns) c.self.invariant.log.last in
           rw p.1
           (subst (λ (v : CoreModel). MayFlush enc (layout_of c.args.options.now) v (g.S.Store.objects c.args.env.now.store.now) (g.S.Store.objects c.stored.new.env.store.now)) c.self.view_is
-          (moved (λ n b layers. MayTakeTable (IsTableOfFlush enc (layout_of c.args.options.now) n b layers) (g.S.Store.objects c.args.env.now.store.now) (g.S.Store.objects c.stored.new.env.store.now))
-          c.next_install-number.result (length (tables_of (view_of c.self.inside).events) + 1) c.barrier-barrier.result (least_begin (last_of (view_of c.self.inside).settings.start_seq (view_of c.self.inside).state.commits) (view_of c.self.inside).state.txns) (map (λ t. t.rows) c.frozen.result.now) (view_of c.self.inside).frozen
-          (c.next_install-number.ensures ∙ ap (λ (l : LogModel). l.installs + 1) c.reserve.ensures.value ∙ ap (λ n. n + 1) c.self.invariant.log.installs) barrier (c.frozen.ensures ∙ ap (λ (y : LayersModel). y.frozen) c.reserve_table.ensures.value) c.in_err-put.ensures.refused)));
+          (moved (λ n b layers. MayTakeTables (AreSomeOfFlush enc (layout_of c.args.options.now) n b layers) (g.S.Store.objects c.args.env.now.store.now) (g.S.Store.objects c.stored.new.env.store.now))
+          c.next_install-number.result (length (runs_of (view_of c.self.inside).events) + 1) c.barrier-barrier.result (least_begin (last_of (view_of c.self.inside).settings.start_seq (view_of c.self.inside).state.commits) (view_of c.self.inside).state.txns) (map (λ t. t.rows) c.frozen.result.now) (view_of c.self.inside).frozen
+          (c.next_install-number.ensures ∙ ap (λ (l : LogModel). l.installs + 1) c.reserve.ensures.value ∙ ap (λ n. n + 1) c.self.invariant.log.installs) barrier (c.frozen.ensures ∙ ap (λ (y : LayersModel). y.frozen) c.reserve_run.ensures.value) c.in_err-put.ensures.refused)));
       kept = (λ m same k.
-          kept_same m (view_of c.self.inside) (view_of (record c.self.inside { log = c.reserve.new.self; layers = c.reserve_table.new.self })) (same_room c.self.inside c.reserve.new.self c.reserve_table.new.self c.reserve.ensures.value c.reserve_table.ensures.value) (subst (λ (v : CoreModel). IsKept m v) (sym c.self.view_is) k));
+          kept_same m (view_of c.self.inside) (view_of (record c.self.inside { log = c.reserve.new.self; layers = c.reserve_run.new.self })) (same_room c.self.inside c.reserve.new.self c.reserve_run.new.self c.reserve.ensures.value c.reserve_run.ensures.value) (subst (λ (v : CoreModel). IsKept m v) (sym c.self.view_is) k));
       cause = (let layout = layout_of c.args.options.now in
           let barrier = (c.barrier-barrier.ensures ∙ ap (λ n. least_begin n c.self.inside.transactions) (c.last.ensures ∙ ap (λ (l : LogModel). l.last) c.reserve.ensures.value)) ∙ ap (λ n. least_begin n (view_of c.self.inside).state.txns) c.self.invariant.log.last in
           rw (p.1, p.2)
           (last_cause (λ large. subst (λ (v : CoreModel). TooLarge layout v c.in_err-put.field-0.0) c.self.view_is
           (too_large_is layout (view_of c.self.inside) c.barrier-barrier.result (map (λ t. t.rows) c.frozen.result.now) large.0 c.in_err-put.field-0.0
-          (ap (λ (v : CoreModel). v.active) c.self.view_is ∙ c.requires.idle) barrier (c.frozen.ensures ∙ ap (λ (y : LayersModel). y.frozen) c.reserve_table.ensures.value) c.self.invariant.layers.fit large.1 large.2 large.3))
+          (ap (λ (v : CoreModel). v.active) c.self.view_is ∙ c.requires.idle) barrier (c.frozen.ensures ∙ ap (λ (y : LayersModel). y.frozen) c.reserve_run.ensures.value) c.self.invariant.layers.fit large.1 large.2 large.3))
           c.in_err-put.ensures.cause));
       operator = c.stored.ensures.operator;
       puts = c.stored.ensures.puts;
@@ -143,10 +147,10 @@ returns-in_err-and g c =
       newest = IfOk-from_err c.from_residual.result _ c.from_residual.ensures.0;
       installed = IfOk-from_err c.from_residual.result _ c.from_residual.ensures.0;
       acts = IfOk-from_err c.from_residual.result _ c.from_residual.ensures.0;
-      same = rw p.1 (subst (λ (v : CoreModel). IsSame v (view_of (record c.self.inside { log = c.reserve.new.self; layers = c.reserve_table.new.self }))) c.self.view_is (same_room c.self.inside c.reserve.new.self c.reserve_table.new.self c.reserve.ensures.value c.reserve_table.ensures.value));
+      same = rw p.1 (subst (λ (v : CoreModel). IsSame v (view_of (record c.self.inside { log = c.reserve.new.self; layers = c.reserve_run.new.self }))) c.self.view_is (same_room c.self.inside c.reserve.new.self c.reserve_run.new.self c.reserve.ensures.value c.reserve_run.ensures.value));
       refused = rw p.1 (may_keep _ _ _ refl);
       kept = (λ m same k.
-          kept_same m (view_of c.self.inside) (view_of (record c.self.inside { log = c.reserve.new.self; layers = c.reserve_table.new.self })) (same_room c.self.inside c.reserve.new.self c.reserve_table.new.self c.reserve.ensures.value c.reserve_table.ensures.value) (subst (λ (v : CoreModel). IsKept m v) (sym c.self.view_is) k));
+          kept_same m (view_of c.self.inside) (view_of (record c.self.inside { log = c.reserve.new.self; layers = c.reserve_run.new.self })) (same_room c.self.inside c.reserve.new.self c.reserve_run.new.self c.reserve.ensures.value c.reserve_run.ensures.value) (subst (λ (v : CoreModel). IsKept m v) (sym c.self.view_is) k));
       cause = rw (p.1, p.2) (inl tt);
       operator = refl;
       puts = puts_none _;

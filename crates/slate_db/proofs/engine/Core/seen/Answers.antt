@@ -6,8 +6,8 @@ use Rattle.slate_store.specs.Reach.{reach_of}
 use Rattle.slate_types.proofs.Reaching.{adds_none, later_none, reads_none, reads_of, reads_then}
 use Rattle.slate_mem.specs.Table.{newest}
 use Rattle.slate_types.specs.Fold.{operator_at}
-use Rattle.slate_table.specs.declared.info.SsTableHandle.{SsTableHandle}
-use Rattle.slate_db.specs.Installs.{AreHandles, tables_of}
+use Rattle.slate_read.specs.declared.sorted_run.SortedRun.{SortedRun}
+use Rattle.slate_db.specs.Installs.{AreHandles, handles_of, tables_of}
 use Rattle.slate_mem.specs.Lookup.{is_merge_among, newest_first}
 use Rattle.slate_db.specs.Model.{CoreModel, Rows}
 use Rattle.slate_db.specs.Readable.{IsAnswered}
@@ -18,6 +18,7 @@ use Rattle.slate_db.proofs.Blocks.{if_ok, if_ok_where, if_err}
 use Rattle.slate_db.proofs.Causes.{fold_fault}
 use Rattle.slate_db.proofs.Shown.{fold_refused, journal_damage}
 use Rattle.slate_db.proofs.Gets.{found_bases, found_folds, stored_as, Folds}
+use Rattle.slate_db.proofs.Runs.{all_handles}
 use Rattle.slate_db.proofs.engine.Core.seen.Goals as goal
 use Rattle.slate_db.proofs.engine.Core.seen.Given as given
 
@@ -26,10 +27,10 @@ abbrev before : (g : given.Over) → goal.After-fold_found g → Reach
 before g c = reach_of g.S.Store g.M.MergeOperator g.T.BlockTransformer c.args.env.now
 
 abbrev between : (g : given.Over) → goal.After-fold_found g → Reach
-between g c = reach_of g.S.Store g.M.MergeOperator g.T.BlockTransformer c.newest_of_tables.new.env
+between g c = reach_of g.S.Store g.M.MergeOperator g.T.BlockTransformer c.newest_of_runs.new.env
 
 abbrev after : (g : given.Over) → goal.After-fold_found g → Reach
-after g c = reach_of g.S.Store g.M.MergeOperator g.T.BlockTransformer (record c.newest_of_tables.new.env { operator = c.fold_found.new.operator })
+after g c = reach_of g.S.Store g.M.MergeOperator g.T.BlockTransformer (record c.newest_of_runs.new.env { operator = c.fold_found.new.operator })
 
 -- memory's rows
 near : (g : given.Over) (c : goal.After-fold_found g) → c.in_ok-near.near.items ≡ newest c.as_slice.result.now c.args.at (c.args.self.now.active ++ newest_first c.args.self.now.frozen)
@@ -46,14 +47,14 @@ sound g c is = is.readable.kept.1 is.readable.lawful
 found_is : (g : given.Over) (c : goal.After-fold_found g) (is : IsAnswered (before g c) (after g c) c.args.self.now) →
     c.in_ok-found.found.items ≡ newest c.args.key.now c.args.at ((c.args.self.now.active ++ newest_first c.args.self.now.frozen) ++ newest_first (sound g c is).layers)
 found_is g c is =
-    c.in_ok-found.ensures.found (sound g c is).layers is.os (stored_as (before g c).meaning c.args.self.now (view_of c.self.inside) (unseen_of c.self.inside) c.tables.result.now is.os (sound g c is).layers c.self.view_is c.tables.ensures c.self.invariant is.readable.lawful (sound g c is).tables is.readable.holds) is.answers (c.args.self.now.active ++ newest_first c.args.self.now.frozen) (near g c)
+    c.in_ok-found.ensures.found (sound g c is).layers is.os (stored_as (before g c).meaning c.args.self.now (view_of c.self.inside) (unseen_of c.self.inside) (handles_of c.runs.result.now) is.os (sound g c is).layers c.self.view_is (ap handles_of c.runs.ensures) c.self.invariant is.readable.lawful (sound g c is).tables is.readable.holds) is.answers (c.args.self.now.active ++ newest_first c.args.self.now.frozen) (near g c)
     ∙ ap (λ (k : List ℕ). newest k c.args.at ((c.args.self.now.active ++ newest_first c.args.self.now.frozen) ++ newest_first (sound g c is).layers)) c.as_slice.ensures
 
 whole : (g : given.Over) (c : goal.After-fold_found g) → IsWhole c.args.self.now (unseen_of c.self.inside)
 whole g c = subst (λ (v : CoreModel). IsWhole v (unseen_of c.self.inside)) c.self.view_is c.self.invariant
 
-handles : (g : given.Over) (c : goal.After-fold_found g) → AreHandles (tables_of c.args.self.now.events) c.tables.result.now
-handles g c = subst (λ (hs : List SsTableHandle). AreHandles (tables_of c.args.self.now.events) hs) (sym c.tables.ensures) (whole g c).tied.tables
+handles : (g : given.Over) (c : goal.After-fold_found g) → AreHandles (tables_of c.args.self.now.events) (handles_of c.runs.result.now)
+handles g c = subst (λ (runs : List SortedRun). AreHandles (tables_of c.args.self.now.events) (handles_of runs)) (sym c.runs.ensures) (all_handles c.args.self.now.events c.self.inside.layers.runs (whole g c).tied.runs)
 
 pub returns-in_err-near : goal.returns-in_err-near
 returns-in_err-near g c =
@@ -77,15 +78,15 @@ returns-in_err-found g c =
             let m = (reach_of g.S.Store g.M.MergeOperator g.T.BlockTransformer c.args.env.now).meaning in
             let sound : IsSound m c.args.self.now = is.readable.kept.1 is.readable.lawful in
             let p = err_from_is_err_and c.from_residual-in_err-found.result c.from_residual-in_err-found.ensures.1 in
-            rw (p.1, p.2) (c.in_err-found.ensures.whole sound.layers is.os (stored_as m c.args.self.now (view_of c.self.inside) (unseen_of c.self.inside) c.tables.result.now is.os sound.layers c.self.view_is c.tables.ensures c.self.invariant is.readable.lawful sound.tables is.readable.holds) is.answers));
-        cause = rw (p.1, p.2) (journal_damage _ _ c.args.self.now c.tables.result.now _ (subst (λ (hs : List SsTableHandle). AreHandles (tables_of c.args.self.now.events) hs) (sym c.tables.ensures) (subst (λ (v : CoreModel). AreHandles (tables_of v.events) c.self.inside.layers.tables) c.self.view_is c.self.invariant.tied.tables)) c.in_err-found.ensures.cause);
-        reads = c.newest_of_tables.ensures.reads;
+            rw (p.1, p.2) (c.in_err-found.ensures.whole sound.layers is.os (stored_as m c.args.self.now (view_of c.self.inside) (unseen_of c.self.inside) (handles_of c.runs.result.now) is.os sound.layers c.self.view_is (ap handles_of c.runs.ensures) c.self.invariant is.readable.lawful sound.tables is.readable.holds) is.answers));
+        cause = rw (p.1, p.2) (journal_damage _ _ c.args.self.now (handles_of c.runs.result.now) _ (subst (λ (runs : List SortedRun). AreHandles (tables_of c.args.self.now.events) (handles_of runs)) (sym c.runs.ensures) (subst (λ (v : CoreModel). AreHandles (tables_of v.events) (handles_of c.self.inside.layers.runs)) c.self.view_is (all_handles (view_of c.self.inside).events c.self.inside.layers.runs c.self.invariant.tied.runs))) c.in_err-found.ensures.cause);
+        reads = c.newest_of_runs.ensures.reads;
       };
     }
 
 pub returns : goal.returns
 returns g c =
-    let tables = c.newest_of_tables.ensures.reads in
+    let tables = c.newest_of_runs.ensures.reads in
     record {
       read = record {
         answer = (λ is. if_ok_where c.fold_found.result _ (λ above.
@@ -98,7 +99,7 @@ returns g c =
         undamaged = (λ is.
             let none : is_merge_among c.in_ok-found.found.items ≡ false = found_bases c.args.self.now _ c.args.key.now c.args.at c.in_ok-found.found.items (sound g c is).layers (whole g c) (sound g c is).bases (found_is g c is) in
             if_err c.fold_found.result _ _ (λ e h. fold_fault _ _ _ (is_merge_among c.in_ok-found.found.items) e tables.later none h) c.fold_found.ensures.cause);
-        cause = if_err c.fold_found.result _ _ (λ e h. fold_refused (before g c) (between g c) (after g c) c.args.self.now c.tables.result.now c.as_slice.result.now c.args.at c.in_ok-near.near.items c.in_ok-found.found.items e (handles g c) (near g c) tables.later refl
+        cause = if_err c.fold_found.result _ _ (λ e h. fold_refused (before g c) (between g c) (after g c) c.args.self.now (handles_of c.runs.result.now) c.as_slice.result.now c.args.at c.in_ok-near.near.items c.in_ok-found.found.items e (handles g c) (near g c) tables.later refl
             (λ i. record (between g c).meaning { combine = c.fold_found.ensures.same i }) refl c.in_ok-found.ensures.rows h) c.fold_found.ensures.cause;
         reads = reads_then _ _ _ tables (reads_of _ _ refl c.fold_found.ensures.same refl refl (adds_none _) (record { store = omega arith; operator = c.fold_found.ensures.later; transformer = omega arith }) refl);
       };

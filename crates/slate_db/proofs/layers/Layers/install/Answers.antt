@@ -8,26 +8,26 @@ use Rattle.slate_db.proofs.layers.Layers.install.Goals as goal
 
 becomes : (c : goal.After-clear) → record (layers_view c.self.inside) {
   frozen = [];
-  tables = c.self.inside.tables.items ++ (c.args.table ∷ []);
+  runs = c.self.inside.runs.items ++ (c.args.run ∷ []);
   floor = c.args.floor;
   for_freeze = vec_capacity c.clear.new.self - vec_len c.clear.new.self;
-  for_table = vec_capacity c.push_reserved.new.self - vec_len c.push_reserved.new.self;
-} ≡ layers_view (record c.self.inside { frozen = c.clear.new.self; tables = c.push_reserved.new.self; floor = c.args.floor })
+  for_run = vec_capacity c.push_reserved.new.self - vec_len c.push_reserved.new.self;
+} ≡ layers_view (record c.self.inside { frozen = c.clear.new.self; runs = c.push_reserved.new.self; floor = c.args.floor })
 becomes c = λ i. record (layers_view c.self.inside) {
   frozen = frozen i;
-  tables = tables i;
+  runs = runs i;
   floor = c.args.floor;
   for_freeze = vec_capacity c.clear.new.self - vec_len c.clear.new.self;
-  for_table = vec_capacity c.push_reserved.new.self - vec_len c.push_reserved.new.self;
+  for_run = vec_capacity c.push_reserved.new.self - vec_len c.push_reserved.new.self;
 }
   where
     frozen : [] ≡ map (λ t. t.rows) c.clear.new.self.items
     frozen = sym (ap (λ (ts : List MemTableModel). map (λ t. t.rows) ts) c.clear.ensures.items)
 
-    tables : c.self.inside.tables.items ++ (c.args.table ∷ []) ≡ c.push_reserved.new.self.items
-    tables = sym c.push_reserved.ensures.items
+    runs : c.self.inside.runs.items ++ (c.args.run ∷ []) ≡ c.push_reserved.new.self.items
+    runs = sym c.push_reserved.ensures.items
 
-stays : (c : goal.After-clear) → AreLayers (layers_view (record c.self.inside { frozen = c.clear.new.self; tables = c.push_reserved.new.self; floor = c.args.floor }))
+stays : (c : goal.After-clear) → AreLayers (layers_view (record c.self.inside { frozen = c.clear.new.self; runs = c.push_reserved.new.self; floor = c.args.floor }))
 stays c = subst AreLayers (becomes c) (layers_installed (layers_view c.self.inside) _ _ _ _ c.self.invariant)
 
 pub invariant_of-self : goal.invariant_of-self
@@ -37,10 +37,10 @@ pub returns : goal.returns
 returns c = record {
   value = sym (becomes c) ∙ ap (λ (y : LayersModel). record y {
     frozen = [];
-    tables = y.tables ++ (c.args.table ∷ []);
+    runs = y.runs ++ (c.args.run ∷ []);
     floor = c.args.floor;
     for_freeze = vec_capacity c.clear.new.self - vec_len c.clear.new.self;
-    for_table = vec_capacity c.push_reserved.new.self - vec_len c.push_reserved.new.self;
+    for_run = vec_capacity c.push_reserved.new.self - vec_len c.push_reserved.new.self;
   }) c.self.view_is;
   whole = stays c;
 }

@@ -3,7 +3,7 @@ use Rattle.slate_txn.specs.declared.line.Line.{Line}
 use Rattle.slate_txn.specs.declared.line.Line.TheVariants as lines
 use Rattle.slate_language.specs.declared.reply.Answer.TheVariants as answers
 use Rattle.slate_language.specs.Grammar.{is_moment}
-use Rattle.slate_db.specs.Installs.{tables_of}
+use Rattle.slate_db.specs.Installs.{runs_of}
 use Rattle.slate_db.specs.Sound.{IsKept}
 use Rattle.slate_script.specs.Session.{SessionModel, AnswersAs, Grows, has_moment}
 use Rattle.slate_script.proofs.SessionSteps.{now-set, given-moment}
@@ -21,7 +21,7 @@ returns-in-Now c =
       stores = (let same : length c.self.inside.core.events ≡ length c.args.self.now.core.events = ap (λ (v : SessionModel). length v.core.events) c.self.view_is in
           record {
             settings = ap (λ (v : SessionModel). v.core.settings) c.self.view_is;
-            tables = ap (λ (v : SessionModel). tables_of v.core.events) c.self.view_is;
+            runs = ap (λ (v : SessionModel). runs_of v.core.events) c.self.view_is;
             later = omega (arith, same);
             kept = λ m k. subst (λ (v : SessionModel). IsKept m v.core) (sym c.self.view_is) k;
           });

@@ -25,7 +25,7 @@ returns-then-contains_key c =
           let named : IsNamed (find_named c.args.name before.names) = named-by (find_named c.args.name before.names) (ap is_some (find_named-lookup c.args.name before.names) ∙ sym c.if-contains_key.ensures) in
           subst (λ (v : SessionModel). AnswersAs m v v (lines.Begin c.args.name c.args.level) (Ok (answers.Refused (errors.DuplicateTransaction c.args.name)))) c.self.view_is
           (begin-refused m before c.args.name named.value c.args.level c.self.invariant.0 named.is));
-      stores = record { settings = refl; tables = refl; later = omega arith; kept = λ m k. k };
+      stores = record { settings = refl; runs = refl; later = omega arith; kept = λ m k. k };
       grows = (omega arith, omega arith);
       cause = tt;
     }

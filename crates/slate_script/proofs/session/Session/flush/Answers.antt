@@ -7,7 +7,7 @@ use Rattle.slate_table.specs.SectionReading.{changed_by}
 use Rattle.slate_txn.specs.declared.line.Line.TheVariants as lines
 use Rattle.slate_db.specs.Answered.{AddsTables}
 use Rattle.slate_db.specs.Flushed.{layout_of}
-use Rattle.slate_db.specs.Installs.{tables_of}
+use Rattle.slate_db.specs.Installs.{runs_of, tables_of}
 use Rattle.slate_db.specs.Parts.{meaning_of}
 use Rattle.slate_db.specs.Log.{LIMIT}
 use Rattle.slate_language.specs.declared.reply.Answer.TheVariants as answers
@@ -52,7 +52,7 @@ returns g c =
           c.in_ok-seq.ensures.installed.1 c.in_ok-seq.ensures.installed.2
           (subst (λ (v : SessionModel). IsSettled m old v) (sym c.self.view_is) settled).tables.few
           (has-room LIMIT _ _ _ c.flush.result c.in_ok-seq.seq (LimitReached LIMIT) went c.flush.ensures.limit)
-          (subst (λ (v : SessionModel). HasTablesAlone m layout old (tables_of v.core.events)) (sym c.self.view_is) alone));
+          (subst (λ (v : SessionModel). HasTablesAlone m layout old (runs_of v.core.events)) (sym c.self.view_is) alone));
       follows = (λ os settled.
           let before : SessionModel = record { core = c.self.inside.core; names = c.self.inside.names.entries; now = c.self.inside.now } in
           let m = meaning_of g.M.MergeOperator.combine g.T.BlockTransformer.encoded g.T.BlockTransformer.decoded c.args.env.now.operator c.args.env.now.transformer in

@@ -8,7 +8,7 @@ use Rattle.slate_txn.specs.Reply.{Reply}
 use Rattle.slate_txn.specs.State.{State}
 use Rattle.slate_txn.specs.Step.{step}
 use Rattle.slate_txn.specs.declared.line.Line.TheVariants as lines
-use Rattle.slate_db.specs.Installs.{tables_of}
+use Rattle.slate_db.specs.Installs.{runs_of}
 use Rattle.slate_db.specs.Meaning.{rules_of}
 use Rattle.slate_db.specs.Model.{CoreModel}
 use Rattle.slate_db.specs.Parts.{meaning_of}
@@ -31,7 +31,7 @@ returns-in_default g c =
           let none : find_named c.args.name before.names ≡ None = find_named-lookup c.args.name before.names ∙ sym c.in_default.ensures.value in
           subst (λ (v : SessionModel). AnswersAs m v v (lines.Get c.args.name c.args.key) (Ok (answers.Refused (errors.UnknownTransaction c.args.name)))) c.self.view_is
           (get-refused m before c.args.name c.args.key none));
-      stores = record { settings = refl; tables = refl; later = omega arith; kept = λ m k. k };
+      stores = record { settings = refl; runs = refl; later = omega arith; kept = λ m k. k };
       grows = (omega arith, omega arith);
       cause = tt;
       undamaged = λ is. tt;
@@ -63,7 +63,7 @@ returns g c =
       stores = (let before : SessionModel = record { core = c.self.inside.core; names = c.self.inside.names.entries; now = c.self.inside.now } in
           let same : length c.get-read.new.self.events ≡ length c.self.inside.core.events = ap (λ (v : CoreModel). length v.events) c.in_ok-row.ensures.noted in
           subst (λ (v : SessionModel). StoresNothing v (record before { core = c.get-read.new.self })) c.self.view_is
-          (record { settings = c.get-read.ensures.settings; tables = ap (λ (v : CoreModel). tables_of v.events) c.in_ok-row.ensures.noted; later = omega (arith, same); kept = c.get-read.ensures.kept }));
+          (record { settings = c.get-read.ensures.settings; runs = ap (λ (v : CoreModel). runs_of v.events) c.in_ok-row.ensures.noted; later = omega (arith, same); kept = c.get-read.ensures.kept }));
       grows = (let before : SessionModel = record { core = c.self.inside.core; names = c.self.inside.names.entries; now = c.self.inside.now } in
           subst (λ (v : SessionModel). Grows (lines.Get c.args.name c.args.key) v (record before { core = c.get-read.new.self })) c.self.view_is
           (grows before c.get-read.new.self before.names before.now (lines.Get c.args.name c.args.key) 0 (omega arith)

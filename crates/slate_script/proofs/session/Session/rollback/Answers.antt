@@ -1,6 +1,6 @@
 use Rattle.std.proofs.Common.{◌≤◌, length, arith, ◌≡◌, None, Ok, List, ℕ, refl, sym, subst, ◌∙◌, ap}
 use Rattle.slate_db.specs.Sound.{IsKept}
-use Rattle.slate_db.specs.Installs.{tables_of}
+use Rattle.slate_db.specs.Installs.{runs_of}
 use Rattle.slate_txn.specs.Named.{find_named}
 use Rattle.slate_txn.specs.State.{State}
 use Rattle.slate_txn.specs.declared.event.Event.TheVariants as events
@@ -28,7 +28,7 @@ returns-in_default c =
       stores = (let same : length c.self.inside.core.events ≡ length c.args.self.now.core.events = ap (λ (v : SessionModel). length v.core.events) c.self.view_is in
           record {
             settings = ap (λ (v : SessionModel). v.core.settings) c.self.view_is;
-            tables = ap (λ (v : SessionModel). tables_of v.core.events) c.self.view_is;
+            runs = ap (λ (v : SessionModel). runs_of v.core.events) c.self.view_is;
             later = omega (arith, same);
             kept = λ m k. subst (λ (v : SessionModel). IsKept m v.core) (sym c.self.view_is) k;
           });

@@ -49,7 +49,7 @@ pub returns-in-Err : goal.returns-in-Err
 returns-in-Err c =
     record {
       step = λ m. batch-refused m c.args.self.now c.args.ops c.in-Err.error c.refused.result c.refused.ensures.reply c.refused.ensures.answered c.in-Err.ensures.refused;
-      stores = always c.refused.result (record { settings = refl; tables = refl; later = omega arith; kept = λ m k. k });
+      stores = always c.refused.result (record { settings = refl; runs = refl; later = omega arith; kept = λ m k. k });
       grows = always c.refused.result (omega arith, omega arith);
       cause = refused-cause (λ e. IsLimit c.args.self.now e) c.args.ops c.in-Err.error c.refused.result c.refused.ensures.other c.in-Err.ensures.refused;
     }
