@@ -142,7 +142,7 @@ fn conflict(kept: &BTreeMap<Bytes, u64>, state: &TransactionState) -> Option<u64
 }
 
 /// Adds keys behind those of a list. Where memory is wanting the list is as it was.
-fn append(items: &mut Vec<Bytes>, mut more: Vec<Bytes>) -> Result<(), AllocError>
+pub(crate) fn append(items: &mut Vec<Bytes>, mut more: Vec<Bytes>) -> Result<(), AllocError>
     ensures ok { OnOk result (items.new.items ≡ items.old.items ++ more.items) }
     ensures err { OnErr result (items.new.items ≡ items.old.items) }
 {
