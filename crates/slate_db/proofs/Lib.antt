@@ -44,3 +44,8 @@ mod Steps
 mod Notes
 mod Refused
 mod Plain
+pub mod Managing
+pub mod TakenBack
+pub mod CommitSteps
+pub mod OwnRows
+pub mod Changes

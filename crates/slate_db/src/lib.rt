@@ -12,4 +12,5 @@ pub mod gather;
 pub mod layers;
 pub mod log;
 pub mod lookup;
+mod put;
 pub mod vectors;

@@ -51,6 +51,7 @@ impl Log {
         requires { start_seq ≤ 18446744073709551614 }
         ensures start { (result.start ≡ start_seq) × (result.last ≡ start_seq) }
         ensures nothing { (result.commits ≡ []) × (result.events ≡ []) × (result.flushed ≡ 0) }
+        ensures ids { result.ids ≡ 0 }
         ensures whole { IsLog result }
     {
         Log {
@@ -69,13 +70,6 @@ impl Log {
         ensures { result ≡ self.now.last }
     {
         self.last
-    }
-
-    /// The id that is given next.
-    pub fn next_id(&self) -> Uuid
-        ensures { result ≡ id_of (self.now.ids + 1) }
-    {
-        Uuid::from_u128((self.ids + 1) as u128)
     }
 
     /// The number of the next flush that stores something.
