@@ -49,3 +49,4 @@ pub mod TakenBack
 pub mod CommitSteps
 pub mod OwnRows
 pub mod Changes
+pub mod CommitWholes

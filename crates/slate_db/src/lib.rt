@@ -5,6 +5,7 @@
 //! contract cites them yet.
 #![tactic(auto)]
 
+mod commit;
 pub mod cut;
 pub mod engine;
 pub mod flush;
