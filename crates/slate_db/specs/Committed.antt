@@ -2,14 +2,22 @@
 --     without_txn s id      the state without the open transaction
 --     after_commit c id n now t rows spare      the core after the commit; rows: the active rows after it
 --     IsCommitted old new id n now t      the commit's rows are in memory where it has a sequence, and an event says so; the transaction is closed
+--     IsNextOf last ops n, IsFull last conflicting ops e      which sequence a commit has; that none is left
+--     put_at c default n now ops y      the layers with the commit's rows, where it has a sequence
 --     IsEnded old new id      the transaction is closed, an event says so, and nothing else is changed
-use Rattle.std.specs.Prelude.{◌≡◌, ℕ, List, [], ◌∷◌, ◌++◌, Option, Some, None, ℤ}
-use Rattle.slate_mem.specs.Batch.{kept_ops}
+use Rattle.std.specs.Prelude.{◌≡◌, ◌≢◌, ℕ, ◌+◌, ◌-◌, ◌^◌, ◌<◌, List, [], ◌∷◌, ◌++◌, Option, Some, None, ℤ}
+use Rattle.slate_types.specs.declared.error.SlateDBError.{SlateDBError}
+use Rattle.slate_types.specs.declared.error.SlateDBError.TheVariants.{SequenceExhausted}
+use Rattle.slate_types.specs.Fold.{Combine}
+use Rattle.slate_mem.specs.Batch.{Ops, kept_ops}
+use Rattle.slate_mem.specs.CommitRows.{commit_rows}
+use Rattle.slate_mem.specs.Table.{put_rows}
 use Rattle.slate_txn.specs.declared.event.Event.TheVariants as events
 use Rattle.slate_txn.specs.Conflict.{tracked_writes}
 use Rattle.slate_txn.specs.Named.{without}
 use Rattle.slate_txn.specs.Replay.{commit_made}
 use Rattle.slate_txn.specs.State.{State, Tx}
+use Rattle.slate_db.specs.Layers.{LayersModel}
 use Rattle.slate_db.specs.Model.{CoreModel, Rows}
 
 abbrev pub without_txn : State → List ℕ → State
@@ -29,3 +37,16 @@ IsCommitted old new id (Some n) now t = new ≡ after_commit old id (Some n) now
 
 abbrev pub IsEnded : CoreModel → CoreModel → List ℕ → Type 0
 IsEnded old new id = new ≡ record old { state = without_txn old.state id; events = old.events ++ (events.End id ∷ []); spare = new.spare }
+
+-- a commit with operations has the sequence behind the last, and one without has none
+abbrev pub IsNextOf : ℕ → Ops → Option ℕ → Type 0
+IsNextOf last ops None = ops ≡ []
+IsNextOf last ops (Some n) = (n ≡ last + 1) × (last < 2 ^ 64 - 2) × (ops ≢ [])
+
+-- no sequence is left
+abbrev pub IsFull : ℕ → Option ℕ → Ops → SlateDBError → Type 0
+IsFull last conflicting ops e = (e ≡ SequenceExhausted) × (last ≡ 2 ^ 64 - 2) × (conflicting ≡ None) × (ops ≢ [])
+
+abbrev pub put_at : (List ℕ → Combine) → Option ℕ → Option ℕ → ℤ → Ops → LayersModel → LayersModel
+put_at c default_millis None now ops y = y
+put_at c default_millis (Some n) now ops y = record y { active = put_rows y.active (commit_rows c default_millis n now (kept_ops ops)) }

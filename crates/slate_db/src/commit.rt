@@ -1,5 +1,5 @@
 //! A commit of a transaction, up to its event.
-ghost use Rattle.std.specs.Prelude.{◌≡◌, ◌+◌, ◌<◌, ◌≤◌, ◌∷◌, ◌++◌, [], ℕ, List, false, IfOk, OnOk, OnErr, IsOkUnless};
+ghost use Rattle.std.specs.Prelude.{◌≡◌, ◌⊎◌, ◌+◌, ◌<◌, ◌≤◌, ◌++◌, [], ℕ, List, None, false, unwrap_or, IfErr, IfOk, OnOk, OnErr, IsOkUnless};
 ghost use Rattle.std.specs.List.{AllByRecursion};
 ghost use Rattle.slate_types.specs.declared.error.SlateDBError.{SlateDBError};
 ghost use Rattle.slate_types.specs.Fold.{Combine};
@@ -7,16 +7,119 @@ ghost use Rattle.slate_mem.specs.CommitRows.{commit_rows};
 ghost use Rattle.slate_mem.specs.Table.{put_rows};
 ghost use Rattle.slate_txn.specs.Managers.{StandsFor, IsCommitOf, with_commit, writes_at};
 ghost use Rattle.slate_txn.specs.Named.{find_named, without};
-ghost use Rattle.slate_txn.specs.State.{Commit};
+ghost use Rattle.slate_mem.specs.Batch.{kept_ops};
+ghost use Rattle.slate_txn.specs.Conflict.{conflict, tracked_writes};
+ghost use Rattle.slate_txn.specs.HandedOver.{Grown, IsConflict};
+ghost use Rattle.slate_txn.specs.Replay.{commit_made};
+ghost use Rattle.slate_txn.specs.State.{Commit, Tx};
+ghost use Rattle.slate_txn.specs.Tested.{IsUntracked};
+ghost use Rattle.slate_db.specs.Committed.{IsNextOf, IsFull, put_at};
+ghost use Rattle.slate_db.specs.Managed.{IsManaged};
 ghost use Rattle.slate_db.specs.Layers.{AreLayers, in_memory};
 
 use crate::layers::Layers;
 use crate::put::put_own;
 use slate_mem::WriteBatch;
-use slate_txn::{OpList, TransactionManager};
+use slate_txn::{DbTransactionInner, KeyList, OpList, Tested, TransactionManager, Transcript};
 use slate_types::SlateDBError;
 use std::alloc::Global;
 use uuid::Uuid;
+
+/// What a commit adds to its event.
+#[derive(Drop)]
+pub(crate) struct Made {
+    pub(crate) seq: Option<u64>,
+    pub(crate) ops: OpList,
+    pub(crate) tracked: KeyList,
+    pub(crate) transcript: Transcript,
+}
+
+/// Tests an open transaction, and puts its rows where it has operations. Refuses by `TransactionConflict` before all other tests,
+/// by `SequenceExhausted`, and by `OutOfMemory`. The manager has then tracked what the transaction handed over.
+pub(crate) fn make(
+    alloc: Global,
+    default_millis: Option<u64>,
+    layers: &mut Layers,
+    manager: &mut TransactionManager,
+    id: &Uuid,
+    owned: DbTransactionInner,
+    last: u64,
+    now: i64,
+) -> Result<Made, SlateDBError>
+    requires fits { last ≤ 18446744073709551614 }
+    requires whole { AreLayers layers.old }
+    requires within { AllByRecursion (λ rows. AllByRecursion (λ r. r.seq ≤ last) rows) (in_memory layers.old) }
+    requires newest { manager.old.last ≡ last }
+    requires held { IsUntracked manager.old id.now owned }
+    ensures tracked { IfOk result (λ made. made.tracked ≡ tracked_writes owned) }
+    ensures steps { IfOk result (λ made. made.transcript ≡ owned.transcript) }
+    ensures ops { IfOk result (λ made. made.ops ≡ kept_ops owned.ops) }
+    ensures next { IfOk result (λ made. IsNextOf last owned.ops made.seq) }
+    ensures free { (cs : List Commit) → StandsFor manager.old cs → OnOk result (conflict cs owned ≡ None) }
+    ensures put { (c : List ℕ → Combine) → IfOk result (λ made. layers.new ≡ put_at c default_millis made.seq now owned.ops layers.old) }
+    ensures whole { AreLayers layers.new }
+    ensures committed { (ids : ℕ) (cs : List Commit) (ps : List (List ℕ × Tx)) → IsManaged manager.old ids last cs ps → IfOk result (λ made. IsManaged manager.new ids (unwrap_or made.seq last) (cs ++ commit_made made.seq now made.ops made.tracked) (without id.now ps)) }
+    ensures same_layers { OnErr result (layers.new ≡ layers.old) }
+    ensures grown { OnErr result (Grown id.now manager.old manager.new) }
+    ensures cause { (cs : List Commit) → StandsFor manager.old cs → IfErr result (λ e. (e ≡ SlateDBError.OutOfMemory) ⊎ (IsConflict (conflict cs owned) e ⊎ IsFull last (conflict cs owned) owned.ops e)) }
+{
+    let tested = owned.test(alloc, manager, id)?;
+    if tested.batch.is_empty() {
+        manager.drop_txn(id);
+        return Ok(idle(alloc, tested));
+    }
+    if last >= 18446744073709551614 {
+        drop(tested);
+        return Err(SlateDBError::SequenceExhausted);
+    }
+    let Tested {
+        batch,
+        tracked,
+        transcript,
+    } = tested;
+    let put = put_commit(
+        alloc,
+        default_millis,
+        layers,
+        manager,
+        id,
+        &batch,
+        last,
+        now,
+    );
+    drop(batch);
+    match put {
+        Ok(ops) => Ok(Made {
+            seq: Some(last + 1),
+            ops,
+            tracked,
+            transcript,
+        }),
+        Err(error) => {
+            drop(tracked);
+            drop(transcript);
+            Err(error)
+        }
+    }
+}
+
+/// What a commit without operations adds. Takes no memory.
+fn idle(alloc: Global, tested: Tested) -> Made
+    ensures { result ≡ record { seq = None; ops = []; tracked = tested.tracked; transcript = tested.transcript } }
+{
+    let Tested {
+        batch,
+        tracked,
+        transcript,
+    } = tested;
+    drop(batch);
+    Made {
+        seq: None,
+        ops: OpList::from_vec(Vec::new(alloc)),
+        tracked,
+        transcript,
+    }
+}
 
 /// Puts the rows of a transaction's batch that has operations, at the sequence behind the last, and gives the operations. The
 /// manager has then ended the transaction. Where memory is wanting nothing is done.

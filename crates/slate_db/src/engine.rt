@@ -18,7 +18,7 @@ ghost use Rattle.slate_mem.specs.Refusals.{op_refusal};
 ghost use Rattle.slate_mem.specs.RowOf.{own_row};
 ghost use Rattle.slate_mem.specs.BatchModel.{IsBatchOf};
 ghost use Rattle.slate_txn.specs.Places.{IsQuiet};
-ghost use Rattle.slate_txn.specs.Reply.{Done, Refused, Begun, Found, Written, Frozen, Flushed};
+ghost use Rattle.slate_txn.specs.Reply.{Done, Refused, Begun, Committed, Found, Written, Frozen, Flushed};
 ghost use Rattle.slate_txn.specs.Settings.{settings_of};
 ghost use Rattle.slate_txn.specs.State.{Tx, opening, last_of};
 ghost use Rattle.slate_txn.specs.Step.{noted, step, with_op, with_marks, with_unmarks};
@@ -33,9 +33,13 @@ ghost use Rattle.slate_db.specs.Model.{CoreModel, IsSame, Rows, at};
 ghost use Rattle.slate_db.specs.Sound.{AreTables, IsKept, FoldsToState};
 ghost use Rattle.slate_db.specs.StoredState.{StoresState};
 ghost use Rattle.slate_db.specs.Log.{LIMIT, AreFine};
+ghost use Rattle.slate_txn.specs.Conflict.{conflict};
+ghost use Rattle.slate_txn.specs.HandedOver.{IsConflict};
+ghost use Rattle.slate_db.specs.Committed.{IsCommitted, IsEnded};
 ghost use Rattle.slate_db.specs.Operated.{operated};
 ghost use Rattle.slate_db.specs.Written.{IsWritten};
 
+use crate::commit::{Made, make};
 use crate::flush::stored;
 use crate::layers::Layers;
 use crate::log::Log;
@@ -438,6 +442,53 @@ impl Core {
         ensures same { OnErr result (self.new ≡ self.old) }
     {
         self.transactions.unmark_write(self.alloc, id, keys)
+    }
+
+    /// Commits an open transaction at a moment, and gives its sequence, or None where it has no operations. It ends either way.
+    /// Refuses by `TransactionConflict`, with the greatest sequence that conflicts, before all other tests; by
+    /// `SequenceExhausted` where no sequence is left; and by `OutOfMemory`, and then nothing is committed.
+    pub fn commit(&mut self, id: &Uuid, now: i64) -> Result<Option<u64>, SlateDBError>
+        requires { IsSome (find_named id.now self.old.state.txns) }
+        ensures step { IfOk result (λ n. (m : Meaning) → step (rules_of self.old.settings m) (at now self.old.state) (lines.Commit id.now) ≡ (at now self.new.state, Committed n)) }
+        ensures refused { IfErr result (λ e. (e ≡ SlateDBError.OutOfMemory) ⊎ ((m : Meaning) → step (rules_of self.old.settings m) (at now self.old.state) (lines.Commit id.now) ≡ (at now self.new.state, Refused e))) }
+        ensures event { (t : Tx) → find_named id.now self.old.state.txns ≡ Some t → IfOk result (λ n. IsCommitted self.old self.new id.now n now t) }
+        ensures ended { OnErr result (IsEnded self.old self.new id.now) }
+        ensures kept { (m : Meaning) → IsKept m self.old → IsKept m self.new }
+        ensures load { (t : Tx) → find_named id.now self.old.state.txns ≡ Some t → load self.new ≤ load self.old + ops_load t.ops }
+        ensures cause { (t : Tx) → find_named id.now self.old.state.txns ≡ Some t → IfErr result (λ e. (e ≡ SlateDBError.OutOfMemory) ⊎ (IsConflict (conflict self.old.state.commits t) e ⊎ ((e ≡ SlateDBError.SequenceExhausted) × (last_of self.old.settings.start_seq self.old.state.commits ≡ 2 ^ 64 - 2)))) }
+    {
+        let Some(owned) = self.transactions.take(id) else {
+            unreachable!()
+        };
+        let last = self.log.last();
+        let made = make(
+            self.alloc,
+            self.default_millis,
+            &mut self.layers,
+            &mut self.manager,
+            id,
+            owned,
+            last,
+            now,
+        );
+        match made {
+            Ok(made) => {
+                let Made {
+                    seq,
+                    ops,
+                    tracked,
+                    transcript,
+                } = made;
+                self.log
+                    .push_commit(*id, seq, now, ops, tracked, transcript);
+                Ok(seq)
+            }
+            Err(error) => {
+                self.manager.drop_txn(id);
+                self.log.push_end(*id);
+                Err(error)
+            }
+        }
     }
 
     /// All events so far, with room for the end of each open transaction. The tables that they name hold the state at the
