@@ -1,10 +1,13 @@
 -- What ties the manager to the state stays so.
-use Rattle.std.proofs.Common.{◌≡◌, ℕ, ◌+◌, ◌-◌, Bool, true, false, cond, bytes_eq, List, [], ◌∷◌, ◌++◌, map, Some, None, refl, sym, ap, subst, ◌∙◌, arith}
+use Rattle.std.proofs.Common.{◌≡◌, ℕ, ◌+◌, ◌-◌, Bool, true, false, cond, bytes_eq, List, [], ◌∷◌, ◌++◌, map, Option, Some, None, refl, sym, ap, subst, ◌∙◌, arith}
 use Rattle.std.specs.List.{AllByRecursion}
 use Rattle.std.proofs.lemmas.List.{map-append}
 use Rattle.slate_types.specs.declared.config.IsolationLevel.{IsolationLevel}
+use Rattle.slate_txn.specs.Conflict.{tracked_writes}
+use Rattle.slate_txn.specs.HandedOver.{Grown}
+use Rattle.slate_txn.specs.Tested.{IsTracked}
 use Rattle.slate_txn.specs.Ids.{IsOfCount}
-use Rattle.slate_txn.specs.Managers.{Active, Manager, StandsFor, untracked}
+use Rattle.slate_txn.specs.Managers.{Active, Manager, StandsFor, IsCommitOf, untracked, with_commit, writes_at}
 use Rattle.slate_txn.specs.Named.{find_named, without, update_named}
 use Rattle.slate_txn.specs.State.{Commit, Tx, begun}
 use Rattle.slate_txn.proofs.NamedLaws.{without_last, update_map}
@@ -86,3 +89,23 @@ managed_written m n ids last seq cs ps c is stands w = record {
 -- of the same manager, but for what it keeps
 pub managed_same : (m n : Manager) (ids last : ℕ) (cs : List Commit) (ps : List (List ℕ × Tx)) → n ≡ m → IsManaged m ids last cs ps → IsManaged n ids last cs ps
 managed_same m n ids last cs ps is w = subst (λ (x : Manager). IsManaged x ids last cs ps) (sym is) w
+
+-- a transaction that handed over, and is then forgotten, or has committed
+pub managed_dropped : (m g n : Manager) (ids last : ℕ) (cs : List Commit) (ps : List (List ℕ × Tx)) (id : List ℕ) → Grown id m g → n ≡ record g { active = without id g.active; kept = n.kept } → (StandsFor g cs → StandsFor n cs) → IsManaged m ids last cs ps →
+    IsManaged n ids last cs (without id ps)
+managed_dropped m g n ids last cs ps id grown is stands w = record {
+  stands = stands (grown.stands cs w.stands);
+  newest = ap (λ (x : Manager). x.last) is ∙ ap (λ (x : Manager). x.last) grown.others ∙ w.newest;
+  counted = ap (λ (x : Manager). x.ids) is ∙ ap (λ (x : Manager). x.ids) grown.others ∙ w.counted;
+  opened = ap (λ (x : Manager). x.active) is ∙ grown.apart ∙ ap (without id) w.opened ∙ without_as id ps;
+}
+
+pub managed_committed : (m g n : Manager) (ids last seq : ℕ) (cs : List Commit) (ps : List (List ℕ × Tx)) (id : List ℕ) (t : Tx) (c : Commit) → Grown id m g → IsTracked g id t → c.seq ≡ seq → c.tracked ≡ tracked_writes t →
+    n ≡ record g { last = seq; active = without id g.active; kept = n.kept } → (IsCommitOf seq (writes_at (find_named id g.active)) c → StandsFor g cs → StandsFor n (with_commit cs c (find_named id g.active))) → IsManaged m ids last cs ps →
+    IsManaged n ids seq (cs ++ (c ∷ [])) (without id ps)
+managed_committed m g n ids last seq cs ps id t c grown held at keys is stands w = record {
+  stands = subst (λ (o : Option Active). StandsFor n (with_commit cs c o)) held.found (stands (at, keys ∙ sym held.writes ∙ sym (ap writes_at held.found)) (grown.stands cs w.stands));
+  newest = ap (λ (x : Manager). x.last) is;
+  counted = ap (λ (x : Manager). x.ids) is ∙ ap (λ (x : Manager). x.ids) grown.others ∙ w.counted;
+  opened = ap (λ (x : Manager). x.active) is ∙ grown.apart ∙ ap (without id) w.opened ∙ without_as id ps;
+}

@@ -1,0 +1,25 @@
+use Rattle.std.proofs.Common.{◌≡◌, ℕ, ◌+◌, List, [], ◌∷◌, ◌++◌, Option, unwrap_or, refl, sym, ap, subst, ◌∙◌, append-nil}
+use Rattle.slate_txn.specs.Named.{without}
+use Rattle.slate_txn.specs.Replay.{commit_made}
+use Rattle.slate_txn.specs.State.{Commit}
+use Rattle.slate_db.specs.declared.commit.Made.{Made}
+use Rattle.slate_db.specs.Committed.{IsNextOf}
+use Rattle.slate_db.specs.Managed.{IsManaged}
+use Rattle.slate_db.proofs.Managing.{managed_dropped, managed_committed}
+use Rattle.slate_db.proofs.Plain.{empty_kept}
+use Rattle.slate_db.proofs.commit.make.Goals as goal
+
+pub returns-then-is_empty-clause-next : goal.returns-then-is_empty-clause-next
+returns-then-is_empty-clause-next c = subst (λ (made : Made). IsNextOf c.args.last c.args.owned.ops made.seq) (sym c.idle.ensures)
+    (empty_kept c.args.owned.ops (sym c.in_ok-tested.ensures.commits.batch.0 ∙ c.is_empty.ensures.0 c.if-is_empty.true))
+
+pub returns-then-is_empty-clause-committed : goal.returns-then-is_empty-clause-committed
+returns-then-is_empty-clause-committed c ids cs ps w =
+    subst (λ (made : Made). IsManaged c.drop_txn.new.self ids (unwrap_or made.seq c.args.last) (cs ++ commit_made made.seq c.args.now made.ops made.tracked) (without c.args.id.now ps)) (sym c.idle.ensures)
+    (subst (λ (ks : List Commit). IsManaged c.drop_txn.new.self ids c.args.last ks (without c.args.id.now ps)) (sym (append-nil cs))
+    (managed_dropped c.args.manager.now c.test.new.manager c.drop_txn.new.self ids c.args.last cs ps c.args.id.now c.in_ok-tested.ensures.grown c.drop_txn.ensures.dropped (c.drop_txn.ensures.stands cs) w))
+
+pub returns-in-Ok-clause-committed : goal.returns-in-Ok-clause-committed
+returns-in-Ok-clause-committed c ids cs ps w =
+    managed_committed c.args.manager.now c.test.new.manager c.put_commit-put.new.manager ids c.args.last (c.args.last + 1) cs ps c.args.id.now c.args.owned _ c.in_ok-tested.ensures.grown (c.in_ok-tested.ensures.handed c.requires.held) refl c.in_ok-tested.ensures.commits.keys
+    c.in-Ok.ensures.committed (c.in-Ok.ensures.stands cs _) w
