@@ -1,6 +1,6 @@
 -- Rows that are cut into tables.
 --     tables_from limit table rows      the tables of rows, of which the first has begun with these
-use Rattle.std.proofs.Common.{◌≡◌, ℕ, ◌+◌, ◌-◌, ◌<◌, Bool, true, false, cond, ◌&&◌, ◌||◌, ◌⊎◌, inl, inr, List, [], ◌∷◌, ◌++◌, ◌≤◌, ◌^◌, min, suc, rules, reverse, length, flat_map, Option, Some, None, refl, sym, ap, subst, ◌∙◌, arith, append_assoc, append-nil, length-append, bytes_eq, nat_le, nat_lt}
+use Rattle.std.proofs.Common.{◌≡◌, ℕ, ◌+◌, ◌-◌, ◌<◌, Bool, true, false, cond, ◌&&◌, ◌||◌, ◌⊎◌, inl, inr, List, [], ◌∷◌, ◌++◌, ◌≤◌, ◌^◌, min, suc, rules, reverse, length, flat_map, refl, sym, ap, subst, ◌∙◌, arith, append_assoc, append-nil, length-append, bytes_eq, nat_le, nat_lt}
 use Rattle.std.specs.Prelude.{IsTrue, not, slice_get, sum_by}
 use Rattle.std.specs.List.{AllByRecursion}
 use Rattle.std.proofs.lemmas.Bool.Decides.{nat_tests}
@@ -16,7 +16,6 @@ use Rattle.slate_mem.specs.Gathered.{last_row}
 use Rattle.slate_table.specs.Parts.{last_key}
 use Rattle.slate_table.specs.Table.{AreInOrder}
 use Rattle.slate_db.specs.Cut.{AreCut, AreEnded, EndsAt, GoesOn, begins_key, ends_before}
-use Rattle.slate_db.specs.Layers.{FitsMemory}
 use Rattle.slate_db.specs.Model.{Rows, versions, versions_in}
 use Rattle.slate_db.proofs.FlushRows.{order_front}
 use Rattle.slate_db.proofs.Lists.{all_front, all_behind, all_map}

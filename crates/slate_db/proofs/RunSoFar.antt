@@ -1,6 +1,6 @@
 -- The tables of a flush, of which some first ones are stored.
 --     IsSoFar before now layout number parts left ts handles      these tables were put of the first lists of rows, and the others are left
-use Rattle.std.proofs.Common.{◌≡◌, ℕ, ◌+◌, ◌*◌, ◌<◌, ◌^◌, ◌⊎◌, inl, inr, List, [], ◌∷◌, ◌++◌, length, Option, Some, None, refl, sym, ap, subst, ◌∙◌, arith, append-nil, append_assoc}
+use Rattle.std.proofs.Common.{◌≡◌, ℕ, ◌+◌, ◌<◌, ◌⊎◌, inl, inr, List, [], ◌∷◌, ◌++◌, length, Option, Some, None, refl, sym, ap, subst, ◌∙◌, arith, append-nil, append_assoc}
 use Rattle.std.specs.List.{AllByRecursion}
 use Rattle.std.specs.Prelude.{IfOk, OnErr, Result, Ok, Err}
 use Rattle.slate_types.specs.declared.error.SlateDBError.{SlateDBError}
@@ -18,7 +18,7 @@ use Rattle.slate_db.specs.Installs.{AreHandles}
 use Rattle.slate_db.specs.Layers.{FitsMemory}
 use Rattle.slate_db.specs.Meaning.{Meaning}
 use Rattle.slate_db.specs.Model.{Rows}
-use Rattle.slate_db.specs.StoredParts.{AreFirstParts, ArePartsPut, CanBuild, IsOneTable, IsPartTooLarge, IsPlace, IsTablePut}
+use Rattle.slate_db.specs.StoredParts.{AreFirstParts, ArePartsPut, CanBuild, IsOneTable, IsPartTooLarge, IsTablePut}
 use Rattle.slate_db.proofs.Cuts.{parts_all, parts_order}
 use Rattle.slate_db.proofs.Lists.{all_behind}
 use Rattle.slate_db.proofs.Puttings.{adds_more, may_as, may_more, takes_more}

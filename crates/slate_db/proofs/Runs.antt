@@ -1,7 +1,6 @@
 -- What is kept of the tables of a flush, and of those of all installs.
-use Rattle.std.proofs.Common.{◌≡◌, ℕ, ◌+◌, ◌<◌, true, List, [], ◌∷◌, ◌++◌, length, flat_map, Option, Some, refl, sym, ap, subst, ◌∙◌, arith, append-nil, append_assoc}
+use Rattle.std.proofs.Common.{◌≡◌, ℕ, ◌+◌, ◌<◌, true, List, [], ◌∷◌, ◌++◌, length, flat_map, Some, sym, ap, subst, ◌∙◌, arith}
 use Rattle.std.specs.List.{AllByRecursion}
-use Rattle.slate_types.specs.declared.types.RowEntry.{RowEntry}
 use Rattle.slate_types.specs.declared.types.Ulid.{Ulid}
 use Rattle.slate_types.specs.Keys.{key_lt}
 use Rattle.slate_read.specs.declared.sorted_run.SortedRun.{SortedRun}
@@ -12,13 +11,13 @@ use Rattle.slate_table.specs.Table.{AreInOrder, some_first, some_last}
 use Rattle.slate_table.proofs.CutLaws.{cut_keeps}
 use Rattle.slate_table.proofs.TableFinds.{info_keys}
 use Rattle.slate_txn.specs.declared.event.Event.{Event}
-use Rattle.slate_db.specs.Cut.{AreEnded, EndsAt}
+use Rattle.slate_db.specs.Cut.{AreEnded}
 use Rattle.slate_db.specs.Flushed.{AreTablesAt, IsTableAt, Layout}
 use Rattle.slate_db.specs.Installs.{AreApart, AreHandles, ArePlaced, AreRuns, EndsBelow, IsHandle, IsRun, handles_of, runs_of, tables_of}
 use Rattle.slate_db.specs.Model.{Rows}
 use Rattle.slate_db.proofs.Cuts.{keys_after, order_behind}
 use Rattle.slate_db.proofs.RunsOf.{tables_are}
-use Rattle.slate_db.proofs.Lists.{all_front, all_behind, all_map}
+use Rattle.slate_db.proofs.Lists.{all_behind}
 
 -- ---- the tables of a journal
 

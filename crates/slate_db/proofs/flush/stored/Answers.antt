@@ -1,4 +1,4 @@
-use Rattle.std.proofs.Common.{map, inl, inr, subst, sym, refl}
+use Rattle.std.proofs.Common.{map, inl, subst, sym, refl}
 use Rattle.std.proofs.lemmas.Result.{IfOk-from_err, err_from_is_err_and}
 use Rattle.slate_types.specs.Outside.{IsCounted}
 use Rattle.slate_types.proofs.Reaching.{puts_none}

@@ -1,10 +1,9 @@
-use Rattle.std.proofs.Common.{◌≡◌, ◌∷◌, [], ◌++◌, ◌<◌, ◌+◌, List, map, length, arith, refl, sym, ap, ◌∙◌, length-append}
-use Rattle.std.specs.Vec.Iter.{into_iter_items}
+use Rattle.std.proofs.Common.{◌∷◌, [], map, length, arith, ap, ◌∙◌, length-append}
 use Rattle.std.proofs.lemmas.Result.{IfOk-from_err, err_from_is_err_and}
 use Rattle.slate_types.specs.Outside.{Meaning}
-use Rattle.slate_types.proofs.Reaching.{fault_earlier, puts_then}
+use Rattle.slate_types.proofs.Reaching.{puts_then}
 use Rattle.slate_store.specs.Reach.{reach_of}
-use Rattle.slate_db.proofs.RunSoFar.{next_builds, one_so_far, part_too_large, refused_run, some_taken}
+use Rattle.slate_db.proofs.RunSoFar.{next_builds, one_so_far, refused_run, some_taken}
 use Rattle.slate_db.proofs.flush.stored_run.Goals as goal
 
 pub stored_table-requires-clause-ready : goal.stored_table-requires-clause-ready

@@ -1,14 +1,10 @@
-use Rattle.std.proofs.Common.{◌≡◌, ℕ, ◌+◌, ◌<◌, ◌≤◌, ◌++◌, ◌∷◌, [], List, map, length, refl, ap, sym, subst, ◌∙◌, arith, append-nil, inl}
+use Rattle.std.proofs.Common.{◌≡◌, ℕ, ◌+◌, ◌<◌, ◌≤◌, map, length, refl, ap, sym, subst, ◌∙◌, arith, append-nil, inl}
 use Rattle.std.proofs.lemmas.Result.{err_from_is_err_and, IfOk-from_err}
 use Rattle.std.specs.Prelude.{Ok}
 use Rattle.std.specs.List.{AllByRecursion}
-use Rattle.slate_types.specs.declared.types.Ulid.{Ulid}
 use Rattle.slate_types.proofs.Reaching.{puts_none}
 use Rattle.slate_table.specs.Parts.{Encode}
-use Rattle.slate_table.specs.Paths.{table_id}
 use Rattle.slate_table.specs.SectionReading.{changed_by}
-use Rattle.slate_table.specs.Table.{IsTable}
-use Rattle.slate_txn.specs.declared.event.Event.TheVariants as events
 use Rattle.slate_txn.specs.State.{last_of}
 use Rattle.slate_txn.specs.Open.{least_begin}
 use Rattle.slate_db.specs.declared.engine.Core.TheInside.{Inside}
@@ -18,12 +14,12 @@ use Rattle.slate_db.specs.Answered.{AddsTables}
 use Rattle.slate_db.specs.Installs.{ArePlaced, runs_of, tables_of}
 use Rattle.slate_db.specs.Layers.{AreLayers, LayersModel}
 use Rattle.slate_db.specs.Log.{IsLog, LogModel, with_install}
-use Rattle.slate_db.specs.Model.{CoreModel, IsSame, Rows}
+use Rattle.slate_db.specs.Model.{CoreModel, IsSame}
 use Rattle.slate_db.specs.Sound.{IsKept}
 use Rattle.slate_db.specs.View.{view_of, unseen_of, IsWholeInside}
 use Rattle.slate_db.proofs.Installs.{kept_install, can_flush, tables_of_parts, moved}
 use Rattle.slate_db.proofs.Built.{may_keep}
-use Rattle.slate_db.proofs.Keeps.{kept_same, room_made}
+use Rattle.slate_db.proofs.Keeps.{kept_same}
 use Rattle.slate_db.proofs.Lists.{first_ok, second_ok}
 use Rattle.slate_db.proofs.Loads.{last_cause, too_large_is}
 use Rattle.slate_db.proofs.Logs.{has_place}
@@ -32,7 +28,6 @@ use Rattle.slate_db.proofs.Runs.{are_placed}
 use Rattle.slate_db.proofs.Calls.{installed_is, layers_installed_of, place_in, room_for_run, room_in_log}
 use Rattle.slate_db.proofs.Wholes.{whole_install, within_newest}
 use Rattle.slate_db.proofs.engine.Core.install.Goals as goal
-use Rattle.slate_db.proofs.engine.Core.install.Given as given
 
 pub invariant_of-self-2 : goal.invariant_of-self-2
 invariant_of-self-2 g c =

@@ -1,15 +1,15 @@
-use Rattle.std.proofs.Common.{inl, ◌≡◌, ℕ, ◌++◌, List, false, map, refl, reverse, sym, ap, subst, ◌∙◌, arith}
+use Rattle.std.proofs.Common.{inl, ◌≡◌, ℕ, ◌++◌, List, false, refl, reverse, sym, ap, subst, ◌∙◌, arith}
 use Rattle.std.proofs.lemmas.Result.{err_from_is_err_and}
 use Rattle.slate_types.specs.Fold.{IsLawful, KeepsShort, fold_rows, operator_at}
 use Rattle.slate_types.specs.Outside.{IsCounted, Reach}
 use Rattle.slate_store.specs.Reach.{reach_of}
-use Rattle.slate_types.proofs.Reaching.{adds_none, later_none, reads_none, reads_of, reads_then}
+use Rattle.slate_types.proofs.Reaching.{adds_none, reads_none, reads_of, reads_then}
 use Rattle.slate_mem.specs.Table.{newest}
 use Rattle.slate_types.specs.Fold.{operator_at}
 use Rattle.slate_read.specs.declared.sorted_run.SortedRun.{SortedRun}
 use Rattle.slate_db.specs.Installs.{AreHandles, handles_of, tables_of}
 use Rattle.slate_mem.specs.Lookup.{is_merge_among, newest_first}
-use Rattle.slate_db.specs.Model.{CoreModel, Rows}
+use Rattle.slate_db.specs.Model.{CoreModel}
 use Rattle.slate_db.specs.Readable.{IsAnswered}
 use Rattle.slate_db.specs.Sound.{IsSound}
 use Rattle.slate_db.specs.View.{view_of, unseen_of}
