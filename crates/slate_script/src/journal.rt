@@ -1,0 +1,71 @@
+//! The commits of a journal, as its line shows them.
+ghost use Rattle.std.specs.Prelude.{◌≡◌, ◌++◌, map, IfOk, OnOk};
+ghost use Rattle.slate_mem.specs.Batch.{batch_keys};
+ghost use Rattle.slate_txn.specs.Replay.{replay};
+ghost use Rattle.slate_language.specs.Answers.{entry_commit, shown_commits};
+ghost use Rattle.slate_script.specs.Shown.{shown_in};
+
+use bytes::Bytes;
+use slate_language::JournalEntry;
+use slate_mem::WriteOp;
+use slate_txn::event::Event;
+use slate_txn::list::KeyList;
+use std::alloc::{AllocError, Global};
+use std::collections::BTreeSet;
+
+/// Of each commit among the events its sequence, its moment and its tracked keys. The keys are shared.
+pub(crate) fn entries(alloc: Global, events: &[Event]) -> Result<Vec<JournalEntry>, AllocError>
+    ensures entries { IfOk result (λ v. map entry_commit v.items ≡ shown_commits (replay events.now).commits) }
+{
+    let mut entries = Vec::new(alloc);
+    for event in events {
+        push_entry(alloc, &mut entries, event)?;
+    }
+    Ok(entries)
+}
+
+/// Adds the entry of an event that is a commit.
+fn push_entry(
+    alloc: Global,
+    entries: &mut Vec<JournalEntry>,
+    event: &Event,
+) -> Result<(), AllocError>
+    ensures entries { OnOk result (map entry_commit entries.new.items ≡ map entry_commit entries.old.items ++ shown_in event.now) }
+{
+    match event {
+        Event::Commit {
+            seq: Some(seq),
+            now,
+            tracked,
+            ..
+        } => {
+            let tracked = tracked.clone()?;
+            entries.push(JournalEntry {
+                seq: *seq,
+                now: *now,
+                tracked,
+            })?;
+        }
+        Event::Write { seq, now, ops } => {
+            let tracked = keys_of(alloc, ops.as_slice())?;
+            entries.push(JournalEntry {
+                seq: *seq,
+                now: *now,
+                tracked,
+            })?;
+        }
+        _ => {}
+    }
+    Ok(())
+}
+
+/// The keys of the operations, rising, each once.
+fn keys_of(alloc: Global, ops: &[(Bytes, WriteOp)]) -> Result<KeyList, AllocError>
+    ensures keys { IfOk result (λ keys. keys ≡ batch_keys ops.now) }
+{
+    let mut keys = BTreeSet::new(alloc);
+    for (key, _) in ops {
+        keys.insert(key.clone()?)?;
+    }
+    Ok(KeyList::from_vec(keys.into_iter().collect(alloc)?))
+}
