@@ -34,6 +34,15 @@ impl<B: BlockLike> Model for AscendingState<B> {
 }
 
 impl<B: BlockLike> AscendingState<B> {
+    /// Upwards.
+    fn iteration_order(&self) -> IterationOrder
+        ensures { result ≡ self.now.order }
+    {
+        // What contracts see of it is known once a field is read.
+        let _place = &self.place;
+        IterationOrder::Ascending
+    }
+
     fn next_row(&mut self, alloc: Global) -> Result<Option<RowEntry>, SlateDBError>
         ensures read { IfOk result (λ answer. TakesRead self.old.reads answer self.new.reads) }
         ensures rows { IfOk result (λ answer. TakesLeft (left self.old) answer (left self.new)) }
@@ -192,8 +201,8 @@ impl<E: Outside, B: BlockLike> RowEntryIterator<E> for BlockIteratorV2<B> {
 
     fn iteration_order(&self) -> IterationOrder {
         match &self.inner {
-            BlockIteratorInner::Ascending(_) => IterationOrder::Ascending,
-            BlockIteratorInner::Descending(_) => IterationOrder::Descending,
+            BlockIteratorInner::Ascending(state) => state.iteration_order(),
+            BlockIteratorInner::Descending(rows) => RowEntryIterator::<E>::iteration_order(rows),
         }
     }
 

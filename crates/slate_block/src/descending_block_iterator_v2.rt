@@ -145,6 +145,8 @@ impl<E: Outside, B: BlockLike> RowEntryIterator<E> for DescendingBlockIteratorV2
     ghost whole = { λ it _ _ _ e h _ r _. none_refused it e h r };
 
     fn iteration_order(&self) -> IterationOrder {
+        // What contracts see of it is known once a field is read.
+        let _groups = self.groups;
         IterationOrder::Descending
     }
 
