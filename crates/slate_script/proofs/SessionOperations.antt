@@ -115,13 +115,13 @@ Stepped m e line core reply = ◌≡◌ {A = State × Reply} (step (rules_of e.c
 pub ran-as : {T : Type 0} (m : Meaning) (e : SessionModel) (core : CoreModel) (line named : Line) (ran : Result T SlateDBError) (result : Result Answer SlateDBError) → AnswersBy m e core line named →
     OnOk ran ((n : Meaning) → Stepped n e line core replies.Done) → IfErr ran (λ x. (x ≡ errors.OutOfMemory) ⊎ ((n : Meaning) → Stepped n e line e.core (replies.Refused x))) → OnErr ran (core ≡ e.core) → IsDone ran result →
     AnswersAs m e (record e { core = core }) named result
-ran-as m e core line named (Ok t) result as ok err same is = subst (λ r. AnswersAs m e (record e { core = core }) named r) (sym is.done) (as answers.Done (ok m))
-ran-as m e core line named (Err x) (Err y) as ok err same is = λ s h. tt
-ran-as m e core line named (Err x) (Ok a) as ok err same is = by err
+ran-as m e core line named (Ok t) result model ok err same is = subst (λ r. AnswersAs m e (record e { core = core }) named r) (sym is.done) (model answers.Done (ok m))
+ran-as m e core line named (Err x) (Err y) model ok err same is = λ s h. tt
+ran-as m e core line named (Err x) (Ok a) model ok err same is = by err
   where
     by : (x ≡ errors.OutOfMemory) ⊎ ((n : Meaning) → Stepped n e line e.core (replies.Refused x)) → AnswersAs m e (record e { core = core }) named (Ok a)
     by (inl memory) = absurd (subst IsRefusal memory is.refusal)
-    by (inr stepped) = as a (subst (λ (c : CoreModel). Stepped m e line c (reply_of a)) (sym same) (subst (λ reply. Stepped m e line e.core reply) (sym is.reply) (stepped m)))
+    by (inr stepped) = model a (subst (λ (c : CoreModel). Stepped m e line c (reply_of a)) (sym same) (subst (λ reply. Stepped m e line e.core reply) (sym is.reply) (stepped m)))
 
 pub ran-cause : {T : Type 0} (L : SlateDBError → Type 0) (ran : Result T SlateDBError) (result : Result Answer SlateDBError) → IsDone ran result → IfErr ran (λ x. (x ≡ errors.OutOfMemory) ⊎ IsRefusal x) →
     IfErr result (λ x. (x ≡ errors.OutOfMemory) ⊎ L x)
@@ -225,9 +225,9 @@ pub refused-as : (m : Meaning) (e : SessionModel) (core : CoreModel) (fewer : Li
     IfOk result (λ a. reply_of a ≡ replies.Refused error) → OnOk result (IsRefusal error) →
     (error ≡ errors.OutOfMemory) ⊎ (◌≡◌ {A = State × Reply} (step (rules_of e.core.settings m) (at e.now e.core.state) (lines.Commit id)) (at e.now core.state, replies.Refused error)) →
     AnswersAs m e (record e { core = core; names = fewer }) (lines.Commit name) result
-refused-as m e core fewer name id error (Err x) as is refusal cause = λ s h. tt
-refused-as m e core fewer name id error (Ok a) as is refusal (inl memory) = absurd (subst IsRefusal memory refusal)
-refused-as m e core fewer name id error (Ok a) as is refusal (inr stepped) = as a (stepped ∙ ap (λ reply. (at e.now core.state, reply)) (sym is))
+refused-as m e core fewer name id error (Err x) model is refusal cause = λ s h. tt
+refused-as m e core fewer name id error (Ok a) model is refusal (inl memory) = absurd (subst IsRefusal memory refusal)
+refused-as m e core fewer name id error (Ok a) model is refusal (inr stepped) = model a (stepped ∙ ap (λ reply. (at e.now core.state, reply)) (sym is))
 
 -- ---- the errors of a commit
 
@@ -241,3 +241,15 @@ commit-cause L o error (Ok a) other cause = tt
 commit-cause L o error (Err x) other (inl memory) = inl (other.0 ∙ memory)
 commit-cause L o error (Err x) other (inr (inl conflict)) = absurd (other.1 (conflict-refuses o error conflict))
 commit-cause L o error (Err x) other (inr (inr exhausted)) = absurd (other.1 (subst IsRefusal (sym exhausted.0) tt))
+
+-- ---- a moment, as a commit is given it
+
+pub commit-moment : (r : Rules) (old new : CoreModel) (id : List ℕ) (reply : Reply) {given now : ℤ} → given ≡ now → ◌≡◌ {A = State × Reply} (step r (at given old.state) (lines.Commit id)) (at given new.state, reply) →
+    ◌≡◌ {A = State × Reply} (step r (at now old.state) (lines.Commit id)) (at now new.state, reply)
+commit-moment r old new id reply is h = subst (λ t. ◌≡◌ {A = State × Reply} (step r (at t old.state) (lines.Commit id)) (at t new.state, reply)) is h
+
+pub refused-moment : {A : Type 0} (m : Meaning) (old new : CoreModel) (id : List ℕ) (e : SlateDBError) {given now : ℤ} → given ≡ now →
+    A ⊎ ((n : Meaning) → ◌≡◌ {A = State × Reply} (step (rules_of old.settings n) (at given old.state) (lines.Commit id)) (at given new.state, replies.Refused e)) →
+    A ⊎ (◌≡◌ {A = State × Reply} (step (rules_of old.settings m) (at now old.state) (lines.Commit id)) (at now new.state, replies.Refused e))
+refused-moment m old new id e is (inl a) = inl a
+refused-moment m old new id e is (inr h) = inr (commit-moment (rules_of old.settings m) old new id (replies.Refused e) is (h m))

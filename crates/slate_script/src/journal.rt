@@ -39,7 +39,7 @@ fn push_entry(
             tracked,
             ..
         } => {
-            let tracked = tracked.clone()?;
+            let tracked = shared(alloc, tracked.as_slice())?;
             entries.push(JournalEntry {
                 seq: *seq,
                 now: *now,
@@ -59,6 +59,17 @@ fn push_entry(
     Ok(())
 }
 
+/// The same keys, which are shared.
+fn shared(alloc: Global, keys: &[Bytes]) -> Result<KeyList, AllocError>
+    ensures keys { IfOk result (λ same. same ≡ keys.now) }
+{
+    let mut same = Vec::new(alloc);
+    for key in keys {
+        same.push(key.clone()?)?;
+    }
+    Ok(KeyList::from_vec(same))
+}
+
 /// The keys of the operations, rising, each once.
 fn keys_of(alloc: Global, ops: &[(Bytes, WriteOp)]) -> Result<KeyList, AllocError>
     ensures keys { IfOk result (λ keys. keys ≡ batch_keys ops.now) }
@@ -67,5 +78,12 @@ fn keys_of(alloc: Global, ops: &[(Bytes, WriteOp)]) -> Result<KeyList, AllocErro
     for (key, _) in ops {
         keys.insert(key.clone()?)?;
     }
-    Ok(KeyList::from_vec(keys.into_iter().collect(alloc)?))
+    Ok(KeyList::from_vec(listed(alloc, keys)?))
+}
+
+/// The keys of the set, rising.
+fn listed(alloc: Global, keys: BTreeSet<Bytes>) -> Result<Vec<Bytes>, AllocError>
+    ensures keys { IfOk result (λ v. v.items ≡ keys.keys) }
+{
+    keys.into_iter().collect(alloc)
 }

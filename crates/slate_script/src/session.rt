@@ -319,7 +319,7 @@ impl Session {
 
     /// The commits so far.
     fn journal(&self) -> Result<Answer, SlateDBError>
-        ensures step { (m : Meaning) → AnswersAs m self.now self.now Line.Journal result }
+        ensures step { (m : Meaning) → AnswersAs m self.entry.now self.entry.now Line.Journal result }
         ensures cause { IsOkUnless result SlateDBError.OutOfMemory }
     {
         let entries = entries(self.alloc, self.core.journal().as_slice())?;

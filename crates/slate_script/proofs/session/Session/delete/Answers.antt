@@ -27,12 +27,12 @@ returns-in_default c =
       cause = tt;
     }
 
-pub delete-requires : goal.delete-requires
-delete-requires c = c.self.invariant.0.opened c.args.name c.in-Some.id.now (find_named-lookup c.args.name c.self.inside.names.entries ∙ sym c.in-Some.ensures.value)
+pub delete-delete-requires : goal.delete-delete-requires
+delete-delete-requires c = c.self.invariant.0.opened c.args.name c.in-Some.id.now (find_named-lookup c.args.name c.self.inside.names.entries ∙ sym c.in-Some.ensures.value)
 
-pub invariant_of-self-2 : goal.invariant_of-self-2
-invariant_of-self-2 c = (
-  names-ran c.delete.result c.self.inside.core c.delete.new.self c.in-Some.id.now (with_op c.as_slice.result.now ops.Delete) c.self.inside.names.entries c.delete.ensures.taken c.delete.ensures.same c.self.invariant.0,
+pub invariant_of-self : goal.invariant_of-self
+invariant_of-self c = (
+  names-ran c.delete-delete.result c.self.inside.core c.delete-delete.new.self c.in-Some.id.now (with_op c.as_slice.result.now ops.Delete) c.self.inside.names.entries c.delete-delete.ensures.taken c.delete-delete.ensures.same c.self.invariant.0,
   c.self.invariant.1,
 )
 
@@ -42,20 +42,20 @@ returns c =
       step = (λ m.
           let before : SessionModel = record { core = c.self.inside.core; names = c.self.inside.names.entries; now = c.self.inside.now } in
           let known : find_named c.args.name before.names ≡ Some c.in-Some.id.now = find_named-lookup c.args.name c.self.inside.names.entries ∙ sym c.in-Some.ensures.value in
-          subst (λ (v : SessionModel). AnswersAs m v (record before { core = c.delete.new.self }) (lines.Delete c.args.name c.args.key) c.done.result) c.self.view_is
-          (subst (λ (x : List ℕ). AnswersAs m before (record before { core = c.delete.new.self }) (lines.Delete c.args.name x) c.done.result) c.as_slice.ensures
-          (ran-as m before c.delete.new.self (lines.Delete c.in-Some.id.now c.as_slice.result.now) (lines.Delete c.args.name c.as_slice.result.now) c.delete.result c.done.result
-          (delete-as m before c.delete.new.self c.args.name c.in-Some.id.now c.as_slice.result.now c.self.invariant.0 known)
-          c.delete.ensures.step c.delete.ensures.refused c.delete.ensures.same c.done.ensures)));
+          subst (λ (v : SessionModel). AnswersAs m v (record before { core = c.delete-delete.new.self }) (lines.Delete c.args.name c.args.key) c.done.result) c.self.view_is
+          (subst (λ (x : List ℕ). AnswersAs m before (record before { core = c.delete-delete.new.self }) (lines.Delete c.args.name x) c.done.result) c.as_slice.ensures
+          (ran-as m before c.delete-delete.new.self (lines.Delete c.in-Some.id.now c.as_slice.result.now) (lines.Delete c.args.name c.as_slice.result.now) c.delete-delete.result c.done.result
+          (delete-as m before c.delete-delete.new.self c.args.name c.in-Some.id.now c.as_slice.result.now c.self.invariant.0 known)
+          c.delete-delete.ensures.step c.delete-delete.ensures.refused c.delete-delete.ensures.same c.done.ensures)));
       stores = (let before : SessionModel = record { core = c.self.inside.core; names = c.self.inside.names.entries; now = c.self.inside.now } in
-          subst (λ (v : SessionModel). OnOk c.done.result (StoresNothing v (record before { core = c.delete.new.self }))) c.self.view_is
-          (stores-where c.done.result before c.delete.new.self (stores before c.delete.new.self before.names before.now
-          (leaves-ran c.delete.result c.self.inside.core c.delete.new.self c.in-Some.id.now (with_op c.as_slice.result.now ops.Delete) c.delete.ensures.taken c.delete.ensures.same) c.delete.ensures.kept)));
+          subst (λ (v : SessionModel). OnOk c.done.result (StoresNothing v (record before { core = c.delete-delete.new.self }))) c.self.view_is
+          (stores-where c.done.result before c.delete-delete.new.self (stores before c.delete-delete.new.self before.names before.now
+          (leaves-ran c.delete-delete.result c.self.inside.core c.delete-delete.new.self c.in-Some.id.now (with_op c.as_slice.result.now ops.Delete) c.delete-delete.ensures.taken c.delete-delete.ensures.same) c.delete-delete.ensures.kept)));
       grows = (let before : SessionModel = record { core = c.self.inside.core; names = c.self.inside.names.entries; now = c.self.inside.now } in
-          subst (λ (v : SessionModel). OnOk c.done.result (Grows (lines.Delete c.args.name c.args.key) v (record before { core = c.delete.new.self }))) c.self.view_is
-          (subst (λ (x : List ℕ). OnOk c.done.result (Grows (lines.Delete c.args.name x) before (record before { core = c.delete.new.self }))) c.as_slice.ensures
-          (grows-where c.done.result (lines.Delete c.args.name c.as_slice.result.now) before (record before { core = c.delete.new.self })
-          (grows before c.delete.new.self before.names before.now (lines.Delete c.args.name c.as_slice.result.now) (op_load (c.as_slice.result.now, ops.Delete)) (omega arith)
-          (takes-ran c.delete.result c.self.inside.core c.delete.new.self c.in-Some.id.now (with_op c.as_slice.result.now ops.Delete) (op_load (c.as_slice.result.now, ops.Delete)) c.delete.ensures.taken c.delete.ensures.same (own-op c.as_slice.result.now ops.Delete))))));
-      cause = ran-cause (λ e. IsLimit c.args.self.now e) c.delete.result c.done.result c.done.ensures (op-cause c.delete.result c.as_slice.result.now ops.Delete c.delete.ensures.cause);
+          subst (λ (v : SessionModel). OnOk c.done.result (Grows (lines.Delete c.args.name c.args.key) v (record before { core = c.delete-delete.new.self }))) c.self.view_is
+          (subst (λ (x : List ℕ). OnOk c.done.result (Grows (lines.Delete c.args.name x) before (record before { core = c.delete-delete.new.self }))) c.as_slice.ensures
+          (grows-where c.done.result (lines.Delete c.args.name c.as_slice.result.now) before (record before { core = c.delete-delete.new.self })
+          (grows before c.delete-delete.new.self before.names before.now (lines.Delete c.args.name c.as_slice.result.now) (op_load (c.as_slice.result.now, ops.Delete)) (omega arith)
+          (takes-ran c.delete-delete.result c.self.inside.core c.delete-delete.new.self c.in-Some.id.now (with_op c.as_slice.result.now ops.Delete) (op_load (c.as_slice.result.now, ops.Delete)) c.delete-delete.ensures.taken c.delete-delete.ensures.same (own-op c.as_slice.result.now ops.Delete))))));
+      cause = ran-cause (λ e. IsLimit c.args.self.now e) c.delete-delete.result c.done.result c.done.ensures (op-cause c.delete-delete.result c.as_slice.result.now ops.Delete c.delete-delete.ensures.cause);
     }

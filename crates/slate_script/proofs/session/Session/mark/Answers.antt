@@ -25,12 +25,12 @@ returns-in_default c =
       cause = tt;
     }
 
-pub mark_read-requires : goal.mark_read-requires
-mark_read-requires c = c.self.invariant.0.opened c.args.name c.in-Some.id.now (find_named-lookup c.args.name c.self.inside.names.entries ∙ sym c.in-Some.ensures.value)
+pub mark_read-mark-requires : goal.mark_read-mark-requires
+mark_read-mark-requires c = c.self.invariant.0.opened c.args.name c.in-Some.id.now (find_named-lookup c.args.name c.self.inside.names.entries ∙ sym c.in-Some.ensures.value)
 
-pub invariant_of-self-2 : goal.invariant_of-self-2
-invariant_of-self-2 c = (
-  names-ran c.mark_read.result c.self.inside.core c.mark_read.new.self c.in-Some.id.now (with_marks c.as_slice.result.now) c.self.inside.names.entries c.mark_read.ensures.taken c.mark_read.ensures.same c.self.invariant.0,
+pub invariant_of-self : goal.invariant_of-self
+invariant_of-self c = (
+  names-ran c.mark_read-mark.result c.self.inside.core c.mark_read-mark.new.self c.in-Some.id.now (with_marks c.as_slice.result.now) c.self.inside.names.entries c.mark_read-mark.ensures.taken c.mark_read-mark.ensures.same c.self.invariant.0,
   c.self.invariant.1,
 )
 
@@ -40,20 +40,20 @@ returns c =
       step = (λ m.
           let before : SessionModel = record { core = c.self.inside.core; names = c.self.inside.names.entries; now = c.self.inside.now } in
           let known : find_named c.args.name before.names ≡ Some c.in-Some.id.now = find_named-lookup c.args.name c.self.inside.names.entries ∙ sym c.in-Some.ensures.value in
-          subst (λ (v : SessionModel). AnswersAs m v (record before { core = c.mark_read.new.self }) (lines.Mark c.args.name c.args.keys) c.done.result) c.self.view_is
-          (subst (λ (x : List (List ℕ)). AnswersAs m before (record before { core = c.mark_read.new.self }) (lines.Mark c.args.name x) c.done.result) c.as_slice.ensures
-          (ran-as m before c.mark_read.new.self (lines.Mark c.in-Some.id.now c.as_slice.result.now) (lines.Mark c.args.name c.as_slice.result.now) c.mark_read.result c.done.result
-          (mark-as m before c.mark_read.new.self c.args.name c.in-Some.id.now c.as_slice.result.now c.self.invariant.0 known)
-          c.mark_read.ensures.step (memory-refuses _ c.mark_read.result c.mark_read.ensures.cause) c.mark_read.ensures.same c.done.ensures)));
+          subst (λ (v : SessionModel). AnswersAs m v (record before { core = c.mark_read-mark.new.self }) (lines.Mark c.args.name c.args.keys) c.done.result) c.self.view_is
+          (subst (λ (x : List (List ℕ)). AnswersAs m before (record before { core = c.mark_read-mark.new.self }) (lines.Mark c.args.name x) c.done.result) c.as_slice.ensures
+          (ran-as m before c.mark_read-mark.new.self (lines.Mark c.in-Some.id.now c.as_slice.result.now) (lines.Mark c.args.name c.as_slice.result.now) c.mark_read-mark.result c.done.result
+          (mark-as m before c.mark_read-mark.new.self c.args.name c.in-Some.id.now c.as_slice.result.now c.self.invariant.0 known)
+          c.mark_read-mark.ensures.step (memory-refuses _ c.mark_read-mark.result c.mark_read-mark.ensures.cause) c.mark_read-mark.ensures.same c.done.ensures)));
       stores = (let before : SessionModel = record { core = c.self.inside.core; names = c.self.inside.names.entries; now = c.self.inside.now } in
-          subst (λ (v : SessionModel). OnOk c.done.result (StoresNothing v (record before { core = c.mark_read.new.self }))) c.self.view_is
-          (stores-where c.done.result before c.mark_read.new.self (stores before c.mark_read.new.self before.names before.now
-          (leaves-ran c.mark_read.result c.self.inside.core c.mark_read.new.self c.in-Some.id.now (with_marks c.as_slice.result.now) c.mark_read.ensures.taken c.mark_read.ensures.same) c.mark_read.ensures.kept)));
+          subst (λ (v : SessionModel). OnOk c.done.result (StoresNothing v (record before { core = c.mark_read-mark.new.self }))) c.self.view_is
+          (stores-where c.done.result before c.mark_read-mark.new.self (stores before c.mark_read-mark.new.self before.names before.now
+          (leaves-ran c.mark_read-mark.result c.self.inside.core c.mark_read-mark.new.self c.in-Some.id.now (with_marks c.as_slice.result.now) c.mark_read-mark.ensures.taken c.mark_read-mark.ensures.same) c.mark_read-mark.ensures.kept)));
       grows = (let before : SessionModel = record { core = c.self.inside.core; names = c.self.inside.names.entries; now = c.self.inside.now } in
-          subst (λ (v : SessionModel). OnOk c.done.result (Grows (lines.Mark c.args.name c.args.keys) v (record before { core = c.mark_read.new.self }))) c.self.view_is
-          (subst (λ (x : List (List ℕ)). OnOk c.done.result (Grows (lines.Mark c.args.name x) before (record before { core = c.mark_read.new.self }))) c.as_slice.ensures
-          (grows-where c.done.result (lines.Mark c.args.name c.as_slice.result.now) before (record before { core = c.mark_read.new.self })
-          (grows before c.mark_read.new.self before.names before.now (lines.Mark c.args.name c.as_slice.result.now) (0) (omega arith)
-          (takes-ran c.mark_read.result c.self.inside.core c.mark_read.new.self c.in-Some.id.now (with_marks c.as_slice.result.now) (0) c.mark_read.ensures.taken c.mark_read.ensures.same (λ t. omega arith))))));
-      cause = ran-cause (λ e. IsLimit c.args.self.now e) c.mark_read.result c.done.result c.done.ensures (memory-cause c.mark_read.result c.mark_read.ensures.cause);
+          subst (λ (v : SessionModel). OnOk c.done.result (Grows (lines.Mark c.args.name c.args.keys) v (record before { core = c.mark_read-mark.new.self }))) c.self.view_is
+          (subst (λ (x : List (List ℕ)). OnOk c.done.result (Grows (lines.Mark c.args.name x) before (record before { core = c.mark_read-mark.new.self }))) c.as_slice.ensures
+          (grows-where c.done.result (lines.Mark c.args.name c.as_slice.result.now) before (record before { core = c.mark_read-mark.new.self })
+          (grows before c.mark_read-mark.new.self before.names before.now (lines.Mark c.args.name c.as_slice.result.now) (0) (omega arith)
+          (takes-ran c.mark_read-mark.result c.self.inside.core c.mark_read-mark.new.self c.in-Some.id.now (with_marks c.as_slice.result.now) (0) c.mark_read-mark.ensures.taken c.mark_read-mark.ensures.same (λ t. omega arith))))));
+      cause = ran-cause (λ e. IsLimit c.args.self.now e) c.mark_read-mark.result c.done.result c.done.ensures (memory-cause c.mark_read-mark.result c.mark_read-mark.ensures.cause);
     }

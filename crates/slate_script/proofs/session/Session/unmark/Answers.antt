@@ -25,12 +25,12 @@ returns-in_default c =
       cause = tt;
     }
 
-pub unmark_write-requires : goal.unmark_write-requires
-unmark_write-requires c = c.self.invariant.0.opened c.args.name c.in-Some.id.now (find_named-lookup c.args.name c.self.inside.names.entries ∙ sym c.in-Some.ensures.value)
+pub unmark_write-unmark-requires : goal.unmark_write-unmark-requires
+unmark_write-unmark-requires c = c.self.invariant.0.opened c.args.name c.in-Some.id.now (find_named-lookup c.args.name c.self.inside.names.entries ∙ sym c.in-Some.ensures.value)
 
-pub invariant_of-self-2 : goal.invariant_of-self-2
-invariant_of-self-2 c = (
-  names-ran c.unmark_write.result c.self.inside.core c.unmark_write.new.self c.in-Some.id.now (with_unmarks c.as_slice.result.now) c.self.inside.names.entries c.unmark_write.ensures.taken c.unmark_write.ensures.same c.self.invariant.0,
+pub invariant_of-self : goal.invariant_of-self
+invariant_of-self c = (
+  names-ran c.unmark_write-unmark.result c.self.inside.core c.unmark_write-unmark.new.self c.in-Some.id.now (with_unmarks c.as_slice.result.now) c.self.inside.names.entries c.unmark_write-unmark.ensures.taken c.unmark_write-unmark.ensures.same c.self.invariant.0,
   c.self.invariant.1,
 )
 
@@ -40,20 +40,20 @@ returns c =
       step = (λ m.
           let before : SessionModel = record { core = c.self.inside.core; names = c.self.inside.names.entries; now = c.self.inside.now } in
           let known : find_named c.args.name before.names ≡ Some c.in-Some.id.now = find_named-lookup c.args.name c.self.inside.names.entries ∙ sym c.in-Some.ensures.value in
-          subst (λ (v : SessionModel). AnswersAs m v (record before { core = c.unmark_write.new.self }) (lines.Unmark c.args.name c.args.keys) c.done.result) c.self.view_is
-          (subst (λ (x : List (List ℕ)). AnswersAs m before (record before { core = c.unmark_write.new.self }) (lines.Unmark c.args.name x) c.done.result) c.as_slice.ensures
-          (ran-as m before c.unmark_write.new.self (lines.Unmark c.in-Some.id.now c.as_slice.result.now) (lines.Unmark c.args.name c.as_slice.result.now) c.unmark_write.result c.done.result
-          (unmark-as m before c.unmark_write.new.self c.args.name c.in-Some.id.now c.as_slice.result.now c.self.invariant.0 known)
-          c.unmark_write.ensures.step (memory-refuses _ c.unmark_write.result c.unmark_write.ensures.cause) c.unmark_write.ensures.same c.done.ensures)));
+          subst (λ (v : SessionModel). AnswersAs m v (record before { core = c.unmark_write-unmark.new.self }) (lines.Unmark c.args.name c.args.keys) c.done.result) c.self.view_is
+          (subst (λ (x : List (List ℕ)). AnswersAs m before (record before { core = c.unmark_write-unmark.new.self }) (lines.Unmark c.args.name x) c.done.result) c.as_slice.ensures
+          (ran-as m before c.unmark_write-unmark.new.self (lines.Unmark c.in-Some.id.now c.as_slice.result.now) (lines.Unmark c.args.name c.as_slice.result.now) c.unmark_write-unmark.result c.done.result
+          (unmark-as m before c.unmark_write-unmark.new.self c.args.name c.in-Some.id.now c.as_slice.result.now c.self.invariant.0 known)
+          c.unmark_write-unmark.ensures.step (memory-refuses _ c.unmark_write-unmark.result c.unmark_write-unmark.ensures.cause) c.unmark_write-unmark.ensures.same c.done.ensures)));
       stores = (let before : SessionModel = record { core = c.self.inside.core; names = c.self.inside.names.entries; now = c.self.inside.now } in
-          subst (λ (v : SessionModel). OnOk c.done.result (StoresNothing v (record before { core = c.unmark_write.new.self }))) c.self.view_is
-          (stores-where c.done.result before c.unmark_write.new.self (stores before c.unmark_write.new.self before.names before.now
-          (leaves-ran c.unmark_write.result c.self.inside.core c.unmark_write.new.self c.in-Some.id.now (with_unmarks c.as_slice.result.now) c.unmark_write.ensures.taken c.unmark_write.ensures.same) c.unmark_write.ensures.kept)));
+          subst (λ (v : SessionModel). OnOk c.done.result (StoresNothing v (record before { core = c.unmark_write-unmark.new.self }))) c.self.view_is
+          (stores-where c.done.result before c.unmark_write-unmark.new.self (stores before c.unmark_write-unmark.new.self before.names before.now
+          (leaves-ran c.unmark_write-unmark.result c.self.inside.core c.unmark_write-unmark.new.self c.in-Some.id.now (with_unmarks c.as_slice.result.now) c.unmark_write-unmark.ensures.taken c.unmark_write-unmark.ensures.same) c.unmark_write-unmark.ensures.kept)));
       grows = (let before : SessionModel = record { core = c.self.inside.core; names = c.self.inside.names.entries; now = c.self.inside.now } in
-          subst (λ (v : SessionModel). OnOk c.done.result (Grows (lines.Unmark c.args.name c.args.keys) v (record before { core = c.unmark_write.new.self }))) c.self.view_is
-          (subst (λ (x : List (List ℕ)). OnOk c.done.result (Grows (lines.Unmark c.args.name x) before (record before { core = c.unmark_write.new.self }))) c.as_slice.ensures
-          (grows-where c.done.result (lines.Unmark c.args.name c.as_slice.result.now) before (record before { core = c.unmark_write.new.self })
-          (grows before c.unmark_write.new.self before.names before.now (lines.Unmark c.args.name c.as_slice.result.now) (0) (omega arith)
-          (takes-ran c.unmark_write.result c.self.inside.core c.unmark_write.new.self c.in-Some.id.now (with_unmarks c.as_slice.result.now) (0) c.unmark_write.ensures.taken c.unmark_write.ensures.same (λ t. omega arith))))));
-      cause = ran-cause (λ e. IsLimit c.args.self.now e) c.unmark_write.result c.done.result c.done.ensures (memory-cause c.unmark_write.result c.unmark_write.ensures.cause);
+          subst (λ (v : SessionModel). OnOk c.done.result (Grows (lines.Unmark c.args.name c.args.keys) v (record before { core = c.unmark_write-unmark.new.self }))) c.self.view_is
+          (subst (λ (x : List (List ℕ)). OnOk c.done.result (Grows (lines.Unmark c.args.name x) before (record before { core = c.unmark_write-unmark.new.self }))) c.as_slice.ensures
+          (grows-where c.done.result (lines.Unmark c.args.name c.as_slice.result.now) before (record before { core = c.unmark_write-unmark.new.self })
+          (grows before c.unmark_write-unmark.new.self before.names before.now (lines.Unmark c.args.name c.as_slice.result.now) (0) (omega arith)
+          (takes-ran c.unmark_write-unmark.result c.self.inside.core c.unmark_write-unmark.new.self c.in-Some.id.now (with_unmarks c.as_slice.result.now) (0) c.unmark_write-unmark.ensures.taken c.unmark_write-unmark.ensures.same (λ t. omega arith))))));
+      cause = ran-cause (λ e. IsLimit c.args.self.now e) c.unmark_write-unmark.result c.done.result c.done.ensures (memory-cause c.unmark_write-unmark.result c.unmark_write-unmark.ensures.cause);
     }
