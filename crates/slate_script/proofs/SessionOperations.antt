@@ -166,8 +166,10 @@ commit-frame r s txns snapshots flushed name id t = by (commit_refusal r s t) t.
 
     by : (o : Option SlateDBError) (os : Ops) →
         refused_or o (closed from name) (with_reply replies.Committed (as_commit r (closed from name) os (tracked_writes t)))
-        ≡ (record (refused_or o (closed s id) (with_reply replies.Committed (as_commit r (closed s id) os (tracked_writes t)))).0 { txns = without name txns; snapshots = without name snapshots; flushed = flushed },
-          (refused_or o (closed s id) (with_reply replies.Committed (as_commit r (closed s id) os (tracked_writes t)))).1)
+        ≡ (
+          record (refused_or o (closed s id) (with_reply replies.Committed (as_commit r (closed s id) os (tracked_writes t)))).0 { txns = without name txns; snapshots = without name snapshots; flushed = flushed },
+          (refused_or o (closed s id) (with_reply replies.Committed (as_commit r (closed s id) os (tracked_writes t)))).1,
+        )
     by (Some e) os = refl
     by None [] = refl
     by None (o ∷ os) = refl

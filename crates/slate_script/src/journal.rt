@@ -1,7 +1,7 @@
 //! The commits of a journal, as its line shows them.
-ghost use Rattle.std.specs.Prelude.{◌≡◌, ◌++◌, map, IfOk, OnOk};
+ghost use Rattle.std.specs.Prelude.{◌≡◌, ◌++◌, [], map, IfOk, OnOk};
 ghost use Rattle.slate_mem.specs.Batch.{batch_keys};
-ghost use Rattle.slate_txn.specs.Replay.{replay};
+ghost use Rattle.slate_txn.specs.Replay.{commit_made, replay};
 ghost use Rattle.slate_language.specs.Answers.{entry_commit, shown_commits};
 ghost use Rattle.slate_script.specs.Shown.{shown_in};
 
@@ -34,18 +34,11 @@ fn push_entry(
 {
     match event {
         Event::Commit {
-            seq: Some(seq),
+            seq,
             now,
             tracked,
             ..
-        } => {
-            let tracked = shared(alloc, tracked.as_slice())?;
-            entries.push(JournalEntry {
-                seq: *seq,
-                now: *now,
-                tracked,
-            })?;
-        }
+        } => push_commit(alloc, entries, *seq, *now, tracked.as_slice()),
         Event::Write { seq, now, ops } => {
             let tracked = keys_of(alloc, ops.as_slice())?;
             entries.push(JournalEntry {
@@ -53,9 +46,27 @@ fn push_entry(
                 now: *now,
                 tracked,
             })?;
+            Ok(())
         }
-        _ => {}
+        _ => Ok(()),
     }
+}
+
+/// Adds the entry of a transaction's commit, where it has a sequence.
+fn push_commit(
+    alloc: Global,
+    entries: &mut Vec<JournalEntry>,
+    seq: Option<u64>,
+    now: i64,
+    tracked: &[Bytes],
+) -> Result<(), AllocError>
+    ensures entries { OnOk result (map entry_commit entries.new.items ≡ map entry_commit entries.old.items ++ commit_made seq now [] tracked.now) }
+{
+    let Some(seq) = seq else {
+        return Ok(());
+    };
+    let tracked = shared(alloc, tracked)?;
+    entries.push(JournalEntry { seq, now, tracked })?;
     Ok(())
 }
 

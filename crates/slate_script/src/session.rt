@@ -241,7 +241,9 @@ impl Session {
         };
         let id = *id;
         drop(name);
-        let put = self.core.put(&id, key.as_slice(), value.as_slice(), &PutOptions { ttl });
+        let put = self
+            .core
+            .put(&id, key.as_slice(), value.as_slice(), &PutOptions { ttl });
         drop((key, value));
         done(put)
     }

@@ -58,8 +58,7 @@ invariant_of-self-2 c =
       | in-Ok w ↦ closes-committed before.core c.commit.new.self id w.in-Ok.seq _ t.value (w.in-Ok.ensures.event t.value t.is)
       | in-Err w ↦ closes-ended before.core c.commit.new.self id w.in-Err.ensures.ended
     ] in
-    let updates : (q : List ℕ) → find_named q c.remove.new.self.entries ≡ cond (bytes_eq c.args.name q) None (find_named q before.names) = λ q. named-after c.args.name q None before.names c.remove.new.self.entries (c.remove.ensures.updates.0 q) in
-    (
+    let updates : (q : List ℕ) → find_named q c.remove.new.self.entries ≡ cond (bytes_eq c.args.name q) None (find_named q before.names) = λ q. named-after c.args.name q None before.names c.remove.new.self.entries (c.remove.ensures.updates.0 q) in (
       subst (λ (ts : List (List ℕ × Tx)). AreNames c.remove.new.self.entries ts) (sym closed.txns)
           (names-closed c.args.name id before.names c.remove.new.self.entries before.core.state.txns c.self.invariant.0 known updates),
       c.self.invariant.1,
