@@ -9,6 +9,7 @@ use Rattle.slate_table.specs.declared.info.SsTableHandle.{SsTableHandle}
 use Rattle.slate_mem.specs.Batch.{Ops}
 use Rattle.slate_txn.specs.declared.event.Event.TheVariants as events
 use Rattle.slate_txn.specs.Ids.{id_of}
+use Rattle.slate_txn.specs.Managers.{Manager}
 use Rattle.slate_txn.specs.Named.{find_named, without}
 use Rattle.slate_txn.specs.Open.{Transactions}
 use Rattle.slate_txn.specs.State.{begun, last_of}
@@ -18,7 +19,7 @@ use Rattle.slate_db.specs.Log.{IsLog, LogModel, LIMIT, with_begin, with_end, wit
 use Rattle.slate_db.specs.Model.{CoreModel, Rows}
 use Rattle.slate_db.specs.View.{view_of, unseen_of, IsWholeInside}
 use Rattle.slate_db.specs.Whole.{IsWhole, Unseen}
-use Rattle.slate_db.proofs.Wholes.{ends_are, taken_back, whole_room}
+use Rattle.slate_db.proofs.Wholes.{ends_are, whole_room}
 
 -- ---- places
 
@@ -63,12 +64,12 @@ unseen_freeze s y is = ap (λ (x : LayersModel). view_of (record s { layers = x 
 
 -- ---- a begin and an end
 
-pub begun_is : (s : Inside) (l : LogModel) (ts : Transactions) (level : IsolationLevel) (id : List ℕ) (at : ℕ) → id ≡ id_of (s.log.ids + 1) → at ≡ s.log.last → l ≡ with_begin s.log level l.spare → ts ≡ s.transactions ++ ((id, begun level at) ∷ []) →
-    record s { log = with_begin s.log level l.spare; transactions = s.transactions ++ ((id_of (s.log.ids + 1), begun level s.log.last) ∷ []) } ≡ record s { log = l; transactions = ts }
-begun_is s l ts level id at ids ats log txns =
+pub begun_is : (s : Inside) (l : LogModel) (ts : Transactions) (n : Manager) (level : IsolationLevel) (id : List ℕ) (at : ℕ) → id ≡ id_of (s.log.ids + 1) → at ≡ s.log.last → l ≡ with_begin s.log level l.spare → ts ≡ s.transactions ++ ((id, begun level at) ∷ []) →
+    record s { log = with_begin s.log level l.spare; transactions = s.transactions ++ ((id_of (s.log.ids + 1), begun level s.log.last) ∷ []); manager = n } ≡ record s { log = l; transactions = ts; manager = n }
+begun_is s l ts n level id at ids ats log txns =
     let a = sym log in
     let b : s.transactions ++ ((id_of (s.log.ids + 1), begun level s.log.last) ∷ []) ≡ ts = sym (txns ∙ (λ i. s.transactions ++ ((ids i, begun level (ats i)) ∷ []))) in
-    λ i. record s { log = a i; transactions = b i }
+    λ i. record s { log = a i; transactions = b i; manager = n }
 
 pub event_begun : (s : Inside) (c : CoreModel) (l : LogModel) (ts : Transactions) (level : IsolationLevel) (id : List ℕ) (at : ℕ) → view_of s ≡ c → id ≡ id_of (s.log.ids + 1) → at ≡ s.log.last → l ≡ with_begin s.log level l.spare →
     view_of (record s { log = l; transactions = ts }) ≡ record c { state = (view_of (record s { log = l; transactions = ts })).state; events = c.events ++ (events.Begin id level at ∷ []); spare = l.spare }
@@ -77,16 +78,9 @@ event_begun s c l ts level id at is ids ats log =
     ∙ (let a = sym ids in let b = sym ats in λ i. record (view_of s) { state = (view_of (record s { log = l; transactions = ts })).state; events = s.log.events ++ (events.Begin (a i) level (b i) ∷ []); spare = l.spare })
     ∙ ap (λ (v : CoreModel). record v { state = (view_of (record s { log = l; transactions = ts })).state; events = v.events ++ (events.Begin id level at ∷ []); spare = l.spare }) is
 
--- without room for the event it is taken out again
-pub unbegun_is : (s : Inside) (l : LogModel) (ts us : Transactions) (level : IsolationLevel) (id : List ℕ) (at : ℕ) → IsWholeInside s → id ≡ id_of (s.log.ids + 1) → at ≡ s.log.last → l ≡ s.log → ts ≡ s.transactions ++ ((id, begun level at) ∷ []) → us ≡ without id ts →
-    record s { log = l; transactions = us } ≡ s
-unbegun_is s l ts us level id at w ids ats log txns out =
-    let back : us ≡ s.transactions = out ∙ ap (without id) txns ∙ (λ i. without (ids i) (s.transactions ++ ((ids i, begun level (ats i)) ∷ []))) ∙ taken_back (view_of s) (unseen_of s) (begun level s.log.last) w in
-    λ i. record s { log = log i; transactions = back i }
-
-pub ended_is : (s : Inside) (l : LogModel) (ts : Transactions) (id : List ℕ) → l ≡ with_end s.log id l.spare → ts ≡ without id s.transactions →
-    record s { log = with_end s.log id l.spare; transactions = without id s.transactions } ≡ record s { log = l; transactions = ts }
-ended_is s l ts id log txns = let a = sym log in let b = sym txns in λ i. record s { log = a i; transactions = b i }
+pub ended_is : (s : Inside) (l : LogModel) (ts : Transactions) (n : Manager) (id : List ℕ) → l ≡ with_end s.log id l.spare → ts ≡ without id s.transactions →
+    record s { log = with_end s.log id l.spare; transactions = without id s.transactions; manager = n } ≡ record s { log = l; transactions = ts; manager = n }
+ended_is s l ts n id log txns = let a = sym log in let b = sym txns in λ i. record s { log = a i; transactions = b i; manager = n }
 
 pub event_ended : (s : Inside) (c : CoreModel) (l : LogModel) (ts : Transactions) (id : List ℕ) → view_of s ≡ c → l ≡ with_end s.log id l.spare →
     view_of (record s { log = l; transactions = ts }) ≡ record c { state = (view_of (record s { log = l; transactions = ts })).state; events = c.events ++ (events.End id ∷ []); spare = l.spare }
@@ -106,12 +100,12 @@ frozen_is s l0 l y0 y room log fit layers =
     let b = sym (layers ∙ ap (λ (x : LayersModel). layers_frozen_of x y.for_freeze) fit) in
     λ i. record s { log = a i; layers = b i }
 
-pub written_is : (s : Inside) (l0 l : LogModel) (y : LayersModel) (now at : ℤ) (ops made : Ops) (rows : Rows) → l0 ≡ record s.log { spare = l0.spare } → at ≡ now → made ≡ ops → l ≡ with_write l0 at made l.spare → y ≡ record s.layers { active = rows } →
-    record s { log = with_write s.log now ops l.spare; layers = record s.layers { active = rows } } ≡ record s { log = l; layers = y }
-written_is s l0 l y now at ops made rows room ats ops_are log layers =
+pub written_is : (s : Inside) (l0 l : LogModel) (y : LayersModel) (n : Manager) (now at : ℤ) (ops made : Ops) (rows : Rows) → l0 ≡ record s.log { spare = l0.spare } → at ≡ now → made ≡ ops → l ≡ with_write l0 at made l.spare → y ≡ record s.layers { active = rows } →
+    record s { log = with_write s.log now ops l.spare; layers = record s.layers { active = rows }; manager = n } ≡ record s { log = l; layers = y; manager = n }
+written_is s l0 l y n now at ops made rows room ats ops_are log layers =
     let a = sym (log ∙ (λ i. with_write (room i) (ats i) (ops_are i) l.spare)) in
     let b = sym layers in
-    λ i. record s { log = a i; layers = b i }
+    λ i. record s { log = a i; layers = b i; manager = n }
 
 abbrev pub layers_installed_of : LayersModel → SsTableHandle → ℕ → ℕ → ℕ → LayersModel
 layers_installed_of y h floor freeze table = record y { frozen = []; tables = y.tables ++ (h ∷ []); floor = floor; for_freeze = freeze; for_table = table }

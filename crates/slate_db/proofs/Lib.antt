@@ -38,3 +38,9 @@ mod Steps
 mod Notes
 mod Refused
 mod Plain
+pub mod Managing
+pub mod TakenBack
+pub mod CommitSteps
+pub mod OwnRows
+pub mod Changes
+pub mod CommitWholes

@@ -1,5 +1,5 @@
 -- What is true of every log stays so.
-use Rattle.std.proofs.Common.{◌≡◌, ℕ, ◌+◌, ◌-◌, ◌<◌, ◌≤◌, ◌^◌, List, [], ◌∷◌, ◌++◌, length, refl, sym, ap, subst, ◌∙◌, arith, ℤ, append-nil, length-append}
+use Rattle.std.proofs.Common.{◌≡◌, ℕ, ◌+◌, ◌-◌, ◌<◌, ◌≤◌, ◌^◌, List, [], ◌∷◌, ◌++◌, length, Option, Some, None, refl, sym, ap, subst, ◌∙◌, arith, ℤ, append-nil, length-append}
 use Rattle.std.proofs.lemmas.Grind.{flat_map-append}
 use Rattle.std.specs.Prelude.{IsSome}
 use Rattle.std.specs.List.{AllByRecursion}
@@ -9,6 +9,7 @@ use Rattle.slate_mem.specs.Batch.{Ops, batch_keys}
 use Rattle.slate_table.specs.Paths.{table_id}
 use Rattle.slate_txn.specs.declared.event.Event.{Event}
 use Rattle.slate_txn.specs.declared.event.Event.TheVariants as events
+use Rattle.slate_txn.specs.declared.event.TranscriptStep.{TranscriptStep}
 use Rattle.slate_txn.specs.Ids.{id_of, IsOfCount}
 use Rattle.slate_txn.specs.Named.{find_named, without}
 use Rattle.slate_txn.specs.Reads.{up_to}
@@ -17,7 +18,7 @@ use Rattle.slate_txn.specs.State.{Commit, opening, last_of}
 use Rattle.slate_txn.proofs.IdLaws.{fresh_among, wider}
 use Rattle.slate_txn.proofs.NamedLaws.{length_without}
 use Rattle.slate_db.specs.Installs.{tables_of, tables_in, installed, NumberedFrom}
-use Rattle.slate_db.specs.Log.{LogModel, IsLog, IsWhollyKept, HasPlace, LIMIT, ends_of, with_begin, with_end, with_freeze, with_write, with_install, with_flush}
+use Rattle.slate_db.specs.Log.{LogModel, IsLog, IsWhollyKept, HasPlace, MayCommit, LIMIT, ends_of, with_begin, with_commit, with_end, with_freeze, with_write, with_install, with_flush}
 use Rattle.slate_db.proofs.Journals.{apply_more, used_more, legal_more}
 use Rattle.slate_db.proofs.Lists.{all_more, all_map}
 use Rattle.slate_db.proofs.Split.{rising_more, last_more, up_to_more, all_up_to}
@@ -139,6 +140,66 @@ log_written l now ops spare place room fits batch w = record {
 
     through : installed (l.events ++ (e ∷ [])) ≡ installed l.events
     through = ap (λ s. s.flushed) more
+
+-- a commit of a transaction: without a sequence, and with the next one
+committed_none : (l : LogModel) (id : List ℕ) (now : ℤ) (ops : Ops) (tracked : List (List ℕ)) (ts : List TranscriptStep) (spare : ℕ) → MayCommit l id None ops tracked ts → spare + 1 ≡ l.spare → IsLog l → IsLog (with_commit l id None now ops tracked ts spare)
+committed_none l id now ops tracked ts spare may room w =
+    subst IsLog (let back = sym (append-nil l.commits) in λ i. record l { ends = l.ends - 1; commits = back i; events = l.events ++ (events.Commit id None now ops tracked ts ∷ []); spare = spare })
+    (log_event l (events.Commit id None now ops tracked ts) l.ids (l.ends - 1) spare (may.held, may.next, may.kept, may.keys, may.free) (append-nil (replay l.events).commits) refl refl (rw used_more w.used) (omega arith)
+    (omega (arith, len, w.ends)) (omega (arith, len, w.ends, w.room)) (omega (arith, len, w.ends, w.bound)) w)
+  where
+    len : length (without id (replay l.events).txns) + 1 ≡ length (replay l.events).txns
+    len = length_without id (replay l.events).txns may.held
+
+committed_some : (l : LogModel) (id : List ℕ) (n : ℕ) (now : ℤ) (ops : Ops) (tracked : List (List ℕ)) (ts : List TranscriptStep) (spare : ℕ) → MayCommit l id (Some n) ops tracked ts → spare + 1 ≡ l.spare → IsLog l → IsLog (with_commit l id (Some n) now ops tracked ts spare)
+committed_some l id n now ops tracked ts spare may room w = record {
+  legal = legal_more l.start opening [] l.events e w.legal (may.held, may.next, may.kept, may.keys, may.free);
+  replays = ap (λ s. s.commits) more ∙ ap (λ cs. cs ++ (commit ∷ [])) w.replays;
+  last = sym (last_more l.start l.commits commit);
+  last_fits = may.fits;
+  rising = rising_more l.start l.commits commit w.rising (omega (arith, next, newest));
+  fine = all_more _ _ _ w.fine may.fine;
+  used = rw used_more w.used;
+  counted = rw length-append (let h : l.ids ≤ length l.events = w.counted in omega arith);
+  installed_within = subst (λ (k : ℕ). k ≤ n) (sym through) (let h : installed l.events ≤ l.last = w.installed_within in omega (arith, next));
+  flushed_within = let h : l.flushed ≤ l.last = w.flushed_within in omega (arith, next);
+  flushed_through =
+      up_to_more l.flushed l.commits commit (let h : l.flushed ≤ l.last = w.flushed_within in omega (arith, next))
+      ∙ w.flushed_through
+      ∙ sym (up_to_more (installed l.events) l.commits commit (let h : installed l.events ≤ l.last = w.installed_within in omega (arith, next)))
+      ∙ ap (λ i. up_to i (l.commits ++ (commit ∷ []))) (sym through);
+  numbered = subst (NumberedFrom 1) (sym (tables_same l.events e refl)) w.numbered;
+  installs = w.installs ∙ ap length (sym (tables_same l.events e refl));
+  installs_within = rw length-append (let h : l.installs ≤ length l.events = w.installs_within in omega arith);
+  ends = (let k : l.ends - 1 ≡ length (without id (replay l.events).txns) + length (replay l.events).snapshots = omega (arith, len, w.ends) in k) ∙ ap ends_of (sym more);
+  room = omega (arith, len, w.ends, w.room);
+  bound = rw length-append (omega (arith, len, w.ends, w.bound));
+}
+  where
+    e : Event
+    e = events.Commit id (Some n) now ops tracked ts
+
+    commit : Commit
+    commit = record { seq = n; now = now; ops = ops; tracked = tracked }
+
+    more : replay (l.events ++ (e ∷ [])) ≡ apply (replay l.events) e
+    more = apply_more opening l.events e
+
+    through : installed (l.events ++ (e ∷ [])) ≡ installed l.events
+    through = ap (λ s. s.flushed) more
+
+    len : length (without id (replay l.events).txns) + 1 ≡ length (replay l.events).txns
+    len = length_without id (replay l.events).txns may.held
+
+    next : n ≡ l.last + 1
+    next = may.next.0 ∙ ap (λ x. x + 1) (sym (w.last ∙ ap (λ cs. last_of l.start cs) (sym w.replays)))
+
+    newest : l.last ≡ last_of l.start l.commits
+    newest = w.last
+
+pub log_committed : (l : LogModel) (id : List ℕ) (n : Option ℕ) (now : ℤ) (ops : Ops) (tracked : List (List ℕ)) (ts : List TranscriptStep) (spare : ℕ) → MayCommit l id n ops tracked ts → spare + 1 ≡ l.spare → IsLog l → IsLog (with_commit l id n now ops tracked ts spare)
+log_committed l id None now ops tracked ts spare may room w = committed_none l id now ops tracked ts spare may room w
+log_committed l id (Some n) now ops tracked ts spare may room w = committed_some l id n now ops tracked ts spare may room w
 
 numbered_more : (i : ℕ) (ts : List (Ulid × List ℕ)) (t : Ulid × List ℕ) → NumberedFrom i ts → t.0.0 ≡ table_id (i + length ts) 0 → NumberedFrom i (ts ++ (t ∷ []))
 numbered_more i [] t h e = (e ∙ ap (λ x. table_id x 0) (let z : i + 0 ≡ i = omega arith in z), tt)

@@ -1,7 +1,7 @@
 -- The write of a batch that took no merge.
 use Rattle.std.proofs.Common.{◌≡◌, ℕ, ◌+◌, ◌-◌, ◌<◌, ◌≤◌, ◌^◌, Bool, true, false, ◌&&◌, ◌||◌, cond, List, [], ◌∷◌, ◌++◌, map, filter, reverse, length, Option, Some, None, ℤ, refl, sym, ap, ◌∙◌, arith, bytes_eq}
 use Rattle.std.specs.Prelude.{is_some, not}
-use Rattle.std.specs.List.{AllByRecursion}
+use Rattle.std.specs.List.{AllByRecursion, list_any}
 use Rattle.slate_types.specs.declared.error.SlateDBError.TheVariants as errors
 use Rattle.slate_types.specs.Fold.{from_last}
 use Rattle.slate_mem.specs.declared.WriteOp.{WriteOp}
@@ -51,6 +51,18 @@ few_last [] h = omega arith
 few_last (x ∷ []) h = omega arith
 few_last (x ∷ y ∷ ys) h = rw h.1.0 (few_last (y ∷ ys) h.1)
 
+last_replace : (xs : List WriteOp) → AllReplace xs → AllByRecursion (λ op. replaces op ≡ true) (from_last replaces xs)
+unfolding AllReplace
+last_replace [] h = tt
+last_replace (x ∷ xs) h = by (list_any replaces xs) (last_replace xs h.1)
+  where
+    by : (b : Bool) → AllByRecursion (λ op. replaces op ≡ true) (from_last replaces xs) → AllByRecursion (λ op. replaces op ≡ true) (cond b (from_last replaces xs) (x ∷ xs))
+    by true rest = rest
+    by false rest = (h.0, h.1)
+
+pub kept_replace : (ops : Ops) (k : List ℕ) → holds_merge ops ≡ false → AllByRecursion (λ op. replaces op ≡ true) (kept ops k)
+kept_replace ops k h = last_replace (ops_of ops k) (all_replace ops k h)
+
 pub few_kept : (ops : Ops) (k : List ℕ) → holds_merge ops ≡ false → length (kept ops k) ≤ 1
 few_kept ops k h = few_last (ops_of ops k) (all_replace ops k h)
 
@@ -63,7 +75,7 @@ no_key : (r : Rules) (now : ℤ) (ops : Ops) (k : List ℕ) → r.segment ≡ No
 no_key r now ops k none h =
     (λ i. first_refusal (segment_refusal (none i) k ∷ no_ttl k (op_expiry r.default_millis now) (kept ops k) (few_kept ops k h) i ∷ []))
 
-no_keys : (r : Rules) (now : ℤ) (ops : Ops) (ks : List (List ℕ)) → r.segment ≡ None → holds_merge ops ≡ false → first_refusal (map (key_refusal r.segment r.default_millis now ops) ks) ≡ None
+pub no_keys : (r : Rules) (now : ℤ) (ops : Ops) (ks : List (List ℕ)) → r.segment ≡ None → holds_merge ops ≡ false → first_refusal (map (key_refusal r.segment r.default_millis now ops) ks) ≡ None
 no_keys r now ops [] none h = refl
 no_keys r now ops (k ∷ ks) none h = ap (λ e. first_refusal (e ∷ map (key_refusal r.segment r.default_millis now ops) ks)) (no_key r now ops k none h) ∙ no_keys r now ops ks none h
 
@@ -84,7 +96,7 @@ pub some_ops : (ops : Ops) → (ops ≡ [] → ⊥) → 0 < length ops
 some_ops [] h = absurd (h refl)
 some_ops (o ∷ os) h = omega arith
 
-empty_kept : (ops : Ops) → kept_ops ops ≡ [] → ops ≡ []
+pub empty_kept : (ops : Ops) → kept_ops ops ≡ [] → ops ≡ []
 empty_kept [] h = refl
 empty_kept (o ∷ os) h = absurd (none (kept_ops (o ∷ os)) (some-kept o os) h)
   where

@@ -24,7 +24,7 @@ no_prefixes : (ks : List (List ℕ)) → filter_map (prefix_by None) ks ≡ []
 no_prefixes [] = refl
 no_prefixes (k ∷ ks) = no_prefixes ks
 
-no_nests : (r : Rules) (cs : List Commit) (ops : Ops) → r.segment ≡ None → nest_refusals (committed_prefixes r cs) (prefixes r.segment ops) ≡ []
+pub no_nests : (r : Rules) (cs : List Commit) (ops : Ops) → r.segment ≡ None → nest_refusals (committed_prefixes r cs) (prefixes r.segment ops) ≡ []
 no_nests r cs ops none = ap (λ ps. map (nest_refusal (keys_set (committed_prefixes r cs ++ prefixes r.segment ops))) (keys_set ps)) (ap (λ g. filter_map (prefix_by g) (batch_keys ops)) none ∙ no_prefixes (batch_keys ops))
 
 -- what is left of the tests, for a batch that is not empty

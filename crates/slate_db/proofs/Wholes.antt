@@ -1,6 +1,6 @@
 -- What ties the parts of a core stays so.
 --     after_begin, after_end, after_freeze      the core after each
-use Rattle.std.proofs.Common.{◌≡◌, ℕ, ◌+◌, ◌-◌, ◌^◌, ◌≤◌, ◌<◌, min, List, [], ◌∷◌, ◌++◌, length, map, refl, sym, ap, subst, ◌∙◌, arith, ℤ, Greater, length-append, Option, Some}
+use Rattle.std.proofs.Common.{◌≡◌, ℕ, ◌+◌, ◌-◌, ◌^◌, ◌≤◌, ◌<◌, min, List, [], ◌∷◌, ◌++◌, length, map, refl, sym, ap, subst, ◌∙◌, arith, ℤ, Greater, length-append, None}
 use Rattle.std.proofs.lemmas.List.{map-append, length-map}
 use Rattle.std.specs.Prelude.{IsSome}
 use Rattle.std.specs.List.{AllByRecursion}
@@ -14,18 +14,21 @@ use Rattle.slate_txn.specs.declared.event.Event.{Event}
 use Rattle.slate_txn.specs.declared.event.Event.TheVariants as events
 use Rattle.slate_txn.specs.declared.event.TranscriptStep.{TranscriptStep}
 use Rattle.slate_txn.specs.Ids.{id_of, IsOfCount}
+use Rattle.slate_txn.specs.Managers.{Manager, StandsFor, untracked}
 use Rattle.slate_txn.specs.Named.{find_named, without, update_named}
 use Rattle.slate_txn.specs.Open.{least_begin}
 use Rattle.slate_txn.specs.Places.{IsQuiet}
 use Rattle.slate_txn.specs.Reads.{up_to}
 use Rattle.slate_txn.specs.Replay.{replay, apply, used_from}
-use Rattle.slate_txn.specs.State.{Tx, begun, opening, last_of}
+use Rattle.slate_txn.specs.State.{Commit, Tx, begun, opening, last_of}
 use Rattle.slate_txn.specs.Step.{noted}
 use Rattle.slate_db.specs.Flushed.{after_install}
 use Rattle.slate_db.specs.Installs.{as_begun, tables_of, installed, IsHandle, AreHandles, Replays}
 use Rattle.slate_db.specs.Layers.{AreLayers}
 use Rattle.slate_db.specs.Log.{IsLog, LogModel, HasPlace, ends_of}
+use Rattle.slate_db.specs.Managed.{IsManaged}
 use Rattle.slate_db.specs.Meaning.{Meaning}
+use Rattle.slate_db.specs.Operated.{operated}
 use Rattle.slate_db.specs.Model.{CoreModel, Rows, versions_in, memory}
 use Rattle.slate_db.specs.Sound.{IsKept}
 use Rattle.slate_db.specs.Whole.{IsWhole, AreTied, Unseen, BeginsWithin, log_of, layers_of}
@@ -34,11 +37,12 @@ use Rattle.slate_db.proofs.Journals.{apply_more}
 use Rattle.slate_db.proofs.Keeps.{kept_event, kept_rows}
 use Rattle.slate_db.proofs.Lists.{all_more, all_map, all_front, all_behind, none_behind}
 use Rattle.slate_db.proofs.Logs.{tables_same, tables_more}
+use Rattle.slate_db.proofs.Managing.{managed_begun, managed_changed}
 use Rattle.slate_db.proofs.MemoryLayers.{versions_frozen}
 use Rattle.slate_db.proofs.Quiet.{quiet_more, quiet_frozen}
 use Rattle.slate_db.proofs.Split.{all_up_to}
 use Rattle.slate_txn.proofs.IdLaws.{fresh_named, all_past, wider}
-use Rattle.slate_txn.proofs.NamedLaws.{all_without, without_map, open_map, without_last, update_map, update_all}
+use Rattle.slate_txn.proofs.NamedLaws.{all_without, without_map, open_map, update_map, update_all}
 
 -- what is open in a core is what is open in its journal
 pub ends_are : (c : CoreModel) (x : Unseen) → IsWhole c x → x.ends ≡ length c.state.txns
@@ -58,9 +62,9 @@ pub within_newest : (floor n : ℕ) (ps : List (List ℕ × Tx)) → AllByRecurs
 within_newest floor n ps h = all_map _ _ (λ p w. w.1) ps h
 
 -- of nothing
-pub whole_first : (c : CoreModel) (x : Unseen) → IsLog (log_of c x) → AreLayers (layers_of c x) → c.events ≡ [] → c.state.commits ≡ [] → c.state.txns ≡ [] → c.state.snapshots ≡ [] → x.tables ≡ [] → c.active ≡ [] → c.frozen ≡ [] → c.floor ≡ 0 →
+pub whole_first : (c : CoreModel) (x : Unseen) → IsLog (log_of c x) → AreLayers (layers_of c x) → c.events ≡ [] → c.state.commits ≡ [] → c.state.txns ≡ [] → c.state.snapshots ≡ [] → x.tables ≡ [] → c.active ≡ [] → c.frozen ≡ [] → c.floor ≡ 0 → IsManaged x.manager x.ids x.last [] [] →
     IsWhole c x
-whole_first c x log layers e cs ts ss hs a f z = record {
+whole_first c x log layers e cs ts ss hs a f z m = record {
   log = log;
   layers = layers;
   tied = record {
@@ -73,6 +77,7 @@ whole_first c x log layers e cs ts ss hs a f z = record {
     all_installed = λ active frozen. ap (up_to (installed c.events)) cs ∙ sym cs;
     tables = subst (λ (ks : List SsTableHandle). AreHandles (tables_of c.events) ks) (sym hs) (subst (λ (es : List Event). AreHandles (tables_of es) []) (sym e) tt);
     quiet = λ idle. subst IsQuiet (sym e) refl;
+    manager = subst (λ (ks : List Commit). IsManaged x.manager x.ids x.last ks c.state.txns) (sym cs) (subst (λ (ps : List (List ℕ × Tx)). IsManaged x.manager x.ids x.last [] ps) (sym ts) m);
     rows_within = subst (λ (rows : Rows). AllByRecursion (λ rows. AllByRecursion (λ r. r.seq ≤ x.last) rows) (c.frozen ++ (rows ∷ []))) (sym a)
         (subst (λ (layers : List Rows). AllByRecursion (λ rows. AllByRecursion (λ r. r.seq ≤ x.last) rows) (layers ++ ([] ∷ []))) (sym f) (tt, tt));
   };
@@ -87,12 +92,13 @@ after_begin c level n id spare = record c {
   spare = spare;
 }
 
-abbrev pub with_one : Unseen → Unseen
-with_one x = record x { ids = x.ids + 1; ends = x.ends + 1 }
+abbrev pub with_one : Unseen → Manager → Unseen
+with_one x n = record x { ids = x.ids + 1; ends = x.ends + 1; manager = n }
 
-pub whole_begin : (c : CoreModel) (x : Unseen) (level : IsolationLevel) (spare : ℕ) → IsLog (log_of (after_begin c level x.last (id_of (x.ids + 1)) spare) (with_one x)) → IsWhole c x →
-    IsWhole (after_begin c level x.last (id_of (x.ids + 1)) spare) (with_one x)
-whole_begin c x level spare log w = record {
+pub whole_begin : (c : CoreModel) (x : Unseen) (level : IsolationLevel) (spare : ℕ) (n : Manager) → n ≡ record x.manager { ids = x.manager.ids + 1; active = x.manager.active ++ ((id_of (x.ids + 1), untracked x.last) ∷ []) } →
+    (StandsFor x.manager c.state.commits → StandsFor n c.state.commits) → IsLog (log_of (after_begin c level x.last (id_of (x.ids + 1)) spare) (with_one x n)) → IsWhole c x →
+    IsWhole (after_begin c level x.last (id_of (x.ids + 1)) spare) (with_one x n)
+whole_begin c x level spare n managed stands log w = record {
   log = log;
   layers = w.layers;
   tied = record {
@@ -105,6 +111,7 @@ whole_begin c x level spare log w = record {
     all_installed = λ active frozen. rw (ap (λ s. s.flushed) more) (w.tied.all_installed active frozen);
     tables = subst (λ (ts : List (Ulid × List ℕ)). AreHandles ts x.tables) (sym (tables_same c.events e refl)) w.tied.tables;
     quiet = λ idle. quiet_more c.events e refl refl (w.tied.quiet idle);
+    manager = managed_begun x.manager n x.ids x.last c.state.commits c.state.txns id level managed stands w.tied.manager;
     rows_within = w.tied.rows_within;
   };
 }
@@ -125,8 +132,8 @@ few c x w = let counted : x.ids ≤ length c.events = w.log.counted in omega (ar
 pub past_begun : (c : CoreModel) (x : Unseen) → IsWhole c x → AllByRecursion (λ p. key_cmp (id_of (x.ids + 1)) p.0 ≡ Greater) c.state.txns
 past_begun c x w = all_past x.ids (x.ids + 1) c.state.txns (omega arith) (few c x w) w.tied.named
 
-pub taken_back : (c : CoreModel) (x : Unseen) (t : Tx) → IsWhole c x → without (id_of (x.ids + 1)) (c.state.txns ++ ((id_of (x.ids + 1), t) ∷ [])) ≡ c.state.txns
-taken_back c x t w = without_last (id_of (x.ids + 1)) t c.state.txns (fresh_named x.ids (x.ids + 1) c.state.txns (omega arith) (few c x w) w.tied.named)
+pub fresh_begun : (c : CoreModel) (x : Unseen) → IsWhole c x → find_named (id_of (x.ids + 1)) c.state.txns ≡ None
+fresh_begun c x w = fresh_named x.ids (x.ids + 1) c.state.txns (omega arith) (few c x w) w.tied.named
 
 pub kept_begin : (m : Meaning) (c : CoreModel) (level : IsolationLevel) (n : ℕ) (id : List ℕ) (spare : ℕ) → IsKept m c → IsKept m (after_begin c level n id spare)
 kept_begin m c level n id spare = kept_event m c _ _ spare refl
@@ -142,11 +149,12 @@ after_end c id spare = record c {
   spare = spare;
 }
 
-abbrev pub less_one : Unseen → Unseen
-less_one x = record x { ends = x.ends - 1 }
+abbrev pub less_one : Unseen → Manager → Unseen
+less_one x n = record x { ends = x.ends - 1; manager = n }
 
-pub whole_end : (c : CoreModel) (x : Unseen) (id : List ℕ) (spare : ℕ) → IsLog (log_of (after_end c id spare) (less_one x)) → IsWhole c x → IsWhole (after_end c id spare) (less_one x)
-whole_end c x id spare log w = record {
+pub whole_end : (c : CoreModel) (x : Unseen) (id : List ℕ) (spare : ℕ) (n : Manager) → IsManaged n x.ids x.last c.state.commits (without id c.state.txns) →
+    IsLog (log_of (after_end c id spare) (less_one x n)) → IsWhole c x → IsWhole (after_end c id spare) (less_one x n)
+whole_end c x id spare n managed log w = record {
   log = log;
   layers = w.layers;
   tied = record {
@@ -159,6 +167,7 @@ whole_end c x id spare log w = record {
     all_installed = λ active frozen. rw (ap (λ s. s.flushed) more) (w.tied.all_installed active frozen);
     tables = subst (λ (ts : List (Ulid × List ℕ)). AreHandles ts x.tables) (sym (tables_same c.events e refl)) w.tied.tables;
     quiet = λ idle. quiet_more c.events e refl refl (w.tied.quiet idle);
+    manager = managed;
     rows_within = w.tied.rows_within;
   };
 }
@@ -174,31 +183,35 @@ kept_end m c id spare = kept_event m c _ _ spare refl
     (ap (λ s. s.flushed) (apply_more opening c.events (events.End id)))
     (tables_same c.events (events.End id) refl)
 
--- ---- a step that is noted
+-- ---- a change of one transaction
+
+pub whole_changed : (c : CoreModel) (x : Unseen) (id : List ℕ) (f : Tx → Tx) → ((t : Tx) → begun (f t).level (f t).begin ≡ begun t.level t.begin) → IsWhole c x → IsWhole (operated c id f) x
+whole_changed c x id f same w = record {
+  log = w.log;
+  layers = w.layers;
+  tied = record {
+    txns = w.tied.txns ∙ sym (update_map as_begun id f c.state.txns (λ p. ap (λ t. (p.0, t)) (same p.1)));
+    snapshots = w.tied.snapshots;
+    no_snapshots = w.tied.no_snapshots;
+    named = update_all _ id f c.state.txns (λ p h. h) w.tied.named;
+    floor_within = w.tied.floor_within;
+    begins = update_all _ id f c.state.txns (λ p h. (subst (λ (n : ℕ). c.floor ≤ n) (sym (begin_same p.1)) h.0, subst (λ (n : ℕ). n ≤ x.last) (sym (begin_same p.1)) h.1)) w.tied.begins;
+    all_installed = w.tied.all_installed;
+    tables = w.tied.tables;
+    quiet = w.tied.quiet;
+    manager = managed_changed x.manager x.ids x.last c.state.commits c.state.txns id f begin_same w.tied.manager;
+    rows_within = w.tied.rows_within;
+  };
+}
+  where
+    begin_same : (t : Tx) → (f t).begin ≡ t.begin
+    begin_same t = ap (λ (u : Tx). u.begin) (same t)
 
 abbrev pub after_note : CoreModel → List ℕ → List TranscriptStep → CoreModel
 after_note c id ts = record c { state = noted c.state id ts }
 
 pub whole_note : (c : CoreModel) (x : Unseen) (id : List ℕ) (ts : List TranscriptStep) → IsWhole c x → IsWhole (after_note c id ts) x
-whole_note c x id ts w = record {
-  log = w.log;
-  layers = w.layers;
-  tied = record {
-    txns = w.tied.txns ∙ sym (update_map as_begun id with_steps c.state.txns (λ p. refl));
-    snapshots = w.tied.snapshots;
-    no_snapshots = w.tied.no_snapshots;
-    named = update_all _ id with_steps c.state.txns (λ p h. h) w.tied.named;
-    floor_within = w.tied.floor_within;
-    begins = update_all _ id with_steps c.state.txns (λ p h. h) w.tied.begins;
-    all_installed = w.tied.all_installed;
-    tables = w.tied.tables;
-    quiet = w.tied.quiet;
-    rows_within = w.tied.rows_within;
-  };
-}
-  where
-    with_steps : Tx → Tx
-    with_steps t = record t { transcript = t.transcript ++ ts }
+whole_note c x id ts w = whole_changed c x id (λ t. record t { transcript = t.transcript ++ ts }) (λ t. refl) w
 
 -- ---- a freeze
 
@@ -220,6 +233,7 @@ whole_freeze c x spare freeze log layers w = record {
     all_installed = λ active frozen. absurd (none_behind c.frozen c.active frozen);
     tables = subst (λ (ts : List (Ulid × List ℕ)). AreHandles ts x.tables) (sym (tables_same c.events events.Freeze refl)) w.tied.tables;
     quiet = λ idle. quiet_frozen c.events;
+    manager = w.tied.manager;
     rows_within = all_more _ (memory c) [] w.tied.rows_within tt;
   };
 }
@@ -238,9 +252,10 @@ kept_freeze m c spare kept = kept_rows m (after c) [] (c.frozen ++ (c.active ∷
 -- ---- a write
 
 pub whole_write : (c : CoreModel) (x : Unseen) (now : ℤ) (ops : Ops) (rows : Rows) (spare : ℕ) → (rows ≡ [] → ⊥) → AllByRecursion (λ r. r.seq ≤ x.last + 1) rows →
-    IsLog (log_of (after_write c (x.last + 1) now ops rows spare) (record x { last = x.last + 1 })) → AreLayers (layers_of (after_write c (x.last + 1) now ops rows spare) x) → IsWhole c x →
-    IsWhole (after_write c (x.last + 1) now ops rows spare) (record x { last = x.last + 1 })
-whole_write c x now ops rows spare some within log layers w = record {
+    (n : Manager) → IsManaged n x.ids (x.last + 1) (after_write c (x.last + 1) now ops rows spare).state.commits c.state.txns →
+    IsLog (log_of (after_write c (x.last + 1) now ops rows spare) (record x { last = x.last + 1; manager = n })) → AreLayers (layers_of (after_write c (x.last + 1) now ops rows spare) x) → IsWhole c x →
+    IsWhole (after_write c (x.last + 1) now ops rows spare) (record x { last = x.last + 1; manager = n })
+whole_write c x now ops rows spare some within n managed log layers w = record {
   log = log;
   layers = layers;
   tied = record {
@@ -253,6 +268,7 @@ whole_write c x now ops rows spare some within log layers w = record {
     all_installed = λ active frozen. absurd (some active);
     tables = subst (λ (ts : List (Ulid × List ℕ)). AreHandles ts x.tables) (sym (tables_same c.events e refl)) w.tied.tables;
     quiet = λ idle. absurd (some idle);
+    manager = managed;
     rows_within = all_more _ c.frozen rows (all_map _ _ (λ layer h. all_map _ _ higher layer h) c.frozen (all_front _ c.frozen (c.active ∷ []) w.tied.rows_within)) within;
   };
 }
@@ -302,6 +318,7 @@ whole_install c x t h spare freeze table kept log layers w = record {
     all_installed = λ active frozen. ap (λ i. up_to i c.state.commits) (ap (λ s. s.flushed) more) ∙ all_up_to c.settings.start_seq x.last c.state.commits w.log.rising (let l : x.last ≡ last_of c.settings.start_seq c.state.commits = w.log.last in omega arith);
     tables = subst (λ (ts : List (Ulid × List ℕ)). AreHandles ts (x.tables ++ (h ∷ []))) (sym (tables_more c.events e)) (handles_more (tables_of c.events) x.tables t h w.tied.tables kept);
     quiet = λ idle. quiet_more c.events e refl refl (w.tied.quiet idle);
+    manager = w.tied.manager;
     rows_within = all_behind _ c.frozen (c.active ∷ []) w.tied.rows_within;
   };
 }
@@ -327,6 +344,7 @@ whole_flushed c x log w = record {
     all_installed = w.tied.all_installed;
     tables = w.tied.tables;
     quiet = w.tied.quiet;
+    manager = w.tied.manager;
     rows_within = w.tied.rows_within;
   };
 }
@@ -346,6 +364,27 @@ whole_room c x spare freeze table log w = record {
     all_installed = w.tied.all_installed;
     tables = w.tied.tables;
     quiet = w.tied.quiet;
+    manager = w.tied.manager;
+    rows_within = w.tied.rows_within;
+  };
+}
+
+-- the manager keeps less
+pub whole_manager : (c : CoreModel) (x : Unseen) (n : Manager) → IsManaged n x.ids x.last c.state.commits c.state.txns → IsWhole c x → IsWhole c (record x { manager = n })
+whole_manager c x n managed w = record {
+  log = w.log;
+  layers = w.layers;
+  tied = record {
+    txns = w.tied.txns;
+    snapshots = w.tied.snapshots;
+    no_snapshots = w.tied.no_snapshots;
+    named = w.tied.named;
+    floor_within = w.tied.floor_within;
+    begins = w.tied.begins;
+    all_installed = w.tied.all_installed;
+    tables = w.tied.tables;
+    quiet = w.tied.quiet;
+    manager = managed;
     rows_within = w.tied.rows_within;
   };
 }

@@ -4,7 +4,8 @@
 --     LayersModel      what contracts see of layers
 --     in_memory y      the memtables, the newest last
 --     AreLayers y      what is true of all layers
-use Rattle.std.specs.Prelude.{◌≡◌, ℕ, ◌<◌, true, List, [], ◌∷◌, ◌++◌, length}
+--     without_seq n rows      the rows without those of a sequence
+use Rattle.std.specs.Prelude.{◌≡◌, ℕ, ◌<◌, ◌==◌, not, true, filter, List, [], ◌∷◌, ◌++◌, length}
 use Rattle.std.specs.List.{AllByRecursion}
 use Rattle.slate_types.specs.declared.types.RowEntry.{RowEntry}
 use Rattle.slate_types.specs.Rows.{is_base, operand}
@@ -44,3 +45,6 @@ pub record AreLayers (y : LayersModel) : Type 0 where
   pub frozen_some : AllByRecursion (λ rows. 0 < length rows) y.frozen
   pub fit : AllByRecursion (λ rows. AllByRecursion FitsMemory rows) (in_memory y)
   pub rise : (k : List ℕ) → AreRising (versions_in k (in_memory y))
+
+abbrev pub without_seq : ℕ → Rows → Rows
+without_seq n rows = filter (λ r. not (r.seq == n)) rows

@@ -7,11 +7,14 @@ pub mod Sound
 pub mod StoredState
 pub mod Log
 pub mod Layers
+pub mod Managed
 pub mod Whole
 pub mod Frozen
 pub mod Load
 pub mod Flushed
 pub mod Written
+pub mod Committed
+pub mod Operated
 pub mod Lookup
 pub mod LogView
 pub mod LayersView

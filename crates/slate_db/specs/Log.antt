@@ -8,8 +8,9 @@
 --     held_by l      the journal's events, with one more for whatever is open
 --     IsLog l      what is true of every log; no commit lies between the last install and the last flush
 --     HasPlace more l      room was made for so many events more beside the ends, and the journal has a place for them
---     with_begin, with_end, with_freeze, with_write, with_install, with_flush      the log after each
-use Rattle.std.specs.Prelude.{◌≡◌, ℕ, ◌+◌, ◌-◌, ◌^◌, ◌≤◌, ◌<◌, List, [], ◌∷◌, ◌++◌, length, None, ℤ}
+--     with_begin, with_end, with_freeze, with_write, with_commit, with_install, with_flush      the log after each
+--     MayCommit l id n ops tracked ts      a commit that a log may take
+use Rattle.std.specs.Prelude.{◌≡◌, ℕ, ◌+◌, ◌-◌, ◌^◌, ◌≤◌, ◌<◌, List, [], ◌∷◌, ◌++◌, length, Option, None, unwrap_or, IsSome, ℤ}
 use Rattle.std.specs.List.{AllByRecursion}
 use Rattle.slate_types.specs.declared.config.IsolationLevel.{IsolationLevel}
 use Rattle.slate_types.specs.declared.types.Ulid.{Ulid}
@@ -21,7 +22,9 @@ use Rattle.slate_txn.specs.declared.event.Event.{Event}
 use Rattle.slate_txn.specs.declared.event.Event.TheVariants as events
 use Rattle.slate_txn.specs.Ids.{id_of, IsOfCount}
 use Rattle.slate_txn.specs.Reads.{up_to}
-use Rattle.slate_txn.specs.Replay.{replay, used_from, IsLegal}
+use Rattle.slate_txn.specs.declared.event.TranscriptStep.{TranscriptStep}
+use Rattle.slate_txn.specs.Named.{find_named}
+use Rattle.slate_txn.specs.Replay.{replay, used_from, IsLegal, commit_made, IsNextOrNone, AreKept, AreKeysOf, HasNoConflict}
 use Rattle.slate_txn.specs.State.{Commit, State, last_of}
 use Rattle.slate_db.specs.Installs.{tables_of, installed, NumberedFrom}
 
@@ -104,6 +107,26 @@ with_write l now ops spare = record l {
   events = l.events ++ (events.Write (l.last + 1) now ops ∷ []);
   spare = spare;
 }
+
+-- a commit of a transaction, with a sequence where it has operations
+abbrev pub with_commit : LogModel → List ℕ → Option ℕ → ℤ → Ops → List (List ℕ) → List TranscriptStep → ℕ → LogModel
+with_commit l id n now ops tracked ts spare = record l {
+  last = unwrap_or n l.last;
+  ends = l.ends - 1;
+  commits = l.commits ++ commit_made n now ops tracked;
+  events = l.events ++ (events.Commit id n now ops tracked ts ∷ []);
+  spare = spare;
+}
+
+-- a commit that a log may take
+pub record MayCommit (l : LogModel) (id : List ℕ) (n : Option ℕ) (ops : Ops) (tracked : List (List ℕ)) (ts : List TranscriptStep) : Type 0 where
+  pub held : IsSome (find_named id (replay l.events).txns)
+  pub next : IsNextOrNone l.start (replay l.events) n ops
+  pub kept : AreKept ops
+  pub fine : AreFine ops
+  pub keys : AreKeysOf ops tracked
+  pub free : HasNoConflict (replay l.events) (find_named id (replay l.events).txns) tracked ts
+  pub fits : unwrap_or n l.last ≤ 2 ^ 64 - 2
 
 abbrev pub with_install : LogModel → Ulid × List ℕ → ℕ → LogModel
 with_install l t spare = record l { flushed = l.last; installs = l.installs + 1; events = l.events ++ (events.Install l.last (t ∷ []) ∷ []); spare = spare }

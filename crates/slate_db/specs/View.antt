@@ -17,7 +17,7 @@ view_of s = record {
 
 -- what of the parts isn't in it
 abbrev pub unseen_of : Inside → Unseen
-unseen_of s = record { last = s.log.last; ids = s.log.ids; installs = s.log.installs; ends = s.log.ends; tables = s.layers.tables; for_freeze = s.layers.for_freeze; for_table = s.layers.for_table }
+unseen_of s = record { last = s.log.last; ids = s.log.ids; installs = s.log.installs; ends = s.log.ends; tables = s.layers.tables; for_freeze = s.layers.for_freeze; for_table = s.layers.for_table; manager = s.manager }
 
 abbrev pub IsWholeInside : Inside → Type 0
 IsWholeInside s = IsWhole (view_of s) (unseen_of s)

@@ -8,6 +8,7 @@ use Rattle.std.specs.Prelude.{◌≡◌, ℕ, ◌≤◌, List, [], map}
 use Rattle.std.specs.List.{AllByRecursion}
 use Rattle.slate_table.specs.declared.info.SsTableHandle.{SsTableHandle}
 use Rattle.slate_txn.specs.Ids.{IsOfCount}
+use Rattle.slate_txn.specs.Managers.{Manager}
 use Rattle.slate_txn.specs.Places.{IsQuiet}
 use Rattle.slate_txn.specs.Reads.{up_to}
 use Rattle.slate_txn.specs.Replay.{replay}
@@ -15,6 +16,7 @@ use Rattle.slate_txn.specs.State.{Tx}
 use Rattle.slate_db.specs.Installs.{tables_of, installed, as_begun, AreHandles}
 use Rattle.slate_db.specs.Layers.{LayersModel, AreLayers}
 use Rattle.slate_db.specs.Log.{LogModel, IsLog}
+use Rattle.slate_db.specs.Managed.{IsManaged}
 use Rattle.slate_db.specs.Model.{CoreModel, memory}
 
 abbrev pub BeginsWithin : ℕ → ℕ → List ℕ × Tx → Type 0
@@ -28,6 +30,7 @@ pub record Unseen : Type 0 where
   pub tables : List SsTableHandle
   pub for_freeze : ℕ
   pub for_table : ℕ
+  pub manager : Manager
 
 abbrev pub log_of : CoreModel → Unseen → LogModel
 log_of c x = record { start = c.settings.start_seq; last = x.last; flushed = c.state.flushed; ids = x.ids; installs = x.installs; ends = x.ends; commits = c.state.commits; events = c.events; spare = c.spare }
@@ -45,6 +48,7 @@ pub record AreTied (c : CoreModel) (x : Unseen) : Type 0 where
   pub all_installed : c.active ≡ [] → c.frozen ≡ [] → up_to (installed c.events) c.state.commits ≡ c.state.commits
   pub tables : AreHandles (tables_of c.events) x.tables
   pub quiet : c.active ≡ [] → IsQuiet c.events
+  pub manager : IsManaged x.manager x.ids x.last c.state.commits c.state.txns
   pub rows_within : AllByRecursion (λ rows. AllByRecursion (λ r. r.seq ≤ x.last) rows) (memory c)
 
 pub record IsWhole (c : CoreModel) (x : Unseen) : Type 0 where

@@ -1,5 +1,5 @@
 //! The core: the journal of a store, what is open in it, and the rows in memory.
-ghost use Rattle.std.specs.Prelude.{◌≡◌, ◌≢◌, ◌⊎◌, ◌+◌, ◌-◌, ◌^◌, ◌≤◌, ◌<◌, ◌∷◌, List, [], ◌++◌, length, IfOk, IfErr, OnOk, OnErr, IsOk, Err, IsSome, Some, false, is_some};
+ghost use Rattle.std.specs.Prelude.{◌≡◌, ◌≢◌, ◌⊎◌, ◌+◌, ◌-◌, ◌^◌, ◌≤◌, ◌<◌, ◌∷◌, List, [], ◌++◌, length, IfOk, IfErr, OnOk, OnErr, IsOk, Err, IsOkUnless, IsSome, Some, false, is_some, map};
 ghost use Rattle.std.specs.List.{AllByRecursion};
 ghost use Rattle.slate_types.specs.Config.{IsValid};
 ghost use Rattle.slate_types.specs.declared.error.SlateDBError.{SlateDBError};
@@ -12,13 +12,16 @@ ghost use Rattle.slate_txn.specs.declared.event.Event.TheVariants as events;
 ghost use Rattle.slate_txn.specs.declared.line.Line.TheVariants as lines;
 ghost use Rattle.slate_txn.specs.Named.{find_named};
 ghost use Rattle.slate_txn.specs.Replay.{IsLegal};
-ghost use Rattle.slate_mem.specs.Batch.{Ops};
+ghost use Rattle.slate_mem.specs.declared.WriteOp.{WriteOp};
+ghost use Rattle.slate_mem.specs.Batch.{Ops, kept};
+ghost use Rattle.slate_mem.specs.Refusals.{op_refusal};
+ghost use Rattle.slate_mem.specs.RowOf.{own_row};
 ghost use Rattle.slate_mem.specs.BatchModel.{IsBatchOf};
 ghost use Rattle.slate_txn.specs.Places.{IsQuiet};
 ghost use Rattle.slate_txn.specs.Reply.{Done, Refused, Begun, Found, Written, Frozen, Flushed};
 ghost use Rattle.slate_txn.specs.Settings.{settings_of};
-ghost use Rattle.slate_txn.specs.State.{opening, last_of};
-ghost use Rattle.slate_txn.specs.Step.{noted, step};
+ghost use Rattle.slate_txn.specs.State.{Tx, opening, last_of};
+ghost use Rattle.slate_txn.specs.Step.{noted, step, with_op, with_marks, with_unmarks};
 ghost use Rattle.slate_db.specs.Answered.{AddsTables};
 ghost use Rattle.slate_db.specs.Meaning.{Meaning, IsLawfulMeaning, combine_of, rules_of};
 ghost use Rattle.slate_db.specs.Frozen.{IsFrozen};
@@ -30,22 +33,24 @@ ghost use Rattle.slate_db.specs.Model.{CoreModel, IsSame, Rows, at};
 ghost use Rattle.slate_db.specs.Sound.{AreTables, IsKept, FoldsToState};
 ghost use Rattle.slate_db.specs.StoredState.{StoresState};
 ghost use Rattle.slate_db.specs.Log.{LIMIT, AreFine};
+ghost use Rattle.slate_db.specs.Operated.{operated};
 ghost use Rattle.slate_db.specs.Written.{IsWritten};
 
 use crate::flush::stored;
 use crate::layers::Layers;
 use crate::log::Log;
 use crate::lookup::newest_of_tables;
+use crate::put::{enter, put_batch};
 use bytes::Bytes;
 use slate_mem::WriteBatch;
-use slate_mem::fold::answer;
-use slate_mem::lookup::newest_of_memory;
+use slate_mem::fold::{answer, first};
+use slate_mem::lookup::{is_decided, newest_of_memory};
 use slate_store::{Env, EnvOf, Store};
 use slate_txn::fold::fold_found;
-use slate_txn::{Journal, OpList, OpenTransactions};
+use slate_txn::{Journal, OpList, OpenTransactions, TransactionManager};
 use slate_types::{
-    BlockTransformer, IsolationLevel, KeyValue, MergeOperator, Options, Outside, ReadOptions,
-    RowEntry, SlateDBError,
+    BlockTransformer, IsolationLevel, KeyValue, MergeOperator, Options, Outside, PutOptions,
+    ReadOptions, RowEntry, SlateDBError,
 };
 use std::alloc::Global;
 use std::marker::Model;
@@ -58,6 +63,7 @@ pub struct Core {
     alloc: Global,
     default_millis: Option<u64>,
     log: Log,
+    manager: TransactionManager,
     transactions: OpenTransactions,
     layers: Layers,
 }
@@ -89,6 +95,7 @@ impl Core {
             alloc,
             default_millis: options.default_ttl_millis,
             log: Log::new(alloc, options.start_seq),
+            manager: TransactionManager::new(alloc, options.start_seq),
             transactions: OpenTransactions::new(alloc),
             layers: Layers::new(alloc),
         }
@@ -113,12 +120,11 @@ impl Core {
         ensures cause { IfErr result (λ e. (e ≡ SlateDBError.OutOfMemory) ⊎ ((e ≡ SlateDBError.LimitReached LIMIT) × (LIMIT < length self.old.events + length self.old.state.txns + 2))) }
     {
         self.log.place(2)?;
-        let id = self.log.next_id();
-        let start = self.log.last();
-        self.transactions.begin(self.alloc, id, level, start)?;
-        if let Err(error) = self.log.push_begin(id, level) {
-            self.transactions.end(&id);
-            return Err(SlateDBError::from(error));
+        let (id, start) = self.manager.new_transaction()?;
+        let transactions = &mut self.transactions;
+        if let Err(error) = enter(self.alloc, transactions, &mut self.log, id, level, start) {
+            self.manager.take_back(&id);
+            return Err(error);
         }
         Ok((id, start))
     }
@@ -131,6 +137,7 @@ impl Core {
         ensures kept { (m : Meaning) → IsKept m self.old → IsKept m self.new }
     {
         self.transactions.end(id);
+        self.manager.drop_txn(id);
         self.log.push_end(*id);
     }
 
@@ -185,7 +192,15 @@ impl Core {
         let seq = self.log.last() + 1;
         let (rows, _bytes) = batch.extract_entries(self.alloc, seq, now, self.default_millis)?;
         let ops = batch.ops(self.alloc)?;
-        self.layers.put(self.alloc, rows)?;
+        let keys = batch.keys()?;
+        put_batch(
+            self.alloc,
+            &mut self.layers,
+            &mut self.manager,
+            rows,
+            keys,
+            seq,
+        )?;
         self.log.push_write(now, OpList::from_vec(ops));
         Ok(Some(seq))
     }
@@ -300,6 +315,28 @@ impl Core {
         fold_found(self.alloc, found, &mut env.operator)
     }
 
+    /// The row that an open transaction sees at a key: its own operations lie above the rows at its begin. Where one of these
+    /// decides, nothing is read.
+    fn seen_by<S: Store, M: MergeOperator, T: BlockTransformer>(
+        &self,
+        id: &Uuid,
+        key: &Bytes,
+        at: u64,
+        env: &mut Env<'_, S, M, T>,
+    ) -> Result<Option<RowEntry>, SlateDBError>
+        requires { IsSome (find_named id.now self.now.state.txns) }
+        ensures read { let reach = ⟦<EnvOf<S, M, T> as Outside>⟧.reach in
+            let m = (reach env.old).meaning in
+            (t : Tx) → find_named id.now self.now.state.txns ≡ Some t → IsRead (reach env.old) (reach env.new) self.now (λ row. self.now.floor ≤ at → row ≡ fold_rows (combine_of m key.now) (key_rows (rules_of self.now.settings m) key.now (up_to at self.now.state.commits) ++ map (own_row key.now) (kept t.ops key.now))) result }
+    {
+        let own = self.transactions.own_rows(self.alloc, id, key)?;
+        if is_decided(&own) {
+            return Ok(first(own));
+        }
+        drop(own);
+        self.seen(key, at, env)
+    }
+
     /// What an open transaction sees at a key, and `None` where that is nothing, as at a key that no row can have. The answer is
     /// recorded in the transaction's transcript.
     ///
@@ -328,7 +365,7 @@ impl Core {
             unreachable!()
         };
         let key = Bytes::copy_from_slice(self.alloc, key)?;
-        let row = match self.seen(&key, at, env) {
+        let row = match self.seen_by(id, &key, at, env) {
             Ok(row) => row,
             Err(error) => {
                 drop(key);
@@ -341,6 +378,66 @@ impl Core {
             return Err(SlateDBError::from(error));
         }
         Ok(found)
+    }
+
+    /// Puts a value in an open transaction. Refuses by `EmptyKey`, by `KeyTooLong` above 65535 bytes, by `ValueTooLong` above
+    /// 2^32 - 1 bytes, in this order, and by `OutOfMemory`, and then nothing is put.
+    pub fn put(
+        &mut self,
+        id: &Uuid,
+        key: &[u8],
+        value: &[u8],
+        options: &PutOptions,
+    ) -> Result<(), SlateDBError>
+        requires { IsSome (find_named id.now self.old.state.txns) }
+        ensures step { OnOk result ((m : Meaning) → step (rules_of self.old.settings m) self.old.state (lines.Put id.now key.now value.now options.now.ttl) ≡ (self.new.state, Done)) }
+        ensures refused { IfErr result (λ e. (e ≡ SlateDBError.OutOfMemory) ⊎ ((m : Meaning) → step (rules_of self.old.settings m) self.old.state (lines.Put id.now key.now value.now options.now.ttl) ≡ (self.old.state, Refused e))) }
+        ensures taken { OnOk result (self.new ≡ operated self.old id.now (with_op key.now (WriteOp.Put value.now options.now))) }
+        ensures test { (e : SlateDBError) → op_refusal key.now (WriteOp.Put value.now options.now) ≡ Some e → result ≡ Err e }
+        ensures cause { IfErr result (λ e. (e ≡ SlateDBError.OutOfMemory) ⊎ (op_refusal key.now (WriteOp.Put value.now options.now) ≡ Some e)) }
+        ensures kept { (m : Meaning) → IsKept m self.old → IsKept m self.new }
+        ensures same { OnErr result (self.new ≡ self.old) }
+    {
+        self.transactions.put(self.alloc, id, key, value, options)
+    }
+
+    /// Deletes a key in an open transaction. Refuses by `EmptyKey`, then by `KeyTooLong` above 65535 bytes, and by `OutOfMemory`,
+    /// and then nothing is deleted.
+    pub fn delete(&mut self, id: &Uuid, key: &[u8]) -> Result<(), SlateDBError>
+        requires { IsSome (find_named id.now self.old.state.txns) }
+        ensures step { OnOk result ((m : Meaning) → step (rules_of self.old.settings m) self.old.state (lines.Delete id.now key.now) ≡ (self.new.state, Done)) }
+        ensures refused { IfErr result (λ e. (e ≡ SlateDBError.OutOfMemory) ⊎ ((m : Meaning) → step (rules_of self.old.settings m) self.old.state (lines.Delete id.now key.now) ≡ (self.old.state, Refused e))) }
+        ensures taken { OnOk result (self.new ≡ operated self.old id.now (with_op key.now WriteOp.Delete)) }
+        ensures test { (e : SlateDBError) → op_refusal key.now WriteOp.Delete ≡ Some e → result ≡ Err e }
+        ensures cause { IfErr result (λ e. (e ≡ SlateDBError.OutOfMemory) ⊎ (op_refusal key.now WriteOp.Delete ≡ Some e)) }
+        ensures kept { (m : Meaning) → IsKept m self.old → IsKept m self.new }
+        ensures same { OnErr result (self.new ≡ self.old) }
+    {
+        self.transactions.delete(self.alloc, id, key)
+    }
+
+    /// Marks keys as read by an open transaction, at either level. Where memory is wanting none is marked.
+    pub fn mark_read(&mut self, id: &Uuid, keys: &[Bytes]) -> Result<(), SlateDBError>
+        requires { IsSome (find_named id.now self.old.state.txns) }
+        ensures step { OnOk result ((m : Meaning) → step (rules_of self.old.settings m) self.old.state (lines.Mark id.now keys.now) ≡ (self.new.state, Done)) }
+        ensures taken { OnOk result (self.new ≡ operated self.old id.now (with_marks keys.now)) }
+        ensures cause { IsOkUnless result SlateDBError.OutOfMemory }
+        ensures kept { (m : Meaning) → IsKept m self.old → IsKept m self.new }
+        ensures same { OnErr result (self.new ≡ self.old) }
+    {
+        self.transactions.mark_read(self.alloc, id, keys)
+    }
+
+    /// Takes keys out of what an open transaction tracks where it writes them. Where memory is wanting none is taken out.
+    pub fn unmark_write(&mut self, id: &Uuid, keys: &[Bytes]) -> Result<(), SlateDBError>
+        requires { IsSome (find_named id.now self.old.state.txns) }
+        ensures step { OnOk result ((m : Meaning) → step (rules_of self.old.settings m) self.old.state (lines.Unmark id.now keys.now) ≡ (self.new.state, Done)) }
+        ensures taken { OnOk result (self.new ≡ operated self.old id.now (with_unmarks keys.now)) }
+        ensures cause { IsOkUnless result SlateDBError.OutOfMemory }
+        ensures kept { (m : Meaning) → IsKept m self.old → IsKept m self.new }
+        ensures same { OnErr result (self.new ≡ self.old) }
+    {
+        self.transactions.unmark_write(self.alloc, id, keys)
     }
 
     /// All events so far, with room for the end of each open transaction. The tables that they name hold the state at the

@@ -4,7 +4,7 @@ ghost use Rattle.std.specs.List.{AllByRecursion};
 ghost use Rattle.slate_types.specs.declared.error.SlateDBError.{SlateDBError};
 ghost use Rattle.slate_mem.specs.Table.{put_rows};
 ghost use Rattle.slate_db.specs.Flushed.{events_of_flush};
-ghost use Rattle.slate_db.specs.Layers.{AreLayers, AreRising, FitsMemory};
+ghost use Rattle.slate_db.specs.Layers.{AreLayers, AreRising, FitsMemory, without_seq};
 ghost use Rattle.slate_db.specs.Model.{versions_in};
 
 use slate_mem::{ImmutableMemtable, MemTable};
@@ -97,6 +97,15 @@ impl Layers {
         ensures cause { IsOkUnless result SlateDBError.OutOfMemory }
     {
         self.active.put_all(rows, BTreeSet::new(alloc))
+    }
+
+    /// Takes the rows of a sequence out of those that aren't frozen. Takes no memory.
+    pub fn take_back(&mut self, alloc: Global, seq: u64)
+        requires { AreLayers (record self.old { active = without_seq seq self.old.active }) }
+        ensures value { self.new ≡ record self.old { active = without_seq seq self.old.active } }
+        ensures whole { AreLayers self.new }
+    {
+        self.active.take_back(seq, &BTreeSet::new(alloc));
     }
 
     /// Makes room for one freeze.

@@ -5,10 +5,12 @@
 //! contract cites them yet.
 #![tactic(auto)]
 
+mod commit;
 pub mod engine;
 pub mod flush;
 pub mod gather;
 pub mod layers;
 pub mod log;
 pub mod lookup;
+mod put;
 pub mod vectors;

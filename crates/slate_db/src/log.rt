@@ -8,9 +8,9 @@ ghost use Rattle.slate_txn.specs.Named.{find_named};
 ghost use Rattle.slate_txn.specs.Reads.{up_to};
 ghost use Rattle.slate_txn.specs.Replay.{replay};
 ghost use Rattle.slate_db.specs.Installs.{installed};
-ghost use Rattle.slate_db.specs.Log.{LIMIT, IsLog, IsWhollyKept, HasPlace, held_by, with_begin, with_end, with_freeze, with_write, with_install, with_flush};
+ghost use Rattle.slate_db.specs.Log.{LIMIT, IsLog, IsWhollyKept, HasPlace, MayCommit, held_by, with_begin, with_commit, with_end, with_freeze, with_write, with_install, with_flush};
 
-use slate_txn::{Event, Journal, OpList, TableList};
+use slate_txn::{Event, Journal, KeyList, OpList, TableList, Transcript};
 use slate_types::{IsolationLevel, SlateDBError};
 use std::alloc::{AllocError, Global};
 use std::marker::Model;
@@ -53,6 +53,7 @@ impl Log {
         requires { start_seq ≤ 18446744073709551614 }
         ensures start { (result.start ≡ start_seq) × (result.last ≡ start_seq) }
         ensures nothing { (result.commits ≡ []) × (result.events ≡ []) × (result.flushed ≡ 0) }
+        ensures ids { result.ids ≡ 0 }
         ensures whole { IsLog result }
     {
         Log {
@@ -71,13 +72,6 @@ impl Log {
         ensures { result ≡ self.now.last }
     {
         self.last
-    }
-
-    /// The id that is given next.
-    pub fn next_id(&self) -> Uuid
-        ensures { result ≡ id_of (self.now.ids + 1) }
-    {
-        Uuid::from_u128((self.ids + 1) as u128)
     }
 
     /// The number of the next flush that stores something.
@@ -163,6 +157,33 @@ impl Log {
             seq: self.last,
             now,
             ops,
+        });
+    }
+
+    /// Commits a transaction and ends it, in the room that its begin made: at the next sequence, or without one where it has no
+    /// operations.
+    pub fn push_commit(
+        &mut self,
+        id: Uuid,
+        seq: Option<u64>,
+        now: i64,
+        ops: OpList,
+        tracked: KeyList,
+        transcript: Transcript,
+    )
+        requires { MayCommit self.old id seq ops tracked transcript }
+        ensures value { self.new ≡ with_commit self.old id seq now ops tracked transcript self.new.spare }
+        ensures whole { IsLog self.new }
+    {
+        self.ends -= 1;
+        self.last = seq.unwrap_or(self.last);
+        self.journal.push_reserved(Event::Commit {
+            id,
+            seq,
+            now,
+            ops,
+            tracked,
+            transcript,
         });
     }
 

@@ -237,8 +237,9 @@ impl WriteBatch {
         }
     }
 
-    /// Takes a put or a delete, in place of all operations of its key.
-    fn replace(&mut self, key: Bytes, op: WriteOp) -> Result<(), SlateDBError>
+    /// Takes a put or a delete that no test refuses, in place of all operations of its key, and copies nothing. The one error is
+    /// `OutOfMemory`.
+    pub fn replace(&mut self, key: Bytes, op: WriteOp) -> Result<(), SlateDBError>
         requires fine { op_refusal key op ≡ None }
         requires replaces { replaces op ≡ true }
         ensures taken { OnOk result (self.new ≡ with_op self.old key op) }
@@ -253,7 +254,7 @@ impl WriteBatch {
 }
 
 /// `EmptyKey` exactly at an empty key, and `KeyTooLong` exactly above 65535 bytes.
-fn test_key(key: &[u8]) -> Result<(), SlateDBError>
+pub fn test_key(key: &[u8]) -> Result<(), SlateDBError>
     ensures refused { (e : SlateDBError) → first_refusal (key_refusals key.now) ≡ Some e → result ≡ Err e }
     ensures cause { IfErr result (λ e. first_refusal (key_refusals key.now) ≡ Some e) }
     ensures fine { OnOk result (first_refusal (key_refusals key.now) ≡ None) }
@@ -270,7 +271,7 @@ fn test_key(key: &[u8]) -> Result<(), SlateDBError>
 }
 
 /// What `test_key` refuses, then what `test_value` does.
-fn test_put(key: &[u8], value: &[u8]) -> Result<(), SlateDBError>
+pub fn test_put(key: &[u8], value: &[u8]) -> Result<(), SlateDBError>
     ensures refused { (e : SlateDBError) → op_refusal key.now (plain_put value.now) ≡ Some e → result ≡ Err e }
     ensures cause { IfErr result (λ e. op_refusal key.now (plain_put value.now) ≡ Some e) }
     ensures fine { OnOk result (op_refusal key.now (plain_put value.now) ≡ None) }

@@ -1,6 +1,5 @@
 -- The barrier of a flush is the manager's least start, or the newest sequence.
-use Rattle.std.proofs.Common.{◌≡◌, ℕ, ◌≤◌, min, List, [], ◌∷◌, map, Option, Some, None, refl, ap, ◌∙◌, arith}
-use Rattle.std.specs.List.{AllByRecursion}
+use Rattle.std.proofs.Common.{◌≡◌, ℕ, min, List, [], ◌∷◌, map, Option, Some, None, refl, ◌∙◌, arith}
 use Rattle.slate_txn.specs.Managers.{with_least, least_start, untracked, Active}
 use Rattle.slate_txn.specs.Open.{least_begin}
 use Rattle.slate_txn.specs.State.{Tx}

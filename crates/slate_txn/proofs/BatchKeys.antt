@@ -1,5 +1,5 @@
 -- A batch with operations keeps some.
-use Rattle.std.proofs.Common.{◌≡◌, ℕ, ◌<◌, List, [], ◌∷◌, length, sym, subst, Ordering, Less, Equal, Greater, arith}
+use Rattle.std.proofs.Common.{ℕ, ◌<◌, List, [], ◌∷◌, length, sym, subst, Ordering, Less, Equal, Greater, arith}
 use Rattle.std.specs.Bool.{⊤}
 use Rattle.std.specs.Ordering.{match_ordering}
 use Rattle.std.specs.BTreeSet.{insert_key}

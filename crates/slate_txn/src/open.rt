@@ -1,18 +1,25 @@
 //! The open transactions.
-ghost use Rattle.std.specs.Prelude.{◌≡◌, ◌≤◌, ◌++◌, ◌∷◌, [], IfOk, IfSome, is_some, option_map, OnOk, OnErr, IsOkUnless};
+ghost use Rattle.std.specs.Prelude.{◌≡◌, ◌⊎◌, ◌≤◌, ◌++◌, ◌∷◌, [], None, Some, Err, IfErr, IfOk, IsSome, is_some, map, false, option_map, reverse, OnOk, OnErr, IsOkUnless};
 ghost use Rattle.std.specs.BTreeMap.{insert_entry};
 ghost use Rattle.std.specs.declared.cmp.Ordering.TheVariants.{Greater};
 ghost use Rattle.std.specs.List.{AllByRecursion};
 ghost use Rattle.slate_types.specs.declared.error.SlateDBError.{SlateDBError};
 ghost use Rattle.slate_types.specs.Keys.{key_cmp};
+ghost use Rattle.slate_mem.specs.declared.WriteOp.{WriteOp};
+ghost use Rattle.slate_mem.specs.Batch.{kept};
+ghost use Rattle.slate_mem.specs.BatchModel.{holds_merge};
+ghost use Rattle.slate_mem.specs.Refusals.{op_refusal};
+ghost use Rattle.slate_mem.specs.RowOf.{own_row};
 ghost use Rattle.slate_txn.specs.declared.event.TranscriptStep.TheVariants as steps;
+ghost use Rattle.slate_txn.specs.Alone.{own_of};
 ghost use Rattle.slate_txn.specs.Named.{find_named, update_named, without};
-ghost use Rattle.slate_txn.specs.State.{begun};
+ghost use Rattle.slate_txn.specs.State.{Tx, begun};
+ghost use Rattle.slate_txn.specs.Step.{with_op, with_marks, with_unmarks};
 ghost use Rattle.slate_txn.specs.Open.{BeginsRise, least_begin};
 
-use crate::{DbTransactionInner, TranscriptStep};
+use crate::DbTransactionInner;
 use bytes::Bytes;
-use slate_types::{IsolationLevel, KeyValue, SlateDBError};
+use slate_types::{IsolationLevel, KeyValue, PutOptions, RowEntry, SlateDBError};
 use std::alloc::{AllocError, Global};
 use std::collections::BTreeMap;
 use std::marker::Model;
@@ -69,11 +76,19 @@ impl OpenTransactions {
         open_at(alloc, &mut self.by_id, id, level, begin)
     }
 
-    /// Takes out the open transaction with this id.
+    /// Takes out the open transaction with this id, and lets go of it.
     pub fn end(&mut self, id: &Uuid)
         ensures { self.new ≡ without id.now self.old }
     {
         take_out(&mut self.by_id, id);
+    }
+
+    /// Takes out the open transaction with this id, and gives it.
+    pub fn take(&mut self, id: &Uuid) -> Option<DbTransactionInner>
+        ensures taken { result ≡ find_named id.now self.old }
+        ensures left { self.new ≡ without id.now self.old }
+    {
+        taken(&mut self.by_id, id)
     }
 
     /// The least begin, or the newest sequence.
@@ -84,16 +99,95 @@ impl OpenTransactions {
         barrier(&self.by_id, newest)
     }
 
-    /// Where the open transaction with this id began. None has operations of its own yet.
+    /// Where the open transaction with this id began.
     pub fn begin_of(&self, id: &Uuid) -> Option<u64>
-        ensures begin { result ≡ option_map (λ t. t.begin) (find_named id.now self.now) }
-        ensures ops { IfSome (find_named id.now self.now) (λ t. t.ops ≡ []) }
+        ensures { result ≡ option_map (λ t. t.begin) (find_named id.now self.now) }
     {
         begin_of(&self.by_id, id)
     }
 
-    /// Notes a get of this key and its answer in the transcript of the open transaction with this id. Where memory is wanting
-    /// nothing is noted.
+    /// The rows of the open transaction's own operations of the key, newest first, to the first that is no merge. No merge was
+    /// taken so far. The one error is `OutOfMemory`.
+    pub fn own_rows(
+        &self,
+        alloc: Global,
+        id: &Uuid,
+        key: &Bytes,
+    ) -> Result<Vec<RowEntry>, SlateDBError>
+        requires { IsSome (find_named id.now self.now) }
+        ensures rows { (t : Tx) → find_named id.now self.now ≡ Some t → IfOk result (λ rows. rows.items ≡ map (own_row key.now) (reverse (kept t.ops key.now))) }
+        ensures plain { (t : Tx) → find_named id.now self.now ≡ Some t → holds_merge t.ops ≡ false }
+        ensures own { (t : Tx) → find_named id.now self.now ≡ Some t → t.ops ≡ own_of t.transcript }
+        ensures cause { IsOkUnless result SlateDBError.OutOfMemory }
+    {
+        own_rows(alloc, &self.by_id, id, key)
+    }
+
+    /// Puts a value in the open transaction with this id. Refuses by `EmptyKey`, by `KeyTooLong` above 65535 bytes, by
+    /// `ValueTooLong` above 2^32 - 1 bytes, in this order, and by `OutOfMemory`, and then nothing is put.
+    pub fn put(
+        &mut self,
+        alloc: Global,
+        id: &Uuid,
+        key: &[u8],
+        value: &[u8],
+        options: &PutOptions,
+    ) -> Result<(), SlateDBError>
+        requires { IsSome (find_named id.now self.old) }
+        ensures refused { (e : SlateDBError) → op_refusal key.now (WriteOp.Put value.now options.now) ≡ Some e → result ≡ Err e }
+        ensures cause { IfErr result (λ e. (e ≡ SlateDBError.OutOfMemory) ⊎ (op_refusal key.now (WriteOp.Put value.now options.now) ≡ Some e)) }
+        ensures fine { OnOk result (op_refusal key.now (WriteOp.Put value.now options.now) ≡ None) }
+        ensures taken { OnOk result (self.new ≡ update_named id.now (with_op key.now (WriteOp.Put value.now options.now)) self.old) }
+        ensures same { OnErr result (self.new ≡ self.old) }
+    {
+        put(alloc, &mut self.by_id, id, key, value, options)
+    }
+
+    /// Deletes the key in the open transaction with this id. Refuses by `EmptyKey`, then by `KeyTooLong` above 65535 bytes, and by
+    /// `OutOfMemory`, and then nothing is deleted.
+    pub fn delete(&mut self, alloc: Global, id: &Uuid, key: &[u8]) -> Result<(), SlateDBError>
+        requires { IsSome (find_named id.now self.old) }
+        ensures refused { (e : SlateDBError) → op_refusal key.now WriteOp.Delete ≡ Some e → result ≡ Err e }
+        ensures cause { IfErr result (λ e. (e ≡ SlateDBError.OutOfMemory) ⊎ (op_refusal key.now WriteOp.Delete ≡ Some e)) }
+        ensures fine { OnOk result (op_refusal key.now WriteOp.Delete ≡ None) }
+        ensures taken { OnOk result (self.new ≡ update_named id.now (with_op key.now WriteOp.Delete) self.old) }
+        ensures same { OnErr result (self.new ≡ self.old) }
+    {
+        delete(alloc, &mut self.by_id, id, key)
+    }
+
+    /// Marks keys as read by the open transaction with this id. Nothing happens for an unknown id. Where memory is wanting none is
+    /// marked.
+    pub fn mark_read(
+        &mut self,
+        alloc: Global,
+        id: &Uuid,
+        keys: &[Bytes],
+    ) -> Result<(), SlateDBError>
+        ensures marked { OnOk result (self.new ≡ update_named id.now (with_marks keys.now) self.old) }
+        ensures same { OnErr result (self.new ≡ self.old) }
+        ensures cause { IsOkUnless result SlateDBError.OutOfMemory }
+    {
+        mark_read(alloc, &mut self.by_id, id, keys)
+    }
+
+    /// Takes keys out of what the open transaction with this id tracks where it writes them. Nothing happens for an unknown id.
+    /// Where memory is wanting none is taken out.
+    pub fn unmark_write(
+        &mut self,
+        alloc: Global,
+        id: &Uuid,
+        keys: &[Bytes],
+    ) -> Result<(), SlateDBError>
+        ensures unmarked { OnOk result (self.new ≡ update_named id.now (with_unmarks keys.now) self.old) }
+        ensures same { OnErr result (self.new ≡ self.old) }
+        ensures cause { IsOkUnless result SlateDBError.OutOfMemory }
+    {
+        unmark_write(alloc, &mut self.by_id, id, keys)
+    }
+
+    /// Notes a get of this key and its answer in the open transaction with this id. Nothing happens for an unknown id. Where
+    /// memory is wanting nothing is noted.
     pub fn note_get(
         &mut self,
         alloc: Global,
@@ -137,6 +231,14 @@ fn take_out(items: &mut BTreeMap<Uuid, DbTransactionInner>, id: &Uuid)
     drop(items.remove(id));
 }
 
+/// Takes out the open transaction with this id, and gives it.
+fn taken(items: &mut BTreeMap<Uuid, DbTransactionInner>, id: &Uuid) -> Option<DbTransactionInner>
+    ensures taken { result ≡ find_named id.now items.old.entries }
+    ensures left { items.new.entries ≡ without id.now items.old.entries }
+{
+    items.remove(id)
+}
+
 /// The least begin, or the newest sequence. Begins rise with ids, so it is that of the first.
 fn barrier(items: &BTreeMap<Uuid, DbTransactionInner>, newest: u64) -> u64
     requires rise { BeginsRise items.now.entries }
@@ -144,24 +246,117 @@ fn barrier(items: &BTreeMap<Uuid, DbTransactionInner>, newest: u64) -> u64
     ensures { result ≡ least_begin newest items.now.entries }
 {
     match items.first_key_value() {
-        Some((_, open)) => open.begin,
+        Some((_, open)) => open.begin(),
         None => newest,
     }
 }
 
-/// Where the open transaction with this id began. None has operations of its own yet.
+/// Where the open transaction with this id began.
 fn begin_of(items: &BTreeMap<Uuid, DbTransactionInner>, id: &Uuid) -> Option<u64>
-    ensures begin { result ≡ option_map (λ t. t.begin) (find_named id.now items.now.entries) }
-    ensures ops { IfSome (find_named id.now items.now.entries) (λ t. t.ops ≡ []) }
+    ensures { result ≡ option_map (λ t. t.begin) (find_named id.now items.now.entries) }
 {
     match items.get(id) {
-        Some(open) => Some(open.begin),
+        Some(open) => Some(open.begin()),
         None => None,
     }
 }
 
-/// Notes a get of this key and its answer in the transcript of the open transaction with this id. Where memory is wanting
-/// nothing is noted.
+/// The rows of the open transaction's own operations of the key.
+fn own_rows(
+    alloc: Global,
+    items: &BTreeMap<Uuid, DbTransactionInner>,
+    id: &Uuid,
+    key: &Bytes,
+) -> Result<Vec<RowEntry>, SlateDBError>
+    requires { IsSome (find_named id.now items.now.entries) }
+    ensures rows { (t : Tx) → find_named id.now items.now.entries ≡ Some t → IfOk result (λ rows. rows.items ≡ map (own_row key.now) (reverse (kept t.ops key.now))) }
+    ensures plain { (t : Tx) → find_named id.now items.now.entries ≡ Some t → holds_merge t.ops ≡ false }
+    ensures own { (t : Tx) → find_named id.now items.now.entries ≡ Some t → t.ops ≡ own_of t.transcript }
+    ensures cause { IsOkUnless result SlateDBError.OutOfMemory }
+{
+    match items.get(id) {
+        Some(open) => open.own_rows(alloc, key),
+        None => unreachable!(),
+    }
+}
+
+/// Puts a value in the open transaction with this id.
+fn put(
+    alloc: Global,
+    items: &mut BTreeMap<Uuid, DbTransactionInner>,
+    id: &Uuid,
+    key: &[u8],
+    value: &[u8],
+    options: &PutOptions,
+) -> Result<(), SlateDBError>
+    requires { IsSome (find_named id.now items.old.entries) }
+    ensures refused { (e : SlateDBError) → op_refusal key.now (WriteOp.Put value.now options.now) ≡ Some e → result ≡ Err e }
+    ensures cause { IfErr result (λ e. (e ≡ SlateDBError.OutOfMemory) ⊎ (op_refusal key.now (WriteOp.Put value.now options.now) ≡ Some e)) }
+    ensures fine { OnOk result (op_refusal key.now (WriteOp.Put value.now options.now) ≡ None) }
+    ensures taken { OnOk result (items.new.entries ≡ update_named id.now (with_op key.now (WriteOp.Put value.now options.now)) items.old.entries) }
+    ensures same { OnErr result (items.new.entries ≡ items.old.entries) }
+{
+    match items.get_mut(id) {
+        Some(open) => open.put(alloc, key, value, options),
+        None => unreachable!(),
+    }
+}
+
+/// Deletes the key in the open transaction with this id.
+fn delete(
+    alloc: Global,
+    items: &mut BTreeMap<Uuid, DbTransactionInner>,
+    id: &Uuid,
+    key: &[u8],
+) -> Result<(), SlateDBError>
+    requires { IsSome (find_named id.now items.old.entries) }
+    ensures refused { (e : SlateDBError) → op_refusal key.now WriteOp.Delete ≡ Some e → result ≡ Err e }
+    ensures cause { IfErr result (λ e. (e ≡ SlateDBError.OutOfMemory) ⊎ (op_refusal key.now WriteOp.Delete ≡ Some e)) }
+    ensures fine { OnOk result (op_refusal key.now WriteOp.Delete ≡ None) }
+    ensures taken { OnOk result (items.new.entries ≡ update_named id.now (with_op key.now WriteOp.Delete) items.old.entries) }
+    ensures same { OnErr result (items.new.entries ≡ items.old.entries) }
+{
+    match items.get_mut(id) {
+        Some(open) => open.delete(alloc, key),
+        None => unreachable!(),
+    }
+}
+
+/// Marks keys as read by the open transaction with this id.
+fn mark_read(
+    alloc: Global,
+    items: &mut BTreeMap<Uuid, DbTransactionInner>,
+    id: &Uuid,
+    keys: &[Bytes],
+) -> Result<(), SlateDBError>
+    ensures marked { OnOk result (items.new.entries ≡ update_named id.now (with_marks keys.now) items.old.entries) }
+    ensures same { OnErr result (items.new.entries ≡ items.old.entries) }
+    ensures cause { IsOkUnless result SlateDBError.OutOfMemory }
+{
+    match items.get_mut(id) {
+        Some(open) => open.mark_read(alloc, keys),
+        None => Ok(()),
+    }
+}
+
+/// Takes keys out of what the open transaction with this id tracks where it writes them.
+fn unmark_write(
+    alloc: Global,
+    items: &mut BTreeMap<Uuid, DbTransactionInner>,
+    id: &Uuid,
+    keys: &[Bytes],
+) -> Result<(), SlateDBError>
+    ensures unmarked { OnOk result (items.new.entries ≡ update_named id.now (with_unmarks keys.now) items.old.entries) }
+    ensures same { OnErr result (items.new.entries ≡ items.old.entries) }
+    ensures cause { IsOkUnless result SlateDBError.OutOfMemory }
+{
+    match items.get_mut(id) {
+        Some(open) => open.unmark_write(alloc, keys),
+        None => Ok(()),
+    }
+}
+
+/// Notes a get of this key and its answer in the open transaction with this id.
 fn note_get(
     alloc: Global,
     items: &mut BTreeMap<Uuid, DbTransactionInner>,
@@ -172,70 +367,10 @@ fn note_get(
     ensures ok { OnOk result (items.new.entries ≡ update_named id.now (λ t. record t { transcript = t.transcript ++ steps.Get key answer.now ∷ [] }) items.old.entries) }
     ensures err { OnErr result (items.new.entries ≡ items.old.entries) }
 {
-    match unshared(alloc, &key, answer) {
-        Ok(answer) => note(items, id, TranscriptStep::Get { key, answer }),
-        Err(error) => {
-            drop(key);
-            Err(error)
-        }
-    }
-}
-
-/// The same answer without the buffers that it came in, of which it may be a small part. Its key shares `key` where they are equal.
-fn unshared(
-    alloc: Global,
-    key: &Bytes,
-    answer: &Option<KeyValue>,
-) -> Result<Option<KeyValue>, AllocError>
-    ensures { IfOk result (λ same. same ≡ answer.now) }
-{
-    match answer {
-        Some(row) => unshared_row(alloc, key, row).map(Some),
-        None => Ok(None),
-    }
-}
-
-fn unshared_row(alloc: Global, key: &Bytes, row: &KeyValue) -> Result<KeyValue, AllocError>
-    ensures { IfOk result (λ same. same ≡ row.now) }
-{
-    let value = Bytes::copy_from_slice(alloc, row.value.as_slice())?;
-    match unshared_key(alloc, key, &row.key) {
-        Ok(key) => Ok(KeyValue {
-            key,
-            value,
-            seq: row.seq,
-            create_ts: row.create_ts,
-            expire_ts: row.expire_ts,
-        }),
-        Err(error) => {
-            drop(value);
-            Err(error)
-        }
-    }
-}
-
-fn unshared_key(alloc: Global, key: &Bytes, same: &Bytes) -> Result<Bytes, AllocError>
-    ensures { IfOk result (λ own. own ≡ same.now) }
-{
-    if key == same {
-        return key.clone();
-    }
-    Bytes::copy_from_slice(alloc, same.as_slice())
-}
-
-/// Adds a step to the transcript of the open transaction with this id. Where memory is wanting nothing is added.
-fn note(
-    items: &mut BTreeMap<Uuid, DbTransactionInner>,
-    id: &Uuid,
-    step: TranscriptStep,
-) -> Result<(), AllocError>
-    ensures ok { OnOk result (items.new.entries ≡ update_named id.now (λ t. record t { transcript = t.transcript ++ step ∷ [] }) items.old.entries) }
-    ensures err { OnErr result (items.new.entries ≡ items.old.entries) }
-{
     match items.get_mut(id) {
-        Some(open) => open.transcript.push(step),
+        Some(open) => open.note_get(alloc, key, answer),
         None => {
-            drop(step);
+            drop(key);
             Ok(())
         }
     }

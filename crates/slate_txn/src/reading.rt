@@ -4,11 +4,11 @@ ghost use Rattle.slate_types.specs.declared.error.SlateDBError.{SlateDBError};
 ghost use Rattle.slate_types.specs.Iteration.{comes_before};
 ghost use Rattle.slate_types.specs.Keys.{in_range};
 ghost use Rattle.slate_txn.specs.HandedOver.{AreKeysOf};
-ghost use Rattle.slate_txn.specs.Tracking.{tracks};
+ghost use Rattle.slate_txn.specs.Tracking.{nothing_read, tracks};
 
 use bytes::Bytes;
 use slate_types::{BytesRange, IterationOrder, SlateDBError};
-use std::alloc::AllocError;
+use std::alloc::{AllocError, Global};
 use std::marker::Model;
 use std::ops::Bound;
 
@@ -94,4 +94,17 @@ impl Model for Reading {
     ghost Value = { Reading };
 
     ghost view = { λ s. record { keys = s.keys.items; scans = s.scans.items; views = s.views.items } };
+}
+
+impl Reading {
+    /// Nothing. Takes no memory.
+    pub fn new(alloc: Global) -> Reading
+        ensures { result ≡ nothing_read }
+    {
+        Reading {
+            keys: Vec::new(alloc),
+            scans: Vec::new(alloc),
+            views: Vec::new(alloc),
+        }
+    }
 }

@@ -1,13 +1,13 @@
 //! The open transactions, and what is kept of commits to tell which of them conflict.
 ghost use Rattle.std.specs.Prelude.{◌≡◌, ◌⊎◌, ◌+◌, ◌-◌, ◌^◌, ◌<◌, ◌≤◌, ℕ, List, ◌++◌, ◌∷◌, [], true, false, nat_lt, length, bytes_eq, Some, None, Err, IfOk, IfErr, OnOk, OnErr, IsOkUnless};
 ghost use Rattle.std.specs.BTreeMap as map;
-ghost use Rattle.std.specs.List.{list_any};
+ghost use Rattle.std.specs.List.{AllByRecursion, list_any};
 ghost use Rattle.std.specs.Map.{keys_of};
 ghost use Rattle.slate_types.specs.declared.error.SlateDBError.{SlateDBError};
 ghost use Rattle.slate_types.specs.Keys.{key_cmp, among, in_range};
 ghost use Rattle.slate_txn.specs.State.{Commit};
 ghost use Rattle.slate_txn.specs.Named.{find_named, without, update_named};
-ghost use Rattle.slate_txn.specs.Ids.{id_of};
+ghost use Rattle.slate_txn.specs.Ids.{id_of, IsOfCount};
 ghost use Rattle.slate_txn.specs.Managers.{Active, Manager, empty_manager, untracked, least_start, StandsFor, conflict_among, newest_kept, is_tracked, above, verdict, writes_at, IsWritten, written, IsCommitOf, with_commit, later as the_later};
 ghost use Rattle.slate_txn.specs.ManagersView.{StartsRise, AreKept, placed, over, real, pruned};
 
@@ -142,7 +142,7 @@ fn conflict(kept: &BTreeMap<Bytes, u64>, state: &TransactionState) -> Option<u64
 }
 
 /// Adds keys behind those of a list. Where memory is wanting the list is as it was.
-fn append(items: &mut Vec<Bytes>, mut more: Vec<Bytes>) -> Result<(), AllocError>
+pub(crate) fn append(items: &mut Vec<Bytes>, mut more: Vec<Bytes>) -> Result<(), AllocError>
     ensures ok { OnOk result (items.new.items ≡ items.old.items ++ more.items) }
     ensures err { OnErr result (items.new.items ≡ items.old.items) }
 {
@@ -423,6 +423,17 @@ impl TransactionManager {
         drop(self.active_txns.remove(id));
         let start = least(&self.active_txns);
         prune(&mut self.recent_writes, before, start);
+    }
+
+    /// Takes back the opening of the transaction that was opened last, and its id: all others have earlier ids.
+    pub fn take_back(&mut self, id: &Uuid)
+        requires given { 0 < self.old.ids }
+        requires newest { AllByRecursion (λ p. IsOfCount (self.old.ids - 1) p.0) (without id.now self.old.active) }
+        ensures value { self.new ≡ record self.old { ids = self.old.ids - 1; active = without id.now self.old.active; kept = self.new.kept } }
+        ensures stands { (cs : List Commit) → StandsFor self.old cs → StandsFor self.new cs }
+    {
+        self.drop_txn(id);
+        self.ids -= 1;
     }
 
     /// The greatest sequence since its start of a commit that tracks a key that the transaction tracks, whatever was pruned.

@@ -55,7 +55,7 @@ pub returns-in-Err : goal.returns-in-Err
 returns-in-Err g c =
     record {
       noted = tt;
-      read = record { answer = λ is. tt; undamaged = c.in-Err.ensures.read.undamaged; cause = c.in-Err.ensures.read.cause; reads = c.seen.ensures.read.reads };
+      read = record { answer = λ is. tt; undamaged = (c.in-Err.ensures.read (open_is _ c.requires).value (open_is _ c.requires).is).undamaged; cause = (c.in-Err.ensures.read (open_is _ c.requires).value (open_is _ c.requires).is).cause; reads = (c.seen_by.ensures.read (open_is _ c.requires).value (open_is _ c.requires).is).reads };
       same = refl;
       kept = λ m k. k;
       settings = refl;
@@ -69,7 +69,7 @@ returns-in-Err-note_get g c =
         answer = λ is. tt;
         undamaged = λ is. subst (IsCounted _ _) (sym c.from.ensures) tt;
         cause = inl (subst (IsCounted _ _) (sym c.from.ensures) tt);
-        reads = c.seen.ensures.read.reads;
+        reads = (c.seen_by.ensures.read (open_is _ c.requires).value (open_is _ c.requires).is).reads;
       };
       same = ap view_of (unnoted c.self.inside c.note_get.new.self c.in-Err-note_get.ensures.err) ∙ c.self.view_is;
       kept = (λ m kept_m.
@@ -101,10 +101,7 @@ reader_is : (g : given.Over) (c : goal.In_default-note_get g) → find_named c.a
 reader_is g c = ap (λ (v : CoreModel). find_named c.args.id.now v.state.txns) c.self.view_is ∙ (t_of g c).is
 
 begin_is : (g : given.Over) (c : goal.In_default-note_get g) → c.in-Some.at ≡ (reader g c).begin
-begin_is g c = ap (λ (o : Option ℕ). unwrap_or o 0) (c.in-Some.ensures.begin ∙ ap (option_map (λ (t : Tx). t.begin)) (reader_is g c))
-
-no_ops : (g : given.Over) (c : goal.In_default-note_get g) → [] ≡ (reader g c).ops
-no_ops g c = sym (subst (λ (o : Option Tx). IfSome o (λ t. t.ops ≡ [])) (reader_is g c) c.in-Some.ensures.ops)
+begin_is g c = ap (λ (o : Option ℕ). unwrap_or o 0) (c.in-Some.ensures ∙ ap (option_map (λ (t : Tx). t.begin)) (reader_is g c))
 
 from_floor : (g : given.Over) (c : goal.In_default-note_get g) → c.args.self.now.floor ≤ c.in-Some.at
 from_floor g c =
@@ -123,11 +120,9 @@ returns g c =
             let k = c.args.key.now in
             let commits = c.args.self.now.state.commits in
             let row : c.in-Ok.row ≡ fold_rows (combine_of m k) (key_rows r k (up_to (reader g c).begin commits) ++ map (own_row k) (kept (reader g c).ops k)) =
-            c.in-Ok.ensures.read.answer is (from_floor g c)
-            ∙ ap (λ (j : List ℕ). fold_rows (combine_of m j) (key_rows r j (up_to c.in-Some.at commits))) c.in_ok-key.ensures
-            ∙ ap (λ n. fold_rows (combine_of m k) (key_rows r k (up_to n commits))) (begin_is g c)
-            ∙ ap (fold_rows (combine_of m k)) (sym (append-nil (key_rows r k (up_to (reader g c).begin commits))))
-            ∙ ap (λ (os : Ops). fold_rows (combine_of m k) (key_rows r k (up_to (reader g c).begin commits) ++ map (own_row k) (kept os k))) (no_ops g c) in
+            (c.in-Ok.ensures.read (t_of g c).value (t_of g c).is).answer is (from_floor g c)
+            ∙ ap (λ (j : List ℕ). fold_rows (combine_of m j) (key_rows r j (up_to c.in-Some.at commits) ++ map (own_row j) (kept (reader g c).ops j))) c.in_ok-key.ensures
+            ∙ ap (λ n. fold_rows (combine_of m k) (key_rows r k (up_to n commits) ++ map (own_row k) (kept (reader g c).ops k))) (begin_is g c) in
             let found : find_named c.args.id.now c.args.self.now.state.txns ≡ Some (reader g c) = ap (λ (v : CoreModel). find_named c.args.id.now v.state.txns) (sym c.self.view_is) ∙ reader_is g c in
             step_get r c.args.self.now.state c.args.id.now k (reader g c) c.in-Ok.row found row
             ∙ (let a = sym c.answer-found.ensures in λ j. (noted c.args.self.now.state c.args.id.now (steps.Get k (a j) ∷ []), Found (a j)))
@@ -135,7 +130,7 @@ returns g c =
             ∙ (λ j. ((view_of (becomes g c j)).state, Found c.answer-found.result)));
         undamaged = λ is. tt;
         cause = tt;
-        reads = c.seen.ensures.read.reads;
+        reads = (c.seen_by.ensures.read (open_is _ c.requires).value (open_is _ c.requires).is).reads;
       };
       same = tt;
       kept = (λ m kept_m.

@@ -11,6 +11,7 @@ use Rattle.slate_db.specs.Model.{CoreModel}
 use Rattle.slate_db.specs.View.{view_of, unseen_of, IsWholeInside}
 use Rattle.slate_db.specs.Sound.{IsKept}
 use Rattle.slate_db.proofs.Calls.{ended_is, event_ended}
+use Rattle.slate_db.proofs.Managing.{managed_ended}
 use Rattle.slate_db.proofs.Steps.{step_end}
 use Rattle.slate_db.proofs.Wholes.{named_in_journal, whole_end, kept_end}
 use Rattle.slate_db.proofs.engine.Core.rollback.Goals as goal
@@ -20,12 +21,14 @@ push_end-requires c = named_in_journal (view_of c.self.inside) (unseen_of c.self
 
 pub invariant_of-self : goal.invariant_of-self
 invariant_of-self c =
-    subst IsWholeInside (ended_is c.self.inside c.push_end.new.self c.end.new.self c.args.id.now c.push_end.ensures.value c.end.ensures)
-    (whole_end (view_of c.self.inside) (unseen_of c.self.inside) c.args.id.now c.push_end.new.self.spare (subst IsLog c.push_end.ensures.value c.push_end.ensures.whole) c.self.invariant)
+    subst IsWholeInside (ended_is c.self.inside c.push_end.new.self c.end.new.self c.drop_txn.new.self c.args.id.now c.push_end.ensures.value c.end.ensures)
+    (whole_end (view_of c.self.inside) (unseen_of c.self.inside) c.args.id.now c.push_end.new.self.spare c.drop_txn.new.self
+    (managed_ended c.self.inside.manager c.drop_txn.new.self c.self.inside.log.ids c.self.inside.log.last c.self.inside.log.commits c.self.inside.transactions c.args.id.now c.drop_txn.ensures.dropped (c.drop_txn.ensures.stands _) c.self.invariant.tied.manager)
+    (subst IsLog c.push_end.ensures.value c.push_end.ensures.whole) c.self.invariant)
 
 pub returns : goal.returns
 returns c =
-    let becomes = ended_is c.self.inside c.push_end.new.self c.end.new.self c.args.id.now c.push_end.ensures.value c.end.ensures in
+    let becomes = ended_is c.self.inside c.push_end.new.self c.end.new.self c.drop_txn.new.self c.args.id.now c.push_end.ensures.value c.end.ensures in
     record {
       step = (λ m.
           sym (ap (λ (v : CoreModel). step (rules_of v.settings m) v.state (lines.Rollback c.args.id.now)) c.self.view_is)

@@ -6,7 +6,7 @@ use Rattle.std.proofs.lemmas.Int.{to_z-of_z}
 use Rattle.slate_txn.specs.State.{last_of}
 use Rattle.slate_types.specs.declared.error.SlateDBError.TheVariants as errors
 use Rattle.slate_types.specs.Fold.{Combine}
-use Rattle.slate_mem.specs.Batch.{Ops}
+use Rattle.slate_mem.specs.Batch.{Ops, batch_keys}
 use Rattle.slate_mem.specs.CommitRows.{commit_rows}
 use Rattle.slate_mem.specs.Table.{put_rows}
 use Rattle.slate_txn.specs.declared.line.Line.TheVariants as lines
@@ -25,10 +25,12 @@ use Rattle.slate_db.proofs.Keeps.{room_made}
 use Rattle.slate_db.proofs.Calls.{none_left, past_place, placed, room_in_log, written_is}
 use Rattle.slate_db.proofs.Lists.{all_map, all_behind}
 use Rattle.slate_db.proofs.Loads.{write_load}
+use Rattle.slate_db.proofs.Managing.{managed_written}
 use Rattle.slate_db.proofs.MemoryRows.{commit_fits, commit_within, puts_all, rise_more}
 use Rattle.slate_db.proofs.Plain.{step_nothing, step_plain, step_exhausted, some_ops}
 use Rattle.slate_db.proofs.Puts.{some_more, versions_more, active_within}
 use Rattle.slate_db.proofs.Logs.{has_place}
+use Rattle.slate_db.proofs.TakenBack.{commit_seqs, older_rows}
 use Rattle.slate_db.proofs.Wholes.{whole_write}
 use Rattle.slate_db.proofs.Writes.{kept_write}
 use Rattle.slate_db.proofs.engine.Core.write.Goals as goal
@@ -79,15 +81,20 @@ made f d n seq at now ops rows is seqs ats = is ∙ (λ i. commit_rows f d (seqs
 higher : (n m : ℕ) → m ≤ n → m ≤ n + 1
 higher n m h = omega arith
 
-pub put-requires : goal.put-requires
-put-requires c =
+pub put_batch-requires : goal.put_batch-requires
+put_batch-requires c =
     let n : ℕ = c.self.inside.log.last in
+    let seq : c.last-seq.result + 1 ≡ n + 1 = ap (λ n. n + 1) (c.last-seq.ensures ∙ ap (λ (l : LogModel). l.last) c.reserve.ensures.value) in
     let rows : c.in_ok-rows.rows.items ≡ commit_rows plain c.self.inside.default_millis (n + 1) c.args.now c.args.batch.ops =
-    made plain c.self.inside.default_millis (n + 1) (c.last-seq.result + 1) _ c.args.now c.args.batch.ops c.in_ok-rows.rows.items (c.in_ok-rows.ensures.rows plain) (ap (λ n. n + 1) (c.last-seq.ensures ∙ ap (λ (l : LogModel). l.last) c.reserve.ensures.value)) (to_z-of_z w64 c.args.now c.ranges.now) in
+    made plain c.self.inside.default_millis (n + 1) (c.last-seq.result + 1) _ c.args.now c.args.batch.ops c.in_ok-rows.rows.items (c.in_ok-rows.ensures.rows plain) seq (to_z-of_z w64 c.args.now c.ranges.now) in
     record {
+      whole = c.self.invariant.layers;
       fit = subst (AllByRecursion FitsMemory) (sym rows) (commit_fits plain c.self.inside.default_millis (n + 1) c.args.now c.args.batch.ops c.ops.ensures.fine (c.ops.ensures.plain c.requires));
       rise = λ k. subst (λ (rows : Rows). AreRising (versions_in k (c.self.inside.layers.frozen ++ (put_rows c.self.inside.layers.active rows ∷ [])))) (sym rows)
           (rise_more (view_of c.self.inside) plain c.self.inside.default_millis n c.args.now c.args.batch.ops c.self.invariant.tied.rows_within c.self.invariant.layers.rise k);
+      seqs = subst (λ (k : ℕ). AllByRecursion (λ r. r.seq ≡ k) c.in_ok-rows.rows.items) (sym seq) (subst (AllByRecursion (λ r. r.seq ≡ n + 1)) (sym rows) (commit_seqs plain c.self.inside.default_millis (n + 1) c.args.now c.args.batch.ops));
+      older = subst (λ (k : ℕ). AllByRecursion (λ r. r.seq < k) c.self.inside.layers.active) (sym seq) (older_rows (view_of c.self.inside) n c.self.invariant.tied.rows_within);
+      later = let newest : c.self.inside.manager.last ≡ n = c.self.invariant.tied.manager.newest in omega (arith, seq);
     }
 
 pub push_write-requires : goal.push_write-requires
@@ -100,17 +107,22 @@ push_write-requires c = record {
 pub invariant_of-self-2 : goal.invariant_of-self-2
 invariant_of-self-2 c =
     let n : ℕ = c.self.inside.log.last in
+    let seq : c.last-seq.result + 1 ≡ n + 1 = ap (λ n. n + 1) (c.last-seq.ensures ∙ ap (λ (l : LogModel). l.last) c.reserve.ensures.value) in
     let rows : c.in_ok-rows.rows.items ≡ commit_rows plain c.self.inside.default_millis (n + 1) c.args.now c.args.batch.ops =
     made plain c.self.inside.default_millis (n + 1) (c.last-seq.result + 1) _ c.args.now c.args.batch.ops c.in_ok-rows.rows.items (c.in_ok-rows.ensures.rows plain) (ap (λ n. n + 1) (c.last-seq.ensures ∙ ap (λ (l : LogModel). l.last) c.reserve.ensures.value)) (to_z-of_z w64 c.args.now c.ranges.now) in
-    let layers : c.put.new.self ≡ record c.self.inside.layers { active = put_rows c.self.inside.layers.active (commit_rows plain c.self.inside.default_millis (n + 1) c.args.now c.args.batch.ops) } =
-    c.in_ok-put.ensures.value ∙ ap (λ rs. record c.self.inside.layers { active = put_rows c.self.inside.layers.active rs }) rows in
+    let layers : c.put_batch.new.layers ≡ record c.self.inside.layers { active = put_rows c.self.inside.layers.active (commit_rows plain c.self.inside.default_millis (n + 1) c.args.now c.args.batch.ops) } =
+    c.in_ok-put_batch.ensures.put ∙ ap (λ rs. record c.self.inside.layers { active = put_rows c.self.inside.layers.active rs }) rows in
     let log : c.push_write.new.self ≡ with_write c.self.inside.log c.args.now c.args.batch.ops c.push_write.new.self.spare =
     c.push_write.ensures.value ∙ (λ i. with_write (c.reserve.ensures.value i) (to_z-of_z w64 c.args.now c.ranges.now i) ((c.from_vec.ensures ∙ c.in_ok-ops.ensures.ops) i) c.push_write.new.self.spare) in
-    subst IsWholeInside (written_is c.self.inside c.reserve.new.self c.push_write.new.self c.put.new.self c.args.now _ c.args.batch.ops _ _ c.reserve.ensures.value (to_z-of_z w64 c.args.now c.ranges.now) (c.from_vec.ensures ∙ c.in_ok-ops.ensures.ops) c.push_write.ensures.value layers)
+    subst IsWholeInside (written_is c.self.inside c.reserve.new.self c.push_write.new.self c.put_batch.new.layers c.put_batch.new.manager c.args.now _ c.args.batch.ops _ _ c.reserve.ensures.value (to_z-of_z w64 c.args.now c.ranges.now) (c.from_vec.ensures ∙ c.in_ok-ops.ensures.ops) c.push_write.ensures.value layers)
     (whole_write (view_of c.self.inside) (unseen_of c.self.inside) c.args.now c.args.batch.ops (put_rows c.self.inside.layers.active (commit_rows plain c.self.inside.default_millis (n + 1) c.args.now c.args.batch.ops)) c.push_write.new.self.spare
     (some_more plain c.self.inside.default_millis (n + 1) c.args.now c.args.batch.ops c.self.inside.layers.active (λ e. let t : true ≡ false = sym (c.is_empty.ensures.1 e) ∙ c.if-is_empty.false in cc))
     (puts_all _ c.self.inside.layers.active _ (all_map _ _ (λ r h. higher n r.seq h) _ (all_behind (λ rows. AllByRecursion (λ r. r.seq ≤ n) rows) c.self.inside.layers.frozen (c.self.inside.layers.active ∷ []) c.self.invariant.tied.rows_within).0) (commit_within plain c.self.inside.default_millis (n + 1) c.args.now c.args.batch.ops))
-    (subst IsLog log c.push_write.ensures.whole) (subst AreLayers layers c.put.ensures.whole) c.self.invariant)
+    c.put_batch.new.manager
+    (managed_written c.self.inside.manager c.put_batch.new.manager c.self.inside.log.ids n (n + 1) c.self.inside.log.commits c.self.inside.transactions (record { seq = n + 1; now = c.args.now; ops = c.args.batch.ops; tracked = batch_keys c.args.batch.ops })
+    (subst (λ (k : ℕ). c.put_batch.new.manager ≡ record c.self.inside.manager { last = k; kept = c.put_batch.new.manager.kept }) seq c.in_ok-put_batch.ensures.committed)
+    (c.in_ok-put_batch.ensures.stands _ _ (sym seq, sym c.in_ok-keys.ensures.keys)) c.self.invariant.tied.manager)
+    (subst IsLog log c.push_write.ensures.whole) (subst AreLayers layers c.put_batch.ensures.whole) c.self.invariant)
 
 pub returns : goal.returns
 returns c =
@@ -119,9 +131,9 @@ returns c =
     let rows_of : (f : List ℕ → Combine) → c.in_ok-rows.rows.items ≡ commit_rows f c.self.inside.default_millis (n + 1) c.args.now c.args.batch.ops =
     λ f. made f c.self.inside.default_millis (n + 1) (c.last-seq.result + 1) _ c.args.now c.args.batch.ops c.in_ok-rows.rows.items (c.in_ok-rows.ensures.rows f) seq (to_z-of_z w64 c.args.now c.ranges.now) in
     let written : Rows = put_rows c.self.inside.layers.active (commit_rows plain c.self.inside.default_millis (n + 1) c.args.now c.args.batch.ops) in
-    let layers : c.put.new.self ≡ record c.self.inside.layers { active = put_rows c.self.inside.layers.active (commit_rows plain c.self.inside.default_millis (n + 1) c.args.now c.args.batch.ops) } =
-    c.in_ok-put.ensures.value ∙ ap (λ rs. record c.self.inside.layers { active = put_rows c.self.inside.layers.active rs }) (rows_of plain) in
-    let becomes = written_is c.self.inside c.reserve.new.self c.push_write.new.self c.put.new.self c.args.now _ c.args.batch.ops _ _ c.reserve.ensures.value (to_z-of_z w64 c.args.now c.ranges.now) (c.from_vec.ensures ∙ c.in_ok-ops.ensures.ops) c.push_write.ensures.value layers in
+    let layers : c.put_batch.new.layers ≡ record c.self.inside.layers { active = put_rows c.self.inside.layers.active (commit_rows plain c.self.inside.default_millis (n + 1) c.args.now c.args.batch.ops) } =
+    c.in_ok-put_batch.ensures.put ∙ ap (λ rs. record c.self.inside.layers { active = put_rows c.self.inside.layers.active rs }) (rows_of plain) in
+    let becomes = written_is c.self.inside c.reserve.new.self c.push_write.new.self c.put_batch.new.layers c.put_batch.new.manager c.args.now _ c.args.batch.ops _ _ c.reserve.ensures.value (to_z-of_z w64 c.args.now c.ranges.now) (c.from_vec.ensures ∙ c.in_ok-ops.ensures.ops) c.push_write.ensures.value layers in
     let below : n < 2 ^ 64 - 2 = omega (arith, c.last.ensures) in
     record {
       step = (λ m ops of fine.
@@ -138,7 +150,7 @@ returns c =
           (λ j. ap (λ rs. versions j (put_rows c.self.inside.layers.active rs)) (sym (rows_of plain) ∙ rows_of (combine_of m)) ∙ versions_more (combine_of m) c.self.inside.default_millis (n + 1) c.args.now c.args.batch.ops c.self.inside.layers.active j (active_within m (view_of c.self.inside) (unseen_of c.self.inside) c.self.invariant old j))
           c.self.invariant old));
       load = (λ ops of.
-          subst (λ (v : CoreModel). load (view_of (record c.self.inside { log = c.push_write.new.self; layers = c.put.new.self })) ≤ load v + ops_load ops) c.self.view_is
+          subst (λ (v : CoreModel). load (view_of (record c.self.inside { log = c.push_write.new.self; layers = c.put_batch.new.layers; manager = c.put_batch.new.manager })) ≤ load v + ops_load ops) c.self.view_is
           (subst (λ (s : Inside). load (view_of s) ≤ load (view_of c.self.inside) + ops_load ops) becomes
           (write_load (view_of c.self.inside) plain c.self.inside.default_millis (n + 1) c.args.now c.args.batch.ops ops (c.ops.ensures.plain c.requires) of.0)));
       same = tt;
@@ -159,8 +171,11 @@ invariant_of-self-in_err-rows c = room_in_log c.self.inside c.reserve.new.self c
 pub invariant_of-self-in_err-ops : goal.invariant_of-self-in_err-ops
 invariant_of-self-in_err-ops c = room_in_log c.self.inside c.reserve.new.self c.reserve.ensures.value c.reserve.ensures.whole c.self.invariant
 
-pub invariant_of-self-in_err-put : goal.invariant_of-self-in_err-put
-invariant_of-self-in_err-put c = subst IsWholeInside (ap (λ (y : LayersModel). record c.self.inside { log = c.reserve.new.self; layers = y }) (sym c.in_err-put.ensures.same))
+pub invariant_of-self-in_err-keys : goal.invariant_of-self-in_err-keys
+invariant_of-self-in_err-keys c = room_in_log c.self.inside c.reserve.new.self c.reserve.ensures.value c.reserve.ensures.whole c.self.invariant
+
+pub invariant_of-self-in_err-put_batch : goal.invariant_of-self-in_err-put_batch
+invariant_of-self-in_err-put_batch c = subst IsWholeInside (let y = sym c.in_err-put_batch.ensures.same_layers in let m = sym c.in_err-put_batch.ensures.same in λ i. record c.self.inside { log = c.reserve.new.self; layers = y i; manager = m i })
     (room_in_log c.self.inside c.reserve.new.self c.reserve.ensures.value c.reserve.ensures.whole c.self.invariant)
 
 pub returns-in_err-place : goal.returns-in_err-place
@@ -232,19 +247,36 @@ returns-in_err-ops c =
       cause = rw (p.1, p.2) (inl c.in_err-ops.ensures.cause);
     }
 
-pub returns-in_err-put : goal.returns-in_err-put
-returns-in_err-put c =
-    let p = err_from_is_err_and c.from_residual-in_err-put.result c.from_residual-in_err-put.ensures.1 in
+pub returns-in_err-keys : goal.returns-in_err-keys
+returns-in_err-keys c =
+    let p = err_from_is_err_and c.from_residual-in_err-keys.result c.from_residual-in_err-keys.ensures.1 in
     let below : c.self.inside.log.last < 2 ^ 64 - 2 = omega (arith, c.last.ensures) in
     record {
-      step = IfOk-from_err c.from_residual-in_err-put.result _ c.from_residual-in_err-put.ensures.0;
-      refused = rw (p.1, p.2) (inl c.in_err-put.ensures.cause);
-      event = IfOk-from_err c.from_residual-in_err-put.result _ c.from_residual-in_err-put.ensures.0;
-      kept = IfOk-from_err c.from_residual-in_err-put.result _ c.from_residual-in_err-put.ensures.0;
-      load = λ ops of. IfOk-from_err c.from_residual-in_err-put.result _ c.from_residual-in_err-put.ensures.0;
-      same = rw p.1 (ap (λ (y : LayersModel). view_of (record c.self.inside { log = c.reserve.new.self; layers = y })) c.in_err-put.ensures.same ∙ subst (λ (v : CoreModel). IsSame v (view_of (record c.self.inside { log = c.reserve.new.self }))) c.self.view_is (room_made c.self.inside c.reserve.new.self c.reserve.ensures.value));
+      step = IfOk-from_err c.from_residual-in_err-keys.result _ c.from_residual-in_err-keys.ensures.0;
+      refused = rw (p.1, p.2) (inl c.in_err-keys.ensures.cause);
+      event = IfOk-from_err c.from_residual-in_err-keys.result _ c.from_residual-in_err-keys.ensures.0;
+      kept = IfOk-from_err c.from_residual-in_err-keys.result _ c.from_residual-in_err-keys.ensures.0;
+      load = λ ops of. IfOk-from_err c.from_residual-in_err-keys.result _ c.from_residual-in_err-keys.ensures.0;
+      same = rw p.1 (subst (λ (v : CoreModel). IsSame v (view_of (record c.self.inside { log = c.reserve.new.self }))) c.self.view_is (room_made c.self.inside c.reserve.new.self c.reserve.ensures.value));
       idle = λ none. absurd (true≢false (sym (c.is_empty.ensures.1 none) ∙ c.if-is_empty.false));
       exhausted = λ some. none_left (view_of c.self.inside) c.args.self.now (unseen_of c.self.inside) (2 ^ 64 - 2) c.self.view_is c.self.invariant below;
       limit = λ some below. placed (view_of c.self.inside) c.args.self.now (unseen_of c.self.inside) 1 c.self.view_is c.self.invariant c.in_ok-place.ensures.place;
-      cause = rw (p.1, p.2) (inl c.in_err-put.ensures.cause);
+      cause = rw (p.1, p.2) (inl c.in_err-keys.ensures.cause);
+    }
+
+pub returns-in_err-put_batch : goal.returns-in_err-put_batch
+returns-in_err-put_batch c =
+    let p = err_from_is_err_and c.from_residual-in_err-put_batch.result c.from_residual-in_err-put_batch.ensures.1 in
+    let below : c.self.inside.log.last < 2 ^ 64 - 2 = omega (arith, c.last.ensures) in
+    record {
+      step = IfOk-from_err c.from_residual-in_err-put_batch.result _ c.from_residual-in_err-put_batch.ensures.0;
+      refused = rw (p.1, p.2) (inl c.in_err-put_batch.ensures.cause);
+      event = IfOk-from_err c.from_residual-in_err-put_batch.result _ c.from_residual-in_err-put_batch.ensures.0;
+      kept = IfOk-from_err c.from_residual-in_err-put_batch.result _ c.from_residual-in_err-put_batch.ensures.0;
+      load = λ ops of. IfOk-from_err c.from_residual-in_err-put_batch.result _ c.from_residual-in_err-put_batch.ensures.0;
+      same = rw p.1 (ap (λ (y : LayersModel). view_of (record c.self.inside { log = c.reserve.new.self; layers = y })) c.in_err-put_batch.ensures.same_layers ∙ subst (λ (v : CoreModel). IsSame v (view_of (record c.self.inside { log = c.reserve.new.self }))) c.self.view_is (room_made c.self.inside c.reserve.new.self c.reserve.ensures.value));
+      idle = λ none. absurd (true≢false (sym (c.is_empty.ensures.1 none) ∙ c.if-is_empty.false));
+      exhausted = λ some. none_left (view_of c.self.inside) c.args.self.now (unseen_of c.self.inside) (2 ^ 64 - 2) c.self.view_is c.self.invariant below;
+      limit = λ some below. placed (view_of c.self.inside) c.args.self.now (unseen_of c.self.inside) 1 c.self.view_is c.self.invariant c.in_ok-place.ensures.place;
+      cause = rw (p.1, p.2) (inl c.in_err-put_batch.ensures.cause);
     }

@@ -1,9 +1,8 @@
-use Rattle.std.proofs.Common.{◌≡◌, ◌++◌, ◌∷◌, [], List, ℕ, ap, ◌∙◌, subst, sym, Greater, ◌≤◌}
-use Rattle.std.specs.Prelude.{OnOk, OnErr}
+use Rattle.std.proofs.Common.{◌≡◌, ◌++◌, ◌∷◌, [], ap, ◌∙◌, subst, sym, Greater, ◌≤◌}
+use Rattle.std.specs.Prelude.{OnOk}
 use Rattle.std.specs.List.{AllByRecursion}
-use Rattle.std.specs.BTreeMap.{insert_entry}
 use Rattle.slate_types.specs.Keys.{key_cmp}
-use Rattle.slate_txn.specs.Open.{Transactions, BeginsRise}
+use Rattle.slate_txn.specs.Open.{Transactions}
 use Rattle.slate_txn.specs.State.{begun}
 use Rattle.slate_txn.proofs.BeginLaws.{rise_more, rise_either}
 use Rattle.slate_txn.proofs.NamedLaws.{put_last, on_ok, on_err}
