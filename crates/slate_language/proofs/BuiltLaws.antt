@@ -2,18 +2,17 @@
 use Rattle.std.proofs.Common.{◌≡◌, ℕ, ◌<◌, Bool, true, false, cond, ◌==◌, ◌⊎◌, inl, inr, List, [], ◌∷◌, length, Option, Some, None, option_map, codes, bytes_eq, refl, sym, ap, subst, ◌∙◌, arith}
 use Rattle.std.specs.Prelude.{◌↔◌}
 use Rattle.std.specs.List.{slice_split, onto_first, AllByRecursion}
-use Rattle.slate_types.specs.declared.config.IsolationLevel.TheVariants as levels
 use Rattle.slate_mem.specs.Batch.{Ops}
 use Rattle.slate_txn.specs.declared.line.Line.{Line}
 use Rattle.slate_txn.specs.declared.line.Line.TheVariants as lines
 use Rattle.slate_language.specs.declared.parse.Keyword.{Keyword}
-use Rattle.slate_language.specs.declared.parse.Keyword.TheVariants.{Now, Begin, Get, Rollback, Write, Freeze, Flush}
+use Rattle.slate_language.specs.declared.parse.Keyword.TheVariants.{Begin, Get, Put, Delete, Mark, Unmark, Commit, Rollback, Now, Write, Freeze, Flush, Journal}
 use Rattle.slate_language.specs.Grammar.{Spells}
-use Rattle.slate_language.specs.Parse.{both, only_if, ◌>>=◌, split_by, tokens_of, read_bytes, read_moment, read_name, grouped, ops_of_groups, parse_tokens}
+use Rattle.slate_language.specs.Parse.{both, only_if, ◌>>=◌, split_by, tokens_of, read_level, read_moment, read_name, read_pair, grouped, ops_of_groups, parse_tokens}
 use Rattle.slate_language.specs.Stage.{is_built, is_built_batch, if_built, IsBuiltLine, meaning}
-use Rattle.slate_language.specs.Built.{built_level, keyword_among, keywords, keyword, if_batch_built, built_ops, built_as, built_tokens}
-use Rattle.slate_language.proofs.ParseLaws.{bytes-read, moment-read, name-read, ops-read, line-read, parse-is}
-use Rattle.slate_language.proofs.ParseOnly.{None-is-Some, Some-is, only_if-some, map-some, bind-some, both-some, cond-either, same-bytes, bytes-only, moment-only, name-only, ops-only, tokens-only, parse-only}
+use Rattle.slate_language.specs.Built.{keyword_among, keywords, keyword, if_batch_built, built_ops, built_as, built_tokens}
+use Rattle.slate_language.proofs.ParseLaws.{moment-read, name-read, level-read, pair-read, named-read, keyed-read, many-read, behind-name, ops-read, line-read, parse-is}
+use Rattle.slate_language.proofs.ParseOnly.{None-is-Some, Some-is, only_if-some, map-some, bind-some, both-some, cond-either, same-bytes, moment-only, name-only, level-only, name-line, keyed-line, many-line, put-line, ops-only, tokens-only, parse-only}
 
 -- ---- tokens are what a slice is split into
 
@@ -45,13 +44,19 @@ abbrev Meets : List (List ℕ) → Line → Type 0
 Meets ts line = Spells ts line × (is_built line ≡ true)
 
 abbrev keyword_text : Keyword → List ℕ
-keyword_text Now = codes "now"
 keyword_text Begin = codes "begin"
 keyword_text Get = codes "get"
+keyword_text Put = codes "put"
+keyword_text Delete = codes "delete"
+keyword_text Mark = codes "mark"
+keyword_text Unmark = codes "unmark"
+keyword_text Commit = codes "commit"
 keyword_text Rollback = codes "rollback"
+keyword_text Now = codes "now"
 keyword_text Write = codes "write"
 keyword_text Freeze = codes "freeze"
 keyword_text Flush = codes "flush"
+keyword_text Journal = codes "journal"
 
 among-only : (t : List ℕ) (ps : List (List ℕ × Keyword)) (w : Keyword) → AllByRecursion (λ p. p.0 ≡ keyword_text p.1) ps → keyword_among ps t ≡ Some w → t ≡ keyword_text w
 among-only t [] w h e = None-is-Some w e
@@ -62,7 +67,7 @@ among-only t (p ∷ ps) w h e = by (cond-either (bytes_eq t p.0) (Some p.1) (key
     by (inr k) later = later k.1
 
 keyword-only : (t : List ℕ) (w : Keyword) → keyword t ≡ Some w → t ≡ keyword_text w
-keyword-only t w e = among-only t keywords w (refl, (refl, (refl, (refl, (refl, (refl, (refl, tt))))))) e
+keyword-only t w e = among-only t keywords w (refl, (refl, (refl, (refl, (refl, (refl, (refl, (refl, (refl, (refl, (refl, (refl, (refl, tt))))))))))))) e
 
 ops-built-only : (ts : List (List ℕ)) (batch : Ops) → built_ops ts ≡ Some batch → (ops_of_groups (grouped ts) ≡ Some batch) × (is_built_batch batch ≡ true)
 ops-built-only ts batch e =
@@ -79,26 +84,33 @@ as-only Now (t ∷ u ∷ us) line e = None-is-Some line e
 as-only Begin [] line e = None-is-Some line e
 as-only Begin (n ∷ []) line e = None-is-Some line e
 as-only Begin (n ∷ t ∷ []) line e =
-    let parts = both-some lines.Begin (read_name n) (built_level t) line e in
+    let parts = both-some lines.Begin (read_name n) (read_level t) line e in
     let name = name-only n parts.0 parts.2 in
-    let level = only_if-some (bytes_eq t (codes "si")) levels.Snapshot parts.1 parts.3 in
-    subst (Meets (codes "begin" ∷ n ∷ t ∷ [])) (ap (lines.Begin parts.0) level.1 ∙ parts.4)
-    ((name.0, λ i. codes "begin" ∷ name.1 i ∷ same-bytes t (codes "si") level.0 i ∷ []), refl)
+    subst (Meets (codes "begin" ∷ n ∷ t ∷ [])) parts.4
+    ((name.0, λ i. codes "begin" ∷ name.1 i ∷ level-only t parts.1 parts.3 i ∷ []), refl)
 as-only Begin (n ∷ t ∷ u ∷ us) line e = None-is-Some line e
-as-only Get [] line e = None-is-Some line e
-as-only Get (n ∷ []) line e = None-is-Some line e
-as-only Get (n ∷ t ∷ []) line e =
-    let parts = both-some lines.Get (read_name n) (read_bytes t) line e in
-    let name = name-only n parts.0 parts.2 in
-    subst (Meets (codes "get" ∷ n ∷ t ∷ [])) parts.4
-    ((t, name.0, bytes-only t parts.1 parts.3, λ i. codes "get" ∷ name.1 i ∷ t ∷ []), refl)
-as-only Get (n ∷ t ∷ u ∷ us) line e = None-is-Some line e
-as-only Rollback [] line e = None-is-Some line e
-as-only Rollback (n ∷ []) line e =
-    let inner = map-some lines.Rollback (read_name n) line e in
-    let name = name-only n inner.0 inner.1 in
-    subst (Meets (codes "rollback" ∷ n ∷ [])) inner.2 ((name.0, λ i. codes "rollback" ∷ name.1 i ∷ []), refl)
-as-only Rollback (n ∷ u ∷ us) line e = None-is-Some line e
+as-only Get us line e =
+    let p = keyed-line lines.Get us line e in
+    subst (Meets (codes "get" ∷ us)) p.6 ((p.2, p.3, p.4, ap (λ ts. codes "get" ∷ ts) p.5), refl)
+as-only Put [] line e = None-is-Some line e
+as-only Put (n ∷ us) line e =
+    let p = put-line lines.Put n us line e in
+    subst (Meets (codes "put" ∷ n ∷ us)) p.7 ((us, p.4, p.5, ap (λ m. codes "put" ∷ m ∷ us) p.6), refl)
+as-only Delete us line e =
+    let p = keyed-line lines.Delete us line e in
+    subst (Meets (codes "delete" ∷ us)) p.6 ((p.2, p.3, p.4, ap (λ ts. codes "delete" ∷ ts) p.5), refl)
+as-only Mark us line e =
+    let p = many-line lines.Mark us line e in
+    subst (Meets (codes "mark" ∷ us)) p.7 ((p.2, p.3, p.4, p.5, ap (λ ts. codes "mark" ∷ ts) p.6), refl)
+as-only Unmark us line e =
+    let p = many-line lines.Unmark us line e in
+    subst (Meets (codes "unmark" ∷ us)) p.7 ((p.2, p.3, p.4, p.5, ap (λ ts. codes "unmark" ∷ ts) p.6), refl)
+as-only Commit us line e =
+    let p = name-line lines.Commit us line e in
+    subst (Meets (codes "commit" ∷ us)) p.3 ((p.1, ap (λ ts. codes "commit" ∷ ts) p.2), refl)
+as-only Rollback us line e =
+    let p = name-line lines.Rollback us line e in
+    subst (Meets (codes "rollback" ∷ us)) p.3 ((p.1, ap (λ ts. codes "rollback" ∷ ts) p.2), refl)
 as-only Write ts line e =
     let inner = map-some lines.Write (built_ops ts) line e in
     let read = ops-built-only ts inner.0 inner.1 in
@@ -107,6 +119,8 @@ as-only Freeze [] line e = subst (Meets (codes "freeze" ∷ [])) (Some-is lines.
 as-only Freeze (u ∷ us) line e = None-is-Some line e
 as-only Flush [] line e = subst (Meets (codes "flush" ∷ [])) (Some-is lines.Flush line e) (refl, refl)
 as-only Flush (u ∷ us) line e = None-is-Some line e
+as-only Journal [] line e = subst (Meets (codes "journal" ∷ [])) (Some-is lines.Journal line e) (refl, refl)
+as-only Journal (u ∷ us) line e = None-is-Some line e
 
 built-only : (ts : List (List ℕ)) (line : Line) → built_tokens ts ≡ Some line → Meets ts line
 built-only [] line e = None-is-Some line e
@@ -123,17 +137,19 @@ built-is : (ts : List (List ℕ)) (line : Line) → Meets ts line → built_toke
 built-is ts (lines.Now m) h =
     let moment = moment-read h.0.0 m h.0.1 in
     ap built_tokens h.0.2 ∙ ap (λ o. option_map lines.Now o) moment.0
-built-is ts (lines.Begin name levels.Snapshot) h =
+built-is ts (lines.Begin name level) h =
     let n = name-read name h.0.0 in
-    ap built_tokens h.0.1 ∙ ap (λ o. both lines.Begin o (Some levels.Snapshot)) n.0
-built-is ts (lines.Begin name levels.SerializableSnapshot) h = not-built h.1
-built-is ts (lines.Get name k) h =
-    let n = name-read name h.0.1 in
-    let key = bytes-read h.0.0 k h.0.2 in
-    ap built_tokens h.0.3 ∙ (λ i. both lines.Get (n.0 i) (key.0 i))
-built-is ts (lines.Rollback name) h =
-    let n = name-read name h.0.0 in
-    ap built_tokens h.0.1 ∙ ap (λ o. option_map lines.Rollback o) n.0
+    let l = level-read level in
+    ap built_tokens h.0.1 ∙ (λ i. both lines.Begin (n.0 i) (l.0 i))
+built-is ts (lines.Get name k) h = ap built_tokens h.0.3 ∙ (keyed-read lines.Get name h.0.0 k h.0.1 h.0.2).0
+built-is ts (lines.Put name k v ttl) h =
+    ap built_tokens h.0.3
+    ∙ (behind-name (λ n us. read_pair (lines.Put n) us) name h.0.0 (lines.Put name k v ttl) h.0.1 (pair-read (lines.Put name) h.0.0 k v ttl h.0.2)).0
+built-is ts (lines.Delete name k) h = ap built_tokens h.0.3 ∙ (keyed-read lines.Delete name h.0.0 k h.0.1 h.0.2).0
+built-is ts (lines.Mark name ks) h = ap built_tokens h.0.4 ∙ (many-read lines.Mark name h.0.0 ks h.0.1 h.0.2 h.0.3).0
+built-is ts (lines.Unmark name ks) h = ap built_tokens h.0.4 ∙ (many-read lines.Unmark name h.0.0 ks h.0.1 h.0.2 h.0.3).0
+built-is ts (lines.Commit name) h = ap built_tokens h.0.1 ∙ (named-read lines.Commit name h.0.0).0
+built-is ts (lines.Rollback name) h = ap built_tokens h.0.1 ∙ (named-read lines.Rollback name h.0.0).0
 built-is ts (lines.Write batch) h =
     let read = ops-read h.0.0 batch h.0.1 in
     ap built_tokens h.0.2
@@ -142,16 +158,11 @@ built-is ts (lines.Write batch) h =
     ∙ ap (λ b. option_map lines.Write (only_if b batch)) h.1
 built-is ts lines.Freeze h = ap built_tokens h.0
 built-is ts lines.Flush h = ap built_tokens h.0
+built-is ts lines.Journal h = ap built_tokens h.0
 built-is ts (lines.Snapshot name) h = not-built h.1
 built-is ts (lines.Scan name order start end sts) h = not-built h.1
 built-is ts (lines.Prefix name order p start end sts) h = not-built h.1
-built-is ts (lines.Put name k v ttl) h = not-built h.1
 built-is ts (lines.Merge name k v ttl) h = not-built h.1
-built-is ts (lines.Delete name k) h = not-built h.1
-built-is ts (lines.Mark name ks) h = not-built h.1
-built-is ts (lines.Unmark name ks) h = not-built h.1
-built-is ts (lines.Commit name) h = not-built h.1
-built-is ts lines.Journal h = not-built h.1
 
 -- ---- the meaning
 

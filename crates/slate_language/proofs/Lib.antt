@@ -5,6 +5,7 @@ pub mod SpelledLaws
 pub mod OpLaws
 pub mod BuiltLaws
 pub mod TextLaws
+pub mod ShownLaws
 pub mod PartsLaws
 pub mod JoinLaws
 pub mod WordLaws

@@ -1,5 +1,5 @@
 -- The operations of a write, read one after the other.
-use Rattle.std.proofs.Common.{◌≡◌, ℕ, zero, suc, ◌+◌, ◌-◌, ◌<◌, ◌≤◌, Bool, true, false, cond, ◌&&◌, List, [], ◌∷◌, ◌++◌, length, take, drop, get_or, Option, Some, None, option_map, is_some, codes, bytes_eq, refl, sym, ap, ◌∙◌, arith, add-one, append_assoc}
+use Rattle.std.proofs.Common.{◌≡◌, ℕ, zero, suc, ◌+◌, ◌-◌, ◌<◌, ◌≤◌, Bool, true, false, cond, ◌&&◌, List, [], ◌∷◌, ◌++◌, length, take, drop, get_or, Option, Some, None, option_map, is_some, codes, bytes_eq, refl, sym, ap, ◌∙◌, arith, add-one, append_assoc, append-nil}
 use Rattle.std.specs.Borrow.{Bor}
 use Rattle.std.proofs.lemmas.List.{take-map, drop-map, drop_all, length-drop}
 use Rattle.std.proofs.Math.Seq.{drop-cons}
@@ -8,9 +8,9 @@ use Rattle.slate_types.specs.declared.config.IsolationLevel.{IsolationLevel}
 use Rattle.slate_types.specs.declared.config.Ttl.{Ttl}
 use Rattle.slate_mem.specs.Batch.{Ops}
 use Rattle.slate_txn.specs.declared.line.Line.TheVariants as lines
-use Rattle.slate_language.specs.Parse.{both, three, only_if, ◌>>=◌, read_bytes, read_name, read_ttl, read_all, OpWord, PutWord, MergeWord, DeleteWord, op_word, op_as, Groups, group_token, grouped, ops_of_groups}
+use Rattle.slate_language.specs.Parse.{both, three, only_if, ◌>>=◌, read_bytes, read_level, read_name, read_pair, read_ttl, read_all, named, keyed, many_keyed, OpWord, PutWord, MergeWord, DeleteWord, op_word, op_as, Groups, group_token, grouped, ops_of_groups}
 use Rattle.slate_language.specs.Stage.{is_built_op, is_built_batch}
-use Rattle.slate_language.specs.Built.{texts, is_op_word, Op, built_level, built_begin, built_get, built_rollback, built_put, built_delete, built_op, built_ops, if_batch_built}
+use Rattle.slate_language.specs.Built.{texts, is_op_word, Op, built_begin, built_put_op, built_delete_op, built_op, built_ops, if_batch_built}
 use Rattle.slate_language.proofs.ParseOnly.{same-bytes}
 
 -- ---- the tokens of the first operation
@@ -79,7 +79,7 @@ merge-three (Some k) None c = refl
 merge-three (Some k) (Some v) None = refl
 merge-three (Some k) (Some v) (Some ttl) = refl
 
-put-as : (ts : List (List ℕ)) → (op_as PutWord ts >>= if_op_built) ≡ built_put ts
+put-as : (ts : List (List ℕ)) → (op_as PutWord ts >>= if_op_built) ≡ built_put_op ts
 put-as [] = refl
 put-as (k ∷ []) = refl
 put-as (k ∷ v ∷ ts) = put-three (read_bytes k) (read_bytes v) (read_ttl ts)
@@ -89,7 +89,7 @@ merge-as [] = refl
 merge-as (k ∷ []) = refl
 merge-as (k ∷ v ∷ ts) = merge-three (read_bytes k) (read_bytes v) (read_ttl ts)
 
-delete-as : (ts : List (List ℕ)) → (op_as DeleteWord ts >>= if_op_built) ≡ built_delete ts
+delete-as : (ts : List (List ℕ)) → (op_as DeleteWord ts >>= if_op_built) ≡ built_delete_op ts
 delete-as [] = refl
 delete-as (k ∷ []) = by (read_bytes k)
   where
@@ -105,7 +105,7 @@ op-is : (w : List ℕ) (ts : List (List ℕ)) → (op_word w >>= λ x. op_as x t
 op-is w ts = by (bytes_eq w (codes "put")) (bytes_eq w (codes "merge")) refl (bytes_eq w (codes "delete")) refl
   where
     by : (p m : Bool) → bytes_eq w (codes "merge") ≡ m → (d : Bool) → bytes_eq w (codes "delete") ≡ d →
-        (word_by p m d >>= λ x. op_as x ts >>= if_op_built) ≡ cond p (built_put ts) (cond d (built_delete ts) None)
+        (word_by p m d >>= λ x. op_as x ts >>= if_op_built) ≡ cond p (built_put_op ts) (cond d (built_delete_op ts) None)
     by true m e d f = put-as ts
     by false true e true f =
         let bad : false ≡ true = sym (ap (λ u. bytes_eq u (codes "delete")) (same-bytes w (codes "merge") e)) ∙ f in
@@ -223,75 +223,113 @@ ops-refused ts at n d held o within kept len is none =
     let later = built_ops (texts (drop (at + 1 + n) ts)) in
     sym (ap (λ p. option_map (λ os. held ++ os) (both ◌∷◌ p later)) none) ∙ ap (λ b. option_map (λ os. held ++ os) b) (sym (turn ts at n d o within len is)) ∙ kept
 
-push-op : (held : Ops) (x : Op) (b : Option Ops) → option_map (λ os. (held ++ (x ∷ [])) ++ os) b ≡ option_map (λ os. held ++ os) (both ◌∷◌ (Some x) b)
-push-op held x None = refl
-push-op held x (Some os) = ap Some (append_assoc held (x ∷ []) os)
+push-one : {X : Type 0} (held : List X) (x : X) (b : Option (List X)) → option_map (λ os. (held ++ (x ∷ [])) ++ os) b ≡ option_map (λ os. held ++ os) (both ◌∷◌ (Some x) b)
+push-one held x None = refl
+push-one held x (Some os) = ap Some (append_assoc held (x ∷ []) os)
 
 pub ops-taken : (ts : List (Bor (List ℕ))) (at n : ℕ) (d : Bor (List ℕ)) (held : Ops) (o : Option Op) (x : Op) → at < length ts →
     option_map (λ os. held ++ os) (built_ops (texts (drop at ts))) ≡ built_ops (texts ts) → n ≡ own_at ts at → o ≡ op_at ts at n d → o ≡ Some x →
     option_map (λ os. (held ++ (x ∷ [])) ++ os) (built_ops (texts (drop (at + 1 + n) ts))) ≡ built_ops (texts ts)
 ops-taken ts at n d held o x within kept len is some =
     let later = built_ops (texts (drop (at + 1 + n) ts)) in
-    push-op held x later ∙ ap (λ p. option_map (λ os. held ++ os) (both ◌∷◌ p later)) (sym some) ∙ ap (λ b. option_map (λ os. held ++ os) b) (sym (turn ts at n d o within len is)) ∙ kept
+    push-one held x later ∙ ap (λ p. option_map (λ os. held ++ os) (both ◌∷◌ p later)) (sym some) ∙ ap (λ b. option_map (λ os. held ++ os) b) (sym (turn ts at n d o within len is)) ∙ kept
+
+-- ---- keys, read one after the other
+
+key-turn : (ts : List (Bor (List ℕ))) (i : ℕ) (d : Bor (List ℕ)) → i < length ts →
+    read_all read_bytes (texts (drop i ts)) ≡ both ◌∷◌ (read_bytes (get_or ts i d).now) (read_all read_bytes (texts (drop (i + 1) ts)))
+key-turn ts i d within = ap (read_all read_bytes) (texts-from ts i d within)
+
+pub keys-refused : (ts : List (Bor (List ℕ))) (i : ℕ) (d : Bor (List ℕ)) (held : List (List ℕ)) (o : Option (List ℕ)) → i < length ts →
+    option_map (λ ks. held ++ ks) (read_all read_bytes (texts (drop i ts))) ≡ read_all read_bytes (texts ts) → o ≡ read_bytes (get_or ts i d).now → o ≡ None → None ≡ read_all read_bytes (texts ts)
+keys-refused ts i d held o within kept read none =
+    let later = read_all read_bytes (texts (drop (i + 1) ts)) in
+    sym (ap (λ p. option_map (λ ks. held ++ ks) (both ◌∷◌ p later)) (sym read ∙ none)) ∙ ap (option_map (λ ks. held ++ ks)) (sym (key-turn ts i d within)) ∙ kept
+
+pub keys-taken : (ts : List (Bor (List ℕ))) (i : ℕ) (d : Bor (List ℕ)) (held : List (List ℕ)) (o : Option (List ℕ)) (k : List ℕ) → i < length ts →
+    option_map (λ ks. held ++ ks) (read_all read_bytes (texts (drop i ts))) ≡ read_all read_bytes (texts ts) → o ≡ read_bytes (get_or ts i d).now → o ≡ Some k →
+    option_map (λ ks. (held ++ (k ∷ [])) ++ ks) (read_all read_bytes (texts (drop (i + 1) ts))) ≡ read_all read_bytes (texts ts)
+keys-taken ts i d held o k within kept read some =
+    let later = read_all read_bytes (texts (drop (i + 1) ts)) in
+    push-one held k later ∙ ap (λ p. option_map (λ ks. held ++ ks) (both ◌∷◌ p later)) (sym some ∙ read) ∙ ap (option_map (λ ks. held ++ ks)) (sym (key-turn ts i d within)) ∙ kept
+
+pub keys-all : (ts : List (Bor (List ℕ))) (i : ℕ) (held : List (List ℕ)) → length ts ≤ i →
+    option_map (λ ks. held ++ ks) (read_all read_bytes (texts (drop i ts))) ≡ read_all read_bytes (texts ts) → Some held ≡ read_all read_bytes (texts ts)
+keys-all ts i held past kept =
+    ap Some (sym (append-nil held)) ∙ ap (λ us. option_map (λ ks. held ++ ks) (read_all read_bytes (texts us))) (sym (drop_all i ts past)) ∙ kept
 
 -- ---- tokens that a pattern takes apart
 
--- what is made of a pair and a time to live, where both are there
-abbrev pub with_ttl : {A : Type 0} → (List ℕ → List ℕ → Ttl → A) → Option (List ℕ × List ℕ) → Option Ttl → Option A
-with_ttl make p o = p >>= λ q. o >>= λ ttl. Some (make q.0 q.1 ttl)
+-- a pair with a time to live, where both are there
+abbrev pub with_ttl : Option (List ℕ × List ℕ) → Option Ttl → Option (List ℕ × List ℕ × Ttl)
+with_ttl p o = p >>= λ q. o >>= λ ttl. Some (q.0, q.1, ttl)
 
-both-three : {A : Type 0} (make : List ℕ → List ℕ → Ttl → A) (a b : Option (List ℕ)) (o : Option Ttl) → with_ttl make (both (λ k v. (k, v)) a b) o ≡ three make a b o
-both-three make None b o = refl
-both-three make (Some k) None o = refl
-both-three make (Some k) (Some v) o = refl
-
-abbrev put_of : List ℕ → List ℕ → Ttl → Op
-put_of k v ttl = (k, ops.Put v (record { ttl = ttl }))
+both-three : (a b : Option (List ℕ)) (o : Option Ttl) → with_ttl (both (λ k v. (k, v)) a b) o ≡ three (λ k v ttl. (k, v, ttl)) a b o
+both-three None b o = refl
+both-three (Some k) None o = refl
+both-three (Some k) (Some v) None = refl
+both-three (Some k) (Some v) (Some ttl) = refl
 
 -- a key, a value, and the tokens behind them
-pub put-read : (ts : List (Bor (List ℕ))) (p : Option (List ℕ × List ℕ)) (o : Option Ttl) → 2 ≤ length ts →
+pub pair-is : (ts : List (Bor (List ℕ))) (p : Option (List ℕ × List ℕ)) (o : Option Ttl) → 2 ≤ length ts →
     p ≡ both (λ k v. (k, v)) (read_bytes (get_or ts 0 (record { ref_ptr = (0, 0); now = [] })).now) (read_bytes (get_or ts 1 (record { ref_ptr = (0, 0); now = [] })).now) →
     o ≡ read_ttl (texts (take (length ts - 2) (drop 2 ts))) →
-    with_ttl (λ k v ttl. (k, ops.Put v (record { ttl = ttl }))) p o ≡ built_put (texts ts)
-put-read [] p o some e f = absurd (omega (arith, some))
-put-read (t ∷ []) p o some e f = absurd (omega (arith, some))
-put-read (t ∷ u ∷ us) p o some e f =
-    (λ i. with_ttl put_of (e i) ((f ∙ ap (λ vs. read_ttl (texts vs)) (behind-all (t ∷ u ∷ us) 2)) i)) ∙ both-three put_of (read_bytes t.now) (read_bytes u.now) (read_ttl (texts us))
+    with_ttl p o ≡ read_pair (λ k v ttl. (k, v, ttl)) (texts ts)
+pair-is [] p o some e f = absurd (omega (arith, some))
+pair-is (t ∷ []) p o some e f = absurd (omega (arith, some))
+pair-is (t ∷ u ∷ us) p o some e f =
+    (λ i. with_ttl (e i) ((f ∙ ap (λ vs. read_ttl (texts vs)) (behind-all (t ∷ u ∷ us) 2)) i)) ∙ both-three (read_bytes t.now) (read_bytes u.now) (read_ttl (texts us))
 
-pub put-unread : (ts : List (Bor (List ℕ))) → 2 ≤ length ts → read_ttl (texts (take (length ts - 2) (drop 2 ts))) ≡ None → None ≡ built_put (texts ts)
-put-unread [] some e = refl
-put-unread (t ∷ []) some e = refl
-put-unread (t ∷ u ∷ us) some e =
-    nothing (both (λ k v. (k, v)) (read_bytes t.now) (read_bytes u.now)) ∙ put-read (t ∷ u ∷ us) (both (λ k v. (k, v)) (read_bytes t.now) (read_bytes u.now)) None some refl (sym e)
+pub pair-unread : (ts : List (Bor (List ℕ))) → 2 ≤ length ts → read_ttl (texts (take (length ts - 2) (drop 2 ts))) ≡ None → ◌≡◌ {A = Option (List ℕ × List ℕ × Ttl)} None (read_pair (λ k v ttl. (k, v, ttl)) (texts ts))
+pair-unread [] some e = refl
+pair-unread (t ∷ []) some e = refl
+pair-unread (t ∷ u ∷ us) some e =
+    nothing (both (λ k v. (k, v)) (read_bytes t.now) (read_bytes u.now)) ∙ pair-is (t ∷ u ∷ us) (both (λ k v. (k, v)) (read_bytes t.now) (read_bytes u.now)) None some refl (sym e)
   where
-    nothing : (p : Option (List ℕ × List ℕ)) → None ≡ with_ttl put_of p None
+    nothing : (p : Option (List ℕ × List ℕ)) → None ≡ with_ttl p None
     nothing None = refl
     nothing (Some q) = refl
 
--- a name and a key
-pub get-read : (ts : List (Bor (List ℕ))) (p : Option (List ℕ × List ℕ)) → length ts ≡ 2 →
-    p ≡ both (λ n k. (n, k)) (read_name (get_or ts 0 (record { ref_ptr = (0, 0); now = [] })).now) (read_bytes (get_or ts 1 (record { ref_ptr = (0, 0); now = [] })).now) →
-    option_map (λ (q : List ℕ × List ℕ). lines.Get q.0 q.1) p ≡ built_get (texts ts)
-get-read [] p two e = absurd (omega (arith, two))
-get-read (t ∷ []) p two e = absurd (omega (arith, two))
-get-read (t ∷ u ∷ v ∷ us) p two e = absurd (omega (arith, two))
-get-read (t ∷ u ∷ []) p two e = ap (option_map (λ (q : List ℕ × List ℕ). lines.Get q.0 q.1)) e ∙ by (read_name t.now) (read_bytes u.now)
+-- what is made of a key, a value and a time to live
+pub pair-made : {A : Type 0} (make : List ℕ → List ℕ → Ttl → A) (ts : List (List ℕ)) (p : Option (List ℕ × List ℕ × Ttl)) → p ≡ read_pair (λ k v ttl. (k, v, ttl)) ts →
+    option_map (λ (q : List ℕ × List ℕ × Ttl). make q.0 q.1 q.2) p ≡ read_pair make ts
+pair-made {A} make ts p e = ap (option_map (λ (q : List ℕ × List ℕ × Ttl). make q.0 q.1 q.2)) e ∙ by ts
   where
-    by : (a b : Option (List ℕ)) → option_map (λ (q : List ℕ × List ℕ). lines.Get q.0 q.1) (both (λ n k. (n, k)) a b) ≡ both lines.Get a b
+    made : (a b : Option (List ℕ)) (o : Option Ttl) → option_map (λ (q : List ℕ × List ℕ × Ttl). make q.0 q.1 q.2) (three (λ k v ttl. (k, v, ttl)) a b o) ≡ three make a b o
+    made None b o = refl
+    made (Some k) None o = refl
+    made (Some k) (Some v) None = refl
+    made (Some k) (Some v) (Some ttl) = refl
+
+    by : (us : List (List ℕ)) → option_map (λ (q : List ℕ × List ℕ × Ttl). make q.0 q.1 q.2) (read_pair (λ k v ttl. (k, v, ttl)) us) ≡ read_pair make us
+    by [] = refl
+    by (k ∷ []) = refl
+    by (k ∷ v ∷ us) = made (read_bytes k) (read_bytes v) (read_ttl us)
+
+-- a name and a key
+pub keyed-is : {A : Type 0} (make : List ℕ → List ℕ → A) (ts : List (Bor (List ℕ))) (p : Option (List ℕ × List ℕ)) → length ts ≡ 2 →
+    p ≡ both (λ n k. (n, k)) (read_name (get_or ts 0 (record { ref_ptr = (0, 0); now = [] })).now) (read_bytes (get_or ts 1 (record { ref_ptr = (0, 0); now = [] })).now) →
+    option_map (λ (q : List ℕ × List ℕ). make q.0 q.1) p ≡ keyed make (texts ts)
+keyed-is {A} make [] p two e = absurd (omega (arith, two))
+keyed-is {A} make (t ∷ []) p two e = absurd (omega (arith, two))
+keyed-is {A} make (t ∷ u ∷ v ∷ us) p two e = absurd (omega (arith, two))
+keyed-is {A} make (t ∷ u ∷ []) p two e = ap (option_map (λ (q : List ℕ × List ℕ). make q.0 q.1)) e ∙ by (read_name t.now) (read_bytes u.now)
+  where
+    by : (a b : Option (List ℕ)) → option_map (λ (q : List ℕ × List ℕ). make q.0 q.1) (both (λ n k. (n, k)) a b) ≡ both make a b
     by None b = refl
     by (Some n) None = refl
     by (Some n) (Some k) = refl
 
 -- a name and a level
 pub begin-read : (ts : List (Bor (List ℕ))) (p : Option (List ℕ)) (o : Option IsolationLevel) → length ts ≡ 2 →
-    p ≡ read_name (get_or ts 0 (record { ref_ptr = (0, 0); now = [] })).now → o ≡ built_level (get_or ts 1 (record { ref_ptr = (0, 0); now = [] })).now →
+    p ≡ read_name (get_or ts 0 (record { ref_ptr = (0, 0); now = [] })).now → o ≡ read_level (get_or ts 1 (record { ref_ptr = (0, 0); now = [] })).now →
     both lines.Begin p o ≡ built_begin (texts ts)
 begin-read [] p o two e f = absurd (omega (arith, two))
 begin-read (t ∷ []) p o two e f = absurd (omega (arith, two))
 begin-read (t ∷ u ∷ v ∷ us) p o two e f = absurd (omega (arith, two))
 begin-read (t ∷ u ∷ []) p o two e f = λ i. both lines.Begin (e i) (f i)
 
-pub begin-unread : (ts : List (Bor (List ℕ))) → length ts ≡ 2 → built_level (get_or ts 1 (record { ref_ptr = (0, 0); now = [] })).now ≡ None → None ≡ built_begin (texts ts)
+pub begin-unread : (ts : List (Bor (List ℕ))) → length ts ≡ 2 → read_level (get_or ts 1 (record { ref_ptr = (0, 0); now = [] })).now ≡ None → None ≡ built_begin (texts ts)
 begin-unread ts two e =
     nothing (read_name (get_or ts 0 (record { ref_ptr = (0, 0); now = [] })).now)
     ∙ begin-read ts (read_name (get_or ts 0 (record { ref_ptr = (0, 0); now = [] })).now) None two refl (sym e)
@@ -300,15 +338,31 @@ begin-unread ts two e =
     nothing None = refl
     nothing (Some n) = refl
 
--- a name, and a key
-pub rollback-read : (ts : List (Bor (List ℕ))) (p : Option (List ℕ)) → length ts ≡ 1 → p ≡ read_name (get_or ts 0 (record { ref_ptr = (0, 0); now = [] })).now →
-    option_map lines.Rollback p ≡ built_rollback (texts ts)
-rollback-read [] p one e = absurd (omega (arith, one))
-rollback-read (t ∷ u ∷ us) p one e = absurd (omega (arith, one))
-rollback-read (t ∷ []) p one e = ap (option_map lines.Rollback) e
+-- a name alone
+pub named-is : {A : Type 0} (make : List ℕ → A) (ts : List (Bor (List ℕ))) (p : Option (List ℕ)) → length ts ≡ 1 → p ≡ read_name (get_or ts 0 (record { ref_ptr = (0, 0); now = [] })).now →
+    option_map make p ≡ named make (texts ts)
+named-is {A} make [] p one e = absurd (omega (arith, one))
+named-is {A} make (t ∷ u ∷ us) p one e = absurd (omega (arith, one))
+named-is {A} make (t ∷ []) p one e = ap (option_map make) e
 
+-- a name, and one key or more
+pub many-is : {A : Type 0} (make : List ℕ → List (List ℕ) → A) (ts : List (List ℕ)) (p : Option (List ℕ × List (List ℕ))) → p ≡ many_keyed (λ n ks. (n, ks)) ts →
+    option_map (λ (q : List ℕ × List (List ℕ)). make q.0 q.1) p ≡ many_keyed make ts
+many-is {A} make ts p e = ap (option_map (λ (q : List ℕ × List (List ℕ)). make q.0 q.1)) e ∙ by ts
+  where
+    made : (a : Option (List ℕ)) (b : Option (List (List ℕ))) → option_map (λ (q : List ℕ × List (List ℕ)). make q.0 q.1) (both (λ n ks. (n, ks)) a b) ≡ both make a b
+    made None b = refl
+    made (Some n) None = refl
+    made (Some n) (Some ks) = refl
+
+    by : (us : List (List ℕ)) → option_map (λ (q : List ℕ × List (List ℕ)). make q.0 q.1) (many_keyed (λ n ks. (n, ks)) us) ≡ many_keyed make us
+    by [] = refl
+    by (n ∷ []) = refl
+    by (n ∷ k ∷ ks) = made (read_name n) (read_all read_bytes (k ∷ ks))
+
+-- a key alone
 pub delete-read : (ts : List (Bor (List ℕ))) (p : Option (List ℕ)) → length ts ≡ 1 → p ≡ read_bytes (get_or ts 0 (record { ref_ptr = (0, 0); now = [] })).now →
-    option_map (λ (key : List ℕ). (key, ops.Delete)) p ≡ built_delete (texts ts)
+    option_map (λ (key : List ℕ). (key, ops.Delete)) p ≡ built_delete_op (texts ts)
 delete-read [] p one e = absurd (omega (arith, one))
 delete-read (t ∷ u ∷ us) p one e = absurd (omega (arith, one))
 delete-read (t ∷ []) p one e = ap (option_map (λ (key : List ℕ). (key, ops.Delete))) e

@@ -1,5 +1,5 @@
 -- What the grammar has, the computed meaning reads.
-use Rattle.std.proofs.Common.{◌≡◌, ℕ, suc, ◌+◌, ◌-◌, ◌*◌, ◌/◌, ◌%◌, ◌^◌, ◌<◌, Bool, true, false, cond, not, ◌&&◌, ◌==◌, inl, inr, List, [], ◌∷◌, ◌++◌, length, Option, Some, None, option_map, unwrap_or, IsTrue, ℤ, pos, negsuc, neg_ℤ, codes, decimal, bytes_eq, refl, sym, ap, subst, ◌∙◌, arith, ltb, leb}
+use Rattle.std.proofs.Common.{◌≡◌, ℕ, suc, ◌+◌, ◌-◌, ◌*◌, ◌/◌, ◌%◌, ◌^◌, ◌<◌, Bool, true, false, cond, not, ◌&&◌, ◌==◌, inl, inr, List, [], ◌∷◌, ◌++◌, length, Option, Some, None, option_map, unwrap_or, ℤ, pos, negsuc, neg_ℤ, codes, decimal, bytes_eq, refl, sym, ap, subst, ◌∙◌, arith, ltb, leb}
 use Rattle.std.specs.List.{list_all, join_with_byte, AllByRecursion}
 use Rattle.std.specs.Fmt.{signed_decimal}
 use Rattle.std.specs.Str.Parse.{digits_value, AllDigits}
@@ -214,7 +214,7 @@ name-read t h = (
   all-weaken is_name_byte no_space name-no_space t h.2,
 )
 
-level-read : (l : IsolationLevel) → Reads read_level (level_word l) l
+pub level-read : (l : IsolationLevel) → Reads read_level (level_word l) l
 level-read levels.Snapshot = (refl, refl)
 level-read levels.SerializableSnapshot = (refl, refl)
 
@@ -281,7 +281,7 @@ ttl-read ts (ExpireAfter n) h =
       subst NoSpaces (sym h.2) (inner.1, tt),
     )
 
-pair-read : {A : Type 0} (make : List ℕ → List ℕ → Ttl → A) (ts : List (List ℕ)) (k v : List ℕ) (ttl : Ttl) → IsPair ts k v ttl → ReadsAll (read_pair make) ts (make k v ttl)
+pub pair-read : {A : Type 0} (make : List ℕ → List ℕ → Ttl → A) (ts : List (List ℕ)) (k v : List ℕ) (ttl : Ttl) → IsPair ts k v ttl → ReadsAll (read_pair make) ts (make k v ttl)
 pair-read make ts k v ttl h =
     let key = bytes-read h.0 k h.3 in
     let value = bytes-read h.1 v h.4 in
@@ -366,18 +366,18 @@ keyword : (t : List ℕ) (us ts : List (List ℕ)) (w : Word) (line : Line) → 
 keyword t us ts w line e found reads h hs =
     (ap parse_tokens e ∙ ap (λ o. o >>= λ v. line_as v us) found ∙ reads, subst NoSpaces (sym e) (h, hs))
 
-named-read : (make : List ℕ → Line) (name : List ℕ) → IsName name → ReadsAll (named make) (name ∷ []) (make name)
+pub named-read : (make : List ℕ → Line) (name : List ℕ) → IsName name → ReadsAll (named make) (name ∷ []) (make name)
 named-read make name h =
     let n = name-read name h in
     (ap (λ o. option_map make o) n.0, (n.1, tt))
 
-keyed-read : (make : List ℕ → List ℕ → Line) (name t k : List ℕ) → IsName name → IsBytes t k → ReadsAll (keyed make) (name ∷ t ∷ []) (make name k)
+pub keyed-read : (make : List ℕ → List ℕ → Line) (name t k : List ℕ) → IsName name → IsBytes t k → ReadsAll (keyed make) (name ∷ t ∷ []) (make name k)
 keyed-read make name t k h g =
     let n = name-read name h in
     let key = bytes-read t k g in
     ((λ i. both make (n.0 i) (key.0 i)), (n.1, (key.1, tt)))
 
-many-read : (make : List ℕ → List (List ℕ) → Line) (name : List ℕ) (us ks : List (List ℕ)) → IsName name → Each IsBytes us ks → 0 < length ks → ReadsAll (many_keyed make) (name ∷ us) (make name ks)
+pub many-read : (make : List ℕ → List (List ℕ) → Line) (name : List ℕ) (us ks : List (List ℕ)) → IsName name → Each IsBytes us ks → 0 < length ks → ReadsAll (many_keyed make) (name ∷ us) (make name ks)
 many-read make name [] [] h g nonempty = absurd (omega (arith, nonempty))
 many-read make name [] (k ∷ ks) h g nonempty = absurd g
 many-read make name (u ∷ us) [] h g nonempty = absurd g
@@ -387,7 +387,7 @@ many-read make name (u ∷ us) (k ∷ ks) h g nonempty =
     ((λ i. both make (n.0 i) (all.0 i)), (n.1, all.1))
 
 -- a name, and tokens that one function reads
-behind-name : (f : List ℕ → List (List ℕ) → Option Line) (name : List ℕ) (us : List (List ℕ)) (line : Line) → IsName name → ReadsAll (f name) us line →
+pub behind-name : (f : List ℕ → List (List ℕ) → Option Line) (name : List ℕ) (us : List (List ℕ)) (line : Line) → IsName name → ReadsAll (f name) us line →
     ((read_name name >>= λ n. f n us) ≡ Some line) × NoSpaces (name ∷ us)
 behind-name f name us line h g =
     let n = name-read name h in

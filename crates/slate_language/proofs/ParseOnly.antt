@@ -185,7 +185,7 @@ name-only t name e =
       some.1,
     )
 
-level-only : (t : List ℕ) (l : IsolationLevel) → read_level t ≡ Some l → t ≡ level_word l
+pub level-only : (t : List ℕ) (l : IsolationLevel) → read_level t ≡ Some l → t ≡ level_word l
 level-only t l e = by (cond-either (bytes_eq t (codes "si")) (Some levels.Snapshot) (only_if (bytes_eq t (codes "ssi")) levels.SerializableSnapshot) (Some l) e)
   where
     by : ((bytes_eq t (codes "si") ≡ true) × (Some levels.Snapshot ≡ Some l)) ⊎ ((bytes_eq t (codes "si") ≡ false) × (only_if (bytes_eq t (codes "ssi")) levels.SerializableSnapshot ≡ Some l)) → t ≡ level_word l
@@ -372,7 +372,7 @@ find-only t (p ∷ ps) w h e = by (cond-either (bytes_eq p.0 t) (Some p.1) (find
 words-texts : AllByRecursion (λ p. p.0 ≡ text_of p.1) words
 words-texts = (refl, (refl, (refl, (refl, (refl, (refl, (refl, (refl, (refl, (refl, (refl, (refl, (refl, (refl, (refl, (refl, (refl, tt)))))))))))))))))
 
-name-line : (make : List ℕ → Line) (us : List (List ℕ)) (line : Line) → named make us ≡ Some line → (name : List ℕ) × IsName name × (us ≡ name ∷ []) × (make name ≡ line)
+pub name-line : (make : List ℕ → Line) (us : List (List ℕ)) (line : Line) → named make us ≡ Some line → (name : List ℕ) × IsName name × (us ≡ name ∷ []) × (make name ≡ line)
 name-line make [] line e = None-is-Some line e
 name-line make (n ∷ []) line e =
     let inner = map-some make (read_name n) line e in
@@ -380,7 +380,7 @@ name-line make (n ∷ []) line e =
     (inner.0, name.0, ap (λ t. t ∷ []) name.1, inner.2)
 name-line make (n ∷ u ∷ us) line e = None-is-Some line e
 
-keyed-line : (make : List ℕ → List ℕ → Line) (us : List (List ℕ)) (line : Line) → keyed make us ≡ Some line →
+pub keyed-line : (make : List ℕ → List ℕ → Line) (us : List (List ℕ)) (line : Line) → keyed make us ≡ Some line →
     (name : List ℕ) × (k : List ℕ) × (t : List ℕ) × IsName name × IsBytes t k × (us ≡ name ∷ t ∷ []) × (make name k ≡ line)
 keyed-line make [] line e = None-is-Some line e
 keyed-line make (n ∷ []) line e = None-is-Some line e
@@ -394,7 +394,7 @@ Each-nonempty : {A B : Type 0} (R : A → B → Type 0) (t : A) (ts : List A) (x
 Each-nonempty R t ts [] h = absurd h
 Each-nonempty R t ts (x ∷ xs) h = omega arith
 
-many-line : (make : List ℕ → List (List ℕ) → Line) (us : List (List ℕ)) (line : Line) → many_keyed make us ≡ Some line →
+pub many-line : (make : List ℕ → List (List ℕ) → Line) (us : List (List ℕ)) (line : Line) → many_keyed make us ≡ Some line →
     (name : List ℕ) × (ks : List (List ℕ)) × (ts : List (List ℕ)) × IsName name × Each IsBytes ts ks × (0 < length ks) × (us ≡ name ∷ ts) × (make name ks ≡ line)
 many-line make [] line e = None-is-Some line e
 many-line make (n ∷ []) line e = None-is-Some line e
@@ -404,7 +404,7 @@ many-line make (n ∷ t ∷ ts) line e =
     let keys = each-only read_bytes IsBytes bytes-only (t ∷ ts) parts.1 parts.3 in
     (parts.0, parts.1, t ∷ ts, name.0, keys, Each-nonempty IsBytes t ts parts.1 keys, ap (λ m. m ∷ t ∷ ts) name.1, parts.4)
 
-put-line : (make : List ℕ → List ℕ → List ℕ → Ttl → Line) (n : List ℕ) (us : List (List ℕ)) (line : Line) → (read_name n >>= λ name. read_pair (make name) us) ≡ Some line →
+pub put-line : (make : List ℕ → List ℕ → List ℕ → Ttl → Line) (n : List ℕ) (us : List (List ℕ)) (line : Line) → (read_name n >>= λ name. read_pair (make name) us) ≡ Some line →
     (name : List ℕ) × (k : List ℕ) × (v : List ℕ) × (ttl : Ttl) × IsName name × IsPair us k v ttl × (n ≡ name) × (make name k v ttl ≡ line)
 put-line make n us line e =
     let outer = bind-some (read_name n) (λ name. read_pair (make name) us) line e in

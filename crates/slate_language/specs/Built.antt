@@ -8,17 +8,15 @@
 use Rattle.std.specs.Prelude.{ℕ, Bool, false, ◌&&◌, ◌||◌, not, if◌then◌else◌, ◌==◌, nat_lt, nat_le, List, [], ◌∷◌, length, map, Option, Some, None, option_map, codes, bytes_eq, is_some}
 use Rattle.std.specs.List.{list_all}
 use Rattle.std.specs.Borrow.{Bor}
-use Rattle.slate_types.specs.declared.config.IsolationLevel.{IsolationLevel}
-use Rattle.slate_types.specs.declared.config.IsolationLevel.TheVariants as levels
 use Rattle.slate_mem.specs.declared.WriteOp.{WriteOp}
 use Rattle.slate_mem.specs.declared.WriteOp.TheVariants as ops
 use Rattle.slate_mem.specs.Batch.{Ops}
 use Rattle.slate_txn.specs.declared.line.Line.{Line}
 use Rattle.slate_txn.specs.declared.line.Line.TheVariants as lines
 use Rattle.slate_language.specs.declared.parse.Keyword.{Keyword}
-use Rattle.slate_language.specs.declared.parse.Keyword.TheVariants.{Now, Begin, Get, Rollback, Write, Freeze, Flush}
+use Rattle.slate_language.specs.declared.parse.Keyword.TheVariants.{Begin, Get, Put, Delete, Mark, Unmark, Commit, Rollback, Now, Write, Freeze, Flush, Journal}
 use Rattle.slate_language.specs.Grammar.{is_name_byte}
-use Rattle.slate_language.specs.Parse.{only_if, ◌>>=◌, both, read_bytes, read_moment, read_name, read_pair, op_word, grouped, ops_of_groups}
+use Rattle.slate_language.specs.Parse.{only_if, ◌>>=◌, both, read_bytes, read_moment, read_name, read_level, read_pair, named, keyed, many_keyed, op_word, grouped, ops_of_groups}
 use Rattle.slate_language.specs.Stage.{is_built_batch}
 
 abbrev pub texts : List (Bor (List ℕ)) → List (List ℕ)
@@ -46,17 +44,19 @@ is_moment_text (b ∷ bs) = if b == 45 then not (bytes_eq bs (codes "0")) && is_
 abbrev pub is_hex_digit : ℕ → Bool
 is_hex_digit b = nat_le 48 b && nat_le b 57 || nat_le 97 b && nat_le b 102
 
-abbrev pub built_level : List ℕ → Option IsolationLevel
-built_level t = only_if (bytes_eq t (codes "si")) levels.Snapshot
-
 abbrev pub keyword_among : List (List ℕ × Keyword) → List ℕ → Option Keyword
 keyword_among [] t = None
 keyword_among (p ∷ ps) t = if bytes_eq t p.0 then Some p.1 else keyword_among ps t
 
+-- the words of lines that name no transaction, and those of the lines that end a transaction or change what its commit conflicts by
+abbrev pub unnamed : List (List ℕ × Keyword)
+unnamed = (codes "now", Now) ∷ (codes "write", Write) ∷ (codes "freeze", Freeze) ∷ (codes "flush", Flush) ∷ (codes "journal", Journal) ∷ []
+
+abbrev pub marking : List (List ℕ × Keyword)
+marking = (codes "mark", Mark) ∷ (codes "unmark", Unmark) ∷ (codes "commit", Commit) ∷ (codes "rollback", Rollback) ∷ unnamed
+
 abbrev pub keywords : List (List ℕ × Keyword)
-keywords =
-    (codes "now", Now) ∷ (codes "begin", Begin) ∷ (codes "get", Get) ∷ (codes "rollback", Rollback) ∷
-    (codes "write", Write) ∷ (codes "freeze", Freeze) ∷ (codes "flush", Flush) ∷ []
+keywords = (codes "begin", Begin) ∷ (codes "get", Get) ∷ (codes "put", Put) ∷ (codes "delete", Delete) ∷ marking
 
 abbrev pub keyword : List ℕ → Option Keyword
 keyword t = keyword_among keywords t
@@ -69,17 +69,17 @@ is_op_word t = is_some (op_word t)
 abbrev pub Op : Type 0
 Op = List ℕ × WriteOp
 
-abbrev pub built_put : List (List ℕ) → Option Op
-built_put ts = read_pair (λ k v ttl. (k, ops.Put v (record { ttl = ttl }))) ts
+abbrev pub built_put_op : List (List ℕ) → Option Op
+built_put_op ts = read_pair (λ k v ttl. (k, ops.Put v (record { ttl = ttl }))) ts
 
-abbrev pub built_delete : List (List ℕ) → Option Op
-built_delete (k ∷ []) = option_map (λ key. (key, ops.Delete)) (read_bytes k)
-built_delete _ = None
+abbrev pub built_delete_op : List (List ℕ) → Option Op
+built_delete_op (k ∷ []) = option_map (λ key. (key, ops.Delete)) (read_bytes k)
+built_delete_op _ = None
 
 -- from its word and the tokens behind it
 abbrev pub built_op : List ℕ → List (List ℕ) → Option Op
-built_op w ts = if bytes_eq w (codes "put") then built_put ts
-    else if bytes_eq w (codes "delete") then built_delete ts
+built_op w ts = if bytes_eq w (codes "put") then built_put_op ts
+    else if bytes_eq w (codes "delete") then built_delete_op ts
     else None
 
 abbrev pub if_batch_built : Ops → Option Ops
@@ -95,16 +95,30 @@ built_now (t ∷ []) = option_map lines.Now (read_moment t)
 built_now _ = None
 
 abbrev pub built_begin : List (List ℕ) → Option Line
-built_begin (n ∷ t ∷ []) = both lines.Begin (read_name n) (built_level t)
+built_begin (n ∷ t ∷ []) = both lines.Begin (read_name n) (read_level t)
 built_begin _ = None
 
 abbrev pub built_get : List (List ℕ) → Option Line
-built_get (n ∷ k ∷ []) = both lines.Get (read_name n) (read_bytes k)
-built_get _ = None
+built_get ts = keyed lines.Get ts
+
+abbrev pub built_put : List (List ℕ) → Option Line
+built_put (n ∷ us) = read_name n >>= λ name. read_pair (lines.Put name) us
+built_put _ = None
+
+abbrev pub built_delete : List (List ℕ) → Option Line
+built_delete ts = keyed lines.Delete ts
+
+abbrev pub built_mark : List (List ℕ) → Option Line
+built_mark ts = many_keyed lines.Mark ts
+
+abbrev pub built_unmark : List (List ℕ) → Option Line
+built_unmark ts = many_keyed lines.Unmark ts
+
+abbrev pub built_commit : List (List ℕ) → Option Line
+built_commit ts = named lines.Commit ts
 
 abbrev pub built_rollback : List (List ℕ) → Option Line
-built_rollback (n ∷ []) = option_map lines.Rollback (read_name n)
-built_rollback _ = None
+built_rollback ts = named lines.Rollback ts
 
 abbrev pub built_write : List (List ℕ) → Option Line
 built_write ts = option_map lines.Write (built_ops ts)
@@ -114,13 +128,19 @@ built_alone line [] = Some line
 built_alone line (t ∷ ts) = None
 
 abbrev pub built_as : Keyword → List (List ℕ) → Option Line
-built_as Now ts = built_now ts
 built_as Begin ts = built_begin ts
 built_as Get ts = built_get ts
+built_as Put ts = built_put ts
+built_as Delete ts = built_delete ts
+built_as Mark ts = built_mark ts
+built_as Unmark ts = built_unmark ts
+built_as Commit ts = built_commit ts
 built_as Rollback ts = built_rollback ts
+built_as Now ts = built_now ts
 built_as Write ts = built_write ts
 built_as Freeze ts = built_alone lines.Freeze ts
 built_as Flush ts = built_alone lines.Flush ts
+built_as Journal ts = built_alone lines.Journal ts
 
 abbrev pub built_tokens : List (List ℕ) → Option Line
 built_tokens [] = None

@@ -3,8 +3,6 @@
 --     IsBuiltLine bytes line      the bytes are a line that is built, with this meaning
 --     meaning bytes      the same, computed
 use Rattle.std.specs.Prelude.{ℕ, Bool, true, false, ◌&&◌, List, [], ◌∷◌, Option, IsTrue}
-use Rattle.slate_types.specs.declared.config.IsolationLevel.{IsolationLevel}
-use Rattle.slate_types.specs.declared.config.IsolationLevel.TheVariants.{Snapshot, SerializableSnapshot}
 use Rattle.slate_mem.specs.declared.WriteOp.{WriteOp}
 use Rattle.slate_mem.specs.declared.WriteOp.TheVariants as ops
 use Rattle.slate_mem.specs.Batch.{Ops}
@@ -12,10 +10,6 @@ use Rattle.slate_txn.specs.declared.line.Line.{Line}
 use Rattle.slate_txn.specs.declared.line.Line.TheVariants as lines
 use Rattle.slate_language.specs.Grammar.{IsLine}
 use Rattle.slate_language.specs.Parse.{parse, only_if, ◌>>=◌}
-
-abbrev pub is_built_level : IsolationLevel → Bool
-is_built_level Snapshot = true
-is_built_level SerializableSnapshot = false
 
 abbrev pub is_built_op : WriteOp → Bool
 is_built_op (ops.Put v o) = true
@@ -28,12 +22,18 @@ is_built_batch (o ∷ os) = is_built_op o.1 && is_built_batch os
 
 abbrev pub is_built : Line → Bool
 is_built (lines.Now m) = true
-is_built (lines.Begin name level) = is_built_level level
+is_built (lines.Begin name level) = true
 is_built (lines.Get name k) = true
+is_built (lines.Put name k v ttl) = true
+is_built (lines.Delete name k) = true
+is_built (lines.Mark name ks) = true
+is_built (lines.Unmark name ks) = true
+is_built (lines.Commit name) = true
 is_built (lines.Rollback name) = true
 is_built (lines.Write batch) = is_built_batch batch
 is_built lines.Freeze = true
 is_built lines.Flush = true
+is_built lines.Journal = true
 is_built _ = false
 
 abbrev pub IsBuiltLine : List ℕ → Line → Type 0

@@ -49,8 +49,8 @@ OlderReader = Answers plain (
     ("rollback t" ▹ "ok") ∷
     [])
 
-abbrev pub ConflictCloses : Type 0
-ConflictCloses = Answers plain (
+abbrev pub conflict_closes : List (String × String)
+conflict_closes =
     ("begin t ssi" ▹ "begun t 0") ∷
     ("begin t si" ▹ "refused DuplicateTransaction t") ∷
     ("get t 'a" ▹ "none") ∷
@@ -58,7 +58,10 @@ ConflictCloses = Answers plain (
     ("put t 'b '2" ▹ "ok") ∷
     ("commit t" ▹ "refused TransactionConflict 1") ∷
     ("commit t" ▹ "refused UnknownTransaction t") ∷
-    [])
+    []
+
+abbrev pub ConflictCloses : Type 0
+ConflictCloses = Answers plain conflict_closes
 
 abbrev pub EmptyScanIsARead : Type 0
 EmptyScanIsARead = Answers plain (
@@ -71,8 +74,8 @@ EmptyScanIsARead = Answers plain (
     ("commit t" ▹ "refused TransactionConflict 1") ∷
     [])
 
-abbrev pub UnmarkedWrite : Type 0
-UnmarkedWrite = Answers plain (
+abbrev pub unmarked_write : List (String × String)
+unmarked_write =
     ("begin t ssi" ▹ "begun t 0") ∷
     ("get t 'a" ▹ "none") ∷
     ("begin u si" ▹ "begun u 0") ∷
@@ -82,15 +85,21 @@ UnmarkedWrite = Answers plain (
     ("put t 'b '2" ▹ "ok") ∷
     ("commit t" ▹ "committed 2") ∷
     ("journal" ▹ "journal 2 1 0 0 2 0 1 'b") ∷
-    [])
+    []
 
-abbrev pub MarkedKey : Type 0
-MarkedKey = Answers plain (
+abbrev pub UnmarkedWrite : Type 0
+UnmarkedWrite = Answers plain unmarked_write
+
+abbrev pub marked_key : List (String × String)
+marked_key =
     ("begin t si" ▹ "begun t 0") ∷
     ("mark t 'a" ▹ "ok") ∷
     ("write put 'a '1" ▹ "written 1") ∷
     ("commit t" ▹ "refused TransactionConflict 1") ∷
-    [])
+    []
+
+abbrev pub MarkedKey : Type 0
+MarkedKey = Answers plain marked_key
 
 abbrev pub OneTtlAKey : Type 0
 OneTtlAKey = Answers concatenating (
@@ -295,10 +304,35 @@ RefusalsToday = AnswersToday plain (
     ("get t '" ▹ "none") ∷
     [])
 
+-- Transactions that write.
+abbrev pub TransactionsToday : Type 0
+TransactionsToday = AnswersToday plain conflict_closes × AnswersToday plain unmarked_write × AnswersToday plain marked_key
+
+-- Own operations have no stamps before their commit, which tracks them; a commit of none has no sequence.
+abbrev pub OwnToday : Type 0
+OwnToday = AnswersToday ten_millis (
+    ("now 5" ▹ "now 5") ∷
+    ("begin t ssi" ▹ "begun t 0") ∷
+    ("put t 'a '1 t50" ▹ "ok") ∷
+    ("get t 'a" ▹ "row 'a '1 18446744073709551615 0 -") ∷
+    ("put t 'b '2" ▹ "ok") ∷
+    ("delete t 'b" ▹ "ok") ∷
+    ("get t 'b" ▹ "none") ∷
+    ("put t ' '1" ▹ "refused EmptyKey") ∷
+    ("mark t 'x 'y" ▹ "ok") ∷
+    ("commit t" ▹ "committed 1") ∷
+    ("begin u si" ▹ "begun u 1") ∷
+    ("get u 'a" ▹ "row 'a '1 1 5 55") ∷
+    ("get u 'b" ▹ "none") ∷
+    ("commit u" ▹ "committed -") ∷
+    ("journal" ▹ "journal 1 1 5 2 'a 'b") ∷
+    [])
+
 -- A line that isn't built ends a script, as does one that is none.
 abbrev pub NotBuiltToday : Type 0
-NotBuiltToday = (replies plain (text ("begin t si" ∷ "journal" ∷ "begin u si" ∷ [])) ≡ text ("begun t 0" ∷ []))
-    × (replies plain (text ("begin t ssi" ∷ [])) ≡ [])
+NotBuiltToday = (replies plain (text ("begin t si" ∷ "scan t asc * *" ∷ "begin u si" ∷ [])) ≡ text ("begun t 0" ∷ []))
+    × (replies plain (text ("snapshot s" ∷ [])) ≡ [])
+    × (replies plain (text ("mark t" ∷ [])) ≡ [])
     × (replies plain (text ("write put 'a '1 merge 'a '2" ∷ [])) ≡ [])
     × (replies plain (text ("write put 0x6A '1" ∷ [])) ≡ [])
     × (replies plain (text ("write put 'a '1 t05" ∷ [])) ≡ [])

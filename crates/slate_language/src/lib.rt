@@ -16,7 +16,7 @@ pub mod words;
 
 pub use parse::parse_line;
 pub use parts::Xor;
-pub use reply::{Answer, reply_text};
+pub use reply::{Answer, JournalEntry, reply_text};
 pub use text::show;
 pub use token::{is_word, read_bytes, read_moment, read_name, read_number, split_tokens};
 pub use words::{Settings, parse_words};
@@ -25,5 +25,5 @@ fn crosses<T: Send + Sync>() {}
 
 /// The types of this crate go to other threads, and are shared between them.
 pub fn types_cross_threads() {
-    crosses::<(Answer, Settings, Xor)>();
+    crosses::<(Answer, JournalEntry, Settings, Xor)>();
 }

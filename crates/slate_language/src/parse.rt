@@ -1,27 +1,34 @@
 //! The meaning of a line.
 ghost use Rattle.std.specs.Prelude.{◌≡◌, ◌⊎◌, ◌≤◌, ◌∷◌, [], Ok, Some, None, IfOk, IfSome, IfErr, codes, length, option_map, true, false};
-ghost use Rattle.slate_language.specs.Parse.{tokens_of, grouped, both, read_bytes, read_name, read_ttl};
+ghost use Rattle.slate_language.specs.Parse.{tokens_of, grouped, both, many_keyed, read_all, read_bytes, read_level, read_name, read_pair, read_ttl};
 ghost use Rattle.slate_language.specs.Stage.{meaning};
-ghost use Rattle.slate_language.specs.Built.{texts, built_level, keyword, built_now, built_begin, built_get, built_rollback, built_put, built_delete, built_op, built_ops, built_write, built_alone, built_as, built_tokens, is_op_word, keyword_among};
+ghost use Rattle.slate_language.specs.Built.{texts, keyword, keyword_among, marking, unnamed, built_begin, built_get, built_put, built_delete, built_mark, built_unmark, built_commit, built_rollback, built_now, built_write, built_alone, built_as, built_tokens};
+ghost use Rattle.slate_language.specs.Built.{is_op_word, built_put_op, built_delete_op, built_op, built_ops};
 ghost use Rattle.slate_language.specs.Replies.{is_silent};
 
 use crate::token::{is_word, read_bytes, read_moment, read_name, read_ttl, split_tokens};
 use bytes::Bytes;
 use slate_mem::WriteOp;
-use slate_txn::{Line, OpList};
+use slate_txn::{KeyList, Line, OpList};
 use slate_types::{IsolationLevel, PutOptions, SlateDBError, Ttl};
 use std::alloc::{AllocError, Global};
 
 /// The first word of a line.
 #[derive(Clone, Copy)]
 enum Keyword {
-    Now,
     Begin,
     Get,
+    Put,
+    Delete,
+    Mark,
+    Unmark,
+    Commit,
     Rollback,
+    Now,
     Write,
     Freeze,
     Flush,
+    Journal,
 }
 
 /// What the line means; None for an empty line and a comment. `ScriptSyntax`, with line number 0, comes
@@ -74,12 +81,29 @@ fn read_line(alloc: Global, tokens: &[&[u8]]) -> Result<Option<Line>, AllocError
 fn read_keyword(token: &[u8]) -> Option<Keyword>
     ensures { result ≡ keyword token.now }
 {
-    if is_word(token, b"now") {
-        Some(Keyword::Now)
-    } else if is_word(token, b"begin") {
+    if is_word(token, b"begin") {
         Some(Keyword::Begin)
     } else if is_word(token, b"get") {
         Some(Keyword::Get)
+    } else if is_word(token, b"put") {
+        Some(Keyword::Put)
+    } else if is_word(token, b"delete") {
+        Some(Keyword::Delete)
+    } else {
+        read_marking(token)
+    }
+}
+
+/// The other words of lines that name a transaction, and those of lines that name none.
+fn read_marking(token: &[u8]) -> Option<Keyword>
+    ensures { result ≡ keyword_among marking token.now }
+{
+    if is_word(token, b"mark") {
+        Some(Keyword::Mark)
+    } else if is_word(token, b"unmark") {
+        Some(Keyword::Unmark)
+    } else if is_word(token, b"commit") {
+        Some(Keyword::Commit)
     } else if is_word(token, b"rollback") {
         Some(Keyword::Rollback)
     } else {
@@ -89,14 +113,18 @@ fn read_keyword(token: &[u8]) -> Option<Keyword>
 
 /// The words of lines that name no transaction.
 fn read_unnamed(token: &[u8]) -> Option<Keyword>
-    ensures { result ≡ keyword_among ((codes "write", Keyword.Write) ∷ (codes "freeze", Keyword.Freeze) ∷ (codes "flush", Keyword.Flush) ∷ []) token.now }
+    ensures { result ≡ keyword_among unnamed token.now }
 {
-    if is_word(token, b"write") {
+    if is_word(token, b"now") {
+        Some(Keyword::Now)
+    } else if is_word(token, b"write") {
         Some(Keyword::Write)
     } else if is_word(token, b"freeze") {
         Some(Keyword::Freeze)
     } else if is_word(token, b"flush") {
         Some(Keyword::Flush)
+    } else if is_word(token, b"journal") {
+        Some(Keyword::Journal)
     } else {
         None
     }
@@ -107,13 +135,19 @@ fn read_as(alloc: Global, keyword: Keyword, tokens: &[&[u8]]) -> Result<Option<L
     ensures line { IfOk result (λ o. o ≡ built_as keyword (texts tokens.now)) }
 {
     match keyword {
-        Keyword::Now => Ok(read_now(tokens)),
         Keyword::Begin => read_begin(alloc, tokens),
         Keyword::Get => read_get(alloc, tokens),
+        Keyword::Put => read_put(alloc, tokens),
+        Keyword::Delete => read_delete(alloc, tokens),
+        Keyword::Mark => read_mark(alloc, tokens),
+        Keyword::Unmark => read_unmark(alloc, tokens),
+        Keyword::Commit => read_commit(alloc, tokens),
         Keyword::Rollback => read_rollback(alloc, tokens),
+        Keyword::Now => Ok(read_now(tokens)),
         Keyword::Write => read_write(alloc, tokens),
         Keyword::Freeze => Ok(read_freeze(tokens)),
         Keyword::Flush => Ok(read_flush(tokens)),
+        Keyword::Journal => Ok(read_journal(tokens)),
     }
 }
 
@@ -128,7 +162,7 @@ fn read_now(tokens: &[&[u8]]) -> Option<Line>
     Some(Line::Now { moment })
 }
 
-/// `begin N si`
+/// `begin N si` or `begin N ssi`
 fn read_begin(alloc: Global, tokens: &[&[u8]]) -> Result<Option<Line>, AllocError>
     ensures line { IfOk result (λ o. o ≡ built_begin (texts tokens.now)) }
 {
@@ -155,9 +189,15 @@ fn copy_name(alloc: Global, token: &[u8]) -> Result<Option<Bytes>, AllocError>
 }
 
 fn read_level(token: &[u8]) -> Option<IsolationLevel>
-    ensures { result ≡ built_level token.now }
+    ensures { result ≡ read_level token.now }
 {
-    is_word(token, b"si").then_some(IsolationLevel::Snapshot)
+    if is_word(token, b"si") {
+        Some(IsolationLevel::Snapshot)
+    } else if is_word(token, b"ssi") {
+        Some(IsolationLevel::SerializableSnapshot)
+    } else {
+        None
+    }
 }
 
 /// `get N K`
@@ -190,6 +230,120 @@ fn read_named(alloc: Global, name: &[u8], key: &[u8]) -> Result<Option<(Bytes, B
             drop(key);
             Err(error)
         }
+    }
+}
+
+/// `put N K V`, and maybe a time to live
+fn read_put(alloc: Global, tokens: &[&[u8]]) -> Result<Option<Line>, AllocError>
+    ensures line { IfOk result (λ o. o ≡ built_put (texts tokens.now)) }
+{
+    let Some((name, rest)) = tokens.split_first() else {
+        return Ok(None);
+    };
+    let Some(name) = copy_name(alloc, name)? else {
+        return Ok(None);
+    };
+    match read_pair(alloc, rest) {
+        Ok(Some((key, value, ttl))) => Ok(Some(Line::Put {
+            name,
+            key,
+            value,
+            ttl,
+        })),
+        Ok(None) => {
+            drop(name);
+            Ok(None)
+        }
+        Err(error) => {
+            drop(name);
+            Err(error)
+        }
+    }
+}
+
+/// `delete N K`
+fn read_delete(alloc: Global, tokens: &[&[u8]]) -> Result<Option<Line>, AllocError>
+    ensures line { IfOk result (λ o. o ≡ built_delete (texts tokens.now)) }
+{
+    let [name, key] = tokens else {
+        return Ok(None);
+    };
+    match read_named(alloc, name, key)? {
+        Some((name, key)) => Ok(Some(Line::Delete { name, key })),
+        None => Ok(None),
+    }
+}
+
+/// `mark N K..`
+fn read_mark(alloc: Global, tokens: &[&[u8]]) -> Result<Option<Line>, AllocError>
+    ensures line { IfOk result (λ o. o ≡ built_mark (texts tokens.now)) }
+{
+    match read_many(alloc, tokens)? {
+        Some((name, keys)) => Ok(Some(Line::Mark { name, keys })),
+        None => Ok(None),
+    }
+}
+
+/// `unmark N K..`
+fn read_unmark(alloc: Global, tokens: &[&[u8]]) -> Result<Option<Line>, AllocError>
+    ensures line { IfOk result (λ o. o ≡ built_unmark (texts tokens.now)) }
+{
+    match read_many(alloc, tokens)? {
+        Some((name, keys)) => Ok(Some(Line::Unmark { name, keys })),
+        None => Ok(None),
+    }
+}
+
+/// A name, and one key or more
+fn read_many(alloc: Global, tokens: &[&[u8]]) -> Result<Option<(Bytes, KeyList)>, AllocError>
+    ensures pair { IfOk result (λ o. o ≡ many_keyed (λ n ks. (n, ks)) (texts tokens.now)) }
+{
+    let Some((name, keys)) = tokens.split_first() else {
+        return Ok(None);
+    };
+    if keys.is_empty() {
+        return Ok(None);
+    }
+    let Some(keys) = read_keys(alloc, keys)? else {
+        return Ok(None);
+    };
+    match copy_name(alloc, name) {
+        Ok(Some(name)) => Ok(Some((name, keys))),
+        Ok(None) => {
+            drop(keys);
+            Ok(None)
+        }
+        Err(error) => {
+            drop(keys);
+            Err(error)
+        }
+    }
+}
+
+/// The bytes of each token.
+fn read_keys(alloc: Global, tokens: &[&[u8]]) -> Result<Option<KeyList>, AllocError>
+    ensures keys { IfOk result (λ o. o ≡ read_all read_bytes (texts tokens.now)) }
+{
+    let mut keys = Vec::new(alloc);
+    for token in tokens {
+        let Some(key) = read_bytes(alloc, token)? else {
+            return Ok(None);
+        };
+        keys.push(key)?;
+    }
+    Ok(Some(KeyList::from_vec(keys)))
+}
+
+/// `commit N`
+fn read_commit(alloc: Global, tokens: &[&[u8]]) -> Result<Option<Line>, AllocError>
+    ensures line { IfOk result (λ o. o ≡ built_commit (texts tokens.now)) }
+{
+    let [name] = tokens else {
+        return Ok(None);
+    };
+    match copy_name(alloc, name)? {
+        Some(name) => Ok(Some(Line::Commit { name })),
+        None => Ok(None),
     }
 }
 
@@ -234,6 +388,16 @@ fn read_flush(tokens: &[&[u8]]) -> Option<Line>
 {
     match tokens {
         [] => Some(Line::Flush),
+        _ => None,
+    }
+}
+
+/// `journal`
+fn read_journal(tokens: &[&[u8]]) -> Option<Line>
+    ensures { result ≡ built_alone Line.Journal (texts tokens.now) }
+{
+    match tokens {
+        [] => Some(Line::Journal),
         _ => None,
     }
 }
@@ -283,17 +447,27 @@ fn read_op(
     ensures op { IfOk result (λ o. o ≡ built_op word.now (texts tokens.now)) }
 {
     if is_word(word, b"put") {
-        read_put(alloc, tokens)
+        read_put_op(alloc, tokens)
     } else if is_word(word, b"delete") {
-        read_delete(alloc, tokens)
+        read_delete_op(alloc, tokens)
     } else {
         Ok(None)
     }
 }
 
-/// A key and a value, and maybe a time to live
-fn read_put(alloc: Global, tokens: &[&[u8]]) -> Result<Option<(Bytes, WriteOp)>, AllocError>
-    ensures op { IfOk result (λ o. o ≡ built_put (texts tokens.now)) }
+/// `K V`, and maybe a time to live
+fn read_put_op(alloc: Global, tokens: &[&[u8]]) -> Result<Option<(Bytes, WriteOp)>, AllocError>
+    ensures op { IfOk result (λ o. o ≡ built_put_op (texts tokens.now)) }
+{
+    match read_pair(alloc, tokens)? {
+        Some((key, value, ttl)) => Ok(Some((key, WriteOp::Put(value, PutOptions { ttl })))),
+        None => Ok(None),
+    }
+}
+
+/// A key, a value, and maybe a time to live
+fn read_pair(alloc: Global, tokens: &[&[u8]]) -> Result<Option<(Bytes, Bytes, Ttl)>, AllocError>
+    ensures pair { IfOk result (λ o. o ≡ read_pair (λ k v ttl. (k, v, ttl)) (texts tokens.now)) }
 {
     let [key, value, rest @ ..] = tokens else {
         return Ok(None);
@@ -302,7 +476,7 @@ fn read_put(alloc: Global, tokens: &[&[u8]]) -> Result<Option<(Bytes, WriteOp)>,
         return Ok(None);
     };
     match read_two(alloc, key, value)? {
-        Some((key, value)) => Ok(Some((key, WriteOp::Put(value, PutOptions { ttl })))),
+        Some((key, value)) => Ok(Some((key, value, ttl))),
         None => Ok(None),
     }
 }
@@ -342,9 +516,9 @@ fn read_last_ttl(tokens: &[&[u8]]) -> Option<Ttl>
     }
 }
 
-/// A key
-fn read_delete(alloc: Global, tokens: &[&[u8]]) -> Result<Option<(Bytes, WriteOp)>, AllocError>
-    ensures op { IfOk result (λ o. o ≡ built_delete (texts tokens.now)) }
+/// `K`
+fn read_delete_op(alloc: Global, tokens: &[&[u8]]) -> Result<Option<(Bytes, WriteOp)>, AllocError>
+    ensures op { IfOk result (λ o. o ≡ built_delete_op (texts tokens.now)) }
 {
     let [key] = tokens else {
         return Ok(None);

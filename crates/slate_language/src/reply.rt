@@ -2,14 +2,25 @@
 ghost use Rattle.std.specs.Prelude.{◌≡◌, ◌++◌, ◌∷◌, [], Some, map, IfOk, OnOk};
 ghost use Rattle.std.specs.List.{join_with_byte};
 ghost use Rattle.slate_language.specs.Replies.{reply_line};
-ghost use Rattle.slate_language.specs.Answers.{reply_of, word_text, words_text};
-ghost use Rattle.slate_language.specs.Text.{error_words, stamp, sequence};
-ghost use Rattle.slate_txn.specs.Reply.{Refused};
+ghost use Rattle.slate_language.specs.Answers.{entry_commit, reply_of, word_text, words_text};
+ghost use Rattle.slate_language.specs.Text.{commit_words, error_words, stamp, sequence};
+ghost use Rattle.slate_txn.specs.Reply.{JournalIs, Refused};
 
 use crate::text::shown;
 use bytes::Bytes;
+use slate_txn::KeyList;
 use slate_types::{KeyValue, SlateDBError};
 use std::alloc::{AllocError, Global};
+
+/// A commit, as a journal is shown.
+#[derive(Drop)]
+pub struct JournalEntry {
+    pub seq: u64,
+    /// The moment, in milliseconds.
+    pub now: i64,
+    /// The tracked keys, rising.
+    pub tracked: KeyList,
+}
 
 /// What a line is answered.
 #[derive(Drop)]
@@ -19,9 +30,12 @@ pub enum Answer {
     NowIs(i64),
     Begun { name: Bytes, start: u64 },
     Found(Option<KeyValue>),
+    Committed(Option<u64>),
     Written(Option<u64>),
     Frozen(u64),
     Flushed(u64),
+    /// The commits, oldest first.
+    Journal(Vec<JournalEntry>),
 }
 
 /// A word of a reply.
@@ -62,9 +76,11 @@ pub fn reply_text(alloc: Global, answer: &Answer) -> Result<Vec<u8>, AllocError>
         ),
         Answer::Found(None) => line_of(alloc, &[Word::Text(b"none")]),
         Answer::Found(Some(row)) => row_text(alloc, row),
+        Answer::Committed(seq) => line_of(alloc, &[Word::Text(b"committed"), sequence(*seq)]),
         Answer::Written(seq) => line_of(alloc, &[Word::Text(b"written"), sequence(*seq)]),
         Answer::Frozen(seq) => line_of(alloc, &[Word::Text(b"frozen"), Word::Number(*seq)]),
         Answer::Flushed(seq) => line_of(alloc, &[Word::Text(b"flushed"), Word::Number(*seq)]),
+        Answer::Journal(commits) => journal_text(alloc, commits.as_slice()),
     }
 }
 
@@ -221,6 +237,34 @@ fn row_text(alloc: Global, row: &KeyValue) -> Result<Vec<u8>, AllocError>
             stamp(row.expire_ts),
         ],
     )
+}
+
+fn journal_text(alloc: Global, commits: &[JournalEntry]) -> Result<Vec<u8>, AllocError>
+    ensures text { IfOk result (λ v. v.items ≡ reply_line (JournalIs (map entry_commit commits.now))) }
+{
+    let mut words = Vec::new(alloc);
+    words.push(Word::Text(b"journal"))?;
+    words.push(Word::Number(commits.len() as u64))?;
+    for commit in commits {
+        push_commit(&mut words, commit)?;
+    }
+    let text = line_of(alloc, words.as_slice());
+    drop(words);
+    text
+}
+
+/// Adds the words of a commit: its sequence, its moment, how many keys it tracks, and these.
+fn push_commit<'a>(words: &mut Vec<Word<'a>>, commit: &'a JournalEntry) -> Result<(), AllocError>
+    ensures words { OnOk result (map word_text words.new.items ≡ map word_text words.old.items ++ commit_words (entry_commit commit.entry.now)) }
+{
+    let keys = commit.tracked.as_slice();
+    words.push(Word::Number(commit.seq))?;
+    words.push(Word::Moment(commit.now))?;
+    words.push(Word::Number(keys.len() as u64))?;
+    for key in keys {
+        words.push(Word::Shown(key.as_slice()))?;
+    }
+    Ok(())
 }
 
 /// The moment, or `-` for none.

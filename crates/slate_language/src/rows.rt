@@ -26,6 +26,8 @@ ghost use Rattle.slate_language.specs.WorkedRows.{
   StoringToday,
   RefusalsToday,
   LongKeysToday,
+  TransactionsToday,
+  OwnToday,
   NotBuiltToday,
 };
 
@@ -83,6 +85,10 @@ pub fn worked_rows()
     ensures refusals_today { RefusalsToday }
     // Long keys, by what is built today.
     ensures long_keys_today { LongKeysToday }
+    // Transactions that write, by what is built today.
+    ensures transactions_today { TransactionsToday }
+    // Own operations before and after their commit, by what is built today.
+    ensures own_today { OwnToday }
     // What is not built ends a script.
     ensures not_built_today { NotBuiltToday }
 {}

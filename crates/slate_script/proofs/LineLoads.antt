@@ -85,9 +85,15 @@ of-line ts (lines.Snapshot name) is = omega arith
 of-line ts (lines.Get name k) is = omega arith
 of-line ts (lines.Scan name order start end sts) is = omega arith
 of-line ts (lines.Prefix name order p start end sts) is = omega arith
-of-line ts (lines.Put name k v ttl) is = omega arith
+of-line ts (lines.Put name k v ttl) (us, is-name, is-pair, is) =
+    let p : 1 + (length k + length v) ≤ letters us = pair us k v ttl is-pair in
+    let n : letters ts ≡ length (codes "put") + (length name + letters us) = ap letters is in
+    omega (arith, p, n)
 of-line ts (lines.Merge name k v ttl) is = omega arith
-of-line ts (lines.Delete name k) is = omega arith
+of-line ts (lines.Delete name k) (t, is-name, key, is) =
+    let a : length k + 1 ≤ length t = token t k key in
+    let n : letters ts ≡ length (codes "delete") + (length name + (length t + 0)) = ap letters is in
+    omega (arith, a, n)
 of-line ts (lines.Mark name ks) is = omega arith
 of-line ts (lines.Unmark name ks) is = omega arith
 of-line ts (lines.Commit name) is = omega arith

@@ -12,8 +12,8 @@ use Rattle.slate_txn.specs.State.{Rules, opening}
 use Rattle.slate_language.specs.Stage.{meaning}
 use Rattle.slate_language.specs.Replies.{after_lines, replies_from, replies_to, replies, IsWellFormed}
 use Rattle.slate_db.specs.Parts.{IsTableError}
-use Rattle.slate_db.specs.Load.{load, weight}
-use Rattle.slate_script.specs.Session.{SessionModel, IsLimit, IsFull}
+use Rattle.slate_db.specs.Load.{weight}
+use Rattle.slate_script.specs.Session.{SessionModel, IsLimit, IsFull, held_load}
 use Rattle.slate_script.specs.Run.{is_line, first_other, is_too_long, lines_taken, error_of, script_error, IsPartError, IsPartCause, IsOutside, IsScriptError, AreLines, HasAnswered, HasBegun, HasAnsweredAll}
 use Rattle.slate_script.proofs.Answered.{lines-more, replies-append, replies-stop, other-none, other-first, lines-built}
 use Rattle.slate_script.proofs.Taken.{IsCut, IsAt, Took, taken-first, lines-begin, ends, first-empty, too-long, lines-no_error, formed-no_error}
@@ -87,11 +87,11 @@ only-memory e (inr part) none = absurd (none part)
 
 -- ---- no limit is reached
 
-not-full : (e : SessionModel) (number given : ℕ) → weight e.core ≤ number + number → load e.core ≤ given → number ≤ given → given ≤ script_limit → IsFull e → ⊥
+not-full : (e : SessionModel) (number given : ℕ) → weight e.core ≤ number + number → held_load e ≤ given → number ≤ given → given ≤ script_limit → IsFull e → ⊥
 not-full e number given weighs loads counted within (inl past) = omega (arith, past, weighs, counted, within)
 not-full e number given weighs loads counted within (inr past) = omega (arith, past, loads, within)
 
-pub line-cause : {A B C D : Type 0} (e : SessionModel) (number given : ℕ) (error : SlateDBError) → weight e.core ≤ number + number → load e.core ≤ given → number ≤ given → given ≤ script_limit → A ⊎ B ⊎ C ⊎ D ⊎ IsLimit e error → A ⊎ B ⊎ C ⊎ D
+pub line-cause : {A B C D : Type 0} (e : SessionModel) (number given : ℕ) (error : SlateDBError) → weight e.core ≤ number + number → held_load e ≤ given → number ≤ given → given ≤ script_limit → A ⊎ B ⊎ C ⊎ D ⊎ IsLimit e error → A ⊎ B ⊎ C ⊎ D
 line-cause e number given error weighs loads counted within (inl a) = inl a
 line-cause e number given error weighs loads counted within (inr (inl b)) = inr (inl b)
 line-cause e number given error weighs loads counted within (inr (inr (inl x))) = inr (inr (inl x))

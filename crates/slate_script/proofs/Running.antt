@@ -15,7 +15,8 @@ use Rattle.slate_db.specs.Meaning.{Meaning, rules_of}
 use Rattle.slate_db.specs.Parts.{IsTableError}
 use Rattle.slate_db.specs.Sound.{IsKept}
 use Rattle.slate_language.specs.declared.reply.Answer.{Answer}
-use Rattle.slate_language.specs.Answers.{reply_of}
+use Rattle.slate_language.specs.Answers.{as_shown, reply_of}
+use Rattle.slate_language.proofs.ShownLaws.{shown-line}
 use Rattle.slate_language.specs.Replies.{is_silent, onto_meanings, reply_line, after_lines, replies_from}
 use Rattle.slate_script.specs.Run.{run_rules, Premises, is_line}
 use Rattle.slate_script.specs.Session.{SessionModel, StandsFor, AnswersAs, HasTables, IsSettled, IsRunning, has_moment}
@@ -60,7 +61,7 @@ line-stands {r = r} {new = new} l line a h loud is steps s stands =
 pub line-reply : {m : Meaning} {r : Rules} {parts : Meaning} {objects : Option Objects} {e new : SessionModel} (l : List ℕ) (line : Line) (a : Answer) → IsRunning m r parts objects e → is_silent l ≡ false → meaning l ≡ Some line →
     (IsSettled parts objects e → AnswersAs parts e new line (Ok a)) → (s : State) → StandsFor e s → reply_line (reply_of a) ≡ replies_from meaning r s (l ∷ [])
 line-reply {r = r} l line a h loud is steps s stands =
-    ap reply_line ((steps (is-settled h) s stands).1 ∙ ap (λ x. (step x s line).1) (its-rules h)) ∙ sym (one-reply r s l line loud is)
+    ap reply_line ((steps (is-settled h) s stands).1 ∙ ap (λ x. as_shown (step x s line).1) (its-rules h)) ∙ shown-line (step r s line).1 ∙ sym (one-reply r s l line loud is)
 
 -- ---- the beginning
 

@@ -1,13 +1,19 @@
 -- What a call of the core leaves, where it installs nothing.
 use Rattle.std.proofs.Common.{◌≡◌, ℕ, ◌+◌, ◌≤◌, inl, inr, List, [], ◌∷◌, ◌++◌, length, Option, Some, None, Result, Ok, Err, OnOk, ℤ, refl, sym, ap, ◌∙◌, subst, arith}
 use Rattle.std.proofs.lemmas.List.{length-append}
-use Rattle.slate_mem.specs.Batch.{Ops}
+use Rattle.std.specs.Prelude.{OnErr}
+use Rattle.slate_mem.specs.Batch.{Ops, kept_ops}
 use Rattle.slate_txn.specs.declared.event.Event.{Event}
 use Rattle.slate_txn.specs.declared.event.Event.TheVariants as events
+use Rattle.slate_txn.specs.Conflict.{tracked_writes}
+use Rattle.slate_txn.specs.Named.{without}
+use Rattle.slate_txn.specs.State.{Tx}
+use Rattle.slate_db.specs.Committed.{after_commit, IsCommitted, IsEnded}
 use Rattle.slate_db.specs.Frozen.{IsFrozen}
 use Rattle.slate_db.specs.Installs.{runs_in, runs_of}
 use Rattle.slate_db.specs.Meaning.{Meaning}
-use Rattle.slate_db.specs.Model.{CoreModel, IsSame}
+use Rattle.slate_db.specs.Model.{CoreModel, IsSame, Rows}
+use Rattle.slate_db.specs.Operated.{operated}
 use Rattle.slate_db.specs.Sound.{IsKept}
 use Rattle.slate_db.specs.Written.{IsWritten}
 use Rattle.slate_types.specs.declared.error.SlateDBError.{SlateDBError}
@@ -50,6 +56,49 @@ leaves-frozen old new (inr is) = leaves-one old new events.Freeze (ap (λ (c : C
 pub leaves-written : (old new : CoreModel) (n : Option ℕ) (now : ℤ) (ops : Ops) → IsWritten old new n now ops → Leaves old new
 leaves-written old new None now ops same = leaves-all old new (ap (λ (c : CoreModel). c.settings) same.1) (ap (λ (c : CoreModel). c.events) same.1)
 leaves-written old new (Some n) now ops is = leaves-one old new (events.Write n now ops) (ap (λ (c : CoreModel). c.settings) is) (ap (λ (c : CoreModel). c.events) is) refl
+
+-- an operation that ran in a transaction
+pub leaves-ran : {T : Type 0} (ran : Result T SlateDBError) (old new : CoreModel) (id : List ℕ) (f : Tx → Tx) → OnOk ran (new ≡ operated old id f) → OnErr ran (new ≡ old) → Leaves old new
+leaves-ran (Ok t) old new id f is same = leaves-all old new (ap (λ (c : CoreModel). c.settings) is) (ap (λ (c : CoreModel). c.events) is)
+leaves-ran (Err x) old new id f is same = leaves-all old new (ap (λ (c : CoreModel). c.settings) same) (ap (λ (c : CoreModel). c.events) same)
+
+-- ---- a commit, refused or not
+
+-- one event, which installs nothing, and one transaction less
+pub record Closes (old new : CoreModel) (id : List ℕ) : Type 0 where
+  pub settings : new.settings ≡ old.settings
+  pub event : Event
+  pub events : new.events ≡ old.events ++ (event ∷ [])
+  pub none : tables_in event ≡ []
+  pub txns : new.state.txns ≡ without id old.state.txns
+  pub flushed : new.state.flushed ≡ old.state.flushed
+
+pub closes-ended : (old new : CoreModel) (id : List ℕ) → IsEnded old new id → Closes old new id
+closes-ended old new id is = record {
+  settings = ap (λ (c : CoreModel). c.settings) is;
+  event = events.End id;
+  events = ap (λ (c : CoreModel). c.events) is;
+  none = refl;
+  txns = ap (λ (c : CoreModel). c.state.txns) is;
+  flushed = ap (λ (c : CoreModel). c.state.flushed) is;
+}
+
+closes-as : (old new : CoreModel) (id : List ℕ) (n : Option ℕ) (now : ℤ) (t : Tx) (rows : Rows) → new ≡ after_commit old id n now t rows new.spare → Closes old new id
+closes-as old new id n now t rows is = record {
+  settings = ap (λ (c : CoreModel). c.settings) is;
+  event = events.Commit id n now (kept_ops t.ops) (tracked_writes t) t.transcript;
+  events = ap (λ (c : CoreModel). c.events) is;
+  none = refl;
+  txns = ap (λ (c : CoreModel). c.state.txns) is;
+  flushed = ap (λ (c : CoreModel). c.state.flushed) is;
+}
+
+pub closes-committed : (old new : CoreModel) (id : List ℕ) (n : Option ℕ) (now : ℤ) (t : Tx) → IsCommitted old new id n now t → Closes old new id
+closes-committed old new id None now t (none, is) = closes-as old new id None now t old.active is
+closes-committed old new id (Some n) now t is = closes-as old new id (Some n) now t new.active is
+
+pub leaves-closed : (old new : CoreModel) (id : List ℕ) → Closes old new id → Leaves old new
+leaves-closed old new id h = leaves-one old new h.event h.settings h.events h.none
 
 -- a write changes the commits of the state alone
 pub written-txns : (old new : CoreModel) (n : Option ℕ) (now : ℤ) (ops : Ops) → IsWritten old new n now ops → new.state.txns ≡ old.state.txns

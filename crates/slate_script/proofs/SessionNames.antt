@@ -1,9 +1,10 @@
 -- Names with their ids, and what is open under them.
-use Rattle.std.proofs.Common.{◌≡◌, ℕ, Bool, true, false, cond, ◌||◌, List, Option, Some, None, option_map, refl, sym, ap, ◌∙◌, subst}
-use Rattle.std.specs.Prelude.{IsSome}
+use Rattle.std.proofs.Common.{◌≡◌, ℕ, Bool, true, false, cond, ◌||◌, List, Option, Some, None, option_map, Result, Ok, Err, OnOk, refl, sym, ap, ◌∙◌, subst}
+use Rattle.std.specs.Prelude.{IsSome, OnErr}
 use Rattle.std.specs.Str.{bytes_eq}
 use Rattle.std.proofs.lemmas.Bool.{false_from_ne_true}
 use Rattle.slate_types.specs.declared.config.IsolationLevel.{IsolationLevel}
+use Rattle.slate_types.specs.declared.error.SlateDBError.{SlateDBError}
 use Rattle.slate_types.specs.declared.error.SlateDBError.TheVariants as errors
 use Rattle.slate_txn.specs.declared.line.Line.TheVariants as lines
 use Rattle.slate_txn.specs.Named.{find_named, without, set_named, update_named}
@@ -11,6 +12,8 @@ use Rattle.slate_txn.specs.State.{Rules, Tx, State, begun, last, is_open}
 use Rattle.slate_txn.specs.Step.{step, closed}
 use Rattle.slate_txn.specs.Reply as replies
 use Rattle.slate_txn.specs.Reply.{Reply}
+use Rattle.slate_db.specs.Model.{CoreModel}
+use Rattle.slate_db.specs.Operated.{operated}
 use Rattle.slate_script.specs.Session.{AreNames}
 use Rattle.slate_script.proofs.NamesLaws.{bytes_eq-is, bytes_eq-refl, none-found, find_named-set, find_named-updated, find_named-without, once-set, once-update, once-without}
 
@@ -129,10 +132,10 @@ names-closed name id names fewer txns h is updates = record {
     apart p q i false true one other = cc
     apart p q i false false one other = h.apart p q i one other
 
--- ---- a read
+-- ---- a change of a transaction
 
-pub names-noted : (id : List ℕ) (f : Tx → Tx) (names : List (List ℕ × List ℕ)) (txns : List (List ℕ × Tx)) → AreNames names txns → AreNames names (update_named id f txns)
-names-noted id f names txns h = record {
+pub names-updated : (id : List ℕ) (f : Tx → Tx) (names : List (List ℕ × List ℕ)) (txns : List (List ℕ × Tx)) → AreNames names txns → AreNames names (update_named id f txns)
+names-updated id f names txns h = record {
   opened = λ q i is. subst IsSome (sym (find_named-updated id i f txns)) (by (bytes_eq id i) (find_named i txns) (h.opened q i is));
   apart = h.apart;
   once = once-update id f txns h.once;
@@ -142,3 +145,8 @@ names-noted id f names txns h = record {
     by true None some = some
     by true (Some t) some = refl
     by false o some = some
+
+pub names-ran : {T : Type 0} (ran : Result T SlateDBError) (old new : CoreModel) (id : List ℕ) (f : Tx → Tx) (names : List (List ℕ × List ℕ)) → OnOk ran (new ≡ operated old id f) → OnErr ran (new ≡ old) →
+    AreNames names old.state.txns → AreNames names new.state.txns
+names-ran (Ok t) old new id f names is same h = subst (λ (c : CoreModel). AreNames names c.state.txns) (sym is) (names-updated id f names old.state.txns h)
+names-ran (Err x) old new id f names is same h = subst (λ (c : CoreModel). AreNames names c.state.txns) (sym same) h

@@ -1,5 +1,5 @@
 -- What a call of the core says of the parts, in the words of a run.
-use Rattle.std.proofs.Common.{◌≡◌, ℕ, List, [], ◌∷◌, suc, ◌≤◌, ◌<◌, ◌+◌, ◌⊎◌, inl, inr, Option, Some, None, Result, Ok, Err, refl, sym, ◌∙◌, subst, arith}
+use Rattle.std.proofs.Common.{◌≡◌, ℕ, List, [], ◌∷◌, suc, ◌≤◌, ◌<◌, ◌+◌, ◌-◌, ◌^◌, ◌⊎◌, inl, inr, Option, Some, None, Result, Ok, Err, refl, sym, ◌∙◌, subst, arith}
 use Rattle.std.proofs.Math.Nat.{lt_of_not-le}
 use Rattle.slate_types.specs.declared.error.SlateDBError.{SlateDBError}
 use Rattle.slate_types.specs.declared.error.SlateDBError.TheVariants.{LimitReached}
@@ -15,7 +15,7 @@ use Rattle.slate_db.proofs.Shown.{refused_kind}
 use Rattle.slate_script.proofs.Running.{not-damage}
 use Rattle.slate_db.specs.Parts.{IsTableError}
 use Rattle.slate_db.specs.Log.{LIMIT}
-use Rattle.slate_script.specs.Session.{SessionModel, IsLimit, IsSettled, IsSettledIn}
+use Rattle.slate_script.specs.Session.{SessionModel, IsLimit, IsSettled, IsSettledIn, held_load}
 
 two-at-most : (active : Rows) (layers : List Rows) → events_of_flush active layers ≤ 2
 two-at-most [] [] = omega arith
@@ -25,7 +25,7 @@ two-at-most (r ∷ rs) layers = omega arith
 pub flush-cause : (before after : Reach) (layout : Layout) (session : SessionModel) (e : SlateDBError) → IsFlushError layout before after session.core e → IsFault before after e ⊎ IsLimit session e
 flush-cause before after layout session e (inl fault) = inl fault
 flush-cause before after layout session e (inr (inl (is, more))) = inr (LIMIT, is, inl (omega (arith, more, two-at-most session.core.active session.core.frozen)))
-flush-cause before after layout session e (inr (inr (rows, folded, order, large, much))) = inr (max_blocks, large.large.is, inr much)
+flush-cause before after layout session e (inr (inr (rows, folded, order, large, much))) = let full : 2 ^ 32 - 1 < held_load session = omega (arith, much) in inr (max_blocks, large.large.is, inr full)
 
 -- what isn't refused has room
 pub has-room : (n events txns more : ℕ) (r : Result ℕ SlateDBError) (seq : ℕ) (e : SlateDBError) → r ≡ Ok seq → (n < events + txns + more → r ≡ Err e) → events ≤ n

@@ -33,6 +33,7 @@ use Rattle.slate_db.specs.Log.{LIMIT}
 use Rattle.slate_language.specs.declared.reply.Answer.{Answer}
 use Rattle.slate_language.specs.declared.reply.Answer.TheVariants as answers
 use Rattle.slate_language.specs.Answers.{reply_of}
+use Rattle.slate_language.proofs.ShownLaws.{shown-of}
 use Rattle.slate_language.specs.Grammar.{is_moment}
 use Rattle.slate_script.specs.Session.{SessionModel, tx_under, AreNames, StandsFor, IsStep, AnswersAs, IsRefusal}
 use Rattle.slate_script.proofs.NamesLaws.{bytes_eq-is, bytes_eq-refl, find_named-set, find_named-updated, find_named-without, once-set, once-update, once-without}
@@ -57,7 +58,7 @@ pub record IsNamed {X : Type 0} (o : Option X) : Type 0 where
   pub value : X
   pub is : o ≡ Some value
 
-named-of : {X : Type 0} (o : Option X) → IsSome o → IsNamed o
+pub named-of : {X : Type 0} (o : Option X) → IsSome o → IsNamed o
 named-of None h = cc
 named-of (Some x) h = record { value = x; is = refl }
 
@@ -150,7 +151,7 @@ rollback-refused m e name none s h =
     (sym (is-shut e s name h none)) (h, refl)
 
 -- what is under the other names, where one name's id is taken away or changed
-others-kept : (f : List (List ℕ × Tx) → List (List ℕ × Tx)) (name id : List ℕ) (names : List (List ℕ × List ℕ)) (txns : List (List ℕ × Tx)) → AreNames names txns → find_named name names ≡ Some id →
+pub others-kept : (f : List (List ℕ × Tx) → List (List ℕ × Tx)) (name id : List ℕ) (names : List (List ℕ × List ℕ)) (txns : List (List ℕ × Tx)) → AreNames names txns → find_named name names ≡ Some id →
     ((i : List ℕ) → bytes_eq id i ≡ false → find_named i (f txns) ≡ find_named i txns) → (q : List ℕ) → bytes_eq name q ≡ false → tx_under txns (find_named q names) ≡ tx_under (f txns) (find_named q names)
 others-kept f name id names txns h is keeps q differs = by (find_named q names) refl
   where
@@ -196,29 +197,30 @@ get-refused m e name k none s h =
 abbrev pub with_steps : List TranscriptStep → Tx → Tx
 with_steps ts t = record t { transcript = t.transcript ++ ts }
 
-stands-noted : (e : SessionModel) (s : State) (core : CoreModel) (name id : List ℕ) (ts : List TranscriptStep) → StandsFor e s → AreNames e.names e.core.state.txns → find_named name e.names ≡ Some id →
-    core.state ≡ noted e.core.state id ts → StandsFor (record e { core = core }) (noted s name ts)
-stands-noted e s core name id ts h names known is = record {
+-- the name's transaction is changed
+pub stands-updated : (e : SessionModel) (s : State) (core : CoreModel) (name id : List ℕ) (f : Tx → Tx) → StandsFor e s → AreNames e.names e.core.state.txns → find_named name e.names ≡ Some id →
+    core.state ≡ record e.core.state { txns = update_named id f e.core.state.txns } → StandsFor (record e { core = core }) (record s { txns = update_named name f s.txns })
+stands-updated e s core name id f h names known is = record {
   commits = h.commits ∙ ap (λ (c : State). c.commits) (sym is);
-  txns = λ q. find_named-updated name q (with_steps ts) s.txns ∙ found q (bytes_eq name q) refl ∙ ap (λ (c : State). tx_under c.txns (find_named q e.names)) (sym is);
-  once = once-update name (with_steps ts) s.txns h.once;
+  txns = λ q. find_named-updated name q f s.txns ∙ found q (bytes_eq name q) refl ∙ ap (λ (c : State). tx_under c.txns (find_named q e.names)) (sym is);
+  once = once-update name f s.txns h.once;
   snapshots = h.snapshots;
   moment = h.moment;
   flushed = h.flushed ∙ ap (λ (c : State). c.flushed) (sym is);
 }
   where
-    keeps : (i : List ℕ) → bytes_eq id i ≡ false → find_named i (update_named id (with_steps ts) e.core.state.txns) ≡ find_named i e.core.state.txns
-    keeps i differs = find_named-updated id i (with_steps ts) e.core.state.txns ∙ ap (λ b. cond b (option_map (with_steps ts) (find_named i e.core.state.txns)) (find_named i e.core.state.txns)) differs
+    keeps : (i : List ℕ) → bytes_eq id i ≡ false → find_named i (update_named id f e.core.state.txns) ≡ find_named i e.core.state.txns
+    keeps i differs = find_named-updated id i f e.core.state.txns ∙ ap (λ b. cond b (option_map f (find_named i e.core.state.txns)) (find_named i e.core.state.txns)) differs
 
     here : (q : List ℕ) → bytes_eq name q ≡ true → find_named q e.names ≡ Some id
     here q same = ap (λ p. find_named p e.names) (sym (bytes_eq-is name q same)) ∙ known
 
-    found : (q : List ℕ) (b : Bool) → bytes_eq name q ≡ b → cond b (option_map (with_steps ts) (find_named q s.txns)) (find_named q s.txns) ≡ tx_under (update_named id (with_steps ts) e.core.state.txns) (find_named q e.names)
+    found : (q : List ℕ) (b : Bool) → bytes_eq name q ≡ b → cond b (option_map f (find_named q s.txns)) (find_named q s.txns) ≡ tx_under (update_named id f e.core.state.txns) (find_named q e.names)
     found q true same =
-        ap (option_map (with_steps ts)) (h.txns q ∙ ap (tx_under e.core.state.txns) (here q same))
-        ∙ sym (ap (tx_under (update_named id (with_steps ts) e.core.state.txns)) (here q same) ∙ find_named-updated id id (with_steps ts) e.core.state.txns
-        ∙ ap (λ b. cond b (option_map (with_steps ts) (find_named id e.core.state.txns)) (find_named id e.core.state.txns)) (bytes_eq-refl id))
-    found q false differs = h.txns q ∙ others-kept (update_named id (with_steps ts)) name id e.names e.core.state.txns names known keeps q differs
+        ap (option_map f) (h.txns q ∙ ap (tx_under e.core.state.txns) (here q same))
+        ∙ sym (ap (tx_under (update_named id f e.core.state.txns)) (here q same) ∙ find_named-updated id id f e.core.state.txns
+        ∙ ap (λ b. cond b (option_map f (find_named id e.core.state.txns)) (find_named id e.core.state.txns)) (bytes_eq-refl id))
+    found q false differs = h.txns q ∙ others-kept (update_named id f) name id e.names e.core.state.txns names known keeps q differs
 
 found-same : (a b : Option KeyValue) → replies.Found a ≡ replies.Found b → a ≡ b
 found-same a b h = cc
@@ -229,7 +231,7 @@ pub get-found : (m : Meaning) (e : SessionModel) (core : CoreModel) (name id k :
     AnswersAs m e (record e { core = core }) (lines.Get name k) (Ok (answers.Found row))
 get-found m e core name id k row names known stepped s h =
     subst (λ o. IsStep after (get r s name k (reader_or_snapshot o (find_named name s.snapshots))) (answers.Found row)) (sym tx-is)
-    (stands-noted e s core name id _ h names known (sym (ap (λ p. p.0) core-step) ∙ noted-same), ap replies.Found row-is)
+    (stands-updated e s core name id (with_steps (steps.Get k (option_map key_value (seen r s.commits tx.value.begin tx.value.ops k)) ∷ [])) h names known (sym (ap (λ p. p.0) core-step) ∙ noted-same), ap replies.Found row-is)
   where
     r : Rules
     r = rules_of e.core.settings m
@@ -270,7 +272,7 @@ write-frame r s txns snapshots flushed ops = by (write_refusal r s ops) ops
     by None [] = refl
     by None (o ∷ os) = refl
 
-stands-is : (e : SessionModel) (s : State) → StandsFor e s → record (at e.now e.core.state) { txns = s.txns; snapshots = []; flushed = s.flushed } ≡ s
+pub stands-is : (e : SessionModel) (s : State) → StandsFor e s → record (at e.now e.core.state) { txns = s.txns; snapshots = []; flushed = s.flushed } ≡ s
 stands-is e s h = let cs = sym h.commits in let ns = sym h.moment in let ss = sym h.snapshots in λ i. record { commits = cs i; txns = s.txns; snapshots = ss i; now = ns i; flushed = s.flushed }
 
 -- the core's step of a write is the model's
@@ -286,7 +288,7 @@ write-as m e core ops a txns flushed stepped s h =
         moment = refl;
         flushed = h.flushed ∙ sym flushed;
       },
-      refl,
+      shown-of a,
     )
   where
     r : Rules
@@ -405,7 +407,7 @@ value-refusals false n e h = cc
 no-refusals : (e : SlateDBError) → first_refusal [] ≡ Some e → IsRefusal e
 no-refusals e h = cc
 
-op-refusals : (k : List ℕ) (op : WriteOp) (e : SlateDBError) → op_refusal k op ≡ Some e → IsRefusal e
+pub op-refusals : (k : List ℕ) (op : WriteOp) (e : SlateDBError) → op_refusal k op ≡ Some e → IsRefusal e
 op-refusals k (Put v o) e h = key-refusals (length k == 0) (nat_lt 65535 (length k)) (length k) _ e (value-refusals (nat_lt (2 ^ 32 - 1) (length v)) (length v) e) h
 op-refusals k Delete e h = key-refusals (length k == 0) (nat_lt 65535 (length k)) (length k) [] e (no-refusals e) h
 op-refusals k (Merge v o) e h = key-refusals (length k == 0) (nat_lt 65535 (length k)) (length k) _ e (value-refusals (nat_lt (2 ^ 32 - 1) (length v)) (length v) e) h

@@ -3,7 +3,7 @@
 --     tx_of e name      the transaction that a name stands for
 --     AreNames names txns      each name stands for an open transaction, and no two for the same
 --     StandsFor e s      the session answers as the model does in the state s
---     IsStep e stepped a      an answer is the model's, and so is what the session becomes
+--     IsStep e stepped a      an answer is the model's, as it is shown, and what the session becomes is the model's too
 --     AnswersAs m before after line result      so is the answer to the line, for what the parts mean
 --     HasTables objects es      the store holds the journal's tables, and no two lie at one path
 --     IsTableUpTo m layout n o      an object is a table that a flush put, and there were no more flushes than these
@@ -11,27 +11,30 @@
 --     IsSettled m objects e      the parts are lawful, what is kept of the rows holds, and so does this
 --     IsSettledIn reach e      the same of what a call reaches
 --     IsRunning m r parts objects e      the same for rules of a run, whose parts mean what they did
---     line_load line, Grows line old new      what a line adds to memory at most; so do its events and its rows
+--     own_load txns, held_load e      what the own operations of open transactions hold; the same with the rows in memory
+--     line_load line, Grows line old new      what a line adds to memory at most; so do its events, its rows and its own operations
 --     IsFull e, IsLimit e error      the journal or memory has passed what no script fills; a limit was reached, so one of them has
---     IsRefusal error      a write is answered so
+--     IsRefusal error      a line that writes is answered so
+--     IsDone ran result      an operation that ran is answered by its end, and a refused one by its refusal
 --     has_moment line      a line that sets the moment sets one
 --     StoresNothing old new      what a line keeps that stores nothing
-use Rattle.std.specs.Prelude.{◌≡◌, ℕ, ◌+◌, ◌-◌, ◌^◌, ◌<◌, ◌⊎◌, Bool, true, ◌≤◌, List, [], flat_map, length, Option, Some, None, Result, IfOk, IsSome, ℤ}
+use Rattle.std.specs.Prelude.{◌≡◌, ℕ, ◌+◌, ◌-◌, ◌^◌, ◌<◌, ◌⊎◌, Bool, true, ◌≤◌, List, [], flat_map, length, sum_by, Option, Some, None, Result, Ok, IfOk, IfErr, OnOk, IsSome, ℤ}
 use Rattle.std.specs.List.{AllByRecursion}
 use Rattle.slate_types.specs.declared.error.SlateDBError.{SlateDBError}
-use Rattle.slate_types.specs.declared.error.SlateDBError.TheVariants.{EmptyKey, KeyTooLong, ValueTooLong, SequenceExhausted, LimitReached}
+use Rattle.slate_types.specs.declared.error.SlateDBError.TheVariants.{TransactionConflict, EmptyKey, KeyTooLong, ValueTooLong, SequenceExhausted, LimitReached}
 use Rattle.slate_types.specs.declared.types.Ulid.{Ulid}
 use Rattle.slate_types.specs.Outside.{Objects, Reach}
 use Rattle.slate_table.specs.Stored.{HoldRows, by_seq}
+use Rattle.slate_mem.specs.declared.WriteOp.TheVariants as ops
 use Rattle.slate_txn.specs.declared.event.Event.{Event}
 use Rattle.slate_txn.specs.declared.line.Line.{Line}
 use Rattle.slate_txn.specs.declared.line.Line.TheVariants as lines
 use Rattle.slate_txn.specs.Named.{find_named, StandOnce}
-use Rattle.slate_txn.specs.Reply.{Reply}
+use Rattle.slate_txn.specs.Reply.{Reply, Refused}
 use Rattle.slate_txn.specs.State.{Rules, Tx, State}
 use Rattle.slate_txn.specs.Step.{step}
 use Rattle.slate_db.specs.Flushed.{Layout}
-use Rattle.slate_db.specs.Load.{load, ops_load, weight}
+use Rattle.slate_db.specs.Load.{load, op_load, ops_load, weight}
 use Rattle.slate_db.specs.Installs.{HoldsTables, NumberedFrom, runs_of}
 use Rattle.slate_db.specs.Meaning.{Meaning, IsLawfulMeaning, rules_of}
 use Rattle.slate_db.specs.Model.{CoreModel, Rows, versions_in}
@@ -40,7 +43,8 @@ use Rattle.slate_db.specs.Sound.{IsKept, AreTables}
 use Rattle.slate_db.specs.Layers.{AreRising}
 use Rattle.slate_db.specs.Log.{LIMIT}
 use Rattle.slate_language.specs.declared.reply.Answer.{Answer}
-use Rattle.slate_language.specs.Answers.{reply_of}
+use Rattle.slate_language.specs.declared.reply.Answer.TheVariants as answers
+use Rattle.slate_language.specs.Answers.{as_shown, reply_of}
 use Rattle.slate_language.specs.Grammar.{is_moment}
 use Rattle.slate_script.specs.StoredState.{IsTableObject}
 
@@ -71,7 +75,7 @@ pub record StandsFor (e : SessionModel) (s : State) : Type 0 where
   pub flushed : s.flushed ≡ e.core.state.flushed
 
 abbrev pub IsStep : SessionModel → State × Reply → Answer → Type 0
-IsStep e stepped a = StandsFor e stepped.0 × (reply_of a ≡ stepped.1)
+IsStep e stepped a = StandsFor e stepped.0 × (reply_of a ≡ as_shown stepped.1)
 
 abbrev pub AnswersAs : Meaning → SessionModel → SessionModel → Line → Result Answer SlateDBError → Type 0
 AnswersAs m before after line result = (s : State) → StandsFor before s → IfOk result (IsStep after (step (rules_of before.core.settings m) s line))
@@ -106,30 +110,45 @@ IsSettledIn reach e = IsSettled reach.meaning reach.objects e
 
 -- ---- how much a session holds
 
--- a row that a write adds is an operation of its
+abbrev pub own_load : List (List ℕ × Tx) → ℕ
+own_load txns = sum_by (λ p. ops_load p.1.ops) txns
+
+abbrev pub held_load : SessionModel → ℕ
+held_load e = load e.core + own_load e.core.state.txns
+
+-- a row that a write or a commit adds is an operation of its
 abbrev pub line_load : Line → ℕ
-line_load (lines.Write ops) = ops_load ops
+line_load (lines.Write batch) = ops_load batch
+line_load (lines.Put name k v ttl) = op_load (k, ops.Put v (record { ttl = ttl }))
+line_load (lines.Delete name k) = op_load (k, ops.Delete)
 line_load _ = 0
 
 abbrev pub Grows : Line → SessionModel → SessionModel → Type 0
-Grows line old new = (weight new.core ≤ weight old.core + 2) × (load new.core ≤ load old.core + line_load line)
+Grows line old new = (weight new.core ≤ weight old.core + 2) × (held_load new ≤ held_load old + line_load line)
 
 abbrev pub IsFull : SessionModel → Type 0
-IsFull e = (LIMIT < weight e.core + 2) ⊎ (2 ^ 32 - 1 < load e.core)
+IsFull e = (LIMIT < weight e.core + 2) ⊎ (2 ^ 32 - 1 < held_load e)
 
 -- e: the session that meets it
 abbrev pub IsLimit : SessionModel → SlateDBError → Type 0
 IsLimit e error = (n : ℕ) × (error ≡ LimitReached n) × IsFull e
 
--- ---- what refuses a write
+-- ---- what refuses a write, an operation or a commit
 
--- a write is answered this refusal
+-- the line is answered this refusal
 abbrev pub IsRefusal : SlateDBError → Type 0
+IsRefusal (TransactionConflict n) = Unit {0}
 IsRefusal EmptyKey = Unit {0}
 IsRefusal (KeyTooLong n) = Unit {0}
 IsRefusal (ValueTooLong n) = Unit {0}
 IsRefusal SequenceExhausted = Unit {0}
 IsRefusal _ = ⊥
+
+pub record IsDone {T : Type 0} (ran : Result T SlateDBError) (result : Result Answer SlateDBError) : Type 0 where
+  pub done : OnOk ran (result ≡ Ok answers.Done)
+  pub reply : IfErr ran (λ e. IfOk result (λ a. reply_of a ≡ Refused e))
+  pub refusal : IfErr ran (λ e. OnOk result (IsRefusal e))
+  pub other : IfErr ran (λ e. IfErr result (λ x. (x ≡ e) × (IsRefusal e → ⊥)))
 
 -- what a line that stores nothing keeps
 pub record StoresNothing (old new : SessionModel) : Type 0 where

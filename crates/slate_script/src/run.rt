@@ -8,14 +8,14 @@ ghost use Rattle.slate_store.specs.Lines.{lines_of, script_limit};
 ghost use Rattle.slate_txn.specs.State.{Rules, State, opening};
 ghost use Rattle.slate_db.specs.Flushed.{layout_of};
 ghost use Rattle.slate_db.specs.Installs.{runs_of, tables_of};
-ghost use Rattle.slate_db.specs.Load.{load, weight};
+ghost use Rattle.slate_db.specs.Load.{weight};
 ghost use Rattle.slate_db.specs.Meaning.{Meaning, IsLawfulMeaning};
 ghost use Rattle.slate_db.specs.Parts.{IsTableError};
 ghost use Rattle.slate_db.specs.Readable.{IsRefusedBy};
 ghost use Rattle.slate_language.specs.Replies.{replies, replies_to, after_lines, replies_from, reply_line, IsWellFormed};
 ghost use Rattle.slate_language.specs.Answers.{reply_of};
 ghost use Rattle.slate_language.specs.Stage.{meaning};
-ghost use Rattle.slate_script.specs.Session.{StandsFor, HasTablesAlone, IsRunning, IsSettled, IsLimit};
+ghost use Rattle.slate_script.specs.Session.{StandsFor, HasTablesAlone, IsRunning, IsSettled, IsLimit, held_load};
 ghost use Rattle.slate_script.specs.Run.{run_rules, Premises, is_line, script_error, lines_taken, IsPartError, IsPartCause, HasCause, HasRead, HasSaid, NoneRose};
 ghost use Rattle.slate_script.specs.StoredState.{IsStoredState};
 ghost use Rattle.slate_script.specs.Told.{Follows, IsShownAtEnd, IsUntrue, PutsTables};
@@ -123,7 +123,7 @@ fn answer_line<W: Sink, S: Store, M: MergeOperator, T: BlockTransformer>(
     ensures stands { let reach = ⟦<EnvOf<S, M, T> as Outside>⟧.reach in (m : Meaning) (r : Rules) → IsRunning m r (reach env.old).meaning (reach env.old).objects session.old → (s : State) → StandsFor session.old s → OnOk result (StandsFor session.new (after_lines meaning r s (line.now ∷ []))) }
     ensures answered { let reach = ⟦<EnvOf<S, M, T> as Outside>⟧.reach in (m : Meaning) (r : Rules) → IsRunning m r (reach env.old).meaning (reach env.old).objects session.old → (s : State) (before : List ℕ) → StandsFor session.old s → W.content sink.old ≡ Some before →
         OnOk result (W.content sink.new ≡ Some (before ++ replies_from meaning r s (line.now ∷ []))) }
-    ensures grows { OnOk result ((weight session.new.core ≤ weight session.old.core + 2) × (load session.new.core ≤ load session.old.core + length line.now)) }
+    ensures grows { OnOk result ((weight session.new.core ≤ weight session.old.core + 2) × (held_load session.new ≤ held_load session.old + length line.now)) }
     ensures alone { let reach = ⟦<EnvOf<S, M, T> as Outside>⟧.reach in (m : Meaning) (r : Rules) → IsRunning m r (reach env.old).meaning (reach env.old).objects session.old → HasTablesAlone m (layout_of options.now) (reach env.old).objects (runs_of session.old.core.events) →
         OnOk result (HasTablesAlone m (layout_of options.now) (reach env.new).objects (runs_of session.new.core.events)) }
     ensures cause { IfErr result (λ e. (e ≡ SlateDBError.OutOfMemory) ⊎ (e ≡ SlateDBError.WriteFault) ⊎ ((e ≡ SlateDBError.ScriptSyntax number) × (is_line line.now ≡ false)) ⊎ IsPartError e ⊎ IsLimit session.old e) }

@@ -12,7 +12,7 @@ ghost use Rattle.slate_txn.specs.Settings.{settings_of};
 ghost use Rattle.slate_txn.specs.State.{opening};
 ghost use Rattle.slate_db.specs.Flushed.{layout_of};
 ghost use Rattle.slate_db.specs.Installs.{runs_of, tables_of};
-ghost use Rattle.slate_db.specs.Load.{load, weight};
+ghost use Rattle.slate_db.specs.Load.{weight};
 ghost use Rattle.slate_db.specs.Meaning.{Meaning, IsLawfulMeaning};
 ghost use Rattle.slate_db.specs.Parts.{IsTableError};
 ghost use Rattle.slate_db.specs.Readable.{IsAnswered, IsReadError, IsRefusedBy};
@@ -20,19 +20,21 @@ ghost use Rattle.slate_db.specs.Sound.{IsKept};
 ghost use Rattle.slate_db.specs.StoredState.{StoresState};
 ghost use Rattle.slate_db.specs.Log.{AreFine};
 ghost use Rattle.slate_language.specs.Answers.{reply_of};
-ghost use Rattle.slate_script.specs.Session.{StandsFor, AnswersAs, HasTablesAlone, Grows, IsSettled, IsSettledIn, IsLimit, IsRefusal, StoresNothing, has_moment};
+ghost use Rattle.slate_script.specs.Session.{StandsFor, AnswersAs, HasTablesAlone, Grows, IsDone, IsSettled, IsSettledIn, IsLimit, IsRefusal, StoresNothing, has_moment, held_load};
 ghost use Rattle.slate_language.specs.Stage.{is_built, is_built_op, is_built_batch};
 ghost use Rattle.slate_script.specs.Told.{Follows, IsUntrue, PutsTables};
 
+use crate::journal::entries;
 use bytes::Bytes;
 use slate_db::engine::Core;
 use slate_language::Answer;
 use slate_mem::{WriteBatch, WriteOp};
 use slate_store::{Env, EnvOf, Store};
 use slate_txn::line::Line;
-use slate_txn::list::OpList;
+use slate_txn::list::{KeyList, OpList};
 use slate_types::{
-    BlockTransformer, IsolationLevel, MergeOperator, Options, Outside, ReadOptions, SlateDBError,
+    BlockTransformer, IsolationLevel, MergeOperator, Options, Outside, PutOptions, ReadOptions,
+    SlateDBError, Ttl,
 };
 use std::alloc::Global;
 use std::collections::BTreeMap;
@@ -73,7 +75,7 @@ impl Session {
         ensures settings { result.core.settings ≡ settings_of options.now }
         ensures events { result.core.events ≡ [] }
         ensures kept { (m : Meaning) → IsKept m result.core }
-        ensures holds { (weight result.core ≡ 0) × (load result.core ≡ 0) }
+        ensures holds { (weight result.core ≡ 0) × (held_load result ≡ 0) }
     {
         Session {
             alloc,
@@ -140,6 +142,17 @@ impl Session {
             Line::Rollback { name } => Ok(self.rollback(name)),
             Line::Write { ops } => self.write(ops),
             Line::Freeze => self.freeze(),
+            Line::Journal => self.journal(),
+            Line::Put {
+                name,
+                key,
+                value,
+                ttl,
+            } => self.put(name, key, value, ttl),
+            Line::Delete { name, key } => self.delete(name, key),
+            Line::Mark { name, keys } => self.mark(name, keys),
+            Line::Unmark { name, keys } => self.unmark(name, keys),
+            Line::Commit { name } => self.commit(name),
             _ => unreachable!(),
         }
     }
@@ -207,6 +220,112 @@ impl Session {
         };
         self.core.rollback(&id);
         Answer::Done
+    }
+
+    /// Puts the value among the own operations of the name's transaction.
+    fn put(
+        &mut self,
+        name: Bytes,
+        key: Bytes,
+        value: Bytes,
+        ttl: Ttl,
+    ) -> Result<Answer, SlateDBError>
+        ensures step { (m : Meaning) → AnswersAs m self.old self.new (Line.Put name key value ttl) result }
+        ensures stores { OnOk result (StoresNothing self.old self.new) }
+        ensures grows { OnOk result (Grows (Line.Put name key value ttl) self.old self.new) }
+        ensures cause { IfErr result (λ e. (e ≡ SlateDBError.OutOfMemory) ⊎ IsLimit self.old e) }
+    {
+        let Some(id) = self.names.get(&name) else {
+            drop((key, value));
+            return Ok(Answer::Refused(SlateDBError::UnknownTransaction { name }));
+        };
+        let id = *id;
+        drop(name);
+        let put = self
+            .core
+            .put(&id, key.as_slice(), value.as_slice(), &PutOptions { ttl });
+        drop((key, value));
+        done(put)
+    }
+
+    /// Puts a delete of the key among the own operations of the name's transaction.
+    fn delete(&mut self, name: Bytes, key: Bytes) -> Result<Answer, SlateDBError>
+        ensures step { (m : Meaning) → AnswersAs m self.old self.new (Line.Delete name key) result }
+        ensures stores { OnOk result (StoresNothing self.old self.new) }
+        ensures grows { OnOk result (Grows (Line.Delete name key) self.old self.new) }
+        ensures cause { IfErr result (λ e. (e ≡ SlateDBError.OutOfMemory) ⊎ IsLimit self.old e) }
+    {
+        let Some(id) = self.names.get(&name) else {
+            drop(key);
+            return Ok(Answer::Refused(SlateDBError::UnknownTransaction { name }));
+        };
+        let id = *id;
+        drop(name);
+        let delete = self.core.delete(&id, key.as_slice());
+        drop(key);
+        done(delete)
+    }
+
+    /// Makes the keys part of what the commit of the name's transaction conflicts by.
+    fn mark(&mut self, name: Bytes, keys: KeyList) -> Result<Answer, SlateDBError>
+        ensures step { (m : Meaning) → AnswersAs m self.old self.new (Line.Mark name keys) result }
+        ensures stores { OnOk result (StoresNothing self.old self.new) }
+        ensures grows { OnOk result (Grows (Line.Mark name keys) self.old self.new) }
+        ensures cause { IfErr result (λ e. (e ≡ SlateDBError.OutOfMemory) ⊎ IsLimit self.old e) }
+    {
+        let Some(id) = self.names.get(&name) else {
+            drop(keys);
+            return Ok(Answer::Refused(SlateDBError::UnknownTransaction { name }));
+        };
+        let id = *id;
+        drop(name);
+        let mark = self.core.mark_read(&id, keys.as_slice());
+        drop(keys);
+        done(mark)
+    }
+
+    /// Takes the keys out of what the commit of the name's transaction tracks.
+    fn unmark(&mut self, name: Bytes, keys: KeyList) -> Result<Answer, SlateDBError>
+        ensures step { (m : Meaning) → AnswersAs m self.old self.new (Line.Unmark name keys) result }
+        ensures stores { OnOk result (StoresNothing self.old self.new) }
+        ensures grows { OnOk result (Grows (Line.Unmark name keys) self.old self.new) }
+        ensures cause { IfErr result (λ e. (e ≡ SlateDBError.OutOfMemory) ⊎ IsLimit self.old e) }
+    {
+        let Some(id) = self.names.get(&name) else {
+            drop(keys);
+            return Ok(Answer::Refused(SlateDBError::UnknownTransaction { name }));
+        };
+        let id = *id;
+        drop(name);
+        let unmark = self.core.unmark_write(&id, keys.as_slice());
+        drop(keys);
+        done(unmark)
+    }
+
+    /// Commits the name's transaction at the moment, and closes the name, whether the commit is refused or not.
+    fn commit(&mut self, name: Bytes) -> Result<Answer, SlateDBError>
+        ensures step { (m : Meaning) → AnswersAs m self.old self.new (Line.Commit name) result }
+        ensures stores { OnOk result (StoresNothing self.old self.new) }
+        ensures grows { OnOk result (Grows (Line.Commit name) self.old self.new) }
+        ensures cause { IfErr result (λ e. (e ≡ SlateDBError.OutOfMemory) ⊎ IsLimit self.old e) }
+    {
+        let Some(id) = self.names.remove(&name) else {
+            return Ok(Answer::Refused(SlateDBError::UnknownTransaction { name }));
+        };
+        drop(name);
+        match self.core.commit(&id, self.now) {
+            Ok(seq) => Ok(Answer::Committed(seq)),
+            Err(error) => refused(error),
+        }
+    }
+
+    /// The commits so far.
+    fn journal(&self) -> Result<Answer, SlateDBError>
+        ensures step { (m : Meaning) → AnswersAs m self.entry.now self.entry.now Line.Journal result }
+        ensures cause { IsOkUnless result SlateDBError.OutOfMemory }
+    {
+        let entries = entries(self.alloc, self.core.journal().as_slice())?;
+        Ok(Answer::Journal(entries))
     }
 
     /// Commits the operations as one batch, at the moment.
@@ -292,6 +411,16 @@ fn add(batch: &mut WriteBatch, key: Bytes, op: WriteOp) -> Result<(), SlateDBErr
     }
 }
 
+/// The answer to an operation in a transaction that ran to this end.
+fn done(ran: Result<(), SlateDBError>) -> Result<Answer, SlateDBError>
+    ensures { IsDone ran result }
+{
+    match ran {
+        Ok(()) => Ok(Answer::Done),
+        Err(error) => refused(error),
+    }
+}
+
 /// The answer to a line that is refused by the error, and the error itself where no line is refused by it.
 fn refused(error: SlateDBError) -> Result<Answer, SlateDBError>
     ensures reply { IfOk result (λ a. reply_of a ≡ Refused error) }
@@ -299,7 +428,8 @@ fn refused(error: SlateDBError) -> Result<Answer, SlateDBError>
     ensures other { IfErr result (λ e. (e ≡ error) × (IsRefusal error → ⊥)) }
 {
     match error {
-        SlateDBError::EmptyKey
+        SlateDBError::TransactionConflict { .. }
+        | SlateDBError::EmptyKey
         | SlateDBError::KeyTooLong { .. }
         | SlateDBError::ValueTooLong { .. }
         | SlateDBError::SequenceExhausted => Ok(Answer::Refused(error)),

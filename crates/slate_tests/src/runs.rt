@@ -1,4 +1,5 @@
-// Runs over parts in memory, of which one call fails. Runs without faults are tried by ./test, through the program.
+// Runs over parts in memory: some of which one call fails, and some of transactions that write. Other runs without faults are tried by
+// ./test, through the program.
 use crate::listing::one;
 use slate_script::run_main;
 use slate_store::{MemorySink, MemorySource, MemoryStore, Sink};
@@ -75,6 +76,28 @@ const ONE_ROW: &[u8] =
 pub const TWO_ROWS: &[u8] =
     b"written 1\nflushed 1\nbegun t 1\nrow 'a '1 1 0 -\nwritten 2\nflushed 2\nbegun u 2\nrow 'b '2 2 0 -\nrow 'a '1 1 0 -\n";
 
+const CONFLICT: &[u8] =
+    b"begin t ssi\nbegin t si\nget t 'a\nwrite put 'a '1\nput t 'b '2\ncommit t\ncommit t\n";
+
+const CONFLICT_REPLIES: &[u8] =
+    b"begun t 0\nrefused DuplicateTransaction t\nnone\nwritten 1\nok\nrefused TransactionConflict 1\nrefused UnknownTransaction t\n";
+
+const UNMARKED: &[u8] =
+    b"begin t ssi\nget t 'a\nbegin u si\nunmark u 'a\nput u 'a '1\ncommit u\nput t 'b '2\ncommit t\njournal\n";
+
+const UNMARKED_REPLIES: &[u8] =
+    b"begun t 0\nnone\nbegun u 0\nok\nok\ncommitted 1\nok\ncommitted 2\njournal 2 1 0 0 2 0 1 'b\n";
+
+const MARKED: &[u8] = b"begin t si\nmark t 'a\nwrite put 'a '1\ncommit t\n";
+
+const MARKED_REPLIES: &[u8] = b"begun t 0\nok\nwritten 1\nrefused TransactionConflict 1\n";
+
+const OWN: &[u8] =
+    b"now 5\nbegin t ssi\nput t 'a '1 t50\nget t 'a\nput t 'b '2\ndelete t 'b\nget t 'b\nput t ' '1\ncommit t\nbegin u si\nget u 'a\nget u 'b\ncommit u\n";
+
+const OWN_REPLIES: &[u8] =
+    b"now 5\nbegun t 0\nok\nrow 'a '1 18446744073709551615 0 -\nok\nok\nnone\nrefused EmptyKey\ncommitted 1\nbegun u 1\nrow 'a '1 1 5 55\nnone\ncommitted -\n";
+
 const RUNS: &[Run] = &[
     // The first call gives the whole script, and the second its end. Behind a last line without its end a third asks again.
     (DAY, Failing { read: 1, ..NONE }, 5, b""),
@@ -120,9 +143,15 @@ const RUNS: &[Run] = &[
     (TWICE, Failing { stored: 7, ..NONE }, 7, ONE_ROW),
     (TWICE, Failing { stored: 8, ..NONE }, 7, ONE_ROW),
     (TWICE, Failing { stored: 9, ..NONE }, 0, TWO_ROWS),
+    // Transactions that write. Their lines ask no store, but a get.
+    (CONFLICT, NONE, 0, CONFLICT_REPLIES),
+    (UNMARKED, NONE, 0, UNMARKED_REPLIES),
+    (MARKED, NONE, 0, MARKED_REPLIES),
+    (OWN, NONE, 0, OWN_REPLIES),
+    (OWN, Failing { stored: 1, ..NONE }, 0, OWN_REPLIES),
 ];
 
 #[test]
-fn a_call_that_fails_ends_a_run(rt: HostRuntime) {
+fn runs_end_as_they_should(rt: HostRuntime) {
     assert!(rt; are_run(rt.alloc()));
 }

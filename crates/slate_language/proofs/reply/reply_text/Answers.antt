@@ -24,6 +24,13 @@ returns-in-Flushed c = record { text = IfOk-weaker c.line_of-in-Flushed.result _
 pub returns-in-Written : goal.returns-in-Written
 returns-in-Written c = record {
   text = IfOk-weaker c.line_of-in-Written.result _ _
-      (λ v is. is ∙ ap (λ seq. join_with_byte 32 (codes "written" ∷ seq ∷ []) ++ (10 ∷ [])) c.sequence.ensures ∙ ap (λ a. reply_line (reply_of a)) (sym c.in-Written.is))
+      (λ v is. is ∙ ap (λ seq. join_with_byte 32 (codes "written" ∷ seq ∷ []) ++ (10 ∷ [])) c.sequence-in-Written.ensures ∙ ap (λ a. reply_line (reply_of a)) (sym c.in-Written.is))
       c.line_of-in-Written.ensures.text;
+}
+
+pub returns-in-Committed : goal.returns-in-Committed
+returns-in-Committed c = record {
+  text = IfOk-weaker c.line_of-in-Committed.result _ _
+      (λ v is. is ∙ ap (λ seq. join_with_byte 32 (codes "committed" ∷ seq ∷ []) ++ (10 ∷ [])) c.sequence.ensures ∙ ap (λ a. reply_line (reply_of a)) (sym c.in-Committed.is))
+      c.line_of-in-Committed.ensures.text;
 }

@@ -107,4 +107,12 @@ returns-clause-long_keys_today c = long_keys_today
 
 pub returns-clause-not_built_today : goal.returns-clause-not_built_today
 unfolding digits
-returns-clause-not_built_today c = (refl, refl, refl, refl, refl, refl, refl)
+returns-clause-not_built_today c = (refl, refl, refl, refl, refl, refl, refl, refl)
+
+pub returns-clause-transactions_today : goal.returns-clause-transactions_today
+unfolding digits
+returns-clause-transactions_today c = (refl, refl, refl)
+
+pub returns-clause-own_today : goal.returns-clause-own_today
+unfolding digits
+returns-clause-own_today c = refl

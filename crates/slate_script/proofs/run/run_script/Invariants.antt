@@ -4,10 +4,10 @@ use Rattle.slate_store.specs.Reach.{reach_of}
 use Rattle.slate_store.specs.Lines.{script_limit}
 use Rattle.slate_db.specs.Flushed.{layout_of}
 use Rattle.slate_db.specs.Installs.{runs_of, tables_of}
-use Rattle.slate_db.specs.Load.{load, weight}
+use Rattle.slate_db.specs.Load.{weight}
 use Rattle.slate_db.specs.Meaning.{IsLawfulMeaning}
 use Rattle.slate_script.specs.Run.{run_rules, Premises}
-use Rattle.slate_script.specs.Session.{HasTablesAlone, IsRunning}
+use Rattle.slate_script.specs.Session.{HasTablesAlone, IsRunning, held_load}
 use Rattle.slate_script.specs.Told.{Follows, PutsTables}
 use Rattle.slate_script.proofs.Taken.{IsAt}
 use Rattle.slate_script.proofs.run.run_script.Given as goal
@@ -24,7 +24,7 @@ invariant-loop-line g l =
       counted : l.number ≤ l.lines.given;
       within : l.lines.given ≤ script_limit;
       weighs : weight l.session.core ≤ l.number + l.number;
-      loads : load l.session.core ≤ l.lines.given;
+      loads : held_load l.session ≤ l.lines.given;
       running : Premises before.meaning before.objects
           → IsRunning before.meaning
           (run_rules l.options before.meaning)

@@ -65,3 +65,51 @@ returns-in-Rollback c =
       grows = subst (λ (line : Line). Grows line c.args.self.now c.rollback.new.self) (sym c.in-Rollback.is) c.rollback.ensures.grows;
       cause = tt;
     }
+
+pub returns-in-Put : goal.returns-in-Put
+returns-in-Put c =
+    record {
+      step = λ m. subst (λ (line : Line). AnswersAs m c.args.self.now c.put.new.self line c.put.result) (sym c.in-Put.is) (c.put.ensures.step m);
+      stores = c.put.ensures.stores;
+      grows = subst (λ (line : Line). OnOk c.put.result (Grows line c.args.self.now c.put.new.self)) (sym c.in-Put.is) c.put.ensures.grows;
+      cause = c.put.ensures.cause;
+    }
+
+pub returns-in-Delete : goal.returns-in-Delete
+returns-in-Delete c =
+    record {
+      step = λ m. subst (λ (line : Line). AnswersAs m c.args.self.now c.delete.new.self line c.delete.result) (sym c.in-Delete.is) (c.delete.ensures.step m);
+      stores = c.delete.ensures.stores;
+      grows = subst (λ (line : Line). OnOk c.delete.result (Grows line c.args.self.now c.delete.new.self)) (sym c.in-Delete.is) c.delete.ensures.grows;
+      cause = c.delete.ensures.cause;
+    }
+
+pub returns-in-Mark : goal.returns-in-Mark
+returns-in-Mark c =
+    record {
+      step = λ m. subst (λ (line : Line). AnswersAs m c.args.self.now c.mark.new.self line c.mark.result) (sym c.in-Mark.is) (c.mark.ensures.step m);
+      stores = c.mark.ensures.stores;
+      grows = subst (λ (line : Line). OnOk c.mark.result (Grows line c.args.self.now c.mark.new.self)) (sym c.in-Mark.is) c.mark.ensures.grows;
+      cause = c.mark.ensures.cause;
+    }
+
+pub returns-in-Unmark : goal.returns-in-Unmark
+returns-in-Unmark c =
+    record {
+      step = λ m. subst (λ (line : Line). AnswersAs m c.args.self.now c.unmark.new.self line c.unmark.result) (sym c.in-Unmark.is) (c.unmark.ensures.step m);
+      stores = c.unmark.ensures.stores;
+      grows = subst (λ (line : Line). OnOk c.unmark.result (Grows line c.args.self.now c.unmark.new.self)) (sym c.in-Unmark.is) c.unmark.ensures.grows;
+      cause = c.unmark.ensures.cause;
+    }
+
+pub returns-in-Commit : goal.returns-in-Commit
+returns-in-Commit c =
+    record {
+      step = λ m. subst (λ (line : Line). AnswersAs m c.args.self.now c.commit.new.self line c.commit.result) (sym c.in-Commit.is) (c.commit.ensures.step m);
+      stores = c.commit.ensures.stores;
+      grows = subst (λ (line : Line). OnOk c.commit.result (Grows line c.args.self.now c.commit.new.self)) (sym c.in-Commit.is) c.commit.ensures.grows;
+      cause = c.commit.ensures.cause;
+    }
+
+pub returns-in-Journal-clause-step : goal.returns-in-Journal-clause-step
+returns-in-Journal-clause-step c m = subst (λ (line : Line). AnswersAs m c.args.self.now c.args.self.now line c.journal.result) (sym c.in-Journal.is) (c.journal.ensures.step m)

@@ -14,7 +14,7 @@ use Rattle.slate_script.proofs.NamesLaws.{find_named-lookup, named-after, none-f
 use Rattle.slate_script.proofs.SessionNames.{opens-fresh, names-begun, names-opened}
 use Rattle.slate_script.proofs.SessionSteps.{IsNamed, named-by, begin-refused, begin-opens, plain-meaning}
 use Rattle.slate_script.proofs.SessionLeaves.{leaves-event, stores}
-use Rattle.slate_script.proofs.Growth.{grows, takes-event, opened-more}
+use Rattle.slate_script.proofs.Growth.{grows, takes-event, opened-more, opened-own}
 use Rattle.slate_script.proofs.session.Session.begin.Goals as goal
 
 pub returns-then-contains_key : goal.returns-then-contains_key
@@ -66,6 +66,8 @@ returns c =
           (grows before c.begin.new.self c.insert.new.self.entries before.now (lines.Begin c.args.name c.args.level) 0 (omega arith)
           (takes-event c.self.inside.core c.begin.new.self (events.Begin c.in_ok-id.id c.args.level c.in_ok-id.start) c.in_ok-id.ensures.event
           (opened-more (rules_of c.self.inside.core.settings plain-meaning) c.self.inside.core.state c.begin.new.self.state c.in_ok-id.id c.args.level c.in_ok-id.start
+          (opens-fresh (rules_of c.self.inside.core.settings plain-meaning) c.self.inside.core.state c.begin.new.self.state c.in_ok-id.id c.args.level c.in_ok-id.start (c.in_ok-id.ensures.step plain-meaning)))
+          (opened-own (rules_of c.self.inside.core.settings plain-meaning) c.self.inside.core.state c.begin.new.self.state c.in_ok-id.id c.args.level c.in_ok-id.start
           (opens-fresh (rules_of c.self.inside.core.settings plain-meaning) c.self.inside.core.state c.begin.new.self.state c.in_ok-id.id c.args.level c.in_ok-id.start (c.in_ok-id.ensures.step plain-meaning))))));
       cause = tt;
     }

@@ -17,9 +17,9 @@ use Rattle.slate_language.specs.declared.reply.Answer.TheVariants as answers
 use Rattle.slate_types.specs.declared.error.SlateDBError.TheVariants as errors
 use Rattle.slate_script.specs.Session.{SessionModel, AreNames, AnswersAs, Grows, StoresNothing}
 use Rattle.slate_script.proofs.NamesLaws.{find_named-lookup}
-use Rattle.slate_script.proofs.SessionNames.{names-noted}
+use Rattle.slate_script.proofs.SessionNames.{names-updated}
 use Rattle.slate_script.proofs.SessionSteps.{get-refused, get-found}
-use Rattle.slate_script.proofs.Growth.{as-many, grows, takes-noted}
+use Rattle.slate_script.proofs.Growth.{as-many, grows, own-kept, takes-noted}
 use Rattle.slate_script.proofs.session.Session.get.Goals as goal
 
 pub returns-in_default : goal.returns-in_default
@@ -44,7 +44,7 @@ get-read-requires g c = c.self.invariant.0.opened c.args.name c.in-Some.id.now (
 pub invariant_of-self-2 : goal.invariant_of-self-2
 invariant_of-self-2 g c = (
   subst (λ (v : CoreModel). AreNames c.self.inside.names.entries v.state.txns) (sym c.in_ok-row.ensures.noted)
-      (names-noted c.in-Some.id.now _ c.self.inside.names.entries c.self.inside.core.state.txns c.self.invariant.0),
+      (names-updated c.in-Some.id.now _ c.self.inside.names.entries c.self.inside.core.state.txns c.self.invariant.0),
   c.self.invariant.1,
 )
 
@@ -67,7 +67,7 @@ returns g c =
       grows = (let before : SessionModel = record { core = c.self.inside.core; names = c.self.inside.names.entries; now = c.self.inside.now } in
           subst (λ (v : SessionModel). Grows (lines.Get c.args.name c.args.key) v (record before { core = c.get-read.new.self })) c.self.view_is
           (grows before c.get-read.new.self before.names before.now (lines.Get c.args.name c.args.key) 0 (omega arith)
-          (takes-noted c.self.inside.core c.get-read.new.self _ c.in_ok-row.ensures.noted (as-many c.in-Some.id.now _ c.self.inside.core.state.txns))));
+          (takes-noted c.self.inside.core c.get-read.new.self _ c.in_ok-row.ensures.noted (as-many c.in-Some.id.now _ c.self.inside.core.state.txns) (own-kept c.in-Some.id.now _ c.self.inside.core.state.txns (λ t. refl)))));
       cause = tt;
       undamaged = λ is. tt;
       reads = c.get-read.ensures.read.reads;

@@ -8,12 +8,12 @@ use Rattle.slate_txn.specs.declared.line.Line.TheVariants as lines
 use Rattle.slate_db.specs.Meaning.{rules_of}
 use Rattle.slate_language.specs.declared.reply.Answer.TheVariants as answers
 use Rattle.slate_types.specs.declared.error.SlateDBError.TheVariants as errors
-use Rattle.slate_script.specs.Session.{SessionModel, AreNames, AnswersAs, Grows, StoresNothing}
+use Rattle.slate_script.specs.Session.{SessionModel, AreNames, AnswersAs, Grows, StoresNothing, own_load}
 use Rattle.slate_script.proofs.NamesLaws.{find_named-lookup, named-after}
 use Rattle.slate_script.proofs.SessionNames.{closes, names-closed}
 use Rattle.slate_script.proofs.SessionSteps.{rollback-refused, rollback-closes, plain-meaning}
 use Rattle.slate_script.proofs.SessionLeaves.{leaves-event, stores}
-use Rattle.slate_script.proofs.Growth.{grows, takes-event, fewer}
+use Rattle.slate_script.proofs.Growth.{grows, own-fewer, takes-event, fewer}
 use Rattle.slate_script.proofs.session.Session.rollback.Goals as goal
 
 pub returns-in_default : goal.returns-in_default
@@ -64,7 +64,10 @@ returns c =
           let few : length c.rollback.new.self.state.txns ≤ length c.self.inside.core.state.txns =
           subst (λ (s : State). length s.txns ≤ length c.self.inside.core.state.txns) (sym (closes (rules_of c.self.inside.core.settings plain-meaning) c.self.inside.core.state c.rollback.new.self.state c.in-Some.id (c.rollback.ensures.step plain-meaning)))
           (fewer c.in-Some.id c.self.inside.core.state.txns) in
+          let less : own_load c.rollback.new.self.state.txns ≤ own_load c.self.inside.core.state.txns =
+          subst (λ (s : State). own_load s.txns ≤ own_load c.self.inside.core.state.txns) (sym (closes (rules_of c.self.inside.core.settings plain-meaning) c.self.inside.core.state c.rollback.new.self.state c.in-Some.id (c.rollback.ensures.step plain-meaning)))
+          (own-fewer c.in-Some.id c.self.inside.core.state.txns) in
           subst (λ (v : SessionModel). Grows (lines.Rollback c.args.name) v (record before { core = c.rollback.new.self; names = c.remove.new.self.entries })) c.self.view_is
           (grows before c.rollback.new.self c.remove.new.self.entries before.now (lines.Rollback c.args.name) 0 (omega arith)
-          (takes-event c.self.inside.core c.rollback.new.self (events.End c.in-Some.id) c.rollback.ensures.event (omega (arith, few)))));
+          (takes-event c.self.inside.core c.rollback.new.self (events.End c.in-Some.id) c.rollback.ensures.event (omega (arith, few)) less)));
     }
