@@ -6,7 +6,7 @@ use Rattle.slate_txn.specs.Conflict.{conflict}
 use Rattle.slate_txn.specs.State.{Tx}
 use Rattle.slate_txn.specs.Reply.{Committed}
 use Rattle.slate_txn.specs.declared.line.Line.TheVariants as lines
-use Rattle.slate_db.specs.Installs.{tables_of}
+use Rattle.slate_db.specs.Installs.{runs_of}
 use Rattle.slate_db.specs.Meaning.{rules_of}
 use Rattle.slate_db.specs.Sound.{IsKept}
 use Rattle.slate_language.specs.declared.reply.Answer.{Answer}
@@ -36,7 +36,7 @@ returns-in_default c =
       stores = (let same : length c.self.inside.core.events ≡ length c.args.self.now.core.events = ap (λ (v : SessionModel). length v.core.events) c.self.view_is in
           record {
             settings = ap (λ (v : SessionModel). v.core.settings) c.self.view_is;
-            tables = ap (λ (v : SessionModel). tables_of v.core.events) c.self.view_is;
+            runs = ap (λ (v : SessionModel). runs_of v.core.events) c.self.view_is;
             later = omega (arith, same);
             kept = λ m k. subst (λ (v : SessionModel). IsKept m v.core) (sym c.self.view_is) k;
           });

@@ -22,7 +22,7 @@ returns-in_default c =
           let none : find_named c.args.name before.names ≡ None = find_named-lookup c.args.name before.names ∙ sym c.in_default.ensures.value in
           subst (λ (v : SessionModel). AnswersAs m v v (lines.Put c.args.name c.args.key c.args.value c.args.ttl) (Ok (answers.Refused (errors.UnknownTransaction c.args.name)))) c.self.view_is
           (put-unknown m before c.args.name c.args.key c.args.value c.args.ttl none));
-      stores = record { settings = refl; tables = refl; later = omega arith; kept = λ m k. k };
+      stores = record { settings = refl; runs = refl; later = omega arith; kept = λ m k. k };
       grows = (omega arith, omega arith);
       cause = tt;
     }
