@@ -18,6 +18,8 @@ mod memory;
 #[cfg(test)]
 mod memory_lists;
 #[cfg(test)]
+mod merged;
+#[cfg(test)]
 mod parts;
 #[cfg(test)]
 mod ranges;
@@ -29,5 +31,7 @@ mod runs;
 mod stores;
 #[cfg(test)]
 mod streams;
+#[cfg(test)]
+mod table_walks;
 #[cfg(test)]
 mod tables;
