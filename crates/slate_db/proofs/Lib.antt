@@ -50,3 +50,4 @@ pub mod CommitSteps
 pub mod OwnRows
 pub mod Changes
 pub mod CommitWholes
+mod Commits

@@ -197,6 +197,10 @@ committed_some l id n now ops tracked ts spare may room w = record {
     newest : l.last ≡ last_of l.start l.commits
     newest = w.last
 
+pub log_committed : (l : LogModel) (id : List ℕ) (n : Option ℕ) (now : ℤ) (ops : Ops) (tracked : List (List ℕ)) (ts : List TranscriptStep) (spare : ℕ) → MayCommit l id n ops tracked ts → spare + 1 ≡ l.spare → IsLog l → IsLog (with_commit l id n now ops tracked ts spare)
+log_committed l id None now ops tracked ts spare may room w = committed_none l id now ops tracked ts spare may room w
+log_committed l id (Some n) now ops tracked ts spare may room w = committed_some l id n now ops tracked ts spare may room w
+
 pub numbered_more : (i : ℕ) (runs : List (List (Ulid × List ℕ))) (ts : List (Ulid × List ℕ)) → NumberedFrom i runs → ArePlaced (i + length runs) 0 ts → NumberedFrom i (runs ++ (ts ∷ []))
 numbered_more i [] ts h placed = (subst (λ (n : ℕ). ArePlaced n 0 ts) (let z : i + 0 ≡ i = omega arith in z) placed, tt)
 numbered_more i (x ∷ runs) ts h placed = (h.0, numbered_more (i + 1) runs ts h.1 (subst (λ (n : ℕ). ArePlaced n 0 ts) (let z : i + length (x ∷ runs) ≡ (i + 1) + length runs = omega arith in z) placed))

@@ -3,7 +3,7 @@
 --     after_commit c id n now t rows spare      the core after the commit; rows: the active rows after it
 --     IsCommitted old new id n now t      the commit's rows are in memory where it has a sequence, and an event says so; the transaction is closed
 --     IsNextOf last ops n, IsFull last conflicting ops e      which sequence a commit has; that none is left
---     put_at c default n now ops y      the layers with the commit's rows, where it has a sequence
+--     rows_at c default n now ops rows, put_at c default n now ops y      the active rows with the commit's rows, where it has a sequence; the layers
 --     IsEnded old new id      the transaction is closed, an event says so, and nothing else is changed
 use Rattle.std.specs.Prelude.{◌≡◌, ◌≢◌, ℕ, ◌+◌, ◌-◌, ◌^◌, ◌<◌, List, [], ◌∷◌, ◌++◌, Option, Some, None, ℤ}
 use Rattle.slate_types.specs.declared.error.SlateDBError.{SlateDBError}
@@ -47,6 +47,9 @@ IsNextOf last ops (Some n) = (n ≡ last + 1) × (last < 2 ^ 64 - 2) × (ops ≢
 abbrev pub IsFull : ℕ → Option ℕ → Ops → SlateDBError → Type 0
 IsFull last conflicting ops e = (e ≡ SequenceExhausted) × (last ≡ 2 ^ 64 - 2) × (conflicting ≡ None) × (ops ≢ [])
 
+abbrev pub rows_at : (List ℕ → Combine) → Option ℕ → Option ℕ → ℤ → Ops → Rows → Rows
+rows_at c default_millis None now ops rows = rows
+rows_at c default_millis (Some n) now ops rows = put_rows rows (commit_rows c default_millis n now (kept_ops ops))
+
 abbrev pub put_at : (List ℕ → Combine) → Option ℕ → Option ℕ → ℤ → Ops → LayersModel → LayersModel
-put_at c default_millis None now ops y = y
-put_at c default_millis (Some n) now ops y = record y { active = put_rows y.active (commit_rows c default_millis n now (kept_ops ops)) }
+put_at c default_millis n now ops y = record y { active = rows_at c default_millis n now ops y.active }

@@ -8,6 +8,7 @@ ghost use Rattle.slate_mem.specs.Table.{put_rows};
 ghost use Rattle.slate_txn.specs.Managers.{StandsFor, IsCommitOf, with_commit, writes_at};
 ghost use Rattle.slate_txn.specs.Named.{find_named, without};
 ghost use Rattle.slate_mem.specs.Batch.{kept_ops};
+ghost use Rattle.slate_mem.specs.BatchModel.{holds_merge};
 ghost use Rattle.slate_txn.specs.Conflict.{conflict, tracked_writes};
 ghost use Rattle.slate_txn.specs.HandedOver.{Grown, IsConflict};
 ghost use Rattle.slate_txn.specs.Replay.{commit_made};
@@ -16,6 +17,7 @@ ghost use Rattle.slate_txn.specs.Tested.{IsUntracked};
 ghost use Rattle.slate_db.specs.Committed.{IsNextOf, IsFull, put_at};
 ghost use Rattle.slate_db.specs.Managed.{IsManaged};
 ghost use Rattle.slate_db.specs.Layers.{AreLayers, in_memory};
+ghost use Rattle.slate_db.specs.Log.{AreFine};
 
 use crate::layers::Layers;
 use crate::put::put_own;
@@ -54,6 +56,9 @@ pub(crate) fn make(
     ensures tracked { IfOk result (λ made. made.tracked ≡ tracked_writes owned) }
     ensures steps { IfOk result (λ made. made.transcript ≡ owned.transcript) }
     ensures ops { IfOk result (λ made. made.ops ≡ kept_ops owned.ops) }
+    ensures fine { IfOk result (λ made. AreFine made.ops) }
+    ensures plain { OnOk result (holds_merge owned.ops ≡ false) }
+    ensures plain_ops { IfOk result (λ made. holds_merge made.ops ≡ false) }
     ensures next { IfOk result (λ made. IsNextOf last owned.ops made.seq) }
     ensures free { (cs : List Commit) → StandsFor manager.old cs → OnOk result (conflict cs owned ≡ None) }
     ensures put { (c : List ℕ → Combine) → IfOk result (λ made. layers.new ≡ put_at c default_millis made.seq now owned.ops layers.old) }
@@ -141,6 +146,8 @@ pub(crate) fn put_commit(
     ensures put { (c : List ℕ → Combine) → OnOk result (layers.new ≡ record layers.old { active = put_rows layers.old.active (commit_rows c default_millis (last + 1) now batch.now.ops) }) }
     ensures whole { AreLayers layers.new }
     ensures ops { IfOk result (λ ops. ops ≡ batch.now.ops) }
+    ensures fine { OnOk result (AreFine batch.now.ops) }
+    ensures plain { OnOk result (holds_merge batch.now.ops ≡ false) }
     ensures committed { OnOk result (manager.new ≡ record manager.old { last = last + 1; active = without id.now manager.old.active; kept = manager.new.kept }) }
     ensures stands { OnOk result ((cs : List Commit) (c : Commit) → IsCommitOf (last + 1) (writes_at (find_named id.now manager.old.active)) c → StandsFor manager.old cs → StandsFor manager.new (with_commit cs c (find_named id.now manager.old.active))) }
     ensures same_layers { OnErr result (layers.new ≡ layers.old) }

@@ -1,9 +1,12 @@
-use Rattle.std.proofs.Common.{◌≡◌, ℕ, ◌+◌, List, [], ◌∷◌, ◌++◌, Option, unwrap_or, refl, sym, ap, subst, ◌∙◌, append-nil}
+use Rattle.std.proofs.Common.{◌≡◌, false, ℕ, ◌+◌, List, [], ◌∷◌, ◌++◌, Option, unwrap_or, refl, sym, ap, subst, ◌∙◌, append-nil}
+use Rattle.slate_mem.specs.Batch.{Ops}
+use Rattle.slate_mem.specs.BatchModel.{holds_merge}
 use Rattle.slate_txn.specs.Named.{without}
 use Rattle.slate_txn.specs.Replay.{commit_made}
 use Rattle.slate_txn.specs.State.{Commit}
 use Rattle.slate_db.specs.declared.commit.Made.{Made}
 use Rattle.slate_db.specs.Committed.{IsNextOf}
+use Rattle.slate_db.specs.Log.{AreFine}
 use Rattle.slate_db.specs.Managed.{IsManaged}
 use Rattle.slate_db.proofs.Managing.{managed_dropped, managed_committed}
 use Rattle.slate_db.proofs.Plain.{empty_kept}
@@ -23,3 +26,21 @@ pub returns-in-Ok-clause-committed : goal.returns-in-Ok-clause-committed
 returns-in-Ok-clause-committed c ids cs ps w =
     managed_committed c.args.manager.now c.test.new.manager c.put_commit-put.new.manager ids c.args.last (c.args.last + 1) cs ps c.args.id.now c.args.owned _ c.in_ok-tested.ensures.grown (c.in_ok-tested.ensures.handed c.requires.held) refl c.in_ok-tested.ensures.commits.keys
     c.in-Ok.ensures.committed (c.in-Ok.ensures.stands cs _) w
+
+pub returns-then-is_empty-clause-fine : goal.returns-then-is_empty-clause-fine
+returns-then-is_empty-clause-fine c = subst (λ (made : Made). AreFine made.ops) (sym c.idle.ensures) tt
+
+pub returns-then-is_empty-clause-plain : goal.returns-then-is_empty-clause-plain
+returns-then-is_empty-clause-plain c = sym c.in_ok-tested.ensures.commits.batch.1 ∙ c.in_ok-tested.ensures.commits.plain
+
+pub returns-then-is_empty-clause-plain_ops : goal.returns-then-is_empty-clause-plain_ops
+returns-then-is_empty-clause-plain_ops c = subst (λ (made : Made). holds_merge made.ops ≡ false) (sym c.idle.ensures) refl
+
+pub returns-in-Ok-clause-fine : goal.returns-in-Ok-clause-fine
+returns-in-Ok-clause-fine c = subst AreFine (sym c.in-Ok.ensures.ops) c.in-Ok.ensures.fine
+
+pub returns-in-Ok-clause-plain : goal.returns-in-Ok-clause-plain
+returns-in-Ok-clause-plain c = sym c.in_ok-tested.ensures.commits.batch.1 ∙ c.in_ok-tested.ensures.commits.plain
+
+pub returns-in-Ok-clause-plain_ops : goal.returns-in-Ok-clause-plain_ops
+returns-in-Ok-clause-plain_ops c = subst (λ (ops : Ops). holds_merge ops ≡ false) (sym c.in-Ok.ensures.ops) c.in-Ok.ensures.plain
