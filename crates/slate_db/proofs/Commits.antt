@@ -75,17 +75,17 @@ pub may_commit : (c : CoreModel) (x : Unseen) (id : List ℕ) (t : Tx) (n : Opti
     IsNextOf x.last t.ops n → ops ≡ kept_ops t.ops → tracked ≡ tracked_writes t → ts ≡ t.transcript → AreFine ops → MayCommit (log_of c x) id n ops tracked ts
 may_commit c x id t n ops tracked ts w found free next ops_are keys steps fine =
     subst (λ (os : Ops). AreFine os → MayCommit (log_of c x) id n os tracked ts) (sym ops_are) (λ fine.
-        subst (λ (ks : List (List ℕ)). MayCommit (log_of c x) id n (kept_ops t.ops) ks ts) (sym keys)
-        (subst (λ (ss : List TranscriptStep). MayCommit (log_of c x) id n (kept_ops t.ops) (tracked_writes t) ss) (sym steps) (record {
-          held = ap is_some named;
-          next = next_or_none c.settings.start_seq x.last (replay c.events) t.ops n (w.log.last ∙ ap (last_of c.settings.start_seq) (sym w.log.replays)) next;
-          kept = keeps-once t.ops;
-          fine = fine;
-          keys = keys-of-kept t.ops (tracked_writes t) (_, refl);
-          free = subst (λ (o : Option Tx). HasNoConflict (replay c.events) o (tracked_writes t) t.transcript) (sym named)
-              (is_none _ (ap (λ (cs : List Commit). conflict_of cs t.begin (tracked_writes t) (reads t)) w.log.replays ∙ fewer-keys c.state.commits t.begin (tracked_writes t) t.marked (reads t) free));
-          fits = fits x.last t.ops n w.log.last_fits next;
-        }))) fine
+    subst (λ (ks : List (List ℕ)). MayCommit (log_of c x) id n (kept_ops t.ops) ks ts) (sym keys)
+    (subst (λ (ss : List TranscriptStep). MayCommit (log_of c x) id n (kept_ops t.ops) (tracked_writes t) ss) (sym steps) (record {
+      held = ap is_some named;
+      next = next_or_none c.settings.start_seq x.last (replay c.events) t.ops n (w.log.last ∙ ap (last_of c.settings.start_seq) (sym w.log.replays)) next;
+      kept = keeps-once t.ops;
+      fine = fine;
+      keys = keys-of-kept t.ops (tracked_writes t) (_, refl);
+      free = subst (λ (o : Option Tx). HasNoConflict (replay c.events) o (tracked_writes t) t.transcript) (sym named)
+          (is_none _ (ap (λ (cs : List Commit). conflict_of cs t.begin (tracked_writes t) (reads t)) w.log.replays ∙ fewer-keys c.state.commits t.begin (tracked_writes t) t.marked (reads t) free));
+      fits = fits x.last t.ops n w.log.last_fits next;
+    }))) fine
   where
     named : find_named id (replay c.events).txns ≡ Some (begun t.level t.begin)
     named = ap (find_named id) w.tied.txns ∙ find_begun id c.state.txns t found
@@ -151,7 +151,7 @@ whole_made f c x id (Some n) now t spare g next managed log layers w =
         AreLayers (put_at f c.settings.default_millis (Some k) now t.ops (layers_of c x)) →
         IsWhole (after_commit c id (Some k) now t (put_rows c.active (commit_rows f c.settings.default_millis k now (kept_ops t.ops))) spare) (record (less_one x g) { last = k })) (sym is)
         (λ managed log layers. whole_committed c x id now t (put_rows c.active (commit_rows f c.settings.default_millis (x.last + 1) now (kept_ops t.ops))) spare
-            (some_more f c.settings.default_millis (x.last + 1) now (kept_ops t.ops) c.active (kept_some t.ops next.2)) within g managed log layers w)
+        (some_more f c.settings.default_millis (x.last + 1) now (kept_ops t.ops) c.active (kept_some t.ops next.2)) within g managed log layers w)
 
 pub kept_made : (m : Meaning) (c : CoreModel) (x : Unseen) (id : List ℕ) (n : Option ℕ) (now : ℤ) (t : Tx) (spare : ℕ) → IsNextOf x.last t.ops n → IsWhole c x → IsKept m c → IsKept m (after_commit c id n now t (RowsAfter (combine_of m) c n now t) spare)
 kept_made m c x id None now t spare next w kept = kept_idle m c id now t spare kept
