@@ -15,16 +15,16 @@ use Rattle.slate_txn.specs.Conflict.{tracked_writes}
 use Rattle.slate_txn.specs.Managers.{Manager}
 use Rattle.slate_txn.specs.Named.{without}
 use Rattle.slate_txn.specs.Reads.{up_to, key_rows}
-use Rattle.slate_txn.specs.Replay.{replay, apply, commit_made}
-use Rattle.slate_txn.specs.State.{Rules, Commit, State, Tx, opening}
+use Rattle.slate_txn.specs.Replay.{replay, apply}
+use Rattle.slate_txn.specs.State.{Rules, Commit, Tx, opening}
 use Rattle.slate_txn.proofs.NamedLaws.{all_without, without_map}
 use Rattle.slate_db.specs.Committed.{after_commit}
-use Rattle.slate_db.specs.Installs.{as_begun, tables_in, tables_of, installed, AreRuns}
+use Rattle.slate_db.specs.Installs.{as_begun, installed, AreRuns}
 use Rattle.slate_db.specs.Layers.{AreLayers}
 use Rattle.slate_db.specs.Log.{IsLog}
 use Rattle.slate_db.specs.Managed.{IsManaged}
 use Rattle.slate_db.specs.Meaning.{Meaning, rules_of, combine_of}
-use Rattle.slate_db.specs.Model.{CoreModel, Rows, versions, versions_in, memory}
+use Rattle.slate_db.specs.Model.{CoreModel, Rows, versions, versions_in}
 use Rattle.slate_db.specs.Sound.{above, IsKept, IsSound, AreTables}
 use Rattle.slate_db.specs.Whole.{IsWhole, Unseen, log_of, layers_of}
 use Rattle.slate_db.proofs.Journals.{apply_more}

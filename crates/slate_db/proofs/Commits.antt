@@ -2,8 +2,8 @@
 --     RowsAfter f c n now t, core_after f s id n now t spare g      the active rows after a commit; the core, of its parts
 --     Commits s l y xs id n now t      what the parts become
 --     IsRefused old new id now e, HasCause c last t e, HasKnownCause c t e      what the model says of a refused one, and why it is
-use Rattle.std.proofs.Common.{◌≡◌, ℕ, ◌+◌, ◌-◌, ◌^◌, ◌≤◌, ◌<◌, Bool, true, false, cond, bytes_eq, List, [], ◌∷◌, ◌++◌, length, map, is_some, Option, Some, None, ◌⊎◌, inl, inr, ℤ, unwrap_or, refl, sym, ap, subst, ◌∙◌, arith}
-use Rattle.std.specs.Prelude.{IsNone, IsSome}
+use Rattle.std.proofs.Common.{◌≡◌, ℕ, ◌+◌, ◌-◌, ◌^◌, ◌≤◌, ◌<◌, Bool, true, false, cond, bytes_eq, List, [], ◌∷◌, ◌++◌, map, is_some, Option, Some, None, ◌⊎◌, inl, inr, ℤ, unwrap_or, refl, sym, ap, subst, ◌∙◌, arith}
+use Rattle.std.specs.Prelude.{IsNone}
 use Rattle.std.specs.List.{AllByRecursion}
 use Rattle.slate_types.specs.declared.error.SlateDBError.{SlateDBError}
 use Rattle.slate_types.specs.declared.error.SlateDBError.TheVariants as errors
@@ -15,7 +15,7 @@ use Rattle.slate_mem.specs.Table.{put_rows}
 use Rattle.slate_mem.proofs.BatchLaws.{keeps-once}
 use Rattle.slate_txn.specs.declared.event.TranscriptStep.{TranscriptStep}
 use Rattle.slate_txn.specs.declared.line.Line.TheVariants as lines
-use Rattle.slate_txn.specs.Conflict.{conflict, conflict_of, tracked_writes, reads, reads_at}
+use Rattle.slate_txn.specs.Conflict.{conflict, conflict_of, tracked_writes, reads}
 use Rattle.slate_txn.specs.HandedOver.{IsConflict}
 use Rattle.slate_txn.specs.Managers.{Manager}
 use Rattle.slate_txn.specs.Named.{find_named, without}
@@ -27,16 +27,15 @@ use Rattle.slate_txn.specs.Step.{step}
 use Rattle.slate_txn.proofs.LegalLaws.{fewer-keys}
 use Rattle.slate_txn.proofs.MadeLaws.{keys-of-kept}
 use Rattle.slate_db.specs.declared.engine.Core.TheInside.{Inside}
-use Rattle.slate_db.specs.Committed.{IsCommitted, IsNextOf, IsFull, after_commit, rows_at, put_at, without_txn}
+use Rattle.slate_db.specs.Committed.{IsCommitted, IsNextOf, IsFull, after_commit, rows_at, put_at}
 use Rattle.slate_db.specs.Installs.{as_begun}
 use Rattle.slate_db.specs.Layers.{AreLayers, LayersModel}
 use Rattle.slate_db.specs.Load.{load, ops_load}
 use Rattle.slate_db.specs.Log.{AreFine, IsLog, LogModel, MayCommit, with_commit, with_end}
 use Rattle.slate_db.specs.Managed.{IsManaged}
 use Rattle.slate_db.specs.Meaning.{Meaning, combine_of, rules_of}
-use Rattle.slate_db.specs.Model.{CoreModel, Rows, at, memory, versions}
+use Rattle.slate_db.specs.Model.{CoreModel, Rows, at}
 use Rattle.slate_db.specs.Sound.{IsKept}
-use Rattle.slate_db.specs.View.{view_of, unseen_of, IsWholeInside}
 use Rattle.slate_db.specs.Whole.{IsWhole, Unseen, log_of, layers_of}
 use Rattle.slate_db.proofs.CommitSteps.{step_conflict, step_full, step_idle, step_commits}
 use Rattle.slate_db.proofs.CommitWholes.{whole_committed, whole_idle, kept_idle, kept_committed}
@@ -45,7 +44,7 @@ use Rattle.slate_db.proofs.Loads.{write_load}
 use Rattle.slate_db.proofs.MemoryRows.{commit_within, puts_all}
 use Rattle.slate_db.proofs.Plain.{empty_kept, some_ops}
 use Rattle.slate_db.proofs.Puts.{some_more, versions_more, active_within}
-use Rattle.slate_db.proofs.Wholes.{after_end, less_one, named_in_journal}
+use Rattle.slate_db.proofs.Wholes.{after_end, less_one}
 
 -- ---- what the log takes
 

@@ -1,4 +1,4 @@
-use Rattle.std.proofs.Common.{◌≡◌, false, ℕ, ◌+◌, List, [], ◌∷◌, ◌++◌, Option, unwrap_or, refl, sym, ap, subst, ◌∙◌, append-nil}
+use Rattle.std.proofs.Common.{◌≡◌, false, ◌+◌, List, ◌++◌, unwrap_or, refl, sym, subst, ◌∙◌, append-nil}
 use Rattle.slate_mem.specs.Batch.{Ops}
 use Rattle.slate_mem.specs.BatchModel.{holds_merge}
 use Rattle.slate_txn.specs.Named.{without}

@@ -1,13 +1,12 @@
-use Rattle.std.proofs.Common.{◌≡◌, ℕ, ◌+◌, ◌-◌, ◌^◌, ◌≤◌, ◌++◌, ◌∷◌, [], List, Some, None, false, refl, ap, sym, subst, ◌∙◌, arith, w64, inr, inl}
+use Rattle.std.proofs.Common.{◌≡◌, ℕ, ◌+◌, ◌-◌, ◌^◌, ◌≤◌, ◌++◌, ◌∷◌, [], List, false, ap, sym, subst, ◌∙◌, arith, w64}
 use Rattle.std.specs.Prelude.{IsSome}
 use Rattle.std.specs.List.{AllByRecursion}
 use Rattle.std.proofs.lemmas.Int.{to_z-of_z}
 use Rattle.slate_types.specs.Fold.{Combine}
-use Rattle.slate_mem.specs.Batch.{Ops, kept_ops}
+use Rattle.slate_mem.specs.Batch.{Ops}
 use Rattle.slate_mem.specs.BatchModel.{holds_merge}
 use Rattle.slate_txn.specs.declared.event.Event.TheVariants as events
 use Rattle.slate_txn.specs.declared.line.Line.TheVariants as lines
-use Rattle.slate_txn.specs.Conflict.{conflict}
 use Rattle.slate_txn.specs.Named.{find_named, without}
 use Rattle.slate_txn.specs.Reply.{Committed}
 use Rattle.slate_txn.specs.State.{Tx}
@@ -16,7 +15,7 @@ use Rattle.slate_db.specs.declared.engine.Core.TheInside.{Inside}
 use Rattle.slate_db.specs.Committed.{IsCommitted, IsNextOf, put_at, without_txn}
 use Rattle.slate_db.specs.Layers.{AreLayers, in_memory}
 use Rattle.slate_db.specs.Load.{load, ops_load}
-use Rattle.slate_db.specs.Log.{IsLog, LogModel, with_commit, with_end}
+use Rattle.slate_db.specs.Log.{IsLog, with_commit, with_end}
 use Rattle.slate_db.specs.Managed.{IsManaged}
 use Rattle.slate_db.specs.Meaning.{rules_of, combine_of}
 use Rattle.slate_db.specs.Model.{CoreModel, at}

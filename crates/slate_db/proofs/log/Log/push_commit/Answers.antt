@@ -1,9 +1,9 @@
-use Rattle.std.proofs.Common.{◌≡◌, ℤ, Option, ◌+◌, ◌-◌, ◌++◌, ◌∷◌, [], refl, sym, ap, subst, ◌∙◌, arith, w64, unwrap_or}
+use Rattle.std.proofs.Common.{◌≡◌, ◌-◌, ◌++◌, ◌∷◌, [], refl, sym, ap, subst, ◌∙◌, arith, w64}
 use Rattle.std.specs.Prelude.{IsSome}
 use Rattle.std.proofs.lemmas.Int.{to_z-of_z}
 use Rattle.slate_txn.specs.declared.event.Event.TheVariants as events
 use Rattle.slate_txn.specs.Named.{find_named}
-use Rattle.slate_txn.specs.Replay.{replay, commit_made}
+use Rattle.slate_txn.specs.Replay.{replay}
 use Rattle.slate_db.specs.Log.{LogModel, IsLog, MayCommit, with_commit}
 use Rattle.slate_db.specs.LogView.{log_view}
 use Rattle.slate_db.proofs.LogViews.{journal_more}
