@@ -69,7 +69,7 @@ pub record Closes (old new : CoreModel) (id : List ℕ) : Type 0 where
   pub settings : new.settings ≡ old.settings
   pub event : Event
   pub events : new.events ≡ old.events ++ (event ∷ [])
-  pub none : tables_in event ≡ []
+  pub none : runs_in event ≡ []
   pub txns : new.state.txns ≡ without id old.state.txns
   pub flushed : new.state.flushed ≡ old.state.flushed
 
