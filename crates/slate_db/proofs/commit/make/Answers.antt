@@ -1,5 +1,5 @@
-use Rattle.std.proofs.Common.{◌≡◌, false, ◌+◌, List, ◌++◌, unwrap_or, refl, sym, subst, ◌∙◌, append-nil}
-use Rattle.slate_mem.specs.Batch.{Ops}
+use Rattle.std.proofs.Common.{◌≡◌, true, false, inr, arith, ◌+◌, List, ◌++◌, unwrap_or, refl, ap, sym, subst, ◌∙◌, append-nil}
+use Rattle.slate_mem.specs.Batch.{Ops, kept_ops}
 use Rattle.slate_mem.specs.BatchModel.{holds_merge}
 use Rattle.slate_txn.specs.Named.{without}
 use Rattle.slate_txn.specs.Replay.{commit_made}
@@ -21,6 +21,10 @@ returns-then-is_empty-clause-committed c ids cs ps w =
     subst (λ (made : Made). IsManaged c.drop_txn.new.self ids (unwrap_or made.seq c.args.last) (cs ++ commit_made made.seq c.args.now made.ops made.tracked) (without c.args.id.now ps)) (sym c.idle.ensures)
     (subst (λ (ks : List Commit). IsManaged c.drop_txn.new.self ids c.args.last ks (without c.args.id.now ps)) (sym (append-nil cs))
     (managed_dropped c.args.manager.now c.test.new.manager c.drop_txn.new.self ids c.args.last cs ps c.args.id.now c.in_ok-tested.ensures.grown c.drop_txn.ensures.dropped (c.drop_txn.ensures.stands cs) w))
+
+pub returns-then-last-ge18446744073709551614-clause-cause : goal.returns-then-last-ge18446744073709551614-clause-cause
+returns-then-last-ge18446744073709551614-clause-cause c = λ cs stands.
+    inr (inr (refl, omega (arith, c.requires.fits), c.in_ok-tested.ensures.free cs stands c.requires.held, λ none. let t : true ≡ false = sym (c.is_empty.ensures.1 (c.in_ok-tested.ensures.commits.batch.0 ∙ ap kept_ops none)) ∙ c.if-is_empty.false in cc))
 
 pub returns-in-Ok-clause-committed : goal.returns-in-Ok-clause-committed
 returns-in-Ok-clause-committed c ids cs ps w =
