@@ -4,7 +4,7 @@
 --     rest_newest, sound_newest, refuses_newest, bound_newest      of an iterator that is new, goes on, or was refused
 --     IsKept e progress      a refusal is kept, or want of memory in its place
 --     Begins before after      one that was new goes on, and nothing has come yet; another one stays
---     IsUnrefused progress, IsGoing progress      it wasn't refused, or it goes on
+--     IsNew progress, IsUnrefused progress, IsGoing progress      it is new, wasn't refused, or goes on
 --     Stays before at e after      it refuses, and stands as it stood, or keeps the refusal
 use Rattle.std.specs.Prelude.{◌≡◌, ◌≢◌, ◌⊎◌, ℕ, ◌+◌, true, false, not, Bool, List, [], Option, Some, None, IsSomeAnd}
 use Rattle.slate_types.specs.declared.bytes_range.BytesRange.{BytesRange}
@@ -62,6 +62,9 @@ Begins New (Going groups) = (groups.ready.items ≡ []) × (groups.gathered.item
 Begins New s = ⊥
 Begins (Going groups) s = s ≡ Going groups
 Begins (Refused e) s = s ≡ Refused e
+
+abbrev pub IsNew : Progress → Type 0
+IsNew s = s ≡ New
 
 abbrev pub IsUnrefused : Progress → Type 0
 IsUnrefused (Refused e) = ⊥

@@ -9,6 +9,7 @@
 --     rest_of it w, bound_of it, refuses_of it      of a walk over a table
 --     IsReadable p h kept      an object is a table of this handle, whose blocks have these rows
 --     IsSoundWalk it w      what the rest of a walk rests on
+--     Stays before at e after      it refuses, and stands as it stood, or keeps the refusal
 use Rattle.std.specs.Prelude.{◌≡◌, ◌≢◌, ◌⊎◌, ℕ, ◌+◌, ◌-◌, ◌*◌, ◌^◌, ◌<◌, ◌≤◌, true, List, [], ◌∷◌, ◌++◌, length, flat_map, slice_get, slice_range, Contains, IsSorted, Bool, false, filter, codes, Option, Some, None, Ok, Err, IsOk}
 use Rattle.std.specs.List.{AllByRecursion}
 use Rattle.slate_types.specs.declared.bytes_range.BytesRange.{BytesRange}
@@ -277,6 +278,9 @@ abbrev pub Begins : BytesRange → List (ℕ × List ℕ) → TableState → Typ
 Begins range entries New = ⊥
 Begins range entries (Walking cursor) = BeginsAt range entries cursor
 Begins range entries (Refused e) = ⊥
+
+abbrev pub IsUnopened : TableState → Type 0
+IsUnopened s = s ≡ New
 
 abbrev pub IsWalking : TableState → Type 0
 IsWalking (Walking cursor) = Unit {0}
