@@ -20,6 +20,7 @@ pub trait RowPredicate: Drop {
 /// Keeps rows whose sequence isn't above the number, and all rows where there is none.
 #[derive(Drop)]
 pub struct MaxSeq {
+    /// The greatest sequence that is kept, or `None` where each is.
     pub max_seq: Option<u64>,
 }
 

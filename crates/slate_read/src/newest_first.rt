@@ -21,7 +21,7 @@ use std::ops::Bound;
 /// What the source refuses while a key is gathered is answered at once, since nobody knows whether the key's newest row was among
 /// those that came: no row of a key is handed out before each of them has come. Each refusal is kept and answered again, or want
 /// of memory in its place, but for `IteratorNotInitialized`, exactly before `init`, and `SeekKeyOutOfKeyRange`, exactly for a seek
-/// to a key before the range: these leave it as it is.
+/// to a key before the range, or want of memory for a copy of that key: these leave it as it is.
 #[derive(Drop)]
 pub struct NewestFirst<I> {
     pub(crate) range: BytesRange,
