@@ -11,7 +11,7 @@ use Rattle.slate_types.proofs.OutsideLaws.{counted_earlier}
 use Rattle.slate_types.specs.World.{World, Checks, IsCall, Made, Sees}
 use Rattle.slate_types.specs.Outside.{Meaning, Reach}
 use Rattle.slate_types.specs.Refusing.{NoMore, NoMoreBut}
-use Rattle.slate_read.specs.Filtering.{Skips, TakesKept}
+use Rattle.slate_read.specs.Filtering.{Skips, StaysKept, TakesKept}
 use Rattle.slate_types.proofs.Calls.{call_none, call_both, sees_first, sees_last, checks_none, checks_both, no_more_both, no_more_but}
 use Rattle.slate_types.specs.Steps.{Step}
 
@@ -115,13 +115,18 @@ pub went_fails : {A : Type 0} (rest : A → World → List RowEntry) (sound : A 
     (stays : A → Meaning → List Act → Option (List ℕ) → SlateDBError → A → Type 0) (Q : Type 0)
     (keep : RowEntry → Bool) (a b c : Reach) (i j k : Counts) (x y z : A) (e : SlateDBError) → Went rest sound refuses takes keep a b x y → IsLater i j →
     Made b c (λ reads. (IsCounted j k e ⊎ refuses y b.meaning reads None e) × stays y b.meaning reads None e z × NoMoreBut e (refuses y b.meaning) reads (refuses z b.meaning)) → Q →
-    Made a c (λ reads. (IsCounted i k e ⊎ refuses x a.meaning reads None e) × Q × NoMoreBut e (refuses x a.meaning) reads (refuses z a.meaning))
+    Made a c (λ reads. (IsCounted i k e ⊎ refuses x a.meaning reads None e) × (StaysKept (λ u rs r v. takes u a.meaning rs r v) (λ u rs l d v. stays u a.meaning rs l d v) keep x reads None e z × Q) × NoMoreBut e (refuses x a.meaning) reads (refuses z a.meaning))
 went_fails rest sound refuses takes stays Q keep a b c i j k x y z e w since made q = (
   reads_of w.dropped ++ made.0,
   call_both a b c (reads_of w.dropped) made.0 w.call made.1,
-  (blamed made.2.0, q, no_more_but (refuses x a.meaning) (refuses y a.meaning) (refuses z a.meaning) e (reads_of w.dropped) made.0 w.fewer (subst (λ (p : Meaning). NoMoreBut e (refuses y p) made.0 (refuses z p)) w.call.meaning made.2.2)),
+  (blamed made.2.0, ((w.dropped, made.0, y, refl, w.skips, subst (λ (p : Meaning). stays y p made.0 None e z) w.call.meaning made.2.1, λ some. cc), q), no_more_but (refuses x a.meaning) (refuses y a.meaning) (refuses z a.meaning) e (reads_of w.dropped) made.0 w.fewer (subst (λ (p : Meaning). NoMoreBut e (refuses y p) made.0 (refuses z p)) w.call.meaning made.2.2)),
 )
   where
     blamed : IsCounted j k e ⊎ refuses y b.meaning made.0 None e → IsCounted i k e ⊎ refuses x a.meaning (reads_of w.dropped ++ made.0) None e
     blamed (inl h) = inl (counted_earlier i j k e since h)
     blamed (inr h) = inr (w.fewer made.0 None e (subst (λ (p : Meaning). refuses y p made.0 None e) w.call.meaning h))
+
+-- what the source refuses at once
+pub stays_at_once : {A : Type 0} (step : A → List Act → Option RowEntry → A → Type 0) (stays : A → List Act → Option (List ℕ) → SlateDBError → A → Type 0) (keep : RowEntry → Bool) (x y : A) (reads : List Act) (at : Option (List ℕ)) (e : SlateDBError) →
+    stays x reads at e y → StaysKept step stays keep x reads at e y
+stays_at_once step stays keep x y reads at e h = ([], reads, x, refl, refl, h, λ some. refl)

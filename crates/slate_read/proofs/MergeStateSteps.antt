@@ -25,7 +25,7 @@ use Rattle.slate_read.specs.Merge.{shown_rows}
 use Rattle.slate_read.specs.MergeLaws.{fresh_merge}
 use Rattle.slate_read.specs.Merging.{AnyByRecursion, AreReady, IsMergingIn, begun_sources, blames, either_refusal, left_in, waiting_sources}
 use Rattle.slate_read.specs.MergeSteps.{takes_front}
-use Rattle.slate_read.specs.MergeStates.{CopiedIn, HasBegun, IsFrontIn, IsSoundIn, IsWaiting, Keeps, Stays, bound_in, heads_in, waiting_in, refuses_in, rest_in}
+use Rattle.slate_read.specs.MergeStates.{IsUnrefused, CopiedIn, HasBegun, IsFrontIn, IsSoundIn, IsWaiting, Keeps, Stays, bound_in, heads_in, waiting_in, refuses_in, rest_in}
 use Rattle.slate_read.specs.MergeStateLaws.{refuses_whole}
 use Rattle.slate_read.proofs.DecidedLaws.{shown_dropped}
 
@@ -185,6 +185,11 @@ module _ {S : Type 0} where
   copied_bound bound e (Refused k) n h = omega arith
   copied_bound bound e (New q) n h = absurd h
   copied_bound bound e (Begun q) n h = absurd h
+
+  pub unrefused_of : (s : MergeState S) → ((e : SlateDBError) → s ≡ Refused e → ⊥) → IsUnrefused s
+  unrefused_of (New q) h = tt
+  unrefused_of (Begun q) h = tt
+  unrefused_of (Refused e) h = h e refl
 
   pub not_waiting : {A : Type 0} (x z : MergeState S) → x ≡ z → HasBegun z → IsWaiting x → A
   not_waiting x (Begun h) is p w = let never : ⊥ = subst IsWaiting is w in absurd never

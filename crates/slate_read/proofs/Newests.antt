@@ -1,10 +1,9 @@
 -- What the calls of an iterator do that hands out the newest row of each key first.
-use Rattle.std.proofs.Common.{◌≡◌, ◌≢◌, ◌⊎◌, ◌≤◌, inl, inr, arith, length, ℕ, Bool, true, false, not, List, [], ◌∷◌, ◌++◌, Option, Some, None, refl, sym, ap, subst, ◌∙◌}
+use Rattle.std.proofs.Common.{◌≡◌, ◌≢◌, ◌⊎◌, ◌≤◌, inl, inr, arith, length, ℕ, Bool, true, false, not, List, [], Option, Some, None, refl, sym, ap, subst, ◌∙◌}
 use Rattle.std.specs.List.{AllByRecursion}
-use Rattle.std.specs.Prelude.{IsSomeAnd}
 use Rattle.slate_types.specs.declared.bytes_range.BytesRange.{BytesRange}
 use Rattle.slate_types.specs.declared.error.SlateDBError.{SlateDBError}
-use Rattle.slate_types.specs.declared.error.SlateDBError.TheVariants.{IteratorNotInitialized, OutOfMemory, StoreFault, Callback, BlockTransformError}
+use Rattle.slate_types.specs.declared.error.SlateDBError.TheVariants.{IteratorNotInitialized, OutOfMemory, SeekKeyOutOfKeyRange, StoreFault, Callback, BlockTransformError}
 use Rattle.slate_types.specs.declared.types.RowEntry.{RowEntry}
 use Rattle.slate_types.specs.declared.iter.IterationOrder.{IterationOrder}
 use Rattle.slate_types.specs.declared.iter.IterationOrder.TheVariants.{Ascending, Descending}
@@ -12,15 +11,15 @@ use Rattle.slate_types.specs.Outside.{Act, Counts, IsCounted, IsFault, Meaning, 
 use Rattle.slate_types.specs.Refusing.{IsDamage, IsReady, NoMore, NoMoreBut}
 use Rattle.slate_types.specs.RowTurns.{AreInTurn, row_before}
 use Rattle.slate_types.specs.World.{World, AnswersWorld, Checks, Made, Sees}
-use Rattle.slate_types.specs.Steps.{Step}
 use Rattle.slate_types.proofs.Calls.{call_none, seen}
 use Rattle.slate_types.proofs.KeyOrder.{le-lt-trans, lt-irreflexive, not-lt}
 use Rattle.slate_types.specs.Keys.{key_le, key_lt}
 use Rattle.slate_read.specs.declared.groups.Groups.{Groups}
+use Rattle.slate_read.specs.declared.newest_first.NewestFirst.{NewestFirst}
 use Rattle.slate_read.specs.declared.progress.Progress.{Progress}
 use Rattle.slate_read.specs.declared.progress.Progress.TheVariants.{New, Going, Refused}
-use Rattle.slate_read.specs.Groups.{IsOneKey, Seeks, in_turn, newest_left, no_rows, refuses_grouped, rest_grouped, sound_grouped}
-use Rattle.slate_read.specs.NewestFirst.{Begins, IsKept, bound_newest, RefusesSeek, is_below, refuses_newest, rest_newest, sound_newest}
+use Rattle.slate_read.specs.Groups.{IsOneKey, in_turn, newest_left, sound_grouped}
+use Rattle.slate_read.specs.NewestFirst.{Begins, IsGoing, IsKept, IsReached, IsUnrefused, bound_newest, RefusesSeek, Stays, StaysIn, is_below, refuses_newest, rest_newest, sound_newest}
 use Rattle.slate_read.specs.NewestLaws.{newest_whole}
 
 undamaged : (i j : Counts) (e : SlateDBError) → IsCounted i j e → ¬ IsDamage e
@@ -29,6 +28,14 @@ undamaged i j StoreFault h = λ d. d
 undamaged i j (Callback m) h = λ d. d
 undamaged i j BlockTransformError h = λ d. d
 undamaged i j _ h = absurd h
+
+unrefused_of : (s : Progress) → ((e : SlateDBError) → s ≡ Refused e → ⊥) → IsUnrefused s
+unrefused_of New h = tt
+unrefused_of (Going groups) h = tt
+unrefused_of (Refused e) h = h e refl
+
+pub going_of : (s : Progress) (groups : Groups) → s ≡ Going groups → IsGoing s
+going_of s groups is = subst IsGoing (sym is) tt
 
 is_memory : (d : SlateDBError) → (d ≡ OutOfMemory) ⊎ (d ≢ OutOfMemory)
 is_memory OutOfMemory = inl refl
@@ -63,9 +70,9 @@ module _ {I : Type 0} (refuses : I → Meaning → List Act → Option (List ℕ
       by (inr k) = never_begun range at k
 
   -- a kept refusal is answered again
-  pub again_refused : (range : BytesRange) (it : I) (t : Reach) (s p : Progress) (kept e : SlateDBError) (at : Option (List ℕ)) → s ≡ Refused kept → p ≡ Refused kept → (e ≡ kept) ⊎ (e ≡ OutOfMemory) →
-      Made t t (λ reads. (IsFault t t e ⊎ refuses_newest refuses range it s t.meaning reads at e) × Unit {0} × NoMoreBut e (refuses_newest refuses range it s t.meaning) reads (refuses_newest refuses range it p t.meaning))
-  again_refused range it t s p kept e at is too why = ([], call_none t, (blamed why, tt, λ later k d r. inl (subst (λ (q : Progress). refuses_newest refuses range it q t.meaning later k d) (too ∙ sym is) r)))
+  pub again_refused : {W : Type 0} → W → (range : BytesRange) (it : I) (t : Reach) (s p : Progress) (kept e : SlateDBError) (at : Option (List ℕ)) → s ≡ Refused kept → p ≡ Refused kept → (e ≡ kept) ⊎ (e ≡ OutOfMemory) →
+      Made t t (λ reads. (IsFault t t e ⊎ refuses_newest refuses range it s t.meaning reads at e) × W × NoMoreBut e (refuses_newest refuses range it s t.meaning) reads (refuses_newest refuses range it p t.meaning))
+  again_refused {W} stays range it t s p kept e at is too why = ([], call_none t, (blamed why, stays, λ later k d r. inl (subst (λ (q : Progress). refuses_newest refuses range it q t.meaning later k d) (too ∙ sym is) r)))
     where
       blamed : (e ≡ kept) ⊎ (e ≡ OutOfMemory) → IsFault t t e ⊎ refuses_newest refuses range it s t.meaning [] at e
       blamed (inr m) = inl (subst (IsCounted t.faults t.faults) (sym m) tt)
@@ -74,6 +81,58 @@ module _ {I : Type 0} (refuses : I → Meaning → List Act → Option (List ℕ
           by : (kept ≡ OutOfMemory) ⊎ (kept ≢ OutOfMemory) → IsFault t t e ⊎ refuses_newest refuses range it s t.meaning [] at e
           by (inl m) = inl (subst (IsCounted t.faults t.faults) (sym (same ∙ m)) tt)
           by (inr other) = inr (subst (λ (q : Progress). refuses_newest refuses range it q t.meaning [] at e) (sym is) (other, same))
+
+  -- it is refused, and stands as it stood
+  pub stands_refused : {W : Type 0} → W → (range : BytesRange) (it : I) (t : Reach) (s p : Progress) (at : Option (List ℕ)) (e : SlateDBError) → p ≡ s → IsFault t t e ⊎ refuses_newest refuses range it s t.meaning [] at e →
+      Made t t (λ reads. (IsFault t t e ⊎ refuses_newest refuses range it s t.meaning reads at e) × W × NoMoreBut e (refuses_newest refuses range it s t.meaning) reads (refuses_newest refuses range it p t.meaning))
+  stands_refused {W} stays range it t s p at e same why = ([], call_none t, (why, stays, λ later k d r. inl (subst (λ (q : Progress). refuses_newest refuses range it q t.meaning later k d) same r)))
+
+  pub new_refuses : (range : BytesRange) (it : I) (t : Reach) (s : Progress) (at : Option (List ℕ)) → s ≡ New → IsFault t t IteratorNotInitialized ⊎ refuses_newest refuses range it s t.meaning [] at IteratorNotInitialized
+  new_refuses range it t s at is = inr (subst (λ (q : Progress). refuses_newest refuses range it q t.meaning [] at IteratorNotInitialized) (sym is) (inl refl))
+
+  pub below_refuses : (range : BytesRange) (it : I) (t : Reach) (s : Progress) (groups : Groups) (key : List ℕ) (e : SlateDBError) → s ≡ Going groups → is_below range key ≡ true → (e ≡ SeekKeyOutOfKeyRange key) ⊎ (e ≡ OutOfMemory) →
+      IsFault t t e ⊎ refuses_newest refuses range it s t.meaning [] (Some key) e
+  below_refuses range it t s groups key e is below (inl k) = inr (subst (λ (q : Progress). refuses_newest refuses range it q t.meaning [] (Some key) e) (sym is) (inr (below, k)))
+  below_refuses range it t s groups key e is below (inr m) = inl (subst (IsCounted t.faults t.faults) (sym m) tt)
+
+  going_fewer : (range : BytesRange) (m : Meaning) (reads : List Act) (y z : I) (groups more : Groups) → NoMore (refuses y m) reads (refuses z m) → NoMore (refuses_newest refuses range y (Going groups) m) reads (refuses_newest refuses range z (Going more) m)
+  going_fewer range m reads y z groups more fewer later at e (inl r) = inl (fewer later at e r)
+  going_fewer range m reads y z groups more fewer later at e (inr r) = inr r
+
+  -- it answered, and goes on
+  pub going_made : {W : Type 0} → W → (range : BytesRange) (a b : Reach) (y z : I) (s : Progress) (groups more : Groups) → s ≡ Going groups → Made a b (λ reads. NoMore (refuses y a.meaning) reads (refuses z a.meaning)) →
+      Made a b (λ reads. W × NoMore (refuses_newest refuses range y s a.meaning) reads (refuses_newest refuses range z (Going more) a.meaning))
+  going_made {W} goes range a b y z s groups more is (reads, call, fewer) =
+      (reads, call, (goes, subst (λ (q : Progress). NoMore (refuses_newest refuses range y q a.meaning) reads (refuses_newest refuses range z (Going more) a.meaning)) (sym is) (going_fewer range a.meaning reads y z groups more fewer)))
+
+module _ {I : Type 0} where
+  pub stays_new : (it : NewestFirst I) (at : Option (List ℕ)) → it.progress ≡ New → Stays it at IteratorNotInitialized it
+  stays_new it at is = (subst (λ (p : Progress). StaysIn it.range p at IteratorNotInitialized (it ≡ it) it.progress) (sym is) (inl (refl, refl)), refl)
+
+  stays_refused : (before after : NewestFirst I) (at : Option (List ℕ)) (kept e : SlateDBError) → before.progress ≡ Refused kept → (e ≡ kept) ⊎ (e ≡ OutOfMemory) → after ≡ before → Stays before at e after
+  stays_refused before after at kept e is why same = (subst (λ (p : Progress). StaysIn before.range p at e (after ≡ before) after.progress) (sym is) (why, same), ap (λ (x : NewestFirst I). x.range) same)
+
+  pub stays_same : (it : NewestFirst I) (at : Option (List ℕ)) (kept e : SlateDBError) → it.progress ≡ Refused kept → (e ≡ kept) ⊎ (e ≡ OutOfMemory) → Stays it at e it
+  stays_same it at kept e is why = stays_refused it it at kept e is why refl
+
+  pub stays_again : (it : NewestFirst I) (at : Option (List ℕ)) (kept e : SlateDBError) → it.progress ≡ Refused kept → (e ≡ kept) ⊎ (e ≡ OutOfMemory) → Stays it at e (record it { progress = Refused kept })
+  stays_again it at kept e is why = stays_refused it (record it { progress = Refused kept }) at kept e is why (ap (λ (p : Progress). record it { progress = p }) (sym is))
+
+  pub stays_below : (it : NewestFirst I) (groups : Groups) (key : List ℕ) (e : SlateDBError) → it.progress ≡ Going groups → is_below it.range key ≡ true → (e ≡ SeekKeyOutOfKeyRange key) ⊎ (e ≡ OutOfMemory) → Stays it (Some key) e (record it { progress = Going groups })
+  stays_below it groups key e is below why =
+      let after = record it { progress = Going groups } in
+      (subst (λ (p : Progress). StaysIn it.range p (Some key) e (after ≡ it) (Going groups)) (sym is) (inl ((below, why), ap (λ (p : Progress). record it { progress = p }) (sym is))), refl)
+
+  pub stays_going : (before after : NewestFirst I) (groups : Groups) (at : Option (List ℕ)) (e : SlateDBError) → before.progress ≡ Going groups → IsReached before.range at → IsKept e after.progress → after.range ≡ before.range → Stays before at e after
+  stays_going before after groups at e is reached kept range = (subst (λ (p : Progress). StaysIn before.range p at e (after ≡ before) after.progress) (sym is) (inr (reached, kept)), range)
+
+  pub stays_begun : (before after : NewestFirst I) (e : SlateDBError) → ((d : SlateDBError) → before.progress ≡ Refused d → ⊥) → IsKept e after.progress → after.range ≡ before.range → Stays before None e after
+  stays_begun before after e unrefused kept range = (by before.progress unrefused, range)
+    where
+      by : (p : Progress) → ((d : SlateDBError) → p ≡ Refused d → ⊥) → StaysIn before.range p None e (after ≡ before) after.progress
+      by New h = inr (refl, kept)
+      by (Going groups) h = inr (tt, kept)
+      by (Refused d) h = absurd (h d refl)
 
 module _ {I : Type 0} (rest : I → World → List RowEntry) (sound : I → World → Type 0) (order : I → IterationOrder) (refuses : I → Meaning → List Act → Option (List ℕ) → SlateDBError → Type 0) where
   -- a refusal that is kept is no damage in a world that the call met
@@ -176,7 +235,7 @@ module _ {I : Type 0} (rest : I → World → List RowEntry) (sound : I → Worl
     pub still : (w : World) → Sees w a b → sound_newest rest sound order y s w → sound_newest rest sound order z p w
     pub checked : (w : World) → sound_newest rest sound order y s w → Checks w a b
     pub ready : IsReady (refuses_newest refuses range z p a.meaning)
-    pub begun : Made a b (λ reads. Unit {0} × NoMore (refuses_newest refuses range y s a.meaning) reads (refuses_newest refuses range z p a.meaning))
+    pub begun : Made a b (λ reads. (IsUnrefused s × Begins s p) × NoMore (refuses_newest refuses range y s a.meaning) reads (refuses_newest refuses range z p a.meaning))
 
   pub begun_of : (begins : I → Meaning → List Act → I → Type 0) (range : BytesRange) (a b : Reach) (y z : I) (s p : Progress) → ((e : SlateDBError) → s ≡ Refused e → ⊥) → Begins s p → order z ≡ order y →
       ((w : World) → Sees w a b → sound y w → rest z w ≡ rest y w) → ((w : World) → Sees w a b → sound y w → sound z w) → ((w : World) → sound y w → Checks w a b) → IsReady (refuses z a.meaning) →
@@ -186,7 +245,7 @@ module _ {I : Type 0} (rest : I → World → List RowEntry) (sound : I → Worl
     still = λ w sees k. begun_still y z s p same h w (rows w sees (begun_sound s y w unrefused k)) (still w sees (begun_sound s y w unrefused k)) k;
     checked = λ w k. checked w (begun_sound s y w unrefused k);
     ready = begun_ready range a.meaning y z s p unrefused h ready;
-    begun = (made.0, made.1, (tt, begun_fewer range a.meaning made.0 y z s p h made.2.1));
+    begun = (made.0, made.1, ((unrefused_of s unrefused, h), begun_fewer range a.meaning made.0 y z s p h made.2.1));
   }
 
   -- what a source refuses
@@ -198,9 +257,9 @@ module _ {I : Type 0} (rest : I → World → List RowEntry) (sound : I → Worl
   source_refused range a b it (Refused d) at e unrefused (reads, call, inr k) = absurd (unrefused d refl)
 
   -- and then the refusal is kept
-  pub refused_made : (range : BytesRange) (a b : Reach) (it after : I) (s p : Progress) (at : Option (List ℕ)) (e : SlateDBError) → IsKept e p → Made a b (λ reads. IsFault a b e ⊎ refuses_newest refuses range it s a.meaning reads at e) →
-      Made a b (λ reads. (IsFault a b e ⊎ refuses_newest refuses range it s a.meaning reads at e) × Unit {0} × NoMoreBut e (refuses_newest refuses range it s a.meaning) reads (refuses_newest refuses range after p a.meaning))
-  refused_made range a b it after s p at e kept (reads, call, why) = (reads, call, (why, tt, by kept))
+  pub refused_made : {W : Type 0} → W → (range : BytesRange) (a b : Reach) (it after : I) (s p : Progress) (at : Option (List ℕ)) (e : SlateDBError) → IsKept e p → Made a b (λ reads. IsFault a b e ⊎ refuses_newest refuses range it s a.meaning reads at e) →
+      Made a b (λ reads. (IsFault a b e ⊎ refuses_newest refuses range it s a.meaning reads at e) × W × NoMoreBut e (refuses_newest refuses range it s a.meaning) reads (refuses_newest refuses range after p a.meaning))
+  refused_made {W} stays range a b it after s p at e kept (reads, call, why) = (reads, call, (why, stays, by kept))
     where
       by : IsKept e p → NoMoreBut e (refuses_newest refuses range it s a.meaning) reads (refuses_newest refuses range after p a.meaning)
       by (inl is) = λ later k d r. inr ((subst (λ (q : Progress). refuses_newest refuses range after q a.meaning later k d) is r).1)

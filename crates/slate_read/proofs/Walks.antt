@@ -1,11 +1,11 @@
 -- The laws of a walk over a table, and what its calls do.
-use Rattle.std.proofs.Common.{◌≡◌, ◌≢◌, ◌⊎◌, inl, inr, ◌<◌, ◌≤◌, ◌+◌, ◌-◌, ◌*◌, ℕ, suc, zero, List, [], ◌∷◌, ◌++◌, length, Option, Some, None, refl, sym, ap, subst, ◌∙◌, arith, get_or}
-use Rattle.std.specs.Prelude.{Contains, IsOk, Result, Ok, Err, slice_get}
+use Rattle.std.proofs.Common.{◌≡◌, ◌≢◌, ◌⊎◌, inl, inr, ℕ, List, [], ◌++◌, Option, Some, None, refl, sym, ap, subst, ◌∙◌, arith}
+use Rattle.std.specs.Prelude.{Contains}
 use Rattle.std.specs.List.{AllByRecursion}
-use Rattle.std.proofs.lemmas.List.Elements.{All-contains, All-from_recursion, Contains-append_left, Contains-append_right}
+use Rattle.std.proofs.lemmas.List.Elements.{Contains-append_left}
 use Rattle.slate_types.specs.declared.bytes_range.BytesRange.{BytesRange}
 use Rattle.slate_types.specs.declared.error.SlateDBError.{SlateDBError}
-use Rattle.slate_types.specs.declared.error.SlateDBError.TheVariants.{IteratorNotInitialized, OutOfMemory, StoreFault, Callback, BlockTransformError, CorruptTable, ChecksumMismatch, InvalidRowFlags, InvalidVersion, InvalidFilterBlock, InvalidSequenceOrder}
+use Rattle.slate_types.specs.declared.error.SlateDBError.TheVariants.{IteratorNotInitialized, OutOfMemory, StoreFault, Callback, BlockTransformError}
 use Rattle.slate_types.specs.declared.types.RowEntry.{RowEntry}
 use Rattle.slate_types.specs.declared.iter.IterationOrder.{IterationOrder}
 use Rattle.slate_types.specs.Iteration.{IsInOrder, in_order}
@@ -14,22 +14,18 @@ use Rattle.slate_types.proofs.IterationLaws.{taken_in_order}
 use Rattle.slate_store.specs.Store.{Act}
 use Rattle.slate_block.specs.declared.block.Block.{Block}
 use Rattle.slate_block.specs.declared.data_block_iterator.DataBlockIterator.{DataBlockIterator}
-use Rattle.slate_block.specs.BlockWalks.{ReadsLeft, left, Refuses}
-use Rattle.slate_block.specs.Damage.{◌>>=◌}
-use Rattle.slate_block.specs.EitherVersion.{left_of}
-use Rattle.slate_block.specs.Walks.{RowRead, all_ok, before, block_reads, block_rows}
-use Rattle.slate_block.proofs.FieldLaws.{bind_ok}
+use Rattle.slate_block.specs.Walks.{before}
 use Rattle.slate_table.specs.declared.info.SsTableHandle.{SsTableHandle}
 use Rattle.slate_table.specs.IndexValue.{entries_of}
-use Rattle.slate_table.specs.Reading.{whole_answer, IsBlockRead, IsIndexRead, RefusesBlock, RefusesIndex}
+use Rattle.slate_table.specs.Reading.{whole_answer, IsIndexRead}
 use Rattle.slate_read.specs.declared.table_state.Cursor.{Cursor}
 use Rattle.slate_read.specs.declared.table_state.TableState.{TableState}
 use Rattle.slate_read.specs.declared.table_state.TableState.TheVariants.{New, Walking, Refused}
-use Rattle.slate_types.specs.World.{IsSlip, Kept, World, AnswersWorld, IsCall, Made, Sees, Checks}
+use Rattle.slate_types.specs.World.{IsSlip, Kept, World, AnswersWorld, Made, Sees}
 use Rattle.slate_types.specs.Outside.{Meaning, Reach}
-use Rattle.slate_types.specs.Refusing.{IsDamage, NoMore, NoMoreBut}
+use Rattle.slate_types.specs.Refusing.{IsDamage, NoMoreBut}
 use Rattle.slate_types.specs.Steps.{Step}
-use Rattle.slate_read.specs.TableWalk.{IsSoundRising, Sought, Begins, BeginsAt, IsIndexed, RefusesIndexed, left_in, rest_behind, rest_covered, rows_between, IsReadable, IsSoundAt, IsSoundCursor, IsWhole, Keeps, RefusesLeft, RefusesRows, RefusesSome, RefusesUnread, RefusesWalk, Walks, block_part, index_part, no_words, path_in, refuses_at, refuses_behind, refuses_in, rest_after, rest_at, size_of, start_of}
+use Rattle.slate_read.specs.TableWalk.{BeginsIn, IsSoundRising, IsWalking, StaysIn, Sought, Begins, BeginsAt, IsIndexed, RefusesIndexed, left_in, rest_behind, rest_covered, rows_between, IsReadable, IsSoundAt, IsSoundCursor, IsWhole, Keeps, RefusesLeft, RefusesSome, RefusesUnread, index_part, no_words, path_in, refuses_at, refuses_behind, refuses_in, rest_after, rest_at}
 use Rattle.slate_types.proofs.Calls.{call_none, seen}
 use Rattle.slate_read.specs.WalkLaws.{known_answer, refuses_whole, some_more, whole_part}
 use Rattle.slate_read.proofs.Cursors.{AllOrSlip, call_checked, section_checked}
@@ -66,9 +62,9 @@ kept_again : (h : SsTableHandle) (order : IterationOrder) (p : Meaning) (y : Tab
 kept_again h order p y e before reads (inl k) = λ later at d r. inr ((subst (λ (s : TableState). refuses_in s h order p later at d) k r).1)
 kept_again h order p y e before reads (inr k) = λ later at d r. absurd ((subst (λ (s : TableState). refuses_in s h order p later at d) k r).0 refl)
 
-pub walk_fails : (h : SsTableHandle) (order : IterationOrder) (a b : Reach) (i j : Counts) (x y : TableState) (at : Option (List ℕ)) (e : SlateDBError) → Keeps e y → Made a b (λ reads. IsCounted i j e ⊎ refuses_in x h order a.meaning reads at e) →
-    Made a b (λ reads. (IsCounted i j e ⊎ refuses_in x h order a.meaning reads at e) × Unit {0} × NoMoreBut e (refuses_at h order x a.meaning) reads (refuses_at h order y a.meaning))
-walk_fails h order a b i j x y at e k (reads, call, why) = (reads, call, (why, tt, kept_again h order a.meaning y e (refuses_at h order x a.meaning) reads k))
+pub walk_fails : {W : Type 0} → W → (h : SsTableHandle) (order : IterationOrder) (a b : Reach) (i j : Counts) (x y : TableState) (at : Option (List ℕ)) (e : SlateDBError) → Keeps e y → Made a b (λ reads. IsCounted i j e ⊎ refuses_in x h order a.meaning reads at e) →
+    Made a b (λ reads. (IsCounted i j e ⊎ refuses_in x h order a.meaning reads at e) × W × NoMoreBut e (refuses_at h order x a.meaning) reads (refuses_at h order y a.meaning))
+walk_fails {W} stays h order a b i j x y at e k (reads, call, why) = (reads, call, (why, stays, kept_again h order a.meaning y e (refuses_at h order x a.meaning) reads k))
 
 pub fails_still : (range : BytesRange) (h : SsTableHandle) (order : IterationOrder) (a b : Reach) (i j : Counts) (x y : TableState) (at : Option (List ℕ)) (e : SlateDBError) → Keeps e y → Made a b (λ reads. IsCounted i j e ⊎ refuses_in x h order a.meaning reads at e) →
     (w : World) → Sees w a b → IsSoundAt range h order x w → IsSoundAt range h order y w
@@ -94,9 +90,9 @@ behind_fails h order a b i j x c at e is (reads, call, inl k) = (reads, call, in
 behind_fails h order a b i j x c at e is (reads, call, inr k) = (reads, call, inr (subst (λ (s : TableState). refuses_in s h order a.meaning reads at e) (sym is) k))
 
 -- a kept refusal is answered again
-pub again_fails : (h : SsTableHandle) (order : IterationOrder) (t : Reach) (i : Counts) (x : TableState) (kept e : SlateDBError) (at : Option (List ℕ)) → x ≡ Refused kept → (e ≡ kept) ⊎ (e ≡ OutOfMemory) →
-    Made t t (λ reads. (IsCounted i i e ⊎ refuses_in x h order t.meaning reads at e) × Unit {0} × NoMoreBut e (refuses_at h order x t.meaning) reads (refuses_at h order (Refused kept) t.meaning))
-again_fails h order t i x kept e at is why = ([], call_none t, (blamed why, tt, λ later k d r. inl (subst (λ (s : TableState). refuses_in s h order t.meaning later k d) (sym is) r)))
+pub again_fails : {W : Type 0} → W → (h : SsTableHandle) (order : IterationOrder) (t : Reach) (i : Counts) (x : TableState) (kept e : SlateDBError) (at : Option (List ℕ)) → x ≡ Refused kept → (e ≡ kept) ⊎ (e ≡ OutOfMemory) →
+    Made t t (λ reads. (IsCounted i i e ⊎ refuses_in x h order t.meaning reads at e) × W × NoMoreBut e (refuses_at h order x t.meaning) reads (refuses_at h order (Refused kept) t.meaning))
+again_fails {W} stays h order t i x kept e at is why = ([], call_none t, (blamed why, stays, λ later k d r. inl (subst (λ (s : TableState). refuses_in s h order t.meaning later k d) (sym is) r)))
   where
     is_memory : (d : SlateDBError) → (d ≡ OutOfMemory) ⊎ (d ≢ OutOfMemory)
     is_memory OutOfMemory = inl refl
@@ -110,15 +106,49 @@ again_fails h order t i x kept e at is why = ([], call_none t, (blamed why, tt, 
         by (inl m) = inl (subst (IsCounted i i) (sym (same ∙ m)) tt)
         by (inr other) = inr (subst (λ (s : TableState). refuses_in s h order t.meaning [] at e) (sym is) (other, same))
 
-pub again_here : (h : SsTableHandle) (order : IterationOrder) (t : Reach) (i : Counts) (x : TableState) (kept e : SlateDBError) (at : Option (List ℕ)) → x ≡ Refused kept → (e ≡ kept) ⊎ (e ≡ OutOfMemory) →
-    Made t t (λ reads. (IsCounted i i e ⊎ refuses_in x h order t.meaning reads at e) × Unit {0} × NoMoreBut e (refuses_at h order x t.meaning) reads (refuses_at h order x t.meaning))
+pub again_here : {W : Type 0} → W → (h : SsTableHandle) (order : IterationOrder) (t : Reach) (i : Counts) (x : TableState) (kept e : SlateDBError) (at : Option (List ℕ)) → x ≡ Refused kept → (e ≡ kept) ⊎ (e ≡ OutOfMemory) →
+    Made t t (λ reads. (IsCounted i i e ⊎ refuses_in x h order t.meaning reads at e) × W × NoMoreBut e (refuses_at h order x t.meaning) reads (refuses_at h order x t.meaning))
 unfolding again_fails
-again_here h order t i x kept e at is why = let r = again_fails h order t i x kept e at is why in ([], call_none t, (r.2.0, tt, λ later k d q. inl q))
+again_here {W} stays h order t i x kept e at is why = let r = again_fails stays h order t i x kept e at is why in ([], call_none t, (r.2.0, stays, λ later k d q. inl q))
 
 pub unread_fails : (h : SsTableHandle) (order : IterationOrder) (a b : Reach) (i j : Counts) (x : TableState) (at : Option (List ℕ)) (e : SlateDBError) → x ≡ New → Made a b (λ reads. IsCounted i j e ⊎ (IsDamage e × RefusesIndexed a.meaning h reads e)) →
     Made a b (λ reads. IsCounted i j e ⊎ refuses_in x h order a.meaning reads at e)
 unread_fails h order a b i j x at e is (reads, call, inl k) = (reads, call, inl k)
 unread_fails h order a b i j x at e is (reads, call, inr k) = (reads, call, inr (subst (λ (s : TableState). refuses_in s h order a.meaning reads at e) (sym is) (inr (k.0, (k.1.0, k.1.1, inl k.1.2)))))
+
+-- ---- what becomes of it
+
+new_fails : (h : SsTableHandle) (order : IterationOrder) (m : Meaning) (x : TableState) (at : Option (List ℕ)) → x ≡ New → refuses_in x h order m [] at IteratorNotInitialized
+new_fails h order m x at is = subst (λ (s : TableState). refuses_in s h order m [] at IteratorNotInitialized) (sym is) (inl refl)
+
+-- it wasn't begun
+pub unbegun_fails : {W : Type 0} → W → (h : SsTableHandle) (order : IterationOrder) (t : Reach) (x : TableState) (at : Option (List ℕ)) → x ≡ New →
+    Made t t (λ reads. (IsCounted t.faults t.faults IteratorNotInitialized ⊎ refuses_in x h order t.meaning reads at IteratorNotInitialized) × W × NoMoreBut IteratorNotInitialized (refuses_at h order x t.meaning) reads (refuses_at h order x t.meaning))
+unbegun_fails {W} stays h order t x at is = ([], call_none t, (inr (new_fails h order t.meaning x at is), stays, λ later k d q. inl q))
+
+pub walking_of : (s : TableState) (cursor : Cursor) → s ≡ Walking cursor → IsWalking s
+walking_of s cursor is = subst IsWalking (sym is) tt
+
+pub begins_new : (range : BytesRange) (s after : TableState) (entries : List (ℕ × List ℕ)) → s ≡ New → Begins range entries after → BeginsIn range s after
+begins_new range s after entries is begins = subst (λ (x : TableState). BeginsIn range x after) (sym is) (entries, begins)
+
+pub begins_walking : (range : BytesRange) (s : TableState) (cursor : Cursor) → s ≡ Walking cursor → BeginsIn range s s
+begins_walking range s cursor is = subst (λ (x : TableState). BeginsIn range x s) (sym is) is
+
+pub stays_new : (s : TableState) (at : Option (List ℕ)) → s ≡ New → StaysIn s at IteratorNotInitialized s
+stays_new s at is = subst (λ (x : TableState). StaysIn x at IteratorNotInitialized x) (sym is) (inl (refl, refl))
+
+pub stays_same : (s : TableState) (at : Option (List ℕ)) (kept e : SlateDBError) → s ≡ Refused kept → (e ≡ kept) ⊎ (e ≡ OutOfMemory) → StaysIn s at e s
+stays_same s at kept e is why = subst (λ (x : TableState). StaysIn x at e x) (sym is) (why, refl)
+
+pub stays_again : (s : TableState) (at : Option (List ℕ)) (kept e : SlateDBError) → s ≡ Refused kept → (e ≡ kept) ⊎ (e ≡ OutOfMemory) → StaysIn s at e (Refused kept)
+stays_again s at kept e is why = subst (λ (x : TableState). StaysIn x at e (Refused kept)) (sym is) (why, refl)
+
+pub stays_walking : (s after : TableState) (cursor : Cursor) (at : Option (List ℕ)) (e : SlateDBError) → s ≡ Walking cursor → Keeps e after → StaysIn s at e after
+stays_walking s after cursor at e is keeps = subst (λ (x : TableState). StaysIn x at e after) (sym is) keeps
+
+pub stays_begun : (s after : TableState) (e : SlateDBError) → s ≡ New → Keeps e after → StaysIn s None e after
+stays_begun s after e is keeps = subst (λ (x : TableState). StaysIn x None e after) (sym is) (inr (refl, keeps))
 
 -- ---- the index is read
 

@@ -61,6 +61,10 @@ module _ {S : Type 0} where
   HasBegun (Begun heads) = Unit {0}
   HasBegun _ = ⊥
 
+  abbrev pub IsUnrefused : MergeState S → Type 0
+  IsUnrefused (Refused e) = ⊥
+  IsUnrefused _ = Unit {0}
+
   abbrev pub IsFrontIn : Option RowEntry → MergeState S → Type 0
   IsFrontIn answer (Begun heads) = IsFront answer (heap_items heads)
   IsFrontIn answer _ = ⊥

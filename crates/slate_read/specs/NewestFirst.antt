@@ -4,7 +4,9 @@
 --     rest_newest, sound_newest, refuses_newest, bound_newest      of an iterator that is new, goes on, or was refused
 --     IsKept e progress      a refusal is kept, or want of memory in its place
 --     Begins before after      one that was new goes on, and nothing has come yet; another one stays
-use Rattle.std.specs.Prelude.{◌≡◌, ◌≢◌, ◌⊎◌, ℕ, ◌+◌, true, not, Bool, List, [], Option, IsSomeAnd}
+--     IsNew progress, IsUnrefused progress, IsGoing progress      it is new, wasn't refused, or goes on
+--     Stays before at e after      it refuses, and stands as it stood, or keeps the refusal
+use Rattle.std.specs.Prelude.{◌≡◌, ◌≢◌, ◌⊎◌, ℕ, ◌+◌, true, false, not, Bool, List, [], Option, Some, None, IsSomeAnd}
 use Rattle.slate_types.specs.declared.bytes_range.BytesRange.{BytesRange}
 use Rattle.slate_types.specs.declared.error.SlateDBError.{SlateDBError}
 use Rattle.slate_types.specs.declared.error.SlateDBError.TheVariants.{IteratorNotInitialized, OutOfMemory, SeekKeyOutOfKeyRange}
@@ -15,9 +17,11 @@ use Rattle.slate_types.specs.Outside.{Act, Meaning}
 use Rattle.slate_types.specs.Refusing.{IsDamage}
 use Rattle.slate_types.specs.RowTurns.{AreInTurn, row_before}
 use Rattle.slate_types.specs.World.{World}
+use Rattle.slate_read.specs.declared.newest_first.NewestFirst.{NewestFirst}
 use Rattle.slate_read.specs.declared.progress.Progress.{Progress}
 use Rattle.slate_read.specs.declared.progress.Progress.TheVariants.{New, Going, Refused}
 use Rattle.slate_read.specs.Groups.{in_turn, rest_grouped, rows_in_groups, sound_grouped}
+use Rattle.slate_read.specs.Kept.{Copies}
 
 abbrev pub is_below : BytesRange → List ℕ → Bool
 is_below range key = not (is_past_start range.start key)
@@ -58,3 +62,33 @@ Begins New (Going groups) = (groups.ready.items ≡ []) × (groups.gathered.item
 Begins New s = ⊥
 Begins (Going groups) s = s ≡ Going groups
 Begins (Refused e) s = s ≡ Refused e
+
+abbrev pub IsNew : Progress → Type 0
+IsNew s = s ≡ New
+
+abbrev pub IsUnrefused : Progress → Type 0
+IsUnrefused (Refused e) = ⊥
+IsUnrefused s = Unit {0}
+
+abbrev pub IsGoing : Progress → Type 0
+IsGoing (Going groups) = Unit {0}
+IsGoing s = ⊥
+
+-- ---- a call is refused
+
+-- a seek to a key before the range, or want of memory for a copy of the key
+abbrev pub RefusesBelow : BytesRange → Option (List ℕ) → SlateDBError → Type 0
+RefusesBelow range at e = IsSomeAnd at (λ key. (is_below range key ≡ true) × ((e ≡ SeekKeyOutOfKeyRange key) ⊎ (e ≡ OutOfMemory)))
+
+abbrev pub IsReached : BytesRange → Option (List ℕ) → Type 0
+IsReached range None = Unit {0}
+IsReached range (Some key) = is_below range key ≡ false
+
+-- same: it stands as it stood
+abbrev pub StaysIn : BytesRange → Progress → Option (List ℕ) → SlateDBError → Type 0 → Progress → Type 0
+StaysIn range New at e same after = ((e ≡ IteratorNotInitialized) × same) ⊎ ((at ≡ None) × IsKept e after)
+StaysIn range (Going groups) at e same after = (RefusesBelow range at e × same) ⊎ (IsReached range at × IsKept e after)
+StaysIn range (Refused kept) at e same after = Copies kept e × same
+
+abbrev pub Stays : {I : Type 0} → NewestFirst I → Option (List ℕ) → SlateDBError → NewestFirst I → Type 0
+Stays {I} before at e after = StaysIn before.range before.progress at e (after ≡ before) after.progress × (after.range ≡ before.range)

@@ -2,7 +2,7 @@
 --     source_rest, source_sound, source_order, source_refuses      of the rows in the range, as they stand in the table
 --     sst_rest, sst_sound, sst_refuses, sst_bound      of one that hands out the newest of each key first
 --     BringsRows w order it rows      it is sound in a world, these rows are left there, and they stand in turn
---     IsTableIterator range table order it      in each world that has the table, the rows in the range are left, the newest of each key first
+--     IsTableIterator range table order it      it is new and of this range, and in each world that has the table, the rows in the range are left, the newest of each key first
 use Rattle.std.specs.Prelude.{◌≡◌, ℕ, List, Option, filter}
 use Rattle.slate_types.specs.declared.error.SlateDBError.{SlateDBError}
 use Rattle.slate_types.specs.Outside.{Act, Meaning}
@@ -17,8 +17,8 @@ use Rattle.slate_read.specs.declared.newest_first.NewestFirst.{NewestFirst}
 use Rattle.slate_read.specs.declared.range_rows.InRange.{InRange}
 use Rattle.slate_read.specs.declared.table_state.TableWalk.{TableWalk}
 use Rattle.slate_read.specs.Groups.{in_turn}
-use Rattle.slate_read.specs.NewestFirst.{bound_newest, refuses_newest, rest_newest, sound_newest}
-use Rattle.slate_read.specs.TableWalk.{IsReadable, IsSoundWalk, bound_in, is_in, refuses_in, rest_of, rows_in}
+use Rattle.slate_read.specs.NewestFirst.{IsNew, bound_newest, refuses_newest, rest_newest, sound_newest}
+use Rattle.slate_read.specs.TableWalk.{IsReadable, IsSoundWalk, IsUnopened, bound_in, is_in, refuses_in, rest_of, rows_in}
 
 abbrev pub source_rest : FilterIterator TableWalk InRange → World → List RowEntry
 source_rest source w = filter (is_in source.predicate.range) (rest_of source.iterator w)
@@ -50,5 +50,8 @@ pub record BringsRows (w : World) (order : IterationOrder) (it : NewestFirst (Fi
   pub turn : AreInTurn (row_before order) rows
   pub same_order : it.iterator.iterator.order ≡ order
 
-abbrev pub IsTableIterator : BytesRange → SsTableHandle → IterationOrder → NewestFirst (FilterIterator TableWalk InRange) → Type 0
-IsTableIterator range table order it = (w : World) (kept : Kept) → IsReadable w table kept → BringsRows w order it (in_turn order (rows_in range order kept))
+pub record IsTableIterator (range : BytesRange) (table : SsTableHandle) (order : IterationOrder) (it : NewestFirst (FilterIterator TableWalk InRange)) : Type 0 where
+  pub within : it.range ≡ range
+  pub fresh : IsNew it.progress
+  pub unopened : IsUnopened it.iterator.iterator.state
+  pub brings : (w : World) (kept : Kept) → IsReadable w table kept → BringsRows w order it (in_turn order (rows_in range order kept))

@@ -9,7 +9,8 @@
 --     rest_of it w, bound_of it, refuses_of it      of a walk over a table
 --     IsReadable p h kept      an object is a table of this handle, whose blocks have these rows
 --     IsSoundWalk it w      what the rest of a walk rests on
-use Rattle.std.specs.Prelude.{◌≡◌, ◌≢◌, ◌⊎◌, ℕ, ◌+◌, ◌-◌, ◌*◌, ◌^◌, ◌<◌, ◌≤◌, true, List, [], ◌∷◌, ◌++◌, length, flat_map, map, slice_get, slice_range, Contains, IsSorted, Bool, false, filter, codes, Option, Some, None, IfSome, Result, Ok, Err, IsOk}
+--     Stays before at e after      it refuses, and stands as it stood, or keeps the refusal
+use Rattle.std.specs.Prelude.{◌≡◌, ◌≢◌, ◌⊎◌, ℕ, ◌+◌, ◌-◌, ◌*◌, ◌^◌, ◌<◌, ◌≤◌, true, List, [], ◌∷◌, ◌++◌, length, flat_map, slice_get, slice_range, Contains, IsSorted, Bool, false, filter, codes, Option, Some, None, Ok, Err, IsOk}
 use Rattle.std.specs.List.{AllByRecursion}
 use Rattle.slate_types.specs.declared.bytes_range.BytesRange.{BytesRange}
 use Rattle.slate_types.specs.declared.error.SlateDBError.{SlateDBError}
@@ -41,6 +42,7 @@ use Rattle.slate_read.specs.declared.table_state.TableWalk.{TableWalk}
 use Rattle.slate_read.specs.declared.table_state.TableState.{TableState}
 use Rattle.slate_read.specs.declared.table_state.TableState.TheVariants.{New, Walking, Refused}
 use Rattle.slate_read.specs.declared.table_state.Cursor.{Cursor}
+use Rattle.slate_read.specs.Kept.{Copies}
 use Rattle.slate_types.specs.World.{Checks, Kept, Made, Place, Sees, World}
 use Rattle.slate_types.specs.Outside.{Meaning, Reach}
 use Rattle.slate_types.specs.Refusing.{IsDamage, NoMore}
@@ -276,6 +278,33 @@ abbrev pub Begins : BytesRange → List (ℕ × List ℕ) → TableState → Typ
 Begins range entries New = ⊥
 Begins range entries (Walking cursor) = BeginsAt range entries cursor
 Begins range entries (Refused e) = ⊥
+
+abbrev pub IsUnopened : TableState → Type 0
+IsUnopened s = s ≡ New
+
+abbrev pub IsWalking : TableState → Type 0
+IsWalking (Walking cursor) = Unit {0}
+IsWalking s = ⊥
+
+-- a walk that wasn't begun, one over blocks, which is left, and one that was refused
+abbrev pub StaysIn : TableState → Option (List ℕ) → SlateDBError → TableState → Type 0
+StaysIn New at e after = ((e ≡ IteratorNotInitialized) × (after ≡ New)) ⊎ ((at ≡ None) × Keeps e after)
+StaysIn (Walking cursor) at e after = Keeps e after
+StaysIn (Refused kept) at e after = Copies kept e × (after ≡ Refused kept)
+
+-- it is over the same table
+abbrev pub IsSameWalk : TableWalk → TableWalk → Type 0
+IsSameWalk before after = (after.range ≡ before.range) × (after.table ≡ before.table) × (after.order ≡ before.order)
+
+-- a walk that has begun stays, and a new one is over the blocks that can hold keys of its range
+abbrev pub BeginsIn : BytesRange → TableState → TableState → Type 0
+BeginsIn range New after = (entries : List (ℕ × List ℕ)) × Begins range entries after
+BeginsIn range (Walking cursor) after = after ≡ Walking cursor
+BeginsIn range (Refused e) after = ⊥
+
+-- it refuses, and stands as it stood, or keeps the refusal
+abbrev pub Stays : TableWalk → Option (List ℕ) → SlateDBError → TableWalk → Type 0
+Stays before at e after = StaysIn before.state at e after.state × IsSameWalk before after
 
 -- ---- the rows of a table in a range
 

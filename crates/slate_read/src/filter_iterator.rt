@@ -3,7 +3,7 @@ ghost use Rattle.std.specs.Prelude.{◌≡◌, Bool, filter, IfOk, IsOk};
 ghost use Rattle.slate_types.specs.declared.types.RowEntry.{RowEntry};
 ghost use Rattle.slate_types.specs.Iteration.{drop_before};
 ghost use Rattle.slate_types.proofs.IterationLaws.{in_order_filtered};
-ghost use Rattle.slate_read.specs.Filtering.{upto_seq, TakesKept};
+ghost use Rattle.slate_read.specs.Filtering.{upto_seq, StaysKept, TakesKept};
 
 use slate_types::{IterationOrder, Outside, RowEntry, RowEntryIterator, SlateDBError};
 use std::alloc::Global;
@@ -20,6 +20,7 @@ pub trait RowPredicate: Drop {
 /// Keeps rows whose sequence isn't above the number, and all rows where there is none.
 #[derive(Drop)]
 pub struct MaxSeq {
+    /// The greatest sequence that is kept, or `None` where each is.
     pub max_seq: Option<u64>,
 }
 
@@ -77,7 +78,7 @@ impl<E: Outside, I: RowEntryIterator<E>, P: RowPredicate> RowEntryIterator<E>
 
     ghost seeks = { λ before p reads key after. I.seeks before.iterator p reads key after.iterator × (after.predicate ≡ before.predicate) };
 
-    ghost stays = { λ before _ _ _ _ after. after.predicate ≡ before.predicate };
+    ghost stays = { λ before p reads at e after. StaysKept (λ x rs a y. I.takes x p rs a y) (λ x rs k d y. I.stays x p rs k d y) (P.keeps before.predicate) before.iterator reads at e after.iterator × (after.predicate ≡ before.predicate) };
 
     ghost rising = { λ it w h. in_order_filtered (I.order it.iterator) (P.keeps it.predicate) (I.rest it.iterator w) (I.rising it.iterator w h) };
 

@@ -15,7 +15,8 @@ use slate_types::{BytesRange, SlateDBError};
 use std::alloc::Global;
 
 /// The rows of a stored table in a range, in an order, the newest of each key first. `init` reads the index, and the calls after it
-/// read the blocks that can hold keys of the range, each once.
+/// read the blocks that can hold keys of the range. The code reads each at most once; no clause says
+/// that.
 pub type InternalSstIterator = NewestFirst<FilterIterator<TableWalk, InRange>>;
 
 impl NewestFirst<FilterIterator<TableWalk, InRange>> {

@@ -9,7 +9,7 @@ ghost use Rattle.slate_types.proofs.Moves.{Moves};
 ghost use Rattle.slate_read.specs.Merging.{AreReady};
 ghost use Rattle.slate_read.specs.MergeSteps.{CountsTaken};
 ghost use Rattle.slate_read.specs.MergeStateLaws.{refuses_more, refuses_whole, rest_rises};
-ghost use Rattle.slate_read.specs.MergeStates.{bound_in, CopiedIn, HasBegun, IsFrontIn, IsMergeOf, IsSameMerge, IsSoundIn, refuses_in, rest_in, Stays};
+ghost use Rattle.slate_read.specs.MergeStates.{bound_in, CopiedIn, HasBegun, IsFrontIn, IsMergeOf, IsSameMerge, IsSoundIn, IsUnrefused, refuses_in, rest_in, Stays};
 
 use crate::head::Head;
 use crate::heads::{begin_again, begin_all, seek_heads, take_row};
@@ -121,7 +121,7 @@ impl<E: Outside, I: RowEntryIterator<E>> RowEntryIterator<E> for MergeIterator<I
 
     ghost refuses = { λ it m reads at e. refuses_in I.refuses it.state m reads at e };
 
-    ghost begins = { λ before m reads after. HasBegun after.state × IsSameMerge before after × (after.processed ≡ before.processed) };
+    ghost begins = { λ before m reads after. IsUnrefused before.state × HasBegun after.state × IsSameMerge before after × (after.processed ≡ before.processed) };
 
     ghost takes = { λ before m reads answer after. IsFrontIn answer before.state × HasBegun after.state × IsSameMerge before after × CountsTaken before.dedup before.processed answer after.processed };
 

@@ -1,12 +1,12 @@
 //! The newest row of each key first, in both orders.
 ghost use Rattle.std.specs.Prelude.{◌≡◌, ◌⊎◌, false};
 ghost use Rattle.slate_types.specs.declared.error.SlateDBError.{SlateDBError};
-ghost use Rattle.slate_read.specs.NewestFirst.{Begins, IsKept, bound_newest, is_below, refuses_newest, rest_newest, sound_newest};
+ghost use Rattle.slate_read.specs.NewestFirst.{Begins, IsGoing, IsKept, IsUnrefused, Stays, bound_newest, is_below, refuses_newest, rest_newest, sound_newest};
 ghost use Rattle.slate_read.specs.NewestLaws.{newest_more, newest_order, newest_whole};
 
 use crate::groups::Groups;
+use crate::kept::copy_of;
 use crate::progress::Progress;
-use crate::table_walk::copy_of;
 use bytes::Bytes;
 use slate_types::{
     ByteRangeBounds, BytesRange, IterationOrder, Outside, RowEntry, RowEntryIterator, SlateDBError,
@@ -21,7 +21,7 @@ use std::ops::Bound;
 /// What the source refuses while a key is gathered is answered at once, since nobody knows whether the key's newest row was among
 /// those that came: no row of a key is handed out before each of them has come. Each refusal is kept and answered again, or want
 /// of memory in its place, but for `IteratorNotInitialized`, exactly before `init`, and `SeekKeyOutOfKeyRange`, exactly for a seek
-/// to a key before the range: these leave it as it is.
+/// to a key before the range, or want of memory for a copy of that key: these leave it as it is.
 #[derive(Drop)]
 pub struct NewestFirst<I> {
     pub(crate) range: BytesRange,
@@ -105,13 +105,13 @@ impl<E: Outside, I: RowEntryIterator<E>> RowEntryIterator<E> for NewestFirst<I> 
 
     ghost refuses = { λ it m reads at e. refuses_newest I.refuses it.range it.iterator it.progress m reads at e };
 
-    ghost begins = { λ _ _ _ _. Unit {0} };
+    ghost begins = { λ before _ _ after. IsUnrefused before.progress × Begins before.progress after.progress × (after.range ≡ before.range) };
 
-    ghost takes = { λ _ _ _ _ _. Unit {0} };
+    ghost takes = { λ before _ _ _ after. IsGoing before.progress × IsGoing after.progress × (after.range ≡ before.range) };
 
-    ghost seeks = { λ before _ _ key _. is_below before.range key ≡ false };
+    ghost seeks = { λ before _ _ key after. (is_below before.range key ≡ false) × IsGoing before.progress × IsGoing after.progress × (after.range ≡ before.range) };
 
-    ghost stays = { λ _ _ _ _ _ _. Unit {0} };
+    ghost stays = { λ before _ _ at e after. Stays before at e after };
 
     ghost rising = { λ it w h. newest_order I.rest I.sound I.order it.iterator it.progress w h };
 

@@ -12,7 +12,9 @@ use std::alloc::Global;
 
 /// The rows of an iterator, the first of which can be looked at before it is taken.
 ///
-/// It refuses what its source refuses, and stays where its source stays. A row that was read ahead is then let go of.
+/// It refuses what its source refuses. A row that was read ahead is then let go of, also where the source itself stands as it
+/// stood, as behind `IteratorNotInitialized` and `SeekKeyOutOfKeyRange`: what a source has left behind a refusal isn't known.
+/// So after a refusal the iterator has the rows of its source alone.
 #[derive(Drop)]
 pub struct PeekingIterator<I> {
     iterator: I,
@@ -73,7 +75,8 @@ impl<I: Drop> PeekingIterator<I> {
         self.ahead.as_ref()
     }
 
-    /// The row that `next` gives.
+    /// The row that `next` gives. Of what becomes of the iterator its contract says nothing: where that matters, `read_ahead` and
+    /// then `ahead` is the way.
     pub fn peek<E: Outside>(
         &mut self,
         alloc: Global,

@@ -4,7 +4,7 @@ ghost use Rattle.slate_types.specs.declared.error.SlateDBError.{SlateDBError};
 ghost use Rattle.slate_types.specs.Keys.{is_refused};
 ghost use Rattle.slate_read.specs.SstIterators.{IsTableIterator, sst_bound, sst_refuses, sst_rest, sst_sound};
 ghost use Rattle.slate_read.specs.SstLaws.{sst_more, sst_rising, sst_whole};
-ghost use Rattle.slate_read.specs.NewestFirst.{is_below};
+ghost use Rattle.slate_read.specs.NewestFirst.{Begins, IsGoing, IsUnrefused, Stays, is_below};
 ghost use Rattle.slate_read.specs.SstOptions.{CanFetch};
 
 use crate::internal_sst_iterator::InternalSstIterator;
@@ -56,13 +56,13 @@ impl<S: Store, M: MergeOperator, T: BlockTransformer> RowEntryIterator<Env<'_, S
 
     ghost refuses = { λ it m reads at e. sst_refuses it.rows m reads at e };
 
-    ghost begins = { λ _ _ _ _. Unit {0} };
+    ghost begins = { λ before _ _ after. IsUnrefused before.rows.progress × Begins before.rows.progress after.rows.progress × (after.rows.range ≡ before.rows.range) };
 
-    ghost takes = { λ _ _ _ _ _. Unit {0} };
+    ghost takes = { λ before _ _ _ after. IsGoing before.rows.progress × IsGoing after.rows.progress × (after.rows.range ≡ before.rows.range) };
 
-    ghost seeks = { λ before _ _ key _. is_below before.rows.range key ≡ false };
+    ghost seeks = { λ before _ _ key after. (is_below before.rows.range key ≡ false) × IsGoing before.rows.progress × IsGoing after.rows.progress × (after.rows.range ≡ before.rows.range) };
 
-    ghost stays = { λ _ _ _ _ _ _. Unit {0} };
+    ghost stays = { λ before _ _ at e after. Stays before.rows at e after.rows };
 
     ghost rising = { λ it w h. sst_rising it.rows w h };
 

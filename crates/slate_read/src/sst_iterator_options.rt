@@ -5,18 +5,20 @@ use slate_types::{FilterContext, IterationOrder};
 /// How the rows of stored tables are read.
 #[derive(Drop)]
 pub struct SstIteratorOptions {
-    /// How many reads of neighbouring blocks are made before the next row is handed out. Not 0.
+    /// How many reads of neighbouring blocks are made before the next row is handed out. Not 0. Not used yet.
     pub max_fetch_tasks: u32,
 
-    /// How many bytes such a read asks for at least, where that many are left of the blocks that can hold the range. Not 0.
+    /// How many bytes such a read asks for at least, where that many are left of the blocks that can hold the range. Not 0. Not
+    /// used yet: a read asks for one block.
     pub target_bytes_to_fetch: u64,
 
+    /// The order in which the rows come.
     pub order: IterationOrder,
 
-    /// The prefix that filters are asked for, where the keys have one.
+    /// The prefix that filters are asked for, where the keys have one. Not used yet: no filter is asked.
     pub prefix: Option<Bytes>,
 
-    /// What filters are told beside the prefix.
+    /// What filters are told beside the prefix. Not used yet.
     pub filter_context: Option<FilterContext>,
 }
 

@@ -1,9 +1,10 @@
 //! The rows of a stored table, as an iterator.
-ghost use Rattle.slate_read.specs.TableWalk.{bound_in, IsSoundWalk, no_words, refuses_in, rest_of};
+ghost use Rattle.slate_read.specs.TableWalk.{BeginsIn, bound_in, IsSameWalk, IsSoundWalk, IsWalking, refuses_in, rest_of, Stays};
 ghost use Rattle.slate_read.specs.WalkLaws.{refuses_more, refuses_whole};
 
+use crate::kept::copy_of;
 use crate::table_state::{TableState, TableWalk};
-use crate::table_walk::{copy_of, open_index};
+use crate::table_walk::open_index;
 use slate_store::{Env, Store};
 use slate_types::{
     BlockTransformer, IterationOrder, MergeOperator, RowEntry, RowEntryIterator, SlateDBError,
@@ -22,13 +23,13 @@ impl<S: Store, M: MergeOperator, T: BlockTransformer> RowEntryIterator<Env<'_, S
 
     ghost refuses = { λ it p reads at e. refuses_in it.state it.table it.order p reads at e };
 
-    ghost begins = { λ _ _ _ _. Unit {0} };
+    ghost begins = { λ before _ _ after. BeginsIn before.range before.state after.state × IsSameWalk before after };
 
-    ghost takes = { no_words };
+    ghost takes = { λ before _ _ _ after. IsWalking before.state × IsWalking after.state × IsSameWalk before after };
 
-    ghost seeks = { λ _ _ _ _ _. Unit {0} };
+    ghost seeks = { λ before _ _ _ after. IsWalking before.state × IsWalking after.state × IsSameWalk before after };
 
-    ghost stays = { λ _ _ _ _ _ _. Unit {0} };
+    ghost stays = { λ before _ _ at e after. Stays before at e after };
 
     ghost rising = { λ _ _ h. h.rising };
 

@@ -17,6 +17,7 @@ ghost use Rattle.slate_types.specs.World.{Made};
 ghost use Rattle.slate_types.specs.Steps.{Step};
 ghost use Rattle.slate_read.specs.TableWalk.{IsSoundRising, SkipsOpen, Sought, Begins, IsIndexed, Keeps, RefusesIndexed, bound_behind, max_blocks, IsOpened, IsSoundCursor, Jumps, no_words, Opens, refuses_behind, rest_after, next_block, next_first, next_stop, reads_in, RefusesLeft, TakesOpen, IsWalkRead, RefusesRows, RefusesSome, RefusesWalk, Walks, max_reads, path_in, size_of, start_of};
 
+use crate::kept::copy_of;
 use crate::table_state::{Cursor, TableState, TableWalk};
 use slate_block::{Block, DataBlockIterator};
 use slate_store::{Env, EnvOf, Store};
@@ -274,28 +275,6 @@ impl Cursor {
         }
         self.jump(order, key);
         self.walk_to(alloc, env, table, order, key)
-    }
-}
-
-/// A refusal once more, or want of memory in its place. Of those that a table has, it copies each.
-pub(crate) fn copy_of(error: &SlateDBError) -> SlateDBError
-    ensures { (result ≡ error.now) ⊎ (result ≡ SlateDBError.OutOfMemory) }
-{
-    match error {
-        SlateDBError::StoreFault => SlateDBError::StoreFault,
-        SlateDBError::BlockTransformError => SlateDBError::BlockTransformError,
-        SlateDBError::CorruptTable { place } => SlateDBError::CorruptTable { place: *place },
-        SlateDBError::ChecksumMismatch { stored, computed } => SlateDBError::ChecksumMismatch {
-            stored: *stored,
-            computed: *computed,
-        },
-        SlateDBError::InvalidRowFlags { encoded_bits } => SlateDBError::InvalidRowFlags {
-            encoded_bits: *encoded_bits,
-        },
-        SlateDBError::InvalidVersion { actual_version } => SlateDBError::InvalidVersion {
-            actual_version: *actual_version,
-        },
-        _ => SlateDBError::OutOfMemory,
     }
 }
 

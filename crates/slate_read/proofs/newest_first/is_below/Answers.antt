@@ -1,4 +1,4 @@
-use Rattle.std.proofs.Common.{◌≡◌, ◌∙◌, ap, not}
+use Rattle.std.proofs.Common.{◌∙◌, ap, not}
 use Rattle.slate_types.specs.Keys.{is_past_start}
 use Rattle.slate_read.proofs.Newests.{below_included}
 use Rattle.slate_read.proofs.newest_first.is_below.Goals as goal

@@ -2,7 +2,7 @@ use Rattle.std.proofs.Common.{refl, arith, None}
 use Rattle.slate_types.proofs.Reaching.{reads_none}
 use Rattle.slate_read.specs.declared.merge_iterator.MergeState.TheVariants.{Begun}
 use Rattle.slate_read.specs.MergeStates.{bound_in}
-use Rattle.slate_read.proofs.MergeStateSteps.{again_stays, copied_bound, fails_still, refused_stays, state_ready}
+use Rattle.slate_read.proofs.MergeStateSteps.{again_stays, copied_bound, fails_still, refused_stays, state_ready, unrefused_of}
 use Rattle.slate_read.proofs.merge_iterator.MergeIteratorRowEntryIterator.init.Goals as goal
 
 pub returns-in-Refused : goal.returns-in-Refused
@@ -28,7 +28,7 @@ returns-in-Ok g c =
       still = λ w sees h. rw (b.state, b.merge.order) (m.still w sees h);
       checked = m.checked;
       ready = rw b.state (state_ready g.I.RowEntryIterator.refuses (g.E.Outside.reach c.args.env.now).meaning (Begun c.in-Ok.heads) tt n.ready);
-      begun = (m.made.0, m.made.1, ((rw b.state tt, record { order = b.merge.order; dedup = b.merge.dedup }, b.processed), rw b.state (m.made.2)));
+      begun = (m.made.0, m.made.1, ((unrefused_of c.args.self.now.state c.in_default.not-Refused, rw b.state tt, record { order = b.merge.order; dedup = b.merge.dedup }, b.processed), rw b.state (m.made.2)));
       cause = tt;
       no_larger = rw b.state n.no_larger;
       order = b.merge.order;
