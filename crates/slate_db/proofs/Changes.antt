@@ -17,14 +17,14 @@ use Rattle.slate_db.specs.Operated.{operated}
 use Rattle.slate_db.specs.Sound.{IsKept}
 use Rattle.slate_db.specs.View.{view_of, unseen_of, IsWholeInside}
 use Rattle.slate_db.proofs.Keeps.{kept_event}
-use Rattle.slate_db.proofs.Wholes.{whole_changed}
+use Rattle.slate_db.proofs.Wholes.{KeepsOwn, whole_changed}
 use Rattle.slate_txn.proofs.NamedLaws.{IsNamed, open_is}
 
 -- the core, of a call that changed one transaction or none
-pub whole_either : {X E : Type 0} (r : Result X E) (s : Inside) (ts : Transactions) (id : List ℕ) (f : Tx → Tx) → ((t : Tx) → begun (f t).level (f t).begin ≡ begun t.level t.begin) → OnOk r (ts ≡ update_named id f s.transactions) → OnErr r (ts ≡ s.transactions) →
+pub whole_either : {X E : Type 0} (r : Result X E) (s : Inside) (ts : Transactions) (id : List ℕ) (f : Tx → Tx) → ((t : Tx) → begun (f t).level (f t).begin ≡ begun t.level t.begin) → KeepsOwn f → OnOk r (ts ≡ update_named id f s.transactions) → OnErr r (ts ≡ s.transactions) →
     IsWholeInside s → IsWholeInside (record s { transactions = ts })
-whole_either (Ok x) s ts id f same changed err w = subst (λ (us : Transactions). IsWholeInside (record s { transactions = us })) (sym changed) (whole_changed (view_of s) (unseen_of s) id f same w)
-whole_either (Err e) s ts id f same changed err w = subst (λ (us : Transactions). IsWholeInside (record s { transactions = us })) (sym err) w
+whole_either (Ok x) s ts id f same own changed err w = subst (λ (us : Transactions). IsWholeInside (record s { transactions = us })) (sym changed) (whole_changed (view_of s) (unseen_of s) id f same own w)
+whole_either (Err e) s ts id f same own changed err w = subst (λ (us : Transactions). IsWholeInside (record s { transactions = us })) (sym err) w
 
 pub kept_either : {X E : Type 0} (r : Result X E) (m : Meaning) (s : Inside) (c : CoreModel) (ts : Transactions) (id : List ℕ) (f : Tx → Tx) → view_of s ≡ c → OnOk r (ts ≡ update_named id f s.transactions) → OnErr r (ts ≡ s.transactions) →
     IsKept m c → IsKept m (view_of (record s { transactions = ts }))

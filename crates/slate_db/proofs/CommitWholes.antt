@@ -52,6 +52,7 @@ whole_committed c x id now t rows spare some within n managed log layers w = rec
     named = all_without _ id _ w.tied.named;
     floor_within = let h : c.floor ≤ x.last = w.tied.floor_within in omega arith;
     begins = all_without _ id _ (all_map _ _ (λ p h. (h.0, let k : p.1.begin ≤ x.last = h.1 in omega arith)) _ w.tied.begins);
+    own = all_without _ id _ w.tied.own;
     all_installed = λ active frozen. absurd (some active);
     runs = subst (λ (rs : List (List (Ulid × List ℕ))). AreRuns rs x.runs) (sym (runs_same c.events e refl)) w.tied.runs;
     quiet = λ idle. absurd (some idle);
@@ -83,6 +84,7 @@ whole_idle c x id now t spare n managed log w = record {
     named = all_without _ id _ w.tied.named;
     floor_within = w.tied.floor_within;
     begins = all_without _ id _ w.tied.begins;
+    own = all_without _ id _ w.tied.own;
     all_installed = λ active frozen. subst (λ (cs : List Commit). up_to (installed (c.events ++ (e ∷ []))) cs ≡ cs) (sym (append-nil c.state.commits)) (ap (λ i. up_to i c.state.commits) (ap (λ s. s.flushed) more) ∙ w.tied.all_installed active frozen);
     runs = subst (λ (rs : List (List (Ulid × List ℕ))). AreRuns rs x.runs) (sym (runs_same c.events e refl)) w.tied.runs;
     quiet = λ idle. quiet_more c.events e refl refl (w.tied.quiet idle);

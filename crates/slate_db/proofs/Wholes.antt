@@ -1,6 +1,6 @@
 -- What ties the parts of a core stays so.
 --     after_begin, after_end, after_freeze      the core after each
-use Rattle.std.proofs.Common.{◌≡◌, ℕ, ◌+◌, ◌-◌, ◌^◌, ◌≤◌, ◌<◌, min, List, [], ◌∷◌, ◌++◌, length, map, refl, sym, ap, subst, ◌∙◌, arith, ℤ, Greater, length-append, None}
+use Rattle.std.proofs.Common.{◌≡◌, ℕ, ◌+◌, ◌-◌, ◌^◌, ◌≤◌, ◌<◌, min, List, [], ◌∷◌, ◌++◌, length, map, refl, sym, ap, subst, ◌∙◌, arith, ℤ, Greater, length-append, append-nil, None}
 use Rattle.std.proofs.lemmas.List.{map-append, length-map}
 use Rattle.std.specs.Prelude.{IsSome}
 use Rattle.std.specs.List.{AllByRecursion}
@@ -9,10 +9,13 @@ use Rattle.slate_types.specs.declared.config.IsolationLevel.{IsolationLevel}
 use Rattle.slate_types.specs.declared.types.RowEntry.{RowEntry}
 use Rattle.slate_types.specs.declared.types.Ulid.{Ulid}
 use Rattle.slate_read.specs.declared.sorted_run.SortedRun.{SortedRun}
+use Rattle.slate_mem.specs.declared.WriteOp.{WriteOp}
 use Rattle.slate_mem.specs.Batch.{Ops}
 use Rattle.slate_txn.specs.declared.event.Event.{Event}
 use Rattle.slate_txn.specs.declared.event.Event.TheVariants as events
 use Rattle.slate_txn.specs.declared.event.TranscriptStep.{TranscriptStep}
+use Rattle.slate_txn.specs.declared.event.TranscriptStep.TheVariants as steps
+use Rattle.slate_txn.specs.Alone.{own_of}
 use Rattle.slate_txn.specs.Ids.{id_of, IsOfCount}
 use Rattle.slate_txn.specs.Managers.{Manager, StandsFor, untracked}
 use Rattle.slate_txn.specs.Named.{find_named, without, update_named}
@@ -21,7 +24,7 @@ use Rattle.slate_txn.specs.Places.{IsQuiet}
 use Rattle.slate_txn.specs.Reads.{up_to}
 use Rattle.slate_txn.specs.Replay.{replay, apply, used_from}
 use Rattle.slate_txn.specs.State.{Commit, Tx, begun, opening, last_of}
-use Rattle.slate_txn.specs.Step.{noted}
+use Rattle.slate_txn.specs.Step.{noted, with_op}
 use Rattle.slate_db.specs.Flushed.{after_install}
 use Rattle.slate_db.specs.Installs.{as_begun, runs_of, installed, IsRun, AreRuns, Replays}
 use Rattle.slate_db.specs.Layers.{AreLayers}
@@ -45,6 +48,7 @@ use Rattle.slate_db.proofs.Quiet.{quiet_more, quiet_frozen}
 use Rattle.slate_db.proofs.Split.{all_up_to}
 use Rattle.slate_txn.proofs.IdLaws.{fresh_named, all_past, wider}
 use Rattle.slate_txn.proofs.NamedLaws.{all_without, without_map, open_map, update_map, update_all}
+use Rattle.slate_txn.proofs.StepLaws.{own-append}
 
 -- what is open in a core is what is open in its journal
 pub ends_are : (c : CoreModel) (x : Unseen) → IsWhole c x → x.ends ≡ length c.state.txns
@@ -76,6 +80,7 @@ whole_first c x log layers e cs ts ss hs a f z m = record {
     named = subst (λ (ps : List (List ℕ × Tx)). AllByRecursion (λ p. IsOfCount x.ids p.0) ps) (sym ts) tt;
     floor_within = omega arith;
     begins = subst (λ (ps : List (List ℕ × Tx)). AllByRecursion (λ p. BeginsWithin c.floor x.last p) ps) (sym ts) tt;
+    own = subst (λ (ps : List (List ℕ × Tx)). AllByRecursion (λ p. p.1.ops ≡ own_of p.1.transcript) ps) (sym ts) tt;
     all_installed = λ active frozen. ap (up_to (installed c.events)) cs ∙ sym cs;
     runs = subst (λ (ks : List SortedRun). AreRuns (runs_of c.events) ks) (sym hs) (subst (λ (es : List Event). AreRuns (runs_of es) []) (sym e) tt);
     quiet = λ idle. subst IsQuiet (sym e) refl;
@@ -110,6 +115,7 @@ whole_begin c x level spare n managed stands log w = record {
     named = all_more _ _ _ (all_map _ _ (λ p. wider x.ids (x.ids + 1) (omega arith) p.0) _ w.tied.named) (record { count = x.ids + 1; within = omega arith; is = refl });
     floor_within = w.tied.floor_within;
     begins = all_more _ _ _ w.tied.begins (w.tied.floor_within, omega arith);
+    own = all_more (λ (p : List ℕ × Tx). p.1.ops ≡ own_of p.1.transcript) c.state.txns (id, begun level x.last) w.tied.own refl;
     all_installed = λ active frozen. rw (ap (λ s. s.flushed) more) (w.tied.all_installed active frozen);
     runs = subst (λ (rs : List (List (Ulid × List ℕ))). AreRuns rs x.runs) (sym (runs_same c.events e refl)) w.tied.runs;
     quiet = λ idle. quiet_more c.events e refl refl (w.tied.quiet idle);
@@ -166,6 +172,7 @@ whole_end c x id spare n managed log w = record {
     named = all_without _ id _ w.tied.named;
     floor_within = w.tied.floor_within;
     begins = all_without _ id _ w.tied.begins;
+    own = all_without _ id _ w.tied.own;
     all_installed = λ active frozen. rw (ap (λ s. s.flushed) more) (w.tied.all_installed active frozen);
     runs = subst (λ (rs : List (List (Ulid × List ℕ))). AreRuns rs x.runs) (sym (runs_same c.events e refl)) w.tied.runs;
     quiet = λ idle. quiet_more c.events e refl refl (w.tied.quiet idle);
@@ -187,8 +194,18 @@ kept_end m c id spare = kept_event m c _ _ spare refl
 
 -- ---- a change of one transaction
 
-pub whole_changed : (c : CoreModel) (x : Unseen) (id : List ℕ) (f : Tx → Tx) → ((t : Tx) → begun (f t).level (f t).begin ≡ begun t.level t.begin) → IsWhole c x → IsWhole (operated c id f) x
-whole_changed c x id f same w = record {
+-- its own operations stay those of its transcript
+abbrev pub KeepsOwn : (Tx → Tx) → Type 0
+KeepsOwn f = (t : Tx) → t.ops ≡ own_of t.transcript → (f t).ops ≡ own_of (f t).transcript
+
+pub own_operated : (k : List ℕ) (op : WriteOp) → KeepsOwn (with_op k op)
+own_operated k op t h = ap (λ (os : Ops). os ++ ((k, op) ∷ [])) h ∙ sym (own-append t.transcript (steps.Own k op ∷ []))
+
+own_noted : (ts : List TranscriptStep) → own_of ts ≡ [] → KeepsOwn (λ t. record t { transcript = t.transcript ++ ts })
+own_noted ts none t h = h ∙ sym (append-nil (own_of t.transcript)) ∙ ap (λ (os : Ops). own_of t.transcript ++ os) (sym none) ∙ sym (own-append t.transcript ts)
+
+pub whole_changed : (c : CoreModel) (x : Unseen) (id : List ℕ) (f : Tx → Tx) → ((t : Tx) → begun (f t).level (f t).begin ≡ begun t.level t.begin) → KeepsOwn f → IsWhole c x → IsWhole (operated c id f) x
+whole_changed c x id f same own w = record {
   log = w.log;
   layers = w.layers;
   tied = record {
@@ -198,6 +215,7 @@ whole_changed c x id f same w = record {
     named = update_all _ id f c.state.txns (λ p h. h) w.tied.named;
     floor_within = w.tied.floor_within;
     begins = update_all _ id f c.state.txns (λ p h. (subst (λ (n : ℕ). c.floor ≤ n) (sym (begin_same p.1)) h.0, subst (λ (n : ℕ). n ≤ x.last) (sym (begin_same p.1)) h.1)) w.tied.begins;
+    own = update_all _ id f c.state.txns (λ p h. own p.1 h) w.tied.own;
     all_installed = w.tied.all_installed;
     runs = w.tied.runs;
     quiet = w.tied.quiet;
@@ -212,8 +230,8 @@ whole_changed c x id f same w = record {
 abbrev pub after_note : CoreModel → List ℕ → List TranscriptStep → CoreModel
 after_note c id ts = record c { state = noted c.state id ts }
 
-pub whole_note : (c : CoreModel) (x : Unseen) (id : List ℕ) (ts : List TranscriptStep) → IsWhole c x → IsWhole (after_note c id ts) x
-whole_note c x id ts w = whole_changed c x id (λ t. record t { transcript = t.transcript ++ ts }) (λ t. refl) w
+pub whole_note : (c : CoreModel) (x : Unseen) (id : List ℕ) (ts : List TranscriptStep) → own_of ts ≡ [] → IsWhole c x → IsWhole (after_note c id ts) x
+whole_note c x id ts none w = whole_changed c x id (λ t. record t { transcript = t.transcript ++ ts }) (λ t. refl) (own_noted ts none) w
 
 -- ---- a freeze
 
@@ -232,6 +250,7 @@ whole_freeze c x spare freeze log layers w = record {
     named = w.tied.named;
     floor_within = w.tied.floor_within;
     begins = w.tied.begins;
+    own = w.tied.own;
     all_installed = λ active frozen. absurd (none_behind c.frozen c.active frozen);
     runs = subst (λ (rs : List (List (Ulid × List ℕ))). AreRuns rs x.runs) (sym (runs_same c.events events.Freeze refl)) w.tied.runs;
     quiet = λ idle. quiet_frozen c.events;
@@ -267,6 +286,7 @@ whole_write c x now ops rows spare some within n managed log layers w = record {
     named = w.tied.named;
     floor_within = let h : c.floor ≤ x.last = w.tied.floor_within in omega arith;
     begins = all_map _ _ (λ p h. (h.0, let k : p.1.begin ≤ x.last = h.1 in omega arith)) _ w.tied.begins;
+    own = w.tied.own;
     all_installed = λ active frozen. absurd (some active);
     runs = subst (λ (rs : List (List (Ulid × List ℕ))). AreRuns rs x.runs) (sym (runs_same c.events e refl)) w.tied.runs;
     quiet = λ idle. absurd (some idle);
@@ -311,6 +331,7 @@ whole_install c x ts run spare freeze room kept log layers w = record {
     named = w.tied.named;
     floor_within = least_within x.last c.state.txns;
     begins = least_each x.last c.floor x.last c.state.txns w.tied.begins;
+    own = w.tied.own;
     all_installed = λ active frozen. ap (λ i. up_to i c.state.commits) (ap (λ s. s.flushed) more) ∙ all_up_to c.settings.start_seq x.last c.state.commits w.log.rising (let l : x.last ≡ last_of c.settings.start_seq c.state.commits = w.log.last in omega arith);
     runs = subst (λ (rs : List (List (Ulid × List ℕ))). AreRuns rs (x.runs ++ (run ∷ []))) (sym (runs_more c.events e)) (run_more (runs_of c.events) x.runs ts run w.tied.runs kept);
     quiet = λ idle. quiet_more c.events e refl refl (w.tied.quiet idle);
@@ -337,6 +358,7 @@ whole_flushed c x log w = record {
     named = w.tied.named;
     floor_within = w.tied.floor_within;
     begins = w.tied.begins;
+    own = w.tied.own;
     all_installed = w.tied.all_installed;
     runs = w.tied.runs;
     quiet = w.tied.quiet;
@@ -357,6 +379,7 @@ whole_room c x spare freeze room log w = record {
     named = w.tied.named;
     floor_within = w.tied.floor_within;
     begins = w.tied.begins;
+    own = w.tied.own;
     all_installed = w.tied.all_installed;
     runs = w.tied.runs;
     quiet = w.tied.quiet;
@@ -377,6 +400,7 @@ whole_manager c x n managed w = record {
     named = w.tied.named;
     floor_within = w.tied.floor_within;
     begins = w.tied.begins;
+    own = w.tied.own;
     all_installed = w.tied.all_installed;
     runs = w.tied.runs;
     quiet = w.tied.quiet;

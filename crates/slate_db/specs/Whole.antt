@@ -2,11 +2,12 @@
 --     BeginsWithin floor last p      an open transaction began between the floor and the newest sequence
 --     Unseen      what contracts see in a core's parts, and not in the core
 --     log_of c x, layers_of c x      a core's log and layers
---     AreTied c x      what ties the parts of a core: the open transactions are those of the journal, and the rows in memory those of commits above the last install
+--     AreTied c x      what ties the parts of a core: the open transactions are those of the journal, with the own operations of their transcripts, and the rows in memory those of commits above the last install
 --     IsWhole c x      the parts are whole, and tied
 use Rattle.std.specs.Prelude.{◌≡◌, ℕ, ◌≤◌, List, [], map}
 use Rattle.std.specs.List.{AllByRecursion}
 use Rattle.slate_read.specs.declared.sorted_run.SortedRun.{SortedRun}
+use Rattle.slate_txn.specs.Alone.{own_of}
 use Rattle.slate_txn.specs.Ids.{IsOfCount}
 use Rattle.slate_txn.specs.Managers.{Manager}
 use Rattle.slate_txn.specs.Places.{IsQuiet}
@@ -45,6 +46,7 @@ pub record AreTied (c : CoreModel) (x : Unseen) : Type 0 where
   pub named : AllByRecursion (λ p. IsOfCount x.ids p.0) c.state.txns
   pub floor_within : c.floor ≤ x.last
   pub begins : AllByRecursion (λ p. BeginsWithin c.floor x.last p) c.state.txns
+  pub own : AllByRecursion (λ p. p.1.ops ≡ own_of p.1.transcript) c.state.txns
   pub all_installed : c.active ≡ [] → c.frozen ≡ [] → up_to (installed c.events) c.state.commits ≡ c.state.commits
   pub runs : AreRuns (runs_of c.events) x.runs
   pub quiet : c.active ≡ [] → IsQuiet c.events

@@ -7,6 +7,7 @@ ghost use Rattle.slate_types.specs.Fold.{fold_rows};
 ghost use Rattle.slate_types.specs.Outside.{IsFault, Puts};
 ghost use Rattle.slate_mem.specs.Table.{newest};
 ghost use Rattle.slate_txn.specs.declared.event.TranscriptStep.TheVariants as steps;
+ghost use Rattle.slate_txn.specs.Alone.{own_of};
 ghost use Rattle.slate_txn.specs.Reads.{key_rows, up_to};
 ghost use Rattle.slate_txn.specs.declared.event.Event.TheVariants as events;
 ghost use Rattle.slate_txn.specs.declared.line.Line.TheVariants as lines;
@@ -501,6 +502,7 @@ impl Core {
         ensures flushed { up_to self.now.state.flushed self.now.state.commits ≡ up_to (installed self.now.events) self.now.state.commits }
         ensures floor { self.now.floor ≤ last_of self.now.settings.start_seq self.now.state.commits }
         ensures begins { AllByRecursion (λ p. self.now.floor ≤ p.1.begin) self.now.state.txns }
+        ensures own { AllByRecursion (λ p. p.1.ops ≡ own_of p.1.transcript) self.now.state.txns }
         ensures folds { (m : Meaning) → IsLawfulMeaning m → IsKept m self.now → FoldsToState m self.now }
         ensures stored { (m : Meaning) → IsLawfulMeaning m → IsKept m self.now → StoresState m self.now }
     {

@@ -8,13 +8,14 @@ use Rattle.slate_txn.specs.Reply.{Done}
 use Rattle.slate_db.specs.Model.{CoreModel}
 use Rattle.slate_txn.proofs.NamedLaws.{on_ok, on_err}
 use Rattle.slate_db.proofs.Changes.{whole_either, kept_either, operated_is, same_is, ok_both, step_operated, step_refused_op, step_changed, refused_map}
+use Rattle.slate_db.proofs.Wholes.{own_operated}
 use Rattle.slate_db.proofs.engine.Core.delete.Goals as goal
 
 pub delete-requires : goal.delete-requires
 delete-requires c = subst (λ (v : CoreModel). IsSome (find_named c.args.id.now v.state.txns)) (sym c.self.view_is) c.requires
 
 pub invariant_of-self : goal.invariant_of-self
-invariant_of-self c = whole_either c.delete.result c.self.inside c.delete.new.self c.args.id.now (with_op c.args.key.now ops.Delete) (λ t. refl) c.delete.ensures.taken c.delete.ensures.same c.self.invariant
+invariant_of-self c = whole_either c.delete.result c.self.inside c.delete.new.self c.args.id.now (with_op c.args.key.now ops.Delete) (λ t. refl) (own_operated c.args.key.now ops.Delete) c.delete.ensures.taken c.delete.ensures.same c.self.invariant
 
 pub returns : goal.returns
 returns c = record {

@@ -91,7 +91,7 @@ becomes g c = ap (λ (ts : Transactions). record c.self.inside { transactions = 
     ∙ sym c.in_default-note_get.ensures.ok)
 
 pub invariant_of-self-2 : goal.invariant_of-self-2
-invariant_of-self-2 g c = subst IsWholeInside (becomes g c) (whole_note (view_of c.self.inside) (unseen_of c.self.inside) c.args.id.now (noted_step g c ∷ []) c.self.invariant)
+invariant_of-self-2 g c = subst IsWholeInside (becomes g c) (whole_note (view_of c.self.inside) (unseen_of c.self.inside) c.args.id.now (noted_step g c ∷ []) refl c.self.invariant)
 
 -- the transaction that reads
 abbrev reader : (g : given.Over) → goal.In_default-note_get g → Tx

@@ -1,5 +1,6 @@
 use Rattle.std.proofs.Common.{◌≡◌, ◌≤◌, length, arith, sym, subst, ap, ◌∙◌}
 use Rattle.std.specs.List.{AllByRecursion}
+use Rattle.slate_txn.specs.Alone.{own_of}
 use Rattle.slate_txn.specs.Reads.{up_to}
 use Rattle.slate_txn.specs.State.{last_of}
 use Rattle.slate_txn.specs.Replay.{IsLegal}
@@ -37,6 +38,9 @@ returns-clause-floor c =
 
 pub returns-clause-begins : goal.returns-clause-begins
 returns-clause-begins c = subst (λ (v : CoreModel). AllByRecursion (λ p. v.floor ≤ p.1.begin) v.state.txns) c.self.view_is (all_map _ _ (λ p h. h.0) c.self.inside.transactions c.self.invariant.tied.begins)
+
+pub returns-clause-own : goal.returns-clause-own
+returns-clause-own c = subst (λ (v : CoreModel). AllByRecursion (λ p. p.1.ops ≡ own_of p.1.transcript) v.state.txns) c.self.view_is c.self.invariant.tied.own
 
 pub returns-clause-folds : goal.returns-clause-folds
 returns-clause-folds c m law kept =

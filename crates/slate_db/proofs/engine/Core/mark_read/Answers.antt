@@ -9,7 +9,7 @@ use Rattle.slate_db.proofs.Changes.{whole_either, kept_either, operated_is, same
 use Rattle.slate_db.proofs.engine.Core.mark_read.Goals as goal
 
 pub invariant_of-self : goal.invariant_of-self
-invariant_of-self c = whole_either c.mark_read.result c.self.inside c.mark_read.new.self c.args.id.now (with_marks c.args.keys.now) (λ t. refl) c.mark_read.ensures.marked c.mark_read.ensures.same c.self.invariant
+invariant_of-self c = whole_either c.mark_read.result c.self.inside c.mark_read.new.self c.args.id.now (with_marks c.args.keys.now) (λ t. refl) (λ t h. h) c.mark_read.ensures.marked c.mark_read.ensures.same c.self.invariant
 
 pub returns : goal.returns
 returns c = record {

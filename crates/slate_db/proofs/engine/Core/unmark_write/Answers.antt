@@ -9,7 +9,7 @@ use Rattle.slate_db.proofs.Changes.{whole_either, kept_either, operated_is, same
 use Rattle.slate_db.proofs.engine.Core.unmark_write.Goals as goal
 
 pub invariant_of-self : goal.invariant_of-self
-invariant_of-self c = whole_either c.unmark_write.result c.self.inside c.unmark_write.new.self c.args.id.now (with_unmarks c.args.keys.now) (λ t. refl) c.unmark_write.ensures.unmarked c.unmark_write.ensures.same c.self.invariant
+invariant_of-self c = whole_either c.unmark_write.result c.self.inside c.unmark_write.new.self c.args.id.now (with_unmarks c.args.keys.now) (λ t. refl) (λ t h. h) c.unmark_write.ensures.unmarked c.unmark_write.ensures.same c.self.invariant
 
 pub returns : goal.returns
 returns c = record {
