@@ -51,3 +51,4 @@ pub mod OwnRows
 pub mod Changes
 pub mod CommitWholes
 mod Commits
+pub mod Vouches

@@ -26,3 +26,4 @@ pub mod Parts
 pub mod Answered
 pub mod Shown
 pub mod Readable
+pub mod Vouched

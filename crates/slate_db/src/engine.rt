@@ -1,5 +1,5 @@
 //! The core: the journal of a store, what is open in it, and the rows in memory.
-ghost use Rattle.std.specs.Prelude.{◌≡◌, ◌≢◌, ◌⊎◌, ◌+◌, ◌-◌, ◌^◌, ◌≤◌, ◌<◌, ◌∷◌, List, [], ◌++◌, length, IfOk, IfErr, OnOk, OnErr, IsOk, Err, IsOkUnless, IsSome, Some, false, is_some, map};
+ghost use Rattle.std.specs.Prelude.{◌≡◌, ℕ, ◌≢◌, ◌⊎◌, ◌+◌, ◌-◌, ◌^◌, ◌≤◌, ◌<◌, ◌∷◌, List, [], ◌++◌, length, IfOk, IfErr, OnOk, OnErr, IsOk, Err, IsOkUnless, IsSome, Some, false, is_some, map};
 ghost use Rattle.std.specs.List.{AllByRecursion};
 ghost use Rattle.slate_types.specs.Config.{IsValid};
 ghost use Rattle.slate_types.specs.declared.error.SlateDBError.{SlateDBError};
@@ -29,7 +29,7 @@ ghost use Rattle.slate_db.specs.Frozen.{IsFrozen};
 ghost use Rattle.slate_db.specs.Flushed.{Flushes, IsFlushError, MayPut, NoPlaceToFlush, TooLarge, events_of_flush, layout_of};
 ghost use Rattle.slate_db.specs.Load.{load, ops_load};
 ghost use Rattle.slate_db.specs.Installs.{Replays, installed, tables_of};
-ghost use Rattle.slate_db.specs.Readable.{IsRead};
+ghost use Rattle.slate_db.specs.Readable.{IsAnswered, IsRead};
 ghost use Rattle.slate_db.specs.Model.{CoreModel, IsSame, Rows, at};
 ghost use Rattle.slate_db.specs.Sound.{AreTables, IsKept, FoldsToState};
 ghost use Rattle.slate_db.specs.StoredState.{StoresState};
@@ -38,6 +38,7 @@ ghost use Rattle.slate_txn.specs.Conflict.{conflict};
 ghost use Rattle.slate_txn.specs.HandedOver.{IsConflict};
 ghost use Rattle.slate_db.specs.Committed.{IsCommitted, IsEnded};
 ghost use Rattle.slate_db.specs.Operated.{operated};
+ghost use Rattle.slate_db.specs.Vouched.{IsVouchedFor};
 ghost use Rattle.slate_db.specs.Written.{IsWritten};
 
 use crate::commit::{Made, make};
@@ -119,6 +120,7 @@ impl Core {
     pub fn begin(&mut self, level: IsolationLevel) -> Result<(Uuid, u64), SlateDBError>
         ensures step { IfOk result (λ a. (m : Meaning) → step (rules_of self.old.settings m) self.old.state (lines.Begin a.0 level) ≡ (self.new.state, Begun a.0 a.1)) }
         ensures event { IfOk result (λ a. self.new ≡ record self.old { state = self.new.state; events = self.old.events ++ events.Begin a.0 level a.1 ∷ []; spare = self.new.spare }) }
+        ensures vouched { IfOk result (λ a. (m : Meaning) → IsVouchedFor m self.new a.0) }
         ensures kept { OnOk result ((m : Meaning) → IsKept m self.old → IsKept m self.new) }
         ensures same { OnErr result (self.new ≡ self.old) }
         ensures limit { LIMIT < length self.old.events + length self.old.state.txns + 2 → result ≡ Err (SlateDBError.LimitReached LIMIT) }
@@ -361,6 +363,9 @@ impl Core {
         ensures noted { IfOk result (λ a. self.new ≡ record self.old { state = noted self.old.state id.now (steps.Get key.now a ∷ []) }) }
         ensures read { let reach = ⟦<EnvOf<S, M, T> as Outside>⟧.reach in
             IsRead (reach env.old) (reach env.new) self.old (λ a. step (rules_of self.old.settings (reach env.old).meaning) self.old.state (lines.Get id.now key.now) ≡ (self.new.state, Found a)) result }
+        ensures vouched { let reach = ⟦<EnvOf<S, M, T> as Outside>⟧.reach in
+            let m = (reach env.old).meaning in
+            IsAnswered (reach env.old) (reach env.new) self.old → (other : List ℕ) → IsVouchedFor m self.old other → IsVouchedFor m self.new other }
         ensures same { OnErr result (self.new ≡ self.old) }
         ensures kept { (m : Meaning) → IsKept m self.old → IsKept m self.new }
         ensures settings { self.new.settings ≡ self.old.settings }
@@ -401,6 +406,7 @@ impl Core {
         ensures test { (e : SlateDBError) → op_refusal key.now (WriteOp.Put value.now options.now) ≡ Some e → result ≡ Err e }
         ensures cause { IfErr result (λ e. (e ≡ SlateDBError.OutOfMemory) ⊎ (op_refusal key.now (WriteOp.Put value.now options.now) ≡ Some e)) }
         ensures kept { (m : Meaning) → IsKept m self.old → IsKept m self.new }
+        ensures vouched { (m : Meaning) (other : List ℕ) → IsVouchedFor m self.old other → IsVouchedFor m self.new other }
         ensures same { OnErr result (self.new ≡ self.old) }
     {
         self.transactions.put(self.alloc, id, key, value, options)
@@ -416,6 +422,7 @@ impl Core {
         ensures test { (e : SlateDBError) → op_refusal key.now WriteOp.Delete ≡ Some e → result ≡ Err e }
         ensures cause { IfErr result (λ e. (e ≡ SlateDBError.OutOfMemory) ⊎ (op_refusal key.now WriteOp.Delete ≡ Some e)) }
         ensures kept { (m : Meaning) → IsKept m self.old → IsKept m self.new }
+        ensures vouched { (m : Meaning) (other : List ℕ) → IsVouchedFor m self.old other → IsVouchedFor m self.new other }
         ensures same { OnErr result (self.new ≡ self.old) }
     {
         self.transactions.delete(self.alloc, id, key)

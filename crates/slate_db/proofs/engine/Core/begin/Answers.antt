@@ -14,10 +14,12 @@ use Rattle.slate_db.specs.Meaning.{rules_of}
 use Rattle.slate_db.specs.Model.{CoreModel}
 use Rattle.slate_db.specs.View.{view_of, unseen_of, IsWholeInside}
 use Rattle.slate_db.specs.Sound.{IsKept}
+use Rattle.slate_db.specs.Vouched.{IsVouchedFor}
 use Rattle.slate_db.proofs.Calls.{begun_is}
 use Rattle.slate_db.proofs.Managing.{back_named, managed_back}
 use Rattle.slate_db.proofs.Steps.{step_begin}
-use Rattle.slate_db.proofs.Wholes.{whole_begin, whole_manager, kept_begin, past_begun, fresh_begun, within_newest}
+use Rattle.slate_db.proofs.Vouches.{vouched_begin}
+use Rattle.slate_db.proofs.Wholes.{after_begin, whole_begin, whole_manager, kept_begin, past_begun, fresh_begun, within_newest}
 use Rattle.slate_db.proofs.engine.Core.begin.Goals as goal
 
 pub enter-requires-clause-past : goal.enter-requires-clause-past
@@ -80,3 +82,13 @@ returns-clause-kept c m k =
     subst (λ (s : Inside). IsKept m (view_of s)) becomes
     (kept_begin m (view_of c.self.inside) c.args.level c.self.inside.log.last (id_of (c.self.inside.log.ids + 1)) c.enter.new.log.spare
     (subst (λ (v : CoreModel). IsKept m v) (sym c.self.view_is) k))
+
+pub returns-clause-vouched : goal.returns-clause-vouched
+returns-clause-vouched c m =
+    let s = c.self.inside in
+    let id = c.in_ok-id.ensures.id ∙ ap (λ n. id_of (n + 1)) c.self.invariant.tied.manager.counted in
+    let start = c.in_ok-id.ensures.opened.0 ∙ c.self.invariant.tied.manager.newest in
+    let becomes = begun_is s c.enter.new.log c.enter.new.transactions c.new_transaction.new.self c.args.level c.in_ok-id.id c.in_ok-id.start id start c.in_default.ensures.log c.in_default.ensures.opened in
+    subst (λ (s : Inside). IsVouchedFor m (view_of s) c.in_ok-id.id) becomes
+    (subst (λ (i : List ℕ). IsVouchedFor m (after_begin (view_of s) c.args.level s.log.last (id_of (s.log.ids + 1)) c.enter.new.log.spare) i) (sym id)
+    (vouched_begin m (view_of s) (id_of (s.log.ids + 1)) c.args.level s.log.last (fresh_begun (view_of s) (unseen_of s) c.self.invariant)))

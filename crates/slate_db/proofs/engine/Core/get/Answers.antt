@@ -1,14 +1,17 @@
 use Rattle.std.proofs.Common.{inl, inr, ◌≡◌, ℕ, ◌≤◌, List, [], ◌∷◌, ◌++◌, map, Option, Some, unwrap_or, option_map, refl, ap, sym, subst, ◌∙◌, append-nil, arith}
 use Rattle.std.proofs.lemmas.Result.{IfOk-from_err, err_from_is_err_and}
-use Rattle.std.specs.Prelude.{IfSome}
+use Rattle.std.specs.Prelude.{IfSome, option_and_then}
+use Rattle.slate_types.specs.declared.types.RowEntry.{RowEntry}
 use Rattle.slate_types.specs.Fold.{fold_rows}
 use Rattle.slate_types.specs.Outside.{IsCounted}
+use Rattle.slate_types.specs.Rows.{key_value, hide_tombstone}
 use Rattle.slate_store.specs.Reach.{reach_of}
 use Rattle.slate_types.proofs.Reaching.{reads_none}
 use Rattle.slate_mem.specs.Batch.{Ops, kept}
 use Rattle.slate_mem.specs.RowOf.{own_row}
 use Rattle.slate_txn.specs.declared.event.TranscriptStep.{TranscriptStep}
 use Rattle.slate_txn.specs.declared.event.TranscriptStep.TheVariants as steps
+use Rattle.slate_txn.specs.Alone.{own_of}
 use Rattle.slate_txn.specs.Named.{find_named, update_named}
 use Rattle.slate_txn.specs.Open.{Transactions}
 use Rattle.slate_txn.specs.Reads.{key_rows, up_to}
@@ -19,9 +22,12 @@ use Rattle.slate_db.specs.declared.engine.Core.TheInside.{Inside}
 use Rattle.slate_db.specs.Meaning.{combine_of, rules_of}
 use Rattle.slate_db.specs.Model.{CoreModel}
 use Rattle.slate_db.specs.View.{view_of, unseen_of, IsWholeInside}
+use Rattle.slate_db.specs.Readable.{IsAnswered}
 use Rattle.slate_db.specs.Sound.{IsKept}
+use Rattle.slate_db.specs.Vouched.{IsVouchedFor}
 use Rattle.slate_txn.proofs.NamedLaws.{IsNamed, open_is}
 use Rattle.slate_db.proofs.Notes.{step_get}
+use Rattle.slate_db.proofs.Vouches.{vouched_get}
 use Rattle.slate_db.proofs.Wholes.{after_note, whole_note}
 use Rattle.slate_db.proofs.Keeps.{kept_event}
 use Rattle.slate_db.proofs.Seen.{found_all}
@@ -47,6 +53,7 @@ returns-in_err-key g c =
         reads = reads_none _;
       };
       same = rw p.1 refl;
+      vouched = λ is k h. h;
       kept = λ m k. k;
       settings = refl;
     }
@@ -57,6 +64,7 @@ returns-in-Err g c =
       noted = tt;
       read = record { answer = λ is. tt; undamaged = (c.in-Err.ensures.read (open_is _ c.requires).value (open_is _ c.requires).is).undamaged; cause = (c.in-Err.ensures.read (open_is _ c.requires).value (open_is _ c.requires).is).cause; reads = (c.seen_by.ensures.read (open_is _ c.requires).value (open_is _ c.requires).is).reads };
       same = refl;
+      vouched = λ is k h. h;
       kept = λ m k. k;
       settings = refl;
     }
@@ -72,6 +80,7 @@ returns-in-Err-note_get g c =
         reads = (c.seen_by.ensures.read (open_is _ c.requires).value (open_is _ c.requires).is).reads;
       };
       same = ap view_of (unnoted c.self.inside c.note_get.new.self c.in-Err-note_get.ensures.err) ∙ c.self.view_is;
+      vouched = λ is k h. let m = (reach_of g.S.Store g.M.MergeOperator g.T.BlockTransformer c.args.env.now).meaning in subst (λ (v : CoreModel). IsVouchedFor m v k) (sym (ap view_of (unnoted c.self.inside c.note_get.new.self c.in-Err-note_get.ensures.err) ∙ c.self.view_is)) h;
       kept = (λ m kept_m.
           subst (λ (s : Inside). IsKept m (view_of s)) (sym (unnoted c.self.inside c.note_get.new.self c.in-Err-note_get.ensures.err))
           (subst (λ (v : CoreModel). IsKept m v) (sym c.self.view_is) kept_m));
@@ -109,22 +118,42 @@ from_floor g c =
     (subst (λ (v : CoreModel). v.floor ≤ (reader g c).begin) c.self.view_is
     (found_all (λ (t : Tx). (c.self.inside.layers.floor ≤ t.begin) × (t.begin ≤ c.self.inside.log.last)) c.args.id.now c.self.inside.transactions (reader g c) c.self.invariant.tied.begins (reader_is g c)).0)
 
+found_there : (g : given.Over) (c : goal.In_default-note_get g) → find_named c.args.id.now c.args.self.now.state.txns ≡ Some (reader g c)
+found_there g c = ap (λ (v : CoreModel). find_named c.args.id.now v.state.txns) (sym c.self.view_is) ∙ reader_is g c
+
+-- the row that was folded
+abbrev folded : (g : given.Over) → goal.In_default-note_get g → Option RowEntry
+folded g c =
+    let m = (reach_of g.S.Store g.M.MergeOperator g.T.BlockTransformer c.args.env.now).meaning in
+    let k = c.args.key.now in
+    fold_rows (combine_of m k) (key_rows (rules_of c.args.self.now.settings m) k (up_to (reader g c).begin c.args.self.now.state.commits) ++ map (own_row k) (kept (reader g c).ops k))
+
+row_is : (g : given.Over) (c : goal.In_default-note_get g) → IsAnswered (reach_of g.S.Store g.M.MergeOperator g.T.BlockTransformer c.args.env.now) (reach_of g.S.Store g.M.MergeOperator g.T.BlockTransformer c.seen_by.new.env) c.args.self.now → c.in-Ok.row ≡ folded g c
+row_is g c is =
+    let m = (reach_of g.S.Store g.M.MergeOperator g.T.BlockTransformer c.args.env.now).meaning in
+    let r = rules_of c.args.self.now.settings m in
+    let k = c.args.key.now in
+    let commits = c.args.self.now.state.commits in
+    (c.in-Ok.ensures.read (t_of g c).value (t_of g c).is).answer is (from_floor g c)
+    ∙ ap (λ (j : List ℕ). fold_rows (combine_of m j) (key_rows r j (up_to c.in-Some.at commits) ++ map (own_row j) (kept (reader g c).ops j))) c.in_ok-key.ensures
+    ∙ ap (λ n. fold_rows (combine_of m k) (key_rows r k (up_to n commits) ++ map (own_row k) (kept (reader g c).ops k))) (begin_is g c)
+
+own_is : (g : given.Over) (c : goal.In_default-note_get g) → (reader g c).ops ≡ own_of (reader g c).transcript
+own_is g c = found_all (λ (t : Tx). t.ops ≡ own_of t.transcript) c.args.id.now c.self.inside.transactions (reader g c) c.self.invariant.tied.own (reader_is g c)
+
+noted_is : (g : given.Over) (c : goal.In_default-note_get g) → view_of (record c.self.inside { transactions = c.note_get.new.self }) ≡ after_note c.args.self.now c.args.id.now (noted_step g c ∷ [])
+noted_is g c = sym (ap view_of (becomes g c)) ∙ ap (λ v. after_note v c.args.id.now (noted_step g c ∷ [])) c.self.view_is
+
 pub returns : goal.returns
 returns g c =
     record {
-      noted = sym (ap view_of (becomes g c)) ∙ ap (λ v. after_note v c.args.id.now (noted_step g c ∷ [])) c.self.view_is;
+      noted = noted_is g c;
       read = record {
         answer = (λ is.
             let m = (reach_of g.S.Store g.M.MergeOperator g.T.BlockTransformer c.args.env.now).meaning in
             let r = rules_of c.args.self.now.settings m in
             let k = c.args.key.now in
-            let commits = c.args.self.now.state.commits in
-            let row : c.in-Ok.row ≡ fold_rows (combine_of m k) (key_rows r k (up_to (reader g c).begin commits) ++ map (own_row k) (kept (reader g c).ops k)) =
-            (c.in-Ok.ensures.read (t_of g c).value (t_of g c).is).answer is (from_floor g c)
-            ∙ ap (λ (j : List ℕ). fold_rows (combine_of m j) (key_rows r j (up_to c.in-Some.at commits) ++ map (own_row j) (kept (reader g c).ops j))) c.in_ok-key.ensures
-            ∙ ap (λ n. fold_rows (combine_of m k) (key_rows r k (up_to n commits) ++ map (own_row k) (kept (reader g c).ops k))) (begin_is g c) in
-            let found : find_named c.args.id.now c.args.self.now.state.txns ≡ Some (reader g c) = ap (λ (v : CoreModel). find_named c.args.id.now v.state.txns) (sym c.self.view_is) ∙ reader_is g c in
-            step_get r c.args.self.now.state c.args.id.now k (reader g c) c.in-Ok.row found row
+            step_get r c.args.self.now.state c.args.id.now k (reader g c) c.in-Ok.row (found_there g c) (row_is g c is)
             ∙ (let a = sym c.answer-found.ensures in λ j. (noted c.args.self.now.state c.args.id.now (steps.Get k (a j) ∷ []), Found (a j)))
             ∙ (let v = sym c.self.view_is in λ j. (noted (v j).state c.args.id.now (noted_step g c ∷ []), Found c.answer-found.result))
             ∙ (λ j. ((view_of (becomes g c j)).state, Found c.answer-found.result)));
@@ -133,6 +162,11 @@ returns g c =
         reads = (c.seen_by.ensures.read (open_is _ c.requires).value (open_is _ c.requires).is).reads;
       };
       same = tt;
+      vouched = (λ is k h.
+          let m = (reach_of g.S.Store g.M.MergeOperator g.T.BlockTransformer c.args.env.now).meaning in
+          subst (λ (v : CoreModel). IsVouchedFor m v k) (sym (noted_is g c))
+          (vouched_get m c.args.self.now c.args.id.now k c.args.key.now c.answer-found.result (reader g c) (found_there g c) (own_is g c)
+          (c.answer-found.ensures ∙ ap (λ (row : Option RowEntry). option_map key_value (option_and_then (λ r. hide_tombstone r.value r) row)) (row_is g c is)) h));
       kept = (λ m kept_m.
           subst (λ (s : Inside). IsKept m (view_of s)) (becomes g c)
           (kept_event m (view_of c.self.inside) (noted (view_of c.self.inside).state c.args.id.now (noted_step g c ∷ [])) c.self.inside.log.events c.self.inside.log.spare refl refl refl
