@@ -49,6 +49,9 @@ own_decided c k older ops own plain is decided =
 pub own_plain_rows : (k : List ℕ) (ops : Ops) (own : Rows) → holds_merge ops ≡ false → own ≡ map (own_row k) (reverse (kept ops k)) → is_merge_among own ≡ false
 own_plain_rows k ops own plain is = ap is_merge_among is ∙ no_merges k (kept ops k) (few_kept ops k plain) (kept_replace ops k plain)
 
+pub own_undecided : (k : List ℕ) (ops : Ops) (own : Rows) → holds_merge ops ≡ false → own ≡ map (own_row k) (reverse (kept ops k)) → is_decided own ≡ false → kept ops k ≡ []
+own_undecided k ops own plain is decided = undecided_none k (kept ops k) (few_kept ops k plain) (kept_replace ops k plain) (ap is_decided (sym is) ∙ decided)
+
 pub own_none : (k : List ℕ) (ops : Ops) (own older : Rows) → holds_merge ops ≡ false → own ≡ map (own_row k) (reverse (kept ops k)) → is_decided own ≡ false → older ≡ older ++ map (own_row k) (kept ops k)
 own_none k ops own older plain is decided =
-    sym (append-nil older) ∙ ap (λ (xs : List WriteOp). older ++ map (own_row k) xs) (sym (undecided_none k (kept ops k) (few_kept ops k plain) (kept_replace ops k plain) (ap is_decided (sym is) ∙ decided)))
+    sym (append-nil older) ∙ ap (λ (xs : List WriteOp). older ++ map (own_row k) xs) (sym (own_undecided k ops own plain is decided))

@@ -5,9 +5,10 @@
 --     IsRefusedBy m c reads e      the reads show so of the tables that the journal names
 --     IsReadError before after c e      a fault that came in the call, or want of memory, or such a refusal by its reads
 --     IsRead before after c means result      what a call answers that reads: what it means, when it is refused, and what it leaves
-use Rattle.std.specs.Prelude.{◌≡◌, ◌⊎◌, true, List, Contains, IfErr, IfOk, None, Result}
+--     IsOwnRead before after means result      the same of one that reads no more than own operations: nothing is reached, and only memory refuses
+use Rattle.std.specs.Prelude.{◌≡◌, ◌⊎◌, true, List, Contains, IfErr, IfOk, IsOkUnless, None, Result}
 use Rattle.slate_types.specs.declared.error.SlateDBError.{SlateDBError}
-use Rattle.slate_types.specs.declared.error.SlateDBError.TheVariants.{MergeOperatorMissing}
+use Rattle.slate_types.specs.declared.error.SlateDBError.TheVariants.{MergeOperatorMissing, OutOfMemory}
 use Rattle.slate_types.specs.declared.types.RowEntry.{RowEntry}
 use Rattle.slate_types.specs.Outside.{Act, Objects, IsFault, Meaning, OnlyReads, Reach}
 use Rattle.slate_types.specs.Rows.{is_operand}
@@ -53,3 +54,8 @@ pub record IsRead {A : Type 0} (before after : Reach) (c : CoreModel) (means : A
   pub undamaged : IsAnswered before after c → IfErr result (IsFault before after)
   pub cause : IfErr result (IsReadError before after c)
   pub reads : OnlyReads before after
+
+pub record IsOwnRead {A : Type 0} (before after : Reach) (means : A → Type 0) (result : Result A SlateDBError) : Type 0 where
+  pub answer : IfOk result means
+  pub cause : IsOkUnless result OutOfMemory
+  pub reached : after ≡ before

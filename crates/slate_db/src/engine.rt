@@ -1,9 +1,10 @@
 //! The core: the journal of a store, what is open in it, and the rows in memory.
-ghost use Rattle.std.specs.Prelude.{◌≡◌, ℕ, ◌≢◌, ◌⊎◌, ◌+◌, ◌-◌, ◌^◌, ◌≤◌, ◌<◌, ◌∷◌, List, [], ◌++◌, length, IfOk, IfErr, OnOk, OnErr, IsOk, Err, IsOkUnless, IsSome, Some, false, is_some, map};
+ghost use Rattle.std.specs.Prelude.{◌≡◌, ℕ, ◌≢◌, ◌⊎◌, ◌+◌, ◌-◌, ◌^◌, ◌≤◌, ◌<◌, ◌∷◌, List, [], ◌++◌, length, IfOk, IfErr, OnOk, OnErr, IsOk, Err, IsOkUnless, IsSome, Some, false, is_some, map, option_map};
 ghost use Rattle.std.specs.List.{AllByRecursion};
 ghost use Rattle.slate_types.specs.Config.{IsValid};
 ghost use Rattle.slate_types.specs.declared.error.SlateDBError.{SlateDBError};
-ghost use Rattle.slate_types.specs.Fold.{fold_rows};
+ghost use Rattle.slate_types.specs.Fold.{Combine, fold_rows, shown};
+ghost use Rattle.slate_types.specs.Rows.{key_value};
 ghost use Rattle.slate_types.specs.Outside.{IsFault, Puts};
 ghost use Rattle.slate_mem.specs.Table.{newest};
 ghost use Rattle.slate_txn.specs.declared.event.TranscriptStep.TheVariants as steps;
@@ -29,7 +30,7 @@ ghost use Rattle.slate_db.specs.Frozen.{IsFrozen};
 ghost use Rattle.slate_db.specs.Flushed.{Flushes, IsFlushError, MayPut, NoPlaceToFlush, TooLarge, events_of_flush, layout_of};
 ghost use Rattle.slate_db.specs.Load.{load, ops_load};
 ghost use Rattle.slate_db.specs.Installs.{Replays, installed, tables_of};
-ghost use Rattle.slate_db.specs.Readable.{IsAnswered, IsRead};
+ghost use Rattle.slate_db.specs.Readable.{IsAnswered, IsOwnRead, IsRead};
 ghost use Rattle.slate_db.specs.Model.{CoreModel, IsSame, Rows, at};
 ghost use Rattle.slate_db.specs.Sound.{AreTables, IsKept, FoldsToState};
 ghost use Rattle.slate_db.specs.StoredState.{StoresState};
@@ -335,6 +336,8 @@ impl Core {
         ensures read { let reach = ⟦<EnvOf<S, M, T> as Outside>⟧.reach in
             let m = (reach env.old).meaning in
             (t : Tx) → find_named id.now self.now.state.txns ≡ Some t → IsRead (reach env.old) (reach env.new) self.now (λ row. self.now.floor ≤ at → row ≡ fold_rows (combine_of m key.now) (key_rows (rules_of self.now.settings m) key.now (up_to at self.now.state.commits) ++ map (own_row key.now) (kept t.ops key.now))) result }
+        ensures own { let reach = ⟦<EnvOf<S, M, T> as Outside>⟧.reach in
+            (t : Tx) → find_named id.now self.now.state.txns ≡ Some t → kept t.ops key.now ≢ [] → IsOwnRead (reach env.old) (reach env.new) (λ row. (c : Combine) → row ≡ fold_rows c (map (own_row key.now) (kept t.ops key.now))) result }
     {
         let own = self.transactions.own_rows(self.alloc, id, key)?;
         if is_decided(&own) {
@@ -363,6 +366,8 @@ impl Core {
         ensures noted { IfOk result (λ a. self.new ≡ record self.old { state = noted self.old.state id.now (steps.Get key.now a ∷ []) }) }
         ensures read { let reach = ⟦<EnvOf<S, M, T> as Outside>⟧.reach in
             IsRead (reach env.old) (reach env.new) self.old (λ a. step (rules_of self.old.settings (reach env.old).meaning) self.old.state (lines.Get id.now key.now) ≡ (self.new.state, Found a)) result }
+        ensures own { let reach = ⟦<EnvOf<S, M, T> as Outside>⟧.reach in
+            (t : Tx) → find_named id.now self.old.state.txns ≡ Some t → kept t.ops key.now ≢ [] → IsOwnRead (reach env.old) (reach env.new) (λ a. (c : Combine) → a ≡ option_map key_value (shown c (map (own_row key.now) (kept t.ops key.now)))) result }
         ensures vouched { let reach = ⟦<EnvOf<S, M, T> as Outside>⟧.reach in
             let m = (reach env.old).meaning in
             IsAnswered (reach env.old) (reach env.new) self.old → (other : List ℕ) → IsVouchedFor m self.old other → IsVouchedFor m self.new other }

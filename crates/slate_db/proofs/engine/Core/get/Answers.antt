@@ -52,6 +52,7 @@ returns-in_err-key g c =
         cause = rw (p.1, p.2) (inl tt);
         reads = reads_none _;
       };
+      own = λ t found some. record { answer = IfOk-from_err c.from_residual.result _ c.from_residual.ensures.0; cause = rw (p.1, p.2) refl; reached = refl };
       same = rw p.1 refl;
       vouched = λ is k h. h;
       kept = λ m k. k;
@@ -63,6 +64,9 @@ returns-in-Err g c =
     record {
       noted = tt;
       read = record { answer = λ is. tt; undamaged = (c.in-Err.ensures.read (open_is _ c.requires).value (open_is _ c.requires).is).undamaged; cause = (c.in-Err.ensures.read (open_is _ c.requires).value (open_is _ c.requires).is).cause; reads = (c.seen_by.ensures.read (open_is _ c.requires).value (open_is _ c.requires).is).reads };
+      own = λ t found some.
+          let own = c.in-Err.ensures.own t found (λ none. some (ap (kept t.ops) (sym c.in_ok-key.ensures) ∙ none)) in
+          record { answer = tt; cause = own.cause; reached = own.reached };
       same = refl;
       vouched = λ is k h. h;
       kept = λ m k. k;
@@ -79,6 +83,7 @@ returns-in-Err-note_get g c =
         cause = inl (subst (IsCounted _ _) (sym c.from.ensures) tt);
         reads = (c.seen_by.ensures.read (open_is _ c.requires).value (open_is _ c.requires).is).reads;
       };
+      own = λ t found some. record { answer = tt; cause = c.from.ensures; reached = (c.seen_by.ensures.own t found (λ none. some (ap (kept t.ops) (sym c.in_ok-key.ensures) ∙ none))).reached };
       same = ap view_of (unnoted c.self.inside c.note_get.new.self c.in-Err-note_get.ensures.err) ∙ c.self.view_is;
       vouched = λ is k h. let m = (reach_of g.S.Store g.M.MergeOperator g.T.BlockTransformer c.args.env.now).meaning in subst (λ (v : CoreModel). IsVouchedFor m v k) (sym (ap view_of (unnoted c.self.inside c.note_get.new.self c.in-Err-note_get.ensures.err) ∙ c.self.view_is)) h;
       kept = (λ m kept_m.
@@ -161,6 +166,14 @@ returns g c =
         cause = tt;
         reads = (c.seen_by.ensures.read (open_is _ c.requires).value (open_is _ c.requires).is).reads;
       };
+      own = λ t found some.
+          let own = c.in-Ok.ensures.own t found (λ none. some (ap (kept t.ops) (sym c.in_ok-key.ensures) ∙ none)) in
+          record {
+            answer = λ combine. c.answer-found.ensures ∙ ap (λ (row : Option RowEntry). option_map key_value (option_and_then (λ r. hide_tombstone r.value r) row))
+                (own.answer combine ∙ ap (λ (j : List ℕ). fold_rows combine (map (own_row j) (kept t.ops j))) c.in_ok-key.ensures);
+            cause = tt;
+            reached = own.reached;
+          };
       same = tt;
       vouched = (λ is k h.
           let m = (reach_of g.S.Store g.M.MergeOperator g.T.BlockTransformer c.args.env.now).meaning in

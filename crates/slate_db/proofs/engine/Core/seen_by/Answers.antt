@@ -1,4 +1,4 @@
-use Rattle.std.proofs.Common.{◌≡◌, ℕ, List, ◌++◌, map, reverse, true, false, Some, sym, ap, ◌∙◌}
+use Rattle.std.proofs.Common.{◌≡◌, ℕ, List, [], ◌++◌, map, reverse, true, false, Some, refl, sym, ap, ◌∙◌}
 use Rattle.slate_types.specs.Fold.{Combine, fold_rows}
 use Rattle.slate_types.proofs.Reaching.{reads_none}
 use Rattle.slate_mem.specs.Batch.{kept}
@@ -10,7 +10,7 @@ use Rattle.slate_txn.specs.Reads.{key_rows, up_to}
 use Rattle.slate_db.specs.Meaning.{combine_of, rules_of}
 use Rattle.slate_db.specs.Model.{CoreModel, Rows}
 use Rattle.slate_db.proofs.Blocks.{if_ok}
-use Rattle.slate_db.proofs.OwnRows.{own_decided, own_plain_rows, own_none}
+use Rattle.slate_db.proofs.OwnRows.{own_decided, own_plain_rows, own_none, own_undecided}
 use Rattle.slate_db.proofs.engine.Core.seen_by.Goals as goal
 
 pub returns-then-is_decided : goal.returns-then-is_decided
@@ -29,6 +29,14 @@ returns-then-is_decided g c = record {
         cause = tt;
         reads = reads_none _;
       };
+  own = λ t found some.
+      let k : List ℕ = c.args.key.now in
+      let own : Rows = c.in_ok-own.own.items in
+      let there : find_named c.args.id.now c.self.inside.transactions ≡ Some t = ap (λ (v : CoreModel). find_named c.args.id.now v.state.txns) c.self.view_is ∙ found in
+      let rows : own ≡ map (own_row k) (reverse (kept t.ops k)) = c.in_ok-own.ensures.rows t there in
+      let decided : is_decided own ≡ true = ap is_decided (sym c.deref.ensures.value) ∙ sym c.is_decided.ensures ∙ c.if-is_decided.true in
+      let plain = c.own_rows.ensures.plain t there in
+      record { answer = λ combine. c.first.ensures (own_plain_rows k t.ops own plain rows) combine ∙ own_decided combine k [] t.ops own plain rows decided; cause = tt; reached = refl };
 }
 
 pub returns : goal.returns
@@ -47,4 +55,11 @@ returns g c = record {
         cause = c.seen.ensures.read.cause;
         reads = c.seen.ensures.read.reads;
       };
+  own = λ t found some.
+      let k : List ℕ = c.args.key.now in
+      let own : Rows = c.in_ok-own.own.items in
+      let there : find_named c.args.id.now c.self.inside.transactions ≡ Some t = ap (λ (v : CoreModel). find_named c.args.id.now v.state.txns) c.self.view_is ∙ found in
+      let rows : own ≡ map (own_row k) (reverse (kept t.ops k)) = c.in_ok-own.ensures.rows t there in
+      let decided : is_decided own ≡ false = ap is_decided (sym c.deref.ensures.value) ∙ sym c.is_decided.ensures ∙ c.if-is_decided.false in
+      absurd (some (own_undecided k t.ops own (c.own_rows.ensures.plain t there) rows decided));
 }
