@@ -1,23 +1,32 @@
 -- A transaction's transcript stays vouched for.
-use Rattle.std.proofs.Common.{◌≡◌, ℕ, Bool, true, false, cond, bytes_eq, List, [], ◌∷◌, ◌++◌, Option, Some, None, option_map, refl, sym, ap, subst, ◌∙◌}
+use Rattle.std.proofs.Common.{◌≡◌, ◌≢◌, ℕ, ◌+◌, ◌≤◌, ◌<◌, Bool, true, false, cond, bytes_eq, List, [], ◌∷◌, ◌++◌, Option, Some, None, option_map, refl, ℤ, sym, ap, subst, ◌∙◌, arith}
 use Rattle.std.specs.Prelude.{Result, Ok, Err, OnOk, OnErr}
+use Rattle.std.specs.List.{AllByRecursion}
 use Rattle.std.proofs.lemmas.Option.{same_Some}
+use Rattle.std.proofs.lemmas.Slice.Eq.{bytes_eq-Decides}
 use Rattle.slate_types.specs.declared.config.IsolationLevel.{IsolationLevel}
 use Rattle.slate_types.specs.declared.types.KeyValue.{KeyValue}
 use Rattle.slate_types.specs.Rows.{key_value}
 use Rattle.slate_mem.specs.declared.WriteOp.{WriteOp}
-use Rattle.slate_mem.specs.Batch.{Ops}
+use Rattle.slate_mem.specs.Batch.{Ops, batch_keys, kept_ops}
 use Rattle.slate_txn.specs.declared.event.TranscriptStep.TheVariants as steps
 use Rattle.slate_txn.specs.Alone.{IsVouched, own_of}
-use Rattle.slate_txn.specs.Named.{find_named, update_named}
+use Rattle.slate_txn.specs.Conflict.{tracked_writes}
+use Rattle.slate_txn.specs.Named.{find_named, update_named, without}
 use Rattle.slate_txn.specs.Reads.{seen}
 use Rattle.slate_txn.specs.State.{Rules, Commit, Tx, begun}
 use Rattle.slate_txn.specs.Step.{noted, with_op}
-use Rattle.slate_txn.proofs.ReadLaws.{alone-more}
+use Rattle.slate_txn.proofs.ReadLaws.{alone-more, alone-same, same-commits}
+use Rattle.slate_db.specs.Committed.{IsCommitted, IsNextOf}
 use Rattle.slate_db.specs.Meaning.{Meaning, rules_of}
-use Rattle.slate_db.specs.Model.{CoreModel}
+use Rattle.slate_db.specs.Model.{CoreModel, Rows}
 use Rattle.slate_db.specs.Operated.{operated}
 use Rattle.slate_db.specs.Vouched.{IsVouchedFor}
+use Rattle.slate_db.specs.Whole.{IsWhole, Unseen}
+use Rattle.slate_db.specs.Written.{after_write}
+use Rattle.slate_db.proofs.Lists.{all_map}
+use Rattle.slate_db.proofs.Seen.{found_all}
+use Rattle.slate_db.proofs.Wholes.{after_begin, after_end}
 
 -- ---- values under names
 
@@ -53,10 +62,45 @@ found_last P k x (p ∷ ps) fresh h y e = by (bytes_eq p.0 k) fresh e (found_las
     by true fresh e rest = cc
     by false fresh e rest = rest fresh h y e
 
+-- another value more
+found_more : {X : Type 0} (P : X → Type 0) (id k : List ℕ) (x : X) (ps : List (List ℕ × X)) → P x → ((y : X) → find_named k ps ≡ Some y → P y) → (y : X) → find_named k (ps ++ ((id, x) ∷ [])) ≡ Some y → P y
+found_more P id k x [] new h y e = by (bytes_eq id k) e
+  where
+    by : (b : Bool) → cond b (Some x) None ≡ Some y → P y
+    by true e = subst P (same_Some x y e) new
+    by false e = cc
+found_more P id k x (p ∷ ps) new h y e = by (bytes_eq p.0 k) h e (found_more P id k x ps new)
+  where
+    by : (b : Bool) → ((z : _) → cond b (Some p.1) (find_named k ps) ≡ Some z → P z) → cond b (Some p.1) (find_named k (ps ++ ((id, x) ∷ []))) ≡ Some y →
+        (((z : _) → find_named k ps ≡ Some z → P z) → (z : _) → find_named k (ps ++ ((id, x) ∷ [])) ≡ Some z → P z) → P y
+    by true h e rest = h y e
+    by false h e rest = rest h y e
+
+-- another value less
+found_without : {X : Type 0} (P : X → Type 0) (id k : List ℕ) (ps : List (List ℕ × X)) → k ≢ id → ((y : X) → find_named k ps ≡ Some y → P y) → (y : X) → find_named k (without id ps) ≡ Some y → P y
+found_without P id k [] apart h y e = h y e
+found_without P id k (p ∷ ps) apart h y e = by (bytes_eq p.0 id) refl e (found_without P id k ps apart)
+  where
+    past : (b : Bool) → bytes_eq p.0 k ≡ b → ((z : _) → cond b (Some p.1) (find_named k ps) ≡ Some z → P z) → bytes_eq p.0 id ≡ true → find_named k ps ≡ Some y → P y
+    past true at h is e = absurd (apart (sym ((bytes_eq-Decides p.0 k).0 at) ∙ (bytes_eq-Decides p.0 id).0 is))
+    past false at h is e = h y e
+
+    there : (b : Bool) → ((z : _) → cond b (Some p.1) (find_named k ps) ≡ Some z → P z) → (((z : _) → find_named k ps ≡ Some z → P z) → (z : _) → find_named k (without id ps) ≡ Some z → P z) → cond b (Some p.1) (find_named k (without id ps)) ≡ Some y → P y
+    there true h rest e = h y e
+    there false h rest e = rest h y e
+
+    by : (a : Bool) → bytes_eq p.0 id ≡ a → find_named k (cond a ps (p ∷ without id ps)) ≡ Some y → (((z : _) → find_named k ps ≡ Some z → P z) → (z : _) → find_named k (without id ps) ≡ Some z → P z) → P y
+    by true is e rest = past (bytes_eq p.0 k) refl h is e
+    by false is e rest = there (bytes_eq p.0 k) h rest e
+
 -- ---- one transaction
 
-own_vouched : (r : Rules) (cs : List Commit) (k : List ℕ) (op : WriteOp) (t : Tx) → IsVouched r cs t → IsVouched r cs (with_op k op t)
-own_vouched r cs k op t h = alone-more r cs t.begin [] [] t.transcript (steps.Own k op ∷ []) h tt
+-- commits above its begin
+commits_vouched : (r : Rules) (cs later : List Commit) (t : Tx) → AllByRecursion (λ c. t.begin < c.seq) later → IsVouched r cs t → IsVouched r (cs ++ later) t
+commits_vouched r cs later t above h = alone-same r cs (cs ++ later) t.begin [] [] t.transcript (sym (same-commits t.begin cs later above)) h
+
+pub own_vouched : (k : List ℕ) (op : WriteOp) (r : Rules) (cs : List Commit) (t : Tx) → IsVouched r cs t → IsVouched r cs (with_op k op t)
+own_vouched k op r cs t h = alone-more r cs t.begin [] [] t.transcript (steps.Own k op ∷ []) h tt
 
 get_vouched : (r : Rules) (cs : List Commit) (k : List ℕ) (a : Option KeyValue) (t : Tx) → t.ops ≡ own_of t.transcript → a ≡ option_map key_value (seen r cs t.begin t.ops k) → IsVouched r cs t →
     IsVouched r cs (record t { transcript = t.transcript ++ (steps.Get k a ∷ []) })
@@ -68,11 +112,14 @@ pub vouched_begin : (m : Meaning) (c : CoreModel) (id : List ℕ) (level : Isola
     IsVouchedFor m (record c { state = record c.state { txns = c.state.txns ++ ((id, begun level n) ∷ []) } }) id
 vouched_begin m c id level n fresh = found_last (IsVouched (rules_of c.settings m) c.state.commits) id (begun level n) c.state.txns fresh tt
 
--- of a transaction that is the same after the change, but for its marks or one own operation more
-pub vouched_own : {E : Type 0} (r : Result (Unit {0}) E) (m : Meaning) (c d : CoreModel) (id k key : List ℕ) (op : WriteOp) → OnOk r (d ≡ operated c id (with_op key op)) → OnErr r (d ≡ c) → IsVouchedFor m c k → IsVouchedFor m d k
-vouched_own (Ok x) m c d id k key op ok err h = subst (λ (v : CoreModel). IsVouchedFor m v k) (sym ok)
-    (found_updated (IsVouched (rules_of c.settings m) c.state.commits) id k (with_op key op) c.state.txns (λ t e g. own_vouched (rules_of c.settings m) c.state.commits key op t g) h)
-vouched_own (Err e) m c d id k key op ok err h = subst (λ (v : CoreModel). IsVouchedFor m v k) (sym err) h
+-- of a change that keeps it
+abbrev pub KeepsVouched : (Tx → Tx) → Type 0
+KeepsVouched f = (r : Rules) (cs : List Commit) (t : Tx) → IsVouched r cs t → IsVouched r cs (f t)
+
+pub vouched_either : {E : Type 0} (r : Result (Unit {0}) E) (m : Meaning) (c d : CoreModel) (id k : List ℕ) (f : Tx → Tx) → KeepsVouched f → OnOk r (d ≡ operated c id f) → OnErr r (d ≡ c) → IsVouchedFor m c k → IsVouchedFor m d k
+vouched_either (Ok x) m c d id k f keeps ok err h = subst (λ (v : CoreModel). IsVouchedFor m v k) (sym ok)
+    (found_updated (IsVouched (rules_of c.settings m) c.state.commits) id k f c.state.txns (λ t e g. keeps (rules_of c.settings m) c.state.commits t g) h)
+vouched_either (Err e) m c d id k f keeps ok err h = subst (λ (v : CoreModel). IsVouchedFor m v k) (sym err) h
 
 pub vouched_get : (m : Meaning) (c : CoreModel) (id k key : List ℕ) (a : Option KeyValue) (u : Tx) → find_named id c.state.txns ≡ Some u → u.ops ≡ own_of u.transcript →
     a ≡ option_map key_value (seen (rules_of c.settings m) c.state.commits u.begin u.ops key) → IsVouchedFor m c k → IsVouchedFor m (record c { state = noted c.state id (steps.Get key a ∷ []) }) k
@@ -83,3 +130,30 @@ vouched_get m c id k key a u found own is h =
   where
     r : Rules
     r = rules_of c.settings m
+
+pub others_begin : (m : Meaning) (c : CoreModel) (id k : List ℕ) (level : IsolationLevel) (n spare : ℕ) → IsVouchedFor m c k → IsVouchedFor m (after_begin c level n id spare) k
+others_begin m c id k level n spare h = found_more (IsVouched (rules_of c.settings m) c.state.commits) id k (begun level n) c.state.txns tt h
+
+pub others_end : (m : Meaning) (c : CoreModel) (id k : List ℕ) (spare : ℕ) → k ≢ id → IsVouchedFor m c k → IsVouchedFor m (after_end c id spare) k
+others_end m c id k spare apart h = found_without (IsVouched (rules_of c.settings m) c.state.commits) id k c.state.txns apart h
+
+abbrev pub AreBelow : ℕ → CoreModel → Type 0
+AreBelow n c = AllByRecursion (λ p. p.1.begin < n) c.state.txns
+
+pub below_next : (c : CoreModel) (x : Unseen) → IsWhole c x → AreBelow (x.last + 1) c
+below_next c x w = all_map _ _ (λ p h. let k : p.1.begin ≤ x.last = h.1 in omega arith) c.state.txns w.tied.begins
+
+pub vouched_write : (m : Meaning) (c : CoreModel) (k : List ℕ) (n : ℕ) (now : ℤ) (ops : Ops) (rows : Rows) (spare : ℕ) → AreBelow n c → IsVouchedFor m c k → IsVouchedFor m (after_write c n now ops rows spare) k
+vouched_write m c k n now ops rows spare below h t e =
+    commits_vouched (rules_of c.settings m) c.state.commits (record { seq = n; now = now; ops = ops; tracked = batch_keys ops } ∷ []) t (found_all (λ (t : Tx). t.begin < n) k c.state.txns t below e, tt) (h t e)
+
+-- a commit that has the sequence n
+after_others : (m : Meaning) (c : CoreModel) (id k : List ℕ) (made : List Commit) → k ≢ id → ((t : Tx) → find_named k c.state.txns ≡ Some t → AllByRecursion (λ c. t.begin < c.seq) made) → IsVouchedFor m c k →
+    (t : Tx) → find_named k (without id c.state.txns) ≡ Some t → IsVouched (rules_of c.settings m) (c.state.commits ++ made) t
+after_others m c id k made apart above h = found_without (IsVouched (rules_of c.settings m) (c.state.commits ++ made)) id k c.state.txns apart (λ t e. commits_vouched (rules_of c.settings m) c.state.commits made t (above t e) (h t e))
+
+pub others_commit : (m : Meaning) (c d : CoreModel) (id k : List ℕ) (last : ℕ) (n : Option ℕ) (now : ℤ) (t : Tx) → k ≢ id → AreBelow (last + 1) c → IsNextOf last t.ops n → IsCommitted c d id n now t → IsVouchedFor m c k → IsVouchedFor m d k
+others_commit m c d id k last None now t apart below next is h = subst (λ (v : CoreModel). IsVouchedFor m v k) (sym is.1) (after_others m c id k [] apart (λ u e. tt) h)
+others_commit m c d id k last (Some n) now t apart below next is h = subst (λ (v : CoreModel). IsVouchedFor m v k) (sym is)
+    (after_others m c id k (record { seq = n; now = now; ops = kept_ops t.ops; tracked = tracked_writes t } ∷ []) apart
+    (λ u e. (subst (λ (j : ℕ). u.begin < j) (sym next.0) (found_all (λ (u : Tx). u.begin < last + 1) k c.state.txns u below e), tt)) h)

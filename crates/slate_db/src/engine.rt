@@ -122,6 +122,7 @@ impl Core {
         ensures step { IfOk result (λ a. (m : Meaning) → step (rules_of self.old.settings m) self.old.state (lines.Begin a.0 level) ≡ (self.new.state, Begun a.0 a.1)) }
         ensures event { IfOk result (λ a. self.new ≡ record self.old { state = self.new.state; events = self.old.events ++ events.Begin a.0 level a.1 ∷ []; spare = self.new.spare }) }
         ensures vouched { IfOk result (λ a. (m : Meaning) → IsVouchedFor m self.new a.0) }
+        ensures others { OnOk result ((m : Meaning) (other : List ℕ) → IsVouchedFor m self.old other → IsVouchedFor m self.new other) }
         ensures kept { OnOk result ((m : Meaning) → IsKept m self.old → IsKept m self.new) }
         ensures same { OnErr result (self.new ≡ self.old) }
         ensures limit { LIMIT < length self.old.events + length self.old.state.txns + 2 → result ≡ Err (SlateDBError.LimitReached LIMIT) }
@@ -142,6 +143,7 @@ impl Core {
         requires { IsSome (find_named id.now self.old.state.txns) }
         ensures step { (m : Meaning) → step (rules_of self.old.settings m) self.old.state (lines.Rollback id.now) ≡ (self.new.state, Done) }
         ensures event { self.new ≡ record self.old { state = self.new.state; events = self.old.events ++ events.End id.now ∷ []; spare = self.new.spare } }
+        ensures others { (m : Meaning) (other : List ℕ) → other ≢ id.now → IsVouchedFor m self.old other → IsVouchedFor m self.new other }
         ensures kept { (m : Meaning) → IsKept m self.old → IsKept m self.new }
     {
         self.transactions.end(id);
@@ -181,6 +183,7 @@ impl Core {
         ensures step { IfOk result (λ n. (m : Meaning) (ops : Ops) → IsBatchOf ops batch → AreFine ops → step (rules_of self.old.settings m) (at now self.old.state) (lines.Write ops) ≡ (at now self.new.state, Written n)) }
         ensures refused { IfErr result (λ e. (e ≡ SlateDBError.OutOfMemory) ⊎ ((e ≡ SlateDBError.LimitReached LIMIT) ⊎ ((m : Meaning) (ops : Ops) → IsBatchOf ops batch → AreFine ops → step (rules_of self.old.settings m) (at now self.old.state) (lines.Write ops) ≡ (at now self.old.state, Refused e)))) }
         ensures event { IfOk result (λ n. IsWritten self.old self.new n now batch.ops) }
+        ensures vouched { OnOk result ((m : Meaning) (other : List ℕ) → IsVouchedFor m self.old other → IsVouchedFor m self.new other) }
         ensures kept { OnOk result ((m : Meaning) → IsKept m self.old → IsKept m self.new) }
         ensures load { (ops : Ops) → IsBatchOf ops batch → OnOk result (load self.new ≤ load self.old + ops_load ops) }
         ensures same { OnErr result (IsSame self.old self.new) }
@@ -439,6 +442,7 @@ impl Core {
         ensures step { OnOk result ((m : Meaning) → step (rules_of self.old.settings m) self.old.state (lines.Mark id.now keys.now) ≡ (self.new.state, Done)) }
         ensures taken { OnOk result (self.new ≡ operated self.old id.now (with_marks keys.now)) }
         ensures cause { IsOkUnless result SlateDBError.OutOfMemory }
+        ensures vouched { (m : Meaning) (other : List ℕ) → IsVouchedFor m self.old other → IsVouchedFor m self.new other }
         ensures kept { (m : Meaning) → IsKept m self.old → IsKept m self.new }
         ensures same { OnErr result (self.new ≡ self.old) }
     {
@@ -451,6 +455,7 @@ impl Core {
         ensures step { OnOk result ((m : Meaning) → step (rules_of self.old.settings m) self.old.state (lines.Unmark id.now keys.now) ≡ (self.new.state, Done)) }
         ensures taken { OnOk result (self.new ≡ operated self.old id.now (with_unmarks keys.now)) }
         ensures cause { IsOkUnless result SlateDBError.OutOfMemory }
+        ensures vouched { (m : Meaning) (other : List ℕ) → IsVouchedFor m self.old other → IsVouchedFor m self.new other }
         ensures kept { (m : Meaning) → IsKept m self.old → IsKept m self.new }
         ensures same { OnErr result (self.new ≡ self.old) }
     {
@@ -466,6 +471,7 @@ impl Core {
         ensures refused { IfErr result (λ e. (e ≡ SlateDBError.OutOfMemory) ⊎ ((m : Meaning) → step (rules_of self.old.settings m) (at now self.old.state) (lines.Commit id.now) ≡ (at now self.new.state, Refused e))) }
         ensures event { (t : Tx) → find_named id.now self.old.state.txns ≡ Some t → IfOk result (λ n. IsCommitted self.old self.new id.now n now t) }
         ensures ended { OnErr result (IsEnded self.old self.new id.now) }
+        ensures others { (m : Meaning) (other : List ℕ) → other ≢ id.now → IsVouchedFor m self.old other → IsVouchedFor m self.new other }
         ensures kept { (m : Meaning) → IsKept m self.old → IsKept m self.new }
         ensures load { (t : Tx) → find_named id.now self.old.state.txns ≡ Some t → load self.new ≤ load self.old + ops_load t.ops }
         ensures cause { (t : Tx) → find_named id.now self.old.state.txns ≡ Some t → IfErr result (λ e. (e ≡ SlateDBError.OutOfMemory) ⊎ (IsConflict (conflict self.old.state.commits t) e ⊎ ((e ≡ SlateDBError.SequenceExhausted) × (last_of self.old.settings.start_seq self.old.state.commits ≡ 2 ^ 64 - 2)))) }

@@ -18,7 +18,7 @@ use Rattle.slate_db.specs.Vouched.{IsVouchedFor}
 use Rattle.slate_db.proofs.Calls.{begun_is}
 use Rattle.slate_db.proofs.Managing.{back_named, managed_back}
 use Rattle.slate_db.proofs.Steps.{step_begin}
-use Rattle.slate_db.proofs.Vouches.{vouched_begin}
+use Rattle.slate_db.proofs.Vouches.{others_begin, vouched_begin}
 use Rattle.slate_db.proofs.Wholes.{after_begin, whole_begin, whole_manager, kept_begin, past_begun, fresh_begun, within_newest}
 use Rattle.slate_db.proofs.engine.Core.begin.Goals as goal
 
@@ -92,3 +92,12 @@ returns-clause-vouched c m =
     subst (λ (s : Inside). IsVouchedFor m (view_of s) c.in_ok-id.id) becomes
     (subst (λ (i : List ℕ). IsVouchedFor m (after_begin (view_of s) c.args.level s.log.last (id_of (s.log.ids + 1)) c.enter.new.log.spare) i) (sym id)
     (vouched_begin m (view_of s) (id_of (s.log.ids + 1)) c.args.level s.log.last (fresh_begun (view_of s) (unseen_of s) c.self.invariant)))
+
+pub returns-clause-others : goal.returns-clause-others
+returns-clause-others c m k h =
+    let s = c.self.inside in
+    let id = c.in_ok-id.ensures.id ∙ ap (λ n. id_of (n + 1)) c.self.invariant.tied.manager.counted in
+    let start = c.in_ok-id.ensures.opened.0 ∙ c.self.invariant.tied.manager.newest in
+    let becomes = begun_is s c.enter.new.log c.enter.new.transactions c.new_transaction.new.self c.args.level c.in_ok-id.id c.in_ok-id.start id start c.in_default.ensures.log c.in_default.ensures.opened in
+    subst (λ (s : Inside). IsVouchedFor m (view_of s) k) becomes
+    (others_begin m (view_of s) (id_of (s.log.ids + 1)) k c.args.level s.log.last c.enter.new.log.spare (subst (λ (v : CoreModel). IsVouchedFor m v k) (sym c.self.view_is) h))

@@ -20,9 +20,11 @@ use Rattle.slate_db.specs.Managed.{IsManaged}
 use Rattle.slate_db.specs.Meaning.{rules_of, combine_of}
 use Rattle.slate_db.specs.Model.{CoreModel, at}
 use Rattle.slate_db.specs.Sound.{IsKept}
+use Rattle.slate_db.specs.Vouched.{IsVouchedFor}
 use Rattle.slate_db.specs.View.{view_of, unseen_of, IsWholeInside}
 use Rattle.slate_db.proofs.Commits.{Commits, IsRefused, HasCause, HasKnownCause, RowsAfter, core_after, may_commit, committed_is, managed_made, whole_made, kept_made, load_made, event_made, step_made, refused_is, cause_is, load_ended, refused_parts_are, same_txn}
 use Rattle.slate_db.proofs.Managing.{find_as, managed_dropped}
+use Rattle.slate_db.proofs.Vouches.{below_next, others_commit, others_end}
 use Rattle.slate_db.proofs.Wholes.{named_in_journal, whole_end, kept_end}
 use Rattle.slate_db.proofs.engine.Core.commit.Goals as goal
 
@@ -96,6 +98,13 @@ returns-in-Ok-clause-event c = λ t named.
     (subst (λ (s : Inside). IsCommitted (view_of c.self.inside) (view_of s) c.args.id.now c.in-Ok.made.seq c.args.now c.in-Some.owned) (becomes c plain)
     (event_made plain (view_of c.self.inside) c.self.inside.log.last c.args.id.now c.in-Ok.made.seq c.args.now c.in-Some.owned c.push_commit.new.self.spare (made c).next)))
 
+pub returns-in-Ok-clause-others : goal.returns-in-Ok-clause-others
+returns-in-Ok-clause-others c = λ m k apart h.
+    others_commit m (view_of c.self.inside) (view_of (core c)) c.args.id.now k c.self.inside.log.last c.in-Ok.made.seq c.args.now c.in-Some.owned apart (below_next (view_of c.self.inside) (unseen_of c.self.inside) c.self.invariant) (made c).next
+    (subst (λ (s : Inside). IsCommitted (view_of c.self.inside) (view_of s) c.args.id.now c.in-Ok.made.seq c.args.now c.in-Some.owned) (becomes c plain)
+    (event_made plain (view_of c.self.inside) c.self.inside.log.last c.args.id.now c.in-Ok.made.seq c.args.now c.in-Some.owned c.push_commit.new.self.spare (made c).next))
+    (subst (λ (v : CoreModel). IsVouchedFor m v k) (sym c.self.view_is) h)
+
 pub returns-in-Ok-clause-ended : goal.returns-in-Ok-clause-ended
 returns-in-Ok-clause-ended c = tt
 
@@ -153,6 +162,11 @@ returns-in-Err-clause-event c = λ t named. tt
 pub returns-in-Err-clause-ended : goal.returns-in-Err-clause-ended
 returns-in-Err-clause-ended c =
     sym (ap view_of (ends c)) ∙ ap (λ (v : CoreModel). record v { state = without_txn v.state c.args.id.now; events = v.events ++ (events.End c.args.id.now ∷ []); spare = c.push_end.new.self.spare }) c.self.view_is
+
+pub returns-in-Err-clause-others : goal.returns-in-Err-clause-others
+returns-in-Err-clause-others c = λ m k apart h.
+    subst (λ (s : Inside). IsVouchedFor m (view_of s) k) (ends c)
+    (others_end m (view_of c.self.inside) c.args.id.now k c.push_end.new.self.spare apart (subst (λ (v : CoreModel). IsVouchedFor m v k) (sym c.self.view_is) h))
 
 pub returns-in-Err-clause-kept : goal.returns-in-Err-clause-kept
 returns-in-Err-clause-kept c = λ m k.

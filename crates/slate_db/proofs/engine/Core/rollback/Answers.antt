@@ -10,9 +10,11 @@ use Rattle.slate_db.specs.Meaning.{rules_of}
 use Rattle.slate_db.specs.Model.{CoreModel}
 use Rattle.slate_db.specs.View.{view_of, unseen_of, IsWholeInside}
 use Rattle.slate_db.specs.Sound.{IsKept}
+use Rattle.slate_db.specs.Vouched.{IsVouchedFor}
 use Rattle.slate_db.proofs.Calls.{ended_is, event_ended}
 use Rattle.slate_db.proofs.Managing.{managed_ended}
 use Rattle.slate_db.proofs.Steps.{step_end}
+use Rattle.slate_db.proofs.Vouches.{others_end}
 use Rattle.slate_db.proofs.Wholes.{named_in_journal, whole_end, kept_end}
 use Rattle.slate_db.proofs.engine.Core.rollback.Goals as goal
 
@@ -35,6 +37,9 @@ returns c =
           ∙ step_end m (view_of c.self.inside) (unseen_of c.self.inside) c.args.id.now c.push_end.new.self.spare (subst (λ (v : CoreModel). IsSome (find_named c.args.id.now v.state.txns)) (sym c.self.view_is) c.requires) c.self.invariant
           ∙ (λ i. ((view_of (becomes i)).state, Done)));
       event = event_ended c.self.inside c.args.self.now c.push_end.new.self c.end.new.self c.args.id.now c.self.view_is c.push_end.ensures.value;
+      others = (λ m k apart h.
+          subst (λ (s : Inside). IsVouchedFor m (view_of s) k) becomes
+          (others_end m (view_of c.self.inside) c.args.id.now k c.push_end.new.self.spare apart (subst (λ (v : CoreModel). IsVouchedFor m v k) (sym c.self.view_is) h)));
       kept = (λ m k.
           subst (λ (s : Inside). IsKept m (view_of s)) becomes
           (kept_end m (view_of c.self.inside) c.args.id.now c.push_end.new.self.spare (subst (λ (v : CoreModel). IsKept m v) (sym c.self.view_is) k)));
