@@ -147,7 +147,7 @@ pub vouched_write : (m : Meaning) (c : CoreModel) (k : List ℕ) (n : ℕ) (now 
 vouched_write m c k n now ops rows spare below h t e =
     commits_vouched (rules_of c.settings m) c.state.commits (record { seq = n; now = now; ops = ops; tracked = batch_keys ops } ∷ []) t (found_all (λ (t : Tx). t.begin < n) k c.state.txns t below e, tt) (h t e)
 
--- a commit that has the sequence n
+-- what a commit makes stands above the begins of all others
 after_others : (m : Meaning) (c : CoreModel) (id k : List ℕ) (made : List Commit) → k ≢ id → ((t : Tx) → find_named k c.state.txns ≡ Some t → AllByRecursion (λ c. t.begin < c.seq) made) → IsVouchedFor m c k →
     (t : Tx) → find_named k (without id c.state.txns) ≡ Some t → IsVouched (rules_of c.settings m) (c.state.commits ++ made) t
 after_others m c id k made apart above h = found_without (IsVouched (rules_of c.settings m) (c.state.commits ++ made)) id k c.state.txns apart (λ t e. commits_vouched (rules_of c.settings m) c.state.commits made t (above t e) (h t e))
