@@ -32,6 +32,4 @@ mod stores;
 #[cfg(test)]
 mod streams;
 #[cfg(test)]
-mod table_walks;
-#[cfg(test)]
 mod tables;
