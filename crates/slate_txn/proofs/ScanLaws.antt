@@ -1,5 +1,5 @@
 -- What a transcript's scans have left after one step more, and that it is alone then.
-use Rattle.std.proofs.Common.{◌≡◌, ℕ, List, [], ◌∷◌, ◌++◌, Option, Some, None, option_map, slice_get, length, count_by, refl, sym, ap, subst, ◌∙◌, append_assoc, append-nil, zero-add}
+use Rattle.std.proofs.Common.{◌≡◌, ℕ, List, [], ◌∷◌, ◌++◌, Option, Some, option_map, slice_get, length, count_by, sym, ap, subst, ◌∙◌, append_assoc, append-nil, zero-add}
 use Rattle.std.specs.Prelude.{IsSome}
 use Rattle.slate_types.specs.declared.bytes_range.BytesRange.{BytesRange}
 use Rattle.slate_types.specs.declared.iter.IterationOrder.{IterationOrder}

@@ -1,5 +1,5 @@
 -- A list of which one item was changed.
-use Rattle.std.proofs.Common.{◌≡◌, ◌≢◌, ◌<◌, ℕ, zero, suc, Bool, true, false, List, [], ◌∷◌, ◌++◌, Some, get_or, slice_get, slice_set, length, refl, ap, arith}
+use Rattle.std.proofs.Common.{◌≡◌, ◌≢◌, ◌<◌, ℕ, zero, suc, true, false, List, [], ◌∷◌, ◌++◌, Some, get_or, slice_get, slice_set, length, refl, ap, arith}
 use Rattle.slate_txn.specs.Tracking.{update_at}
 
 pub set_is : {X : Type 0} (i : ℕ) (f : X → X) (xs : List X) (x : X) → i < length xs → x ≡ get_or xs i x → slice_set xs i (f x) ≡ update_at i f xs

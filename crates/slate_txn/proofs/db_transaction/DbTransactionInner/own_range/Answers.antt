@@ -1,4 +1,4 @@
-use Rattle.std.proofs.Common.{◌≡◌, List, [], if◌then◌else◌, ap, ◌∙◌, map, reverse}
+use Rattle.std.proofs.Common.{List, [], if◌then◌else◌, ap, ◌∙◌, map, reverse}
 use Rattle.std.proofs.lemmas.Result.{IfOk-weaker}
 use Rattle.slate_types.specs.Keys.{in_range}
 use Rattle.slate_mem.specs.declared.WriteOp.{WriteOp}
