@@ -10,6 +10,7 @@ pub mod cut;
 pub mod engine;
 pub mod flush;
 pub mod gather;
+pub mod laws;
 pub mod layers;
 pub mod log;
 pub mod lookup;
