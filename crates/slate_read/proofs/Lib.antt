@@ -4,6 +4,8 @@ pub mod Few
 pub mod Damaged
 pub mod Openings
 pub mod Cursors
+pub mod ReadAhead
+pub mod Enough
 pub mod Walks
 pub mod Ranges
 pub mod Seeks
