@@ -129,7 +129,7 @@ passed_ready h order key kept x y jumps ahead n block rows at there bytes =
     ahead (passed_over order x y + n) block rows (get_behind x.ready.items (passed_over order x y) n block (ap (λ l. slice_get l n) (sym jumps.ready) ∙ at)) (ap (slice_get kept.blocks) (sym (passed_place order key x y n jumps)) ∙ there) bytes
 
 passed_refused : (h : SsTableHandle) (order : IterationOrder) (key : List ℕ) (x y : Cursor) (e : SlateDBError) → Jumps order key x y → RefusesReady h.format_version order y.ready.items e → RefusesReady h.format_version order x.ready.items e
-passed_refused h order key x y e jumps (n, block, at, why) = (passed_over order x y + n, block, get_behind x.ready.items (passed_over order x y) n block (ap (λ l. slice_get l n) (sym jumps.ready) ∙ at), why)
+passed_refused h order key x y e jumps (n, block, at, bytes, rows) = (passed_over order x y + n, block, get_behind x.ready.items (passed_over order x y) n block (ap (λ l. slice_get l n) (sym jumps.ready) ∙ at), bytes, rows)
 
 pub jump_moves : (h : SsTableHandle) (order : IterationOrder) (key : List ℕ) (t : Reach) (x y : Cursor) → Jumps order key x y → reads_in x.rows ≡ 0 → Moves (rest_sought h order key) (IsSoundRising h order) (refuses_behind h order) t t x y
 jump_moves h order key t x y jumps spent = record {

@@ -1,5 +1,6 @@
 pub mod Filters
 pub mod Fetches
+pub mod OneBlock
 pub mod Few
 pub mod Damaged
 pub mod Openings
