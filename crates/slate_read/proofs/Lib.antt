@@ -1,9 +1,12 @@
 pub mod Filters
 pub mod Fetches
+pub mod OneBlock
 pub mod Few
 pub mod Damaged
 pub mod Openings
 pub mod Cursors
+pub mod ReadAhead
+pub mod Enough
 pub mod Walks
 pub mod Ranges
 pub mod Seeks

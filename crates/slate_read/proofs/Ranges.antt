@@ -11,6 +11,7 @@ use Rattle.slate_types.specs.declared.iter.IterationOrder.TheVariants.{Ascending
 use Rattle.slate_types.specs.Iteration.{IsInOrder, NoneBefore, comes_before, in_order}
 use Rattle.slate_types.specs.Keys.{in_range, is_refused, key_lt}
 use Rattle.slate_read.specs.RangeRows.{IsRangeOf}
+use Rattle.slate_read.specs.declared.fetch_limits.FetchLimits.{FetchLimits}
 use Rattle.slate_read.specs.declared.filter_iterator.FilterIterator.{FilterIterator}
 use Rattle.slate_read.specs.declared.range_rows.InRange.{InRange}
 use Rattle.slate_read.specs.declared.table_state.TableWalk.{TableWalk}
@@ -141,9 +142,9 @@ unbegun w h kept range order table =
       rising = subst (IsInOrder order) (sym (ap (rest_covered range order) table.held)) (either_order order (rows_between kept first (covering_end kept.keys first range.end)) (in_part Ascending kept.blocks first (covering_end kept.keys first range.end - first) table.rising));
     }
 
-pub is_range : (range kept_range : BytesRange) (table : SsTableHandle) (order : IterationOrder) (fits : is_refused range.start range.end ≡ false) (it : FilterIterator TableWalk InRange) →
-    it.iterator ≡ record { range = range; table = table; order = order; state = New; fits = fits } → it.predicate ≡ record { range = kept_range } → kept_range ≡ range → IsRangeOf range table order it
-is_range range kept_range table order fits it is keeps same = λ w kept readable. (
+pub is_range : (range kept_range : BytesRange) (table : SsTableHandle) (order : IterationOrder) (limits : FetchLimits) (fits : is_refused range.start range.end ≡ false) (it : FilterIterator TableWalk InRange) →
+    it.iterator ≡ record { range = range; table = table; order = order; limits = limits; state = New; fits = fits } → it.predicate ≡ record { range = kept_range } → kept_range ≡ range → IsRangeOf range table order it
+is_range range kept_range table order limits fits it is keeps same = λ w kept readable. (
   subst (λ (x : TableWalk). IsSoundWalk x w) (sym is) (unbegun w table kept range order readable),
   (λ i. filter (is_in ((ap (λ (p : InRange). p.range) keeps ∙ same) i)) (rest_of (is i) w)) ∙ range_rows w table kept range order readable,
 )

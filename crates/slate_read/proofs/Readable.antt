@@ -57,7 +57,7 @@ use Rattle.slate_types.specs.World.{Kept, Place, World}
 use Rattle.slate_read.specs.Readable.{kept_of}
 use Rattle.slate_read.specs.TableWalk.{IsReadable, block_part, index_part, path_in, size_of, start_of}
 use Rattle.slate_read.specs.WalkLaws.{whole_part}
-use Rattle.slate_read.proofs.Fetches.{one_answer}
+use Rattle.slate_read.proofs.OneBlock.{one_answer}
 
 not_newer : (a b : ℕ) → nat_lt b a ≡ true → is_lt (nat_cmp a b) ≡ false
 not_newer a b h = by (nat_lt a b) (a == b) refl

@@ -1,5 +1,6 @@
 pub mod Filtering
 pub mod TableWalk
+pub mod Sections
 pub mod WalkLaws
 pub mod RangeRows
 pub mod Readable

@@ -2,6 +2,8 @@
 #![tactic(auto)]
 
 pub mod empty_iterator;
+pub mod fetch_limits;
+pub mod fetching;
 pub mod filter_iterator;
 pub mod groups;
 pub mod head;
@@ -24,6 +26,7 @@ pub mod table_state;
 pub mod table_walk;
 
 pub use empty_iterator::EmptyIterator;
+pub use fetch_limits::FetchLimits;
 pub use filter_iterator::{FilterIterator, MaxSeq, RowPredicate};
 pub use internal_sst_iterator::InternalSstIterator;
 pub use merge_iterator::MergeIterator;
