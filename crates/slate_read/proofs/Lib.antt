@@ -26,3 +26,4 @@ pub mod MergeLoops
 pub mod MergeStateSteps
 pub mod Requires
 pub mod Peeks
+pub mod Shows

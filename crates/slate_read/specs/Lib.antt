@@ -25,3 +25,6 @@ pub mod MergeStateLaws
 pub mod MergedLaws
 pub mod Required
 pub mod Peeking
+pub mod RunWalk
+pub mod RunIterators
+pub mod Showing
