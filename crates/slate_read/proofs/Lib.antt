@@ -27,3 +27,6 @@ pub mod MergeStateSteps
 pub mod Requires
 pub mod Peeks
 pub mod Shows
+pub mod RunOpen
+pub mod Runs
+pub mod RunSeeks

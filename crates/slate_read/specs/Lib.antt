@@ -28,3 +28,4 @@ pub mod Peeking
 pub mod RunWalk
 pub mod RunIterators
 pub mod Showing
+pub mod RunLaws

@@ -53,7 +53,7 @@ known_answer w path kept start len given is h = subst (λ (o : Option Kept). IfS
 pub some_more : (p : Meaning) (h : SsTableHandle) (entries : List (ℕ × List ℕ)) (order : IterationOrder) (done reads : List Act) (e : SlateDBError) → RefusesSome p h entries order reads e → RefusesSome p h entries order (done ++ reads) e
 some_more p h entries order done reads e r = (r.0, r.1, r.2, Contains-append_right done reads _ r.3, r.4)
 
-unread_more : (p : Meaning) (h : SsTableHandle) (order : IterationOrder) (done reads : List Act) (e : SlateDBError) → RefusesUnread p h order reads e → RefusesUnread p h order (done ++ reads) e
+pub unread_more : (p : Meaning) (h : SsTableHandle) (order : IterationOrder) (done reads : List Act) (e : SlateDBError) → RefusesUnread p h order reads e → RefusesUnread p h order (done ++ reads) e
 unread_more p h order done reads e (given, among, inl k) = (given, Contains-append_right done reads _ among, inl k)
 unread_more p h order done reads e (given, among, inr k) = (given, Contains-append_right done reads _ among, inr (k.0, k.1, some_more p h k.0 order done reads e k.2))
 
@@ -90,7 +90,7 @@ ok_some : (r : Result (List RowEntry) SlateDBError) → IsOk r → (rows : List 
 ok_some (Ok rows) h = (rows, refl)
 ok_some (Err e) h = cc
 
-left_whole : (order : IterationOrder) (o : Option (DataBlockIterator Block)) (e : SlateDBError) → IsWhole order o → RefusesLeft o e → ⊥
+pub left_whole : (order : IterationOrder) (o : Option (DataBlockIterator Block)) (e : SlateDBError) → IsWhole order o → RefusesLeft o e → ⊥
 left_whole order None e w r = r
 left_whole order (Some it) e w r = let k = ok_some (left (left_of it)) w.0 in none_refused (left_of it).reads k.0 r.1.0 e k.1 r.1.1
 
@@ -102,7 +102,7 @@ get_some (x ∷ xs) (suc i) h = get_some xs i (omega (arith, h))
 of_read : (w : World) (reads : List Act) (act : Act) → AllByRecursion (AnswersWorld w) reads → Contains reads act → AnswersWorld w act
 of_read w reads act h among = All-contains (AnswersWorld w) reads act (All-from_recursion (AnswersWorld w) reads h) among
 
-some_whole : (w : World) (h : SsTableHandle) (kept : Kept) (table : IsReadable w h kept) (order : IterationOrder) (reads : List Act) (e : SlateDBError) → AllByRecursion (AnswersWorld w) reads → RefusesSome w.meaning h table.entries order reads e → ⊥
+pub some_whole : (w : World) (h : SsTableHandle) (kept : Kept) (table : IsReadable w h kept) (order : IterationOrder) (reads : List Act) (e : SlateDBError) → AllByRecursion (AnswersWorld w) reads → RefusesSome w.meaning h table.entries order reads e → ⊥
 unfolding RefusesWalk
 some_whole w h kept table order reads e answered (block, given, within, among, why) = by (subst (λ (a : Option (List ℕ)). RefusesWalk w.meaning.decode h.format_version order a e) answer why)
   where
@@ -118,7 +118,7 @@ some_whole w h kept table order reads e answered (block, given, within, among, w
         let there = get_some kept.blocks block (let n = table.count in omega (arith, within, n)) in
         rows_whole h.format_version order found there.0 e table.known (table.block block there.0 found there.1 bytes read) rows
 
-unread_whole : (w : World) (h : SsTableHandle) (kept : Kept) (table : IsReadable w h kept) (order : IterationOrder) (reads : List Act) (e : SlateDBError) → AllByRecursion (AnswersWorld w) reads → RefusesUnread w.meaning h order reads e → ⊥
+pub unread_whole : (w : World) (h : SsTableHandle) (kept : Kept) (table : IsReadable w h kept) (order : IterationOrder) (reads : List Act) (e : SlateDBError) → AllByRecursion (AnswersWorld w) reads → RefusesUnread w.meaning h order reads e → ⊥
 unread_whole w h kept table order reads e answered (given, among, why) = by why
   where
     is : given ≡ index_part h kept

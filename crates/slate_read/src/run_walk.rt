@@ -234,8 +234,8 @@ impl RunCursor {
             return Ok(false);
         };
         match open_table(alloc, env, table, range) {
-            Ok(open) => {
-                drop(mem::replace(&mut self.current, Some(open)));
+            Ok(opened) => {
+                drop(mem::replace(&mut self.current, Some(opened)));
                 Ok(true)
             }
             Err(error) => Err(error),
