@@ -29,3 +29,7 @@ pub mod MergeLoops
 pub mod MergeStateSteps
 pub mod Requires
 pub mod Peeks
+pub mod Shows
+pub mod RunOpen
+pub mod Runs
+pub mod RunSeeks

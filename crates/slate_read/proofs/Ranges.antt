@@ -79,7 +79,7 @@ filter_reverse p (r ∷ rs) = ap (filter p) (reverse-append (r ∷ []) rs) ∙ f
     by true = sym (reverse-append (r ∷ []) (filter p rs))
     by false = append-nil (reverse (filter p rs))
 
-filter_order : (order : IterationOrder) (p : RowEntry → Bool) (rows : List RowEntry) → filter p (in_order order rows) ≡ in_order order (filter p rows)
+pub filter_order : (order : IterationOrder) (p : RowEntry → Bool) (rows : List RowEntry) → filter p (in_order order rows) ≡ in_order order (filter p rows)
 filter_order Ascending p rows = refl
 filter_order Descending p rows = filter_reverse p rows
 
@@ -91,7 +91,7 @@ range_rows w h kept range order table =
 
 -- ---- rows in an order
 
-in_front : (o : IterationOrder) (xs ys : List RowEntry) → IsInOrder o (xs ++ ys) → IsInOrder o xs
+pub in_front : (o : IterationOrder) (xs ys : List RowEntry) → IsInOrder o (xs ++ ys) → IsInOrder o xs
 in_front o [] ys h = tt
 in_front o (x ∷ xs) ys h = (none xs h.0, in_front o xs ys h.1)
   where
@@ -103,12 +103,12 @@ pub in_back : (o : IterationOrder) (xs ys : List RowEntry) → IsInOrder o (xs +
 in_back o [] ys h = h
 in_back o (x ∷ xs) ys h = in_back o xs ys h.1
 
-blocks_split : (bs : List (List RowEntry)) (n : ℕ) → flat_map (λ b. b) bs ≡ flat_map (λ b. b) (take n bs) ++ flat_map (λ b. b) (drop n bs)
+pub blocks_split : (bs : List (List RowEntry)) (n : ℕ) → flat_map (λ b. b) bs ≡ flat_map (λ b. b) (take n bs) ++ flat_map (λ b. b) (drop n bs)
 blocks_split bs zero = refl
 blocks_split [] (suc n) = refl
 blocks_split (b ∷ bs) (suc n) = ap (λ (l : List RowEntry). b ++ l) (blocks_split bs n) ∙ sym (append_assoc b (flat_map (λ x. x) (take n bs)) (flat_map (λ x. x) (drop n bs)))
 
-in_part : (o : IterationOrder) (bs : List (List RowEntry)) (i n : ℕ) → IsInOrder o (flat_map (λ b. b) bs) → IsInOrder o (flat_map (λ b. b) (take n (drop i bs)))
+pub in_part : (o : IterationOrder) (bs : List (List RowEntry)) (i n : ℕ) → IsInOrder o (flat_map (λ b. b) bs) → IsInOrder o (flat_map (λ b. b) (take n (drop i bs)))
 in_part o bs i n h =
     let behind = in_back o (flat_map (λ b. b) (take i bs)) (flat_map (λ b. b) (drop i bs)) (subst (IsInOrder o) (blocks_split bs i) h) in
     in_front o (flat_map (λ b. b) (take n (drop i bs))) (flat_map (λ b. b) (drop n (drop i bs))) (subst (IsInOrder o) (blocks_split (drop i bs) n) behind)
@@ -129,7 +129,7 @@ turned_order : (xs : List RowEntry) → IsInOrder Ascending xs → IsInOrder Des
 turned_order [] h = tt
 turned_order (x ∷ xs) h = subst (IsInOrder Descending) (sym (reverse-append (x ∷ []) xs)) (order_last (reverse xs) x (turned_order xs h.1) (none_turned Ascending x.key xs h.0))
 
-either_order : (order : IterationOrder) (rows : List RowEntry) → IsInOrder Ascending rows → IsInOrder order (in_order order rows)
+pub either_order : (order : IterationOrder) (rows : List RowEntry) → IsInOrder Ascending rows → IsInOrder order (in_order order rows)
 either_order Ascending rows h = h
 either_order Descending rows h = turned_order rows h
 

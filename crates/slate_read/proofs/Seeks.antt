@@ -31,14 +31,14 @@ both : (b : Bool) → (b ≡ true) ⊎ (b ≡ false)
 both true = inl refl
 both false = inr refl
 
-drop_twice : (o : IterationOrder) (k : List ℕ) (xs ys : List RowEntry) → drop_before o k (drop_before o k xs ++ ys) ≡ drop_before o k (xs ++ ys)
+pub drop_twice : (o : IterationOrder) (k : List ℕ) (xs ys : List RowEntry) → drop_before o k (drop_before o k xs ++ ys) ≡ drop_before o k (xs ++ ys)
 drop_twice o k [] ys = refl
 drop_twice o k (x ∷ xs) ys = elim (both (comes_before o x.key k)) as (λ _. drop_before o k (drop_before o k (x ∷ xs) ++ ys) ≡ drop_before o k ((x ∷ xs) ++ ys)) [
   | inl e ↦ rw e (drop_twice o k xs ys)
   | inr e ↦ rw e (rw e refl)
 ]
 
-drop_done : (o : IterationOrder) (k : List ℕ) (xs ys : List RowEntry) → 0 < length (drop_before o k xs) → drop_before o k (drop_before o k xs ++ ys) ≡ drop_before o k xs ++ ys
+pub drop_done : (o : IterationOrder) (k : List ℕ) (xs ys : List RowEntry) → 0 < length (drop_before o k xs) → drop_before o k (drop_before o k xs ++ ys) ≡ drop_before o k xs ++ ys
 drop_done o k [] ys h = absurd (omega (arith, h))
 drop_done o k (x ∷ xs) ys h = by (comes_before o x.key k) refl (drop_done o k xs ys) h
   where

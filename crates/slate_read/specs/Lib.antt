@@ -26,3 +26,7 @@ pub mod MergeStateLaws
 pub mod MergedLaws
 pub mod Required
 pub mod Peeking
+pub mod RunWalk
+pub mod RunIterators
+pub mod Showing
+pub mod RunLaws

@@ -66,7 +66,7 @@ some_more p h entries order done reads e r = record {
   why = r.why;
 }
 
-unread_more : (p : Meaning) (h : SsTableHandle) (order : IterationOrder) (done reads : List Act) (e : SlateDBError) → RefusesUnread p h order reads e → RefusesUnread p h order (done ++ reads) e
+pub unread_more : (p : Meaning) (h : SsTableHandle) (order : IterationOrder) (done reads : List Act) (e : SlateDBError) → RefusesUnread p h order reads e → RefusesUnread p h order (done ++ reads) e
 unread_more p h order done reads e (given, among, inl k) = (given, Contains-append_right done reads _ among, inl k)
 unread_more p h order done reads e (given, among, inr k) = (given, Contains-append_right done reads _ among, inr (k.0, k.1, some_more p h k.0 order done reads e k.2))
 
@@ -104,7 +104,7 @@ ok_some : (r : Result (List RowEntry) SlateDBError) → IsOk r → (rows : List 
 ok_some (Ok rows) h = (rows, refl)
 ok_some (Err e) h = cc
 
-left_whole : (order : IterationOrder) (o : Option (DataBlockIterator Block)) (e : SlateDBError) → IsWhole order o → RefusesLeft o e → ⊥
+pub left_whole : (order : IterationOrder) (o : Option (DataBlockIterator Block)) (e : SlateDBError) → IsWhole order o → RefusesLeft o e → ⊥
 left_whole order None e w r = r
 left_whole order (Some it) e w r = let k = ok_some (left (left_of it)) w.0 in none_refused (left_of it).reads k.0 r.1.0 e k.1 r.1.1
 
@@ -151,7 +151,7 @@ ready_whole w h order cursor e s (n, block, at, bytes, rows) =
         let f = s.table.count in
         omega (arith, a, b, c, d, f)
 
-some_whole : (w : World) (h : SsTableHandle) (kept : Kept) (table : IsReadable w h kept) (order : IterationOrder) (reads : List Act) (e : SlateDBError) → AllByRecursion (AnswersWorld w) reads → RefusesSome w.meaning h table.entries order reads e → ⊥
+pub some_whole : (w : World) (h : SsTableHandle) (kept : Kept) (table : IsReadable w h kept) (order : IterationOrder) (reads : List Act) (e : SlateDBError) → AllByRecursion (AnswersWorld w) reads → RefusesSome w.meaning h table.entries order reads e → ⊥
 unfolding RefusesWalk
 some_whole w h kept table order reads e answered r = by (subst (λ (a : Option (List ℕ)). RefusesWalk w.meaning.decode h.format_version order a e) answer r.why)
   where
@@ -167,7 +167,7 @@ some_whole w h kept table order reads e answered r = by (subst (λ (a : Option (
         let there = get_some kept.blocks r.at (let n = table.count in omega (arith, inside, n)) in
         rows_whole h.format_version order found there.0 e table.known (table.block r.at there.0 found there.1 bytes read) rows
 
-unread_whole : (w : World) (h : SsTableHandle) (kept : Kept) (table : IsReadable w h kept) (order : IterationOrder) (reads : List Act) (e : SlateDBError) → AllByRecursion (AnswersWorld w) reads → RefusesUnread w.meaning h order reads e → ⊥
+pub unread_whole : (w : World) (h : SsTableHandle) (kept : Kept) (table : IsReadable w h kept) (order : IterationOrder) (reads : List Act) (e : SlateDBError) → AllByRecursion (AnswersWorld w) reads → RefusesUnread w.meaning h order reads e → ⊥
 unread_whole w h kept table order reads e answered (given, among, why) = by why
   where
     is : given ≡ index_part h kept

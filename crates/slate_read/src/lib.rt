@@ -18,6 +18,8 @@ pub mod progress;
 pub mod range_rows;
 pub mod readable_laws;
 pub mod required_iterator;
+pub mod run_state;
+pub mod run_walk;
 pub mod sorted_run;
 pub mod sst_iterator;
 pub mod sst_iterator_options;
