@@ -1,7 +1,5 @@
 -- What reads show of tables that weren't opened.
-use Rattle.std.proofs.Common.{◌≡◌, ◌⊎◌, inl, inr, ◌<◌, ◌≤◌, ◌+◌, ◌-◌, ℕ, Bool, true, false, cond, List, [], ◌∷◌, take, drop, length, filter, Option, Some, None, refl, sym, ap, subst, ◌∙◌, arith, eqb, leb}
-use Rattle.std.proofs.lemmas.Bool.{eqb-true, le-leb}
-use Rattle.std.proofs.lemmas.List.{take_all}
+use Rattle.std.proofs.Common.{◌≡◌, ◌⊎◌, inl, inr, ℕ, Bool, true, false, List, [], ◌∷◌, filter, Option, Some, None, refl, sym, subst}
 use Rattle.std.specs.Prelude.{Contains, reverse}
 use Rattle.std.specs.List.{AllByRecursion}
 use Rattle.std.proofs.lemmas.List.Elements.{All-contains, All-contains_itself, All-filter, All-from_recursion, recursion_from_All}
@@ -10,13 +8,12 @@ use Rattle.slate_types.specs.declared.error.SlateDBError.{SlateDBError}
 use Rattle.slate_types.specs.declared.error.SlateDBError.TheVariants.{IteratorNotInitialized}
 use Rattle.slate_types.specs.declared.iter.IterationOrder.{IterationOrder}
 use Rattle.slate_types.specs.declared.iter.IterationOrder.TheVariants.{Ascending, Descending}
-use Rattle.slate_types.specs.Outside.{Act, Meaning, part_of}
+use Rattle.slate_types.specs.Outside.{Act, Meaning}
 use Rattle.slate_types.specs.Iteration.{in_order}
 use Rattle.slate_types.specs.Refusing.{IsDamage}
 use Rattle.slate_types.proofs.Lists.{AllByRecursion-reverse}
 use Rattle.slate_block.specs.declared.block.Block.{Block}
 use Rattle.slate_table.specs.declared.info.SsTableHandle.{SsTableHandle}
-use Rattle.slate_table.specs.Reading.{whole_answer, block_answer, block_start, blocks_size}
 use Rattle.slate_read.specs.Showing.{RefusesBlockOf, ShowsBlock, ShowsByReads, SomeShows, UnopenedRunsShow, UnopenedWalksShow}
 use Rattle.slate_read.specs.declared.progress.Progress.{Progress}
 use Rattle.slate_read.specs.declared.progress.Progress.TheVariants.{New as ProgressNew}
@@ -30,25 +27,7 @@ use Rattle.slate_read.specs.NewestFirst.{RefusesSeek, refuses_newest}
 use Rattle.slate_read.specs.RunIterators.{reached, run_source_refuses}
 use Rattle.slate_read.specs.RunWalk.{RefusesOpen, can_reach, refuses_run_in, waiting}
 use Rattle.slate_read.specs.SstIterators.{source_refuses}
-use Rattle.slate_read.specs.TableWalk.{RefusesSome, RefusesUnread, RefusesWalk, refuses_in, size_of}
-
--- the only block of a read is the whole answer
-alone : (size : ℕ) (given : Option (List ℕ)) → part_of (whole_answer size given) 0 size ≡ whole_answer size given
-alone size None = refl
-alone size (Some bytes) = by (eqb (length bytes) size) refl
-  where
-    by : (t : Bool) → eqb (length bytes) size ≡ t → part_of (cond t (Some bytes) None) 0 size ≡ cond t (Some bytes) None
-    by true is =
-        let same = eqb-true (length bytes) size is in
-        ap (λ (t : Bool). cond t (Some (take size (drop 0 bytes))) None) (le-leb (0 + size) (length bytes) (omega (arith, same)))
-        ∙ ap (λ (l : List ℕ). Some l) (take_all size bytes (omega (arith, same)))
-    by false is = refl
-
-only_block : (h : SsTableHandle) (entries : List (ℕ × List ℕ)) (block : ℕ) (given : Option (List ℕ)) →
-    block_answer h.info.filter_offset entries block (whole_answer (blocks_size h.info.filter_offset entries block (block + 1)) given) block ≡ whole_answer (size_of h entries block) given
-only_block h entries block given =
-    let none : blocks_size h.info.filter_offset entries block block ≡ 0 = omega arith in
-    ap (λ (n : ℕ). part_of (whole_answer (size_of h entries block) given) n (size_of h entries block)) none ∙ alone (size_of h entries block) given
+use Rattle.slate_read.specs.TableWalk.{RefusesSome, RefusesUnread, RefusesWalk, answer_at, refuses_in}
 
 walk_shows : (m : Meaning) (version : ℕ) (order : IterationOrder) (answer : Option (List ℕ)) (e : SlateDBError) → RefusesWalk m.decode version order answer e → RefusesBlockOf m.decode version answer e
 unfolding RefusesWalk
@@ -56,16 +35,16 @@ walk_shows m version order answer e (inl h) = inl h
 walk_shows m version order answer e (inr (block, bytes, read, rows)) = inr (block, read, (order, rows))
 
 some_shows : (m : Meaning) (h : SsTableHandle) (entries : List (ℕ × List ℕ)) (order : IterationOrder) (reads : List Act) (e : SlateDBError) → RefusesSome m h entries order reads e → ShowsBlock m.decode h entries reads e
-some_shows m h entries order reads e (block, given, within, among, why) = record {
-  first = block;
-  stop = block + 1;
-  at = block;
-  from = omega arith;
-  upto = omega arith;
-  within = omega (arith, within);
-  given = given;
-  among = among;
-  refuses = subst (λ (a : Option (List ℕ)). RefusesBlockOf m.decode h.format_version a e) (sym (only_block h entries block given)) (walk_shows m h.format_version order (whole_answer (size_of h entries block) given) e why);
+some_shows m h entries order reads e r = record {
+  first = r.first;
+  stop = r.stop;
+  at = r.at;
+  from = r.from;
+  upto = r.below;
+  within = r.within;
+  given = r.given;
+  among = r.among;
+  refuses = walk_shows m h.format_version order (answer_at h entries r.first r.stop r.given r.at) e r.why;
 }
 
 pub unread_shows : (m : Meaning) (h : SsTableHandle) (order : IterationOrder) (reads : List Act) (e : SlateDBError) → RefusesUnread m h order reads e → ShowsByReads m.decode h reads e

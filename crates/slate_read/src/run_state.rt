@@ -2,6 +2,7 @@
 ghost use Rattle.std.specs.Prelude.{◌≡◌, false};
 ghost use Rattle.slate_types.specs.Keys.{is_refused};
 
+use crate::fetch_limits::FetchLimits;
 use crate::table_state::Cursor;
 use slate_table::SsTableHandle;
 use slate_types::{BytesRange, IterationOrder, RowEntry, SlateDBError};
@@ -14,6 +15,8 @@ pub struct OpenTable {
     pub table: SsTableHandle,
     /// Where the walk over it stands.
     pub cursor: Cursor,
+    /// How many of its blocks are read ahead.
+    pub limits: FetchLimits,
 }
 
 /// Where a walk over a run stands: in a table that is open, before those that aren't yet.
@@ -25,6 +28,8 @@ pub struct RunCursor {
     pub current: Option<OpenTable>,
     /// What is kept of the tables that weren't opened, the next one first.
     pub tables: VecDeque<SsTableHandle>,
+    /// How many blocks of a table are read ahead.
+    pub limits: FetchLimits,
 }
 
 /// A walk that wasn't begun, one that goes on, and one that was refused.

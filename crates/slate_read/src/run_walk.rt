@@ -10,6 +10,7 @@ ghost use Rattle.slate_table.specs.IndexValue.{entries_of};
 ghost use Rattle.slate_read.specs.TableWalk.{BeginsAt, IsSoundCursor, IsSoundRising, RefusesIndexed, Sought, bound_behind, max_blocks, max_reads, no_words, refuses_behind, rest_after};
 ghost use Rattle.slate_read.specs.RunWalk.{FindsRow, IsSoundOpen, IsOpenRising, IsSoundRun, IsTableOpened, KeepsRun, OpensNext, PassesOver, bound_open, bound_run, can_reach, end_key, is_next_passed, is_passed, reaches_end, reaches_start, refuses_open, refuses_run, rest_open, rest_run};
 
+use crate::fetch_limits::FetchLimits;
 use crate::kept::copy_of;
 use crate::newest_first::is_below;
 use crate::peeking_iterator::is_ahead_kept;
@@ -24,6 +25,7 @@ use slate_types::{
     RowEntry, SlateDBError, partitions_covering_range,
 };
 use std::alloc::Global;
+use std::collections::VecDeque;
 use std::mem;
 use std::ops::Bound;
 
@@ -74,7 +76,7 @@ fn is_passed(order: IterationOrder, key: &[u8], info: &SsTableInfo) -> bool
 }
 
 /// Before the blocks of a table that can hold keys of the range.
-fn cursor_over(range: &BytesRange, index: SstIndex) -> Cursor
+fn cursor_over(alloc: Global, range: &BytesRange, index: SstIndex) -> Cursor
     requires { is_refused range.now.start range.now.end ≡ false }
     ensures { BeginsAt range.now (entries_of index) result }
 {
@@ -83,6 +85,7 @@ fn cursor_over(range: &BytesRange, index: SstIndex) -> Cursor
         index,
         first: covered.start,
         stop: covered.end,
+        ready: VecDeque::new(alloc),
         rows: None,
     }
 }
@@ -93,6 +96,7 @@ fn open_table<S: Store, M: MergeOperator, T: BlockTransformer>(
     env: &mut Env<'_, S, M, T>,
     table: SsTableHandle,
     range: &BytesRange,
+    limits: FetchLimits,
 ) -> Result<OpenTable, SlateDBError>
     requires { is_refused range.now.start range.now.end ≡ false }
     ensures opened { let reach = ⟦<EnvOf<S, M, T> as Outside>⟧.reach in IfOk result (λ found. Made (reach env.old) (reach env.new) (λ reads. IsTableOpened range.now (reach env.old).meaning table reads found)) }
@@ -102,8 +106,12 @@ fn open_table<S: Store, M: MergeOperator, T: BlockTransformer>(
 {
     match open_index(alloc, env, &table) {
         Ok(index) => {
-            let cursor = cursor_over(range, index);
-            Ok(OpenTable { table, cursor })
+            let cursor = cursor_over(alloc, range, index);
+            Ok(OpenTable {
+                table,
+                cursor,
+                limits,
+            })
         }
         Err(error) => {
             drop(table);
@@ -127,7 +135,7 @@ impl OpenTable {
         ensures no_larger { OnOk result (bound_behind self.new.cursor ≤ bound_behind self.old.cursor) }
         ensures reads { let reach = ⟦<EnvOf<S, M, T> as Outside>⟧.reach in OnlyReads (reach env.old) (reach env.new) }
     {
-        self.cursor.advance(alloc, env, &self.table, order)
+        self.cursor.advance(alloc, env, &self.table, order, self.limits)
     }
 
     /// Takes off the rows that the order puts before a key.
@@ -144,7 +152,8 @@ impl OpenTable {
         ensures no_larger { OnOk result (bound_behind self.new.cursor ≤ bound_behind self.old.cursor) }
         ensures reads { let reach = ⟦<EnvOf<S, M, T> as Outside>⟧.reach in OnlyReads (reach env.old) (reach env.new) }
     {
-        self.cursor.seek(alloc, env, &self.table, order, key)
+        self.cursor
+            .seek(alloc, env, &self.table, order, self.limits, key)
     }
 }
 
@@ -233,7 +242,7 @@ impl RunCursor {
         let Some(table) = self.tables.pop_front() else {
             return Ok(false);
         };
-        match open_table(alloc, env, table, range) {
+        match open_table(alloc, env, table, range, self.limits) {
             Ok(opened) => {
                 drop(mem::replace(&mut self.current, Some(opened)));
                 Ok(true)
