@@ -1,10 +1,8 @@
 -- What opening a block, and taking a row of it, do to the rest of a table.
-use Rattle.std.proofs.Common.{◌≡◌, ◌≢◌, ◌⊎◌, inl, inr, ◌<◌, ◌≤◌, ◌+◌, ◌-◌, ℕ, suc, zero, Bool, true, false, cond, leb, eqb, List, [], ◌∷◌, ◌++◌, take, drop, length, flat_map, Option, Some, None, refl, sym, ap, subst, ◌∙◌, arith, append_assoc, append-nil}
-use Rattle.std.specs.Prelude.{Contains, IfSome, IsOk, Result, Ok, Err, bytes_eq, reverse, slice_get, slice_range}
+use Rattle.std.proofs.Common.{◌≡◌, ◌⊎◌, inl, inr, ◌<◌, ◌≤◌, ◌+◌, ◌-◌, ℕ, suc, zero, Bool, true, false, cond, leb, eqb, List, [], ◌∷◌, ◌++◌, take, drop, length, flat_map, Option, Some, None, refl, sym, ap, subst, ◌∙◌, arith, append_assoc, append-nil}
+use Rattle.std.specs.Prelude.{Contains, IfSome, IsOk, Result, Ok, Err, bytes_eq, reverse, slice_get}
 use Rattle.std.specs.List.{AllByRecursion}
-use Rattle.std.proofs.lemmas.Bool.{le-leb, leb-true, eq-eqb, eqb-true}
-use Rattle.std.proofs.lemmas.List.{length-append, length-drop, length-take-le}
-use Rattle.std.proofs.lemmas.List.Elements.{Contains-append_left, Contains-append_right}
+use Rattle.std.proofs.lemmas.Bool.{le-leb, eqb-true}
 use Rattle.std.proofs.lemmas.Option.{same_Some}
 use Rattle.std.proofs.lemmas.Slice.Eq.{bytes_eq-Decides}
 use Rattle.std.proofs.Math.Nat.{sub_self}
@@ -15,12 +13,12 @@ use Rattle.slate_types.specs.declared.error.SlateDBError.TheVariants.{OutOfMemor
 use Rattle.slate_types.specs.declared.types.RowEntry.{RowEntry}
 use Rattle.slate_types.specs.declared.iter.IterationOrder.{IterationOrder}
 use Rattle.slate_types.specs.declared.iter.IterationOrder.TheVariants.{Ascending, Descending}
-use Rattle.slate_types.specs.Iteration.{TakesRow, in_order}
-use Rattle.slate_types.specs.Outside.{Counts, IsLater, IsCounted}
+use Rattle.slate_types.specs.Iteration.{in_order}
+use Rattle.slate_types.specs.Outside.{Counts, IsCounted}
 use Rattle.slate_store.specs.Store.{Act, part, part_of}
 use Rattle.slate_block.specs.declared.block.Block.{Block}
 use Rattle.slate_block.specs.declared.data_block_iterator.DataBlockIterator.{DataBlockIterator}
-use Rattle.slate_block.specs.BlockWalks.{ReadsLeft, left, rows_of, Refuses, TakesRead}
+use Rattle.slate_block.specs.BlockWalks.{left, rows_of, Refuses}
 use Rattle.slate_block.specs.EitherVersion.{left_of}
 use Rattle.slate_block.specs.ReadingLaws.{EachIsAByte}
 use Rattle.slate_block.specs.Walks.{RowRead, all_ok, before, block_rows}
@@ -29,7 +27,7 @@ use Rattle.slate_table.specs.IndexValue.{entries_of}
 use Rattle.slate_table.specs.Parts.{summed}
 use Rattle.slate_table.specs.Reading.{whole_answer}
 use Rattle.slate_read.specs.declared.table_state.Cursor.{Cursor}
-use Rattle.slate_types.specs.World.{Kept, World, Place, AnswersWorld, IsCall, IsSlip, IsSlipOf, Made, Sees, Slips, Checks}
+use Rattle.slate_types.specs.World.{Kept, World, AnswersWorld, IsCall, IsSlip, Made, Checks}
 use Rattle.slate_types.specs.Outside.{Meaning, Reach}
 use Rattle.slate_types.specs.Refusing.{IsDamage, NoMore}
 use Rattle.slate_read.specs.TableWalk.{AreOpened, AreReadAhead, IsSoundCursor, IsWhole, Opens, RefusesLeft, RefusesReady, RefusesRows, RefusesSome, TakesOpen, left_in, max_reads, next_block, next_first, next_stop, no_words, nth_block, reads_in, refuses_behind, rest_after, rest_behind, rows_between}

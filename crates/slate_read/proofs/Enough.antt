@@ -1,5 +1,5 @@
 -- How many blocks one read takes.
-use Rattle.std.proofs.Common.{◌≡◌, ◌<◌, ◌≤◌, ◌+◌, ◌-◌, ℕ, suc, zero, refl, sym, ap, subst, ◌∙◌, arith}
+use Rattle.std.proofs.Common.{◌≡◌, ◌<◌, ◌≤◌, ◌+◌, ◌-◌, ℕ, suc, zero, sym, ap, subst, ◌∙◌, arith}
 use Rattle.slate_read.specs.TableWalk.{IsEnough, size_upto}
 
 grows : (size : ℕ → ℕ) (m n : ℕ) → size_upto size m ≤ size_upto size (m + n)

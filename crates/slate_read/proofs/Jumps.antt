@@ -1,5 +1,5 @@
 -- What passing over blocks leaves of a table.
-use Rattle.std.proofs.Common.{◌≡◌, ◌<◌, ◌≤◌, ◌+◌, ◌-◌, ℕ, suc, zero, Bool, true, false, List, [], ◌∷◌, ◌++◌, take, drop, length, flat_map, Option, Some, refl, sym, ap, subst, ◌∙◌, arith, append_assoc}
+use Rattle.std.proofs.Common.{◌≡◌, ◌<◌, ◌≤◌, ◌+◌, ◌-◌, ℕ, suc, zero, Bool, true, false, List, [], ◌∷◌, ◌++◌, take, drop, flat_map, Option, Some, refl, sym, ap, subst, ◌∙◌, arith, append_assoc}
 use Rattle.std.specs.Prelude.{reverse, slice_get, ◌&&◌}
 use Rattle.std.specs.List.{AllByRecursion}
 use Rattle.std.proofs.lemmas.List.{reverse-append}
@@ -16,7 +16,7 @@ use Rattle.slate_types.proofs.Calls.{call_none, checks_none, sees_first, sees_la
 use Rattle.slate_types.proofs.KeyOrder.{not-le}
 use Rattle.slate_types.proofs.Lists.{AllByRecursion-append}
 use Rattle.slate_types.proofs.Moves.{Moves}
-use Rattle.slate_types.specs.Outside.{Meaning, Act}
+use Rattle.slate_types.specs.Outside.{Meaning}
 use Rattle.slate_types.specs.Refusing.{NoMore}
 use Rattle.slate_block.specs.declared.block.Block.{Block}
 use Rattle.slate_block.specs.declared.data_block_iterator.DataBlockIterator.{DataBlockIterator}
@@ -24,7 +24,7 @@ use Rattle.slate_table.specs.declared.info.SsTableHandle.{SsTableHandle}
 use Rattle.slate_table.specs.IndexReading.{index_keys}
 use Rattle.slate_table.specs.IndexValue.{entries_of}
 use Rattle.slate_read.specs.declared.table_state.Cursor.{Cursor}
-use Rattle.slate_read.specs.TableWalk.{AreReadAhead, IsReadable, IsSoundCursor, IsSoundRising, IsWhole, Jumps, RefusesLeft, RefusesReady, StaysAtEnd, Sought, left_in, nth_block, passed_over, path_in, reads_in, refuses_behind, rest_after, rest_behind, rest_sought, rows_between}
+use Rattle.slate_read.specs.TableWalk.{AreReadAhead, IsSoundCursor, IsSoundRising, IsWhole, Jumps, RefusesLeft, RefusesReady, Sought, left_in, nth_block, passed_over, reads_in, refuses_behind, rest_after, rest_behind, rest_sought, rows_between}
 use Rattle.slate_read.proofs.Cursors.{fewer_after, sound_after, spent_left}
 use Rattle.slate_read.proofs.Grouping.{all_back}
 use Rattle.slate_read.proofs.Ranges.{in_back}

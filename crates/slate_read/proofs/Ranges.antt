@@ -1,6 +1,6 @@
 -- The rows of a range stand in the blocks that can hold its keys.
-use Rattle.std.proofs.Common.{◌≡◌, ◌<◌, ◌≤◌, ◌+◌, ◌-◌, ℕ, suc, zero, Bool, true, false, cond, List, [], ◌∷◌, ◌++◌, take, drop, length, filter, flat_map, Some, refl, sym, ap, subst, ◌∙◌, arith, append-nil, append_assoc}
-use Rattle.std.specs.Prelude.{reverse, slice_get, slice_range, IsSorted}
+use Rattle.std.proofs.Common.{◌≡◌, ◌<◌, ◌≤◌, ◌-◌, ℕ, suc, zero, Bool, true, false, cond, List, [], ◌∷◌, ◌++◌, take, drop, filter, flat_map, Some, refl, sym, ap, subst, ◌∙◌, arith, append-nil, append_assoc}
+use Rattle.std.specs.Prelude.{reverse, slice_get}
 use Rattle.std.specs.List.{AllByRecursion}
 use Rattle.std.proofs.lemmas.List.Elements.{filter-append}
 use Rattle.std.proofs.lemmas.List.{reverse-append}
@@ -9,7 +9,7 @@ use Rattle.slate_types.specs.declared.types.RowEntry.{RowEntry}
 use Rattle.slate_types.specs.declared.iter.IterationOrder.{IterationOrder}
 use Rattle.slate_types.specs.declared.iter.IterationOrder.TheVariants.{Ascending, Descending}
 use Rattle.slate_types.specs.Iteration.{IsInOrder, NoneBefore, comes_before, in_order}
-use Rattle.slate_types.specs.Keys.{in_range, is_refused, key_lt}
+use Rattle.slate_types.specs.Keys.{in_range, is_refused}
 use Rattle.slate_read.specs.RangeRows.{IsRangeOf}
 use Rattle.slate_read.specs.declared.fetch_limits.FetchLimits.{FetchLimits}
 use Rattle.slate_read.specs.declared.filter_iterator.FilterIterator.{FilterIterator}
@@ -17,10 +17,9 @@ use Rattle.slate_read.specs.declared.range_rows.InRange.{InRange}
 use Rattle.slate_read.specs.declared.table_state.TableWalk.{TableWalk}
 use Rattle.slate_types.specs.Partitions.{CanHold, covering_end, covering_start}
 use Rattle.slate_types.proofs.PartitionLaws.{covers}
-use Rattle.slate_types.proofs.IterationLaws.{in_order_filtered}
 use Rattle.slate_table.specs.declared.info.SsTableHandle.{SsTableHandle}
 use Rattle.slate_types.specs.World.{Kept, World}
-use Rattle.slate_read.specs.TableWalk.{IsReadable, IsSoundAt, IsSoundWalk, rest_of, is_in, path_in, rest_at, rest_covered, rest_in, rows_between, rows_in}
+use Rattle.slate_read.specs.TableWalk.{IsReadable, IsSoundAt, IsSoundWalk, rest_of, is_in, rest_at, rest_covered, rows_between, rows_in}
 use Rattle.slate_read.specs.declared.table_state.TableState.TheVariants.{New}
 
 front_holds : (p : RowEntry → Bool) (blocks : List (List RowEntry)) (stop : ℕ) → ((i : ℕ) (b : List RowEntry) → slice_get blocks i ≡ Some b → stop ≤ i → filter p b ≡ []) →

@@ -1,5 +1,5 @@
 -- What reading blocks ahead does to the rest of a table: nothing.
-use Rattle.std.proofs.Common.{◌≡◌, ◌≢◌, ◌⊎◌, inl, inr, ◌<◌, ◌≤◌, ◌+◌, ◌-◌, ℕ, suc, zero, Bool, true, false, cond, leb, List, [], ◌∷◌, ◌++◌, take, drop, length, Option, Some, None, refl, sym, ap, subst, ◌∙◌, arith}
+use Rattle.std.proofs.Common.{◌≡◌, ◌⊎◌, inl, inr, ◌<◌, ◌≤◌, ◌+◌, ◌-◌, ℕ, suc, zero, Bool, true, false, cond, leb, List, [], ◌∷◌, ◌++◌, take, drop, length, Option, Some, None, refl, sym, ap, subst, ◌∙◌, arith}
 use Rattle.std.specs.Prelude.{Contains, IfSome, Ok, bytes_eq, reverse, slice_get}
 use Rattle.std.specs.List.{AllByRecursion}
 use Rattle.std.proofs.lemmas.Bool.{le-leb}
@@ -9,13 +9,12 @@ use Rattle.std.proofs.lemmas.Option.{same_Some, slice_get_within}
 use Rattle.std.proofs.lemmas.Slice.Eq.{bytes_eq-Decides}
 use Rattle.std.proofs.Math.Seq.{take-length, take-add}
 use Rattle.slate_types.specs.declared.error.SlateDBError.{SlateDBError}
-use Rattle.slate_types.specs.declared.types.RowEntry.{RowEntry}
 use Rattle.slate_types.specs.declared.iter.IterationOrder.{IterationOrder}
 use Rattle.slate_types.specs.declared.iter.IterationOrder.TheVariants.{Ascending, Descending}
 use Rattle.slate_types.specs.Iteration.{in_order}
 use Rattle.slate_types.specs.Outside.{Meaning, Reach}
-use Rattle.slate_types.specs.Refusing.{IsDamage, NoMore}
-use Rattle.slate_types.specs.World.{Kept, World, Place, AnswersWorld, IsCall, IsSlip, Made, Sees}
+use Rattle.slate_types.specs.Refusing.{NoMore}
+use Rattle.slate_types.specs.World.{Kept, World, AnswersWorld, IsCall, IsSlip, Sees}
 use Rattle.slate_types.proofs.Calls.{seen}
 use Rattle.slate_types.proofs.Moves.{Moves}
 use Rattle.slate_store.specs.Store.{Act, part, part_of}
@@ -28,7 +27,7 @@ use Rattle.slate_table.specs.IndexValue.{entries_of}
 use Rattle.slate_table.specs.Parts.{summed}
 use Rattle.slate_table.specs.Reading.{IsBlockRead, block_answer, whole_answer}
 use Rattle.slate_read.specs.declared.table_state.Cursor.{Cursor}
-use Rattle.slate_read.specs.TableWalk.{AreReadAhead, Fetches, IsFetched, IsReadable, IsSoundCursor, IsWhole, RefusesLeft, RefusesReady, RefusesRows, RefusesSome, RefusesWalk, StandsNext, answer_at, block_part, left_in, nth_block, path_in, read_of, refuses_behind, rest_after, rest_behind, rows_between, size_between, size_of, start_of, unread_first, unread_stop}
+use Rattle.slate_read.specs.TableWalk.{AreReadAhead, Fetches, IsFetched, IsReadable, IsSoundCursor, IsWhole, RefusesLeft, RefusesReady, RefusesRows, RefusesSome, RefusesWalk, StandsNext, answer_at, left_in, nth_block, read_of, refuses_behind, rest_after, rest_behind, rows_between, size_between, size_of, start_of, unread_first, unread_stop}
 use Rattle.slate_read.specs.Sections.{starts_apart, starts_upto, starts_within}
 use Rattle.slate_read.specs.WalkLaws.{known_section, some_more}
 use Rattle.slate_read.proofs.Cursors.{AllOrSlip, call_checked, whole_bytes}

@@ -1,25 +1,21 @@
 -- What a seek leaves of a table.
-use Rattle.std.proofs.Common.{◌≡◌, ◌⊎◌, inl, inr, ◌<◌, ◌≤◌, ◌+◌, ◌-◌, ℕ, suc, zero, Bool, true, false, cond, List, [], ◌∷◌, ◌++◌, take, drop, length, flat_map, Option, Some, None, refl, sym, ap, subst, ◌∙◌, arith}
+use Rattle.std.proofs.Common.{◌≡◌, ◌⊎◌, inl, inr, ◌<◌, ◌≤◌, ℕ, suc, Bool, true, false, cond, List, [], ◌∷◌, ◌++◌, length, Option, Some, None, refl, sym, ap, subst, ◌∙◌, arith}
 use Rattle.std.specs.Prelude.{IsOk, Result, Ok, Err, slice_get}
 use Rattle.std.proofs.lemmas.List.{length-append}
 use Rattle.slate_types.specs.declared.error.SlateDBError.{SlateDBError}
-use Rattle.slate_types.specs.declared.error.SlateDBError.TheVariants.{OutOfMemory}
 use Rattle.slate_types.specs.declared.types.RowEntry.{RowEntry}
 use Rattle.slate_types.specs.declared.iter.IterationOrder.{IterationOrder}
 use Rattle.slate_types.specs.Iteration.{IsInOrder, NoneBefore, comes_before, drop_before, in_order}
-use Rattle.slate_types.specs.Outside.{Counts, IsCounted}
-use Rattle.slate_store.specs.Store.{Act}
 use Rattle.slate_block.specs.declared.block.Block.{Block}
 use Rattle.slate_block.specs.declared.data_block_iterator.DataBlockIterator.{DataBlockIterator}
-use Rattle.slate_block.specs.BlockWalks.{IsRising, left, rows_of, Refuses}
+use Rattle.slate_block.specs.BlockWalks.{IsRising, left, rows_of}
 use Rattle.slate_block.specs.EitherVersion.{left_of}
-use Rattle.slate_block.specs.Walks.{RowRead, all_ok}
+use Rattle.slate_block.specs.Walks.{RowRead}
 use Rattle.slate_table.specs.declared.info.SsTableHandle.{SsTableHandle}
 use Rattle.slate_read.specs.declared.table_state.Cursor.{Cursor}
-use Rattle.slate_types.specs.World.{Kept, World, Made, Sees}
-use Rattle.slate_types.specs.Outside.{Meaning, Reach}
-use Rattle.slate_types.specs.Refusing.{IsDamage, NoMore}
-use Rattle.slate_read.specs.TableWalk.{IsSoundCursor, IsSoundRising, IsWhole, RefusesLeft, SkipsOpen, Sought, left_in, path_in, reads_in, refuses_behind, rest_after, rest_behind, rest_sought, rows_between}
+use Rattle.slate_types.specs.World.{World, Sees}
+use Rattle.slate_types.specs.Outside.{Reach}
+use Rattle.slate_read.specs.TableWalk.{IsSoundCursor, IsSoundRising, IsWhole, RefusesLeft, SkipsOpen, Sought, left_in, reads_in, refuses_behind, rest_after, rest_behind, rest_sought, rows_between}
 use Rattle.slate_types.proofs.Calls.{call_none, checks_none}
 use Rattle.slate_read.proofs.Cursors.{fewer_after, nothing_left, same_ready, same_refused, sound_after}
 use Rattle.slate_read.proofs.Few.{ok_count}

@@ -1,5 +1,5 @@
 -- The laws of a walk over a table.
-use Rattle.std.proofs.Common.{◌≡◌, ◌≢◌, ◌⊎◌, inl, inr, ◌<◌, ◌≤◌, ◌+◌, ◌-◌, ◌*◌, ℕ, suc, zero, List, [], ◌∷◌, ◌++◌, length, Option, Some, None, refl, sym, ap, subst, ◌∙◌, arith, take, drop, leb, eqb, cond, Bool, true, false}
+use Rattle.std.proofs.Common.{◌≡◌, ◌⊎◌, inl, inr, ◌<◌, ◌≤◌, ◌+◌, ℕ, suc, zero, List, [], ◌∷◌, ◌++◌, length, Option, Some, None, refl, sym, ap, subst, ◌∙◌, arith, take, drop, leb, cond, Bool, true, false}
 use Rattle.std.proofs.lemmas.Bool.{eq-eqb, leb-true}
 use Rattle.std.proofs.lemmas.Option.{slice_get_within}
 use Rattle.std.proofs.lemmas.List.{length-drop, length-take-le}
@@ -8,30 +8,28 @@ use Rattle.std.specs.List.{AllByRecursion}
 use Rattle.std.proofs.lemmas.List.Elements.{All-contains, All-from_recursion, Contains-append_right}
 use Rattle.slate_types.specs.declared.bytes_range.BytesRange.{BytesRange}
 use Rattle.slate_types.specs.declared.error.SlateDBError.{SlateDBError}
-use Rattle.slate_types.specs.declared.error.SlateDBError.TheVariants.{IteratorNotInitialized, OutOfMemory, StoreFault, Callback, BlockTransformError, CorruptTable, ChecksumMismatch, InvalidRowFlags, InvalidVersion, InvalidFilterBlock, InvalidSequenceOrder}
 use Rattle.slate_types.specs.declared.types.RowEntry.{RowEntry}
 use Rattle.slate_types.specs.declared.iter.IterationOrder.{IterationOrder}
 use Rattle.slate_types.specs.declared.iter.IterationOrder.TheVariants.{Ascending, Descending}
-use Rattle.slate_types.specs.Iteration.{IsInOrder, in_order}
-use Rattle.slate_types.specs.Outside.{Counts, IsCounted}
+use Rattle.slate_types.specs.Iteration.{in_order}
 use Rattle.slate_store.specs.Store.{Act, part_of}
 use Rattle.slate_block.specs.declared.block.Block.{Block}
 use Rattle.slate_block.specs.declared.data_block_iterator.DataBlockIterator.{DataBlockIterator}
-use Rattle.slate_block.specs.BlockWalks.{ReadsLeft, left, Refuses}
+use Rattle.slate_block.specs.BlockWalks.{left}
 use Rattle.slate_block.specs.Damage.{◌>>=◌}
 use Rattle.slate_block.specs.EitherVersion.{left_of}
 use Rattle.slate_block.specs.Walks.{RowRead, all_ok, before, block_reads, block_rows}
 use Rattle.slate_block.proofs.FieldLaws.{bind_ok}
 use Rattle.slate_table.specs.declared.info.SsTableHandle.{SsTableHandle}
 use Rattle.slate_table.specs.IndexValue.{entries_of}
-use Rattle.slate_table.specs.Reading.{whole_answer, block_answer, IsBlockRead, IsIndexRead, RefusesBlock, RefusesIndex}
+use Rattle.slate_table.specs.Reading.{whole_answer, block_answer, IsIndexRead, RefusesIndex}
 use Rattle.slate_read.specs.declared.table_state.Cursor.{Cursor}
 use Rattle.slate_read.specs.declared.table_state.TableState.{TableState}
 use Rattle.slate_read.specs.declared.table_state.TableState.TheVariants.{New, Walking, Refused}
-use Rattle.slate_types.specs.World.{Kept, World, AnswersWorld, IsCall, Made, Sees, Checks}
-use Rattle.slate_types.specs.Outside.{Meaning, Reach}
-use Rattle.slate_types.specs.Refusing.{IsDamage, NoMore, NoMoreBut}
-use Rattle.slate_read.specs.TableWalk.{IsReadable, IsSoundAt, IsSoundCursor, IsWhole, Keeps, RefusesLeft, RefusesReady, RefusesRows, RefusesSome, RefusesUnread, RefusesWalk, Walks, answer_at, block_part, index_part, no_words, nth_block, path_in, read_of, refuses_at, refuses_behind, refuses_in, rest_after, rest_at, size_between, start_of}
+use Rattle.slate_types.specs.World.{Kept, World, AnswersWorld}
+use Rattle.slate_types.specs.Outside.{Meaning}
+use Rattle.slate_types.specs.Refusing.{IsDamage}
+use Rattle.slate_read.specs.TableWalk.{IsReadable, IsSoundAt, IsSoundCursor, IsWhole, RefusesLeft, RefusesReady, RefusesRows, RefusesSome, RefusesUnread, RefusesWalk, answer_at, block_part, index_part, nth_block, path_in, read_of, refuses_in, size_between, start_of}
 use Rattle.slate_read.specs.Sections.{section_there}
 
 pub whole_part : (bytes : List ℕ) (start len : ℕ) → whole_answer len (part_of (Some bytes) start len) ≡ part_of (Some bytes) start len

@@ -101,7 +101,11 @@ impl Cursor {
     }
 
     /// Puts blocks that were read behind those that are ready.
-    fn put_ready(&mut self, blocks: Vec<Block>, order: IterationOrder) -> Result<(), SlateDBError>
+    fn put_ready(
+        &mut self,
+        mut blocks: Vec<Block>,
+        order: IterationOrder,
+    ) -> Result<(), SlateDBError>
         requires { length self.old.ready.items + length blocks.items ≤ self.old.stop - self.old.first }
         ensures ready { OnOk result (self.new.ready.items ≡ self.old.ready.items ++ in_order order blocks.items) }
         ensures index { self.new.index ≡ self.old.index }
@@ -110,7 +114,6 @@ impl Cursor {
         ensures rows { self.new.rows ≡ self.old.rows }
         ensures cause { IfErr result (λ e. e ≡ SlateDBError.OutOfMemory) }
     {
-        let mut blocks = blocks;
         match order {
             IterationOrder::Ascending => {}
             IterationOrder::Descending => blocks.reverse(),

@@ -1,7 +1,6 @@
 //! The rows of a stored table, block by block.
 ghost use Rattle.std.specs.Prelude.{◌≡◌, ◌⊎◌, ◌<◌, ◌≤◌, ◌+◌, ◌-◌, ◌*◌, ◌++◌, ℕ, List, Option, option_to_list, drop, Some, None, Ok, Err, length, IfOk, IfErr, IsSome, OnOk, OnErr, true, false};
 ghost use Rattle.slate_types.specs.declared.error.SlateDBError.{SlateDBError};
-ghost use Rattle.slate_types.specs.Iteration.{in_order};
 ghost use Rattle.slate_types.specs.Keys.{is_refused, key_lt};
 ghost use Rattle.slate_types.specs.Partitions.{CanHold, covering_end, covering_start};
 ghost use Rattle.slate_block.specs.BlockWalks.{TakesRead, Refuses};

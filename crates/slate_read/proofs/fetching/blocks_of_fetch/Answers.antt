@@ -1,4 +1,4 @@
-use Rattle.std.proofs.Common.{ℕ, ◌≡◌, ◌<◌, ◌≤◌, ◌+◌, ◌-◌, ◌∙◌, ap, sym, subst, arith}
+use Rattle.std.proofs.Common.{ℕ, ◌≡◌, ◌+◌, ◌-◌, ◌∙◌, ap, arith}
 use Rattle.slate_table.specs.IndexValue.{entries_of}
 use Rattle.slate_read.specs.TableWalk.{size_of, size_upto, unread_size}
 use Rattle.slate_read.proofs.Enough.{goes_on, stops, takes_all}

@@ -1,7 +1,6 @@
 use Rattle.std.proofs.Common.{◌≡◌, rules}
 use Rattle.slate_types.proofs.Exits.{if_ok_both}
 use Rattle.slate_read.proofs.Ranges.{is_range}
-use Rattle.slate_read.proofs.Readable.{readable}
 use Rattle.slate_read.proofs.range_rows.range_rows.Goals as goal
 
 pub returns-clause-rows : goal.returns-clause-rows

@@ -1,7 +1,6 @@
-use Rattle.std.proofs.Common.{◌≡◌, ◌-◌, ◌∙◌, ◌⊎◌, inl, inr, Some, None, [], refl, sym, ap, subst, arith}
+use Rattle.std.proofs.Common.{◌≡◌, ◌-◌, None, arith}
 use Rattle.std.proofs.lemmas.Result.{err_from_is_err_and, IfOk-from_err}
 use Rattle.slate_types.proofs.Reaching.{reads_none, reads_then}
-use Rattle.slate_types.proofs.Calls.{call_none}
 use Rattle.slate_read.proofs.Cursors.{end_step, row_fails, row_moves, row_step, took_fewer, took_none}
 use Rattle.slate_types.proofs.Moves.{moves_both, moves_fails, moves_none, moves_step}
 use Rattle.slate_read.proofs.table_state.Cursor.advance.Goals as goal

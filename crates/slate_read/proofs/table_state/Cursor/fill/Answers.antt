@@ -1,7 +1,7 @@
-use Rattle.std.proofs.Common.{◌∙◌, ◌<◌, None, length, arith, refl}
+use Rattle.std.proofs.Common.{◌∙◌, None}
 use Rattle.std.proofs.lemmas.Result.{err_from_is_err_and}
-use Rattle.slate_types.proofs.Moves.{moves_both, moves_fails, moves_none}
-use Rattle.slate_types.proofs.Reaching.{reads_none, reads_then}
+use Rattle.slate_types.proofs.Moves.{moves_both, moves_fails}
+use Rattle.slate_types.proofs.Reaching.{reads_then}
 use Rattle.slate_read.proofs.Cursors.{some_fails}
 use Rattle.slate_read.proofs.ReadAhead.{fetched_some, fetches_moves}
 use Rattle.slate_read.proofs.table_state.Cursor.fill.Goals as goal

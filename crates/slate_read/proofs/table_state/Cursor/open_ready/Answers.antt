@@ -1,5 +1,3 @@
-use Rattle.std.proofs.Common.{◌≡◌, ◌∷◌, ap, ◌∙◌, ◌++◌}
-use Rattle.std.specs.Prelude.{option_to_list}
 use Rattle.std.proofs.lemmas.Result.{err_from_is_err_and}
 use Rattle.slate_read.proofs.Cursors.{front_fails}
 use Rattle.slate_read.proofs.table_state.Cursor.open_ready.Goals as goal

@@ -1,9 +1,9 @@
-use Rattle.std.proofs.Common.{◌≡◌, ◌-◌, ◌∙◌, Some, refl, sym, ap, subst, arith}
-use Rattle.std.proofs.lemmas.Result.{err_from_is_err_and, IfOk-from_err}
-use Rattle.slate_types.proofs.Reaching.{reads_none, reads_then}
+use Rattle.std.proofs.Common.{◌≡◌, ◌-◌, Some, arith}
+use Rattle.std.proofs.lemmas.Result.{err_from_is_err_and}
+use Rattle.slate_types.proofs.Reaching.{reads_then}
 use Rattle.slate_read.proofs.Cursors.{row_fails}
 use Rattle.slate_types.proofs.Moves.{moves_both, moves_fails}
-use Rattle.slate_read.proofs.Seeks.{done_none, done_some, lifted, skip_moves, skipped_no_larger, skipped_none}
+use Rattle.slate_read.proofs.Seeks.{done_none, done_some, lifted, skip_moves, skipped_no_larger}
 use Rattle.slate_read.proofs.table_state.Cursor.walk_to.Goals as goal
 
 pub loop-self-preserved : goal.loop-self-preserved
