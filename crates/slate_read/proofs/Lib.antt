@@ -30,3 +30,4 @@ pub mod Shows
 pub mod RunOpen
 pub mod Runs
 pub mod RunSeeks
+pub mod RunCalls

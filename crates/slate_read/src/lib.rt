@@ -16,6 +16,7 @@ pub mod progress;
 pub mod range_rows;
 pub mod readable_laws;
 pub mod required_iterator;
+pub mod run_iterator;
 pub mod run_state;
 pub mod run_walk;
 pub mod sorted_run;
