@@ -31,3 +31,4 @@ pub mod RunOpen
 pub mod Runs
 pub mod RunSeeks
 pub mod RunCalls
+pub mod RunRows
