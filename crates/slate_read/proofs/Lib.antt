@@ -33,3 +33,5 @@ pub mod Shows
 pub mod RunOpen
 pub mod Runs
 pub mod RunSeeks
+pub mod RunCalls
+pub mod RunRows

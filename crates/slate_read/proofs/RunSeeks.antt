@@ -45,7 +45,7 @@ run_lifted range order key a b x y m = record {
 
 -- ---- tables that are passed over
 
-both_true : (s t : Bool) → (s && t) ≡ true → (s ≡ true) × (t ≡ true)
+pub both_true : (s t : Bool) → (s && t) ≡ true → (s ≡ true) × (t ≡ true)
 both_true true t h = (refl, h)
 both_true false t h = cc
 
@@ -87,7 +87,7 @@ passed_rows range order key w [] held passed = tt
 passed_rows range order key w (h ∷ tables) held passed =
     AllByRecursion-append (λ r. comes_before order r.key key ≡ true) (rest_covered range order (w.holds (path_in h))) (rest_waiting range order tables w) (passed_table range order key w h held.0.0 held.0.1 passed.0) (passed_rows range order key w tables held.1 passed.1)
 
-waiting_both : (range : BytesRange) (order : IterationOrder) (first last : List SsTableHandle) (w : World) → rest_waiting range order (first ++ last) w ≡ rest_waiting range order first w ++ rest_waiting range order last w
+pub waiting_both : (range : BytesRange) (order : IterationOrder) (first last : List SsTableHandle) (w : World) → rest_waiting range order (first ++ last) w ≡ rest_waiting range order first w ++ rest_waiting range order last w
 waiting_both range order [] last w = refl
 waiting_both range order (h ∷ first) last w =
     ap (λ (l : List RowEntry). rest_covered range order (w.holds (path_in h)) ++ l) (waiting_both range order first last w)

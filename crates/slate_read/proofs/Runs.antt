@@ -1,6 +1,7 @@
 -- What calls do to what is left of a run.
 use Rattle.std.proofs.Common.{◌≡◌, ◌⊎◌, inl, inr, ◌<◌, ◌≤◌, ◌+◌, ◌*◌, ℕ, Bool, true, false, List, [], ◌∷◌, ◌++◌, length, flat_map, Option, Some, None, refl, sym, ap, subst, ◌∙◌, arith, append_assoc, append-nil}
 use Rattle.std.specs.Prelude.{Contains}
+use Rattle.std.specs.Option.{is_some}
 use Rattle.std.specs.List.{AllByRecursion}
 use Rattle.std.proofs.lemmas.List.Elements.{Contains-append_right}
 use Rattle.slate_types.specs.declared.bytes_range.BytesRange.{BytesRange}
@@ -199,3 +200,29 @@ opened_ahead range a b x y true (reads, call, is) = is.3
 
 pub opened_fewer : (x y : RunCursor) (some : Bool) → some ≡ true → (some ≡ true → length y.tables.items + 1 ≡ length x.tables.items) → length y.tables.items < length x.tables.items
 opened_fewer x y some is fewer = let n = fewer is in omega (arith, n)
+
+-- none was left
+pub ended_moves : (range : BytesRange) (order : IterationOrder) (a b : Reach) (x y : RunCursor) → Made a b (λ reads. OpensNext range a.meaning reads x false y) → Moves (rest_run range order) (IsSoundRun range order) (refuses_run order) a b x y
+ended_moves range order a b x y made = record {
+  rows = λ w sees k. rows w;
+  still = λ w sees k. sound_of range order x y w k (subst (λ (o : Option OpenTable). IsSoundOpen order o w) (sym is.3) k.open_table) tables (subst (IsInOrder order) (sym (rows w)) k.rising);
+  checked = λ w k. checks_same w a b (ends_call range a b x y made);
+  made = (made.0, made.1, fewer_of order a.meaning x y made.0 (λ later at e r. open_more order x.current a.meaning made.0 later e (subst (λ (o : Option OpenTable). RefusesOpen order o a.meaning later e) is.3 r)) tables);
+}
+  where
+    is : OpensNext range a.meaning made.0 x false y
+    is = made.2
+
+    tables : y.tables.items ≡ x.tables.items
+    tables = is.2 ∙ sym is.0
+
+    rows : (w : World) → rest_run range order y w ≡ rest_run range order x w
+    rows w = λ i. rest_parts range order (is.4 i) (is.3 i) (tables i) w
+
+pub begun_run : (range : BytesRange) (order : IterationOrder) (a b : Reach) (x y : RunCursor) (some : Bool) → x.current ≡ None → Made a b (λ reads. OpensNext range a.meaning reads x some y) → Moves (rest_run range order) (IsSoundRun range order) (refuses_run order) a b x y
+begun_run range order a b x y true closed made = opens_run range order a b x y closed made
+begun_run range order a b x y false closed made = ended_moves range order a b x y made
+
+pub not_open : (x : Option OpenTable) → is_some x ≡ false → x ≡ None
+not_open None h = refl
+not_open (Some o) h = cc

@@ -33,7 +33,7 @@ use Rattle.slate_types.proofs.Moves.{Moves}
 use Rattle.slate_types.specs.Partitions.{covering_end, covering_start}
 use Rattle.slate_table.specs.IndexReading.{index_keys}
 
-outer_undamaged : (i j : Counts) (e : SlateDBError) → IsCounted i j e → ¬ IsDamage e
+pub outer_undamaged : (i j : Counts) (e : SlateDBError) → IsCounted i j e → ¬ IsDamage e
 outer_undamaged i j OutOfMemory h = λ d. d
 outer_undamaged i j StoreFault h = λ d. d
 outer_undamaged i j (Callback m) h = λ d. d

@@ -18,15 +18,21 @@ pub mod progress;
 pub mod range_rows;
 pub mod readable_laws;
 pub mod required_iterator;
+pub mod run_iterator;
+pub mod run_rows;
 pub mod run_state;
 pub mod run_walk;
 pub mod sorted_run;
+pub mod sorted_run_iterator;
 pub mod sst_iterator;
 pub mod sst_iterator_options;
 pub mod table_iterator;
 pub mod table_state;
 pub mod table_walk;
 
+use crate::newest_first::NewestFirst;
+use crate::range_rows::InRange;
+use crate::run_state::RunWalk;
 pub use empty_iterator::EmptyIterator;
 pub use fetch_limits::FetchLimits;
 pub use filter_iterator::{FilterIterator, MaxSeq, RowPredicate};
@@ -35,6 +41,7 @@ pub use merge_iterator::MergeIterator;
 pub use peeking_iterator::PeekingIterator;
 pub use required_iterator::MergeOperatorRequiredIterator;
 pub use sorted_run::SortedRun;
+pub use sorted_run_iterator::SortedRunIterator;
 pub use sst_iterator::SstIterator;
 pub use sst_iterator_options::SstIteratorOptions;
 
@@ -45,4 +52,5 @@ pub fn types_cross_threads() {
     crosses::<SortedRun>();
     crosses::<SstIteratorOptions>();
     crosses::<InternalSstIterator>();
+    crosses::<NewestFirst<FilterIterator<RunWalk, InRange>>>();
 }

@@ -6,6 +6,7 @@ ghost use Rattle.slate_types.specs.Outside.{IsFault, OnlyReads};
 ghost use Rattle.slate_types.specs.Refusing.{IsDamage};
 ghost use Rattle.slate_types.specs.Steps.{Step};
 ghost use Rattle.slate_types.specs.World.{Made};
+ghost use Rattle.slate_types.proofs.Moves.{Moves};
 ghost use Rattle.slate_table.specs.IndexValue.{entries_of};
 ghost use Rattle.slate_read.specs.TableWalk.{BeginsAt, IsSoundCursor, IsSoundRising, RefusesIndexed, Sought, bound_behind, max_blocks, max_reads, no_words, refuses_behind, rest_after};
 ghost use Rattle.slate_read.specs.RunWalk.{FindsRow, IsSoundOpen, IsOpenRising, IsSoundRun, IsTableOpened, KeepsRun, OpensNext, PassesOver, bound_open, bound_run, can_reach, end_key, is_next_passed, is_passed, reaches_end, reaches_start, refuses_open, refuses_run, rest_open, rest_run};
@@ -247,6 +248,29 @@ impl RunCursor {
                 drop(mem::replace(&mut self.current, Some(opened)));
                 Ok(true)
             }
+            Err(error) => Err(error),
+        }
+    }
+
+    /// Opens the first table, where one is left and none is open.
+    pub(crate) fn begin<S: Store, M: MergeOperator, T: BlockTransformer>(
+        &mut self,
+        alloc: Global,
+        env: &mut Env<'_, S, M, T>,
+        range: &BytesRange,
+        order: IterationOrder,
+    ) -> Result<(), SlateDBError>
+        requires fits { is_refused range.now.start range.now.end ≡ false }
+        ensures moved { let reach = ⟦<EnvOf<S, M, T> as Outside>⟧.reach in OnOk result (Moves (rest_run range.now order) (IsSoundRun range.now order) (refuses_run order) (reach env.old) (reach env.new) self.old self.new) }
+        ensures cause { let reach = ⟦<EnvOf<S, M, T> as Outside>⟧.reach in IfErr result (λ e. Made (reach env.old) (reach env.new) (λ reads. IsFault (reach env.old) (reach env.new) e ⊎ refuses_run order self.old (reach env.old).meaning reads None e)) }
+        ensures no_larger { OnOk result (bound_run self.new ≤ bound_run self.old) }
+        ensures reads { let reach = ⟦<EnvOf<S, M, T> as Outside>⟧.reach in OnlyReads (reach env.old) (reach env.new) }
+    {
+        if self.current.is_some() {
+            return Ok(());
+        }
+        match self.open_next(alloc, env, range) {
+            Ok(_) => Ok(()),
             Err(error) => Err(error),
         }
     }
