@@ -24,14 +24,15 @@ use Rattle.slate_read.specs.NewestLaws.{newest_more, newest_order, newest_whole}
 use Rattle.slate_read.specs.RunIterators.{run_refuses, run_rest, run_sound, run_source_order, run_source_refuses, run_source_rest, run_source_sound}
 use Rattle.slate_read.specs.RunWalk.{AreHeld, IsSoundOpen, IsSoundRun, RefusesOpen, RefusesWaiting, refuses_run, refuses_run_in, rest_run_in, sound_run_in, waiting}
 use Rattle.slate_read.specs.TableWalk.{IsReadable, RefusesSome}
-use Rattle.slate_read.specs.WalkLaws.{left_whole, some_more, some_whole, unread_more, unread_whole}
+use Rattle.slate_read.specs.WalkLaws.{left_whole, ready_whole, some_more, some_whole, unread_more, unread_whole}
 
 -- ---- what some reads refuse, more do
 
 pub open_more : (order : IterationOrder) (x : Option OpenTable) (m : Meaning) (done reads : List Act) (e : SlateDBError) → RefusesOpen order x m reads e → RefusesOpen order x m (done ++ reads) e
 open_more order None m done reads e h = h
 open_more order (Some o) m done reads e (damage, inl k) = (damage, inl k)
-open_more order (Some o) m done reads e (damage, inr k) = (damage, inr (some_more m o.table (entries_of o.cursor.index) order done reads e k))
+open_more order (Some o) m done reads e (damage, inr (inl k)) = (damage, inr (inl k))
+open_more order (Some o) m done reads e (damage, inr (inr k)) = (damage, inr (inr (some_more m o.table (entries_of o.cursor.index) order done reads e k)))
 
 pub waiting_more : (order : IterationOrder) (tables : List SsTableHandle) (m : Meaning) (done reads : List Act) (e : SlateDBError) → RefusesWaiting m order tables reads e → RefusesWaiting m order tables (done ++ reads) e
 waiting_more order tables m done reads e (h, among, k) = (h, among, unread_more m h order done reads e k)
@@ -51,7 +52,8 @@ run_more (Refused kept) order x m done reads at e k = k
 open_whole : (order : IterationOrder) (x : Option OpenTable) (w : World) (reads : List Act) (e : SlateDBError) → IsSoundOpen order x w → AllByRecursion (AnswersWorld w) reads → RefusesOpen order x w.meaning reads e → ⊥
 open_whole order None w reads e sound answered k = k
 open_whole order (Some o) w reads e sound answered (damage, inl k) = left_whole order o.cursor.rows e sound.whole k
-open_whole order (Some o) w reads e sound answered (damage, inr k) =
+open_whole order (Some o) w reads e sound answered (damage, inr (inl k)) = ready_whole w o.table order o.cursor e sound k
+open_whole order (Some o) w reads e sound answered (damage, inr (inr k)) =
     some_whole w o.table sound.kept sound.table order reads e answered (subst (λ (es : List (ℕ × List ℕ)). RefusesSome w.meaning o.table es order reads e) sound.index k)
 
 waiting_whole : (order : IterationOrder) (tables : List SsTableHandle) (w : World) (reads : List Act) (e : SlateDBError) → AreHeld w tables → AllByRecursion (AnswersWorld w) reads → RefusesWaiting w.meaning order tables reads e → ⊥

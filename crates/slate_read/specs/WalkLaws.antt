@@ -128,7 +128,7 @@ known_section w h kept table first stop at given from below within answered =
     is = known_answer w (path_in h) kept (start_of h table.entries first) size given table.held answered
 
 -- rows of a block of the table aren't refused
-ready_whole : (w : World) (h : SsTableHandle) (order : IterationOrder) (cursor : Cursor) (e : SlateDBError) → IsSoundCursor h order cursor w → RefusesReady h.format_version order cursor.ready.items e → ⊥
+pub ready_whole : (w : World) (h : SsTableHandle) (order : IterationOrder) (cursor : Cursor) (e : SlateDBError) → IsSoundCursor h order cursor w → RefusesReady h.format_version order cursor.ready.items e → ⊥
 ready_whole w h order cursor e s (n, block, at, bytes, rows) =
     let there = get_some s.kept.blocks (nth_block order cursor.first cursor.stop n) (place order) in
     rows_whole h.format_version order block there.0 e s.table.known (s.ready n block there.0 at there.1 bytes) rows

@@ -5,6 +5,7 @@ ghost use Rattle.slate_types.specs.Keys.{is_refused};
 ghost use Rattle.slate_read.specs.RunIterators.{IsRunOf, reached};
 ghost use Rattle.slate_read.specs.RunWalk.{can_reach};
 
+use crate::fetch_limits::FetchLimits;
 use crate::filter_iterator::FilterIterator;
 use crate::range_rows::InRange;
 use crate::run_state::{RunCursor, RunState, RunWalk};
@@ -50,6 +51,7 @@ pub fn run_rows(
     range: BytesRange,
     run: SortedRun,
     order: IterationOrder,
+    limits: FetchLimits,
 ) -> Result<FilterIterator<RunWalk, InRange>, SlateDBError>
     requires { is_refused range.start range.end ≡ false }
     ensures rows { IfOk result (λ it. IsRunOf range run.tables.items order it) }
@@ -62,6 +64,7 @@ pub fn run_rows(
         ahead: None,
         current: None,
         tables: reached(&range, order, tables),
+        limits,
     };
     let walk = RunWalk {
         range,

@@ -7,6 +7,7 @@ ghost use Rattle.slate_read.specs.RunLaws.{run_iterator_more, run_iterator_risin
 ghost use Rattle.slate_read.specs.NewestFirst.{Begins, IsGoing, IsUnrefused, Stays, is_below};
 ghost use Rattle.slate_read.specs.SstOptions.{CanFetch};
 
+use crate::fetch_limits::FetchLimits;
 use crate::filter_iterator::FilterIterator;
 use crate::newest_first::NewestFirst;
 use crate::range_rows::InRange;
@@ -24,7 +25,7 @@ use std::alloc::Global;
 
 /// The rows of a run of stored tables in a range, in an order, the newest of each key first: one table after another. A table is
 /// opened when those before it are spent, and one that can't hold a key of the range, or that a seek passes over, never is. It
-/// holds one block at most. Filters of the tables aren't asked yet.
+/// holds one block at most, and what is read ahead. Filters of the tables aren't asked yet.
 #[derive(Drop)]
 pub struct SortedRunIterator<'a> {
     pub(crate) rows: NewestFirst<FilterIterator<RunWalk, InRange>>,
@@ -46,7 +47,11 @@ impl<'a> SortedRunIterator<'a> {
         ensures cause { IfErr result (λ e. e ≡ SlateDBError.OutOfMemory) }
     {
         let kept = range.clone()?;
-        let source = run_rows(alloc, range, run, options.order)?;
+        let limits = FetchLimits {
+            tasks: options.max_fetch_tasks,
+            bytes: options.target_bytes_to_fetch,
+        };
+        let source = run_rows(alloc, range, run, options.order, limits)?;
         let rows = NewestFirst::over(kept, source);
         Ok(SortedRunIterator { rows, policies })
     }

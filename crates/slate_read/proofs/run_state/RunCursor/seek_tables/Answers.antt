@@ -57,9 +57,9 @@ returns-in-Some g c =
     let t = c.in_ok-row.ensures in
     let less = (rw c.in-Some.is at t.smaller) refl in
     let one = ap (λ r. length (rows_ahead r)) c.replace.ensures.after in
-    let found = found_some c.args.range.now c.args.order c.args.key.now _ _ c.loop-row.self (record { ahead = c.replace.new.dest; current = c.find_row.new.current; tables = c.loop-row.self.tables }) c.in-Some.row (rw c.in-Some.is at t.found) i.none c.replace.ensures.after refl in
+    let found = found_some c.args.range.now c.args.order c.args.key.now _ _ c.loop-row.self (record { ahead = c.replace.new.dest; current = c.find_row.new.current; tables = c.loop-row.self.tables; limits = c.loop-row.self.limits }) c.in-Some.row (rw c.in-Some.is at t.found) i.none c.replace.ensures.after refl in
     record {
-      sought = run_sought c.args.range.now c.args.order c.args.key.now _ _ _ c.args.self.now c.loop-row.self (record { ahead = c.replace.new.dest; current = c.find_row.new.current; tables = c.loop-row.self.tables }) i.moves found;
+      sought = run_sought c.args.range.now c.args.order c.args.key.now _ _ _ c.args.self.now c.loop-row.self (record { ahead = c.replace.new.dest; current = c.find_row.new.current; tables = c.loop-row.self.tables; limits = c.loop-row.self.limits }) i.moves found;
       cause = tt;
       no_larger = omega (arith, i.bound, less, one);
       reads = reads_then _ _ _ i.reads t.reads;
