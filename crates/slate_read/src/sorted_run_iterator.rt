@@ -10,7 +10,7 @@ ghost use Rattle.slate_read.specs.SstOptions.{CanFetch};
 use crate::filter_iterator::FilterIterator;
 use crate::newest_first::NewestFirst;
 use crate::range_rows::InRange;
-use crate::run_rows::run_rows;
+use crate::run_rows::newest_run_rows;
 use crate::run_state::RunWalk;
 use crate::sorted_run::SortedRun;
 use crate::sst_iterator_options::SstIteratorOptions;
@@ -45,9 +45,7 @@ impl<'a> SortedRunIterator<'a> {
         ensures rows { IfOk result (λ it. IsRunIterator range run options.order it.rows) }
         ensures cause { IfErr result (λ e. e ≡ SlateDBError.OutOfMemory) }
     {
-        let kept = range.clone()?;
-        let source = run_rows(alloc, range, run, options.order)?;
-        let rows = NewestFirst::over(kept, source);
+        let rows = newest_run_rows(alloc, range, run, options.order)?;
         Ok(SortedRunIterator { rows, policies })
     }
 }
