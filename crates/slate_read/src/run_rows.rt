@@ -2,11 +2,12 @@
 ghost use Rattle.std.specs.Prelude.{◌≡◌, IfOk, IfErr, filter, false};
 ghost use Rattle.slate_types.specs.declared.error.SlateDBError.{SlateDBError};
 ghost use Rattle.slate_types.specs.Keys.{is_refused};
-ghost use Rattle.slate_read.specs.RunIterators.{IsRunOf, reached};
+ghost use Rattle.slate_read.specs.RunIterators.{IsRunIterator, IsRunOf, reached};
 ghost use Rattle.slate_read.specs.RunWalk.{can_reach};
 
 use crate::fetch_limits::FetchLimits;
 use crate::filter_iterator::FilterIterator;
+use crate::newest_first::NewestFirst;
 use crate::range_rows::InRange;
 use crate::run_state::{RunCursor, RunState, RunWalk};
 use crate::run_walk::can_reach;
@@ -73,4 +74,21 @@ pub fn run_rows(
         state: RunState::New,
     };
     FilterIterator::new(alloc, walk, InRange { range: kept })
+}
+
+/// The rows of a run of stored tables in the range, in the order, the newest of each key first. Nothing is read yet.
+pub(crate) fn newest_run_rows(
+    alloc: Global,
+    range: BytesRange,
+    run: SortedRun,
+    order: IterationOrder,
+    limits: FetchLimits,
+) -> Result<NewestFirst<FilterIterator<RunWalk, InRange>>, SlateDBError>
+    requires { is_refused range.start range.end ≡ false }
+    ensures rows { IfOk result (λ it. IsRunIterator range run order it) }
+    ensures cause { IfErr result (λ e. e ≡ SlateDBError.OutOfMemory) }
+{
+    let kept = range.clone()?;
+    let source = run_rows(alloc, range, run, order, limits)?;
+    Ok(NewestFirst::over(kept, source))
 }

@@ -11,7 +11,7 @@ use crate::fetch_limits::FetchLimits;
 use crate::filter_iterator::FilterIterator;
 use crate::newest_first::NewestFirst;
 use crate::range_rows::InRange;
-use crate::run_rows::run_rows;
+use crate::run_rows::newest_run_rows;
 use crate::run_state::RunWalk;
 use crate::sorted_run::SortedRun;
 use crate::sst_iterator_options::SstIteratorOptions;
@@ -46,13 +46,11 @@ impl<'a> SortedRunIterator<'a> {
         ensures rows { IfOk result (λ it. IsRunIterator range run options.order it.rows) }
         ensures cause { IfErr result (λ e. e ≡ SlateDBError.OutOfMemory) }
     {
-        let kept = range.clone()?;
         let limits = FetchLimits {
             tasks: options.max_fetch_tasks,
             bytes: options.target_bytes_to_fetch,
         };
-        let source = run_rows(alloc, range, run, options.order, limits)?;
-        let rows = NewestFirst::over(kept, source);
+        let rows = newest_run_rows(alloc, range, run, options.order, limits)?;
         Ok(SortedRunIterator { rows, policies })
     }
 }
