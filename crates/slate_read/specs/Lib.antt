@@ -30,3 +30,4 @@ pub mod RunWalk
 pub mod RunIterators
 pub mod Showing
 pub mod RunLaws
+pub mod ReadSources

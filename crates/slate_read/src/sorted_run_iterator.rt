@@ -22,6 +22,7 @@ use slate_types::{
     SlateDBError,
 };
 use std::alloc::Global;
+use std::marker::PhantomData;
 
 /// The rows of a run of stored tables in a range, in an order, the newest of each key first: one table after another. A table is
 /// opened when those before it are spent, and one that can't hold a key of the range, or that a seek passes over, never is. It
@@ -29,7 +30,8 @@ use std::alloc::Global;
 #[derive(Drop)]
 pub struct SortedRunIterator<'a> {
     pub(crate) rows: NewestFirst<FilterIterator<RunWalk, InRange>>,
-    pub(crate) policies: &'a [Box<dyn FilterPolicy>],
+    /// The policies of filters are borrowed for as long as it is used. None is asked yet.
+    policies: PhantomData<&'a ()>,
 }
 
 impl<'a> SortedRunIterator<'a> {
@@ -46,12 +48,16 @@ impl<'a> SortedRunIterator<'a> {
         ensures rows { IfOk result (λ it. IsRunIterator range run options.order it.rows) }
         ensures cause { IfErr result (λ e. e ≡ SlateDBError.OutOfMemory) }
     {
+        let _policies = policies;
         let limits = FetchLimits {
             tasks: options.max_fetch_tasks,
             bytes: options.target_bytes_to_fetch,
         };
         let rows = newest_run_rows(alloc, range, run, options.order, limits)?;
-        Ok(SortedRunIterator { rows, policies })
+        Ok(SortedRunIterator {
+            rows,
+            policies: PhantomData,
+        })
     }
 }
 
