@@ -1,6 +1,7 @@
 -- What a run makes for itself is a well-formed script.
 --     IsFormed bytes      whole lines, each of which is silent or built
-use Rattle.std.proofs.Common.{◌≡◌, ℕ, zero, suc, ◌+◌, ◌*◌, ◌/◌, ◌%◌, ◌^◌, ◌<◌, ◌≤◌, ◌==◌, Bool, true, false, cond, not, ◌&&◌, ◌⊎◌, inl, inr, List, [], ◌∷◌, ◌++◌, length, codes, decimal, IsTrue, refl, sym, ap, subst, ◌∙◌, arith}
+use Rattle.std.proofs.Common.{◌≡◌, ℕ, zero, suc, ◌+◌, ◌*◌, ◌/◌, ◌%◌, ◌^◌, ◌<◌, ◌≤◌, Bool, true, false, not, ◌&&◌, ◌⊎◌, inl, inr, List, [], ◌∷◌, ◌++◌, length, codes, decimal, IsTrue, refl, sym, ap, subst, ◌∙◌, arith, append_assoc}
+use Rattle.std.specs.Prelude.{if◌then◌else◌, ◌==◌}
 use Rattle.std.specs.List.{list_all, join_with_byte, AllByRecursion}
 use Rattle.std.proofs.Math.Nat.{mod-lt}
 use Rattle.std.proofs.lemmas.Bool.{le-leb, ne_eqb}
@@ -25,13 +26,14 @@ and-true : (a b : Bool) → a ≡ true → b ≡ true → (a && b) ≡ true
 and-true true b h k = k
 and-true false b h k = cc
 
-AreDigits : List ℕ → Type 0
+abbrev AreDigits : List ℕ → Type 0
 AreDigits ds = (list_all is_visible ds ≡ true) × HasNoEnd ds
 
 one-digit : (d : ℕ) → d < 10 → AreDigits ((48 + d) ∷ [])
-one-digit d h =
-    (and-true (is_visible (48 + d)) true (and-true _ _ (le-leb 33 (48 + d) (omega arith)) (le-leb (48 + d) 126 (omega arith))) refl,
-    and-true (not (is_end (48 + d))) true (ap not (ne_eqb (48 + d) 10 (λ same. omega (arith, same, h)))) refl)
+one-digit d h = (
+  and-true (is_visible (48 + d)) true (and-true _ _ (le-leb 33 (48 + d) (omega arith)) (le-leb (48 + d) 126 (omega arith))) refl,
+  and-true (not (is_end (48 + d))) true (ap not (ne_eqb (48 + d) 10 (λ same. omega (arith, same, h)))) refl,
+)
 
 both-digits : (ds es : List ℕ) → AreDigits ds → AreDigits es → AreDigits (ds ++ es)
 both-digits ds es h k =
@@ -83,15 +85,27 @@ formed-get x =
     formed-line (codes "get t 'k" ++ key_number x) (lines.Get (codes "t") (107 ∷ key_number x)) key.1
     ((codes "get" ∷ codes "t" ∷ (39 ∷ 107 ∷ key_number x) ∷ [], (39 ∷ 107 ∷ key_number x, (omega arith, omega arith, refl), inl (key.0, refl), refl), refl), refl)
 
+put-ends : (k v : List ℕ) → HasNoEnd k → HasNoEnd v → HasNoEnd (codes "put t 'k" ++ k ++ codes " 'v" ++ v)
+put-ends k v h j =
+    list_all-append (λ b. not (is_end b)) (k ++ codes " 'v") v
+    ∙ and-true _ _ (list_all-append (λ b. not (is_end b)) k (codes " 'v") ∙ and-true _ _ h refl) j
+
+put-joined : (k v : List ℕ) → codes "put t 'k" ++ k ++ codes " 'v" ++ v ≡ join_with_byte 32 (codes "put" ∷ codes "t" ∷ (39 ∷ 107 ∷ k) ∷ (39 ∷ 118 ∷ v) ∷ [])
+put-joined k v = ap (λ bs. codes "put t 'k" ++ bs) (append_assoc k (codes " 'v") v)
+
 formed-put : (x i : ℕ) → i < 2 ^ 64 → IsFormed (ended (codes "put t 'k" ++ key_number x ++ codes " 'v" ++ decimal i))
 formed-put x i h =
     let key = digits-of (x / 2 ^ 33 % 1000) (key-below x) in
     let value = digits-of i h in
-    let text : AreDigits (key_number x ++ codes " 'v" ++ decimal i) → HasNoEnd (codes "put t 'k" ++ key_number x ++ codes " 'v" ++ decimal i) = λ d. d.1 in
     formed-line (codes "put t 'k" ++ key_number x ++ codes " 'v" ++ decimal i) (lines.Put (codes "t") (107 ∷ key_number x) (118 ∷ decimal i) Default)
-    (list_all-append (λ b. not (is_end b)) (key_number x) (codes " 'v" ++ decimal i) ∙ and-true _ _ key.1 value.1)
-    ((codes "put" ∷ codes "t" ∷ (39 ∷ 107 ∷ key_number x) ∷ (39 ∷ 118 ∷ decimal i) ∷ [],
-      ((39 ∷ 107 ∷ key_number x) ∷ (39 ∷ 118 ∷ decimal i) ∷ [], (omega arith, omega arith, refl), (39 ∷ 107 ∷ key_number x, 39 ∷ 118 ∷ decimal i, [], inl (key.0, refl), inl (value.0, refl), refl, refl), refl), refl), refl)
+    (put-ends (key_number x) (decimal i) key.1 value.1) (
+      (
+        codes "put" ∷ codes "t" ∷ (39 ∷ 107 ∷ key_number x) ∷ (39 ∷ 118 ∷ decimal i) ∷ [],
+        ((39 ∷ 107 ∷ key_number x) ∷ (39 ∷ 118 ∷ decimal i) ∷ [], (omega arith, omega arith, refl), (39 ∷ 107 ∷ key_number x, 39 ∷ 118 ∷ decimal i, [], inl (key.0, refl), inl (value.0, refl), refl, refl), refl),
+        put-joined (key_number x) (decimal i),
+      ),
+      refl,
+    )
 
 formed-commit : IsFormed (ended (codes "commit t"))
 formed-commit = formed-line (codes "commit t") (lines.Commit (codes "t")) refl ((codes "commit" ∷ codes "t" ∷ [], ((omega arith, omega arith, refl), refl), refl), refl)
@@ -99,13 +113,13 @@ formed-commit = formed-line (codes "commit t") (lines.Commit (codes "t")) refl (
 formed-flush : IsFormed (ended (codes "flush"))
 formed-flush = formed-line (codes "flush") lines.Flush refl ((codes "flush" ∷ [], refl, refl), refl)
 
-formed-if : (t : Bool) → IsFormed (cond t (ended (codes "flush")) [])
+formed-if : (t : Bool) → IsFormed (if t then ended (codes "flush") else [])
 formed-if true = formed-flush
 formed-if false = formed-none
 
 formed-round : (i x y : ℕ) → i < 2 ^ 64 → IsFormed (round i x y)
 formed-round i x y h =
-    formed-append _ _ formed-begin (formed-append _ _ (formed-get x) (formed-append _ _ (formed-put y i h) (formed-append _ _ formed-commit (formed-if (i % 64 == 0)))))
+    formed-append _ _ (formed-append _ _ (formed-append _ _ (formed-append _ _ formed-begin (formed-get x)) (formed-put y i h)) formed-commit) (formed-if (i % 64 == 0))
 
 formed-rounds : (i n x : ℕ) → i + n < 2 ^ 64 → IsFormed (rounds i n x)
 formed-rounds i zero x h = formed-none
@@ -113,7 +127,7 @@ formed-rounds i (suc n) x h = formed-append _ _ (formed-round i (drawn x) (drawn
 
 -- ---- how long it is
 
-flush-length : (t : Bool) → length (cond t (ended (codes "flush")) []) ≤ 6
+flush-length : (t : Bool) → length (if t then ended (codes "flush") else []) ≤ 6
 flush-length true = omega arith
 flush-length false = omega arith
 
@@ -123,19 +137,22 @@ ended-length l = length-append l (10 ∷ [])
 key-length : (x : ℕ) → length (key_number x) ≤ 20
 key-length x = length-decimal-le 20 (x / 2 ^ 33 % 1000) (omega arith) (let less : x / 2 ^ 33 % 1000 < 1000 = mod-lt (x / 2 ^ 33) (omega arith) in omega (arith, less)) (key-below x)
 
-get-length : (x : ℕ) → length (ended (codes "get t 'k" ++ key_number x)) ≤ 30
-get-length x = omega (arith, ended-length (codes "get t 'k" ++ key_number x), key-length x)
+get-length : (k : List ℕ) → length k ≤ 20 → length (ended (codes "get t 'k" ++ k)) ≤ 30
+get-length k h = omega (arith, ended-length (codes "get t 'k" ++ k), h)
 
-put-length : (x i : ℕ) → i < 2 ^ 64 → length (ended (codes "put t 'k" ++ key_number x ++ codes " 'v" ++ decimal i)) ≤ 60
-put-length x i h =
-    omega (arith, ended-length (codes "put t 'k" ++ key_number x ++ codes " 'v" ++ decimal i), length-append (key_number x) (codes " 'v" ++ decimal i), key-length x, length-decimal-le 20 i (omega arith) (omega arith) h)
+put-length : (k v : List ℕ) → length k ≤ 20 → length v ≤ 20 → length (ended (codes "put t 'k" ++ k ++ codes " 'v" ++ v)) ≤ 60
+put-length k v h j =
+    omega (arith, ended-length (codes "put t 'k" ++ k ++ codes " 'v" ++ v), length-append (codes "put t 'k" ++ k ++ codes " 'v") v, length-append (codes "put t 'k" ++ k) (codes " 'v"), h, j)
+
+lines-length : (get put last : List ℕ) → length get ≤ 30 → length put ≤ 60 → length last ≤ 6 → length (ended (codes "begin t ssi") ++ get ++ put ++ ended (codes "commit t") ++ last) ≤ 120
+lines-length get put last h j k =
+    let begin = ended (codes "begin t ssi") in
+    omega (arith, length-append (begin ++ get ++ put ++ ended (codes "commit t")) last, length-append (begin ++ get ++ put) (ended (codes "commit t")), length-append (begin ++ get) put, length-append begin get, h, j, k)
 
 round-length : (i x y : ℕ) → i < 2 ^ 64 → length (round i x y) ≤ 120
 round-length i x y h =
-    let last = cond (i % 64 == 0) (ended (codes "flush")) [] in
-    let put = ended (codes "put t 'k" ++ key_number y ++ codes " 'v" ++ decimal i) in
-    let get = ended (codes "get t 'k" ++ key_number x) in
-    omega (arith, length-append get (put ++ ended (codes "commit t") ++ last), length-append put (ended (codes "commit t") ++ last), get-length x, put-length y i h, flush-length (i % 64 == 0))
+    lines-length (ended (codes "get t 'k" ++ key_number x)) (ended (codes "put t 'k" ++ key_number y ++ codes " 'v" ++ decimal i)) (if i % 64 == 0 then ended (codes "flush") else [])
+    (get-length (key_number x) (key-length x)) (put-length (key_number y) (decimal i) (key-length y) (length-decimal-le 20 i (omega arith) (omega (arith, h)) h)) (flush-length (i % 64 == 0))
 
 rounds-length : (i n x : ℕ) → i + n < 2 ^ 64 → length (rounds i n x) ≤ 120 * n
 rounds-length i zero x h = omega arith

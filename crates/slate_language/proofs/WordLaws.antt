@@ -147,6 +147,6 @@ generated-alone (w ∷ n ∷ s ∷ ws) g h = by (bytes_eq w (codes "gen")) refl
   where
     by : (b : Bool) → bytes_eq w (codes "gen") ≡ b → read_words (w ∷ n ∷ s ∷ ws) ≡ None
     by true e =
-        let is : w ≡ codes "gen" = bytes_eq-Decides w (codes "gen") .0 e in
+        let is : w ≡ codes "gen" = (bytes_eq-Decides w (codes "gen")).0 e in
         ap (λ v. cond (list_all is_known (v ∷ n ∷ s ∷ ws)) (read_settings (v ∷ n ∷ s ∷ ws)) None) is
     by false e = absurd (no-gen (bytes_eq w (codes "gen")) w _ g e h)

@@ -35,12 +35,7 @@ fn generated(alloc: Global, n: u32, s: u64) -> Result<Vec<u8>, AllocError>
 }
 
 /// Adds the lines of the round with this number, from 1.
-fn push_round(
-    script: &mut String,
-    number: u32,
-    first: u64,
-    second: u64,
-) -> Result<(), AllocError>
+fn push_round(script: &mut String, number: u32, first: u64, second: u64) -> Result<(), AllocError>
     ensures lines { OnOk result (string_bytes script.new ≡ string_bytes script.old ++ round number first second) }
 {
     write!(
