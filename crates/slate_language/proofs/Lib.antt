@@ -12,3 +12,4 @@ pub mod WordLaws
 pub mod LongRows
 pub mod GenerateLaws
 pub mod RoundLaws
+pub mod TallyLaws

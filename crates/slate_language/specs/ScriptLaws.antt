@@ -6,6 +6,7 @@ use Rattle.slate_types.specs.Lawful.{IsLawfulTransform}
 use Rattle.slate_store.specs.Lines.{lines_of}
 use Rattle.slate_txn.specs.declared.line.Line.{Line}
 use Rattle.slate_txn.specs.State.{Rules, opening}
+use Rattle.slate_txn.specs.Step.{answers}
 use Rattle.slate_txn.specs.Laws.{is_storage, other_answers}
 use Rattle.slate_language.specs.Parts.{concat, greater, xored}
 use Rattle.slate_types.specs.Keys.{AreBytes}
@@ -13,7 +14,8 @@ use Rattle.slate_language.specs.Text.{shown_bytes}
 use Rattle.slate_language.specs.Grammar.{IsBytes, IsLine}
 use Rattle.slate_language.specs.Parse.{parse}
 use Rattle.slate_language.specs.Stage.{IsBuiltLine, meaning}
-use Rattle.slate_language.specs.Generate.{generate}
+use Rattle.slate_language.specs.Generate.{generate, summary}
+use Rattle.slate_language.specs.Tally.{nothing_from, tallied, tally_text}
 use Rattle.slate_language.specs.Words.{max_rounds, read_generated, read_words}
 use Rattle.slate_language.specs.declared.words.Generated.{Generated}
 use Rattle.slate_language.specs.Replies.{replies, is_silent, meanings, reply_line, whole_replies, IsWellFormed}
@@ -93,3 +95,8 @@ WordsNameOneScript = (ws : List (List ℕ)) (g : Generated) → read_generated w
 -- A script that a run makes for itself is well formed.
 abbrev pub GeneratedIsWellFormed : Type 0
 GeneratedIsWellFormed = (n s : ℕ) → n ≤ max_rounds → IsWellFormed (generate n s)
+
+-- What is counted of the replies to a well-formed script is its summary.
+abbrev pub TallyIsSummary : Type 0
+TallyIsSummary = (r : Rules) (script : List ℕ) → IsWellFormed script →
+    tally_text (tallied (nothing_from r.start_seq) (answers r opening (meanings meaning (lines_of script)))) ≡ summary r script

@@ -11,6 +11,7 @@ pub mod parts;
 pub mod reply;
 pub mod rows;
 pub mod script_laws;
+pub mod tally;
 pub mod text;
 pub mod token;
 pub mod words;
@@ -19,6 +20,7 @@ pub use generator::generate;
 pub use parse::parse_line;
 pub use parts::Xor;
 pub use reply::{Answer, JournalEntry, reply_text};
+pub use tally::Tally;
 pub use text::show;
 pub use token::{is_word, read_bytes, read_moment, read_name, read_number, split_tokens};
 pub use words::{Generated, Settings, parse_generated, parse_words};
@@ -27,5 +29,5 @@ fn crosses<T: Send + Sync>() {}
 
 /// The types of this crate go to other threads, and are shared between them.
 pub fn types_cross_threads() {
-    crosses::<(Answer, Generated, JournalEntry, Settings, Xor)>();
+    crosses::<(Answer, Generated, JournalEntry, Settings, Tally, Xor)>();
 }

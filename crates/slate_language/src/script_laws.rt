@@ -1,5 +1,5 @@
 //! The laws of lines, of replies, of the words of a run, and of the parts that words can name. Each is proved of all values, and no call does anything.
-ghost use Rattle.slate_language.specs.ScriptLaws.{ConcatIsLawful, CutsALine, EmptyIsSilent, GeneratedIsWellFormed, GreaterIsLawful, HasOneMeaning, ReadsNothingElse, ReadsTheGrammar, ReadsWhatIsBuilt, ReadsWhatIsShown, StoringIsSilent, WordsInAnyOrder, WordsNameOneScript, XorIsLawful};
+ghost use Rattle.slate_language.specs.ScriptLaws.{ConcatIsLawful, CutsALine, EmptyIsSilent, GeneratedIsWellFormed, GreaterIsLawful, HasOneMeaning, ReadsNothingElse, ReadsTheGrammar, ReadsWhatIsBuilt, ReadsWhatIsShown, StoringIsSilent, TallyIsSummary, WordsInAnyOrder, WordsNameOneScript, XorIsLawful};
 
 /// What the grammar has is read, with its meaning.
 pub fn reads_the_grammar()
@@ -69,4 +69,9 @@ pub fn words_name_one_script()
 /// A script that a run makes for itself is well formed.
 pub fn generated_is_well_formed()
     ensures { GeneratedIsWellFormed }
+{}
+
+/// What is counted of the replies to a well-formed script is its summary.
+pub fn tally_is_summary()
+    ensures { TallyIsSummary }
 {}
