@@ -3,7 +3,9 @@ use Rattle.slate_types.specs.declared.error.SlateDBError.{SlateDBError}
 use Rattle.slate_types.specs.declared.error.SlateDBError.TheVariants.{ScriptTooLong, ReadFault, WriteFault, StoreFault, Callback, BlockTransformError}
 use Rattle.slate_txn.specs.State.{opening}
 use Rattle.slate_language.specs.Stage.{meaning}
-use Rattle.slate_language.specs.Replies.{after_lines, replies_from, replies_to}
+use Rattle.slate_language.specs.Tally.{tallied}
+use Rattle.slate_txn.specs.Step.{answers}
+use Rattle.slate_language.specs.Replies.{after_lines, meanings, replies_from, replies_to}
 use Rattle.slate_db.specs.Parts.{meaning_of, counts_of}
 use Rattle.slate_txn.specs.declared.event.Event.{Event}
 use Rattle.slate_db.specs.Flushed.{layout_of}
@@ -21,8 +23,8 @@ use Rattle.slate_db.specs.Meaning.{Meaning}
 use Rattle.slate_script.specs.Session.{IsSettled}
 use Rattle.slate_script.specs.Told.{Follows, IsUntrue, PutsTables}
 use Rattle.slate_script.proofs.ToldLaws.{follows-itself, follows-on, shown-at-end, stores-itself, stores-on, untrue-on}
-use Rattle.slate_script.proofs.run.run_script.Given as given
-use Rattle.slate_script.proofs.run.run_script.Goals as goal
+use Rattle.slate_script.proofs.run.answer_lines.Given as given
+use Rattle.slate_script.proofs.run.answer_lines.Goals as goal
 
 same-error : {T : Type 0} (e f : SlateDBError) (r : Result T SlateDBError) → r ≡ Err e → r ≡ Err f → e ≡ f
 same-error e f r is was = cc
@@ -41,7 +43,7 @@ error-is-or e f run is (inr h) next = inr (next h)
 pub loop-line-init : goal.loop-line-init
 loop-line-init g c = record {
   told = λ script is.
-      begin (Premises (meaning_of g.M.MergeOperator.combine g.T.BlockTransformer.encoded g.T.BlockTransformer.decoded c.args.env.now.operator c.args.env.now.transformer) (g.S.Store.objects c.args.env.now.store.now)) (run_rules c.args.options.now (meaning_of g.M.MergeOperator.combine g.T.BlockTransformer.encoded g.T.BlockTransformer.decoded c.args.env.now.operator c.args.env.now.transformer)) script (g.R.Source.left c.args.source.now) (g.W.Sink.content c.args.sink.now) c.new-lines.result c.new-session.result is c.new-lines.ensures.held c.new-lines.ensures.given c.new-session.ensures.opens;
+      begin (Premises (meaning_of g.M.MergeOperator.combine g.T.BlockTransformer.encoded g.T.BlockTransformer.decoded c.args.env.now.operator c.args.env.now.transformer) (g.S.Store.objects c.args.env.now.store.now)) (run_rules c.args.options.now (meaning_of g.M.MergeOperator.combine g.T.BlockTransformer.encoded g.T.BlockTransformer.decoded c.args.env.now.operator c.args.env.now.transformer)) script (g.R.Source.left c.args.source.now) (g.W.Sink.content c.args.sink.now) c.args.tally.now c.new-lines.result c.new-session.result is c.new-lines.ensures.held c.new-lines.ensures.given c.new-session.ensures.opens;
   counted = omega arith;
   within = let none : c.new-lines.result.given ≡ 0 = c.new-lines.ensures.given in omega (arith, none);
   weighs = omega (arith, c.new-session.ensures.holds.0);
@@ -78,6 +80,7 @@ returns-in-Err g c =
         by_part = (let at = c.loop-line.invariant.told script is in
             (λ which. (replies_to meaning (run_rules c.args.options.now (meaning_of g.M.MergeOperator.combine g.T.BlockTransformer.encoded g.T.BlockTransformer.decoded c.args.env.now.operator c.args.env.now.transformer)) (lines_of at.done), at.said premises before told-is, reader-memory at)));
       };
+      counted = λ script is premises. tt;
       stored = λ script is premises. tt;
       read = λ script is. record {
         whole = (tt);
@@ -156,6 +159,7 @@ returns-in-Err-answer_line g c =
               line-memory took,
             )));
       };
+      counted = λ script is premises. tt;
       stored = λ script is premises. tt;
       read = λ script is. record {
         whole = (tt);
@@ -206,11 +210,12 @@ pub loop-line-preserved : goal.loop-line-preserved
 loop-line-preserved g c = record {
   told = λ script is.
       answer-it (Premises (meaning_of g.M.MergeOperator.combine g.T.BlockTransformer.encoded g.T.BlockTransformer.decoded c.args.env.now.operator c.args.env.now.transformer) (g.S.Store.objects c.args.env.now.store.now)) (run_rules c.args.options.now (meaning_of g.M.MergeOperator.combine g.T.BlockTransformer.encoded g.T.BlockTransformer.decoded c.args.env.now.operator c.args.env.now.transformer)) script c.as_slice.result.now (g.R.Source.left c.next.new.source) (g.W.Sink.content c.args.sink.now) (g.W.Sink.content c.loop-line.sink) (g.W.Sink.content c.answer_line.new.sink)
-      c.next.new.self (c.loop-line.number + 1) c.loop-line.session c.answer_line.new.session
+      c.args.tally.now c.loop-line.tally c.answer_line.new.tally c.next.new.self (c.loop-line.number + 1) c.loop-line.session c.answer_line.new.session
       (took-told (λ v. v.items) c.in-Ok-Some.field-0 c.in-Ok-Some.line c.as_slice.result.now (g.R.Source.left c.next.new.source) c.next.new.self c.in-Ok-Some.ensures.told c.in-Ok-Some.ensures.within c.in-Ok-Some.field-0-is c.as_slice.ensures.value (c.loop-line.invariant.told script is))
       c.in-Ok.ensures.meant
       (λ premises. c.in-Ok.ensures.stands (meaning_of g.M.MergeOperator.combine g.T.BlockTransformer.encoded g.T.BlockTransformer.decoded c.args.env.now.operator c.args.env.now.transformer) (run_rules c.args.options.now (meaning_of g.M.MergeOperator.combine g.T.BlockTransformer.encoded g.T.BlockTransformer.decoded c.args.env.now.operator c.args.env.now.transformer)) (c.loop-line.invariant.running premises))
-      (λ premises. c.in-Ok.ensures.answered (meaning_of g.M.MergeOperator.combine g.T.BlockTransformer.encoded g.T.BlockTransformer.decoded c.args.env.now.operator c.args.env.now.transformer) (run_rules c.args.options.now (meaning_of g.M.MergeOperator.combine g.T.BlockTransformer.encoded g.T.BlockTransformer.decoded c.args.env.now.operator c.args.env.now.transformer)) (c.loop-line.invariant.running premises));
+      (λ premises. c.in-Ok.ensures.answered (meaning_of g.M.MergeOperator.combine g.T.BlockTransformer.encoded g.T.BlockTransformer.decoded c.args.env.now.operator c.args.env.now.transformer) (run_rules c.args.options.now (meaning_of g.M.MergeOperator.combine g.T.BlockTransformer.encoded g.T.BlockTransformer.decoded c.args.env.now.operator c.args.env.now.transformer)) (c.loop-line.invariant.running premises))
+      (λ premises. c.in-Ok.ensures.counted (meaning_of g.M.MergeOperator.combine g.T.BlockTransformer.encoded g.T.BlockTransformer.decoded c.args.env.now.operator c.args.env.now.transformer) (run_rules c.args.options.now (meaning_of g.M.MergeOperator.combine g.T.BlockTransformer.encoded g.T.BlockTransformer.decoded c.args.env.now.operator c.args.env.now.transformer)) (c.loop-line.invariant.running premises));
   counted =
       let further : c.loop-line.lines.given < c.next.new.self.given = subst (λ o. IfSome o (λ _. c.loop-line.lines.given < c.next.new.self.given)) c.in-Ok-Some.field-0-is c.in-Ok-Some.ensures.further in
       omega (arith, c.loop-line.invariant.counted);
@@ -248,6 +253,11 @@ returns g c =
             absurd (is-no-error fault));
         by_part = (tt);
       };
+      counted = (λ script is premises.
+          let r = run_rules c.args.options.now (meaning_of g.M.MergeOperator.combine g.T.BlockTransformer.encoded g.T.BlockTransformer.decoded c.args.env.now.operator c.args.env.now.transformer) in
+          let at = c.loop-line.invariant.told script is in
+          let end = end-told (λ v. v.items) c.in-Ok-None.field-0 (g.R.Source.left c.next.new.source) c.next.new.self c.in-Ok-None.ensures.told c.in-Ok-None.field-0-is at in
+          subst (λ bs. c.loop-line.tally ≡ tallied c.args.tally.now (answers r opening (meanings meaning (lines_of bs)))) (sym (end-there c.next.new.self end.0 at end.2).0) (at.counts premises));
       stored = (λ script is premises.
           let m = meaning_of g.M.MergeOperator.combine g.T.BlockTransformer.encoded g.T.BlockTransformer.decoded c.args.env.now.operator c.args.env.now.transformer in
           let r = run_rules c.args.options.now m in
