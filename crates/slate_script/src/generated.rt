@@ -1,5 +1,5 @@
 //! A run over a script that it makes for itself.
-ghost use Rattle.std.specs.Prelude.{◌≡◌, ◌⊎◌, ◌≤◌, ◌<◌, ◌++◌, [], ℕ, List, Some, Err, OnOk, IfErr, take, length};
+ghost use Rattle.std.specs.Prelude.{◌≡◌, ◌⊎◌, ◌≤◌, [], ℕ, List, None, Some, Err, OnOk, IfErr};
 ghost use Rattle.slate_types.specs.Config.{IsValid};
 ghost use Rattle.slate_types.specs.Faults.{Rose};
 ghost use Rattle.slate_types.specs.Outside.{Puts};
@@ -11,6 +11,7 @@ ghost use Rattle.slate_db.specs.Parts.{IsTableError};
 ghost use Rattle.slate_language.specs.Generate.{generate, summary};
 ghost use Rattle.slate_language.specs.Replies.{after_lines};
 ghost use Rattle.slate_language.specs.Stage.{meaning};
+ghost use Rattle.slate_language.specs.Tally.{tally_text};
 ghost use Rattle.slate_language.specs.Words.{max_rounds};
 ghost use Rattle.slate_script.specs.Run.{run_rules, Premises, HasCause, HasTold, IsOutside, NoneRose};
 ghost use Rattle.slate_script.specs.StoredState.{IsStoredState};
@@ -115,14 +116,29 @@ pub fn run_generated<W: Sink, S: Store, M: MergeOperator, T: BlockTransformer>(
     let mut source = Script::new(script);
     let mut replies = Unwritten;
     let mut tally = Tally::new(options.start_seq);
-    answer_lines(
+    match answer_lines(
         alloc,
         &mut source,
         &mut replies,
         env,
         options,
         &mut tally,
-    )?;
-    let line = tally.text(alloc)?;
-    write_all(sink, line.as_slice())
+    ) {
+        Ok(()) => write_tally(alloc, sink, &tally),
+        Err(error) => Err(error),
+    }
+}
+
+/// Writes the line that the tally is. `WriteFault` comes only where the sink's count of faults rose, and then a front of
+/// the line was written, and not all of it. At another error nothing was written.
+fn write_tally<W: Sink>(alloc: Global, sink: &mut W, tally: &Tally) -> Result<(), SlateDBError>
+    ensures told { (before : List ℕ) → W.content sink.old ≡ Some before → HasTold (tally_text tally.now) before (W.content sink.new) result }
+    ensures cause { IfErr result (λ e. (e ≡ SlateDBError.OutOfMemory) ⊎ (e ≡ SlateDBError.WriteFault)) }
+    ensures write_fault { result ≡ Err SlateDBError.WriteFault → Rose (W.faults sink.old) (W.faults sink.new) }
+    ensures sink_still { (result ≡ Err SlateDBError.WriteFault) ⊎ (W.faults sink.new ≡ W.faults sink.old) }
+    ensures unwritten { IfErr result (λ e. (e ≡ SlateDBError.WriteFault) ⊎ (W.content sink.new ≡ W.content sink.old)) }
+    ensures later { W.faults sink.old ≤ W.faults sink.new }
+{
+    let text = tally.text(alloc)?;
+    write_all(sink, text.as_slice())
 }

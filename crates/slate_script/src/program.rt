@@ -163,8 +163,14 @@ fn main_generated<W: Sink, S: Store>(
         operator,
         transformer: transformer_of(generated.settings.mask),
     };
-    let Generated { rounds, seed, settings } = *generated;
-    match run_generated(alloc, rounds, seed, sink, &mut env, &settings.options) {
+    match run_generated(
+        alloc,
+        generated.rounds,
+        generated.seed,
+        sink,
+        &mut env,
+        &generated.settings.options,
+    ) {
         Ok(()) => 0,
         Err(error) => {
             let status = status_of(&error);
