@@ -116,14 +116,7 @@ pub fn run_generated<W: Sink, S: Store, M: MergeOperator, T: BlockTransformer>(
     let mut source = Script::new(script);
     let mut replies = Unwritten;
     let mut tally = Tally::new(options.start_seq);
-    match answer_lines(
-        alloc,
-        &mut source,
-        &mut replies,
-        env,
-        options,
-        &mut tally,
-    ) {
+    match answer_lines(alloc, &mut source, &mut replies, env, options, &mut tally) {
         Ok(()) => write_tally(alloc, sink, &tally),
         Err(error) => Err(error),
     }
