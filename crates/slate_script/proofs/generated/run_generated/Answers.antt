@@ -42,8 +42,8 @@ returns-in-Ok g c =
       puts = c.answer_lines.ensures.puts;
     }
 
-pub returns-in-Err : goal.returns-in-Err
-returns-in-Err g c =
+pub returns : goal.returns
+returns g c =
     let m = meaning_of g.M.MergeOperator.combine g.T.BlockTransformer.encoded g.T.BlockTransformer.decoded c.args.env.now.operator c.args.env.now.transformer in
     let r = run_rules c.args.options.now m in
     let script = generate c.args.rounds c.args.seed in

@@ -30,25 +30,25 @@ use Rattle.slate_script.proofs.program.run_main.Goals as goal
 
 pub returns-in-Ok : goal.returns-in-Ok
 returns-in-Ok g c =
-    let no-generated : (x : Generated) → read_generated (map string_bytes c.args.words.now) ≡ Some x → ⊥ = λ x named. generated-not-none c.parse_generated.result x (c.parse_generated.ensures.generated ∙ named) c.NONE in
+    let no-generated : (x : Generated) → read_generated (map string_bytes c.args.words.now) ≡ Some x → ⊥ = λ x named. generated-not-none c.parse_generated.result x (c.parse_generated.ensures.generated ∙ named) c.in_default.is in
     record {
       statuses = inl refl;
-      unknown = λ none other. absurd (some-not-none c.parse_words.result c.in-Some.settings c.in-Some.is (c.parse_words.ensures.settings ∙ none));
+      unknown = λ none other. absurd (some-not-none c.parse_words.result c.in-Some-parse_words.settings c.in-Some-parse_words.is (c.parse_words.ensures.settings ∙ none));
       known = λ s named two. absurd (omega (arith, two));
       unread = λ two. absurd (omega (arith, two));
       unwritten = λ two. absurd (omega (arith, two));
       unstored = λ two. absurd (omega (arith, two));
       answered = (λ s script before named is told empty zero.
-          let same : c.in-Some.settings ≡ s = same-settings c.parse_words.result c.in-Some.settings s c.in-Some.is (c.parse_words.ensures.settings ∙ named) in
+          let same : c.in-Some-parse_words.settings ≡ s = same-settings c.parse_words.result c.in-Some-parse_words.settings s c.in-Some-parse_words.is (c.parse_words.ensures.settings ∙ named) in
           subst (λ (t : Settings). g.W.Sink.content c.run_script.new.sink ≡ Some (before ++ replies (main_rules t.options) script)) same
           (c.in-Ok.ensures.said script before is told (premises {M = ℕ} (λ _ k e v. v) _ _ empty)).whole);
       stored = (λ s script named is empty zero.
-          let same : c.in-Some.settings ≡ s = same-settings c.parse_words.result c.in-Some.settings s c.in-Some.is (c.parse_words.ensures.settings ∙ named) in
+          let same : c.in-Some-parse_words.settings ≡ s = same-settings c.parse_words.result c.in-Some-parse_words.settings s c.in-Some-parse_words.is (c.parse_words.ensures.settings ∙ named) in
           let ends = λ (x : Meaning) (t : Settings) (objects : Option Objects). IsStoredState x (main_rules t.options) (layout_of t.options) objects (after_lines meaning (main_rules t.options) opening (lines_of script)) in
           let objects = g.S.Store.objects c.run_script.new.env.store.now in
           subst (λ t. ends (parts_of s.mask) s (g.S.Store.objects t)) (sym (c.store-1.given.1 (sym c.in-Ok.ensures.puts.store)))
           (subst (λ (t : Settings). ends (parts_of t.mask) t objects) same
-          (subst (λ (x : Meaning). ends x c.in-Some.settings objects) (words-are {M = ℕ} (λ _ k e v. v) c.transformer_of.result c.in-Some.settings.mask c.transformer_of.ensures)
+          (subst (λ (x : Meaning). ends x c.in-Some-parse_words.settings objects) (words-are {M = ℕ} (λ _ k e v. v) c.transformer_of.result c.in-Some-parse_words.settings.mask c.transformer_of.ensures)
           (c.in-Ok.ensures.stored script is (premises {M = ℕ} (λ _ k e v. v) _ _ empty)))));
       read = λ script other is zero. (c.in-Ok.ensures.read script is).whole;
       no_error = λ script other is zero. (c.in-Ok.ensures.read script is).no_error;
@@ -83,10 +83,10 @@ returns-in-Ok g c =
 
 pub returns-in-Err : goal.returns-in-Err
 returns-in-Err g c =
-    let no-generated : (x : Generated) → read_generated (map string_bytes c.args.words.now) ≡ Some x → ⊥ = λ x named. generated-not-none c.parse_generated.result x (c.parse_generated.ensures.generated ∙ named) c.NONE in
+    let no-generated : (x : Generated) → read_generated (map string_bytes c.args.words.now) ≡ Some x → ⊥ = λ x named. generated-not-none c.parse_generated.result x (c.parse_generated.ensures.generated ∙ named) c.in_default.is in
     record {
       statuses = rw c.status_of-status.ensures (is-status c.in-Err.error c.in-Err.ensures.cause.kinds (λ message h. none-rose-before c.run_script.new.env.operator (c.in-Err.ensures.cause.operator_fault message (ap Err h))) (λ h. none-rose c.transformer_of.result c.run_script.new.env.transformer (c.in-Err.ensures.cause.transform_fault (ap Err h))));
-      unknown = λ none other. absurd (some-not-none c.parse_words.result c.in-Some.settings c.in-Some.is (c.parse_words.ensures.settings ∙ none));
+      unknown = λ none other. absurd (some-not-none c.parse_words.result c.in-Some-parse_words.settings c.in-Some-parse_words.is (c.parse_words.ensures.settings ∙ none));
       known = λ s is two. is-ended c.in-Err.error c.in-Err.ensures.cause.kinds (inr (sym c.status_of-status.ensures ∙ two));
       unread = λ two. absurd (is-ended c.in-Err.error c.in-Err.ensures.cause.kinds (inr (sym c.status_of-status.ensures ∙ two)));
       unwritten = λ two. absurd (is-ended c.in-Err.error c.in-Err.ensures.cause.kinds (inr (sym c.status_of-status.ensures ∙ two)));
@@ -119,19 +119,19 @@ returns-in-Err g c =
       source_still = status-or c.in-Err.error ReadFault c.status_of-status.result _ c.status_of-status.ensures refl c.in-Err.ensures.source_still;
       sink_still = status-or c.in-Err.error WriteFault c.status_of-status.result _ c.status_of-status.ensures refl c.in-Err.ensures.sink_still;
       by_script = (λ s script before named is told empty which.
-          let same : c.in-Some.settings ≡ s = same-settings c.parse_words.result c.in-Some.settings s c.in-Some.is (c.parse_words.ensures.settings ∙ named) in
+          let same : c.in-Some-parse_words.settings ≡ s = same-settings c.parse_words.result c.in-Some-parse_words.settings s c.in-Some-parse_words.is (c.parse_words.ensures.settings ∙ named) in
           subst (λ (t : Settings). g.W.Sink.content c.run_script.new.sink ≡ Some (before ++ replies_to meaning (main_rules t.options) (lines_taken script))) same
           ((c.in-Err.ensures.said script before is told (premises {M = ℕ} (λ _ k e v. v) _ _ empty)).by_script (its-own (script_error script) c.in-Err.error (c.in-Err.ensures.read script is).error (status-or-either c.status_of-status.ensures which))));
       by_source = (λ s script before named is told empty five.
-          let same : c.in-Some.settings ≡ s = same-settings c.parse_words.result c.in-Some.settings s c.in-Some.is (c.parse_words.ensures.settings ∙ named) in
+          let same : c.in-Some-parse_words.settings ≡ s = same-settings c.parse_words.result c.in-Some-parse_words.settings s c.in-Some-parse_words.is (c.parse_words.ensures.settings ∙ named) in
           subst (λ (t : Settings). (left : List ℕ) × (said : List ℕ) × (g.R.Source.left c.run_script.new.source ≡ Some left) × (g.W.Sink.content c.run_script.new.sink ≡ Some (before ++ said)) × HasAnsweredAll (main_rules t.options) script left said) same
           ((c.in-Err.ensures.said script before is told (premises {M = ℕ} (λ _ k e v. v) _ _ empty)).by_source (ap Err (is-read c.in-Err.error c.in-Err.ensures.cause.kinds (sym c.status_of-status.ensures ∙ five)))));
       by_sink = (λ s script before named is told empty six.
-          let same : c.in-Some.settings ≡ s = same-settings c.parse_words.result c.in-Some.settings s c.in-Some.is (c.parse_words.ensures.settings ∙ named) in
+          let same : c.in-Some-parse_words.settings ≡ s = same-settings c.parse_words.result c.in-Some-parse_words.settings s c.in-Some-parse_words.is (c.parse_words.ensures.settings ∙ named) in
           subst (λ (t : Settings). (said : List ℕ) × (g.W.Sink.content c.run_script.new.sink ≡ Some (before ++ said)) × HasBegun (main_rules t.options) script said) same
           ((c.in-Err.ensures.said script before is told (premises {M = ℕ} (λ _ k e v. v) _ _ empty)).by_sink (ap Err (is-write c.in-Err.error c.in-Err.ensures.cause.kinds (sym c.status_of-status.ensures ∙ six)))));
       by_part = (λ s script before named is told empty which.
-          let same : c.in-Some.settings ≡ s = same-settings c.parse_words.result c.in-Some.settings s c.in-Some.is (c.parse_words.ensures.settings ∙ named) in
+          let same : c.in-Some-parse_words.settings ≡ s = same-settings c.parse_words.result c.in-Some-parse_words.settings s c.in-Some-parse_words.is (c.parse_words.ensures.settings ∙ named) in
           subst (λ (t : Settings). (said : List ℕ) × (g.W.Sink.content c.run_script.new.sink ≡ Some (before ++ said)) × HasAnswered (main_rules t.options) script said) same
           ((c.in-Err.ensures.said script before is told (premises {M = ℕ} (λ _ k e v. v) _ _ empty)).by_part (is-part c.in-Err.error c.in-Err.ensures.cause.kinds (status-or-either c.status_of-status.ensures which))));
       all = λ script is four. (c.in-Err.ensures.read script is).too_long (ap Err (is-too_long c.in-Err.error c.in-Err.ensures.cause.kinds (sym c.status_of-status.ensures ∙ four)));
@@ -147,13 +147,13 @@ returns-in-Err g c =
       summed_unwritten = λ named-g named. absurd (no-generated named-g named);
     }
 
-pub returns-in_default : goal.returns-in_default
-returns-in_default g c =
-    let no-generated : (x : Generated) → read_generated (map string_bytes c.args.words.now) ≡ Some x → ⊥ = λ x named. generated-not-none c.parse_generated.result x (c.parse_generated.ensures.generated ∙ named) c.NONE in
+pub returns-in_default-parse_words : goal.returns-in_default-parse_words
+returns-in_default-parse_words g c =
+    let no-generated : (x : Generated) → read_generated (map string_bytes c.args.words.now) ≡ Some x → ⊥ = λ x named. generated-not-none c.parse_generated.result x (c.parse_generated.ensures.generated ∙ named) c.in_default.is in
     record {
       statuses = inr (inl refl);
       unknown = λ none other. refl;
-      known = λ s named two. absurd (some-not-none c.parse_words.result s (c.parse_words.ensures.settings ∙ named) c.in_default.is);
+      known = λ s named two. absurd (some-not-none c.parse_words.result s (c.parse_words.ensures.settings ∙ named) c.in_default-parse_words.is);
       unread = λ two. refl;
       unwritten = λ two. refl;
       unstored = λ two. refl;
@@ -168,7 +168,7 @@ returns-in_default g c =
       store_fault = λ seven. absurd (omega (arith, seven));
       undamaged = λ s named empty which. absurd (omega (arith, (damage-between 2 which).0));
       untrue = λ which. absurd (omega (arith, (damage-between 2 which).0));
-      complete = λ s script named is formed empty no-read no-write no-store. absurd (some-not-none c.parse_words.result s (c.parse_words.ensures.settings ∙ named) c.in_default.is);
+      complete = λ s script named is formed empty no-read no-write no-store. absurd (some-not-none c.parse_words.result s (c.parse_words.ensures.settings ∙ named) c.in_default-parse_words.is);
       source_still = inr refl;
       sink_still = inr refl;
       by_script = λ s script before named is told empty which. neither (λ h. omega (arith, h)) (λ h. omega (arith, h)) which;
