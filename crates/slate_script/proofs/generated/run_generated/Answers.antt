@@ -1,6 +1,4 @@
-use Rattle.std.proofs.Common.{◌≡◌, ℕ, List, Some, Err, inl, inr, refl, sym, ap, subst, ◌∙◌, arith}
-use Rattle.slate_types.specs.declared.error.SlateDBError.TheVariants.{OutOfMemory, WriteFault}
-use Rattle.slate_types.proofs.Reaching.{puts_none}
+use Rattle.std.proofs.Common.{◌≡◌, Some, Err, inr, refl, ap, subst, ◌∙◌, arith}
 use Rattle.slate_store.specs.Lines.{lines_of}
 use Rattle.slate_txn.specs.State.{opening}
 use Rattle.slate_txn.specs.Step.{answers}
@@ -12,7 +10,7 @@ use Rattle.slate_language.specs.Tally.{tallied, tally_text}
 use Rattle.slate_language.proofs.RoundLaws.{generated-formed}
 use Rattle.slate_language.proofs.TallyLaws.{tally-summary}
 use Rattle.slate_script.specs.Run.{run_rules, HasTold, IsOutside}
-use Rattle.slate_script.proofs.GeneratedEnds.{formed-outside, lines-cause, lines-none, memory-no-fault, never-rose, only-cause, only-kinds, only-memory-left, told-none}
+use Rattle.slate_script.proofs.GeneratedEnds.{formed-outside, lines-cause, lines-none, never-rose, only-cause, only-kinds, only-memory-left, told-none}
 use Rattle.slate_script.proofs.LineEnds.{writing-no-damage, writing-no-error}
 use Rattle.slate_script.proofs.Running.{always}
 use Rattle.slate_script.proofs.generated.run_generated.Goals as goal

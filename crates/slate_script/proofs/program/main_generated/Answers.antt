@@ -1,4 +1,4 @@
-use Rattle.std.proofs.Common.{[], ◌≡◌, ◌⊎◌, ◌≤◌, ℕ, List, Option, inl, inr, Err, Some, sym, ap, subst, refl, ◌∙◌, arith}
+use Rattle.std.proofs.Common.{[], ◌≤◌, ℕ, Option, inl, inr, Err, sym, ap, subst, refl, ◌∙◌, arith}
 use Rattle.slate_types.specs.declared.error.SlateDBError.TheVariants.{WriteFault}
 use Rattle.slate_types.specs.Faults.{Rose}
 use Rattle.slate_types.specs.Outside.{Objects}
