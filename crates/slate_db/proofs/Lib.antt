@@ -52,3 +52,8 @@ pub mod Changes
 pub mod CommitWholes
 mod Commits
 pub mod Vouches
+mod ByKeys
+mod KeyRows
+mod Scans
+mod ScanSources
+mod ScanLists

@@ -27,4 +27,6 @@ pub mod Answered
 pub mod Shown
 pub mod Readable
 pub mod Vouched
+pub mod Scanned
+pub mod ScanLaws
 pub mod Scans
