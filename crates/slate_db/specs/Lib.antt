@@ -30,3 +30,4 @@ pub mod Vouched
 pub mod Scanned
 pub mod ScanLaws
 pub mod Scans
+pub mod OpenScans

@@ -37,10 +37,10 @@ pub(crate) enum ScanState<'a> {
 /// `MergeOperatorMissing`: no core holds one yet.
 #[derive(Drop)]
 pub struct DbIterator<'a> {
-    alloc: Global,
-    state: ScanState<'a>,
-    range: BytesRange,
-    order: IterationOrder,
+    pub(crate) alloc: Global,
+    pub(crate) state: ScanState<'a>,
+    pub(crate) range: BytesRange,
+    pub(crate) order: IterationOrder,
 }
 
 impl DbIterator<'_> {
@@ -108,8 +108,8 @@ impl DbIterator<'_> {
 /// The rows of a scan of a transaction, of which `Core::next` and `Core::seek` take and note what is read.
 #[derive(Drop)]
 pub struct TxnIterator<'a> {
-    id: Uuid,
+    pub(crate) id: Uuid,
     /// Its place among the transaction's scans.
-    scan: u64,
-    rows: DbIterator<'a>,
+    pub(crate) scan: u64,
+    pub(crate) rows: DbIterator<'a>,
 }
