@@ -57,3 +57,7 @@ mod KeyRows
 mod Scans
 mod ScanSources
 mod ScanLists
+mod ScanRows
+mod ScanWorlds
+mod ScanTables
+mod ScanOpenings
