@@ -17,4 +17,5 @@ pub mod lookup;
 pub mod open_scan;
 mod put;
 pub mod scan;
+mod values;
 pub mod vectors;
