@@ -61,4 +61,8 @@ mod ScanLists
 mod ScanRows
 mod ScanWorlds
 mod ScanTables
+mod SourceLists
 mod ScanOpenings
+mod ScanRefusals
+mod OpenNotes
+mod ScanMerges

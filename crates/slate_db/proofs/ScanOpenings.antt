@@ -46,25 +46,11 @@ use Rattle.slate_db.proofs.ScanRows.{all_brought, all_merged, all_of_keys, all_r
 use Rattle.slate_db.proofs.ScanSources.{core_scans}
 use Rattle.slate_db.proofs.ScanTables.{IsRunHere, brought_by_run, runs_here}
 use Rattle.slate_db.proofs.ScanWorlds.{AreNew, all_found, held_paths, held_runs, is_world, map_both, paths_of, runs_new, world_of}
+use Rattle.slate_db.proofs.SourceLists.{each_back}
 use Rattle.slate_db.proofs.Short.{all_append, all_filter}
 use Rattle.slate_db.proofs.Versions.{all_reverse}
 
--- ---- lists place by place
-
-pub each_both : {A B : Type 0} (R : A → B → Type 0) (xs : List A) (ys : List B) (us : List A) (vs : List B) → AreEach R xs ys → AreEach R us vs → AreEach R (xs ++ us) (ys ++ vs)
-each_both R [] [] us vs h k = k
-each_both R (x ∷ xs) (y ∷ ys) us vs h k = (h.0, each_both R xs ys us vs h.1 k)
-each_both R [] (y ∷ ys) us vs h k = absurd h
-each_both R (x ∷ xs) [] us vs h k = absurd h
-
-each_back : {A B : Type 0} (R : A → B → Type 0) (xs : List A) (ys : List B) → AreEach R xs ys → AreEach R (reverse xs) (reverse ys)
-each_back R [] [] h = tt
-each_back {A = A} {B = B} R (x ∷ xs) (y ∷ ys) h =
-    subst (λ (us : List A). AreEach R us (reverse (y ∷ ys))) (sym (reverse-append (x ∷ []) xs))
-    (subst (λ (vs : List B). AreEach R (reverse xs ++ (x ∷ [])) vs) (sym (reverse-append (y ∷ []) ys))
-    (each_both R (reverse xs) (reverse ys) (x ∷ []) (y ∷ []) (each_back R xs ys h.1) (h.0, tt)))
-each_back R [] (y ∷ ys) h = absurd h
-each_back R (x ∷ xs) [] h = absurd h
+-- ---- rows
 
 filter_all : (rows : Rows) → filter (upto_seq None) rows ≡ rows
 filter_all [] = refl
@@ -126,15 +112,15 @@ module _ {X : Type 0} {P : X → Type 0} (w : World) (order : IterationOrder) wh
   run_in range run layers (Batch it) h here = absurd h
   run_in range run layers (Memory it) h here = absurd h
 
-  can_open : (means : Rows → Type 0) (s : ScanSource {X} {P}) → IsIn means s.iterator → CanOpen w order s
+  can_open : (means : Rows → Type 0) (s : ScanSource X P) → IsIn means s.iterator → CanOpen w order s
   can_open means s h = ((h.sound, h.ordered), turn_filtered (row_before order) (upto_seq s.predicate.max_seq) (read.rest_of s.iterator w) h.turn)
 
   -- ---- the sources of several layers
 
-  abbrev rests : List (ScanSource {X} {P}) → List Rows
+  abbrev rests : List (ScanSource X P) → List Rows
   rests sources = map (λ s. read.rest_of s.iterator w) sources
 
-  record AreIn (range : BytesRange) (n : ℕ) (layers : List Rows) (sources : List (ScanSource {X} {P})) : Type 0 where
+  record AreIn (range : BytesRange) (n : ℕ) (layers : List Rows) (sources : List (ScanSource X P)) : Type 0 where
     can : AllByRecursion (CanOpen w order) sources
     bring : BringEach range layers (rests sources)
     rows : map (λ s. source_rows s w) sources ≡ map (filter (upto_seq (Some n))) (rests sources)
@@ -142,7 +128,7 @@ module _ {X : Type 0} {P : X → Type 0} (w : World) (order : IterationOrder) wh
   none_in : (range : BytesRange) (n : ℕ) → AreIn range n [] []
   none_in range n = record { can = tt; bring = tt; rows = refl }
 
-  one_in : (range : BytesRange) (n : ℕ) (rows : Rows) (layers : List Rows) (s : ScanSource {X} {P}) (sources : List (ScanSource {X} {P})) → s.predicate.max_seq ≡ Some n → IsIn (Brings range rows) s.iterator → AreIn range n layers sources →
+  one_in : (range : BytesRange) (n : ℕ) (rows : Rows) (layers : List Rows) (s : ScanSource X P) (sources : List (ScanSource X P)) → s.predicate.max_seq ≡ Some n → IsIn (Brings range rows) s.iterator → AreIn range n layers sources →
       AreIn range n (rows ∷ layers) (s ∷ sources)
   one_in range n rows layers s sources upto h later = record {
     can = (can_open (Brings range rows) s h, later.can);
@@ -150,13 +136,13 @@ module _ {X : Type 0} {P : X → Type 0} (w : World) (order : IterationOrder) wh
     rows = λ i. filter (upto_seq (upto i)) (read.rest_of s.iterator w) ∷ later.rows i;
   }
 
-  memory_all : (range : BytesRange) (n : ℕ) (layers : List Rows) (sources : List (ScanSource {X} {P})) → AreEach (IsMemorySource range order n) layers sources → AreIn range n layers sources
+  memory_all : (range : BytesRange) (n : ℕ) (layers : List Rows) (sources : List (ScanSource X P)) → AreEach (IsMemorySource range order n) layers sources → AreIn range n layers sources
   memory_all range n [] [] h = none_in range n
   memory_all range n (rows ∷ layers) (s ∷ sources) h = one_in range n rows layers s sources h.0.0 (memory_in (Brings range rows) s.iterator h.0.1) (memory_all range n layers sources h.1)
   memory_all range n [] (s ∷ sources) h = absurd h
   memory_all range n (rows ∷ layers) [] h = absurd h
 
-  runs_all : (range : BytesRange) (n : ℕ) (runs : List SortedRun) (groups : List (List Rows)) (sources : List (ScanSource {X} {P})) → AreEach (IsRunSource range order n) runs sources → AreEach (IsRunHere w) runs groups → AreIn range n (in_one groups) sources
+  runs_all : (range : BytesRange) (n : ℕ) (runs : List SortedRun) (groups : List (List Rows)) (sources : List (ScanSource X P)) → AreEach (IsRunSource range order n) runs sources → AreEach (IsRunHere w) runs groups → AreIn range n (in_one groups) sources
   runs_all range n [] [] [] h here = none_in range n
   runs_all range n (run ∷ runs) (layers ∷ groups) (s ∷ sources) h here =
       one_in range n (all_rows layers) (in_one groups) s sources h.0.0 (run_in range run layers s.iterator h.0.1 here.0) (runs_all range n runs groups sources h.1 here.1)
@@ -179,7 +165,7 @@ all_flat Q [] h = tt
 all_flat Q (rows ∷ ls) h = all_append Q rows (all_rows ls) h.0 (all_flat Q ls h.1)
 
 -- for a scan at a sequence, under own operations
-pub record ScanOpens {X : Type 0} {P : X → Type 0} (os : Objects) (m : Meaning) (c : CoreModel) (n : ℕ) (ops : Ops) (range : BytesRange) (order : IterationOrder) (sources : List (ScanSource {X} {P})) : Type 0 where
+pub record ScanOpens {X : Type 0} {P : X → Type 0} (os : Objects) (m : Meaning) (c : CoreModel) (n : ℕ) (ops : Ops) (range : BytesRange) (order : IterationOrder) (sources : List (ScanSource X P)) : Type 0 where
   pub world : World
   pub is : IsWorldOf os m world
   pub can : AllByRecursion (CanOpen world order) sources
@@ -243,8 +229,8 @@ module _ (m : Meaning) (c : CoreModel) (x : Unseen) (w : IsWhole c x) (law : IsL
   newest_runs (ls ∷ groups) =
       ap in_one (reverse-append (ls ∷ []) groups) ∙ map_both all_rows (reverse groups) (ls ∷ []) ∙ ap (λ (l : List Rows). l ++ (all_rows ls ∷ [])) (newest_runs groups) ∙ sym (reverse-append (all_rows ls ∷ []) (in_one groups))
 
-  module _ {X : Type 0} {P : X → Type 0} (os : Objects) (holds : Holds os (tables_of c.events)) (n : ℕ) (from : c.floor ≤ n) (ops : Ops) (plain : holds_merge ops ≡ false) (range : BytesRange) (order : IterationOrder) (sources : List (ScanSource {X} {P}))
-      (are : AreScanSources {X} {P} range order n ops (c.active ∷ reverse c.frozen) (reverse x.runs) sources) where
+  module _ {X : Type 0} {P : X → Type 0} (os : Objects) (holds : Holds os (tables_of c.events)) (n : ℕ) (from : c.floor ≤ n) (ops : Ops) (plain : holds_merge ops ≡ false) (range : BytesRange) (order : IterationOrder) (sources : List (ScanSource X P))
+      (are : AreScanSources range order n ops (c.active ∷ reverse c.frozen) (reverse x.runs) sources) where
     abbrev v : World
     v = world_at os holds
 

@@ -40,8 +40,8 @@ impl<'a> DbIterator<'a> {
         range: BytesRange,
         order: IterationOrder,
     ) -> DbIterator<'a>
-        ensures state { result.state ≡ ScanState.Walking rows }
-        ensures range { result.range ≡ range }
+        ensures state { result.state ≡ ScanState.Walking rows.entry }
+        ensures range { result.range ≡ range.entry }
         ensures order { result.order ≡ order }
     {
         DbIterator {
