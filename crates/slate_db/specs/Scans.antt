@@ -65,22 +65,22 @@ abbrev pub IsScanRefusal : SlateDBError → Type 0
 IsScanRefusal e = (e ≡ MergeOperatorMissing) ⊎ IsDamage e
 
 -- X, P: of the policies that tables' iterators are given
+abbrev pub ScanSource : (X : Type 0) → (X → Type 0) → Type 0
+ScanSource X P = FilterIterator (ReadSource X P) MaxSeq
+
 module _ {X : Type 0} {P : X → Type 0} where
   -- ---- the sources
 
-  abbrev pub ScanSource : Type 0
-  ScanSource = FilterIterator (ReadSource X P) MaxSeq
-
-  abbrev pub source_rows : ScanSource → World → List RowEntry
+  abbrev pub source_rows : ScanSource X P → World → List RowEntry
   source_rows s w = filter (upto_seq s.predicate.max_seq) (read.rest_of s.iterator w)
 
-  abbrev pub IsSoundSource : ScanSource → World → Type 0
+  abbrev pub IsSoundSource : ScanSource X P → World → Type 0
   IsSoundSource s w = read.IsSoundSource s.iterator w
 
-  abbrev pub order_of : ScanSource → IterationOrder
+  abbrev pub order_of : ScanSource X P → IterationOrder
   order_of s = read.order_of s.iterator
 
-  abbrev pub source_refuses : ScanSource → Meaning → List Act → Option (List ℕ) → SlateDBError → Type 0
+  abbrev pub source_refuses : ScanSource X P → Meaning → List Act → Option (List ℕ) → SlateDBError → Type 0
   source_refuses s m reads at e = read.source_refuses s.iterator m reads at e
 
   -- ---- their rows merged
@@ -144,8 +144,8 @@ module _ {X : Type 0} {P : X → Type 0} where
   pub record IsScanOf (id : List ℕ) (n : ℕ) (order : IterationOrder) (range : BytesRange) (it : TxnIterator X P) : Type 0 where
     pub named : id_of it ≡ id
     pub number : number_of it ≡ n
-    pub order : (scan_of it).order ≡ order
-    pub range : (scan_of it).range ≡ range
+    pub ordered : (scan_of it).order ≡ order
+    pub ranged : (scan_of it).range ≡ range
 
   abbrev pub LeavesIn : Objects → Meaning → TxnIterator X P → List RowEntry → Type 0
   LeavesIn os m it rows = (w : World) × IsWorldOf os m w × Leaves (scan_of it) w rows
