@@ -65,11 +65,11 @@ all_passed range key (row ∷ rows) below h = rw (past_start range key row.key b
 
 all_kept : (P : RowEntry → Type 0) (rows : List RowEntry) → AllByRecursion P rows → AllByRecursion P (filter has_value rows)
 all_kept P [] h = tt
-all_kept P (row ∷ rows) h = by (has_value row) refl
+all_kept P (row ∷ rows) h = by (has_value row) refl (all_kept P rows h.1)
   where
-    by : (b : Bool) → has_value row ≡ b → AllByRecursion P (filter has_value (row ∷ rows))
-    by true is = rw is (h.0, all_kept P rows h.1)
-    by false is = rw is (all_kept P rows h.1)
+    by : (b : Bool) → has_value row ≡ b → AllByRecursion P (filter has_value rows) → AllByRecursion P (filter has_value (row ∷ rows))
+    by true is rest = rw is (h.0, rest)
+    by false is rest = rw is rest
 
 values_within : (range : BytesRange) (rows values : List RowEntry) → HasValues range rows values → AllByRecursion (λ r. in_range range r.key ≡ true) values
 values_within range rows values h = subst (AllByRecursion (λ r. in_range range r.key ≡ true)) h.left (all_kept (λ r. in_range range r.key ≡ true) rows h.within)
@@ -85,20 +85,28 @@ on_both : {A E P Q R : Type 0} (r : Result A E) → OnOk r P → OnOk r Q → (P
 on_both (Ok a) p q f = f p q
 on_both (Err e) p q f = tt
 
-module _ {X : Type 0} {P : X → Type 0} where
-  abbrev Merged : Type 0
-  Merged = MergeIterator (ScanSource {X} {P})
+abbrev pub Merged : (X : Type 0) → (X → Type 0) → Type 0
+Merged X P = MergeIterator (ScanSource X P)
 
-  abbrev pub IsSound : Merged → World → Type 0
+-- one more way to refuse
+pub or_missing : {V : Type 0} (r : Result V SlateDBError) (a b : Reach) (Q : List Act → SlateDBError → Type 0) → IfErr r (λ e. Made a b (λ reads. IsFault a b e ⊎ Q reads e)) → IfErr r (λ e. Made a b (λ reads. IsFault a b e ⊎ ((e ≡ MergeOperatorMissing) ⊎ Q reads e)))
+or_missing r a b Q h = IfErr-weaker r _ _ (λ e k. (k.0, k.1, by e k.0 k.2)) h
+  where
+    by : (e : SlateDBError) (reads : List Act) → IsFault a b e ⊎ Q reads e → IsFault a b e ⊎ ((e ≡ MergeOperatorMissing) ⊎ Q reads e)
+    by e reads (inl k) = inl k
+    by e reads (inr k) = inr (inr k)
+
+module _ {X : Type 0} {P : X → Type 0} where
+  abbrev pub IsSound : Merged X P → World → Type 0
   IsSound u w = IsSoundMerge source_rows IsSoundSource order_of u w
 
-  pub sound_walk : (order : IterationOrder) (w : World) (x : ScanState X P) (u : Merged) → x ≡ Walking u → IsSoundIn order x w → IsSound u w × (u.order ≡ order)
+  pub sound_walk : (order : IterationOrder) (w : World) (x : ScanState X P) (u : Merged X P) → x ≡ Walking u → IsSoundIn order x w → IsSound u w × (u.order ≡ order)
   sound_walk order w x u is h = subst (λ (s : ScanState X P). IsSoundIn order s w) is h
 
-  pub values_walk : (range : BytesRange) (rows : List RowEntry) (w : World) (x : ScanState X P) (u : Merged) → x ≡ Walking u → HasValues range (left_in x w) rows → HasValues range (rest_of_merge source_rows u w) rows
+  pub values_walk : (range : BytesRange) (rows : List RowEntry) (w : World) (x : ScanState X P) (u : Merged X P) → x ≡ Walking u → HasValues range (left_in x w) rows → HasValues range (rest_of_merge source_rows u w) rows
   values_walk range rows w x u is h = subst (λ (s : ScanState X P). HasValues range (left_in s w) rows) is h
 
-  pub next_walk : (r : Result (Option KeyValue) SlateDBError) (range : BytesRange) (order : IterationOrder) (rows : List RowEntry) (w : World) (x : ScanState X P) (u v : Merged) → x ≡ Walking u →
+  pub next_walk : (r : Result (Option KeyValue) SlateDBError) (range : BytesRange) (order : IterationOrder) (rows : List RowEntry) (w : World) (x : ScanState X P) (u v : Merged X P) → x ≡ Walking u →
       (IsSound u w → HasValues range (rest_of_merge source_rows u w) rows → IfOk r (λ a. (a ≡ first_left rows) × HasValues range (rest_of_merge source_rows v w) (drop 1 rows))) → (IsSound u w → OnOk r (IsSound v w)) → v.order ≡ u.order →
       IsSoundIn order x w → HasValues range (left_in x w) rows → IfOk r (λ a. (a ≡ first_left rows) × (IsSound v w × (v.order ≡ order)) × HasValues range (rest_of_merge source_rows v w) (drop 1 rows))
   next_walk r range order rows w x u v is values still same sound has =
@@ -106,14 +114,14 @@ module _ {X : Type 0} {P : X → Type 0} where
       ok_both (λ a. (a ≡ first_left rows) × HasValues range (rest_of_merge source_rows v w) (drop 1 rows)) (λ a. (a ≡ first_left rows) × (IsSound v w × (v.order ≡ order)) × HasValues range (rest_of_merge source_rows v w) (drop 1 rows))
       r (values s.0 (values_walk range rows w x u is has)) (still s.0) (λ a h k. (h.0, (k, same ∙ s.1), h.1))
 
-  pub seek_walk : (r : Result (Unit {0}) SlateDBError) (range : BytesRange) (order : IterationOrder) (key : List ℕ) (rows : List RowEntry) (w : World) (x : ScanState X P) (u v : Merged) → x ≡ Walking u →
+  pub seek_walk : (r : Result (Unit {0}) SlateDBError) (range : BytesRange) (order : IterationOrder) (key : List ℕ) (rows : List RowEntry) (w : World) (x : ScanState X P) (u v : Merged X P) → x ≡ Walking u →
       (IsSound u w → HasValues range (rest_of_merge source_rows u w) rows → OnOk r (HasValues range (rest_of_merge source_rows v w) (drop_before u.order key rows))) → (IsSound u w → IsSound v w) → v.order ≡ u.order →
       IsSoundIn order x w → HasValues range (left_in x w) rows → OnOk r ((IsSound v w × (v.order ≡ order)) × HasValues range (rest_of_merge source_rows v w) (drop_before order key rows))
   seek_walk r range order key rows w x u v is values still same sound has =
       let s = sound_walk order w x u is sound in
       on_ok_weaker r (λ h. ((still s.0, same ∙ s.1), subst (λ (o : IterationOrder). HasValues range (rest_of_merge source_rows v w) (drop_before o key rows)) s.1 h)) (values s.0 (values_walk range rows w x u is has))
 
-  pub undamaged_walk : {V : Type 0} (r : Result V SlateDBError) (range : BytesRange) (at : Option (List ℕ)) (a b : Reach) (w : World) (x : ScanState X P) (u : Merged) → x ≡ Walking u → IsReached range at → w.meaning ≡ a.meaning → AreForIn range w.meaning x →
+  pub undamaged_walk : {V : Type 0} (r : Result V SlateDBError) (range : BytesRange) (at : Option (List ℕ)) (a b : Reach) (w : World) (x : ScanState X P) (u : Merged X P) → x ≡ Walking u → IsReached range at → w.meaning ≡ a.meaning → AreForIn range w.meaning x →
       IfErr r (λ e. IsFault a b e ⊎ Made a b (λ reads. refuses_in source_refuses u.state a.meaning reads at e × ¬ IsDamage e)) → IfErr r (IsFault a b)
   undamaged_walk r range at a b w x u is reached same meant h = IfErr-weaker r _ (IsFault a b) by h
     where
@@ -124,12 +132,12 @@ module _ {X : Type 0} {P : X → Type 0} where
       by e (inl k) = k
       by e (inr k) = absurd (k.2.1 (for k.0 at e (reached, k.2.0)))
 
-  pub sources_walk : {V : Type 0} (r : Result V SlateDBError) (range : BytesRange) (a b : Reach) (x : ScanState X P) (u v : Merged) → x ≡ Walking u →
+  pub sources_walk : {V : Type 0} (r : Result V SlateDBError) (range : BytesRange) (a b : Reach) (x : ScanState X P) (u v : Merged X P) → x ≡ Walking u →
       OnOk r (Made a b (λ reads. NoMore (refuses_in source_refuses u.state a.meaning) reads (refuses_in source_refuses v.state a.meaning))) → OnOk r (Made a b (λ reads. NoMore (SourcesRefuse range x a.meaning) reads (SourcesRefuse range (Walking v) a.meaning)))
   sources_walk r range a b x u v is h = on_ok_weaker r
       (λ k. subst (λ (s : ScanState X P). Made a b (λ reads. NoMore (SourcesRefuse range s a.meaning) reads (SourcesRefuse range (Walking v) a.meaning))) (sym is) (k.0, k.1, λ later at e f. (f.0, k.2 later at e f.1))) h
 
-  pub later_walk : {V : Type 0} (r : Result V SlateDBError) (range : BytesRange) (a b : Reach) (x : ScanState X P) (u v : Merged) → x ≡ Walking u →
+  pub later_walk : {V : Type 0} (r : Result V SlateDBError) (range : BytesRange) (a b : Reach) (x : ScanState X P) (u v : Merged X P) → x ≡ Walking u →
       OnOk r (Made a b (λ reads. NoMore (refuses_in source_refuses u.state a.meaning) reads (refuses_in source_refuses v.state a.meaning))) → OnOk r (Made a b (λ reads. NoMore (RefusesIn range x a.meaning) reads (RefusesIn range (Walking v) a.meaning)))
   later_walk r range a b x u v is h = on_ok_weaker r
       (λ k. subst (λ (s : ScanState X P). Made a b (λ reads. NoMore (RefusesIn range s a.meaning) reads (RefusesIn range (Walking v) a.meaning))) (sym is) (k.0, k.1, λ later at e f. by k.0 k.2 later at e f)) h
@@ -138,7 +146,7 @@ module _ {X : Type 0} {P : X → Type 0} where
       by reads less later at e (inl f) = inl f
       by reads less later at e (inr f) = inr (f.0, less later at e f.1)
 
-  pub cause_walk : {V : Type 0} (r : Result V SlateDBError) (range : BytesRange) (at : Option (List ℕ)) (a b : Reach) (x : ScanState X P) (u : Merged) → x ≡ Walking u → IsReached range at →
+  pub cause_walk : {V : Type 0} (r : Result V SlateDBError) (range : BytesRange) (at : Option (List ℕ)) (a b : Reach) (x : ScanState X P) (u : Merged X P) → x ≡ Walking u → IsReached range at →
       IfErr r (λ e. Made a b (λ reads. IsFault a b e ⊎ ((e ≡ MergeOperatorMissing) ⊎ refuses_in source_refuses u.state a.meaning reads at e))) → IfErr r (λ e. Made a b (λ reads. IsFault a b e ⊎ RefusesIn range x a.meaning reads at e))
   cause_walk r range at a b x u is reached h = IfErr-weaker r _ _
       (λ e k. subst (λ (s : ScanState X P). Made a b (λ reads. IsFault a b e ⊎ RefusesIn range s a.meaning reads at e)) (sym is) (k.0, k.1, by e k.0 k.2)) h
@@ -148,15 +156,7 @@ module _ {X : Type 0} {P : X → Type 0} where
       by e reads (inr (inl k)) = inr (inl k)
       by e reads (inr (inr k)) = inr (inr (reached, k))
 
-  -- one more way to refuse
-  pub or_missing : {V : Type 0} (r : Result V SlateDBError) (a b : Reach) (Q : List Act → SlateDBError → Type 0) → IfErr r (λ e. Made a b (λ reads. IsFault a b e ⊎ Q reads e)) → IfErr r (λ e. Made a b (λ reads. IsFault a b e ⊎ ((e ≡ MergeOperatorMissing) ⊎ Q reads e)))
-  or_missing r a b Q h = IfErr-weaker r _ _ (λ e k. (k.0, k.1, by e k.0 k.2)) h
-    where
-      by : (e : SlateDBError) (reads : List Act) → IsFault a b e ⊎ Q reads e → IsFault a b e ⊎ ((e ≡ MergeOperatorMissing) ⊎ Q reads e)
-      by e reads (inl k) = inl k
-      by e reads (inr k) = inr (inr k)
-
-  pub checked_walk : {V : Type 0} (r : Result V SlateDBError) (order : IterationOrder) (w : World) (a b : Reach) (x : ScanState X P) (u : Merged) (Q : Type 0) → x ≡ Walking u → (IsSound u w → OnOk r Q) → IsSoundIn order x w → OnOk r Q
+  pub checked_walk : {V : Type 0} (r : Result V SlateDBError) (order : IterationOrder) (w : World) (a b : Reach) (x : ScanState X P) (u : Merged X P) (Q : Type 0) → x ≡ Walking u → (IsSound u w → OnOk r Q) → IsSoundIn order x w → OnOk r Q
   checked_walk r order w a b x u Q is h sound = h (sound_walk order w x u is sound).0
 
   -- no row is left

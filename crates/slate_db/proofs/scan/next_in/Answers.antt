@@ -28,11 +28,11 @@ returns-in-Walking g c =
 
 pub returns-in-Done : goal.returns-in-Done
 returns-in-Done g c = record {
-  rows = λ w range order rows sees sound has. none_left range order rows w c.args.state.now _ c.in-Done.is refl has;
+  rows = λ w range order rows sees sound has. none_left range order rows w c.args.state.now c.args.state.now c.in-Done.is c.in-Done.is has;
   undamaged = λ w range order rows sees sound has meant. tt;
   checked = λ w order sound. checks_none w _;
-  sources = λ range. ([], call_none _, λ later at e h. absurd h);
-  later = λ range. ([], call_none _, λ later at e h. absurd h);
+  sources = λ range. ([], call_none _, λ later at e h. h);
+  later = λ range. ([], call_none _, λ later at e h. h);
   cause = λ range. tt;
   reads = reads_none _;
 }

@@ -48,7 +48,7 @@ returns-in-Err g c =
       later = tt;
       cause = n.cause;
       again = n.again;
-      names = record { named = refl; number = refl; order = n.order; range = n.range };
+      names = record { named = refl; number = refl; ordered = n.order; ranged = n.range };
       left = λ m rows h. tt;
       vouched = λ w rows h sees left. tt;
       same = refl;
@@ -70,7 +70,7 @@ returns-in-Err-note_next g c =
       later = tt;
       cause = (n.later.0, n.later.1, inl (subst (IsCounted _ _) (sym (r.same ∙ c.from.ensures)) tt));
       again = rw r.same r.again;
-      names = record { named = refl; number = refl; order = r.order ∙ n.order; range = r.range ∙ n.range };
+      names = record { named = refl; number = refl; ordered = r.order ∙ n.order; ranged = r.range ∙ n.range };
       left = λ m rows h. tt;
       vouched = λ w rows h sees left. tt;
       same = ap view_of unmoved ∙ c.self.view_is;
@@ -105,7 +105,7 @@ returns g c =
       later = n.later;
       cause = tt;
       again = tt;
-      names = record { named = refl; number = refl; order = n.order; range = n.range };
+      names = record { named = refl; number = refl; ordered = n.order; ranged = n.range };
       left = λ p rows h. subst (λ (v : CoreModel). HasLeft p v (record it { rows = c.next.new.self }) (drop 1 rows)) (sym (noted_is g c))
           (next_left p c.args.self.now it (record it { rows = c.next.new.self }) c.in-Ok.answer rows refl refl n.order h);
       vouched = λ w rows h sees left other k. subst (λ (v : CoreModel). IsVouchedFor m v other) (sym (noted_is g c)) (vouched_next m c.args.self.now it other c.in-Ok.answer rows left (n.rows w rows h sees).0 k);

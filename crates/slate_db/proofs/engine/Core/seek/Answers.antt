@@ -48,7 +48,7 @@ returns-in-Err g c =
       later = tt;
       cause = n.cause;
       again = n.again;
-      names = record { named = refl; number = refl; order = n.order; range = n.range };
+      names = record { named = refl; number = refl; ordered = n.order; ranged = n.range };
       left = λ m rows h. tt;
       vouched = tt;
       same = refl;
@@ -70,7 +70,7 @@ returns-in-Err-note_seek g c =
       later = tt;
       cause = (n.later.0, n.later.1, inl (subst (IsCounted _ _) (sym (r.same ∙ c.from.ensures)) tt));
       again = rw r.same r.again;
-      names = record { named = refl; number = refl; order = r.order ∙ n.order; range = r.range ∙ n.range };
+      names = record { named = refl; number = refl; ordered = r.order ∙ n.order; ranged = r.range ∙ n.range };
       left = λ m rows h. tt;
       vouched = tt;
       same = ap view_of unmoved ∙ c.self.view_is;
@@ -104,7 +104,7 @@ returns g c =
       later = n.later;
       cause = tt;
       again = tt;
-      names = record { named = refl; number = refl; order = n.order; range = n.range };
+      names = record { named = refl; number = refl; ordered = n.order; ranged = n.range };
       left = λ p rows h. subst (λ (v : CoreModel). HasLeft p v (record it { rows = c.seek.new.self }) (drop_before it.rows.order c.args.key.now rows)) (sym (noted_is g c))
           (seek_left p c.args.self.now it (record it { rows = c.seek.new.self }) c.args.key.now rows refl refl n.order h);
       vouched = λ p other k. subst (λ (v : CoreModel). IsVouchedFor p v other) (sym (noted_is g c)) (vouched_seek p c.args.self.now it other c.args.key.now c.requires k);
