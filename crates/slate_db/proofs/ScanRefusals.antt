@@ -74,8 +74,8 @@ module _ {X : Type 0} {P : X → Type 0} (m : Meaning) (range : BytesRange) (ord
   run_shows run (Run it) at among open_at h r = by (runs_show range run order it.rows h m reads at e r)
     where
       by : (e ≡ IteratorNotInitialized) ⊎ RefusesSeek range at e ⊎ (IsDamage e × ShowsAmong m.decode run.tables.items reads e) → IsShown m hs reads e
-      by (inl no) = absurd (begun no)
-      by (inr (inl no)) = reached range at e open_at no
+      by (inl bad) = absurd (begun bad)
+      by (inr (inl bad)) = reached range at e open_at bad
       by (inr (inr (damage, (table, there, shows)))) = (damage, (table, among table there, shows))
   run_shows run (Empty it) at among open_at h r = absurd h
   run_shows run (Internal it) at among open_at h r = absurd h

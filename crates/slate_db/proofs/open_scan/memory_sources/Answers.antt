@@ -12,9 +12,9 @@ loop-at-init g c =
     let made = c.in_ok-source.ensures in
     record {
       within = omega arith;
-      each = sources_none _ (c.args.active.now.rows ∷ []) (map (λ (t : ImmutableMemtable). t.rows) c.args.frozen.now) (length c.args.frozen.now) c.push.new.self.items
+      each = sources_none (IsMemorySource c.args.range.now c.args.order c.args.begin) (c.args.active.now.rows ∷ []) (map (λ (t : ImmutableMemtable). t.rows) c.args.frozen.now) (length c.args.frozen.now) c.push.new.self.items
           (omega (arith, length-map c.args.frozen.now (λ (t : ImmutableMemtable). t.rows)))
-          (sources_first _ c.args.active.now.rows c.in_ok-source.source c.new-sources.result.items c.push.new.self.items c.new-sources.ensures.items c.in_ok-push.ensures.items
+          (sources_first (IsMemorySource c.args.range.now c.args.order c.args.begin) c.args.active.now.rows c.in_ok-source.source c.new-sources.result.items c.push.new.self.items c.new-sources.ensures.items c.in_ok-push.ensures.items
           (memory_is c.args.range.now c.args.order c.args.begin c.args.active.now.rows c.in_ok-rows.rows c.in_ok-source.source made.iterator made.predicate (record { rows = one.rows; in_order = one.in_order; turn = one.turn; same_order = one.order })));
     }
 
@@ -27,7 +27,7 @@ loop-at-preserved g c =
     let made = c.in_ok-source-2.ensures in
     record {
       within = omega (arith, c.loop-at.invariant.within);
-      each = sources_more _ (c.args.active.now.rows ∷ []) (map (λ (t : ImmutableMemtable). t.rows) c.args.frozen.now) i c.index-frozen-at.result.rows c.loop-at.sources.items c.push-in-loop-at.new.self.items c.in_ok-source-2.source
+      each = sources_more (IsMemorySource c.args.range.now c.args.order c.args.begin) (c.args.active.now.rows ∷ []) (map (λ (t : ImmutableMemtable). t.rows) c.args.frozen.now) i c.index-frozen-at.result.rows c.loop-at.sources.items c.push-in-loop-at.new.self.items c.in_ok-source-2.source
           (mapped_here (λ (t : ImmutableMemtable). t.rows) c.args.frozen.now i c.index-frozen-at.result c.index-frozen-at.is below)
           c.in_ok-push-2.ensures.items
           (memory_is c.args.range.now c.args.order c.args.begin c.index-frozen-at.result.rows c.in_ok-rows-2.rows c.in_ok-source-2.source made.iterator made.predicate (record { rows = one.rows; in_order = one.in_order; turn = one.turn; same_order = one.order }))
@@ -36,6 +36,6 @@ loop-at-preserved g c =
 
 pub returns : goal.returns
 returns g c = record {
-  each = sources_end _ (c.args.active.now.rows ∷ []) (map (λ (t : ImmutableMemtable). t.rows) c.args.frozen.now) c.loop-at.at c.loop-at.sources.items (omega (arith, c.loop-at-test.false)) c.loop-at.invariant.each;
+  each = sources_end (IsMemorySource c.args.range.now c.args.order c.args.begin) (c.args.active.now.rows ∷ []) (map (λ (t : ImmutableMemtable). t.rows) c.args.frozen.now) c.loop-at.at c.loop-at.sources.items (omega (arith, c.loop-at-test.false)) c.loop-at.invariant.each;
   cause = tt;
 }
