@@ -43,6 +43,8 @@ mod Loads
 mod Steps
 mod Notes
 mod Passing
+mod ScanStates
+mod ScanNotes
 mod Refused
 mod Plain
 pub mod Managing

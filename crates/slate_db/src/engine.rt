@@ -534,7 +534,15 @@ impl Core {
         ensures settings { self.new.settings ≡ self.old.settings }
         ensures reads { let reach = ⟦<EnvOf<S, M, T> as Outside>⟧.reach in OnlyReads (reach env.old) (reach env.new) }
     {
-        unreachable!()
+        let answer = match it.rows.next(env) {
+            Ok(answer) => answer,
+            Err(error) => return Err(error),
+        };
+        if let Err(error) = self.transactions.note_next(self.alloc, &it.id, it.scan, &answer) {
+            drop(answer);
+            return Err(it.rows.refuse(SlateDBError::from(error)));
+        }
+        Ok(answer)
     }
 
     /// Drops the leading rows of a scan that its order puts before the key, which is noted in the transcript of the scan's
@@ -562,7 +570,13 @@ impl Core {
         ensures settings { self.new.settings ≡ self.old.settings }
         ensures reads { let reach = ⟦<EnvOf<S, M, T> as Outside>⟧.reach in OnlyReads (reach env.old) (reach env.new) }
     {
-        unreachable!()
+        if let Err(error) = it.rows.seek(key, env) {
+            return Err(error);
+        }
+        if let Err(error) = self.transactions.note_seek(self.alloc, &it.id, it.scan, key) {
+            return Err(it.rows.refuse(SlateDBError::from(error)));
+        }
+        Ok(())
     }
 
     /// Puts a value in an open transaction. Refuses by `EmptyKey`, by `KeyTooLong` above 65535 bytes, by `ValueTooLong` above
