@@ -14,6 +14,7 @@ use Rattle.slate_types.specs.Rows.{is_base}
 use Rattle.slate_types.specs.World.{AnswersWorld, IsCall, Made, Sees, World}
 use Rattle.slate_types.proofs.Calls.{seen}
 use Rattle.slate_mem.specs.Batch.{Ops}
+use Rattle.slate_mem.specs.BatchModel.{holds_merge}
 use Rattle.slate_read.specs.declared.merge_iterator.MergeIterator.{MergeIterator}
 use Rattle.slate_read.specs.declared.merge_iterator.MergeState.{MergeState}
 use Rattle.slate_read.specs.declared.merge_iterator.MergeState.TheVariants.{Begun, New, Refused}
@@ -30,23 +31,34 @@ use Rattle.slate_db.specs.Installs.{handles_of}
 use Rattle.slate_db.specs.Meaning.{rules_of}
 use Rattle.slate_db.specs.Model.{CoreModel, Rows}
 use Rattle.slate_db.specs.OpenScans.{AreScanSources, CanOpen, IsBlamedFor, merged_rows}
+use Rattle.slate_db.specs.Readable.{IsAnswered}
 use Rattle.slate_db.specs.Scans.{AreForIn, IsFor, IsReached, IsRefusedByScan, IsScanError, IsSoundIn, IsSoundSource, IsWorldOf, Leaves, RefusesIn, ScanRefuses, ScanSource, has_value, left_in, order_of, source_refuses, source_rows}
 use Rattle.slate_db.specs.Whole.{IsWhole, Unseen}
 use Rattle.slate_db.proofs.Runs.{all_handles}
-use Rattle.slate_db.proofs.ScanOpenings.{ScanOpens}
+use Rattle.slate_db.proofs.ScanOpenings.{ScanOpens, scan_opens}
 use Rattle.slate_db.proofs.ScanRefusals.{IsShown, blamed_shows}
+use Rattle.slate_db.proofs.ScanWorlds.{sees_world}
 
 -- ---- a merge that was begun
 
 pub waiting_blamed : {S : Type 0} (refuses : S → Meaning → List Act → Option (List ℕ) → SlateDBError → Type 0) (sources : List S) (s : MergeState S) → WaitingAre sources s → (m : Meaning) (reads : List Act) (at : Option (List ℕ)) (e : SlateDBError) →
     e ≢ IteratorNotInitialized → refuses_in refuses s m reads at e → (e ≢ IteratorNotInitialized) × blames refuses (waiting_sources sources) m reads at e
-waiting_blamed refuses sources (New waiting) is m reads at e begun (inl no) = absurd (begun no)
+waiting_blamed refuses sources (New waiting) is m reads at e begun (inl bad) = absurd (begun bad)
 waiting_blamed {S = S} refuses sources (New waiting) is m reads at e begun (inr b) = (begun, subst (λ (l : List S). blames refuses (waiting_sources l) m reads at e) is b)
 waiting_blamed refuses sources (Begun heads) is m reads at e begun h = absurd is
 waiting_blamed refuses sources (Refused k) is m reads at e begun h = absurd is
 
 pub begun_refuses : (r : Refusals) → IsReady r → (reads : List Act) (at : Option (List ℕ)) (e : SlateDBError) → r reads at e → e ≢ IteratorNotInitialized
 begun_refuses r ready reads at e h is = ready reads at (subst (r reads at) is h)
+
+-- what the refusal of an opening is blamed on
+pub refusal_blamed : {S : Type 0} (refuses : S → Meaning → List Act → Option (List ℕ) → SlateDBError → Type 0) (sources : List S) (s : MergeState S) → WaitingAre sources s → (a b : Reach) (error refusal : SlateDBError) →
+    ((refusal ≡ error) × (error ≢ IteratorNotInitialized)) ⊎ (refusal ≡ OutOfMemory) → (reads : List Act) → IsCall a b reads → IsFault a b error ⊎ refuses_in refuses s a.meaning reads None error →
+    Made a b (λ reads. IsFault a b refusal ⊎ ((refusal ≢ IteratorNotInitialized) × blames refuses (waiting_sources sources) a.meaning reads None refusal))
+refusal_blamed refuses sources s waits a b error refusal (inr memory) reads call cause = (reads, call, inl (subst (IsFault a b) (sym memory) tt))
+refusal_blamed refuses sources s waits a b error refusal (inl (same, begun)) reads call (inl fault) = (reads, call, inl (subst (IsFault a b) (sym same) fault))
+refusal_blamed refuses sources s waits a b error refusal (inl (same, begun)) reads call (inr r) =
+    (reads, call, inr (subst (λ (e : SlateDBError). (e ≢ IteratorNotInitialized) × blames refuses (waiting_sources sources) a.meaning reads None e) (sym same) (waiting_blamed refuses sources s waits a.meaning reads None error begun r)))
 
 -- ---- what is left
 
@@ -115,3 +127,24 @@ module _ {X : Type 0} {P : X → Type 0} (m : Meaning) (c : CoreModel) (x : Unse
       undamaged [] can some = absurd some
       undamaged (s ∷ ss) can (inl r) = read.source_whole s.iterator o.world reads None e can.0.0.0 each (subst (λ (k : Meaning). source_refuses s k reads None e) (sym o.is.meaning) r)
       undamaged (s ∷ ss) can (inr r) = undamaged ss can.1 r
+
+-- ---- a scan of a core
+
+module _ {X : Type 0} {P : X → Type 0} (before after : Reach) (c : CoreModel) (x : Unseen) (w : IsWhole c x) (range : BytesRange) (order : IterationOrder) (n : ℕ) (ops : Ops) (plain : holds_merge ops ≡ false) (from : c.floor ≤ n) (sources : List (ScanSource X P))
+    (are : AreScanSources range order n ops (c.active ∷ reverse c.frozen) (reverse x.runs) sources) (a : IsAnswered before after c) where
+  opens : ScanOpens a.os before.meaning c n ops range order sources
+  opens = scan_opens before.meaning c x w a.readable.lawful a.readable.kept a.os a.readable.holds n from ops plain range order sources are
+
+  sees : Sees opens.world before after
+  sees = sees_world a.os opens.world before after opens.is.meaning opens.is.holds a.answers
+
+  pub scan_leaves : (rows : MergeIterator (ScanSource X P)) (it : DbIterator X P) → it.state ≡ Walking rows → it.range ≡ range → it.order ≡ order → rows.order ≡ order →
+      ((v : World) → AllByRecursion (CanOpen v order) sources → Sees v before after → IsSoundMerge source_rows IsSoundSource order_of rows v) →
+      ((v : World) → AllByRecursion (CanOpen v order) sources → Sees v before after → rest_of_merge source_rows rows v ≡ merged_rows order v sources) → (reads : List Act) → LaterBlamed before.meaning c x w range order n ops (c.active ∷ reverse c.frozen) sources are rows reads →
+      (v : World) × IsWorldOf a.os before.meaning v × Leaves it v (rows_seen (rules_of c.settings before.meaning) c.state.commits n ops order range)
+  scan_leaves rows it state_is range_is order_is same sound rest reads blamed =
+      opened_leaves a.os before.meaning c n ops range order sources opens rows it state_is range_is order_is same (sound opens.world opens.can sees) (rest opens.world opens.can sees)
+      (sources_for before.meaning c x w range order n ops (c.active ∷ reverse c.frozen) sources are rows reads blamed)
+
+  pub scan_undamaged : (e : SlateDBError) → Made before after (λ reads. IsFault before after e ⊎ IsBlamedFor sources before.meaning reads None e) → IsFault before after e
+  scan_undamaged e made = opening_undamaged before.meaning c x w range order n ops (c.active ∷ reverse c.frozen) sources are a.os before after e opens sees made

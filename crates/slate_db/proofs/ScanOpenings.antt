@@ -80,6 +80,13 @@ module _ (range : BytesRange) (ops : Ops) (own : Rows) (has : HasOwn range ops o
   own_all_bases : holds_merge ops ≡ false → AllByRecursion (λ r. is_base r ≡ true) own
   own_all_bases plain = own_of_range (λ r. is_base r ≡ true) (λ k within. own_bases k (reverse (kept ops k)) (all_reverse (λ op. replaces op ≡ true) (kept ops k) (kept_replace ops k plain)))
 
+-- what is true of all rows of the layers in the range
+all_lists : (Q : RowEntry → Type 0) (range : BytesRange) (n : ℕ) (layers : List Rows) (lists : List Rows) → BringEach range layers lists → AllByRecursion (λ rows. AllByRecursion Q (ranged range rows)) layers → AllByRecursion (AllByRecursion Q) (map (filter (upto_seq (Some n))) lists)
+all_lists Q range n [] [] h k = tt
+all_lists Q range n (rows ∷ layers) (list ∷ lists) h k = (all_filter Q (upto_seq (Some n)) list (all_brought Q (ranged range rows) list h.0 k.0), all_lists Q range n layers lists h.1 k.1)
+all_lists Q range n [] (list ∷ lists) h k = absurd h
+all_lists Q range n (rows ∷ layers) [] h k = absurd h
+
 module _ {X : Type 0} {P : X → Type 0} (w : World) (order : IterationOrder) where
   -- ---- one source
 
@@ -151,13 +158,6 @@ module _ {X : Type 0} {P : X → Type 0} (w : World) (order : IterationOrder) wh
   runs_all range n [] (layers ∷ groups) [] h here = absurd here
   runs_all range n (run ∷ runs) [] (s ∷ sources) h here = absurd here
 
-  -- what is true of all rows of the layers in the range
-  all_lists : (Q : RowEntry → Type 0) (range : BytesRange) (n : ℕ) (layers : List Rows) (lists : List Rows) → BringEach range layers lists → AllByRecursion (λ rows. AllByRecursion Q (ranged range rows)) layers → AllByRecursion (AllByRecursion Q) (map (filter (upto_seq (Some n))) lists)
-  all_lists Q range n [] [] h k = tt
-  all_lists Q range n (rows ∷ layers) (list ∷ lists) h k = (all_filter Q (upto_seq (Some n)) list (all_brought Q (ranged range rows) list h.0 k.0), all_lists Q range n layers lists h.1 k.1)
-  all_lists Q range n [] (list ∷ lists) h k = absurd h
-  all_lists Q range n (rows ∷ layers) [] h k = absurd h
-
 -- ---- all sources of a scan
 
 all_flat : (Q : RowEntry → Type 0) (ls : List Rows) → AllByRecursion (AllByRecursion Q) ls → AllByRecursion Q (all_rows ls)
@@ -185,11 +185,11 @@ module _ (m : Meaning) (c : CoreModel) (x : Unseen) (w : IsWhole c x) (law : IsL
 
   runs_paths : (os : Objects) (runs : List (List (Ulid × List ℕ))) (kept : List SortedRun) (groups : List (List Rows)) (s : AreStoredRuns m os kept groups) → AreRuns runs kept → map (λ e. e.0) (held_runs m os kept groups s) ≡ paths_of (flat_map (λ ts. ts) runs)
   runs_paths os [] [] [] s are = refl
-  runs_paths os (ts ∷ runs) (run ∷ kept) (layers ∷ groups) s are =
+  runs_paths os (ts ∷ runs) (run ∷ kept) (ls ∷ groups) s are =
       map_both (λ e. e.0) _ (held_runs m os kept groups s.1)
-      ∙ (λ i. held_paths m os ts run.tables.items layers s.0 are.0.handles i ++ runs_paths os runs kept groups s.1 are.1 i)
+      ∙ (λ i. held_paths m os ts run.tables.items ls s.0 are.0.handles i ++ runs_paths os runs kept groups s.1 are.1 i)
       ∙ sym (map_both (λ t. path_of root t.0.0) ts (flat_map (λ us. us) runs))
-  runs_paths os runs [] (layers ∷ groups) s are = absurd s
+  runs_paths os runs [] (ls ∷ groups) s are = absurd s
   runs_paths os runs (run ∷ kept) [] s are = absurd s
   runs_paths os [] (run ∷ kept) groups s are = absurd are
   runs_paths os (ts ∷ runs) [] groups s are = absurd are
@@ -266,8 +266,8 @@ module _ (m : Meaning) (c : CoreModel) (x : Unseen) (w : IsWhole c x) (law : IsL
         (all_merged Q order (left_of n own_list lists) (own,
         subst (AllByRecursion (AllByRecursion Q)) (sym (map_both (filter (upto_seq (Some n))) (rests v order are.in_memory) (rests v order are.in_runs)))
         (all_append (AllByRecursion Q) (map (filter (upto_seq (Some n))) (rests v order are.in_memory)) (map (filter (upto_seq (Some n))) (rests v order are.in_runs))
-        (all_lists v order Q range n (reverse (memory c)) (rests v order are.in_memory) in_memory.bring (all_reverse _ (memory c) in_mem))
-        (all_lists v order Q range n (reverse (in_one runs_of_core.groups)) (rests v order are.in_runs) in_runs.bring (all_reverse _ (in_one runs_of_core.groups) in_run)))))
+        (all_lists Q range n (reverse (memory c)) (rests v order are.in_memory) in_memory.bring (all_reverse _ (memory c) in_mem))
+        (all_lists Q range n (reverse (in_one runs_of_core.groups)) (rests v order are.in_runs) in_runs.bring (all_reverse _ (in_one runs_of_core.groups) in_run)))))
 
     every_within : (ls : List Rows) → AllByRecursion (λ rows. AllByRecursion (λ r. in_range range r.key ≡ true) (ranged range rows)) ls
     every_within [] = tt

@@ -74,8 +74,8 @@ module _ {X : Type 0} {P : X → Type 0} (m : Meaning) (range : BytesRange) (ord
   run_shows run (Run it) at among open_at h r = by (runs_show range run order it.rows h m reads at e r)
     where
       by : (e ≡ IteratorNotInitialized) ⊎ RefusesSeek range at e ⊎ (IsDamage e × ShowsAmong m.decode run.tables.items reads e) → IsShown m hs reads e
-      by (inl no) = absurd (begun no)
-      by (inr (inl no)) = reached range at e open_at no
+      by (inl bad) = absurd (begun bad)
+      by (inr (inl bad)) = reached range at e open_at bad
       by (inr (inr (damage, (table, there, shows)))) = (damage, (table, among table there, shows))
   run_shows run (Empty it) at among open_at h r = absurd h
   run_shows run (Internal it) at among open_at h r = absurd h
@@ -103,16 +103,13 @@ module _ {X : Type 0} {P : X → Type 0} (m : Meaning) (range : BytesRange) (ord
 pub blamed_shows : {X : Type 0} {P : X → Type 0} (m : Meaning) (range : BytesRange) (order : IterationOrder) (n : ℕ) (ops : Ops) (layers : List Rows) (runs : List SortedRun) (sources : List (ScanSource X P)) → AreScanSources range order n ops layers (reverse runs) sources →
     (reads : List Act) (at : Option (List ℕ)) (e : SlateDBError) → IsReached range at → IsBlamedFor sources m reads at e → IsShown m (handles_of runs) reads e
 blamed_shows {X = X} {P = P} m range order n ops layers runs sources are reads at e open_at (begun, inr none) = absurd none
-blamed_shows {X = X} {P = P} m range order n ops layers runs sources are reads at e open_at (begun, inl some) = by (subst (AnyByRecursion R) are.are some)
+blamed_shows {X = X} {P = P} m range order n ops layers runs sources are reads at e open_at (begun, inl some) = by (subst (AnyByRecursion (Refuses {X = X} {P = P} m range order reads e begun (handles_of runs) at)) are.are some)
   where
-    abbrev R : ScanSource X P → Type 0
-    R s = either_refusal (λ t. source_refuses t m reads) at s e
-
-    later : AnyByRecursion R are.in_memory ⊎ AnyByRecursion R are.in_runs → IsShown m (handles_of runs) reads e
+    later : AnyByRecursion (Refuses {X = X} {P = P} m range order reads e begun (handles_of runs) at) are.in_memory ⊎ AnyByRecursion (Refuses {X = X} {P = P} m range order reads e begun (handles_of runs) at) are.in_runs → IsShown m (handles_of runs) reads e
     later (inl r) = memory_none m range order reads e begun (handles_of runs) n layers are.in_memory at are.of_memory r
     later (inr r) = some_run m range order reads e begun (handles_of runs) n (reverse runs) are.in_runs at (all_reverse (AreAmong (handles_of runs)) runs (all_among runs)) open_at are.of_runs r
 
-    by : AnyByRecursion R (are.own ∷ (are.in_memory ++ are.in_runs)) → IsShown m (handles_of runs) reads e
+    by : AnyByRecursion (Refuses {X = X} {P = P} m range order reads e begun (handles_of runs) at) (are.own ∷ (are.in_memory ++ are.in_runs)) → IsShown m (handles_of runs) reads e
     by (inl (inl r)) = memory_silent m range order reads e begun (handles_of runs) _ are.own.iterator at are.of_own.1 r
     by (inl (inr r)) = memory_silent m range order reads e begun (handles_of runs) _ are.own.iterator None are.of_own.1 r
-    by (inr r) = later (any_both R are.in_memory are.in_runs r)
+    by (inr r) = later (any_both (Refuses {X = X} {P = P} m range order reads e begun (handles_of runs) at) are.in_memory are.in_runs r)

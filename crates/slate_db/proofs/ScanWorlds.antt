@@ -65,7 +65,7 @@ pub record IsTableHeld (m : Meaning) (os : Objects) (h : SsTableHandle) (rows : 
 pub table_held : (m : Meaning) (os : Objects) (h : SsTableHandle) (rows : Rows) → IsStoredAs m os h rows → IsTableHeld m os h rows
 table_held m os h rows s =
     let t = s.is.is in
-    let same : h.format_version ≡ s.is.written = version_same m.encode s.bytes h.format_version (seen_info h.info) s.is.written t.0 t.1 t.2.0 s.is.info in
+    let same : h.format_version ≡ s.is.written = version_same m.encode s.bytes h.format_version (seen_info h.info) s.is.written t.0 t.1 t.2 s.is.info in
     record {
       bytes = s.bytes;
       blocks = t.0;
@@ -73,9 +73,9 @@ table_held m os h rows s =
       lawful = s.lawful;
       there = ap (λ (l : Objects). object_at l (path_of root h.id.0)) (same_Some _ _ s.told) ∙ s.there;
       each = s.each;
-      is = subst (λ v. IsTableOf m.encode s.bytes v t.0 t.1) (sym same) t.2.0;
+      is = subst (λ v. IsTableOf m.encode s.bytes v t.0 t.1) (sym same) t.2;
       info = s.is.info;
-      rows_are = t.2.1 ∙ ap (λ v. map (as_read v) (flat_map (λ b. b) t.0)) (sym same);
+      rows_are = t.3 ∙ ap (λ v. map (as_read v) (flat_map (λ b. b) t.0)) (sym same);
     }
 
 abbrev pub kept_in : (m : Meaning) (os : Objects) (h : SsTableHandle) (rows : Rows) → IsStoredAs m os h rows → Kept
@@ -195,11 +195,11 @@ runs_there m os (run ∷ runs) [] s = absurd s
 
 found_there : (os : Objects) (here : Held) (path : List ℕ) (kept : Kept) → AllByRecursion (λ e. object_at os e.0 ≡ Some e.1.bytes) here → find_named path here ≡ Some kept → object_at os path ≡ Some kept.bytes
 found_there os [] path kept h is = cc
-found_there os (e ∷ here) path kept h is = by (bytes_eq e.0 path) refl is
+found_there os (e ∷ here) path kept h is = by (bytes_eq e.0 path) refl is (found_there os here path kept h.1)
   where
-    by : (b : Bool) → bytes_eq e.0 path ≡ b → cond b (Some e.1) (find_named path here) ≡ Some kept → object_at os path ≡ Some kept.bytes
-    by true same is = ap (object_at os) (sym ((bytes_eq-Decides e.0 path).0 same)) ∙ h.0 ∙ ap (λ (k : Kept). Some k.bytes) (same_Some _ _ is)
-    by false same is = found_there os here path kept h.1 is
+    by : (b : Bool) → bytes_eq e.0 path ≡ b → cond b (Some e.1) (find_named path here) ≡ Some kept → (find_named path here ≡ Some kept → object_at os path ≡ Some kept.bytes) → object_at os path ≡ Some kept.bytes
+    by true same is later = ap (object_at os) (sym ((bytes_eq-Decides e.0 path).0 same)) ∙ h.0 ∙ ap (λ (k : Kept). Some k.bytes) (same_Some _ _ is)
+    by false same is later = later is
 
 pub is_world : (m : Meaning) (os : Objects) (runs : List SortedRun) (groups : List (List Rows)) (s : AreStoredRuns m os runs groups) → IsWorldOf os m (world_of m (held_runs m os runs groups s))
 is_world m os runs groups s = record { meaning = refl; holds = λ path kept is. found_there os (held_runs m os runs groups s) path kept (runs_there m os runs groups s) is }

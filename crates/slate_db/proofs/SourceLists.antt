@@ -1,7 +1,21 @@
 -- Lists of sources, place by place.
-use Rattle.std.proofs.Common.{◌≡◌, ℕ, ◌+◌, ◌≤◌, List, [], ◌∷◌, ◌++◌, drop, length, reverse, refl, sym, ap, subst, ◌∙◌, arith, append-nil, append_assoc}
+use Rattle.std.proofs.Common.{◌≡◌, ℕ, ◌+◌, ◌≤◌, List, [], ◌∷◌, ◌++◌, drop, length, reverse, Option, Some, None, refl, sym, ap, subst, ◌∙◌, arith, append-nil, append_assoc}
 use Rattle.std.proofs.lemmas.List.{drop_all, reverse-append}
-use Rattle.slate_db.specs.OpenScans.{AreEach}
+use Rattle.slate_types.specs.declared.bytes_range.BytesRange.{BytesRange}
+use Rattle.slate_types.specs.declared.iter.IterationOrder.{IterationOrder}
+use Rattle.slate_types.specs.Iteration.{RowList}
+use Rattle.slate_mem.specs.Batch.{Ops}
+use Rattle.slate_read.specs.declared.read_source.ReadSource.{ReadSource}
+use Rattle.slate_read.specs.declared.read_source.ReadSource.TheVariants.{Batch, Memory, Run}
+use Rattle.slate_read.specs.declared.sorted_run.SortedRun.{SortedRun}
+use Rattle.slate_read.specs.declared.sorted_run_iterator.SortedRunIterator.{SortedRunIterator}
+use Rattle.slate_read.specs.Groups.{in_turn}
+use Rattle.slate_read.specs.RunIterators.{AreReadable, BringsRun, IsRunIterator, rows_in_run}
+use Rattle.slate_table.specs.declared.info.SsTableHandle.{SsTableHandle}
+use Rattle.slate_db.specs.Model.{Rows}
+use Rattle.slate_db.specs.OpenScans.{AreEach, AreScanSources, HasRows, IsInMemory, IsMemorySource, IsOverRun, IsOwnSource, IsRunSource}
+use Rattle.slate_db.specs.Scanned.{Brings, HasOwn}
+use Rattle.slate_db.specs.Scans.{ScanSource}
 
 -- ---- lists place by place
 
@@ -34,3 +48,45 @@ sources_more {A = A} {B = B} R front xs i x ys zs y here is r h =
     (subst (λ (us : List A). AreEach R us (ys ++ (y ∷ [])))
     (append_assoc front (reverse (drop (i + 1) xs)) (x ∷ []) ∙ ap (λ (us : List A). front ++ us) (sym (reverse-append (x ∷ []) (drop (i + 1) xs)) ∙ ap reverse (sym here)))
     (each_both R (front ++ reverse (drop (i + 1) xs)) ys (x ∷ []) (y ∷ []) h (r, tt)))
+
+-- of all
+pub sources_end : {A B : Type 0} (R : A → B → Type 0) (front xs : List A) (i : ℕ) (ys : List B) → i ≡ 0 → AreEach R (front ++ reverse (drop i xs)) ys → AreEach R (front ++ reverse xs) ys
+sources_end {A = A} R front xs i ys none h = subst (λ (j : ℕ). AreEach R (front ++ reverse (drop j xs)) ys) none h
+
+-- the first one
+pub sources_first : {A B : Type 0} (R : A → B → Type 0) (x : A) (y : B) (ys zs : List B) → ys ≡ [] → zs ≡ ys ++ (y ∷ []) → R x y → AreEach R (x ∷ []) zs
+sources_first {B = B} R x y ys zs none is h = subst (λ (l : List B). AreEach R (x ∷ []) l) (sym (is ∙ ap (λ (l : List B). l ++ (y ∷ [])) none)) (h, tt)
+
+-- ---- one source
+
+pub memory_is : {X : Type 0} {P : X → Type 0} (range : BytesRange) (order : IterationOrder) (n : ℕ) (rows : Rows) (it : RowList) (s : ScanSource X P) → s.iterator ≡ Memory it → s.predicate.max_seq ≡ Some n → HasRows order (Brings range rows) it → IsMemorySource range order n rows s
+memory_is {X = X} {P = P} range order n rows it s iterator upto h = (upto, subst (λ (x : ReadSource X P). IsInMemory order (Brings range rows) x) (sym iterator) h)
+
+pub own_is : {X : Type 0} {P : X → Type 0} (range : BytesRange) (order : IterationOrder) (ops : Ops) (it : RowList) (s : ScanSource X P) → s.iterator ≡ Batch it → s.predicate.max_seq ≡ None → HasRows order (HasOwn range ops) it → IsOwnSource range order ops s
+own_is {X = X} {P = P} range order ops it s iterator upto h = (upto, subst (λ (x : ReadSource X P). IsInMemory order (HasOwn range ops) x) (sym iterator) h)
+
+-- of a copy of a run
+pub run_is : {X : Type 0} {P : X → Type 0} (range within : BytesRange) (order : IterationOrder) (n : ℕ) (run copy : SortedRun) (it : SortedRunIterator X P) (s : ScanSource X P) → s.iterator ≡ Run it → s.predicate.max_seq ≡ Some n → within ≡ range →
+    copy.tables.items ≡ run.tables.items → IsRunIterator within copy order it.rows → IsRunSource range order n run s
+run_is {X = X} {P = P} range within order n run copy it s iterator upto same tables h = (upto, subst (λ (x : ReadSource X P). IsOverRun range order run x) (sym iterator) (record {
+  within = h.within ∙ same;
+  brings = λ w kepts readable. subst (λ (b : BytesRange). BringsRun w order it.rows (in_turn order (rows_in_run b order kepts))) same (h.brings w kepts (subst (λ (hs : List SsTableHandle). AreReadable w hs kepts) (sym tables) readable));
+}))
+
+pub sources_nil : {A B : Type 0} (R : A → B → Type 0) (ys : List B) → ys ≡ [] → AreEach R [] ys
+sources_nil {B = B} R ys none = subst (λ (l : List B). AreEach R [] l) (sym none) tt
+
+-- ---- all of them
+
+pub all_sources : {X : Type 0} {P : X → Type 0} (range : BytesRange) (order : IterationOrder) (n : ℕ) (ops : Ops) (memory : List Rows) (runs : List SortedRun) (own : ScanSource X P) (none first second whole in_memory in_runs : List (ScanSource X P)) →
+    none ≡ [] → first ≡ none ++ (own ∷ []) → second ≡ first ++ in_memory → whole ≡ second ++ in_runs →
+    IsOwnSource range order ops own → AreEach (IsMemorySource range order n) memory in_memory → AreEach (IsRunSource range order n) runs in_runs → AreScanSources range order n ops memory runs whole
+all_sources {X = X} {P = P} range order n ops memory runs own none first second whole in_memory in_runs nil one two three h k l = record {
+  own = own;
+  in_memory = in_memory;
+  in_runs = in_runs;
+  are = three ∙ ap (λ (s : List (ScanSource X P)). s ++ in_runs) (two ∙ ap (λ (s : List (ScanSource X P)). s ++ in_memory) (one ∙ ap (λ (s : List (ScanSource X P)). s ++ (own ∷ [])) nil));
+  of_own = h;
+  of_memory = k;
+  of_runs = l;
+}

@@ -41,7 +41,7 @@ impl<'a> DbIterator<'a> {
         order: IterationOrder,
     ) -> DbIterator<'a>
         ensures state { result.state ≡ ScanState.Walking rows.entry }
-        ensures range { result.range ≡ range.entry }
+        ensures range { result.range ≡ range }
         ensures order { result.order ≡ order }
     {
         DbIterator {
@@ -277,10 +277,10 @@ pub(crate) fn merged<'a, S: Store, M: MergeOperator, T: BlockTransformer>(
     env: &mut Env<'_, S, M, T>,
 ) -> Result<MergeIterator<FilterIterator<ReadSource<'a>, MaxSeq>>, SlateDBError>
     ensures same { IfOk result (λ rows. (rows.order ≡ order) × (rows.dedup ≡ true)) }
-    ensures sound { let reach = ⟦<EnvOf<S, M, T> as Outside>⟧.reach in (w : World) → AllByRecursion (CanOpen w order) sources.items → Sees w (reach env.old) (reach env.new) → IfOk result (λ rows. IsSoundMerge source_rows IsSoundSource order_of rows w) }
-    ensures rows { let reach = ⟦<EnvOf<S, M, T> as Outside>⟧.reach in (w : World) → AllByRecursion (CanOpen w order) sources.items → Sees w (reach env.old) (reach env.new) → IfOk result (λ rows. rest_of_merge source_rows rows w ≡ merged_rows order w sources.items) }
-    ensures later { let reach = ⟦<EnvOf<S, M, T> as Outside>⟧.reach in IfOk result (λ rows. Made (reach env.old) (reach env.new) (λ reads. (later : List Act) (at : Option (List ℕ)) (e : SlateDBError) → refuses_in source_refuses rows.state (reach env.old).meaning later at e → IsBlamedFor sources.items (reach env.old).meaning (reads ++ later) at e)) }
-    ensures cause { let reach = ⟦<EnvOf<S, M, T> as Outside>⟧.reach in IfErr result (λ e. Made (reach env.old) (reach env.new) (λ reads. IsFault (reach env.old) (reach env.new) e ⊎ IsBlamedFor sources.items (reach env.old).meaning reads None e)) }
+    ensures sound { let reach = ⟦<EnvOf<S, M, T> as Outside>⟧.reach in (w : World) → AllByRecursion (CanOpen w order) sources.entry.items → Sees w (reach env.old) (reach env.new) → IfOk result (λ rows. IsSoundMerge source_rows IsSoundSource order_of rows w) }
+    ensures rows { let reach = ⟦<EnvOf<S, M, T> as Outside>⟧.reach in (w : World) → AllByRecursion (CanOpen w order) sources.entry.items → Sees w (reach env.old) (reach env.new) → IfOk result (λ rows. rest_of_merge source_rows rows w ≡ merged_rows order w sources.entry.items) }
+    ensures later { let reach = ⟦<EnvOf<S, M, T> as Outside>⟧.reach in IfOk result (λ rows. Made (reach env.old) (reach env.new) (λ reads. (later : List Act) (at : Option (List ℕ)) (e : SlateDBError) → refuses_in source_refuses rows.state (reach env.old).meaning later at e → IsBlamedFor sources.entry.items (reach env.old).meaning (reads ++ later) at e)) }
+    ensures cause { let reach = ⟦<EnvOf<S, M, T> as Outside>⟧.reach in IfErr result (λ e. Made (reach env.old) (reach env.new) (λ reads. IsFault (reach env.old) (reach env.new) e ⊎ IsBlamedFor sources.entry.items (reach env.old).meaning reads None e)) }
     ensures reads { let reach = ⟦<EnvOf<S, M, T> as Outside>⟧.reach in OnlyReads (reach env.old) (reach env.new) }
 {
     let mut rows = MergeIterator::new_with_order(sources, order);
