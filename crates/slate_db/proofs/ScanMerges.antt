@@ -1,5 +1,5 @@
 -- A scan that was opened: what it leaves, and what it may refuse for.
-use Rattle.std.proofs.Common.{◌≡◌, ◌≢◌, ◌⊎◌, inl, inr, ℕ, true, List, [], ◌∷◌, ◌++◌, filter, reverse, Option, Some, None, refl, sym, ap, subst, ◌∙◌}
+use Rattle.std.proofs.Common.{◌≡◌, ◌≢◌, ◌⊎◌, inl, inr, ℕ, ◌≤◌, true, false, List, [], ◌∷◌, ◌++◌, filter, reverse, Option, Some, None, refl, sym, ap, subst, ◌∙◌}
 use Rattle.std.specs.Prelude.{IfErr, IfOk, Result, Ok, Err}
 use Rattle.std.specs.List.{AllByRecursion}
 use Rattle.slate_types.specs.declared.bytes_range.BytesRange.{BytesRange}
@@ -62,24 +62,24 @@ refusal_blamed refuses sources s waits a b error refusal (inl (same, begun)) rea
 
 -- ---- what is left
 
-module _ {X : Type 0} {P : X → Type 0} (os : Objects) (m : Meaning) (c : CoreModel) (n : ℕ) (ops : Ops) (range : BytesRange) (order : IterationOrder) (sources : List (ScanSource X P)) where
-  pub opened_leaves : (o : ScanOpens os m c n ops range order sources) (rows : MergeIterator (ScanSource X P)) (it : DbIterator X P) → it.state ≡ Walking rows → it.range ≡ range → it.order ≡ order → rows.order ≡ order →
+module _ (os : Objects) (m : Meaning) (c : CoreModel) (n : ℕ) (ops : Ops) (range : BytesRange) (order : IterationOrder) (sources : List ScanSource) where
+  pub opened_leaves : (o : ScanOpens os m c n ops range order sources) (rows : MergeIterator ScanSource) (it : DbIterator) → it.state ≡ Walking rows → it.range ≡ range → it.order ≡ order → rows.order ≡ order →
       IsSoundMerge source_rows IsSoundSource order_of rows o.world → rest_of_merge source_rows rows o.world ≡ merged_rows order o.world sources → AreForIn range m (Walking rows) →
       (w : World) × IsWorldOf os m w × Leaves it w (rows_seen (rules_of c.settings m) c.state.commits n ops order range)
   opened_leaves o rows it state_is range_is order_is same sound rest meant = (o.world, o.is, record {
-    sound = subst (λ (s : ScanState X P). IsSoundIn it.order s o.world) (sym state_is) (sound, same ∙ sym order_is);
+    sound = subst (λ (s : ScanState). IsSoundIn it.order s o.world) (sym state_is) (sound, same ∙ sym order_is);
     bases = subst (AllByRecursion (λ r. is_base r ≡ true)) (sym left_is) o.bases;
     within = subst (λ (b : BytesRange). AllByRecursion (λ r. in_range b r.key ≡ true) (left_in it.state o.world)) (sym range_is) (subst (AllByRecursion (λ r. in_range range r.key ≡ true)) (sym left_is) o.within);
     left = ap (filter has_value) left_is ∙ o.left;
-    meant = subst (λ (b : BytesRange). AreForIn b o.world.meaning it.state) (sym range_is) (subst (λ (s : ScanState X P). AreForIn range o.world.meaning s) (sym state_is) (subst (λ (k : Meaning). AreForIn range k (Walking rows)) (sym o.is.meaning) meant));
+    meant = subst (λ (b : BytesRange). AreForIn b o.world.meaning it.state) (sym range_is) (subst (λ (s : ScanState). AreForIn range o.world.meaning s) (sym state_is) (subst (λ (k : Meaning). AreForIn range k (Walking rows)) (sym o.is.meaning) meant));
   })
     where
       left_is : left_in it.state o.world ≡ merged_rows order o.world sources
-      left_is = ap (λ (s : ScanState X P). left_in s o.world) state_is ∙ rest
+      left_is = ap (λ (s : ScanState). left_in s o.world) state_is ∙ rest
 
 -- ---- what is refused
 
-module _ {X : Type 0} {P : X → Type 0} (m : Meaning) (c : CoreModel) (x : Unseen) (w : IsWhole c x) (range : BytesRange) (order : IterationOrder) (n : ℕ) (ops : Ops) (layers : List Rows) (sources : List (ScanSource X P))
+module _ (m : Meaning) (c : CoreModel) (x : Unseen) (w : IsWhole c x) (range : BytesRange) (order : IterationOrder) (n : ℕ) (ops : Ops) (layers : List Rows) (sources : List ScanSource)
     (are : AreScanSources range order n ops layers (reverse x.runs) sources) where
   shown : (reads : List Act) (at : Option (List ℕ)) (e : SlateDBError) → IsReached range at → IsBlamedFor sources m reads at e → IsShown m (handles_of x.runs) reads e
   shown reads at e reached blamed = blamed_shows m range order n ops layers x.runs sources are reads at e reached blamed
@@ -87,22 +87,22 @@ module _ {X : Type 0} {P : X → Type 0} (m : Meaning) (c : CoreModel) (x : Unse
   refused_by : (reads : List Act) (e : SlateDBError) → IsShown m (handles_of x.runs) reads e → IsRefusedByScan m c reads e
   refused_by reads e s = record { handles = handles_of x.runs; are = all_handles c.events x.runs w.tied.runs; refused = inr s.1 }
 
-  abbrev pub LaterBlamed : MergeIterator (ScanSource X P) → List Act → Type 0
+  abbrev pub LaterBlamed : MergeIterator ScanSource → List Act → Type 0
   LaterBlamed rows reads = (later : List Act) (at : Option (List ℕ)) (e : SlateDBError) → refuses_in source_refuses rows.state m later at e → IsBlamedFor sources m (reads ++ later) at e
 
-  pub sources_for : (rows : MergeIterator (ScanSource X P)) (reads : List Act) → LaterBlamed rows reads → AreForIn range m (Walking rows)
+  pub sources_for : (rows : MergeIterator ScanSource) (reads : List Act) → LaterBlamed rows reads → AreForIn range m (Walking rows)
   sources_for rows reads blamed later at e h = (shown (reads ++ later) at e h.0 (blamed later at e h.1)).0
 
-  pub scan_is_for : (rows : MergeIterator (ScanSource X P)) (it : DbIterator X P) (reads : List Act) → it.state ≡ Walking rows → it.range ≡ range → LaterBlamed rows reads → IsFor m it
-  scan_is_for rows it reads state_is range_is blamed later at e h = by (subst (λ (b : BytesRange). RefusesIn b (Walking rows) m later at e) range_is (subst (λ (s : ScanState X P). RefusesIn it.range s m later at e) state_is h))
+  pub scan_is_for : (rows : MergeIterator ScanSource) (it : DbIterator) (reads : List Act) → it.state ≡ Walking rows → it.range ≡ range → LaterBlamed rows reads → IsFor m it
+  scan_is_for rows it reads state_is range_is blamed later at e h = by (subst (λ (b : BytesRange). RefusesIn b (Walking rows) m later at e) range_is (subst (λ (s : ScanState). RefusesIn it.range s m later at e) state_is h))
     where
       by : RefusesIn range (Walking rows) m later at e → (e ≡ MergeOperatorMissing) ⊎ IsDamage e
       by (inl missing) = inl missing
       by (inr r) = inr (sources_for rows reads blamed later at e r)
 
-  pub scan_refused : (rows : MergeIterator (ScanSource X P)) (it : DbIterator X P) (reads : List Act) → it.state ≡ Walking rows → it.range ≡ range → LaterBlamed rows reads →
+  pub scan_refused : (rows : MergeIterator ScanSource) (it : DbIterator) (reads : List Act) → it.state ≡ Walking rows → it.range ≡ range → LaterBlamed rows reads →
       (later : List Act) (at : Option (List ℕ)) (e : SlateDBError) → ScanRefuses it m later at e → IsRefusedByScan m c (reads ++ later) e
-  scan_refused rows it reads state_is range_is blamed later at e h = by (subst (λ (b : BytesRange). RefusesIn b (Walking rows) m later at e) range_is (subst (λ (s : ScanState X P). RefusesIn it.range s m later at e) state_is h))
+  scan_refused rows it reads state_is range_is blamed later at e h = by (subst (λ (b : BytesRange). RefusesIn b (Walking rows) m later at e) range_is (subst (λ (s : ScanState). RefusesIn it.range s m later at e) state_is h))
     where
       by : RefusesIn range (Walking rows) m later at e → IsRefusedByScan m c (reads ++ later) e
       by (inl missing) = record { handles = handles_of x.runs; are = all_handles c.events x.runs w.tied.runs; refused = inl missing }
@@ -123,14 +123,14 @@ module _ {X : Type 0} {P : X → Type 0} (m : Meaning) (c : CoreModel) (x : Unse
       either (inl some) = any_weaker _ _ (λ s h. elim h [ inl r ↦ r | inr r ↦ r ]) sources some
       either (inr none) = absurd none
 
-      undamaged : (ss : List (ScanSource X P)) → AllByRecursion (CanOpen o.world order) ss → AnyByRecursion (λ s. source_refuses s m reads None e) ss → IsDamage e → ⊥
+      undamaged : (ss : List ScanSource) → AllByRecursion (CanOpen o.world order) ss → AnyByRecursion (λ s. source_refuses s m reads None e) ss → IsDamage e → ⊥
       undamaged [] can some = absurd some
       undamaged (s ∷ ss) can (inl r) = read.source_whole s.iterator o.world reads None e can.0.0.0 each (subst (λ (k : Meaning). source_refuses s k reads None e) (sym o.is.meaning) r)
       undamaged (s ∷ ss) can (inr r) = undamaged ss can.1 r
 
 -- ---- a scan of a core
 
-module _ {X : Type 0} {P : X → Type 0} (before after : Reach) (c : CoreModel) (x : Unseen) (w : IsWhole c x) (range : BytesRange) (order : IterationOrder) (n : ℕ) (ops : Ops) (plain : holds_merge ops ≡ false) (from : c.floor ≤ n) (sources : List (ScanSource X P))
+module _ (before after : Reach) (c : CoreModel) (x : Unseen) (w : IsWhole c x) (range : BytesRange) (order : IterationOrder) (n : ℕ) (ops : Ops) (plain : holds_merge ops ≡ false) (from : c.floor ≤ n) (sources : List ScanSource)
     (are : AreScanSources range order n ops (c.active ∷ reverse c.frozen) (reverse x.runs) sources) (a : IsAnswered before after c) where
   opens : ScanOpens a.os before.meaning c n ops range order sources
   opens = scan_opens before.meaning c x w a.readable.lawful a.readable.kept a.os a.readable.holds n from ops plain range order sources are
@@ -138,7 +138,7 @@ module _ {X : Type 0} {P : X → Type 0} (before after : Reach) (c : CoreModel) 
   sees : Sees opens.world before after
   sees = sees_world a.os opens.world before after opens.is.meaning opens.is.holds a.answers
 
-  pub scan_leaves : (rows : MergeIterator (ScanSource X P)) (it : DbIterator X P) → it.state ≡ Walking rows → it.range ≡ range → it.order ≡ order → rows.order ≡ order →
+  pub scan_leaves : (rows : MergeIterator ScanSource) (it : DbIterator) → it.state ≡ Walking rows → it.range ≡ range → it.order ≡ order → rows.order ≡ order →
       ((v : World) → AllByRecursion (CanOpen v order) sources → Sees v before after → IsSoundMerge source_rows IsSoundSource order_of rows v) →
       ((v : World) → AllByRecursion (CanOpen v order) sources → Sees v before after → rest_of_merge source_rows rows v ≡ merged_rows order v sources) → (reads : List Act) → LaterBlamed before.meaning c x w range order n ops (c.active ∷ reverse c.frozen) sources are rows reads →
       (v : World) × IsWorldOf a.os before.meaning v × Leaves it v (rows_seen (rules_of c.settings before.meaning) c.state.commits n ops order range)

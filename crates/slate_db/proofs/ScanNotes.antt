@@ -42,12 +42,12 @@ get_within xs i h = subst IsSome (sym (slice_get-get_or xs i (first xs h) h)) tt
     first [] h = cc
     first (x ∷ xs) h = x
 
-module _ {X : Type 0} {P : X → Type 0} (m : Meaning) (c : CoreModel) (it : TxnIterator X P) where
+module _ (m : Meaning) (c : CoreModel) (it : TxnIterator) where
   rules : Rules
   rules = rules_of c.settings m
 
   -- the step that is noted changes what is left of it
-  moved_left : (after : TxnIterator X P) (s : TranscriptStep) (rows more : List RowEntry) → id_of after ≡ id_of it → number_of after ≡ number_of it → (scan_of after).order ≡ (scan_of it).order →
+  moved_left : (after : TxnIterator) (s : TranscriptStep) (rows more : List RowEntry) → id_of after ≡ id_of it → number_of after ≡ number_of it → (scan_of after).order ≡ (scan_of it).order →
       ((t : Tx) → slice_get (scans_left rules c.state.commits t.begin t.transcript) (number_of it) ≡ Some ((scan_of it).order, rows) →
           slice_get (scans_left rules c.state.commits t.begin (t.transcript ++ (s ∷ []))) (number_of it) ≡ Some ((scan_of it).order, more)) →
       HasLeft m c it rows → HasLeft m (after_note c (id_of it) (s ∷ [])) after more
@@ -57,12 +57,12 @@ module _ {X : Type 0} {P : X → Type 0} (m : Meaning) (c : CoreModel) (it : Txn
       subst (λ (t : Tx). slice_get (scans_left rules c.state.commits t.begin t.transcript) (number_of after) ≡ Some ((scan_of after).order, more)) was.2
       (ap (slice_get (scans_left rules c.state.commits was.0.begin (was.0.transcript ++ (s ∷ [])))) number ∙ moves was.0 (h was.0 was.1) ∙ ap (λ (o : IterationOrder). Some (o, more)) (sym order))
 
-  pub next_left : (after : TxnIterator X P) (a : Option KeyValue) (rows : List RowEntry) → id_of after ≡ id_of it → number_of after ≡ number_of it → (scan_of after).order ≡ (scan_of it).order →
+  pub next_left : (after : TxnIterator) (a : Option KeyValue) (rows : List RowEntry) → id_of after ≡ id_of it → number_of after ≡ number_of it → (scan_of after).order ≡ (scan_of it).order →
       HasLeft m c it rows → HasLeft m (after_note c (id_of it) (steps.Next (number_of it) a ∷ [])) after (drop 1 rows)
   next_left after a rows named number order h = moved_left after (steps.Next (number_of it) a) rows (drop 1 rows) named number order
       (λ t k. next_moves rules c.state.commits t.begin t.transcript (number_of it) a ((scan_of it).order, rows) k) h
 
-  pub seek_left : (after : TxnIterator X P) (key : List ℕ) (rows : List RowEntry) → id_of after ≡ id_of it → number_of after ≡ number_of it → (scan_of after).order ≡ (scan_of it).order →
+  pub seek_left : (after : TxnIterator) (key : List ℕ) (rows : List RowEntry) → id_of after ≡ id_of it → number_of after ≡ number_of it → (scan_of after).order ≡ (scan_of it).order →
       HasLeft m c it rows → HasLeft m (after_note c (id_of it) (steps.Seek (number_of it) key ∷ [])) after (drop_before (scan_of it).order key rows)
   seek_left after key rows named number order h = moved_left after (steps.Seek (number_of it) key) rows (drop_before (scan_of it).order key rows) named number order
       (λ t k. seek_moves rules c.state.commits t.begin t.transcript (number_of it) key ((scan_of it).order, rows) k) h

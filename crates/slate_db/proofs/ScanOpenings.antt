@@ -87,16 +87,16 @@ all_lists Q range n (rows ∷ layers) (list ∷ lists) h k = (all_filter Q (upto
 all_lists Q range n [] (list ∷ lists) h k = absurd h
 all_lists Q range n (rows ∷ layers) [] h k = absurd h
 
-module _ {X : Type 0} {P : X → Type 0} (w : World) (order : IterationOrder) where
+module _ (w : World) (order : IterationOrder) where
   -- ---- one source
 
-  record IsIn (means : Rows → Type 0) (x : ReadSource X P) : Type 0 where
+  record IsIn (means : Rows → Type 0) (x : ReadSource) : Type 0 where
     sound : read.IsSoundSource x w
     ordered : read.order_of x ≡ order
     turn : AreInTurn (row_before order) (read.rest_of x w)
     rows : means (read.rest_of x w)
 
-  memory_in : (means : Rows → Type 0) (x : ReadSource X P) → IsInMemory order means x → IsIn means x
+  memory_in : (means : Rows → Type 0) (x : ReadSource) → IsInMemory order means x → IsIn means x
   memory_in means (Batch it) h = record { sound = subst (λ (o : IterationOrder). IsInOrder o it.rows) (sym h.same_order) h.in_order; ordered = h.same_order; turn = h.turn; rows = h.rows }
   memory_in means (Memory it) h = record { sound = subst (λ (o : IterationOrder). IsInOrder o it.rows) (sym h.same_order) h.in_order; ordered = h.same_order; turn = h.turn; rows = h.rows }
   memory_in means (Empty it) h = absurd h
@@ -104,7 +104,7 @@ module _ {X : Type 0} {P : X → Type 0} (w : World) (order : IterationOrder) wh
   memory_in means (Table it) h = absurd h
   memory_in means (Run it) h = absurd h
 
-  run_in : (range : BytesRange) (run : SortedRun) (layers : List Rows) (x : ReadSource X P) → IsOverRun range order run x → IsRunHere w run layers → IsIn (Brings range (all_rows layers)) x
+  run_in : (range : BytesRange) (run : SortedRun) (layers : List Rows) (x : ReadSource) → IsOverRun range order run x → IsRunHere w run layers → IsIn (Brings range (all_rows layers)) x
   run_in range run layers (Run it) h here =
       let b = h.brings w here.kepts here.are in
       record {
@@ -119,15 +119,15 @@ module _ {X : Type 0} {P : X → Type 0} (w : World) (order : IterationOrder) wh
   run_in range run layers (Batch it) h here = absurd h
   run_in range run layers (Memory it) h here = absurd h
 
-  can_open : (means : Rows → Type 0) (s : ScanSource X P) → IsIn means s.iterator → CanOpen w order s
+  can_open : (means : Rows → Type 0) (s : ScanSource) → IsIn means s.iterator → CanOpen w order s
   can_open means s h = ((h.sound, h.ordered), turn_filtered (row_before order) (upto_seq s.predicate.max_seq) (read.rest_of s.iterator w) h.turn)
 
   -- ---- the sources of several layers
 
-  abbrev rests : List (ScanSource X P) → List Rows
+  abbrev rests : List ScanSource → List Rows
   rests sources = map (λ s. read.rest_of s.iterator w) sources
 
-  record AreIn (range : BytesRange) (n : ℕ) (layers : List Rows) (sources : List (ScanSource X P)) : Type 0 where
+  record AreIn (range : BytesRange) (n : ℕ) (layers : List Rows) (sources : List ScanSource) : Type 0 where
     can : AllByRecursion (CanOpen w order) sources
     bring : BringEach range layers (rests sources)
     rows : map (λ s. source_rows s w) sources ≡ map (filter (upto_seq (Some n))) (rests sources)
@@ -135,7 +135,7 @@ module _ {X : Type 0} {P : X → Type 0} (w : World) (order : IterationOrder) wh
   none_in : (range : BytesRange) (n : ℕ) → AreIn range n [] []
   none_in range n = record { can = tt; bring = tt; rows = refl }
 
-  one_in : (range : BytesRange) (n : ℕ) (rows : Rows) (layers : List Rows) (s : ScanSource X P) (sources : List (ScanSource X P)) → s.predicate.max_seq ≡ Some n → IsIn (Brings range rows) s.iterator → AreIn range n layers sources →
+  one_in : (range : BytesRange) (n : ℕ) (rows : Rows) (layers : List Rows) (s : ScanSource) (sources : List ScanSource) → s.predicate.max_seq ≡ Some n → IsIn (Brings range rows) s.iterator → AreIn range n layers sources →
       AreIn range n (rows ∷ layers) (s ∷ sources)
   one_in range n rows layers s sources upto h later = record {
     can = (can_open (Brings range rows) s h, later.can);
@@ -143,13 +143,13 @@ module _ {X : Type 0} {P : X → Type 0} (w : World) (order : IterationOrder) wh
     rows = λ i. filter (upto_seq (upto i)) (read.rest_of s.iterator w) ∷ later.rows i;
   }
 
-  memory_all : (range : BytesRange) (n : ℕ) (layers : List Rows) (sources : List (ScanSource X P)) → AreEach (IsMemorySource range order n) layers sources → AreIn range n layers sources
+  memory_all : (range : BytesRange) (n : ℕ) (layers : List Rows) (sources : List ScanSource) → AreEach (IsMemorySource range order n) layers sources → AreIn range n layers sources
   memory_all range n [] [] h = none_in range n
   memory_all range n (rows ∷ layers) (s ∷ sources) h = one_in range n rows layers s sources h.0.0 (memory_in (Brings range rows) s.iterator h.0.1) (memory_all range n layers sources h.1)
   memory_all range n [] (s ∷ sources) h = absurd h
   memory_all range n (rows ∷ layers) [] h = absurd h
 
-  runs_all : (range : BytesRange) (n : ℕ) (runs : List SortedRun) (groups : List (List Rows)) (sources : List (ScanSource X P)) → AreEach (IsRunSource range order n) runs sources → AreEach (IsRunHere w) runs groups → AreIn range n (in_one groups) sources
+  runs_all : (range : BytesRange) (n : ℕ) (runs : List SortedRun) (groups : List (List Rows)) (sources : List ScanSource) → AreEach (IsRunSource range order n) runs sources → AreEach (IsRunHere w) runs groups → AreIn range n (in_one groups) sources
   runs_all range n [] [] [] h here = none_in range n
   runs_all range n (run ∷ runs) (layers ∷ groups) (s ∷ sources) h here =
       one_in range n (all_rows layers) (in_one groups) s sources h.0.0 (run_in range run layers s.iterator h.0.1 here.0) (runs_all range n runs groups sources h.1 here.1)
@@ -165,7 +165,7 @@ all_flat Q [] h = tt
 all_flat Q (rows ∷ ls) h = all_append Q rows (all_rows ls) h.0 (all_flat Q ls h.1)
 
 -- for a scan at a sequence, under own operations
-pub record ScanOpens {X : Type 0} {P : X → Type 0} (os : Objects) (m : Meaning) (c : CoreModel) (n : ℕ) (ops : Ops) (range : BytesRange) (order : IterationOrder) (sources : List (ScanSource X P)) : Type 0 where
+pub record ScanOpens (os : Objects) (m : Meaning) (c : CoreModel) (n : ℕ) (ops : Ops) (range : BytesRange) (order : IterationOrder) (sources : List ScanSource) : Type 0 where
   pub world : World
   pub is : IsWorldOf os m world
   pub can : AllByRecursion (CanOpen world order) sources
@@ -229,7 +229,7 @@ module _ (m : Meaning) (c : CoreModel) (x : Unseen) (w : IsWhole c x) (law : IsL
   newest_runs (ls ∷ groups) =
       ap in_one (reverse-append (ls ∷ []) groups) ∙ map_both all_rows (reverse groups) (ls ∷ []) ∙ ap (λ (l : List Rows). l ++ (all_rows ls ∷ [])) (newest_runs groups) ∙ sym (reverse-append (all_rows ls ∷ []) (in_one groups))
 
-  module _ {X : Type 0} {P : X → Type 0} (os : Objects) (holds : Holds os (tables_of c.events)) (n : ℕ) (from : c.floor ≤ n) (ops : Ops) (plain : holds_merge ops ≡ false) (range : BytesRange) (order : IterationOrder) (sources : List (ScanSource X P))
+  module _ (os : Objects) (holds : Holds os (tables_of c.events)) (n : ℕ) (from : c.floor ≤ n) (ops : Ops) (plain : holds_merge ops ≡ false) (range : BytesRange) (order : IterationOrder) (sources : List ScanSource)
       (are : AreScanSources range order n ops (c.active ∷ reverse c.frozen) (reverse x.runs) sources) where
     abbrev v : World
     v = world_at os holds

@@ -58,11 +58,11 @@ any_both Q [] ys h = inr h
 any_both Q (x ∷ xs) ys (inl h) = inl (inl h)
 any_both Q (x ∷ xs) ys (inr h) = elim (any_both Q xs ys h) [ inl k ↦ inl (inr k) | inr k ↦ inr k ]
 
-module _ {X : Type 0} {P : X → Type 0} (m : Meaning) (range : BytesRange) (order : IterationOrder) (reads : List Act) (e : SlateDBError) (begun : e ≢ IteratorNotInitialized) (hs : List SsTableHandle) where
-  abbrev Refuses : Option (List ℕ) → ScanSource X P → Type 0
+module _ (m : Meaning) (range : BytesRange) (order : IterationOrder) (reads : List Act) (e : SlateDBError) (begun : e ≢ IteratorNotInitialized) (hs : List SsTableHandle) where
+  abbrev Refuses : Option (List ℕ) → ScanSource → Type 0
   Refuses at s = either_refusal (λ t. source_refuses t m reads) at s e
 
-  memory_silent : {A : Type 0} (means : Rows → Type 0) (x : ReadSource X P) (at : Option (List ℕ)) → IsInMemory order means x → read.source_refuses x m reads at e → A
+  memory_silent : {A : Type 0} (means : Rows → Type 0) (x : ReadSource) (at : Option (List ℕ)) → IsInMemory order means x → read.source_refuses x m reads at e → A
   memory_silent means (Batch it) at h r = absurd r
   memory_silent means (Memory it) at h r = absurd r
   memory_silent means (Empty it) at h r = absurd h
@@ -70,7 +70,7 @@ module _ {X : Type 0} {P : X → Type 0} (m : Meaning) (range : BytesRange) (ord
   memory_silent means (Table it) at h r = absurd h
   memory_silent means (Run it) at h r = absurd h
 
-  run_shows : (run : SortedRun) (x : ReadSource X P) (at : Option (List ℕ)) → AreAmong hs run → IsReached range at → IsOverRun range order run x → read.source_refuses x m reads at e → IsShown m hs reads e
+  run_shows : (run : SortedRun) (x : ReadSource) (at : Option (List ℕ)) → AreAmong hs run → IsReached range at → IsOverRun range order run x → read.source_refuses x m reads at e → IsShown m hs reads e
   run_shows run (Run it) at among open_at h r = by (runs_show range run order it.rows h m reads at e r)
     where
       by : (e ≡ IteratorNotInitialized) ⊎ RefusesSeek range at e ⊎ (IsDamage e × ShowsAmong m.decode run.tables.items reads e) → IsShown m hs reads e
@@ -83,7 +83,7 @@ module _ {X : Type 0} {P : X → Type 0} (m : Meaning) (range : BytesRange) (ord
   run_shows run (Batch it) at among open_at h r = absurd h
   run_shows run (Memory it) at among open_at h r = absurd h
 
-  memory_none : {A : Type 0} (n : ℕ) (layers : List Rows) (sources : List (ScanSource X P)) (at : Option (List ℕ)) → AreEach (IsMemorySource range order n) layers sources → AnyByRecursion (Refuses at) sources → A
+  memory_none : {A : Type 0} (n : ℕ) (layers : List Rows) (sources : List ScanSource) (at : Option (List ℕ)) → AreEach (IsMemorySource range order n) layers sources → AnyByRecursion (Refuses at) sources → A
   memory_none n [] [] at h r = absurd r
   memory_none n (rows ∷ layers) (s ∷ sources) at h (inl (inl r)) = memory_silent _ s.iterator at h.0.1 r
   memory_none n (rows ∷ layers) (s ∷ sources) at h (inl (inr r)) = memory_silent _ s.iterator None h.0.1 r
@@ -91,7 +91,7 @@ module _ {X : Type 0} {P : X → Type 0} (m : Meaning) (range : BytesRange) (ord
   memory_none n [] (s ∷ sources) at h r = absurd h
   memory_none n (rows ∷ layers) [] at h r = absurd h
 
-  some_run : (n : ℕ) (runs : List SortedRun) (sources : List (ScanSource X P)) (at : Option (List ℕ)) → AllByRecursion (AreAmong hs) runs → IsReached range at → AreEach (IsRunSource range order n) runs sources → AnyByRecursion (Refuses at) sources → IsShown m hs reads e
+  some_run : (n : ℕ) (runs : List SortedRun) (sources : List ScanSource) (at : Option (List ℕ)) → AllByRecursion (AreAmong hs) runs → IsReached range at → AreEach (IsRunSource range order n) runs sources → AnyByRecursion (Refuses at) sources → IsShown m hs reads e
   some_run n [] [] at among open_at h r = absurd r
   some_run n (run ∷ runs) (s ∷ sources) at among open_at h (inl (inl r)) = run_shows run s.iterator at among.0 open_at h.0.1 r
   some_run n (run ∷ runs) (s ∷ sources) at among open_at h (inl (inr r)) = run_shows run s.iterator None among.0 tt h.0.1 r
@@ -100,16 +100,16 @@ module _ {X : Type 0} {P : X → Type 0} (m : Meaning) (range : BytesRange) (ord
   some_run n (run ∷ runs) [] at among open_at h r = absurd h
 
 -- what a source is blamed for is damage of one of the tables of the runs
-pub blamed_shows : {X : Type 0} {P : X → Type 0} (m : Meaning) (range : BytesRange) (order : IterationOrder) (n : ℕ) (ops : Ops) (layers : List Rows) (runs : List SortedRun) (sources : List (ScanSource X P)) → AreScanSources range order n ops layers (reverse runs) sources →
+pub blamed_shows : (m : Meaning) (range : BytesRange) (order : IterationOrder) (n : ℕ) (ops : Ops) (layers : List Rows) (runs : List SortedRun) (sources : List ScanSource) → AreScanSources range order n ops layers (reverse runs) sources →
     (reads : List Act) (at : Option (List ℕ)) (e : SlateDBError) → IsReached range at → IsBlamedFor sources m reads at e → IsShown m (handles_of runs) reads e
-blamed_shows {X = X} {P = P} m range order n ops layers runs sources are reads at e open_at (begun, inr none) = absurd none
-blamed_shows {X = X} {P = P} m range order n ops layers runs sources are reads at e open_at (begun, inl some) = by (subst (AnyByRecursion (Refuses {X = X} {P = P} m range order reads e begun (handles_of runs) at)) are.are some)
+blamed_shows m range order n ops layers runs sources are reads at e open_at (begun, inr none) = absurd none
+blamed_shows m range order n ops layers runs sources are reads at e open_at (begun, inl some) = by (subst (AnyByRecursion (Refuses m range order reads e begun (handles_of runs) at)) are.are some)
   where
-    later : AnyByRecursion (Refuses {X = X} {P = P} m range order reads e begun (handles_of runs) at) are.in_memory ⊎ AnyByRecursion (Refuses {X = X} {P = P} m range order reads e begun (handles_of runs) at) are.in_runs → IsShown m (handles_of runs) reads e
+    later : AnyByRecursion (Refuses m range order reads e begun (handles_of runs) at) are.in_memory ⊎ AnyByRecursion (Refuses m range order reads e begun (handles_of runs) at) are.in_runs → IsShown m (handles_of runs) reads e
     later (inl r) = memory_none m range order reads e begun (handles_of runs) n layers are.in_memory at are.of_memory r
     later (inr r) = some_run m range order reads e begun (handles_of runs) n (reverse runs) are.in_runs at (all_reverse (AreAmong (handles_of runs)) runs (all_among runs)) open_at are.of_runs r
 
-    by : AnyByRecursion (Refuses {X = X} {P = P} m range order reads e begun (handles_of runs) at) (are.own ∷ (are.in_memory ++ are.in_runs)) → IsShown m (handles_of runs) reads e
+    by : AnyByRecursion (Refuses m range order reads e begun (handles_of runs) at) (are.own ∷ (are.in_memory ++ are.in_runs)) → IsShown m (handles_of runs) reads e
     by (inl (inl r)) = memory_silent m range order reads e begun (handles_of runs) _ are.own.iterator at are.of_own.1 r
     by (inl (inr r)) = memory_silent m range order reads e begun (handles_of runs) _ are.own.iterator None are.of_own.1 r
-    by (inr r) = later (any_both (Refuses {X = X} {P = P} m range order reads e begun (handles_of runs) at) are.in_memory are.in_runs r)
+    by (inr r) = later (any_both (Refuses m range order reads e begun (handles_of runs) at) are.in_memory are.in_runs r)

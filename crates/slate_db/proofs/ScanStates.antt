@@ -85,8 +85,8 @@ on_both : {A E P Q R : Type 0} (r : Result A E) → OnOk r P → OnOk r Q → (P
 on_both (Ok a) p q f = f p q
 on_both (Err e) p q f = tt
 
-abbrev pub Merged : (X : Type 0) → (X → Type 0) → Type 0
-Merged X P = MergeIterator (ScanSource X P)
+abbrev pub Merged : Type 0
+Merged = MergeIterator ScanSource
 
 -- one more way to refuse
 pub or_missing : {V : Type 0} (r : Result V SlateDBError) (a b : Reach) (Q : List Act → SlateDBError → Type 0) → IfErr r (λ e. Made a b (λ reads. IsFault a b e ⊎ Q reads e)) → IfErr r (λ e. Made a b (λ reads. IsFault a b e ⊎ ((e ≡ MergeOperatorMissing) ⊎ Q reads e)))
@@ -96,144 +96,143 @@ or_missing r a b Q h = IfErr-weaker r _ _ (λ e k. (k.0, k.1, by e k.0 k.2)) h
     by e reads (inl k) = inl k
     by e reads (inr k) = inr (inr k)
 
-module _ {X : Type 0} {P : X → Type 0} where
-  abbrev pub IsSound : Merged X P → World → Type 0
-  IsSound u w = IsSoundMerge source_rows IsSoundSource order_of u w
+abbrev pub IsSound : Merged → World → Type 0
+IsSound u w = IsSoundMerge source_rows IsSoundSource order_of u w
 
-  pub sound_walk : (order : IterationOrder) (w : World) (x : ScanState X P) (u : Merged X P) → x ≡ Walking u → IsSoundIn order x w → IsSound u w × (u.order ≡ order)
-  sound_walk order w x u is h = subst (λ (s : ScanState X P). IsSoundIn order s w) is h
+pub sound_walk : (order : IterationOrder) (w : World) (x : ScanState) (u : Merged) → x ≡ Walking u → IsSoundIn order x w → IsSound u w × (u.order ≡ order)
+sound_walk order w x u is h = subst (λ (s : ScanState). IsSoundIn order s w) is h
 
-  pub values_walk : (range : BytesRange) (rows : List RowEntry) (w : World) (x : ScanState X P) (u : Merged X P) → x ≡ Walking u → HasValues range (left_in x w) rows → HasValues range (rest_of_merge source_rows u w) rows
-  values_walk range rows w x u is h = subst (λ (s : ScanState X P). HasValues range (left_in s w) rows) is h
+pub values_walk : (range : BytesRange) (rows : List RowEntry) (w : World) (x : ScanState) (u : Merged) → x ≡ Walking u → HasValues range (left_in x w) rows → HasValues range (rest_of_merge source_rows u w) rows
+values_walk range rows w x u is h = subst (λ (s : ScanState). HasValues range (left_in s w) rows) is h
 
-  pub next_walk : (r : Result (Option KeyValue) SlateDBError) (range : BytesRange) (order : IterationOrder) (rows : List RowEntry) (w : World) (x : ScanState X P) (u v : Merged X P) → x ≡ Walking u →
-      (IsSound u w → HasValues range (rest_of_merge source_rows u w) rows → IfOk r (λ a. (a ≡ first_left rows) × HasValues range (rest_of_merge source_rows v w) (drop 1 rows))) → (IsSound u w → OnOk r (IsSound v w)) → v.order ≡ u.order →
-      IsSoundIn order x w → HasValues range (left_in x w) rows → IfOk r (λ a. (a ≡ first_left rows) × (IsSound v w × (v.order ≡ order)) × HasValues range (rest_of_merge source_rows v w) (drop 1 rows))
-  next_walk r range order rows w x u v is values still same sound has =
-      let s = sound_walk order w x u is sound in
-      ok_both (λ a. (a ≡ first_left rows) × HasValues range (rest_of_merge source_rows v w) (drop 1 rows)) (λ a. (a ≡ first_left rows) × (IsSound v w × (v.order ≡ order)) × HasValues range (rest_of_merge source_rows v w) (drop 1 rows))
-      r (values s.0 (values_walk range rows w x u is has)) (still s.0) (λ a h k. (h.0, (k, same ∙ s.1), h.1))
+pub next_walk : (r : Result (Option KeyValue) SlateDBError) (range : BytesRange) (order : IterationOrder) (rows : List RowEntry) (w : World) (x : ScanState) (u v : Merged) → x ≡ Walking u →
+    (IsSound u w → HasValues range (rest_of_merge source_rows u w) rows → IfOk r (λ a. (a ≡ first_left rows) × HasValues range (rest_of_merge source_rows v w) (drop 1 rows))) → (IsSound u w → OnOk r (IsSound v w)) → v.order ≡ u.order →
+    IsSoundIn order x w → HasValues range (left_in x w) rows → IfOk r (λ a. (a ≡ first_left rows) × (IsSound v w × (v.order ≡ order)) × HasValues range (rest_of_merge source_rows v w) (drop 1 rows))
+next_walk r range order rows w x u v is values still same sound has =
+    let s = sound_walk order w x u is sound in
+    ok_both (λ a. (a ≡ first_left rows) × HasValues range (rest_of_merge source_rows v w) (drop 1 rows)) (λ a. (a ≡ first_left rows) × (IsSound v w × (v.order ≡ order)) × HasValues range (rest_of_merge source_rows v w) (drop 1 rows))
+    r (values s.0 (values_walk range rows w x u is has)) (still s.0) (λ a h k. (h.0, (k, same ∙ s.1), h.1))
 
-  pub seek_walk : (r : Result (Unit {0}) SlateDBError) (range : BytesRange) (order : IterationOrder) (key : List ℕ) (rows : List RowEntry) (w : World) (x : ScanState X P) (u v : Merged X P) → x ≡ Walking u →
-      (IsSound u w → HasValues range (rest_of_merge source_rows u w) rows → OnOk r (HasValues range (rest_of_merge source_rows v w) (drop_before u.order key rows))) → (IsSound u w → IsSound v w) → v.order ≡ u.order →
-      IsSoundIn order x w → HasValues range (left_in x w) rows → OnOk r ((IsSound v w × (v.order ≡ order)) × HasValues range (rest_of_merge source_rows v w) (drop_before order key rows))
-  seek_walk r range order key rows w x u v is values still same sound has =
-      let s = sound_walk order w x u is sound in
-      on_ok_weaker r (λ h. ((still s.0, same ∙ s.1), subst (λ (o : IterationOrder). HasValues range (rest_of_merge source_rows v w) (drop_before o key rows)) s.1 h)) (values s.0 (values_walk range rows w x u is has))
+pub seek_walk : (r : Result (Unit {0}) SlateDBError) (range : BytesRange) (order : IterationOrder) (key : List ℕ) (rows : List RowEntry) (w : World) (x : ScanState) (u v : Merged) → x ≡ Walking u →
+    (IsSound u w → HasValues range (rest_of_merge source_rows u w) rows → OnOk r (HasValues range (rest_of_merge source_rows v w) (drop_before u.order key rows))) → (IsSound u w → IsSound v w) → v.order ≡ u.order →
+    IsSoundIn order x w → HasValues range (left_in x w) rows → OnOk r ((IsSound v w × (v.order ≡ order)) × HasValues range (rest_of_merge source_rows v w) (drop_before order key rows))
+seek_walk r range order key rows w x u v is values still same sound has =
+    let s = sound_walk order w x u is sound in
+    on_ok_weaker r (λ h. ((still s.0, same ∙ s.1), subst (λ (o : IterationOrder). HasValues range (rest_of_merge source_rows v w) (drop_before o key rows)) s.1 h)) (values s.0 (values_walk range rows w x u is has))
 
-  pub undamaged_walk : {V : Type 0} (r : Result V SlateDBError) (range : BytesRange) (at : Option (List ℕ)) (a b : Reach) (w : World) (x : ScanState X P) (u : Merged X P) → x ≡ Walking u → IsReached range at → w.meaning ≡ a.meaning → AreForIn range w.meaning x →
-      IfErr r (λ e. IsFault a b e ⊎ Made a b (λ reads. refuses_in source_refuses u.state a.meaning reads at e × ¬ IsDamage e)) → IfErr r (IsFault a b)
-  undamaged_walk r range at a b w x u is reached same meant h = IfErr-weaker r _ (IsFault a b) by h
-    where
-      for : AreForIn range a.meaning (Walking u)
-      for = subst (λ (m : Meaning). AreForIn range m (Walking u)) same (subst (λ (s : ScanState X P). AreForIn range w.meaning s) is meant)
+pub undamaged_walk : {V : Type 0} (r : Result V SlateDBError) (range : BytesRange) (at : Option (List ℕ)) (a b : Reach) (w : World) (x : ScanState) (u : Merged) → x ≡ Walking u → IsReached range at → w.meaning ≡ a.meaning → AreForIn range w.meaning x →
+    IfErr r (λ e. IsFault a b e ⊎ Made a b (λ reads. refuses_in source_refuses u.state a.meaning reads at e × ¬ IsDamage e)) → IfErr r (IsFault a b)
+undamaged_walk r range at a b w x u is reached same meant h = IfErr-weaker r _ (IsFault a b) by h
+  where
+    for : AreForIn range a.meaning (Walking u)
+    for = subst (λ (m : Meaning). AreForIn range m (Walking u)) same (subst (λ (s : ScanState). AreForIn range w.meaning s) is meant)
 
-      by : (e : SlateDBError) → IsFault a b e ⊎ Made a b (λ reads. refuses_in source_refuses u.state a.meaning reads at e × ¬ IsDamage e) → IsFault a b e
-      by e (inl k) = k
-      by e (inr k) = absurd (k.2.1 (for k.0 at e (reached, k.2.0)))
+    by : (e : SlateDBError) → IsFault a b e ⊎ Made a b (λ reads. refuses_in source_refuses u.state a.meaning reads at e × ¬ IsDamage e) → IsFault a b e
+    by e (inl k) = k
+    by e (inr k) = absurd (k.2.1 (for k.0 at e (reached, k.2.0)))
 
-  pub sources_walk : {V : Type 0} (r : Result V SlateDBError) (range : BytesRange) (a b : Reach) (x : ScanState X P) (u v : Merged X P) → x ≡ Walking u →
-      OnOk r (Made a b (λ reads. NoMore (refuses_in source_refuses u.state a.meaning) reads (refuses_in source_refuses v.state a.meaning))) → OnOk r (Made a b (λ reads. NoMore (SourcesRefuse range x a.meaning) reads (SourcesRefuse range (Walking v) a.meaning)))
-  sources_walk r range a b x u v is h = on_ok_weaker r
-      (λ k. subst (λ (s : ScanState X P). Made a b (λ reads. NoMore (SourcesRefuse range s a.meaning) reads (SourcesRefuse range (Walking v) a.meaning))) (sym is) (k.0, k.1, λ later at e f. (f.0, k.2 later at e f.1))) h
+pub sources_walk : {V : Type 0} (r : Result V SlateDBError) (range : BytesRange) (a b : Reach) (x : ScanState) (u v : Merged) → x ≡ Walking u →
+    OnOk r (Made a b (λ reads. NoMore (refuses_in source_refuses u.state a.meaning) reads (refuses_in source_refuses v.state a.meaning))) → OnOk r (Made a b (λ reads. NoMore (SourcesRefuse range x a.meaning) reads (SourcesRefuse range (Walking v) a.meaning)))
+sources_walk r range a b x u v is h = on_ok_weaker r
+    (λ k. subst (λ (s : ScanState). Made a b (λ reads. NoMore (SourcesRefuse range s a.meaning) reads (SourcesRefuse range (Walking v) a.meaning))) (sym is) (k.0, k.1, λ later at e f. (f.0, k.2 later at e f.1))) h
 
-  pub later_walk : {V : Type 0} (r : Result V SlateDBError) (range : BytesRange) (a b : Reach) (x : ScanState X P) (u v : Merged X P) → x ≡ Walking u →
-      OnOk r (Made a b (λ reads. NoMore (refuses_in source_refuses u.state a.meaning) reads (refuses_in source_refuses v.state a.meaning))) → OnOk r (Made a b (λ reads. NoMore (RefusesIn range x a.meaning) reads (RefusesIn range (Walking v) a.meaning)))
-  later_walk r range a b x u v is h = on_ok_weaker r
-      (λ k. subst (λ (s : ScanState X P). Made a b (λ reads. NoMore (RefusesIn range s a.meaning) reads (RefusesIn range (Walking v) a.meaning))) (sym is) (k.0, k.1, λ later at e f. by k.0 k.2 later at e f)) h
-    where
-      by : (reads : List Act) → NoMore (refuses_in source_refuses u.state a.meaning) reads (refuses_in source_refuses v.state a.meaning) → NoMore (RefusesIn range (Walking u) a.meaning) reads (RefusesIn range (Walking v) a.meaning)
-      by reads less later at e (inl f) = inl f
-      by reads less later at e (inr f) = inr (f.0, less later at e f.1)
+pub later_walk : {V : Type 0} (r : Result V SlateDBError) (range : BytesRange) (a b : Reach) (x : ScanState) (u v : Merged) → x ≡ Walking u →
+    OnOk r (Made a b (λ reads. NoMore (refuses_in source_refuses u.state a.meaning) reads (refuses_in source_refuses v.state a.meaning))) → OnOk r (Made a b (λ reads. NoMore (RefusesIn range x a.meaning) reads (RefusesIn range (Walking v) a.meaning)))
+later_walk r range a b x u v is h = on_ok_weaker r
+    (λ k. subst (λ (s : ScanState). Made a b (λ reads. NoMore (RefusesIn range s a.meaning) reads (RefusesIn range (Walking v) a.meaning))) (sym is) (k.0, k.1, λ later at e f. by k.0 k.2 later at e f)) h
+  where
+    by : (reads : List Act) → NoMore (refuses_in source_refuses u.state a.meaning) reads (refuses_in source_refuses v.state a.meaning) → NoMore (RefusesIn range (Walking u) a.meaning) reads (RefusesIn range (Walking v) a.meaning)
+    by reads less later at e (inl f) = inl f
+    by reads less later at e (inr f) = inr (f.0, less later at e f.1)
 
-  pub cause_walk : {V : Type 0} (r : Result V SlateDBError) (range : BytesRange) (at : Option (List ℕ)) (a b : Reach) (x : ScanState X P) (u : Merged X P) → x ≡ Walking u → IsReached range at →
-      IfErr r (λ e. Made a b (λ reads. IsFault a b e ⊎ ((e ≡ MergeOperatorMissing) ⊎ refuses_in source_refuses u.state a.meaning reads at e))) → IfErr r (λ e. Made a b (λ reads. IsFault a b e ⊎ RefusesIn range x a.meaning reads at e))
-  cause_walk r range at a b x u is reached h = IfErr-weaker r _ _
-      (λ e k. subst (λ (s : ScanState X P). Made a b (λ reads. IsFault a b e ⊎ RefusesIn range s a.meaning reads at e)) (sym is) (k.0, k.1, by e k.0 k.2)) h
-    where
-      by : (e : SlateDBError) (reads : List Act) → IsFault a b e ⊎ ((e ≡ MergeOperatorMissing) ⊎ refuses_in source_refuses u.state a.meaning reads at e) → IsFault a b e ⊎ RefusesIn range (Walking u) a.meaning reads at e
-      by e reads (inl k) = inl k
-      by e reads (inr (inl k)) = inr (inl k)
-      by e reads (inr (inr k)) = inr (inr (reached, k))
+pub cause_walk : {V : Type 0} (r : Result V SlateDBError) (range : BytesRange) (at : Option (List ℕ)) (a b : Reach) (x : ScanState) (u : Merged) → x ≡ Walking u → IsReached range at →
+    IfErr r (λ e. Made a b (λ reads. IsFault a b e ⊎ ((e ≡ MergeOperatorMissing) ⊎ refuses_in source_refuses u.state a.meaning reads at e))) → IfErr r (λ e. Made a b (λ reads. IsFault a b e ⊎ RefusesIn range x a.meaning reads at e))
+cause_walk r range at a b x u is reached h = IfErr-weaker r _ _
+    (λ e k. subst (λ (s : ScanState). Made a b (λ reads. IsFault a b e ⊎ RefusesIn range s a.meaning reads at e)) (sym is) (k.0, k.1, by e k.0 k.2)) h
+  where
+    by : (e : SlateDBError) (reads : List Act) → IsFault a b e ⊎ ((e ≡ MergeOperatorMissing) ⊎ refuses_in source_refuses u.state a.meaning reads at e) → IsFault a b e ⊎ RefusesIn range (Walking u) a.meaning reads at e
+    by e reads (inl k) = inl k
+    by e reads (inr (inl k)) = inr (inl k)
+    by e reads (inr (inr k)) = inr (inr (reached, k))
 
-  pub checked_walk : {V : Type 0} (r : Result V SlateDBError) (order : IterationOrder) (w : World) (a b : Reach) (x : ScanState X P) (u : Merged X P) (Q : Type 0) → x ≡ Walking u → (IsSound u w → OnOk r Q) → IsSoundIn order x w → OnOk r Q
-  checked_walk r order w a b x u Q is h sound = h (sound_walk order w x u is sound).0
+pub checked_walk : {V : Type 0} (r : Result V SlateDBError) (order : IterationOrder) (w : World) (a b : Reach) (x : ScanState) (u : Merged) (Q : Type 0) → x ≡ Walking u → (IsSound u w → OnOk r Q) → IsSoundIn order x w → OnOk r Q
+checked_walk r order w a b x u Q is h sound = h (sound_walk order w x u is sound).0
 
-  -- no row is left
-  pub none_left : (range : BytesRange) (order : IterationOrder) (rows : List RowEntry) (w : World) (x y : ScanState X P) → x ≡ Done → y ≡ Done → HasValues range (left_in x w) rows → (None ≡ first_left rows) × IsSoundIn order y w × HasValues range (left_in y w) (drop 1 rows)
-  none_left range order rows w x y is too has =
-      let k = has_none range (left_in x w) (left_in y w) rows (ap (λ (s : ScanState X P). left_in s w) is) (ap (λ (s : ScanState X P). left_in s w) too) has in
-      (k.0, subst (λ (s : ScanState X P). IsSoundIn order s w) (sym too) tt, k.1)
+-- no row is left
+pub none_left : (range : BytesRange) (order : IterationOrder) (rows : List RowEntry) (w : World) (x y : ScanState) → x ≡ Done → y ≡ Done → HasValues range (left_in x w) rows → (None ≡ first_left rows) × IsSoundIn order y w × HasValues range (left_in y w) (drop 1 rows)
+none_left range order rows w x y is too has =
+    let k = has_none range (left_in x w) (left_in y w) rows (ap (λ (s : ScanState). left_in s w) is) (ap (λ (s : ScanState). left_in s w) too) has in
+    (k.0, subst (λ (s : ScanState). IsSoundIn order s w) (sym too) tt, k.1)
 
-  pub none_sought : (range : BytesRange) (order : IterationOrder) (key : List ℕ) (rows : List RowEntry) (w : World) (x y : ScanState X P) → x ≡ Done → y ≡ Done → HasValues range (left_in x w) rows → IsSoundIn order y w × HasValues range (left_in y w) (drop_before order key rows)
-  none_sought range order key rows w x y is too has = (
-    subst (λ (s : ScanState X P). IsSoundIn order s w) (sym too) tt,
-    subst (λ (s : ScanState X P). HasValues range (left_in s w) (drop_before order key rows)) (sym too)
-    (record { bases = tt; within = tt; left = ap (drop_before order key) (subst (λ (s : ScanState X P). HasValues range (left_in s w) rows) is has).left }),
-  )
+pub none_sought : (range : BytesRange) (order : IterationOrder) (key : List ℕ) (rows : List RowEntry) (w : World) (x y : ScanState) → x ≡ Done → y ≡ Done → HasValues range (left_in x w) rows → IsSoundIn order y w × HasValues range (left_in y w) (drop_before order key rows)
+none_sought range order key rows w x y is too has = (
+  subst (λ (s : ScanState). IsSoundIn order s w) (sym too) tt,
+  subst (λ (s : ScanState). HasValues range (left_in s w) (drop_before order key rows)) (sym too)
+  (record { bases = tt; within = tt; left = ap (drop_before order key) (subst (λ (s : ScanState). HasValues range (left_in s w) rows) is has).left }),
+)
 
-  -- it was refused
-  pub never_sound : {Q : Type 0} (order : IterationOrder) (w : World) (x : ScanState X P) (k : SlateDBError) → x ≡ Refused k → IsSoundIn order x w → Q
-  never_sound order w x k is h = absurd (subst (λ (s : ScanState X P). IsSoundIn order s w) is h)
+-- it was refused
+pub never_sound : {Q : Type 0} (order : IterationOrder) (w : World) (x : ScanState) (k : SlateDBError) → x ≡ Refused k → IsSoundIn order x w → Q
+never_sound order w x k is h = absurd (subst (λ (s : ScanState). IsSoundIn order s w) is h)
 
-  pub refused_again : (range : BytesRange) (at : Option (List ℕ)) (a : Reach) (x : ScanState X P) (k e : SlateDBError) → x ≡ Refused k → Copies k e → Made a a (λ reads. IsFault a a e ⊎ RefusesIn range x a.meaning reads at e)
-  refused_again range at a x k e is copies = subst (λ (s : ScanState X P). Made a a (λ reads. IsFault a a e ⊎ RefusesIn range s a.meaning reads at e)) (sym is) ([], call_none a, kept_again a.faults a.faults k e copies)
+pub refused_again : (range : BytesRange) (at : Option (List ℕ)) (a : Reach) (x : ScanState) (k e : SlateDBError) → x ≡ Refused k → Copies k e → Made a a (λ reads. IsFault a a e ⊎ RefusesIn range x a.meaning reads at e)
+refused_again range at a x k e is copies = subst (λ (s : ScanState). Made a a (λ reads. IsFault a a e ⊎ RefusesIn range s a.meaning reads at e)) (sym is) ([], call_none a, kept_again a.faults a.faults k e copies)
 
-  -- ---- what is left of an iterator
+-- ---- what is left of an iterator
 
-  pub values_of : (it : DbIterator X P) (w : World) (rows : List RowEntry) → Leaves it w rows → HasValues it.range (left_in it.state w) rows
-  values_of it w rows h = record { bases = h.bases; within = h.within; left = h.left }
+pub values_of : (it : DbIterator) (w : World) (rows : List RowEntry) → Leaves it w rows → HasValues it.range (left_in it.state w) rows
+values_of it w rows h = record { bases = h.bases; within = h.within; left = h.left }
 
-  -- its sources refuse for no more than they did
-  pub still_for : (range : BytesRange) (m : Meaning) (reads : List Act) (x y : ScanState X P) → NoMore (SourcesRefuse range x m) reads (SourcesRefuse range y m) → AreForIn range m x → AreForIn range m y
-  still_for range m reads x y less h later at e f = h (reads ++ later) at e (less later at e f)
+-- its sources refuse for no more than they did
+pub still_for : (range : BytesRange) (m : Meaning) (reads : List Act) (x y : ScanState) → NoMore (SourcesRefuse range x m) reads (SourcesRefuse range y m) → AreForIn range m x → AreForIn range m y
+still_for range m reads x y less h later at e f = h (reads ++ later) at e (less later at e f)
 
-  pub leaves_of : (before it : DbIterator X P) (w : World) (a b : Reach) (rows : List RowEntry) → it.range ≡ before.range → it.order ≡ before.order → w.meaning ≡ a.meaning → IsSoundIn before.order it.state w → HasValues before.range (left_in it.state w) rows →
-      Made a b (λ reads. NoMore (SourcesRefuse before.range before.state a.meaning) reads (SourcesRefuse before.range it.state a.meaning)) → AreForIn before.range w.meaning before.state → Leaves it w rows
-  leaves_of before it w a b rows range order same sound has made meant = record {
-    sound = subst (λ (o : IterationOrder). IsSoundIn o it.state w) (sym order) sound;
-    bases = has.bases;
-    within = subst (λ (r : BytesRange). AllByRecursion (λ row. in_range r row.key ≡ true) (left_in it.state w)) (sym range) has.within;
-    left = has.left;
-    meant = subst (λ (r : BytesRange). AreForIn r w.meaning it.state) (sym range)
-        (subst (λ (m : Meaning). AreForIn before.range m it.state) (sym same) (still_for before.range a.meaning made.0 before.state it.state made.2 (subst (λ (m : Meaning). AreForIn before.range m before.state) same meant)));
-  }
+pub leaves_of : (before it : DbIterator) (w : World) (a b : Reach) (rows : List RowEntry) → it.range ≡ before.range → it.order ≡ before.order → w.meaning ≡ a.meaning → IsSoundIn before.order it.state w → HasValues before.range (left_in it.state w) rows →
+    Made a b (λ reads. NoMore (SourcesRefuse before.range before.state a.meaning) reads (SourcesRefuse before.range it.state a.meaning)) → AreForIn before.range w.meaning before.state → Leaves it w rows
+leaves_of before it w a b rows range order same sound has made meant = record {
+  sound = subst (λ (o : IterationOrder). IsSoundIn o it.state w) (sym order) sound;
+  bases = has.bases;
+  within = subst (λ (r : BytesRange). AllByRecursion (λ row. in_range r row.key ≡ true) (left_in it.state w)) (sym range) has.within;
+  left = has.left;
+  meant = subst (λ (r : BytesRange). AreForIn r w.meaning it.state) (sym range)
+      (subst (λ (m : Meaning). AreForIn before.range m it.state) (sym same) (still_for before.range a.meaning made.0 before.state it.state made.2 (subst (λ (m : Meaning). AreForIn before.range m before.state) same meant)));
+}
 
-  pub next_leaves : (r : Result (Option KeyValue) SlateDBError) (before it : DbIterator X P) (w : World) (a b : Reach) (rows : List RowEntry) → it.range ≡ before.range → it.order ≡ before.order → w.meaning ≡ a.meaning →
-      IfOk r (λ x. (x ≡ first_left rows) × IsSoundIn before.order it.state w × HasValues before.range (left_in it.state w) (drop 1 rows)) → OnOk r (Made a b (λ reads. NoMore (SourcesRefuse before.range before.state a.meaning) reads (SourcesRefuse before.range it.state a.meaning))) →
-      AreForIn before.range w.meaning before.state → IfOk r (λ x. (x ≡ first_left rows) × Leaves it w (drop 1 rows))
-  next_leaves r before it w a b rows range order same h made meant = ok_both _ _ r h made (λ x k m. (k.0, leaves_of before it w a b (drop 1 rows) range order same k.1 k.2 m meant))
+pub next_leaves : (r : Result (Option KeyValue) SlateDBError) (before it : DbIterator) (w : World) (a b : Reach) (rows : List RowEntry) → it.range ≡ before.range → it.order ≡ before.order → w.meaning ≡ a.meaning →
+    IfOk r (λ x. (x ≡ first_left rows) × IsSoundIn before.order it.state w × HasValues before.range (left_in it.state w) (drop 1 rows)) → OnOk r (Made a b (λ reads. NoMore (SourcesRefuse before.range before.state a.meaning) reads (SourcesRefuse before.range it.state a.meaning))) →
+    AreForIn before.range w.meaning before.state → IfOk r (λ x. (x ≡ first_left rows) × Leaves it w (drop 1 rows))
+next_leaves r before it w a b rows range order same h made meant = ok_both _ _ r h made (λ x k m. (k.0, leaves_of before it w a b (drop 1 rows) range order same k.1 k.2 m meant))
 
-  pub seek_leaves : (r : Result (Unit {0}) SlateDBError) (before it : DbIterator X P) (w : World) (a b : Reach) (rows : List RowEntry) → it.range ≡ before.range → it.order ≡ before.order → w.meaning ≡ a.meaning →
-      OnOk r (IsSoundIn before.order it.state w × HasValues before.range (left_in it.state w) rows) → OnOk r (Made a b (λ reads. NoMore (SourcesRefuse before.range before.state a.meaning) reads (SourcesRefuse before.range it.state a.meaning))) →
-      AreForIn before.range w.meaning before.state → OnOk r (Leaves it w rows)
-  seek_leaves r before it w a b rows range order same h made meant = on_both r h made (λ k m. leaves_of before it w a b rows range order same k.0 k.1 m meant)
+pub seek_leaves : (r : Result (Unit {0}) SlateDBError) (before it : DbIterator) (w : World) (a b : Reach) (rows : List RowEntry) → it.range ≡ before.range → it.order ≡ before.order → w.meaning ≡ a.meaning →
+    OnOk r (IsSoundIn before.order it.state w × HasValues before.range (left_in it.state w) rows) → OnOk r (Made a b (λ reads. NoMore (SourcesRefuse before.range before.state a.meaning) reads (SourcesRefuse before.range it.state a.meaning))) →
+    AreForIn before.range w.meaning before.state → OnOk r (Leaves it w rows)
+seek_leaves r before it w a b rows range order same h made meant = on_both r h made (λ k m. leaves_of before it w a b rows range order same k.0 k.1 m meant)
 
-  -- a seek to a key below the start of the range
-  pub start_leaves : (it after : DbIterator X P) (key : List ℕ) (w : World) (rows : List RowEntry) → is_past_start it.range.start key ≡ false → (it.order ≡ Ascending → after ≡ it) → (it.order ≡ Descending → after ≡ record it { state = Done }) → Leaves it w rows →
-      Leaves after w (drop_before it.order key rows)
-  start_leaves it after key w rows below none all h = by it.order refl
-    where
-      within : AllByRecursion (λ r. in_range it.range r.key ≡ true) rows
-      within = values_within it.range (left_in it.state w) rows (values_of it w rows h)
+-- a seek to a key below the start of the range
+pub start_leaves : (it after : DbIterator) (key : List ℕ) (w : World) (rows : List RowEntry) → is_past_start it.range.start key ≡ false → (it.order ≡ Ascending → after ≡ it) → (it.order ≡ Descending → after ≡ record it { state = Done }) → Leaves it w rows →
+    Leaves after w (drop_before it.order key rows)
+start_leaves it after key w rows below none all h = by it.order refl
+  where
+    within : AllByRecursion (λ r. in_range it.range r.key ≡ true) rows
+    within = values_within it.range (left_in it.state w) rows (values_of it w rows h)
 
-      by : (o : IterationOrder) → it.order ≡ o → Leaves after w (drop_before it.order key rows)
-      by Ascending is = subst (λ (d : DbIterator X P). Leaves d w (drop_before it.order key rows)) (sym (none is))
-          (subst (λ (l : List RowEntry). Leaves it w l) (sym (ap (λ (o : IterationOrder). drop_before o key rows) is ∙ drop_before_none Ascending key rows (none_passed it.range key rows below within))) h)
-      by Descending is = subst (λ (d : DbIterator X P). Leaves d w (drop_before it.order key rows)) (sym (all is))
-          (record { sound = tt; bases = tt; within = tt; left = sym (ap (λ (o : IterationOrder). drop_before o key rows) is ∙ all_passed it.range key rows below within); meant = λ reads at e f. absurd f })
+    by : (o : IterationOrder) → it.order ≡ o → Leaves after w (drop_before it.order key rows)
+    by Ascending is = subst (λ (d : DbIterator). Leaves d w (drop_before it.order key rows)) (sym (none is))
+        (subst (λ (l : List RowEntry). Leaves it w l) (sym (ap (λ (o : IterationOrder). drop_before o key rows) is ∙ drop_before_none Ascending key rows (none_passed it.range key rows below within))) h)
+    by Descending is = subst (λ (d : DbIterator). Leaves d w (drop_before it.order key rows)) (sym (all is))
+        (record { sound = tt; bases = tt; within = tt; left = sym (ap (λ (o : IterationOrder). drop_before o key rows) is ∙ all_passed it.range key rows below within); meant = λ reads at e f. absurd f })
 
-  pub start_later : (it after : DbIterator X P) (m : Meaning) → (it.order ≡ Ascending → after ≡ it) → (it.order ≡ Descending → after ≡ record it { state = Done }) →
-      NoMore (RefusesIn it.range it.state m) [] (RefusesIn after.range after.state m)
-  start_later it after m none all later at e h = by it.order refl
-    where
-      by : (o : IterationOrder) → it.order ≡ o → RefusesIn it.range it.state m later at e
-      by Ascending is = subst (λ (d : DbIterator X P). RefusesIn d.range d.state m later at e) (none is) h
-      by Descending is = absurd (subst (λ (d : DbIterator X P). RefusesIn d.range d.state m later at e) (all is) h)
+pub start_later : (it after : DbIterator) (m : Meaning) → (it.order ≡ Ascending → after ≡ it) → (it.order ≡ Descending → after ≡ record it { state = Done }) →
+    NoMore (RefusesIn it.range it.state m) [] (RefusesIn after.range after.state m)
+start_later it after m none all later at e h = by it.order refl
+  where
+    by : (o : IterationOrder) → it.order ≡ o → RefusesIn it.range it.state m later at e
+    by Ascending is = subst (λ (d : DbIterator). RefusesIn d.range d.state m later at e) (none is) h
+    by Descending is = absurd (subst (λ (d : DbIterator). RefusesIn d.range d.state m later at e) (all is) h)
 
-  pub start_range : {Q : Type 0} (read : DbIterator X P → Q) (it after : DbIterator X P) → ((s : ScanState X P) → read (record it { state = s }) ≡ read it) → (it.order ≡ Ascending → after ≡ it) → (it.order ≡ Descending → after ≡ record it { state = Done }) → read after ≡ read it
-  start_range read it after same none all = by it.order refl
-    where
-      by : (o : IterationOrder) → it.order ≡ o → read after ≡ read it
-      by Ascending is = ap read (none is)
-      by Descending is = ap read (all is) ∙ same Done
+pub start_range : {Q : Type 0} (read : DbIterator → Q) (it after : DbIterator) → ((s : ScanState) → read (record it { state = s }) ≡ read it) → (it.order ≡ Ascending → after ≡ it) → (it.order ≡ Descending → after ≡ record it { state = Done }) → read after ≡ read it
+start_range read it after same none all = by it.order refl
+  where
+    by : (o : IterationOrder) → it.order ≡ o → read after ≡ read it
+    by Ascending is = ap read (none is)
+    by Descending is = ap read (all is) ∙ same Done

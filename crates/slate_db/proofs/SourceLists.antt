@@ -59,16 +59,16 @@ sources_first {B = B} R x y ys zs none is h = subst (λ (l : List B). AreEach R 
 
 -- ---- one source
 
-pub memory_is : {X : Type 0} {P : X → Type 0} (range : BytesRange) (order : IterationOrder) (n : ℕ) (rows : Rows) (it : RowList) (s : ScanSource X P) → s.iterator ≡ Memory it → s.predicate.max_seq ≡ Some n → HasRows order (Brings range rows) it → IsMemorySource range order n rows s
-memory_is {X = X} {P = P} range order n rows it s iterator upto h = (upto, subst (λ (x : ReadSource X P). IsInMemory order (Brings range rows) x) (sym iterator) h)
+pub memory_is : (range : BytesRange) (order : IterationOrder) (n : ℕ) (rows : Rows) (it : RowList) (s : ScanSource) → s.iterator ≡ Memory it → s.predicate.max_seq ≡ Some n → HasRows order (Brings range rows) it → IsMemorySource range order n rows s
+memory_is range order n rows it s iterator upto h = (upto, subst (λ (x : ReadSource). IsInMemory order (Brings range rows) x) (sym iterator) h)
 
-pub own_is : {X : Type 0} {P : X → Type 0} (range : BytesRange) (order : IterationOrder) (ops : Ops) (it : RowList) (s : ScanSource X P) → s.iterator ≡ Batch it → s.predicate.max_seq ≡ None → HasRows order (HasOwn range ops) it → IsOwnSource range order ops s
-own_is {X = X} {P = P} range order ops it s iterator upto h = (upto, subst (λ (x : ReadSource X P). IsInMemory order (HasOwn range ops) x) (sym iterator) h)
+pub own_is : (range : BytesRange) (order : IterationOrder) (ops : Ops) (it : RowList) (s : ScanSource) → s.iterator ≡ Batch it → s.predicate.max_seq ≡ None → HasRows order (HasOwn range ops) it → IsOwnSource range order ops s
+own_is range order ops it s iterator upto h = (upto, subst (λ (x : ReadSource). IsInMemory order (HasOwn range ops) x) (sym iterator) h)
 
 -- of a copy of a run
-pub run_is : {X : Type 0} {P : X → Type 0} (range within : BytesRange) (order : IterationOrder) (n : ℕ) (run copy : SortedRun) (it : SortedRunIterator X P) (s : ScanSource X P) → s.iterator ≡ Run it → s.predicate.max_seq ≡ Some n → within ≡ range →
+pub run_is : (range within : BytesRange) (order : IterationOrder) (n : ℕ) (run copy : SortedRun) (it : SortedRunIterator) (s : ScanSource) → s.iterator ≡ Run it → s.predicate.max_seq ≡ Some n → within ≡ range →
     copy.tables.items ≡ run.tables.items → IsRunIterator within copy order it.rows → IsRunSource range order n run s
-run_is {X = X} {P = P} range within order n run copy it s iterator upto same tables h = (upto, subst (λ (x : ReadSource X P). IsOverRun range order run x) (sym iterator) (record {
+run_is range within order n run copy it s iterator upto same tables h = (upto, subst (λ (x : ReadSource). IsOverRun range order run x) (sym iterator) (record {
   within = h.within ∙ same;
   brings = λ w kepts readable. subst (λ (b : BytesRange). BringsRun w order it.rows (in_turn order (rows_in_run b order kepts))) same (h.brings w kepts (subst (λ (hs : List SsTableHandle). AreReadable w hs kepts) (sym tables) readable));
 }))
@@ -78,14 +78,14 @@ sources_nil {B = B} R ys none = subst (λ (l : List B). AreEach R [] l) (sym non
 
 -- ---- all of them
 
-pub all_sources : {X : Type 0} {P : X → Type 0} (range : BytesRange) (order : IterationOrder) (n : ℕ) (ops : Ops) (memory : List Rows) (runs : List SortedRun) (own : ScanSource X P) (none first second whole in_memory in_runs : List (ScanSource X P)) →
+pub all_sources : (range : BytesRange) (order : IterationOrder) (n : ℕ) (ops : Ops) (memory : List Rows) (runs : List SortedRun) (own : ScanSource) (none first second whole in_memory in_runs : List ScanSource) →
     none ≡ [] → first ≡ none ++ (own ∷ []) → second ≡ first ++ in_memory → whole ≡ second ++ in_runs →
     IsOwnSource range order ops own → AreEach (IsMemorySource range order n) memory in_memory → AreEach (IsRunSource range order n) runs in_runs → AreScanSources range order n ops memory runs whole
-all_sources {X = X} {P = P} range order n ops memory runs own none first second whole in_memory in_runs nil one two three h k l = record {
+all_sources range order n ops memory runs own none first second whole in_memory in_runs nil one two three h k l = record {
   own = own;
   in_memory = in_memory;
   in_runs = in_runs;
-  are = three ∙ ap (λ (s : List (ScanSource X P)). s ++ in_runs) (two ∙ ap (λ (s : List (ScanSource X P)). s ++ in_memory) (one ∙ ap (λ (s : List (ScanSource X P)). s ++ (own ∷ [])) nil));
+  are = three ∙ ap (λ (s : List ScanSource). s ++ in_runs) (two ∙ ap (λ (s : List ScanSource). s ++ in_memory) (one ∙ ap (λ (s : List ScanSource). s ++ (own ∷ [])) nil));
   of_own = h;
   of_memory = k;
   of_runs = l;

@@ -41,41 +41,39 @@ AreEach R (x ∷ xs) (y ∷ ys) = R x y × AreEach R xs ys
 AreEach R [] (y ∷ ys) = ⊥
 AreEach R (x ∷ xs) [] = ⊥
 
--- X, P: of the policies that tables' iterators are given
-module _ {X : Type 0} {P : X → Type 0} where
-  abbrev pub IsInMemory : IterationOrder → (Rows → Type 0) → ReadSource X P → Type 0
-  IsInMemory order means (Batch it) = HasRows order means it
-  IsInMemory order means (Memory it) = HasRows order means it
-  IsInMemory order means _ = ⊥
+abbrev pub IsInMemory : IterationOrder → (Rows → Type 0) → ReadSource → Type 0
+IsInMemory order means (Batch it) = HasRows order means it
+IsInMemory order means (Memory it) = HasRows order means it
+IsInMemory order means _ = ⊥
 
-  abbrev pub IsOverRun : BytesRange → IterationOrder → SortedRun → ReadSource X P → Type 0
-  IsOverRun range order run (Run it) = IsRunIterator range run order it.rows
-  IsOverRun range order run _ = ⊥
+abbrev pub IsOverRun : BytesRange → IterationOrder → SortedRun → ReadSource → Type 0
+IsOverRun range order run (Run it) = IsRunIterator range run order it.rows
+IsOverRun range order run _ = ⊥
 
-  abbrev pub IsOwnSource : BytesRange → IterationOrder → Ops → ScanSource X P → Type 0
-  IsOwnSource range order ops s = (s.predicate.max_seq ≡ None) × IsInMemory order (HasOwn range ops) s.iterator
+abbrev pub IsOwnSource : BytesRange → IterationOrder → Ops → ScanSource → Type 0
+IsOwnSource range order ops s = (s.predicate.max_seq ≡ None) × IsInMemory order (HasOwn range ops) s.iterator
 
-  abbrev pub IsMemorySource : BytesRange → IterationOrder → ℕ → Rows → ScanSource X P → Type 0
-  IsMemorySource range order n rows s = (s.predicate.max_seq ≡ Some n) × IsInMemory order (Brings range rows) s.iterator
+abbrev pub IsMemorySource : BytesRange → IterationOrder → ℕ → Rows → ScanSource → Type 0
+IsMemorySource range order n rows s = (s.predicate.max_seq ≡ Some n) × IsInMemory order (Brings range rows) s.iterator
 
-  abbrev pub IsRunSource : BytesRange → IterationOrder → ℕ → SortedRun → ScanSource X P → Type 0
-  IsRunSource range order n run s = (s.predicate.max_seq ≡ Some n) × IsOverRun range order run s.iterator
+abbrev pub IsRunSource : BytesRange → IterationOrder → ℕ → SortedRun → ScanSource → Type 0
+IsRunSource range order n run s = (s.predicate.max_seq ≡ Some n) × IsOverRun range order run s.iterator
 
-  -- memory, runs: the newest first
-  pub record AreScanSources (range : BytesRange) (order : IterationOrder) (n : ℕ) (ops : Ops) (memory : List Rows) (runs : List SortedRun) (sources : List (ScanSource X P)) : Type 0 where
-    pub own : ScanSource X P
-    pub in_memory : List (ScanSource X P)
-    pub in_runs : List (ScanSource X P)
-    pub are : sources ≡ own ∷ (in_memory ++ in_runs)
-    pub of_own : IsOwnSource range order ops own
-    pub of_memory : AreEach (IsMemorySource range order n) memory in_memory
-    pub of_runs : AreEach (IsRunSource range order n) runs in_runs
+-- memory, runs: the newest first
+pub record AreScanSources (range : BytesRange) (order : IterationOrder) (n : ℕ) (ops : Ops) (memory : List Rows) (runs : List SortedRun) (sources : List ScanSource) : Type 0 where
+  pub own : ScanSource
+  pub in_memory : List ScanSource
+  pub in_runs : List ScanSource
+  pub are : sources ≡ own ∷ (in_memory ++ in_runs)
+  pub of_own : IsOwnSource range order ops own
+  pub of_memory : AreEach (IsMemorySource range order n) memory in_memory
+  pub of_runs : AreEach (IsRunSource range order n) runs in_runs
 
-  abbrev pub CanOpen : World → IterationOrder → ScanSource X P → Type 0
-  CanOpen w order s = CanMerge (λ x. source_rows x w) (λ x. IsSoundSource x w × (order_of x ≡ order)) order s
+abbrev pub CanOpen : World → IterationOrder → ScanSource → Type 0
+CanOpen w order s = CanMerge (λ x. source_rows x w) (λ x. IsSoundSource x w × (order_of x ≡ order)) order s
 
-  abbrev pub merged_rows : IterationOrder → World → List (ScanSource X P) → Rows
-  merged_rows order w sources = merged order true (map (λ s. source_rows s w) sources)
+abbrev pub merged_rows : IterationOrder → World → List ScanSource → Rows
+merged_rows order w sources = merged order true (map (λ s. source_rows s w) sources)
 
-  abbrev pub IsBlamedFor : List (ScanSource X P) → Meaning → List Act → Option (List ℕ) → SlateDBError → Type 0
-  IsBlamedFor sources m reads at e = (e ≢ IteratorNotInitialized) × blames source_refuses (waiting_sources sources) m reads at e
+abbrev pub IsBlamedFor : List ScanSource → Meaning → List Act → Option (List ℕ) → SlateDBError → Type 0
+IsBlamedFor sources m reads at e = (e ≢ IteratorNotInitialized) × blames source_refuses (waiting_sources sources) m reads at e

@@ -50,7 +50,7 @@ ghost use Rattle.slate_read.specs.SstOptions.{CanFetch};
 ghost use Rattle.slate_db.specs.Vouched.{IsVouchedFor};
 ghost use Rattle.slate_db.specs.Written.{IsWritten};
 
-use crate::commit::{Made, make};
+use crate::commit::{self, make};
 use crate::flush::stored;
 use crate::laws::Laws;
 use crate::layers::Layers;
@@ -673,7 +673,7 @@ impl Core {
         );
         match made {
             Ok(made) => {
-                let Made {
+                let commit::Made {
                     seq,
                     ops,
                     tracked,
