@@ -35,3 +35,4 @@ pub mod Runs
 pub mod RunSeeks
 pub mod RunCalls
 pub mod RunRows
+pub mod SourceCalls
