@@ -35,4 +35,3 @@ pub mod Runs
 pub mod RunSeeks
 pub mod RunCalls
 pub mod RunRows
-pub mod SourceCalls
