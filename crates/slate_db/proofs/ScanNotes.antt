@@ -47,11 +47,11 @@ module _ (m : Meaning) (c : CoreModel) (it : TxnIterator) where
   -- the step that is noted changes what is left of it
   moved_left : (after : TxnIterator) (s : TranscriptStep) (rows more : List RowEntry) → id_of after ≡ id_of it → number_of after ≡ number_of it → (scan_of after).order ≡ (scan_of it).order →
       ((t : Tx) → slice_get (scans_left rules c.state.commits t.begin t.transcript) (number_of it) ≡ Some ((scan_of it).order, rows) →
-          slice_get (scans_left rules c.state.commits t.begin (t.transcript ++ (s ∷ []))) (number_of it) ≡ Some ((scan_of it).order, more)) →
+      slice_get (scans_left rules c.state.commits t.begin (t.transcript ++ (s ∷ []))) (number_of it) ≡ Some ((scan_of it).order, more)) →
       HasLeft m c it rows → HasLeft m (after_note c (id_of it) (s ∷ [])) after more
   moved_left after s rows more named number order moves h t found =
       let was = was_there (λ (t : Tx). record t { transcript = t.transcript ++ (s ∷ []) }) (find_named (id_of it) c.state.txns) t
-          (sym (find_updated (id_of it) (λ (t : Tx). record t { transcript = t.transcript ++ (s ∷ []) }) c.state.txns) ∙ ap (λ (k : List ℕ). find_named k (update_named (id_of it) (λ (t : Tx). record t { transcript = t.transcript ++ (s ∷ []) }) c.state.txns)) (sym named) ∙ found) in
+      (sym (find_updated (id_of it) (λ (t : Tx). record t { transcript = t.transcript ++ (s ∷ []) }) c.state.txns) ∙ ap (λ (k : List ℕ). find_named k (update_named (id_of it) (λ (t : Tx). record t { transcript = t.transcript ++ (s ∷ []) }) c.state.txns)) (sym named) ∙ found) in
       subst (λ (t : Tx). slice_get (scans_left rules c.state.commits t.begin t.transcript) (number_of after) ≡ Some ((scan_of after).order, more)) was.2
       (ap (slice_get (scans_left rules c.state.commits was.0.begin (was.0.transcript ++ (s ∷ [])))) number ∙ moves was.0 (h was.0 was.1) ∙ ap (λ (o : IterationOrder). Some (o, more)) (sym order))
 

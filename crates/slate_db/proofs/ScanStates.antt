@@ -168,7 +168,7 @@ pub none_sought : (range : BytesRange) (order : IterationOrder) (key : List ℕ)
 none_sought range order key rows w x y is too has = (
   subst (λ (s : ScanState). IsSoundIn order s w) (sym too) tt,
   subst (λ (s : ScanState). HasValues range (left_in s w) (drop_before order key rows)) (sym too)
-  (record { bases = tt; within = tt; left = ap (drop_before order key) (subst (λ (s : ScanState). HasValues range (left_in s w) rows) is has).left }),
+      (record { bases = tt; within = tt; left = ap (drop_before order key) (subst (λ (s : ScanState). HasValues range (left_in s w) rows) is has).left }),
 )
 
 -- it was refused

@@ -10,7 +10,6 @@ use Rattle.slate_db.specs.Values.{has_value}
 use Rattle.slate_db.proofs.Passing.{no_value, operand_fails, operand_fine, passed_fails, passed_none, passed_on, passed_undamaged, some_value, step_checked, step_later, step_none, step_some, step_still}
 use Rattle.slate_db.proofs.values.next_value.Goals as goal
 
-
 pub loop-row-init : goal.loop-row-init
 loop-row-init g c = record {
   passed = passed_none _ _ _ _ _;

@@ -20,5 +20,5 @@ returns-clause-undamaged g c = λ w sees sound.
     let a = g.E.Outside.reach c.args.env.now in
     IfErr-weaker c.seek.result _ _
     (λ e k. passed_undamaged i.rest i.sound i.refuses a a (g.E.Outside.reach c.seek.new.env) x x c.seek.new.self (passed_none i.rest i.sound i.refuses a x) (λ (reads : List Act). Unit {0}) (Some c.args.key.now) e (later_none a.faults) (k.0, k.1, (k.2.0, tt))
-        g.met.I.RowEntryIterator.whole w sees sound)
+    g.met.I.RowEntryIterator.whole w sees sound)
     c.seek.ensures.cause
