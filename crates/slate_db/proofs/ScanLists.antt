@@ -106,7 +106,7 @@ AreWithin (h ∷ hs) (rows ∷ layers) = ((k : List ℕ) → encloses (seen_info
 AreWithin [] (rows ∷ layers) = ⊥
 AreWithin (h ∷ hs) [] = ⊥
 
-within_tables : (m : Meaning) (ts : List (Ulid × List ℕ)) (hs : List SsTableHandle) (layers : List Rows) → AreTables m ts layers → AreHandles ts hs → AreWithin hs layers
+pub within_tables : (m : Meaning) (ts : List (Ulid × List ℕ)) (hs : List SsTableHandle) (layers : List Rows) → AreTables m ts layers → AreHandles ts hs → AreWithin hs layers
 within_tables m [] [] layers tables handles = subst (AreWithin []) (sym tables) tt
 within_tables m [] (h ∷ hs) layers tables handles = absurd handles
 within_tables m (t ∷ ts) [] layers tables handles = absurd handles
@@ -168,7 +168,6 @@ apart_versions k (h ∷ hs) (rows ∷ layers) apart within =
 apart_versions k [] (rows ∷ layers) apart within = absurd within
 apart_versions k (h ∷ hs) [] apart within = absurd within
 
--- a list for each table of a run, one after another in the order of keys, have the rows of the tables
 all_key : (k : List ℕ) (layers : List Rows) → of_key k (all_rows layers) ≡ flat_map (of_key k) layers
 all_key k [] = refl
 all_key k (rows ∷ layers) = filter-append (λ r. bytes_eq r.key k) rows (all_rows layers) ∙ ap (λ xs. of_key k rows ++ xs) (all_key k layers)
@@ -188,6 +187,7 @@ each_key_back range k (rows ∷ layers) (list ∷ lists) h =
 each_key_back range k [] (list ∷ lists) h = absurd h
 each_key_back range k (rows ∷ layers) [] h = absurd h
 
+-- lists for the tables of a run, one after another in the order, have the rows of the tables
 pub run_brings : (range : BytesRange) (order : IterationOrder) (hs : List SsTableHandle) (layers lists : List Rows) → AreApart hs → AreWithin hs layers → BringEach range layers lists → Brings range (all_rows layers) (all_rows (in_order order lists))
 run_brings range Ascending hs layers lists apart within h k =
     all_key k lists ∙ each_key range k layers lists h ∙ ap (λ xs. cond (in_range range k) xs []) (sym (all_key k layers)) ∙ sym (ranged_key range k (all_rows layers))

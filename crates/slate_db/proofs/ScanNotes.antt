@@ -1,7 +1,7 @@
 -- A row that a scan handed out, and a seek, are noted in its transaction's transcript.
-use Rattle.std.proofs.Common.{◌≡◌, ◌<◌, ℕ, Bool, true, false, cond, bytes_eq, List, [], ◌∷◌, ◌++◌, drop, length, count_by, Option, Some, None, option_map, refl, sym, ap, subst, ◌∙◌, slice_get}
-use Rattle.std.specs.Prelude.{Result, Ok, Err, IfOk, OnOk, IsSome}
-use Rattle.std.proofs.lemmas.Option.{same_Some, slice_get-get_or}
+use Rattle.std.proofs.Common.{◌≡◌, ◌<◌, ℕ, zero, suc, arith, Bool, true, false, cond, bytes_eq, List, [], ◌∷◌, ◌++◌, drop, length, count_by, Option, Some, None, option_map, refl, sym, ap, subst, ◌∙◌, slice_get}
+use Rattle.std.specs.Prelude.{IsSome}
+use Rattle.std.proofs.lemmas.Option.{same_Some}
 use Rattle.slate_types.specs.declared.iter.IterationOrder.{IterationOrder}
 use Rattle.slate_types.specs.declared.types.KeyValue.{KeyValue}
 use Rattle.slate_types.specs.declared.types.RowEntry.{RowEntry}
@@ -36,14 +36,12 @@ was_there f None y h = cc
 was_there f (Some x) y h = (x, refl, same_Some (f x) y h)
 
 get_within : {X : Type 0} (xs : List X) (i : ℕ) → i < length xs → IsSome (slice_get xs i)
-get_within xs i h = subst IsSome (sym (slice_get-get_or xs i (first xs h) h)) tt
-  where
-    first : {X : Type 0} (xs : List X) → i < length xs → X
-    first [] h = cc
-    first (x ∷ xs) h = x
+get_within [] i h = absurd (omega (arith, h))
+get_within (x ∷ xs) zero h = refl
+get_within (x ∷ xs) (suc i) h = get_within xs i (omega (arith, h))
 
 module _ (m : Meaning) (c : CoreModel) (it : TxnIterator) where
-  rules : Rules
+  abbrev rules : Rules
   rules = rules_of c.settings m
 
   -- the step that is noted changes what is left of it
@@ -83,7 +81,3 @@ module _ (m : Meaning) (c : CoreModel) (it : TxnIterator) where
       opened t e = get_within (scans_left rules c.state.commits t.begin t.transcript) (number_of it)
           (subst (λ (n : ℕ). number_of it < n) (sym (count_left rules c.state.commits t.begin t.transcript))
           (subst (λ (u : Tx). number_of it < count_by is_scan u.transcript) (same_Some is_open.0 t (sym is_open.1 ∙ e)) is_open.2))
-
--- of what a call answered
-pub next_of : {E : Type 0} (r : Result (Option KeyValue) E) (a : Option KeyValue) (rows : List RowEntry) (Q : Type 0) → r ≡ Ok a → IfOk r (λ x. (x ≡ first_left rows) × Q) → a ≡ first_left rows
-next_of r a rows Q is h = (subst (λ (x : Result (Option KeyValue) E). IfOk x (λ y. (y ≡ first_left rows) × Q)) is h).0

@@ -30,7 +30,7 @@ note_next-requires g c =
     let id = c.args.it.now.id in
     let found : find_named id c.self.inside.transactions ≡ Some c.requires.0 = ap (λ (v : CoreModel). find_named id v.state.txns) c.self.view_is ∙ c.requires.1 in
     record {
-      is_open = subst IsSome (sym found) tt;
+      is_open = subst IsSome (sym found) refl;
       opened = λ t e. subst (λ (u : Tx). c.args.it.now.scan < count_by is_scan u.transcript) (same_Some c.requires.0 t (sym found ∙ e)) c.requires.2;
     }
 
@@ -80,16 +80,16 @@ returns-in-Err-note_next g c =
     }
 
 -- the step that is noted
-abbrev noted_step : (g : given.Over) → goal.In_default-note_next g → TranscriptStep
+abbrev noted_step : (g : given.Over) → goal.In_default g → TranscriptStep
 noted_step g c = steps.Next c.args.it.now.scan c.in-Ok.answer
 
-becomes : (g : given.Over) (c : goal.In_default-note_next g) → record c.self.inside { transactions = update_named c.args.it.now.id (λ t. record t { transcript = t.transcript ++ (noted_step g c ∷ []) }) c.self.inside.transactions } ≡ record c.self.inside { transactions = c.note_next.new.self }
-becomes g c = ap (λ (ts : Transactions). record c.self.inside { transactions = ts }) (sym c.in_default-note_next.ensures.ok)
+becomes : (g : given.Over) (c : goal.In_default g) → record c.self.inside { transactions = update_named c.args.it.now.id (λ t. record t { transcript = t.transcript ++ (noted_step g c ∷ []) }) c.self.inside.transactions } ≡ record c.self.inside { transactions = c.note_next.new.self }
+becomes g c = ap (λ (ts : Transactions). record c.self.inside { transactions = ts }) (sym c.in_default.ensures.ok)
 
 pub invariant_of-self-2 : goal.invariant_of-self-2
 invariant_of-self-2 g c = subst IsWholeInside (becomes g c) (whole_note (view_of c.self.inside) (unseen_of c.self.inside) c.args.it.now.id (noted_step g c ∷ []) refl c.self.invariant)
 
-noted_is : (g : given.Over) (c : goal.In_default-note_next g) → view_of (record c.self.inside { transactions = c.note_next.new.self }) ≡ after_note c.args.self.now c.args.it.now.id (noted_step g c ∷ [])
+noted_is : (g : given.Over) (c : goal.In_default g) → view_of (record c.self.inside { transactions = c.note_next.new.self }) ≡ after_note c.args.self.now c.args.it.now.id (noted_step g c ∷ [])
 noted_is g c = sym (ap view_of (becomes g c)) ∙ ap (λ v. after_note v c.args.it.now.id (noted_step g c ∷ [])) c.self.view_is
 
 pub returns : goal.returns

@@ -30,7 +30,7 @@ note_seek-requires g c =
     let id = c.args.it.now.id in
     let found : find_named id c.self.inside.transactions ≡ Some c.requires.0 = ap (λ (v : CoreModel). find_named id v.state.txns) c.self.view_is ∙ c.requires.1 in
     record {
-      is_open = subst IsSome (sym found) tt;
+      is_open = subst IsSome (sym found) refl;
       opened = λ t e. subst (λ (u : Tx). c.args.it.now.scan < count_by is_scan u.transcript) (same_Some c.requires.0 t (sym found ∙ e)) c.requires.2;
     }
 

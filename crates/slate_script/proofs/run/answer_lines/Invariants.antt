@@ -10,7 +10,7 @@ use Rattle.slate_script.specs.Run.{run_rules, Premises}
 use Rattle.slate_script.specs.Session.{HasTablesAlone, IsRunning, held_load}
 use Rattle.slate_script.specs.Told.{Follows, PutsTables}
 use Rattle.slate_script.proofs.Taken.{IsAt}
-use Rattle.slate_script.proofs.run.run_script.Given as goal
+use Rattle.slate_script.proofs.run.answer_lines.Given as goal
 
 abbrev pub invariant-loop-line : goal.invariant-loop-line
 invariant-loop-line g l =
@@ -20,7 +20,7 @@ invariant-loop-line g l =
       told : (script : List ℕ) → g.R.Source.left l.initial.source ≡ Some script
           → IsAt (Premises before.meaning before.objects)
           (run_rules l.options before.meaning)
-          script (g.R.Source.left l.source) (g.W.Sink.content l.initial.sink) (g.W.Sink.content l.sink) l.lines l.number l.session;
+          script (g.R.Source.left l.source) (g.W.Sink.content l.initial.sink) (g.W.Sink.content l.sink) l.initial.tally l.tally l.lines l.number l.session;
       counted : l.number ≤ l.lines.given;
       within : l.lines.given ≤ script_limit;
       weighs : weight l.session.core ≤ l.number + l.number;
