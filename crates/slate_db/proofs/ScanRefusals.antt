@@ -20,7 +20,7 @@ use Rattle.slate_read.specs.declared.sorted_run.SortedRun.{SortedRun}
 use Rattle.slate_read.specs.Merging.{AnyByRecursion, CanMerge, either_refusal}
 use Rattle.slate_read.specs.NewestFirst.{RefusesSeek}
 use Rattle.slate_read.specs.ReadSources as read
-use Rattle.slate_read.specs.RunIterators.{IsRunIterator, RunRows, run_refuses}
+use Rattle.slate_read.proofs.Shows.{runs_show}
 use Rattle.slate_table.specs.declared.info.SsTableHandle.{SsTableHandle}
 use Rattle.slate_db.specs.Installs.{handles_of}
 use Rattle.slate_db.specs.Model.{CoreModel, Rows}
@@ -29,11 +29,6 @@ use Rattle.slate_db.specs.Scans.{IsReached, ScanSource, ShowsAmong, source_refus
 use Rattle.slate_db.specs.Whole.{IsWhole, Unseen}
 use Rattle.slate_db.proofs.Lists.{all_map}
 use Rattle.slate_db.proofs.Versions.{all_reverse}
-
--- what a run that wasn't opened refuses
-runs_show : (range : BytesRange) (run : SortedRun) (order : IterationOrder) (it : RunRows) → IsRunIterator range run order it → (m : Meaning) (reads : List Act) (at : Option (List ℕ)) (e : SlateDBError) → run_refuses it m reads at e →
-    (e ≡ IteratorNotInitialized) ⊎ RefusesSeek range at e ⊎ (IsDamage e × ShowsAmong m.decode run.tables.items reads e)
-runs_show = ?
 
 -- damage, shown of some of these tables
 abbrev pub IsShown : Meaning → List SsTableHandle → List Act → SlateDBError → Type 0

@@ -10,7 +10,7 @@ use Rattle.slate_read.specs.declared.read_source.ReadSource.TheVariants.{Batch, 
 use Rattle.slate_read.specs.declared.sorted_run.SortedRun.{SortedRun}
 use Rattle.slate_read.specs.declared.sorted_run_iterator.SortedRunIterator.{SortedRunIterator}
 use Rattle.slate_read.specs.Groups.{in_turn}
-use Rattle.slate_read.specs.RunIterators.{AreReadable, BringsRun, IsRunIterator, rows_in_run}
+use Rattle.slate_read.specs.RunIterators.{AreReadable, BringsRun, IsRunIterator, reached, rows_in_run}
 use Rattle.slate_table.specs.declared.info.SsTableHandle.{SsTableHandle}
 use Rattle.slate_db.specs.Model.{Rows}
 use Rattle.slate_db.specs.OpenScans.{AreEach, AreScanSources, HasRows, IsInMemory, IsMemorySource, IsOverRun, IsOwnSource, IsRunSource}
@@ -70,6 +70,10 @@ pub run_is : (range within : BytesRange) (order : IterationOrder) (n : ℕ) (run
     copy.tables.items ≡ run.tables.items → IsRunIterator within copy order it.rows → IsRunSource range order n run s
 run_is range within order n run copy it s iterator upto same tables h = (upto, subst (λ (x : ReadSource). IsOverRun range order run x) (sym iterator) (record {
   within = h.within ∙ same;
+  fresh = h.fresh;
+  unopened = h.unopened;
+  closed = h.closed;
+  opens = h.opens ∙ (λ i. reached (same i) order (tables i));
   brings = λ w kepts readable. subst (λ (b : BytesRange). BringsRun w order it.rows (in_turn order (rows_in_run b order kepts))) same (h.brings w kepts (subst (λ (hs : List SsTableHandle). AreReadable w hs kepts) (sym tables) readable));
 }))
 

@@ -36,7 +36,7 @@ use Rattle.slate_read.specs.declared.read_source.ReadSource.{ReadSource}
 use Rattle.slate_read.specs.Filtering.{upto_seq}
 use Rattle.slate_read.specs.MergeStates.{IsSoundMerge, refuses_in, rest_of_merge}
 use Rattle.slate_read.specs.ReadSources as read
-use Rattle.slate_read.specs.ShownBy.{ShowsByReads}
+use Rattle.slate_read.specs.Showing.{ShowsByReads}
 use Rattle.slate_table.specs.declared.info.SsTableHandle.{SsTableHandle}
 use Rattle.slate_table.specs.Parts.{Encode}
 use Rattle.slate_txn.specs.Alone.{scans_left}

@@ -7,7 +7,7 @@ use Rattle.slate_db.proofs.SourceLists.{memory_is, sources_end, sources_first, s
 use Rattle.slate_db.proofs.open_scan.memory_sources.Goals as goal
 
 pub loop-at-init : goal.loop-at-init
-loop-at-init g c =
+loop-at-init c =
     let one = c.in_ok-rows.ensures in
     let made = c.in_ok-source.ensures in
     record {
@@ -19,7 +19,7 @@ loop-at-init g c =
     }
 
 pub loop-at-preserved : goal.loop-at-preserved
-loop-at-preserved g c =
+loop-at-preserved c =
     let i = c.loop-at.at - 1 in
     let below : c.loop-at.at - 1 < length c.args.frozen.now = omega (arith, c.loop-at-test.true, c.loop-at.invariant.within) in
     let next : c.loop-at.at ≡ c.loop-at.at - 1 + 1 = omega (arith, c.loop-at-test.true) in
@@ -35,7 +35,7 @@ loop-at-preserved g c =
     }
 
 pub returns : goal.returns
-returns g c = record {
+returns c = record {
   each = sources_end (IsMemorySource c.args.range.now c.args.order c.args.begin) (c.args.active.now.rows ∷ []) (map (λ (t : ImmutableMemtable). t.rows) c.args.frozen.now) c.loop-at.at c.loop-at.sources.items (omega (arith, c.loop-at-test.false)) c.loop-at.invariant.each;
   cause = tt;
 }
