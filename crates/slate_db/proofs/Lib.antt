@@ -42,6 +42,9 @@ pub mod Shown
 mod Loads
 mod Steps
 mod Notes
+mod Passing
+mod ScanStates
+mod ScanNotes
 mod Refused
 mod Plain
 pub mod Managing
@@ -57,3 +60,11 @@ mod KeyRows
 mod Scans
 mod ScanSources
 mod ScanLists
+mod ScanRows
+mod ScanWorlds
+mod ScanTables
+mod SourceLists
+mod ScanOpenings
+mod ScanRefusals
+mod OpenNotes
+mod ScanMerges

@@ -29,3 +29,6 @@ pub mod Readable
 pub mod Vouched
 pub mod Scanned
 pub mod ScanLaws
+pub mod Values
+pub mod Scans
+pub mod OpenScans

@@ -1,5 +1,21 @@
-// The laws of the definitions. Each is proved of all values, and no call does anything.
+//! What all calls on one core are given alike, beside what is outside; and the laws of the definitions, each of which is
+//! proved of all values by a call that does nothing.
 ghost use Rattle.slate_db.specs.ScanLaws.{ListsHaveAllRows, ScansOfCoreShowWhatIsSeen, ScansShowWhatIsSeen};
+
+use slate_filter::FilterPolicy;
+use slate_types::Options;
+
+/// The options, what gives keys their segments, and the policies of filters. All calls on one core are given laws of one
+/// meaning.
+#[derive(Drop)]
+pub struct Laws<X> {
+    /// The options, which must be valid.
+    pub options: Options,
+    /// What gives each key the prefix of its segment, where there are segments. Not asked yet.
+    pub segments: Option<X>,
+    /// The policies of the filters that tables get. Not asked yet.
+    pub policies: Vec<Box<dyn FilterPolicy>>,
+}
 
 /// Of scans. Where the lists that are merged have, of each key in the range, the rows of all layers, and these fold as those of
 /// the commits, what is left without tombstones is what a reader sees. So it is of the layers of each core, at a sequence from
