@@ -27,3 +27,4 @@ pub mod Answered
 pub mod Shown
 pub mod Readable
 pub mod Vouched
+pub mod Scans

@@ -1,15 +1,21 @@
 //! The core: the journal of a store, what is open in it, and the rows in memory.
-ghost use Rattle.std.specs.Prelude.{◌≡◌, ℕ, ◌≢◌, ◌⊎◌, ◌+◌, ◌-◌, ◌^◌, ◌≤◌, ◌<◌, ◌∷◌, List, [], ◌++◌, length, IfOk, IfErr, OnOk, OnErr, IsOk, Err, IsOkUnless, IsSome, Some, false, is_some, map, option_map};
-ghost use Rattle.std.specs.List.{AllByRecursion};
+ghost use Rattle.std.specs.Prelude.{◌≡◌, ℕ, ◌≢◌, ◌⊎◌, ◌+◌, ◌-◌, ◌^◌, ◌≤◌, ◌<◌, ◌∷◌, List, [], ◌++◌, length, IfOk, IfErr, OnOk, OnErr, IsOk, Err, IsOkUnless, IsSome, Option, None, Some, true, false, is_some, map, option_map, count_by, drop, nat_eq};
+ghost use Rattle.std.specs.List.{AllByRecursion, starts_with};
 ghost use Rattle.slate_types.specs.Config.{IsValid};
 ghost use Rattle.slate_types.specs.declared.error.SlateDBError.{SlateDBError};
 ghost use Rattle.slate_types.specs.Fold.{Combine, fold_rows, shown};
 ghost use Rattle.slate_types.specs.Rows.{key_value};
-ghost use Rattle.slate_types.specs.Outside.{IsFault, Puts};
+ghost use Rattle.slate_types.specs.declared.types.RowEntry.{RowEntry};
+ghost use Rattle.slate_types.specs.Iteration.{drop_before};
+ghost use Rattle.slate_types.specs.Keys.{in_range, is_refused};
+ghost use Rattle.slate_types.specs.Outside.{Act, IsFault, OnlyReads, Puts};
+ghost use Rattle.slate_types.specs.Refusing.{NoMore};
+ghost use Rattle.slate_types.specs.World.{World, Checks, Made, Sees};
 ghost use Rattle.slate_mem.specs.Table.{newest};
 ghost use Rattle.slate_txn.specs.declared.event.TranscriptStep.TheVariants as steps;
-ghost use Rattle.slate_txn.specs.Alone.{own_of};
-ghost use Rattle.slate_txn.specs.Reads.{key_rows, up_to};
+ghost use Rattle.slate_txn.specs.Alone.{first_left, own_of};
+ghost use Rattle.slate_txn.specs.Reads.{key_rows, rows_seen, up_to};
+ghost use Rattle.slate_txn.specs.declared.line.ScanStep.{ScanStep};
 ghost use Rattle.slate_txn.specs.declared.event.Event.TheVariants as events;
 ghost use Rattle.slate_txn.specs.declared.line.Line.TheVariants as lines;
 ghost use Rattle.slate_txn.specs.Named.{find_named};
@@ -20,10 +26,10 @@ ghost use Rattle.slate_mem.specs.Refusals.{op_refusal};
 ghost use Rattle.slate_mem.specs.RowOf.{own_row};
 ghost use Rattle.slate_mem.specs.BatchModel.{IsBatchOf};
 ghost use Rattle.slate_txn.specs.Places.{IsQuiet};
-ghost use Rattle.slate_txn.specs.Reply.{Done, Refused, Begun, Committed, Found, Written, Frozen, Flushed};
+ghost use Rattle.slate_txn.specs.Reply.{Done, Refused, RowsAre, Begun, Committed, Found, Written, Frozen, Flushed};
 ghost use Rattle.slate_txn.specs.Settings.{settings_of};
 ghost use Rattle.slate_txn.specs.State.{Tx, opening, last_of};
-ghost use Rattle.slate_txn.specs.Step.{noted, step, with_op, with_marks, with_unmarks};
+ghost use Rattle.slate_txn.specs.Step.{is_scan, noted, step, with_op, with_marks, with_unmarks};
 ghost use Rattle.slate_db.specs.Answered.{AddsTables};
 ghost use Rattle.slate_db.specs.Meaning.{Meaning, IsLawfulMeaning, combine_of, rules_of};
 ghost use Rattle.slate_db.specs.Frozen.{IsFrozen};
@@ -39,15 +45,18 @@ ghost use Rattle.slate_txn.specs.Conflict.{conflict};
 ghost use Rattle.slate_txn.specs.HandedOver.{IsConflict};
 ghost use Rattle.slate_db.specs.Committed.{IsCommitted, IsEnded};
 ghost use Rattle.slate_db.specs.Operated.{operated};
+ghost use Rattle.slate_db.specs.Scans.{HasLeft, IsFor, IsOpenScan, IsRefusedByScan, IsScanError, IsScanOf, Keeps, Leaves, LeavesIn, ScanRefuses, id_of, number_of, scan_of};
 ghost use Rattle.slate_db.specs.Vouched.{IsVouchedFor};
 ghost use Rattle.slate_db.specs.Written.{IsWritten};
 
 use crate::commit::{Made, make};
 use crate::flush::stored;
+use crate::laws::Laws;
 use crate::layers::Layers;
 use crate::log::Log;
 use crate::lookup::newest_of_runs;
 use crate::put::{enter, put_batch};
+use crate::scan::TxnIterator;
 use bytes::Bytes;
 use slate_mem::WriteBatch;
 use slate_mem::fold::{answer, first};
@@ -56,8 +65,8 @@ use slate_store::{Env, EnvOf, Store};
 use slate_txn::fold::fold_found;
 use slate_txn::{Journal, OpList, OpenTransactions, TransactionManager};
 use slate_types::{
-    BlockTransformer, IsolationLevel, KeyValue, MergeOperator, Options, Outside, PutOptions,
-    ReadOptions, RowEntry, SlateDBError,
+    BlockTransformer, BytesRange, IsolationLevel, KeyValue, MergeOperator, Options, Outside,
+    PrefixExtractor, PutOptions, ReadOptions, RowEntry, ScanOptions, SlateDBError,
 };
 use std::alloc::Global;
 use std::marker::Model;
@@ -396,6 +405,109 @@ impl Core {
             return Err(SlateDBError::from(error));
         }
         Ok(found)
+    }
+
+    /// Opens a scan of an open transaction over the rows in a range, in an order. The rows are fixed now: later calls change nothing
+    /// of them. The opening is noted in the transaction's transcript. Where a prefix is given each key of the range must begin with
+    /// it.
+    ///
+    /// Refuses by `StoreFault` and `BlockTransformError`, each only where its count of faults rose; by `ChecksumMismatch`,
+    /// `CorruptTable` and `InvalidRowFlags`, only where reads of this call show it, of a table that the journal names; and by
+    /// `OutOfMemory`. Then nothing is noted.
+    pub fn scan<'a, S: Store, M: MergeOperator, T: BlockTransformer, X: PrefixExtractor>(
+        &mut self,
+        id: &Uuid,
+        range: BytesRange,
+        prefix: Option<Bytes>,
+        options: &ScanOptions,
+        env: &mut Env<'_, S, M, T>,
+        laws: &'a Laws<X>,
+    ) -> Result<TxnIterator<'a>, SlateDBError>
+        requires open { IsSome (find_named id.now self.old.state.txns) }
+        requires range { is_refused range.start range.end ≡ false }
+        requires prefix { (p k : List ℕ) → prefix ≡ Some p → in_range range k ≡ true → starts_with nat_eq k p ≡ true }
+        requires valid { IsValid laws.now.options }
+        ensures noted { OnOk result (self.new ≡ record self.old { state = noted self.old.state id.now (steps.Scan options.now.order range ∷ []) }) }
+        ensures step { OnOk result ((m : Meaning) → step (rules_of self.old.settings m) self.old.state (lines.Scan id.now options.now.order range.start range.end (ScanStep.Rows 0 ∷ [])) ≡ (self.new.state, RowsAre [])) }
+        ensures names { (t : Tx) → find_named id.now self.old.state.txns ≡ Some t → IfOk result (IsScanOf id.now (count_by is_scan t.transcript) options.now.order range) }
+        ensures opened { let reach = ⟦<EnvOf<S, M, T> as Outside>⟧.reach in
+            let m = (reach env.old).meaning in
+            (t : Tx) → find_named id.now self.old.state.txns ≡ Some t → (a : IsAnswered (reach env.old) (reach env.new) self.old) →
+            IfOk result (λ it. LeavesIn a.os m it (rows_seen (rules_of self.old.settings m) self.old.state.commits t.begin t.ops options.now.order range)) }
+        ensures left { let reach = ⟦<EnvOf<S, M, T> as Outside>⟧.reach in
+            let m = (reach env.old).meaning in
+            (t : Tx) → find_named id.now self.old.state.txns ≡ Some t → IfOk result (λ it. HasLeft m self.new it (rows_seen (rules_of self.old.settings m) self.old.state.commits t.begin t.ops options.now.order range)) }
+        ensures later { let reach = ⟦<EnvOf<S, M, T> as Outside>⟧.reach in
+            let m = (reach env.old).meaning in
+            IfOk result (λ it. IsFor m (scan_of it) × Made (reach env.old) (reach env.new) (λ reads. (later : List Act) (at : Option (List ℕ)) (e : SlateDBError) → ScanRefuses (scan_of it) m later at e → IsRefusedByScan m self.old (reads ++ later) e)) }
+        ensures undamaged { let reach = ⟦<EnvOf<S, M, T> as Outside>⟧.reach in IsAnswered (reach env.old) (reach env.new) self.old → IfErr result (IsFault (reach env.old) (reach env.new)) }
+        ensures cause { let reach = ⟦<EnvOf<S, M, T> as Outside>⟧.reach in IfErr result (IsScanError (reach env.old) (reach env.new) self.old) }
+        ensures vouched { OnOk result ((m : Meaning) (other : List ℕ) → IsVouchedFor m self.old other → IsVouchedFor m self.new other) }
+        ensures same { OnErr result (self.new ≡ self.old) }
+        ensures kept { (m : Meaning) → IsKept m self.old → IsKept m self.new }
+        ensures settings { self.new.settings ≡ self.old.settings }
+        ensures reads { let reach = ⟦<EnvOf<S, M, T> as Outside>⟧.reach in OnlyReads (reach env.old) (reach env.new) }
+    {
+        unreachable!()
+    }
+
+    /// The next row of a scan, or `None` at its end, which is noted in the transcript of the scan's transaction. It is the first of
+    /// those that are left of the list that was fixed at the opening. Refuses as `DbIterator::next` does, and then nothing is
+    /// noted, and the iterator answers the refusal again.
+    pub fn next<S: Store, M: MergeOperator, T: BlockTransformer>(
+        &mut self,
+        it: &mut TxnIterator<'_>,
+        env: &mut Env<'_, S, M, T>,
+    ) -> Result<Option<KeyValue>, SlateDBError>
+        requires { IsOpenScan self.old it.old }
+        ensures noted { IfOk result (λ a. self.new ≡ record self.old { state = noted self.old.state (id_of it.old) (steps.Next (number_of it.old) a ∷ []) }) }
+        ensures rows { let reach = ⟦<EnvOf<S, M, T> as Outside>⟧.reach in (w : World) (rows : List RowEntry) → Leaves (scan_of it.old) w rows → Sees w (reach env.old) (reach env.new) →
+            IfOk result (λ a. (a ≡ first_left rows) × Leaves (scan_of it.new) w (drop 1 rows)) }
+        ensures undamaged { let reach = ⟦<EnvOf<S, M, T> as Outside>⟧.reach in (w : World) (rows : List RowEntry) → Leaves (scan_of it.old) w rows → Sees w (reach env.old) (reach env.new) → IfErr result (IsFault (reach env.old) (reach env.new)) }
+        ensures checked { let reach = ⟦<EnvOf<S, M, T> as Outside>⟧.reach in (w : World) (rows : List RowEntry) → Leaves (scan_of it.old) w rows → OnOk result (Checks w (reach env.old) (reach env.new)) }
+        ensures later { let reach = ⟦<EnvOf<S, M, T> as Outside>⟧.reach in OnOk result (Made (reach env.old) (reach env.new) (λ reads. NoMore (ScanRefuses (scan_of it.old) (reach env.old).meaning) reads (ScanRefuses (scan_of it.new) (reach env.old).meaning))) }
+        ensures cause { let reach = ⟦<EnvOf<S, M, T> as Outside>⟧.reach in IfErr result (λ e. Made (reach env.old) (reach env.new) (λ reads. IsFault (reach env.old) (reach env.new) e ⊎ ScanRefuses (scan_of it.old) (reach env.old).meaning reads None e)) }
+        ensures again { IfErr result (λ e. Keeps e (scan_of it.new)) }
+        ensures names { IsScanOf (id_of it.old) (number_of it.old) (scan_of it.old).order (scan_of it.old).range it.new }
+        ensures left { (m : Meaning) (rows : List RowEntry) → HasLeft m self.old it.old rows → OnOk result (HasLeft m self.new it.new (drop 1 rows)) }
+        ensures vouched { let reach = ⟦<EnvOf<S, M, T> as Outside>⟧.reach in
+            let m = (reach env.old).meaning in
+            (w : World) (rows : List RowEntry) → Leaves (scan_of it.old) w rows → Sees w (reach env.old) (reach env.new) → HasLeft m self.old it.old rows →
+            OnOk result ((other : List ℕ) → IsVouchedFor m self.old other → IsVouchedFor m self.new other) }
+        ensures same { OnErr result (self.new ≡ self.old) }
+        ensures kept { (m : Meaning) → IsKept m self.old → IsKept m self.new }
+        ensures settings { self.new.settings ≡ self.old.settings }
+        ensures reads { let reach = ⟦<EnvOf<S, M, T> as Outside>⟧.reach in OnlyReads (reach env.old) (reach env.new) }
+    {
+        unreachable!()
+    }
+
+    /// Drops the leading rows of a scan that its order puts before the key, which is noted in the transcript of the scan's
+    /// transaction. Refuses as `DbIterator::seek` does, and then nothing is noted, and the iterator answers the refusal again.
+    pub fn seek<S: Store, M: MergeOperator, T: BlockTransformer>(
+        &mut self,
+        it: &mut TxnIterator<'_>,
+        key: &[u8],
+        env: &mut Env<'_, S, M, T>,
+    ) -> Result<(), SlateDBError>
+        requires { IsOpenScan self.old it.old }
+        ensures noted { OnOk result (self.new ≡ record self.old { state = noted self.old.state (id_of it.old) (steps.Seek (number_of it.old) key.now ∷ []) }) }
+        ensures rows { let reach = ⟦<EnvOf<S, M, T> as Outside>⟧.reach in (w : World) (rows : List RowEntry) → Leaves (scan_of it.old) w rows → Sees w (reach env.old) (reach env.new) →
+            OnOk result (Leaves (scan_of it.new) w (drop_before (scan_of it.old).order key.now rows)) }
+        ensures undamaged { let reach = ⟦<EnvOf<S, M, T> as Outside>⟧.reach in (w : World) (rows : List RowEntry) → Leaves (scan_of it.old) w rows → Sees w (reach env.old) (reach env.new) → IfErr result (IsFault (reach env.old) (reach env.new)) }
+        ensures checked { let reach = ⟦<EnvOf<S, M, T> as Outside>⟧.reach in (w : World) (rows : List RowEntry) → Leaves (scan_of it.old) w rows → OnOk result (Checks w (reach env.old) (reach env.new)) }
+        ensures later { let reach = ⟦<EnvOf<S, M, T> as Outside>⟧.reach in OnOk result (Made (reach env.old) (reach env.new) (λ reads. NoMore (ScanRefuses (scan_of it.old) (reach env.old).meaning) reads (ScanRefuses (scan_of it.new) (reach env.old).meaning))) }
+        ensures cause { let reach = ⟦<EnvOf<S, M, T> as Outside>⟧.reach in IfErr result (λ e. Made (reach env.old) (reach env.new) (λ reads. IsFault (reach env.old) (reach env.new) e ⊎ ScanRefuses (scan_of it.old) (reach env.old).meaning reads (Some key.now) e)) }
+        ensures again { IfErr result (λ e. Keeps e (scan_of it.new)) }
+        ensures names { IsScanOf (id_of it.old) (number_of it.old) (scan_of it.old).order (scan_of it.old).range it.new }
+        ensures left { (m : Meaning) (rows : List RowEntry) → HasLeft m self.old it.old rows → OnOk result (HasLeft m self.new it.new (drop_before (scan_of it.old).order key.now rows)) }
+        ensures vouched { OnOk result ((m : Meaning) (other : List ℕ) → IsVouchedFor m self.old other → IsVouchedFor m self.new other) }
+        ensures same { OnErr result (self.new ≡ self.old) }
+        ensures kept { (m : Meaning) → IsKept m self.old → IsKept m self.new }
+        ensures settings { self.new.settings ≡ self.old.settings }
+        ensures reads { let reach = ⟦<EnvOf<S, M, T> as Outside>⟧.reach in OnlyReads (reach env.old) (reach env.new) }
+    {
+        unreachable!()
     }
 
     /// Puts a value in an open transaction. Refuses by `EmptyKey`, by `KeyTooLong` above 65535 bytes, by `ValueTooLong` above

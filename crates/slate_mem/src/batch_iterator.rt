@@ -2,6 +2,7 @@
 ghost use Rattle.std.specs.Prelude.{◌≡◌, ℕ, List, ◌++◌, map, reverse, IfOk, OnOk, IsOkUnless};
 ghost use Rattle.slate_types.specs.declared.error.SlateDBError.{SlateDBError};
 ghost use Rattle.slate_types.specs.Iteration.{IsInOrder};
+ghost use Rattle.slate_types.specs.RowTurns.{AreInTurn, row_before};
 ghost use Rattle.slate_types.specs.Rows.{of_key};
 ghost use Rattle.slate_mem.specs.BatchRows.{batch_rows, stamped, newest_rows};
 
@@ -47,6 +48,7 @@ impl WriteBatchIterator {
     ) -> Result<WriteBatchIterator, SlateDBError>
         ensures rows { IfOk result (λ it. (k : List ℕ) → of_key k it.rows ≡ batch_rows range.now seq default_ttl_millis now batch.now.ops k) }
         ensures in_order { IfOk result (λ it. IsInOrder order it.rows) }
+        ensures turn { IfOk result (λ it. AreInTurn (row_before order) it.rows) }
         ensures order { IfOk result (λ it. it.order ≡ order) }
         ensures cause { IsOkUnless result SlateDBError.OutOfMemory }
     {

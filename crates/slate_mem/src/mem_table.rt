@@ -13,6 +13,7 @@ ghost use Rattle.slate_types.specs.Rows.{sequenced_cmp, estimated_size, of_key};
 ghost use Rattle.slate_types.specs.Keys.{key_cmp, keys_set, among};
 ghost use Rattle.slate_types.specs.Fold.{greatest_seq};
 ghost use Rattle.slate_types.specs.Iteration.{IsInOrder};
+ghost use Rattle.slate_types.specs.RowTurns.{AreInTurn, row_before};
 ghost use Rattle.slate_mem.specs.Table.{no_rows, put_rows, ranged, newest, last_tick, first_seq};
 ghost use Rattle.slate_mem.specs.Tied.{IsRows, insert_row, insert_rows, undone, all_undone, taken};
 
@@ -113,6 +114,7 @@ impl MemTable {
     ) -> Result<MemTableIterator, SlateDBError>
         ensures rows { IfOk result (λ it. (k : List ℕ) → of_key k it.rows ≡ of_key k (ranged range.now self.now.rows)) }
         ensures in_order { IfOk result (λ it. IsInOrder order it.rows) }
+        ensures turn { IfOk result (λ it. AreInTurn (row_before order) it.rows) }
         ensures order { IfOk result (λ it. it.order ≡ order) }
         ensures cause { IsOkUnless result SlateDBError.OutOfMemory }
     {
@@ -209,6 +211,7 @@ impl ImmutableMemtable {
     ) -> Result<MemTableIterator, SlateDBError>
         ensures rows { IfOk result (λ it. (k : List ℕ) → of_key k it.rows ≡ of_key k (ranged range.now self.now.rows)) }
         ensures in_order { IfOk result (λ it. IsInOrder order it.rows) }
+        ensures turn { IfOk result (λ it. AreInTurn (row_before order) it.rows) }
         ensures order { IfOk result (λ it. it.order ≡ order) }
         ensures cause { IsOkUnless result SlateDBError.OutOfMemory }
     {

@@ -25,3 +25,7 @@ pub mod MergeStateLaws
 pub mod MergedLaws
 pub mod Required
 pub mod Peeking
+pub mod RunIterators
+pub mod RunLaws
+pub mod ShownBy
+pub mod ReadSources

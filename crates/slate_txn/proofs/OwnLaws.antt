@@ -1,14 +1,14 @@
 -- What a transaction owns stays so, and the rows of its own operations.
-use Rattle.std.proofs.Common.{◌≡◌, ℕ, ◌-◌, ◌^◌, Bool, true, false, cond, ◌&&◌, ◌||◌, List, [], ◌∷◌, ◌++◌, map, reverse, filter, bytes_eq, nat_le, None, Option, refl, sym, ap, subst, ◌∙◌, append-nil, Ordering, Less, Equal, Greater}
+use Rattle.std.proofs.Common.{◌≡◌, ℕ, ◌+◌, ◌-◌, ◌^◌, count_by, add_zero, Bool, true, false, cond, ◌&&◌, ◌||◌, List, [], ◌∷◌, ◌++◌, map, reverse, filter, bytes_eq, nat_le, None, Option, refl, sym, ap, subst, ◌∙◌, append-nil, Ordering, Less, Equal, Greater}
 use Rattle.std.specs.Prelude.{Result, Ok, Err, OnOk, OnErr}
 use Rattle.std.specs.List.{list_any}
 use Rattle.std.specs.Ordering.{is_le, is_lt, ordering_reverse}
 use Rattle.std.proofs.lemmas.List.{reverse-reverse, map-append}
+use Rattle.std.proofs.lemmas.List.Sums.{sum_by-append}
 use Rattle.std.proofs.lemmas.Grind.{reverse_onto}
 use Rattle.slate_types.specs.declared.config.IsolationLevel.{IsolationLevel}
 use Rattle.slate_types.specs.declared.config.IsolationLevel.TheVariants.{Snapshot, SerializableSnapshot}
 use Rattle.slate_types.specs.declared.iter.IterationOrder.TheVariants.{Ascending}
-use Rattle.slate_types.specs.declared.types.KeyValue.{KeyValue}
 use Rattle.slate_types.specs.declared.types.RowEntry.{RowEntry}
 use Rattle.slate_types.specs.Fold.{from_last}
 use Rattle.slate_types.specs.Iteration.{NoneBefore}
@@ -28,10 +28,10 @@ use Rattle.slate_txn.specs.declared.event.TranscriptStep.{TranscriptStep}
 use Rattle.slate_txn.specs.declared.event.TranscriptStep.TheVariants as steps
 use Rattle.slate_txn.specs.Alone.{own_of}
 use Rattle.slate_txn.specs.Conflict.{reads_at}
-use Rattle.slate_txn.specs.Own.{keys_read, only_key}
+use Rattle.slate_txn.specs.Own.{read_on, only_key}
 use Rattle.slate_txn.specs.OwnView.{IsOwn}
 use Rattle.slate_txn.specs.State.{Tx}
-use Rattle.slate_txn.specs.Step.{with_op as tx_with_op}
+use Rattle.slate_txn.specs.Step.{is_scan, with_op as tx_with_op}
 use Rattle.slate_txn.specs.Tracking.{Reading, nothing_read, with_step, with_steps}
 use Rattle.slate_txn.proofs.StepLaws.{own-append}
 
@@ -41,25 +41,37 @@ steps_more : (rs : Reading) (ts : List TranscriptStep) (t : TranscriptStep) → 
 steps_more rs [] t = refl
 steps_more rs (x ∷ ts) t = steps_more (with_step rs x) ts t
 
-read_own : (level : IsolationLevel) (ts : List TranscriptStep) (k : List ℕ) (op : WriteOp) → reads_at level (ts ++ (steps.Own k op ∷ [])) ≡ reads_at level ts
-read_own Snapshot ts k op = refl
-read_own SerializableSnapshot ts k op = steps_more nothing_read ts (steps.Own k op)
+pub reads_more : (level : IsolationLevel) (ts : List TranscriptStep) (t : TranscriptStep) → reads_at level (ts ++ (t ∷ [])) ≡ read_on level (reads_at level ts) t
+reads_more Snapshot ts t = refl
+reads_more SerializableSnapshot ts t = steps_more nothing_read ts t
 
-read_get : (level : IsolationLevel) (ts : List TranscriptStep) (k : List ℕ) (a : Option KeyValue) →
-    record (reads_at level ts) { keys = keys_read level (reads_at level ts).keys k } ≡ reads_at level (ts ++ (steps.Get k a ∷ []))
-read_get Snapshot ts k a = refl
-read_get SerializableSnapshot ts k a = sym (steps_more nothing_read ts (steps.Get k a))
+read_own : (level : IsolationLevel) (rs : Reading) (k : List ℕ) (op : WriteOp) → read_on level rs (steps.Own k op) ≡ rs
+read_own Snapshot rs k op = refl
+read_own SerializableSnapshot rs k op = refl
 
-pub own_new : (level : IsolationLevel) → IsOwn level [] no_ops nothing_read
-own_new Snapshot = record { batch = (refl, refl); plain = refl; reading = refl }
-own_new SerializableSnapshot = record { batch = (refl, refl); plain = refl; reading = refl }
+-- ---- how many scans it opened
+
+pub count_more : (ts : List TranscriptStep) (t : TranscriptStep) → count_by is_scan (ts ++ (t ∷ [])) ≡ count_by is_scan ts + cond (is_scan t) 1 0
+count_more ts t = sum_by-append (λ x. cond (is_scan x) 1 0) ts (t ∷ []) ∙ ap (λ n. count_by is_scan ts + n) (by (is_scan t))
+  where
+    by : (b : Bool) → 0 + cond b 1 0 ≡ cond b 1 0
+    by true = refl
+    by false = refl
+
+pub count_same : (ts : List TranscriptStep) (t : TranscriptStep) → is_scan t ≡ false → count_by is_scan (ts ++ (t ∷ [])) ≡ count_by is_scan ts
+count_same ts t h = count_more ts t ∙ ap (λ b. count_by is_scan ts + cond b 1 0) h ∙ add_zero (count_by is_scan ts)
+
+pub own_new : (level : IsolationLevel) → IsOwn level [] no_ops nothing_read 0
+own_new Snapshot = record { batch = (refl, refl); plain = refl; reading = refl; scans = refl }
+own_new SerializableSnapshot = record { batch = (refl, refl); plain = refl; reading = refl; scans = refl }
 
 -- the same parts
-pub own_same : (level : IsolationLevel) (ts us : List TranscriptStep) (b c : BatchModel) (rs ss : Reading) → us ≡ ts → c ≡ b → ss ≡ rs → IsOwn level ts b rs → IsOwn level us c ss
-own_same level ts us b c rs ss same batches readings w = record {
+pub own_same : (level : IsolationLevel) (ts us : List TranscriptStep) (b c : BatchModel) (rs ss : Reading) (n m : ℕ) → us ≡ ts → c ≡ b → ss ≡ rs → m ≡ n → IsOwn level ts b rs n → IsOwn level us c ss m
+own_same level ts us b c rs ss n m same batches readings count w = record {
   batch = subst (λ (x : BatchModel). IsBatchOf (own_of us) x) (sym batches) (subst (λ (x : List TranscriptStep). IsBatchOf (own_of x) b) (sym same) w.batch);
   plain = ap (λ (x : BatchModel). x.held_merge) batches ∙ w.plain;
   reading = readings ∙ w.reading ∙ ap (reads_at level) (sym same);
+  scans = count ∙ w.scans ∙ ap (λ (x : List TranscriptStep). count_by is_scan x) (sym same);
 }
 
 plain_more : (b : BatchModel) (k : List ℕ) (op : WriteOp) → replaces op ≡ true → b.held_merge ≡ false → (with_op b k op).held_merge ≡ false
@@ -70,24 +82,30 @@ plain_more b k (Merge v o) r h = cc
 pub own_more : (ts : List TranscriptStep) (k : List ℕ) (op : WriteOp) → own_of (ts ++ (steps.Own k op ∷ [])) ≡ own_of ts ++ ((k, op) ∷ [])
 own_more ts k op = own-append ts (steps.Own k op ∷ [])
 
-pub own_operated : (level : IsolationLevel) (ts us : List TranscriptStep) (b c : BatchModel) (rs : Reading) (k : List ℕ) (op : WriteOp) → replaces op ≡ true →
-    us ≡ ts ++ (steps.Own k op ∷ []) → c ≡ with_op b k op → ((ops : Ops) → IsBatchOf ops b → IsBatchOf (ops ++ ((k, op) ∷ [])) c) → IsOwn level ts b rs → IsOwn level us c rs
-own_operated level ts us b c rs k op r added batch means w = record {
+pub own_operated : (level : IsolationLevel) (ts us : List TranscriptStep) (b c : BatchModel) (rs : Reading) (n : ℕ) (k : List ℕ) (op : WriteOp) → replaces op ≡ true →
+    us ≡ ts ++ (steps.Own k op ∷ []) → c ≡ with_op b k op → ((ops : Ops) → IsBatchOf ops b → IsBatchOf (ops ++ ((k, op) ∷ [])) c) → IsOwn level ts b rs n → IsOwn level us c rs n
+own_operated level ts us b c rs n k op r added batch means w = record {
   batch = subst (λ (os : Ops). IsBatchOf os c) (sym (own_more ts k op) ∙ ap own_of (sym added)) (means (own_of ts) w.batch);
   plain = ap (λ (x : BatchModel). x.held_merge) batch ∙ plain_more b k op r w.plain;
-  reading = w.reading ∙ sym (read_own level ts k op) ∙ ap (reads_at level) (sym added);
+  reading = w.reading ∙ sym (reads_more level ts (steps.Own k op) ∙ read_own level (reads_at level ts) k op) ∙ ap (reads_at level) (sym added);
+  scans = w.scans ∙ sym (count_same ts (steps.Own k op) refl) ∙ ap (λ (x : List TranscriptStep). count_by is_scan x) (sym added);
 }
 
-pub own_noted : (level : IsolationLevel) (ts us : List TranscriptStep) (b : BatchModel) (rs : Reading) (ks : List (List ℕ)) (k : List ℕ) (a : Option KeyValue) →
-    us ≡ ts ++ (steps.Get k a ∷ []) → ks ≡ keys_read level rs.keys k → IsOwn level ts b rs → IsOwn level us b (record rs { keys = ks })
-own_noted level ts us b rs ks k a noted keys w = record {
-  batch = subst (λ (os : Ops). IsBatchOf os b) (sym (append-nil (own_of ts)) ∙ sym (own-append ts (steps.Get k a ∷ [])) ∙ ap own_of (sym noted)) w.batch;
+-- a step that is no operation of its own
+abbrev pub IsRead : TranscriptStep → Type 0
+IsRead t = own_of (t ∷ []) ≡ []
+
+pub noted_own : (ts : List TranscriptStep) (t : TranscriptStep) → IsRead t → own_of (ts ++ (t ∷ [])) ≡ own_of ts
+noted_own ts t h = own-append ts (t ∷ []) ∙ ap (λ (os : Ops). own_of ts ++ os) h ∙ append-nil (own_of ts)
+
+pub own_noted : (level : IsolationLevel) (ts us : List TranscriptStep) (b : BatchModel) (rs ss : Reading) (n m : ℕ) (t : TranscriptStep) → IsRead t →
+    us ≡ ts ++ (t ∷ []) → ss ≡ read_on level rs t → m ≡ n + cond (is_scan t) 1 0 → IsOwn level ts b rs n → IsOwn level us b ss m
+own_noted level ts us b rs ss n m t none noted read count w = record {
+  batch = subst (λ (os : Ops). IsBatchOf os b) (sym (noted_own ts t none) ∙ ap own_of (sym noted)) w.batch;
   plain = w.plain;
-  reading = (λ i. record rs { keys = keys i }) ∙ ap (λ (x : Reading). record x { keys = keys_read level x.keys k }) w.reading ∙ read_get level ts k a ∙ ap (reads_at level) (sym noted);
+  reading = read ∙ ap (λ (x : Reading). read_on level x t) w.reading ∙ sym (reads_more level ts t) ∙ ap (reads_at level) (sym noted);
+  scans = count ∙ ap (λ x. x + cond (is_scan t) 1 0) w.scans ∙ sym (count_more ts t) ∙ ap (λ (x : List TranscriptStep). count_by is_scan x) (sym noted);
 }
-
-pub noted_own : (ts : List TranscriptStep) (k : List ℕ) (a : Option KeyValue) → own_of (ts ++ (steps.Get k a ∷ [])) ≡ own_of ts
-noted_own ts k a = own-append ts (steps.Get k a ∷ []) ∙ append-nil (own_of ts)
 
 -- ---- the rows of one key
 
@@ -192,16 +210,21 @@ newest_own k ops rows h =
 
 -- ---- after a call, from what is said of its parts
 
-pub own_operated_by : {X E : Type 0} (r : Result X E) (level : IsolationLevel) (ts us : List TranscriptStep) (b c : BatchModel) (rs : Reading) (k : List ℕ) (op : WriteOp) → replaces op ≡ true →
-    OnOk r (c ≡ with_op b k op) → ((ops : Ops) → IsBatchOf ops b → OnOk r (IsBatchOf (ops ++ ((k, op) ∷ [])) c)) → OnOk r (us ≡ ts ++ (steps.Own k op ∷ [])) → OnErr r (c ≡ b) → OnErr r (us ≡ ts) → IsOwn level ts b rs → IsOwn level us c rs
-own_operated_by (Ok _) level ts us b c rs k op r batch means added same_batch same_steps w = own_operated level ts us b c rs k op r added batch means w
-own_operated_by (Err _) level ts us b c rs k op r batch means steps same_batch same_steps w = own_same level ts us b c rs rs same_steps same_batch refl w
+pub own_operated_by : {X E : Type 0} (r : Result X E) (level : IsolationLevel) (ts us : List TranscriptStep) (b c : BatchModel) (rs : Reading) (n : ℕ) (k : List ℕ) (op : WriteOp) → replaces op ≡ true →
+    OnOk r (c ≡ with_op b k op) → ((ops : Ops) → IsBatchOf ops b → OnOk r (IsBatchOf (ops ++ ((k, op) ∷ [])) c)) → OnOk r (us ≡ ts ++ (steps.Own k op ∷ [])) → OnErr r (c ≡ b) → OnErr r (us ≡ ts) → IsOwn level ts b rs n → IsOwn level us c rs n
+own_operated_by (Ok _) level ts us b c rs n k op r batch means added same_batch same_steps w = own_operated level ts us b c rs n k op r added batch means w
+own_operated_by (Err _) level ts us b c rs n k op r batch means steps same_batch same_steps w = own_same level ts us b c rs rs n n same_steps same_batch refl refl w
 
-pub own_noted_by : {X E : Type 0} (r : Result X E) (level : IsolationLevel) (ts us : List TranscriptStep) (b : BatchModel) (rs ss : Reading) (k : List ℕ) (a : Option KeyValue) →
-    OnOk r (ss ≡ record rs { keys = keys_read level rs.keys k }) → OnOk r (us ≡ ts ++ (steps.Get k a ∷ [])) → OnErr r (ss ≡ rs) → OnErr r (us ≡ ts) → IsOwn level ts b rs → IsOwn level us b ss
-own_noted_by (Ok _) level ts us b rs ss k a read noted same_read same_steps w =
-    own_same level us us b b (record rs { keys = keys_read level rs.keys k }) ss refl refl read (own_noted level ts us b rs (keys_read level rs.keys k) k a noted refl w)
-own_noted_by (Err _) level ts us b rs ss k a read steps same_read same_steps w = own_same level ts us b b rs ss same_steps refl same_read w
+pub own_noted_by : {X E : Type 0} (r : Result X E) (level : IsolationLevel) (ts us : List TranscriptStep) (b : BatchModel) (rs ss : Reading) (n m : ℕ) (t : TranscriptStep) → IsRead t →
+    OnOk r (ss ≡ read_on level rs t) → OnOk r (us ≡ ts ++ (t ∷ [])) → OnOk r (m ≡ n + cond (is_scan t) 1 0) → OnErr r (ss ≡ rs) → OnErr r (us ≡ ts) → OnErr r (m ≡ n) → IsOwn level ts b rs n → IsOwn level us b ss m
+own_noted_by (Ok _) level ts us b rs ss n m t none read noted count same_read same_steps same_count w = own_noted level ts us b rs ss n m t none noted read count w
+own_noted_by (Err _) level ts us b rs ss n m t none read noted count same_read same_steps same_count w = own_same level ts us b b rs ss n m same_steps refl same_read same_count w
+
+-- where it is no opening, the count stays
+pub own_read_by : {X E : Type 0} (r : Result X E) (level : IsolationLevel) (ts us : List TranscriptStep) (b : BatchModel) (rs ss : Reading) (n : ℕ) (t : TranscriptStep) → IsRead t → is_scan t ≡ false →
+    OnOk r (ss ≡ read_on level rs t) → OnOk r (us ≡ ts ++ (t ∷ [])) → OnErr r (ss ≡ rs) → OnErr r (us ≡ ts) → IsOwn level ts b rs n → IsOwn level us b ss n
+own_read_by (Ok _) level ts us b rs ss n t none other read noted same_read same_steps w = own_noted level ts us b rs ss n n t none noted read (sym (add_zero n) ∙ ap (λ x. n + cond x 1 0) (sym other)) w
+own_read_by (Err _) level ts us b rs ss n t none other read noted same_read same_steps w = own_same level ts us b b rs ss n n same_steps refl same_read refl w
 
 pub after_own : (s t : Tx) (us : List TranscriptStep) (k : List ℕ) (op : WriteOp) → s ≡ t → s.ops ≡ own_of s.transcript → us ≡ s.transcript ++ (steps.Own k op ∷ []) → record s { ops = own_of us; transcript = us } ≡ tx_with_op k op t
 after_own s t us k op is own added =
@@ -209,12 +232,12 @@ after_own s t us k op is own added =
     ∙ (let ops = own_more s.transcript k op ∙ ap (λ (os : Ops). os ++ ((k, op) ∷ [])) (sym own) in λ i. record s { ops = ops i; transcript = s.transcript ++ (steps.Own k op ∷ []) })
     ∙ ap (tx_with_op k op) is
 
-pub after_get : (s t : Tx) (us : List TranscriptStep) (k : List ℕ) (a : Option KeyValue) → s ≡ t → s.ops ≡ own_of s.transcript → us ≡ s.transcript ++ (steps.Get k a ∷ []) →
-    record s { ops = own_of us; transcript = us } ≡ record t { transcript = t.transcript ++ (steps.Get k a ∷ []) }
-after_get s t us k a is own noted =
+pub after_read : (s t : Tx) (us : List TranscriptStep) (x : TranscriptStep) → IsRead x → s ≡ t → s.ops ≡ own_of s.transcript → us ≡ s.transcript ++ (x ∷ []) →
+    record s { ops = own_of us; transcript = us } ≡ record t { transcript = t.transcript ++ (x ∷ []) }
+after_read s t us x none is own noted =
     (λ i. record s { ops = own_of (noted i); transcript = noted i })
-    ∙ (let ops = noted_own s.transcript k a ∙ sym own in λ i. record s { ops = ops i; transcript = s.transcript ++ (steps.Get k a ∷ []) })
-    ∙ ap (λ (x : Tx). record x { transcript = x.transcript ++ (steps.Get k a ∷ []) }) is
+    ∙ (let ops = noted_own s.transcript x none ∙ sym own in λ i. record s { ops = ops i; transcript = s.transcript ++ (x ∷ []) })
+    ∙ ap (λ (y : Tx). record y { transcript = y.transcript ++ (x ∷ []) }) is
 
 -- nothing was changed
 pub after_none : (s t : Tx) (us : List TranscriptStep) → s ≡ t → s.ops ≡ own_of s.transcript → us ≡ s.transcript → record s { ops = own_of us; transcript = us } ≡ t

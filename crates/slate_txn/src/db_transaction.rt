@@ -1,7 +1,10 @@
 //! What a transaction owns: nothing of it is shared.
-ghost use Rattle.std.specs.Prelude.{◌≡◌, ◌⊎◌, ◌<◌, ◌++◌, ◌∷◌, ℕ, List, [], map, reverse, true, false, not, vec_len, vec_capacity, None, Some, Err, IfOk, IfErr, OnOk, OnErr, IsOkUnless};
+ghost use Rattle.std.specs.Prelude.{◌≡◌, ◌⊎◌, ◌<◌, ◌+◌, ◌++◌, ◌∷◌, ℕ, List, [], map, reverse, if◌then◌else◌, count_by, true, false, not, vec_len, vec_capacity, None, Some, Err, IfOk, IfErr, OnOk, OnErr, IsOkUnless};
 ghost use Rattle.slate_types.specs.declared.error.SlateDBError.{SlateDBError};
-ghost use Rattle.slate_types.specs.Keys.{among};
+ghost use Rattle.slate_types.specs.Iteration.{IsInOrder};
+ghost use Rattle.slate_types.specs.Keys.{among, in_range};
+ghost use Rattle.slate_types.specs.RowTurns.{AreInTurn, row_before};
+ghost use Rattle.slate_types.specs.Rows.{of_key};
 ghost use Rattle.slate_mem.specs.declared.WriteOp.{WriteOp};
 ghost use Rattle.slate_mem.specs.Batch.{Ops, kept, replaces};
 ghost use Rattle.slate_mem.specs.BatchModel.{IsBatchOf, holds_merge, with_op as batched};
@@ -14,9 +17,9 @@ ghost use Rattle.slate_txn.specs.HandedOver.{Grown, HandsOver, IsConflict};
 ghost use Rattle.slate_txn.specs.Managers.{StandsFor, untracked};
 ghost use Rattle.slate_txn.specs.Named.{find_named};
 ghost use Rattle.slate_txn.specs.State.{Commit, begun};
-ghost use Rattle.slate_txn.specs.Step.{with_op, with_marks, with_unmarks};
+ghost use Rattle.slate_txn.specs.Step.{is_scan, with_op, with_marks, with_unmarks};
 ghost use Rattle.slate_txn.specs.Tested.{CommitsAs, IsUntracked, IsTracked, tracked_of};
-ghost use Rattle.slate_txn.specs.Own.{keys_read, only_key};
+ghost use Rattle.slate_txn.specs.Own.{read_on, only_key};
 
 use crate::hand_over::test_conflict;
 use crate::reading::Reading;
@@ -48,6 +51,8 @@ pub struct DbTransactionInner {
     unmarked: Vec<Bytes>,
     /// What it has read, at the serializable level.
     reading: Reading,
+    /// How many scans it opened.
+    scans: u64,
     transcript: Vec<TranscriptStep>,
 }
 
@@ -74,6 +79,7 @@ impl DbTransactionInner {
             marked: Vec::new(alloc),
             unmarked: Vec::new(alloc),
             reading: Reading::new(alloc),
+            scans: 0,
             transcript: Vec::new(alloc),
         }
     }
@@ -165,14 +171,71 @@ impl DbTransactionInner {
                 self.level,
                 &mut self.reading,
                 &mut self.transcript,
-                key,
-                answer,
+                TranscriptStep::Get { key, answer },
             ),
             Err(error) => {
                 drop(key);
                 Err(error)
             }
         }
+    }
+
+    /// Notes the opening of a scan, and gives its number among the transaction's scans, from 0. It has read nothing. Where
+    /// memory is wanting nothing is noted.
+    pub fn note_scan(
+        &mut self,
+        order: IterationOrder,
+        range: &BytesRange,
+    ) -> Result<u64, AllocError>
+        ensures noted { OnOk result (self.new ≡ record self.old { transcript = self.old.transcript ++ steps.Scan order range.now ∷ [] }) }
+        ensures number { IfOk result (λ n. n ≡ count_by is_scan self.old.transcript) }
+        ensures same { OnErr result (self.new ≡ self.old) }
+    {
+        note_scan(
+            self.level,
+            &mut self.reading,
+            &mut self.scans,
+            &mut self.transcript,
+            order,
+            range,
+        )
+    }
+
+    /// Notes what a scan handed out next: a row, or none at its end. At the serializable level its keys up to that row, or all
+    /// of its range, count as read from then on. Where memory is wanting nothing is noted.
+    pub fn note_next(
+        &mut self,
+        alloc: Global,
+        scan: u64,
+        answer: &Option<KeyValue>,
+    ) -> Result<(), AllocError>
+        requires { scan < count_by is_scan self.old.transcript }
+        ensures noted { OnOk result (self.new ≡ record self.old { transcript = self.old.transcript ++ steps.Next scan answer.now ∷ [] }) }
+        ensures same { OnErr result (self.new ≡ self.old) }
+    {
+        let answer = unshared_next(alloc, answer)?;
+        note(
+            self.level,
+            &mut self.reading,
+            &mut self.transcript,
+            TranscriptStep::Next { scan, answer },
+        )
+    }
+
+    /// Notes a seek of a scan to a key. At the serializable level its keys up to that one count as read from then on. Where
+    /// memory is wanting nothing is noted.
+    pub fn note_seek(&mut self, alloc: Global, scan: u64, key: &[u8]) -> Result<(), AllocError>
+        requires { scan < count_by is_scan self.old.transcript }
+        ensures noted { OnOk result (self.new ≡ record self.old { transcript = self.old.transcript ++ steps.Seek scan key.now ∷ [] }) }
+        ensures same { OnErr result (self.new ≡ self.old) }
+    {
+        let key = Bytes::copy_from_slice(alloc, key)?;
+        note(
+            self.level,
+            &mut self.reading,
+            &mut self.transcript,
+            TranscriptStep::Seek { scan, key },
+        )
     }
 
     /// The rows of its own operations of the key, newest first, to the first that is no merge. They stand above all sequences, and
@@ -184,6 +247,26 @@ impl DbTransactionInner {
         ensures cause { IsOkUnless result SlateDBError.OutOfMemory }
     {
         own_rows(alloc, &self.batch, key)
+    }
+
+    /// The rows of its own operations of the keys in the range: keys in the order, and newest first within a key, to the first
+    /// that is no merge. They stand above all sequences, and have no stamps. No merge was taken so far. The one error is
+    /// `OutOfMemory`.
+    pub fn own_range(
+        &self,
+        alloc: Global,
+        range: &BytesRange,
+        order: IterationOrder,
+    ) -> Result<WriteBatchIterator, SlateDBError>
+        ensures rows { IfOk result (λ it. (k : List ℕ) → of_key k it.rows ≡ (if in_range range.now k then map (own_row k) (reverse (kept self.now.ops k)) else [])) }
+        ensures turn { IfOk result (λ it. AreInTurn (row_before order) it.rows) }
+        ensures in_order { IfOk result (λ it. IsInOrder order it.rows) }
+        ensures order { IfOk result (λ it. it.order ≡ order) }
+        ensures plain { holds_merge self.now.ops ≡ false }
+        ensures own { self.now.ops ≡ own_of self.now.transcript }
+        ensures cause { IsOkUnless result SlateDBError.OutOfMemory }
+    {
+        own_range(alloc, &self.batch, range, order)
     }
 
     /// Tests the transaction against all commits since its begin, by its tracked writes, its marked keys and what it has read.
@@ -323,52 +406,77 @@ fn copies(alloc: Global, keys: &[Bytes]) -> Result<Vec<Bytes>, AllocError>
     Ok(same)
 }
 
-/// Adds the step of a get, and its key to those that were read. Where memory is wanting nothing is added.
+/// Adds a step, and what it read at the level. Where memory is wanting nothing is added.
 fn note(
     level: IsolationLevel,
     reading: &mut Reading,
     transcript: &mut Vec<TranscriptStep>,
-    key: Bytes,
-    answer: Option<KeyValue>,
+    step: TranscriptStep,
 ) -> Result<(), AllocError>
-    ensures read { OnOk result (reading.new ≡ record reading.old { keys = keys_read level reading.old.keys key }) }
-    ensures noted { OnOk result (transcript.new.items ≡ transcript.old.items ++ steps.Get key answer ∷ []) }
+    ensures read { OnOk result (reading.new ≡ read_on level reading.old step) }
+    ensures noted { OnOk result (transcript.new.items ≡ transcript.old.items ++ step ∷ []) }
     ensures same_reading { OnErr result (reading.new ≡ reading.old) }
     ensures same_steps { OnErr result (transcript.new.items ≡ transcript.old.items) }
 {
-    match track(level, &mut reading.keys, transcript, &key) {
+    match track(level, reading, transcript, &step) {
         Ok(()) => {
-            transcript.push_reserved(TranscriptStep::Get { key, answer });
+            transcript.push_reserved(step);
             Ok(())
         }
         Err(error) => {
-            drop(key);
-            drop(answer);
+            drop(step);
             Err(error)
         }
     }
 }
 
-/// Makes room for one step, and adds the key to those that were read. Where memory is wanting none is added.
+/// Makes room for one step, and reads what it reads at the level. Where memory is wanting nothing is read.
 fn track(
     level: IsolationLevel,
-    keys: &mut Vec<Bytes>,
+    reading: &mut Reading,
     transcript: &mut Vec<TranscriptStep>,
-    key: &Bytes,
+    step: &TranscriptStep,
 ) -> Result<(), AllocError>
-    ensures keys { OnOk result (keys.new.items ≡ keys_read level keys.old.items key.now) }
+    ensures read { OnOk result (reading.new ≡ read_on level reading.old step.now) }
     ensures room { OnOk result (vec_len transcript.new < vec_capacity transcript.new) }
-    ensures same { OnErr result (keys.new.items ≡ keys.old.items) }
+    ensures same { OnErr result (reading.new ≡ reading.old) }
     ensures items { transcript.new.items ≡ transcript.old.items }
 {
     transcript.reserve(1)?;
     match level {
         IsolationLevel::Snapshot => Ok(()),
-        IsolationLevel::SerializableSnapshot => {
-            let key = key.clone()?;
-            keys.push(key).map_err(AllocError::from)
-        }
+        IsolationLevel::SerializableSnapshot => reading.follow(step),
     }
+}
+
+/// Adds the opening of a scan, and counts it. Where memory is wanting nothing is added.
+fn note_scan(
+    level: IsolationLevel,
+    reading: &mut Reading,
+    scans: &mut u64,
+    transcript: &mut Vec<TranscriptStep>,
+    order: IterationOrder,
+    range: &BytesRange,
+) -> Result<u64, AllocError>
+    requires { scans.old ≡ count_by is_scan transcript.old.items }
+    ensures read { OnOk result (reading.new ≡ read_on level reading.old (steps.Scan order range.now)) }
+    ensures noted { OnOk result (transcript.new.items ≡ transcript.old.items ++ steps.Scan order range.now ∷ []) }
+    ensures number { IfOk result (λ n. n ≡ scans.old) }
+    ensures counted { OnOk result (scans.new ≡ scans.old + 1) }
+    ensures same_reading { OnErr result (reading.new ≡ reading.old) }
+    ensures same_steps { OnErr result (transcript.new.items ≡ transcript.old.items) }
+    ensures same_count { OnErr result (scans.new ≡ scans.old) }
+{
+    let range = range.clone()?;
+    note(
+        level,
+        reading,
+        transcript,
+        TranscriptStep::Scan { order, range },
+    )?;
+    let number = *scans;
+    *scans += 1;
+    Ok(number)
 }
 
 /// The same answer without the buffers that it came in, of which it may be a small part. Its key shares `key` where they are equal.
@@ -381,6 +489,21 @@ fn unshared(
 {
     match answer {
         Some(row) => unshared_row(alloc, key, row).map(Some),
+        None => Ok(None),
+    }
+}
+
+/// The same answer without the buffers that it came in.
+fn unshared_next(alloc: Global, answer: &Option<KeyValue>) -> Result<Option<KeyValue>, AllocError>
+    ensures { IfOk result (λ same. same ≡ answer.now) }
+{
+    match answer {
+        Some(row) => {
+            let key = Bytes::copy_from_slice(alloc, row.key.as_slice())?;
+            let same = unshared_row(alloc, &key, row);
+            drop(key);
+            same.map(Some)
+        }
         None => Ok(None),
     }
 }
@@ -431,6 +554,22 @@ fn own_rows(alloc: Global, batch: &WriteBatch, key: &Bytes) -> Result<Vec<RowEnt
     drop(range);
     let mut rows = rows?;
     newest_of_walk(alloc, &mut rows, key.as_slice(), u64::MAX)
+}
+
+/// The rows of a batch's operations of the keys in the range.
+fn own_range(
+    alloc: Global,
+    batch: &WriteBatch,
+    range: &BytesRange,
+    order: IterationOrder,
+) -> Result<WriteBatchIterator, SlateDBError>
+    ensures rows { IfOk result (λ it. (k : List ℕ) → of_key k it.rows ≡ (if in_range range.now k then map (own_row k) (reverse (kept batch.now.ops k)) else [])) }
+    ensures turn { IfOk result (λ it. AreInTurn (row_before order) it.rows) }
+    ensures in_order { IfOk result (λ it. IsInOrder order it.rows) }
+    ensures order { IfOk result (λ it. it.order ≡ order) }
+    ensures cause { IsOkUnless result SlateDBError.OutOfMemory }
+{
+    WriteBatchIterator::new(alloc, batch, range, order, u64::MAX, None, None)
 }
 
 /// The range of one key.

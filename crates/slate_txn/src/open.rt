@@ -1,10 +1,13 @@
 //! The open transactions.
-ghost use Rattle.std.specs.Prelude.{◌≡◌, ◌⊎◌, ◌≤◌, ◌++◌, ◌∷◌, [], None, Some, Err, IfErr, IfOk, IsSome, is_some, map, false, option_map, reverse, OnOk, OnErr, IsOkUnless};
+ghost use Rattle.std.specs.Prelude.{◌≡◌, ◌⊎◌, ◌<◌, ◌≤◌, ◌++◌, ◌∷◌, ℕ, List, [], if◌then◌else◌, count_by, None, Some, Err, IfErr, IfOk, IsSome, is_some, map, false, option_map, reverse, OnOk, OnErr, IsOkUnless};
 ghost use Rattle.std.specs.BTreeMap.{insert_entry};
 ghost use Rattle.std.specs.declared.cmp.Ordering.TheVariants.{Greater};
 ghost use Rattle.std.specs.List.{AllByRecursion};
 ghost use Rattle.slate_types.specs.declared.error.SlateDBError.{SlateDBError};
-ghost use Rattle.slate_types.specs.Keys.{key_cmp};
+ghost use Rattle.slate_types.specs.Iteration.{IsInOrder};
+ghost use Rattle.slate_types.specs.Keys.{in_range, key_cmp};
+ghost use Rattle.slate_types.specs.RowTurns.{AreInTurn, row_before};
+ghost use Rattle.slate_types.specs.Rows.{of_key};
 ghost use Rattle.slate_mem.specs.declared.WriteOp.{WriteOp};
 ghost use Rattle.slate_mem.specs.Batch.{kept};
 ghost use Rattle.slate_mem.specs.BatchModel.{holds_merge};
@@ -14,12 +17,15 @@ ghost use Rattle.slate_txn.specs.declared.event.TranscriptStep.TheVariants as st
 ghost use Rattle.slate_txn.specs.Alone.{own_of};
 ghost use Rattle.slate_txn.specs.Named.{find_named, update_named, without};
 ghost use Rattle.slate_txn.specs.State.{Tx, begun};
-ghost use Rattle.slate_txn.specs.Step.{with_op, with_marks, with_unmarks};
+ghost use Rattle.slate_txn.specs.Step.{is_scan, with_op, with_marks, with_unmarks};
 ghost use Rattle.slate_txn.specs.Open.{BeginsRise, least_begin};
 
 use crate::DbTransactionInner;
 use bytes::Bytes;
-use slate_types::{IsolationLevel, KeyValue, PutOptions, RowEntry, SlateDBError};
+use slate_mem::WriteBatchIterator;
+use slate_types::{
+    BytesRange, IsolationLevel, IterationOrder, KeyValue, PutOptions, RowEntry, SlateDBError,
+};
 use std::alloc::{AllocError, Global};
 use std::collections::BTreeMap;
 use std::marker::Model;
@@ -123,6 +129,27 @@ impl OpenTransactions {
         own_rows(alloc, &self.by_id, id, key)
     }
 
+    /// The rows of the open transaction's own operations of the keys in the range: keys in the order, and newest first within a
+    /// key, to the first that is no merge. No merge was taken so far. The one error is `OutOfMemory`.
+    pub fn own_range(
+        &self,
+        alloc: Global,
+        id: &Uuid,
+        range: &BytesRange,
+        order: IterationOrder,
+    ) -> Result<WriteBatchIterator, SlateDBError>
+        requires { IsSome (find_named id.now self.now) }
+        ensures rows { (t : Tx) → find_named id.now self.now ≡ Some t → IfOk result (λ it. (k : List ℕ) → of_key k it.rows ≡ (if in_range range.now k then map (own_row k) (reverse (kept t.ops k)) else [])) }
+        ensures turn { IfOk result (λ it. AreInTurn (row_before order) it.rows) }
+        ensures in_order { IfOk result (λ it. IsInOrder order it.rows) }
+        ensures order { IfOk result (λ it. it.order ≡ order) }
+        ensures plain { (t : Tx) → find_named id.now self.now ≡ Some t → holds_merge t.ops ≡ false }
+        ensures own { (t : Tx) → find_named id.now self.now ≡ Some t → t.ops ≡ own_of t.transcript }
+        ensures cause { IsOkUnless result SlateDBError.OutOfMemory }
+    {
+        own_range(alloc, &self.by_id, id, range, order)
+    }
+
     /// Puts a value in the open transaction with this id. Refuses by `EmptyKey`, by `KeyTooLong` above 65535 bytes, by
     /// `ValueTooLong` above 2^32 - 1 bytes, in this order, and by `OutOfMemory`, and then nothing is put.
     pub fn put(
@@ -201,6 +228,55 @@ impl OpenTransactions {
         note_get(alloc, &mut self.by_id, id, key, answer)
     }
 
+    /// Notes the opening of a scan in the open transaction with this id, and gives its number among the transaction's scans, from
+    /// 0. Where memory is wanting nothing is noted.
+    pub fn note_scan(
+        &mut self,
+        id: &Uuid,
+        order: IterationOrder,
+        range: &BytesRange,
+    ) -> Result<u64, AllocError>
+        requires { IsSome (find_named id.now self.old) }
+        ensures ok { OnOk result (self.new ≡ update_named id.now (λ t. record t { transcript = t.transcript ++ steps.Scan order range.now ∷ [] }) self.old) }
+        ensures number { (t : Tx) → find_named id.now self.old ≡ Some t → IfOk result (λ n. n ≡ count_by is_scan t.transcript) }
+        ensures err { OnErr result (self.new ≡ self.old) }
+    {
+        note_scan(&mut self.by_id, id, order, range)
+    }
+
+    /// Notes what a scan of the open transaction with this id handed out next: a row, or none at its end. Where memory is wanting
+    /// nothing is noted.
+    pub fn note_next(
+        &mut self,
+        alloc: Global,
+        id: &Uuid,
+        scan: u64,
+        answer: &Option<KeyValue>,
+    ) -> Result<(), AllocError>
+        requires is_open { IsSome (find_named id.now self.old) }
+        requires opened { (t : Tx) → find_named id.now self.old ≡ Some t → scan < count_by is_scan t.transcript }
+        ensures ok { OnOk result (self.new ≡ update_named id.now (λ t. record t { transcript = t.transcript ++ steps.Next scan answer.now ∷ [] }) self.old) }
+        ensures err { OnErr result (self.new ≡ self.old) }
+    {
+        note_next(alloc, &mut self.by_id, id, scan, answer)
+    }
+
+    /// Notes a seek to a key of a scan of the open transaction with this id. Where memory is wanting nothing is noted.
+    pub fn note_seek(
+        &mut self,
+        alloc: Global,
+        id: &Uuid,
+        scan: u64,
+        key: &[u8],
+    ) -> Result<(), AllocError>
+        requires is_open { IsSome (find_named id.now self.old) }
+        requires opened { (t : Tx) → find_named id.now self.old ≡ Some t → scan < count_by is_scan t.transcript }
+        ensures ok { OnOk result (self.new ≡ update_named id.now (λ t. record t { transcript = t.transcript ++ steps.Seek scan key.now ∷ [] }) self.old) }
+        ensures err { OnErr result (self.new ≡ self.old) }
+    {
+        note_seek(alloc, &mut self.by_id, id, scan, key)
+    }
+
     /// Lets go of them.
     pub fn close(self) {
         drop(self);
@@ -276,6 +352,29 @@ fn own_rows(
 {
     match items.get(id) {
         Some(open) => open.own_rows(alloc, key),
+        None => unreachable!(),
+    }
+}
+
+/// The rows of the open transaction's own operations of the keys in the range.
+fn own_range(
+    alloc: Global,
+    items: &BTreeMap<Uuid, DbTransactionInner>,
+    id: &Uuid,
+    range: &BytesRange,
+    order: IterationOrder,
+) -> Result<WriteBatchIterator, SlateDBError>
+    requires { IsSome (find_named id.now items.now.entries) }
+    ensures rows { (t : Tx) → find_named id.now items.now.entries ≡ Some t → IfOk result (λ it. (k : List ℕ) → of_key k it.rows ≡ (if in_range range.now k then map (own_row k) (reverse (kept t.ops k)) else [])) }
+    ensures turn { IfOk result (λ it. AreInTurn (row_before order) it.rows) }
+    ensures in_order { IfOk result (λ it. IsInOrder order it.rows) }
+    ensures order { IfOk result (λ it. it.order ≡ order) }
+    ensures plain { (t : Tx) → find_named id.now items.now.entries ≡ Some t → holds_merge t.ops ≡ false }
+    ensures own { (t : Tx) → find_named id.now items.now.entries ≡ Some t → t.ops ≡ own_of t.transcript }
+    ensures cause { IsOkUnless result SlateDBError.OutOfMemory }
+{
+    match items.get(id) {
+        Some(open) => open.own_range(alloc, range, order),
         None => unreachable!(),
     }
 }
@@ -373,5 +472,61 @@ fn note_get(
             drop(key);
             Ok(())
         }
+    }
+}
+
+/// Notes the opening of a scan in the open transaction with this id, and gives its number.
+fn note_scan(
+    items: &mut BTreeMap<Uuid, DbTransactionInner>,
+    id: &Uuid,
+    order: IterationOrder,
+    range: &BytesRange,
+) -> Result<u64, AllocError>
+    requires { IsSome (find_named id.now items.old.entries) }
+    ensures ok { OnOk result (items.new.entries ≡ update_named id.now (λ t. record t { transcript = t.transcript ++ steps.Scan order range.now ∷ [] }) items.old.entries) }
+    ensures number { (t : Tx) → find_named id.now items.old.entries ≡ Some t → IfOk result (λ n. n ≡ count_by is_scan t.transcript) }
+    ensures err { OnErr result (items.new.entries ≡ items.old.entries) }
+{
+    match items.get_mut(id) {
+        Some(open) => open.note_scan(order, range),
+        None => unreachable!(),
+    }
+}
+
+/// Notes what a scan of the open transaction with this id handed out next.
+fn note_next(
+    alloc: Global,
+    items: &mut BTreeMap<Uuid, DbTransactionInner>,
+    id: &Uuid,
+    scan: u64,
+    answer: &Option<KeyValue>,
+) -> Result<(), AllocError>
+    requires is_open { IsSome (find_named id.now items.old.entries) }
+    requires opened { (t : Tx) → find_named id.now items.old.entries ≡ Some t → scan < count_by is_scan t.transcript }
+    ensures ok { OnOk result (items.new.entries ≡ update_named id.now (λ t. record t { transcript = t.transcript ++ steps.Next scan answer.now ∷ [] }) items.old.entries) }
+    ensures err { OnErr result (items.new.entries ≡ items.old.entries) }
+{
+    match items.get_mut(id) {
+        Some(open) => open.note_next(alloc, scan, answer),
+        None => unreachable!(),
+    }
+}
+
+/// Notes a seek of a scan of the open transaction with this id.
+fn note_seek(
+    alloc: Global,
+    items: &mut BTreeMap<Uuid, DbTransactionInner>,
+    id: &Uuid,
+    scan: u64,
+    key: &[u8],
+) -> Result<(), AllocError>
+    requires is_open { IsSome (find_named id.now items.old.entries) }
+    requires opened { (t : Tx) → find_named id.now items.old.entries ≡ Some t → scan < count_by is_scan t.transcript }
+    ensures ok { OnOk result (items.new.entries ≡ update_named id.now (λ t. record t { transcript = t.transcript ++ steps.Seek scan key.now ∷ [] }) items.old.entries) }
+    ensures err { OnErr result (items.new.entries ≡ items.old.entries) }
+{
+    match items.get_mut(id) {
+        Some(open) => open.note_seek(alloc, scan, key),
+        None => unreachable!(),
     }
 }

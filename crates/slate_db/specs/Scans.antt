@@ -1,0 +1,165 @@
+-- Scans: what is left of one, what it may refuse for, and how a core opens it.
+--     ScanSource      a source of a scan: rows of which those above the transaction's begin are passed over
+--     source_rows, IsSoundSource, order_of, source_refuses      what it is as an iterator
+--     has_value r      the row is no tombstone
+--     left_of it w      the rows that are left, tombstones among them
+--     Leaves it w rows      in the world exactly these rows are left to be handed out, and none that is left is an operand
+--     ScanRefuses it m reads at e      what it may refuse for by the reads from now on, in a seek to a key, or in the other calls
+--     IsReached range at      a seek is to no key before the range
+--     IsFor m it      it was opened for parts of this meaning: by these it refuses for damage alone, or at an operand
+--     Keeps e it      it answers this refusal from now on, or want of memory in its place
+--     id_of it, number_of it, scan_of it      a transaction's scan: whose it is, which of its scans, and what it has left
+--     IsScanOf id n order range it      it is that of the transaction with this id, the n-th that it opened
+--     IsWorldOf os m w      the objects hold the world, for what the parts mean
+--     LeavesIn os m it rows      in some world that the objects hold
+--     IsOpenScan c it      its transaction is open, and opened it
+--     HasLeft m c it rows      of the list that the scan's opening fixed these rows are left, by the transcript
+--     ShowsAmong decode hs reads e      of some tables one shows the error, by reads among these
+--     IsRefusedByScan m c reads e      an operand was found, or the reads show it of the tables that the journal names
+--     IsScanError before after c e      a fault that came in the call, or want of memory, or such a refusal by its reads
+use Rattle.std.specs.Prelude.{◌≡◌, ◌≢◌, ◌⊎◌, ℕ, ◌<◌, Bool, true, false, not, List, [], ◌∷◌, filter, count_by, Contains, Option, Some, None, IsSome, slice_get}
+use Rattle.std.specs.List.{AllByRecursion}
+use Rattle.slate_types.specs.declared.bytes_range.BytesRange.{BytesRange}
+use Rattle.slate_types.specs.declared.error.SlateDBError.{SlateDBError}
+use Rattle.slate_types.specs.declared.error.SlateDBError.TheVariants.{MergeOperatorMissing, OutOfMemory}
+use Rattle.slate_types.specs.declared.iter.IterationOrder.{IterationOrder}
+use Rattle.slate_types.specs.declared.types.RowEntry.{RowEntry}
+use Rattle.slate_types.specs.Keys.{in_range, is_past_start}
+use Rattle.slate_types.specs.Outside.{Act, Objects, IsFault, Meaning, Reach}
+use Rattle.slate_types.specs.Refusing.{IsDamage}
+use Rattle.slate_types.specs.Rows.{is_base, is_tombstone}
+use Rattle.slate_types.specs.World.{World, HoldsWorld, Made}
+use Rattle.slate_read.specs.declared.filter_iterator.FilterIterator.{FilterIterator}
+use Rattle.slate_read.specs.declared.filter_iterator.MaxSeq.{MaxSeq}
+use Rattle.slate_read.specs.declared.merge_iterator.MergeIterator.{MergeIterator}
+use Rattle.slate_read.specs.declared.read_source.ReadSource.{ReadSource}
+use Rattle.slate_read.specs.Filtering.{upto_seq}
+use Rattle.slate_read.specs.MergeStates.{IsSoundMerge, refuses_in, rest_of_merge}
+use Rattle.slate_read.specs.ReadSources as read
+use Rattle.slate_read.specs.ShownBy.{ShowsByReads}
+use Rattle.slate_table.specs.declared.info.SsTableHandle.{SsTableHandle}
+use Rattle.slate_table.specs.Parts.{Encode}
+use Rattle.slate_txn.specs.Alone.{scans_left}
+use Rattle.slate_txn.specs.Named.{find_named}
+use Rattle.slate_txn.specs.State.{Tx}
+use Rattle.slate_txn.specs.Step.{is_scan}
+use Rattle.slate_db.specs.declared.scan.DbIterator.{DbIterator}
+use Rattle.slate_db.specs.declared.scan.ScanState.{ScanState}
+use Rattle.slate_db.specs.declared.scan.TxnIterator.{TxnIterator}
+use Rattle.slate_db.specs.declared.scan.ScanState.TheVariants.{Walking, Done, Refused}
+use Rattle.slate_db.specs.Installs.{AreHandles, tables_of}
+use Rattle.slate_db.specs.Meaning.{rules_of}
+use Rattle.slate_db.specs.Model.{CoreModel}
+
+pub record IsWorldOf (os : Objects) (m : Meaning) (w : World) : Type 0 where
+  pub meaning : w.meaning ≡ m
+  pub holds : HoldsWorld os w
+
+abbrev pub has_value : RowEntry → Bool
+has_value r = not (is_tombstone r)
+
+abbrev pub IsReached : BytesRange → Option (List ℕ) → Type 0
+IsReached range None = Unit {0}
+IsReached range (Some key) = is_past_start range.start key ≡ true
+
+-- an operand can't be merged yet
+abbrev pub IsScanRefusal : SlateDBError → Type 0
+IsScanRefusal e = (e ≡ MergeOperatorMissing) ⊎ IsDamage e
+
+-- X, P: of the policies that tables' iterators are given
+module _ {X : Type 0} {P : X → Type 0} where
+  -- ---- the sources
+
+  abbrev pub ScanSource : Type 0
+  ScanSource = FilterIterator (ReadSource X P) MaxSeq
+
+  abbrev pub source_rows : ScanSource → World → List RowEntry
+  source_rows s w = filter (upto_seq s.predicate.max_seq) (read.rest_of s.iterator w)
+
+  abbrev pub IsSoundSource : ScanSource → World → Type 0
+  IsSoundSource s w = read.IsSoundSource s.iterator w
+
+  abbrev pub order_of : ScanSource → IterationOrder
+  order_of s = read.order_of s.iterator
+
+  abbrev pub source_refuses : ScanSource → Meaning → List Act → Option (List ℕ) → SlateDBError → Type 0
+  source_refuses s m reads at e = read.source_refuses s.iterator m reads at e
+
+  -- ---- their rows merged
+
+  abbrev pub left_in : ScanState X P → World → List RowEntry
+  left_in (Walking rows) w = rest_of_merge source_rows rows w
+  left_in Done w = []
+  left_in (Refused e) w = []
+
+  -- order: that of the scan
+  abbrev pub IsSoundIn : IterationOrder → ScanState X P → World → Type 0
+  IsSoundIn order (Walking rows) w = IsSoundMerge source_rows IsSoundSource order_of rows w × (rows.order ≡ order) × (rows.dedup ≡ true)
+  IsSoundIn order Done w = Unit {0}
+  IsSoundIn order (Refused e) w = ⊥
+
+  abbrev pub left_of : DbIterator X P → World → List RowEntry
+  left_of it w = left_in it.state w
+
+  abbrev pub RefusesIn : BytesRange → ScanState X P → Meaning → List Act → Option (List ℕ) → SlateDBError → Type 0
+  RefusesIn range (Walking rows) m reads at e = (e ≡ MergeOperatorMissing) ⊎ (IsReached range at × refuses_in source_refuses rows.state m reads at e)
+  RefusesIn range Done m reads at e = ⊥
+  RefusesIn range (Refused kept) m reads at e = (kept ≢ OutOfMemory) × (e ≡ kept)
+
+  abbrev pub ScanRefuses : DbIterator X P → Meaning → List Act → Option (List ℕ) → SlateDBError → Type 0
+  ScanRefuses it m reads at e = RefusesIn it.range it.state m reads at e
+
+  abbrev pub IsFor : Meaning → DbIterator X P → Type 0
+  IsFor m it = (reads : List Act) (at : Option (List ℕ)) (e : SlateDBError) → ScanRefuses it m reads at e → IsScanRefusal e
+
+  pub record Leaves (it : DbIterator X P) (w : World) (rows : List RowEntry) : Type 0 where
+    pub sound : IsSoundIn it.order it.state w
+    pub bases : AllByRecursion (λ r. is_base r ≡ true) (left_of it w)
+    pub within : AllByRecursion (λ r. in_range it.range r.key ≡ true) (left_of it w)
+    pub left : filter has_value (left_of it w) ≡ rows
+    pub meant : IsFor w.meaning it
+
+  abbrev pub Keeps : SlateDBError → DbIterator X P → Type 0
+  Keeps e it = (it.state ≡ Refused e) ⊎ (it.state ≡ Refused OutOfMemory)
+
+  -- ---- a transaction's scan
+
+  abbrev pub id_of : TxnIterator X P → List ℕ
+  id_of it = it.id
+
+  -- its place among the scans of its transaction
+  abbrev pub number_of : TxnIterator X P → ℕ
+  number_of it = it.scan
+
+  abbrev pub scan_of : TxnIterator X P → DbIterator X P
+  scan_of it = it.rows
+
+  pub record IsScanOf (id : List ℕ) (n : ℕ) (order : IterationOrder) (range : BytesRange) (it : TxnIterator X P) : Type 0 where
+    pub named : id_of it ≡ id
+    pub number : number_of it ≡ n
+    pub order : (scan_of it).order ≡ order
+    pub range : (scan_of it).range ≡ range
+
+  abbrev pub LeavesIn : Objects → Meaning → TxnIterator X P → List RowEntry → Type 0
+  LeavesIn os m it rows = (w : World) × IsWorldOf os m w × Leaves (scan_of it) w rows
+
+  abbrev pub IsOpenScan : CoreModel → TxnIterator X P → Type 0
+  IsOpenScan c it = (t : Tx) × (find_named (id_of it) c.state.txns ≡ Some t) × (number_of it < count_by is_scan t.transcript)
+
+  abbrev pub HasLeft : Meaning → CoreModel → TxnIterator X P → List RowEntry → Type 0
+  HasLeft m c it rows = (t : Tx) → find_named (id_of it) c.state.txns ≡ Some t →
+      slice_get (scans_left (rules_of c.settings m) c.state.commits t.begin t.transcript) (number_of it) ≡ Some ((scan_of it).order, rows)
+
+-- ---- what is refused
+
+abbrev pub ShowsAmong : Encode → List SsTableHandle → List Act → SlateDBError → Type 0
+ShowsAmong decode hs reads e = (table : SsTableHandle) × Contains hs table × ShowsByReads decode table reads e
+
+-- handles: what is kept of the tables that the journal names
+pub record IsRefusedByScan (m : Meaning) (c : CoreModel) (reads : List Act) (e : SlateDBError) : Type 0 where
+  pub handles : List SsTableHandle
+  pub are : AreHandles (tables_of c.events) handles
+  pub refused : (e ≡ MergeOperatorMissing) ⊎ ShowsAmong m.decode handles reads e
+
+abbrev pub IsScanError : Reach → Reach → CoreModel → SlateDBError → Type 0
+IsScanError before after c e = IsFault before after e ⊎ Made before after (λ reads. IsRefusedByScan before.meaning c reads e)
