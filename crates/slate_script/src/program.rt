@@ -17,9 +17,10 @@ ghost use Rattle.slate_script.specs.StoredState.{IsStoredState};
 ghost use Rattle.slate_script.specs.Told.{IsUntrue};
 
 use crate::run::run_script;
+use slate_db::laws::Laws;
 use slate_language::{Xor, parse_words};
 use slate_store::{Env, Sink, Source, Store};
-use slate_types::{NoOperator, SlateDBError};
+use slate_types::{NoExtractor, NoOperator, SlateDBError};
 use std::alloc::Global;
 
 /// Runs the script that the source gives over the store, as the words say, and answers the status to end with: 0
@@ -95,7 +96,14 @@ pub fn run_main<R: Source, W: Sink, S: Store>(
         operator,
         transformer: transformer_of(settings.mask),
     };
-    match run_script(alloc, source, sink, &mut env, &settings.options) {
+    let laws: Laws<NoExtractor> = Laws {
+        options: settings.options,
+        segments: None,
+        policies: Vec::new(alloc),
+    };
+    let ran = run_script(alloc, source, sink, &mut env, &laws);
+    drop(laws);
+    match ran {
         Ok(()) => 0,
         Err(error) => {
             let status = status_of(&error);
