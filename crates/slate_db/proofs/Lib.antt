@@ -42,6 +42,7 @@ pub mod Shown
 mod Loads
 mod Steps
 mod Notes
+mod Passing
 mod Refused
 mod Plain
 pub mod Managing

@@ -27,4 +27,5 @@ pub mod Answered
 pub mod Shown
 pub mod Readable
 pub mod Vouched
+pub mod Values
 pub mod Scans

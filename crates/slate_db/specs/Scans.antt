@@ -1,11 +1,11 @@
 -- Scans: what is left of one, what it may refuse for, and how a core opens it.
 --     ScanSource      a source of a scan: rows of which those above the transaction's begin are passed over
 --     source_rows, IsSoundSource, order_of, source_refuses      what it is as an iterator
---     has_value r      the row is no tombstone
 --     left_of it w      the rows that are left, tombstones among them
 --     Leaves it w rows      in the world exactly these rows are left to be handed out, and none that is left is an operand
 --     ScanRefuses it m reads at e      what it may refuse for by the reads from now on, in a seek to a key, or in the other calls
 --     IsReached range at      a seek is to no key before the range
+--     AreForIn range m state      by this meaning the sources that are left refuse for damage alone
 --     IsFor m it      it was opened for parts of this meaning: by these it refuses for damage alone, or at an operand
 --     Keeps e it      it answers this refusal from now on, or want of memory in its place
 --     id_of it, number_of it, scan_of it      a transaction's scan: whose it is, which of its scans, and what it has left
@@ -17,7 +17,7 @@
 --     ShowsAmong decode hs reads e      of some tables one shows the error, by reads among these
 --     IsRefusedByScan m c reads e      an operand was found, or the reads show it of the tables that the journal names
 --     IsScanError before after c e      a fault that came in the call, or want of memory, or such a refusal by its reads
-use Rattle.std.specs.Prelude.{◌≡◌, ◌≢◌, ◌⊎◌, ℕ, ◌<◌, Bool, true, false, not, List, [], ◌∷◌, filter, count_by, Contains, Option, Some, None, IsSome, slice_get}
+use Rattle.std.specs.Prelude.{◌≡◌, ◌≢◌, ◌⊎◌, ℕ, ◌<◌, true, List, [], ◌∷◌, filter, count_by, Contains, Option, Some, None, IsSome, slice_get}
 use Rattle.std.specs.List.{AllByRecursion}
 use Rattle.slate_types.specs.declared.bytes_range.BytesRange.{BytesRange}
 use Rattle.slate_types.specs.declared.error.SlateDBError.{SlateDBError}
@@ -27,7 +27,7 @@ use Rattle.slate_types.specs.declared.types.RowEntry.{RowEntry}
 use Rattle.slate_types.specs.Keys.{in_range, is_past_start}
 use Rattle.slate_types.specs.Outside.{Act, Objects, IsFault, Meaning, Reach}
 use Rattle.slate_types.specs.Refusing.{IsDamage}
-use Rattle.slate_types.specs.Rows.{is_base, is_tombstone}
+use Rattle.slate_types.specs.Rows.{is_base}
 use Rattle.slate_types.specs.World.{World, HoldsWorld, Made}
 use Rattle.slate_read.specs.declared.filter_iterator.FilterIterator.{FilterIterator}
 use Rattle.slate_read.specs.declared.filter_iterator.MaxSeq.{MaxSeq}
@@ -50,13 +50,11 @@ use Rattle.slate_db.specs.declared.scan.ScanState.TheVariants.{Walking, Done, Re
 use Rattle.slate_db.specs.Installs.{AreHandles, tables_of}
 use Rattle.slate_db.specs.Meaning.{rules_of}
 use Rattle.slate_db.specs.Model.{CoreModel}
+pub use Rattle.slate_db.specs.Values.{has_value}
 
 pub record IsWorldOf (os : Objects) (m : Meaning) (w : World) : Type 0 where
   pub meaning : w.meaning ≡ m
   pub holds : HoldsWorld os w
-
-abbrev pub has_value : RowEntry → Bool
-has_value r = not (is_tombstone r)
 
 abbrev pub IsReached : BytesRange → Option (List ℕ) → Type 0
 IsReached range None = Unit {0}
@@ -94,12 +92,17 @@ module _ {X : Type 0} {P : X → Type 0} where
 
   -- order: that of the scan
   abbrev pub IsSoundIn : IterationOrder → ScanState X P → World → Type 0
-  IsSoundIn order (Walking rows) w = IsSoundMerge source_rows IsSoundSource order_of rows w × (rows.order ≡ order) × (rows.dedup ≡ true)
+  IsSoundIn order (Walking rows) w = IsSoundMerge source_rows IsSoundSource order_of rows w × (rows.order ≡ order)
   IsSoundIn order Done w = Unit {0}
   IsSoundIn order (Refused e) w = ⊥
 
   abbrev pub left_of : DbIterator X P → World → List RowEntry
   left_of it w = left_in it.state w
+
+  -- what the sources that are left refuse for
+  abbrev pub SourcesRefuse : BytesRange → ScanState X P → Meaning → List Act → Option (List ℕ) → SlateDBError → Type 0
+  SourcesRefuse range (Walking rows) m reads at e = IsReached range at × refuses_in source_refuses rows.state m reads at e
+  SourcesRefuse range _ m reads at e = ⊥
 
   abbrev pub RefusesIn : BytesRange → ScanState X P → Meaning → List Act → Option (List ℕ) → SlateDBError → Type 0
   RefusesIn range (Walking rows) m reads at e = (e ≡ MergeOperatorMissing) ⊎ (IsReached range at × refuses_in source_refuses rows.state m reads at e)
@@ -112,12 +115,16 @@ module _ {X : Type 0} {P : X → Type 0} where
   abbrev pub IsFor : Meaning → DbIterator X P → Type 0
   IsFor m it = (reads : List Act) (at : Option (List ℕ)) (e : SlateDBError) → ScanRefuses it m reads at e → IsScanRefusal e
 
+  -- the sources that are left refuse for damage alone
+  abbrev pub AreForIn : BytesRange → Meaning → ScanState X P → Type 0
+  AreForIn range m state = (reads : List Act) (at : Option (List ℕ)) (e : SlateDBError) → SourcesRefuse range state m reads at e → IsDamage e
+
   pub record Leaves (it : DbIterator X P) (w : World) (rows : List RowEntry) : Type 0 where
     pub sound : IsSoundIn it.order it.state w
     pub bases : AllByRecursion (λ r. is_base r ≡ true) (left_of it w)
     pub within : AllByRecursion (λ r. in_range it.range r.key ≡ true) (left_of it w)
     pub left : filter has_value (left_of it w) ≡ rows
-    pub meant : IsFor w.meaning it
+    pub meant : AreForIn it.range w.meaning it.state
 
   abbrev pub Keeps : SlateDBError → DbIterator X P → Type 0
   Keeps e it = (it.state ≡ Refused e) ⊎ (it.state ≡ Refused OutOfMemory)

