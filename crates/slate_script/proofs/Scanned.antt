@@ -1,9 +1,8 @@
 -- Calls on a scan, one after the other.
-use Rattle.std.proofs.Common.{◌≡◌, ℕ, ◌<◌, ◌⊎◌, inl, inr, Bool, false, cond, List, [], ◌∷◌, ◌++◌, drop, Option, Some, None, refl, sym, ap, ◌∙◌, subst, append-nil, append_assoc}
+use Rattle.std.proofs.Common.{◌≡◌, ℕ, ◌+◌, ◌<◌, ◌≤◌, ◌⊎◌, inl, inr, Bool, false, cond, List, [], ◌∷◌, ◌++◌, length, drop, get_or, Option, Some, None, Result, Ok, Err, IfOk, IfErr, OnOk, refl, sym, ap, ◌∙◌, subst, append-nil, append_assoc, arith}
 use Rattle.std.specs.Prelude.{IsSome, count_by}
 use Rattle.std.specs.List.{AllByRecursion}
-use Rattle.std.proofs.lemmas.List.{append_cancel_left}
-use Rattle.std.proofs.lemmas.Option.{same_Some}
+use Rattle.std.proofs.lemmas.List.{length-append}
 use Rattle.slate_types.specs.declared.bytes_range.BytesRange.{BytesRange}
 use Rattle.slate_types.specs.declared.error.SlateDBError.{SlateDBError}
 use Rattle.slate_types.specs.declared.error.SlateDBError.TheVariants.{OutOfMemory}
@@ -21,7 +20,7 @@ use Rattle.slate_types.proofs.Reaching.{fault_earlier}
 use Rattle.slate_txn.specs.declared.event.TranscriptStep.{TranscriptStep}
 use Rattle.slate_txn.specs.declared.event.TranscriptStep.TheVariants as steps
 use Rattle.slate_txn.specs.declared.line.ScanStep.{ScanStep}
-use Rattle.slate_txn.specs.declared.line.ScanStep.TheVariants.{Seek}
+use Rattle.slate_txn.specs.declared.line.ScanStep.TheVariants.{Rows, Seek}
 use Rattle.slate_txn.specs.declared.line.Line.TheVariants as lines
 use Rattle.slate_txn.specs.Alone.{first_left}
 use Rattle.slate_txn.specs.Named.{find_named}
@@ -36,11 +35,11 @@ use Rattle.slate_db.specs.Readable.{IsAnswered}
 use Rattle.slate_db.specs.Scans.{IsFor, IsOpenScan, IsRefusedByScan, IsScanError, IsScanOf, Leaves, LeavesIn, ScanRefuses, id_of, number_of, scan_of}
 use Rattle.slate_db.specs.Sound.{IsKept}
 use Rattle.slate_script.specs.Scanning.{Took, Fails, HasScanned}
-use Rattle.slate_script.specs.Walking.{Means, TakesNext, TakesStep, Walks}
+use Rattle.slate_script.specs.Walking.{Means, TakesFirst, TakesNext, TakesRest, TakesStep, TakesSteps, Walks}
 use Rattle.slate_script.proofs.Answers.{answers_first, answers_sees}
 use Rattle.slate_script.proofs.Noting.{noted_none, noted_both, noted_found, noted_scans}
 use Rattle.slate_script.proofs.SessionSteps.{named-of}
-use Rattle.slate_script.proofs.WalkLaws.{handed_both, one_more}
+use Rattle.slate_script.proofs.WalkLaws.{first_ended, first_filled, first_one, handed_both, one_more, rest_all, rest_one, walks_all, walks_some}
 
 -- X, P: of the policies that tables' iterators are given
 module _ {X : Type 0} {P : X → Type 0} where
@@ -76,22 +75,22 @@ module _ {X : Type 0} {P : X → Type 0} where
         let two = g.rows w one.0 one.1 (sees_last w a b c f.later.0 g.later.0 f.later.1 g.later.1 sees) in
         (two.0, two.1, both rows one.0 two.0 f.ts g.ts one.2 two.2));
     later = (
-        f.later.0 ++ g.later.0,
-        call_both a b c f.later.0 g.later.0 f.later.1 g.later.1,
-        no_more_both (ScanRefuses (scan_of x) a.meaning) (ScanRefuses (scan_of y) a.meaning) (ScanRefuses (scan_of z) a.meaning) f.later.0 g.later.0 f.later.2
-            (subst (λ (p : Meaning). NoMore (ScanRefuses (scan_of y) p) g.later.0 (ScanRefuses (scan_of z) p)) f.later.1.meaning g.later.2),
+      f.later.0 ++ g.later.0,
+      call_both a b c f.later.0 g.later.0 f.later.1 g.later.1,
+      no_more_both (ScanRefuses (scan_of x) a.meaning) (ScanRefuses (scan_of y) a.meaning) (ScanRefuses (scan_of z) a.meaning) f.later.0 g.later.0 f.later.2
+          (subst (λ (p : Meaning). NoMore (ScanRefuses (scan_of y) p) g.later.0 (ScanRefuses (scan_of z) p)) f.later.1.meaning g.later.2),
     );
     kept = λ p h. g.kept p (f.kept p h);
   }
 
   pub took_as : (first means : Means) (a b : Reach) (c d : CoreModel) (x y : TxnIterator X P) (old new : List KeyValue) (f : Took first a b c d x y old new) →
       ((rows left : List RowEntry) → first rows left f.ts → means rows left f.ts) → Took means a b c d x y old new
-  took_as first means a b c d x y old new f as = record {
+  took_as first means a b c d x y old new f weaker = record {
     ts = f.ts;
     notes = f.notes;
     hands = f.hands;
     names = f.names;
-    rows = λ w rows leaves sees. let one = f.rows w rows leaves sees in (one.0, one.1, as rows one.0 one.2);
+    rows = λ w rows leaves sees. let one = f.rows w rows leaves sees in (one.0, one.1, weaker rows one.0 one.2);
     later = f.later;
     kept = f.kept;
   }
@@ -106,20 +105,77 @@ module _ {X : Type 0} {P : X → Type 0} where
   given-handed n None = refl
   given-handed n (Some row) = refl
 
-  pub took_next : (a b : Reach) (c d : CoreModel) (x y : TxnIterator X P) (answer : Option KeyValue) (old : List KeyValue) →
-      d ≡ record c { state = noted c.state (id_of x) (steps.Next (number_of x) answer ∷ []) } → IsScanOf (id_of x) (number_of x) (scan_of x).order (scan_of x).range y →
-      ((w : World) (rows : List RowEntry) → Leaves (scan_of x) w rows → Sees w a b → (answer ≡ first_left rows) × Leaves (scan_of y) w (drop 1 rows)) →
-      Made a b (λ reads. NoMore (ScanRefuses (scan_of x) a.meaning) reads (ScanRefuses (scan_of y) a.meaning)) → ((m : Meaning) → IsKept m c → IsKept m d) →
-      Took (TakesNext (number_of x) answer) a b c d x y old (old ++ given answer)
-  took_next a b c d x y answer old noted names rows later kept = record {
+  -- what a call for the next row leaves, where it is answered
+  pub record Nexts (a b : Reach) (c d : CoreModel) (x y : TxnIterator X P) (answer : Option KeyValue) : Type 0 where
+    pub notes : d ≡ record c { state = noted c.state (id_of x) (steps.Next (number_of x) answer ∷ []) }
+    pub names : IsScanOf (id_of x) (number_of x) (scan_of x).order (scan_of x).range y
+    pub rows : (w : World) (rows : List RowEntry) → Leaves (scan_of x) w rows → Sees w a b → (answer ≡ first_left rows) × Leaves (scan_of y) w (drop 1 rows)
+    pub later : Made a b (λ reads. NoMore (ScanRefuses (scan_of x) a.meaning) reads (ScanRefuses (scan_of y) a.meaning))
+    pub kept : (m : Meaning) → IsKept m c → IsKept m d
+
+  took_next : (a b : Reach) (c d : CoreModel) (x y : TxnIterator X P) (answer : Option KeyValue) (old : List KeyValue) → Nexts a b c d x y answer → Took (TakesNext (number_of x) answer) a b c d x y old (old ++ given answer)
+  took_next a b c d x y answer old h = record {
     ts = steps.Next (number_of x) answer ∷ [];
-    notes = noted;
+    notes = h.notes;
     hands = ap (λ rs. old ++ rs) (sym (given-handed (number_of x) answer));
-    names = names;
-    rows = λ w left leaves sees. let one = rows w left leaves sees in (drop 1 left, one.1, (refl, one.0, refl));
-    later = later;
-    kept = kept;
+    names = h.names;
+    rows = λ w left leaves sees. let one = h.rows w left leaves sees in (drop 1 left, one.1, (refl, one.0, refl));
+    later = h.later;
+    kept = h.kept;
   }
+
+  -- one row more
+  pub took_row : (a b c : Reach) (k l m : CoreModel) (x y z : TxnIterator X P) (i : ℕ) (answer : Option KeyValue) (row : KeyValue) (old mid new : List KeyValue) → Took (TakesFirst (number_of x) i) a b k l x y old mid → Nexts b c l m y z answer → answer ≡ Some row →
+      new ≡ mid ++ (row ∷ []) → Took (TakesFirst (number_of x) (i + 1)) a c k m x z old new
+  took_row a b c k l m x y z i answer row old mid new f g is pushed =
+      took_both (TakesFirst (number_of x) i) (TakesNext (number_of y) (Some row)) (TakesFirst (number_of x) (i + 1)) a b c k l m x y z old mid new f next
+      (λ rows between left ts us first second. first_one (number_of x) i row rows between left ts us first (subst (λ n. TakesNext n (Some row) between left us) f.names.number second))
+    where
+      next : Took (TakesNext (number_of y) (Some row)) b c l m y z mid new
+      next = subst (λ (rs : List KeyValue). Took (TakesNext (number_of y) (Some row)) b c l m y z mid rs) (sym pushed)
+          (subst (λ (o : Option KeyValue). Took (TakesNext (number_of y) o) b c l m y z mid (mid ++ given o)) is (took_next b c l m y z answer mid g))
+
+  -- the end
+  pub took_end : (a b c : Reach) (k l m : CoreModel) (x y z : TxnIterator X P) (i count : ℕ) (answer : Option KeyValue) (old mid : List KeyValue) → Took (TakesFirst (number_of x) i) a b k l x y old mid → Nexts b c l m y z answer → answer ≡ None → i < count →
+      Took (TakesStep (number_of x) (scan_of x).order (Rows count)) a c k m x z old mid
+  took_end a b c k l m x y z i count answer old mid f g is below =
+      took_both (TakesFirst (number_of x) i) (TakesNext (number_of y) None) (TakesStep (number_of x) (scan_of x).order (Rows count)) a b c k l m x y z old mid mid f next
+      (λ rows between left ts us first second. first_ended (number_of x) i count (scan_of x).order rows between left ts us below first (subst (λ n. TakesNext n None between left us) f.names.number second))
+    where
+      next : Took (TakesNext (number_of y) None) b c l m y z mid mid
+      next = subst (λ (rs : List KeyValue). Took (TakesNext (number_of y) None) b c l m y z mid rs) (append-nil mid)
+          (subst (λ (o : Option KeyValue). Took (TakesNext (number_of y) o) b c l m y z mid (mid ++ given o)) is (took_next b c l m y z answer mid g))
+
+  pub took_filled : (a b : Reach) (k l : CoreModel) (x y : TxnIterator X P) (i count : ℕ) (old new : List KeyValue) → Took (TakesFirst (number_of x) i) a b k l x y old new → i ≡ count → Took (TakesStep (number_of x) (scan_of x).order (Rows count)) a b k l x y old new
+  took_filled a b k l x y i count old new f all =
+      took_as (TakesFirst (number_of x) i) (TakesStep (number_of x) (scan_of x).order (Rows count)) a b k l x y old new f (λ rows left first. first_filled (number_of x) i count (scan_of x).order rows left f.ts all first)
+
+  -- one step more
+  pub took_step : (a b c : Reach) (k l m : CoreModel) (x y z : TxnIterator X P) (j : ℕ) (sts : List ScanStep) (d : ScanStep) (old mid new : List KeyValue) → j < length sts → Took (TakesRest (number_of x) (scan_of x).order sts j) a b k l x y old mid →
+      Took (TakesStep (number_of y) (scan_of y).order (get_or sts j d)) b c l m y z mid new → Took (TakesRest (number_of x) (scan_of x).order sts (j + 1)) a c k m x z old new
+  took_step a b c k l m x y z j sts d old mid new within f g =
+      took_both (TakesRest (number_of x) (scan_of x).order sts j) (TakesStep (number_of y) (scan_of y).order (get_or sts j d)) (TakesRest (number_of x) (scan_of x).order sts (j + 1)) a b c k l m x y z old mid new f g
+      (λ rows between left ts us rest step. rest_one (number_of x) j (scan_of x).order sts d rows between left ts us within rest
+      (subst (λ o. TakesStep (number_of x) o (get_or sts j d) between left us) f.names.order (subst (λ n. TakesStep n (scan_of y).order (get_or sts j d) between left us) f.names.number step)))
+
+  pub took_steps : (a b : Reach) (k l : CoreModel) (x y : TxnIterator X P) (j : ℕ) (sts : List ScanStep) (old new : List KeyValue) → length sts ≤ j → Took (TakesRest (number_of x) (scan_of x).order sts j) a b k l x y old new → Took (TakesSteps (number_of x) (scan_of x).order sts) a b k l x y old new
+  took_steps a b k l x y j sts old new past f =
+      took_as (TakesRest (number_of x) (scan_of x).order sts j) (TakesSteps (number_of x) (scan_of x).order sts) a b k l x y old new f (λ rows left rest. rest_all (number_of x) j (scan_of x).order sts rows left f.ts past rest)
+
+  -- all that a line asks for
+  pub took_all : {E : Type 0} (r : Result (Unit {0}) E) (a b : Reach) (k l : CoreModel) (x y : TxnIterator X P) (count : ℕ) (sts : List ScanStep) (old new : List KeyValue) → sts ≡ [] → length new < count →
+      OnOk r (Took (TakesStep (number_of x) (scan_of x).order (Rows count)) a b k l x y old new) → OnOk r (Took (Walks (number_of x) (scan_of x).order sts) a b k l x y old new)
+  took_all (Err e) a b k l x y count sts old new none few f = tt
+  took_all (Ok u) a b k l x y count sts old new none few f =
+      subst (λ (us : List ScanStep). Took (Walks (number_of x) (scan_of x).order us) a b k l x y old new) (sym none)
+      (took_as (TakesStep (number_of x) (scan_of x).order (Rows count)) (Walks (number_of x) (scan_of x).order []) a b k l x y old new f
+      (λ rows left step. let all : length new ≡ length old + length (handed f.ts) = ap length f.hands ∙ length-append old (handed f.ts) in walks_all (number_of x) count (scan_of x).order rows left f.ts (omega (arith, all, few)) step))
+
+  pub took_some : {E : Type 0} (r : Result (Unit {0}) E) (a b : Reach) (k l : CoreModel) (x y : TxnIterator X P) (sts : List ScanStep) (old new : List KeyValue) → 0 < length sts →
+      OnOk r (Took (TakesSteps (number_of x) (scan_of x).order sts) a b k l x y old new) → OnOk r (Took (Walks (number_of x) (scan_of x).order sts) a b k l x y old new)
+  took_some (Err e) a b k l x y sts old new some f = tt
+  took_some (Ok u) a b k l x y sts old new some f =
+      took_as (TakesSteps (number_of x) (scan_of x).order sts) (Walks (number_of x) (scan_of x).order sts) a b k l x y old new f (λ rows left steps. walks_some (number_of x) (scan_of x).order sts rows left f.ts some steps)
 
   pub took_seek : (a b : Reach) (c d : CoreModel) (x y : TxnIterator X P) (key : List ℕ) (old : List KeyValue) →
       d ≡ record c { state = noted c.state (id_of x) (steps.Seek (number_of x) key ∷ []) } → IsScanOf (id_of x) (number_of x) (scan_of x).order (scan_of x).range y →
@@ -257,3 +313,33 @@ module _ {X : Type 0} {P : X → Type 0} where
         call_both a b c h.later.0 g.cause.0 h.later.1 g.cause.1,
         h.later.2 g.cause.0 at e (subst (λ (p : Meaning). ScanRefuses (scan_of x) p g.cause.0 at e) h.later.1.meaning refuses),
       )
+
+  -- ---- by the result of a call
+
+  pub sought : {E : Type 0} (r : Result (Unit {0}) E) (a b : Reach) (c d : CoreModel) (x y : TxnIterator X P) (st : ScanStep) (key bytes : List ℕ) (old : List KeyValue) → st ≡ Seek key → bytes ≡ key →
+      OnOk r (d ≡ record c { state = noted c.state (id_of x) (steps.Seek (number_of x) bytes ∷ []) }) → IsScanOf (id_of x) (number_of x) (scan_of x).order (scan_of x).range y →
+      ((w : World) (rows : List RowEntry) → Leaves (scan_of x) w rows → Sees w a b → OnOk r (Leaves (scan_of y) w (drop_before (scan_of x).order bytes rows))) →
+      OnOk r (Made a b (λ reads. NoMore (ScanRefuses (scan_of x) a.meaning) reads (ScanRefuses (scan_of y) a.meaning))) → ((m : Meaning) → IsKept m c → IsKept m d) →
+      OnOk r (Took (TakesStep (number_of x) (scan_of x).order st) a b c d x y old old)
+  sought (Err e) a b c d x y st key bytes old is same noted names rows later kept = tt
+  sought (Ok u) a b c d x y st key bytes old is same noted names rows later kept =
+      subst (λ (s : ScanStep). Took (TakesStep (number_of x) (scan_of x).order s) a b c d x y old old) (ap Seek same ∙ sym is)
+      (took_seek a b c d x y bytes old noted names rows later kept)
+
+  pub seek_failed : {T : Type 0} (r : Result T SlateDBError) (a b : Reach) (x : TxnIterator X P) (at : Option (List ℕ)) →
+      ((w : World) (rows : List RowEntry) → Leaves (scan_of x) w rows → Sees w a b → IfErr r (IsFault a b)) → IfErr r (λ e. Made a b (λ reads. IsFault a b e ⊎ ScanRefuses (scan_of x) a.meaning reads at e)) → IfErr r (Fails a b x)
+  seek_failed (Ok t) a b x at undamaged made = tt
+  seek_failed (Err e) a b x at undamaged made = fails_call a b x at e undamaged made
+
+  pub walked : (r : Result (Vec KeyValue) SlateDBError) (a b c : Reach) (k l m : CoreModel) (id : List ℕ) (order : IterationOrder) (range : BytesRange) (sts : List ScanStep) (x y : TxnIterator X P) → is_refused range.start range.end ≡ false → Opened a b k l id order range x →
+      IfOk r (λ v. Took (Walks (number_of x) (scan_of x).order sts) b c l m x y [] v.items) → IfOk r (λ v. HasScanned a c k m id order range sts v.items)
+  walked (Err e) a b c k l m id order range sts x y some h f = tt
+  walked (Ok v) a b c k l m id order range sts x y some h f = scan_whole a b c k l m id order range sts x y v.items some h f
+
+  pub walk_cause : {T : Type 0} (r : Result T SlateDBError) (a b c : Reach) (k l : CoreModel) (id : List ℕ) (order : IterationOrder) (range : BytesRange) (x : TxnIterator X P) → Opened a b k l id order range x → OnlyReads a b → IfErr r (Fails b c x) → IfErr r (IsScanError a c k)
+  walk_cause (Ok t) a b c k l id order range x h reads g = tt
+  walk_cause (Err e) a b c k l id order range x h reads g = scan_cause a b c k l id order range x e h reads g
+
+  pub walk_fault : {T : Type 0} (r : Result T SlateDBError) (a b c : Reach) (k l : CoreModel) (id : List ℕ) (order : IterationOrder) (range : BytesRange) (x : TxnIterator X P) → Opened a b k l id order range x → OnlyReads a b → IfErr r (Fails b c x) → IsAnswered a c k → IfErr r (IsFault a c)
+  walk_fault (Ok t) a b c k l id order range x h reads g is = tt
+  walk_fault (Err e) a b c k l id order range x h reads g is = scan_fault a b c k l id order range x e h reads g is

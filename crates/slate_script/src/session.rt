@@ -256,7 +256,16 @@ impl Session {
             return Ok(Answer::Refused(SlateDBError::InvalidRange));
         };
         let core = &mut self.core;
-        let scanned = scan_rows(self.alloc, core, &id, order, range, steps.as_slice(), env, laws);
+        let scanned = scan_rows(
+            self.alloc,
+            core,
+            &id,
+            order,
+            range,
+            steps.as_slice(),
+            env,
+            laws,
+        );
         drop(steps);
         let rows = scanned?;
         Ok(Answer::Rows(rows))

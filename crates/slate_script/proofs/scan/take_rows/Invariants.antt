@@ -11,6 +11,6 @@ invariant-loop g l =
     let now = reach_of g.S.Store g.M.MergeOperator g.T.BlockTransformer l.env in
     record {
       took : Took (TakesFirst (number_of l.initial.scan) l.counter) before now l.initial.core l.core l.initial.scan l.scan l.initial.rows.items l.rows.items;
-      open : IsOpenScan l.core l.scan;
+      opened : IsOpenScan l.core l.scan;
       reads : OnlyReads before now;
     }
