@@ -41,6 +41,14 @@ use Rattle.slate_script.proofs.Noting.{noted_none, noted_both, noted_found, note
 use Rattle.slate_script.proofs.SessionSteps.{named-of}
 use Rattle.slate_script.proofs.WalkLaws.{first_ended, first_filled, first_one, handed_both, one_more, rest_all, rest_one, walks_all, walks_some}
 
+abbrev given : Option KeyValue → List KeyValue
+given None = []
+given (Some row) = row ∷ []
+
+given-handed : (n : ℕ) (a : Option KeyValue) → handed (steps.Next n a ∷ []) ≡ given a
+given-handed n None = refl
+given-handed n (Some row) = refl
+
 -- X, P: of the policies that tables' iterators are given
 module _ {X : Type 0} {P : X → Type 0} where
   -- ---- no call, and calls one after the other
@@ -97,14 +105,6 @@ module _ {X : Type 0} {P : X → Type 0} where
 
   -- ---- one call
 
-  given : Option KeyValue → List KeyValue
-  given None = []
-  given (Some row) = row ∷ []
-
-  given-handed : (n : ℕ) (a : Option KeyValue) → handed (steps.Next n a ∷ []) ≡ given a
-  given-handed n None = refl
-  given-handed n (Some row) = refl
-
   -- what a call for the next row leaves, where it is answered
   pub record Nexts (a b : Reach) (c d : CoreModel) (x y : TxnIterator X P) (answer : Option KeyValue) : Type 0 where
     pub notes : d ≡ record c { state = noted c.state (id_of x) (steps.Next (number_of x) answer ∷ []) }
@@ -151,12 +151,12 @@ module _ {X : Type 0} {P : X → Type 0} where
       took_as (TakesFirst (number_of x) i) (TakesStep (number_of x) (scan_of x).order (Rows count)) a b k l x y old new f (λ rows left first. first_filled (number_of x) i count (scan_of x).order rows left f.ts all first)
 
   -- one step more
-  pub took_step : (a b c : Reach) (k l m : CoreModel) (x y z : TxnIterator X P) (j : ℕ) (sts : List ScanStep) (d : ScanStep) (old mid new : List KeyValue) → j < length sts → Took (TakesRest (number_of x) (scan_of x).order sts j) a b k l x y old mid →
-      Took (TakesStep (number_of y) (scan_of y).order (get_or sts j d)) b c l m y z mid new → Took (TakesRest (number_of x) (scan_of x).order sts (j + 1)) a c k m x z old new
-  took_step a b c k l m x y z j sts d old mid new within f g =
-      took_both (TakesRest (number_of x) (scan_of x).order sts j) (TakesStep (number_of y) (scan_of y).order (get_or sts j d)) (TakesRest (number_of x) (scan_of x).order sts (j + 1)) a b c k l m x y z old mid new f g
+  pub took_step : (a b c : Reach) (k l m : CoreModel) (x y z : TxnIterator X P) (j : ℕ) (sts : List ScanStep) (st d : ScanStep) (old mid new : List KeyValue) → j < length sts → st ≡ get_or sts j d → Took (TakesRest (number_of x) (scan_of x).order sts j) a b k l x y old mid →
+      Took (TakesStep (number_of y) (scan_of y).order st) b c l m y z mid new → Took (TakesRest (number_of x) (scan_of x).order sts (j + 1)) a c k m x z old new
+  took_step a b c k l m x y z j sts st d old mid new within is f g =
+      took_both (TakesRest (number_of x) (scan_of x).order sts j) (TakesStep (number_of y) (scan_of y).order st) (TakesRest (number_of x) (scan_of x).order sts (j + 1)) a b c k l m x y z old mid new f g
       (λ rows between left ts us rest step. rest_one (number_of x) j (scan_of x).order sts d rows between left ts us within rest
-      (subst (λ o. TakesStep (number_of x) o (get_or sts j d) between left us) f.names.order (subst (λ n. TakesStep n (scan_of y).order (get_or sts j d) between left us) f.names.number step)))
+      (subst (λ (s : ScanStep). TakesStep (number_of x) (scan_of x).order s between left us) is (subst (λ o. TakesStep (number_of x) o st between left us) f.names.order (subst (λ n. TakesStep n (scan_of y).order st between left us) f.names.number step))))
 
   pub took_steps : (a b : Reach) (k l : CoreModel) (x y : TxnIterator X P) (j : ℕ) (sts : List ScanStep) (old new : List KeyValue) → length sts ≤ j → Took (TakesRest (number_of x) (scan_of x).order sts j) a b k l x y old new → Took (TakesSteps (number_of x) (scan_of x).order sts) a b k l x y old new
   took_steps a b k l x y j sts old new past f =
@@ -331,10 +331,10 @@ module _ {X : Type 0} {P : X → Type 0} where
   seek_failed (Ok t) a b x at undamaged made = tt
   seek_failed (Err e) a b x at undamaged made = fails_call a b x at e undamaged made
 
-  pub walked : (r : Result (Vec KeyValue) SlateDBError) (a b c : Reach) (k l m : CoreModel) (id : List ℕ) (order : IterationOrder) (range : BytesRange) (sts : List ScanStep) (x y : TxnIterator X P) → is_refused range.start range.end ≡ false → Opened a b k l id order range x →
-      IfOk r (λ v. Took (Walks (number_of x) (scan_of x).order sts) b c l m x y [] v.items) → IfOk r (λ v. HasScanned a c k m id order range sts v.items)
-  walked (Err e) a b c k l m id order range sts x y some h f = tt
-  walked (Ok v) a b c k l m id order range sts x y some h f = scan_whole a b c k l m id order range sts x y v.items some h f
+  pub walked : {V : Type 0} (items : V → List KeyValue) (r : Result V SlateDBError) (a b c : Reach) (k l m : CoreModel) (id : List ℕ) (order : IterationOrder) (range : BytesRange) (sts : List ScanStep) (x y : TxnIterator X P) → is_refused range.start range.end ≡ false → Opened a b k l id order range x →
+      IfOk r (λ v. Took (Walks (number_of x) (scan_of x).order sts) b c l m x y [] (items v)) → IfOk r (λ v. HasScanned a c k m id order range sts (items v))
+  walked items (Err e) a b c k l m id order range sts x y some h f = tt
+  walked items (Ok v) a b c k l m id order range sts x y some h f = scan_whole a b c k l m id order range sts x y (items v) some h f
 
   pub walk_cause : {T : Type 0} (r : Result T SlateDBError) (a b c : Reach) (k l : CoreModel) (id : List ℕ) (order : IterationOrder) (range : BytesRange) (x : TxnIterator X P) → Opened a b k l id order range x → OnlyReads a b → IfErr r (Fails b c x) → IfErr r (IsScanError a c k)
   walk_cause (Ok t) a b c k l id order range x h reads g = tt

@@ -1,7 +1,8 @@
 -- The steps of a scan, as they are taken one after the other.
-use Rattle.std.proofs.Common.{◌≡◌, ℕ, zero, suc, ◌+◌, ◌-◌, ◌<◌, ◌≤◌, Bool, true, false, cond, List, [], ◌∷◌, ◌++◌, length, take, drop, get_or, Option, Some, None, refl, sym, ap, ◌∙◌, arith, add-one, append_assoc, append-nil, ltb}
+use Rattle.std.proofs.Common.{◌≡◌, ℕ, zero, suc, ◌+◌, ◌-◌, ◌<◌, ◌≤◌, Bool, true, false, cond, ◌==◌, List, [], ◌∷◌, ◌++◌, length, take, drop, get_or, Option, Some, None, refl, sym, ap, ◌∙◌, arith, add-one, append_assoc, append-nil, ltb}
 use Rattle.std.specs.Prelude.{count_by}
 use Rattle.std.proofs.Math.Seq.{drop-cons, drop-nil}
+use Rattle.std.proofs.lemmas.Bool.Decides.{nat_tests}
 use Rattle.std.proofs.lemmas.Bool.{lt-ltb, ltb-true, ltb-false}
 use Rattle.std.proofs.lemmas.List.{take_all, drop_all, length-drop, length-take-le}
 use Rattle.std.proofs.lemmas.List.Elements.{filter_map-append}
@@ -136,3 +137,15 @@ pub one_more : (ts : List TranscriptStep) (order : IterationOrder) (range : Byte
 one_more ts order range =
     let all : count_by is_scan (ts ++ (steps.Scan order range ∷ [])) ≡ count_by is_scan ts + 1 = sum_by-append (λ (t : TranscriptStep). cond (is_scan t) 1 0) ts (steps.Scan order range ∷ []) in
     omega (arith, all)
+
+-- ---- how long a list is
+
+no-length : {A : Type 0} (xs : List A) → length xs ≡ 0 → xs ≡ []
+no-length [] h = refl
+no-length (x ∷ xs) h = absurd (omega (arith, h))
+
+pub none_at_all : {A : Type 0} (xs : List A) → (length xs == 0) ≡ true → xs ≡ []
+none_at_all xs h = let none : length xs ≡ 0 = grind (arith, nat_tests) in no-length xs none
+
+pub some_at_all : {A : Type 0} (xs : List A) → (length xs == 0) ≡ false → 0 < length xs
+some_at_all xs h = grind (arith, nat_tests)

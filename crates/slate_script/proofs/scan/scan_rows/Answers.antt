@@ -1,4 +1,3 @@
-use Rattle.std.proofs.Common.{arith}
 use Rattle.slate_types.proofs.Reaching.{reads_then}
 use Rattle.slate_script.proofs.Scanned.{opened_by, opens_scan, walked, walk_cause, walk_fault}
 use Rattle.slate_script.proofs.scan.scan_rows.Goals as goal
@@ -8,14 +7,13 @@ walk-rows-requires g c =
     let o = c.in_ok-scan.ensures in
     opens_scan _ _ c.args.core.now c.scan-opened.new.self c.args.id.now c.args.order c.args.range c.in_ok-scan.scan (opened_by _ _ c.args.core.now c.scan-opened.new.self c.args.id.now c.args.order c.args.range c.in_ok-scan.scan c.requires.open o.noted o.names o.opened o.later.1 o.kept)
 
-pub returns-clause-scanned : goal.returns-clause-scanned
-returns-clause-scanned g c = ?
-
-pub returns-clause-undamaged : goal.returns-clause-undamaged
-returns-clause-undamaged g c = ?
-
-pub returns-clause-cause : goal.returns-clause-cause
-returns-clause-cause g c = ?
-
-pub returns-clause-reads : goal.returns-clause-reads
-returns-clause-reads g c = ?
+pub returns : goal.returns
+returns g c =
+    let o = c.in_ok-scan.ensures in
+    let h = opened_by _ _ c.args.core.now c.scan-opened.new.self c.args.id.now c.args.order c.args.range c.in_ok-scan.scan c.requires.open o.noted o.names o.opened o.later.1 o.kept in
+    record {
+      scanned = walked (λ v. v.items) c.walk-rows.result _ _ _ c.args.core.now c.scan-opened.new.self c.walk-rows.new.core c.args.id.now c.args.order c.args.range c.args.steps.now c.in_ok-scan.scan c.walk-rows.new.scan c.requires.range h c.walk-rows.ensures.took;
+      undamaged = walk_fault c.walk-rows.result _ _ _ c.args.core.now c.scan-opened.new.self c.args.id.now c.args.order c.args.range c.in_ok-scan.scan h c.scan-opened.ensures.reads c.walk-rows.ensures.refused;
+      cause = walk_cause c.walk-rows.result _ _ _ c.args.core.now c.scan-opened.new.self c.args.id.now c.args.order c.args.range c.in_ok-scan.scan h c.scan-opened.ensures.reads c.walk-rows.ensures.refused;
+      reads = reads_then _ _ _ c.scan-opened.ensures.reads c.walk-rows.ensures.reads;
+    }

@@ -18,7 +18,7 @@ loop-step-init g c = record {
 pub loop-step-preserved : goal.loop-step-preserved
 loop-step-preserved g c =
     let i = c.loop-step.invariant in
-    let took = took_step _ _ _ c.args.core.now c.loop-step.core c.take_step.new.core c.args.scan.now c.loop-step.scan c.take_step.new.scan c.loop-step.step-index c.args.steps.now _ c.args.rows.now.items c.loop-step.rows.items c.take_step.new.rows.items c.loop-step-test.true i.took c.in_ok-take_step.ensures.took in
+    let took = took_step _ _ _ c.args.core.now c.loop-step.core c.take_step.new.core c.args.scan.now c.loop-step.scan c.take_step.new.scan c.loop-step.step-index c.args.steps.now c.step-item.result _ c.args.rows.now.items c.loop-step.rows.items c.take_step.new.rows.items c.loop-step-test.true c.step-item.is i.took c.in_ok-take_step.ensures.took in
     record { took = took; opened = open_on c.args.core.now c.take_step.new.core c.args.scan.now c.take_step.new.scan took c.requires; reads = reads_then _ _ _ i.reads c.take_step.ensures.reads }
 
 pub returns-in_err-take_step : goal.returns-in_err-take_step
