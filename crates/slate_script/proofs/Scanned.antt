@@ -1,6 +1,6 @@
 -- Calls on a scan, one after the other.
 use Rattle.std.proofs.Common.{◌≡◌, ℕ, ◌+◌, ◌<◌, ◌≤◌, ◌⊎◌, inl, inr, Bool, false, cond, List, [], ◌∷◌, ◌++◌, length, drop, get_or, Option, Some, None, Result, Ok, Err, IfOk, IfErr, OnOk, refl, sym, ap, ◌∙◌, subst, append-nil, append_assoc, arith}
-use Rattle.std.specs.Prelude.{IsSome, count_by}
+use Rattle.std.specs.Prelude.{IsSome, OnErr, count_by}
 use Rattle.std.specs.List.{AllByRecursion}
 use Rattle.std.proofs.lemmas.List.{length-append}
 use Rattle.slate_types.specs.declared.bytes_range.BytesRange.{BytesRange}
@@ -34,7 +34,7 @@ use Rattle.slate_db.specs.Model.{CoreModel}
 use Rattle.slate_db.specs.Readable.{IsAnswered}
 use Rattle.slate_db.specs.Scans.{IsFor, IsOpenScan, IsRefusedByScan, IsScanError, IsScanOf, Leaves, LeavesIn, ScanRefuses, id_of, number_of, scan_of}
 use Rattle.slate_db.specs.Sound.{IsKept}
-use Rattle.slate_script.specs.Scanning.{Took, Fails, HasScanned}
+use Rattle.slate_script.specs.Scanning.{Took, Fails, HasScanned, IsNoted}
 use Rattle.slate_script.specs.Walking.{Means, TakesFirst, TakesNext, TakesRest, TakesStep, TakesSteps, Walks}
 use Rattle.slate_script.proofs.Answers.{answers_first, answers_sees}
 use Rattle.slate_script.proofs.Noting.{noted_none, noted_both, noted_found, noted_scans}
@@ -48,6 +48,19 @@ given (Some row) = row ∷ []
 given-handed : (n : ℕ) (a : Option KeyValue) → handed (steps.Next n a ∷ []) ≡ given a
 given-handed n None = refl
 given-handed n (Some row) = refl
+
+pub same_noted : (c d : CoreModel) (id : List ℕ) → d ≡ c → IsNoted c d id
+same_noted c d id same = ([], same ∙ ap (λ s. record c { state = s }) (noted_none c.state id))
+
+pub noted_then : (c d e : CoreModel) (id other : List ℕ) → other ≡ id → IsNoted c d id → IsNoted d e other → IsNoted c e id
+noted_then c d e id other same (ts, f) (us, g) = (
+  ts ++ us,
+  g ∙ (λ i. let n = f i in record n { state = noted n.state (same i) us }) ∙ ap (λ s. record c { state = s }) (noted_both c.state id ts us),
+)
+
+pub noted_call : {T E : Type 0} (r : Result T E) (c d : CoreModel) (id : List ℕ) (ts : List TranscriptStep) → OnOk r (d ≡ record c { state = noted c.state id ts }) → OnErr r (d ≡ c) → IsNoted c d id
+noted_call (Ok t) c d id ts is same = (ts, is)
+noted_call (Err e) c d id ts is same = same_noted c d id same
 
 -- X, P: of the policies that tables' iterators are given
 module _ {X : Type 0} {P : X → Type 0} where

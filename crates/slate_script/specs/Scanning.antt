@@ -1,4 +1,5 @@
 -- What calls on a scan that was opened did and met. before, after: what they reach; c, d: the core; x, y: the scan
+--     IsNoted c d id      they noted steps in the transcript under the id, and changed nothing else
 --     Took means before after c d x y old new      they noted steps, and what these handed out came behind the rows that were there;
 --                 where it is known which rows are left, it is behind the calls, and these and the steps are as meant
 --     Fails before after x e      one of them was refused, by a fault or by what the reads of all of them show
@@ -26,6 +27,10 @@ use Rattle.slate_db.specs.Readable.{IsAnswered}
 use Rattle.slate_db.specs.Scans.{IsScanOf, Leaves, ScanRefuses, id_of, number_of, scan_of}
 use Rattle.slate_db.specs.Sound.{IsKept}
 use Rattle.slate_script.specs.Walking.{Means}
+
+-- whatever the calls answered
+abbrev pub IsNoted : CoreModel → CoreModel → List ℕ → Type 0
+IsNoted c d id = (ts : List TranscriptStep) × (d ≡ record c { state = noted c.state id ts })
 
 -- X, P: of the policies that tables' iterators are given
 module _ {X : Type 0} {P : X → Type 0} where

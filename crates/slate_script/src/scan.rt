@@ -6,8 +6,8 @@ ghost use Rattle.slate_types.specs.Outside.{IsFault, OnlyReads};
 ghost use Rattle.slate_txn.specs.declared.line.ScanStep.TheVariants.{Rows};
 ghost use Rattle.slate_txn.specs.Named.{find_named};
 ghost use Rattle.slate_db.specs.Readable.{IsAnswered};
-ghost use Rattle.slate_db.specs.Scans.{IsOpenScan, IsScanError, number_of, scan_of};
-ghost use Rattle.slate_script.specs.Scanning.{Fails, HasScanned, Took};
+ghost use Rattle.slate_db.specs.Scans.{IsOpenScan, IsScanError, id_of, number_of, scan_of};
+ghost use Rattle.slate_script.specs.Scanning.{Fails, HasScanned, IsNoted, Took};
 ghost use Rattle.slate_script.specs.Walking.{TakesStep, TakesSteps, Walks};
 
 use slate_db::engine::Core;
@@ -36,6 +36,7 @@ pub(crate) fn scan_rows<S: Store, M: MergeOperator, T: BlockTransformer, X: Pref
     requires open { IsSome (find_named id.now core.old.state.txns) }
     requires range { is_refused range.start range.end ≡ false }
     requires valid { IsValid laws.now.options }
+    ensures noted { IsNoted core.old core.new id.now }
     ensures scanned { let reach = ⟦<EnvOf<S, M, T> as Outside>⟧.reach in IfOk result (λ v. HasScanned (reach env.old) (reach env.new) core.old core.new id.now order range steps.now v.items) }
     ensures undamaged { let reach = ⟦<EnvOf<S, M, T> as Outside>⟧.reach in IsAnswered (reach env.old) (reach env.new) core.old → IfErr result (IsFault (reach env.old) (reach env.new)) }
     ensures cause { let reach = ⟦<EnvOf<S, M, T> as Outside>⟧.reach in IfErr result (IsScanError (reach env.old) (reach env.new) core.old) }
@@ -62,6 +63,7 @@ fn walk<S: Store, M: MergeOperator, T: BlockTransformer>(
     env: &mut Env<'_, S, M, T>,
 ) -> Result<Vec<KeyValue>, SlateDBError>
     requires { IsOpenScan core.old scan.old }
+    ensures noted { IsNoted core.old core.new (id_of scan.old) }
     ensures took { let reach = ⟦<EnvOf<S, M, T> as Outside>⟧.reach in IfOk result (λ v. Took (Walks (number_of scan.old) (scan_of scan.old).order steps.now) (reach env.old) (reach env.new) core.old core.new scan.old scan.new [] v.items) }
     ensures refused { let reach = ⟦<EnvOf<S, M, T> as Outside>⟧.reach in IfErr result (Fails (reach env.old) (reach env.new) scan.old) }
     ensures reads { let reach = ⟦<EnvOf<S, M, T> as Outside>⟧.reach in OnlyReads (reach env.old) (reach env.new) }
@@ -80,6 +82,7 @@ fn take<S: Store, M: MergeOperator, T: BlockTransformer>(
     env: &mut Env<'_, S, M, T>,
 ) -> Result<(), SlateDBError>
     requires { IsOpenScan core.old scan.old }
+    ensures noted { IsNoted core.old core.new (id_of scan.old) }
     ensures took { let reach = ⟦<EnvOf<S, M, T> as Outside>⟧.reach in OnOk result (Took (Walks (number_of scan.old) (scan_of scan.old).order steps.now) (reach env.old) (reach env.new) core.old core.new scan.old scan.new rows.old.items rows.new.items) }
     ensures refused { let reach = ⟦<EnvOf<S, M, T> as Outside>⟧.reach in IfErr result (Fails (reach env.old) (reach env.new) scan.old) }
     ensures reads { let reach = ⟦<EnvOf<S, M, T> as Outside>⟧.reach in OnlyReads (reach env.old) (reach env.new) }
@@ -100,6 +103,7 @@ fn take_steps<S: Store, M: MergeOperator, T: BlockTransformer>(
     env: &mut Env<'_, S, M, T>,
 ) -> Result<(), SlateDBError>
     requires { IsOpenScan core.old scan.old }
+    ensures noted { IsNoted core.old core.new (id_of scan.old) }
     ensures took { let reach = ⟦<EnvOf<S, M, T> as Outside>⟧.reach in OnOk result (Took (TakesSteps (number_of scan.old) (scan_of scan.old).order steps.now) (reach env.old) (reach env.new) core.old core.new scan.old scan.new rows.old.items rows.new.items) }
     ensures refused { let reach = ⟦<EnvOf<S, M, T> as Outside>⟧.reach in IfErr result (Fails (reach env.old) (reach env.new) scan.old) }
     ensures reads { let reach = ⟦<EnvOf<S, M, T> as Outside>⟧.reach in OnlyReads (reach env.old) (reach env.new) }
@@ -119,6 +123,7 @@ fn take_step<S: Store, M: MergeOperator, T: BlockTransformer>(
     env: &mut Env<'_, S, M, T>,
 ) -> Result<(), SlateDBError>
     requires { IsOpenScan core.old scan.old }
+    ensures noted { IsNoted core.old core.new (id_of scan.old) }
     ensures took { let reach = ⟦<EnvOf<S, M, T> as Outside>⟧.reach in OnOk result (Took (TakesStep (number_of scan.old) (scan_of scan.old).order step.now) (reach env.old) (reach env.new) core.old core.new scan.old scan.new rows.old.items rows.new.items) }
     ensures refused { let reach = ⟦<EnvOf<S, M, T> as Outside>⟧.reach in IfErr result (Fails (reach env.old) (reach env.new) scan.old) }
     ensures reads { let reach = ⟦<EnvOf<S, M, T> as Outside>⟧.reach in OnlyReads (reach env.old) (reach env.new) }
@@ -138,6 +143,7 @@ fn take_rows<S: Store, M: MergeOperator, T: BlockTransformer>(
     env: &mut Env<'_, S, M, T>,
 ) -> Result<(), SlateDBError>
     requires { IsOpenScan core.old scan.old }
+    ensures noted { IsNoted core.old core.new (id_of scan.old) }
     ensures took { let reach = ⟦<EnvOf<S, M, T> as Outside>⟧.reach in OnOk result (Took (TakesStep (number_of scan.old) (scan_of scan.old).order (Rows count)) (reach env.old) (reach env.new) core.old core.new scan.old scan.new rows.old.items rows.new.items) }
     ensures refused { let reach = ⟦<EnvOf<S, M, T> as Outside>⟧.reach in IfErr result (Fails (reach env.old) (reach env.new) scan.old) }
     ensures reads { let reach = ⟦<EnvOf<S, M, T> as Outside>⟧.reach in OnlyReads (reach env.old) (reach env.new) }

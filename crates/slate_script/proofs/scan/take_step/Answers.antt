@@ -1,10 +1,10 @@
 use Rattle.std.proofs.Common.{OnOk, Some, sym, subst}
 use Rattle.slate_txn.specs.declared.line.ScanStep.{ScanStep}
-use Rattle.slate_db.specs.Scans.{number_of, scan_of}
+use Rattle.slate_db.specs.Scans.{id_of, number_of, scan_of}
 use Rattle.slate_store.specs.Reach.{reach_of}
 use Rattle.slate_script.specs.Scanning.{Took}
 use Rattle.slate_script.specs.Walking.{TakesStep}
-use Rattle.slate_script.proofs.Scanned.{seek_failed, sought}
+use Rattle.slate_script.proofs.Scanned.{noted_call, seek_failed, sought}
 use Rattle.slate_script.proofs.scan.take_step.Goals as goal
 
 pub returns-in-Rows-clause-took : goal.returns-in-Rows-clause-took
@@ -19,3 +19,6 @@ returns-in-Seek-clause-took g c =
 
 pub returns-in-Seek-clause-refused : goal.returns-in-Seek-clause-refused
 returns-in-Seek-clause-refused g c = seek_failed c.seek.result _ _ c.args.scan.now (Some c.as_slice.result.now) c.seek.ensures.undamaged c.seek.ensures.cause
+
+pub returns-in-Seek-clause-noted : goal.returns-in-Seek-clause-noted
+returns-in-Seek-clause-noted g c = noted_call c.seek.result c.args.core.now c.seek.new.self (id_of c.args.scan.now) _ c.seek.ensures.noted c.seek.ensures.same
