@@ -13,7 +13,7 @@ ghost use Rattle.slate_db.specs.Meaning.{Meaning, IsLawfulMeaning};
 ghost use Rattle.slate_db.specs.Parts.{IsTableError};
 ghost use Rattle.slate_language.specs.Replies.{replies, replies_to, after_lines, replies_from, reply_line, IsWellFormed};
 ghost use Rattle.slate_language.specs.Answers.{reply_of};
-ghost use Rattle.slate_language.specs.Stage.{meaning};
+ghost use Rattle.slate_language.specs.Stage as stage;
 ghost use Rattle.slate_script.specs.Session.{StandsFor, HasTablesAlone, IsRunning, IsSettled, IsLimit, held_load};
 ghost use Rattle.slate_script.specs.Run.{run_rules, Premises, is_line, script_error, lines_taken, IsPartError, IsPartCause, HasCause, HasRead, HasSaid, NoneRose};
 ghost use Rattle.slate_script.specs.StoredState.{IsStoredState};
@@ -63,7 +63,7 @@ pub fn run_script<
     ensures said { let reach = ⟦<EnvOf<S, M, T> as Outside>⟧.reach in (script before : List ℕ) → R.left source.old ≡ Some script → W.content sink.old ≡ Some before → Premises (reach env.old).meaning (reach env.old).objects →
         HasSaid (run_rules laws.now.options (reach env.old).meaning) script (R.left source.new) before (W.content sink.new) result }
     ensures stored { let reach = ⟦<EnvOf<S, M, T> as Outside>⟧.reach in (script : List ℕ) → R.left source.old ≡ Some script → Premises (reach env.old).meaning (reach env.old).objects →
-        OnOk result (IsStoredState (reach env.old).meaning (run_rules laws.now.options (reach env.old).meaning) (layout_of laws.now.options) (reach env.new).objects (after_lines meaning (run_rules laws.now.options (reach env.old).meaning) opening (lines_of script))) }
+        OnOk result (IsStoredState (reach env.old).meaning (run_rules laws.now.options (reach env.old).meaning) (layout_of laws.now.options) (reach env.new).objects (after_lines stage.meaning (run_rules laws.now.options (reach env.old).meaning) opening (lines_of script))) }
     ensures read { (script : List ℕ) → R.left source.old ≡ Some script → HasRead script (R.left source.new) result }
 
     // errors: each has its cause, and no fault is passed over
@@ -127,9 +127,9 @@ fn answer_line<W: Sink, S: Store, M: MergeOperator, T: BlockTransformer, X: Pref
     requires { IsValid laws.now.options }
     ensures meant { OnOk result (IsTrue (is_line line.now)) }
     ensures running { let reach = ⟦<EnvOf<S, M, T> as Outside>⟧.reach in (m : Meaning) (r : Rules) → IsRunning m r (reach env.old).meaning (reach env.old).objects session.old → OnOk result (IsRunning m r (reach env.new).meaning (reach env.new).objects session.new) }
-    ensures stands { let reach = ⟦<EnvOf<S, M, T> as Outside>⟧.reach in (m : Meaning) (r : Rules) → IsRunning m r (reach env.old).meaning (reach env.old).objects session.old → (s : State) → StandsFor session.old s → OnOk result (StandsFor session.new (after_lines meaning r s (line.now ∷ []))) }
+    ensures stands { let reach = ⟦<EnvOf<S, M, T> as Outside>⟧.reach in (m : Meaning) (r : Rules) → IsRunning m r (reach env.old).meaning (reach env.old).objects session.old → (s : State) → StandsFor session.old s → OnOk result (StandsFor session.new (after_lines stage.meaning r s (line.now ∷ []))) }
     ensures answered { let reach = ⟦<EnvOf<S, M, T> as Outside>⟧.reach in (m : Meaning) (r : Rules) → IsRunning m r (reach env.old).meaning (reach env.old).objects session.old → (s : State) (before : List ℕ) → StandsFor session.old s → W.content sink.old ≡ Some before →
-        OnOk result (W.content sink.new ≡ Some (before ++ replies_from meaning r s (line.now ∷ []))) }
+        OnOk result (W.content sink.new ≡ Some (before ++ replies_from stage.meaning r s (line.now ∷ []))) }
     ensures grows { OnOk result ((weight session.new.core ≤ weight session.old.core + 2) × (held_load session.new ≤ held_load session.old + length line.now)) }
     ensures alone { let reach = ⟦<EnvOf<S, M, T> as Outside>⟧.reach in (m : Meaning) (r : Rules) → IsRunning m r (reach env.old).meaning (reach env.old).objects session.old → HasTablesAlone m (layout_of laws.now.options) (reach env.old).objects (runs_of session.old.core.events) →
         OnOk result (HasTablesAlone m (layout_of laws.now.options) (reach env.new).objects (runs_of session.new.core.events)) }
@@ -142,7 +142,7 @@ fn answer_line<W: Sink, S: Store, M: MergeOperator, T: BlockTransformer, X: Pref
     ensures shown { let reach = ⟦<EnvOf<S, M, T> as Outside>⟧.reach in IfErr result (λ e. IsTableError e → Made (reach env.old) (reach env.new) (λ reads. IsShownBy (reach env.old).meaning session.old.core reads e)) }
     ensures write_fault { result ≡ Err SlateDBError.WriteFault → Rose (W.faults sink.old) (W.faults sink.new) × IsTrue (is_line line.now) }
     ensures begun { let reach = ⟦<EnvOf<S, M, T> as Outside>⟧.reach in (m : Meaning) (r : Rules) → IsRunning m r (reach env.old).meaning (reach env.old).objects session.old → (s : State) (before : List ℕ) → StandsFor session.old s → W.content sink.old ≡ Some before → result ≡ Err SlateDBError.WriteFault →
-        (n : ℕ) × (n < length (replies_from meaning r s (line.now ∷ []))) × (W.content sink.new ≡ Some (before ++ take n (replies_from meaning r s (line.now ∷ [])))) }
+        (n : ℕ) × (n < length (replies_from stage.meaning r s (line.now ∷ []))) × (W.content sink.new ≡ Some (before ++ take n (replies_from stage.meaning r s (line.now ∷ [])))) }
     ensures still { OnOk result (W.faults sink.new ≡ W.faults sink.old) }
     ensures puts { let reach = ⟦<EnvOf<S, M, T> as Outside>⟧.reach in Puts (reach env.old) (reach env.new) }
     ensures uncounted { IfErr result (λ e. (e ≡ SlateDBError.WriteFault) ⊎ (W.faults sink.new ≡ W.faults sink.old)) }
