@@ -32,20 +32,18 @@ use Rattle.slate_script.specs.Walking.{Means}
 abbrev pub IsNoted : CoreModel → CoreModel → List ℕ → Type 0
 IsNoted c d id = (ts : List TranscriptStep) × (d ≡ record c { state = noted c.state id ts })
 
--- X, P: of the policies that tables' iterators are given
-module _ {X : Type 0} {P : X → Type 0} where
-  pub record Took (means : Means) (before after : Reach) (c d : CoreModel) (x y : TxnIterator X P) (old new : List KeyValue) : Type 0 where
-    pub ts : List TranscriptStep
-    pub notes : d ≡ record c { state = noted c.state (id_of x) ts }
-    pub hands : new ≡ old ++ handed ts
-    pub names : IsScanOf (id_of x) (number_of x) (scan_of x).order (scan_of x).range y
-    pub rows : (w : World) (rows : List RowEntry) → Leaves (scan_of x) w rows → Sees w before after → (left : List RowEntry) × Leaves (scan_of y) w left × means rows left ts
-    pub later : Made before after (λ reads. NoMore (ScanRefuses (scan_of x) before.meaning) reads (ScanRefuses (scan_of y) before.meaning))
-    pub kept : (m : Meaning) → IsKept m c → IsKept m d
+pub record Took (means : Means) (before after : Reach) (c d : CoreModel) (x y : TxnIterator) (old new : List KeyValue) : Type 0 where
+  pub ts : List TranscriptStep
+  pub notes : d ≡ record c { state = noted c.state (id_of x) ts }
+  pub hands : new ≡ old ++ handed ts
+  pub names : IsScanOf (id_of x) (number_of x) (scan_of x).order (scan_of x).range y
+  pub rows : (w : World) (rows : List RowEntry) → Leaves (scan_of x) w rows → Sees w before after → (left : List RowEntry) × Leaves (scan_of y) w left × means rows left ts
+  pub later : Made before after (λ reads. NoMore (ScanRefuses (scan_of x) before.meaning) reads (ScanRefuses (scan_of y) before.meaning))
+  pub kept : (m : Meaning) → IsKept m c → IsKept m d
 
-  pub record Fails (before after : Reach) (x : TxnIterator X P) (e : SlateDBError) : Type 0 where
-    pub undamaged : (w : World) (rows : List RowEntry) → Leaves (scan_of x) w rows → Sees w before after → IsFault before after e
-    pub cause : Made before after (λ reads. IsFault before after e ⊎ ((at : Option (List ℕ)) × ScanRefuses (scan_of x) before.meaning reads at e))
+pub record Fails (before after : Reach) (x : TxnIterator) (e : SlateDBError) : Type 0 where
+  pub undamaged : (w : World) (rows : List RowEntry) → Leaves (scan_of x) w rows → Sees w before after → IsFault before after e
+  pub cause : Made before after (λ reads. IsFault before after e ⊎ ((at : Option (List ℕ)) × ScanRefuses (scan_of x) before.meaning reads at e))
 
 pub record HasScanned (before after : Reach) (c d : CoreModel) (id : List ℕ) (order : IterationOrder) (range : BytesRange) (sts : List ScanStep) (rows : List KeyValue) : Type 0 where
   pub ts : List TranscriptStep

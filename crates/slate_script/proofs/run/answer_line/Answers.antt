@@ -18,12 +18,12 @@ use Rattle.slate_script.proofs.Running.{line-stands, line-reply, runs-on, is-set
 use Rattle.slate_script.proofs.run.answer_line.Goals as goal
 
 pub answer-requires-clause-built : goal.answer-requires-clause-built
-answer-requires-clause-built g c =
+answer-requires-clause-built g c = λ κs lives.
     let meant = rw c.in-Ok-Some.field-0-is at c.in-Ok-Some.ensures.meant in
     one-built c.args.line.now c.in-Ok-Some.meaning meant.1
 
 pub answer-requires-clause-moment : goal.answer-requires-clause-moment
-answer-requires-clause-moment g c =
+answer-requires-clause-moment g c = λ κs lives.
     let meant = rw c.in-Ok-Some.field-0-is at c.in-Ok-Some.ensures.meant in
     one-moment c.args.line.now c.in-Ok-Some.meaning meant.1
 

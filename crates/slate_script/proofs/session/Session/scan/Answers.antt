@@ -41,12 +41,11 @@ returns-in_default-try_new-clause-step g c = λ is.
     subst (λ (v : SessionModel). AnswersAs m v v (lines.Scan c.args.name c.args.order c.args.start c.args.end c.args.steps) (Ok (answers.Refused errors.InvalidRange))) c.self.view_is
     (range-refused m before c.args.name c.in-Some.id.now c.args.order c.args.start c.args.end c.args.steps c.self.invariant.0 (find_named-lookup c.args.name before.names ∙ sym c.in-Some.ensures.value) none)
 
-pub scan_rows-scanned-requires : goal.scan_rows-scanned-requires
-scan_rows-scanned-requires g c = record {
-  «open» = c.self.invariant.0.opened c.args.name c.in-Some.id.now (find_named-lookup c.args.name c.self.inside.names.entries ∙ sym c.in-Some.ensures.value);
-  range = bounds_fit c.args.start c.args.end c.in-Some-try_new.range (sym c.try_new.ensures ∙ c.in-Some-try_new.is);
-  valid = c.requires.valid;
-}
+pub scan_rows-scanned-requires-clause-open : goal.scan_rows-scanned-requires-clause-open
+scan_rows-scanned-requires-clause-open g c = λ κs lives. c.self.invariant.0.opened c.args.name c.in-Some.id.now (find_named-lookup c.args.name c.self.inside.names.entries ∙ sym c.in-Some.ensures.value)
+
+pub scan_rows-scanned-requires-clause-range : goal.scan_rows-scanned-requires-clause-range
+scan_rows-scanned-requires-clause-range g c = λ κs lives. bounds_fit c.args.start c.args.end c.in-Some-try_new.range (sym c.try_new.ensures ∙ c.in-Some-try_new.is)
 
 pub invariant_of-self : goal.invariant_of-self
 invariant_of-self g c =
