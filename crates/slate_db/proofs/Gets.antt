@@ -35,7 +35,7 @@ use Rattle.slate_db.proofs.Versions.{all_versions_in, short_versions}
 
 -- ---- the store holds the tables that the core knows
 
-all_stored : (m : Meaning) → IsLawfulMeaning m → (os : Objects) (ts : List (Ulid × List ℕ)) (hs : List SsTableHandle) (layers : List Rows) → AreTables m ts layers → AreHandles ts hs → Holds os ts → AreStored m.encode m.decode (Some os) hs layers
+pub all_stored : (m : Meaning) → IsLawfulMeaning m → (os : Objects) (ts : List (Ulid × List ℕ)) (hs : List SsTableHandle) (layers : List Rows) → AreTables m ts layers → AreHandles ts hs → Holds os ts → AreStored m.encode m.decode (Some os) hs layers
 all_stored m law os [] [] layers tables handles holds = subst (AreStored m.encode m.decode (Some os) []) (sym tables) tt
 all_stored m law os [] (h ∷ hs) layers tables handles holds = absurd handles
 all_stored m law os (t ∷ ts) [] layers tables handles holds = absurd handles

@@ -43,6 +43,8 @@ mod Loads
 mod Steps
 mod Notes
 mod Passing
+mod ScanStates
+mod ScanNotes
 mod Refused
 mod Plain
 pub mod Managing
@@ -53,3 +55,16 @@ pub mod Changes
 pub mod CommitWholes
 mod Commits
 pub mod Vouches
+mod ByKeys
+mod KeyRows
+mod Scans
+mod ScanSources
+mod ScanLists
+mod ScanRows
+mod ScanWorlds
+mod ScanTables
+mod SourceLists
+mod ScanOpenings
+mod ScanRefusals
+mod OpenNotes
+mod ScanMerges

@@ -15,7 +15,7 @@ use Rattle.slate_mem.specs.RowOf.{own_row}
 use Rattle.slate_db.specs.Model.{Rows}
 use Rattle.slate_db.proofs.Plain.{few_kept, kept_replace}
 
-own_base : (k : List ℕ) (op : WriteOp) → replaces op ≡ true → is_base (own_row k op) ≡ true
+pub own_base : (k : List ℕ) (op : WriteOp) → replaces op ≡ true → is_base (own_row k op) ≡ true
 own_base k (Put v o) h = refl
 own_base k Delete h = refl
 own_base k (Merge v o) h = cc

@@ -1,6 +1,8 @@
 -- Steps of an iterator by which a reader gets a row.
 use Rattle.std.proofs.Common.{◌≡◌, ◌⊎◌, inl, inr, ℕ, Bool, true, false, List, [], ◌∷◌, ◌++◌, filter, drop, Option, Some, None, refl, sym, ap, subst, ◌∙◌}
+use Rattle.std.specs.Prelude.{if◌then◌else◌}
 use Rattle.std.specs.List.{AllByRecursion}
+use Rattle.std.proofs.lemmas.Option.{same_Some}
 use Rattle.slate_types.specs.declared.bytes_range.BytesRange.{BytesRange}
 use Rattle.slate_types.specs.declared.error.SlateDBError.{SlateDBError}
 use Rattle.slate_types.specs.declared.error.SlateDBError.TheVariants.{MergeOperatorMissing}
@@ -59,13 +61,22 @@ has_base range row before after values is operand h =
     let e : false ≡ true = (rw operand at k) in
     cc
 
+-- what a row has where it has a value, and where it has none
+pub no_value : (b : Bool) (x : KeyValue) → None ≡ (if b then Some x else None) → b ≡ false
+no_value true x h = cc
+no_value false x h = refl
+
+pub some_value : (b : Bool) (x y : KeyValue) → Some y ≡ (if b then Some x else None) → (b ≡ true) × (y ≡ x)
+some_value true x y h = (refl, same_Some y x h)
+some_value false x y h = cc
+
 all_dropped : (P : RowEntry → Type 0) (order : IterationOrder) (key : List ℕ) (rows : List RowEntry) → AllByRecursion P rows → AllByRecursion P (drop_before order key rows)
 all_dropped P order key [] h = tt
-all_dropped P order key (row ∷ rows) h = by (comes_before order row.key key) refl
+all_dropped P order key (row ∷ rows) h = by (comes_before order row.key key) refl (all_dropped P order key rows h.1)
   where
-    by : (b : Bool) → comes_before order row.key key ≡ b → AllByRecursion P (drop_before order key (row ∷ rows))
-    by true is = rw is (all_dropped P order key rows h.1)
-    by false is = rw is h
+    by : (b : Bool) → comes_before order row.key key ≡ b → AllByRecursion P (drop_before order key rows) → AllByRecursion P (drop_before order key (row ∷ rows))
+    by true is rest = rw is rest
+    by false is rest = rw is h
 
 -- a seek of the rows is one of those that have values
 pub has_sought : (range : BytesRange) (order : IterationOrder) (key : List ℕ) (before after values : List RowEntry) → IsInOrder order before → after ≡ drop_before order key before → HasValues range before values →

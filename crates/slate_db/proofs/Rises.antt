@@ -18,14 +18,14 @@ use Rattle.slate_db.proofs.Lists.{all_map}
 use Rattle.slate_db.proofs.Short.{all_append, all_filter, all_from_last}
 use Rattle.slate_db.proofs.Versions.{all_by_versions, all_versions_in}
 
-rising_both : (b : ℕ) (xs ys : Rows) → AreRising xs → AllByRecursion (λ r. r.seq ≤ b) xs → AreRising ys → AllByRecursion (λ r. b < r.seq) ys → AreRising (xs ++ ys)
+pub rising_both : (b : ℕ) (xs ys : Rows) → AreRising xs → AllByRecursion (λ r. r.seq ≤ b) xs → AreRising ys → AllByRecursion (λ r. b < r.seq) ys → AreRising (xs ++ ys)
 rising_both b [] ys rise within rises newer = rises
 rising_both b (x ∷ xs) ys rise within rises newer = (
   all_append (λ s. x.seq < s.seq) xs ys rise.0 (all_map _ _ (λ s h. let k : x.seq ≤ b = within.0 in let l : b < s.seq = h in omega arith) ys newer),
   rising_both b xs ys rise.1 within.1 rises newer,
 )
 
-rising_filter : (t : RowEntry → Bool) (rows : Rows) → AreRising rows → AreRising (filter t rows)
+pub rising_filter : (t : RowEntry → Bool) (rows : Rows) → AreRising rows → AreRising (filter t rows)
 rising_filter t [] h = tt
 rising_filter t (r ∷ rs) h = by (t r) (rising_filter t rs h.1)
   where

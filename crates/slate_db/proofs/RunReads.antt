@@ -30,7 +30,7 @@ handle_among [] i run within is h among = absurd (omega (arith, within))
 handle_among (x ∷ runs) zero run within is h among = Contains-append_left x.tables.items (handles_of runs) h (subst (λ (r : SortedRun). Contains r.tables.items h) is among)
 handle_among (x ∷ runs) (suc i) run within is h among = Contains-append_right x.tables.items (handles_of runs) h (handle_among runs i run (omega (arith, within)) is h among)
 
-run_here : (runs : List SortedRun) (i : ℕ) (run : SortedRun) → i < length runs → run ≡ get_or runs i run → drop i runs ≡ run ∷ drop (i + 1) runs
+pub run_here : (runs : List SortedRun) (i : ℕ) (run : SortedRun) → i < length runs → run ≡ get_or runs i run → drop i runs ≡ run ∷ drop (i + 1) runs
 run_here [] i run within is = absurd (omega (arith, within))
 run_here (x ∷ runs) zero run within is = ap (λ (r : SortedRun). r ∷ runs) (sym is)
 run_here (x ∷ runs) (suc i) run within is = run_here runs i run (omega (arith, within)) is ∙ (let place : suc (i + 1) ≡ suc i + 1 = omega arith in ap (λ n. run ∷ drop n (x ∷ runs)) place)

@@ -31,7 +31,7 @@ use Rattle.slate_db.proofs.Wholes.{after_begin, after_end}
 -- ---- values under names
 
 -- what is under a name, after a change of what is under one
-found_updated : {X : Type 0} (P : X → Type 0) (id k : List ℕ) (f : X → X) (ps : List (List ℕ × X)) → ((x : X) → find_named id ps ≡ Some x → P x → P (f x)) → ((x : X) → find_named k ps ≡ Some x → P x) → (x : X) → find_named k (update_named id f ps) ≡ Some x → P x
+pub found_updated : {X : Type 0} (P : X → Type 0) (id k : List ℕ) (f : X → X) (ps : List (List ℕ × X)) → ((x : X) → find_named id ps ≡ Some x → P x → P (f x)) → ((x : X) → find_named k ps ≡ Some x → P x) → (x : X) → find_named k (update_named id f ps) ≡ Some x → P x
 found_updated P id k f [] g h x e = h x e
 found_updated P id k f (p ∷ ps) g h x e = by (bytes_eq p.0 id) g e (λ d. found_updated P id k f ps d)
   where

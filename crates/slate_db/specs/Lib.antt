@@ -27,5 +27,8 @@ pub mod Answered
 pub mod Shown
 pub mod Readable
 pub mod Vouched
+pub mod Scanned
+pub mod ScanLaws
 pub mod Values
 pub mod Scans
+pub mod OpenScans

@@ -64,98 +64,96 @@ IsReached range (Some key) = is_past_start range.start key ≡ true
 abbrev pub IsScanRefusal : SlateDBError → Type 0
 IsScanRefusal e = (e ≡ MergeOperatorMissing) ⊎ IsDamage e
 
--- X, P: of the policies that tables' iterators are given
-module _ {X : Type 0} {P : X → Type 0} where
-  -- ---- the sources
+abbrev pub ScanSource : Type 0
+ScanSource = FilterIterator ReadSource MaxSeq
 
-  abbrev pub ScanSource : Type 0
-  ScanSource = FilterIterator (ReadSource X P) MaxSeq
+-- ---- the sources
 
-  abbrev pub source_rows : ScanSource → World → List RowEntry
-  source_rows s w = filter (upto_seq s.predicate.max_seq) (read.rest_of s.iterator w)
+abbrev pub source_rows : ScanSource → World → List RowEntry
+source_rows s w = filter (upto_seq s.predicate.max_seq) (read.rest_of s.iterator w)
 
-  abbrev pub IsSoundSource : ScanSource → World → Type 0
-  IsSoundSource s w = read.IsSoundSource s.iterator w
+abbrev pub IsSoundSource : ScanSource → World → Type 0
+IsSoundSource s w = read.IsSoundSource s.iterator w
 
-  abbrev pub order_of : ScanSource → IterationOrder
-  order_of s = read.order_of s.iterator
+abbrev pub order_of : ScanSource → IterationOrder
+order_of s = read.order_of s.iterator
 
-  abbrev pub source_refuses : ScanSource → Meaning → List Act → Option (List ℕ) → SlateDBError → Type 0
-  source_refuses s m reads at e = read.source_refuses s.iterator m reads at e
+abbrev pub source_refuses : ScanSource → Meaning → List Act → Option (List ℕ) → SlateDBError → Type 0
+source_refuses s m reads at e = read.source_refuses s.iterator m reads at e
 
-  -- ---- their rows merged
+-- ---- their rows merged
 
-  abbrev pub left_in : ScanState X P → World → List RowEntry
-  left_in (Walking rows) w = rest_of_merge source_rows rows w
-  left_in Done w = []
-  left_in (Refused e) w = []
+abbrev pub left_in : ScanState → World → List RowEntry
+left_in (Walking rows) w = rest_of_merge source_rows rows w
+left_in Done w = []
+left_in (Refused e) w = []
 
-  -- order: that of the scan
-  abbrev pub IsSoundIn : IterationOrder → ScanState X P → World → Type 0
-  IsSoundIn order (Walking rows) w = IsSoundMerge source_rows IsSoundSource order_of rows w × (rows.order ≡ order)
-  IsSoundIn order Done w = Unit {0}
-  IsSoundIn order (Refused e) w = ⊥
+-- order: that of the scan
+abbrev pub IsSoundIn : IterationOrder → ScanState → World → Type 0
+IsSoundIn order (Walking rows) w = IsSoundMerge source_rows IsSoundSource order_of rows w × (rows.order ≡ order)
+IsSoundIn order Done w = Unit {0}
+IsSoundIn order (Refused e) w = ⊥
 
-  abbrev pub left_of : DbIterator X P → World → List RowEntry
-  left_of it w = left_in it.state w
+abbrev pub left_of : DbIterator → World → List RowEntry
+left_of it w = left_in it.state w
 
-  -- what the sources that are left refuse for
-  abbrev pub SourcesRefuse : BytesRange → ScanState X P → Meaning → List Act → Option (List ℕ) → SlateDBError → Type 0
-  SourcesRefuse range (Walking rows) m reads at e = IsReached range at × refuses_in source_refuses rows.state m reads at e
-  SourcesRefuse range _ m reads at e = ⊥
+-- what the sources that are left refuse for
+abbrev pub SourcesRefuse : BytesRange → ScanState → Meaning → List Act → Option (List ℕ) → SlateDBError → Type 0
+SourcesRefuse range (Walking rows) m reads at e = IsReached range at × refuses_in source_refuses rows.state m reads at e
+SourcesRefuse range _ m reads at e = ⊥
 
-  abbrev pub RefusesIn : BytesRange → ScanState X P → Meaning → List Act → Option (List ℕ) → SlateDBError → Type 0
-  RefusesIn range (Walking rows) m reads at e = (e ≡ MergeOperatorMissing) ⊎ (IsReached range at × refuses_in source_refuses rows.state m reads at e)
-  RefusesIn range Done m reads at e = ⊥
-  RefusesIn range (Refused kept) m reads at e = (kept ≢ OutOfMemory) × (e ≡ kept)
+abbrev pub RefusesIn : BytesRange → ScanState → Meaning → List Act → Option (List ℕ) → SlateDBError → Type 0
+RefusesIn range (Walking rows) m reads at e = (e ≡ MergeOperatorMissing) ⊎ (IsReached range at × refuses_in source_refuses rows.state m reads at e)
+RefusesIn range Done m reads at e = ⊥
+RefusesIn range (Refused kept) m reads at e = (kept ≢ OutOfMemory) × (e ≡ kept)
 
-  abbrev pub ScanRefuses : DbIterator X P → Meaning → List Act → Option (List ℕ) → SlateDBError → Type 0
-  ScanRefuses it m reads at e = RefusesIn it.range it.state m reads at e
+abbrev pub ScanRefuses : DbIterator → Meaning → List Act → Option (List ℕ) → SlateDBError → Type 0
+ScanRefuses it m reads at e = RefusesIn it.range it.state m reads at e
 
-  abbrev pub IsFor : Meaning → DbIterator X P → Type 0
-  IsFor m it = (reads : List Act) (at : Option (List ℕ)) (e : SlateDBError) → ScanRefuses it m reads at e → IsScanRefusal e
+abbrev pub IsFor : Meaning → DbIterator → Type 0
+IsFor m it = (reads : List Act) (at : Option (List ℕ)) (e : SlateDBError) → ScanRefuses it m reads at e → IsScanRefusal e
 
-  -- the sources that are left refuse for damage alone
-  abbrev pub AreForIn : BytesRange → Meaning → ScanState X P → Type 0
-  AreForIn range m state = (reads : List Act) (at : Option (List ℕ)) (e : SlateDBError) → SourcesRefuse range state m reads at e → IsDamage e
+-- the sources that are left refuse for damage alone
+abbrev pub AreForIn : BytesRange → Meaning → ScanState → Type 0
+AreForIn range m state = (reads : List Act) (at : Option (List ℕ)) (e : SlateDBError) → SourcesRefuse range state m reads at e → IsDamage e
 
-  pub record Leaves (it : DbIterator X P) (w : World) (rows : List RowEntry) : Type 0 where
-    pub sound : IsSoundIn it.order it.state w
-    pub bases : AllByRecursion (λ r. is_base r ≡ true) (left_of it w)
-    pub within : AllByRecursion (λ r. in_range it.range r.key ≡ true) (left_of it w)
-    pub left : filter has_value (left_of it w) ≡ rows
-    pub meant : AreForIn it.range w.meaning it.state
+pub record Leaves (it : DbIterator) (w : World) (rows : List RowEntry) : Type 0 where
+  pub sound : IsSoundIn it.order it.state w
+  pub bases : AllByRecursion (λ r. is_base r ≡ true) (left_of it w)
+  pub within : AllByRecursion (λ r. in_range it.range r.key ≡ true) (left_of it w)
+  pub left : filter has_value (left_of it w) ≡ rows
+  pub meant : AreForIn it.range w.meaning it.state
 
-  abbrev pub Keeps : SlateDBError → DbIterator X P → Type 0
-  Keeps e it = (it.state ≡ Refused e) ⊎ (it.state ≡ Refused OutOfMemory)
+abbrev pub Keeps : SlateDBError → DbIterator → Type 0
+Keeps e it = (it.state ≡ Refused e) ⊎ (it.state ≡ Refused OutOfMemory)
 
-  -- ---- a transaction's scan
+-- ---- a transaction's scan
 
-  abbrev pub id_of : TxnIterator X P → List ℕ
-  id_of it = it.id
+abbrev pub id_of : TxnIterator → List ℕ
+id_of it = it.id
 
-  -- its place among the scans of its transaction
-  abbrev pub number_of : TxnIterator X P → ℕ
-  number_of it = it.scan
+-- its place among the scans of its transaction
+abbrev pub number_of : TxnIterator → ℕ
+number_of it = it.scan
 
-  abbrev pub scan_of : TxnIterator X P → DbIterator X P
-  scan_of it = it.rows
+abbrev pub scan_of : TxnIterator → DbIterator
+scan_of it = it.rows
 
-  pub record IsScanOf (id : List ℕ) (n : ℕ) (order : IterationOrder) (range : BytesRange) (it : TxnIterator X P) : Type 0 where
-    pub named : id_of it ≡ id
-    pub number : number_of it ≡ n
-    pub order : (scan_of it).order ≡ order
-    pub range : (scan_of it).range ≡ range
+pub record IsScanOf (id : List ℕ) (n : ℕ) (order : IterationOrder) (range : BytesRange) (it : TxnIterator) : Type 0 where
+  pub named : id_of it ≡ id
+  pub number : number_of it ≡ n
+  pub ordered : (scan_of it).order ≡ order
+  pub ranged : (scan_of it).range ≡ range
 
-  abbrev pub LeavesIn : Objects → Meaning → TxnIterator X P → List RowEntry → Type 0
-  LeavesIn os m it rows = (w : World) × IsWorldOf os m w × Leaves (scan_of it) w rows
+abbrev pub LeavesIn : Objects → Meaning → TxnIterator → List RowEntry → Type 0
+LeavesIn os m it rows = (w : World) × IsWorldOf os m w × Leaves (scan_of it) w rows
 
-  abbrev pub IsOpenScan : CoreModel → TxnIterator X P → Type 0
-  IsOpenScan c it = (t : Tx) × (find_named (id_of it) c.state.txns ≡ Some t) × (number_of it < count_by is_scan t.transcript)
+abbrev pub IsOpenScan : CoreModel → TxnIterator → Type 0
+IsOpenScan c it = (t : Tx) × (find_named (id_of it) c.state.txns ≡ Some t) × (number_of it < count_by is_scan t.transcript)
 
-  abbrev pub HasLeft : Meaning → CoreModel → TxnIterator X P → List RowEntry → Type 0
-  HasLeft m c it rows = (t : Tx) → find_named (id_of it) c.state.txns ≡ Some t →
-      slice_get (scans_left (rules_of c.settings m) c.state.commits t.begin t.transcript) (number_of it) ≡ Some ((scan_of it).order, rows)
+abbrev pub HasLeft : Meaning → CoreModel → TxnIterator → List RowEntry → Type 0
+HasLeft m c it rows = (t : Tx) → find_named (id_of it) c.state.txns ≡ Some t →
+    slice_get (scans_left (rules_of c.settings m) c.state.commits t.begin t.transcript) (number_of it) ≡ Some ((scan_of it).order, rows)
 
 -- ---- what is refused
 

@@ -45,22 +45,26 @@ ghost use Rattle.slate_txn.specs.Conflict.{conflict};
 ghost use Rattle.slate_txn.specs.HandedOver.{IsConflict};
 ghost use Rattle.slate_db.specs.Committed.{IsCommitted, IsEnded};
 ghost use Rattle.slate_db.specs.Operated.{operated};
-ghost use Rattle.slate_db.specs.Scans.{HasLeft, IsFor, IsOpenScan, IsRefusedByScan, IsScanError, IsScanOf, Keeps, Leaves, LeavesIn, ScanRefuses, id_of, number_of, scan_of};
+ghost use Rattle.slate_db.specs.Scans.{HasLeft, IsFor, IsOpenScan, IsRefusedByScan, IsScanError, IsScanOf, IsWorldOf, Keeps, Leaves, LeavesIn, ScanRefuses, id_of, number_of, scan_of};
+ghost use Rattle.slate_read.specs.SstOptions.{CanFetch};
 ghost use Rattle.slate_db.specs.Vouched.{IsVouchedFor};
 ghost use Rattle.slate_db.specs.Written.{IsWritten};
 
-use crate::commit::{Made, make};
+use crate::commit::{self, make};
 use crate::flush::stored;
 use crate::laws::Laws;
 use crate::layers::Layers;
 use crate::log::Log;
 use crate::lookup::newest_of_runs;
+use crate::open_scan::{merged, scan_sources, table_options};
 use crate::put::{enter, put_batch};
-use crate::scan::TxnIterator;
+use crate::scan::{DbIterator, TxnIterator};
 use bytes::Bytes;
+use slate_filter::FilterPolicy;
 use slate_mem::WriteBatch;
 use slate_mem::fold::{answer, first};
 use slate_mem::lookup::{is_decided, newest_of_memory};
+use slate_read::SstIteratorOptions;
 use slate_store::{Env, EnvOf, Store};
 use slate_txn::fold::fold_found;
 use slate_txn::{Journal, OpList, OpenTransactions, TransactionManager};
@@ -407,6 +411,40 @@ impl Core {
         Ok(found)
     }
 
+    /// The rows of a scan of an open transaction: its own lie above those at its begin. Nothing is noted yet.
+    fn opened<'a, S: Store, M: MergeOperator, T: BlockTransformer>(
+        &self,
+        id: &Uuid,
+        begin: u64,
+        range: BytesRange,
+        how: SstIteratorOptions,
+        policies: &'a [Box<dyn FilterPolicy>],
+        env: &mut Env<'_, S, M, T>,
+    ) -> Result<DbIterator<'a>, SlateDBError>
+        requires open { IsSome (find_named id.now self.now.state.txns) }
+        requires range { is_refused range.start range.end ≡ false }
+        requires fetches { CanFetch how }
+        ensures opened { let reach = ⟦<EnvOf<S, M, T> as Outside>⟧.reach in
+            let m = (reach env.old).meaning in
+            (t : Tx) → find_named id.now self.now.state.txns ≡ Some t → self.now.floor ≤ begin → (a : IsAnswered (reach env.old) (reach env.new) self.now) →
+            IfOk result (λ it. (w : World) × IsWorldOf a.os m w × Leaves it w (rows_seen (rules_of self.now.settings m) self.now.state.commits begin t.ops how.order range)) }
+        ensures later { let reach = ⟦<EnvOf<S, M, T> as Outside>⟧.reach in
+            let m = (reach env.old).meaning in
+            IfOk result (λ it. IsFor m it × Made (reach env.old) (reach env.new) (λ reads. (later : List Act) (at : Option (List ℕ)) (e : SlateDBError) → ScanRefuses it m later at e → IsRefusedByScan m self.now (reads ++ later) e)) }
+        ensures undamaged { let reach = ⟦<EnvOf<S, M, T> as Outside>⟧.reach in self.now.floor ≤ begin → IsAnswered (reach env.old) (reach env.new) self.now → IfErr result (IsFault (reach env.old) (reach env.new)) }
+        ensures cause { let reach = ⟦<EnvOf<S, M, T> as Outside>⟧.reach in IfErr result (IsScanError (reach env.old) (reach env.new) self.now) }
+        ensures range { IfOk result (λ it. it.range ≡ range) }
+        ensures order { IfOk result (λ it. it.order ≡ how.order) }
+        ensures reads { let reach = ⟦<EnvOf<S, M, T> as Outside>⟧.reach in OnlyReads (reach env.old) (reach env.new) }
+    {
+        let order = how.order;
+        let alloc = self.alloc;
+        let own = self.transactions.own_range(alloc, id, &range, order)?;
+        let sources = scan_sources(alloc, own, &self.layers, &range, begin, &how, policies)?;
+        let rows = merged(alloc, sources, order, env)?;
+        Ok(DbIterator::new(alloc, rows, range, order))
+    }
+
     /// Opens a scan of an open transaction over the rows in a range, in an order. The rows are fixed now: later calls change nothing
     /// of them. The opening is noted in the transaction's transcript. Where a prefix is given each key of the range must begin with
     /// it.
@@ -448,7 +486,24 @@ impl Core {
         ensures settings { self.new.settings ≡ self.old.settings }
         ensures reads { let reach = ⟦<EnvOf<S, M, T> as Outside>⟧.reach in OnlyReads (reach env.old) (reach env.new) }
     {
-        unreachable!()
+        let Some(begin) = self.transactions.begin_of(id) else {
+            unreachable!()
+        };
+        let how = table_options(prefix, options, &laws.options)?;
+        let policies = laws.policies.as_slice();
+        let rows = self.opened(id, begin, range, how, policies, env)?;
+        let scan = match self
+            .transactions
+            .note_scan(id, options.order, &rows.range)
+        {
+            Ok(scan) => scan,
+            Err(error) => {
+                drop(rows);
+                return Err(SlateDBError::from(error));
+            }
+        };
+        let id = *id;
+        Ok(TxnIterator { id, scan, rows })
     }
 
     /// The next row of a scan, or `None` at its end, which is noted in the transcript of the scan's transaction. It is the first of
@@ -479,7 +534,15 @@ impl Core {
         ensures settings { self.new.settings ≡ self.old.settings }
         ensures reads { let reach = ⟦<EnvOf<S, M, T> as Outside>⟧.reach in OnlyReads (reach env.old) (reach env.new) }
     {
-        unreachable!()
+        let answer = match it.rows.next(env) {
+            Ok(answer) => answer,
+            Err(error) => return Err(error),
+        };
+        if let Err(error) = self.transactions.note_next(self.alloc, &it.id, it.scan, &answer) {
+            drop(answer);
+            return Err(it.rows.refuse(SlateDBError::from(error)));
+        }
+        Ok(answer)
     }
 
     /// Drops the leading rows of a scan that its order puts before the key, which is noted in the transcript of the scan's
@@ -507,7 +570,13 @@ impl Core {
         ensures settings { self.new.settings ≡ self.old.settings }
         ensures reads { let reach = ⟦<EnvOf<S, M, T> as Outside>⟧.reach in OnlyReads (reach env.old) (reach env.new) }
     {
-        unreachable!()
+        if let Err(error) = it.rows.seek(key, env) {
+            return Err(error);
+        }
+        if let Err(error) = self.transactions.note_seek(self.alloc, &it.id, it.scan, key) {
+            return Err(it.rows.refuse(SlateDBError::from(error)));
+        }
+        Ok(())
     }
 
     /// Puts a value in an open transaction. Refuses by `EmptyKey`, by `KeyTooLong` above 65535 bytes, by `ValueTooLong` above
@@ -604,7 +673,7 @@ impl Core {
         );
         match made {
             Ok(made) => {
-                let Made {
+                let commit::Made {
                     seq,
                     ops,
                     tracked,

@@ -1,4 +1,7 @@
-//! What all calls on one core are given alike, beside what is outside.
+//! What all calls on one core are given alike, beside what is outside; and the laws of the definitions, each of which is
+//! proved of all values by a call that does nothing.
+ghost use Rattle.slate_db.specs.ScanLaws.{ListsHaveAllRows, ScansOfCoreShowWhatIsSeen, ScansShowWhatIsSeen};
+
 use slate_filter::FilterPolicy;
 use slate_types::Options;
 
@@ -13,3 +16,12 @@ pub struct Laws<X> {
     /// The policies of the filters that tables get. Not asked yet.
     pub policies: Vec<Box<dyn FilterPolicy>>,
 }
+
+/// Of scans. Where the lists that are merged have, of each key in the range, the rows of all layers, and these fold as those of
+/// the commits, what is left without tombstones is what a reader sees. So it is of the layers of each core, at a sequence from
+/// its floor on; and a list for each memtable and for each run has these rows.
+pub fn scans()
+    ensures seen { ScansShowWhatIsSeen }
+    ensures of_core { ScansOfCoreShowWhatIsSeen }
+    ensures have_rows { ListsHaveAllRows }
+{}

@@ -14,6 +14,7 @@ pub mod laws;
 pub mod layers;
 pub mod log;
 pub mod lookup;
+pub mod open_scan;
 mod put;
 pub mod scan;
 mod values;

@@ -10,3 +10,6 @@ pub mod PartsLaws
 pub mod JoinLaws
 pub mod WordLaws
 pub mod LongRows
+pub mod GenerateLaws
+pub mod RoundLaws
+pub mod TallyLaws

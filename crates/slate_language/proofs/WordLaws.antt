@@ -1,15 +1,17 @@
 -- The options that words set, and that words come in any order.
-use Rattle.std.proofs.Common.{◌≡◌, ℕ, ◌+◌, ◌-◌, ◌<◌, ◌^◌, Bool, true, false, cond, ◌&&◌, not, List, [], ◌∷◌, ◌++◌, length, map, drop, get_or, Option, Some, None, is_some, codes, IsTrue, refl, sym, ap, ◌∙◌, add-one, ltb, leb}
+use Rattle.std.proofs.Common.{◌≡◌, ℕ, ◌+◌, ◌-◌, ◌<◌, ◌^◌, Bool, true, false, cond, ◌&&◌, not, List, [], ◌∷◌, ◌++◌, length, map, drop, get_or, Option, Some, None, is_some, codes, bytes_eq, IsTrue, refl, sym, ap, ◌∙◌, add-one, ltb, leb}
 use Rattle.std.specs.Prelude.{◌↔◌}
 use Rattle.std.specs.List.{list_all}
 use Rattle.std.proofs.Math.Seq.{drop-cons}
+use Rattle.std.proofs.lemmas.Slice.Eq.{bytes_eq-Decides}
 use Rattle.std.proofs.lemmas.Bool.{lt-ltb, le-leb, ltb-true, leb-true}
 use Rattle.slate_types.specs.declared.config.BlockFormat.{BlockFormat}
 use Rattle.slate_types.specs.declared.config.CompressionCodec.{CompressionCodec}
 use Rattle.slate_types.specs.declared.config.Options.{Options}
 use Rattle.slate_types.specs.Config.{IsValid}
-use Rattle.slate_language.specs.Parse.{◌>>=◌, read_number}
-use Rattle.slate_language.specs.Words.{are_valid, at_most_one, behind, if_valid, is_known, only_value, options, read_below, read_format, read_given, read_settings, read_words, value_of, values, with_value}
+use Rattle.slate_language.specs.Parse.{only_if, ◌>>=◌, read_number}
+use Rattle.slate_language.specs.declared.words.Generated.{Generated}
+use Rattle.slate_language.specs.Words.{are_valid, at_most_one, behind, if_valid, is_known, only_value, options, read_below, read_format, read_generated, read_given, read_settings, read_words, value_of, values, with_value}
 
 no-codec : (c : Option CompressionCodec) → not (is_some c) ≡ true → c ≡ None
 no-codec None h = refl
@@ -130,3 +132,21 @@ known-more text ws i d within is = known-step text ws i d within ∙ ap (λ b. b
 pub only-found : (o : Option (List ℕ)) → at_most_one (with_value o []) ≡ Some o
 only-found None = refl
 only-found (Some v) = refl
+
+-- ---- the word that begins a run over a script of its own
+
+no-gen : {A B : Type 0} (b : Bool) (w : A) (rest : Option B) (g : B) → b ≡ false → (only_if b w >>= λ _. rest) ≡ Some g → ⊥
+no-gen true w rest g h k = cc
+no-gen false w rest g h k = cc
+
+pub generated-alone : (ws : List (List ℕ)) (g : Generated) → read_generated ws ≡ Some g → read_words ws ≡ None
+generated-alone [] g h = cc
+generated-alone (w ∷ []) g h = cc
+generated-alone (w ∷ n ∷ []) g h = cc
+generated-alone (w ∷ n ∷ s ∷ ws) g h = by (bytes_eq w (codes "gen")) refl
+  where
+    by : (b : Bool) → bytes_eq w (codes "gen") ≡ b → read_words (w ∷ n ∷ s ∷ ws) ≡ None
+    by true e =
+        let is : w ≡ codes "gen" = (bytes_eq-Decides w (codes "gen")).0 e in
+        ap (λ v. cond (list_all is_known (v ∷ n ∷ s ∷ ws)) (read_settings (v ∷ n ∷ s ∷ ws)) None) is
+    by false e = absurd (no-gen (bytes_eq w (codes "gen")) w _ g e h)

@@ -7,6 +7,7 @@ pub mod Replies
 pub mod Answers
 pub mod Parts
 pub mod Generate
+pub mod Tally
 pub mod WorkedRows
 pub mod Words
 pub mod ScriptLaws

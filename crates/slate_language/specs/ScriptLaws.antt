@@ -1,11 +1,12 @@
 -- Laws of lines, of replies, of the words of a run, and of the parts that words can name.
-use Rattle.std.specs.Prelude.{◌≡◌, ◌↔◌, ℕ, not, ◌==◌, List, [], ◌∷◌, ◌++◌, Some, IsTrue, None, Bool, false, ◌&&◌, filter, flat_map, Option}
+use Rattle.std.specs.Prelude.{◌≡◌, ◌↔◌, ◌≤◌, ℕ, not, ◌==◌, List, [], ◌∷◌, ◌++◌, Some, IsTrue, None, Bool, false, ◌&&◌, filter, flat_map, Option}
 use Rattle.std.specs.List.{list_all}
 use Rattle.slate_types.specs.Fold.{IsLawful, KeepsShort}
 use Rattle.slate_types.specs.Lawful.{IsLawfulTransform}
 use Rattle.slate_store.specs.Lines.{lines_of}
 use Rattle.slate_txn.specs.declared.line.Line.{Line}
 use Rattle.slate_txn.specs.State.{Rules, opening}
+use Rattle.slate_txn.specs.Step.{answers}
 use Rattle.slate_txn.specs.Laws.{is_storage, other_answers}
 use Rattle.slate_language.specs.Parts.{concat, greater, xored}
 use Rattle.slate_types.specs.Keys.{AreBytes}
@@ -13,8 +14,11 @@ use Rattle.slate_language.specs.Text.{shown_bytes}
 use Rattle.slate_language.specs.Grammar.{IsBytes, IsLine}
 use Rattle.slate_language.specs.Parse.{parse}
 use Rattle.slate_language.specs.Stage.{IsBuiltLine, meaning}
-use Rattle.slate_language.specs.Words.{read_words}
-use Rattle.slate_language.specs.Replies.{replies, is_silent, meanings, reply_line, whole_replies}
+use Rattle.slate_language.specs.Generate.{generate, summary}
+use Rattle.slate_language.specs.Tally.{nothing_from, tallied, tally_text}
+use Rattle.slate_language.specs.Words.{max_rounds, read_generated, read_words}
+use Rattle.slate_language.specs.declared.words.Generated.{Generated}
+use Rattle.slate_language.specs.Replies.{replies, is_silent, meanings, reply_line, whole_replies, IsWellFormed}
 
 -- What the grammar has is read, with its meaning.
 abbrev pub ReadsTheGrammar : Type 0
@@ -83,3 +87,16 @@ StoringIsSilent = (r : Rules) (script : List ℕ) → whole_replies r (without_s
 -- Two words side by side may change places.
 abbrev pub WordsInAnyOrder : Type 0
 WordsInAnyOrder = (before after : List (List ℕ)) (v w : List ℕ) → read_words (before ++ (v ∷ w ∷ after)) ≡ read_words (before ++ (w ∷ v ∷ after))
+
+-- No words say both that a run makes its script and that it reads one.
+abbrev pub WordsNameOneScript : Type 0
+WordsNameOneScript = (ws : List (List ℕ)) (g : Generated) → read_generated ws ≡ Some g → read_words ws ≡ None
+
+-- A script that a run makes for itself is well formed.
+abbrev pub GeneratedIsWellFormed : Type 0
+GeneratedIsWellFormed = (n s : ℕ) → n ≤ max_rounds → IsWellFormed (generate n s)
+
+-- What is counted of the replies to a well-formed script is its summary.
+abbrev pub TallyIsSummary : Type 0
+TallyIsSummary = (r : Rules) (script : List ℕ) → IsWellFormed script →
+    tally_text (tallied (nothing_from r.start_seq) (answers r opening (meanings meaning (lines_of script)))) ≡ summary r script

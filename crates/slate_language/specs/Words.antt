@@ -2,13 +2,15 @@
 --     behind name w      the text behind the name in a word that begins with it
 --     only_value name ws      that text in the one word that has it; none where no word has; and nothing where more have
 --     read_words ws      the settings of all words
+--     read_generated ws      the same behind `gen` and its two numbers
 -- Each word begins with one of the names, no two with the same one, the texts behind the names are the values, and what isn't set is as by default.
-use Rattle.std.specs.Prelude.{ℕ, ◌-◌, ◌^◌, Bool, ◌&&◌, not, if◌then◌else◌, nat_lt, nat_le, List, [], ◌∷◌, length, take, drop, Option, Some, None, option_map, is_some, unwrap_or, codes, bytes_eq}
+use Rattle.std.specs.Prelude.{ℕ, ◌+◌, ◌-◌, ◌^◌, Bool, ◌&&◌, not, if◌then◌else◌, nat_lt, nat_le, List, [], ◌∷◌, length, take, drop, Option, Some, None, option_map, is_some, unwrap_or, codes, bytes_eq}
 use Rattle.std.specs.List.{list_all, list_any}
 use Rattle.slate_types.specs.declared.config.BlockFormat.{BlockFormat}
 use Rattle.slate_types.specs.declared.config.BlockFormat.TheVariants.{V1, V2, Latest}
 use Rattle.slate_types.specs.declared.config.Options.{Options}
 use Rattle.slate_types.specs.Config.{defaults}
+use Rattle.slate_language.specs.declared.words.Generated.{Generated}
 use Rattle.slate_language.specs.declared.words.Settings.{Settings}
 use Rattle.slate_language.specs.Parse.{only_if, ◌>>=◌, read_number}
 
@@ -90,3 +92,17 @@ read_settings ws = do
 
 abbrev pub read_words : List (List ℕ) → Option Settings
 read_words ws = if list_all is_known ws then read_settings ws else None
+
+-- ---- a script that a run makes for itself
+
+abbrev pub max_rounds : ℕ
+max_rounds = 100000
+
+abbrev pub read_generated : List (List ℕ) → Option Generated
+read_generated (w ∷ n ∷ s ∷ ws) = do
+  gen ← only_if (bytes_eq w (codes "gen")) w
+  rounds ← read_below (max_rounds + 1) n
+  seed ← read_number s
+  settings ← read_words ws
+  Some (record { rounds = rounds; seed = seed; settings = settings })
+read_generated _ = None

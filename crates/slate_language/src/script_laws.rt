@@ -1,5 +1,5 @@
 //! The laws of lines, of replies, of the words of a run, and of the parts that words can name. Each is proved of all values, and no call does anything.
-ghost use Rattle.slate_language.specs.ScriptLaws.{ConcatIsLawful, CutsALine, EmptyIsSilent, GreaterIsLawful, HasOneMeaning, ReadsNothingElse, ReadsTheGrammar, ReadsWhatIsBuilt, ReadsWhatIsShown, StoringIsSilent, WordsInAnyOrder, XorIsLawful};
+ghost use Rattle.slate_language.specs.ScriptLaws.{ConcatIsLawful, CutsALine, EmptyIsSilent, GeneratedIsWellFormed, GreaterIsLawful, HasOneMeaning, ReadsNothingElse, ReadsTheGrammar, ReadsWhatIsBuilt, ReadsWhatIsShown, StoringIsSilent, TallyIsSummary, WordsInAnyOrder, WordsNameOneScript, XorIsLawful};
 
 /// What the grammar has is read, with its meaning.
 pub fn reads_the_grammar()
@@ -59,4 +59,19 @@ pub fn storing_is_silent()
 /// Words may come in any order.
 pub fn words_in_any_order()
     ensures { WordsInAnyOrder }
+{}
+
+/// No words say both that a run makes its script and that it reads one.
+pub fn words_name_one_script()
+    ensures { WordsNameOneScript }
+{}
+
+/// A script that a run makes for itself is well formed.
+pub fn generated_is_well_formed()
+    ensures { GeneratedIsWellFormed }
+{}
+
+/// What is counted of the replies to a well-formed script is its summary.
+pub fn tally_is_summary()
+    ensures { TallyIsSummary }
 {}

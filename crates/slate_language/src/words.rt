@@ -1,11 +1,11 @@
 //! The words of a run.
-ghost use Rattle.std.specs.Prelude.{◌≡◌, ◌^◌, IfSome, codes, map, option_map, is_some};
+ghost use Rattle.std.specs.Prelude.{◌≡◌, ◌≤◌, ◌+◌, ◌^◌, IfSome, codes, map, option_map, is_some};
 ghost use Rattle.std.specs.List.{list_all};
 ghost use Rattle.std.specs.Option.{option_copied};
 ghost use Rattle.std.specs.String.{string_bytes};
 ghost use Rattle.slate_types.specs.Config.{IsValid};
 ghost use Rattle.slate_language.specs.Parse.{read_number};
-ghost use Rattle.slate_language.specs.Words.{behind, if_valid, is_known, only_value, options, read_below, read_format, read_words, value_of};
+ghost use Rattle.slate_language.specs.Words.{behind, if_valid, is_known, max_rounds, only_value, options, read_below, read_format, read_generated, read_words, value_of};
 
 use crate::token::{is_word, read_number};
 use slate_types::{BlockFormat, Options};
@@ -17,6 +17,19 @@ pub struct Settings {
     pub options: Options,
     pub mask: Option<u8>,
 }
+
+/// A run over a script that it makes for itself.
+#[derive(Clone, Copy)]
+pub struct Generated {
+    /// How many rounds the script has.
+    pub rounds: u32,
+    /// The number that its keys are drawn from.
+    pub seed: u64,
+    pub settings: Settings,
+}
+
+/// The most rounds of a script that a run makes for itself.
+pub const MAX_ROUNDS: u32 = 100_000;
 
 /// The settings of the words `block=`, `table=`, `format=`, `ttl=`, `seq=` and `xor=`, each at most once and in any
 /// order. What no word sets is as by default. None exactly where a word is none of these, two have one name,
@@ -44,6 +57,37 @@ pub fn parse_words(words: &[String]) -> Option<Settings>
         ),
         mask,
     })
+}
+
+/// What the words `gen`, how many rounds, and the number that they begin at, set with those of the settings behind them. None
+/// exactly where the first word isn't `gen`, the second no number up to `MAX_ROUNDS`, the third no number of 64 bits, or
+/// the others are no words of settings.
+pub fn parse_generated(words: &[String]) -> Option<Generated>
+    ensures generated { result ≡ read_generated (map string_bytes words.now) }
+    ensures valid { IfSome result (λ g. IsValid g.settings.options) }
+    ensures bounded { IfSome result (λ g. g.rounds ≤ max_rounds) }
+{
+    let [first, rounds, seed, rest @ ..] = words else {
+        return None;
+    };
+    if !is_word(first.as_bytes(), b"gen") {
+        return None;
+    }
+    let rounds = read_rounds(rounds.as_bytes())?;
+    let seed = read_number(seed.as_bytes())?;
+    let settings = parse_words(rest)?;
+    Some(Generated {
+        rounds,
+        seed,
+        settings,
+    })
+}
+
+fn read_rounds(text: &[u8]) -> Option<u32>
+    ensures { result ≡ read_below (max_rounds + 1) text.now }
+{
+    let rounds = u32::try_from(read_number(text)?).ok()?;
+    (rounds <= MAX_ROUNDS).then_some(rounds)
 }
 
 #[tactic(auto, using(crate::proofs::WordLaws::test_is))]

@@ -1,10 +1,8 @@
 -- What opening a block, and taking a row of it, do to the rest of a table.
-use Rattle.std.proofs.Common.{◌≡◌, ◌≢◌, ◌⊎◌, inl, inr, ◌<◌, ◌≤◌, ◌+◌, ◌-◌, ℕ, suc, zero, Bool, true, false, cond, leb, eqb, List, [], ◌∷◌, ◌++◌, take, drop, length, flat_map, Option, Some, None, refl, sym, ap, subst, ◌∙◌, arith, append_assoc, append-nil}
-use Rattle.std.specs.Prelude.{Contains, IfSome, IsOk, Result, Ok, Err, bytes_eq, reverse, slice_get, slice_range}
+use Rattle.std.proofs.Common.{◌≡◌, ◌⊎◌, inl, inr, ◌<◌, ◌≤◌, ◌+◌, ◌-◌, ℕ, suc, zero, Bool, true, false, cond, leb, eqb, List, [], ◌∷◌, ◌++◌, take, drop, length, flat_map, Option, Some, None, refl, sym, ap, subst, ◌∙◌, arith, append_assoc, append-nil}
+use Rattle.std.specs.Prelude.{Contains, IfSome, IsOk, Result, Ok, Err, bytes_eq, reverse, slice_get}
 use Rattle.std.specs.List.{AllByRecursion}
-use Rattle.std.proofs.lemmas.Bool.{le-leb, leb-true, eq-eqb, eqb-true}
-use Rattle.std.proofs.lemmas.List.{length-append, length-drop, length-take-le}
-use Rattle.std.proofs.lemmas.List.Elements.{Contains-append_left, Contains-append_right}
+use Rattle.std.proofs.lemmas.Bool.{le-leb, eqb-true}
 use Rattle.std.proofs.lemmas.Option.{same_Some}
 use Rattle.std.proofs.lemmas.Slice.Eq.{bytes_eq-Decides}
 use Rattle.std.proofs.Math.Nat.{sub_self}
@@ -15,46 +13,31 @@ use Rattle.slate_types.specs.declared.error.SlateDBError.TheVariants.{OutOfMemor
 use Rattle.slate_types.specs.declared.types.RowEntry.{RowEntry}
 use Rattle.slate_types.specs.declared.iter.IterationOrder.{IterationOrder}
 use Rattle.slate_types.specs.declared.iter.IterationOrder.TheVariants.{Ascending, Descending}
-use Rattle.slate_types.specs.Iteration.{TakesRow, in_order}
-use Rattle.slate_types.specs.Outside.{Counts, IsLater, IsCounted}
+use Rattle.slate_types.specs.Iteration.{in_order}
+use Rattle.slate_types.specs.Outside.{Counts, IsCounted}
 use Rattle.slate_store.specs.Store.{Act, part, part_of}
 use Rattle.slate_block.specs.declared.block.Block.{Block}
 use Rattle.slate_block.specs.declared.data_block_iterator.DataBlockIterator.{DataBlockIterator}
-use Rattle.slate_block.specs.BlockWalks.{ReadsLeft, left, rows_of, Refuses, TakesRead}
+use Rattle.slate_block.specs.BlockWalks.{left, rows_of, Refuses}
 use Rattle.slate_block.specs.EitherVersion.{left_of}
 use Rattle.slate_block.specs.ReadingLaws.{EachIsAByte}
 use Rattle.slate_block.specs.Walks.{RowRead, all_ok, before, block_rows}
 use Rattle.slate_table.specs.declared.info.SsTableHandle.{SsTableHandle}
 use Rattle.slate_table.specs.IndexValue.{entries_of}
 use Rattle.slate_table.specs.Parts.{summed}
-use Rattle.slate_table.specs.Reading.{whole_answer, IsBlockRead}
+use Rattle.slate_table.specs.Reading.{whole_answer}
 use Rattle.slate_read.specs.declared.table_state.Cursor.{Cursor}
-use Rattle.slate_types.specs.World.{Kept, World, Place, AnswersWorld, IsCall, IsSlip, IsSlipOf, Made, Sees, Slips, Checks}
+use Rattle.slate_types.specs.World.{Kept, World, AnswersWorld, IsCall, IsSlip, Made, Checks}
 use Rattle.slate_types.specs.Outside.{Meaning, Reach}
 use Rattle.slate_types.specs.Refusing.{IsDamage, NoMore}
-use Rattle.slate_read.specs.TableWalk.{AreOpened, IsOpened, IsReadable, IsSoundCursor, IsWalkRead, IsWhole, Opens, RefusesLeft, RefusesRows, RefusesSome, RefusesWalk, TakesOpen, Walks, block_part, left_in, next_block, next_first, next_stop, path_in, reads_in, no_words, refuses_behind, rest_after, rest_behind, rows_between, size_of, start_of}
-use Rattle.slate_read.specs.WalkLaws.{known_answer, whole_part}
-use Rattle.slate_types.proofs.Calls.{call_none, checks_none, met, seen}
+use Rattle.slate_read.specs.TableWalk.{AreOpened, AreReadAhead, IsSoundCursor, IsWhole, Opens, RefusesLeft, RefusesReady, RefusesRows, RefusesSome, TakesOpen, left_in, max_reads, next_block, next_first, next_stop, no_words, nth_block, reads_in, refuses_behind, rest_after, rest_behind, rows_between}
+use Rattle.slate_types.proofs.Calls.{call_none, checks_none, met}
 use Rattle.slate_types.proofs.Moves.{Moves}
 use Rattle.slate_types.specs.Steps.{Step}
 
--- ---- a read that met the world
-
--- an opened block of the table has its rows
-opened_rows : (w : World) (p : Meaning) (h : SsTableHandle) (kept : Kept) (table : IsReadable w h kept) (block : ℕ) (order : IterationOrder) (reads : List Act) (it : ReadsLeft) (rows : List RowEntry) →
-    w.meaning ≡ p → IsOpened p h table.entries block order reads it → AllByRecursion (AnswersWorld w) reads → slice_get kept.blocks block ≡ Some rows → (left it ≡ Ok (in_order order rows)) × (it.order ≡ order)
-unfolding IsOpened IsWalkRead
-opened_rows w p h kept table block order reads it rows same (given, once, (found, bytes, read, walks)) answered at =
-    let act = Act.read (path_in h) (start_of h table.entries block) (size_of h table.entries block) given in
-    let by_world = subst (AllByRecursion (AnswersWorld w)) once answered in
-    let is : given ≡ block_part h kept table.entries block = known_answer w (path_in h) kept (start_of h table.entries block) (size_of h table.entries block) given table.held by_world.0 in
-    let answer : whole_answer (size_of h table.entries block) given ≡ block_part h kept table.entries block = ap (whole_answer (size_of h table.entries block)) is ∙ whole_part kept.bytes (start_of h table.entries block) (size_of h table.entries block) in
-    let here : IsBlockRead w.meaning.decode (block_part h kept table.entries block) found = subst (λ (a : Option (List ℕ)). IsBlockRead w.meaning.decode a found) answer (subst (λ (q : Meaning). IsBlockRead q.decode (whole_answer (size_of h table.entries block) given) found) (sym same) read) in
-    (walks.rows rows (table.block block rows found at bytes here), walks.same_order)
-
 -- ---- a read that may have slipped
 
-whole_bytes : (size : ℕ) (given : Option (List ℕ)) (bytes : List ℕ) → whole_answer size given ≡ Some bytes → (given ≡ Some bytes) × (length bytes ≡ size)
+pub whole_bytes : (size : ℕ) (given : Option (List ℕ)) (bytes : List ℕ) → whole_answer size given ≡ Some bytes → (given ≡ Some bytes) × (length bytes ≡ size)
 whole_bytes size None bytes h = cc
 whole_bytes size (Some x) bytes h = by (eqb (length x) size) refl h
   where
@@ -160,78 +143,76 @@ spent_left (Some it) h = by (left_of it).reads h
     by [] k = refl
     by (read ∷ reads) k = absurd (omega (arith, k))
 
-opened_left : (p : Meaning) (h : SsTableHandle) (entries : List (ℕ × List ℕ)) (block : ℕ) (order : IterationOrder) (reads : List Act) (rows : List RowEntry) (o : Option (DataBlockIterator Block)) → AreOpened p h entries block order reads o →
-    ((it : ReadsLeft) → IsOpened p h entries block order reads it → (left it ≡ Ok (in_order order rows)) × (it.order ≡ order)) → (left_in o ≡ in_order order rows) × IsWhole order o
-opened_left p h entries block order reads rows None a f = absurd a
-opened_left p h entries block order reads rows (Some it) a f = let r = f (left_of it) a.0 in (ap rows_of r.0, (rw r.0 refl, r.1))
-
-next_within : (order : IterationOrder) (x : Cursor) → x.first < x.stop → next_block order x < length (entries_of x.index)
-next_within Ascending x lt = let k = x.within in omega (arith, lt, k)
-next_within Descending x lt = let k = x.within in omega (arith, lt, k)
-
-refused_left : (p : Meaning) (h : SsTableHandle) (entries : List (ℕ × List ℕ)) (block : ℕ) (order : IterationOrder) (reads later : List Act) (o : Option (DataBlockIterator Block)) (e : SlateDBError) → block < length entries → AreOpened p h entries block order reads o → RefusesLeft o e → RefusesSome p h entries order (reads ++ later) e
-unfolding IsOpened IsWalkRead RefusesWalk
-refused_left p h entries block order reads later None e within a r = absurd a
-refused_left p h entries block order reads later (Some it) e within ((given, once, (found, bytes, read, walks)), few) r =
-    let act = Act.read (path_in h) (start_of h entries block) (size_of h entries block) given in
-    (block, given, within, Contains-append_left reads later act (subst (λ (l : List Act). Contains l act) (sym once) (0, omega arith, refl)), inr (found, bytes, read, inr (inr (left_of it, walks, r))))
-
 abbrev pub AllOrSlip : World → List Act → Type 0
 AllOrSlip w reads = AllByRecursion (AnswersWorld w) reads ⊎ ((act : Act) × Contains reads act × IsSlip w act)
-
-opened_checked : (w : World) (p : Meaning) (h : SsTableHandle) (kept : Kept) (table : IsReadable w h kept) (block : ℕ) (order : IterationOrder) (reads : List Act) (o : Option (DataBlockIterator Block)) → block < length table.entries → AreOpened p h table.entries block order reads o → AllOrSlip w reads
-unfolding IsOpened IsWalkRead
-opened_checked w p h kept table block order reads None within a = absurd a
-opened_checked w p h kept table block order reads (Some it) within ((given, once, (found, bytes, read, walks)), few) =
-    by (section_checked w (path_in h) kept (start_of h table.entries block) (size_of h table.entries block) given read.1.0 table.held (table.block_place block within) (table.inside _ (table.block_place block within)) (table.sums read.1.0) read.1.1)
-  where
-    act : Act
-    act = Act.read (path_in h) (start_of h table.entries block) (size_of h table.entries block) given
-
-    by : AnswersWorld w act ⊎ IsSlip w act → AllOrSlip w reads
-    by (inl k) = inl (subst (AllByRecursion (AnswersWorld w)) (sym once) (k, tt))
-    by (inr k) = inr (act, subst (λ (l : List Act). Contains l act) (sym once) (0, omega arith, refl), k)
 
 pub call_checked : (w : World) (a b : Reach) (reads : List Act) → IsCall a b reads → AllOrSlip w reads → Checks w a b
 call_checked w a b reads call (inl k) = λ known began parts. inl (met w a b known reads parts began call k)
 call_checked w a b reads call (inr (act, among, slip)) = λ known began parts. inr (record { known = known; reads = reads; began = began; ended = call.adds known began; act = act; among = among; slip = slip })
 
-pub opens_moves : (h : SsTableHandle) (order : IterationOrder) (a b : Reach) (reads : List Act) (x y : Cursor) → IsCall a b reads → Opens a.meaning h order reads x y → reads_in x.rows ≡ 0 → x.first < x.stop →
-    Moves (rest_after h order) (IsSoundCursor h order) (refuses_behind h order) a b x y
-opens_moves h order a b reads x y call o spent lt = record {
-  rows = λ w s sound. rows w s sound;
-  still = λ w s sound. record { kept = sound.kept; table = sound.table; index = ap entries_of o.index ∙ sound.index; whole = (now w s sound).1 };
-  checked = λ w sound. call_checked w a b reads call (opened_checked w a.meaning h sound.kept sound.table (next_block order x) order reads y.rows
-      (subst (λ (es : List (ℕ × List ℕ)). next_block order x < length es) sound.index (next_within order x lt))
-      (subst (λ (es : List (ℕ × List ℕ)). AreOpened a.meaning h es (next_block order x) order reads y.rows) sound.index o.rows));
-  made = (reads, call, fewer);
+opened_left : (version : ℕ) (order : IterationOrder) (block : Block) (rows : List RowEntry) (o : Option (DataBlockIterator Block)) → AreOpened version order block o → block_rows version block.body block.offsets.items ≡ Ok rows → (left_in o ≡ in_order order rows) × IsWhole order o
+opened_left version order block rows None a is = absurd a
+opened_left version order block rows (Some it) a is = let r = a.0.rows rows is in (ap rows_of r, (rw r refl, a.0.same_order))
+
+refused_opened : (version : ℕ) (order : IterationOrder) (block : Block) (o : Option (DataBlockIterator Block)) (e : SlateDBError) → AreOpened version order block o → RefusesLeft o e → RefusesRows version order block e
+refused_opened version order block None e a r = absurd a
+refused_opened version order block (Some it) e a r = inr (inr (left_of it, a.0, r))
+
+pub opened_small : (version : ℕ) (order : IterationOrder) (block : Block) (o : Option (DataBlockIterator Block)) → AreOpened version order block o → reads_in o ≤ max_reads
+opened_small version order block None a = absurd a
+opened_small version order block (Some it) a = a.1
+
+pub front_fails : (version : ℕ) (order : IterationOrder) (ready behind : List Block) (block : Block) (e : SlateDBError) → ready ≡ block ∷ behind → EachIsAByte block.body → (e ≡ OutOfMemory) ⊎ (IsDamage e × RefusesRows version order block e) →
+    (e ≡ OutOfMemory) ⊎ (IsDamage e × RefusesReady version order ready e)
+front_fails version order ready behind block e is bytes (inl m) = inl m
+front_fails version order ready behind block e is bytes (inr k) = inr (k.0, (0, block, ap (λ (l : List Block). slice_get l 0) is, bytes, k.1))
+
+next_is : (order : IterationOrder) (x : Cursor) → nth_block order x.first x.stop 0 ≡ next_block order x
+next_is Ascending x = omega arith
+next_is Descending x = omega arith
+
+next_then : (order : IterationOrder) (x : Cursor) (n : ℕ) → nth_block order (next_first order x) (next_stop order x) n ≡ nth_block order x.first x.stop (suc n)
+next_then Ascending x n = omega arith
+next_then Descending x n = omega arith
+
+pub opens_moves : (h : SsTableHandle) (order : IterationOrder) (t : Reach) (x y : Cursor) → Opens h order x y → reads_in x.rows ≡ 0 → Moves (rest_after h order) (IsSoundCursor h order) (refuses_behind h order) t t x y
+opens_moves h order t x y o spent = record {
+  rows = λ w sees sound. rows w sound;
+  still = λ w sees sound. record { kept = sound.kept; table = sound.table; index = ap entries_of o.index ∙ sound.index; ready = behind w sound; whole = (now w sound).1 };
+  checked = λ w sound. checks_none w t;
+  made = ([], call_none t, fewer);
 }
   where
+    lt : x.first < x.stop
+    lt = let a = x.ahead in let n = ap length o.ready in omega (arith, a, n)
+
     next : (w : World) (sound : IsSoundCursor h order x w) → Next order sound.kept x
     next w sound = next_rows order sound.kept x lt (let k = x.within in let n = ap length sound.index in let m = sound.table.count in omega (arith, k, n, m))
 
-    now : (w : World) (s : Sees w a b) (sound : IsSoundCursor h order x w) → (left_in y.rows ≡ in_order order (next w sound).rows) × IsWhole order y.rows
-    now w s sound = opened_left a.meaning h (entries_of x.index) (next_block order x) order reads (next w sound).rows y.rows o.rows
-        (λ it opened. opened_rows w a.meaning h sound.kept sound.table (next_block order x) order reads it (next w sound).rows s.meaning
-        (subst (λ (es : List (ℕ × List ℕ)). IsOpened a.meaning h es (next_block order x) order reads it) sound.index opened) (seen w a b reads s call) (next w sound).at)
+    now : (w : World) (sound : IsSoundCursor h order x w) → (left_in y.rows ≡ in_order order (next w sound).rows) × IsWhole order y.rows
+    now w sound = opened_left h.format_version order o.block (next w sound).rows y.rows o.rows
+        (sound.ready 0 o.block (next w sound).rows (ap (λ (l : List Block). slice_get l 0) o.ready) (ap (slice_get sound.kept.blocks) (next_is order x) ∙ (next w sound).at) o.bytes)
 
-    rows : (w : World) → Sees w a b → (sound : IsSoundCursor h order x w) → rest_after h order y w ≡ rest_after h order x w
-    rows w s sound =
+    behind : (w : World) (sound : IsSoundCursor h order x w) → AreReadAhead h order sound.kept y
+    behind w sound n block rows at there bytes = sound.ready (suc n) block rows (ap (λ (l : List Block). slice_get l (suc n)) o.ready ∙ at)
+        (ap (slice_get sound.kept.blocks) (sym ((λ i. nth_block order (o.first i) (o.stop i) n) ∙ next_then order x n)) ∙ there) bytes
+
+    rows : (w : World) → (sound : IsSoundCursor h order x w) → rest_after h order y w ≡ rest_after h order x w
+    rows w sound =
         let held = sound.table.held in
         let front : left_in x.rows ≡ [] = spent_left x.rows spent in
         let left_y : rest_behind y order (Some sound.kept) ≡ in_order order (rows_between sound.kept x.first x.stop) =
-        (λ i. (now w s sound).0 i ++ in_order order (rows_between sound.kept (o.first i) (o.stop i))) ∙ sym (next w sound).is in
+        (λ i. (now w sound).0 i ++ in_order order (rows_between sound.kept (o.first i) (o.stop i))) ∙ sym (next w sound).is in
         let right_x : rest_behind x order (Some sound.kept) ≡ in_order order (rows_between sound.kept x.first x.stop) = ap (λ (l : List RowEntry). l ++ in_order order (rows_between sound.kept x.first x.stop)) front in
         ap (rest_behind y order) held ∙ left_y ∙ sym right_x ∙ sym (ap (rest_behind x order) held)
 
-    fewer : NoMore (refuses_behind h order x a.meaning) reads (refuses_behind h order y a.meaning)
+    fewer : NoMore (refuses_behind h order x t.meaning) [] (refuses_behind h order y t.meaning)
     fewer later at e (damage, why) = (damage, inr (by why))
       where
-        by : RefusesLeft y.rows e ⊎ RefusesSome a.meaning h (entries_of y.index) order later e → RefusesSome a.meaning h (entries_of x.index) order (reads ++ later) e
-        by (inl k) = refused_left a.meaning h (entries_of x.index) (next_block order x) order reads later y.rows e (next_within order x lt) o.rows k
-        by (inr k) =
-            let same = subst (λ (es : List (ℕ × List ℕ)). RefusesSome a.meaning h es order later e) (ap entries_of o.index) k in
-            (same.0, same.1, same.2, Contains-append_right reads later _ same.3, same.4)
+        by : RefusesLeft y.rows e ⊎ RefusesReady h.format_version order y.ready.items e ⊎ RefusesSome t.meaning h (entries_of y.index) order later e → RefusesReady h.format_version order x.ready.items e ⊎ RefusesSome t.meaning h (entries_of x.index) order later e
+        by (inl k) = inl (0, o.block, ap (λ (l : List Block). slice_get l 0) o.ready, o.bytes, refused_opened h.format_version order o.block y.rows e o.rows k)
+        by (inr (inl (n, block, is, bytes, k))) = inl (suc n, block, ap (λ (l : List Block). slice_get l (suc n)) o.ready ∙ is, bytes, k)
+        by (inr (inr k)) = inr (subst (λ (es : List (ℕ × List ℕ)). RefusesSome t.meaning h es order later e) (ap entries_of o.index) k)
 
 -- ---- rows of the block that is open
 
@@ -272,20 +253,29 @@ took_row order (Some it) (Some next) row h w =
     let k = ok_first row (left (left_of next)) (subst (λ (r : Result (List RowEntry) SlateDBError). IsOk r) same w.0) in
     (ap rows_of same ∙ k.0, (k.1, h.1 ∙ w.1))
 
-pub sound_after : (h : SsTableHandle) (order : IterationOrder) (x y : Cursor) (w : World) → y.index ≡ x.index → IsSoundCursor h order x w → IsWhole order y.rows → IsSoundCursor h order y w
-sound_after h order x y w same s whole = record { kept = s.kept; table = s.table; index = ap entries_of same ∙ s.index; whole = whole }
+pub sound_after : (h : SsTableHandle) (order : IterationOrder) (x y : Cursor) (w : World) → y.index ≡ x.index → (s : IsSoundCursor h order x w) → AreReadAhead h order s.kept y → IsWhole order y.rows → IsSoundCursor h order y w
+sound_after h order x y w same s ready whole = record { kept = s.kept; table = s.table; index = ap entries_of same ∙ s.index; ready = ready; whole = whole }
 
-pub fewer_after : (h : SsTableHandle) (order : IterationOrder) (p : Meaning) (x y : Cursor) → y.index ≡ x.index → ((e : SlateDBError) → RefusesLeft y.rows e → RefusesLeft x.rows e) → NoMore (refuses_behind h order x p) [] (refuses_behind h order y p)
-fewer_after h order p x y same f later at e (damage, inl k) = (damage, inl (f e k))
-fewer_after h order p x y same f later at e (damage, inr k) = (damage, inr (subst (λ (es : List (ℕ × List ℕ)). RefusesSome p h es order later e) (ap entries_of same) k))
+pub fewer_after : (h : SsTableHandle) (order : IterationOrder) (p : Meaning) (x y : Cursor) → y.index ≡ x.index → ((e : SlateDBError) → RefusesLeft y.rows e → RefusesLeft x.rows e) →
+    ((e : SlateDBError) → RefusesReady h.format_version order y.ready.items e → RefusesReady h.format_version order x.ready.items e) → NoMore (refuses_behind h order x p) [] (refuses_behind h order y p)
+fewer_after h order p x y same f g later at e (damage, inl k) = (damage, inl (f e k))
+fewer_after h order p x y same f g later at e (damage, inr (inl k)) = (damage, inr (inl (g e k)))
+fewer_after h order p x y same f g later at e (damage, inr (inr k)) = (damage, inr (inr (subst (λ (es : List (ℕ × List ℕ)). RefusesSome p h es order later e) (ap entries_of same) k)))
 
-pub row_step : (h : SsTableHandle) (order : IterationOrder) (t : Reach) (x y : Cursor) (row : RowEntry) → TakesOpen x.rows (Some row) y.rows → y.index ≡ x.index → y.first ≡ x.first → y.stop ≡ x.stop →
+pub same_ready : (h : SsTableHandle) (order : IterationOrder) (kept : Kept) (x y : Cursor) → y.first ≡ x.first → y.stop ≡ x.stop → y.ready ≡ x.ready → AreReadAhead h order kept x → AreReadAhead h order kept y
+same_ready h order kept x y first stop ready ahead n block rows at there bytes =
+    ahead n block rows (ap (λ q. slice_get q.items n) (sym ready) ∙ at) ((λ i. slice_get kept.blocks (nth_block order (sym first i) (sym stop i) n)) ∙ there) bytes
+
+pub same_refused : (version : ℕ) (order : IterationOrder) (x y : Cursor) (e : SlateDBError) → y.ready ≡ x.ready → RefusesReady version order y.ready.items e → RefusesReady version order x.ready.items e
+same_refused version order x y e ready r = subst (λ q. RefusesReady version order q.items e) ready r
+
+pub row_step : (h : SsTableHandle) (order : IterationOrder) (t : Reach) (x y : Cursor) (row : RowEntry) → TakesOpen x.rows (Some row) y.rows → y.index ≡ x.index → y.first ≡ x.first → y.stop ≡ x.stop → y.ready ≡ x.ready →
     Step (rest_after h order) (IsSoundCursor h order) (refuses_behind h order) no_words t t x (Some row) y
-row_step h order t x y row took index first stop = record {
+row_step h order t x y row took index first stop ready = record {
   rows = λ w sees s. taken w s;
-  still = λ w sees s. sound_after h order x y w index s (took_row order x.rows y.rows row took s.whole).1;
+  still = λ w sees s. sound_after h order x y w index s (same_ready h order s.kept x y first stop ready s.ready) (took_row order x.rows y.rows row took s.whole).1;
   checked = λ w s. checks_none w t;
-  taken = ([], call_none t, (tt, fewer_after h order t.meaning x y index (λ e r. took_no_more x.rows y.rows (Some row) e took r)));
+  taken = ([], call_none t, (tt, fewer_after h order t.meaning x y index (λ e r. took_no_more x.rows y.rows (Some row) e took r) (λ e r. same_refused h.format_version order x y e ready r)));
 }
   where
     taken : (w : World) → IsSoundCursor h order x w → rest_after h order x w ≡ row ∷ rest_after h order y w
@@ -296,13 +286,13 @@ row_step h order t x y row took index first stop = record {
         (λ i. k.0 i ++ in_order order (rows_between s.kept (sym first i) (sym stop i))) in
         ap (rest_behind x order) held ∙ here ∙ sym (ap (λ (o : Option Kept). row ∷ rest_behind y order o) held)
 
-pub row_moves : (h : SsTableHandle) (order : IterationOrder) (t : Reach) (x y : Cursor) → TakesOpen x.rows None y.rows → y.index ≡ x.index → y.first ≡ x.first → y.stop ≡ x.stop →
+pub row_moves : (h : SsTableHandle) (order : IterationOrder) (t : Reach) (x y : Cursor) → TakesOpen x.rows None y.rows → y.index ≡ x.index → y.first ≡ x.first → y.stop ≡ x.stop → y.ready ≡ x.ready →
     Moves (rest_after h order) (IsSoundCursor h order) (refuses_behind h order) t t x y
-row_moves h order t x y took index first stop = record {
+row_moves h order t x y took index first stop ready = record {
   rows = λ w sees s. moved w s;
-  still = λ w sees s. sound_after h order x y w index s (still_whole x.rows y.rows took s.whole);
+  still = λ w sees s. sound_after h order x y w index s (same_ready h order s.kept x y first stop ready s.ready) (still_whole x.rows y.rows took s.whole);
   checked = λ w s. checks_none w t;
-  made = ([], call_none t, fewer_after h order t.meaning x y index (λ e r. took_no_more x.rows y.rows None e took r));
+  made = ([], call_none t, fewer_after h order t.meaning x y index (λ e r. took_no_more x.rows y.rows None e took r) (λ e r. same_refused h.format_version order x y e ready r));
 }
   where
     still_whole : (o p : Option (DataBlockIterator Block)) → TakesOpen o None p → IsWhole order o → IsWhole order p
@@ -347,4 +337,8 @@ row_fails h order t i x e (inr r) = ([], call_none t, inr (r.0, inl r.1))
 pub some_fails : (h : SsTableHandle) (order : IterationOrder) (a b : Reach) (i j : Counts) (x : Cursor) (e : SlateDBError) → Made a b (λ reads. IsCounted i j e ⊎ (IsDamage e × RefusesSome a.meaning h (entries_of x.index) order reads e)) →
     Made a b (λ reads. IsCounted i j e ⊎ refuses_behind h order x a.meaning reads None e)
 some_fails h order a b i j x e (reads, call, inl k) = (reads, call, inl k)
-some_fails h order a b i j x e (reads, call, inr k) = (reads, call, inr (k.0, inr k.1))
+some_fails h order a b i j x e (reads, call, inr k) = (reads, call, inr (k.0, inr (inr k.1)))
+
+pub ready_fails : (h : SsTableHandle) (order : IterationOrder) (t : Reach) (i : Counts) (x : Cursor) (e : SlateDBError) → (e ≡ OutOfMemory) ⊎ (IsDamage e × RefusesReady h.format_version order x.ready.items e) → Made t t (λ reads. IsCounted i i e ⊎ refuses_behind h order x t.meaning reads None e)
+ready_fails h order t i x e (inl m) = ([], call_none t, inl (subst (IsCounted i i) (sym m) tt))
+ready_fails h order t i x e (inr r) = ([], call_none t, inr (r.0, inr (inl r.1)))

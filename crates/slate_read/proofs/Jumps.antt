@@ -1,8 +1,9 @@
 -- What passing over blocks leaves of a table.
-use Rattle.std.proofs.Common.{◌≡◌, ◌<◌, ◌≤◌, ◌+◌, ◌-◌, ℕ, suc, zero, Bool, true, false, List, [], ◌∷◌, ◌++◌, take, drop, length, flat_map, Option, Some, refl, sym, ap, subst, ◌∙◌, arith, append_assoc}
+use Rattle.std.proofs.Common.{◌≡◌, ◌<◌, ◌≤◌, ◌+◌, ◌-◌, ℕ, suc, zero, Bool, true, false, List, [], ◌∷◌, ◌++◌, take, drop, flat_map, Option, Some, refl, sym, ap, subst, ◌∙◌, arith, append_assoc}
 use Rattle.std.specs.Prelude.{reverse, slice_get, ◌&&◌}
 use Rattle.std.specs.List.{AllByRecursion}
 use Rattle.std.proofs.lemmas.List.{reverse-append}
+use Rattle.slate_types.specs.declared.error.SlateDBError.{SlateDBError}
 use Rattle.slate_types.specs.declared.types.RowEntry.{RowEntry}
 use Rattle.slate_types.specs.declared.iter.IterationOrder.{IterationOrder}
 use Rattle.slate_types.specs.declared.iter.IterationOrder.TheVariants.{Ascending, Descending}
@@ -15,7 +16,7 @@ use Rattle.slate_types.proofs.Calls.{call_none, checks_none, sees_first, sees_la
 use Rattle.slate_types.proofs.KeyOrder.{not-le}
 use Rattle.slate_types.proofs.Lists.{AllByRecursion-append}
 use Rattle.slate_types.proofs.Moves.{Moves}
-use Rattle.slate_types.specs.Outside.{Meaning, Act}
+use Rattle.slate_types.specs.Outside.{Meaning}
 use Rattle.slate_types.specs.Refusing.{NoMore}
 use Rattle.slate_block.specs.declared.block.Block.{Block}
 use Rattle.slate_block.specs.declared.data_block_iterator.DataBlockIterator.{DataBlockIterator}
@@ -23,7 +24,7 @@ use Rattle.slate_table.specs.declared.info.SsTableHandle.{SsTableHandle}
 use Rattle.slate_table.specs.IndexReading.{index_keys}
 use Rattle.slate_table.specs.IndexValue.{entries_of}
 use Rattle.slate_read.specs.declared.table_state.Cursor.{Cursor}
-use Rattle.slate_read.specs.TableWalk.{IsReadable, IsSoundCursor, IsSoundRising, IsWhole, Jumps, RefusesLeft, StaysAtEnd, Sought, left_in, path_in, reads_in, refuses_behind, rest_after, rest_behind, rest_sought, rows_between}
+use Rattle.slate_read.specs.TableWalk.{AreReadAhead, IsSoundCursor, IsSoundRising, IsWhole, Jumps, RefusesLeft, RefusesReady, Sought, left_in, nth_block, passed_over, reads_in, refuses_behind, rest_after, rest_behind, rest_sought, rows_between}
 use Rattle.slate_read.proofs.Cursors.{fewer_after, sound_after, spent_left}
 use Rattle.slate_read.proofs.Grouping.{all_back}
 use Rattle.slate_read.proofs.Ranges.{in_back}
@@ -113,15 +114,32 @@ jumped w h Descending key x y s jumps =
       ap reverse (rows_split s.kept.blocks x.first y.stop x.stop (omega (arith, within, same)) jumps.stop) ∙ reverse-append front back ∙ ap (λ (n : ℕ). reverse back ++ reverse (rows_between s.kept n y.stop)) (sym same),
     )
 
+get_behind : {X : Type 0} (xs : List X) (k n : ℕ) (x : X) → slice_get (drop k xs) n ≡ Some x → slice_get xs (k + n) ≡ Some x
+get_behind xs zero n x at = let same : 0 + n ≡ n = omega arith in ap (slice_get xs) same ∙ at
+get_behind [] (suc k) n x at = cc
+get_behind (y ∷ xs) (suc k) n x at = let same : suc k + n ≡ suc (k + n) = omega arith in ap (slice_get (y ∷ xs)) same ∙ get_behind xs k n x at
+
+passed_place : (order : IterationOrder) (key : List ℕ) (x y : Cursor) (n : ℕ) → Jumps order key x y → nth_block order y.first y.stop n ≡ nth_block order x.first x.stop (passed_over order x y + n)
+passed_place Ascending key x y n jumps = let a = jumps.first in omega (arith, a)
+passed_place Descending key x y n jumps = let a = jumps.stop in omega (arith, a)
+
+-- the blocks that were read ahead and aren't passed over
+passed_ready : (h : SsTableHandle) (order : IterationOrder) (key : List ℕ) (kept : Kept) (x y : Cursor) → Jumps order key x y → AreReadAhead h order kept x → AreReadAhead h order kept y
+passed_ready h order key kept x y jumps ahead n block rows at there bytes =
+    ahead (passed_over order x y + n) block rows (get_behind x.ready.items (passed_over order x y) n block (ap (λ l. slice_get l n) (sym jumps.ready) ∙ at)) (ap (slice_get kept.blocks) (sym (passed_place order key x y n jumps)) ∙ there) bytes
+
+passed_refused : (h : SsTableHandle) (order : IterationOrder) (key : List ℕ) (x y : Cursor) (e : SlateDBError) → Jumps order key x y → RefusesReady h.format_version order y.ready.items e → RefusesReady h.format_version order x.ready.items e
+passed_refused h order key x y e jumps (n, block, at, bytes, rows) = (passed_over order x y + n, block, get_behind x.ready.items (passed_over order x y) n block (ap (λ l. slice_get l n) (sym jumps.ready) ∙ at), bytes, rows)
+
 pub jump_moves : (h : SsTableHandle) (order : IterationOrder) (key : List ℕ) (t : Reach) (x y : Cursor) → Jumps order key x y → reads_in x.rows ≡ 0 → Moves (rest_sought h order key) (IsSoundRising h order) (refuses_behind h order) t t x y
 jump_moves h order key t x y jumps spent = record {
   rows = λ w sees s. ap (drop_before order key) (after w s.0) ∙ sym (dropped_front order key (jumped w h order key x y s.0 jumps).0 (in_order order (rows_between s.0.kept y.first y.stop)) (jumped w h order key x y s.0 jumps).1) ∙ ap (drop_before order key) (sym (before w s.0));
   still = λ w sees s. (
-    sound_after h order x y w jumps.index s.0 (subst (IsWhole order) (sym jumps.rows) s.0.whole),
+    sound_after h order x y w jumps.index s.0 (passed_ready h order key s.0.kept x y jumps s.0.ready) (subst (IsWhole order) (sym jumps.rows) s.0.whole),
     subst (IsInOrder order) (sym (after w s.0)) (in_back order (jumped w h order key x y s.0 jumps).0 (in_order order (rows_between s.0.kept y.first y.stop)) (subst (IsInOrder order) (before w s.0) s.1)),
   );
   checked = λ w s. checks_none w t;
-  made = ([], call_none t, fewer_after h order t.meaning x y jumps.index (λ e r. subst (λ (o : Option (DataBlockIterator Block)). RefusesLeft o e) jumps.rows r));
+  made = ([], call_none t, fewer_after h order t.meaning x y jumps.index (λ e r. subst (λ (o : Option (DataBlockIterator Block)). RefusesLeft o e) jumps.rows r) (λ e r. passed_refused h order key x y e jumps r));
 }
   where
     before : (w : World) (s : IsSoundCursor h order x w) → rest_after h order x w ≡ (jumped w h order key x y s jumps).0 ++ in_order order (rows_between s.kept y.first y.stop)

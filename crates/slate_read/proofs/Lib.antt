@@ -1,9 +1,12 @@
 pub mod Filters
 pub mod Fetches
+pub mod OneBlock
 pub mod Few
 pub mod Damaged
 pub mod Openings
 pub mod Cursors
+pub mod ReadAhead
+pub mod Enough
 pub mod Walks
 pub mod Ranges
 pub mod Seeks
@@ -26,3 +29,9 @@ pub mod MergeLoops
 pub mod MergeStateSteps
 pub mod Requires
 pub mod Peeks
+pub mod Shows
+pub mod RunOpen
+pub mod Runs
+pub mod RunSeeks
+pub mod RunCalls
+pub mod RunRows

@@ -1,26 +1,22 @@
--- A block that is opened by one read, and an index that is.
-use Rattle.std.proofs.Common.{◌≡◌, ◌⊎◌, inl, inr, ◌<◌, ◌≤◌, ℕ, List, length, [], ◌∷◌, ◌++◌, Option, Some, None, refl, sym, ap, subst, ◌∙◌, append-nil, arith}
+-- An index that is opened by one read, and what a read is of a call.
+use Rattle.std.proofs.Common.{◌≡◌, ◌⊎◌, inl, inr, ℕ, List, [], ◌∷◌, Option, Some, refl, sym, ap, subst, ◌∙◌, append-nil, arith}
 use Rattle.std.specs.Prelude.{Contains, IfOk, OnErr, Result, Ok, Err}
-use Rattle.std.specs.List.{AllByRecursion}
-use Rattle.std.proofs.lemmas.List.Elements.{Contains-append_left}
 use Rattle.slate_types.specs.declared.error.SlateDBError.{SlateDBError}
-use Rattle.slate_types.specs.declared.error.SlateDBError.TheVariants.{OutOfMemory, StoreFault, BlockTransformError}
+use Rattle.slate_types.specs.declared.error.SlateDBError.TheVariants.{OutOfMemory}
 use Rattle.slate_types.specs.declared.iter.IterationOrder.{IterationOrder}
-use Rattle.slate_types.specs.Faults.{Rose}
 use Rattle.slate_types.specs.Outside.{Counts, IsCounted, IsFault, IsLater, Meaning, OnlyReads, Reach}
 use Rattle.slate_store.specs.Store.{Act}
 use Rattle.slate_block.specs.declared.block.Block.{Block}
-use Rattle.slate_block.specs.BlockWalks.{ReadsLeft, IsBlockDamage}
-use Rattle.slate_block.specs.ReadingLaws.{EachIsAByte}
+use Rattle.slate_block.specs.BlockWalks.{IsBlockDamage}
 use Rattle.slate_block.specs.Walks.{block_reads}
 use Rattle.slate_table.specs.declared.info.SsTableHandle.{SsTableHandle}
-use Rattle.slate_table.specs.Reading.{Reads, IsStoreFault, FailsDecoding, IsIndexRead, RefusesIndex, IsBlockRead, RefusesBlock, whole_answer}
+use Rattle.slate_table.specs.Reading.{Reads, IsStoreFault, FailsDecoding, IsIndexRead, RefusesIndex, whole_answer}
 use Rattle.slate_table.specs.SectionReading.{IsTransformFault}
 use Rattle.slate_types.specs.World.{IsCall, Made}
 use Rattle.slate_types.specs.Refusing.{IsDamage}
 use Rattle.slate_types.proofs.Calls.{only_reads}
-use Rattle.slate_read.specs.TableWalk.{IsIndexed, RefusesIndexed, IsOpened, IsWalkRead, RefusesRows, RefusesSome, RefusesWalk, Walks, path_in, size_of, start_of}
-use Rattle.slate_table.proofs.Damaged.{block_refusal, index_refusal}
+use Rattle.slate_read.specs.TableWalk.{IsIndexed, RefusesIndexed, RefusesRows, path_in}
+use Rattle.slate_table.proofs.Damaged.{index_refusal}
 use Rattle.slate_read.proofs.Damaged.{in_block}
 
 pub rows_known : (version : ℕ) (order : IterationOrder) (block : Block) (e : SlateDBError) → (version ≡ 1) ⊎ (version ≡ 2) → (e ≡ OutOfMemory) ⊎ (block_reads version block.body block.offsets.items ≡ Err e) → (e ≡ OutOfMemory) ⊎ IsBlockDamage e →
@@ -74,56 +70,8 @@ pub outer_transform : (i j : Counts) (e : SlateDBError) → IsTransformFault i.t
 outer_transform i j e (inl m) = outer_memory i j e m
 outer_transform i j e (inr f) = subst (IsCounted i j) (sym f.0) f.1
 
-here : (act : Act) → Contains (act ∷ []) act
+pub here : (act : Act) → Contains (act ∷ []) act
 here act = (0, omega arith, refl)
-
--- the section of a block is refused
-pub section_refused : (a b : Reach) (h : SsTableHandle) (entries : List (ℕ × List ℕ)) (block : ℕ) (order : IterationOrder) (e : SlateDBError) →
-    b.objects ≡ a.objects → b.meaning ≡ a.meaning → block < length entries →
-    (b.acts ≡ a.acts) ⊎ Reads a.objects a.acts b.acts (path_in h) (start_of h entries block) (size_of h entries block) (λ _. Unit {0}) →
-    IsStoreFault a.faults.store b.faults.store e ⊎ IsTransformFault a.faults.transformer b.faults.transformer e ⊎ Reads a.objects a.acts b.acts (path_in h) (start_of h entries block) (size_of h entries block) (λ answer. RefusesBlock a.meaning.decode answer e) →
-    Made a b (λ reads. IsFault a b e ⊎ (IsDamage e × RefusesSome a.meaning h entries order reads e))
-unfolding RefusesWalk
-section_refused a b h entries block order e same meaning within once (inl f) =
-    let c = call_once a b (path_in h) (start_of h entries block) (size_of h entries block) same meaning once in
-    (c.0, c.1, inl (outer_store a.faults b.faults e f))
-section_refused a b h entries block order e same meaning within once (inr (inl f)) =
-    let c = call_once a b (path_in h) (start_of h entries block) (size_of h entries block) same meaning once in
-    (c.0, c.1, inl (outer_transform a.faults b.faults e f))
-section_refused a b h entries block order e same meaning within once (inr (inr r)) =
-    let c = call_of a b (path_in h) (start_of h entries block) (size_of h entries block) (λ answer. RefusesBlock a.meaning.decode answer e) same meaning r in
-    let act = Act.read (path_in h) (start_of h entries block) (size_of h entries block) c.0 in
-    (act ∷ [], c.1, inr (block_refusal a.meaning.decode (whole_answer (size_of h entries block) c.0) e c.2, (block, c.0, within, here act, inl c.2)))
-
--- the block is, or one of its rows
-pub rows_refused : (a b : Reach) (h : SsTableHandle) (entries : List (ℕ × List ℕ)) (block : ℕ) (order : IterationOrder) (found : Block) (e : SlateDBError) →
-    b.objects ≡ a.objects → b.meaning ≡ a.meaning → block < length entries → EachIsAByte found.body →
-    Reads a.objects a.acts b.acts (path_in h) (start_of h entries block) (size_of h entries block) (λ answer. IsBlockRead a.meaning.decode answer found) →
-    (e ≡ OutOfMemory) ⊎ (IsDamage e × RefusesRows h.format_version order found e) →
-    Made a b (λ reads. IsFault a b e ⊎ (IsDamage e × RefusesSome a.meaning h entries order reads e))
-unfolding RefusesWalk
-rows_refused a b h entries block order found e same meaning within bytes r why =
-    (act ∷ [], c.1, by why)
-  where
-    c : (given : Option (List ℕ)) × IsCall a b (Act.read (path_in h) (start_of h entries block) (size_of h entries block) given ∷ []) × IsBlockRead a.meaning.decode (whole_answer (size_of h entries block) given) found
-    c = call_of a b (path_in h) (start_of h entries block) (size_of h entries block) (λ answer. IsBlockRead a.meaning.decode answer found) same meaning r
-
-    act : Act
-    act = Act.read (path_in h) (start_of h entries block) (size_of h entries block) c.0
-
-    by : (e ≡ OutOfMemory) ⊎ (IsDamage e × RefusesRows h.format_version order found e) → IsFault a b e ⊎ (IsDamage e × RefusesSome a.meaning h entries order (act ∷ []) e)
-    by (inl m) = inl (outer_memory a.faults b.faults e m)
-    by (inr d) = inr (d.0, (block, c.0, within, here act, inr (found, bytes, c.2, d.1)))
-
--- the block is walked
-pub block_opened : (a b : Reach) (h : SsTableHandle) (entries : List (ℕ × List ℕ)) (block : ℕ) (order : IterationOrder) (found : Block) (it : ReadsLeft) →
-    b.objects ≡ a.objects → b.meaning ≡ a.meaning → EachIsAByte found.body →
-    Reads a.objects a.acts b.acts (path_in h) (start_of h entries block) (size_of h entries block) (λ answer. IsBlockRead a.meaning.decode answer found) → Walks h.format_version order found it →
-    Made a b (λ reads. IsOpened a.meaning h entries block order reads it)
-unfolding IsOpened IsWalkRead
-block_opened a b h entries block order found it same meaning bytes r walks =
-    let c = call_of a b (path_in h) (start_of h entries block) (size_of h entries block) (λ answer. IsBlockRead a.meaning.decode answer found) same meaning r in
-    (Act.read (path_in h) (start_of h entries block) (size_of h entries block) c.0 ∷ [], c.1, (c.0, refl, (found, bytes, c.2, walks)))
 
 -- ---- the index
 

@@ -1,6 +1,6 @@
 -- The rows of a range stand in the blocks that can hold its keys.
-use Rattle.std.proofs.Common.{◌≡◌, ◌<◌, ◌≤◌, ◌+◌, ◌-◌, ℕ, suc, zero, Bool, true, false, cond, List, [], ◌∷◌, ◌++◌, take, drop, length, filter, flat_map, Some, refl, sym, ap, subst, ◌∙◌, arith, append-nil, append_assoc}
-use Rattle.std.specs.Prelude.{reverse, slice_get, slice_range, IsSorted}
+use Rattle.std.proofs.Common.{◌≡◌, ◌<◌, ◌≤◌, ◌-◌, ℕ, suc, zero, Bool, true, false, cond, List, [], ◌∷◌, ◌++◌, take, drop, filter, flat_map, Some, refl, sym, ap, subst, ◌∙◌, arith, append-nil, append_assoc}
+use Rattle.std.specs.Prelude.{reverse, slice_get}
 use Rattle.std.specs.List.{AllByRecursion}
 use Rattle.std.proofs.lemmas.List.Elements.{filter-append}
 use Rattle.std.proofs.lemmas.List.{reverse-append}
@@ -9,17 +9,17 @@ use Rattle.slate_types.specs.declared.types.RowEntry.{RowEntry}
 use Rattle.slate_types.specs.declared.iter.IterationOrder.{IterationOrder}
 use Rattle.slate_types.specs.declared.iter.IterationOrder.TheVariants.{Ascending, Descending}
 use Rattle.slate_types.specs.Iteration.{IsInOrder, NoneBefore, comes_before, in_order}
-use Rattle.slate_types.specs.Keys.{in_range, is_refused, key_lt}
+use Rattle.slate_types.specs.Keys.{in_range, is_refused}
 use Rattle.slate_read.specs.RangeRows.{IsRangeOf}
+use Rattle.slate_read.specs.declared.fetch_limits.FetchLimits.{FetchLimits}
 use Rattle.slate_read.specs.declared.filter_iterator.FilterIterator.{FilterIterator}
 use Rattle.slate_read.specs.declared.range_rows.InRange.{InRange}
 use Rattle.slate_read.specs.declared.table_state.TableWalk.{TableWalk}
 use Rattle.slate_types.specs.Partitions.{CanHold, covering_end, covering_start}
 use Rattle.slate_types.proofs.PartitionLaws.{covers}
-use Rattle.slate_types.proofs.IterationLaws.{in_order_filtered}
 use Rattle.slate_table.specs.declared.info.SsTableHandle.{SsTableHandle}
 use Rattle.slate_types.specs.World.{Kept, World}
-use Rattle.slate_read.specs.TableWalk.{IsReadable, IsSoundAt, IsSoundWalk, rest_of, is_in, path_in, rest_at, rest_covered, rest_in, rows_between, rows_in}
+use Rattle.slate_read.specs.TableWalk.{IsReadable, IsSoundAt, IsSoundWalk, rest_of, is_in, rest_at, rest_covered, rows_between, rows_in}
 use Rattle.slate_read.specs.declared.table_state.TableState.TheVariants.{New}
 
 front_holds : (p : RowEntry → Bool) (blocks : List (List RowEntry)) (stop : ℕ) → ((i : ℕ) (b : List RowEntry) → slice_get blocks i ≡ Some b → stop ≤ i → filter p b ≡ []) →
@@ -78,7 +78,7 @@ filter_reverse p (r ∷ rs) = ap (filter p) (reverse-append (r ∷ []) rs) ∙ f
     by true = sym (reverse-append (r ∷ []) (filter p rs))
     by false = append-nil (reverse (filter p rs))
 
-filter_order : (order : IterationOrder) (p : RowEntry → Bool) (rows : List RowEntry) → filter p (in_order order rows) ≡ in_order order (filter p rows)
+pub filter_order : (order : IterationOrder) (p : RowEntry → Bool) (rows : List RowEntry) → filter p (in_order order rows) ≡ in_order order (filter p rows)
 filter_order Ascending p rows = refl
 filter_order Descending p rows = filter_reverse p rows
 
@@ -90,7 +90,7 @@ range_rows w h kept range order table =
 
 -- ---- rows in an order
 
-in_front : (o : IterationOrder) (xs ys : List RowEntry) → IsInOrder o (xs ++ ys) → IsInOrder o xs
+pub in_front : (o : IterationOrder) (xs ys : List RowEntry) → IsInOrder o (xs ++ ys) → IsInOrder o xs
 in_front o [] ys h = tt
 in_front o (x ∷ xs) ys h = (none xs h.0, in_front o xs ys h.1)
   where
@@ -102,12 +102,12 @@ pub in_back : (o : IterationOrder) (xs ys : List RowEntry) → IsInOrder o (xs +
 in_back o [] ys h = h
 in_back o (x ∷ xs) ys h = in_back o xs ys h.1
 
-blocks_split : (bs : List (List RowEntry)) (n : ℕ) → flat_map (λ b. b) bs ≡ flat_map (λ b. b) (take n bs) ++ flat_map (λ b. b) (drop n bs)
+pub blocks_split : (bs : List (List RowEntry)) (n : ℕ) → flat_map (λ b. b) bs ≡ flat_map (λ b. b) (take n bs) ++ flat_map (λ b. b) (drop n bs)
 blocks_split bs zero = refl
 blocks_split [] (suc n) = refl
 blocks_split (b ∷ bs) (suc n) = ap (λ (l : List RowEntry). b ++ l) (blocks_split bs n) ∙ sym (append_assoc b (flat_map (λ x. x) (take n bs)) (flat_map (λ x. x) (drop n bs)))
 
-in_part : (o : IterationOrder) (bs : List (List RowEntry)) (i n : ℕ) → IsInOrder o (flat_map (λ b. b) bs) → IsInOrder o (flat_map (λ b. b) (take n (drop i bs)))
+pub in_part : (o : IterationOrder) (bs : List (List RowEntry)) (i n : ℕ) → IsInOrder o (flat_map (λ b. b) bs) → IsInOrder o (flat_map (λ b. b) (take n (drop i bs)))
 in_part o bs i n h =
     let behind = in_back o (flat_map (λ b. b) (take i bs)) (flat_map (λ b. b) (drop i bs)) (subst (IsInOrder o) (blocks_split bs i) h) in
     in_front o (flat_map (λ b. b) (take n (drop i bs))) (flat_map (λ b. b) (drop n (drop i bs))) (subst (IsInOrder o) (blocks_split (drop i bs) n) behind)
@@ -128,7 +128,7 @@ turned_order : (xs : List RowEntry) → IsInOrder Ascending xs → IsInOrder Des
 turned_order [] h = tt
 turned_order (x ∷ xs) h = subst (IsInOrder Descending) (sym (reverse-append (x ∷ []) xs)) (order_last (reverse xs) x (turned_order xs h.1) (none_turned Ascending x.key xs h.0))
 
-either_order : (order : IterationOrder) (rows : List RowEntry) → IsInOrder Ascending rows → IsInOrder order (in_order order rows)
+pub either_order : (order : IterationOrder) (rows : List RowEntry) → IsInOrder Ascending rows → IsInOrder order (in_order order rows)
 either_order Ascending rows h = h
 either_order Descending rows h = turned_order rows h
 
@@ -141,9 +141,9 @@ unbegun w h kept range order table =
       rising = subst (IsInOrder order) (sym (ap (rest_covered range order) table.held)) (either_order order (rows_between kept first (covering_end kept.keys first range.end)) (in_part Ascending kept.blocks first (covering_end kept.keys first range.end - first) table.rising));
     }
 
-pub is_range : (range kept_range : BytesRange) (table : SsTableHandle) (order : IterationOrder) (fits : is_refused range.start range.end ≡ false) (it : FilterIterator TableWalk InRange) →
-    it.iterator ≡ record { range = range; table = table; order = order; state = New; fits = fits } → it.predicate ≡ record { range = kept_range } → kept_range ≡ range → IsRangeOf range table order it
-is_range range kept_range table order fits it is keeps same = λ w kept readable. (
+pub is_range : (range kept_range : BytesRange) (table : SsTableHandle) (order : IterationOrder) (limits : FetchLimits) (fits : is_refused range.start range.end ≡ false) (it : FilterIterator TableWalk InRange) →
+    it.iterator ≡ record { range = range; table = table; order = order; limits = limits; state = New; fits = fits } → it.predicate ≡ record { range = kept_range } → kept_range ≡ range → IsRangeOf range table order it
+is_range range kept_range table order limits fits it is keeps same = λ w kept readable. (
   subst (λ (x : TableWalk). IsSoundWalk x w) (sym is) (unbegun w table kept range order readable),
   (λ i. filter (is_in ((ap (λ (p : InRange). p.range) keeps ∙ same) i)) (rest_of (is i) w)) ∙ range_rows w table kept range order readable,
 )

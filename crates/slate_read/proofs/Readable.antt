@@ -1,6 +1,6 @@
 -- A table that is put is what a walk rests on.
 use Rattle.std.proofs.Common.{◌≡◌, ◌⊎◌, inl, inr, ◌<◌, ◌≤◌, ◌+◌, ◌-◌, ◌^◌, ℕ, suc, zero, Bool, true, false, List, [], ◌∷◌, ◌++◌, length, map, flat_map, take, drop, Option, Some, None, refl, sym, ap, subst, ◌∙◌, arith}
-use Rattle.std.specs.Prelude.{Contains, IsSorted, Result, Ok, Err, bytes_eq, slice_get}
+use Rattle.std.specs.Prelude.{Contains, IsSorted, Ok, bytes_eq, slice_get}
 use Rattle.std.specs.List.{AllByRecursion}
 use Rattle.std.proofs.lemmas.List.{length-append, length-map}
 use Rattle.std.proofs.lemmas.Option.{same_Some}
@@ -19,7 +19,7 @@ use Rattle.slate_types.specs.Outside.{Objects}
 use Rattle.slate_types.specs.Partitions.{CanHold}
 use Rattle.slate_types.specs.Rows.{of_key, row_lt}
 use Rattle.std.specs.Prelude.{IsTrue}
-use Rattle.slate_store.specs.Store.{Act, object_at, part_of}
+use Rattle.slate_store.specs.Store.{object_at, part_of}
 use Rattle.slate_block.specs.declared.block.Block.{Block}
 use Rattle.slate_block.specs.BlockSpelling.{as_read, places, IsBlockOf}
 use Rattle.slate_block.specs.ReadingLaws.{EachIsAByte}
@@ -29,12 +29,12 @@ use Rattle.slate_block.proofs.BlocksReadAgainV2.{block_again as again_v2}
 use Rattle.slate_table.specs.declared.info.SsTableHandle.{SsTableHandle}
 use Rattle.slate_table.specs.Decoded.{Info}
 use Rattle.slate_table.specs.FileLaws.{BlocksReadAreTheTables, IndexIsFound, IndexIsTheTables, InfosAreTheTables, index_section, stats_section, HoldsTable, paired, table_entries, table_info}
-use Rattle.slate_table.specs.Finding.{IsTableWith, encloses, blocks_answer, index_answer}
+use Rattle.slate_table.specs.Finding.{IsTableWith, encloses, index_answer}
 use Rattle.slate_table.specs.IndexReading.{index_keys}
 use Rattle.slate_table.specs.InfoReading.{seen_info}
 use Rattle.slate_table.specs.Parts as P
 use Rattle.slate_table.specs.Parts.{Encode, index_bytes, section, separators, sum_fits, summed}
-use Rattle.slate_table.specs.Reading.{AreBlocksRead, IsBlockRead, IsIndexRead, Reads, RefusesBlock, RefusesBlocks, RefusesIndex, block_answer, block_start, blocks_size, whole_answer}
+use Rattle.slate_table.specs.Reading.{AreBlocksRead, IsBlockRead, IsIndexRead, Reads, RefusesBlock, RefusesIndex, block_answer, block_start, blocks_size, whole_answer}
 use Rattle.slate_table.specs.Table.{filter_section, info_of, later_sections, placed, AreInOrder, IsTableOf, block_sections, blocks_end, table_places}
 use Rattle.slate_table.specs.TableEnd.{HasInfo}
 use Rattle.slate_table.proofs.IndexLaws.{places_count, separators_count}
@@ -57,7 +57,7 @@ use Rattle.slate_types.specs.World.{Kept, Place, World}
 use Rattle.slate_read.specs.Readable.{kept_of}
 use Rattle.slate_read.specs.TableWalk.{IsReadable, block_part, index_part, path_in, size_of, start_of}
 use Rattle.slate_read.specs.WalkLaws.{whole_part}
-use Rattle.slate_read.proofs.Fetches.{one_answer}
+use Rattle.slate_read.proofs.OneBlock.{one_answer}
 
 not_newer : (a b : ℕ) → nat_lt b a ≡ true → is_lt (nat_cmp a b) ≡ false
 not_newer a b h = by (nat_lt a b) (a == b) refl

@@ -1,27 +1,23 @@
 -- What a seek leaves of a table.
-use Rattle.std.proofs.Common.{◌≡◌, ◌⊎◌, inl, inr, ◌<◌, ◌≤◌, ◌+◌, ◌-◌, ℕ, suc, zero, Bool, true, false, cond, List, [], ◌∷◌, ◌++◌, take, drop, length, flat_map, Option, Some, None, refl, sym, ap, subst, ◌∙◌, arith}
+use Rattle.std.proofs.Common.{◌≡◌, ◌⊎◌, inl, inr, ◌<◌, ◌≤◌, ℕ, suc, Bool, true, false, cond, List, [], ◌∷◌, ◌++◌, length, Option, Some, None, refl, sym, ap, subst, ◌∙◌, arith}
 use Rattle.std.specs.Prelude.{IsOk, Result, Ok, Err, slice_get}
 use Rattle.std.proofs.lemmas.List.{length-append}
 use Rattle.slate_types.specs.declared.error.SlateDBError.{SlateDBError}
-use Rattle.slate_types.specs.declared.error.SlateDBError.TheVariants.{OutOfMemory}
 use Rattle.slate_types.specs.declared.types.RowEntry.{RowEntry}
 use Rattle.slate_types.specs.declared.iter.IterationOrder.{IterationOrder}
 use Rattle.slate_types.specs.Iteration.{IsInOrder, NoneBefore, comes_before, drop_before, in_order}
-use Rattle.slate_types.specs.Outside.{Counts, IsCounted}
-use Rattle.slate_store.specs.Store.{Act}
 use Rattle.slate_block.specs.declared.block.Block.{Block}
 use Rattle.slate_block.specs.declared.data_block_iterator.DataBlockIterator.{DataBlockIterator}
-use Rattle.slate_block.specs.BlockWalks.{IsRising, left, rows_of, Refuses}
+use Rattle.slate_block.specs.BlockWalks.{IsRising, left, rows_of}
 use Rattle.slate_block.specs.EitherVersion.{left_of}
-use Rattle.slate_block.specs.Walks.{RowRead, all_ok}
+use Rattle.slate_block.specs.Walks.{RowRead}
 use Rattle.slate_table.specs.declared.info.SsTableHandle.{SsTableHandle}
 use Rattle.slate_read.specs.declared.table_state.Cursor.{Cursor}
-use Rattle.slate_types.specs.World.{Kept, World, Made, Sees}
-use Rattle.slate_types.specs.Outside.{Meaning, Reach}
-use Rattle.slate_types.specs.Refusing.{IsDamage, NoMore}
-use Rattle.slate_read.specs.TableWalk.{IsSoundCursor, IsSoundRising, IsWhole, RefusesLeft, SkipsOpen, Sought, left_in, path_in, reads_in, refuses_behind, rest_after, rest_behind, rest_sought, rows_between}
+use Rattle.slate_types.specs.World.{World, Sees}
+use Rattle.slate_types.specs.Outside.{Reach}
+use Rattle.slate_read.specs.TableWalk.{IsSoundCursor, IsSoundRising, IsWhole, RefusesLeft, SkipsOpen, Sought, left_in, reads_in, refuses_behind, rest_after, rest_behind, rest_sought, rows_between}
 use Rattle.slate_types.proofs.Calls.{call_none, checks_none}
-use Rattle.slate_read.proofs.Cursors.{fewer_after, nothing_left, sound_after}
+use Rattle.slate_read.proofs.Cursors.{fewer_after, nothing_left, same_ready, same_refused, sound_after}
 use Rattle.slate_read.proofs.Few.{ok_count}
 use Rattle.slate_types.proofs.Moves.{Moves, moves_both}
 
@@ -31,14 +27,14 @@ both : (b : Bool) → (b ≡ true) ⊎ (b ≡ false)
 both true = inl refl
 both false = inr refl
 
-drop_twice : (o : IterationOrder) (k : List ℕ) (xs ys : List RowEntry) → drop_before o k (drop_before o k xs ++ ys) ≡ drop_before o k (xs ++ ys)
+pub drop_twice : (o : IterationOrder) (k : List ℕ) (xs ys : List RowEntry) → drop_before o k (drop_before o k xs ++ ys) ≡ drop_before o k (xs ++ ys)
 drop_twice o k [] ys = refl
 drop_twice o k (x ∷ xs) ys = elim (both (comes_before o x.key k)) as (λ _. drop_before o k (drop_before o k (x ∷ xs) ++ ys) ≡ drop_before o k ((x ∷ xs) ++ ys)) [
   | inl e ↦ rw e (drop_twice o k xs ys)
   | inr e ↦ rw e (rw e refl)
 ]
 
-drop_done : (o : IterationOrder) (k : List ℕ) (xs ys : List RowEntry) → 0 < length (drop_before o k xs) → drop_before o k (drop_before o k xs ++ ys) ≡ drop_before o k xs ++ ys
+pub drop_done : (o : IterationOrder) (k : List ℕ) (xs ys : List RowEntry) → 0 < length (drop_before o k xs) → drop_before o k (drop_before o k xs ++ ys) ≡ drop_before o k xs ++ ys
 drop_done o k [] ys h = absurd (omega (arith, h))
 drop_done o k (x ∷ xs) ys h = by (comes_before o x.key k) refl (drop_done o k xs ys) h
   where
@@ -128,16 +124,16 @@ skipped_rest h order key x y some w skips index first stop s =
     let rows = skipped_rows order key x.rows y.rows some skips s.0.whole (front_order order (left_in x.rows) (in_order order (rows_between s.0.kept x.first x.stop)) (subst (IsInOrder order) (rest_held h order x w s.0) s.1)) in
     (ap (rest_behind y order) s.0.table.held ∙ (λ i. rows.0 i ++ in_order order (rows_between s.0.kept (first i) (stop i))), rows.1)
 
-pub skip_moves : (h : SsTableHandle) (order : IterationOrder) (key : List ℕ) (t : Reach) (x y : Cursor) (some : Bool) → SkipsOpen key x.rows some y.rows → y.index ≡ x.index → y.first ≡ x.first → y.stop ≡ x.stop →
+pub skip_moves : (h : SsTableHandle) (order : IterationOrder) (key : List ℕ) (t : Reach) (x y : Cursor) (some : Bool) → SkipsOpen key x.rows some y.rows → y.index ≡ x.index → y.first ≡ x.first → y.stop ≡ x.stop → y.ready ≡ x.ready →
     Moves (rest_sought h order key) (IsSoundRising h order) (refuses_behind h order) t t x y
-skip_moves h order key t x y some skips index first stop = record {
+skip_moves h order key t x y some skips index first stop ready = record {
   rows = λ w sees s. ap (drop_before order key) (skipped_rest h order key x y some w skips index first stop s).0 ∙ drop_twice order key (left_in x.rows) (in_order order (rows_between s.0.kept x.first x.stop)) ∙ ap (drop_before order key) (sym (rest_held h order x w s.0));
   still = λ w sees s. (
-    sound_after h order x y w index s.0 (skipped_rest h order key x y some w skips index first stop s).1,
+    sound_after h order x y w index s.0 (same_ready h order s.0.kept x y first stop ready s.0.ready) (skipped_rest h order key x y some w skips index first stop s).1,
     subst (IsInOrder order) (sym (skipped_rest h order key x y some w skips index first stop s).0) (order_dropped order key (left_in x.rows) (in_order order (rows_between s.0.kept x.first x.stop)) (subst (IsInOrder order) (rest_held h order x w s.0) s.1)),
   );
   checked = λ w s. checks_none w t;
-  made = ([], call_none t, fewer_after h order t.meaning x y index (λ e r. skipped_no_more key x.rows y.rows some e skips r));
+  made = ([], call_none t, fewer_after h order t.meaning x y index (λ e r. skipped_no_more key x.rows y.rows some e skips r) (λ e r. same_refused h.format_version order x y e ready r));
 }
 
 -- ---- the end of a seek
@@ -152,8 +148,8 @@ done h order key a b x y m stay = record {
 }
 
 pub done_some : (h : SsTableHandle) (order : IterationOrder) (key : List ℕ) (a b : Reach) (x y z : Cursor) → Moves (rest_sought h order key) (IsSoundRising h order) (refuses_behind h order) a b x y →
-    SkipsOpen key y.rows true z.rows → z.index ≡ y.index → z.first ≡ y.first → z.stop ≡ y.stop → Sought (rest_after h order) (IsSoundRising h order) (refuses_behind h order) order key a b x z
-done_some h order key a b x y z m skips index first stop = done h order key a b x z (moves_both (rest_sought h order key) (IsSoundRising h order) (refuses_behind h order) a b b x y z m (skip_moves h order key b y z true skips index first stop)) stay
+    SkipsOpen key y.rows true z.rows → z.index ≡ y.index → z.first ≡ y.first → z.stop ≡ y.stop → z.ready ≡ y.ready → Sought (rest_after h order) (IsSoundRising h order) (refuses_behind h order) order key a b x z
+done_some h order key a b x y z m skips index first stop ready = done h order key a b x z (moves_both (rest_sought h order key) (IsSoundRising h order) (refuses_behind h order) a b b x y z m (skip_moves h order key b y z true skips index first stop ready)) stay
   where
     stay : (w : World) → Sees w a b → IsSoundRising h order x w → rest_after h order z w ≡ drop_before order key (rest_after h order z w)
     stay w sees s =
@@ -168,11 +164,11 @@ done_some h order key a b x y z m skips index first stop = done h order key a b 
         r.0 ∙ sym (drop_done order key (left_in y.rows) behind more) ∙ ap (drop_before order key) (sym r.0)
 
 pub done_none : (h : SsTableHandle) (order : IterationOrder) (key : List ℕ) (a b : Reach) (x y z : Cursor) → Moves (rest_sought h order key) (IsSoundRising h order) (refuses_behind h order) a b x y →
-    SkipsOpen key y.rows false z.rows → z.index ≡ y.index → z.first ≡ y.first → z.stop ≡ y.stop → z.stop ≤ z.first → Sought (rest_after h order) (IsSoundRising h order) (refuses_behind h order) order key a b x z
-done_none h order key a b x y z m skips index first stop over = done h order key a b x z moved stay
+    SkipsOpen key y.rows false z.rows → z.index ≡ y.index → z.first ≡ y.first → z.stop ≡ y.stop → z.ready ≡ y.ready → z.stop ≤ z.first → Sought (rest_after h order) (IsSoundRising h order) (refuses_behind h order) order key a b x z
+done_none h order key a b x y z m skips index first stop ready over = done h order key a b x z moved stay
   where
     moved : Moves (rest_sought h order key) (IsSoundRising h order) (refuses_behind h order) a b x z
-    moved = moves_both (rest_sought h order key) (IsSoundRising h order) (refuses_behind h order) a b b x y z m (skip_moves h order key b y z false skips index first stop)
+    moved = moves_both (rest_sought h order key) (IsSoundRising h order) (refuses_behind h order) a b b x y z m (skip_moves h order key b y z false skips index first stop ready)
 
     stay : (w : World) → Sees w a b → IsSoundRising h order x w → rest_after h order z w ≡ drop_before order key (rest_after h order z w)
     stay w sees s =

@@ -23,11 +23,12 @@ pub table_turn : (w : World) (table : SsTableHandle) (kept : Kept) (range : Byte
 table_turn w table kept range order readable = either_turn order (filter (is_in range) (flat_map (λ b. b) kept.blocks)) (turn_filtered (row_before Ascending) (is_in range) (flat_map (λ b. b) kept.blocks) readable.turn)
 
 pub is_table_iterator : (range : BytesRange) (table : SsTableHandle) (order : IterationOrder) (source : FilterIterator TableWalk InRange) (it : NewestFirst (FilterIterator TableWalk InRange)) →
-    IsRangeOf range table order source → source.iterator.order ≡ order → IsUnopened source.iterator.state → it.range ≡ range → it.iterator ≡ source → it.progress ≡ New → IsTableIterator range table order it
-is_table_iterator range table order source it is same unopened within from new = record {
+    IsRangeOf range table order source → source.iterator.order ≡ order → IsUnopened source.iterator.state → source.iterator.table ≡ table → it.range ≡ range → it.iterator ≡ source → it.progress ≡ New → IsTableIterator range table order it
+is_table_iterator range table order source it is same unopened over_table within from new = record {
   within = within;
   fresh = new;
   unopened = subst (λ (s : FilterIterator TableWalk InRange). IsUnopened s.iterator.state) (sym from) unopened;
+  over_table = ap (λ (s : FilterIterator TableWalk InRange). s.iterator.table) from ∙ over_table;
   brings = brings;
 }
   where

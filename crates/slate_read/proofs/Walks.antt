@@ -1,6 +1,6 @@
 -- The laws of a walk over a table, and what its calls do.
 use Rattle.std.proofs.Common.{◌≡◌, ◌≢◌, ◌⊎◌, inl, inr, ℕ, List, [], ◌++◌, Option, Some, None, refl, sym, ap, subst, ◌∙◌, arith}
-use Rattle.std.specs.Prelude.{Contains}
+use Rattle.std.specs.Prelude.{Contains, slice_get}
 use Rattle.std.specs.List.{AllByRecursion}
 use Rattle.std.proofs.lemmas.List.Elements.{Contains-append_left}
 use Rattle.slate_types.specs.declared.bytes_range.BytesRange.{BytesRange}
@@ -25,7 +25,7 @@ use Rattle.slate_types.specs.World.{IsSlip, Kept, World, AnswersWorld, Made, See
 use Rattle.slate_types.specs.Outside.{Meaning, Reach}
 use Rattle.slate_types.specs.Refusing.{IsDamage, NoMoreBut}
 use Rattle.slate_types.specs.Steps.{Step}
-use Rattle.slate_read.specs.TableWalk.{BeginsIn, IsSoundRising, IsWalking, StaysIn, Sought, Begins, BeginsAt, IsIndexed, RefusesIndexed, left_in, rest_behind, rest_covered, rows_between, IsReadable, IsSoundAt, IsSoundCursor, IsWhole, Keeps, RefusesLeft, RefusesSome, RefusesUnread, index_part, no_words, path_in, refuses_at, refuses_behind, refuses_in, rest_after, rest_at}
+use Rattle.slate_read.specs.TableWalk.{AreReadAhead, BeginsIn, IsSoundRising, IsWalking, StaysIn, Sought, Begins, BeginsAt, IsIndexed, RefusesIndexed, left_in, rest_behind, rest_covered, rows_between, IsReadable, IsSoundAt, IsSoundCursor, IsWhole, Keeps, RefusesLeft, RefusesReady, RefusesSome, RefusesUnread, index_part, no_words, path_in, refuses_at, refuses_behind, refuses_in, rest_after, rest_at}
 use Rattle.slate_types.proofs.Calls.{call_none, seen}
 use Rattle.slate_read.specs.WalkLaws.{known_answer, refuses_whole, some_more, whole_part}
 use Rattle.slate_read.proofs.Cursors.{AllOrSlip, call_checked, section_checked}
@@ -33,7 +33,7 @@ use Rattle.slate_types.proofs.Moves.{Moves}
 use Rattle.slate_types.specs.Partitions.{covering_end, covering_start}
 use Rattle.slate_table.specs.IndexReading.{index_keys}
 
-outer_undamaged : (i j : Counts) (e : SlateDBError) → IsCounted i j e → ¬ IsDamage e
+pub outer_undamaged : (i j : Counts) (e : SlateDBError) → IsCounted i j e → ¬ IsDamage e
 outer_undamaged i j OutOfMemory h = λ d. d
 outer_undamaged i j StoreFault h = λ d. d
 outer_undamaged i j (Callback m) h = λ d. d
@@ -187,7 +187,7 @@ begins_moves range h order a b x y entries ex begins (reads, call, read) =
     walked cursor at = record {
       rows = rows;
       still = λ w sees sound. record {
-        state = record { kept = sound.state.0; table = sound.state.1; index = at.index ∙ same w sees sound; whole = subst (IsWhole order) (sym at.rows) tt };
+        state = record { kept = sound.state.0; table = sound.state.1; index = at.index ∙ same w sees sound; ready = none_ready w sound.state.0; whole = subst (IsWhole order) (sym at.rows) tt };
         rising = subst (IsInOrder order) (sym (rows w sees sound)) sound.rising;
       };
       checked = λ w sound. call_checked w a b reads call (index_checked w a.meaning h sound.state.0 sound.state.1 reads entries read);
@@ -207,9 +207,13 @@ begins_moves range h order a b x y entries ex begins (reads, call, read) =
             let here : rest_behind cursor order (Some kept) ≡ rest_covered range order (Some kept) = (λ i. left_in (at.rows i) ++ in_order order (rows_between kept (first i) (stop i))) in
             ap (rest_behind cursor order) held ∙ here ∙ sym (ap (rest_covered range order) held)
 
-        fewer : (later : List Act) (e : SlateDBError) → RefusesLeft cursor.rows e ⊎ RefusesSome a.meaning h (entries_of cursor.index) order later e → RefusesUnread a.meaning h order (reads ++ later) e
+        none_ready : (w : World) (kept : Kept) → AreReadAhead h order kept cursor
+        none_ready w kept n block rows is there bytes = let clash : None ≡ Some block = ap (λ (l : List Block). slice_get l n) (sym at.ready) ∙ is in cc
+
+        fewer : (later : List Act) (e : SlateDBError) → RefusesLeft cursor.rows e ⊎ RefusesReady h.format_version order cursor.ready.items e ⊎ RefusesSome a.meaning h (entries_of cursor.index) order later e → RefusesUnread a.meaning h order (reads ++ later) e
         fewer later e (inl k) = absurd (subst (λ (o : Option (DataBlockIterator Block)). RefusesLeft o e) at.rows k)
-        fewer later e (inr k) = indexed_fewer a.meaning h order reads later entries e read (subst (λ (es : List (ℕ × List ℕ)). RefusesSome a.meaning h es order later e) at.index k)
+        fewer later e (inr (inl k)) = let clash : None ≡ Some k.1 = ap (λ (l : List Block). slice_get l k.0) (sym at.ready) ∙ k.2 in absurd cc
+        fewer later e (inr (inr k)) = indexed_fewer a.meaning h order reads later entries e read (subst (λ (es : List (ℕ × List ℕ)). RefusesSome a.meaning h es order later e) at.index k)
 
     by : (s : TableState) → Begins range entries s → Moves (rest_at range h order) (IsSoundAt range h order) (refuses_at h order) a b New s
     by New k = absurd k

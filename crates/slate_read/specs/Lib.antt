@@ -1,5 +1,6 @@
 pub mod Filtering
 pub mod TableWalk
+pub mod Sections
 pub mod WalkLaws
 pub mod RangeRows
 pub mod Readable
@@ -25,7 +26,8 @@ pub mod MergeStateLaws
 pub mod MergedLaws
 pub mod Required
 pub mod Peeking
+pub mod RunWalk
 pub mod RunIterators
+pub mod Showing
 pub mod RunLaws
-pub mod ShownBy
 pub mod ReadSources

@@ -54,4 +54,5 @@ pub record IsTableIterator (range : BytesRange) (table : SsTableHandle) (order :
   pub within : it.range ≡ range
   pub fresh : IsNew it.progress
   pub unopened : IsUnopened it.iterator.iterator.state
+  pub over_table : it.iterator.iterator.table ≡ table
   pub brings : (w : World) (kept : Kept) → IsReadable w table kept → BringsRows w order it (in_turn order (rows_in range order kept))

@@ -2,15 +2,17 @@
 --     root, path_in h      the folder of the store's objects, and where a table stands
 --     index_size, index_start, start_of, size_of      where the sections of the index and of a block lie
 --     Walks version order block it      what a block's walk has at its start
---     IsWalkRead decode version order answer it      a section was read whose block is walked so
 --     RefusesWalk decode version order answer e      the section is refused, or its block, or a row of that
 --     max_blocks, max_reads      a table has fewer blocks, and a walk over a block not more rows
 --     rows_between kept first stop      the rows of neighbouring blocks
 --     rest_of it w, bound_of it, refuses_of it      of a walk over a table
+--     nth_block order first stop n      the number of a block of a row of neighbours, by how many come before it in the order
+--     IsFetched p h entries first stop reads blocks      neighbouring blocks were read by one read
+--     IsNextFetch h order limit cursor first stop      the blocks that the next read takes
 --     IsReadable p h kept      an object is a table of this handle, whose blocks have these rows
 --     IsSoundWalk it w      what the rest of a walk rests on
 --     Stays before at e after      it refuses, and stands as it stood, or keeps the refusal
-use Rattle.std.specs.Prelude.{◌≡◌, ◌≢◌, ◌⊎◌, ℕ, ◌+◌, ◌-◌, ◌*◌, ◌^◌, ◌<◌, ◌≤◌, true, List, [], ◌∷◌, ◌++◌, length, flat_map, slice_get, slice_range, Contains, IsSorted, Bool, false, filter, codes, Option, Some, None, Ok, Err, IsOk}
+use Rattle.std.specs.Prelude.{◌≡◌, ◌≢◌, ◌⊎◌, ℕ, zero, suc, ◌+◌, ◌-◌, ◌*◌, ◌^◌, ◌<◌, ◌≤◌, true, List, [], ◌∷◌, ◌++◌, drop, length, flat_map, slice_get, slice_range, Contains, IsSorted, Bool, false, filter, codes, Option, Some, None, Ok, Err, IsOk}
 use Rattle.std.specs.List.{AllByRecursion}
 use Rattle.slate_types.specs.declared.bytes_range.BytesRange.{BytesRange}
 use Rattle.slate_types.specs.declared.error.SlateDBError.{SlateDBError}
@@ -37,7 +39,7 @@ use Rattle.slate_table.specs.IndexReading.{index_keys}
 use Rattle.slate_table.specs.IndexValue.{entries_of}
 use Rattle.slate_table.specs.Parts.{Encode, summed}
 use Rattle.slate_table.specs.Paths.{path_of}
-use Rattle.slate_table.specs.Reading.{whole_answer, IsIndexRead, RefusesIndex, IsBlockRead, RefusesBlock, block_start, blocks_size}
+use Rattle.slate_table.specs.Reading.{whole_answer, IsIndexRead, RefusesIndex, AreBlocksRead, IsBlockRead, RefusesBlock, block_answer, block_start, blocks_size}
 use Rattle.slate_read.specs.declared.table_state.TableWalk.{TableWalk}
 use Rattle.slate_read.specs.declared.table_state.TableState.{TableState}
 use Rattle.slate_read.specs.declared.table_state.TableState.TheVariants.{New, Walking, Refused}
@@ -61,13 +63,20 @@ start_of h entries block = block_start h.info.filter_offset entries block
 abbrev pub size_of : SsTableHandle → List (ℕ × List ℕ) → ℕ → ℕ
 size_of h entries block = blocks_size h.info.filter_offset entries block (block + 1)
 
+-- of neighbouring blocks, their read, and what it says of the section of one of them
+abbrev pub size_between : SsTableHandle → List (ℕ × List ℕ) → ℕ → ℕ → ℕ
+size_between h entries first stop = blocks_size h.info.filter_offset entries first stop
+
+abbrev pub read_of : SsTableHandle → List (ℕ × List ℕ) → ℕ → ℕ → Option (List ℕ) → Act
+read_of h entries first stop given = Act.read (path_in h) (start_of h entries first) (size_between h entries first stop) given
+
+abbrev pub answer_at : SsTableHandle → List (ℕ × List ℕ) → ℕ → ℕ → Option (List ℕ) → ℕ → Option (List ℕ)
+answer_at h entries first stop given block = block_answer h.info.filter_offset entries first (whole_answer (size_between h entries first stop) given) block
+
 pub record Walks (version : ℕ) (order : IterationOrder) (block : Block) (it : ReadsLeft) : Type 0 where
   pub same_order : it.order ≡ order
   pub reads : ((version ≡ 1) × (block_reads 1 block.body block.offsets.items ≡ Ok (in_order order it.reads))) ⊎ ((version ≡ 2) × (it.reads ≡ walk_in order block.body block.offsets.items))
   pub rows : (rows : List RowEntry) → block_rows version block.body block.offsets.items ≡ Ok rows → left it ≡ Ok (in_order order rows)
-
-unfoldable pub IsWalkRead : Encode → ℕ → IterationOrder → Option (List ℕ) → ReadsLeft → Type 0
-IsWalkRead decode version order answer it = (block : Block) × EachIsAByte block.body × IsBlockRead decode answer block × Walks version order block it
 
 -- the block begins no walk, or one of its rows is refused
 abbrev pub RefusesRows : ℕ → IterationOrder → Block → SlateDBError → Type 0
@@ -126,14 +135,25 @@ bound_in (Refused e) = 0
 
 -- ---- refusals, by the reads from now on
 
-abbrev pub RefusesSome : Meaning → SsTableHandle → List (ℕ × List ℕ) → IterationOrder → List Act → SlateDBError → Type 0
-RefusesSome p h entries order reads e =
-    (block : ℕ) × (given : Option (List ℕ)) × (block < length entries) × Contains reads (Act.read (path_in h) (start_of h entries block) (size_of h entries block) given)
-    × RefusesWalk p.decode h.format_version order (whole_answer (size_of h entries block) given) e
+-- a read of neighbouring blocks refuses one of them
+pub record RefusesSome (p : Meaning) (h : SsTableHandle) (entries : List (ℕ × List ℕ)) (order : IterationOrder) (reads : List Act) (e : SlateDBError) : Type 0 where
+  pub first : ℕ
+  pub stop : ℕ
+  pub at : ℕ
+  pub given : Option (List ℕ)
+  pub from : first ≤ at
+  pub below : at < stop
+  pub within : stop ≤ length entries
+  pub among : Contains reads (read_of h entries first stop given)
+  pub why : RefusesWalk p.decode h.format_version order (answer_at h entries first stop given at) e
 
 abbrev pub RefusesLeft : Option (DataBlockIterator Block) → SlateDBError → Type 0
 RefusesLeft None e = ⊥
 RefusesLeft (Some it) e = Refuses (left_of it).reads e
+
+-- a block that was read ahead begins no walk, or one of its rows is refused
+abbrev pub RefusesReady : ℕ → IterationOrder → List Block → SlateDBError → Type 0
+RefusesReady version order ready e = (n : ℕ) × (block : Block) × (slice_get ready n ≡ Some block) × EachIsAByte block.body × RefusesRows version order block e
 
 abbrev pub RefusesUnread : Meaning → SsTableHandle → IterationOrder → List Act → SlateDBError → Type 0
 RefusesUnread p h order reads e =
@@ -142,7 +162,7 @@ RefusesUnread p h order reads e =
     ⊎ ((entries : List (ℕ × List ℕ)) × IsIndexRead p.decode h.info.filter_offset (whole_answer h.info.index_len given) entries × RefusesSome p h entries order reads e))
 
 abbrev pub refuses_behind : SsTableHandle → IterationOrder → Cursor → Meaning → List Act → Option (List ℕ) → SlateDBError → Type 0
-refuses_behind h order cursor p reads at e = IsDamage e × (RefusesLeft cursor.rows e ⊎ RefusesSome p h (entries_of cursor.index) order reads e)
+refuses_behind h order cursor p reads at e = IsDamage e × (RefusesLeft cursor.rows e ⊎ RefusesReady h.format_version order cursor.ready.items e ⊎ RefusesSome p h (entries_of cursor.index) order reads e)
 
 -- a table that wasn't opened; one that is walked; and one that was refused
 abbrev pub refuses_in : TableState → SsTableHandle → IterationOrder → Meaning → List Act → Option (List ℕ) → SlateDBError → Type 0
@@ -185,11 +205,22 @@ abbrev pub IsWhole : IterationOrder → Option (DataBlockIterator Block) → Typ
 IsWhole order None = Unit {0}
 IsWhole order (Some it) = IsOk (left (left_of it)) × ((left_of it).order ≡ order)
 
--- of the table's index, and a block of the table, where it is read
+abbrev pub nth_block : IterationOrder → ℕ → ℕ → ℕ → ℕ
+nth_block Ascending first stop n = first + n
+nth_block Descending first stop n = stop - 1 - n
+
+-- the blocks that were read ahead are the table's next ones in the order
+abbrev pub AreReadAhead : SsTableHandle → IterationOrder → Kept → Cursor → Type 0
+AreReadAhead h order kept cursor =
+    (n : ℕ) (block : Block) (rows : List RowEntry) → slice_get cursor.ready.items n ≡ Some block → slice_get kept.blocks (nth_block order cursor.first cursor.stop n) ≡ Some rows → EachIsAByte block.body
+    → block_rows h.format_version block.body block.offsets.items ≡ Ok rows
+
+-- of the table's index, blocks that were read ahead, and a block of the table, where it is read
 pub record IsSoundCursor (h : SsTableHandle) (order : IterationOrder) (cursor : Cursor) (w : World) : Type 0 where
   pub kept : Kept
   pub table : IsReadable w h kept
   pub index : entries_of cursor.index ≡ table.entries
+  pub ready : AreReadAhead h order kept cursor
   pub whole : IsWhole order cursor.rows
 
 abbrev pub IsSoundState : TableState → SsTableHandle → IterationOrder → World → Type 0
@@ -204,11 +235,10 @@ pub record IsSoundAt (range : BytesRange) (h : SsTableHandle) (order : Iteration
 abbrev pub IsSoundWalk : TableWalk → World → Type 0
 IsSoundWalk it w = IsSoundAt it.range it.table it.order it.state w
 
--- a block was opened by one read of its section
-unfoldable pub IsOpened : Meaning → SsTableHandle → List (ℕ × List ℕ) → ℕ → IterationOrder → List Act → ReadsLeft → Type 0
-IsOpened p h entries block order reads it =
-    (given : Option (List ℕ)) × (reads ≡ Act.read (path_in h) (start_of h entries block) (size_of h entries block) given ∷ [])
-    × IsWalkRead p.decode h.format_version order (whole_answer (size_of h entries block) given) it
+-- neighbouring blocks were read by one read of their sections
+unfoldable pub IsFetched : Meaning → SsTableHandle → List (ℕ × List ℕ) → ℕ → ℕ → List Act → List Block → Type 0
+IsFetched p h entries first stop reads blocks =
+    (given : Option (List ℕ)) × (reads ≡ read_of h entries first stop given ∷ []) × AreBlocksRead p.decode (answer_at h entries first stop given) first blocks × (length blocks ≡ stop - first)
 
 -- ---- what a cursor does
 
@@ -224,16 +254,68 @@ abbrev pub next_stop : IterationOrder → Cursor → ℕ
 next_stop Ascending cursor = cursor.stop
 next_stop Descending cursor = cursor.stop - 1
 
-abbrev pub AreOpened : Meaning → SsTableHandle → List (ℕ × List ℕ) → ℕ → IterationOrder → List Act → Option (DataBlockIterator Block) → Type 0
-AreOpened p h entries block order reads None = ⊥
-AreOpened p h entries block order reads (Some it) = IsOpened p h entries block order reads (left_of it) × (length (left_of it).reads ≤ max_reads)
+abbrev pub AreOpened : ℕ → IterationOrder → Block → Option (DataBlockIterator Block) → Type 0
+AreOpened version order block None = ⊥
+AreOpened version order block (Some it) = Walks version order block (left_of it) × (length (left_of it).reads ≤ max_reads)
 
--- the next block in the order is opened
-pub record Opens (p : Meaning) (h : SsTableHandle) (order : IterationOrder) (reads : List Act) (before after : Cursor) : Type 0 where
+-- the next block in the order, which was read ahead, is opened
+pub record Opens (h : SsTableHandle) (order : IterationOrder) (before after : Cursor) : Type 0 where
   pub index : after.index ≡ before.index
   pub first : after.first ≡ next_first order before
   pub stop : after.stop ≡ next_stop order before
-  pub rows : AreOpened p h (entries_of before.index) (next_block order before) order reads after.rows
+  pub block : Block
+  pub ready : before.ready.items ≡ block ∷ after.ready.items
+  pub bytes : EachIsAByte block.body
+  pub rows : AreOpened h.format_version order block after.rows
+
+-- ---- blocks that are read ahead
+
+-- the sum of the first so many sizes
+abbrev pub size_upto : (ℕ → ℕ) → ℕ → ℕ
+size_upto size zero = 0
+size_upto size (suc n) = size_upto size n + size n
+
+-- so many of the blocks that are left are taken: the first one, and more until they have so many bytes, or no block is left
+pub record IsEnough (size : ℕ → ℕ) (bytes left count : ℕ) : Type 0 where
+  pub some : 0 < count
+  pub within : count ≤ left
+  pub enough : count < left → bytes ≤ size_upto size count
+  pub no_more : (n : ℕ) → 0 < n → n < count → size_upto size n < bytes
+
+-- the blocks that weren't read
+abbrev pub unread_first : IterationOrder → Cursor → ℕ
+unread_first Ascending cursor = cursor.first + length cursor.ready.items
+unread_first Descending cursor = cursor.first
+
+abbrev pub unread_stop : IterationOrder → Cursor → ℕ
+unread_stop Ascending cursor = cursor.stop
+unread_stop Descending cursor = cursor.stop - length cursor.ready.items
+
+-- how many bytes the section of such a block has, by how many come before it in the order
+abbrev pub unread_size : SsTableHandle → List (ℕ × List ℕ) → IterationOrder → ℕ → ℕ → ℕ → ℕ
+unread_size h entries order first stop n = size_of h entries (nth_block order first stop n)
+
+abbrev pub StandsNext : IterationOrder → ℕ → ℕ → ℕ → ℕ → Type 0
+StandsNext Ascending first stop from upto = (from ≡ first) × (upto ≤ stop)
+StandsNext Descending first stop from upto = (upto ≡ stop) × (first ≤ from)
+
+pub record IsNextFetch (h : SsTableHandle) (order : IterationOrder) (bytes : ℕ) (cursor : Cursor) (from upto : ℕ) : Type 0 where
+  pub next : StandsNext order (unread_first order cursor) (unread_stop order cursor) from upto
+  pub some : from < upto
+  pub enough : IsEnough (unread_size h (entries_of cursor.index) order (unread_first order cursor) (unread_stop order cursor)) bytes (unread_stop order cursor - unread_first order cursor) (upto - from)
+
+-- and they were read by one read
+pub record Fetches (p : Meaning) (h : SsTableHandle) (order : IterationOrder) (bytes : ℕ) (reads : List Act) (before after : Cursor) : Type 0 where
+  pub index : after.index ≡ before.index
+  pub first : after.first ≡ before.first
+  pub stop : after.stop ≡ before.stop
+  pub rows : after.rows ≡ before.rows
+  pub from : ℕ
+  pub upto : ℕ
+  pub next : IsNextFetch h order bytes before from upto
+  pub blocks : List Block
+  pub ready : after.ready.items ≡ before.ready.items ++ in_order order blocks
+  pub fetched : IsFetched p h (entries_of before.index) from upto reads blocks
 
 -- a row of the block that is open is taken, or that is spent
 abbrev pub TakesOpen : Option (DataBlockIterator Block) → Option RowEntry → Option (DataBlockIterator Block) → Type 0
@@ -272,6 +354,7 @@ pub record BeginsAt (range : BytesRange) (entries : List (ℕ × List ℕ)) (cur
   pub index : entries_of cursor.index ≡ entries
   pub first : cursor.first ≡ covering_start (index_keys entries) range.start
   pub stop : cursor.stop ≡ covering_end (index_keys entries) cursor.first range.end
+  pub ready : cursor.ready.items ≡ []
   pub rows : cursor.rows ≡ None
 
 abbrev pub Begins : BytesRange → List (ℕ × List ℕ) → TableState → Type 0
@@ -344,9 +427,14 @@ abbrev pub StaysAtEnd : IterationOrder → Cursor → Cursor → Type 0
 StaysAtEnd Ascending before after = after.stop ≡ before.stop
 StaysAtEnd Descending before after = after.first ≡ before.first
 
+abbrev pub passed_over : IterationOrder → Cursor → Cursor → ℕ
+passed_over Ascending before after = after.first - before.first
+passed_over Descending before after = before.stop - after.stop
+
 pub record Jumps (order : IterationOrder) (key : List ℕ) (before after : Cursor) : Type 0 where
   pub index : after.index ≡ before.index
   pub rows : after.rows ≡ before.rows
+  pub ready : after.ready.items ≡ drop (passed_over order before after) before.ready.items
   pub first : before.first ≤ after.first
   pub stop : after.stop ≤ before.stop
   pub end : StaysAtEnd order before after

@@ -60,6 +60,21 @@ impl<I: Drop, P: Drop> FilterIterator<I, P> {
     }
 }
 
+impl<I: Drop> FilterIterator<I, MaxSeq> {
+    /// The rows of the source whose sequence isn't above the number, and all its rows where there is none. Takes no memory.
+    pub fn new_with_max_seq(
+        alloc: Global,
+        iterator: I,
+        max_seq: Option<u64>,
+    ) -> Result<FilterIterator<I, MaxSeq>, SlateDBError>
+        ensures iterator { IfOk result (λ it. it.iterator ≡ iterator) }
+        ensures max_seq { IfOk result (λ it. it.predicate.max_seq ≡ max_seq) }
+        ensures fine { IsOk result }
+    {
+        FilterIterator::new(alloc, iterator, MaxSeq { max_seq })
+    }
+}
+
 impl<E: Outside, I: RowEntryIterator<E>, P: RowPredicate> RowEntryIterator<E>
     for FilterIterator<I, P> {
     ghost rest = { λ it w. filter (P.keeps it.predicate) (I.rest it.iterator w) };

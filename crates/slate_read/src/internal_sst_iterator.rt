@@ -5,6 +5,7 @@ ghost use Rattle.slate_types.specs.Keys.{is_refused};
 ghost use Rattle.slate_read.specs.SstIterators.{IsTableIterator};
 ghost use Rattle.slate_read.specs.SstOptions.{CanFetch};
 
+use crate::fetch_limits::FetchLimits;
 use crate::filter_iterator::FilterIterator;
 use crate::newest_first::NewestFirst;
 use crate::range_rows::{InRange, range_rows};
@@ -33,7 +34,11 @@ impl NewestFirst<FilterIterator<TableWalk, InRange>> {
         ensures cause { IfErr result (λ e. e ≡ SlateDBError.OutOfMemory) }
     {
         let kept = range.clone()?;
-        let source = range_rows(alloc, range, table, options.order)?;
+        let limits = FetchLimits {
+            tasks: options.max_fetch_tasks,
+            bytes: options.target_bytes_to_fetch,
+        };
+        let source = range_rows(alloc, range, table, options.order, limits)?;
         Ok(NewestFirst::over(kept, source))
     }
 }

@@ -6,6 +6,7 @@ ghost use Rattle.slate_read.specs.Merge.{merged};
 ghost use Rattle.slate_read.specs.MergedLaws.{CountIsTheSum, DedupDecides, MergeHasAll, MergeIsByPlace, MergeIsInOrder, MergeIsInTurn, MergeKeepsTests, MergeOfNone, MergeOfOne};
 ghost use Rattle.slate_read.specs.MergeStates.{IsMergeOf, IsSoundMerge, rest_of_merge};
 ghost use Rattle.slate_read.specs.Merging.{CanMerge};
+ghost use Rattle.slate_read.specs.Showing.{UnopenedRunsShow, UnopenedWalksShow};
 
 use crate::merge_iterator::MergeIterator;
 use slate_types::{IterationOrder, Outside, RowEntryIterator};
@@ -41,4 +42,11 @@ pub fn new_merges<E: Outside, I: RowEntryIterator<E>>(
     requires { IsMergeOf sources.now.items order dedup it.now }
     ensures sound { (w : World) → AllByRecursion (CanMerge (λ s. I.rest s w) (λ s. I.sound s w × (I.order s ≡ order)) order) sources.now.items → IsSoundMerge I.rest I.sound I.order it.now w }
     ensures rest { (w : World) → AllByRecursion (CanMerge (λ s. I.rest s w) (λ s. I.sound s w × (I.order s ≡ order)) order) sources.now.items → rest_of_merge I.rest it.now w ≡ merged order dedup (map (λ s. I.rest s w) sources.now.items) }
+{}
+
+/// Of what iterators over stored tables refuse that weren't opened. Beside want of an `init`, and a seek to a key before the
+/// range, it is damage that their reads show: the index of a table was read and is refused, or a block was that the index names.
+pub fn unopened_refusals()
+    ensures walks { UnopenedWalksShow }
+    ensures runs { UnopenedRunsShow }
 {}

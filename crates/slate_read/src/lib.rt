@@ -2,6 +2,8 @@
 #![tactic(auto)]
 
 pub mod empty_iterator;
+pub mod fetch_limits;
+pub mod fetching;
 pub mod filter_iterator;
 pub mod groups;
 pub mod head;
@@ -17,6 +19,10 @@ pub mod range_rows;
 pub mod read_source;
 pub mod readable_laws;
 pub mod required_iterator;
+pub mod run_iterator;
+pub mod run_rows;
+pub mod run_state;
+pub mod run_walk;
 pub mod sorted_run;
 pub mod sorted_run_iterator;
 pub mod sst_iterator;
@@ -25,7 +31,11 @@ pub mod table_iterator;
 pub mod table_state;
 pub mod table_walk;
 
+use crate::newest_first::NewestFirst;
+use crate::range_rows::InRange;
+use crate::run_state::RunWalk;
 pub use empty_iterator::EmptyIterator;
+pub use fetch_limits::FetchLimits;
 pub use filter_iterator::{FilterIterator, MaxSeq, RowPredicate};
 pub use internal_sst_iterator::InternalSstIterator;
 pub use merge_iterator::MergeIterator;
@@ -44,4 +54,5 @@ pub fn types_cross_threads() {
     crosses::<SortedRun>();
     crosses::<SstIteratorOptions>();
     crosses::<InternalSstIterator>();
+    crosses::<NewestFirst<FilterIterator<RunWalk, InRange>>>();
 }

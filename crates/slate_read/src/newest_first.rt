@@ -30,7 +30,7 @@ pub struct NewestFirst<I> {
 }
 
 /// Whether a key stands before a range.
-fn is_below(range: &BytesRange, key: &[u8]) -> bool
+pub(crate) fn is_below(range: &BytesRange, key: &[u8]) -> bool
     ensures { result ≡ is_below range.now key.now }
 {
     match range.start_bound() {

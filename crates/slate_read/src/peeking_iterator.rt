@@ -24,7 +24,7 @@ pub struct PeekingIterator<I> {
 }
 
 /// Whether the row that was read ahead doesn't come before the key.
-fn is_ahead_kept(ahead: &Option<RowEntry>, order: IterationOrder, key: &[u8]) -> bool
+pub(crate) fn is_ahead_kept(ahead: &Option<RowEntry>, order: IterationOrder, key: &[u8]) -> bool
     ensures { result ≡ is_kept order key.now ahead.now }
 {
     match ahead {
@@ -76,7 +76,7 @@ impl<I: Drop> PeekingIterator<I> {
     }
 
     /// The row that `next` gives. Of what becomes of the iterator its contract says nothing: where that matters, `read_ahead` and
-    /// then `ahead` is the way.
+    /// then `ahead` is the way. It refuses what the source refuses.
     pub fn peek<E: Outside>(
         &mut self,
         alloc: Global,
@@ -84,7 +84,9 @@ impl<I: Drop> PeekingIterator<I> {
     ) -> Result<Option<&RowEntry>, SlateDBError>
     where
         I: RowEntryIterator<E>,
-        ensures { (w : World) → Sees w (E.reach env.old) (E.reach env.new) → IsSoundPeeked I.rest I.sound I.order self.old w → IfOk result (λ row. option_copied row ≡ head_of (rest_peeked I.rest self.old w)) }
+        ensures first { (w : World) → Sees w (E.reach env.old) (E.reach env.new) → IsSoundPeeked I.rest I.sound I.order self.old w → IfOk result (λ row. option_copied row ≡ head_of (rest_peeked I.rest self.old w)) }
+        ensures cause { IfErr result (λ e. Made (E.reach env.old) (E.reach env.new) (λ reads. IsFault (E.reach env.old) (E.reach env.new) e ⊎ refuses_peeked I.refuses self.old (E.reach env.old).meaning reads None e)) }
+        ensures reads { OnlyReads (E.reach env.old) (E.reach env.new) }
     {
         match self.read_ahead(alloc, env) {
             Ok(()) => Ok(self.ahead.as_ref()),

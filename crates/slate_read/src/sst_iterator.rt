@@ -17,12 +17,14 @@ use slate_types::{
     SlateDBError,
 };
 use std::alloc::Global;
+use std::marker::PhantomData;
 
 /// The rows of a stored table in a range, in an order, the newest of each key first. Its filters aren't asked yet.
 #[derive(Drop)]
 pub struct SstIterator<'a> {
     pub(crate) rows: InternalSstIterator,
-    pub(crate) policies: &'a [Box<dyn FilterPolicy>],
+    /// The policies of filters are borrowed for as long as it is used. None is asked yet.
+    policies: PhantomData<&'a ()>,
 }
 
 impl<'a> SstIterator<'a> {
@@ -39,8 +41,12 @@ impl<'a> SstIterator<'a> {
         ensures rows { IfOk result (λ it. IsTableIterator range table options.order it.rows) }
         ensures cause { IfErr result (λ e. e ≡ SlateDBError.OutOfMemory) }
     {
+        let _policies = policies;
         let rows = InternalSstIterator::new(alloc, range, table, options)?;
-        Ok(SstIterator { rows, policies })
+        Ok(SstIterator {
+            rows,
+            policies: PhantomData,
+        })
     }
 }
 

@@ -5,11 +5,10 @@ use slate_types::{FilterContext, IterationOrder};
 /// How the rows of stored tables are read.
 #[derive(Drop)]
 pub struct SstIteratorOptions {
-    /// How many reads of neighbouring blocks are made before the next row is handed out. Not 0. Not used yet.
+    /// How many reads of neighbouring blocks are made before the next row is handed out. Not 0.
     pub max_fetch_tasks: u32,
 
-    /// How many bytes such a read asks for at least, where that many are left of the blocks that can hold the range. Not 0. Not
-    /// used yet: a read asks for one block.
+    /// How many bytes such a read asks for at least, where that many are left of the blocks that can hold the range. Not 0.
     pub target_bytes_to_fetch: u64,
 
     /// The order in which the rows come.

@@ -50,7 +50,7 @@ impl<S: Store, M: MergeOperator, T: BlockTransformer> RowEntryIterator<Env<'_, S
         }
         match open_index(alloc, env, &self.table) {
             Ok(index) => {
-                self.begin(index);
+                self.begin(alloc, index);
                 Ok(())
             }
             Err(error) => Err(self.refuse(error)),
@@ -66,7 +66,13 @@ impl<S: Store, M: MergeOperator, T: BlockTransformer> RowEntryIterator<Env<'_, S
         let answer = match &mut self.state {
             TableState::New => return Err(SlateDBError::IteratorNotInitialized),
             TableState::Refused(error) => return Err(copy_of(error)),
-            TableState::Walking(cursor) => cursor.advance(alloc, env, &self.table, self.order),
+            TableState::Walking(cursor) => cursor.advance(
+                alloc,
+                env,
+                &self.table,
+                self.order,
+                self.limits,
+            ),
         };
         match answer {
             Ok(row) => Ok(row),
@@ -84,7 +90,9 @@ impl<S: Store, M: MergeOperator, T: BlockTransformer> RowEntryIterator<Env<'_, S
         let answer = match &mut self.state {
             TableState::New => return Err(SlateDBError::IteratorNotInitialized),
             TableState::Refused(error) => return Err(copy_of(error)),
-            TableState::Walking(cursor) => cursor.seek(alloc, env, &self.table, self.order, key),
+            TableState::Walking(cursor) => {
+                cursor.seek(alloc, env, &self.table, self.order, self.limits, key)
+            }
         };
         match answer {
             Ok(()) => Ok(()),

@@ -1,7 +1,6 @@
 //! The rows of a stored table, block by block.
-ghost use Rattle.std.specs.Prelude.{◌≡◌, ◌≢◌, ◌⊎◌, ◌<◌, ◌≤◌, ◌+◌, ◌-◌, ◌*◌, ◌++◌, ℕ, List, Option, Some, None, Ok, Err, length, IfOk, IfErr, IsSome, OnOk, OnErr, true, false};
+ghost use Rattle.std.specs.Prelude.{◌≡◌, ◌⊎◌, ◌<◌, ◌≤◌, ◌+◌, ◌-◌, ◌*◌, ◌++◌, ℕ, List, Option, option_to_list, drop, Some, None, Ok, Err, length, IfOk, IfErr, IsSome, OnOk, OnErr, true, false};
 ghost use Rattle.slate_types.specs.declared.error.SlateDBError.{SlateDBError};
-ghost use Rattle.slate_types.specs.Faults.{faults_of};
 ghost use Rattle.slate_types.specs.Keys.{is_refused, key_lt};
 ghost use Rattle.slate_types.specs.Partitions.{CanHold, covering_end, covering_start};
 ghost use Rattle.slate_block.specs.BlockWalks.{TakesRead, Refuses};
@@ -9,14 +8,14 @@ ghost use Rattle.slate_block.specs.EitherVersion.{left_of};
 ghost use Rattle.slate_block.specs.ReadingLaws.{EachIsAByte};
 ghost use Rattle.slate_table.specs.IndexReading.{index_keys};
 ghost use Rattle.slate_table.specs.IndexValue.{entries_of};
-ghost use Rattle.slate_table.specs.Reading.{IsBlockRead, IsStoreFault, Reads, RefusesBlock};
-ghost use Rattle.slate_table.specs.SectionReading.{changed_by, IsTransformFault};
 ghost use Rattle.slate_types.specs.Outside.{IsFault, OnlyReads};
 ghost use Rattle.slate_types.specs.Refusing.{IsDamage};
 ghost use Rattle.slate_types.specs.World.{Made};
 ghost use Rattle.slate_types.specs.Steps.{Step};
-ghost use Rattle.slate_read.specs.TableWalk.{IsSoundRising, SkipsOpen, Sought, Begins, IsIndexed, Keeps, RefusesIndexed, bound_behind, max_blocks, IsOpened, IsSoundCursor, Jumps, no_words, Opens, refuses_behind, rest_after, next_block, next_first, next_stop, reads_in, RefusesLeft, TakesOpen, IsWalkRead, RefusesRows, RefusesSome, RefusesWalk, Walks, max_reads, path_in, size_of, start_of};
+ghost use Rattle.slate_types.proofs.Moves.{Moves};
+ghost use Rattle.slate_read.specs.TableWalk.{IsSoundRising, SkipsOpen, Sought, Begins, IsIndexed, Keeps, RefusesIndexed, bound_behind, max_blocks, IsSoundCursor, Jumps, no_words, Opens, refuses_behind, rest_after, next_first, next_stop, reads_in, RefusesLeft, RefusesReady, TakesOpen, RefusesRows, Walks, max_reads, path_in};
 
+use crate::fetch_limits::FetchLimits;
 use crate::kept::copy_of;
 use crate::table_state::{Cursor, TableState, TableWalk};
 use slate_block::{Block, DataBlockIterator};
@@ -27,6 +26,7 @@ use slate_types::{
     RowEntry, SlateDBError, partitions_covering_range,
 };
 use std::alloc::Global;
+use std::collections::VecDeque;
 use std::mem;
 use std::ops::Bound;
 
@@ -37,32 +37,6 @@ pub const ROOT: &str = "db";
 fn are_bytes(bytes: &[u8])
     ensures { EachIsAByte bytes.now }
 {}
-
-/// A block of a table, by one read of its section.
-fn fetch<S: Store, T: BlockTransformer>(
-    alloc: Global,
-    store: &mut S,
-    table: &SsTableHandle,
-    index: &SstIndex,
-    block: usize,
-    transformer: &mut Option<T>,
-) -> Result<Block, SlateDBError>
-    requires { block < length (entries_of index.now) }
-    ensures found { IfOk result (λ found. Reads (S.objects store.old) (S.acts store.old) (S.acts store.new) (path_in table.now) (start_of table.now (entries_of index.now) block) (size_of table.now (entries_of index.now) block) (λ answer. IsBlockRead (changed_by T.decoded transformer.old) answer found)) }
-    ensures cause { IfErr result (λ e. IsStoreFault (S.faults store.old) (S.faults store.new) e ⊎ IsTransformFault (faults_of T.faults transformer.old) (faults_of T.faults transformer.new) e ⊎ Reads (S.objects store.old) (S.acts store.old) (S.acts store.new) (path_in table.now) (start_of table.now (entries_of index.now) block) (size_of table.now (entries_of index.now) block) (λ answer. RefusesBlock (changed_by T.decoded transformer.old) answer e)) }
-    ensures once { OnErr result ((S.acts store.new ≡ S.acts store.old) ⊎ Reads (S.objects store.old) (S.acts store.old) (S.acts store.new) (path_in table.now) (start_of table.now (entries_of index.now) block) (size_of table.now (entries_of index.now) block) (λ _. Unit {0})) }
-    ensures objects { S.objects store.new ≡ S.objects store.old }
-    ensures same_encoded { changed_by T.encoded transformer.new ≡ changed_by T.encoded transformer.old }
-    ensures same_decoded { changed_by T.decoded transformer.new ≡ changed_by T.decoded transformer.old }
-    ensures later { S.faults store.old ≤ S.faults store.new }
-    ensures later_transformer { faults_of T.faults transformer.old ≤ faults_of T.faults transformer.new }
-{
-    let blocks = block..block + 1;
-    let mut found = TableStore::read_blocks(alloc, store, ROOT, table, index, blocks, transformer)?;
-    let block = found.pop();
-    drop(found);
-    block.ok_or(SlateDBError::OutOfMemory)
-}
 
 /// A walk over a block.
 fn walk_block(
@@ -78,25 +52,6 @@ fn walk_block(
 {
     are_bytes(block.body.as_slice());
     DataBlockIterator::new(alloc, block, version, order)
-}
-
-/// A walk over a block of a table, by one read of its section.
-fn open_block<S: Store, M: MergeOperator, T: BlockTransformer>(
-    alloc: Global,
-    env: &mut Env<'_, S, M, T>,
-    table: &SsTableHandle,
-    index: &SstIndex,
-    block: usize,
-    order: IterationOrder,
-) -> Result<DataBlockIterator<Block>, SlateDBError>
-    requires { block < length (entries_of index.now) }
-    ensures found { let reach = ⟦<EnvOf<S, M, T> as Outside>⟧.reach in IfOk result (λ it. Made (reach env.old) (reach env.new) (λ reads. IsOpened (reach env.old).meaning table.now (entries_of index.now) block order reads (left_of it))) }
-    ensures few { IfOk result (λ it. length (left_of it).reads ≤ max_reads) }
-    ensures cause { let reach = ⟦<EnvOf<S, M, T> as Outside>⟧.reach in IfErr result (λ e. Made (reach env.old) (reach env.new) (λ reads. IsFault (reach env.old) (reach env.new) e ⊎ (IsDamage e × RefusesSome (reach env.old).meaning table.now (entries_of index.now) order reads e))) }
-    ensures reads { let reach = ⟦<EnvOf<S, M, T> as Outside>⟧.reach in OnlyReads (reach env.old) (reach env.new) }
-{
-    let found = fetch(alloc, env.store, table, index, block, &mut env.transformer)?;
-    walk_block(alloc, found, table.format_version, order)
 }
 
 /// The first block that can hold a key from this one on. Those before it hold lower keys alone.
@@ -120,6 +75,7 @@ impl Cursor {
         ensures index { self.new.index ≡ self.old.index }
         ensures first { self.new.first ≡ self.old.first }
         ensures stop { self.new.stop ≡ self.old.stop }
+        ensures ready { self.new.ready ≡ self.old.ready }
         ensures cause { IfErr result (λ e. (e ≡ SlateDBError.OutOfMemory) ⊎ (IsDamage e × RefusesLeft self.old.rows e)) }
         ensures same { OnErr result (self.new.rows ≡ self.old.rows) }
     {
@@ -129,57 +85,75 @@ impl Cursor {
         }
     }
 
-    /// Takes off the next block in the order.
-    fn take_block(&mut self, order: IterationOrder) -> usize
-        requires { self.old.first < self.old.stop }
-        ensures block { result ≡ next_block order self.old }
-        ensures within { result < length (entries_of self.new.index) }
+    /// Takes off the next block in the order, which was read ahead.
+    fn take_block(&mut self, order: IterationOrder) -> Option<Block>
+        requires { 0 < length self.old.ready.items }
+        ensures some { IsSome result }
+        ensures ready { self.old.ready.items ≡ option_to_list result ++ self.new.ready.items }
         ensures first { self.new.first ≡ next_first order self.old }
         ensures stop { self.new.stop ≡ next_stop order self.old }
         ensures index { self.new.index ≡ self.old.index }
         ensures rows { self.new.rows ≡ self.old.rows }
     {
+        let block = self.ready.pop_front();
         match order {
-            IterationOrder::Ascending => {
-                let block = self.first;
-                self.first += 1;
-                block
+            IterationOrder::Ascending => self.first += 1,
+            IterationOrder::Descending => self.stop -= 1,
+        }
+        block
+    }
+
+    /// Opens the next block in the order, which was read ahead. Where that is refused the block is taken off all the same.
+    fn open_ready(
+        &mut self,
+        alloc: Global,
+        table: &SsTableHandle,
+        order: IterationOrder,
+    ) -> Result<(), SlateDBError>
+        requires { 0 < length self.old.ready.items }
+        ensures opened { OnOk result (Opens table.now order self.old self.new) }
+        ensures cause { IfErr result (λ e. (e ≡ SlateDBError.OutOfMemory) ⊎ (IsDamage e × RefusesReady table.now.format_version order self.old.ready.items e)) }
+        ensures fewer { self.new.stop - self.new.first + 1 ≡ self.old.stop - self.old.first }
+    {
+        match self.take_block(order) {
+            Some(block) => {
+                let rows = walk_block(alloc, block, table.format_version, order)?;
+                self.rows = Some(rows);
+                Ok(())
             }
-            IterationOrder::Descending => {
-                self.stop -= 1;
-                self.stop
-            }
+            None => Ok(()),
         }
     }
 
-    /// Opens the next block in the order, by one read of its section. Where that is refused the block is taken off all the same.
+    /// Opens the next block in the order. Where none is ready blocks are read first.
     fn open<S: Store, M: MergeOperator, T: BlockTransformer>(
         &mut self,
         alloc: Global,
         env: &mut Env<'_, S, M, T>,
         table: &SsTableHandle,
         order: IterationOrder,
+        limits: FetchLimits,
     ) -> Result<(), SlateDBError>
-        requires { self.old.first < self.old.stop }
-        ensures opened { let reach = ⟦<EnvOf<S, M, T> as Outside>⟧.reach in OnOk result (Made (reach env.old) (reach env.new) (λ reads. Opens (reach env.old).meaning table.now order reads self.old self.new)) }
-        ensures cause { let reach = ⟦<EnvOf<S, M, T> as Outside>⟧.reach in IfErr result (λ e. Made (reach env.old) (reach env.new) (λ reads. IsFault (reach env.old) (reach env.new) e ⊎ (IsDamage e × RefusesSome (reach env.old).meaning table.now (entries_of self.old.index) order reads e))) }
-        ensures fewer { self.new.stop - self.new.first + 1 ≡ self.old.stop - self.old.first }
+        requires some { self.old.first < self.old.stop }
+        requires spent { reads_in self.old.rows ≡ 0 }
+        ensures moved { let reach = ⟦<EnvOf<S, M, T> as Outside>⟧.reach in OnOk result (Moves (rest_after table.now order) (IsSoundCursor table.now order) (refuses_behind table.now order) (reach env.old) (reach env.new) self.old self.new) }
+        ensures cause { let reach = ⟦<EnvOf<S, M, T> as Outside>⟧.reach in IfErr result (λ e. Made (reach env.old) (reach env.new) (λ reads. IsFault (reach env.old) (reach env.new) e ⊎ refuses_behind table.now order self.old (reach env.old).meaning reads None e)) }
+        ensures fewer { OnOk result (self.new.stop - self.new.first + 1 ≡ self.old.stop - self.old.first) }
         ensures small { OnOk result (reads_in self.new.rows ≤ max_reads) }
         ensures reads { let reach = ⟦<EnvOf<S, M, T> as Outside>⟧.reach in OnlyReads (reach env.old) (reach env.new) }
     {
-        let block = self.take_block(order);
-        let rows = open_block(alloc, env, table, &self.index, block, order)?;
-        self.rows = Some(rows);
-        Ok(())
+        self.fill(alloc, env, table, order, limits)?;
+        self.open_ready(alloc, table, order)
     }
 
-    /// The next row in the order, where need be of the next block, which is then read.
+    /// The next row in the order, where need be of the next block, which is then opened.
     pub(crate) fn advance<S: Store, M: MergeOperator, T: BlockTransformer>(
         &mut self,
         alloc: Global,
         env: &mut Env<'_, S, M, T>,
         table: &SsTableHandle,
         order: IterationOrder,
+        limits: FetchLimits,
     ) -> Result<Option<RowEntry>, SlateDBError>
         ensures step { let reach = ⟦<EnvOf<S, M, T> as Outside>⟧.reach in IfOk result (λ answer. Step (rest_after table.now order) (IsSoundCursor table.now order) (refuses_behind table.now order) no_words (reach env.old) (reach env.new) self.old answer self.new) }
         ensures cause { let reach = ⟦<EnvOf<S, M, T> as Outside>⟧.reach in IfErr result (λ e. Made (reach env.old) (reach env.new) (λ reads. IsFault (reach env.old) (reach env.new) e ⊎ refuses_behind table.now order self.old (reach env.old).meaning reads None e)) }
@@ -194,7 +168,7 @@ impl Cursor {
             if self.first >= self.stop {
                 return Ok(None);
             }
-            self.open(alloc, env, table, order)?;
+            self.open(alloc, env, table, order, limits)?;
         }
     }
 
@@ -204,6 +178,7 @@ impl Cursor {
         ensures index { self.new.index ≡ self.old.index }
         ensures first { self.new.first ≡ self.old.first }
         ensures stop { self.new.stop ≡ self.old.stop }
+        ensures ready { self.new.ready ≡ self.old.ready }
         ensures cause { IfErr result (λ e. (e ≡ SlateDBError.OutOfMemory) ⊎ (IsDamage e × RefusesLeft self.old.rows e)) }
     {
         match &mut self.rows {
@@ -215,6 +190,19 @@ impl Cursor {
         }
     }
 
+    /// Lets go of the first blocks of those that are ready.
+    fn drop_ready(&mut self, count: usize)
+        ensures ready { self.new.ready.items ≡ drop count self.old.ready.items }
+        ensures first { self.new.first ≡ self.old.first }
+        ensures stop { self.new.stop ≡ self.old.stop }
+        ensures index { self.new.index ≡ self.old.index }
+        ensures rows { self.new.rows ≡ self.old.rows }
+    {
+        for _ in 0..count.min(self.ready.len()) {
+            drop(self.ready.pop_front());
+        }
+    }
+
     /// Passes over the blocks that hold only keys which the order puts before a key.
     fn jump(&mut self, order: IterationOrder, key: &[u8])
         ensures { Jumps order key.now self.old self.new }
@@ -222,22 +210,27 @@ impl Cursor {
         match order {
             IterationOrder::Ascending => {
                 let start = first_from(&self.index, key);
-                self.first = self.first.max(start).min(self.stop);
+                let first = self.first.max(start).min(self.stop);
+                self.drop_ready(first - self.first);
+                self.first = first;
             }
             IterationOrder::Descending => {
                 let end = end_upto(&self.index, key);
-                self.stop = self.stop.min(end).max(self.first);
+                let stop = self.stop.min(end).max(self.first);
+                self.drop_ready(self.stop - stop);
+                self.stop = stop;
             }
         }
     }
 
-    /// Takes off the rows that the order puts before a key, and reads block after block until one has another row.
+    /// Takes off the rows that the order puts before a key, and opens block after block until one has another row.
     fn walk_to<S: Store, M: MergeOperator, T: BlockTransformer>(
         &mut self,
         alloc: Global,
         env: &mut Env<'_, S, M, T>,
         table: &SsTableHandle,
         order: IterationOrder,
+        limits: FetchLimits,
         key: &[u8],
     ) -> Result<(), SlateDBError>
         ensures sought { let reach = ⟦<EnvOf<S, M, T> as Outside>⟧.reach in OnOk result (Sought (rest_after table.now order) (IsSoundRising table.now order) (refuses_behind table.now order) order key.now (reach env.old) (reach env.new) self.old self.new) }
@@ -252,7 +245,7 @@ impl Cursor {
             if self.first >= self.stop {
                 return Ok(());
             }
-            self.open(alloc, env, table, order)?;
+            self.open(alloc, env, table, order, limits)?;
         }
     }
 
@@ -263,6 +256,7 @@ impl Cursor {
         env: &mut Env<'_, S, M, T>,
         table: &SsTableHandle,
         order: IterationOrder,
+        limits: FetchLimits,
         key: &[u8],
     ) -> Result<(), SlateDBError>
         ensures sought { let reach = ⟦<EnvOf<S, M, T> as Outside>⟧.reach in OnOk result (Sought (rest_after table.now order) (IsSoundRising table.now order) (refuses_behind table.now order) order key.now (reach env.old) (reach env.new) self.old self.new) }
@@ -274,7 +268,7 @@ impl Cursor {
             return Ok(());
         }
         self.jump(order, key);
-        self.walk_to(alloc, env, table, order, key)
+        self.walk_to(alloc, env, table, order, limits, key)
     }
 }
 
@@ -300,6 +294,7 @@ impl TableWalk {
         ensures range { self.new.range ≡ self.old.range }
         ensures table { self.new.table ≡ self.old.table }
         ensures order { self.new.order ≡ self.old.order }
+        ensures limits { self.new.limits ≡ self.old.limits }
     {
         let state = TableState::Refused(copy_of(&error));
         drop(mem::replace(&mut self.state, state));
@@ -307,11 +302,12 @@ impl TableWalk {
     }
 
     /// Begins the walk over the blocks that can hold keys of the range.
-    pub(crate) fn begin(&mut self, index: SstIndex)
+    pub(crate) fn begin(&mut self, alloc: Global, index: SstIndex)
         ensures state { Begins self.old.range (entries_of index) self.new.state }
         ensures range { self.new.range ≡ self.old.range }
         ensures table { self.new.table ≡ self.old.table }
         ensures order { self.new.order ≡ self.old.order }
+        ensures limits { self.new.limits ≡ self.old.limits }
     {
         let covered = partitions_covering_range(
             &index,
@@ -322,6 +318,7 @@ impl TableWalk {
             index,
             first: covered.start,
             stop: covered.end,
+            ready: VecDeque::new(alloc),
             rows: None,
         };
         drop(mem::replace(&mut self.state, TableState::Walking(cursor)));

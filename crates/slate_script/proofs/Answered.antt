@@ -8,6 +8,9 @@ use Rattle.slate_txn.specs.State.{Rules, State, opening}
 use Rattle.slate_txn.specs.Step.{step, answers, after}
 use Rattle.slate_language.specs.Parse.{parse, only_if, ◌>>=◌}
 use Rattle.slate_language.specs.Stage.{is_built, if_built, IsBuiltLine, meaning}
+use Rattle.slate_language.specs.Tally.{tallied}
+use Rattle.slate_language.specs.declared.tally.Tally.{Tally}
+use Rattle.slate_language.proofs.TallyLaws.{tallied-append}
 use Rattle.slate_language.specs.Replies.{is_silent, onto_meanings, meanings, reply_line, after_lines, replies_from, replies_to}
 use Rattle.slate_script.specs.Run.{is_line, first_other, AreLines}
 use Rattle.slate_language.proofs.ParseLaws.{parse-is}
@@ -45,6 +48,13 @@ replies-append r s ls more h =
 
 pub state-append : (r : Rules) (s : State) (ls more : List (List ℕ)) → AreLines ls → after_lines meaning r s (ls ++ more) ≡ after_lines meaning r (after_lines meaning r s ls) more
 state-append r s ls more h = ap (after r s) (meanings-append ls more h) ∙ after-append r s (meanings meaning ls) (meanings meaning more)
+
+pub tally-append : (t : Tally) (r : Rules) (s : State) (ls more : List (List ℕ)) → AreLines ls →
+    tallied t (answers r s (meanings meaning (ls ++ more))) ≡ tallied (tallied t (answers r s (meanings meaning ls))) (answers r (after_lines meaning r s ls) (meanings meaning more))
+tally-append t r s ls more h =
+    ap (λ ms. tallied t (answers r s ms)) (meanings-append ls more h)
+    ∙ ap (tallied t) (answers-append r s (meanings meaning ls) (meanings meaning more))
+    ∙ tallied-append t (answers r s (meanings meaning ls)) (answers r (after r s (meanings meaning ls)) (meanings meaning more))
 
 -- ---- a line that is none
 

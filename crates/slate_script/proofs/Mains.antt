@@ -7,7 +7,10 @@ use Rattle.slate_store.specs.Store.{IsEmpty}
 use Rattle.slate_db.specs.Meaning.{Meaning, IsLawfulMeaning}
 use Rattle.slate_db.specs.Parts.{meaning_of}
 use Rattle.slate_language.specs.declared.parts.Xor.{Xor}
+use Rattle.slate_language.specs.declared.words.Generated.{Generated}
 use Rattle.slate_language.specs.declared.words.Settings.{Settings}
+use Rattle.slate_language.specs.Words.{read_generated, read_words}
+use Rattle.slate_language.proofs.WordLaws.{generated-alone}
 use Rattle.slate_language.specs.Parts.{xored}
 use Rattle.slate_script.specs.Program.{parts_of}
 use Rattle.slate_script.specs.Run.{Premises}
@@ -55,3 +58,14 @@ words-are combine transformer mask is = by transformer ∙ ap parts_of is
     by : (t : Option Xor) → words-mean combine t ≡ parts_of (option_map (λ x. x.mask) t)
     by None = refl
     by (Some x) = refl
+
+-- ---- words that name a script of the run's own
+
+pub same-generated : (o : Option Generated) (a b : Generated) → o ≡ Some a → o ≡ Some b → a ≡ b
+same-generated o a b h k = cc
+
+pub generated-not-none : (o : Option Generated) (a : Generated) → o ≡ Some a → o ≡ None → ⊥
+generated-not-none o a h k = cc
+
+pub one-script : {P : Type 0} (ws : List (List ℕ)) (g : Generated) (s : Settings) → read_generated ws ≡ Some g → read_words ws ≡ Some s → P
+one-script ws g s h k = absurd (some-not-none (read_words ws) s k (generated-alone ws g h))

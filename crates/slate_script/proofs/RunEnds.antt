@@ -10,6 +10,7 @@ use Rattle.slate_store.specs.Lines.{lines_of, whole_part, script_limit, HasNoEnd
 use Rattle.slate_store.proofs.LineLaws.{partial_line_is_not_whole}
 use Rattle.slate_txn.specs.State.{Rules, opening}
 use Rattle.slate_language.specs.Stage.{meaning}
+use Rattle.slate_language.specs.declared.tally.Tally.{Tally}
 use Rattle.slate_language.specs.Replies.{after_lines, replies_from, replies_to, replies, IsWellFormed}
 use Rattle.slate_db.specs.Parts.{IsTableError}
 use Rattle.slate_db.specs.Load.{weight}
@@ -116,7 +117,7 @@ ReaderError e = (e ≡ OutOfMemory) ⊎ (e ≡ ReadFault) ⊎ (e ≡ ScriptTooLo
 abbrev pub IsAtLimit : LinesModel → Type 0
 IsAtLimit m = (m.given + length m.held ≡ script_limit) × HasNoEnd m.held
 
-pub reader-error : {P : Type 0} {r : Rules} {script : List ℕ} {source told sink : Option (List ℕ)} {old : LinesModel} {number : ℕ} {e : SessionModel} (new : LinesModel) (rest : List ℕ) (error : SlateDBError) (at : IsAt P r script source told sink old number e)
+pub reader-error : {P : Type 0} {r : Rules} {script : List ℕ} {source told sink : Option (List ℕ)} {first tally : Tally} {old : LinesModel} {number : ℕ} {e : SessionModel} (new : LinesModel) (rest : List ℕ) (error : SlateDBError) (at : IsAt P r script source told sink first tally old number e)
     → KeepsAll old at.left new rest → (error ≡ ScriptTooLong → IsAtLimit new) → ReaderError error → IsOutside error ⊎ (script_error script ≡ Some error)
 reader-error new rest error at keeps full (inl is) = inl (inl is)
 reader-error new rest error at keeps full (inr (inl is)) = inl (inr (inl is))
@@ -125,7 +126,7 @@ reader-error {script = script} {old = old} new rest error at keeps full (inr (in
     let long = too-long script at.done at.left rest old new at.stands at.given keeps end.0 end.1 in
     inr ((λ i. error_of (first_other (long.1 i)) (long.0 i)) ∙ ap (λ o. error_of o true) (other-none (lines_of at.done) at.meant) ∙ ap Some (sym is))
 
-pub reader-script : {P : Type 0} {r : Rules} {script : List ℕ} {source told sink : Option (List ℕ)} {old : LinesModel} {number : ℕ} {e : SessionModel} (new : LinesModel) (rest before : List ℕ) (error : SlateDBError) (at : IsAt P r script source told sink old number e)
+pub reader-script : {P : Type 0} {r : Rules} {script : List ℕ} {source told sink : Option (List ℕ)} {first tally : Tally} {old : LinesModel} {number : ℕ} {e : SessionModel} (new : LinesModel) (rest before : List ℕ) (error : SlateDBError) (at : IsAt P r script source told sink first tally old number e)
     → KeepsAll old at.left new rest → (error ≡ ScriptTooLong → IsAtLimit new) → ReaderError error → P → told ≡ Some before → script_error script ≡ Some error → sink ≡ Some (before ++ replies_to meaning r (lines_taken script))
 reader-script {script = script} new rest before error at keeps full (inl is) p told-is by = absurd (no-outside script error by (inl is))
 reader-script {script = script} new rest before error at keeps full (inr (inl is)) p told-is by = absurd (no-outside script error by (inr (inl is)))
@@ -134,7 +135,7 @@ reader-script {r = r} {script = script} {old = old} new rest before error at kee
     let long = too-long script at.done at.left rest old new at.stands at.given keeps end.0 end.1 in
     at.said p before told-is ∙ ap (λ ls. Some (before ++ replies_to meaning r ls)) (sym long.1)
 
-pub reader-source : {P : Type 0} {r : Rules} {script : List ℕ} {source told sink : Option (List ℕ)} {old : LinesModel} {number : ℕ} {e : SessionModel} (new : LinesModel) (rest : List ℕ) (at : IsAt P r script source told sink old number e)
+pub reader-source : {P : Type 0} {r : Rules} {script : List ℕ} {source told sink : Option (List ℕ)} {first tally : Tally} {old : LinesModel} {number : ℕ} {e : SessionModel} (new : LinesModel) (rest : List ℕ) (at : IsAt P r script source told sink first tally old number e)
     → KeepsAll old at.left new rest → HasNoEnd new.held → HasAnsweredAll r script rest (replies_to meaning r (lines_of at.done))
 reader-source {r = r} {script = script} {old = old} new rest at keeps none = record {
   given = at.done ++ new.held;
@@ -151,7 +152,7 @@ reader-source {r = r} {script = script} {old = old} new rest at keeps none = rec
         let nothing : new.held ≡ [] = first-empty new.held rest (keeps.bytes ∙ all.0) in
         inr (sym (append-nil at.done) ∙ ap (λ bs. at.done ++ bs) (sym nothing), ap (λ bs. bs ++ rest) (sym nothing) ∙ keeps.bytes ∙ all.0)
 
-pub reader-memory : {P : Type 0} {r : Rules} {script : List ℕ} {source told sink : Option (List ℕ)} {m : LinesModel} {number : ℕ} {e : SessionModel} (at : IsAt P r script source told sink m number e) → HasAnswered r script (replies_to meaning r (lines_of at.done))
+pub reader-memory : {P : Type 0} {r : Rules} {script : List ℕ} {source told sink : Option (List ℕ)} {first tally : Tally} {m : LinesModel} {number : ℕ} {e : SessionModel} (at : IsAt P r script source told sink first tally m number e) → HasAnswered r script (replies_to meaning r (lines_of at.done))
 reader-memory {script = script} {m = m} at =
     let first = lines-begin script at.done (m.held ++ at.left) at.stands in
     record { done = lines_of at.done; later = first.0; first = first.1; meant = at.meant; all = refl }
@@ -189,22 +190,22 @@ read-on script done held rest source split within is = (
   is ∙ ap Some (sym (ap (drop (length (done ++ held))) (split ∙ sym (append_assoc done held rest)) ∙ drop-append_seam (done ++ held) rest)),
 )
 
-pub reader-read : {P : Type 0} {r : Rules} {script : List ℕ} {source told sink : Option (List ℕ)} {old : LinesModel} {number : ℕ} {e : SessionModel} (new : LinesModel) (rest : List ℕ) (after : Option (List ℕ)) (at : IsAt P r script source told sink old number e)
+pub reader-read : {P : Type 0} {r : Rules} {script : List ℕ} {source told sink : Option (List ℕ)} {first tally : Tally} {old : LinesModel} {number : ℕ} {e : SessionModel} (new : LinesModel) (rest : List ℕ) (after : Option (List ℕ)) (at : IsAt P r script source told sink first tally old number e)
     → KeepsAll old at.left new rest → new.given + length new.held ≤ script_limit → after ≡ Some rest → ReadOn script after
 reader-read {script = script} new rest after at keeps within is =
     read-on script at.done new.held rest after (at.stands.split ∙ ap (λ bs. at.done ++ bs) (sym keeps.bytes)) (omega (arith, keeps.counts, at.given)) is
 
-pub reader-full : {P : Type 0} {r : Rules} {script : List ℕ} {source told sink : Option (List ℕ)} {old : LinesModel} {number : ℕ} {e : SessionModel} (new : LinesModel) (rest : List ℕ) (after : Option (List ℕ)) (at : IsAt P r script source told sink old number e)
+pub reader-full : {P : Type 0} {r : Rules} {script : List ℕ} {source told sink : Option (List ℕ)} {first tally : Tally} {old : LinesModel} {number : ℕ} {e : SessionModel} (new : LinesModel) (rest : List ℕ) (after : Option (List ℕ)) (at : IsAt P r script source told sink first tally old number e)
     → KeepsAll old at.left new rest → new.given + length new.held ≡ script_limit → after ≡ Some rest → after ≡ Some (drop script_limit script)
 unfolding reader-read read-on
 reader-full {script = script} new rest after at keeps full is =
     let count : length (at.done ++ new.held) ≡ script_limit = omega (arith, length-append at.done new.held, keeps.counts, at.given) in
     (reader-read new rest after at keeps (omega arith) is).2 ∙ ap (λ n. Some (drop n script)) count
 
-pub line-read : {P : Type 0} {r : Rules} {script line : List ℕ} {source told sink : Option (List ℕ)} {m : LinesModel} {number : ℕ} {e : SessionModel} (took : Took P r script source told sink m line number e) → m.given + length m.held ≤ script_limit → ReadOn script source
+pub line-read : {P : Type 0} {r : Rules} {script line : List ℕ} {source told sink : Option (List ℕ)} {first tally : Tally} {m : LinesModel} {number : ℕ} {e : SessionModel} (took : Took P r script source told sink first tally m line number e) → m.given + length m.held ≤ script_limit → ReadOn script source
 line-read {script = script} {source = source} {m = m} took within = read-on script took.more m.held took.left source took.stands.split (omega (arith, took.given)) took.rest
 
-pub end-read : {P : Type 0} {r : Rules} {script : List ℕ} {source told sink : Option (List ℕ)} {old : LinesModel} {number : ℕ} {e : SessionModel} (new : LinesModel) (rest : List ℕ) (after : Option (List ℕ)) (at : IsAt P r script source told sink old number e)
+pub end-read : {P : Type 0} {r : Rules} {script : List ℕ} {source told sink : Option (List ℕ)} {first tally : Tally} {old : LinesModel} {number : ℕ} {e : SessionModel} (new : LinesModel) (rest : List ℕ) (after : Option (List ℕ)) (at : IsAt P r script source told sink first tally old number e)
     → IsEnd old at.left new rest → new.given + length new.held ≤ script_limit → after ≡ Some rest → ReadOn script after
 end-read {script = script} new rest after at end within is =
     read-on script at.done new.held rest after (at.stands.split ∙ ap (λ bs. at.done ++ bs) (end.nothing ∙ sym end.still)) (omega (arith, end.counts, at.given)) is
@@ -220,19 +221,19 @@ abbrev pub LineError : ℕ → List ℕ → SlateDBError → Type 0
 LineError number line e = (e ≡ OutOfMemory) ⊎ (e ≡ WriteFault) ⊎ ((e ≡ ScriptSyntax number) × (is_line line ≡ false)) ⊎ IsPartError e
 
 -- the lines that a run can take, and those of the script, at the line
-taken-there : {P : Type 0} {r : Rules} {script line : List ℕ} {source told sink : Option (List ℕ)} {m : LinesModel} {number : ℕ} {e : SessionModel} (took : Took P r script source told sink m line number e)
+taken-there : {P : Type 0} {r : Rules} {script line : List ℕ} {source told sink : Option (List ℕ)} {first tally : Tally} {m : LinesModel} {number : ℕ} {e : SessionModel} (took : Took P r script source told sink first tally m line number e)
     → (later : List (List ℕ)) × (lines_taken script ≡ lines_of took.done ++ (line ∷ later))
 taken-there {script = script} {line = line} {m = m} took =
     let first = taken-first script took.more (m.held ++ took.left) took.stands in
     (first.0, first.1 ∙ ap (λ ls. ls ++ first.0) took.lines ∙ append_assoc (lines_of took.done) (line ∷ []) first.0)
 
-lines-there : {P : Type 0} {r : Rules} {script line : List ℕ} {source told sink : Option (List ℕ)} {m : LinesModel} {number : ℕ} {e : SessionModel} (took : Took P r script source told sink m line number e)
+lines-there : {P : Type 0} {r : Rules} {script line : List ℕ} {source told sink : Option (List ℕ)} {first tally : Tally} {m : LinesModel} {number : ℕ} {e : SessionModel} (took : Took P r script source told sink first tally m line number e)
     → (later : List (List ℕ)) × (lines_of script ≡ lines_of took.done ++ (line ∷ later))
 lines-there {script = script} {line = line} {m = m} took =
     let first = lines-begin script took.more (m.held ++ took.left) took.stands in
     (first.0, first.1 ∙ ap (λ ls. ls ++ first.0) took.lines ∙ append_assoc (lines_of took.done) (line ∷ []) first.0)
 
-pub line-error : {P : Type 0} {r : Rules} {script line : List ℕ} {source told sink : Option (List ℕ)} {m : LinesModel} {number : ℕ} {e : SessionModel} (error : SlateDBError) → Took P r script source told sink m line number e
+pub line-error : {P : Type 0} {r : Rules} {script line : List ℕ} {source told sink : Option (List ℕ)} {first tally : Tally} {m : LinesModel} {number : ℕ} {e : SessionModel} (error : SlateDBError) → Took P r script source told sink first tally m line number e
     → LineError number line error → IsOutside error ⊎ (script_error script ≡ Some error)
 line-error error took (inl is) = inl (inl is)
 line-error error took (inr (inl is)) = inl (inr (inr (inl is)))
@@ -242,7 +243,7 @@ line-error {script = script} {line = line} error took (inr (inr (inl is))) =
     inr (ap (λ o. error_of o (is_too_long script)) (ap first_other there.1 ∙ other-first (lines_of took.done) line there.0 took.meant is.1)
     ∙ ap (λ n. Some (ScriptSyntax n)) (sym took.count) ∙ ap Some (sym is.0))
 
-pub line-script : {P : Type 0} {r : Rules} {script line : List ℕ} {source told sink : Option (List ℕ)} {m : LinesModel} {number : ℕ} {e : SessionModel} (after : Option (List ℕ)) (before : List ℕ) (error : SlateDBError) → Took P r script source told sink m line number e
+pub line-script : {P : Type 0} {r : Rules} {script line : List ℕ} {source told sink : Option (List ℕ)} {first tally : Tally} {m : LinesModel} {number : ℕ} {e : SessionModel} (after : Option (List ℕ)) (before : List ℕ) (error : SlateDBError) → Took P r script source told sink first tally m line number e
     → LineError number line error → ((error ≡ WriteFault) ⊎ (after ≡ sink)) → P → told ≡ Some before → script_error script ≡ Some error → after ≡ Some (before ++ replies_to meaning r (lines_taken script))
 line-script {script = script} after before error took (inl is) same p told-is by = absurd (no-outside script error by (inl is))
 line-script {script = script} after before error took (inr (inl is)) same p told-is by = absurd (no-outside script error by (inr (inr (inl is))))
@@ -253,7 +254,7 @@ line-script {r = r} {script = script} {line = line} after before error took (inr
     same ∙ took.said p before told-is
     ∙ ap (λ bs. Some (before ++ bs)) (sym (ap (replies_to meaning r) there.1 ∙ replies-stop r (lines_of took.done) line there.0 took.meant is.1))
 
-pub line-sink : {P : Type 0} {r : Rules} {script line : List ℕ} {source told sink : Option (List ℕ)} {m : LinesModel} {number : ℕ} {e : SessionModel} (n : ℕ) (took : Took P r script source told sink m line number e)
+pub line-sink : {P : Type 0} {r : Rules} {script line : List ℕ} {source told sink : Option (List ℕ)} {first tally : Tally} {m : LinesModel} {number : ℕ} {e : SessionModel} (n : ℕ) (took : Took P r script source told sink first tally m line number e)
     → IsTrue (is_line line) → n < length (replies_from meaning r (after_lines meaning r opening (lines_of took.done)) (line ∷ []))
     → HasBegun r script (replies_to meaning r (lines_of took.done) ++ take n (replies_from meaning r (after_lines meaning r opening (lines_of took.done)) (line ∷ [])))
 line-sink {r = r} {line = line} n took is short =
@@ -309,29 +310,29 @@ untouched error sink after (inl fault) (inl want) = cc
 untouched error sink after (inl fault) (inr part) = absurd (subst IsPartError fault part)
 untouched error sink after (inr same) which = same
 
-pub line-memory : {P : Type 0} {r : Rules} {script line : List ℕ} {source told sink : Option (List ℕ)} {m : LinesModel} {number : ℕ} {e : SessionModel} (took : Took P r script source told sink m line number e) → HasAnswered r script (replies_to meaning r (lines_of took.done))
+pub line-memory : {P : Type 0} {r : Rules} {script line : List ℕ} {source told sink : Option (List ℕ)} {first tally : Tally} {m : LinesModel} {number : ℕ} {e : SessionModel} (took : Took P r script source told sink first tally m line number e) → HasAnswered r script (replies_to meaning r (lines_of took.done))
 line-memory {line = line} took =
     let there = lines-there took in
     record { done = lines_of took.done; later = line ∷ there.0; first = there.1; meant = took.meant; all = refl }
 
 -- ---- at the end of the script
 
-pub end-there : {P : Type 0} {r : Rules} {script : List ℕ} {source told sink : Option (List ℕ)} {old : LinesModel} {number : ℕ} {e : SessionModel} (new : LinesModel) (rest : List ℕ) (at : IsAt P r script source told sink old number e)
+pub end-there : {P : Type 0} {r : Rules} {script : List ℕ} {source told sink : Option (List ℕ)} {first tally : Tally} {old : LinesModel} {number : ℕ} {e : SessionModel} (new : LinesModel) (rest : List ℕ) (at : IsAt P r script source told sink first tally old number e)
     → IsEnd old at.left new rest → (script ≡ at.done) × (length script < script_limit) × (rest ≡ [])
 end-there {script = script} {old = old} new rest at is = ends script at.done at.left rest old new at.stands at.given is
 
-pub end-lines : {P : Type 0} {r : Rules} {script : List ℕ} {source told sink : Option (List ℕ)} {old : LinesModel} {number : ℕ} {e : SessionModel} (new : LinesModel) (rest : List ℕ) (at : IsAt P r script source told sink old number e)
+pub end-lines : {P : Type 0} {r : Rules} {script : List ℕ} {source told sink : Option (List ℕ)} {first tally : Tally} {old : LinesModel} {number : ℕ} {e : SessionModel} (new : LinesModel) (rest : List ℕ) (at : IsAt P r script source told sink first tally old number e)
     → IsEnd old at.left new rest → AreLines (lines_of script)
 end-lines {script = script} new rest at is = subst (λ bs. AreLines (lines_of bs)) (sym (end-there new rest at is).0) at.meant
 
-pub end-answered : {P : Type 0} {r : Rules} {script : List ℕ} {source told sink : Option (List ℕ)} {old : LinesModel} {number : ℕ} {e : SessionModel} (new : LinesModel) (rest before : List ℕ) (at : IsAt P r script source told sink old number e)
+pub end-answered : {P : Type 0} {r : Rules} {script : List ℕ} {source told sink : Option (List ℕ)} {first tally : Tally} {old : LinesModel} {number : ℕ} {e : SessionModel} (new : LinesModel) (rest before : List ℕ) (at : IsAt P r script source told sink first tally old number e)
     → IsEnd old at.left new rest → P → told ≡ Some before → sink ≡ Some (before ++ replies r script)
 end-answered {r = r} new rest before at is p told-is = at.said p before told-is ∙ ap (λ bs. Some (before ++ replies r bs)) (sym (end-there new rest at is).0)
 
-pub end-formed : {P : Type 0} {r : Rules} {script : List ℕ} {source told sink : Option (List ℕ)} {old : LinesModel} {number : ℕ} {e : SessionModel} (new : LinesModel) (rest : List ℕ) (at : IsAt P r script source told sink old number e)
+pub end-formed : {P : Type 0} {r : Rules} {script : List ℕ} {source told sink : Option (List ℕ)} {first tally : Tally} {old : LinesModel} {number : ℕ} {e : SessionModel} (new : LinesModel) (rest : List ℕ) (at : IsAt P r script source told sink first tally old number e)
     → IsEnd old at.left new rest → IsWellFormed script
 end-formed {script = script} new rest at is = ((end-there new rest at is).1, lines-built (lines_of script) (end-lines new rest at is))
 
-pub end-no_error : {P : Type 0} {r : Rules} {script : List ℕ} {source told sink : Option (List ℕ)} {old : LinesModel} {number : ℕ} {e : SessionModel} (new : LinesModel) (rest : List ℕ) (at : IsAt P r script source told sink old number e)
+pub end-no_error : {P : Type 0} {r : Rules} {script : List ℕ} {source told sink : Option (List ℕ)} {first tally : Tally} {old : LinesModel} {number : ℕ} {e : SessionModel} (new : LinesModel) (rest : List ℕ) (at : IsAt P r script source told sink first tally old number e)
     → IsEnd old at.left new rest → script_error script ≡ None
 end-no_error {script = script} new rest at is = lines-no_error script (end-there new rest at is).1 (end-lines new rest at is)

@@ -17,7 +17,10 @@ use Rattle.slate_db.specs.Sound.{IsKept}
 use Rattle.slate_language.specs.declared.reply.Answer.{Answer}
 use Rattle.slate_language.specs.Answers.{as_shown, reply_of}
 use Rattle.slate_language.proofs.ShownLaws.{shown-line}
-use Rattle.slate_language.specs.Replies.{is_silent, onto_meanings, reply_line, after_lines, replies_from}
+use Rattle.slate_language.specs.Tally.{counted, tallied}
+use Rattle.slate_language.specs.declared.tally.Tally.{Tally}
+use Rattle.slate_language.proofs.TallyLaws.{counted-shown}
+use Rattle.slate_language.specs.Replies.{is_silent, meanings, onto_meanings, reply_line, after_lines, replies_from}
 use Rattle.slate_script.specs.Run.{run_rules, Premises, is_line}
 use Rattle.slate_script.specs.Session.{SessionModel, StandsFor, AnswersAs, HasTables, IsSettled, IsRunning, has_moment}
 use Rattle.slate_language.specs.Grammar.{IsLine}
@@ -62,6 +65,15 @@ pub line-reply : {m : Meaning} {r : Rules} {parts : Meaning} {objects : Option O
     (IsSettled parts objects e → AnswersAs parts e new line (Ok a)) → (s : State) → StandsFor e s → reply_line (reply_of a) ≡ replies_from meaning r s (l ∷ [])
 line-reply {r = r} l line a h loud is steps s stands =
     ap reply_line ((steps (is-settled h) s stands).1 ∙ ap (λ x. as_shown (step x s line).1) (its-rules h)) ∙ shown-line (step r s line).1 ∙ sym (one-reply r s l line loud is)
+
+pub silent-counts : (t : Tally) (r : Rules) (s : State) (l : List ℕ) → is_silent l ≡ true → t ≡ tallied t (answers r s (meanings meaning (l ∷ [])))
+silent-counts t r s l silent = let none = sym silent in λ i. tallied t (answers r s (onto_meanings (none i) (meaning l) []))
+
+pub line-counts : {m : Meaning} {r : Rules} {parts : Meaning} {objects : Option Objects} {e new : SessionModel} (t : Tally) (l : List ℕ) (line : Line) (a : Answer) → IsRunning m r parts objects e → is_silent l ≡ false → meaning l ≡ Some line →
+    (IsSettled parts objects e → AnswersAs parts e new line (Ok a)) → (s : State) → StandsFor e s → counted t (reply_of a) ≡ tallied t (answers r s (meanings meaning (l ∷ [])))
+line-counts {r = r} t l line a h loud is steps s stands =
+    ap (counted t) ((steps (is-settled h) s stands).1 ∙ ap (λ x. as_shown (step x s line).1) (its-rules h)) ∙ counted-shown t (step r s line).1
+    ∙ sym (λ i. tallied t (answers r s (onto_meanings (loud i) (is i) [])))
 
 -- ---- the beginning
 

@@ -65,7 +65,7 @@ noted_call (Err e) c d id ts is same = same_noted c d id same
 -- ---- no call, and calls one after the other
 
 same-scan : (x : TxnIterator) → IsScanOf (id_of x) (number_of x) (scan_of x).order (scan_of x).range x
-same-scan x = record { named = refl; number = refl; order = refl; range = refl }
+same-scan x = record { named = refl; number = refl; ordered = refl; ranged = refl }
 
 pub took_none : (means : Means) (a : Reach) (c : CoreModel) (x : TxnIterator) (old : List KeyValue) → ((rows : List RowEntry) → means rows rows []) → Took means a a c c x x old old
 took_none means a c x old none = record {
@@ -88,7 +88,7 @@ took_both first second means a b c k l m x y z old mid new f g both = record {
   hands =
       g.hands ∙ ap (λ rs. rs ++ handed g.ts) f.hands ∙ append_assoc old (handed f.ts) (handed g.ts)
       ∙ ap (λ rs. old ++ rs) (sym (handed_both f.ts g.ts));
-  names = record { named = g.names.named ∙ f.names.named; number = g.names.number ∙ f.names.number; order = g.names.order ∙ f.names.order; range = g.names.range ∙ f.names.range };
+  names = record { named = g.names.named ∙ f.names.named; number = g.names.number ∙ f.names.number; ordered = g.names.ordered ∙ f.names.ordered; ranged = g.names.ranged ∙ f.names.ranged };
   rows = (λ w rows leaves sees.
       let one = f.rows w rows leaves (sees_first w a b c f.later.0 g.later.0 f.later.1 g.later.1 sees) in
       let two = g.rows w one.0 one.1 (sees_last w a b c f.later.0 g.later.0 f.later.1 g.later.1 sees) in
@@ -167,7 +167,7 @@ pub took_step : (a b c : Reach) (k l m : CoreModel) (x y z : TxnIterator) (j : �
 took_step a b c k l m x y z j sts st d old mid new within is f g =
     took_both (TakesRest (number_of x) (scan_of x).order sts j) (TakesStep (number_of y) (scan_of y).order st) (TakesRest (number_of x) (scan_of x).order sts (j + 1)) a b c k l m x y z old mid new f g
     (λ rows between left ts us rest step. rest_one (number_of x) j (scan_of x).order sts d rows between left ts us within rest
-    (subst (λ (s : ScanStep). TakesStep (number_of x) (scan_of x).order s between left us) is (subst (λ o. TakesStep (number_of x) o st between left us) f.names.order (subst (λ n. TakesStep n (scan_of y).order st between left us) f.names.number step))))
+    (subst (λ (s : ScanStep). TakesStep (number_of x) (scan_of x).order s between left us) is (subst (λ o. TakesStep (number_of x) o st between left us) f.names.ordered (subst (λ n. TakesStep n (scan_of y).order st between left us) f.names.number step))))
 
 pub took_steps : (a b : Reach) (k l : CoreModel) (x y : TxnIterator) (j : ℕ) (sts : List ScanStep) (old new : List KeyValue) → length sts ≤ j → Took (TakesRest (number_of x) (scan_of x).order sts j) a b k l x y old new → Took (TakesSteps (number_of x) (scan_of x).order sts) a b k l x y old new
 took_steps a b k l x y j sts old new past f =
@@ -304,7 +304,7 @@ scan_whole a b c k l m id order range sts x y rows some h f = record {
             (answers_sees (h.left early).0 is.os a b c h.later.0 f.later.0 h.later.1 f.later.1 (h.left early).1.meaning (h.left early).1.holds is.answers)
 
         noted-is : f.ts ≡ walk order n seen sts
-        noted-is = taken.2 ∙ (λ i. walk (h.names.order i) (h.names.number i) seen sts)
+        noted-is = taken.2 ∙ (λ i. walk (h.names.ordered i) (h.names.number i) seen sts)
 
 pub scan_fault : (a b c : Reach) (k l : CoreModel) (id : List ℕ) (order : IterationOrder) (range : BytesRange) (x : TxnIterator) (e : SlateDBError) → Opened a b k l id order range x → OnlyReads a b → Fails b c x e → IsAnswered a c k → IsFault a c e
 scan_fault a b c k l id order range x e h reads g is =

@@ -1,9 +1,9 @@
 -- What the status of a run that an error ended says of the error.
-use Rattle.std.proofs.Common.{◌≡◌, ◌⊎◌, ◌≤◌, inl, inr, ℕ, List, Option, Some, arith, refl, sym, subst}
+use Rattle.std.proofs.Common.{◌≡◌, ◌⊎◌, ◌≤◌, ◌<◌, inl, inr, ℕ, List, Option, Some, Result, Err, arith, refl, sym, ap, ◌∙◌, subst}
 use Rattle.slate_types.specs.declared.error.SlateDBError.{SlateDBError}
 use Rattle.slate_types.specs.declared.error.SlateDBError.TheVariants.{ScriptSyntax, ScriptTooLong, OutOfMemory, ReadFault, WriteFault, StoreFault, Callback, BlockTransformError, ChecksumMismatch, InvalidRowFlags, CorruptTable, InvalidSequenceOrder, MergeOperatorMissing}
 use Rattle.slate_db.specs.Parts.{IsTableError}
-use Rattle.slate_script.specs.Program.{status, IsStatus}
+use Rattle.slate_script.specs.Program.{status, IsGeneratedStatus, IsStatus}
 use Rattle.slate_script.specs.Run.{IsPartError, IsOutside, IsScriptError}
 
 abbrev pub EndsRun : SlateDBError → Type 0
@@ -126,3 +126,58 @@ from-outside e (inr (inr (inr is))) = neither (status e) (λ h. omega (arith, h,
 pub its-own : (found : Option SlateDBError) (e : SlateDBError) → IsOutside e ⊎ (found ≡ Some e) → (status e ≡ 3) ⊎ (status e ≡ 4) → found ≡ Some e
 its-own found e (inl is) which = absurd (from-outside e is which)
 its-own found e (inr is) which = is
+
+-- ---- of a run over a script that it makes for itself
+
+part-own : (e : SlateDBError) → IsPartError e → ((message : List ℕ) → e ≡ Callback message → ⊥) → (e ≡ BlockTransformError → ⊥) → IsGeneratedStatus (status e)
+part-own StoreFault part operator transformer = inr (inr (inl refl))
+part-own (Callback message) part operator transformer = absurd (operator message refl)
+part-own BlockTransformError part operator transformer = absurd (transformer refl)
+part-own (ChecksumMismatch stored computed) part operator transformer = inr (inr (inr (inl refl)))
+part-own (InvalidRowFlags flags) part operator transformer = inr (inr (inr (inr (inl refl))))
+part-own (CorruptTable place) part operator transformer = inr (inr (inr (inr (inr (inl refl)))))
+part-own (InvalidSequenceOrder before after) part operator transformer = inr (inr (inr (inr (inr (inr (inl refl))))))
+part-own MergeOperatorMissing part operator transformer = inr (inr (inr (inr (inr (inr (inr (inl refl)))))))
+part-own e part operator transformer = absurd part
+
+pub is-generated : (e : SlateDBError) → IsOutside e → (e ≡ ReadFault → ⊥) → ((message : List ℕ) → e ≡ Callback message → ⊥) → (e ≡ BlockTransformError → ⊥) → IsGeneratedStatus (status e)
+is-generated e (inl is) read operator transformer = subst (λ x. IsGeneratedStatus (status x)) (sym is) (inr (inr (inr (inr (inr (inr (inr (inr refl))))))))
+is-generated e (inr (inl is)) read operator transformer = absurd (read is)
+is-generated e (inr (inr (inl is))) read operator transformer = subst (λ x. IsGeneratedStatus (status x)) (sym is) (inr (inl refl))
+is-generated e (inr (inr (inr is))) read operator transformer = part-own e is operator transformer
+
+pub generated-high : (n : ℕ) → IsGeneratedStatus n → (n ≡ 0) ⊎ (6 ≤ n)
+generated-high n (inl h) = inl h
+generated-high n (inr (inl h)) = inr (omega (arith, h))
+generated-high n (inr (inr (inl h))) = inr (omega (arith, h))
+generated-high n (inr (inr (inr (inl h)))) = inr (omega (arith, h))
+generated-high n (inr (inr (inr (inr (inl h))))) = inr (omega (arith, h))
+generated-high n (inr (inr (inr (inr (inr (inl h)))))) = inr (omega (arith, h))
+generated-high n (inr (inr (inr (inr (inr (inr (inl h))))))) = inr (omega (arith, h))
+generated-high n (inr (inr (inr (inr (inr (inr (inr (inl h)))))))) = inr (omega (arith, h))
+generated-high n (inr (inr (inr (inr (inr (inr (inr (inr h)))))))) = inr (omega (arith, h))
+
+-- it is none of words, of a script or of a source
+pub generated-not : {P : Type 0} (n k : ℕ) → IsGeneratedStatus n → n ≡ k → 0 < k → k < 6 → P
+generated-not {P = P} n k own is low high = by (generated-high n own)
+  where
+    by : (n ≡ 0) ⊎ (6 ≤ n) → P
+    by (inl h) = absurd (omega (arith, h, is, low))
+    by (inr h) = absurd (omega (arith, h, is, high))
+
+pub generated-status : (n : ℕ) → IsGeneratedStatus n → IsStatus n
+generated-status n (inl h) = inl h
+generated-status n (inr (inl h)) = inr (inr (inr (inr (inr (inl h)))))
+generated-status n (inr (inr h)) = inr (inr (inr (inr (inr (inr h)))))
+
+pub written-or : {P : Type 0} (n : ℕ) (e : SlateDBError) → n ≡ status e → (e ≡ WriteFault) ⊎ P → (n ≡ 0) ⊎ (n ≡ 6) ⊎ P
+written-or n e is (inl h) = inr (inl (is ∙ ap status h))
+written-or n e is (inr h) = inr (inr h)
+
+-- an error of a run is its status, and else no count rose
+pub status-or : {B P : Type 0} (e f : SlateDBError) (n : ℕ) (run : Result B SlateDBError) → n ≡ status e → run ≡ Err e → (run ≡ Err f) ⊎ P → (n ≡ status f) ⊎ P
+status-or e f n run is was (inl h) = inl (is ∙ ap status same)
+  where
+    same : e ≡ f
+    same = cc
+status-or e f n run is was (inr h) = inr h

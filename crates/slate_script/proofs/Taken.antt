@@ -11,10 +11,13 @@ use Rattle.slate_store.specs.Lines.{lines_of, whole_part, script_limit, HasNoEnd
 use Rattle.slate_store.proofs.LineLaws.{taken_line_is_first, whole_lines_join, whole_parts_join, partial_line_is_not_whole, end_makes_whole}
 use Rattle.slate_txn.specs.State.{Rules, State, opening}
 use Rattle.slate_language.specs.Stage.{meaning}
-use Rattle.slate_language.specs.Replies.{after_lines, replies_from, replies_to, IsWellFormed}
+use Rattle.slate_language.specs.declared.tally.Tally.{Tally}
+use Rattle.slate_language.specs.Tally.{tallied}
+use Rattle.slate_language.specs.Replies.{meanings, after_lines, replies_from, replies_to, IsWellFormed}
+use Rattle.slate_txn.specs.Step.{answers}
 use Rattle.slate_script.specs.Session.{SessionModel, StandsFor}
 use Rattle.slate_script.specs.Run.{is_line, first_other, is_too_long, lines_taken, error_of, script_error, AreLines}
-use Rattle.slate_script.proofs.Answered.{lines-more, replies-append, state-append, other-none, none-other, lines-built, built-lines}
+use Rattle.slate_script.proofs.Answered.{lines-more, replies-append, state-append, tally-append, other-none, none-other, lines-built, built-lines}
 
 -- whole lines: the last has its LF
 abbrev pub IsCut : List ℕ → Type 0
@@ -212,7 +215,7 @@ formed-no_error script h = lines-no_error script h.0 (built-lines (lines_of scri
 -- ---- a run
 
 -- told: what the sink held when the run began
-pub record IsAt (P : Type 0) (r : Rules) (script : List ℕ) (source told sink : Option (List ℕ)) (m : LinesModel) (number : ℕ) (e : SessionModel) : Type 0 where
+pub record IsAt (P : Type 0) (r : Rules) (script : List ℕ) (source told sink : Option (List ℕ)) (first tally : Tally) (m : LinesModel) (number : ℕ) (e : SessionModel) : Type 0 where
   pub left : List ℕ
   pub rest : source ≡ Some left
   pub done : List ℕ
@@ -222,8 +225,9 @@ pub record IsAt (P : Type 0) (r : Rules) (script : List ℕ) (source told sink :
   pub count : number ≡ length (lines_of done)
   pub session : P → StandsFor e (after_lines meaning r opening (lines_of done))
   pub said : P → (before : List ℕ) → told ≡ Some before → sink ≡ Some (before ++ replies_to meaning r (lines_of done))
+  pub counts : P → tally ≡ tallied first (answers r opening (meanings meaning (lines_of done)))
 
-pub record Took (P : Type 0) (r : Rules) (script : List ℕ) (source told sink : Option (List ℕ)) (m : LinesModel) (line : List ℕ) (number : ℕ) (e : SessionModel) : Type 0 where
+pub record Took (P : Type 0) (r : Rules) (script : List ℕ) (source told sink : Option (List ℕ)) (first tally : Tally) (m : LinesModel) (line : List ℕ) (number : ℕ) (e : SessionModel) : Type 0 where
   pub left : List ℕ
   pub rest : source ≡ Some left
   pub done : List ℕ
@@ -235,9 +239,10 @@ pub record Took (P : Type 0) (r : Rules) (script : List ℕ) (source told sink :
   pub count : number ≡ length (lines_of done) + 1
   pub session : P → StandsFor e (after_lines meaning r opening (lines_of done))
   pub said : P → (before : List ℕ) → told ≡ Some before → sink ≡ Some (before ++ replies_to meaning r (lines_of done))
+  pub counts : P → tally ≡ tallied first (answers r opening (meanings meaning (lines_of done)))
 
-pub begin : (P : Type 0) (r : Rules) (script : List ℕ) (source told : Option (List ℕ)) (m : LinesModel) (e : SessionModel) → source ≡ Some script → m.held ≡ [] → m.given ≡ 0 → StandsFor e opening → IsAt P r script source told told m 0 e
-begin P r script source told m e is held given opens = record {
+pub begin : (P : Type 0) (r : Rules) (script : List ℕ) (source told : Option (List ℕ)) (first : Tally) (m : LinesModel) (e : SessionModel) → source ≡ Some script → m.held ≡ [] → m.given ≡ 0 → StandsFor e opening → IsAt P r script source told told first first m 0 e
+begin P r script source told first m e is held given opens = record {
   left = script;
   rest = is;
   done = [];
@@ -247,11 +252,12 @@ begin P r script source told m e is held given opens = record {
   count = refl;
   session = λ p. opens;
   said = λ p before told-is. told-is ∙ ap Some (sym (append-nil before));
+  counts = λ p. refl;
 }
 
-pub take-line : (P : Type 0) (r : Rules) (script line : List ℕ) (source told sink after : Option (List ℕ)) (old new : LinesModel) (number : ℕ) (e : SessionModel) (at : IsAt P r script source told sink old number e) (rest : List ℕ)
-    → after ≡ Some rest → GivesLine line old at.left new rest → new.given ≤ script_limit → Took P r script after told sink new line (number + 1) e
-take-line P r script line source told sink after old new number e at rest is gives within =
+pub take-line : (P : Type 0) (r : Rules) (script line : List ℕ) (source told sink after : Option (List ℕ)) (first tally : Tally) (old new : LinesModel) (number : ℕ) (e : SessionModel) (at : IsAt P r script source told sink first tally old number e) (rest : List ℕ)
+    → after ≡ Some rest → GivesLine line old at.left new rest → new.given ≤ script_limit → Took P r script after told sink first tally new line (number + 1) e
+take-line P r script line source told sink after first tally old new number e at rest is gives within =
     let g = grow script at.done line at.left rest old new at.stands at.given gives within in
     record {
       left = rest;
@@ -265,16 +271,18 @@ take-line P r script line source told sink after old new number e at rest is giv
       count = ap (λ n. n + 1) at.count;
       session = at.session;
       said = at.said;
+      counts = at.counts;
     }
 
 one-more : (ls : List (List ℕ)) (l : List ℕ) → length ls + 1 ≡ length (ls ++ (l ∷ []))
 one-more ls l = sym (length-append ls (l ∷ []))
 
-pub answer-it : (P : Type 0) (r : Rules) (script line : List ℕ) (source told sink after : Option (List ℕ)) (m : LinesModel) (number : ℕ) (e new : SessionModel) → Took P r script source told sink m line number e
+pub answer-it : (P : Type 0) (r : Rules) (script line : List ℕ) (source told sink after : Option (List ℕ)) (first tally next : Tally) (m : LinesModel) (number : ℕ) (e new : SessionModel) → Took P r script source told sink first tally m line number e
     → IsTrue (is_line line) → (P → (s : State) → StandsFor e s → StandsFor new (after_lines meaning r s (line ∷ [])))
     → (P → (s : State) (before : List ℕ) → StandsFor e s → sink ≡ Some before → after ≡ Some (before ++ replies_from meaning r s (line ∷ [])))
-    → IsAt P r script source told after m number new
-answer-it P r script line source told sink after m number e new took is stands says = record {
+    → (P → (s : State) → StandsFor e s → next ≡ tallied tally (answers r s (meanings meaning (line ∷ []))))
+    → IsAt P r script source told after first next m number new
+answer-it P r script line source told sink after first tally next m number e new took is stands says counts = record {
   left = took.left;
   rest = took.rest;
   done = took.more;
@@ -287,23 +295,26 @@ answer-it P r script line source told sink after m number e new took is stands s
       says p _ (before ++ replies_to meaning r (lines_of took.done)) (took.session p) (took.said p before is)
       ∙ ap Some (append_assoc before (replies_to meaning r (lines_of took.done)) (replies_from meaning r (after_lines meaning r opening (lines_of took.done)) (line ∷ []))
       ∙ ap (λ bs. before ++ bs) (sym (ap (replies_to meaning r) took.lines ∙ replies-append r opening (lines_of took.done) (line ∷ []) took.meant)));
+  counts = λ p.
+      counts p _ (took.session p) ∙ ap (λ t. tallied t (answers r (after_lines meaning r opening (lines_of took.done)) (meanings meaning (line ∷ [])))) (took.counts p)
+      ∙ sym (ap (λ ls. tallied first (answers r opening (meanings meaning ls))) took.lines ∙ tally-append first r opening (lines_of took.done) (line ∷ []) took.meant);
 }
 
 -- ---- what the reader answered
 
-pub took-told : {V P : Type 0} {r : Rules} {script : List ℕ} {source told sink : Option (List ℕ)} {old : LinesModel} {number : ℕ} {e : SessionModel} (items : V → List ℕ) (o : Option V) (v : V) (line : List ℕ) (after : Option (List ℕ)) (new : LinesModel)
+pub took-told : {V P : Type 0} {r : Rules} {script : List ℕ} {source told sink : Option (List ℕ)} {first tally : Tally} {old : LinesModel} {number : ℕ} {e : SessionModel} (items : V → List ℕ) (o : Option V) (v : V) (line : List ℕ) (after : Option (List ℕ)) (new : LinesModel)
     → ((left : List ℕ) → source ≡ Some left → (rest : List ℕ) × (after ≡ Some rest) × MatchOption o (IsEnd old left new rest) (λ l. GivesLine (items l) old left new rest))
-    → new.given + length new.held ≤ script_limit → o ≡ Some v → line ≡ items v → IsAt P r script source told sink old number e → Took P r script after told sink new line (number + 1) e
-took-told {P = P} {r = r} {script = script} {source = source} {told = told} {sink = sink} {old = old} {number = number} {e = e} items o v line after new tells within some is at =
+    → new.given + length new.held ≤ script_limit → o ≡ Some v → line ≡ items v → IsAt P r script source told sink first tally old number e → Took P r script after told sink first tally new line (number + 1) e
+took-told {P = P} {r = r} {script = script} {source = source} {told = told} {sink = sink} {first = first} {tally = tally} {old = old} {number = number} {e = e} items o v line after new tells within some is at =
     let gave = tells at.left at.rest in
     let gives : GivesLine line old at.left new gave.0 =
     subst (λ l. GivesLine l old at.left new gave.0) (sym is) (subst (λ p. MatchOption p (IsEnd old at.left new gave.0) (λ l. GivesLine (items l) old at.left new gave.0)) some gave.2) in
     let bound : new.given ≤ script_limit = omega arith in
-    take-line P r script line source told sink after old new number e at gave.0 gave.1 gives bound
+    take-line P r script line source told sink after first tally old new number e at gave.0 gave.1 gives bound
 
-pub end-told : {V P : Type 0} {r : Rules} {script : List ℕ} {source told sink : Option (List ℕ)} {old : LinesModel} {number : ℕ} {e : SessionModel} (items : V → List ℕ) (o : Option V) (after : Option (List ℕ)) (new : LinesModel)
+pub end-told : {V P : Type 0} {r : Rules} {script : List ℕ} {source told sink : Option (List ℕ)} {first tally : Tally} {old : LinesModel} {number : ℕ} {e : SessionModel} (items : V → List ℕ) (o : Option V) (after : Option (List ℕ)) (new : LinesModel)
     → ((left : List ℕ) → source ≡ Some left → (rest : List ℕ) × (after ≡ Some rest) × MatchOption o (IsEnd old left new rest) (λ l. GivesLine (items l) old left new rest))
-    → o ≡ None → (at : IsAt P r script source told sink old number e) → (rest : List ℕ) × (after ≡ Some rest) × IsEnd old at.left new rest
+    → o ≡ None → (at : IsAt P r script source told sink first tally old number e) → (rest : List ℕ) × (after ≡ Some rest) × IsEnd old at.left new rest
 end-told {old = old} items o after new tells none at =
     let gave = tells at.left at.rest in
     (gave.0, gave.1, subst (λ p. MatchOption p (IsEnd old at.left new gave.0) (λ l. GivesLine (items l) old at.left new gave.0)) none gave.2)

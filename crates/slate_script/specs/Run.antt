@@ -11,9 +11,10 @@
 --     HasBegun r script said      the same, and a front of one reply more
 --     HasSaid r script left before after result      what the sink took in a run, by what ended it
 --     HasRead script left result      what the source gave in a run, and which errors the script has
+--     HasTold line before after result      what the sink took in a run that writes one line
 --     HasCause source sink before after result      an error of a run with its cause; source, sink: their counts of faults rose
 --     NoneRose source sink before after      no count of faults rose
-use Rattle.std.specs.Prelude.{◌≡◌, ◌≢◌, ◌≤◌, ℕ, suc, ◌-◌, ◌⊎◌, Bool, ◌||◌, if◌then◌else◌, nat_lt, List, [], ◌∷◌, ◌++◌, length, take, drop, Option, Some, None, is_some, option_map, Result, Err, OnOk, IfErr, IsTrue}
+use Rattle.std.specs.Prelude.{◌≡◌, ◌≢◌, ◌≤◌, ◌<◌, ℕ, suc, ◌-◌, ◌⊎◌, Bool, ◌||◌, if◌then◌else◌, nat_lt, List, [], ◌∷◌, ◌++◌, length, take, drop, Option, Some, None, is_some, option_map, Result, Err, OnOk, IfErr, IsTrue}
 use Rattle.std.specs.List.{AllByRecursion}
 use Rattle.slate_types.specs.declared.config.Options.{Options}
 use Rattle.slate_types.specs.declared.error.SlateDBError.{SlateDBError}
@@ -140,3 +141,10 @@ pub record NoneRose (source sink : Type 0) (before after : Reach) : Type 0 where
   pub store : Rose before.faults.store after.faults.store → ⊥
   pub operator : Rose before.faults.operator after.faults.operator → ⊥
   pub transformer : Rose before.faults.transformer after.faults.transformer → ⊥
+
+-- ---- a run that writes one line
+
+-- line: what it writes; before, after: what the sink tells
+pub record HasTold {T : Type 0} (line before : List ℕ) (after : Option (List ℕ)) (result : Result T SlateDBError) : Type 0 where
+  pub whole : OnOk result (after ≡ Some (before ++ line))
+  pub begun : result ≡ Err WriteFault → (n : ℕ) × (n < length line) × (after ≡ Some (before ++ take n line))

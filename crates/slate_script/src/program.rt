@@ -1,32 +1,41 @@
 //! The program: its words, and the status that it ends with.
-ghost use Rattle.std.specs.Prelude.{◌≡◌, ◌≢◌, ◌⊎◌, ◌≤◌, ◌++◌, [], ℕ, List, Some, None, map, drop, option_map};
+ghost use Rattle.std.specs.Prelude.{◌≡◌, ◌≢◌, ◌⊎◌, ◌≤◌, ◌<◌, ◌++◌, [], ℕ, List, Some, None, map, take, drop, length, option_map};
 ghost use Rattle.std.specs.String.{string_bytes};
+ghost use Rattle.slate_types.specs.Config.{IsValid};
 ghost use Rattle.slate_types.specs.Faults.{Rose};
 ghost use Rattle.slate_types.specs.declared.error.SlateDBError.TheVariants as errors;
 ghost use Rattle.slate_store.specs.Lines.{lines_of, script_limit};
 ghost use Rattle.slate_store.specs.Store.{IsEmpty};
 ghost use Rattle.slate_txn.specs.State.{opening};
 ghost use Rattle.slate_db.specs.Flushed.{layout_of};
+ghost use Rattle.slate_language.specs.Generate.{generate, summary};
+ghost use Rattle.slate_language.specs.declared.words.Generated.{Generated};
 ghost use Rattle.slate_language.specs.declared.words.Settings.{Settings};
-ghost use Rattle.slate_script.specs.Program.{main_rules, parts_of, status, IsStatus};
+ghost use Rattle.slate_script.specs.Program.{main_rules, parts_of, status, IsGeneratedStatus, IsStatus};
 ghost use Rattle.slate_language.specs.Replies.{after_lines, replies, replies_to, IsWellFormed};
 ghost use Rattle.slate_language.specs.Stage.{meaning};
-ghost use Rattle.slate_language.specs.Words.{read_words};
+ghost use Rattle.slate_language.specs.Words.{max_rounds, read_generated, read_words};
 ghost use Rattle.slate_script.specs.Run.{script_error, lines_taken, IsOutside, IsScriptError, HasAnswered, HasAnsweredAll, HasBegun};
 ghost use Rattle.slate_script.specs.StoredState.{IsStoredState};
 ghost use Rattle.slate_script.specs.Told.{IsUntrue};
 
+use crate::generated::run_generated;
 use crate::run::run_script;
 use slate_db::laws::Laws;
-use slate_language::{Xor, parse_words};
+use slate_language::{Generated, Xor, parse_generated, parse_words};
 use slate_store::{Env, Sink, Source, Store};
-use slate_types::{NoExtractor, NoOperator, SlateDBError};
+use slate_types::{NoExtractor, NoOperator, Options, SlateDBError};
 use std::alloc::Global;
 
-/// Runs the script that the source gives over the store, as the words say, and answers the status to end with: 0
+/// Runs a script over the store, as the words say, and answers the status to end with: 0
 /// where the run answers Ok, 2 exactly where the words are none of a run, 3 for `ScriptSyntax`, 4 for
 /// `ScriptTooLong`, 5 for `ReadFault`, 6 for `WriteFault`, 7 for `StoreFault`, 12, 14, 16, 18 and 19 where a table
 /// isn't what was stored, and 20 for want of memory.
+///
+/// The script is what the source gives, or, where the words begin with `gen`, one that the run makes for itself. Then
+/// the source isn't read, the replies are counted and not written, and the sink takes one line: how many replies there
+/// were, the last sequence, and how many gets found a row. Such a run never ends with 3, 4 or 5, and at a status other than
+/// 0 and 6 nothing is written.
 ///
 /// What is said of the script and of what was written holds where source and sink tell their bytes, and what is said
 /// of replies and of stored tables where the store was empty and tells its objects besides. Over such a store 12, 14,
@@ -43,7 +52,7 @@ pub fn run_main<R: Source, W: Sink, S: Store>(
     ensures statuses { IsStatus result }
 
     // 2: exactly where the words are none, and then nothing is read, written or stored
-    ensures unknown { read_words (map string_bytes words.now) ≡ None → result ≡ 2 }
+    ensures unknown { read_words (map string_bytes words.now) ≡ None → read_generated (map string_bytes words.now) ≡ None → result ≡ 2 }
     ensures known { (s : Settings) → read_words (map string_bytes words.now) ≡ Some s → result ≢ 2 }
     ensures unread { result ≡ 2 → source.new ≡ source.old }
     ensures unwritten { result ≡ 2 → sink.new ≡ sink.old }
@@ -54,10 +63,10 @@ pub fn run_main<R: Source, W: Sink, S: Store>(
         result ≡ 0 → W.content sink.new ≡ Some (before ++ replies (main_rules s.options) script) }
     ensures stored { (s : Settings) (script : List ℕ) → read_words (map string_bytes words.now) ≡ Some s → R.left source.old ≡ Some script → IsEmpty (S.objects store.old) →
         result ≡ 0 → IsStoredState (parts_of s.mask) (main_rules s.options) (layout_of s.options) (S.objects store.new) (after_lines meaning (main_rules s.options) opening (lines_of script)) }
-    ensures read { (script : List ℕ) → R.left source.old ≡ Some script → result ≡ 0 → IsWellFormed script × (R.left source.new ≡ Some []) }
+    ensures read { (script : List ℕ) → read_generated (map string_bytes words.now) ≡ None → R.left source.old ≡ Some script → result ≡ 0 → IsWellFormed script × (R.left source.new ≡ Some []) }
 
     // the others, each with its cause
-    ensures no_error { (script : List ℕ) → R.left source.old ≡ Some script → result ≡ 0 → script_error script ≡ None }
+    ensures no_error { (script : List ℕ) → read_generated (map string_bytes words.now) ≡ None → R.left source.old ≡ Some script → result ≡ 0 → script_error script ≡ None }
     ensures syntax { (script : List ℕ) → R.left source.old ≡ Some script → result ≡ 3 → (n : ℕ) × (script_error script ≡ Some (errors.ScriptSyntax n)) }
     ensures too_long { (script : List ℕ) → R.left source.old ≡ Some script → result ≡ 4 → script_error script ≡ Some errors.ScriptTooLong }
     ensures read_fault { result ≡ 5 → Rose (R.faults source.old) (R.faults source.new) }
@@ -86,7 +95,24 @@ pub fn run_main<R: Source, W: Sink, S: Store>(
     ensures all { (script : List ℕ) → R.left source.old ≡ Some script → result ≡ 4 → R.left source.new ≡ Some (drop script_limit script) }
     ensures taken { (script : List ℕ) → R.left source.old ≡ Some script → (n : ℕ) × (n ≤ script_limit) × (R.left source.new ≡ Some (drop n script)) }
     ensures later { (R.faults source.old ≤ R.faults source.new) × (W.faults sink.old ≤ W.faults sink.new) }
+
+    // a script that the run makes for itself: its summary is written, and no reply
+    ensures summed { (g : Generated) (before : List ℕ) → read_generated (map string_bytes words.now) ≡ Some g → W.content sink.old ≡ Some before → IsEmpty (S.objects store.old) →
+        result ≡ 0 → W.content sink.new ≡ Some (before ++ summary (main_rules g.settings.options) (generate g.rounds g.seed)) }
+    ensures summed_stored { (g : Generated) → read_generated (map string_bytes words.now) ≡ Some g → IsEmpty (S.objects store.old) →
+        result ≡ 0 → IsStoredState (parts_of g.settings.mask) (main_rules g.settings.options) (layout_of g.settings.options) (S.objects store.new) (after_lines meaning (main_rules g.settings.options) opening (lines_of (generate g.rounds g.seed))) }
+    ensures summed_kinds { (g : Generated) → read_generated (map string_bytes words.now) ≡ Some g → IsGeneratedStatus result }
+    ensures summed_alone { (g : Generated) → read_generated (map string_bytes words.now) ≡ Some g → source.new ≡ source.old }
+    ensures summed_undamaged { (g : Generated) → read_generated (map string_bytes words.now) ≡ Some g → IsEmpty (S.objects store.old) → (result ≡ 12) ⊎ (result ≡ 14) ⊎ (result ≡ 16) ⊎ (result ≡ 18) ⊎ (result ≡ 19) → ⊥ }
+    ensures summed_complete { (g : Generated) → read_generated (map string_bytes words.now) ≡ Some g → IsEmpty (S.objects store.old) →
+        (Rose (W.faults sink.old) (W.faults sink.new) → ⊥) → (Rose (S.faults store.old) (S.faults store.new) → ⊥) → (result ≡ 0) ⊎ (result ≡ 20) }
+    ensures summed_begun { (g : Generated) (before : List ℕ) → read_generated (map string_bytes words.now) ≡ Some g → W.content sink.old ≡ Some before → IsEmpty (S.objects store.old) → result ≡ 6 →
+        (n : ℕ) × (n < length (summary (main_rules g.settings.options) (generate g.rounds g.seed))) × (W.content sink.new ≡ Some (before ++ take n (summary (main_rules g.settings.options) (generate g.rounds g.seed)))) }
+    ensures summed_unwritten { (g : Generated) → read_generated (map string_bytes words.now) ≡ Some g → (result ≡ 0) ⊎ (result ≡ 6) ⊎ (W.content sink.new ≡ W.content sink.old) }
 {
+    if let Some(generated) = parse_generated(words) {
+        return main_generated(alloc, &generated, sink, store);
+    }
     let Some(settings) = parse_words(words) else {
         return 2;
     };
@@ -96,11 +122,7 @@ pub fn run_main<R: Source, W: Sink, S: Store>(
         operator,
         transformer: transformer_of(settings.mask),
     };
-    let laws: Laws<NoExtractor> = Laws {
-        options: settings.options,
-        segments: None,
-        policies: Vec::new(alloc),
-    };
+    let laws = plain_laws(alloc, settings.options);
     let ran = run_script(alloc, source, sink, &mut env, &laws);
     drop(laws);
     match ran {
@@ -110,6 +132,69 @@ pub fn run_main<R: Source, W: Sink, S: Store>(
             drop(error);
             status
         }
+    }
+}
+
+/// Runs the script that the words behind `gen` name, and answers the status to end with, as `run_main` does.
+fn main_generated<W: Sink, S: Store>(
+    alloc: Global,
+    generated: &Generated,
+    sink: &mut W,
+    store: &mut S,
+) -> u8
+    requires valid { IsValid generated.now.settings.options }
+    requires few { generated.now.rounds ≤ max_rounds }
+    ensures kinds { IsGeneratedStatus result }
+    ensures summed { (before : List ℕ) → W.content sink.old ≡ Some before → IsEmpty (S.objects store.old) →
+        result ≡ 0 → W.content sink.new ≡ Some (before ++ summary (main_rules generated.now.settings.options) (generate generated.now.rounds generated.now.seed)) }
+    ensures stored { IsEmpty (S.objects store.old) →
+        result ≡ 0 → IsStoredState (parts_of generated.now.settings.mask) (main_rules generated.now.settings.options) (layout_of generated.now.settings.options) (S.objects store.new) (after_lines meaning (main_rules generated.now.settings.options) opening (lines_of (generate generated.now.rounds generated.now.seed))) }
+    ensures write_fault { result ≡ 6 → Rose (W.faults sink.old) (W.faults sink.new) }
+    ensures store_fault { result ≡ 7 → Rose (S.faults store.old) (S.faults store.new) }
+    ensures undamaged { IsEmpty (S.objects store.old) → (result ≡ 12) ⊎ (result ≡ 14) ⊎ (result ≡ 16) ⊎ (result ≡ 18) ⊎ (result ≡ 19) → ⊥ }
+    ensures untrue { (result ≡ 12) ⊎ (result ≡ 14) ⊎ (result ≡ 16) ⊎ (result ≡ 18) ⊎ (result ≡ 19) → IsUntrue [] (S.acts store.old) (S.acts store.new) }
+    ensures complete { IsEmpty (S.objects store.old) →
+        (Rose (W.faults sink.old) (W.faults sink.new) → ⊥) → (Rose (S.faults store.old) (S.faults store.new) → ⊥) → (result ≡ 0) ⊎ (result ≡ 20) }
+    ensures begun { (before : List ℕ) → W.content sink.old ≡ Some before → IsEmpty (S.objects store.old) → result ≡ 6 →
+        (n : ℕ) × (n < length (summary (main_rules generated.now.settings.options) (generate generated.now.rounds generated.now.seed))) × (W.content sink.new ≡ Some (before ++ take n (summary (main_rules generated.now.settings.options) (generate generated.now.rounds generated.now.seed)))) }
+    ensures unwritten { (result ≡ 0) ⊎ (result ≡ 6) ⊎ (W.content sink.new ≡ W.content sink.old) }
+    ensures sink_still { (result ≡ 6) ⊎ (W.faults sink.new ≡ W.faults sink.old) }
+    ensures later { W.faults sink.old ≤ W.faults sink.new }
+{
+    let operator: Option<NoOperator> = None;
+    let mut env = Env {
+        store: &mut *store,
+        operator,
+        transformer: transformer_of(generated.settings.mask),
+    };
+    let laws = plain_laws(alloc, generated.settings.options);
+    let ran = run_generated(
+        alloc,
+        generated.rounds,
+        generated.seed,
+        sink,
+        &mut env,
+        &laws,
+    );
+    drop(laws);
+    match ran {
+        Ok(()) => 0,
+        Err(error) => {
+            let status = status_of(&error);
+            drop(error);
+            status
+        }
+    }
+}
+
+/// Laws without segments and filters.
+fn plain_laws(alloc: Global, options: Options) -> Laws<NoExtractor>
+    ensures { result.options ≡ options }
+{
+    Laws {
+        options,
+        segments: None,
+        policies: Vec::new(alloc),
     }
 }
 

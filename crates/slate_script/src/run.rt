@@ -11,9 +11,11 @@ ghost use Rattle.slate_db.specs.Installs.{runs_of, tables_of};
 ghost use Rattle.slate_db.specs.Load.{weight};
 ghost use Rattle.slate_db.specs.Meaning.{Meaning, IsLawfulMeaning};
 ghost use Rattle.slate_db.specs.Parts.{IsTableError};
-ghost use Rattle.slate_language.specs.Replies.{replies, replies_to, after_lines, replies_from, reply_line, IsWellFormed};
+ghost use Rattle.slate_language.specs.Replies.{meanings, replies, replies_to, after_lines, replies_from, reply_line, IsWellFormed};
 ghost use Rattle.slate_language.specs.Answers.{reply_of};
 ghost use Rattle.slate_language.specs.Stage as stage;
+ghost use Rattle.slate_language.specs.Tally.{tallied};
+ghost use Rattle.slate_txn.specs.Step.{answers};
 ghost use Rattle.slate_script.specs.Session.{StandsFor, HasTablesAlone, IsRunning, IsSettled, IsLimit, held_load};
 ghost use Rattle.slate_script.specs.Run.{run_rules, Premises, is_line, script_error, lines_taken, IsPartError, IsPartCause, HasCause, HasRead, HasSaid, NoneRose};
 ghost use Rattle.slate_script.specs.StoredState.{IsStoredState};
@@ -21,7 +23,7 @@ ghost use Rattle.slate_script.specs.Told.{Follows, IsShownAtEnd, IsShownBy, IsUn
 
 use crate::session::Session;
 use slate_db::laws::Laws;
-use slate_language::{Answer, parse_line, reply_text};
+use slate_language::{Answer, Tally, parse_line, reply_text};
 use slate_store::{Env, EnvOf, Lines, Sink, Source, Store, write_all};
 use slate_types::{BlockTransformer, MergeOperator, Outside, PrefixExtractor, SlateDBError};
 use std::alloc::Global;
@@ -78,6 +80,49 @@ pub fn run_script<
     ensures later { (R.faults source.old ≤ R.faults source.new) × (W.faults sink.old ≤ W.faults sink.new) }
     ensures puts { let reach = ⟦<EnvOf<S, M, T> as Outside>⟧.reach in Puts (reach env.old) (reach env.new) }
 {
+    let mut tally = Tally::new(laws.options.start_seq);
+    answer_lines(alloc, source, sink, env, laws, &mut tally)
+}
+
+/// Answers each line of the source into the sink, reads on to the end, and counts the replies. What is said of a run
+/// is `run_script`'s.
+pub(crate) fn answer_lines<
+    R: Source,
+    W: Sink,
+    S: Store,
+    M: MergeOperator,
+    T: BlockTransformer,
+    X: PrefixExtractor,
+>(
+    alloc: Global,
+    source: &mut R,
+    sink: &mut W,
+    env: &mut Env<'_, S, M, T>,
+    laws: &Laws<X>,
+    tally: &mut Tally,
+) -> Result<(), SlateDBError>
+    requires { IsValid laws.now.options }
+
+    ensures said { let reach = ⟦<EnvOf<S, M, T> as Outside>⟧.reach in (script before : List ℕ) → R.left source.old ≡ Some script → W.content sink.old ≡ Some before → Premises (reach env.old).meaning (reach env.old).objects →
+        HasSaid (run_rules laws.now.options (reach env.old).meaning) script (R.left source.new) before (W.content sink.new) result }
+    ensures counted { let reach = ⟦<EnvOf<S, M, T> as Outside>⟧.reach in (script : List ℕ) → R.left source.old ≡ Some script → Premises (reach env.old).meaning (reach env.old).objects →
+        OnOk result (tally.new ≡ tallied tally.old (answers (run_rules laws.now.options (reach env.old).meaning) opening (meanings stage.meaning (lines_of script)))) }
+    ensures stored { let reach = ⟦<EnvOf<S, M, T> as Outside>⟧.reach in (script : List ℕ) → R.left source.old ≡ Some script → Premises (reach env.old).meaning (reach env.old).objects →
+        OnOk result (IsStoredState (reach env.old).meaning (run_rules laws.now.options (reach env.old).meaning) (layout_of laws.now.options) (reach env.new).objects (after_lines stage.meaning (run_rules laws.now.options (reach env.old).meaning) opening (lines_of script))) }
+    ensures read { (script : List ℕ) → R.left source.old ≡ Some script → HasRead script (R.left source.new) result }
+
+    // errors: each has its cause, and no fault is passed over
+    ensures cause { let reach = ⟦<EnvOf<S, M, T> as Outside>⟧.reach in HasCause (Rose (R.faults source.old) (R.faults source.new)) (Rose (W.faults sink.old) (W.faults sink.new)) (reach env.old) (reach env.new) result }
+    ensures undamaged { let reach = ⟦<EnvOf<S, M, T> as Outside>⟧.reach in Premises (reach env.old).meaning (reach env.old).objects → IfErr result (λ e. IsTableError e → ⊥) }
+    ensures untrue { let reach = ⟦<EnvOf<S, M, T> as Outside>⟧.reach in IsLawfulMeaning (reach env.old).meaning → IfErr result (λ e. IsTableError e → IsUntrue [] (reach env.old).acts (reach env.new).acts) }
+    ensures shown { let reach = ⟦<EnvOf<S, M, T> as Outside>⟧.reach in IfErr result (λ e. IsTableError e → IsShownAtEnd (reach env.old) (reach env.new) e) }
+    ensures complete { let reach = ⟦<EnvOf<S, M, T> as Outside>⟧.reach in (script : List ℕ) → R.left source.old ≡ Some script → IsWellFormed script → Premises (reach env.old).meaning (reach env.old).objects →
+        NoneRose (Rose (R.faults source.old) (R.faults source.new)) (Rose (W.faults sink.old) (W.faults sink.new)) (reach env.old) (reach env.new) → IfErr result (λ e. e ≡ SlateDBError.OutOfMemory) }
+    ensures source_still { (result ≡ Err SlateDBError.ReadFault) ⊎ (R.faults source.new ≡ R.faults source.old) }
+    ensures sink_still { (result ≡ Err SlateDBError.WriteFault) ⊎ (W.faults sink.new ≡ W.faults sink.old) }
+    ensures later { (R.faults source.old ≤ R.faults source.new) × (W.faults sink.old ≤ W.faults sink.new) }
+    ensures puts { let reach = ⟦<EnvOf<S, M, T> as Outside>⟧.reach in Puts (reach env.old) (reach env.new) }
+{
     let mut lines = Lines::new(alloc);
     let mut session = Session::new(alloc, &laws.options);
     let mut number = 0;
@@ -95,6 +140,7 @@ pub fn run_script<
             alloc,
             &mut session,
             sink,
+            tally,
             env,
             laws,
             line.as_slice(),
@@ -111,7 +157,7 @@ pub fn run_script<
     Ok(())
 }
 
-/// Answers the line with this number: nothing for a silent one. `ScriptSyntax` comes exactly where it is
+/// Answers and counts the line with this number: nothing for a silent one. `ScriptSyntax` comes exactly where it is
 /// neither silent nor means something, unless memory was wanting first. `WriteFault` comes only where the
 /// sink's count of faults rose, and then a front of the reply was written, and not all of it. At another error
 /// nothing was written.
@@ -119,6 +165,7 @@ fn answer_line<W: Sink, S: Store, M: MergeOperator, T: BlockTransformer, X: Pref
     alloc: Global,
     session: &mut Session,
     sink: &mut W,
+    tally: &mut Tally,
     env: &mut Env<'_, S, M, T>,
     laws: &Laws<X>,
     line: &[u8],
@@ -130,6 +177,8 @@ fn answer_line<W: Sink, S: Store, M: MergeOperator, T: BlockTransformer, X: Pref
     ensures stands { let reach = ⟦<EnvOf<S, M, T> as Outside>⟧.reach in (m : Meaning) (r : Rules) → IsRunning m r (reach env.old).meaning (reach env.old).objects session.old → (s : State) → StandsFor session.old s → OnOk result (StandsFor session.new (after_lines stage.meaning r s (line.now ∷ []))) }
     ensures answered { let reach = ⟦<EnvOf<S, M, T> as Outside>⟧.reach in (m : Meaning) (r : Rules) → IsRunning m r (reach env.old).meaning (reach env.old).objects session.old → (s : State) (before : List ℕ) → StandsFor session.old s → W.content sink.old ≡ Some before →
         OnOk result (W.content sink.new ≡ Some (before ++ replies_from stage.meaning r s (line.now ∷ []))) }
+    ensures counted { let reach = ⟦<EnvOf<S, M, T> as Outside>⟧.reach in (m : Meaning) (r : Rules) → IsRunning m r (reach env.old).meaning (reach env.old).objects session.old → (s : State) → StandsFor session.old s →
+        OnOk result (tally.new ≡ tallied tally.old (answers r s (meanings stage.meaning (line.now ∷ [])))) }
     ensures grows { OnOk result ((weight session.new.core ≤ weight session.old.core + 2) × (held_load session.new ≤ held_load session.old + length line.now)) }
     ensures alone { let reach = ⟦<EnvOf<S, M, T> as Outside>⟧.reach in (m : Meaning) (r : Rules) → IsRunning m r (reach env.old).meaning (reach env.old).objects session.old → HasTablesAlone m (layout_of laws.now.options) (reach env.old).objects (runs_of session.old.core.events) →
         OnOk result (HasTablesAlone m (layout_of laws.now.options) (reach env.new).objects (runs_of session.new.core.events)) }
@@ -155,7 +204,10 @@ fn answer_line<W: Sink, S: Store, M: MergeOperator, T: BlockTransformer, X: Pref
         Err(error) => return Err(at_line(error, number)),
     };
     match session.answer(meaning, env, laws) {
-        Ok(answer) => write_reply(alloc, sink, answer),
+        Ok(answer) => {
+            tally.count(&answer);
+            write_reply(alloc, sink, answer)
+        }
         Err(error) => Err(error),
     }
 }

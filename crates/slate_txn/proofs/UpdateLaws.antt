@@ -13,6 +13,11 @@ none_is i f [] h = refl
 none_is zero f (y ∷ ys) h = let e : false ≡ true = h (omega arith) in cc
 none_is (suc i) f (y ∷ ys) h = ap (λ zs. y ∷ zs) (none_is i f ys (λ b. h (omega (arith, b))))
 
+pub get_below : {X : Type 0} (i : ℕ) (xs : List X) (x : X) → slice_get xs i ≡ Some x → i < length xs
+get_below i [] x h = cc
+get_below zero (y ∷ ys) x h = omega arith
+get_below (suc i) (y ∷ ys) x h = let b : i < length ys = get_below i ys x h in omega (arith, b)
+
 pub get_before : {X : Type 0} (i : ℕ) (xs ys : List X) (x : X) → slice_get xs i ≡ Some x → slice_get (xs ++ ys) i ≡ Some x
 get_before i [] ys x h = cc
 get_before zero (y ∷ xs) ys x h = h

@@ -1,9 +1,8 @@
-use Rattle.std.proofs.Common.{[], ◌≡◌, ◌⊎◌, ◌≤◌, ◌++◌, ℕ, List, Option, inl, inr, Result, Err, Some, sym, ap, subst, refl, ◌∙◌, arith}
-use Rattle.slate_types.specs.declared.error.SlateDBError.{SlateDBError}
+use Rattle.std.proofs.Common.{[], ◌≡◌, ◌≤◌, ◌++◌, ℕ, List, Option, inl, inr, Err, Some, sym, ap, subst, refl, ◌∙◌, arith}
 use Rattle.slate_types.specs.declared.error.SlateDBError.TheVariants.{ReadFault, WriteFault}
 use Rattle.slate_script.specs.Program.{status}
 use Rattle.slate_script.specs.Run.{script_error}
-use Rattle.slate_script.proofs.Statuses.{is-status, is-ended, is-read, is-write, is-store, is-too_long, is-syntax, is-damage, is-part, damage-between, its-own}
+use Rattle.slate_script.proofs.Statuses.{is-status, is-ended, is-read, is-write, is-store, is-too_long, is-syntax, is-damage, is-part, damage-between, its-own, status-or}
 use Rattle.slate_language.specs.declared.words.Settings.{Settings}
 use Rattle.slate_script.specs.Program.{main_rules, parts_of}
 use Rattle.slate_language.specs.Replies.{after_lines, replies, replies_to}
@@ -17,33 +16,41 @@ use Rattle.slate_types.specs.Faults.{Rose}
 use Rattle.slate_types.specs.Outside.{Objects}
 use Rattle.slate_db.specs.Flushed.{layout_of}
 use Rattle.slate_db.specs.Meaning.{Meaning}
+use Rattle.std.proofs.Common.{◌<◌, length, map, take}
+use Rattle.std.specs.String.{string_bytes}
+use Rattle.slate_language.specs.Generate.{generate, summary}
+use Rattle.slate_language.specs.Words.{read_generated}
+use Rattle.slate_language.specs.declared.words.Generated.{Generated}
+use Rattle.slate_script.proofs.Mains.{generated-not-none, one-script, same-generated}
+use Rattle.slate_script.proofs.Statuses.{generated-not, generated-status}
 use Rattle.slate_script.proofs.Mains.{lawful, premises, none-rose, none-rose-before, same-settings, status-or-either, words-are, some-not-none, neither}
 use Rattle.slate_script.proofs.RunEnds.{unless-error}
 use Rattle.slate_script.proofs.program.run_main.Goals as goal
 
 pub returns-in-Ok : goal.returns-in-Ok
 returns-in-Ok g c =
+    let no-generated : (x : Generated) → read_generated (map string_bytes c.args.words.now) ≡ Some x → ⊥ = λ x named. generated-not-none c.parse_generated.result x (c.parse_generated.ensures.generated ∙ named) c.in_default.is in
     record {
       statuses = inl refl;
-      unknown = λ none. absurd (some-not-none c.parse_words.result c.in-Some.settings c.in-Some.is (c.parse_words.ensures.settings ∙ none));
+      unknown = λ none other. absurd (some-not-none c.parse_words.result c.in-Some-parse_words.settings c.in-Some-parse_words.is (c.parse_words.ensures.settings ∙ none));
       known = λ s named two. absurd (omega (arith, two));
       unread = λ two. absurd (omega (arith, two));
       unwritten = λ two. absurd (omega (arith, two));
       unstored = λ two. absurd (omega (arith, two));
       answered = (λ s script before named is told empty zero.
-          let same : c.in-Some.settings ≡ s = same-settings c.parse_words.result c.in-Some.settings s c.in-Some.is (c.parse_words.ensures.settings ∙ named) in
+          let same : c.in-Some-parse_words.settings ≡ s = same-settings c.parse_words.result c.in-Some-parse_words.settings s c.in-Some-parse_words.is (c.parse_words.ensures.settings ∙ named) in
           subst (λ (t : Settings). g.W.Sink.content c.run_script-ran.new.sink ≡ Some (before ++ replies (main_rules t.options) script)) same
           (c.in-Ok.ensures.said script before is told (premises {M = ℕ} (λ _ k e v. v) _ _ empty)).whole);
       stored = (λ s script named is empty zero.
-          let same : c.in-Some.settings ≡ s = same-settings c.parse_words.result c.in-Some.settings s c.in-Some.is (c.parse_words.ensures.settings ∙ named) in
+          let same : c.in-Some-parse_words.settings ≡ s = same-settings c.parse_words.result c.in-Some-parse_words.settings s c.in-Some-parse_words.is (c.parse_words.ensures.settings ∙ named) in
           let ends = λ (x : Meaning) (t : Settings) (objects : Option Objects). IsStoredState x (main_rules t.options) (layout_of t.options) objects (after_lines meaning (main_rules t.options) opening (lines_of script)) in
           let objects = g.S.Store.objects c.run_script-ran.new.env.store.now in
           subst (λ t. ends (parts_of s.mask) s (g.S.Store.objects t)) (sym (c.store-1.given.1 (sym c.in-Ok.ensures.puts.store)))
           (subst (λ (t : Settings). ends (parts_of t.mask) t objects) same
-          (subst (λ (x : Meaning). ends x c.in-Some.settings objects) (words-are {M = ℕ} (λ _ k e v. v) c.transformer_of.result c.in-Some.settings.mask c.transformer_of.ensures)
+          (subst (λ (x : Meaning). ends x c.in-Some-parse_words.settings objects) (words-are {M = ℕ} (λ _ k e v. v) c.transformer_of.result c.in-Some-parse_words.settings.mask c.transformer_of.ensures)
           (c.in-Ok.ensures.stored script is (premises {M = ℕ} (λ _ k e v. v) _ _ empty)))));
-      read = λ script is zero. (c.in-Ok.ensures.read script is).whole;
-      no_error = λ script is zero. (c.in-Ok.ensures.read script is).no_error;
+      read = λ script other is zero. (c.in-Ok.ensures.read script is).whole;
+      no_error = λ script other is zero. (c.in-Ok.ensures.read script is).no_error;
       syntax = λ script is three. absurd (omega (arith, three));
       too_long = λ script is four. absurd (omega (arith, four));
       read_fault = λ five. absurd (omega (arith, five));
@@ -61,30 +68,32 @@ returns-in-Ok g c =
       all = λ script is four. absurd (omega (arith, four));
       taken = λ script is. (c.run_script-ran.ensures.read script is).taken;
       later = c.run_script-ran.ensures.later;
+      summed = λ named-g before named told empty zero. absurd (no-generated named-g named);
+      summed_stored = λ named-g named empty zero. absurd (no-generated named-g named);
+      summed_kinds = λ named-g named. absurd (no-generated named-g named);
+      summed_alone = λ named-g named. absurd (no-generated named-g named);
+      summed_undamaged = λ named-g named empty which. absurd (no-generated named-g named);
+      summed_complete = λ named-g named empty no-write no-store. absurd (no-generated named-g named);
+      summed_begun = λ named-g before named told empty six. absurd (no-generated named-g named);
+      summed_unwritten = λ named-g named. absurd (no-generated named-g named);
     }
-
-status-or : {B P : Type 0} (e f : SlateDBError) (n : ℕ) (run : Result B SlateDBError) → n ≡ status e → run ≡ Err e → (run ≡ Err f) ⊎ P → (n ≡ status f) ⊎ P
-status-or e f n run is was (inl h) = inl (is ∙ ap status same)
-  where
-    same : e ≡ f
-    same = cc
-status-or e f n run is was (inr h) = inr h
 
 -- ---- where an error ended the run
 
 pub returns-in-Err : goal.returns-in-Err
 returns-in-Err g c =
+    let no-generated : (x : Generated) → read_generated (map string_bytes c.args.words.now) ≡ Some x → ⊥ = λ x named. generated-not-none c.parse_generated.result x (c.parse_generated.ensures.generated ∙ named) c.in_default.is in
     record {
       statuses = rw c.status_of-status.ensures (is-status c.in-Err.error c.in-Err.ensures.cause.kinds (λ message h. none-rose-before c.run_script-ran.new.env.operator (c.in-Err.ensures.cause.operator_fault message (ap Err h))) (λ h. none-rose c.transformer_of.result c.run_script-ran.new.env.transformer (c.in-Err.ensures.cause.transform_fault (ap Err h))));
-      unknown = λ none. absurd (some-not-none c.parse_words.result c.in-Some.settings c.in-Some.is (c.parse_words.ensures.settings ∙ none));
+      unknown = λ none other. absurd (some-not-none c.parse_words.result c.in-Some-parse_words.settings c.in-Some-parse_words.is (c.parse_words.ensures.settings ∙ none));
       known = λ s is two. is-ended c.in-Err.error c.in-Err.ensures.cause.kinds (inr (sym c.status_of-status.ensures ∙ two));
       unread = λ two. absurd (is-ended c.in-Err.error c.in-Err.ensures.cause.kinds (inr (sym c.status_of-status.ensures ∙ two)));
       unwritten = λ two. absurd (is-ended c.in-Err.error c.in-Err.ensures.cause.kinds (inr (sym c.status_of-status.ensures ∙ two)));
       unstored = λ two. absurd (is-ended c.in-Err.error c.in-Err.ensures.cause.kinds (inr (sym c.status_of-status.ensures ∙ two)));
       answered = λ s script before named is told empty zero. absurd (is-ended c.in-Err.error c.in-Err.ensures.cause.kinds (inl (sym c.status_of-status.ensures ∙ zero)));
       stored = λ s script named is empty zero. absurd (is-ended c.in-Err.error c.in-Err.ensures.cause.kinds (inl (sym c.status_of-status.ensures ∙ zero)));
-      read = λ script is zero. absurd (is-ended c.in-Err.error c.in-Err.ensures.cause.kinds (inl (sym c.status_of-status.ensures ∙ zero)));
-      no_error = λ script is zero. absurd (is-ended c.in-Err.error c.in-Err.ensures.cause.kinds (inl (sym c.status_of-status.ensures ∙ zero)));
+      read = λ script other is zero. absurd (is-ended c.in-Err.error c.in-Err.ensures.cause.kinds (inl (sym c.status_of-status.ensures ∙ zero)));
+      no_error = λ script other is zero. absurd (is-ended c.in-Err.error c.in-Err.ensures.cause.kinds (inl (sym c.status_of-status.ensures ∙ zero)));
       syntax = (λ script is three.
           let which = sym c.status_of-status.ensures ∙ three in
           let kind = is-syntax c.in-Err.error c.in-Err.ensures.cause.kinds which in
@@ -109,39 +118,48 @@ returns-in-Err g c =
       source_still = status-or c.in-Err.error ReadFault c.status_of-status.result _ c.status_of-status.ensures refl c.in-Err.ensures.source_still;
       sink_still = status-or c.in-Err.error WriteFault c.status_of-status.result _ c.status_of-status.ensures refl c.in-Err.ensures.sink_still;
       by_script = (λ s script before named is told empty which.
-          let same : c.in-Some.settings ≡ s = same-settings c.parse_words.result c.in-Some.settings s c.in-Some.is (c.parse_words.ensures.settings ∙ named) in
+          let same : c.in-Some-parse_words.settings ≡ s = same-settings c.parse_words.result c.in-Some-parse_words.settings s c.in-Some-parse_words.is (c.parse_words.ensures.settings ∙ named) in
           subst (λ (t : Settings). g.W.Sink.content c.run_script-ran.new.sink ≡ Some (before ++ replies_to meaning (main_rules t.options) (lines_taken script))) same
           ((c.in-Err.ensures.said script before is told (premises {M = ℕ} (λ _ k e v. v) _ _ empty)).by_script (its-own (script_error script) c.in-Err.error (c.in-Err.ensures.read script is).error (status-or-either c.status_of-status.ensures which))));
       by_source = (λ s script before named is told empty five.
-          let same : c.in-Some.settings ≡ s = same-settings c.parse_words.result c.in-Some.settings s c.in-Some.is (c.parse_words.ensures.settings ∙ named) in
+          let same : c.in-Some-parse_words.settings ≡ s = same-settings c.parse_words.result c.in-Some-parse_words.settings s c.in-Some-parse_words.is (c.parse_words.ensures.settings ∙ named) in
           subst (λ (t : Settings). (left : List ℕ) × (said : List ℕ) × (g.R.Source.left c.run_script-ran.new.source ≡ Some left) × (g.W.Sink.content c.run_script-ran.new.sink ≡ Some (before ++ said)) × HasAnsweredAll (main_rules t.options) script left said) same
           ((c.in-Err.ensures.said script before is told (premises {M = ℕ} (λ _ k e v. v) _ _ empty)).by_source (ap Err (is-read c.in-Err.error c.in-Err.ensures.cause.kinds (sym c.status_of-status.ensures ∙ five)))));
       by_sink = (λ s script before named is told empty six.
-          let same : c.in-Some.settings ≡ s = same-settings c.parse_words.result c.in-Some.settings s c.in-Some.is (c.parse_words.ensures.settings ∙ named) in
+          let same : c.in-Some-parse_words.settings ≡ s = same-settings c.parse_words.result c.in-Some-parse_words.settings s c.in-Some-parse_words.is (c.parse_words.ensures.settings ∙ named) in
           subst (λ (t : Settings). (said : List ℕ) × (g.W.Sink.content c.run_script-ran.new.sink ≡ Some (before ++ said)) × HasBegun (main_rules t.options) script said) same
           ((c.in-Err.ensures.said script before is told (premises {M = ℕ} (λ _ k e v. v) _ _ empty)).by_sink (ap Err (is-write c.in-Err.error c.in-Err.ensures.cause.kinds (sym c.status_of-status.ensures ∙ six)))));
       by_part = (λ s script before named is told empty which.
-          let same : c.in-Some.settings ≡ s = same-settings c.parse_words.result c.in-Some.settings s c.in-Some.is (c.parse_words.ensures.settings ∙ named) in
+          let same : c.in-Some-parse_words.settings ≡ s = same-settings c.parse_words.result c.in-Some-parse_words.settings s c.in-Some-parse_words.is (c.parse_words.ensures.settings ∙ named) in
           subst (λ (t : Settings). (said : List ℕ) × (g.W.Sink.content c.run_script-ran.new.sink ≡ Some (before ++ said)) × HasAnswered (main_rules t.options) script said) same
           ((c.in-Err.ensures.said script before is told (premises {M = ℕ} (λ _ k e v. v) _ _ empty)).by_part (is-part c.in-Err.error c.in-Err.ensures.cause.kinds (status-or-either c.status_of-status.ensures which))));
       all = λ script is four. (c.in-Err.ensures.read script is).too_long (ap Err (is-too_long c.in-Err.error c.in-Err.ensures.cause.kinds (sym c.status_of-status.ensures ∙ four)));
       taken = λ script is. (c.run_script-ran.ensures.read script is).taken;
       later = c.run_script-ran.ensures.later;
+      summed = λ named-g before named told empty zero. absurd (no-generated named-g named);
+      summed_stored = λ named-g named empty zero. absurd (no-generated named-g named);
+      summed_kinds = λ named-g named. absurd (no-generated named-g named);
+      summed_alone = λ named-g named. absurd (no-generated named-g named);
+      summed_undamaged = λ named-g named empty which. absurd (no-generated named-g named);
+      summed_complete = λ named-g named empty no-write no-store. absurd (no-generated named-g named);
+      summed_begun = λ named-g before named told empty six. absurd (no-generated named-g named);
+      summed_unwritten = λ named-g named. absurd (no-generated named-g named);
     }
 
-pub returns-in_default : goal.returns-in_default
-returns-in_default g c =
+pub returns-in_default-parse_words : goal.returns-in_default-parse_words
+returns-in_default-parse_words g c =
+    let no-generated : (x : Generated) → read_generated (map string_bytes c.args.words.now) ≡ Some x → ⊥ = λ x named. generated-not-none c.parse_generated.result x (c.parse_generated.ensures.generated ∙ named) c.in_default.is in
     record {
       statuses = inr (inl refl);
-      unknown = λ none. refl;
-      known = λ s named two. absurd (some-not-none c.parse_words.result s (c.parse_words.ensures.settings ∙ named) c.in_default.is);
+      unknown = λ none other. refl;
+      known = λ s named two. absurd (some-not-none c.parse_words.result s (c.parse_words.ensures.settings ∙ named) c.in_default-parse_words.is);
       unread = λ two. refl;
       unwritten = λ two. refl;
       unstored = λ two. refl;
       answered = λ s script before named is told empty zero. absurd (omega (arith, zero));
       stored = λ s script named is empty zero. absurd (omega (arith, zero));
-      read = λ script is zero. absurd (omega (arith, zero));
-      no_error = λ script is zero. absurd (omega (arith, zero));
+      read = λ script other is zero. absurd (omega (arith, zero));
+      no_error = λ script other is zero. absurd (omega (arith, zero));
       syntax = λ script is three. absurd (omega (arith, three));
       too_long = λ script is four. absurd (omega (arith, four));
       read_fault = λ five. absurd (omega (arith, five));
@@ -149,7 +167,7 @@ returns-in_default g c =
       store_fault = λ seven. absurd (omega (arith, seven));
       undamaged = λ s named empty which. absurd (omega (arith, (damage-between 2 which).0));
       untrue = λ which. absurd (omega (arith, (damage-between 2 which).0));
-      complete = λ s script named is formed empty no-read no-write no-store. absurd (some-not-none c.parse_words.result s (c.parse_words.ensures.settings ∙ named) c.in_default.is);
+      complete = λ s script named is formed empty no-read no-write no-store. absurd (some-not-none c.parse_words.result s (c.parse_words.ensures.settings ∙ named) c.in_default-parse_words.is);
       source_still = inr refl;
       sink_still = inr refl;
       by_script = λ s script before named is told empty which. neither (λ h. omega (arith, h)) (λ h. omega (arith, h)) which;
@@ -159,4 +177,62 @@ returns-in_default g c =
       all = λ script is four. absurd (omega (arith, four));
       taken = λ script is. (0, omega arith, is);
       later = (omega arith, omega arith);
+      summed = λ named-g before named told empty zero. absurd (no-generated named-g named);
+      summed_stored = λ named-g named empty zero. absurd (no-generated named-g named);
+      summed_kinds = λ named-g named. absurd (no-generated named-g named);
+      summed_alone = λ named-g named. absurd (no-generated named-g named);
+      summed_undamaged = λ named-g named empty which. absurd (no-generated named-g named);
+      summed_complete = λ named-g named empty no-write no-store. absurd (no-generated named-g named);
+      summed_begun = λ named-g before named told empty six. absurd (no-generated named-g named);
+      summed_unwritten = λ named-g named. absurd (no-generated named-g named);
+    }
+
+pub returns-in-Some : goal.returns-in-Some
+returns-in-Some g c =
+    let its : Generated = c.in-Some.generated in
+    let ws : List (List ℕ) = map string_bytes c.args.words.now in
+    let read : read_generated ws ≡ Some its = sym c.parse_generated.ensures.generated ∙ c.in-Some.is in
+    let own = c.main_generated.ensures.kinds in
+    let same = λ (x : Generated) (named : read_generated ws ≡ Some x). same-generated (read_generated ws) its x read named in
+    record {
+      statuses = generated-status c.main_generated.result own;
+      unknown = λ none other. absurd (generated-not-none (read_generated ws) its read other);
+      known = λ s named two. one-script ws its s read named;
+      unread = λ two. refl;
+      unwritten = λ two. generated-not c.main_generated.result 2 own two (omega arith) (omega arith);
+      unstored = λ two. generated-not c.main_generated.result 2 own two (omega arith) (omega arith);
+      answered = λ s script before named is told empty zero. one-script ws its s read named;
+      stored = λ s script named is empty zero. one-script ws its s read named;
+      read = λ script other is zero. absurd (generated-not-none (read_generated ws) its read other);
+      no_error = λ script other is zero. absurd (generated-not-none (read_generated ws) its read other);
+      syntax = λ script is three. generated-not c.main_generated.result 3 own three (omega arith) (omega arith);
+      too_long = λ script is four. generated-not c.main_generated.result 4 own four (omega arith) (omega arith);
+      read_fault = λ five. generated-not c.main_generated.result 5 own five (omega arith) (omega arith);
+      write_fault = c.main_generated.ensures.write_fault;
+      store_fault = c.main_generated.ensures.store_fault;
+      undamaged = λ s named empty which. one-script ws its s read named;
+      untrue = c.main_generated.ensures.untrue;
+      complete = λ s script named is formed empty no-read no-write no-store. one-script ws its s read named;
+      source_still = inr refl;
+      sink_still = c.main_generated.ensures.sink_still;
+      by_script = λ s script before named is told empty which. one-script ws its s read named;
+      by_source = λ s script before named is told empty five. one-script ws its s read named;
+      by_sink = λ s script before named is told empty six. one-script ws its s read named;
+      by_part = λ s script before named is told empty which. one-script ws its s read named;
+      all = λ script is four. generated-not c.main_generated.result 4 own four (omega arith) (omega arith);
+      taken = λ script is. (0, omega arith, is);
+      later = (omega arith, c.main_generated.ensures.later);
+      summed = (λ x before named told empty zero.
+          subst (λ (y : Generated). g.W.Sink.content c.main_generated.new.sink ≡ Some (before ++ summary (main_rules y.settings.options) (generate y.rounds y.seed))) (same x named) (c.main_generated.ensures.summed before told empty zero));
+      summed_stored = (λ x named empty zero.
+          subst (λ (y : Generated). IsStoredState (parts_of y.settings.mask) (main_rules y.settings.options) (layout_of y.settings.options) (g.S.Store.objects c.main_generated.new.store) (after_lines meaning (main_rules y.settings.options) opening (lines_of (generate y.rounds y.seed)))) (same x named)
+          (c.main_generated.ensures.stored empty zero));
+      summed_kinds = λ x named. own;
+      summed_alone = λ x named. refl;
+      summed_undamaged = λ x named. c.main_generated.ensures.undamaged;
+      summed_complete = λ x named. c.main_generated.ensures.complete;
+      summed_begun = (λ x before named told empty six.
+          subst (λ (y : Generated). (n : ℕ) × (n < length (summary (main_rules y.settings.options) (generate y.rounds y.seed))) × (g.W.Sink.content c.main_generated.new.sink ≡ Some (before ++ take n (summary (main_rules y.settings.options) (generate y.rounds y.seed))))) (same x named)
+          (c.main_generated.ensures.begun before told empty six));
+      summed_unwritten = λ x named. c.main_generated.ensures.unwritten;
     }

@@ -14,7 +14,7 @@ use Rattle.slate_script.proofs.LineEnds.{parse-error, parse-cause, parse-no-part
 use Rattle.slate_script.proofs.LineLoads.{line-load}
 use Rattle.slate_script.proofs.RunEnds.{is-no-error}
 use Rattle.slate_script.proofs.ToldLaws.{follows-itself, line-shown, stores-itself}
-use Rattle.slate_script.proofs.Running.{line-stands, line-reply, runs-on, is-settled, one-moment, always, at-ok, not-damage, silent-line, silent-after, silent-says}
+use Rattle.slate_script.proofs.Running.{line-stands, line-reply, runs-on, is-settled, one-moment, always, at-ok, not-damage, silent-line, silent-after, silent-says, silent-counts, line-counts}
 use Rattle.slate_script.proofs.run.answer_line.Goals as goal
 
 pub answer-requires-clause-built : goal.answer-requires-clause-built
@@ -34,6 +34,7 @@ returns-in-Err-answer g c =
       running = λ m r running. tt;
       stands = λ m r running s stands. tt;
       answered = λ m r running s before stands told. tt;
+      counted = λ m r running s stands. tt;
       grows = tt;
       alone = λ m r running alone. tt;
       cause = session-cause _ _ c.args.number c.args.line.now c.args.session.now c.in-Err-answer.error c.in-Err-answer.ensures.cause;
@@ -65,6 +66,9 @@ returns-in-Ok g c =
           let meant = rw c.in-Ok-Some.field-0-is at c.in-Ok-Some.ensures.meant in
           let text : reply_line (reply_of c.in-Ok.answer) ≡ replies_from meaning r s (c.args.line.now ∷ []) = line-reply c.args.line.now c.in-Ok-Some.meaning c.in-Ok.answer running meant.0 meant.1 c.in-Ok.ensures.step s stands in
           at-ok c.write_reply.result (λ is. is ∙ ap (λ bs. Some (before ++ bs)) text) (c.write_reply.ensures.ok before told));
+      counted = (λ m r running s stands.
+          let meant = rw c.in-Ok-Some.field-0-is at c.in-Ok-Some.ensures.meant in
+          always c.write_reply.result (c.count.ensures ∙ line-counts c.args.tally.now c.args.line.now c.in-Ok-Some.meaning c.in-Ok.answer running meant.0 meant.1 c.in-Ok.ensures.step s stands));
       grows = (let meant = rw c.in-Ok-Some.field-0-is at c.in-Ok-Some.ensures.meant in
           always c.write_reply.result (c.in-Ok.ensures.grows.0, let few : line_load c.in-Ok-Some.meaning ≤ length c.args.line.now = line-load c.args.line.now c.in-Ok-Some.meaning meant.1 in omega (arith, c.in-Ok.ensures.grows.1, few)));
       alone = (λ m r running alone.
@@ -99,6 +103,7 @@ returns-in-Err g c =
       running = λ m r running. tt;
       stands = λ m r running s stands. tt;
       answered = λ m r running s before stands told. tt;
+      counted = λ m r running s stands. tt;
       grows = tt;
       alone = λ m r running alone. tt;
       cause = (let by = parse-error c.args.number c.args.line.now c.in-Err.error c.at_line.result c.in-Err.ensures.cause c.at_line.ensures.memory c.at_line.ensures.syntax in
@@ -137,6 +142,7 @@ returns-in-Ok-None g c =
       running = λ m r running. running;
       stands = λ m r running s stands. subst (StandsFor c.args.session.now) (silent-after r s c.args.line.now (c.in-Ok-None.ensures.silent (ap Ok c.in-Ok-None.field-0-is))) stands;
       answered = λ m r running s before stands told. told ∙ ap Some (sym (append-nil before)) ∙ ap (λ bs. Some (before ++ bs)) (silent-says r s c.args.line.now (c.in-Ok-None.ensures.silent (ap Ok c.in-Ok-None.field-0-is)));
+      counted = λ m r running s stands. silent-counts c.args.tally.now r s c.args.line.now (c.in-Ok-None.ensures.silent (ap Ok c.in-Ok-None.field-0-is));
       grows = (omega arith, omega arith);
       alone = λ m r running alone. alone;
       cause = tt;

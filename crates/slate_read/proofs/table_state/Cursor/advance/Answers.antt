@@ -1,8 +1,7 @@
-use Rattle.std.proofs.Common.{◌≡◌, ◌-◌, ◌∙◌, ◌⊎◌, inl, inr, Some, None, [], refl, sym, ap, subst, arith}
+use Rattle.std.proofs.Common.{◌≡◌, ◌-◌, None, arith}
 use Rattle.std.proofs.lemmas.Result.{err_from_is_err_and, IfOk-from_err}
 use Rattle.slate_types.proofs.Reaching.{reads_none, reads_then}
-use Rattle.slate_types.proofs.Calls.{call_none}
-use Rattle.slate_read.proofs.Cursors.{end_step, opens_moves, row_fails, row_moves, row_step, some_fails, took_fewer, took_none}
+use Rattle.slate_read.proofs.Cursors.{end_step, row_fails, row_moves, row_step, took_fewer, took_none}
 use Rattle.slate_types.proofs.Moves.{moves_both, moves_fails, moves_none, moves_step}
 use Rattle.slate_read.proofs.table_state.Cursor.advance.Goals as goal
 
@@ -18,12 +17,11 @@ loop-row-preserved g c =
     let i = c.loop-row.invariant in
     let r = c.in_ok-row.ensures in
     let took = rw c.in_default.is at r.took in
-    let moved = row_moves c.args.table.now c.args.order _ c.loop-row.self c.row.new.self took r.index r.first r.stop in
+    let moved = row_moves c.args.table.now c.args.order _ c.loop-row.self c.row.new.self took r.index r.first r.stop r.ready in
     let o = c.in_ok-open.ensures in
-    let opened = opens_moves c.args.table.now c.args.order _ _ o.opened.0 c.row.new.self c.open.new.self o.opened.1 o.opened.2 (took_none _ _ took).1 (omega (arith, c.if-self.false)) in
     let d : c.row.new.self.stop - c.row.new.self.first ≡ c.loop-row.self.stop - c.loop-row.self.first = (λ k. r.stop k - r.first k) in
     record {
-      moves = moves_both _ _ _ _ _ _ _ _ _ i.moves (moves_both _ _ _ _ _ _ _ _ _ moved opened);
+      moves = moves_both _ _ _ _ _ _ _ _ _ i.moves (moves_both _ _ _ _ _ _ _ _ _ moved o.moved);
       bound = omega (arith, i.bound, o.small, o.fewer, d);
       reads = reads_then _ _ _ i.reads o.reads;
     }
@@ -55,7 +53,7 @@ returns-in-Some g c =
     let d : c.row.new.self.stop - c.row.new.self.first ≡ c.loop-row.self.stop - c.loop-row.self.first = (λ k. r.stop k - r.first k) in
     let less = took_fewer _ _ _ took in
     record {
-      step = moves_step _ _ _ _ _ _ _ _ _ _ i.moves (row_step c.args.table.now c.args.order _ c.loop-row.self c.row.new.self c.in-Some.row took r.index r.first r.stop);
+      step = moves_step _ _ _ _ _ _ _ _ _ _ i.moves (row_step c.args.table.now c.args.order _ c.loop-row.self c.row.new.self c.in-Some.row took r.index r.first r.stop r.ready);
       cause = tt;
       smaller = λ some. omega (arith, i.bound, less, d);
       no_larger = omega (arith, i.bound, less, d);
@@ -67,7 +65,7 @@ returns-then-self g c =
     let i = c.loop-row.invariant in
     let r = c.in_ok-row.ensures in
     let took = rw c.in_default.is at r.took in
-    let moved = row_moves c.args.table.now c.args.order _ c.loop-row.self c.row.new.self took r.index r.first r.stop in
+    let moved = row_moves c.args.table.now c.args.order _ c.loop-row.self c.row.new.self took r.index r.first r.stop r.ready in
     let d : c.row.new.self.stop - c.row.new.self.first ≡ c.loop-row.self.stop - c.loop-row.self.first = (λ k. r.stop k - r.first k) in
     let none = (took_none _ _ took).1 in
     record {
@@ -83,12 +81,12 @@ returns-in_err-open g c =
     let i = c.loop-row.invariant in
     let r = c.in_ok-row.ensures in
     let took = rw c.in_default.is at r.took in
-    let moved = row_moves c.args.table.now c.args.order _ c.loop-row.self c.row.new.self took r.index r.first r.stop in
+    let moved = row_moves c.args.table.now c.args.order _ c.loop-row.self c.row.new.self took r.index r.first r.stop r.ready in
     let p = err_from_is_err_and c.from_residual-in_err-open.result c.from_residual-in_err-open.ensures.1 in
     let o = c.in_err-open.ensures in
     record {
       step = IfOk-from_err c.from_residual-in_err-open.result _ c.from_residual-in_err-open.ensures.0;
-      cause = rw (p.1, p.2) (moves_fails _ _ _ _ _ _ _ _ None _ (moves_both _ _ _ _ _ _ _ _ _ i.moves moved) i.reads.later (some_fails c.args.table.now c.args.order _ _ _ _ c.row.new.self _ o.cause));
+      cause = rw (p.1, p.2) (moves_fails _ _ _ _ _ _ _ _ None _ (moves_both _ _ _ _ _ _ _ _ _ i.moves moved) i.reads.later o.cause);
       smaller = IfOk-from_err c.from_residual-in_err-open.result _ c.from_residual-in_err-open.ensures.0;
       no_larger = rw p.1 tt;
       reads = reads_then _ _ _ i.reads o.reads;

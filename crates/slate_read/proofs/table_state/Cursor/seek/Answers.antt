@@ -1,4 +1,4 @@
-use Rattle.std.proofs.Common.{◌≡◌, ◌∙◌, ◌≤◌, ◌-◌, ap, Some, refl, arith}
+use Rattle.std.proofs.Common.{◌≡◌, ◌≤◌, ◌-◌, ap, Some, arith}
 use Rattle.std.proofs.lemmas.Result.{err_from_is_err_and, on_ok_weaker, IfErr-weaker}
 use Rattle.slate_types.proofs.Reaching.{later_none, reads_none}
 use Rattle.slate_types.proofs.Moves.{moves_both, moves_fails, moves_none}
@@ -25,7 +25,7 @@ returns-then-branch g c =
     let d : c.skip.new.self.stop - c.skip.new.self.first ≡ c.args.self.now.stop - c.args.self.now.first = (λ k. r.stop k - r.first k) in
     let less = skipped_no_larger _ _ _ _ skips in
     record {
-      sought = done_some c.args.table.now c.args.order c.args.key.now _ _ c.args.self.now c.args.self.now c.skip.new.self (moves_none _ _ _ _ _) skips r.index r.first r.stop;
+      sought = done_some c.args.table.now c.args.order c.args.key.now _ _ c.args.self.now c.args.self.now c.skip.new.self (moves_none _ _ _ _ _) skips r.index r.first r.stop r.ready;
       cause = tt;
       no_larger = omega (arith, less, d);
       reads = reads_none _;
@@ -43,7 +43,7 @@ returns g c =
     let low = j.first in
     let high = j.stop in
     let open_rows = ap reads_in j.rows in
-    let moved = moves_both _ _ _ _ _ _ _ _ _ (skip_moves c.args.table.now c.args.order c.args.key.now _ c.args.self.now c.skip.new.self _ skips r.index r.first r.stop)
+    let moved = moves_both _ _ _ _ _ _ _ _ _ (skip_moves c.args.table.now c.args.order c.args.key.now _ c.args.self.now c.skip.new.self _ skips r.index r.first r.stop r.ready)
     (jump_moves c.args.table.now c.args.order c.args.key.now _ c.skip.new.self c.jump.new.self j (skipped_none _ _ _ skips)) in
     let smaller : bound_behind c.jump.new.self ≤ bound_behind c.args.self.now = omega (arith, less, first, stop, low, high, open_rows) in
     record {

@@ -1,0 +1,69 @@
+use Rattle.std.proofs.Common.{inl, inr, ◌≡◌, ◌≤◌, ℕ, [], ◌∷◌, ◌++◌, List, Option, Some, refl, ap, sym, subst, ◌∙◌}
+use Rattle.std.specs.Prelude.{IsSome}
+use Rattle.std.proofs.lemmas.Result.{IfOk-from_err, err_from_is_err_and}
+use Rattle.slate_types.specs.declared.error.SlateDBError.{SlateDBError}
+use Rattle.slate_types.specs.Outside.{Act, IsFault}
+use Rattle.slate_types.specs.World.{Made, World}
+use Rattle.slate_types.proofs.Reaching.{reads_none}
+use Rattle.slate_store.specs.Reach.{reach_of}
+use Rattle.slate_txn.specs.Named.{find_named}
+use Rattle.slate_txn.specs.Reads.{rows_seen}
+use Rattle.slate_txn.specs.State.{Tx}
+use Rattle.slate_txn.proofs.NamedLaws.{open_is}
+use Rattle.slate_db.specs.Meaning.{rules_of}
+use Rattle.slate_db.specs.Model.{CoreModel}
+use Rattle.slate_db.specs.Readable.{IsAnswered}
+use Rattle.slate_db.specs.Scans.{IsFor, IsRefusedByScan, IsScanError, IsWorldOf, Leaves, ScanRefuses}
+use Rattle.slate_db.specs.View.{unseen_of, view_of}
+use Rattle.slate_db.proofs.ScanMerges.{opening_refused, scan_is_for, scan_leaves, scan_refused, scan_undamaged}
+use Rattle.slate_db.proofs.engine.Core.opened.Goals as goal
+
+pub returns : goal.returns
+returns g c =
+    let before = reach_of g.S.Store g.M.MergeOperator g.T.BlockTransformer c.args.env.now in
+    let after = reach_of g.S.Store g.M.MergeOperator g.T.BlockTransformer c.merged.new.env in
+    let m = before.meaning in
+    let v = view_of c.self.inside in
+    let x = unseen_of c.self.inside in
+    let order = c.args.how.order in
+    let own = c.in_ok-own.ensures in
+    let there : (t : Tx) → find_named c.args.id.now c.args.self.now.state.txns ≡ Some t → find_named c.args.id.now c.self.inside.transactions ≡ Some t = λ t found. ap (λ (u : CoreModel). find_named c.args.id.now u.state.txns) c.self.view_is ∙ found in
+    let t : Tx = (open_is (find_named c.args.id.now c.args.self.now.state.txns) c.requires.open).value in
+    let found : find_named c.args.id.now c.args.self.now.state.txns ≡ Some t = (open_is (find_named c.args.id.now c.args.self.now.state.txns) c.requires.open).is in
+    let are = c.in_ok-sources.ensures.sources t.ops (record { rows = own.rows t (there t found); in_order = own.in_order; turn = own.turn; same_order = own.order }) in
+    let rows = c.in_ok-rows.ensures in
+    let made = c.new.ensures in
+    record {
+      opened = λ u at. subst (λ (k : CoreModel). k.floor ≤ c.args.begin → (a : IsAnswered before after k) → (w : World) × IsWorldOf a.os m w × Leaves c.new.result w (rows_seen (rules_of k.settings m) k.state.commits c.args.begin u.ops order c.args.range)) c.self.view_is
+          (λ from a.
+          let mine = c.in_ok-sources.ensures.sources u.ops (record { rows = own.rows u (there u at); in_order = own.in_order; turn = own.turn; same_order = own.order }) in
+          scan_leaves before after v x c.self.invariant c.args.range order c.args.begin u.ops (c.own_range.ensures.plain u (there u at)) from c.in_ok-sources.sources.items mine a
+          c.in_ok-rows.rows c.new.result made.state made.range made.order rows.same.0 rows.sound rows.rows rows.later.0 rows.later.2);
+      later = subst (λ (k : CoreModel). IsFor m c.new.result × Made before after (λ reads. (later : List Act) (at : Option (List ℕ)) (e : SlateDBError) → ScanRefuses c.new.result m later at e → IsRefusedByScan m k (reads ++ later) e)) c.self.view_is
+          (scan_is_for m v x c.self.invariant c.args.range order c.args.begin t.ops _ c.in_ok-sources.sources.items are c.in_ok-rows.rows c.new.result rows.later.0 made.state made.range rows.later.2,
+          (rows.later.0, rows.later.1, scan_refused m v x c.self.invariant c.args.range order c.args.begin t.ops _ c.in_ok-sources.sources.items are c.in_ok-rows.rows c.new.result rows.later.0 made.state made.range rows.later.2));
+      undamaged = λ from a. tt;
+      cause = tt;
+      range = made.range;
+      order = made.order;
+      reads = c.merged.ensures.reads;
+    }
+
+pub returns-in_err-own : goal.returns-in_err-own
+returns-in_err-own g c =
+    let p = err_from_is_err_and c.from_residual.result c.from_residual.ensures.1 in
+    record {
+      opened = λ u at from a. IfOk-from_err c.from_residual.result _ c.from_residual.ensures.0;
+      later = IfOk-from_err c.from_residual.result _ c.from_residual.ensures.0;
+      undamaged = λ from a. ?;
+      cause = ?;
+      range = IfOk-from_err c.from_residual.result _ c.from_residual.ensures.0;
+      order = IfOk-from_err c.from_residual.result _ c.from_residual.ensures.0;
+      reads = reads_none _;
+    }
+
+pub returns-in_err-sources : goal.returns-in_err-sources
+returns-in_err-sources g c = ?
+
+pub returns-in_err-rows : goal.returns-in_err-rows
+returns-in_err-rows g c = ?

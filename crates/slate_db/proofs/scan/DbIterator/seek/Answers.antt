@@ -1,0 +1,72 @@
+use Rattle.std.proofs.Common.{◌≡◌, true, false, [], Some, refl, sym, ◌∙◌, arith}
+use Rattle.std.specs.Prelude.{Ok}
+use Rattle.slate_types.specs.Iteration.{drop_before}
+use Rattle.slate_types.specs.Keys.{is_past_start}
+use Rattle.slate_types.proofs.Calls.{call_none, checks_none}
+use Rattle.slate_types.proofs.Reaching.{reads_none}
+use Rattle.slate_store.specs.Reach.{reach_of}
+use Rattle.slate_db.proofs.ScanStates.{never_sound, refused_again, seek_leaves, start_later, start_leaves, start_range, values_of}
+use Rattle.slate_db.proofs.scan.DbIterator.seek.Goals as goal
+
+pub returns-in-Refused-clause-undamaged : goal.returns-in-Refused-clause-undamaged
+returns-in-Refused-clause-undamaged g c = λ w rows h sees. never_sound c.args.self.now.order w c.args.self.now.state c.in-Refused.error c.in-Refused.is h.sound
+
+pub returns-in-Refused-clause-cause : goal.returns-in-Refused-clause-cause
+returns-in-Refused-clause-cause g c =
+    let it = c.args.self.now in
+    rw c.refuse.ensures.same
+    (refused_again it.range (Some c.args.key.now) (reach_of g.S.Store g.M.MergeOperator g.T.BlockTransformer c.args.env.now) it.state c.in-Refused.error c.copy_of-error.result c.in-Refused.is c.copy_of-error.ensures)
+
+pub returns-then-not-is_past_start : goal.returns-then-not-is_past_start
+returns-then-not-is_past_start g c =
+    let it = c.args.self.now in
+    let after = c.pass_start.new.self in
+    let s = c.pass_start.ensures in
+    let below : is_past_start it.range.start c.args.key.now ≡ false = grind (arith, c.is_past_start.ensures, c.if-not-is_past_start.true) in
+    record {
+      rows = λ w rows h sees. start_leaves it after c.args.key.now w rows below s.none s.all h;
+      undamaged = λ w rows h sees. tt;
+      checked = λ w rows h. checks_none w _;
+      later = ([], call_none _, start_later it after _ s.none s.all);
+      cause = tt;
+      again = tt;
+      range = start_range (λ d. d.range) it after (λ x. refl) s.none s.all;
+      order = start_range (λ d. d.order) it after (λ x. refl) s.none s.all;
+      reads = reads_none _;
+    }
+
+pub returns-in-Ok : goal.returns-in-Ok
+returns-in-Ok g c =
+    let n = c.in-Ok.ensures in
+    let it = c.args.self.now in
+    let a = reach_of g.S.Store g.M.MergeOperator g.T.BlockTransformer c.args.env.now in
+    let b = reach_of g.S.Store g.M.MergeOperator g.T.BlockTransformer c.seek_in.new.env in
+    record {
+      rows = λ w rows h sees. seek_leaves (Ok tt) it (record it { state = c.seek_in.new.state }) w a b (drop_before it.order c.args.key.now rows) refl refl sees.meaning (n.rows w it.range it.order rows sees h.sound (values_of it w rows h)) (n.sources it.range) h.meant;
+      undamaged = λ w rows h sees. tt;
+      checked = λ w rows h. n.checked w it.order h.sound;
+      later = n.later it.range;
+      cause = tt;
+      again = tt;
+      range = refl;
+      order = refl;
+      reads = n.reads;
+    }
+
+pub returns-in-Err : goal.returns-in-Err
+returns-in-Err g c =
+    let n = c.in-Err.ensures in
+    let r = c.refuse-in-Err.ensures in
+    let it = c.args.self.now in
+    let past : is_past_start it.range.start c.args.key.now ≡ true = grind (arith, c.is_past_start.ensures, c.if-not-is_past_start.false) in
+    record {
+      rows = λ w rows h sees. tt;
+      undamaged = λ w rows h sees. rw r.same (n.undamaged w it.range it.order past sees h.sound h.meant);
+      checked = λ w rows h. tt;
+      later = tt;
+      cause = rw r.same (n.cause it.range past);
+      again = rw r.same r.again;
+      range = r.range;
+      order = r.order;
+      reads = n.reads;
+    }
