@@ -6,13 +6,13 @@ use Rattle.slate_mem.specs.Batch.{Ops}
 use Rattle.slate_txn.specs.declared.line.Line.{Line}
 use Rattle.slate_txn.specs.declared.line.Line.TheVariants as lines
 use Rattle.slate_language.specs.declared.parse.Keyword.{Keyword}
-use Rattle.slate_language.specs.declared.parse.Keyword.TheVariants.{Begin, Get, Put, Delete, Mark, Unmark, Commit, Rollback, Now, Write, Freeze, Flush, Journal}
+use Rattle.slate_language.specs.declared.parse.Keyword.TheVariants.{Begin, Get, Scan, Put, Delete, Mark, Unmark, Commit, Rollback, Now, Write, Freeze, Flush, Journal}
 use Rattle.slate_language.specs.Grammar.{Spells}
-use Rattle.slate_language.specs.Parse.{both, only_if, ◌>>=◌, split_by, tokens_of, read_level, read_moment, read_name, read_pair, grouped, ops_of_groups, parse_tokens}
+use Rattle.slate_language.specs.Parse.{both, only_if, ◌>>=◌, split_by, tokens_of, read_level, read_moment, read_name, read_order, read_pair, read_way, grouped, ops_of_groups, parse_tokens}
 use Rattle.slate_language.specs.Stage.{is_built, is_built_batch, if_built, IsBuiltLine, meaning}
 use Rattle.slate_language.specs.Built.{keyword_among, keywords, keyword, if_batch_built, built_ops, built_as, built_tokens}
-use Rattle.slate_language.proofs.ParseLaws.{moment-read, name-read, level-read, pair-read, named-read, keyed-read, many-read, behind-name, ops-read, line-read, parse-is}
-use Rattle.slate_language.proofs.ParseOnly.{None-is-Some, Some-is, only_if-some, map-some, bind-some, both-some, cond-either, same-bytes, moment-only, name-only, level-only, name-line, keyed-line, many-line, put-line, ops-only, tokens-only, parse-only}
+use Rattle.slate_language.proofs.ParseLaws.{moment-read, name-read, level-read, order-read, pair-read, way-read, named-read, keyed-read, many-read, behind-name, ops-read, line-read, parse-is}
+use Rattle.slate_language.proofs.ParseOnly.{None-is-Some, Some-is, only_if-some, map-some, bind-some, both-some, cond-either, same-bytes, moment-only, name-only, level-only, order-only, way-only, name-line, keyed-line, many-line, put-line, ops-only, tokens-only, parse-only}
 
 -- ---- tokens are what a slice is split into
 
@@ -46,6 +46,7 @@ Meets ts line = Spells ts line × (is_built line ≡ true)
 abbrev keyword_text : Keyword → List ℕ
 keyword_text Begin = codes "begin"
 keyword_text Get = codes "get"
+keyword_text Scan = codes "scan"
 keyword_text Put = codes "put"
 keyword_text Delete = codes "delete"
 keyword_text Mark = codes "mark"
@@ -67,7 +68,7 @@ among-only t (p ∷ ps) w h e = by (cond-either (bytes_eq t p.0) (Some p.1) (key
     by (inr k) later = later k.1
 
 keyword-only : (t : List ℕ) (w : Keyword) → keyword t ≡ Some w → t ≡ keyword_text w
-keyword-only t w e = among-only t keywords w (refl, (refl, (refl, (refl, (refl, (refl, (refl, (refl, (refl, (refl, (refl, (refl, (refl, tt))))))))))))) e
+keyword-only t w e = among-only t keywords w (refl, (refl, (refl, (refl, (refl, (refl, (refl, (refl, (refl, (refl, (refl, (refl, (refl, (refl, tt)))))))))))))) e
 
 ops-built-only : (ts : List (List ℕ)) (batch : Ops) → built_ops ts ≡ Some batch → (ops_of_groups (grouped ts) ≡ Some batch) × (is_built_batch batch ≡ true)
 ops-built-only ts batch e =
@@ -92,6 +93,14 @@ as-only Begin (n ∷ t ∷ u ∷ us) line e = None-is-Some line e
 as-only Get us line e =
     let p = keyed-line lines.Get us line e in
     subst (Meets (codes "get" ∷ us)) p.6 ((p.2, p.3, p.4, ap (λ ts. codes "get" ∷ ts) p.5), refl)
+as-only Scan [] line e = None-is-Some line e
+as-only Scan (n ∷ []) line e = None-is-Some line e
+as-only Scan (n ∷ t ∷ us) line e =
+    let outer = bind-some (read_name n) (λ name. read_order t >>= λ order. read_way (lines.Scan name order) us) line e in
+    let name = name-only n outer.0 outer.1 in
+    let inner = bind-some (read_order t) (λ order. read_way (lines.Scan outer.0 order) us) line outer.2 in
+    let way = way-only (lines.Scan outer.0 inner.0) us line inner.2 in
+    subst (Meets (codes "scan" ∷ n ∷ t ∷ us)) way.4 ((us, name.0, way.3, λ i. codes "scan" ∷ name.1 i ∷ order-only t inner.0 inner.1 i ∷ us), refl)
 as-only Put [] line e = None-is-Some line e
 as-only Put (n ∷ us) line e =
     let p = put-line lines.Put n us line e in
@@ -142,6 +151,11 @@ built-is ts (lines.Begin name level) h =
     let l = level-read level in
     ap built_tokens h.0.1 ∙ (λ i. both lines.Begin (n.0 i) (l.0 i))
 built-is ts (lines.Get name k) h = ap built_tokens h.0.3 ∙ (keyed-read lines.Get name h.0.0 k h.0.1 h.0.2).0
+built-is ts (lines.Scan name order start end sts) h =
+    let n = name-read name h.0.1 in
+    let o = order-read order in
+    let way = way-read (lines.Scan name order) h.0.0 start end sts h.0.2 in
+    ap built_tokens h.0.3 ∙ (λ i. (n.0 i) >>= λ m. (o.0 i) >>= λ d. read_way (lines.Scan m d) h.0.0) ∙ way.0
 built-is ts (lines.Put name k v ttl) h =
     ap built_tokens h.0.3
     ∙ (behind-name (λ n us. read_pair (lines.Put n) us) name h.0.0 (lines.Put name k v ttl) h.0.1 (pair-read (lines.Put name) h.0.0 k v ttl h.0.2)).0
@@ -160,7 +174,6 @@ built-is ts lines.Freeze h = ap built_tokens h.0
 built-is ts lines.Flush h = ap built_tokens h.0
 built-is ts lines.Journal h = ap built_tokens h.0
 built-is ts (lines.Snapshot name) h = not-built h.1
-built-is ts (lines.Scan name order start end sts) h = not-built h.1
 built-is ts (lines.Prefix name order p start end sts) h = not-built h.1
 built-is ts (lines.Merge name k v ttl) h = not-built h.1
 

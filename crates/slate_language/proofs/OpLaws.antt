@@ -1,14 +1,16 @@
 -- The operations of a write, read one after the other.
-use Rattle.std.proofs.Common.{◌≡◌, ℕ, zero, suc, ◌+◌, ◌-◌, ◌<◌, ◌≤◌, Bool, true, false, cond, ◌&&◌, List, [], ◌∷◌, ◌++◌, length, take, drop, get_or, Option, Some, None, option_map, is_some, codes, bytes_eq, refl, sym, ap, ◌∙◌, arith, add-one, append_assoc, append-nil}
+use Rattle.std.proofs.Common.{◌≡◌, ℕ, zero, suc, ◌+◌, ◌-◌, ◌<◌, ◌≤◌, Bool, true, false, cond, ◌&&◌, List, [], ◌∷◌, ◌++◌, length, take, drop, get_or, Option, Some, None, option_map, is_some, codes, bytes_eq, refl, sym, ap, ◌∙◌, arith, add-one, append_assoc}
 use Rattle.std.specs.Borrow.{Bor}
-use Rattle.std.proofs.lemmas.List.{take-map, drop-map, drop_all, length-drop}
+use Rattle.std.specs.declared.ops.Bound.{Bound}
+use Rattle.std.proofs.lemmas.List.{take-map, drop-map, length-drop}
 use Rattle.std.proofs.Math.Seq.{drop-cons}
 use Rattle.slate_mem.specs.declared.WriteOp.TheVariants as ops
 use Rattle.slate_types.specs.declared.config.IsolationLevel.{IsolationLevel}
 use Rattle.slate_types.specs.declared.config.Ttl.{Ttl}
 use Rattle.slate_mem.specs.Batch.{Ops}
+use Rattle.slate_txn.specs.declared.line.ScanStep.{ScanStep}
 use Rattle.slate_txn.specs.declared.line.Line.TheVariants as lines
-use Rattle.slate_language.specs.Parse.{both, three, only_if, ◌>>=◌, read_bytes, read_level, read_name, read_pair, read_ttl, read_all, named, keyed, many_keyed, OpWord, PutWord, MergeWord, DeleteWord, op_word, op_as, Groups, group_token, grouped, ops_of_groups}
+use Rattle.slate_language.specs.Parse.{both, three, only_if, ◌>>=◌, read_bound, read_bytes, read_level, read_name, read_pair, read_step, read_ttl, read_all, read_way, named, keyed, many_keyed, OpWord, PutWord, MergeWord, DeleteWord, op_word, op_as, Groups, group_token, grouped, ops_of_groups}
 use Rattle.slate_language.specs.Stage.{is_built_op, is_built_batch}
 use Rattle.slate_language.specs.Built.{texts, is_op_word, Op, built_begin, built_put_op, built_delete_op, built_op, built_ops, if_batch_built}
 use Rattle.slate_language.proofs.ParseOnly.{same-bytes}
@@ -234,61 +236,66 @@ ops-taken ts at n d held o x within kept len is some =
     let later = built_ops (texts (drop (at + 1 + n) ts)) in
     push-one held x later ∙ ap (λ p. option_map (λ os. held ++ os) (both ◌∷◌ p later)) (sym some) ∙ ap (λ b. option_map (λ os. held ++ os) b) (sym (turn ts at n d o within len is)) ∙ kept
 
--- ---- keys, read one after the other
+-- ---- keys and steps, each read from one token, one after the other
 
-key-turn : (ts : List (Bor (List ℕ))) (i : ℕ) (d : Bor (List ℕ)) → i < length ts →
-    read_all read_bytes (texts (drop i ts)) ≡ both ◌∷◌ (read_bytes (get_or ts i d).now) (read_all read_bytes (texts (drop (i + 1) ts)))
-key-turn ts i d within = ap (read_all read_bytes) (texts-from ts i d within)
+each-turn : {A : Type 0} (f : List ℕ → Option A) (ts : List (Bor (List ℕ))) (i : ℕ) (d : Bor (List ℕ)) → i < length ts →
+    read_all f (texts (drop i ts)) ≡ both ◌∷◌ (f (get_or ts i d).now) (read_all f (texts (drop (i + 1) ts)))
+each-turn f ts i d within = ap (read_all f) (texts-from ts i d within)
 
-pub keys-refused : (ts : List (Bor (List ℕ))) (i : ℕ) (d : Bor (List ℕ)) (held : List (List ℕ)) (o : Option (List ℕ)) → i < length ts →
-    option_map (λ ks. held ++ ks) (read_all read_bytes (texts (drop i ts))) ≡ read_all read_bytes (texts ts) → o ≡ read_bytes (get_or ts i d).now → o ≡ None → None ≡ read_all read_bytes (texts ts)
-keys-refused ts i d held o within kept read none =
-    let later = read_all read_bytes (texts (drop (i + 1) ts)) in
-    sym (ap (λ p. option_map (λ ks. held ++ ks) (both ◌∷◌ p later)) (sym read ∙ none)) ∙ ap (option_map (λ ks. held ++ ks)) (sym (key-turn ts i d within)) ∙ kept
+pub each-refused : {A : Type 0} (f : List ℕ → Option A) (ts : List (Bor (List ℕ))) (i : ℕ) (d : Bor (List ℕ)) (held : List A) (o : Option A) → i < length ts →
+    option_map (λ xs. held ++ xs) (read_all f (texts (drop i ts))) ≡ read_all f (texts ts) → o ≡ f (get_or ts i d).now → o ≡ None → None ≡ read_all f (texts ts)
+each-refused f ts i d held o within kept read none =
+    let later = read_all f (texts (drop (i + 1) ts)) in
+    sym (ap (λ p. option_map (λ xs. held ++ xs) (both ◌∷◌ p later)) (sym read ∙ none)) ∙ ap (option_map (λ xs. held ++ xs)) (sym (each-turn f ts i d within)) ∙ kept
 
-pub keys-taken : (ts : List (Bor (List ℕ))) (i : ℕ) (d : Bor (List ℕ)) (held : List (List ℕ)) (o : Option (List ℕ)) (k : List ℕ) → i < length ts →
-    option_map (λ ks. held ++ ks) (read_all read_bytes (texts (drop i ts))) ≡ read_all read_bytes (texts ts) → o ≡ read_bytes (get_or ts i d).now → o ≡ Some k →
-    option_map (λ ks. (held ++ (k ∷ [])) ++ ks) (read_all read_bytes (texts (drop (i + 1) ts))) ≡ read_all read_bytes (texts ts)
-keys-taken ts i d held o k within kept read some =
-    let later = read_all read_bytes (texts (drop (i + 1) ts)) in
-    push-one held k later ∙ ap (λ p. option_map (λ ks. held ++ ks) (both ◌∷◌ p later)) (sym some ∙ read) ∙ ap (option_map (λ ks. held ++ ks)) (sym (key-turn ts i d within)) ∙ kept
-
-pub keys-all : (ts : List (Bor (List ℕ))) (i : ℕ) (held : List (List ℕ)) → length ts ≤ i →
-    option_map (λ ks. held ++ ks) (read_all read_bytes (texts (drop i ts))) ≡ read_all read_bytes (texts ts) → Some held ≡ read_all read_bytes (texts ts)
-keys-all ts i held past kept =
-    ap Some (sym (append-nil held)) ∙ ap (λ us. option_map (λ ks. held ++ ks) (read_all read_bytes (texts us))) (sym (drop_all i ts past)) ∙ kept
+pub each-taken : {A : Type 0} (f : List ℕ → Option A) (ts : List (Bor (List ℕ))) (i : ℕ) (d : Bor (List ℕ)) (held : List A) (o : Option A) (x : A) → i < length ts →
+    option_map (λ xs. held ++ xs) (read_all f (texts (drop i ts))) ≡ read_all f (texts ts) → o ≡ f (get_or ts i d).now → o ≡ Some x →
+    option_map (λ xs. (held ++ (x ∷ [])) ++ xs) (read_all f (texts (drop (i + 1) ts))) ≡ read_all f (texts ts)
+each-taken f ts i d held o x within kept read some =
+    let later = read_all f (texts (drop (i + 1) ts)) in
+    push-one held x later ∙ ap (λ p. option_map (λ xs. held ++ xs) (both ◌∷◌ p later)) (sym some ∙ read) ∙ ap (option_map (λ xs. held ++ xs)) (sym (each-turn f ts i d within)) ∙ kept
 
 -- ---- tokens that a pattern takes apart
 
--- a pair with a time to live, where both are there
-abbrev pub with_ttl : Option (List ℕ × List ℕ) → Option Ttl → Option (List ℕ × List ℕ × Ttl)
-with_ttl p o = p >>= λ q. o >>= λ ttl. Some (q.0, q.1, ttl)
+-- a pair and a third, where both are there
+abbrev pub with_third : {A B C : Type 0} → Option (A × B) → Option C → Option (A × B × C)
+with_third p o = p >>= λ q. o >>= λ z. Some (q.0, q.1, z)
 
-both-three : (a b : Option (List ℕ)) (o : Option Ttl) → with_ttl (both (λ k v. (k, v)) a b) o ≡ three (λ k v ttl. (k, v, ttl)) a b o
+both-three : {A B C : Type 0} (a : Option A) (b : Option B) (o : Option C) → with_third (both (λ x y. (x, y)) a b) o ≡ three (λ x y z. (x, y, z)) a b o
 both-three None b o = refl
-both-three (Some k) None o = refl
-both-three (Some k) (Some v) None = refl
-both-three (Some k) (Some v) (Some ttl) = refl
+both-three (Some x) None o = refl
+both-three (Some x) (Some y) None = refl
+both-three (Some x) (Some y) (Some z) = refl
+
+without-third : {A B C : Type 0} (p : Option (A × B)) → ◌≡◌ {A = Option (A × B × C)} None (with_third p None)
+without-third None = refl
+without-third (Some q) = refl
 
 -- a key, a value, and the tokens behind them
 pub pair-is : (ts : List (Bor (List ℕ))) (p : Option (List ℕ × List ℕ)) (o : Option Ttl) → 2 ≤ length ts →
     p ≡ both (λ k v. (k, v)) (read_bytes (get_or ts 0 (record { ref_ptr = (0, 0); now = [] })).now) (read_bytes (get_or ts 1 (record { ref_ptr = (0, 0); now = [] })).now) →
     o ≡ read_ttl (texts (take (length ts - 2) (drop 2 ts))) →
-    with_ttl p o ≡ read_pair (λ k v ttl. (k, v, ttl)) (texts ts)
+    with_third p o ≡ read_pair (λ k v ttl. (k, v, ttl)) (texts ts)
 pair-is [] p o some e f = absurd (omega (arith, some))
 pair-is (t ∷ []) p o some e f = absurd (omega (arith, some))
 pair-is (t ∷ u ∷ us) p o some e f =
-    (λ i. with_ttl (e i) ((f ∙ ap (λ vs. read_ttl (texts vs)) (behind-all (t ∷ u ∷ us) 2)) i)) ∙ both-three (read_bytes t.now) (read_bytes u.now) (read_ttl (texts us))
+    (λ i. with_third (e i) ((f ∙ ap (λ vs. read_ttl (texts vs)) (behind-all (t ∷ u ∷ us) 2)) i)) ∙ both-three (read_bytes t.now) (read_bytes u.now) (read_ttl (texts us))
 
 pub pair-unread : (ts : List (Bor (List ℕ))) → 2 ≤ length ts → read_ttl (texts (take (length ts - 2) (drop 2 ts))) ≡ None → ◌≡◌ {A = Option (List ℕ × List ℕ × Ttl)} None (read_pair (λ k v ttl. (k, v, ttl)) (texts ts))
 pair-unread [] some e = refl
 pair-unread (t ∷ []) some e = refl
 pair-unread (t ∷ u ∷ us) some e =
-    nothing (both (λ k v. (k, v)) (read_bytes t.now) (read_bytes u.now)) ∙ pair-is (t ∷ u ∷ us) (both (λ k v. (k, v)) (read_bytes t.now) (read_bytes u.now)) None some refl (sym e)
-  where
-    nothing : (p : Option (List ℕ × List ℕ)) → None ≡ with_ttl p None
-    nothing None = refl
-    nothing (Some q) = refl
+    without-third (both (λ k v. (k, v)) (read_bytes t.now) (read_bytes u.now)) ∙ pair-is (t ∷ u ∷ us) (both (λ k v. (k, v)) (read_bytes t.now) (read_bytes u.now)) None some refl (sym e)
+
+-- two bounds, and the steps behind them
+pub way-is : (ts : List (Bor (List ℕ))) (p : Option (Bound (List ℕ) × Bound (List ℕ))) (o : Option (List ScanStep)) → 2 ≤ length ts →
+    p ≡ both (λ a b. (a, b)) (read_bound (get_or ts 0 (record { ref_ptr = (0, 0); now = [] })).now) (read_bound (get_or ts 1 (record { ref_ptr = (0, 0); now = [] })).now) →
+    o ≡ read_all read_step (texts (take (length ts - 2) (drop 2 ts))) →
+    with_third p o ≡ read_way (λ start end sts. (start, end, sts)) (texts ts)
+way-is [] p o some e f = absurd (omega (arith, some))
+way-is (t ∷ []) p o some e f = absurd (omega (arith, some))
+way-is (t ∷ u ∷ us) p o some e f =
+    (λ i. with_third (e i) ((f ∙ ap (λ vs. read_all read_step (texts vs)) (behind-all (t ∷ u ∷ us) 2)) i)) ∙ both-three (read_bound t.now) (read_bound u.now) (read_all read_step (texts us))
 
 -- what is made of a key, a value and a time to live
 pub pair-made : {A : Type 0} (make : List ℕ → List ℕ → Ttl → A) (ts : List (List ℕ)) (p : Option (List ℕ × List ℕ × Ttl)) → p ≡ read_pair (λ k v ttl. (k, v, ttl)) ts →

@@ -218,7 +218,7 @@ pub level-read : (l : IsolationLevel) → Reads read_level (level_word l) l
 level-read levels.Snapshot = (refl, refl)
 level-read levels.SerializableSnapshot = (refl, refl)
 
-order-read : (o : IterationOrder) → Reads read_order (order_word o) o
+pub order-read : (o : IterationOrder) → Reads read_order (order_word o) o
 order-read Ascending = (refl, refl)
 order-read Descending = (refl, refl)
 
@@ -290,7 +290,7 @@ pair-read make ts k v ttl h =
       subst NoSpaces (sym h.6) (key.1, (value.1, rest.1)),
     )
 
-way-read : {A : Type 0} (make : Bound (List ℕ) → Bound (List ℕ) → List ScanStep → A) (ts : List (List ℕ)) (start end : Bound (List ℕ)) (sts : List ScanStep) →
+pub way-read : {A : Type 0} (make : Bound (List ℕ) → Bound (List ℕ) → List ScanStep → A) (ts : List (List ℕ)) (start end : Bound (List ℕ)) (sts : List ScanStep) →
     IsWay ts start end sts → ReadsAll (read_way make) ts (make start end sts)
 way-read make ts start end sts h =
     let first = bound-read h.0 start h.3 in

@@ -194,7 +194,7 @@ level-only t l e = by (cond-either (bytes_eq t (codes "si")) (Some levels.Snapsh
         let some = only_if-some (bytes_eq t (codes "ssi")) levels.SerializableSnapshot l h.1 in
         same-bytes t (codes "ssi") some.0 ∙ ap level_word some.1
 
-order-only : (t : List ℕ) (o : IterationOrder) → read_order t ≡ Some o → t ≡ order_word o
+pub order-only : (t : List ℕ) (o : IterationOrder) → read_order t ≡ Some o → t ≡ order_word o
 order-only t o e = by (cond-either (bytes_eq t (codes "asc")) (Some Ascending) (only_if (bytes_eq t (codes "desc")) Descending) (Some o) e)
   where
     by : ((bytes_eq t (codes "asc") ≡ true) × (Some Ascending ≡ Some o)) ⊎ ((bytes_eq t (codes "asc") ≡ false) × (only_if (bytes_eq t (codes "desc")) Descending ≡ Some o)) → t ≡ order_word o
@@ -271,7 +271,7 @@ pair-only make (t ∷ u ∷ us) z e =
 abbrev FromWay : {A : Type 0} → (Bound (List ℕ) → Bound (List ℕ) → List ScanStep → A) → List (List ℕ) → A → Type 0
 FromWay make ts z = (start : Bound (List ℕ)) × (end : Bound (List ℕ)) × (sts : List ScanStep) × IsWay ts start end sts × (make start end sts ≡ z)
 
-way-only : {A : Type 0} (make : Bound (List ℕ) → Bound (List ℕ) → List ScanStep → A) (ts : List (List ℕ)) (z : A) → read_way make ts ≡ Some z → FromWay make ts z
+pub way-only : {A : Type 0} (make : Bound (List ℕ) → Bound (List ℕ) → List ScanStep → A) (ts : List (List ℕ)) (z : A) → read_way make ts ≡ Some z → FromWay make ts z
 way-only make [] z e = None-is-Some z e
 way-only make (t ∷ []) z e = None-is-Some z e
 way-only make (t ∷ u ∷ us) z e =

@@ -23,6 +23,7 @@ shown-of (answers.Refused error) = refl
 shown-of (answers.NowIs moment) = refl
 shown-of (answers.Begun name start) = refl
 shown-of (answers.Found row) = refl
+shown-of (answers.Rows rows) = refl
 shown-of (answers.Committed seq) = refl
 shown-of (answers.Written seq) = refl
 shown-of (answers.Frozen seq) = refl

@@ -38,6 +38,7 @@ reply_of (answers.Refused error) = replies.Refused error
 reply_of (answers.NowIs moment) = replies.NowIs moment
 reply_of (answers.Begun name start) = replies.Begun name start
 reply_of (answers.Found row) = replies.Found row
+reply_of (answers.Rows rows) = replies.RowsAre rows.items
 reply_of (answers.Committed seq) = replies.Committed seq
 reply_of (answers.Written seq) = replies.Written seq
 reply_of (answers.Frozen seq) = replies.Frozen seq

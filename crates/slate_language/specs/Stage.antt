@@ -24,6 +24,7 @@ abbrev pub is_built : Line → Bool
 is_built (lines.Now m) = true
 is_built (lines.Begin name level) = true
 is_built (lines.Get name k) = true
+is_built (lines.Scan name order start end sts) = true
 is_built (lines.Put name k v ttl) = true
 is_built (lines.Delete name k) = true
 is_built (lines.Mark name ks) = true

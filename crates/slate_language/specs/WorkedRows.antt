@@ -63,8 +63,8 @@ conflict_closes =
 abbrev pub ConflictCloses : Type 0
 ConflictCloses = Answers plain conflict_closes
 
-abbrev pub EmptyScanIsARead : Type 0
-EmptyScanIsARead = Answers plain (
+abbrev pub empty_scan : List (String × String)
+empty_scan =
     ("begin t ssi" ▹ "begun t 0") ∷
     ("scan t asc * *" ▹ "rows 0") ∷
     ("write put 'c '1" ▹ "written 1") ∷
@@ -72,7 +72,10 @@ EmptyScanIsARead = Answers plain (
     ("flush" ▹ "flushed 1") ∷
     ("scan t asc * *" ▹ "rows 0") ∷
     ("commit t" ▹ "refused TransactionConflict 1") ∷
-    [])
+    []
+
+abbrev pub EmptyScanIsARead : Type 0
+EmptyScanIsARead = Answers plain empty_scan
 
 abbrev pub unmarked_write : List (String × String)
 unmarked_write =
@@ -135,8 +138,8 @@ OwnAboveAll = Answers concatenating (
     ("get t 'k" ▹ "row 'k 'ab 18446744073709551615 100 150") ∷
     [])
 
-abbrev pub BackWithASeek : Type 0
-BackWithASeek = Answers plain (
+abbrev pub back_with_a_seek : List (String × String)
+back_with_a_seek =
     ("begin z si" ▹ "begun z 0") ∷
     ("write put 'a '1" ▹ "written 1") ∷
     ("write put 'b '1" ▹ "written 2") ∷
@@ -147,7 +150,10 @@ BackWithASeek = Answers plain (
     ("begin t si" ▹ "begun t 5") ∷
     ("scan t desc * * n1 s'b n9" ▹ "rows 3 'c '1 5 0 - 'b '3 4 0 - 'a '1 1 0 -") ∷
     ("scan z asc * *" ▹ "rows 0") ∷
-    [])
+    []
+
+abbrev pub BackWithASeek : Type 0
+BackWithASeek = Answers plain back_with_a_seek
 
 abbrev pub PrefixWithoutEnd : Type 0
 PrefixWithoutEnd = Answers plain (
@@ -197,8 +203,8 @@ TimesToLive = Answers ten_millis (
     ("scan t asc * *" ▹ "rows 3 'a '1 1 5 15 'b '2 1 5 - 'c '3 1 5 -") ∷
     [])
 
-abbrev pub FirstDay : Type 0
-FirstDay = Answers plain (
+abbrev pub first_day : List (String × String)
+first_day =
     ("write put 'test_key 'test_value" ▹ "written 1") ∷
     ("write delete 'test_key" ▹ "written 2") ∷
     ("write put 'test_key1 'test_value1 put 'test_key2 'test_value2 put 'test_key3 'test_value3 put 'test_key4 'test_value4" ▹ "written 3") ∷
@@ -206,7 +212,10 @@ FirstDay = Answers plain (
     ("get r 'test_key" ▹ "none") ∷
     ("scan r asc i'test_key1 i'test_key2" ▹ "rows 2 'test_key1 'test_value1 3 0 - 'test_key2 'test_value2 3 0 -") ∷
     ("scan r asc * * s'test_key4 n2" ▹ "rows 1 'test_key4 'test_value4 3 0 -") ∷
-    [])
+    []
+
+abbrev pub FirstDay : Type 0
+FirstDay = Answers plain first_day
 
 -- Orders come in four transactions, and a reader takes the first of the last ones.
 abbrev pub OrdinaryDay : Type 0
@@ -308,6 +317,18 @@ RefusalsToday = AnswersToday plain (
 abbrev pub TransactionsToday : Type 0
 TransactionsToday = AnswersToday plain conflict_closes × AnswersToday plain unmarked_write × AnswersToday plain marked_key
 
+-- Scans, one of them of a range that is refused, which is no read.
+abbrev pub ScansToday : Type 0
+ScansToday = AnswersToday plain empty_scan × AnswersToday plain back_with_a_seek × AnswersToday plain first_day × AnswersToday plain (
+    ("begin t ssi" ▹ "begun t 0") ∷
+    ("put t 'a '1" ▹ "ok") ∷
+    ("scan t asc e'a e'a" ▹ "refused InvalidRange") ∷
+    ("scan t asc e'a *" ▹ "rows 0") ∷
+    ("scan t desc i'a i'a n0" ▹ "rows 0") ∷
+    ("scan t desc i'a i'a n2" ▹ "rows 1 'a '1 18446744073709551615 0 -") ∷
+    ("scan u asc e'a e'a" ▹ "refused UnknownTransaction u") ∷
+    [])
+
 -- Own operations have no stamps before their commit, which tracks them; a commit of none has no sequence.
 abbrev pub OwnToday : Type 0
 OwnToday = AnswersToday ten_millis (
@@ -330,7 +351,7 @@ OwnToday = AnswersToday ten_millis (
 
 -- A line that isn't built ends a script, as does one that is none.
 abbrev pub NotBuiltToday : Type 0
-NotBuiltToday = (replies plain (text ("begin t si" ∷ "scan t asc * *" ∷ "begin u si" ∷ [])) ≡ text ("begun t 0" ∷ []))
+NotBuiltToday = (replies plain (text ("begin t si" ∷ "prefix t asc 'a * *" ∷ "begin u si" ∷ [])) ≡ text ("begun t 0" ∷ []))
     × (replies plain (text ("snapshot s" ∷ [])) ≡ [])
     × (replies plain (text ("mark t" ∷ [])) ≡ [])
     × (replies plain (text ("write put 'a '1 merge 'a '2" ∷ [])) ≡ [])

@@ -1,23 +1,27 @@
 //! The meaning of a line.
 ghost use Rattle.std.specs.Prelude.{◌≡◌, ◌⊎◌, ◌≤◌, ◌∷◌, [], Ok, Some, None, IfOk, IfSome, IfErr, codes, length, option_map, true, false};
-ghost use Rattle.slate_language.specs.Parse.{tokens_of, grouped, both, many_keyed, read_all, read_bytes, read_level, read_name, read_pair, read_ttl};
+ghost use Rattle.slate_language.specs.Parse.{tokens_of, grouped, both, many_keyed, read_all, read_bytes, read_bound, read_level, read_name, read_order, read_pair, read_step, read_ttl, read_way};
 ghost use Rattle.slate_language.specs.Stage.{meaning};
-ghost use Rattle.slate_language.specs.Built.{texts, keyword, keyword_among, marking, unnamed, built_begin, built_get, built_put, built_delete, built_mark, built_unmark, built_commit, built_rollback, built_now, built_write, built_alone, built_as, built_tokens};
+ghost use Rattle.slate_language.specs.Built.{texts, keyword, keyword_among, marking, unnamed, built_begin, built_get, built_scan, built_put, built_delete, built_mark, built_unmark, built_commit, built_rollback, built_now, built_write, built_alone, built_as, built_tokens};
 ghost use Rattle.slate_language.specs.Built.{is_op_word, built_put_op, built_delete_op, built_op, built_ops};
 ghost use Rattle.slate_language.specs.Replies.{is_silent};
 
-use crate::token::{is_word, read_bytes, read_moment, read_name, read_ttl, split_tokens};
+use crate::token::{
+    is_word, read_bound, read_bytes, read_moment, read_name, read_step, read_ttl, split_tokens,
+};
 use bytes::Bytes;
 use slate_mem::WriteOp;
-use slate_txn::{KeyList, Line, OpList};
-use slate_types::{IsolationLevel, PutOptions, SlateDBError, Ttl};
+use slate_txn::{KeyList, Line, OpList, StepList};
+use slate_types::{IsolationLevel, IterationOrder, PutOptions, SlateDBError, Ttl};
 use std::alloc::{AllocError, Global};
+use std::ops::Bound;
 
 /// The first word of a line.
 #[derive(Clone, Copy)]
 enum Keyword {
     Begin,
     Get,
+    Scan,
     Put,
     Delete,
     Mark,
@@ -85,6 +89,8 @@ fn read_keyword(token: &[u8]) -> Option<Keyword>
         Some(Keyword::Begin)
     } else if is_word(token, b"get") {
         Some(Keyword::Get)
+    } else if is_word(token, b"scan") {
+        Some(Keyword::Scan)
     } else if is_word(token, b"put") {
         Some(Keyword::Put)
     } else if is_word(token, b"delete") {
@@ -137,6 +143,7 @@ fn read_as(alloc: Global, keyword: Keyword, tokens: &[&[u8]]) -> Result<Option<L
     match keyword {
         Keyword::Begin => read_begin(alloc, tokens),
         Keyword::Get => read_get(alloc, tokens),
+        Keyword::Scan => read_scan(alloc, tokens),
         Keyword::Put => read_put(alloc, tokens),
         Keyword::Delete => read_delete(alloc, tokens),
         Keyword::Mark => read_mark(alloc, tokens),
@@ -231,6 +238,114 @@ fn read_named(alloc: Global, name: &[u8], key: &[u8]) -> Result<Option<(Bytes, B
             Err(error)
         }
     }
+}
+
+/// `scan N <order> B B`, and maybe steps
+fn read_scan(alloc: Global, tokens: &[&[u8]]) -> Result<Option<Line>, AllocError>
+    ensures line { IfOk result (λ o. o ≡ built_scan (texts tokens.now)) }
+{
+    let [name, order, rest @ ..] = tokens else {
+        return Ok(None);
+    };
+    let Some(order) = read_order(order) else {
+        return Ok(None);
+    };
+    let Some(name) = copy_name(alloc, name)? else {
+        return Ok(None);
+    };
+    match read_way(alloc, rest) {
+        Ok(Some((start, end, steps))) => Ok(Some(Line::Scan {
+            name,
+            order,
+            start,
+            end,
+            steps,
+        })),
+        Ok(None) => {
+            drop(name);
+            Ok(None)
+        }
+        Err(error) => {
+            drop(name);
+            Err(error)
+        }
+    }
+}
+
+fn read_order(token: &[u8]) -> Option<IterationOrder>
+    ensures { result ≡ read_order token.now }
+{
+    if is_word(token, b"asc") {
+        Some(IterationOrder::Ascending)
+    } else if is_word(token, b"desc") {
+        Some(IterationOrder::Descending)
+    } else {
+        None
+    }
+}
+
+/// Two bounds, and maybe steps
+fn read_way(
+    alloc: Global,
+    tokens: &[&[u8]],
+) -> Result<Option<(Bound<Bytes>, Bound<Bytes>, StepList)>, AllocError>
+    ensures way { IfOk result (λ o. o ≡ read_way (λ start end steps. (start, end, steps)) (texts tokens.now)) }
+{
+    let [start, end, rest @ ..] = tokens else {
+        return Ok(None);
+    };
+    let Some(steps) = read_steps(alloc, rest)? else {
+        return Ok(None);
+    };
+    match read_bounds(alloc, start, end) {
+        Ok(Some((start, end))) => Ok(Some((start, end, steps))),
+        Ok(None) => {
+            drop(steps);
+            Ok(None)
+        }
+        Err(error) => {
+            drop(steps);
+            Err(error)
+        }
+    }
+}
+
+/// The bounds of two tokens.
+fn read_bounds(
+    alloc: Global,
+    start: &[u8],
+    end: &[u8],
+) -> Result<Option<(Bound<Bytes>, Bound<Bytes>)>, AllocError>
+    ensures bounds { IfOk result (λ o. o ≡ both (λ a b. (a, b)) (read_bound start.now) (read_bound end.now)) }
+{
+    let Some(start) = read_bound(alloc, start)? else {
+        return Ok(None);
+    };
+    match read_bound(alloc, end) {
+        Ok(Some(end)) => Ok(Some((start, end))),
+        Ok(None) => {
+            drop(start);
+            Ok(None)
+        }
+        Err(error) => {
+            drop(start);
+            Err(error)
+        }
+    }
+}
+
+/// The step of each token.
+fn read_steps(alloc: Global, tokens: &[&[u8]]) -> Result<Option<StepList>, AllocError>
+    ensures steps { IfOk result (λ o. o ≡ read_all read_step (texts tokens.now)) }
+{
+    let mut steps = Vec::new(alloc);
+    for token in tokens {
+        let Some(step) = read_step(alloc, token)? else {
+            return Ok(None);
+        };
+        steps.push(step)?;
+    }
+    Ok(Some(StepList::from_vec(steps)))
 }
 
 /// `put N K V`, and maybe a time to live

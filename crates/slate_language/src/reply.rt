@@ -3,8 +3,8 @@ ghost use Rattle.std.specs.Prelude.{◌≡◌, ◌++◌, ◌∷◌, [], Some, ma
 ghost use Rattle.std.specs.List.{join_with_byte};
 ghost use Rattle.slate_language.specs.Replies.{reply_line};
 ghost use Rattle.slate_language.specs.Answers.{entry_commit, reply_of, word_text, words_text};
-ghost use Rattle.slate_language.specs.Text.{commit_words, error_words, stamp, sequence};
-ghost use Rattle.slate_txn.specs.Reply.{JournalIs, Refused};
+ghost use Rattle.slate_language.specs.Text.{commit_words, error_words, row_words, stamp, sequence};
+ghost use Rattle.slate_txn.specs.Reply.{JournalIs, Refused, RowsAre};
 
 use crate::text::shown;
 use bytes::Bytes;
@@ -30,6 +30,8 @@ pub enum Answer {
     NowIs(i64),
     Begun { name: Bytes, start: u64 },
     Found(Option<KeyValue>),
+    /// The rows that a scan handed out, in its order.
+    Rows(Vec<KeyValue>),
     Committed(Option<u64>),
     Written(Option<u64>),
     Frozen(u64),
@@ -76,6 +78,7 @@ pub fn reply_text(alloc: Global, answer: &Answer) -> Result<Vec<u8>, AllocError>
         ),
         Answer::Found(None) => line_of(alloc, &[Word::Text(b"none")]),
         Answer::Found(Some(row)) => row_text(alloc, row),
+        Answer::Rows(rows) => rows_text(alloc, rows.as_slice()),
         Answer::Committed(seq) => line_of(alloc, &[Word::Text(b"committed"), sequence(*seq)]),
         Answer::Written(seq) => line_of(alloc, &[Word::Text(b"written"), sequence(*seq)]),
         Answer::Frozen(seq) => line_of(alloc, &[Word::Text(b"frozen"), Word::Number(*seq)]),
@@ -226,17 +229,38 @@ fn error_words(error: &SlateDBError) -> ErrorWords<'_>
 fn row_text(alloc: Global, row: &KeyValue) -> Result<Vec<u8>, AllocError>
     ensures text { IfOk result (λ v. v.items ≡ reply_line (reply_of (Answer.Found (Some row.now)))) }
 {
+    let [key, value, seq, created, expires] = row_words(row);
     line_of(
         alloc,
-        &[
-            Word::Text(b"row"),
-            Word::Shown(row.key.as_slice()),
-            Word::Shown(row.value.as_slice()),
-            Word::Number(row.seq),
-            Word::Moment(row.create_ts),
-            stamp(row.expire_ts),
-        ],
+        &[Word::Text(b"row"), key, value, seq, created, expires],
     )
+}
+
+fn rows_text(alloc: Global, rows: &[KeyValue]) -> Result<Vec<u8>, AllocError>
+    ensures text { IfOk result (λ v. v.items ≡ reply_line (RowsAre rows.now)) }
+{
+    let mut words = Vec::new(alloc);
+    words.push(Word::Text(b"rows"))?;
+    words.push(Word::Number(rows.len() as u64))?;
+    for row in rows {
+        words.extend_from_slice(&row_words(row))?;
+    }
+    let text = line_of(alloc, words.as_slice());
+    drop(words);
+    text
+}
+
+/// The words of a row: its key, its value, its sequence, when it was made and when it ends.
+fn row_words(row: &KeyValue) -> [Word<'_>; 5]
+    ensures { map word_text result ≡ row_words row.now }
+{
+    [
+        Word::Shown(row.key.as_slice()),
+        Word::Shown(row.value.as_slice()),
+        Word::Number(row.seq),
+        Word::Moment(row.create_ts),
+        stamp(row.expire_ts),
+    ]
 }
 
 fn journal_text(alloc: Global, commits: &[JournalEntry]) -> Result<Vec<u8>, AllocError>

@@ -27,6 +27,7 @@ ghost use Rattle.slate_language.specs.WorkedRows.{
   RefusalsToday,
   LongKeysToday,
   TransactionsToday,
+  ScansToday,
   OwnToday,
   NotBuiltToday,
 };
@@ -87,6 +88,8 @@ pub fn worked_rows()
     ensures long_keys_today { LongKeysToday }
     // Transactions that write, by what is built today.
     ensures transactions_today { TransactionsToday }
+    // Scans, by what is built today.
+    ensures scans_today { ScansToday }
     // Own operations before and after their commit, by what is built today.
     ensures own_today { OwnToday }
     // What is not built ends a script.

@@ -4,14 +4,16 @@ ghost use Rattle.std.specs.List.{list_all, join_with_byte};
 ghost use Rattle.std.specs.Option.{option_copied};
 ghost use Rattle.slate_language.specs.Text.{is_visible};
 ghost use Rattle.slate_language.specs.Grammar.{IsBytes, IsMoment, IsName, IsNumber, is_name_byte};
-ghost use Rattle.slate_language.specs.Parse.{only_if, unhex, tokens_of, read_bytes, read_number, read_moment, read_name, read_ttl_token};
+ghost use Rattle.slate_language.specs.Parse.{only_if, unhex, tokens_of, read_bytes, read_number, read_moment, read_name, read_bound, read_step, read_ttl_token};
 ghost use Rattle.slate_language.specs.Built.{texts, is_name, is_digit, is_numeral, is_moment_text, is_hex_digit};
 
 use crate::text::is_visible;
 use bytes::Bytes;
 use hex::FromHexError;
+use slate_txn::ScanStep;
 use slate_types::Ttl;
 use std::alloc::{AllocError, Global};
+use std::ops::Bound;
 
 /// The most bytes of a name.
 const MAX_NAME_LEN: usize = 64;
@@ -170,5 +172,40 @@ pub(crate) fn read_ttl(token: &[u8]) -> Option<Ttl>
     match read_number(text) {
         Some(millis) => Some(Ttl::ExpireAfter(millis)),
         None => None,
+    }
+}
+
+/// A bound of a range: `i` or `e` and a byte token, or `*` for none.
+pub(crate) fn read_bound(alloc: Global, token: &[u8]) -> Result<Option<Bound<Bytes>>, AllocError>
+    ensures bound { IfOk result (λ o. o ≡ read_bound token.now) }
+{
+    match token {
+        [b'i', key @ ..] => match read_bytes(alloc, key)? {
+            Some(key) => Ok(Some(Bound::Included(key))),
+            None => Ok(None),
+        },
+        [b'e', key @ ..] => match read_bytes(alloc, key)? {
+            Some(key) => Ok(Some(Bound::Excluded(key))),
+            None => Ok(None),
+        },
+        b"*" => Ok(Some(Bound::Unbounded)),
+        _ => Ok(None),
+    }
+}
+
+/// A step of a scan: `n` and how many rows, or `s` and the byte token of a key.
+pub(crate) fn read_step(alloc: Global, token: &[u8]) -> Result<Option<ScanStep>, AllocError>
+    ensures step { IfOk result (λ o. o ≡ read_step token.now) }
+{
+    match token {
+        [b'n', digits @ ..] => match read_number(digits) {
+            Some(rows) => Ok(Some(ScanStep::Rows(rows))),
+            None => Ok(None),
+        },
+        [b's', key @ ..] => match read_bytes(alloc, key)? {
+            Some(key) => Ok(Some(ScanStep::Seek(key))),
+            None => Ok(None),
+        },
+        _ => Ok(None),
     }
 }

@@ -169,3 +169,22 @@ named-after name q w old new h = find_named-lookup q new ∙ h ∙ (λ i. cond (
 pub none-found : {X : Type 0} (o : Option X) → is_some o ≡ false → o ≡ None
 none-found None h = refl
 none-found (Some x) h = cc
+
+-- ---- what is changed twice
+
+pub update_twice : {X : Type 0} (k : List ℕ) (f g : X → X) (ps : List (List ℕ × X)) → update_named k g (update_named k f ps) ≡ update_named k (λ x. g (f x)) ps
+update_twice k f g [] = refl
+update_twice k f g (p ∷ ps) = by (bytes_eq p.0 k) refl (update_twice k f g ps)
+  where
+    by : (b : Bool) → bytes_eq p.0 k ≡ b → update_named k g (update_named k f ps) ≡ update_named k (λ x. g (f x)) ps →
+        update_named k g (cond b ((p.0, f p.1) ∷ ps) (p ∷ update_named k f ps)) ≡ cond b ((p.0, g (f p.1)) ∷ ps) (p ∷ update_named k (λ x. g (f x)) ps)
+    by true e rest = ap (λ c. cond c ((p.0, g (f p.1)) ∷ ps) ((p.0, f p.1) ∷ update_named k g ps)) e
+    by false e rest = ap (λ c. cond c ((p.0, g p.1) ∷ update_named k f ps) (p ∷ update_named k g (update_named k f ps))) e ∙ ap (λ qs. p ∷ qs) rest
+
+pub update_same : {X : Type 0} (k : List ℕ) (f : X → X) (ps : List (List ℕ × X)) → ((x : X) → f x ≡ x) → update_named k f ps ≡ ps
+update_same k f [] same = refl
+update_same k f (p ∷ ps) same = by (bytes_eq p.0 k) (update_same k f ps same)
+  where
+    by : (b : Bool) → update_named k f ps ≡ ps → cond b ((p.0, f p.1) ∷ ps) (p ∷ update_named k f ps) ≡ p ∷ ps
+    by true rest = λ i. (p.0, same p.1 i) ∷ ps
+    by false rest = ap (λ qs. p ∷ qs) rest

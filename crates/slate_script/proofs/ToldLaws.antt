@@ -12,6 +12,8 @@ use Rattle.slate_store.specs.Store.{Act, with_object}
 use Rattle.slate_table.specs.Parts.{Encode}
 use Rattle.slate_table.specs.Paths.{path_of}
 use Rattle.slate_txn.specs.declared.event.Event.TheVariants as events
+use Rattle.slate_txn.specs.declared.line.Line.{Line}
+use Rattle.slate_txn.specs.declared.line.Line.TheVariants as lines
 use Rattle.slate_db.specs.Answered.{AddsPuts, AddsReads, AddsTables, AnswersAct, AnswersAs, PutsNothing}
 use Rattle.slate_db.specs.Flushed.{IsFlushed, Layout, idle, stored, with_tables}
 use Rattle.slate_db.specs.Frozen.{IsFrozen}
@@ -19,11 +21,10 @@ use Rattle.slate_db.specs.Installs.{root, tables_of}
 use Rattle.slate_db.specs.Meaning.{Meaning}
 use Rattle.slate_db.specs.Model.{CoreModel}
 use Rattle.slate_db.specs.Parts.{IsTableError}
-use Rattle.slate_db.specs.Readable.{IsRefusedBy}
 use Rattle.slate_db.specs.Sound.{IsKept}
 use Rattle.slate_db.specs.Log.{LIMIT}
 use Rattle.slate_script.specs.Session.{SessionModel, IsSettled, StoresNothing}
-use Rattle.slate_script.specs.Told.{ArePut, AreTrue, Follows, IsShownAtEnd, IsUntrue, PutsTables, after_act, after_acts}
+use Rattle.slate_script.specs.Told.{ArePut, AreTrue, Follows, IsRefusedAt, IsShownAtEnd, IsShownBy, IsUntrue, PutsTables, after_act, after_acts}
 use Rattle.slate_script.proofs.Running.{not-damage}
 use Rattle.slate_script.proofs.SessionLeaves.{leaves-frozen}
 use Rattle.slate_script.proofs.SessionStores.{flush-settled, same-tables, stays-settled, tables-more, tables-still}
@@ -170,11 +171,34 @@ stores-on ts us first middle last f g known is =
     (a.0 ++ b.0, us, b.2 ∙ ap (λ (l : List Act). Some l) (append_assoc known a.0 b.0), refl, subst (ArePut (a.0 ++ b.0)) (sym (b.3 ∙ ap (λ (l : List (Ulid × List ℕ)). l ++ b.1) a.3)) (puts-both (a.0 ++ b.0) a.1 b.1 (puts-more a.0 b.0 a.1 a.4) (puts-behind a.0 b.0 b.1 b.4)))
 
 -- what is refused by the reads of the last line
-pub shown-at-end : (before now after : Reach) (core : CoreModel) (e : SlateDBError) → now.meaning ≡ before.meaning → PutsTables [] (tables_of core.events) before.acts now.acts → Made now after (λ reads. IsRefusedBy now.meaning core reads e) → IsShownAtEnd before after e
+pub shown-at-end : (before now after : Reach) (core : CoreModel) (e : SlateDBError) → now.meaning ≡ before.meaning → PutsTables [] (tables_of core.events) before.acts now.acts → Made now after (λ reads. IsShownBy now.meaning core reads e) → IsShownAtEnd before after e
 shown-at-end before now after core e same stores made = record {
   core = core;
   reads = made.0;
   each = made.1.each;
-  refused = subst (λ (m : Meaning). IsRefusedBy m core made.0 e) same made.2;
+  refused = subst (λ (m : Meaning). IsShownBy m core made.0 e) same made.2;
   last = λ known is. let a = stores known is in (a.0, made.1.adds (known ++ a.0) a.2, subst (ArePut a.0) (sym a.3) a.4);
 }
+
+-- what a line is refused for its reads show
+at-shown : (line : Line) (m : Meaning) (core : CoreModel) (reads : List Act) (e : SlateDBError) → IsRefusedAt line m core reads e → IsShownBy m core reads e
+at-shown (lines.Scan name order start end sts) m core reads e h = inr h
+at-shown (lines.Now moment) m core reads e h = inl h
+at-shown (lines.Begin name level) m core reads e h = inl h
+at-shown (lines.Snapshot name) m core reads e h = inl h
+at-shown (lines.Get name k) m core reads e h = inl h
+at-shown (lines.Prefix name order p start end sts) m core reads e h = inl h
+at-shown (lines.Put name k v ttl) m core reads e h = inl h
+at-shown (lines.Merge name k v ttl) m core reads e h = inl h
+at-shown (lines.Delete name k) m core reads e h = inl h
+at-shown (lines.Mark name ks) m core reads e h = inl h
+at-shown (lines.Unmark name ks) m core reads e h = inl h
+at-shown (lines.Commit name) m core reads e h = inl h
+at-shown (lines.Rollback name) m core reads e h = inl h
+at-shown (lines.Write batch) m core reads e h = inl h
+at-shown lines.Freeze m core reads e h = inl h
+at-shown lines.Flush m core reads e h = inl h
+at-shown lines.Journal m core reads e h = inl h
+
+pub line-shown : (line : Line) (before after : Reach) (core : CoreModel) (x : SlateDBError) → (IsTableError x → Made before after (λ reads. IsRefusedAt line before.meaning core reads x)) → IsTableError x → Made before after (λ reads. IsShownBy before.meaning core reads x)
+line-shown line before after core x shown error = let made = shown error in (made.0, made.1, at-shown line before.meaning core made.0 x made.2)

@@ -5,20 +5,25 @@
 --     Follows m os e before after      behind those a session is settled over the objects as the acts left them
 --     ArePut acts ts      each of the tables was put by one of the acts
 --     PutsTables old new before after      of two lists of tables the second has those of the first and more, which were put by the acts in between
+--     IsShownBy m c reads e      reads show the error, as those of a get do or as those of a scan
+--     IsRefusedAt line m c reads e      what a line is refused for by its reads
 --     IsShownAtEnd before after e      the last acts are reads that show the error, by tables that were put before them
-use Rattle.std.specs.Prelude.{◌≡◌, ℕ, List, [], ◌∷◌, ◌++◌, Contains, Option, Some}
+use Rattle.std.specs.Prelude.{◌≡◌, ◌⊎◌, ℕ, List, [], ◌∷◌, ◌++◌, Contains, Option, Some}
 use Rattle.std.specs.List.{AllByRecursion}
 use Rattle.slate_types.specs.declared.error.SlateDBError.{SlateDBError}
 use Rattle.slate_types.specs.declared.types.Ulid.{Ulid}
 use Rattle.slate_types.specs.Outside.{Objects, Reach}
 use Rattle.slate_types.specs.World.{IsReadAct}
 use Rattle.slate_store.specs.Store.{Act, with_object}
+use Rattle.slate_txn.specs.declared.line.Line.{Line}
+use Rattle.slate_txn.specs.declared.line.Line.TheVariants as lines
 use Rattle.slate_db.specs.Answered.{AnswersAct}
 use Rattle.slate_table.specs.Paths.{path_of}
 use Rattle.slate_db.specs.Installs.{root, tables_of}
 use Rattle.slate_db.specs.Meaning.{Meaning}
 use Rattle.slate_db.specs.Model.{CoreModel}
 use Rattle.slate_db.specs.Readable.{IsRefusedBy}
+use Rattle.slate_db.specs.Scans.{IsRefusedByScan}
 use Rattle.slate_script.specs.Session.{SessionModel, IsSettled}
 
 abbrev pub after_act : Objects → Act → Objects
@@ -47,10 +52,17 @@ abbrev pub PutsTables : List (Ulid × List ℕ) → List (Ulid × List ℕ) → 
 PutsTables old new before after = (known : List Act) → before ≡ Some known →
     (more : List Act) × (added : List (Ulid × List ℕ)) × (after ≡ Some (known ++ more)) × (new ≡ old ++ added) × ArePut more added
 
+abbrev pub IsShownBy : Meaning → CoreModel → List Act → SlateDBError → Type 0
+IsShownBy m c reads e = IsRefusedBy m c reads e ⊎ IsRefusedByScan m c reads e
+
+abbrev pub IsRefusedAt : Line → Meaning → CoreModel → List Act → SlateDBError → Type 0
+IsRefusedAt (lines.Scan name order start end sts) m c reads e = IsRefusedByScan m c reads e
+IsRefusedAt line m c reads e = IsRefusedBy m c reads e
+
 -- core: as it was before the reads
 pub record IsShownAtEnd (before after : Reach) (e : SlateDBError) : Type 0 where
   pub core : CoreModel
   pub reads : List Act
   pub each : AllByRecursion IsReadAct reads
-  pub refused : IsRefusedBy before.meaning core reads e
+  pub refused : IsShownBy before.meaning core reads e
   pub last : (known : List Act) → before.acts ≡ Some known → (earlier : List Act) × (after.acts ≡ Some ((known ++ earlier) ++ reads)) × ArePut earlier (tables_of core.events)

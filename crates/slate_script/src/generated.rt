@@ -10,7 +10,7 @@ ghost use Rattle.slate_db.specs.Meaning.{IsLawfulMeaning};
 ghost use Rattle.slate_db.specs.Parts.{IsTableError};
 ghost use Rattle.slate_language.specs.Generate.{generate, summary};
 ghost use Rattle.slate_language.specs.Replies.{after_lines};
-ghost use Rattle.slate_language.specs.Stage.{meaning};
+ghost use Rattle.slate_language.specs.Stage as stage;
 ghost use Rattle.slate_language.specs.Tally.{tally_text};
 ghost use Rattle.slate_language.specs.Words.{max_rounds};
 ghost use Rattle.slate_script.specs.Run.{run_rules, Premises, HasCause, HasTold, IsOutside, NoneRose};
@@ -18,9 +18,10 @@ ghost use Rattle.slate_script.specs.StoredState.{IsStoredState};
 ghost use Rattle.slate_script.specs.Told.{IsShownAtEnd, IsUntrue};
 
 use crate::run::answer_lines;
+use slate_db::laws::Laws;
 use slate_language::{Tally, generate};
 use slate_store::{Env, EnvOf, Failed, Sink, Source, Store, write_all};
-use slate_types::{BlockTransformer, MergeOperator, Options, Outside, SlateDBError};
+use slate_types::{BlockTransformer, MergeOperator, Outside, PrefixExtractor, SlateDBError};
 use std::alloc::Global;
 use std::marker::Model;
 
@@ -83,21 +84,21 @@ impl Sink for Unwritten {
 /// What is said of the line and of stored tables holds as in `run_script`. `WriteFault` comes only where the sink's
 /// count of faults rose, and then a front of the line was written, and not all of it. At another error nothing was
 /// written. The errors are those of parts, want of memory and `WriteFault`, each with its cause as in `run_script`.
-pub fn run_generated<W: Sink, S: Store, M: MergeOperator, T: BlockTransformer>(
+pub fn run_generated<W: Sink, S: Store, M: MergeOperator, T: BlockTransformer, X: PrefixExtractor>(
     alloc: Global,
     rounds: u32,
     seed: u64,
     sink: &mut W,
     env: &mut Env<'_, S, M, T>,
-    options: &Options,
+    laws: &Laws<X>,
 ) -> Result<(), SlateDBError>
-    requires valid { IsValid options.now }
+    requires valid { IsValid laws.now.options }
     requires few { rounds ≤ max_rounds }
 
     ensures told { let reach = ⟦<EnvOf<S, M, T> as Outside>⟧.reach in (before : List ℕ) → W.content sink.old ≡ Some before → Premises (reach env.old).meaning (reach env.old).objects →
-        HasTold (summary (run_rules options.now (reach env.old).meaning) (generate rounds seed)) before (W.content sink.new) result }
+        HasTold (summary (run_rules laws.now.options (reach env.old).meaning) (generate rounds seed)) before (W.content sink.new) result }
     ensures stored { let reach = ⟦<EnvOf<S, M, T> as Outside>⟧.reach in Premises (reach env.old).meaning (reach env.old).objects →
-        OnOk result (IsStoredState (reach env.old).meaning (run_rules options.now (reach env.old).meaning) (layout_of options.now) (reach env.new).objects (after_lines meaning (run_rules options.now (reach env.old).meaning) opening (lines_of (generate rounds seed)))) }
+        OnOk result (IsStoredState (reach env.old).meaning (run_rules laws.now.options (reach env.old).meaning) (layout_of laws.now.options) (reach env.new).objects (after_lines stage.meaning (run_rules laws.now.options (reach env.old).meaning) opening (lines_of (generate rounds seed)))) }
 
     // errors: each has its cause, and no fault is passed over
     ensures outside { IfErr result (λ e. IsOutside e) }
@@ -115,8 +116,8 @@ pub fn run_generated<W: Sink, S: Store, M: MergeOperator, T: BlockTransformer>(
     let script = generate(alloc, rounds, seed)?;
     let mut source = Script::new(script);
     let mut replies = Unwritten;
-    let mut tally = Tally::new(options.start_seq);
-    match answer_lines(alloc, &mut source, &mut replies, env, options, &mut tally) {
+    let mut tally = Tally::new(laws.options.start_seq);
+    match answer_lines(alloc, &mut source, &mut replies, env, laws, &mut tally) {
         Ok(()) => write_tally(alloc, sink, &tally),
         Err(error) => Err(error),
     }

@@ -21,9 +21,10 @@ ghost use Rattle.slate_script.specs.Told.{IsUntrue};
 
 use crate::generated::run_generated;
 use crate::run::run_script;
+use slate_db::laws::Laws;
 use slate_language::{Generated, Xor, parse_generated, parse_words};
 use slate_store::{Env, Sink, Source, Store};
-use slate_types::{NoOperator, SlateDBError};
+use slate_types::{NoExtractor, NoOperator, Options, SlateDBError};
 use std::alloc::Global;
 
 /// Runs a script over the store, as the words say, and answers the status to end with: 0
@@ -121,7 +122,10 @@ pub fn run_main<R: Source, W: Sink, S: Store>(
         operator,
         transformer: transformer_of(settings.mask),
     };
-    match run_script(alloc, source, sink, &mut env, &settings.options) {
+    let laws = plain_laws(alloc, settings.options);
+    let ran = run_script(alloc, source, sink, &mut env, &laws);
+    drop(laws);
+    match ran {
         Ok(()) => 0,
         Err(error) => {
             let status = status_of(&error);
@@ -163,20 +167,34 @@ fn main_generated<W: Sink, S: Store>(
         operator,
         transformer: transformer_of(generated.settings.mask),
     };
-    match run_generated(
+    let laws = plain_laws(alloc, generated.settings.options);
+    let ran = run_generated(
         alloc,
         generated.rounds,
         generated.seed,
         sink,
         &mut env,
-        &generated.settings.options,
-    ) {
+        &laws,
+    );
+    drop(laws);
+    match ran {
         Ok(()) => 0,
         Err(error) => {
             let status = status_of(&error);
             drop(error);
             status
         }
+    }
+}
+
+/// Laws without segments and filters.
+fn plain_laws(alloc: Global, options: Options) -> Laws<NoExtractor>
+    ensures { result.options ≡ options }
+{
+    Laws {
+        options,
+        segments: None,
+        policies: Vec::new(alloc),
     }
 }
 

@@ -11,21 +11,21 @@ ghost use Rattle.slate_db.specs.Installs.{runs_of, tables_of};
 ghost use Rattle.slate_db.specs.Load.{weight};
 ghost use Rattle.slate_db.specs.Meaning.{Meaning, IsLawfulMeaning};
 ghost use Rattle.slate_db.specs.Parts.{IsTableError};
-ghost use Rattle.slate_db.specs.Readable.{IsRefusedBy};
 ghost use Rattle.slate_language.specs.Replies.{meanings, replies, replies_to, after_lines, replies_from, reply_line, IsWellFormed};
 ghost use Rattle.slate_language.specs.Answers.{reply_of};
-ghost use Rattle.slate_language.specs.Stage.{meaning};
+ghost use Rattle.slate_language.specs.Stage as stage;
 ghost use Rattle.slate_language.specs.Tally.{tallied};
 ghost use Rattle.slate_txn.specs.Step.{answers};
 ghost use Rattle.slate_script.specs.Session.{StandsFor, HasTablesAlone, IsRunning, IsSettled, IsLimit, held_load};
 ghost use Rattle.slate_script.specs.Run.{run_rules, Premises, is_line, script_error, lines_taken, IsPartError, IsPartCause, HasCause, HasRead, HasSaid, NoneRose};
 ghost use Rattle.slate_script.specs.StoredState.{IsStoredState};
-ghost use Rattle.slate_script.specs.Told.{Follows, IsShownAtEnd, IsUntrue, PutsTables};
+ghost use Rattle.slate_script.specs.Told.{Follows, IsShownAtEnd, IsShownBy, IsUntrue, PutsTables};
 
 use crate::session::Session;
+use slate_db::laws::Laws;
 use slate_language::{Answer, Tally, parse_line, reply_text};
 use slate_store::{Env, EnvOf, Lines, Sink, Source, Store, write_all};
-use slate_types::{BlockTransformer, MergeOperator, Options, Outside, SlateDBError};
+use slate_types::{BlockTransformer, MergeOperator, Outside, PrefixExtractor, SlateDBError};
 use std::alloc::Global;
 
 /// Answers each line of the source into the sink, and reads on to the end. Rows are stored where `env` says.
@@ -46,19 +46,26 @@ use std::alloc::Global;
 /// What is written at an error is replies: at one of the script those to all lines before it, at `ReadFault` those to
 /// all whole lines that the source gave, or to the whole script, at `WriteFault` those to some first lines and a front
 /// of one more, and at an error of a part or want of memory those to some first lines.
-pub fn run_script<R: Source, W: Sink, S: Store, M: MergeOperator, T: BlockTransformer>(
+pub fn run_script<
+    R: Source,
+    W: Sink,
+    S: Store,
+    M: MergeOperator,
+    T: BlockTransformer,
+    X: PrefixExtractor,
+>(
     alloc: Global,
     source: &mut R,
     sink: &mut W,
     env: &mut Env<'_, S, M, T>,
-    options: &Options,
+    laws: &Laws<X>,
 ) -> Result<(), SlateDBError>
-    requires { IsValid options.now }
+    requires { IsValid laws.now.options }
 
     ensures said { let reach = ⟦<EnvOf<S, M, T> as Outside>⟧.reach in (script before : List ℕ) → R.left source.old ≡ Some script → W.content sink.old ≡ Some before → Premises (reach env.old).meaning (reach env.old).objects →
-        HasSaid (run_rules options.now (reach env.old).meaning) script (R.left source.new) before (W.content sink.new) result }
+        HasSaid (run_rules laws.now.options (reach env.old).meaning) script (R.left source.new) before (W.content sink.new) result }
     ensures stored { let reach = ⟦<EnvOf<S, M, T> as Outside>⟧.reach in (script : List ℕ) → R.left source.old ≡ Some script → Premises (reach env.old).meaning (reach env.old).objects →
-        OnOk result (IsStoredState (reach env.old).meaning (run_rules options.now (reach env.old).meaning) (layout_of options.now) (reach env.new).objects (after_lines meaning (run_rules options.now (reach env.old).meaning) opening (lines_of script))) }
+        OnOk result (IsStoredState (reach env.old).meaning (run_rules laws.now.options (reach env.old).meaning) (layout_of laws.now.options) (reach env.new).objects (after_lines stage.meaning (run_rules laws.now.options (reach env.old).meaning) opening (lines_of script))) }
     ensures read { (script : List ℕ) → R.left source.old ≡ Some script → HasRead script (R.left source.new) result }
 
     // errors: each has its cause, and no fault is passed over
@@ -73,28 +80,35 @@ pub fn run_script<R: Source, W: Sink, S: Store, M: MergeOperator, T: BlockTransf
     ensures later { (R.faults source.old ≤ R.faults source.new) × (W.faults sink.old ≤ W.faults sink.new) }
     ensures puts { let reach = ⟦<EnvOf<S, M, T> as Outside>⟧.reach in Puts (reach env.old) (reach env.new) }
 {
-    let mut tally = Tally::new(options.start_seq);
-    answer_lines(alloc, source, sink, env, options, &mut tally)
+    let mut tally = Tally::new(laws.options.start_seq);
+    answer_lines(alloc, source, sink, env, laws, &mut tally)
 }
 
 /// Answers each line of the source into the sink, reads on to the end, and counts the replies. What is said of a run
 /// is `run_script`'s.
-pub(crate) fn answer_lines<R: Source, W: Sink, S: Store, M: MergeOperator, T: BlockTransformer>(
+pub(crate) fn answer_lines<
+    R: Source,
+    W: Sink,
+    S: Store,
+    M: MergeOperator,
+    T: BlockTransformer,
+    X: PrefixExtractor,
+>(
     alloc: Global,
     source: &mut R,
     sink: &mut W,
     env: &mut Env<'_, S, M, T>,
-    options: &Options,
+    laws: &Laws<X>,
     tally: &mut Tally,
 ) -> Result<(), SlateDBError>
-    requires { IsValid options.now }
+    requires { IsValid laws.now.options }
 
     ensures said { let reach = ⟦<EnvOf<S, M, T> as Outside>⟧.reach in (script before : List ℕ) → R.left source.old ≡ Some script → W.content sink.old ≡ Some before → Premises (reach env.old).meaning (reach env.old).objects →
-        HasSaid (run_rules options.now (reach env.old).meaning) script (R.left source.new) before (W.content sink.new) result }
+        HasSaid (run_rules laws.now.options (reach env.old).meaning) script (R.left source.new) before (W.content sink.new) result }
     ensures counted { let reach = ⟦<EnvOf<S, M, T> as Outside>⟧.reach in (script : List ℕ) → R.left source.old ≡ Some script → Premises (reach env.old).meaning (reach env.old).objects →
-        OnOk result (tally.new ≡ tallied tally.old (answers (run_rules options.now (reach env.old).meaning) opening (meanings meaning (lines_of script)))) }
+        OnOk result (tally.new ≡ tallied tally.old (answers (run_rules laws.now.options (reach env.old).meaning) opening (meanings stage.meaning (lines_of script)))) }
     ensures stored { let reach = ⟦<EnvOf<S, M, T> as Outside>⟧.reach in (script : List ℕ) → R.left source.old ≡ Some script → Premises (reach env.old).meaning (reach env.old).objects →
-        OnOk result (IsStoredState (reach env.old).meaning (run_rules options.now (reach env.old).meaning) (layout_of options.now) (reach env.new).objects (after_lines meaning (run_rules options.now (reach env.old).meaning) opening (lines_of script))) }
+        OnOk result (IsStoredState (reach env.old).meaning (run_rules laws.now.options (reach env.old).meaning) (layout_of laws.now.options) (reach env.new).objects (after_lines stage.meaning (run_rules laws.now.options (reach env.old).meaning) opening (lines_of script))) }
     ensures read { (script : List ℕ) → R.left source.old ≡ Some script → HasRead script (R.left source.new) result }
 
     // errors: each has its cause, and no fault is passed over
@@ -110,7 +124,7 @@ pub(crate) fn answer_lines<R: Source, W: Sink, S: Store, M: MergeOperator, T: Bl
     ensures puts { let reach = ⟦<EnvOf<S, M, T> as Outside>⟧.reach in Puts (reach env.old) (reach env.new) }
 {
     let mut lines = Lines::new(alloc);
-    let mut session = Session::new(alloc, options);
+    let mut session = Session::new(alloc, &laws.options);
     let mut number = 0;
     loop {
         let line = match lines.next(source) {
@@ -128,7 +142,7 @@ pub(crate) fn answer_lines<R: Source, W: Sink, S: Store, M: MergeOperator, T: Bl
             sink,
             tally,
             env,
-            options,
+            laws,
             line.as_slice(),
             number,
         ) {
@@ -147,37 +161,37 @@ pub(crate) fn answer_lines<R: Source, W: Sink, S: Store, M: MergeOperator, T: Bl
 /// neither silent nor means something, unless memory was wanting first. `WriteFault` comes only where the
 /// sink's count of faults rose, and then a front of the reply was written, and not all of it. At another error
 /// nothing was written.
-fn answer_line<W: Sink, S: Store, M: MergeOperator, T: BlockTransformer>(
+fn answer_line<W: Sink, S: Store, M: MergeOperator, T: BlockTransformer, X: PrefixExtractor>(
     alloc: Global,
     session: &mut Session,
     sink: &mut W,
     tally: &mut Tally,
     env: &mut Env<'_, S, M, T>,
-    options: &Options,
+    laws: &Laws<X>,
     line: &[u8],
     number: u64,
 ) -> Result<(), SlateDBError>
-    requires { IsValid options.now }
+    requires { IsValid laws.now.options }
     ensures meant { OnOk result (IsTrue (is_line line.now)) }
     ensures running { let reach = ⟦<EnvOf<S, M, T> as Outside>⟧.reach in (m : Meaning) (r : Rules) → IsRunning m r (reach env.old).meaning (reach env.old).objects session.old → OnOk result (IsRunning m r (reach env.new).meaning (reach env.new).objects session.new) }
-    ensures stands { let reach = ⟦<EnvOf<S, M, T> as Outside>⟧.reach in (m : Meaning) (r : Rules) → IsRunning m r (reach env.old).meaning (reach env.old).objects session.old → (s : State) → StandsFor session.old s → OnOk result (StandsFor session.new (after_lines meaning r s (line.now ∷ []))) }
+    ensures stands { let reach = ⟦<EnvOf<S, M, T> as Outside>⟧.reach in (m : Meaning) (r : Rules) → IsRunning m r (reach env.old).meaning (reach env.old).objects session.old → (s : State) → StandsFor session.old s → OnOk result (StandsFor session.new (after_lines stage.meaning r s (line.now ∷ []))) }
     ensures answered { let reach = ⟦<EnvOf<S, M, T> as Outside>⟧.reach in (m : Meaning) (r : Rules) → IsRunning m r (reach env.old).meaning (reach env.old).objects session.old → (s : State) (before : List ℕ) → StandsFor session.old s → W.content sink.old ≡ Some before →
-        OnOk result (W.content sink.new ≡ Some (before ++ replies_from meaning r s (line.now ∷ []))) }
+        OnOk result (W.content sink.new ≡ Some (before ++ replies_from stage.meaning r s (line.now ∷ []))) }
     ensures counted { let reach = ⟦<EnvOf<S, M, T> as Outside>⟧.reach in (m : Meaning) (r : Rules) → IsRunning m r (reach env.old).meaning (reach env.old).objects session.old → (s : State) → StandsFor session.old s →
-        OnOk result (tally.new ≡ tallied tally.old (answers r s (meanings meaning (line.now ∷ [])))) }
+        OnOk result (tally.new ≡ tallied tally.old (answers r s (meanings stage.meaning (line.now ∷ [])))) }
     ensures grows { OnOk result ((weight session.new.core ≤ weight session.old.core + 2) × (held_load session.new ≤ held_load session.old + length line.now)) }
-    ensures alone { let reach = ⟦<EnvOf<S, M, T> as Outside>⟧.reach in (m : Meaning) (r : Rules) → IsRunning m r (reach env.old).meaning (reach env.old).objects session.old → HasTablesAlone m (layout_of options.now) (reach env.old).objects (runs_of session.old.core.events) →
-        OnOk result (HasTablesAlone m (layout_of options.now) (reach env.new).objects (runs_of session.new.core.events)) }
+    ensures alone { let reach = ⟦<EnvOf<S, M, T> as Outside>⟧.reach in (m : Meaning) (r : Rules) → IsRunning m r (reach env.old).meaning (reach env.old).objects session.old → HasTablesAlone m (layout_of laws.now.options) (reach env.old).objects (runs_of session.old.core.events) →
+        OnOk result (HasTablesAlone m (layout_of laws.now.options) (reach env.new).objects (runs_of session.new.core.events)) }
     ensures cause { IfErr result (λ e. (e ≡ SlateDBError.OutOfMemory) ⊎ (e ≡ SlateDBError.WriteFault) ⊎ ((e ≡ SlateDBError.ScriptSyntax number) × (is_line line.now ≡ false)) ⊎ IsPartError e ⊎ IsLimit session.old e) }
     ensures part { let reach = ⟦<EnvOf<S, M, T> as Outside>⟧.reach in IfErr result (λ e. IsPartError e → IsPartCause (reach env.old).faults (reach env.new).faults e) }
     ensures undamaged { let reach = ⟦<EnvOf<S, M, T> as Outside>⟧.reach in (m : Meaning) (r : Rules) → IsRunning m r (reach env.old).meaning (reach env.old).objects session.old → IfErr result (λ e. IsTableError e → ⊥) }
     ensures follows { let reach = ⟦<EnvOf<S, M, T> as Outside>⟧.reach in (os : Objects) → IsSettled (reach env.old).meaning (Some os) session.old → OnOk result (Follows (reach env.old).meaning os session.new (reach env.old).acts (reach env.new).acts) }
     ensures untrue { let reach = ⟦<EnvOf<S, M, T> as Outside>⟧.reach in (os : Objects) → IsSettled (reach env.old).meaning (Some os) session.old → IfErr result (λ e. IsTableError e → IsUntrue os (reach env.old).acts (reach env.new).acts) }
     ensures tables { let reach = ⟦<EnvOf<S, M, T> as Outside>⟧.reach in OnOk result (PutsTables (tables_of session.old.core.events) (tables_of session.new.core.events) (reach env.old).acts (reach env.new).acts) }
-    ensures shown { let reach = ⟦<EnvOf<S, M, T> as Outside>⟧.reach in IfErr result (λ e. IsTableError e → Made (reach env.old) (reach env.new) (λ reads. IsRefusedBy (reach env.old).meaning session.old.core reads e)) }
+    ensures shown { let reach = ⟦<EnvOf<S, M, T> as Outside>⟧.reach in IfErr result (λ e. IsTableError e → Made (reach env.old) (reach env.new) (λ reads. IsShownBy (reach env.old).meaning session.old.core reads e)) }
     ensures write_fault { result ≡ Err SlateDBError.WriteFault → Rose (W.faults sink.old) (W.faults sink.new) × IsTrue (is_line line.now) }
     ensures begun { let reach = ⟦<EnvOf<S, M, T> as Outside>⟧.reach in (m : Meaning) (r : Rules) → IsRunning m r (reach env.old).meaning (reach env.old).objects session.old → (s : State) (before : List ℕ) → StandsFor session.old s → W.content sink.old ≡ Some before → result ≡ Err SlateDBError.WriteFault →
-        (n : ℕ) × (n < length (replies_from meaning r s (line.now ∷ []))) × (W.content sink.new ≡ Some (before ++ take n (replies_from meaning r s (line.now ∷ [])))) }
+        (n : ℕ) × (n < length (replies_from stage.meaning r s (line.now ∷ []))) × (W.content sink.new ≡ Some (before ++ take n (replies_from stage.meaning r s (line.now ∷ [])))) }
     ensures still { OnOk result (W.faults sink.new ≡ W.faults sink.old) }
     ensures puts { let reach = ⟦<EnvOf<S, M, T> as Outside>⟧.reach in Puts (reach env.old) (reach env.new) }
     ensures uncounted { IfErr result (λ e. (e ≡ SlateDBError.WriteFault) ⊎ (W.faults sink.new ≡ W.faults sink.old)) }
@@ -189,7 +203,7 @@ fn answer_line<W: Sink, S: Store, M: MergeOperator, T: BlockTransformer>(
         Ok(Some(meaning)) => meaning,
         Err(error) => return Err(at_line(error, number)),
     };
-    match session.answer(meaning, env, options) {
+    match session.answer(meaning, env, laws) {
         Ok(answer) => {
             tally.count(&answer);
             write_reply(alloc, sink, answer)

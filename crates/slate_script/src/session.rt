@@ -3,9 +3,12 @@ ghost use Rattle.std.specs.Prelude.{◌≡◌, ◌≢◌, ◌⊎◌, ◌∷◌, 
 ghost use Rattle.slate_types.specs.Config.{IsValid};
 ghost use Rattle.slate_types.specs.Outside.{Objects, IsFault, OnlyReads, Puts};
 ghost use Rattle.slate_types.specs.World.{Made};
+ghost use Rattle.std.specs.declared.ops.Bound.{Bound};
+ghost use Rattle.slate_types.specs.declared.iter.IterationOrder.{IterationOrder};
 ghost use Rattle.slate_mem.specs.Batch.{Ops};
 ghost use Rattle.slate_mem.specs.BatchModel.{IsBatchOf};
 ghost use Rattle.slate_mem.specs.Refusals.{first_refusal, op_refusal};
+ghost use Rattle.slate_txn.specs.declared.line.ScanStep.{ScanStep};
 ghost use Rattle.slate_txn.specs.Named.{find_named};
 ghost use Rattle.slate_txn.specs.Reply.{Refused};
 ghost use Rattle.slate_txn.specs.Settings.{settings_of};
@@ -15,30 +18,34 @@ ghost use Rattle.slate_db.specs.Installs.{runs_of, tables_of};
 ghost use Rattle.slate_db.specs.Load.{weight};
 ghost use Rattle.slate_db.specs.Meaning.{Meaning, IsLawfulMeaning};
 ghost use Rattle.slate_db.specs.Parts.{IsTableError};
-ghost use Rattle.slate_db.specs.Readable.{IsAnswered, IsReadError, IsRefusedBy};
+ghost use Rattle.slate_db.specs.Readable.{IsAnswered, IsReadError};
+ghost use Rattle.slate_db.specs.Scans.{IsScanError};
 ghost use Rattle.slate_db.specs.Sound.{IsKept};
 ghost use Rattle.slate_db.specs.StoredState.{StoresState};
 ghost use Rattle.slate_db.specs.Log.{AreFine};
 ghost use Rattle.slate_language.specs.Answers.{reply_of};
 ghost use Rattle.slate_script.specs.Session.{StandsFor, AnswersAs, HasTablesAlone, Grows, IsDone, IsSettled, IsSettledIn, IsLimit, IsRefusal, StoresNothing, has_moment, held_load};
 ghost use Rattle.slate_language.specs.Stage.{is_built, is_built_op, is_built_batch};
-ghost use Rattle.slate_script.specs.Told.{Follows, IsUntrue, PutsTables};
+ghost use Rattle.slate_script.specs.Told.{Follows, IsRefusedAt, IsUntrue, PutsTables};
 
 use crate::journal::entries;
+use crate::scan::scan_rows;
 use bytes::Bytes;
 use slate_db::engine::Core;
+use slate_db::laws::Laws;
 use slate_language::Answer;
 use slate_mem::{WriteBatch, WriteOp};
 use slate_store::{Env, EnvOf, Store};
-use slate_txn::line::Line;
+use slate_txn::line::{Line, StepList};
 use slate_txn::list::{KeyList, OpList};
 use slate_types::{
-    BlockTransformer, IsolationLevel, MergeOperator, Options, Outside, PutOptions, ReadOptions,
-    SlateDBError, Ttl,
+    BlockTransformer, BytesRange, IsolationLevel, IterationOrder, MergeOperator, Options, Outside,
+    PrefixExtractor, PutOptions, ReadOptions, SlateDBError, Ttl,
 };
 use std::alloc::Global;
 use std::collections::BTreeMap;
 use std::marker::Model;
+use std::ops::Bound;
 use uuid::Uuid;
 
 /// The options of a get.
@@ -89,25 +96,25 @@ impl Session {
     /// tables, it is that of the model's step, and no damage is answered; nor is it where the store's acts tell that each
     /// read of this call was answered by those tables. A part's fault is answered only where its count rose in this
     /// call, and `LimitReached` only where the journal or memory holds more than a script can bring.
-    pub fn answer<S: Store, M: MergeOperator, T: BlockTransformer>(
+    pub fn answer<S: Store, M: MergeOperator, T: BlockTransformer, X: PrefixExtractor>(
         &mut self,
         line: Line,
         env: &mut Env<'_, S, M, T>,
-        options: &Options,
+        laws: &Laws<X>,
     ) -> Result<Answer, SlateDBError>
         requires built { IsTrue (is_built line) }
         requires moment { IsTrue (has_moment line) }
-        requires valid { IsValid options.now }
+        requires valid { IsValid laws.now.options }
         ensures step { let reach = ⟦<EnvOf<S, M, T> as Outside>⟧.reach in IsSettledIn (reach env.old) self.old →
             AnswersAs (reach env.old).meaning self.old self.new line result }
         ensures settings { OnOk result (self.new.core.settings ≡ self.old.core.settings) }
         ensures grows { OnOk result (Grows line self.old self.new) }
         ensures kept { let reach = ⟦<EnvOf<S, M, T> as Outside>⟧.reach in IsSettledIn (reach env.old) self.old →
             OnOk result (IsSettled (reach env.old).meaning (reach env.new).objects self.new) }
-        ensures alone { let reach = ⟦<EnvOf<S, M, T> as Outside>⟧.reach in IsSettledIn (reach env.old) self.old → HasTablesAlone (reach env.old).meaning (layout_of options.now) (reach env.old).objects (runs_of self.old.core.events) →
-            OnOk result (HasTablesAlone (reach env.old).meaning (layout_of options.now) (reach env.new).objects (runs_of self.new.core.events)) }
+        ensures alone { let reach = ⟦<EnvOf<S, M, T> as Outside>⟧.reach in IsSettledIn (reach env.old) self.old → HasTablesAlone (reach env.old).meaning (layout_of laws.now.options) (reach env.old).objects (runs_of self.old.core.events) →
+            OnOk result (HasTablesAlone (reach env.old).meaning (layout_of laws.now.options) (reach env.new).objects (runs_of self.new.core.events)) }
         ensures cause { let reach = ⟦<EnvOf<S, M, T> as Outside>⟧.reach in IfErr result (λ e. IsFault (reach env.old) (reach env.new) e ⊎ IsLimit self.old e ⊎ IsTableError e) }
-        ensures shown { let reach = ⟦<EnvOf<S, M, T> as Outside>⟧.reach in IfErr result (λ e. IsTableError e → Made (reach env.old) (reach env.new) (λ reads. IsRefusedBy (reach env.old).meaning self.old.core reads e)) }
+        ensures shown { let reach = ⟦<EnvOf<S, M, T> as Outside>⟧.reach in IfErr result (λ e. IsTableError e → Made (reach env.old) (reach env.new) (λ reads. IsRefusedAt line (reach env.old).meaning self.old.core reads e)) }
         ensures undamaged { let reach = ⟦<EnvOf<S, M, T> as Outside>⟧.reach in IsSettledIn (reach env.old) self.old →
             IfErr result (λ e. IsFault (reach env.old) (reach env.new) e ⊎ IsLimit self.old e) }
         ensures follows { let reach = ⟦<EnvOf<S, M, T> as Outside>⟧.reach in (os : Objects) → IsSettled (reach env.old).meaning (Some os) self.old → OnOk result (Follows (reach env.old).meaning os self.new (reach env.old).acts (reach env.new).acts) }
@@ -117,7 +124,14 @@ impl Session {
     {
         match line {
             Line::Get { name, key } => self.get(name, key, env),
-            Line::Flush => self.flush(env, options),
+            Line::Scan {
+                name,
+                order,
+                start,
+                end,
+                steps,
+            } => self.scan(name, order, start, end, steps, env, laws),
+            Line::Flush => self.flush(env, &laws.options),
             other => self.answer_within(other),
         }
     }
@@ -127,6 +141,7 @@ impl Session {
         requires built { IsTrue (is_built line) }
         requires moment { IsTrue (has_moment line) }
         requires no_get { (name key : List ℕ) → line ≢ Line.Get name key }
+        requires no_scan { (name : List ℕ) (order : IterationOrder) (start end : Bound (List ℕ)) (sts : List ScanStep) → line ≢ Line.Scan name order start end sts }
         requires no_flush { line ≢ Line.Flush }
         ensures step { (m : Meaning) → AnswersAs m self.old self.new line result }
         ensures stores { OnOk result (StoresNothing self.old self.new) }
@@ -207,6 +222,53 @@ impl Session {
         drop(key);
         let row = read?;
         Ok(Answer::Found(row))
+    }
+
+    /// The rows that the steps hand out of a scan of the range in the state at the name's begin, under its own operations.
+    fn scan<S: Store, M: MergeOperator, T: BlockTransformer, X: PrefixExtractor>(
+        &mut self,
+        name: Bytes,
+        order: IterationOrder,
+        start: Bound<Bytes>,
+        end: Bound<Bytes>,
+        steps: StepList,
+        env: &mut Env<'_, S, M, T>,
+        laws: &Laws<X>,
+    ) -> Result<Answer, SlateDBError>
+        requires valid { IsValid laws.now.options }
+        ensures step { let reach = ⟦<EnvOf<S, M, T> as Outside>⟧.reach in IsAnswered (reach env.old) (reach env.new) self.old.core →
+            AnswersAs (reach env.old).meaning self.old self.new (Line.Scan name order start end steps) result }
+        ensures stores { OnOk result (StoresNothing self.old self.new) }
+        ensures grows { OnOk result (Grows (Line.Scan name order start end steps) self.old self.new) }
+        ensures cause { let reach = ⟦<EnvOf<S, M, T> as Outside>⟧.reach in IfErr result (IsScanError (reach env.old) (reach env.new) self.old.core) }
+        ensures undamaged { let reach = ⟦<EnvOf<S, M, T> as Outside>⟧.reach in IsAnswered (reach env.old) (reach env.new) self.old.core → IfErr result (IsFault (reach env.old) (reach env.new)) }
+        ensures reads { let reach = ⟦<EnvOf<S, M, T> as Outside>⟧.reach in OnlyReads (reach env.old) (reach env.new) }
+    {
+        let Some(id) = self.names.get(&name) else {
+            drop((start, end));
+            drop(steps);
+            return Ok(Answer::Refused(SlateDBError::UnknownTransaction { name }));
+        };
+        let id = *id;
+        drop(name);
+        let Some(range) = BytesRange::try_new(start, end) else {
+            drop(steps);
+            return Ok(Answer::Refused(SlateDBError::InvalidRange));
+        };
+        let core = &mut self.core;
+        let scanned = scan_rows(
+            self.alloc,
+            core,
+            &id,
+            order,
+            range,
+            steps.as_slice(),
+            env,
+            laws,
+        );
+        drop(steps);
+        let rows = scanned?;
+        Ok(Answer::Rows(rows))
     }
 
     /// Closes the name.

@@ -113,6 +113,10 @@ pub returns-clause-transactions_today : goal.returns-clause-transactions_today
 unfolding digits
 returns-clause-transactions_today c = (refl, refl, refl)
 
+pub returns-clause-scans_today : goal.returns-clause-scans_today
+unfolding digits
+returns-clause-scans_today c = (refl, refl, refl, refl)
+
 pub returns-clause-own_today : goal.returns-clause-own_today
 unfolding digits
 returns-clause-own_today c = refl

@@ -18,7 +18,7 @@ use Rattle.slate_script.proofs.generated.run_generated.Goals as goal
 pub returns-in-Ok : goal.returns-in-Ok
 returns-in-Ok g c =
     let m = meaning_of g.M.MergeOperator.combine g.T.BlockTransformer.encoded g.T.BlockTransformer.decoded c.args.env.now.operator c.args.env.now.transformer in
-    let r = run_rules c.args.options.now m in
+    let r = run_rules c.args.laws.now.options m in
     let script = generate c.args.rounds c.args.seed in
     let left : Some c.new-source.result ≡ Some script = ap Some (c.new-source.ensures ∙ c.in_ok-script.ensures.script) in
     let formed : IsWellFormed script = generated-formed c.args.rounds c.args.seed c.requires.few in
@@ -43,7 +43,7 @@ returns-in-Ok g c =
 pub returns : goal.returns
 returns g c =
     let m = meaning_of g.M.MergeOperator.combine g.T.BlockTransformer.encoded g.T.BlockTransformer.decoded c.args.env.now.operator c.args.env.now.transformer in
-    let r = run_rules c.args.options.now m in
+    let r = run_rules c.args.laws.now.options m in
     let script = generate c.args.rounds c.args.seed in
     let left : Some c.new-source.result ≡ Some script = ap Some (c.new-source.ensures ∙ c.in_ok-script.ensures.script) in
     let formed : IsWellFormed script = generated-formed c.args.rounds c.args.seed c.requires.few in

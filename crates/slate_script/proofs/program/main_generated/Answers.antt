@@ -26,7 +26,7 @@ returns-in-Ok g c =
           let o = c.args.generated.now.settings.options in
           let ends = λ (x : Meaning) (objects : Option Objects). IsStoredState x (main_rules o) (layout_of o) objects (after_lines meaning (main_rules o) opening (lines_of (generate c.args.generated.now.rounds c.args.generated.now.seed))) in
           subst (λ t. ends (parts_of c.args.generated.now.settings.mask) (g.S.Store.objects t)) (sym (c.store-1.given.1 (sym c.in-Ok.ensures.puts.store)))
-          (subst (λ (x : Meaning). ends x (g.S.Store.objects c.run_generated.new.env.store.now)) (words-are {M = ℕ} (λ _ k e v. v) c.transformer_of.result c.args.generated.now.settings.mask c.transformer_of.ensures)
+          (subst (λ (x : Meaning). ends x (g.S.Store.objects c.run_generated-ran.new.env.store.now)) (words-are {M = ℕ} (λ _ k e v. v) c.transformer_of.result c.args.generated.now.settings.mask c.transformer_of.ensures)
           (c.in-Ok.ensures.stored (premises {M = ℕ} (λ _ k e v. v) _ _ empty))));
       write_fault = λ six. absurd (omega (arith, six));
       store_fault = λ seven. absurd (omega (arith, seven));
@@ -36,13 +36,13 @@ returns-in-Ok g c =
       begun = λ before told empty six. absurd (omega (arith, six));
       unwritten = inl refl;
       sink_still = inr (unless-error _ WriteFault c.in-Ok.ensures.sink_still);
-      later = c.run_generated.ensures.later;
+      later = c.run_generated-ran.ensures.later;
     }
 
 pub returns-in-Err : goal.returns-in-Err
 returns-in-Err g c =
     record {
-      kinds = rw c.status_of-status.ensures (is-generated c.in-Err.error c.in-Err.ensures.outside (λ h. c.in-Err.ensures.cause.read_fault (ap Err h)) (λ message h. none-rose-before c.run_generated.new.env.operator (c.in-Err.ensures.cause.operator_fault message (ap Err h))) (λ h. none-rose c.transformer_of.result c.run_generated.new.env.transformer (c.in-Err.ensures.cause.transform_fault (ap Err h))));
+      kinds = rw c.status_of-status.ensures (is-generated c.in-Err.error c.in-Err.ensures.outside (λ h. c.in-Err.ensures.cause.read_fault (ap Err h)) (λ message h. none-rose-before c.run_generated-ran.new.env.operator (c.in-Err.ensures.cause.operator_fault message (ap Err h))) (λ h. none-rose c.transformer_of.result c.run_generated-ran.new.env.transformer (c.in-Err.ensures.cause.transform_fault (ap Err h))));
       summed = λ before told empty zero. absurd (is-ended c.in-Err.error c.in-Err.ensures.cause.kinds (inl (sym c.status_of-status.ensures ∙ zero)));
       stored = λ empty zero. absurd (is-ended c.in-Err.error c.in-Err.ensures.cause.kinds (inl (sym c.status_of-status.ensures ∙ zero)));
       write_fault = λ six. c.in-Err.ensures.cause.write_fault (ap Err (is-write c.in-Err.error c.in-Err.ensures.cause.kinds (sym c.status_of-status.ensures ∙ six)));
@@ -57,9 +57,9 @@ returns-in-Err g c =
           subst (λ t. IsUntrue [] (g.S.Store.acts c.args.store.now) (g.S.Store.acts t)) (sym (c.store-1.given.1 (sym c.in-Err.ensures.puts.store)))
           (c.in-Err.ensures.untrue (lawful {M = ℕ} (λ _ k e v. v) _) (is-damage c.in-Err.error c.in-Err.ensures.cause.kinds within.0 within.1)));
       complete = (λ empty no-write no-store.
-          inr (c.status_of-status.ensures ∙ ap status (c.in-Err.ensures.complete (premises {M = ℕ} (λ _ k e v. v) _ _ empty) (record { source_still = λ h. h; sink_still = no-write; store = λ h. no-store (subst (λ t. Rose (g.S.Store.faults c.args.store.now) (g.S.Store.faults t)) (sym (c.store-1.given.1 (sym c.in-Err.ensures.puts.store))) h); operator = none-rose-before c.run_generated.new.env.operator; transformer = none-rose c.transformer_of.result c.run_generated.new.env.transformer }))));
+          inr (c.status_of-status.ensures ∙ ap status (c.in-Err.ensures.complete (premises {M = ℕ} (λ _ k e v. v) _ _ empty) (record { source_still = λ h. h; sink_still = no-write; store = λ h. no-store (subst (λ t. Rose (g.S.Store.faults c.args.store.now) (g.S.Store.faults t)) (sym (c.store-1.given.1 (sym c.in-Err.ensures.puts.store))) h); operator = none-rose-before c.run_generated-ran.new.env.operator; transformer = none-rose c.transformer_of.result c.run_generated-ran.new.env.transformer }))));
       begun = λ before told empty six. (c.in-Err.ensures.told before told (premises {M = ℕ} (λ _ k e v. v) _ _ empty)).begun (ap Err (is-write c.in-Err.error c.in-Err.ensures.cause.kinds (sym c.status_of-status.ensures ∙ six)));
       unwritten = written-or c.status_of-status.result c.in-Err.error c.status_of-status.ensures c.in-Err.ensures.unwritten;
       sink_still = status-or c.in-Err.error WriteFault c.status_of-status.result _ c.status_of-status.ensures refl c.in-Err.ensures.sink_still;
-      later = c.run_generated.ensures.later;
+      later = c.run_generated-ran.ensures.later;
     }

@@ -39,12 +39,12 @@ returns-in-Ok g c =
       unstored = λ two. absurd (omega (arith, two));
       answered = (λ s script before named is told empty zero.
           let same : c.in-Some-parse_words.settings ≡ s = same-settings c.parse_words.result c.in-Some-parse_words.settings s c.in-Some-parse_words.is (c.parse_words.ensures.settings ∙ named) in
-          subst (λ (t : Settings). g.W.Sink.content c.run_script.new.sink ≡ Some (before ++ replies (main_rules t.options) script)) same
+          subst (λ (t : Settings). g.W.Sink.content c.run_script-ran.new.sink ≡ Some (before ++ replies (main_rules t.options) script)) same
           (c.in-Ok.ensures.said script before is told (premises {M = ℕ} (λ _ k e v. v) _ _ empty)).whole);
       stored = (λ s script named is empty zero.
           let same : c.in-Some-parse_words.settings ≡ s = same-settings c.parse_words.result c.in-Some-parse_words.settings s c.in-Some-parse_words.is (c.parse_words.ensures.settings ∙ named) in
           let ends = λ (x : Meaning) (t : Settings) (objects : Option Objects). IsStoredState x (main_rules t.options) (layout_of t.options) objects (after_lines meaning (main_rules t.options) opening (lines_of script)) in
-          let objects = g.S.Store.objects c.run_script.new.env.store.now in
+          let objects = g.S.Store.objects c.run_script-ran.new.env.store.now in
           subst (λ t. ends (parts_of s.mask) s (g.S.Store.objects t)) (sym (c.store-1.given.1 (sym c.in-Ok.ensures.puts.store)))
           (subst (λ (t : Settings). ends (parts_of t.mask) t objects) same
           (subst (λ (x : Meaning). ends x c.in-Some-parse_words.settings objects) (words-are {M = ℕ} (λ _ k e v. v) c.transformer_of.result c.in-Some-parse_words.settings.mask c.transformer_of.ensures)
@@ -66,8 +66,8 @@ returns-in-Ok g c =
       by_sink = λ s script before named is told empty six. absurd (omega (arith, six));
       by_part = λ s script before named is told empty which. neither (λ h. omega (arith, h)) (λ h. omega (arith, h)) which;
       all = λ script is four. absurd (omega (arith, four));
-      taken = λ script is. (c.run_script.ensures.read script is).taken;
-      later = c.run_script.ensures.later;
+      taken = λ script is. (c.run_script-ran.ensures.read script is).taken;
+      later = c.run_script-ran.ensures.later;
       summed = λ named-g before named told empty zero. absurd (no-generated named-g named);
       summed_stored = λ named-g named empty zero. absurd (no-generated named-g named);
       summed_kinds = λ named-g named. absurd (no-generated named-g named);
@@ -84,7 +84,7 @@ pub returns-in-Err : goal.returns-in-Err
 returns-in-Err g c =
     let no-generated : (x : Generated) → read_generated (map string_bytes c.args.words.now) ≡ Some x → ⊥ = λ x named. generated-not-none c.parse_generated.result x (c.parse_generated.ensures.generated ∙ named) c.in_default.is in
     record {
-      statuses = rw c.status_of-status.ensures (is-status c.in-Err.error c.in-Err.ensures.cause.kinds (λ message h. none-rose-before c.run_script.new.env.operator (c.in-Err.ensures.cause.operator_fault message (ap Err h))) (λ h. none-rose c.transformer_of.result c.run_script.new.env.transformer (c.in-Err.ensures.cause.transform_fault (ap Err h))));
+      statuses = rw c.status_of-status.ensures (is-status c.in-Err.error c.in-Err.ensures.cause.kinds (λ message h. none-rose-before c.run_script-ran.new.env.operator (c.in-Err.ensures.cause.operator_fault message (ap Err h))) (λ h. none-rose c.transformer_of.result c.run_script-ran.new.env.transformer (c.in-Err.ensures.cause.transform_fault (ap Err h))));
       unknown = λ none other. absurd (some-not-none c.parse_words.result c.in-Some-parse_words.settings c.in-Some-parse_words.is (c.parse_words.ensures.settings ∙ none));
       known = λ s is two. is-ended c.in-Err.error c.in-Err.ensures.cause.kinds (inr (sym c.status_of-status.ensures ∙ two));
       unread = λ two. absurd (is-ended c.in-Err.error c.in-Err.ensures.cause.kinds (inr (sym c.status_of-status.ensures ∙ two)));
@@ -114,28 +114,28 @@ returns-in-Err g c =
           subst (λ t. IsUntrue [] (g.S.Store.acts c.args.store.now) (g.S.Store.acts t)) (sym (c.store-1.given.1 (sym c.in-Err.ensures.puts.store)))
           (c.in-Err.ensures.untrue (lawful {M = ℕ} (λ _ k e v. v) _) (is-damage c.in-Err.error c.in-Err.ensures.cause.kinds within.0 within.1)));
       complete = (λ s script named is formed empty no-read no-write no-store.
-          inr (c.status_of-status.ensures ∙ ap status (c.in-Err.ensures.complete script is formed (premises {M = ℕ} (λ _ k e v. v) _ _ empty) (record { source_still = no-read; sink_still = no-write; store = λ h. no-store (subst (λ t. Rose (g.S.Store.faults c.args.store.now) (g.S.Store.faults t)) (sym (c.store-1.given.1 (sym c.in-Err.ensures.puts.store))) h); operator = none-rose-before c.run_script.new.env.operator; transformer = none-rose c.transformer_of.result c.run_script.new.env.transformer }))));
+          inr (c.status_of-status.ensures ∙ ap status (c.in-Err.ensures.complete script is formed (premises {M = ℕ} (λ _ k e v. v) _ _ empty) (record { source_still = no-read; sink_still = no-write; store = λ h. no-store (subst (λ t. Rose (g.S.Store.faults c.args.store.now) (g.S.Store.faults t)) (sym (c.store-1.given.1 (sym c.in-Err.ensures.puts.store))) h); operator = none-rose-before c.run_script-ran.new.env.operator; transformer = none-rose c.transformer_of.result c.run_script-ran.new.env.transformer }))));
       source_still = status-or c.in-Err.error ReadFault c.status_of-status.result _ c.status_of-status.ensures refl c.in-Err.ensures.source_still;
       sink_still = status-or c.in-Err.error WriteFault c.status_of-status.result _ c.status_of-status.ensures refl c.in-Err.ensures.sink_still;
       by_script = (λ s script before named is told empty which.
           let same : c.in-Some-parse_words.settings ≡ s = same-settings c.parse_words.result c.in-Some-parse_words.settings s c.in-Some-parse_words.is (c.parse_words.ensures.settings ∙ named) in
-          subst (λ (t : Settings). g.W.Sink.content c.run_script.new.sink ≡ Some (before ++ replies_to meaning (main_rules t.options) (lines_taken script))) same
+          subst (λ (t : Settings). g.W.Sink.content c.run_script-ran.new.sink ≡ Some (before ++ replies_to meaning (main_rules t.options) (lines_taken script))) same
           ((c.in-Err.ensures.said script before is told (premises {M = ℕ} (λ _ k e v. v) _ _ empty)).by_script (its-own (script_error script) c.in-Err.error (c.in-Err.ensures.read script is).error (status-or-either c.status_of-status.ensures which))));
       by_source = (λ s script before named is told empty five.
           let same : c.in-Some-parse_words.settings ≡ s = same-settings c.parse_words.result c.in-Some-parse_words.settings s c.in-Some-parse_words.is (c.parse_words.ensures.settings ∙ named) in
-          subst (λ (t : Settings). (left : List ℕ) × (said : List ℕ) × (g.R.Source.left c.run_script.new.source ≡ Some left) × (g.W.Sink.content c.run_script.new.sink ≡ Some (before ++ said)) × HasAnsweredAll (main_rules t.options) script left said) same
+          subst (λ (t : Settings). (left : List ℕ) × (said : List ℕ) × (g.R.Source.left c.run_script-ran.new.source ≡ Some left) × (g.W.Sink.content c.run_script-ran.new.sink ≡ Some (before ++ said)) × HasAnsweredAll (main_rules t.options) script left said) same
           ((c.in-Err.ensures.said script before is told (premises {M = ℕ} (λ _ k e v. v) _ _ empty)).by_source (ap Err (is-read c.in-Err.error c.in-Err.ensures.cause.kinds (sym c.status_of-status.ensures ∙ five)))));
       by_sink = (λ s script before named is told empty six.
           let same : c.in-Some-parse_words.settings ≡ s = same-settings c.parse_words.result c.in-Some-parse_words.settings s c.in-Some-parse_words.is (c.parse_words.ensures.settings ∙ named) in
-          subst (λ (t : Settings). (said : List ℕ) × (g.W.Sink.content c.run_script.new.sink ≡ Some (before ++ said)) × HasBegun (main_rules t.options) script said) same
+          subst (λ (t : Settings). (said : List ℕ) × (g.W.Sink.content c.run_script-ran.new.sink ≡ Some (before ++ said)) × HasBegun (main_rules t.options) script said) same
           ((c.in-Err.ensures.said script before is told (premises {M = ℕ} (λ _ k e v. v) _ _ empty)).by_sink (ap Err (is-write c.in-Err.error c.in-Err.ensures.cause.kinds (sym c.status_of-status.ensures ∙ six)))));
       by_part = (λ s script before named is told empty which.
           let same : c.in-Some-parse_words.settings ≡ s = same-settings c.parse_words.result c.in-Some-parse_words.settings s c.in-Some-parse_words.is (c.parse_words.ensures.settings ∙ named) in
-          subst (λ (t : Settings). (said : List ℕ) × (g.W.Sink.content c.run_script.new.sink ≡ Some (before ++ said)) × HasAnswered (main_rules t.options) script said) same
+          subst (λ (t : Settings). (said : List ℕ) × (g.W.Sink.content c.run_script-ran.new.sink ≡ Some (before ++ said)) × HasAnswered (main_rules t.options) script said) same
           ((c.in-Err.ensures.said script before is told (premises {M = ℕ} (λ _ k e v. v) _ _ empty)).by_part (is-part c.in-Err.error c.in-Err.ensures.cause.kinds (status-or-either c.status_of-status.ensures which))));
       all = λ script is four. (c.in-Err.ensures.read script is).too_long (ap Err (is-too_long c.in-Err.error c.in-Err.ensures.cause.kinds (sym c.status_of-status.ensures ∙ four)));
-      taken = λ script is. (c.run_script.ensures.read script is).taken;
-      later = c.run_script.ensures.later;
+      taken = λ script is. (c.run_script-ran.ensures.read script is).taken;
+      later = c.run_script-ran.ensures.later;
       summed = λ named-g before named told empty zero. absurd (no-generated named-g named);
       summed_stored = λ named-g named empty zero. absurd (no-generated named-g named);
       summed_kinds = λ named-g named. absurd (no-generated named-g named);

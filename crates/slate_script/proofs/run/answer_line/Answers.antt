@@ -13,17 +13,17 @@ use Rattle.slate_script.proofs.Answered.{one-built}
 use Rattle.slate_script.proofs.LineEnds.{parse-error, parse-cause, parse-no-part, parse-no-damage, parse-wrote, session-cause, session-part, session-wrote, writing-cause, writing-no-part, writing-no-damage, writing-no-error, error-of, meant-line}
 use Rattle.slate_script.proofs.LineLoads.{line-load}
 use Rattle.slate_script.proofs.RunEnds.{is-no-error}
-use Rattle.slate_script.proofs.ToldLaws.{follows-itself, stores-itself}
+use Rattle.slate_script.proofs.ToldLaws.{follows-itself, line-shown, stores-itself}
 use Rattle.slate_script.proofs.Running.{line-stands, line-reply, runs-on, is-settled, one-moment, always, at-ok, not-damage, silent-line, silent-after, silent-says, silent-counts, line-counts}
 use Rattle.slate_script.proofs.run.answer_line.Goals as goal
 
 pub answer-requires-clause-built : goal.answer-requires-clause-built
-answer-requires-clause-built g c =
+answer-requires-clause-built g c = λ κs lives.
     let meant = rw c.in-Ok-Some.field-0-is at c.in-Ok-Some.ensures.meant in
     one-built c.args.line.now c.in-Ok-Some.meaning meant.1
 
 pub answer-requires-clause-moment : goal.answer-requires-clause-moment
-answer-requires-clause-moment g c =
+answer-requires-clause-moment g c = λ κs lives.
     let meant = rw c.in-Ok-Some.field-0-is at c.in-Ok-Some.ensures.meant in
     one-moment c.args.line.now c.in-Ok-Some.meaning meant.1
 
@@ -43,7 +43,7 @@ returns-in-Err-answer g c =
       follows = λ os settled. tt;
       untrue = λ os settled. c.in-Err-answer.ensures.untrue os settled;
       tables = tt;
-      shown = c.in-Err-answer.ensures.shown;
+      shown = line-shown c.in-Ok-Some.meaning _ _ c.args.session.now.core c.in-Err-answer.error c.in-Err-answer.ensures.shown;
       write_fault = λ is. absurd (session-wrote _ _ c.args.session.now c.in-Err-answer.error c.in-Err-answer.ensures.cause (error-of c.in-Err-answer.error is));
       begun = λ m r running s before stands told is. absurd (session-wrote _ _ c.args.session.now c.in-Err-answer.error c.in-Err-answer.ensures.cause (error-of c.in-Err-answer.error is));
       still = tt;
@@ -72,7 +72,7 @@ returns-in-Ok g c =
       grows = (let meant = rw c.in-Ok-Some.field-0-is at c.in-Ok-Some.ensures.meant in
           always c.write_reply.result (c.in-Ok.ensures.grows.0, let few : line_load c.in-Ok-Some.meaning ≤ length c.args.line.now = line-load c.args.line.now c.in-Ok-Some.meaning meant.1 in omega (arith, c.in-Ok.ensures.grows.1, few)));
       alone = (λ m r running alone.
-          let layout = layout_of c.args.options.now in
+          let layout = layout_of c.args.laws.now.options in
           always c.write_reply.result (subst (λ (x : Meaning). HasTablesAlone x layout (g.S.Store.objects c.answer.new.env.store.now) (runs_of c.answer.new.self.core.events)) running.meaning
           (c.in-Ok.ensures.alone (is-settled running) (subst (λ (x : Meaning). HasTablesAlone x layout (g.S.Store.objects c.args.env.now.store.now) (runs_of c.args.session.now.core.events)) (sym running.meaning) alone))));
       cause = writing-cause c.write_reply.result c.args.number c.args.line.now c.args.session.now c.write_reply.ensures.cause;

@@ -19,7 +19,7 @@ invariant-loop-line g l =
     record {
       told : (script : List ℕ) → g.R.Source.left l.initial.source ≡ Some script
           → IsAt (Premises before.meaning before.objects)
-          (run_rules l.options before.meaning)
+          (run_rules l.laws.options before.meaning)
           script (g.R.Source.left l.source) (g.W.Sink.content l.initial.sink) (g.W.Sink.content l.sink) l.initial.tally l.tally l.lines l.number l.session;
       counted : l.number ≤ l.lines.given;
       within : l.lines.given ≤ script_limit;
@@ -27,11 +27,11 @@ invariant-loop-line g l =
       loads : held_load l.session ≤ l.lines.given;
       running : Premises before.meaning before.objects
           → IsRunning before.meaning
-          (run_rules l.options before.meaning)
+          (run_rules l.laws.options before.meaning)
           now.meaning now.objects l.session;
       alone : Premises before.meaning before.objects
           → HasTablesAlone before.meaning
-          (layout_of l.options) now.objects (runs_of l.session.core.events);
+          (layout_of l.laws.options) now.objects (runs_of l.session.core.events);
       followed : IsLawfulMeaning before.meaning → Follows before.meaning [] l.session before.acts now.acts;
       stored : PutsTables [] (tables_of l.session.core.events) before.acts now.acts;
       source_later : g.R.Source.faults l.initial.source ≤ g.R.Source.faults l.source;

@@ -1,0 +1,24 @@
+use Rattle.slate_types.proofs.Reaching.{reads_then}
+use Rattle.slate_db.specs.Scans.{id_of}
+use Rattle.slate_script.proofs.Scanned.{noted_then, opened_by, opens_scan, same_noted, walked, walk_cause, walk_fault}
+use Rattle.slate_script.proofs.scan.scan_rows.Goals as goal
+
+pub walk-rows-requires : goal.walk-rows-requires
+walk-rows-requires g c =
+    let o = c.in_ok-scan.ensures in
+    opens_scan _ _ c.args.core.now c.scan-opened.new.self c.args.id.now c.args.order c.args.range c.in_ok-scan.scan (opened_by _ _ c.args.core.now c.scan-opened.new.self c.args.id.now c.args.order c.args.range c.in_ok-scan.scan c.requires.open o.noted o.names o.opened o.later.1 o.kept)
+
+pub returns : goal.returns
+returns g c =
+    let o = c.in_ok-scan.ensures in
+    let h = opened_by _ _ c.args.core.now c.scan-opened.new.self c.args.id.now c.args.order c.args.range c.in_ok-scan.scan c.requires.open o.noted o.names o.opened o.later.1 o.kept in
+    record {
+      noted = noted_then c.args.core.now c.scan-opened.new.self c.walk-rows.new.core c.args.id.now (id_of c.in_ok-scan.scan) h.names.named (_, h.notes) c.walk-rows.ensures.noted;
+      scanned = walked (λ v. v.items) c.walk-rows.result _ _ _ c.args.core.now c.scan-opened.new.self c.walk-rows.new.core c.args.id.now c.args.order c.args.range c.args.steps.now c.in_ok-scan.scan c.walk-rows.new.scan c.requires.range h c.walk-rows.ensures.took;
+      undamaged = walk_fault c.walk-rows.result _ _ _ c.args.core.now c.scan-opened.new.self c.args.id.now c.args.order c.args.range c.in_ok-scan.scan h c.scan-opened.ensures.reads c.walk-rows.ensures.refused;
+      cause = walk_cause c.walk-rows.result _ _ _ c.args.core.now c.scan-opened.new.self c.args.id.now c.args.order c.args.range c.in_ok-scan.scan h c.scan-opened.ensures.reads c.walk-rows.ensures.refused;
+      reads = reads_then _ _ _ c.scan-opened.ensures.reads c.walk-rows.ensures.reads;
+    }
+
+pub returns-in_err-scan-clause-noted : goal.returns-in_err-scan-clause-noted
+returns-in_err-scan-clause-noted g c = same_noted c.args.core.now c.scan-opened.new.self c.args.id.now c.in_err-scan.ensures.same
