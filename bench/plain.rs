@@ -4,14 +4,14 @@
 //! `slate_bench`. Three more words are there for scripts: `make NAME` prints one of them, `run -` and `run FOLDER` answer one
 //! as `slate` does, and `measure FILE PROGRAM WORDS..` runs a program and appends to the file what it took.
 
-use block::{Builder, Row, Sums, Version, decode_block, walk_v1, walk_v2};
+use block::{decode_block, walk_v1, walk_v2, Builder, Row, Sums, Version};
 use script::Store;
 use std::collections::BTreeMap;
 use std::env;
 use std::io;
 use std::process::exit;
 use std::time::Instant;
-use table::{CrcTables, build_table, open_section, places_of, read_index};
+use table::{build_table, open_section, places_of, read_index, CrcTables};
 
 const ROWS: u64 = 200_000;
 const TABLE_ROWS: usize = 100_000;
@@ -155,7 +155,11 @@ fn run_parts(is_timed: bool) -> Option<()> {
 }
 
 fn status_of(done: Option<()>) -> i32 {
-    if done.is_some() { 0 } else { 1 }
+    if done.is_some() {
+        0
+    } else {
+        1
+    }
 }
 
 fn main() {
@@ -539,6 +543,25 @@ mod block {
         Some(())
     }
 
+    /// All rows of a block of version 2, and `None` where it is damaged.
+    pub fn rows_of_block<'a>(body: &'a [u8], offsets: &[u16]) -> Option<Vec<ReadRow<'a>>> {
+        let mut rows: Vec<ReadRow> = Vec::new();
+        for (i, at) in offsets.iter().enumerate() {
+            let end = offsets.get(i + 1).map_or(body.len(), |next| *next as usize);
+            let mut input = Input {
+                bytes: &body[..end],
+                at: *at as usize,
+            };
+            let mut previous: Vec<u8> = Vec::new();
+            while input.at < end {
+                let row = read_v2(&mut input, &previous)?;
+                previous.clone_from(&row.key);
+                rows.push(row);
+            }
+        }
+        Some(rows)
+    }
+
     /// The newest row of a key at or below a sequence, of a block of version 2. The outer `None` is a damaged block.
     pub fn newest_of_block<'a>(
         body: &'a [u8],
@@ -573,7 +596,7 @@ mod block {
 
 /// Checksums and tables: how they are written, and how their parts are read.
 mod table {
-    use crate::block::{Builder, Input, Row, Version, compute_prefix};
+    use crate::block::{compute_prefix, Builder, Input, Row, Version};
 
     /// For each byte what is left of it after 8 bits, and after 8 bits for each byte that stands behind it.
     pub struct CrcTables([[u32; 256]; 8]);
@@ -772,11 +795,11 @@ mod table {
 /// A store in plain Rust that answers the lines of the scripts of `scripts.rs` as `slate` does: writes of one put, begins, gets
 /// and flushes. Any other line ends it.
 mod script {
-    use crate::block::{Row, Version, decode_block, newest_of_block};
-    use crate::table::{CrcTables, build_table, open_section, places_of, read_index};
+    use crate::block::{decode_block, newest_of_block, rows_of_block, Row, Version};
+    use crate::table::{build_table, open_section, places_of, read_index, CrcTables};
     use std::borrow::Cow;
-    use std::cmp::Reverse;
-    use std::collections::BTreeMap;
+    use std::cmp::{Ordering, Reverse};
+    use std::collections::{BTreeMap, BinaryHeap, VecDeque};
     use std::fs::{self, File};
     use std::io::{self, BufRead, BufReader, Read, Write};
     use std::mem;
@@ -869,6 +892,95 @@ mod script {
         create_ts: i64,
     }
 
+    #[derive(Clone, Copy)]
+    enum Order {
+        Up,
+        Down,
+    }
+
+    /// A row that a scan meets.
+    struct ScanRow {
+        key: Vec<u8>,
+        value: Vec<u8>,
+        seq: u64,
+        create_ts: i64,
+    }
+
+    /// Rows in memory, or those of a table: what is left of a block, and where the blocks behind it begin and end.
+    struct Source<'a> {
+        rows: VecDeque<ScanRow>,
+        table: Option<&'a StoredTable>,
+        offsets: VecDeque<(usize, usize)>,
+    }
+
+    /// The next row of a source. The greatest comes first: by key in the order, and the newest of a key.
+    struct Head {
+        row: ScanRow,
+        source: usize,
+        order: Order,
+    }
+
+    impl Ord for Head {
+        fn cmp(&self, other: &Head) -> Ordering {
+            let keys = match self.order {
+                Order::Up => other.row.key.cmp(&self.row.key),
+                Order::Down => self.row.key.cmp(&other.row.key),
+            };
+            keys.then(self.row.seq.cmp(&other.row.seq))
+        }
+    }
+
+    impl PartialOrd for Head {
+        fn partial_cmp(&self, other: &Head) -> Option<Ordering> {
+            Some(self.cmp(other))
+        }
+    }
+
+    impl PartialEq for Head {
+        fn eq(&self, other: &Head) -> bool {
+            self.cmp(other) == Ordering::Equal
+        }
+    }
+
+    impl Eq for Head {}
+
+    /// Turns rows that rise by key into the order, the newest of a key first.
+    fn turn(rows: &mut VecDeque<ScanRow>, order: Order) {
+        if let Order::Down = order {
+            rows.make_contiguous()
+                .sort_by(|a, b| b.key.cmp(&a.key).then(b.seq.cmp(&a.seq)));
+        }
+    }
+
+    fn append_row(text: &mut Vec<u8>, row: &ScanRow) {
+        text.extend_from_slice(b" '");
+        text.extend_from_slice(&row.key);
+        text.extend_from_slice(b" '");
+        text.extend_from_slice(&row.value);
+        text.extend_from_slice(format!(" {} {} -", row.seq, row.create_ts).as_bytes());
+    }
+
+    /// All rows of a block's section, and `None` where it is damaged.
+    fn rows_of_section(crc: &CrcTables, section: &[u8]) -> Option<VecDeque<ScanRow>> {
+        let (body, offsets) = decode_block(open_section(crc, section)?)?;
+        let rows = rows_of_block(body, &offsets)?;
+        let rows = rows.into_iter().map(|row| ScanRow {
+            value: row.value.to_vec(),
+            seq: row.seq,
+            create_ts: row.create_ts.unwrap_or(0),
+            key: row.key,
+        });
+        Some(rows.collect())
+    }
+
+    fn read_order(token: &[u8]) -> Result<Order, Failure> {
+        match token {
+            b"asc" => Ok(Order::Up),
+            b"desc" => Ok(Order::Down),
+            _ => Err(Syntax),
+        }
+    }
+
     struct Session {
         crc: CrcTables,
         store: Store,
@@ -926,6 +1038,9 @@ mod script {
                 [b"write", b"put", key, value] => self.put(read_key(key)?, read_text(value)?),
                 [b"begin", name, b"si"] => self.begin(read_name(name)?),
                 [b"get", name, key] => self.get(read_name(name)?, read_text(key)?),
+                [b"scan", name, order, b"*", b"*"] => {
+                    self.scan(read_name(name)?, read_order(order)?)
+                }
                 [b"flush"] => self.flush(),
                 _ => Err(Syntax),
             }
@@ -949,6 +1064,86 @@ mod script {
                 Some(row) => Ok(row_line(key, &row)),
                 None => Ok(b"none\n".to_vec()),
             }
+        }
+
+        /// All rows that are seen from where a name began: of each key the newest of the rows in memory and in tables, which are
+        /// merged.
+        fn scan(&self, name: &str, order: Order) -> Result<Vec<u8>, Failure> {
+            let at = *self.names.get(name.as_bytes()).ok_or(Syntax)?;
+            let mut sources = self.sources(order)?;
+            let mut heads = BinaryHeap::new();
+            for source in 0..sources.len() {
+                heads.extend(self.next_head(&mut sources, source, order)?);
+            }
+            let (mut count, mut text, mut last) = (0u64, Vec::new(), Vec::new());
+            while let Some(Head { row, source, .. }) = heads.pop() {
+                heads.extend(self.next_head(&mut sources, source, order)?);
+                if row.seq <= at && (count == 0 || row.key != last) {
+                    count += 1;
+                    append_row(&mut text, &row);
+                    last = row.key;
+                }
+            }
+            let mut reply = format!("rows {count}").into_bytes();
+            reply.append(&mut text);
+            reply.push(b'\n');
+            Ok(reply)
+        }
+
+        /// The rows in memory, and each table with its index read.
+        fn sources(&self, order: Order) -> Result<Vec<Source<'_>>, Failure> {
+            let mut rows: VecDeque<ScanRow> = self
+                .rows
+                .iter()
+                .map(|((key, Reverse(seq)), value)| ScanRow {
+                    key: key.clone(),
+                    value: value.clone(),
+                    seq: *seq,
+                    create_ts: 0,
+                })
+                .collect();
+            turn(&mut rows, order);
+            let mut sources = vec![Source {
+                rows,
+                table: None,
+                offsets: VecDeque::new(),
+            }];
+            for table in self.tables.iter().rev() {
+                let index = self.read(&table.path, table.index_at, table.stats_at)?;
+                let (offsets, _) = open_section(&self.crc, &index)
+                    .and_then(read_index)
+                    .ok_or(Damage)?;
+                let ends = offsets.iter().skip(1).copied().chain([table.index_at]);
+                sources.push(Source {
+                    rows: VecDeque::new(),
+                    table: Some(table),
+                    offsets: offsets.iter().copied().zip(ends).collect(),
+                });
+            }
+            Ok(sources)
+        }
+
+        /// The next row of a source, for which it reads its next block where it has none left.
+        fn next_head(
+            &self,
+            sources: &mut [Source],
+            source: usize,
+            order: Order,
+        ) -> Result<Option<Head>, Failure> {
+            let from = &mut sources[source];
+            if let (true, Some(table)) = (from.rows.is_empty(), from.table) {
+                let block = match order {
+                    Order::Up => from.offsets.pop_front(),
+                    Order::Down => from.offsets.pop_back(),
+                };
+                if let Some((start, end)) = block {
+                    let section = self.read(&table.path, start, end)?;
+                    from.rows = rows_of_section(&self.crc, &section).ok_or(Damage)?;
+                    turn(&mut from.rows, order);
+                }
+            }
+            let row = from.rows.pop_front();
+            Ok(row.map(|row| Head { row, source, order }))
         }
 
         fn flush(&mut self) -> Result<Vec<u8>, Failure> {
@@ -981,7 +1176,7 @@ mod script {
         /// The newest row of a key at or below a sequence.
         fn newest(&self, key: &[u8], at: u64) -> Result<Option<Found>, Failure> {
             let mut behind = self.rows.range((key.to_vec(), Reverse(at))..);
-            if let Some(((_, Reverse(seq)), value)) = behind.next().filter(|row| row.0.0 == key) {
+            if let Some(((_, Reverse(seq)), value)) = behind.next().filter(|row| row.0 .0 == key) {
                 return Ok(Some(Found {
                     value: value.clone(),
                     seq: *seq,
@@ -1122,6 +1317,12 @@ mod scripts {
     /// How many gets follow where a get can meet each table.
     const FEW: u64 = 1_000;
 
+    /// How many writes stand between two flushes where 156 runs are scanned.
+    const RUN: u64 = 640;
+
+    /// How often all rows are scanned.
+    const SCANS: u64 = 4;
+
     /// The script of this name, and nothing where there is none.
     pub fn make(name: &str) -> Option<String> {
         let mut text = String::new();
@@ -1130,6 +1331,10 @@ mod scripts {
             "write_and_flush" => write_many(&mut text).and_then(|()| writeln!(text, "flush")),
             "read_rising" => write_and_read(&mut text, |i| i, SOME),
             "read_scattered" => write_and_read(&mut text, |i| scattered(i, SOME), FEW),
+            "scan_up" => write_and_scan(&mut text, MANY, "asc"),
+            "scan_down" => write_and_scan(&mut text, MANY, "desc"),
+            "scan_runs_up" => write_and_scan(&mut text, RUN, "asc"),
+            "scan_runs_down" => write_and_scan(&mut text, RUN, "desc"),
             _ => return None,
         };
         made.ok().map(|()| text)
@@ -1146,6 +1351,18 @@ mod scripts {
 
     fn write_many(text: &mut String) -> Result {
         (0..MANY).try_for_each(|i| put(text, scattered(i, MANY), i))
+    }
+
+    /// Many writes with a flush behind each so many, and scans of all rows.
+    fn write_and_scan(text: &mut String, interval: u64, order: &str) -> Result {
+        for i in 0..MANY {
+            put(text, scattered(i, MANY), i)?;
+            if (i + 1) % interval == 0 {
+                writeln!(text, "flush")?;
+            }
+        }
+        writeln!(text, "begin t si")?;
+        (0..SCANS).try_for_each(|_| writeln!(text, "scan t {order} * *"))
     }
 
     /// Writes with flushes in between, and gets behind them, each of the key of another write.
