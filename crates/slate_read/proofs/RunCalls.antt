@@ -1,5 +1,5 @@
 -- What the calls of a walk over a run do.
-use Rattle.std.proofs.Common.{◌≡◌, ◌≢◌, ◌⊎◌, inl, inr, ◌<◌, ◌≤◌, ℕ, List, [], ◌++◌, Option, Some, None, refl, sym, ap, subst, ◌∙◌, arith}
+use Rattle.std.proofs.Common.{◌≡◌, ◌≢◌, ◌⊎◌, inl, inr, ◌<◌, ◌≤◌, ℕ, List, [], Option, Some, None, refl, sym, subst, ◌∙◌, arith}
 use Rattle.slate_types.specs.declared.bytes_range.BytesRange.{BytesRange}
 use Rattle.slate_types.specs.declared.error.SlateDBError.{SlateDBError}
 use Rattle.slate_types.specs.declared.error.SlateDBError.TheVariants.{IteratorNotInitialized, OutOfMemory}
@@ -17,7 +17,7 @@ use Rattle.slate_read.specs.declared.run_state.RunState.{RunState}
 use Rattle.slate_read.specs.declared.run_state.RunState.TheVariants.{New, Going, Refused}
 use Rattle.slate_read.specs.Kept.{Copies}
 use Rattle.slate_read.specs.RunLaws.{run_whole}
-use Rattle.slate_read.specs.RunWalk.{bound_run, bound_run_in, IsGoingRun, IsSoundRun, IsUnrefusedRun, KeepsRun, RefusesOpen, StaysRunIn, refuses_run, refuses_run_in, rest_run, rest_run_in, sound_run_in}
+use Rattle.slate_read.specs.RunWalk.{bound_run, bound_run_in, IsSoundRun, IsUnrefusedRun, KeepsRun, RefusesOpen, StaysRunIn, refuses_run, refuses_run_in, rest_run, rest_run_in, sound_run_in}
 use Rattle.slate_read.specs.TableWalk.{Sought, no_words}
 use Rattle.slate_read.proofs.Walks.{outer_undamaged}
 

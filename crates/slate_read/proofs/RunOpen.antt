@@ -1,15 +1,15 @@
 -- What calls do to the table of a run that is open.
-use Rattle.std.proofs.Common.{◌≡◌, ◌⊎◌, inl, inr, ℕ, List, [], ◌∷◌, ◌++◌, Option, Some, None, refl, sym, ap, subst, ◌∙◌}
+use Rattle.std.proofs.Common.{◌≡◌, ◌⊎◌, inl, inr, ℕ, List, [], ◌++◌, Option, Some, None, refl, sym, subst}
 use Rattle.slate_types.specs.declared.error.SlateDBError.{SlateDBError}
 use Rattle.slate_types.specs.declared.types.RowEntry.{RowEntry}
 use Rattle.slate_types.specs.declared.iter.IterationOrder.{IterationOrder}
-use Rattle.slate_types.specs.Iteration.{IsInOrder, TakesRow, drop_before}
-use Rattle.slate_types.specs.Outside.{Act, IsFault, IsLater, Meaning, Reach}
+use Rattle.slate_types.specs.Iteration.{TakesRow, drop_before}
+use Rattle.slate_types.specs.Outside.{IsFault, IsLater, Meaning, Reach}
 use Rattle.slate_types.specs.Refusing.{NoMore}
 use Rattle.slate_types.specs.Steps.{Step}
-use Rattle.slate_types.specs.World.{World, Checks, Made, Sees}
+use Rattle.slate_types.specs.World.{World, Made, Sees}
 use Rattle.slate_types.proofs.Calls.{call_both, call_none, checks_both, checks_none, no_more_both, sees_first, sees_last}
-use Rattle.slate_types.proofs.IterationLaws.{in_order_dropped, taken_in_order}
+use Rattle.slate_types.proofs.IterationLaws.{taken_in_order}
 use Rattle.slate_types.proofs.Reaching.{fault_earlier}
 use Rattle.slate_table.specs.declared.info.SsTableHandle.{SsTableHandle}
 use Rattle.slate_read.specs.declared.run_state.OpenTable.{OpenTable}

@@ -1,6 +1,6 @@
 -- What a seek leaves of a run.
 use Rattle.std.proofs.Common.{◌≡◌, ◌⊎◌, inl, inr, ◌<◌, ◌≤◌, ◌-◌, ℕ, Bool, true, false, cond, not, List, [], ◌∷◌, ◌++◌, take, drop, length, flat_map, Option, Some, None, refl, sym, ap, subst, ◌∙◌, arith, append_assoc}
-use Rattle.std.specs.Prelude.{Contains, ◌&&◌}
+use Rattle.std.specs.Prelude.{◌&&◌}
 use Rattle.std.specs.List.{AllByRecursion}
 use Rattle.std.proofs.lemmas.List.{length-append}
 use Rattle.std.proofs.lemmas.List.Elements.{Contains-append_right}
@@ -10,11 +10,10 @@ use Rattle.slate_types.specs.declared.types.RowEntry.{RowEntry}
 use Rattle.slate_types.specs.declared.iter.IterationOrder.{IterationOrder}
 use Rattle.slate_types.specs.declared.iter.IterationOrder.TheVariants.{Ascending, Descending}
 use Rattle.slate_types.specs.Iteration.{IsInOrder, comes_before, drop_before, in_order}
-use Rattle.slate_types.specs.Keys.{key_le}
-use Rattle.slate_types.specs.Outside.{Act, IsFault, Meaning, Reach}
+use Rattle.slate_types.specs.Outside.{IsFault, Meaning, Reach}
 use Rattle.slate_types.specs.Partitions.{covering_end, covering_start}
-use Rattle.slate_types.specs.Refusing.{IsDamage, NoMore}
-use Rattle.slate_types.specs.World.{World, Checks, IsCall, Kept, Made, Sees}
+use Rattle.slate_types.specs.Refusing.{NoMore}
+use Rattle.slate_types.specs.World.{World, Kept, Made, Sees}
 use Rattle.slate_types.proofs.Calls.{call_both, call_none, checks_both, checks_none, no_more_both, sees_first, sees_last}
 use Rattle.slate_types.proofs.IterationLaws.{in_order_dropped}
 use Rattle.slate_types.proofs.KeyOrder.{le-lt-trans, lt-le-trans}
@@ -27,8 +26,7 @@ use Rattle.slate_table.specs.InfoReading.{seen_info}
 use Rattle.slate_read.specs.declared.run_state.OpenTable.{OpenTable}
 use Rattle.slate_read.specs.declared.run_state.RunCursor.{RunCursor}
 use Rattle.slate_read.specs.Peeking.{is_kept}
-use Rattle.slate_read.specs.RunLaws.{waiting_more}
-use Rattle.slate_read.specs.RunWalk.{AreHeld, FindsRow, IsSoundOpen, IsSoundRun, OpensNext, PassesOver, RefusesOpen, RefusesWaiting, end_key, is_end_passed, is_passed, refuses_open, refuses_run, rest_open, rest_run, rest_run_sought, rest_waiting, rows_ahead, bound_open, bound_run, is_next_passed}
+use Rattle.slate_read.specs.RunWalk.{AreHeld, FindsRow, IsSoundOpen, IsSoundRun, OpensNext, PassesOver, RefusesOpen, RefusesWaiting, is_end_passed, is_passed, refuses_open, refuses_run, rest_open, rest_run, rest_run_sought, rest_waiting, rows_ahead, bound_open, bound_run, is_next_passed}
 use Rattle.slate_read.specs.TableWalk.{IsReadable, Sought, path_in, rest_covered, rows_between}
 use Rattle.slate_read.proofs.Ranges.{blocks_split, in_back}
 use Rattle.slate_read.proofs.Runs.{end_run, fewer_of, open_rising, rest_parts, sound_of}

@@ -1,32 +1,27 @@
 -- What calls do to what is left of a run.
-use Rattle.std.proofs.Common.{◌≡◌, ◌⊎◌, inl, inr, ◌<◌, ◌≤◌, ◌+◌, ◌*◌, ℕ, Bool, true, false, List, [], ◌∷◌, ◌++◌, length, flat_map, Option, Some, None, refl, sym, ap, subst, ◌∙◌, arith, append_assoc, append-nil}
-use Rattle.std.specs.Prelude.{Contains}
+use Rattle.std.proofs.Common.{◌≡◌, ◌⊎◌, inl, inr, ◌<◌, ◌+◌, Bool, true, false, List, [], ◌∷◌, ◌++◌, length, Option, Some, None, refl, sym, ap, subst, ◌∙◌, arith}
 use Rattle.std.specs.Option.{is_some}
-use Rattle.std.specs.List.{AllByRecursion}
 use Rattle.std.proofs.lemmas.List.Elements.{Contains-append_right}
 use Rattle.slate_types.specs.declared.bytes_range.BytesRange.{BytesRange}
 use Rattle.slate_types.specs.declared.error.SlateDBError.{SlateDBError}
 use Rattle.slate_types.specs.declared.error.SlateDBError.TheVariants.{IteratorNotInitialized}
 use Rattle.slate_types.specs.declared.types.RowEntry.{RowEntry}
 use Rattle.slate_types.specs.declared.iter.IterationOrder.{IterationOrder}
-use Rattle.slate_types.specs.Iteration.{IsInOrder, TakesRow, comes_before, drop_before}
-use Rattle.slate_types.specs.Outside.{Act, IsFault, Meaning, Reach}
+use Rattle.slate_types.specs.Iteration.{IsInOrder}
+use Rattle.slate_types.specs.Outside.{Act, Meaning, Reach}
 use Rattle.slate_types.specs.Refusing.{IsDamage, NoMore}
 use Rattle.slate_types.specs.Steps.{Step}
-use Rattle.slate_types.specs.World.{World, Checks, IsCall, Kept, Made, Sees}
-use Rattle.slate_types.proofs.Calls.{call_both, call_none, checks_both, checks_none, met, no_more_both, sees_first, sees_last}
-use Rattle.slate_types.proofs.IterationLaws.{drop_before_none, in_order_dropped}
+use Rattle.slate_types.specs.World.{World, Checks, IsCall, Made, Sees}
+use Rattle.slate_types.proofs.Calls.{call_none, checks_none, met}
 use Rattle.slate_types.proofs.Moves.{Moves}
 use Rattle.slate_table.specs.declared.info.SsTableHandle.{SsTableHandle}
 use Rattle.slate_read.specs.declared.run_state.OpenTable.{OpenTable}
 use Rattle.slate_read.specs.declared.run_state.RunCursor.{RunCursor}
 use Rattle.slate_read.specs.declared.table_state.TableState.TheVariants.{New, Walking}
-use Rattle.slate_read.specs.Peeking.{is_kept}
 use Rattle.slate_read.specs.RunLaws.{open_more, waiting_more}
-use Rattle.slate_read.specs.RunWalk.{AreHeld, FindsRow, IsOpenRising, IsSoundOpen, IsSoundRun, IsTableOpened, OpensNext, OpensTable, RefusesOpen, RefusesWaiting, refuses_open, refuses_run, rest_open, rest_run, rest_run_sought, rest_waiting, rows_ahead}
-use Rattle.slate_read.specs.TableWalk.{IsReadable, IsSoundAt, RefusesIndexed, RefusesUnread, Sought, no_words, refuses_at, rest_at}
+use Rattle.slate_read.specs.RunWalk.{AreHeld, IsOpenRising, IsSoundOpen, IsSoundRun, OpensNext, OpensTable, RefusesOpen, RefusesWaiting, refuses_open, refuses_run, rest_open, rest_run, rest_waiting, rows_ahead}
+use Rattle.slate_read.specs.TableWalk.{IsSoundAt, RefusesUnread, no_words, refuses_at, rest_at}
 use Rattle.slate_read.proofs.Ranges.{in_back, in_front}
-use Rattle.slate_read.proofs.Seeks.{drop_done, drop_twice}
 use Rattle.slate_read.proofs.Walks.{begins_moves}
 
 -- ---- parts

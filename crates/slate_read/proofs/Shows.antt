@@ -12,7 +12,6 @@ use Rattle.slate_types.specs.Outside.{Act, Meaning}
 use Rattle.slate_types.specs.Iteration.{in_order}
 use Rattle.slate_types.specs.Refusing.{IsDamage}
 use Rattle.slate_types.proofs.Lists.{AllByRecursion-reverse}
-use Rattle.slate_block.specs.declared.block.Block.{Block}
 use Rattle.slate_table.specs.declared.info.SsTableHandle.{SsTableHandle}
 use Rattle.slate_read.specs.Showing.{RefusesBlockOf, ShowsBlock, ShowsByReads, SomeShows, UnopenedRunsShow, UnopenedWalksShow}
 use Rattle.slate_read.specs.declared.progress.Progress.{Progress}
@@ -53,9 +52,10 @@ unread_shows m h order reads e (given, among, inr (entries, read, some)) = recor
 
 -- ---- of a table, and of a run
 
-table_state : (m : Meaning) (h : SsTableHandle) (order : IterationOrder) (s : TableState) (reads : List Act) (at : Option (List ℕ)) (e : SlateDBError) → s ≡ TableNew → refuses_in s h order m reads at e →
+-- a walk that wasn't begun
+pub new_walk_shows : (m : Meaning) (h : SsTableHandle) (order : IterationOrder) (s : TableState) (reads : List Act) (at : Option (List ℕ)) (e : SlateDBError) → s ≡ TableNew → refuses_in s h order m reads at e →
     (e ≡ IteratorNotInitialized) ⊎ (IsDamage e × ShowsByReads m.decode h reads e)
-table_state m h order s reads at e new r = by (subst (λ (x : TableState). refuses_in x h order m reads at e) new r)
+new_walk_shows m h order s reads at e new r = by (subst (λ (x : TableState). refuses_in x h order m reads at e) new r)
   where
     by : refuses_in TableNew h order m reads at e → (e ≡ IteratorNotInitialized) ⊎ (IsDamage e × ShowsByReads m.decode h reads e)
     by (inl k) = inl k
@@ -69,9 +69,9 @@ among_reached range order tables h among =
     turned Ascending all = all
     turned Descending all = AllByRecursion-reverse (Contains tables) (filter (λ t. can_reach range t.info) tables) all
 
-run_state : (m : Meaning) (order : IterationOrder) (s : RunState) (x : RunCursor) (tables : List SsTableHandle) (reads : List Act) (at : Option (List ℕ)) (e : SlateDBError) → s ≡ RunNew → x.current ≡ None → ((h : SsTableHandle) → Contains (waiting x) h → Contains tables h) →
+pub new_run_shows : (m : Meaning) (order : IterationOrder) (s : RunState) (x : RunCursor) (tables : List SsTableHandle) (reads : List Act) (at : Option (List ℕ)) (e : SlateDBError) → s ≡ RunNew → x.current ≡ None → ((h : SsTableHandle) → Contains (waiting x) h → Contains tables h) →
     refuses_run_in s order x m reads at e → (e ≡ IteratorNotInitialized) ⊎ (IsDamage e × SomeShows m.decode tables reads e)
-run_state m order s x tables reads at e new closed among r = by (subst (λ (y : RunState). refuses_run_in y order x m reads at e) new r)
+new_run_shows m order s x tables reads at e new closed among r = by (subst (λ (y : RunState). refuses_run_in y order x m reads at e) new r)
   where
     by : refuses_run_in RunNew order x m reads at e → (e ≡ IteratorNotInitialized) ⊎ (IsDamage e × SomeShows m.decode tables reads e)
     by (inl k) = inl k
@@ -83,7 +83,7 @@ walks_show range table order it is m reads at e r = by (subst (λ (s : Progress)
   where
     by : refuses_newest source_refuses it.range it.iterator ProgressNew m reads at e → (e ≡ IteratorNotInitialized) ⊎ RefusesSeek range at e ⊎ (IsDamage e × ShowsByReads m.decode table reads e)
     by (inl k) = inl k
-    by (inr (inl k)) = of (table_state m it.iterator.iterator.table it.iterator.iterator.order it.iterator.iterator.state reads at e is.unopened k)
+    by (inr (inl k)) = of (new_walk_shows m it.iterator.iterator.table it.iterator.iterator.order it.iterator.iterator.state reads at e is.unopened k)
       where
         of : (e ≡ IteratorNotInitialized) ⊎ (IsDamage e × ShowsByReads m.decode it.iterator.iterator.table reads e) → (e ≡ IteratorNotInitialized) ⊎ RefusesSeek range at e ⊎ (IsDamage e × ShowsByReads m.decode table reads e)
         of (inl n) = inl n
@@ -96,7 +96,7 @@ runs_show range run order it is m reads at e r = by (subst (λ (s : Progress). r
     by : refuses_newest run_source_refuses it.range it.iterator ProgressNew m reads at e → (e ≡ IteratorNotInitialized) ⊎ RefusesSeek range at e ⊎ (IsDamage e × SomeShows m.decode run.tables.items reads e)
     by (inl k) = inl k
     by (inr (inl k)) =
-        of (run_state m it.iterator.iterator.order it.iterator.iterator.state it.iterator.iterator.cursor run.tables.items reads at e is.unopened is.closed (λ h among. among_reached range order run.tables.items h (subst (λ (l : List SsTableHandle). Contains l h) is.opens among)) k)
+        of (new_run_shows m it.iterator.iterator.order it.iterator.iterator.state it.iterator.iterator.cursor run.tables.items reads at e is.unopened is.closed (λ h among. among_reached range order run.tables.items h (subst (λ (l : List SsTableHandle). Contains l h) is.opens among)) k)
       where
         of : (e ≡ IteratorNotInitialized) ⊎ (IsDamage e × SomeShows m.decode run.tables.items reads e) → (e ≡ IteratorNotInitialized) ⊎ RefusesSeek range at e ⊎ (IsDamage e × SomeShows m.decode run.tables.items reads e)
         of (inl n) = inl n

@@ -1,6 +1,5 @@
 -- The laws of a walk over the tables of a run, and of iterators over one.
-use Rattle.std.proofs.Common.{◌≡◌, ◌⊎◌, inl, inr, ℕ, List, ◌++◌, Option, Some, None, subst}
-use Rattle.std.specs.Prelude.{Contains}
+use Rattle.std.proofs.Common.{inl, inr, ℕ, List, ◌++◌, Option, Some, None, subst}
 use Rattle.std.specs.List.{AllByRecursion}
 use Rattle.std.proofs.lemmas.List.Elements.{All-contains, All-from_recursion}
 use Rattle.slate_types.specs.declared.bytes_range.BytesRange.{BytesRange}

@@ -1,4 +1,4 @@
-use Rattle.std.proofs.Common.{◌≡◌, ◌∙◌, refl, rules}
+use Rattle.std.proofs.Common.{◌≡◌, refl, rules}
 use Rattle.slate_types.proofs.Exits.{if_ok_both}
 use Rattle.slate_read.proofs.RunRows.{is_run}
 use Rattle.slate_read.proofs.run_rows.run_rows.Goals as goal

@@ -1,4 +1,4 @@
-use Rattle.std.proofs.Common.{◌≡◌, ◌∙◌, refl, sym, arith}
+use Rattle.std.proofs.Common.{◌∙◌, sym, arith}
 use Rattle.slate_types.proofs.Moves.{moves_none}
 use Rattle.slate_types.proofs.Reaching.{reads_none}
 use Rattle.slate_read.proofs.Runs.{begun_run, not_open}

@@ -1,4 +1,4 @@
-use Rattle.std.proofs.Common.{◌≡◌, ◌∙◌, [], refl, sym}
+use Rattle.std.proofs.Common.{◌∙◌, [], refl, sym}
 use Rattle.slate_read.proofs.RunSeeks.{pass_fewer, pass_one}
 use Rattle.slate_read.proofs.run_state.RunCursor.pass_over.Goals as goal
 

@@ -1,4 +1,4 @@
-use Rattle.std.proofs.Common.{◌≡◌, ◌≤◌, ◌∙◌, None, length, refl, sym, ap, arith}
+use Rattle.std.proofs.Common.{◌∙◌, None, length, refl, sym, ap, arith}
 use Rattle.std.proofs.lemmas.Result.{IfErr-weaker, on_ok_weaker}
 use Rattle.slate_types.proofs.Moves.{moves_fails}
 use Rattle.slate_types.proofs.Reaching.{later_none, reads_none}

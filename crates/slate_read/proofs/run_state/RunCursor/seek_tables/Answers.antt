@@ -1,4 +1,4 @@
-use Rattle.std.proofs.Common.{◌≡◌, ◌∙◌, None, length, refl, sym, ap, arith}
+use Rattle.std.proofs.Common.{◌∙◌, None, length, refl, ap, arith}
 use Rattle.slate_read.specs.RunWalk.{rows_ahead}
 use Rattle.std.proofs.lemmas.Result.{err_from_is_err_and}
 use Rattle.slate_types.proofs.Moves.{moves_both, moves_fails, moves_none}
