@@ -30,6 +30,8 @@ mod read_tables;
 #[cfg(test)]
 mod runs;
 #[cfg(test)]
+mod scans;
+#[cfg(test)]
 mod stores;
 #[cfg(test)]
 mod streams;

@@ -10,10 +10,12 @@
 pub mod first_steps;
 
 pub use slate_db::engine::Core;
+pub use slate_db::laws::Laws;
+pub use slate_db::scan::{DbIterator, TxnIterator};
 pub use slate_mem::WriteBatch;
 pub use slate_store::{Env, FileStore, MemoryStore, Store, StoreError};
 pub use slate_types::{
-    BlockFormat, BlockTransformer, IsolationLevel, KeyValue, MergeOperator, MergeOperatorError,
-    NoExtractor, NoOperator, NoTransformer, Options, PrefixExtractor, PutOptions, ReadOptions,
-    SlateDBError, TransformError, Ttl,
+    BlockFormat, BlockTransformer, BytesRange, IsolationLevel, IterationOrder, KeyValue,
+    MergeOperator, MergeOperatorError, NoExtractor, NoOperator, NoTransformer, Options,
+    PrefixExtractor, PutOptions, ReadOptions, ScanOptions, SlateDBError, TransformError, Ttl,
 };
