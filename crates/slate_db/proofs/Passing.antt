@@ -9,9 +9,9 @@ use Rattle.slate_types.specs.declared.error.SlateDBError.TheVariants.{MergeOpera
 use Rattle.slate_types.specs.declared.iter.IterationOrder.{IterationOrder}
 use Rattle.slate_types.specs.declared.types.KeyValue.{KeyValue}
 use Rattle.slate_types.specs.declared.types.RowEntry.{RowEntry}
-use Rattle.slate_types.specs.Iteration.{IsInOrder, TakesRow, comes_before, drop_before}
+use Rattle.slate_types.specs.Iteration.{IsInOrder, comes_before, drop_before}
 use Rattle.slate_types.specs.Outside.{Act, IsFault, IsLater, Meaning, Reach}
-use Rattle.slate_types.specs.Refusing.{IsDamage, NoMore, NoMoreBut}
+use Rattle.slate_types.specs.Refusing.{IsDamage, NoMore}
 use Rattle.slate_types.specs.Rows.{is_base, is_operand, key_value}
 use Rattle.slate_types.specs.Steps.{Step}
 use Rattle.slate_types.specs.World.{World, AnswersWorld, Checks, IsCall, Made, Sees}

@@ -8,10 +8,10 @@ use Rattle.slate_types.specs.declared.types.RowEntry.{RowEntry}
 use Rattle.slate_types.specs.Iteration.{drop_before}
 use Rattle.slate_txn.specs.declared.event.TranscriptStep.{TranscriptStep}
 use Rattle.slate_txn.specs.declared.event.TranscriptStep.TheVariants as steps
-use Rattle.slate_txn.specs.Alone.{IsVouched, Left, advanced, first_left, scans_left, sought}
+use Rattle.slate_txn.specs.Alone.{IsVouched, first_left, scans_left}
 use Rattle.slate_txn.specs.Named.{find_named, update_named}
-use Rattle.slate_txn.specs.State.{Commit, Rules, Tx}
-use Rattle.slate_txn.specs.Step.{is_scan, noted}
+use Rattle.slate_txn.specs.State.{Rules, Tx}
+use Rattle.slate_txn.specs.Step.{is_scan}
 use Rattle.slate_txn.proofs.ScanLaws.{count_left, next_alone, next_moves, seek_alone, seek_moves}
 use Rattle.slate_db.specs.declared.scan.TxnIterator.{TxnIterator}
 use Rattle.slate_db.specs.Meaning.{Meaning, rules_of}

@@ -1,5 +1,5 @@
 -- What a call of a scan's iterator leaves, by what its sources leave.
-use Rattle.std.proofs.Common.{◌≡◌, ◌⊎◌, inl, inr, ℕ, Bool, true, false, ◌&&◌, List, [], ◌∷◌, ◌++◌, filter, drop, Option, Some, None, refl, sym, ap, subst, ◌∙◌}
+use Rattle.std.proofs.Common.{◌≡◌, ◌⊎◌, inl, inr, ℕ, Bool, true, false, ◌&&◌, List, [], ◌∷◌, ◌++◌, filter, drop, Option, None, refl, sym, ap, subst, ◌∙◌}
 use Rattle.std.specs.List.{AllByRecursion}
 use Rattle.std.specs.Prelude.{Result, Ok, Err, IfOk, IfErr, OnOk}
 use Rattle.std.proofs.lemmas.Result.{IfErr-weaker, on_ok_weaker}
@@ -7,16 +7,16 @@ use Rattle.std.specs.declared.ops.Bound.{Bound}
 use Rattle.std.specs.declared.ops.Bound.TheVariants.{Included, Excluded, Unbounded}
 use Rattle.slate_types.specs.declared.bytes_range.BytesRange.{BytesRange}
 use Rattle.slate_types.specs.declared.error.SlateDBError.{SlateDBError}
-use Rattle.slate_types.specs.declared.error.SlateDBError.TheVariants.{MergeOperatorMissing, OutOfMemory}
+use Rattle.slate_types.specs.declared.error.SlateDBError.TheVariants.{MergeOperatorMissing}
 use Rattle.slate_types.specs.declared.iter.IterationOrder.{IterationOrder}
 use Rattle.slate_types.specs.declared.iter.IterationOrder.TheVariants.{Ascending, Descending}
 use Rattle.slate_types.specs.declared.types.KeyValue.{KeyValue}
 use Rattle.slate_types.specs.declared.types.RowEntry.{RowEntry}
-use Rattle.slate_types.specs.Iteration.{NoneBefore, comes_before, drop_before}
-use Rattle.slate_types.specs.Keys.{in_range, is_before_end, is_past_start, key_le, key_lt}
+use Rattle.slate_types.specs.Iteration.{NoneBefore, drop_before}
+use Rattle.slate_types.specs.Keys.{in_range, is_before_end, is_past_start, key_lt}
 use Rattle.slate_types.specs.Outside.{Act, IsFault, Meaning, Reach}
 use Rattle.slate_types.specs.Refusing.{IsDamage, NoMore}
-use Rattle.slate_types.specs.World.{World, Made, Sees}
+use Rattle.slate_types.specs.World.{World, Made}
 use Rattle.slate_types.proofs.Calls.{call_none}
 use Rattle.slate_types.proofs.IterationLaws.{drop_before_none}
 use Rattle.slate_types.proofs.KeyOrder.{le-lt-trans, lt-irreflexive, lt-le-trans, lt-trans, not-le, not-lt}

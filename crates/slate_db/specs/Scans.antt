@@ -17,7 +17,7 @@
 --     ShowsAmong decode hs reads e      of some tables one shows the error, by reads among these
 --     IsRefusedByScan m c reads e      an operand was found, or the reads show it of the tables that the journal names
 --     IsScanError before after c e      a fault that came in the call, or want of memory, or such a refusal by its reads
-use Rattle.std.specs.Prelude.{◌≡◌, ◌≢◌, ◌⊎◌, ℕ, ◌<◌, true, List, [], ◌∷◌, filter, count_by, Contains, Option, Some, None, IsSome, slice_get}
+use Rattle.std.specs.Prelude.{◌≡◌, ◌≢◌, ◌⊎◌, ℕ, ◌<◌, true, List, [], filter, count_by, Contains, Option, Some, None, slice_get}
 use Rattle.std.specs.List.{AllByRecursion}
 use Rattle.slate_types.specs.declared.bytes_range.BytesRange.{BytesRange}
 use Rattle.slate_types.specs.declared.error.SlateDBError.{SlateDBError}
@@ -31,7 +31,6 @@ use Rattle.slate_types.specs.Rows.{is_base}
 use Rattle.slate_types.specs.World.{World, HoldsWorld, Made}
 use Rattle.slate_read.specs.declared.filter_iterator.FilterIterator.{FilterIterator}
 use Rattle.slate_read.specs.declared.filter_iterator.MaxSeq.{MaxSeq}
-use Rattle.slate_read.specs.declared.merge_iterator.MergeIterator.{MergeIterator}
 use Rattle.slate_read.specs.declared.read_source.ReadSource.{ReadSource}
 use Rattle.slate_read.specs.Filtering.{upto_seq}
 use Rattle.slate_read.specs.MergeStates.{IsSoundMerge, refuses_in, rest_of_merge}

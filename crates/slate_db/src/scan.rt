@@ -22,6 +22,7 @@ use slate_types::{
 };
 use std::alloc::Global;
 use std::mem;
+use std::ops::Bound;
 use uuid::Uuid;
 
 /// Where a scan stands: rows may be left, a seek passed all of them, or it was refused.
@@ -79,6 +80,17 @@ fn seek_in<S: Store, M: MergeOperator, T: BlockTransformer>(
         ScanState::Walking(rows) => seek_values(alloc, rows, key, env),
         ScanState::Done => Ok(()),
         ScanState::Refused(error) => Err(copy_of(error)),
+    }
+}
+
+/// Whether the key is not below the start of the range.
+fn is_past_start(range: &BytesRange, key: &[u8]) -> bool
+    ensures { result ≡ is_past_start range.now.start key.now }
+{
+    match &range.start {
+        Bound::Included(start) => start.as_slice().cmp(key).is_le(),
+        Bound::Excluded(start) => start.as_slice().cmp(key).is_lt(),
+        Bound::Unbounded => true,
     }
 }
 
@@ -140,7 +152,7 @@ impl DbIterator<'_> {
             let error = copy_of(error);
             return Err(self.refuse(error));
         }
-        if !self.range.is_past_start(key) {
+        if !is_past_start(&self.range, key) {
             self.pass_start();
             return Ok(());
         }

@@ -117,13 +117,6 @@ impl BytesRange {
         passes_start(&self.start, key) && passes_end(&self.end, key)
     }
 
-    /// Whether the key is not below the start.
-    pub fn is_past_start(&self, key: &[u8]) -> bool
-        ensures { result ≡ is_past_start self.now.start key.now }
-    {
-        passes_start(&self.start, key)
-    }
-
     /// The key, where both bounds include the same one, else `None`.
     pub fn as_point(&self) -> Option<&Bytes>
         ensures { option_copied result ≡ point_of self.now }

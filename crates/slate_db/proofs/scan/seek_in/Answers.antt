@@ -1,4 +1,4 @@
-use Rattle.std.proofs.Common.{[], Some, refl}
+use Rattle.std.proofs.Common.{[], Some}
 use Rattle.slate_types.specs.World.{Checks}
 use Rattle.slate_types.proofs.Calls.{call_none, checks_none}
 use Rattle.slate_types.proofs.Reaching.{reads_none}

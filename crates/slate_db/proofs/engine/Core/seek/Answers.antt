@@ -1,5 +1,5 @@
-use Rattle.std.proofs.Common.{inl, ◌≡◌, ℕ, ◌<◌, List, [], ◌∷◌, ◌++◌, count_by, Some, refl, ap, sym, subst, ◌∙◌}
-use Rattle.std.specs.Prelude.{IsSome, Option}
+use Rattle.std.proofs.Common.{inl, ◌≡◌, ◌<◌, [], ◌∷◌, ◌++◌, count_by, Some, refl, ap, sym, subst, ◌∙◌}
+use Rattle.std.specs.Prelude.{IsSome}
 use Rattle.std.proofs.lemmas.Option.{same_Some}
 use Rattle.slate_types.specs.Outside.{IsCounted}
 use Rattle.slate_types.specs.Iteration.{drop_before}

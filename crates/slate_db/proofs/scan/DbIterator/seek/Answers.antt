@@ -1,4 +1,4 @@
-use Rattle.std.proofs.Common.{◌≡◌, true, false, [], Some, refl, sym, ◌∙◌, arith}
+use Rattle.std.proofs.Common.{◌≡◌, true, false, [], Some, refl, arith}
 use Rattle.std.specs.Prelude.{Ok}
 use Rattle.slate_types.specs.Iteration.{drop_before}
 use Rattle.slate_types.specs.Keys.{is_past_start}
