@@ -66,13 +66,17 @@ module _ (os : Objects) (m : Meaning) (c : CoreModel) (n : ℕ) (ops : Ops) (ran
   pub opened_leaves : (o : ScanOpens os m c n ops range order sources) (rows : MergeIterator ScanSource) (it : DbIterator) → it.state ≡ Walking rows → it.range ≡ range → it.order ≡ order → rows.order ≡ order →
       IsSoundMerge source_rows IsSoundSource order_of rows o.world → rest_of_merge source_rows rows o.world ≡ merged_rows order o.world sources → AreForIn range m (Walking rows) →
       (w : World) × IsWorldOf os m w × Leaves it w (rows_seen (rules_of c.settings m) c.state.commits n ops order range)
-  opened_leaves o rows it state_is range_is order_is same sound rest meant = (o.world, o.is, record {
-    sound = subst (λ (s : ScanState). IsSoundIn it.order s o.world) (sym state_is) (sound, same ∙ sym order_is);
-    bases = subst (AllByRecursion (λ r. is_base r ≡ true)) (sym left_is) o.bases;
-    within = subst (λ (b : BytesRange). AllByRecursion (λ r. in_range b r.key ≡ true) (left_in it.state o.world)) (sym range_is) (subst (AllByRecursion (λ r. in_range range r.key ≡ true)) (sym left_is) o.within);
-    left = ap (filter has_value) left_is ∙ o.left;
-    meant = subst (λ (b : BytesRange). AreForIn b o.world.meaning it.state) (sym range_is) (subst (λ (s : ScanState). AreForIn range o.world.meaning s) (sym state_is) (subst (λ (k : Meaning). AreForIn range k (Walking rows)) (sym o.is.meaning) meant));
-  })
+  opened_leaves o rows it state_is range_is order_is same sound rest meant = (
+    o.world,
+    o.is,
+    record {
+      sound = subst (λ (s : ScanState). IsSoundIn it.order s o.world) (sym state_is) (sound, same ∙ sym order_is);
+      bases = subst (AllByRecursion (λ r. is_base r ≡ true)) (sym left_is) o.bases;
+      within = subst (λ (b : BytesRange). AllByRecursion (λ r. in_range b r.key ≡ true) (left_in it.state o.world)) (sym range_is) (subst (AllByRecursion (λ r. in_range range r.key ≡ true)) (sym left_is) o.within);
+      left = ap (filter has_value) left_is ∙ o.left;
+      meant = subst (λ (b : BytesRange). AreForIn b o.world.meaning it.state) (sym range_is) (subst (λ (s : ScanState). AreForIn range o.world.meaning s) (sym state_is) (subst (λ (k : Meaning). AreForIn range k (Walking rows)) (sym o.is.meaning) meant));
+    },
+  )
     where
       left_is : left_in it.state o.world ≡ merged_rows order o.world sources
       left_is = ap (λ (s : ScanState). left_in s o.world) state_is ∙ rest

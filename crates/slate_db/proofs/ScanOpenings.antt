@@ -263,11 +263,13 @@ module _ (m : Meaning) (c : CoreModel) (x : Unseen) (w : IsWhole c x) (law : IsL
         AllByRecursion Q (merged_rows order v sources)
     all_of_merged Q own in_mem in_run =
         subst (λ (ls : List Rows). AllByRecursion Q (merged order true ls)) (sym rows_are)
-        (all_merged Q order (left_of n own_list lists) (own,
-        subst (AllByRecursion (AllByRecursion Q)) (sym (map_both (filter (upto_seq (Some n))) (rests v order are.in_memory) (rests v order are.in_runs)))
-        (all_append (AllByRecursion Q) (map (filter (upto_seq (Some n))) (rests v order are.in_memory)) (map (filter (upto_seq (Some n))) (rests v order are.in_runs))
-        (all_lists Q range n (reverse (memory c)) (rests v order are.in_memory) in_memory.bring (all_reverse _ (memory c) in_mem))
-        (all_lists Q range n (reverse (in_one runs_of_core.groups)) (rests v order are.in_runs) in_runs.bring (all_reverse _ (in_one runs_of_core.groups) in_run)))))
+        (all_merged Q order (left_of n own_list lists) (
+          own,
+          subst (AllByRecursion (AllByRecursion Q)) (sym (map_both (filter (upto_seq (Some n))) (rests v order are.in_memory) (rests v order are.in_runs)))
+              (all_append (AllByRecursion Q) (map (filter (upto_seq (Some n))) (rests v order are.in_memory)) (map (filter (upto_seq (Some n))) (rests v order are.in_runs))
+              (all_lists Q range n (reverse (memory c)) (rests v order are.in_memory) in_memory.bring (all_reverse _ (memory c) in_mem))
+              (all_lists Q range n (reverse (in_one runs_of_core.groups)) (rests v order are.in_runs) in_runs.bring (all_reverse _ (in_one runs_of_core.groups) in_run))),
+        ))
 
     every_within : (ls : List Rows) → AllByRecursion (λ rows. AllByRecursion (λ r. in_range range r.key ≡ true) (ranged range rows)) ls
     every_within [] = tt

@@ -133,7 +133,7 @@ run_new n p ts [] fits earlier placed = tt
 run_new n p ts (u ∷ us) fits earlier placed = (
   apart_paths n p u ts placed.0 fits placed.1 earlier,
   subst (λ (l : List (List ℕ)). AreNew l (paths_of us)) (map_both (λ t. path_of root t.0.0) ts (u ∷ []))
-  (run_new n (p + 1) (ts ++ (u ∷ [])) us fits (all_append (IsEarlier n (p + 1)) ts (u ∷ []) (still_earlier n p ts earlier) (record { number = n; place = p; id = placed.0; fits = placed.1; earlier = inr (refl, omega arith) }, tt)) placed.2),
+      (run_new n (p + 1) (ts ++ (u ∷ [])) us fits (all_append (IsEarlier n (p + 1)) ts (u ∷ []) (still_earlier n p ts earlier) (record { number = n; place = p; id = placed.0; fits = placed.1; earlier = inr (refl, omega arith) }, tt)) placed.2),
 )
 
 -- of a later flush
@@ -172,7 +172,7 @@ all_found earlier [] h = tt
 all_found earlier (e ∷ here) h = (
   found_in e.0 e.1 earlier here h.0,
   subst (λ (l : Held). AllByRecursion (λ x. find_named x.0 l ≡ Some x.1) here) (append_assoc earlier (e ∷ []) here)
-  (all_found (earlier ++ (e ∷ [])) here (subst (λ (l : List (List ℕ)). AreNew l (map (λ x. x.0) here)) (sym (map_both (λ x. x.0) earlier (e ∷ []))) h.1)),
+      (all_found (earlier ++ (e ∷ [])) here (subst (λ (l : List (List ℕ)). AreNew l (map (λ x. x.0) here)) (sym (map_both (λ x. x.0) earlier (e ∷ []))) h.1)),
 )
 
 -- ---- the world

@@ -68,14 +68,17 @@ own_is range order ops it s iterator upto h = (upto, subst (λ (x : ReadSource).
 -- of a copy of a run
 pub run_is : (range within : BytesRange) (order : IterationOrder) (n : ℕ) (run copy : SortedRun) (it : SortedRunIterator) (s : ScanSource) → s.iterator ≡ Run it → s.predicate.max_seq ≡ Some n → within ≡ range →
     copy.tables.items ≡ run.tables.items → IsRunIterator within copy order it.rows → IsRunSource range order n run s
-run_is range within order n run copy it s iterator upto same tables h = (upto, subst (λ (x : ReadSource). IsOverRun range order run x) (sym iterator) (record {
-  within = h.within ∙ same;
-  fresh = h.fresh;
-  unopened = h.unopened;
-  closed = h.closed;
-  opens = h.opens ∙ (λ i. reached (same i) order (tables i));
-  brings = λ w kepts readable. subst (λ (b : BytesRange). BringsRun w order it.rows (in_turn order (rows_in_run b order kepts))) same (h.brings w kepts (subst (λ (hs : List SsTableHandle). AreReadable w hs kepts) (sym tables) readable));
-}))
+run_is range within order n run copy it s iterator upto same tables h = (
+  upto,
+  subst (λ (x : ReadSource). IsOverRun range order run x) (sym iterator) (record {
+    within = h.within ∙ same;
+    fresh = h.fresh;
+    unopened = h.unopened;
+    closed = h.closed;
+    opens = h.opens ∙ (λ i. reached (same i) order (tables i));
+    brings = λ w kepts readable. subst (λ (b : BytesRange). BringsRun w order it.rows (in_turn order (rows_in_run b order kepts))) same (h.brings w kepts (subst (λ (hs : List SsTableHandle). AreReadable w hs kepts) (sym tables) readable));
+  }),
+)
 
 pub sources_nil : {A B : Type 0} (R : A → B → Type 0) (ys : List B) → ys ≡ [] → AreEach R [] ys
 sources_nil {B = B} R ys none = subst (λ (l : List B). AreEach R [] l) (sym none) tt

@@ -492,10 +492,7 @@ impl Core {
         let how = table_options(prefix, options, &laws.options)?;
         let policies = laws.policies.as_slice();
         let rows = self.opened(id, begin, range, how, policies, env)?;
-        let scan = match self
-            .transactions
-            .note_scan(id, options.order, &rows.range)
-        {
+        let scan = match self.transactions.note_scan(id, options.order, &rows.range) {
             Ok(scan) => scan,
             Err(error) => {
                 drop(rows);
@@ -538,7 +535,10 @@ impl Core {
             Ok(answer) => answer,
             Err(error) => return Err(error),
         };
-        if let Err(error) = self.transactions.note_next(self.alloc, &it.id, it.scan, &answer) {
+        if let Err(error) = self
+            .transactions
+            .note_next(self.alloc, &it.id, it.scan, &answer)
+        {
             drop(answer);
             return Err(it.rows.refuse(SlateDBError::from(error)));
         }
@@ -573,7 +573,10 @@ impl Core {
         if let Err(error) = it.rows.seek(key, env) {
             return Err(error);
         }
-        if let Err(error) = self.transactions.note_seek(self.alloc, &it.id, it.scan, key) {
+        if let Err(error) = self
+            .transactions
+            .note_seek(self.alloc, &it.id, it.scan, key)
+        {
             return Err(it.rows.refuse(SlateDBError::from(error)));
         }
         Ok(())

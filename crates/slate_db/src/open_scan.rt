@@ -122,10 +122,7 @@ fn copy_handle(handle: &SsTableHandle) -> Result<SsTableHandle, AllocError>
 }
 
 /// A copy of what is kept of tables. It shares their keys.
-fn copy_handles(
-    alloc: Global,
-    handles: &[SsTableHandle],
-) -> Result<Vec<SsTableHandle>, AllocError>
+fn copy_handles(alloc: Global, handles: &[SsTableHandle]) -> Result<Vec<SsTableHandle>, AllocError>
     ensures { IfOk result (λ copies. copies.items ≡ handles.now) }
 {
     let mut copies = Vec::new(alloc);

@@ -40,9 +40,10 @@ returns g c =
           let mine = c.in_ok-sources.ensures.sources u.ops (record { rows = own.rows u (there u at); in_order = own.in_order; turn = own.turn; same_order = own.order }) in
           scan_leaves before after v x c.self.invariant c.args.range order c.args.begin u.ops (c.own_range.ensures.plain u (there u at)) from c.in_ok-sources.sources.items mine a
           c.in_ok-rows.rows c.new.result made.state made.range made.order rows.same.0 rows.sound rows.rows rows.later.0 rows.later.2);
-      later = subst (λ (k : CoreModel). IsFor m c.new.result × Made before after (λ reads. (later : List Act) (at : Option (List ℕ)) (e : SlateDBError) → ScanRefuses c.new.result m later at e → IsRefusedByScan m k (reads ++ later) e)) c.self.view_is
-          (scan_is_for m v x c.self.invariant c.args.range order c.args.begin t.ops _ c.in_ok-sources.sources.items are c.in_ok-rows.rows c.new.result rows.later.0 made.state made.range rows.later.2,
-          (rows.later.0, rows.later.1, scan_refused m v x c.self.invariant c.args.range order c.args.begin t.ops _ c.in_ok-sources.sources.items are c.in_ok-rows.rows c.new.result rows.later.0 made.state made.range rows.later.2));
+      later = subst (λ (k : CoreModel). IsFor m c.new.result × Made before after (λ reads. (later : List Act) (at : Option (List ℕ)) (e : SlateDBError) → ScanRefuses c.new.result m later at e → IsRefusedByScan m k (reads ++ later) e)) c.self.view_is (
+        scan_is_for m v x c.self.invariant c.args.range order c.args.begin t.ops _ c.in_ok-sources.sources.items are c.in_ok-rows.rows c.new.result rows.later.0 made.state made.range rows.later.2,
+        (rows.later.0, rows.later.1, scan_refused m v x c.self.invariant c.args.range order c.args.begin t.ops _ c.in_ok-sources.sources.items are c.in_ok-rows.rows c.new.result rows.later.0 made.state made.range rows.later.2),
+      );
       undamaged = λ from a. tt;
       cause = tt;
       range = made.range;
