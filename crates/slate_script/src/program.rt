@@ -24,7 +24,7 @@ use crate::run::run_script;
 use slate_db::laws::Laws;
 use slate_language::{Generated, Xor, parse_generated, parse_words};
 use slate_store::{Env, Sink, Source, Store};
-use slate_types::{NoExtractor, NoOperator, Options, SlateDBError};
+use slate_types::{NoExtractor, NoOperator, SlateDBError};
 use std::alloc::Global;
 
 /// Runs a script over the store, as the words say, and answers the status to end with: 0
@@ -122,7 +122,11 @@ pub fn run_main<R: Source, W: Sink, S: Store>(
         operator,
         transformer: transformer_of(settings.mask),
     };
-    let laws = plain_laws(alloc, settings.options);
+    let laws: Laws<NoExtractor> = Laws {
+        options: settings.options,
+        segments: None,
+        policies: Vec::new(alloc),
+    };
     let ran = run_script(alloc, source, sink, &mut env, &laws);
     drop(laws);
     match ran {
@@ -167,7 +171,11 @@ fn main_generated<W: Sink, S: Store>(
         operator,
         transformer: transformer_of(generated.settings.mask),
     };
-    let laws = plain_laws(alloc, generated.settings.options);
+    let laws: Laws<NoExtractor> = Laws {
+        options: generated.settings.options,
+        segments: None,
+        policies: Vec::new(alloc),
+    };
     let ran = run_generated(
         alloc,
         generated.rounds,
@@ -184,17 +192,6 @@ fn main_generated<W: Sink, S: Store>(
             drop(error);
             status
         }
-    }
-}
-
-/// Laws without segments and filters.
-fn plain_laws(alloc: Global, options: Options) -> Laws<NoExtractor>
-    ensures { result.options ≡ options }
-{
-    Laws {
-        options,
-        segments: None,
-        policies: Vec::new(alloc),
     }
 }
 
