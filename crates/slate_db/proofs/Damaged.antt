@@ -27,11 +27,11 @@ contains_at (y ∷ xs) (suc i) x h = let r = contains_at xs i x h in (suc r.0, (
 
 -- ---- fields
 
-bound : {A B : Type 0} (r : Result A SlateDBError) (f : A → Result B SlateDBError) → IfErr r IsUnreadable → ((x : A) → IfErr (f x) IsUnreadable) → IfErr (r >>= f) IsUnreadable
+pub bound : {A B : Type 0} (r : Result A SlateDBError) (f : A → Result B SlateDBError) → IfErr r IsUnreadable → ((x : A) → IfErr (f x) IsUnreadable) → IfErr (r >>= f) IsUnreadable
 bound (Ok x) f h g = g x
 bound (Err e) f h g = h
 
-passes : {A : Type 0} (t : Bool) (x : A) (e : SlateDBError) → IsUnreadable e → IfErr (cond t (Ok x) (Err e)) IsUnreadable
+pub passes : {A : Type 0} (t : Bool) (x : A) (e : SlateDBError) → IsUnreadable e → IfErr (cond t (Ok x) (Err e)) IsUnreadable
 passes true x e h = tt
 passes false x e h = h
 
@@ -43,11 +43,11 @@ fails_or : {A : Type 0} (t : Bool) (e : SlateDBError) (r : Result A SlateDBError
 fails_or true e r h rest = h
 fails_or false e r h rest = rest
 
-number_damage : (w : Width) (bytes : List ℕ) (at : ℕ) → IfErr (number_field w bytes at) IsUnreadable
+pub number_damage : (w : Width) (bytes : List ℕ) (at : ℕ) → IfErr (number_field w bytes at) IsUnreadable
 unfolding number_field
 number_damage w bytes at = fails (nat_lt (length (drop at bytes)) (byte_len w)) (from_be_bytes w (take (byte_len w) (drop at bytes)), at + byte_len w) (CorruptTable at) tt
 
-block_damage : (len : ℕ) (bytes : List ℕ) (at : ℕ) → IfErr (block_field len bytes at) IsUnreadable
+pub block_damage : (len : ℕ) (bytes : List ℕ) (at : ℕ) → IfErr (block_field len bytes at) IsUnreadable
 unfolding block_field
 block_damage len bytes at = fails (nat_lt (length (drop at bytes)) len) (at, at + len) (CorruptTable at) tt
 
@@ -133,7 +133,7 @@ block_unreadable decode answer e h = section_damage decode offsets_of_block answ
 
 -- ---- rows of a block
 
-in_block : (e : SlateDBError) → IsBlockDamage e → IsUnreadable e
+pub in_block : (e : SlateDBError) → IsBlockDamage e → IsUnreadable e
 in_block (CorruptTable place) h = tt
 in_block (InvalidRowFlags b) h = tt
 in_block _ h = absurd h

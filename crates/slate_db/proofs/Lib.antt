@@ -68,3 +68,4 @@ mod ScanOpenings
 mod ScanRefusals
 mod OpenNotes
 mod ScanMerges
+pub mod RowDamage

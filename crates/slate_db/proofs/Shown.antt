@@ -269,6 +269,10 @@ known_all (t ∷ ts) (h ∷ hs) are = (are.0.version, known_all ts hs are.1)
 known_all [] (h ∷ hs) are = absurd are
 known_all (t ∷ ts) [] are = absurd are
 
+-- each of them is of version 1 or 2
+pub known_version : (ts : List (Ulid × List ℕ)) (hs : List SsTableHandle) (h : SsTableHandle) → AreHandles ts hs → Contains hs h → (h.format_version ≡ 1) ⊎ (h.format_version ≡ 2)
+known_version ts hs h are among = All-contains (λ (x : SsTableHandle). (x.format_version ≡ 1) ⊎ (x.format_version ≡ 2)) hs h (All-from_recursion _ hs (known_all ts hs are)) among
+
 pub journal_damage : (a b : Reach) (c : CoreModel) (hs : List SsTableHandle) (e : SlateDBError) → AreHandles (tables_of c.events) hs →
     IsFault a b e ⊎ Made a b (λ reads. ShowsDamage a.meaning.decode hs reads e) ⊎ ((x : SsTableHandle) × Contains hs x × IsUnknown x.format_version e) → IsReadError a b c e
 journal_damage a b c hs e are (inl f) = inl f
@@ -316,7 +320,7 @@ fold_refused a b d c hs k n near found e are is later objects meaning acts made 
 
 -- ---- the kinds of these errors
 
-unreadable_kind : (e : SlateDBError) → IsUnreadable e → IsTableError e
+pub unreadable_kind : (e : SlateDBError) → IsUnreadable e → IsTableError e
 unreadable_kind (CorruptTable place) h = tt
 unreadable_kind (ChecksumMismatch stored computed) h = tt
 unreadable_kind (InvalidRowFlags bits) h = tt

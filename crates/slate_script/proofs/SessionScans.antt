@@ -22,6 +22,7 @@ use Rattle.slate_txn.specs.Reply as replies
 use Rattle.slate_txn.specs.Reply.{Reply}
 use Rattle.slate_txn.specs.State.{Commit, Rules, State}
 use Rattle.slate_txn.specs.Step.{is_scan, noted, reader, reader_or_snapshot, scan, scan_walked, step, tx_reader}
+use Rattle.slate_db.proofs.RowDamage.{scan_kind}
 use Rattle.slate_db.specs.Meaning.{Meaning, rules_of}
 use Rattle.slate_db.specs.Model.{CoreModel}
 use Rattle.slate_db.specs.Parts.{IsTableError}
@@ -115,14 +116,10 @@ scan-found m e core name id order start end range sts rows a names known some st
 
 -- ---- why it is refused
 
--- what the reads of a scan show is an error of a table
-pub scan-kind : (m : Meaning) (c : CoreModel) (reads : List Act) (e : SlateDBError) → IsRefusedByScan m c reads e → IsTableError e
-scan-kind m c reads e h = ?
-
 pub scan-limit : {V : Type 0} (result : Result V SlateDBError) (before after : Reach) (e : SessionModel) → IfErr result (IsScanError before after e.core) → IfErr result (λ x. IsFault before after x ⊎ IsLimit e x ⊎ IsTableError x)
 scan-limit (Ok v) before after e cause = tt
 scan-limit (Err x) before after e (inl fault) = inl fault
-scan-limit (Err x) before after e (inr made) = inr (inr (scan-kind before.meaning e.core made.0 x made.2))
+scan-limit (Err x) before after e (inr made) = inr (inr (scan_kind before.meaning e.core made.0 x made.2))
 
 pub scan-shown : {V : Type 0} (result : Result V SlateDBError) (before after : Reach) (e : SessionModel) → IfErr result (IsScanError before after e.core) → IfErr result (λ x. IsTableError x → Made before after (λ reads. IsRefusedByScan before.meaning e.core reads x))
 scan-shown (Ok v) before after e cause = tt
