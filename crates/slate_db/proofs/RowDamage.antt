@@ -9,7 +9,8 @@ use Rattle.slate_types.specs.Outside.{Act, Meaning}
 use Rattle.slate_block.specs.declared.block.Block.{Block}
 use Rattle.slate_block.specs.declared.flags.RowFlags.{RowFlags}
 use Rattle.slate_block.specs.BlockWalks.{IsBlockDamage}
-use Rattle.slate_block.specs.Damage.{◌>>=◌, are_flags, block_field, flags_at, flags_field, has, head_layout, key_layout_v1, layout_v1, number_field, row_flags, stamp_field, stamps_layout, value_layout}
+use Rattle.slate_block.specs.Damage.{◌>>=◌, block_field, flags_at, flags_field, has, head_layout, key_layout_v1, layout_v1, number_field, row_flags, stamp_field, stamps_layout, value_layout}
+use Rattle.slate_block.specs.RowSpelling.{are_flags}
 use Rattle.slate_block.specs.RowReading.{row_v1_of}
 use Rattle.slate_block.specs.Walks.{are_named, between, block_reads, block_reads_v1, first_key_v1, is_restored, moved, moved_result, next_place, reads_v2, row_upto, row_v1_in}
 use Rattle.slate_table.specs.declared.info.SsTableHandle.{SsTableHandle}
