@@ -26,7 +26,7 @@ pub returns-in_default : goal.returns-in_default
 returns-in_default g c =
     record {
       step = (λ is.
-          let before : SessionModel = record { core = c.self.inside.core; names = c.self.inside.names.entries; now = c.self.inside.now } in
+          let before : SessionModel = record { core = c.self.inside.core; names = c.self.inside.names.entries; snapshot_names = c.self.inside.snapshot_names.entries; now = c.self.inside.now } in
           let m = meaning_of g.M.MergeOperator.combine g.T.BlockTransformer.encoded g.T.BlockTransformer.decoded c.args.env.now.operator c.args.env.now.transformer in
           let none : find_named c.args.name before.names ≡ None = find_named-lookup c.args.name before.names ∙ sym c.in_default.ensures.value in
           subst (λ (v : SessionModel). AnswersAs m v v (lines.Get c.args.name c.args.key) (Ok (answers.Refused (errors.UnknownTransaction c.args.name)))) c.self.view_is
@@ -52,7 +52,7 @@ pub returns : goal.returns
 returns g c =
     record {
       step = (λ is.
-          let before : SessionModel = record { core = c.self.inside.core; names = c.self.inside.names.entries; now = c.self.inside.now } in
+          let before : SessionModel = record { core = c.self.inside.core; names = c.self.inside.names.entries; snapshot_names = c.self.inside.snapshot_names.entries; now = c.self.inside.now } in
           let m = meaning_of g.M.MergeOperator.combine g.T.BlockTransformer.encoded g.T.BlockTransformer.decoded c.args.env.now.operator c.args.env.now.transformer in
           let old = reach_of g.S.Store g.M.MergeOperator g.T.BlockTransformer c.args.env.now in
           let new = reach_of g.S.Store g.M.MergeOperator g.T.BlockTransformer c.get-read.new.env in
@@ -60,13 +60,13 @@ returns g c =
           subst (λ (v : SessionModel). AnswersAs m v (record before { core = c.get-read.new.self }) (lines.Get c.args.name c.args.key) (Ok (answers.Found c.in_ok-row.row))) c.self.view_is
           (get-found m before c.get-read.new.self c.args.name c.in-Some.id.now c.args.key c.in_ok-row.row c.self.invariant.0 (find_named-lookup c.args.name before.names ∙ sym c.in-Some.ensures.value)
           (subst (λ (k : List ℕ). ◌≡◌ {A = State × Reply} (step (rules_of c.self.inside.core.settings m) c.self.inside.core.state (lines.Get c.in-Some.id.now k)) (c.get-read.new.self.state, replies.Found c.in_ok-row.row)) c.as_slice.ensures stepped)));
-      stores = (let before : SessionModel = record { core = c.self.inside.core; names = c.self.inside.names.entries; now = c.self.inside.now } in
+      stores = (let before : SessionModel = record { core = c.self.inside.core; names = c.self.inside.names.entries; snapshot_names = c.self.inside.snapshot_names.entries; now = c.self.inside.now } in
           let same : length c.get-read.new.self.events ≡ length c.self.inside.core.events = ap (λ (v : CoreModel). length v.events) c.in_ok-row.ensures.noted in
           subst (λ (v : SessionModel). StoresNothing v (record before { core = c.get-read.new.self })) c.self.view_is
           (record { settings = c.get-read.ensures.settings; runs = ap (λ (v : CoreModel). runs_of v.events) c.in_ok-row.ensures.noted; later = omega (arith, same); kept = c.get-read.ensures.kept }));
-      grows = (let before : SessionModel = record { core = c.self.inside.core; names = c.self.inside.names.entries; now = c.self.inside.now } in
+      grows = (let before : SessionModel = record { core = c.self.inside.core; names = c.self.inside.names.entries; snapshot_names = c.self.inside.snapshot_names.entries; now = c.self.inside.now } in
           subst (λ (v : SessionModel). Grows (lines.Get c.args.name c.args.key) v (record before { core = c.get-read.new.self })) c.self.view_is
-          (grows before c.get-read.new.self before.names before.now (lines.Get c.args.name c.args.key) 0 (omega arith)
+          (grows before c.get-read.new.self before.names before.snapshot_names before.now (lines.Get c.args.name c.args.key) 0 (omega arith)
           (takes-noted c.self.inside.core c.get-read.new.self _ c.in_ok-row.ensures.noted (as-many c.in-Some.id.now _ c.self.inside.core.state.txns) (own-kept c.in-Some.id.now _ c.self.inside.core.state.txns (λ t. refl)))));
       cause = tt;
       undamaged = λ is. tt;

@@ -20,7 +20,7 @@ pub returns-in_default : goal.returns-in_default
 returns-in_default c =
     record {
       step = (λ m.
-          let before : SessionModel = record { core = c.self.inside.core; names = c.self.inside.names.entries; now = c.self.inside.now } in
+          let before : SessionModel = record { core = c.self.inside.core; names = c.self.inside.names.entries; snapshot_names = c.self.inside.snapshot_names.entries; now = c.self.inside.now } in
           let none : find_named c.args.name before.names ≡ None = find_named-lookup c.args.name before.names ∙ sym c.in_default.ensures.value in
           subst (λ (v : SessionModel). AnswersAs m v (record before { names = c.remove.new.self.entries }) (lines.Rollback c.args.name) (Ok (answers.Refused (errors.UnknownTransaction c.args.name)))) c.self.view_is
           (subst (λ (ns : List (List ℕ × List ℕ)). AnswersAs m before (record before { names = ns }) (lines.Rollback c.args.name) (Ok (answers.Refused (errors.UnknownTransaction c.args.name)))) (sym c.in_default.ensures.unchanged)
@@ -32,7 +32,7 @@ returns-in_default c =
             later = omega (arith, same);
             kept = λ m k. subst (λ (v : SessionModel). IsKept m v.core) (sym c.self.view_is) k;
           });
-      grows = (let before : SessionModel = record { core = c.self.inside.core; names = c.self.inside.names.entries; now = c.self.inside.now } in
+      grows = (let before : SessionModel = record { core = c.self.inside.core; names = c.self.inside.names.entries; snapshot_names = c.self.inside.snapshot_names.entries; now = c.self.inside.now } in
           subst (λ (v : SessionModel). Grows (lines.Rollback c.args.name) v (record before { names = c.remove.new.self.entries })) c.self.view_is (omega arith, omega arith));
     }
 
@@ -52,15 +52,15 @@ pub returns : goal.returns
 returns c =
     record {
       step = (λ m.
-          let before : SessionModel = record { core = c.self.inside.core; names = c.self.inside.names.entries; now = c.self.inside.now } in
+          let before : SessionModel = record { core = c.self.inside.core; names = c.self.inside.names.entries; snapshot_names = c.self.inside.snapshot_names.entries; now = c.self.inside.now } in
           subst (λ (v : SessionModel). AnswersAs m v (record before { core = c.rollback.new.self; names = c.remove.new.self.entries }) (lines.Rollback c.args.name) (Ok answers.Done)) c.self.view_is
           (rollback-closes m before c.rollback.new.self c.remove.new.self.entries c.args.name c.in-Some.id c.self.invariant.0 (find_named-lookup c.args.name before.names ∙ sym c.in-Some.ensures.value)
           (closes (rules_of before.core.settings m) before.core.state c.rollback.new.self.state c.in-Some.id (c.rollback.ensures.step m))
           (λ q. named-after c.args.name q None before.names c.remove.new.self.entries (c.remove.ensures.updates.0 q))));
-      stores = (let before : SessionModel = record { core = c.self.inside.core; names = c.self.inside.names.entries; now = c.self.inside.now } in
+      stores = (let before : SessionModel = record { core = c.self.inside.core; names = c.self.inside.names.entries; snapshot_names = c.self.inside.snapshot_names.entries; now = c.self.inside.now } in
           subst (λ (v : SessionModel). StoresNothing v (record before { core = c.rollback.new.self; names = c.remove.new.self.entries })) c.self.view_is
-          (stores before c.rollback.new.self c.remove.new.self.entries before.now (leaves-event c.self.inside.core c.rollback.new.self (events.End c.in-Some.id) c.rollback.ensures.event refl) c.rollback.ensures.kept));
-      grows = (let before : SessionModel = record { core = c.self.inside.core; names = c.self.inside.names.entries; now = c.self.inside.now } in
+          (stores before c.rollback.new.self c.remove.new.self.entries before.snapshot_names before.now (leaves-event c.self.inside.core c.rollback.new.self (events.End c.in-Some.id) c.rollback.ensures.event refl) c.rollback.ensures.kept));
+      grows = (let before : SessionModel = record { core = c.self.inside.core; names = c.self.inside.names.entries; snapshot_names = c.self.inside.snapshot_names.entries; now = c.self.inside.now } in
           let few : length c.rollback.new.self.state.txns ≤ length c.self.inside.core.state.txns =
           subst (λ (s : State). length s.txns ≤ length c.self.inside.core.state.txns) (sym (closes (rules_of c.self.inside.core.settings plain-meaning) c.self.inside.core.state c.rollback.new.self.state c.in-Some.id (c.rollback.ensures.step plain-meaning)))
           (fewer c.in-Some.id c.self.inside.core.state.txns) in
@@ -68,6 +68,6 @@ returns c =
           subst (λ (s : State). own_load s.txns ≤ own_load c.self.inside.core.state.txns) (sym (closes (rules_of c.self.inside.core.settings plain-meaning) c.self.inside.core.state c.rollback.new.self.state c.in-Some.id (c.rollback.ensures.step plain-meaning)))
           (own-fewer c.in-Some.id c.self.inside.core.state.txns) in
           subst (λ (v : SessionModel). Grows (lines.Rollback c.args.name) v (record before { core = c.rollback.new.self; names = c.remove.new.self.entries })) c.self.view_is
-          (grows before c.rollback.new.self c.remove.new.self.entries before.now (lines.Rollback c.args.name) 0 (omega arith)
+          (grows before c.rollback.new.self c.remove.new.self.entries before.snapshot_names before.now (lines.Rollback c.args.name) 0 (omega arith)
           (takes-event c.self.inside.core c.rollback.new.self (events.End c.in-Some.id) c.rollback.ensures.event (omega (arith, few)) less)));
     }

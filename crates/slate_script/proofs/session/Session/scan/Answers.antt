@@ -27,7 +27,7 @@ use Rattle.slate_script.proofs.session.Session.scan.Goals as goal
 
 pub returns-in_default-clause-step : goal.returns-in_default-clause-step
 returns-in_default-clause-step g c = λ is.
-    let before : SessionModel = record { core = c.self.inside.core; names = c.self.inside.names.entries; now = c.self.inside.now } in
+    let before : SessionModel = record { core = c.self.inside.core; names = c.self.inside.names.entries; snapshot_names = c.self.inside.snapshot_names.entries; now = c.self.inside.now } in
     let m = meaning_of g.M.MergeOperator.combine g.T.BlockTransformer.encoded g.T.BlockTransformer.decoded c.args.env.now.operator c.args.env.now.transformer in
     let none : find_named c.args.name before.names ≡ None = find_named-lookup c.args.name before.names ∙ sym c.in_default.ensures.value in
     subst (λ (v : SessionModel). AnswersAs m v v (lines.Scan c.args.name c.args.order c.args.start c.args.end c.args.steps) (Ok (answers.Refused (errors.UnknownTransaction c.args.name)))) c.self.view_is
@@ -35,7 +35,7 @@ returns-in_default-clause-step g c = λ is.
 
 pub returns-in_default-try_new-clause-step : goal.returns-in_default-try_new-clause-step
 returns-in_default-try_new-clause-step g c = λ is.
-    let before : SessionModel = record { core = c.self.inside.core; names = c.self.inside.names.entries; now = c.self.inside.now } in
+    let before : SessionModel = record { core = c.self.inside.core; names = c.self.inside.names.entries; snapshot_names = c.self.inside.snapshot_names.entries; now = c.self.inside.now } in
     let m = meaning_of g.M.MergeOperator.combine g.T.BlockTransformer.encoded g.T.BlockTransformer.decoded c.args.env.now.operator c.args.env.now.transformer in
     let none : range_of c.args.start c.args.end ≡ None = sym c.try_new.ensures ∙ c.in_default-try_new.is in
     subst (λ (v : SessionModel). AnswersAs m v v (lines.Scan c.args.name c.args.order c.args.start c.args.end c.args.steps) (Ok (answers.Refused errors.InvalidRange))) c.self.view_is
@@ -63,7 +63,7 @@ invariant_of-self-2 g c =
 
 pub returns-clause-step : goal.returns-clause-step
 returns-clause-step g c = λ is.
-    let before : SessionModel = record { core = c.self.inside.core; names = c.self.inside.names.entries; now = c.self.inside.now } in
+    let before : SessionModel = record { core = c.self.inside.core; names = c.self.inside.names.entries; snapshot_names = c.self.inside.snapshot_names.entries; now = c.self.inside.now } in
     let m = meaning_of g.M.MergeOperator.combine g.T.BlockTransformer.encoded g.T.BlockTransformer.decoded c.args.env.now.operator c.args.env.now.transformer in
     let old = reach_of g.S.Store g.M.MergeOperator g.T.BlockTransformer c.args.env.now in
     let new = reach_of g.S.Store g.M.MergeOperator g.T.BlockTransformer c.scan_rows-scanned.new.env in
@@ -75,7 +75,7 @@ returns-clause-step g c = λ is.
 
 pub returns-clause-grows : goal.returns-clause-grows
 returns-clause-grows g c =
-    let before : SessionModel = record { core = c.self.inside.core; names = c.self.inside.names.entries; now = c.self.inside.now } in
+    let before : SessionModel = record { core = c.self.inside.core; names = c.self.inside.names.entries; snapshot_names = c.self.inside.snapshot_names.entries; now = c.self.inside.now } in
     subst (λ (v : SessionModel). Grows (lines.Scan c.args.name c.args.order c.args.start c.args.end c.args.steps) v (record before { core = c.scan_rows-scanned.new.core })) c.self.view_is
-    (grows before c.scan_rows-scanned.new.core before.names before.now (lines.Scan c.args.name c.args.order c.args.start c.args.end c.args.steps) 0 (omega arith)
+    (grows before c.scan_rows-scanned.new.core before.names before.snapshot_names before.now (lines.Scan c.args.name c.args.order c.args.start c.args.end c.args.steps) 0 (omega arith)
     (takes-noted c.self.inside.core c.scan_rows-scanned.new.core _ c.in_ok-rows.ensures.scanned.notes (as-many c.in-Some.id.now _ c.self.inside.core.state.txns) (own-kept c.in-Some.id.now _ c.self.inside.core.state.txns (λ t. refl))))
