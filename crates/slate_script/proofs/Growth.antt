@@ -53,18 +53,6 @@ takes-nothing old new events txns snapshots same =
 pub takes-same : (old new : CoreModel) → IsSame old new → Takes old new 0
 takes-same old new is = takes-nothing old new (ap (λ (c : CoreModel). c.events) is) (ap (λ (c : CoreModel). c.state.txns) is) (ap (λ (c : CoreModel). c.state.snapshots) is) (ap load is)
 
-pub takes-noted : (old new : CoreModel) (id : List ℕ) (ts : List TranscriptStep) → new ≡ record old { state = noted old.state id ts } → Takes old new 0
-takes-noted old new id ts is =
-    let n : length new.events ≡ length old.events = ap (λ (c : CoreModel). length c.events) is in
-    let k : length new.state.txns ≡ length old.state.txns = ap (λ (c : CoreModel). length c.state.txns) is ∙ as-many id f old.state.txns in
-    let l : length new.state.snapshots ≡ length old.state.snapshots = ap (λ (c : CoreModel). length c.state.snapshots) is in
-    let o : own_load new.state.txns ≡ own_load old.state.txns = ap (λ (c : CoreModel). own_load c.state.txns) is ∙ own-kept id f old.state.txns (λ t. refl) in
-    let same : load new ≡ load old = ap load is in
-    takes-some old new 0 0 0 (omega arith) (omega (arith, n)) (omega (arith, k, l)) (omega (arith, o)) (omega (arith, same)) (omega arith)
-  where
-    f : Tx → Tx
-    f t = record t { transcript = t.transcript ++ ts }
-
 -- a freeze
 frozen-events : (old new : CoreModel) → IsFrozen old new → length new.events ≤ length old.events + 1
 frozen-events old new (inl same) = let n : length new.events ≡ length old.events = ap (λ (c : CoreModel). length c.events) same.1 in omega (arith, n)
@@ -253,6 +241,19 @@ own-kept k f (p ∷ ps) keeps = by (bytes_eq p.0 k) (own-kept k f ps keeps)
     by false rest = own-cons p (update_named k f ps) ∙ ap (λ n. ops_load p.1.ops + n) rest ∙ sym (own-cons p ps)
 
 -- ---- an operation, and a commit
+
+-- what is noted adds nothing
+pub takes-noted : (old new : CoreModel) (id : List ℕ) (ts : List TranscriptStep) → new ≡ record old { state = noted old.state id ts } → Takes old new 0
+takes-noted old new id ts is =
+    let n : length new.events ≡ length old.events = ap (λ (c : CoreModel). length c.events) is in
+    let k : length new.state.txns ≡ length old.state.txns = ap (λ (c : CoreModel). length c.state.txns) is ∙ as-many id f old.state.txns in
+    let l : length new.state.snapshots ≡ length old.state.snapshots = ap (λ (c : CoreModel). length c.state.snapshots) is in
+    let o : own_load new.state.txns ≡ own_load old.state.txns = ap (λ (c : CoreModel). own_load c.state.txns) is ∙ own-kept id f old.state.txns (λ t. refl) in
+    let same : load new ≡ load old = ap load is in
+    takes-some old new 0 0 0 (omega arith) (omega (arith, n)) (omega (arith, k, l)) (omega (arith, o)) (omega (arith, same)) (omega arith)
+  where
+    f : Tx → Tx
+    f t = record t { transcript = t.transcript ++ ts }
 
 -- an operation that ran, which adds n to what the transaction holds
 pub takes-ran : {T : Type 0} (ran : Result T SlateDBError) (old new : CoreModel) (id : List ℕ) (f : Tx → Tx) (n : ℕ) → OnOk ran (new ≡ operated old id f) → OnErr ran (new ≡ old) →
