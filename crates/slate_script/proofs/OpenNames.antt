@@ -138,7 +138,8 @@ apart_changed id f as bs h q = by (bytes_eq id q) refl (h q)
     by : (b : Bool) → bytes_eq id q ≡ b → (find_named q as ≡ None) ⊎ (find_named q bs ≡ None) → (find_named q (update_named id f as) ≡ None) ⊎ (find_named q bs ≡ None)
     by true e (inl was) = inl (find_named-updated id q f as ∙ ap (λ b. cond b (option_map f (find_named q as)) (find_named q as)) e ∙ ap (option_map f) was)
     by false e (inl was) = inl (find_named-updated id q f as ∙ ap (λ b. cond b (option_map f (find_named q as)) (find_named q as)) e ∙ was)
-    by b e (inr was) = inr was
+    by true e (inr was) = inr was
+    by false e (inr was) = inr was
 
 -- what one has, the other has not
 pub apart_first : {X Y : Type 0} (as : List (List ℕ × X)) (bs : List (List ℕ × Y)) (q : List ℕ) → AreApart as bs → IsSome (find_named q as) → find_named q bs ≡ None

@@ -187,6 +187,6 @@ names-ran (Err x) old new id f names shown is same h = subst (λ (c : CoreModel)
 
 -- ---- what is open stays as it is
 
-pub names-same : {names shown : Names} {old new : CoreModel} → new.state.txns ≡ old.state.txns → new.state.snapshots ≡ old.state.snapshots →
+pub names-same : (old new : CoreModel) (names shown : Names) → new.state.txns ≡ old.state.txns → new.state.snapshots ≡ old.state.snapshots →
     NamesStand names shown old.state.txns old.state.snapshots → NamesStand names shown new.state.txns new.state.snapshots
-names-same {names} {shown} {old} {new} txns snapshots h = subst (λ ts. NamesStand names shown ts new.state.snapshots) (sym txns) (subst (λ ss. NamesStand names shown old.state.txns ss) (sym snapshots) h)
+names-same old new names shown txns snapshots h = subst (λ ts. NamesStand names shown ts new.state.snapshots) (sym txns) (subst (λ ss. NamesStand names shown old.state.txns ss) (sym snapshots) h)
