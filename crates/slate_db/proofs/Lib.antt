@@ -1,4 +1,6 @@
 mod Lists
+mod ApartIds
+mod Barriers
 mod Journals
 mod Split
 mod Short
