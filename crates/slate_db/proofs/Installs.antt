@@ -10,6 +10,7 @@ use Rattle.slate_table.specs.declared.info.SsTableHandle.{SsTableHandle}
 use Rattle.slate_table.specs.Parts.{Encode}
 use Rattle.slate_table.specs.Table.{AreInOrder, IsTable}
 use Rattle.slate_table.proofs.CutLaws.{built_has}
+use Rattle.slate_txn.proofs.BarrierLaws.{start_above}
 use Rattle.slate_txn.specs.declared.event.Event.{Event}
 use Rattle.slate_txn.specs.declared.event.Event.TheVariants as events
 use Rattle.slate_txn.specs.State.{Rules, Commit, opening, last_of}
@@ -40,7 +41,6 @@ use Rattle.slate_db.proofs.MemoryRows.{rising_behind}
 use Rattle.slate_db.proofs.Quiet.{quiet_more}
 use Rattle.slate_db.proofs.Logs.{tables_more}
 use Rattle.slate_db.proofs.MemoryLayers.{frozen_rise}
-use Rattle.slate_db.proofs.Barriers.{floor_start}
 use Rattle.slate_db.proofs.Versions.{short_versions, short_by_key}
 
 tables_append : (m : Meaning) (ts us : List (Ulid × List ℕ)) (layers more : List Rows) → AreTables m ts layers → AreTables m us more → AreTables m (ts ++ us) (layers ++ more)
@@ -69,7 +69,7 @@ kept_install m c u ts spare limit rows parts w idle tables order cut folded kept
     rise = λ k. subst (λ (xs : Rows). AreRising xs) (sym (same k z.layers))
         (tables_rise m (least_start u.last c.state) (installed c.events) k z.layers c.frozen rows folded (z.rise k) z.within (frozen_rise (layers_of c u) w.layers k) (subst (AllByRecursion (λ x. installed c.events < x.seq)) (sym (tied k)) (rows_above r k (installed c.events) cs)));
     folds = λ k x h.
-        let below : c.floor ≤ x = (let f : c.floor ≤ least_start u.last c.state = floor_start u.last c.floor u.last c.state w.tied.floor_within w.tied.begins w.tied.shows in omega arith) in
+        let below : c.floor ≤ x = (let f : c.floor ≤ least_start u.last c.state = start_above c.floor u.last c.state w.tied.floor_within (all_map _ _ (λ p h. h.0) c.state.txns w.tied.begins) (all_map _ _ (λ p h. h.0) c.state.snapshots w.tied.shows) in omega arith) in
         ap (λ xs. fold_rows (combine_of m k) (at_most x xs)) (same k z.layers ∙ flat_map-append (versions k) z.layers (rows ∷ []) ∙ ap (λ xs. versions_in k z.layers ++ xs) (append-nil (versions k rows)))
         ∙ ap (fold_rows (combine_of m k)) (filter-append (λ r. nat_le r.seq x) (versions_in k z.layers) (versions k rows))
         ∙ ap (λ xs. fold_rows (combine_of m k) (at_most x (versions_in k z.layers) ++ at_most x xs)) (folded k)

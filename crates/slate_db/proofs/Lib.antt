@@ -1,6 +1,5 @@
 mod Lists
 mod ApartIds
-mod Barriers
 mod Journals
 mod Split
 mod Short

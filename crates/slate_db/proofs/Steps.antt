@@ -10,7 +10,7 @@ use Rattle.slate_db.specs.Meaning.{Meaning, rules_of}
 use Rattle.slate_db.specs.Model.{CoreModel}
 use Rattle.slate_txn.specs.Ids.{id_of, snapshot_id}
 use Rattle.slate_db.specs.Whole.{IsWhole, Unseen}
-use Rattle.slate_db.proofs.Wholes.{after_begin, after_end, after_release, after_snapshot, fresh_begun, fresh_snapshot, no_transaction, same_snapshots, same_transactions, unbegun_snapshot, unshown_begun}
+use Rattle.slate_db.proofs.Wholes.{after_begin, after_end, after_release, after_snapshot, fresh_begun, fresh_shown, no_transaction, same_snapshots, same_transactions, unbegun_shown, unshown_begun}
 
 pub step_begin : (m : Meaning) (c : CoreModel) (u : Unseen) (level : IsolationLevel) (spare : ℕ) → IsWhole c u →
     step (rules_of c.settings m) c.state (lines.Begin (id_of (u.ids + 1)) level) ≡ ((after_begin c level u.last (id_of (u.ids + 1)) spare).state, Begun (id_of (u.ids + 1)) u.last)
@@ -28,7 +28,7 @@ step_end m c u id spare h w = rw (open_some (find_named id c.state.txns) h, same
 pub step_snapshot : (m : Meaning) (c : CoreModel) (u : Unseen) (spare : ℕ) → IsWhole c u →
     step (rules_of c.settings m) c.state (lines.Snapshot (snapshot_id (u.snapshot_ids + 1))) ≡ ((after_snapshot c u.last (snapshot_id (u.snapshot_ids + 1)) spare).state, SnapshotAt (snapshot_id (u.snapshot_ids + 1)) u.last)
 step_snapshot m c u spare w =
-    rw (unbegun_snapshot c u w, fresh_snapshot c u w) (rw (← w.log.last) refl)
+    rw (unbegun_shown c u w, fresh_shown c u w) (rw (← w.log.last) refl)
 
 pub step_release : (m : Meaning) (c : CoreModel) (u : Unseen) (id : List ℕ) (spare : ℕ) → IsSome (find_named id c.state.snapshots) → IsWhole c u →
     step (rules_of c.settings m) c.state (lines.Rollback id) ≡ ((after_release c id spare).state, Done)

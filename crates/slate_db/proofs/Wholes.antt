@@ -1,6 +1,6 @@
 -- What ties the parts of a core stays so.
 --     after_begin, after_end, after_snapshot, after_release, after_freeze      the core after each
-use Rattle.std.proofs.Common.{◌≡◌, ℕ, ◌+◌, ◌-◌, ◌^◌, ◌≤◌, ◌<◌, inl, inr, List, [], ◌∷◌, ◌++◌, length, map, refl, sym, ap, subst, ◌∙◌, arith, ℤ, Greater, length-append, append-nil, None}
+use Rattle.std.proofs.Common.{◌≡◌, ℕ, ◌+◌, ◌-◌, ◌^◌, ◌≤◌, ◌<◌, List, [], ◌∷◌, ◌++◌, length, map, refl, sym, ap, subst, ◌∙◌, arith, ℤ, Greater, length-append, append-nil, None}
 use Rattle.std.proofs.lemmas.List.{map-append, length-map}
 use Rattle.std.specs.Prelude.{IsSome}
 use Rattle.std.specs.List.{AllByRecursion}
@@ -35,11 +35,10 @@ use Rattle.slate_db.specs.Model.{CoreModel, Rows, versions_in, memory}
 use Rattle.slate_db.specs.Sound.{IsKept}
 use Rattle.slate_db.specs.Whole.{IsWhole, AreTied, Unseen, BeginsWithin, ShowsWithin, log_of, layers_of}
 use Rattle.slate_db.specs.Written.{after_write}
-use Rattle.slate_db.proofs.ApartIds.{apart, named_is, not_named, without_none, next_id, next_snapshot, wider_snapshot}
-use Rattle.slate_db.proofs.Barriers.{start_within, start_begins, start_shows}
+use Rattle.slate_db.proofs.ApartIds.{named_is, none_named, without_none}
 use Rattle.slate_db.proofs.Journals.{apply_more}
 use Rattle.slate_db.proofs.Keeps.{kept_event, kept_rows}
-use Rattle.slate_db.proofs.Lists.{all_more, all_map, all_front, all_behind, none_behind}
+use Rattle.slate_db.proofs.Lists.{all_more, all_map, all_both, all_front, all_behind, none_behind}
 use Rattle.slate_db.proofs.Logs.{tables_same}
 use Rattle.slate_db.proofs.Managing.{managed_begun, managed_changed}
 use Rattle.slate_db.proofs.MemoryLayers.{versions_frozen}
@@ -47,7 +46,8 @@ use Rattle.slate_db.proofs.Runs.{run_more}
 use Rattle.slate_db.proofs.RunsOf.{runs_more, runs_same}
 use Rattle.slate_db.proofs.Quiet.{quiet_more, quiet_frozen}
 use Rattle.slate_db.proofs.Split.{all_up_to}
-use Rattle.slate_txn.proofs.IdLaws.{fresh_named, all_past, wider}
+use Rattle.slate_txn.proofs.BarrierLaws.{start_begins, start_shows, start_within}
+use Rattle.slate_txn.proofs.IdLaws.{all_past, count_not_named, fresh_named, fresh_snapshot, not_both, snapshot_not_named, wider, wider_snapshot}
 use Rattle.slate_txn.proofs.NamedLaws.{all_without, without_map, open_map, update_map, update_all}
 use Rattle.slate_txn.proofs.StepLaws.{own-append}
 
@@ -147,7 +147,7 @@ few c x w = let counted : x.ids ≤ length c.events = w.log.counted in omega (ar
 
 -- a new id is none of a snapshot
 pub unshown_begun : (c : CoreModel) (x : Unseen) → IsWhole c x → find_named (id_of (x.ids + 1)) c.state.snapshots ≡ None
-unshown_begun c x w = not_named (IsSnapshotOf x.snapshot_ids) (id_of (x.ids + 1)) (λ id s e. next_id x.ids x.snapshot_ids id (few_ids c x w) (few_shown c x w) (inr s) e) c.state.snapshots w.tied.shown.named
+unshown_begun c x w = count_not_named x.snapshot_ids (x.ids + 1) c.state.snapshots (few_shown c x w) (omega (arith, few_ids c x w)) w.tied.shown.named
 
 -- a new id stands past all others, and is taken out again
 pub past_begun : (c : CoreModel) (x : Unseen) → IsWhole c x → AllByRecursion (λ p. key_cmp (id_of (x.ids + 1)) p.0 ≡ Greater) c.state.txns
@@ -209,11 +209,11 @@ whole_snapshot c x spare n shown log w = record {
     more = apply_more opening c.events e
 
 -- a new id is none of what is open
-pub fresh_snapshot : (c : CoreModel) (x : Unseen) → IsWhole c x → find_named (snapshot_id (x.snapshot_ids + 1)) c.state.snapshots ≡ None
-fresh_snapshot c x w = not_named (IsSnapshotOf x.snapshot_ids) (snapshot_id (x.snapshot_ids + 1)) (λ id s e. next_snapshot x.ids x.snapshot_ids id (few_ids c x w) (few_shown c x w) (inr s) e) c.state.snapshots w.tied.shown.named
+pub fresh_shown : (c : CoreModel) (x : Unseen) → IsWhole c x → find_named (snapshot_id (x.snapshot_ids + 1)) c.state.snapshots ≡ None
+fresh_shown c x w = fresh_snapshot x.snapshot_ids c.state.snapshots (few_shown c x w) w.tied.shown.named
 
-pub unbegun_snapshot : (c : CoreModel) (x : Unseen) → IsWhole c x → find_named (snapshot_id (x.snapshot_ids + 1)) c.state.txns ≡ None
-unbegun_snapshot c x w = not_named (IsOfCount x.ids) (snapshot_id (x.snapshot_ids + 1)) (λ id o e. next_snapshot x.ids x.snapshot_ids id (few_ids c x w) (few_shown c x w) (inl o) e) c.state.txns w.tied.named
+pub unbegun_shown : (c : CoreModel) (x : Unseen) → IsWhole c x → find_named (snapshot_id (x.snapshot_ids + 1)) c.state.txns ≡ None
+unbegun_shown c x w = snapshot_not_named x.ids x.snapshot_ids c.state.txns (omega (arith, few_ids c x w)) (few_shown c x w) w.tied.named
 
 pub kept_snapshot : (m : Meaning) (c : CoreModel) (n : ℕ) (id : List ℕ) (spare : ℕ) → IsKept m c → IsKept m (after_snapshot c n id spare)
 kept_snapshot m c n id spare = kept_event m c _ _ spare refl
@@ -274,20 +274,19 @@ shown_in_journal c x id w h = subst (λ (ps : List (List ℕ × ℕ)). IsSome (f
 
 -- ---- an id is of one open thing
 
+not_of_both : (c : CoreModel) (x : Unseen) (id : List ℕ) → IsWhole c x → IsOfCount x.ids id → IsSnapshotOf x.snapshot_ids id → ⊥
+not_of_both c x id w o s = not_both x.ids x.snapshot_ids id (omega (arith, few_ids c x w)) (few_shown c x w) o s
+
 -- what is open under the id of a transaction is no snapshot
 pub no_snapshot : (c : CoreModel) (x : Unseen) (id : List ℕ) → IsWhole c x → IsSome (find_named id c.state.txns) → find_named id c.state.snapshots ≡ None
-no_snapshot c x id w h =
-    let o : IsOfCount x.ids id = named_is (IsOfCount x.ids) id c.state.txns w.tied.named h in
-    not_named (IsSnapshotOf x.snapshot_ids) id (λ j s e. apart x.ids x.snapshot_ids id (omega (arith, few_ids c x w)) (omega (arith, few_shown c x w)) o (subst (IsSnapshotOf x.snapshot_ids) e s)) c.state.snapshots w.tied.shown.named
+no_snapshot c x id w h = none_named (IsSnapshotOf x.snapshot_ids) id (λ s. not_of_both c x id w (named_is (IsOfCount x.ids) id c.state.txns w.tied.named h) s) c.state.snapshots w.tied.shown.named
 
 pub same_snapshots : (c : CoreModel) (x : Unseen) (id : List ℕ) → IsWhole c x → IsSome (find_named id c.state.txns) → without id c.state.snapshots ≡ c.state.snapshots
 same_snapshots c x id w h = without_none id c.state.snapshots (no_snapshot c x id w h)
 
 -- what is open under the id of a snapshot is no transaction
 pub no_transaction : (c : CoreModel) (x : Unseen) (id : List ℕ) → IsWhole c x → IsSome (find_named id c.state.snapshots) → find_named id c.state.txns ≡ None
-no_transaction c x id w h =
-    let s : IsSnapshotOf x.snapshot_ids id = named_is (IsSnapshotOf x.snapshot_ids) id c.state.snapshots w.tied.shown.named h in
-    not_named (IsOfCount x.ids) id (λ j o e. apart x.ids x.snapshot_ids id (omega (arith, few_ids c x w)) (omega (arith, few_shown c x w)) (subst (IsOfCount x.ids) e o) s) c.state.txns w.tied.named
+no_transaction c x id w h = none_named (IsOfCount x.ids) id (λ o. not_of_both c x id w o (named_is (IsSnapshotOf x.snapshot_ids) id c.state.snapshots w.tied.shown.named h)) c.state.txns w.tied.named
 
 pub same_transactions : (c : CoreModel) (x : Unseen) (id : List ℕ) → IsWhole c x → IsSome (find_named id c.state.snapshots) → without id c.state.txns ≡ c.state.txns
 same_transactions c x id w h = without_none id c.state.txns (no_transaction c x id w h)
@@ -469,8 +468,8 @@ whole_install c x ts run spare freeze room kept log layers w = record {
     shown = w.tied.shown;
     named = w.tied.named;
     floor_within = start_within x.last c.state;
-    begins = start_begins x.last c.floor x.last c.state w.tied.begins;
-    shows = start_shows x.last c.floor x.last c.state w.tied.shows;
+    begins = all_both _ _ _ (λ p h k. (h, k.1)) c.state.txns (start_begins x.last c.state) w.tied.begins;
+    shows = all_both _ _ _ (λ p h k. (h, k.1)) c.state.snapshots (start_shows x.last c.state) w.tied.shows;
     own = w.tied.own;
     all_installed = λ active frozen. ap (λ i. up_to i c.state.commits) (ap (λ s. s.flushed) more) ∙ all_up_to c.settings.start_seq x.last c.state.commits w.log.rising (let l : x.last ≡ last_of c.settings.start_seq c.state.commits = w.log.last in omega arith);
     runs = subst (λ (rs : List (List (Ulid × List ℕ))). AreRuns rs (x.runs ++ (run ∷ []))) (sym (runs_more c.events e)) (run_more (runs_of c.events) x.runs ts run w.tied.runs kept);
