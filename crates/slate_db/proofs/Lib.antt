@@ -1,4 +1,5 @@
 mod Lists
+mod ApartIds
 mod Journals
 mod Split
 mod Short

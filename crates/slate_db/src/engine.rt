@@ -359,8 +359,8 @@ impl Core {
         ensures operator { env.new.operator ≡ env.old.operator }
         ensures puts { let reach = ⟦<EnvOf<S, M, T> as Outside>⟧.reach in Puts (reach env.old) (reach env.new) }
     {
-        self.log.reserve().and(self.layers.reserve_run())?;
         let barrier = self.barrier();
+        self.log.reserve().and(self.layers.reserve_run())?;
         let number = self.log.next_install();
         let put = stored(
             self.alloc,
