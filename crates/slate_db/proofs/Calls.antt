@@ -1,21 +1,23 @@
 -- What a core's calls make of its parts.
 --     placed, past_place      whether the journal has a place for so many events more
 --     room_in_log, room_to_freeze, room_for_run      room was made
---     begun_is, ended_is, frozen_is, written_is, installed_is      the parts after a call, from what is said of each
+--     begun_is, ended_is, shown_is, released_is, frozen_is, written_is, installed_is      the parts after a call, from what is said of each
 use Rattle.std.proofs.Common.{◌≡◌, ℕ, ◌+◌, ◌≤◌, ◌<◌, List, [], ◌∷◌, ◌++◌, length, ℤ, refl, sym, ap, subst, ◌∙◌, arith}
 use Rattle.slate_types.specs.declared.config.IsolationLevel.{IsolationLevel}
 use Rattle.slate_types.specs.declared.types.Ulid.{Ulid}
 use Rattle.slate_read.specs.declared.sorted_run.SortedRun.{SortedRun}
 use Rattle.slate_mem.specs.Batch.{Ops}
 use Rattle.slate_txn.specs.declared.event.Event.TheVariants as events
-use Rattle.slate_txn.specs.Ids.{id_of}
-use Rattle.slate_txn.specs.Managers.{Manager}
+use Rattle.slate_txn.specs.Ids.{id_of, snapshot_id}
+use Rattle.slate_txn.specs.Managers.{Manager, Snapshots}
 use Rattle.slate_txn.specs.Named.{find_named, without}
 use Rattle.slate_txn.specs.Open.{Transactions}
 use Rattle.slate_txn.specs.State.{begun, last_of}
 use Rattle.slate_db.specs.declared.engine.Core.TheInside.{Inside}
+use Rattle.slate_db.specs.Flushed.{NoPlace}
 use Rattle.slate_db.specs.Layers.{LayersModel}
-use Rattle.slate_db.specs.Log.{IsLog, LogModel, LIMIT, with_begin, with_end, with_freeze, with_write, with_install}
+use Rattle.slate_db.specs.Load.{weight}
+use Rattle.slate_db.specs.Log.{IsLog, LogModel, LIMIT, with_begin, with_end, with_snapshot, with_release, with_freeze, with_write, with_install}
 use Rattle.slate_db.specs.Model.{CoreModel, Rows}
 use Rattle.slate_db.specs.View.{view_of, unseen_of, IsWholeInside}
 use Rattle.slate_db.specs.Whole.{IsWhole, Unseen}
@@ -23,19 +25,19 @@ use Rattle.slate_db.proofs.Wholes.{ends_are, whole_room}
 
 -- ---- places
 
-pub placed : {A : Type 0} (c d : CoreModel) (x : Unseen) (n : ℕ) → c ≡ d → IsWhole c x → length c.events + x.ends + n ≤ LIMIT → LIMIT < length d.events + length d.state.txns + n → A
+pub placed : {A : Type 0} (c d : CoreModel) (x : Unseen) (n : ℕ) → c ≡ d → IsWhole c x → length c.events + x.ends + n ≤ LIMIT → NoPlace n d → A
 placed c d x n same w place past =
-    let over : LIMIT < length c.events + length c.state.txns + n = subst (λ (v : CoreModel). LIMIT < length v.events + length v.state.txns + n) (sym same) past in
+    let over : NoPlace n c = subst (NoPlace n) (sym same) past in
     absurd (omega (arith, ends_are c x w))
 
-pub past_place : (c d : CoreModel) (x : Unseen) (n : ℕ) → c ≡ d → IsWhole c x → LIMIT < length c.events + x.ends + n → LIMIT < length d.events + length d.state.txns + n
+pub past_place : (c d : CoreModel) (x : Unseen) (n : ℕ) → c ≡ d → IsWhole c x → LIMIT < length c.events + x.ends + n → NoPlace n d
 past_place c d x n same w past =
-    let over : LIMIT < length c.events + length c.state.txns + n = omega (arith, ends_are c x w) in
-    subst (λ (v : CoreModel). LIMIT < length v.events + length v.state.txns + n) same over
+    let over : NoPlace n c = omega (arith, ends_are c x w) in
+    subst (NoPlace n) same over
 
-pub place_in : (c d : CoreModel) (x : Unseen) (n : ℕ) → c ≡ d → IsWhole c x → length d.events + length d.state.txns + n ≤ LIMIT → length c.events + x.ends + n ≤ LIMIT
+pub place_in : (c d : CoreModel) (x : Unseen) (n : ℕ) → c ≡ d → IsWhole c x → weight d + n ≤ LIMIT → length c.events + x.ends + n ≤ LIMIT
 place_in c d x n same w place =
-    let free : length c.events + length c.state.txns + n ≤ LIMIT = subst (λ (v : CoreModel). length v.events + length v.state.txns + n ≤ LIMIT) (sym same) place in
+    let free : weight c + n ≤ LIMIT = subst (λ (v : CoreModel). weight v + n ≤ LIMIT) (sym same) place in
     omega (arith, ends_are c x w)
 
 -- no sequence is left, and one is
@@ -87,6 +89,16 @@ pub event_ended : (s : Inside) (c : CoreModel) (l : LogModel) (ts : Transactions
 event_ended s c l ts id is log =
     (λ i. record (view_of (record s { log = log i; transactions = ts })) { state = (view_of (record s { log = l; transactions = ts })).state })
     ∙ ap (λ (v : CoreModel). record v { state = (view_of (record s { log = l; transactions = ts })).state; events = v.events ++ (events.End id ∷ []); spare = l.spare }) is
+
+-- ---- a snapshot and its release
+
+pub shown_is : (s : Inside) (l : LogModel) (n : Snapshots) → l ≡ with_snapshot s.log l.spare → n.active ≡ s.snapshots.active ++ ((snapshot_id (s.log.snapshot_ids + 1), s.log.last) ∷ []) →
+    view_of (record s { log = with_snapshot s.log l.spare; snapshots = record n { active = s.snapshots.active ++ ((snapshot_id (s.log.snapshot_ids + 1), s.log.last) ∷ []) } }) ≡ view_of (record s { log = l; snapshots = n })
+shown_is s l n log active = let a = sym log in let b = sym active in λ i. view_of (record s { log = a i; snapshots = record n { active = b i } })
+
+pub released_is : (s : Inside) (l : LogModel) (n : Snapshots) (id : List ℕ) → l ≡ with_release s.log id l.spare → n ≡ record s.snapshots { active = without id s.snapshots.active } →
+    record s { log = with_release s.log id l.spare; snapshots = record s.snapshots { active = without id s.snapshots.active } } ≡ record s { log = l; snapshots = n }
+released_is s l n id log shown = let a = sym log in let b = sym shown in λ i. record s { log = a i; snapshots = b i }
 
 -- ---- a freeze, a write, an install
 

@@ -1,4 +1,5 @@
 mod Lists
+mod ApartIds
 mod Journals
 mod Split
 mod Short
@@ -67,5 +68,6 @@ mod SourceLists
 mod ScanOpenings
 mod ScanRefusals
 mod OpenNotes
+mod Readers
 mod ScanMerges
 pub mod RowDamage

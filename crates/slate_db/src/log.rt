@@ -1,12 +1,12 @@
 //! The log: all events so far, and what is counted of them.
 ghost use Rattle.std.specs.Prelude.{◌≡◌, ◌+◌, ◌-◌, ◌^◌, ◌≤◌, ◌<◌, ◌∷◌, [], ℕ, List, length, IfErr, OnOk, OnErr, Err, IsSome};
 ghost use Rattle.slate_types.specs.declared.error.SlateDBError.{SlateDBError};
-ghost use Rattle.slate_txn.specs.Ids.{id_of};
+ghost use Rattle.slate_txn.specs.Ids.{id_of, snapshot_id};
 ghost use Rattle.slate_txn.specs.Named.{find_named};
 ghost use Rattle.slate_txn.specs.Reads.{up_to};
 ghost use Rattle.slate_txn.specs.Replay.{replay};
 ghost use Rattle.slate_db.specs.Installs.{ArePlaced, installed};
-ghost use Rattle.slate_db.specs.Log.{LIMIT, IsLog, IsWhollyKept, HasPlace, MayCommit, held_by, with_begin, with_commit, with_end, with_freeze, with_write, with_install, with_flush};
+ghost use Rattle.slate_db.specs.Log.{LIMIT, IsLog, IsWhollyKept, HasPlace, MayCommit, held_by, with_begin, with_snapshot, with_commit, with_end, with_release, with_freeze, with_write, with_install, with_flush};
 
 use slate_txn::{Event, Journal, KeyList, OpList, TableList, Transcript};
 use slate_types::{IsolationLevel, SlateDBError};
@@ -138,10 +138,8 @@ impl Log {
         self.journal.reserve(self.ends + 2)?;
         self.snapshot_ids += 1;
         self.ends += 1;
-        self.journal.push_reserved(Event::Snapshot {
-            id,
-            seq: self.last,
-        });
+        self.journal
+            .push_reserved(Event::Snapshot { id, seq: self.last });
         Ok(())
     }
 
