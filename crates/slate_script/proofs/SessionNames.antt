@@ -1,5 +1,5 @@
 -- The names of a session, and what a call of the core makes of what is open under them.
-use Rattle.std.proofs.Common.{◌≡◌, ℕ, Bool, true, false, cond, ◌||◌, List, Option, Some, None, is_some, Result, Ok, Err, OnOk, refl, sym, ap, ◌∙◌, subst}
+use Rattle.std.proofs.Common.{◌≡◌, ℕ, Bool, true, false, cond, ◌||◌, List, Option, Some, None, Result, Ok, Err, OnOk, refl, sym, ap, ◌∙◌, subst}
 use Rattle.std.specs.Prelude.{OnErr}
 use Rattle.std.specs.Str.{bytes_eq}
 use Rattle.slate_types.specs.declared.config.IsolationLevel.{IsolationLevel}
@@ -13,20 +13,13 @@ use Rattle.slate_txn.specs.Reply as replies
 use Rattle.slate_txn.specs.Reply.{Reply}
 use Rattle.slate_db.specs.Model.{CoreModel}
 use Rattle.slate_db.specs.Operated.{operated}
-use Rattle.slate_script.specs.Session.{SessionModel, NamesStand}
+use Rattle.slate_script.specs.Session.{NamesStand}
 use Rattle.slate_script.proofs.NamesLaws.{find_named-set, find_named-without, none-found, without-none}
 use Rattle.slate_script.proofs.OpenNames.{Names, apart_changed, apart_first, apart_given, apart_last, apart_swap, apart_taken, names_changed, names_given, names_kept, names_taken}
 
-pub neither : (a b : Bool) → (a || b) ≡ false → (a ≡ false) × (b ≡ false)
+neither : (a b : Bool) → (a || b) ≡ false → (a ≡ false) × (b ≡ false)
 neither true b h = cc
 neither false b h = (refl, h)
-
--- what the session says of a name, said of what it keeps
-pub opened-as : {e v : SessionModel} {b : Bool} → e ≡ v → (name : List ℕ) → (is_some (find_named name v.names) || is_some (find_named name v.snapshot_names)) ≡ b → (is_some (find_named name e.names) || is_some (find_named name e.snapshot_names)) ≡ b
-opened-as same name is = ap (λ (v : SessionModel). is_some (find_named name v.names) || is_some (find_named name v.snapshot_names)) same ∙ is
-
-pub not-opened : (e : SessionModel) (name : List ℕ) → (is_some (find_named name e.names) || is_some (find_named name e.snapshot_names)) ≡ false → (find_named name e.names ≡ None) × (find_named name e.snapshot_names ≡ None)
-not-opened e name shut = (none-found (find_named name e.names) (neither _ _ shut).0, none-found (find_named name e.snapshot_names) (neither _ _ shut).1)
 
 -- ---- a begin that is answered
 

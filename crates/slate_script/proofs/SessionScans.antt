@@ -1,6 +1,6 @@
 -- A scan line's step, under what a session stands for.
 use Rattle.std.proofs.Common.{◌≡◌, ℕ, ◌⊎◌, inl, inr, List, [], ◌∷◌, ◌++◌, Option, Some, None, Result, Ok, Err, IfErr, OnOk, refl, sym, ap, ◌∙◌, subst}
-use Rattle.std.specs.Prelude.{Bool, true, false, cond}
+use Rattle.std.specs.Prelude.{Bool, true, false, cond, IfSome, IsSome}
 use Rattle.std.proofs.lemmas.Option.{same_Some}
 use Rattle.std.specs.declared.ops.Bound.{Bound}
 use Rattle.slate_types.specs.declared.bytes_range.BytesRange.{BytesRange}
@@ -21,7 +21,7 @@ use Rattle.slate_txn.specs.Reads.{handed, rows_seen, walk}
 use Rattle.slate_txn.specs.Reply as replies
 use Rattle.slate_txn.specs.Reply.{Reply}
 use Rattle.slate_txn.specs.State.{Commit, Rules, State}
-use Rattle.slate_txn.specs.Step.{noted, reader, scan, scan_walked, step}
+use Rattle.slate_txn.specs.Step.{Reader, noted, reader, scan, scan_walked, step}
 use Rattle.slate_db.proofs.RowDamage.{scan_kind}
 use Rattle.slate_db.specs.Meaning.{Meaning, rules_of}
 use Rattle.slate_db.specs.Model.{CoreModel}
@@ -30,9 +30,9 @@ use Rattle.slate_db.specs.Scans.{IsRefusedByScan, IsScanError}
 use Rattle.slate_language.specs.declared.reply.Answer.{Answer}
 use Rattle.slate_language.specs.declared.reply.Answer.TheVariants as answers
 use Rattle.slate_language.specs.Answers.{reply_of}
-use Rattle.slate_script.specs.Session.{SessionModel, AnswersAs, IsLimit, IsStep, NamesStand, reader_id}
+use Rattle.slate_script.specs.Session.{SessionModel, AnswersAs, IsLimit, IsStep, NamesStand, reader_id, reader_under}
 use Rattle.slate_script.proofs.Running.{not-damage}
-use Rattle.slate_script.proofs.SessionSteps.{ReadsAs, not-read, reads-as}
+use Rattle.slate_script.proofs.SessionSteps.{ReadsAs, ReadsUnder, reads-as}
 
 -- bounds that make a range are its bounds
 pub range_same : (start end : Bound (List ℕ)) (range : BytesRange) → range_of start end ≡ Some range → range_of range.start range.end ≡ Some range
@@ -55,21 +55,22 @@ bounds_fit start end range is = by (is_refused start end) refl is
     by true e same = clash same
     by false e same = subst (λ (q : BytesRange). is_refused q.start q.end ≡ false) (same_Some _ _ same) e
 
-pub scan-refused : (m : Meaning) (e : SessionModel) (name : List ℕ) (order : IterationOrder) (start end : Bound (List ℕ)) (sts : List ScanStep) → reader_id e name ≡ None →
+pub scan-refused : (m : Meaning) (e : SessionModel) (name : List ℕ) (order : IterationOrder) (start end : Bound (List ℕ)) (sts : List ScanStep) (o : Option (List ℕ)) → ReadsUnder e name o → o ≡ None →
     AnswersAs m e e (lines.Scan name order start end sts) (Ok (answers.Refused (errors.UnknownTransaction name)))
-scan-refused m e name order start end sts none s h =
-    subst (λ o. IsStep e (scan (rules_of e.core.settings m) s name order (range_of start end) sts o) (answers.Refused (errors.UnknownTransaction name)))
-    (sym (not-read e s name h none)) (h, refl)
+scan-refused m e name order start end sts o reads none s h =
+    subst (λ p. IsStep e (scan (rules_of e.core.settings m) s name order (range_of start end) sts p) (answers.Refused (errors.UnknownTransaction name)))
+    (sym (reads s h ∙ ap (reader_under e.core.state) none)) (h, refl)
 
 -- a range that is none
-pub range-refused : (m : Meaning) (e : SessionModel) (name id : List ℕ) (order : IterationOrder) (start end : Bound (List ℕ)) (sts : List ScanStep) → NamesStand e.names e.snapshot_names e.core.state.txns e.core.state.snapshots → reader_id e name ≡ Some id → range_of start end ≡ None →
+pub range-refused : (m : Meaning) (e : SessionModel) (name id : List ℕ) (order : IterationOrder) (start end : Bound (List ℕ)) (sts : List ScanStep) (o : Option (List ℕ)) → ReadsUnder e name o → IfSome o (λ i. IsSome (reader e.core.state i)) → o ≡ Some id → range_of start end ≡ None →
     AnswersAs m e e (lines.Scan name order start end sts) (Ok (answers.Refused errors.InvalidRange))
-range-refused m e name id order start end sts stand known none s h =
-    subst (λ o. IsStep e (scan (rules_of e.core.settings m) s name order (range_of start end) sts o) (answers.Refused errors.InvalidRange)) (sym reads.here)
-    (subst (λ range. IsStep e (scan (rules_of e.core.settings m) s name order range sts (Some reads.from)) (answers.Refused errors.InvalidRange)) (sym none) (h, refl))
+range-refused m e name id order start end sts o reads open is none s h = by (reader e.core.state id) refl (subst (λ p. IfSome p (λ i. IsSome (reader e.core.state i))) is open)
   where
-    reads : ReadsAs e s name id
-    reads = reads-as e s name id h stand known
+    by : (p : Option Reader) → reader e.core.state id ≡ p → IsSome p → IsStep e (scan (rules_of e.core.settings m) s name order (range_of start end) sts (reader s name)) (answers.Refused errors.InvalidRange)
+    by None there some = cc
+    by (Some from) there some =
+        subst (λ q. IsStep e (scan (rules_of e.core.settings m) s name order (range_of start end) sts q) (answers.Refused errors.InvalidRange)) (sym (reads s h ∙ ap (reader_under e.core.state) is ∙ there))
+        (subst (λ range. IsStep e (scan (rules_of e.core.settings m) s name order range sts (Some from)) (answers.Refused errors.InvalidRange)) (sym none) (h, refl))
 
 -- the core's answer is the model's
 pub scan-found : (m : Meaning) (e : SessionModel) (core : CoreModel) (name id : List ℕ) (order : IterationOrder) (start end : Bound (List ℕ)) (range : BytesRange) (sts : List ScanStep) (rows : List KeyValue) (a : Answer) →

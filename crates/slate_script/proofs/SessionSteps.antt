@@ -1,6 +1,6 @@
 -- The steps of the lines that are built, under what a session stands for.
 use Rattle.std.proofs.Common.{◌≡◌, ℕ, Bool, true, false, cond, ◌||◌, List, [], ◌∷◌, ◌++◌, map, Option, Some, None, is_some, option_map, Result, Ok, Err, IfOk, OnOk, ℤ, ◌⊎◌, inl, inr, refl, sym, ap, ◌∙◌, subst}
-use Rattle.std.specs.Prelude.{IsSome, IfErr, ◌==◌, nat_lt, ◌-◌, ◌^◌, length}
+use Rattle.std.specs.Prelude.{IsSome, IfErr, IfSome, ◌==◌, nat_lt, ◌-◌, ◌^◌, length}
 use Rattle.std.specs.Option.{option_or}
 use Rattle.std.specs.Str.{bytes_eq}
 use mir.Val.{SFits}
@@ -36,28 +36,41 @@ use Rattle.slate_language.specs.declared.reply.Answer.TheVariants as answers
 use Rattle.slate_language.specs.Answers.{reply_of}
 use Rattle.slate_language.proofs.ShownLaws.{shown-of}
 use Rattle.slate_language.specs.Grammar.{is_moment}
-use Rattle.slate_script.specs.Session.{SessionModel, AreNames, AreUnder, NamesStand, StandsFor, IsStep, AnswersAs, IsRefusal, reader_id, under}
+use Rattle.slate_script.specs.Session.{SessionModel, AreNames, AreUnder, NamesStand, StandsFor, IsStep, AnswersAs, IsRefusal, reader_id, reader_under, under}
 use Rattle.slate_script.proofs.NamesLaws.{none-found, once-set, once-update, once-without, update-none, without-none}
 use Rattle.slate_script.proofs.OpenNames.{Names, apart_first, apart_last, under_changed, under_given, under_none, under_same, under_taken}
-use Rattle.slate_script.proofs.SessionNames.{Fresh, FreshSnapshot, neither}
+use Rattle.slate_script.proofs.SessionNames.{Fresh, FreshSnapshot}
 
 -- ---- what is open
 
--- a name is open in the model where the session has it
-pub open-same : (e : SessionModel) (s : State) (name : List ℕ) → StandsFor e s → NamesStand e.names e.snapshot_names e.core.state.txns e.core.state.snapshots →
-    is_open s name ≡ (is_some (find_named name e.names) || is_some (find_named name e.snapshot_names))
-open-same e s name h stand = (λ i. same h.txns stand.transactions i || same h.snapshots stand.shown i)
+-- a name is open where something reads under it
+reads-open : (s : State) (name : List ℕ) → is_open s name ≡ is_some (reader s name)
+reads-open s name = by (find_named name s.txns) (find_named name s.snapshots)
   where
-    some : {X : Type 0} (o : Option X) → IsSome o → is_some o ≡ true
-    some None h = cc
-    some (Some x) h = refl
+    by : (a : Option Tx) (b : Option ℕ) → (is_some a || is_some b) ≡ is_some (reader_or_snapshot a b)
+    by (Some t) b = refl
+    by None (Some n) = refl
+    by None None = refl
 
-    by : {X : Type 0} {names : Names} {ps : List (List ℕ × X)} → AreNames names ps → (o : Option (List ℕ)) → find_named name names ≡ o → is_some (under ps o) ≡ is_some o
-    by are None is = refl
-    by {X} {names} {ps} are (Some id) is = some (find_named id ps) (are.opened name id is)
+-- what the session says of a name
+abbrev pub ReadsUnder : SessionModel → List ℕ → Option (List ℕ) → Type 0
+ReadsUnder e name o = (s : State) → StandsFor e s → reader s name ≡ reader_under e.core.state o
 
-    same : {X : Type 0} {named : List (List ℕ × X)} {names : Names} {ps : List (List ℕ × X)} → AreUnder named names ps → AreNames names ps → is_some (find_named name named) ≡ is_some (find_named name names)
-    same {X} {named} {names} has are = ap is_some (has name) ∙ by are (find_named name names) refl
+is-open : (e : SessionModel) (s : State) (name : List ℕ) (o : Option (List ℕ)) → StandsFor e s → ReadsUnder e name o → IfSome o (λ id. IsSome (reader e.core.state id)) → is_some o ≡ true → is_open s name ≡ true
+is-open e s name None h reads open some = cc
+is-open e s name (Some id) h reads open some = reads-open s name ∙ ap is_some (reads s h) ∙ open
+
+is-shut : (e : SessionModel) (s : State) (name : List ℕ) (o : Option (List ℕ)) → StandsFor e s → ReadsUnder e name o → is_some o ≡ false → is_open s name ≡ false
+is-shut e s name None h reads none = reads-open s name ∙ ap is_some (reads s h)
+is-shut e s name (Some id) h reads none = cc
+
+both-none : (a b : Option (List ℕ)) → option_or a b ≡ None → (a ≡ None) × (b ≡ None)
+both-none None b h = (refl, h)
+both-none (Some x) b h = cc
+
+-- neither map has the name
+pub unnamed : (e : SessionModel) (name : List ℕ) (o : Option (List ℕ)) → o ≡ reader_id e name → is_some o ≡ false → (find_named name e.names ≡ None) × (find_named name e.snapshot_names ≡ None)
+unnamed e name o is none = both-none (find_named name e.names) (find_named name e.snapshot_names) (sym is ∙ none-found o none)
 
 pub record IsNamed {X : Type 0} (o : Option X) : Type 0 where
   pub value : X
@@ -82,20 +95,19 @@ now-set m e moment s h = (record { commits = h.commits; txns = h.txns; once = h.
 
 -- ---- begin
 
-pub begin-refused : (m : Meaning) (e : SessionModel) (name : List ℕ) (level : IsolationLevel) → NamesStand e.names e.snapshot_names e.core.state.txns e.core.state.snapshots →
-    (is_some (find_named name e.names) || is_some (find_named name e.snapshot_names)) ≡ true → AnswersAs m e e (lines.Begin name level) (Ok (answers.Refused (errors.DuplicateTransaction name)))
-begin-refused m e name level stand open s h =
+pub begin-refused : (m : Meaning) (e : SessionModel) (name : List ℕ) (level : IsolationLevel) (o : Option (List ℕ)) → ReadsUnder e name o → IfSome o (λ id. IsSome (reader e.core.state id)) → is_some o ≡ true →
+    AnswersAs m e e (lines.Begin name level) (Ok (answers.Refused (errors.DuplicateTransaction name)))
+begin-refused m e name level o reads open some s h =
     subst (λ b. IsStep e (cond b (s, replies.Refused (errors.DuplicateTransaction name)) (record s { txns = set_named name (begun level (last (rules_of e.core.settings m) s)) s.txns }, replies.Begun name (last (rules_of e.core.settings m) s)))
     (answers.Refused (errors.DuplicateTransaction name)))
-    (sym (open-same e s name h stand ∙ open)) (h, refl)
+    (sym (is-open e s name o h reads open some)) (h, refl)
 
-pub begin-opens : (m : Meaning) (e : SessionModel) (core : CoreModel) (more : Names) (name id : List ℕ) (level : IsolationLevel) (n : ℕ) → NamesStand e.names e.snapshot_names e.core.state.txns e.core.state.snapshots →
-    (is_some (find_named name e.names) || is_some (find_named name e.snapshot_names)) ≡ false →
+pub begin-opens : (m : Meaning) (e : SessionModel) (core : CoreModel) (more : Names) (name id : List ℕ) (level : IsolationLevel) (n : ℕ) (o : Option (List ℕ)) → NamesStand e.names e.snapshot_names e.core.state.txns e.core.state.snapshots → o ≡ reader_id e name → ReadsUnder e name o → is_some o ≡ false →
     Fresh (rules_of e.core.settings m) e.core.state core.state id level n → ((q : List ℕ) → find_named q more ≡ cond (bytes_eq name q) (Some id) (find_named q e.names)) →
     AnswersAs m e (record e { core = core; names = more }) (lines.Begin name level) (Ok (answers.Begun name n))
-begin-opens m e core more name id level n stand shut fresh updates s h =
+begin-opens m e core more name id level n o stand id-is reads shut fresh updates s h =
     subst (λ b. IsStep after (cond b (s, replies.Refused (errors.DuplicateTransaction name)) (record s { txns = set_named name (begun level (last r s)) s.txns }, replies.Begun name (last r s))) (answers.Begun name n))
-    (sym (open-same e s name h stand ∙ shut))
+    (sym (is-shut e s name o h reads shut))
     (subst (λ k. IsStep after (record s { txns = set_named name (begun level k) s.txns }, replies.Begun name k) (answers.Begun name n)) lasts (stands, refl))
   where
     r : Rules
@@ -114,7 +126,7 @@ begin-opens m e core more name id level n stand shut fresh updates s h =
     is = fresh.is ∙ ap (λ k. record e.core.state { txns = set_named id (begun level k) e.core.state.txns }) (sym fresh.at)
 
     gone : find_named name s.txns ≡ None
-    gone = under_none name s.txns e.names e.core.state.txns h.txns (none-found (find_named name e.names) (neither _ _ shut).0)
+    gone = under_none name s.txns e.names e.core.state.txns h.txns (unnamed e name o id-is shut).0
 
     stands : StandsFor after (record s { txns = set_named name tx s.txns })
     stands = record {
@@ -129,20 +141,19 @@ begin-opens m e core more name id level n stand shut fresh updates s h =
 
 -- ---- snapshot
 
-pub snapshot-refused : (m : Meaning) (e : SessionModel) (name : List ℕ) → NamesStand e.names e.snapshot_names e.core.state.txns e.core.state.snapshots →
-    (is_some (find_named name e.names) || is_some (find_named name e.snapshot_names)) ≡ true → AnswersAs m e e (lines.Snapshot name) (Ok (answers.Refused (errors.DuplicateTransaction name)))
-snapshot-refused m e name stand open s h =
+pub snapshot-refused : (m : Meaning) (e : SessionModel) (name : List ℕ) (o : Option (List ℕ)) → ReadsUnder e name o → IfSome o (λ id. IsSome (reader e.core.state id)) → is_some o ≡ true →
+    AnswersAs m e e (lines.Snapshot name) (Ok (answers.Refused (errors.DuplicateTransaction name)))
+snapshot-refused m e name o reads open some s h =
     subst (λ b. IsStep e (cond b (s, replies.Refused (errors.DuplicateTransaction name)) (record s { snapshots = set_named name (last (rules_of e.core.settings m) s) s.snapshots }, replies.SnapshotAt name (last (rules_of e.core.settings m) s)))
     (answers.Refused (errors.DuplicateTransaction name)))
-    (sym (open-same e s name h stand ∙ open)) (h, refl)
+    (sym (is-open e s name o h reads open some)) (h, refl)
 
-pub snapshot-opens : (m : Meaning) (e : SessionModel) (core : CoreModel) (more : Names) (name id : List ℕ) (n : ℕ) → NamesStand e.names e.snapshot_names e.core.state.txns e.core.state.snapshots →
-    (is_some (find_named name e.names) || is_some (find_named name e.snapshot_names)) ≡ false →
+pub snapshot-opens : (m : Meaning) (e : SessionModel) (core : CoreModel) (more : Names) (name id : List ℕ) (n : ℕ) (o : Option (List ℕ)) → NamesStand e.names e.snapshot_names e.core.state.txns e.core.state.snapshots → o ≡ reader_id e name → ReadsUnder e name o → is_some o ≡ false →
     FreshSnapshot (rules_of e.core.settings m) e.core.state core.state id n → ((q : List ℕ) → find_named q more ≡ cond (bytes_eq name q) (Some id) (find_named q e.snapshot_names)) →
     AnswersAs m e (record e { core = core; snapshot_names = more }) (lines.Snapshot name) (Ok (answers.SnapshotAt name n))
-snapshot-opens m e core more name id n stand shut fresh updates s h =
+snapshot-opens m e core more name id n o stand id-is reads shut fresh updates s h =
     subst (λ b. IsStep after (cond b (s, replies.Refused (errors.DuplicateTransaction name)) (record s { snapshots = set_named name (last r s) s.snapshots }, replies.SnapshotAt name (last r s))) (answers.SnapshotAt name n))
-    (sym (open-same e s name h stand ∙ shut))
+    (sym (is-shut e s name o h reads shut))
     (subst (λ k. IsStep after (record s { snapshots = set_named name k s.snapshots }, replies.SnapshotAt name k) (answers.SnapshotAt name n)) lasts (stands, refl))
   where
     r : Rules
@@ -158,7 +169,7 @@ snapshot-opens m e core more name id n stand shut fresh updates s h =
     is = fresh.is ∙ ap (λ k. record e.core.state { snapshots = set_named id k e.core.state.snapshots }) (sym fresh.at)
 
     gone : find_named name s.snapshots ≡ None
-    gone = under_none name s.snapshots e.snapshot_names e.core.state.snapshots h.snapshots (none-found (find_named name e.snapshot_names) (neither _ _ shut).1)
+    gone = under_none name s.snapshots e.snapshot_names e.core.state.snapshots h.snapshots (unnamed e name o id-is shut).1
 
     stands : StandsFor after (record s { snapshots = set_named name n s.snapshots })
     stands = record {
@@ -173,18 +184,23 @@ snapshot-opens m e core more name id n stand shut fresh updates s h =
 
 -- ---- rollback
 
-pub rollback-refused : (m : Meaning) (e : SessionModel) (name : List ℕ) → NamesStand e.names e.snapshot_names e.core.state.txns e.core.state.snapshots → find_named name e.names ≡ None → find_named name e.snapshot_names ≡ None →
+pub rollback-refused : (m : Meaning) (e : SessionModel) (name : List ℕ) → find_named name e.names ≡ None → find_named name e.snapshot_names ≡ None →
     AnswersAs m e e (lines.Rollback name) (Ok (answers.Refused (errors.UnknownTransaction name)))
-rollback-refused m e name stand none unshown s h =
-    subst (λ b. IsStep e (cond b (closed s name, replies.Done) (s, replies.Refused (errors.UnknownTransaction name))) (answers.Refused (errors.UnknownTransaction name)))
-    (sym (open-same e s name h stand ∙ (λ i. is_some (none i) || is_some (unshown i)))) (h, refl)
+rollback-refused m e name none unshown s h =
+    let begun : find_named name s.txns ≡ None = under_none name s.txns e.names e.core.state.txns h.txns none in
+    let shown : find_named name s.snapshots ≡ None = under_none name s.snapshots e.snapshot_names e.core.state.snapshots h.snapshots unshown in
+    let shut : is_open s name ≡ false = (λ i. is_some (begun i) || is_some (shown i)) in
+    subst (λ b. IsStep e (cond b (closed s name, replies.Done) (s, replies.Refused (errors.UnknownTransaction name))) (answers.Refused (errors.UnknownTransaction name))) (sym shut) (h, refl)
 
-some-either : {A : Type 0} (o : Option A) (x : A) (b : Bool) → o ≡ Some x → (is_some o || b) ≡ true
-some-either o x b is = ap (λ p. is_some p || b) is
+-- either makes a name open
+opened-by : {A B : Type 0} (a : Option A) (b : Option B) → IsSome a ⊎ IsSome b → (is_some a || is_some b) ≡ true
+opened-by (Some x) b h = refl
+opened-by None (Some y) h = refl
+opened-by None None (inl h) = cc
+opened-by None None (inr h) = cc
 
-some-or : {A : Type 0} (a : Bool) (o : Option A) (x : A) → o ≡ Some x → (a || is_some o) ≡ true
-some-or true o x is = refl
-some-or false o x is = ap is_some is
+under-some : {X : Type 0} (name id : List ℕ) (named : List (List ℕ × X)) (names : Names) (ps : List (List ℕ × X)) → AreUnder named names ps → AreNames names ps → find_named name names ≡ Some id → IsSome (find_named name named)
+under-some name id named names ps h are known = subst IsSome (sym (h name ∙ ap (under ps) known)) (are.opened name id known)
 
 -- a transaction's name is no snapshot's
 pub rollback-closes : (m : Meaning) (e : SessionModel) (core : CoreModel) (fewer : Names) (name id : List ℕ) → NamesStand e.names e.snapshot_names e.core.state.txns e.core.state.snapshots → find_named name e.names ≡ Some id →
@@ -192,7 +208,7 @@ pub rollback-closes : (m : Meaning) (e : SessionModel) (core : CoreModel) (fewer
     AnswersAs m e (record e { core = core; names = fewer }) (lines.Rollback name) (Ok answers.Done)
 rollback-closes m e core fewer name id stand known is updates s h =
     subst (λ b. IsStep after (cond b (closed s name, replies.Done) (s, replies.Refused (errors.UnknownTransaction name))) answers.Done)
-    (sym (open-same e s name h stand ∙ some-either (find_named name e.names) id _ known)) (stands, refl)
+    (sym (opened-by (find_named name s.txns) (find_named name s.snapshots) (inl (under-some name id s.txns e.names e.core.state.txns h.txns stand.transactions known)))) (stands, refl)
   where
     after : SessionModel
     after = record e { core = core; names = fewer }
@@ -216,7 +232,7 @@ pub rollback-releases : (m : Meaning) (e : SessionModel) (core : CoreModel) (few
     AnswersAs m e (record e { core = core; snapshot_names = fewer }) (lines.Rollback name) (Ok answers.Done)
 rollback-releases m e core fewer name id stand known is updates s h =
     subst (λ b. IsStep after (cond b (closed s name, replies.Done) (s, replies.Refused (errors.UnknownTransaction name))) answers.Done)
-    (sym (open-same e s name h stand ∙ some-or (is_some (find_named name e.names)) (find_named name e.snapshot_names) id known)) (stands, refl)
+    (sym (opened-by (find_named name s.txns) (find_named name s.snapshots) (inr (under-some name id s.snapshots e.snapshot_names e.core.state.snapshots h.snapshots stand.shown known)))) (stands, refl)
   where
     after : SessionModel
     after = record e { core = core; snapshot_names = fewer }
@@ -322,25 +338,31 @@ some-reader c id some = by (find_named id c.txns) (find_named id c.snapshots) so
     by None None (inl h) = cc
     by None None (inr h) = cc
 
-pub is-read : (e : SessionModel) (name id : List ℕ) → NamesStand e.names e.snapshot_names e.core.state.txns e.core.state.snapshots → reader_id e name ≡ Some id → IsSome (reader e.core.state id)
+is-read : (e : SessionModel) (name id : List ℕ) → NamesStand e.names e.snapshot_names e.core.state.txns e.core.state.snapshots → reader_id e name ≡ Some id → IsSome (reader e.core.state id)
 is-read e name id stand known =
     from-either (find_named name e.names) (find_named name e.snapshot_names) id (λ is. some-reader e.core.state id (inl (stand.transactions.opened name id is))) (λ is. some-reader e.core.state id (inr (stand.shown.opened name id is))) known
 
-both-none : (a b : Option (List ℕ)) → option_or a b ≡ None → (a ≡ None) × (b ≡ None)
-both-none None b h = (refl, h)
-both-none (Some x) b h = cc
-
-pub not-read : (e : SessionModel) (s : State) (name : List ℕ) → StandsFor e s → reader_id e name ≡ None → reader s name ≡ None
+not-read : (e : SessionModel) (s : State) (name : List ℕ) → StandsFor e s → reader_id e name ≡ None → reader s name ≡ None
 not-read e s name h none =
     let parts : (find_named name e.names ≡ None) × (find_named name e.snapshot_names ≡ None) = both-none (find_named name e.names) (find_named name e.snapshot_names) none in
     let begun = under_none name s.txns e.names e.core.state.txns h.txns parts.0 in
     let shown = under_none name s.snapshots e.snapshot_names e.core.state.snapshots h.snapshots parts.1 in
     (λ i. reader_or_snapshot (begun i) (shown i))
 
+-- what the id of a name reads is what the name reads
+pub reads-under : (e : SessionModel) (name : List ℕ) (o : Option (List ℕ)) → NamesStand e.names e.snapshot_names e.core.state.txns e.core.state.snapshots → o ≡ reader_id e name → ReadsUnder e name o
+reads-under e name None stand is s h = not-read e s name h (sym is)
+reads-under e name (Some id) stand is s h = let reads : ReadsAs e s name id = reads-as e s name id h stand (sym is) in reads.here ∙ sym reads.there
+
+pub open-under : (e : SessionModel) (name : List ℕ) (o : Option (List ℕ)) → NamesStand e.names e.snapshot_names e.core.state.txns e.core.state.snapshots → o ≡ reader_id e name → IfSome o (λ id. IsSome (reader e.core.state id))
+open-under e name None stand is = tt
+open-under e name (Some id) stand is = is-read e name id stand (sym is)
+
 -- ---- get
 
-pub get-refused : (m : Meaning) (e : SessionModel) (name k : List ℕ) → reader_id e name ≡ None → AnswersAs m e e (lines.Get name k) (Ok (answers.Refused (errors.UnknownTransaction name)))
-get-refused m e name k none s h = subst (λ o. IsStep e (get (rules_of e.core.settings m) s name k o) (answers.Refused (errors.UnknownTransaction name))) (sym (not-read e s name h none)) (h, refl)
+pub get-refused : (m : Meaning) (e : SessionModel) (name k : List ℕ) (o : Option (List ℕ)) → ReadsUnder e name o → o ≡ None → AnswersAs m e e (lines.Get name k) (Ok (answers.Refused (errors.UnknownTransaction name)))
+get-refused m e name k o reads none s h =
+    subst (λ p. IsStep e (get (rules_of e.core.settings m) s name k p) (answers.Refused (errors.UnknownTransaction name))) (sym (reads s h ∙ ap (reader_under e.core.state) none)) (h, refl)
 
 found-same : (a b : Option KeyValue) → replies.Found a ≡ replies.Found b → a ≡ b
 found-same a b h = cc

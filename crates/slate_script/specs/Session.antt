@@ -4,7 +4,7 @@
 --     AreNames names ps      each name has an id under which something is open, and no two have the same
 --     AreApart as bs      no name stands in both
 --     NamesStand names snapshot_names txns snapshots      each name stands for an open transaction or an open snapshot, and none for both
---     reader_id e name      the id that a name is read under
+--     reader_id e name, reader_under c o      the id that a name is read under, and what reads under it
 --     AreUnder named names ps      of the model's names each has what is open under its id
 --     StandsFor e s      the session answers as the model does in the state s
 --     IsStep e stepped a      an answer is the model's, as it is shown, and what the session becomes is the model's too
@@ -37,7 +37,7 @@ use Rattle.slate_txn.specs.declared.line.Line.TheVariants as lines
 use Rattle.slate_txn.specs.Named.{find_named, StandOnce}
 use Rattle.slate_txn.specs.Reply.{Reply, Refused}
 use Rattle.slate_txn.specs.State.{Rules, Tx, State}
-use Rattle.slate_txn.specs.Step.{step}
+use Rattle.slate_txn.specs.Step.{Reader, reader, step}
 use Rattle.slate_db.specs.Flushed.{Layout}
 use Rattle.slate_db.specs.Load.{load, op_load, ops_load, weight}
 use Rattle.slate_db.specs.Installs.{HoldsTables, NumberedFrom, runs_of}
@@ -82,6 +82,10 @@ pub record NamesStand (names snapshot_names : List (List ℕ × List ℕ)) (txns
 -- a transaction's, or else a snapshot's
 abbrev pub reader_id : SessionModel → List ℕ → Option (List ℕ)
 reader_id e name = option_or (find_named name e.names) (find_named name e.snapshot_names)
+
+abbrev pub reader_under : State → Option (List ℕ) → Option Reader
+reader_under c None = None
+reader_under c (Some id) = reader c id
 
 abbrev pub AreUnder : {X : Type 0} → List (List ℕ × X) → List (List ℕ × List ℕ) → List (List ℕ × X) → Type 0
 AreUnder named names ps = (name : List ℕ) → find_named name named ≡ under ps (find_named name names)

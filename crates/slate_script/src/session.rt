@@ -1,5 +1,5 @@
 //! The core, the open names with their ids, and the moment.
-ghost use Rattle.std.specs.Prelude.{◌≡◌, ◌≢◌, ◌⊎◌, ◌∷◌, ℕ, List, ◌++◌, [], map, Some, None, Ok, IfOk, IfErr, OnOk, IsTrue, IsOkUnless, length, drop, false, ◌||◌, is_some};
+ghost use Rattle.std.specs.Prelude.{◌≡◌, ◌≢◌, ◌⊎◌, ◌∷◌, ℕ, List, ◌++◌, [], map, Some, None, Ok, IfOk, IfErr, IfSome, IsSome, OnOk, IsTrue, IsOkUnless, length, drop, false};
 ghost use Rattle.slate_types.specs.Config.{IsValid};
 ghost use Rattle.slate_types.specs.Outside.{Objects, IsFault, OnlyReads, Puts};
 ghost use Rattle.slate_types.specs.World.{Made};
@@ -12,7 +12,8 @@ ghost use Rattle.slate_txn.specs.declared.line.ScanStep.{ScanStep};
 ghost use Rattle.slate_txn.specs.Named.{find_named};
 ghost use Rattle.slate_txn.specs.Reply.{Refused};
 ghost use Rattle.slate_txn.specs.Settings.{settings_of};
-ghost use Rattle.slate_txn.specs.State.{opening};
+ghost use Rattle.slate_txn.specs.State.{State, opening};
+ghost use Rattle.slate_txn.specs.Step.{reader};
 ghost use Rattle.slate_db.specs.Flushed.{layout_of};
 ghost use Rattle.slate_db.specs.Installs.{runs_of, tables_of};
 ghost use Rattle.slate_db.specs.Load.{weight};
@@ -24,7 +25,7 @@ ghost use Rattle.slate_db.specs.Sound.{IsKept};
 ghost use Rattle.slate_db.specs.StoredState.{StoresState};
 ghost use Rattle.slate_db.specs.Log.{AreFine};
 ghost use Rattle.slate_language.specs.Answers.{reply_of};
-ghost use Rattle.slate_script.specs.Session.{StandsFor, AnswersAs, HasTablesAlone, Grows, IsDone, IsSettled, IsSettledIn, IsLimit, IsRefusal, StoresNothing, has_moment, held_load, reader_id};
+ghost use Rattle.slate_script.specs.Session.{StandsFor, AnswersAs, HasTablesAlone, Grows, IsDone, IsSettled, IsSettledIn, IsLimit, IsRefusal, StoresNothing, has_moment, held_load, reader_id, reader_under};
 ghost use Rattle.slate_language.specs.Stage.{is_built, is_built_op, is_built_batch};
 ghost use Rattle.slate_script.specs.Told.{Follows, IsRefusedAt, IsUntrue, PutsTables};
 
@@ -189,16 +190,11 @@ impl Session {
         core.close();
     }
 
-    /// Whether the name is that of a transaction or of a snapshot.
-    fn is_open(&self, name: &Bytes) -> bool
-        ensures { result ≡ (is_some (find_named name.now self.now.names) || is_some (find_named name.now self.now.snapshot_names)) }
-    {
-        self.names.contains_key(name) || self.snapshot_names.contains_key(name)
-    }
-
-    /// The id that the name is read under: that of its transaction, or else that of its snapshot.
+    /// The id that the name is read under: that of its transaction, or else that of its snapshot; `None` where it isn't open.
     fn reader_id(&self, name: &Bytes) -> Option<Uuid>
-        ensures { result ≡ reader_id self.now name.now }
+        ensures id { result ≡ reader_id self.now name.now }
+        ensures open { IfSome result (λ id. IsSome (reader self.now.core.state id)) }
+        ensures reads { (s : State) → StandsFor self.now s → reader s name.now ≡ reader_under self.now.core.state result }
     {
         let snapshot = self.snapshot_names.get(name).copied();
         self.names.get(name).copied().or(snapshot)
@@ -211,7 +207,7 @@ impl Session {
         ensures grows { OnOk result (Grows (Line.Begin name level) self.old self.new) }
         ensures cause { IfErr result (λ e. (e ≡ SlateDBError.OutOfMemory) ⊎ IsLimit self.old e) }
     {
-        if self.is_open(&name) {
+        if self.reader_id(&name).is_some() {
             return Ok(Answer::Refused(SlateDBError::DuplicateTransaction { name }));
         }
         let key = name.clone()?;
@@ -227,7 +223,7 @@ impl Session {
         ensures grows { OnOk result (Grows (Line.Snapshot name) self.old self.new) }
         ensures cause { IfErr result (λ e. (e ≡ SlateDBError.OutOfMemory) ⊎ IsLimit self.old e) }
     {
-        if self.is_open(&name) {
+        if self.reader_id(&name).is_some() {
             return Ok(Answer::Refused(SlateDBError::DuplicateTransaction { name }));
         }
         let key = name.clone()?;

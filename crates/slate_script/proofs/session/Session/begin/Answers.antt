@@ -9,21 +9,18 @@ use Rattle.slate_txn.specs.declared.line.Line.TheVariants as lines
 use Rattle.slate_db.specs.Meaning.{rules_of}
 use Rattle.slate_language.specs.declared.reply.Answer.TheVariants as answers
 use Rattle.slate_types.specs.declared.error.SlateDBError.TheVariants as errors
-use Rattle.slate_script.specs.Session.{SessionModel, AnswersAs, Grows, NamesStand, StoresNothing}
+use Rattle.slate_script.specs.Session.{SessionModel, AnswersAs, Grows, NamesStand, StoresNothing, reader_id}
 use Rattle.slate_script.proofs.NamesLaws.{named-after}
-use Rattle.slate_script.proofs.SessionNames.{not-opened, opened-as, opens-fresh, names-begun, names-opened}
-use Rattle.slate_script.proofs.SessionSteps.{begin-refused, begin-opens, plain-meaning}
+use Rattle.slate_script.proofs.SessionNames.{opens-fresh, names-begun, names-opened}
+use Rattle.slate_script.proofs.SessionSteps.{ReadsUnder, begin-refused, begin-opens, plain-meaning, unnamed}
 use Rattle.slate_script.proofs.SessionLeaves.{leaves-event, stores}
 use Rattle.slate_script.proofs.Growth.{grows, takes-event, opened-more, opened-own}
 use Rattle.slate_script.proofs.session.Session.begin.Goals as goal
 
-pub returns-then-is_open : goal.returns-then-is_open
-returns-then-is_open c =
+pub returns-then-is_some : goal.returns-then-is_some
+returns-then-is_some c =
     record {
-      step = (λ m.
-          let before : SessionModel = record { core = c.self.inside.core; names = c.self.inside.names.entries; snapshot_names = c.self.inside.snapshot_names.entries; now = c.self.inside.now } in
-          subst (λ (v : SessionModel). AnswersAs m v v (lines.Begin c.args.name c.args.level) (Ok (answers.Refused (errors.DuplicateTransaction c.args.name)))) c.self.view_is
-          (begin-refused m before c.args.name c.args.level c.self.invariant.0 (opened-as c.self.view_is c.args.name (sym c.if-is_open.ensures))));
+      step = λ m. begin-refused m c.args.self.now c.args.name c.args.level c.reader_id.result c.reader_id.ensures.reads c.reader_id.ensures.open (sym c.if-is_some.ensures);
       stores = record { settings = refl; runs = refl; later = omega arith; kept = λ m k. k };
       grows = (omega arith, omega arith);
       cause = tt;
@@ -38,8 +35,8 @@ invariant_of-self-in_err-insert c =
 pub invariant_of-self-2 : goal.invariant_of-self-2
 invariant_of-self-2 c =
     let before : SessionModel = record { core = c.self.inside.core; names = c.self.inside.names.entries; snapshot_names = c.self.inside.snapshot_names.entries; now = c.self.inside.now } in
-    let shut = opened-as c.self.view_is c.args.name (sym c.if-is_open.ensures) in (
-      names-opened c.args.name before.names c.insert.new.self.entries before.snapshot_names (opens-fresh (rules_of c.self.inside.core.settings plain-meaning) c.self.inside.core.state c.begin.new.self.state c.in_ok-id.id c.args.level c.in_ok-id.start (c.in_ok-id.ensures.step plain-meaning)) (not-opened before c.args.name shut).1
+    let shut = unnamed before c.args.name c.reader_id.result (c.reader_id.ensures.id ∙ ap (λ (v : SessionModel). reader_id v c.args.name) (sym c.self.view_is)) (sym c.if-is_some.ensures) in (
+      names-opened c.args.name before.names c.insert.new.self.entries before.snapshot_names (opens-fresh (rules_of c.self.inside.core.settings plain-meaning) c.self.inside.core.state c.begin.new.self.state c.in_ok-id.id c.args.level c.in_ok-id.start (c.in_ok-id.ensures.step plain-meaning)) shut.1
           (λ q. named-after c.args.name q (Some c.in_ok-id.id) before.names c.insert.new.self.entries
           (c.in_ok-insert.ensures.updates.0 q ∙ ap (λ k. cond (is_at (key_cmp k) q) (Some c.in_ok-id.id) (lookup (is_at (key_cmp q)) before.names)) c.in_ok-key.ensures.cases)) c.self.invariant.0,
       c.self.invariant.1,
@@ -51,7 +48,8 @@ returns c =
       step = (λ m.
           let before : SessionModel = record { core = c.self.inside.core; names = c.self.inside.names.entries; snapshot_names = c.self.inside.snapshot_names.entries; now = c.self.inside.now } in
           subst (λ (v : SessionModel). AnswersAs m v (record before { core = c.begin.new.self; names = c.insert.new.self.entries }) (lines.Begin c.args.name c.args.level) (Ok (answers.Begun c.args.name c.in_ok-id.start))) c.self.view_is
-          (begin-opens m before c.begin.new.self c.insert.new.self.entries c.args.name c.in_ok-id.id c.args.level c.in_ok-id.start c.self.invariant.0 (opened-as c.self.view_is c.args.name (sym c.if-is_open.ensures))
+          (begin-opens m before c.begin.new.self c.insert.new.self.entries c.args.name c.in_ok-id.id c.args.level c.in_ok-id.start c.reader_id.result c.self.invariant.0
+          (c.reader_id.ensures.id ∙ ap (λ (v : SessionModel). reader_id v c.args.name) (sym c.self.view_is)) (subst (λ (v : SessionModel). ReadsUnder v c.args.name c.reader_id.result) (sym c.self.view_is) c.reader_id.ensures.reads) (sym c.if-is_some.ensures)
           (opens-fresh (rules_of before.core.settings m) before.core.state c.begin.new.self.state c.in_ok-id.id c.args.level c.in_ok-id.start (c.in_ok-id.ensures.step m))
           (λ q. named-after c.args.name q (Some c.in_ok-id.id) before.names c.insert.new.self.entries
           (c.in_ok-insert.ensures.updates.0 q ∙ ap (λ k. cond (is_at (key_cmp k) q) (Some c.in_ok-id.id) (lookup (is_at (key_cmp q)) before.names)) c.in_ok-key.ensures.cases))));

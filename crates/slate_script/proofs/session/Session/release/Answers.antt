@@ -25,7 +25,7 @@ returns-in_default c =
           let unshown : find_named c.args.name before.snapshot_names ≡ None = find_named-lookup c.args.name before.snapshot_names ∙ sym c.in_default.ensures.value in
           subst (λ (v : SessionModel). AnswersAs m v (record before { snapshot_names = c.remove.new.self.entries }) (lines.Rollback c.args.name) (Ok (answers.Refused (errors.UnknownTransaction c.args.name)))) c.self.view_is
           (subst (λ (ns : List (List ℕ × List ℕ)). AnswersAs m before (record before { snapshot_names = ns }) (lines.Rollback c.args.name) (Ok (answers.Refused (errors.UnknownTransaction c.args.name)))) (sym c.in_default.ensures.unchanged)
-          (rollback-refused m before c.args.name c.self.invariant.0 none unshown)));
+          (rollback-refused m before c.args.name none unshown)));
       stores = (let same : length c.self.inside.core.events ≡ length c.args.self.now.core.events = ap (λ (v : SessionModel). length v.core.events) c.self.view_is in
           record {
             settings = ap (λ (v : SessionModel). v.core.settings) c.self.view_is;

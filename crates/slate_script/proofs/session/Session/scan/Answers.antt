@@ -1,4 +1,5 @@
 use Rattle.std.proofs.Common.{◌≡◌, ℕ, List, length, Some, None, Ok, refl, sym, ap, subst, ◌∙◌, arith}
+use Rattle.std.specs.Prelude.{IfSome, IsSome, Option}
 use Rattle.std.proofs.lemmas.Result.{err_from_is_err_and, IfOk-from_err}
 use Rattle.slate_store.specs.Reach.{reach_of}
 use Rattle.slate_types.specs.Keys.{range_of}
@@ -9,7 +10,7 @@ use Rattle.slate_txn.specs.declared.line.Line.TheVariants as lines
 use Rattle.slate_txn.specs.Reply as replies
 use Rattle.slate_txn.specs.Reply.{Reply}
 use Rattle.slate_txn.specs.State.{State}
-use Rattle.slate_txn.specs.Step.{step}
+use Rattle.slate_txn.specs.Step.{reader, step}
 use Rattle.slate_db.specs.Meaning.{rules_of}
 use Rattle.slate_db.specs.Installs.{runs_of}
 use Rattle.slate_db.specs.Model.{CoreModel}
@@ -19,31 +20,25 @@ use Rattle.slate_db.specs.Scans.{IsScanError}
 use Rattle.slate_language.specs.declared.reply.Answer.TheVariants as answers
 use Rattle.slate_script.specs.Session.{SessionModel, AnswersAs, Grows, NamesStand, StoresNothing, reader_id}
 use Rattle.slate_script.proofs.SessionNames.{names-updated}
-use Rattle.slate_script.proofs.SessionSteps.{is-read}
 use Rattle.slate_script.proofs.SessionScans.{bounds_fit, range-refused, scan-found, scan-refused}
 use Rattle.slate_script.proofs.Growth.{grows, takes-noted}
 use Rattle.slate_script.proofs.session.Session.scan.Goals as goal
 
 pub returns-in_default-clause-step : goal.returns-in_default-clause-step
 returns-in_default-clause-step g c = λ is.
-    let before : SessionModel = record { core = c.self.inside.core; names = c.self.inside.names.entries; snapshot_names = c.self.inside.snapshot_names.entries; now = c.self.inside.now } in
     let m = meaning_of g.M.MergeOperator.combine g.T.BlockTransformer.encoded g.T.BlockTransformer.decoded c.args.env.now.operator c.args.env.now.transformer in
-    let none : reader_id before c.args.name ≡ None = ap (λ (v : SessionModel). reader_id v c.args.name) c.self.view_is ∙ sym c.reader_id.ensures ∙ c.in_default.is in
-    subst (λ (v : SessionModel). AnswersAs m v v (lines.Scan c.args.name c.args.order c.args.start c.args.end c.args.steps) (Ok (answers.Refused (errors.UnknownTransaction c.args.name)))) c.self.view_is
-    (scan-refused m before c.args.name c.args.order c.args.start c.args.end c.args.steps none)
+    scan-refused m c.args.self.now c.args.name c.args.order c.args.start c.args.end c.args.steps c.reader_id.result c.reader_id.ensures.reads c.in_default.is
 
 pub returns-in_default-try_new-clause-step : goal.returns-in_default-try_new-clause-step
 returns-in_default-try_new-clause-step g c = λ is.
-    let before : SessionModel = record { core = c.self.inside.core; names = c.self.inside.names.entries; snapshot_names = c.self.inside.snapshot_names.entries; now = c.self.inside.now } in
     let m = meaning_of g.M.MergeOperator.combine g.T.BlockTransformer.encoded g.T.BlockTransformer.decoded c.args.env.now.operator c.args.env.now.transformer in
     let none : range_of c.args.start c.args.end ≡ None = sym c.try_new.ensures ∙ c.in_default-try_new.is in
-    subst (λ (v : SessionModel). AnswersAs m v v (lines.Scan c.args.name c.args.order c.args.start c.args.end c.args.steps) (Ok (answers.Refused errors.InvalidRange))) c.self.view_is
-    (range-refused m before c.args.name c.in-Some.id c.args.order c.args.start c.args.end c.args.steps c.self.invariant.0 (ap (λ (v : SessionModel). reader_id v c.args.name) c.self.view_is ∙ sym c.reader_id.ensures ∙ c.in-Some.is) none)
+    range-refused m c.args.self.now c.args.name c.in-Some.id c.args.order c.args.start c.args.end c.args.steps c.reader_id.result c.reader_id.ensures.reads c.reader_id.ensures.open c.in-Some.is none
 
 pub scan_rows-scanned-requires-clause-open : goal.scan_rows-scanned-requires-clause-open
 scan_rows-scanned-requires-clause-open g c = λ κs lives.
-    let before : SessionModel = record { core = c.self.inside.core; names = c.self.inside.names.entries; snapshot_names = c.self.inside.snapshot_names.entries; now = c.self.inside.now } in
-    is-read before c.args.name c.in-Some.id c.self.invariant.0 (ap (λ (v : SessionModel). reader_id v c.args.name) c.self.view_is ∙ sym c.reader_id.ensures ∙ c.in-Some.is)
+    let open : IfSome c.reader_id.result (λ id. IsSome (reader c.self.inside.core.state id)) = subst (λ (v : SessionModel). IfSome c.reader_id.result (λ id. IsSome (reader v.core.state id))) (sym c.self.view_is) c.reader_id.ensures.open in
+    subst (λ (o : Option (List ℕ)). IfSome o (λ id. IsSome (reader c.self.inside.core.state id))) c.in-Some.is open
 
 pub scan_rows-scanned-requires-clause-range : goal.scan_rows-scanned-requires-clause-range
 scan_rows-scanned-requires-clause-range g c = λ κs lives. bounds_fit c.args.start c.args.end c.in-Some-try_new.range (sym c.try_new.ensures ∙ c.in-Some-try_new.is)
@@ -73,7 +68,7 @@ returns-clause-step g c = λ is.
     let stepped = c.in_ok-rows.ensures.scanned.answers (subst (λ (v : SessionModel). IsAnswered old new v.core) (sym c.self.view_is) is) in
     subst (λ (v : SessionModel). AnswersAs m v (record before { core = c.scan_rows-scanned.new.core }) (lines.Scan c.args.name c.args.order c.args.start c.args.end c.args.steps) (Ok (answers.Rows c.in_ok-rows.rows))) c.self.view_is
     (scan-found m before c.scan_rows-scanned.new.core c.args.name c.in-Some.id c.args.order c.args.start c.args.end c.in-Some-try_new.range c.args.steps c.in_ok-rows.rows.items (answers.Rows c.in_ok-rows.rows) c.self.invariant.0
-    (ap (λ (v : SessionModel). reader_id v c.args.name) c.self.view_is ∙ sym c.reader_id.ensures ∙ c.in-Some.is) (sym c.try_new.ensures ∙ c.in-Some-try_new.is)
+    (ap (λ (v : SessionModel). reader_id v c.args.name) c.self.view_is ∙ sym c.reader_id.ensures.id ∙ c.in-Some.is) (sym c.try_new.ensures ∙ c.in-Some-try_new.is)
     (subst (λ (sts : List ScanStep). ◌≡◌ {A = State × Reply} (step (rules_of c.self.inside.core.settings m) c.self.inside.core.state (lines.Scan c.in-Some.id c.args.order c.in-Some-try_new.range.start c.in-Some-try_new.range.end sts)) (c.scan_rows-scanned.new.core.state, replies.RowsAre c.in_ok-rows.rows.items)) c.as_slice.ensures stepped) refl)
 
 pub returns-clause-grows : goal.returns-clause-grows

@@ -9,21 +9,18 @@ use Rattle.slate_txn.specs.declared.line.Line.TheVariants as lines
 use Rattle.slate_db.specs.Meaning.{rules_of}
 use Rattle.slate_language.specs.declared.reply.Answer.TheVariants as answers
 use Rattle.slate_types.specs.declared.error.SlateDBError.TheVariants as errors
-use Rattle.slate_script.specs.Session.{SessionModel, AnswersAs, Grows, NamesStand, StoresNothing}
+use Rattle.slate_script.specs.Session.{SessionModel, AnswersAs, Grows, NamesStand, StoresNothing, reader_id}
 use Rattle.slate_script.proofs.NamesLaws.{named-after}
-use Rattle.slate_script.proofs.SessionNames.{not-opened, opened-as, opens-snapshot, names-shown, names-snapshot}
-use Rattle.slate_script.proofs.SessionSteps.{snapshot-refused, snapshot-opens, plain-meaning}
+use Rattle.slate_script.proofs.SessionNames.{opens-snapshot, names-shown, names-snapshot}
+use Rattle.slate_script.proofs.SessionSteps.{ReadsUnder, snapshot-refused, snapshot-opens, plain-meaning, unnamed}
 use Rattle.slate_script.proofs.SessionLeaves.{leaves-event, stores}
 use Rattle.slate_script.proofs.Growth.{grows, takes-event, shown-more, shown-own}
 use Rattle.slate_script.proofs.session.Session.snapshot.Goals as goal
 
-pub returns-then-is_open : goal.returns-then-is_open
-returns-then-is_open c =
+pub returns-then-is_some : goal.returns-then-is_some
+returns-then-is_some c =
     record {
-      step = (λ m.
-          let before : SessionModel = record { core = c.self.inside.core; names = c.self.inside.names.entries; snapshot_names = c.self.inside.snapshot_names.entries; now = c.self.inside.now } in
-          subst (λ (v : SessionModel). AnswersAs m v v (lines.Snapshot c.args.name) (Ok (answers.Refused (errors.DuplicateTransaction c.args.name)))) c.self.view_is
-          (snapshot-refused m before c.args.name c.self.invariant.0 (opened-as c.self.view_is c.args.name (sym c.if-is_open.ensures))));
+      step = λ m. snapshot-refused m c.args.self.now c.args.name c.reader_id.result c.reader_id.ensures.reads c.reader_id.ensures.open (sym c.if-is_some.ensures);
       stores = record { settings = refl; runs = refl; later = omega arith; kept = λ m k. k };
       grows = (omega arith, omega arith);
       cause = tt;
@@ -38,8 +35,8 @@ invariant_of-self-in_err-insert c =
 pub invariant_of-self-2 : goal.invariant_of-self-2
 invariant_of-self-2 c =
     let before : SessionModel = record { core = c.self.inside.core; names = c.self.inside.names.entries; snapshot_names = c.self.inside.snapshot_names.entries; now = c.self.inside.now } in
-    let shut = opened-as c.self.view_is c.args.name (sym c.if-is_open.ensures) in (
-      names-snapshot c.args.name before.names before.snapshot_names c.insert.new.self.entries (opens-snapshot (rules_of c.self.inside.core.settings plain-meaning) c.self.inside.core.state c.snapshot.new.self.state c.in_ok-id.id c.in_ok-id.seq (c.in_ok-id.ensures.step plain-meaning)) (not-opened before c.args.name shut).0
+    let shut = unnamed before c.args.name c.reader_id.result (c.reader_id.ensures.id ∙ ap (λ (v : SessionModel). reader_id v c.args.name) (sym c.self.view_is)) (sym c.if-is_some.ensures) in (
+      names-snapshot c.args.name before.names before.snapshot_names c.insert.new.self.entries (opens-snapshot (rules_of c.self.inside.core.settings plain-meaning) c.self.inside.core.state c.snapshot.new.self.state c.in_ok-id.id c.in_ok-id.seq (c.in_ok-id.ensures.step plain-meaning)) shut.0
           (λ q. named-after c.args.name q (Some c.in_ok-id.id) before.snapshot_names c.insert.new.self.entries
           (c.in_ok-insert.ensures.updates.0 q ∙ ap (λ k. cond (is_at (key_cmp k) q) (Some c.in_ok-id.id) (lookup (is_at (key_cmp q)) before.snapshot_names)) c.in_ok-key.ensures.cases)) c.self.invariant.0,
       c.self.invariant.1,
@@ -51,7 +48,8 @@ returns c =
       step = (λ m.
           let before : SessionModel = record { core = c.self.inside.core; names = c.self.inside.names.entries; snapshot_names = c.self.inside.snapshot_names.entries; now = c.self.inside.now } in
           subst (λ (v : SessionModel). AnswersAs m v (record before { core = c.snapshot.new.self; snapshot_names = c.insert.new.self.entries }) (lines.Snapshot c.args.name) (Ok (answers.SnapshotAt c.args.name c.in_ok-id.seq))) c.self.view_is
-          (snapshot-opens m before c.snapshot.new.self c.insert.new.self.entries c.args.name c.in_ok-id.id c.in_ok-id.seq c.self.invariant.0 (opened-as c.self.view_is c.args.name (sym c.if-is_open.ensures))
+          (snapshot-opens m before c.snapshot.new.self c.insert.new.self.entries c.args.name c.in_ok-id.id c.in_ok-id.seq c.reader_id.result c.self.invariant.0
+          (c.reader_id.ensures.id ∙ ap (λ (v : SessionModel). reader_id v c.args.name) (sym c.self.view_is)) (subst (λ (v : SessionModel). ReadsUnder v c.args.name c.reader_id.result) (sym c.self.view_is) c.reader_id.ensures.reads) (sym c.if-is_some.ensures)
           (opens-snapshot (rules_of before.core.settings m) before.core.state c.snapshot.new.self.state c.in_ok-id.id c.in_ok-id.seq (c.in_ok-id.ensures.step m))
           (λ q. named-after c.args.name q (Some c.in_ok-id.id) before.snapshot_names c.insert.new.self.entries
           (c.in_ok-insert.ensures.updates.0 q ∙ ap (λ k. cond (is_at (key_cmp k) q) (Some c.in_ok-id.id) (lookup (is_at (key_cmp q)) before.snapshot_names)) c.in_ok-key.ensures.cases))));
