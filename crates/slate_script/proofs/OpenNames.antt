@@ -106,51 +106,51 @@ names_changed {X} id f names ps h = record {
 
 -- ---- two that are apart
 
-pub apart_swap : {X Y : Type 0} (as : List (List ℕ × X)) (bs : List (List ℕ × Y)) → AreApart as bs → AreApart bs as
-apart_swap as bs h q = by (h q)
+pub apart_swap : {X Y : Type 0} (ps : List (List ℕ × X)) (qs : List (List ℕ × Y)) → AreApart ps qs → AreApart qs ps
+apart_swap ps qs h q = by (h q)
   where
-    by : (find_named q as ≡ None) ⊎ (find_named q bs ≡ None) → (find_named q bs ≡ None) ⊎ (find_named q as ≡ None)
+    by : (find_named q ps ≡ None) ⊎ (find_named q qs ≡ None) → (find_named q qs ≡ None) ⊎ (find_named q ps ≡ None)
     by (inl e) = inr e
     by (inr e) = inl e
 
 -- a name that is in neither comes into one
-pub apart_given : {X Y : Type 0} (name : List ℕ) (w : Option X) (as new : List (List ℕ × X)) (bs : List (List ℕ × Y)) → find_named name bs ≡ None →
-    ((q : List ℕ) → find_named q new ≡ cond (bytes_eq name q) w (find_named q as)) → AreApart as bs → AreApart new bs
-apart_given name w as new bs gone updates h q = by (bytes_eq name q) refl (h q)
+pub apart_given : {X Y : Type 0} (name : List ℕ) (w : Option X) (ps new : List (List ℕ × X)) (qs : List (List ℕ × Y)) → find_named name qs ≡ None →
+    ((q : List ℕ) → find_named q new ≡ cond (bytes_eq name q) w (find_named q ps)) → AreApart ps qs → AreApart new qs
+apart_given name w ps new qs gone updates h q = by (bytes_eq name q) refl (h q)
   where
-    by : (b : Bool) → bytes_eq name q ≡ b → (find_named q as ≡ None) ⊎ (find_named q bs ≡ None) → (find_named q new ≡ None) ⊎ (find_named q bs ≡ None)
-    by true e one = inr (ap (λ z. find_named z bs) (sym (bytes_eq-is name q e)) ∙ gone)
-    by false e (inl was) = inl (updates q ∙ ap (λ b. cond b w (find_named q as)) e ∙ was)
+    by : (b : Bool) → bytes_eq name q ≡ b → (find_named q ps ≡ None) ⊎ (find_named q qs ≡ None) → (find_named q new ≡ None) ⊎ (find_named q qs ≡ None)
+    by true e one = inr (ap (λ z. find_named z qs) (sym (bytes_eq-is name q e)) ∙ gone)
+    by false e (inl was) = inl (updates q ∙ ap (λ b. cond b w (find_named q ps)) e ∙ was)
     by false e (inr was) = inr was
 
-pub apart_taken : {X Y : Type 0} (name : List ℕ) (as new : List (List ℕ × X)) (bs : List (List ℕ × Y)) →
-    ((q : List ℕ) → find_named q new ≡ cond (bytes_eq name q) None (find_named q as)) → AreApart as bs → AreApart new bs
-apart_taken name as new bs updates h q = by (bytes_eq name q) refl (h q)
+pub apart_taken : {X Y : Type 0} (name : List ℕ) (ps new : List (List ℕ × X)) (qs : List (List ℕ × Y)) →
+    ((q : List ℕ) → find_named q new ≡ cond (bytes_eq name q) None (find_named q ps)) → AreApart ps qs → AreApart new qs
+apart_taken name ps new qs updates h q = by (bytes_eq name q) refl (h q)
   where
-    by : (b : Bool) → bytes_eq name q ≡ b → (find_named q as ≡ None) ⊎ (find_named q bs ≡ None) → (find_named q new ≡ None) ⊎ (find_named q bs ≡ None)
-    by true e one = inl (updates q ∙ ap (λ b. cond b None (find_named q as)) e)
-    by false e (inl was) = inl (updates q ∙ ap (λ b. cond b None (find_named q as)) e ∙ was)
+    by : (b : Bool) → bytes_eq name q ≡ b → (find_named q ps ≡ None) ⊎ (find_named q qs ≡ None) → (find_named q new ≡ None) ⊎ (find_named q qs ≡ None)
+    by true e one = inl (updates q ∙ ap (λ b. cond b None (find_named q ps)) e)
+    by false e (inl was) = inl (updates q ∙ ap (λ b. cond b None (find_named q ps)) e ∙ was)
     by false e (inr was) = inr was
 
-pub apart_changed : {X Y : Type 0} (id : List ℕ) (f : X → X) (as : List (List ℕ × X)) (bs : List (List ℕ × Y)) → AreApart as bs → AreApart (update_named id f as) bs
-apart_changed id f as bs h q = by (bytes_eq id q) refl (h q)
+pub apart_changed : {X Y : Type 0} (id : List ℕ) (f : X → X) (ps : List (List ℕ × X)) (qs : List (List ℕ × Y)) → AreApart ps qs → AreApart (update_named id f ps) qs
+apart_changed id f ps qs h q = by (bytes_eq id q) refl (h q)
   where
-    by : (b : Bool) → bytes_eq id q ≡ b → (find_named q as ≡ None) ⊎ (find_named q bs ≡ None) → (find_named q (update_named id f as) ≡ None) ⊎ (find_named q bs ≡ None)
-    by true e (inl was) = inl (find_named-updated id q f as ∙ ap (λ b. cond b (option_map f (find_named q as)) (find_named q as)) e ∙ ap (option_map f) was)
-    by false e (inl was) = inl (find_named-updated id q f as ∙ ap (λ b. cond b (option_map f (find_named q as)) (find_named q as)) e ∙ was)
+    by : (b : Bool) → bytes_eq id q ≡ b → (find_named q ps ≡ None) ⊎ (find_named q qs ≡ None) → (find_named q (update_named id f ps) ≡ None) ⊎ (find_named q qs ≡ None)
+    by true e (inl was) = inl (find_named-updated id q f ps ∙ ap (λ b. cond b (option_map f (find_named q ps)) (find_named q ps)) e ∙ ap (option_map f) was)
+    by false e (inl was) = inl (find_named-updated id q f ps ∙ ap (λ b. cond b (option_map f (find_named q ps)) (find_named q ps)) e ∙ was)
     by true e (inr was) = inr was
     by false e (inr was) = inr was
 
 -- what one has, the other has not
-pub apart_first : {X Y : Type 0} (as : List (List ℕ × X)) (bs : List (List ℕ × Y)) (q : List ℕ) → AreApart as bs → IsSome (find_named q as) → find_named q bs ≡ None
-apart_first as bs q h some = by (h q)
+pub apart_first : {X Y : Type 0} (ps : List (List ℕ × X)) (qs : List (List ℕ × Y)) (q : List ℕ) → AreApart ps qs → IsSome (find_named q ps) → find_named q qs ≡ None
+apart_first ps qs q h some = by (h q)
   where
-    by : (find_named q as ≡ None) ⊎ (find_named q bs ≡ None) → find_named q bs ≡ None
-    by (inl none) = absurd (none_some (find_named q as) none some)
+    by : (find_named q ps ≡ None) ⊎ (find_named q qs ≡ None) → find_named q qs ≡ None
+    by (inl none) = absurd (none_some (find_named q ps) none some)
     by (inr none) = none
 
-pub apart_last : {X Y : Type 0} (as : List (List ℕ × X)) (bs : List (List ℕ × Y)) (q : List ℕ) → AreApart as bs → IsSome (find_named q bs) → find_named q as ≡ None
-apart_last as bs q h some = apart_first bs as q (apart_swap as bs h) some
+pub apart_last : {X Y : Type 0} (ps : List (List ℕ × X)) (qs : List (List ℕ × Y)) (q : List ℕ) → AreApart ps qs → IsSome (find_named q qs) → find_named q ps ≡ None
+apart_last ps qs q h some = apart_first qs ps q (apart_swap ps qs h) some
 
 -- ---- what is under the names
 

@@ -215,7 +215,7 @@ noted_open c d x y (ts, is) named number (some, below) = stays_open c d (id_of x
     (λ t found. subst (λ n. n < count_by is_scan t.transcript) (sym number) (noted_scans c.state (id_of x) ts (number_of x) below t found))
 
 pub open_on : {means : Means} {a b : Reach} {old new : List KeyValue} (c d : CoreModel) (x y : TxnIterator) → Took means a b c d x y old new → IsOpenScan c x → IsOpenScan d y
-open_on c d x y f open = noted_open c d x y (f.ts, f.notes) f.names.named f.names.number open
+open_on c d x y f live = noted_open c d x y (f.ts, f.notes) f.names.named f.names.number live
 
 -- ---- refusals
 

@@ -64,7 +64,7 @@ scan-refused m e name order start end sts o reads none s h =
 -- a range that is none
 pub range-refused : (m : Meaning) (e : SessionModel) (name id : List ℕ) (order : IterationOrder) (start end : Bound (List ℕ)) (sts : List ScanStep) (o : Option (List ℕ)) → ReadsUnder e name o → IfSome o (λ i. IsSome (reader e.core.state i)) → o ≡ Some id → range_of start end ≡ None →
     AnswersAs m e e (lines.Scan name order start end sts) (Ok (answers.Refused errors.InvalidRange))
-range-refused m e name id order start end sts o reads open is none s h = by (reader e.core.state id) refl (subst (λ p. IfSome p (λ i. IsSome (reader e.core.state i))) is open)
+range-refused m e name id order start end sts o reads live is none s h = by (reader e.core.state id) refl (subst (λ p. IfSome p (λ i. IsSome (reader e.core.state i))) is live)
   where
     by : (p : Option Reader) → reader e.core.state id ≡ p → IsSome p → IsStep e (scan (rules_of e.core.settings m) s name order (range_of start end) sts (reader s name)) (answers.Refused errors.InvalidRange)
     by None there some = cc

@@ -57,8 +57,8 @@ abbrev pub ReadsUnder : SessionModel → List ℕ → Option (List ℕ) → Type
 ReadsUnder e name o = (s : State) → StandsFor e s → reader s name ≡ reader_under e.core.state o
 
 is-open : (e : SessionModel) (s : State) (name : List ℕ) (o : Option (List ℕ)) → StandsFor e s → ReadsUnder e name o → IfSome o (λ id. IsSome (reader e.core.state id)) → is_some o ≡ true → is_open s name ≡ true
-is-open e s name None h reads open some = cc
-is-open e s name (Some id) h reads open some = reads-open s name ∙ ap is_some (reads s h) ∙ open
+is-open e s name None h reads live some = cc
+is-open e s name (Some id) h reads live some = reads-open s name ∙ ap is_some (reads s h) ∙ live
 
 is-shut : (e : SessionModel) (s : State) (name : List ℕ) (o : Option (List ℕ)) → StandsFor e s → ReadsUnder e name o → is_some o ≡ false → is_open s name ≡ false
 is-shut e s name None h reads none = reads-open s name ∙ ap is_some (reads s h)
@@ -97,10 +97,10 @@ now-set m e moment s h = (record { commits = h.commits; txns = h.txns; once = h.
 
 pub begin-refused : (m : Meaning) (e : SessionModel) (name : List ℕ) (level : IsolationLevel) (o : Option (List ℕ)) → ReadsUnder e name o → IfSome o (λ id. IsSome (reader e.core.state id)) → is_some o ≡ true →
     AnswersAs m e e (lines.Begin name level) (Ok (answers.Refused (errors.DuplicateTransaction name)))
-begin-refused m e name level o reads open some s h =
+begin-refused m e name level o reads live some s h =
     subst (λ b. IsStep e (cond b (s, replies.Refused (errors.DuplicateTransaction name)) (record s { txns = set_named name (begun level (last (rules_of e.core.settings m) s)) s.txns }, replies.Begun name (last (rules_of e.core.settings m) s)))
     (answers.Refused (errors.DuplicateTransaction name)))
-    (sym (is-open e s name o h reads open some)) (h, refl)
+    (sym (is-open e s name o h reads live some)) (h, refl)
 
 pub begin-opens : (m : Meaning) (e : SessionModel) (core : CoreModel) (more : Names) (name id : List ℕ) (level : IsolationLevel) (n : ℕ) (o : Option (List ℕ)) → NamesStand e.names e.snapshot_names e.core.state.txns e.core.state.snapshots → o ≡ reader_id e name → ReadsUnder e name o → is_some o ≡ false →
     Fresh (rules_of e.core.settings m) e.core.state core.state id level n → ((q : List ℕ) → find_named q more ≡ cond (bytes_eq name q) (Some id) (find_named q e.names)) →
@@ -143,10 +143,10 @@ begin-opens m e core more name id level n o stand id-is reads shut fresh updates
 
 pub snapshot-refused : (m : Meaning) (e : SessionModel) (name : List ℕ) (o : Option (List ℕ)) → ReadsUnder e name o → IfSome o (λ id. IsSome (reader e.core.state id)) → is_some o ≡ true →
     AnswersAs m e e (lines.Snapshot name) (Ok (answers.Refused (errors.DuplicateTransaction name)))
-snapshot-refused m e name o reads open some s h =
+snapshot-refused m e name o reads live some s h =
     subst (λ b. IsStep e (cond b (s, replies.Refused (errors.DuplicateTransaction name)) (record s { snapshots = set_named name (last (rules_of e.core.settings m) s) s.snapshots }, replies.SnapshotAt name (last (rules_of e.core.settings m) s)))
     (answers.Refused (errors.DuplicateTransaction name)))
-    (sym (is-open e s name o h reads open some)) (h, refl)
+    (sym (is-open e s name o h reads live some)) (h, refl)
 
 pub snapshot-opens : (m : Meaning) (e : SessionModel) (core : CoreModel) (more : Names) (name id : List ℕ) (n : ℕ) (o : Option (List ℕ)) → NamesStand e.names e.snapshot_names e.core.state.txns e.core.state.snapshots → o ≡ reader_id e name → ReadsUnder e name o → is_some o ≡ false →
     FreshSnapshot (rules_of e.core.settings m) e.core.state core.state id n → ((q : List ℕ) → find_named q more ≡ cond (bytes_eq name q) (Some id) (find_named q e.snapshot_names)) →

@@ -2,7 +2,7 @@
 --     SessionModel      the core, the open names with their ids, and the moment
 --     under ps o      what is open under the id, where there is one
 --     AreNames names ps      each name has an id under which something is open, and no two have the same
---     AreApart as bs      no name stands in both
+--     AreApart ps qs      no name stands in both
 --     NamesStand names snapshot_names txns snapshots      each name stands for an open transaction or an open snapshot, and none for both
 --     reader_id e name, reader_under c o      the id that a name is read under, and what reads under it
 --     AreUnder named names ps      of the model's names each has what is open under its id
@@ -70,7 +70,7 @@ pub record AreNames {X : Type 0} (names : List (List ℕ × List ℕ)) (ps : Lis
   pub once : StandOnce ps
 
 abbrev pub AreApart : {X Y : Type 0} → List (List ℕ × X) → List (List ℕ × Y) → Type 0
-AreApart as bs = (name : List ℕ) → (find_named name as ≡ None) ⊎ (find_named name bs ≡ None)
+AreApart ps qs = (name : List ℕ) → (find_named name ps ≡ None) ⊎ (find_named name qs ≡ None)
 
 -- txns, snapshots: what is open in the core
 pub record NamesStand (names snapshot_names : List (List ℕ × List ℕ)) (txns : List (List ℕ × Tx)) (snapshots : List (List ℕ × ℕ)) : Type 0 where

@@ -193,11 +193,12 @@ impl Session {
     /// The id that the name is read under: that of its transaction, or else that of its snapshot; `None` where it isn't open.
     fn reader_id(&self, name: &Bytes) -> Option<Uuid>
         ensures id { result ≡ reader_id self.now name.now }
-        ensures open { IfSome result (λ id. IsSome (reader self.now.core.state id)) }
+        ensures known { IfSome result (λ id. IsSome (reader self.now.core.state id)) }
         ensures reads { (s : State) → StandsFor self.now s → reader s name.now ≡ reader_under self.now.core.state result }
     {
+        let transaction = self.names.get(name).copied();
         let snapshot = self.snapshot_names.get(name).copied();
-        self.names.get(name).copied().or(snapshot)
+        transaction.or(snapshot)
     }
 
     /// Opens the name at the last commit, as a transaction.
@@ -253,9 +254,7 @@ impl Session {
             return Ok(Answer::Refused(SlateDBError::UnknownTransaction { name }));
         };
         drop(name);
-        let read = self
-            .core
-            .get(&id, key.as_slice(), &NO_CONTEXT, env, laws);
+        let read = self.core.get(&id, key.as_slice(), &NO_CONTEXT, env, laws);
         drop(key);
         let row = read?;
         Ok(Answer::Found(row))

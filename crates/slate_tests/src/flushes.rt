@@ -105,12 +105,7 @@ fn two_puts(alloc: Global, core: &mut Core, laws: &Laws<NoExtractor>) -> Option<
 }
 
 // Whether an open transaction finds a row at each of two keys.
-fn finds_both(
-    core: &mut Core,
-    env: &mut Parts<'_>,
-    laws: &Laws<NoExtractor>,
-    id: &Uuid,
-) -> bool {
+fn finds_both(core: &mut Core, env: &mut Parts<'_>, laws: &Laws<NoExtractor>, id: &Uuid) -> bool {
     finds(core, env, laws, id)
         && core.is_open(id)
         && is_there(core.get(id, b"b", &ReadOptions::default(), env, laws))

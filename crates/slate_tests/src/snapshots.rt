@@ -41,12 +41,7 @@ fn taken(alloc: Global, core: &mut Core, laws: &Laws<NoExtractor>) -> Option<(Uu
 }
 
 // Whether another commit of both keys is flushed, and answers its sequence.
-fn is_changed(
-    alloc: Global,
-    core: &mut Core,
-    env: &mut Parts<'_>,
-    laws: &Laws<NoExtractor>,
-) -> bool
+fn is_changed(alloc: Global, core: &mut Core, env: &mut Parts<'_>, laws: &Laws<NoExtractor>) -> bool
     requires { IsValid laws.now.options }
 {
     commit(alloc, core, laws, b"3", None) == Some(2)

@@ -33,12 +33,12 @@ pub returns-in_default-try_new-clause-step : goal.returns-in_default-try_new-cla
 returns-in_default-try_new-clause-step g c = λ is.
     let m = meaning_of g.M.MergeOperator.combine g.T.BlockTransformer.encoded g.T.BlockTransformer.decoded c.args.env.now.operator c.args.env.now.transformer in
     let none : range_of c.args.start c.args.end ≡ None = sym c.try_new.ensures ∙ c.in_default-try_new.is in
-    range-refused m c.args.self.now c.args.name c.in-Some.id c.args.order c.args.start c.args.end c.args.steps c.reader_id.result c.reader_id.ensures.reads c.reader_id.ensures.open c.in-Some.is none
+    range-refused m c.args.self.now c.args.name c.in-Some.id c.args.order c.args.start c.args.end c.args.steps c.reader_id.result c.reader_id.ensures.reads c.reader_id.ensures.known c.in-Some.is none
 
 pub scan_rows-scanned-requires-clause-open : goal.scan_rows-scanned-requires-clause-open
 scan_rows-scanned-requires-clause-open g c = λ κs lives.
-    let open : IfSome c.reader_id.result (λ id. IsSome (reader c.self.inside.core.state id)) = subst (λ (v : SessionModel). IfSome c.reader_id.result (λ id. IsSome (reader v.core.state id))) (sym c.self.view_is) c.reader_id.ensures.open in
-    subst (λ (o : Option (List ℕ)). IfSome o (λ id. IsSome (reader c.self.inside.core.state id))) c.in-Some.is open
+    let live : IfSome c.reader_id.result (λ id. IsSome (reader c.self.inside.core.state id)) = subst (λ (v : SessionModel). IfSome c.reader_id.result (λ id. IsSome (reader v.core.state id))) (sym c.self.view_is) c.reader_id.ensures.known in
+    subst (λ (o : Option (List ℕ)). IfSome o (λ id. IsSome (reader c.self.inside.core.state id))) c.in-Some.is live
 
 pub scan_rows-scanned-requires-clause-range : goal.scan_rows-scanned-requires-clause-range
 scan_rows-scanned-requires-clause-range g c = λ κs lives. bounds_fit c.args.start c.args.end c.in-Some-try_new.range (sym c.try_new.ensures ∙ c.in-Some-try_new.is)

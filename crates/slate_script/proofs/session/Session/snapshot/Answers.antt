@@ -20,7 +20,7 @@ use Rattle.slate_script.proofs.session.Session.snapshot.Goals as goal
 pub returns-then-is_some : goal.returns-then-is_some
 returns-then-is_some c =
     record {
-      step = λ m. snapshot-refused m c.args.self.now c.args.name c.reader_id.result c.reader_id.ensures.reads c.reader_id.ensures.open (sym c.if-is_some.ensures);
+      step = λ m. snapshot-refused m c.args.self.now c.args.name c.reader_id.result c.reader_id.ensures.reads c.reader_id.ensures.known (sym c.if-is_some.ensures);
       stores = record { settings = refl; runs = refl; later = omega arith; kept = λ m k. k };
       grows = (omega arith, omega arith);
       cause = tt;
