@@ -217,5 +217,5 @@ pub under_none : {X : Type 0} (name : List ℕ) (named : List (List ℕ × X)) (
 under_none name named names ps h none = h name ∙ ap (under ps) none
 
 -- the same under a state of the core that has become the same
-pub under_same : {X : Type 0} {named : List (List ℕ × X)} {names : Names} {ps qs : List (List ℕ × X)} → AreUnder named names ps → ps ≡ qs → AreUnder named names qs
-under_same {X} {named} {names} {ps} {qs} h same q = h q ∙ ap (λ rs. under rs (find_named q names)) same
+pub under_same : {X : Type 0} (named : List (List ℕ × X)) (names : Names) (ps qs : List (List ℕ × X)) → AreUnder named names ps → ps ≡ qs → AreUnder named names qs
+under_same named names ps qs h same q = h q ∙ ap (λ rs. under rs (find_named q names)) same

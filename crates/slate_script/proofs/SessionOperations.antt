@@ -199,9 +199,9 @@ commit-as m e core fewer name id a stand known txns snapshots flushed updates st
     stands : StandsFor after (record (at e.now core.state) { txns = without name s.txns; snapshots = without name s.snapshots; flushed = s.flushed })
     stands = record {
       commits = refl;
-      txns = under_same (under_taken name id s.txns e.names fewer e.core.state.txns h.once stand.transactions known updates h.txns) (sym txns);
+      txns = under_same _ _ _ _ (under_taken name id s.txns e.names fewer e.core.state.txns h.once stand.transactions known updates h.txns) (sym txns);
       once = once-without name s.txns h.once;
-      snapshots = subst (λ ss. AreUnder ss e.snapshot_names core.state.snapshots) (sym (without-none name s.snapshots unshown)) (under_same h.snapshots (sym snapshots));
+      snapshots = subst (λ ss. AreUnder ss e.snapshot_names core.state.snapshots) (sym (without-none name s.snapshots unshown)) (under_same _ _ _ _ h.snapshots (sym snapshots));
       snapshots_once = once-without name s.snapshots h.snapshots_once;
       moment = refl;
       flushed = h.flushed ∙ sym flushed;

@@ -131,9 +131,9 @@ begin-opens m e core more name id level n o stand id-is reads shut fresh updates
     stands : StandsFor after (record s { txns = set_named name tx s.txns })
     stands = record {
       commits = h.commits ∙ ap (λ (c : State). c.commits) (sym is);
-      txns = under_same (under_given name id tx s.txns e.names more e.core.state.txns gone fresh.none stand.transactions updates h.txns) (ap (λ (c : State). c.txns) (sym is));
+      txns = under_same _ _ _ _ (under_given name id tx s.txns e.names more e.core.state.txns gone fresh.none stand.transactions updates h.txns) (ap (λ (c : State). c.txns) (sym is));
       once = once-set name tx s.txns gone h.once;
-      snapshots = under_same h.snapshots (ap (λ (c : State). c.snapshots) (sym is));
+      snapshots = under_same _ _ _ _ h.snapshots (ap (λ (c : State). c.snapshots) (sym is));
       snapshots_once = h.snapshots_once;
       moment = h.moment;
       flushed = h.flushed ∙ ap (λ (c : State). c.flushed) (sym is);
@@ -174,9 +174,9 @@ snapshot-opens m e core more name id n o stand id-is reads shut fresh updates s 
     stands : StandsFor after (record s { snapshots = set_named name n s.snapshots })
     stands = record {
       commits = h.commits ∙ ap (λ (c : State). c.commits) (sym is);
-      txns = under_same h.txns (ap (λ (c : State). c.txns) (sym is));
+      txns = under_same _ _ _ _ h.txns (ap (λ (c : State). c.txns) (sym is));
       once = h.once;
-      snapshots = under_same (under_given name id n s.snapshots e.snapshot_names more e.core.state.snapshots gone fresh.none stand.shown updates h.snapshots) (ap (λ (c : State). c.snapshots) (sym is));
+      snapshots = under_same _ _ _ _ (under_given name id n s.snapshots e.snapshot_names more e.core.state.snapshots gone fresh.none stand.shown updates h.snapshots) (ap (λ (c : State). c.snapshots) (sym is));
       snapshots_once = once-set name n s.snapshots gone h.snapshots_once;
       moment = h.moment;
       flushed = h.flushed ∙ ap (λ (c : State). c.flushed) (sym is);
@@ -219,9 +219,9 @@ rollback-closes m e core fewer name id stand known is updates s h =
     stands : StandsFor after (closed s name)
     stands = record {
       commits = h.commits ∙ ap (λ (c : State). c.commits) (sym is);
-      txns = under_same (under_taken name id s.txns e.names fewer e.core.state.txns h.once stand.transactions known updates h.txns) (ap (λ (c : State). c.txns) (sym is));
+      txns = under_same _ _ _ _ (under_taken name id s.txns e.names fewer e.core.state.txns h.once stand.transactions known updates h.txns) (ap (λ (c : State). c.txns) (sym is));
       once = once-without name s.txns h.once;
-      snapshots = subst (λ ss. AreUnder ss e.snapshot_names core.state.snapshots) (sym (without-none name s.snapshots unshown)) (under_same h.snapshots (ap (λ (c : State). c.snapshots) (sym is)));
+      snapshots = subst (λ ss. AreUnder ss e.snapshot_names core.state.snapshots) (sym (without-none name s.snapshots unshown)) (under_same _ _ _ _ h.snapshots (ap (λ (c : State). c.snapshots) (sym is)));
       snapshots_once = once-without name s.snapshots h.snapshots_once;
       moment = h.moment;
       flushed = h.flushed ∙ ap (λ (c : State). c.flushed) (sym is);
@@ -243,9 +243,9 @@ rollback-releases m e core fewer name id stand known is updates s h =
     stands : StandsFor after (closed s name)
     stands = record {
       commits = h.commits ∙ ap (λ (c : State). c.commits) (sym is);
-      txns = subst (λ ts. AreUnder ts e.names core.state.txns) (sym (without-none name s.txns unbegun)) (under_same h.txns (ap (λ (c : State). c.txns) (sym is)));
+      txns = subst (λ ts. AreUnder ts e.names core.state.txns) (sym (without-none name s.txns unbegun)) (under_same _ _ _ _ h.txns (ap (λ (c : State). c.txns) (sym is)));
       once = once-without name s.txns h.once;
-      snapshots = under_same (under_taken name id s.snapshots e.snapshot_names fewer e.core.state.snapshots h.snapshots_once stand.shown known updates h.snapshots) (ap (λ (c : State). c.snapshots) (sym is));
+      snapshots = under_same _ _ _ _ (under_taken name id s.snapshots e.snapshot_names fewer e.core.state.snapshots h.snapshots_once stand.shown known updates h.snapshots) (ap (λ (c : State). c.snapshots) (sym is));
       snapshots_once = once-without name s.snapshots h.snapshots_once;
       moment = h.moment;
       flushed = h.flushed ∙ ap (λ (c : State). c.flushed) (sym is);
@@ -260,9 +260,9 @@ with_steps ts t = record t { transcript = t.transcript ++ ts }
 pub stands-same : (e : SessionModel) (s : State) (core : CoreModel) → StandsFor e s → core.state ≡ e.core.state → StandsFor (record e { core = core }) s
 stands-same e s core h is = record {
   commits = h.commits ∙ ap (λ (c : State). c.commits) (sym is);
-  txns = under_same h.txns (ap (λ (c : State). c.txns) (sym is));
+  txns = under_same _ _ _ _ h.txns (ap (λ (c : State). c.txns) (sym is));
   once = h.once;
-  snapshots = under_same h.snapshots (ap (λ (c : State). c.snapshots) (sym is));
+  snapshots = under_same _ _ _ _ h.snapshots (ap (λ (c : State). c.snapshots) (sym is));
   snapshots_once = h.snapshots_once;
   moment = h.moment;
   flushed = h.flushed ∙ ap (λ (c : State). c.flushed) (sym is);
@@ -273,9 +273,9 @@ pub stands-updated : (e : SessionModel) (s : State) (core : CoreModel) (name id 
     core.state ≡ record e.core.state { txns = update_named id f e.core.state.txns } → StandsFor (record e { core = core }) (record s { txns = update_named name f s.txns })
 stands-updated e s core name id f h names known is = record {
   commits = h.commits ∙ ap (λ (c : State). c.commits) (sym is);
-  txns = under_same (under_changed name id f s.txns e.names e.core.state.txns names known h.txns) (ap (λ (c : State). c.txns) (sym is));
+  txns = under_same _ _ _ _ (under_changed name id f s.txns e.names e.core.state.txns names known h.txns) (ap (λ (c : State). c.txns) (sym is));
   once = once-update name f s.txns h.once;
-  snapshots = under_same h.snapshots (ap (λ (c : State). c.snapshots) (sym is));
+  snapshots = under_same _ _ _ _ h.snapshots (ap (λ (c : State). c.snapshots) (sym is));
   snapshots_once = h.snapshots_once;
   moment = h.moment;
   flushed = h.flushed ∙ ap (λ (c : State). c.flushed) (sym is);
@@ -421,9 +421,9 @@ write-as m e core ops a txns snapshots flushed stepped s h =
     subst (λ (p : State × Reply). IsStep (record e { core = core }) p a) (sym made) (
       record {
         commits = refl;
-        txns = under_same h.txns (sym txns);
+        txns = under_same _ _ _ _ h.txns (sym txns);
         once = h.once;
-        snapshots = under_same h.snapshots (sym snapshots);
+        snapshots = under_same _ _ _ _ h.snapshots (sym snapshots);
         snapshots_once = h.snapshots_once;
         moment = refl;
         flushed = h.flushed ∙ sym flushed;
@@ -467,9 +467,9 @@ pub freeze-as : (m : Meaning) (e : SessionModel) (core : CoreModel) (n : ℕ) �
 freeze-as m e core n stepped s h = (
   record {
     commits = h.commits ∙ ap (λ (c : State). c.commits) is;
-    txns = under_same h.txns (ap (λ (c : State). c.txns) is);
+    txns = under_same _ _ _ _ h.txns (ap (λ (c : State). c.txns) is);
     once = h.once;
-    snapshots = under_same h.snapshots (ap (λ (c : State). c.snapshots) is);
+    snapshots = under_same _ _ _ _ h.snapshots (ap (λ (c : State). c.snapshots) is);
     snapshots_once = h.snapshots_once;
     moment = h.moment;
     flushed = h.flushed ∙ ap (λ (c : State). c.flushed) is;
@@ -485,9 +485,9 @@ pub flush-as : (m : Meaning) (e : SessionModel) (core : CoreModel) (n : ℕ) →
 flush-as m e core n stepped s h = (
   record {
     commits = h.commits ∙ ap (λ (c : State). c.commits) is;
-    txns = under_same h.txns (ap (λ (c : State). c.txns) is);
+    txns = under_same _ _ _ _ h.txns (ap (λ (c : State). c.txns) is);
     once = h.once;
-    snapshots = under_same h.snapshots (ap (λ (c : State). c.snapshots) is);
+    snapshots = under_same _ _ _ _ h.snapshots (ap (λ (c : State). c.snapshots) is);
     snapshots_once = h.snapshots_once;
     moment = h.moment;
     flushed = sym (lasts e s r h) ∙ ap (λ (c : State). c.flushed) is;

@@ -192,9 +192,9 @@ impl Session {
 
     /// The id that the name is read under: that of its transaction, or else that of its snapshot; `None` where it isn't open.
     fn reader_id(&self, name: &Bytes) -> Option<Uuid>
-        ensures id { result ≡ reader_id self.now name.now }
-        ensures known { IfSome result (λ id. IsSome (reader self.now.core.state id)) }
-        ensures reads { (s : State) → StandsFor self.now s → reader s name.now ≡ reader_under self.now.core.state result }
+        ensures id { result ≡ reader_id self.entry.now name.now }
+        ensures known { IfSome result (λ id. IsSome (reader self.entry.now.core.state id)) }
+        ensures reads { (s : State) → StandsFor self.entry.now s → reader s name.now ≡ reader_under self.entry.now.core.state result }
     {
         let transaction = self.names.get(name).copied();
         let snapshot = self.snapshot_names.get(name).copied();

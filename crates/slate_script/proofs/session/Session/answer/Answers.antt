@@ -97,7 +97,7 @@ returns-in-Scan g c =
     }
 
 pub answer_within-requires : goal.answer_within-requires
-answer_within-requires g c = record {
+answer_within-requires g c = λ κs lives. record {
   built = c.requires.built;
   moment = c.requires.moment;
   no_get = λ name key is. c.in_default.not-Get name key is;

@@ -35,7 +35,7 @@ returns-in_default g c =
     }
 
 pub get-read-requires : goal.get-read-requires
-get-read-requires g c =
+get-read-requires g c = λ κs lives.
     let live : IfSome c.reader_id.result (λ id. IsSome (reader c.self.inside.core.state id)) = subst (λ (v : SessionModel). IfSome c.reader_id.result (λ id. IsSome (reader v.core.state id))) (sym c.self.view_is) c.reader_id.ensures.known in
     subst (λ (o : Option (List ℕ)). IfSome o (λ id. IsSome (reader c.self.inside.core.state id))) c.in-Some.is live
 

@@ -21,7 +21,7 @@ returns-in_default c =
     record {
       step = (λ m.
           let before : SessionModel = record { core = c.self.inside.core; names = c.self.inside.names.entries; snapshot_names = c.self.inside.snapshot_names.entries; now = c.self.inside.now } in
-          let none : find_named c.args.name before.names ≡ None = ap (λ (v : SessionModel). find_named c.args.name v.names) c.self.view_is ∙ c.requires.0 in
+          let none : find_named c.args.name before.names ≡ None = ap (λ (v : SessionModel). find_named c.args.name v.names) c.self.view_is ∙ c.requires in
           let unshown : find_named c.args.name before.snapshot_names ≡ None = find_named-lookup c.args.name before.snapshot_names ∙ sym c.in_default.ensures.value in
           subst (λ (v : SessionModel). AnswersAs m v (record before { snapshot_names = c.remove.new.self.entries }) (lines.Rollback c.args.name) (Ok (answers.Refused (errors.UnknownTransaction c.args.name)))) c.self.view_is
           (subst (λ (ns : List (List ℕ × List ℕ)). AnswersAs m before (record before { snapshot_names = ns }) (lines.Rollback c.args.name) (Ok (answers.Refused (errors.UnknownTransaction c.args.name)))) (sym c.in_default.ensures.unchanged)
