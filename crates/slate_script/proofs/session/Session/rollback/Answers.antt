@@ -1,4 +1,4 @@
-use Rattle.std.proofs.Common.{arith, ◌≡◌, None, Some, Ok, List, ℕ, sym, subst, ◌∙◌, ap}
+use Rattle.std.proofs.Common.{arith, ◌≡◌, None, Some, Ok, List, ℕ, refl, sym, subst, ◌∙◌, ap}
 use Rattle.slate_txn.specs.Named.{find_named}
 use Rattle.slate_txn.specs.State.{State}
 use Rattle.slate_txn.specs.declared.event.Event.TheVariants as events
@@ -12,6 +12,15 @@ use Rattle.slate_script.proofs.SessionSteps.{rollback-closes, plain-meaning}
 use Rattle.slate_script.proofs.SessionLeaves.{leaves-event, stores}
 use Rattle.slate_script.proofs.Growth.{closed-fewer, closed-own, grows, takes-event}
 use Rattle.slate_script.proofs.session.Session.rollback.Goals as goal
+
+pub release-requires : goal.release-requires
+release-requires c = ap (find_named c.args.name) c.in_default.ensures.unchanged ∙ find_named-lookup c.args.name c.self.inside.names.entries ∙ sym c.in_default.ensures.value
+
+pub returns-in_default-clause-step : goal.returns-in_default-clause-step
+returns-in_default-clause-step c m =
+    let before : SessionModel = record { core = c.self.inside.core; names = c.self.inside.names.entries; snapshot_names = c.self.inside.snapshot_names.entries; now = c.self.inside.now } in
+    subst (λ (v : SessionModel). AnswersAs m v c.release.new.self (lines.Rollback c.args.name) (Ok c.release.result)) c.self.view_is
+    (subst (λ (ns : List (List ℕ × List ℕ)). AnswersAs m (record before { names = ns }) c.release.new.self (lines.Rollback c.args.name) (Ok c.release.result)) c.in_default.ensures.unchanged (c.release.ensures.step m))
 
 pub rollback-requires : goal.rollback-requires
 rollback-requires c = c.self.invariant.0.transactions.opened c.args.name c.in-Some.id (find_named-lookup c.args.name c.self.inside.names.entries ∙ sym c.in-Some.ensures.value)
