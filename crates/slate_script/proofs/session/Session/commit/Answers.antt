@@ -46,7 +46,7 @@ returns-in_default g c =
     }
 
 pub commit-requires : goal.commit-requires
-commit-requires g c = (search, search, c.self.invariant.0.transactions.opened c.args.name c.in-Some.id (find_named-lookup c.args.name c.self.inside.names.entries ∙ sym c.in-Some.ensures.value))
+commit-requires g c = (search, (search, c.self.invariant.0.transactions.opened c.args.name c.in-Some.id (find_named-lookup c.args.name c.self.inside.names.entries ∙ sym c.in-Some.ensures.value)))
 
 pub invariant_of-self-2 : goal.invariant_of-self-2
 invariant_of-self-2 g c =
