@@ -6,6 +6,8 @@ mod block_iterators;
 #[cfg(test)]
 mod blocks;
 #[cfg(test)]
+mod commit_lists;
+#[cfg(test)]
 mod flushes;
 #[cfg(test)]
 mod generated;
