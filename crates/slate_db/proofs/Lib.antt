@@ -69,3 +69,4 @@ mod ScanRefusals
 mod OpenNotes
 mod ScanMerges
 pub mod RowDamage
+mod Serial
