@@ -90,13 +90,13 @@ module _ (s : State) (id : List ℕ) (from : Reader) (found : reader s id ≡ So
   pub own_range_of : (range : BytesRange) (rows : List RowEntry) → ((t : Tx) → find_named id s.txns ≡ Some t → HasOwn range t.ops rows) → (find_named id s.txns ≡ None → rows ≡ []) → HasOwn range from.ops rows
   own_range_of range rows own none = by (who_reads s id from found)
     where
-      nothing : (b : Bool) → [] ≡ cond b [] []
-      nothing true = refl
-      nothing false = refl
+      nothing : (b : Bool) (none : List RowEntry) → none ≡ [] → [] ≡ cond b none []
+      nothing true none is = sym is
+      nothing false none is = refl
 
       by : IsReader s id from → HasOwn range from.ops rows
       by (transaction t here as) = subst (λ (r : Reader). HasOwn range r.ops rows) (sym as) (own t here)
-      by (snapshot n here there as) = subst (λ (r : Reader). HasOwn range r.ops rows) (sym as) (λ k. ap (of_key k) (none here) ∙ nothing (in_range range k))
+      by (snapshot n here there as) = subst (λ (r : Reader). HasOwn range r.ops rows) (sym as) (λ k. ap (of_key k) (none here) ∙ nothing (in_range range k) _ refl)
 
   pub plain_of : ((t : Tx) → find_named id s.txns ≡ Some t → holds_merge t.ops ≡ false) → holds_merge from.ops ≡ false
   plain_of plain = by (who_reads s id from found)

@@ -247,11 +247,11 @@ after_none s t us is own same = (λ i. record s { ops = own_of (same i); transcr
 -- ---- no operations make no rows
 
 none_has : (range : BytesRange) (n : ℕ) (k : List ℕ) → batch_rows range n None None [] k ≡ []
-none_has range n k = by (in_range range k)
+none_has range n k = by (in_range range k) _ refl
   where
-    by : (b : Bool) → cond b [] [] ≡ []
-    by true = refl
-    by false = refl
+    by : (b : Bool) (rows : List RowEntry) → rows ≡ [] → cond b rows [] ≡ []
+    by true rows none = none
+    by false rows none = refl
 
 no_key : (rows : List RowEntry) → ((k : List ℕ) → of_key k rows ≡ []) → rows ≡ []
 no_key [] h = refl
