@@ -68,5 +68,6 @@ mod SourceLists
 mod ScanOpenings
 mod ScanRefusals
 mod OpenNotes
+mod Readers
 mod ScanMerges
 pub mod RowDamage

@@ -104,7 +104,7 @@ commits_vouched r cs later t above h = alone-same r cs (cs ++ later) t.begin [] 
 pub own_vouched : (k : List ℕ) (op : WriteOp) (r : Rules) (cs : List Commit) (t : Tx) → IsVouched r cs t → IsVouched r cs (with_op k op t)
 own_vouched k op r cs t h = alone-more r cs t.begin [] [] t.transcript (steps.Own k op ∷ []) h tt
 
-get_vouched : (r : Rules) (cs : List Commit) (k : List ℕ) (a : Option KeyValue) (t : Tx) → t.ops ≡ own_of t.transcript → a ≡ option_map key_value (seen r cs t.begin t.ops k) → IsVouched r cs t →
+pub get_vouched : (r : Rules) (cs : List Commit) (k : List ℕ) (a : Option KeyValue) (t : Tx) → t.ops ≡ own_of t.transcript → a ≡ option_map key_value (seen r cs t.begin t.ops k) → IsVouched r cs t →
     IsVouched r cs (record t { transcript = t.transcript ++ (steps.Get k a ∷ []) })
 get_vouched r cs k a t own is h = alone-more r cs t.begin [] [] t.transcript (steps.Get k a ∷ []) h (subst (λ (os : Ops). a ≡ option_map key_value (seen r cs t.begin os k)) own is, tt)
 
@@ -134,16 +134,6 @@ pub vouched_either : {E : Type 0} (r : Result (Unit {0}) E) (m : Meaning) (c d :
 vouched_either (Ok x) m c d id k f keeps ok err h = subst (λ (v : CoreModel). IsVouchedFor m v k) (sym ok)
     (found_updated (IsVouched (rules_of c.settings m) c.state.commits) id k f c.state.txns (λ t e g. keeps (rules_of c.settings m) c.state.commits t g) h)
 vouched_either (Err e) m c d id k f keeps ok err h = subst (λ (v : CoreModel). IsVouchedFor m v k) (sym err) h
-
-pub vouched_get : (m : Meaning) (c : CoreModel) (id k key : List ℕ) (a : Option KeyValue) (u : Tx) → find_named id c.state.txns ≡ Some u → u.ops ≡ own_of u.transcript →
-    a ≡ option_map key_value (seen (rules_of c.settings m) c.state.commits u.begin u.ops key) → IsVouchedFor m c k → IsVouchedFor m (record c { state = noted c.state id (steps.Get key a ∷ []) }) k
-vouched_get m c id k key a u found own is h =
-    found_updated (IsVouched r c.state.commits) id k (λ t. record t { transcript = t.transcript ++ (steps.Get key a ∷ []) }) c.state.txns
-    (λ t e g. let same : u ≡ t = same_Some u t (sym found ∙ e) in
-    get_vouched r c.state.commits key a t (subst (λ (v : Tx). v.ops ≡ own_of v.transcript) same own) (subst (λ (v : Tx). a ≡ option_map key_value (seen r c.state.commits v.begin v.ops key)) same is) g) h
-  where
-    r : Rules
-    r = rules_of c.settings m
 
 pub others_begin : (m : Meaning) (c : CoreModel) (id k : List ℕ) (level : IsolationLevel) (n spare : ℕ) → IsVouchedFor m c k → IsVouchedFor m (after_begin c level n id spare) k
 others_begin m c id k level n spare h = found_more (IsVouched (rules_of c.settings m) c.state.commits) id k (begun level n) c.state.txns tt h

@@ -46,7 +46,7 @@ ghost use Rattle.slate_txn.specs.Conflict.{conflict};
 ghost use Rattle.slate_txn.specs.HandedOver.{IsConflict};
 ghost use Rattle.slate_db.specs.Committed.{IsCommitted, IsEnded};
 ghost use Rattle.slate_db.specs.Operated.{operated};
-ghost use Rattle.slate_db.specs.Scans.{AnswersAgain, HasLeft, IsFor, IsOpenScan, IsRefusedByScan, IsRefusedScan, IsScanError, IsScanOf, IsWorldOf, Keeps, Leaves, LeavesIn, ScanRefuses, id_of, number_of, scan_of};
+ghost use Rattle.slate_db.specs.Scans.{AnswersAgain, HasLeft, IsFor, IsOpenScan, IsOpeningError, IsRefusedByScan, IsRefusedScan, IsScanOf, IsUnrefused, IsWorldOf, Keeps, Leaves, LeavesIn, ScanRefuses, id_of, number_of, scan_of};
 ghost use Rattle.slate_read.specs.SstOptions.{CanFetch};
 ghost use Rattle.slate_db.specs.Vouched.{IsVouchedFor};
 ghost use Rattle.slate_db.specs.Written.{IsWritten};
@@ -499,7 +499,7 @@ impl Core {
             let m = (reach env.old).meaning in
             IfOk result (λ it. IsFor m it × Made (reach env.old) (reach env.new) (λ reads. (later : List Act) (at : Option (List ℕ)) (e : SlateDBError) → ScanRefuses it m later at e → IsRefusedByScan m self.now (reads ++ later) e)) }
         ensures undamaged { let reach = ⟦<EnvOf<S, M, T> as Outside>⟧.reach in self.now.floor ≤ begin → IsAnswered (reach env.old) (reach env.new) self.now → IfErr result (IsFault (reach env.old) (reach env.new)) }
-        ensures cause { let reach = ⟦<EnvOf<S, M, T> as Outside>⟧.reach in IfErr result (IsScanError (reach env.old) (reach env.new) self.now) }
+        ensures cause { let reach = ⟦<EnvOf<S, M, T> as Outside>⟧.reach in IfErr result (IsOpeningError (reach env.old) (reach env.new) self.now) }
         ensures range { IfOk result (λ it. it.range ≡ range) }
         ensures order { IfOk result (λ it. it.order ≡ how.order) }
         ensures reads { let reach = ⟦<EnvOf<S, M, T> as Outside>⟧.reach in OnlyReads (reach env.old) (reach env.new) }
@@ -546,7 +546,7 @@ impl Core {
             let m = (reach env.old).meaning in
             IfOk result (λ it. IsFor m (scan_of it) × Made (reach env.old) (reach env.new) (λ reads. (later : List Act) (at : Option (List ℕ)) (e : SlateDBError) → ScanRefuses (scan_of it) m later at e → IsRefusedByScan m self.old (reads ++ later) e)) }
         ensures undamaged { let reach = ⟦<EnvOf<S, M, T> as Outside>⟧.reach in IsAnswered (reach env.old) (reach env.new) self.old → IfErr result (IsFault (reach env.old) (reach env.new)) }
-        ensures cause { let reach = ⟦<EnvOf<S, M, T> as Outside>⟧.reach in IfErr result (IsScanError (reach env.old) (reach env.new) self.old) }
+        ensures cause { let reach = ⟦<EnvOf<S, M, T> as Outside>⟧.reach in IfErr result (IsOpeningError (reach env.old) (reach env.new) self.old) }
         ensures vouched { OnOk result ((m : Meaning) (other : List ℕ) → IsVouchedFor m self.old other → IsVouchedFor m self.new other) }
         ensures same { OnErr result (self.new ≡ self.old) }
         ensures kept { (m : Meaning) → IsKept m self.old → IsKept m self.new }
@@ -586,7 +586,7 @@ impl Core {
         ensures checked { let reach = ⟦<EnvOf<S, M, T> as Outside>⟧.reach in (w : World) (rows : List RowEntry) → Leaves (scan_of it.old) w rows → OnOk result (Checks w (reach env.old) (reach env.new)) }
         ensures later { let reach = ⟦<EnvOf<S, M, T> as Outside>⟧.reach in OnOk result (Made (reach env.old) (reach env.new) (λ reads. NoMore (ScanRefuses (scan_of it.old) (reach env.old).meaning) reads (ScanRefuses (scan_of it.new) (reach env.old).meaning))) }
         ensures cause { let reach = ⟦<EnvOf<S, M, T> as Outside>⟧.reach in IfErr result (λ e. Made (reach env.old) (reach env.new) (λ reads. IsFault (reach env.old) (reach env.new) e ⊎ ScanRefuses (scan_of it.old) (reach env.old).meaning reads None e)) }
-        ensures again { IfErr result (λ e. Keeps e (scan_of it.new)) }
+        ensures again { IsUnrefused (scan_of it.old) → IfErr result (λ e. Keeps e (scan_of it.new)) }
         ensures refused { (kept : SlateDBError) → IsRefusedScan kept (scan_of it.old) → AnswersAgain kept result × (it.new ≡ it.old) × (env.new ≡ env.old) }
         ensures names { IsScanOf (id_of it.old) (number_of it.old) (scan_of it.old).order (scan_of it.old).range it.new }
         ensures left { (m : Meaning) (rows : List RowEntry) → HasLeft m self.old it.old rows → OnOk result (HasLeft m self.new it.new (drop 1 rows)) }
@@ -629,7 +629,7 @@ impl Core {
         ensures checked { let reach = ⟦<EnvOf<S, M, T> as Outside>⟧.reach in (w : World) (rows : List RowEntry) → Leaves (scan_of it.old) w rows → OnOk result (Checks w (reach env.old) (reach env.new)) }
         ensures later { let reach = ⟦<EnvOf<S, M, T> as Outside>⟧.reach in OnOk result (Made (reach env.old) (reach env.new) (λ reads. NoMore (ScanRefuses (scan_of it.old) (reach env.old).meaning) reads (ScanRefuses (scan_of it.new) (reach env.old).meaning))) }
         ensures cause { let reach = ⟦<EnvOf<S, M, T> as Outside>⟧.reach in IfErr result (λ e. Made (reach env.old) (reach env.new) (λ reads. IsFault (reach env.old) (reach env.new) e ⊎ ScanRefuses (scan_of it.old) (reach env.old).meaning reads (Some key.now) e)) }
-        ensures again { IfErr result (λ e. Keeps e (scan_of it.new)) }
+        ensures again { IsUnrefused (scan_of it.old) → IfErr result (λ e. Keeps e (scan_of it.new)) }
         ensures refused { (kept : SlateDBError) → IsRefusedScan kept (scan_of it.old) → AnswersAgain kept result × (it.new ≡ it.old) × (env.new ≡ env.old) }
         ensures names { IsScanOf (id_of it.old) (number_of it.old) (scan_of it.old).order (scan_of it.old).range it.new }
         ensures left { (m : Meaning) (rows : List RowEntry) → HasLeft m self.old it.old rows → OnOk result (HasLeft m self.new it.new (drop_before (scan_of it.old).order key.now rows)) }

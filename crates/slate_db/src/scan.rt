@@ -10,7 +10,7 @@ ghost use Rattle.slate_types.specs.Outside.{IsFault, OnlyReads};
 ghost use Rattle.slate_types.specs.Refusing.{NoMore};
 ghost use Rattle.slate_types.specs.World.{World, Checks, Made, Sees};
 ghost use Rattle.slate_txn.specs.Alone.{first_left};
-ghost use Rattle.slate_db.specs.Scans.{AreForIn, IsSoundIn, Keeps, Leaves, RefusesIn, ScanRefuses, SourcesRefuse, left_in};
+ghost use Rattle.slate_db.specs.Scans.{AnswersAgain, AreForIn, IsRefusedScan, IsSoundIn, IsUnrefused, Keeps, Leaves, RefusesIn, ScanRefuses, SourcesRefuse, left_in};
 ghost use Rattle.slate_db.specs.Values.{HasValues};
 
 use crate::values::{next_value, seek_values};
@@ -109,7 +109,8 @@ pub struct DbIterator<'a> {
 
 impl DbIterator<'_> {
     /// The next row, or `None` at the end. Refuses by `StoreFault` and `BlockTransformError`, each only where its count of
-    /// faults rose, by damage, only where reads since the opening show it, and by `OutOfMemory`.
+    /// faults rose, by damage, only where reads since the opening show it, and by `OutOfMemory`. What it was refused for it
+    /// answers again, without a read.
     pub fn next<S: Store, M: MergeOperator, T: BlockTransformer>(
         &mut self,
         env: &mut Env<'_, S, M, T>,
@@ -120,11 +121,15 @@ impl DbIterator<'_> {
         ensures checked { let reach = ⟦<EnvOf<S, M, T> as Outside>⟧.reach in (w : World) (rows : List RowEntry) → Leaves self.old w rows → OnOk result (Checks w (reach env.old) (reach env.new)) }
         ensures later { let reach = ⟦<EnvOf<S, M, T> as Outside>⟧.reach in OnOk result (Made (reach env.old) (reach env.new) (λ reads. NoMore (ScanRefuses self.old (reach env.old).meaning) reads (ScanRefuses self.new (reach env.old).meaning))) }
         ensures cause { let reach = ⟦<EnvOf<S, M, T> as Outside>⟧.reach in IfErr result (λ e. Made (reach env.old) (reach env.new) (λ reads. IsFault (reach env.old) (reach env.new) e ⊎ ScanRefuses self.old (reach env.old).meaning reads None e)) }
-        ensures again { IfErr result (λ e. Keeps e self.new) }
+        ensures again { IsUnrefused self.old → IfErr result (λ e. Keeps e self.new) }
+        ensures refused { (kept : SlateDBError) → IsRefusedScan kept self.old → AnswersAgain kept result × (self.new ≡ self.old) × (env.new ≡ env.old) }
         ensures range { self.new.range ≡ self.old.range }
         ensures order { self.new.order ≡ self.old.order }
         ensures reads { let reach = ⟦<EnvOf<S, M, T> as Outside>⟧.reach in OnlyReads (reach env.old) (reach env.new) }
     {
+        if let ScanState::Refused(error) = &self.state {
+            return Err(copy_of(error));
+        }
         match next_in(self.alloc, &mut self.state, env) {
             Ok(row) => Ok(row),
             Err(error) => Err(self.refuse(error)),
@@ -143,14 +148,14 @@ impl DbIterator<'_> {
         ensures checked { let reach = ⟦<EnvOf<S, M, T> as Outside>⟧.reach in (w : World) (rows : List RowEntry) → Leaves self.old w rows → OnOk result (Checks w (reach env.old) (reach env.new)) }
         ensures later { let reach = ⟦<EnvOf<S, M, T> as Outside>⟧.reach in OnOk result (Made (reach env.old) (reach env.new) (λ reads. NoMore (ScanRefuses self.old (reach env.old).meaning) reads (ScanRefuses self.new (reach env.old).meaning))) }
         ensures cause { let reach = ⟦<EnvOf<S, M, T> as Outside>⟧.reach in IfErr result (λ e. Made (reach env.old) (reach env.new) (λ reads. IsFault (reach env.old) (reach env.new) e ⊎ ScanRefuses self.old (reach env.old).meaning reads (Some key.now) e)) }
-        ensures again { IfErr result (λ e. Keeps e self.new) }
+        ensures again { IsUnrefused self.old → IfErr result (λ e. Keeps e self.new) }
+        ensures refused { (kept : SlateDBError) → IsRefusedScan kept self.old → AnswersAgain kept result × (self.new ≡ self.old) × (env.new ≡ env.old) }
         ensures range { self.new.range ≡ self.old.range }
         ensures order { self.new.order ≡ self.old.order }
         ensures reads { let reach = ⟦<EnvOf<S, M, T> as Outside>⟧.reach in OnlyReads (reach env.old) (reach env.new) }
     {
-        if let ScanState::Refused(error) = &self.state {
-            let error = copy_of(error);
-            return Err(self.refuse(error));
+        if let ScanState::Refused(kept) = &self.state {
+            return Err(copy_of(kept));
         }
         if !is_past_start(&self.range, key) {
             self.pass_start();

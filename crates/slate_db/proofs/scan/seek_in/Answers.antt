@@ -25,7 +25,7 @@ returns-in-Walking g c =
       checked = λ w order sound. checked_walk r order w a b x u (Checks w a b) is (n.checked w) sound;
       sources = λ range. sources_walk r range a b x u v is n.later;
       later = λ range. later_walk r range a b x u v is n.later;
-      cause = λ range past. cause_walk r range (Some key) a b x u is past (or_missing r a b (λ reads e. refuses_in source_refuses u.state a.meaning reads (Some key) e) n.cause);
+      cause = λ range past. cause_walk r range (Some key) a b x u is past (or_missing r (Some key) a b (λ reads e. refuses_in source_refuses u.state a.meaning reads (Some key) e) n.cause);
       reads = n.reads;
     }
 
