@@ -1,5 +1,5 @@
 -- What a core's calls make of its parts.
---     placed, past_place      whether the journal has a place for so many events more
+--     placed, past_place, only_short      whether the journal has a place for so many events more; that of ids there is always one
 --     room_in_log, room_to_freeze, room_for_run      room was made
 --     begun_is, ended_is, shown_is, released_is, frozen_is, written_is, installed_is      the parts after a call, from what is said of each
 use Rattle.std.proofs.Common.{◌≡◌, ℕ, ◌+◌, ◌≤◌, ◌<◌, List, [], ◌∷◌, ◌++◌, length, ◌⊎◌, inl, inr, ◌^◌, ◌-◌, ℤ, sym, ap, subst, ◌∙◌, arith}
