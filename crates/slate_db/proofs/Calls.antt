@@ -1,8 +1,8 @@
 -- What a core's calls make of its parts.
---     placed, past_place      whether the journal has a place for so many events more
+--     placed, past_place, only_short      whether the journal has a place for so many events more; that of ids there is always one
 --     room_in_log, room_to_freeze, room_for_run      room was made
 --     begun_is, ended_is, shown_is, released_is, frozen_is, written_is, installed_is      the parts after a call, from what is said of each
-use Rattle.std.proofs.Common.{◌≡◌, ℕ, ◌+◌, ◌≤◌, ◌<◌, List, [], ◌∷◌, ◌++◌, length, ◌⊎◌, inl, inr, ◌^◌, ◌-◌, ℤ, refl, sym, ap, subst, ◌∙◌, arith}
+use Rattle.std.proofs.Common.{◌≡◌, ℕ, ◌+◌, ◌≤◌, ◌<◌, List, [], ◌∷◌, ◌++◌, length, ◌⊎◌, inl, inr, ◌^◌, ◌-◌, ℤ, sym, ap, subst, ◌∙◌, arith}
 use Rattle.slate_types.specs.declared.config.IsolationLevel.{IsolationLevel}
 use Rattle.slate_types.specs.declared.error.SlateDBError.{SlateDBError}
 use Rattle.slate_types.specs.declared.error.SlateDBError.TheVariants as errors
@@ -12,7 +12,7 @@ use Rattle.slate_mem.specs.Batch.{Ops}
 use Rattle.slate_txn.specs.declared.event.Event.TheVariants as events
 use Rattle.slate_txn.specs.Ids.{id_of, snapshot_id}
 use Rattle.slate_txn.specs.Managers.{Manager, Snapshots}
-use Rattle.slate_txn.specs.Named.{find_named, without}
+use Rattle.slate_txn.specs.Named.{without}
 use Rattle.slate_txn.specs.Open.{Transactions}
 use Rattle.slate_txn.specs.State.{begun, last_of}
 use Rattle.slate_db.specs.declared.engine.Core.TheInside.{Inside}

@@ -294,11 +294,12 @@ impl Core {
     }
 
     /// Freezes, stores the rows that wait as tables, and gives the newest sequence. Of each key the rows at or below the
-    /// barrier, which is the least begin of an open transaction or sequence of an open snapshot, or else the newest sequence, become their fold. Where no
-    /// rows are in memory nothing is stored. Refuses by `LimitReached` where the journal has no place for the events, and
-    /// then nothing is changed, or where a table would pass a limit; by `StoreFault` and `BlockTransformError`, each only
-    /// where its count of faults rose, and then the rows are frozen; and by `OutOfMemory`. Else the rows are in memory as
-    /// before, or frozen, and the store's objects are as they were, or have some first of the tables, which no event names.
+    /// barrier, which is the least begin of an open transaction or sequence of an open snapshot, or else the newest sequence,
+    /// become their fold. Where no rows are in memory nothing is stored. Refuses by `LimitReached` where the journal has no place
+    /// for the events, and then nothing is changed, or where a table would pass a limit; by `StoreFault` and
+    /// `BlockTransformError`, each only where its count of faults rose, and then the rows are frozen; and by `OutOfMemory`. Else
+    /// the rows are in memory as before, or frozen, and the store's objects are as they were, or have some first of the tables,
+    /// which no event names.
     pub fn flush<S: Store, M: MergeOperator, T: BlockTransformer, X: PrefixExtractor>(
         &mut self,
         env: &mut Env<'_, S, M, T>,
