@@ -193,6 +193,7 @@ kept_in d Done = d
 kept_in d (Refused k) = k
 
 pub kept_answer : {V : Type 0} (r : Result V SlateDBError) (x : ScanState) (k l e : SlateDBError) → r ≡ Err e → x ≡ Refused k → Copies k e → x ≡ Refused l → AnswersAgain l r
+unfolding kept_in
 kept_answer r x k l e answer is (inl copy) kept = inl (answer ∙ ap Err (copy ∙ ap (kept_in k) (sym is ∙ kept)))
 kept_answer r x k l e answer is (inr memory) kept = inr (answer ∙ ap Err memory)
 
