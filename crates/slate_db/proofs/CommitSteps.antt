@@ -22,15 +22,14 @@ use Rattle.slate_db.proofs.Refused.{no_nests, not_exhausted, exhausted}
 abbrev pub closing : State → List ℕ → State
 closing s id = record s { txns = without id s.txns }
 
-closed_is : (s : State) (id : List ℕ) → s.snapshots ≡ [] → closed s id ≡ closing s id
-closed_is s id none =
-    (λ i. record s { txns = without id s.txns; snapshots = without id (none i) })
-    ∙ (let back = sym none in λ i. record s { txns = without id s.txns; snapshots = back i })
+-- no snapshot has the id
+closed_is : (s : State) (id : List ℕ) → without id s.snapshots ≡ s.snapshots → closed s id ≡ closing s id
+closed_is s id none = λ i. record s { txns = without id s.txns; snapshots = none i }
 
 step_is : (r : Rules) (s : State) (id : List ℕ) (t : Tx) → find_named id s.txns ≡ Some t → step r s (lines.Commit id) ≡ commit r s id t
 step_is r s id t found = ap (λ o. of_open s id o (commit r s id)) found
 
-refused_by : (r : Rules) (s : State) (id : List ℕ) (t : Tx) (e : SlateDBError) → find_named id s.txns ≡ Some t → s.snapshots ≡ [] → commit_refusal r s t ≡ Some e → step r s (lines.Commit id) ≡ (closing s id, Refused e)
+refused_by : (r : Rules) (s : State) (id : List ℕ) (t : Tx) (e : SlateDBError) → find_named id s.txns ≡ Some t → without id s.snapshots ≡ s.snapshots → commit_refusal r s t ≡ Some e → step r s (lines.Commit id) ≡ (closing s id, Refused e)
 refused_by r s id t e found none is =
     step_is r s id t found
     ∙ ap (λ o. refused_or o (closed s id) (with_reply Committed (as_commit r (closed s id) t.ops (tracked_writes t)))) is
@@ -38,7 +37,7 @@ refused_by r s id t e found none is =
 
 -- ---- refusals
 
-pub step_conflict : (r : Rules) (s : State) (id : List ℕ) (t : Tx) (n : ℕ) → find_named id s.txns ≡ Some t → s.snapshots ≡ [] → conflict s.commits t ≡ Some n → step r s (lines.Commit id) ≡ (closing s id, Refused (errors.TransactionConflict n))
+pub step_conflict : (r : Rules) (s : State) (id : List ℕ) (t : Tx) (n : ℕ) → find_named id s.txns ≡ Some t → without id s.snapshots ≡ s.snapshots → conflict s.commits t ≡ Some n → step r s (lines.Commit id) ≡ (closing s id, Refused (errors.TransactionConflict n))
 step_conflict r s id t n found none is =
     refused_by r s id t (errors.TransactionConflict n) found none
     (ap (λ o. first_refusal (option_map errors.TransactionConflict o ∷ unless_empty t.ops (exhausted_refusal r s ∷ batch_refusals r s t.ops))) is)
@@ -53,7 +52,7 @@ free_refusal r s t free = ap (λ o. first_refusal (option_map errors.Transaction
 some_refusal : (r : Rules) (s : State) (t : Tx) → conflict s.commits t ≡ None → (t.ops ≡ [] → ⊥) → commit_refusal r s t ≡ first_refusal (exhausted_refusal r s ∷ batch_refusals r s t.ops)
 some_refusal r s t free some = free_refusal r s t free ∙ ap first_refusal (some_tests t.ops (exhausted_refusal r s ∷ batch_refusals r s t.ops) some)
 
-pub step_full : (r : Rules) (s : State) (id : List ℕ) (t : Tx) (n : ℕ) → find_named id s.txns ≡ Some t → s.snapshots ≡ [] → conflict s.commits t ≡ None → (t.ops ≡ [] → ⊥) → n ≡ last_of r.start_seq s.commits → n ≡ 2 ^ 64 - 2 →
+pub step_full : (r : Rules) (s : State) (id : List ℕ) (t : Tx) (n : ℕ) → find_named id s.txns ≡ Some t → without id s.snapshots ≡ s.snapshots → conflict s.commits t ≡ None → (t.ops ≡ [] → ⊥) → n ≡ last_of r.start_seq s.commits → n ≡ 2 ^ 64 - 2 →
     step r s (lines.Commit id) ≡ (closing s id, Refused errors.SequenceExhausted)
 step_full r s id t n found none free some last full = refused_by r s id t errors.SequenceExhausted found none (some_refusal r s t free some ∙ exhausted r s n (batch_refusals r s t.ops) last full)
 
@@ -69,14 +68,14 @@ no_batch r s ops segment plain =
 abbrev pub committed : State → List ℕ → Option ℕ → Tx → State
 committed s id n t = record (closing s id) { commits = s.commits ++ commit_made n s.now (kept_ops t.ops) (tracked_writes t) }
 
-passed : (r : Rules) (s : State) (id : List ℕ) (t : Tx) → find_named id s.txns ≡ Some t → s.snapshots ≡ [] → commit_refusal r s t ≡ None →
+passed : (r : Rules) (s : State) (id : List ℕ) (t : Tx) → find_named id s.txns ≡ Some t → without id s.snapshots ≡ s.snapshots → commit_refusal r s t ≡ None →
     step r s (lines.Commit id) ≡ with_reply Committed (as_commit r (closing s id) t.ops (tracked_writes t))
 passed r s id t found none is =
     step_is r s id t found
     ∙ ap (λ o. refused_or o (closed s id) (with_reply Committed (as_commit r (closed s id) t.ops (tracked_writes t)))) is
     ∙ ap (λ x. with_reply Committed (as_commit r x t.ops (tracked_writes t))) (closed_is s id none)
 
-pub step_idle : (r : Rules) (s : State) (id : List ℕ) (t : Tx) → find_named id s.txns ≡ Some t → s.snapshots ≡ [] → conflict s.commits t ≡ None → t.ops ≡ [] → step r s (lines.Commit id) ≡ (committed s id None t, Committed None)
+pub step_idle : (r : Rules) (s : State) (id : List ℕ) (t : Tx) → find_named id s.txns ≡ Some t → without id s.snapshots ≡ s.snapshots → conflict s.commits t ≡ None → t.ops ≡ [] → step r s (lines.Commit id) ≡ (committed s id None t, Committed None)
 step_idle r s id t found none free idle =
     passed r s id t found none (free_refusal r s t free ∙ ap (λ ops. first_refusal (unless_empty ops (exhausted_refusal r s ∷ batch_refusals r s ops))) idle)
     ∙ ap (λ ops. with_reply Committed (as_commit r (closing s id) ops (tracked_writes t))) idle
@@ -87,7 +86,7 @@ made_of : (r : Rules) (s : State) (n : ℕ) (ops : Ops) (tracked : List (List �
 made_of r s n [] tracked some last = absurd (some refl)
 made_of r s n (o ∷ os) tracked some last = (let l = sym last in λ i. (record s { commits = s.commits ++ (record { seq = l i + 1; now = s.now; ops = kept_ops (o ∷ os); tracked = tracked } ∷ []) }, Committed (Some (l i + 1))))
 
-pub step_commits : (r : Rules) (s : State) (id : List ℕ) (t : Tx) (n : ℕ) → find_named id s.txns ≡ Some t → s.snapshots ≡ [] → conflict s.commits t ≡ None → (t.ops ≡ [] → ⊥) → holds_merge t.ops ≡ false → r.segment ≡ None →
+pub step_commits : (r : Rules) (s : State) (id : List ℕ) (t : Tx) (n : ℕ) → find_named id s.txns ≡ Some t → without id s.snapshots ≡ s.snapshots → conflict s.commits t ≡ None → (t.ops ≡ [] → ⊥) → holds_merge t.ops ≡ false → r.segment ≡ None →
     n ≡ last_of r.start_seq s.commits → n < 2 ^ 64 - 2 → step r s (lines.Commit id) ≡ (committed s id (Some (n + 1)) t, Committed (Some (n + 1)))
 step_commits r s id t n found none free some plain segment last fits =
     passed r s id t found none (some_refusal r s t free some ∙ not_exhausted r s n (batch_refusals r s t.ops) last fits ∙ no_batch r s t.ops segment plain)

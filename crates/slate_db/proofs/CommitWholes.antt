@@ -48,10 +48,11 @@ whole_committed c x id now t rows spare some within n managed log layers w = rec
   tied = record {
     txns = ap (λ s. s.txns) more ∙ ap (λ ts. without id ts) w.tied.txns ∙ without_map as_begun (λ p. refl) id c.state.txns;
     snapshots = ap (λ s. s.snapshots) more ∙ w.tied.snapshots;
-    no_snapshots = w.tied.no_snapshots;
+    shown = w.tied.shown;
     named = all_without _ id _ w.tied.named;
     floor_within = let h : c.floor ≤ x.last = w.tied.floor_within in omega arith;
     begins = all_without _ id _ (all_map _ _ (λ p h. (h.0, let k : p.1.begin ≤ x.last = h.1 in omega arith)) _ w.tied.begins);
+    shows = all_map _ _ (λ p h. (h.0, let k : p.1 ≤ x.last = h.1 in omega arith)) _ w.tied.shows;
     own = all_without _ id _ w.tied.own;
     all_installed = λ active frozen. absurd (some active);
     runs = subst (λ (rs : List (List (Ulid × List ℕ))). AreRuns rs x.runs) (sym (runs_same c.events e refl)) w.tied.runs;
@@ -80,10 +81,11 @@ whole_idle c x id now t spare n managed log w = record {
   tied = record {
     txns = ap (λ s. s.txns) more ∙ ap (λ ts. without id ts) w.tied.txns ∙ without_map as_begun (λ p. refl) id c.state.txns;
     snapshots = ap (λ s. s.snapshots) more ∙ w.tied.snapshots;
-    no_snapshots = w.tied.no_snapshots;
+    shown = w.tied.shown;
     named = all_without _ id _ w.tied.named;
     floor_within = w.tied.floor_within;
     begins = all_without _ id _ w.tied.begins;
+    shows = w.tied.shows;
     own = all_without _ id _ w.tied.own;
     all_installed = λ active frozen. subst (λ (cs : List Commit). up_to (installed (c.events ++ (e ∷ []))) cs ≡ cs) (sym (append-nil c.state.commits)) (ap (λ i. up_to i c.state.commits) (ap (λ s. s.flushed) more) ∙ w.tied.all_installed active frozen);
     runs = subst (λ (rs : List (List (Ulid × List ℕ))). AreRuns rs x.runs) (sym (runs_same c.events e refl)) w.tied.runs;

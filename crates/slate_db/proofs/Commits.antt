@@ -44,7 +44,7 @@ use Rattle.slate_db.proofs.Loads.{write_load}
 use Rattle.slate_db.proofs.MemoryRows.{commit_within, puts_all}
 use Rattle.slate_db.proofs.Plain.{empty_kept, some_ops}
 use Rattle.slate_db.proofs.Puts.{some_more, versions_more, active_within}
-use Rattle.slate_db.proofs.Wholes.{after_end, less_one}
+use Rattle.slate_db.proofs.Wholes.{after_end, less_one, same_snapshots}
 
 -- ---- what the log takes
 
@@ -169,9 +169,9 @@ event_made f c last id (Some n) now t spare next = refl
 
 pub step_made : (m : Meaning) (c : CoreModel) (x : Unseen) (id : List ℕ) (n : Option ℕ) (now : ℤ) (t : Tx) (rows : Rows) (spare : ℕ) → IsWhole c x → find_named id c.state.txns ≡ Some t → conflict c.state.commits t ≡ None → holds_merge t.ops ≡ false →
     IsNextOf x.last t.ops n → step (rules_of c.settings m) (at now c.state) (lines.Commit id) ≡ (at now (after_commit c id n now t rows spare).state, Committed n)
-step_made m c x id None now t rows spare w found free plain next = step_idle (rules_of c.settings m) (at now c.state) id t found w.tied.no_snapshots free next
+step_made m c x id None now t rows spare w found free plain next = step_idle (rules_of c.settings m) (at now c.state) id t found (same_snapshots c x id w (ap is_some found)) free next
 step_made m c x id (Some n) now t rows spare w found free plain next =
-    step_commits (rules_of c.settings m) (at now c.state) id t x.last found w.tied.no_snapshots free next.2 plain refl w.log.last next.1
+    step_commits (rules_of c.settings m) (at now c.state) id t x.last found (same_snapshots c x id w (ap is_some found)) free next.2 plain refl w.log.last next.1
     ∙ (let is = sym next.0 in λ i. (at now (after_commit c id (Some (is i)) now t rows spare).state, Committed (Some (is i))))
 
 -- ---- a refused one
@@ -190,13 +190,13 @@ HasKnownCause c t e = (e ≡ errors.OutOfMemory) ⊎ (IsConflict (conflict c.sta
 met_step : (m : Meaning) (c : CoreModel) (x : Unseen) (id : List ℕ) (now : ℤ) (t : Tx) (spare : ℕ) (e : SlateDBError) (o : Option ℕ) → IsWhole c x → find_named id c.state.txns ≡ Some t → conflict c.state.commits t ≡ o → IsConflict o e →
     step (rules_of c.settings m) (at now c.state) (lines.Commit id) ≡ (at now (after_end c id spare).state, Refused e)
 met_step m c x id now t spare e None w found is h = absurd h
-met_step m c x id now t spare e (Some n) w found is h = step_conflict (rules_of c.settings m) (at now c.state) id t n found w.tied.no_snapshots is ∙ ap (λ r. (at now (after_end c id spare).state, Refused r)) (sym h)
+met_step m c x id now t spare e (Some n) w found is h = step_conflict (rules_of c.settings m) (at now c.state) id t n found (same_snapshots c x id w (ap is_some found)) is ∙ ap (λ r. (at now (after_end c id spare).state, Refused r)) (sym h)
 
 pub refused_is : (c : CoreModel) (x : Unseen) (id : List ℕ) (now : ℤ) (t : Tx) (spare : ℕ) (e : SlateDBError) → IsWhole c x → find_named id c.state.txns ≡ Some t → HasCause c x.last t e → IsRefused c (after_end c id spare) id now e
 refused_is c x id now t spare e w found (inl short) = inl short
 refused_is c x id now t spare e w found (inr (inl met)) = inr (λ m. met_step m c x id now t spare e (conflict c.state.commits t) w found refl met)
 refused_is c x id now t spare e w found (inr (inr full)) =
-    inr (λ m. step_full (rules_of c.settings m) (at now c.state) id t x.last found w.tied.no_snapshots full.2 full.3 w.log.last full.1 ∙ ap (λ r. (at now (after_end c id spare).state, Refused r)) (sym full.0))
+    inr (λ m. step_full (rules_of c.settings m) (at now c.state) id t x.last found (same_snapshots c x id w (ap is_some found)) full.2 full.3 w.log.last full.1 ∙ ap (λ r. (at now (after_end c id spare).state, Refused r)) (sym full.0))
 
 pub cause_is : (c : CoreModel) (x : Unseen) (t : Tx) (e : SlateDBError) → IsWhole c x → HasCause c x.last t e → HasKnownCause c t e
 cause_is c x t e w (inl short) = inl short

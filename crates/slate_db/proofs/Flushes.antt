@@ -15,16 +15,17 @@ use Rattle.slate_txn.specs.Places.{IsQuiet}
 use Rattle.slate_txn.specs.Reply.{Flushed}
 use Rattle.slate_txn.specs.State.{last_of}
 use Rattle.slate_txn.specs.Step.{step}
-use Rattle.slate_txn.specs.Open.{least_begin}
+use Rattle.slate_txn.specs.Open.{least_start}
 use Rattle.slate_db.specs.Flushed.{Layout, IsFlushed, IsFolded, TooLarge, events_of_flush, idle, stored}
 use Rattle.slate_db.specs.Frozen.{IsFrozen}
+use Rattle.slate_db.specs.Load.{weight}
+use Rattle.slate_db.specs.Log.{ends_of}
 use Rattle.slate_db.specs.Meaning.{Meaning, rules_of, combine_of}
 use Rattle.slate_db.specs.Model.{CoreModel, Rows, memory, IsSame}
 use Rattle.slate_db.specs.Sound.{IsKept, at_most, later}
 use Rattle.slate_db.proofs.Keeps.{kept_event}
 use Rattle.slate_db.proofs.Quiet.{quiet_more}
 use Rattle.slate_db.proofs.Loads.{load_before}
-use Rattle.slate_db.proofs.Split.{all_up_to}
 use Rattle.slate_db.proofs.MemoryLayers.{versions_frozen}
 
 abbrev pub frozen_of : CoreModel → ℕ → CoreModel
@@ -64,27 +65,24 @@ one_event [] [] h some = absurd (omega arith)
 one_event [] (rows ∷ layers) h some = refl
 one_event (r ∷ rs) layers h some = cc
 
-abbrev pub held : CoreModel → ℕ
-held c = length c.events + length c.state.txns
-
 abbrev pub passed : CoreModel → ℕ
-passed c = held c + events_of_flush c.active c.frozen
+passed c = weight c + events_of_flush c.active c.frozen
 
-pub passes_two : (limit : ℕ) (c : CoreModel) → (c.active ≡ [] → ⊥) → limit < held c + 2 → limit < passed c
+pub passes_two : (limit : ℕ) (c : CoreModel) → (c.active ≡ [] → ⊥) → limit < weight c + 2 → limit < passed c
 passes_two limit c some h = let e : events_of_flush c.active c.frozen ≡ 2 = two_events c.active c.frozen some in omega arith
 
-frozen_held : (old between : CoreModel) → between ≡ frozen_of old between.spare → held between ≡ held old + 1
-frozen_held old between is = ap held is ∙ (let l : length (old.events ++ (events.Freeze ∷ [])) ≡ length old.events + 1 = length-append old.events (events.Freeze ∷ []) in let e : length (old.events ++ (events.Freeze ∷ [])) + length old.state.txns ≡ length old.events + length old.state.txns + 1 = omega arith in e)
+frozen_held : (old between : CoreModel) → between ≡ frozen_of old between.spare → weight between ≡ weight old + 1
+frozen_held old between is = ap weight is ∙ (let l : length (old.events ++ (events.Freeze ∷ [])) ≡ length old.events + 1 = length-append old.events (events.Freeze ∷ []) in let e : length (old.events ++ (events.Freeze ∷ [])) + ends_of old.state ≡ weight old + 1 = omega arith in e)
 
 -- an install has a place where the flush has
-pub place_left : (limit : ℕ) (old between : CoreModel) → IsFrozen old between → 0 < length between.frozen → passed old ≤ limit → held between + 1 ≤ limit
+pub place_left : (limit : ℕ) (old between : CoreModel) → IsFrozen old between → 0 < length between.frozen → passed old ≤ limit → weight between + 1 ≤ limit
 place_left limit old between (inl (none, is)) some h =
     let e : events_of_flush old.active old.frozen ≡ 1 = one_event old.active old.frozen none (subst (λ (v : CoreModel). 0 < length v.frozen) is some) in
-    let l : held between ≡ held old = ap held is in
+    let l : weight between ≡ weight old = ap weight is in
     omega arith
 place_left limit old between (inr (active, is)) some h =
     let e : events_of_flush old.active old.frozen ≡ 2 = two_events old.active old.frozen active in
-    let l : held between ≡ held old + 1 = frozen_held old between is in
+    let l : weight between ≡ weight old + 1 = frozen_held old between is in
     omega arith
 
 -- the rows in memory are the same before the freeze
@@ -96,7 +94,7 @@ too_large_before layout old between e (inl (none, is)) h = subst (λ (v : CoreMo
 too_large_before layout old between e (inr (some, is)) h = moved (subst (λ (v : CoreModel). TooLarge layout v e) is h)
   where
     moved : TooLarge layout (frozen_of old between.spare) e → TooLarge layout old e
-    moved (rows, folded, order, large, more) = (rows, (λ m. folded_before m (least_begin (last_of old.settings.start_seq old.state.commits) old.state.txns) old rows (folded m)), order, large, load_before old more)
+    moved (rows, folded, order, large, more) = (rows, (λ m. folded_before m (least_start (last_of old.settings.start_seq old.state.commits) old.state) old rows (folded m)), order, large, load_before old more)
 
 -- ---- behind the freeze
 
@@ -148,7 +146,7 @@ no_fault limit r e at limited (inr x) (inr is) = let m : e ≡ LimitReached limi
 
 -- ---- what is said of a refusal before the install
 
-pub freeze_cause : {C : Type 0} (limit : ℕ) (a b : Counts) (old : CoreModel) (e : SlateDBError) → (old.active ≡ [] → ⊥) → (e ≡ OutOfMemory) ⊎ ((e ≡ LimitReached limit) × (limit < held old + 1)) → IsCounted a b e ⊎ ((e ≡ LimitReached limit) × (limit < passed old)) ⊎ C
+pub freeze_cause : {C : Type 0} (limit : ℕ) (a b : Counts) (old : CoreModel) (e : SlateDBError) → (old.active ≡ [] → ⊥) → (e ≡ OutOfMemory) ⊎ ((e ≡ LimitReached limit) × (limit < weight old + 1)) → IsCounted a b e ⊎ ((e ≡ LimitReached limit) × (limit < passed old)) ⊎ C
 freeze_cause limit a b old e some (inl is) = inl (subst (IsCounted a b) (sym is) tt)
 freeze_cause limit a b old e some (inr (is, more)) = inr (inl (is, passes_two limit old some (omega arith)))
 

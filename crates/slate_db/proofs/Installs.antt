@@ -1,52 +1,40 @@
 -- What a flush keeps.
-use Rattle.std.proofs.Common.{◌≡◌, ℕ, ◌+◌, ◌≤◌, ◌<◌, min, List, [], ◌∷◌, ◌++◌, length, refl, sym, ap, subst, ◌∙◌, arith, append-nil, length-append, nat_le}
+use Rattle.std.proofs.Common.{◌≡◌, ℕ, ◌+◌, ◌≤◌, ◌<◌, List, [], ◌∷◌, ◌++◌, length, refl, sym, ap, subst, ◌∙◌, arith, append-nil, nat_le}
 use Rattle.std.specs.List.{AllByRecursion}
 use Rattle.std.proofs.lemmas.Grind.{flat_map-append}
 use Rattle.std.proofs.lemmas.List.Elements.{filter-append}
 use Rattle.slate_types.specs.declared.types.RowEntry.{RowEntry}
 use Rattle.slate_types.specs.declared.types.Ulid.{Ulid}
 use Rattle.slate_types.specs.Fold.{fold_rows, AreShort}
-use Rattle.slate_table.specs.declared.info.SsTableHandle.{SsTableHandle}
 use Rattle.slate_table.specs.Parts.{Encode}
 use Rattle.slate_table.specs.Table.{AreInOrder, IsTable}
 use Rattle.slate_table.proofs.CutLaws.{built_has}
-use Rattle.slate_txn.specs.declared.event.Event.{Event}
+use Rattle.slate_txn.proofs.BarrierLaws.{start_above}
 use Rattle.slate_txn.specs.declared.event.Event.TheVariants as events
-use Rattle.slate_txn.specs.State.{Rules, Tx, Commit, opening, last_of}
+use Rattle.slate_txn.specs.State.{Rules, Commit, opening, last_of}
 use Rattle.slate_txn.specs.Reads.{up_to, key_rows}
-use Rattle.slate_txn.specs.Replay.{replay, apply}
 use Rattle.slate_db.specs.Meaning.{Meaning, rules_of, combine_of, IsLawfulMeaning}
 use Rattle.slate_db.specs.Model.{CoreModel, Rows, versions, versions_in}
-use Rattle.slate_db.specs.Installs.{tables_of, installed, NumberedFrom, IsHandle, AreHandles}
+use Rattle.slate_db.specs.Installs.{tables_of, installed}
 use Rattle.slate_db.specs.Sound.{at_most, above, IsKept, IsSound, AreTables, AreBases}
 use Rattle.slate_db.specs.Layers.{AreRising}
-use Rattle.slate_db.specs.Log.{LIMIT, AreShortOps}
-use Rattle.slate_db.specs.Whole.{IsWhole, Unseen, BeginsWithin, layers_of}
-use Rattle.slate_txn.specs.Open.{least_begin}
+use Rattle.slate_db.specs.Log.{AreShortOps}
+use Rattle.slate_db.specs.Whole.{IsWhole, Unseen, layers_of}
+use Rattle.slate_txn.specs.Open.{least_start}
 use Rattle.slate_db.specs.Flushed.{AreTablesAt, IsFolded, IsTableAt, Layout, CanFlush, after_install}
 use Rattle.slate_db.specs.Cut.{AreCut}
-use Rattle.slate_table.specs.Paths.{table_id}
 use Rattle.slate_db.proofs.Cuts.{parts_all, versions_cut}
-use Rattle.slate_db.proofs.FlushRows.{rising_front}
 use Rattle.slate_db.proofs.Folds.{wider}
-use Rattle.slate_db.proofs.Journals.{apply_more, used_more, legal_more}
+use Rattle.slate_db.proofs.Journals.{apply_more}
 use Rattle.slate_db.proofs.Split.{none_above, all_up_to}
 use Rattle.slate_db.proofs.Bases.{bases_in, folded_bases}
 use Rattle.slate_db.proofs.Rises.{folded_within, rows_above, tables_rise}
 use Rattle.slate_db.proofs.Short.{all_append, all_filter, commits_short, fold_short, fine_short}
 use Rattle.slate_db.proofs.AllRows.{flush_fold}
-use Rattle.slate_db.proofs.Lists.{all_more, all_map, all_front, all_behind}
-use Rattle.slate_db.proofs.MemoryRows.{rising_behind}
-use Rattle.slate_db.proofs.Quiet.{quiet_more}
+use Rattle.slate_db.proofs.Lists.{all_map, all_front}
 use Rattle.slate_db.proofs.Logs.{tables_more}
 use Rattle.slate_db.proofs.MemoryLayers.{frozen_rise}
-use Rattle.slate_db.proofs.Wholes.{least_within}
 use Rattle.slate_db.proofs.Versions.{short_versions, short_by_key}
-
--- the barrier is at or above the floor
-floor_least : (n floor last : ℕ) (ps : List (List ℕ × Tx)) → floor ≤ n → AllByRecursion (λ p. BeginsWithin floor last p) ps → floor ≤ least_begin n ps
-floor_least n floor last [] h hs = h
-floor_least n floor last (p ∷ ps) h hs = floor_least (min n p.1.begin) floor last ps (let k : floor ≤ p.1.begin = hs.0.0 in omega arith) hs.1
 
 tables_append : (m : Meaning) (ts us : List (Ulid × List ℕ)) (layers more : List Rows) → AreTables m ts layers → AreTables m us more → AreTables m (ts ++ us) (layers ++ more)
 tables_append m [] us layers more h is = subst (λ (ls : List Rows). AreTables m us (ls ++ more)) (sym h) is
@@ -59,7 +47,7 @@ cut_layers k layers parts rows same =
     flat_map-append (versions k) layers parts ∙ ap (λ xs. versions_in k layers ++ xs) (same ∙ sym (append-nil (versions k rows))) ∙ sym (flat_map-append (versions k) layers (rows ∷ []))
 
 pub kept_install : (m : Meaning) (c : CoreModel) (u : Unseen) (ts : List (Ulid × List ℕ)) (spare limit : ℕ) (rows : Rows) (parts : List Rows) →
-    IsWhole c u → c.active ≡ [] → AreTables m ts parts → AreInOrder rows → AreCut limit rows parts → IsFolded m (least_begin u.last c.state.txns) c.frozen rows → IsKept m c →
+    IsWhole c u → c.active ≡ [] → AreTables m ts parts → AreInOrder rows → AreCut limit rows parts → IsFolded m (least_start u.last c.state) c.frozen rows → IsKept m c →
     IsKept m (after_install c u.last ts spare)
 kept_install m c u ts spare limit rows parts w idle tables order cut folded kept = (
   λ k. ap (λ a. versions_in k (a ∷ [])) idle ∙ sym (ap (λ i. key_rows r k (above i cs)) through ∙ ap (key_rows r k) (none_above start u.last cs w.log.rising last)),
@@ -68,17 +56,17 @@ kept_install m c u ts spare limit rows parts w idle tables order cut folded kept
     tables = subst (λ (xs : List (Ulid × List ℕ)). AreTables m xs (z.layers ++ parts)) (sym (tables_more c.events (events.Install u.last ts))) (tables_append m (tables_of c.events) ts z.layers parts z.tables tables);
     short = all_append AreShort z.layers parts z.short (of_parts _ (short_by_key rows (λ k.
         subst (λ (xs : Rows). AreShort xs) (sym (folded k)) (all_append _ _ _ (fold_short (combine_of m k) (law.short k) _ (all_filter _ _ _ (memory_short k law))) (all_filter _ _ _ (memory_short k law))))));
-    bases = all_append AreBases z.layers parts z.bases (of_parts _ (folded_bases m (least_begin u.last c.state.txns) c.frozen rows (bases_in c.frozen (all_front _ c.frozen (c.active ∷ []) w.layers.fit)) folded));
+    bases = all_append AreBases z.layers parts z.bases (of_parts _ (folded_bases m (least_start u.last c.state) c.frozen rows (bases_in c.frozen (all_front _ c.frozen (c.active ∷ []) w.layers.fit)) folded));
     within = subst (λ (i : ℕ). AllByRecursion (λ layer. AllByRecursion (λ r. r.seq ≤ i) layer) (z.layers ++ parts)) (sym through)
-        (all_append _ z.layers parts (all_map _ _ (wider (installed c.events) u.last w.log.installed_within) z.layers z.within) (of_parts _ (folded_within m (least_begin u.last c.state.txns) u.last c.frozen rows (all_front _ c.frozen (c.active ∷ []) w.tied.rows_within) folded)));
+        (all_append _ z.layers parts (all_map _ _ (wider (installed c.events) u.last w.log.installed_within) z.layers z.within) (of_parts _ (folded_within m (least_start u.last c.state) u.last c.frozen rows (all_front _ c.frozen (c.active ∷ []) w.tied.rows_within) folded)));
     rise = λ k. subst (λ (xs : Rows). AreRising xs) (sym (same k z.layers))
-        (tables_rise m (least_begin u.last c.state.txns) (installed c.events) k z.layers c.frozen rows folded (z.rise k) z.within (frozen_rise (layers_of c u) w.layers k) (subst (AllByRecursion (λ x. installed c.events < x.seq)) (sym (tied k)) (rows_above r k (installed c.events) cs)));
+        (tables_rise m (least_start u.last c.state) (installed c.events) k z.layers c.frozen rows folded (z.rise k) z.within (frozen_rise (layers_of c u) w.layers k) (subst (AllByRecursion (λ x. installed c.events < x.seq)) (sym (tied k)) (rows_above r k (installed c.events) cs)));
     folds = λ k x h.
-        let below : c.floor ≤ x = (let f : c.floor ≤ least_begin u.last c.state.txns = floor_least u.last c.floor u.last c.state.txns w.tied.floor_within w.tied.begins in omega arith) in
+        let below : c.floor ≤ x = (let f : c.floor ≤ least_start u.last c.state = start_above c.floor u.last c.state w.tied.floor_within (all_map _ _ (λ p h. h.0) c.state.txns w.tied.begins) (all_map _ _ (λ p h. h.0) c.state.snapshots w.tied.shows) in omega arith) in
         ap (λ xs. fold_rows (combine_of m k) (at_most x xs)) (same k z.layers ∙ flat_map-append (versions k) z.layers (rows ∷ []) ∙ ap (λ xs. versions_in k z.layers ++ xs) (append-nil (versions k rows)))
         ∙ ap (fold_rows (combine_of m k)) (filter-append (λ r. nat_le r.seq x) (versions_in k z.layers) (versions k rows))
         ∙ ap (λ xs. fold_rows (combine_of m k) (at_most x (versions_in k z.layers) ++ at_most x xs)) (folded k)
-        ∙ flush_fold r k (law.operator k) (law.short k) start (installed c.events) (least_begin u.last c.state.txns) x cs (versions_in k z.layers) (versions_in k c.frozen) h w.log.rising short_commits
+        ∙ flush_fold r k (law.operator k) (law.short k) start (installed c.events) (least_start u.last c.state) x cs (versions_in k z.layers) (versions_in k c.frozen) h w.log.rising short_commits
         (short_versions k z.layers z.short) (tied k) (z.folds k x below)
         ∙ ap (λ ds. fold_rows (combine_of m k) (key_rows r k (up_to x ds))) (sym (ap (λ i. up_to i cs) through ∙ all_up_to start u.last cs w.log.rising last));
   },

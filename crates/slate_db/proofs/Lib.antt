@@ -1,4 +1,5 @@
 mod Lists
+mod ApartIds
 mod Journals
 mod Split
 mod Short
@@ -67,6 +68,7 @@ mod SourceLists
 mod ScanOpenings
 mod ScanRefusals
 mod OpenNotes
+mod Readers
 mod ScanMerges
 pub mod RowDamage
 mod Serial

@@ -12,6 +12,10 @@ pub all_map : {X : Type 0} (P Q : X → Type 0) → ((x : X) → P x → Q x) �
 all_map P Q f [] h = tt
 all_map P Q f (y ∷ ys) h = (f y h.0, all_map P Q f ys h.1)
 
+pub all_both : {X : Type 0} (P Q R : X → Type 0) → ((x : X) → P x → Q x → R x) → (xs : List X) → AllByRecursion P xs → AllByRecursion Q xs → AllByRecursion R xs
+all_both P Q R f [] h k = tt
+all_both P Q R f (y ∷ ys) h k = (f y h.0 k.0, all_both P Q R f ys h.1 k.1)
+
 pub none_behind : {X : Type 0} (xs : List X) (x : X) → xs ++ (x ∷ []) ≡ [] → ⊥
 none_behind [] x h = cc
 none_behind (y ∷ ys) x h = cc

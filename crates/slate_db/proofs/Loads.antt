@@ -14,7 +14,7 @@ use Rattle.slate_types.specs.declared.error.SlateDBError.{SlateDBError}
 use Rattle.slate_types.specs.declared.types.RowEntry.{RowEntry}
 use Rattle.slate_types.specs.Fold.{Combine, fold_rows, fold_taken, taken, from_last}
 use Rattle.slate_types.specs.Keys.{key_cmp, among, keys_set}
-use Rattle.slate_types.specs.Rows.{is_base, operand, sequenced, sequenced_cmp, of_key}
+use Rattle.slate_types.specs.Rows.{is_base, sequenced, sequenced_cmp, of_key}
 use Rattle.slate_types.proofs.KeySetLaws.{among-above, set-keeps, set-rises}
 use Rattle.slate_block.specs.Fitting.{fits_in}
 use Rattle.slate_mem.specs.declared.WriteOp.{WriteOp}
@@ -25,7 +25,7 @@ use Rattle.slate_mem.specs.RowOf.{op_row, row_of}
 use Rattle.slate_mem.specs.Table.{put_row, put_rows}
 use Rattle.slate_table.specs.Table.{AreInOrder, cut, cut_from}
 use Rattle.slate_txn.specs.State.{last_of}
-use Rattle.slate_txn.specs.Open.{least_begin}
+use Rattle.slate_txn.specs.Open.{least_start}
 use Rattle.slate_db.specs.Flushed.{Layout, IsFolded, HasTooLarge, TooLarge}
 use Rattle.slate_db.specs.Load.{row_load, rows_load, load, op_load, ops_load}
 use Rattle.slate_db.specs.Meaning.{Meaning, combine_of}
@@ -271,19 +271,19 @@ no_layer k layers rows none =
     sym (append-nil (versions_in k layers)) ∙ ap (λ (xs : Rows). versions_in k layers ++ (versions k xs ++ [])) (sym none) ∙ sym (flat_map-append (versions k) layers (rows ∷ []))
 
 -- b, layers: those of the call that stores them
-pub too_large_is : (layout : Layout) (c : CoreModel) (b : ℕ) (layers : List Rows) (rows : Rows) (e : SlateDBError) → c.active ≡ [] → b ≡ least_begin (last_of c.settings.start_seq c.state.commits) c.state.txns → layers ≡ c.frozen →
+pub too_large_is : (layout : Layout) (c : CoreModel) (b : ℕ) (layers : List Rows) (rows : Rows) (e : SlateDBError) → c.active ≡ [] → b ≡ least_start (last_of c.settings.start_seq c.state.commits) c.state → layers ≡ c.frozen →
     AllByRecursion (λ xs. AllByRecursion FitsMemory xs) (memory c) → ((m : Meaning) → IsFolded m b layers rows) → AreInOrder rows → HasTooLarge layout rows e → TooLarge layout c e
 too_large_is layout c b layers rows e idle barrier frozen fit folded order large =
-    (rows, moved, order, large, too_large_load plain (least_begin (last_of c.settings.start_seq c.state.commits) c.state.txns) (memory c) layout rows e (moved plain) fit large)
+    (rows, moved, order, large, too_large_load plain (least_start (last_of c.settings.start_seq c.state.commits) c.state) (memory c) layout rows e (moved plain) fit large)
   where
     plain : Meaning
     plain = record { combine = None; encode = λ bytes. bytes; decode = λ bytes. bytes }
 
-    moved : (m : Meaning) → IsFolded m (least_begin (last_of c.settings.start_seq c.state.commits) c.state.txns) (memory c) rows
+    moved : (m : Meaning) → IsFolded m (least_start (last_of c.settings.start_seq c.state.commits) c.state) (memory c) rows
     moved m k =
-        let here : IsFolded m (least_begin (last_of c.settings.start_seq c.state.commits) c.state.txns) c.frozen rows = subst (λ n. IsFolded m n c.frozen rows) barrier (subst (λ ls. IsFolded m b ls rows) frozen (folded m)) in
+        let here : IsFolded m (least_start (last_of c.settings.start_seq c.state.commits) c.state) c.frozen rows = subst (λ n. IsFolded m n c.frozen rows) barrier (subst (λ ls. IsFolded m b ls rows) frozen (folded m)) in
         here k
-        ∙ ap (λ xs. option_to_list (fold_rows (combine_of m k) (at_most (least_begin (last_of c.settings.start_seq c.state.commits) c.state.txns) xs)) ++ later (least_begin (last_of c.settings.start_seq c.state.commits) c.state.txns) xs) (no_layer k c.frozen c.active idle)
+        ∙ ap (λ xs. option_to_list (fold_rows (combine_of m k) (at_most (least_start (last_of c.settings.start_seq c.state.commits) c.state) xs)) ++ later (least_start (last_of c.settings.start_seq c.state.commits) c.state) xs) (no_layer k c.frozen c.active idle)
 
 -- of the causes the last one is said in other words
 pub last_cause : {A D E : Type 0} → (D → E) → A ⊎ D → A ⊎ E

@@ -1,5 +1,5 @@
 -- What is true of every log stays so.
-use Rattle.std.proofs.Common.{◌≡◌, ℕ, ◌+◌, ◌-◌, ◌<◌, ◌≤◌, ◌^◌, List, [], ◌∷◌, ◌++◌, length, Option, Some, None, refl, sym, ap, subst, ◌∙◌, arith, ℤ, append-nil, length-append}
+use Rattle.std.proofs.Common.{◌≡◌, ℕ, ◌+◌, ◌-◌, ◌<◌, ◌≤◌, ◌^◌, inl, inr, List, [], ◌∷◌, ◌++◌, length, Option, Some, None, refl, sym, ap, subst, ◌∙◌, arith, ℤ, append-nil, length-append}
 use Rattle.std.proofs.lemmas.Grind.{flat_map-append}
 use Rattle.std.specs.Prelude.{IsSome}
 use Rattle.std.specs.List.{AllByRecursion}
@@ -9,15 +9,15 @@ use Rattle.slate_mem.specs.Batch.{Ops, batch_keys}
 use Rattle.slate_txn.specs.declared.event.Event.{Event}
 use Rattle.slate_txn.specs.declared.event.Event.TheVariants as events
 use Rattle.slate_txn.specs.declared.event.TranscriptStep.{TranscriptStep}
-use Rattle.slate_txn.specs.Ids.{id_of, IsOfCount}
+use Rattle.slate_txn.specs.Ids.{id_of, snapshot_id}
 use Rattle.slate_txn.specs.Named.{find_named, without}
 use Rattle.slate_txn.specs.Reads.{up_to}
 use Rattle.slate_txn.specs.Replay.{replay, apply, used_from, Allowed}
 use Rattle.slate_txn.specs.State.{Commit, opening, last_of}
-use Rattle.slate_txn.proofs.IdLaws.{fresh_among, wider}
 use Rattle.slate_txn.proofs.NamedLaws.{length_without}
 use Rattle.slate_db.specs.Installs.{tables_of, tables_in, runs_of, runs_in, installed, ArePlaced, NumberedFrom}
-use Rattle.slate_db.specs.Log.{LogModel, IsLog, IsWhollyKept, HasPlace, MayCommit, LIMIT, ends_of, with_begin, with_commit, with_end, with_freeze, with_write, with_install, with_flush}
+use Rattle.slate_db.specs.Log.{LogModel, IsLog, IsIdOf, IsWhollyKept, HasPlace, MayCommit, LIMIT, ends_of, with_begin, with_snapshot, with_commit, with_end, with_release, with_freeze, with_write, with_install, with_flush}
+use Rattle.slate_db.proofs.ApartIds.{next_id, next_snapshot, not_among, wider_id}
 use Rattle.slate_db.proofs.Journals.{apply_more, used_more, legal_more}
 use Rattle.slate_db.proofs.Lists.{all_more, all_map}
 use Rattle.slate_db.proofs.RunsOf.{runs_more, runs_same}
@@ -41,6 +41,7 @@ log_room l spare room w = record {
   fine = w.fine;
   used = w.used;
   counted = w.counted;
+  snapshots_counted = w.snapshots_counted;
   installed_within = w.installed_within;
   flushed_within = w.flushed_within;
   flushed_through = w.flushed_through;
@@ -53,10 +54,10 @@ log_room l spare room w = record {
 }
 
 -- an event that neither commits nor installs
-log_event : (l : LogModel) (e : Event) (ids ends spare : ℕ) → Allowed l.start (replay l.events) (used_from [] l.events) e → (apply (replay l.events) e).commits ≡ (replay l.events).commits →
-    (apply (replay l.events) e).flushed ≡ installed l.events → runs_in e ≡ [] → AllByRecursion (λ id. IsOfCount ids id) (used_from [] (l.events ++ (e ∷ []))) → ids ≤ l.ids + 1 → ends ≡ ends_of (apply (replay l.events) e) →
-    ends ≤ spare → length l.events + 1 + ends ≤ LIMIT → IsLog l → IsLog (record l { ids = ids; ends = ends; events = l.events ++ (e ∷ []); spare = spare })
-log_event l e ids ends spare may commits flushed none used few counts room bound w = record {
+log_event : (l : LogModel) (e : Event) (ids shown ends spare : ℕ) → Allowed l.start (replay l.events) (used_from [] l.events) e → (apply (replay l.events) e).commits ≡ (replay l.events).commits →
+    (apply (replay l.events) e).flushed ≡ installed l.events → runs_in e ≡ [] → AllByRecursion (IsIdOf ids shown) (used_from [] (l.events ++ (e ∷ []))) → ids ≤ l.ids + 1 → shown ≤ l.snapshot_ids + 1 → ends ≡ ends_of (apply (replay l.events) e) →
+    ends ≤ spare → length l.events + 1 + ends ≤ LIMIT → IsLog l → IsLog (record l { ids = ids; snapshot_ids = shown; ends = ends; events = l.events ++ (e ∷ []); spare = spare })
+log_event l e ids shown ends spare may commits flushed none used few given counts room bound w = record {
   legal = legal_more l.start opening [] l.events e w.legal may;
   replays = ap (λ s. s.commits) more ∙ commits ∙ w.replays;
   last = w.last;
@@ -65,6 +66,7 @@ log_event l e ids ends spare may commits flushed none used few counts room bound
   fine = w.fine;
   used = used;
   counted = rw length-append (let h : l.ids ≤ length l.events = w.counted in omega arith);
+  snapshots_counted = rw length-append (let h : l.snapshot_ids ≤ length l.events = w.snapshots_counted in omega arith);
   installed_within = subst (λ (n : ℕ). n ≤ l.last) (sym through) w.installed_within;
   flushed_within = w.flushed_within;
   flushed_through = w.flushed_through ∙ ap (λ n. up_to n l.commits) (sym through);
@@ -82,19 +84,43 @@ log_event l e ids ends spare may commits flushed none used few counts room bound
     through : installed (l.events ++ (e ∷ [])) ≡ installed l.events
     through = ap (λ s. s.flushed) more ∙ flushed
 
+few_ids : (l : LogModel) → IsLog l → l.ids < 2 ^ 64
+few_ids l w = let given : l.ids ≤ length l.events = w.counted in omega (arith, w.bound)
+
+few_shown : (l : LogModel) → IsLog l → l.snapshot_ids < 2 ^ 64
+few_shown l w = let given : l.snapshot_ids ≤ length l.events = w.snapshots_counted in omega (arith, w.bound)
+
 pub log_begun : (l : LogModel) (level : IsolationLevel) (spare : ℕ) → l.ends + 1 ≤ spare → length l.events + l.ends + 2 ≤ LIMIT → IsLog l → IsLog (with_begin l level spare)
 log_begun l level spare room bound w =
-    log_event l (events.Begin (id_of (l.ids + 1)) level l.last) (l.ids + 1) (l.ends + 1) spare
-    (fresh_among l.ids (l.ids + 1) (used_from [] l.events) (omega arith) (omega (arith, w.counted)) w.used, w.last ∙ ap (λ cs. last_of l.start cs) (sym w.replays))
+    log_event l (events.Begin (id_of (l.ids + 1)) level l.last) (l.ids + 1) l.snapshot_ids (l.ends + 1) spare
+    (not_among (IsIdOf l.ids l.snapshot_ids) (id_of (l.ids + 1)) (λ id. next_id l.ids l.snapshot_ids id (few_ids l w) (few_shown l w)) (used_from [] l.events) w.used, w.last ∙ ap (λ cs. last_of l.start cs) (sym w.replays))
     refl refl refl
-    (rw used_more (record { count = l.ids + 1; within = omega arith; is = refl }, all_map _ _ (wider l.ids (l.ids + 1) (omega arith)) _ w.used))
-    (omega arith)
+    (rw used_more (inl (record { count = l.ids + 1; within = omega arith; is = refl }), all_map _ _ (wider_id l.ids (l.ids + 1) l.snapshot_ids l.snapshot_ids (omega arith) (omega arith)) _ w.used))
+    (omega arith) (omega arith)
     (rw length-append (let h : l.ends ≡ ends_of (replay l.events) = w.ends in omega arith))
     room (omega arith) w
 
+pub log_shown : (l : LogModel) (spare : ℕ) → l.ends + 1 ≤ spare → length l.events + l.ends + 2 ≤ LIMIT → IsLog l → IsLog (with_snapshot l spare)
+log_shown l spare room bound w =
+    log_event l (events.Snapshot (snapshot_id (l.snapshot_ids + 1)) l.last) l.ids (l.snapshot_ids + 1) (l.ends + 1) spare
+    (not_among (IsIdOf l.ids l.snapshot_ids) (snapshot_id (l.snapshot_ids + 1)) (λ id. next_snapshot l.ids l.snapshot_ids id (few_ids l w) (few_shown l w)) (used_from [] l.events) w.used, w.last ∙ ap (λ cs. last_of l.start cs) (sym w.replays))
+    refl refl refl
+    (rw used_more (inr (record { count = l.snapshot_ids + 1; within = omega arith; is = refl }), all_map _ _ (wider_id l.ids l.ids l.snapshot_ids (l.snapshot_ids + 1) (omega arith) (omega arith)) _ w.used))
+    (omega arith) (omega arith)
+    (rw length-append (let h : l.ends ≡ ends_of (replay l.events) = w.ends in omega arith))
+    room (omega arith) w
+
+pub log_released : (l : LogModel) (id : List ℕ) (spare : ℕ) → IsSome (find_named id (replay l.events).snapshots) → spare + 1 ≡ l.spare → IsLog l → IsLog (with_release l id spare)
+log_released l id spare held room w =
+    log_event l (events.Release id) l.ids l.snapshot_ids (l.ends - 1) spare held refl refl refl (rw used_more w.used) (omega arith) (omega arith)
+    (omega (arith, len, w.ends)) (omega (arith, len, w.ends, w.room)) (omega (arith, len, w.ends, w.bound)) w
+  where
+    len : length (without id (replay l.events).snapshots) + 1 ≡ length (replay l.events).snapshots
+    len = length_without id (replay l.events).snapshots held
+
 pub log_ended : (l : LogModel) (id : List ℕ) (spare : ℕ) → IsSome (find_named id (replay l.events).txns) → spare + 1 ≡ l.spare → IsLog l → IsLog (with_end l id spare)
 log_ended l id spare held room w =
-    log_event l (events.End id) l.ids (l.ends - 1) spare held refl refl refl (rw used_more w.used) (omega arith)
+    log_event l (events.End id) l.ids l.snapshot_ids (l.ends - 1) spare held refl refl refl (rw used_more w.used) (omega arith) (omega arith)
     (omega (arith, len, w.ends)) (omega (arith, len, w.ends, w.room)) (omega (arith, len, w.ends, w.bound)) w
   where
     len : length (without id (replay l.events).txns) + 1 ≡ length (replay l.events).txns
@@ -102,7 +128,7 @@ log_ended l id spare held room w =
 
 pub log_frozen : (l : LogModel) (spare : ℕ) → HasPlace 1 l → spare + 1 ≡ l.spare → IsLog l → IsLog (with_freeze l spare)
 log_frozen l spare place room w =
-    log_event l events.Freeze l.ids l.ends spare tt refl refl refl (rw used_more w.used) (omega arith) w.ends (omega (arith, place.room)) (omega (arith, place.place)) w
+    log_event l events.Freeze l.ids l.snapshot_ids l.ends spare tt refl refl refl (rw used_more w.used) (omega arith) (omega arith) w.ends (omega (arith, place.room)) (omega (arith, place.place)) w
 
 pub log_written : (l : LogModel) (now : ℤ) (ops : Ops) (spare : ℕ) → HasPlace 1 l → spare + 1 ≡ l.spare → l.last < 2 ^ 64 - 2 → IsWhollyKept ops → IsLog l → IsLog (with_write l now ops spare)
 log_written l now ops spare place room fits batch w = record {
@@ -114,6 +140,7 @@ log_written l now ops spare place room fits batch w = record {
   fine = all_more _ _ _ w.fine batch.fine;
   used = rw used_more w.used;
   counted = rw length-append (let h : l.ids ≤ length l.events = w.counted in omega arith);
+  snapshots_counted = rw length-append (let h : l.snapshot_ids ≤ length l.events = w.snapshots_counted in omega arith);
   installed_within = subst (λ (n : ℕ). n ≤ l.last + 1) (sym through) (let h : installed l.events ≤ l.last = w.installed_within in omega arith);
   flushed_within = let h : l.flushed ≤ l.last = w.flushed_within in omega arith;
   flushed_through =
@@ -145,7 +172,7 @@ log_written l now ops spare place room fits batch w = record {
 committed_none : (l : LogModel) (id : List ℕ) (now : ℤ) (ops : Ops) (tracked : List (List ℕ)) (ts : List TranscriptStep) (spare : ℕ) → MayCommit l id None ops tracked ts → spare + 1 ≡ l.spare → IsLog l → IsLog (with_commit l id None now ops tracked ts spare)
 committed_none l id now ops tracked ts spare may room w =
     subst IsLog (let back = sym (append-nil l.commits) in λ i. record l { ends = l.ends - 1; commits = back i; events = l.events ++ (events.Commit id None now ops tracked ts ∷ []); spare = spare })
-    (log_event l (events.Commit id None now ops tracked ts) l.ids (l.ends - 1) spare (may.held, may.next, may.kept, may.keys, may.free) (append-nil (replay l.events).commits) refl refl (rw used_more w.used) (omega arith)
+    (log_event l (events.Commit id None now ops tracked ts) l.ids l.snapshot_ids (l.ends - 1) spare (may.held, may.next, may.kept, may.keys, may.free) (append-nil (replay l.events).commits) refl refl (rw used_more w.used) (omega arith) (omega arith)
     (omega (arith, len, w.ends)) (omega (arith, len, w.ends, w.room)) (omega (arith, len, w.ends, w.bound)) w)
   where
     len : length (without id (replay l.events).txns) + 1 ≡ length (replay l.events).txns
@@ -161,6 +188,7 @@ committed_some l id n now ops tracked ts spare may room w = record {
   fine = all_more _ _ _ w.fine may.fine;
   used = rw used_more w.used;
   counted = rw length-append (let h : l.ids ≤ length l.events = w.counted in omega arith);
+  snapshots_counted = rw length-append (let h : l.snapshot_ids ≤ length l.events = w.snapshots_counted in omega arith);
   installed_within = subst (λ (k : ℕ). k ≤ n) (sym through) (let h : installed l.events ≤ l.last = w.installed_within in omega (arith, next));
   flushed_within = let h : l.flushed ≤ l.last = w.flushed_within in omega (arith, next);
   flushed_through =
@@ -215,6 +243,7 @@ log_installed l ts spare place room placed w = record {
   fine = w.fine;
   used = rw used_more w.used;
   counted = rw length-append (let h : l.ids ≤ length l.events = w.counted in omega arith);
+  snapshots_counted = rw length-append (let h : l.snapshot_ids ≤ length l.events = w.snapshots_counted in omega arith);
   installed_within = subst (λ (n : ℕ). n ≤ l.last) (sym through) (omega arith);
   flushed_within = omega arith;
   flushed_through = ap (λ i. up_to i l.commits) (sym through);
@@ -246,6 +275,7 @@ log_flushed l all w = record {
   fine = w.fine;
   used = w.used;
   counted = w.counted;
+  snapshots_counted = w.snapshots_counted;
   installed_within = w.installed_within;
   flushed_within = omega arith;
   flushed_through = all_up_to l.start l.last l.commits w.rising (let h : l.last ≡ last_of l.start l.commits = w.last in omega arith) ∙ sym all;
@@ -260,6 +290,9 @@ log_flushed l all w = record {
 -- something is open where this id is
 pub some_ends : (l : LogModel) (id : List ℕ) → IsSome (find_named id (replay l.events).txns) → IsLog l → 1 ≤ l.ends
 some_ends l id held w = omega (arith, length_without id (replay l.events).txns held, w.ends)
+
+pub some_shown : (l : LogModel) (id : List ℕ) → IsSome (find_named id (replay l.events).snapshots) → IsLog l → 1 ≤ l.ends
+some_shown l id held w = omega (arith, length_without id (replay l.events).snapshots held, w.ends)
 
 -- room was made, and there is a place
 pub has_place : (l m : LogModel) → m ≡ record l { spare = m.spare } → l.ends + 1 ≤ m.spare → length l.events + l.ends + 1 ≤ LIMIT → HasPlace 1 m

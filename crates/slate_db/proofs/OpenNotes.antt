@@ -18,14 +18,11 @@ use Rattle.slate_txn.specs.Named.{find_named, update_named}
 use Rattle.slate_txn.specs.Reads.{handed, rows_seen}
 use Rattle.slate_txn.specs.Reply.{RowsAre}
 use Rattle.slate_txn.specs.State.{Commit, Rules, State, Tx}
-use Rattle.slate_txn.specs.Step.{is_scan, noted, reader_or_snapshot, scan, step}
+use Rattle.slate_txn.specs.Step.{Reader, is_scan, noted, reader, scan, step}
 use Rattle.slate_txn.proofs.ScanLaws.{opened_left, scan_alone}
-use Rattle.slate_db.specs.declared.engine.Core.TheInside.{Inside}
 use Rattle.slate_db.specs.Meaning.{Meaning, rules_of}
 use Rattle.slate_db.specs.Model.{CoreModel}
-use Rattle.slate_db.specs.View.{view_of, IsWholeInside}
 use Rattle.slate_db.specs.Vouched.{IsVouchedFor}
-use Rattle.slate_db.proofs.Seen.{found_all}
 use Rattle.slate_db.proofs.Vouches.{found_updated}
 use Rattle.slate_db.proofs.Wholes.{after_note}
 
@@ -33,11 +30,11 @@ none_below : (n : ℕ) → nat_lt n 0 ≡ false
 none_below n = grind (arith, nat_tests)
 
 -- a scan of which nothing is asked yet
-pub step_scan : (r : Rules) (s : State) (id : List ℕ) (order : IterationOrder) (range : BytesRange) (t : Tx) → find_named id s.txns ≡ Some t → is_refused range.start range.end ≡ false →
+pub step_scan : (r : Rules) (s : State) (id : List ℕ) (order : IterationOrder) (range : BytesRange) (from : Reader) → reader s id ≡ Some from → is_refused range.start range.end ≡ false →
     step r s (lines.Scan id order range.start range.end (ScanStep.Rows 0 ∷ [])) ≡ (noted s id (steps.Scan order range ∷ []), RowsAre [])
-step_scan r s id order range t found fine =
-    (λ i. scan r s id order (cond (fine i) None (Some range)) (ScanStep.Rows 0 ∷ []) (reader_or_snapshot (found i) (find_named id s.snapshots)))
-    ∙ ap (λ b. (noted s id (steps.Scan order range ∷ (cond b (steps.Next (count_by is_scan t.transcript) None ∷ []) [] ++ [])), RowsAre (handed (cond b (steps.Next (count_by is_scan t.transcript) None ∷ []) [] ++ [])))) (none_below (length (rows_seen r s.commits t.begin t.ops order range)))
+step_scan r s id order range from found fine =
+    (λ i. scan r s id order (cond (fine i) None (Some range)) (ScanStep.Rows 0 ∷ []) (found i))
+    ∙ ap (λ b. (noted s id (steps.Scan order range ∷ (cond b (steps.Next from.scans None ∷ []) [] ++ [])), RowsAre (handed (cond b (steps.Next from.scans None ∷ []) [] ++ [])))) (none_below (length (rows_seen r s.commits from.at from.ops order range)))
 
 found_noted : {X : Type 0} (id : List ℕ) (f : X → X) (ps : List (List ℕ × X)) (x : X) → find_named id ps ≡ Some x → find_named id (update_named id f ps) ≡ Some (f x)
 found_noted id f [] x h = cc
@@ -60,18 +57,3 @@ pub vouched_scan : (m : Meaning) (c : CoreModel) (id k : List ℕ) (order : Iter
 vouched_scan m c id k order range h =
     found_updated (IsVouched (rules_of c.settings m) c.state.commits) id k (λ t. record t { transcript = t.transcript ++ (steps.Scan order range ∷ []) }) c.state.txns
     (λ t e g. scan_alone (rules_of c.settings m) c.state.commits t.begin t.transcript order range g) h
-
--- ---- the transaction that scans
-
-module _ (s : Inside) (v : CoreModel) (is : view_of s ≡ v) (id : List ℕ) (t : Tx) (found : find_named id v.state.txns ≡ Some t) where
-  pub there : find_named id s.transactions ≡ Some t
-  there = ap (λ (k : CoreModel). find_named id k.state.txns) is ∙ found
-
-  pub begin_at : (begin : ℕ) → Some begin ≡ option_map (λ (x : Tx). x.begin) (find_named id s.transactions) → begin ≡ t.begin
-  begin_at begin at = ap (λ (o : Option ℕ). unwrap_or o 0) (at ∙ ap (option_map (λ (x : Tx). x.begin)) there)
-
-  pub floor_at : IsWholeInside s → v.floor ≤ t.begin
-  floor_at whole = subst (λ (k : CoreModel). k.floor ≤ t.begin) is (found_all (λ (x : Tx). (s.layers.floor ≤ x.begin) × (x.begin ≤ s.log.last)) id s.transactions t whole.tied.begins there).0
-
-  pub own_at : IsWholeInside s → t.ops ≡ own_of t.transcript
-  own_at whole = found_all (λ (x : Tx). x.ops ≡ own_of x.transcript) id s.transactions t whole.tied.own there

@@ -5,7 +5,7 @@ use Rattle.std.specs.Int.{w16, w32, w64}
 use Rattle.slate_types.specs.declared.error.SlateDBError.{SlateDBError}
 use Rattle.slate_types.specs.declared.error.SlateDBError.TheVariants.{ChecksumMismatch, CorruptTable, InvalidRowFlags, MergeOperatorMissing}
 use Rattle.slate_types.specs.declared.iter.IterationOrder.{IterationOrder}
-use Rattle.slate_types.specs.Outside.{Act, Meaning}
+use Rattle.slate_types.specs.Outside.{Act, Meaning, Reach}
 use Rattle.slate_block.specs.declared.block.Block.{Block}
 use Rattle.slate_block.specs.declared.flags.RowFlags.{RowFlags}
 use Rattle.slate_block.specs.BlockWalks.{IsBlockDamage}
@@ -20,7 +20,7 @@ use Rattle.slate_read.specs.TableWalk.{RefusesRows}
 use Rattle.slate_db.specs.Installs.{AreHandles, tables_of}
 use Rattle.slate_db.specs.Model.{CoreModel}
 use Rattle.slate_db.specs.Parts.{IsTableError}
-use Rattle.slate_db.specs.Scans.{IsRefusedByScan, ShowsAmong}
+use Rattle.slate_db.specs.Scans.{IsOpeningError, IsRefusedByScan, IsScanError, ShowsAmong}
 use Rattle.slate_db.specs.Shown.{IsUnreadable}
 use Rattle.slate_db.proofs.Damaged.{block_damage, block_unreadable, bound, in_block, index_unreadable, number_damage, passes}
 use Rattle.slate_db.proofs.Shown.{known_version, unreadable_kind}
@@ -141,3 +141,8 @@ scan_kind m c acts e r = by r.refused
     by : (e ≡ MergeOperatorMissing) ⊎ ShowsAmong m.decode r.handles acts e → IsTableError e
     by (inl is) = subst IsTableError (sym is) tt
     by (inr (h, among, shows)) = unreadable_kind e (shown_unreadable m.decode h acts e (known_version (tables_of c.events) r.handles h r.are among) shows)
+
+-- and an opening's is one of a scan
+pub opening_scan : (before after : Reach) (c : CoreModel) (e : SlateDBError) → IsOpeningError before after c e → IsScanError before after c e
+opening_scan before after c e (inl fault) = inl fault
+opening_scan before after c e (inr (reads, call, s)) = inr (reads, call, record { handles = s.handles; are = s.are; refused = inr s.shown })

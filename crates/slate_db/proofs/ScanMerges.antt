@@ -32,7 +32,7 @@ use Rattle.slate_db.specs.Meaning.{rules_of}
 use Rattle.slate_db.specs.Model.{CoreModel, Rows}
 use Rattle.slate_db.specs.OpenScans.{AreScanSources, CanOpen, IsBlamedFor, merged_rows}
 use Rattle.slate_db.specs.Readable.{IsAnswered}
-use Rattle.slate_db.specs.Scans.{AreForIn, IsFor, IsReached, IsRefusedByScan, IsScanError, IsSoundIn, IsSoundSource, IsWorldOf, Leaves, RefusesIn, ScanRefuses, ScanSource, has_value, left_in, order_of, source_refuses, source_rows}
+use Rattle.slate_db.specs.Scans.{AreForIn, IsFor, IsOpeningError, IsReached, IsRefusedByScan, IsShownByScan, IsSoundIn, IsSoundSource, IsWorldOf, Leaves, RefusesIn, ScanRefuses, ScanSource, has_value, left_in, order_of, source_refuses, source_rows}
 use Rattle.slate_db.specs.Whole.{IsWhole, Unseen}
 use Rattle.slate_db.proofs.Runs.{all_handles}
 use Rattle.slate_db.proofs.ScanOpenings.{ScanOpens, scan_opens}
@@ -88,6 +88,9 @@ module _ (m : Meaning) (c : CoreModel) (x : Unseen) (w : IsWhole c x) (range : B
   shown : (reads : List Act) (at : Option (List ℕ)) (e : SlateDBError) → IsReached range at → IsBlamedFor sources m reads at e → IsShown m (handles_of x.runs) reads e
   shown reads at e reached blamed = blamed_shows m range order n ops layers x.runs sources are reads at e reached blamed
 
+  shown_by : (reads : List Act) (e : SlateDBError) → IsShown m (handles_of x.runs) reads e → IsShownByScan m c reads e
+  shown_by reads e s = record { handles = handles_of x.runs; are = all_handles c.events x.runs w.tied.runs; shown = s.1 }
+
   refused_by : (reads : List Act) (e : SlateDBError) → IsShown m (handles_of x.runs) reads e → IsRefusedByScan m c reads e
   refused_by reads e s = record { handles = handles_of x.runs; are = all_handles c.events x.runs w.tied.runs; refused = inr s.1 }
 
@@ -101,7 +104,7 @@ module _ (m : Meaning) (c : CoreModel) (x : Unseen) (w : IsWhole c x) (range : B
   scan_is_for rows it reads state_is range_is blamed later at e h = by (subst (λ (b : BytesRange). RefusesIn b (Walking rows) m later at e) range_is (subst (λ (s : ScanState). RefusesIn it.range s m later at e) state_is h))
     where
       by : RefusesIn range (Walking rows) m later at e → (e ≡ MergeOperatorMissing) ⊎ IsDamage e
-      by (inl missing) = inl missing
+      by (inl missing) = inl missing.0
       by (inr r) = inr (sources_for rows reads blamed later at e r)
 
   pub scan_refused : (rows : MergeIterator ScanSource) (it : DbIterator) (reads : List Act) → it.state ≡ Walking rows → it.range ≡ range → LaterBlamed rows reads →
@@ -109,12 +112,12 @@ module _ (m : Meaning) (c : CoreModel) (x : Unseen) (w : IsWhole c x) (range : B
   scan_refused rows it reads state_is range_is blamed later at e h = by (subst (λ (b : BytesRange). RefusesIn b (Walking rows) m later at e) range_is (subst (λ (s : ScanState). RefusesIn it.range s m later at e) state_is h))
     where
       by : RefusesIn range (Walking rows) m later at e → IsRefusedByScan m c (reads ++ later) e
-      by (inl missing) = record { handles = handles_of x.runs; are = all_handles c.events x.runs w.tied.runs; refused = inl missing }
+      by (inl missing) = record { handles = handles_of x.runs; are = all_handles c.events x.runs w.tied.runs; refused = inl missing.0 }
       by (inr r) = refused_by (reads ++ later) e (shown (reads ++ later) at e r.0 (blamed later at e r.1))
 
-  pub opening_refused : (before after : Reach) (e : SlateDBError) → before.meaning ≡ m → Made before after (λ reads. IsFault before after e ⊎ IsBlamedFor sources m reads None e) → IsScanError before after c e
+  pub opening_refused : (before after : Reach) (e : SlateDBError) → before.meaning ≡ m → Made before after (λ reads. IsFault before after e ⊎ IsBlamedFor sources m reads None e) → IsOpeningError before after c e
   opening_refused before after e same (reads, call, inl fault) = inl fault
-  opening_refused before after e same (reads, call, inr blamed) = inr (reads, call, subst (λ (k : Meaning). IsRefusedByScan k c reads e) (sym same) (refused_by reads e (shown reads None e tt blamed)))
+  opening_refused before after e same (reads, call, inr blamed) = inr (reads, call, subst (λ (k : Meaning). IsShownByScan k c reads e) (sym same) (shown_by reads e (shown reads None e tt blamed)))
 
   pub opening_undamaged : (os : Objects) (before after : Reach) (e : SlateDBError) (o : ScanOpens os m c n ops range order sources) → Sees o.world before after → Made before after (λ reads. IsFault before after e ⊎ IsBlamedFor sources m reads None e) → IsFault before after e
   opening_undamaged os before after e o sees (reads, call, inl fault) = fault

@@ -80,4 +80,4 @@ module _ (m : Meaning) (c : CoreModel) (it : TxnIterator) where
       opened : (t : Tx) → find_named (id_of it) c.state.txns ≡ Some t → IsSome (slice_get (scans_left rules c.state.commits t.begin t.transcript) (number_of it))
       opened t e = get_within (scans_left rules c.state.commits t.begin t.transcript) (number_of it)
           (subst (λ (n : ℕ). number_of it < n) (sym (count_left rules c.state.commits t.begin t.transcript))
-          (subst (λ (u : Tx). number_of it < count_by is_scan u.transcript) (same_Some is_open.0 t (sym is_open.1 ∙ e)) is_open.2))
+          (is_open.1 t e))

@@ -7,7 +7,7 @@ use Rattle.std.specs.declared.ops.Bound.{Bound}
 use Rattle.std.specs.declared.ops.Bound.TheVariants.{Included, Excluded, Unbounded}
 use Rattle.slate_types.specs.declared.bytes_range.BytesRange.{BytesRange}
 use Rattle.slate_types.specs.declared.error.SlateDBError.{SlateDBError}
-use Rattle.slate_types.specs.declared.error.SlateDBError.TheVariants.{MergeOperatorMissing}
+use Rattle.slate_types.specs.declared.error.SlateDBError.TheVariants.{MergeOperatorMissing, OutOfMemory}
 use Rattle.slate_types.specs.declared.iter.IterationOrder.{IterationOrder}
 use Rattle.slate_types.specs.declared.iter.IterationOrder.TheVariants.{Ascending, Descending}
 use Rattle.slate_types.specs.declared.types.KeyValue.{KeyValue}
@@ -28,7 +28,7 @@ use Rattle.slate_txn.specs.Alone.{first_left}
 use Rattle.slate_db.specs.declared.scan.DbIterator.{DbIterator}
 use Rattle.slate_db.specs.declared.scan.ScanState.{ScanState}
 use Rattle.slate_db.specs.declared.scan.ScanState.TheVariants.{Walking, Done, Refused}
-use Rattle.slate_db.specs.Scans.{AreForIn, IsReached, IsSoundIn, IsSoundSource, Leaves, RefusesIn, ScanSource, SourcesRefuse, left_in, order_of, source_refuses, source_rows}
+use Rattle.slate_db.specs.Scans.{AnswersAgain, AreForIn, IsReached, IsSoundIn, IsSoundSource, Leaves, MeetsOperand, RefusesIn, ScanSource, SourcesRefuse, left_in, order_of, source_refuses, source_rows}
 use Rattle.slate_db.specs.Values.{HasValues, has_value}
 use Rattle.slate_db.proofs.Passing.{has_none}
 
@@ -88,13 +88,21 @@ on_both (Err e) p q f = tt
 abbrev pub Merged : Type 0
 Merged = MergeIterator ScanSource
 
--- one more way to refuse
-pub or_missing : {V : Type 0} (r : Result V SlateDBError) (a b : Reach) (Q : List Act → SlateDBError → Type 0) → IfErr r (λ e. Made a b (λ reads. IsFault a b e ⊎ Q reads e)) → IfErr r (λ e. Made a b (λ reads. IsFault a b e ⊎ ((e ≡ MergeOperatorMissing) ⊎ Q reads e)))
-or_missing r a b Q h = IfErr-weaker r _ _ (λ e k. (k.0, k.1, by e k.0 k.2)) h
+-- one more way to refuse, for a seek and for the other calls
+pub or_missing : {V : Type 0} (r : Result V SlateDBError) (at : Option (List ℕ)) (a b : Reach) (Q : List Act → SlateDBError → Type 0) → IfErr r (λ e. Made a b (λ reads. IsFault a b e ⊎ Q reads e)) → IfErr r (λ e. Made a b (λ reads. IsFault a b e ⊎ (MeetsOperand at e ⊎ Q reads e)))
+or_missing r at a b Q h = IfErr-weaker r _ _ (λ e k. (k.0, k.1, by e k.0 k.2)) h
   where
-    by : (e : SlateDBError) (reads : List Act) → IsFault a b e ⊎ Q reads e → IsFault a b e ⊎ ((e ≡ MergeOperatorMissing) ⊎ Q reads e)
+    by : (e : SlateDBError) (reads : List Act) → IsFault a b e ⊎ Q reads e → IsFault a b e ⊎ (MeetsOperand at e ⊎ Q reads e)
     by e reads (inl k) = inl k
     by e reads (inr k) = inr (inr k)
+
+pub met_operand : {V : Type 0} (r : Result V SlateDBError) (a b : Reach) (Q : List Act → SlateDBError → Type 0) → IfErr r (λ e. Made a b (λ reads. IsFault a b e ⊎ ((e ≡ MergeOperatorMissing) ⊎ Q reads e))) → IfErr r (λ e. Made a b (λ reads. IsFault a b e ⊎ (MeetsOperand None e ⊎ Q reads e)))
+met_operand r a b Q h = IfErr-weaker r _ _ (λ e k. (k.0, k.1, by e k.0 k.2)) h
+  where
+    by : (e : SlateDBError) (reads : List Act) → IsFault a b e ⊎ ((e ≡ MergeOperatorMissing) ⊎ Q reads e) → IsFault a b e ⊎ (MeetsOperand None e ⊎ Q reads e)
+    by e reads (inl k) = inl k
+    by e reads (inr (inl k)) = inr (inl (k, refl))
+    by e reads (inr (inr k)) = inr (inr k)
 
 abbrev pub IsSound : Merged → World → Type 0
 IsSound u w = IsSoundMerge source_rows IsSoundSource order_of u w
@@ -146,11 +154,11 @@ later_walk r range a b x u v is h = on_ok_weaker r
     by reads less later at e (inr f) = inr (f.0, less later at e f.1)
 
 pub cause_walk : {V : Type 0} (r : Result V SlateDBError) (range : BytesRange) (at : Option (List ℕ)) (a b : Reach) (x : ScanState) (u : Merged) → x ≡ Walking u → IsReached range at →
-    IfErr r (λ e. Made a b (λ reads. IsFault a b e ⊎ ((e ≡ MergeOperatorMissing) ⊎ refuses_in source_refuses u.state a.meaning reads at e))) → IfErr r (λ e. Made a b (λ reads. IsFault a b e ⊎ RefusesIn range x a.meaning reads at e))
+    IfErr r (λ e. Made a b (λ reads. IsFault a b e ⊎ (MeetsOperand at e ⊎ refuses_in source_refuses u.state a.meaning reads at e))) → IfErr r (λ e. Made a b (λ reads. IsFault a b e ⊎ RefusesIn range x a.meaning reads at e))
 cause_walk r range at a b x u is reached h = IfErr-weaker r _ _
     (λ e k. subst (λ (s : ScanState). Made a b (λ reads. IsFault a b e ⊎ RefusesIn range s a.meaning reads at e)) (sym is) (k.0, k.1, by e k.0 k.2)) h
   where
-    by : (e : SlateDBError) (reads : List Act) → IsFault a b e ⊎ ((e ≡ MergeOperatorMissing) ⊎ refuses_in source_refuses u.state a.meaning reads at e) → IsFault a b e ⊎ RefusesIn range (Walking u) a.meaning reads at e
+    by : (e : SlateDBError) (reads : List Act) → IsFault a b e ⊎ (MeetsOperand at e ⊎ refuses_in source_refuses u.state a.meaning reads at e) → IsFault a b e ⊎ RefusesIn range (Walking u) a.meaning reads at e
     by e reads (inl k) = inl k
     by e reads (inr (inl k)) = inr (inl k)
     by e reads (inr (inr k)) = inr (inr (reached, k))
@@ -177,6 +185,22 @@ never_sound order w x k is h = absurd (subst (λ (s : ScanState). IsSoundIn orde
 
 pub refused_again : (range : BytesRange) (at : Option (List ℕ)) (a : Reach) (x : ScanState) (k e : SlateDBError) → x ≡ Refused k → Copies k e → Made a a (λ reads. IsFault a a e ⊎ RefusesIn range x a.meaning reads at e)
 refused_again range at a x k e is copies = subst (λ (s : ScanState). Made a a (λ reads. IsFault a a e ⊎ RefusesIn range s a.meaning reads at e)) (sym is) ([], call_none a, kept_again a.faults a.faults k e copies)
+
+-- it answers again what it kept
+kept_in : SlateDBError → ScanState → SlateDBError
+kept_in d (Walking rows) = d
+kept_in d Done = d
+kept_in d (Refused k) = k
+
+pub kept_answer : {V : Type 0} (r : Result V SlateDBError) (x : ScanState) (k l e : SlateDBError) → r ≡ Err e → x ≡ Refused k → Copies k e → x ≡ Refused l → AnswersAgain l r
+unfolding kept_in
+kept_answer r x k l e answer is (inl copy) kept = inl (answer ∙ ap Err (copy ∙ ap (kept_in k) (sym is ∙ kept)))
+kept_answer r x k l e answer is (inr memory) kept = inr (answer ∙ ap Err memory)
+
+-- what has answered was not refused
+pub answered_once : {V Q : Type 0} (a : V) (k : SlateDBError) → AnswersAgain k (Ok a) → Q
+answered_once a k (inl clash) = cc
+answered_once a k (inr clash) = cc
 
 -- ---- what is left of an iterator
 

@@ -1,6 +1,6 @@
 -- A transaction's transcript stays vouched for.
 use Rattle.std.proofs.Common.{◌≡◌, ◌≢◌, ℕ, ◌+◌, ◌≤◌, ◌<◌, Bool, true, false, cond, bytes_eq, List, [], ◌∷◌, ◌++◌, Option, Some, None, option_map, refl, ℤ, sym, ap, subst, ◌∙◌, arith}
-use Rattle.std.specs.Prelude.{Result, Ok, Err, OnOk, OnErr}
+use Rattle.std.specs.Prelude.{Result, Ok, Err, IfOk, OnOk, OnErr}
 use Rattle.std.specs.List.{AllByRecursion}
 use Rattle.std.proofs.lemmas.Option.{same_Some}
 use Rattle.std.proofs.lemmas.Slice.Eq.{bytes_eq-Decides}
@@ -10,12 +10,14 @@ use Rattle.slate_types.specs.Rows.{key_value}
 use Rattle.slate_mem.specs.declared.WriteOp.{WriteOp}
 use Rattle.slate_mem.specs.Batch.{Ops, batch_keys, kept_ops}
 use Rattle.slate_txn.specs.declared.event.TranscriptStep.TheVariants as steps
+use Rattle.slate_txn.specs.declared.line.Line.TheVariants as lines
 use Rattle.slate_txn.specs.Alone.{IsVouched, own_of}
 use Rattle.slate_txn.specs.Conflict.{tracked_writes}
 use Rattle.slate_txn.specs.Named.{find_named, update_named, without}
 use Rattle.slate_txn.specs.Reads.{seen}
-use Rattle.slate_txn.specs.State.{Rules, Commit, Tx, begun}
-use Rattle.slate_txn.specs.Step.{noted, with_op}
+use Rattle.slate_txn.specs.Reply.{Reply, Flushed}
+use Rattle.slate_txn.specs.State.{Rules, Commit, State, Tx, begun}
+use Rattle.slate_txn.specs.Step.{step, with_op}
 use Rattle.slate_txn.proofs.ReadLaws.{alone-more, alone-same, same-commits}
 use Rattle.slate_db.specs.Committed.{IsCommitted, IsNextOf}
 use Rattle.slate_db.specs.Meaning.{Meaning, rules_of}
@@ -102,7 +104,7 @@ commits_vouched r cs later t above h = alone-same r cs (cs ++ later) t.begin [] 
 pub own_vouched : (k : List ℕ) (op : WriteOp) (r : Rules) (cs : List Commit) (t : Tx) → IsVouched r cs t → IsVouched r cs (with_op k op t)
 own_vouched k op r cs t h = alone-more r cs t.begin [] [] t.transcript (steps.Own k op ∷ []) h tt
 
-get_vouched : (r : Rules) (cs : List Commit) (k : List ℕ) (a : Option KeyValue) (t : Tx) → t.ops ≡ own_of t.transcript → a ≡ option_map key_value (seen r cs t.begin t.ops k) → IsVouched r cs t →
+pub get_vouched : (r : Rules) (cs : List Commit) (k : List ℕ) (a : Option KeyValue) (t : Tx) → t.ops ≡ own_of t.transcript → a ≡ option_map key_value (seen r cs t.begin t.ops k) → IsVouched r cs t →
     IsVouched r cs (record t { transcript = t.transcript ++ (steps.Get k a ∷ []) })
 get_vouched r cs k a t own is h = alone-more r cs t.begin [] [] t.transcript (steps.Get k a ∷ []) h (subst (λ (os : Ops). a ≡ option_map key_value (seen r cs t.begin os k)) own is, tt)
 
@@ -112,6 +114,18 @@ pub vouched_begin : (m : Meaning) (c : CoreModel) (id : List ℕ) (level : Isola
     IsVouchedFor m (record c { state = record c.state { txns = c.state.txns ++ ((id, begun level n) ∷ []) } }) id
 vouched_begin m c id level n fresh = found_last (IsVouched (rules_of c.settings m) c.state.commits) id (begun level n) c.state.txns fresh tt
 
+-- of the same commits and open transactions
+pub vouched_same : (m : Meaning) (old new : CoreModel) (k : List ℕ) → new.settings ≡ old.settings → new.state.commits ≡ old.state.commits → new.state.txns ≡ old.state.txns → IsVouchedFor m old k → IsVouchedFor m new k
+vouched_same m old new k settings commits txns h t e =
+    subst (λ (r : Rules). IsVouched r new.state.commits t) (sym (ap (λ s. rules_of s m) settings))
+    (subst (λ (cs : List Commit). IsVouched (rules_of old.settings m) cs t) (sym commits) (h t (sym (ap (find_named k) txns) ∙ e)))
+
+pub vouched_flushed : {E : Type 0} (r : Result ℕ E) (old new : CoreModel) → IfOk r (λ n. (m : Meaning) → step (rules_of old.settings m) old.state lines.Flush ≡ (new.state, Flushed n)) → new.settings ≡ old.settings →
+    OnOk r ((m : Meaning) (k : List ℕ) → IsVouchedFor m old k → IsVouchedFor m new k)
+vouched_flushed (Ok n) old new steps settings = λ m k h.
+    vouched_same m old new k settings (sym (ap (λ (p : State × Reply). p.0.commits) (steps m))) (sym (ap (λ (p : State × Reply). p.0.txns) (steps m))) h
+vouched_flushed (Err e) old new steps settings = tt
+
 -- of a change that keeps it
 abbrev pub KeepsVouched : (Tx → Tx) → Type 0
 KeepsVouched f = (r : Rules) (cs : List Commit) (t : Tx) → IsVouched r cs t → IsVouched r cs (f t)
@@ -120,16 +134,6 @@ pub vouched_either : {E : Type 0} (r : Result (Unit {0}) E) (m : Meaning) (c d :
 vouched_either (Ok x) m c d id k f keeps ok err h = subst (λ (v : CoreModel). IsVouchedFor m v k) (sym ok)
     (found_updated (IsVouched (rules_of c.settings m) c.state.commits) id k f c.state.txns (λ t e g. keeps (rules_of c.settings m) c.state.commits t g) h)
 vouched_either (Err e) m c d id k f keeps ok err h = subst (λ (v : CoreModel). IsVouchedFor m v k) (sym err) h
-
-pub vouched_get : (m : Meaning) (c : CoreModel) (id k key : List ℕ) (a : Option KeyValue) (u : Tx) → find_named id c.state.txns ≡ Some u → u.ops ≡ own_of u.transcript →
-    a ≡ option_map key_value (seen (rules_of c.settings m) c.state.commits u.begin u.ops key) → IsVouchedFor m c k → IsVouchedFor m (record c { state = noted c.state id (steps.Get key a ∷ []) }) k
-vouched_get m c id k key a u found own is h =
-    found_updated (IsVouched r c.state.commits) id k (λ t. record t { transcript = t.transcript ++ (steps.Get key a ∷ []) }) c.state.txns
-    (λ t e g. let same : u ≡ t = same_Some u t (sym found ∙ e) in
-    get_vouched r c.state.commits key a t (subst (λ (v : Tx). v.ops ≡ own_of v.transcript) same own) (subst (λ (v : Tx). a ≡ option_map key_value (seen r c.state.commits v.begin v.ops key)) same is) g) h
-  where
-    r : Rules
-    r = rules_of c.settings m
 
 pub others_begin : (m : Meaning) (c : CoreModel) (id k : List ℕ) (level : IsolationLevel) (n spare : ℕ) → IsVouchedFor m c k → IsVouchedFor m (after_begin c level n id spare) k
 others_begin m c id k level n spare h = found_more (IsVouched (rules_of c.settings m) c.state.commits) id k (begun level n) c.state.txns tt h

@@ -1,6 +1,6 @@
 -- What ties the parts of a core stays so.
---     after_begin, after_end, after_freeze      the core after each
-use Rattle.std.proofs.Common.{◌≡◌, ℕ, ◌+◌, ◌-◌, ◌^◌, ◌≤◌, ◌<◌, min, List, [], ◌∷◌, ◌++◌, length, map, refl, sym, ap, subst, ◌∙◌, arith, ℤ, Greater, length-append, append-nil, None}
+--     after_begin, after_end, after_snapshot, after_release, after_freeze      the core after each
+use Rattle.std.proofs.Common.{◌≡◌, ℕ, ◌+◌, ◌-◌, ◌^◌, ◌≤◌, ◌<◌, List, [], ◌∷◌, ◌++◌, length, map, refl, sym, ap, subst, ◌∙◌, arith, ℤ, Greater, append-nil, None}
 use Rattle.std.proofs.lemmas.List.{map-append, length-map}
 use Rattle.std.specs.Prelude.{IsSome}
 use Rattle.std.specs.List.{AllByRecursion}
@@ -16,29 +16,29 @@ use Rattle.slate_txn.specs.declared.event.Event.TheVariants as events
 use Rattle.slate_txn.specs.declared.event.TranscriptStep.{TranscriptStep}
 use Rattle.slate_txn.specs.declared.event.TranscriptStep.TheVariants as steps
 use Rattle.slate_txn.specs.Alone.{own_of}
-use Rattle.slate_txn.specs.Ids.{id_of, IsOfCount}
-use Rattle.slate_txn.specs.Managers.{Manager, StandsFor, untracked}
-use Rattle.slate_txn.specs.Named.{find_named, without, update_named}
-use Rattle.slate_txn.specs.Open.{least_begin}
+use Rattle.slate_txn.specs.Ids.{id_of, snapshot_id, IsOfCount, IsSnapshotOf}
+use Rattle.slate_txn.specs.Managers.{Manager, Snapshots, StandsFor, untracked}
+use Rattle.slate_txn.specs.Named.{find_named, without}
 use Rattle.slate_txn.specs.Places.{IsQuiet}
 use Rattle.slate_txn.specs.Reads.{up_to}
-use Rattle.slate_txn.specs.Replay.{replay, apply, used_from}
+use Rattle.slate_txn.specs.Replay.{replay, apply}
 use Rattle.slate_txn.specs.State.{Commit, Tx, begun, opening, last_of}
 use Rattle.slate_txn.specs.Step.{noted, with_op}
 use Rattle.slate_db.specs.Flushed.{after_install}
 use Rattle.slate_db.specs.Installs.{as_begun, runs_of, installed, IsRun, AreRuns, Replays}
 use Rattle.slate_db.specs.Layers.{AreLayers}
-use Rattle.slate_db.specs.Log.{IsLog, LogModel, HasPlace, ends_of}
-use Rattle.slate_db.specs.Managed.{IsManaged}
+use Rattle.slate_db.specs.Log.{IsLog, ends_of}
+use Rattle.slate_db.specs.Managed.{IsManaged, IsShown}
 use Rattle.slate_db.specs.Meaning.{Meaning}
 use Rattle.slate_db.specs.Operated.{operated}
-use Rattle.slate_db.specs.Model.{CoreModel, Rows, versions_in, memory}
+use Rattle.slate_db.specs.Model.{CoreModel, Rows, memory}
 use Rattle.slate_db.specs.Sound.{IsKept}
-use Rattle.slate_db.specs.Whole.{IsWhole, AreTied, Unseen, BeginsWithin, log_of, layers_of}
+use Rattle.slate_db.specs.Whole.{IsWhole, Unseen, BeginsWithin, ShowsWithin, log_of, layers_of}
 use Rattle.slate_db.specs.Written.{after_write}
+use Rattle.slate_db.proofs.ApartIds.{named_is, none_named, without_none}
 use Rattle.slate_db.proofs.Journals.{apply_more}
 use Rattle.slate_db.proofs.Keeps.{kept_event, kept_rows}
-use Rattle.slate_db.proofs.Lists.{all_more, all_map, all_front, all_behind, none_behind}
+use Rattle.slate_db.proofs.Lists.{all_more, all_map, all_both, all_front, all_behind, none_behind}
 use Rattle.slate_db.proofs.Logs.{tables_same}
 use Rattle.slate_db.proofs.Managing.{managed_begun, managed_changed}
 use Rattle.slate_db.proofs.MemoryLayers.{versions_frozen}
@@ -46,15 +46,16 @@ use Rattle.slate_db.proofs.Runs.{run_more}
 use Rattle.slate_db.proofs.RunsOf.{runs_more, runs_same}
 use Rattle.slate_db.proofs.Quiet.{quiet_more, quiet_frozen}
 use Rattle.slate_db.proofs.Split.{all_up_to}
-use Rattle.slate_txn.proofs.IdLaws.{fresh_named, all_past, wider}
+use Rattle.slate_txn.proofs.BarrierLaws.{start_begins, start_shows, start_within}
+use Rattle.slate_txn.proofs.IdLaws.{all_past, count_not_named, fresh_named, fresh_snapshot, not_both, snapshot_not_named, wider, wider_snapshot}
 use Rattle.slate_txn.proofs.NamedLaws.{all_without, without_map, open_map, update_map, update_all}
 use Rattle.slate_txn.proofs.StepLaws.{own-append}
 
 -- what is open in a core is what is open in its journal
-pub ends_are : (c : CoreModel) (x : Unseen) → IsWhole c x → x.ends ≡ length c.state.txns
+pub ends_are : (c : CoreModel) (x : Unseen) → IsWhole c x → x.ends ≡ ends_of c.state
 ends_are c x w =
     let txns : length (replay c.events).txns ≡ length c.state.txns = ap length w.tied.txns ∙ length-map c.state.txns as_begun in
-    let none : length (replay c.events).snapshots ≡ 0 = ap length (w.tied.snapshots ∙ w.tied.no_snapshots) in
+    let shown : length (replay c.events).snapshots ≡ length c.state.snapshots = ap length w.tied.snapshots in
     let ends : x.ends ≡ ends_of (replay c.events) = w.log.ends in
     omega arith
 
@@ -69,17 +70,18 @@ within_newest floor n ps h = all_map _ _ (λ p w. w.1) ps h
 
 -- of nothing
 pub whole_first : (c : CoreModel) (x : Unseen) → IsLog (log_of c x) → AreLayers (layers_of c x) → c.events ≡ [] → c.state.commits ≡ [] → c.state.txns ≡ [] → c.state.snapshots ≡ [] → x.runs ≡ [] → c.active ≡ [] → c.frozen ≡ [] → c.floor ≡ 0 → IsManaged x.manager x.ids x.last [] [] →
-    IsWhole c x
-whole_first c x log layers e cs ts ss hs a f z m = record {
+    IsShown x.snapshots x.snapshot_ids [] → IsWhole c x
+whole_first c x log layers e cs ts ss hs a f z m k = record {
   log = log;
   layers = layers;
   tied = record {
     txns = ap (λ (es : List Event). (replay es).txns) e ∙ sym (ap (map as_begun) ts);
     snapshots = ap (λ (es : List Event). (replay es).snapshots) e ∙ sym ss;
-    no_snapshots = ss;
+    shown = subst (IsShown x.snapshots x.snapshot_ids) (sym ss) k;
     named = subst (λ (ps : List (List ℕ × Tx)). AllByRecursion (λ p. IsOfCount x.ids p.0) ps) (sym ts) tt;
     floor_within = omega arith;
     begins = subst (λ (ps : List (List ℕ × Tx)). AllByRecursion (λ p. BeginsWithin c.floor x.last p) ps) (sym ts) tt;
+    shows = subst (λ (ps : List (List ℕ × ℕ)). AllByRecursion (ShowsWithin c.floor x.last) ps) (sym ss) tt;
     own = subst (λ (ps : List (List ℕ × Tx)). AllByRecursion (λ p. p.1.ops ≡ own_of p.1.transcript) ps) (sym ts) tt;
     all_installed = λ active frozen. ap (up_to (installed c.events)) cs ∙ sym cs;
     runs = subst (λ (ks : List SortedRun). AreRuns (runs_of c.events) ks) (sym hs) (subst (λ (es : List Event). AreRuns (runs_of es) []) (sym e) tt);
@@ -111,10 +113,11 @@ whole_begin c x level spare n managed stands log w = record {
   tied = record {
     txns = ap (λ s. s.txns) more ∙ ap (λ ts. ts ++ ((id, begun level x.last) ∷ [])) w.tied.txns ∙ sym (map-append as_begun c.state.txns ((id, begun level x.last) ∷ []));
     snapshots = ap (λ s. s.snapshots) more ∙ w.tied.snapshots;
-    no_snapshots = w.tied.no_snapshots;
+    shown = w.tied.shown;
     named = all_more _ _ _ (all_map _ _ (λ p. wider x.ids (x.ids + 1) (omega arith) p.0) _ w.tied.named) (record { count = x.ids + 1; within = omega arith; is = refl });
     floor_within = w.tied.floor_within;
     begins = all_more _ _ _ w.tied.begins (w.tied.floor_within, omega arith);
+    shows = w.tied.shows;
     own = all_more (λ (p : List ℕ × Tx). p.1.ops ≡ own_of p.1.transcript) c.state.txns (id, begun level x.last) w.tied.own refl;
     all_installed = λ active frozen. rw (ap (λ s. s.flushed) more) (w.tied.all_installed active frozen);
     runs = subst (λ (rs : List (List (Ulid × List ℕ))). AreRuns rs x.runs) (sym (runs_same c.events e refl)) w.tied.runs;
@@ -133,8 +136,18 @@ whole_begin c x level spare n managed stands log w = record {
     more : replay (c.events ++ (e ∷ [])) ≡ apply (replay c.events) e
     more = apply_more opening c.events e
 
+few_ids : (c : CoreModel) (x : Unseen) → IsWhole c x → x.ids < 2 ^ 64
+few_ids c x w = let given : x.ids ≤ length c.events = w.log.counted in omega (arith, w.log.bound)
+
+few_shown : (c : CoreModel) (x : Unseen) → IsWhole c x → x.snapshot_ids < 2 ^ 64
+few_shown c x w = let given : x.snapshot_ids ≤ length c.events = w.log.snapshots_counted in omega (arith, w.log.bound)
+
 pub few : (c : CoreModel) (x : Unseen) → IsWhole c x → x.ids + 1 < 2 ^ 128
 few c x w = let counted : x.ids ≤ length c.events = w.log.counted in omega (arith, w.log.bound)
+
+-- a new id is none of a snapshot
+pub unshown_begun : (c : CoreModel) (x : Unseen) → IsWhole c x → find_named (id_of (x.ids + 1)) c.state.snapshots ≡ None
+unshown_begun c x w = count_not_named x.snapshot_ids (x.ids + 1) c.state.snapshots (few_shown c x w) (omega (arith, few_ids c x w)) w.tied.shown.named
 
 -- a new id stands past all others, and is taken out again
 pub past_begun : (c : CoreModel) (x : Unseen) → IsWhole c x → AllByRecursion (λ p. key_cmp (id_of (x.ids + 1)) p.0 ≡ Greater) c.state.txns
@@ -147,6 +160,136 @@ pub kept_begin : (m : Meaning) (c : CoreModel) (level : IsolationLevel) (n : ℕ
 kept_begin m c level n id spare = kept_event m c _ _ spare refl
     (ap (λ s. s.flushed) (apply_more opening c.events (events.Begin id level n)))
     (tables_same c.events (events.Begin id level n) refl)
+
+-- ---- a snapshot
+
+abbrev pub after_snapshot : CoreModel → ℕ → List ℕ → ℕ → CoreModel
+after_snapshot c n id spare = record c {
+  state = record c.state { snapshots = c.state.snapshots ++ ((id, n) ∷ []) };
+  events = c.events ++ (events.Snapshot id n ∷ []);
+  spare = spare;
+}
+
+abbrev pub with_shown : Unseen → Snapshots → Unseen
+with_shown x n = record x { snapshot_ids = x.snapshot_ids + 1; ends = x.ends + 1; snapshots = n }
+
+pub whole_snapshot : (c : CoreModel) (x : Unseen) (spare : ℕ) (n : Snapshots) → n ≡ record x.snapshots { ids = x.snapshots.ids + 1; active = x.snapshots.active ++ ((snapshot_id (x.snapshot_ids + 1), x.last) ∷ []) } →
+    IsLog (log_of (after_snapshot c x.last (snapshot_id (x.snapshot_ids + 1)) spare) (with_shown x n)) → IsWhole c x → IsWhole (after_snapshot c x.last (snapshot_id (x.snapshot_ids + 1)) spare) (with_shown x n)
+whole_snapshot c x spare n shown log w = record {
+  log = log;
+  layers = w.layers;
+  tied = record {
+    txns = ap (λ s. s.txns) more ∙ w.tied.txns;
+    snapshots = ap (λ s. s.snapshots) more ∙ ap (λ ps. ps ++ ((id, x.last) ∷ [])) w.tied.snapshots;
+    shown = record {
+      counted = ap (λ (m : Snapshots). m.ids) shown ∙ ap (λ i. i + 1) w.tied.shown.counted;
+      opened = ap (λ (m : Snapshots). m.active) shown ∙ ap (λ ps. ps ++ ((id, x.last) ∷ [])) w.tied.shown.opened;
+      named = all_more _ _ _ (all_map _ _ (λ p. wider_snapshot x.snapshot_ids (x.snapshot_ids + 1) (omega arith) p.0) _ w.tied.shown.named) (record { count = x.snapshot_ids + 1; within = omega arith; is = refl });
+    };
+    named = w.tied.named;
+    floor_within = w.tied.floor_within;
+    begins = w.tied.begins;
+    shows = all_more _ _ _ w.tied.shows (w.tied.floor_within, omega arith);
+    own = w.tied.own;
+    all_installed = λ active frozen. rw (ap (λ s. s.flushed) more) (w.tied.all_installed active frozen);
+    runs = subst (λ (rs : List (List (Ulid × List ℕ))). AreRuns rs x.runs) (sym (runs_same c.events e refl)) w.tied.runs;
+    quiet = λ idle. quiet_more c.events e refl refl (w.tied.quiet idle);
+    manager = w.tied.manager;
+    rows_within = w.tied.rows_within;
+  };
+}
+  where
+    id : List ℕ
+    id = snapshot_id (x.snapshot_ids + 1)
+
+    e : Event
+    e = events.Snapshot id x.last
+
+    more : replay (c.events ++ (e ∷ [])) ≡ apply (replay c.events) e
+    more = apply_more opening c.events e
+
+-- a new id is none of what is open
+pub fresh_shown : (c : CoreModel) (x : Unseen) → IsWhole c x → find_named (snapshot_id (x.snapshot_ids + 1)) c.state.snapshots ≡ None
+fresh_shown c x w = fresh_snapshot x.snapshot_ids c.state.snapshots (few_shown c x w) w.tied.shown.named
+
+pub unbegun_shown : (c : CoreModel) (x : Unseen) → IsWhole c x → find_named (snapshot_id (x.snapshot_ids + 1)) c.state.txns ≡ None
+unbegun_shown c x w = snapshot_not_named x.ids x.snapshot_ids c.state.txns (omega (arith, few_ids c x w)) (few_shown c x w) w.tied.named
+
+pub kept_snapshot : (m : Meaning) (c : CoreModel) (n : ℕ) (id : List ℕ) (spare : ℕ) → IsKept m c → IsKept m (after_snapshot c n id spare)
+kept_snapshot m c n id spare = kept_event m c _ _ spare refl
+    (ap (λ s. s.flushed) (apply_more opening c.events (events.Snapshot id n)))
+    (tables_same c.events (events.Snapshot id n) refl)
+
+-- ---- a release
+
+abbrev pub after_release : CoreModel → List ℕ → ℕ → CoreModel
+after_release c id spare = record c {
+  state = record c.state { snapshots = without id c.state.snapshots };
+  events = c.events ++ (events.Release id ∷ []);
+  spare = spare;
+}
+
+abbrev pub less_shown : Unseen → Snapshots → Unseen
+less_shown x n = record x { ends = x.ends - 1; snapshots = n }
+
+pub whole_release : (c : CoreModel) (x : Unseen) (id : List ℕ) (spare : ℕ) (n : Snapshots) → n ≡ record x.snapshots { active = without id x.snapshots.active } →
+    IsLog (log_of (after_release c id spare) (less_shown x n)) → IsWhole c x → IsWhole (after_release c id spare) (less_shown x n)
+whole_release c x id spare n shown log w = record {
+  log = log;
+  layers = w.layers;
+  tied = record {
+    txns = ap (λ s. s.txns) more ∙ w.tied.txns;
+    snapshots = ap (λ s. s.snapshots) more ∙ ap (without id) w.tied.snapshots;
+    shown = record {
+      counted = ap (λ (m : Snapshots). m.ids) shown ∙ w.tied.shown.counted;
+      opened = ap (λ (m : Snapshots). m.active) shown ∙ ap (without id) w.tied.shown.opened;
+      named = all_without _ id _ w.tied.shown.named;
+    };
+    named = w.tied.named;
+    floor_within = w.tied.floor_within;
+    begins = w.tied.begins;
+    shows = all_without _ id _ w.tied.shows;
+    own = w.tied.own;
+    all_installed = λ active frozen. rw (ap (λ s. s.flushed) more) (w.tied.all_installed active frozen);
+    runs = subst (λ (rs : List (List (Ulid × List ℕ))). AreRuns rs x.runs) (sym (runs_same c.events e refl)) w.tied.runs;
+    quiet = λ idle. quiet_more c.events e refl refl (w.tied.quiet idle);
+    manager = w.tied.manager;
+    rows_within = w.tied.rows_within;
+  };
+}
+  where
+    e : Event
+    e = events.Release id
+
+    more : replay (c.events ++ (e ∷ [])) ≡ apply (replay c.events) e
+    more = apply_more opening c.events e
+
+pub kept_release : (m : Meaning) (c : CoreModel) (id : List ℕ) (spare : ℕ) → IsKept m c → IsKept m (after_release c id spare)
+kept_release m c id spare = kept_event m c _ _ spare refl
+    (ap (λ s. s.flushed) (apply_more opening c.events (events.Release id)))
+    (tables_same c.events (events.Release id) refl)
+
+pub shown_in_journal : (c : CoreModel) (x : Unseen) (id : List ℕ) → IsWhole c x → IsSome (find_named id c.state.snapshots) → IsSome (find_named id (replay c.events).snapshots)
+shown_in_journal c x id w h = subst (λ (ps : List (List ℕ × ℕ)). IsSome (find_named id ps)) (sym w.tied.snapshots) h
+
+-- ---- an id is of one open thing
+
+not_of_both : (c : CoreModel) (x : Unseen) (id : List ℕ) → IsWhole c x → IsOfCount x.ids id → IsSnapshotOf x.snapshot_ids id → ⊥
+not_of_both c x id w o s = not_both x.ids x.snapshot_ids id (omega (arith, few_ids c x w)) (few_shown c x w) o s
+
+-- what is open under the id of a transaction is no snapshot
+pub no_snapshot : (c : CoreModel) (x : Unseen) (id : List ℕ) → IsWhole c x → IsSome (find_named id c.state.txns) → find_named id c.state.snapshots ≡ None
+no_snapshot c x id w h = none_named (IsSnapshotOf x.snapshot_ids) id (λ s. not_of_both c x id w (named_is (IsOfCount x.ids) id c.state.txns w.tied.named h) s) c.state.snapshots w.tied.shown.named
+
+pub same_snapshots : (c : CoreModel) (x : Unseen) (id : List ℕ) → IsWhole c x → IsSome (find_named id c.state.txns) → without id c.state.snapshots ≡ c.state.snapshots
+same_snapshots c x id w h = without_none id c.state.snapshots (no_snapshot c x id w h)
+
+-- what is open under the id of a snapshot is no transaction
+pub no_transaction : (c : CoreModel) (x : Unseen) (id : List ℕ) → IsWhole c x → IsSome (find_named id c.state.snapshots) → find_named id c.state.txns ≡ None
+no_transaction c x id w h = none_named (IsOfCount x.ids) id (λ o. not_of_both c x id w o (named_is (IsSnapshotOf x.snapshot_ids) id c.state.snapshots w.tied.shown.named h)) c.state.txns w.tied.named
+
+pub same_transactions : (c : CoreModel) (x : Unseen) (id : List ℕ) → IsWhole c x → IsSome (find_named id c.state.snapshots) → without id c.state.txns ≡ c.state.txns
+same_transactions c x id w h = without_none id c.state.txns (no_transaction c x id w h)
 
 -- ---- an end
 
@@ -168,10 +311,11 @@ whole_end c x id spare n managed log w = record {
   tied = record {
     txns = ap (λ s. s.txns) more ∙ ap (λ ts. without id ts) w.tied.txns ∙ without_map as_begun (λ p. refl) id c.state.txns;
     snapshots = ap (λ s. s.snapshots) more ∙ w.tied.snapshots;
-    no_snapshots = w.tied.no_snapshots;
+    shown = w.tied.shown;
     named = all_without _ id _ w.tied.named;
     floor_within = w.tied.floor_within;
     begins = all_without _ id _ w.tied.begins;
+    shows = w.tied.shows;
     own = all_without _ id _ w.tied.own;
     all_installed = λ active frozen. rw (ap (λ s. s.flushed) more) (w.tied.all_installed active frozen);
     runs = subst (λ (rs : List (List (Ulid × List ℕ))). AreRuns rs x.runs) (sym (runs_same c.events e refl)) w.tied.runs;
@@ -211,10 +355,11 @@ whole_changed c x id f same own w = record {
   tied = record {
     txns = w.tied.txns ∙ sym (update_map as_begun id f c.state.txns (λ p. ap (λ t. (p.0, t)) (same p.1)));
     snapshots = w.tied.snapshots;
-    no_snapshots = w.tied.no_snapshots;
+    shown = w.tied.shown;
     named = update_all _ id f c.state.txns (λ p h. h) w.tied.named;
     floor_within = w.tied.floor_within;
     begins = update_all _ id f c.state.txns (λ p h. (subst (λ (n : ℕ). c.floor ≤ n) (sym (begin_same p.1)) h.0, subst (λ (n : ℕ). n ≤ x.last) (sym (begin_same p.1)) h.1)) w.tied.begins;
+    shows = w.tied.shows;
     own = update_all _ id f c.state.txns (λ p h. own p.1 h) w.tied.own;
     all_installed = w.tied.all_installed;
     runs = w.tied.runs;
@@ -246,10 +391,11 @@ whole_freeze c x spare freeze log layers w = record {
   tied = record {
     txns = ap (λ s. s.txns) more ∙ w.tied.txns;
     snapshots = ap (λ s. s.snapshots) more ∙ w.tied.snapshots;
-    no_snapshots = w.tied.no_snapshots;
+    shown = w.tied.shown;
     named = w.tied.named;
     floor_within = w.tied.floor_within;
     begins = w.tied.begins;
+    shows = w.tied.shows;
     own = w.tied.own;
     all_installed = λ active frozen. absurd (none_behind c.frozen c.active frozen);
     runs = subst (λ (rs : List (List (Ulid × List ℕ))). AreRuns rs x.runs) (sym (runs_same c.events events.Freeze refl)) w.tied.runs;
@@ -282,10 +428,11 @@ whole_write c x now ops rows spare some within n managed log layers w = record {
   tied = record {
     txns = ap (λ s. s.txns) more ∙ w.tied.txns;
     snapshots = ap (λ s. s.snapshots) more ∙ w.tied.snapshots;
-    no_snapshots = w.tied.no_snapshots;
+    shown = w.tied.shown;
     named = w.tied.named;
     floor_within = let h : c.floor ≤ x.last = w.tied.floor_within in omega arith;
     begins = all_map _ _ (λ p h. (h.0, let k : p.1.begin ≤ x.last = h.1 in omega arith)) _ w.tied.begins;
+    shows = all_map _ _ (λ p h. (h.0, let k : p.1 ≤ x.last = h.1 in omega arith)) _ w.tied.shows;
     own = w.tied.own;
     all_installed = λ active frozen. absurd (some active);
     runs = subst (λ (rs : List (List (Ulid × List ℕ))). AreRuns rs x.runs) (sym (runs_same c.events e refl)) w.tied.runs;
@@ -306,15 +453,6 @@ whole_write c x now ops rows spare some within n managed log layers w = record {
 
 -- ---- an install
 
-pub least_within : (n : ℕ) (ps : List (List ℕ × Tx)) → least_begin n ps ≤ n
-least_within n [] = omega arith
-least_within n (p ∷ ps) = let h : least_begin (min n p.1.begin) ps ≤ min n p.1.begin = least_within (min n p.1.begin) ps in omega arith
-
-least_each : (n floor last : ℕ) (ps : List (List ℕ × Tx)) → AllByRecursion (λ p. BeginsWithin floor last p) ps → AllByRecursion (λ p. BeginsWithin (least_begin n ps) last p) ps
-least_each n floor last [] h = tt
-least_each n floor last (p ∷ ps) h =
-    ((let k : least_begin (min n p.1.begin) ps ≤ min n p.1.begin = least_within (min n p.1.begin) ps in omega arith, h.0.1), least_each (min n p.1.begin) floor last ps h.1)
-
 abbrev pub with_run : Unseen → SortedRun → ℕ → ℕ → Unseen
 with_run x run freeze room = record x { installs = x.installs + 1; runs = x.runs ++ (run ∷ []); for_freeze = freeze; for_run = room }
 
@@ -327,10 +465,11 @@ whole_install c x ts run spare freeze room kept log layers w = record {
   tied = record {
     txns = ap (λ s. s.txns) more ∙ w.tied.txns;
     snapshots = ap (λ s. s.snapshots) more ∙ w.tied.snapshots;
-    no_snapshots = w.tied.no_snapshots;
+    shown = w.tied.shown;
     named = w.tied.named;
-    floor_within = least_within x.last c.state.txns;
-    begins = least_each x.last c.floor x.last c.state.txns w.tied.begins;
+    floor_within = start_within x.last c.state;
+    begins = all_both _ _ _ (λ p h k. (h, k.1)) c.state.txns (start_begins x.last c.state) w.tied.begins;
+    shows = all_both _ _ _ (λ p h k. (h, k.1)) c.state.snapshots (start_shows x.last c.state) w.tied.shows;
     own = w.tied.own;
     all_installed = λ active frozen. ap (λ i. up_to i c.state.commits) (ap (λ s. s.flushed) more) ∙ all_up_to c.settings.start_seq x.last c.state.commits w.log.rising (let l : x.last ≡ last_of c.settings.start_seq c.state.commits = w.log.last in omega arith);
     runs = subst (λ (rs : List (List (Ulid × List ℕ))). AreRuns rs (x.runs ++ (run ∷ []))) (sym (runs_more c.events e)) (run_more (runs_of c.events) x.runs ts run w.tied.runs kept);
@@ -354,10 +493,11 @@ whole_flushed c x log w = record {
   tied = record {
     txns = w.tied.txns;
     snapshots = w.tied.snapshots;
-    no_snapshots = w.tied.no_snapshots;
+    shown = w.tied.shown;
     named = w.tied.named;
     floor_within = w.tied.floor_within;
     begins = w.tied.begins;
+    shows = w.tied.shows;
     own = w.tied.own;
     all_installed = w.tied.all_installed;
     runs = w.tied.runs;
@@ -375,10 +515,11 @@ whole_room c x spare freeze room log w = record {
   tied = record {
     txns = w.tied.txns;
     snapshots = w.tied.snapshots;
-    no_snapshots = w.tied.no_snapshots;
+    shown = w.tied.shown;
     named = w.tied.named;
     floor_within = w.tied.floor_within;
     begins = w.tied.begins;
+    shows = w.tied.shows;
     own = w.tied.own;
     all_installed = w.tied.all_installed;
     runs = w.tied.runs;
@@ -396,10 +537,11 @@ whole_manager c x n managed w = record {
   tied = record {
     txns = w.tied.txns;
     snapshots = w.tied.snapshots;
-    no_snapshots = w.tied.no_snapshots;
+    shown = w.tied.shown;
     named = w.tied.named;
     floor_within = w.tied.floor_within;
     begins = w.tied.begins;
+    shows = w.tied.shows;
     own = w.tied.own;
     all_installed = w.tied.all_installed;
     runs = w.tied.runs;

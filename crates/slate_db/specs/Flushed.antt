@@ -20,7 +20,7 @@
 --     Flushes layout before after old new n      a flush behind its freeze
 --     MayPut layout before after c      what a refused flush leaves of the objects
 --     IsFlushError layout before after c e      a fault that came in the flush, or want of memory or of a place, or too much in memory
-use Rattle.std.specs.Prelude.{◌≡◌, ℕ, ◌+◌, ◌-◌, ◌^◌, ◌<◌, ◌≤◌, ◌⊎◌, List, [], ◌∷◌, ◌++◌, map, length, option_to_list, Option, Some, IfSome}
+use Rattle.std.specs.Prelude.{◌≡◌, ℕ, ◌+◌, ◌-◌, ◌^◌, ◌<◌, ◌⊎◌, List, [], ◌∷◌, ◌++◌, map, length, option_to_list, Option, Some, IfSome}
 use Rattle.std.specs.List.{AllByRecursion}
 use Rattle.slate_types.specs.declared.error.SlateDBError.{SlateDBError}
 use Rattle.slate_types.specs.declared.error.SlateDBError.TheVariants.{LimitReached}
@@ -35,11 +35,11 @@ use Rattle.slate_table.specs.Table.{AreInOrder, IsBuilt, cut}
 use Rattle.slate_table.specs.TableBuilding.{max_blocks}
 use Rattle.slate_table.specs.TableParts.{version_of}
 use Rattle.slate_txn.specs.declared.event.Event.TheVariants as events
-use Rattle.slate_txn.specs.Open.{least_begin}
+use Rattle.slate_txn.specs.Open.{least_start}
 use Rattle.slate_txn.specs.State.{last_of}
 use Rattle.slate_read.specs.declared.sorted_run.SortedRun.{SortedRun}
 use Rattle.slate_db.specs.Cut.{AreCut}
-use Rattle.slate_db.specs.Load.{load}
+use Rattle.slate_db.specs.Load.{load, weight}
 use Rattle.slate_db.specs.Meaning.{Meaning, combine_of}
 use Rattle.slate_db.specs.Model.{CoreModel, Rows, memory, versions, versions_in}
 use Rattle.slate_db.specs.Sound.{at_most, later}
@@ -137,25 +137,25 @@ after_install c n ts spare = record c {
   events = c.events ++ (events.Install n ts ∷ []);
   spare = spare;
   frozen = [];
-  floor = least_begin n c.state.txns;
+  floor = least_start n c.state;
 }
 
 -- nothing to store, or a flush's tables more, whose number is one above that of the installs before
 pub data IsFlushed (encode : Encode) (layout : Layout) (old new : CoreModel) (n : ℕ) (before after : Option Objects) : Type 0 where
   idle : old.frozen ≡ [] → new ≡ record old { state = record old.state { flushed = n } } → after ≡ before → IsFlushed encode layout old new n before after
-  stored : (ts : List (Ulid × List ℕ)) → new ≡ after_install old n ts new.spare → AreTablesOfFlush encode layout (length (runs_of old.events) + 1) (least_begin n old.state.txns) old.frozen ts →
+  stored : (ts : List (Ulid × List ℕ)) → new ≡ after_install old n ts new.spare → AreTablesOfFlush encode layout (length (runs_of old.events) + 1) (least_start n old.state) old.frozen ts →
       TakesTables ts before after → IsFlushed encode layout old new n before after
 
 -- what a flush that is refused behind its freeze leaves of the objects
 abbrev pub MayFlush : Encode → Layout → CoreModel → Option Objects → Option Objects → Type 0
-MayFlush encode layout c before after = MayTakeTables (AreSomeOfFlush encode layout (length (runs_of c.events) + 1) (least_begin (last_of c.settings.start_seq c.state.commits) c.state.txns) c.frozen) before after
+MayFlush encode layout c before after = MayTakeTables (AreSomeOfFlush encode layout (length (runs_of c.events) + 1) (least_start (last_of c.settings.start_seq c.state.commits) c.state) c.frozen) before after
 
 -- the rows that a flush would store make too large a table
 abbrev pub TooLarge : Layout → CoreModel → SlateDBError → Type 0
-TooLarge layout c e = (rows : Rows) × ((m : Meaning) → IsFolded m (least_begin (last_of c.settings.start_seq c.state.commits) c.state.txns) (memory c) rows) × AreInOrder rows × HasTooLarge layout rows e × (2 ^ 32 - 1 < load c)
+TooLarge layout c e = (rows : Rows) × ((m : Meaning) → IsFolded m (least_start (last_of c.settings.start_seq c.state.commits) c.state) (memory c) rows) × AreInOrder rows × HasTooLarge layout rows e × (2 ^ 32 - 1 < load c)
 
 abbrev pub NoPlace : ℕ → CoreModel → Type 0
-NoPlace n c = LIMIT < length c.events + length c.state.txns + n
+NoPlace n c = LIMIT < weight c + n
 
 abbrev pub NoPlaceToFlush : CoreModel → Type 0
 NoPlaceToFlush c = NoPlace (events_of_flush c.active c.frozen) c

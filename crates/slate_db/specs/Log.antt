@@ -5,12 +5,13 @@
 --     IsWhollyKept ops      what a batch is that becomes a commit
 --     LogModel      what contracts see of a log
 --     ends_of s      what is open in a state, of which each will end
+--     IsIdOf ids shown id      one of so many ids of transactions, or of so many of snapshots
 --     held_by l      the journal's events, with one more for whatever is open
 --     IsLog l      what is true of every log; no commit lies between the last install and the last flush
 --     HasPlace more l      room was made for so many events more beside the ends, and the journal has a place for them
---     with_begin, with_end, with_freeze, with_write, with_commit, with_install, with_flush      the log after each
+--     with_begin, with_snapshot, with_end, with_release, with_freeze, with_write, with_commit, with_install, with_flush      the log after each
 --     MayCommit l id n ops tracked ts      a commit that a log may take
-use Rattle.std.specs.Prelude.{◌≡◌, ℕ, ◌+◌, ◌-◌, ◌^◌, ◌≤◌, ◌<◌, List, [], ◌∷◌, ◌++◌, length, Option, None, unwrap_or, IsSome, ℤ}
+use Rattle.std.specs.Prelude.{◌≡◌, ◌⊎◌, ℕ, ◌+◌, ◌-◌, ◌^◌, ◌≤◌, ◌<◌, List, [], ◌∷◌, ◌++◌, length, Option, None, unwrap_or, IsSome, ℤ}
 use Rattle.std.specs.List.{AllByRecursion}
 use Rattle.slate_types.specs.declared.config.IsolationLevel.{IsolationLevel}
 use Rattle.slate_types.specs.declared.types.Ulid.{Ulid}
@@ -20,7 +21,7 @@ use Rattle.slate_mem.specs.Batch.{Ops, batch_keys, kept_ops, op_value}
 use Rattle.slate_mem.specs.Refusals.{op_refusal}
 use Rattle.slate_txn.specs.declared.event.Event.{Event}
 use Rattle.slate_txn.specs.declared.event.Event.TheVariants as events
-use Rattle.slate_txn.specs.Ids.{id_of, IsOfCount}
+use Rattle.slate_txn.specs.Ids.{id_of, snapshot_id, IsOfCount, IsSnapshotOf}
 use Rattle.slate_txn.specs.Reads.{up_to}
 use Rattle.slate_txn.specs.declared.event.TranscriptStep.{TranscriptStep}
 use Rattle.slate_txn.specs.Named.{find_named}
@@ -47,13 +48,14 @@ pub record IsWhollyKept (ops : Ops) : Type 0 where
   pub kept : kept_ops ops ≡ ops
   pub fine : AreFine ops
 
--- start: where sequences start; last: the newest sequence; flushed: the newest one at the last flush; ids, installs: how many ids were given, and
--- installs made; ends: how many are open; spare: how many more events the journal takes without memory
+-- start: where sequences start; last: the newest sequence; flushed: the newest one at the last flush; ids, snapshot_ids, installs: how many ids of
+-- transactions and of snapshots were given, and installs made; ends: how many are open; spare: how many more events the journal takes without memory
 pub record LogModel : Type 0 where
   pub start : ℕ
   pub last : ℕ
   pub flushed : ℕ
   pub ids : ℕ
+  pub snapshot_ids : ℕ
   pub installs : ℕ
   pub ends : ℕ
   pub commits : List Commit
@@ -62,6 +64,9 @@ pub record LogModel : Type 0 where
 
 abbrev pub ends_of : State → ℕ
 ends_of s = length s.txns + length s.snapshots
+
+abbrev pub IsIdOf : ℕ → ℕ → List ℕ → Type 0
+IsIdOf ids shown id = IsOfCount ids id ⊎ IsSnapshotOf shown id
 
 abbrev pub held_by : LogModel → ℕ
 held_by l = length l.events + l.ends
@@ -73,8 +78,9 @@ pub record IsLog (l : LogModel) : Type 0 where
   pub last_fits : l.last ≤ 2 ^ 64 - 2
   pub rising : Rising l.start l.commits
   pub fine : AllByRecursion (λ x. AreFine x.ops) l.commits
-  pub used : AllByRecursion (λ id. IsOfCount l.ids id) (used_from [] l.events)
+  pub used : AllByRecursion (IsIdOf l.ids l.snapshot_ids) (used_from [] l.events)
   pub counted : l.ids ≤ length l.events
+  pub snapshots_counted : l.snapshot_ids ≤ length l.events
   pub installed_within : installed l.events ≤ l.last
   pub flushed_within : l.flushed ≤ l.last
   pub flushed_through : up_to l.flushed l.commits ≡ up_to (installed l.events) l.commits
@@ -94,8 +100,14 @@ pub record HasPlace (more : ℕ) (l : LogModel) : Type 0 where
 abbrev pub with_begin : LogModel → IsolationLevel → ℕ → LogModel
 with_begin l level spare = record l { ids = l.ids + 1; ends = l.ends + 1; events = l.events ++ (events.Begin (id_of (l.ids + 1)) level l.last ∷ []); spare = spare }
 
+abbrev pub with_snapshot : LogModel → ℕ → LogModel
+with_snapshot l spare = record l { snapshot_ids = l.snapshot_ids + 1; ends = l.ends + 1; events = l.events ++ (events.Snapshot (snapshot_id (l.snapshot_ids + 1)) l.last ∷ []); spare = spare }
+
 abbrev pub with_end : LogModel → List ℕ → ℕ → LogModel
 with_end l id spare = record l { ends = l.ends - 1; events = l.events ++ (events.End id ∷ []); spare = spare }
+
+abbrev pub with_release : LogModel → List ℕ → ℕ → LogModel
+with_release l id spare = record l { ends = l.ends - 1; events = l.events ++ (events.Release id ∷ []); spare = spare }
 
 abbrev pub with_freeze : LogModel → ℕ → LogModel
 with_freeze l spare = record l { events = l.events ++ (events.Freeze ∷ []); spare = spare }

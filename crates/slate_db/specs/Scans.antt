@@ -7,17 +7,18 @@
 --     IsReached range at      a seek is to no key before the range
 --     AreForIn range m state      by this meaning the sources that are left refuse for damage alone
 --     IsFor m it      it was opened for parts of this meaning: by these it refuses for damage alone, or at an operand
---     Keeps e it      it answers this refusal from now on, or want of memory in its place
+--     IsRefusedScan e it, IsUnrefused it, Keeps e it      it was refused so; not yet; it keeps this refusal, or want of memory in its place
+--     AnswersAgain e result      so it answers from then on, or want of memory where no copy can be made
 --     id_of it, number_of it, scan_of it      a transaction's scan: whose it is, which of its scans, and what it has left
 --     IsScanOf id n order range it      it is that of the transaction with this id, the n-th that it opened
 --     IsWorldOf os m w      the objects hold the world, for what the parts mean
 --     LeavesIn os m it rows      in some world that the objects hold
---     IsOpenScan c it      its transaction is open, and opened it
+--     IsOpenScan c it      its transaction is open, and opened it; or its snapshot is open
 --     HasLeft m c it rows      of the list that the scan's opening fixed these rows are left, by the transcript
 --     ShowsAmong decode hs reads e      of some tables one shows the error, by reads among these
---     IsRefusedByScan m c reads e      an operand was found, or the reads show it of the tables that the journal names
---     IsScanError before after c e      a fault that came in the call, or want of memory, or such a refusal by its reads
-use Rattle.std.specs.Prelude.{◌≡◌, ◌≢◌, ◌⊎◌, ℕ, ◌<◌, true, List, [], filter, count_by, Contains, Option, Some, None, slice_get}
+--     IsShownByScan m c reads e, IsRefusedByScan m c reads e      the reads show it of the tables that the journal names; or an operand was found
+--     IsOpeningError before after c e, IsScanError before after c e      a fault that came in the call, or want of memory, or such a refusal by its reads: an opening meets no operand
+use Rattle.std.specs.Prelude.{◌≡◌, ◌≢◌, ◌⊎◌, ℕ, ◌<◌, true, List, [], filter, count_by, Contains, Option, Some, None, Result, Err, IsSome, slice_get}
 use Rattle.std.specs.List.{AllByRecursion}
 use Rattle.slate_types.specs.declared.bytes_range.BytesRange.{BytesRange}
 use Rattle.slate_types.specs.declared.error.SlateDBError.{SlateDBError}
@@ -41,7 +42,7 @@ use Rattle.slate_table.specs.Parts.{Encode}
 use Rattle.slate_txn.specs.Alone.{scans_left}
 use Rattle.slate_txn.specs.Named.{find_named}
 use Rattle.slate_txn.specs.State.{Tx}
-use Rattle.slate_txn.specs.Step.{is_scan}
+use Rattle.slate_txn.specs.Step.{is_scan, reader}
 use Rattle.slate_db.specs.declared.scan.DbIterator.{DbIterator}
 use Rattle.slate_db.specs.declared.scan.ScanState.{ScanState}
 use Rattle.slate_db.specs.declared.scan.TxnIterator.{TxnIterator}
@@ -101,8 +102,12 @@ abbrev pub SourcesRefuse : BytesRange → ScanState → Meaning → List Act →
 SourcesRefuse range (Walking rows) m reads at e = IsReached range at × refuses_in source_refuses rows.state m reads at e
 SourcesRefuse range _ m reads at e = ⊥
 
+-- an operand, which no seek meets
+abbrev pub MeetsOperand : Option (List ℕ) → SlateDBError → Type 0
+MeetsOperand at e = (e ≡ MergeOperatorMissing) × (at ≡ None)
+
 abbrev pub RefusesIn : BytesRange → ScanState → Meaning → List Act → Option (List ℕ) → SlateDBError → Type 0
-RefusesIn range (Walking rows) m reads at e = (e ≡ MergeOperatorMissing) ⊎ (IsReached range at × refuses_in source_refuses rows.state m reads at e)
+RefusesIn range (Walking rows) m reads at e = MeetsOperand at e ⊎ (IsReached range at × refuses_in source_refuses rows.state m reads at e)
 RefusesIn range Done m reads at e = ⊥
 RefusesIn range (Refused kept) m reads at e = (kept ≢ OutOfMemory) × (e ≡ kept)
 
@@ -123,8 +128,18 @@ pub record Leaves (it : DbIterator) (w : World) (rows : List RowEntry) : Type 0 
   pub left : filter has_value (left_of it w) ≡ rows
   pub meant : AreForIn it.range w.meaning it.state
 
+abbrev pub IsRefusedScan : SlateDBError → DbIterator → Type 0
+IsRefusedScan e it = it.state ≡ Refused e
+
+abbrev pub IsUnrefused : DbIterator → Type 0
+IsUnrefused it = (e : SlateDBError) → it.state ≢ Refused e
+
 abbrev pub Keeps : SlateDBError → DbIterator → Type 0
-Keeps e it = (it.state ≡ Refused e) ⊎ (it.state ≡ Refused OutOfMemory)
+Keeps e it = IsRefusedScan e it ⊎ IsRefusedScan OutOfMemory it
+
+-- a refusal that is kept, or want of memory for a copy of it
+abbrev pub AnswersAgain : {A : Type 0} → SlateDBError → Result A SlateDBError → Type 0
+AnswersAgain e result = (result ≡ Err e) ⊎ (result ≡ Err OutOfMemory)
 
 -- ---- a transaction's scan
 
@@ -148,7 +163,7 @@ abbrev pub LeavesIn : Objects → Meaning → TxnIterator → List RowEntry → 
 LeavesIn os m it rows = (w : World) × IsWorldOf os m w × Leaves (scan_of it) w rows
 
 abbrev pub IsOpenScan : CoreModel → TxnIterator → Type 0
-IsOpenScan c it = (t : Tx) × (find_named (id_of it) c.state.txns ≡ Some t) × (number_of it < count_by is_scan t.transcript)
+IsOpenScan c it = IsSome (reader c.state (id_of it)) × ((t : Tx) → find_named (id_of it) c.state.txns ≡ Some t → number_of it < count_by is_scan t.transcript)
 
 abbrev pub HasLeft : Meaning → CoreModel → TxnIterator → List RowEntry → Type 0
 HasLeft m c it rows = (t : Tx) → find_named (id_of it) c.state.txns ≡ Some t →
@@ -160,10 +175,18 @@ abbrev pub ShowsAmong : Encode → List SsTableHandle → List Act → SlateDBEr
 ShowsAmong decode hs reads e = (table : SsTableHandle) × Contains hs table × ShowsByReads decode table reads e
 
 -- handles: what is kept of the tables that the journal names
+pub record IsShownByScan (m : Meaning) (c : CoreModel) (reads : List Act) (e : SlateDBError) : Type 0 where
+  pub handles : List SsTableHandle
+  pub are : AreHandles (tables_of c.events) handles
+  pub shown : ShowsAmong m.decode handles reads e
+
 pub record IsRefusedByScan (m : Meaning) (c : CoreModel) (reads : List Act) (e : SlateDBError) : Type 0 where
   pub handles : List SsTableHandle
   pub are : AreHandles (tables_of c.events) handles
   pub refused : (e ≡ MergeOperatorMissing) ⊎ ShowsAmong m.decode handles reads e
+
+abbrev pub IsOpeningError : Reach → Reach → CoreModel → SlateDBError → Type 0
+IsOpeningError before after c e = IsFault before after e ⊎ Made before after (λ reads. IsShownByScan before.meaning c reads e)
 
 abbrev pub IsScanError : Reach → Reach → CoreModel → SlateDBError → Type 0
 IsScanError before after c e = IsFault before after e ⊎ Made before after (λ reads. IsRefusedByScan before.meaning c reads e)

@@ -26,26 +26,27 @@ ghost use Rattle.slate_mem.specs.Refusals.{op_refusal};
 ghost use Rattle.slate_mem.specs.RowOf.{own_row};
 ghost use Rattle.slate_mem.specs.BatchModel.{IsBatchOf};
 ghost use Rattle.slate_txn.specs.Places.{IsQuiet};
-ghost use Rattle.slate_txn.specs.Reply.{Done, Refused, RowsAre, Begun, Committed, Found, Written, Frozen, Flushed};
+ghost use Rattle.slate_txn.specs.Reply.{Done, Refused, RowsAre, Begun, SnapshotAt, Committed, Found, Written, Frozen, Flushed};
 ghost use Rattle.slate_txn.specs.Settings.{settings_of};
-ghost use Rattle.slate_txn.specs.State.{Tx, opening, last_of};
-ghost use Rattle.slate_txn.specs.Step.{is_scan, noted, step, with_op, with_marks, with_unmarks};
+ghost use Rattle.slate_txn.specs.Open.{least_start};
+ghost use Rattle.slate_txn.specs.State.{Tx, is_open, opening, last_of};
+ghost use Rattle.slate_txn.specs.Step.{Reader, noted, reader, step, with_op, with_marks, with_unmarks};
 ghost use Rattle.slate_db.specs.Answered.{AddsTables};
 ghost use Rattle.slate_db.specs.Meaning.{Meaning, IsLawfulMeaning, combine_of, rules_of};
 ghost use Rattle.slate_db.specs.Frozen.{IsFrozen};
-ghost use Rattle.slate_db.specs.Flushed.{Flushes, IsFlushError, MayPut, NoPlaceToFlush, TooLarge, events_of_flush, layout_of};
-ghost use Rattle.slate_db.specs.Load.{load, ops_load};
+ghost use Rattle.slate_db.specs.Flushed.{Flushes, IsFlushError, MayPut, NoPlace, NoPlaceToFlush, TooLarge, events_of_flush, layout_of};
+ghost use Rattle.slate_db.specs.Load.{load, ops_load, weight};
 ghost use Rattle.slate_db.specs.Installs.{Replays, installed, tables_of};
 ghost use Rattle.slate_db.specs.Readable.{IsAnswered, IsOwnRead, IsRead};
 ghost use Rattle.slate_db.specs.Model.{CoreModel, IsSame, Rows, at};
 ghost use Rattle.slate_db.specs.Sound.{AreTables, IsKept, FoldsToState};
 ghost use Rattle.slate_db.specs.StoredState.{StoresState};
-ghost use Rattle.slate_db.specs.Log.{LIMIT, AreFine};
+ghost use Rattle.slate_db.specs.Log.{LIMIT, AreFine, ends_of};
 ghost use Rattle.slate_txn.specs.Conflict.{conflict};
 ghost use Rattle.slate_txn.specs.HandedOver.{IsConflict};
 ghost use Rattle.slate_db.specs.Committed.{IsCommitted, IsEnded};
 ghost use Rattle.slate_db.specs.Operated.{operated};
-ghost use Rattle.slate_db.specs.Scans.{HasLeft, IsFor, IsOpenScan, IsRefusedByScan, IsScanError, IsScanOf, IsWorldOf, Keeps, Leaves, LeavesIn, ScanRefuses, id_of, number_of, scan_of};
+ghost use Rattle.slate_db.specs.Scans.{AnswersAgain, HasLeft, IsFor, IsOpenScan, IsOpeningError, IsRefusedByScan, IsRefusedScan, IsScanOf, IsUnrefused, IsWorldOf, Keeps, Leaves, LeavesIn, ScanRefuses, id_of, number_of, scan_of};
 ghost use Rattle.slate_read.specs.SstOptions.{CanFetch};
 ghost use Rattle.slate_db.specs.Vouched.{IsVouchedFor};
 ghost use Rattle.slate_db.specs.Written.{IsWritten};
@@ -67,7 +68,7 @@ use slate_mem::lookup::{is_decided, newest_of_memory};
 use slate_read::SstIteratorOptions;
 use slate_store::{Env, EnvOf, Store};
 use slate_txn::fold::fold_found;
-use slate_txn::{Journal, OpList, OpenTransactions, TransactionManager};
+use slate_txn::{Journal, OpList, OpenTransactions, SnapshotManager, TransactionManager};
 use slate_types::{
     BlockTransformer, BytesRange, IsolationLevel, KeyValue, MergeOperator, Options, Outside,
     PrefixExtractor, PutOptions, ReadOptions, RowEntry, ScanOptions, SlateDBError,
@@ -85,6 +86,7 @@ pub struct Core {
     log: Log,
     manager: TransactionManager,
     transactions: OpenTransactions,
+    snapshots: SnapshotManager,
     layers: Layers,
 }
 
@@ -117,15 +119,37 @@ impl Core {
             log: Log::new(alloc, options.start_seq),
             manager: TransactionManager::new(alloc, options.start_seq),
             transactions: OpenTransactions::new(alloc),
+            snapshots: SnapshotManager::new(alloc, options.start_seq),
             layers: Layers::new(alloc),
         }
     }
 
-    /// Whether the id is that of an open transaction.
+    /// Whether the id is that of an open transaction or of an open snapshot.
     pub fn is_open(&self, id: &Uuid) -> bool
-        ensures { result ≡ is_some (find_named id.now self.now.state.txns) }
+        ensures { result ≡ is_open self.now.state id.now }
     {
-        self.transactions.is_open(id)
+        self.transactions.is_open(id) || self.snapshots.is_live(id)
+    }
+
+    /// The sequence that a reader with this id sees up to: that at which an open transaction began, or that of an open snapshot.
+    fn start_of(&self, id: &Uuid) -> Option<u64>
+        ensures { result ≡ option_map (λ from. from.at) (reader self.now.state id.now) }
+    {
+        match self.transactions.begin_of(id) {
+            Some(begin) => Some(begin),
+            None => self.snapshots.seq_of(id),
+        }
+    }
+
+    /// The least sequence that an open transaction or an open snapshot still reads at, or the newest one.
+    fn barrier(&self) -> u64
+        ensures { result ≡ least_start (last_of self.now.settings.start_seq self.now.state.commits) self.now.state }
+    {
+        let begin = self.transactions.barrier(self.log.last());
+        match self.snapshots.min_active_seq() {
+            Some(seq) => seq.min(begin),
+            None => begin,
+        }
     }
 
     /// Opens a transaction at the newest sequence, and gives its id and that sequence. Room for the event of its end
@@ -138,8 +162,8 @@ impl Core {
         ensures others { OnOk result ((m : Meaning) (other : List ℕ) → IsVouchedFor m self.old other → IsVouchedFor m self.new other) }
         ensures kept { OnOk result ((m : Meaning) → IsKept m self.old → IsKept m self.new) }
         ensures same { OnErr result (self.new ≡ self.old) }
-        ensures limit { LIMIT < length self.old.events + length self.old.state.txns + 2 → result ≡ Err (SlateDBError.LimitReached LIMIT) }
-        ensures cause { IfErr result (λ e. (e ≡ SlateDBError.OutOfMemory) ⊎ ((e ≡ SlateDBError.LimitReached LIMIT) × (LIMIT < length self.old.events + length self.old.state.txns + 2))) }
+        ensures limit { NoPlace 2 self.old → result ≡ Err (SlateDBError.LimitReached LIMIT) }
+        ensures cause { IfErr result (λ e. (e ≡ SlateDBError.OutOfMemory) ⊎ ((e ≡ SlateDBError.LimitReached LIMIT) × (NoPlace 2 self.old))) }
     {
         self.log.place(2)?;
         let (id, start) = self.manager.new_transaction()?;
@@ -149,6 +173,39 @@ impl Core {
             return Err(error);
         }
         Ok((id, start))
+    }
+
+    /// Opens a snapshot of the rows at the newest sequence, and gives its id and that sequence. Room for the event of its release
+    /// is made now. Refuses by `LimitReached` where the journal has no place for both events, and by `OutOfMemory`, and then
+    /// nothing is opened.
+    pub fn snapshot(&mut self) -> Result<(Uuid, u64), SlateDBError>
+        ensures step { IfOk result (λ a. (m : Meaning) → step (rules_of self.old.settings m) self.old.state (lines.Snapshot a.0) ≡ (self.new.state, SnapshotAt a.0 a.1)) }
+        ensures event { IfOk result (λ a. self.new ≡ record self.old { state = self.new.state; events = self.old.events ++ events.Snapshot a.0 a.1 ∷ []; spare = self.new.spare }) }
+        ensures vouched { OnOk result ((m : Meaning) (other : List ℕ) → IsVouchedFor m self.old other → IsVouchedFor m self.new other) }
+        ensures kept { OnOk result ((m : Meaning) → IsKept m self.old → IsKept m self.new) }
+        ensures same { OnErr result (self.new ≡ self.old) }
+        ensures limit { NoPlace 2 self.old → result ≡ Err (SlateDBError.LimitReached LIMIT) }
+        ensures cause { IfErr result (λ e. (e ≡ SlateDBError.OutOfMemory) ⊎ ((e ≡ SlateDBError.LimitReached LIMIT) × NoPlace 2 self.old)) }
+    {
+        self.log.place(2)?;
+        let (id, seq) = self.snapshots.new_snapshot(Some(self.log.last()))?;
+        if let Err(error) = self.log.push_snapshot(id) {
+            self.snapshots.take_back(&id);
+            return Err(SlateDBError::from(error));
+        }
+        Ok((id, seq))
+    }
+
+    /// Releases an open snapshot, in the room that its opening made.
+    pub fn release(&mut self, id: &Uuid)
+        requires { IsSome (find_named id.now self.old.state.snapshots) }
+        ensures step { (m : Meaning) → step (rules_of self.old.settings m) self.old.state (lines.Rollback id.now) ≡ (self.new.state, Done) }
+        ensures event { self.new ≡ record self.old { state = self.new.state; events = self.old.events ++ events.Release id.now ∷ []; spare = self.new.spare } }
+        ensures vouched { (m : Meaning) (other : List ℕ) → IsVouchedFor m self.old other → IsVouchedFor m self.new other }
+        ensures kept { (m : Meaning) → IsKept m self.old → IsKept m self.new }
+    {
+        self.snapshots.drop_snapshot(id);
+        self.log.push_release(*id);
     }
 
     /// Ends an open transaction without a commit, in the room that its begin made.
@@ -172,10 +229,11 @@ impl Core {
         ensures event { OnOk result (IsFrozen self.old self.new) }
         ensures quiet { OnOk result (IsQuiet self.new.events) }
         ensures idle { self.old.active ≡ [] → IsOk result }
+        ensures vouched { OnOk result ((m : Meaning) (other : List ℕ) → IsVouchedFor m self.old other → IsVouchedFor m self.new other) }
         ensures kept { OnOk result ((m : Meaning) → IsKept m self.old → IsKept m self.new) }
         ensures same { OnErr result (self.new ≡ self.old) }
-        ensures limit { self.old.active ≢ [] → LIMIT < length self.old.events + length self.old.state.txns + 1 → result ≡ Err (SlateDBError.LimitReached LIMIT) }
-        ensures cause { IfErr result (λ e. (e ≡ SlateDBError.OutOfMemory) ⊎ ((e ≡ SlateDBError.LimitReached LIMIT) × (LIMIT < length self.old.events + length self.old.state.txns + 1))) }
+        ensures limit { self.old.active ≢ [] → NoPlace 1 self.old → result ≡ Err (SlateDBError.LimitReached LIMIT) }
+        ensures cause { IfErr result (λ e. (e ≡ SlateDBError.OutOfMemory) ⊎ ((e ≡ SlateDBError.LimitReached LIMIT) × (NoPlace 1 self.old))) }
     {
         if self.layers.active().is_empty() {
             return Ok(self.log.last());
@@ -191,7 +249,12 @@ impl Core {
     /// Commits a batch by itself, at the next sequence, which it gives. An empty batch commits nothing, and is never
     /// refused. The batch may have taken no merge. Refuses by `SequenceExhausted` where no sequence is left, by
     /// `LimitReached` where the journal has no place for the event, and by `OutOfMemory`, and then nothing is committed.
-    pub fn write(&mut self, batch: WriteBatch, now: i64) -> Result<Option<u64>, SlateDBError>
+    pub fn write<X: PrefixExtractor>(
+        &mut self,
+        batch: WriteBatch,
+        now: i64,
+        laws: &Laws<X>,
+    ) -> Result<Option<u64>, SlateDBError>
         requires { batch.held_merge ≡ false }
         ensures step { IfOk result (λ n. (m : Meaning) (ops : Ops) → IsBatchOf ops batch → AreFine ops → step (rules_of self.old.settings m) (at now self.old.state) (lines.Write ops) ≡ (at now self.new.state, Written n)) }
         ensures refused { IfErr result (λ e. (e ≡ SlateDBError.OutOfMemory) ⊎ ((e ≡ SlateDBError.LimitReached LIMIT) ⊎ ((m : Meaning) (ops : Ops) → IsBatchOf ops batch → AreFine ops → step (rules_of self.old.settings m) (at now self.old.state) (lines.Write ops) ≡ (at now self.old.state, Refused e)))) }
@@ -202,9 +265,10 @@ impl Core {
         ensures same { OnErr result (IsSame self.old self.new) }
         ensures idle { batch.ops ≡ [] → IsOk result }
         ensures exhausted { batch.ops ≢ [] → last_of self.old.settings.start_seq self.old.state.commits ≡ 2 ^ 64 - 2 → result ≡ Err SlateDBError.SequenceExhausted }
-        ensures limit { batch.ops ≢ [] → last_of self.old.settings.start_seq self.old.state.commits < 2 ^ 64 - 2 → LIMIT < length self.old.events + length self.old.state.txns + 1 → result ≡ Err (SlateDBError.LimitReached LIMIT) }
-        ensures cause { IfErr result (λ e. (e ≡ SlateDBError.OutOfMemory) ⊎ (((e ≡ SlateDBError.SequenceExhausted) × (last_of self.old.settings.start_seq self.old.state.commits ≡ 2 ^ 64 - 2)) ⊎ ((e ≡ SlateDBError.LimitReached LIMIT) × (LIMIT < length self.old.events + length self.old.state.txns + 1)))) }
+        ensures limit { batch.ops ≢ [] → last_of self.old.settings.start_seq self.old.state.commits < 2 ^ 64 - 2 → NoPlace 1 self.old → result ≡ Err (SlateDBError.LimitReached LIMIT) }
+        ensures cause { IfErr result (λ e. (e ≡ SlateDBError.OutOfMemory) ⊎ (((e ≡ SlateDBError.SequenceExhausted) × (last_of self.old.settings.start_seq self.old.state.commits ≡ 2 ^ 64 - 2)) ⊎ ((e ≡ SlateDBError.LimitReached LIMIT) × (NoPlace 1 self.old)))) }
     {
+        let _laws = laws;
         if batch.is_empty() {
             return Ok(None);
         }
@@ -230,30 +294,32 @@ impl Core {
     }
 
     /// Freezes, stores the rows that wait as tables, and gives the newest sequence. Of each key the rows at or below the
-    /// barrier, which is the least begin of an open transaction or else the newest sequence, become their fold. Where no
-    /// rows are in memory nothing is stored. Refuses by `LimitReached` where the journal has no place for the events, and
-    /// then nothing is changed, or where a table would pass a limit; by `StoreFault` and `BlockTransformError`, each only
-    /// where its count of faults rose, and then the rows are frozen; and by `OutOfMemory`. Else the rows are in memory as
-    /// before, or frozen, and the store's objects are as they were, or have some first of the tables, which no event names.
-    pub fn flush<S: Store, M: MergeOperator, T: BlockTransformer>(
+    /// barrier, which is the least begin of an open transaction or sequence of an open snapshot, or else the newest sequence,
+    /// become their fold. Where no rows are in memory nothing is stored. Refuses by `LimitReached` where the journal has no place
+    /// for the events, and then nothing is changed, or where a table would pass a limit; by `StoreFault` and
+    /// `BlockTransformError`, each only where its count of faults rose, and then the rows are frozen; and by `OutOfMemory`. Else
+    /// the rows are in memory as before, or frozen, and the store's objects are as they were, or have some first of the tables,
+    /// which no event names.
+    pub fn flush<S: Store, M: MergeOperator, T: BlockTransformer, X: PrefixExtractor>(
         &mut self,
         env: &mut Env<'_, S, M, T>,
-        options: &Options,
+        laws: &Laws<X>,
     ) -> Result<u64, SlateDBError>
-        requires { IsValid options.now }
+        requires { IsValid laws.now.options }
         ensures step { IfOk result (λ n. (m : Meaning) → step (rules_of self.old.settings m) self.old.state lines.Flush ≡ (self.new.state, Flushed n)) }
-        ensures installed { let reach = ⟦<EnvOf<S, M, T> as Outside>⟧.reach in IfOk result (λ n. (between : CoreModel) × IsFrozen self.old between × Flushes (layout_of options.now) (reach env.old) (reach env.new) between self.new n) }
+        ensures installed { let reach = ⟦<EnvOf<S, M, T> as Outside>⟧.reach in IfOk result (λ n. (between : CoreModel) × IsFrozen self.old between × Flushes (layout_of laws.now.options) (reach env.old) (reach env.new) between self.new n) }
         ensures acts { let reach = ⟦<EnvOf<S, M, T> as Outside>⟧.reach in OnOk result (AddsTables (tables_of self.old.events) (tables_of self.new.events) (reach env.old).acts (reach env.new).acts) }
         ensures taken { OnOk result ((self.new.active ≡ []) × (self.new.frozen ≡ [])) }
         ensures quiet { OnOk result (IsQuiet self.new.events) }
-        ensures refused { let reach = ⟦<EnvOf<S, M, T> as Outside>⟧.reach in OnErr result ((between : CoreModel) × (IsSame self.old between ⊎ IsFrozen self.old between) × IsSame between self.new × MayPut (layout_of options.now) (reach env.old) (reach env.new) between) }
+        ensures refused { let reach = ⟦<EnvOf<S, M, T> as Outside>⟧.reach in OnErr result ((between : CoreModel) × (IsSame self.old between ⊎ IsFrozen self.old between) × IsSame between self.new × MayPut (layout_of laws.now.options) (reach env.old) (reach env.new) between) }
         ensures frozen { (result ≡ Err SlateDBError.StoreFault) ⊎ (result ≡ Err SlateDBError.BlockTransformError) → (between : CoreModel) × IsFrozen self.old between × IsSame between self.new }
         ensures full { NoPlaceToFlush self.old → self.new ≡ self.old }
         ensures full_objects { let reach = ⟦<EnvOf<S, M, T> as Outside>⟧.reach in NoPlaceToFlush self.old → (reach env.new).objects ≡ (reach env.old).objects }
+        ensures vouched { OnOk result ((m : Meaning) (other : List ℕ) → IsVouchedFor m self.old other → IsVouchedFor m self.new other) }
         ensures kept { let reach = ⟦<EnvOf<S, M, T> as Outside>⟧.reach in (m : Meaning) → m.encode ≡ (reach env.old).meaning.encode → IsKept m self.old → IsKept m self.new }
         ensures settings { self.new.settings ≡ self.old.settings }
         ensures limit { NoPlaceToFlush self.old → result ≡ Err (SlateDBError.LimitReached LIMIT) }
-        ensures cause { let reach = ⟦<EnvOf<S, M, T> as Outside>⟧.reach in IfErr result (IsFlushError (layout_of options.now) (reach env.old) (reach env.new) self.old) }
+        ensures cause { let reach = ⟦<EnvOf<S, M, T> as Outside>⟧.reach in IfErr result (IsFlushError (layout_of laws.now.options) (reach env.old) (reach env.new) self.old) }
         ensures operator { env.new.operator ≡ env.old.operator }
         ensures puts { let reach = ⟦<EnvOf<S, M, T> as Outside>⟧.reach in Puts (reach env.old) (reach env.new) }
     {
@@ -263,13 +329,13 @@ impl Core {
             self.log.note_flush();
             return Ok(self.log.last());
         }
-        self.install(env, options)
+        self.install(env, &laws.options)
     }
 
     /// `LimitReached` where the journal has no place for the events of a flush.
     fn place_for_flush(&self) -> Result<(), SlateDBError>
-        ensures place { OnOk result (length self.now.events + length self.now.state.txns + events_of_flush self.now.active self.now.frozen ≤ LIMIT) }
-        ensures limit { IfErr result (λ e. (e ≡ SlateDBError.LimitReached LIMIT) × (LIMIT < length self.now.events + length self.now.state.txns + events_of_flush self.now.active self.now.frozen)) }
+        ensures place { OnOk result (weight self.now + events_of_flush self.now.active self.now.frozen ≤ LIMIT) }
+        ensures limit { IfErr result (λ e. (e ≡ SlateDBError.LimitReached LIMIT) × NoPlaceToFlush self.now) }
     {
         self.log.place(self.layers.events_of_flush())
     }
@@ -283,7 +349,7 @@ impl Core {
         requires valid { IsValid options.now }
         requires idle { self.old.active ≡ [] }
         requires some { 0 < length self.old.frozen }
-        requires place { length self.old.events + length self.old.state.txns + 1 ≤ LIMIT }
+        requires place { weight self.old + 1 ≤ LIMIT }
         ensures newest { IfOk result (λ n. n ≡ last_of self.old.settings.start_seq self.old.state.commits) }
         ensures installed { let reach = ⟦<EnvOf<S, M, T> as Outside>⟧.reach in IfOk result (Flushes (layout_of options.now) (reach env.old) (reach env.new) self.old self.new) }
         ensures acts { let reach = ⟦<EnvOf<S, M, T> as Outside>⟧.reach in OnOk result (AddsTables (tables_of self.old.events) (tables_of self.new.events) (reach env.old).acts (reach env.new).acts) }
@@ -294,8 +360,8 @@ impl Core {
         ensures operator { env.new.operator ≡ env.old.operator }
         ensures puts { let reach = ⟦<EnvOf<S, M, T> as Outside>⟧.reach in Puts (reach env.old) (reach env.new) }
     {
+        let barrier = self.barrier();
         self.log.reserve().and(self.layers.reserve_run())?;
-        let barrier = self.transactions.barrier(self.log.last());
         let number = self.log.next_install();
         let put = stored(
             self.alloc,
@@ -339,8 +405,8 @@ impl Core {
         fold_found(self.alloc, found, &mut env.operator)
     }
 
-    /// The row that an open transaction sees at a key: its own operations lie above the rows at its begin. Where one of these
-    /// decides, nothing is read.
+    /// The row that an open transaction or an open snapshot sees at a key: own operations, which a snapshot has none of, lie above
+    /// the rows at its start. Where one of these decides, nothing is read.
     fn seen_by<S: Store, M: MergeOperator, T: BlockTransformer>(
         &self,
         id: &Uuid,
@@ -348,10 +414,10 @@ impl Core {
         at: u64,
         env: &mut Env<'_, S, M, T>,
     ) -> Result<Option<RowEntry>, SlateDBError>
-        requires { IsSome (find_named id.now self.now.state.txns) }
+        requires { IsSome (reader self.now.state id.now) }
         ensures read { let reach = ⟦<EnvOf<S, M, T> as Outside>⟧.reach in
             let m = (reach env.old).meaning in
-            (t : Tx) → find_named id.now self.now.state.txns ≡ Some t → IsRead (reach env.old) (reach env.new) self.now (λ row. self.now.floor ≤ at → row ≡ fold_rows (combine_of m key.now) (key_rows (rules_of self.now.settings m) key.now (up_to at self.now.state.commits) ++ map (own_row key.now) (kept t.ops key.now))) result }
+            (from : Reader) → reader self.now.state id.now ≡ Some from → IsRead (reach env.old) (reach env.new) self.now (λ row. self.now.floor ≤ at → row ≡ fold_rows (combine_of m key.now) (key_rows (rules_of self.now.settings m) key.now (up_to at self.now.state.commits) ++ map (own_row key.now) (kept from.ops key.now))) result }
         ensures own { let reach = ⟦<EnvOf<S, M, T> as Outside>⟧.reach in
             (t : Tx) → find_named id.now self.now.state.txns ≡ Some t → kept t.ops key.now ≢ [] → IsOwnRead (reach env.old) (reach env.new) (λ row. (c : Combine) → row ≡ fold_rows c (map (own_row key.now) (kept t.ops key.now))) result }
     {
@@ -363,22 +429,23 @@ impl Core {
         self.seen(key, at, env)
     }
 
-    /// What an open transaction sees at a key, and `None` where that is nothing, as at a key that no row can have. The answer is
-    /// recorded in the transaction's transcript.
+    /// What an open transaction or an open snapshot sees at a key, and `None` where that is nothing, as at a key that no row can
+    /// have. The answer is recorded in the transaction's transcript; a snapshot has none.
     ///
     /// Refuses by `StoreFault`, `BlockTransformError` and `Callback`, each only where its count of faults rose; by
     /// `MergeOperatorMissing`, only where there is no operator and an operand was found; by `ChecksumMismatch`, `CorruptTable` or
     /// `InvalidRowFlags`, only where the last reads of this call show it, of a table that the journal names; and by `OutOfMemory`.
     /// Then nothing is recorded. Neither damage nor a missing operator is answered where the store holds the tables that the journal
     /// names, nor where its acts tell that each read of this call was answered by them.
-    pub fn get<S: Store, M: MergeOperator, T: BlockTransformer>(
+    pub fn get<S: Store, M: MergeOperator, T: BlockTransformer, X: PrefixExtractor>(
         &mut self,
         id: &Uuid,
         key: &[u8],
         options: &ReadOptions,
         env: &mut Env<'_, S, M, T>,
+        laws: &Laws<X>,
     ) -> Result<Option<KeyValue>, SlateDBError>
-        requires { IsSome (find_named id.now self.old.state.txns) }
+        requires { IsSome (reader self.old.state id.now) }
         ensures noted { IfOk result (λ a. self.new ≡ record self.old { state = noted self.old.state id.now (steps.Get key.now a ∷ []) }) }
         ensures read { let reach = ⟦<EnvOf<S, M, T> as Outside>⟧.reach in
             IsRead (reach env.old) (reach env.new) self.old (λ a. step (rules_of self.old.settings (reach env.old).meaning) self.old.state (lines.Get id.now key.now) ≡ (self.new.state, Found a)) result }
@@ -392,7 +459,8 @@ impl Core {
         ensures settings { self.new.settings ≡ self.old.settings }
     {
         let _options = options;
-        let Some(at) = self.transactions.begin_of(id) else {
+        let _laws = laws;
+        let Some(at) = self.start_of(id) else {
             unreachable!()
         };
         let key = Bytes::copy_from_slice(self.alloc, key)?;
@@ -411,7 +479,7 @@ impl Core {
         Ok(found)
     }
 
-    /// The rows of a scan of an open transaction: its own lie above those at its begin. Nothing is noted yet.
+    /// The rows of a scan of an open transaction or an open snapshot: its own lie above those at its start. Nothing is noted yet.
     fn opened<'a, S: Store, M: MergeOperator, T: BlockTransformer>(
         &self,
         id: &Uuid,
@@ -421,18 +489,18 @@ impl Core {
         policies: &'a [Box<dyn FilterPolicy>],
         env: &mut Env<'_, S, M, T>,
     ) -> Result<DbIterator<'a>, SlateDBError>
-        requires open { IsSome (find_named id.now self.now.state.txns) }
+        requires open { IsSome (reader self.now.state id.now) }
         requires range { is_refused range.start range.end ≡ false }
         requires fetches { CanFetch how }
         ensures opened { let reach = ⟦<EnvOf<S, M, T> as Outside>⟧.reach in
             let m = (reach env.old).meaning in
-            (t : Tx) → find_named id.now self.now.state.txns ≡ Some t → self.now.floor ≤ begin → (a : IsAnswered (reach env.old) (reach env.new) self.now) →
-            IfOk result (λ it. (w : World) × IsWorldOf a.os m w × Leaves it w (rows_seen (rules_of self.now.settings m) self.now.state.commits begin t.ops how.order range)) }
+            (from : Reader) → reader self.now.state id.now ≡ Some from → self.now.floor ≤ begin → (a : IsAnswered (reach env.old) (reach env.new) self.now) →
+            IfOk result (λ it. (w : World) × IsWorldOf a.os m w × Leaves it w (rows_seen (rules_of self.now.settings m) self.now.state.commits begin from.ops how.order range)) }
         ensures later { let reach = ⟦<EnvOf<S, M, T> as Outside>⟧.reach in
             let m = (reach env.old).meaning in
             IfOk result (λ it. IsFor m it × Made (reach env.old) (reach env.new) (λ reads. (later : List Act) (at : Option (List ℕ)) (e : SlateDBError) → ScanRefuses it m later at e → IsRefusedByScan m self.now (reads ++ later) e)) }
         ensures undamaged { let reach = ⟦<EnvOf<S, M, T> as Outside>⟧.reach in self.now.floor ≤ begin → IsAnswered (reach env.old) (reach env.new) self.now → IfErr result (IsFault (reach env.old) (reach env.new)) }
-        ensures cause { let reach = ⟦<EnvOf<S, M, T> as Outside>⟧.reach in IfErr result (IsScanError (reach env.old) (reach env.new) self.now) }
+        ensures cause { let reach = ⟦<EnvOf<S, M, T> as Outside>⟧.reach in IfErr result (IsOpeningError (reach env.old) (reach env.new) self.now) }
         ensures range { IfOk result (λ it. it.range ≡ range) }
         ensures order { IfOk result (λ it. it.order ≡ how.order) }
         ensures reads { let reach = ⟦<EnvOf<S, M, T> as Outside>⟧.reach in OnlyReads (reach env.old) (reach env.new) }
@@ -445,9 +513,9 @@ impl Core {
         Ok(DbIterator::new(alloc, rows, range, order))
     }
 
-    /// Opens a scan of an open transaction over the rows in a range, in an order. The rows are fixed now: later calls change nothing
-    /// of them. The opening is noted in the transaction's transcript. Where a prefix is given each key of the range must begin with
-    /// it.
+    /// Opens a scan of an open transaction or an open snapshot over the rows in a range, in an order. The rows are fixed now: later
+    /// calls change nothing of them. The opening is noted in the transaction's transcript; a snapshot has none. Where a prefix is
+    /// given each key of the range must begin with it.
     ///
     /// Refuses by `StoreFault` and `BlockTransformError`, each only where its count of faults rose; by `ChecksumMismatch`,
     /// `CorruptTable` and `InvalidRowFlags`, only where reads of this call show it, of a table that the journal names; and by
@@ -461,32 +529,32 @@ impl Core {
         env: &mut Env<'_, S, M, T>,
         laws: &'a Laws<X>,
     ) -> Result<TxnIterator<'a>, SlateDBError>
-        requires open { IsSome (find_named id.now self.old.state.txns) }
+        requires open { IsSome (reader self.old.state id.now) }
         requires range { is_refused range.start range.end ≡ false }
         requires prefix { (p k : List ℕ) → prefix ≡ Some p → in_range range k ≡ true → starts_with nat_eq k p ≡ true }
         requires valid { IsValid laws.now.options }
         ensures noted { OnOk result (self.new ≡ record self.old { state = noted self.old.state id.now (steps.Scan options.now.order range ∷ []) }) }
         ensures step { OnOk result ((m : Meaning) → step (rules_of self.old.settings m) self.old.state (lines.Scan id.now options.now.order range.start range.end (ScanStep.Rows 0 ∷ [])) ≡ (self.new.state, RowsAre [])) }
-        ensures names { (t : Tx) → find_named id.now self.old.state.txns ≡ Some t → IfOk result (IsScanOf id.now (count_by is_scan t.transcript) options.now.order range) }
+        ensures names { (from : Reader) → reader self.old.state id.now ≡ Some from → IfOk result (IsScanOf id.now from.scans options.now.order range) }
         ensures opened { let reach = ⟦<EnvOf<S, M, T> as Outside>⟧.reach in
             let m = (reach env.old).meaning in
-            (t : Tx) → find_named id.now self.old.state.txns ≡ Some t → (a : IsAnswered (reach env.old) (reach env.new) self.old) →
-            IfOk result (λ it. LeavesIn a.os m it (rows_seen (rules_of self.old.settings m) self.old.state.commits t.begin t.ops options.now.order range)) }
+            (from : Reader) → reader self.old.state id.now ≡ Some from → (a : IsAnswered (reach env.old) (reach env.new) self.old) →
+            IfOk result (λ it. LeavesIn a.os m it (rows_seen (rules_of self.old.settings m) self.old.state.commits from.at from.ops options.now.order range)) }
         ensures left { let reach = ⟦<EnvOf<S, M, T> as Outside>⟧.reach in
             let m = (reach env.old).meaning in
-            (t : Tx) → find_named id.now self.old.state.txns ≡ Some t → IfOk result (λ it. HasLeft m self.new it (rows_seen (rules_of self.old.settings m) self.old.state.commits t.begin t.ops options.now.order range)) }
+            (from : Reader) → reader self.old.state id.now ≡ Some from → IfOk result (λ it. HasLeft m self.new it (rows_seen (rules_of self.old.settings m) self.old.state.commits from.at from.ops options.now.order range)) }
         ensures later { let reach = ⟦<EnvOf<S, M, T> as Outside>⟧.reach in
             let m = (reach env.old).meaning in
             IfOk result (λ it. IsFor m (scan_of it) × Made (reach env.old) (reach env.new) (λ reads. (later : List Act) (at : Option (List ℕ)) (e : SlateDBError) → ScanRefuses (scan_of it) m later at e → IsRefusedByScan m self.old (reads ++ later) e)) }
         ensures undamaged { let reach = ⟦<EnvOf<S, M, T> as Outside>⟧.reach in IsAnswered (reach env.old) (reach env.new) self.old → IfErr result (IsFault (reach env.old) (reach env.new)) }
-        ensures cause { let reach = ⟦<EnvOf<S, M, T> as Outside>⟧.reach in IfErr result (IsScanError (reach env.old) (reach env.new) self.old) }
+        ensures cause { let reach = ⟦<EnvOf<S, M, T> as Outside>⟧.reach in IfErr result (IsOpeningError (reach env.old) (reach env.new) self.old) }
         ensures vouched { OnOk result ((m : Meaning) (other : List ℕ) → IsVouchedFor m self.old other → IsVouchedFor m self.new other) }
         ensures same { OnErr result (self.new ≡ self.old) }
         ensures kept { (m : Meaning) → IsKept m self.old → IsKept m self.new }
         ensures settings { self.new.settings ≡ self.old.settings }
         ensures reads { let reach = ⟦<EnvOf<S, M, T> as Outside>⟧.reach in OnlyReads (reach env.old) (reach env.new) }
     {
-        let Some(begin) = self.transactions.begin_of(id) else {
+        let Some(begin) = self.start_of(id) else {
             unreachable!()
         };
         let how = table_options(prefix, options, &laws.options)?;
@@ -519,7 +587,8 @@ impl Core {
         ensures checked { let reach = ⟦<EnvOf<S, M, T> as Outside>⟧.reach in (w : World) (rows : List RowEntry) → Leaves (scan_of it.old) w rows → OnOk result (Checks w (reach env.old) (reach env.new)) }
         ensures later { let reach = ⟦<EnvOf<S, M, T> as Outside>⟧.reach in OnOk result (Made (reach env.old) (reach env.new) (λ reads. NoMore (ScanRefuses (scan_of it.old) (reach env.old).meaning) reads (ScanRefuses (scan_of it.new) (reach env.old).meaning))) }
         ensures cause { let reach = ⟦<EnvOf<S, M, T> as Outside>⟧.reach in IfErr result (λ e. Made (reach env.old) (reach env.new) (λ reads. IsFault (reach env.old) (reach env.new) e ⊎ ScanRefuses (scan_of it.old) (reach env.old).meaning reads None e)) }
-        ensures again { IfErr result (λ e. Keeps e (scan_of it.new)) }
+        ensures again { IsUnrefused (scan_of it.old) → IfErr result (λ e. Keeps e (scan_of it.new)) }
+        ensures refused { (kept : SlateDBError) → IsRefusedScan kept (scan_of it.old) → AnswersAgain kept result × (it.new ≡ it.old) × (env.new ≡ env.old) }
         ensures names { IsScanOf (id_of it.old) (number_of it.old) (scan_of it.old).order (scan_of it.old).range it.new }
         ensures left { (m : Meaning) (rows : List RowEntry) → HasLeft m self.old it.old rows → OnOk result (HasLeft m self.new it.new (drop 1 rows)) }
         ensures vouched { let reach = ⟦<EnvOf<S, M, T> as Outside>⟧.reach in
@@ -561,7 +630,8 @@ impl Core {
         ensures checked { let reach = ⟦<EnvOf<S, M, T> as Outside>⟧.reach in (w : World) (rows : List RowEntry) → Leaves (scan_of it.old) w rows → OnOk result (Checks w (reach env.old) (reach env.new)) }
         ensures later { let reach = ⟦<EnvOf<S, M, T> as Outside>⟧.reach in OnOk result (Made (reach env.old) (reach env.new) (λ reads. NoMore (ScanRefuses (scan_of it.old) (reach env.old).meaning) reads (ScanRefuses (scan_of it.new) (reach env.old).meaning))) }
         ensures cause { let reach = ⟦<EnvOf<S, M, T> as Outside>⟧.reach in IfErr result (λ e. Made (reach env.old) (reach env.new) (λ reads. IsFault (reach env.old) (reach env.new) e ⊎ ScanRefuses (scan_of it.old) (reach env.old).meaning reads (Some key.now) e)) }
-        ensures again { IfErr result (λ e. Keeps e (scan_of it.new)) }
+        ensures again { IsUnrefused (scan_of it.old) → IfErr result (λ e. Keeps e (scan_of it.new)) }
+        ensures refused { (kept : SlateDBError) → IsRefusedScan kept (scan_of it.old) → AnswersAgain kept result × (it.new ≡ it.old) × (env.new ≡ env.old) }
         ensures names { IsScanOf (id_of it.old) (number_of it.old) (scan_of it.old).order (scan_of it.old).range it.new }
         ensures left { (m : Meaning) (rows : List RowEntry) → HasLeft m self.old it.old rows → OnOk result (HasLeft m self.new it.new (drop_before (scan_of it.old).order key.now rows)) }
         ensures vouched { OnOk result ((m : Meaning) (other : List ℕ) → IsVouchedFor m self.old other → IsVouchedFor m self.new other) }
@@ -649,7 +719,12 @@ impl Core {
     /// Commits an open transaction at a moment, and gives its sequence, or None where it has no operations. It ends either way.
     /// Refuses by `TransactionConflict`, with the greatest sequence that conflicts, before all other tests; by
     /// `SequenceExhausted` where no sequence is left; and by `OutOfMemory`, and then nothing is committed.
-    pub fn commit(&mut self, id: &Uuid, now: i64) -> Result<Option<u64>, SlateDBError>
+    pub fn commit<X: PrefixExtractor>(
+        &mut self,
+        id: &Uuid,
+        now: i64,
+        laws: &Laws<X>,
+    ) -> Result<Option<u64>, SlateDBError>
         requires { IsSome (find_named id.now self.old.state.txns) }
         ensures step { IfOk result (λ n. (m : Meaning) → step (rules_of self.old.settings m) (at now self.old.state) (lines.Commit id.now) ≡ (at now self.new.state, Committed n)) }
         ensures refused { IfErr result (λ e. (e ≡ SlateDBError.OutOfMemory) ⊎ ((m : Meaning) → step (rules_of self.old.settings m) (at now self.old.state) (lines.Commit id.now) ≡ (at now self.new.state, Refused e))) }
@@ -660,6 +735,7 @@ impl Core {
         ensures load { (t : Tx) → find_named id.now self.old.state.txns ≡ Some t → load self.new ≤ load self.old + ops_load t.ops }
         ensures cause { (t : Tx) → find_named id.now self.old.state.txns ≡ Some t → IfErr result (λ e. (e ≡ SlateDBError.OutOfMemory) ⊎ (IsConflict (conflict self.old.state.commits t) e ⊎ ((e ≡ SlateDBError.SequenceExhausted) × (last_of self.old.settings.start_seq self.old.state.commits ≡ 2 ^ 64 - 2)))) }
     {
+        let _laws = laws;
         let Some(owned) = self.transactions.take(id) else {
             unreachable!()
         };
@@ -695,15 +771,17 @@ impl Core {
     }
 
     /// All events so far, with room for the end of each open transaction. The tables that they name hold the state at the
-    /// last flush. No commit lies between that flush and the last install, and each open transaction began at or above the floor.
+    /// last flush. No commit lies between that flush and the last install, and each open transaction began, and each open snapshot
+    /// stands, at or above the floor.
     pub fn journal(&self) -> &Journal
         ensures events { result.now.events ≡ self.now.events }
         ensures legal { IsLegal self.now.settings.start_seq self.now.events }
         ensures replays { Replays self.now.events self.now.state }
-        ensures room { length self.now.state.txns ≤ self.now.spare }
+        ensures room { ends_of self.now.state ≤ self.now.spare }
         ensures flushed { up_to self.now.state.flushed self.now.state.commits ≡ up_to (installed self.now.events) self.now.state.commits }
         ensures floor { self.now.floor ≤ last_of self.now.settings.start_seq self.now.state.commits }
         ensures begins { AllByRecursion (λ p. self.now.floor ≤ p.1.begin) self.now.state.txns }
+        ensures shows { AllByRecursion (λ p. self.now.floor ≤ p.1) self.now.state.snapshots }
         ensures own { AllByRecursion (λ p. p.1.ops ≡ own_of p.1.transcript) self.now.state.txns }
         ensures folds { (m : Meaning) → IsLawfulMeaning m → IsKept m self.now → FoldsToState m self.now }
         ensures stored { (m : Meaning) → IsLawfulMeaning m → IsKept m self.now → StoresState m self.now }

@@ -1,12 +1,12 @@
 //! The log: all events so far, and what is counted of them.
 ghost use Rattle.std.specs.Prelude.{◌≡◌, ◌+◌, ◌-◌, ◌^◌, ◌≤◌, ◌<◌, ◌∷◌, [], ℕ, List, length, IfErr, OnOk, OnErr, Err, IsSome};
 ghost use Rattle.slate_types.specs.declared.error.SlateDBError.{SlateDBError};
-ghost use Rattle.slate_txn.specs.Ids.{id_of};
+ghost use Rattle.slate_txn.specs.Ids.{id_of, snapshot_id};
 ghost use Rattle.slate_txn.specs.Named.{find_named};
 ghost use Rattle.slate_txn.specs.Reads.{up_to};
 ghost use Rattle.slate_txn.specs.Replay.{replay};
 ghost use Rattle.slate_db.specs.Installs.{ArePlaced, installed};
-ghost use Rattle.slate_db.specs.Log.{LIMIT, IsLog, IsWhollyKept, HasPlace, MayCommit, held_by, with_begin, with_commit, with_end, with_freeze, with_write, with_install, with_flush};
+ghost use Rattle.slate_db.specs.Log.{LIMIT, IsLog, IsWhollyKept, HasPlace, MayCommit, held_by, with_begin, with_snapshot, with_commit, with_end, with_release, with_freeze, with_write, with_install, with_flush};
 
 use slate_txn::{Event, Journal, KeyList, OpList, TableList, Transcript};
 use slate_types::{IsolationLevel, SlateDBError};
@@ -25,8 +25,10 @@ pub struct Log {
     last: u64,
     /// The newest sequence at the last flush.
     flushed: u64,
-    /// How many ids were given.
+    /// How many ids of transactions were given.
     ids: u64,
+    /// How many ids of snapshots were given.
+    snapshot_ids: u64,
     /// How many installs were made.
     installs: u64,
     /// How many are open.
@@ -51,7 +53,7 @@ impl Log {
         requires { start_seq ≤ 18446744073709551614 }
         ensures start { (result.start ≡ start_seq) × (result.last ≡ start_seq) }
         ensures nothing { (result.commits ≡ []) × (result.events ≡ []) × (result.flushed ≡ 0) }
-        ensures ids { result.ids ≡ 0 }
+        ensures ids { (result.ids ≡ 0) × (result.snapshot_ids ≡ 0) }
         ensures whole { IsLog result }
     {
         Log {
@@ -59,6 +61,7 @@ impl Log {
             last: start_seq,
             flushed: 0,
             ids: 0,
+            snapshot_ids: 0,
             installs: 0,
             ends: 0,
             journal: Journal::new(alloc),
@@ -121,6 +124,33 @@ impl Log {
             start: self.last,
         });
         Ok(())
+    }
+
+    /// Opens a snapshot under the next id of one, at the newest sequence, and makes room for its release. Where memory is wanting the
+    /// log is as it was.
+    pub fn push_snapshot(&mut self, id: Uuid) -> Result<(), AllocError>
+        requires next { id ≡ snapshot_id (self.old.snapshot_ids + 1) }
+        requires place { held_by self.old + 2 ≤ LIMIT }
+        ensures value { OnOk result (self.new ≡ with_snapshot self.old self.new.spare) }
+        ensures same { OnErr result (self.new ≡ self.old) }
+        ensures whole { IsLog self.new }
+    {
+        self.journal.reserve(self.ends + 2)?;
+        self.snapshot_ids += 1;
+        self.ends += 1;
+        self.journal
+            .push_reserved(Event::Snapshot { id, seq: self.last });
+        Ok(())
+    }
+
+    /// Releases an open snapshot, in the room that its opening made.
+    pub fn push_release(&mut self, id: Uuid)
+        requires { IsSome (find_named id (replay self.old.events).snapshots) }
+        ensures value { self.new ≡ with_release self.old id self.new.spare }
+        ensures whole { IsLog self.new }
+    {
+        self.ends -= 1;
+        self.journal.push_reserved(Event::Release { id });
     }
 
     /// Ends an open transaction without a commit, in the room that its begin made.

@@ -1,5 +1,5 @@
 //! The rows of a scan.
-ghost use Rattle.std.specs.Prelude.{◌≡◌, ◌⊎◌, ℕ, List, None, Some, true, false, IfOk, IfErr, OnOk, drop};
+ghost use Rattle.std.specs.Prelude.{◌≡◌, ◌≢◌, ◌⊎◌, ℕ, List, None, Some, true, false, IfOk, IfErr, OnOk, drop};
 ghost use Rattle.slate_types.specs.declared.bytes_range.BytesRange.{BytesRange};
 ghost use Rattle.slate_types.specs.declared.error.SlateDBError.{SlateDBError};
 ghost use Rattle.slate_types.specs.declared.iter.IterationOrder.{IterationOrder};
@@ -10,7 +10,7 @@ ghost use Rattle.slate_types.specs.Outside.{IsFault, OnlyReads};
 ghost use Rattle.slate_types.specs.Refusing.{NoMore};
 ghost use Rattle.slate_types.specs.World.{World, Checks, Made, Sees};
 ghost use Rattle.slate_txn.specs.Alone.{first_left};
-ghost use Rattle.slate_db.specs.Scans.{AreForIn, IsSoundIn, Keeps, Leaves, RefusesIn, ScanRefuses, SourcesRefuse, left_in};
+ghost use Rattle.slate_db.specs.Scans.{AnswersAgain, AreForIn, IsRefusedScan, IsSoundIn, IsUnrefused, Keeps, Leaves, RefusesIn, ScanRefuses, SourcesRefuse, left_in};
 ghost use Rattle.slate_db.specs.Values.{HasValues};
 
 use crate::values::{next_value, seek_values};
@@ -33,12 +33,13 @@ pub(crate) enum ScanState<'a> {
     Refused(SlateDBError),
 }
 
-/// The next row in a state.
+/// The next row in a state that was not refused.
 fn next_in<S: Store, M: MergeOperator, T: BlockTransformer>(
     alloc: Global,
     state: &mut ScanState<'_>,
     env: &mut Env<'_, S, M, T>,
 ) -> Result<Option<KeyValue>, SlateDBError>
+    requires { (kept : SlateDBError) → state.old ≢ ScanState.Refused kept }
     ensures rows { let reach = ⟦<EnvOf<S, M, T> as Outside>⟧.reach in (w : World) (range : BytesRange) (order : IterationOrder) (rows : List RowEntry) →
         Sees w (reach env.old) (reach env.new) → IsSoundIn order state.old w → HasValues range (left_in state.old w) rows →
         IfOk result (λ a. (a ≡ first_left rows) × IsSoundIn order state.new w × HasValues range (left_in state.new w) (drop 1 rows)) }
@@ -53,17 +54,18 @@ fn next_in<S: Store, M: MergeOperator, T: BlockTransformer>(
     match state {
         ScanState::Walking(rows) => next_value(alloc, rows, env),
         ScanState::Done => Ok(None),
-        ScanState::Refused(error) => Err(copy_of(error)),
+        ScanState::Refused(_) => unreachable!(),
     }
 }
 
-/// A seek in a state to a key that isn't below the start of the range.
+/// A seek to a key that isn't below the start of the range, in a state that was not refused.
 fn seek_in<S: Store, M: MergeOperator, T: BlockTransformer>(
     alloc: Global,
     state: &mut ScanState<'_>,
     key: &[u8],
     env: &mut Env<'_, S, M, T>,
 ) -> Result<(), SlateDBError>
+    requires { (kept : SlateDBError) → state.old ≢ ScanState.Refused kept }
     ensures rows { let reach = ⟦<EnvOf<S, M, T> as Outside>⟧.reach in (w : World) (range : BytesRange) (order : IterationOrder) (rows : List RowEntry) →
         Sees w (reach env.old) (reach env.new) → IsSoundIn order state.old w → HasValues range (left_in state.old w) rows →
         OnOk result (IsSoundIn order state.new w × HasValues range (left_in state.new w) (drop_before order key.now rows)) }
@@ -79,7 +81,7 @@ fn seek_in<S: Store, M: MergeOperator, T: BlockTransformer>(
     match state {
         ScanState::Walking(rows) => seek_values(alloc, rows, key, env),
         ScanState::Done => Ok(()),
-        ScanState::Refused(error) => Err(copy_of(error)),
+        ScanState::Refused(_) => unreachable!(),
     }
 }
 
@@ -109,7 +111,8 @@ pub struct DbIterator<'a> {
 
 impl DbIterator<'_> {
     /// The next row, or `None` at the end. Refuses by `StoreFault` and `BlockTransformError`, each only where its count of
-    /// faults rose, by damage, only where reads since the opening show it, and by `OutOfMemory`.
+    /// faults rose, by damage, only where reads since the opening show it, and by `OutOfMemory`. What it was refused for it
+    /// answers again, without a read.
     pub fn next<S: Store, M: MergeOperator, T: BlockTransformer>(
         &mut self,
         env: &mut Env<'_, S, M, T>,
@@ -120,11 +123,15 @@ impl DbIterator<'_> {
         ensures checked { let reach = ⟦<EnvOf<S, M, T> as Outside>⟧.reach in (w : World) (rows : List RowEntry) → Leaves self.old w rows → OnOk result (Checks w (reach env.old) (reach env.new)) }
         ensures later { let reach = ⟦<EnvOf<S, M, T> as Outside>⟧.reach in OnOk result (Made (reach env.old) (reach env.new) (λ reads. NoMore (ScanRefuses self.old (reach env.old).meaning) reads (ScanRefuses self.new (reach env.old).meaning))) }
         ensures cause { let reach = ⟦<EnvOf<S, M, T> as Outside>⟧.reach in IfErr result (λ e. Made (reach env.old) (reach env.new) (λ reads. IsFault (reach env.old) (reach env.new) e ⊎ ScanRefuses self.old (reach env.old).meaning reads None e)) }
-        ensures again { IfErr result (λ e. Keeps e self.new) }
+        ensures again { IsUnrefused self.old → IfErr result (λ e. Keeps e self.new) }
+        ensures refused { (kept : SlateDBError) → IsRefusedScan kept self.old → AnswersAgain kept result × (self.new ≡ self.old) × (env.new ≡ env.old) }
         ensures range { self.new.range ≡ self.old.range }
         ensures order { self.new.order ≡ self.old.order }
         ensures reads { let reach = ⟦<EnvOf<S, M, T> as Outside>⟧.reach in OnlyReads (reach env.old) (reach env.new) }
     {
+        if let ScanState::Refused(error) = &self.state {
+            return Err(copy_of(error));
+        }
         match next_in(self.alloc, &mut self.state, env) {
             Ok(row) => Ok(row),
             Err(error) => Err(self.refuse(error)),
@@ -143,14 +150,14 @@ impl DbIterator<'_> {
         ensures checked { let reach = ⟦<EnvOf<S, M, T> as Outside>⟧.reach in (w : World) (rows : List RowEntry) → Leaves self.old w rows → OnOk result (Checks w (reach env.old) (reach env.new)) }
         ensures later { let reach = ⟦<EnvOf<S, M, T> as Outside>⟧.reach in OnOk result (Made (reach env.old) (reach env.new) (λ reads. NoMore (ScanRefuses self.old (reach env.old).meaning) reads (ScanRefuses self.new (reach env.old).meaning))) }
         ensures cause { let reach = ⟦<EnvOf<S, M, T> as Outside>⟧.reach in IfErr result (λ e. Made (reach env.old) (reach env.new) (λ reads. IsFault (reach env.old) (reach env.new) e ⊎ ScanRefuses self.old (reach env.old).meaning reads (Some key.now) e)) }
-        ensures again { IfErr result (λ e. Keeps e self.new) }
+        ensures again { IsUnrefused self.old → IfErr result (λ e. Keeps e self.new) }
+        ensures refused { (kept : SlateDBError) → IsRefusedScan kept self.old → AnswersAgain kept result × (self.new ≡ self.old) × (env.new ≡ env.old) }
         ensures range { self.new.range ≡ self.old.range }
         ensures order { self.new.order ≡ self.old.order }
         ensures reads { let reach = ⟦<EnvOf<S, M, T> as Outside>⟧.reach in OnlyReads (reach env.old) (reach env.new) }
     {
-        if let ScanState::Refused(error) = &self.state {
-            let error = copy_of(error);
-            return Err(self.refuse(error));
+        if let ScanState::Refused(kept) = &self.state {
+            return Err(copy_of(kept));
         }
         if !is_past_start(&self.range, key) {
             self.pass_start();

@@ -28,3 +28,10 @@ not_open {T} k ps h none = by (find_named k ps) (sym (find_is k ps) ∙ sym none
 
 pub found_there : {T : Type 0} (k : List ℕ) (ps : List (List ℕ × T)) (x t : T) → Some x ≡ lookup (is_at (key_cmp k)) ps → find_named k ps ≡ Some t → x ≡ t
 found_there k ps x t found is = let e : Some x ≡ Some t = found ∙ find_is k ps ∙ is in cc
+
+-- what is not there was not found
+pub found_none : {T : Type 0} (k : List ℕ) (ps : List (List ℕ × T)) (x : T) → Some x ≡ lookup (is_at (key_cmp k)) ps → find_named k ps ≡ None → ⊥
+found_none k ps x found none = let e : Some x ≡ None = found ∙ find_is k ps ∙ none in cc
+
+pub none_found : {T : Type 0} (k : List ℕ) (ps : List (List ℕ × T)) (t : T) → None ≡ lookup (is_at (key_cmp k)) ps → find_named k ps ≡ Some t → ⊥
+none_found k ps t none is = let e : None ≡ Some t = none ∙ find_is k ps ∙ is in cc

@@ -1,7 +1,8 @@
 -- Ids are made from a count, from 1.
 --     id_of i      the i-th id
 --     IsOfCount n id      one of the first n ids
-use Rattle.std.specs.Prelude.{◌≡◌, ℕ, ◌≤◌, List}
+--     snapshot_id i, IsSnapshotOf n id      the i-th id of a snapshot, with the highest bit set; one of the first n of these
+use Rattle.std.specs.Prelude.{◌≡◌, ℕ, ◌+◌, ◌^◌, ◌≤◌, List}
 use Rattle.std.specs.Int.{w128, to_be_bytes}
 
 abbrev pub id_of : ℕ → List ℕ
@@ -11,3 +12,11 @@ pub record IsOfCount (n : ℕ) (id : List ℕ) : Type 0 where
   pub count : ℕ
   pub within : count ≤ n
   pub is : id ≡ id_of count
+
+abbrev pub snapshot_id : ℕ → List ℕ
+snapshot_id i = id_of (2 ^ 127 + i)
+
+pub record IsSnapshotOf (n : ℕ) (id : List ℕ) : Type 0 where
+  pub count : ℕ
+  pub within : count ≤ n
+  pub is : id ≡ snapshot_id count

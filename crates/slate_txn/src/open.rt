@@ -1,5 +1,5 @@
 //! The open transactions.
-ghost use Rattle.std.specs.Prelude.{◌≡◌, ◌⊎◌, ◌<◌, ◌≤◌, ◌++◌, ◌∷◌, ℕ, List, [], if◌then◌else◌, count_by, None, Some, Err, IfErr, IfOk, IsSome, is_some, map, false, option_map, reverse, OnOk, OnErr, IsOkUnless};
+ghost use Rattle.std.specs.Prelude.{◌≡◌, ◌⊎◌, ◌<◌, ◌≤◌, ◌++◌, ◌∷◌, ℕ, List, [], if◌then◌else◌, count_by, None, Some, Ok, Err, IfErr, IfOk, IsSome, is_some, map, false, option_map, reverse, OnOk, OnErr, IsOkUnless};
 ghost use Rattle.std.specs.BTreeMap.{insert_entry};
 ghost use Rattle.std.specs.declared.cmp.Ordering.TheVariants.{Greater};
 ghost use Rattle.std.specs.List.{AllByRecursion};
@@ -22,7 +22,7 @@ ghost use Rattle.slate_txn.specs.Open.{BeginsRise, least_begin};
 
 use crate::DbTransactionInner;
 use bytes::Bytes;
-use slate_mem::WriteBatchIterator;
+use slate_mem::{WriteBatch, WriteBatchIterator};
 use slate_types::{
     BytesRange, IsolationLevel, IterationOrder, KeyValue, PutOptions, RowEntry, SlateDBError,
 };
@@ -113,15 +113,15 @@ impl OpenTransactions {
     }
 
     /// The rows of the open transaction's own operations of the key, newest first, to the first that is no merge. No merge was
-    /// taken so far. The one error is `OutOfMemory`.
+    /// taken so far. There are none for an unknown id. The one error is `OutOfMemory`.
     pub fn own_rows(
         &self,
         alloc: Global,
         id: &Uuid,
         key: &Bytes,
     ) -> Result<Vec<RowEntry>, SlateDBError>
-        requires { IsSome (find_named id.now self.now) }
         ensures rows { (t : Tx) → find_named id.now self.now ≡ Some t → IfOk result (λ rows. rows.items ≡ map (own_row key.now) (reverse (kept t.ops key.now))) }
+        ensures none { find_named id.now self.now ≡ None → IfOk result (λ rows. rows.items ≡ []) }
         ensures plain { (t : Tx) → find_named id.now self.now ≡ Some t → holds_merge t.ops ≡ false }
         ensures own { (t : Tx) → find_named id.now self.now ≡ Some t → t.ops ≡ own_of t.transcript }
         ensures cause { IsOkUnless result SlateDBError.OutOfMemory }
@@ -130,7 +130,8 @@ impl OpenTransactions {
     }
 
     /// The rows of the open transaction's own operations of the keys in the range: keys in the order, and newest first within a
-    /// key, to the first that is no merge. No merge was taken so far. The one error is `OutOfMemory`.
+    /// key, to the first that is no merge. No merge was taken so far. There are none for an unknown id. The one error is
+    /// `OutOfMemory`.
     pub fn own_range(
         &self,
         alloc: Global,
@@ -138,8 +139,8 @@ impl OpenTransactions {
         range: &BytesRange,
         order: IterationOrder,
     ) -> Result<WriteBatchIterator, SlateDBError>
-        requires { IsSome (find_named id.now self.now) }
         ensures rows { (t : Tx) → find_named id.now self.now ≡ Some t → IfOk result (λ it. (k : List ℕ) → of_key k it.rows ≡ (if in_range range.now k then map (own_row k) (reverse (kept t.ops k)) else [])) }
+        ensures none { find_named id.now self.now ≡ None → IfOk result (λ it. it.rows ≡ []) }
         ensures turn { IfOk result (λ it. AreInTurn (row_before order) it.rows) }
         ensures in_order { IfOk result (λ it. IsInOrder order it.rows) }
         ensures order { IfOk result (λ it. it.order ≡ order) }
@@ -229,23 +230,23 @@ impl OpenTransactions {
     }
 
     /// Notes the opening of a scan in the open transaction with this id, and gives its number among the transaction's scans, from
-    /// 0. Where memory is wanting nothing is noted.
+    /// 0. For an unknown id nothing happens, and the number is 0. Where memory is wanting nothing is noted.
     pub fn note_scan(
         &mut self,
         id: &Uuid,
         order: IterationOrder,
         range: &BytesRange,
     ) -> Result<u64, AllocError>
-        requires { IsSome (find_named id.now self.old) }
         ensures ok { OnOk result (self.new ≡ update_named id.now (λ t. record t { transcript = t.transcript ++ steps.Scan order range.now ∷ [] }) self.old) }
         ensures number { (t : Tx) → find_named id.now self.old ≡ Some t → IfOk result (λ n. n ≡ count_by is_scan t.transcript) }
+        ensures none { find_named id.now self.old ≡ None → result ≡ Ok 0 }
         ensures err { OnErr result (self.new ≡ self.old) }
     {
         note_scan(&mut self.by_id, id, order, range)
     }
 
-    /// Notes what a scan of the open transaction with this id handed out next: a row, or none at its end. Where memory is wanting
-    /// nothing is noted.
+    /// Notes what a scan of the open transaction with this id handed out next: a row, or none at its end. Nothing happens for an
+    /// unknown id. Where memory is wanting nothing is noted.
     pub fn note_next(
         &mut self,
         alloc: Global,
@@ -253,15 +254,15 @@ impl OpenTransactions {
         scan: u64,
         answer: &Option<KeyValue>,
     ) -> Result<(), AllocError>
-        requires is_open { IsSome (find_named id.now self.old) }
-        requires opened { (t : Tx) → find_named id.now self.old ≡ Some t → scan < count_by is_scan t.transcript }
+        requires { (t : Tx) → find_named id.now self.old ≡ Some t → scan < count_by is_scan t.transcript }
         ensures ok { OnOk result (self.new ≡ update_named id.now (λ t. record t { transcript = t.transcript ++ steps.Next scan answer.now ∷ [] }) self.old) }
         ensures err { OnErr result (self.new ≡ self.old) }
     {
         note_next(alloc, &mut self.by_id, id, scan, answer)
     }
 
-    /// Notes a seek to a key of a scan of the open transaction with this id. Where memory is wanting nothing is noted.
+    /// Notes a seek to a key of a scan of the open transaction with this id. Nothing happens for an unknown id. Where memory is
+    /// wanting nothing is noted.
     pub fn note_seek(
         &mut self,
         alloc: Global,
@@ -269,8 +270,7 @@ impl OpenTransactions {
         scan: u64,
         key: &[u8],
     ) -> Result<(), AllocError>
-        requires is_open { IsSome (find_named id.now self.old) }
-        requires opened { (t : Tx) → find_named id.now self.old ≡ Some t → scan < count_by is_scan t.transcript }
+        requires { (t : Tx) → find_named id.now self.old ≡ Some t → scan < count_by is_scan t.transcript }
         ensures ok { OnOk result (self.new ≡ update_named id.now (λ t. record t { transcript = t.transcript ++ steps.Seek scan key.now ∷ [] }) self.old) }
         ensures err { OnErr result (self.new ≡ self.old) }
     {
@@ -337,26 +337,26 @@ fn begin_of(items: &BTreeMap<Uuid, DbTransactionInner>, id: &Uuid) -> Option<u64
     }
 }
 
-/// The rows of the open transaction's own operations of the key.
+/// The rows of the open transaction's own operations of the key, and none for an unknown id.
 fn own_rows(
     alloc: Global,
     items: &BTreeMap<Uuid, DbTransactionInner>,
     id: &Uuid,
     key: &Bytes,
 ) -> Result<Vec<RowEntry>, SlateDBError>
-    requires { IsSome (find_named id.now items.now.entries) }
     ensures rows { (t : Tx) → find_named id.now items.now.entries ≡ Some t → IfOk result (λ rows. rows.items ≡ map (own_row key.now) (reverse (kept t.ops key.now))) }
+    ensures none { find_named id.now items.now.entries ≡ None → IfOk result (λ rows. rows.items ≡ []) }
     ensures plain { (t : Tx) → find_named id.now items.now.entries ≡ Some t → holds_merge t.ops ≡ false }
     ensures own { (t : Tx) → find_named id.now items.now.entries ≡ Some t → t.ops ≡ own_of t.transcript }
     ensures cause { IsOkUnless result SlateDBError.OutOfMemory }
 {
     match items.get(id) {
         Some(open) => open.own_rows(alloc, key),
-        None => unreachable!(),
+        None => Ok(Vec::new(alloc)),
     }
 }
 
-/// The rows of the open transaction's own operations of the keys in the range.
+/// The rows of the open transaction's own operations of the keys in the range, and none for an unknown id.
 fn own_range(
     alloc: Global,
     items: &BTreeMap<Uuid, DbTransactionInner>,
@@ -364,8 +364,8 @@ fn own_range(
     range: &BytesRange,
     order: IterationOrder,
 ) -> Result<WriteBatchIterator, SlateDBError>
-    requires { IsSome (find_named id.now items.now.entries) }
     ensures rows { (t : Tx) → find_named id.now items.now.entries ≡ Some t → IfOk result (λ it. (k : List ℕ) → of_key k it.rows ≡ (if in_range range.now k then map (own_row k) (reverse (kept t.ops k)) else [])) }
+    ensures none { find_named id.now items.now.entries ≡ None → IfOk result (λ it. it.rows ≡ []) }
     ensures turn { IfOk result (λ it. AreInTurn (row_before order) it.rows) }
     ensures in_order { IfOk result (λ it. IsInOrder order it.rows) }
     ensures order { IfOk result (λ it. it.order ≡ order) }
@@ -375,8 +375,26 @@ fn own_range(
 {
     match items.get(id) {
         Some(open) => open.own_range(alloc, range, order),
-        None => unreachable!(),
+        None => no_rows(alloc, range, order),
     }
+}
+
+/// The rows in the range of a batch without operations.
+fn no_rows(
+    alloc: Global,
+    range: &BytesRange,
+    order: IterationOrder,
+) -> Result<WriteBatchIterator, SlateDBError>
+    ensures none { IfOk result (λ it. it.rows ≡ []) }
+    ensures turn { IfOk result (λ it. AreInTurn (row_before order) it.rows) }
+    ensures in_order { IfOk result (λ it. IsInOrder order it.rows) }
+    ensures order { IfOk result (λ it. it.order ≡ order) }
+    ensures cause { IsOkUnless result SlateDBError.OutOfMemory }
+{
+    let batch = WriteBatch::new(alloc);
+    let rows = WriteBatchIterator::new(alloc, &batch, range, order, u64::MAX, None, None);
+    drop(batch);
+    rows
 }
 
 /// Puts a value in the open transaction with this id.
@@ -475,21 +493,21 @@ fn note_get(
     }
 }
 
-/// Notes the opening of a scan in the open transaction with this id, and gives its number.
+/// Notes the opening of a scan in the open transaction with this id, and gives its number, and 0 for an unknown id.
 fn note_scan(
     items: &mut BTreeMap<Uuid, DbTransactionInner>,
     id: &Uuid,
     order: IterationOrder,
     range: &BytesRange,
 ) -> Result<u64, AllocError>
-    requires { IsSome (find_named id.now items.old.entries) }
     ensures ok { OnOk result (items.new.entries ≡ update_named id.now (λ t. record t { transcript = t.transcript ++ steps.Scan order range.now ∷ [] }) items.old.entries) }
     ensures number { (t : Tx) → find_named id.now items.old.entries ≡ Some t → IfOk result (λ n. n ≡ count_by is_scan t.transcript) }
+    ensures none { find_named id.now items.old.entries ≡ None → result ≡ Ok 0 }
     ensures err { OnErr result (items.new.entries ≡ items.old.entries) }
 {
     match items.get_mut(id) {
         Some(open) => open.note_scan(order, range),
-        None => unreachable!(),
+        None => Ok(0),
     }
 }
 
@@ -501,14 +519,13 @@ fn note_next(
     scan: u64,
     answer: &Option<KeyValue>,
 ) -> Result<(), AllocError>
-    requires is_open { IsSome (find_named id.now items.old.entries) }
-    requires opened { (t : Tx) → find_named id.now items.old.entries ≡ Some t → scan < count_by is_scan t.transcript }
+    requires { (t : Tx) → find_named id.now items.old.entries ≡ Some t → scan < count_by is_scan t.transcript }
     ensures ok { OnOk result (items.new.entries ≡ update_named id.now (λ t. record t { transcript = t.transcript ++ steps.Next scan answer.now ∷ [] }) items.old.entries) }
     ensures err { OnErr result (items.new.entries ≡ items.old.entries) }
 {
     match items.get_mut(id) {
         Some(open) => open.note_next(alloc, scan, answer),
-        None => unreachable!(),
+        None => Ok(()),
     }
 }
 
@@ -520,13 +537,12 @@ fn note_seek(
     scan: u64,
     key: &[u8],
 ) -> Result<(), AllocError>
-    requires is_open { IsSome (find_named id.now items.old.entries) }
-    requires opened { (t : Tx) → find_named id.now items.old.entries ≡ Some t → scan < count_by is_scan t.transcript }
+    requires { (t : Tx) → find_named id.now items.old.entries ≡ Some t → scan < count_by is_scan t.transcript }
     ensures ok { OnOk result (items.new.entries ≡ update_named id.now (λ t. record t { transcript = t.transcript ++ steps.Seek scan key.now ∷ [] }) items.old.entries) }
     ensures err { OnErr result (items.new.entries ≡ items.old.entries) }
 {
     match items.get_mut(id) {
         Some(open) => open.note_seek(alloc, scan, key),
-        None => unreachable!(),
+        None => Ok(()),
     }
 }

@@ -1,8 +1,9 @@
 //! The open snapshots.
 ghost use Rattle.std.specs.Prelude.{◌≡◌, ◌≢◌, ◌⊎◌, ◌+◌, ◌-◌, ◌^◌, ◌<◌, ℕ, List, ◌++◌, ◌∷◌, [], Some, None, Err, IfOk, IfErr, OnErr, IsSome, is_some, unwrap_or};
+ghost use Rattle.std.specs.List.{AllByRecursion};
 ghost use Rattle.slate_types.specs.declared.error.SlateDBError.{SlateDBError};
 ghost use Rattle.slate_txn.specs.Named.{find_named, without};
-ghost use Rattle.slate_txn.specs.Ids.{id_of};
+ghost use Rattle.slate_txn.specs.Ids.{id_of, snapshot_id, IsSnapshotOf};
 ghost use Rattle.slate_txn.specs.Managers.{no_snapshots, least_seq, sooner_of};
 
 use slate_types::SlateDBError;
@@ -76,12 +77,29 @@ impl SnapshotManager {
         self.active_snapshots.contains_key(id)
     }
 
+    /// The sequence that an open snapshot shows, and `None` for an unknown id.
+    pub fn seq_of(&self, id: &Uuid) -> Option<u64>
+        ensures { result ≡ find_named id.now self.now.active }
+    {
+        self.active_snapshots.get(id).copied()
+    }
+
     /// Forgets an open snapshot.
     pub fn drop_snapshot(&mut self, id: &Uuid)
         requires { IsSome (find_named id.now self.old.active) }
         ensures { self.new ≡ record self.old { active = without id.now self.old.active } }
     {
         drop(self.active_snapshots.remove(id));
+    }
+
+    /// Takes back the opening of the snapshot that was opened last, and its id: all others have earlier ids.
+    pub fn take_back(&mut self, id: &Uuid)
+        requires given { 0 < self.old.ids }
+        requires newest { AllByRecursion (λ p. IsSnapshotOf (self.old.ids - 1) p.0) (without id.now self.old.active) }
+        ensures { self.new ≡ record self.old { ids = self.old.ids - 1; active = without id.now self.old.active } }
+    {
+        drop(self.active_snapshots.remove(id));
+        self.ids -= 1;
     }
 
     /// The least sequence of an open snapshot, and `None` exactly where nothing is open.

@@ -3,7 +3,9 @@ use Rattle.slate_types.specs.World.{Checks}
 use Rattle.slate_types.proofs.Calls.{call_none, checks_none}
 use Rattle.slate_types.proofs.Reaching.{reads_none}
 use Rattle.slate_store.specs.Reach.{reach_of}
-use Rattle.slate_db.proofs.ScanStates.{cause_walk, checked_walk, later_walk, never_sound, next_walk, none_left, refused_again, sound_walk, sources_walk, undamaged_walk, values_walk}
+use Rattle.slate_read.specs.MergeStates.{refuses_in}
+use Rattle.slate_db.specs.Scans.{source_refuses}
+use Rattle.slate_db.proofs.ScanStates.{cause_walk, checked_walk, later_walk, met_operand, next_walk, none_left, sound_walk, sources_walk, undamaged_walk, values_walk}
 use Rattle.slate_db.proofs.scan.next_in.Goals as goal
 
 pub returns-in-Walking : goal.returns-in-Walking
@@ -22,7 +24,7 @@ returns-in-Walking g c =
       checked = λ w order sound. checked_walk r order w a b x u (Checks w a b) is (n.checked w) sound;
       sources = λ range. sources_walk r range a b x u v is n.later;
       later = λ range. later_walk r range a b x u v is n.later;
-      cause = λ range. cause_walk r range None a b x u is tt n.cause;
+      cause = λ range. cause_walk r range None a b x u is tt (met_operand r a b (λ reads e. refuses_in source_refuses u.state a.meaning reads None e) n.cause);
       reads = n.reads;
     }
 
@@ -37,13 +39,5 @@ returns-in-Done g c = record {
   reads = reads_none _;
 }
 
-pub returns-in-Refused : goal.returns-in-Refused
-returns-in-Refused g c = record {
-  rows = λ w range order rows sees sound has. tt;
-  undamaged = λ w range order rows sees sound has meant. never_sound order w c.args.state.now c.in-Refused.error c.in-Refused.is sound;
-  checked = λ w order sound. tt;
-  sources = λ range. tt;
-  later = λ range. tt;
-  cause = λ range. refused_again range None (reach_of g.S.Store g.M.MergeOperator g.T.BlockTransformer c.args.env.now) c.args.state.now c.in-Refused.error c.copy_of.result c.in-Refused.is c.copy_of.ensures;
-  reads = reads_none _;
-}
+pub unreachable-requires : goal.unreachable-requires
+unreachable-requires g c = c.requires _ c.in-Refused.is

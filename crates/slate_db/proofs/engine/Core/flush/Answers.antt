@@ -16,8 +16,10 @@ use Rattle.slate_db.specs.Model.{CoreModel}
 use Rattle.slate_db.specs.Sound.{IsKept}
 use Rattle.slate_db.specs.Log.{LIMIT, LogModel, IsLog, with_flush}
 use Rattle.slate_db.specs.View.{view_of, unseen_of, IsWholeInside}
+use Rattle.slate_db.specs.Vouched.{IsVouchedFor}
 use Rattle.slate_db.proofs.Flushes.{kept_flushed, step_flush, frozen_settings, steps_after, place_cause, freeze_cause, frozen_idle, none_frozen, installed_after, cause_after, too_large_before, passed, place_left, some_frozen, frozen_at_fault, no_fault, settled, all_taken, quiet_after}
 use Rattle.slate_db.proofs.Built.{may_keep}
+use Rattle.slate_db.proofs.Vouches.{vouched_flushed}
 use Rattle.slate_db.proofs.Wholes.{whole_flushed}
 use Rattle.slate_txn.proofs.NamedLaws.{both_err}
 use Rattle.slate_db.proofs.Puttings.{frozen_tables}
@@ -60,6 +62,7 @@ returns-in_err-place_for_flush g c =
           no_fault LIMIT c.from_residual.result _ (p.1 ∙ ap Err p.2) (λ x. x) (inr c.in_err-place_for_flush.ensures.limit.0) h);
       full = λ h. refl;
       full_objects = λ h. refl;
+      vouched = IfOk-from_err c.from_residual.result _ c.from_residual.ensures.0;
       kept = λ m same k. k;
       settings = refl;
       limit = λ h. let p = err_from_is_err_and c.from_residual.result c.from_residual.ensures.1 in p.1 ∙ ap Err (p.2 ∙ c.in_err-place_for_flush.ensures.limit.0);
@@ -85,6 +88,7 @@ returns-in_err-freeze g c =
           no_fault LIMIT c.from_residual-in_err-freeze.result _ (p.1 ∙ ap Err p.2) (λ x. x.0) c.in_err-freeze.ensures.cause h);
       full = λ h. c.in_err-freeze.ensures.same;
       full_objects = λ h. refl;
+      vouched = IfOk-from_err c.from_residual-in_err-freeze.result _ c.from_residual-in_err-freeze.ensures.0;
       kept = λ m same k. subst (λ (v : CoreModel). IsKept m v) (sym c.in_err-freeze.ensures.same) k;
       settings = ap (λ (v : CoreModel). v.settings) c.in_err-freeze.ensures.same;
       limit = λ h. absurd (omega (arith, c.in_ok-place_for_flush.ensures.place, h));
@@ -142,6 +146,10 @@ returns-then-is_empty-clause-kept g c m same k =
     subst (λ (l : LogModel). IsKept m (view_of (record c.self.inside { log = l }))) (sym c.note_flush.ensures.value)
     (kept_flushed m (view_of c.self.inside) c.self.inside.log.last (subst (λ (v : CoreModel). IsKept m v) (sym c.self.view_is) (c.in_ok-freeze.ensures.kept m k)))
 
+pub returns-then-is_empty-clause-vouched : goal.returns-then-is_empty-clause-vouched
+returns-then-is_empty-clause-vouched g c m other h =
+    subst (λ (v : CoreModel). IsVouchedFor m v other) (sym (noted c.self.inside c.freeze.new.self c.note_flush.new.self c.self.view_is c.note_flush.ensures.value)) (c.in_ok-freeze.ensures.vouched m other h)
+
 pub returns-then-is_empty-clause-puts : goal.returns-then-is_empty-clause-puts
 returns-then-is_empty-clause-puts g c = puts_none _
 
@@ -160,21 +168,24 @@ behind layout old between e froze (inr large) = inr (inr (too_large_before layou
 
 pub returns : goal.returns
 returns g c =
+    let steps = steps_after c.install.result (changed_by g.T.BlockTransformer.encoded c.args.env.now.transformer) (layout_of c.args.laws.now.options) c.args.self.now c.freeze.new.self c.install.new.self (g.S.Store.objects c.args.env.now.store.now) (g.S.Store.objects c.install.new.env.store.now) c.in_ok-freeze.ensures.event c.install.ensures.newest c.install.ensures.installed in
+    let same = settled c.install.result (changed_by g.T.BlockTransformer.encoded c.args.env.now.transformer) (layout_of c.args.laws.now.options) c.freeze.new.self c.install.new.self (g.S.Store.objects c.args.env.now.store.now) (g.S.Store.objects c.install.new.env.store.now) c.install.ensures.installed c.install.ensures.same ∙ frozen_settings c.args.self.now c.freeze.new.self c.in_ok-freeze.ensures.event in
     record {
-      step = steps_after c.install.result (changed_by g.T.BlockTransformer.encoded c.args.env.now.transformer) (layout_of c.args.options.now) c.args.self.now c.freeze.new.self c.install.new.self (g.S.Store.objects c.args.env.now.store.now) (g.S.Store.objects c.install.new.env.store.now) c.in_ok-freeze.ensures.event c.install.ensures.newest c.install.ensures.installed;
-      installed = installed_after c.install.result (changed_by g.T.BlockTransformer.encoded c.args.env.now.transformer) (layout_of c.args.options.now) c.args.self.now c.freeze.new.self c.install.new.self (g.S.Store.objects c.args.env.now.store.now) (g.S.Store.objects c.install.new.env.store.now) c.in_ok-freeze.ensures.event c.install.ensures.installed;
+      step = steps;
+      installed = installed_after c.install.result (changed_by g.T.BlockTransformer.encoded c.args.env.now.transformer) (layout_of c.args.laws.now.options) c.args.self.now c.freeze.new.self c.install.new.self (g.S.Store.objects c.args.env.now.store.now) (g.S.Store.objects c.install.new.env.store.now) c.in_ok-freeze.ensures.event c.install.ensures.installed;
       acts = (subst (λ (ts : List (Ulid × List ℕ)). OnOk c.install.result (AddsTables ts (tables_of c.install.new.self.events) (g.S.Store.acts c.args.env.now.store.now) (g.S.Store.acts c.install.new.env.store.now)))
           (frozen_tables c.args.self.now c.freeze.new.self c.in_ok-freeze.ensures.event) c.install.ensures.acts);
-      taken = all_taken c.install.result (changed_by g.T.BlockTransformer.encoded c.args.env.now.transformer) (layout_of c.args.options.now) c.freeze.new.self c.install.new.self (g.S.Store.objects c.args.env.now.store.now) (g.S.Store.objects c.install.new.env.store.now) (frozen_idle c.args.self.now c.freeze.new.self c.in_ok-freeze.ensures.event) c.install.ensures.installed;
-      quiet = quiet_after c.install.result (changed_by g.T.BlockTransformer.encoded c.args.env.now.transformer) (layout_of c.args.options.now) c.freeze.new.self c.install.new.self (g.S.Store.objects c.args.env.now.store.now) (g.S.Store.objects c.install.new.env.store.now) c.in_ok-freeze.ensures.quiet c.install.ensures.installed;
+      taken = all_taken c.install.result (changed_by g.T.BlockTransformer.encoded c.args.env.now.transformer) (layout_of c.args.laws.now.options) c.freeze.new.self c.install.new.self (g.S.Store.objects c.args.env.now.store.now) (g.S.Store.objects c.install.new.env.store.now) (frozen_idle c.args.self.now c.freeze.new.self c.in_ok-freeze.ensures.event) c.install.ensures.installed;
+      quiet = quiet_after c.install.result (changed_by g.T.BlockTransformer.encoded c.args.env.now.transformer) (layout_of c.args.laws.now.options) c.freeze.new.self c.install.new.self (g.S.Store.objects c.args.env.now.store.now) (g.S.Store.objects c.install.new.env.store.now) c.in_ok-freeze.ensures.quiet c.install.ensures.installed;
       refused = both_err c.install.result (λ same may. (c.freeze.new.self, inr c.in_ok-freeze.ensures.event, same, may)) c.install.ensures.same c.install.ensures.refused;
       frozen = frozen_at_fault c.install.result c.args.self.now c.freeze.new.self c.install.new.self c.in_ok-freeze.ensures.event c.install.ensures.same;
       full = λ h. absurd (omega (arith, c.in_ok-place_for_flush.ensures.place, h));
       full_objects = λ h. absurd (omega (arith, c.in_ok-place_for_flush.ensures.place, h));
+      vouched = vouched_flushed c.install.result c.args.self.now c.install.new.self steps same;
       kept = λ m same k. c.install.ensures.kept m same (c.in_ok-freeze.ensures.kept m k);
-      settings = settled c.install.result (changed_by g.T.BlockTransformer.encoded c.args.env.now.transformer) (layout_of c.args.options.now) c.freeze.new.self c.install.new.self (g.S.Store.objects c.args.env.now.store.now) (g.S.Store.objects c.install.new.env.store.now) c.install.ensures.installed c.install.ensures.same ∙ frozen_settings c.args.self.now c.freeze.new.self c.in_ok-freeze.ensures.event;
+      settings = same;
       limit = λ h. absurd (omega (arith, c.in_ok-place_for_flush.ensures.place, h));
-      cause = cause_after c.install.result _ _ (λ e h. behind (layout_of c.args.options.now) c.args.self.now c.freeze.new.self e c.in_ok-freeze.ensures.event h) c.install.ensures.cause;
+      cause = cause_after c.install.result _ _ (λ e h. behind (layout_of c.args.laws.now.options) c.args.self.now c.freeze.new.self e c.in_ok-freeze.ensures.event h) c.install.ensures.cause;
       operator = c.install.ensures.operator;
       puts = c.install.ensures.puts;
     }

@@ -12,6 +12,7 @@ use Rattle.slate_db.specs.Meaning.{rules_of}
 use Rattle.slate_db.specs.Model.{CoreModel}
 use Rattle.slate_db.specs.View.{view_of, unseen_of, IsWholeInside}
 use Rattle.slate_db.specs.Sound.{IsKept}
+use Rattle.slate_db.specs.Vouched.{IsVouchedFor}
 use Rattle.slate_db.proofs.Calls.{frozen_is, layers_frozen_of, past_place, placed, room_to_freeze, unseen_freeze}
 use Rattle.slate_db.proofs.Logs.{has_place}
 use Rattle.slate_db.proofs.Quiet.{quiet_frozen}
@@ -26,6 +27,7 @@ returns-then-is_empty c =
       event = inl (none, refl);
       quiet = subst (λ (v : CoreModel). IsQuiet v.events) c.self.view_is (c.self.invariant.tied.quiet (sym c.active.ensures ∙ c.is_empty.ensures.0 c.if-is_empty.true));
       idle = λ is. refl;
+      vouched = λ m other h. h;
       kept = λ m k. k;
       same = tt;
       limit = λ some past. absurd (some none);
@@ -63,6 +65,7 @@ returns c =
       );
       quiet = subst (λ (l : LogModel). IsQuiet l.events) (sym log) (quiet_frozen c.self.inside.log.events);
       idle = λ none. refl;
+      vouched = λ m other. subst (λ (v : CoreModel). IsVouchedFor m c.args.self.now other → IsVouchedFor m v other) (sym (sym (ap view_of becomes) ∙ ap (λ (v : CoreModel). after_freeze v c.push_freeze.new.self.spare) c.self.view_is)) (λ h. h);
       kept = (λ m k.
           subst (λ (s : Inside). IsKept m (view_of s)) becomes
           (kept_freeze m (view_of c.self.inside) c.push_freeze.new.self.spare (subst (λ (v : CoreModel). IsKept m v) (sym c.self.view_is) k)));
@@ -84,6 +87,7 @@ returns-in_err-reserve_freeze c =
       event = IfOk-from_err c.from_residual-in_err-reserve_freeze.result _ c.from_residual-in_err-reserve_freeze.ensures.0;
       quiet = IfOk-from_err c.from_residual-in_err-reserve_freeze.result _ c.from_residual-in_err-reserve_freeze.ensures.0;
       idle = λ none. let t : true ≡ false = sym (c.is_empty.ensures.1 (c.active.ensures ∙ ap (λ (v : CoreModel). v.active) c.self.view_is ∙ none)) ∙ c.if-is_empty.false in cc;
+      vouched = IfOk-from_err c.from_residual-in_err-reserve_freeze.result _ c.from_residual-in_err-reserve_freeze.ensures.0;
       kept = IfOk-from_err c.from_residual-in_err-reserve_freeze.result _ c.from_residual-in_err-reserve_freeze.ensures.0;
       same = rw p.1 (unseen_freeze c.self.inside c.reserve_freeze.new.self c.reserve_freeze.ensures.value ∙ c.self.view_is);
       limit = λ some. placed (view_of c.self.inside) c.args.self.now (unseen_of c.self.inside) 1 c.self.view_is c.self.invariant c.in_ok-place.ensures.place;
@@ -103,6 +107,7 @@ returns-in_err-reserve c =
       event = IfOk-from_err c.from_residual-in_err-reserve.result _ c.from_residual-in_err-reserve.ensures.0;
       quiet = IfOk-from_err c.from_residual-in_err-reserve.result _ c.from_residual-in_err-reserve.ensures.0;
       idle = λ none. let t : true ≡ false = sym (c.is_empty.ensures.1 (c.active.ensures ∙ ap (λ (v : CoreModel). v.active) c.self.view_is ∙ none)) ∙ c.if-is_empty.false in cc;
+      vouched = IfOk-from_err c.from_residual-in_err-reserve.result _ c.from_residual-in_err-reserve.ensures.0;
       kept = IfOk-from_err c.from_residual-in_err-reserve.result _ c.from_residual-in_err-reserve.ensures.0;
       same = rw p.1 (ap (λ (l : LogModel). view_of (record c.self.inside { log = l; layers = c.reserve_freeze.new.self })) c.in_err-reserve.ensures.same ∙ unseen_freeze c.self.inside c.reserve_freeze.new.self c.reserve_freeze.ensures.value ∙ c.self.view_is);
       limit = λ some. placed (view_of c.self.inside) c.args.self.now (unseen_of c.self.inside) 1 c.self.view_is c.self.invariant c.in_ok-place.ensures.place;
@@ -118,6 +123,7 @@ returns-in_err-place c =
       event = IfOk-from_err c.from_residual.result _ c.from_residual.ensures.0;
       quiet = IfOk-from_err c.from_residual.result _ c.from_residual.ensures.0;
       idle = λ none. let t : true ≡ false = sym (c.is_empty.ensures.1 (c.active.ensures ∙ ap (λ (v : CoreModel). v.active) c.self.view_is ∙ none)) ∙ c.if-is_empty.false in cc;
+      vouched = IfOk-from_err c.from_residual.result _ c.from_residual.ensures.0;
       kept = IfOk-from_err c.from_residual.result _ c.from_residual.ensures.0;
       same = rw p.1 refl;
       limit = λ some past. p.1 ∙ ap Err (p.2 ∙ limit.0);

@@ -1,4 +1,4 @@
-use Rattle.std.proofs.Common.{inl, inr, ◌≡◌, ℕ, ◌≤◌, List, [], ◌∷◌, ◌++◌, map, Option, Some, unwrap_or, option_map, refl, ap, sym, subst, ◌∙◌, append-nil, arith}
+use Rattle.std.proofs.Common.{inl, inr, ◌≡◌, ℕ, ◌≤◌, List, [], ◌∷◌, ◌++◌, map, Option, option_map, refl, ap, sym, subst, ◌∙◌, append-nil, arith}
 use Rattle.std.proofs.lemmas.Result.{IfOk-from_err, err_from_is_err_and}
 use Rattle.std.specs.Prelude.{IfSome, option_and_then}
 use Rattle.slate_types.specs.declared.types.RowEntry.{RowEntry}
@@ -11,12 +11,10 @@ use Rattle.slate_mem.specs.Batch.{Ops, kept}
 use Rattle.slate_mem.specs.RowOf.{own_row}
 use Rattle.slate_txn.specs.declared.event.TranscriptStep.{TranscriptStep}
 use Rattle.slate_txn.specs.declared.event.TranscriptStep.TheVariants as steps
-use Rattle.slate_txn.specs.Alone.{own_of}
-use Rattle.slate_txn.specs.Named.{find_named, update_named}
+use Rattle.slate_txn.specs.Named.{update_named}
 use Rattle.slate_txn.specs.Open.{Transactions}
 use Rattle.slate_txn.specs.Reads.{key_rows, up_to}
-use Rattle.slate_txn.specs.State.{Tx}
-use Rattle.slate_txn.specs.Step.{noted}
+use Rattle.slate_txn.specs.Step.{Reader, noted, reader}
 use Rattle.slate_txn.specs.Reply.{Found}
 use Rattle.slate_db.specs.declared.engine.Core.TheInside.{Inside}
 use Rattle.slate_db.specs.Meaning.{combine_of, rules_of}
@@ -27,10 +25,9 @@ use Rattle.slate_db.specs.Sound.{IsKept}
 use Rattle.slate_db.specs.Vouched.{IsVouchedFor}
 use Rattle.slate_txn.proofs.NamedLaws.{IsNamed, open_is}
 use Rattle.slate_db.proofs.Notes.{step_get}
-use Rattle.slate_db.proofs.Vouches.{vouched_get}
+use Rattle.slate_db.proofs.Readers.{floor_at, own_at, start_at, vouched_get}
 use Rattle.slate_db.proofs.Wholes.{after_note, whole_note}
 use Rattle.slate_db.proofs.Keeps.{kept_event}
-use Rattle.slate_db.proofs.Seen.{found_all}
 use Rattle.slate_db.proofs.engine.Core.get.Goals as goal
 use Rattle.slate_db.proofs.engine.Core.get.Given as given
 
@@ -96,8 +93,8 @@ returns-in-Err-note_get g c =
 abbrev noted_step : (g : given.Over) → goal.In_default-note_get g → TranscriptStep
 noted_step g c = steps.Get c.args.key.now c.answer-found.result
 
-t_of : (g : given.Over) (c : goal.In_default-note_get g) → IsNamed (find_named c.args.id.now c.args.self.now.state.txns)
-t_of g c = open_is (find_named c.args.id.now c.args.self.now.state.txns) c.requires
+from_is : (g : given.Over) (c : goal.In_default-note_get g) → IsNamed (reader c.args.self.now.state c.args.id.now)
+from_is g c = open_is (reader c.args.self.now.state c.args.id.now) c.requires
 
 becomes : (g : given.Over) (c : goal.In_default-note_get g) → record c.self.inside { transactions = update_named c.args.id.now (λ t. record t { transcript = t.transcript ++ (noted_step g c ∷ []) }) c.self.inside.transactions } ≡ record c.self.inside { transactions = c.note_get.new.self }
 becomes g c = ap (λ (ts : Transactions). record c.self.inside { transactions = ts })
@@ -107,31 +104,22 @@ becomes g c = ap (λ (ts : Transactions). record c.self.inside { transactions = 
 pub invariant_of-self-2 : goal.invariant_of-self-2
 invariant_of-self-2 g c = subst IsWholeInside (becomes g c) (whole_note (view_of c.self.inside) (unseen_of c.self.inside) c.args.id.now (noted_step g c ∷ []) refl c.self.invariant)
 
--- the transaction that reads
-abbrev reader : (g : given.Over) → goal.In_default-note_get g → Tx
-reader g c = (t_of g c).value
+-- who reads
+abbrev who : (g : given.Over) → goal.In_default-note_get g → Reader
+who g c = (from_is g c).value
 
-reader_is : (g : given.Over) (c : goal.In_default-note_get g) → find_named c.args.id.now c.self.inside.transactions ≡ Some (reader g c)
-reader_is g c = ap (λ (v : CoreModel). find_named c.args.id.now v.state.txns) c.self.view_is ∙ (t_of g c).is
-
-begin_is : (g : given.Over) (c : goal.In_default-note_get g) → c.in-Some.at ≡ (reader g c).begin
-begin_is g c = ap (λ (o : Option ℕ). unwrap_or o 0) (c.in-Some.ensures ∙ ap (option_map (λ (t : Tx). t.begin)) (reader_is g c))
+at_is : (g : given.Over) (c : goal.In_default-note_get g) → c.in-Some.at ≡ (who g c).at
+at_is g c = start_at c.self.inside c.args.self.now c.self.view_is c.args.id.now (who g c) (from_is g c).is c.in-Some.at c.in-Some.ensures
 
 from_floor : (g : given.Over) (c : goal.In_default-note_get g) → c.args.self.now.floor ≤ c.in-Some.at
-from_floor g c =
-    subst (λ n. c.args.self.now.floor ≤ n) (sym (begin_is g c))
-    (subst (λ (v : CoreModel). v.floor ≤ (reader g c).begin) c.self.view_is
-    (found_all (λ (t : Tx). (c.self.inside.layers.floor ≤ t.begin) × (t.begin ≤ c.self.inside.log.last)) c.args.id.now c.self.inside.transactions (reader g c) c.self.invariant.tied.begins (reader_is g c)).0)
-
-found_there : (g : given.Over) (c : goal.In_default-note_get g) → find_named c.args.id.now c.args.self.now.state.txns ≡ Some (reader g c)
-found_there g c = ap (λ (v : CoreModel). find_named c.args.id.now v.state.txns) (sym c.self.view_is) ∙ reader_is g c
+from_floor g c = subst (λ n. c.args.self.now.floor ≤ n) (sym (at_is g c)) (floor_at c.self.inside c.args.self.now c.self.view_is c.args.id.now (who g c) (from_is g c).is c.self.invariant)
 
 -- the row that was folded
 abbrev folded : (g : given.Over) → goal.In_default-note_get g → Option RowEntry
 folded g c =
     let m = (reach_of g.S.Store g.M.MergeOperator g.T.BlockTransformer c.args.env.now).meaning in
     let k = c.args.key.now in
-    fold_rows (combine_of m k) (key_rows (rules_of c.args.self.now.settings m) k (up_to (reader g c).begin c.args.self.now.state.commits) ++ map (own_row k) (kept (reader g c).ops k))
+    fold_rows (combine_of m k) (key_rows (rules_of c.args.self.now.settings m) k (up_to (who g c).at c.args.self.now.state.commits) ++ map (own_row k) (kept (who g c).ops k))
 
 row_is : (g : given.Over) (c : goal.In_default-note_get g) → IsAnswered (reach_of g.S.Store g.M.MergeOperator g.T.BlockTransformer c.args.env.now) (reach_of g.S.Store g.M.MergeOperator g.T.BlockTransformer c.seen_by.new.env) c.args.self.now → c.in-Ok.row ≡ folded g c
 row_is g c is =
@@ -139,12 +127,9 @@ row_is g c is =
     let r = rules_of c.args.self.now.settings m in
     let k = c.args.key.now in
     let commits = c.args.self.now.state.commits in
-    (c.in-Ok.ensures.read (t_of g c).value (t_of g c).is).answer is (from_floor g c)
-    ∙ ap (λ (j : List ℕ). fold_rows (combine_of m j) (key_rows r j (up_to c.in-Some.at commits) ++ map (own_row j) (kept (reader g c).ops j))) c.in_ok-key.ensures
-    ∙ ap (λ n. fold_rows (combine_of m k) (key_rows r k (up_to n commits) ++ map (own_row k) (kept (reader g c).ops k))) (begin_is g c)
-
-own_is : (g : given.Over) (c : goal.In_default-note_get g) → (reader g c).ops ≡ own_of (reader g c).transcript
-own_is g c = found_all (λ (t : Tx). t.ops ≡ own_of t.transcript) c.args.id.now c.self.inside.transactions (reader g c) c.self.invariant.tied.own (reader_is g c)
+    (c.in-Ok.ensures.read (who g c) (from_is g c).is).answer is (from_floor g c)
+    ∙ ap (λ (j : List ℕ). fold_rows (combine_of m j) (key_rows r j (up_to c.in-Some.at commits) ++ map (own_row j) (kept (who g c).ops j))) c.in_ok-key.ensures
+    ∙ ap (λ n. fold_rows (combine_of m k) (key_rows r k (up_to n commits) ++ map (own_row k) (kept (who g c).ops k))) (at_is g c)
 
 noted_is : (g : given.Over) (c : goal.In_default-note_get g) → view_of (record c.self.inside { transactions = c.note_get.new.self }) ≡ after_note c.args.self.now c.args.id.now (noted_step g c ∷ [])
 noted_is g c = sym (ap view_of (becomes g c)) ∙ ap (λ v. after_note v c.args.id.now (noted_step g c ∷ [])) c.self.view_is
@@ -158,7 +143,7 @@ returns g c =
             let m = (reach_of g.S.Store g.M.MergeOperator g.T.BlockTransformer c.args.env.now).meaning in
             let r = rules_of c.args.self.now.settings m in
             let k = c.args.key.now in
-            step_get r c.args.self.now.state c.args.id.now k (reader g c) c.in-Ok.row (found_there g c) (row_is g c is)
+            step_get r c.args.self.now.state c.args.id.now k (who g c) c.in-Ok.row (from_is g c).is (row_is g c is)
             ∙ (let a = sym c.answer-found.ensures in λ j. (noted c.args.self.now.state c.args.id.now (steps.Get k (a j) ∷ []), Found (a j)))
             ∙ (let v = sym c.self.view_is in λ j. (noted (v j).state c.args.id.now (noted_step g c ∷ []), Found c.answer-found.result))
             ∙ (λ j. ((view_of (becomes g c j)).state, Found c.answer-found.result)));
@@ -178,7 +163,7 @@ returns g c =
       vouched = (λ is k h.
           let m = (reach_of g.S.Store g.M.MergeOperator g.T.BlockTransformer c.args.env.now).meaning in
           subst (λ (v : CoreModel). IsVouchedFor m v k) (sym (noted_is g c))
-          (vouched_get m c.args.self.now c.args.id.now k c.args.key.now c.answer-found.result (reader g c) (found_there g c) (own_is g c)
+          (vouched_get m c.args.self.now c.args.id.now k c.args.key.now c.answer-found.result (who g c) (from_is g c).is (own_at c.self.inside c.args.self.now c.self.view_is c.args.id.now c.self.invariant)
           (c.answer-found.ensures ∙ ap (λ (row : Option RowEntry). option_map key_value (option_and_then (λ r. hide_tombstone r.value r) row)) (row_is g c is)) h));
       kept = (λ m kept_m.
           subst (λ (s : Inside). IsKept m (view_of s)) (becomes g c)

@@ -1,12 +1,11 @@
-use Rattle.std.proofs.Common.{◌≡◌, ℕ, ◌+◌, ◌<◌, ◌≤◌, map, length, refl, ap, sym, subst, ◌∙◌, arith, append-nil, inl}
+use Rattle.std.proofs.Common.{◌≡◌, ℕ, ◌+◌, ◌<◌, map, length, refl, ap, sym, subst, ◌∙◌, arith, append-nil, inl}
 use Rattle.std.proofs.lemmas.Result.{err_from_is_err_and, IfOk-from_err}
 use Rattle.std.specs.Prelude.{Ok}
-use Rattle.std.specs.List.{AllByRecursion}
 use Rattle.slate_types.proofs.Reaching.{puts_none}
 use Rattle.slate_table.specs.Parts.{Encode}
 use Rattle.slate_table.specs.SectionReading.{changed_by}
 use Rattle.slate_txn.specs.State.{last_of}
-use Rattle.slate_txn.specs.Open.{least_begin}
+use Rattle.slate_txn.specs.Open.{least_start}
 use Rattle.slate_db.specs.declared.engine.Core.TheInside.{Inside}
 use Rattle.slate_db.specs.Flushed.{after_install, layout_of, AreSomeOfFlush, AreTablesOfFlush, CanFlush, MayFlush, MayTakeTables, IsFlushed, TooLarge, stored}
 use Rattle.slate_db.specs.Cut.{AreCut}
@@ -26,19 +25,19 @@ use Rattle.slate_db.proofs.Logs.{has_place}
 use Rattle.slate_db.proofs.Puttings.{adds_installed}
 use Rattle.slate_db.proofs.Runs.{are_placed}
 use Rattle.slate_db.proofs.Calls.{installed_is, layers_installed_of, place_in, room_for_run, room_in_log}
-use Rattle.slate_db.proofs.Wholes.{whole_install, within_newest}
+use Rattle.slate_db.proofs.Wholes.{whole_install}
 use Rattle.slate_db.proofs.engine.Core.install.Goals as goal
+
+-- the barrier
+abbrev start : CoreModel → ℕ
+start c = least_start (last_of c.settings.start_seq c.state.commits) c.state
 
 pub invariant_of-self-2 : goal.invariant_of-self-2
 invariant_of-self-2 g c =
-    subst IsWholeInside (installed_is c.self.inside c.reserve.new.self c.push_install.new.self c.reserve_run.new.self c.install.new.self c.in_ok-put.put.0 c.in_ok-put.put.1 c.barrier-barrier.result (least_begin c.self.inside.log.last c.self.inside.transactions) c.reserve.ensures.value c.push_install.ensures.value c.reserve_run.ensures.value c.install.ensures.value (c.barrier-barrier.ensures ∙ ap (λ n. least_begin n c.self.inside.transactions) (c.last.ensures ∙ ap (λ (l : LogModel). l.last) c.reserve.ensures.value)))
+    subst IsWholeInside (installed_is c.self.inside c.reserve.new.self c.push_install.new.self c.reserve_run.new.self c.install.new.self c.in_ok-put.put.0 c.in_ok-put.put.1 c.barrier-barrier.result (least_start c.self.inside.log.last (view_of c.self.inside).state) c.reserve.ensures.value c.push_install.ensures.value c.reserve_run.ensures.value c.install.ensures.value (c.barrier-barrier.ensures ∙ sym (ap start c.self.view_is) ∙ ap (λ n. least_start n (view_of c.self.inside).state) (sym c.self.invariant.log.last)))
     (whole_install (view_of c.self.inside) (unseen_of c.self.inside) c.in_ok-put.put.0 c.in_ok-put.put.1 c.push_install.new.self.spare c.install.new.self.for_freeze c.install.new.self.for_run c.in_ok-put.ensures.stored.kept
     (subst IsLog (c.push_install.ensures.value ∙ ap (λ (l : LogModel). with_install l c.in_ok-put.put.0 c.push_install.new.self.spare) c.reserve.ensures.value) c.push_install.ensures.whole)
-    (subst AreLayers (c.install.ensures.value ∙ (let y = c.reserve_run.ensures.value in let b = (c.barrier-barrier.ensures ∙ ap (λ n. least_begin n c.self.inside.transactions) (c.last.ensures ∙ ap (λ (l : LogModel). l.last) c.reserve.ensures.value)) in λ i. layers_installed_of (y i) c.in_ok-put.put.1 (b i) c.install.new.self.for_freeze c.install.new.self.for_run)) c.install.ensures.whole) c.self.invariant)
-
-pub barrier-barrier-requires : goal.barrier-barrier-requires
-barrier-barrier-requires g c = subst (λ (n : ℕ). AllByRecursion (λ p. p.1.begin ≤ n) c.self.inside.transactions) (sym (c.last.ensures ∙ ap (λ (l : LogModel). l.last) c.reserve.ensures.value))
-    (within_newest c.self.inside.layers.floor c.self.inside.log.last c.self.inside.transactions c.self.invariant.tied.begins)
+    (subst AreLayers (c.install.ensures.value ∙ (let y = c.reserve_run.ensures.value in let b = (c.barrier-barrier.ensures ∙ sym (ap start c.self.view_is) ∙ ap (λ n. least_start n (view_of c.self.inside).state) (sym c.self.invariant.log.last)) in λ i. layers_installed_of (y i) c.in_ok-put.put.1 (b i) c.install.new.self.for_freeze c.install.new.self.for_run)) c.install.ensures.whole) c.self.invariant)
 
 pub stored-requires : goal.stored-requires
 stored-requires g c = record {
@@ -62,20 +61,20 @@ install-requires g c =
 
 pub returns : goal.returns
 returns g c =
-    let becomes = installed_is c.self.inside c.reserve.new.self c.push_install.new.self c.reserve_run.new.self c.install.new.self c.in_ok-put.put.0 c.in_ok-put.put.1 c.barrier-barrier.result (least_begin c.self.inside.log.last c.self.inside.transactions) c.reserve.ensures.value c.push_install.ensures.value c.reserve_run.ensures.value c.install.ensures.value (c.barrier-barrier.ensures ∙ ap (λ n. least_begin n c.self.inside.transactions) (c.last.ensures ∙ ap (λ (l : LogModel). l.last) c.reserve.ensures.value)) in
+    let becomes = installed_is c.self.inside c.reserve.new.self c.push_install.new.self c.reserve_run.new.self c.install.new.self c.in_ok-put.put.0 c.in_ok-put.put.1 c.barrier-barrier.result (least_start c.self.inside.log.last (view_of c.self.inside).state) c.reserve.ensures.value c.push_install.ensures.value c.reserve_run.ensures.value c.install.ensures.value (c.barrier-barrier.ensures ∙ sym (ap start c.self.view_is) ∙ ap (λ n. least_start n (view_of c.self.inside).state) (sym c.self.invariant.log.last)) in
     let log : c.push_install.new.self ≡ with_install c.self.inside.log c.in_ok-put.put.0 c.push_install.new.self.spare = c.push_install.ensures.value ∙ ap (λ (l : LogModel). with_install l c.in_ok-put.put.0 c.push_install.new.self.spare) c.reserve.ensures.value in
     let encode : Encode = changed_by g.T.BlockTransformer.encoded c.args.env.now.transformer in
-    let made : AreTablesOfFlush (changed_by g.T.BlockTransformer.encoded c.args.env.now.transformer) (layout_of c.args.options.now) (length (runs_of (view_of c.self.inside).events) + 1) (least_begin c.self.inside.log.last (view_of c.self.inside).state.txns) (view_of c.self.inside).frozen c.in_ok-put.put.0 =
+    let made : AreTablesOfFlush (changed_by g.T.BlockTransformer.encoded c.args.env.now.transformer) (layout_of c.args.options.now) (length (runs_of (view_of c.self.inside).events) + 1) (least_start c.self.inside.log.last (view_of c.self.inside).state) (view_of c.self.inside).frozen c.in_ok-put.put.0 =
     moved (λ n b layers. AreTablesOfFlush (changed_by g.T.BlockTransformer.encoded c.args.env.now.transformer) (layout_of c.args.options.now) n b layers c.in_ok-put.put.0)
-    c.next_install-number.result (length (runs_of (view_of c.self.inside).events) + 1) c.barrier-barrier.result (least_begin c.self.inside.log.last (view_of c.self.inside).state.txns) (map (λ t. t.rows) c.frozen.result.now) (view_of c.self.inside).frozen
-    (c.next_install-number.ensures ∙ ap (λ (l : LogModel). l.installs + 1) c.reserve.ensures.value ∙ ap (λ n. n + 1) c.self.invariant.log.installs) (c.barrier-barrier.ensures ∙ ap (λ n. least_begin n c.self.inside.transactions) (c.last.ensures ∙ ap (λ (l : LogModel). l.last) c.reserve.ensures.value)) (c.frozen.ensures ∙ ap (λ (y : LayersModel). y.frozen) c.reserve_run.ensures.value) c.in_ok-put.ensures.stored.made in
+    c.next_install-number.result (length (runs_of (view_of c.self.inside).events) + 1) c.barrier-barrier.result (least_start c.self.inside.log.last (view_of c.self.inside).state) (map (λ t. t.rows) c.frozen.result.now) (view_of c.self.inside).frozen
+    (c.next_install-number.ensures ∙ ap (λ (l : LogModel). l.installs + 1) c.reserve.ensures.value ∙ ap (λ n. n + 1) c.self.invariant.log.installs) (c.barrier-barrier.ensures ∙ sym (ap start c.self.view_is) ∙ ap (λ n. least_start n (view_of c.self.inside).state) (sym c.self.invariant.log.last)) (c.frozen.ensures ∙ ap (λ (y : LayersModel). y.frozen) c.reserve_run.ensures.value) c.in_ok-put.ensures.stored.made in
     record {
-      newest = c.last-2.ensures ∙ ap (λ (l : LogModel). l.last) log ∙ c.self.invariant.log.last ∙ ap (λ (v : CoreModel). last_of v.settings.start_seq v.state.commits) c.self.view_is;
+      newest = c.last.ensures ∙ ap (λ (l : LogModel). l.last) log ∙ c.self.invariant.log.last ∙ ap (λ (v : CoreModel). last_of v.settings.start_seq v.state.commits) c.self.view_is;
       installed = (
-          subst (λ (n : ℕ). IsFlushed (changed_by g.T.BlockTransformer.encoded c.args.env.now.transformer) (layout_of c.args.options.now) c.args.self.now (view_of (record c.self.inside { log = c.push_install.new.self; layers = c.install.new.self })) n (g.S.Store.objects c.args.env.now.store.now) (g.S.Store.objects c.stored.new.env.store.now)) (sym (c.last-2.ensures ∙ ap (λ (l : LogModel). l.last) log))
+          subst (λ (n : ℕ). IsFlushed (changed_by g.T.BlockTransformer.encoded c.args.env.now.transformer) (layout_of c.args.options.now) c.args.self.now (view_of (record c.self.inside { log = c.push_install.new.self; layers = c.install.new.self })) n (g.S.Store.objects c.args.env.now.store.now) (g.S.Store.objects c.stored.new.env.store.now)) (sym (c.last.ensures ∙ ap (λ (l : LogModel). l.last) log))
           (stored c.in_ok-put.put.0
           (sym (ap view_of becomes) ∙ ap (λ (v : CoreModel). after_install v c.self.inside.log.last c.in_ok-put.put.0 c.push_install.new.self.spare) c.self.view_is)
-          (subst (λ (v : CoreModel). AreTablesOfFlush (changed_by g.T.BlockTransformer.encoded c.args.env.now.transformer) (layout_of c.args.options.now) (length (runs_of v.events) + 1) (least_begin c.self.inside.log.last v.state.txns) v.frozen c.in_ok-put.put.0) c.self.view_is made)
+          (subst (λ (v : CoreModel). AreTablesOfFlush (changed_by g.T.BlockTransformer.encoded c.args.env.now.transformer) (layout_of c.args.options.now) (length (runs_of v.events) + 1) (least_start c.self.inside.log.last v.state) v.frozen c.in_ok-put.put.0) c.self.view_is made)
           c.in_ok-put.ensures.stored.taken));
       acts = (subst (λ (v : CoreModel). AddsTables (tables_of v.events) (tables_of c.push_install.new.self.events) (g.S.Store.acts c.args.env.now.store.now) (g.S.Store.acts c.stored.new.env.store.now)) c.self.view_is
           (adds_installed c.self.inside.log.events c.push_install.new.self.events c.self.inside.log.last c.in_ok-put.put.0 (g.S.Store.acts c.args.env.now.store.now) (g.S.Store.acts c.stored.new.env.store.now)
@@ -116,16 +115,16 @@ returns-in_err-put g c =
       acts = IfOk-from_err c.from_residual-in_err-put.result _ c.from_residual-in_err-put.ensures.0;
       same = rw p.1 (subst (λ (v : CoreModel). IsSame v (view_of (record c.self.inside { log = c.reserve.new.self; layers = c.reserve_run.new.self }))) c.self.view_is (same_room c.self.inside c.reserve.new.self c.reserve_run.new.self c.reserve.ensures.value c.reserve_run.ensures.value));
       refused = (let enc = changed_by g.T.BlockTransformer.encoded c.args.env.now.transformer in
-          let barrier = (c.barrier-barrier.ensures ∙ ap (λ n. least_begin n c.self.inside.transactions) (c.last.ensures ∙ ap (λ (l : LogModel). l.last) c.reserve.ensures.value)) ∙ ap (λ n. least_begin n (view_of c.self.inside).state.txns) c.self.invariant.log.last in
+          let barrier = c.barrier-barrier.ensures ∙ sym (ap start c.self.view_is) in
           rw p.1
           (subst (λ (v : CoreModel). MayFlush enc (layout_of c.args.options.now) v (g.S.Store.objects c.args.env.now.store.now) (g.S.Store.objects c.stored.new.env.store.now)) c.self.view_is
           (moved (λ n b layers. MayTakeTables (AreSomeOfFlush enc (layout_of c.args.options.now) n b layers) (g.S.Store.objects c.args.env.now.store.now) (g.S.Store.objects c.stored.new.env.store.now))
-          c.next_install-number.result (length (runs_of (view_of c.self.inside).events) + 1) c.barrier-barrier.result (least_begin (last_of (view_of c.self.inside).settings.start_seq (view_of c.self.inside).state.commits) (view_of c.self.inside).state.txns) (map (λ t. t.rows) c.frozen.result.now) (view_of c.self.inside).frozen
+          c.next_install-number.result (length (runs_of (view_of c.self.inside).events) + 1) c.barrier-barrier.result (start (view_of c.self.inside)) (map (λ t. t.rows) c.frozen.result.now) (view_of c.self.inside).frozen
           (c.next_install-number.ensures ∙ ap (λ (l : LogModel). l.installs + 1) c.reserve.ensures.value ∙ ap (λ n. n + 1) c.self.invariant.log.installs) barrier (c.frozen.ensures ∙ ap (λ (y : LayersModel). y.frozen) c.reserve_run.ensures.value) c.in_err-put.ensures.refused)));
       kept = (λ m same k.
           kept_same m (view_of c.self.inside) (view_of (record c.self.inside { log = c.reserve.new.self; layers = c.reserve_run.new.self })) (same_room c.self.inside c.reserve.new.self c.reserve_run.new.self c.reserve.ensures.value c.reserve_run.ensures.value) (subst (λ (v : CoreModel). IsKept m v) (sym c.self.view_is) k));
       cause = (let layout = layout_of c.args.options.now in
-          let barrier = (c.barrier-barrier.ensures ∙ ap (λ n. least_begin n c.self.inside.transactions) (c.last.ensures ∙ ap (λ (l : LogModel). l.last) c.reserve.ensures.value)) ∙ ap (λ n. least_begin n (view_of c.self.inside).state.txns) c.self.invariant.log.last in
+          let barrier = c.barrier-barrier.ensures ∙ sym (ap start c.self.view_is) in
           rw (p.1, p.2)
           (last_cause (λ large. subst (λ (v : CoreModel). TooLarge layout v c.in_err-put.field-0.0) c.self.view_is
           (too_large_is layout (view_of c.self.inside) c.barrier-barrier.result (map (λ t. t.rows) c.frozen.result.now) large.0 c.in_err-put.field-0.0

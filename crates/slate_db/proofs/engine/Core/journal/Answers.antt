@@ -1,10 +1,11 @@
-use Rattle.std.proofs.Common.{◌≡◌, ◌≤◌, length, arith, sym, subst, ap, ◌∙◌}
+use Rattle.std.proofs.Common.{◌≡◌, ◌≤◌, arith, sym, subst, ap, ◌∙◌}
 use Rattle.std.specs.List.{AllByRecursion}
 use Rattle.slate_txn.specs.Alone.{own_of}
 use Rattle.slate_txn.specs.Reads.{up_to}
 use Rattle.slate_txn.specs.State.{last_of}
 use Rattle.slate_txn.specs.Replay.{IsLegal}
 use Rattle.slate_db.specs.Installs.{Replays, installed}
+use Rattle.slate_db.specs.Log.{ends_of}
 use Rattle.slate_db.specs.Model.{CoreModel}
 use Rattle.slate_db.specs.View.{view_of, unseen_of}
 use Rattle.slate_db.specs.Sound.{IsKept, FoldsToState}
@@ -25,8 +26,8 @@ returns-clause-replays c = subst (λ (v : CoreModel). Replays v.events v.state) 
 
 pub returns-clause-room : goal.returns-clause-room
 returns-clause-room c =
-    let room : length (view_of c.self.inside).state.txns ≤ (view_of c.self.inside).spare = omega (arith, ends_are (view_of c.self.inside) (unseen_of c.self.inside) c.self.invariant, c.self.invariant.log.room) in
-    subst (λ (v : CoreModel). length v.state.txns ≤ v.spare) c.self.view_is room
+    let room : ends_of (view_of c.self.inside).state ≤ (view_of c.self.inside).spare = omega (arith, ends_are (view_of c.self.inside) (unseen_of c.self.inside) c.self.invariant, c.self.invariant.log.room) in
+    subst (λ (v : CoreModel). ends_of v.state ≤ v.spare) c.self.view_is room
 
 pub returns-clause-flushed : goal.returns-clause-flushed
 returns-clause-flushed c = subst (λ (v : CoreModel). up_to v.state.flushed v.state.commits ≡ up_to (installed v.events) v.state.commits) c.self.view_is c.self.invariant.log.flushed_through
@@ -38,6 +39,9 @@ returns-clause-floor c =
 
 pub returns-clause-begins : goal.returns-clause-begins
 returns-clause-begins c = subst (λ (v : CoreModel). AllByRecursion (λ p. v.floor ≤ p.1.begin) v.state.txns) c.self.view_is (all_map _ _ (λ p h. h.0) c.self.inside.transactions c.self.invariant.tied.begins)
+
+pub returns-clause-shows : goal.returns-clause-shows
+returns-clause-shows c = subst (λ (v : CoreModel). AllByRecursion (λ p. v.floor ≤ p.1) v.state.snapshots) c.self.view_is (all_map _ _ (λ p h. h.0) c.self.inside.snapshots.active c.self.invariant.tied.shows)
 
 pub returns-clause-own : goal.returns-clause-own
 returns-clause-own c = subst (λ (v : CoreModel). AllByRecursion (λ p. p.1.ops ≡ own_of p.1.transcript) v.state.txns) c.self.view_is c.self.invariant.tied.own

@@ -1,15 +1,13 @@
-use Rattle.std.proofs.Common.{inl, ◌≡◌, ◌<◌, [], ◌∷◌, ◌++◌, count_by, drop, Some, refl, ap, sym, subst, ◌∙◌}
-use Rattle.std.specs.Prelude.{IsSome}
-use Rattle.std.proofs.lemmas.Option.{same_Some}
+use Rattle.std.proofs.Common.{inl, ◌≡◌, [], ◌∷◌, ◌++◌, drop, refl, ap, sym, subst, ◌∙◌}
 use Rattle.slate_types.specs.Outside.{IsCounted}
 use Rattle.slate_store.specs.Reach.{reach_of}
 use Rattle.slate_txn.specs.declared.event.TranscriptStep.{TranscriptStep}
 use Rattle.slate_txn.specs.declared.event.TranscriptStep.TheVariants as steps
 use Rattle.slate_txn.specs.Named.{find_named, update_named}
 use Rattle.slate_txn.specs.Open.{Transactions}
-use Rattle.slate_txn.specs.State.{Tx}
-use Rattle.slate_txn.specs.Step.{is_scan, noted}
+use Rattle.slate_txn.specs.Step.{noted}
 use Rattle.slate_db.specs.declared.engine.Core.TheInside.{Inside}
+use Rattle.slate_db.specs.declared.scan.DbIterator.{DbIterator}
 use Rattle.slate_db.specs.Model.{CoreModel}
 use Rattle.slate_db.specs.Scans.{HasLeft}
 use Rattle.slate_db.specs.View.{view_of, unseen_of, IsWholeInside}
@@ -17,6 +15,7 @@ use Rattle.slate_db.specs.Sound.{IsKept}
 use Rattle.slate_db.specs.Vouched.{IsVouchedFor}
 use Rattle.slate_db.proofs.Keeps.{kept_event}
 use Rattle.slate_db.proofs.ScanNotes.{next_left, vouched_next}
+use Rattle.slate_db.proofs.ScanStates.{answered_once}
 use Rattle.slate_db.proofs.Wholes.{after_note, whole_note}
 use Rattle.slate_db.proofs.engine.Core.next.Goals as goal
 use Rattle.slate_db.proofs.engine.Core.next.Given as given
@@ -26,13 +25,7 @@ unnoted : (s : Inside) (ts : Transactions) → ts ≡ s.transactions → record 
 unnoted s ts same = ap (λ (us : Transactions). record s { transactions = us }) same
 
 pub note_next-requires : goal.note_next-requires
-note_next-requires g c =
-    let id = c.args.it.now.id in
-    let found : find_named id c.self.inside.transactions ≡ Some c.requires.0 = ap (λ (v : CoreModel). find_named id v.state.txns) c.self.view_is ∙ c.requires.1 in
-    record {
-      is_open = subst IsSome (sym found) refl;
-      opened = λ t e. subst (λ (u : Tx). c.args.it.now.scan < count_by is_scan u.transcript) (same_Some c.requires.0 t (sym found ∙ e)) c.requires.2;
-    }
+note_next-requires g c = λ t found. c.requires.1 t (ap (λ (v : CoreModel). find_named c.args.it.now.id v.state.txns) (sym c.self.view_is) ∙ found)
 
 pub invariant_of-self : goal.invariant_of-self
 invariant_of-self g c = subst IsWholeInside (sym (unnoted c.self.inside c.note_next.new.self c.in-Err-note_next.ensures.err)) c.self.invariant
@@ -48,6 +41,7 @@ returns-in-Err g c =
       later = tt;
       cause = n.cause;
       again = n.again;
+      refused = λ kept was. let r = n.refused kept was in (r.0, ap (λ (d : DbIterator). record c.args.it.now { rows = d }) r.1, r.2);
       names = record { named = refl; number = refl; ordered = n.order; ranged = n.range };
       left = λ m rows h. tt;
       vouched = λ w rows h sees left. tt;
@@ -69,7 +63,8 @@ returns-in-Err-note_next g c =
       checked = λ w rows h. tt;
       later = tt;
       cause = (n.later.0, n.later.1, inl (subst (IsCounted _ _) (sym (r.same ∙ c.from.ensures)) tt));
-      again = rw r.same r.again;
+      again = λ unrefused. rw r.same r.again;
+      refused = λ kept was. answered_once c.in-Ok.answer kept (n.refused kept was).0;
       names = record { named = refl; number = refl; ordered = r.order ∙ n.order; ranged = r.range ∙ n.range };
       left = λ m rows h. tt;
       vouched = λ w rows h sees left. tt;
@@ -104,7 +99,8 @@ returns g c =
       checked = n.checked;
       later = n.later;
       cause = tt;
-      again = tt;
+      again = λ unrefused. tt;
+      refused = λ kept was. answered_once c.in-Ok.answer kept (n.refused kept was).0;
       names = record { named = refl; number = refl; ordered = n.order; ranged = n.range };
       left = λ p rows h. subst (λ (v : CoreModel). HasLeft p v (record it { rows = c.next.new.self }) (drop 1 rows)) (sym (noted_is g c))
           (next_left p c.args.self.now it (record it { rows = c.next.new.self }) c.in-Ok.answer rows refl refl n.order h);

@@ -7,15 +7,15 @@ use Rattle.slate_types.specs.World.{Made, World}
 use Rattle.slate_types.proofs.Exits.{err_exit}
 use Rattle.slate_types.proofs.Reaching.{reads_none}
 use Rattle.slate_store.specs.Reach.{reach_of}
-use Rattle.slate_txn.specs.Named.{find_named}
 use Rattle.slate_txn.specs.Reads.{rows_seen}
-use Rattle.slate_txn.specs.State.{Tx}
+use Rattle.slate_txn.specs.Step.{Reader, reader}
 use Rattle.slate_txn.proofs.NamedLaws.{open_is}
 use Rattle.slate_db.specs.Meaning.{rules_of}
 use Rattle.slate_db.specs.Model.{CoreModel}
 use Rattle.slate_db.specs.Readable.{IsAnswered}
-use Rattle.slate_db.specs.Scans.{IsFor, IsRefusedByScan, IsScanError, IsWorldOf, Leaves, ScanRefuses}
+use Rattle.slate_db.specs.Scans.{IsFor, IsOpeningError, IsRefusedByScan, IsWorldOf, Leaves, ScanRefuses}
 use Rattle.slate_db.specs.View.{unseen_of, view_of}
+use Rattle.slate_db.proofs.Readers.{own_range_of, plain_of}
 use Rattle.slate_db.proofs.ScanMerges.{opening_refused, scan_is_for, scan_leaves, scan_refused, scan_undamaged}
 use Rattle.slate_db.proofs.engine.Core.opened.Goals as goal
 
@@ -28,23 +28,24 @@ returns g c =
     let x = unseen_of c.self.inside in
     let order = c.args.how.order in
     let own = c.in_ok-own.ensures in
-    let there : (t : Tx) → find_named c.args.id.now c.args.self.now.state.txns ≡ Some t → find_named c.args.id.now c.self.inside.transactions ≡ Some t = λ t found. ap (λ (u : CoreModel). find_named c.args.id.now u.state.txns) c.self.view_is ∙ found in
-    let t : Tx = (open_is (find_named c.args.id.now c.args.self.now.state.txns) c.requires.open).value in
-    let found : find_named c.args.id.now c.args.self.now.state.txns ≡ Some t = (open_is (find_named c.args.id.now c.args.self.now.state.txns) c.requires.open).is in
-    let are = c.in_ok-sources.ensures.sources t.ops (record { rows = own.rows t (there t found); in_order = own.in_order; turn = own.turn; same_order = own.order }) in
+    let own_rows = c.in_ok-own.own.rows in
+    let there : (from : Reader) → reader c.args.self.now.state c.args.id.now ≡ Some from → reader v.state c.args.id.now ≡ Some from = λ from found. ap (λ (u : CoreModel). reader u.state c.args.id.now) c.self.view_is ∙ found in
+    let from : Reader = (open_is (reader c.args.self.now.state c.args.id.now) c.requires.open).value in
+    let found : reader c.args.self.now.state c.args.id.now ≡ Some from = (open_is (reader c.args.self.now.state c.args.id.now) c.requires.open).is in
+    let are = c.in_ok-sources.ensures.sources from.ops (record { rows = own_range_of v.state c.args.id.now from (there from found) c.args.range own_rows own.rows own.none; in_order = own.in_order; turn = own.turn; same_order = own.order }) in
     let rows = c.in_ok-rows.ensures in
     let made = c.new.ensures in
     record {
       opened = λ u at. subst (λ (k : CoreModel). k.floor ≤ c.args.begin → (a : IsAnswered before after k) → (w : World) × IsWorldOf a.os m w × Leaves c.new.result w (rows_seen (rules_of k.settings m) k.state.commits c.args.begin u.ops order c.args.range)) c.self.view_is
-          (λ from a.
-          let mine = c.in_ok-sources.ensures.sources u.ops (record { rows = own.rows u (there u at); in_order = own.in_order; turn = own.turn; same_order = own.order }) in
-          scan_leaves before after v x c.self.invariant c.args.range order c.args.begin u.ops (c.own_range.ensures.plain u (there u at)) from c.in_ok-sources.sources.items mine a
+          (λ above a.
+          let mine = c.in_ok-sources.ensures.sources u.ops (record { rows = own_range_of v.state c.args.id.now u (there u at) c.args.range own_rows own.rows own.none; in_order = own.in_order; turn = own.turn; same_order = own.order }) in
+          scan_leaves before after v x c.self.invariant c.args.range order c.args.begin u.ops (plain_of v.state c.args.id.now u (there u at) c.own_range.ensures.plain) above c.in_ok-sources.sources.items mine a
           c.in_ok-rows.rows c.new.result made.state made.range made.order rows.same.0 rows.sound rows.rows rows.later.0 rows.later.2);
       later = subst (λ (k : CoreModel). IsFor m c.new.result × Made before after (λ reads. (later : List Act) (at : Option (List ℕ)) (e : SlateDBError) → ScanRefuses c.new.result m later at e → IsRefusedByScan m k (reads ++ later) e)) c.self.view_is (
-        scan_is_for m v x c.self.invariant c.args.range order c.args.begin t.ops _ c.in_ok-sources.sources.items are c.in_ok-rows.rows c.new.result rows.later.0 made.state made.range rows.later.2,
-        (rows.later.0, rows.later.1, scan_refused m v x c.self.invariant c.args.range order c.args.begin t.ops _ c.in_ok-sources.sources.items are c.in_ok-rows.rows c.new.result rows.later.0 made.state made.range rows.later.2),
+        scan_is_for m v x c.self.invariant c.args.range order c.args.begin from.ops _ c.in_ok-sources.sources.items are c.in_ok-rows.rows c.new.result rows.later.0 made.state made.range rows.later.2,
+        (rows.later.0, rows.later.1, scan_refused m v x c.self.invariant c.args.range order c.args.begin from.ops _ c.in_ok-sources.sources.items are c.in_ok-rows.rows c.new.result rows.later.0 made.state made.range rows.later.2),
       );
-      undamaged = λ from a. tt;
+      undamaged = λ above a. tt;
       cause = tt;
       range = made.range;
       order = made.order;
@@ -86,20 +87,21 @@ returns-in_err-rows g c =
     let x = unseen_of c.self.inside in
     let order = c.args.how.order in
     let own = c.in_ok-own.ensures in
+    let own_rows = c.in_ok-own.own.rows in
     let e = c.in_err-rows.field-0.0 in
-    let t : Tx = (open_is (find_named c.args.id.now c.args.self.now.state.txns) c.requires.open).value in
-    let found : find_named c.args.id.now c.args.self.now.state.txns ≡ Some t = (open_is (find_named c.args.id.now c.args.self.now.state.txns) c.requires.open).is in
-    let there : find_named c.args.id.now c.self.inside.transactions ≡ Some t = ap (λ (u : CoreModel). find_named c.args.id.now u.state.txns) c.self.view_is ∙ found in
-    let are = c.in_ok-sources.ensures.sources t.ops (record { rows = own.rows t there; in_order = own.in_order; turn = own.turn; same_order = own.order }) in
+    let from : Reader = (open_is (reader c.args.self.now.state c.args.id.now) c.requires.open).value in
+    let found : reader c.args.self.now.state c.args.id.now ≡ Some from = (open_is (reader c.args.self.now.state c.args.id.now) c.requires.open).is in
+    let there : reader v.state c.args.id.now ≡ Some from = ap (λ (u : CoreModel). reader u.state c.args.id.now) c.self.view_is ∙ found in
+    let are = c.in_ok-sources.ensures.sources from.ops (record { rows = own_range_of v.state c.args.id.now from there c.args.range own_rows own.rows own.none; in_order = own.in_order; turn = own.turn; same_order = own.order }) in
     record {
-      opened = λ u at from a. IfOk-from_err c.from_residual-in_err-rows.result _ c.from_residual-in_err-rows.ensures.0;
+      opened = λ u at above a. IfOk-from_err c.from_residual-in_err-rows.result _ c.from_residual-in_err-rows.ensures.0;
       later = IfOk-from_err c.from_residual-in_err-rows.result _ c.from_residual-in_err-rows.ensures.0;
-      undamaged = λ from a. err_exit c.from_residual-in_err-rows.result _ c.from_residual-in_err-rows.ensures.1 _
+      undamaged = λ above a. err_exit c.from_residual-in_err-rows.result _ c.from_residual-in_err-rows.ensures.1 _
           (subst (λ (k : CoreModel). k.floor ≤ c.args.begin → IsAnswered before after k → IsFault before after e) c.self.view_is
-          (λ f b. scan_undamaged before after v x c.self.invariant c.args.range order c.args.begin t.ops (c.own_range.ensures.plain t there) f c.in_ok-sources.sources.items are b e c.in_err-rows.ensures.cause) from a);
+          (λ f b. scan_undamaged before after v x c.self.invariant c.args.range order c.args.begin from.ops (plain_of v.state c.args.id.now from there c.own_range.ensures.plain) f c.in_ok-sources.sources.items are b e c.in_err-rows.ensures.cause) above a);
       cause = err_exit c.from_residual-in_err-rows.result _ c.from_residual-in_err-rows.ensures.1 _
-          (subst (λ (k : CoreModel). IsScanError before after k e) c.self.view_is
-          (opening_refused m v x c.self.invariant c.args.range order c.args.begin t.ops _ c.in_ok-sources.sources.items are before after e refl c.in_err-rows.ensures.cause));
+          (subst (λ (k : CoreModel). IsOpeningError before after k e) c.self.view_is
+          (opening_refused m v x c.self.invariant c.args.range order c.args.begin from.ops _ c.in_ok-sources.sources.items are before after e refl c.in_err-rows.ensures.cause));
       range = IfOk-from_err c.from_residual-in_err-rows.result _ c.from_residual-in_err-rows.ensures.0;
       order = IfOk-from_err c.from_residual-in_err-rows.result _ c.from_residual-in_err-rows.ensures.0;
       reads = c.merged.ensures.reads;

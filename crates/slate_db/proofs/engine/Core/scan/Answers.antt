@@ -1,5 +1,5 @@
-use Rattle.std.proofs.Common.{inl, inr, ◌≡◌, ◌≤◌, ℕ, [], ◌∷◌, ◌++◌, List, Option, Some, None, unwrap_or, option_map, refl, ap, sym, subst, ◌∙◌}
-use Rattle.std.specs.Prelude.{count_by, slice_get}
+use Rattle.std.proofs.Common.{inl, inr, ◌≡◌, ◌≤◌, ℕ, [], ◌∷◌, ◌++◌, List, Some, refl, ap, sym, subst, ◌∙◌}
+use Rattle.std.specs.Prelude.{Ok, slice_get}
 use Rattle.std.proofs.lemmas.Result.{IfOk-from_err, err_from_is_err_and}
 use Rattle.slate_types.specs.declared.bytes_range.BytesRange.{BytesRange}
 use Rattle.slate_types.specs.declared.error.SlateDBError.{SlateDBError}
@@ -12,14 +12,14 @@ use Rattle.slate_types.proofs.Reaching.{reads_none}
 use Rattle.slate_store.specs.Reach.{reach_of}
 use Rattle.slate_txn.specs.declared.event.TranscriptStep.{TranscriptStep}
 use Rattle.slate_txn.specs.declared.event.TranscriptStep.TheVariants as steps
-use Rattle.slate_txn.specs.Alone.{own_of, scans_left}
+use Rattle.slate_txn.specs.Alone.{scans_left}
 use Rattle.slate_txn.specs.Named.{find_named, update_named}
 use Rattle.slate_txn.specs.Open.{Transactions}
 use Rattle.slate_txn.specs.Reads.{rows_seen}
 use Rattle.slate_txn.specs.Reply.{RowsAre}
 use Rattle.slate_txn.specs.State.{Tx}
-use Rattle.slate_txn.specs.Step.{is_scan, noted}
-use Rattle.slate_txn.proofs.NamedLaws.{IsNamed, open_is}
+use Rattle.slate_txn.specs.Step.{Reader, noted, reader}
+use Rattle.slate_txn.proofs.NamedLaws.{open_is}
 use Rattle.slate_db.specs.declared.engine.Core.TheInside.{Inside}
 use Rattle.slate_db.specs.Meaning.{Meaning, rules_of}
 use Rattle.slate_db.specs.Model.{CoreModel}
@@ -29,8 +29,8 @@ use Rattle.slate_db.specs.Sound.{IsKept}
 use Rattle.slate_db.specs.View.{view_of, unseen_of, IsWholeInside}
 use Rattle.slate_db.specs.Vouched.{IsVouchedFor}
 use Rattle.slate_db.proofs.Keeps.{kept_event}
-use Rattle.slate_db.proofs.OpenNotes.{begin_at, floor_at, noted_left, own_at, step_scan, there, vouched_scan}
-use Rattle.slate_db.proofs.Seen.{found_all}
+use Rattle.slate_db.proofs.OpenNotes.{step_scan, vouched_scan}
+use Rattle.slate_db.proofs.Readers.{floor_at, own_at, scan_left, scans_of, start_at}
 use Rattle.slate_db.proofs.Wholes.{after_note, whole_note}
 use Rattle.slate_db.proofs.engine.Core.scan.Goals as goal
 use Rattle.slate_db.proofs.engine.Core.scan.Given as given
@@ -45,9 +45,9 @@ returns-in_err-how g c =
     record {
       noted = rw p.1 tt;
       step = rw p.1 tt;
-      names = λ t found. IfOk-from_err c.from_residual.result _ c.from_residual.ensures.0;
-      opened = λ t found a. IfOk-from_err c.from_residual.result _ c.from_residual.ensures.0;
-      left = λ t found. IfOk-from_err c.from_residual.result _ c.from_residual.ensures.0;
+      names = λ from found. IfOk-from_err c.from_residual.result _ c.from_residual.ensures.0;
+      opened = λ from found a. IfOk-from_err c.from_residual.result _ c.from_residual.ensures.0;
+      left = λ from found. IfOk-from_err c.from_residual.result _ c.from_residual.ensures.0;
       later = IfOk-from_err c.from_residual.result _ c.from_residual.ensures.0;
       undamaged = λ a. err_exit c.from_residual.result _ c.from_residual.ensures.1 _ (subst (IsFault (reach_of g.S.Store g.M.MergeOperator g.T.BlockTransformer c.args.env.now) (reach_of g.S.Store g.M.MergeOperator g.T.BlockTransformer c.args.env.now)) (sym c.in_err-how.ensures.cause) tt);
       cause = err_exit c.from_residual.result _ c.from_residual.ensures.1 _ (inl (subst (IsFault (reach_of g.S.Store g.M.MergeOperator g.T.BlockTransformer c.args.env.now) (reach_of g.S.Store g.M.MergeOperator g.T.BlockTransformer c.args.env.now)) (sym c.in_err-how.ensures.cause) tt));
@@ -61,18 +61,18 @@ returns-in_err-how g c =
 pub returns-in_err-rows : goal.returns-in_err-rows
 returns-in_err-rows g c =
     let p = err_from_is_err_and c.from_residual-in_err-rows.result c.from_residual-in_err-rows.ensures.1 in
-    let t : Tx = (open_is (find_named c.args.id.now c.args.self.now.state.txns) c.requires.open).value in
-    let found : find_named c.args.id.now c.args.self.now.state.txns ≡ Some t = (open_is (find_named c.args.id.now c.args.self.now.state.txns) c.requires.open).is in
-    let begins : c.in-Some.begin ≡ t.begin = begin_at c.self.inside c.args.self.now c.self.view_is c.args.id.now t found c.in-Some.begin c.in-Some.ensures in
-    let from : c.args.self.now.floor ≤ c.in-Some.begin = subst (λ (n : ℕ). c.args.self.now.floor ≤ n) (sym begins) (floor_at c.self.inside c.args.self.now c.self.view_is c.args.id.now t found c.self.invariant) in
+    let from : Reader = (open_is (reader c.args.self.now.state c.args.id.now) c.requires.open).value in
+    let found : reader c.args.self.now.state c.args.id.now ≡ Some from = (open_is (reader c.args.self.now.state c.args.id.now) c.requires.open).is in
+    let begins : c.in-Some.begin ≡ from.at = start_at c.self.inside c.args.self.now c.self.view_is c.args.id.now from found c.in-Some.begin c.in-Some.ensures in
+    let above : c.args.self.now.floor ≤ c.in-Some.begin = subst (λ (n : ℕ). c.args.self.now.floor ≤ n) (sym begins) (floor_at c.self.inside c.args.self.now c.self.view_is c.args.id.now from found c.self.invariant) in
     record {
       noted = rw p.1 tt;
       step = rw p.1 tt;
-      names = λ t found. IfOk-from_err c.from_residual-in_err-rows.result _ c.from_residual-in_err-rows.ensures.0;
-      opened = λ t found a. IfOk-from_err c.from_residual-in_err-rows.result _ c.from_residual-in_err-rows.ensures.0;
-      left = λ t found. IfOk-from_err c.from_residual-in_err-rows.result _ c.from_residual-in_err-rows.ensures.0;
+      names = λ from found. IfOk-from_err c.from_residual-in_err-rows.result _ c.from_residual-in_err-rows.ensures.0;
+      opened = λ from found a. IfOk-from_err c.from_residual-in_err-rows.result _ c.from_residual-in_err-rows.ensures.0;
+      left = λ from found. IfOk-from_err c.from_residual-in_err-rows.result _ c.from_residual-in_err-rows.ensures.0;
       later = IfOk-from_err c.from_residual-in_err-rows.result _ c.from_residual-in_err-rows.ensures.0;
-      undamaged = λ a. err_exit c.from_residual-in_err-rows.result _ c.from_residual-in_err-rows.ensures.1 _ (c.in_err-rows.ensures.undamaged from a);
+      undamaged = λ a. err_exit c.from_residual-in_err-rows.result _ c.from_residual-in_err-rows.ensures.1 _ (c.in_err-rows.ensures.undamaged above a);
       cause = err_exit c.from_residual-in_err-rows.result _ c.from_residual-in_err-rows.ensures.1 _ c.in_err-rows.ensures.cause;
       vouched = rw p.1 tt;
       same = rw p.1 refl;
@@ -88,9 +88,9 @@ pub returns-in-Err : goal.returns-in-Err
 returns-in-Err g c = record {
   noted = tt;
   step = tt;
-  names = λ t found. tt;
-  opened = λ t found a. tt;
-  left = λ t found. tt;
+  names = λ from found. tt;
+  opened = λ from found a. tt;
+  left = λ from found. tt;
   later = tt;
   undamaged = λ a. subst (IsCounted _ _) (sym c.from.ensures) tt;
   cause = inl (subst (IsCounted _ _) (sym c.from.ensures) tt);
@@ -119,6 +119,11 @@ noted_is g c = sym (ap view_of (becomes g c)) ∙ ap (λ v. after_note v c.args.
 pub invariant_of-self-2 : goal.invariant_of-self-2
 invariant_of-self-2 g c = subst IsWholeInside (becomes g c) (whole_note (view_of c.self.inside) (unseen_of c.self.inside) c.args.id.now (opening g c ∷ []) refl c.self.invariant)
 
+number_is : (g : given.Over) (c : goal.After-id-1 g) → (from : Reader) → reader c.args.self.now.state c.args.id.now ≡ Some from → c.in-Ok.scan ≡ from.scans
+number_is g c from found =
+    scans_of (view_of c.self.inside).state c.args.id.now from (ap (λ (v : CoreModel). reader v.state c.args.id.now) c.self.view_is ∙ found) c.in-Ok.scan
+    c.in-Ok.ensures.number (λ none. let e : Ok c.in-Ok.scan ≡ Ok 0 = c.in-Ok.ensures.none none in cc)
+
 pub returns : goal.returns
 returns g c =
     let before = reach_of g.S.Store g.M.MergeOperator g.T.BlockTransformer c.args.env.now in
@@ -134,18 +139,17 @@ returns g c =
     let how = c.in_ok-how.ensures.order in
     record {
       noted = noted_is g c;
-      step = λ k. step_scan (rules_of old.settings k) old.state id order range (open_is (find_named id old.state.txns) c.requires.open).value (open_is (find_named id old.state.txns) c.requires.open).is c.requires.range
+      step = λ k. step_scan (rules_of old.settings k) old.state id order range (open_is (reader old.state id) c.requires.open).value (open_is (reader old.state id) c.requires.open).is c.requires.range
           ∙ ap (λ (v : CoreModel). (v.state, RowsAre [])) (sym (noted_is g c));
-      names = λ t found. record { named = refl; number = c.in-Ok.ensures.number t (there s old c.self.view_is id t found); ordered = e.order ∙ how; ranged = e.range };
-      opened = (λ t found a.
-          let begins : c.in-Some.begin ≡ t.begin = begin_at s old c.self.view_is id t found c.in-Some.begin c.in-Some.ensures in
-          let from : old.floor ≤ c.in-Some.begin = subst (λ (n : ℕ). old.floor ≤ n) (sym begins) (floor_at s old c.self.view_is id t found c.self.invariant) in
-          subst (λ (o : IterationOrder). (w : World) × IsWorldOf a.os m w × Leaves rows w (rows_seen (rules_of old.settings m) old.state.commits t.begin t.ops o range)) how
-          (subst (λ (n : ℕ). (w : World) × IsWorldOf a.os m w × Leaves rows w (rows_seen (rules_of old.settings m) old.state.commits n t.ops c.in_ok-how.how.order range)) begins (e.opened t found from a)));
-      left = λ t found. subst (λ (k : CoreModel). (u : Tx) → find_named id k.state.txns ≡ Some u → slice_get (scans_left (rules_of k.settings m) k.state.commits u.begin u.transcript) c.in-Ok.scan ≡ Some (rows.order, rows_seen (rules_of old.settings m) old.state.commits t.begin t.ops order range)) (sym (noted_is g c))
-          (λ u at. ap (slice_get (scans_left (rules_of old.settings m) old.state.commits u.begin u.transcript)) (c.in-Ok.ensures.number t (there s old c.self.view_is id t found))
-          ∙ noted_left m old id order range t u found (own_at s old c.self.view_is id t found c.self.invariant) at
-          ∙ ap (λ (o : IterationOrder). Some (o, rows_seen (rules_of old.settings m) old.state.commits t.begin t.ops order range)) (sym (e.order ∙ how)));
+      names = λ from found. record { named = refl; number = number_is g c from found; ordered = e.order ∙ how; ranged = e.range };
+      opened = (λ from found a.
+          let begins : c.in-Some.begin ≡ from.at = start_at s old c.self.view_is id from found c.in-Some.begin c.in-Some.ensures in
+          let above : old.floor ≤ c.in-Some.begin = subst (λ (n : ℕ). old.floor ≤ n) (sym begins) (floor_at s old c.self.view_is id from found c.self.invariant) in
+          subst (λ (o : IterationOrder). (w : World) × IsWorldOf a.os m w × Leaves rows w (rows_seen (rules_of old.settings m) old.state.commits from.at from.ops o range)) how
+          (subst (λ (n : ℕ). (w : World) × IsWorldOf a.os m w × Leaves rows w (rows_seen (rules_of old.settings m) old.state.commits n from.ops c.in_ok-how.how.order range)) begins (e.opened from found above a)));
+      left = λ from found. subst (λ (k : CoreModel). (u : Tx) → find_named id k.state.txns ≡ Some u → slice_get (scans_left (rules_of k.settings m) k.state.commits u.begin u.transcript) c.in-Ok.scan ≡ Some (rows.order, rows_seen (rules_of old.settings m) old.state.commits from.at from.ops order range)) (sym (noted_is g c))
+          (λ u at. scan_left m old id order range from c.in-Ok.scan found (number_is g c from found) (own_at s old c.self.view_is id c.self.invariant) u at
+          ∙ ap (λ (o : IterationOrder). Some (o, rows_seen (rules_of old.settings m) old.state.commits from.at from.ops order range)) (sym (e.order ∙ how)));
       later = e.later;
       undamaged = λ a. tt;
       cause = tt;

@@ -1,6 +1,5 @@
-use Rattle.std.proofs.Common.{◌≡◌, ℕ, ◌+◌, ◌-◌, ◌^◌, ◌<◌, ◌≤◌, ◌++◌, ◌∷◌, [], List, Option, Some, ℤ, refl, ap, sym, subst, ◌∙◌, arith, inr, true, false, w64, inl, length, true≢false, Err}
+use Rattle.std.proofs.Common.{◌≡◌, ℕ, ◌+◌, ◌-◌, ◌^◌, ◌<◌, ◌≤◌, ◌++◌, ◌∷◌, [], List, Option, Some, ℤ, refl, ap, sym, subst, ◌∙◌, arith, inr, true, false, w64, inl, true≢false, Err}
 use Rattle.std.proofs.lemmas.Result.{IfOk-from_err, err_from_is_err_and}
-use Rattle.std.specs.Prelude.{sum_by}
 use Rattle.std.specs.List.{AllByRecursion}
 use Rattle.std.proofs.lemmas.Int.{to_z-of_z}
 use Rattle.slate_txn.specs.State.{last_of}
@@ -13,14 +12,14 @@ use Rattle.slate_txn.specs.declared.line.Line.TheVariants as lines
 use Rattle.slate_txn.specs.Reply.{Written, Refused}
 use Rattle.slate_txn.specs.Step.{step}
 use Rattle.slate_db.specs.declared.engine.Core.TheInside.{Inside}
-use Rattle.slate_db.specs.Load.{load, ops_load, rows_load}
+use Rattle.slate_db.specs.Load.{load, ops_load}
 use Rattle.slate_db.specs.Meaning.{rules_of, combine_of}
-use Rattle.slate_db.specs.Model.{CoreModel, Rows, at, versions, versions_in, memory, IsSame}
+use Rattle.slate_db.specs.Model.{CoreModel, Rows, at, versions, versions_in, IsSame}
 use Rattle.slate_db.specs.View.{view_of, unseen_of, IsWholeInside}
 use Rattle.slate_db.specs.Sound.{IsKept}
 use Rattle.slate_db.specs.Vouched.{IsVouchedFor}
 use Rattle.slate_db.specs.Layers.{AreLayers, LayersModel, FitsMemory, AreRising}
-use Rattle.slate_db.specs.Log.{LIMIT, IsLog, LogModel, IsWhollyKept, held_by, with_write}
+use Rattle.slate_db.specs.Log.{IsLog, LogModel, IsWhollyKept, with_write}
 use Rattle.slate_db.specs.Written.{after_write}
 use Rattle.slate_db.proofs.Keeps.{room_made}
 use Rattle.slate_db.proofs.Calls.{none_left, past_place, placed, room_in_log, written_is}
@@ -38,7 +37,7 @@ use Rattle.slate_db.proofs.Writes.{kept_write}
 use Rattle.slate_db.proofs.engine.Core.write.Goals as goal
 
 pub returns-then-is_empty : goal.returns-then-is_empty
-returns-then-is_empty c =
+returns-then-is_empty g c =
     record {
       step = (λ m ops of fine.
           step_nothing (rules_of c.args.self.now.settings m) (at c.args.now c.args.self.now.state) ops c.args.batch of (c.is_empty.ensures.0 c.if-is_empty.true));
@@ -55,7 +54,7 @@ returns-then-is_empty c =
     }
 
 pub returns-then-last-ge18446744073709551614 : goal.returns-then-last-ge18446744073709551614
-returns-then-last-ge18446744073709551614 c =
+returns-then-last-ge18446744073709551614 g c =
     record {
       step = tt;
       refused = (inr (inr (λ m ops of fine.
@@ -86,7 +85,7 @@ higher : (n m : ℕ) → m ≤ n → m ≤ n + 1
 higher n m h = omega arith
 
 pub put_batch-requires : goal.put_batch-requires
-put_batch-requires c =
+put_batch-requires g c =
     let n : ℕ = c.self.inside.log.last in
     let seq : c.last-seq.result + 1 ≡ n + 1 = ap (λ n. n + 1) (c.last-seq.ensures ∙ ap (λ (l : LogModel). l.last) c.reserve.ensures.value) in
     let rows : c.in_ok-rows.rows.items ≡ commit_rows plain c.self.inside.default_millis (n + 1) c.args.now c.args.batch.ops =
@@ -102,14 +101,14 @@ put_batch-requires c =
     }
 
 pub push_write-requires : goal.push_write-requires
-push_write-requires c = record {
+push_write-requires g c = record {
   place = has_place c.self.inside.log c.reserve.new.self c.reserve.ensures.value c.in_ok-reserve.ensures.room c.in_ok-place.ensures.place;
   next = subst (λ (l : LogModel). l.last < 2 ^ 64 - 2) (sym c.reserve.ensures.value) (let h : c.self.inside.log.last < 2 ^ 64 - 2 = omega (arith, c.last.ensures) in h);
   kept = subst IsWhollyKept (sym (c.from_vec.ensures ∙ c.in_ok-ops.ensures.ops)) (record { some = some_ops c.args.batch.ops (λ e. let t : true ≡ false = sym (c.is_empty.ensures.1 e) ∙ c.if-is_empty.false in cc); kept = c.ops.ensures.kept; fine = c.ops.ensures.fine });
 }
 
 pub invariant_of-self-2 : goal.invariant_of-self-2
-invariant_of-self-2 c =
+invariant_of-self-2 g c =
     let n : ℕ = c.self.inside.log.last in
     let seq : c.last-seq.result + 1 ≡ n + 1 = ap (λ n. n + 1) (c.last-seq.ensures ∙ ap (λ (l : LogModel). l.last) c.reserve.ensures.value) in
     let rows : c.in_ok-rows.rows.items ≡ commit_rows plain c.self.inside.default_millis (n + 1) c.args.now c.args.batch.ops =
@@ -129,7 +128,7 @@ invariant_of-self-2 c =
     (subst IsLog log c.push_write.ensures.whole) (subst AreLayers layers c.put_batch.ensures.whole) c.self.invariant)
 
 pub returns : goal.returns
-returns c =
+returns g c =
     let n : ℕ = c.self.inside.log.last in
     let seq : c.last-seq.result + 1 ≡ n + 1 = ap (λ n. n + 1) (c.last-seq.ensures ∙ ap (λ (l : LogModel). l.last) c.reserve.ensures.value) in
     let rows_of : (f : List ℕ → Combine) → c.in_ok-rows.rows.items ≡ commit_rows f c.self.inside.default_millis (n + 1) c.args.now c.args.batch.ops =
@@ -171,23 +170,23 @@ returns c =
 -- ---- refusals: at most room was made
 
 pub invariant_of-self : goal.invariant_of-self
-invariant_of-self c = room_in_log c.self.inside c.reserve.new.self c.reserve.ensures.value c.reserve.ensures.whole c.self.invariant
+invariant_of-self g c = room_in_log c.self.inside c.reserve.new.self c.reserve.ensures.value c.reserve.ensures.whole c.self.invariant
 
 pub invariant_of-self-in_err-rows : goal.invariant_of-self-in_err-rows
-invariant_of-self-in_err-rows c = room_in_log c.self.inside c.reserve.new.self c.reserve.ensures.value c.reserve.ensures.whole c.self.invariant
+invariant_of-self-in_err-rows g c = room_in_log c.self.inside c.reserve.new.self c.reserve.ensures.value c.reserve.ensures.whole c.self.invariant
 
 pub invariant_of-self-in_err-ops : goal.invariant_of-self-in_err-ops
-invariant_of-self-in_err-ops c = room_in_log c.self.inside c.reserve.new.self c.reserve.ensures.value c.reserve.ensures.whole c.self.invariant
+invariant_of-self-in_err-ops g c = room_in_log c.self.inside c.reserve.new.self c.reserve.ensures.value c.reserve.ensures.whole c.self.invariant
 
 pub invariant_of-self-in_err-keys : goal.invariant_of-self-in_err-keys
-invariant_of-self-in_err-keys c = room_in_log c.self.inside c.reserve.new.self c.reserve.ensures.value c.reserve.ensures.whole c.self.invariant
+invariant_of-self-in_err-keys g c = room_in_log c.self.inside c.reserve.new.self c.reserve.ensures.value c.reserve.ensures.whole c.self.invariant
 
 pub invariant_of-self-in_err-put_batch : goal.invariant_of-self-in_err-put_batch
-invariant_of-self-in_err-put_batch c = subst IsWholeInside (let y = sym c.in_err-put_batch.ensures.same_layers in let m = sym c.in_err-put_batch.ensures.same in λ i. record c.self.inside { log = c.reserve.new.self; layers = y i; manager = m i })
+invariant_of-self-in_err-put_batch g c = subst IsWholeInside (let y = sym c.in_err-put_batch.ensures.same_layers in let m = sym c.in_err-put_batch.ensures.same in λ i. record c.self.inside { log = c.reserve.new.self; layers = y i; manager = m i })
     (room_in_log c.self.inside c.reserve.new.self c.reserve.ensures.value c.reserve.ensures.whole c.self.invariant)
 
 pub returns-in_err-place : goal.returns-in_err-place
-returns-in_err-place c =
+returns-in_err-place g c =
     let p = err_from_is_err_and c.from_residual.result c.from_residual.ensures.1 in
     let limit = c.in_err-place.ensures.limit in
     let below : c.self.inside.log.last < 2 ^ 64 - 2 = omega (arith, c.last.ensures) in
@@ -206,7 +205,7 @@ returns-in_err-place c =
     }
 
 pub returns-in_err-reserve : goal.returns-in_err-reserve
-returns-in_err-reserve c =
+returns-in_err-reserve g c =
     let p = err_from_is_err_and c.from_residual-in_err-reserve.result c.from_residual-in_err-reserve.ensures.1 in
     let below : c.self.inside.log.last < 2 ^ 64 - 2 = omega (arith, c.last.ensures) in
     record {
@@ -224,7 +223,7 @@ returns-in_err-reserve c =
     }
 
 pub returns-in_err-rows : goal.returns-in_err-rows
-returns-in_err-rows c =
+returns-in_err-rows g c =
     let p = err_from_is_err_and c.from_residual-in_err-rows.result c.from_residual-in_err-rows.ensures.1 in
     let below : c.self.inside.log.last < 2 ^ 64 - 2 = omega (arith, c.last.ensures) in
     record {
@@ -242,7 +241,7 @@ returns-in_err-rows c =
     }
 
 pub returns-in_err-ops : goal.returns-in_err-ops
-returns-in_err-ops c =
+returns-in_err-ops g c =
     let p = err_from_is_err_and c.from_residual-in_err-ops.result c.from_residual-in_err-ops.ensures.1 in
     let below : c.self.inside.log.last < 2 ^ 64 - 2 = omega (arith, c.last.ensures) in
     record {
@@ -260,7 +259,7 @@ returns-in_err-ops c =
     }
 
 pub returns-in_err-keys : goal.returns-in_err-keys
-returns-in_err-keys c =
+returns-in_err-keys g c =
     let p = err_from_is_err_and c.from_residual-in_err-keys.result c.from_residual-in_err-keys.ensures.1 in
     let below : c.self.inside.log.last < 2 ^ 64 - 2 = omega (arith, c.last.ensures) in
     record {
@@ -278,7 +277,7 @@ returns-in_err-keys c =
     }
 
 pub returns-in_err-put_batch : goal.returns-in_err-put_batch
-returns-in_err-put_batch c =
+returns-in_err-put_batch g c =
     let p = err_from_is_err_and c.from_residual-in_err-put_batch.result c.from_residual-in_err-put_batch.ensures.1 in
     let below : c.self.inside.log.last < 2 ^ 64 - 2 = omega (arith, c.last.ensures) in
     record {

@@ -1,8 +1,30 @@
-use Rattle.std.proofs.Common.{refl}
+use Rattle.std.proofs.Common.{None, refl}
 use Rattle.std.specs.Prelude.{Ok}
 use Rattle.slate_store.specs.Reach.{reach_of}
-use Rattle.slate_db.proofs.ScanStates.{next_leaves, values_of}
+use Rattle.slate_types.proofs.Reaching.{reads_none}
+use Rattle.slate_db.proofs.ScanStates.{kept_answer, never_sound, next_leaves, refused_again, values_of}
 use Rattle.slate_db.proofs.scan.DbIterator.next.Goals as goal
+
+pub returns-in-Refused : goal.returns-in-Refused
+returns-in-Refused g c =
+    let it = c.args.self.now in
+    let is = c.in-Refused.is in
+    let copies = c.copy_of.ensures in
+    record {
+      rows = λ w rows h sees. tt;
+      undamaged = λ w rows h sees. never_sound it.order w it.state c.in-Refused.error is h.sound;
+      checked = λ w rows h. tt;
+      later = tt;
+      cause = refused_again it.range None (reach_of g.S.Store g.M.MergeOperator g.T.BlockTransformer c.args.env.now) it.state c.in-Refused.error c.copy_of.result is copies;
+      again = λ unrefused. absurd (unrefused c.in-Refused.error is);
+      refused = λ kept was. (kept_answer _ it.state c.in-Refused.error kept c.copy_of.result refl is copies was, refl, refl);
+      range = refl;
+      order = refl;
+      reads = reads_none _;
+    }
+
+pub next_in-requires : goal.next_in-requires
+next_in-requires g c = c.in_default.not-Refused
 
 pub returns-in-Ok : goal.returns-in-Ok
 returns-in-Ok g c =
@@ -16,7 +38,8 @@ returns-in-Ok g c =
       checked = λ w rows h. n.checked w it.order h.sound;
       later = n.later it.range;
       cause = tt;
-      again = tt;
+      again = λ unrefused. tt;
+      refused = λ kept was. absurd (c.in_default.not-Refused kept was);
       range = refl;
       order = refl;
       reads = n.reads;
@@ -33,7 +56,8 @@ returns-in-Err g c =
       checked = λ w rows h. tt;
       later = tt;
       cause = rw r.same (n.cause it.range);
-      again = rw r.same r.again;
+      again = λ unrefused. rw r.same r.again;
+      refused = λ kept was. absurd (c.in_default.not-Refused kept was);
       range = r.range;
       order = r.order;
       reads = n.reads;

@@ -5,17 +5,26 @@ use Rattle.slate_types.specs.Keys.{is_past_start}
 use Rattle.slate_types.proofs.Calls.{call_none, checks_none}
 use Rattle.slate_types.proofs.Reaching.{reads_none}
 use Rattle.slate_store.specs.Reach.{reach_of}
-use Rattle.slate_db.proofs.ScanStates.{never_sound, refused_again, seek_leaves, start_later, start_leaves, start_range, values_of}
+use Rattle.slate_db.proofs.ScanStates.{kept_answer, never_sound, refused_again, seek_leaves, start_later, start_leaves, start_range, values_of}
 use Rattle.slate_db.proofs.scan.DbIterator.seek.Goals as goal
 
-pub returns-in-Refused-clause-undamaged : goal.returns-in-Refused-clause-undamaged
-returns-in-Refused-clause-undamaged g c = λ w rows h sees. never_sound c.args.self.now.order w c.args.self.now.state c.in-Refused.error c.in-Refused.is h.sound
-
-pub returns-in-Refused-clause-cause : goal.returns-in-Refused-clause-cause
-returns-in-Refused-clause-cause g c =
+pub returns-in-Refused : goal.returns-in-Refused
+returns-in-Refused g c =
     let it = c.args.self.now in
-    rw c.refuse.ensures.same
-    (refused_again it.range (Some c.args.key.now) (reach_of g.S.Store g.M.MergeOperator g.T.BlockTransformer c.args.env.now) it.state c.in-Refused.error c.copy_of-error.result c.in-Refused.is c.copy_of-error.ensures)
+    let is = c.in-Refused.is in
+    let copies = c.copy_of.ensures in
+    record {
+      rows = λ w rows h sees. tt;
+      undamaged = λ w rows h sees. never_sound it.order w it.state c.in-Refused.kept is h.sound;
+      checked = λ w rows h. tt;
+      later = tt;
+      cause = refused_again it.range (Some c.args.key.now) (reach_of g.S.Store g.M.MergeOperator g.T.BlockTransformer c.args.env.now) it.state c.in-Refused.kept c.copy_of.result is copies;
+      again = λ unrefused. absurd (unrefused c.in-Refused.kept is);
+      refused = λ kept was. (kept_answer _ it.state c.in-Refused.kept kept c.copy_of.result refl is copies was, refl, refl);
+      range = refl;
+      order = refl;
+      reads = reads_none _;
+    }
 
 pub returns-then-not-is_past_start : goal.returns-then-not-is_past_start
 returns-then-not-is_past_start g c =
@@ -29,11 +38,15 @@ returns-then-not-is_past_start g c =
       checked = λ w rows h. checks_none w _;
       later = ([], call_none _, start_later it after _ s.none s.all);
       cause = tt;
-      again = tt;
+      again = λ unrefused. tt;
+      refused = λ kept was. absurd (c.in_default.not-Refused kept was);
       range = start_range (λ d. d.range) it after (λ x. refl) s.none s.all;
       order = start_range (λ d. d.order) it after (λ x. refl) s.none s.all;
       reads = reads_none _;
     }
+
+pub seek_in-requires : goal.seek_in-requires
+seek_in-requires g c = c.in_default.not-Refused
 
 pub returns-in-Ok : goal.returns-in-Ok
 returns-in-Ok g c =
@@ -47,7 +60,8 @@ returns-in-Ok g c =
       checked = λ w rows h. n.checked w it.order h.sound;
       later = n.later it.range;
       cause = tt;
-      again = tt;
+      again = λ unrefused. tt;
+      refused = λ kept was. absurd (c.in_default.not-Refused kept was);
       range = refl;
       order = refl;
       reads = n.reads;
@@ -56,7 +70,7 @@ returns-in-Ok g c =
 pub returns-in-Err : goal.returns-in-Err
 returns-in-Err g c =
     let n = c.in-Err.ensures in
-    let r = c.refuse-in-Err.ensures in
+    let r = c.refuse.ensures in
     let it = c.args.self.now in
     let past : is_past_start it.range.start c.args.key.now ≡ true = grind (arith, c.is_past_start.ensures, c.if-not-is_past_start.false) in
     record {
@@ -65,7 +79,8 @@ returns-in-Err g c =
       checked = λ w rows h. tt;
       later = tt;
       cause = rw r.same (n.cause it.range past);
-      again = rw r.same r.again;
+      again = λ unrefused. rw r.same r.again;
+      refused = λ kept was. absurd (c.in_default.not-Refused kept was);
       range = r.range;
       order = r.order;
       reads = n.reads;

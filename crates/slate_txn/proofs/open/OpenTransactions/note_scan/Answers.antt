@@ -17,5 +17,8 @@ returns-clause-ok c = on_ok c.note_scan.result (λ is. is ∙ ap (λ (ps : Trans
 pub returns-clause-number : goal.returns-clause-number
 returns-clause-number c = λ t is. c.note_scan.ensures.number t (ap (λ (ps : Transactions). find_named c.args.id.now ps) c.self.view_is ∙ is)
 
+pub returns-clause-none : goal.returns-clause-none
+returns-clause-none c = λ none. c.note_scan.ensures.none (ap (λ (ps : Transactions). find_named c.args.id.now ps) c.self.view_is ∙ none)
+
 pub returns-clause-err : goal.returns-clause-err
 returns-clause-err c = on_err c.note_scan.result (λ is. is ∙ c.self.view_is) c.note_scan.ensures.err
