@@ -1,8 +1,7 @@
 -- One operation more behind those of a key.
-use Rattle.std.proofs.Common.{◌≡◌, ℕ, ◌+◌, ◌<◌, Bool, true, false, cond, ◌||◌, length-append, List, [], ◌∷◌, ◌++◌, Option, Some, None, length, bytes_eq, refl, sym, ap, subst, ◌∙◌, arith, Ordering, Less, Equal, Greater}
+use Rattle.std.proofs.Common.{◌≡◌, ℕ, ◌<◌, Bool, true, false, cond, ◌||◌, length-append, List, [], ◌∷◌, ◌++◌, Some, None, length, bytes_eq, refl, sym, ap, subst, ◌∙◌, arith, Ordering, Less, Equal, Greater}
 use Rattle.std.specs.Prelude.{Result, Ok, Err, OnOk, OnErr, IfOk, IfErr}
 use Rattle.std.specs.Ordering.{is_eq, match_ordering}
-use Rattle.std.specs.List.{AllByRecursion}
 use Rattle.std.specs.List.Sorted.{IsStrictlySortedBy}
 use Rattle.std.specs.Map.{keys_of, lookup, set_value}
 use Rattle.std.specs.BTreeMap.{insert_entry, is_at}
@@ -15,10 +14,10 @@ use Rattle.slate_types.specs.Fold.{from_last}
 use Rattle.slate_types.proofs.KeySetLaws.{AllAbove}
 use Rattle.slate_types.proofs.Lists.{AllByRecursion-append}
 use Rattle.slate_mem.specs.declared.WriteOp.{WriteOp}
-use Rattle.slate_mem.specs.declared.WriteOp.TheVariants.{Put, Delete, Merge}
+use Rattle.slate_mem.specs.declared.WriteOp.TheVariants.{Merge}
 use Rattle.slate_types.specs.declared.config.MergeOptions.{MergeOptions}
 use Rattle.slate_mem.specs.Batch.{replaces}
-use Rattle.slate_mem.specs.BatchModel.{BatchModel, is_merge_op, with_op}
+use Rattle.slate_mem.specs.BatchModel.{BatchModel, with_op}
 use Rattle.slate_mem.specs.Kept.{Entries, items_at, listed, IsKept, AreKept, AreFineAt, AreFine, IsWhole}
 use Rattle.slate_mem.specs.Refusals.{op_refusal}
 use Rattle.slate_mem.proofs.KeptLaws.{all-insert, at-insert, fine-insert, kept-at, listed-more}

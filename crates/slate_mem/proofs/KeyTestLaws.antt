@@ -1,14 +1,13 @@
 -- The tests of a batch's keys, by its entries.
-use Rattle.std.proofs.Common.{◌≡◌, ℕ, Bool, true, false, cond, not, List, [], ◌∷◌, ◌++◌, map, filter_map, reverse, Option, Some, None, ℤ, refl, sym, ap, ◌∙◌}
-use Rattle.std.specs.Prelude.{slice_get}
+use Rattle.std.proofs.Common.{◌≡◌, ℕ, Bool, true, false, cond, not, List, [], ◌∷◌, ◌++◌, map, reverse, Option, Some, None, ℤ, refl, sym, ap, ◌∙◌}
 use Rattle.std.specs.Ordering.{int_eq}
 use Rattle.std.specs.Option.{option_eq}
-use Rattle.std.specs.List.{cons_option, AllByRecursion}
+use Rattle.std.specs.List.{cons_option}
 use Rattle.std.specs.Map.{keys_of}
 use Rattle.std.proofs.lemmas.Bool.Decides.{Decides-int_eq}
 use Rattle.slate_types.specs.declared.error.SlateDBError.{SlateDBError}
 use Rattle.slate_mem.specs.declared.WriteOp.{WriteOp}
-use Rattle.slate_mem.specs.Batch.{kept, batch_keys}
+use Rattle.slate_mem.specs.Batch.{batch_keys}
 use Rattle.slate_mem.specs.KeyTests.{Segments, first_other, segment_refusal, ttl_refusal, key_refusal, entry_refusals}
 use Rattle.slate_mem.specs.Kept.{Entries, items_at, listed, IsWhole}
 use Rattle.slate_mem.specs.Refusals.{first_refusal}

@@ -9,7 +9,7 @@
 --     waits b low r      what waits behind it: the others, to the first that is no operand
 --     flush_rows c b low rows      all rows
 --     IsGroup low      what holds of the rows that wait: they are of one key, and none stands behind one that is no operand
-use Rattle.std.specs.Prelude.{◌≡◌, ℕ, nat_le, nat_lt, Bool, true, false, not, if◌then◌else◌, List, [], ◌∷◌, ◌++◌, filter, reverse, option_to_list, bytes_eq}
+use Rattle.std.specs.Prelude.{◌≡◌, ℕ, nat_le, nat_lt, Bool, false, not, if◌then◌else◌, List, [], ◌∷◌, ◌++◌, filter, reverse, option_to_list, bytes_eq}
 use Rattle.std.specs.List.{AllByRecursion}
 use Rattle.slate_types.specs.declared.types.RowEntry.{RowEntry}
 use Rattle.slate_types.specs.Fold.{Combine, fold_rows}

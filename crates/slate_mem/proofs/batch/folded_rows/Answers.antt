@@ -1,9 +1,8 @@
-use Rattle.std.proofs.Common.{◌≡◌, ◌++◌, ◌∙◌, ap, sym, subst, map, reverse, option_to_list, arith}
-use Rattle.std.proofs.lemmas.Result.{IfOk-from_err}
+use Rattle.std.proofs.Common.{◌++◌, ◌∙◌, ap, sym, subst, map, reverse, option_to_list, arith}
 use Rattle.slate_types.specs.Fold.{fold_rows}
 use Rattle.slate_mem.specs.BatchRows.{stamped, folded_entries}
 use Rattle.slate_mem.specs.Kept.{AreKept}
-use Rattle.slate_mem.proofs.FoldedLaws.{OwnRows, own_rows, one_key}
+use Rattle.slate_mem.proofs.FoldedLaws.{own_rows, one_key}
 use Rattle.slate_mem.proofs.batch.folded_rows.Goals as goal
 
 pub loop-key-preserved : goal.loop-key-preserved

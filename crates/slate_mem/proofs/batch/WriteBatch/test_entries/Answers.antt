@@ -1,4 +1,4 @@
-use Rattle.std.proofs.Common.{◌≡◌, ◌⊎◌, ◌∷◌, ◌∙◌, None, Some, map, filter_map, ap, sym, inl, inr, w64}
+use Rattle.std.proofs.Common.{◌≡◌, ◌∙◌, None, Some, map, filter_map, ap, sym, inl, inr, w64}
 use Rattle.std.specs.Prelude.{option_map, option_copied}
 use Rattle.std.proofs.lemmas.Int.{to_z-of_z}
 use Rattle.slate_types.specs.Keys.{keys_set}
