@@ -2,6 +2,7 @@
 use crate::listing::{Row, are_rows, row};
 use crate::parts::Concat;
 use bytes::Bytes;
+use slate_mem::fold::has_merge;
 use slate_mem::{WriteBatch, fold_for_flush};
 use slate_types::{MergeOptions, NoOperator, RowEntry, SlateDBError, Ttl};
 use std::alloc::Global;
@@ -132,6 +133,10 @@ fn operands_are_folded_up_to_the_barrier(rt: HostRuntime) {
 // Without operands, and without an operator.
 fn plain(alloc: Global) -> Option<Vec<RowEntry>> {
     let rows = rows_of(alloc, &STORED[3..5])?;
+    if has_merge(&rows) {
+        drop(rows);
+        return None;
+    }
     fold_for_flush(alloc, rows, 8, &mut None::<NoOperator>).ok()
 }
 
