@@ -70,8 +70,8 @@ use slate_store::{Env, EnvOf, Store};
 use slate_txn::fold::fold_found;
 use slate_txn::{Journal, OpList, OpenTransactions, SnapshotManager, TransactionManager};
 use slate_types::{
-    BlockTransformer, BytesRange, IsolationLevel, KeyValue, MergeOperator, Options, Outside,
-    PrefixExtractor, PutOptions, ReadOptions, RowEntry, ScanOptions, SlateDBError,
+    BlockTransformer, BytesRange, IsolationLevel, KeyValue, MergeOperator, NoOperator, Options,
+    Outside, PrefixExtractor, PutOptions, ReadOptions, RowEntry, ScanOptions, SlateDBError,
 };
 use std::alloc::Global;
 use std::marker::Model;
@@ -278,7 +278,13 @@ impl Core {
         self.log.place(1)?;
         self.log.reserve()?;
         let seq = self.log.last() + 1;
-        let (rows, _bytes) = batch.extract_entries(self.alloc, seq, now, self.default_millis)?;
+        let (rows, _bytes) = batch.extract_entries(
+            self.alloc,
+            seq,
+            now,
+            self.default_millis,
+            &mut None::<NoOperator>,
+        )?;
         let ops = batch.ops(self.alloc)?;
         let keys = batch.keys()?;
         put_batch(

@@ -24,6 +24,8 @@ mod memory_lists;
 #[cfg(test)]
 mod merged;
 #[cfg(test)]
+mod merges;
+#[cfg(test)]
 mod parts;
 #[cfg(test)]
 mod ranges;
