@@ -8,6 +8,8 @@ mod blocks;
 #[cfg(test)]
 mod flushes;
 #[cfg(test)]
+mod folded;
+#[cfg(test)]
 mod generated;
 #[cfg(test)]
 mod listing;
