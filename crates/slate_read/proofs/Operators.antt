@@ -33,6 +33,9 @@ is_memory : (d : SlateDBError) → (d ≡ OutOfMemory) ⊎ (d ≢ OutOfMemory)
 is_memory OutOfMemory = inl refl
 is_memory d = inr (λ h. cc)
 
+abbrev no_reads : List Act
+no_reads = []
+
 -- ---- by the refusal that is kept, or none
 
 pub unless_rows : (refusal : Option SlateDBError) (rows after : List RowEntry) → refusal ≡ None → rows ≡ after → rows_unless refusal rows ≡ rows_unless refusal after
@@ -103,7 +106,7 @@ module _ {S : Type 0} (refuses : S → Meaning → List Act → Option (List ℕ
       call_none t,
       (
         blamed why,
-        subst (λ (r : Option SlateDBError). StaysIn r it.begun e (([] {X = Act} ≡ []) × (it ≡ it)) (Keeps e it × BlamesOpen e (refuses it.iterator t.meaning [] at e) (MeetsOpen (λ u rs a v. takes u t.meaning rs a v) it.folding.snapshot_barrier_seq it.ahead [] it.iterator it.iterator))) (sym is) (why, (refl, refl)),
+        subst (λ (r : Option SlateDBError). StaysIn r it.begun e ((no_reads ≡ []) × (it ≡ it)) (Keeps e it × BlamesOpen e (refuses it.iterator t.meaning [] at e) (MeetsOpen (λ u rs a v. takes u t.meaning rs a v) it.folding.snapshot_barrier_seq it.ahead [] it.iterator it.iterator))) (sym is) (why, (refl, refl)),
         λ later k d r. inl r,
       ),
     )
@@ -126,7 +129,7 @@ module _ {S : Type 0} (refuses : S → Meaning → List Act → Option (List ℕ
       call_none t,
       (
         inr (subst (λ (r : Option SlateDBError). RefusesBy r it.begun (λ d. refuses_folds {S = S} refuses (it.iterator, it.ahead, []) t.meaning [] at d) IteratorNotInitialized) (sym none) (inl (new, refl))),
-        subst (λ (r : Option SlateDBError). StaysIn r it.begun IteratorNotInitialized (([] {X = Act} ≡ []) × (it ≡ it)) (Keeps IteratorNotInitialized it × BlamesOpen IteratorNotInitialized (refuses it.iterator t.meaning [] at IteratorNotInitialized) (MeetsOpen (λ u rs a v. takes u t.meaning rs a v) it.folding.snapshot_barrier_seq it.ahead [] it.iterator it.iterator))) (sym none) (inl (new, refl, (refl, refl))),
+        subst (λ (r : Option SlateDBError). StaysIn r it.begun IteratorNotInitialized ((no_reads ≡ []) × (it ≡ it)) (Keeps IteratorNotInitialized it × BlamesOpen IteratorNotInitialized (refuses it.iterator t.meaning [] at IteratorNotInitialized) (MeetsOpen (λ u rs a v. takes u t.meaning rs a v) it.folding.snapshot_barrier_seq it.ahead [] it.iterator it.iterator))) (sym none) (inl (new, refl, (refl, refl))),
         λ later k d r. inl r,
       ),
     )
@@ -211,7 +214,7 @@ stays_again (Some k) begun e d same keeps after kept stood h = (by kept h.0, sub
 module _ {S : Type 0} where
   pub new_rest : (rest : S → World → List RowEntry) (source : S) (folding : Folding) (it : MergeOperatorIterator S) → IsFolding source folding it → (w : World) →
       rest_folding rest it w ≡ folded (operator_at w.meaning.combine) folding.merge_different_expire_ts folding.snapshot_barrier_seq (rest source w)
-  new_rest rest source folding it h w = λ i. rows_unless (h.unrefused i) (folded (operator_at w.meaning.combine) (h.folding i).merge_different_expire_ts (h.folding i).snapshot_barrier_seq (with_ahead (h.none i) (rest (h.rows i) w)))
+  new_rest rest source folding it h w = λ i. rows_unless (h.unrefused i) (folded (operator_at w.meaning.combine) (h.folds i).merge_different_expire_ts (h.folds i).snapshot_barrier_seq (with_ahead (h.none i) (rest (h.rows i) w)))
 
   pub new_sound : (rest : S → World → List RowEntry) (sound : S → World → Type 0) (order : S → IterationOrder) → ((x : S) (w : World) → sound x w → IsInOrder (order x) (rest x w)) →
       (source : S) (folding : Folding) (it : MergeOperatorIterator S) → IsFolding source folding it → (w : World) → sound source w → sound_folding rest sound order it w

@@ -61,7 +61,7 @@ module _ {S : Type 0} where
 
   pub record IsFolding (iterator : S) (folding : Folding) (it : MergeOperatorIterator S) : Type 0 where
     pub rows : it.iterator ≡ iterator
-    pub folding : it.folding ≡ folding
+    pub folds : it.folding ≡ folding
     pub none : it.ahead ≡ None
     pub unrefused : it.refusal ≡ None
 
