@@ -1,6 +1,6 @@
 -- Steps over rows of which operands are folded.
-use Rattle.std.proofs.Common.{◌≡◌, ◌⊎◌, inl, inr, ℕ, ◌+◌, ◌≤◌, ◌<◌, ◌&&◌, Bool, true, false, List, [], ◌∷◌, ◌++◌, Option, Some, None, refl, sym, ap, subst, ◌∙◌, append_assoc, reverse, arith}
-use Rattle.std.specs.Prelude.{IsSome, is_some, IfSome}
+use Rattle.std.proofs.Common.{◌≡◌, ◌⊎◌, inl, inr, ℕ, ◌&&◌, Bool, true, false, List, [], ◌∷◌, ◌++◌, Option, Some, None, refl, sym, ap, subst, ◌∙◌, append_assoc, reverse}
+use Rattle.std.specs.Prelude.{is_some}
 use Rattle.slate_types.specs.declared.error.SlateDBError.{SlateDBError}
 use Rattle.slate_types.specs.declared.error.SlateDBError.TheVariants.{MergeOperatorMissing}
 use Rattle.slate_types.specs.declared.iter.IterationOrder.{IterationOrder}
@@ -10,13 +10,13 @@ use Rattle.slate_types.specs.Iteration.{IsInOrder, TakesRow}
 use Rattle.slate_types.specs.Outside.{Act, Counts, IsCounted, IsFault, IsLater, Meaning, Reach}
 use Rattle.slate_types.specs.Refusing.{NoMore}
 use Rattle.slate_types.specs.Steps.{Step}
-use Rattle.slate_types.specs.World.{World, Checks, IsCall, Made, Sees}
+use Rattle.slate_types.specs.World.{World, IsCall, Sees}
 use Rattle.slate_types.proofs.Calls.{call_both, call_none, checks_none, met, sees_first, sees_last}
-use Rattle.slate_types.proofs.Moves.{Moves, moves_both, moves_fails}
+use Rattle.slate_types.proofs.Moves.{Moves}
 use Rattle.slate_types.proofs.Reaching.{fault_earlier}
 use Rattle.slate_read.specs.Folding.{AreLinked, begins_linked, folded, follows, is_open, links}
-use Rattle.slate_read.specs.FoldedLaws.{folded_gathered, unlinked}
-use Rattle.slate_read.specs.Folds.{BlamesOpen, MeetsOpen, RefusesOpen, Taken, hands_out, refuses_folds, refuses_taken, rest_folds, rest_taken, sound_taken, takes_ahead}
+use Rattle.slate_read.specs.FoldedLaws.{folded_gathered}
+use Rattle.slate_read.specs.Folds.{BlamesOpen, Taken, hands_out, refuses_folds, refuses_taken, rest_folds, rest_taken, sound_taken, takes_ahead}
 use Rattle.slate_read.specs.Peeking.{TakesAhead, with_ahead}
 
 -- rows behind others in order are in order

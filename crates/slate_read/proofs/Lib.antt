@@ -39,4 +39,3 @@ pub mod FoldGroups
 pub mod FoldSteps
 pub mod FoldedKeys
 pub mod Operators
-pub mod Operating

@@ -1,6 +1,5 @@
 -- What the calls of an iterator do that folds operands.
-use Rattle.std.proofs.Common.{◌≡◌, ◌≢◌, ◌⊎◌, ◌≤◌, ◌<◌, inl, inr, arith, ℕ, Bool, true, false, not, List, [], ◌∷◌, ◌++◌, Option, Some, None, refl, sym, ap, subst, ◌∙◌}
-use Rattle.std.specs.Prelude.{IfSome, IsSome}
+use Rattle.std.proofs.Common.{◌≡◌, ◌≢◌, ◌⊎◌, ◌≤◌, ◌<◌, inl, inr, arith, ℕ, Bool, true, false, List, [], ◌++◌, Option, Some, None, refl, sym, ap, subst, ◌∙◌}
 use Rattle.std.specs.List.{AllByRecursion}
 use Rattle.slate_types.specs.declared.error.SlateDBError.{SlateDBError}
 use Rattle.slate_types.specs.declared.error.SlateDBError.TheVariants.{IteratorNotInitialized, MergeOperatorMissing, OutOfMemory, StoreFault, Callback, BlockTransformError}
@@ -10,13 +9,12 @@ use Rattle.slate_types.specs.Fold.{operator_at}
 use Rattle.slate_types.specs.Iteration.{drop_before, IsInOrder, TakesRow}
 use Rattle.slate_types.specs.Outside.{Act, Counts, IsCounted, IsFault, Meaning, Reach}
 use Rattle.slate_types.specs.Refusing.{IsDamage, IsReady, NoMore, NoMoreBut}
-use Rattle.slate_types.specs.World.{World, AnswersWorld, IsCall, Made, Sees}
+use Rattle.slate_types.specs.World.{World, AnswersWorld, Made, Sees}
 use Rattle.slate_types.proofs.Calls.{call_none, seen}
 use Rattle.slate_read.specs.declared.folding.Folding.{Folding}
 use Rattle.slate_read.specs.declared.operator_iterator.MergeOperatorIterator.{MergeOperatorIterator}
 use Rattle.slate_read.specs.Folding.{folded}
-use Rattle.slate_read.specs.FoldedLaws.{folded_dropped}
-use Rattle.slate_read.specs.Folds.{BlamesOpen, MeetsOpen, RefusesOpen, refuses_folds, rest_folds, sound_taken}
+use Rattle.slate_read.specs.Folds.{BlamesOpen, MeetsOpen, RefusesOpen, refuses_folds}
 use Rattle.slate_read.specs.Kept.{Copies}
 use Rattle.slate_read.specs.OperatorIterators.{IsFolding, Keeps, KeepsIn, RefusesBy, SoundUnless, Stays, StaysIn, bound_unless, refuses_folding, rest_folding, rows_unless, sound_folding}
 use Rattle.slate_read.specs.OperatorLaws.{folding_whole}

@@ -3,7 +3,7 @@
 --     folded_dropped      folding and seeks commute
 --     folded_through      a row that isn't folded is handed through
 --     folded_gathered      linked rows, of which the last isn't linked with what stands behind it, are folded
-use Rattle.std.proofs.Common.{◌≡◌, refl, sym, ap, ◌∙◌, subst, inl, inr, ℕ, ◌&&◌, Bool, true, false, List, [], ◌∷◌, ◌++◌, reverse, Option, Some, None, append_assoc, bytes_eq, filter_map, if◌then◌else◌}
+use Rattle.std.proofs.Common.{◌≡◌, refl, sym, ap, ◌∙◌, subst, inl, inr, ℕ, ◌&&◌, Bool, true, false, List, [], ◌∷◌, ◌++◌, reverse, Option, Some, append_assoc, bytes_eq, filter_map, if◌then◌else◌}
 use Rattle.std.proofs.lemmas.List.{reverse-append}
 use Rattle.std.specs.List.{AllByRecursion, list_any, cons_option}
 use Rattle.std.proofs.lemmas.Slice.Eq.{bytes_eq-Decides}

@@ -8,7 +8,7 @@
 --     Keeps e it      it keeps the refusal e, or want of memory for a copy
 --     Stays before m reads at e after      it refuses, and keeps that; or it stands as it stood
 --     KeepsRefusals refuses takes begins seeks      behind a refusal each call answers it again, or want of memory for a copy
-use Rattle.std.specs.Prelude.{◌≡◌, ◌≢◌, ◌⊎◌, ℕ, ◌+◌, true, false, Bool, List, [], Option, Some, None, IfSome, IsSomeAnd}
+use Rattle.std.specs.Prelude.{◌≡◌, ◌≢◌, ◌⊎◌, ℕ, ◌+◌, true, false, Bool, List, [], Option, Some, None, IsSomeAnd}
 use Rattle.slate_types.specs.declared.error.SlateDBError.{SlateDBError}
 use Rattle.slate_types.specs.declared.error.SlateDBError.TheVariants.{IteratorNotInitialized, OutOfMemory}
 use Rattle.slate_types.specs.declared.iter.IterationOrder.{IterationOrder}

@@ -1,5 +1,5 @@
 -- The laws of an iterator that folds operands.
-use Rattle.std.proofs.Common.{◌≡◌, ◌⊎◌, inl, inr, ℕ, List, [], ◌++◌, Option, Some, None, Bool, subst}
+use Rattle.std.proofs.Common.{inl, inr, ℕ, List, [], ◌++◌, Option, Some, None, Bool, subst}
 use Rattle.std.specs.List.{AllByRecursion}
 use Rattle.slate_types.specs.declared.error.SlateDBError.{SlateDBError}
 use Rattle.slate_types.specs.declared.iter.IterationOrder.{IterationOrder}

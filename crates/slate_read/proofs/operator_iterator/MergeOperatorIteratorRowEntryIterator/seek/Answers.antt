@@ -1,4 +1,4 @@
-use Rattle.std.proofs.Common.{◌∙◌, [], List, ap, inl, inr, refl, sym, subst, arith, None, Option, Some}
+use Rattle.std.proofs.Common.{◌∙◌, [], ap, inl, inr, refl, sym, subst, arith, Option, Some}
 use Rattle.slate_types.specs.declared.types.RowEntry.{RowEntry}
 use Rattle.slate_types.specs.Fold.{operator_at}
 use Rattle.slate_types.specs.Iteration.{IsInOrder}
