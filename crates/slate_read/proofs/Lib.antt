@@ -38,4 +38,5 @@ pub mod RunRows
 pub mod FoldGroups
 pub mod FoldSteps
 pub mod FoldedKeys
+pub mod FoldedTurns
 pub mod Operators

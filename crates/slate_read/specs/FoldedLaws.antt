@@ -16,15 +16,15 @@ use Rattle.slate_read.specs.Folding.{AreLinked, AreOperands, is_open, follows, l
 use Rattle.slate_read.specs.Turns.{both}
 
 module _ {X : Type 0} (link : X → X → Bool) where
-  abbrev following : X → List X → List X
+  abbrev pub following : X → List X → List X
   following x [] = []
   following x (y ∷ ys) = if link x y then y ∷ following y ys else []
 
-  abbrev beyond : X → List X → List X
+  abbrev pub beyond : X → List X → List X
   beyond x [] = []
   beyond x (y ∷ ys) = if link x y then beyond y ys else y ∷ ys
 
-  cut_first : (x : X) (xs : List X) → cut link (x ∷ xs) ≡ (x ∷ following x xs) ∷ cut link (beyond x xs)
+  pub cut_first : (x : X) (xs : List X) → cut link (x ∷ xs) ≡ (x ∷ following x xs) ∷ cut link (beyond x xs)
   cut_first x [] = refl
   cut_first x (y ∷ ys) = elim (both (link x y)) as (λ _. cut link (x ∷ y ∷ ys) ≡ (x ∷ following x (y ∷ ys)) ∷ cut link (beyond x (y ∷ ys))) [
     | inl e ↦ ap (put_front link x) (cut_first y ys) ∙ rw e refl

@@ -3,7 +3,7 @@ ghost use Rattle.std.specs.Prelude.{◌≡◌, List, map};
 ghost use Rattle.std.specs.List.{AllByRecursion};
 ghost use Rattle.slate_types.specs.World.{World};
 ghost use Rattle.slate_types.specs.Fold.{operator_at};
-ghost use Rattle.slate_read.specs.FoldedReads.{FoldsBySeeks, FoldsInOrder, KeepsFolds, KeepsShown};
+ghost use Rattle.slate_read.specs.FoldedReads.{CutsWhole, FoldsBySeeks, FoldsInOrder, FoldsInTurn, KeepsFolds, KeepsShown};
 ghost use Rattle.slate_read.specs.Folding.{folded};
 ghost use Rattle.slate_read.specs.Merge.{merged};
 ghost use Rattle.slate_read.specs.MergedLaws.{CountIsTheSum, DedupDecides, MergeHasAll, MergeIsByPlace, MergeIsInOrder, MergeIsInTurn, MergeKeepsTests, MergeOfNone, MergeOfOne};
@@ -59,10 +59,13 @@ pub fn unopened_refusals()
 {}
 
 /// Of folded rows. They come in the order, folding and seeks change places, and of each key they fold to what all its rows fold
-/// to, so that a reader is shown the same.
+/// to, so that a reader is shown the same. Nothing is lost where rows are cut, and where they come in turn it makes no difference
+/// that a fold ends before a row of a greater sequence.
 pub fn folded_rows()
     ensures in_order { FoldsInOrder }
     ensures by_seeks { FoldsBySeeks }
+    ensures whole { CutsWhole }
+    ensures in_turn { FoldsInTurn }
     ensures keeps_folds { KeepsFolds }
     ensures keeps_shown { KeepsShown }
 {}

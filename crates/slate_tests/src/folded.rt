@@ -1,16 +1,16 @@
 // Iterators that fold operands.
 use crate::listing::{Row, are_rows, row};
 use crate::parts::Concat;
-use slate_language::Xor;
 use slate_read::merge_iterator::MergeIterator;
 use slate_read::operator_iterator::MergeOperatorIterator;
 use slate_store::{Env, MemoryStore};
 use slate_types::{
-    IterationOrder, RowEntry, RowEntryIterator, RowsIterator, SlateDBError, collect_rows,
+    IterationOrder, NoTransformer, RowEntry, RowEntryIterator, RowsIterator, SlateDBError,
+    collect_rows,
 };
 use std::alloc::Global;
 
-type Parts<'a> = Env<'a, MemoryStore, Concat, Xor>;
+type Parts<'a> = Env<'a, MemoryStore, Concat, NoTransformer>;
 
 const A_VALUE: Row = (b"a", 'v', b"x", 2, None, Some(20));
 
