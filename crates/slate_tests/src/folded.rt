@@ -44,11 +44,7 @@ const CASES: &[Case] = &[
         true,
         None,
         None,
-        &[
-            (b"a", 'v', b"xyz", 5, Some(7), Some(9)),
-            A_OLD,
-            B_DELETION,
-        ],
+        &[(b"a", 'v', b"xyz", 5, Some(7), Some(9)), A_OLD, B_DELETION],
     ),
     // The newest operand is above the barrier.
     (
@@ -102,11 +98,7 @@ fn merge(alloc: Global, sources: &[&[Row]]) -> MergeIterator<RowsIterator> {
     MergeIterator::new(made).with_dedup(false)
 }
 
-fn folded(
-    alloc: Global,
-    case: &Case,
-    env: &mut Parts<'_>,
-) -> Result<Vec<RowEntry>, SlateDBError> {
+fn folded(alloc: Global, case: &Case, env: &mut Parts<'_>) -> Result<Vec<RowEntry>, SlateDBError> {
     let mut rows = MergeOperatorIterator::new(merge(alloc, case.0), case.1, case.2)?;
     rows.init(alloc, env)?;
     if let Some(key) = case.3 {
@@ -144,9 +136,11 @@ fn refuses_operands(alloc: Global) -> Result<bool, SlateDBError> {
     let first = rows.next(alloc, &mut ())?.is_some();
     let missing = rows.next(alloc, &mut ());
     let again = rows.seek(alloc, b"c", &mut ());
-    Ok(first
-        && matches!(missing, Err(SlateDBError::MergeOperatorMissing))
-        && matches!(again, Err(SlateDBError::MergeOperatorMissing)))
+    Ok(
+        first
+            && matches!(missing, Err(SlateDBError::MergeOperatorMissing))
+            && matches!(again, Err(SlateDBError::MergeOperatorMissing)),
+    )
 }
 
 #[test]

@@ -46,9 +46,12 @@ returns-in-Err-fold_group-clause-cause g c =
     let reach = g.E.Outside.reach in
     let first = first_moves g.I.RowEntryIterator.rest g.I.RowEntryIterator.sound g.I.RowEntryIterator.refuses g.I.RowEntryIterator.order _ _ _ c.args.iterator.now c.take_ahead.new.iterator c.args.ahead.now c.in-Ok-Some.first t.order t.step in
     let gathered = moves_both _ _ _ _ _ _ _ _ _ first n.moved in
-    let made = (moves_both _ _ _ _ _ _ _ _ _ gathered (call_moves _ _ _ (reach c.gather.new.env) (reach c.fold_group.new.env) _ f.call)).made in
-    (made.0, made.1, operator_blames (reach c.args.env.now) (reach c.gather.new.env) (reach c.fold_group.new.env) c.in-Err-fold_group.error c.has_operator.result (reads_then (reach c.args.env.now) (reach c.take_ahead.new.env) (reach c.gather.new.env) t.reads n.reads).later gathered.made.1.meaning
-    (c.has_operator.ensures ∙ ap (λ (p : Meaning). is_some p.combine) first.made.1.meaning) c.if-not-has_operator.false f.cause)
+    let made = (moves_both _ _ _ _ _ _ _ _ _ gathered (call_moves _ _ _ (reach c.gather.new.env) (reach c.fold_group.new.env) _ f.call)).made in (
+      made.0,
+      made.1,
+      operator_blames (reach c.args.env.now) (reach c.gather.new.env) (reach c.fold_group.new.env) c.in-Err-fold_group.error c.has_operator.result (reads_then (reach c.args.env.now) (reach c.take_ahead.new.env) (reach c.gather.new.env) t.reads n.reads).later gathered.made.1.meaning
+          (c.has_operator.ensures ∙ ap (λ (p : Meaning). is_some p.combine) first.made.1.meaning) c.if-not-has_operator.false f.cause,
+    )
 
 pub returns-in-Err-gather-clause-cause : goal.returns-in-Err-gather-clause-cause
 returns-in-Err-gather-clause-cause g c =
