@@ -34,6 +34,9 @@ is_memory d = inr (λ h. cc)
 abbrev no_reads : List Act
 no_reads = []
 
+pub by_begun : {A : Type 0} {b : Bool} → b ≡ false → b ≡ true → A
+by_begun new begun = let never : true ≡ false = sym begun ∙ new in cc
+
 -- ---- by the refusal that is kept, or none
 
 pub unless_rows : (refusal : Option SlateDBError) (rows after : List RowEntry) → refusal ≡ None → rows ≡ after → rows_unless refusal rows ≡ rows_unless refusal after
@@ -104,7 +107,7 @@ module _ {S : Type 0} (refuses : S → Meaning → List Act → Option (List ℕ
       call_none t,
       (
         blamed why,
-        subst (λ (r : Option SlateDBError). StaysIn r it.begun e ((no_reads ≡ []) × (it ≡ it)) (Keeps e it × BlamesOpen e (refuses it.iterator t.meaning [] at e) (MeetsOpen (λ u rs a v. takes u t.meaning rs a v) it.folding.snapshot_barrier_seq it.ahead [] it.iterator it.iterator))) (sym is) (why, (refl, refl)),
+        subst (λ (r : Option SlateDBError). StaysIn r it.begun at e ((no_reads ≡ []) × (it ≡ it)) (Keeps e it × BlamesOpen e (refuses it.iterator t.meaning [] at e) (MeetsOpen (λ u rs a v. takes u t.meaning rs a v) it.folding.snapshot_barrier_seq it.ahead [] it.iterator it.iterator))) (sym is) (why, (refl, refl)),
         λ later k d r. inl r,
       ),
     )
@@ -127,7 +130,7 @@ module _ {S : Type 0} (refuses : S → Meaning → List Act → Option (List ℕ
       call_none t,
       (
         inr (subst (λ (r : Option SlateDBError). RefusesBy r it.begun (λ d. refuses_folds {S = S} refuses (it.iterator, it.ahead, []) t.meaning [] at d) IteratorNotInitialized) (sym none) (inl (new, refl))),
-        subst (λ (r : Option SlateDBError). StaysIn r it.begun IteratorNotInitialized ((no_reads ≡ []) × (it ≡ it)) (Keeps IteratorNotInitialized it × BlamesOpen IteratorNotInitialized (refuses it.iterator t.meaning [] at IteratorNotInitialized) (MeetsOpen (λ u rs a v. takes u t.meaning rs a v) it.folding.snapshot_barrier_seq it.ahead [] it.iterator it.iterator))) (sym none) (inl (new, refl, (refl, refl))),
+        subst (λ (r : Option SlateDBError). StaysIn r it.begun at IteratorNotInitialized ((no_reads ≡ []) × (it ≡ it)) (Keeps IteratorNotInitialized it × BlamesOpen IteratorNotInitialized (refuses it.iterator t.meaning [] at IteratorNotInitialized) (MeetsOpen (λ u rs a v. takes u t.meaning rs a v) it.folding.snapshot_barrier_seq it.ahead [] it.iterator it.iterator))) (sym none) (inl (new, refl, (refl, refl))),
         λ later k d r. inl r,
       ),
     )
@@ -138,16 +141,16 @@ module _ {S : Type 0} (refuses : S → Meaning → List Act → Option (List ℕ
     kept_alone e (Some k) begun own d (inr is) h = absurd (h.0 is)
 
     -- a refusal is kept
-    pub keeps_refused : (a b : Reach) (it y : MergeOperatorIterator S) (z : S) (at : Option (List ℕ)) (e : SlateDBError) → it.refusal ≡ None → Keeps e y → y.iterator ≡ z →
+    pub keeps_refused : (a b : Reach) (it y : MergeOperatorIterator S) (z : S) (at : Option (List ℕ)) (e : SlateDBError) → it.refusal ≡ None → (it.begun ≡ false → at ≡ None) → Keeps e y → y.iterator ≡ z →
         Made a b (λ reads. (IsFault a b e ⊎ (refuses it.iterator a.meaning reads at e ⊎ RefusesOpen a.meaning at e)) × BlamesOpen e (refuses it.iterator a.meaning reads at e) (MeetsOpen (λ u rs c v. takes u a.meaning rs c v) it.folding.snapshot_barrier_seq it.ahead reads it.iterator z)) →
         Refused a b it at e y
-    keeps_refused a b it y z at e none kept same (reads, call, why) = (
+    keeps_refused a b it y z at e none begun kept same (reads, call, why) = (
       reads,
       call,
       (
         by why.0,
-        subst (λ (r : Option SlateDBError). StaysIn r it.begun e ((reads ≡ []) × (y ≡ it)) (Keeps e y × BlamesOpen e (refuses it.iterator a.meaning reads at e) (MeetsOpen (λ u rs c v. takes u a.meaning rs c v) it.folding.snapshot_barrier_seq it.ahead reads it.iterator y.iterator))) (sym none)
-            (inr (kept, subst (λ (v : S). BlamesOpen e (refuses it.iterator a.meaning reads at e) (MeetsOpen (λ u rs c v. takes u a.meaning rs c v) it.folding.snapshot_barrier_seq it.ahead reads it.iterator v)) (sym same) why.1)),
+        subst (λ (r : Option SlateDBError). StaysIn r it.begun at e ((reads ≡ []) × (y ≡ it)) (Keeps e y × BlamesOpen e (refuses it.iterator a.meaning reads at e) (MeetsOpen (λ u rs c v. takes u a.meaning rs c v) it.folding.snapshot_barrier_seq it.ahead reads it.iterator y.iterator))) (sym none)
+            (inr (begun, (kept, subst (λ (v : S). BlamesOpen e (refuses it.iterator a.meaning reads at e) (MeetsOpen (λ u rs c v. takes u a.meaning rs c v) it.folding.snapshot_barrier_seq it.ahead reads it.iterator v)) (sym same) why.1))),
         λ later k d r. inr (kept_alone e y.refusal y.begun (λ f. refuses_folds {S = S} refuses (y.iterator, y.ahead, []) a.meaning later k f) d kept r),
       ),
     )
@@ -157,9 +160,9 @@ module _ {S : Type 0} (refuses : S → Meaning → List Act → Option (List ℕ
         by (inr k) = inr (subst (λ (r : Option SlateDBError). RefusesBy r it.begun (λ d. refuses_folds {S = S} refuses (it.iterator, it.ahead, []) a.meaning reads at d) e) (sym none) (inr k))
 
     -- what the source refuses
-    pub source_refused : (a b : Reach) (it y : MergeOperatorIterator S) (at : Option (List ℕ)) (e : SlateDBError) → it.refusal ≡ None → Keeps e y →
+    pub source_refused : (a b : Reach) (it y : MergeOperatorIterator S) (at : Option (List ℕ)) (e : SlateDBError) → it.refusal ≡ None → (it.begun ≡ false → at ≡ None) → Keeps e y →
         Made a b (λ reads. IsFault a b e ⊎ refuses it.iterator a.meaning reads at e) → Refused a b it at e y
-    source_refused a b it y at e none kept (reads, call, why) = keeps_refused a b it y y.iterator at e none kept refl (reads, call, by why)
+    source_refused a b it y at e none begun kept (reads, call, why) = keeps_refused a b it y y.iterator at e none begun kept refl (reads, call, by why)
       where
         missing : {A : Type 0} → IsFault a b e → e ≡ MergeOperatorMissing → A
         missing k m = let no : ⊥ = subst (IsCounted a.faults b.faults) m k in absurd no
@@ -188,18 +191,18 @@ module _ {S : Type 0} (refuses : S → Meaning → List Act → Option (List ℕ
 pub kept_some : {A : Type 0} (e : SlateDBError) (refusal : Option SlateDBError) → KeepsIn e refusal → refusal ≡ None → A
 kept_some e refusal kept none = let no : ⊥ = subst (KeepsIn e) none kept in absurd no
 
-pub stays_keeps : (refusal : Option SlateDBError) (begun : Bool) (e : SlateDBError) (same keeps : Type 0) (after : Option SlateDBError) → e ≢ IteratorNotInitialized → e ≢ OutOfMemory → (same → after ≡ refusal) → (keeps → KeepsIn e after) → StaysIn refusal begun e same keeps → KeepsIn e after
-stays_keeps None begun e same keeps after ready room stood kept (inl h) = absurd (ready h.1)
-stays_keeps None begun e same keeps after ready room stood kept (inr h) = kept h
-stays_keeps (Some k) begun e same keeps after ready room stood kept h = by h.0
+pub stays_keeps : (refusal : Option SlateDBError) (begun : Bool) (at : Option (List ℕ)) (e : SlateDBError) (same keeps : Type 0) (after : Option SlateDBError) → e ≢ IteratorNotInitialized → e ≢ OutOfMemory → (same → after ≡ refusal) → (keeps → KeepsIn e after) → StaysIn refusal begun at e same keeps → KeepsIn e after
+stays_keeps None begun at e same keeps after ready room stood kept (inl h) = absurd (ready h.1)
+stays_keeps None begun at e same keeps after ready room stood kept (inr h) = kept h.1
+stays_keeps (Some k) begun at e same keeps after ready room stood kept h = by h.0
   where
     by : Copies k e → KeepsIn e after
     by (inl is) = subst (KeepsIn e) (sym (stood h.1)) (inl (sym is))
     by (inr is) = absurd (room is)
 
-pub stays_again : (refusal : Option SlateDBError) (begun : Bool) (e d : SlateDBError) (same keeps : Type 0) (after : Option SlateDBError) → KeepsIn e refusal → (same → after ≡ refusal) → StaysIn refusal begun d same keeps → Copies e d × KeepsIn e after
-stays_again None begun e d same keeps after kept stood h = absurd kept
-stays_again (Some k) begun e d same keeps after kept stood h = (by kept h.0, subst (KeepsIn e) (sym (stood h.1)) kept)
+pub stays_again : (refusal : Option SlateDBError) (begun : Bool) (at : Option (List ℕ)) (e d : SlateDBError) (same keeps : Type 0) (after : Option SlateDBError) → KeepsIn e refusal → (same → after ≡ refusal) → StaysIn refusal begun at d same keeps → Copies e d × KeepsIn e after
+stays_again None begun at e d same keeps after kept stood h = absurd kept
+stays_again (Some k) begun at e d same keeps after kept stood h = (by kept h.0, subst (KeepsIn e) (sym (stood h.1)) kept)
   where
     by : Copies e k → Copies k d → Copies e d
     by (inl is) (inl too) = inl (too ∙ is)

@@ -42,9 +42,10 @@ RefusesBy (Some kept) begun own e = (kept ≢ OutOfMemory) × (e ≡ kept)
 abbrev pub KeepsIn : SlateDBError → Option SlateDBError → Type 0
 KeepsIn e refusal = IsSomeAnd refusal (λ kept. Copies e kept)
 
-abbrev pub StaysIn : Option SlateDBError → Bool → SlateDBError → Type 0 → Type 0 → Type 0
-StaysIn None begun e same keeps = ((begun ≡ false) × (e ≡ IteratorNotInitialized) × same) ⊎ keeps
-StaysIn (Some kept) begun e same keeps = Copies kept e × same
+-- a seek before `init` is refused for want of it alone
+abbrev pub StaysIn : Option SlateDBError → Bool → Option (List ℕ) → SlateDBError → Type 0 → Type 0 → Type 0
+StaysIn None begun at e same keeps = ((begun ≡ false) × (e ≡ IteratorNotInitialized) × same) ⊎ ((begun ≡ false → at ≡ None) × keeps)
+StaysIn (Some kept) begun at e same keeps = Copies kept e × same
 
 module _ {S : Type 0} where
   abbrev pub rest_folding : (S → World → List RowEntry) → MergeOperatorIterator S → World → List RowEntry
@@ -63,6 +64,7 @@ module _ {S : Type 0} where
     pub rows : it.iterator ≡ iterator
     pub folds : it.folding ≡ folding
     pub none : it.ahead ≡ None
+    pub unbegun : it.begun ≡ false
     pub unrefused : it.refusal ≡ None
 
   abbrev pub IsGoing : MergeOperatorIterator S → Type 0
@@ -81,7 +83,7 @@ module _ {S : Type 0} where
   Keeps e it = KeepsIn e it.refusal
 
   abbrev pub Stays : (S → Meaning → List Act → Option (List ℕ) → SlateDBError → Type 0) → (S → Meaning → List Act → Option RowEntry → S → Type 0) → MergeOperatorIterator S → Meaning → List Act → Option (List ℕ) → SlateDBError → MergeOperatorIterator S → Type 0
-  Stays refuses takes before m reads at e after = StaysIn before.refusal before.begun e ((reads ≡ []) × (after ≡ before))
+  Stays refuses takes before m reads at e after = StaysIn before.refusal before.begun at e ((reads ≡ []) × (after ≡ before))
       (Keeps e after × BlamesOpen e (refuses before.iterator m reads at e) (MeetsOpen (λ u rs a v. takes u m rs a v) before.folding.snapshot_barrier_seq before.ahead reads before.iterator after.iterator))
 
   -- behind a refusal each call answers it again, or want of memory for a copy

@@ -46,7 +46,7 @@ returns-in-Err g c =
     let n = c.in-Err.ensures in
     let r = c.refuse.ensures in
     let none = c.in_default.is in
-    let refused = source_refused g.I.RowEntryIterator.refuses g.I.RowEntryIterator.takes (g.E.Outside.reach c.args.env.now) (g.E.Outside.reach c.init.new.env) it c.refuse.new.self None c.in-Err.error none r.keeps (n.cause.0, n.cause.1, n.cause.2.0) in
+    let refused = source_refused g.I.RowEntryIterator.refuses g.I.RowEntryIterator.takes (g.E.Outside.reach c.args.env.now) (g.E.Outside.reach c.init.new.env) it c.refuse.new.self None c.in-Err.error none (λ new. refl) r.keeps (n.cause.0, n.cause.1, n.cause.2.0) in
     record {
       rows = λ w sees h. tt;
       still = kept_still g.I.RowEntryIterator.refuses g.I.RowEntryIterator.takes g.I.RowEntryIterator.rest g.I.RowEntryIterator.sound g.I.RowEntryIterator.order g.met.I.RowEntryIterator.whole (g.E.Outside.reach c.args.env.now) (g.E.Outside.reach c.init.new.env) it c.refuse.new.self None c.in-Err.error r.keeps refused;

@@ -53,7 +53,7 @@ returns-in-Err g c =
     let it = c.args.self.now in
     let n = c.in-Err.ensures in
     let r = c.refuse.ensures in
-    let refused = keeps_refused g.I.RowEntryIterator.refuses g.I.RowEntryIterator.takes (g.E.Outside.reach c.args.env.now) (g.E.Outside.reach c.next.new.env) it c.refuse.new.self c.next.new.iterator None c.in-Err.error c.in_default.is r.keeps r.iterator n.cause in
+    let refused = keeps_refused g.I.RowEntryIterator.refuses g.I.RowEntryIterator.takes (g.E.Outside.reach c.args.env.now) (g.E.Outside.reach c.next.new.env) it c.refuse.new.self c.next.new.iterator None c.in-Err.error c.in_default.is (λ new. refl) r.keeps r.iterator n.cause in
     record {
       rows = λ w sees h. tt;
       still = kept_still g.I.RowEntryIterator.refuses g.I.RowEntryIterator.takes g.I.RowEntryIterator.rest g.I.RowEntryIterator.sound g.I.RowEntryIterator.order g.met.I.RowEntryIterator.whole (g.E.Outside.reach c.args.env.now) (g.E.Outside.reach c.next.new.env) it c.refuse.new.self None c.in-Err.error r.keeps refused;

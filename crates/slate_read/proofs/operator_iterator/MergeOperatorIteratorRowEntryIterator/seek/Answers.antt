@@ -8,7 +8,7 @@ use Rattle.slate_read.specs.Folding.{folded}
 use Rattle.slate_read.specs.FoldedLaws.{folded_dropped}
 use Rattle.slate_read.specs.Peeking.{with_ahead}
 use Rattle.slate_read.proofs.Peeks.{kept_rows, sought_rows}
-use Rattle.slate_read.proofs.Operators.{again_refused, kept_no_larger, kept_still, new_refused, sound_of, sound_unless, source_less, source_refused, unless_drops, unless_no_larger}
+use Rattle.slate_read.proofs.Operators.{again_refused, by_begun, kept_no_larger, kept_still, new_refused, sound_of, sound_unless, source_less, source_refused, unless_drops, unless_no_larger}
 use Rattle.slate_read.proofs.operator_iterator.MergeOperatorIteratorRowEntryIterator.seek.Goals as goal
 
 pub returns-in-Some : goal.returns-in-Some
@@ -82,7 +82,7 @@ returns-in-Err g c =
     let it = c.args.self.now in
     let n = c.in-Err.ensures in
     let r = c.refuse.ensures in
-    let refused = source_refused g.I.RowEntryIterator.refuses g.I.RowEntryIterator.takes (g.E.Outside.reach c.args.env.now) (g.E.Outside.reach c.seek.new.env) it c.refuse.new.self (Some c.args.key.now) c.in-Err.error c.in_default.is r.keeps (n.cause.0, n.cause.1, n.cause.2.0) in
+    let refused = source_refused g.I.RowEntryIterator.refuses g.I.RowEntryIterator.takes (g.E.Outside.reach c.args.env.now) (g.E.Outside.reach c.seek.new.env) it c.refuse.new.self (Some c.args.key.now) c.in-Err.error c.in_default.is (λ new. by_begun new c.if-not-self.false) r.keeps (n.cause.0, n.cause.1, n.cause.2.0) in
     record {
       rows = λ w sees h. tt;
       still = kept_still g.I.RowEntryIterator.refuses g.I.RowEntryIterator.takes g.I.RowEntryIterator.rest g.I.RowEntryIterator.sound g.I.RowEntryIterator.order g.met.I.RowEntryIterator.whole (g.E.Outside.reach c.args.env.now) (g.E.Outside.reach c.seek.new.env) it c.refuse.new.self (Some c.args.key.now) c.in-Err.error r.keeps refused;
