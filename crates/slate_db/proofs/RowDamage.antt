@@ -114,7 +114,7 @@ reads_damage : (version : ℕ) (body offsets : List ℕ) → IfErr (block_reads 
 unfolding block_reads
 reads_damage version body offsets =
     either (are_named offsets) (cond (version == 1) (block_reads_v1 body offsets) (Ok (reads_v2 body offsets (length body)))) (Err (CorruptTable 0))
-        (either (version == 1) (block_reads_v1 body offsets) (Ok (reads_v2 body offsets (length body))) (reads_v1_damage body offsets) tt) tt
+    (either (version == 1) (block_reads_v1 body offsets) (Ok (reads_v2 body offsets (length body))) (reads_v1_damage body offsets) tt) tt
 
 -- ---- what reads show
 

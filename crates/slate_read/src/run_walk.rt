@@ -136,7 +136,8 @@ impl OpenTable {
         ensures no_larger { OnOk result (bound_behind self.new.cursor ≤ bound_behind self.old.cursor) }
         ensures reads { let reach = ⟦<EnvOf<S, M, T> as Outside>⟧.reach in OnlyReads (reach env.old) (reach env.new) }
     {
-        self.cursor.advance(alloc, env, &self.table, order, self.limits)
+        self.cursor
+            .advance(alloc, env, &self.table, order, self.limits)
     }
 
     /// Takes off the rows that the order puts before a key.
