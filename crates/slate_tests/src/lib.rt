@@ -10,6 +10,8 @@ mod commit_lists;
 #[cfg(test)]
 mod flushes;
 #[cfg(test)]
+mod folded;
+#[cfg(test)]
 mod generated;
 #[cfg(test)]
 mod listing;
