@@ -13,7 +13,7 @@ use Rattle.slate_mem.specs.BatchModel.{holds_merge}
 use Rattle.slate_mem.specs.RowOf.{own_row}
 use Rattle.slate_txn.specs.declared.event.TranscriptStep.TheVariants as steps
 use Rattle.slate_txn.specs.Alone.{IsVouched, own_of, scans_left}
-use Rattle.slate_txn.specs.Named.{find_named, update_named}
+use Rattle.slate_txn.specs.Named.{find_named}
 use Rattle.slate_txn.specs.Reads.{rows_seen, seen}
 use Rattle.slate_txn.specs.State.{State, Tx}
 use Rattle.slate_txn.specs.Step.{Reader, is_scan, noted, reader, reader_or_snapshot, tx_reader}

@@ -1,4 +1,4 @@
-use Rattle.std.proofs.Common.{◌≡◌, map, reverse, false, refl, subst}
+use Rattle.std.proofs.Common.{◌≡◌, map, reverse, false, subst}
 use Rattle.std.specs.Prelude.{IfOk}
 use Rattle.slate_mem.specs.Batch.{kept}
 use Rattle.slate_mem.specs.BatchModel.{holds_merge}
