@@ -1,11 +1,12 @@
 //! The work of `slate_bench` and of `slate` in plain Rust, for comparison: the same bytes, by the standard library alone.
 //!
 //! With no word it prints what was done, and with the word `time` how long it took too. Lines and figures are those of
-//! `slate_bench`. Three more words are there for scripts: `make NAME` prints one of them, `run -` and `run FOLDER` answer one
-//! as `slate` does, and `measure FILE PROGRAM WORDS..` runs a program and appends to the file what it took.
+//! `slate_bench`. Five more words are there for scripts: `make NAME` prints one of them, `run -` and `run FOLDER` answer one
+//! as `slate` does, `keep -` and `keep FOLDER` do so and keep a journal, `gen ROUNDS SEED` answers as `slate - gen ROUNDS SEED`, with
+//! a journal too, and `measure FILE PROGRAM WORDS..` runs a program and appends to the file what it took.
 
 use block::{decode_block, walk_v1, walk_v2, Builder, Row, Sums, Version};
-use script::Store;
+use script::{Journal, Store};
 use std::collections::BTreeMap;
 use std::env;
 use std::io;
@@ -169,7 +170,9 @@ fn main() {
         [] => status_of(run_parts(false)),
         ["time"] => status_of(run_parts(true)),
         ["make", name] => status_of(scripts::make(name).map(|script| print!("{script}"))),
-        ["run", store] => script::run(Store::at(store), io::stdin(), io::stdout()),
+        ["run", store] => script::run(Store::at(store), Journal::None, io::stdin(), io::stdout()),
+        ["keep", store] => script::run(Store::at(store), Journal::new(), io::stdin(), io::stdout()),
+        ["gen", rounds, seed] => script::run_generated(rounds, seed, io::stdout()),
         ["measure", file, program, words @ ..] => measure::measure(file, program, words),
         _ => 2,
     };
@@ -792,10 +795,11 @@ mod table {
     }
 }
 
-/// A store in plain Rust that answers the lines of the scripts of `scripts.rs` as `slate` does: writes of one put, begins, gets
-/// and flushes. Any other line ends it.
+/// A store in plain Rust that answers the lines of the scripts of `scripts` as `slate` does: writes of one put, begins, gets, scans
+/// without steps, puts, commits and flushes. Any other line ends it.
 mod script {
     use crate::block::{decode_block, newest_of_block, rows_of_block, Row, Version};
+    use crate::scripts;
     use crate::table::{build_table, open_section, places_of, read_index, CrcTables};
     use std::borrow::Cow;
     use std::cmp::{Ordering, Reverse};
@@ -803,6 +807,7 @@ mod script {
     use std::fs::{self, File};
     use std::io::{self, BufRead, BufReader, Read, Write};
     use std::mem;
+    use std::ops::{Bound, RangeBounds};
     use std::os::unix::fs::FileExt;
     use std::path::{Path, PathBuf};
 
@@ -885,7 +890,16 @@ mod script {
         stats_at: usize,
     }
 
+    impl StoredTable {
+        /// Whether keys of the range can be in the table.
+        fn meets(&self, (start, end): Range) -> bool {
+            let (first, last) = (self.first_key.as_slice(), self.last_key.as_slice());
+            (start, Bound::Unbounded).contains(last) && (Bound::Unbounded, end).contains(first)
+        }
+    }
+
     /// A row that a reader gets.
+    #[derive(Clone)]
     struct Found {
         value: Vec<u8>,
         seq: u64,
@@ -899,6 +913,7 @@ mod script {
     }
 
     /// A row that a scan meets.
+    #[derive(Clone)]
     struct ScanRow {
         key: Vec<u8>,
         value: Vec<u8>,
@@ -906,11 +921,88 @@ mod script {
         create_ts: i64,
     }
 
+    /// By which rows in memory are ordered: by key upwards, and the newest of a key first.
+    type RowKey = (Vec<u8>, Reverse<u64>);
+
+    /// The keys between two bounds.
+    type Range<'a> = (Bound<&'a [u8]>, Bound<&'a [u8]>);
+
+    /// The same, with keys of its own.
+    type OwnRange = (Bound<Vec<u8>>, Bound<Vec<u8>>);
+
+    /// The sequence that a transaction's own rows have before its commit.
+    const OWN: u64 = u64::MAX;
+
+    /// A transaction that is open.
+    struct Open {
+        begin: u64,
+        is_serializable: bool,
+        /// What it put.
+        own: BTreeMap<Vec<u8>, Vec<u8>>,
+        read_keys: Vec<Vec<u8>>,
+        read_ranges: Vec<OwnRange>,
+        /// What it did and saw, where a journal is kept.
+        transcript: Vec<Step>,
+    }
+
+    /// One thing that a transaction did or saw. It is kept, and nothing asks for it.
+    #[allow(dead_code)]
+    enum Step {
+        Get(Vec<u8>, Option<Found>),
+        Scan(OwnRange),
+        Next(Option<ScanRow>),
+        Put(Vec<u8>, Vec<u8>),
+    }
+
+    /// A commit. It is kept, and nothing asks for it.
+    #[allow(dead_code)]
+    pub struct Commit {
+        seq: Option<u64>,
+        ops: Vec<(Vec<u8>, Vec<u8>)>,
+        tracked: Vec<Vec<u8>>,
+        transcript: Vec<Step>,
+    }
+
+    /// The commits, where they are kept.
+    pub enum Journal {
+        None,
+        Kept(Vec<Commit>),
+    }
+
+    impl Journal {
+        pub fn new() -> Journal {
+            Journal::Kept(Vec::new())
+        }
+
+        fn is_kept(&self) -> bool {
+            matches!(self, Journal::Kept(_))
+        }
+
+        /// Adds a commit, which is made only where it is kept.
+        fn add(&mut self, commit: impl FnOnce() -> Commit) {
+            if let Journal::Kept(commits) = self {
+                commits.push(commit());
+            }
+        }
+    }
+
     /// Rows in memory, or those of a table: what is left of a block, and where the blocks behind it begin and end.
     struct Source<'a> {
         rows: VecDeque<ScanRow>,
         table: Option<&'a StoredTable>,
         offsets: VecDeque<(usize, usize)>,
+    }
+
+    impl Source<'_> {
+        /// The source of these rows, which rise.
+        fn of_rows(mut rows: VecDeque<ScanRow>, order: Order) -> Self {
+            turn(&mut rows, order);
+            Source {
+                rows,
+                table: None,
+                offsets: VecDeque::new(),
+            }
+        }
     }
 
     /// The next row of a source. The greatest comes first: by key in the order, and the newest of a key.
@@ -981,31 +1073,101 @@ mod script {
         }
     }
 
+    fn read_bound(token: &[u8]) -> Result<Bound<&[u8]>, Failure> {
+        match token {
+            b"*" => Ok(Bound::Unbounded),
+            [b'i', key @ ..] => read_text(key).map(Bound::Included),
+            [b'e', key @ ..] => read_text(key).map(Bound::Excluded),
+            _ => Err(Syntax),
+        }
+    }
+
+    fn own_range((start, end): Range) -> OwnRange {
+        (start.map(<[u8]>::to_vec), end.map(<[u8]>::to_vec))
+    }
+
+    fn slices_of((start, end): &OwnRange) -> Range<'_> {
+        (
+            start.as_ref().map(Vec::as_slice),
+            end.as_ref().map(Vec::as_slice),
+        )
+    }
+
+    /// Where the rows in memory of a range begin and end.
+    fn bounds_of_rows((start, end): Range) -> (Bound<RowKey>, Bound<RowKey>) {
+        let before = |key: &[u8]| (key.to_vec(), Reverse(u64::MAX));
+        let behind = |key: &[u8]| (key.to_vec(), Reverse(0));
+        let start = match start {
+            Bound::Included(key) => Bound::Included(before(key)),
+            Bound::Excluded(key) => Bound::Excluded(behind(key)),
+            Bound::Unbounded => Bound::Unbounded,
+        };
+        let end = match end {
+            Bound::Included(key) => Bound::Included(behind(key)),
+            Bound::Excluded(key) => Bound::Excluded(before(key)),
+            Bound::Unbounded => Bound::Unbounded,
+        };
+        (start, end)
+    }
+
     struct Session {
         crc: CrcTables,
         store: Store,
         last: u64,
-        /// Where each open transaction began.
-        names: BTreeMap<Vec<u8>, u64>,
-        rows: BTreeMap<(Vec<u8>, Reverse<u64>), Vec<u8>>,
+        names: BTreeMap<Vec<u8>, Open>,
+        /// Of each key that was written while a transaction was open the sequence of its last write.
+        writes: BTreeMap<Vec<u8>, u64>,
+        journal: Journal,
+        rows: BTreeMap<RowKey, Vec<u8>>,
         /// The newest last.
         tables: Vec<StoredTable>,
     }
 
+    /// How many replies there were, and how many of them are a row that a get found.
+    #[derive(Default)]
+    struct Tally {
+        replies: u64,
+        hits: u64,
+    }
+
     /// Answers each line of the source, and gives the status.
-    pub fn run(store: Store, source: impl Read, sink: impl Write) -> i32 {
-        match answer_lines(store, BufReader::with_capacity(PIECE, source), sink) {
+    pub fn run(store: Store, journal: Journal, source: impl Read, sink: impl Write) -> i32 {
+        let mut session = Session::new(store, journal);
+        let source = BufReader::with_capacity(PIECE, source);
+        status_of(answer_lines(&mut session, source, sink).map(|_| ()))
+    }
+
+    /// Makes a script of so many rounds from the seed, answers it in memory, and writes one line that says how many replies there
+    /// were, the last sequence, and how many gets found a row.
+    pub fn run_generated(rounds: &str, seed: &str, sink: impl Write) -> i32 {
+        match (rounds.parse(), seed.parse()) {
+            (Ok(rounds), Ok(seed)) => status_of(answer_generated(rounds, seed, sink)),
+            _ => 2,
+        }
+    }
+
+    fn status_of(ended: Result<(), Failure>) -> i32 {
+        match ended {
             Ok(()) => 0,
             Err(failure) => failure as i32,
         }
     }
 
+    fn answer_generated(rounds: u32, seed: u64, mut sink: impl Write) -> Result<(), Failure> {
+        let script = scripts::generate(rounds, seed).ok_or(Failure::Write)?;
+        let mut session = Session::new(Store::at("-"), Journal::new());
+        let Tally { replies, hits } = answer_lines(&mut session, script.as_bytes(), io::sink())?;
+        let committed = session.last;
+        writeln!(sink, "replies {replies} committed {committed} hits {hits}")
+            .map_err(|_| Failure::Write)
+    }
+
     fn answer_lines(
-        store: Store,
+        session: &mut Session,
         mut source: impl BufRead,
         mut sink: impl Write,
-    ) -> Result<(), Failure> {
-        let mut session = Session::new(store);
+    ) -> Result<Tally, Failure> {
+        let mut tally = Tally::default();
         let mut line = Vec::new();
         while source
             .read_until(b'\n', &mut line)
@@ -1013,20 +1175,24 @@ mod script {
             > 0
         {
             let reply = session.answer(line.strip_suffix(b"\n").unwrap_or(&line))?;
+            tally.replies += 1;
+            tally.hits += u64::from(reply.starts_with(b"row "));
             sink.write_all(&reply).map_err(|_| Failure::Write)?;
             line.clear();
         }
-        Ok(())
+        Ok(tally)
     }
 
     impl Session {
-        fn new(store: Store) -> Session {
+        fn new(store: Store, journal: Journal) -> Session {
             let crc = CrcTables::new();
             Session {
                 crc,
                 store,
                 last: 0,
                 names: BTreeMap::new(),
+                writes: BTreeMap::new(),
+                journal,
                 rows: BTreeMap::new(),
                 tables: Vec::new(),
             }
@@ -1035,54 +1201,118 @@ mod script {
         fn answer(&mut self, line: &[u8]) -> Result<Vec<u8>, Failure> {
             let tokens: Vec<&[u8]> = line.split(|byte| *byte == b' ').collect();
             match tokens.as_slice() {
-                [b"write", b"put", key, value] => self.put(read_key(key)?, read_text(value)?),
-                [b"begin", name, b"si"] => self.begin(read_name(name)?),
+                [b"write", b"put", key, value] => self.write(read_key(key)?, read_text(value)?),
+                [b"begin", name, b"si"] => self.begin(read_name(name)?, false),
+                [b"begin", name, b"ssi"] => self.begin(read_name(name)?, true),
                 [b"get", name, key] => self.get(read_name(name)?, read_text(key)?),
-                [b"scan", name, order, b"*", b"*"] => {
-                    self.scan(read_name(name)?, read_order(order)?)
+                [b"scan", name, order, start, end] => {
+                    let range = (read_bound(start)?, read_bound(end)?);
+                    self.scan(read_name(name)?, read_order(order)?, range)
                 }
+                [b"put", name, key, value] => {
+                    self.put(read_name(name)?, read_key(key)?, read_text(value)?)
+                }
+                [b"commit", name] => self.commit(read_name(name)?),
                 [b"flush"] => self.flush(),
                 _ => Err(Syntax),
             }
         }
 
-        fn put(&mut self, key: &[u8], value: &[u8]) -> Result<Vec<u8>, Failure> {
+        fn write(&mut self, key: &[u8], value: &[u8]) -> Result<Vec<u8>, Failure> {
             self.last += 1;
             self.rows
                 .insert((key.to_vec(), Reverse(self.last)), value.to_vec());
+            if !self.names.is_empty() {
+                self.writes.insert(key.to_vec(), self.last);
+            }
+            self.journal.add(|| Commit {
+                seq: Some(self.last),
+                ops: vec![(key.to_vec(), value.to_vec())],
+                tracked: vec![key.to_vec()],
+                transcript: Vec::new(),
+            });
             Ok(format!("written {}\n", self.last).into_bytes())
         }
 
-        fn begin(&mut self, name: &str) -> Result<Vec<u8>, Failure> {
-            self.names.insert(name.into(), self.last);
+        fn begin(&mut self, name: &str, is_serializable: bool) -> Result<Vec<u8>, Failure> {
+            let open = Open {
+                begin: self.last,
+                is_serializable,
+                own: BTreeMap::new(),
+                read_keys: Vec::new(),
+                read_ranges: Vec::new(),
+                transcript: Vec::new(),
+            };
+            self.names.insert(name.into(), open);
             Ok(format!("begun {name} {}\n", self.last).into_bytes())
         }
 
-        fn get(&self, name: &str, key: &[u8]) -> Result<Vec<u8>, Failure> {
-            let at = *self.names.get(name.as_bytes()).ok_or(Syntax)?;
-            match self.newest(key, at)? {
-                Some(row) => Ok(row_line(key, &row)),
-                None => Ok(b"none\n".to_vec()),
-            }
+        fn open(&self, name: &str) -> Result<&Open, Failure> {
+            self.names.get(name.as_bytes()).ok_or(Syntax)
         }
 
-        /// All rows that are seen from where a name began: of each key the newest of the rows in memory and in tables, which are
-        /// merged.
-        fn scan(&self, name: &str, order: Order) -> Result<Vec<u8>, Failure> {
-            let at = *self.names.get(name.as_bytes()).ok_or(Syntax)?;
-            let mut sources = self.sources(order)?;
+        fn open_mut(&mut self, name: &str) -> Result<&mut Open, Failure> {
+            self.names.get_mut(name.as_bytes()).ok_or(Syntax)
+        }
+
+        fn get(&mut self, name: &str, key: &[u8]) -> Result<Vec<u8>, Failure> {
+            let open = self.open(name)?;
+            let row = match open.own.get(key) {
+                Some(value) => Some(Found {
+                    value: value.clone(),
+                    seq: OWN,
+                    create_ts: 0,
+                }),
+                None => self.newest(key, open.begin)?,
+            };
+            let reply = match &row {
+                Some(row) => row_line(key, row),
+                None => b"none\n".to_vec(),
+            };
+            let is_kept = self.journal.is_kept();
+            let open = self.open_mut(name)?;
+            if open.is_serializable {
+                open.read_keys.push(key.to_vec());
+            }
+            if is_kept {
+                open.transcript.push(Step::Get(key.to_vec(), row));
+            }
+            Ok(reply)
+        }
+
+        /// The rows of the range that are seen from where a name began, and its own above them: of each key the newest of the rows
+        /// in memory and in tables, which are merged.
+        fn scan(&mut self, name: &str, order: Order, range: Range) -> Result<Vec<u8>, Failure> {
+            let open = self.open(name)?;
+            let is_kept = self.journal.is_kept();
+            let mut sources = self.sources(open, order, range)?;
             let mut heads = BinaryHeap::new();
             for source in 0..sources.len() {
                 heads.extend(self.next_head(&mut sources, source, order)?);
             }
             let (mut count, mut text, mut last) = (0u64, Vec::new(), Vec::new());
+            let mut steps = Vec::new();
             while let Some(Head { row, source, .. }) = heads.pop() {
                 heads.extend(self.next_head(&mut sources, source, order)?);
-                if row.seq <= at && (count == 0 || row.key != last) {
+                let is_seen = row.seq <= open.begin || row.seq == OWN;
+                if is_seen && range.contains(row.key.as_slice()) && (count == 0 || row.key != last)
+                {
                     count += 1;
                     append_row(&mut text, &row);
+                    if is_kept {
+                        steps.push(Step::Next(Some(row.clone())));
+                    }
                     last = row.key;
                 }
+            }
+            let open = self.open_mut(name)?;
+            if open.is_serializable {
+                open.read_ranges.push(own_range(range));
+            }
+            if is_kept {
+                open.transcript.push(Step::Scan(own_range(range)));
+                open.transcript.append(&mut steps);
+                open.transcript.push(Step::Next(None));
             }
             let mut reply = format!("rows {count}").into_bytes();
             reply.append(&mut text);
@@ -1090,40 +1320,140 @@ mod script {
             Ok(reply)
         }
 
-        /// The rows in memory, and each table with its index read.
-        fn sources(&self, order: Order) -> Result<Vec<Source<'_>>, Failure> {
-            let mut rows: VecDeque<ScanRow> = self
-                .rows
+        fn put(&mut self, name: &str, key: &[u8], value: &[u8]) -> Result<Vec<u8>, Failure> {
+            let is_kept = self.journal.is_kept();
+            let open = self.open_mut(name)?;
+            open.own.insert(key.to_vec(), value.to_vec());
+            if is_kept {
+                open.transcript
+                    .push(Step::Put(key.to_vec(), value.to_vec()));
+            }
+            Ok(b"ok\n".to_vec())
+        }
+
+        fn commit(&mut self, name: &str) -> Result<Vec<u8>, Failure> {
+            let before = self.least_begin();
+            let open = self.names.remove(name.as_bytes()).ok_or(Syntax)?;
+            let reply = match self.newest_conflict(&open) {
+                Some(seq) => format!("refused TransactionConflict {seq}\n"),
+                None => match self.commit_own(open) {
+                    Some(seq) => format!("committed {seq}\n"),
+                    None => "committed -\n".into(),
+                },
+            };
+            self.prune(before);
+            Ok(reply.into_bytes())
+        }
+
+        /// Commits what a transaction put, which has ended, and gives the sequence, where it put something.
+        fn commit_own(&mut self, open: Open) -> Option<u64> {
+            let seq = (!open.own.is_empty()).then_some(self.last + 1);
+            self.last = seq.unwrap_or(self.last);
+            for (key, value) in &open.own {
+                self.rows
+                    .insert((key.clone(), Reverse(self.last)), value.clone());
+                if !self.names.is_empty() {
+                    self.writes.insert(key.clone(), self.last);
+                }
+            }
+            self.journal.add(|| Commit {
+                seq,
+                tracked: open.own.keys().cloned().collect(),
+                ops: open.own.into_iter().collect(),
+                transcript: open.transcript,
+            });
+            seq
+        }
+
+        /// The greatest sequence since a transaction's begin of a write of a key that it wrote or read.
+        fn newest_conflict(&self, open: &Open) -> Option<u64> {
+            let of_keys = open
+                .own
+                .keys()
+                .chain(&open.read_keys)
+                .filter_map(|key| self.writes.get(key));
+            let of_ranges = open
+                .read_ranges
                 .iter()
-                .map(|((key, Reverse(seq)), value)| ScanRow {
+                .flat_map(|range| self.writes.range::<[u8], _>(slices_of(range)))
+                .map(|(_, seq)| seq);
+            let later = of_keys.chain(of_ranges).filter(|seq| **seq > open.begin);
+            later.max().copied()
+        }
+
+        fn least_begin(&self) -> Option<u64> {
+            self.names.values().map(|open| open.begin).min()
+        }
+
+        /// Forgets the writes that no open transaction can conflict with, where the least begin was another one before.
+        fn prune(&mut self, before: Option<u64>) {
+            match self.least_begin() {
+                None => self.writes.clear(),
+                least if least == before => {}
+                Some(least) => self.writes.retain(|_, seq| *seq > least),
+            }
+        }
+
+        /// A transaction's own rows of a range, those in memory, and each table that has some, with its index read. Rows of a table
+        /// may stand outside the range.
+        fn sources(
+            &self,
+            open: &Open,
+            order: Order,
+            range: Range,
+        ) -> Result<Vec<Source<'_>>, Failure> {
+            let own = open
+                .own
+                .range::<[u8], _>(range)
+                .map(|(key, value)| ScanRow {
                     key: key.clone(),
                     value: value.clone(),
-                    seq: *seq,
+                    seq: OWN,
                     create_ts: 0,
-                })
-                .collect();
-            turn(&mut rows, order);
-            let mut sources = vec![Source {
-                rows,
-                table: None,
-                offsets: VecDeque::new(),
-            }];
-            for table in self.tables.iter().rev() {
+                });
+            let memory =
+                self.rows
+                    .range(bounds_of_rows(range))
+                    .map(|((key, Reverse(seq)), value)| ScanRow {
+                        key: key.clone(),
+                        value: value.clone(),
+                        seq: *seq,
+                        create_ts: 0,
+                    });
+            let mut sources = vec![
+                Source::of_rows(own.collect(), order),
+                Source::of_rows(memory.collect(), order),
+            ];
+            for table in self.tables.iter().rev().filter(|table| table.meets(range)) {
                 let index = self.read(&table.path, table.index_at, table.stats_at)?;
-                let (offsets, _) = open_section(&self.crc, &index)
+                let (offsets, separators) = open_section(&self.crc, &index)
                     .and_then(read_index)
                     .ok_or(Damage)?;
+                let first = match range.0 {
+                    Bound::Unbounded => 0,
+                    Bound::Included(key) | Bound::Excluded(key) => separators
+                        .partition_point(|separator| *separator < key)
+                        .saturating_sub(1),
+                };
+                let end = match range.1 {
+                    Bound::Unbounded => offsets.len(),
+                    Bound::Included(key) | Bound::Excluded(key) => {
+                        separators.partition_point(|separator| *separator <= key)
+                    }
+                };
                 let ends = offsets.iter().skip(1).copied().chain([table.index_at]);
+                let places = offsets.iter().copied().zip(ends);
                 sources.push(Source {
                     rows: VecDeque::new(),
                     table: Some(table),
-                    offsets: offsets.iter().copied().zip(ends).collect(),
+                    offsets: places.take(end).skip(first).collect(),
                 });
             }
             Ok(sources)
         }
 
-        /// The next row of a source, for which it reads its next block where it has none left.
+        /// The next row of a source, for which it reads its next block where it has none left. Downwards a key whose rows lie in two
+        /// blocks would come by its older rows first: no script scans such a table.
         fn next_head(
             &self,
             sources: &mut [Source],
@@ -1148,7 +1478,7 @@ mod script {
 
         fn flush(&mut self) -> Result<Vec<u8>, Failure> {
             if !self.rows.is_empty() {
-                let barrier = self.names.values().copied().min().unwrap_or(self.last);
+                let barrier = self.least_begin().unwrap_or(self.last);
                 let rows = rows_of_flush(mem::take(&mut self.rows), barrier);
                 self.store_table(&rows)?;
             }
@@ -1231,7 +1561,7 @@ mod script {
     }
 
     /// Of each key the rows above the barrier, and the newest of the others.
-    fn rows_of_flush(rows: BTreeMap<(Vec<u8>, Reverse<u64>), Vec<u8>>, barrier: u64) -> Vec<Row> {
+    fn rows_of_flush(rows: BTreeMap<RowKey, Vec<u8>>, barrier: u64) -> Vec<Row> {
         let mut kept: Vec<Row> = Vec::new();
         for ((key, Reverse(seq)), value) in rows {
             let is_older = kept
@@ -1323,6 +1653,15 @@ mod scripts {
     /// How often all rows are scanned.
     const SCANS: u64 = 4;
 
+    /// How far apart the keys of a table are that two transactions scan.
+    const STEP: u64 = 100;
+
+    /// How many keys are in the range that one of them scans.
+    const WIDTH: u64 = 10_000;
+
+    /// How many rounds lie between two flushes of a script that is made from a seed.
+    const ROUNDS_PER_FLUSH: u32 = 64;
+
     /// The script of this name, and nothing where there is none.
     pub fn make(name: &str) -> Option<String> {
         let mut text = String::new();
@@ -1335,6 +1674,7 @@ mod scripts {
             "scan_down" => write_and_scan(&mut text, MANY, "desc"),
             "scan_runs_up" => write_and_scan(&mut text, RUN, "asc"),
             "scan_runs_down" => write_and_scan(&mut text, RUN, "desc"),
+            "write_past_scans" => write_past_scans(&mut text),
             _ => return None,
         };
         made.ok().map(|()| text)
@@ -1363,6 +1703,63 @@ mod scripts {
         }
         writeln!(text, "begin t si")?;
         (0..SCANS).try_for_each(|_| writeln!(text, "scan t {order} * *"))
+    }
+
+    /// Two serializable transactions that each scan a range of a table, many writes of keys that leave out the range of the first
+    /// alone, and the commits of both.
+    fn write_past_scans(text: &mut String) -> Result {
+        let middle = MANY / 2;
+        let scans = [("free", middle), ("met", middle + WIDTH)];
+        (0..FEW).try_for_each(|i| put(text, i * STEP, i))?;
+        writeln!(text, "flush")?;
+        for (name, start) in scans {
+            let end = start + WIDTH;
+            writeln!(text, "begin {name} ssi")?;
+            writeln!(
+                text,
+                "scan {name} asc i'account/{start:08} e'account/{end:08}"
+            )?;
+        }
+        for i in 0..MANY {
+            let key = scattered(i, MANY);
+            put(text, if key < middle { key } else { key + WIDTH }, i)?;
+        }
+        for (name, start) in scans {
+            writeln!(text, "put {name} 'account/{start:08} '{name}")?;
+            writeln!(text, "commit {name}")?;
+        }
+        Ok(())
+    }
+
+    /// The script of so many rounds that `slate` makes from a seed, and nothing where there is no room. A round reads one of 1,000
+    /// keys and writes one.
+    pub fn generate(rounds: u32, seed: u64) -> Option<String> {
+        let mut text = String::new();
+        push_rounds(&mut text, rounds, seed).ok().map(|()| text)
+    }
+
+    fn push_rounds(text: &mut String, rounds: u32, seed: u64) -> Result {
+        let mut x = seed;
+        for number in 1..=rounds {
+            let first = drawn(x);
+            let second = drawn(first);
+            writeln!(text, "begin t ssi\nget t 'k{}", key_number(first))?;
+            writeln!(text, "put t 'k{} 'v{number}\ncommit t", key_number(second))?;
+            if number % ROUNDS_PER_FLUSH == 0 {
+                writeln!(text, "flush")?;
+            }
+            x = second;
+        }
+        writeln!(text, "flush")
+    }
+
+    fn drawn(x: u64) -> u64 {
+        x.wrapping_mul(6364136223846793005)
+            .wrapping_add(1442695040888963407)
+    }
+
+    fn key_number(x: u64) -> u64 {
+        (x >> 33) % 1000
     }
 
     /// Writes with flushes in between, and gets behind them, each of the key of another write.

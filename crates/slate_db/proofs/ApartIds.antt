@@ -1,11 +1,11 @@
 -- Ids of transactions and of snapshots in one list: new ones are none of those before.
-use Rattle.std.proofs.Common.{◌≡◌, ℕ, ◌+◌, ◌<◌, ◌≤◌, ◌^◌, inl, inr, Bool, true, false, cond, List, [], ◌∷◌, Option, Some, None, refl, sym, ap, subst, arith, bytes_eq}
+use Rattle.std.proofs.Common.{◌≡◌, ℕ, ◌+◌, ◌<◌, ◌≤◌, ◌^◌, inl, inr, Bool, true, false, cond, List, [], ◌∷◌, Some, None, refl, ap, subst, arith, bytes_eq}
 use Rattle.std.specs.Prelude.{IsSome}
 use Rattle.std.specs.List.{AllByRecursion}
 use Rattle.std.proofs.lemmas.Bool.{false_from_ne_true}
 use Rattle.std.proofs.lemmas.Slice.Eq.{bytes_eq-Decides}
 use Rattle.slate_types.specs.Keys.{among}
-use Rattle.slate_txn.specs.Ids.{id_of, snapshot_id, IsOfCount, IsSnapshotOf}
+use Rattle.slate_txn.specs.Ids.{id_of, snapshot_id}
 use Rattle.slate_txn.specs.Named.{find_named, without}
 use Rattle.slate_txn.proofs.IdLaws.{count_not_snapshot, other, snapshot_not_count, snapshot_other, wider, wider_snapshot}
 use Rattle.slate_db.specs.Log.{IsIdOf}

@@ -1,16 +1,18 @@
 -- What a core's calls make of its parts.
---     placed, past_place      whether the journal has a place for so many events more
+--     placed, past_place, only_short      whether the journal has a place for so many events more; that of ids there is always one
 --     room_in_log, room_to_freeze, room_for_run      room was made
 --     begun_is, ended_is, shown_is, released_is, frozen_is, written_is, installed_is      the parts after a call, from what is said of each
-use Rattle.std.proofs.Common.{◌≡◌, ℕ, ◌+◌, ◌≤◌, ◌<◌, List, [], ◌∷◌, ◌++◌, length, ℤ, refl, sym, ap, subst, ◌∙◌, arith}
+use Rattle.std.proofs.Common.{◌≡◌, ℕ, ◌+◌, ◌≤◌, ◌<◌, List, [], ◌∷◌, ◌++◌, length, ◌⊎◌, inl, inr, ◌^◌, ◌-◌, ℤ, sym, ap, subst, ◌∙◌, arith}
 use Rattle.slate_types.specs.declared.config.IsolationLevel.{IsolationLevel}
+use Rattle.slate_types.specs.declared.error.SlateDBError.{SlateDBError}
+use Rattle.slate_types.specs.declared.error.SlateDBError.TheVariants as errors
 use Rattle.slate_types.specs.declared.types.Ulid.{Ulid}
 use Rattle.slate_read.specs.declared.sorted_run.SortedRun.{SortedRun}
 use Rattle.slate_mem.specs.Batch.{Ops}
 use Rattle.slate_txn.specs.declared.event.Event.TheVariants as events
 use Rattle.slate_txn.specs.Ids.{id_of, snapshot_id}
 use Rattle.slate_txn.specs.Managers.{Manager, Snapshots}
-use Rattle.slate_txn.specs.Named.{find_named, without}
+use Rattle.slate_txn.specs.Named.{without}
 use Rattle.slate_txn.specs.Open.{Transactions}
 use Rattle.slate_txn.specs.State.{begun, last_of}
 use Rattle.slate_db.specs.declared.engine.Core.TheInside.{Inside}
@@ -92,13 +94,37 @@ event_ended s c l ts id is log =
 
 -- ---- a snapshot and its release
 
-pub shown_is : (s : Inside) (l : LogModel) (n : Snapshots) → l ≡ with_snapshot s.log l.spare → n.active ≡ s.snapshots.active ++ ((snapshot_id (s.log.snapshot_ids + 1), s.log.last) ∷ []) →
-    view_of (record s { log = with_snapshot s.log l.spare; snapshots = record n { active = s.snapshots.active ++ ((snapshot_id (s.log.snapshot_ids + 1), s.log.last) ∷ []) } }) ≡ view_of (record s { log = l; snapshots = n })
-shown_is s l n log active = let a = sym log in let b = sym active in λ i. view_of (record s { log = a i; snapshots = record n { active = b i } })
+abbrev pub shown_more : Inside → Snapshots
+shown_more s = record s.snapshots { ids = s.snapshots.ids + 1; active = s.snapshots.active ++ ((snapshot_id (s.log.snapshot_ids + 1), s.log.last) ∷ []) }
+
+pub shown_is : (s : Inside) (l : LogModel) (n : Snapshots) → l ≡ with_snapshot s.log l.spare → n ≡ shown_more s → record s { log = with_snapshot s.log l.spare; snapshots = shown_more s } ≡ record s { log = l; snapshots = n }
+shown_is s l n log shown = let a = sym log in let b = sym shown in λ i. record s { log = a i; snapshots = b i }
+
+-- no count of ids is at its end
+pub only_short : (c : CoreModel) (x : Unseen) (e : SlateDBError) → IsWhole c x → (e ≡ errors.OutOfMemory) ⊎ ((e ≡ errors.LimitReached (2 ^ 64 - 1)) × (x.snapshots.ids ≡ 2 ^ 64 - 1)) → e ≡ errors.OutOfMemory
+only_short c x e w (inl short) = short
+only_short c x e w (inr (limit, full)) =
+    let ids : x.snapshots.ids ≡ x.snapshot_ids = w.tied.shown.counted in
+    let most : length c.events + x.ends ≤ LIMIT = w.log.bound in
+    let given : x.snapshot_ids ≤ length c.events = w.log.snapshots_counted in
+    absurd (omega arith)
 
 pub released_is : (s : Inside) (l : LogModel) (n : Snapshots) (id : List ℕ) → l ≡ with_release s.log id l.spare → n ≡ record s.snapshots { active = without id s.snapshots.active } →
     record s { log = with_release s.log id l.spare; snapshots = record s.snapshots { active = without id s.snapshots.active } } ≡ record s { log = l; snapshots = n }
 released_is s l n id log shown = let a = sym log in let b = sym shown in λ i. record s { log = a i; snapshots = b i }
+
+pub event_released : (s : Inside) (c : CoreModel) (l : LogModel) (n : Snapshots) (id : List ℕ) → view_of s ≡ c → l ≡ with_release s.log id l.spare →
+    view_of (record s { log = l; snapshots = n }) ≡ record c { state = (view_of (record s { log = l; snapshots = n })).state; events = c.events ++ (events.Release id ∷ []); spare = l.spare }
+event_released s c l n id is log =
+    (λ i. record (view_of (record s { log = log i; snapshots = n })) { state = (view_of (record s { log = l; snapshots = n })).state })
+    ∙ ap (λ (v : CoreModel). record v { state = (view_of (record s { log = l; snapshots = n })).state; events = v.events ++ (events.Release id ∷ []); spare = l.spare }) is
+
+pub event_shown : (s : Inside) (c : CoreModel) (l : LogModel) (n : Snapshots) (id : List ℕ) (at : ℕ) → view_of s ≡ c → id ≡ snapshot_id (s.log.snapshot_ids + 1) → at ≡ s.log.last → l ≡ with_snapshot s.log l.spare →
+    view_of (record s { log = l; snapshots = n }) ≡ record c { state = (view_of (record s { log = l; snapshots = n })).state; events = c.events ++ (events.Snapshot id at ∷ []); spare = l.spare }
+event_shown s c l n id at is ids ats log =
+    (λ i. record (view_of (record s { log = log i; snapshots = n })) { state = (view_of (record s { log = l; snapshots = n })).state })
+    ∙ (let a = sym ids in let b = sym ats in λ i. record (view_of s) { state = (view_of (record s { log = l; snapshots = n })).state; events = s.log.events ++ (events.Snapshot (a i) (b i) ∷ []); spare = l.spare })
+    ∙ ap (λ (v : CoreModel). record v { state = (view_of (record s { log = l; snapshots = n })).state; events = v.events ++ (events.Snapshot id at ∷ []); spare = l.spare }) is
 
 -- ---- a freeze, a write, an install
 

@@ -1,44 +1,37 @@
 -- What a flush keeps.
-use Rattle.std.proofs.Common.{◌≡◌, ℕ, ◌+◌, ◌≤◌, ◌<◌, List, [], ◌∷◌, ◌++◌, length, refl, sym, ap, subst, ◌∙◌, arith, append-nil, length-append, nat_le}
+use Rattle.std.proofs.Common.{◌≡◌, ℕ, ◌+◌, ◌≤◌, ◌<◌, List, [], ◌∷◌, ◌++◌, length, refl, sym, ap, subst, ◌∙◌, arith, append-nil, nat_le}
 use Rattle.std.specs.List.{AllByRecursion}
 use Rattle.std.proofs.lemmas.Grind.{flat_map-append}
 use Rattle.std.proofs.lemmas.List.Elements.{filter-append}
 use Rattle.slate_types.specs.declared.types.RowEntry.{RowEntry}
 use Rattle.slate_types.specs.declared.types.Ulid.{Ulid}
 use Rattle.slate_types.specs.Fold.{fold_rows, AreShort}
-use Rattle.slate_table.specs.declared.info.SsTableHandle.{SsTableHandle}
 use Rattle.slate_table.specs.Parts.{Encode}
 use Rattle.slate_table.specs.Table.{AreInOrder, IsTable}
 use Rattle.slate_table.proofs.CutLaws.{built_has}
 use Rattle.slate_txn.proofs.BarrierLaws.{start_above}
-use Rattle.slate_txn.specs.declared.event.Event.{Event}
 use Rattle.slate_txn.specs.declared.event.Event.TheVariants as events
 use Rattle.slate_txn.specs.State.{Rules, Commit, opening, last_of}
 use Rattle.slate_txn.specs.Reads.{up_to, key_rows}
-use Rattle.slate_txn.specs.Replay.{replay, apply}
 use Rattle.slate_db.specs.Meaning.{Meaning, rules_of, combine_of, IsLawfulMeaning}
 use Rattle.slate_db.specs.Model.{CoreModel, Rows, versions, versions_in}
-use Rattle.slate_db.specs.Installs.{tables_of, installed, NumberedFrom, IsHandle, AreHandles}
+use Rattle.slate_db.specs.Installs.{tables_of, installed}
 use Rattle.slate_db.specs.Sound.{at_most, above, IsKept, IsSound, AreTables, AreBases}
 use Rattle.slate_db.specs.Layers.{AreRising}
-use Rattle.slate_db.specs.Log.{LIMIT, AreShortOps}
+use Rattle.slate_db.specs.Log.{AreShortOps}
 use Rattle.slate_db.specs.Whole.{IsWhole, Unseen, layers_of}
 use Rattle.slate_txn.specs.Open.{least_start}
 use Rattle.slate_db.specs.Flushed.{AreTablesAt, IsFolded, IsTableAt, Layout, CanFlush, after_install}
 use Rattle.slate_db.specs.Cut.{AreCut}
-use Rattle.slate_table.specs.Paths.{table_id}
 use Rattle.slate_db.proofs.Cuts.{parts_all, versions_cut}
-use Rattle.slate_db.proofs.FlushRows.{rising_front}
 use Rattle.slate_db.proofs.Folds.{wider}
-use Rattle.slate_db.proofs.Journals.{apply_more, used_more, legal_more}
+use Rattle.slate_db.proofs.Journals.{apply_more}
 use Rattle.slate_db.proofs.Split.{none_above, all_up_to}
 use Rattle.slate_db.proofs.Bases.{bases_in, folded_bases}
 use Rattle.slate_db.proofs.Rises.{folded_within, rows_above, tables_rise}
 use Rattle.slate_db.proofs.Short.{all_append, all_filter, commits_short, fold_short, fine_short}
 use Rattle.slate_db.proofs.AllRows.{flush_fold}
-use Rattle.slate_db.proofs.Lists.{all_more, all_map, all_front, all_behind}
-use Rattle.slate_db.proofs.MemoryRows.{rising_behind}
-use Rattle.slate_db.proofs.Quiet.{quiet_more}
+use Rattle.slate_db.proofs.Lists.{all_map, all_front}
 use Rattle.slate_db.proofs.Logs.{tables_more}
 use Rattle.slate_db.proofs.MemoryLayers.{frozen_rise}
 use Rattle.slate_db.proofs.Versions.{short_versions, short_by_key}

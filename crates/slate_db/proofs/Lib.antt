@@ -71,3 +71,4 @@ mod OpenNotes
 mod Readers
 mod ScanMerges
 pub mod RowDamage
+mod Serial

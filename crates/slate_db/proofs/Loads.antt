@@ -14,7 +14,7 @@ use Rattle.slate_types.specs.declared.error.SlateDBError.{SlateDBError}
 use Rattle.slate_types.specs.declared.types.RowEntry.{RowEntry}
 use Rattle.slate_types.specs.Fold.{Combine, fold_rows, fold_taken, taken, from_last}
 use Rattle.slate_types.specs.Keys.{key_cmp, among, keys_set}
-use Rattle.slate_types.specs.Rows.{is_base, operand, sequenced, sequenced_cmp, of_key}
+use Rattle.slate_types.specs.Rows.{is_base, sequenced, sequenced_cmp, of_key}
 use Rattle.slate_types.proofs.KeySetLaws.{among-above, set-keeps, set-rises}
 use Rattle.slate_block.specs.Fitting.{fits_in}
 use Rattle.slate_mem.specs.declared.WriteOp.{WriteOp}

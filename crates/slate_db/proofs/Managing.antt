@@ -1,4 +1,4 @@
--- What ties the manager to the state stays so.
+-- What ties the managers to the state stays so.
 use Rattle.std.proofs.Common.{◌≡◌, ℕ, ◌+◌, ◌-◌, Bool, true, false, cond, bytes_eq, List, [], ◌∷◌, ◌++◌, map, Option, Some, None, refl, sym, ap, subst, ◌∙◌, arith}
 use Rattle.std.specs.List.{AllByRecursion}
 use Rattle.std.proofs.lemmas.List.{map-append}
@@ -6,8 +6,8 @@ use Rattle.slate_types.specs.declared.config.IsolationLevel.{IsolationLevel}
 use Rattle.slate_txn.specs.Conflict.{tracked_writes}
 use Rattle.slate_txn.specs.HandedOver.{Grown}
 use Rattle.slate_txn.specs.Tested.{IsTracked}
-use Rattle.slate_txn.specs.Ids.{IsOfCount}
-use Rattle.slate_txn.specs.Managers.{Active, Manager, StandsFor, IsCommitOf, untracked, with_commit, writes_at}
+use Rattle.slate_txn.specs.Ids.{IsOfCount, IsSnapshotOf}
+use Rattle.slate_txn.specs.Managers.{Active, Manager, Snapshots, StandsFor, IsCommitOf, untracked, with_commit, writes_at}
 use Rattle.slate_txn.specs.Named.{find_named, without, update_named}
 use Rattle.slate_txn.specs.State.{Commit, Tx, begun}
 use Rattle.slate_txn.proofs.NamedLaws.{without_last, update_map}
@@ -109,3 +109,20 @@ managed_committed m g n ids last seq cs ps id t c grown held at keys is stands w
   counted = ap (λ (x : Manager). x.ids) is ∙ ap (λ (x : Manager). x.ids) grown.others ∙ w.counted;
   opened = ap (λ (x : Manager). x.active) is ∙ grown.apart ∙ ap (without id) w.opened ∙ without_as id ps;
 }
+
+-- ---- snapshots
+
+-- an opening that is taken back
+pub back_shown : (m n : Snapshots) (id : List ℕ) (seq : ℕ) → n ≡ record m { ids = m.ids + 1; active = m.active ++ ((id, seq) ∷ []) } → find_named id m.active ≡ None → AllByRecursion (λ p. IsSnapshotOf m.ids p.0) m.active →
+    AllByRecursion (λ p. IsSnapshotOf (n.ids - 1) p.0) (without id n.active)
+back_shown m n id seq is fresh h =
+    subst (λ (x : Snapshots). AllByRecursion (λ p. IsSnapshotOf (x.ids - 1) p.0) (without id x.active)) (sym is)
+    (subst (λ (qs : List (List ℕ × ℕ)). AllByRecursion (λ p. IsSnapshotOf (m.ids + 1 - 1) p.0) qs) (sym (without_last id seq m.active fresh))
+    (subst (λ (k : ℕ). AllByRecursion (λ p. IsSnapshotOf k p.0) m.active) (let e : m.ids ≡ m.ids + 1 - 1 = omega arith in e) h))
+
+pub shown_back : (m n o : Snapshots) (id : List ℕ) (seq : ℕ) → n ≡ record m { ids = m.ids + 1; active = m.active ++ ((id, seq) ∷ []) } → find_named id m.active ≡ None →
+    o ≡ record n { ids = n.ids - 1; active = without id n.active } → o ≡ m
+shown_back m n o id seq is fresh back =
+    back
+    ∙ ap (λ (x : Snapshots). record x { ids = x.ids - 1; active = without id x.active }) is
+    ∙ (let ids : m.ids + 1 - 1 ≡ m.ids = omega arith in let same = without_last id seq m.active fresh in λ i. record m { ids = ids i; active = same i })

@@ -13,7 +13,7 @@ use Rattle.slate_mem.specs.BatchModel.{holds_merge}
 use Rattle.slate_mem.specs.RowOf.{own_row}
 use Rattle.slate_txn.specs.declared.event.TranscriptStep.TheVariants as steps
 use Rattle.slate_txn.specs.Alone.{IsVouched, own_of, scans_left}
-use Rattle.slate_txn.specs.Named.{find_named, update_named}
+use Rattle.slate_txn.specs.Named.{find_named}
 use Rattle.slate_txn.specs.Reads.{rows_seen, seen}
 use Rattle.slate_txn.specs.State.{State, Tx}
 use Rattle.slate_txn.specs.Step.{Reader, is_scan, noted, reader, reader_or_snapshot, tx_reader}
@@ -69,8 +69,8 @@ module _ (s : Inside) (v : CoreModel) (is : view_of s ≡ v) (id : List ℕ) (fr
   floor_at whole = subst (λ (k : CoreModel). k.floor ≤ from.at) is (by (who_reads (view_of s).state id from (ap (λ (k : CoreModel). reader k.state id) is ∙ found)))
     where
       by : IsReader (view_of s).state id from → s.layers.floor ≤ from.at
-      by (transaction t here as) = subst (λ (r : Reader). s.layers.floor ≤ r.at) (sym as) (found_all (λ (x : Tx). (s.layers.floor ≤ x.begin) × (x.begin ≤ s.log.last)) id s.transactions t whole.tied.begins here).0
-      by (snapshot n here there as) = subst (λ (r : Reader). s.layers.floor ≤ r.at) (sym as) (found_all (λ (x : ℕ). (s.layers.floor ≤ x) × (x ≤ s.log.last)) id s.snapshots.active n whole.tied.shows there).0
+      by (transaction t here same) = subst (λ (r : Reader). s.layers.floor ≤ r.at) (sym same) (found_all (λ (x : Tx). (s.layers.floor ≤ x.begin) × (x.begin ≤ s.log.last)) id s.transactions t whole.tied.begins here).0
+      by (snapshot n here there same) = subst (λ (r : Reader). s.layers.floor ≤ r.at) (sym same) (found_all (λ (x : ℕ). (s.layers.floor ≤ x) × (x ≤ s.log.last)) id s.snapshots.active n whole.tied.shows there).0
 
 -- an open transaction's operations are those of its transcript
 pub own_at : (s : Inside) (v : CoreModel) → view_of s ≡ v → (id : List ℕ) → IsWholeInside s → (t : Tx) → find_named id v.state.txns ≡ Some t → t.ops ≡ own_of t.transcript
@@ -84,34 +84,34 @@ module _ (s : State) (id : List ℕ) (from : Reader) (found : reader s id ≡ So
   own_rows_of k rows own none = by (who_reads s id from found)
     where
       by : IsReader s id from → rows ≡ map (own_row k) (reverse (kept from.ops k))
-      by (transaction t here as) = own t here ∙ ap (λ (r : Reader). map (own_row k) (reverse (kept r.ops k))) (sym as)
-      by (snapshot n here there as) = none here ∙ ap (λ (r : Reader). map (own_row k) (reverse (kept r.ops k))) (sym as)
+      by (transaction t here same) = own t here ∙ ap (λ (r : Reader). map (own_row k) (reverse (kept r.ops k))) (sym same)
+      by (snapshot n here there same) = none here ∙ ap (λ (r : Reader). map (own_row k) (reverse (kept r.ops k))) (sym same)
 
   pub own_range_of : (range : BytesRange) (rows : List RowEntry) → ((t : Tx) → find_named id s.txns ≡ Some t → HasOwn range t.ops rows) → (find_named id s.txns ≡ None → rows ≡ []) → HasOwn range from.ops rows
   own_range_of range rows own none = by (who_reads s id from found)
     where
-      nothing : (b : Bool) → [] ≡ cond b [] []
-      nothing true = refl
-      nothing false = refl
+      nothing : (b : Bool) (none : List RowEntry) → none ≡ [] → [] ≡ cond b none []
+      nothing true none is = sym is
+      nothing false none is = refl
 
       by : IsReader s id from → HasOwn range from.ops rows
-      by (transaction t here as) = subst (λ (r : Reader). HasOwn range r.ops rows) (sym as) (own t here)
-      by (snapshot n here there as) = subst (λ (r : Reader). HasOwn range r.ops rows) (sym as) (λ k. ap (of_key k) (none here) ∙ nothing (in_range range k))
+      by (transaction t here same) = subst (λ (r : Reader). HasOwn range r.ops rows) (sym same) (own t here)
+      by (snapshot n here there same) = subst (λ (r : Reader). HasOwn range r.ops rows) (sym same) (λ k. ap (of_key k) (none here) ∙ nothing (in_range range k) _ refl)
 
   pub plain_of : ((t : Tx) → find_named id s.txns ≡ Some t → holds_merge t.ops ≡ false) → holds_merge from.ops ≡ false
   plain_of plain = by (who_reads s id from found)
     where
       by : IsReader s id from → holds_merge from.ops ≡ false
-      by (transaction t here as) = ap (λ (r : Reader). holds_merge r.ops) as ∙ plain t here
-      by (snapshot n here there as) = ap (λ (r : Reader). holds_merge r.ops) as
+      by (transaction t here same) = ap (λ (r : Reader). holds_merge r.ops) same ∙ plain t here
+      by (snapshot n here there same) = ap (λ (r : Reader). holds_merge r.ops) same
 
   -- how many scans it opened
   pub scans_of : (n : ℕ) → ((t : Tx) → find_named id s.txns ≡ Some t → n ≡ count_by is_scan t.transcript) → (find_named id s.txns ≡ None → n ≡ 0) → n ≡ from.scans
   scans_of n opened none = by (who_reads s id from found)
     where
       by : IsReader s id from → n ≡ from.scans
-      by (transaction t here as) = opened t here ∙ ap (λ (r : Reader). r.scans) (sym as)
-      by (snapshot m here there as) = none here ∙ ap (λ (r : Reader). r.scans) (sym as)
+      by (transaction t here same) = opened t here ∙ ap (λ (r : Reader). r.scans) (sym same)
+      by (snapshot m here there same) = none here ∙ ap (λ (r : Reader). r.scans) (sym same)
 
 -- ---- what is noted
 
@@ -121,15 +121,12 @@ pub scan_left : (m : Meaning) (c : CoreModel) (id : List ℕ) (order : Iteration
     slice_get (scans_left (rules_of c.settings m) c.state.commits u.begin u.transcript) n ≡ Some (order, rows_seen (rules_of c.settings m) c.state.commits from.at from.ops order range)
 scan_left m c id order range from n found number own u there = by (who_reads c.state id from found)
   where
-    abbrev goal : Type 0
-    goal = slice_get (scans_left (rules_of c.settings m) c.state.commits u.begin u.transcript) n ≡ Some (order, rows_seen (rules_of c.settings m) c.state.commits from.at from.ops order range)
-
-    by : IsReader c.state id from → goal
-    by (transaction t here as) =
-        ap (slice_get (scans_left (rules_of c.settings m) c.state.commits u.begin u.transcript)) (number ∙ ap (λ (r : Reader). r.scans) as)
+    by : IsReader c.state id from → slice_get (scans_left (rules_of c.settings m) c.state.commits u.begin u.transcript) n ≡ Some (order, rows_seen (rules_of c.settings m) c.state.commits from.at from.ops order range)
+    by (transaction t here same) =
+        ap (slice_get (scans_left (rules_of c.settings m) c.state.commits u.begin u.transcript)) (number ∙ ap (λ (r : Reader). r.scans) same)
         ∙ noted_left m c id order range t u here (own t here) there
-        ∙ ap (λ (r : Reader). Some (order, rows_seen (rules_of c.settings m) c.state.commits r.at r.ops order range)) (sym as)
-    by (snapshot _ here _ as) =
+        ∙ ap (λ (r : Reader). Some (order, rows_seen (rules_of c.settings m) c.state.commits r.at r.ops order range)) (sym same)
+    by (snapshot _ here _ same) =
         let e : None ≡ Some u = sym here ∙ ap (find_named id) (sym (update_none id (λ (t : Tx). record t { transcript = t.transcript ++ (steps.Scan order range ∷ []) }) c.state.txns here)) ∙ there in cc
 
 pub vouched_get : (m : Meaning) (c : CoreModel) (id k key : List ℕ) (a : Option KeyValue) (from : Reader) → reader c.state id ≡ Some from → ((t : Tx) → find_named id c.state.txns ≡ Some t → t.ops ≡ own_of t.transcript) →

@@ -1,5 +1,5 @@
 -- A row that a scan handed out, and a seek, are noted in its transaction's transcript.
-use Rattle.std.proofs.Common.{◌≡◌, ◌<◌, ℕ, zero, suc, arith, Bool, true, false, cond, bytes_eq, List, [], ◌∷◌, ◌++◌, drop, length, count_by, Option, Some, None, option_map, refl, sym, ap, subst, ◌∙◌, slice_get}
+use Rattle.std.proofs.Common.{◌≡◌, ◌<◌, ℕ, zero, suc, arith, Bool, true, false, cond, bytes_eq, List, [], ◌∷◌, ◌++◌, drop, length, Option, Some, None, option_map, refl, sym, ap, subst, ◌∙◌, slice_get}
 use Rattle.std.specs.Prelude.{IsSome}
 use Rattle.std.proofs.lemmas.Option.{same_Some}
 use Rattle.slate_types.specs.declared.iter.IterationOrder.{IterationOrder}
@@ -11,7 +11,6 @@ use Rattle.slate_txn.specs.declared.event.TranscriptStep.TheVariants as steps
 use Rattle.slate_txn.specs.Alone.{IsVouched, first_left, scans_left}
 use Rattle.slate_txn.specs.Named.{find_named, update_named}
 use Rattle.slate_txn.specs.State.{Rules, Tx}
-use Rattle.slate_txn.specs.Step.{is_scan}
 use Rattle.slate_txn.proofs.ScanLaws.{count_left, next_alone, next_moves, seek_alone, seek_moves}
 use Rattle.slate_db.specs.declared.scan.TxnIterator.{TxnIterator}
 use Rattle.slate_db.specs.Meaning.{Meaning, rules_of}

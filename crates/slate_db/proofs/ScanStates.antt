@@ -7,7 +7,7 @@ use Rattle.std.specs.declared.ops.Bound.{Bound}
 use Rattle.std.specs.declared.ops.Bound.TheVariants.{Included, Excluded, Unbounded}
 use Rattle.slate_types.specs.declared.bytes_range.BytesRange.{BytesRange}
 use Rattle.slate_types.specs.declared.error.SlateDBError.{SlateDBError}
-use Rattle.slate_types.specs.declared.error.SlateDBError.TheVariants.{MergeOperatorMissing, OutOfMemory}
+use Rattle.slate_types.specs.declared.error.SlateDBError.TheVariants.{MergeOperatorMissing}
 use Rattle.slate_types.specs.declared.iter.IterationOrder.{IterationOrder}
 use Rattle.slate_types.specs.declared.iter.IterationOrder.TheVariants.{Ascending, Descending}
 use Rattle.slate_types.specs.declared.types.KeyValue.{KeyValue}
@@ -187,19 +187,15 @@ pub refused_again : (range : BytesRange) (at : Option (List ℕ)) (a : Reach) (x
 refused_again range at a x k e is copies = subst (λ (s : ScanState). Made a a (λ reads. IsFault a a e ⊎ RefusesIn range s a.meaning reads at e)) (sym is) ([], call_none a, kept_again a.faults a.faults k e copies)
 
 -- it answers again what it kept
-pub kept_answer : {V : Type 0} (x : ScanState) (k l e : SlateDBError) → x ≡ Refused k → Copies k e → x ≡ Refused l → (Err {V} e ≡ Err l) ⊎ (Err {V} e ≡ Err OutOfMemory)
-kept_answer x k l e is copies kept =
-    let same : k ≡ l = ap (λ (s : ScanState). kept_in k s) (sym is ∙ kept) in
-    by same copies
-  where
-    kept_in : SlateDBError → ScanState → SlateDBError
-    kept_in d (Walking rows) = d
-    kept_in d Done = d
-    kept_in d (Refused c) = c
+kept_in : SlateDBError → ScanState → SlateDBError
+kept_in d (Walking rows) = d
+kept_in d Done = d
+kept_in d (Refused k) = k
 
-    by : k ≡ l → Copies k e → (Err e ≡ Err l) ⊎ (Err e ≡ Err OutOfMemory)
-    by same (inl copy) = inl (ap Err (copy ∙ same))
-    by same (inr memory) = inr (ap Err memory)
+pub kept_answer : {V : Type 0} (r : Result V SlateDBError) (x : ScanState) (k l e : SlateDBError) → r ≡ Err e → x ≡ Refused k → Copies k e → x ≡ Refused l → AnswersAgain l r
+unfolding kept_in
+kept_answer r x k l e answer is (inl copy) kept = inl (answer ∙ ap Err (copy ∙ ap (kept_in k) (sym is ∙ kept)))
+kept_answer r x k l e answer is (inr memory) kept = inr (answer ∙ ap Err memory)
 
 -- what has answered was not refused
 pub answered_once : {V Q : Type 0} (a : V) (k : SlateDBError) → AnswersAgain k (Ok a) → Q

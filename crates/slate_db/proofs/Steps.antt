@@ -1,5 +1,5 @@
 -- The model's step of each call.
-use Rattle.std.proofs.Common.{◌≡◌, ℕ, ◌+◌, true, List, Option, Some, None, refl, arith}
+use Rattle.std.proofs.Common.{◌≡◌, ℕ, ◌+◌, true, List, Option, Some, None, refl}
 use Rattle.std.specs.Prelude.{is_some, IsSome}
 use Rattle.slate_types.specs.declared.config.IsolationLevel.{IsolationLevel}
 use Rattle.slate_txn.specs.declared.line.Line.TheVariants as lines

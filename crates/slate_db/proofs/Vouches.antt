@@ -17,7 +17,7 @@ use Rattle.slate_txn.specs.Named.{find_named, update_named, without}
 use Rattle.slate_txn.specs.Reads.{seen}
 use Rattle.slate_txn.specs.Reply.{Reply, Flushed}
 use Rattle.slate_txn.specs.State.{Rules, Commit, State, Tx, begun}
-use Rattle.slate_txn.specs.Step.{noted, step, with_op}
+use Rattle.slate_txn.specs.Step.{step, with_op}
 use Rattle.slate_txn.proofs.ReadLaws.{alone-more, alone-same, same-commits}
 use Rattle.slate_db.specs.Committed.{IsCommitted, IsNextOf}
 use Rattle.slate_db.specs.Meaning.{Meaning, rules_of}

@@ -1,6 +1,6 @@
 -- What ties the parts of a core stays so.
 --     after_begin, after_end, after_snapshot, after_release, after_freeze      the core after each
-use Rattle.std.proofs.Common.{◌≡◌, ℕ, ◌+◌, ◌-◌, ◌^◌, ◌≤◌, ◌<◌, List, [], ◌∷◌, ◌++◌, length, map, refl, sym, ap, subst, ◌∙◌, arith, ℤ, Greater, length-append, append-nil, None}
+use Rattle.std.proofs.Common.{◌≡◌, ℕ, ◌+◌, ◌-◌, ◌^◌, ◌≤◌, ◌<◌, List, [], ◌∷◌, ◌++◌, length, map, refl, sym, ap, subst, ◌∙◌, arith, ℤ, Greater, append-nil, None}
 use Rattle.std.proofs.lemmas.List.{map-append, length-map}
 use Rattle.std.specs.Prelude.{IsSome}
 use Rattle.std.specs.List.{AllByRecursion}
@@ -18,22 +18,22 @@ use Rattle.slate_txn.specs.declared.event.TranscriptStep.TheVariants as steps
 use Rattle.slate_txn.specs.Alone.{own_of}
 use Rattle.slate_txn.specs.Ids.{id_of, snapshot_id, IsOfCount, IsSnapshotOf}
 use Rattle.slate_txn.specs.Managers.{Manager, Snapshots, StandsFor, untracked}
-use Rattle.slate_txn.specs.Named.{find_named, without, update_named}
+use Rattle.slate_txn.specs.Named.{find_named, without}
 use Rattle.slate_txn.specs.Places.{IsQuiet}
 use Rattle.slate_txn.specs.Reads.{up_to}
-use Rattle.slate_txn.specs.Replay.{replay, apply, used_from}
+use Rattle.slate_txn.specs.Replay.{replay, apply}
 use Rattle.slate_txn.specs.State.{Commit, Tx, begun, opening, last_of}
 use Rattle.slate_txn.specs.Step.{noted, with_op}
 use Rattle.slate_db.specs.Flushed.{after_install}
 use Rattle.slate_db.specs.Installs.{as_begun, runs_of, installed, IsRun, AreRuns, Replays}
 use Rattle.slate_db.specs.Layers.{AreLayers}
-use Rattle.slate_db.specs.Log.{IsLog, LogModel, HasPlace, ends_of}
+use Rattle.slate_db.specs.Log.{IsLog, ends_of}
 use Rattle.slate_db.specs.Managed.{IsManaged, IsShown}
 use Rattle.slate_db.specs.Meaning.{Meaning}
 use Rattle.slate_db.specs.Operated.{operated}
-use Rattle.slate_db.specs.Model.{CoreModel, Rows, versions_in, memory}
+use Rattle.slate_db.specs.Model.{CoreModel, Rows, memory}
 use Rattle.slate_db.specs.Sound.{IsKept}
-use Rattle.slate_db.specs.Whole.{IsWhole, AreTied, Unseen, BeginsWithin, ShowsWithin, log_of, layers_of}
+use Rattle.slate_db.specs.Whole.{IsWhole, Unseen, BeginsWithin, ShowsWithin, log_of, layers_of}
 use Rattle.slate_db.specs.Written.{after_write}
 use Rattle.slate_db.proofs.ApartIds.{named_is, none_named, without_none}
 use Rattle.slate_db.proofs.Journals.{apply_more}

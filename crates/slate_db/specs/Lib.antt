@@ -29,6 +29,7 @@ pub mod Readable
 pub mod Vouched
 pub mod Scanned
 pub mod ScanLaws
+pub mod SerialLaws
 pub mod Values
 pub mod Scans
 pub mod OpenScans

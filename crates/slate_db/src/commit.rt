@@ -23,7 +23,7 @@ use crate::layers::Layers;
 use crate::put::put_own;
 use slate_mem::WriteBatch;
 use slate_txn::{DbTransactionInner, KeyList, OpList, Tested, TransactionManager, Transcript};
-use slate_types::SlateDBError;
+use slate_types::{NoOperator, SlateDBError};
 use std::alloc::Global;
 use uuid::Uuid;
 
@@ -155,7 +155,13 @@ pub(crate) fn put_commit(
     ensures cause { IsOkUnless result SlateDBError.OutOfMemory }
 {
     let seq = last + 1;
-    let (rows, _bytes) = batch.extract_entries(alloc, seq, now, default_millis)?;
+    let (rows, _bytes) = batch.extract_entries(
+        alloc,
+        seq,
+        now,
+        default_millis,
+        &mut None::<NoOperator>,
+    )?;
     let ops = batch.ops(alloc)?;
     put_own(alloc, layers, manager, rows, id, seq)?;
     Ok(OpList::from_vec(ops))

@@ -70,8 +70,8 @@ use slate_store::{Env, EnvOf, Store};
 use slate_txn::fold::fold_found;
 use slate_txn::{Journal, OpList, OpenTransactions, SnapshotManager, TransactionManager};
 use slate_types::{
-    BlockTransformer, BytesRange, IsolationLevel, KeyValue, MergeOperator, Options, Outside,
-    PrefixExtractor, PutOptions, ReadOptions, RowEntry, ScanOptions, SlateDBError,
+    BlockTransformer, BytesRange, IsolationLevel, KeyValue, MergeOperator, NoOperator, Options,
+    Outside, PrefixExtractor, PutOptions, ReadOptions, RowEntry, ScanOptions, SlateDBError,
 };
 use std::alloc::Global;
 use std::marker::Model;
@@ -278,7 +278,13 @@ impl Core {
         self.log.place(1)?;
         self.log.reserve()?;
         let seq = self.log.last() + 1;
-        let (rows, _bytes) = batch.extract_entries(self.alloc, seq, now, self.default_millis)?;
+        let (rows, _bytes) = batch.extract_entries(
+            self.alloc,
+            seq,
+            now,
+            self.default_millis,
+            &mut None::<NoOperator>,
+        )?;
         let ops = batch.ops(self.alloc)?;
         let keys = batch.keys()?;
         put_batch(
@@ -294,11 +300,12 @@ impl Core {
     }
 
     /// Freezes, stores the rows that wait as tables, and gives the newest sequence. Of each key the rows at or below the
-    /// barrier, which is the least begin of an open transaction or sequence of an open snapshot, or else the newest sequence, become their fold. Where no
-    /// rows are in memory nothing is stored. Refuses by `LimitReached` where the journal has no place for the events, and
-    /// then nothing is changed, or where a table would pass a limit; by `StoreFault` and `BlockTransformError`, each only
-    /// where its count of faults rose, and then the rows are frozen; and by `OutOfMemory`. Else the rows are in memory as
-    /// before, or frozen, and the store's objects are as they were, or have some first of the tables, which no event names.
+    /// barrier, which is the least begin of an open transaction or sequence of an open snapshot, or else the newest sequence,
+    /// become their fold. Where no rows are in memory nothing is stored. Refuses by `LimitReached` where the journal has no place
+    /// for the events, and then nothing is changed, or where a table would pass a limit; by `StoreFault` and
+    /// `BlockTransformError`, each only where its count of faults rose, and then the rows are frozen; and by `OutOfMemory`. Else
+    /// the rows are in memory as before, or frozen, and the store's objects are as they were, or have some first of the tables,
+    /// which no event names.
     pub fn flush<S: Store, M: MergeOperator, T: BlockTransformer, X: PrefixExtractor>(
         &mut self,
         env: &mut Env<'_, S, M, T>,

@@ -1,5 +1,5 @@
 //! The rows of a scan.
-ghost use Rattle.std.specs.Prelude.{◌≡◌, ◌⊎◌, ℕ, List, None, Some, true, false, IfOk, IfErr, OnOk, drop};
+ghost use Rattle.std.specs.Prelude.{◌≡◌, ◌≢◌, ◌⊎◌, ℕ, List, None, Some, true, false, IfOk, IfErr, OnOk, drop};
 ghost use Rattle.slate_types.specs.declared.bytes_range.BytesRange.{BytesRange};
 ghost use Rattle.slate_types.specs.declared.error.SlateDBError.{SlateDBError};
 ghost use Rattle.slate_types.specs.declared.iter.IterationOrder.{IterationOrder};
@@ -33,12 +33,13 @@ pub(crate) enum ScanState<'a> {
     Refused(SlateDBError),
 }
 
-/// The next row in a state.
+/// The next row in a state that was not refused.
 fn next_in<S: Store, M: MergeOperator, T: BlockTransformer>(
     alloc: Global,
     state: &mut ScanState<'_>,
     env: &mut Env<'_, S, M, T>,
 ) -> Result<Option<KeyValue>, SlateDBError>
+    requires { (kept : SlateDBError) → state.old ≢ ScanState.Refused kept }
     ensures rows { let reach = ⟦<EnvOf<S, M, T> as Outside>⟧.reach in (w : World) (range : BytesRange) (order : IterationOrder) (rows : List RowEntry) →
         Sees w (reach env.old) (reach env.new) → IsSoundIn order state.old w → HasValues range (left_in state.old w) rows →
         IfOk result (λ a. (a ≡ first_left rows) × IsSoundIn order state.new w × HasValues range (left_in state.new w) (drop 1 rows)) }
@@ -53,17 +54,18 @@ fn next_in<S: Store, M: MergeOperator, T: BlockTransformer>(
     match state {
         ScanState::Walking(rows) => next_value(alloc, rows, env),
         ScanState::Done => Ok(None),
-        ScanState::Refused(error) => Err(copy_of(error)),
+        ScanState::Refused(_) => unreachable!(),
     }
 }
 
-/// A seek in a state to a key that isn't below the start of the range.
+/// A seek to a key that isn't below the start of the range, in a state that was not refused.
 fn seek_in<S: Store, M: MergeOperator, T: BlockTransformer>(
     alloc: Global,
     state: &mut ScanState<'_>,
     key: &[u8],
     env: &mut Env<'_, S, M, T>,
 ) -> Result<(), SlateDBError>
+    requires { (kept : SlateDBError) → state.old ≢ ScanState.Refused kept }
     ensures rows { let reach = ⟦<EnvOf<S, M, T> as Outside>⟧.reach in (w : World) (range : BytesRange) (order : IterationOrder) (rows : List RowEntry) →
         Sees w (reach env.old) (reach env.new) → IsSoundIn order state.old w → HasValues range (left_in state.old w) rows →
         OnOk result (IsSoundIn order state.new w × HasValues range (left_in state.new w) (drop_before order key.now rows)) }
@@ -79,7 +81,7 @@ fn seek_in<S: Store, M: MergeOperator, T: BlockTransformer>(
     match state {
         ScanState::Walking(rows) => seek_values(alloc, rows, key, env),
         ScanState::Done => Ok(()),
-        ScanState::Refused(error) => Err(copy_of(error)),
+        ScanState::Refused(_) => unreachable!(),
     }
 }
 

@@ -20,11 +20,11 @@ use Rattle.slate_mem.specs.declared.WriteOp.{WriteOp}
 use Rattle.slate_mem.specs.declared.batch_iterator.Stamps.{Stamps}
 use Rattle.slate_mem.specs.Batch.{Ops, kept}
 use Rattle.slate_mem.specs.BatchRows.{batch_rows, stamped, newest_rows}
-use Rattle.slate_mem.specs.Kept.{Entries, listed, AreKept}
+use Rattle.slate_mem.specs.Kept.{Entries, items_at, listed, AreKept}
 use Rattle.slate_mem.specs.RowOf.{row_at}
 use Rattle.slate_types.specs.Rows.{of_key}
 use Rattle.std.proofs.lemmas.List.{append-nil}
-use Rattle.slate_mem.proofs.KeptLaws.{items_at, none-at, kept-listed}
+use Rattle.slate_mem.proofs.KeptLaws.{none-at, kept-listed}
 use Rattle.slate_types.proofs.KeyBounds.{range_contains-in_range}
 
 -- ---- the rows of entries
@@ -37,7 +37,7 @@ key-at : (k : List ℕ) (n : ℕ) (default_millis : Option ℕ) (moment : Option
 key-at k n default_millis None op = refl
 key-at k n default_millis (Some now) op = refl
 
-key-stamped : (s : Stamps) (k : List ℕ) (op : WriteOp) → (stamped s k op).key ≡ k
+pub key-stamped : (s : Stamps) (k : List ℕ) (op : WriteOp) → (stamped s k op).key ≡ k
 key-stamped s k op = key-at k s.seq s.default_ttl_millis s.create_ts op
 
 -- rows that all have one key

@@ -22,7 +22,7 @@ use Rattle.slate_mem.specs.BatchModel.{BatchModel, is_merge_op, holds_merge, wit
 use Rattle.slate_mem.specs.Refusals.{op_refusal}
 use Rattle.slate_mem.specs.RowOf.{op_row}
 use Rattle.slate_mem.specs.CommitRows.{commit_rows}
-use Rattle.slate_mem.specs.Kept.{Entries, listed, tagged, IsKept, AreKept, IsSingle, AreFineAt, AreFine, IsWhole, single_row, single_rows}
+use Rattle.slate_mem.specs.Kept.{Entries, items_at, listed, tagged, IsKept, AreKept, IsSingle, AreFineAt, AreFine, IsWhole, single_row, single_rows}
 use Rattle.slate_mem.specs.declared.batch_iterator.Stamps.{Stamps}
 use Rattle.slate_mem.specs.BatchRows.{stamped, newest_rows}
 use Rattle.std.proofs.lemmas.List.{append-nil}
@@ -36,10 +36,6 @@ above-other : (a b : List ℕ) → key_cmp a b ≡ Greater → bytes_eq a b ≡ 
 above-other a b e = sym (is_eq-slice_cmp a b) ∙ ap is_eq e
 
 -- ---- what entries have at a key
-
-abbrev pub items_at : Entries → List ℕ → List WriteOp
-items_at [] k = []
-items_at (e ∷ es) k = cond (bytes_eq e.0 k) e.1.items (items_at es k)
 
 pub none-at : (es : Entries) (k : List ℕ) → AllAbove k (keys_of es) → items_at es k ≡ []
 none-at [] k h = refl
@@ -60,7 +56,7 @@ ops_of-listed (e ∷ es) k h =
         ap (λ xs. e.1.items ++ xs) (ap (items_at es) (sym same) ∙ none-at es e.0 h.0) ∙ append-nil e.1.items
     by false is = refl
 
-kept-at : (es : Entries) (k : List ℕ) → AreKept es → from_last replaces (items_at es k) ≡ items_at es k
+pub kept-at : (es : Entries) (k : List ℕ) → AreKept es → from_last replaces (items_at es k) ≡ items_at es k
 kept-at [] k h = refl
 kept-at (e ∷ es) k h = by (bytes_eq e.0 k) (kept-at es k h.1)
   where
@@ -98,7 +94,7 @@ same-kept xs ys h =
     λ i. flat_map (λ k. map (λ op. (k, op)) (h k i)) (keys i)
 
 -- the entries are listed by any function that gives each key's operations
-abbrev Gives : (List ℕ → List WriteOp) → Entries → Type 0
+abbrev pub Gives : (List ℕ → List WriteOp) → Entries → Type 0
 Gives f es = AllByRecursion (λ e. f e.0 ≡ e.1.items) es
 
 listed-by : (f : List ℕ → List WriteOp) (es : Entries) → Gives f es → flat_map (λ k. map (λ op. (k, op)) (f k)) (keys_of es) ≡ listed es
@@ -109,7 +105,7 @@ gives-more : (e : List ℕ × SmallVec WriteOp) (es fs : Entries) → AllAbove e
 gives-more e es [] above h = tt
 gives-more e es (f ∷ fs) above h = (ap (λ b. cond b e.1.items (items_at es f.0)) (bytes_eq-below e.0 f.0 above.0) ∙ h.0, gives-more e es fs above.1 h.1)
 
-gives-each : (es : Entries) → IsStrictlySortedBy key_cmp (keys_of es) → Gives (items_at es) es
+pub gives-each : (es : Entries) → IsStrictlySortedBy key_cmp (keys_of es) → Gives (items_at es) es
 unfolding IsStrictlySortedBy
 gives-each [] h = tt
 gives-each (e ∷ es) h = (ap (λ b. cond b e.1.items (items_at es e.0)) ((bytes_eq-Decides e.0 e.0).1 refl), gives-more e es es h.0 (gives-each es h.1))
@@ -139,7 +135,7 @@ listed-more es fs k op rising whole rising' whole' at =
         by true is = ap (λ h. from_last replaces (items_at es h ++ (op ∷ []))) ((bytes_eq-Decides k j).0 is)
         by false is = sym (ap (from_last replaces) (append-nil (items_at es j)) ∙ kept-at es j whole)
 
-at-insert : (es : Entries) (k : List ℕ) (v : SmallVec WriteOp) (j : List ℕ) → items_at (insert_entry key_cmp es k v) j ≡ cond (bytes_eq k j) v.items (items_at es j)
+pub at-insert : (es : Entries) (k : List ℕ) (v : SmallVec WriteOp) (j : List ℕ) → items_at (insert_entry key_cmp es k v) j ≡ cond (bytes_eq k j) v.items (items_at es j)
 at-insert [] k v j = refl
 at-insert (e ∷ es) k v j = by (key_cmp k e.0) refl (at-insert es k v j)
   where
@@ -162,7 +158,7 @@ at-insert (e ∷ es) k v j = by (key_cmp k e.0) refl (at-insert es k v j)
             sym (ap (λ b. cond b v.items e.1.items) (ap (bytes_eq k) (sym same) ∙ above-other k e.0 is))
         two false h = later
 
-all-insert : (Q : SmallVec WriteOp → Type 0) (es : Entries) (k : List ℕ) (v : SmallVec WriteOp) → AllByRecursion (λ e. Q e.1) es → Q v → AllByRecursion (λ e. Q e.1) (insert_entry key_cmp es k v)
+pub all-insert : (Q : SmallVec WriteOp → Type 0) (es : Entries) (k : List ℕ) (v : SmallVec WriteOp) → AllByRecursion (λ e. Q e.1) es → Q v → AllByRecursion (λ e. Q e.1) (insert_entry key_cmp es k v)
 all-insert Q [] k v h q = (q, tt)
 all-insert Q (e ∷ es) k v h q = by (key_cmp k e.0) (all-insert Q es k v h.1 q)
   where
@@ -171,7 +167,7 @@ all-insert Q (e ∷ es) k v h q = by (key_cmp k e.0) (all-insert Q es k v h.1 q)
     by Equal later = (q, h.1)
     by Greater later = (h.0, later)
 
-fine-insert : (es : Entries) (k : List ℕ) (v : SmallVec WriteOp) → AreFine es → AreFineAt k v.items → AreFine (insert_entry key_cmp es k v)
+pub fine-insert : (es : Entries) (k : List ℕ) (v : SmallVec WriteOp) → AreFine es → AreFineAt k v.items → AreFine (insert_entry key_cmp es k v)
 fine-insert [] k v h q = (q, tt)
 fine-insert (e ∷ es) k v h q = by (key_cmp k e.0) refl (fine-insert es k v h.1 q)
   where

@@ -16,7 +16,7 @@ decided_more r x xs =
     ap (λ n. is_last_base (slice_get (r ∷ x ∷ xs) n)) (let e : length (r ∷ x ∷ xs) - 1 ≡ suc (length xs) = omega arith in e)
     ∙ ap (λ n. is_last_base (slice_get (x ∷ xs) n)) (let e : length xs ≡ length (x ∷ xs) - 1 = omega arith in e)
 
-base_rest : (xs ys : List RowEntry) → cond (is_decided (to_base xs)) (to_base xs) (to_base xs ++ to_base ys) ≡ to_base (xs ++ ys)
+pub base_rest : (xs ys : List RowEntry) → cond (is_decided (to_base xs)) (to_base xs) (to_base xs ++ to_base ys) ≡ to_base (xs ++ ys)
 base_rest [] ys = refl
 base_rest (r ∷ rs) ys = by (is_base r) refl (base_rest rs ys)
   where

@@ -105,7 +105,7 @@ any-last-not : {A : Type 0} (test : A → Bool) (xs : List A) (x : A) → test x
 any-last-not test [] x h = ap (λ b. b || false) h
 any-last-not test (y ∷ ys) x h = ap (λ b. test y || b) (any-last-not test ys x h)
 
-from-last-stays : {A : Type 0} (test : A → Bool) (xs : List A) (x : A) → test x ≡ false → from_last test (xs ++ (x ∷ [])) ≡ from_last test xs ++ (x ∷ [])
+pub from-last-stays : {A : Type 0} (test : A → Bool) (xs : List A) (x : A) → test x ≡ false → from_last test (xs ++ (x ∷ [])) ≡ from_last test xs ++ (x ∷ [])
 from-last-stays test [] x h = refl
 from-last-stays test (y ∷ ys) x h = by (list_any test (ys ++ (x ∷ []))) (list_any test ys) (any-last-not test ys x h) (from-last-stays test ys x h)
   where

@@ -17,7 +17,7 @@ rows-have : (k : List ℕ) (n : ℕ) (default_millis : Option ℕ) (now : ℤ) (
 rows-have k n default_millis now [] = tt
 rows-have k n default_millis now (o ∷ os) = ((refl, (refl, refl)), rows-have k n default_millis now os)
 
-from_last-all : {A : Type 0} (P : A → Type 0) (test : A → Bool) (xs : List A) → AllByRecursion P xs → AllByRecursion P (from_last test xs)
+pub from_last-all : {A : Type 0} (P : A → Type 0) (test : A → Bool) (xs : List A) → AllByRecursion P xs → AllByRecursion P (from_last test xs)
 from_last-all P test [] h = h
 from_last-all P test (x ∷ xs) h = by (list_any test xs) (from_last-all P test xs h.1)
   where

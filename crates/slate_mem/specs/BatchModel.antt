@@ -4,7 +4,7 @@
 --     with_op b k op      the batch with one operation more
 --     IsBatchOf ops b      b is the batch of these operations, of which it keeps some
 --     holds_merge ops      one of them is a merge
---     plain_put v      the put of a value with the default options
+--     plain_put v, plain_merge v      the put and the merge of a value with the default options
 use Rattle.std.specs.Prelude.{◌≡◌, ℕ, Bool, true, false, ◌||◌, List, [], ◌∷◌, ◌++◌}
 use Rattle.std.specs.List.{list_any}
 use Rattle.slate_types.specs.declared.config.Ttl.TheVariants.{Default}
@@ -38,3 +38,6 @@ IsBatchOf ops b = (b.ops ≡ kept_ops ops) × (b.held_merge ≡ holds_merge ops)
 
 abbrev pub plain_put : List ℕ → WriteOp
 plain_put v = Put v (record { ttl = Default })
+
+abbrev pub plain_merge : List ℕ → WriteOp
+plain_merge v = Merge v (record { ttl = Default })

@@ -1,12 +1,15 @@
 -- How a batch keeps its operations: a map from keys to the operations of each.
 --     tagged k ops, listed es      the operations of a key, and of all entries, each with its key
+--     items_at es k      what the entries have at a key
+--     HasMore es fs k op      entries with one operation more, which stands behind those of its key
 --     single_rows default n now es      the rows of keys that have one operation each
 --     AreFine es      no operation of the entries is refused by itself
 --     IsWhole es held      what stands at all times of the entries and of whether a merge was taken
-use Rattle.std.specs.Prelude.{◌≡◌, ℕ, ◌<◌, Bool, true, false, List, [], ◌∷◌, map, filter_map, flat_map, length, Option, Some, None, ℤ}
+use Rattle.std.specs.Prelude.{◌≡◌, ℕ, ◌<◌, Bool, true, false, List, [], ◌∷◌, ◌++◌, map, filter_map, flat_map, length, if◌then◌else◌, bytes_eq, Option, Some, None, ℤ}
 use Rattle.std.specs.List.{AllByRecursion}
 use Rattle.std.specs.List.Sorted.{IsStrictlySortedBy}
 use Rattle.std.specs.Map.{keys_of}
+use Rattle.std.specs.BTreeMap.{insert_entry}
 use Rattle.smallvec.specs.SmallVec.{SmallVec}
 use Rattle.slate_types.specs.Keys.{key_cmp}
 use Rattle.slate_types.specs.Fold.{from_last}
@@ -24,6 +27,16 @@ tagged k ops = map (λ op. (k, op)) ops
 
 abbrev pub listed : Entries → Ops
 listed es = flat_map (λ e. tagged e.0 e.1.items) es
+
+abbrev pub items_at : Entries → List ℕ → List WriteOp
+items_at [] k = []
+items_at (e ∷ es) k = if bytes_eq e.0 k then e.1.items else items_at es k
+
+pub record HasMore (es fs : Entries) (k : List ℕ) (op : WriteOp) : Type 0 where
+  pub list : SmallVec WriteOp
+  pub items : list.items ≡ items_at es k ++ (op ∷ [])
+  pub is : fs ≡ insert_entry key_cmp es k list
+  pub rising : IsStrictlySortedBy key_cmp (keys_of fs)
 
 -- operations of one key: at least one, and none that a later one replaces
 abbrev pub IsKept : List WriteOp → Type 0

@@ -1,8 +1,11 @@
 -- The tests of a batch's keys, which are made where it is to become a commit, after all other tests.
 --     Segments      the length of a key's segment prefix, where there are segments
 --     prefix_of_len k len, prefix_by segments k      a key's segment prefix, where the length is above 0
+--     point_lengths lengths      the lengths that an extractor gives keys, where there is one
 --     segment_refusal segments k, ttl_refusal k stamps      where there is no prefix; where stamps of its kept operations differ, newest first
 --     key_refusal segments default now ops k      both of a key of the batch
+--     entry_refusals segments default now es      those of the keys of entries
+--     test_refusals ..      what a batch may be refused for before its prefixes are told apart: for its merges, and then key by key
 --     prefixes segments ops      the segment prefixes of its keys, keys rising
 --     nest p q      they differ, and one begins the other
 --     nest_refusals earlier own      of each prefix of the batch, rising, the least of earlier ones and its own with which it nests
@@ -13,13 +16,20 @@ use Rattle.std.specs.Option.{option_eq}
 use Rattle.std.specs.List.{starts_with}
 use Rattle.slate_types.specs.declared.error.SlateDBError.{SlateDBError}
 use Rattle.slate_types.specs.declared.error.SlateDBError.TheVariants as errors
+use Rattle.slate_types.specs.declared.filter_policy.PrefixTarget.TheVariants.{Point}
 use Rattle.slate_types.specs.Keys.{keys_set}
+use Rattle.slate_types.specs.Lawful.{Lengths}
 use Rattle.slate_mem.specs.Batch.{Ops, kept, batch_keys}
+use Rattle.slate_mem.specs.Kept.{Entries}
 use Rattle.slate_mem.specs.Refusals.{first_refusal, when}
 use Rattle.slate_mem.specs.RowOf.{op_expiry}
 
 abbrev pub Segments : Type 0
 Segments = Option (List ℕ → Option ℕ)
+
+abbrev pub point_lengths : Option Lengths → Segments
+point_lengths None = None
+point_lengths (Some f) = Some (λ k. f (Point k))
 
 abbrev pub prefix_of_len : List ℕ → Option ℕ → Option (List ℕ)
 prefix_of_len k None = None
@@ -62,3 +72,9 @@ nest_refusals earlier own = map (nest_refusal (keys_set (earlier ++ own))) (keys
 
 abbrev pub merges_refusal : Bool → Bool → Option SlateDBError
 merges_refusal has_operator held_merge = when (held_merge && not has_operator) errors.MergeOperatorMissing
+
+abbrev pub test_refusals : Bool → Bool → Segments → Option ℕ → ℤ → Ops → List (Option SlateDBError)
+test_refusals has_operator held_merge segments default_millis now ops = merges_refusal has_operator held_merge ∷ map (key_refusal segments default_millis now ops) (batch_keys ops)
+
+abbrev pub entry_refusals : Segments → Option ℕ → ℤ → Entries → List (Option SlateDBError)
+entry_refusals segments default_millis now es = map (λ e. first_refusal (segment_refusal segments e.0 ∷ ttl_refusal e.0 (reverse (map (op_expiry default_millis now) e.1.items)) ∷ [])) es

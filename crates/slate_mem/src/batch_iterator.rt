@@ -117,7 +117,7 @@ fn copied(range: &BytesRange) -> Result<BytesRange, AllocError>
 }
 
 /// The rows of entries, keys upwards, and newest first within a key.
-pub(crate) fn rising_rows(
+fn rising_rows(
     alloc: Global,
     entries: Range<'_, Bytes, SmallVec<WriteOp, 1>>,
     stamps: &Stamps,
@@ -133,7 +133,7 @@ pub(crate) fn rising_rows(
 }
 
 /// Adds the rows of a key's operations, newest first.
-fn add_rows(
+pub(crate) fn add_rows(
     rows: &mut Vec<RowEntry>,
     key: &Bytes,
     ops: &[WriteOp],

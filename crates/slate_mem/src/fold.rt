@@ -14,7 +14,7 @@ use slate_types::{KeyValue, MergeOperator, RowEntry, SlateDBError, ValueDeletabl
 use std::alloc::Global;
 
 /// The earlier of two stamps, where there are any.
-fn earliest(a: Option<i64>, b: Option<i64>) -> Option<i64>
+pub(crate) fn earliest(a: Option<i64>, b: Option<i64>) -> Option<i64>
     ensures { result ≡ earliest a b }
 {
     match (a, b) {

@@ -35,3 +35,8 @@ pub mod Runs
 pub mod RunSeeks
 pub mod RunCalls
 pub mod RunRows
+pub mod FoldGroups
+pub mod FoldSteps
+pub mod FoldedKeys
+pub mod FoldedTurns
+pub mod Operators

@@ -31,3 +31,9 @@ pub mod RunIterators
 pub mod Showing
 pub mod RunLaws
 pub mod ReadSources
+pub mod Folding
+pub mod FoldedLaws
+pub mod FoldedReads
+pub mod Folds
+pub mod OperatorIterators
+pub mod OperatorLaws

@@ -6,7 +6,11 @@ mod block_iterators;
 #[cfg(test)]
 mod blocks;
 #[cfg(test)]
+mod commit_lists;
+#[cfg(test)]
 mod flushes;
+#[cfg(test)]
+mod folded;
 #[cfg(test)]
 mod generated;
 #[cfg(test)]
@@ -21,6 +25,8 @@ mod memory;
 mod memory_lists;
 #[cfg(test)]
 mod merged;
+#[cfg(test)]
+mod merges;
 #[cfg(test)]
 mod parts;
 #[cfg(test)]

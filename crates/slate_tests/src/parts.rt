@@ -8,7 +8,7 @@ use std::alloc::Global;
 
 // Appends, and keeps as much as a value holds.
 #[derive(Drop)]
-struct Concat;
+pub struct Concat;
 
 impl MergeOperator for Concat {
     ghost combine = { λ _ _. appended };

@@ -1,5 +1,5 @@
 -- A new id is none of those before, and stands past them.
-use Rattle.std.proofs.Common.{◌≡◌, ℕ, zero, suc, ◌*◌, ◌/◌, ◌%◌, ◌<◌, ◌≤◌, ◌^◌, ◌⊎◌, inl, inr, true, false, cond, ◌==◌, ltb, List, [], ◌∷◌, None, Less, Equal, Greater, refl, sym, ap, ◌∙◌, arith, bytes_eq}
+use Rattle.std.proofs.Common.{◌≡◌, ℕ, zero, suc, ◌+◌, ◌*◌, ◌/◌, ◌%◌, ◌<◌, ◌≤◌, ◌^◌, ◌⊎◌, inl, inr, true, false, cond, ◌==◌, ltb, List, [], ◌∷◌, None, Less, Equal, Greater, refl, sym, ap, ◌∙◌, arith, bytes_eq}
 use Rattle.std.specs.Int.{w128, byte_at, bytes_high_first, from_be_bytes}
 use Rattle.std.specs.Ordering.{nat_cmp, ordering_then}
 use Rattle.std.proofs.Math.Nat.{div-div-eq-div-mul, pow-succ'}

@@ -6,6 +6,7 @@ use Rattle.std.specs.Ordering.{is_le, is_lt, ordering_reverse}
 use Rattle.std.proofs.lemmas.List.{reverse-reverse, map-append}
 use Rattle.std.proofs.lemmas.List.Sums.{sum_by-append}
 use Rattle.std.proofs.lemmas.Grind.{reverse_onto}
+use Rattle.slate_types.specs.declared.bytes_range.BytesRange.{BytesRange}
 use Rattle.slate_types.specs.declared.config.IsolationLevel.{IsolationLevel}
 use Rattle.slate_types.specs.declared.config.IsolationLevel.TheVariants.{Snapshot, SerializableSnapshot}
 use Rattle.slate_types.specs.declared.iter.IterationOrder.TheVariants.{Ascending}
@@ -242,3 +243,19 @@ after_read s t us x none is own noted =
 -- nothing was changed
 pub after_none : (s t : Tx) (us : List TranscriptStep) → s ≡ t → s.ops ≡ own_of s.transcript → us ≡ s.transcript → record s { ops = own_of us; transcript = us } ≡ t
 after_none s t us is own same = (λ i. record s { ops = own_of (same i); transcript = same i }) ∙ (let ops = sym own in λ i. record s { ops = ops i }) ∙ is
+
+-- ---- no operations make no rows
+
+none_has : (range : BytesRange) (n : ℕ) (k : List ℕ) → batch_rows range n None None [] k ≡ []
+none_has range n k = by (in_range range k) _ refl
+  where
+    by : (b : Bool) (rows : List RowEntry) → rows ≡ [] → cond b rows [] ≡ []
+    by true rows none = none
+    by false rows none = refl
+
+no_key : (rows : List RowEntry) → ((k : List ℕ) → of_key k rows ≡ []) → rows ≡ []
+no_key [] h = refl
+no_key (r ∷ rs) h = let none : r ∷ of_key r.key rs ≡ [] = ap (λ t. cond t (r ∷ of_key r.key rs) (of_key r.key rs)) (sym (bytes_eq-same r.key)) ∙ h r.key in cc
+
+pub none_of_keys : (range : BytesRange) (n : ℕ) (rows : List RowEntry) (b : BatchModel) → b ≡ no_ops → ((k : List ℕ) → of_key k rows ≡ batch_rows range n None None b.ops k) → rows ≡ []
+none_of_keys range n rows b is h = no_key rows (λ k. h k ∙ ap (λ (c : BatchModel). batch_rows range n None None c.ops k) is ∙ none_has range n k)

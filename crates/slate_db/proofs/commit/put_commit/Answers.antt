@@ -23,7 +23,7 @@ unfolding core_of
 put_own-requires c =
     let y : LayersModel = c.args.layers.now in
     let rows : c.in_ok-rows.rows.items ≡ commit_rows plain c.args.default_millis (c.args.last + 1) c.args.now c.args.batch.now.ops =
-    c.in_ok-rows.ensures.rows plain ∙ ap (λ z. commit_rows plain c.args.default_millis (c.args.last + 1) z c.args.batch.now.ops) (to_z-of_z w64 c.args.now c.ranges.now) in
+    c.in_ok-rows.ensures.plain c.requires.plain plain ∙ ap (λ z. commit_rows plain c.args.default_millis (c.args.last + 1) z c.args.batch.now.ops) (to_z-of_z w64 c.args.now c.ranges.now) in
     record {
       whole = c.requires.whole;
       fit = subst (AllByRecursion FitsMemory) (sym rows) (commit_fits plain c.args.default_millis (c.args.last + 1) c.args.now c.args.batch.now.ops c.ops.ensures.fine (c.ops.ensures.plain c.requires.plain));
@@ -36,4 +36,4 @@ put_own-requires c =
 
 pub returns-clause-put : goal.returns-clause-put
 returns-clause-put c = λ f. c.in_ok-put_own.ensures.put ∙ ap (λ (rows : Rows). record c.args.layers.now { active = put_rows c.args.layers.now.active rows })
-    (c.in_ok-rows.ensures.rows f ∙ ap (λ z. commit_rows f c.args.default_millis (c.args.last + 1) z c.args.batch.now.ops) (to_z-of_z w64 c.args.now c.ranges.now))
+    (c.in_ok-rows.ensures.plain c.requires.plain f ∙ ap (λ z. commit_rows f c.args.default_millis (c.args.last + 1) z c.args.batch.now.ops) (to_z-of_z w64 c.args.now c.ranges.now))

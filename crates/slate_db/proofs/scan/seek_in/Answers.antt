@@ -5,7 +5,7 @@ use Rattle.slate_types.proofs.Reaching.{reads_none}
 use Rattle.slate_store.specs.Reach.{reach_of}
 use Rattle.slate_read.specs.MergeStates.{refuses_in}
 use Rattle.slate_db.specs.Scans.{source_refuses}
-use Rattle.slate_db.proofs.ScanStates.{cause_walk, checked_walk, later_walk, never_sound, none_sought, or_missing, refused_again, seek_walk, sound_walk, sources_walk, undamaged_walk}
+use Rattle.slate_db.proofs.ScanStates.{cause_walk, checked_walk, later_walk, none_sought, or_missing, seek_walk, sound_walk, sources_walk, undamaged_walk}
 use Rattle.slate_db.proofs.scan.seek_in.Goals as goal
 
 pub returns-in-Walking : goal.returns-in-Walking
@@ -40,13 +40,5 @@ returns-in-Done g c = record {
   reads = reads_none _;
 }
 
-pub returns-in-Refused : goal.returns-in-Refused
-returns-in-Refused g c = record {
-  rows = λ w range order rows sees sound has. tt;
-  undamaged = λ w range order past sees sound meant. never_sound order w c.args.state.now c.in-Refused.error c.in-Refused.is sound;
-  checked = λ w order sound. tt;
-  sources = λ range. tt;
-  later = λ range. tt;
-  cause = λ range past. refused_again range (Some c.args.key.now) (reach_of g.S.Store g.M.MergeOperator g.T.BlockTransformer c.args.env.now) c.args.state.now c.in-Refused.error c.copy_of.result c.in-Refused.is c.copy_of.ensures;
-  reads = reads_none _;
-}
+pub unreachable-requires : goal.unreachable-requires
+unreachable-requires g c = c.requires _ c.in-Refused.is

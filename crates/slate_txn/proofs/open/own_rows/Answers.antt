@@ -1,4 +1,4 @@
-use Rattle.std.proofs.Common.{◌≡◌, map, reverse, false, refl, subst}
+use Rattle.std.proofs.Common.{◌≡◌, map, reverse, false, subst}
 use Rattle.std.specs.Prelude.{IfOk}
 use Rattle.slate_mem.specs.Batch.{kept}
 use Rattle.slate_mem.specs.BatchModel.{holds_merge}
@@ -20,7 +20,7 @@ returns-in-Some c = record {
 pub returns-in-None : goal.returns-in-None
 returns-in-None c = record {
   rows = λ t is. absurd (none_found c.args.id.now c.args.items.now.entries t c.in-None.ensures.value is);
-  none = λ none. c.new.ensures;
+  none = λ none. c.new.ensures.items;
   plain = λ t is. absurd (none_found c.args.id.now c.args.items.now.entries t c.in-None.ensures.value is);
   own = λ t is. absurd (none_found c.args.id.now c.args.items.now.entries t c.in-None.ensures.value is);
   cause = tt;

@@ -3,13 +3,12 @@ use Rattle.std.specs.List.{AllByRecursion}
 use Rattle.slate_types.specs.Keys.{key_cmp}
 use Rattle.slate_txn.specs.declared.line.Line.TheVariants as lines
 use Rattle.slate_txn.specs.Ids.{id_of}
-use Rattle.slate_txn.specs.Managers.{Manager, untracked}
+use Rattle.slate_txn.specs.Managers.{untracked}
 use Rattle.slate_txn.specs.Named.{find_named}
-use Rattle.slate_txn.specs.Open.{Transactions}
 use Rattle.slate_txn.specs.Reply.{Begun}
 use Rattle.slate_txn.specs.Step.{step}
 use Rattle.slate_db.specs.declared.engine.Core.TheInside.{Inside}
-use Rattle.slate_db.specs.Log.{IsLog, LogModel}
+use Rattle.slate_db.specs.Log.{IsLog}
 use Rattle.slate_db.specs.Meaning.{rules_of}
 use Rattle.slate_db.specs.Model.{CoreModel}
 use Rattle.slate_db.specs.View.{view_of, unseen_of, IsWholeInside}

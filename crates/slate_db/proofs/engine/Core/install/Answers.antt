@@ -1,4 +1,4 @@
-use Rattle.std.proofs.Common.{◌≡◌, ℕ, ◌+◌, ◌<◌, ◌≤◌, map, length, refl, ap, sym, subst, ◌∙◌, arith, append-nil, inl}
+use Rattle.std.proofs.Common.{◌≡◌, ℕ, ◌+◌, ◌<◌, map, length, refl, ap, sym, subst, ◌∙◌, arith, append-nil, inl}
 use Rattle.std.proofs.lemmas.Result.{err_from_is_err_and, IfOk-from_err}
 use Rattle.std.specs.Prelude.{Ok}
 use Rattle.slate_types.proofs.Reaching.{puts_none}
@@ -69,9 +69,9 @@ returns g c =
     c.next_install-number.result (length (runs_of (view_of c.self.inside).events) + 1) c.barrier-barrier.result (least_start c.self.inside.log.last (view_of c.self.inside).state) (map (λ t. t.rows) c.frozen.result.now) (view_of c.self.inside).frozen
     (c.next_install-number.ensures ∙ ap (λ (l : LogModel). l.installs + 1) c.reserve.ensures.value ∙ ap (λ n. n + 1) c.self.invariant.log.installs) (c.barrier-barrier.ensures ∙ sym (ap start c.self.view_is) ∙ ap (λ n. least_start n (view_of c.self.inside).state) (sym c.self.invariant.log.last)) (c.frozen.ensures ∙ ap (λ (y : LayersModel). y.frozen) c.reserve_run.ensures.value) c.in_ok-put.ensures.stored.made in
     record {
-      newest = c.last-2.ensures ∙ ap (λ (l : LogModel). l.last) log ∙ c.self.invariant.log.last ∙ ap (λ (v : CoreModel). last_of v.settings.start_seq v.state.commits) c.self.view_is;
+      newest = c.last.ensures ∙ ap (λ (l : LogModel). l.last) log ∙ c.self.invariant.log.last ∙ ap (λ (v : CoreModel). last_of v.settings.start_seq v.state.commits) c.self.view_is;
       installed = (
-          subst (λ (n : ℕ). IsFlushed (changed_by g.T.BlockTransformer.encoded c.args.env.now.transformer) (layout_of c.args.options.now) c.args.self.now (view_of (record c.self.inside { log = c.push_install.new.self; layers = c.install.new.self })) n (g.S.Store.objects c.args.env.now.store.now) (g.S.Store.objects c.stored.new.env.store.now)) (sym (c.last-2.ensures ∙ ap (λ (l : LogModel). l.last) log))
+          subst (λ (n : ℕ). IsFlushed (changed_by g.T.BlockTransformer.encoded c.args.env.now.transformer) (layout_of c.args.options.now) c.args.self.now (view_of (record c.self.inside { log = c.push_install.new.self; layers = c.install.new.self })) n (g.S.Store.objects c.args.env.now.store.now) (g.S.Store.objects c.stored.new.env.store.now)) (sym (c.last.ensures ∙ ap (λ (l : LogModel). l.last) log))
           (stored c.in_ok-put.put.0
           (sym (ap view_of becomes) ∙ ap (λ (v : CoreModel). after_install v c.self.inside.log.last c.in_ok-put.put.0 c.push_install.new.self.spare) c.self.view_is)
           (subst (λ (v : CoreModel). AreTablesOfFlush (changed_by g.T.BlockTransformer.encoded c.args.env.now.transformer) (layout_of c.args.options.now) (length (runs_of v.events) + 1) (least_start c.self.inside.log.last v.state) v.frozen c.in_ok-put.put.0) c.self.view_is made)

@@ -1,4 +1,4 @@
-use Rattle.std.proofs.Common.{refl, sym, ap, ◌∙◌}
+use Rattle.std.proofs.Common.{sym, ap, ◌∙◌}
 use Rattle.slate_txn.specs.Managers.{Manager, Snapshots}
 use Rattle.slate_db.proofs.Keeps.{kept_first}
 use Rattle.slate_db.proofs.Wholes.{whole_first}

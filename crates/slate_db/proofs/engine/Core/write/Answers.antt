@@ -1,6 +1,5 @@
-use Rattle.std.proofs.Common.{◌≡◌, ℕ, ◌+◌, ◌-◌, ◌^◌, ◌<◌, ◌≤◌, ◌++◌, ◌∷◌, [], List, Option, Some, ℤ, refl, ap, sym, subst, ◌∙◌, arith, inr, true, false, w64, inl, length, true≢false, Err}
+use Rattle.std.proofs.Common.{◌≡◌, ℕ, ◌+◌, ◌-◌, ◌^◌, ◌<◌, ◌≤◌, ◌++◌, ◌∷◌, [], List, Option, Some, ℤ, refl, ap, sym, subst, ◌∙◌, arith, inr, true, false, w64, inl, true≢false, Err}
 use Rattle.std.proofs.lemmas.Result.{IfOk-from_err, err_from_is_err_and}
-use Rattle.std.specs.Prelude.{sum_by}
 use Rattle.std.specs.List.{AllByRecursion}
 use Rattle.std.proofs.lemmas.Int.{to_z-of_z}
 use Rattle.slate_txn.specs.State.{last_of}
@@ -13,14 +12,14 @@ use Rattle.slate_txn.specs.declared.line.Line.TheVariants as lines
 use Rattle.slate_txn.specs.Reply.{Written, Refused}
 use Rattle.slate_txn.specs.Step.{step}
 use Rattle.slate_db.specs.declared.engine.Core.TheInside.{Inside}
-use Rattle.slate_db.specs.Load.{load, ops_load, rows_load}
+use Rattle.slate_db.specs.Load.{load, ops_load}
 use Rattle.slate_db.specs.Meaning.{rules_of, combine_of}
-use Rattle.slate_db.specs.Model.{CoreModel, Rows, at, versions, versions_in, memory, IsSame}
+use Rattle.slate_db.specs.Model.{CoreModel, Rows, at, versions, versions_in, IsSame}
 use Rattle.slate_db.specs.View.{view_of, unseen_of, IsWholeInside}
 use Rattle.slate_db.specs.Sound.{IsKept}
 use Rattle.slate_db.specs.Vouched.{IsVouchedFor}
 use Rattle.slate_db.specs.Layers.{AreLayers, LayersModel, FitsMemory, AreRising}
-use Rattle.slate_db.specs.Log.{LIMIT, IsLog, LogModel, IsWhollyKept, held_by, with_write}
+use Rattle.slate_db.specs.Log.{IsLog, LogModel, IsWhollyKept, with_write}
 use Rattle.slate_db.specs.Written.{after_write}
 use Rattle.slate_db.proofs.Keeps.{room_made}
 use Rattle.slate_db.proofs.Calls.{none_left, past_place, placed, room_in_log, written_is}
@@ -90,7 +89,7 @@ put_batch-requires g c =
     let n : ℕ = c.self.inside.log.last in
     let seq : c.last-seq.result + 1 ≡ n + 1 = ap (λ n. n + 1) (c.last-seq.ensures ∙ ap (λ (l : LogModel). l.last) c.reserve.ensures.value) in
     let rows : c.in_ok-rows.rows.items ≡ commit_rows plain c.self.inside.default_millis (n + 1) c.args.now c.args.batch.ops =
-    made plain c.self.inside.default_millis (n + 1) (c.last-seq.result + 1) _ c.args.now c.args.batch.ops c.in_ok-rows.rows.items (c.in_ok-rows.ensures.rows plain) seq (to_z-of_z w64 c.args.now c.ranges.now) in
+    made plain c.self.inside.default_millis (n + 1) (c.last-seq.result + 1) _ c.args.now c.args.batch.ops c.in_ok-rows.rows.items (c.in_ok-rows.ensures.plain c.requires plain) seq (to_z-of_z w64 c.args.now c.ranges.now) in
     record {
       whole = c.self.invariant.layers;
       fit = subst (AllByRecursion FitsMemory) (sym rows) (commit_fits plain c.self.inside.default_millis (n + 1) c.args.now c.args.batch.ops c.ops.ensures.fine (c.ops.ensures.plain c.requires));
@@ -113,7 +112,7 @@ invariant_of-self-2 g c =
     let n : ℕ = c.self.inside.log.last in
     let seq : c.last-seq.result + 1 ≡ n + 1 = ap (λ n. n + 1) (c.last-seq.ensures ∙ ap (λ (l : LogModel). l.last) c.reserve.ensures.value) in
     let rows : c.in_ok-rows.rows.items ≡ commit_rows plain c.self.inside.default_millis (n + 1) c.args.now c.args.batch.ops =
-    made plain c.self.inside.default_millis (n + 1) (c.last-seq.result + 1) _ c.args.now c.args.batch.ops c.in_ok-rows.rows.items (c.in_ok-rows.ensures.rows plain) (ap (λ n. n + 1) (c.last-seq.ensures ∙ ap (λ (l : LogModel). l.last) c.reserve.ensures.value)) (to_z-of_z w64 c.args.now c.ranges.now) in
+    made plain c.self.inside.default_millis (n + 1) (c.last-seq.result + 1) _ c.args.now c.args.batch.ops c.in_ok-rows.rows.items (c.in_ok-rows.ensures.plain c.requires plain) (ap (λ n. n + 1) (c.last-seq.ensures ∙ ap (λ (l : LogModel). l.last) c.reserve.ensures.value)) (to_z-of_z w64 c.args.now c.ranges.now) in
     let layers : c.put_batch.new.layers ≡ record c.self.inside.layers { active = put_rows c.self.inside.layers.active (commit_rows plain c.self.inside.default_millis (n + 1) c.args.now c.args.batch.ops) } =
     c.in_ok-put_batch.ensures.put ∙ ap (λ rs. record c.self.inside.layers { active = put_rows c.self.inside.layers.active rs }) rows in
     let log : c.push_write.new.self ≡ with_write c.self.inside.log c.args.now c.args.batch.ops c.push_write.new.self.spare =
@@ -133,7 +132,7 @@ returns g c =
     let n : ℕ = c.self.inside.log.last in
     let seq : c.last-seq.result + 1 ≡ n + 1 = ap (λ n. n + 1) (c.last-seq.ensures ∙ ap (λ (l : LogModel). l.last) c.reserve.ensures.value) in
     let rows_of : (f : List ℕ → Combine) → c.in_ok-rows.rows.items ≡ commit_rows f c.self.inside.default_millis (n + 1) c.args.now c.args.batch.ops =
-    λ f. made f c.self.inside.default_millis (n + 1) (c.last-seq.result + 1) _ c.args.now c.args.batch.ops c.in_ok-rows.rows.items (c.in_ok-rows.ensures.rows f) seq (to_z-of_z w64 c.args.now c.ranges.now) in
+    λ f. made f c.self.inside.default_millis (n + 1) (c.last-seq.result + 1) _ c.args.now c.args.batch.ops c.in_ok-rows.rows.items (c.in_ok-rows.ensures.plain c.requires f) seq (to_z-of_z w64 c.args.now c.ranges.now) in
     let written : Rows = put_rows c.self.inside.layers.active (commit_rows plain c.self.inside.default_millis (n + 1) c.args.now c.args.batch.ops) in
     let layers : c.put_batch.new.layers ≡ record c.self.inside.layers { active = put_rows c.self.inside.layers.active (commit_rows plain c.self.inside.default_millis (n + 1) c.args.now c.args.batch.ops) } =
     c.in_ok-put_batch.ensures.put ∙ ap (λ rs. record c.self.inside.layers { active = put_rows c.self.inside.layers.active rs }) (rows_of plain) in

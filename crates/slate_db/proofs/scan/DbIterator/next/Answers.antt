@@ -17,11 +17,14 @@ returns-in-Refused g c =
       later = tt;
       cause = refused_again it.range None (reach_of g.S.Store g.M.MergeOperator g.T.BlockTransformer c.args.env.now) it.state c.in-Refused.error c.copy_of.result is copies;
       again = λ unrefused. absurd (unrefused c.in-Refused.error is);
-      refused = λ kept was. (kept_answer it.state c.in-Refused.error kept c.copy_of.result is copies was, refl, refl);
+      refused = λ kept was. (kept_answer _ it.state c.in-Refused.error kept c.copy_of.result refl is copies was, refl, refl);
       range = refl;
       order = refl;
       reads = reads_none _;
     }
+
+pub next_in-requires : goal.next_in-requires
+next_in-requires g c = c.in_default.not-Refused
 
 pub returns-in-Ok : goal.returns-in-Ok
 returns-in-Ok g c =

@@ -20,7 +20,7 @@ returns-in-Refused g c =
       later = tt;
       cause = refused_again it.range (Some c.args.key.now) (reach_of g.S.Store g.M.MergeOperator g.T.BlockTransformer c.args.env.now) it.state c.in-Refused.kept c.copy_of.result is copies;
       again = λ unrefused. absurd (unrefused c.in-Refused.kept is);
-      refused = λ kept was. (kept_answer it.state c.in-Refused.kept kept c.copy_of.result is copies was, refl, refl);
+      refused = λ kept was. (kept_answer _ it.state c.in-Refused.kept kept c.copy_of.result refl is copies was, refl, refl);
       range = refl;
       order = refl;
       reads = reads_none _;
@@ -44,6 +44,9 @@ returns-then-not-is_past_start g c =
       order = start_range (λ d. d.order) it after (λ x. refl) s.none s.all;
       reads = reads_none _;
     }
+
+pub seek_in-requires : goal.seek_in-requires
+seek_in-requires g c = c.in_default.not-Refused
 
 pub returns-in-Ok : goal.returns-in-Ok
 returns-in-Ok g c =

@@ -6,5 +6,5 @@ use Rattle.slate_txn.proofs.snapshot_manager.SnapshotManager.seq_of.Goals as goa
 
 pub returns : goal.returns
 returns c =
-    c.copied.ensures ∙ find_is c.args.id.now c.self.inside.active_snapshots.entries
+    c.copied.ensures ∙ c.get.ensures.value ∙ find_is c.args.id.now c.self.inside.active_snapshots.entries
     ∙ ap (λ (m : Snapshots). find_named c.args.id.now m.active) c.self.view_is

@@ -1,0 +1,62 @@
+use Rattle.std.proofs.Common.{◌∙◌, ◌++◌, ◌∷◌, [], None, Some, Option, sym, ap, subst, arith}
+use Rattle.slate_types.specs.declared.types.RowEntry.{RowEntry}
+use Rattle.slate_types.proofs.Moves.{Moves, moves_both, moves_fails}
+use Rattle.slate_types.proofs.Reaching.{reads_then}
+use Rattle.slate_read.specs.Folding.{AreLinked, begins_linked, links}
+use Rattle.slate_read.specs.FoldedLaws.{linked_more}
+use Rattle.slate_read.specs.Folds.{refuses_taken, rest_taken, sound_taken}
+use Rattle.slate_read.specs.Peeking.{with_ahead}
+use Rattle.slate_read.proofs.FoldSteps.{ahead_moves, is_linked, row_moves, spent_ends, spent_moves}
+use Rattle.slate_read.proofs.folding.Folding.gather.Goals as goal
+
+pub returns-then-not-follows-clause-moved : goal.returns-then-not-follows-clause-moved
+returns-then-not-follows-clause-moved g c =
+    let n = rw c.in-Ok-Some.field-0-is at c.in-Ok-Some.ensures in
+    let same = c.reserve.ensures.items in
+    subst (λ l. Moves (rest_taken g.I.RowEntryIterator.rest) (sound_taken g.I.RowEntryIterator.rest g.I.RowEntryIterator.sound g.I.RowEntryIterator.order) (refuses_taken g.I.RowEntryIterator.refuses) (g.E.Outside.reach c.args.env.now) (g.E.Outside.reach c.next.new.env) (c.args.iterator.now, None, c.args.first ∷ []) (c.next.new.self, Some c.in-Ok-Some.row, l ++ (c.linked.oldest ∷ []))) (sym same)
+    (moves_both _ _ _ _ _ _ _ _ _ c.linked.invariant.moves
+    (ahead_moves g.I.RowEntryIterator.rest g.I.RowEntryIterator.sound g.I.RowEntryIterator.refuses g.I.RowEntryIterator.order g.I.RowEntryIterator.takes _ _ c.linked.iterator' c.next.new.self (c.linked.newer.items ++ (c.linked.oldest ∷ [])) c.in-Ok-Some.row n.order (record { rows = n.rows; still = n.still; checked = n.checked; taken = n.taken })))
+
+pub linked-preserved : goal.linked-preserved
+linked-preserved g c =
+    let i = c.linked.invariant in
+    let n = rw c.in-Ok-Some.field-0-is at c.in-Ok-Some.ensures in
+    let opened = sym c.is_open.ensures ∙ c.linked-test.true in
+    let followed = sym c.follows.ensures ∙ c.if-not-follows.false in
+    let has = c.push_reserved.ensures.items ∙ ap (λ l. l ++ (c.linked.oldest ∷ [])) c.reserve.ensures.items in
+    record {
+      moves = subst (λ l. Moves (rest_taken g.I.RowEntryIterator.rest) (sound_taken g.I.RowEntryIterator.rest g.I.RowEntryIterator.sound g.I.RowEntryIterator.order) (refuses_taken g.I.RowEntryIterator.refuses) (g.E.Outside.reach c.args.env.now) (g.E.Outside.reach c.next.new.env) (c.args.iterator.now, None, c.args.first ∷ []) (c.next.new.self, None, l ++ (c.in-Ok-Some.row ∷ []))) (sym has)
+          (moves_both _ _ _ _ _ _ _ _ _ i.moves
+          (row_moves g.I.RowEntryIterator.rest g.I.RowEntryIterator.sound g.I.RowEntryIterator.refuses g.I.RowEntryIterator.order g.I.RowEntryIterator.takes _ _ c.linked.iterator' c.next.new.self (c.linked.newer.items ++ (c.linked.oldest ∷ [])) c.in-Ok-Some.row n.order (record { rows = n.rows; still = n.still; checked = n.checked; taken = n.taken })));
+      linked = subst (λ l. AreLinked (links c.args.self.merge_different_expire_ts c.args.self.snapshot_barrier_seq) l c.in-Ok-Some.row) (sym has)
+          (linked_more (links c.args.self.merge_different_expire_ts c.args.self.snapshot_barrier_seq) c.linked.newer.items c.linked.oldest c.in-Ok-Some.row i.linked (is_linked c.args.self.merge_different_expire_ts c.args.self.snapshot_barrier_seq c.linked.oldest c.in-Ok-Some.row opened followed));
+      empty = i.empty;
+      bound = omega (arith, i.bound, n.no_larger);
+      order = n.order ∙ i.order;
+      reads = reads_then _ _ _ i.reads n.reads;
+    }
+
+pub returns-in-Ok-None-clause-moved : goal.returns-in-Ok-None-clause-moved
+returns-in-Ok-None-clause-moved g c =
+    let n = rw c.in-Ok-None.field-0-is at c.in-Ok-None.ensures in
+    let same = c.reserve.ensures.items in
+    subst (λ (o : Option RowEntry). Moves (rest_taken g.I.RowEntryIterator.rest) (sound_taken g.I.RowEntryIterator.rest g.I.RowEntryIterator.sound g.I.RowEntryIterator.order) (refuses_taken g.I.RowEntryIterator.refuses) (g.E.Outside.reach c.args.env.now) (g.E.Outside.reach c.next.new.env) (c.args.iterator.now, None, c.args.first ∷ []) (c.next.new.self, o, c.reserve.new.self.items ++ (c.linked.oldest ∷ []))) (sym c.linked.invariant.empty)
+    (subst (λ l. Moves (rest_taken g.I.RowEntryIterator.rest) (sound_taken g.I.RowEntryIterator.rest g.I.RowEntryIterator.sound g.I.RowEntryIterator.order) (refuses_taken g.I.RowEntryIterator.refuses) (g.E.Outside.reach c.args.env.now) (g.E.Outside.reach c.next.new.env) (c.args.iterator.now, None, c.args.first ∷ []) (c.next.new.self, None, l ++ (c.linked.oldest ∷ []))) (sym same)
+    (moves_both _ _ _ _ _ _ _ _ _ c.linked.invariant.moves
+    (spent_moves g.I.RowEntryIterator.rest g.I.RowEntryIterator.sound g.I.RowEntryIterator.refuses g.I.RowEntryIterator.order g.I.RowEntryIterator.takes _ _ c.linked.iterator' c.next.new.self (c.linked.newer.items ++ (c.linked.oldest ∷ [])) n.order (record { rows = n.rows; still = n.still; checked = n.checked; taken = n.taken }))))
+
+pub returns-in-Ok-None-clause-ends : goal.returns-in-Ok-None-clause-ends
+returns-in-Ok-None-clause-ends g c = λ w sees h.
+    let n = rw c.in-Ok-None.field-0-is at c.in-Ok-None.ensures in
+    ap (λ (o : Option RowEntry). begins_linked (links c.args.self.merge_different_expire_ts c.args.self.snapshot_barrier_seq) c.linked.oldest (with_ahead o (g.I.RowEntryIterator.rest c.next.new.self w))) c.linked.invariant.empty
+    ∙ spent_ends g.I.RowEntryIterator.rest g.I.RowEntryIterator.sound g.I.RowEntryIterator.refuses g.I.RowEntryIterator.order g.I.RowEntryIterator.takes c.args.self.merge_different_expire_ts c.args.self.snapshot_barrier_seq c.linked.oldest _ _ _ _ c.linked.iterator' c.next.new.self _ c.linked.invariant.moves
+    (record { rows = n.rows; still = n.still; checked = n.checked; taken = n.taken }) w sees h
+
+pub returns-in-Err-clause-cause : goal.returns-in-Err-clause-cause
+returns-in-Err-clause-cause g c =
+    let i = c.linked.invariant in
+    let n = c.in-Err.ensures in
+    moves_fails _ _ _ _ _ _ _ _ None _ i.moves i.reads.later (n.cause.0, n.cause.1, n.cause.2.0)
+
+pub returns-in-Err-clause-reads : goal.returns-in-Err-clause-reads
+returns-in-Err-clause-reads g c = reads_then _ _ _ c.linked.invariant.reads c.in-Err.ensures.reads

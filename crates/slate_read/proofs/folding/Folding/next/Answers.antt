@@ -1,0 +1,62 @@
+use Rattle.std.proofs.Common.{◌≡◌, ◌∙◌, ◌∷◌, [], None, Some, ap, false, subst, reverse}
+use Rattle.std.specs.Prelude.{is_some}
+use Rattle.slate_types.specs.Fold.{fold_rows, operator_at}
+use Rattle.slate_types.specs.Outside.{Meaning}
+use Rattle.slate_types.proofs.Moves.{moves_both, moves_fails}
+use Rattle.slate_types.proofs.Reaching.{reads_then}
+use Rattle.slate_read.specs.FoldedLaws.{linked_operands}
+use Rattle.slate_read.specs.Folding.{begins_linked, links}
+use Rattle.slate_read.specs.Folds.{sound_taken}
+use Rattle.slate_read.specs.Peeking.{with_ahead}
+use Rattle.slate_read.proofs.FoldSteps.{call_moves, first_moves, folded_step, gathered_ends, operator_blames, some_operator, source_blames}
+use Rattle.slate_read.proofs.folding.Folding.next.Goals as goal
+
+pub returns-in-Ok-fold_group-clause-step : goal.returns-in-Ok-fold_group-clause-step
+returns-in-Ok-fold_group-clause-step g c =
+    let rest = g.I.RowEntryIterator.rest in
+    let sound = g.I.RowEntryIterator.sound in
+    let refuses = g.I.RowEntryIterator.refuses in
+    let order = g.I.RowEntryIterator.order in
+    let different = c.args.self.merge_different_expire_ts in
+    let barrier = c.args.self.snapshot_barrier_seq in
+    let t = rw c.in-Ok-Some.field-0-is at c.in-Ok-Some.ensures in
+    let n = c.in-Ok.ensures in
+    let f = c.in-Ok-fold_group.ensures in
+    let group = c.in-Ok.group in
+    let reach = g.E.Outside.reach in
+    let first = first_moves rest sound refuses order _ _ _ c.args.iterator.now c.take_ahead.new.iterator c.args.ahead.now c.in-Ok-Some.first t.order t.step in
+    let gathered = moves_both _ _ _ _ _ _ _ _ _ first n.moved in
+    folded_step rest sound refuses order different barrier (reach c.args.env.now) (reach c.fold_group.new.env) (c.args.iterator.now, c.args.ahead.now, []) c.gather.new.iterator c.gather.new.ahead group.newer.items group.oldest c.in-Ok-fold_group.row
+    (moves_both _ _ _ _ _ _ _ _ _ gathered (call_moves _ _ _ (reach c.gather.new.env) (reach c.fold_group.new.env) _ f.call)) n.linked
+    (gathered_ends (sound_taken rest sound order) (sound_taken rest sound order) (λ w. begins_linked (links different barrier) group.oldest (with_ahead c.gather.new.ahead (rest c.gather.new.iterator w)) ≡ false)
+    (reach c.args.env.now) (reach c.take_ahead.new.env) (reach c.gather.new.env) (reach c.fold_group.new.env) (c.args.iterator.now, c.args.ahead.now, []) (c.take_ahead.new.iterator, None, c.in-Ok-Some.first ∷ []) _ _ first.made.1 n.moved.made.1 f.call first.still n.ends)
+    (subst (λ (p : Meaning). fold_rows (operator_at p.combine group.oldest.key) (group.oldest ∷ reverse group.newer.items) ≡ Some c.in-Ok-fold_group.row) gathered.made.1.meaning (f.value (linked_operands different barrier group.newer.items group.oldest n.linked)))
+    (some_operator (reach c.args.env.now) (reach c.take_ahead.new.env) c.has_operator.result first.made.1.meaning c.has_operator.ensures c.if-not-has_operator.false)
+
+pub returns-in-Ok-fold_group-clause-reads : goal.returns-in-Ok-fold_group-clause-reads
+returns-in-Ok-fold_group-clause-reads g c =
+    let t = rw c.in-Ok-Some.field-0-is at c.in-Ok-Some.ensures in
+    reads_then _ _ _ (reads_then _ _ _ t.reads c.in-Ok.ensures.reads) c.in-Ok-fold_group.ensures.reads
+
+pub returns-in-Err-fold_group-clause-cause : goal.returns-in-Err-fold_group-clause-cause
+returns-in-Err-fold_group-clause-cause g c =
+    let t = rw c.in-Ok-Some.field-0-is at c.in-Ok-Some.ensures in
+    let n = c.in-Ok.ensures in
+    let f = c.in-Err-fold_group.ensures in
+    let reach = g.E.Outside.reach in
+    let first = first_moves g.I.RowEntryIterator.rest g.I.RowEntryIterator.sound g.I.RowEntryIterator.refuses g.I.RowEntryIterator.order _ _ _ c.args.iterator.now c.take_ahead.new.iterator c.args.ahead.now c.in-Ok-Some.first t.order t.step in
+    let gathered = moves_both _ _ _ _ _ _ _ _ _ first n.moved in
+    let made = (moves_both _ _ _ _ _ _ _ _ _ gathered (call_moves _ _ _ (reach c.gather.new.env) (reach c.fold_group.new.env) _ f.call)).made in (
+      made.0,
+      made.1,
+      operator_blames (reach c.args.env.now) (reach c.gather.new.env) (reach c.fold_group.new.env) c.in-Err-fold_group.error c.has_operator.result (reads_then (reach c.args.env.now) (reach c.take_ahead.new.env) (reach c.gather.new.env) t.reads n.reads).later gathered.made.1.meaning
+          (c.has_operator.ensures ∙ ap (λ (p : Meaning). is_some p.combine) first.made.1.meaning) c.if-not-has_operator.false f.cause,
+    )
+
+pub returns-in-Err-gather-clause-cause : goal.returns-in-Err-gather-clause-cause
+returns-in-Err-gather-clause-cause g c =
+    let t = rw c.in-Ok-Some.field-0-is at c.in-Ok-Some.ensures in
+    let first = first_moves g.I.RowEntryIterator.rest g.I.RowEntryIterator.sound g.I.RowEntryIterator.refuses g.I.RowEntryIterator.order _ _ _ c.args.iterator.now c.take_ahead.new.iterator c.args.ahead.now c.in-Ok-Some.first t.order t.step in
+    let reach = g.E.Outside.reach in
+    let failed = moves_fails _ _ _ (reach c.args.env.now) (reach c.take_ahead.new.env) (reach c.gather.new.env) _ _ None c.in-Err-gather.error first t.reads.later c.in-Err-gather.ensures.cause in
+    (failed.0, failed.1, source_blames (reach c.args.env.now) (reach c.gather.new.env) c.in-Err-gather.error failed.2)

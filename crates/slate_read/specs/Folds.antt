@@ -1,0 +1,54 @@
+-- Rows that were taken off a source to be folded, before one that was read ahead, and before the others.
+--     rest_taken, sound_taken, refuses_taken      of a source, the row that was read ahead, and the rows that were taken
+--     takes_ahead takes x m reads answer y      the row that was read ahead is the answer, or the source gave it
+--     rest_folds different barrier      the rows of such a state, of which operands are folded
+--     RefusesOpen m at e      an operand that isn't above the barrier is refused, where there is no operator
+--     refuses_folds      what the source refuses, and such an operand
+--     hands_out barrier      without an operator no such operand is handed out
+--     MeetsOpen takes barrier ahead reads before after      such an operand comes next: it was read ahead, or the source gave it
+--     BlamesOpen e own meets      a missing operator is the source's refusal, or such an operand comes next
+use Rattle.std.specs.Prelude.{◌≡◌, ◌⊎◌, ℕ, Bool, true, false, List, ◌++◌, Option, Some, None, IfSome}
+use Rattle.slate_types.specs.declared.error.SlateDBError.{SlateDBError}
+use Rattle.slate_types.specs.declared.error.SlateDBError.TheVariants.{MergeOperatorMissing}
+use Rattle.slate_types.specs.declared.iter.IterationOrder.{IterationOrder}
+use Rattle.slate_types.specs.declared.types.RowEntry.{RowEntry}
+use Rattle.slate_types.specs.Fold.{operator_at}
+use Rattle.slate_types.specs.Iteration.{IsInOrder}
+use Rattle.slate_types.specs.Outside.{Act, Meaning}
+use Rattle.slate_types.specs.World.{World}
+use Rattle.slate_read.specs.Folding.{folded, is_open}
+use Rattle.slate_read.specs.Peeking.{TakesAhead, with_ahead}
+
+abbrev pub Taken : Type 0 → Type 0
+Taken S = S × Option RowEntry × List RowEntry
+
+abbrev pub RefusesOpen : Meaning → Option (List ℕ) → SlateDBError → Type 0
+RefusesOpen m at e = (at ≡ None) × (e ≡ MergeOperatorMissing) × (m.combine ≡ None)
+
+abbrev pub BlamesOpen : SlateDBError → Type 0 → Type 0 → Type 0
+BlamesOpen e own meets = e ≡ MergeOperatorMissing → own ⊎ meets
+
+module _ {S : Type 0} where
+  abbrev pub rest_taken : (S → World → List RowEntry) → Taken S → World → List RowEntry
+  rest_taken rest x w = x.2 ++ with_ahead x.1 (rest x.0 w)
+
+  abbrev pub sound_taken : (S → World → List RowEntry) → (S → World → Type 0) → (S → IterationOrder) → Taken S → World → Type 0
+  sound_taken rest sound order x w = sound x.0 w × IsInOrder (order x.0) (rest_taken rest x w)
+
+  abbrev pub refuses_taken : (S → Meaning → List Act → Option (List ℕ) → SlateDBError → Type 0) → Taken S → Meaning → List Act → Option (List ℕ) → SlateDBError → Type 0
+  refuses_taken refuses x m reads at e = refuses x.0 m reads at e
+
+  abbrev pub takes_ahead : (S → Meaning → List Act → Option RowEntry → S → Type 0) → Taken S → Meaning → List Act → Option RowEntry → Taken S → Type 0
+  takes_ahead takes x m reads answer y = TakesAhead (λ u rs a v. takes u m rs a v) x.1 reads answer x.0 y.0
+
+  abbrev pub rest_folds : Bool → Option ℕ → (S → World → List RowEntry) → Taken S → World → List RowEntry
+  rest_folds different barrier rest x w = folded (operator_at w.meaning.combine) different barrier (rest_taken rest x w)
+
+  abbrev pub refuses_folds : (S → Meaning → List Act → Option (List ℕ) → SlateDBError → Type 0) → Taken S → Meaning → List Act → Option (List ℕ) → SlateDBError → Type 0
+  refuses_folds refuses x m reads at e = refuses x.0 m reads at e ⊎ RefusesOpen m at e
+
+  abbrev pub hands_out : Option ℕ → Taken S → Meaning → List Act → Option RowEntry → Taken S → Type 0
+  hands_out barrier x m reads answer y = m.combine ≡ None → IfSome answer (λ row. is_open barrier row ≡ false)
+
+  abbrev pub MeetsOpen : (S → List Act → Option RowEntry → S → Type 0) → Option ℕ → Option RowEntry → List Act → S → S → Type 0
+  MeetsOpen takes barrier ahead reads before after = (row : RowEntry) × (is_open barrier row ≡ true) × TakesAhead takes ahead reads (Some row) before after

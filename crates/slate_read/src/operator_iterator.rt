@@ -1,0 +1,159 @@
+//! An iterator that folds operands onto what stands below them.
+ghost use Rattle.std.specs.Prelude.{◌≡◌, IfOk, IsOk};
+ghost use Rattle.slate_types.specs.declared.error.SlateDBError.{SlateDBError};
+ghost use Rattle.slate_read.specs.OperatorIterators.{Begins, IsFolding, Keeps, Seeks, Stays, Takes, bound_folding, refuses_folding, rest_folding, sound_folding};
+ghost use Rattle.slate_read.specs.OperatorLaws.{folding_more, folding_rises, folding_whole};
+
+use crate::folding::Folding;
+use crate::kept::copy_of;
+use crate::operates::Operates;
+use crate::peeking_iterator::is_ahead_kept;
+use slate_types::{
+    IterationOrder, RowEntry, RowEntryIterator, SlateDBError, TrackedRowEntryIterator,
+};
+use std::alloc::Global;
+use std::mem;
+
+/// The rows of an iterator, of which operands are folded onto what stands below them.
+///
+/// Rows that are no operand, and operands above the barrier, are handed through. Any other operand is folded with the following
+/// rows of its key, up to and including the first that is no operand. A fold ends before a row of a greater sequence, which no
+/// source in turn brings.
+///
+/// Without an operator it refuses exactly at an operand that isn't above the barrier. Each refusal is kept and answered again, or
+/// want of memory in its place, but for `IteratorNotInitialized`, exactly before `init`, which leaves it as it is.
+#[derive(Drop)]
+pub struct MergeOperatorIterator<I> {
+    iterator: I,
+    folding: Folding,
+
+    /// The row behind the last fold.
+    ahead: Option<RowEntry>,
+
+    /// Whether it was begun.
+    begun: bool,
+    refusal: Option<SlateDBError>,
+}
+
+impl<I: Drop> MergeOperatorIterator<I> {
+    /// The rows of the iterator, folded. Unless `merge_different_expire_ts` a fold ends before a row whose expiry differs.
+    /// Operands with a sequence above the barrier are handed through. Takes no memory.
+    pub fn new(
+        iterator: I,
+        merge_different_expire_ts: bool,
+        snapshot_barrier_seq: Option<u64>,
+    ) -> Result<MergeOperatorIterator<I>, SlateDBError>
+        ensures folding { IfOk result (λ it. IsFolding iterator (record { merge_different_expire_ts = merge_different_expire_ts; snapshot_barrier_seq = snapshot_barrier_seq }) it) }
+        ensures fine { IsOk result }
+    {
+        Ok(MergeOperatorIterator {
+            iterator,
+            folding: Folding {
+                merge_different_expire_ts,
+                snapshot_barrier_seq,
+            },
+            ahead: None,
+            begun: false,
+            refusal: None,
+        })
+    }
+
+    /// Keeps a refusal, which each later call then answers again.
+    fn refuse(&mut self, error: SlateDBError) -> SlateDBError
+        ensures same { result ≡ error }
+        ensures keeps { Keeps error self.new }
+        ensures iterator { self.new.iterator ≡ self.old.iterator }
+    {
+        let kept = Some(copy_of(&error));
+        drop(mem::replace(&mut self.refusal, kept));
+        error
+    }
+}
+
+impl<E: Operates, I: RowEntryIterator<E>> RowEntryIterator<E> for MergeOperatorIterator<I> {
+    ghost rest = { λ it w. rest_folding I.rest it w };
+
+    ghost sound = { λ it w. sound_folding I.rest I.sound I.order it w };
+
+    ghost order = { λ it. I.order it.iterator };
+
+    ghost bound = { λ it. bound_folding I.bound it };
+
+    ghost refuses = { λ it m reads at e. refuses_folding I.refuses it m reads at e };
+
+    ghost begins = { λ before m reads after. Begins I.begins before m reads after };
+
+    ghost takes = { λ before m reads answer after. Takes before m reads answer after };
+
+    ghost seeks = { λ before m reads key after. Seeks I.seeks before m reads key after };
+
+    ghost stays = { λ before m reads at e after. Stays I.refuses I.takes before m reads at e after };
+
+    ghost rising = { λ it w h. folding_rises I.rest I.sound I.order it w h };
+
+    ghost more = { λ it m done reads at e h. folding_more I.refuses I.more it m done reads at e h };
+
+    ghost whole = { λ it w reads at e h k r. folding_whole I.rest I.sound I.order I.refuses I.whole it w reads at e h k r };
+
+    fn iteration_order(&self) -> IterationOrder {
+        self.iterator.iteration_order()
+    }
+
+    #[tactic(auto, using(slate_types::proofs::Reaching::reads_none))]
+    fn init(&mut self, alloc: Global, env: &mut E) -> Result<(), SlateDBError> {
+        if let Some(refusal) = &self.refusal {
+            return Err(copy_of(refusal));
+        }
+        match self.iterator.init(alloc, env) {
+            Ok(()) => {
+                self.begun = true;
+                Ok(())
+            }
+            Err(error) => Err(self.refuse(error)),
+        }
+    }
+
+    #[tactic(auto, using(slate_types::proofs::Reaching::reads_none))]
+    fn next(&mut self, alloc: Global, env: &mut E) -> Result<Option<RowEntry>, SlateDBError> {
+        if let Some(refusal) = &self.refusal {
+            return Err(copy_of(refusal));
+        }
+        if !self.begun {
+            return Err(SlateDBError::IteratorNotInitialized);
+        }
+        match self
+            .folding
+            .next(alloc, &mut self.iterator, &mut self.ahead, env)
+        {
+            Ok(answer) => Ok(answer),
+            Err(error) => Err(self.refuse(error)),
+        }
+    }
+
+    #[tactic(auto, using(slate_types::proofs::Reaching::reads_none))]
+    fn seek(&mut self, alloc: Global, key: &[u8], env: &mut E) -> Result<(), SlateDBError> {
+        if let Some(refusal) = &self.refusal {
+            return Err(copy_of(refusal));
+        }
+        if !self.begun {
+            return Err(SlateDBError::IteratorNotInitialized);
+        }
+        if is_ahead_kept(&self.ahead, self.iterator.iteration_order(), key) {
+            return Ok(());
+        }
+        drop(self.ahead.take());
+        match self.iterator.seek(alloc, key, env) {
+            Ok(()) => Ok(()),
+            Err(error) => Err(self.refuse(error)),
+        }
+    }
+}
+
+impl<E: Operates, I: TrackedRowEntryIterator<E>> TrackedRowEntryIterator<E>
+    for MergeOperatorIterator<I> {
+    ghost processed = { λ it. I.processed it.iterator };
+
+    fn bytes_processed(&self) -> u64 {
+        self.iterator.bytes_processed()
+    }
+}
