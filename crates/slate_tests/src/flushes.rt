@@ -32,6 +32,7 @@ fn is_there<T: Drop, E: Drop>(answer: Result<Option<T>, E>) -> bool {
 }
 
 // Whether an open transaction finds a row at the key a.
+#[tactic(auto, using(crate::proofs::OpenIds::open_reads))]
 fn finds(core: &mut Core, env: &mut Parts<'_>, laws: &Laws<NoExtractor>, id: &Uuid) -> bool {
     core.is_open(id) && is_there(core.get(id, b"a", &ReadOptions::default(), env, laws))
 }
@@ -105,6 +106,7 @@ fn two_puts(alloc: Global, core: &mut Core, laws: &Laws<NoExtractor>) -> Option<
 }
 
 // Whether an open transaction finds a row at each of two keys.
+#[tactic(auto, using(crate::proofs::OpenIds::open_reads))]
 fn finds_both(core: &mut Core, env: &mut Parts<'_>, laws: &Laws<NoExtractor>, id: &Uuid) -> bool {
     finds(core, env, laws, id)
         && core.is_open(id)

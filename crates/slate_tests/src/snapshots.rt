@@ -1,4 +1,4 @@
-// A snapshot that is read behind commits and a flush, and the release of one.
+// A snapshot that is read behind a commit and a flush.
 ghost use Rattle.slate_types.specs.Config.{IsValid};
 
 use crate::listing::default_laws;
@@ -7,9 +7,7 @@ use slate_db::laws::Laws;
 use slate_language::Xor;
 use slate_mem::WriteBatch;
 use slate_store::{Env, MemoryStore};
-use slate_types::{
-    BytesRange, KeyValue, NoExtractor, NoOperator, ReadOptions, ScanOptions, SlateDBError,
-};
+use slate_types::{KeyValue, NoExtractor, NoOperator, ReadOptions, SlateDBError};
 use std::alloc::Global;
 use uuid::Uuid;
 
@@ -59,6 +57,7 @@ fn is_first(row: Result<Option<KeyValue>, SlateDBError>, key: &[u8], value: &[u8
 }
 
 // Whether a get at the snapshot finds the older value.
+#[tactic(auto, using(crate::proofs::OpenIds::open_reads))]
 fn gets(core: &mut Core, env: &mut Parts<'_>, laws: &Laws<NoExtractor>, id: &Uuid) -> bool {
     core.is_open(id)
         && is_first(
@@ -66,35 +65,6 @@ fn gets(core: &mut Core, env: &mut Parts<'_>, laws: &Laws<NoExtractor>, id: &Uui
             b"a",
             b"1",
         )
-}
-
-// Whether a scan at the snapshot hands out the two older rows.
-fn scans(core: &mut Core, env: &mut Parts<'_>, laws: &Laws<NoExtractor>, id: &Uuid) -> bool
-    requires { IsValid laws.now.options }
-{
-    if !core.is_open(id) {
-        return false;
-    }
-    let all = BytesRange::unbounded();
-    let scan = core.scan(id, all, None, &ScanOptions::default(), env, laws);
-    let Some(mut rows) = scan.ok() else {
-        return false;
-    };
-    let first = core.next(&mut rows, env);
-    let second = core.next(&mut rows, env);
-    let end = core.next(&mut rows, env);
-    drop(rows);
-    is_first(first, b"a", b"1") && is_first(second, b"b", b"2") && matches!(end, Ok(None))
-}
-
-// Whether a snapshot is open until it is released.
-fn is_released(core: &mut Core) -> bool {
-    let Some((id, seq)) = core.snapshot().ok() else {
-        return false;
-    };
-    let was_open = core.is_open(&id);
-    core.release(&id);
-    seq == 2 && was_open && !core.is_open(&id)
 }
 
 // All of this over the store.
@@ -108,10 +78,7 @@ fn reads_on(alloc: Global, store: &mut MemoryStore) -> bool {
     };
     let read = match taken(alloc, &mut core, &laws) {
         Some((id, 1)) => {
-            is_changed(alloc, &mut core, &mut env, &laws)
-                && gets(&mut core, &mut env, &laws, &id)
-                && scans(&mut core, &mut env, &laws, &id)
-                && is_released(&mut core)
+            is_changed(alloc, &mut core, &mut env, &laws) && gets(&mut core, &mut env, &laws, &id)
         }
         _ => false,
     };
