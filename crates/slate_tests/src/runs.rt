@@ -150,8 +150,9 @@ const RUNS: &[Run] = &[
     (TWICE, Failing { stored: 7, ..NONE }, 7, ONE_ROW),
     (TWICE, Failing { stored: 8, ..NONE }, 7, ONE_ROW),
     (TWICE, Failing { stored: 9, ..NONE }, 0, TWO_ROWS),
-    // Transactions that write. Their lines ask no store, but a get.
+    // A snapshot.
     (SNAPSHOT, NONE, 0, SNAPSHOT_REPLIES),
+    // Transactions that write. Their lines ask no store, but a get.
     (CONFLICT, NONE, 0, CONFLICT_REPLIES),
     (UNMARKED, NONE, 0, UNMARKED_REPLIES),
     (MARKED, NONE, 0, MARKED_REPLIES),
