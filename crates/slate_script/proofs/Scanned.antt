@@ -1,7 +1,6 @@
 -- Calls on a scan, one after the other.
-use Rattle.std.proofs.Common.{◌≡◌, ℕ, ◌+◌, ◌<◌, ◌≤◌, ◌⊎◌, inl, inr, Bool, false, cond, List, [], ◌∷◌, ◌++◌, length, drop, get_or, Option, Some, None, Result, Ok, Err, IfOk, IfErr, OnOk, refl, sym, ap, ◌∙◌, subst, append-nil, append_assoc, arith}
+use Rattle.std.proofs.Common.{◌≡◌, ℕ, ◌+◌, ◌<◌, ◌≤◌, ◌⊎◌, inl, inr, false, cond, List, [], ◌∷◌, ◌++◌, length, drop, get_or, Option, Some, None, Result, Ok, Err, IfOk, IfErr, OnOk, refl, sym, ap, ◌∙◌, subst, append-nil, append_assoc, arith}
 use Rattle.std.specs.Prelude.{IsSome, OnErr, count_by}
-use Rattle.std.specs.List.{AllByRecursion}
 use Rattle.std.proofs.lemmas.List.{length-append}
 use Rattle.slate_types.specs.declared.bytes_range.BytesRange.{BytesRange}
 use Rattle.slate_types.specs.declared.error.SlateDBError.{SlateDBError}
@@ -10,12 +9,11 @@ use Rattle.slate_types.specs.declared.iter.IterationOrder.{IterationOrder}
 use Rattle.slate_types.specs.declared.types.KeyValue.{KeyValue}
 use Rattle.slate_types.specs.declared.types.RowEntry.{RowEntry}
 use Rattle.slate_types.specs.Iteration.{drop_before}
-use Rattle.slate_types.specs.Keys.{is_refused, range_of}
-use Rattle.slate_types.specs.Outside.{Act, Objects, IsFault, IsLater, OnlyReads, Reach}
+use Rattle.slate_types.specs.Keys.{is_refused}
+use Rattle.slate_types.specs.Outside.{Act, IsFault, OnlyReads, Reach}
 use Rattle.slate_types.specs.Refusing.{NoMore}
-use Rattle.slate_types.specs.World.{Kept, World, AnswersWorld, HoldsWorld, IsCall, Made, Sees}
+use Rattle.slate_types.specs.World.{World, Made, Sees}
 use Rattle.slate_types.proofs.Calls.{call_none, call_both, no_more_both, sees_first, sees_last}
-use Rattle.slate_types.proofs.Lists.{AllByRecursion-front, AllByRecursion-behind}
 use Rattle.slate_types.proofs.Reaching.{fault_earlier}
 use Rattle.slate_txn.specs.declared.event.TranscriptStep.{TranscriptStep}
 use Rattle.slate_txn.specs.declared.event.TranscriptStep.TheVariants as steps
@@ -24,15 +22,15 @@ use Rattle.slate_txn.specs.declared.line.ScanStep.TheVariants.{Rows, Seek}
 use Rattle.slate_txn.specs.declared.line.Line.TheVariants as lines
 use Rattle.slate_txn.specs.Alone.{first_left}
 use Rattle.slate_txn.specs.Named.{find_named}
-use Rattle.slate_txn.specs.Reads.{answer_of, handed, rows_seen, walk}
-use Rattle.slate_txn.specs.Reply.{Reply, RowsAre}
-use Rattle.slate_txn.specs.State.{Rules, State, Tx}
+use Rattle.slate_txn.specs.Reads.{handed, rows_seen, walk}
+use Rattle.slate_txn.specs.Reply.{RowsAre}
+use Rattle.slate_txn.specs.State.{Rules, Tx}
 use Rattle.slate_txn.specs.Step.{Reader, is_scan, noted, reader, scan, scan_walked, step}
 use Rattle.slate_db.specs.declared.scan.TxnIterator.{TxnIterator}
 use Rattle.slate_db.specs.Meaning.{Meaning, rules_of}
 use Rattle.slate_db.specs.Model.{CoreModel}
 use Rattle.slate_db.specs.Readable.{IsAnswered}
-use Rattle.slate_db.specs.Scans.{IsFor, IsOpenScan, IsRefusedByScan, IsScanError, IsScanOf, Leaves, LeavesIn, ScanRefuses, id_of, number_of, scan_of}
+use Rattle.slate_db.specs.Scans.{IsOpenScan, IsRefusedByScan, IsScanError, IsScanOf, Leaves, LeavesIn, ScanRefuses, id_of, number_of, scan_of}
 use Rattle.slate_db.specs.Sound.{IsKept}
 use Rattle.slate_script.specs.Scanning.{Took, Fails, HasScanned, IsNoted}
 use Rattle.slate_script.specs.Walking.{Means, TakesFirst, TakesNext, TakesRest, TakesStep, TakesSteps, Walks}

@@ -1,19 +1,16 @@
 -- What a flush and other lines leave of the store's tables.
-use Rattle.std.proofs.Common.{◌≡◌, ℕ, ◌+◌, ◌<◌, ◌≤◌, ◌^◌, inl, inr, List, [], ◌∷◌, ◌++◌, append_assoc, flat_map, length, Option, Some, None, IfSome, refl, sym, ap, ◌∙◌, subst, arith}
+use Rattle.std.proofs.Common.{◌≡◌, ℕ, ◌+◌, ◌≤◌, inl, inr, List, [], ◌∷◌, ◌++◌, flat_map, length, Option, Some, None, IfSome, refl, sym, ap, ◌∙◌, subst, arith}
 use Rattle.std.specs.List.{AllByRecursion}
 use Rattle.std.proofs.lemmas.List.{append-nil, length-append}
 use Rattle.std.proofs.lemmas.List.Concat.{flat_map-append}
 use Rattle.slate_types.specs.declared.types.Ulid.{Ulid}
 use Rattle.slate_types.specs.Outside.{Objects}
-use Rattle.slate_store.specs.Store.{object_at, with_object}
-use Rattle.slate_store.proofs.StoreLaws.{put_is_there, others_stay}
 use Rattle.slate_table.specs.Parts.{Encode}
-use Rattle.slate_table.specs.Paths.{path_of, table_id}
 use Rattle.slate_txn.specs.declared.event.Event.{Event}
 use Rattle.slate_txn.specs.declared.event.Event.TheVariants as events
 use Rattle.slate_db.specs.Flushed.{IsFlushed, idle, stored, Layout, with_tables}
 use Rattle.slate_db.specs.Frozen.{IsFrozen}
-use Rattle.slate_db.specs.Installs.{runs_of, tables_in, tables_of, root, ArePlaced, Holds, HoldsTables, NumberedFrom}
+use Rattle.slate_db.specs.Installs.{runs_of, tables_in, tables_of, ArePlaced, Holds, HoldsTables, NumberedFrom}
 use Rattle.slate_db.specs.Meaning.{Meaning}
 use Rattle.slate_db.specs.Model.{CoreModel}
 use Rattle.slate_db.specs.Log.{LIMIT}

@@ -1,5 +1,5 @@
 -- The steps of a scan, as they are taken one after the other.
-use Rattle.std.proofs.Common.{◌≡◌, ℕ, zero, suc, ◌+◌, ◌-◌, ◌<◌, ◌≤◌, Bool, true, false, cond, ◌==◌, List, [], ◌∷◌, ◌++◌, length, take, drop, get_or, Option, Some, None, refl, sym, ap, ◌∙◌, arith, add-one, append_assoc, append-nil, ltb}
+use Rattle.std.proofs.Common.{◌≡◌, ℕ, zero, suc, ◌+◌, ◌-◌, ◌<◌, ◌≤◌, Bool, true, false, cond, ◌==◌, List, [], ◌∷◌, ◌++◌, length, take, drop, get_or, Some, None, refl, sym, ap, ◌∙◌, arith, add-one, append_assoc, append-nil, ltb}
 use Rattle.std.specs.Prelude.{count_by}
 use Rattle.std.proofs.Math.Seq.{drop-cons, drop-nil}
 use Rattle.std.proofs.lemmas.Bool.Decides.{nat_tests}
@@ -17,7 +17,7 @@ use Rattle.slate_txn.specs.declared.event.TranscriptStep.TheVariants as steps
 use Rattle.slate_txn.specs.declared.line.ScanStep.{ScanStep}
 use Rattle.slate_txn.specs.declared.line.ScanStep.TheVariants.{Rows}
 use Rattle.slate_txn.specs.Alone.{first_left}
-use Rattle.slate_txn.specs.Reads.{answer_of, handed, left_after, nexts, step_walk, steps_walk, walk}
+use Rattle.slate_txn.specs.Reads.{answer_of, handed, nexts, steps_walk}
 use Rattle.slate_txn.specs.Step.{is_scan}
 use Rattle.slate_script.specs.Walking.{TakesFirst, TakesNext, TakesRest, TakesStep, Walks}
 

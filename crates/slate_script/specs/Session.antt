@@ -22,7 +22,7 @@
 --     IsDone ran result      an operation that ran is answered by its end, and a refused one by its refusal
 --     has_moment line      a line that sets the moment sets one
 --     StoresNothing old new      what a line keeps that stores nothing
-use Rattle.std.specs.Prelude.{◌≡◌, ℕ, ◌+◌, ◌-◌, ◌^◌, ◌<◌, ◌⊎◌, Bool, true, ◌≤◌, List, [], flat_map, length, sum_by, Option, Some, None, Result, Ok, IfOk, IfErr, OnOk, IsSome, ℤ}
+use Rattle.std.specs.Prelude.{◌≡◌, ℕ, ◌+◌, ◌-◌, ◌^◌, ◌<◌, ◌⊎◌, Bool, true, ◌≤◌, List, flat_map, length, sum_by, Option, Some, None, Result, Ok, IfOk, IfErr, OnOk, IsSome, ℤ}
 use Rattle.std.specs.List.{AllByRecursion}
 use Rattle.std.specs.Option.{option_or}
 use Rattle.slate_types.specs.declared.error.SlateDBError.{SlateDBError}

@@ -1,4 +1,4 @@
-use Rattle.std.proofs.Common.{◌≡◌, ◌++◌, map, ap, ◌∙◌}
+use Rattle.std.proofs.Common.{◌++◌, map, ap, ◌∙◌}
 use Rattle.slate_language.specs.Answers.{entry_commit}
 use Rattle.slate_script.proofs.JournalShown.{shown_all, shown-replay}
 use Rattle.slate_script.proofs.journal.entries.Goals as goal

@@ -2,9 +2,7 @@ use Rattle.std.proofs.Common.{◌≡◌, [], ◌∷◌, None, refl, ◌∙◌, a
 use Rattle.std.proofs.lemmas.Result.{IfOk-from_err}
 use Rattle.slate_types.proofs.Exits.{err_exit}
 use Rattle.slate_types.proofs.Reaching.{reads_none, reads_then}
-use Rattle.slate_types.specs.declared.error.SlateDBError.TheVariants.{OutOfMemory}
 use Rattle.slate_txn.specs.declared.event.TranscriptStep.TheVariants as steps
-use Rattle.slate_store.specs.Reach.{reach_of}
 use Rattle.slate_db.specs.Scans.{id_of, number_of}
 use Rattle.slate_script.specs.Walking.{TakesFirst}
 use Rattle.slate_script.proofs.Scanned.{fails_call, fails_memory, fails_on, noted_then, open_on, took_end, took_filled, took_none, took_row}

@@ -1,4 +1,4 @@
-use Rattle.std.proofs.Common.{OnOk, ap, inr, refl, sym, subst}
+use Rattle.std.proofs.Common.{OnOk, inr, refl, sym, subst}
 use Rattle.std.specs.Prelude.{IfErr}
 use Rattle.slate_types.specs.World.{Made}
 use Rattle.slate_store.specs.Reach.{reach_of}

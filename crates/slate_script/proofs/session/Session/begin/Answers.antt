@@ -1,14 +1,12 @@
-use Rattle.std.proofs.Common.{arith, ◌≡◌, cond, Some, Ok, refl, sym, subst, ap, ◌∙◌, inl}
+use Rattle.std.proofs.Common.{arith, cond, Some, Ok, refl, sym, subst, ap, ◌∙◌, inl}
 use Rattle.std.proofs.lemmas.Result.{IfOk-from_err, err_from_is_err_and}
 use Rattle.std.specs.Map.{lookup}
 use Rattle.std.specs.BTreeMap.{is_at}
 use Rattle.slate_types.specs.Keys.{key_cmp}
-use Rattle.slate_txn.specs.Named.{find_named}
 use Rattle.slate_txn.specs.declared.event.Event.TheVariants as events
 use Rattle.slate_txn.specs.declared.line.Line.TheVariants as lines
 use Rattle.slate_db.specs.Meaning.{rules_of}
 use Rattle.slate_language.specs.declared.reply.Answer.TheVariants as answers
-use Rattle.slate_types.specs.declared.error.SlateDBError.TheVariants as errors
 use Rattle.slate_script.specs.Session.{SessionModel, AnswersAs, Grows, NamesStand, StoresNothing, reader_id}
 use Rattle.slate_script.proofs.NamesLaws.{named-after}
 use Rattle.slate_script.proofs.SessionNames.{opens-fresh, names-begun, names-opened}

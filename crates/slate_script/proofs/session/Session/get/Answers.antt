@@ -1,4 +1,4 @@
-use Rattle.std.proofs.Common.{◌≡◌, ℕ, List, [], length, Option, Some, None, Ok, refl, sym, ap, subst, ◌∙◌, arith}
+use Rattle.std.proofs.Common.{◌≡◌, ℕ, List, length, Option, Ok, refl, sym, ap, subst, ◌∙◌, arith}
 use Rattle.std.specs.Prelude.{IfSome, IsSome}
 use Rattle.std.proofs.lemmas.Result.{err_from_is_err_and, IfOk-from_err}
 use Rattle.slate_store.specs.Reach.{reach_of}
@@ -14,7 +14,6 @@ use Rattle.slate_db.specs.Model.{CoreModel}
 use Rattle.slate_db.specs.Parts.{meaning_of}
 use Rattle.slate_db.specs.Readable.{IsAnswered, IsReadError}
 use Rattle.slate_language.specs.declared.reply.Answer.TheVariants as answers
-use Rattle.slate_types.specs.declared.error.SlateDBError.TheVariants as errors
 use Rattle.slate_script.specs.Session.{SessionModel, AnswersAs, Grows, NamesStand, StoresNothing, reader_id}
 use Rattle.slate_script.proofs.SessionNames.{names-updated}
 use Rattle.slate_script.proofs.SessionSteps.{get-refused, get-found}

@@ -1,4 +1,4 @@
-use Rattle.std.proofs.Common.{◌≤◌, length, arith, ◌≡◌, None, Some, Ok, List, ℕ, refl, sym, subst, ◌∙◌, ap}
+use Rattle.std.proofs.Common.{length, arith, ◌≡◌, None, Some, Ok, List, ℕ, refl, sym, subst, ◌∙◌, ap}
 use Rattle.slate_db.specs.Sound.{IsKept}
 use Rattle.slate_db.specs.Installs.{runs_of}
 use Rattle.slate_txn.specs.Named.{find_named}
