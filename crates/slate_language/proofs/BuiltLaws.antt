@@ -6,7 +6,7 @@ use Rattle.slate_mem.specs.Batch.{Ops}
 use Rattle.slate_txn.specs.declared.line.Line.{Line}
 use Rattle.slate_txn.specs.declared.line.Line.TheVariants as lines
 use Rattle.slate_language.specs.declared.parse.Keyword.{Keyword}
-use Rattle.slate_language.specs.declared.parse.Keyword.TheVariants.{Begin, Get, Scan, Put, Delete, Mark, Unmark, Commit, Rollback, Now, Write, Freeze, Flush, Journal}
+use Rattle.slate_language.specs.declared.parse.Keyword.TheVariants.{Begin, Snapshot, Get, Scan, Put, Delete, Mark, Unmark, Commit, Rollback, Now, Write, Freeze, Flush, Journal}
 use Rattle.slate_language.specs.Grammar.{Spells}
 use Rattle.slate_language.specs.Parse.{both, only_if, ◌>>=◌, split_by, tokens_of, read_level, read_moment, read_name, read_order, read_pair, read_way, grouped, ops_of_groups, parse_tokens}
 use Rattle.slate_language.specs.Stage.{is_built, is_built_batch, if_built, IsBuiltLine, meaning}
@@ -45,6 +45,7 @@ Meets ts line = Spells ts line × (is_built line ≡ true)
 
 abbrev keyword_text : Keyword → List ℕ
 keyword_text Begin = codes "begin"
+keyword_text Snapshot = codes "snapshot"
 keyword_text Get = codes "get"
 keyword_text Scan = codes "scan"
 keyword_text Put = codes "put"
@@ -68,7 +69,7 @@ among-only t (p ∷ ps) w h e = by (cond-either (bytes_eq t p.0) (Some p.1) (key
     by (inr k) later = later k.1
 
 keyword-only : (t : List ℕ) (w : Keyword) → keyword t ≡ Some w → t ≡ keyword_text w
-keyword-only t w e = among-only t keywords w (refl, (refl, (refl, (refl, (refl, (refl, (refl, (refl, (refl, (refl, (refl, (refl, (refl, (refl, tt)))))))))))))) e
+keyword-only t w e = among-only t keywords w (refl, (refl, (refl, (refl, (refl, (refl, (refl, (refl, (refl, (refl, (refl, (refl, (refl, (refl, (refl, tt))))))))))))))) e
 
 ops-built-only : (ts : List (List ℕ)) (batch : Ops) → built_ops ts ≡ Some batch → (ops_of_groups (grouped ts) ≡ Some batch) × (is_built_batch batch ≡ true)
 ops-built-only ts batch e =
@@ -90,6 +91,9 @@ as-only Begin (n ∷ t ∷ []) line e =
     subst (Meets (codes "begin" ∷ n ∷ t ∷ [])) parts.4
     ((name.0, λ i. codes "begin" ∷ name.1 i ∷ level-only t parts.1 parts.3 i ∷ []), refl)
 as-only Begin (n ∷ t ∷ u ∷ us) line e = None-is-Some line e
+as-only Snapshot us line e =
+    let p = name-line lines.Snapshot us line e in
+    subst (Meets (codes "snapshot" ∷ us)) p.3 ((p.1, ap (λ ts. codes "snapshot" ∷ ts) p.2), refl)
 as-only Get us line e =
     let p = keyed-line lines.Get us line e in
     subst (Meets (codes "get" ∷ us)) p.6 ((p.2, p.3, p.4, ap (λ ts. codes "get" ∷ ts) p.5), refl)
@@ -150,6 +154,7 @@ built-is ts (lines.Begin name level) h =
     let n = name-read name h.0.0 in
     let l = level-read level in
     ap built_tokens h.0.1 ∙ (λ i. both lines.Begin (n.0 i) (l.0 i))
+built-is ts (lines.Snapshot name) h = ap built_tokens h.0.1 ∙ (named-read lines.Snapshot name h.0.0).0
 built-is ts (lines.Get name k) h = ap built_tokens h.0.3 ∙ (keyed-read lines.Get name h.0.0 k h.0.1 h.0.2).0
 built-is ts (lines.Scan name order start end sts) h =
     let n = name-read name h.0.1 in
@@ -173,7 +178,6 @@ built-is ts (lines.Write batch) h =
 built-is ts lines.Freeze h = ap built_tokens h.0
 built-is ts lines.Flush h = ap built_tokens h.0
 built-is ts lines.Journal h = ap built_tokens h.0
-built-is ts (lines.Snapshot name) h = not-built h.1
 built-is ts (lines.Prefix name order p start end sts) h = not-built h.1
 built-is ts (lines.Merge name k v ttl) h = not-built h.1
 

@@ -22,6 +22,7 @@ shown-of answers.Done = refl
 shown-of (answers.Refused error) = refl
 shown-of (answers.NowIs moment) = refl
 shown-of (answers.Begun name start) = refl
+shown-of (answers.SnapshotAt name seq) = refl
 shown-of (answers.Found row) = refl
 shown-of (answers.Rows rows) = refl
 shown-of (answers.Committed seq) = refl

@@ -37,6 +37,7 @@ reply_of answers.Done = replies.Done
 reply_of (answers.Refused error) = replies.Refused error
 reply_of (answers.NowIs moment) = replies.NowIs moment
 reply_of (answers.Begun name start) = replies.Begun name start
+reply_of (answers.SnapshotAt name seq) = replies.SnapshotAt name seq
 reply_of (answers.Found row) = replies.Found row
 reply_of (answers.Rows rows) = replies.RowsAre rows.items
 reply_of (answers.Committed seq) = replies.Committed seq

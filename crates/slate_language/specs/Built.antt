@@ -14,7 +14,7 @@ use Rattle.slate_mem.specs.Batch.{Ops}
 use Rattle.slate_txn.specs.declared.line.Line.{Line}
 use Rattle.slate_txn.specs.declared.line.Line.TheVariants as lines
 use Rattle.slate_language.specs.declared.parse.Keyword.{Keyword}
-use Rattle.slate_language.specs.declared.parse.Keyword.TheVariants.{Begin, Get, Scan, Put, Delete, Mark, Unmark, Commit, Rollback, Now, Write, Freeze, Flush, Journal}
+use Rattle.slate_language.specs.declared.parse.Keyword.TheVariants.{Begin, Snapshot, Get, Scan, Put, Delete, Mark, Unmark, Commit, Rollback, Now, Write, Freeze, Flush, Journal}
 use Rattle.slate_language.specs.Grammar.{is_name_byte}
 use Rattle.slate_language.specs.Parse.{only_if, ◌>>=◌, both, read_bytes, read_moment, read_name, read_level, read_order, read_pair, read_way, named, keyed, many_keyed, op_word, grouped, ops_of_groups}
 use Rattle.slate_language.specs.Stage.{is_built_batch}
@@ -56,7 +56,7 @@ abbrev pub marking : List (List ℕ × Keyword)
 marking = (codes "mark", Mark) ∷ (codes "unmark", Unmark) ∷ (codes "commit", Commit) ∷ (codes "rollback", Rollback) ∷ unnamed
 
 abbrev pub keywords : List (List ℕ × Keyword)
-keywords = (codes "begin", Begin) ∷ (codes "get", Get) ∷ (codes "scan", Scan) ∷ (codes "put", Put) ∷ (codes "delete", Delete) ∷ marking
+keywords = (codes "begin", Begin) ∷ (codes "snapshot", Snapshot) ∷ (codes "get", Get) ∷ (codes "scan", Scan) ∷ (codes "put", Put) ∷ (codes "delete", Delete) ∷ marking
 
 abbrev pub keyword : List ℕ → Option Keyword
 keyword t = keyword_among keywords t
@@ -98,6 +98,9 @@ abbrev pub built_begin : List (List ℕ) → Option Line
 built_begin (n ∷ t ∷ []) = both lines.Begin (read_name n) (read_level t)
 built_begin _ = None
 
+abbrev pub built_snapshot : List (List ℕ) → Option Line
+built_snapshot ts = named lines.Snapshot ts
+
 abbrev pub built_get : List (List ℕ) → Option Line
 built_get ts = keyed lines.Get ts
 
@@ -133,6 +136,7 @@ built_alone line (t ∷ ts) = None
 
 abbrev pub built_as : Keyword → List (List ℕ) → Option Line
 built_as Begin ts = built_begin ts
+built_as Snapshot ts = built_snapshot ts
 built_as Get ts = built_get ts
 built_as Scan ts = built_scan ts
 built_as Put ts = built_put ts

@@ -23,6 +23,7 @@ is_built_batch (o ∷ os) = is_built_op o.1 && is_built_batch os
 abbrev pub is_built : Line → Bool
 is_built (lines.Now m) = true
 is_built (lines.Begin name level) = true
+is_built (lines.Snapshot name) = true
 is_built (lines.Get name k) = true
 is_built (lines.Scan name order start end sts) = true
 is_built (lines.Put name k v ttl) = true

@@ -184,8 +184,8 @@ SegmentsNeverNest = Answers by_last_colon (
     ("scan t asc * *" ▹ "rows 2 'a:x '1 1 0 - 'c:d:x '3 2 0 -") ∷
     [])
 
-abbrev pub SnapshotReads : Type 0
-SnapshotReads = Answers plain (
+abbrev pub snapshot_reads : List (String × String)
+snapshot_reads =
     ("write put 'a '1" ▹ "written 1") ∷
     ("snapshot s" ▹ "snapshot s 1") ∷
     ("write put 'a '2" ▹ "written 2") ∷
@@ -193,7 +193,10 @@ SnapshotReads = Answers plain (
     ("get s 'a" ▹ "row 'a '1 1 0 -") ∷
     ("put s 'a '9" ▹ "refused UnknownTransaction s") ∷
     ("rollback s" ▹ "ok") ∷
-    [])
+    []
+
+abbrev pub SnapshotReads : Type 0
+SnapshotReads = Answers plain snapshot_reads
 
 abbrev pub TimesToLive : Type 0
 TimesToLive = Answers ten_millis (
@@ -329,6 +332,27 @@ ScansToday = AnswersToday plain empty_scan × AnswersToday plain back_with_a_see
     ("scan u asc e'a e'a" ▹ "refused UnknownTransaction u") ∷
     [])
 
+-- A snapshot's name is open to reads and to its rollback alone, and no transaction has it meanwhile.
+abbrev pub SnapshotsToday : Type 0
+SnapshotsToday = AnswersToday plain snapshot_reads × AnswersToday plain (
+    ("write put 'a '1" ▹ "written 1") ∷
+    ("snapshot s" ▹ "snapshot s 1") ∷
+    ("begin s si" ▹ "refused DuplicateTransaction s") ∷
+    ("begin t ssi" ▹ "begun t 1") ∷
+    ("snapshot t" ▹ "refused DuplicateTransaction t") ∷
+    ("put t 'b '2" ▹ "ok") ∷
+    ("commit t" ▹ "committed 2") ∷
+    ("scan s asc * *" ▹ "rows 1 'a '1 1 0 -") ∷
+    ("delete s 'a" ▹ "refused UnknownTransaction s") ∷
+    ("mark s 'a" ▹ "refused UnknownTransaction s") ∷
+    ("unmark s 'a" ▹ "refused UnknownTransaction s") ∷
+    ("commit s" ▹ "refused UnknownTransaction s") ∷
+    ("rollback s" ▹ "ok") ∷
+    ("get s 'a" ▹ "refused UnknownTransaction s") ∷
+    ("snapshot s" ▹ "snapshot s 2") ∷
+    ("scan s desc * * n1" ▹ "rows 1 'b '2 2 0 -") ∷
+    [])
+
 -- Own operations have no stamps before their commit, which tracks them; a commit of none has no sequence.
 abbrev pub OwnToday : Type 0
 OwnToday = AnswersToday ten_millis (
@@ -352,7 +376,6 @@ OwnToday = AnswersToday ten_millis (
 -- A line that isn't built ends a script, as does one that is none.
 abbrev pub NotBuiltToday : Type 0
 NotBuiltToday = (replies plain (text ("begin t si" ∷ "prefix t asc 'a * *" ∷ "begin u si" ∷ [])) ≡ text ("begun t 0" ∷ []))
-    × (replies plain (text ("snapshot s" ∷ [])) ≡ [])
     × (replies plain (text ("mark t" ∷ [])) ≡ [])
     × (replies plain (text ("write put 'a '1 merge 'a '2" ∷ [])) ≡ [])
     × (replies plain (text ("write put 0x6A '1" ∷ [])) ≡ [])

@@ -2,7 +2,7 @@
 ghost use Rattle.std.specs.Prelude.{◌≡◌, ◌⊎◌, ◌≤◌, ◌∷◌, [], Ok, Some, None, IfOk, IfSome, IfErr, codes, length, option_map, true, false};
 ghost use Rattle.slate_language.specs.Parse.{tokens_of, grouped, both, many_keyed, read_all, read_bytes, read_bound, read_level, read_name, read_order, read_pair, read_step, read_ttl, read_way};
 ghost use Rattle.slate_language.specs.Stage.{meaning};
-ghost use Rattle.slate_language.specs.Built.{texts, keyword, keyword_among, marking, unnamed, built_begin, built_get, built_scan, built_put, built_delete, built_mark, built_unmark, built_commit, built_rollback, built_now, built_write, built_alone, built_as, built_tokens};
+ghost use Rattle.slate_language.specs.Built.{texts, keyword, keyword_among, marking, unnamed, built_begin, built_snapshot, built_get, built_scan, built_put, built_delete, built_mark, built_unmark, built_commit, built_rollback, built_now, built_write, built_alone, built_as, built_tokens};
 ghost use Rattle.slate_language.specs.Built.{is_op_word, built_put_op, built_delete_op, built_op, built_ops};
 ghost use Rattle.slate_language.specs.Replies.{is_silent};
 
@@ -20,6 +20,7 @@ use std::ops::Bound;
 #[derive(Clone, Copy)]
 enum Keyword {
     Begin,
+    Snapshot,
     Get,
     Scan,
     Put,
@@ -87,6 +88,8 @@ fn read_keyword(token: &[u8]) -> Option<Keyword>
 {
     if is_word(token, b"begin") {
         Some(Keyword::Begin)
+    } else if is_word(token, b"snapshot") {
+        Some(Keyword::Snapshot)
     } else if is_word(token, b"get") {
         Some(Keyword::Get)
     } else if is_word(token, b"scan") {
@@ -142,6 +145,7 @@ fn read_as(alloc: Global, keyword: Keyword, tokens: &[&[u8]]) -> Result<Option<L
 {
     match keyword {
         Keyword::Begin => read_begin(alloc, tokens),
+        Keyword::Snapshot => read_snapshot(alloc, tokens),
         Keyword::Get => read_get(alloc, tokens),
         Keyword::Scan => read_scan(alloc, tokens),
         Keyword::Put => read_put(alloc, tokens),
@@ -204,6 +208,19 @@ fn read_level(token: &[u8]) -> Option<IsolationLevel>
         Some(IsolationLevel::SerializableSnapshot)
     } else {
         None
+    }
+}
+
+/// `snapshot N`
+fn read_snapshot(alloc: Global, tokens: &[&[u8]]) -> Result<Option<Line>, AllocError>
+    ensures line { IfOk result (λ o. o ≡ built_snapshot (texts tokens.now)) }
+{
+    let [name] = tokens else {
+        return Ok(None);
+    };
+    match copy_name(alloc, name)? {
+        Some(name) => Ok(Some(Line::Snapshot { name })),
+        None => Ok(None),
     }
 }
 

@@ -29,6 +29,7 @@ pub enum Answer {
     Refused(SlateDBError),
     NowIs(i64),
     Begun { name: Bytes, start: u64 },
+    SnapshotAt { name: Bytes, seq: u64 },
     Found(Option<KeyValue>),
     /// The rows that a scan handed out, in its order.
     Rows(Vec<KeyValue>),
@@ -74,6 +75,14 @@ pub fn reply_text(alloc: Global, answer: &Answer) -> Result<Vec<u8>, AllocError>
                 Word::Text(b"begun"),
                 Word::Text(name.as_slice()),
                 Word::Number(*start),
+            ],
+        ),
+        Answer::SnapshotAt { name, seq } => line_of(
+            alloc,
+            &[
+                Word::Text(b"snapshot"),
+                Word::Text(name.as_slice()),
+                Word::Number(*seq),
             ],
         ),
         Answer::Found(None) => line_of(alloc, &[Word::Text(b"none")]),

@@ -28,6 +28,7 @@ ghost use Rattle.slate_language.specs.WorkedRows.{
   LongKeysToday,
   TransactionsToday,
   ScansToday,
+  SnapshotsToday,
   OwnToday,
   NotBuiltToday,
 };
@@ -90,6 +91,8 @@ pub fn worked_rows()
     ensures transactions_today { TransactionsToday }
     // Scans, by what is built today.
     ensures scans_today { ScansToday }
+    // Snapshots, by what is built today.
+    ensures snapshots_today { SnapshotsToday }
     // Own operations before and after their commit, by what is built today.
     ensures own_today { OwnToday }
     // What is not built ends a script.

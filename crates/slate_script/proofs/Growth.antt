@@ -15,49 +15,43 @@ use Rattle.slate_txn.specs.declared.line.Line.{Line}
 use Rattle.slate_types.specs.declared.config.IsolationLevel.{IsolationLevel}
 use Rattle.slate_txn.specs.Named.{find_named, set_named, update_named, without}
 use Rattle.slate_txn.specs.State.{Rules, State, Tx, begun, last}
-use Rattle.slate_txn.specs.Step.{with_op}
+use Rattle.slate_txn.specs.declared.event.TranscriptStep.{TranscriptStep}
+use Rattle.slate_txn.specs.Step.{noted, with_op}
 use Rattle.slate_db.specs.Flushed.{IsFlushed, Layout, idle, stored}
 use Rattle.slate_db.specs.Frozen.{IsFrozen}
 use Rattle.slate_db.specs.Load.{load, op_load, ops_load, rows_load, weight}
 use Rattle.slate_db.specs.Model.{CoreModel, IsSame}
 use Rattle.slate_db.specs.Operated.{operated}
-use Rattle.slate_db.specs.Log.{LIMIT}
+use Rattle.slate_db.specs.Log.{LIMIT, ends_of}
 use Rattle.slate_db.specs.Written.{IsWritten}
 use Rattle.slate_language.specs.declared.reply.Answer.{Answer}
 use Rattle.slate_script.specs.Session.{SessionModel, Grows, IsLimit, line_load, own_load}
 use Rattle.slate_script.proofs.SessionLeaves.{Closes}
-use Rattle.slate_script.proofs.SessionNames.{Fresh}
+use Rattle.slate_script.proofs.SessionNames.{Fresh, FreshSnapshot}
 
 -- n: what is added to memory
 pub record Takes (old new : CoreModel) (n : ℕ) : Type 0 where
   pub weighs : weight new ≤ weight old + 2
   pub holds : load new + own_load new.state.txns ≤ load old + own_load old.state.txns + n
 
-takes-some : (old new : CoreModel) (n a b : ℕ) → a ≤ 1 → length new.events ≡ length old.events + a → length new.state.txns ≤ length old.state.txns + 1 → own_load new.state.txns ≤ own_load old.state.txns → load new ≡ load old + b → b ≤ n → Takes old new n
-takes-some old new n a b one events txns own same few = record { weighs = omega (arith, events, txns, one); holds = omega (arith, own, same, few) }
+takes-some : (old new : CoreModel) (n a b : ℕ) → a ≤ 1 → length new.events ≡ length old.events + a → ends_of new.state ≤ ends_of old.state + 1 → own_load new.state.txns ≤ own_load old.state.txns → load new ≡ load old + b → b ≤ n → Takes old new n
+takes-some old new n a b one events ends own same few = record { weighs = omega (arith, events, ends, one); holds = omega (arith, own, same, few) }
 
-pub takes-event : (old new : CoreModel) (e : Event) → new ≡ record old { state = new.state; events = old.events ++ (e ∷ []); spare = new.spare } → length new.state.txns ≤ length old.state.txns + 1 → own_load new.state.txns ≤ own_load old.state.txns → Takes old new 0
+pub takes-event : (old new : CoreModel) (e : Event) → new ≡ record old { state = new.state; events = old.events ++ (e ∷ []); spare = new.spare } → ends_of new.state ≤ ends_of old.state + 1 → own_load new.state.txns ≤ own_load old.state.txns → Takes old new 0
 takes-event old new e is few own =
     takes-some old new 0 1 0 (omega arith) (ap (λ (c : CoreModel). length c.events) is ∙ length-append old.events (e ∷ [])) few own
     (let same : load new ≡ load old = ap load is in omega (arith, same)) (omega arith)
 
-takes-nothing : (old new : CoreModel) → new.events ≡ old.events → new.state.txns ≡ old.state.txns → load new ≡ load old → Takes old new 0
-takes-nothing old new events txns same =
+takes-nothing : (old new : CoreModel) → new.events ≡ old.events → new.state.txns ≡ old.state.txns → new.state.snapshots ≡ old.state.snapshots → load new ≡ load old → Takes old new 0
+takes-nothing old new events txns snapshots same =
     let n : length new.events ≡ length old.events = ap length events in
     let k : length new.state.txns ≡ length old.state.txns = ap length txns in
+    let l : length new.state.snapshots ≡ length old.state.snapshots = ap length snapshots in
     let o : own_load new.state.txns ≡ own_load old.state.txns = ap own_load txns in
-    takes-some old new 0 0 0 (omega arith) (omega (arith, n)) (omega (arith, k)) (omega (arith, o)) (omega (arith, same)) (omega arith)
+    takes-some old new 0 0 0 (omega arith) (omega (arith, n)) (omega (arith, k, l)) (omega (arith, o)) (omega (arith, same)) (omega arith)
 
 pub takes-same : (old new : CoreModel) → IsSame old new → Takes old new 0
-takes-same old new is = takes-nothing old new (ap (λ (c : CoreModel). c.events) is) (ap (λ (c : CoreModel). c.state.txns) is) (ap load is)
-
-pub takes-noted : (old new : CoreModel) (s : State) → new ≡ record old { state = s } → length s.txns ≡ length old.state.txns → own_load s.txns ≡ own_load old.state.txns → Takes old new 0
-takes-noted old new s is many own =
-    let n : length new.events ≡ length old.events = ap (λ (c : CoreModel). length c.events) is in
-    let k : length new.state.txns ≡ length s.txns = ap (λ (c : CoreModel). length c.state.txns) is in
-    let o : own_load new.state.txns ≡ own_load s.txns = ap (λ (c : CoreModel). own_load c.state.txns) is in
-    let same : load new ≡ load old = ap load is in
-    takes-some old new 0 0 0 (omega arith) (omega (arith, n)) (omega (arith, k, many)) (omega (arith, o, own)) (omega (arith, same)) (omega arith)
+takes-same old new is = takes-nothing old new (ap (λ (c : CoreModel). c.events) is) (ap (λ (c : CoreModel). c.state.txns) is) (ap (λ (c : CoreModel). c.state.snapshots) is) (ap load is)
 
 -- a freeze
 frozen-events : (old new : CoreModel) → IsFrozen old new → length new.events ≤ length old.events + 1
@@ -68,6 +62,10 @@ frozen-txns : (old new : CoreModel) → IsFrozen old new → new.state.txns ≡ 
 frozen-txns old new (inl same) = ap (λ (c : CoreModel). c.state.txns) same.1
 frozen-txns old new (inr is) = ap (λ (c : CoreModel). c.state.txns) is.1
 
+frozen-snapshots : (old new : CoreModel) → IsFrozen old new → new.state.snapshots ≡ old.state.snapshots
+frozen-snapshots old new (inl same) = ap (λ (c : CoreModel). c.state.snapshots) same.1
+frozen-snapshots old new (inr is) = ap (λ (c : CoreModel). c.state.snapshots) is.1
+
 frozen-load : (old new : CoreModel) → IsFrozen old new → load new ≡ load old
 frozen-load old new (inl same) = ap load same.1
 frozen-load old new (inr is) = ap load is.1 ∙ (let e : sum_by rows_load ((old.frozen ++ (old.active ∷ [])) ++ ([] ∷ [])) ≡ load old + 0 = sum_by_push rows_load (old.frozen ++ (old.active ∷ [])) [] in omega (arith, e))
@@ -76,22 +74,25 @@ pub takes-frozen : (old new : CoreModel) → IsFrozen old new → Takes old new 
 takes-frozen old new h =
     let n : length new.events ≤ length old.events + 1 = frozen-events old new h in
     let k : length new.state.txns ≡ length old.state.txns = ap length (frozen-txns old new h) in
+    let l : length new.state.snapshots ≡ length old.state.snapshots = ap length (frozen-snapshots old new h) in
     let o : own_load new.state.txns ≡ own_load old.state.txns = ap own_load (frozen-txns old new h) in
     let same : load new ≡ load old = frozen-load old new h in
-    record { weighs = omega (arith, n, k); holds = omega (arith, same, o) }
+    record { weighs = omega (arith, n, k, l); holds = omega (arith, same, o) }
 
 -- a write
 pub takes-written : (old new : CoreModel) (n : Option ℕ) (now : ℤ) (ops : Ops) (k : ℕ) → IsWritten old new n now ops → load new ≤ load old + k → Takes old new k
 takes-written old new None now ops k same more =
     let n : length new.events ≡ length old.events = ap (λ (c : CoreModel). length c.events) same.1 in
     let t : length new.state.txns ≡ length old.state.txns = ap (λ (c : CoreModel). length c.state.txns) same.1 in
+    let u : length new.state.snapshots ≡ length old.state.snapshots = ap (λ (c : CoreModel). length c.state.snapshots) same.1 in
     let o : own_load new.state.txns ≡ own_load old.state.txns = ap (λ (c : CoreModel). own_load c.state.txns) same.1 in
-    record { weighs = omega (arith, n, t); holds = omega (arith, more, o) }
+    record { weighs = omega (arith, n, t, u); holds = omega (arith, more, o) }
 takes-written old new (Some seq) now ops k is more =
     let n : length new.events ≡ length old.events + 1 = ap (λ (c : CoreModel). length c.events) is ∙ length-append old.events (events.Write seq now ops ∷ []) in
     let t : length new.state.txns ≡ length old.state.txns = ap (λ (c : CoreModel). length c.state.txns) is in
+    let u : length new.state.snapshots ≡ length old.state.snapshots = ap (λ (c : CoreModel). length c.state.snapshots) is in
     let o : own_load new.state.txns ≡ own_load old.state.txns = ap (λ (c : CoreModel). own_load c.state.txns) is in
-    record { weighs = omega (arith, n, t); holds = omega (arith, more, o) }
+    record { weighs = omega (arith, n, t, u); holds = omega (arith, more, o) }
 
 -- a flush, which leaves no row in memory
 pub takes-flushed : (encode : Encode) (layout : Layout) (old mid new : CoreModel) (n : ℕ) (before after : Option Objects) → IsFrozen old mid → IsFlushed encode layout mid new n before after → new.active ≡ [] → new.frozen ≡ [] → Takes old new 0
@@ -110,6 +111,9 @@ takes-flushed encode layout old mid new n before after frozen flushed active non
     txns : length mid.state.txns ≡ length old.state.txns
     txns = ap length (frozen-txns old mid frozen)
 
+    shown : length mid.state.snapshots ≡ length old.state.snapshots
+    shown = ap length (frozen-snapshots old mid frozen)
+
     same-txns : IsFlushed encode layout mid new n before after → new.state.txns ≡ mid.state.txns
     same-txns (idle empty is untouched) = ap (λ (c : CoreModel). c.state.txns) is
     same-txns (stored t is table takes) = ap (λ (c : CoreModel). c.state.txns) is
@@ -118,11 +122,13 @@ takes-flushed encode layout old mid new n before after frozen flushed active non
     heavier (idle empty is untouched) =
         let e : length new.events ≡ length mid.events = ap (λ (c : CoreModel). length c.events) is in
         let t : length new.state.txns ≡ length mid.state.txns = ap (λ (c : CoreModel). length c.state.txns) is in
-        omega (arith, e, t, more, txns)
+        let u : length new.state.snapshots ≡ length mid.state.snapshots = ap (λ (c : CoreModel). length c.state.snapshots) is in
+        omega (arith, e, t, u, more, txns, shown)
     heavier (stored ts is made takes) =
         let e : length new.events ≡ length mid.events + 1 = ap (λ (c : CoreModel). length c.events) is ∙ length-append mid.events (events.Install n ts ∷ []) in
         let t : length new.state.txns ≡ length mid.state.txns = ap (λ (c : CoreModel). length c.state.txns) is in
-        omega (arith, e, t, more, txns)
+        let u : length new.state.snapshots ≡ length mid.state.snapshots = ap (λ (c : CoreModel). length c.state.snapshots) is in
+        omega (arith, e, t, u, more, txns, shown)
 
 -- ---- open transactions
 
@@ -137,8 +143,24 @@ fewer k (p ∷ ps) = by (bytes_eq p.0 k) (fewer k ps)
 set-more : {X : Type 0} (k : List ℕ) (x : X) (ps : List (List ℕ × X)) → length (set_named k x ps) ≤ length ps + 1
 set-more k x ps = let n : length (ps ++ ((k, x) ∷ [])) ≡ length ps + 1 = length-append ps ((k, x) ∷ []) in omega (arith, n)
 
-pub opened-more : (r : Rules) (c t : State) (id : List ℕ) (level : IsolationLevel) (n : ℕ) → Fresh r c t id level n → length t.txns ≤ length c.txns + 1
-opened-more r c t id level n fresh = subst (λ (s : State). length s.txns ≤ length c.txns + 1) (sym fresh.is) (set-more id (begun level (last r c)) c.txns)
+pub opened-more : (r : Rules) (c t : State) (id : List ℕ) (level : IsolationLevel) (n : ℕ) → Fresh r c t id level n → ends_of t ≤ ends_of c + 1
+opened-more r c t id level n fresh = subst (λ (s : State). ends_of s ≤ ends_of c + 1) (sym fresh.is) (omega (arith, set-more id (begun level (last r c)) c.txns))
+
+pub shown-more : (r : Rules) (c t : State) (id : List ℕ) (n : ℕ) → FreshSnapshot r c t id n → ends_of t ≤ ends_of c + 1
+shown-more r c t id n fresh = subst (λ (s : State). ends_of s ≤ ends_of c + 1) (sym fresh.is) (omega (arith, set-more id (last r c) c.snapshots))
+
+pub shown-own : (r : Rules) (c t : State) (id : List ℕ) (n : ℕ) → FreshSnapshot r c t id n → own_load t.txns ≤ own_load c.txns
+shown-own r c t id n fresh = subst (λ (s : State). own_load s.txns ≤ own_load c.txns) (sym fresh.is) (omega arith)
+
+-- what ends
+pub closed-fewer : (c t : State) (id : List ℕ) → t ≡ record c { txns = without id c.txns } → ends_of t ≤ ends_of c + 1
+closed-fewer c t id is = subst (λ (s : State). ends_of s ≤ ends_of c + 1) (sym is) (omega (arith, fewer id c.txns))
+
+pub released-fewer : (c t : State) (id : List ℕ) → t ≡ record c { snapshots = without id c.snapshots } → ends_of t ≤ ends_of c + 1
+released-fewer c t id is = subst (λ (s : State). ends_of s ≤ ends_of c + 1) (sym is) (omega (arith, fewer id c.snapshots))
+
+pub released-own : (c t : State) (id : List ℕ) → t ≡ record c { snapshots = without id c.snapshots } → own_load t.txns ≤ own_load c.txns
+released-own c t id is = subst (λ (s : State). own_load s.txns ≤ own_load c.txns) (sym is) (omega arith)
 
 pub as-many : {X : Type 0} (k : List ℕ) (f : X → X) (ps : List (List ℕ × X)) → length (update_named k f ps) ≡ length ps
 as-many k f [] = refl
@@ -186,6 +208,9 @@ own-taken k t (p ∷ ps) is = by (bytes_eq p.0 k) (own-taken k t ps) is
 own-opened : (k : List ℕ) (level : IsolationLevel) (n : ℕ) (ps : List (List ℕ × Tx)) → own_load (set_named k (begun level n) ps) ≡ own_load ps
 own-opened k level n ps = let e : own_load (ps ++ ((k, begun level n) ∷ [])) ≡ own_load ps + 0 = sum_by_push (λ p. ops_load p.1.ops) ps (k, begun level n) in omega (arith, e)
 
+pub closed-own : (c t : State) (id : List ℕ) → t ≡ record c { txns = without id c.txns } → own_load t.txns ≤ own_load c.txns
+closed-own c t id is = subst (λ (s : State). own_load s.txns ≤ own_load c.txns) (sym is) (own-fewer id c.txns)
+
 pub opened-own : (r : Rules) (c t : State) (id : List ℕ) (level : IsolationLevel) (n : ℕ) → Fresh r c t id level n → own_load t.txns ≤ own_load c.txns
 opened-own r c t id level n fresh = subst (λ (s : State). own_load s.txns ≤ own_load c.txns) (sym fresh.is) (let e : own_load (set_named id (begun level (last r c)) c.txns) ≡ own_load c.txns = own-opened id level (last r c) c.txns in omega (arith, e))
 
@@ -217,37 +242,53 @@ own-kept k f (p ∷ ps) keeps = by (bytes_eq p.0 k) (own-kept k f ps keeps)
 
 -- ---- an operation, and a commit
 
+-- what is noted adds nothing
+pub takes-noted : (old new : CoreModel) (id : List ℕ) (ts : List TranscriptStep) → new ≡ record old { state = noted old.state id ts } → Takes old new 0
+takes-noted old new id ts is =
+    let n : length new.events ≡ length old.events = ap (λ (c : CoreModel). length c.events) is in
+    let k : length new.state.txns ≡ length old.state.txns = ap (λ (c : CoreModel). length c.state.txns) is ∙ as-many id f old.state.txns in
+    let l : length new.state.snapshots ≡ length old.state.snapshots = ap (λ (c : CoreModel). length c.state.snapshots) is in
+    let o : own_load new.state.txns ≡ own_load old.state.txns = ap (λ (c : CoreModel). own_load c.state.txns) is ∙ own-kept id f old.state.txns (λ t. refl) in
+    let same : load new ≡ load old = ap load is in
+    takes-some old new 0 0 0 (omega arith) (omega (arith, n)) (omega (arith, k, l)) (omega (arith, o)) (omega (arith, same)) (omega arith)
+  where
+    f : Tx → Tx
+    f t = record t { transcript = t.transcript ++ ts }
+
 -- an operation that ran, which adds n to what the transaction holds
 pub takes-ran : {T : Type 0} (ran : Result T SlateDBError) (old new : CoreModel) (id : List ℕ) (f : Tx → Tx) (n : ℕ) → OnOk ran (new ≡ operated old id f) → OnErr ran (new ≡ old) →
     ((t : Tx) → ops_load (f t).ops ≡ ops_load t.ops + n) → Takes old new n
 takes-ran (Ok t) old new id f n is same adds =
     let e : length new.events ≡ length old.events = ap (λ (c : CoreModel). length c.events) is in
     let k : length new.state.txns ≡ length old.state.txns = ap (λ (c : CoreModel). length c.state.txns) is ∙ as-many id f old.state.txns in
+    let u : length new.state.snapshots ≡ length old.state.snapshots = ap (λ (c : CoreModel). length c.state.snapshots) is in
     let o : own_load new.state.txns ≡ own_load (update_named id f old.state.txns) = ap (λ (c : CoreModel). own_load c.state.txns) is in
     let few : own_load (update_named id f old.state.txns) ≤ own_load old.state.txns + n = own-updated id f n old.state.txns adds in
     let l : load new ≡ load old = ap load is in
-    record { weighs = omega (arith, e, k); holds = omega (arith, o, few, l) }
+    record { weighs = omega (arith, e, k, u); holds = omega (arith, o, few, l) }
 takes-ran (Err x) old new id f n is same adds =
     let e : length new.events ≡ length old.events = ap (λ (c : CoreModel). length c.events) same in
     let k : length new.state.txns ≡ length old.state.txns = ap (λ (c : CoreModel). length c.state.txns) same in
+    let u : length new.state.snapshots ≡ length old.state.snapshots = ap (λ (c : CoreModel). length c.state.snapshots) same in
     let o : own_load new.state.txns ≡ own_load old.state.txns = ap (λ (c : CoreModel). own_load c.state.txns) same in
     let l : load new ≡ load old = ap load same in
-    record { weighs = omega (arith, e, k); holds = omega (arith, o, l) }
+    record { weighs = omega (arith, e, k, u); holds = omega (arith, o, l) }
 
 -- a commit brings what the transaction held
 pub takes-closed : (old new : CoreModel) (id : List ℕ) (t : Tx) → Closes old new id → find_named id old.state.txns ≡ Some t → load new ≤ load old + ops_load t.ops → Takes old new 0
 takes-closed old new id t closed is more =
     let e : length new.events ≡ length old.events + 1 = ap length closed.events ∙ length-append old.events (closed.event ∷ []) in
     let k : length new.state.txns ≡ length (without id old.state.txns) = ap length closed.txns in
+    let u : length new.state.snapshots ≡ length old.state.snapshots = ap length closed.snapshots in
     let few : length (without id old.state.txns) ≤ length old.state.txns = fewer id old.state.txns in
     let o : own_load new.state.txns ≡ own_load (without id old.state.txns) = ap own_load closed.txns in
     let taken : own_load (without id old.state.txns) + ops_load t.ops ≡ own_load old.state.txns = own-taken id t old.state.txns is in
-    record { weighs = omega (arith, e, k, few); holds = omega (arith, o, taken, more) }
+    record { weighs = omega (arith, e, k, u, few); holds = omega (arith, o, taken, more) }
 
 -- ---- a session
 
-pub grows : (e : SessionModel) (core : CoreModel) (names : List (List ℕ × List ℕ)) (now : ℤ) (line : Line) (n : ℕ) → n ≤ line_load line → Takes e.core core n → Grows line e (record { core = core; names = names; now = now })
-grows e core names now line n few takes = (takes.weighs, let l : load core + own_load core.state.txns ≤ load e.core + own_load e.core.state.txns + n = takes.holds in omega (arith, l, few))
+pub grows : (e : SessionModel) (core : CoreModel) (names snapshot_names : List (List ℕ × List ℕ)) (now : ℤ) (line : Line) (n : ℕ) → n ≤ line_load line → Takes e.core core n → Grows line e (record { core = core; names = names; snapshot_names = snapshot_names; now = now })
+grows e core names snapshot_names now line n few takes = (takes.weighs, let l : load core + own_load core.state.txns ≤ load e.core + own_load e.core.state.txns + n = takes.holds in omega (arith, l, few))
 
 pub grows-where : (result : Result Answer SlateDBError) (line : Line) (e new : SessionModel) → Grows line e new → OnOk result (Grows line e new)
 grows-where (Ok a) line e new h = h
@@ -255,6 +296,6 @@ grows-where (Err x) line e new h = tt
 
 -- ---- the limit of the journal
 
-pub limited : (e : SessionModel) (n : ℕ) (error : SlateDBError) → n ≤ 2 → (error ≡ OutOfMemory) ⊎ ((error ≡ LimitReached LIMIT) × (LIMIT < length e.core.events + length e.core.state.txns + n)) → (error ≡ OutOfMemory) ⊎ IsLimit e error
+pub limited : (e : SessionModel) (n : ℕ) (error : SlateDBError) → n ≤ 2 → (error ≡ OutOfMemory) ⊎ ((error ≡ LimitReached LIMIT) × (LIMIT < weight e.core + n)) → (error ≡ OutOfMemory) ⊎ IsLimit e error
 limited e n error few (inl memory) = inl memory
 limited e n error few (inr (is, past)) = inr (LIMIT, is, inl (omega (arith, past, few)))

@@ -188,3 +188,17 @@ update_same k f (p ∷ ps) same = by (bytes_eq p.0 k) (update_same k f ps same)
     by : (b : Bool) → update_named k f ps ≡ ps → cond b ((p.0, f p.1) ∷ ps) (p ∷ update_named k f ps) ≡ p ∷ ps
     by true rest = λ i. (p.0, same p.1 i) ∷ ps
     by false rest = ap (λ qs. p ∷ qs) rest
+
+-- ---- where a name doesn't stand
+
+pub without-none : {X : Type 0} (k : List ℕ) (ps : List (List ℕ × X)) → find_named k ps ≡ None → without k ps ≡ ps
+without-none k [] none = refl
+without-none k (p ∷ ps) none =
+    let parts : (bytes_eq p.0 k ≡ false) × (find_named k ps ≡ None) = none-parts k p ps none in
+    ap (λ b. cond b ps (p ∷ without k ps)) parts.0 ∙ ap (λ qs. p ∷ qs) (without-none k ps parts.1)
+
+pub update-none : {X : Type 0} (k : List ℕ) (f : X → X) (ps : List (List ℕ × X)) → find_named k ps ≡ None → update_named k f ps ≡ ps
+update-none k f [] none = refl
+update-none k f (p ∷ ps) none =
+    let parts : (bytes_eq p.0 k ≡ false) × (find_named k ps ≡ None) = none-parts k p ps none in
+    ap (λ b. cond b ((p.0, f p.1) ∷ ps) (p ∷ update_named k f ps)) parts.0 ∙ ap (λ qs. p ∷ qs) (update-none k f ps parts.1)

@@ -27,7 +27,7 @@ use Rattle.slate_txn.specs.Named.{find_named}
 use Rattle.slate_txn.specs.Reads.{answer_of, handed, rows_seen, walk}
 use Rattle.slate_txn.specs.Reply.{Reply, RowsAre}
 use Rattle.slate_txn.specs.State.{Rules, State, Tx}
-use Rattle.slate_txn.specs.Step.{is_scan, noted, reader, reader_or_snapshot, scan, scan_walked, step}
+use Rattle.slate_txn.specs.Step.{Reader, is_scan, noted, reader, scan, scan_walked, step}
 use Rattle.slate_db.specs.declared.scan.TxnIterator.{TxnIterator}
 use Rattle.slate_db.specs.Meaning.{Meaning, rules_of}
 use Rattle.slate_db.specs.Model.{CoreModel}
@@ -37,9 +37,9 @@ use Rattle.slate_db.specs.Sound.{IsKept}
 use Rattle.slate_script.specs.Scanning.{Took, Fails, HasScanned, IsNoted}
 use Rattle.slate_script.specs.Walking.{Means, TakesFirst, TakesNext, TakesRest, TakesStep, TakesSteps, Walks}
 use Rattle.slate_script.proofs.Answers.{answers_first, answers_sees}
-use Rattle.slate_script.proofs.Noting.{noted_none, noted_both, noted_found, noted_scans}
+use Rattle.slate_script.proofs.Noting.{noted_none, noted_both, noted_reads, noted_scan, noted_scans}
 use Rattle.slate_script.proofs.SessionSteps.{named-of}
-use Rattle.slate_script.proofs.WalkLaws.{first_ended, first_filled, first_one, handed_both, one_more, rest_all, rest_one, walks_all, walks_some}
+use Rattle.slate_script.proofs.WalkLaws.{first_ended, first_filled, first_one, handed_both, rest_all, rest_one, walks_all, walks_some}
 
 abbrev given : Option KeyValue → List KeyValue
 given None = []
@@ -203,13 +203,19 @@ took_seek a b c d x y key old noted names rows later kept = record {
   kept = kept;
 }
 
+-- what is open where the core has noted something is open where it is the core by now
+stays_open : (c d : CoreModel) (id : List ℕ) (ts : List TranscriptStep) (y : TxnIterator) → d ≡ record c { state = noted c.state id ts } → id_of y ≡ id → IsSome (reader (noted c.state id ts) id) →
+    ((t : Tx) → find_named id (noted c.state id ts).txns ≡ Some t → number_of y < count_by is_scan t.transcript) → IsOpenScan d y
+stays_open c d id ts y notes named some below = subst (λ (e : CoreModel). IsOpenScan e y) (sym notes)
+    (subst (λ i. IsSome (reader (noted c.state id ts) i) × ((t : Tx) → find_named i (noted c.state id ts).txns ≡ Some t → number_of y < count_by is_scan t.transcript)) (sym named) (some, below))
+
 -- the scan stays open
+pub noted_open : (c d : CoreModel) (x y : TxnIterator) → IsNoted c d (id_of x) → id_of y ≡ id_of x → number_of y ≡ number_of x → IsOpenScan c x → IsOpenScan d y
+noted_open c d x y (ts, is) named number (some, below) = stays_open c d (id_of x) ts y is named (noted_reads c.state (id_of x) ts some)
+    (λ t found. subst (λ n. n < count_by is_scan t.transcript) (sym number) (noted_scans c.state (id_of x) ts (number_of x) below t found))
+
 pub open_on : {means : Means} {a b : Reach} {old new : List KeyValue} (c d : CoreModel) (x y : TxnIterator) → Took means a b c d x y old new → IsOpenScan c x → IsOpenScan d y
-open_on c d x y f (t, found, below) = (
-  record t { transcript = t.transcript ++ f.ts },
-  (λ i. find_named (f.names.named i) (f.notes i).state.txns) ∙ noted_found c.state (id_of x) f.ts t found,
-  subst (λ n. n < count_by is_scan (t.transcript ++ f.ts)) (sym f.names.number) (noted_scans t f.ts (number_of x) below),
-)
+open_on c d x y f live = noted_open c d x y (f.ts, f.notes) f.names.named f.names.number live
 
 -- ---- refusals
 
@@ -242,29 +248,26 @@ fails_call a b x at e undamaged made = record { undamaged = undamaged; cause = (
 
 -- what an opening leaves for the calls behind it
 pub record Opened (a b : Reach) (k l : CoreModel) (id : List ℕ) (order : IterationOrder) (range : BytesRange) (x : TxnIterator) : Type 0 where
-  pub t : Tx
-  pub found : find_named id k.state.txns ≡ Some t
+  pub from : Reader
+  pub found : reader k.state id ≡ Some from
   pub notes : l ≡ record k { state = noted k.state id (steps.Scan order range ∷ []) }
-  pub names : IsScanOf id (count_by is_scan t.transcript) order range x
-  pub left : (is : IsAnswered a b k) → LeavesIn is.os a.meaning x (rows_seen (rules_of k.settings a.meaning) k.state.commits t.begin t.ops order range)
+  pub names : IsScanOf id from.scans order range x
+  pub left : (is : IsAnswered a b k) → LeavesIn is.os a.meaning x (rows_seen (rules_of k.settings a.meaning) k.state.commits from.at from.ops order range)
   pub later : Made a b (λ reads. (later : List Act) (at : Option (List ℕ)) (e : SlateDBError) → ScanRefuses (scan_of x) a.meaning later at e → IsRefusedByScan a.meaning k (reads ++ later) e)
   pub kept : (m : Meaning) → IsKept m k → IsKept m l
 
-pub opened_by : (a b : Reach) (k l : CoreModel) (id : List ℕ) (order : IterationOrder) (range : BytesRange) (x : TxnIterator) → IsSome (find_named id k.state.txns) → l ≡ record k { state = noted k.state id (steps.Scan order range ∷ []) } →
-    ((t : Tx) → find_named id k.state.txns ≡ Some t → IsScanOf id (count_by is_scan t.transcript) order range x) →
-    ((t : Tx) → find_named id k.state.txns ≡ Some t → (is : IsAnswered a b k) → LeavesIn is.os a.meaning x (rows_seen (rules_of k.settings a.meaning) k.state.commits t.begin t.ops order range)) →
+pub opened_by : (a b : Reach) (k l : CoreModel) (id : List ℕ) (order : IterationOrder) (range : BytesRange) (x : TxnIterator) → IsSome (reader k.state id) → l ≡ record k { state = noted k.state id (steps.Scan order range ∷ []) } →
+    ((from : Reader) → reader k.state id ≡ Some from → IsScanOf id from.scans order range x) →
+    ((from : Reader) → reader k.state id ≡ Some from → (is : IsAnswered a b k) → LeavesIn is.os a.meaning x (rows_seen (rules_of k.settings a.meaning) k.state.commits from.at from.ops order range)) →
     Made a b (λ reads. (later : List Act) (at : Option (List ℕ)) (e : SlateDBError) → ScanRefuses (scan_of x) a.meaning later at e → IsRefusedByScan a.meaning k (reads ++ later) e) → ((m : Meaning) → IsKept m k → IsKept m l) →
     Opened a b k l id order range x
 opened_by a b k l id order range x some notes names left later kept =
-    let tx = named-of (find_named id k.state.txns) some in
-    record { t = tx.value; found = tx.is; notes = notes; names = names tx.value tx.is; left = left tx.value tx.is; later = later; kept = kept }
+    let from = named-of (reader k.state id) some in
+    record { from = from.value; found = from.is; notes = notes; names = names from.value from.is; left = left from.value from.is; later = later; kept = kept }
 
 pub opens_scan : (a b : Reach) (k l : CoreModel) (id : List ℕ) (order : IterationOrder) (range : BytesRange) (x : TxnIterator) → Opened a b k l id order range x → IsOpenScan l x
-opens_scan a b k l id order range x h = (
-  record h.t { transcript = h.t.transcript ++ (steps.Scan order range ∷ []) },
-  (λ i. find_named (h.names.named i) (h.notes i).state.txns) ∙ noted_found k.state id (steps.Scan order range ∷ []) h.t h.found,
-  subst (λ n. n < count_by is_scan (h.t.transcript ++ (steps.Scan order range ∷ []))) (sym h.names.number) (one_more h.t.transcript order range),
-)
+opens_scan a b k l id order range x h = stays_open k l id (steps.Scan order range ∷ []) x h.notes h.names.named (noted_reads k.state id (steps.Scan order range ∷ []) (subst IsSome (sym h.found) refl))
+    (λ t found. subst (λ n. n < count_by is_scan t.transcript) (sym h.names.number) (noted_scan k.state id order range h.from h.found t found))
 
 pub scan_whole : (a b c : Reach) (k l m : CoreModel) (id : List ℕ) (order : IterationOrder) (range : BytesRange) (sts : List ScanStep) (x y : TxnIterator) (rows : List KeyValue) → is_refused range.start range.end ≡ false →
     Opened a b k l id order range x → Took (Walks (number_of x) (scan_of x).order sts) b c l m x y [] rows → HasScanned a c k m id order range sts rows
@@ -276,7 +279,7 @@ scan_whole a b c k l m id order range sts x y rows some h f = record {
 }
   where
     n : ℕ
-    n = count_by is_scan h.t.transcript
+    n = h.from.scans
 
     notes : m ≡ record k { state = noted k.state id (steps.Scan order range ∷ f.ts) }
     notes =
@@ -286,7 +289,7 @@ scan_whole a b c k l m id order range sts x y rows some h f = record {
     answers : IsAnswered a c k → step (rules_of k.settings a.meaning) k.state (lines.Scan id order range.start range.end sts) ≡ (m.state, RowsAre rows)
     answers is =
         ap (λ b. scan r k.state id order (cond b None (Some range)) sts (reader k.state id)) some
-        ∙ ap (λ o. scan r k.state id order (Some range) sts (reader_or_snapshot o (find_named id k.state.snapshots))) h.found
+        ∙ ap (scan r k.state id order (Some range) sts) h.found
         ∙ ap (scan_walked k.state id order range) (sym noted-is)
         ∙ (λ i. ((sym (ap (λ (v : CoreModel). v.state) notes)) i, RowsAre (sym f.hands i)))
       where
@@ -294,7 +297,7 @@ scan_whole a b c k l m id order range sts x y rows some h f = record {
         r = rules_of k.settings a.meaning
 
         seen : List RowEntry
-        seen = rows_seen r k.state.commits h.t.begin h.t.ops order range
+        seen = rows_seen r k.state.commits h.from.at h.from.ops order range
 
         early : IsAnswered a b k
         early = record { os = is.os; readable = is.readable; answers = answers_first is.os a b c h.later.0 f.later.0 h.later.1 f.later.1 is.answers }

@@ -71,6 +71,7 @@ pub record Closes (old new : CoreModel) (id : List ℕ) : Type 0 where
   pub events : new.events ≡ old.events ++ (event ∷ [])
   pub none : runs_in event ≡ []
   pub txns : new.state.txns ≡ without id old.state.txns
+  pub snapshots : new.state.snapshots ≡ old.state.snapshots
   pub flushed : new.state.flushed ≡ old.state.flushed
 
 pub closes-ended : (old new : CoreModel) (id : List ℕ) → IsEnded old new id → Closes old new id
@@ -80,6 +81,7 @@ closes-ended old new id is = record {
   events = ap (λ (c : CoreModel). c.events) is;
   none = refl;
   txns = ap (λ (c : CoreModel). c.state.txns) is;
+  snapshots = ap (λ (c : CoreModel). c.state.snapshots) is;
   flushed = ap (λ (c : CoreModel). c.state.flushed) is;
 }
 
@@ -90,6 +92,7 @@ closes-as old new id n now t rows is = record {
   events = ap (λ (c : CoreModel). c.events) is;
   none = refl;
   txns = ap (λ (c : CoreModel). c.state.txns) is;
+  snapshots = ap (λ (c : CoreModel). c.state.snapshots) is;
   flushed = ap (λ (c : CoreModel). c.state.flushed) is;
 }
 
@@ -105,6 +108,10 @@ pub written-txns : (old new : CoreModel) (n : Option ℕ) (now : ℤ) (ops : Ops
 written-txns old new None now ops same = ap (λ (c : CoreModel). c.state.txns) same.1
 written-txns old new (Some n) now ops is = ap (λ (c : CoreModel). c.state.txns) is
 
+pub written-snapshots : (old new : CoreModel) (n : Option ℕ) (now : ℤ) (ops : Ops) → IsWritten old new n now ops → new.state.snapshots ≡ old.state.snapshots
+written-snapshots old new None now ops same = ap (λ (c : CoreModel). c.state.snapshots) same.1
+written-snapshots old new (Some n) now ops is = ap (λ (c : CoreModel). c.state.snapshots) is
+
 pub written-flushed : (old new : CoreModel) (n : Option ℕ) (now : ℤ) (ops : Ops) → IsWritten old new n now ops → new.state.flushed ≡ old.state.flushed
 written-flushed old new None now ops same = ap (λ (c : CoreModel). c.state.flushed) same.1
 written-flushed old new (Some n) now ops is = ap (λ (c : CoreModel). c.state.flushed) is
@@ -115,8 +122,8 @@ kept-spare m c n k = (k.0, λ lawful. let s = k.1 lawful in record { layers = s.
 pub kept-same : (m : Meaning) (old new : CoreModel) → IsSame old new → IsKept m old → IsKept m new
 kept-same m old new is k = subst (λ (c : CoreModel). IsKept m c) (sym is) (kept-spare m old new.spare k)
 
-pub stores : (e : SessionModel) (core : CoreModel) (names : List (List ℕ × List ℕ)) (now : ℤ) → Leaves e.core core → ((m : Meaning) → IsKept m e.core → IsKept m core) → StoresNothing e (record { core = core; names = names; now = now })
-stores e core names now leaves kept = record { settings = leaves.settings; runs = leaves.runs; later = leaves.later; kept = kept }
+pub stores : (e : SessionModel) (core : CoreModel) (names snapshot_names : List (List ℕ × List ℕ)) (now : ℤ) → Leaves e.core core → ((m : Meaning) → IsKept m e.core → IsKept m core) → StoresNothing e (record { core = core; names = names; snapshot_names = snapshot_names; now = now })
+stores e core names snapshot_names now leaves kept = record { settings = leaves.settings; runs = leaves.runs; later = leaves.later; kept = kept }
 
 pub stores-where : (result : Result Answer SlateDBError) (e : SessionModel) (core : CoreModel) → StoresNothing e (record e { core = core }) → OnOk result (StoresNothing e (record e { core = core }))
 stores-where (Ok a) e core h = h

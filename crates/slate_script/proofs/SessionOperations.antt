@@ -25,10 +25,10 @@ use Rattle.slate_language.specs.declared.reply.Answer.{Answer}
 use Rattle.slate_language.specs.declared.reply.Answer.TheVariants as answers
 use Rattle.slate_language.specs.Answers.{reply_of}
 use Rattle.slate_language.proofs.ShownLaws.{shown-of}
-use Rattle.slate_script.specs.Session.{SessionModel, tx_under, AreNames, StandsFor, IsStep, AnswersAs, IsRefusal, IsDone}
-use Rattle.slate_script.proofs.NamesLaws.{find_named-without, once-without}
-use Rattle.slate_script.proofs.SessionNames.{other-id}
-use Rattle.slate_script.proofs.SessionSteps.{IsNamed, named-of, others-kept, op-refusals, stands-is, stands-updated}
+use Rattle.slate_script.specs.Session.{SessionModel, AreNames, AreUnder, NamesStand, StandsFor, IsStep, AnswersAs, IsRefusal, IsDone, under}
+use Rattle.slate_script.proofs.NamesLaws.{once-without, without-none}
+use Rattle.slate_script.proofs.OpenNames.{apart_first, under_none, under_same, under_taken}
+use Rattle.slate_script.proofs.SessionSteps.{IsNamed, named-of, op-refusals, stands-is, stands-same, stands-updated}
 
 -- ---- a transaction is changed
 
@@ -36,26 +36,16 @@ use Rattle.slate_script.proofs.SessionSteps.{IsNamed, named-of, others-kept, op-
 abbrev changed : Option SlateDBError → (Tx → Tx) → State → List ℕ → State × Reply
 changed refusal f s name = of_open s name (find_named name s.txns) (λ _. refused_or refusal s (record s { txns = update_named name f s.txns }, replies.Done))
 
-stands-same : (e : SessionModel) (s : State) (core : CoreModel) → StandsFor e s → core.state ≡ e.core.state → StandsFor (record e { core = core }) s
-stands-same e s core h is = record {
-  commits = h.commits ∙ ap (λ (c : State). c.commits) (sym is);
-  txns = λ q. h.txns q ∙ ap (λ (c : State). tx_under c.txns (find_named q e.names)) (sym is);
-  once = h.once;
-  snapshots = h.snapshots;
-  moment = h.moment;
-  flushed = h.flushed ∙ ap (λ (c : State). c.flushed) (sym is);
-}
-
 tx-under : (e : SessionModel) (s : State) (name id : List ℕ) → StandsFor e s → AreNames e.names e.core.state.txns → find_named name e.names ≡ Some id → (t : IsNamed (find_named id e.core.state.txns)) × (find_named name s.txns ≡ Some t.value)
 tx-under e s name id h names known =
     let t = named-of (find_named id e.core.state.txns) (names.opened name id known) in
-    (t, h.txns name ∙ ap (tx_under e.core.state.txns) known ∙ t.is)
+    (t, h.txns name ∙ ap (under e.core.state.txns) known ∙ t.is)
 
 changed-unknown : (e : SessionModel) (name : List ℕ) (refusal : Option SlateDBError) (f : Tx → Tx) → find_named name e.names ≡ None →
     (s : State) → StandsFor e s → IsStep e (changed refusal f s name) (answers.Refused (errors.UnknownTransaction name))
 changed-unknown e name refusal f none s h =
     subst (λ o. IsStep e (of_open s name o (λ _. refused_or refusal s (record s { txns = update_named name f s.txns }, replies.Done))) (answers.Refused (errors.UnknownTransaction name)))
-    (sym (h.txns name ∙ ap (tx_under e.core.state.txns) none)) (h, refl)
+    (sym (h.txns name ∙ ap (under e.core.state.txns) none)) (h, refl)
 
 -- the core's change is the model's
 changed-as : (e : SessionModel) (core : CoreModel) (name id : List ℕ) (refusal : Option SlateDBError) (f : Tx → Tx) (a : Answer) → AreNames e.names e.core.state.txns → find_named name e.names ≡ Some id →
@@ -153,7 +143,7 @@ op-cause (Err x) k op (inr refused) = inr (op-refusals k op x refused)
 pub commit-unknown : (m : Meaning) (e : SessionModel) (name : List ℕ) → find_named name e.names ≡ None → AnswersAs m e e (lines.Commit name) (Ok (answers.Refused (errors.UnknownTransaction name)))
 commit-unknown m e name none s h =
     subst (λ o. IsStep e (of_open s name o (commit (rules_of e.core.settings m) s name)) (answers.Refused (errors.UnknownTransaction name)))
-    (sym (h.txns name ∙ ap (tx_under e.core.state.txns) none)) (h, refl)
+    (sym (h.txns name ∙ ap (under e.core.state.txns) none)) (h, refl)
 
 -- the commits and the moment are all that it reads beside the transaction
 commit-frame : (r : Rules) (s : State) (txns : List (List ℕ × Tx)) (snapshots : List (List ℕ × ℕ)) (flushed : ℕ) (name id : List ℕ) (t : Tx) →
@@ -174,11 +164,11 @@ commit-frame r s txns snapshots flushed name id t = by (commit_refusal r s t) t.
     by None [] = refl
     by None (o ∷ os) = refl
 
-pub commit-as : (m : Meaning) (e : SessionModel) (core : CoreModel) (fewer : List (List ℕ × List ℕ)) (name id : List ℕ) (a : Answer) → AreNames e.names e.core.state.txns → find_named name e.names ≡ Some id →
-    core.state.txns ≡ without id e.core.state.txns → core.state.flushed ≡ e.core.state.flushed → ((q : List ℕ) → find_named q fewer ≡ cond (bytes_eq name q) None (find_named q e.names)) →
+pub commit-as : (m : Meaning) (e : SessionModel) (core : CoreModel) (fewer : List (List ℕ × List ℕ)) (name id : List ℕ) (a : Answer) → NamesStand e.names e.snapshot_names e.core.state.txns e.core.state.snapshots → find_named name e.names ≡ Some id →
+    core.state.txns ≡ without id e.core.state.txns → core.state.snapshots ≡ e.core.state.snapshots → core.state.flushed ≡ e.core.state.flushed → ((q : List ℕ) → find_named q fewer ≡ cond (bytes_eq name q) None (find_named q e.names)) →
     ◌≡◌ {A = State × Reply} (step (rules_of e.core.settings m) (at e.now e.core.state) (lines.Commit id)) (at e.now core.state, reply_of a) →
     AnswersAs m e (record e { core = core; names = fewer }) (lines.Commit name) (Ok a)
-commit-as m e core fewer name id a names known txns flushed updates stepped s h =
+commit-as m e core fewer name id a stand known txns snapshots flushed updates stepped s h =
     subst (λ (p : State × Reply). IsStep after p a) (sym made) (stands, shown-of a)
   where
     r : Rules
@@ -191,32 +181,28 @@ commit-as m e core fewer name id a names known txns flushed updates stepped s h 
     after = record e { core = core; names = fewer }
 
     tx : (t : IsNamed (find_named id e.core.state.txns)) × (find_named name s.txns ≡ Some t.value)
-    tx = tx-under e s name id h names known
+    tx = tx-under e s name id h stand.transactions known
+
+    unshown : find_named name s.snapshots ≡ None
+    unshown = under_none name s.snapshots e.snapshot_names e.core.state.snapshots h.snapshots (apart_first e.names e.snapshot_names name stand.names_apart (subst IsSome (sym known) refl))
 
     core-step : ◌≡◌ {A = State × Reply} (commit r from id tx.0.value) (at e.now core.state, reply_of a)
     core-step = sym (ap (λ o. of_open from id o (commit r from id)) tx.0.is) ∙ stepped
 
-    made : step r s (lines.Commit name) ≡ (record (at e.now core.state) { txns = without name s.txns; snapshots = []; flushed = s.flushed }, reply_of a)
+    made : step r s (lines.Commit name) ≡ (record (at e.now core.state) { txns = without name s.txns; snapshots = without name s.snapshots; flushed = s.flushed }, reply_of a)
     made =
         ap (λ o. of_open s name o (commit r s name)) tx.1
         ∙ ap (λ u. commit r u name tx.0.value) (sym (stands-is e s h))
-        ∙ commit-frame r from s.txns [] s.flushed name id tx.0.value
-        ∙ ap (λ (p : State × Reply). (record p.0 { txns = without name s.txns; snapshots = []; flushed = s.flushed }, p.1)) core-step
+        ∙ commit-frame r from s.txns s.snapshots s.flushed name id tx.0.value
+        ∙ ap (λ (p : State × Reply). (record p.0 { txns = without name s.txns; snapshots = without name s.snapshots; flushed = s.flushed }, p.1)) core-step
 
-    keeps : (i : List ℕ) → bytes_eq id i ≡ false → find_named i (without id e.core.state.txns) ≡ find_named i e.core.state.txns
-    keeps i differs = find_named-without id i e.core.state.txns names.once ∙ ap (λ b. cond b None (find_named i e.core.state.txns)) differs
-
-    found : (q : List ℕ) (b : Bool) → bytes_eq name q ≡ b → cond b None (find_named q s.txns) ≡ tx_under (without id e.core.state.txns) (cond b None (find_named q e.names))
-    found q true same = refl
-    found q false differs = h.txns q ∙ others-kept (without id) name id e.names e.core.state.txns names known keeps q differs
-
-    stands : StandsFor after (record (at e.now core.state) { txns = without name s.txns; snapshots = []; flushed = s.flushed })
+    stands : StandsFor after (record (at e.now core.state) { txns = without name s.txns; snapshots = without name s.snapshots; flushed = s.flushed })
     stands = record {
       commits = refl;
-      txns = λ q. find_named-without name q s.txns h.once ∙ found q (bytes_eq name q) refl
-          ∙ (let u = sym (updates q) in let t = sym txns in λ i. tx_under (t i) (u i));
+      txns = under_same _ _ _ _ (under_taken name id s.txns e.names fewer e.core.state.txns h.once stand.transactions known updates h.txns) (sym txns);
       once = once-without name s.txns h.once;
-      snapshots = refl;
+      snapshots = subst (λ ss. AreUnder ss e.snapshot_names core.state.snapshots) (sym (without-none name s.snapshots unshown)) (under_same _ _ _ _ h.snapshots (sym snapshots));
+      snapshots_once = once-without name s.snapshots h.snapshots_once;
       moment = refl;
       flushed = h.flushed ∙ sym flushed;
     }

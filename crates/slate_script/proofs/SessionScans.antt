@@ -1,6 +1,6 @@
 -- A scan line's step, under what a session stands for.
 use Rattle.std.proofs.Common.{◌≡◌, ℕ, ◌⊎◌, inl, inr, List, [], ◌∷◌, ◌++◌, Option, Some, None, Result, Ok, Err, IfErr, OnOk, refl, sym, ap, ◌∙◌, subst}
-use Rattle.std.specs.Prelude.{Bool, true, false, cond, count_by}
+use Rattle.std.specs.Prelude.{Bool, true, false, cond, IfSome, IsSome}
 use Rattle.std.proofs.lemmas.Option.{same_Some}
 use Rattle.std.specs.declared.ops.Bound.{Bound}
 use Rattle.slate_types.specs.declared.bytes_range.BytesRange.{BytesRange}
@@ -21,7 +21,7 @@ use Rattle.slate_txn.specs.Reads.{handed, rows_seen, walk}
 use Rattle.slate_txn.specs.Reply as replies
 use Rattle.slate_txn.specs.Reply.{Reply}
 use Rattle.slate_txn.specs.State.{Commit, Rules, State}
-use Rattle.slate_txn.specs.Step.{is_scan, noted, reader, reader_or_snapshot, scan, scan_walked, step, tx_reader}
+use Rattle.slate_txn.specs.Step.{Reader, noted, reader, scan, scan_walked, step}
 use Rattle.slate_db.proofs.RowDamage.{scan_kind}
 use Rattle.slate_db.specs.Meaning.{Meaning, rules_of}
 use Rattle.slate_db.specs.Model.{CoreModel}
@@ -30,9 +30,9 @@ use Rattle.slate_db.specs.Scans.{IsRefusedByScan, IsScanError}
 use Rattle.slate_language.specs.declared.reply.Answer.{Answer}
 use Rattle.slate_language.specs.declared.reply.Answer.TheVariants as answers
 use Rattle.slate_language.specs.Answers.{reply_of}
-use Rattle.slate_script.specs.Session.{SessionModel, tx_under, AnswersAs, AreNames, IsLimit, IsStep}
+use Rattle.slate_script.specs.Session.{SessionModel, AnswersAs, IsLimit, IsStep, NamesStand, reader_id, reader_under}
 use Rattle.slate_script.proofs.Running.{not-damage}
-use Rattle.slate_script.proofs.SessionSteps.{IsNamed, named-of, stands-updated, with_steps}
+use Rattle.slate_script.proofs.SessionSteps.{ReadsAs, ReadsUnder, reads-as}
 
 -- bounds that make a range are its bounds
 pub range_same : (start end : Bound (List ℕ)) (range : BytesRange) → range_of start end ≡ Some range → range_of range.start range.end ≡ Some range
@@ -55,35 +55,32 @@ bounds_fit start end range is = by (is_refused start end) refl is
     by true e same = clash same
     by false e same = subst (λ (q : BytesRange). is_refused q.start q.end ≡ false) (same_Some _ _ same) e
 
-pub scan-refused : (m : Meaning) (e : SessionModel) (name : List ℕ) (order : IterationOrder) (start end : Bound (List ℕ)) (sts : List ScanStep) → find_named name e.names ≡ None →
+pub scan-refused : (m : Meaning) (e : SessionModel) (name : List ℕ) (order : IterationOrder) (start end : Bound (List ℕ)) (sts : List ScanStep) (o : Option (List ℕ)) → ReadsUnder e name o → o ≡ None →
     AnswersAs m e e (lines.Scan name order start end sts) (Ok (answers.Refused (errors.UnknownTransaction name)))
-scan-refused m e name order start end sts none s h =
-    subst (λ ps. IsStep e (scan (rules_of e.core.settings m) s name order (range_of start end) sts (reader_or_snapshot (find_named name s.txns) (find_named name ps))) (answers.Refused (errors.UnknownTransaction name))) (sym h.snapshots)
-    (subst (λ o. IsStep e (scan (rules_of e.core.settings m) s name order (range_of start end) sts (reader_or_snapshot o None)) (answers.Refused (errors.UnknownTransaction name)))
-    (sym (h.txns name ∙ ap (tx_under e.core.state.txns) none)) (h, refl))
+scan-refused m e name order start end sts o reads none s h =
+    subst (λ p. IsStep e (scan (rules_of e.core.settings m) s name order (range_of start end) sts p) (answers.Refused (errors.UnknownTransaction name)))
+    (sym (reads s h ∙ ap (reader_under e.core.state) none)) (h, refl)
 
 -- a range that is none
-pub range-refused : (m : Meaning) (e : SessionModel) (name id : List ℕ) (order : IterationOrder) (start end : Bound (List ℕ)) (sts : List ScanStep) → AreNames e.names e.core.state.txns → find_named name e.names ≡ Some id → range_of start end ≡ None →
+pub range-refused : (m : Meaning) (e : SessionModel) (name id : List ℕ) (order : IterationOrder) (start end : Bound (List ℕ)) (sts : List ScanStep) (o : Option (List ℕ)) → ReadsUnder e name o → IfSome o (λ i. IsSome (reader e.core.state i)) → o ≡ Some id → range_of start end ≡ None →
     AnswersAs m e e (lines.Scan name order start end sts) (Ok (answers.Refused errors.InvalidRange))
-range-refused m e name id order start end sts names known none s h =
-    subst (λ o. IsStep e (scan (rules_of e.core.settings m) s name order (range_of start end) sts (reader_or_snapshot o (find_named name s.snapshots))) (answers.Refused errors.InvalidRange)) (sym tx-is)
-    (subst (λ range. IsStep e (scan (rules_of e.core.settings m) s name order range sts (reader_or_snapshot (Some tx.value) (find_named name s.snapshots))) (answers.Refused errors.InvalidRange)) (sym none) (h, refl))
+range-refused m e name id order start end sts o reads live is none s h = by (reader e.core.state id) refl (subst (λ p. IfSome p (λ i. IsSome (reader e.core.state i))) is live)
   where
-    tx : IsNamed (find_named id e.core.state.txns)
-    tx = named-of (find_named id e.core.state.txns) (names.opened name id known)
-
-    tx-is : find_named name s.txns ≡ Some tx.value
-    tx-is = h.txns name ∙ ap (tx_under e.core.state.txns) known ∙ tx.is
+    by : (p : Option Reader) → reader e.core.state id ≡ p → IsSome p → IsStep e (scan (rules_of e.core.settings m) s name order (range_of start end) sts (reader s name)) (answers.Refused errors.InvalidRange)
+    by None there some = cc
+    by (Some from) there some =
+        subst (λ q. IsStep e (scan (rules_of e.core.settings m) s name order (range_of start end) sts q) (answers.Refused errors.InvalidRange)) (sym (reads s h ∙ ap (reader_under e.core.state) is ∙ there))
+        (subst (λ range. IsStep e (scan (rules_of e.core.settings m) s name order range sts (Some from)) (answers.Refused errors.InvalidRange)) (sym none) (h, refl))
 
 -- the core's answer is the model's
 pub scan-found : (m : Meaning) (e : SessionModel) (core : CoreModel) (name id : List ℕ) (order : IterationOrder) (start end : Bound (List ℕ)) (range : BytesRange) (sts : List ScanStep) (rows : List KeyValue) (a : Answer) →
-    AreNames e.names e.core.state.txns → find_named name e.names ≡ Some id → range_of start end ≡ Some range →
+    NamesStand e.names e.snapshot_names e.core.state.txns e.core.state.snapshots → reader_id e name ≡ Some id → range_of start end ≡ Some range →
     step (rules_of e.core.settings m) e.core.state (lines.Scan id order range.start range.end sts) ≡ (core.state, replies.RowsAre rows) → reply_of a ≡ replies.RowsAre rows →
     AnswersAs m e (record e { core = core }) (lines.Scan name order start end sts) (Ok a)
-scan-found m e core name id order start end range sts rows a names known some stepped is s h =
-    subst (λ o. IsStep after (scan r s name order (range_of start end) sts (reader_or_snapshot o (find_named name s.snapshots))) a) (sym tx-is)
-    (subst (λ q. IsStep after (scan r s name order q sts (Some (tx_reader tx.value))) a) (sym some) (
-      stands-updated e s core name id (with_steps (steps.Scan order range ∷ taken s.commits)) h names known (sym (ap (λ p. p.0) core-step) ∙ noted-same),
+scan-found m e core name id order start end range sts rows a stand known some stepped is s h =
+    subst (λ o. IsStep after (scan r s name order (range_of start end) sts o) a) (sym reads.here)
+    (subst (λ q. IsStep after (scan r s name order q sts (Some reads.from)) a) (sym some) (
+      reads.notes (steps.Scan order range ∷ taken s.commits) core (sym (ap (λ p. p.0) core-step) ∙ noted-same),
       is ∙ sym (ap (λ p. p.1) core-step) ∙ ap (λ cs. replies.RowsAre (handed (taken cs))) (sym h.commits),
     ))
   where
@@ -96,19 +93,16 @@ scan-found m e core name id order start end range sts rows a names known some st
     after : SessionModel
     after = record e { core = core }
 
-    tx : IsNamed (find_named id c.txns)
-    tx = named-of (find_named id c.txns) (names.opened name id known)
-
-    tx-is : find_named name s.txns ≡ Some tx.value
-    tx-is = h.txns name ∙ ap (tx_under c.txns) known ∙ tx.is
+    reads : ReadsAs e s name id
+    reads = reads-as e s name id h stand known
 
     taken : List Commit → List TranscriptStep
-    taken cs = walk order (count_by is_scan tx.value.transcript) (rows_seen r cs tx.value.begin tx.value.ops order range) sts
+    taken cs = walk order reads.from.scans (rows_seen r cs reads.from.at reads.from.ops order range) sts
 
     core-step : scan_walked c id order range (taken c.commits) ≡ (core.state, replies.RowsAre rows)
     core-step =
         sym (ap (λ q. scan r c id order q sts (reader c id)) (range_same start end range some)
-        ∙ ap (λ o. scan r c id order (Some range) sts (reader_or_snapshot o (find_named id c.snapshots))) tx.is)
+        ∙ ap (scan r c id order (Some range) sts) reads.there)
         ∙ stepped
 
     noted-same : noted c id (steps.Scan order range ∷ taken c.commits) ≡ noted c id (steps.Scan order range ∷ taken s.commits)

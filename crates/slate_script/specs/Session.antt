@@ -1,7 +1,11 @@
 -- What a session keeps, and which state of the model it stands for.
 --     SessionModel      the core, the open names with their ids, and the moment
---     tx_of e name      the transaction that a name stands for
---     AreNames names txns      each name stands for an open transaction, and no two for the same
+--     under ps o      what is open under the id, where there is one
+--     AreNames names ps      each name has an id under which something is open, and no two have the same
+--     AreApart ps qs      no name stands in both
+--     NamesStand names snapshot_names txns snapshots      each name stands for an open transaction or an open snapshot, and none for both
+--     reader_id e name, reader_under c o      the id that a name is read under, and what reads under it
+--     AreUnder named names ps      of the model's names each has what is open under its id
 --     StandsFor e s      the session answers as the model does in the state s
 --     IsStep e stepped a      an answer is the model's, as it is shown, and what the session becomes is the model's too
 --     AnswersAs m before after line result      so is the answer to the line, for what the parts mean
@@ -20,6 +24,7 @@
 --     StoresNothing old new      what a line keeps that stores nothing
 use Rattle.std.specs.Prelude.{◌≡◌, ℕ, ◌+◌, ◌-◌, ◌^◌, ◌<◌, ◌⊎◌, Bool, true, ◌≤◌, List, [], flat_map, length, sum_by, Option, Some, None, Result, Ok, IfOk, IfErr, OnOk, IsSome, ℤ}
 use Rattle.std.specs.List.{AllByRecursion}
+use Rattle.std.specs.Option.{option_or}
 use Rattle.slate_types.specs.declared.error.SlateDBError.{SlateDBError}
 use Rattle.slate_types.specs.declared.error.SlateDBError.TheVariants.{TransactionConflict, EmptyKey, KeyTooLong, ValueTooLong, SequenceExhausted, LimitReached}
 use Rattle.slate_types.specs.declared.types.Ulid.{Ulid}
@@ -32,7 +37,7 @@ use Rattle.slate_txn.specs.declared.line.Line.TheVariants as lines
 use Rattle.slate_txn.specs.Named.{find_named, StandOnce}
 use Rattle.slate_txn.specs.Reply.{Reply, Refused}
 use Rattle.slate_txn.specs.State.{Rules, Tx, State}
-use Rattle.slate_txn.specs.Step.{step}
+use Rattle.slate_txn.specs.Step.{Reader, reader, step}
 use Rattle.slate_db.specs.Flushed.{Layout}
 use Rattle.slate_db.specs.Load.{load, op_load, ops_load, weight}
 use Rattle.slate_db.specs.Installs.{HoldsTables, NumberedFrom, runs_of}
@@ -48,29 +53,49 @@ use Rattle.slate_language.specs.Answers.{as_shown, reply_of}
 use Rattle.slate_language.specs.Grammar.{is_moment}
 use Rattle.slate_script.specs.StoredState.{IsTableObject}
 
--- names: rising, each with the id that the core gave
+-- names, snapshot_names: those of transactions and those of snapshots, rising, each with the id that the core gave
 pub record SessionModel : Type 0 where
   pub core : CoreModel
   pub names : List (List ℕ × List ℕ)
+  pub snapshot_names : List (List ℕ × List ℕ)
   pub now : ℤ
 
-abbrev pub tx_under : List (List ℕ × Tx) → Option (List ℕ) → Option Tx
-tx_under txns None = None
-tx_under txns (Some id) = find_named id txns
+abbrev pub under : {X : Type 0} → List (List ℕ × X) → Option (List ℕ) → Option X
+under ps None = None
+under ps (Some id) = find_named id ps
 
-abbrev pub tx_of : SessionModel → List ℕ → Option Tx
-tx_of e name = tx_under e.core.state.txns (find_named name e.names)
-
-pub record AreNames (names : List (List ℕ × List ℕ)) (txns : List (List ℕ × Tx)) : Type 0 where
-  pub opened : (name id : List ℕ) → find_named name names ≡ Some id → IsSome (find_named id txns)
+pub record AreNames {X : Type 0} (names : List (List ℕ × List ℕ)) (ps : List (List ℕ × X)) : Type 0 where
+  pub opened : (name id : List ℕ) → find_named name names ≡ Some id → IsSome (find_named id ps)
   pub apart : (name other id : List ℕ) → find_named name names ≡ Some id → find_named other names ≡ Some id → name ≡ other
-  pub once : StandOnce txns
+  pub once : StandOnce ps
+
+abbrev pub AreApart : {X Y : Type 0} → List (List ℕ × X) → List (List ℕ × Y) → Type 0
+AreApart ps qs = (name : List ℕ) → (find_named name ps ≡ None) ⊎ (find_named name qs ≡ None)
+
+-- txns, snapshots: what is open in the core
+pub record NamesStand (names snapshot_names : List (List ℕ × List ℕ)) (txns : List (List ℕ × Tx)) (snapshots : List (List ℕ × ℕ)) : Type 0 where
+  pub transactions : AreNames names txns
+  pub shown : AreNames snapshot_names snapshots
+  pub names_apart : AreApart names snapshot_names
+  pub ids_apart : AreApart txns snapshots
+
+-- a transaction's, or else a snapshot's
+abbrev pub reader_id : SessionModel → List ℕ → Option (List ℕ)
+reader_id e name = option_or (find_named name e.names) (find_named name e.snapshot_names)
+
+abbrev pub reader_under : State → Option (List ℕ) → Option Reader
+reader_under c None = None
+reader_under c (Some id) = reader c id
+
+abbrev pub AreUnder : {X : Type 0} → List (List ℕ × X) → List (List ℕ × List ℕ) → List (List ℕ × X) → Type 0
+AreUnder named names ps = (name : List ℕ) → find_named name named ≡ under ps (find_named name names)
 
 pub record StandsFor (e : SessionModel) (s : State) : Type 0 where
   pub commits : s.commits ≡ e.core.state.commits
-  pub txns : (name : List ℕ) → find_named name s.txns ≡ tx_of e name
+  pub txns : AreUnder s.txns e.names e.core.state.txns
   pub once : StandOnce s.txns
-  pub snapshots : s.snapshots ≡ []
+  pub snapshots : AreUnder s.snapshots e.snapshot_names e.core.state.snapshots
+  pub snapshots_once : StandOnce s.snapshots
   pub moment : s.now ≡ e.now
   pub flushed : s.flushed ≡ e.core.state.flushed
 

@@ -4,7 +4,7 @@ ghost use Rattle.slate_types.specs.Config.{IsValid};
 ghost use Rattle.slate_types.specs.Keys.{is_refused};
 ghost use Rattle.slate_types.specs.Outside.{IsFault, OnlyReads};
 ghost use Rattle.slate_txn.specs.declared.line.ScanStep.TheVariants.{Rows};
-ghost use Rattle.slate_txn.specs.Named.{find_named};
+ghost use Rattle.slate_txn.specs.Step.{reader};
 ghost use Rattle.slate_db.specs.Readable.{IsAnswered};
 ghost use Rattle.slate_db.specs.Scans.{IsOpenScan, IsScanError, id_of, number_of, scan_of};
 ghost use Rattle.slate_script.specs.Scanning.{Fails, HasScanned, IsNoted, Took};
@@ -22,7 +22,7 @@ use slate_types::{
 use std::alloc::Global;
 use uuid::Uuid;
 
-/// The rows that steps hand out of a scan of an open transaction over a range, in an order; without steps all rows.
+/// The rows that steps hand out of a scan of an open transaction or snapshot over a range, in an order; without steps all rows.
 pub(crate) fn scan_rows<S: Store, M: MergeOperator, T: BlockTransformer, X: PrefixExtractor>(
     alloc: Global,
     core: &mut Core,
@@ -33,7 +33,7 @@ pub(crate) fn scan_rows<S: Store, M: MergeOperator, T: BlockTransformer, X: Pref
     env: &mut Env<'_, S, M, T>,
     laws: &Laws<X>,
 ) -> Result<Vec<KeyValue>, SlateDBError>
-    requires open { IsSome (find_named id.now core.old.state.txns) }
+    requires open { IsSome (reader core.old.state id.now) }
     requires range { is_refused range.start range.end ≡ false }
     requires valid { IsValid laws.now.options }
     ensures noted { IsNoted core.old core.new id.now }

@@ -1,5 +1,5 @@
 //! The core, the open names with their ids, and the moment.
-ghost use Rattle.std.specs.Prelude.{◌≡◌, ◌≢◌, ◌⊎◌, ◌∷◌, ℕ, List, ◌++◌, [], map, Some, Ok, IfOk, IfErr, OnOk, IsTrue, IsOkUnless, length, drop, false};
+ghost use Rattle.std.specs.Prelude.{◌≡◌, ◌≢◌, ◌⊎◌, ◌∷◌, ℕ, List, ◌++◌, [], map, Some, None, Ok, IfOk, IfErr, IfSome, IsSome, OnOk, IsTrue, IsOkUnless, length, drop, false};
 ghost use Rattle.slate_types.specs.Config.{IsValid};
 ghost use Rattle.slate_types.specs.Outside.{Objects, IsFault, OnlyReads, Puts};
 ghost use Rattle.slate_types.specs.World.{Made};
@@ -12,7 +12,8 @@ ghost use Rattle.slate_txn.specs.declared.line.ScanStep.{ScanStep};
 ghost use Rattle.slate_txn.specs.Named.{find_named};
 ghost use Rattle.slate_txn.specs.Reply.{Refused};
 ghost use Rattle.slate_txn.specs.Settings.{settings_of};
-ghost use Rattle.slate_txn.specs.State.{opening};
+ghost use Rattle.slate_txn.specs.State.{State, opening};
+ghost use Rattle.slate_txn.specs.Step.{reader};
 ghost use Rattle.slate_db.specs.Flushed.{layout_of};
 ghost use Rattle.slate_db.specs.Installs.{runs_of, tables_of};
 ghost use Rattle.slate_db.specs.Load.{weight};
@@ -24,7 +25,7 @@ ghost use Rattle.slate_db.specs.Sound.{IsKept};
 ghost use Rattle.slate_db.specs.StoredState.{StoresState};
 ghost use Rattle.slate_db.specs.Log.{AreFine};
 ghost use Rattle.slate_language.specs.Answers.{reply_of};
-ghost use Rattle.slate_script.specs.Session.{StandsFor, AnswersAs, HasTablesAlone, Grows, IsDone, IsSettled, IsSettledIn, IsLimit, IsRefusal, StoresNothing, has_moment, held_load};
+ghost use Rattle.slate_script.specs.Session.{StandsFor, AnswersAs, HasTablesAlone, Grows, IsDone, IsSettled, IsSettledIn, IsLimit, IsRefusal, StoresNothing, has_moment, held_load, reader_id, reader_under};
 ghost use Rattle.slate_language.specs.Stage.{is_built, is_built_op, is_built_batch};
 ghost use Rattle.slate_script.specs.Told.{Follows, IsRefusedAt, IsUntrue, PutsTables};
 
@@ -58,20 +59,22 @@ const NO_CONTEXT: ReadOptions = ReadOptions {
 pub struct Session {
     alloc: Global,
     core: Core,
+    /// Those of transactions.
     names: BTreeMap<Bytes, Uuid>,
+    snapshot_names: BTreeMap<Bytes, Uuid>,
     now: i64,
 }
 
 impl Model for Session {
     ghost use Rattle.std.specs.Prelude.{IsTrue};
     ghost use Rattle.slate_language.specs.Grammar.{is_moment};
-    ghost use Rattle.slate_script.specs.Session.{SessionModel, AreNames};
+    ghost use Rattle.slate_script.specs.Session.{SessionModel, NamesStand};
 
     ghost Value = { SessionModel };
 
-    ghost view = { λ s. record { core = s.core; names = s.names.entries; now = s.now } };
+    ghost view = { λ s. record { core = s.core; names = s.names.entries; snapshot_names = s.snapshot_names.entries; now = s.now } };
 
-    ghost invariant = { λ s. AreNames s.names.entries s.core.state.txns × IsTrue (is_moment s.now) };
+    ghost invariant = { λ s. NamesStand s.names.entries s.snapshot_names.entries s.core.state.txns s.core.state.snapshots × IsTrue (is_moment s.now) };
 }
 
 impl Session {
@@ -88,6 +91,7 @@ impl Session {
             alloc,
             core: Core::new(alloc, options),
             names: BTreeMap::new(alloc),
+            snapshot_names: BTreeMap::new(alloc),
             now: 0,
         }
     }
@@ -123,7 +127,7 @@ impl Session {
         ensures puts { let reach = ⟦<EnvOf<S, M, T> as Outside>⟧.reach in Puts (reach env.old) (reach env.new) }
     {
         match line {
-            Line::Get { name, key } => self.get(name, key, env),
+            Line::Get { name, key } => self.get(name, key, env, laws),
             Line::Scan {
                 name,
                 order,
@@ -131,13 +135,17 @@ impl Session {
                 end,
                 steps,
             } => self.scan(name, order, start, end, steps, env, laws),
-            Line::Flush => self.flush(env, &laws.options),
-            other => self.answer_within(other),
+            Line::Flush => self.flush(env, laws),
+            other => self.answer_within(other, laws),
         }
     }
 
     /// The answer to a line that asks no store.
-    fn answer_within(&mut self, line: Line) -> Result<Answer, SlateDBError>
+    fn answer_within<X: PrefixExtractor>(
+        &mut self,
+        line: Line,
+        laws: &Laws<X>,
+    ) -> Result<Answer, SlateDBError>
         requires built { IsTrue (is_built line) }
         requires moment { IsTrue (has_moment line) }
         requires no_get { (name key : List ℕ) → line ≢ Line.Get name key }
@@ -154,8 +162,9 @@ impl Session {
                 Ok(Answer::NowIs(moment))
             }
             Line::Begin { name, level } => self.begin(name, level),
+            Line::Snapshot { name } => self.snapshot(name),
             Line::Rollback { name } => Ok(self.rollback(name)),
-            Line::Write { ops } => self.write(ops),
+            Line::Write { ops } => self.write(ops, laws),
             Line::Freeze => self.freeze(),
             Line::Journal => self.journal(),
             Line::Put {
@@ -167,7 +176,7 @@ impl Session {
             Line::Delete { name, key } => self.delete(name, key),
             Line::Mark { name, keys } => self.mark(name, keys),
             Line::Unmark { name, keys } => self.unmark(name, keys),
-            Line::Commit { name } => self.commit(name),
+            Line::Commit { name } => self.commit(name, laws),
             _ => unreachable!(),
         }
     }
@@ -181,14 +190,25 @@ impl Session {
         core.close();
     }
 
-    /// Opens the name at the last commit.
+    /// The id that the name is read under: that of its transaction, or else that of its snapshot; `None` where it isn't open.
+    fn reader_id(&self, name: &Bytes) -> Option<Uuid>
+        ensures id { result ≡ reader_id self.entry.now name.now }
+        ensures known { IfSome result (λ id. IsSome (reader self.entry.now.core.state id)) }
+        ensures reads { (s : State) → StandsFor self.entry.now s → reader s name.now ≡ reader_under self.entry.now.core.state result }
+    {
+        let transaction = self.names.get(name).copied();
+        let snapshot = self.snapshot_names.get(name).copied();
+        transaction.or(snapshot)
+    }
+
+    /// Opens the name at the last commit, as a transaction.
     fn begin(&mut self, name: Bytes, level: IsolationLevel) -> Result<Answer, SlateDBError>
         ensures step { (m : Meaning) → AnswersAs m self.old self.new (Line.Begin name level) result }
         ensures stores { OnOk result (StoresNothing self.old self.new) }
         ensures grows { OnOk result (Grows (Line.Begin name level) self.old self.new) }
         ensures cause { IfErr result (λ e. (e ≡ SlateDBError.OutOfMemory) ⊎ IsLimit self.old e) }
     {
-        if self.names.contains_key(&name) {
+        if self.reader_id(&name).is_some() {
             return Ok(Answer::Refused(SlateDBError::DuplicateTransaction { name }));
         }
         let key = name.clone()?;
@@ -197,12 +217,29 @@ impl Session {
         Ok(Answer::Begun { name, start })
     }
 
-    /// The row of the key in the state at the name's begin.
-    fn get<S: Store, M: MergeOperator, T: BlockTransformer>(
+    /// Opens the name at the last commit, as a snapshot.
+    fn snapshot(&mut self, name: Bytes) -> Result<Answer, SlateDBError>
+        ensures step { (m : Meaning) → AnswersAs m self.old self.new (Line.Snapshot name) result }
+        ensures stores { OnOk result (StoresNothing self.old self.new) }
+        ensures grows { OnOk result (Grows (Line.Snapshot name) self.old self.new) }
+        ensures cause { IfErr result (λ e. (e ≡ SlateDBError.OutOfMemory) ⊎ IsLimit self.old e) }
+    {
+        if self.reader_id(&name).is_some() {
+            return Ok(Answer::Refused(SlateDBError::DuplicateTransaction { name }));
+        }
+        let key = name.clone()?;
+        let (id, seq) = self.core.snapshot()?;
+        self.snapshot_names.insert(key, id)?;
+        Ok(Answer::SnapshotAt { name, seq })
+    }
+
+    /// The row of the key in the state at the name's start.
+    fn get<S: Store, M: MergeOperator, T: BlockTransformer, X: PrefixExtractor>(
         &mut self,
         name: Bytes,
         key: Bytes,
         env: &mut Env<'_, S, M, T>,
+        laws: &Laws<X>,
     ) -> Result<Answer, SlateDBError>
         ensures step { let reach = ⟦<EnvOf<S, M, T> as Outside>⟧.reach in IsAnswered (reach env.old) (reach env.new) self.old.core →
             AnswersAs (reach env.old).meaning self.old self.new (Line.Get name key) result }
@@ -212,19 +249,18 @@ impl Session {
         ensures undamaged { let reach = ⟦<EnvOf<S, M, T> as Outside>⟧.reach in IsAnswered (reach env.old) (reach env.new) self.old.core → IfErr result (IsFault (reach env.old) (reach env.new)) }
         ensures reads { let reach = ⟦<EnvOf<S, M, T> as Outside>⟧.reach in OnlyReads (reach env.old) (reach env.new) }
     {
-        let Some(id) = self.names.get(&name) else {
+        let Some(id) = self.reader_id(&name) else {
             drop(key);
             return Ok(Answer::Refused(SlateDBError::UnknownTransaction { name }));
         };
-        let id = *id;
         drop(name);
-        let read = self.core.get(&id, key.as_slice(), &NO_CONTEXT, env);
+        let read = self.core.get(&id, key.as_slice(), &NO_CONTEXT, env, laws);
         drop(key);
         let row = read?;
         Ok(Answer::Found(row))
     }
 
-    /// The rows that the steps hand out of a scan of the range in the state at the name's begin, under its own operations.
+    /// The rows that the steps hand out of a scan of the range in the state at the name's start, under its own operations.
     fn scan<S: Store, M: MergeOperator, T: BlockTransformer, X: PrefixExtractor>(
         &mut self,
         name: Bytes,
@@ -244,12 +280,11 @@ impl Session {
         ensures undamaged { let reach = ⟦<EnvOf<S, M, T> as Outside>⟧.reach in IsAnswered (reach env.old) (reach env.new) self.old.core → IfErr result (IsFault (reach env.old) (reach env.new)) }
         ensures reads { let reach = ⟦<EnvOf<S, M, T> as Outside>⟧.reach in OnlyReads (reach env.old) (reach env.new) }
     {
-        let Some(id) = self.names.get(&name) else {
+        let Some(id) = self.reader_id(&name) else {
             drop((start, end));
             drop(steps);
             return Ok(Answer::Refused(SlateDBError::UnknownTransaction { name }));
         };
-        let id = *id;
         drop(name);
         let Some(range) = BytesRange::try_new(start, end) else {
             drop(steps);
@@ -271,16 +306,30 @@ impl Session {
         Ok(Answer::Rows(rows))
     }
 
-    /// Closes the name.
+    /// Closes the name: its transaction ends, or its snapshot is released.
     fn rollback(&mut self, name: Bytes) -> Answer
         ensures step { (m : Meaning) → AnswersAs m self.old self.new (Line.Rollback name) (Ok result) }
         ensures stores { StoresNothing self.old self.new }
         ensures grows { Grows (Line.Rollback name) self.old self.new }
     {
         let Some(id) = self.names.remove(&name) else {
-            return Answer::Refused(SlateDBError::UnknownTransaction { name });
+            return self.release(name);
         };
         self.core.rollback(&id);
+        Answer::Done
+    }
+
+    /// Closes the name, which is no transaction's.
+    fn release(&mut self, name: Bytes) -> Answer
+        requires { find_named name self.old.names ≡ None }
+        ensures step { (m : Meaning) → AnswersAs m self.old self.new (Line.Rollback name) (Ok result) }
+        ensures stores { StoresNothing self.old self.new }
+        ensures grows { Grows (Line.Rollback name) self.old self.new }
+    {
+        let Some(id) = self.snapshot_names.remove(&name) else {
+            return Answer::Refused(SlateDBError::UnknownTransaction { name });
+        };
+        self.core.release(&id);
         Answer::Done
     }
 
@@ -365,7 +414,11 @@ impl Session {
     }
 
     /// Commits the name's transaction at the moment, and closes the name, whether the commit is refused or not.
-    fn commit(&mut self, name: Bytes) -> Result<Answer, SlateDBError>
+    fn commit<X: PrefixExtractor>(
+        &mut self,
+        name: Bytes,
+        laws: &Laws<X>,
+    ) -> Result<Answer, SlateDBError>
         ensures step { (m : Meaning) → AnswersAs m self.old self.new (Line.Commit name) result }
         ensures stores { OnOk result (StoresNothing self.old self.new) }
         ensures grows { OnOk result (Grows (Line.Commit name) self.old self.new) }
@@ -375,7 +428,7 @@ impl Session {
             return Ok(Answer::Refused(SlateDBError::UnknownTransaction { name }));
         };
         drop(name);
-        match self.core.commit(&id, self.now) {
+        match self.core.commit(&id, self.now, laws) {
             Ok(seq) => Ok(Answer::Committed(seq)),
             Err(error) => refused(error),
         }
@@ -391,7 +444,11 @@ impl Session {
     }
 
     /// Commits the operations as one batch, at the moment.
-    fn write(&mut self, ops: OpList) -> Result<Answer, SlateDBError>
+    fn write<X: PrefixExtractor>(
+        &mut self,
+        ops: OpList,
+        laws: &Laws<X>,
+    ) -> Result<Answer, SlateDBError>
         requires { IsTrue (is_built_batch ops) }
         ensures step { (m : Meaning) → AnswersAs m self.old self.new (Line.Write ops) result }
         ensures stores { OnOk result (StoresNothing self.old self.new) }
@@ -402,7 +459,7 @@ impl Session {
             Ok(batch) => batch,
             Err(error) => return refused(error),
         };
-        match self.core.write(batch, self.now) {
+        match self.core.write(batch, self.now, laws) {
             Ok(seq) => Ok(Answer::Written(seq)),
             Err(error) => refused(error),
         }
@@ -420,25 +477,25 @@ impl Session {
     }
 
     /// Stores the rows in memory as tables.
-    fn flush<S: Store, M: MergeOperator, T: BlockTransformer>(
+    fn flush<S: Store, M: MergeOperator, T: BlockTransformer, X: PrefixExtractor>(
         &mut self,
         env: &mut Env<'_, S, M, T>,
-        options: &Options,
+        laws: &Laws<X>,
     ) -> Result<Answer, SlateDBError>
-        requires valid { IsValid options.now }
+        requires valid { IsValid laws.now.options }
         ensures step { (m : Meaning) → AnswersAs m self.old self.new Line.Flush result }
         ensures settings { OnOk result (self.new.core.settings ≡ self.old.core.settings) }
         ensures grows { OnOk result (Grows Line.Flush self.old self.new) }
         ensures kept { let reach = ⟦<EnvOf<S, M, T> as Outside>⟧.reach in IsSettledIn (reach env.old) self.old →
             OnOk result (IsSettled (reach env.old).meaning (reach env.new).objects self.new) }
-        ensures alone { let reach = ⟦<EnvOf<S, M, T> as Outside>⟧.reach in IsSettledIn (reach env.old) self.old → HasTablesAlone (reach env.old).meaning (layout_of options.now) (reach env.old).objects (runs_of self.old.core.events) →
-            OnOk result (HasTablesAlone (reach env.old).meaning (layout_of options.now) (reach env.new).objects (runs_of self.new.core.events)) }
+        ensures alone { let reach = ⟦<EnvOf<S, M, T> as Outside>⟧.reach in IsSettledIn (reach env.old) self.old → HasTablesAlone (reach env.old).meaning (layout_of laws.now.options) (reach env.old).objects (runs_of self.old.core.events) →
+            OnOk result (HasTablesAlone (reach env.old).meaning (layout_of laws.now.options) (reach env.new).objects (runs_of self.new.core.events)) }
         ensures follows { let reach = ⟦<EnvOf<S, M, T> as Outside>⟧.reach in (os : Objects) → IsSettled (reach env.old).meaning (Some os) self.old → OnOk result (Follows (reach env.old).meaning os self.new (reach env.old).acts (reach env.new).acts) }
         ensures tables { let reach = ⟦<EnvOf<S, M, T> as Outside>⟧.reach in OnOk result (PutsTables (tables_of self.old.core.events) (tables_of self.new.core.events) (reach env.old).acts (reach env.new).acts) }
         ensures cause { let reach = ⟦<EnvOf<S, M, T> as Outside>⟧.reach in IfErr result (λ e. IsFault (reach env.old) (reach env.new) e ⊎ IsLimit self.old e) }
         ensures puts { let reach = ⟦<EnvOf<S, M, T> as Outside>⟧.reach in Puts (reach env.old) (reach env.new) }
     {
-        let seq = self.core.flush(env, options)?;
+        let seq = self.core.flush(env, laws)?;
         Ok(Answer::Flushed(seq))
     }
 }

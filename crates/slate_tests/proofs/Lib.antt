@@ -1,2 +1,3 @@
 pub mod SortedRowsLaws
 pub mod CommitListLaws
+pub mod OpenIds

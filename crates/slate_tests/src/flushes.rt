@@ -1,12 +1,13 @@
 // A flush whose store fails, and one more.
 ghost use Rattle.slate_types.specs.Config.{IsValid};
 
-use crate::listing::one;
+use crate::listing::{default_laws, one};
 use slate_db::engine::Core;
+use slate_db::laws::Laws;
 use slate_language::Xor;
 use slate_mem::WriteBatch;
 use slate_store::{Env, MemoryStore, Store};
-use slate_types::{IsolationLevel, NoOperator, Options, ReadOptions, SlateDBError};
+use slate_types::{IsolationLevel, NoExtractor, NoOperator, ReadOptions, SlateDBError};
 use std::alloc::Global;
 use uuid::Uuid;
 
@@ -17,10 +18,10 @@ const SECOND: &str = "db/compacted/00000000000000010000000000000001.sst";
 type Parts<'a> = Env<'a, MemoryStore, NoOperator, Xor>;
 
 // The transaction that begins behind a core's one commit, and its start.
-fn one_put(alloc: Global, core: &mut Core) -> Option<(Uuid, u64)> {
+fn one_put(alloc: Global, core: &mut Core, laws: &Laws<NoExtractor>) -> Option<(Uuid, u64)> {
     let mut batch = WriteBatch::new(alloc);
     let put = batch.put(b"a", b"1").ok();
-    let written = core.write(batch, 0).ok();
+    let written = core.write(batch, 0, laws).ok();
     let begun = core.begin(IsolationLevel::Snapshot).ok();
     put.and(written).and(begun)
 }
@@ -31,36 +32,43 @@ fn is_there<T: Drop, E: Drop>(answer: Result<Option<T>, E>) -> bool {
 }
 
 // Whether an open transaction finds a row at the key a.
-fn finds(core: &mut Core, env: &mut Parts<'_>, id: &Uuid) -> bool {
-    core.is_open(id) && is_there(core.get(id, b"a", &ReadOptions::default(), env))
+#[tactic(auto, using(crate::proofs::OpenIds::open_reads))]
+fn finds(core: &mut Core, env: &mut Parts<'_>, laws: &Laws<NoExtractor>, id: &Uuid) -> bool {
+    core.is_open(id) && is_there(core.get(id, b"a", &ReadOptions::default(), env, laws))
 }
 
 // Whether a put is found behind a flush that fails by its store and behind one more, which answers its sequence.
-fn is_flushed_again(alloc: Global, core: &mut Core, env: &mut Parts<'_>, options: &Options) -> bool
-    requires { IsValid options.now }
+fn is_flushed_again(
+    alloc: Global,
+    core: &mut Core,
+    env: &mut Parts<'_>,
+    laws: &Laws<NoExtractor>,
+) -> bool
+    requires { IsValid laws.now.options }
 {
-    let Some((id, _start)) = one_put(alloc, core) else {
+    let Some((id, _start)) = one_put(alloc, core, laws) else {
         return false;
     };
-    let flushed = core.flush(env, options);
+    let flushed = core.flush(env, laws);
     let has_failed = matches!(flushed, Err(SlateDBError::StoreFault));
     drop(flushed);
     has_failed
-        && finds(core, env, &id)
-        && matches!(core.flush(env, options).ok(), Some(1))
-        && finds(core, env, &id)
+        && finds(core, env, laws, &id)
+        && matches!(core.flush(env, laws).ok(), Some(1))
+        && finds(core, env, laws, &id)
 }
 
 // The same of a core over the store.
 fn stores_again(alloc: Global, store: &mut MemoryStore) -> bool {
-    let options = Options::new();
-    let mut core = Core::new(alloc, &options);
+    let laws = default_laws(alloc);
+    let mut core = Core::new(alloc, &laws.options);
     let mut env: Parts<'_> = Env {
         store,
         operator: None,
         transformer: None,
     };
-    let is_stored = is_flushed_again(alloc, &mut core, &mut env, &options);
+    let is_stored = is_flushed_again(alloc, &mut core, &mut env, &laws);
+    drop(laws);
     core.close();
     is_stored
 }
@@ -87,44 +95,51 @@ fn a_flush_that_failed_is_tried_again(rt: HostRuntime) {
 }
 
 // The transaction that begins behind a core's one commit, of two keys.
-fn two_puts(alloc: Global, core: &mut Core) -> Option<Uuid> {
+fn two_puts(alloc: Global, core: &mut Core, laws: &Laws<NoExtractor>) -> Option<Uuid> {
     let mut batch = WriteBatch::new(alloc);
     let first = batch.put(b"a", b"1").ok();
     let second = batch.put(b"b", b"2").ok();
-    let written = core.write(batch, 0).ok();
+    let written = core.write(batch, 0, laws).ok();
     let begun = core.begin(IsolationLevel::Snapshot).ok();
     let (id, _start) = first.and(second).and(written).and(begun)?;
     Some(id)
 }
 
 // Whether an open transaction finds a row at each of two keys.
-fn finds_both(core: &mut Core, env: &mut Parts<'_>, id: &Uuid) -> bool {
-    finds(core, env, id)
+#[tactic(auto, using(crate::proofs::OpenIds::open_reads))]
+fn finds_both(core: &mut Core, env: &mut Parts<'_>, laws: &Laws<NoExtractor>, id: &Uuid) -> bool {
+    finds(core, env, laws, id)
         && core.is_open(id)
-        && is_there(core.get(id, b"b", &ReadOptions::default(), env))
+        && is_there(core.get(id, b"b", &ReadOptions::default(), env, laws))
 }
 
 // Whether both are found behind a flush.
-fn are_flushed(alloc: Global, core: &mut Core, env: &mut Parts<'_>, options: &Options) -> bool
-    requires { IsValid options.now }
+fn are_flushed(
+    alloc: Global,
+    core: &mut Core,
+    env: &mut Parts<'_>,
+    laws: &Laws<NoExtractor>,
+) -> bool
+    requires { IsValid laws.now.options }
 {
-    let Some(id) = two_puts(alloc, core) else {
+    let Some(id) = two_puts(alloc, core, laws) else {
         return false;
     };
-    matches!(core.flush(env, options).ok(), Some(1)) && finds_both(core, env, &id)
+    matches!(core.flush(env, laws).ok(), Some(1)) && finds_both(core, env, laws, &id)
 }
 
 // The same of a core over the store whose tables take one key each.
 fn stores_two(alloc: Global, store: &mut MemoryStore) -> bool {
-    let mut options = Options::new();
-    options.table_bytes = 1;
-    let mut core = Core::new(alloc, &options);
+    let mut laws = default_laws(alloc);
+    laws.options.table_bytes = 1;
+    let mut core = Core::new(alloc, &laws.options);
     let mut env: Parts<'_> = Env {
         store,
         operator: None,
         transformer: None,
     };
-    let are_stored = are_flushed(alloc, &mut core, &mut env, &options);
+    let are_stored = are_flushed(alloc, &mut core, &mut env, &laws);
+    drop(laws);
     core.close();
     are_stored
 }

@@ -38,6 +38,8 @@ mod runs;
 #[cfg(test)]
 mod scans;
 #[cfg(test)]
+mod snapshots;
+#[cfg(test)]
 mod stores;
 #[cfg(test)]
 mod streams;

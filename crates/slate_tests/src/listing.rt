@@ -1,6 +1,12 @@
-// Lists of few items, rows of a walk, and answers beside what is expected.
+// Lists of few items, laws, rows of a walk, and answers beside what is expected.
+ghost use Rattle.std.specs.Prelude.{◌≡◌};
+ghost use Rattle.slate_types.specs.Config.{defaults};
+
 use bytes::Bytes;
-use slate_types::{RowEntry, RowEntryIterator, SlateDBError, ValueDeletable, collect_rows};
+use slate_db::laws::Laws;
+use slate_types::{
+    NoExtractor, Options, RowEntry, RowEntryIterator, SlateDBError, ValueDeletable, collect_rows,
+};
 use std::alloc::Global;
 
 /// A row: its key, what it is, its bytes, its sequence, its creation and its expiry.
@@ -33,6 +39,17 @@ pub fn one<T: Drop>(alloc: Global, item: T) -> Vec<T> {
     let mut items = Vec::new(alloc);
     drop(items.push(item));
     items
+}
+
+/// The laws of a core without segments and filters, by the default options.
+pub fn default_laws(alloc: Global) -> Laws<NoExtractor>
+    ensures { result.options ≡ defaults }
+{
+    Laws {
+        options: Options::new(),
+        segments: None,
+        policies: Vec::new(alloc),
+    }
 }
 
 /// The rows that are left of a walk, behind a seek where there is a key.

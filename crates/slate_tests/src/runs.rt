@@ -82,6 +82,13 @@ const CONFLICT: &[u8] =
 const CONFLICT_REPLIES: &[u8] =
     b"begun t 0\nrefused DuplicateTransaction t\nnone\nwritten 1\nok\nrefused TransactionConflict 1\nrefused UnknownTransaction t\n";
 
+// Behind the flush of a later commit the older rows are read from its table, which keeps them for the snapshot.
+const SNAPSHOT: &[u8] =
+    b"write put 'a '1 put 'b '2\nsnapshot s\nwrite put 'a '3 delete 'b\nflush\nget s 'a\nscan s asc * *\nrollback s\nget s 'a\nbegin s si\nscan s asc * *\n";
+
+const SNAPSHOT_REPLIES: &[u8] =
+    b"written 1\nsnapshot s 1\nwritten 2\nflushed 2\nrow 'a '1 1 0 -\nrows 2 'a '1 1 0 - 'b '2 1 0 -\nok\nrefused UnknownTransaction s\nbegun s 2\nrows 1 'a '3 2 0 -\n";
+
 const UNMARKED: &[u8] =
     b"begin t ssi\nget t 'a\nbegin u si\nunmark u 'a\nput u 'a '1\ncommit u\nput t 'b '2\ncommit t\njournal\n";
 
@@ -143,6 +150,8 @@ const RUNS: &[Run] = &[
     (TWICE, Failing { stored: 7, ..NONE }, 7, ONE_ROW),
     (TWICE, Failing { stored: 8, ..NONE }, 7, ONE_ROW),
     (TWICE, Failing { stored: 9, ..NONE }, 0, TWO_ROWS),
+    // A snapshot.
+    (SNAPSHOT, NONE, 0, SNAPSHOT_REPLIES),
     // Transactions that write. Their lines ask no store, but a get.
     (CONFLICT, NONE, 0, CONFLICT_REPLIES),
     (UNMARKED, NONE, 0, UNMARKED_REPLIES),

@@ -4,8 +4,8 @@ ghost use Rattle.slate_types.specs.Outside.{Objects};
 ghost use Rattle.slatedb.specs.FirstSteps.{first_put};
 
 use crate::{
-    Core, Env, FileStore, IsolationLevel, KeyValue, NoOperator, NoTransformer, Options,
-    ReadOptions, SlateDBError, Store, WriteBatch,
+    Core, Env, FileStore, IsolationLevel, KeyValue, Laws, NoExtractor, NoOperator, NoTransformer,
+    Options, ReadOptions, SlateDBError, Store, WriteBatch,
 };
 use std::alloc::Global;
 use std::rt::Files;
@@ -13,7 +13,8 @@ use std::rt::Files;
 /// Puts a value under a key, stores it, and gives what a transaction reads at that key: of a store that answers by its
 /// objects, the value.
 ///
-/// The operator and the transformer are none here. A core is given its store call by call, and each call's errors say what it left.
+/// The operator, the transformer and the extractor are none here. A core is given its store and its laws call by call, and each call's
+/// errors say what it left.
 pub fn put_and_get<S: Store>(
     alloc: Global,
     store: &mut S,
@@ -22,8 +23,13 @@ pub fn put_and_get<S: Store>(
 ) -> Result<Option<KeyValue>, SlateDBError>
     ensures found { (os : Objects) → S.objects store.old ≡ Some os → IfOk result (λ found. found ≡ Some (first_put key.now value.now)) }
 {
-    let options = Options::new();
-    let mut core = Core::new(alloc, &options);
+    // What all calls on one core are given alike.
+    let laws: Laws<NoExtractor> = Laws {
+        options: Options::new(),
+        segments: None,
+        policies: Vec::new(alloc),
+    };
+    let mut core = Core::new(alloc, &laws.options);
     let mut env: Env<'_, S, NoOperator, NoTransformer> = Env {
         store,
         operator: None,
@@ -33,12 +39,12 @@ pub fn put_and_get<S: Store>(
     // A batch is one commit, at a moment in milliseconds.
     let mut batch = WriteBatch::new(alloc);
     batch.put(key, value)?;
-    core.write(batch, 0)?;
+    core.write(batch, 0, &laws)?;
     // The rows of all commits so far become a table.
-    core.flush(&mut env, &options)?;
+    core.flush(&mut env, &laws)?;
 
     let (reader, _start) = core.begin(IsolationLevel::Snapshot)?;
-    let found = core.get(&reader, key, &ReadOptions::default(), &mut env)?;
+    let found = core.get(&reader, key, &ReadOptions::default(), &mut env, &laws)?;
     core.rollback(&reader);
     core.close();
     Ok(found)

@@ -15,6 +15,9 @@ returns-in-Refused c = record { text = IfOk-weaker c.refusal_text.result _ _ (λ
 pub returns-in-Begun : goal.returns-in-Begun
 returns-in-Begun c = record { text = IfOk-weaker c.line_of-in-Begun.result _ _ (λ v is. is ∙ ap (λ name. reply_line (reply_of (answers.Begun name c.in-Begun.start))) c.as_slice.ensures ∙ ap (λ a. reply_line (reply_of a)) (sym c.in-Begun.is)) c.line_of-in-Begun.ensures.text }
 
+pub returns-in-SnapshotAt : goal.returns-in-SnapshotAt
+returns-in-SnapshotAt c = record { text = IfOk-weaker c.line_of-in-SnapshotAt.result _ _ (λ v is. is ∙ ap (λ name. reply_line (reply_of (answers.SnapshotAt name c.in-SnapshotAt.seq))) c.as_slice-in-SnapshotAt.ensures ∙ ap (λ a. reply_line (reply_of a)) (sym c.in-SnapshotAt.is)) c.line_of-in-SnapshotAt.ensures.text }
+
 pub returns-in-Frozen : goal.returns-in-Frozen
 returns-in-Frozen c = record { text = IfOk-weaker c.line_of-in-Frozen.result _ _ (λ v is. is ∙ ap (λ a. reply_line (reply_of a)) (sym c.in-Frozen.is)) c.line_of-in-Frozen.ensures.text }
 

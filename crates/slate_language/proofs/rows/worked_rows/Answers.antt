@@ -107,7 +107,7 @@ returns-clause-long_keys_today c = long_keys_today
 
 pub returns-clause-not_built_today : goal.returns-clause-not_built_today
 unfolding digits
-returns-clause-not_built_today c = (refl, refl, refl, refl, refl, refl, refl, refl)
+returns-clause-not_built_today c = (refl, refl, refl, refl, refl, refl, refl)
 
 pub returns-clause-transactions_today : goal.returns-clause-transactions_today
 unfolding digits
@@ -116,6 +116,10 @@ returns-clause-transactions_today c = (refl, refl, refl)
 pub returns-clause-scans_today : goal.returns-clause-scans_today
 unfolding digits
 returns-clause-scans_today c = (refl, refl, refl, refl)
+
+pub returns-clause-snapshots_today : goal.returns-clause-snapshots_today
+unfolding digits
+returns-clause-snapshots_today c = (refl, refl)
 
 pub returns-clause-own_today : goal.returns-clause-own_today
 unfolding digits

@@ -1,4 +1,6 @@
+use Rattle.std.proofs.lemmas.Result.{err_from_is_err_and}
 use Rattle.slate_types.proofs.Reaching.{reads_then}
+use Rattle.slate_db.proofs.RowDamage.{opening_scan}
 use Rattle.slate_db.specs.Scans.{id_of}
 use Rattle.slate_script.proofs.Scanned.{noted_then, opened_by, opens_scan, same_noted, walked, walk_cause, walk_fault}
 use Rattle.slate_script.proofs.scan.scan_rows.Goals as goal
@@ -22,3 +24,8 @@ returns g c =
 
 pub returns-in_err-scan-clause-noted : goal.returns-in_err-scan-clause-noted
 returns-in_err-scan-clause-noted g c = same_noted c.args.core.now c.scan-opened.new.self c.args.id.now c.in_err-scan.ensures.same
+
+pub returns-in_err-scan-clause-cause : goal.returns-in_err-scan-clause-cause
+returns-in_err-scan-clause-cause g c =
+    let p = err_from_is_err_and c.from_residual.result c.from_residual.ensures.1 in
+    rw (p.1, p.2) (opening_scan _ _ c.args.core.now c.in_err-scan.field-0.0 c.in_err-scan.ensures.cause)

@@ -96,11 +96,17 @@ returns-in-Scan g c =
       puts = reads_put_nothing _ _ c.scan.ensures.reads;
     }
 
-pub answer_within-requires : goal.answer_within-requires
-answer_within-requires g c = record {
-  built = c.requires.built;
-  moment = c.requires.moment;
-  no_get = λ name key is. c.in_default.not-Get name key is;
-  no_scan = λ name order start end sts is. c.in_default.not-Scan name order start end sts is;
-  no_flush = c.in_default.not-Flush;
-}
+pub answer_within-requires-clause-built : goal.answer_within-requires-clause-built
+answer_within-requires-clause-built g c = λ κs lives. c.requires.built
+
+pub answer_within-requires-clause-moment : goal.answer_within-requires-clause-moment
+answer_within-requires-clause-moment g c = λ κs lives. c.requires.moment
+
+pub answer_within-requires-clause-no_get : goal.answer_within-requires-clause-no_get
+answer_within-requires-clause-no_get g c = λ κs lives name key is. c.in_default.not-Get name key is
+
+pub answer_within-requires-clause-no_scan : goal.answer_within-requires-clause-no_scan
+answer_within-requires-clause-no_scan g c = λ κs lives name order start end sts is. c.in_default.not-Scan name order start end sts is
+
+pub answer_within-requires-clause-no_flush : goal.answer_within-requires-clause-no_flush
+answer_within-requires-clause-no_flush g c = λ κs lives. c.in_default.not-Flush

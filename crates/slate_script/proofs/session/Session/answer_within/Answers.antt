@@ -10,10 +10,10 @@ use Rattle.slate_script.proofs.SessionSteps.{now-set, given-moment}
 use Rattle.slate_script.proofs.session.Session.answer_within.Goals as goal
 
 pub returns-in-Now : goal.returns-in-Now
-returns-in-Now c =
+returns-in-Now g c =
     record {
       step = (λ m.
-          let before : SessionModel = record { core = c.self.inside.core; names = c.self.inside.names.entries; now = c.self.inside.now } in
+          let before : SessionModel = record { core = c.self.inside.core; names = c.self.inside.names.entries; snapshot_names = c.self.inside.snapshot_names.entries; now = c.self.inside.now } in
           let fits : is_moment c.in-Now.moment ≡ true = ap has_moment (sym c.in-Now.is) ∙ c.requires.moment in
           subst (λ (t : ℤ). AnswersAs m c.args.self.now (record before { now = t }) c.args.line (Ok (answers.NowIs t))) (sym (given-moment c.in-Now.moment fits))
           (subst (λ (line : Line). AnswersAs m c.args.self.now (record before { now = c.in-Now.moment }) line (Ok (answers.NowIs c.in-Now.moment))) (sym c.in-Now.is)
@@ -25,13 +25,13 @@ returns-in-Now c =
             later = omega (arith, same);
             kept = λ m k. subst (λ (v : SessionModel). IsKept m v.core) (sym c.self.view_is) k;
           });
-      grows = (let before : SessionModel = record { core = c.self.inside.core; names = c.self.inside.names.entries; now = c.self.inside.now } in
+      grows = (let before : SessionModel = record { core = c.self.inside.core; names = c.self.inside.names.entries; snapshot_names = c.self.inside.snapshot_names.entries; now = c.self.inside.now } in
           subst (λ (v : SessionModel). Grows c.args.line v before) c.self.view_is (omega arith, omega arith));
       cause = tt;
     }
 
 pub returns-in-Begin : goal.returns-in-Begin
-returns-in-Begin c =
+returns-in-Begin g c =
     record {
       step = λ m. subst (λ (line : Line). AnswersAs m c.args.self.now c.begin.new.self line c.begin.result) (sym c.in-Begin.is) (c.begin.ensures.step m);
       stores = c.begin.ensures.stores;
@@ -39,8 +39,17 @@ returns-in-Begin c =
       cause = c.begin.ensures.cause;
     }
 
+pub returns-in-Snapshot : goal.returns-in-Snapshot
+returns-in-Snapshot g c =
+    record {
+      step = λ m. subst (λ (line : Line). AnswersAs m c.args.self.now c.snapshot.new.self line c.snapshot.result) (sym c.in-Snapshot.is) (c.snapshot.ensures.step m);
+      stores = c.snapshot.ensures.stores;
+      grows = subst (λ (line : Line). OnOk c.snapshot.result (Grows line c.args.self.now c.snapshot.new.self)) (sym c.in-Snapshot.is) c.snapshot.ensures.grows;
+      cause = c.snapshot.ensures.cause;
+    }
+
 pub returns-in-Write : goal.returns-in-Write
-returns-in-Write c =
+returns-in-Write g c =
     record {
       step = λ m. subst (λ (line : Line). AnswersAs m c.args.self.now c.write.new.self line c.write.result) (sym c.in-Write.is) (c.write.ensures.step m);
       stores = c.write.ensures.stores;
@@ -49,7 +58,7 @@ returns-in-Write c =
     }
 
 pub returns-in-Freeze : goal.returns-in-Freeze
-returns-in-Freeze c =
+returns-in-Freeze g c =
     record {
       step = λ m. subst (λ (line : Line). AnswersAs m c.args.self.now c.freeze.new.self line c.freeze.result) (sym c.in-Freeze.is) (c.freeze.ensures.step m);
       stores = c.freeze.ensures.stores;
@@ -58,7 +67,7 @@ returns-in-Freeze c =
     }
 
 pub returns-in-Rollback : goal.returns-in-Rollback
-returns-in-Rollback c =
+returns-in-Rollback g c =
     record {
       step = λ m. subst (λ (line : Line). AnswersAs m c.args.self.now c.rollback.new.self line (Ok c.rollback.result)) (sym c.in-Rollback.is) (c.rollback.ensures.step m);
       stores = c.rollback.ensures.stores;
@@ -67,7 +76,7 @@ returns-in-Rollback c =
     }
 
 pub returns-in-Put : goal.returns-in-Put
-returns-in-Put c =
+returns-in-Put g c =
     record {
       step = λ m. subst (λ (line : Line). AnswersAs m c.args.self.now c.put.new.self line c.put.result) (sym c.in-Put.is) (c.put.ensures.step m);
       stores = c.put.ensures.stores;
@@ -76,7 +85,7 @@ returns-in-Put c =
     }
 
 pub returns-in-Delete : goal.returns-in-Delete
-returns-in-Delete c =
+returns-in-Delete g c =
     record {
       step = λ m. subst (λ (line : Line). AnswersAs m c.args.self.now c.delete.new.self line c.delete.result) (sym c.in-Delete.is) (c.delete.ensures.step m);
       stores = c.delete.ensures.stores;
@@ -85,7 +94,7 @@ returns-in-Delete c =
     }
 
 pub returns-in-Mark : goal.returns-in-Mark
-returns-in-Mark c =
+returns-in-Mark g c =
     record {
       step = λ m. subst (λ (line : Line). AnswersAs m c.args.self.now c.mark.new.self line c.mark.result) (sym c.in-Mark.is) (c.mark.ensures.step m);
       stores = c.mark.ensures.stores;
@@ -94,7 +103,7 @@ returns-in-Mark c =
     }
 
 pub returns-in-Unmark : goal.returns-in-Unmark
-returns-in-Unmark c =
+returns-in-Unmark g c =
     record {
       step = λ m. subst (λ (line : Line). AnswersAs m c.args.self.now c.unmark.new.self line c.unmark.result) (sym c.in-Unmark.is) (c.unmark.ensures.step m);
       stores = c.unmark.ensures.stores;
@@ -103,7 +112,7 @@ returns-in-Unmark c =
     }
 
 pub returns-in-Commit : goal.returns-in-Commit
-returns-in-Commit c =
+returns-in-Commit g c =
     record {
       step = λ m. subst (λ (line : Line). AnswersAs m c.args.self.now c.commit.new.self line c.commit.result) (sym c.in-Commit.is) (c.commit.ensures.step m);
       stores = c.commit.ensures.stores;
@@ -112,4 +121,4 @@ returns-in-Commit c =
     }
 
 pub returns-in-Journal-clause-step : goal.returns-in-Journal-clause-step
-returns-in-Journal-clause-step c m = subst (λ (line : Line). AnswersAs m c.args.self.now c.args.self.now line c.journal.result) (sym c.in-Journal.is) (c.journal.ensures.step m)
+returns-in-Journal-clause-step g c m = subst (λ (line : Line). AnswersAs m c.args.self.now c.args.self.now line c.journal.result) (sym c.in-Journal.is) (c.journal.ensures.step m)

@@ -1,4 +1,4 @@
-use Rattle.std.proofs.Common.{arith, ◌≡◌, cond, Some, None, is_some, Ok, refl, sym, subst, ap, ◌∙◌, inl}
+use Rattle.std.proofs.Common.{arith, ◌≡◌, cond, Some, Ok, refl, sym, subst, ap, ◌∙◌, inl}
 use Rattle.std.proofs.lemmas.Result.{IfOk-from_err, err_from_is_err_and}
 use Rattle.std.specs.Map.{lookup}
 use Rattle.std.specs.BTreeMap.{is_at}
@@ -9,22 +9,18 @@ use Rattle.slate_txn.specs.declared.line.Line.TheVariants as lines
 use Rattle.slate_db.specs.Meaning.{rules_of}
 use Rattle.slate_language.specs.declared.reply.Answer.TheVariants as answers
 use Rattle.slate_types.specs.declared.error.SlateDBError.TheVariants as errors
-use Rattle.slate_script.specs.Session.{SessionModel, AreNames, AnswersAs, Grows, StoresNothing}
-use Rattle.slate_script.proofs.NamesLaws.{find_named-lookup, named-after, none-found}
+use Rattle.slate_script.specs.Session.{SessionModel, AnswersAs, Grows, NamesStand, StoresNothing, reader_id}
+use Rattle.slate_script.proofs.NamesLaws.{named-after}
 use Rattle.slate_script.proofs.SessionNames.{opens-fresh, names-begun, names-opened}
-use Rattle.slate_script.proofs.SessionSteps.{IsNamed, named-by, begin-refused, begin-opens, plain-meaning}
+use Rattle.slate_script.proofs.SessionSteps.{ReadsUnder, begin-refused, begin-opens, plain-meaning, unnamed}
 use Rattle.slate_script.proofs.SessionLeaves.{leaves-event, stores}
 use Rattle.slate_script.proofs.Growth.{grows, takes-event, opened-more, opened-own}
 use Rattle.slate_script.proofs.session.Session.begin.Goals as goal
 
-pub returns-then-contains_key : goal.returns-then-contains_key
-returns-then-contains_key c =
+pub returns-then-is_some : goal.returns-then-is_some
+returns-then-is_some c =
     record {
-      step = (λ m.
-          let before : SessionModel = record { core = c.self.inside.core; names = c.self.inside.names.entries; now = c.self.inside.now } in
-          let named : IsNamed (find_named c.args.name before.names) = named-by (find_named c.args.name before.names) (ap is_some (find_named-lookup c.args.name before.names) ∙ sym c.if-contains_key.ensures) in
-          subst (λ (v : SessionModel). AnswersAs m v v (lines.Begin c.args.name c.args.level) (Ok (answers.Refused (errors.DuplicateTransaction c.args.name)))) c.self.view_is
-          (begin-refused m before c.args.name named.value c.args.level c.self.invariant.0 named.is));
+      step = λ m. begin-refused m c.args.self.now c.args.name c.args.level c.reader_id.result c.reader_id.ensures.reads c.reader_id.ensures.known (sym c.if-is_some.ensures);
       stores = record { settings = refl; runs = refl; later = omega arith; kept = λ m k. k };
       grows = (omega arith, omega arith);
       cause = tt;
@@ -32,17 +28,17 @@ returns-then-contains_key c =
 
 pub invariant_of-self-in_err-insert : goal.invariant_of-self-in_err-insert
 invariant_of-self-in_err-insert c =
-    let old : AreNames c.self.inside.names.entries c.begin.new.self.state.txns =
-    names-begun c.self.inside.names.entries (opens-fresh (rules_of c.self.inside.core.settings plain-meaning) c.self.inside.core.state c.begin.new.self.state c.in_ok-id.id c.args.level c.in_ok-id.start (c.in_ok-id.ensures.step plain-meaning)) c.self.invariant.0 in
-    (subst (λ es. AreNames es c.begin.new.self.state.txns) (sym c.in_err-insert.ensures.err) old, c.self.invariant.1)
+    let old : NamesStand c.self.inside.names.entries c.self.inside.snapshot_names.entries c.begin.new.self.state.txns c.begin.new.self.state.snapshots =
+    names-begun c.self.inside.names.entries c.self.inside.snapshot_names.entries (opens-fresh (rules_of c.self.inside.core.settings plain-meaning) c.self.inside.core.state c.begin.new.self.state c.in_ok-id.id c.args.level c.in_ok-id.start (c.in_ok-id.ensures.step plain-meaning)) c.self.invariant.0 in
+    (subst (λ es. NamesStand es c.self.inside.snapshot_names.entries c.begin.new.self.state.txns c.begin.new.self.state.snapshots) (sym c.in_err-insert.ensures.err) old, c.self.invariant.1)
 
 pub invariant_of-self-2 : goal.invariant_of-self-2
 invariant_of-self-2 c =
-    let names = c.self.inside.names.entries in
-    let none : find_named c.args.name names ≡ None = none-found (find_named c.args.name names) (ap is_some (find_named-lookup c.args.name names) ∙ sym c.if-contains_key.ensures) in (
-      names-opened c.args.name names c.insert.new.self.entries (opens-fresh (rules_of c.self.inside.core.settings plain-meaning) c.self.inside.core.state c.begin.new.self.state c.in_ok-id.id c.args.level c.in_ok-id.start (c.in_ok-id.ensures.step plain-meaning)) c.self.invariant.0
-          (λ q. named-after c.args.name q (Some c.in_ok-id.id) names c.insert.new.self.entries
-          (c.in_ok-insert.ensures.updates.0 q ∙ ap (λ k. cond (is_at (key_cmp k) q) (Some c.in_ok-id.id) (lookup (is_at (key_cmp q)) names)) c.in_ok-key.ensures.cases)),
+    let before : SessionModel = record { core = c.self.inside.core; names = c.self.inside.names.entries; snapshot_names = c.self.inside.snapshot_names.entries; now = c.self.inside.now } in
+    let shut = unnamed before c.args.name c.reader_id.result (c.reader_id.ensures.id ∙ ap (λ (v : SessionModel). reader_id v c.args.name) (sym c.self.view_is)) (sym c.if-is_some.ensures) in (
+      names-opened c.args.name before.names c.insert.new.self.entries before.snapshot_names (opens-fresh (rules_of c.self.inside.core.settings plain-meaning) c.self.inside.core.state c.begin.new.self.state c.in_ok-id.id c.args.level c.in_ok-id.start (c.in_ok-id.ensures.step plain-meaning)) shut.1
+          (λ q. named-after c.args.name q (Some c.in_ok-id.id) before.names c.insert.new.self.entries
+          (c.in_ok-insert.ensures.updates.0 q ∙ ap (λ k. cond (is_at (key_cmp k) q) (Some c.in_ok-id.id) (lookup (is_at (key_cmp q)) before.names)) c.in_ok-key.ensures.cases)) c.self.invariant.0,
       c.self.invariant.1,
     )
 
@@ -50,25 +46,23 @@ pub returns : goal.returns
 returns c =
     record {
       step = (λ m.
-          let before : SessionModel = record { core = c.self.inside.core; names = c.self.inside.names.entries; now = c.self.inside.now } in
-          let none : find_named c.args.name before.names ≡ None = none-found (find_named c.args.name before.names) (ap is_some (find_named-lookup c.args.name before.names) ∙ sym c.if-contains_key.ensures) in
+          let before : SessionModel = record { core = c.self.inside.core; names = c.self.inside.names.entries; snapshot_names = c.self.inside.snapshot_names.entries; now = c.self.inside.now } in
           subst (λ (v : SessionModel). AnswersAs m v (record before { core = c.begin.new.self; names = c.insert.new.self.entries }) (lines.Begin c.args.name c.args.level) (Ok (answers.Begun c.args.name c.in_ok-id.start))) c.self.view_is
-          (begin-opens m before c.begin.new.self c.insert.new.self.entries c.args.name c.in_ok-id.id c.args.level c.in_ok-id.start c.self.invariant.0 none
+          (begin-opens m before c.begin.new.self c.insert.new.self.entries c.args.name c.in_ok-id.id c.args.level c.in_ok-id.start c.reader_id.result c.self.invariant.0
+          (c.reader_id.ensures.id ∙ ap (λ (v : SessionModel). reader_id v c.args.name) (sym c.self.view_is)) (subst (λ (v : SessionModel). ReadsUnder v c.args.name c.reader_id.result) (sym c.self.view_is) c.reader_id.ensures.reads) (sym c.if-is_some.ensures)
           (opens-fresh (rules_of before.core.settings m) before.core.state c.begin.new.self.state c.in_ok-id.id c.args.level c.in_ok-id.start (c.in_ok-id.ensures.step m))
           (λ q. named-after c.args.name q (Some c.in_ok-id.id) before.names c.insert.new.self.entries
           (c.in_ok-insert.ensures.updates.0 q ∙ ap (λ k. cond (is_at (key_cmp k) q) (Some c.in_ok-id.id) (lookup (is_at (key_cmp q)) before.names)) c.in_ok-key.ensures.cases))));
-      stores = (let before : SessionModel = record { core = c.self.inside.core; names = c.self.inside.names.entries; now = c.self.inside.now } in
+      stores = (let before : SessionModel = record { core = c.self.inside.core; names = c.self.inside.names.entries; snapshot_names = c.self.inside.snapshot_names.entries; now = c.self.inside.now } in
           subst (λ (v : SessionModel). StoresNothing v (record before { core = c.begin.new.self; names = c.insert.new.self.entries })) c.self.view_is
-          (stores before c.begin.new.self c.insert.new.self.entries before.now
+          (stores before c.begin.new.self c.insert.new.self.entries before.snapshot_names before.now
           (leaves-event c.self.inside.core c.begin.new.self (events.Begin c.in_ok-id.id c.args.level c.in_ok-id.start) c.in_ok-id.ensures.event refl) c.in_ok-id.ensures.kept));
-      grows = (let before : SessionModel = record { core = c.self.inside.core; names = c.self.inside.names.entries; now = c.self.inside.now } in
+      grows = (let before : SessionModel = record { core = c.self.inside.core; names = c.self.inside.names.entries; snapshot_names = c.self.inside.snapshot_names.entries; now = c.self.inside.now } in
           subst (λ (v : SessionModel). Grows (lines.Begin c.args.name c.args.level) v (record before { core = c.begin.new.self; names = c.insert.new.self.entries })) c.self.view_is
-          (grows before c.begin.new.self c.insert.new.self.entries before.now (lines.Begin c.args.name c.args.level) 0 (omega arith)
+          (grows before c.begin.new.self c.insert.new.self.entries before.snapshot_names before.now (lines.Begin c.args.name c.args.level) 0 (omega arith)
           (takes-event c.self.inside.core c.begin.new.self (events.Begin c.in_ok-id.id c.args.level c.in_ok-id.start) c.in_ok-id.ensures.event
-          (opened-more (rules_of c.self.inside.core.settings plain-meaning) c.self.inside.core.state c.begin.new.self.state c.in_ok-id.id c.args.level c.in_ok-id.start
-          (opens-fresh (rules_of c.self.inside.core.settings plain-meaning) c.self.inside.core.state c.begin.new.self.state c.in_ok-id.id c.args.level c.in_ok-id.start (c.in_ok-id.ensures.step plain-meaning)))
-          (opened-own (rules_of c.self.inside.core.settings plain-meaning) c.self.inside.core.state c.begin.new.self.state c.in_ok-id.id c.args.level c.in_ok-id.start
-          (opens-fresh (rules_of c.self.inside.core.settings plain-meaning) c.self.inside.core.state c.begin.new.self.state c.in_ok-id.id c.args.level c.in_ok-id.start (c.in_ok-id.ensures.step plain-meaning))))));
+          (opened-more (rules_of c.self.inside.core.settings plain-meaning) c.self.inside.core.state c.begin.new.self.state c.in_ok-id.id c.args.level c.in_ok-id.start (opens-fresh (rules_of c.self.inside.core.settings plain-meaning) c.self.inside.core.state c.begin.new.self.state c.in_ok-id.id c.args.level c.in_ok-id.start (c.in_ok-id.ensures.step plain-meaning)))
+          (opened-own (rules_of c.self.inside.core.settings plain-meaning) c.self.inside.core.state c.begin.new.self.state c.in_ok-id.id c.args.level c.in_ok-id.start (opens-fresh (rules_of c.self.inside.core.settings plain-meaning) c.self.inside.core.state c.begin.new.self.state c.in_ok-id.id c.args.level c.in_ok-id.start (c.in_ok-id.ensures.step plain-meaning))))));
       cause = tt;
     }
 

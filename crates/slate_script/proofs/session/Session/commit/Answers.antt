@@ -13,7 +13,7 @@ use Rattle.slate_language.specs.declared.reply.Answer.{Answer}
 use Rattle.slate_language.specs.declared.reply.Answer.TheVariants as answers
 use Rattle.slate_types.specs.declared.error.SlateDBError.{SlateDBError}
 use Rattle.slate_types.specs.declared.error.SlateDBError.TheVariants as errors
-use Rattle.slate_script.specs.Session.{SessionModel, AreNames, AnswersAs, Grows, IsLimit, StoresNothing}
+use Rattle.slate_script.specs.Session.{SessionModel, AnswersAs, Grows, IsLimit, NamesStand, StoresNothing}
 use Rattle.slate_script.proofs.NamesLaws.{find_named-lookup, named-after}
 use Rattle.slate_script.proofs.SessionNames.{names-closed}
 use Rattle.slate_script.proofs.SessionSteps.{IsNamed, given-moment, named-of}
@@ -25,10 +25,10 @@ use Rattle.slate_script.proofs.session.Session.commit.Goals as goal
 use Rattle.slate_script.proofs.session.Session.commit.Goals.{in-Ok, in-Err}
 
 pub returns-in_default : goal.returns-in_default
-returns-in_default c =
+returns-in_default g c =
     record {
       step = (λ m.
-          let before : SessionModel = record { core = c.self.inside.core; names = c.self.inside.names.entries; now = c.self.inside.now } in
+          let before : SessionModel = record { core = c.self.inside.core; names = c.self.inside.names.entries; snapshot_names = c.self.inside.snapshot_names.entries; now = c.self.inside.now } in
           let none : find_named c.args.name before.names ≡ None = find_named-lookup c.args.name before.names ∙ sym c.in_default.ensures.value in
           subst (λ (v : SessionModel). AnswersAs m v (record before { names = c.remove.new.self.entries }) (lines.Commit c.args.name) (Ok (answers.Refused (errors.UnknownTransaction c.args.name)))) c.self.view_is
           (subst (λ (ns : List (List ℕ × List ℕ)). AnswersAs m before (record before { names = ns }) (lines.Commit c.args.name) (Ok (answers.Refused (errors.UnknownTransaction c.args.name)))) (sym c.in_default.ensures.unchanged)
@@ -40,36 +40,37 @@ returns-in_default c =
             later = omega (arith, same);
             kept = λ m k. subst (λ (v : SessionModel). IsKept m v.core) (sym c.self.view_is) k;
           });
-      grows = (let before : SessionModel = record { core = c.self.inside.core; names = c.self.inside.names.entries; now = c.self.inside.now } in
+      grows = (let before : SessionModel = record { core = c.self.inside.core; names = c.self.inside.names.entries; snapshot_names = c.self.inside.snapshot_names.entries; now = c.self.inside.now } in
           subst (λ (v : SessionModel). Grows (lines.Commit c.args.name) v (record before { names = c.remove.new.self.entries })) c.self.view_is (omega arith, omega arith));
       cause = tt;
     }
 
 pub commit-requires : goal.commit-requires
-commit-requires c = c.self.invariant.0.opened c.args.name c.in-Some.id (find_named-lookup c.args.name c.self.inside.names.entries ∙ sym c.in-Some.ensures.value)
+commit-requires g c = (search, (search, c.self.invariant.0.transactions.opened c.args.name c.in-Some.id (find_named-lookup c.args.name c.self.inside.names.entries ∙ sym c.in-Some.ensures.value)))
 
 pub invariant_of-self-2 : goal.invariant_of-self-2
-invariant_of-self-2 c =
-    let before : SessionModel = record { core = c.self.inside.core; names = c.self.inside.names.entries; now = c.self.inside.now } in
+invariant_of-self-2 g c =
+    let before : SessionModel = record { core = c.self.inside.core; names = c.self.inside.names.entries; snapshot_names = c.self.inside.snapshot_names.entries; now = c.self.inside.now } in
     let id = c.in-Some.id in
     let known : find_named c.args.name before.names ≡ Some id = find_named-lookup c.args.name before.names ∙ sym c.in-Some.ensures.value in
-    let t : IsNamed (find_named id before.core.state.txns) = named-of (find_named id before.core.state.txns) (c.self.invariant.0.opened c.args.name id known) in
+    let t : IsNamed (find_named id before.core.state.txns) = named-of (find_named id before.core.state.txns) (c.self.invariant.0.transactions.opened c.args.name id known) in
     let closed : Closes before.core c.commit.new.self id = elim c.match-commit.branch [
       | in-Ok w ↦ closes-committed before.core c.commit.new.self id w.in-Ok.seq _ t.value (w.in-Ok.ensures.event t.value t.is)
       | in-Err w ↦ closes-ended before.core c.commit.new.self id w.in-Err.ensures.ended
     ] in
     let updates : (q : List ℕ) → find_named q c.remove.new.self.entries ≡ cond (bytes_eq c.args.name q) None (find_named q before.names) = λ q. named-after c.args.name q None before.names c.remove.new.self.entries (c.remove.ensures.updates.0 q) in (
-      subst (λ (ts : List (List ℕ × Tx)). AreNames c.remove.new.self.entries ts) (sym closed.txns)
-          (names-closed c.args.name id before.names c.remove.new.self.entries before.core.state.txns c.self.invariant.0 known updates),
+      subst (λ (ts : List (List ℕ × Tx)). NamesStand c.remove.new.self.entries before.snapshot_names ts c.commit.new.self.state.snapshots) (sym closed.txns)
+          (subst (λ (ss : List (List ℕ × ℕ)). NamesStand c.remove.new.self.entries before.snapshot_names (without id before.core.state.txns) ss) (sym closed.snapshots)
+          (names-closed c.args.name id before.names c.remove.new.self.entries before.snapshot_names before.core.state.txns before.core.state.snapshots c.self.invariant.0 known updates)),
       c.self.invariant.1,
     )
 
 pub returns-clause-step : goal.returns-clause-step
-returns-clause-step c m =
-    let before : SessionModel = record { core = c.self.inside.core; names = c.self.inside.names.entries; now = c.self.inside.now } in
+returns-clause-step g c m =
+    let before : SessionModel = record { core = c.self.inside.core; names = c.self.inside.names.entries; snapshot_names = c.self.inside.snapshot_names.entries; now = c.self.inside.now } in
     let id = c.in-Some.id in
     let known : find_named c.args.name before.names ≡ Some id = find_named-lookup c.args.name before.names ∙ sym c.in-Some.ensures.value in
-    let t : IsNamed (find_named id before.core.state.txns) = named-of (find_named id before.core.state.txns) (c.self.invariant.0.opened c.args.name id known) in
+    let t : IsNamed (find_named id before.core.state.txns) = named-of (find_named id before.core.state.txns) (c.self.invariant.0.transactions.opened c.args.name id known) in
     let closed : Closes before.core c.commit.new.self id = elim c.match-commit.branch [
       | in-Ok w ↦ closes-committed before.core c.commit.new.self id w.in-Ok.seq _ t.value (w.in-Ok.ensures.event t.value t.is)
       | in-Err w ↦ closes-ended before.core c.commit.new.self id w.in-Err.ensures.ended
@@ -79,48 +80,48 @@ returns-clause-step c m =
     subst (λ (v : SessionModel). AnswersAs m v after (lines.Commit c.args.name) c.match-commit.result) c.self.view_is
     (elim c.match-commit.branch [
       | in-Ok w ↦ subst (λ (r : Result Answer SlateDBError). AnswersAs m before after (lines.Commit c.args.name) r) (sym w.result-is)
-          (commit-as m before c.commit.new.self c.remove.new.self.entries c.args.name id (answers.Committed w.in-Ok.seq) c.self.invariant.0 known closed.txns closed.flushed updates
+          (commit-as m before c.commit.new.self c.remove.new.self.entries c.args.name id (answers.Committed w.in-Ok.seq) c.self.invariant.0 known closed.txns closed.snapshots closed.flushed updates
           (commit-moment (rules_of before.core.settings m) before.core c.commit.new.self id (Committed w.in-Ok.seq) (given-moment c.self.inside.now c.self.invariant.1) (w.in-Ok.ensures.step m)))
       | in-Err w ↦ subst (λ (r : Result Answer SlateDBError). AnswersAs m before after (lines.Commit c.args.name) r) (sym w.result-is)
           (refused-as m before c.commit.new.self c.remove.new.self.entries c.args.name id w.in-Err.error w.refused.result
-          (λ a. commit-as m before c.commit.new.self c.remove.new.self.entries c.args.name id a c.self.invariant.0 known closed.txns closed.flushed updates)
+          (λ a. commit-as m before c.commit.new.self c.remove.new.self.entries c.args.name id a c.self.invariant.0 known closed.txns closed.snapshots closed.flushed updates)
           w.refused.ensures.reply w.refused.ensures.answered
           (refused-moment m before.core c.commit.new.self id w.in-Err.error (given-moment c.self.inside.now c.self.invariant.1) w.in-Err.ensures.refused))
     ])
 
 pub returns-clause-stores : goal.returns-clause-stores
-returns-clause-stores c =
-    let before : SessionModel = record { core = c.self.inside.core; names = c.self.inside.names.entries; now = c.self.inside.now } in
+returns-clause-stores g c =
+    let before : SessionModel = record { core = c.self.inside.core; names = c.self.inside.names.entries; snapshot_names = c.self.inside.snapshot_names.entries; now = c.self.inside.now } in
     let id = c.in-Some.id in
     let known : find_named c.args.name before.names ≡ Some id = find_named-lookup c.args.name before.names ∙ sym c.in-Some.ensures.value in
-    let t : IsNamed (find_named id before.core.state.txns) = named-of (find_named id before.core.state.txns) (c.self.invariant.0.opened c.args.name id known) in
+    let t : IsNamed (find_named id before.core.state.txns) = named-of (find_named id before.core.state.txns) (c.self.invariant.0.transactions.opened c.args.name id known) in
     let closed : Closes before.core c.commit.new.self id = elim c.match-commit.branch [
       | in-Ok w ↦ closes-committed before.core c.commit.new.self id w.in-Ok.seq _ t.value (w.in-Ok.ensures.event t.value t.is)
       | in-Err w ↦ closes-ended before.core c.commit.new.self id w.in-Err.ensures.ended
     ] in
     subst (λ (v : SessionModel). OnOk c.match-commit.result (StoresNothing v (record before { core = c.commit.new.self; names = c.remove.new.self.entries }))) c.self.view_is
-    (always c.match-commit.result (stores before c.commit.new.self c.remove.new.self.entries before.now (leaves-closed before.core c.commit.new.self id closed) c.commit.ensures.kept))
+    (always c.match-commit.result (stores before c.commit.new.self c.remove.new.self.entries before.snapshot_names before.now (leaves-closed before.core c.commit.new.self id closed) c.commit.ensures.kept))
 
 pub returns-clause-grows : goal.returns-clause-grows
-returns-clause-grows c =
-    let before : SessionModel = record { core = c.self.inside.core; names = c.self.inside.names.entries; now = c.self.inside.now } in
+returns-clause-grows g c =
+    let before : SessionModel = record { core = c.self.inside.core; names = c.self.inside.names.entries; snapshot_names = c.self.inside.snapshot_names.entries; now = c.self.inside.now } in
     let id = c.in-Some.id in
     let known : find_named c.args.name before.names ≡ Some id = find_named-lookup c.args.name before.names ∙ sym c.in-Some.ensures.value in
-    let t : IsNamed (find_named id before.core.state.txns) = named-of (find_named id before.core.state.txns) (c.self.invariant.0.opened c.args.name id known) in
+    let t : IsNamed (find_named id before.core.state.txns) = named-of (find_named id before.core.state.txns) (c.self.invariant.0.transactions.opened c.args.name id known) in
     let closed : Closes before.core c.commit.new.self id = elim c.match-commit.branch [
       | in-Ok w ↦ closes-committed before.core c.commit.new.self id w.in-Ok.seq _ t.value (w.in-Ok.ensures.event t.value t.is)
       | in-Err w ↦ closes-ended before.core c.commit.new.self id w.in-Err.ensures.ended
     ] in
     subst (λ (v : SessionModel). OnOk c.match-commit.result (Grows (lines.Commit c.args.name) v (record before { core = c.commit.new.self; names = c.remove.new.self.entries }))) c.self.view_is
-    (always c.match-commit.result (grows before c.commit.new.self c.remove.new.self.entries before.now (lines.Commit c.args.name) 0 (omega arith)
+    (always c.match-commit.result (grows before c.commit.new.self c.remove.new.self.entries before.snapshot_names before.now (lines.Commit c.args.name) 0 (omega arith)
     (takes-closed before.core c.commit.new.self id t.value closed t.is (c.commit.ensures.load t.value t.is))))
 
 pub returns-clause-cause : goal.returns-clause-cause
-returns-clause-cause c =
-    let before : SessionModel = record { core = c.self.inside.core; names = c.self.inside.names.entries; now = c.self.inside.now } in
+returns-clause-cause g c =
+    let before : SessionModel = record { core = c.self.inside.core; names = c.self.inside.names.entries; snapshot_names = c.self.inside.snapshot_names.entries; now = c.self.inside.now } in
     let id = c.in-Some.id in
     let known : find_named c.args.name before.names ≡ Some id = find_named-lookup c.args.name before.names ∙ sym c.in-Some.ensures.value in
-    let t : IsNamed (find_named id before.core.state.txns) = named-of (find_named id before.core.state.txns) (c.self.invariant.0.opened c.args.name id known) in
+    let t : IsNamed (find_named id before.core.state.txns) = named-of (find_named id before.core.state.txns) (c.self.invariant.0.transactions.opened c.args.name id known) in
     elim c.match-commit.branch [
       | in-Ok w ↦ subst (λ (r : Result Answer SlateDBError). IfErr r (λ e. (e ≡ errors.OutOfMemory) ⊎ IsLimit c.args.self.now e)) (sym w.result-is) tt
       | in-Err w ↦ subst (λ (r : Result Answer SlateDBError). IfErr r (λ e. (e ≡ errors.OutOfMemory) ⊎ IsLimit c.args.self.now e)) (sym w.result-is)

@@ -24,16 +24,16 @@ pub returns : goal.returns
 returns g c =
     record {
       step = (λ m.
-          let before : SessionModel = record { core = c.self.inside.core; names = c.self.inside.names.entries; now = c.self.inside.now } in
+          let before : SessionModel = record { core = c.self.inside.core; names = c.self.inside.names.entries; snapshot_names = c.self.inside.snapshot_names.entries; now = c.self.inside.now } in
           subst (λ (v : SessionModel). AnswersAs m v (record before { core = c.flush.new.self }) lines.Flush (Ok (answers.Flushed c.in_ok-seq.seq))) c.self.view_is
           (flush-as m before c.flush.new.self c.in_ok-seq.seq (c.in_ok-seq.ensures.step m)));
       settings = c.flush.ensures.settings ∙ ap (λ (v : SessionModel). v.core.settings) c.self.view_is;
-      grows = (let before : SessionModel = record { core = c.self.inside.core; names = c.self.inside.names.entries; now = c.self.inside.now } in
+      grows = (let before : SessionModel = record { core = c.self.inside.core; names = c.self.inside.names.entries; snapshot_names = c.self.inside.snapshot_names.entries; now = c.self.inside.now } in
           subst (λ (v : SessionModel). Grows lines.Flush v (record before { core = c.flush.new.self })) c.self.view_is
-          (grows before c.flush.new.self before.names before.now lines.Flush 0 (omega arith)
+          (grows before c.flush.new.self before.names before.snapshot_names before.now lines.Flush 0 (omega arith)
           (takes-flushed _ _ c.self.inside.core c.in_ok-seq.ensures.installed.0 c.flush.new.self c.in_ok-seq.seq _ _ c.in_ok-seq.ensures.installed.1 c.in_ok-seq.ensures.installed.2 c.in_ok-seq.ensures.taken.0 c.in_ok-seq.ensures.taken.1)));
       kept = (λ settled.
-          let before : SessionModel = record { core = c.self.inside.core; names = c.self.inside.names.entries; now = c.self.inside.now } in
+          let before : SessionModel = record { core = c.self.inside.core; names = c.self.inside.names.entries; snapshot_names = c.self.inside.snapshot_names.entries; now = c.self.inside.now } in
           let m = meaning_of g.M.MergeOperator.combine g.T.BlockTransformer.encoded g.T.BlockTransformer.decoded c.args.env.now.operator c.args.env.now.transformer in
           let encode = changed_by g.T.BlockTransformer.encoded c.args.env.now.transformer in
           let went : c.flush.result ≡ Ok c.in_ok-seq.seq = grind (arith, c.branch-seq.ensures, c.in_ok-seq.is) in
@@ -45,7 +45,7 @@ returns g c =
           (subst (λ (v : SessionModel). IsSettled m old v) (sym c.self.view_is) settled));
       alone = (λ settled alone.
           let m = meaning_of g.M.MergeOperator.combine g.T.BlockTransformer.encoded g.T.BlockTransformer.decoded c.args.env.now.operator c.args.env.now.transformer in
-          let layout = layout_of c.args.options.now in
+          let layout = layout_of c.args.laws.now.options in
           let went : c.flush.result ≡ Ok c.in_ok-seq.seq = grind (arith, c.branch-seq.ensures, c.in_ok-seq.is) in
           let old = g.S.Store.objects c.args.env.now.store.now in
           flush-alone m layout c.self.inside.core c.in_ok-seq.ensures.installed.0 c.flush.new.self c.in_ok-seq.seq old (g.S.Store.objects c.flush.new.env.store.now)
@@ -54,7 +54,7 @@ returns g c =
           (has-room LIMIT _ _ _ c.flush.result c.in_ok-seq.seq (LimitReached LIMIT) went c.flush.ensures.limit)
           (subst (λ (v : SessionModel). HasTablesAlone m layout old (runs_of v.core.events)) (sym c.self.view_is) alone));
       follows = (λ os settled.
-          let before : SessionModel = record { core = c.self.inside.core; names = c.self.inside.names.entries; now = c.self.inside.now } in
+          let before : SessionModel = record { core = c.self.inside.core; names = c.self.inside.names.entries; snapshot_names = c.self.inside.snapshot_names.entries; now = c.self.inside.now } in
           let m = meaning_of g.M.MergeOperator.combine g.T.BlockTransformer.encoded g.T.BlockTransformer.decoded c.args.env.now.operator c.args.env.now.transformer in
           let went : c.flush.result ≡ Ok c.in_ok-seq.seq = grind (arith, c.branch-seq.ensures, c.in_ok-seq.is) in
           follows-flush m (changed_by g.T.BlockTransformer.encoded c.args.env.now.transformer) _ os _ _ before c.in_ok-seq.ensures.installed.0 c.flush.new.self c.in_ok-seq.seq (g.S.Store.acts c.args.env.now.store.now) (g.S.Store.acts c.flush.new.env.store.now)
@@ -81,6 +81,6 @@ returns-in_err-seq g c =
       cause = (let old = reach_of g.S.Store g.M.MergeOperator g.T.BlockTransformer c.args.env.now in
           let new = reach_of g.S.Store g.M.MergeOperator g.T.BlockTransformer c.flush.new.env in
           rw (p.1, p.2) (subst (λ (v : SessionModel). IsFault old new c.in_err-seq.field-0.0 ⊎ IsLimit v c.in_err-seq.field-0.0) c.self.view_is
-          (flush-cause old new (layout_of c.args.options.now) (record { core = c.self.inside.core; names = c.self.inside.names.entries; now = c.self.inside.now }) c.in_err-seq.field-0.0 c.in_err-seq.ensures.cause)));
+          (flush-cause old new (layout_of c.args.laws.now.options) (record { core = c.self.inside.core; names = c.self.inside.names.entries; snapshot_names = c.self.inside.snapshot_names.entries; now = c.self.inside.now }) c.in_err-seq.field-0.0 c.in_err-seq.ensures.cause)));
       puts = c.flush.ensures.puts;
     }

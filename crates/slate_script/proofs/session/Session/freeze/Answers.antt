@@ -11,14 +11,14 @@ pub returns : goal.returns
 returns c =
     record {
       step = (λ m.
-          let before : SessionModel = record { core = c.self.inside.core; names = c.self.inside.names.entries; now = c.self.inside.now } in
+          let before : SessionModel = record { core = c.self.inside.core; names = c.self.inside.names.entries; snapshot_names = c.self.inside.snapshot_names.entries; now = c.self.inside.now } in
           subst (λ (v : SessionModel). AnswersAs m v (record before { core = c.freeze.new.self }) lines.Freeze (Ok (answers.Frozen c.in_ok-seq.seq))) c.self.view_is
           (freeze-as m before c.freeze.new.self c.in_ok-seq.seq (c.in_ok-seq.ensures.step m)));
-      stores = (let before : SessionModel = record { core = c.self.inside.core; names = c.self.inside.names.entries; now = c.self.inside.now } in
+      stores = (let before : SessionModel = record { core = c.self.inside.core; names = c.self.inside.names.entries; snapshot_names = c.self.inside.snapshot_names.entries; now = c.self.inside.now } in
           subst (λ (v : SessionModel). StoresNothing v (record before { core = c.freeze.new.self })) c.self.view_is
-          (stores before c.freeze.new.self before.names before.now (leaves-frozen c.self.inside.core c.freeze.new.self c.in_ok-seq.ensures.event) c.in_ok-seq.ensures.kept));
-      grows = (let before : SessionModel = record { core = c.self.inside.core; names = c.self.inside.names.entries; now = c.self.inside.now } in
+          (stores before c.freeze.new.self before.names before.snapshot_names before.now (leaves-frozen c.self.inside.core c.freeze.new.self c.in_ok-seq.ensures.event) c.in_ok-seq.ensures.kept));
+      grows = (let before : SessionModel = record { core = c.self.inside.core; names = c.self.inside.names.entries; snapshot_names = c.self.inside.snapshot_names.entries; now = c.self.inside.now } in
           subst (λ (v : SessionModel). Grows lines.Freeze v (record before { core = c.freeze.new.self })) c.self.view_is
-          (grows before c.freeze.new.self before.names before.now lines.Freeze 0 (omega arith) (takes-frozen c.self.inside.core c.freeze.new.self c.in_ok-seq.ensures.event)));
+          (grows before c.freeze.new.self before.names before.snapshot_names before.now lines.Freeze 0 (omega arith) (takes-frozen c.self.inside.core c.freeze.new.self c.in_ok-seq.ensures.event)));
       cause = tt;
     }

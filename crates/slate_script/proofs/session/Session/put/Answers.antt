@@ -18,7 +18,7 @@ pub returns-in_default : goal.returns-in_default
 returns-in_default c =
     record {
       step = (λ m.
-          let before : SessionModel = record { core = c.self.inside.core; names = c.self.inside.names.entries; now = c.self.inside.now } in
+          let before : SessionModel = record { core = c.self.inside.core; names = c.self.inside.names.entries; snapshot_names = c.self.inside.snapshot_names.entries; now = c.self.inside.now } in
           let none : find_named c.args.name before.names ≡ None = find_named-lookup c.args.name before.names ∙ sym c.in_default.ensures.value in
           subst (λ (v : SessionModel). AnswersAs m v v (lines.Put c.args.name c.args.key c.args.value c.args.ttl) (Ok (answers.Refused (errors.UnknownTransaction c.args.name)))) c.self.view_is
           (put-unknown m before c.args.name c.args.key c.args.value c.args.ttl none));
@@ -28,11 +28,11 @@ returns-in_default c =
     }
 
 pub put-put-requires : goal.put-put-requires
-put-put-requires c = c.self.invariant.0.opened c.args.name c.in-Some.id.now (find_named-lookup c.args.name c.self.inside.names.entries ∙ sym c.in-Some.ensures.value)
+put-put-requires c = c.self.invariant.0.transactions.opened c.args.name c.in-Some.id.now (find_named-lookup c.args.name c.self.inside.names.entries ∙ sym c.in-Some.ensures.value)
 
 pub invariant_of-self : goal.invariant_of-self
 invariant_of-self c = (
-  names-ran c.put-put.result c.self.inside.core c.put-put.new.self c.in-Some.id.now (with_op c.as_slice.result.now (ops.Put c.as_slice-2.result.now (record { ttl = c.args.ttl }))) c.self.inside.names.entries c.put-put.ensures.taken c.put-put.ensures.same c.self.invariant.0,
+  names-ran c.put-put.result c.self.inside.core c.put-put.new.self c.in-Some.id.now (with_op c.as_slice.result.now (ops.Put c.as_slice-2.result.now (record { ttl = c.args.ttl }))) c.self.inside.names.entries c.self.inside.snapshot_names.entries c.put-put.ensures.taken c.put-put.ensures.same c.self.invariant.0,
   c.self.invariant.1,
 )
 
@@ -40,24 +40,24 @@ pub returns : goal.returns
 returns c =
     record {
       step = (λ m.
-          let before : SessionModel = record { core = c.self.inside.core; names = c.self.inside.names.entries; now = c.self.inside.now } in
+          let before : SessionModel = record { core = c.self.inside.core; names = c.self.inside.names.entries; snapshot_names = c.self.inside.snapshot_names.entries; now = c.self.inside.now } in
           let known : find_named c.args.name before.names ≡ Some c.in-Some.id.now = find_named-lookup c.args.name c.self.inside.names.entries ∙ sym c.in-Some.ensures.value in
           subst (λ (v : SessionModel). AnswersAs m v (record before { core = c.put-put.new.self }) (lines.Put c.args.name c.args.key c.args.value c.args.ttl) c.done.result) c.self.view_is
           (subst (λ (x : List ℕ). AnswersAs m before (record before { core = c.put-put.new.self }) (lines.Put c.args.name c.args.key x c.args.ttl) c.done.result) c.as_slice-2.ensures
           (subst (λ (x : List ℕ). AnswersAs m before (record before { core = c.put-put.new.self }) (lines.Put c.args.name x c.as_slice-2.result.now c.args.ttl) c.done.result) c.as_slice.ensures
           (ran-as m before c.put-put.new.self (lines.Put c.in-Some.id.now c.as_slice.result.now c.as_slice-2.result.now c.args.ttl) (lines.Put c.args.name c.as_slice.result.now c.as_slice-2.result.now c.args.ttl) c.put-put.result c.done.result
-          (put-as m before c.put-put.new.self c.args.name c.in-Some.id.now c.as_slice.result.now c.as_slice-2.result.now c.args.ttl c.self.invariant.0 known)
+          (put-as m before c.put-put.new.self c.args.name c.in-Some.id.now c.as_slice.result.now c.as_slice-2.result.now c.args.ttl c.self.invariant.0.transactions known)
           c.put-put.ensures.step c.put-put.ensures.refused c.put-put.ensures.same c.done.ensures))));
-      stores = (let before : SessionModel = record { core = c.self.inside.core; names = c.self.inside.names.entries; now = c.self.inside.now } in
+      stores = (let before : SessionModel = record { core = c.self.inside.core; names = c.self.inside.names.entries; snapshot_names = c.self.inside.snapshot_names.entries; now = c.self.inside.now } in
           subst (λ (v : SessionModel). OnOk c.done.result (StoresNothing v (record before { core = c.put-put.new.self }))) c.self.view_is
-          (stores-where c.done.result before c.put-put.new.self (stores before c.put-put.new.self before.names before.now
+          (stores-where c.done.result before c.put-put.new.self (stores before c.put-put.new.self before.names before.snapshot_names before.now
           (leaves-ran c.put-put.result c.self.inside.core c.put-put.new.self c.in-Some.id.now (with_op c.as_slice.result.now (ops.Put c.as_slice-2.result.now (record { ttl = c.args.ttl }))) c.put-put.ensures.taken c.put-put.ensures.same) c.put-put.ensures.kept)));
-      grows = (let before : SessionModel = record { core = c.self.inside.core; names = c.self.inside.names.entries; now = c.self.inside.now } in
+      grows = (let before : SessionModel = record { core = c.self.inside.core; names = c.self.inside.names.entries; snapshot_names = c.self.inside.snapshot_names.entries; now = c.self.inside.now } in
           subst (λ (v : SessionModel). OnOk c.done.result (Grows (lines.Put c.args.name c.args.key c.args.value c.args.ttl) v (record before { core = c.put-put.new.self }))) c.self.view_is
           (subst (λ (x : List ℕ). OnOk c.done.result (Grows (lines.Put c.args.name c.args.key x c.args.ttl) before (record before { core = c.put-put.new.self }))) c.as_slice-2.ensures
           (subst (λ (x : List ℕ). OnOk c.done.result (Grows (lines.Put c.args.name x c.as_slice-2.result.now c.args.ttl) before (record before { core = c.put-put.new.self }))) c.as_slice.ensures
           (grows-where c.done.result (lines.Put c.args.name c.as_slice.result.now c.as_slice-2.result.now c.args.ttl) before (record before { core = c.put-put.new.self })
-          (grows before c.put-put.new.self before.names before.now (lines.Put c.args.name c.as_slice.result.now c.as_slice-2.result.now c.args.ttl) (op_load (c.as_slice.result.now, ops.Put c.as_slice-2.result.now (record { ttl = c.args.ttl }))) (omega arith)
+          (grows before c.put-put.new.self before.names before.snapshot_names before.now (lines.Put c.args.name c.as_slice.result.now c.as_slice-2.result.now c.args.ttl) (op_load (c.as_slice.result.now, ops.Put c.as_slice-2.result.now (record { ttl = c.args.ttl }))) (omega arith)
           (takes-ran c.put-put.result c.self.inside.core c.put-put.new.self c.in-Some.id.now (with_op c.as_slice.result.now (ops.Put c.as_slice-2.result.now (record { ttl = c.args.ttl }))) (op_load (c.as_slice.result.now, ops.Put c.as_slice-2.result.now (record { ttl = c.args.ttl }))) c.put-put.ensures.taken c.put-put.ensures.same (own-op c.as_slice.result.now (ops.Put c.as_slice-2.result.now (record { ttl = c.args.ttl })))))))));
       cause = ran-cause (λ e. IsLimit c.args.self.now e) c.put-put.result c.done.result c.done.ensures (op-cause c.put-put.result c.as_slice.result.now (ops.Put c.as_slice-2.result.now (record { ttl = c.args.ttl })) c.put-put.ensures.cause);
     }

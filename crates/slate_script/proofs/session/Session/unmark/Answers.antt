@@ -16,7 +16,7 @@ pub returns-in_default : goal.returns-in_default
 returns-in_default c =
     record {
       step = (λ m.
-          let before : SessionModel = record { core = c.self.inside.core; names = c.self.inside.names.entries; now = c.self.inside.now } in
+          let before : SessionModel = record { core = c.self.inside.core; names = c.self.inside.names.entries; snapshot_names = c.self.inside.snapshot_names.entries; now = c.self.inside.now } in
           let none : find_named c.args.name before.names ≡ None = find_named-lookup c.args.name before.names ∙ sym c.in_default.ensures.value in
           subst (λ (v : SessionModel). AnswersAs m v v (lines.Unmark c.args.name c.args.keys) (Ok (answers.Refused (errors.UnknownTransaction c.args.name)))) c.self.view_is
           (unmark-unknown m before c.args.name c.args.keys none));
@@ -26,11 +26,11 @@ returns-in_default c =
     }
 
 pub unmark_write-unmark-requires : goal.unmark_write-unmark-requires
-unmark_write-unmark-requires c = c.self.invariant.0.opened c.args.name c.in-Some.id.now (find_named-lookup c.args.name c.self.inside.names.entries ∙ sym c.in-Some.ensures.value)
+unmark_write-unmark-requires c = c.self.invariant.0.transactions.opened c.args.name c.in-Some.id.now (find_named-lookup c.args.name c.self.inside.names.entries ∙ sym c.in-Some.ensures.value)
 
 pub invariant_of-self : goal.invariant_of-self
 invariant_of-self c = (
-  names-ran c.unmark_write-unmark.result c.self.inside.core c.unmark_write-unmark.new.self c.in-Some.id.now (with_unmarks c.as_slice.result.now) c.self.inside.names.entries c.unmark_write-unmark.ensures.taken c.unmark_write-unmark.ensures.same c.self.invariant.0,
+  names-ran c.unmark_write-unmark.result c.self.inside.core c.unmark_write-unmark.new.self c.in-Some.id.now (with_unmarks c.as_slice.result.now) c.self.inside.names.entries c.self.inside.snapshot_names.entries c.unmark_write-unmark.ensures.taken c.unmark_write-unmark.ensures.same c.self.invariant.0,
   c.self.invariant.1,
 )
 
@@ -38,22 +38,22 @@ pub returns : goal.returns
 returns c =
     record {
       step = (λ m.
-          let before : SessionModel = record { core = c.self.inside.core; names = c.self.inside.names.entries; now = c.self.inside.now } in
+          let before : SessionModel = record { core = c.self.inside.core; names = c.self.inside.names.entries; snapshot_names = c.self.inside.snapshot_names.entries; now = c.self.inside.now } in
           let known : find_named c.args.name before.names ≡ Some c.in-Some.id.now = find_named-lookup c.args.name c.self.inside.names.entries ∙ sym c.in-Some.ensures.value in
           subst (λ (v : SessionModel). AnswersAs m v (record before { core = c.unmark_write-unmark.new.self }) (lines.Unmark c.args.name c.args.keys) c.done.result) c.self.view_is
           (subst (λ (x : List (List ℕ)). AnswersAs m before (record before { core = c.unmark_write-unmark.new.self }) (lines.Unmark c.args.name x) c.done.result) c.as_slice.ensures
           (ran-as m before c.unmark_write-unmark.new.self (lines.Unmark c.in-Some.id.now c.as_slice.result.now) (lines.Unmark c.args.name c.as_slice.result.now) c.unmark_write-unmark.result c.done.result
-          (unmark-as m before c.unmark_write-unmark.new.self c.args.name c.in-Some.id.now c.as_slice.result.now c.self.invariant.0 known)
+          (unmark-as m before c.unmark_write-unmark.new.self c.args.name c.in-Some.id.now c.as_slice.result.now c.self.invariant.0.transactions known)
           c.unmark_write-unmark.ensures.step (memory-refuses _ c.unmark_write-unmark.result c.unmark_write-unmark.ensures.cause) c.unmark_write-unmark.ensures.same c.done.ensures)));
-      stores = (let before : SessionModel = record { core = c.self.inside.core; names = c.self.inside.names.entries; now = c.self.inside.now } in
+      stores = (let before : SessionModel = record { core = c.self.inside.core; names = c.self.inside.names.entries; snapshot_names = c.self.inside.snapshot_names.entries; now = c.self.inside.now } in
           subst (λ (v : SessionModel). OnOk c.done.result (StoresNothing v (record before { core = c.unmark_write-unmark.new.self }))) c.self.view_is
-          (stores-where c.done.result before c.unmark_write-unmark.new.self (stores before c.unmark_write-unmark.new.self before.names before.now
+          (stores-where c.done.result before c.unmark_write-unmark.new.self (stores before c.unmark_write-unmark.new.self before.names before.snapshot_names before.now
           (leaves-ran c.unmark_write-unmark.result c.self.inside.core c.unmark_write-unmark.new.self c.in-Some.id.now (with_unmarks c.as_slice.result.now) c.unmark_write-unmark.ensures.taken c.unmark_write-unmark.ensures.same) c.unmark_write-unmark.ensures.kept)));
-      grows = (let before : SessionModel = record { core = c.self.inside.core; names = c.self.inside.names.entries; now = c.self.inside.now } in
+      grows = (let before : SessionModel = record { core = c.self.inside.core; names = c.self.inside.names.entries; snapshot_names = c.self.inside.snapshot_names.entries; now = c.self.inside.now } in
           subst (λ (v : SessionModel). OnOk c.done.result (Grows (lines.Unmark c.args.name c.args.keys) v (record before { core = c.unmark_write-unmark.new.self }))) c.self.view_is
           (subst (λ (x : List (List ℕ)). OnOk c.done.result (Grows (lines.Unmark c.args.name x) before (record before { core = c.unmark_write-unmark.new.self }))) c.as_slice.ensures
           (grows-where c.done.result (lines.Unmark c.args.name c.as_slice.result.now) before (record before { core = c.unmark_write-unmark.new.self })
-          (grows before c.unmark_write-unmark.new.self before.names before.now (lines.Unmark c.args.name c.as_slice.result.now) (0) (omega arith)
+          (grows before c.unmark_write-unmark.new.self before.names before.snapshot_names before.now (lines.Unmark c.args.name c.as_slice.result.now) (0) (omega arith)
           (takes-ran c.unmark_write-unmark.result c.self.inside.core c.unmark_write-unmark.new.self c.in-Some.id.now (with_unmarks c.as_slice.result.now) (0) c.unmark_write-unmark.ensures.taken c.unmark_write-unmark.ensures.same (λ t. omega arith))))));
       cause = ran-cause (λ e. IsLimit c.args.self.now e) c.unmark_write-unmark.result c.done.result c.done.ensures (memory-cause c.unmark_write-unmark.result c.unmark_write-unmark.ensures.cause);
     }
