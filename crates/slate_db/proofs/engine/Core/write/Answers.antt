@@ -228,7 +228,7 @@ returns-in_err-rows g c =
     let below : c.self.inside.log.last < 2 ^ 64 - 2 = omega (arith, c.last.ensures) in
     record {
       step = IfOk-from_err c.from_residual-in_err-rows.result _ c.from_residual-in_err-rows.ensures.0;
-      refused = rw (p.1, p.2) (inl c.in_err-rows.ensures.cause);
+      refused = rw (p.1, p.2) (inl (c.in_err-rows.ensures.alone refl));
       event = IfOk-from_err c.from_residual-in_err-rows.result _ c.from_residual-in_err-rows.ensures.0;
       vouched = IfOk-from_err c.from_residual-in_err-rows.result _ c.from_residual-in_err-rows.ensures.0;
       kept = IfOk-from_err c.from_residual-in_err-rows.result _ c.from_residual-in_err-rows.ensures.0;
@@ -237,7 +237,7 @@ returns-in_err-rows g c =
       idle = λ none. absurd (true≢false (sym (c.is_empty.ensures.1 none) ∙ c.if-is_empty.false));
       exhausted = λ some. none_left (view_of c.self.inside) c.args.self.now (unseen_of c.self.inside) (2 ^ 64 - 2) c.self.view_is c.self.invariant below;
       limit = λ some below. placed (view_of c.self.inside) c.args.self.now (unseen_of c.self.inside) 1 c.self.view_is c.self.invariant c.in_ok-place.ensures.place;
-      cause = rw (p.1, p.2) (inl c.in_err-rows.ensures.cause);
+      cause = rw (p.1, p.2) (inl (c.in_err-rows.ensures.alone refl));
     }
 
 pub returns-in_err-ops : goal.returns-in_err-ops
