@@ -1,6 +1,6 @@
 -- What is read behind a first put, a flush and a begin.
 use Rattle.std.proofs.Common.{◌≡◌, ℕ, true, cond, List, [], ◌∷◌, ◌++◌, map, Option, Some, None, option_map, pos, refl, sym, ap, ◌∙◌, subst}
-use Rattle.std.specs.Prelude.{bytes_eq, filter_map}
+use Rattle.std.specs.Prelude.{IsSome, bytes_eq, filter_map}
 use Rattle.std.proofs.lemmas.Slice.Eq.{bytes_eq-Decides}
 use Rattle.slate_types.specs.declared.config.IsolationLevel.{IsolationLevel}
 use Rattle.slate_types.specs.declared.error.SlateDBError.{SlateDBError}
@@ -19,7 +19,7 @@ use Rattle.slate_txn.specs.Reads.{seen}
 use Rattle.slate_txn.specs.Refusals.{write_refusal}
 use Rattle.slate_txn.specs.Reply as replies
 use Rattle.slate_txn.specs.State.{Rules, Commit, State, opening, begun}
-use Rattle.slate_txn.specs.Step.{step, get, get_found, noted, reader_or_snapshot, refused_or, with_reply, as_commit}
+use Rattle.slate_txn.specs.Step.{step, get, get_found, noted, reader, reader_or_snapshot, refused_or, with_reply, as_commit}
 use Rattle.slatedb.specs.FirstSteps.{first_put}
 
 -- no operator, no segments, and the options' defaults
@@ -101,6 +101,10 @@ opened-is id level ops tracked put flushed opened n start written stored begins 
 
 pub is-open : (id : List ℕ) (level : IsolationLevel) (ops : Ops) (tracked : List (List ℕ)) (opened : State) → opened ≡ begun-state ops tracked id level → find_named id opened.txns ≡ Some (begun level 1)
 is-open id level ops tracked opened is = ap (λ s. find_named id s.txns) is ∙ ap (λ b. cond b (Some (begun level 1)) None) (bytes_eq-refl id)
+
+pub is-reader : (id : List ℕ) (level : IsolationLevel) (ops : Ops) (tracked : List (List ℕ)) (opened : State) → opened ≡ begun-state ops tracked id level → IsSome (reader opened id)
+is-reader id level ops tracked opened is =
+    subst (λ s. IsSome (reader s id)) (sym is) (subst (λ b. IsSome (reader_or_snapshot (cond b (Some (begun level 1)) None) None)) (sym (bytes_eq-refl id)) refl)
 
 pub is-open-still : (id : List ℕ) (level : IsolationLevel) (ops : Ops) (tracked : List (List ℕ)) (opened : State) (ts : List TranscriptStep) → opened ≡ begun-state ops tracked id level →
     find_named id (noted opened id ts).txns ≡ Some (record (begun level 1) { transcript = ts })

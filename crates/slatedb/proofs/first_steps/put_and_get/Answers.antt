@@ -7,9 +7,20 @@ use Rattle.slate_txn.specs.Settings.{settings_of}
 use Rattle.slate_db.specs.Installs.{tables_of, Holds}
 use Rattle.slate_db.specs.Model.{CoreModel}
 use Rattle.slatedb.proofs.FirstCalls.{put-first, opened-first, finds-first, kept-first, none-refused, lawful-without}
-use Rattle.slatedb.proofs.FirstRead.{is-open-still}
+use Rattle.slatedb.proofs.FirstRead.{is-open-still, is-reader}
 use Rattle.slatedb.proofs.FirstTable.{flushed-first, none-more}
 use Rattle.slatedb.proofs.first_steps.put_and_get.Goals as goal
+
+pub get-requires-after_bounds : goal.get-requires-after_bounds
+get-requires-after_bounds g c κs within =
+    let p = put-first c.args.key.now c.args.value.now c.new-core.result c.write.new.self c.put.new.self c.in_ok-write.field-0
+    (c.new-core.ensures.settings ∙ ap settings_of c.new.ensures) c.new-core.ensures.state c.new-core.ensures.journal
+    (c.in_ok-put.ensures.taken ∙ ap (λ (b : BatchModel). with_op b c.args.key.now (plain_put c.args.value.now)) c.new-batch.ensures)
+    (none-refused (op_refusal c.args.key.now (plain_put c.args.value.now)) c.put.result c.in_ok-put.field-0 c.put.ensures.refused c.in_ok-put.was)
+    c.in_ok-write.ensures.step c.in_ok-write.ensures.event in
+    let opened = opened-first c.args.key.now c.args.value.now c.in_ok-reader.reader Snapshot c.write.new.self c.flush.new.self c.begin.new.self c.in_ok-flush.field-0 c.in_ok-reader._start p
+    c.flush.ensures.settings c.in_ok-flush.ensures.step c.in_ok-reader.ensures.step in
+    is-reader c.in_ok-reader.reader Snapshot p.ops p.tracked c.begin.new.self.state opened
 
 pub rollback-requires : goal.rollback-requires
 rollback-requires g c =
