@@ -12,23 +12,24 @@
 --     IsTooLarge layout rows e      a table of some first of the rows would have too many blocks
 --     HasTooLarge layout rows e      so would one of the tables into which the rows are cut
 --     after_install c n ts spare      the core after the tables were installed through n
---     MayFlush encode layout c before after      what a refused flush leaves of the objects
+--     MayFlush m layout c before after      what a refused flush leaves of the objects
 --     TooLarge layout c e      a table of the rows in memory would have too many blocks; so there is much in memory
---     IsFlushed encode layout old new n before after      a flush behind its freeze, with the store's objects before and after
+--     IsFlushed m layout old new n before after      a flush behind its freeze, with the store's objects before and after
 --     NoPlace n c, NoPlaceToFlush c      the journal has no place for so many events more, and for those of a flush
 --     of what a call reaches before and after it:
 --     Flushes layout before after old new n      a flush behind its freeze
 --     MayPut layout before after c      what a refused flush leaves of the objects
---     IsFlushError layout before after c e      a fault that came in the flush, or want of memory or of a place, or too much in memory
-use Rattle.std.specs.Prelude.{◌≡◌, ℕ, ◌+◌, ◌-◌, ◌^◌, ◌<◌, ◌⊎◌, List, [], ◌∷◌, ◌++◌, map, length, option_to_list, Option, Some, IfSome}
+--     IsFlushError layout before after c e      a fault that came in the flush, or want of memory, of a place or of an operator, or too much in memory
+use Rattle.std.specs.Prelude.{◌≡◌, ℕ, ◌+◌, ◌-◌, ◌^◌, ◌<◌, ◌⊎◌, true, List, [], ◌∷◌, ◌++◌, map, length, option_to_list, Option, Some, None, IfSome}
 use Rattle.std.specs.List.{AllByRecursion}
 use Rattle.slate_types.specs.declared.error.SlateDBError.{SlateDBError}
-use Rattle.slate_types.specs.declared.error.SlateDBError.TheVariants.{LimitReached}
+use Rattle.slate_types.specs.declared.error.SlateDBError.TheVariants.{LimitReached, MergeOperatorMissing}
 use Rattle.slate_types.specs.declared.types.Ulid.{Ulid}
 use Rattle.slate_types.specs.declared.config.Options.{Options}
 use Rattle.slate_types.specs.Fold.{fold_rows}
 use Rattle.slate_types.specs.Outside.{Objects, IsFault, Reach}
 use Rattle.slate_block.specs.BlockSpelling.{as_read}
+use Rattle.slate_mem.specs.Lookup.{is_merge_among, newest_first}
 use Rattle.slate_store.specs.Store.{with_object}
 use Rattle.slate_table.specs.Parts.{Encode}
 use Rattle.slate_table.specs.Table.{AreInOrder, IsBuilt, cut}
@@ -87,20 +88,20 @@ AreTablesAt encode layout number place [] (t ∷ ts) = ⊥
 AreTablesAt encode layout number place (rows ∷ parts) [] = ⊥
 
 -- rows: those of all memtables
-pub record AreFirstTables (encode : Encode) (layout : Layout) (number barrier : ℕ) (layers left : List Rows) (tables : List (Ulid × List ℕ)) : Type 0 where
+pub record AreFirstTables (m : Meaning) (layout : Layout) (number barrier : ℕ) (layers left : List Rows) (tables : List (Ulid × List ℕ)) : Type 0 where
   pub rows : Rows
   pub some : 0 < length rows
-  pub folded : (m : Meaning) → IsFolded m barrier layers rows
+  pub folded : IsFolded m barrier layers rows
   pub order : AreInOrder rows
   pub parts : List Rows
   pub cut : AreCut layout.table_bytes rows (parts ++ left)
-  pub built : AreTablesAt encode layout number 0 parts tables
+  pub built : AreTablesAt m.encode layout number 0 parts tables
 
-abbrev pub AreTablesOfFlush : Encode → Layout → ℕ → ℕ → List Rows → List (Ulid × List ℕ) → Type 0
-AreTablesOfFlush encode layout number barrier layers tables = AreFirstTables encode layout number barrier layers [] tables
+abbrev pub AreTablesOfFlush : Meaning → Layout → ℕ → ℕ → List Rows → List (Ulid × List ℕ) → Type 0
+AreTablesOfFlush m layout number barrier layers tables = AreFirstTables m layout number barrier layers [] tables
 
-abbrev pub AreSomeOfFlush : Encode → Layout → ℕ → ℕ → List Rows → List (Ulid × List ℕ) → Type 0
-AreSomeOfFlush encode layout number barrier layers tables = (left : List Rows) × AreFirstTables encode layout number barrier layers left tables
+abbrev pub AreSomeOfFlush : Meaning → Layout → ℕ → ℕ → List Rows → List (Ulid × List ℕ) → Type 0
+AreSomeOfFlush m layout number barrier layers tables = (left : List Rows) × AreFirstTables m layout number barrier layers left tables
 
 abbrev pub with_tables : Objects → List (Ulid × List ℕ) → Objects
 with_tables os [] = os
@@ -109,9 +110,9 @@ with_tables os (t ∷ ts) = with_tables (with_object os (path_of root t.0.0) t.1
 abbrev pub TakesTables : List (Ulid × List ℕ) → Option Objects → Option Objects → Type 0
 TakesTables ts before after = IfSome before (λ os. after ≡ Some (with_tables os ts))
 
-pub record IsPut (encode : Encode) (layout : Layout) (number barrier : ℕ) (layers : List Rows) (tables : List (Ulid × List ℕ)) (run : SortedRun) (before after : Option Objects) : Type 0 where
+pub record IsPut (m : Meaning) (layout : Layout) (number barrier : ℕ) (layers : List Rows) (tables : List (Ulid × List ℕ)) (run : SortedRun) (before after : Option Objects) : Type 0 where
   pub kept : IsRun tables run
-  pub made : AreTablesOfFlush encode layout number barrier layers tables
+  pub made : AreTablesOfFlush m layout number barrier layers tables
   pub taken : TakesTables tables before after
 
 abbrev pub MayTakeTables : (List (Ulid × List ℕ) → Type 0) → Option Objects → Option Objects → Type 0
@@ -141,18 +142,22 @@ after_install c n ts spare = record c {
 }
 
 -- nothing to store, or a flush's tables more, whose number is one above that of the installs before
-pub data IsFlushed (encode : Encode) (layout : Layout) (old new : CoreModel) (n : ℕ) (before after : Option Objects) : Type 0 where
-  idle : old.frozen ≡ [] → new ≡ record old { state = record old.state { flushed = n } } → after ≡ before → IsFlushed encode layout old new n before after
-  stored : (ts : List (Ulid × List ℕ)) → new ≡ after_install old n ts new.spare → AreTablesOfFlush encode layout (length (runs_of old.events) + 1) (least_start n old.state) old.frozen ts →
-      TakesTables ts before after → IsFlushed encode layout old new n before after
+pub data IsFlushed (m : Meaning) (layout : Layout) (old new : CoreModel) (n : ℕ) (before after : Option Objects) : Type 0 where
+  idle : old.frozen ≡ [] → new ≡ record old { state = record old.state { flushed = n } } → after ≡ before → IsFlushed m layout old new n before after
+  stored : (ts : List (Ulid × List ℕ)) → new ≡ after_install old n ts new.spare → AreTablesOfFlush m layout (length (runs_of old.events) + 1) (least_start n old.state) old.frozen ts →
+      TakesTables ts before after → IsFlushed m layout old new n before after
 
 -- what a flush that is refused behind its freeze leaves of the objects
-abbrev pub MayFlush : Encode → Layout → CoreModel → Option Objects → Option Objects → Type 0
-MayFlush encode layout c before after = MayTakeTables (AreSomeOfFlush encode layout (length (runs_of c.events) + 1) (least_start (last_of c.settings.start_seq c.state.commits) c.state) c.frozen) before after
+abbrev pub MayFlush : Meaning → Layout → CoreModel → Option Objects → Option Objects → Type 0
+MayFlush m layout c before after = MayTakeTables (AreSomeOfFlush m layout (length (runs_of c.events) + 1) (least_start (last_of c.settings.start_seq c.state.commits) c.state) c.frozen) before after
 
 -- the rows that a flush would store make too large a table
-abbrev pub TooLarge : Layout → CoreModel → SlateDBError → Type 0
-TooLarge layout c e = (rows : Rows) × ((m : Meaning) → IsFolded m (least_start (last_of c.settings.start_seq c.state.commits) c.state) (memory c) rows) × AreInOrder rows × HasTooLarge layout rows e × (2 ^ 32 - 1 < load c)
+abbrev pub TooLarge : Meaning → Layout → CoreModel → SlateDBError → Type 0
+TooLarge m layout c e = (rows : Rows) × (IsFolded m (least_start (last_of c.settings.start_seq c.state.commits) c.state) (memory c) rows) × AreInOrder rows × HasTooLarge layout rows e × (2 ^ 32 - 1 < load c)
+
+-- there is an operand in memory, and no operator
+abbrev pub WantsOperator : Meaning → List Rows → SlateDBError → Type 0
+WantsOperator m layers e = (e ≡ MergeOperatorMissing) × (m.combine ≡ None) × (is_merge_among (newest_first layers) ≡ true)
 
 abbrev pub NoPlace : ℕ → CoreModel → Type 0
 NoPlace n c = LIMIT < weight c + n
@@ -161,10 +166,10 @@ abbrev pub NoPlaceToFlush : CoreModel → Type 0
 NoPlaceToFlush c = NoPlace (events_of_flush c.active c.frozen) c
 
 abbrev pub Flushes : Layout → Reach → Reach → CoreModel → CoreModel → ℕ → Type 0
-Flushes layout before after old new n = IsFlushed before.meaning.encode layout old new n before.objects after.objects
+Flushes layout before after old new n = IsFlushed before.meaning layout old new n before.objects after.objects
 
 abbrev pub MayPut : Layout → Reach → Reach → CoreModel → Type 0
-MayPut layout before after c = MayFlush before.meaning.encode layout c before.objects after.objects
+MayPut layout before after c = MayFlush before.meaning layout c before.objects after.objects
 
 abbrev pub IsFlushError : Layout → Reach → Reach → CoreModel → SlateDBError → Type 0
-IsFlushError layout before after c e = IsFault before after e ⊎ ((e ≡ LimitReached LIMIT) × NoPlaceToFlush c) ⊎ TooLarge layout c e
+IsFlushError layout before after c e = IsFault before after e ⊎ ((e ≡ LimitReached LIMIT) × NoPlaceToFlush c) ⊎ TooLarge before.meaning layout c e ⊎ WantsOperator before.meaning (memory c) e

@@ -1,14 +1,14 @@
 -- The layers of a core: rows in memory, and what is kept of runs of tables.
---     FitsMemory r      what is true of each row in memory: it fits a table as it is, and is no merge
+--     FitsMemory r      what is true of each row in memory: it fits a table as it is
 --     AreRising rows      of the rows of a key, oldest first: the sequences rise
 --     LayersModel      what contracts see of layers
 --     in_memory y      the memtables, the newest last
 --     AreLayers y      what is true of all layers
 --     without_seq n rows      the rows without those of a sequence
-use Rattle.std.specs.Prelude.{◌≡◌, ℕ, ◌<◌, ◌==◌, not, true, filter, List, [], ◌∷◌, ◌++◌, length}
+use Rattle.std.specs.Prelude.{◌≡◌, ℕ, ◌<◌, ◌==◌, not, filter, List, [], ◌∷◌, ◌++◌, length}
 use Rattle.std.specs.List.{AllByRecursion}
 use Rattle.slate_types.specs.declared.types.RowEntry.{RowEntry}
-use Rattle.slate_types.specs.Rows.{is_base, operand}
+use Rattle.slate_types.specs.Rows.{operand}
 use Rattle.slate_types.specs.Fold.{IsShort}
 use Rattle.slate_block.specs.BlockSpelling.{IsKey, as_read}
 use Rattle.slate_read.specs.declared.sorted_run.SortedRun.{SortedRun}
@@ -19,7 +19,6 @@ use Rattle.slate_db.specs.Model.{Rows, versions_in}
 pub record FitsMemory (r : RowEntry) : Type 0 where
   pub key : IsKey r.key
   pub value : IsShort (operand r)
-  pub base : is_base r ≡ true
   pub read : as_read 1 r ≡ r
 
 abbrev pub AreRising : Rows → Type 0

@@ -1,20 +1,28 @@
 -- What a read of a core rests on, and what it refuses for. before, after: what the call reaches
 --     IsReadable m os c      the parts are lawful, for them what is kept of the rows holds, and these objects hold the tables that the journal names
 --     IsAnswered before after c      objects of which this is true answered each read of the call
---     LacksOperator m c hs reads e      there is no operator, and an operand was found, in memory or by the reads
+--     IsOwnOperand c row      an open transaction has this operand among its own operations
+--     LacksOperator m c hs reads e      there is no operator, and an operand was found, among own operations, in memory or by the reads
 --     IsRefusedBy m c reads e      the reads show so of the tables that the journal names
 --     IsReadError before after c e      a fault that came in the call, or want of memory, or such a refusal by its reads
 --     IsRead before after c means result      what a call answers that reads: what it means, when it is refused, and what it leaves
---     IsOwnRead before after means result      the same of one that reads no more than own operations: nothing is reached, and only memory refuses
-use Rattle.std.specs.Prelude.{◌≡◌, ◌⊎◌, true, List, Contains, IfErr, IfOk, IsOkUnless, None, Result}
+--     IsOwnRead before after means result      the same of one that reads no more than an own operation: nothing is reached, and only memory refuses
+--     decides_own k ops      own operations of the key decide what is read there, so that no store is asked
+use Rattle.std.specs.Prelude.{◌≡◌, ◌⊎◌, ℕ, Bool, true, List, Contains, IfErr, IfOk, IsOkUnless, None, Some, Result}
+use Rattle.std.specs.List.{list_any}
 use Rattle.slate_types.specs.declared.error.SlateDBError.{SlateDBError}
 use Rattle.slate_types.specs.declared.error.SlateDBError.TheVariants.{MergeOperatorMissing, OutOfMemory}
 use Rattle.slate_types.specs.declared.types.RowEntry.{RowEntry}
 use Rattle.slate_types.specs.Outside.{Act, Objects, IsFault, Meaning, OnlyReads, Reach}
 use Rattle.slate_types.specs.Rows.{is_operand}
 use Rattle.slate_types.specs.World.{Made}
+use Rattle.slate_mem.specs.declared.WriteOp.{WriteOp}
+use Rattle.slate_mem.specs.Batch.{Ops, kept, replaces}
 use Rattle.slate_mem.specs.Lookup.{newest_first}
+use Rattle.slate_mem.specs.RowOf.{own_row}
 use Rattle.slate_table.specs.declared.info.SsTableHandle.{SsTableHandle}
+use Rattle.slate_txn.specs.Named.{find_named}
+use Rattle.slate_txn.specs.State.{Tx}
 use Rattle.slate_db.specs.Answered.{AnswersFrom}
 use Rattle.slate_db.specs.Installs.{AreHandles, Holds, tables_of}
 use Rattle.slate_db.specs.Meaning.{IsLawfulMeaning}
@@ -32,12 +40,21 @@ pub record IsAnswered (before after : Reach) (c : CoreModel) : Type 0 where
   pub readable : IsReadable before.meaning os c
   pub answers : AnswersFrom os before after
 
+pub record IsOwnOperand (c : CoreModel) (row : RowEntry) : Type 0 where
+  pub id : List ℕ
+  pub tx : Tx
+  pub open_there : find_named id c.state.txns ≡ Some tx
+  pub key : List ℕ
+  pub op : WriteOp
+  pub among : Contains (kept tx.ops key) op
+  pub is : row ≡ own_row key op
+
 pub record LacksOperator (m : Meaning) (c : CoreModel) (hs : List SsTableHandle) (reads : List Act) (e : SlateDBError) : Type 0 where
   pub is : e ≡ MergeOperatorMissing
   pub none : m.combine ≡ None
   pub row : RowEntry
   pub operand : is_operand row ≡ true
-  pub found : Contains (newest_first (memory c)) row ⊎ BringsRow m.decode hs reads row
+  pub found : IsOwnOperand c row ⊎ Contains (newest_first (memory c)) row ⊎ BringsRow m.decode hs reads row
 
 -- handles: what is kept of the tables that the journal names
 pub record IsRefusedBy (m : Meaning) (c : CoreModel) (reads : List Act) (e : SlateDBError) : Type 0 where
@@ -59,3 +76,6 @@ pub record IsOwnRead {A : Type 0} (before after : Reach) (means : A → Type 0) 
   pub answer : IfOk result means
   pub cause : IsOkUnless result OutOfMemory
   pub reached : after ≡ before
+
+abbrev pub decides_own : List ℕ → Ops → Bool
+decides_own k ops = list_any replaces (kept ops k)

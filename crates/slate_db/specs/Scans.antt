@@ -2,11 +2,13 @@
 --     ScanSource      a source of a scan: rows of which those above the transaction's begin are passed over
 --     source_rows, IsSoundSource, order_of, source_refuses      what it is as an iterator
 --     left_of it w      the rows that are left, tombstones among them
---     Leaves it w rows      in the world exactly these rows are left to be handed out, and none that is left is an operand
+--     brought_in state w      the rows that the sources still bring, whose operands aren't folded yet
+--     IsOperableIn state w      without an operator none of these is an operand
+--     Leaves it w rows      in the world exactly these rows are left to be handed out
 --     ScanRefuses it m reads at e      what it may refuse for by the reads from now on, in a seek to a key, or in the other calls
 --     IsReached range at      a seek is to no key before the range
 --     AreForIn range m state      by this meaning the sources that are left refuse for damage alone
---     IsFor m it      it was opened for parts of this meaning: by these it refuses for damage alone, or at an operand
+--     IsFor m it      it was opened for parts of this meaning: by these it refuses for damage alone, or for want of an operator
 --     IsRefusedScan e it, IsUnrefused it, Keeps e it      it was refused so; not yet; it keeps this refusal, or want of memory in its place
 --     AnswersAgain e result      so it answers from then on, or want of memory where no copy can be made
 --     id_of it, number_of it, scan_of it      a transaction's scan: whose it is, which of its scans, and what it has left
@@ -16,7 +18,7 @@
 --     IsOpenScan c it      its transaction is open, and opened it; or its snapshot is open
 --     HasLeft m c it rows      of the list that the scan's opening fixed these rows are left, by the transcript
 --     ShowsAmong decode hs reads e      of some tables one shows the error, by reads among these
---     IsShownByScan m c reads e, IsRefusedByScan m c reads e      the reads show it of the tables that the journal names; or an operand was found
+--     IsShownByScan m c reads e, IsRefusedByScan m c reads e      the reads show it of the tables that the journal names; or there is no operator
 --     IsOpeningError before after c e, IsScanError before after c e      a fault that came in the call, or want of memory, or such a refusal by its reads: an opening meets no operand
 use Rattle.std.specs.Prelude.{◌≡◌, ◌≢◌, ◌⊎◌, ℕ, ◌<◌, true, List, [], filter, count_by, Contains, Option, Some, None, Result, Err, IsSome, slice_get}
 use Rattle.std.specs.List.{AllByRecursion}
@@ -33,8 +35,13 @@ use Rattle.slate_types.specs.World.{World, HoldsWorld, Made}
 use Rattle.slate_read.specs.declared.filter_iterator.FilterIterator.{FilterIterator}
 use Rattle.slate_read.specs.declared.filter_iterator.MaxSeq.{MaxSeq}
 use Rattle.slate_read.specs.declared.read_source.ReadSource.{ReadSource}
+use Rattle.slate_read.specs.declared.merge_iterator.MergeIterator.{MergeIterator}
+use Rattle.slate_read.specs.declared.operator_iterator.MergeOperatorIterator.{MergeOperatorIterator}
 use Rattle.slate_read.specs.Filtering.{upto_seq}
+use Rattle.slate_read.specs.Folds.{RefusesOpen}
 use Rattle.slate_read.specs.MergeStates.{IsSoundMerge, refuses_in, rest_of_merge}
+use Rattle.slate_read.specs.OperatorIterators.{IsGoing, rest_folding, sound_folding}
+use Rattle.slate_read.specs.Peeking.{with_ahead}
 use Rattle.slate_read.specs.ReadSources as read
 use Rattle.slate_read.specs.Showing.{ShowsByReads}
 use Rattle.slate_table.specs.declared.info.SsTableHandle.{SsTableHandle}
@@ -60,7 +67,7 @@ abbrev pub IsReached : BytesRange → Option (List ℕ) → Type 0
 IsReached range None = Unit {0}
 IsReached range (Some key) = is_past_start range.start key ≡ true
 
--- an operand can't be merged yet
+-- an operand is refused where there is no operator
 abbrev pub IsScanRefusal : SlateDBError → Type 0
 IsScanRefusal e = (e ≡ MergeOperatorMissing) ⊎ IsDamage e
 
@@ -83,14 +90,43 @@ source_refuses s m reads at e = read.source_refuses s.iterator m reads at e
 
 -- ---- their rows merged
 
+abbrev pub MergedSources : Type 0
+MergedSources = MergeIterator ScanSource
+
+abbrev pub merge_rows : MergedSources → World → List RowEntry
+merge_rows rows w = rest_of_merge source_rows rows w
+
+abbrev pub IsSoundMerged : MergedSources → World → Type 0
+IsSoundMerged rows w = IsSoundMerge source_rows IsSoundSource order_of rows w
+
+abbrev pub order_of_merge : MergedSources → IterationOrder
+order_of_merge rows = rows.order
+
+abbrev pub merge_refuses : MergedSources → Meaning → List Act → Option (List ℕ) → SlateDBError → Type 0
+merge_refuses rows m reads at e = refuses_in source_refuses rows.state m reads at e
+
+-- ---- and folded
+
+-- expiries may differ, and there is no barrier
+abbrev pub FoldsAll : MergeOperatorIterator MergedSources → Type 0
+FoldsAll it = (it.folding.merge_different_expire_ts ≡ true) × (it.folding.snapshot_barrier_seq ≡ None)
+
 abbrev pub left_in : ScanState → World → List RowEntry
-left_in (Walking rows) w = rest_of_merge source_rows rows w
+left_in (Walking rows) w = rest_folding merge_rows rows w
 left_in Done w = []
 left_in (Refused e) w = []
 
+abbrev pub brought_in : ScanState → World → List RowEntry
+brought_in (Walking rows) w = with_ahead rows.ahead (merge_rows rows.iterator w)
+brought_in Done w = []
+brought_in (Refused e) w = []
+
+abbrev pub IsOperableIn : ScanState → World → Type 0
+IsOperableIn state w = w.meaning.combine ≡ None → AllByRecursion (λ r. is_base r ≡ true) (brought_in state w)
+
 -- order: that of the scan
 abbrev pub IsSoundIn : IterationOrder → ScanState → World → Type 0
-IsSoundIn order (Walking rows) w = IsSoundMerge source_rows IsSoundSource order_of rows w × (rows.order ≡ order)
+IsSoundIn order (Walking rows) w = IsGoing rows × FoldsAll rows × sound_folding merge_rows IsSoundMerged order_of_merge rows w × (rows.iterator.order ≡ order)
 IsSoundIn order Done w = Unit {0}
 IsSoundIn order (Refused e) w = ⊥
 
@@ -99,15 +135,12 @@ left_of it w = left_in it.state w
 
 -- what the sources that are left refuse for
 abbrev pub SourcesRefuse : BytesRange → ScanState → Meaning → List Act → Option (List ℕ) → SlateDBError → Type 0
-SourcesRefuse range (Walking rows) m reads at e = IsReached range at × refuses_in source_refuses rows.state m reads at e
+SourcesRefuse range (Walking rows) m reads at e = IsReached range at × merge_refuses rows.iterator m reads at e
 SourcesRefuse range _ m reads at e = ⊥
 
--- an operand, which no seek meets
-abbrev pub MeetsOperand : Option (List ℕ) → SlateDBError → Type 0
-MeetsOperand at e = (e ≡ MergeOperatorMissing) × (at ≡ None)
-
+-- an operand without an operator, which no seek meets
 abbrev pub RefusesIn : BytesRange → ScanState → Meaning → List Act → Option (List ℕ) → SlateDBError → Type 0
-RefusesIn range (Walking rows) m reads at e = MeetsOperand at e ⊎ (IsReached range at × refuses_in source_refuses rows.state m reads at e)
+RefusesIn range (Walking rows) m reads at e = RefusesOpen m at e ⊎ (IsReached range at × merge_refuses rows.iterator m reads at e)
 RefusesIn range Done m reads at e = ⊥
 RefusesIn range (Refused kept) m reads at e = (kept ≢ OutOfMemory) × (e ≡ kept)
 
@@ -123,7 +156,7 @@ AreForIn range m state = (reads : List Act) (at : Option (List ℕ)) (e : SlateD
 
 pub record Leaves (it : DbIterator) (w : World) (rows : List RowEntry) : Type 0 where
   pub sound : IsSoundIn it.order it.state w
-  pub bases : AllByRecursion (λ r. is_base r ≡ true) (left_of it w)
+  pub operable : IsOperableIn it.state w
   pub within : AllByRecursion (λ r. in_range it.range r.key ≡ true) (left_of it w)
   pub left : filter has_value (left_of it w) ≡ rows
   pub meant : AreForIn it.range w.meaning it.state
@@ -183,7 +216,7 @@ pub record IsShownByScan (m : Meaning) (c : CoreModel) (reads : List Act) (e : S
 pub record IsRefusedByScan (m : Meaning) (c : CoreModel) (reads : List Act) (e : SlateDBError) : Type 0 where
   pub handles : List SsTableHandle
   pub are : AreHandles (tables_of c.events) handles
-  pub refused : (e ≡ MergeOperatorMissing) ⊎ ShowsAmong m.decode handles reads e
+  pub refused : ((e ≡ MergeOperatorMissing) × (m.combine ≡ None)) ⊎ ShowsAmong m.decode handles reads e
 
 abbrev pub IsOpeningError : Reach → Reach → CoreModel → SlateDBError → Type 0
 IsOpeningError before after c e = IsFault before after e ⊎ Made before after (λ reads. IsShownByScan before.meaning c reads e)

@@ -37,8 +37,9 @@ pub(crate) struct Made {
 }
 
 /// Tests an open transaction, and puts its rows where it has operations. Refuses by `TransactionConflict` before all other tests,
-/// by `SequenceExhausted`, and by `OutOfMemory`. The manager has then tracked what the transaction handed over.
-pub(crate) fn make(
+/// by `SequenceExhausted`, as `WriteBatch::test_entries` does, then by `Callback`, only where the operator's count of faults rose,
+/// and by `OutOfMemory`. The manager has then tracked what the transaction handed over.
+pub(crate) fn make<M: MergeOperator>(
     alloc: Global,
     default_millis: Option<u64>,
     layers: &mut Layers,
@@ -47,6 +48,7 @@ pub(crate) fn make(
     owned: DbTransactionInner,
     last: u64,
     now: i64,
+    operator: &mut Option<M>,
 ) -> Result<Made, SlateDBError>
     requires fits { last ≤ 18446744073709551614 }
     requires whole { AreLayers layers.old }
@@ -57,16 +59,19 @@ pub(crate) fn make(
     ensures steps { IfOk result (λ made. made.transcript ≡ owned.transcript) }
     ensures ops { IfOk result (λ made. made.ops ≡ kept_ops owned.ops) }
     ensures fine { IfOk result (λ made. AreFine made.ops) }
-    ensures plain { OnOk result (holds_merge owned.ops ≡ false) }
-    ensures plain_ops { IfOk result (λ made. holds_merge made.ops ≡ false) }
+    ensures tested { OnOk result (IsTestedBy (option_map M.combine operator.old) default_millis now owned.ops) }
     ensures next { IfOk result (λ made. IsNextOf last owned.ops made.seq) }
     ensures free { (cs : List Commit) → StandsFor manager.old cs → OnOk result (conflict cs owned ≡ None) }
-    ensures put { (c : List ℕ → Combine) → IfOk result (λ made. layers.new ≡ put_at c default_millis made.seq now owned.ops layers.old) }
+    ensures put { IfOk result (λ made. layers.new ≡ put_at (operator_at (option_map M.combine operator.old)) default_millis made.seq now owned.ops layers.old) }
     ensures whole { AreLayers layers.new }
     ensures committed { (ids : ℕ) (cs : List Commit) (ps : List (List ℕ × Tx)) → IsManaged manager.old ids last cs ps → IfOk result (λ made. IsManaged manager.new ids (unwrap_or made.seq last) (cs ++ commit_made made.seq now made.ops made.tracked) (without id.now ps)) }
     ensures same_layers { OnErr result (layers.new ≡ layers.old) }
     ensures grown { OnErr result (Grown id.now manager.old manager.new) }
-    ensures cause { (cs : List Commit) → StandsFor manager.old cs → IfErr result (λ e. (e ≡ SlateDBError.OutOfMemory) ⊎ (IsConflict (conflict cs owned) e ⊎ IsFull last (conflict cs owned) owned.ops e)) }
+    ensures first { (cs : List Commit) → StandsFor manager.old cs → conflict cs owned ≡ None → IsNextOf last owned.ops (Some (last + 1)) → (e : SlateDBError) → test_refusal (option_map M.combine operator.old) default_millis now owned.ops ≡ Some e → (result ≡ Err e) ⊎ (result ≡ Err SlateDBError.OutOfMemory) }
+    ensures same { option_map M.combine operator.new ≡ option_map M.combine operator.old }
+    ensures later { faults_of M.faults operator.old ≤ faults_of M.faults operator.new }
+    ensures cause { (cs : List Commit) → StandsFor manager.old cs → IfErr result (λ e. (e ≡ SlateDBError.OutOfMemory) ⊎ (IsConflict (conflict cs owned) e ⊎ IsFull last (conflict cs owned) owned.ops e)
+        ⊎ IsTestRefusal (option_map M.combine operator.old) default_millis now last (conflict cs owned) owned.ops e ⊎ IsCallback (faults_of M.faults operator.old) (faults_of M.faults operator.new) e) }
 {
     let tested = owned.test(alloc, manager, id)?;
     if tested.batch.is_empty() {
@@ -91,6 +96,7 @@ pub(crate) fn make(
         &batch,
         last,
         now,
+        operator,
     );
     drop(batch);
     match put {
@@ -127,8 +133,9 @@ fn idle(alloc: Global, tested: Tested) -> Made
 }
 
 /// Puts the rows of a transaction's batch that has operations, at the sequence behind the last, and gives the operations. The
-/// manager has then ended the transaction. Where memory is wanting nothing is done.
-pub(crate) fn put_commit(
+/// manager has then ended the transaction. Refuses as `WriteBatch::test_entries` does, then by `Callback`, only where the
+/// operator's count of faults rose, and by `OutOfMemory`, and then nothing is done.
+pub(crate) fn put_commit<M: MergeOperator>(
     alloc: Global,
     default_millis: Option<u64>,
     layers: &mut Layers,
@@ -137,31 +144,29 @@ pub(crate) fn put_commit(
     batch: &WriteBatch,
     last: u64,
     now: i64,
+    operator: &mut Option<M>,
 ) -> Result<OpList, SlateDBError>
-    requires plain { batch.now.held_merge ≡ false }
+    requires held { batch.now.held_merge ≡ false → holds_merge batch.now.ops ≡ false }
     requires fits { last < 18446744073709551614 }
     requires whole { AreLayers layers.old }
     requires within { AllByRecursion (λ rows. AllByRecursion (λ r. r.seq ≤ last) rows) (in_memory layers.old) }
     requires newest { manager.old.last ≡ last }
-    ensures put { (c : List ℕ → Combine) → OnOk result (layers.new ≡ record layers.old { active = put_rows layers.old.active (commit_rows c default_millis (last + 1) now batch.now.ops) }) }
+    ensures put { OnOk result (layers.new ≡ record layers.old { active = put_rows layers.old.active (commit_rows (operator_at (option_map M.combine operator.old)) default_millis (last + 1) now batch.now.ops) }) }
     ensures whole { AreLayers layers.new }
     ensures ops { IfOk result (λ ops. ops ≡ batch.now.ops) }
     ensures fine { OnOk result (AreFine batch.now.ops) }
-    ensures plain { OnOk result (holds_merge batch.now.ops ≡ false) }
+    ensures tested { OnOk result (batch_refusal (option_map M.combine operator.old) default_millis now batch.now ≡ None) }
+    ensures first { (e : SlateDBError) → batch_refusal (option_map M.combine operator.old) default_millis now batch.now ≡ Some e → (result ≡ Err e) ⊎ (result ≡ Err SlateDBError.OutOfMemory) }
     ensures committed { OnOk result (manager.new ≡ record manager.old { last = last + 1; active = without id.now manager.old.active; kept = manager.new.kept }) }
     ensures stands { OnOk result ((cs : List Commit) (c : Commit) → IsCommitOf (last + 1) (writes_at (find_named id.now manager.old.active)) c → StandsFor manager.old cs → StandsFor manager.new (with_commit cs c (find_named id.now manager.old.active))) }
     ensures same_layers { OnErr result (layers.new ≡ layers.old) }
     ensures same { OnErr result (manager.new ≡ manager.old) }
-    ensures cause { IsOkUnless result SlateDBError.OutOfMemory }
+    ensures same_operator { option_map M.combine operator.new ≡ option_map M.combine operator.old }
+    ensures later { faults_of M.faults operator.old ≤ faults_of M.faults operator.new }
+    ensures cause { IfErr result (λ e. (e ≡ SlateDBError.OutOfMemory) ⊎ (batch_refusal (option_map M.combine operator.old) default_millis now batch.now ≡ Some e) ⊎ IsCallback (faults_of M.faults operator.old) (faults_of M.faults operator.new) e) }
 {
     let seq = last + 1;
-    let (rows, _bytes) = batch.extract_entries(
-        alloc,
-        seq,
-        now,
-        default_millis,
-        &mut None::<NoOperator>,
-    )?;
+    let rows = tested_rows(alloc, batch, seq, now, default_millis, operator)?;
     let ops = batch.ops(alloc)?;
     put_own(alloc, layers, manager, rows, id, seq)?;
     Ok(OpList::from_vec(ops))

@@ -4,13 +4,13 @@ ghost use Rattle.std.specs.List.{AllByRecursion, starts_with};
 ghost use Rattle.slate_types.specs.Config.{IsValid};
 ghost use Rattle.slate_types.specs.declared.error.SlateDBError.{SlateDBError};
 ghost use Rattle.slate_types.specs.Fold.{Combine, fold_rows, shown};
-ghost use Rattle.slate_types.specs.Rows.{key_value};
+ghost use Rattle.slate_types.specs.Rows.{is_operand, key_value};
 ghost use Rattle.slate_types.specs.declared.types.RowEntry.{RowEntry};
 ghost use Rattle.slate_types.specs.Iteration.{drop_before};
 ghost use Rattle.slate_types.specs.Keys.{in_range, is_refused};
 ghost use Rattle.slate_types.specs.Outside.{Act, IsFault, OnlyReads, Puts};
 ghost use Rattle.slate_types.specs.Refusing.{NoMore};
-ghost use Rattle.slate_types.specs.World.{World, Checks, Made, Sees};
+ghost use Rattle.slate_types.specs.World.{World, Checks, IsCall, Made, Sees};
 ghost use Rattle.slate_mem.specs.Table.{newest};
 ghost use Rattle.slate_txn.specs.declared.event.TranscriptStep.TheVariants as steps;
 ghost use Rattle.slate_txn.specs.Alone.{first_left, own_of};
@@ -21,7 +21,7 @@ ghost use Rattle.slate_txn.specs.declared.line.Line.TheVariants as lines;
 ghost use Rattle.slate_txn.specs.Named.{find_named};
 ghost use Rattle.slate_txn.specs.Replay.{IsLegal};
 ghost use Rattle.slate_mem.specs.declared.WriteOp.{WriteOp};
-ghost use Rattle.slate_mem.specs.Batch.{Ops, kept};
+ghost use Rattle.slate_mem.specs.Batch.{Ops, kept, replaces};
 ghost use Rattle.slate_mem.specs.Refusals.{op_refusal};
 ghost use Rattle.slate_mem.specs.RowOf.{own_row};
 ghost use Rattle.slate_mem.specs.BatchModel.{IsBatchOf};
@@ -34,12 +34,13 @@ ghost use Rattle.slate_txn.specs.Step.{Reader, noted, reader, step, with_op, wit
 ghost use Rattle.slate_db.specs.Answered.{AddsTables};
 ghost use Rattle.slate_db.specs.Meaning.{Meaning, IsLawfulMeaning, combine_of, rules_of};
 ghost use Rattle.slate_db.specs.Frozen.{IsFrozen};
-ghost use Rattle.slate_db.specs.Flushed.{Flushes, IsFlushError, MayPut, NoPlace, NoPlaceToFlush, TooLarge, events_of_flush, layout_of};
-ghost use Rattle.slate_db.specs.Load.{load, ops_load, weight};
+ghost use Rattle.slate_db.specs.Flushed.{Flushes, IsFlushError, MayPut, NoPlace, NoPlaceToFlush, TooLarge, WantsOperator, events_of_flush, layout_of};
+ghost use Rattle.slate_db.specs.Load.{load, weight};
 ghost use Rattle.slate_db.specs.Installs.{Replays, installed, tables_of};
-ghost use Rattle.slate_db.specs.Readable.{IsAnswered, IsOwnRead, IsRead};
-ghost use Rattle.slate_db.specs.Model.{CoreModel, IsSame, Rows, at};
-ghost use Rattle.slate_db.specs.Sound.{AreTables, IsKept, FoldsToState};
+ghost use Rattle.slate_db.specs.BatchTests.{IsTestRefusal, batch_refusal};
+ghost use Rattle.slate_db.specs.Readable.{IsAnswered, IsOwnOperand, IsOwnRead, IsRead, decides_own};
+ghost use Rattle.slate_db.specs.Model.{CoreModel, IsSame, Rows, at, memory};
+ghost use Rattle.slate_db.specs.Sound.{AreTables, IsKept, IsOperable, FoldsToState};
 ghost use Rattle.slate_db.specs.StoredState.{StoresState};
 ghost use Rattle.slate_db.specs.Log.{LIMIT, AreFine, ends_of};
 ghost use Rattle.slate_txn.specs.Conflict.{conflict};
@@ -59,6 +60,7 @@ use crate::log::Log;
 use crate::lookup::newest_of_runs;
 use crate::open_scan::{merged, scan_sources, table_options};
 use crate::put::{enter, put_batch};
+use crate::tested::tested_rows;
 use crate::scan::{DbIterator, TxnIterator};
 use bytes::Bytes;
 use slate_filter::FilterPolicy;
@@ -70,7 +72,7 @@ use slate_store::{Env, EnvOf, Store};
 use slate_txn::fold::fold_found;
 use slate_txn::{Journal, OpList, OpenTransactions, SnapshotManager, TransactionManager};
 use slate_types::{
-    BlockTransformer, BytesRange, IsolationLevel, KeyValue, MergeOperator, NoOperator, Options,
+    BlockTransformer, BytesRange, IsolationLevel, KeyValue, MergeOperator, MergeOptions, Options,
     Outside, PrefixExtractor, PutOptions, ReadOptions, RowEntry, ScanOptions, SlateDBError,
 };
 use std::alloc::Global;
@@ -247,26 +249,45 @@ impl Core {
     }
 
     /// Commits a batch by itself, at the next sequence, which it gives. An empty batch commits nothing, and is never
-    /// refused. The batch may have taken no merge. Refuses by `SequenceExhausted` where no sequence is left, by
-    /// `LimitReached` where the journal has no place for the event, and by `OutOfMemory`, and then nothing is committed.
-    pub fn write<X: PrefixExtractor>(
+    /// refused. Refuses by `SequenceExhausted` where no sequence is left; by `LimitReached` where the journal has no place for the
+    /// event; by `MergeOperatorMissing` where the batch ever took a merge and there is no operator; by `IncompatibleMergeTtls`,
+    /// upwards by key, where operations of a key that it keeps differ in expiry; then by `Callback`, only where the operator's
+    /// count of faults rose; and by `OutOfMemory`. Then nothing is committed.
+    pub fn write<S: Store, M: MergeOperator, T: BlockTransformer, X: PrefixExtractor>(
         &mut self,
         batch: WriteBatch,
         now: i64,
+        env: &mut Env<'_, S, M, T>,
         laws: &Laws<X>,
     ) -> Result<Option<u64>, SlateDBError>
-        requires { batch.held_merge ≡ false }
-        ensures step { IfOk result (λ n. (m : Meaning) (ops : Ops) → IsBatchOf ops batch → AreFine ops → step (rules_of self.old.settings m) (at now self.old.state) (lines.Write ops) ≡ (at now self.new.state, Written n)) }
-        ensures refused { IfErr result (λ e. (e ≡ SlateDBError.OutOfMemory) ⊎ ((e ≡ SlateDBError.LimitReached LIMIT) ⊎ ((m : Meaning) (ops : Ops) → IsBatchOf ops batch → AreFine ops → step (rules_of self.old.settings m) (at now self.old.state) (lines.Write ops) ≡ (at now self.old.state, Refused e)))) }
+        ensures step { let reach = ⟦<EnvOf<S, M, T> as Outside>⟧.reach in
+            let m = (reach env.old).meaning in
+            IfOk result (λ n. (ops : Ops) → IsBatchOf ops batch → AreFine ops → step (rules_of self.old.settings m) (at now self.old.state) (lines.Write ops) ≡ (at now self.new.state, Written n)) }
+        ensures refused { let reach = ⟦<EnvOf<S, M, T> as Outside>⟧.reach in
+            let m = (reach env.old).meaning in
+            IfErr result (λ e. IsFault (reach env.old) (reach env.new) e ⊎ (e ≡ SlateDBError.LimitReached LIMIT) ⊎ ((ops : Ops) → IsBatchOf ops batch → AreFine ops → step (rules_of self.old.settings m) (at now self.old.state) (lines.Write ops) ≡ (at now self.old.state, Refused e))) }
         ensures event { IfOk result (λ n. IsWritten self.old self.new n now batch.ops) }
         ensures vouched { OnOk result ((m : Meaning) (other : List ℕ) → IsVouchedFor m self.old other → IsVouchedFor m self.new other) }
-        ensures kept { OnOk result ((m : Meaning) → IsKept m self.old → IsKept m self.new) }
-        ensures load { (ops : Ops) → IsBatchOf ops batch → OnOk result (load self.new ≤ load self.old + ops_load ops) }
+        ensures kept { let reach = ⟦<EnvOf<S, M, T> as Outside>⟧.reach in
+            let m = (reach env.old).meaning in
+            OnOk result (IsKept m self.old → IsKept m self.new) }
+        ensures load { (ops : Ops) → IsBatchOf ops batch → OnOk result (load self.new ≤ load self.old + length ops) }
         ensures same { OnErr result (IsSame self.old self.new) }
         ensures idle { batch.ops ≡ [] → IsOk result }
         ensures exhausted { batch.ops ≢ [] → last_of self.old.settings.start_seq self.old.state.commits ≡ 2 ^ 64 - 2 → result ≡ Err SlateDBError.SequenceExhausted }
         ensures limit { batch.ops ≢ [] → last_of self.old.settings.start_seq self.old.state.commits < 2 ^ 64 - 2 → NoPlace 1 self.old → result ≡ Err (SlateDBError.LimitReached LIMIT) }
-        ensures cause { IfErr result (λ e. (e ≡ SlateDBError.OutOfMemory) ⊎ (((e ≡ SlateDBError.SequenceExhausted) × (last_of self.old.settings.start_seq self.old.state.commits ≡ 2 ^ 64 - 2)) ⊎ ((e ≡ SlateDBError.LimitReached LIMIT) × (NoPlace 1 self.old)))) }
+        ensures first { let reach = ⟦<EnvOf<S, M, T> as Outside>⟧.reach in
+            let m = (reach env.old).meaning in
+            batch.ops ≢ [] → last_of self.old.settings.start_seq self.old.state.commits < 2 ^ 64 - 2 → ¬ NoPlace 1 self.old →
+            (e : SlateDBError) → batch_refusal m.combine self.old.settings.default_millis now batch ≡ Some e → (result ≡ Err e) ⊎ (result ≡ Err SlateDBError.OutOfMemory) }
+        ensures cause { let reach = ⟦<EnvOf<S, M, T> as Outside>⟧.reach in
+            let m = (reach env.old).meaning in
+            IfErr result (λ e. IsFault (reach env.old) (reach env.new) e
+                ⊎ ((e ≡ SlateDBError.SequenceExhausted) × (last_of self.old.settings.start_seq self.old.state.commits ≡ 2 ^ 64 - 2))
+                ⊎ ((e ≡ SlateDBError.LimitReached LIMIT) × NoPlace 1 self.old)
+                ⊎ (batch_refusal m.combine self.old.settings.default_millis now batch ≡ Some e)) }
+        ensures call { let reach = ⟦<EnvOf<S, M, T> as Outside>⟧.reach in IsCall (reach env.old) (reach env.new) [] }
+        ensures reads { let reach = ⟦<EnvOf<S, M, T> as Outside>⟧.reach in OnlyReads (reach env.old) (reach env.new) }
     {
         let _laws = laws;
         if batch.is_empty() {
@@ -278,12 +299,13 @@ impl Core {
         self.log.place(1)?;
         self.log.reserve()?;
         let seq = self.log.last() + 1;
-        let (rows, _bytes) = batch.extract_entries(
+        let rows = tested_rows::<M, X>(
             self.alloc,
+            &batch,
             seq,
             now,
             self.default_millis,
-            &mut None::<NoOperator>,
+            &mut env.operator,
         )?;
         let ops = batch.ops(self.alloc)?;
         let keys = batch.keys()?;
@@ -302,10 +324,10 @@ impl Core {
     /// Freezes, stores the rows that wait as tables, and gives the newest sequence. Of each key the rows at or below the
     /// barrier, which is the least begin of an open transaction or sequence of an open snapshot, or else the newest sequence,
     /// become their fold. Where no rows are in memory nothing is stored. Refuses by `LimitReached` where the journal has no place
-    /// for the events, and then nothing is changed, or where a table would pass a limit; by `StoreFault` and
-    /// `BlockTransformError`, each only where its count of faults rose, and then the rows are frozen; and by `OutOfMemory`. Else
-    /// the rows are in memory as before, or frozen, and the store's objects are as they were, or have some first of the tables,
-    /// which no event names.
+    /// for the events, and then nothing is changed, or where a table would pass a limit; by `StoreFault`, `BlockTransformError` and
+    /// `Callback`, each only where its count of faults rose, and then the rows are frozen; by `MergeOperatorMissing`, only where a
+    /// row in memory is an operand and there is no operator; and by `OutOfMemory`. Else the rows are in memory as before, or frozen,
+    /// and the store's objects are as they were, or have some first of the tables, which no event names.
     pub fn flush<S: Store, M: MergeOperator, T: BlockTransformer, X: PrefixExtractor>(
         &mut self,
         env: &mut Env<'_, S, M, T>,
@@ -318,15 +340,19 @@ impl Core {
         ensures taken { OnOk result ((self.new.active ≡ []) × (self.new.frozen ≡ [])) }
         ensures quiet { OnOk result (IsQuiet self.new.events) }
         ensures refused { let reach = ⟦<EnvOf<S, M, T> as Outside>⟧.reach in OnErr result ((between : CoreModel) × (IsSame self.old between ⊎ IsFrozen self.old between) × IsSame between self.new × MayPut (layout_of laws.now.options) (reach env.old) (reach env.new) between) }
-        ensures frozen { (result ≡ Err SlateDBError.StoreFault) ⊎ (result ≡ Err SlateDBError.BlockTransformError) → (between : CoreModel) × IsFrozen self.old between × IsSame between self.new }
+        ensures frozen { (result ≡ Err SlateDBError.StoreFault) ⊎ (result ≡ Err SlateDBError.BlockTransformError) ⊎ (result ≡ Err SlateDBError.MergeOperatorMissing) ⊎ ((message : List ℕ) × (result ≡ Err (SlateDBError.Callback message))) → (between : CoreModel) × IsFrozen self.old between × IsSame between self.new }
         ensures full { NoPlaceToFlush self.old → self.new ≡ self.old }
         ensures full_objects { let reach = ⟦<EnvOf<S, M, T> as Outside>⟧.reach in NoPlaceToFlush self.old → (reach env.new).objects ≡ (reach env.old).objects }
         ensures vouched { OnOk result ((m : Meaning) (other : List ℕ) → IsVouchedFor m self.old other → IsVouchedFor m self.new other) }
-        ensures kept { let reach = ⟦<EnvOf<S, M, T> as Outside>⟧.reach in (m : Meaning) → m.encode ≡ (reach env.old).meaning.encode → IsKept m self.old → IsKept m self.new }
+        ensures kept { let reach = ⟦<EnvOf<S, M, T> as Outside>⟧.reach in
+            let m = (reach env.old).meaning in
+            IsKept m self.old → IsKept m self.new }
+        ensures operable { let reach = ⟦<EnvOf<S, M, T> as Outside>⟧.reach in
+            let m = (reach env.old).meaning in
+            IsKept m self.old → IfErr result (λ e. e ≢ SlateDBError.MergeOperatorMissing) }
         ensures settings { self.new.settings ≡ self.old.settings }
         ensures limit { NoPlaceToFlush self.old → result ≡ Err (SlateDBError.LimitReached LIMIT) }
         ensures cause { let reach = ⟦<EnvOf<S, M, T> as Outside>⟧.reach in IfErr result (IsFlushError (layout_of laws.now.options) (reach env.old) (reach env.new) self.old) }
-        ensures operator { env.new.operator ≡ env.old.operator }
         ensures puts { let reach = ⟦<EnvOf<S, M, T> as Outside>⟧.reach in Puts (reach env.old) (reach env.new) }
     {
         self.place_for_flush()?;
@@ -361,9 +387,12 @@ impl Core {
         ensures acts { let reach = ⟦<EnvOf<S, M, T> as Outside>⟧.reach in OnOk result (AddsTables (tables_of self.old.events) (tables_of self.new.events) (reach env.old).acts (reach env.new).acts) }
         ensures same { OnErr result (IsSame self.old self.new) }
         ensures refused { let reach = ⟦<EnvOf<S, M, T> as Outside>⟧.reach in OnErr result (MayPut (layout_of options.now) (reach env.old) (reach env.new) self.old) }
-        ensures kept { let reach = ⟦<EnvOf<S, M, T> as Outside>⟧.reach in (m : Meaning) → m.encode ≡ (reach env.old).meaning.encode → IsKept m self.old → IsKept m self.new }
-        ensures cause { let reach = ⟦<EnvOf<S, M, T> as Outside>⟧.reach in IfErr result (λ e. IsFault (reach env.old) (reach env.new) e ⊎ TooLarge (layout_of options.now) self.old e) }
-        ensures operator { env.new.operator ≡ env.old.operator }
+        ensures kept { let reach = ⟦<EnvOf<S, M, T> as Outside>⟧.reach in
+            let m = (reach env.old).meaning in
+            IsKept m self.old → IsKept m self.new }
+        ensures cause { let reach = ⟦<EnvOf<S, M, T> as Outside>⟧.reach in
+            let m = (reach env.old).meaning in
+            IfErr result (λ e. IsFault (reach env.old) (reach env.new) e ⊎ TooLarge m (layout_of options.now) self.old e ⊎ WantsOperator m (memory self.old) e) }
         ensures puts { let reach = ⟦<EnvOf<S, M, T> as Outside>⟧.reach in Puts (reach env.old) (reach env.new) }
     {
         let barrier = self.barrier();
@@ -382,16 +411,20 @@ impl Core {
         Ok(self.log.last())
     }
 
-    /// The row that a reader at a sequence sees at a key, where it has no operations of its own.
+    /// The row that a reader at a sequence sees at a key, under the rows of its own operations, newest first, of which none decides.
     fn seen<S: Store, M: MergeOperator, T: BlockTransformer>(
         &self,
+        own: Vec<RowEntry>,
         key: &Bytes,
         at: u64,
         env: &mut Env<'_, S, M, T>,
     ) -> Result<Option<RowEntry>, SlateDBError>
+        requires { AllByRecursion (λ r. is_operand r ≡ true) own.items }
+        requires own { AllByRecursion (IsOwnOperand self.now) own.items }
+        requires keys { AllByRecursion (λ r. r.key ≡ key.now) own.items }
         ensures read { let reach = ⟦<EnvOf<S, M, T> as Outside>⟧.reach in
             let m = (reach env.old).meaning in
-            IsRead (reach env.old) (reach env.new) self.now (λ row. self.now.floor ≤ at → row ≡ fold_rows (combine_of m key.now) (key_rows (rules_of self.now.settings m) key.now (up_to at self.now.state.commits))) result }
+            IsRead (reach env.old) (reach env.new) self.now (λ row. self.now.floor ≤ at → row ≡ fold_rows (combine_of m key.now) (key_rows (rules_of self.now.settings m) key.now (up_to at self.now.state.commits) ++ reverse own.items)) result }
     {
         let near = newest_of_memory(
             self.alloc,
@@ -425,14 +458,15 @@ impl Core {
             let m = (reach env.old).meaning in
             (from : Reader) → reader self.now.state id.now ≡ Some from → IsRead (reach env.old) (reach env.new) self.now (λ row. self.now.floor ≤ at → row ≡ fold_rows (combine_of m key.now) (key_rows (rules_of self.now.settings m) key.now (up_to at self.now.state.commits) ++ map (own_row key.now) (kept from.ops key.now))) result }
         ensures own { let reach = ⟦<EnvOf<S, M, T> as Outside>⟧.reach in
-            (t : Tx) → find_named id.now self.now.state.txns ≡ Some t → kept t.ops key.now ≢ [] → IsOwnRead (reach env.old) (reach env.new) (λ row. (c : Combine) → row ≡ fold_rows c (map (own_row key.now) (kept t.ops key.now))) result }
+            (t : Tx) (op : WriteOp) → find_named id.now self.now.state.txns ≡ Some t → kept t.ops key.now ≡ op ∷ [] → replaces op ≡ true → IsOwnRead (reach env.old) (reach env.new) (λ row. row ≡ Some (own_row key.now op)) result }
+        ensures decided { let reach = ⟦<EnvOf<S, M, T> as Outside>⟧.reach in
+            (t : Tx) → find_named id.now self.now.state.txns ≡ Some t → decides_own key.now t.ops ≡ true → IsCall (reach env.old) (reach env.new) [] }
     {
         let own = self.transactions.own_rows(self.alloc, id, key)?;
         if is_decided(&own) {
-            return Ok(first(own));
+            return fold_found(self.alloc, own, &mut env.operator);
         }
-        drop(own);
-        self.seen(key, at, env)
+        self.seen(own, key, at, env)
     }
 
     /// What an open transaction or an open snapshot sees at a key, and `None` where that is nothing, as at a key that no row can
@@ -456,7 +490,10 @@ impl Core {
         ensures read { let reach = ⟦<EnvOf<S, M, T> as Outside>⟧.reach in
             IsRead (reach env.old) (reach env.new) self.old (λ a. step (rules_of self.old.settings (reach env.old).meaning) self.old.state (lines.Get id.now key.now) ≡ (self.new.state, Found a)) result }
         ensures own { let reach = ⟦<EnvOf<S, M, T> as Outside>⟧.reach in
-            (t : Tx) → find_named id.now self.old.state.txns ≡ Some t → kept t.ops key.now ≢ [] → IsOwnRead (reach env.old) (reach env.new) (λ a. (c : Combine) → a ≡ option_map key_value (shown c (map (own_row key.now) (kept t.ops key.now)))) result }
+            (t : Tx) (op : WriteOp) → find_named id.now self.old.state.txns ≡ Some t → kept t.ops key.now ≡ op ∷ [] → replaces op ≡ true →
+            IsOwnRead (reach env.old) (reach env.new) (λ a. (c : Combine) → a ≡ option_map key_value (shown c (own_row key.now op ∷ []))) result }
+        ensures decided { let reach = ⟦<EnvOf<S, M, T> as Outside>⟧.reach in
+            (t : Tx) → find_named id.now self.old.state.txns ≡ Some t → decides_own key.now t.ops ≡ true → IsCall (reach env.old) (reach env.new) [] }
         ensures vouched { let reach = ⟦<EnvOf<S, M, T> as Outside>⟧.reach in
             let m = (reach env.old).meaning in
             IsAnswered (reach env.old) (reach env.new) self.old → (other : List ℕ) → IsVouchedFor m self.old other → IsVouchedFor m self.new other }
@@ -696,6 +733,47 @@ impl Core {
         self.transactions.delete(self.alloc, id, key)
     }
 
+    /// Puts an operand in an open transaction, behind its operations of the key. Refuses by `MergeOperatorMissing` exactly where
+    /// there is no operator; then by `EmptyKey`, by `KeyTooLong` above 65535 bytes, by `ValueTooLong` above 2^32 - 1 bytes, in this
+    /// order, and by `OutOfMemory`, and then nothing is put. Calls no operator.
+    pub fn merge<S: Store, M: MergeOperator, T: BlockTransformer>(
+        &mut self,
+        id: &Uuid,
+        key: &[u8],
+        value: &[u8],
+        options: &MergeOptions,
+        env: &mut Env<'_, S, M, T>,
+    ) -> Result<(), SlateDBError>
+        requires { IsSome (find_named id.now self.old.state.txns) }
+        ensures step { let reach = ⟦<EnvOf<S, M, T> as Outside>⟧.reach in
+            let m = (reach env.old).meaning in
+            OnOk result (step (rules_of self.old.settings m) self.old.state (lines.Merge id.now key.now value.now options.now.ttl) ≡ (self.new.state, Done)) }
+        ensures refused { let reach = ⟦<EnvOf<S, M, T> as Outside>⟧.reach in
+            let m = (reach env.old).meaning in
+            IfErr result (λ e. (e ≡ SlateDBError.OutOfMemory) ⊎ (step (rules_of self.old.settings m) self.old.state (lines.Merge id.now key.now value.now options.now.ttl) ≡ (self.old.state, Refused e))) }
+        ensures taken { OnOk result (self.new ≡ operated self.old id.now (with_op key.now (WriteOp.Merge value.now options.now))) }
+        ensures missing { let reach = ⟦<EnvOf<S, M, T> as Outside>⟧.reach in
+            let m = (reach env.old).meaning in
+            m.combine ≡ None → result ≡ Err SlateDBError.MergeOperatorMissing }
+        ensures test { let reach = ⟦<EnvOf<S, M, T> as Outside>⟧.reach in
+            let m = (reach env.old).meaning in
+            (e : SlateDBError) → IsSome m.combine → op_refusal key.now (WriteOp.Merge value.now options.now) ≡ Some e → result ≡ Err e }
+        ensures cause { let reach = ⟦<EnvOf<S, M, T> as Outside>⟧.reach in
+            let m = (reach env.old).meaning in
+            IfErr result (λ e. (e ≡ SlateDBError.OutOfMemory) ⊎ ((e ≡ SlateDBError.MergeOperatorMissing) × (m.combine ≡ None)) ⊎ (op_refusal key.now (WriteOp.Merge value.now options.now) ≡ Some e)) }
+        ensures kept { let reach = ⟦<EnvOf<S, M, T> as Outside>⟧.reach in
+            let m = (reach env.old).meaning in
+            IsKept m self.old → IsKept m self.new }
+        ensures vouched { (m : Meaning) (other : List ℕ) → IsVouchedFor m self.old other → IsVouchedFor m self.new other }
+        ensures same { OnErr result (self.new ≡ self.old) }
+        ensures outside { env.new ≡ env.old }
+    {
+        if env.operator.is_none() {
+            return Err(SlateDBError::MergeOperatorMissing);
+        }
+        self.transactions.merge(self.alloc, id, key, value, options)
+    }
+
     /// Marks keys as read by an open transaction, at either level. Where memory is wanting none is marked.
     pub fn mark_read(&mut self, id: &Uuid, keys: &[Bytes]) -> Result<(), SlateDBError>
         requires { IsSome (find_named id.now self.old.state.txns) }
@@ -724,22 +802,43 @@ impl Core {
 
     /// Commits an open transaction at a moment, and gives its sequence, or None where it has no operations. It ends either way.
     /// Refuses by `TransactionConflict`, with the greatest sequence that conflicts, before all other tests; by
-    /// `SequenceExhausted` where no sequence is left; and by `OutOfMemory`, and then nothing is committed.
-    pub fn commit<X: PrefixExtractor>(
+    /// `SequenceExhausted` where no sequence is left; by `MergeOperatorMissing` where it took a merge and there is no operator any
+    /// more; by `IncompatibleMergeTtls`, upwards by key, where operations of a key that it keeps differ in expiry; then by
+    /// `Callback`, only where the operator's count of faults rose; and by `OutOfMemory`. Then nothing is committed.
+    pub fn commit<S: Store, M: MergeOperator, T: BlockTransformer, X: PrefixExtractor>(
         &mut self,
         id: &Uuid,
         now: i64,
+        env: &mut Env<'_, S, M, T>,
         laws: &Laws<X>,
     ) -> Result<Option<u64>, SlateDBError>
         requires { IsSome (find_named id.now self.old.state.txns) }
-        ensures step { IfOk result (λ n. (m : Meaning) → step (rules_of self.old.settings m) (at now self.old.state) (lines.Commit id.now) ≡ (at now self.new.state, Committed n)) }
-        ensures refused { IfErr result (λ e. (e ≡ SlateDBError.OutOfMemory) ⊎ ((m : Meaning) → step (rules_of self.old.settings m) (at now self.old.state) (lines.Commit id.now) ≡ (at now self.new.state, Refused e))) }
+        ensures step { let reach = ⟦<EnvOf<S, M, T> as Outside>⟧.reach in
+            let m = (reach env.old).meaning in
+            IfOk result (λ n. step (rules_of self.old.settings m) (at now self.old.state) (lines.Commit id.now) ≡ (at now self.new.state, Committed n)) }
+        ensures refused { let reach = ⟦<EnvOf<S, M, T> as Outside>⟧.reach in
+            let m = (reach env.old).meaning in
+            IsOperable m self.old → IfErr result (λ e. IsFault (reach env.old) (reach env.new) e ⊎ (step (rules_of self.old.settings m) (at now self.old.state) (lines.Commit id.now) ≡ (at now self.new.state, Refused e))) }
         ensures event { (t : Tx) → find_named id.now self.old.state.txns ≡ Some t → IfOk result (λ n. IsCommitted self.old self.new id.now n now t) }
         ensures ended { OnErr result (IsEnded self.old self.new id.now) }
         ensures others { (m : Meaning) (other : List ℕ) → other ≢ id.now → IsVouchedFor m self.old other → IsVouchedFor m self.new other }
-        ensures kept { (m : Meaning) → IsKept m self.old → IsKept m self.new }
-        ensures load { (t : Tx) → find_named id.now self.old.state.txns ≡ Some t → load self.new ≤ load self.old + ops_load t.ops }
-        ensures cause { (t : Tx) → find_named id.now self.old.state.txns ≡ Some t → IfErr result (λ e. (e ≡ SlateDBError.OutOfMemory) ⊎ (IsConflict (conflict self.old.state.commits t) e ⊎ ((e ≡ SlateDBError.SequenceExhausted) × (last_of self.old.settings.start_seq self.old.state.commits ≡ 2 ^ 64 - 2)))) }
+        ensures kept { let reach = ⟦<EnvOf<S, M, T> as Outside>⟧.reach in
+            let m = (reach env.old).meaning in
+            IsKept m self.old → IsKept m self.new }
+        ensures load { (t : Tx) → find_named id.now self.old.state.txns ≡ Some t → load self.new ≤ load self.old + length t.ops }
+        ensures first { let reach = ⟦<EnvOf<S, M, T> as Outside>⟧.reach in
+            let m = (reach env.old).meaning in
+            (t : Tx) (e : SlateDBError) → find_named id.now self.old.state.txns ≡ Some t →
+            IsTestRefusal m.combine self.old.settings.default_millis now (last_of self.old.settings.start_seq self.old.state.commits) (conflict self.old.state.commits t) t.ops e →
+            (result ≡ Err e) ⊎ (result ≡ Err SlateDBError.OutOfMemory) }
+        ensures cause { let reach = ⟦<EnvOf<S, M, T> as Outside>⟧.reach in
+            let m = (reach env.old).meaning in
+            (t : Tx) → find_named id.now self.old.state.txns ≡ Some t → IfErr result (λ e. IsFault (reach env.old) (reach env.new) e
+                ⊎ IsConflict (conflict self.old.state.commits t) e
+                ⊎ ((e ≡ SlateDBError.SequenceExhausted) × (last_of self.old.settings.start_seq self.old.state.commits ≡ 2 ^ 64 - 2))
+                ⊎ IsTestRefusal m.combine self.old.settings.default_millis now (last_of self.old.settings.start_seq self.old.state.commits) (conflict self.old.state.commits t) t.ops e) }
+        ensures call { let reach = ⟦<EnvOf<S, M, T> as Outside>⟧.reach in IsCall (reach env.old) (reach env.new) [] }
+        ensures reads { let reach = ⟦<EnvOf<S, M, T> as Outside>⟧.reach in OnlyReads (reach env.old) (reach env.new) }
     {
         let _laws = laws;
         let Some(owned) = self.transactions.take(id) else {
@@ -755,6 +854,7 @@ impl Core {
             owned,
             last,
             now,
+            &mut env.operator,
         );
         match made {
             Ok(made) => {

@@ -13,7 +13,7 @@ ghost use Rattle.slate_table.specs.TableParts.{version_of};
 ghost use Rattle.slate_table.specs.Parts.{Encode};
 ghost use Rattle.slate_table.specs.Reading.{IsStoreFault};
 ghost use Rattle.slate_db.specs.Answered.{AddsPuts};
-ghost use Rattle.slate_db.specs.Flushed.{layout_of, AreSomeOfFlush, CanFlush, HasTooLarge, IsFolded, IsPut, IsTableAt, IsTooLarge, Layout, MayTakeTables};
+ghost use Rattle.slate_db.specs.Flushed.{layout_of, AreSomeOfFlush, CanFlush, HasTooLarge, IsFolded, IsPut, IsTableAt, IsTooLarge, Layout, MayTakeTables, WantsOperator};
 ghost use Rattle.slate_db.specs.StoredParts.{AreFirstParts, ArePartsPut, CanBuild, IsOneTable, IsPartTooLarge, IsPlace, IsTablePut};
 ghost use Rattle.slate_db.specs.Meaning.{Meaning};
 ghost use Rattle.slate_db.specs.Model.{Rows};
@@ -39,9 +39,9 @@ use std::alloc::Global;
 pub const ROOT: &str = "db";
 
 /// Stores the rows of memtables, of which the newest stands last, as the tables of the flush with this number, and gives what an
-/// install names and what is kept of them. `StoreFault` and `BlockTransformError`, each only where its count of
-/// faults rose; `LimitReached` where a table would have too many blocks; or
-/// `OutOfMemory`. Then the store is as it was, or has some first of the tables.
+/// install names and what is kept of them. `StoreFault`, `BlockTransformError` and `Callback`, each only where its count of
+/// faults rose; `MergeOperatorMissing` where one of the rows is an operand and there is no operator; `LimitReached` where a
+/// table would have too many blocks; or `OutOfMemory`. Then the store is as it was, or has some first of the tables.
 pub fn stored<S: Store, M: MergeOperator, T: BlockTransformer>(
     alloc: Global,
     frozen: &[ImmutableMemtable],
@@ -52,15 +52,15 @@ pub fn stored<S: Store, M: MergeOperator, T: BlockTransformer>(
 ) -> Result<(TableList, SortedRun), SlateDBError>
     requires valid { IsValid options.now }
     requires ready { CanFlush (map (λ t. t.rows) frozen.now) }
-    ensures stored { let reach = ⟦<EnvOf<S, M, T> as Outside>⟧.reach in IfOk result (λ a. IsPut (reach env.old).meaning.encode (layout_of options.now) number barrier (map (λ t. t.rows) frozen.now) a.0 a.1 (reach env.old).objects (reach env.new).objects) }
+    ensures stored { let reach = ⟦<EnvOf<S, M, T> as Outside>⟧.reach in IfOk result (λ a. IsPut (reach env.old).meaning (layout_of options.now) number barrier (map (λ t. t.rows) frozen.now) a.0 a.1 (reach env.old).objects (reach env.new).objects) }
     ensures acts { let reach = ⟦<EnvOf<S, M, T> as Outside>⟧.reach in IfOk result (λ a. AddsPuts a.0 (reach env.old).acts (reach env.new).acts) }
-    ensures refused { let reach = ⟦<EnvOf<S, M, T> as Outside>⟧.reach in OnErr result (MayTakeTables (AreSomeOfFlush (reach env.old).meaning.encode (layout_of options.now) number barrier (map (λ t. t.rows) frozen.now)) (reach env.old).objects (reach env.new).objects) }
+    ensures refused { let reach = ⟦<EnvOf<S, M, T> as Outside>⟧.reach in OnErr result (MayTakeTables (AreSomeOfFlush (reach env.old).meaning (layout_of options.now) number barrier (map (λ t. t.rows) frozen.now)) (reach env.old).objects (reach env.new).objects) }
     ensures cause { let reach = ⟦<EnvOf<S, M, T> as Outside>⟧.reach in IfErr result (λ e. IsFault (reach env.old) (reach env.new) e
-        ⊎ ((rows : Rows) × ((m : Meaning) → IsFolded m barrier (map (λ t. t.rows) frozen.now) rows) × AreInOrder rows × HasTooLarge (layout_of options.now) rows e)) }
-    ensures operator { env.new.operator ≡ env.old.operator }
+        ⊎ ((rows : Rows) × IsFolded (reach env.old).meaning barrier (map (λ t. t.rows) frozen.now) rows × AreInOrder rows × HasTooLarge (layout_of options.now) rows e)
+        ⊎ WantsOperator (reach env.old).meaning (map (λ t. t.rows) frozen.now) e) }
     ensures puts { let reach = ⟦<EnvOf<S, M, T> as Outside>⟧.reach in Puts (reach env.old) (reach env.new) }
 {
-    let rows = rows_of_flush(alloc, frozen, barrier)?;
+    let rows = rows_of_flush(alloc, frozen, barrier, &mut env.operator)?;
     let parts = cut_tables(alloc, rows, options.table_bytes)?;
     stored_run(alloc, number, parts, options, env)
 }

@@ -17,5 +17,6 @@ pub mod lookup;
 pub mod open_scan;
 mod put;
 pub mod scan;
+mod tested;
 mod values;
 pub mod vectors;
