@@ -1,9 +1,10 @@
 -- A change of one open transaction: what becomes of the core, and the model's step.
-use Rattle.std.proofs.Common.{◌≡◌, ℕ, ◌⊎◌, inl, inr, List, [], Option, Some, None, refl, sym, ap, subst, ◌∙◌}
+use Rattle.std.proofs.Common.{◌≡◌, ℕ, false, ◌⊎◌, inl, inr, List, [], Option, Some, None, refl, sym, ap, subst, ◌∙◌}
 use Rattle.std.specs.Prelude.{Result, Ok, Err, OnOk, OnErr, IfErr, IsSome}
 use Rattle.slate_types.specs.declared.error.SlateDBError.{SlateDBError}
 use Rattle.slate_types.specs.declared.error.SlateDBError.TheVariants.{OutOfMemory}
 use Rattle.slate_mem.specs.declared.WriteOp.{WriteOp}
+use Rattle.slate_mem.specs.BatchModel.{holds_merge}
 use Rattle.slate_mem.specs.Refusals.{op_refusal}
 use Rattle.slate_txn.specs.Named.{find_named, update_named}
 use Rattle.slate_txn.specs.Open.{Transactions}
@@ -17,6 +18,7 @@ use Rattle.slate_db.specs.Operated.{operated}
 use Rattle.slate_db.specs.Sound.{IsKept}
 use Rattle.slate_db.specs.View.{view_of, unseen_of, IsWholeInside}
 use Rattle.slate_db.proofs.Keeps.{kept_event}
+use Rattle.slate_db.proofs.Operands.{OwnNone, own_updated}
 use Rattle.slate_db.proofs.Wholes.{KeepsOwn, whole_changed}
 use Rattle.slate_txn.proofs.NamedLaws.{IsNamed, open_is}
 
@@ -26,10 +28,15 @@ pub whole_either : {X E : Type 0} (r : Result X E) (s : Inside) (ts : Transactio
 whole_either (Ok x) s ts id f same own changed err w = subst (λ (us : Transactions). IsWholeInside (record s { transactions = us })) (sym changed) (whole_changed (view_of s) (unseen_of s) id f same own w)
 whole_either (Err e) s ts id f same own changed err w = subst (λ (us : Transactions). IsWholeInside (record s { transactions = us })) (sym err) w
 
+own_either : {X E : Type 0} (r : Result X E) (s : Inside) (ts : Transactions) (id : List ℕ) (f : Tx → Tx) → OnOk r (ts ≡ update_named id f s.transactions) → OnErr r (ts ≡ s.transactions) →
+    ((t : Tx) → holds_merge t.ops ≡ false → OnOk r (holds_merge (f t).ops ≡ false)) → OwnNone s.transactions → OwnNone ts
+own_either (Ok x) s ts id f changed err plain own = subst OwnNone (sym changed) (own_updated id f s.transactions plain own)
+own_either (Err e) s ts id f changed err plain own = subst OwnNone (sym err) own
+
 pub kept_either : {X E : Type 0} (r : Result X E) (m : Meaning) (s : Inside) (c : CoreModel) (ts : Transactions) (id : List ℕ) (f : Tx → Tx) → view_of s ≡ c → OnOk r (ts ≡ update_named id f s.transactions) → OnErr r (ts ≡ s.transactions) →
-    IsKept m c → IsKept m (view_of (record s { transactions = ts }))
-kept_either r m s c ts id f is changed err k =
-    kept_event m (view_of s) (record (view_of s).state { txns = ts }) (view_of s).events (view_of s).spare refl refl refl (subst (λ (v : CoreModel). IsKept m v) (sym is) k)
+    (m.combine ≡ None → (t : Tx) → holds_merge t.ops ≡ false → OnOk r (holds_merge (f t).ops ≡ false)) → IsKept m c → IsKept m (view_of (record s { transactions = ts }))
+kept_either r m s c ts id f is changed err plain k =
+    kept_event m (view_of s) (record (view_of s).state { txns = ts }) (view_of s).events (view_of s).spare refl refl refl (λ none own. own_either r s ts id f changed err (plain none) own) (subst (λ (v : CoreModel). IsKept m v) (sym is) k)
 
 pub operated_is : (s : Inside) (c : CoreModel) (ts : Transactions) (id : List ℕ) (f : Tx → Tx) → view_of s ≡ c → ts ≡ update_named id f s.transactions → view_of (record s { transactions = ts }) ≡ operated c id f
 operated_is s c ts id f is changed = ap (λ (us : Transactions). view_of (record s { transactions = us })) changed ∙ ap (λ (v : CoreModel). operated v id f) is

@@ -6,6 +6,7 @@ mod Short
 mod Folds
 mod AllRows
 mod Kept
+mod Operands
 pub mod Keeps
 mod Quiet
 pub mod RunsOf

@@ -38,6 +38,7 @@ use Rattle.slate_db.specs.Written.{after_write}
 use Rattle.slate_db.proofs.ApartIds.{named_is, none_named, without_none}
 use Rattle.slate_db.proofs.Journals.{apply_more}
 use Rattle.slate_db.proofs.Keeps.{kept_event, kept_rows}
+use Rattle.slate_db.proofs.Operands.{own_without}
 use Rattle.slate_db.proofs.Lists.{all_more, all_map, all_both, all_front, all_behind, none_behind}
 use Rattle.slate_db.proofs.Logs.{tables_same}
 use Rattle.slate_db.proofs.Managing.{managed_begun, managed_changed}
@@ -160,6 +161,7 @@ pub kept_begin : (m : Meaning) (c : CoreModel) (level : IsolationLevel) (n : ℕ
 kept_begin m c level n id spare = kept_event m c _ _ spare refl
     (ap (λ s. s.flushed) (apply_more opening c.events (events.Begin id level n)))
     (tables_same c.events (events.Begin id level n) refl)
+    (λ none own. all_more _ c.state.txns (id, begun level n) own refl)
 
 -- ---- a snapshot
 
@@ -219,6 +221,7 @@ pub kept_snapshot : (m : Meaning) (c : CoreModel) (n : ℕ) (id : List ℕ) (spa
 kept_snapshot m c n id spare = kept_event m c _ _ spare refl
     (ap (λ s. s.flushed) (apply_more opening c.events (events.Snapshot id n)))
     (tables_same c.events (events.Snapshot id n) refl)
+    (λ none own. own)
 
 -- ---- a release
 
@@ -268,6 +271,7 @@ pub kept_release : (m : Meaning) (c : CoreModel) (id : List ℕ) (spare : ℕ) �
 kept_release m c id spare = kept_event m c _ _ spare refl
     (ap (λ s. s.flushed) (apply_more opening c.events (events.Release id)))
     (tables_same c.events (events.Release id) refl)
+    (λ none own. own)
 
 pub shown_in_journal : (c : CoreModel) (x : Unseen) (id : List ℕ) → IsWhole c x → IsSome (find_named id c.state.snapshots) → IsSome (find_named id (replay c.events).snapshots)
 shown_in_journal c x id w h = subst (λ (ps : List (List ℕ × ℕ)). IsSome (find_named id ps)) (sym w.tied.snapshots) h
@@ -335,6 +339,7 @@ pub kept_end : (m : Meaning) (c : CoreModel) (id : List ℕ) (spare : ℕ) → I
 kept_end m c id spare = kept_event m c _ _ spare refl
     (ap (λ s. s.flushed) (apply_more opening c.events (events.End id)))
     (tables_same c.events (events.End id) refl)
+    (λ none own. own_without id c.state.txns own)
 
 -- ---- a change of one transaction
 
@@ -411,7 +416,7 @@ whole_freeze c x spare freeze log layers w = record {
 pub kept_freeze : (m : Meaning) (c : CoreModel) (spare : ℕ) → IsKept m c → IsKept m (after_freeze c spare)
 kept_freeze m c spare kept = kept_rows m (after c) [] (c.frozen ++ (c.active ∷ [])) (λ k. versions_frozen k c.frozen c.active) (kept_event m c _ _ spare refl
     (ap (λ s. s.flushed) (apply_more opening c.events events.Freeze))
-    (tables_same c.events events.Freeze refl) kept)
+    (tables_same c.events events.Freeze refl) (λ none own. own) kept)
   where
     after : CoreModel → CoreModel
     after c = record c { events = c.events ++ (events.Freeze ∷ []); spare = spare }

@@ -1,5 +1,6 @@
 pub mod StoredTable
 pub mod Asked
+pub mod BatchTests
 pub mod Meaning
 pub mod Model
 pub mod Cut
