@@ -1,4 +1,4 @@
--- No row that a flush takes or makes is a merge.
+-- What a fold makes of rows of which none is a merge.
 use Rattle.std.proofs.Common.{◌≡◌, ℕ, Bool, true, false, not, ◌||◌, List, [], ◌∷◌, reverse, option_to_list, refl, sym, subst}
 use Rattle.std.specs.List.{AllByRecursion, list_any}
 use Rattle.slate_types.specs.declared.types.RowEntry.{RowEntry}
@@ -11,13 +11,8 @@ use Rattle.slate_db.specs.Meaning.{Meaning, combine_of}
 use Rattle.slate_db.specs.Flushed.{IsFolded}
 use Rattle.slate_db.specs.Model.{Rows, versions_in}
 use Rattle.slate_db.specs.Sound.{AreBases}
-use Rattle.slate_db.specs.Layers.{FitsMemory}
-use Rattle.slate_db.proofs.Lists.{all_map}
 use Rattle.slate_db.proofs.Short.{all_append, all_filter, all_from_last}
 use Rattle.slate_db.proofs.Versions.{all_by_versions, all_versions_in, twice}
-
-pub bases_in : (layers : List Rows) → AllByRecursion (λ rows. AllByRecursion FitsMemory rows) layers → AllByRecursion AreBases layers
-bases_in layers fit = all_map (λ rows. AllByRecursion FitsMemory rows) AreBases (λ rows h. all_map FitsMemory (λ r. is_base r ≡ true) (λ r f. f.base) rows h) layers fit
 
 value_base : (c : Combine) (v : ValueDeletable) (rs : List RowEntry) → not (is_merge v) ≡ true → not (is_merge (value_of_taken c v rs)) ≡ true
 value_base c v [] h = h
@@ -25,7 +20,7 @@ value_base c (Value v) (r ∷ rs) h = refl
 value_base c Tombstone (r ∷ rs) h = refl
 value_base c (Merge v) (r ∷ rs) h = cc
 
-fold_base : (c : Combine) (rows : List RowEntry) → AreBases rows → AreBases (option_to_list (fold_rows c rows))
+pub fold_base : (c : Combine) (rows : List RowEntry) → AreBases rows → AreBases (option_to_list (fold_rows c rows))
 fold_base c rows h = by (taken rows) (all_from_last (λ r. is_base r ≡ true) is_base rows h)
   where
     by : (rs : List RowEntry) → AreBases rs → AreBases (option_to_list (fold_taken c rs))
@@ -38,7 +33,7 @@ folded_bases m b layers rows h folded = all_by_versions (λ r. is_base r ≡ tru
     let here : AreBases (versions_in k layers) = all_versions_in (λ r. is_base r ≡ true) k layers h in
     subst AreBases (sym (folded k)) (all_append _ _ _ (fold_base (combine_of m k) _ (all_filter _ _ _ here)) (all_filter _ _ _ here)))
 
-no_merge_among : (rows : Rows) → AreBases rows → list_any is_operand rows ≡ false
+pub no_merge_among : (rows : Rows) → AreBases rows → list_any is_operand rows ≡ false
 no_merge_among [] h = refl
 no_merge_among (r ∷ rs) h = by (is_operand r) h.0 (no_merge_among rs h.1)
   where

@@ -29,6 +29,7 @@ mod Seen
 mod Newest
 mod Walks
 mod Bases
+mod NoMerges
 mod Rises
 mod Gets
 mod Answered
