@@ -25,7 +25,7 @@ use Rattle.slate_db.specs.Model.{CoreModel, Rows, memory, IsSame}
 use Rattle.slate_db.specs.Sound.{IsKept, at_most, later}
 use Rattle.slate_db.proofs.Keeps.{kept_event}
 use Rattle.slate_db.proofs.Quiet.{quiet_more}
-use Rattle.slate_db.proofs.Loads.{load_before}
+use Rattle.slate_db.proofs.FlushLoads.{load_before}
 use Rattle.slate_db.proofs.MemoryLayers.{versions_frozen}
 
 abbrev pub frozen_of : CoreModel → ℕ → CoreModel

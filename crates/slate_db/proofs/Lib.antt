@@ -42,6 +42,8 @@ mod Blocks
 mod Damaged
 mod Causes
 pub mod Shown
+mod Sums
+mod FlushLoads
 mod Loads
 mod Steps
 mod Notes
