@@ -45,6 +45,7 @@ pub mod Shown
 mod Sums
 mod FlushLoads
 mod Loads
+mod CommitLoads
 mod Steps
 mod Notes
 mod Passing
@@ -52,6 +53,7 @@ mod ScanStates
 mod ScanNotes
 mod Refused
 mod Plain
+mod Tests
 pub mod Managing
 pub mod TakenBack
 pub mod CommitSteps

@@ -9,13 +9,14 @@ use Rattle.std.proofs.lemmas.Slice.Eq.{bytes_eq-Decides}
 use Rattle.slate_types.specs.declared.error.SlateDBError.{SlateDBError}
 use Rattle.slate_types.specs.declared.error.SlateDBError.TheVariants.{EmptyKey, KeyTooLong}
 use Rattle.slate_types.specs.declared.types.RowEntry.{RowEntry}
-use Rattle.slate_types.specs.Fold.{Combine, fold_rows}
-use Rattle.slate_types.specs.Rows.{sequenced, sequenced_cmp, of_key}
-use Rattle.slate_block.specs.BlockSpelling.{IsKey}
+use Rattle.slate_types.specs.declared.types.ValueDeletable.{ValueDeletable}
+use Rattle.slate_types.specs.declared.types.ValueDeletable.TheVariants.{Value, Merge, Tombstone}
+use Rattle.slate_types.specs.Fold.{Combine, fold_rows, fold_taken, taken, value_of_taken, greatest_seq, latest_creation, earliest_expiry, AreShort, IsShort, KeepsShort}
+use Rattle.slate_types.specs.Rows.{is_base, operand, sequenced, sequenced_cmp, of_key}
+use Rattle.slate_block.specs.BlockSpelling.{IsKey, as_read}
 use Rattle.slate_mem.specs.declared.WriteOp.{WriteOp}
 use Rattle.slate_mem.specs.declared.WriteOp.TheVariants.{Put, Delete, Merge as MergeOp}
 use Rattle.slate_mem.specs.Batch.{Ops, kept, ops_of, batch_keys, replaces}
-use Rattle.slate_mem.specs.BatchModel.{is_merge_op, holds_merge}
 use Rattle.slate_mem.specs.CommitRows.{commit_rows}
 use Rattle.slate_mem.specs.Refusals.{op_refusal, first_refusal, when, value_refusal}
 use Rattle.slate_mem.specs.RowOf.{op_row, row_of}
@@ -25,15 +26,12 @@ use Rattle.slate_db.specs.Layers.{FitsMemory, AreRising}
 use Rattle.slate_db.specs.Log.{AreFine}
 use Rattle.slate_db.proofs.Folds.{row_of_seq}
 use Rattle.slate_db.proofs.Lists.{all_map, all_behind}
-use Rattle.slate_db.proofs.Plain.{few_kept, no_merge, neither}
 use Rattle.slate_db.proofs.Puts.{all_rows, versions_more}
-use Rattle.slate_db.proofs.Short.{all_filter, all_append, all_from_last, fine_one}
+use Rattle.slate_mem.proofs.RowOfLaws.{row-has}
+use Rattle.slate_db.proofs.Short.{all_filter, all_append, all_from_last, fine_one, fold_short}
 use Rattle.slate_db.proofs.Versions.{all_versions_in}
 
--- ---- the row of a put or a delete
-
-IsPlain : List ℕ → WriteOp → Type 0
-IsPlain k op = (replaces op ≡ true) × (op_refusal k op ≡ None)
+-- ---- the row of an operation
 
 some_key : (a b : Bool) (x y : SlateDBError) (rest : List (Option SlateDBError)) → first_refusal (when a x ∷ when b y ∷ rest) ≡ None → (a ≡ false) × (b ≡ false)
 some_key true b x y rest h = cc
@@ -54,34 +52,69 @@ op_key k (Put v o) h = is_key k (value_refusal v ∷ []) h
 op_key k Delete h = is_key k [] h
 op_key k (MergeOp v o) h = is_key k (value_refusal v ∷ []) h
 
-op_fits : (k : List ℕ) (n : ℕ) (d : Option ℕ) (now : ℤ) (op : WriteOp) → IsPlain k op → FitsMemory (op_row k n d now op)
-unfolding IsPlain
-op_fits k n d now (Put v o) h = record { key = op_key k (Put v o) h.1; value = fine_one k (Put v o) h.1; base = refl; read = refl }
-op_fits k n d now Delete h = record { key = op_key k Delete h.1; value = fine_one k Delete h.1; base = refl; read = refl }
-op_fits k n d now (MergeOp v o) h = cc
+-- of a tombstone no expiry is kept
+AreRead : Rows → Type 0
+AreRead rows = AllByRecursion (λ r. as_read 1 r ≡ r) rows
+
+op_read : (k : List ℕ) (n : ℕ) (d : Option ℕ) (now : ℤ) (op : WriteOp) → as_read 1 (op_row k n d now op) ≡ op_row k n d now op
+op_read k n d now (Put v o) = refl
+op_read k n d now Delete = refl
+op_read k n d now (MergeOp v o) = refl
+
+all_read : (k : List ℕ) (n : ℕ) (d : Option ℕ) (now : ℤ) (ops : List WriteOp) → AreRead (map (op_row k n d now) ops)
+unfolding AreRead
+all_read k n d now [] = tt
+all_read k n d now (op ∷ ops) = (op_read k n d now op, all_read k n d now ops)
+
+fold_read : (c : Combine) (rows : Rows) (r : RowEntry) → AreRead rows → fold_taken c rows ≡ Some r → as_read 1 r ≡ r
+unfolding AreRead
+fold_read c [] r h e = cc
+fold_read c (x ∷ []) r h e = subst (λ (y : RowEntry). as_read 1 y ≡ y) (ap (λ o. unwrap_or o r) e) h.0
+fold_read c (x ∷ y ∷ ys) r h e = subst (λ (z : RowEntry). as_read 1 z ≡ z) (ap (λ o. unwrap_or o r) e) (by x.value)
+  where
+    folded : ValueDeletable → RowEntry
+    folded v = record { key = x.key; value = value_of_taken c v (y ∷ ys); seq = greatest_seq x.seq (y ∷ ys); create_ts = latest_creation x.create_ts (y ∷ ys); expire_ts = earliest_expiry x.expire_ts (y ∷ ys) }
+
+    by : (v : ValueDeletable) → as_read 1 (folded v) ≡ folded v
+    unfolding folded
+    by (Value v) = refl
+    by Tombstone = refl
+    by (Merge v) = refl
 
 -- ---- the rows of a commit
 
-plain_ops : (k : List ℕ) (ops : Ops) → AreFine ops → holds_merge ops ≡ false → AllByRecursion (IsPlain k) (ops_of ops k)
-unfolding IsPlain
-plain_ops k [] fine plain = tt
-plain_ops k (o ∷ os) fine plain = let both = neither (is_merge_op o) (holds_merge os) plain in by (bytes_eq o.0 k) refl (no_merge o both.0) (plain_ops k os fine.1 both.1)
+fine_ops : (k : List ℕ) (ops : Ops) → AreFine ops → AllByRecursion (λ op. op_refusal k op ≡ None) (ops_of ops k)
+fine_ops k [] fine = tt
+fine_ops k (o ∷ os) fine = by (bytes_eq o.0 k) refl (fine_ops k os fine.1)
   where
-    by : (b : Bool) → bytes_eq o.0 k ≡ b → replaces o.1 ≡ true → AllByRecursion (λ op. (replaces op ≡ true) × (op_refusal k op ≡ None)) (ops_of os k) →
-        AllByRecursion (λ op. (replaces op ≡ true) × (op_refusal k op ≡ None)) (map (λ p. p.1) (cond b (o ∷ filter (λ p. bytes_eq p.0 k) os) (filter (λ p. bytes_eq p.0 k) os)))
-    by true e this later = ((this, subst (λ (j : List ℕ). op_refusal j o.1 ≡ None) ((bytes_eq-Decides o.0 k).0 e) fine.0), later)
-    by false e this later = later
+    by : (b : Bool) → bytes_eq o.0 k ≡ b → AllByRecursion (λ op. op_refusal k op ≡ None) (ops_of os k) →
+        AllByRecursion (λ op. op_refusal k op ≡ None) (map (λ p. p.1) (cond b (o ∷ filter (λ p. bytes_eq p.0 k) os) (filter (λ p. bytes_eq p.0 k) os)))
+    by true e later = (subst (λ (j : List ℕ). op_refusal j o.1 ≡ None) ((bytes_eq-Decides o.0 k).0 e) fine.0, later)
+    by false e later = later
 
-row_fits : (c : Combine) (d : Option ℕ) (n : ℕ) (now : ℤ) (ops : Ops) (k : List ℕ) (r : RowEntry) → AreFine ops → holds_merge ops ≡ false → row_of c d n now ops k ≡ Some r → FitsMemory r
-row_fits c d n now ops k r fine plain is = by (kept ops k) (few_kept ops k plain) (all_from_last (IsPlain k) replaces (ops_of ops k) (plain_ops k ops fine plain)) is
+rows_short : (k : List ℕ) (n : ℕ) (d : Option ℕ) (now : ℤ) (ops : List WriteOp) → AllByRecursion (λ op. op_refusal k op ≡ None) ops → AreShort (map (op_row k n d now) ops)
+rows_short k n d now [] h = tt
+rows_short k n d now (op ∷ ops) h = (fine_one k op h.0, rows_short k n d now ops h.1)
+
+is_short : (o : Option RowEntry) (r : RowEntry) → o ≡ Some r → AreShort (option_to_list o) → IsShort (operand r)
+is_short None r e h = cc
+is_short (Some x) r e h = subst (λ (y : RowEntry). IsShort (operand y)) (ap (λ o. unwrap_or o r) e) h.0
+
+row_fits : (c : Combine) (d : Option ℕ) (n : ℕ) (now : ℤ) (ops : Ops) (k : List ℕ) (r : RowEntry) → KeepsShort c → AreFine ops → row_of c d n now ops k ≡ Some r → FitsMemory r
+row_fits c d n now ops k r keeps fine is = by (kept ops k) (all_from_last (λ op. op_refusal k op ≡ None) replaces (ops_of ops k) (fine_ops k ops fine)) is
   where
-    by : (xs : List WriteOp) → length xs ≤ 1 → AllByRecursion (IsPlain k) xs → fold_rows c (map (op_row k n d now) xs) ≡ Some r → FitsMemory r
-    by [] few all e = cc
-    by (x ∷ []) few all e = subst FitsMemory (ap (λ o. unwrap_or o r) e) (op_fits k n d now x all.0)
-    by (x ∷ y ∷ ys) few all e = absurd (omega arith)
+    by : (xs : List WriteOp) → AllByRecursion (λ op. op_refusal k op ≡ None) xs → fold_rows c (map (op_row k n d now) xs) ≡ Some r → FitsMemory r
+    unfolding AreRead
+    by [] all e = cc
+    by (x ∷ xs) all e = record {
+      key = subst IsKey (sym (row-has c d n now ops k r is).0) (op_key k x all.0);
+      value = is_short (fold_rows c (map (op_row k n d now) (x ∷ xs))) r e (fold_short c keeps (map (op_row k n d now) (x ∷ xs)) (rows_short k n d now (x ∷ xs) all));
+      read = fold_read c (taken (map (op_row k n d now) (x ∷ xs))) r (all_from_last (λ r. as_read 1 r ≡ r) is_base (map (op_row k n d now) (x ∷ xs)) (all_read k n d now (x ∷ xs))) e;
+    }
 
-pub commit_fits : (c : List ℕ → Combine) (d : Option ℕ) (n : ℕ) (now : ℤ) (ops : Ops) → AreFine ops → holds_merge ops ≡ false → AllByRecursion FitsMemory (commit_rows c d n now ops)
-commit_fits c d n now ops fine plain = all_rows FitsMemory (λ k. row_of (c k) d n now ops k) (λ k r is. row_fits (c k) d n now ops k r fine plain is) (batch_keys ops)
+-- c: what an operator makes, which keeps values short
+pub commit_fits : (c : List ℕ → Combine) (d : Option ℕ) (n : ℕ) (now : ℤ) (ops : Ops) → ((k : List ℕ) → KeepsShort (c k)) → AreFine ops → AllByRecursion FitsMemory (commit_rows c d n now ops)
+commit_fits c d n now ops keeps fine = all_rows FitsMemory (λ k. row_of (c k) d n now ops k) (λ k r is. row_fits (c k) d n now ops k r (keeps k) fine is) (batch_keys ops)
 
 -- ---- rows that are put
 

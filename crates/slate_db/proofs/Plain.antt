@@ -104,14 +104,14 @@ empty_kept (o ∷ os) h = absurd (none (kept_ops (o ∷ os)) (some-kept o os) h)
     none [] s e = s
     none (x ∷ xs) s e = cc
 
-has_some : (ops : Ops) (b : BatchModel) → IsBatchOf ops b → (b.ops ≡ [] → ⊥) → ops ≡ [] → ⊥
+pub has_some : (ops : Ops) (b : BatchModel) → IsBatchOf ops b → (b.ops ≡ [] → ⊥) → ops ≡ [] → ⊥
 has_some ops b of some e = some (of.0 ∙ ap kept_ops e)
 
 -- an empty batch commits nothing
 pub step_nothing : (r : Rules) (s : State) (ops : Ops) (b : BatchModel) → IsBatchOf ops b → b.ops ≡ [] → step r s (lines.Write ops) ≡ (s, Written None)
 step_nothing r s ops b of none = ap (λ os. step r s (lines.Write os)) (empty_kept ops (sym of.0 ∙ none))
 
-written_as : (r : Rules) (s : State) (ops made : Ops) (n : ℕ) → (ops ≡ [] → ⊥) → kept_ops ops ≡ made → batch_keys ops ≡ batch_keys made → last_of r.start_seq s.commits ≡ n → write_refusal r s ops ≡ None →
+pub written_as : (r : Rules) (s : State) (ops made : Ops) (n : ℕ) → (ops ≡ [] → ⊥) → kept_ops ops ≡ made → batch_keys ops ≡ batch_keys made → last_of r.start_seq s.commits ≡ n → write_refusal r s ops ≡ None →
     step r s (lines.Write ops) ≡ (record s { commits = s.commits ++ (record { seq = n + 1; now = s.now; ops = made; tracked = batch_keys made } ∷ []) }, Written (Some (n + 1)))
 written_as r s [] made n some kept keys last fine = absurd (some refl)
 written_as r s (o ∷ os) made n some kept keys last fine =
