@@ -1,11 +1,11 @@
--- The model's step of a commit, of a transaction that took no merge.
-use Rattle.std.proofs.Common.{◌≡◌, ℕ, ◌+◌, ◌-◌, ◌<◌, ◌^◌, false, List, [], ◌∷◌, ◌++◌, map, Option, Some, None, refl, sym, ap, ◌∙◌, append-nil}
-use Rattle.std.specs.Prelude.{option_map}
+-- The model's step of a commit.
+use Rattle.std.proofs.Common.{◌≡◌, ℕ, ◌+◌, ◌-◌, ◌<◌, ◌^◌, List, [], ◌∷◌, ◌++◌, Option, Some, None, refl, sym, ap, ◌∙◌, append-nil}
+use Rattle.std.specs.Prelude.{is_some, option_map}
 use Rattle.slate_types.specs.declared.error.SlateDBError.{SlateDBError}
 use Rattle.slate_types.specs.declared.error.SlateDBError.TheVariants as errors
-use Rattle.slate_mem.specs.Batch.{Ops, batch_keys, kept_ops}
+use Rattle.slate_mem.specs.Batch.{Ops, kept_ops}
 use Rattle.slate_mem.specs.BatchModel.{holds_merge}
-use Rattle.slate_mem.specs.KeyTests.{key_refusal}
+use Rattle.slate_mem.specs.KeyTests.{merges_refusal}
 use Rattle.slate_mem.specs.Refusals.{first_refusal}
 use Rattle.slate_txn.specs.declared.line.Line.TheVariants as lines
 use Rattle.slate_txn.specs.Conflict.{conflict, tracked_writes}
@@ -15,8 +15,9 @@ use Rattle.slate_txn.specs.Replay.{commit_made}
 use Rattle.slate_txn.specs.Reply.{Committed, Refused}
 use Rattle.slate_txn.specs.State.{Rules, State, Tx, last_of}
 use Rattle.slate_txn.specs.Step.{step, of_open, commit, refused_or, with_reply, as_commit, closed}
-use Rattle.slate_db.proofs.Plain.{no_keys}
-use Rattle.slate_db.proofs.Refused.{no_nests, not_exhausted, exhausted}
+use Rattle.slate_db.specs.BatchTests.{test_refusal}
+use Rattle.slate_db.proofs.Refused.{not_exhausted, exhausted}
+use Rattle.slate_db.proofs.Tests.{commit_tests, merges_tested}
 
 -- the state that is left
 abbrev pub closing : State → List ℕ → State
@@ -56,13 +57,13 @@ pub step_full : (r : Rules) (s : State) (id : List ℕ) (t : Tx) (n : ℕ) → f
     step r s (lines.Commit id) ≡ (closing s id, Refused errors.SequenceExhausted)
 step_full r s id t n found none free some last full = refused_by r s id t errors.SequenceExhausted found none (some_refusal r s t free some ∙ exhausted r s n (batch_refusals r s t.ops) last full)
 
--- ---- what commits
+-- where its merges are no reason
+pub step_tests : (r : Rules) (s : State) (id : List ℕ) (t : Tx) (n : ℕ) (e : SlateDBError) → find_named id s.txns ≡ Some t → without id s.snapshots ≡ s.snapshots → conflict s.commits t ≡ None → (t.ops ≡ [] → ⊥) → n ≡ last_of r.start_seq s.commits → n < 2 ^ 64 - 2 → r.segment ≡ None →
+    merges_refusal (is_some r.combine) (holds_merge t.ops) ≡ None → test_refusal r.combine r.default_millis s.now t.ops ≡ Some e → step r s (lines.Commit id) ≡ (closing s id, Refused e)
+step_tests r s id t n e found none free some last fits segment merges is =
+    refused_by r s id t e found none (some_refusal r s t free some ∙ not_exhausted r s n (batch_refusals r s t.ops) last fits ∙ commit_tests r s t.ops segment merges ∙ is)
 
-no_batch : (r : Rules) (s : State) (ops : Ops) → r.segment ≡ None → holds_merge ops ≡ false → first_refusal (batch_refusals r s ops) ≡ None
-no_batch r s ops segment plain =
-    ap (λ ns. first_refusal (map (key_refusal r.segment r.default_millis s.now ops) (batch_keys ops) ++ ns)) (no_nests r s.commits ops segment)
-    ∙ ap first_refusal (append-nil (map (key_refusal r.segment r.default_millis s.now ops) (batch_keys ops)))
-    ∙ no_keys r s.now ops (batch_keys ops) segment plain
+-- ---- what commits
 
 -- the state after a commit
 abbrev pub committed : State → List ℕ → Option ℕ → Tx → State
@@ -86,8 +87,8 @@ made_of : (r : Rules) (s : State) (n : ℕ) (ops : Ops) (tracked : List (List �
 made_of r s n [] tracked some last = absurd (some refl)
 made_of r s n (o ∷ os) tracked some last = (let l = sym last in λ i. (record s { commits = s.commits ++ (record { seq = l i + 1; now = s.now; ops = kept_ops (o ∷ os); tracked = tracked } ∷ []) }, Committed (Some (l i + 1))))
 
-pub step_commits : (r : Rules) (s : State) (id : List ℕ) (t : Tx) (n : ℕ) → find_named id s.txns ≡ Some t → without id s.snapshots ≡ s.snapshots → conflict s.commits t ≡ None → (t.ops ≡ [] → ⊥) → holds_merge t.ops ≡ false → r.segment ≡ None →
+pub step_commits : (r : Rules) (s : State) (id : List ℕ) (t : Tx) (n : ℕ) → find_named id s.txns ≡ Some t → without id s.snapshots ≡ s.snapshots → conflict s.commits t ≡ None → (t.ops ≡ [] → ⊥) → test_refusal r.combine r.default_millis s.now t.ops ≡ None → r.segment ≡ None →
     n ≡ last_of r.start_seq s.commits → n < 2 ^ 64 - 2 → step r s (lines.Commit id) ≡ (committed s id (Some (n + 1)) t, Committed (Some (n + 1)))
-step_commits r s id t n found none free some plain segment last fits =
-    passed r s id t found none (some_refusal r s t free some ∙ not_exhausted r s n (batch_refusals r s t.ops) last fits ∙ no_batch r s t.ops segment plain)
+step_commits r s id t n found none free some tested segment last fits =
+    passed r s id t found none (some_refusal r s t free some ∙ not_exhausted r s n (batch_refusals r s t.ops) last fits ∙ commit_tests r s t.ops segment (merges_tested r.combine r.default_millis s.now t.ops tested) ∙ tested)
     ∙ made_of r (closing s id) n t.ops (tracked_writes t) some last

@@ -1,5 +1,5 @@
 -- A commit of a transaction keeps what is true of a core.
-use Rattle.std.proofs.Common.{◌≡◌, ℕ, ◌+◌, ◌≤◌, ◌<◌, List, [], ◌∷◌, ◌++◌, cond, true, Option, Some, None, option_to_list, ℤ, refl, sym, ap, subst, ◌∙◌, arith, nat_lt, append_assoc, append-nil}
+use Rattle.std.proofs.Common.{◌≡◌, ℕ, ◌+◌, ◌≤◌, ◌<◌, List, [], ◌∷◌, ◌++◌, cond, true, false, Option, Some, None, option_to_list, ℤ, refl, sym, ap, subst, ◌∙◌, arith, nat_lt, append_assoc, append-nil}
 use Rattle.std.specs.List.{AllByRecursion, cons_option}
 use Rattle.std.proofs.lemmas.Bool.Decides.{nat_tests}
 use Rattle.std.proofs.lemmas.Grind.{flat_map-append}
@@ -8,6 +8,7 @@ use Rattle.slate_types.specs.declared.types.Ulid.{Ulid}
 use Rattle.slate_types.specs.declared.types.RowEntry.{RowEntry}
 use Rattle.slate_types.specs.Fold.{fold_rows}
 use Rattle.slate_mem.specs.Batch.{kept_ops}
+use Rattle.slate_mem.specs.BatchModel.{holds_merge}
 use Rattle.slate_mem.specs.RowOf.{row_of}
 use Rattle.slate_txn.specs.declared.event.Event.{Event}
 use Rattle.slate_txn.specs.declared.event.Event.TheVariants as events
@@ -31,6 +32,7 @@ use Rattle.slate_db.proofs.Journals.{apply_more}
 use Rattle.slate_db.proofs.Keeps.{kept_event}
 use Rattle.slate_db.proofs.Lists.{all_more, all_map, all_front}
 use Rattle.slate_db.proofs.Logs.{tables_same}
+use Rattle.slate_db.proofs.Operands.{operable_commit, own_without}
 use Rattle.slate_db.proofs.Quiet.{quiet_more}
 use Rattle.slate_db.proofs.RunsOf.{runs_same}
 use Rattle.slate_db.proofs.Split.{up_to_more}
@@ -104,7 +106,7 @@ whole_idle c x id now t spare n managed log w = record {
 -- ---- what is kept of the rows
 
 pub kept_idle : (m : Meaning) (c : CoreModel) (id : List ℕ) (now : ℤ) (t : Tx) (spare : ℕ) → IsKept m c → IsKept m (after_commit c id None now t c.active spare)
-kept_idle m c id now t spare kept = kept_event m c (after_commit c id None now t c.active spare).state (c.events ++ (e ∷ [])) spare (append-nil c.state.commits) (ap (λ s. s.flushed) (apply_more opening c.events e)) (tables_same c.events e refl) kept
+kept_idle m c id now t spare kept = kept_event m c (after_commit c id None now t c.active spare).state (c.events ++ (e ∷ [])) spare (append-nil c.state.commits) (ap (λ s. s.flushed) (apply_more opening c.events e)) (tables_same c.events e refl) (λ none own. own_without id c.state.txns own) kept
   where
     e : Event
     e = events.Commit id None now (kept_ops t.ops) (tracked_writes t) t.transcript
@@ -114,9 +116,9 @@ cons_list None = refl
 cons_list (Some x) = refl
 
 pub kept_committed : (m : Meaning) (c : CoreModel) (u : Unseen) (id : List ℕ) (now : ℤ) (t : Tx) (rows : Rows) (spare : ℕ) →
-    ((k : List ℕ) → versions k rows ≡ versions k c.active ++ option_to_list (row_of (combine_of m k) c.settings.default_millis (u.last + 1) now (kept_ops t.ops) k)) → IsWhole c u → IsKept m c →
-    IsKept m (after_commit c id (Some (u.last + 1)) now t rows spare)
-kept_committed m c u id now t rows spare each w kept = (
+    ((k : List ℕ) → versions k rows ≡ versions k c.active ++ option_to_list (row_of (combine_of m k) c.settings.default_millis (u.last + 1) now (kept_ops t.ops) k)) →
+    (m.combine ≡ None → holds_merge (kept_ops t.ops) ≡ false) → IsWhole c u → IsKept m c → IsKept m (after_commit c id (Some (u.last + 1)) now t rows spare)
+kept_committed m c u id now t rows spare each plain w kept = (
   λ k.
       flat_map-append (versions k) c.frozen (rows ∷ [])
       ∙ ap (λ xs. versions_in k c.frozen ++ xs) (append-nil (versions k rows) ∙ each k ∙ ap (λ xs. xs ++ option_to_list (row k)) (sym (append-nil (versions k c.active))))
@@ -138,6 +140,7 @@ kept_committed m c u id now t rows spare each w kept = (
         ∙ ap (λ cs. fold_rows (combine_of m k) (key_rows (rules_of c.settings m) k (up_to x cs))) (sym (up_to_more (installed c.events) c.state.commits commit old))
         ∙ ap (λ i. fold_rows (combine_of m k) (key_rows (rules_of c.settings m) k (up_to x (up_to i (c.state.commits ++ (commit ∷ [])))))) (sym through);
   },
+  operable_commit m c (after_commit c id (Some (u.last + 1)) now t rows spare) commit refl (λ none own. own_without id c.state.txns own) (λ none z. plain none) kept.2,
 )
   where
     r : Rules

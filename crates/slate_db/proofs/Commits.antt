@@ -1,8 +1,8 @@
 -- A commit of a transaction, with operations or without, and a refused one.
 --     RowsAfter f c n now t, core_after f s id n now t spare g      the active rows after a commit; the core, of its parts
---     Commits s l y xs id n now t      what the parts become
---     IsRefused old new id now e, HasCause c last t e, HasKnownCause c t e      what the model says of a refused one, and why it is
-use Rattle.std.proofs.Common.{◌≡◌, ℕ, ◌+◌, ◌-◌, ◌^◌, ◌≤◌, ◌<◌, Bool, true, false, cond, bytes_eq, List, [], ◌∷◌, ◌++◌, map, is_some, Option, Some, None, ◌⊎◌, inl, inr, ℤ, unwrap_or, refl, sym, ap, subst, ◌∙◌, arith}
+--     Commits f s l y xs id n now t      what the parts become
+--     IsRefused m fault old new id now e, HasCause .., HasKnownCause ..      what the model says of a refused one, and why it is
+use Rattle.std.proofs.Common.{◌≡◌, ℕ, ◌+◌, ◌-◌, ◌^◌, ◌≤◌, ◌<◌, Bool, true, false, cond, bytes_eq, List, [], ◌∷◌, ◌++◌, length, map, is_some, Option, Some, None, ◌⊎◌, inl, inr, ℤ, unwrap_or, refl, sym, ap, subst, ◌∙◌, arith}
 use Rattle.std.specs.Prelude.{IsNone}
 use Rattle.std.specs.List.{AllByRecursion}
 use Rattle.slate_types.specs.declared.error.SlateDBError.{SlateDBError}
@@ -30,20 +30,23 @@ use Rattle.slate_db.specs.declared.engine.Core.TheInside.{Inside}
 use Rattle.slate_db.specs.Committed.{IsCommitted, IsNextOf, IsFull, after_commit, rows_at, put_at}
 use Rattle.slate_db.specs.Installs.{as_begun}
 use Rattle.slate_db.specs.Layers.{AreLayers, LayersModel}
-use Rattle.slate_db.specs.Load.{load, ops_load}
+use Rattle.slate_db.specs.BatchTests.{IsTestRefusal, test_refusal}
+use Rattle.slate_db.specs.Load.{load}
 use Rattle.slate_db.specs.Log.{AreFine, IsLog, LogModel, MayCommit, with_commit, with_end}
 use Rattle.slate_db.specs.Managed.{IsManaged}
 use Rattle.slate_db.specs.Meaning.{Meaning, combine_of, rules_of}
 use Rattle.slate_db.specs.Model.{CoreModel, Rows, at}
-use Rattle.slate_db.specs.Sound.{IsKept}
+use Rattle.slate_db.specs.Sound.{HasNoMerge, IsKept, IsOperable}
 use Rattle.slate_db.specs.Whole.{IsWhole, Unseen, log_of, layers_of}
-use Rattle.slate_db.proofs.CommitSteps.{step_conflict, step_full, step_idle, step_commits}
+use Rattle.slate_db.proofs.CommitSteps.{step_conflict, step_full, step_idle, step_commits, step_tests}
 use Rattle.slate_db.proofs.CommitWholes.{whole_committed, whole_idle, kept_idle, kept_committed}
 use Rattle.slate_db.proofs.Lists.{all_map, all_behind}
 use Rattle.slate_db.proofs.Loads.{write_load}
 use Rattle.slate_db.proofs.MemoryRows.{commit_within, puts_all}
+use Rattle.slate_db.proofs.Operands.{found_plain, plain_kept}
 use Rattle.slate_db.proofs.Plain.{empty_kept, some_ops}
 use Rattle.slate_db.proofs.Puts.{some_more, versions_more, active_within}
+use Rattle.slate_db.proofs.Tests.{merges_fine, tested_plain}
 use Rattle.slate_db.proofs.Wholes.{after_end, less_one, same_snapshots}
 
 -- ---- what the log takes
@@ -102,17 +105,17 @@ core_after f s id n now t spare g = record s {
   manager = g;
 }
 
-pub record Commits (s : Inside) (l : LogModel) (y : LayersModel) (xs : Transactions) (id : List ℕ) (n : Option ℕ) (now : ℤ) (t : Tx) : Type 0 where
+pub record Commits (f : List ℕ → Combine) (s : Inside) (l : LogModel) (y : LayersModel) (xs : Transactions) (id : List ℕ) (n : Option ℕ) (now : ℤ) (t : Tx) : Type 0 where
   pub log : l ≡ with_commit s.log id n now (kept_ops t.ops) (tracked_writes t) t.transcript l.spare
-  pub layers : (f : List ℕ → Combine) → y ≡ put_at f s.default_millis n now t.ops s.layers
+  pub layers : y ≡ put_at f s.default_millis n now t.ops s.layers
   pub txns : xs ≡ without id s.transactions
   pub next : IsNextOf s.log.last t.ops n
 
-pub committed_is : (f : List ℕ → Combine) (s : Inside) (l : LogModel) (y : LayersModel) (xs : Transactions) (g : Manager) (id : List ℕ) (n : Option ℕ) (now : ℤ) (t : Tx) → Commits s l y xs id n now t →
+pub committed_is : (f : List ℕ → Combine) (s : Inside) (l : LogModel) (y : LayersModel) (xs : Transactions) (g : Manager) (id : List ℕ) (n : Option ℕ) (now : ℤ) (t : Tx) → Commits f s l y xs id n now t →
     core_after f s id n now t l.spare g ≡ record s { log = l; layers = y; transactions = xs; manager = g }
 committed_is f s l y xs g id n now t made =
     let a = sym made.log in
-    let b = sym (made.layers f) in
+    let b = sym made.layers in
     let d = sym made.txns in
     λ i. record s { log = a i; layers = b i; transactions = d i; manager = g }
 
@@ -152,56 +155,72 @@ whole_made f c x id (Some n) now t spare g next managed log layers w =
         (λ managed log layers. whole_committed c x id now t (put_rows c.active (commit_rows f c.settings.default_millis (x.last + 1) now (kept_ops t.ops))) spare
         (some_more f c.settings.default_millis (x.last + 1) now (kept_ops t.ops) c.active (kept_some t.ops next.2)) within g managed log layers w)
 
-pub kept_made : (m : Meaning) (c : CoreModel) (x : Unseen) (id : List ℕ) (n : Option ℕ) (now : ℤ) (t : Tx) (spare : ℕ) → IsNextOf x.last t.ops n → IsWhole c x → IsKept m c → IsKept m (after_commit c id n now t (RowsAfter (combine_of m) c n now t) spare)
-kept_made m c x id None now t spare next w kept = kept_idle m c id now t spare kept
-kept_made m c x id (Some n) now t spare next w kept =
+pub kept_made : (m : Meaning) (c : CoreModel) (x : Unseen) (id : List ℕ) (n : Option ℕ) (now : ℤ) (t : Tx) (spare : ℕ) → IsNextOf x.last t.ops n → test_refusal m.combine c.settings.default_millis now t.ops ≡ None → IsWhole c x → IsKept m c →
+    IsKept m (after_commit c id n now t (RowsAfter (combine_of m) c n now t) spare)
+kept_made m c x id None now t spare next tested w kept = kept_idle m c id now t spare kept
+kept_made m c x id (Some n) now t spare next tested w kept =
     subst (λ (k : ℕ). IsKept m (after_commit c id (Some k) now t (put_rows c.active (commit_rows (combine_of m) c.settings.default_millis k now (kept_ops t.ops))) spare)) (sym next.0)
     (kept_committed m c x id now t (put_rows c.active (commit_rows (combine_of m) c.settings.default_millis (x.last + 1) now (kept_ops t.ops))) spare
-    (λ k. versions_more (combine_of m) c.settings.default_millis (x.last + 1) now (kept_ops t.ops) c.active k (active_within m c x w kept k)) w kept)
+    (λ k. versions_more (combine_of m) c.settings.default_millis (x.last + 1) now (kept_ops t.ops) c.active k (active_within m c x w kept k)) (λ none. plain_kept t.ops (tested_plain m.combine (holds_merge t.ops) c.settings.default_millis now t.ops none tested)) w kept)
 
-pub load_made : (f : List ℕ → Combine) (c : CoreModel) (id : List ℕ) (n : Option ℕ) (now : ℤ) (t : Tx) (spare : ℕ) → holds_merge (kept_ops t.ops) ≡ false → load (after_commit c id n now t (RowsAfter f c n now t) spare) ≤ load c + ops_load t.ops
-load_made f c id None now t spare plain = omega arith
-load_made f c id (Some n) now t spare plain = write_load c f c.settings.default_millis n now (kept_ops t.ops) t.ops plain refl
+pub load_made : (f : List ℕ → Combine) (c : CoreModel) (id : List ℕ) (n : Option ℕ) (now : ℤ) (t : Tx) (spare : ℕ) → load (after_commit c id n now t (RowsAfter f c n now t) spare) ≤ load c + length t.ops
+load_made f c id None now t spare = omega arith
+load_made f c id (Some n) now t spare = write_load c f c.settings.default_millis n now (kept_ops t.ops) t.ops refl
 
 pub event_made : (f : List ℕ → Combine) (c : CoreModel) (last : ℕ) (id : List ℕ) (n : Option ℕ) (now : ℤ) (t : Tx) (spare : ℕ) → IsNextOf last t.ops n → IsCommitted c (after_commit c id n now t (RowsAfter f c n now t) spare) id n now t
 event_made f c last id None now t spare next = (next, refl)
 event_made f c last id (Some n) now t spare next = refl
 
-pub step_made : (m : Meaning) (c : CoreModel) (x : Unseen) (id : List ℕ) (n : Option ℕ) (now : ℤ) (t : Tx) (rows : Rows) (spare : ℕ) → IsWhole c x → find_named id c.state.txns ≡ Some t → conflict c.state.commits t ≡ None → holds_merge t.ops ≡ false →
+pub step_made : (m : Meaning) (c : CoreModel) (x : Unseen) (id : List ℕ) (n : Option ℕ) (now : ℤ) (t : Tx) (rows : Rows) (spare : ℕ) → IsWhole c x → find_named id c.state.txns ≡ Some t → conflict c.state.commits t ≡ None → test_refusal m.combine c.settings.default_millis now t.ops ≡ None →
     IsNextOf x.last t.ops n → step (rules_of c.settings m) (at now c.state) (lines.Commit id) ≡ (at now (after_commit c id n now t rows spare).state, Committed n)
-step_made m c x id None now t rows spare w found free plain next = step_idle (rules_of c.settings m) (at now c.state) id t found (same_snapshots c x id w (ap is_some found)) free next
-step_made m c x id (Some n) now t rows spare w found free plain next =
-    step_commits (rules_of c.settings m) (at now c.state) id t x.last found (same_snapshots c x id w (ap is_some found)) free next.2 plain refl w.log.last next.1
+step_made m c x id None now t rows spare w found free tested next = step_idle (rules_of c.settings m) (at now c.state) id t found (same_snapshots c x id w (ap is_some found)) free next
+step_made m c x id (Some n) now t rows spare w found free tested next =
+    step_commits (rules_of c.settings m) (at now c.state) id t x.last found (same_snapshots c x id w (ap is_some found)) free next.2 tested refl w.log.last next.1
     ∙ (let is = sym next.0 in λ i. (at now (after_commit c id (Some (is i)) now t rows spare).state, Committed (Some (is i))))
 
 -- ---- a refused one
 
 -- what the model says of it
-abbrev pub IsRefused : CoreModel → CoreModel → List ℕ → ℤ → SlateDBError → Type 0
-IsRefused old new id now e = (e ≡ errors.OutOfMemory) ⊎ ((m : Meaning) → step (rules_of old.settings m) (at now old.state) (lines.Commit id) ≡ (at now new.state, Refused e))
+abbrev pub IsRefused : Meaning → (SlateDBError → Type 0) → CoreModel → CoreModel → List ℕ → ℤ → SlateDBError → Type 0
+IsRefused m fault old new id now e = fault e ⊎ (step (rules_of old.settings m) (at now old.state) (lines.Commit id) ≡ (at now new.state, Refused e))
 
--- why it is
-abbrev pub HasCause : CoreModel → ℕ → Tx → SlateDBError → Type 0
-HasCause c last t e = (e ≡ errors.OutOfMemory) ⊎ (IsConflict (conflict c.state.commits t) e ⊎ IsFull last (conflict c.state.commits t) t.ops e)
+-- why it is; fault: a fault that came in the call, or want of memory
+abbrev pub HasCause : {C : Type 0} → Option C → (SlateDBError → Type 0) → CoreModel → ℕ → ℤ → Tx → SlateDBError → Type 0
+HasCause combine fault c last now t e =
+    fault e ⊎ IsConflict (conflict c.state.commits t) e ⊎ IsFull last (conflict c.state.commits t) t.ops e
+    ⊎ IsTestRefusal combine c.settings.default_millis now last (conflict c.state.commits t) t.ops e
 
-abbrev pub HasKnownCause : CoreModel → Tx → SlateDBError → Type 0
-HasKnownCause c t e = (e ≡ errors.OutOfMemory) ⊎ (IsConflict (conflict c.state.commits t) e ⊎ ((e ≡ errors.SequenceExhausted) × (last_of c.settings.start_seq c.state.commits ≡ 2 ^ 64 - 2)))
+abbrev pub HasKnownCause : {C : Type 0} → Option C → (SlateDBError → Type 0) → CoreModel → ℤ → Tx → SlateDBError → Type 0
+HasKnownCause combine fault c now t e =
+    fault e ⊎ IsConflict (conflict c.state.commits t) e
+    ⊎ ((e ≡ errors.SequenceExhausted) × (last_of c.settings.start_seq c.state.commits ≡ 2 ^ 64 - 2))
+    ⊎ IsTestRefusal combine c.settings.default_millis now (last_of c.settings.start_seq c.state.commits) (conflict c.state.commits t) t.ops e
 
 met_step : (m : Meaning) (c : CoreModel) (x : Unseen) (id : List ℕ) (now : ℤ) (t : Tx) (spare : ℕ) (e : SlateDBError) (o : Option ℕ) → IsWhole c x → find_named id c.state.txns ≡ Some t → conflict c.state.commits t ≡ o → IsConflict o e →
     step (rules_of c.settings m) (at now c.state) (lines.Commit id) ≡ (at now (after_end c id spare).state, Refused e)
 met_step m c x id now t spare e None w found is h = absurd h
 met_step m c x id now t spare e (Some n) w found is h = step_conflict (rules_of c.settings m) (at now c.state) id t n found (same_snapshots c x id w (ap is_some found)) is ∙ ap (λ r. (at now (after_end c id spare).state, Refused r)) (sym h)
 
-pub refused_is : (c : CoreModel) (x : Unseen) (id : List ℕ) (now : ℤ) (t : Tx) (spare : ℕ) (e : SlateDBError) → IsWhole c x → find_named id c.state.txns ≡ Some t → HasCause c x.last t e → IsRefused c (after_end c id spare) id now e
-refused_is c x id now t spare e w found (inl short) = inl short
-refused_is c x id now t spare e w found (inr (inl met)) = inr (λ m. met_step m c x id now t spare e (conflict c.state.commits t) w found refl met)
-refused_is c x id now t spare e w found (inr (inr full)) =
-    inr (λ m. step_full (rules_of c.settings m) (at now c.state) id t x.last found (same_snapshots c x id w (ap is_some found)) full.2 full.3 w.log.last full.1 ∙ ap (λ r. (at now (after_end c id spare).state, Refused r)) (sym full.0))
+-- without an operator it took no merge
+own_plain : (m : Meaning) (c : CoreModel) (id : List ℕ) (t : Tx) → IsOperable m c → find_named id c.state.txns ≡ Some t → m.combine ≡ None → holds_merge t.ops ≡ false
+own_plain m c id t operable found none = found_plain id c.state.txns t (operable none).own found
 
-pub cause_is : (c : CoreModel) (x : Unseen) (t : Tx) (e : SlateDBError) → IsWhole c x → HasCause c x.last t e → HasKnownCause c t e
-cause_is c x t e w (inl short) = inl short
-cause_is c x t e w (inr (inl met)) = inr (inl met)
-cause_is c x t e w (inr (inr full)) = inr (inr (full.0, sym w.log.last ∙ full.1))
+pub refused_is : (m : Meaning) (fault : SlateDBError → Type 0) (c : CoreModel) (x : Unseen) (id : List ℕ) (now : ℤ) (t : Tx) (spare : ℕ) (e : SlateDBError) → IsWhole c x → IsOperable m c → find_named id c.state.txns ≡ Some t →
+    HasCause m.combine fault c x.last now t e → IsRefused m fault c (after_end c id spare) id now e
+refused_is m fault c x id now t spare e w operable found (inl short) = inl short
+refused_is m fault c x id now t spare e w operable found (inr (inl met)) = inr (met_step m c x id now t spare e (conflict c.state.commits t) w found refl met)
+refused_is m fault c x id now t spare e w operable found (inr (inr (inl full))) =
+    inr (step_full (rules_of c.settings m) (at now c.state) id t x.last found (same_snapshots c x id w (ap is_some found)) full.2 full.3 w.log.last full.1 ∙ ap (λ r. (at now (after_end c id spare).state, Refused r)) (sym full.0))
+refused_is m fault c x id now t spare e w operable found (inr (inr (inr test))) =
+    inr (step_tests (rules_of c.settings m) (at now c.state) id t x.last e found (same_snapshots c x id w (ap is_some found)) test.free test.some w.log.last test.place refl
+    (merges_fine m.combine t.ops (own_plain m c id t operable found)) test.is)
+
+pub cause_is : {C : Type 0} (combine : Option C) (fault : SlateDBError → Type 0) (c : CoreModel) (x : Unseen) (now : ℤ) (t : Tx) (e : SlateDBError) → IsWhole c x → HasCause combine fault c x.last now t e → HasKnownCause combine fault c now t e
+cause_is combine fault c x now t e w (inl short) = inl short
+cause_is combine fault c x now t e w (inr (inl met)) = inr (inl met)
+cause_is combine fault c x now t e w (inr (inr (inl full))) = inr (inr (inl (full.0, sym w.log.last ∙ full.1)))
+cause_is combine fault c x now t e w (inr (inr (inr test))) =
+    inr (inr (inr (subst (λ (n : ℕ). IsTestRefusal combine c.settings.default_millis now n (conflict c.state.commits t) t.ops e) w.log.last test)))
 
 pub load_ended : (c : CoreModel) (id : List ℕ) (spare n : ℕ) → load (after_end c id spare) ≤ load c + n
 load_ended c id spare n = omega arith

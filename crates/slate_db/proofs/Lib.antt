@@ -45,7 +45,6 @@ pub mod Shown
 mod Sums
 mod FlushLoads
 mod Loads
-mod CommitLoads
 mod Steps
 mod Notes
 mod Passing

@@ -1,5 +1,5 @@
 -- What a write keeps.
-use Rattle.std.proofs.Common.{◌≡◌, ℕ, ◌+◌, ◌-◌, ◌<◌, ◌≤◌, ◌^◌, true, cond, List, [], ◌∷◌, ◌++◌, length, Option, Some, None, option_to_list, ℤ, refl, sym, ap, subst, ◌∙◌, arith, nat_lt, append_assoc, append-nil, length-append}
+use Rattle.std.proofs.Common.{◌≡◌, ℕ, ◌+◌, ◌-◌, ◌<◌, ◌≤◌, ◌^◌, true, false, cond, List, [], ◌∷◌, ◌++◌, length, Option, Some, None, option_to_list, ℤ, refl, sym, ap, subst, ◌∙◌, arith, nat_lt, append_assoc, append-nil, length-append}
 use Rattle.std.specs.List.{AllByRecursion, cons_option}
 use Rattle.std.proofs.lemmas.Bool.Decides.{nat_tests}
 use Rattle.std.proofs.lemmas.Grind.{flat_map-append}
@@ -8,6 +8,7 @@ use Rattle.slate_types.specs.declared.types.Ulid.{Ulid}
 use Rattle.slate_types.specs.declared.types.RowEntry.{RowEntry}
 use Rattle.slate_types.specs.Fold.{fold_rows}
 use Rattle.slate_mem.specs.Batch.{Ops, batch_keys, kept_ops}
+use Rattle.slate_mem.specs.BatchModel.{holds_merge}
 use Rattle.slate_mem.specs.RowOf.{row_of}
 use Rattle.slate_table.specs.Table.{AreInOrder}
 use Rattle.slate_txn.specs.declared.event.Event.{Event}
@@ -25,6 +26,7 @@ use Rattle.slate_db.specs.Whole.{IsWhole, Unseen}
 use Rattle.slate_db.specs.Written.{after_write}
 use Rattle.slate_db.proofs.Journals.{apply_more, used_more, legal_more}
 use Rattle.slate_db.proofs.Lists.{all_more, all_map, all_front}
+use Rattle.slate_db.proofs.Operands.{operable_commit}
 use Rattle.slate_db.proofs.Split.{rising_more, last_more, up_to_more}
 use Rattle.slate_db.proofs.Logs.{tables_same}
 
@@ -33,9 +35,9 @@ cons_list None = refl
 cons_list (Some x) = refl
 
 pub kept_write : (m : Meaning) (c : CoreModel) (u : Unseen) (now : ℤ) (ops : Ops) (rows : Rows) (spare : ℕ) →
-    ((k : List ℕ) → versions k rows ≡ versions k c.active ++ option_to_list (row_of (combine_of m k) c.settings.default_millis (u.last + 1) now ops k)) → IsWhole c u → IsKept m c →
-    IsKept m (after_write c (u.last + 1) now ops rows spare)
-kept_write m c u now ops rows spare each w kept = (
+    ((k : List ℕ) → versions k rows ≡ versions k c.active ++ option_to_list (row_of (combine_of m k) c.settings.default_millis (u.last + 1) now ops k)) →
+    (m.combine ≡ None → holds_merge ops ≡ false) → IsWhole c u → IsKept m c → IsKept m (after_write c (u.last + 1) now ops rows spare)
+kept_write m c u now ops rows spare each plain w kept = (
   λ k.
       flat_map-append (versions k) c.frozen (rows ∷ [])
       ∙ ap (λ xs. versions_in k c.frozen ++ xs) (append-nil (versions k rows) ∙ each k ∙ ap (λ xs. xs ++ option_to_list (row k)) (sym (append-nil (versions k c.active))))
@@ -57,6 +59,7 @@ kept_write m c u now ops rows spare each w kept = (
         ∙ ap (λ cs. fold_rows (combine_of m k) (key_rows r k (up_to x cs))) (sym (up_to_more (installed c.events) c.state.commits commit old))
         ∙ ap (λ i. fold_rows (combine_of m k) (key_rows r k (up_to x (up_to i (c.state.commits ++ (commit ∷ [])))))) (sym through);
   },
+  operable_commit m c (after_write c (u.last + 1) now ops rows spare) commit refl (λ none own. own) (λ none z. plain none) kept.2,
 )
   where
     r : Rules

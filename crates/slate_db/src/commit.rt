@@ -1,19 +1,21 @@
 //! A commit of a transaction, up to its event.
-ghost use Rattle.std.specs.Prelude.{◌≡◌, ◌⊎◌, ◌+◌, ◌<◌, ◌≤◌, ◌++◌, [], ℕ, List, None, false, unwrap_or, IfErr, IfOk, OnOk, OnErr, IsOkUnless};
+ghost use Rattle.std.specs.Prelude.{◌≡◌, ◌⊎◌, ◌+◌, ◌<◌, ◌≤◌, ◌++◌, [], ℕ, List, None, Some, Err, option_map, unwrap_or, IfErr, IfOk, OnOk, OnErr};
 ghost use Rattle.std.specs.List.{AllByRecursion};
 ghost use Rattle.slate_types.specs.declared.error.SlateDBError.{SlateDBError};
-ghost use Rattle.slate_types.specs.Fold.{Combine};
+ghost use Rattle.slate_types.specs.Faults.{faults_of};
+ghost use Rattle.slate_types.specs.Fold.{operator_at};
 ghost use Rattle.slate_mem.specs.CommitRows.{commit_rows};
+ghost use Rattle.slate_mem.specs.Lookup.{IsCallback};
 ghost use Rattle.slate_mem.specs.Table.{put_rows};
 ghost use Rattle.slate_txn.specs.Managers.{StandsFor, IsCommitOf, with_commit, writes_at};
 ghost use Rattle.slate_txn.specs.Named.{find_named, without};
 ghost use Rattle.slate_mem.specs.Batch.{kept_ops};
-ghost use Rattle.slate_mem.specs.BatchModel.{holds_merge};
 ghost use Rattle.slate_txn.specs.Conflict.{conflict, tracked_writes};
 ghost use Rattle.slate_txn.specs.HandedOver.{Grown, IsConflict};
 ghost use Rattle.slate_txn.specs.Replay.{commit_made};
 ghost use Rattle.slate_txn.specs.State.{Commit, Tx};
 ghost use Rattle.slate_txn.specs.Tested.{IsUntracked};
+ghost use Rattle.slate_db.specs.BatchTests.{IsTestRefusal, batch_refusal, test_refusal};
 ghost use Rattle.slate_db.specs.Committed.{IsNextOf, IsFull, put_at};
 ghost use Rattle.slate_db.specs.Managed.{IsManaged};
 ghost use Rattle.slate_db.specs.Layers.{AreLayers, in_memory};
@@ -21,9 +23,10 @@ ghost use Rattle.slate_db.specs.Log.{AreFine};
 
 use crate::layers::Layers;
 use crate::put::put_own;
+use crate::tested::tested_rows;
 use slate_mem::WriteBatch;
 use slate_txn::{DbTransactionInner, KeyList, OpList, Tested, TransactionManager, Transcript};
-use slate_types::{NoOperator, SlateDBError};
+use slate_types::{MergeOperator, SlateDBError};
 use std::alloc::Global;
 use uuid::Uuid;
 
@@ -59,7 +62,7 @@ pub(crate) fn make<M: MergeOperator>(
     ensures steps { IfOk result (λ made. made.transcript ≡ owned.transcript) }
     ensures ops { IfOk result (λ made. made.ops ≡ kept_ops owned.ops) }
     ensures fine { IfOk result (λ made. AreFine made.ops) }
-    ensures tested { OnOk result (IsTestedBy (option_map M.combine operator.old) default_millis now owned.ops) }
+    ensures tested { OnOk result (test_refusal (option_map M.combine operator.old) default_millis now owned.ops ≡ None) }
     ensures next { IfOk result (λ made. IsNextOf last owned.ops made.seq) }
     ensures free { (cs : List Commit) → StandsFor manager.old cs → OnOk result (conflict cs owned ≡ None) }
     ensures put { IfOk result (λ made. layers.new ≡ put_at (operator_at (option_map M.combine operator.old)) default_millis made.seq now owned.ops layers.old) }
@@ -146,7 +149,6 @@ pub(crate) fn put_commit<M: MergeOperator>(
     now: i64,
     operator: &mut Option<M>,
 ) -> Result<OpList, SlateDBError>
-    requires held { batch.now.held_merge ≡ false → holds_merge batch.now.ops ≡ false }
     requires fits { last < 18446744073709551614 }
     requires whole { AreLayers layers.old }
     requires within { AllByRecursion (λ rows. AllByRecursion (λ r. r.seq ≤ last) rows) (in_memory layers.old) }

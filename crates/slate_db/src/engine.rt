@@ -299,7 +299,7 @@ impl Core {
         self.log.place(1)?;
         self.log.reserve()?;
         let seq = self.log.last() + 1;
-        let rows = tested_rows::<M, X>(
+        let rows = tested_rows(
             self.alloc,
             &batch,
             seq,

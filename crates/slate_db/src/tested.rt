@@ -11,12 +11,12 @@ ghost use Rattle.slate_db.specs.Layers.{FitsMemory};
 ghost use Rattle.slate_db.specs.Log.{AreFine};
 
 use slate_mem::WriteBatch;
-use slate_types::{MergeOperator, PrefixExtractor, RowEntry, SlateDBError};
+use slate_types::{MergeOperator, NoExtractor, RowEntry, SlateDBError};
 use std::alloc::Global;
 
 /// Tests a batch that is to become the commit `seq` of the moment `now`, and then gives its rows. Refuses as
 /// `WriteBatch::test_entries` does, then by `Callback`, only where the operator's count of faults rose, and by `OutOfMemory`.
-pub(crate) fn tested_rows<M: MergeOperator, X: PrefixExtractor>(
+pub(crate) fn tested_rows<M: MergeOperator>(
     alloc: Global,
     batch: &WriteBatch,
     seq: u64,
@@ -37,7 +37,7 @@ pub(crate) fn tested_rows<M: MergeOperator, X: PrefixExtractor>(
         now,
         default_millis,
         operator.is_some(),
-        None::<&X>,
+        None::<&NoExtractor>,
     )?;
     drop(prefixes);
     let (rows, _bytes) = batch.extract_entries(alloc, seq, now, default_millis, operator)?;
