@@ -28,8 +28,8 @@ pub callback_fault : (a b : Counts) (e : SlateDBError) → IsCallback a.operator
 callback_fault a b (Callback message) h = h
 callback_fault a b e h = absurd h
 
--- where no row is a merge
-pub fold_fault : {N : Type 0} (a b c : Counts) (merges : Bool) (e : SlateDBError) → IsLater a b → merges ≡ false → (e ≡ OutOfMemory) ⊎ ((e ≡ MergeOperatorMissing) × N × (merges ≡ true)) ⊎ IsCallback b.operator c.operator e → IsCounted a c e
+-- where, without an operator, no row is a merge
+pub fold_fault : {N : Type 0} (a b c : Counts) (merges : Bool) (e : SlateDBError) → IsLater a b → (N → merges ≡ false) → (e ≡ OutOfMemory) ⊎ ((e ≡ MergeOperatorMissing) × N × (merges ≡ true)) ⊎ IsCallback b.operator c.operator e → IsCounted a c e
 fold_fault a b c merges e h none (inl m) = subst (IsCounted a c) (sym m) tt
-fold_fault a b c merges e h none (inr (inl f)) = let clash : true ≡ false = sym f.2 ∙ none in cc
+fold_fault a b c merges e h none (inr (inl f)) = let clash : true ≡ false = sym f.2 ∙ none f.1 in cc
 fold_fault a b c merges e h none (inr (inr k)) = counted_earlier a b c e h (callback_fault b c e k)

@@ -1,13 +1,15 @@
 -- What a get finds, and what it folds to.
-use Rattle.std.proofs.Common.{◌≡◌, ℕ, ◌≤◌, Bool, true, false, cond, List, [], ◌∷◌, ◌++◌, reverse, Option, Some, None, refl, sym, ap, subst, ◌∙◌, bytes_eq, nat_le, nat_lt, append-nil}
-use Rattle.std.specs.List.{AllByRecursion}
+use Rattle.std.proofs.Common.{◌≡◌, ℕ, ◌≤◌, Bool, true, false, ◌||◌, cond, List, [], ◌∷◌, ◌++◌, reverse, Option, Some, None, refl, sym, ap, subst, ◌∙◌, bytes_eq, nat_le, nat_lt, append-nil}
+use Rattle.std.specs.List.{AllByRecursion, list_any}
 use Rattle.std.proofs.lemmas.Grind.{flat_map-append}
+use Rattle.std.proofs.lemmas.List.{reverse-append}
+use Rattle.std.proofs.lemmas.List.Folds.{list_any-append}
 use Rattle.std.proofs.lemmas.Slice.Eq.{bytes_eq-Decides}
 use Rattle.slate_types.specs.declared.types.Ulid.{Ulid}
-use Rattle.slate_types.specs.Fold.{AreShort, fold_rows, taken}
+use Rattle.slate_types.specs.Fold.{AreShort, IsShort, fold_rows, fold_taken, taken}
 use Rattle.slate_types.specs.Join.{AreOf}
 use Rattle.slate_types.specs.Outside.{Objects}
-use Rattle.slate_types.specs.Rows.{is_base, of_key}
+use Rattle.slate_types.specs.Rows.{is_base, of_key, operand}
 use Rattle.slate_store.specs.Store.{object_at}
 use Rattle.slate_mem.specs.Table.{newest, up_to as rows_up_to}
 use Rattle.slate_mem.proofs.MemLaws.{taken-newest}
@@ -21,17 +23,19 @@ use Rattle.slate_mem.specs.Lookup.{newest_first, is_merge_among}
 use Rattle.slate_db.specs.Lookup.{AreStored, AreStoredAs}
 use Rattle.slate_db.specs.Meaning.{Meaning, IsLawfulMeaning, rules_of, combine_of}
 use Rattle.slate_db.specs.Model.{CoreModel, Rows, memory, versions, versions_in}
-use Rattle.slate_db.specs.Sound.{AreBases, AreTables, IsKept, at_most, above}
+use Rattle.slate_db.specs.Readable.{IsOwnOperand}
+use Rattle.slate_db.specs.Sound.{AreBases, AreTables, IsKept, IsOperable, IsTied, at_most, above}
 use Rattle.slate_db.specs.Whole.{IsWhole, Unseen}
-use Rattle.slate_db.proofs.Bases.{bases_in, none_found}
+use Rattle.slate_db.proofs.Bases.{no_merge_among}
 use Rattle.slate_db.proofs.Lists.{all_map}
 use Rattle.slate_mem.proofs.LayerLaws.{first_both}
-use Rattle.slate_db.proofs.Newest.{folds_as_all, versions_are}
+use Rattle.slate_db.proofs.Newest.{versions_are}
+use Rattle.slate_db.proofs.NoMerges.{memory_bases, own_bases_of}
 use Rattle.slate_db.proofs.Runs.{all_handles}
 use Rattle.slate_db.proofs.Seen.{seen_fold}
 use Rattle.slate_db.proofs.Tables.{all_same}
 use Rattle.slate_db.proofs.Short.{all_append, all_filter, all_from_last, commits_short, fine_short}
-use Rattle.slate_db.proofs.Versions.{all_versions_in, short_versions}
+use Rattle.slate_db.proofs.Versions.{all_reverse, all_versions_in, short_versions, twice}
 
 -- ---- the store holds the tables that the core knows
 
@@ -92,48 +96,66 @@ of_keys k (r ∷ rs) = by (bytes_eq r.key k) refl (of_keys k rs)
 
 key_versions : (k : List ℕ) (layers : List Rows) → AllByRecursion (λ r. r.key ≡ k) (versions_in k layers)
 key_versions k [] = tt
-key_versions k (rows ∷ layers) = all_append _ (versions k rows) (versions_in k layers) (Rattle.slate_db.proofs.Versions.all_reverse _ (of_key k rows) (of_keys k rows)) (key_versions k layers)
+key_versions k (rows ∷ layers) = all_append _ (versions k rows) (versions_in k layers) (all_reverse _ (of_key k rows) (of_keys k rows)) (key_versions k layers)
 
 pairs : (k : List ℕ) (rows : Rows) → AllByRecursion (λ r. r.key ≡ k) rows → AreShort rows → AreOf k rows
 pairs k [] h s = tt
 pairs k (r ∷ rs) h s = ((h.0, s.0), pairs k rs h.1 s.1)
 
+pub own_pairs : (k : List ℕ) (own : Rows) → AllByRecursion (λ r. r.key ≡ k) own → AreShort own → AreOf k (reverse own)
+own_pairs k own keys short = pairs k (reverse own) (all_reverse (λ r. r.key ≡ k) own keys) (all_reverse (λ r. IsShort (operand r)) own short)
+
 memory_short : (m : Meaning) (c : CoreModel) (u : Unseen) (k : List ℕ) → IsWhole c u → IsLawfulMeaning m → IsKept m c → AreShort (versions_in k (memory c))
 memory_short m c u k w law kept =
     subst (λ (xs : Rows). AreShort xs) (sym (kept.0 k)) (commits_short (rules_of c.settings m) k (law.short k) _ (all_filter _ (λ x. nat_lt (installed c.events) x.seq) c.state.commits (all_map _ _ (λ x. fine_short x.ops) c.state.commits w.log.fine)))
 
--- the rows that were found can be folded, and fold as the commits do
-pub record Folds (m : Meaning) (c : CoreModel) (k : List ℕ) (at : ℕ) (found : Rows) : Type 0 where
+found_turned : (c : CoreModel) (k : List ℕ) (at : ℕ) (own found : Rows) (layers : List Rows) → found ≡ own ++ newest k at ((c.active ++ newest_first c.frozen) ++ newest_first layers) →
+    reverse found ≡ taken (at_most at (versions_in k (layers ++ memory c))) ++ reverse own
+found_turned c k at own found layers is =
+    ap reverse (is ∙ ap (λ rows. own ++ newest k at rows) (sym (layers_are c layers)))
+    ∙ reverse-append own (newest k at (newest_first (layers ++ memory c)))
+    ∙ ap (λ rows. rows ++ reverse own) (taken-newest (rows_up_to k at (newest_first (layers ++ memory c))) ∙ ap taken (versions_are k at (layers ++ memory c)))
+
+-- what stands before the newest row that is no operand doesn't count under newer rows either
+taken_on : (xs ys : Rows) → taken (taken xs ++ ys) ≡ taken (xs ++ ys)
+taken_on [] ys = refl
+taken_on (x ∷ xs) ys = by (list_any is_base xs) refl (taken_on xs ys)
+  where
+    by : (b : Bool) → list_any is_base xs ≡ b → taken (taken xs ++ ys) ≡ taken (xs ++ ys) → taken (cond b (taken xs) (x ∷ xs) ++ ys) ≡ cond (list_any is_base (xs ++ ys)) (taken (xs ++ ys)) (x ∷ (xs ++ ys))
+    by true e rest = rest ∙ sym (ap (λ b. cond b (taken (xs ++ ys)) (x ∷ (xs ++ ys))) (list_any-append is_base xs ys ∙ ap (λ b. b || list_any is_base ys) e))
+    by false e rest = refl
+
+-- without an operator none of them is an operand
+pub found_bases : (m : Meaning) (c : CoreModel) (k : List ℕ) (at : ℕ) (own found : Rows) (layers : List Rows) → m.combine ≡ None → IsTied m c → IsOperable m c → AllByRecursion AreBases layers → AllByRecursion (IsOwnOperand c) own →
+    found ≡ own ++ newest k at ((c.active ++ newest_first c.frozen) ++ newest_first layers) → is_merge_among found ≡ false
+found_bases m c k at own found layers none tied operable bases owns is =
+    no_merge_among found (twice (λ r. is_base r ≡ true) found (subst AreBases (sym (found_turned c k at own found layers is)) (all_append (λ r. is_base r ≡ true) _ (reverse own) below (all_reverse (λ r. is_base r ≡ true) own (own_bases_of c own (operable none) owns)))))
+  where
+    below : AreBases (taken (at_most at (versions_in k (layers ++ memory c))))
+    below = all_from_last (λ r. is_base r ≡ true) is_base _ (all_filter (λ r. is_base r ≡ true) (λ r. nat_le r.seq at) _ (all_versions_in (λ r. is_base r ≡ true) k (layers ++ memory c) (all_append AreBases layers (memory c) bases (memory_bases m c none tied operable))))
+
+-- the rows that were found can be folded, and fold as the commits do under own rows
+pub record Folds (m : Meaning) (c : CoreModel) (k : List ℕ) (at : ℕ) (own found : Rows) : Type 0 where
   pub are : AreOf k (reverse found)
-  pub fold : fold_rows (combine_of m k) (reverse found) ≡ fold_rows (combine_of m k) (key_rows (rules_of c.settings m) k (up_to at c.state.commits))
+  pub fold : fold_rows (combine_of m k) (reverse found) ≡ fold_rows (combine_of m k) (key_rows (rules_of c.settings m) k (up_to at c.state.commits) ++ reverse own)
 
-found_turned : (c : CoreModel) (k : List ℕ) (at : ℕ) (found : Rows) (layers : List Rows) → found ≡ newest k at ((c.active ++ newest_first c.frozen) ++ newest_first layers) → reverse found ≡ taken (at_most at (versions_in k (layers ++ memory c)))
-found_turned c k at found layers is = ap reverse (is ∙ ap (newest k at) (sym (layers_are c layers))) ∙ taken-newest (rows_up_to k at (newest_first (layers ++ memory c))) ∙ ap taken (versions_are k at (layers ++ memory c))
-
--- none of them is a merge
-pub found_bases : (c : CoreModel) (u : Unseen) (k : List ℕ) (at : ℕ) (found : Rows) (layers : List Rows) →
-    IsWhole c u → AllByRecursion AreBases layers → found ≡ newest k at ((c.active ++ newest_first c.frozen) ++ newest_first layers) → is_merge_among found ≡ false
-found_bases c u k at found layers w bases is = none_found found (at_most at (versions_in k (layers ++ memory c))) (found_turned c k at found layers is)
-    (all_filter _ (λ r. nat_le r.seq at) _ (all_versions_in (λ r. is_base r ≡ true) k (layers ++ memory c) (all_append AreBases layers (memory c) bases (bases_in (memory c) w.layers.fit))))
-
-pub found_folds : (m : Meaning) (c : CoreModel) (u : Unseen) (k : List ℕ) (at : ℕ) (found : Rows) (layers : List Rows) →
-    IsWhole c u → IsLawfulMeaning m → IsKept m c → AreTables m (tables_of c.events) layers → AllByRecursion AreShort layers → c.floor ≤ at → found ≡ newest k at ((c.active ++ newest_first c.frozen) ++ newest_first layers) → Folds m c k at found
-found_folds m c u k at found layers w law kept tables short above is = record {
-  are = subst (AreOf k) (sym turned) (pairs k (taken (at_most at (versions_in k all))) (all_from_last _ is_base _ (all_filter _ (λ r. nat_le r.seq at) _ (key_versions k all))) (all_from_last _ is_base _ (all_filter _ (λ r. nat_le r.seq at) _ all_short)));
-  fold = ap (λ f. fold_rows (combine_of m k) (reverse f)) newest_is ∙ folds_as_all (combine_of m k) k at all
-      ∙ ap (fold_rows (combine_of m k)) (sym (append-nil (at_most at (versions_in k all))))
-      ∙ seen_fold m c u layers k at [] w law kept tables above tt
-      ∙ ap (fold_rows (combine_of m k)) (append-nil (key_rows (rules_of c.settings m) k (up_to at c.state.commits)));
+pub found_folds : (m : Meaning) (c : CoreModel) (u : Unseen) (k : List ℕ) (at : ℕ) (own found : Rows) (layers : List Rows) → IsWhole c u → IsLawfulMeaning m → IsKept m c → AreTables m (tables_of c.events) layers → AllByRecursion AreShort layers → c.floor ≤ at →
+    AllByRecursion (λ r. r.key ≡ k) own → AreShort own → found ≡ own ++ newest k at ((c.active ++ newest_first c.frozen) ++ newest_first layers) → Folds m c k at own found
+found_folds m c u k at own found layers w law kept tables short above keys own_short is = record {
+  are = subst (AreOf k) (sym turned) (all_append _ (taken seen) (reverse own) (pairs k (taken seen) (all_from_last _ is_base seen (all_filter _ (λ r. nat_le r.seq at) _ (key_versions k all))) (all_from_last _ is_base seen (all_filter _ (λ r. nat_le r.seq at) _ all_short)))
+      (own_pairs k own keys own_short));
+  fold = ap (fold_rows (combine_of m k)) turned ∙ ap (fold_taken (combine_of m k)) (taken_on seen (reverse own))
+      ∙ seen_fold m c u layers k at (reverse own) w law kept tables above (all_reverse (λ r. IsShort (operand r)) own own_short);
 }
   where
     all : List Rows
     all = layers ++ memory c
 
-    newest_is : found ≡ newest k at (newest_first all)
-    newest_is = is ∙ ap (newest k at) (sym (layers_are c layers))
+    seen : Rows
+    seen = at_most at (versions_in k all)
 
-    turned : reverse found ≡ taken (at_most at (versions_in k all))
-    turned = found_turned c k at found layers is
+    turned : reverse found ≡ taken seen ++ reverse own
+    turned = found_turned c k at own found layers is
 
     all_short : AreShort (versions_in k all)
     all_short = subst (λ (xs : Rows). AreShort xs) (sym (flat_map-append (versions k) layers (memory c))) (all_append _ (versions_in k layers) (versions_in k (memory c)) (short_versions k layers short) (memory_short m c u k w law kept))

@@ -37,6 +37,7 @@ pub mod PathsApart
 mod Puttings
 mod RunSoFar
 mod Tables
+mod UnderOwn
 mod RunReads
 mod Blocks
 mod Damaged

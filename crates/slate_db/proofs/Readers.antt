@@ -1,6 +1,7 @@
 -- Readers: open transactions, and open snapshots, which have no operations of their own and no transcript.
 use Rattle.std.proofs.Common.{◌≡◌, ◌≤◌, ℕ, Bool, true, false, cond, List, [], ◌∷◌, ◌++◌, map, reverse, Option, Some, None, option_map, unwrap_or, refl, sym, ap, subst, ◌∙◌}
 use Rattle.std.specs.Prelude.{count_by, slice_get}
+use Rattle.std.specs.List.{AllByRecursion}
 use Rattle.std.proofs.lemmas.Option.{same_Some}
 use Rattle.slate_types.specs.declared.bytes_range.BytesRange.{BytesRange}
 use Rattle.slate_types.specs.declared.iter.IterationOrder.{IterationOrder}
@@ -9,7 +10,6 @@ use Rattle.slate_types.specs.declared.types.RowEntry.{RowEntry}
 use Rattle.slate_types.specs.Keys.{in_range}
 use Rattle.slate_types.specs.Rows.{key_value, of_key}
 use Rattle.slate_mem.specs.Batch.{kept}
-use Rattle.slate_mem.specs.BatchModel.{holds_merge}
 use Rattle.slate_mem.specs.RowOf.{own_row}
 use Rattle.slate_txn.specs.declared.event.TranscriptStep.TheVariants as steps
 use Rattle.slate_txn.specs.Alone.{IsVouched, own_of, scans_left}
@@ -19,12 +19,15 @@ use Rattle.slate_txn.specs.State.{State, Tx}
 use Rattle.slate_txn.specs.Step.{Reader, is_scan, noted, reader, reader_or_snapshot, tx_reader}
 use Rattle.slate_txn.proofs.NamedLaws.{update_none}
 use Rattle.slate_db.specs.declared.engine.Core.TheInside.{Inside}
+use Rattle.slate_db.specs.Log.{AreFine}
 use Rattle.slate_db.specs.Meaning.{Meaning, rules_of}
 use Rattle.slate_db.specs.Model.{CoreModel}
+use Rattle.slate_db.specs.Readable.{IsOwnOperand}
 use Rattle.slate_db.specs.Scanned.{HasOwn}
 use Rattle.slate_db.specs.View.{view_of, IsWholeInside}
 use Rattle.slate_db.specs.Vouched.{IsVouchedFor}
 use Rattle.slate_db.proofs.OpenNotes.{noted_left}
+use Rattle.slate_db.proofs.OwnRows.{own_of_open}
 use Rattle.slate_db.proofs.Seen.{found_all}
 use Rattle.slate_db.proofs.Vouches.{found_updated, get_vouched}
 use Rattle.slate_db.proofs.Wholes.{after_note}
@@ -98,12 +101,12 @@ module _ (s : State) (id : List ℕ) (from : Reader) (found : reader s id ≡ So
       by (transaction t here same) = subst (λ (r : Reader). HasOwn range r.ops rows) (sym same) (own t here)
       by (snapshot n here there same) = subst (λ (r : Reader). HasOwn range r.ops rows) (sym same) (λ k. ap (of_key k) (none here) ∙ nothing (in_range range k) _ refl)
 
-  pub plain_of : ((t : Tx) → find_named id s.txns ≡ Some t → holds_merge t.ops ≡ false) → holds_merge from.ops ≡ false
-  plain_of plain = by (who_reads s id from found)
+  pub own_fine_of : ((t : Tx) → find_named id s.txns ≡ Some t → AreFine t.ops) → AreFine from.ops
+  own_fine_of fine = by (who_reads s id from found)
     where
-      by : IsReader s id from → holds_merge from.ops ≡ false
-      by (transaction t here same) = ap (λ (r : Reader). holds_merge r.ops) same ∙ plain t here
-      by (snapshot n here there same) = ap (λ (r : Reader). holds_merge r.ops) same
+      by : IsReader s id from → AreFine from.ops
+      by (transaction t here same) = subst (λ (r : Reader). AreFine r.ops) (sym same) (fine t here)
+      by (snapshot n here there same) = subst (λ (r : Reader). AreFine r.ops) (sym same) tt
 
   -- how many scans it opened
   pub scans_of : (n : ℕ) → ((t : Tx) → find_named id s.txns ≡ Some t → n ≡ count_by is_scan t.transcript) → (find_named id s.txns ≡ None → n ≡ 0) → n ≡ from.scans
@@ -135,3 +138,11 @@ vouched_get m c id k key a from found own is h =
     found_updated (IsVouched (rules_of c.settings m) c.state.commits) id k (λ t. record t { transcript = t.transcript ++ (steps.Get key a ∷ []) }) c.state.txns
     (λ t e g. get_vouched (rules_of c.settings m) c.state.commits key a t (own t e)
     (is ∙ ap (λ (r : Reader). option_map key_value (seen (rules_of c.settings m) c.state.commits r.at r.ops key)) (of_open c.state id t from e found)) g) h
+
+-- own rows are of an open transaction
+pub own_of_reader : (c : CoreModel) (id : List ℕ) (from : Reader) (k : List ℕ) (own : List RowEntry) → reader c.state id ≡ Some from → own ≡ map (own_row k) (reverse (kept from.ops k)) → AllByRecursion (IsOwnOperand c) own
+own_of_reader c id from k own found is = by (who_reads c.state id from found)
+  where
+    by : IsReader c.state id from → AllByRecursion (IsOwnOperand c) own
+    by (transaction t here same) = own_of_open k from.ops own is c id t here (ap (λ (r : Reader). r.ops) same)
+    by (snapshot n here there same) = subst (AllByRecursion (IsOwnOperand c)) (sym (is ∙ ap (λ (r : Reader). map (own_row k) (reverse (kept r.ops k))) same)) tt

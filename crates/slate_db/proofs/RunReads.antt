@@ -13,15 +13,16 @@ use Rattle.slate_types.proofs.Calls.{call_both}
 use Rattle.slate_types.proofs.OutsideLaws.{counted_earlier}
 use Rattle.slate_mem.specs.Lookup.{is_decided, newest_first}
 use Rattle.slate_mem.specs.Table.{newest}
-use Rattle.slate_mem.proofs.LayerLaws.{first_both, stays}
+use Rattle.slate_mem.proofs.LayerLaws.{first_both}
 use Rattle.slate_read.specs.declared.sorted_run.SortedRun.{SortedRun}
 use Rattle.slate_table.specs.declared.info.SsTableHandle.{SsTableHandle}
 use Rattle.slate_table.specs.Parts.{Encode}
 use Rattle.slate_db.specs.Installs.{handles_of}
-use Rattle.slate_db.specs.Lookup.{AreStored, AreStoredAs, IsUnknown}
+use Rattle.slate_db.specs.Lookup.{AreStored, AreStoredAs, FindsBehind, IsUnknown}
 use Rattle.slate_db.specs.Model.{Rows}
 use Rattle.slate_db.specs.Shown.{BringsRow, ShowsDamage}
 use Rattle.slate_db.proofs.Lists.{all_map}
+use Rattle.slate_db.proofs.UnderOwn.{behind_stays}
 
 -- ---- the tables of a run among all
 
@@ -53,31 +54,31 @@ split_stored encode decode objects (h ∷ front) back (rows ∷ layers) are =
 
 -- runs: those that were looked at
 abbrev pub FoundSoFar : Meaning → Objects → List SortedRun → List ℕ → ℕ → List RowEntry → List RowEntry → Type 0
-FoundSoFar m os runs k n newer found = (layers : List Rows) → AreStoredAs m os (handles_of runs) layers → (above : Rows) → newer ≡ newest k n above → found ≡ newest k n (above ++ newest_first layers)
+FoundSoFar m os runs k n newer found = (layers : List Rows) → AreStoredAs m os (handles_of runs) layers → FindsBehind k n layers newer found
 
 pub none_found : (m : Meaning) (os : Objects) (runs : List SortedRun) (i : ℕ) (k : List ℕ) (n : ℕ) (newer : List RowEntry) → i ≡ length runs → FoundSoFar m os (drop i runs) k n newer newer
-none_found m os runs i k n newer all layers are above h =
+none_found m os runs i k n newer all layers are own above operands h =
     by layers (subst (λ (rs : List SortedRun). AreStoredAs m os (handles_of rs) layers) (drop_all i runs (omega (arith, all))) are)
   where
-    by : (layers : List Rows) → AreStoredAs m os [] layers → newer ≡ newest k n (above ++ newest_first layers)
-    by [] are = h ∙ ap (newest k n) (sym (append-nil above))
+    by : (layers : List Rows) → AreStoredAs m os [] layers → newer ≡ own ++ newest k n (above ++ newest_first layers)
+    by [] are = h ∙ ap (λ xs. own ++ newest k n xs) (sym (append-nil above))
     by (rows ∷ layers) are = absurd are
 
 -- one run more
 pub run_found : (m : Meaning) (os : Objects) (runs : List SortedRun) (i : ℕ) (run : SortedRun) (k : List ℕ) (n : ℕ) (newer found all : List RowEntry) → i < length runs → run ≡ get_or runs i run → FoundSoFar m os (drop (i + 1) runs) k n newer found →
-    ((layers : List Rows) → AreStoredAs m os run.tables.items layers → (above : Rows) → found ≡ newest k n above → all ≡ newest k n (above ++ newest_first layers)) → FoundSoFar m os (drop i runs) k n newer all
-run_found m os runs i run k n newer found all within is before one layers are above h =
+    ((layers : List Rows) → AreStoredAs m os run.tables.items layers → FindsBehind k n layers found all) → FoundSoFar m os (drop i runs) k n newer all
+run_found m os runs i run k n newer found all within is before one layers are own above operands h =
     let s = split_stored m.encode m.decode _ run.tables.items (handles_of (drop (i + 1) runs)) layers (subst (λ (rs : List SortedRun). AreStoredAs m os (handles_of rs) layers) (run_here runs i run within is) are) in
-    one s.first s.front_stored (above ++ newest_first s.last) (before s.last s.back_stored above h)
-    ∙ ap (newest k n) (append_assoc above (newest_first s.last) (newest_first s.first) ∙ ap (λ ys. above ++ ys) (sym (first_both s.first s.last) ∙ ap newest_first (sym s.is)))
+    one s.first s.front_stored own (above ++ newest_first s.last) operands (before s.last s.back_stored own above operands h)
+    ∙ ap (λ xs. own ++ newest k n xs) (append_assoc above (newest_first s.last) (newest_first s.first) ∙ ap (λ ys. above ++ ys) (sym (first_both s.first s.last) ∙ ap newest_first (sym s.is)))
 
 -- the runs that were looked at decide, or are all
 pub runs_decide : (m : Meaning) (os : Objects) (runs : List SortedRun) (i : ℕ) (k : List ℕ) (n : ℕ) (newer found : List RowEntry) → FoundSoFar m os (drop i runs) k n newer found → is_decided found ≡ true → FoundSoFar m os runs k n newer found
-runs_decide m os runs i k n newer found so_far decided layers are above h =
+runs_decide m os runs i k n newer found so_far decided layers are own above operands h =
     let all : handles_of runs ≡ handles_of (take i runs) ++ handles_of (drop i runs) = ap handles_of (sym (take-append-drop i runs)) ∙ flat_map-append (λ (run : SortedRun). run.tables.items) (take i runs) (drop i runs) in
     let s = split_stored m.encode m.decode _ (handles_of (take i runs)) (handles_of (drop i runs)) layers (subst (λ (hs : List SsTableHandle). AreStoredAs m os hs layers) all are) in
-    stays k n (above ++ newest_first s.last) (newest_first s.first) found (so_far s.last s.back_stored above h) decided
-    ∙ ap (newest k n) (append_assoc above (newest_first s.last) (newest_first s.first) ∙ ap (λ ys. above ++ ys) (sym (first_both s.first s.last) ∙ ap newest_first (sym s.is)))
+    behind_stays k n own operands (above ++ newest_first s.last) (newest_first s.first) found (so_far s.last s.back_stored own above operands h) decided
+    ∙ ap (λ xs. own ++ newest k n xs) (append_assoc above (newest_first s.last) (newest_first s.first) ∙ ap (λ ys. above ++ ys) (sym (first_both s.first s.last) ∙ ap newest_first (sym s.is)))
 
 pub runs_end : (m : Meaning) (os : Objects) (runs : List SortedRun) (i : ℕ) (k : List ℕ) (n : ℕ) (newer found : List RowEntry) → FoundSoFar m os (drop i runs) k n newer found → i ≤ 0 → FoundSoFar m os runs k n newer found
 runs_end m os runs i k n newer found so_far none = subst (λ (j : ℕ). FoundSoFar m os (drop j runs) k n newer found) (let z : i ≡ 0 = omega (arith, none) in z) so_far

@@ -103,3 +103,7 @@ fine_one k (MergeOp v o) h = within v (last_when (length k == 0) (nat_lt 65535 (
 pub fine_short : (ops : Ops) → AreFine ops → AreShortOps ops
 fine_short [] h = tt
 fine_short (o ∷ os) h = (fine_one o.0 o.1 h.0, fine_short os h.1)
+
+-- the same of own operations of a key
+pub kept_fine : (k : List ℕ) (ops : Ops) → AreFine ops → AllByRecursion (λ op. IsShort (bytes_of (op_value op))) (kept ops k)
+kept_fine k ops h = kept_short k ops (fine_short ops h)

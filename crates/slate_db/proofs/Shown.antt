@@ -32,7 +32,7 @@ use Rattle.slate_db.specs.Installs.{AreHandles, root, tables_of}
 use Rattle.slate_db.specs.Lookup.{IsUnknown}
 use Rattle.slate_db.specs.Model.{CoreModel, memory}
 use Rattle.slate_db.specs.Parts.{IsTableError}
-use Rattle.slate_db.specs.Readable.{IsReadError, IsRefusedBy, LacksOperator}
+use Rattle.slate_db.specs.Readable.{IsOwnOperand, IsReadError, IsRefusedBy, LacksOperator}
 use Rattle.slate_db.specs.Shown.{index_act, blocks_act, IsOpened, section_at, HasBlock, IsRowOf, RefusesRow, HasRow, IsUnreadable, Shows, BringsRow, ShowsDamage}
 use Rattle.slate_db.proofs.Causes.{callback_fault, store_fault, transform_fault}
 use Rattle.slate_db.proofs.Damaged.{block_unreadable, index_unreadable}
@@ -291,17 +291,17 @@ operand_among P (r ∷ rs) h is = by (is_operand r) refl (operand_among P rs h.1
     by true e next k = (r, h.0, e)
     by false e next k = next k
 
-from_memory : (c : CoreModel) (k : List ℕ) (n : ℕ) (near : List RowEntry) (r : RowEntry) → near ≡ newest k n (c.active ++ newest_first c.frozen) → Contains near r → Contains (newest_first (memory c)) r
+pub from_memory : (c : CoreModel) (k : List ℕ) (n : ℕ) (near : List RowEntry) (r : RowEntry) → near ≡ newest k n (c.active ++ newest_first c.frozen) → Contains near r → Contains (newest_first (memory c)) r
 from_memory c k n near r is among =
     subst (λ (xs : List RowEntry). Contains xs r) (sym (first_both c.frozen (c.active ∷ []) ∙ ap (λ (xs : List RowEntry). xs ++ newest_first c.frozen) (append-nil c.active)))
     (newest_among k n (c.active ++ newest_first c.frozen) r (subst (λ (xs : List RowEntry). Contains xs r) is among))
 
 -- what a fold of the rows that were found is refused for
-pub fold_refused : (a b d : Reach) (c : CoreModel) (hs : List SsTableHandle) (k : List ℕ) (n : ℕ) (near found : List RowEntry) (e : SlateDBError) → AreHandles (tables_of c.events) hs → near ≡ newest k n (c.active ++ newest_first c.frozen) → IsLater a.faults b.faults →
+pub fold_refused : (a b d : Reach) (c : CoreModel) (hs : List SsTableHandle) (near found : List RowEntry) (e : SlateDBError) → AreHandles (tables_of c.events) hs → ((r : RowEntry) → Contains near r → IsOwnOperand c r ⊎ Contains (newest_first (memory c)) r) → IsLater a.faults b.faults →
     d.objects ≡ b.objects → d.meaning ≡ b.meaning → d.acts ≡ b.acts → Made a b (λ reads. AllByRecursion (λ r. Contains near r ⊎ BringsRow a.meaning.decode hs reads r) found) →
     (e ≡ OutOfMemory) ⊎ ((e ≡ MergeOperatorMissing) × (b.meaning.combine ≡ None) × (is_merge_among found ≡ true)) ⊎ IsCallback b.faults.operator d.faults.operator e → IsReadError a d c e
-fold_refused a b d c hs k n near found e are is later objects meaning acts made (inl m) = inl (subst (IsCounted a.faults d.faults) (sym m) tt)
-fold_refused a b d c hs k n near found e are is later objects meaning acts made (inr (inl f)) =
+fold_refused a b d c hs near found e are is later objects meaning acts made (inl m) = inl (subst (IsCounted a.faults d.faults) (sym m) tt)
+fold_refused a b d c hs near found e are is later objects meaning acts made (inr (inl f)) =
     let one = operand_among (λ (r : RowEntry). Contains near r ⊎ BringsRow a.meaning.decode hs made.0 r) found made.2 f.2 in
     inr (
       made.0,
@@ -313,10 +313,14 @@ fold_refused a b d c hs k n near found e are is later objects meaning acts made 
       },
     )
   where
-    by : (r : RowEntry) → Contains near r ⊎ BringsRow a.meaning.decode hs made.0 r → Contains (newest_first (memory c)) r ⊎ BringsRow a.meaning.decode hs made.0 r
-    by r (inl m) = inl (from_memory c k n near r is m)
-    by r (inr b) = inr b
-fold_refused a b d c hs k n near found e are is later objects meaning acts made (inr (inr k2)) = inl (counted_earlier a.faults b.faults d.faults e later (callback_fault b.faults d.faults e k2))
+    near_is : (r : RowEntry) → IsOwnOperand c r ⊎ Contains (newest_first (memory c)) r → IsOwnOperand c r ⊎ Contains (newest_first (memory c)) r ⊎ BringsRow a.meaning.decode hs made.0 r
+    near_is r (inl o) = inl o
+    near_is r (inr m) = inr (inl m)
+
+    by : (r : RowEntry) → Contains near r ⊎ BringsRow a.meaning.decode hs made.0 r → IsOwnOperand c r ⊎ Contains (newest_first (memory c)) r ⊎ BringsRow a.meaning.decode hs made.0 r
+    by r (inl m) = near_is r (is r m)
+    by r (inr b) = inr (inr b)
+fold_refused a b d c hs near found e are is later objects meaning acts made (inr (inr k)) = inl (counted_earlier a.faults b.faults d.faults e later (callback_fault b.faults d.faults e k))
 
 -- ---- the kinds of these errors
 

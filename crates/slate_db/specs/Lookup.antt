@@ -2,12 +2,17 @@
 --     IsStored encode decode objects h rows      the store tells that a table of the rows stands at its path, whose info was kept, and the transformer is undone
 --     AreStored encode decode objects hs layers      of several, the oldest first
 --     IsStoredAs m os h rows, AreStoredAs m os hs layers      the same of objects, for what the parts mean
+--     FindsBehind k n layers newer all      what was found in newer layers, with the key's rows of these behind it, to the first that decides; before it may stand operands of no layer
 --     IsUnknown version e      a refusal of a version that is neither 1 nor 2
-use Rattle.std.specs.Prelude.{◌≡◌, ◌≢◌, ℕ, List, [], ◌∷◌, Option, Some}
+use Rattle.std.specs.Prelude.{◌≡◌, ◌≢◌, ℕ, true, List, [], ◌∷◌, ◌++◌, Option, Some}
+use Rattle.std.specs.List.{AllByRecursion}
 use Rattle.slate_types.specs.declared.error.SlateDBError.{SlateDBError}
 use Rattle.slate_types.specs.declared.error.SlateDBError.TheVariants.{InvalidVersion}
 use Rattle.slate_types.specs.Lawful.{IsLawfulTransform}
 use Rattle.slate_types.specs.Outside.{Objects, Meaning}
+use Rattle.slate_types.specs.Rows.{is_operand}
+use Rattle.slate_mem.specs.Lookup.{newest_first}
+use Rattle.slate_mem.specs.Table.{newest}
 use Rattle.slate_store.specs.Store.{object_at}
 use Rattle.slate_block.specs.ReadingLaws.{EachIsAByte}
 use Rattle.slate_table.specs.declared.info.SsTableHandle.{SsTableHandle}
@@ -38,6 +43,9 @@ IsStoredAs m os h rows = IsStored m.encode m.decode (Some os) h rows
 
 abbrev pub AreStoredAs : Meaning → Objects → List SsTableHandle → List Rows → Type 0
 AreStoredAs m os hs layers = AreStored m.encode m.decode (Some os) hs layers
+
+abbrev pub FindsBehind : List ℕ → ℕ → List Rows → Rows → Rows → Type 0
+FindsBehind k n layers newer all = (own above : Rows) → AllByRecursion (λ r. is_operand r ≡ true) own → newer ≡ own ++ newest k n above → all ≡ own ++ newest k n (above ++ newest_first layers)
 
 abbrev pub IsUnknown : ℕ → SlateDBError → Type 0
 IsUnknown version e = (version ≢ 1) × (version ≢ 2) × (e ≡ InvalidVersion version)

@@ -3,7 +3,7 @@ ghost use Rattle.std.specs.Prelude.{◌≡◌, ℕ, ◌≢◌, ◌⊎◌, ◌+�
 ghost use Rattle.std.specs.List.{AllByRecursion, starts_with};
 ghost use Rattle.slate_types.specs.Config.{IsValid};
 ghost use Rattle.slate_types.specs.declared.error.SlateDBError.{SlateDBError};
-ghost use Rattle.slate_types.specs.Fold.{Combine, fold_rows, shown};
+ghost use Rattle.slate_types.specs.Fold.{AreShort, Combine, fold_rows, shown};
 ghost use Rattle.slate_types.specs.Rows.{is_operand, key_value};
 ghost use Rattle.slate_types.specs.declared.types.RowEntry.{RowEntry};
 ghost use Rattle.slate_types.specs.Iteration.{drop_before};
@@ -57,7 +57,7 @@ use crate::flush::stored;
 use crate::laws::Laws;
 use crate::layers::Layers;
 use crate::log::Log;
-use crate::lookup::newest_of_runs;
+use crate::lookup::{newest_behind, newest_of_runs};
 use crate::open_scan::{merged, scan_sources, table_options};
 use crate::put::{enter, put_batch};
 use crate::tested::tested_rows;
@@ -65,8 +65,8 @@ use crate::scan::{DbIterator, TxnIterator};
 use bytes::Bytes;
 use slate_filter::FilterPolicy;
 use slate_mem::WriteBatch;
-use slate_mem::fold::{answer, first};
-use slate_mem::lookup::{is_decided, newest_of_memory};
+use slate_mem::fold::answer;
+use slate_mem::lookup::is_decided;
 use slate_read::SstIteratorOptions;
 use slate_store::{Env, EnvOf, Store};
 use slate_txn::fold::fold_found;
@@ -419,15 +419,17 @@ impl Core {
         at: u64,
         env: &mut Env<'_, S, M, T>,
     ) -> Result<Option<RowEntry>, SlateDBError>
-        requires { AllByRecursion (λ r. is_operand r ≡ true) own.items }
+        requires operands { AllByRecursion (λ r. is_operand r ≡ true) own.items }
         requires own { AllByRecursion (IsOwnOperand self.now) own.items }
         requires keys { AllByRecursion (λ r. r.key ≡ key.now) own.items }
+        requires short { AreShort own.items }
         ensures read { let reach = ⟦<EnvOf<S, M, T> as Outside>⟧.reach in
             let m = (reach env.old).meaning in
             IsRead (reach env.old) (reach env.new) self.now (λ row. self.now.floor ≤ at → row ≡ fold_rows (combine_of m key.now) (key_rows (rules_of self.now.settings m) key.now (up_to at self.now.state.commits) ++ reverse own.items)) result }
     {
-        let near = newest_of_memory(
+        let near = newest_behind(
             self.alloc,
+            own,
             self.layers.active(),
             self.layers.frozen(),
             key,

@@ -1,5 +1,5 @@
 //! The rows of a key in stored tables, newest first, to the first that decides.
-ghost use Rattle.std.specs.Prelude.{◌≡◌, ◌⊎◌, ◌≤◌, ◌<◌, ◌++◌, ℕ, List, length, flat_map, false, Ok, Some, Contains, IfOk, IfErr, OnOk};
+ghost use Rattle.std.specs.Prelude.{◌≡◌, ◌⊎◌, ◌≤◌, ◌<◌, ◌++◌, ℕ, List, length, map, flat_map, false, Ok, Some, Contains, IfOk, IfErr, OnOk, IsOkUnless};
 ghost use Rattle.std.specs.List.{AllByRecursion};
 ghost use Rattle.slate_types.specs.declared.error.SlateDBError.{SlateDBError};
 ghost use Rattle.slate_types.specs.declared.iter.IterationOrder.{IterationOrder};
@@ -22,13 +22,15 @@ ghost use Rattle.slate_table.specs.InfoReading.{seen_info};
 ghost use Rattle.slate_db.specs.Answered.{AnswersFrom};
 ghost use Rattle.slate_db.specs.Installs.{handles_of};
 ghost use Rattle.slate_mem.specs.Lookup.{newest_first};
-ghost use Rattle.slate_db.specs.Lookup.{IsUnknown, IsStoredAs, AreStoredAs};
+ghost use Rattle.slate_db.specs.Lookup.{AreStoredAs, FindsBehind, IsStoredAs, IsUnknown};
 ghost use Rattle.slate_db.specs.Model.{Rows};
 ghost use Rattle.slate_db.specs.Shown.{IsRowOf, IsUnreadable, RefusesRow, HasRow, Shows, BringsRow, ShowsDamage};
 
 use crate::flush::ROOT;
+use bytes::Bytes;
 use slate_block::{Block, DataBlockIterator};
-use slate_mem::lookup::{is_decided, newest_of_walk};
+use slate_mem::lookup::{is_decided, newest_of_memory, newest_of_walk};
+use slate_mem::{ImmutableMemtable, MemTable};
 use slate_read::SortedRun;
 use slate_store::{Env, EnvOf, Store};
 use slate_table::{SsTableHandle, SsTableInfo, SstIndex, TableStore};
@@ -157,6 +159,27 @@ fn newest_of_table<S: Store, M: MergeOperator, T: BlockTransformer>(
     newest_of_blocks(alloc, blocks, table.format_version, key, max_seq)
 }
 
+/// The rows of the key in memory, behind a reader's own.
+pub(crate) fn newest_behind(
+    alloc: Global,
+    own: Vec<RowEntry>,
+    active: &MemTable,
+    frozen: &[ImmutableMemtable],
+    key: &Bytes,
+    max_seq: u64,
+) -> Result<Vec<RowEntry>, SlateDBError>
+    ensures found { IfOk result (λ all. all.items ≡ own.items ++ newest key.now max_seq (active.now.rows ++ newest_first (map (λ t. t.rows) frozen.now))) }
+    ensures cause { IsOkUnless result SlateDBError.OutOfMemory }
+{
+    let mut found = newest_of_memory(alloc, active, frozen, key, max_seq)?;
+    if own.is_empty() {
+        return Ok(found);
+    }
+    let mut all = own;
+    all.append(&mut found)?;
+    Ok(all)
+}
+
 /// Adds the rows of the key in stored tables, of which the newest stands last, behind those that were found in newer layers.
 /// Where the store holds the tables, or its acts tell that each read of this call was answered by them, damage isn't answered.
 /// Else it is answered only where the last reads of this call show it, of the index of a table, or of its blocks.
@@ -169,7 +192,7 @@ fn newest_of_tables<S: Store, M: MergeOperator, T: BlockTransformer>(
     env: &mut Env<'_, S, M, T>,
 ) -> Result<Vec<RowEntry>, SlateDBError>
     ensures found { let reach = ⟦<EnvOf<S, M, T> as Outside>⟧.reach in (layers : List Rows) (os : Objects) → AreStoredAs (reach env.old).meaning os tables.now layers → AnswersFrom os (reach env.old) (reach env.new)
-        → IfOk result (λ all. (above : Rows) → newer.items ≡ newest key.now max_seq above → all.items ≡ newest key.now max_seq (above ++ newest_first layers)) }
+        → IfOk result (λ all. FindsBehind key.now max_seq layers newer.items all.items) }
     ensures whole { let reach = ⟦<EnvOf<S, M, T> as Outside>⟧.reach in (layers : List Rows) (os : Objects) → AreStoredAs (reach env.old).meaning os tables.now layers → AnswersFrom os (reach env.old) (reach env.new) → IfErr result (IsFault (reach env.old) (reach env.new)) }
     ensures rows { let reach = ⟦<EnvOf<S, M, T> as Outside>⟧.reach in IfOk result (λ all. Made (reach env.old) (reach env.new) (λ reads. AllByRecursion (λ r. Contains newer.items r ⊎ BringsRow (reach env.old).meaning.decode tables.now reads r) all.items)) }
     ensures cause { let reach = ⟦<EnvOf<S, M, T> as Outside>⟧.reach in IfErr result (λ e. IsFault (reach env.old) (reach env.new) e ⊎ Made (reach env.old) (reach env.new) (λ reads. ShowsDamage (reach env.old).meaning.decode tables.now reads e)
@@ -197,7 +220,7 @@ pub fn newest_of_runs<S: Store, M: MergeOperator, T: BlockTransformer>(
     env: &mut Env<'_, S, M, T>,
 ) -> Result<Vec<RowEntry>, SlateDBError>
     ensures found { let reach = ⟦<EnvOf<S, M, T> as Outside>⟧.reach in (layers : List Rows) (os : Objects) → AreStoredAs (reach env.old).meaning os (handles_of runs.now) layers → AnswersFrom os (reach env.old) (reach env.new)
-        → IfOk result (λ all. (above : Rows) → newer.items ≡ newest key.now max_seq above → all.items ≡ newest key.now max_seq (above ++ newest_first layers)) }
+        → IfOk result (λ all. FindsBehind key.now max_seq layers newer.items all.items) }
     ensures whole { let reach = ⟦<EnvOf<S, M, T> as Outside>⟧.reach in (layers : List Rows) (os : Objects) → AreStoredAs (reach env.old).meaning os (handles_of runs.now) layers → AnswersFrom os (reach env.old) (reach env.new) → IfErr result (IsFault (reach env.old) (reach env.new)) }
     ensures rows { let reach = ⟦<EnvOf<S, M, T> as Outside>⟧.reach in IfOk result (λ all. Made (reach env.old) (reach env.new) (λ reads. AllByRecursion (λ r. Contains newer.items r ⊎ BringsRow (reach env.old).meaning.decode (handles_of runs.now) reads r) all.items)) }
     ensures cause { let reach = ⟦<EnvOf<S, M, T> as Outside>⟧.reach in IfErr result (λ e. IsFault (reach env.old) (reach env.new) e ⊎ Made (reach env.old) (reach env.new) (λ reads. ShowsDamage (reach env.old).meaning.decode (handles_of runs.now) reads e)

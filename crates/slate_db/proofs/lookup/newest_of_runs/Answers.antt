@@ -52,10 +52,10 @@ loop-at-preserved g c =
 pub returns : goal.returns
 returns g c =
     record {
-      found = (λ layers os are answers above h.
+      found = (λ layers os are answers own above operands h.
           elim c.loop-at-test.branch [
-            | then-loop-at-test+else-not-is_decided w ↦ runs_decide (reach_of g.S.Store g.M.MergeOperator g.T.BlockTransformer c.args.env.now).meaning os c.args.runs.now c.loop-at.at c.args.key.now c.args.max_seq c.args.newer.items c.loop-at.found.items (c.loop-at.invariant.found os answers) (search rules) layers are above h
-            | else-loop-at-test w ↦ runs_end (reach_of g.S.Store g.M.MergeOperator g.T.BlockTransformer c.args.env.now).meaning os c.args.runs.now c.loop-at.at c.args.key.now c.args.max_seq c.args.newer.items c.loop-at.found.items (c.loop-at.invariant.found os answers) (omega (arith, w.loop-at-test.false)) layers are above h
+            | then-loop-at-test+else-not-is_decided w ↦ runs_decide (reach_of g.S.Store g.M.MergeOperator g.T.BlockTransformer c.args.env.now).meaning os c.args.runs.now c.loop-at.at c.args.key.now c.args.max_seq c.args.newer.items c.loop-at.found.items (c.loop-at.invariant.found os answers) (search rules) layers are own above operands h
+            | else-loop-at-test w ↦ runs_end (reach_of g.S.Store g.M.MergeOperator g.T.BlockTransformer c.args.env.now).meaning os c.args.runs.now c.loop-at.at c.args.key.now c.args.max_seq c.args.newer.items c.loop-at.found.items (c.loop-at.invariant.found os answers) (omega (arith, w.loop-at-test.false)) layers are own above operands h
           ]);
       whole = λ layers os are answers. tt;
       rows = c.loop-at.invariant.rows;

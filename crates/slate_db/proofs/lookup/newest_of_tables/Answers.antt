@@ -7,7 +7,7 @@ use Rattle.slate_mem.specs.Table.{newest}
 use Rattle.slate_mem.specs.Lookup.{is_decided, newest_first}
 use Rattle.slate_db.proofs.Answered.{from_first, from_last}
 use Rattle.slate_db.proofs.Shown.{at_table, damage_on, newer_found, rows_on}
-use Rattle.slate_mem.proofs.LayerLaws.{layers_begin, layer_step, layers_decide, layers_end}
+use Rattle.slate_db.proofs.UnderOwn.{behind_begin, behind_decide, behind_end, behind_step}
 use Rattle.slate_db.proofs.Tables.{as_many, table_as}
 use Rattle.slate_db.proofs.lookup.newest_of_tables.Goals as goal
 use Rattle.slate_db.proofs.lookup.newest_of_tables.Goals.{then-loop-i-test+else-not-is_decided, else-loop-i-test}
@@ -17,8 +17,8 @@ loop-i-init g c = record {
   within = omega arith;
   reads = reads_none _;
   rows = ([], call_none _, newer_found _ c.args.tables.now c.args.newer.items []);
-  found = λ layers os are answers above h.
-      layers_begin c.args.key.now c.args.max_seq (length c.args.tables.now) above c.args.newer.items layers h
+  found = λ layers os are answers own above operands h.
+      behind_begin c.args.key.now c.args.max_seq own operands (length c.args.tables.now) above c.args.newer.items layers h
       (as_many _ _ _ c.args.tables.now layers are);
 }
 
@@ -33,19 +33,19 @@ loop-i-preserved g c =
       within = omega (arith, c.loop-i.invariant.within);
       reads = reads_then _ _ _ first last;
       rows = rows_on _ _ _ c.args.tables.now c.index-tables-i.result c.args.newer.items c.loop-i.found.items c.in_ok-more.more.items c.append.new.self.items (at_table c.args.tables.now i c.index-tables-i.result (omega (arith, c.loop-i-test.true, c.loop-i.invariant.within)) c.index-tables-i.is) c.loop-i.invariant.rows c.in_ok-more.ensures.rows c.in_ok-append.ensures.items;
-      found = λ layers os are answers above h.
+      found = λ layers os are answers own above operands h.
           let at = table_as _ _ os c.args.tables.now layers i c.index-tables-i.result first.meaning are (omega (arith, c.loop-i-test.true, c.loop-i.invariant.within)) c.index-tables-i.is in
-          layer_step c.args.key.now c.args.max_seq i above c.loop-i.found.items c.in_ok-more.more.items c.append.new.self.items at.rows layers at.here
-          (c.loop-i.invariant.found layers os are (from_first os _ _ _ first last answers) above h ∙ ap (λ j. newest c.args.key.now c.args.max_seq (above ++ newest_first (drop j layers))) next) undecided (c.in_ok-more.ensures.found at.rows os at.is (from_last os _ _ _ first last answers)) c.in_ok-append.ensures.items;
+          behind_step c.args.key.now c.args.max_seq own operands i above c.loop-i.found.items c.in_ok-more.more.items c.append.new.self.items at.rows layers at.here
+          (c.loop-i.invariant.found layers os are (from_first os _ _ _ first last answers) own above operands h ∙ ap (λ j. own ++ newest c.args.key.now c.args.max_seq (above ++ newest_first (drop j layers))) next) undecided (c.in_ok-more.ensures.found at.rows os at.is (from_last os _ _ _ first last answers)) c.in_ok-append.ensures.items;
     }
 
 pub returns : goal.returns
 returns g c =
     record {
-      found = (λ layers os are answers above h.
+      found = (λ layers os are answers own above operands h.
           elim c.loop-i-test.branch [
-            | then-loop-i-test+else-not-is_decided w ↦ layers_decide c.args.key.now c.args.max_seq c.loop-i.i above c.loop-i.found.items layers (c.loop-i.invariant.found layers os are answers above h) (search rules)
-            | else-loop-i-test w ↦ layers_end c.args.key.now c.args.max_seq c.loop-i.i above c.loop-i.found.items layers (c.loop-i.invariant.found layers os are answers above h) (omega (arith, w.loop-i-test.false))
+            | then-loop-i-test+else-not-is_decided w ↦ behind_decide c.args.key.now c.args.max_seq own operands c.loop-i.i above c.loop-i.found.items layers (c.loop-i.invariant.found layers os are answers own above operands h) (search rules)
+            | else-loop-i-test w ↦ behind_end c.args.key.now c.args.max_seq own operands c.loop-i.i above c.loop-i.found.items layers (c.loop-i.invariant.found layers os are answers own above operands h) (omega (arith, w.loop-i-test.false))
           ]);
       whole = λ layers os are answers. tt;
       rows = c.loop-i.invariant.rows;

@@ -1,13 +1,11 @@
-use Rattle.std.proofs.Common.{◌≡◌, ◌⊎◌, ◌≤◌, ◌++◌, List, drop, length}
+use Rattle.std.proofs.Common.{◌⊎◌, ◌≤◌, List, drop, length}
 use Rattle.std.specs.Prelude.{Contains}
 use Rattle.std.specs.List.{AllByRecursion}
 use Rattle.slate_types.specs.Outside.{Objects, OnlyReads}
 use Rattle.slate_types.specs.World.{Made}
 use Rattle.slate_store.specs.Reach.{reach_of}
-use Rattle.slate_mem.specs.Table.{newest}
-use Rattle.slate_mem.specs.Lookup.{newest_first}
 use Rattle.slate_db.specs.Answered.{AnswersFrom}
-use Rattle.slate_db.specs.Lookup.{AreStoredAs}
+use Rattle.slate_db.specs.Lookup.{AreStoredAs, FindsBehind}
 use Rattle.slate_db.specs.Model.{Rows}
 use Rattle.slate_db.specs.Shown.{BringsRow}
 use Rattle.slate_db.proofs.lookup.newest_of_tables.Given as goal
@@ -21,7 +19,7 @@ invariant-loop-i g l =
       reads : OnlyReads before now;
       rows : Made before now (λ reads. AllByRecursion (λ r. Contains l.initial.found.items r ⊎ BringsRow before.meaning.decode l.tables reads r) l.found.items);
       found : (layers : List Rows) (os : Objects) → AreStoredAs before.meaning os l.tables layers → AnswersFrom os before now →
-          (above : Rows) → l.initial.found.items ≡ newest l.key l.max_seq above → l.found.items ≡ newest l.key l.max_seq (above ++ newest_first (drop l.i layers));
+          FindsBehind l.key l.max_seq (drop l.i layers) l.initial.found.items l.found.items;
     }
 
 abbrev pub decreases-loop-i : goal.decreases-loop-i

@@ -1,4 +1,4 @@
-use Rattle.std.proofs.Common.{inl, inr, ◌≡◌, ℕ, ◌≤◌, List, [], ◌∷◌, ◌++◌, map, Option, option_map, refl, ap, sym, subst, ◌∙◌, append-nil, arith}
+use Rattle.std.proofs.Common.{inl, inr, ◌≡◌, ℕ, ◌≤◌, List, [], ◌∷◌, ◌++◌, map, Option, Some, option_map, refl, ap, sym, subst, ◌∙◌, append-nil, arith}
 use Rattle.std.proofs.lemmas.Result.{IfOk-from_err, err_from_is_err_and}
 use Rattle.std.specs.Prelude.{IfSome, option_and_then}
 use Rattle.slate_types.specs.declared.types.RowEntry.{RowEntry}
@@ -6,6 +6,7 @@ use Rattle.slate_types.specs.Fold.{fold_rows}
 use Rattle.slate_types.specs.Outside.{IsCounted}
 use Rattle.slate_types.specs.Rows.{key_value, hide_tombstone}
 use Rattle.slate_store.specs.Reach.{reach_of}
+use Rattle.slate_types.proofs.Calls.{call_none}
 use Rattle.slate_types.proofs.Reaching.{reads_none}
 use Rattle.slate_mem.specs.Batch.{Ops, kept}
 use Rattle.slate_mem.specs.RowOf.{own_row}
@@ -20,11 +21,12 @@ use Rattle.slate_db.specs.declared.engine.Core.TheInside.{Inside}
 use Rattle.slate_db.specs.Meaning.{combine_of, rules_of}
 use Rattle.slate_db.specs.Model.{CoreModel}
 use Rattle.slate_db.specs.View.{view_of, unseen_of, IsWholeInside}
-use Rattle.slate_db.specs.Readable.{IsAnswered}
+use Rattle.slate_db.specs.Readable.{IsAnswered, decides_own}
 use Rattle.slate_db.specs.Sound.{IsKept}
 use Rattle.slate_db.specs.Vouched.{IsVouchedFor}
 use Rattle.slate_txn.proofs.NamedLaws.{IsNamed, open_is}
 use Rattle.slate_db.proofs.Notes.{step_get}
+use Rattle.slate_db.proofs.Operands.{own_updated}
 use Rattle.slate_db.proofs.Readers.{floor_at, own_at, start_at, vouched_get}
 use Rattle.slate_db.proofs.Wholes.{after_note, whole_note}
 use Rattle.slate_db.proofs.Keeps.{kept_event}
@@ -49,7 +51,8 @@ returns-in_err-key g c =
         cause = rw (p.1, p.2) (inl tt);
         reads = reads_none _;
       };
-      own = λ t found some. record { answer = IfOk-from_err c.from_residual.result _ c.from_residual.ensures.0; cause = rw (p.1, p.2) refl; reached = refl };
+      own = λ t op found one replaces. record { answer = IfOk-from_err c.from_residual.result _ c.from_residual.ensures.0; cause = rw (p.1, p.2) refl; reached = refl };
+      decided = λ t found some. call_none _;
       same = rw p.1 refl;
       vouched = λ is k h. h;
       kept = λ m k. k;
@@ -61,9 +64,10 @@ returns-in-Err g c =
     record {
       noted = tt;
       read = record { answer = λ is. tt; undamaged = (c.in-Err.ensures.read (open_is _ c.requires).value (open_is _ c.requires).is).undamaged; cause = (c.in-Err.ensures.read (open_is _ c.requires).value (open_is _ c.requires).is).cause; reads = (c.seen_by.ensures.read (open_is _ c.requires).value (open_is _ c.requires).is).reads };
-      own = λ t found some.
-          let own = c.in-Err.ensures.own t found (λ none. some (ap (kept t.ops) (sym c.in_ok-key.ensures) ∙ none)) in
+      own = λ t op found one replaces.
+          let own = c.in-Err.ensures.own t op found (ap (kept t.ops) c.in_ok-key.ensures ∙ one) replaces in
           record { answer = tt; cause = own.cause; reached = own.reached };
+      decided = λ t found some. c.seen_by.ensures.decided t found (ap (λ (k : List ℕ). decides_own k t.ops) c.in_ok-key.ensures ∙ some);
       same = refl;
       vouched = λ is k h. h;
       kept = λ m k. k;
@@ -80,7 +84,8 @@ returns-in-Err-note_get g c =
         cause = inl (subst (IsCounted _ _) (sym c.from.ensures) tt);
         reads = (c.seen_by.ensures.read (open_is _ c.requires).value (open_is _ c.requires).is).reads;
       };
-      own = λ t found some. record { answer = tt; cause = c.from.ensures; reached = (c.seen_by.ensures.own t found (λ none. some (ap (kept t.ops) (sym c.in_ok-key.ensures) ∙ none))).reached };
+      own = λ t op found one replaces. record { answer = tt; cause = c.from.ensures; reached = (c.seen_by.ensures.own t op found (ap (kept t.ops) c.in_ok-key.ensures ∙ one) replaces).reached };
+      decided = λ t found some. c.seen_by.ensures.decided t found (ap (λ (k : List ℕ). decides_own k t.ops) c.in_ok-key.ensures ∙ some);
       same = ap view_of (unnoted c.self.inside c.note_get.new.self c.in-Err-note_get.ensures.err) ∙ c.self.view_is;
       vouched = λ is k h. let m = (reach_of g.S.Store g.M.MergeOperator g.T.BlockTransformer c.args.env.now).meaning in subst (λ (v : CoreModel). IsVouchedFor m v k) (sym (ap view_of (unnoted c.self.inside c.note_get.new.self c.in-Err-note_get.ensures.err) ∙ c.self.view_is)) h;
       kept = (λ m kept_m.
@@ -151,14 +156,14 @@ returns g c =
         cause = tt;
         reads = (c.seen_by.ensures.read (open_is _ c.requires).value (open_is _ c.requires).is).reads;
       };
-      own = λ t found some.
-          let own = c.in-Ok.ensures.own t found (λ none. some (ap (kept t.ops) (sym c.in_ok-key.ensures) ∙ none)) in
+      own = λ t op found one replaces.
+          let own = c.in-Ok.ensures.own t op found (ap (kept t.ops) c.in_ok-key.ensures ∙ one) replaces in
           record {
-            answer = λ combine. c.answer-found.ensures ∙ ap (λ (row : Option RowEntry). option_map key_value (option_and_then (λ r. hide_tombstone r.value r) row))
-                (own.answer combine ∙ ap (λ (j : List ℕ). fold_rows combine (map (own_row j) (kept t.ops j))) c.in_ok-key.ensures);
+            answer = λ combine. c.answer-found.ensures ∙ ap (λ (row : Option RowEntry). option_map key_value (option_and_then (λ r. hide_tombstone r.value r) row)) (own.answer ∙ ap (λ (j : List ℕ). Some (own_row j op)) c.in_ok-key.ensures);
             cause = tt;
             reached = own.reached;
           };
+      decided = λ t found some. c.seen_by.ensures.decided t found (ap (λ (k : List ℕ). decides_own k t.ops) c.in_ok-key.ensures ∙ some);
       same = tt;
       vouched = (λ is k h.
           let m = (reach_of g.S.Store g.M.MergeOperator g.T.BlockTransformer c.args.env.now).meaning in
@@ -168,6 +173,7 @@ returns g c =
       kept = (λ m kept_m.
           subst (λ (s : Inside). IsKept m (view_of s)) (becomes g c)
           (kept_event m (view_of c.self.inside) (noted (view_of c.self.inside).state c.args.id.now (noted_step g c ∷ [])) c.self.inside.log.events c.self.inside.log.spare refl refl refl
+          (λ none own. own_updated c.args.id.now (λ t. record t { transcript = t.transcript ++ (noted_step g c ∷ []) }) c.self.inside.transactions (λ t h. h) own)
           (subst (λ (v : CoreModel). IsKept m v) (sym c.self.view_is) kept_m)));
       settings = ap (λ (v : CoreModel). v.settings) c.self.view_is;
     }

@@ -1,22 +1,24 @@
-use Rattle.std.proofs.Common.{inl, ◌≡◌, ℕ, ◌++◌, List, false, refl, reverse, sym, ap, subst, ◌∙◌, arith}
+use Rattle.std.proofs.Common.{inl, inr, ◌≡◌, ◌⊎◌, ℕ, ◌++◌, List, None, map, false, refl, reverse, sym, ap, subst, ◌∙◌, arith}
+use Rattle.std.specs.Prelude.{Contains}
+use Rattle.std.proofs.lemmas.List.Elements.{All-contains, All-from_recursion, Contains-append_cases}
 use Rattle.std.proofs.lemmas.Result.{err_from_is_err_and}
+use Rattle.slate_types.specs.declared.types.RowEntry.{RowEntry}
 use Rattle.slate_types.specs.Fold.{IsLawful, KeepsShort, fold_rows, operator_at}
 use Rattle.slate_types.specs.Outside.{IsCounted, Reach}
 use Rattle.slate_store.specs.Reach.{reach_of}
 use Rattle.slate_types.proofs.Reaching.{adds_none, reads_none, reads_of, reads_then}
 use Rattle.slate_mem.specs.Table.{newest}
-use Rattle.slate_types.specs.Fold.{operator_at}
 use Rattle.slate_read.specs.declared.sorted_run.SortedRun.{SortedRun}
 use Rattle.slate_db.specs.Installs.{AreHandles, handles_of, tables_of}
 use Rattle.slate_mem.specs.Lookup.{is_merge_among, newest_first}
-use Rattle.slate_db.specs.Model.{CoreModel}
-use Rattle.slate_db.specs.Readable.{IsAnswered}
+use Rattle.slate_db.specs.Model.{CoreModel, memory}
+use Rattle.slate_db.specs.Readable.{IsAnswered, IsOwnOperand}
 use Rattle.slate_db.specs.Sound.{IsSound}
 use Rattle.slate_db.specs.View.{view_of, unseen_of}
 use Rattle.slate_db.specs.Whole.{IsWhole}
 use Rattle.slate_db.proofs.Blocks.{if_ok, if_ok_where, if_err}
 use Rattle.slate_db.proofs.Causes.{fold_fault}
-use Rattle.slate_db.proofs.Shown.{fold_refused, journal_damage}
+use Rattle.slate_db.proofs.Shown.{fold_refused, from_memory, journal_damage}
 use Rattle.slate_db.proofs.Gets.{found_bases, found_folds, stored_as, Folds}
 use Rattle.slate_db.proofs.Runs.{all_handles}
 use Rattle.slate_db.proofs.engine.Core.seen.Goals as goal
@@ -32,23 +34,33 @@ between g c = reach_of g.S.Store g.M.MergeOperator g.T.BlockTransformer c.newest
 abbrev after : (g : given.Over) → goal.After-fold_found g → Reach
 after g c = reach_of g.S.Store g.M.MergeOperator g.T.BlockTransformer (record c.newest_of_runs.new.env { operator = c.fold_found.new.operator })
 
--- memory's rows
-near : (g : given.Over) (c : goal.After-fold_found g) → c.in_ok-near.near.items ≡ newest c.as_slice.result.now c.args.at (c.args.self.now.active ++ newest_first c.args.self.now.frozen)
-near g c =
-    c.in_ok-near.ensures.found
-    ∙ (λ i. newest c.args.key.now c.args.at (c.active.ensures i ++ newest_first (c.frozen.ensures i)))
+-- memory's rows behind own ones
+near_rows : (g : given.Over) (c : goal.After-fold_found g) → newest c.args.key.now c.args.at (c.active.result.now.rows ++ newest_first (map (λ t. t.rows) c.frozen.result.now)) ≡ newest c.as_slice.result.now c.args.at (c.args.self.now.active ++ newest_first c.args.self.now.frozen)
+near_rows g c =
+    (λ i. newest c.args.key.now c.args.at (c.active.ensures i ++ newest_first (c.frozen.ensures i)))
     ∙ ap (λ (v : CoreModel). newest c.args.key.now c.args.at (v.active ++ newest_first v.frozen)) c.self.view_is
     ∙ ap (λ (k : List ℕ). newest k c.args.at (c.args.self.now.active ++ newest_first c.args.self.now.frozen)) (sym c.as_slice.ensures)
+
+near : (g : given.Over) (c : goal.After-fold_found g) → c.in_ok-near.near.items ≡ c.args.own.items ++ newest c.as_slice.result.now c.args.at (c.args.self.now.active ++ newest_first c.args.self.now.frozen)
+near g c = c.in_ok-near.ensures.found ∙ ap (λ rows. c.args.own.items ++ rows) (near_rows g c)
+
+near_among : (g : given.Over) (c : goal.After-fold_found g) (r : RowEntry) → Contains c.in_ok-near.near.items r → IsOwnOperand c.args.self.now r ⊎ Contains (newest_first (memory c.args.self.now)) r
+near_among g c r among =
+    by (Contains-append_cases c.args.own.items (newest c.as_slice.result.now c.args.at (c.args.self.now.active ++ newest_first c.args.self.now.frozen)) r (subst (λ (xs : List RowEntry). Contains xs r) (near g c) among))
+  where
+    by : Contains c.args.own.items r ⊎ Contains (newest c.as_slice.result.now c.args.at (c.args.self.now.active ++ newest_first c.args.self.now.frozen)) r → IsOwnOperand c.args.self.now r ⊎ Contains (newest_first (memory c.args.self.now)) r
+    by (inl own) = inl (All-contains (IsOwnOperand c.args.self.now) c.args.own.items r (All-from_recursion _ c.args.own.items c.requires.own) own)
+    by (inr found) = inr (from_memory c.args.self.now c.as_slice.result.now c.args.at _ r refl found)
 
 -- all rows
 abbrev sound : (g : given.Over) (c : goal.After-fold_found g) → IsAnswered (before g c) (after g c) c.args.self.now → IsSound (before g c).meaning c.args.self.now
 sound g c is = is.readable.kept.1 is.readable.lawful
 
 found_is : (g : given.Over) (c : goal.After-fold_found g) (is : IsAnswered (before g c) (after g c) c.args.self.now) →
-    c.in_ok-found.found.items ≡ newest c.args.key.now c.args.at ((c.args.self.now.active ++ newest_first c.args.self.now.frozen) ++ newest_first (sound g c is).layers)
+    c.in_ok-found.found.items ≡ c.args.own.items ++ newest c.args.key.now c.args.at ((c.args.self.now.active ++ newest_first c.args.self.now.frozen) ++ newest_first (sound g c is).layers)
 found_is g c is =
-    c.in_ok-found.ensures.found (sound g c is).layers is.os (stored_as (before g c).meaning c.args.self.now (view_of c.self.inside) (unseen_of c.self.inside) (handles_of c.runs.result.now) is.os (sound g c is).layers c.self.view_is (ap handles_of c.runs.ensures) c.self.invariant is.readable.lawful (sound g c is).tables is.readable.holds) is.answers (c.args.self.now.active ++ newest_first c.args.self.now.frozen) (near g c)
-    ∙ ap (λ (k : List ℕ). newest k c.args.at ((c.args.self.now.active ++ newest_first c.args.self.now.frozen) ++ newest_first (sound g c is).layers)) c.as_slice.ensures
+    c.in_ok-found.ensures.found (sound g c is).layers is.os (stored_as (before g c).meaning c.args.self.now (view_of c.self.inside) (unseen_of c.self.inside) (handles_of c.runs.result.now) is.os (sound g c is).layers c.self.view_is (ap handles_of c.runs.ensures) c.self.invariant is.readable.lawful (sound g c is).tables is.readable.holds) is.answers c.args.own.items (c.args.self.now.active ++ newest_first c.args.self.now.frozen) c.requires.operands (near g c)
+    ∙ ap (λ (k : List ℕ). c.args.own.items ++ newest k c.args.at ((c.args.self.now.active ++ newest_first c.args.self.now.frozen) ++ newest_first (sound g c is).layers)) c.as_slice.ensures
 
 whole : (g : given.Over) (c : goal.After-fold_found g) → IsWhole c.args.self.now (unseen_of c.self.inside)
 whole g c = subst (λ (v : CoreModel). IsWhole v (unseen_of c.self.inside)) c.self.view_is c.self.invariant
@@ -87,19 +99,19 @@ returns-in_err-found g c =
 pub returns : goal.returns
 returns g c =
     let tables = c.newest_of_runs.ensures.reads in
+    let same : (before g c).meaning.combine ≡ (between g c).meaning.combine = sym (ap (λ m. m.combine) tables.meaning) in
     record {
       read = record {
         answer = (λ is. if_ok_where c.fold_found.result _ (λ above.
             let m = (before g c).meaning in
             let k = c.args.key.now in
-            let folds : Folds m c.args.self.now k c.args.at c.in_ok-found.found.items = found_folds m c.args.self.now _ k c.args.at c.in_ok-found.found.items (sound g c is).layers (whole g c) is.readable.lawful is.readable.kept (sound g c is).tables (sound g c is).short above (found_is g c is) in
-            let same : m.combine ≡ (between g c).meaning.combine = sym (ap (λ m. m.combine) tables.meaning) in
+            let folds : Folds m c.args.self.now k c.args.at c.args.own.items c.in_ok-found.found.items = found_folds m c.args.self.now _ k c.args.at c.args.own.items c.in_ok-found.found.items (sound g c is).layers (whole g c) is.readable.lawful is.readable.kept (sound g c is).tables (sound g c is).short above c.requires.keys c.requires.short (found_is g c is) in
             if_ok c.fold_found.result _ _ (λ row h. h ∙ ap (λ x. fold_rows (operator_at x k) (reverse c.in_ok-found.found.items)) (sym same) ∙ folds.fold)
             (c.fold_found.ensures.row k (subst (λ x. IsLawful (operator_at x k)) same (is.readable.lawful.operator k)) (subst (λ x. KeepsShort (operator_at x k)) same (is.readable.lawful.short k)) folds.are)));
         undamaged = (λ is.
-            let none : is_merge_among c.in_ok-found.found.items ≡ false = found_bases c.args.self.now _ c.args.key.now c.args.at c.in_ok-found.found.items (sound g c is).layers (whole g c) (sound g c is).bases (found_is g c is) in
+            let none : (between g c).meaning.combine ≡ None → is_merge_among c.in_ok-found.found.items ≡ false = λ lacks. found_bases (before g c).meaning c.args.self.now c.args.key.now c.args.at c.args.own.items c.in_ok-found.found.items (sound g c is).layers (same ∙ lacks) is.readable.kept.0 is.readable.kept.2 ((sound g c is).bases (same ∙ lacks)) c.requires.own (found_is g c is) in
             if_err c.fold_found.result _ _ (λ e h. fold_fault _ _ _ (is_merge_among c.in_ok-found.found.items) e tables.later none h) c.fold_found.ensures.cause);
-        cause = if_err c.fold_found.result _ _ (λ e h. fold_refused (before g c) (between g c) (after g c) c.args.self.now (handles_of c.runs.result.now) c.as_slice.result.now c.args.at c.in_ok-near.near.items c.in_ok-found.found.items e (handles g c) (near g c) tables.later refl
+        cause = if_err c.fold_found.result _ _ (λ e h. fold_refused (before g c) (between g c) (after g c) c.args.self.now (handles_of c.runs.result.now) c.in_ok-near.near.items c.in_ok-found.found.items e (handles g c) (near_among g c) tables.later refl
             (λ i. record (between g c).meaning { combine = c.fold_found.ensures.same i }) refl c.in_ok-found.ensures.rows h) c.fold_found.ensures.cause;
         reads = reads_then _ _ _ tables (reads_of _ _ refl c.fold_found.ensures.same refl refl (adds_none _) (record { store = omega arith; operator = c.fold_found.ensures.later; transformer = omega arith }) refl);
       };
