@@ -91,11 +91,11 @@ mapped P k (x ∷ xs) h = (h.0, mapped P k xs h.1)
 
 each_operand : (k : List ℕ) (xs : List WriteOp) → list_any replaces xs ≡ false → AllByRecursion (λ op. is_operand (own_row k op) ≡ true) xs
 each_operand k [] h = tt
-each_operand k (x ∷ xs) h = by (replaces x) refl h
+each_operand k (x ∷ xs) h = by (replaces x) refl h (λ none. each_operand k xs none)
   where
-    by : (b : Bool) → replaces x ≡ b → (b || list_any replaces xs) ≡ false → AllByRecursion (λ op. is_operand (own_row k op) ≡ true) (x ∷ xs)
-    by true e rest = cc
-    by false e rest = (own_operand k x e, each_operand k xs rest)
+    by : (b : Bool) → replaces x ≡ b → (b || list_any replaces xs) ≡ false → (list_any replaces xs ≡ false → AllByRecursion (λ op. is_operand (own_row k op) ≡ true) xs) → AllByRecursion (λ op. is_operand (own_row k op) ≡ true) (x ∷ xs)
+    by true e none rest = cc
+    by false e none rest = (own_operand k x e, rest none)
 
 each_of_key : (k : List ℕ) (xs : List WriteOp) → AllByRecursion (λ op. (own_row k op).key ≡ k) xs
 each_of_key k [] = tt
