@@ -1,31 +1,34 @@
 -- The rows that a flush stores: in a table's order, and each key's rows up to the barrier folded.
-use Rattle.std.proofs.Common.{◌≡◌, ℕ, ◌<◌, ◌≤◌, Bool, true, false, cond, ◌&&◌, ◌||◌, List, [], ◌∷◌, ◌++◌, reverse, filter, length, Option, Some, None, option_to_list, refl, sym, ap, subst, ◌∙◌, arith, Ordering, Less, Equal, Greater, append-nil, bytes_eq, nat_le, nat_lt}
+use Rattle.std.proofs.Common.{◌≡◌, ℕ, ◌<◌, ◌≤◌, Bool, true, false, not, cond, ◌&&◌, ◌||◌, List, [], ◌∷◌, ◌++◌, reverse, filter, length, Option, Some, None, option_to_list, refl, sym, ap, subst, ◌∙◌, arith, Ordering, Less, Equal, Greater, append-nil, bytes_eq, nat_le, nat_lt}
 use Rattle.std.specs.Prelude.{IsTrue}
 use Rattle.std.specs.Ordering.{is_lt, ordering_reverse}
-use Rattle.std.specs.List.{AllByRecursion}
+use Rattle.std.specs.List.{AllByRecursion, list_any}
 use Rattle.std.proofs.lemmas.Bool.Decides.{nat_tests}
 use Rattle.std.proofs.lemmas.List.{reverse-append}
 use Rattle.std.proofs.lemmas.List.Elements.{filter-append}
 use Rattle.std.proofs.lemmas.Slice.Eq.{bytes_eq-Decides}
 use Rattle.slate_types.specs.declared.types.RowEntry.{RowEntry}
 use Rattle.slate_types.specs.declared.iter.IterationOrder.TheVariants.{Ascending}
-use Rattle.slate_types.specs.Fold.{Combine, fold_rows}
+use Rattle.slate_types.specs.Fold.{Combine, KeepsShort, fold_rows, fold_taken, taken}
 use Rattle.slate_types.specs.Iteration.{NoneBefore, IsInOrder}
 use Rattle.slate_types.specs.Keys.{key_cmp, key_lt}
-use Rattle.slate_types.specs.Rows.{row_lt, is_base, of_key}
-use Rattle.slate_types.proofs.FoldLaws.{hides-older}
+use Rattle.slate_types.specs.Rows.{row_lt, is_base, is_operand, of_key}
 use Rattle.slate_types.proofs.KeyOrder.{same-key, turned-key}
+use Rattle.slate_mem.specs.FlushRows.{high_rows, low_rows, kept_and_folded}
+use Rattle.slate_mem.specs.Lookup.{is_merge_among, newest_first}
 use Rattle.slate_table.specs.Table.{AreInOrder}
 use Rattle.slate_db.specs.Flushed.{IsFolded}
 use Rattle.slate_db.specs.Meaning.{Meaning, combine_of}
 use Rattle.slate_db.specs.Model.{Rows, versions, versions_in}
-use Rattle.slate_mem.specs.Gathered.{is_older, newest_kept}
-use Rattle.slate_db.specs.Sound.{at_most, later}
+use Rattle.slate_db.specs.Sound.{AreBases, at_most, later}
 use Rattle.slate_db.specs.Layers.{FitsMemory, AreRising}
-use Rattle.slate_db.proofs.Folds.{none_pass}
-use Rattle.slate_db.proofs.Lists.{all_map, all_front, all_behind}
-use Rattle.slate_db.proofs.Short.{all_filter}
-use Rattle.slate_db.proofs.Versions.{twice, all_versions_in, all_by_versions}
+use Rattle.slate_db.proofs.Bases.{no_merge_among}
+use Rattle.slate_db.proofs.FoldFits.{fold_fits}
+use Rattle.slate_db.proofs.Lists.{all_front, all_behind}
+use Rattle.slate_db.proofs.Newest.{all_versions_are}
+use Rattle.slate_db.proofs.Rises.{folded_rise}
+use Rattle.slate_db.proofs.Short.{all_append, all_filter}
+use Rattle.slate_db.proofs.Versions.{twice, all_versions, all_versions_in, all_by_versions}
 
 pub some_rows : (rows : Rows) → (rows ≡ [] → ⊥) → 0 < length rows
 some_rows [] h = absurd (h refl)
@@ -96,118 +99,7 @@ in_order (r ∷ rs) h f = (stands r rs h.0 (own (bytes_eq r.key r.key) ((bytes_e
     tail k true h = h.1
     tail k false h = h
 
--- ---- what is kept of all rows
-
-kept_all : (P : RowEntry → Type 0) (b : ℕ) (before : Option RowEntry) (rows : Rows) → AllByRecursion P rows → AllByRecursion P (newest_kept b before rows)
-kept_all P b before [] h = tt
-kept_all P b before (r ∷ rs) h = by (is_older b before r) (kept_all P b before rs h.1) (kept_all P b (Some r) rs h.1)
-  where
-    by : (t : Bool) → AllByRecursion P (newest_kept b before rs) → AllByRecursion P (newest_kept b (Some r) rs) → AllByRecursion P (cond t (newest_kept b before rs) (r ∷ newest_kept b (Some r) rs))
-    by true without with_it = without
-    by false without with_it = (h.0, with_it)
-
-kept_order : (b : ℕ) (before : Option RowEntry) (rows : Rows) → AreInOrder rows → AreInOrder (newest_kept b before rows)
-kept_order b before [] h = tt
-kept_order b before (r ∷ rs) h = by (is_older b before r) (kept_order b before rs h.1) (kept_order b (Some r) rs h.1)
-  where
-    by : (t : Bool) → AreInOrder (newest_kept b before rs) → AreInOrder (newest_kept b (Some r) rs) → AreInOrder (cond t (newest_kept b before rs) (r ∷ newest_kept b (Some r) rs))
-    by true without with_it = without
-    by false without with_it = (kept_all _ b (Some r) rs h.0, with_it)
-
--- ---- what is kept of a key, newest first
-
-abbrev first_below : ℕ → Rows → Rows
-first_below b [] = []
-first_below b (r ∷ rs) = cond (nat_le r.seq b) (r ∷ []) (r ∷ first_below b rs)
-
-abbrev hides : ℕ → List ℕ → Option RowEntry → Bool
-hides b k None = false
-hides b k (Some p) = nat_le p.seq b && bytes_eq p.key k
-
-abbrev NotAfter : Option RowEntry → Rows → Type 0
-NotAfter None rows = Unit {0}
-NotAfter (Some p) rows = NoneBefore Ascending p.key rows
-
-later_keys : (k j : List ℕ) (rs : Rows) → key_lt k j ≡ true → NoneBefore Ascending j rs → of_key k rs ≡ []
-later_keys k j [] l n = refl
-later_keys k j (s ∷ rs) l n = by (bytes_eq s.key k) refl (later_keys k j rs l n.1)
-  where
-    by : (b : Bool) → bytes_eq s.key k ≡ b → of_key k rs ≡ [] → cond b (s ∷ of_key k rs) (of_key k rs) ≡ []
-    by true e rest = let t : key_lt s.key j ≡ true = ap (λ q. key_lt q j) ((bytes_eq-Decides s.key k).0 e) ∙ l in let f : key_lt s.key j ≡ false = n.0 in cc
-    by false e rest = rest
-
-kept_next : (b : ℕ) (k : List ℕ) (r : RowEntry) (rs kept : Rows) → of_key k kept ≡ cond (hides b k (Some r)) [] (first_below b (of_key k rs)) → of_key k (r ∷ kept) ≡ first_below b (of_key k (r ∷ rs))
-kept_next b k r rs kept h = by (bytes_eq r.key k) h
-  where
-    this : (t : Bool) → of_key k kept ≡ cond (t && true) [] (first_below b (of_key k rs)) → r ∷ of_key k kept ≡ cond t (r ∷ []) (r ∷ first_below b (of_key k rs))
-    this true h = ap (λ xs. r ∷ xs) h
-    this false h = ap (λ xs. r ∷ xs) h
-
-    other : (t : Bool) → cond (t && false) [] (first_below b (of_key k rs)) ≡ first_below b (of_key k rs)
-    other true = refl
-    other false = refl
-
-    by : (u : Bool) → of_key k kept ≡ cond (nat_le r.seq b && u) [] (first_below b (of_key k rs)) → cond u (r ∷ of_key k kept) (of_key k kept) ≡ first_below b (cond u (r ∷ of_key k rs) (of_key k rs))
-    by true h = this (nat_le r.seq b) h
-    by false h = h ∙ other (nat_le r.seq b)
-
-kept_key : (b : ℕ) (k : List ℕ) (before : Option RowEntry) (rows : Rows) → IsInOrder Ascending rows → NotAfter before rows → of_key k (newest_kept b before rows) ≡ cond (hides b k before) [] (first_below b (of_key k rows))
-kept_key b k before [] o n = by (hides b k before)
-  where
-    by : (t : Bool) → [] ≡ cond {A = Rows} t [] []
-    by true = refl
-    by false = refl
-kept_key b k None (r ∷ rs) o n = kept_next b k r rs (newest_kept b (Some r) rs) (kept_key b k (Some r) rs o.1 o.0)
-kept_key b k (Some p) (r ∷ rs) o n =
-    by (nat_le p.seq b) (bytes_eq p.key r.key) refl refl (kept_key b k (Some p) rs o.1 n.1) (kept_next b k r rs (newest_kept b (Some r) rs) (kept_key b k (Some r) rs o.1 o.0))
-  where
-    hidden : (u t : Bool) → bytes_eq r.key k ≡ u → nat_le p.seq b ≡ true → bytes_eq p.key r.key ≡ true → bytes_eq p.key k ≡ t →
-        cond (nat_le p.seq b && bytes_eq p.key k) [] (first_below b (of_key k rs)) ≡ cond (nat_le p.seq b && bytes_eq p.key k) [] (first_below b (cond u (r ∷ of_key k rs) (of_key k rs)))
-    hidden false t e l s f = refl
-    hidden true true e l s f = (λ i. cond (l i && f i) [] (first_below b (of_key k rs))) ∙ sym (λ i. cond (l i && f i) [] (first_below b (r ∷ of_key k rs)))
-    hidden true false e l s f = let t : bytes_eq p.key k ≡ true = (bytes_eq-Decides p.key k).1 ((bytes_eq-Decides p.key r.key).0 s ∙ (bytes_eq-Decides r.key k).0 e) in cc
-
-    other : bytes_eq p.key r.key ≡ false → (t : Bool) → bytes_eq r.key p.key ≡ t → t ≡ false
-    other s true e = let t : bytes_eq p.key r.key ≡ true = (bytes_eq-Decides p.key r.key).1 (sym ((bytes_eq-Decides r.key p.key).0 e)) in cc
-    other s false e = refl
-
-    apart : bytes_eq p.key r.key ≡ false → bytes_eq p.key k ≡ true → first_below b (of_key k (r ∷ rs)) ≡ []
-    apart s f =
-        let differs : bytes_eq r.key p.key ≡ false = other s (bytes_eq r.key p.key) refl in
-        let same : k ≡ p.key = sym ((bytes_eq-Decides p.key k).0 f) in
-        ap (first_below b) (ap (λ t. cond t (r ∷ of_key k rs) (of_key k rs)) (ap (λ q. bytes_eq r.key q) same ∙ differs) ∙ later_keys k r.key rs (ap (λ q. key_lt q r.key) same ∙ key_below p.key r.key differs n.0) o.0)
-
-    seen : (t : Bool) → nat_le p.seq b ≡ true → bytes_eq p.key r.key ≡ false → bytes_eq p.key k ≡ t → first_below b (of_key k (r ∷ rs)) ≡ cond (nat_le p.seq b && bytes_eq p.key k) [] (first_below b (of_key k (r ∷ rs)))
-    seen true l s f = apart s f ∙ sym (λ i. cond (l i && f i) [] (first_below b (of_key k (r ∷ rs))))
-    seen false l s f = sym (λ i. cond (l i && f i) [] (first_below b (of_key k (r ∷ rs))))
-
-    by : (t u : Bool) → nat_le p.seq b ≡ t → bytes_eq p.key r.key ≡ u → of_key k (newest_kept b (Some p) rs) ≡ cond (nat_le p.seq b && bytes_eq p.key k) [] (first_below b (of_key k rs)) →
-        of_key k (r ∷ newest_kept b (Some r) rs) ≡ first_below b (of_key k (r ∷ rs)) →
-        of_key k (cond (t && u) (newest_kept b (Some p) rs) (r ∷ newest_kept b (Some r) rs)) ≡ cond (nat_le p.seq b && bytes_eq p.key k) [] (first_below b (of_key k (r ∷ rs)))
-    by true true l s without kept = without ∙ hidden (bytes_eq r.key k) (bytes_eq p.key k) refl l s refl
-    by true false l s without kept = kept ∙ seen (bytes_eq p.key k) l s refl
-    by false u l s without kept = kept ∙ sym (ap (λ t. cond (t && bytes_eq p.key k) [] (first_below b (of_key k (r ∷ rs)))) l)
-
--- ---- the newest of the rows up to the barrier is their fold
-
-abbrev first_of : Rows → Rows
-first_of [] = []
-first_of (r ∷ rs) = r ∷ []
-
-none_later : (b n : ℕ) (rs : Rows) → n ≤ b → AllByRecursion (λ s. s.seq < n) rs → later b rs ≡ []
-none_later b n rs h below = none_pass (λ r. nat_lt b r.seq) rs (all_map _ _ (λ s k. let l : s.seq < n = k in let e : nat_lt b s.seq ≡ false = grind (arith, nat_tests) in e) rs below)
-
-split_first : (b : ℕ) (rs : Rows) → AreFalling rs → first_below b rs ≡ later b rs ++ first_of (at_most b rs)
-split_first b [] f = refl
-split_first b (r ∷ rs) f = by (nat_le r.seq b) refl (split_first b rs f.1)
-  where
-    by : (t : Bool) → nat_le r.seq b ≡ t → first_below b rs ≡ later b rs ++ first_of (at_most b rs) →
-        cond t (r ∷ []) (r ∷ first_below b rs) ≡ cond (nat_lt b r.seq) (r ∷ later b rs) (later b rs) ++ first_of (cond t (r ∷ at_most b rs) (at_most b rs))
-    by true e rest =
-        let within : r.seq ≤ b = grind (arith, nat_tests) in
-        let not_later : nat_lt b r.seq ≡ false = grind (arith, nat_tests) in
-        rw (not_later, none_later b r.seq rs within f.0) refl
-    by false e rest = let is_later : nat_lt b r.seq ≡ true = grind (arith, nat_tests) in rw is_later (ap (λ xs. r ∷ xs) rest)
+-- ---- the rows of a key, turned round
 
 filter_reverse : (t : RowEntry → Bool) (rs : Rows) → reverse (filter t rs) ≡ filter t (reverse rs)
 filter_reverse t [] = refl
@@ -218,47 +110,107 @@ filter_reverse t (r ∷ rs) =
     by true h = reverse-append (r ∷ []) (filter t rs) ∙ ap (λ xs. xs ++ (r ∷ [])) h
     by false h = h ∙ sym (append-nil (filter t (reverse rs)))
 
-newest_folds : (c : Combine) (rs : Rows) → AllByRecursion (λ r. is_base r ≡ true) rs → reverse (first_of rs) ≡ option_to_list (fold_rows c (reverse rs))
-newest_folds c [] h = refl
-newest_folds c (r ∷ rs) h = sym (ap (λ xs. option_to_list (fold_rows c xs)) (reverse-append (r ∷ []) rs) ∙ ap option_to_list (hides-older c (reverse rs) [] r h.0))
+one_turned : (o : Option RowEntry) → reverse (option_to_list o) ≡ option_to_list o
+one_turned None = refl
+one_turned (Some r) = refl
 
-fold_first : (c : Combine) (b : ℕ) (rs : Rows) → AreFalling rs → AllByRecursion (λ r. is_base r ≡ true) rs → reverse (first_below b rs) ≡ option_to_list (fold_rows c (at_most b (reverse rs))) ++ later b (reverse rs)
-fold_first c b rs f h =
-    ap reverse (split_first b rs f)
-    ∙ reverse-append (later b rs) (first_of (at_most b rs))
-    ∙ (λ i. newest_folds c (at_most b rs) (all_filter _ (λ r. nat_le r.seq b) rs h) i ++ filter_reverse (λ r. nat_lt b r.seq) rs i)
-    ∙ ap (λ xs. option_to_list (fold_rows c xs) ++ later b (reverse rs)) (filter_reverse (λ r. nat_le r.seq b) rs)
+turned : (c : Combine) (b : ℕ) (rows : Rows) → reverse (kept_and_folded c b rows) ≡ option_to_list (fold_rows c (at_most b (reverse rows))) ++ later b (reverse rows)
+turned c b rows =
+    reverse-append (high_rows b rows) (option_to_list (fold_rows c (reverse (low_rows b rows))))
+    ∙ ap (λ xs. xs ++ reverse (high_rows b rows)) (one_turned (fold_rows c (reverse (low_rows b rows))))
+    ∙ (λ i. option_to_list (fold_rows c (filter_reverse (λ r. nat_le r.seq b) rows i)) ++ filter_reverse (λ r. nat_lt b r.seq) rows i)
+
+-- ---- some rows are kept where there are some
+
+some_behind : (xs ys : Rows) → 0 < length ys → 0 < length (xs ++ ys)
+some_behind [] ys h = h
+some_behind (x ∷ xs) ys h = omega arith
+
+some_base : (rows : Rows) → list_any is_base rows ≡ true → 0 < length rows
+some_base [] h = cc
+some_base (r ∷ rs) h = omega arith
+
+fold_some : (c : Combine) (rows : Rows) → 0 < length rows → 0 < length (option_to_list (fold_rows c rows))
+fold_some c [] h = absurd (omega arith)
+fold_some c (r ∷ rs) h = by (list_any is_base rs) refl
+  where
+    by : (t : Bool) → list_any is_base rs ≡ t → 0 < length (option_to_list (fold_taken c (cond t (taken rs) (r ∷ rs))))
+    by true e = fold_some c rs (some_base rs e)
+    by false e = omega arith
+
+kept_some : (c : Combine) (b : ℕ) (rows : Rows) → 0 < length rows → 0 < length (kept_and_folded c b rows)
+kept_some c b [] h = absurd (omega arith)
+kept_some c b (r ∷ rs) h = by (nat_lt b r.seq) (nat_le r.seq b) refl refl
+  where
+    by : (t u : Bool) → nat_lt b r.seq ≡ t → nat_le r.seq b ≡ u →
+        0 < length (cond t (r ∷ high_rows b rs) (high_rows b rs) ++ option_to_list (fold_rows c (reverse (cond u (r ∷ low_rows b rs) (low_rows b rs)))))
+    by true u e g = omega arith
+    by false true e g = some_behind (high_rows b rs) _ (subst (λ (xs : Rows). 0 < length (option_to_list (fold_rows c xs))) (sym (reverse-append (r ∷ []) (low_rows b rs))) (fold_some c _ (some_behind (reverse (low_rows b rs)) (r ∷ []) (omega arith))))
+    by false false e g = let past : b < r.seq = grind (arith, nat_tests) in let within : r.seq ≤ b = grind (arith, nat_tests) in absurd (omega arith)
+
+own_some : (r : RowEntry) (rs : Rows) → 0 < length (of_key r.key (r ∷ rs))
+own_some r rs = by (bytes_eq r.key r.key) ((bytes_eq-Decides r.key r.key).1 refl)
+  where
+    by : (t : Bool) → t ≡ true → 0 < length (cond t (r ∷ of_key r.key rs) (of_key r.key rs))
+    by true e = omega arith
+    by false e = cc
+
+out_some : (c : List ℕ → Combine) (b : ℕ) (rows out : Rows) → ((k : List ℕ) → of_key k out ≡ kept_and_folded (c k) b (of_key k rows)) → 0 < length rows → 0 < length out
+out_some c b [] out made h = absurd (omega arith)
+out_some c b (r ∷ rs) [] made h = absurd (let none : 0 < length (of_key r.key []) = subst (λ (xs : Rows). 0 < length xs) (sym (made r.key)) (kept_some (c r.key) b (of_key r.key (r ∷ rs)) (own_some r rs)) in omega (arith, none))
+out_some c b (r ∷ rs) (x ∷ xs) made h = omega arith
 
 -- ---- all rows of a flush
 
-pub fit_gathered : (layers : List Rows) (rows : Rows) → ((k : List ℕ) → versions k rows ≡ versions_in k layers) → AllByRecursion (λ xs. AllByRecursion FitsMemory xs) layers → AllByRecursion FitsMemory rows
-fit_gathered layers rows same fit = all_by_versions FitsMemory rows (λ k. subst (AllByRecursion FitsMemory) (sym (same k)) (all_versions_in FitsMemory k layers fit))
-
-falls_gathered : (layers : List Rows) (rows : Rows) → ((k : List ℕ) → versions k rows ≡ versions_in k layers) → ((k : List ℕ) → AreRising (versions_in k layers)) → (k : List ℕ) → AreFalling (of_key k rows)
-falls_gathered layers rows same rise k = falling (of_key k rows) (subst (λ (xs : Rows). AreRising xs) (sym (same k)) (rise k))
-
-pub flush_folds : (m : Meaning) (b : ℕ) (layers : List Rows) (rows : Rows) → IsInOrder Ascending rows → ((k : List ℕ) → versions k rows ≡ versions_in k layers) → ((k : List ℕ) → AreRising (versions_in k layers)) →
-    AllByRecursion (λ xs. AllByRecursion FitsMemory xs) layers → IsFolded m b layers (newest_kept b None rows)
-flush_folds m b layers rows order same rise fit k =
-    ap reverse (kept_key b k None rows order tt)
-    ∙ fold_first (combine_of m k) b (of_key k rows) (falls_gathered layers rows same rise k) (all_filter _ (λ r. bytes_eq r.key k) rows (all_map _ _ (λ r f. f.base) rows (fit_gathered layers rows same fit)))
-    ∙ ap (λ xs. option_to_list (fold_rows (combine_of m k) (at_most b xs)) ++ later b xs) (same k)
-
-pub flush_order : (b : ℕ) (layers : List Rows) (rows : Rows) → IsInOrder Ascending rows → ((k : List ℕ) → versions k rows ≡ versions_in k layers) → ((k : List ℕ) → AreRising (versions_in k layers)) → AreInOrder (newest_kept b None rows)
-flush_order b layers rows order same rise = kept_order b None rows (in_order rows order (falls_gathered layers rows same rise))
-
-pub flush_fits : (b : ℕ) (layers : List Rows) (rows : Rows) → ((k : List ℕ) → versions k rows ≡ versions_in k layers) → AllByRecursion (λ xs. AllByRecursion FitsMemory xs) layers → AllByRecursion FitsMemory (newest_kept b None rows)
-flush_fits b layers rows same fit = kept_all FitsMemory b None rows (fit_gathered layers rows same fit)
-
 -- there are rows where there is a memtable
-pub flush_some : (b : ℕ) (layers : List Rows) (rows : Rows) → ((k : List ℕ) → versions k rows ≡ versions_in k layers) → 0 < length layers → AllByRecursion (λ xs. 0 < length xs) layers → 0 < length (newest_kept b None rows)
-flush_some b [] rows same some each = absurd (omega arith)
-flush_some b (layer ∷ layers) [] same some each = absurd (none layer each.0 (all_by_versions (λ r. ⊥) layer (λ k. all_front _ (versions k layer) (versions_in k layers) (subst (AllByRecursion (λ r. ⊥)) (same k) tt))))
+gathered_some : (layers : List Rows) (rows : Rows) → ((k : List ℕ) → versions k rows ≡ versions_in k layers) → 0 < length layers → AllByRecursion (λ xs. 0 < length xs) layers → 0 < length rows
+gathered_some [] rows same some each = absurd (omega arith)
+gathered_some (layer ∷ layers) [] same some each = absurd (none layer each.0 (all_by_versions (λ r. ⊥) layer (λ k. all_front _ (versions k layer) (versions_in k layers) (subst (AllByRecursion (λ r. ⊥)) (same k) tt))))
   where
     none : (xs : Rows) → 0 < length xs → AllByRecursion (λ r. ⊥) xs → ⊥
     none [] h all = absurd (omega arith)
     none (x ∷ xs) h all = all.0
-flush_some b (layer ∷ layers) (r ∷ rs) same some each = omega arith
+gathered_some (layer ∷ layers) (r ∷ rs) same some each = omega arith
+
+pub flush_folds : (m : Meaning) (b : ℕ) (layers : List Rows) (rows out : Rows) → ((k : List ℕ) → versions k rows ≡ versions_in k layers) → ((k : List ℕ) → of_key k out ≡ kept_and_folded (combine_of m k) b (of_key k rows)) →
+    IsFolded m b layers out
+flush_folds m b layers rows out same made k =
+    ap reverse (made k) ∙ turned (combine_of m k) b (of_key k rows) ∙ ap (λ xs. option_to_list (fold_rows (combine_of m k) (at_most b xs)) ++ later b xs) (same k)
+
+pub flush_order : (m : Meaning) (b : ℕ) (layers : List Rows) (out : Rows) → IsFolded m b layers out → IsInOrder Ascending out → ((k : List ℕ) → AreRising (versions_in k layers)) → AreInOrder out
+flush_order m b layers out folded order rise = in_order out order (λ k. falling (of_key k out) (folded_rise m b k layers out folded (rise k)))
+
+pub flush_fits : (m : Meaning) (b : ℕ) (layers : List Rows) (out : Rows) → ((k : List ℕ) → KeepsShort (combine_of m k)) → IsFolded m b layers out → AllByRecursion (λ xs. AllByRecursion FitsMemory xs) layers → AllByRecursion FitsMemory out
+flush_fits m b layers out keeps folded fit = all_by_versions FitsMemory out (λ k.
+    let here : AllByRecursion FitsMemory (versions_in k layers) = all_versions_in FitsMemory k layers fit in
+    subst (AllByRecursion FitsMemory) (sym (folded k)) (all_append _ _ _ (fold_fits (combine_of m k) (keeps k) _ (all_filter _ _ _ here)) (all_filter _ _ _ here)))
+
+pub flush_some : (c : List ℕ → Combine) (b : ℕ) (layers : List Rows) (rows out : Rows) → ((k : List ℕ) → versions k rows ≡ versions_in k layers) → ((k : List ℕ) → of_key k out ≡ kept_and_folded (c k) b (of_key k rows)) →
+    0 < length layers → AllByRecursion (λ xs. 0 < length xs) layers → 0 < length out
+flush_some c b layers rows out same made some each = out_some c b rows out made (gathered_some layers rows same some each)
+
+-- ---- operands among them
+
+bases_of : (rows : Rows) → list_any is_operand rows ≡ false → AreBases rows
+bases_of [] h = tt
+bases_of (r ∷ rs) h = by (is_operand r) refl h
+  where
+    by : (t : Bool) → is_operand r ≡ t → (t || list_any is_operand rs) ≡ false → (not (is_operand r) ≡ true) × AreBases rs
+    by true e h = cc
+    by false e h = (ap not e, bases_of rs h)
+
+pub none_among : (layers : List Rows) → AllByRecursion AreBases layers → is_merge_among (newest_first layers) ≡ false
+none_among layers h = no_merge_among (newest_first layers) (all_by_versions (λ r. is_base r ≡ true) (newest_first layers) (λ k. subst AreBases (sym (all_versions_are k layers)) (all_versions_in (λ r. is_base r ≡ true) k layers h)))
+
+pub merge_gathered : (layers : List Rows) (rows : Rows) → ((k : List ℕ) → versions k rows ≡ versions_in k layers) → is_merge_among rows ≡ true → is_merge_among (newest_first layers) ≡ true
+merge_gathered layers rows same h = by (is_merge_among (newest_first layers)) refl
+  where
+    by : (t : Bool) → is_merge_among (newest_first layers) ≡ t → t ≡ true
+    by true e = refl
+    by false e =
+        let bases : AreBases rows = all_by_versions (λ r. is_base r ≡ true) rows (λ k. subst AreBases (all_versions_are k layers ∙ sym (same k)) (all_versions (λ r. is_base r ≡ true) k (newest_first layers) (bases_of (newest_first layers) e))) in
+        let clash : true ≡ false = sym h ∙ no_merge_among rows bases in
+        cc
 
 -- ---- one row more in a builder
 

@@ -1,14 +1,15 @@
 -- A flush is its freeze and an install.
-use Rattle.std.proofs.Common.{◌≡◌, ℕ, Bool, true, false, map, ◌+◌, ◌<◌, ◌≤◌, ◌⊎◌, List, [], ◌∷◌, ◌++◌, length, Option, option_to_list, refl, sym, ap, subst, ◌∙◌, inl, inr, arith, length-append}
+use Rattle.std.proofs.Common.{◌≡◌, ℕ, Bool, true, false, map, flat_map, ◌+◌, ◌<◌, ◌≤◌, ◌⊎◌, List, [], ◌∷◌, ◌++◌, length, Option, option_to_list, refl, sym, ap, subst, ◌∙◌, inl, inr, arith, length-append}
 use Rattle.std.proofs.lemmas.Bool.Decides.{nat_tests}
-use Rattle.std.proofs.lemmas.List.{length-map}
+use Rattle.std.proofs.lemmas.List.{length-map, reverse-append}
 use Rattle.std.specs.Prelude.{◌==◌, Result, Ok, Err, IfOk, IfErr, OnOk, OnErr}
 use Rattle.slate_types.specs.declared.error.SlateDBError.{SlateDBError}
-use Rattle.slate_types.specs.declared.error.SlateDBError.TheVariants.{OutOfMemory, LimitReached, StoreFault, BlockTransformError}
+use Rattle.slate_types.specs.declared.error.SlateDBError.TheVariants.{OutOfMemory, LimitReached, StoreFault, BlockTransformError, Callback, MergeOperatorMissing}
 use Rattle.slate_types.specs.Fold.{fold_rows}
-use Rattle.slate_types.specs.Outside.{Counts, IsCounted, Objects}
+use Rattle.slate_types.specs.Outside.{Counts, IsCounted, Objects, Reach}
+use Rattle.slate_mem.specs.Lookup.{is_merge_among, newest_first}
 use Rattle.slate_mem.specs.Table.{MemTableModel}
-use Rattle.slate_table.specs.Parts.{Encode}
+use Rattle.slate_table.specs.TableBuilding.{max_blocks}
 use Rattle.slate_txn.specs.declared.event.Event.TheVariants as events
 use Rattle.slate_txn.specs.declared.line.Line.TheVariants as lines
 use Rattle.slate_txn.specs.Places.{IsQuiet}
@@ -16,14 +17,16 @@ use Rattle.slate_txn.specs.Reply.{Flushed}
 use Rattle.slate_txn.specs.State.{last_of}
 use Rattle.slate_txn.specs.Step.{step}
 use Rattle.slate_txn.specs.Open.{least_start}
-use Rattle.slate_db.specs.Flushed.{Layout, IsFlushed, IsFolded, TooLarge, events_of_flush, idle, stored}
+use Rattle.slate_db.specs.Flushed.{Layout, IsFlushed, IsFlushError, IsFolded, TooLarge, WantsOperator, events_of_flush, idle, stored}
 use Rattle.slate_db.specs.Frozen.{IsFrozen}
 use Rattle.slate_db.specs.Load.{weight}
-use Rattle.slate_db.specs.Log.{ends_of}
+use Rattle.slate_db.specs.Log.{LIMIT, ends_of}
 use Rattle.slate_db.specs.Meaning.{Meaning, rules_of, combine_of}
 use Rattle.slate_db.specs.Model.{CoreModel, Rows, memory, IsSame}
 use Rattle.slate_db.specs.Sound.{IsKept, at_most, later}
+use Rattle.slate_db.proofs.FlushRows.{none_among}
 use Rattle.slate_db.proofs.Keeps.{kept_event}
+use Rattle.slate_db.proofs.NoMerges.{memory_bases}
 use Rattle.slate_db.proofs.Quiet.{quiet_more}
 use Rattle.slate_db.proofs.FlushLoads.{load_before}
 use Rattle.slate_db.proofs.MemoryLayers.{versions_frozen}
@@ -52,7 +55,7 @@ step_flush m old between new n f last is =
 
 -- a flush that finds no rows
 pub kept_flushed : (m : Meaning) (c : CoreModel) (n : ℕ) → IsKept m c → IsKept m (record c { state = record c.state { flushed = n } })
-kept_flushed m c n k = kept_event m c (record c.state { flushed = n }) c.events c.spare refl refl refl k
+kept_flushed m c n k = kept_event m c (record c.state { flushed = n }) c.events c.spare refl refl refl (λ none own. own) k
 
 -- ---- the limits
 
@@ -89,19 +92,41 @@ place_left limit old between (inr (active, is)) some h =
 folded_before : (m : Meaning) (b : ℕ) (old : CoreModel) (rows : Rows) → IsFolded m b ((old.frozen ++ (old.active ∷ [])) ++ ([] ∷ [])) rows → IsFolded m b (memory old) rows
 folded_before m b old rows folded k = folded k ∙ ap (λ xs. option_to_list (fold_rows (combine_of m k) (at_most b xs)) ++ later b xs) (versions_frozen k old.frozen old.active)
 
-pub too_large_before : (layout : Layout) (old between : CoreModel) (e : SlateDBError) → IsFrozen old between → TooLarge layout between e → TooLarge layout old e
-too_large_before layout old between e (inl (none, is)) h = subst (λ (v : CoreModel). TooLarge layout v e) is h
-too_large_before layout old between e (inr (some, is)) h = moved (subst (λ (v : CoreModel). TooLarge layout v e) is h)
+pub too_large_before : (m : Meaning) (layout : Layout) (old between : CoreModel) (e : SlateDBError) → IsFrozen old between → TooLarge m layout between e → TooLarge m layout old e
+too_large_before m layout old between e (inl (none, is)) h = subst (λ (v : CoreModel). TooLarge m layout v e) is h
+too_large_before m layout old between e (inr (some, is)) h = moved (subst (λ (v : CoreModel). TooLarge m layout v e) is h)
   where
-    moved : TooLarge layout (frozen_of old between.spare) e → TooLarge layout old e
-    moved (rows, folded, order, large, more) = (rows, (λ m. folded_before m (least_start (last_of old.settings.start_seq old.state.commits) old.state) old rows (folded m)), order, large, load_before old more)
+    moved : TooLarge m layout (frozen_of old between.spare) e → TooLarge m layout old e
+    moved (rows, folded, order, large, more) = (rows, folded_before m (least_start (last_of old.settings.start_seq old.state.commits) old.state) old rows folded, order, large, load_before old more)
+
+-- an empty memtable has no operand
+newest_behind : (layers : List Rows) → newest_first (layers ++ ([] ∷ [])) ≡ newest_first layers
+newest_behind layers = ap (flat_map (λ (rows : Rows). rows)) (reverse-append layers ([] ∷ []))
+
+wants_behind : (m : Meaning) (layers : List Rows) (e : SlateDBError) → WantsOperator m (layers ++ ([] ∷ [])) e → WantsOperator m layers e
+wants_behind m layers e h = (h.0, h.1, ap is_merge_among (sym (newest_behind layers)) ∙ h.2)
+
+pub wants_before : (m : Meaning) (old between : CoreModel) (e : SlateDBError) → IsFrozen old between → WantsOperator m (memory between) e → WantsOperator m (memory old) e
+wants_before m old between e (inl (none, is)) h = subst (λ (v : CoreModel). WantsOperator m (memory v) e) is h
+wants_before m old between e (inr (some, is)) h = wants_behind m (memory old) e (subst (λ (v : CoreModel). WantsOperator m (memory v) e) is h)
+
+-- layers: those of the call that stores them
+pub wants_idle : (m : Meaning) (c : CoreModel) (layers : List Rows) (e : SlateDBError) → c.active ≡ [] → layers ≡ c.frozen → WantsOperator m layers e → WantsOperator m (memory c) e
+wants_idle m c layers e idle frozen h = (h.0, h.1, ap (λ (rows : Rows). is_merge_among (newest_first (c.frozen ++ (rows ∷ [])))) idle ∙ ap is_merge_among (newest_behind c.frozen ∙ ap newest_first (sym frozen)) ∙ h.2)
+
+-- what is kept of merges leaves none without an operator
+pub never_missing : (layout : Layout) (before after : Reach) (c : CoreModel) (e : SlateDBError) → IsKept before.meaning c → IsFlushError layout before after c e → e ≡ MergeOperatorMissing → ⊥
+never_missing layout before after c e k (inl fault) is = absurd (subst (IsCounted before.faults after.faults) is fault)
+never_missing layout before after c e k (inr (inl limited)) is = let clash : LimitReached LIMIT ≡ MergeOperatorMissing = sym limited.0 ∙ is in cc
+never_missing layout before after c e k (inr (inr (inl (rows, folded, order, large, more)))) is = let clash : LimitReached max_blocks ≡ MergeOperatorMissing = sym large.large.is ∙ is in cc
+never_missing layout before after c e k (inr (inr (inr wants))) is = let clash : true ≡ false = sym wants.2 ∙ none_among (memory c) (memory_bases before.meaning c wants.1 k.0 k.2) in cc
 
 -- ---- behind the freeze
 
-pub installed_after : {E : Type 0} (r : Result ℕ E) (encode : Encode) (layout : Layout) (old between new : CoreModel) (before after : Option Objects) → IsFrozen old between →
-    IfOk r (λ n. IsFlushed encode layout between new n before after) → IfOk r (λ n. (x : CoreModel) × IsFrozen old x × IsFlushed encode layout x new n before after)
-installed_after (Ok n) encode layout old between new before after frozen h = (between, frozen, h)
-installed_after (Err e) encode layout old between new before after frozen h = tt
+pub installed_after : {E : Type 0} (r : Result ℕ E) (m : Meaning) (layout : Layout) (old between new : CoreModel) (before after : Option Objects) → IsFrozen old between →
+    IfOk r (λ n. IsFlushed m layout between new n before after) → IfOk r (λ n. (x : CoreModel) × IsFrozen old x × IsFlushed m layout x new n before after)
+installed_after (Ok n) m layout old between new before after frozen h = (between, frozen, h)
+installed_after (Err e) m layout old between new before after frozen h = tt
 
 pub cause_after : {X : Type 0} (r : Result X SlateDBError) (P Q : SlateDBError → Type 0) → ((e : SlateDBError) → P e → Q e) → IfErr r P → IfErr r Q
 cause_after (Ok x) P Q f h = tt
@@ -133,16 +158,32 @@ pub left_at : {X E P : Type 0} (r : Result X E) (e : E) → r ≡ Err e → OnEr
 left_at (Ok x) e is h = cc
 left_at (Err f) e is h = h
 
-pub frozen_at_fault : {X : Type 0} (r : Result X SlateDBError) (old between new : CoreModel) → IsFrozen old between → OnErr r (IsSame between new) → (r ≡ Err StoreFault) ⊎ (r ≡ Err BlockTransformError) → (x : CoreModel) × IsFrozen old x × IsSame x new
-frozen_at_fault r old between new frozen same (inl is) = (between, frozen, left_at r StoreFault is same)
-frozen_at_fault r old between new frozen same (inr is) = (between, frozen, left_at r BlockTransformError is same)
+-- a refusal that comes in the install
+abbrev pub IsInner : {X : Type 0} → Result X SlateDBError → Type 0
+IsInner r = (r ≡ Err StoreFault) ⊎ (r ≡ Err BlockTransformError) ⊎ (r ≡ Err MergeOperatorMissing) ⊎ ((message : List ℕ) × (r ≡ Err (Callback message)))
 
--- before the install there is no fault
-pub no_fault : {X A : Type 0} (limit : ℕ) (r : Result ℕ SlateDBError) (e : SlateDBError) → r ≡ Err e → (X → e ≡ LimitReached limit) → (e ≡ OutOfMemory) ⊎ X → (r ≡ Err StoreFault) ⊎ (r ≡ Err BlockTransformError) → A
-no_fault limit r e at limited (inl m) (inl is) = cc
-no_fault limit r e at limited (inl m) (inr is) = cc
-no_fault limit r e at limited (inr x) (inl is) = let m : e ≡ LimitReached limit = limited x in cc
-no_fault limit r e at limited (inr x) (inr is) = let m : e ≡ LimitReached limit = limited x in cc
+pub frozen_at_fault : {X : Type 0} (r : Result X SlateDBError) (old between new : CoreModel) → IsFrozen old between → OnErr r (IsSame between new) → IsInner r → (x : CoreModel) × IsFrozen old x × IsSame x new
+frozen_at_fault r old between new frozen same (inl is) = (between, frozen, left_at r StoreFault is same)
+frozen_at_fault r old between new frozen same (inr (inl is)) = (between, frozen, left_at r BlockTransformError is same)
+frozen_at_fault r old between new frozen same (inr (inr (inl is))) = (between, frozen, left_at r MergeOperatorMissing is same)
+frozen_at_fault r old between new frozen same (inr (inr (inr (message, is)))) = (between, frozen, left_at r (Callback message) is same)
+
+-- before the install there is none
+pub no_fault : {X A : Type 0} (limit : ℕ) (r : Result ℕ SlateDBError) (e : SlateDBError) → r ≡ Err e → (X → e ≡ LimitReached limit) → (e ≡ OutOfMemory) ⊎ X → IsInner r → A
+no_fault limit r e at limited (inl m) inner = by inner
+  where
+    by : {A : Type 0} → IsInner r → A
+    by (inl is) = cc
+    by (inr (inl is)) = cc
+    by (inr (inr (inl is))) = cc
+    by (inr (inr (inr (message, is)))) = cc
+no_fault limit r e at limited (inr x) inner = by inner (limited x)
+  where
+    by : {A : Type 0} → IsInner r → e ≡ LimitReached limit → A
+    by (inl is) m = cc
+    by (inr (inl is)) m = cc
+    by (inr (inr (inl is))) m = cc
+    by (inr (inr (inr (message, is)))) m = cc
 
 -- ---- what is said of a refusal before the install
 
@@ -150,32 +191,38 @@ pub freeze_cause : {C : Type 0} (limit : ℕ) (a b : Counts) (old : CoreModel) (
 freeze_cause limit a b old e some (inl is) = inl (subst (IsCounted a b) (sym is) tt)
 freeze_cause limit a b old e some (inr (is, more)) = inr (inl (is, passes_two limit old some (omega arith)))
 
+-- of the causes the later ones are said in other words
+pub other_causes : {A D E F G : Type 0} → (D → E) → (F → G) → A ⊎ D ⊎ F → A ⊎ E ⊎ G
+other_causes f g (inl a) = inl a
+other_causes f g (inr (inl d)) = inr (inl (f d))
+other_causes f g (inr (inr w)) = inr (inr (g w))
+
 pub place_cause : {A C : Type 0} (limit : ℕ) (old : CoreModel) (e : SlateDBError) → (e ≡ LimitReached limit) × (limit < passed old) → A ⊎ ((e ≡ LimitReached limit) × (limit < passed old)) ⊎ C
 place_cause limit old e h = inr (inl h)
 
 -- ---- what a flush has of its install
 
-flushed_is : (encode : Encode) (layout : Layout) (between new : CoreModel) (n : ℕ) (before after : Option Objects) → IsFlushed encode layout between new n before after → new.state ≡ record between.state { flushed = n }
-flushed_is encode layout between new n before after (idle none is kept) = ap (λ (v : CoreModel). v.state) is
-flushed_is encode layout between new n before after (stored ts is tables taken) = ap (λ (v : CoreModel). v.state) is
+flushed_is : (m : Meaning) (layout : Layout) (between new : CoreModel) (n : ℕ) (before after : Option Objects) → IsFlushed m layout between new n before after → new.state ≡ record between.state { flushed = n }
+flushed_is m layout between new n before after (idle none is kept) = ap (λ (v : CoreModel). v.state) is
+flushed_is m layout between new n before after (stored ts is tables taken) = ap (λ (v : CoreModel). v.state) is
 
-pub settled : (r : Result ℕ SlateDBError) (encode : Encode) (layout : Layout) (between new : CoreModel) (before after : Option Objects) → IfOk r (λ n. IsFlushed encode layout between new n before after) → OnErr r (IsSame between new) → new.settings ≡ between.settings
-settled (Ok n) encode layout between new before after (idle none is kept) same = ap (λ (v : CoreModel). v.settings) is
-settled (Ok n) encode layout between new before after (stored ts is tables taken) same = ap (λ (v : CoreModel). v.settings) is
-settled (Err e) encode layout between new before after h same = ap (λ (v : CoreModel). v.settings) same
+pub settled : (r : Result ℕ SlateDBError) (m : Meaning) (layout : Layout) (between new : CoreModel) (before after : Option Objects) → IfOk r (λ n. IsFlushed m layout between new n before after) → OnErr r (IsSame between new) → new.settings ≡ between.settings
+settled (Ok n) m layout between new before after (idle none is kept) same = ap (λ (v : CoreModel). v.settings) is
+settled (Ok n) m layout between new before after (stored ts is tables taken) same = ap (λ (v : CoreModel). v.settings) is
+settled (Err e) m layout between new before after h same = ap (λ (v : CoreModel). v.settings) same
 
-pub all_taken : (r : Result ℕ SlateDBError) (encode : Encode) (layout : Layout) (between new : CoreModel) (before after : Option Objects) → between.active ≡ [] → IfOk r (λ n. IsFlushed encode layout between new n before after) → OnOk r ((new.active ≡ []) × (new.frozen ≡ []))
-all_taken (Ok n) encode layout between new before after none (idle frozen is kept) = (ap (λ (v : CoreModel). v.active) is ∙ none, ap (λ (v : CoreModel). v.frozen) is ∙ frozen)
-all_taken (Ok n) encode layout between new before after none (stored ts is tables taken) = (ap (λ (v : CoreModel). v.active) is ∙ none, ap (λ (v : CoreModel). v.frozen) is)
-all_taken (Err e) encode layout between new before after none h = tt
+pub all_taken : (r : Result ℕ SlateDBError) (m : Meaning) (layout : Layout) (between new : CoreModel) (before after : Option Objects) → between.active ≡ [] → IfOk r (λ n. IsFlushed m layout between new n before after) → OnOk r ((new.active ≡ []) × (new.frozen ≡ []))
+all_taken (Ok n) m layout between new before after none (idle frozen is kept) = (ap (λ (v : CoreModel). v.active) is ∙ none, ap (λ (v : CoreModel). v.frozen) is ∙ frozen)
+all_taken (Ok n) m layout between new before after none (stored ts is tables taken) = (ap (λ (v : CoreModel). v.active) is ∙ none, ap (λ (v : CoreModel). v.frozen) is)
+all_taken (Err e) m layout between new before after none h = tt
 
-pub steps_after : (r : Result ℕ SlateDBError) (encode : Encode) (layout : Layout) (old between new : CoreModel) (before after : Option Objects) → IsFrozen old between → IfOk r (λ n. n ≡ last_of between.settings.start_seq between.state.commits) → IfOk r (λ n. IsFlushed encode layout between new n before after) →
-    IfOk r (λ n. (m : Meaning) → step (rules_of old.settings m) old.state lines.Flush ≡ (new.state, Flushed n))
-steps_after (Ok n) encode layout old between new before after frozen last is = λ m. step_flush m old between new n frozen last (flushed_is encode layout between new n before after is)
-steps_after (Err e) encode layout old between new before after frozen last is = tt
+pub steps_after : (r : Result ℕ SlateDBError) (m : Meaning) (layout : Layout) (old between new : CoreModel) (before after : Option Objects) → IsFrozen old between → IfOk r (λ n. n ≡ last_of between.settings.start_seq between.state.commits) → IfOk r (λ n. IsFlushed m layout between new n before after) →
+    IfOk r (λ n. (o : Meaning) → step (rules_of old.settings o) old.state lines.Flush ≡ (new.state, Flushed n))
+steps_after (Ok n) m layout old between new before after frozen last is = λ o. step_flush o old between new n frozen last (flushed_is m layout between new n before after is)
+steps_after (Err e) m layout old between new before after frozen last is = tt
 
 -- nothing is committed behind its freeze
-pub quiet_after : (r : Result ℕ SlateDBError) (encode : Encode) (layout : Layout) (between new : CoreModel) (before after : Option Objects) → IsQuiet between.events → IfOk r (λ n. IsFlushed encode layout between new n before after) → OnOk r (IsQuiet new.events)
-quiet_after (Ok n) encode layout between new before after quiet (idle none is kept) = subst (λ (v : CoreModel). IsQuiet v.events) (sym is) quiet
-quiet_after (Ok n) encode layout between new before after quiet (stored ts is tables taken) = subst (λ (v : CoreModel). IsQuiet v.events) (sym is) (quiet_more between.events (events.Install n ts) refl refl quiet)
-quiet_after (Err e) encode layout between new before after quiet h = tt
+pub quiet_after : (r : Result ℕ SlateDBError) (m : Meaning) (layout : Layout) (between new : CoreModel) (before after : Option Objects) → IsQuiet between.events → IfOk r (λ n. IsFlushed m layout between new n before after) → OnOk r (IsQuiet new.events)
+quiet_after (Ok n) m layout between new before after quiet (idle none is kept) = subst (λ (v : CoreModel). IsQuiet v.events) (sym is) quiet
+quiet_after (Ok n) m layout between new before after quiet (stored ts is tables taken) = subst (λ (v : CoreModel). IsQuiet v.events) (sym is) (quiet_more between.events (events.Install n ts) refl refl quiet)
+quiet_after (Err e) m layout between new before after quiet h = tt

@@ -16,7 +16,7 @@ use Rattle.slate_txn.specs.Reads.{up_to, key_rows}
 use Rattle.slate_db.specs.Meaning.{Meaning, rules_of, combine_of, IsLawfulMeaning}
 use Rattle.slate_db.specs.Model.{CoreModel, Rows, versions, versions_in}
 use Rattle.slate_db.specs.Installs.{tables_of, installed}
-use Rattle.slate_db.specs.Sound.{at_most, above, IsKept, IsSound, AreTables, AreBases}
+use Rattle.slate_db.specs.Sound.{HasNoMerge, at_most, above, IsKept, IsSound, AreTables, AreBases}
 use Rattle.slate_db.specs.Layers.{AreRising}
 use Rattle.slate_db.specs.Log.{AreShortOps}
 use Rattle.slate_db.specs.Whole.{IsWhole, Unseen, layers_of}
@@ -27,7 +27,8 @@ use Rattle.slate_db.proofs.Cuts.{parts_all, versions_cut}
 use Rattle.slate_db.proofs.Folds.{wider}
 use Rattle.slate_db.proofs.Journals.{apply_more}
 use Rattle.slate_db.proofs.Split.{none_above, all_up_to}
-use Rattle.slate_db.proofs.Bases.{bases_in, folded_bases}
+use Rattle.slate_db.proofs.Bases.{folded_bases}
+use Rattle.slate_db.proofs.NoMerges.{memory_bases}
 use Rattle.slate_db.proofs.Rises.{folded_within, rows_above, tables_rise}
 use Rattle.slate_db.proofs.Short.{all_append, all_filter, commits_short, fold_short, fine_short}
 use Rattle.slate_db.proofs.AllRows.{flush_fold}
@@ -56,7 +57,7 @@ kept_install m c u ts spare limit rows parts w idle tables order cut folded kept
     tables = subst (λ (xs : List (Ulid × List ℕ)). AreTables m xs (z.layers ++ parts)) (sym (tables_more c.events (events.Install u.last ts))) (tables_append m (tables_of c.events) ts z.layers parts z.tables tables);
     short = all_append AreShort z.layers parts z.short (of_parts _ (short_by_key rows (λ k.
         subst (λ (xs : Rows). AreShort xs) (sym (folded k)) (all_append _ _ _ (fold_short (combine_of m k) (law.short k) _ (all_filter _ _ _ (memory_short k law))) (all_filter _ _ _ (memory_short k law))))));
-    bases = all_append AreBases z.layers parts z.bases (of_parts _ (folded_bases m (least_start u.last c.state) c.frozen rows (bases_in c.frozen (all_front _ c.frozen (c.active ∷ []) w.layers.fit)) folded));
+    bases = λ none. all_append AreBases z.layers parts (z.bases none) (of_parts _ (folded_bases m (least_start u.last c.state) c.frozen rows (all_front _ c.frozen (c.active ∷ []) (memory_bases m c none kept.0 kept.2)) folded));
     within = subst (λ (i : ℕ). AllByRecursion (λ layer. AllByRecursion (λ r. r.seq ≤ i) layer) (z.layers ++ parts)) (sym through)
         (all_append _ z.layers parts (all_map _ _ (wider (installed c.events) u.last w.log.installed_within) z.layers z.within) (of_parts _ (folded_within m (least_start u.last c.state) u.last c.frozen rows (all_front _ c.frozen (c.active ∷ []) w.tied.rows_within) folded)));
     rise = λ k. subst (λ (xs : Rows). AreRising xs) (sym (same k z.layers))
@@ -70,6 +71,7 @@ kept_install m c u ts spare limit rows parts w idle tables order cut folded kept
         (short_versions k z.layers z.short) (tied k) (z.folds k x below)
         ∙ ap (λ ds. fold_rows (combine_of m k) (key_rows r k (up_to x ds))) (sym (ap (λ i. up_to i cs) through ∙ all_up_to start u.last cs w.log.rising last));
   },
+  λ none. let z : HasNoMerge c = kept.2 none in record { own = z.own; commits = z.commits },
 )
   where
     r : Rules

@@ -19,6 +19,7 @@ mod Writes
 mod Puts
 mod Versions
 mod MemoryRows
+mod FoldFits
 mod FlushRows
 mod Cuts
 pub mod Runs

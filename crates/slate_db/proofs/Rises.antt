@@ -72,7 +72,7 @@ folded_above : (m : Meaning) (b n : ℕ) (k : List ℕ) (layers : List Rows) (ro
 folded_above m b n k layers rows folded h =
     subst (AllByRecursion (λ r. n < r.seq)) (sym (folded k)) (all_append _ _ _ (fold_above (combine_of m k) n _ (all_filter _ _ _ h)) (all_filter _ _ _ h))
 
-folded_rise : (m : Meaning) (b : ℕ) (k : List ℕ) (layers : List Rows) (rows : Rows) → IsFolded m b layers rows → AreRising (versions_in k layers) → AreRising (versions k rows)
+pub folded_rise : (m : Meaning) (b : ℕ) (k : List ℕ) (layers : List Rows) (rows : Rows) → IsFolded m b layers rows → AreRising (versions_in k layers) → AreRising (versions k rows)
 folded_rise m b k layers rows folded rise =
     let xs : Rows = versions_in k layers in
     subst (λ (ys : Rows). AreRising ys) (sym (folded k))

@@ -4,21 +4,24 @@ use Rattle.std.proofs.Common.{◌≡◌, ℕ, ◌+◌, ◌<◌, ◌⊎◌, inl, 
 use Rattle.std.specs.List.{AllByRecursion}
 use Rattle.std.specs.Prelude.{IfOk, OnErr, Result, Ok, Err}
 use Rattle.slate_types.specs.declared.error.SlateDBError.{SlateDBError}
+use Rattle.slate_types.specs.declared.error.SlateDBError.TheVariants.{OutOfMemory, MergeOperatorMissing}
 use Rattle.slate_types.specs.declared.types.Ulid.{Ulid}
-use Rattle.slate_types.specs.Outside.{IsFault, IsLater, Objects, Reach}
+use Rattle.slate_types.specs.Outside.{Counts, IsCounted, IsFault, IsLater, Objects, Reach}
 use Rattle.slate_types.proofs.Reaching.{fault_earlier}
 use Rattle.slate_table.specs.declared.info.SsTableHandle.{SsTableHandle}
 use Rattle.slate_table.specs.Parts.{Encode}
 use Rattle.slate_table.specs.Table.{AreInOrder}
+use Rattle.slate_mem.specs.Lookup.{IsCallback}
 use Rattle.slate_read.specs.declared.sorted_run.SortedRun.{SortedRun}
 use Rattle.slate_db.specs.Answered.{AddsPuts}
 use Rattle.slate_db.specs.Cut.{AreCut}
-use Rattle.slate_db.specs.Flushed.{AreSomeOfFlush, AreTablesAt, HasTooLarge, IsFolded, IsPut, IsTableAt, IsTooLarge, Layout, MayTakeTables, TakesTables}
+use Rattle.slate_db.specs.Flushed.{AreSomeOfFlush, AreTablesAt, HasTooLarge, IsFolded, IsPut, IsTableAt, IsTooLarge, Layout, MayTakeTables, TakesTables, WantsOperator}
 use Rattle.slate_db.specs.Installs.{AreHandles}
 use Rattle.slate_db.specs.Layers.{FitsMemory}
 use Rattle.slate_db.specs.Meaning.{Meaning}
 use Rattle.slate_db.specs.Model.{Rows}
 use Rattle.slate_db.specs.StoredParts.{AreFirstParts, ArePartsPut, CanBuild, IsOneTable, IsPartTooLarge, IsTablePut}
+use Rattle.slate_db.proofs.Causes.{callback_fault}
 use Rattle.slate_db.proofs.Cuts.{parts_all, parts_order}
 use Rattle.slate_db.proofs.Lists.{all_behind}
 use Rattle.slate_db.proofs.Puttings.{adds_more, may_as, may_more, takes_more}
@@ -110,13 +113,13 @@ pub can_build : (limit : ℕ) (rows : Rows) (parts : List Rows) → AreCut limit
 can_build limit rows parts cut order fit =
     parts_build parts cut.some (parts_order parts (subst AreInOrder (sym cut.all) order)) (parts_all FitsMemory parts (subst (AllByRecursion FitsMemory) (sym cut.all) fit))
 
-pub run_is_put : (encode : Encode) (layout : Layout) (number barrier : ℕ) (layers : List Rows) (rows : Rows) (parts : List Rows) (ts : List (Ulid × List ℕ)) (run : SortedRun) (before after : Option Objects) → 0 < length rows →
-    ((m : Meaning) → IsFolded m barrier layers rows) → AreInOrder rows → AreCut layout.table_bytes rows parts → run.prefix ≡ [] → ArePartsPut encode layout number parts ts run.tables.items before after → IsPut encode layout number barrier layers ts run before after
-run_is_put encode layout number barrier layers rows parts ts run before after some folded order cut prefix put = record {
+pub run_is_put : (m : Meaning) (layout : Layout) (number barrier : ℕ) (layers : List Rows) (rows : Rows) (parts : List Rows) (ts : List (Ulid × List ℕ)) (run : SortedRun) (before after : Option Objects) → 0 < length rows →
+    IsFolded m barrier layers rows → AreInOrder rows → AreCut layout.table_bytes rows parts → run.prefix ≡ [] → ArePartsPut m.encode layout number parts ts run.tables.items before after → IsPut m layout number barrier layers ts run before after
+run_is_put m layout number barrier layers rows parts ts run before after some folded order cut prefix put = record {
   kept = record {
     prefix = prefix;
     handles = put.kept;
-    apart = kept_apart encode layout number 0 layout.table_bytes parts ts run.tables.items (subst AreInOrder (sym cut.all) order) cut.some cut.ended put.made put.kept;
+    apart = kept_apart m.encode layout number 0 layout.table_bytes parts ts run.tables.items (subst AreInOrder (sym cut.all) order) cut.some cut.ended put.made put.kept;
   };
   made = record {
     rows = rows;
@@ -130,10 +133,10 @@ run_is_put encode layout number barrier layers rows parts ts run before after so
   taken = put.taken;
 }
 
-pub some_of_flush : (encode : Encode) (layout : Layout) (number barrier : ℕ) (layers : List Rows) (rows : Rows) (parts : List Rows) (before after : Option Objects) → 0 < length rows → ((m : Meaning) → IsFolded m barrier layers rows) → AreInOrder rows →
-    AreCut layout.table_bytes rows parts → MayTakeTables (AreFirstParts encode layout number parts) before after → MayTakeTables (AreSomeOfFlush encode layout number barrier layers) before after
-some_of_flush encode layout number barrier layers rows parts before after some folded order cut may =
-    may_as (AreFirstParts encode layout number parts) (AreSomeOfFlush encode layout number barrier layers) before after
+pub some_of_flush : (m : Meaning) (layout : Layout) (number barrier : ℕ) (layers : List Rows) (rows : Rows) (parts : List Rows) (before after : Option Objects) → 0 < length rows → IsFolded m barrier layers rows → AreInOrder rows →
+    AreCut layout.table_bytes rows parts → MayTakeTables (AreFirstParts m.encode layout number parts) before after → MayTakeTables (AreSomeOfFlush m layout number barrier layers) before after
+some_of_flush m layout number barrier layers rows parts before after some folded order cut may =
+    may_as (AreFirstParts m.encode layout number parts) (AreSomeOfFlush m layout number barrier layers) before after
     (λ ts p. (p.left, record { rows = rows; some = some; folded = folded; order = order; parts = p.done; cut = subst (AreCut layout.table_bytes rows) (sym p.split) cut; built = p.made })) may
 
 pub has_too_large : (layout : Layout) (rows : Rows) (parts : List Rows) (e : SlateDBError) → AreCut layout.table_bytes rows parts → IsPartTooLarge layout parts e → HasTooLarge layout rows e
@@ -149,6 +152,14 @@ pub refused_as : {X E P Q : Type 0} (r : Result X E) → (P → Q) → OnErr r P
 refused_as (Ok x) f p = tt
 refused_as (Err e) f p = f p
 
-pub or_part : {A P Q : Type 0} → (P → Q) → A ⊎ P → A ⊎ Q
-or_part f (inl a) = inl a
-or_part f (inr p) = inr (f p)
+-- why no rows were made
+pub rows_cause : {D : Type 0} (a b : Counts) (m : Meaning) (layers : List Rows) (e : SlateDBError) → (e ≡ MergeOperatorMissing → WantsOperator m layers e) →
+    (e ≡ OutOfMemory) ⊎ (e ≡ MergeOperatorMissing) ⊎ IsCallback a.operator b.operator e → IsCounted a b e ⊎ D ⊎ WantsOperator m layers e
+rows_cause a b m layers e wants (inl is) = inl (subst (IsCounted a b) (sym is) tt)
+rows_cause a b m layers e wants (inr (inl is)) = inr (inr (wants is))
+rows_cause a b m layers e wants (inr (inr f)) = inl (callback_fault a b e f)
+
+-- why no table of them was
+pub run_cause : {P D W : Type 0} (before now after : Reach) (e : SlateDBError) → IsLater before.faults now.faults → (P → D) → IsFault now after e ⊎ P → IsFault before after e ⊎ D ⊎ W
+run_cause before now after e later large (inl f) = inl (fault_earlier before now after e later f)
+run_cause before now after e later large (inr p) = inr (inl (large p))

@@ -44,7 +44,7 @@ onto_short : (c : Combine) → KeepsShort c → (v : List ℕ) (rs : List RowEnt
 onto_short c keeps v [] h hs = h
 onto_short c keeps v (r ∷ rs) h hs = onto_short c keeps (c (Some v) (operand r)) rs (keeps (Some v) (operand r) h hs.0) hs.1
 
-value_short : (c : Combine) → KeepsShort c → (v : ValueDeletable) (rs : List RowEntry) → IsShort (bytes_of v) → AreShort rs → IsShort (bytes_of (value_of_taken c v rs))
+pub value_short : (c : Combine) → KeepsShort c → (v : ValueDeletable) (rs : List RowEntry) → IsShort (bytes_of v) → AreShort rs → IsShort (bytes_of (value_of_taken c v rs))
 value_short c keeps v [] h hs = h
 value_short c keeps (Value v) (r ∷ rs) h hs = onto_short c keeps v (r ∷ rs) h hs
 value_short c keeps Tombstone (r ∷ rs) h hs = onto_short c keeps (c None (operand r)) rs (keeps None (operand r) tt hs.0) hs.1

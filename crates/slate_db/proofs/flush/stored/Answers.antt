@@ -1,12 +1,13 @@
-use Rattle.std.proofs.Common.{map, inl, subst, sym, refl}
+use Rattle.std.proofs.Common.{map, inl, subst, sym, refl, arith, ◌∙◌}
 use Rattle.std.proofs.lemmas.Result.{IfOk-from_err, err_from_is_err_and}
-use Rattle.slate_types.specs.Outside.{IsCounted}
-use Rattle.slate_types.proofs.Reaching.{puts_none}
-use Rattle.slate_table.specs.SectionReading.{changed_by}
+use Rattle.slate_types.specs.Outside.{IsCounted, IsLater}
+use Rattle.slate_types.proofs.Reaching.{puts_none, puts_of, puts_then}
+use Rattle.slate_store.specs.Reach.{reach_of}
 use Rattle.slate_db.specs.Flushed.{layout_of}
 use Rattle.slate_db.proofs.Blocks.{if_err}
 use Rattle.slate_db.proofs.Built.{may_keep}
-use Rattle.slate_db.proofs.RunSoFar.{both_ok, can_build, has_too_large, or_part, refused_as, run_is_put, some_of_flush}
+use Rattle.slate_db.proofs.Operands.{combine_is}
+use Rattle.slate_db.proofs.RunSoFar.{both_ok, can_build, has_too_large, refused_as, rows_cause, run_cause, run_is_put, some_of_flush}
 use Rattle.slate_db.proofs.flush.stored.Goals as goal
 
 pub stored_run-requires : goal.stored_run-requires
@@ -14,41 +15,46 @@ stored_run-requires g c = record { valid = c.requires.valid; each = can_build c.
 
 pub returns : goal.returns
 returns g c =
-    let encode = changed_by g.T.BlockTransformer.encoded c.args.env.now.transformer in
+    let m = (reach_of g.S.Store g.M.MergeOperator g.T.BlockTransformer c.args.env.now).meaning in
+    let operator = combine_is g.M.MergeOperator.combine c.args.env.now.operator in
     let layout = layout_of c.args.options.now in
     let parts = map (λ t. t.items) c.in_ok-parts.parts.items in
     let rows = c.in_ok-rows.ensures in
+    let same = combine_is g.M.MergeOperator.combine c.rows_of_flush.new.operator ∙ rows.same ∙ sym operator in
+    let later : IsLater _ _ = record { store = omega arith; operator = rows.later; transformer = omega arith } in
     record {
       stored = both_ok c.stored_run.result _ _ _
-          (λ a put prefix. run_is_put encode layout c.args.number c.args.barrier _ c.in_ok-rows.rows.items parts a.0 a.1 _ _ rows.some rows.folded rows.order c.in_ok-parts.ensures.cut prefix put)
+          (λ a put prefix. run_is_put m layout c.args.number c.args.barrier _ c.in_ok-rows.rows.items parts a.0 a.1 _ _ rows.some (rows.folded m operator) rows.order c.in_ok-parts.ensures.cut prefix put)
           c.stored_run.ensures.stored c.stored_run.ensures.prefix;
       acts = c.stored_run.ensures.acts;
-      refused = refused_as c.stored_run.result (some_of_flush encode layout c.args.number c.args.barrier _ c.in_ok-rows.rows.items parts _ _ rows.some rows.folded rows.order c.in_ok-parts.ensures.cut) c.stored_run.ensures.refused;
-      cause = if_err c.stored_run.result _ _ (λ e h. or_part (λ large. (c.in_ok-rows.rows.items, rows.folded, rows.order, has_too_large layout c.in_ok-rows.rows.items parts e c.in_ok-parts.ensures.cut large)) h) c.stored_run.ensures.cause;
-      operator = c.stored_run.ensures.operator;
-      puts = c.stored_run.ensures.puts;
+      refused = refused_as c.stored_run.result (some_of_flush m layout c.args.number c.args.barrier _ c.in_ok-rows.rows.items parts _ _ rows.some (rows.folded m operator) rows.order c.in_ok-parts.ensures.cut) c.stored_run.ensures.refused;
+      cause = if_err c.stored_run.result _ _ (λ e h. run_cause _ _ _ e later (λ large. (c.in_ok-rows.rows.items, rows.folded m operator, rows.order, has_too_large layout c.in_ok-rows.rows.items parts e c.in_ok-parts.ensures.cut large)) h) c.stored_run.ensures.cause;
+      puts = puts_then _ _ _ (puts_of _ _ same refl refl later refl) c.stored_run.ensures.puts;
     }
 
 pub returns-in_err-rows : goal.returns-in_err-rows
 returns-in_err-rows g c =
+    let m = (reach_of g.S.Store g.M.MergeOperator g.T.BlockTransformer c.args.env.now).meaning in
+    let operator = combine_is g.M.MergeOperator.combine c.args.env.now.operator in
+    let same = combine_is g.M.MergeOperator.combine c.rows_of_flush.new.operator ∙ c.in_err-rows.ensures.same ∙ sym operator in
     let p = err_from_is_err_and c.from_residual.result c.from_residual.ensures.1 in
     record {
       stored = IfOk-from_err c.from_residual.result _ c.from_residual.ensures.0;
       acts = IfOk-from_err c.from_residual.result _ c.from_residual.ensures.0;
       refused = rw p.1 (may_keep _ _ _ (λ i. g.S.Store.objects c.args.env.now.store.now));
-      cause = rw (p.1, p.2) (inl (subst (IsCounted _ _) (sym c.in_err-rows.ensures.cause) tt));
-      operator = refl;
-      puts = puts_none _;
+      cause = rw (p.1, p.2) (rows_cause _ _ m _ _ (c.in_err-rows.ensures.missing m operator) c.in_err-rows.ensures.cause);
+      puts = puts_of _ _ same refl refl (record { store = omega arith; operator = c.in_err-rows.ensures.later; transformer = omega arith }) refl;
     }
 
 pub returns-in_err-parts : goal.returns-in_err-parts
 returns-in_err-parts g c =
+    let operator = combine_is g.M.MergeOperator.combine c.args.env.now.operator in
+    let same = combine_is g.M.MergeOperator.combine c.rows_of_flush.new.operator ∙ c.in_ok-rows.ensures.same ∙ sym operator in
     let p = err_from_is_err_and c.from_residual-in_err-parts.result c.from_residual-in_err-parts.ensures.1 in
     record {
       stored = IfOk-from_err c.from_residual-in_err-parts.result _ c.from_residual-in_err-parts.ensures.0;
       acts = IfOk-from_err c.from_residual-in_err-parts.result _ c.from_residual-in_err-parts.ensures.0;
       refused = rw p.1 (may_keep _ _ _ (λ i. g.S.Store.objects c.args.env.now.store.now));
       cause = rw (p.1, p.2) (inl (subst (IsCounted _ _) (sym c.in_err-parts.ensures.cause) tt));
-      operator = refl;
-      puts = puts_none _;
+      puts = puts_of _ _ same refl refl (record { store = omega arith; operator = c.in_ok-rows.ensures.later; transformer = omega arith }) refl;
     }

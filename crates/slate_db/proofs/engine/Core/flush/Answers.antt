@@ -3,7 +3,8 @@ use Rattle.std.proofs.lemmas.Result.{err_from_is_err_and, IfOk-from_err}
 use Rattle.slate_types.specs.declared.error.SlateDBError.{SlateDBError}
 use Rattle.slate_types.specs.declared.error.SlateDBError.TheVariants as errors
 use Rattle.slate_types.proofs.Reaching.{puts_none}
-use Rattle.slate_table.specs.SectionReading.{changed_by}
+use Rattle.slate_types.specs.Outside.{IsFault, Reach}
+use Rattle.slate_store.specs.Reach.{reach_of}
 use Rattle.slate_types.specs.declared.types.Ulid.{Ulid}
 use Rattle.slate_txn.specs.Places.{IsQuiet}
 use Rattle.slate_txn.specs.State.{last_of}
@@ -11,13 +12,13 @@ use Rattle.slate_db.specs.declared.engine.Core.TheInside.{Inside}
 use Rattle.slate_db.specs.Answered.{AddsTables}
 use Rattle.slate_db.specs.Installs.{tables_of}
 use Rattle.slate_db.specs.Frozen.{IsFrozen}
-use Rattle.slate_db.specs.Flushed.{Layout, TooLarge, idle, layout_of}
-use Rattle.slate_db.specs.Model.{CoreModel}
+use Rattle.slate_db.specs.Flushed.{IsFlushError, Layout, TooLarge, WantsOperator, idle, layout_of}
+use Rattle.slate_db.specs.Model.{CoreModel, memory}
 use Rattle.slate_db.specs.Sound.{IsKept}
 use Rattle.slate_db.specs.Log.{LIMIT, LogModel, IsLog, with_flush}
 use Rattle.slate_db.specs.View.{view_of, unseen_of, IsWholeInside}
 use Rattle.slate_db.specs.Vouched.{IsVouchedFor}
-use Rattle.slate_db.proofs.Flushes.{kept_flushed, step_flush, frozen_settings, steps_after, place_cause, freeze_cause, frozen_idle, none_frozen, installed_after, cause_after, too_large_before, passed, place_left, some_frozen, frozen_at_fault, no_fault, settled, all_taken, quiet_after}
+use Rattle.slate_db.proofs.Flushes.{kept_flushed, step_flush, frozen_settings, steps_after, place_cause, freeze_cause, frozen_idle, none_frozen, installed_after, cause_after, too_large_before, wants_before, never_missing, place_left, some_frozen, frozen_at_fault, no_fault, settled, all_taken, quiet_after}
 use Rattle.slate_db.proofs.Built.{may_keep}
 use Rattle.slate_db.proofs.Vouches.{vouched_flushed}
 use Rattle.slate_db.proofs.Wholes.{whole_flushed}
@@ -63,11 +64,13 @@ returns-in_err-place_for_flush g c =
       full = λ h. refl;
       full_objects = λ h. refl;
       vouched = IfOk-from_err c.from_residual.result _ c.from_residual.ensures.0;
-      kept = λ m same k. k;
+      kept = λ k. k;
       settings = refl;
       limit = λ h. let p = err_from_is_err_and c.from_residual.result c.from_residual.ensures.1 in p.1 ∙ ap Err (p.2 ∙ c.in_err-place_for_flush.ensures.limit.0);
+      operable = (λ k.
+          let here = reach_of g.S.Store g.M.MergeOperator g.T.BlockTransformer c.args.env.now in
+          rw (p.1, p.2) (never_missing (layout_of c.args.laws.now.options) here here c.args.self.now c.in_err-place_for_flush.field-0.0 k (place_cause LIMIT c.args.self.now c.in_err-place_for_flush.field-0.0 c.in_err-place_for_flush.ensures.limit)));
       cause = rw (p.1, p.2) (place_cause LIMIT c.args.self.now c.in_err-place_for_flush.field-0.0 c.in_err-place_for_flush.ensures.limit);
-      operator = refl;
       puts = puts_none _;
     }
 
@@ -89,11 +92,13 @@ returns-in_err-freeze g c =
       full = λ h. c.in_err-freeze.ensures.same;
       full_objects = λ h. refl;
       vouched = IfOk-from_err c.from_residual-in_err-freeze.result _ c.from_residual-in_err-freeze.ensures.0;
-      kept = λ m same k. subst (λ (v : CoreModel). IsKept m v) (sym c.in_err-freeze.ensures.same) k;
+      kept = λ k. subst (λ (v : CoreModel). IsKept m v) (sym c.in_err-freeze.ensures.same) k;
       settings = ap (λ (v : CoreModel). v.settings) c.in_err-freeze.ensures.same;
       limit = λ h. absurd (omega (arith, c.in_ok-place_for_flush.ensures.place, h));
+      operable = (λ k.
+          let here = reach_of g.S.Store g.M.MergeOperator g.T.BlockTransformer c.args.env.now in
+          rw (p.1, p.2) (never_missing (layout_of c.args.laws.now.options) here here c.args.self.now c.in_err-freeze.field-0.0 k (freeze_cause LIMIT _ _ c.args.self.now c.in_err-freeze.field-0.0 (λ e. let t : false ≡ true = c.in_err-freeze.ensures.idle e in cc) c.in_err-freeze.ensures.cause)));
       cause = rw (p.1, p.2) (freeze_cause LIMIT _ _ c.args.self.now c.in_err-freeze.field-0.0 (λ e. let t : false ≡ true = c.in_err-freeze.ensures.idle e in cc) c.in_err-freeze.ensures.cause);
-      operator = refl;
       puts = puts_none _;
     }
 
@@ -142,7 +147,8 @@ pub returns-then-is_empty-clause-limit : goal.returns-then-is_empty-clause-limit
 returns-then-is_empty-clause-limit g c h = absurd (omega (arith, c.in_ok-place_for_flush.ensures.place, h))
 
 pub returns-then-is_empty-clause-kept : goal.returns-then-is_empty-clause-kept
-returns-then-is_empty-clause-kept g c m same k =
+returns-then-is_empty-clause-kept g c k =
+    let m = (reach_of g.S.Store g.M.MergeOperator g.T.BlockTransformer c.args.env.now).meaning in
     subst (λ (l : LogModel). IsKept m (view_of (record c.self.inside { log = l }))) (sym c.note_flush.ensures.value)
     (kept_flushed m (view_of c.self.inside) c.self.inside.log.last (subst (λ (v : CoreModel). IsKept m v) (sym c.self.view_is) (c.in_ok-freeze.ensures.kept m k)))
 
@@ -156,36 +162,45 @@ returns-then-is_empty-clause-puts g c = puts_none _
 pub returns-then-is_empty-clause-refused : goal.returns-then-is_empty-clause-refused
 returns-then-is_empty-clause-refused g c = tt
 
+pub returns-then-is_empty-clause-operable : goal.returns-then-is_empty-clause-operable
+returns-then-is_empty-clause-operable g c k = tt
+
 pub returns-then-is_empty-clause-cause : goal.returns-then-is_empty-clause-cause
 returns-then-is_empty-clause-cause g c = tt
 
 -- ---- the install
 
 -- what refuses it, said of the core before the freeze
-behind : {A : Type 0} (layout : Layout) (old between : CoreModel) (e : SlateDBError) → IsFrozen old between → A ⊎ TooLarge layout between e → A ⊎ ((e ≡ errors.LimitReached LIMIT) × (LIMIT < passed old)) ⊎ TooLarge layout old e
-behind layout old between e froze (inl fault) = inl fault
-behind layout old between e froze (inr large) = inr (inr (too_large_before layout old between e froze large))
+behind : (layout : Layout) (before after : Reach) (old between : CoreModel) (e : SlateDBError) → IsFrozen old between →
+    IsFault before after e ⊎ TooLarge before.meaning layout between e ⊎ WantsOperator before.meaning (memory between) e → IsFlushError layout before after old e
+behind layout before after old between e froze (inl fault) = inl fault
+behind layout before after old between e froze (inr (inl large)) = inr (inr (inl (too_large_before before.meaning layout old between e froze large)))
+behind layout before after old between e froze (inr (inr wants)) = inr (inr (inr (wants_before before.meaning old between e froze wants)))
 
 pub returns : goal.returns
 returns g c =
-    let steps = steps_after c.install.result (changed_by g.T.BlockTransformer.encoded c.args.env.now.transformer) (layout_of c.args.laws.now.options) c.args.self.now c.freeze.new.self c.install.new.self (g.S.Store.objects c.args.env.now.store.now) (g.S.Store.objects c.install.new.env.store.now) c.in_ok-freeze.ensures.event c.install.ensures.newest c.install.ensures.installed in
-    let same = settled c.install.result (changed_by g.T.BlockTransformer.encoded c.args.env.now.transformer) (layout_of c.args.laws.now.options) c.freeze.new.self c.install.new.self (g.S.Store.objects c.args.env.now.store.now) (g.S.Store.objects c.install.new.env.store.now) c.install.ensures.installed c.install.ensures.same ∙ frozen_settings c.args.self.now c.freeze.new.self c.in_ok-freeze.ensures.event in
+    let before = reach_of g.S.Store g.M.MergeOperator g.T.BlockTransformer c.args.env.now in
+    let after = reach_of g.S.Store g.M.MergeOperator g.T.BlockTransformer c.install.new.env in
+    let layout = layout_of c.args.laws.now.options in
+    let cause = cause_after c.install.result _ (IsFlushError layout before after c.args.self.now) (λ e h. behind layout before after c.args.self.now c.freeze.new.self e c.in_ok-freeze.ensures.event h) c.install.ensures.cause in
+    let steps = steps_after c.install.result before.meaning (layout_of c.args.laws.now.options) c.args.self.now c.freeze.new.self c.install.new.self (g.S.Store.objects c.args.env.now.store.now) (g.S.Store.objects c.install.new.env.store.now) c.in_ok-freeze.ensures.event c.install.ensures.newest c.install.ensures.installed in
+    let same = settled c.install.result before.meaning (layout_of c.args.laws.now.options) c.freeze.new.self c.install.new.self (g.S.Store.objects c.args.env.now.store.now) (g.S.Store.objects c.install.new.env.store.now) c.install.ensures.installed c.install.ensures.same ∙ frozen_settings c.args.self.now c.freeze.new.self c.in_ok-freeze.ensures.event in
     record {
       step = steps;
-      installed = installed_after c.install.result (changed_by g.T.BlockTransformer.encoded c.args.env.now.transformer) (layout_of c.args.laws.now.options) c.args.self.now c.freeze.new.self c.install.new.self (g.S.Store.objects c.args.env.now.store.now) (g.S.Store.objects c.install.new.env.store.now) c.in_ok-freeze.ensures.event c.install.ensures.installed;
+      installed = installed_after c.install.result before.meaning (layout_of c.args.laws.now.options) c.args.self.now c.freeze.new.self c.install.new.self (g.S.Store.objects c.args.env.now.store.now) (g.S.Store.objects c.install.new.env.store.now) c.in_ok-freeze.ensures.event c.install.ensures.installed;
       acts = (subst (λ (ts : List (Ulid × List ℕ)). OnOk c.install.result (AddsTables ts (tables_of c.install.new.self.events) (g.S.Store.acts c.args.env.now.store.now) (g.S.Store.acts c.install.new.env.store.now)))
           (frozen_tables c.args.self.now c.freeze.new.self c.in_ok-freeze.ensures.event) c.install.ensures.acts);
-      taken = all_taken c.install.result (changed_by g.T.BlockTransformer.encoded c.args.env.now.transformer) (layout_of c.args.laws.now.options) c.freeze.new.self c.install.new.self (g.S.Store.objects c.args.env.now.store.now) (g.S.Store.objects c.install.new.env.store.now) (frozen_idle c.args.self.now c.freeze.new.self c.in_ok-freeze.ensures.event) c.install.ensures.installed;
-      quiet = quiet_after c.install.result (changed_by g.T.BlockTransformer.encoded c.args.env.now.transformer) (layout_of c.args.laws.now.options) c.freeze.new.self c.install.new.self (g.S.Store.objects c.args.env.now.store.now) (g.S.Store.objects c.install.new.env.store.now) c.in_ok-freeze.ensures.quiet c.install.ensures.installed;
+      taken = all_taken c.install.result before.meaning (layout_of c.args.laws.now.options) c.freeze.new.self c.install.new.self (g.S.Store.objects c.args.env.now.store.now) (g.S.Store.objects c.install.new.env.store.now) (frozen_idle c.args.self.now c.freeze.new.self c.in_ok-freeze.ensures.event) c.install.ensures.installed;
+      quiet = quiet_after c.install.result before.meaning (layout_of c.args.laws.now.options) c.freeze.new.self c.install.new.self (g.S.Store.objects c.args.env.now.store.now) (g.S.Store.objects c.install.new.env.store.now) c.in_ok-freeze.ensures.quiet c.install.ensures.installed;
       refused = both_err c.install.result (λ same may. (c.freeze.new.self, inr c.in_ok-freeze.ensures.event, same, may)) c.install.ensures.same c.install.ensures.refused;
       frozen = frozen_at_fault c.install.result c.args.self.now c.freeze.new.self c.install.new.self c.in_ok-freeze.ensures.event c.install.ensures.same;
       full = λ h. absurd (omega (arith, c.in_ok-place_for_flush.ensures.place, h));
       full_objects = λ h. absurd (omega (arith, c.in_ok-place_for_flush.ensures.place, h));
       vouched = vouched_flushed c.install.result c.args.self.now c.install.new.self steps same;
-      kept = λ m same k. c.install.ensures.kept m same (c.in_ok-freeze.ensures.kept m k);
+      kept = λ k. c.install.ensures.kept (c.in_ok-freeze.ensures.kept _ k);
       settings = same;
       limit = λ h. absurd (omega (arith, c.in_ok-place_for_flush.ensures.place, h));
-      cause = cause_after c.install.result _ _ (λ e h. behind (layout_of c.args.laws.now.options) c.args.self.now c.freeze.new.self e c.in_ok-freeze.ensures.event h) c.install.ensures.cause;
-      operator = c.install.ensures.operator;
+      operable = λ k. cause_after c.install.result (IsFlushError layout before after c.args.self.now) (λ e. e ≡ errors.MergeOperatorMissing → ⊥) (λ e h. never_missing layout before after c.args.self.now e k h) cause;
+      cause = cause;
       puts = c.install.ensures.puts;
     }

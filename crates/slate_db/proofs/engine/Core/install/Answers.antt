@@ -2,25 +2,25 @@ use Rattle.std.proofs.Common.{◌≡◌, ℕ, ◌+◌, ◌<◌, map, length, ref
 use Rattle.std.proofs.lemmas.Result.{err_from_is_err_and, IfOk-from_err}
 use Rattle.std.specs.Prelude.{Ok}
 use Rattle.slate_types.proofs.Reaching.{puts_none}
-use Rattle.slate_table.specs.Parts.{Encode}
-use Rattle.slate_table.specs.SectionReading.{changed_by}
+use Rattle.slate_store.specs.Reach.{reach_of}
 use Rattle.slate_txn.specs.State.{last_of}
 use Rattle.slate_txn.specs.Open.{least_start}
 use Rattle.slate_db.specs.declared.engine.Core.TheInside.{Inside}
-use Rattle.slate_db.specs.Flushed.{after_install, layout_of, AreSomeOfFlush, AreTablesOfFlush, CanFlush, MayFlush, MayTakeTables, IsFlushed, TooLarge, stored}
+use Rattle.slate_db.specs.Flushed.{after_install, layout_of, AreSomeOfFlush, AreTablesOfFlush, CanFlush, MayFlush, MayTakeTables, IsFlushed, TooLarge, WantsOperator, stored}
 use Rattle.slate_db.specs.Cut.{AreCut}
 use Rattle.slate_db.specs.Answered.{AddsTables}
 use Rattle.slate_db.specs.Installs.{ArePlaced, runs_of, tables_of}
 use Rattle.slate_db.specs.Layers.{AreLayers, LayersModel}
 use Rattle.slate_db.specs.Log.{IsLog, LogModel, with_install}
-use Rattle.slate_db.specs.Model.{CoreModel, IsSame}
+use Rattle.slate_db.specs.Model.{CoreModel, IsSame, memory}
 use Rattle.slate_db.specs.Sound.{IsKept}
 use Rattle.slate_db.specs.View.{view_of, unseen_of, IsWholeInside}
 use Rattle.slate_db.proofs.Installs.{kept_install, can_flush, tables_of_parts, moved}
 use Rattle.slate_db.proofs.Built.{may_keep}
 use Rattle.slate_db.proofs.Keeps.{kept_same}
 use Rattle.slate_db.proofs.Lists.{first_ok, second_ok}
-use Rattle.slate_db.proofs.Loads.{last_cause, too_large_is}
+use Rattle.slate_db.proofs.FlushLoads.{too_large_is}
+use Rattle.slate_db.proofs.Flushes.{other_causes, wants_idle}
 use Rattle.slate_db.proofs.Logs.{has_place}
 use Rattle.slate_db.proofs.Puttings.{adds_installed}
 use Rattle.slate_db.proofs.Runs.{are_placed}
@@ -63,35 +63,34 @@ pub returns : goal.returns
 returns g c =
     let becomes = installed_is c.self.inside c.reserve.new.self c.push_install.new.self c.reserve_run.new.self c.install.new.self c.in_ok-put.put.0 c.in_ok-put.put.1 c.barrier-barrier.result (least_start c.self.inside.log.last (view_of c.self.inside).state) c.reserve.ensures.value c.push_install.ensures.value c.reserve_run.ensures.value c.install.ensures.value (c.barrier-barrier.ensures ∙ sym (ap start c.self.view_is) ∙ ap (λ n. least_start n (view_of c.self.inside).state) (sym c.self.invariant.log.last)) in
     let log : c.push_install.new.self ≡ with_install c.self.inside.log c.in_ok-put.put.0 c.push_install.new.self.spare = c.push_install.ensures.value ∙ ap (λ (l : LogModel). with_install l c.in_ok-put.put.0 c.push_install.new.self.spare) c.reserve.ensures.value in
-    let encode : Encode = changed_by g.T.BlockTransformer.encoded c.args.env.now.transformer in
-    let made : AreTablesOfFlush (changed_by g.T.BlockTransformer.encoded c.args.env.now.transformer) (layout_of c.args.options.now) (length (runs_of (view_of c.self.inside).events) + 1) (least_start c.self.inside.log.last (view_of c.self.inside).state) (view_of c.self.inside).frozen c.in_ok-put.put.0 =
-    moved (λ n b layers. AreTablesOfFlush (changed_by g.T.BlockTransformer.encoded c.args.env.now.transformer) (layout_of c.args.options.now) n b layers c.in_ok-put.put.0)
+    let m = (reach_of g.S.Store g.M.MergeOperator g.T.BlockTransformer c.args.env.now).meaning in
+    let made : AreTablesOfFlush m (layout_of c.args.options.now) (length (runs_of (view_of c.self.inside).events) + 1) (least_start c.self.inside.log.last (view_of c.self.inside).state) (view_of c.self.inside).frozen c.in_ok-put.put.0 =
+    moved (λ n b layers. AreTablesOfFlush m (layout_of c.args.options.now) n b layers c.in_ok-put.put.0)
     c.next_install-number.result (length (runs_of (view_of c.self.inside).events) + 1) c.barrier-barrier.result (least_start c.self.inside.log.last (view_of c.self.inside).state) (map (λ t. t.rows) c.frozen.result.now) (view_of c.self.inside).frozen
     (c.next_install-number.ensures ∙ ap (λ (l : LogModel). l.installs + 1) c.reserve.ensures.value ∙ ap (λ n. n + 1) c.self.invariant.log.installs) (c.barrier-barrier.ensures ∙ sym (ap start c.self.view_is) ∙ ap (λ n. least_start n (view_of c.self.inside).state) (sym c.self.invariant.log.last)) (c.frozen.ensures ∙ ap (λ (y : LayersModel). y.frozen) c.reserve_run.ensures.value) c.in_ok-put.ensures.stored.made in
     record {
       newest = c.last.ensures ∙ ap (λ (l : LogModel). l.last) log ∙ c.self.invariant.log.last ∙ ap (λ (v : CoreModel). last_of v.settings.start_seq v.state.commits) c.self.view_is;
       installed = (
-          subst (λ (n : ℕ). IsFlushed (changed_by g.T.BlockTransformer.encoded c.args.env.now.transformer) (layout_of c.args.options.now) c.args.self.now (view_of (record c.self.inside { log = c.push_install.new.self; layers = c.install.new.self })) n (g.S.Store.objects c.args.env.now.store.now) (g.S.Store.objects c.stored.new.env.store.now)) (sym (c.last.ensures ∙ ap (λ (l : LogModel). l.last) log))
+          subst (λ (n : ℕ). IsFlushed m (layout_of c.args.options.now) c.args.self.now (view_of (record c.self.inside { log = c.push_install.new.self; layers = c.install.new.self })) n (g.S.Store.objects c.args.env.now.store.now) (g.S.Store.objects c.stored.new.env.store.now)) (sym (c.last.ensures ∙ ap (λ (l : LogModel). l.last) log))
           (stored c.in_ok-put.put.0
           (sym (ap view_of becomes) ∙ ap (λ (v : CoreModel). after_install v c.self.inside.log.last c.in_ok-put.put.0 c.push_install.new.self.spare) c.self.view_is)
-          (subst (λ (v : CoreModel). AreTablesOfFlush (changed_by g.T.BlockTransformer.encoded c.args.env.now.transformer) (layout_of c.args.options.now) (length (runs_of v.events) + 1) (least_start c.self.inside.log.last v.state) v.frozen c.in_ok-put.put.0) c.self.view_is made)
+          (subst (λ (v : CoreModel). AreTablesOfFlush m (layout_of c.args.options.now) (length (runs_of v.events) + 1) (least_start c.self.inside.log.last v.state) v.frozen c.in_ok-put.put.0) c.self.view_is made)
           c.in_ok-put.ensures.stored.taken));
       acts = (subst (λ (v : CoreModel). AddsTables (tables_of v.events) (tables_of c.push_install.new.self.events) (g.S.Store.acts c.args.env.now.store.now) (g.S.Store.acts c.stored.new.env.store.now)) c.self.view_is
           (adds_installed c.self.inside.log.events c.push_install.new.self.events c.self.inside.log.last c.in_ok-put.put.0 (g.S.Store.acts c.args.env.now.store.now) (g.S.Store.acts c.stored.new.env.store.now)
           (ap (λ (l : LogModel). l.events) log) c.in_ok-put.ensures.acts));
       same = tt;
       refused = tt;
-      kept = (λ m same k.
+      kept = (λ k.
           subst (λ (s : Inside). IsKept m (view_of s)) becomes
           (kept_install m (view_of c.self.inside) (unseen_of c.self.inside) c.in_ok-put.put.0 c.push_install.new.self.spare (layout_of c.args.options.now).table_bytes made.rows made.parts c.self.invariant
           (ap (λ (v : CoreModel). v.active) c.self.view_is ∙ c.requires.idle)
-          (tables_of_parts m _ _ _ _ made.parts c.in_ok-put.put.0 same made.built)
+          (tables_of_parts m m.encode _ _ _ made.parts c.in_ok-put.put.0 refl made.built)
           made.order
           (subst (AreCut (layout_of c.args.options.now).table_bytes made.rows) (append-nil made.parts) made.cut)
-          (made.folded m)
+          made.folded
           (subst (λ (v : CoreModel). IsKept m v) (sym c.self.view_is) k)));
       cause = tt;
-      operator = c.stored.ensures.operator;
       puts = c.stored.ensures.puts;
     }
 
@@ -109,43 +108,47 @@ invariant_of-self-in_err-put g c = room_for_run (record c.self.inside { log = c.
 pub returns-in_err-put : goal.returns-in_err-put
 returns-in_err-put g c =
     let p = err_from_is_err_and c.from_residual-in_err-put.result c.from_residual-in_err-put.ensures.1 in
+    let m = (reach_of g.S.Store g.M.MergeOperator g.T.BlockTransformer c.args.env.now).meaning in
     record {
       newest = IfOk-from_err c.from_residual-in_err-put.result _ c.from_residual-in_err-put.ensures.0;
       installed = IfOk-from_err c.from_residual-in_err-put.result _ c.from_residual-in_err-put.ensures.0;
       acts = IfOk-from_err c.from_residual-in_err-put.result _ c.from_residual-in_err-put.ensures.0;
       same = rw p.1 (subst (λ (v : CoreModel). IsSame v (view_of (record c.self.inside { log = c.reserve.new.self; layers = c.reserve_run.new.self }))) c.self.view_is (same_room c.self.inside c.reserve.new.self c.reserve_run.new.self c.reserve.ensures.value c.reserve_run.ensures.value));
-      refused = (let enc = changed_by g.T.BlockTransformer.encoded c.args.env.now.transformer in
+      refused = (let enc = (reach_of g.S.Store g.M.MergeOperator g.T.BlockTransformer c.args.env.now).meaning in
           let barrier = c.barrier-barrier.ensures ∙ sym (ap start c.self.view_is) in
           rw p.1
           (subst (λ (v : CoreModel). MayFlush enc (layout_of c.args.options.now) v (g.S.Store.objects c.args.env.now.store.now) (g.S.Store.objects c.stored.new.env.store.now)) c.self.view_is
           (moved (λ n b layers. MayTakeTables (AreSomeOfFlush enc (layout_of c.args.options.now) n b layers) (g.S.Store.objects c.args.env.now.store.now) (g.S.Store.objects c.stored.new.env.store.now))
           c.next_install-number.result (length (runs_of (view_of c.self.inside).events) + 1) c.barrier-barrier.result (start (view_of c.self.inside)) (map (λ t. t.rows) c.frozen.result.now) (view_of c.self.inside).frozen
           (c.next_install-number.ensures ∙ ap (λ (l : LogModel). l.installs + 1) c.reserve.ensures.value ∙ ap (λ n. n + 1) c.self.invariant.log.installs) barrier (c.frozen.ensures ∙ ap (λ (y : LayersModel). y.frozen) c.reserve_run.ensures.value) c.in_err-put.ensures.refused)));
-      kept = (λ m same k.
+      kept = (λ k.
           kept_same m (view_of c.self.inside) (view_of (record c.self.inside { log = c.reserve.new.self; layers = c.reserve_run.new.self })) (same_room c.self.inside c.reserve.new.self c.reserve_run.new.self c.reserve.ensures.value c.reserve_run.ensures.value) (subst (λ (v : CoreModel). IsKept m v) (sym c.self.view_is) k));
       cause = (let layout = layout_of c.args.options.now in
           let barrier = c.barrier-barrier.ensures ∙ sym (ap start c.self.view_is) in
+          let idle = ap (λ (v : CoreModel). v.active) c.self.view_is ∙ c.requires.idle in
+          let frozen = c.frozen.ensures ∙ ap (λ (y : LayersModel). y.frozen) c.reserve_run.ensures.value in
           rw (p.1, p.2)
-          (last_cause (λ large. subst (λ (v : CoreModel). TooLarge layout v c.in_err-put.field-0.0) c.self.view_is
-          (too_large_is layout (view_of c.self.inside) c.barrier-barrier.result (map (λ t. t.rows) c.frozen.result.now) large.0 c.in_err-put.field-0.0
-          (ap (λ (v : CoreModel). v.active) c.self.view_is ∙ c.requires.idle) barrier (c.frozen.ensures ∙ ap (λ (y : LayersModel). y.frozen) c.reserve_run.ensures.value) c.self.invariant.layers.fit large.1 large.2 large.3))
+          (other_causes
+          (λ large. subst (λ (v : CoreModel). TooLarge m layout v c.in_err-put.field-0.0) c.self.view_is
+          (too_large_is m layout (view_of c.self.inside) c.barrier-barrier.result (map (λ t. t.rows) c.frozen.result.now) large.0 c.in_err-put.field-0.0 idle barrier frozen large.1 large.2 large.3))
+          (λ wants. subst (λ (v : CoreModel). WantsOperator m (memory v) c.in_err-put.field-0.0) c.self.view_is
+          (wants_idle m (view_of c.self.inside) (map (λ t. t.rows) c.frozen.result.now) c.in_err-put.field-0.0 idle frozen wants))
           c.in_err-put.ensures.cause));
-      operator = c.stored.ensures.operator;
       puts = c.stored.ensures.puts;
     }
 
 pub returns-in_err-and : goal.returns-in_err-and
 returns-in_err-and g c =
     let p = err_from_is_err_and c.from_residual.result c.from_residual.ensures.1 in
+    let m = (reach_of g.S.Store g.M.MergeOperator g.T.BlockTransformer c.args.env.now).meaning in
     record {
       newest = IfOk-from_err c.from_residual.result _ c.from_residual.ensures.0;
       installed = IfOk-from_err c.from_residual.result _ c.from_residual.ensures.0;
       acts = IfOk-from_err c.from_residual.result _ c.from_residual.ensures.0;
       same = rw p.1 (subst (λ (v : CoreModel). IsSame v (view_of (record c.self.inside { log = c.reserve.new.self; layers = c.reserve_run.new.self }))) c.self.view_is (same_room c.self.inside c.reserve.new.self c.reserve_run.new.self c.reserve.ensures.value c.reserve_run.ensures.value));
       refused = rw p.1 (may_keep _ _ _ refl);
-      kept = (λ m same k.
+      kept = (λ k.
           kept_same m (view_of c.self.inside) (view_of (record c.self.inside { log = c.reserve.new.self; layers = c.reserve_run.new.self })) (same_room c.self.inside c.reserve.new.self c.reserve_run.new.self c.reserve.ensures.value c.reserve_run.ensures.value) (subst (λ (v : CoreModel). IsKept m v) (sym c.self.view_is) k));
       cause = rw (p.1, p.2) (inl tt);
-      operator = refl;
       puts = puts_none _;
     }
