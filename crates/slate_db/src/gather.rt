@@ -1,10 +1,10 @@
 //! The rows that a flush stores.
-ghost use Rattle.std.specs.Prelude.{◌≡◌, ◌⊎◌, ◌≤◌, ◌<◌, map, length, option_map, IfErr, IfOk};
+ghost use Rattle.std.specs.Prelude.{◌≡◌, ◌⊎◌, ◌≤◌, ◌<◌, ◌&&◌, not, is_some, map, length, option_map, IfErr, IfOk};
 ghost use Rattle.std.specs.List.{AllByRecursion};
 ghost use Rattle.slate_types.specs.declared.error.SlateDBError.{SlateDBError};
 ghost use Rattle.slate_table.specs.Table.{AreInOrder};
 ghost use Rattle.slate_types.specs.Faults.{faults_of};
-ghost use Rattle.slate_mem.specs.Lookup.{IsCallback};
+ghost use Rattle.slate_mem.specs.Lookup.{is_merge_among, IsCallback};
 ghost use Rattle.slate_db.specs.Flushed.{IsFolded, CanFlush, WantsOperator};
 ghost use Rattle.slate_db.specs.Meaning.{Meaning};
 ghost use Rattle.slate_db.specs.Layers.{FitsMemory};
@@ -36,9 +36,16 @@ pub fn rows_of_flush<M: MergeOperator>(
     ensures cause { IfErr result (λ e. (e ≡ SlateDBError.OutOfMemory) ⊎ (e ≡ SlateDBError.MergeOperatorMissing) ⊎ IsCallback (faults_of M.faults operator.old) (faults_of M.faults operator.new) e) }
 {
     let rows = gathered(alloc, frozen)?;
-    if operator.is_none() && has_merge(&rows) {
+    if wants_operator(&rows, operator) {
         drop(rows);
         return Err(SlateDBError::MergeOperatorMissing);
     }
     fold_for_flush(alloc, rows, barrier, operator)
+}
+
+/// Whether one of the rows is an operand, and there is no operator.
+fn wants_operator<M: MergeOperator>(rows: &[RowEntry], operator: &Option<M>) -> bool
+    ensures { result ≡ (not (is_some operator.now) && is_merge_among rows.now) }
+{
+    operator.is_none() && has_merge(rows)
 }
