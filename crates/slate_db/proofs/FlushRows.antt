@@ -132,11 +132,11 @@ some_base (r ∷ rs) h = omega arith
 
 fold_some : (c : Combine) (rows : Rows) → 0 < length rows → 0 < length (option_to_list (fold_rows c rows))
 fold_some c [] h = absurd (omega arith)
-fold_some c (r ∷ rs) h = by (list_any is_base rs) refl
+fold_some c (r ∷ rs) h = by (list_any is_base rs) refl (λ e. fold_some c rs (some_base rs e))
   where
-    by : (t : Bool) → list_any is_base rs ≡ t → 0 < length (option_to_list (fold_taken c (cond t (taken rs) (r ∷ rs))))
-    by true e = fold_some c rs (some_base rs e)
-    by false e = omega arith
+    by : (t : Bool) → list_any is_base rs ≡ t → (list_any is_base rs ≡ true → 0 < length (option_to_list (fold_rows c rs))) → 0 < length (option_to_list (fold_taken c (cond t (taken rs) (r ∷ rs))))
+    by true e rest = rest e
+    by false e rest = omega arith
 
 kept_some : (c : Combine) (b : ℕ) (rows : Rows) → 0 < length rows → 0 < length (kept_and_folded c b rows)
 kept_some c b [] h = absurd (omega arith)
@@ -193,11 +193,11 @@ flush_some c b layers rows out same made some each = out_some c b rows out made 
 
 bases_of : (rows : Rows) → list_any is_operand rows ≡ false → AreBases rows
 bases_of [] h = tt
-bases_of (r ∷ rs) h = by (is_operand r) refl h
+bases_of (r ∷ rs) h = by (is_operand r) refl h (bases_of rs)
   where
-    by : (t : Bool) → is_operand r ≡ t → (t || list_any is_operand rs) ≡ false → (not (is_operand r) ≡ true) × AreBases rs
-    by true e h = cc
-    by false e h = (ap not e, bases_of rs h)
+    by : (t : Bool) → is_operand r ≡ t → (t || list_any is_operand rs) ≡ false → (list_any is_operand rs ≡ false → AreBases rs) → (not (is_operand r) ≡ true) × AreBases rs
+    by true e h rest = cc
+    by false e h rest = (ap not e, rest h)
 
 pub none_among : (layers : List Rows) → AllByRecursion AreBases layers → is_merge_among (newest_first layers) ≡ false
 none_among layers h = no_merge_among (newest_first layers) (all_by_versions (λ r. is_base r ≡ true) (newest_first layers) (λ k. subst AreBases (sym (all_versions_are k layers)) (all_versions_in (λ r. is_base r ≡ true) k layers h)))
