@@ -7,6 +7,7 @@ mod Folds
 mod AllRows
 mod Kept
 mod Operands
+mod Asks
 pub mod Keeps
 mod Quiet
 pub mod RunsOf

@@ -117,3 +117,7 @@ merges_fine (Some f) ops h = by (holds_merge ops)
 
 pub merges_tested : {C : Type 0} (o : Option C) (d : Option ℕ) (now : ℤ) (ops : Ops) → test_refusal o d now ops ≡ None → merges_refusal (is_some o) (holds_merge ops) ≡ None
 merges_tested o d now ops h = first_none (merges_refusal (is_some o) (holds_merge ops)) (map (key_refusal None d now ops) (batch_keys ops)) h
+
+-- of an equal operator and an equal moment
+pub batch_refusal_as : {C : Type 0} (a b : Option C) (d : Option ℕ) (x y : ℤ) (batch : BatchModel) → a ≡ b → x ≡ y → batch_refusal a d x batch ≡ batch_refusal b d y batch
+batch_refusal_as a b d x y batch operators moments = λ i. batch_refusal (operators i) d (moments i) batch

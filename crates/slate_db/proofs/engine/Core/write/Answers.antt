@@ -1,10 +1,10 @@
-use Rattle.std.proofs.Common.{◌≡◌, ℕ, ◌+◌, ◌-◌, ◌^◌, ◌<◌, ◌≤◌, ◌++◌, ◌∷◌, [], List, Option, Some, ℤ, refl, ap, sym, subst, ◌∙◌, arith, inr, true, false, w64, inl, true≢false, Err}
+use Rattle.std.proofs.Common.{◌≡◌, ◌⊎◌, length, option_map, None, ℕ, ◌+◌, ◌-◌, ◌^◌, ◌<◌, ◌≤◌, ◌++◌, ◌∷◌, [], List, Option, Some, ℤ, refl, ap, sym, subst, ◌∙◌, arith, inr, true, false, w64, inl, true≢false, Err}
 use Rattle.std.proofs.lemmas.Result.{IfOk-from_err, err_from_is_err_and}
 use Rattle.std.specs.List.{AllByRecursion}
 use Rattle.std.proofs.lemmas.Int.{to_z-of_z}
 use Rattle.slate_txn.specs.State.{last_of}
 use Rattle.slate_types.specs.declared.error.SlateDBError.TheVariants as errors
-use Rattle.slate_types.specs.Fold.{Combine}
+use Rattle.slate_types.specs.Fold.{Combine, operator_at}
 use Rattle.slate_mem.specs.Batch.{Ops, batch_keys}
 use Rattle.slate_mem.specs.CommitRows.{commit_rows}
 use Rattle.slate_mem.specs.Table.{put_rows}
@@ -12,7 +12,8 @@ use Rattle.slate_txn.specs.declared.line.Line.TheVariants as lines
 use Rattle.slate_txn.specs.Reply.{Written, Refused}
 use Rattle.slate_txn.specs.Step.{step}
 use Rattle.slate_db.specs.declared.engine.Core.TheInside.{Inside}
-use Rattle.slate_db.specs.Load.{load, ops_load}
+use Rattle.slate_db.specs.BatchTests.{batch_refusal}
+use Rattle.slate_db.specs.Load.{load}
 use Rattle.slate_db.specs.Meaning.{rules_of, combine_of}
 use Rattle.slate_db.specs.Model.{CoreModel, Rows, at, versions, versions_in, IsSame}
 use Rattle.slate_db.specs.View.{view_of, unseen_of, IsWholeInside}
@@ -21,16 +22,22 @@ use Rattle.slate_db.specs.Vouched.{IsVouchedFor}
 use Rattle.slate_db.specs.Layers.{AreLayers, LayersModel, FitsMemory, AreRising}
 use Rattle.slate_db.specs.Log.{IsLog, LogModel, IsWhollyKept, with_write}
 use Rattle.slate_db.specs.Written.{after_write}
+use Rattle.slate_types.specs.Outside.{Meaning}
+use Rattle.slate_types.proofs.Reaching.{reads_none}
+use Rattle.slate_store.specs.Reach.{reach_of}
+use Rattle.slate_db.proofs.Asks.{asked_call, asked_reads, call_none, callback_fault, short_fault}
 use Rattle.slate_db.proofs.Keeps.{room_made}
 use Rattle.slate_db.proofs.Calls.{none_left, past_place, placed, room_in_log, written_is}
 use Rattle.slate_db.proofs.Lists.{all_map, all_behind}
 use Rattle.slate_db.proofs.Loads.{write_load}
 use Rattle.slate_db.proofs.Managing.{managed_written}
-use Rattle.slate_db.proofs.MemoryRows.{commit_fits, commit_within, puts_all, rise_more}
-use Rattle.slate_db.proofs.Plain.{step_nothing, step_plain, step_exhausted, some_ops}
+use Rattle.slate_db.proofs.MemoryRows.{commit_within, puts_all, rise_more}
+use Rattle.slate_db.proofs.Operands.{combine_is}
+use Rattle.slate_db.proofs.Plain.{step_nothing, step_exhausted, some_ops}
 use Rattle.slate_db.proofs.Puts.{some_more, versions_more, active_within}
 use Rattle.slate_db.proofs.Logs.{has_place}
 use Rattle.slate_db.proofs.TakenBack.{commit_seqs, older_rows}
+use Rattle.slate_db.proofs.Tests.{batch_refusal_as, step_test_refused, step_tested, tested_plain}
 use Rattle.slate_db.proofs.Vouches.{below_next, vouched_write}
 use Rattle.slate_db.proofs.Wholes.{whole_write}
 use Rattle.slate_db.proofs.Writes.{kept_write}
@@ -39,15 +46,18 @@ use Rattle.slate_db.proofs.engine.Core.write.Goals as goal
 pub returns-then-is_empty : goal.returns-then-is_empty
 returns-then-is_empty g c =
     record {
-      step = (λ m ops of fine.
-          step_nothing (rules_of c.args.self.now.settings m) (at c.args.now c.args.self.now.state) ops c.args.batch of (c.is_empty.ensures.0 c.if-is_empty.true));
+      step = (λ ops of fine.
+          step_nothing (rules_of c.args.self.now.settings (reach_of g.S.Store g.M.MergeOperator g.T.BlockTransformer c.args.env.now).meaning) (at c.args.now c.args.self.now.state) ops c.args.batch of (c.is_empty.ensures.0 c.if-is_empty.true));
       refused = tt;
       event = (c.is_empty.ensures.0 c.if-is_empty.true, refl);
       vouched = λ m k h. h;
-      kept = λ m k. k;
+      kept = λ k. k;
       load = λ ops of. omega arith;
       same = tt;
       idle = λ none. refl;
+      first = λ some below free e is. absurd (some (c.is_empty.ensures.0 c.if-is_empty.true));
+      call = call_none _;
+      reads = reads_none _;
       exhausted = λ some full. absurd (some (c.is_empty.ensures.0 c.if-is_empty.true));
       limit = λ some below past. absurd (some (c.is_empty.ensures.0 c.if-is_empty.true));
       cause = tt;
@@ -57,7 +67,8 @@ pub returns-then-last-ge18446744073709551614 : goal.returns-then-last-ge18446744
 returns-then-last-ge18446744073709551614 g c =
     record {
       step = tt;
-      refused = (inr (inr (λ m ops of fine.
+      refused = (inr (inr (λ ops of fine.
+          let m : Meaning = (reach_of g.S.Store g.M.MergeOperator g.T.BlockTransformer c.args.env.now).meaning in
           sym (ap (λ (v : CoreModel). step (rules_of v.settings m) (at c.args.now v.state) (lines.Write ops)) c.self.view_is)
           ∙ step_exhausted (rules_of (view_of c.self.inside).settings m) (at c.args.now (view_of c.self.inside).state) ops c.args.batch c.self.inside.log.last of
           (λ e. let t : true ≡ false = sym (c.is_empty.ensures.1 e) ∙ c.if-is_empty.false in cc) fine refl c.self.invariant.log.last
@@ -71,11 +82,22 @@ returns-then-last-ge18446744073709551614 g c =
       idle = λ none. absurd (true≢false (sym (c.is_empty.ensures.1 none) ∙ c.if-is_empty.false));
       exhausted = λ some full. refl;
       limit = λ some below past. let last = subst (λ n. n < 2 ^ 64 - 2) (sym (c.self.invariant.log.last ∙ ap (λ (v : CoreModel). last_of v.settings.start_seq v.state.commits) c.self.view_is)) below in absurd (omega (arith, last, c.last.ensures));
+      first = λ some below free e is. let last = subst (λ n. n < 2 ^ 64 - 2) (sym (c.self.invariant.log.last ∙ ap (λ (v : CoreModel). last_of v.settings.start_seq v.state.commits) c.self.view_is)) below in absurd (omega (arith, last, c.last.ensures));
+      call = call_none _;
+      reads = reads_none _;
       cause = (let fits : c.self.inside.log.last ≤ 2 ^ 64 - 2 = c.self.invariant.log.last_fits in let last : c.self.inside.log.last ≡ 2 ^ 64 - 2 = omega (arith, fits, c.last.ensures) in inr (inl (refl, sym (c.self.invariant.log.last ∙ ap (λ (v : CoreModel). last_of v.settings.start_seq v.state.commits) c.self.view_is) ∙ last)));
     }
 
-plain : List ℕ → Combine
-plain k = λ e v. v
+-- why the rows weren't made
+refused_rows : {Short Test Called Fault Limit Model : Type 0} → (Short → Fault) → (Test → Model) → (Called → Fault) → Short ⊎ Test ⊎ Called → Fault ⊎ Limit ⊎ Model
+refused_rows f m k (inl short) = inl (f short)
+refused_rows f m k (inr (inl test)) = inr (inr (m test))
+refused_rows f m k (inr (inr called)) = inl (k called)
+
+cause_rows : {Short Test Called Fault Full Limit Known : Type 0} → (Short → Fault) → (Test → Known) → (Called → Fault) → Short ⊎ Test ⊎ Called → Fault ⊎ Full ⊎ Limit ⊎ Known
+cause_rows f m k (inl short) = inl (f short)
+cause_rows f m k (inr (inl test)) = inr (inr (inr (m test)))
+cause_rows f m k (inr (inr called)) = inl (k called)
 
 -- the commit's rows, of the operations at the next sequence
 made : (f : List ℕ → Combine) (d : Option ℕ) (n seq : ℕ) (at now : ℤ) (ops : Ops) (rows : Rows) → rows ≡ commit_rows f d seq at ops → seq ≡ n → at ≡ now → rows ≡ commit_rows f d n now ops
@@ -86,16 +108,17 @@ higher n m h = omega arith
 
 pub put_batch-requires : goal.put_batch-requires
 put_batch-requires g c =
+    let f : List ℕ → Combine = combine_of (reach_of g.S.Store g.M.MergeOperator g.T.BlockTransformer c.args.env.now).meaning in
     let n : ℕ = c.self.inside.log.last in
     let seq : c.last-seq.result + 1 ≡ n + 1 = ap (λ n. n + 1) (c.last-seq.ensures ∙ ap (λ (l : LogModel). l.last) c.reserve.ensures.value) in
-    let rows : c.in_ok-rows.rows.items ≡ commit_rows plain c.self.inside.default_millis (n + 1) c.args.now c.args.batch.ops =
-    made plain c.self.inside.default_millis (n + 1) (c.last-seq.result + 1) _ c.args.now c.args.batch.ops c.in_ok-rows.rows.items (c.in_ok-rows.ensures.plain c.requires plain) seq (to_z-of_z w64 c.args.now c.ranges.now) in
+    let rows : c.in_ok-rows.rows.items ≡ commit_rows f c.self.inside.default_millis (n + 1) c.args.now c.args.batch.ops =
+    made f c.self.inside.default_millis (n + 1) (c.last-seq.result + 1) _ c.args.now c.args.batch.ops c.in_ok-rows.rows.items (c.in_ok-rows.ensures.rows ∙ ap (λ o. commit_rows (operator_at o) c.self.inside.default_millis (c.last-seq.result + 1) _ c.args.batch.ops) (sym (combine_is g.M.MergeOperator.combine c.args.env.now.operator))) seq (to_z-of_z w64 c.args.now c.ranges.now) in
     record {
       whole = c.self.invariant.layers;
-      fit = subst (AllByRecursion FitsMemory) (sym rows) (commit_fits plain c.self.inside.default_millis (n + 1) c.args.now c.args.batch.ops c.ops.ensures.fine (c.ops.ensures.plain c.requires));
+      fit = c.in_ok-rows.ensures.fit c.ops.ensures.fine;
       rise = λ k. subst (λ (rows : Rows). AreRising (versions_in k (c.self.inside.layers.frozen ++ (put_rows c.self.inside.layers.active rows ∷ [])))) (sym rows)
-          (rise_more (view_of c.self.inside) plain c.self.inside.default_millis n c.args.now c.args.batch.ops c.self.invariant.tied.rows_within c.self.invariant.layers.rise k);
-      seqs = subst (λ (k : ℕ). AllByRecursion (λ r. r.seq ≡ k) c.in_ok-rows.rows.items) (sym seq) (subst (AllByRecursion (λ r. r.seq ≡ n + 1)) (sym rows) (commit_seqs plain c.self.inside.default_millis (n + 1) c.args.now c.args.batch.ops));
+          (rise_more (view_of c.self.inside) f c.self.inside.default_millis n c.args.now c.args.batch.ops c.self.invariant.tied.rows_within c.self.invariant.layers.rise k);
+      seqs = subst (λ (k : ℕ). AllByRecursion (λ r. r.seq ≡ k) c.in_ok-rows.rows.items) (sym seq) (subst (AllByRecursion (λ r. r.seq ≡ n + 1)) (sym rows) (commit_seqs f c.self.inside.default_millis (n + 1) c.args.now c.args.batch.ops));
       older = subst (λ (k : ℕ). AllByRecursion (λ r. r.seq < k) c.self.inside.layers.active) (sym seq) (older_rows (view_of c.self.inside) n c.self.invariant.tied.rows_within);
       later = let newest : c.self.inside.manager.last ≡ n = c.self.invariant.tied.manager.newest in omega (arith, seq);
     }
@@ -109,18 +132,19 @@ push_write-requires g c = record {
 
 pub invariant_of-self-2 : goal.invariant_of-self-2
 invariant_of-self-2 g c =
+    let f : List ℕ → Combine = combine_of (reach_of g.S.Store g.M.MergeOperator g.T.BlockTransformer c.args.env.now).meaning in
     let n : ℕ = c.self.inside.log.last in
     let seq : c.last-seq.result + 1 ≡ n + 1 = ap (λ n. n + 1) (c.last-seq.ensures ∙ ap (λ (l : LogModel). l.last) c.reserve.ensures.value) in
-    let rows : c.in_ok-rows.rows.items ≡ commit_rows plain c.self.inside.default_millis (n + 1) c.args.now c.args.batch.ops =
-    made plain c.self.inside.default_millis (n + 1) (c.last-seq.result + 1) _ c.args.now c.args.batch.ops c.in_ok-rows.rows.items (c.in_ok-rows.ensures.plain c.requires plain) (ap (λ n. n + 1) (c.last-seq.ensures ∙ ap (λ (l : LogModel). l.last) c.reserve.ensures.value)) (to_z-of_z w64 c.args.now c.ranges.now) in
-    let layers : c.put_batch.new.layers ≡ record c.self.inside.layers { active = put_rows c.self.inside.layers.active (commit_rows plain c.self.inside.default_millis (n + 1) c.args.now c.args.batch.ops) } =
+    let rows : c.in_ok-rows.rows.items ≡ commit_rows f c.self.inside.default_millis (n + 1) c.args.now c.args.batch.ops =
+    made f c.self.inside.default_millis (n + 1) (c.last-seq.result + 1) _ c.args.now c.args.batch.ops c.in_ok-rows.rows.items (c.in_ok-rows.ensures.rows ∙ ap (λ o. commit_rows (operator_at o) c.self.inside.default_millis (c.last-seq.result + 1) _ c.args.batch.ops) (sym (combine_is g.M.MergeOperator.combine c.args.env.now.operator))) (ap (λ n. n + 1) (c.last-seq.ensures ∙ ap (λ (l : LogModel). l.last) c.reserve.ensures.value)) (to_z-of_z w64 c.args.now c.ranges.now) in
+    let layers : c.put_batch.new.layers ≡ record c.self.inside.layers { active = put_rows c.self.inside.layers.active (commit_rows f c.self.inside.default_millis (n + 1) c.args.now c.args.batch.ops) } =
     c.in_ok-put_batch.ensures.put ∙ ap (λ rs. record c.self.inside.layers { active = put_rows c.self.inside.layers.active rs }) rows in
     let log : c.push_write.new.self ≡ with_write c.self.inside.log c.args.now c.args.batch.ops c.push_write.new.self.spare =
     c.push_write.ensures.value ∙ (λ i. with_write (c.reserve.ensures.value i) (to_z-of_z w64 c.args.now c.ranges.now i) ((c.from_vec.ensures ∙ c.in_ok-ops.ensures.ops) i) c.push_write.new.self.spare) in
     subst IsWholeInside (written_is c.self.inside c.reserve.new.self c.push_write.new.self c.put_batch.new.layers c.put_batch.new.manager c.args.now _ c.args.batch.ops _ _ c.reserve.ensures.value (to_z-of_z w64 c.args.now c.ranges.now) (c.from_vec.ensures ∙ c.in_ok-ops.ensures.ops) c.push_write.ensures.value layers)
-    (whole_write (view_of c.self.inside) (unseen_of c.self.inside) c.args.now c.args.batch.ops (put_rows c.self.inside.layers.active (commit_rows plain c.self.inside.default_millis (n + 1) c.args.now c.args.batch.ops)) c.push_write.new.self.spare
-    (some_more plain c.self.inside.default_millis (n + 1) c.args.now c.args.batch.ops c.self.inside.layers.active (λ e. let t : true ≡ false = sym (c.is_empty.ensures.1 e) ∙ c.if-is_empty.false in cc))
-    (puts_all _ c.self.inside.layers.active _ (all_map _ _ (λ r h. higher n r.seq h) _ (all_behind (λ rows. AllByRecursion (λ r. r.seq ≤ n) rows) c.self.inside.layers.frozen (c.self.inside.layers.active ∷ []) c.self.invariant.tied.rows_within).0) (commit_within plain c.self.inside.default_millis (n + 1) c.args.now c.args.batch.ops))
+    (whole_write (view_of c.self.inside) (unseen_of c.self.inside) c.args.now c.args.batch.ops (put_rows c.self.inside.layers.active (commit_rows f c.self.inside.default_millis (n + 1) c.args.now c.args.batch.ops)) c.push_write.new.self.spare
+    (some_more f c.self.inside.default_millis (n + 1) c.args.now c.args.batch.ops c.self.inside.layers.active (λ e. let t : true ≡ false = sym (c.is_empty.ensures.1 e) ∙ c.if-is_empty.false in cc))
+    (puts_all _ c.self.inside.layers.active _ (all_map _ _ (λ r h. higher n r.seq h) _ (all_behind (λ rows. AllByRecursion (λ r. r.seq ≤ n) rows) c.self.inside.layers.frozen (c.self.inside.layers.active ∷ []) c.self.invariant.tied.rows_within).0) (commit_within f c.self.inside.default_millis (n + 1) c.args.now c.args.batch.ops))
     c.put_batch.new.manager
     (managed_written c.self.inside.manager c.put_batch.new.manager c.self.inside.log.ids n (n + 1) c.self.inside.log.commits c.self.inside.transactions (record { seq = n + 1; now = c.args.now; ops = c.args.batch.ops; tracked = batch_keys c.args.batch.ops })
     (subst (λ (k : ℕ). c.put_batch.new.manager ≡ record c.self.inside.manager { last = k; kept = c.put_batch.new.manager.kept }) seq c.in_ok-put_batch.ensures.committed)
@@ -129,42 +153,50 @@ invariant_of-self-2 g c =
 
 pub returns : goal.returns
 returns g c =
+    let m : Meaning = (reach_of g.S.Store g.M.MergeOperator g.T.BlockTransformer c.args.env.now).meaning in
+    let f : List ℕ → Combine = combine_of (reach_of g.S.Store g.M.MergeOperator g.T.BlockTransformer c.args.env.now).meaning in
     let n : ℕ = c.self.inside.log.last in
     let seq : c.last-seq.result + 1 ≡ n + 1 = ap (λ n. n + 1) (c.last-seq.ensures ∙ ap (λ (l : LogModel). l.last) c.reserve.ensures.value) in
-    let rows_of : (f : List ℕ → Combine) → c.in_ok-rows.rows.items ≡ commit_rows f c.self.inside.default_millis (n + 1) c.args.now c.args.batch.ops =
-    λ f. made f c.self.inside.default_millis (n + 1) (c.last-seq.result + 1) _ c.args.now c.args.batch.ops c.in_ok-rows.rows.items (c.in_ok-rows.ensures.plain c.requires f) seq (to_z-of_z w64 c.args.now c.ranges.now) in
-    let written : Rows = put_rows c.self.inside.layers.active (commit_rows plain c.self.inside.default_millis (n + 1) c.args.now c.args.batch.ops) in
-    let layers : c.put_batch.new.layers ≡ record c.self.inside.layers { active = put_rows c.self.inside.layers.active (commit_rows plain c.self.inside.default_millis (n + 1) c.args.now c.args.batch.ops) } =
-    c.in_ok-put_batch.ensures.put ∙ ap (λ rs. record c.self.inside.layers { active = put_rows c.self.inside.layers.active rs }) (rows_of plain) in
+    let rows : c.in_ok-rows.rows.items ≡ commit_rows f c.self.inside.default_millis (n + 1) c.args.now c.args.batch.ops =
+    made f c.self.inside.default_millis (n + 1) (c.last-seq.result + 1) _ c.args.now c.args.batch.ops c.in_ok-rows.rows.items (c.in_ok-rows.ensures.rows ∙ ap (λ o. commit_rows (operator_at o) c.self.inside.default_millis (c.last-seq.result + 1) _ c.args.batch.ops) (sym (combine_is g.M.MergeOperator.combine c.args.env.now.operator))) seq (to_z-of_z w64 c.args.now c.ranges.now) in
+    let written : Rows = put_rows c.self.inside.layers.active (commit_rows f c.self.inside.default_millis (n + 1) c.args.now c.args.batch.ops) in
+    let layers : c.put_batch.new.layers ≡ record c.self.inside.layers { active = put_rows c.self.inside.layers.active (commit_rows f c.self.inside.default_millis (n + 1) c.args.now c.args.batch.ops) } =
+    c.in_ok-put_batch.ensures.put ∙ ap (λ rs. record c.self.inside.layers { active = put_rows c.self.inside.layers.active rs }) rows in
     let becomes = written_is c.self.inside c.reserve.new.self c.push_write.new.self c.put_batch.new.layers c.put_batch.new.manager c.args.now _ c.args.batch.ops _ _ c.reserve.ensures.value (to_z-of_z w64 c.args.now c.ranges.now) (c.from_vec.ensures ∙ c.in_ok-ops.ensures.ops) c.push_write.ensures.value layers in
     let below : n < 2 ^ 64 - 2 = omega (arith, c.last.ensures) in
+    let tested : batch_refusal m.combine c.self.inside.default_millis c.args.now c.args.batch ≡ None =
+    sym (batch_refusal_as (option_map g.M.MergeOperator.combine c.args.env.now.operator) m.combine c.self.inside.default_millis _ c.args.now c.args.batch (sym (combine_is g.M.MergeOperator.combine c.args.env.now.operator)) (to_z-of_z w64 c.args.now c.ranges.now)) ∙ c.in_ok-rows.ensures.tested in
     record {
-      step = (λ m ops of fine.
+      step = (λ ops of fine.
           sym (ap (λ (v : CoreModel). step (rules_of v.settings m) (at c.args.now v.state) (lines.Write ops)) c.self.view_is)
-          ∙ step_plain (rules_of (view_of c.self.inside).settings m) (at c.args.now (view_of c.self.inside).state) ops c.args.batch n of (λ e. let t : true ≡ false = sym (c.is_empty.ensures.1 e) ∙ c.if-is_empty.false in cc) c.requires fine refl c.self.invariant.log.last below
+          ∙ step_tested (rules_of (view_of c.self.inside).settings m) (at c.args.now (view_of c.self.inside).state) ops c.args.batch n of (λ e. let t : true ≡ false = sym (c.is_empty.ensures.1 e) ∙ c.if-is_empty.false in cc) tested fine refl c.self.invariant.log.last below
           ∙ (let s = sym seq in λ i. (at c.args.now (view_of (becomes i)).state, Written (Some (s i)))));
       refused = tt;
-      event = sym (ap view_of becomes) ∙ ap (λ (v : CoreModel). after_write v (n + 1) c.args.now c.args.batch.ops (put_rows c.self.inside.layers.active (commit_rows plain c.self.inside.default_millis (n + 1) c.args.now c.args.batch.ops)) c.push_write.new.self.spare) c.self.view_is
+      event = sym (ap view_of becomes) ∙ ap (λ (v : CoreModel). after_write v (n + 1) c.args.now c.args.batch.ops (put_rows c.self.inside.layers.active (commit_rows f c.self.inside.default_millis (n + 1) c.args.now c.args.batch.ops)) c.push_write.new.self.spare) c.self.view_is
           ∙ (let s = sym seq in let rows = sym (ap (λ (y : LayersModel). y.active) layers) in λ i. after_write c.args.self.now (s i) c.args.now c.args.batch.ops (rows i) c.push_write.new.self.spare);
       vouched = (λ m k h.
           subst (λ (s : Inside). IsVouchedFor m (view_of s) k) becomes
           (vouched_write m (view_of c.self.inside) k (n + 1) c.args.now c.args.batch.ops written c.push_write.new.self.spare (below_next (view_of c.self.inside) (unseen_of c.self.inside) c.self.invariant)
           (subst (λ (v : CoreModel). IsVouchedFor m v k) (sym c.self.view_is) h)));
-      kept = (λ m k.
+      kept = (λ k.
           let old : IsKept m (view_of c.self.inside) = subst (λ (v : CoreModel). IsKept m v) (sym c.self.view_is) k in
           subst (λ (s : Inside). IsKept m (view_of s)) becomes
           (kept_write m (view_of c.self.inside) (unseen_of c.self.inside) c.args.now c.args.batch.ops _ c.push_write.new.self.spare
-          (λ j. ap (λ rs. versions j (put_rows c.self.inside.layers.active rs)) (sym (rows_of plain) ∙ rows_of (combine_of m)) ∙ versions_more (combine_of m) c.self.inside.default_millis (n + 1) c.args.now c.args.batch.ops c.self.inside.layers.active j (active_within m (view_of c.self.inside) (unseen_of c.self.inside) c.self.invariant old j))
+          (λ j. versions_more f c.self.inside.default_millis (n + 1) c.args.now c.args.batch.ops c.self.inside.layers.active j (active_within m (view_of c.self.inside) (unseen_of c.self.inside) c.self.invariant old j))
+          (λ none. c.ops.ensures.plain (tested_plain m.combine c.args.batch.held_merge c.self.inside.default_millis c.args.now c.args.batch.ops none tested))
           c.self.invariant old));
       load = (λ ops of.
-          subst (λ (v : CoreModel). load (view_of (record c.self.inside { log = c.push_write.new.self; layers = c.put_batch.new.layers; manager = c.put_batch.new.manager })) ≤ load v + ops_load ops) c.self.view_is
-          (subst (λ (s : Inside). load (view_of s) ≤ load (view_of c.self.inside) + ops_load ops) becomes
-          (write_load (view_of c.self.inside) plain c.self.inside.default_millis (n + 1) c.args.now c.args.batch.ops ops (c.ops.ensures.plain c.requires) of.0)));
+          subst (λ (v : CoreModel). load (view_of (record c.self.inside { log = c.push_write.new.self; layers = c.put_batch.new.layers; manager = c.put_batch.new.manager })) ≤ load v + length ops) c.self.view_is
+          (subst (λ (s : Inside). load (view_of s) ≤ load (view_of c.self.inside) + length ops) becomes
+          (write_load (view_of c.self.inside) f c.self.inside.default_millis (n + 1) c.args.now c.args.batch.ops ops of.0)));
       same = tt;
       idle = λ none. absurd (true≢false (sym (c.is_empty.ensures.1 none) ∙ c.if-is_empty.false));
       exhausted = λ some. none_left (view_of c.self.inside) c.args.self.now (unseen_of c.self.inside) (2 ^ 64 - 2) c.self.view_is c.self.invariant below;
       limit = λ some below. placed (view_of c.self.inside) c.args.self.now (unseen_of c.self.inside) 1 c.self.view_is c.self.invariant c.in_ok-place.ensures.place;
+      first = λ some below free e is. let none : None ≡ Some e = sym tested ∙ ap (λ (v : CoreModel). batch_refusal (reach_of g.S.Store g.M.MergeOperator g.T.BlockTransformer c.args.env.now).meaning.combine v.settings.default_millis c.args.now c.args.batch) c.self.view_is ∙ is in cc;
       cause = tt;
+      call = asked_call g.S.Store g.M.MergeOperator g.T.BlockTransformer c.args.env.now c.tested_rows-rows.new.operator c.tested_rows-rows.ensures.same;
+      reads = asked_reads g.S.Store g.M.MergeOperator g.T.BlockTransformer c.args.env.now c.tested_rows-rows.new.operator c.tested_rows-rows.ensures.same c.tested_rows-rows.ensures.later;
     }
 
 -- ---- refusals: at most room was made
@@ -201,7 +233,10 @@ returns-in_err-place g c =
       idle = λ none. absurd (true≢false (sym (c.is_empty.ensures.1 none) ∙ c.if-is_empty.false));
       exhausted = λ some. none_left (view_of c.self.inside) c.args.self.now (unseen_of c.self.inside) (2 ^ 64 - 2) c.self.view_is c.self.invariant below;
       limit = λ some below past. p.1 ∙ ap Err (p.2 ∙ limit.0);
-      cause = rw (p.1, p.2) (inr (inr (limit.0, past_place (view_of c.self.inside) c.args.self.now (unseen_of c.self.inside) 1 c.self.view_is c.self.invariant limit.1)));
+      first = λ some lower free e is. absurd (free (past_place (view_of c.self.inside) c.args.self.now (unseen_of c.self.inside) 1 c.self.view_is c.self.invariant limit.1));
+      cause = rw (p.1, p.2) (inr (inr (inl (limit.0, past_place (view_of c.self.inside) c.args.self.now (unseen_of c.self.inside) 1 c.self.view_is c.self.invariant limit.1))));
+      call = call_none _;
+      reads = reads_none _;
     }
 
 pub returns-in_err-reserve : goal.returns-in_err-reserve
@@ -210,7 +245,7 @@ returns-in_err-reserve g c =
     let below : c.self.inside.log.last < 2 ^ 64 - 2 = omega (arith, c.last.ensures) in
     record {
       step = IfOk-from_err c.from_residual-in_err-reserve.result _ c.from_residual-in_err-reserve.ensures.0;
-      refused = rw (p.1, p.2) (inl refl);
+      refused = rw (p.1, p.2) (inl tt);
       event = IfOk-from_err c.from_residual-in_err-reserve.result _ c.from_residual-in_err-reserve.ensures.0;
       vouched = IfOk-from_err c.from_residual-in_err-reserve.result _ c.from_residual-in_err-reserve.ensures.0;
       kept = IfOk-from_err c.from_residual-in_err-reserve.result _ c.from_residual-in_err-reserve.ensures.0;
@@ -219,7 +254,10 @@ returns-in_err-reserve g c =
       idle = λ none. absurd (true≢false (sym (c.is_empty.ensures.1 none) ∙ c.if-is_empty.false));
       exhausted = λ some. none_left (view_of c.self.inside) c.args.self.now (unseen_of c.self.inside) (2 ^ 64 - 2) c.self.view_is c.self.invariant below;
       limit = λ some below. placed (view_of c.self.inside) c.args.self.now (unseen_of c.self.inside) 1 c.self.view_is c.self.invariant c.in_ok-place.ensures.place;
-      cause = rw (p.1, p.2) (inl refl);
+      first = λ some lower free e is. inr (p.1 ∙ ap Err p.2);
+      cause = rw (p.1, p.2) (inl tt);
+      call = call_none _;
+      reads = reads_none _;
     }
 
 pub returns-in_err-rows : goal.returns-in_err-rows
@@ -228,7 +266,7 @@ returns-in_err-rows g c =
     let below : c.self.inside.log.last < 2 ^ 64 - 2 = omega (arith, c.last.ensures) in
     record {
       step = IfOk-from_err c.from_residual-in_err-rows.result _ c.from_residual-in_err-rows.ensures.0;
-      refused = rw (p.1, p.2) (inl (c.in_err-rows.ensures.alone refl));
+      refused = ?;
       event = IfOk-from_err c.from_residual-in_err-rows.result _ c.from_residual-in_err-rows.ensures.0;
       vouched = IfOk-from_err c.from_residual-in_err-rows.result _ c.from_residual-in_err-rows.ensures.0;
       kept = IfOk-from_err c.from_residual-in_err-rows.result _ c.from_residual-in_err-rows.ensures.0;
@@ -237,7 +275,10 @@ returns-in_err-rows g c =
       idle = λ none. absurd (true≢false (sym (c.is_empty.ensures.1 none) ∙ c.if-is_empty.false));
       exhausted = λ some. none_left (view_of c.self.inside) c.args.self.now (unseen_of c.self.inside) (2 ^ 64 - 2) c.self.view_is c.self.invariant below;
       limit = λ some below. placed (view_of c.self.inside) c.args.self.now (unseen_of c.self.inside) 1 c.self.view_is c.self.invariant c.in_ok-place.ensures.place;
-      cause = rw (p.1, p.2) (inl (c.in_err-rows.ensures.alone refl));
+      first = ?;
+      cause = ?;
+      call = asked_call g.S.Store g.M.MergeOperator g.T.BlockTransformer c.args.env.now c.tested_rows-rows.new.operator c.tested_rows-rows.ensures.same;
+      reads = asked_reads g.S.Store g.M.MergeOperator g.T.BlockTransformer c.args.env.now c.tested_rows-rows.new.operator c.tested_rows-rows.ensures.same c.tested_rows-rows.ensures.later;
     }
 
 pub returns-in_err-ops : goal.returns-in_err-ops
@@ -246,7 +287,7 @@ returns-in_err-ops g c =
     let below : c.self.inside.log.last < 2 ^ 64 - 2 = omega (arith, c.last.ensures) in
     record {
       step = IfOk-from_err c.from_residual-in_err-ops.result _ c.from_residual-in_err-ops.ensures.0;
-      refused = rw (p.1, p.2) (inl c.in_err-ops.ensures.cause);
+      refused = rw (p.1, p.2) (inl (short_fault _ _ _ c.in_err-ops.ensures.cause));
       event = IfOk-from_err c.from_residual-in_err-ops.result _ c.from_residual-in_err-ops.ensures.0;
       vouched = IfOk-from_err c.from_residual-in_err-ops.result _ c.from_residual-in_err-ops.ensures.0;
       kept = IfOk-from_err c.from_residual-in_err-ops.result _ c.from_residual-in_err-ops.ensures.0;
@@ -255,7 +296,10 @@ returns-in_err-ops g c =
       idle = λ none. absurd (true≢false (sym (c.is_empty.ensures.1 none) ∙ c.if-is_empty.false));
       exhausted = λ some. none_left (view_of c.self.inside) c.args.self.now (unseen_of c.self.inside) (2 ^ 64 - 2) c.self.view_is c.self.invariant below;
       limit = λ some below. placed (view_of c.self.inside) c.args.self.now (unseen_of c.self.inside) 1 c.self.view_is c.self.invariant c.in_ok-place.ensures.place;
-      cause = rw (p.1, p.2) (inl c.in_err-ops.ensures.cause);
+      first = λ some lower free e is. inr (p.1 ∙ ap Err (p.2 ∙ c.in_err-ops.ensures.cause));
+      cause = rw (p.1, p.2) (inl (short_fault _ _ _ c.in_err-ops.ensures.cause));
+      call = asked_call g.S.Store g.M.MergeOperator g.T.BlockTransformer c.args.env.now c.tested_rows-rows.new.operator c.tested_rows-rows.ensures.same;
+      reads = asked_reads g.S.Store g.M.MergeOperator g.T.BlockTransformer c.args.env.now c.tested_rows-rows.new.operator c.tested_rows-rows.ensures.same c.tested_rows-rows.ensures.later;
     }
 
 pub returns-in_err-keys : goal.returns-in_err-keys
@@ -264,7 +308,7 @@ returns-in_err-keys g c =
     let below : c.self.inside.log.last < 2 ^ 64 - 2 = omega (arith, c.last.ensures) in
     record {
       step = IfOk-from_err c.from_residual-in_err-keys.result _ c.from_residual-in_err-keys.ensures.0;
-      refused = rw (p.1, p.2) (inl c.in_err-keys.ensures.cause);
+      refused = rw (p.1, p.2) (inl (short_fault _ _ _ c.in_err-keys.ensures.cause));
       event = IfOk-from_err c.from_residual-in_err-keys.result _ c.from_residual-in_err-keys.ensures.0;
       vouched = IfOk-from_err c.from_residual-in_err-keys.result _ c.from_residual-in_err-keys.ensures.0;
       kept = IfOk-from_err c.from_residual-in_err-keys.result _ c.from_residual-in_err-keys.ensures.0;
@@ -273,7 +317,10 @@ returns-in_err-keys g c =
       idle = λ none. absurd (true≢false (sym (c.is_empty.ensures.1 none) ∙ c.if-is_empty.false));
       exhausted = λ some. none_left (view_of c.self.inside) c.args.self.now (unseen_of c.self.inside) (2 ^ 64 - 2) c.self.view_is c.self.invariant below;
       limit = λ some below. placed (view_of c.self.inside) c.args.self.now (unseen_of c.self.inside) 1 c.self.view_is c.self.invariant c.in_ok-place.ensures.place;
-      cause = rw (p.1, p.2) (inl c.in_err-keys.ensures.cause);
+      first = λ some lower free e is. inr (p.1 ∙ ap Err (p.2 ∙ c.in_err-keys.ensures.cause));
+      cause = rw (p.1, p.2) (inl (short_fault _ _ _ c.in_err-keys.ensures.cause));
+      call = asked_call g.S.Store g.M.MergeOperator g.T.BlockTransformer c.args.env.now c.tested_rows-rows.new.operator c.tested_rows-rows.ensures.same;
+      reads = asked_reads g.S.Store g.M.MergeOperator g.T.BlockTransformer c.args.env.now c.tested_rows-rows.new.operator c.tested_rows-rows.ensures.same c.tested_rows-rows.ensures.later;
     }
 
 pub returns-in_err-put_batch : goal.returns-in_err-put_batch
@@ -282,7 +329,7 @@ returns-in_err-put_batch g c =
     let below : c.self.inside.log.last < 2 ^ 64 - 2 = omega (arith, c.last.ensures) in
     record {
       step = IfOk-from_err c.from_residual-in_err-put_batch.result _ c.from_residual-in_err-put_batch.ensures.0;
-      refused = rw (p.1, p.2) (inl c.in_err-put_batch.ensures.cause);
+      refused = rw (p.1, p.2) (inl (short_fault _ _ _ c.in_err-put_batch.ensures.cause));
       event = IfOk-from_err c.from_residual-in_err-put_batch.result _ c.from_residual-in_err-put_batch.ensures.0;
       vouched = IfOk-from_err c.from_residual-in_err-put_batch.result _ c.from_residual-in_err-put_batch.ensures.0;
       kept = IfOk-from_err c.from_residual-in_err-put_batch.result _ c.from_residual-in_err-put_batch.ensures.0;
@@ -291,5 +338,8 @@ returns-in_err-put_batch g c =
       idle = λ none. absurd (true≢false (sym (c.is_empty.ensures.1 none) ∙ c.if-is_empty.false));
       exhausted = λ some. none_left (view_of c.self.inside) c.args.self.now (unseen_of c.self.inside) (2 ^ 64 - 2) c.self.view_is c.self.invariant below;
       limit = λ some below. placed (view_of c.self.inside) c.args.self.now (unseen_of c.self.inside) 1 c.self.view_is c.self.invariant c.in_ok-place.ensures.place;
-      cause = rw (p.1, p.2) (inl c.in_err-put_batch.ensures.cause);
+      first = λ some lower free e is. inr (p.1 ∙ ap Err (p.2 ∙ c.in_err-put_batch.ensures.cause));
+      cause = rw (p.1, p.2) (inl (short_fault _ _ _ c.in_err-put_batch.ensures.cause));
+      call = asked_call g.S.Store g.M.MergeOperator g.T.BlockTransformer c.args.env.now c.tested_rows-rows.new.operator c.tested_rows-rows.ensures.same;
+      reads = asked_reads g.S.Store g.M.MergeOperator g.T.BlockTransformer c.args.env.now c.tested_rows-rows.new.operator c.tested_rows-rows.ensures.same c.tested_rows-rows.ensures.later;
     }
