@@ -1,5 +1,5 @@
 -- The rows of one key in sources: what a merge leaves of them, and what a reader sees.
-use Rattle.std.proofs.Common.{◌≡◌, ℕ, ◌<◌, Bool, true, false, not, cond, List, [], ◌∷◌, ◌++◌, map, filter, flat_map, reverse, option_to_list, bytes_eq, refl, sym, ap, ◌∙◌, arith}
+use Rattle.std.proofs.Common.{◌≡◌, ℕ, ◌<◌, ◌≤◌, Bool, true, false, not, cond, List, [], ◌∷◌, ◌++◌, map, filter, flat_map, reverse, Option, Some, None, option_to_list, bytes_eq, refl, sym, ap, ◌∙◌, arith, append_assoc, append-nil}
 use Rattle.std.specs.List.{AllByRecursion}
 use Rattle.std.specs.Ordering.{is_lt, nat_cmp, ordering_then}
 use Rattle.std.specs.Prelude.{option_and_then, ◌==◌}
@@ -19,12 +19,15 @@ use Rattle.slate_types.specs.Keys.{key_cmp}
 use Rattle.slate_types.specs.RowTurns.{row_before, key_order, NoneEarlier, AreInTurn}
 use Rattle.slate_types.specs.Rows.{of_key, is_operand, is_deletion, is_tombstone, hide_tombstone}
 use Rattle.slate_types.proofs.FoldLaws.{hides-older}
+use Rattle.slate_read.specs.Folding.{fold_group}
 use Rattle.slate_read.specs.DecidedKeys.{of_key as of_this_key, upto_base}
 use Rattle.slate_read.specs.Merge.{all_rows}
 use Rattle.slate_read.proofs.Turns.{turn_back}
 use Rattle.slate_db.specs.Layers.{AreRising}
 use Rattle.slate_db.specs.Model.{Rows}
-use Rattle.slate_db.specs.Sound.{AreBases}
+use Rattle.slate_db.proofs.Lists.{all_map}
+use Rattle.slate_db.proofs.Short.{all_append}
+use Rattle.slate_db.proofs.Versions.{all_reverse}
 
 -- ---- filters
 
@@ -67,50 +70,90 @@ has_key k (r ∷ rs) = by (bytes_eq r.key k) refl (has_key k rs)
     by true e later = ((bytes_eq-Decides r.key k).0 e, later)
     by false e later = later
 
--- ---- rows of a key of which the sequences rise, turned round
+-- ---- rows of a key of which the sequences don't fall, turned round
+
+-- of the rows of a key, oldest first
+abbrev pub AreClimbing : Rows → Type 0
+AreClimbing [] = Unit {0}
+AreClimbing (r ∷ rs) = AllByRecursion (λ s. r.seq ≤ s.seq) rs × AreClimbing rs
+
+pub rising_climbs : (rows : Rows) → AreRising rows → AreClimbing rows
+rising_climbs [] h = tt
+rising_climbs (r ∷ rs) h = (all_map (λ s. r.seq < s.seq) (λ s. r.seq ≤ s.seq) (λ s k. omega (arith, k)) rs h.0, rising_climbs rs h.1)
+
+pub climbing_both : (b : ℕ) (xs ys : Rows) → AreClimbing xs → AllByRecursion (λ r. r.seq ≤ b) xs → AreClimbing ys → AllByRecursion (λ r. b ≤ r.seq) ys → AreClimbing (xs ++ ys)
+climbing_both b [] ys climb within climbs newer = climbs
+climbing_both b (x ∷ xs) ys climb within climbs newer = (
+  all_append (λ s. x.seq ≤ s.seq) xs ys climb.0 (all_map _ _ (λ s h. let k : x.seq ≤ b = within.0 in let l : b ≤ s.seq = h in omega arith) ys newer),
+  climbing_both b xs ys climb.1 within.1 climbs newer,
+)
 
 same_turn : (order : IterationOrder) (a b : List ℕ) → a ≡ b → key_order order a b ≡ Equal
 same_turn Ascending a b e = ap (λ x. key_cmp x b) e ∙ tied_itself nat_list_cmp_total b
 same_turn Descending a b e = ap (λ x. key_cmp b x) e ∙ tied_itself nat_list_cmp_total b
 
-not_less : (m n : ℕ) → m < n → is_lt (nat_cmp n m) ≡ false
+not_less : (m n : ℕ) → m ≤ n → is_lt (nat_cmp n m) ≡ false
 not_less m n h = let no : ltb n m ≡ false = grind (arith, nat_tests) in by (n == m) no
   where
     by : (t : Bool) → ltb n m ≡ false → is_lt (cond (ltb n m) Less (cond t Equal Greater)) ≡ false
     by true e = rw e refl
     by false e = rw e refl
 
-older_later : (order : IterationOrder) (k : List ℕ) (x z : RowEntry) → x.key ≡ k → z.key ≡ k → x.seq < z.seq → row_before order x z ≡ false
+older_later : (order : IterationOrder) (k : List ℕ) (x z : RowEntry) → x.key ≡ k → z.key ≡ k → x.seq ≤ z.seq → row_before order x z ≡ false
 older_later order k x z e f h = ap (λ o. is_lt (ordering_then o (nat_cmp z.seq x.seq))) (same_turn order x.key z.key (e ∙ sym f)) ∙ not_less x.seq z.seq h
 
-none_newer : (order : IterationOrder) (k : List ℕ) (x : RowEntry) (zs : Rows) → x.key ≡ k → AllByRecursion (λ r. r.key ≡ k) zs → AllByRecursion (λ z. x.seq < z.seq) zs → NoneEarlier (λ a b. row_before order b a) x zs
+none_newer : (order : IterationOrder) (k : List ℕ) (x : RowEntry) (zs : Rows) → x.key ≡ k → AllByRecursion (λ r. r.key ≡ k) zs → AllByRecursion (λ z. x.seq ≤ z.seq) zs → NoneEarlier (λ a b. row_before order b a) x zs
 none_newer order k x [] e keys h = tt
 none_newer order k x (z ∷ zs) e keys h = (older_later order k x z e keys.0 h.0, none_newer order k x zs e keys.1 h.1)
 
-rising_turn : (order : IterationOrder) (k : List ℕ) (rows : Rows) → AllByRecursion (λ r. r.key ≡ k) rows → AreRising rows → AreInTurn (λ a b. row_before order b a) rows
-rising_turn order k [] keys h = tt
-rising_turn order k (r ∷ rs) keys h = (none_newer order k r rs keys.0 keys.1 h.0, rising_turn order k rs keys.1 h.1)
+climbing_turn : (order : IterationOrder) (k : List ℕ) (rows : Rows) → AllByRecursion (λ r. r.key ≡ k) rows → AreClimbing rows → AreInTurn (λ a b. row_before order b a) rows
+climbing_turn order k [] keys h = tt
+climbing_turn order k (r ∷ rs) keys h = (none_newer order k r rs keys.0 keys.1 h.0, climbing_turn order k rs keys.1 h.1)
 
-pub falling_turn : (order : IterationOrder) (k : List ℕ) (rows : Rows) → AllByRecursion (λ r. r.key ≡ k) rows → AreRising rows → AreInTurn (row_before order) (reverse rows)
-falling_turn order k rows keys h = turn_back (λ a b. row_before order b a) rows (rising_turn order k rows keys h)
+pub falling_turn : (order : IterationOrder) (k : List ℕ) (rows : Rows) → AllByRecursion (λ r. r.key ≡ k) rows → AreClimbing rows → AreInTurn (row_before order) (reverse rows)
+falling_turn order k rows keys h = turn_back (λ a b. row_before order b a) rows (climbing_turn order k rows keys h)
 
--- ---- the newest of them decides, and is shown where it is no tombstone
+-- ---- they are folded down to the newest that is no operand, and what they fold to is shown where it is no tombstone
 
 one_shown : (v : ValueDeletable) (r : RowEntry) → cond (not (is_deletion v)) (r ∷ []) [] ≡ option_to_list (hide_tombstone v r)
 one_shown (Value v) r = refl
 one_shown (Merge v) r = refl
 one_shown Tombstone r = refl
 
-newest_shown : (c : Combine) (rows : Rows) → AreBases rows → filter (λ r. not (is_tombstone r)) (upto_base rows) ≡ option_to_list (shown c (reverse rows))
-newest_shown c [] h = refl
-newest_shown c (r ∷ rs) h =
-    by (is_operand r) h.0
-    ∙ one_shown r.value r
-    ∙ sym (ap (λ o. option_to_list (option_and_then (λ x. hide_tombstone x.value x) o)) (ap (fold_rows c) (reverse-append (r ∷ []) rs) ∙ hides-older c (reverse rs) [] r h.0))
-  where
-    by : (b : Bool) → not b ≡ true → filter (λ x. not (is_tombstone x)) (cond b (r ∷ upto_base rs) (r ∷ [])) ≡ filter (λ x. not (is_tombstone x)) (r ∷ [])
-    by true e = cc
-    by false e = refl
+fold_shown : (o : Option RowEntry) → filter (λ r. not (is_tombstone r)) (option_to_list o) ≡ option_to_list (option_and_then (λ r. hide_tombstone r.value r) o)
+fold_shown None = refl
+fold_shown (Some r) = one_shown r.value r
 
-pub bases_shown : (c : Combine) (rows : Rows) → AreBases (reverse rows) → filter (λ r. not (is_tombstone r)) (upto_base (reverse rows)) ≡ option_to_list (shown c rows)
-bases_shown c rows h = newest_shown c (reverse rows) h ∙ ap (λ (xs : Rows). option_to_list (shown c xs)) (reverse-reverse rows)
+-- rows: the newest first
+upto_folds : (c : Combine) (rows newer : Rows) → fold_rows c (reverse (upto_base rows) ++ newer) ≡ fold_rows c (reverse rows ++ newer)
+upto_folds c [] newer = refl
+upto_folds c (r ∷ rs) newer = by (is_operand r) refl
+  where
+    behind : (xs : Rows) → fold_rows c (reverse (r ∷ xs) ++ newer) ≡ fold_rows c (reverse xs ++ (r ∷ newer))
+    behind xs = ap (λ (ys : Rows). fold_rows c (ys ++ newer)) (reverse-append (r ∷ []) xs) ∙ ap (fold_rows c) (append_assoc (reverse xs) (r ∷ []) newer)
+
+    by : (b : Bool) → is_operand r ≡ b → fold_rows c (reverse (cond b (r ∷ upto_base rs) (r ∷ [])) ++ newer) ≡ fold_rows c (reverse (r ∷ rs) ++ newer)
+    by true e = behind (upto_base rs) ∙ upto_folds c rs (r ∷ newer) ∙ sym (behind rs)
+    by false e = sym (behind rs ∙ hides-older c (reverse rs) newer r (ap not e))
+
+all_upto : (P : RowEntry → Type 0) (rows : Rows) → AllByRecursion P rows → AllByRecursion P (upto_base rows)
+all_upto P [] h = tt
+all_upto P (r ∷ rs) h = by (is_operand r)
+  where
+    by : (b : Bool) → AllByRecursion P (cond b (r ∷ upto_base rs) (r ∷ []))
+    by true = (h.0, all_upto P rs h.1)
+    by false = (h.0, tt)
+
+group_is : (c : List ℕ → Combine) (k : List ℕ) (rows : Rows) → AllByRecursion (λ r. r.key ≡ k) rows → fold_group c rows ≡ fold_rows (c k) (reverse rows)
+group_is c k [] h = refl
+group_is c k (r ∷ rs) h = ap (λ (j : List ℕ). fold_rows (c j) (reverse (r ∷ rs))) h.0
+
+pub group_shown : (c : List ℕ → Combine) (k : List ℕ) (rows : Rows) → AllByRecursion (λ r. r.key ≡ k) rows → filter (λ r. not (is_tombstone r)) (option_to_list (fold_group c (upto_base (reverse rows)))) ≡ option_to_list (shown (c k) rows)
+group_shown c k rows keys =
+    fold_shown (fold_group c (upto_base (reverse rows)))
+    ∙ ap (λ (o : Option RowEntry). option_to_list (option_and_then (λ r. hide_tombstone r.value r) o)) (
+      group_is c k (upto_base (reverse rows)) (all_upto (λ r. r.key ≡ k) (reverse rows) (all_reverse (λ r. r.key ≡ k) rows keys))
+      ∙ ap (fold_rows (c k)) (sym (append-nil (reverse (upto_base (reverse rows)))))
+      ∙ upto_folds (c k) (reverse rows) []
+      ∙ ap (fold_rows (c k)) (append-nil (reverse (reverse rows)) ∙ reverse-reverse rows)
+    )

@@ -51,6 +51,7 @@ mod Loads
 mod Steps
 mod Notes
 mod Passing
+mod Foldings
 mod ScanStates
 mod ScanNotes
 mod Refused
@@ -66,6 +67,7 @@ mod Commits
 pub mod Vouches
 mod ByKeys
 mod KeyRows
+mod ScanFolds
 mod Scans
 mod ScanSources
 mod ScanLists

@@ -5,14 +5,13 @@ use Rattle.std.specs.List.{AllByRecursion}
 use Rattle.std.proofs.lemmas.Option.{same_Some}
 use Rattle.slate_types.specs.declared.bytes_range.BytesRange.{BytesRange}
 use Rattle.slate_types.specs.declared.error.SlateDBError.{SlateDBError}
-use Rattle.slate_types.specs.declared.error.SlateDBError.TheVariants.{MergeOperatorMissing}
 use Rattle.slate_types.specs.declared.iter.IterationOrder.{IterationOrder}
 use Rattle.slate_types.specs.declared.types.KeyValue.{KeyValue}
 use Rattle.slate_types.specs.declared.types.RowEntry.{RowEntry}
 use Rattle.slate_types.specs.Iteration.{IsInOrder, comes_before, drop_before}
 use Rattle.slate_types.specs.Outside.{Act, IsFault, IsLater, Meaning, Reach}
 use Rattle.slate_types.specs.Refusing.{IsDamage, NoMore}
-use Rattle.slate_types.specs.Rows.{is_base, is_operand, key_value}
+use Rattle.slate_types.specs.Rows.{key_value}
 use Rattle.slate_types.specs.Steps.{Step}
 use Rattle.slate_types.specs.World.{World, AnswersWorld, Checks, IsCall, Made, Sees}
 use Rattle.slate_types.proofs.Calls.{call_none, call_both, sees_first, sees_last, seen, checks_none, checks_both, no_more_both}
@@ -25,7 +24,7 @@ use Rattle.slate_db.specs.Values.{HasValues, has_value}
 
 -- a first row that has no value changes nothing of them
 pub has_behind : (range : BytesRange) (row : RowEntry) (before after values : List RowEntry) → before ≡ row ∷ after → has_value row ≡ false → HasValues range before values → HasValues range after values
-has_behind range row before after values is none h = record { bases = k.bases.1; within = k.within.1; left = sym dropped ∙ k.left }
+has_behind range row before after values is none h = record { within = k.within.1; left = sym dropped ∙ k.left }
   where
     k : HasValues range (row ∷ after) values
     k = subst (λ (l : List RowEntry). HasValues range l values) is h
@@ -36,7 +35,7 @@ has_behind range row before after values is none h = record { bases = k.bases.1;
 -- one that has a value is the first of them
 pub has_first : (range : BytesRange) (row : RowEntry) (before after values : List RowEntry) → before ≡ row ∷ after → has_value row ≡ true → HasValues range before values →
     (Some (key_value row) ≡ first_left values) × HasValues range after (drop 1 values)
-has_first range row before after values is some h = (ap first_left here, record { bases = k.bases.1; within = k.within.1; left = ap (λ (l : List RowEntry). drop 1 l) here })
+has_first range row before after values is some h = (ap first_left here, record { within = k.within.1; left = ap (λ (l : List RowEntry). drop 1 l) here })
   where
     k : HasValues range (row ∷ after) values
     k = subst (λ (l : List RowEntry). HasValues range l values) is h
@@ -49,17 +48,10 @@ has_first range row before after values is some h = (ap first_left here, record 
 
 -- and at the end there is none
 pub has_none : (range : BytesRange) (before after values : List RowEntry) → before ≡ [] → after ≡ [] → HasValues range before values → (None ≡ first_left values) × HasValues range after (drop 1 values)
-has_none range before after values is end h = (ap first_left here, subst (λ (l : List RowEntry). HasValues range l (drop 1 values)) (sym end) (record { bases = tt; within = tt; left = ap (λ (l : List RowEntry). drop 1 l) here }))
+has_none range before after values is end h = (ap first_left here, subst (λ (l : List RowEntry). HasValues range l (drop 1 values)) (sym end) (record { within = tt; left = ap (λ (l : List RowEntry). drop 1 l) here }))
   where
     here : [] ≡ values
     here = (subst (λ (l : List RowEntry). HasValues range l values) is h).left
-
--- none of them is an operand
-pub has_base : {Q : Type 0} (range : BytesRange) (row : RowEntry) (before after values : List RowEntry) → before ≡ row ∷ after → is_operand row ≡ true → HasValues range before values → Q
-has_base range row before after values is operand h =
-    let k : is_base row ≡ true = (subst (λ (l : List RowEntry). HasValues range l values) is h).bases.0 in
-    let e : false ≡ true = (rw operand at k) in
-    cc
 
 -- what a row has where it has a value, and where it has none
 pub no_value : (b : Bool) (x : KeyValue) → None ≡ (if b then Some x else None) → b ≡ false
@@ -83,15 +75,14 @@ pub has_sought : (range : BytesRange) (order : IterationOrder) (key : List ℕ) 
     HasValues range after (drop_before order key values)
 has_sought range order key before after values rises is h = subst (λ (l : List RowEntry). HasValues range l (drop_before order key values)) (sym is)
     (record {
-      bases = all_dropped (λ r. is_base r ≡ true) order key before h.bases;
       within = all_dropped _ order key before h.within;
       left = drop_before_filtered order key has_value before rises ∙ ap (λ (l : List RowEntry). drop_before order key l) h.left;
     })
 
 -- ---- steps
 
-module _ {A : Type 0} (rest : A → World → List RowEntry) (sound : A → World → Type 0) (refuses : A → Meaning → List Act → Option (List ℕ) → SlateDBError → Type 0) where
-  -- steps by which a reader got nothing
+module _ {A : Type 0} (rest : A → World → List RowEntry) (sound : A → World → Type 0) (refuses : A → Meaning → List Act → Option (List ℕ) → SlateDBError → Type 0) (good : A → World → Type 0) where
+  -- steps by which a reader got nothing, and which keep what is good
   pub record Passed (before after : Reach) (x y : A) : Type 0 where
     pub reads : List Act
     pub call : IsCall before after reads
@@ -99,6 +90,7 @@ module _ {A : Type 0} (rest : A → World → List RowEntry) (sound : A → Worl
     pub still : (w : World) → Sees w before after → sound x w → sound y w
     pub rows : (w : World) (range : BytesRange) (values : List RowEntry) → Sees w before after → sound x w → HasValues range (rest x w) values → HasValues range (rest y w) values
     pub checked : (w : World) → sound x w → Checks w before after
+    pub keeps : (w : World) → Sees w before after → sound x w → good x w → good y w
 
   pub passed_none : (t : Reach) (x : A) → Passed t t x x
   passed_none t x = record {
@@ -108,6 +100,7 @@ module _ {A : Type 0} (rest : A → World → List RowEntry) (sound : A → Worl
     still = λ w s h. h;
     rows = λ w range values s h k. k;
     checked = λ w h. checks_none w t;
+    keeps = λ w s h k. k;
   }
 
   -- two parts of a call
@@ -124,6 +117,9 @@ module _ {A : Type 0} (rest : A → World → List RowEntry) (sound : A → Worl
     pub both_still : ((w : World) → Sees w b c → sound y w → sound z w) → (w : World) → Sees w a c → sound x w → sound z w
     both_still still w s h = still w (last w s) (p.still w (first w s) h)
 
+    pub both_keeps : ((w : World) → Sees w b c → sound y w → good y w → good z w) → (w : World) → Sees w a c → sound x w → good x w → good z w
+    both_keeps keeps w s h k = keeps w (last w s) (p.still w (first w s) h) (p.keeps w (first w s) h k)
+
     pub both_checked : ((w : World) → sound y w → Checks w b c) → (w : World) → sound x w → Checks w a c
     both_checked checked w h = checks_both w a b c p.reads reads p.call call (p.checked w h) (λ s. checked w (p.still w s h))
 
@@ -135,8 +131,8 @@ module _ {A : Type 0} (rest : A → World → List RowEntry) (sound : A → Worl
 
   module _ (takes : A → Meaning → List Act → Option RowEntry → A → Type 0) (a b c : Reach) (x y z : A) (p : Passed a b x y) where
     -- one more row that has no value
-    pub passed_on : (row : RowEntry) → Step rest sound refuses takes b c y (Some row) z → has_value row ≡ false → Passed a c x z
-    passed_on row s none = record {
+    pub passed_on : (row : RowEntry) → Step rest sound refuses takes b c y (Some row) z → ((w : World) → Sees w b c → sound y w → good y w → good z w) → has_value row ≡ false → Passed a c x z
+    passed_on row s keeps none = record {
       reads = p.reads ++ s.taken.0;
       call = both a b c x y z p s.taken.0 s.taken.1;
       fewer = both_fewer a b c x y z p s.taken.0 s.taken.1 s.taken.2.1;
@@ -145,11 +141,15 @@ module _ {A : Type 0} (rest : A → World → List RowEntry) (sound : A → Worl
           let here : Sees w a b = first a b c x y z p s.taken.0 s.taken.1 w sees in
           has_behind range row (rest y w) (rest z w) values (s.rows w (last a b c x y z p s.taken.0 s.taken.1 w sees) (p.still w here h)) none (p.rows w range values here h k));
       checked = both_checked a b c x y z p s.taken.0 s.taken.1 s.checked;
+      keeps = both_keeps a b c x y z p s.taken.0 s.taken.1 keeps;
     }
 
     -- what is known after a step
     pub step_still : (answer : Option RowEntry) → Step rest sound refuses takes b c y answer z → (w : World) → Sees w a c → sound x w → sound z w
     step_still answer s = both_still a b c x y z p s.taken.0 s.taken.1 s.still
+
+    pub step_keeps : (answer : Option RowEntry) → Step rest sound refuses takes b c y answer z → ((w : World) → Sees w b c → sound y w → good y w → good z w) → (w : World) → Sees w a c → sound x w → good x w → good z w
+    step_keeps answer s keeps = both_keeps a b c x y z p s.taken.0 s.taken.1 keeps
 
     pub step_checked : (answer : Option RowEntry) → Step rest sound refuses takes b c y answer z → (w : World) → sound x w → Checks w a c
     step_checked answer s = both_checked a b c x y z p s.taken.0 s.taken.1 s.checked
@@ -170,34 +170,20 @@ module _ {A : Type 0} (rest : A → World → List RowEntry) (sound : A → Worl
         let end : (rest y w ≡ []) × (rest z w ≡ []) = s.rows w (last a b c x y z p s.taken.0 s.taken.1 w sees) (p.still w here h) in
         has_none range (rest y w) (rest z w) values end.0 end.1 (p.rows w range values here h k)
 
-    -- an operand
-    pub operand_fine : {Q : Type 0} (row : RowEntry) → Step rest sound refuses takes b c y (Some row) z → is_operand row ≡ true → (w : World) (range : BytesRange) (values : List RowEntry) → Sees w a c → sound x w → HasValues range (rest x w) values → Q
-    operand_fine row s operand w range values sees h k =
-        let here : Sees w a b = first a b c x y z p s.taken.0 s.taken.1 w sees in
-        has_base range row (rest y w) (rest z w) values (s.rows w (last a b c x y z p s.taken.0 s.taken.1 w sees) (p.still w here h)) operand (p.rows w range values here h k)
-
-    pub operand_fails : (answer : Option RowEntry) (e : SlateDBError) → Step rest sound refuses takes b c y answer z → e ≡ MergeOperatorMissing →
-        Made a c (λ reads. IsFault a c e ⊎ ((e ≡ MergeOperatorMissing) ⊎ refuses x a.meaning reads None e))
-    operand_fails answer e s is = (p.reads ++ s.taken.0, both a b c x y z p s.taken.0 s.taken.1, inr (inl is))
-
   -- a refusal
-  module _ (a b c : Reach) (x y z : A) (p : Passed a b x y) (Q : List Act → Type 0) (at : Option (List ℕ)) (e : SlateDBError) (since : IsLater a.faults b.faults) (made : Made b c (λ reads. (IsFault b c e ⊎ refuses y b.meaning reads at e) × Q reads)) where
-    pub passed_fails : Made a c (λ reads. IsFault a c e ⊎ ((e ≡ MergeOperatorMissing) ⊎ refuses x a.meaning reads at e))
-    passed_fails = (p.reads ++ made.0, both a b c x y z p made.0 made.1, by made.2.0)
+  module _ (a b c : Reach) (x y z : A) (p : Passed a b x y) (at : Option (List ℕ)) (e : SlateDBError) (since : IsLater a.faults b.faults) where
+    pub passed_fails : Made b c (λ reads. IsFault b c e ⊎ refuses y b.meaning reads at e) → Made a c (λ reads. IsFault a c e ⊎ refuses x a.meaning reads at e)
+    passed_fails made = (p.reads ++ made.0, both a b c x y z p made.0 made.1, by made.2)
       where
-        by : IsFault b c e ⊎ refuses y b.meaning made.0 at e → IsFault a c e ⊎ ((e ≡ MergeOperatorMissing) ⊎ refuses x a.meaning (p.reads ++ made.0) at e)
+        by : IsFault b c e ⊎ refuses y b.meaning made.0 at e → IsFault a c e ⊎ refuses x a.meaning (p.reads ++ made.0) at e
         by (inl h) = inl (fault_earlier a b c e since h)
-        by (inr h) = inr (inr (both_refuses a b c x y z p made.0 made.1 at e h))
+        by (inr h) = inr (both_refuses a b c x y z p made.0 made.1 at e h)
 
-    pub passed_undamaged : ((x : A) (w : World) (reads : List Act) (at : Option (List ℕ)) (e : SlateDBError) → sound x w → AllByRecursion (AnswersWorld w) reads → refuses x w.meaning reads at e → ¬ IsDamage e) →
-        (w : World) → Sees w a c → sound x w → IsFault a c e ⊎ Made a c (λ reads. refuses x a.meaning reads at e × ¬ IsDamage e)
-    passed_undamaged whole w sees h = by made.2.0
-      where
-        all : IsCall a c (p.reads ++ made.0)
-        all = both a b c x y z p made.0 made.1
-
-        by : IsFault b c e ⊎ refuses y b.meaning made.0 at e → IsFault a c e ⊎ Made a c (λ reads. refuses x a.meaning reads at e × ¬ IsDamage e)
-        by (inl k) = inl (fault_earlier a b c e since k)
-        by (inr k) =
-            let r : refuses x a.meaning (p.reads ++ made.0) at e = both_refuses a b c x y z p made.0 made.1 at e k in
-            inr (p.reads ++ made.0, all, (r, whole x w (p.reads ++ made.0) at e h (seen w a c (p.reads ++ made.0) sees all) (subst (λ (m : Meaning). refuses x m (p.reads ++ made.0) at e) (sym sees.meaning) r)))
+    -- in a world by which none of what it refuses is damage
+    pub passed_undamaged : (w : World) → Sees w a c → ((reads : List Act) → AllByRecursion (AnswersWorld w) reads → refuses x w.meaning reads at e → ¬ IsDamage e) →
+        IsFault b c e ⊎ Made b c (λ reads. refuses y b.meaning reads at e) → IsFault a c e ⊎ Made a c (λ reads. refuses x a.meaning reads at e × ¬ IsDamage e)
+    passed_undamaged w sees whole (inl k) = inl (fault_earlier a b c e since k)
+    passed_undamaged w sees whole (inr made) =
+        let all : IsCall a c (p.reads ++ made.0) = both a b c x y z p made.0 made.1 in
+        let r : refuses x a.meaning (p.reads ++ made.0) at e = both_refuses a b c x y z p made.0 made.1 at e made.2 in
+        inr (p.reads ++ made.0, all, (r, whole (p.reads ++ made.0) (seen w a c (p.reads ++ made.0) sees all) (subst (λ (m : Meaning). refuses x m (p.reads ++ made.0) at e) (sym sees.meaning) r)))

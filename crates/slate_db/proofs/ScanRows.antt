@@ -86,11 +86,11 @@ all_ranged range (r ∷ rs) = by (in_range range r.key) refl (all_ranged range r
 -- ---- rows of one key that stand together
 
 -- the rows of a key lead
-abbrev Leads : List ℕ → Rows → Type 0
+abbrev pub Leads : List ℕ → Rows → Type 0
 Leads k [] = Unit {0}
 Leads k (r ∷ rows) = cond (bytes_eq r.key k) (Leads k rows) (of_key k rows ≡ [])
 
-abbrev AreTogether : Rows → Type 0
+abbrev pub AreTogether : Rows → Type 0
 AreTogether [] = Unit {0}
 AreTogether (r ∷ rows) = Leads r.key rows × AreTogether rows
 
@@ -203,7 +203,7 @@ order_leads order k (r ∷ rows) before h = by (bytes_eq r.key k) refl (order_le
     by true is later = later
     by false is later = none_behind order k r rows (one_before order r.key k is before.0) h.0
 
-order_together : (order : IterationOrder) (rows : Rows) → IsInOrder order rows → AreTogether rows
+pub order_together : (order : IterationOrder) (rows : Rows) → IsInOrder order rows → AreTogether rows
 order_together order [] h = tt
 order_together order (r ∷ rows) h = (order_leads order r.key rows h.0 h.1, order_together order rows h.1)
 

@@ -1,29 +1,48 @@
 -- A scan of all layers of a core shows what a reader sees.
-use Rattle.std.proofs.Common.{◌≡◌, ℕ, ◌-◌, ◌<◌, ◌≤◌, ◌^◌, true, false, List, [], ◌++◌, sym, ap, subst, ◌∙◌, arith, append-nil}
+use Rattle.std.proofs.Common.{◌≡◌, ℕ, ◌-◌, ◌<◌, ◌≤◌, ◌^◌, Bool, true, false, cond, List, [], ◌∷◌, ◌++◌, map, filter, reverse, bytes_eq, sym, ap, subst, ◌∙◌, arith, append-nil}
 use Rattle.std.specs.List.{AllByRecursion}
 use Rattle.std.proofs.lemmas.Grind.{flat_map-append}
 use Rattle.slate_types.specs.declared.bytes_range.BytesRange.{BytesRange}
 use Rattle.slate_types.specs.declared.types.RowEntry.{RowEntry}
-use Rattle.slate_types.specs.Fold.{fold_rows}
-use Rattle.slate_types.specs.Rows.{is_base}
-use Rattle.slate_mem.specs.Batch.{Ops}
-use Rattle.slate_mem.specs.BatchModel.{holds_merge}
+use Rattle.slate_types.specs.Fold.{AreShort, IsShort, fold_rows}
+use Rattle.slate_types.specs.Rows.{bytes_of, operand}
+use Rattle.slate_mem.specs.declared.WriteOp.{WriteOp}
+use Rattle.slate_mem.specs.Batch.{Ops, kept, op_value, ops_of, replaces}
+use Rattle.slate_mem.specs.RowOf.{own_row}
 use Rattle.slate_txn.specs.Reads.{up_to, key_rows}
+use Rattle.slate_txn.specs.State.{Commit}
 use Rattle.slate_db.specs.Installs.{tables_of, installed}
-use Rattle.slate_db.specs.Layers.{AreRising}
+use Rattle.slate_db.specs.Layers.{AreRising, FitsMemory}
+use Rattle.slate_db.specs.Log.{AreFine, AreShortOps}
 use Rattle.slate_db.specs.Meaning.{Meaning, IsLawfulMeaning, rules_of, combine_of}
 use Rattle.slate_db.specs.Model.{CoreModel, Rows, memory, versions, versions_in}
 use Rattle.slate_db.specs.ScanLaws.{ScansOfCoreShowWhatIsSeen}
-use Rattle.slate_db.specs.Scanned.{AreSources, HasOwn, HaveRows}
-use Rattle.slate_db.specs.Sound.{AreBases, AreTables, IsKept, at_most}
+use Rattle.slate_db.specs.Scanned.{AreSources, HasOwn, HaveRows, own_rows}
+use Rattle.slate_db.specs.Sound.{AreTables, IsKept, at_most}
 use Rattle.slate_db.specs.Whole.{IsWhole, Unseen}
-use Rattle.slate_db.proofs.Bases.{bases_in}
 use Rattle.slate_db.proofs.Lists.{all_map}
 use Rattle.slate_db.proofs.Rises.{rising_both, rows_above}
 use Rattle.slate_db.proofs.Scans.{scan_shows}
 use Rattle.slate_db.proofs.Seen.{same_tables, seen_fold}
-use Rattle.slate_db.proofs.Short.{all_append}
-use Rattle.slate_db.proofs.Versions.{all_versions_in}
+use Rattle.slate_db.proofs.Short.{all_append, all_filter, all_from_last, commits_short, fine_short}
+use Rattle.slate_db.proofs.Versions.{all_reverse, all_versions_in, short_versions}
+
+-- own rows are short
+values_short : (xs : List WriteOp) (k : List ℕ) → AllByRecursion (λ op. IsShort (bytes_of (op_value op))) xs → AreShort (map (own_row k) xs)
+values_short [] k h = tt
+values_short (x ∷ xs) k h = (h.0, values_short xs k h.1)
+
+of_ops : (P : WriteOp → Type 0) (k : List ℕ) (ops : Ops) → AllByRecursion (λ o. P o.1) ops → AllByRecursion P (ops_of ops k)
+of_ops P k [] h = tt
+of_ops P k (o ∷ os) h = by (bytes_eq o.0 k) (of_ops P k os h.1)
+  where
+    by : (b : Bool) → AllByRecursion P (ops_of os k) → AllByRecursion P (map (λ o. o.1) (cond b (o ∷ filter (λ o. bytes_eq o.0 k) os) (filter (λ o. bytes_eq o.0 k) os)))
+    by true rest = (h.0, rest)
+    by false rest = rest
+
+own_short : (k : List ℕ) (ops : Ops) → AreFine ops → AreShort (own_rows ops k)
+own_short k ops fine =
+    values_short (reverse (kept ops k)) k (all_reverse _ (kept ops k) (all_from_last _ replaces (ops_of ops k) (of_ops (λ op. IsShort (bytes_of (op_value op))) k ops (fine_short ops fine))))
 
 module _ (m : Meaning) (c : CoreModel) (x : Unseen) (layers : List Rows) (w : IsWhole c x) (law : IsLawfulMeaning m) (kept : IsKept m c) (tables : AreTables m (tables_of c.events) layers) where
   same : (kept.1 law).layers ≡ layers
@@ -43,10 +62,10 @@ module _ (m : Meaning) (c : CoreModel) (x : Unseen) (layers : List Rows) (w : Is
       (all_versions_in (λ r. r.seq ≤ installed c.events) k layers in_tables)
       (w.layers.rise k) (newer k))
 
-  bases : (k : List ℕ) → AreBases (versions_in k (layers ++ memory c))
-  bases k =
-      all_versions_in (λ r. is_base r ≡ true) k (layers ++ memory c)
-      (all_append AreBases layers (memory c) (subst (AllByRecursion AreBases) same (kept.1 law).bases) (bases_in (memory c) w.layers.fit))
+  all_short : AllByRecursion AreShort (layers ++ memory c)
+  all_short =
+      all_append AreShort layers (memory c) (subst (AllByRecursion AreShort) same (kept.1 law).short)
+      (all_map _ AreShort (λ rows h. all_map FitsMemory (λ r. IsShort (operand r)) (λ r f. f.value) rows h) (memory c) w.layers.fit)
 
   below : (k : List ℕ) → AllByRecursion (λ r. r.seq < 2 ^ 64 - 1) (versions_in k (layers ++ memory c))
   below k =
@@ -67,11 +86,25 @@ module _ (m : Meaning) (c : CoreModel) (x : Unseen) (layers : List Rows) (w : Is
       ∙ seen_fold m c x layers k n [] w law kept tables from tt
       ∙ ap (fold_rows (combine_of m k)) (append-nil (key_rows (rules_of c.settings m) k (up_to n c.state.commits)))
 
-  sources : (n : ℕ) (ops : Ops) (range : BytesRange) (own : Rows) (lists : List Rows) → c.floor ≤ n → holds_merge ops ≡ false → HasOwn range ops own → HaveRows range (layers ++ memory c) lists →
+  commits_fine : AllByRecursion (λ (x : Commit). AreShortOps x.ops) c.state.commits
+  commits_fine = all_map (λ (x : Commit). AreFine x.ops) (λ (x : Commit). AreShortOps x.ops) (λ x h. fine_short x.ops h) c.state.commits w.log.fine
+
+  sources : (n : ℕ) (ops : Ops) (range : BytesRange) (own : Rows) (lists : List Rows) → c.floor ≤ n → AreFine ops → HasOwn range ops own → HaveRows range (layers ++ memory c) lists →
       AreSources (rules_of c.settings m) c.state.commits n ops range (λ k. versions_in k (layers ++ memory c)) own lists
-  sources n ops range own lists from plain has have = record { plain = plain; has_own = has; have_rows = have; rise = rise; bases = bases; below = below; folds = folds n from }
+  sources n ops range own lists from fine has have = record {
+    has_own = has;
+    have_rows = have;
+    rise = rise;
+    lawful = law.operator;
+    keeps_short = law.short;
+    short = λ k. short_versions k (layers ++ memory c) all_short;
+    commits_short = λ k. commits_short (rules_of c.settings m) k (law.short k) (up_to n c.state.commits) (all_filter _ _ c.state.commits commits_fine);
+    own_short = λ k. own_short k ops fine;
+    below = below;
+    folds = folds n from;
+  }
 
 pub core_scans : ScansOfCoreShowWhatIsSeen
-core_scans m c x w law kept layers tables n from ops plain range own lists has have order =
+core_scans m c x w law kept layers tables n from ops fine range own lists has have order =
     scan_shows (rules_of c.settings m) c.state.commits n ops range (λ k. versions_in k (layers ++ memory c)) own lists order
-    (sources m c x layers w law kept tables n ops range own lists from plain has have)
+    (sources m c x layers w law kept tables n ops range own lists from fine has have)

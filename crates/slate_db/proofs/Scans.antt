@@ -11,37 +11,37 @@ use Rattle.slate_types.specs.declared.iter.IterationOrder.{IterationOrder}
 use Rattle.slate_types.specs.declared.types.RowEntry.{RowEntry}
 use Rattle.slate_types.specs.declared.types.ValueDeletable.{ValueDeletable}
 use Rattle.slate_types.specs.declared.types.ValueDeletable.TheVariants.{Value, Merge, Tombstone}
-use Rattle.slate_types.specs.Fold.{Combine, fold_rows, fold_taken, taken, shown}
+use Rattle.slate_types.specs.Fold.{AreShort, Combine, IsLawful, IsShort, KeepsShort, fold_rows, fold_taken, taken, shown}
 use Rattle.slate_types.specs.Keys.{key_cmp, in_range, among}
 use Rattle.slate_types.specs.RowTurns.{row_before}
-use Rattle.slate_types.specs.Rows.{of_key, is_base, is_tombstone, hide_tombstone}
-use Rattle.slate_types.proofs.FoldLaws.{hides-older}
+use Rattle.slate_types.specs.Rows.{of_key, operand, is_base, is_tombstone, hide_tombstone}
+use Rattle.slate_types.proofs.FoldLaws.{fold-middle}
 use Rattle.slate_types.proofs.IterationLaws.{in_order_filtered}
 use Rattle.slate_types.proofs.KeySetLaws.{set-rises, set-keeps}
 use Rattle.slate_mem.specs.declared.WriteOp.{WriteOp}
-use Rattle.slate_mem.specs.Batch.{Ops, kept, batch_keys, replaces}
+use Rattle.slate_mem.specs.Batch.{Ops, kept, batch_keys}
 use Rattle.slate_mem.specs.RowOf.{own_row, row_of}
 use Rattle.slate_mem.proofs.BatchLaws.{has-a-row, none-left, some-kept}
 use Rattle.slate_mem.proofs.RowOfLaws.{row-has}
 use Rattle.slate_read.specs.DecidedKeys.{decided_key, upto_base}
 use Rattle.slate_read.specs.Filtering.{upto_seq}
+use Rattle.slate_read.specs.FoldedLaws.{folded_in_order}
+use Rattle.slate_read.specs.Folding.{fold_group, folded}
 use Rattle.slate_read.specs.Merge.{merged, decided, in_turn, all_rows}
 use Rattle.slate_read.specs.MergeLaws.{merged_in_order, merged_kept}
 use Rattle.slate_read.specs.Turns.{in_turn_already}
 use Rattle.slate_txn.specs.Reads.{up_to, key_rows, seen, keys_seen, rows_seen}
 use Rattle.slate_txn.specs.State.{Rules, Commit, combine_at}
-use Rattle.slate_db.specs.Layers.{AreRising}
 use Rattle.slate_db.specs.Model.{Rows}
 use Rattle.slate_db.specs.Scanned.{AreSources, left_of, own_rows, scanned}
-use Rattle.slate_db.specs.Sound.{AreBases, at_most}
+use Rattle.slate_db.specs.Sound.{at_most}
 use Rattle.slate_db.proofs.ByKeys.{GivesOwn, known_by_keys, given_in_order, given_of_key, turned_filter}
-use Rattle.slate_db.proofs.KeyRows.{bases_shown, falling_turn, filter_swap, has_key, of_key_is, of_lists}
+use Rattle.slate_db.proofs.KeyRows.{AreClimbing, climbing_both, falling_turn, filter_swap, group_shown, has_key, of_key_is, of_lists, rising_climbs}
 use Rattle.slate_db.proofs.Lists.{all_map}
-use Rattle.slate_db.proofs.OwnRows.{own_base}
-use Rattle.slate_db.proofs.Plain.{few_kept, kept_replace}
-use Rattle.slate_db.proofs.Rises.{rising_both, rising_filter}
+use Rattle.slate_db.proofs.Rises.{rising_filter}
+use Rattle.slate_db.proofs.ScanFolds.{folded_of_key}
 use Rattle.slate_db.proofs.Short.{all_append, all_filter, all_from_last}
-use Rattle.slate_db.proofs.Versions.{all_reverse, twice}
+use Rattle.slate_db.proofs.Versions.{twice}
 
 -- ---- the rows of a key, as commits and own operations make them
 
@@ -152,25 +152,22 @@ turned_map {X = X} f (x ∷ xs) = ap (map f) (reverse-append (x ∷ []) xs) ∙ 
     map_last [] = refl
     map_last (y ∷ ys) = ap (λ zs. f y ∷ zs) (map_last ys)
 
-own_bases : (k : List ℕ) (xs : List WriteOp) → AllByRecursion (λ op. replaces op ≡ true) xs → AreBases (map (own_row k) xs)
-own_bases k [] h = tt
-own_bases k (x ∷ xs) h = (own_base k x h.0, own_bases k xs h.1)
+own_climbing : (k : List ℕ) (xs : List WriteOp) → AreClimbing (map (own_row k) xs)
+own_climbing k [] = tt
+own_climbing k (x ∷ xs) = (all_own xs, own_climbing k xs)
+  where
+    all_own : (ys : List WriteOp) → AllByRecursion (λ s. 2 ^ 64 - 1 ≤ s.seq) (map (own_row k) ys)
+    all_own [] = tt
+    all_own (y ∷ ys) = (omega arith, all_own ys)
 
-own_rising : (k : List ℕ) (xs : List WriteOp) → length xs ≤ 1 → AreRising (map (own_row k) xs)
-own_rising k [] few = tt
-own_rising k (x ∷ []) few = (tt, tt)
-own_rising k (x ∷ y ∷ ys) few = absurd (omega arith)
-
-own_above : (k : List ℕ) (xs : List WriteOp) → AllByRecursion (λ r. 2 ^ 64 - 2 < r.seq) (map (own_row k) xs)
+own_above : (k : List ℕ) (xs : List WriteOp) → AllByRecursion (λ r. 2 ^ 64 - 2 ≤ r.seq) (map (own_row k) xs)
 own_above k [] = tt
 own_above k (x ∷ xs) = (omega arith, own_above k xs)
 
--- own rows decide, whatever stands before them
-same_fold : (c : Combine) (k : List ℕ) (xs ys : Rows) (ops : List WriteOp) → length ops ≤ 1 → AllByRecursion (λ op. replaces op ≡ true) ops → fold_rows c xs ≡ fold_rows c ys →
-    fold_rows c (xs ++ map (own_row k) ops) ≡ fold_rows c (ys ++ map (own_row k) ops)
-same_fold c k xs ys [] few all h = ap (fold_rows c) (append-nil xs) ∙ h ∙ ap (fold_rows c) (sym (append-nil ys))
-same_fold c k xs ys (x ∷ []) few all h = hides-older c xs [] (own_row k x) (own_base k x all.0) ∙ sym (hides-older c ys [] (own_row k x) (own_base k x all.0))
-same_fold c k xs ys (x ∷ y ∷ zs) few all h = absurd (omega arith)
+-- own rows stand above rows that fold alike
+same_fold : (c : Combine) → IsLawful c → KeepsShort c → (xs ys own : Rows) → AreShort xs → AreShort ys → AreShort own → fold_rows c xs ≡ fold_rows c ys → fold_rows c (xs ++ own) ≡ fold_rows c (ys ++ own)
+same_fold c law keeps xs ys own hx hy ho e =
+    fold-middle c law keeps [] xs own tt hx ho ∙ ap (λ (o : Option RowEntry). fold_rows c (option_to_list o ++ own)) e ∙ sym (fold-middle c law keeps [] ys own tt hy ho)
 
 -- ---- the law
 
@@ -193,22 +190,21 @@ module _ (r : Rules) (cs : List Commit) (n : ℕ) (ops : Ops) (range : BytesRang
       turned : AllByRecursion (λ x. x.key ≡ k) (reverse (versions k))
       turned = subst (AllByRecursion (λ (x : RowEntry). x.key ≡ k)) (s.have_rows k ∙ ap (λ b. cond b (reverse (versions k)) []) e) (many lists)
 
-  all_rising : (k : List ℕ) → AreRising (all_of k)
+  all_climbing : (k : List ℕ) → AreClimbing (all_of k)
   unfolding all_of
-  all_rising k =
-      rising_both (2 ^ 64 - 2) (at_most n (versions k)) (map (own_row k) (kept ops k)) (rising_filter (λ x. nat_le x.seq n) (versions k) (s.rise k))
+  all_climbing k =
+      climbing_both (2 ^ 64 - 2) (at_most n (versions k)) (map (own_row k) (kept ops k)) (rising_climbs (at_most n (versions k)) (rising_filter (λ x. nat_le x.seq n) (versions k) (s.rise k)))
       (all_filter (λ x. x.seq ≤ 2 ^ 64 - 2) (λ x. nat_le x.seq n) (versions k) (all_map _ _ (λ x h. let b : x.seq < 2 ^ 64 - 1 = h in omega arith) (versions k) (s.below k)))
-      (own_rising k (kept ops k) (few_kept ops k s.plain)) (own_above k (kept ops k))
+      (own_climbing k (kept ops k)) (own_above k (kept ops k))
 
-  all_bases : (k : List ℕ) → AreBases (reverse (all_of k))
-  unfolding all_of
-  all_bases k =
-      all_reverse (λ x. is_base x ≡ true) (all_of k)
-      (all_append (λ x. is_base x ≡ true) (at_most n (versions k)) (map (own_row k) (kept ops k)) (all_filter (λ x. is_base x ≡ true) (λ x. nat_le x.seq n) (versions k) (s.bases k)) (own_bases k (kept ops k) (kept_replace ops k s.plain)))
+  own_short : (k : List ℕ) → AreShort (map (own_row k) (kept ops k))
+  own_short k = twice (λ x. IsShort (operand x)) (map (own_row k) (kept ops k)) (subst AreShort (turned_map (own_row k) (kept ops k)) (s.own_short k))
 
   all_seen : (k : List ℕ) → shown (combine_at r k) (all_of k) ≡ seen r cs n ops k
   unfolding all_of
-  all_seen k = ap (option_and_then (λ x. hide_tombstone x.value x)) (same_fold (combine_at r k) k (at_most n (versions k)) (key_rows r k (up_to n cs)) (kept ops k) (few_kept ops k s.plain) (kept_replace ops k s.plain) (s.folds k))
+  all_seen k = ap (option_and_then (λ x. hide_tombstone x.value x))
+      (same_fold (combine_at r k) (s.lawful k) (s.keeps_short k) (at_most n (versions k)) (key_rows r k (up_to n cs)) (map (own_row k) (kept ops k))
+      (all_filter (λ x. IsShort (operand x)) (λ x. nat_le x.seq n) (versions k) (s.short k)) (s.commits_short k) (own_short k) (s.folds k))
 
   -- the rows of a key in all lists
   listed : (k : List ℕ) → all_rows (map (of_key k) (left_of n own lists)) ≡ brought k
@@ -231,30 +227,34 @@ module _ (r : Rules) (cs : List Commit) (n : ℕ) (ops : Ops) (range : BytesRang
       ∙ by (in_range range k) refl
     where
       by : (b : Bool) → in_range range k ≡ b → in_turn (row_before order) (cond b (reverse (all_of k)) []) ≡ cond b (reverse (all_of k)) []
-      by true e = in_turn_already (row_before order) (reverse (all_of k)) (falling_turn order k (all_of k) (all_keys k e) (all_rising k))
+      by true e = in_turn_already (row_before order) (reverse (all_of k)) (falling_turn order k (all_of k) (all_keys k e) (all_climbing k))
       by false e = refl
 
-  scanned_of_key : (k : List ℕ) → of_key k (scanned order n own lists) ≡ cond (in_range range k) (option_to_list (seen r cs n ops k)) []
+  scanned_of_key : (k : List ℕ) → of_key k (scanned r order n own lists) ≡ cond (in_range range k) (option_to_list (seen r cs n ops k)) []
   unfolding brought
   scanned_of_key k =
-      filter_swap (λ x. bytes_eq x.key k) (λ x. not (is_tombstone x)) (decided all)
-      ∙ ap (filter (λ x. not (is_tombstone x))) (sym (of_key_is k (decided all)) ∙ decided_key order k all (merged_in_order order false (left_of n own lists)) ∙ ap upto_base (of_key_is k all ∙ merged_of_key k))
-      ∙ by (in_range range k)
+      filter_swap (λ x. bytes_eq x.key k) (λ x. not (is_tombstone x)) (folded (combine_at r) true None (decided all))
+      ∙ ap (filter (λ x. not (is_tombstone x))) (
+        folded_of_key (combine_at r) order (left_of n own lists) k
+        ∙ ap (λ (l : Rows). option_to_list (fold_group (combine_at r) l)) (sym (of_key_is k (decided all)) ∙ decided_key order k all (merged_in_order order false (left_of n own lists)) ∙ ap upto_base (of_key_is k all ∙ merged_of_key k))
+      )
+      ∙ by (in_range range k) refl
     where
       all : Rows
       all = merged order false (left_of n own lists)
 
-      by : (b : Bool) → filter (λ x. not (is_tombstone x)) (upto_base (cond b (reverse (all_of k)) [])) ≡ cond b (option_to_list (seen r cs n ops k)) []
-      by true = bases_shown (combine_at r k) (all_of k) (all_bases k) ∙ ap option_to_list (all_seen k)
-      by false = refl
+      by : (b : Bool) → in_range range k ≡ b → filter (λ x. not (is_tombstone x)) (option_to_list (fold_group (combine_at r) (upto_base (cond b (reverse (all_of k)) [])))) ≡ cond b (option_to_list (seen r cs n ops k)) []
+      by true e = group_shown (combine_at r) k (all_of k) (all_keys k e) ∙ ap option_to_list (all_seen k)
+      by false e = refl
 
-  shows : scanned order n own lists ≡ rows_seen r cs n ops order range
+  shows : scanned r order n own lists ≡ rows_seen r cs n ops order range
   shows =
-      known_by_keys order (scanned order n own lists) (rows_seen r cs n ops order range)
-      (in_order_filtered order (λ x. not (is_tombstone x)) (merged order true (left_of n own lists)) (merged_in_order order true (left_of n own lists)))
+      known_by_keys order (scanned r order n own lists) (rows_seen r cs n ops order range)
+      (in_order_filtered order (λ x. not (is_tombstone x)) (folded (combine_at r) true None (merged order true (left_of n own lists)))
+      (folded_in_order order (combine_at r) true None (merged order true (left_of n own lists)) (merged_in_order order true (left_of n own lists))))
       (given_in_order order (seen r cs n ops) (seen_own r cs n ops) (filter (in_range range) (keys_seen cs n ops)) (in_range_rise cs n ops range))
       (λ k. scanned_of_key k ∙ sym (seen_of_key r cs n ops order range k))
 
 pub scan_shows : (r : Rules) (cs : List Commit) (n : ℕ) (ops : Ops) (range : BytesRange) (versions : List ℕ → Rows) (own : Rows) (lists : List Rows) (order : IterationOrder) →
-    AreSources r cs n ops range versions own lists → scanned order n own lists ≡ rows_seen r cs n ops order range
+    AreSources r cs n ops range versions own lists → scanned r order n own lists ≡ rows_seen r cs n ops order range
 scan_shows r cs n ops range versions own lists order s = shows r cs n ops range versions own lists order s

@@ -1,9 +1,10 @@
 -- What a scan reads: a transaction's own rows, and those of the layers up to its begin.
 --     scanned r order n own lists      of each key the fold of its rows, of the own rows and of those of the lists up to a sequence, without tombstones
+--     brought order n own lists      the rows of each key, the newest first, to the first that is no operand
 --     own_rows ops k      the rows of the own operations on a key, the newest first
 --     HasOwn range ops own, HaveRows range layers lists      these are the own rows of each key in the range, and those of the layers
 --     Brings range rows list, BringEach range layers lists      of each key a list has those of the rows in the range; several lists, one for each layer
---     AreSources r cs n ops range versions own lists      the lists have the rows of each key in the range, and these fold as those of the commits
+--     AreSources r cs n ops range versions own lists      the lists have the rows of each key in the range, and these fold as those of the commits; the operator is lawful, and all values are short
 --     AreTablesOfRuns m runs groups, AreStoredRuns m os kept groups      the tables' bytes are those of tables of these rows, run by run; and the objects hold what is kept of these
 --     in_one groups      the rows of the tables of each run, as of one layer
 use Rattle.std.specs.Prelude.{◌≡◌, ℕ, ◌-◌, ◌<◌, ◌^◌, true, false, not, if◌then◌else◌, List, [], ◌∷◌, map, filter, flat_map, reverse, Some, None}
@@ -16,7 +17,6 @@ use Rattle.slate_types.specs.Keys.{in_range}
 use Rattle.slate_types.specs.Outside.{Objects}
 use Rattle.slate_types.specs.Rows.{of_key, is_tombstone}
 use Rattle.slate_mem.specs.Batch.{Ops, kept}
-use Rattle.slate_mem.specs.BatchModel.{holds_merge}
 use Rattle.slate_mem.specs.RowOf.{own_row}
 use Rattle.slate_mem.specs.Table.{ranged}
 use Rattle.slate_read.specs.declared.sorted_run.SortedRun.{SortedRun}
@@ -29,7 +29,7 @@ use Rattle.slate_db.specs.Layers.{AreRising}
 use Rattle.slate_db.specs.Lookup.{AreStoredAs}
 use Rattle.slate_db.specs.Meaning.{Meaning}
 use Rattle.slate_db.specs.Model.{Rows, versions_in}
-use Rattle.slate_db.specs.Sound.{AreBases, AreTables, at_most}
+use Rattle.slate_db.specs.Sound.{AreTables, at_most}
 
 abbrev pub left_of : ℕ → Rows → List Rows → List Rows
 left_of n own lists = own ∷ map (filter (upto_seq (Some n))) lists
@@ -67,14 +67,14 @@ BringEach range [] (list ∷ lists) = ⊥
 BringEach range (rows ∷ layers) [] = ⊥
 
 pub record AreSources (r : Rules) (cs : List Commit) (n : ℕ) (ops : Ops) (range : BytesRange) (versions : List ℕ → Rows) (own : Rows) (lists : List Rows) : Type 0 where
-  pub operable : r.combine ≡ None → holds_merge ops ≡ false
   pub has_own : HasOwn range ops own
   pub have_rows : HaveVersions range versions lists
   pub rise : (k : List ℕ) → AreRising (versions k)
-  pub bases : r.combine ≡ None → (k : List ℕ) → AreBases (versions k)
   pub lawful : (k : List ℕ) → IsLawful (combine_at r k)
   pub keeps_short : (k : List ℕ) → KeepsShort (combine_at r k)
   pub short : (k : List ℕ) → AreShort (versions k)
+  pub commits_short : (k : List ℕ) → AreShort (key_rows r k (up_to n cs))
+  pub own_short : (k : List ℕ) → AreShort (own_rows ops k)
   pub below : (k : List ℕ) → AllByRecursion (λ row. row.seq < 2 ^ 64 - 1) (versions k)
   pub folds : (k : List ℕ) → fold_rows (combine_at r k) (at_most n (versions k)) ≡ fold_rows (combine_at r k) (key_rows r k (up_to n cs))
 

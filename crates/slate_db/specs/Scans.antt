@@ -40,7 +40,7 @@ use Rattle.slate_read.specs.declared.operator_iterator.MergeOperatorIterator.{Me
 use Rattle.slate_read.specs.Filtering.{upto_seq}
 use Rattle.slate_read.specs.Folds.{RefusesOpen}
 use Rattle.slate_read.specs.MergeStates.{IsSoundMerge, refuses_in, rest_of_merge}
-use Rattle.slate_read.specs.OperatorIterators.{IsGoing, rest_folding, sound_folding}
+use Rattle.slate_read.specs.OperatorIterators.{IsGoing, RefusesBy, rest_folding, sound_folding}
 use Rattle.slate_read.specs.Peeking.{with_ahead}
 use Rattle.slate_read.specs.ReadSources as read
 use Rattle.slate_read.specs.Showing.{ShowsByReads}
@@ -140,7 +140,7 @@ SourcesRefuse range _ m reads at e = ⊥
 
 -- an operand without an operator, which no seek meets
 abbrev pub RefusesIn : BytesRange → ScanState → Meaning → List Act → Option (List ℕ) → SlateDBError → Type 0
-RefusesIn range (Walking rows) m reads at e = RefusesOpen m at e ⊎ (IsReached range at × merge_refuses rows.iterator m reads at e)
+RefusesIn range (Walking rows) m reads at e = RefusesBy rows.refusal rows.begun (λ d. RefusesOpen m at d ⊎ (IsReached range at × merge_refuses rows.iterator m reads at d)) e
 RefusesIn range Done m reads at e = ⊥
 RefusesIn range (Refused kept) m reads at e = (kept ≢ OutOfMemory) × (e ≡ kept)
 

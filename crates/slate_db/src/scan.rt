@@ -10,12 +10,12 @@ ghost use Rattle.slate_types.specs.Outside.{IsFault, OnlyReads};
 ghost use Rattle.slate_types.specs.Refusing.{NoMore};
 ghost use Rattle.slate_types.specs.World.{World, Checks, Made, Sees};
 ghost use Rattle.slate_txn.specs.Alone.{first_left};
-ghost use Rattle.slate_db.specs.Scans.{AnswersAgain, AreForIn, IsRefusedScan, IsSoundIn, IsUnrefused, Keeps, Leaves, RefusesIn, ScanRefuses, SourcesRefuse, left_in};
+ghost use Rattle.slate_db.specs.Scans.{AnswersAgain, AreForIn, IsOperableIn, IsRefusedScan, IsSoundIn, IsUnrefused, Keeps, Leaves, RefusesIn, ScanRefuses, SourcesRefuse, left_in};
 ghost use Rattle.slate_db.specs.Values.{HasValues};
 
 use crate::values::{next_value, seek_values};
 use slate_read::kept::copy_of;
-use slate_read::{FilterIterator, MaxSeq, MergeIterator, ReadSource};
+use slate_read::{FilterIterator, MaxSeq, MergeIterator, MergeOperatorIterator, ReadSource};
 use slate_store::{Env, EnvOf, Store};
 use slate_types::{
     BlockTransformer, BytesRange, IterationOrder, KeyValue, MergeOperator, Outside, SlateDBError,
@@ -28,7 +28,7 @@ use uuid::Uuid;
 /// Where a scan stands: rows may be left, a seek passed all of them, or it was refused.
 #[derive(Drop)]
 pub(crate) enum ScanState<'a> {
-    Walking(MergeIterator<FilterIterator<ReadSource<'a>, MaxSeq>>),
+    Walking(MergeOperatorIterator<MergeIterator<FilterIterator<ReadSource<'a>, MaxSeq>>>),
     Done,
     Refused(SlateDBError),
 }
@@ -43,8 +43,10 @@ fn next_in<S: Store, M: MergeOperator, T: BlockTransformer>(
     ensures rows { let reach = ⟦<EnvOf<S, M, T> as Outside>⟧.reach in (w : World) (range : BytesRange) (order : IterationOrder) (rows : List RowEntry) →
         Sees w (reach env.old) (reach env.new) → IsSoundIn order state.old w → HasValues range (left_in state.old w) rows →
         IfOk result (λ a. (a ≡ first_left rows) × IsSoundIn order state.new w × HasValues range (left_in state.new w) (drop 1 rows)) }
-    ensures undamaged { let reach = ⟦<EnvOf<S, M, T> as Outside>⟧.reach in (w : World) (range : BytesRange) (order : IterationOrder) (rows : List RowEntry) →
-        Sees w (reach env.old) (reach env.new) → IsSoundIn order state.old w → HasValues range (left_in state.old w) rows → AreForIn range w.meaning state.old → IfErr result (IsFault (reach env.old) (reach env.new)) }
+    ensures operable { let reach = ⟦<EnvOf<S, M, T> as Outside>⟧.reach in (w : World) (order : IterationOrder) →
+        Sees w (reach env.old) (reach env.new) → IsSoundIn order state.old w → IsOperableIn state.old w → OnOk result (IsOperableIn state.new w) }
+    ensures undamaged { let reach = ⟦<EnvOf<S, M, T> as Outside>⟧.reach in (w : World) (range : BytesRange) (order : IterationOrder) →
+        Sees w (reach env.old) (reach env.new) → IsSoundIn order state.old w → IsOperableIn state.old w → AreForIn range w.meaning state.old → IfErr result (IsFault (reach env.old) (reach env.new)) }
     ensures checked { let reach = ⟦<EnvOf<S, M, T> as Outside>⟧.reach in (w : World) (order : IterationOrder) → IsSoundIn order state.old w → OnOk result (Checks w (reach env.old) (reach env.new)) }
     ensures sources { let reach = ⟦<EnvOf<S, M, T> as Outside>⟧.reach in (range : BytesRange) → OnOk result (Made (reach env.old) (reach env.new) (λ reads. NoMore (SourcesRefuse range state.old (reach env.old).meaning) reads (SourcesRefuse range state.new (reach env.old).meaning))) }
     ensures later { let reach = ⟦<EnvOf<S, M, T> as Outside>⟧.reach in (range : BytesRange) → OnOk result (Made (reach env.old) (reach env.new) (λ reads. NoMore (RefusesIn range state.old (reach env.old).meaning) reads (RefusesIn range state.new (reach env.old).meaning))) }
@@ -69,6 +71,8 @@ fn seek_in<S: Store, M: MergeOperator, T: BlockTransformer>(
     ensures rows { let reach = ⟦<EnvOf<S, M, T> as Outside>⟧.reach in (w : World) (range : BytesRange) (order : IterationOrder) (rows : List RowEntry) →
         Sees w (reach env.old) (reach env.new) → IsSoundIn order state.old w → HasValues range (left_in state.old w) rows →
         OnOk result (IsSoundIn order state.new w × HasValues range (left_in state.new w) (drop_before order key.now rows)) }
+    ensures operable { let reach = ⟦<EnvOf<S, M, T> as Outside>⟧.reach in (w : World) (order : IterationOrder) →
+        Sees w (reach env.old) (reach env.new) → IsSoundIn order state.old w → IsOperableIn state.old w → OnOk result (IsOperableIn state.new w) }
     ensures undamaged { let reach = ⟦<EnvOf<S, M, T> as Outside>⟧.reach in (w : World) (range : BytesRange) (order : IterationOrder) → is_past_start range.start key.now ≡ true →
         Sees w (reach env.old) (reach env.new) → IsSoundIn order state.old w → AreForIn range w.meaning state.old → IfErr result (IsFault (reach env.old) (reach env.new)) }
     ensures checked { let reach = ⟦<EnvOf<S, M, T> as Outside>⟧.reach in (w : World) (order : IterationOrder) → IsSoundIn order state.old w → OnOk result (Checks w (reach env.old) (reach env.new)) }
@@ -96,11 +100,10 @@ fn is_past_start(range: &BytesRange, key: &[u8]) -> bool
     }
 }
 
-/// The rows of a scan that a reader gets: of each key in the range the newest, where that is no tombstone. They were fixed
-/// when the scan was opened.
+/// The rows of a scan that a reader gets: of each key in the range the newest, with operands folded onto what stands below
+/// them, where that is no tombstone. They were fixed when the scan was opened.
 ///
-/// After a refusal it answers the same refusal again, or `OutOfMemory` where no copy can be made. An operand is refused by
-/// `MergeOperatorMissing`: no core holds one yet.
+/// After a refusal it answers the same refusal again, or `OutOfMemory` where no copy can be made.
 #[derive(Drop)]
 pub struct DbIterator<'a> {
     pub(crate) alloc: Global,
@@ -110,9 +113,9 @@ pub struct DbIterator<'a> {
 }
 
 impl DbIterator<'_> {
-    /// The next row, or `None` at the end. Refuses by `StoreFault` and `BlockTransformError`, each only where its count of
-    /// faults rose, by damage, only where reads since the opening show it, and by `OutOfMemory`. What it was refused for it
-    /// answers again, without a read.
+    /// The next row, or `None` at the end. Refuses by `StoreFault`, `BlockTransformError` and `Callback`, each only where its
+    /// count of faults rose, by damage, only where reads since the opening show it, by `MergeOperatorMissing`, only where there
+    /// is no operator, and by `OutOfMemory`. What it was refused for it answers again, without a read.
     pub fn next<S: Store, M: MergeOperator, T: BlockTransformer>(
         &mut self,
         env: &mut Env<'_, S, M, T>,
@@ -138,7 +141,7 @@ impl DbIterator<'_> {
         }
     }
 
-    /// Drops the leading rows that the order puts before the key. Refuses as `next` does.
+    /// Drops the leading rows that the order puts before the key. Refuses as `next` does, but asks no operator.
     pub fn seek<S: Store, M: MergeOperator, T: BlockTransformer>(
         &mut self,
         key: &[u8],

@@ -33,7 +33,7 @@ returns-in-Ok g c =
     let a = reach_of g.S.Store g.M.MergeOperator g.T.BlockTransformer c.args.env.now in
     let b = reach_of g.S.Store g.M.MergeOperator g.T.BlockTransformer c.next_in.new.env in
     record {
-      rows = λ w rows h sees. next_leaves (Ok c.in-Ok.row) it (record it { state = c.next_in.new.state }) w a b rows refl refl sees.meaning (n.rows w it.range it.order rows sees h.sound (values_of it w rows h)) (n.sources it.range) h.meant;
+      rows = λ w rows h sees. next_leaves (Ok c.in-Ok.row) it (record it { state = c.next_in.new.state }) w a b rows refl refl sees.meaning (n.rows w it.range it.order rows sees h.sound (values_of it w rows h)) (n.operable w it.order sees h.sound h.operable) (n.sources it.range) h.meant;
       undamaged = λ w rows h sees. tt;
       checked = λ w rows h. n.checked w it.order h.sound;
       later = n.later it.range;
@@ -52,7 +52,7 @@ returns-in-Err g c =
     let it = c.args.self.now in
     record {
       rows = λ w rows h sees. tt;
-      undamaged = λ w rows h sees. rw r.same (n.undamaged w it.range it.order rows sees h.sound (values_of it w rows h) h.meant);
+      undamaged = λ w rows h sees. rw r.same (n.undamaged w it.range it.order sees h.sound h.operable h.meant);
       checked = λ w rows h. tt;
       later = tt;
       cause = rw r.same (n.cause it.range);
