@@ -1,5 +1,5 @@
 -- A scan that was opened: what it leaves, and what it may refuse for.
-use Rattle.std.proofs.Common.{◌≡◌, ◌≢◌, ◌⊎◌, inl, inr, ℕ, ◌≤◌, true, false, List, [], ◌∷◌, ◌++◌, filter, reverse, Option, Some, None, refl, sym, ap, subst, ◌∙◌}
+use Rattle.std.proofs.Common.{◌≡◌, ◌≢◌, ◌⊎◌, inl, inr, ℕ, ◌≤◌, true, false, List, [], ◌∷◌, ◌++◌, map, filter, reverse, Option, Some, None, refl, sym, ap, subst, ◌∙◌}
 use Rattle.std.specs.Prelude.{IfErr, IfOk, Result, Ok, Err}
 use Rattle.std.specs.List.{AllByRecursion}
 use Rattle.slate_types.specs.declared.bytes_range.BytesRange.{BytesRange}
@@ -7,20 +7,26 @@ use Rattle.slate_types.specs.declared.error.SlateDBError.{SlateDBError}
 use Rattle.slate_types.specs.declared.error.SlateDBError.TheVariants.{IteratorNotInitialized, MergeOperatorMissing, OutOfMemory}
 use Rattle.slate_types.specs.declared.iter.IterationOrder.{IterationOrder}
 use Rattle.slate_types.specs.declared.types.RowEntry.{RowEntry}
+use Rattle.slate_types.specs.Fold.{operator_at}
+use Rattle.slate_types.specs.Iteration.{IsInOrder}
 use Rattle.slate_types.specs.Keys.{in_range}
 use Rattle.slate_types.specs.Outside.{Act, IsFault, Meaning, Objects, Reach}
-use Rattle.slate_types.specs.Refusing.{IsDamage, IsReady, NoMore, Refusals}
-use Rattle.slate_types.specs.Rows.{is_base}
+use Rattle.slate_types.specs.Refusing.{IsDamage, IsReady, NoMore}
 use Rattle.slate_types.specs.World.{AnswersWorld, IsCall, Made, Sees, World}
 use Rattle.slate_types.proofs.Calls.{seen}
 use Rattle.slate_mem.specs.Batch.{Ops}
 use Rattle.slate_mem.specs.BatchModel.{holds_merge}
-use Rattle.slate_read.specs.declared.merge_iterator.MergeIterator.{MergeIterator}
+use Rattle.slate_read.specs.declared.folding.Folding.{Folding}
 use Rattle.slate_read.specs.declared.merge_iterator.MergeState.{MergeState}
 use Rattle.slate_read.specs.declared.merge_iterator.MergeState.TheVariants.{Begun, New, Refused}
+use Rattle.slate_read.specs.Folding.{folded}
+use Rattle.slate_read.specs.Folds.{BlamesOpen, MeetsOpen, RefusesOpen}
+use Rattle.slate_read.specs.MergeLaws.{merged_in_order}
 use Rattle.slate_read.specs.Merging.{AnyByRecursion, blames, waiting_sources}
-use Rattle.slate_read.specs.MergeStateLaws.{any_weaker}
-use Rattle.slate_read.specs.MergeStates.{IsSoundMerge, WaitingAre, refuses_in, rest_of_merge}
+use Rattle.slate_read.specs.MergeStateLaws.{any_weaker, merges}
+use Rattle.slate_read.specs.MergeStates.{IsFrontIn, IsMergeOf, WaitingAre, refuses_in}
+use Rattle.slate_read.specs.OperatorIterators.{IsFolding, IsGoing, IsOperable, Keeps, RefusesBy, Stays, StaysIn, refuses_folding, rest_folding}
+use Rattle.slate_read.specs.Peeking.{TakesAhead, with_ahead}
 use Rattle.slate_read.specs.declared.sorted_run.SortedRun.{SortedRun}
 use Rattle.slate_read.specs.ReadSources as read
 use Rattle.slate_txn.specs.Reads.{rows_seen}
@@ -28,15 +34,19 @@ use Rattle.slate_db.specs.declared.scan.DbIterator.{DbIterator}
 use Rattle.slate_db.specs.declared.scan.ScanState.{ScanState}
 use Rattle.slate_db.specs.declared.scan.ScanState.TheVariants.{Walking}
 use Rattle.slate_db.specs.Installs.{handles_of}
+use Rattle.slate_db.specs.Log.{AreFine}
 use Rattle.slate_db.specs.Meaning.{rules_of}
 use Rattle.slate_db.specs.Model.{CoreModel, Rows}
-use Rattle.slate_db.specs.OpenScans.{AreScanSources, CanOpen, IsBlamedFor, merged_rows}
+use Rattle.slate_db.specs.OpenScans.{AreScanSources, CanOpen, IsBlamedFor, folded_rows, merged_rows}
 use Rattle.slate_db.specs.Readable.{IsAnswered}
-use Rattle.slate_db.specs.Scans.{AreForIn, IsFor, IsOpeningError, IsReached, IsRefusedByScan, IsShownByScan, IsSoundIn, IsSoundSource, IsWorldOf, Leaves, RefusesIn, ScanRefuses, ScanSource, has_value, left_in, order_of, source_refuses, source_rows}
+use Rattle.slate_db.specs.Scans.{AreForIn, FoldsAll, IsFor, IsOpeningError, IsOperableIn, IsReached, IsRefusedByScan, IsShownByScan, IsSoundIn, IsSoundSource, IsWorldOf, Leaves, MergedSources, RefusesIn, ScanRefuses, ScanSource, has_value, left_in, merge_refuses, merge_rows, order_of, source_refuses, source_rows}
+use Rattle.slate_db.specs.Sound.{AreBases}
 use Rattle.slate_db.specs.Whole.{IsWhole, Unseen}
+use Rattle.slate_db.proofs.Foldings.{bases_closed, closed_bases, going_refuses, refuses_going}
 use Rattle.slate_db.proofs.Runs.{all_handles}
 use Rattle.slate_db.proofs.ScanOpenings.{ScanOpens, scan_opens}
 use Rattle.slate_db.proofs.ScanRefusals.{IsShown, blamed_shows}
+use Rattle.slate_db.proofs.ScanStates.{IsSound, Merged, OwnRefusal}
 use Rattle.slate_db.proofs.ScanWorlds.{sees_world}
 
 -- ---- a merge that was begun
@@ -48,9 +58,6 @@ waiting_blamed {S = S} refuses sources (New waiting) is m reads at e begun (inr 
 waiting_blamed refuses sources (Begun heads) is m reads at e begun h = absurd is
 waiting_blamed refuses sources (Refused k) is m reads at e begun h = absurd is
 
-pub begun_refuses : (r : Refusals) → IsReady r → (reads : List Act) (at : Option (List ℕ)) (e : SlateDBError) → r reads at e → e ≢ IteratorNotInitialized
-begun_refuses r ready reads at e h is = ready reads at (subst (r reads at) is h)
-
 -- what the refusal of an opening is blamed on
 pub refusal_blamed : {S : Type 0} (refuses : S → Meaning → List Act → Option (List ℕ) → SlateDBError → Type 0) (sources : List S) (s : MergeState S) → WaitingAre sources s → (a b : Reach) (error refusal : SlateDBError) →
     ((refusal ≡ error) × (error ≢ IteratorNotInitialized)) ⊎ (refusal ≡ OutOfMemory) → (reads : List Act) → IsCall a b reads → IsFault a b error ⊎ refuses_in refuses s a.meaning reads None error →
@@ -60,26 +67,98 @@ refusal_blamed refuses sources s waits a b error refusal (inl (same, begun)) rea
 refusal_blamed refuses sources s waits a b error refusal (inl (same, begun)) reads call (inr r) =
     (reads, call, inr (subst (λ (e : SlateDBError). (e ≢ IteratorNotInitialized) × blames refuses (waiting_sources sources) a.meaning reads None e) (sym same) (waiting_blamed refuses sources s waits a.meaning reads None error begun r)))
 
+-- ---- a new iterator over it
+
+module _ (sources : List ScanSource) (order : IterationOrder) (merge : MergedSources) (made : IsMergeOf sources order true merge) (it : Merged) (new : IsFolding merge (record { merge_different_expire_ts = true; snapshot_barrier_seq = None }) it) where
+  abbrev fresh : Merged
+  fresh = record { iterator = merge; folding = record { merge_different_expire_ts = true; snapshot_barrier_seq = None }; ahead = None; begun = false; refusal = None }
+
+  is_fresh : fresh ≡ it
+  is_fresh = sym (λ i. record { iterator = new.rows i; folding = new.folds i; ahead = new.none i; begun = new.unbegun i; refusal = new.unrefused i })
+
+  pub fresh_waits : WaitingAre sources it.iterator.state
+  fresh_waits = subst (λ (u : Merged). WaitingAre sources u.iterator.state) is_fresh made.waits
+
+  module _ (w : World) (can : AllByRecursion (CanOpen w order) sources) where
+    merge_is : merge_rows merge w ≡ merged_rows order w sources
+    merge_is = (merges source_rows IsSoundSource order_of w sources order _ merge made can).1
+
+    pub fresh_sound : IsSound it w
+    fresh_sound = subst (λ (u : Merged). IsSound u w) is_fresh (
+      (merges source_rows IsSoundSource order_of w sources order _ merge made can).0,
+      subst (λ (o : IterationOrder). IsInOrder o (merge_rows merge w)) (sym made.ordered) (subst (IsInOrder order) (sym merge_is) (merged_in_order order true (map (λ s. source_rows s w) sources))),
+    )
+
+    pub fresh_rows : rest_folding merge_rows it w ≡ folded_rows w.meaning order w sources
+    fresh_rows = ap (λ (u : Merged). rest_folding merge_rows u w) (sym is_fresh) ∙ ap (folded (operator_at w.meaning.combine) true None) merge_is
+
+    pub fresh_operable : (w.meaning.combine ≡ None → AreBases (merged_rows order w sources)) → IsOperable merge_rows it w
+    fresh_operable bases = subst (λ (u : Merged). IsOperable merge_rows u w) is_fresh (λ none. bases_closed None (merge_rows merge w) (subst AreBases (sym merge_is) (bases none)))
+
+  pub opened_folds : (v : Merged) → v.folding ≡ it.folding → FoldsAll v
+  opened_folds v same = (ap (λ (f : Folding). f.merge_different_expire_ts) (same ∙ new.folds), ap (λ (f : Folding). f.snapshot_barrier_seq) (same ∙ new.folds))
+
+  pub opened_operable : (v : Merged) (w : World) → v.folding ≡ it.folding → IsOperable merge_rows v w → IsOperableIn (Walking v) w
+  opened_operable v w same h none = closed_bases v.folding.snapshot_barrier_seq (with_ahead v.ahead (merge_rows v.iterator w)) (opened_folds v same).1 (h none)
+
+  pub opened_later : (v : Merged) (m : Meaning) (reads : List Act) → IsGoing v → IsReady (refuses_folding merge_refuses v m) → NoMore (merge_refuses it.iterator m) reads (merge_refuses v.iterator m) →
+      (later : List Act) (at : Option (List ℕ)) (e : SlateDBError) → merge_refuses v.iterator m later at e → IsBlamedFor sources m (reads ++ later) at e
+  opened_later v m reads going ready less later at e h =
+      waiting_blamed source_refuses sources it.iterator.state fresh_waits m (reads ++ later) at e
+      (λ is. ready later at (going_refuses (λ d. merge_refuses v.iterator m later at d ⊎ RefusesOpen m at d) v IteratorNotInitialized going (inl (subst (merge_refuses v.iterator m later at) is h))))
+      (less later at e h)
+
+  not_waiting : {Q : Type 0} (answer : Option RowEntry) (s : MergeState ScanSource) → WaitingAre sources s → IsFrontIn answer s → Q
+  not_waiting answer (New waiting) is front = absurd front
+  not_waiting answer (Begun heads) is front = absurd is
+  not_waiting answer (Refused k) is front = absurd is
+
+  unbegun : (s : MergeState ScanSource) → WaitingAre sources s → (m : Meaning) (reads : List Act) (at : Option (List ℕ)) (e : SlateDBError) → e ≡ IteratorNotInitialized → refuses_in source_refuses s m reads at e
+  unbegun (New waiting) is m reads at e h = inl h
+  unbegun (Begun heads) is m reads at e h = absurd is
+  unbegun (Refused k) is m reads at e h = absurd is
+
+  -- an opening meets no operand
+  pub opening_own : (takes : MergedSources → Meaning → List Act → Option RowEntry → MergedSources → Type 0) → ((u v : MergedSources) (m : Meaning) (reads : List Act) (answer : Option RowEntry) → takes u m reads answer v → IsFrontIn answer u.state) →
+      (v : Merged) (a b : Reach) (reads : List Act) (e : SlateDBError) → Stays merge_refuses takes it a.meaning reads None e v → IsFault a b e ⊎ refuses_folding merge_refuses it a.meaning reads None e → IsFault a b e ⊎ refuses_in source_refuses it.iterator.state a.meaning reads None e
+  opening_own takes front v a b reads e stays (inl fault) = inl fault
+  opening_own takes front v a b reads e stays (inr r) = inr (by_fresh (subst (λ (u : Merged). RefusesBy u.refusal u.begun (λ d. refuses_in source_refuses it.iterator.state a.meaning reads None d ⊎ RefusesOpen a.meaning None d) e) (sym is_fresh) r))
+    where
+      met : MeetsOpen (λ u rs answer x. takes u a.meaning rs answer x) it.folding.snapshot_barrier_seq it.ahead reads it.iterator v.iterator → refuses_in source_refuses it.iterator.state a.meaning reads None e
+      met (row, is_open_row, taken) = not_waiting (Some row) it.iterator.state fresh_waits (front it.iterator v.iterator a.meaning reads (Some row)
+          (subst (λ (ahead : Option RowEntry). TakesAhead (λ u rs answer x. takes u a.meaning rs answer x) ahead reads (Some row) it.iterator v.iterator) new.none taken))
+
+      stayed : StaysIn None false None e ((reads ≡ []) × (v ≡ it)) (Keeps e v × BlamesOpen e (merge_refuses it.iterator a.meaning reads None e) (MeetsOpen (λ u rs answer x. takes u a.meaning rs answer x) it.folding.snapshot_barrier_seq it.ahead reads it.iterator v.iterator)) →
+          e ≡ MergeOperatorMissing → refuses_in source_refuses it.iterator.state a.meaning reads None e
+      stayed (inl s) missing = unbegun it.iterator.state fresh_waits a.meaning reads None e s.1
+      stayed (inr s) missing = elim (s.1.1 missing) [ inl own ↦ own | inr meets ↦ met meets ]
+
+      by_fresh : ((false ≡ false) × (e ≡ IteratorNotInitialized)) ⊎ (refuses_in source_refuses it.iterator.state a.meaning reads None e ⊎ RefusesOpen a.meaning None e) → refuses_in source_refuses it.iterator.state a.meaning reads None e
+      by_fresh (inl h) = unbegun it.iterator.state fresh_waits a.meaning reads None e h.1
+      by_fresh (inr (inl h)) = h
+      by_fresh (inr (inr h)) = stayed (subst (λ (u : Merged). StaysIn u.refusal u.begun None e ((reads ≡ []) × (v ≡ it))
+          (Keeps e v × BlamesOpen e (merge_refuses it.iterator a.meaning reads None e) (MeetsOpen (λ u rs answer x. takes u a.meaning rs answer x) it.folding.snapshot_barrier_seq it.ahead reads it.iterator v.iterator))) (sym is_fresh) stays) h.1
+
 -- ---- what is left
 
 module _ (os : Objects) (m : Meaning) (c : CoreModel) (n : ℕ) (ops : Ops) (range : BytesRange) (order : IterationOrder) (sources : List ScanSource) where
-  pub opened_leaves : (o : ScanOpens os m c n ops range order sources) (rows : MergeIterator ScanSource) (it : DbIterator) → it.state ≡ Walking rows → it.range ≡ range → it.order ≡ order → rows.order ≡ order →
-      IsSoundMerge source_rows IsSoundSource order_of rows o.world → rest_of_merge source_rows rows o.world ≡ merged_rows order o.world sources → AreForIn range m (Walking rows) →
+  pub opened_leaves : (o : ScanOpens os m c n ops range order sources) (rows : Merged) (it : DbIterator) → it.state ≡ Walking rows → it.range ≡ range → it.order ≡ order → IsGoing rows × FoldsAll rows × (rows.iterator.order ≡ order) →
+      IsSound rows o.world → rest_folding merge_rows rows o.world ≡ folded_rows o.world.meaning order o.world sources → IsOperableIn (Walking rows) o.world → AreForIn range m (Walking rows) →
       (w : World) × IsWorldOf os m w × Leaves it w (rows_seen (rules_of c.settings m) c.state.commits n ops order range)
-  opened_leaves o rows it state_is range_is order_is same sound rest meant = (
+  opened_leaves o rows it state_is range_is order_is going sound rest op meant = (
     o.world,
     o.is,
     record {
-      sound = subst (λ (s : ScanState). IsSoundIn it.order s o.world) (sym state_is) (sound, same ∙ sym order_is);
-      bases = subst (AllByRecursion (λ r. is_base r ≡ true)) (sym left_is) o.bases;
+      sound = subst (λ (s : ScanState). IsSoundIn it.order s o.world) (sym state_is) (going.0, going.1, sound, going.2 ∙ sym order_is);
+      operable = subst (λ (s : ScanState). IsOperableIn s o.world) (sym state_is) op;
       within = subst (λ (b : BytesRange). AllByRecursion (λ r. in_range b r.key ≡ true) (left_in it.state o.world)) (sym range_is) (subst (AllByRecursion (λ r. in_range range r.key ≡ true)) (sym left_is) o.within);
       left = ap (filter has_value) left_is ∙ o.left;
       meant = subst (λ (b : BytesRange). AreForIn b o.world.meaning it.state) (sym range_is) (subst (λ (s : ScanState). AreForIn range o.world.meaning s) (sym state_is) (subst (λ (k : Meaning). AreForIn range k (Walking rows)) (sym o.is.meaning) meant));
     },
   )
     where
-      left_is : left_in it.state o.world ≡ merged_rows order o.world sources
-      left_is = ap (λ (s : ScanState). left_in s o.world) state_is ∙ rest
+      left_is : left_in it.state o.world ≡ folded_rows m order o.world sources
+      left_is = ap (λ (s : ScanState). left_in s o.world) state_is ∙ rest ∙ ap (λ (k : Meaning). folded_rows k order o.world sources) o.is.meaning
 
 -- ---- what is refused
 
@@ -94,25 +173,29 @@ module _ (m : Meaning) (c : CoreModel) (x : Unseen) (w : IsWhole c x) (range : B
   refused_by : (reads : List Act) (e : SlateDBError) → IsShown m (handles_of x.runs) reads e → IsRefusedByScan m c reads e
   refused_by reads e s = record { handles = handles_of x.runs; are = all_handles c.events x.runs w.tied.runs; refused = inr s.1 }
 
-  abbrev pub LaterBlamed : MergeIterator ScanSource → List Act → Type 0
-  LaterBlamed rows reads = (later : List Act) (at : Option (List ℕ)) (e : SlateDBError) → refuses_in source_refuses rows.state m later at e → IsBlamedFor sources m (reads ++ later) at e
+  abbrev pub LaterBlamed : Merged → List Act → Type 0
+  LaterBlamed rows reads = (later : List Act) (at : Option (List ℕ)) (e : SlateDBError) → merge_refuses rows.iterator m later at e → IsBlamedFor sources m (reads ++ later) at e
 
-  pub sources_for : (rows : MergeIterator ScanSource) (reads : List Act) → LaterBlamed rows reads → AreForIn range m (Walking rows)
+  pub sources_for : (rows : Merged) (reads : List Act) → LaterBlamed rows reads → AreForIn range m (Walking rows)
   sources_for rows reads blamed later at e h = (shown (reads ++ later) at e h.0 (blamed later at e h.1)).0
 
-  pub scan_is_for : (rows : MergeIterator ScanSource) (it : DbIterator) (reads : List Act) → it.state ≡ Walking rows → it.range ≡ range → LaterBlamed rows reads → IsFor m it
-  scan_is_for rows it reads state_is range_is blamed later at e h = by (subst (λ (b : BytesRange). RefusesIn b (Walking rows) m later at e) range_is (subst (λ (s : ScanState). RefusesIn it.range s m later at e) state_is h))
+  own_refusal : (rows : Merged) (it : DbIterator) → it.state ≡ Walking rows → it.range ≡ range → IsGoing rows → (later : List Act) (at : Option (List ℕ)) (e : SlateDBError) → ScanRefuses it m later at e → OwnRefusal range rows m later at e
+  own_refusal rows it state_is range_is going later at e h =
+      refuses_going (OwnRefusal range rows m later at) rows e going (subst (λ (b : BytesRange). RefusesIn b (Walking rows) m later at e) range_is (subst (λ (s : ScanState). RefusesIn it.range s m later at e) state_is h))
+
+  pub scan_is_for : (rows : Merged) (it : DbIterator) (reads : List Act) → it.state ≡ Walking rows → it.range ≡ range → IsGoing rows → LaterBlamed rows reads → IsFor m it
+  scan_is_for rows it reads state_is range_is going blamed later at e h = by (own_refusal rows it state_is range_is going later at e h)
     where
-      by : RefusesIn range (Walking rows) m later at e → (e ≡ MergeOperatorMissing) ⊎ IsDamage e
-      by (inl missing) = inl missing.0
+      by : OwnRefusal range rows m later at e → (e ≡ MergeOperatorMissing) ⊎ IsDamage e
+      by (inl missing) = inl missing.1
       by (inr r) = inr (sources_for rows reads blamed later at e r)
 
-  pub scan_refused : (rows : MergeIterator ScanSource) (it : DbIterator) (reads : List Act) → it.state ≡ Walking rows → it.range ≡ range → LaterBlamed rows reads →
+  pub scan_refused : (rows : Merged) (it : DbIterator) (reads : List Act) → it.state ≡ Walking rows → it.range ≡ range → IsGoing rows → LaterBlamed rows reads →
       (later : List Act) (at : Option (List ℕ)) (e : SlateDBError) → ScanRefuses it m later at e → IsRefusedByScan m c (reads ++ later) e
-  scan_refused rows it reads state_is range_is blamed later at e h = by (subst (λ (b : BytesRange). RefusesIn b (Walking rows) m later at e) range_is (subst (λ (s : ScanState). RefusesIn it.range s m later at e) state_is h))
+  scan_refused rows it reads state_is range_is going blamed later at e h = by (own_refusal rows it state_is range_is going later at e h)
     where
-      by : RefusesIn range (Walking rows) m later at e → IsRefusedByScan m c (reads ++ later) e
-      by (inl missing) = record { handles = handles_of x.runs; are = all_handles c.events x.runs w.tied.runs; refused = inl missing.0 }
+      by : OwnRefusal range rows m later at e → IsRefusedByScan m c (reads ++ later) e
+      by (inl missing) = record { handles = handles_of x.runs; are = all_handles c.events x.runs w.tied.runs; refused = inl (missing.1, missing.2) }
       by (inr r) = refused_by (reads ++ later) e (shown (reads ++ later) at e r.0 (blamed later at e r.1))
 
   pub opening_refused : (before after : Reach) (e : SlateDBError) → before.meaning ≡ m → Made before after (λ reads. IsFault before after e ⊎ IsBlamedFor sources m reads None e) → IsOpeningError before after c e
@@ -137,20 +220,25 @@ module _ (m : Meaning) (c : CoreModel) (x : Unseen) (w : IsWhole c x) (range : B
 
 -- ---- a scan of a core
 
-module _ (before after : Reach) (c : CoreModel) (x : Unseen) (w : IsWhole c x) (range : BytesRange) (order : IterationOrder) (n : ℕ) (ops : Ops) (plain : holds_merge ops ≡ false) (from : c.floor ≤ n) (sources : List ScanSource)
-    (are : AreScanSources range order n ops (c.active ∷ reverse c.frozen) (reverse x.runs) sources) (a : IsAnswered before after c) where
+module _ (before after : Reach) (c : CoreModel) (x : Unseen) (w : IsWhole c x) (range : BytesRange) (order : IterationOrder) (n : ℕ) (ops : Ops) (fine : AreFine ops) (from : c.floor ≤ n) (sources : List ScanSource)
+    (are : AreScanSources range order n ops (c.active ∷ reverse c.frozen) (reverse x.runs) sources) (a : IsAnswered before after c) (plain : before.meaning.combine ≡ None → holds_merge ops ≡ false) where
   opens : ScanOpens a.os before.meaning c n ops range order sources
-  opens = scan_opens before.meaning c x w a.readable.lawful a.readable.kept a.os a.readable.holds n from ops plain range order sources are
+  opens = scan_opens before.meaning c x w a.readable.lawful a.readable.kept a.os a.readable.holds n from ops fine plain range order sources are
 
   sees : Sees opens.world before after
   sees = sees_world a.os opens.world before after opens.is.meaning opens.is.holds a.answers
 
-  pub scan_leaves : (rows : MergeIterator ScanSource) (it : DbIterator) → it.state ≡ Walking rows → it.range ≡ range → it.order ≡ order → rows.order ≡ order →
-      ((v : World) → AllByRecursion (CanOpen v order) sources → Sees v before after → IsSoundMerge source_rows IsSoundSource order_of rows v) →
-      ((v : World) → AllByRecursion (CanOpen v order) sources → Sees v before after → rest_of_merge source_rows rows v ≡ merged_rows order v sources) → (reads : List Act) → LaterBlamed before.meaning c x w range order n ops (c.active ∷ reverse c.frozen) sources are rows reads →
+  world_operable : opens.world.meaning.combine ≡ None → AreBases (merged_rows order opens.world sources)
+  world_operable none = opens.operable (ap (λ (m : Meaning). m.combine) (sym opens.is.meaning) ∙ none)
+
+  pub scan_leaves : (rows : Merged) (it : DbIterator) → it.state ≡ Walking rows → it.range ≡ range → it.order ≡ order → IsGoing rows × FoldsAll rows × (rows.iterator.order ≡ order) →
+      ((v : World) → AllByRecursion (CanOpen v order) sources → Sees v before after → IsSound rows v) →
+      ((v : World) → AllByRecursion (CanOpen v order) sources → Sees v before after → rest_folding merge_rows rows v ≡ folded_rows v.meaning order v sources) →
+      ((v : World) → AllByRecursion (CanOpen v order) sources → Sees v before after → (v.meaning.combine ≡ None → AreBases (merged_rows order v sources)) → IsOperableIn (Walking rows) v) →
+      (reads : List Act) → LaterBlamed before.meaning c x w range order n ops (c.active ∷ reverse c.frozen) sources are rows reads →
       (v : World) × IsWorldOf a.os before.meaning v × Leaves it v (rows_seen (rules_of c.settings before.meaning) c.state.commits n ops order range)
-  scan_leaves rows it state_is range_is order_is same sound rest reads blamed =
-      opened_leaves a.os before.meaning c n ops range order sources opens rows it state_is range_is order_is same (sound opens.world opens.can sees) (rest opens.world opens.can sees)
+  scan_leaves rows it state_is range_is order_is going sound rest op reads blamed =
+      opened_leaves a.os before.meaning c n ops range order sources opens rows it state_is range_is order_is going (sound opens.world opens.can sees) (rest opens.world opens.can sees) (op opens.world opens.can sees world_operable)
       (sources_for before.meaning c x w range order n ops (c.active ∷ reverse c.frozen) sources are rows reads blamed)
 
   pub scan_undamaged : (e : SlateDBError) → Made before after (λ reads. IsFault before after e ⊎ IsBlamedFor sources before.meaning reads None e) → IsFault before after e

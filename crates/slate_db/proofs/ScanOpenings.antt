@@ -6,6 +6,7 @@ use Rattle.slate_types.specs.declared.bytes_range.BytesRange.{BytesRange}
 use Rattle.slate_types.specs.declared.iter.IterationOrder.{IterationOrder}
 use Rattle.slate_types.specs.declared.types.RowEntry.{RowEntry}
 use Rattle.slate_types.specs.declared.types.Ulid.{Ulid}
+use Rattle.slate_types.specs.Fold.{operator_at}
 use Rattle.slate_types.specs.Iteration.{IsInOrder}
 use Rattle.slate_types.specs.Keys.{in_range}
 use Rattle.slate_types.specs.Outside.{Objects}
@@ -21,6 +22,7 @@ use Rattle.slate_read.specs.declared.read_source.ReadSource.{ReadSource}
 use Rattle.slate_read.specs.declared.read_source.ReadSource.TheVariants.{Empty, Internal, Table, Run, Batch, Memory}
 use Rattle.slate_read.specs.declared.sorted_run.SortedRun.{SortedRun}
 use Rattle.slate_read.specs.Filtering.{upto_seq}
+use Rattle.slate_read.specs.Folding.{folded}
 use Rattle.slate_read.specs.Groups.{in_turn}
 use Rattle.slate_read.specs.Merge.{all_rows, merged}
 use Rattle.slate_read.specs.ReadSources as read
@@ -29,18 +31,20 @@ use Rattle.slate_read.proofs.Turns.{turn_filtered}
 use Rattle.slate_table.specs.Paths.{path_of}
 use Rattle.slate_txn.specs.Reads.{rows_seen}
 use Rattle.slate_db.specs.Installs.{AreRuns, Holds, root, runs_of, tables_of}
+use Rattle.slate_db.specs.Log.{AreFine}
 use Rattle.slate_db.specs.Meaning.{Meaning, IsLawfulMeaning, rules_of}
 use Rattle.slate_db.specs.Model.{CoreModel, Rows, memory}
-use Rattle.slate_db.specs.OpenScans.{AreEach, AreScanSources, CanOpen, HasRows, IsInMemory, IsMemorySource, IsOverRun, IsOwnSource, IsRunSource, merged_rows}
+use Rattle.slate_db.specs.OpenScans.{AreEach, AreScanSources, CanOpen, HasRows, IsInMemory, IsMemorySource, IsOverRun, IsOwnSource, IsRunSource, folded_rows, merged_rows}
 use Rattle.slate_db.specs.Scanned.{AreStoredRuns, AreTablesOfRuns, BringEach, Brings, HasOwn, in_one, left_of, own_rows}
 use Rattle.slate_db.specs.Scans.{IsWorldOf, ScanSource, has_value, source_rows}
 use Rattle.slate_db.specs.Sound.{AreBases, IsKept}
 use Rattle.slate_db.specs.Whole.{IsWhole, Unseen}
-use Rattle.slate_db.proofs.Bases.{bases_in}
 use Rattle.slate_db.proofs.Lists.{all_behind, all_front}
+use Rattle.slate_db.proofs.NoMerges.{memory_bases}
 use Rattle.slate_db.proofs.OwnRows.{own_base}
 use Rattle.slate_db.proofs.Plain.{kept_replace}
 use Rattle.slate_db.proofs.RunsOf.{tables_are}
+use Rattle.slate_db.proofs.ScanFolds.{folded_keys}
 use Rattle.slate_db.proofs.ScanLists.{Grouped, grouped, have_all, stored_runs}
 use Rattle.slate_db.proofs.ScanRows.{all_brought, all_merged, all_of_keys, all_ranged}
 use Rattle.slate_db.proofs.ScanSources.{core_scans}
@@ -169,9 +173,9 @@ pub record ScanOpens (os : Objects) (m : Meaning) (c : CoreModel) (n : ℕ) (ops
   pub world : World
   pub is : IsWorldOf os m world
   pub can : AllByRecursion (CanOpen world order) sources
-  pub bases : AllByRecursion (λ r. is_base r ≡ true) (merged_rows order world sources)
-  pub within : AllByRecursion (λ r. in_range range r.key ≡ true) (merged_rows order world sources)
-  pub left : filter has_value (merged_rows order world sources) ≡ rows_seen (rules_of c.settings m) c.state.commits n ops order range
+  pub operable : m.combine ≡ None → AreBases (merged_rows order world sources)
+  pub within : AllByRecursion (λ r. in_range range r.key ≡ true) (folded_rows m order world sources)
+  pub left : filter has_value (folded_rows m order world sources) ≡ rows_seen (rules_of c.settings m) c.state.commits n ops order range
 
 module _ (m : Meaning) (c : CoreModel) (x : Unseen) (w : IsWhole c x) (law : IsLawfulMeaning m) (kept_m : IsKept m c) where
   abbrev layers : List Rows
@@ -211,15 +215,15 @@ module _ (m : Meaning) (c : CoreModel) (x : Unseen) (w : IsWhole c x) (law : IsL
       runs_here m os (world_at os holds) (runs_of c.events) x.runs runs_of_core.groups s w.tied.runs refl refl
       (all_found [] h (subst (AreNew []) (sym (runs_paths os (runs_of c.events) x.runs runs_of_core.groups s w.tied.runs)) (runs_new 1 [] (runs_of c.events) tt w.log.numbered few)))
 
-  memory_bases : AllByRecursion AreBases (memory c)
-  memory_bases = bases_in (memory c) w.layers.fit
+  memory_plain : m.combine ≡ None → AllByRecursion AreBases (memory c)
+  memory_plain none = memory_bases m c none kept_m.0 kept_m.2
 
   bases_of : (groups : List (List Rows)) → AllByRecursion AreBases (flat_map (λ ls. ls) groups) → AllByRecursion AreBases (in_one groups)
   bases_of [] h = tt
   bases_of (ls ∷ groups) h = (all_flat (λ r. is_base r ≡ true) ls (all_front AreBases ls (flat_map (λ l. l) groups) h), bases_of groups (all_behind AreBases ls (flat_map (λ l. l) groups) h))
 
-  run_bases : AllByRecursion AreBases (in_one runs_of_core.groups)
-  run_bases = bases_of runs_of_core.groups (subst (AllByRecursion AreBases) runs_of_core.is (kept_m.1 law).bases)
+  run_bases : m.combine ≡ None → AllByRecursion AreBases (in_one runs_of_core.groups)
+  run_bases none = bases_of runs_of_core.groups (subst (AllByRecursion AreBases) runs_of_core.is ((kept_m.1 law).bases none))
 
   newest_memory : reverse (memory c) ≡ c.active ∷ reverse c.frozen
   newest_memory = reverse-append c.frozen (c.active ∷ [])
@@ -229,7 +233,7 @@ module _ (m : Meaning) (c : CoreModel) (x : Unseen) (w : IsWhole c x) (law : IsL
   newest_runs (ls ∷ groups) =
       ap in_one (reverse-append (ls ∷ []) groups) ∙ map_both all_rows (reverse groups) (ls ∷ []) ∙ ap (λ (l : List Rows). l ++ (all_rows ls ∷ [])) (newest_runs groups) ∙ sym (reverse-append (all_rows ls ∷ []) (in_one groups))
 
-  module _ (os : Objects) (holds : Holds os (tables_of c.events)) (n : ℕ) (from : c.floor ≤ n) (ops : Ops) (plain : holds_merge ops ≡ false) (range : BytesRange) (order : IterationOrder) (sources : List ScanSource)
+  module _ (os : Objects) (holds : Holds os (tables_of c.events)) (n : ℕ) (from : c.floor ≤ n) (ops : Ops) (fine : AreFine ops) (plain : m.combine ≡ None → holds_merge ops ≡ false) (range : BytesRange) (order : IterationOrder) (sources : List ScanSource)
       (are : AreScanSources range order n ops (c.active ∷ reverse c.frozen) (reverse x.runs) sources) where
     abbrev v : World
     v = world_at os holds
@@ -284,9 +288,10 @@ module _ (m : Meaning) (c : CoreModel) (x : Unseen) (w : IsWhole c x) (law : IsL
       world = v;
       is = is_world m os x.runs runs_of_core.groups (stored os holds);
       can = subst (AllByRecursion (CanOpen v order)) (sym are.are) (can_open v order (HasOwn range ops) are.own own_in, all_append (CanOpen v order) are.in_memory are.in_runs in_memory.can in_runs.can);
-      bases = all_of_merged (λ r. is_base r ≡ true) (own_all_bases range ops own_list own_in.rows plain) (every_base (memory c) memory_bases) (every_base (in_one runs_of_core.groups) run_bases);
-      within = all_of_merged (λ r. in_range range r.key ≡ true) (own_within range ops own_list own_in.rows) (every_within (memory c)) (every_within (in_one runs_of_core.groups));
-      left = ap (λ (ls : List Rows). filter has_value (merged order true ls)) rows_are
-          ∙ core_scans m c x w law kept_m layers (kept_m.1 law).tables n from ops plain range own_list lists own_in.rows
+      operable = λ none. all_of_merged (λ r. is_base r ≡ true) (own_all_bases range ops own_list own_in.rows (plain none)) (every_base (memory c) (memory_plain none)) (every_base (in_one runs_of_core.groups) (run_bases none));
+      within = folded_keys (λ k. in_range range k ≡ true) (operator_at m.combine) true None (merged_rows order v sources)
+          (all_of_merged (λ r. in_range range r.key ≡ true) (own_within range ops own_list own_in.rows) (every_within (memory c)) (every_within (in_one runs_of_core.groups)));
+      left = ap (λ (ls : List Rows). filter has_value (folded (operator_at m.combine) true None (merged order true ls))) rows_are
+          ∙ core_scans m c x w law kept_m layers (kept_m.1 law).tables n from ops fine range own_list lists own_in.rows
           (have_all m c x w layers runs_of_core.groups runs_of_core.is runs_of_core.tables range (rests v order are.in_memory) (rests v order are.in_runs) in_memory.bring in_runs.bring) order;
     }

@@ -160,7 +160,7 @@ sources_walk r range a b x u v is h = on_ok_weaker r
     (λ k. subst (λ (s : ScanState). Made a b (λ reads. NoMore (SourcesRefuse range s a.meaning) reads (SourcesRefuse range (Walking v) a.meaning))) (sym is) (k.0, k.1, λ later at e f. (f.0, k.2 later at e f.1))) h
 
 -- what a state refuses for that is going
-abbrev OwnRefusal : BytesRange → Merged → Meaning → List Act → Option (List ℕ) → SlateDBError → Type 0
+abbrev pub OwnRefusal : BytesRange → Merged → Meaning → List Act → Option (List ℕ) → SlateDBError → Type 0
 OwnRefusal range u m reads at e = RefusesOpen m at e ⊎ (IsReached range at × merge_refuses u.iterator m reads at e)
 
 pub later_walk : {V : Type 0} (r : Result V SlateDBError) (range : BytesRange) (a b : Reach) (x : ScanState) (u v : Merged) → x ≡ Walking u → OnOk r (Goes u v) →

@@ -7,6 +7,7 @@
 --     AreScanSources range order n ops memory runs sources      the own rows, then the memtables, then the runs
 --     CanOpen w order s      a source is sound in a world, of the order, and its rows there stand in turn
 --     merged_rows order w sources      the rows of all sources merged, in a world
+--     folded_rows m order w sources      what they fold to, by what the parts mean
 --     IsBlamedFor sources m reads at e      by the reads a source refuses for it, and not for want of an `init`
 use Rattle.std.specs.Prelude.{◌≡◌, ◌≢◌, ℕ, true, List, [], ◌∷◌, ◌++◌, map, Option, Some, None}
 use Rattle.slate_types.specs.declared.bytes_range.BytesRange.{BytesRange}
@@ -14,6 +15,7 @@ use Rattle.slate_types.specs.declared.error.SlateDBError.{SlateDBError}
 use Rattle.slate_types.specs.declared.error.SlateDBError.TheVariants.{IteratorNotInitialized}
 use Rattle.slate_types.specs.declared.iter.IterationOrder.{IterationOrder}
 use Rattle.slate_types.specs.declared.types.RowEntry.{RowEntry}
+use Rattle.slate_types.specs.Fold.{operator_at}
 use Rattle.slate_types.specs.Iteration.{IsInOrder, RowList}
 use Rattle.slate_types.specs.Outside.{Act, Meaning}
 use Rattle.slate_types.specs.RowTurns.{AreInTurn, row_before}
@@ -22,6 +24,7 @@ use Rattle.slate_mem.specs.Batch.{Ops}
 use Rattle.slate_read.specs.declared.read_source.ReadSource.{ReadSource}
 use Rattle.slate_read.specs.declared.read_source.ReadSource.TheVariants.{Run, Batch, Memory}
 use Rattle.slate_read.specs.declared.sorted_run.SortedRun.{SortedRun}
+use Rattle.slate_read.specs.Folding.{folded}
 use Rattle.slate_read.specs.Merge.{merged}
 use Rattle.slate_read.specs.Merging.{CanMerge, blames, waiting_sources}
 use Rattle.slate_read.specs.RunIterators.{IsRunIterator}
@@ -74,6 +77,9 @@ CanOpen w order s = CanMerge (λ x. source_rows x w) (λ x. IsSoundSource x w ×
 
 abbrev pub merged_rows : IterationOrder → World → List ScanSource → Rows
 merged_rows order w sources = merged order true (map (λ s. source_rows s w) sources)
+
+abbrev pub folded_rows : Meaning → IterationOrder → World → List ScanSource → Rows
+folded_rows m order w sources = folded (operator_at m.combine) true None (merged_rows order w sources)
 
 abbrev pub IsBlamedFor : List ScanSource → Meaning → List Act → Option (List ℕ) → SlateDBError → Type 0
 IsBlamedFor sources m reads at e = (e ≢ IteratorNotInitialized) × blames source_refuses (waiting_sources sources) m reads at e

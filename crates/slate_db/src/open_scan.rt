@@ -9,11 +9,12 @@ ghost use Rattle.slate_types.specs.Outside.{Act, IsFault, OnlyReads};
 ghost use Rattle.slate_types.specs.RowTurns.{AreInTurn, row_before};
 ghost use Rattle.slate_types.specs.World.{World, Made, Sees};
 ghost use Rattle.slate_mem.specs.Batch.{Ops};
-ghost use Rattle.slate_read.specs.MergeStates.{IsSoundMerge, refuses_in, rest_of_merge};
+ghost use Rattle.slate_read.specs.OperatorIterators.{IsGoing, rest_folding, sound_folding};
 ghost use Rattle.slate_read.specs.SstOptions.{CanFetch};
-ghost use Rattle.slate_db.specs.OpenScans.{AreEach, AreScanSources, CanOpen, HasRows, IsBlamedFor, IsMemorySource, IsRunSource, merged_rows};
+ghost use Rattle.slate_db.specs.OpenScans.{AreEach, AreScanSources, CanOpen, HasRows, IsBlamedFor, IsMemorySource, IsRunSource, folded_rows, merged_rows};
 ghost use Rattle.slate_db.specs.Scanned.{HasOwn};
-ghost use Rattle.slate_db.specs.Scans.{IsSoundSource, order_of, source_refuses, source_rows};
+ghost use Rattle.slate_db.specs.Scans.{FoldsAll, IsOperableIn, IsSoundMerged, merge_refuses, merge_rows, order_of_merge};
+ghost use Rattle.slate_db.specs.Sound.{AreBases};
 
 use crate::layers::Layers;
 use crate::scan::{DbIterator, ScanState};
@@ -21,8 +22,8 @@ use bytes::Bytes;
 use slate_filter::FilterPolicy;
 use slate_mem::{ImmutableMemtable, MemTable, MemTableIterator, WriteBatchIterator};
 use slate_read::{
-    FilterIterator, MaxSeq, MergeIterator, ReadSource, SortedRun, SortedRunIterator,
-    SstIteratorOptions,
+    FilterIterator, MaxSeq, MergeIterator, MergeOperatorIterator, ReadSource, SortedRun,
+    SortedRunIterator, SstIteratorOptions,
 };
 use slate_store::{Env, EnvOf, Store};
 use slate_table::SsTableHandle;
@@ -33,10 +34,10 @@ use slate_types::{
 use std::alloc::{AllocError, Global};
 
 impl<'a> DbIterator<'a> {
-    /// A scan of rows that were merged. Takes no memory.
+    /// A scan of rows that were merged and are folded. Takes no memory.
     pub(crate) fn new(
         alloc: Global,
-        rows: MergeIterator<FilterIterator<ReadSource<'a>, MaxSeq>>,
+        rows: MergeOperatorIterator<MergeIterator<FilterIterator<ReadSource<'a>, MaxSeq>>>,
         range: BytesRange,
         order: IterationOrder,
     ) -> DbIterator<'a>
@@ -266,21 +267,29 @@ fn refusal_of_opening(error: SlateDBError) -> SlateDBError
     }
 }
 
-/// Opens sources, and merges their rows, the newest row of each key.
+/// Opens sources, and merges their rows: of each key those to the first that is no operand, which are folded.
 pub(crate) fn merged<'a, S: Store, M: MergeOperator, T: BlockTransformer>(
     alloc: Global,
     sources: Vec<FilterIterator<ReadSource<'a>, MaxSeq>>,
     order: IterationOrder,
     env: &mut Env<'_, S, M, T>,
-) -> Result<MergeIterator<FilterIterator<ReadSource<'a>, MaxSeq>>, SlateDBError>
-    ensures same { IfOk result (λ rows. (rows.order ≡ order) × (rows.dedup ≡ true)) }
-    ensures sound { let reach = ⟦<EnvOf<S, M, T> as Outside>⟧.reach in (w : World) → AllByRecursion (CanOpen w order) sources.entry.items → Sees w (reach env.old) (reach env.new) → IfOk result (λ rows. IsSoundMerge source_rows IsSoundSource order_of rows w) }
-    ensures rows { let reach = ⟦<EnvOf<S, M, T> as Outside>⟧.reach in (w : World) → AllByRecursion (CanOpen w order) sources.entry.items → Sees w (reach env.old) (reach env.new) → IfOk result (λ rows. rest_of_merge source_rows rows w ≡ merged_rows order w sources.entry.items) }
-    ensures later { let reach = ⟦<EnvOf<S, M, T> as Outside>⟧.reach in IfOk result (λ rows. Made (reach env.old) (reach env.new) (λ reads. (later : List Act) (at : Option (List ℕ)) (e : SlateDBError) → refuses_in source_refuses rows.state (reach env.old).meaning later at e → IsBlamedFor sources.entry.items (reach env.old).meaning (reads ++ later) at e)) }
+) -> Result<
+    MergeOperatorIterator<MergeIterator<FilterIterator<ReadSource<'a>, MaxSeq>>>,
+    SlateDBError,
+>
+    ensures going { IfOk result (λ rows. IsGoing rows × FoldsAll rows × (rows.iterator.order ≡ order)) }
+    ensures sound { let reach = ⟦<EnvOf<S, M, T> as Outside>⟧.reach in (w : World) → AllByRecursion (CanOpen w order) sources.entry.items → Sees w (reach env.old) (reach env.new) → IfOk result (λ rows. sound_folding merge_rows IsSoundMerged order_of_merge rows w) }
+    ensures rows { let reach = ⟦<EnvOf<S, M, T> as Outside>⟧.reach in (w : World) → AllByRecursion (CanOpen w order) sources.entry.items → Sees w (reach env.old) (reach env.new) → IfOk result (λ rows. rest_folding merge_rows rows w ≡ folded_rows w.meaning order w sources.entry.items) }
+    ensures operable { let reach = ⟦<EnvOf<S, M, T> as Outside>⟧.reach in (w : World) → AllByRecursion (CanOpen w order) sources.entry.items → Sees w (reach env.old) (reach env.new) →
+        (w.meaning.combine ≡ None → AreBases (merged_rows order w sources.entry.items)) → IfOk result (λ rows. IsOperableIn (ScanState.Walking rows) w) }
+    ensures later { let reach = ⟦<EnvOf<S, M, T> as Outside>⟧.reach in IfOk result (λ rows. Made (reach env.old) (reach env.new) (λ reads. (later : List Act) (at : Option (List ℕ)) (e : SlateDBError) → merge_refuses rows.iterator (reach env.old).meaning later at e → IsBlamedFor sources.entry.items (reach env.old).meaning (reads ++ later) at e)) }
     ensures cause { let reach = ⟦<EnvOf<S, M, T> as Outside>⟧.reach in IfErr result (λ e. Made (reach env.old) (reach env.new) (λ reads. IsFault (reach env.old) (reach env.new) e ⊎ IsBlamedFor sources.entry.items (reach env.old).meaning reads None e)) }
     ensures reads { let reach = ⟦<EnvOf<S, M, T> as Outside>⟧.reach in OnlyReads (reach env.old) (reach env.new) }
 {
-    let mut rows = MergeIterator::new_with_order(sources, order);
+    let merge = MergeIterator::new_with_order(sources, order);
+    let Ok(mut rows) = MergeOperatorIterator::new(merge, true, None) else {
+        unreachable!()
+    };
     match rows.init(alloc, env) {
         Ok(()) => Ok(rows),
         Err(error) => Err(refusal_of_opening(error)),

@@ -7,7 +7,7 @@ use Rattle.slate_types.proofs.Reaching.{reads_none, reads_then}
 use Rattle.slate_read.specs.OperatorIterators.{IsOperable, Takes, refuses_folding, rest_folding, sound_folding}
 use Rattle.slate_db.specs.Values.{has_value}
 use Rattle.slate_db.proofs.Foldings.{whole_going}
-use Rattle.slate_db.proofs.Passing.{no_value, passed_fails, passed_none, passed_on, passed_undamaged, some_value, step_checked, step_keeps, step_later, step_none, step_some, step_still}
+use Rattle.slate_db.proofs.Passing.{first, last, no_value, passed_fails, passed_none, passed_on, passed_undamaged, some_value, step_checked, step_keeps, step_later, step_none, step_some, step_still}
 use Rattle.slate_db.proofs.values.next_value.Goals as goal
 
 pub loop-row-init : goal.loop-row-init
@@ -51,7 +51,11 @@ returns-in_err-row g c =
       going = IfOk-from_err c.from_residual.result _ c.from_residual.ensures.0;
       checked = λ w h. IfOk-from_err c.from_residual.result _ c.from_residual.ensures.0;
       sources = IfOk-from_err c.from_residual.result _ c.from_residual.ensures.0;
-      undamaged = λ w sees going h k. rw (p.1, p.2) ?;
+      undamaged = (λ w sees going h k.
+          let now = last _ _ _ _ _ _ _ _ _ c.next_row.new.self i.sources n.cause.0 n.cause.1 w sees in
+          let then = first _ _ _ _ _ _ _ _ _ c.next_row.new.self i.sources n.cause.0 n.cause.1 w sees in
+          rw (p.1, p.2) (passed_undamaged _ _ (λ x. it.refuses x.iterator) _ _ _ _ _ _ c.next_row.new.self i.sources None e i.reads.later w sees
+          (whole_going it.rest it.sound it.order c.loop-row.initial.rows w it.refuses g.met.I.RowEntryIterator.whole going h None e) (n.own w now (i.goes going) (i.passed.still w then h) (i.passed.keeps w then h k))));
       cause = rw (p.1, p.2) (passed_fails _ _ (refuses_folding it.refuses) _ _ _ _ _ _ c.next_row.new.self i.passed None e i.reads.later (n.cause.0, n.cause.1, n.cause.2.0));
       order = n.order ∙ i.order;
       reads = reads_then _ _ _ i.reads n.reads;
