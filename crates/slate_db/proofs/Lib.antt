@@ -75,6 +75,7 @@ mod ScanRows
 mod ScanWorlds
 mod ScanTables
 mod SourceLists
+mod ScanReaders
 mod ScanOpenings
 mod ScanRefusals
 mod OpenNotes

@@ -14,6 +14,7 @@ use Rattle.slate_types.specs.RowTurns.{AreInTurn, row_before}
 use Rattle.slate_types.specs.Rows.{is_base, is_tombstone, of_key}
 use Rattle.slate_types.specs.World.{World}
 use Rattle.slate_mem.specs.declared.WriteOp.{WriteOp}
+use Rattle.slate_mem.specs.declared.WriteOp.TheVariants as ops
 use Rattle.slate_mem.specs.Batch.{Ops, kept, replaces}
 use Rattle.slate_mem.specs.BatchModel.{holds_merge}
 use Rattle.slate_mem.specs.RowOf.{own_row}
@@ -41,7 +42,6 @@ use Rattle.slate_db.specs.Sound.{AreBases, IsKept}
 use Rattle.slate_db.specs.Whole.{IsWhole, Unseen}
 use Rattle.slate_db.proofs.Lists.{all_behind, all_front}
 use Rattle.slate_db.proofs.NoMerges.{memory_bases}
-use Rattle.slate_db.proofs.OwnRows.{own_base}
 use Rattle.slate_db.proofs.Plain.{kept_replace}
 use Rattle.slate_db.proofs.RunsOf.{tables_are}
 use Rattle.slate_db.proofs.ScanFolds.{folded_keys}
@@ -61,6 +61,11 @@ filter_all [] = refl
 filter_all (r ∷ rows) = ap (λ (l : Rows). r ∷ l) (filter_all rows)
 
 -- ---- the own rows
+
+own_base : (k : List ℕ) (op : WriteOp) → replaces op ≡ true → is_base (own_row k op) ≡ true
+own_base k (ops.Put v o) h = refl
+own_base k ops.Delete h = refl
+own_base k (ops.Merge v o) h = cc
 
 own_bases : (k : List ℕ) (xs : List WriteOp) → AllByRecursion (λ op. replaces op ≡ true) xs → AllByRecursion (λ r. is_base r ≡ true) (map (own_row k) xs)
 own_bases k [] h = tt

@@ -15,8 +15,9 @@ use Rattle.slate_db.specs.Model.{CoreModel}
 use Rattle.slate_db.specs.Readable.{IsAnswered}
 use Rattle.slate_db.specs.Scans.{IsFor, IsOpeningError, IsRefusedByScan, IsWorldOf, Leaves, ScanRefuses}
 use Rattle.slate_db.specs.View.{unseen_of, view_of}
-use Rattle.slate_db.proofs.Readers.{own_range_of, plain_of}
+use Rattle.slate_db.proofs.Readers.{own_range_of}
 use Rattle.slate_db.proofs.ScanMerges.{opening_refused, scan_is_for, scan_leaves, scan_refused, scan_undamaged}
+use Rattle.slate_db.proofs.ScanReaders.{fine_reader, plain_reader}
 use Rattle.slate_db.proofs.engine.Core.opened.Goals as goal
 
 pub returns : goal.returns
@@ -39,11 +40,11 @@ returns g c =
       opened = λ u at. subst (λ (k : CoreModel). k.floor ≤ c.args.begin → (a : IsAnswered before after k) → (w : World) × IsWorldOf a.os m w × Leaves c.new.result w (rows_seen (rules_of k.settings m) k.state.commits c.args.begin u.ops order c.args.range)) c.self.view_is
           (λ above a.
           let mine = c.in_ok-sources.ensures.sources u.ops (record { rows = own_range_of v.state c.args.id.now u (there u at) c.args.range own_rows own.rows own.none; in_order = own.in_order; turn = own.turn; same_order = own.order }) in
-          scan_leaves before after v x c.self.invariant c.args.range order c.args.begin u.ops (plain_of v.state c.args.id.now u (there u at) c.own_range.ensures.plain) above c.in_ok-sources.sources.items mine a
-          c.in_ok-rows.rows c.new.result made.state made.range made.order rows.same.0 rows.sound rows.rows rows.later.0 rows.later.2);
+          scan_leaves before after v x c.self.invariant c.args.range order c.args.begin u.ops (fine_reader v.state c.args.id.now u (there u at) c.own_range.ensures.fine) above c.in_ok-sources.sources.items mine a
+          (plain_reader m v c.args.id.now u (there u at) a.readable.kept.2) c.in_ok-rows.rows c.new.result made.state made.range made.order rows.going rows.sound rows.rows rows.operable rows.later.0 rows.later.2);
       later = subst (λ (k : CoreModel). IsFor m c.new.result × Made before after (λ reads. (later : List Act) (at : Option (List ℕ)) (e : SlateDBError) → ScanRefuses c.new.result m later at e → IsRefusedByScan m k (reads ++ later) e)) c.self.view_is (
-        scan_is_for m v x c.self.invariant c.args.range order c.args.begin from.ops _ c.in_ok-sources.sources.items are c.in_ok-rows.rows c.new.result rows.later.0 made.state made.range rows.later.2,
-        (rows.later.0, rows.later.1, scan_refused m v x c.self.invariant c.args.range order c.args.begin from.ops _ c.in_ok-sources.sources.items are c.in_ok-rows.rows c.new.result rows.later.0 made.state made.range rows.later.2),
+        scan_is_for m v x c.self.invariant c.args.range order c.args.begin from.ops _ c.in_ok-sources.sources.items are c.in_ok-rows.rows c.new.result rows.later.0 made.state made.range rows.going.0 rows.later.2,
+        (rows.later.0, rows.later.1, scan_refused m v x c.self.invariant c.args.range order c.args.begin from.ops _ c.in_ok-sources.sources.items are c.in_ok-rows.rows c.new.result rows.later.0 made.state made.range rows.going.0 rows.later.2),
       );
       undamaged = λ above a. tt;
       cause = tt;
@@ -98,7 +99,8 @@ returns-in_err-rows g c =
       later = IfOk-from_err c.from_residual-in_err-rows.result _ c.from_residual-in_err-rows.ensures.0;
       undamaged = λ above a. err_exit c.from_residual-in_err-rows.result _ c.from_residual-in_err-rows.ensures.1 _
           (subst (λ (k : CoreModel). k.floor ≤ c.args.begin → IsAnswered before after k → IsFault before after e) c.self.view_is
-          (λ f b. scan_undamaged before after v x c.self.invariant c.args.range order c.args.begin from.ops (plain_of v.state c.args.id.now from there c.own_range.ensures.plain) f c.in_ok-sources.sources.items are b e c.in_err-rows.ensures.cause) above a);
+          (λ f b. scan_undamaged before after v x c.self.invariant c.args.range order c.args.begin from.ops (fine_reader v.state c.args.id.now from there c.own_range.ensures.fine) f c.in_ok-sources.sources.items are b
+          (plain_reader m v c.args.id.now from there b.readable.kept.2) e c.in_err-rows.ensures.cause) above a);
       cause = err_exit c.from_residual-in_err-rows.result _ c.from_residual-in_err-rows.ensures.1 _
           (subst (λ (k : CoreModel). IsOpeningError before after k e) c.self.view_is
           (opening_refused m v x c.self.invariant c.args.range order c.args.begin from.ops _ c.in_ok-sources.sources.items are before after e refl c.in_err-rows.ensures.cause));

@@ -30,6 +30,7 @@ use Rattle.slate_db.specs.View.{view_of, unseen_of, IsWholeInside}
 use Rattle.slate_db.specs.Vouched.{IsVouchedFor}
 use Rattle.slate_db.proofs.Keeps.{kept_event}
 use Rattle.slate_db.proofs.OpenNotes.{step_scan, vouched_scan}
+use Rattle.slate_db.proofs.Operands.{own_updated}
 use Rattle.slate_db.proofs.Readers.{floor_at, own_at, scan_left, scans_of, start_at}
 use Rattle.slate_db.proofs.Wholes.{after_note, whole_note}
 use Rattle.slate_db.proofs.engine.Core.scan.Goals as goal
@@ -158,6 +159,7 @@ returns g c =
       kept = (λ k kept_k.
           subst (λ (i : Inside). IsKept k (view_of i)) (becomes g c)
           (kept_event k (view_of s) (noted (view_of s).state id (opening g c ∷ [])) s.log.events s.log.spare refl refl refl
+          (λ none own. own_updated c.args.id.now (λ (t : Tx). record t { transcript = t.transcript ++ (opening g c ∷ []) }) (view_of s).state.txns (λ t h. h) own)
           (subst (λ (v : CoreModel). IsKept k v) (sym c.self.view_is) kept_k)));
       settings = ap (λ (v : CoreModel). v.settings) c.self.view_is;
       reads = c.opened.ensures.reads;

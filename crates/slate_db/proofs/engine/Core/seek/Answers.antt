@@ -5,6 +5,7 @@ use Rattle.slate_txn.specs.declared.event.TranscriptStep.{TranscriptStep}
 use Rattle.slate_txn.specs.declared.event.TranscriptStep.TheVariants as steps
 use Rattle.slate_txn.specs.Named.{find_named, update_named}
 use Rattle.slate_txn.specs.Open.{Transactions}
+use Rattle.slate_txn.specs.State.{Tx}
 use Rattle.slate_txn.specs.Step.{noted}
 use Rattle.slate_db.specs.declared.engine.Core.TheInside.{Inside}
 use Rattle.slate_db.specs.declared.scan.DbIterator.{DbIterator}
@@ -14,6 +15,7 @@ use Rattle.slate_db.specs.View.{view_of, unseen_of, IsWholeInside}
 use Rattle.slate_db.specs.Sound.{IsKept}
 use Rattle.slate_db.specs.Vouched.{IsVouchedFor}
 use Rattle.slate_db.proofs.Keeps.{kept_event}
+use Rattle.slate_db.proofs.Operands.{own_updated}
 use Rattle.slate_db.proofs.ScanNotes.{seek_left, vouched_seek}
 use Rattle.slate_db.proofs.ScanStates.{answered_once}
 use Rattle.slate_db.proofs.Wholes.{after_note, whole_note}
@@ -108,6 +110,7 @@ returns g c =
       kept = λ p k.
           subst (λ (s : Inside). IsKept p (view_of s)) (becomes g c)
           (kept_event p (view_of c.self.inside) (noted (view_of c.self.inside).state it.id (noted_step g c ∷ [])) c.self.inside.log.events c.self.inside.log.spare refl refl refl
+          (λ none own. own_updated it.id (λ (t : Tx). record t { transcript = t.transcript ++ (noted_step g c ∷ []) }) (view_of c.self.inside).state.txns (λ t h. h) own)
           (subst (λ (v : CoreModel). IsKept p v) (sym c.self.view_is) k));
       settings = ap (λ (v : CoreModel). v.settings) c.self.view_is;
       reads = n.reads;
