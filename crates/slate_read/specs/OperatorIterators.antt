@@ -4,6 +4,9 @@
 --     rest_folding, sound_folding, bound_folding, refuses_folding      what it is by what its source is
 --     IsFolding iterator folding it      it has the rows of the iterator, and nothing was asked
 --     IsGoing it      it has begun, and wasn't refused
+--     IsOperable rest it w      without an operator none of the rows of the source that are left, and of the row that was read ahead,
+--                               is an operand that isn't above the barrier
+--     IsOwn refuses before after it e      the refusal is a fault, or the source's own
 --     Begins, Takes, Seeks      it began, took a row, and sought a key
 --     Keeps e it      it keeps the refusal e, or want of memory for a copy
 --     Stays before m reads at e after      it refuses, and keeps that; or it stands as it stood
@@ -13,12 +16,12 @@ use Rattle.slate_types.specs.declared.error.SlateDBError.{SlateDBError}
 use Rattle.slate_types.specs.declared.error.SlateDBError.TheVariants.{IteratorNotInitialized, OutOfMemory}
 use Rattle.slate_types.specs.declared.iter.IterationOrder.{IterationOrder}
 use Rattle.slate_types.specs.declared.types.RowEntry.{RowEntry}
-use Rattle.slate_types.specs.Outside.{Act, Meaning}
+use Rattle.slate_types.specs.Outside.{Act, IsFault, Meaning, Reach}
 use Rattle.slate_types.specs.Refusing.{IsDamage}
-use Rattle.slate_types.specs.World.{World}
+use Rattle.slate_types.specs.World.{World, Made}
 use Rattle.slate_read.specs.declared.folding.Folding.{Folding}
 use Rattle.slate_read.specs.declared.operator_iterator.MergeOperatorIterator.{MergeOperatorIterator}
-use Rattle.slate_read.specs.Folds.{BlamesOpen, MeetsOpen, hands_out, refuses_folds, rest_folds, sound_taken}
+use Rattle.slate_read.specs.Folds.{BlamesOpen, MeetsOpen, hands_out, operable_taken, refuses_folds, rest_folds, sound_taken}
 use Rattle.slate_read.specs.Kept.{Copies}
 use Rattle.slate_read.specs.Peeking.{ahead_bound}
 
@@ -69,6 +72,12 @@ module _ {S : Type 0} where
 
   abbrev pub IsGoing : MergeOperatorIterator S → Type 0
   IsGoing it = (it.begun ≡ true) × (it.refusal ≡ None)
+
+  abbrev pub IsOperable : (S → World → List RowEntry) → MergeOperatorIterator S → World → Type 0
+  IsOperable rest it w = operable_taken it.folding.snapshot_barrier_seq rest (it.iterator, it.ahead, []) w
+
+  abbrev pub IsOwn : (S → Meaning → List Act → Option (List ℕ) → SlateDBError → Type 0) → Reach → Reach → S → SlateDBError → Type 0
+  IsOwn refuses before after source e = IsFault before after e ⊎ Made before after (λ reads. refuses source before.meaning reads None e)
 
   abbrev pub Begins : (S → Meaning → List Act → S → Type 0) → MergeOperatorIterator S → Meaning → List Act → MergeOperatorIterator S → Type 0
   Begins begins before m reads after = (before.refusal ≡ None) × IsGoing after × (after.folding ≡ before.folding) × (after.ahead ≡ before.ahead) × begins before.iterator m reads after.iterator
