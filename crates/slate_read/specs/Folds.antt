@@ -5,8 +5,9 @@
 --     RefusesOpen m at e      an operand that isn't above the barrier is refused, where there is no operator
 --     refuses_folds      what the source refuses, and such an operand
 --     NoneOpen barrier rows      none of the rows is such an operand
---     operable_taken barrier rest      without an operator none of the rows of such a state is such an operand
---     hands_out takes barrier      without an operator no such operand is handed out
+--     operable_taken barrier rest      without an operator none of the rows of such a state is
+--     hands_out takes barrier      without an operator nothing is folded: the answer is the row that was read ahead, or the source
+--                                  gave it, and it's no such operand
 --     MeetsOpen takes barrier ahead reads before after      such an operand comes next: it was read ahead, or the source gave it
 --     BlamesOpen e own meets      a missing operator is the source's refusal, or such an operand comes next
 use Rattle.std.specs.Prelude.{◌≡◌, ◌⊎◌, ℕ, Bool, true, false, List, ◌++◌, Option, Some, None, IfSome}
@@ -56,8 +57,8 @@ module _ {S : Type 0} where
   abbrev pub operable_taken : Option ℕ → (S → World → List RowEntry) → Taken S → World → Type 0
   operable_taken barrier rest x w = w.meaning.combine ≡ None → NoneOpen barrier (rest_taken rest x w)
 
-  abbrev pub hands_out : Option ℕ → Taken S → Meaning → List Act → Option RowEntry → Taken S → Type 0
-  hands_out barrier x m reads answer y = m.combine ≡ None → IfSome answer (λ row. is_open barrier row ≡ false)
+  abbrev pub hands_out : (S → Meaning → List Act → Option RowEntry → S → Type 0) → Option ℕ → Taken S → Meaning → List Act → Option RowEntry → Taken S → Type 0
+  hands_out takes barrier x m reads answer y = m.combine ≡ None → IfSome answer (λ row. is_open barrier row ≡ false) × takes_ahead takes x m reads answer y
 
   abbrev pub MeetsOpen : (S → List Act → Option RowEntry → S → Type 0) → Option ℕ → Option RowEntry → List Act → S → S → Type 0
   MeetsOpen takes barrier ahead reads before after = (row : RowEntry) × (is_open barrier row ≡ true) × TakesAhead takes ahead reads (Some row) before after

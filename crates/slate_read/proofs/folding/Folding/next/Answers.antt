@@ -28,12 +28,12 @@ returns-in-Ok-fold_group-clause-step g c =
     let reach = g.E.Outside.reach in
     let first = first_moves rest sound refuses order _ _ _ c.args.iterator.now c.take_ahead.new.iterator c.args.ahead.now c.in-Ok-Some.first t.order t.step in
     let gathered = moves_both _ _ _ _ _ _ _ _ _ first n.moved in
-    folded_step rest sound refuses order different barrier (reach c.args.env.now) (reach c.fold_group.new.env) (c.args.iterator.now, c.args.ahead.now, []) c.gather.new.iterator c.gather.new.ahead group.newer.items group.oldest c.in-Ok-fold_group.row
+    folded_step rest sound refuses order g.I.RowEntryIterator.takes different barrier (reach c.args.env.now) (reach c.fold_group.new.env) (c.args.iterator.now, c.args.ahead.now, []) c.gather.new.iterator c.gather.new.ahead group.newer.items group.oldest c.in-Ok-fold_group.row
     (moves_both _ _ _ _ _ _ _ _ _ gathered (call_moves _ _ _ (reach c.gather.new.env) (reach c.fold_group.new.env) _ f.call)) n.linked
     (gathered_ends (sound_taken rest sound order) (sound_taken rest sound order) (λ w. begins_linked (links different barrier) group.oldest (with_ahead c.gather.new.ahead (rest c.gather.new.iterator w)) ≡ false)
     (reach c.args.env.now) (reach c.take_ahead.new.env) (reach c.gather.new.env) (reach c.fold_group.new.env) (c.args.iterator.now, c.args.ahead.now, []) (c.take_ahead.new.iterator, None, c.in-Ok-Some.first ∷ []) _ _ first.made.1 n.moved.made.1 f.call first.still n.ends)
     (subst (λ (p : Meaning). fold_rows (operator_at p.combine group.oldest.key) (group.oldest ∷ reverse group.newer.items) ≡ Some c.in-Ok-fold_group.row) gathered.made.1.meaning (f.value (linked_operands different barrier group.newer.items group.oldest n.linked)))
-    (some_operator (reach c.args.env.now) (reach c.take_ahead.new.env) c.has_operator.result first.made.1.meaning c.has_operator.ensures c.if-not-has_operator.false)
+    (λ reads. some_operator (reach c.args.env.now) (reach c.take_ahead.new.env) c.has_operator.result first.made.1.meaning c.has_operator.ensures c.if-not-has_operator.false)
 
 pub returns-in-Ok-fold_group-clause-reads : goal.returns-in-Ok-fold_group-clause-reads
 returns-in-Ok-fold_group-clause-reads g c =
@@ -115,3 +115,20 @@ returns-in-Err-gather-clause-own g c = λ w sees h op.
     let first = first_moves g.I.RowEntryIterator.rest g.I.RowEntryIterator.sound g.I.RowEntryIterator.refuses g.I.RowEntryIterator.order _ _ _ c.args.iterator.now c.take_ahead.new.iterator c.args.ahead.now c.in-Ok-Some.first t.order t.step in
     let reach = g.E.Outside.reach in
     own_of g.I.RowEntryIterator.rest g.I.RowEntryIterator.sound g.I.RowEntryIterator.refuses g.I.RowEntryIterator.order (reach c.args.env.now) (reach c.gather.new.env) c.args.iterator.now c.in-Err-gather.error (moves_fails _ _ _ (reach c.args.env.now) (reach c.take_ahead.new.env) (reach c.gather.new.env) _ _ None c.in-Err-gather.error first t.reads.later c.in-Err-gather.ensures.cause)
+
+pub returns-in-Ok-None-clause-sources : goal.returns-in-Ok-None-clause-sources
+returns-in-Ok-None-clause-sources g c =
+    let t = rw c.in-Ok-None.field-0-is at c.in-Ok-None.ensures in
+    (t.step.taken.0, t.step.taken.1, t.step.taken.2.1)
+
+pub returns-then-not-is_open-clause-sources : goal.returns-then-not-is_open-clause-sources
+returns-then-not-is_open-clause-sources g c =
+    let t = rw c.in-Ok-Some.field-0-is at c.in-Ok-Some.ensures in
+    (t.step.taken.0, t.step.taken.1, t.step.taken.2.1)
+
+pub returns-in-Ok-fold_group-clause-sources : goal.returns-in-Ok-fold_group-clause-sources
+returns-in-Ok-fold_group-clause-sources g c =
+    let t = rw c.in-Ok-Some.field-0-is at c.in-Ok-Some.ensures in
+    let reach = g.E.Outside.reach in
+    let first = first_moves g.I.RowEntryIterator.rest g.I.RowEntryIterator.sound g.I.RowEntryIterator.refuses g.I.RowEntryIterator.order _ _ _ c.args.iterator.now c.take_ahead.new.iterator c.args.ahead.now c.in-Ok-Some.first t.order t.step in
+    (moves_both _ _ _ _ _ _ _ _ _ (moves_both _ _ _ _ _ _ _ _ _ first c.in-Ok.ensures.moved) (call_moves _ _ _ (reach c.gather.new.env) (reach c.fold_group.new.env) _ c.in-Ok-fold_group.ensures.call)).made

@@ -16,6 +16,7 @@ returns-in-Some g c = record {
   reads = reads_none _;
   own = λ w sees going h op. some_going c.args.self.now c.in-Some.refusal c.in-Some.is going;
   operable = λ w sees h op. tt;
+  sources = tt;
 }
 
 pub returns-then-not-self : goal.returns-then-not-self
@@ -31,6 +32,7 @@ returns-then-not-self g c = record {
   reads = reads_none _;
   own = λ w sees going h op. by_begun c.if-not-self.true going.0;
   operable = λ w sees h op. tt;
+  sources = tt;
 }
 
 pub returns-in-Ok : goal.returns-in-Ok
@@ -52,6 +54,7 @@ returns-in-Ok g c =
       reads = n.reads;
       own = λ w sees going h op. tt;
       operable = λ w sees h op. n.operable w sees (sound_of it.refusal _ none h) op;
+      sources = n.sources;
     }
 
 pub returns-in-Err : goal.returns-in-Err
@@ -72,4 +75,5 @@ returns-in-Err g c =
       reads = n.reads;
       own = λ w sees going h op. rw r.same (n.own w sees (sound_of it.refusal _ c.in_default.is h) op);
       operable = λ w sees h op. tt;
+      sources = tt;
     }

@@ -22,6 +22,7 @@ returns-in-Some g c = record {
   order = refl;
   reads = reads_none _;
   operable = λ w sees h op. tt;
+  sources = tt;
 }
 
 pub returns-in-Ok : goal.returns-in-Ok
@@ -41,6 +42,7 @@ returns-in-Ok g c =
       order = n.order;
       reads = n.reads;
       operable = λ w sees h op plain. subst (λ (l : List RowEntry). NoneOpen it.folding.snapshot_barrier_seq (with_ahead it.ahead l)) (sym (n.rows w sees (sound_of it.refusal _ none h).0)) (op plain);
+      sources = (n.begun.0, n.begun.1, n.begun.2.1);
     }
 
 pub returns-in-Err : goal.returns-in-Err
@@ -61,4 +63,5 @@ returns-in-Err g c =
       order = ap g.I.RowEntryIterator.order r.iterator ∙ n.order;
       reads = n.reads;
       operable = λ w sees h op. tt;
+      sources = tt;
     }

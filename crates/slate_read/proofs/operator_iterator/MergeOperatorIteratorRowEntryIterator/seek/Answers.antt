@@ -24,6 +24,7 @@ returns-in-Some g c = record {
   order = refl;
   reads = reads_none _;
   operable = λ w sees h op. tt;
+  sources = tt;
 }
 
 pub returns-then-not-self : goal.returns-then-not-self
@@ -37,6 +38,7 @@ returns-then-not-self g c = record {
   order = refl;
   reads = reads_none _;
   operable = λ w sees h op. tt;
+  sources = tt;
 }
 
 pub returns-then-is_ahead_kept : goal.returns-then-is_ahead_kept
@@ -56,6 +58,7 @@ returns-then-is_ahead_kept g c =
       order = refl;
       reads = reads_none _;
       operable = λ w sees h op. op;
+      sources = ([], call_none _, λ later at e h. h);
     }
 
 pub returns-in-Ok : goal.returns-in-Ok
@@ -84,6 +87,7 @@ returns-in-Ok g c =
           subst (λ (o : Option RowEntry). NoneOpen barrier (with_ahead o (g.I.RowEntryIterator.rest c.seek.new.self w))) (sym after)
           (subst (NoneOpen barrier) (sym (n.rows w sees (sound_of it.refusal _ none h).0 ∙ sought_rows order c.args.key.now it.ahead (g.I.RowEntryIterator.rest it.iterator w) gone))
           (none_open_dropped barrier order c.args.key.now (with_ahead it.ahead (g.I.RowEntryIterator.rest it.iterator w)) (op plain))));
+      sources = (n.sought.0, n.sought.1, n.sought.2.1);
     }
 
 pub returns-in-Err : goal.returns-in-Err
@@ -102,4 +106,5 @@ returns-in-Err g c =
       order = ap g.I.RowEntryIterator.order r.iterator ∙ n.order;
       reads = n.reads;
       operable = λ w sees h op. tt;
+      sources = tt;
     }
