@@ -134,27 +134,27 @@ module _ {S : Type 0} (rest : S → World → List RowEntry) (sound : S → Worl
   folds_less m x y reads less later at e (inl h) = inl (less later at e h)
   folds_less m x y reads less later at e (inr h) = inr h
 
-  pub folded_none : (takes : Taken S → Meaning → List Act → Option RowEntry → Taken S → Type 0) (different : Bool) (barrier : Option ℕ) (a b : Reach) (x y : Taken S) → Step (rest_taken rest) (sound_taken rest sound order_of) (refuses_taken refuses) takes a b x None y →
-      Step (rest_folds different barrier rest) (sound_taken rest sound order_of) (refuses_folds refuses) (hands_out barrier) a b x None y
+  pub folded_none : (takes : S → Meaning → List Act → Option RowEntry → S → Type 0) (different : Bool) (barrier : Option ℕ) (a b : Reach) (x y : Taken S) → Step (rest_taken rest) (sound_taken rest sound order_of) (refuses_taken refuses) (takes_ahead takes) a b x None y →
+      Step (rest_folds different barrier rest) (sound_taken rest sound order_of) (refuses_folds refuses) (hands_out takes barrier) a b x None y
   folded_none takes different barrier a b x y s = record {
     rows = λ w sees h. (ap (folded (operator_at w.meaning.combine) different barrier) (s.rows w sees h).0, ap (folded (operator_at w.meaning.combine) different barrier) (s.rows w sees h).1);
     still = s.still;
     checked = s.checked;
-    taken = (s.taken.0, s.taken.1, (λ none. tt, folds_less a.meaning x y s.taken.0 s.taken.2.1));
+    taken = (s.taken.0, s.taken.1, (λ none. (tt, s.taken.2.0), folds_less a.meaning x y s.taken.0 s.taken.2.1));
   }
 
-  pub folded_step : (different : Bool) (barrier : Option ℕ) (a b : Reach) (x : Taken S) (y : S) (ahead : Option RowEntry) (newer : List RowEntry) (oldest row : RowEntry) →
+  pub folded_step : (takes : S → Meaning → List Act → Option RowEntry → S → Type 0) (different : Bool) (barrier : Option ℕ) (a b : Reach) (x : Taken S) (y : S) (ahead : Option RowEntry) (newer : List RowEntry) (oldest row : RowEntry) →
       Moves (rest_taken rest) (sound_taken rest sound order_of) (refuses_taken refuses) a b x (y, ahead, newer ++ (oldest ∷ [])) → AreLinked (links different barrier) newer oldest →
       ((w : World) → Sees w a b → sound_taken rest sound order_of x w → begins_linked (links different barrier) oldest (with_ahead ahead (rest y w)) ≡ false) →
-      fold_rows (operator_at a.meaning.combine oldest.key) (oldest ∷ reverse newer) ≡ Some row → (a.meaning.combine ≡ None → is_open barrier row ≡ false) →
-      Step (rest_folds different barrier rest) (sound_taken rest sound order_of) (refuses_folds refuses) (hands_out barrier) a b x (Some row) (y, ahead, [])
-  folded_step different barrier a b x y ahead newer oldest row m linked ends fold plain = record {
+      fold_rows (operator_at a.meaning.combine oldest.key) (oldest ∷ reverse newer) ≡ Some row → ((reads : List Act) → hands_out takes barrier x a.meaning reads (Some row) (y, ahead, [])) →
+      Step (rest_folds different barrier rest) (sound_taken rest sound order_of) (refuses_folds refuses) (hands_out takes barrier) a b x (Some row) (y, ahead, [])
+  folded_step takes different barrier a b x y ahead newer oldest row m linked ends fold plain = record {
     rows = λ w sees h. ap (folded (operator_at w.meaning.combine) different barrier) (sym (m.rows w sees h))
         ∙ folded_gathered (operator_at w.meaning.combine) different barrier newer oldest row (with_ahead ahead (rest y w)) linked (ends w sees h)
         (subst (λ (p : Meaning). fold_rows (operator_at p.combine oldest.key) (oldest ∷ reverse newer) ≡ Some row) (sym sees.meaning) fold);
     still = λ w sees h. ((m.still w sees h).0, in_order_behind (order_of y) (newer ++ (oldest ∷ [])) (with_ahead ahead (rest y w)) (m.still w sees h).1);
     checked = m.checked;
-    taken = (m.made.0, m.made.1, (plain, folds_less a.meaning x (y, ahead, []) m.made.0 m.made.2));
+    taken = (m.made.0, m.made.1, (plain m.made.0, folds_less a.meaning x (y, ahead, []) m.made.0 m.made.2));
   }
 
 -- what stands behind the rows that were gathered, in a call that took the first row before

@@ -37,6 +37,7 @@ pub mod RunCalls
 pub mod RunRows
 pub mod FoldGroups
 pub mod FoldSteps
+pub mod Operables
 pub mod FoldedKeys
 pub mod FoldedTurns
 pub mod Operators

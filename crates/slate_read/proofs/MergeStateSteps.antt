@@ -24,8 +24,8 @@ use Rattle.slate_read.specs.Kept.{Copies, IsKept}
 use Rattle.slate_read.specs.Merge.{shown_rows}
 use Rattle.slate_read.specs.MergeLaws.{fresh_merge}
 use Rattle.slate_read.specs.Merging.{AnyByRecursion, AreReady, IsMergingIn, begun_sources, blames, either_refusal, left_in, waiting_sources}
-use Rattle.slate_read.specs.MergeSteps.{takes_front}
-use Rattle.slate_read.specs.MergeStates.{IsUnrefused, CopiedIn, HasBegun, IsFrontIn, IsSoundIn, IsWaiting, Keeps, Stays, bound_in, heads_in, waiting_in, refuses_in, rest_in}
+use Rattle.slate_read.specs.MergeSteps.{TakesMerged, takes_front}
+use Rattle.slate_read.specs.MergeStates.{IsUnrefused, CopiedIn, HasBegun, IsFrontIn, IsSoundIn, IsWaiting, Keeps, Stays, bound_in, heads_in, left_of, waiting_in, refuses_in, rest_in}
 use Rattle.slate_read.specs.MergeStateLaws.{refuses_whole}
 use Rattle.slate_read.proofs.DecidedLaws.{shown_dropped}
 
@@ -70,6 +70,17 @@ module _ {S : Type 0} (rest : S → World → List RowEntry) (sound : S → Worl
   state_step o dedup a b x (Begun h) (Refused q) answer is p never s = absurd never
   state_step o dedup a b x (New q) y answer is never p s = absurd never
   state_step o dedup a b x (Refused q) y answer is never p s = absurd never
+
+  -- and takes what it took
+  pub state_takes : (o : IterationOrder) (dedup : Bool) (a b : Reach) (x z y : MergeState S) (n m : ℕ) → x ≡ z → HasBegun z → HasBegun y
+      → ((w : World) → Sees w a b → IsMergingIn rest sound order_of o (begun_sources (heads_in z)) w → TakesMerged dedup (left_in rest o (begun_sources (heads_in z)) w) (left_in rest o (begun_sources (heads_in y)) w) n m)
+      → (w : World) → Sees w a b → sound_in o x w → TakesMerged dedup (left_of rest o x w) (left_of rest o y w) n m
+  state_takes o dedup a b x (Begun h) (Begun k) n m is p q t w sees s =
+      subst (λ (u : MergeState S). TakesMerged dedup (left_of rest o u w) (left_of rest o (Begun k) w) n m) (sym is) (t w sees (subst (λ (u : MergeState S). sound_in o u w) is s))
+  state_takes o dedup a b x (Begun h) (New q) n m is p never t w sees s = absurd never
+  state_takes o dedup a b x (Begun h) (Refused q) n m is p never t w sees s = absurd never
+  state_takes o dedup a b x (New q) y n m is never p t w sees s = absurd never
+  state_takes o dedup a b x (Refused q) y n m is never p t w sees s = absurd never
 
   pub record SoughtIn (o : IterationOrder) (dedup : Bool) (key : List ℕ) (a b : Reach) (x y : MergeState S) : Type 0 where
     pub rows : (w : World) → Sees w a b → sound_in o x w → rest_in rest o dedup y w ≡ drop_before o key (rest_in rest o dedup x w)

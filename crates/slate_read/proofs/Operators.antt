@@ -16,7 +16,7 @@ use Rattle.slate_read.specs.declared.operator_iterator.MergeOperatorIterator.{Me
 use Rattle.slate_read.specs.Folding.{folded}
 use Rattle.slate_read.specs.Folds.{BlamesOpen, MeetsOpen, RefusesOpen, refuses_folds}
 use Rattle.slate_read.specs.Kept.{Copies}
-use Rattle.slate_read.specs.OperatorIterators.{IsFolding, Keeps, KeepsIn, RefusesBy, SoundUnless, Stays, StaysIn, bound_unless, refuses_folding, rest_folding, rows_unless, sound_folding}
+use Rattle.slate_read.specs.OperatorIterators.{IsFolding, IsGoing, Keeps, KeepsIn, RefusesBy, SoundUnless, Stays, StaysIn, bound_unless, refuses_folding, rest_folding, rows_unless, sound_folding}
 use Rattle.slate_read.specs.OperatorLaws.{folding_whole}
 use Rattle.slate_read.specs.Peeking.{with_ahead}
 
@@ -36,6 +36,9 @@ no_reads = []
 
 pub by_begun : {A : Type 0} {b : Bool} → b ≡ false → b ≡ true → A
 by_begun new begun = let never : true ≡ false = sym begun ∙ new in cc
+
+pub some_going : {A S : Type 0} (it : MergeOperatorIterator S) (kept : SlateDBError) → it.refusal ≡ Some kept → IsGoing it → A
+some_going it kept is going = let never : Some kept ≡ None = sym is ∙ going.1 in cc
 
 -- ---- by the refusal that is kept, or none
 

@@ -4,10 +4,14 @@
 --     rest_folds different barrier      the rows of such a state, of which operands are folded
 --     RefusesOpen m at e      an operand that isn't above the barrier is refused, where there is no operator
 --     refuses_folds      what the source refuses, and such an operand
---     hands_out barrier      without an operator no such operand is handed out
+--     NoneOpen barrier rows      none of the rows is such an operand
+--     operable_taken barrier rest      without an operator none of the rows of such a state is
+--     hands_out takes barrier      without an operator nothing is folded: the answer is the row that was read ahead, or the source
+--                                  gave it, and it's no such operand
 --     MeetsOpen takes barrier ahead reads before after      such an operand comes next: it was read ahead, or the source gave it
 --     BlamesOpen e own meets      a missing operator is the source's refusal, or such an operand comes next
 use Rattle.std.specs.Prelude.{◌≡◌, ◌⊎◌, ℕ, Bool, true, false, List, ◌++◌, Option, Some, None, IfSome}
+use Rattle.std.specs.List.{AllByRecursion}
 use Rattle.slate_types.specs.declared.error.SlateDBError.{SlateDBError}
 use Rattle.slate_types.specs.declared.error.SlateDBError.TheVariants.{MergeOperatorMissing}
 use Rattle.slate_types.specs.declared.iter.IterationOrder.{IterationOrder}
@@ -28,6 +32,9 @@ RefusesOpen m at e = (at ≡ None) × (e ≡ MergeOperatorMissing) × (m.combine
 abbrev pub BlamesOpen : SlateDBError → Type 0 → Type 0 → Type 0
 BlamesOpen e own meets = e ≡ MergeOperatorMissing → own ⊎ meets
 
+abbrev pub NoneOpen : Option ℕ → List RowEntry → Type 0
+NoneOpen barrier rows = AllByRecursion (λ r. is_open barrier r ≡ false) rows
+
 module _ {S : Type 0} where
   abbrev pub rest_taken : (S → World → List RowEntry) → Taken S → World → List RowEntry
   rest_taken rest x w = x.2 ++ with_ahead x.1 (rest x.0 w)
@@ -47,8 +54,11 @@ module _ {S : Type 0} where
   abbrev pub refuses_folds : (S → Meaning → List Act → Option (List ℕ) → SlateDBError → Type 0) → Taken S → Meaning → List Act → Option (List ℕ) → SlateDBError → Type 0
   refuses_folds refuses x m reads at e = refuses x.0 m reads at e ⊎ RefusesOpen m at e
 
-  abbrev pub hands_out : Option ℕ → Taken S → Meaning → List Act → Option RowEntry → Taken S → Type 0
-  hands_out barrier x m reads answer y = m.combine ≡ None → IfSome answer (λ row. is_open barrier row ≡ false)
+  abbrev pub operable_taken : Option ℕ → (S → World → List RowEntry) → Taken S → World → Type 0
+  operable_taken barrier rest x w = w.meaning.combine ≡ None → NoneOpen barrier (rest_taken rest x w)
+
+  abbrev pub hands_out : (S → Meaning → List Act → Option RowEntry → S → Type 0) → Option ℕ → Taken S → Meaning → List Act → Option RowEntry → Taken S → Type 0
+  hands_out takes barrier x m reads answer y = m.combine ≡ None → IfSome answer (λ row. is_open barrier row ≡ false) × takes_ahead takes x m reads answer y
 
   abbrev pub MeetsOpen : (S → List Act → Option RowEntry → S → Type 0) → Option ℕ → Option RowEntry → List Act → S → S → Type 0
   MeetsOpen takes barrier ahead reads before after = (row : RowEntry) × (is_open barrier row ≡ true) × TakesAhead takes ahead reads (Some row) before after

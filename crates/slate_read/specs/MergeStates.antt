@@ -1,9 +1,13 @@
 -- Where a merge stands.
 --     rest_in, IsSoundIn, bound_in, refuses_in      its rest, whether that is sound, its bound, and what it refuses
 --     rest_of_merge, IsSoundMerge      the same of the iterator
+--     left_of_merge rest it w      all rows that are left, by key, falling sequence and place, also those that dedup drops
 --     IsWaiting s, HasBegun s      no source has begun; all have
 --     IsFrontIn answer s      it has begun, and the answer is the row of its first head, or it has none
 --     CopiedIn e s      it was refused, and keeps a copy of that
+--     Takes before answer after      the answer is the row of the first head, and it was counted, with rows of its key where it decides them
+--     TakesLeft rest w before after      a step took the first row that was left, and with dedup the rows that it decides, which
+--                                        alone are dropped, and counted the bytes of all these rows
 --     Keeps e s      it keeps the refusal e, or want of memory in its place
 --     Stays before at e after      how it stands after it refused
 --     IsSameMerge before after      a merge by the same order and dedup
@@ -24,6 +28,7 @@ use Rattle.slate_read.specs.declared.merge_iterator.MergeState.{MergeState}
 use Rattle.slate_read.specs.declared.merge_iterator.MergeState.TheVariants.{New, Begun, Refused}
 use Rattle.slate_read.specs.Kept.{Copies, IsKept}
 use Rattle.slate_read.specs.Merge.{shown_rows}
+use Rattle.slate_read.specs.MergeSteps.{CountsTaken, TakesMerged}
 use Rattle.slate_read.specs.Merging.{CanMerge, IsFront, IsMergingIn, begun_sources, blames, left_in, merging_bound, waiting_sources}
 
 module _ {S : Type 0} where
@@ -46,6 +51,14 @@ module _ {S : Type 0} where
   refuses_in refuses (New sources) m reads at e = (e ≡ IteratorNotInitialized) ⊎ blames refuses (waiting_sources sources.items) m reads at e
   refuses_in refuses (Begun heads) m reads at e = blames refuses (begun_sources (heap_items heads)) m reads at e
   refuses_in refuses (Refused k) m reads at e = IsKept k e
+
+  abbrev pub left_of : (S → World → List RowEntry) → IterationOrder → MergeState S → World → List RowEntry
+  left_of rest order (New sources) w = left_in rest order (waiting_sources sources.items) w
+  left_of rest order (Begun heads) w = left_in rest order (begun_sources (heap_items heads)) w
+  left_of rest order (Refused e) w = []
+
+  abbrev pub left_of_merge : (S → World → List RowEntry) → MergeIterator S → World → List RowEntry
+  left_of_merge rest it w = left_of rest it.order it.state w
 
   abbrev pub rest_of_merge : (S → World → List RowEntry) → MergeIterator S → World → List RowEntry
   rest_of_merge rest it w = rest_in rest it.order it.dedup it.state w
@@ -94,6 +107,12 @@ module _ {S : Type 0} where
   pub record IsSameMerge (before after : MergeIterator S) : Type 0 where
     pub order : after.order ≡ before.order
     pub dedup : after.dedup ≡ before.dedup
+
+  abbrev pub Takes : MergeIterator S → Option RowEntry → MergeIterator S → Type 0
+  Takes before answer after = IsFrontIn answer before.state × HasBegun after.state × IsSameMerge before after × CountsTaken before.dedup before.processed answer after.processed
+
+  abbrev pub TakesLeft : (S → World → List RowEntry) → World → MergeIterator S → MergeIterator S → Type 0
+  TakesLeft rest w before after = TakesMerged before.dedup (left_of_merge rest before w) (left_of_merge rest after w) before.processed after.processed
 
   abbrev pub WaitingAre : List S → MergeState S → Type 0
   WaitingAre sources (New waiting) = waiting.items ≡ sources

@@ -4,7 +4,10 @@
 --     rest_folding, sound_folding, bound_folding, refuses_folding      what it is by what its source is
 --     IsFolding iterator folding it      it has the rows of the iterator, and nothing was asked
 --     IsGoing it      it has begun, and wasn't refused
---     Begins, Takes, Seeks      it began, took a row, and sought a key
+--     IsOperable rest it w      without an operator no row that the source has left, and no row that was read ahead, is an operand
+--                               that isn't above the barrier
+--     IsOwn refuses before after source e      the refusal is a fault, or the source's own
+--     Begins, Takes, Seeks      it began, took a row, and sought a key; without an operator the row is one of its source, and isn't folded
 --     Keeps e it      it keeps the refusal e, or want of memory for a copy
 --     Stays before m reads at e after      it refuses, and keeps that; or it stands as it stood
 --     KeepsRefusals refuses takes begins seeks      behind a refusal each call answers it again, or want of memory for a copy
@@ -13,12 +16,12 @@ use Rattle.slate_types.specs.declared.error.SlateDBError.{SlateDBError}
 use Rattle.slate_types.specs.declared.error.SlateDBError.TheVariants.{IteratorNotInitialized, OutOfMemory}
 use Rattle.slate_types.specs.declared.iter.IterationOrder.{IterationOrder}
 use Rattle.slate_types.specs.declared.types.RowEntry.{RowEntry}
-use Rattle.slate_types.specs.Outside.{Act, Meaning}
+use Rattle.slate_types.specs.Outside.{Act, IsFault, Meaning, Reach}
 use Rattle.slate_types.specs.Refusing.{IsDamage}
-use Rattle.slate_types.specs.World.{World}
+use Rattle.slate_types.specs.World.{World, Made}
 use Rattle.slate_read.specs.declared.folding.Folding.{Folding}
 use Rattle.slate_read.specs.declared.operator_iterator.MergeOperatorIterator.{MergeOperatorIterator}
-use Rattle.slate_read.specs.Folds.{BlamesOpen, MeetsOpen, hands_out, refuses_folds, rest_folds, sound_taken}
+use Rattle.slate_read.specs.Folds.{BlamesOpen, MeetsOpen, hands_out, operable_taken, refuses_folds, rest_folds, sound_taken}
 use Rattle.slate_read.specs.Kept.{Copies}
 use Rattle.slate_read.specs.Peeking.{ahead_bound}
 
@@ -70,11 +73,17 @@ module _ {S : Type 0} where
   abbrev pub IsGoing : MergeOperatorIterator S → Type 0
   IsGoing it = (it.begun ≡ true) × (it.refusal ≡ None)
 
+  abbrev pub IsOperable : (S → World → List RowEntry) → MergeOperatorIterator S → World → Type 0
+  IsOperable rest it w = operable_taken it.folding.snapshot_barrier_seq rest (it.iterator, it.ahead, []) w
+
+  abbrev pub IsOwn : (S → Meaning → List Act → Option (List ℕ) → SlateDBError → Type 0) → Reach → Reach → S → SlateDBError → Type 0
+  IsOwn refuses before after source e = IsFault before after e ⊎ Made before after (λ reads. refuses source before.meaning reads None e)
+
   abbrev pub Begins : (S → Meaning → List Act → S → Type 0) → MergeOperatorIterator S → Meaning → List Act → MergeOperatorIterator S → Type 0
   Begins begins before m reads after = (before.refusal ≡ None) × IsGoing after × (after.folding ≡ before.folding) × (after.ahead ≡ before.ahead) × begins before.iterator m reads after.iterator
 
-  abbrev pub Takes : MergeOperatorIterator S → Meaning → List Act → Option RowEntry → MergeOperatorIterator S → Type 0
-  Takes before m reads answer after = IsGoing before × IsGoing after × (after.folding ≡ before.folding) × hands_out {S = S} before.folding.snapshot_barrier_seq (before.iterator, before.ahead, []) m reads answer (after.iterator, after.ahead, [])
+  abbrev pub Takes : (S → Meaning → List Act → Option RowEntry → S → Type 0) → MergeOperatorIterator S → Meaning → List Act → Option RowEntry → MergeOperatorIterator S → Type 0
+  Takes takes before m reads answer after = IsGoing before × IsGoing after × (after.folding ≡ before.folding) × hands_out takes before.folding.snapshot_barrier_seq (before.iterator, before.ahead, []) m reads answer (after.iterator, after.ahead, [])
 
   abbrev pub Seeks : (S → Meaning → List Act → List ℕ → S → Type 0) → MergeOperatorIterator S → Meaning → List Act → List ℕ → MergeOperatorIterator S → Type 0
   Seeks seeks before m reads key after = IsGoing before × IsGoing after × (after.folding ≡ before.folding) × (((reads ≡ []) × (after ≡ before)) ⊎ ((after.ahead ≡ None) × seeks before.iterator m reads key after.iterator))
@@ -91,5 +100,5 @@ module _ {S : Type 0} where
     pub kept : (x y : MergeOperatorIterator S) (m : Meaning) (reads : List Act) (at : Option (List ℕ)) (e : SlateDBError) → e ≢ IteratorNotInitialized → e ≢ OutOfMemory → Stays refuses takes x m reads at e y → Keeps e y
     pub again : (x y : MergeOperatorIterator S) (m : Meaning) (reads : List Act) (at : Option (List ℕ)) (e d : SlateDBError) → Keeps e x → Stays refuses takes x m reads at d y → Copies e d × Keeps e y
     pub no_begin : (x y : MergeOperatorIterator S) (m : Meaning) (reads : List Act) (e : SlateDBError) → Keeps e x → ¬ Begins begins x m reads y
-    pub no_row : (x y : MergeOperatorIterator S) (m : Meaning) (reads : List Act) (answer : Option RowEntry) (e : SlateDBError) → Keeps e x → ¬ Takes x m reads answer y
+    pub no_row : (x y : MergeOperatorIterator S) (m : Meaning) (reads : List Act) (answer : Option RowEntry) (e : SlateDBError) → Keeps e x → ¬ Takes takes x m reads answer y
     pub no_seek : (x y : MergeOperatorIterator S) (m : Meaning) (reads : List Act) (key : List ℕ) (e : SlateDBError) → Keeps e x → ¬ Seeks seeks x m reads key y

@@ -3,11 +3,13 @@ ghost use Rattle.std.specs.Prelude.{◌≡◌, ◌⊎◌, ◌<◌, ◌≤◌, �
 ghost use Rattle.slate_types.specs.declared.error.SlateDBError.{SlateDBError};
 ghost use Rattle.slate_types.specs.Equality as equality;
 ghost use Rattle.slate_types.specs.Outside.{IsFault, OnlyReads};
+ghost use Rattle.slate_types.specs.Refusing.{NoMore};
 ghost use Rattle.slate_types.specs.Steps.{Step};
 ghost use Rattle.slate_types.specs.World.{World, Made, Sees};
 ghost use Rattle.slate_types.proofs.Moves.{Moves};
 ghost use Rattle.slate_read.specs.Folding.{AreLinked, begins_linked, follows, is_open, links};
-ghost use Rattle.slate_read.specs.Folds.{BlamesOpen, MeetsOpen, RefusesOpen, hands_out, refuses_folds, refuses_taken, rest_folds, rest_taken, sound_taken, takes_ahead};
+ghost use Rattle.slate_read.specs.Folds.{BlamesOpen, MeetsOpen, RefusesOpen, hands_out, operable_taken, refuses_folds, refuses_taken, rest_folds, rest_taken, sound_taken, takes_ahead};
+ghost use Rattle.slate_read.specs.OperatorIterators.{IsOwn};
 ghost use Rattle.slate_read.specs.Peeking.{ahead_bound, with_ahead};
 
 use crate::fold_group::{Group, fold_group};
@@ -126,8 +128,11 @@ impl Folding {
         ahead: &mut Option<RowEntry>,
         env: &mut E,
     ) -> Result<Option<RowEntry>, SlateDBError>
-        ensures step { IfOk result (λ answer. Step (rest_folds self.merge_different_expire_ts self.snapshot_barrier_seq I.rest) (sound_taken I.rest I.sound I.order) (refuses_folds I.refuses) (hands_out self.snapshot_barrier_seq) (E.reach env.old) (E.reach env.new) (iterator.old, ahead.old, []) answer (iterator.new, ahead.new, [])) }
+        ensures step { IfOk result (λ answer. Step (rest_folds self.merge_different_expire_ts self.snapshot_barrier_seq I.rest) (sound_taken I.rest I.sound I.order) (refuses_folds I.refuses) (hands_out I.takes self.snapshot_barrier_seq) (E.reach env.old) (E.reach env.new) (iterator.old, ahead.old, []) answer (iterator.new, ahead.new, [])) }
         ensures cause { IfErr result (λ e. Made (E.reach env.old) (E.reach env.new) (λ reads. (IsFault (E.reach env.old) (E.reach env.new) e ⊎ (I.refuses iterator.old (E.reach env.old).meaning reads None e ⊎ RefusesOpen (E.reach env.old).meaning None e)) × BlamesOpen e (I.refuses iterator.old (E.reach env.old).meaning reads None e) (MeetsOpen (λ u rs a v. I.takes u (E.reach env.old).meaning rs a v) self.snapshot_barrier_seq ahead.old reads iterator.old iterator.new))) }
+        ensures own { (w : World) → Sees w (E.reach env.old) (E.reach env.new) → sound_taken I.rest I.sound I.order (iterator.old, ahead.old, []) w → operable_taken self.snapshot_barrier_seq I.rest (iterator.old, ahead.old, []) w → IfErr result (λ e. IsOwn I.refuses (E.reach env.old) (E.reach env.new) iterator.old e) }
+        ensures operable { (w : World) → Sees w (E.reach env.old) (E.reach env.new) → sound_taken I.rest I.sound I.order (iterator.old, ahead.old, []) w → operable_taken self.snapshot_barrier_seq I.rest (iterator.old, ahead.old, []) w → OnOk result (operable_taken self.snapshot_barrier_seq I.rest (iterator.new, ahead.new, []) w) }
+        ensures sources { OnOk result (Made (E.reach env.old) (E.reach env.new) (λ reads. NoMore (I.refuses iterator.old (E.reach env.old).meaning) reads (I.refuses iterator.new (E.reach env.old).meaning))) }
         ensures smaller { IfOk result (λ answer. IsSome answer → ahead_bound ahead.new + I.bound iterator.new < ahead_bound ahead.old + I.bound iterator.old) }
         ensures no_larger { OnOk result (ahead_bound ahead.new + I.bound iterator.new ≤ ahead_bound ahead.old + I.bound iterator.old) }
         ensures order { I.order iterator.new ≡ I.order iterator.old }

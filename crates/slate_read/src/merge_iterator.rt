@@ -1,15 +1,16 @@
 //! Many iterators as one.
-ghost use Rattle.std.specs.Prelude.{◌≡◌, ◌⊎◌, ◌≤◌, Bool, List, true, None, IfOk, IfErr};
+ghost use Rattle.std.specs.Prelude.{◌≡◌, ◌⊎◌, ◌<◌, ◌≤◌, Bool, List, true, None, IfOk, IfErr, IsSome, OnOk};
 ghost use Rattle.std.specs.BinaryHeap.{heap_items};
 ghost use Rattle.slate_types.specs.declared.error.SlateDBError.{SlateDBError};
 ghost use Rattle.slate_types.specs.declared.iter.IterationOrder.{IterationOrder};
+ghost use Rattle.slate_types.specs.Iteration.{TakesRow};
 ghost use Rattle.slate_types.specs.Outside.{IsFault, OnlyReads};
-ghost use Rattle.slate_types.specs.World.{Made};
+ghost use Rattle.slate_types.specs.Refusing.{NoMore, NoMoreBut};
+ghost use Rattle.slate_types.specs.World.{World, Checks, Made, Sees};
 ghost use Rattle.slate_types.proofs.Moves.{Moves};
 ghost use Rattle.slate_read.specs.Merging.{AreReady};
-ghost use Rattle.slate_read.specs.MergeSteps.{CountsTaken};
 ghost use Rattle.slate_read.specs.MergeStateLaws.{refuses_more, refuses_whole, rest_rises};
-ghost use Rattle.slate_read.specs.MergeStates.{bound_in, CopiedIn, HasBegun, IsFrontIn, IsMergeOf, IsSameMerge, IsSoundIn, IsUnrefused, refuses_in, rest_in, Stays};
+ghost use Rattle.slate_read.specs.MergeStates.{bound_in, CopiedIn, HasBegun, IsMergeOf, IsSameMerge, IsSoundIn, IsSoundMerge, IsUnrefused, refuses_in, rest_in, rest_of_merge, Stays, Takes, TakesLeft};
 
 use crate::head::Head;
 use crate::heads::{begin_again, begin_all, seek_heads, take_row};
@@ -69,6 +70,41 @@ impl<I: Drop> MergeIterator<I> {
         self
     }
 
+    /// The first row of the rest, which is taken off, or `None` at its end, as `RowEntryIterator::next` answers it, which calls
+    /// this. Beside what that says: it takes the first of all rows that are left, and with dedup, where that is no operand, the
+    /// older ones of its key, which are dropped; and to `bytes_processed` it adds the lengths of the keys and values of all these
+    /// rows, up to `u64::MAX` (`takes`). So a row that dedup drops counts with the row that is handed out before it.
+    pub fn next_row<E: Outside>(
+        &mut self,
+        alloc: Global,
+        env: &mut E,
+    ) -> Result<Option<RowEntry>, SlateDBError>
+    where
+        I: RowEntryIterator<E>,
+        ensures rows { (w : World) → Sees w (E.reach env.old) (E.reach env.new) → IsSoundMerge I.rest I.sound I.order self.old w → IfOk result (λ answer. TakesRow (rest_of_merge I.rest self.old w) answer (rest_of_merge I.rest self.new w)) }
+        ensures still { (w : World) → Sees w (E.reach env.old) (E.reach env.new) → IsSoundMerge I.rest I.sound I.order self.old w → IsSoundMerge I.rest I.sound I.order self.new w }
+        ensures checked { (w : World) → IsSoundMerge I.rest I.sound I.order self.old w → OnOk result (Checks w (E.reach env.old) (E.reach env.new)) }
+        ensures taken { IfOk result (λ answer. Made (E.reach env.old) (E.reach env.new) (λ reads. Takes self.old answer self.new × NoMore (refuses_in I.refuses self.old.state (E.reach env.old).meaning) reads (refuses_in I.refuses self.new.state (E.reach env.old).meaning))) }
+        ensures takes { (w : World) → Sees w (E.reach env.old) (E.reach env.new) → IsSoundMerge I.rest I.sound I.order self.old w → OnOk result (TakesLeft I.rest w self.old self.new) }
+        ensures cause { IfErr result (λ e. Made (E.reach env.old) (E.reach env.new) (λ reads. (IsFault (E.reach env.old) (E.reach env.new) e ⊎ refuses_in I.refuses self.old.state (E.reach env.old).meaning reads None e) × Stays self.old None e self.new × NoMoreBut e (refuses_in I.refuses self.old.state (E.reach env.old).meaning) reads (refuses_in I.refuses self.new.state (E.reach env.old).meaning))) }
+        ensures smaller { IfOk result (λ answer. IsSome answer → bound_in I.bound self.new.state < bound_in I.bound self.old.state) }
+        ensures no_larger { bound_in I.bound self.new.state ≤ bound_in I.bound self.old.state }
+        ensures order { self.new.order ≡ self.old.order }
+        ensures reads { OnlyReads (E.reach env.old) (E.reach env.new) }
+    {
+        let answer = match &mut self.state {
+            MergeState::New(_) => return Err(SlateDBError::IteratorNotInitialized),
+            MergeState::Refused(refusal) => return Err(copy_of(refusal)),
+            MergeState::Begun(heads) => {
+                take_row(alloc, self.dedup, heads, &mut self.processed, env)
+            }
+        };
+        match answer {
+            Ok(row) => Ok(row),
+            Err(error) => Err(self.refuse(error)),
+        }
+    }
+
     /// Keeps a refusal, which each later call then answers again.
     fn refuse(&mut self, error: SlateDBError) -> SlateDBError
         ensures same { result ≡ error }
@@ -123,7 +159,7 @@ impl<E: Outside, I: RowEntryIterator<E>> RowEntryIterator<E> for MergeIterator<I
 
     ghost begins = { λ before m reads after. IsUnrefused before.state × HasBegun after.state × IsSameMerge before after × (after.processed ≡ before.processed) };
 
-    ghost takes = { λ before m reads answer after. IsFrontIn answer before.state × HasBegun after.state × IsSameMerge before after × CountsTaken before.dedup before.processed answer after.processed };
+    ghost takes = { λ before m reads answer after. Takes before answer after };
 
     ghost seeks = { λ before m reads key after. HasBegun before.state × HasBegun after.state × IsSameMerge before after × (after.processed ≡ before.processed) };
 
@@ -153,17 +189,7 @@ impl<E: Outside, I: RowEntryIterator<E>> RowEntryIterator<E> for MergeIterator<I
     }
 
     fn next(&mut self, alloc: Global, env: &mut E) -> Result<Option<RowEntry>, SlateDBError> {
-        let answer = match &mut self.state {
-            MergeState::New(_) => return Err(SlateDBError::IteratorNotInitialized),
-            MergeState::Refused(refusal) => return Err(copy_of(refusal)),
-            MergeState::Begun(heads) => {
-                take_row(alloc, self.dedup, heads, &mut self.processed, env)
-            }
-        };
-        match answer {
-            Ok(row) => Ok(row),
-            Err(error) => Err(self.refuse(error)),
-        }
+        self.next_row(alloc, env)
     }
 
     fn seek(&mut self, alloc: Global, key: &[u8], env: &mut E) -> Result<(), SlateDBError> {
@@ -182,8 +208,8 @@ impl<E: Outside, I: RowEntryIterator<E>> RowEntryIterator<E> for MergeIterator<I
 impl<E: Outside, I: RowEntryIterator<E>> TrackedRowEntryIterator<E> for MergeIterator<I> {
     ghost processed = { λ it. it.processed };
 
-    /// The bytes of the keys and values of all rows that `next` took, also of those that dedup dropped, and the greatest
-    /// number where there are more. Rows that a seek takes off don't count.
+    /// The lengths of the keys and values of all rows that `next` took, together, and `u64::MAX` where that is more. A row that
+    /// dedup drops counts with the row that is handed out before it; rows that a seek takes off don't count.
     fn bytes_processed(&self) -> u64 {
         self.processed
     }

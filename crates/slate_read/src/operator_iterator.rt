@@ -1,7 +1,11 @@
 //! An iterator that folds operands onto what stands below them.
-ghost use Rattle.std.specs.Prelude.{◌≡◌, IfOk, IsOk};
+ghost use Rattle.std.specs.Prelude.{◌≡◌, ◌⊎◌, ◌<◌, ◌≤◌, None, Some, IfErr, IfOk, IsOk, IsSome, OnOk};
 ghost use Rattle.slate_types.specs.declared.error.SlateDBError.{SlateDBError};
-ghost use Rattle.slate_read.specs.OperatorIterators.{Begins, IsFolding, Keeps, Seeks, Stays, Takes, bound_folding, refuses_folding, rest_folding, sound_folding};
+ghost use Rattle.slate_types.specs.Iteration.{TakesRow, drop_before};
+ghost use Rattle.slate_types.specs.Outside.{IsFault, OnlyReads};
+ghost use Rattle.slate_types.specs.Refusing.{IsReady, NoMore, NoMoreBut};
+ghost use Rattle.slate_types.specs.World.{World, Checks, Made, Sees};
+ghost use Rattle.slate_read.specs.OperatorIterators.{Begins, IsFolding, IsGoing, IsOperable, IsOwn, Keeps, Seeks, Stays, Takes, bound_folding, refuses_folding, rest_folding, sound_folding};
 ghost use Rattle.slate_read.specs.OperatorLaws.{folding_more, folding_rises, folding_whole};
 
 use crate::folding::Folding;
@@ -20,8 +24,12 @@ use std::mem;
 /// rows of its key, up to and including the first that is no operand. A fold ends before a row of a greater sequence, which no
 /// source in turn brings.
 ///
-/// Without an operator it refuses exactly at an operand that isn't above the barrier. Each refusal is kept and answered again, or
-/// want of memory in its place, but for `IteratorNotInitialized`, exactly before `init`, which leaves it as it is.
+/// Without an operator nothing is folded: each row that it hands out is the source's, or the one that was read ahead, unchanged, and
+/// is no operand that isn't above the barrier. `MergeOperatorMissing` comes only there: it is the source's own refusal, or such an
+/// operand comes next. `next_row` and `IsOperable` say where it never comes.
+///
+/// Each refusal is kept and answered again, or want of memory in its place, but for the `IteratorNotInitialized` that it answers of
+/// itself, only before `init`, and which leaves it as it is. A seek before `init` answers nothing else.
 #[derive(Drop)]
 pub struct MergeOperatorIterator<I> {
     iterator: I,
@@ -58,6 +66,46 @@ impl<I: Drop> MergeOperatorIterator<I> {
         })
     }
 
+    /// The first row of the rest, which is taken off, or `None` at its end, as `RowEntryIterator::next` answers it, which calls
+    /// this. Beside what that says: where no operand is left that would be folded, or there is an operator (`IsOperable`), it
+    /// refuses for a fault or for the source's own refusal alone (`own`), and that stays so (`operable`). An answer adds no cause to
+    /// refuse to what its source has (`sources`).
+    #[tactic(auto, using(slate_types::proofs::Reaching::reads_none))]
+    pub fn next_row<E: Operates>(
+        &mut self,
+        alloc: Global,
+        env: &mut E,
+    ) -> Result<Option<RowEntry>, SlateDBError>
+    where
+        I: RowEntryIterator<E>,
+        ensures rows { (w : World) → Sees w (E.reach env.old) (E.reach env.new) → sound_folding I.rest I.sound I.order self.old w → IfOk result (λ answer. TakesRow (rest_folding I.rest self.old w) answer (rest_folding I.rest self.new w)) }
+        ensures still { (w : World) → Sees w (E.reach env.old) (E.reach env.new) → sound_folding I.rest I.sound I.order self.old w → sound_folding I.rest I.sound I.order self.new w }
+        ensures checked { (w : World) → sound_folding I.rest I.sound I.order self.old w → OnOk result (Checks w (E.reach env.old) (E.reach env.new)) }
+        ensures taken { IfOk result (λ answer. Made (E.reach env.old) (E.reach env.new) (λ reads. Takes I.takes self.old (E.reach env.old).meaning reads answer self.new × NoMore (refuses_folding I.refuses self.old (E.reach env.old).meaning) reads (refuses_folding I.refuses self.new (E.reach env.old).meaning))) }
+        ensures cause { IfErr result (λ e. Made (E.reach env.old) (E.reach env.new) (λ reads. (IsFault (E.reach env.old) (E.reach env.new) e ⊎ refuses_folding I.refuses self.old (E.reach env.old).meaning reads None e) × Stays I.refuses I.takes self.old (E.reach env.old).meaning reads None e self.new × NoMoreBut e (refuses_folding I.refuses self.old (E.reach env.old).meaning) reads (refuses_folding I.refuses self.new (E.reach env.old).meaning))) }
+        ensures smaller { IfOk result (λ answer. IsSome answer → bound_folding I.bound self.new < bound_folding I.bound self.old) }
+        ensures no_larger { bound_folding I.bound self.new ≤ bound_folding I.bound self.old }
+        ensures order { I.order self.new.iterator ≡ I.order self.old.iterator }
+        ensures reads { OnlyReads (E.reach env.old) (E.reach env.new) }
+        ensures own { (w : World) → Sees w (E.reach env.old) (E.reach env.new) → IsGoing self.old → sound_folding I.rest I.sound I.order self.old w → IsOperable I.rest self.old w → IfErr result (λ e. IsOwn I.refuses (E.reach env.old) (E.reach env.new) self.old.iterator e) }
+        ensures operable { (w : World) → Sees w (E.reach env.old) (E.reach env.new) → sound_folding I.rest I.sound I.order self.old w → IsOperable I.rest self.old w → OnOk result (IsOperable I.rest self.new w) }
+        ensures sources { OnOk result (Made (E.reach env.old) (E.reach env.new) (λ reads. NoMore (I.refuses self.old.iterator (E.reach env.old).meaning) reads (I.refuses self.new.iterator (E.reach env.old).meaning))) }
+    {
+        if let Some(refusal) = &self.refusal {
+            return Err(copy_of(refusal));
+        }
+        if !self.begun {
+            return Err(SlateDBError::IteratorNotInitialized);
+        }
+        match self
+            .folding
+            .next(alloc, &mut self.iterator, &mut self.ahead, env)
+        {
+            Ok(answer) => Ok(answer),
+            Err(error) => Err(self.refuse(error)),
+        }
+    }
+
     /// Keeps a refusal, which each later call then answers again.
     fn refuse(&mut self, error: SlateDBError) -> SlateDBError
         ensures same { result ≡ error }
@@ -83,7 +131,7 @@ impl<E: Operates, I: RowEntryIterator<E>> RowEntryIterator<E> for MergeOperatorI
 
     ghost begins = { λ before m reads after. Begins I.begins before m reads after };
 
-    ghost takes = { λ before m reads answer after. Takes before m reads answer after };
+    ghost takes = { λ before m reads answer after. Takes I.takes before m reads answer after };
 
     ghost seeks = { λ before m reads key after. Seeks I.seeks before m reads key after };
 
@@ -100,7 +148,19 @@ impl<E: Operates, I: RowEntryIterator<E>> RowEntryIterator<E> for MergeOperatorI
     }
 
     #[tactic(auto, using(slate_types::proofs::Reaching::reads_none))]
-    fn init(&mut self, alloc: Global, env: &mut E) -> Result<(), SlateDBError> {
+    fn init(&mut self, alloc: Global, env: &mut E) -> Result<(), SlateDBError>
+        ensures rows { (w : World) → Sees w (E.reach env.old) (E.reach env.new) → sound_folding I.rest I.sound I.order self.old w → OnOk result (rest_folding I.rest self.new w ≡ rest_folding I.rest self.old w) }
+        ensures still { (w : World) → Sees w (E.reach env.old) (E.reach env.new) → sound_folding I.rest I.sound I.order self.old w → sound_folding I.rest I.sound I.order self.new w }
+        ensures checked { (w : World) → sound_folding I.rest I.sound I.order self.old w → OnOk result (Checks w (E.reach env.old) (E.reach env.new)) }
+        ensures ready { OnOk result (IsReady (refuses_folding I.refuses self.new (E.reach env.old).meaning)) }
+        ensures begun { OnOk result (Made (E.reach env.old) (E.reach env.new) (λ reads. Begins I.begins self.old (E.reach env.old).meaning reads self.new × NoMore (refuses_folding I.refuses self.old (E.reach env.old).meaning) reads (refuses_folding I.refuses self.new (E.reach env.old).meaning))) }
+        ensures cause { IfErr result (λ e. Made (E.reach env.old) (E.reach env.new) (λ reads. (IsFault (E.reach env.old) (E.reach env.new) e ⊎ refuses_folding I.refuses self.old (E.reach env.old).meaning reads None e) × Stays I.refuses I.takes self.old (E.reach env.old).meaning reads None e self.new × NoMoreBut e (refuses_folding I.refuses self.old (E.reach env.old).meaning) reads (refuses_folding I.refuses self.new (E.reach env.old).meaning))) }
+        ensures no_larger { bound_folding I.bound self.new ≤ bound_folding I.bound self.old }
+        ensures order { I.order self.new.iterator ≡ I.order self.old.iterator }
+        ensures reads { OnlyReads (E.reach env.old) (E.reach env.new) }
+        ensures operable { (w : World) → Sees w (E.reach env.old) (E.reach env.new) → sound_folding I.rest I.sound I.order self.old w → IsOperable I.rest self.old w → OnOk result (IsOperable I.rest self.new w) }
+        ensures sources { OnOk result (Made (E.reach env.old) (E.reach env.new) (λ reads. NoMore (I.refuses self.old.iterator (E.reach env.old).meaning) reads (I.refuses self.new.iterator (E.reach env.old).meaning))) }
+    {
         if let Some(refusal) = &self.refusal {
             return Err(copy_of(refusal));
         }
@@ -113,25 +173,23 @@ impl<E: Operates, I: RowEntryIterator<E>> RowEntryIterator<E> for MergeOperatorI
         }
     }
 
-    #[tactic(auto, using(slate_types::proofs::Reaching::reads_none))]
     fn next(&mut self, alloc: Global, env: &mut E) -> Result<Option<RowEntry>, SlateDBError> {
-        if let Some(refusal) = &self.refusal {
-            return Err(copy_of(refusal));
-        }
-        if !self.begun {
-            return Err(SlateDBError::IteratorNotInitialized);
-        }
-        match self
-            .folding
-            .next(alloc, &mut self.iterator, &mut self.ahead, env)
-        {
-            Ok(answer) => Ok(answer),
-            Err(error) => Err(self.refuse(error)),
-        }
+        self.next_row(alloc, env)
     }
 
     #[tactic(auto, using(slate_types::proofs::Reaching::reads_none))]
-    fn seek(&mut self, alloc: Global, key: &[u8], env: &mut E) -> Result<(), SlateDBError> {
+    fn seek(&mut self, alloc: Global, key: &[u8], env: &mut E) -> Result<(), SlateDBError>
+        ensures rows { (w : World) → Sees w (E.reach env.old) (E.reach env.new) → sound_folding I.rest I.sound I.order self.old w → OnOk result (rest_folding I.rest self.new w ≡ drop_before (I.order self.old.iterator) key.now (rest_folding I.rest self.old w)) }
+        ensures still { (w : World) → Sees w (E.reach env.old) (E.reach env.new) → sound_folding I.rest I.sound I.order self.old w → sound_folding I.rest I.sound I.order self.new w }
+        ensures checked { (w : World) → sound_folding I.rest I.sound I.order self.old w → OnOk result (Checks w (E.reach env.old) (E.reach env.new)) }
+        ensures sought { OnOk result (Made (E.reach env.old) (E.reach env.new) (λ reads. Seeks I.seeks self.old (E.reach env.old).meaning reads key.now self.new × NoMore (refuses_folding I.refuses self.old (E.reach env.old).meaning) reads (refuses_folding I.refuses self.new (E.reach env.old).meaning))) }
+        ensures cause { IfErr result (λ e. Made (E.reach env.old) (E.reach env.new) (λ reads. (IsFault (E.reach env.old) (E.reach env.new) e ⊎ refuses_folding I.refuses self.old (E.reach env.old).meaning reads (Some key.now) e) × Stays I.refuses I.takes self.old (E.reach env.old).meaning reads (Some key.now) e self.new × NoMoreBut e (refuses_folding I.refuses self.old (E.reach env.old).meaning) reads (refuses_folding I.refuses self.new (E.reach env.old).meaning))) }
+        ensures no_larger { bound_folding I.bound self.new ≤ bound_folding I.bound self.old }
+        ensures order { I.order self.new.iterator ≡ I.order self.old.iterator }
+        ensures reads { OnlyReads (E.reach env.old) (E.reach env.new) }
+        ensures operable { (w : World) → Sees w (E.reach env.old) (E.reach env.new) → sound_folding I.rest I.sound I.order self.old w → IsOperable I.rest self.old w → OnOk result (IsOperable I.rest self.new w) }
+        ensures sources { OnOk result (Made (E.reach env.old) (E.reach env.new) (λ reads. NoMore (I.refuses self.old.iterator (E.reach env.old).meaning) reads (I.refuses self.new.iterator (E.reach env.old).meaning))) }
+    {
         if let Some(refusal) = &self.refusal {
             return Err(copy_of(refusal));
         }

@@ -5,6 +5,7 @@ use Rattle.slate_types.specs.Fold.{operator_at}
 use Rattle.slate_types.specs.Iteration.{IsInOrder}
 use Rattle.slate_types.proofs.Reaching.{reads_none}
 use Rattle.slate_read.specs.Folding.{folded}
+use Rattle.slate_read.specs.Folds.{NoneOpen}
 use Rattle.slate_read.specs.Peeking.{with_ahead}
 use Rattle.slate_read.proofs.Operators.{again_refused, folding_ready, kept_no_larger, kept_still, sound_of, sound_unless, source_less, source_refused, unless_no_larger, unless_rows}
 use Rattle.slate_read.proofs.operator_iterator.MergeOperatorIteratorRowEntryIterator.init.Goals as goal
@@ -20,6 +21,8 @@ returns-in-Some g c = record {
   no_larger = omega arith;
   order = refl;
   reads = reads_none _;
+  operable = λ w sees h op. tt;
+  sources = tt;
 }
 
 pub returns-in-Ok : goal.returns-in-Ok
@@ -38,6 +41,8 @@ returns-in-Ok g c =
       no_larger = unless_no_larger it.refusal _ _ none (omega (arith, n.no_larger));
       order = n.order;
       reads = n.reads;
+      operable = λ w sees h op plain. subst (λ (l : List RowEntry). NoneOpen it.folding.snapshot_barrier_seq (with_ahead it.ahead l)) (sym (n.rows w sees (sound_of it.refusal _ none h).0)) (op plain);
+      sources = (n.begun.0, n.begun.1, n.begun.2.1);
     }
 
 pub returns-in-Err : goal.returns-in-Err
@@ -57,4 +62,6 @@ returns-in-Err g c =
       no_larger = kept_no_larger c.in-Err.error c.refuse.new.self.refusal _ _ r.keeps;
       order = ap g.I.RowEntryIterator.order r.iterator ∙ n.order;
       reads = n.reads;
+      operable = λ w sees h op. tt;
+      sources = tt;
     }

@@ -6,8 +6,10 @@ use Rattle.slate_types.proofs.Calls.{call_none, checks_none}
 use Rattle.slate_types.proofs.Reaching.{reads_none}
 use Rattle.slate_read.specs.Folding.{folded}
 use Rattle.slate_read.specs.FoldedLaws.{folded_dropped}
+use Rattle.slate_read.specs.Folds.{NoneOpen}
 use Rattle.slate_read.specs.Peeking.{with_ahead}
 use Rattle.slate_read.proofs.Peeks.{kept_rows, sought_rows}
+use Rattle.slate_read.proofs.Operables.{none_open_dropped}
 use Rattle.slate_read.proofs.Operators.{again_refused, by_begun, kept_no_larger, kept_still, new_refused, sound_of, sound_unless, source_less, source_refused, unless_drops, unless_no_larger}
 use Rattle.slate_read.proofs.operator_iterator.MergeOperatorIteratorRowEntryIterator.seek.Goals as goal
 
@@ -21,6 +23,8 @@ returns-in-Some g c = record {
   no_larger = omega arith;
   order = refl;
   reads = reads_none _;
+  operable = λ w sees h op. tt;
+  sources = tt;
 }
 
 pub returns-then-not-self : goal.returns-then-not-self
@@ -33,6 +37,8 @@ returns-then-not-self g c = record {
   no_larger = omega arith;
   order = refl;
   reads = reads_none _;
+  operable = λ w sees h op. tt;
+  sources = tt;
 }
 
 pub returns-then-is_ahead_kept : goal.returns-then-is_ahead_kept
@@ -51,6 +57,8 @@ returns-then-is_ahead_kept g c =
       no_larger = omega arith;
       order = refl;
       reads = reads_none _;
+      operable = λ w sees h op. op;
+      sources = ([], call_none _, λ later at e h. h);
     }
 
 pub returns-in-Ok : goal.returns-in-Ok
@@ -75,6 +83,11 @@ returns-in-Ok g c =
       no_larger = unless_no_larger it.refusal _ _ none (rw after (omega (arith, n.no_larger)));
       order = n.order;
       reads = n.reads;
+      operable = λ w sees h op plain. (let barrier = it.folding.snapshot_barrier_seq in
+          subst (λ (o : Option RowEntry). NoneOpen barrier (with_ahead o (g.I.RowEntryIterator.rest c.seek.new.self w))) (sym after)
+          (subst (NoneOpen barrier) (sym (n.rows w sees (sound_of it.refusal _ none h).0 ∙ sought_rows order c.args.key.now it.ahead (g.I.RowEntryIterator.rest it.iterator w) gone))
+          (none_open_dropped barrier order c.args.key.now (with_ahead it.ahead (g.I.RowEntryIterator.rest it.iterator w)) (op plain))));
+      sources = (n.sought.0, n.sought.1, n.sought.2.1);
     }
 
 pub returns-in-Err : goal.returns-in-Err
@@ -92,4 +105,6 @@ returns-in-Err g c =
       no_larger = kept_no_larger c.in-Err.error c.refuse.new.self.refusal _ _ r.keeps;
       order = ap g.I.RowEntryIterator.order r.iterator ∙ n.order;
       reads = n.reads;
+      operable = λ w sees h op. tt;
+      sources = tt;
     }

@@ -1,7 +1,7 @@
 use Rattle.std.proofs.Common.{◌∙◌, ap, refl, arith, None}
 use Rattle.slate_types.proofs.Reaching.{reads_none}
-use Rattle.slate_read.proofs.Operators.{again_refused, folding_less, keeps_refused, kept_no_larger, kept_still, new_refused, sound_of, sound_unless, unless_no_larger, unless_smaller, unless_takes}
-use Rattle.slate_read.proofs.operator_iterator.MergeOperatorIteratorRowEntryIterator.next.Goals as goal
+use Rattle.slate_read.proofs.Operators.{again_refused, by_begun, folding_less, keeps_refused, kept_no_larger, kept_still, new_refused, some_going, sound_of, sound_unless, unless_no_larger, unless_smaller, unless_takes}
+use Rattle.slate_read.proofs.operator_iterator.MergeOperatorIterator.next_row.Goals as goal
 
 pub returns-in-Some : goal.returns-in-Some
 returns-in-Some g c = record {
@@ -14,6 +14,9 @@ returns-in-Some g c = record {
   no_larger = omega arith;
   order = refl;
   reads = reads_none _;
+  own = λ w sees going h op. some_going c.args.self.now c.in-Some.refusal c.in-Some.is going;
+  operable = λ w sees h op. tt;
+  sources = tt;
 }
 
 pub returns-then-not-self : goal.returns-then-not-self
@@ -27,6 +30,9 @@ returns-then-not-self g c = record {
   no_larger = omega arith;
   order = refl;
   reads = reads_none _;
+  own = λ w sees going h op. by_begun c.if-not-self.true going.0;
+  operable = λ w sees h op. tt;
+  sources = tt;
 }
 
 pub returns-in-Ok : goal.returns-in-Ok
@@ -46,6 +52,9 @@ returns-in-Ok g c =
       no_larger = unless_no_larger it.refusal _ _ none n.no_larger;
       order = n.order;
       reads = n.reads;
+      own = λ w sees going h op. tt;
+      operable = λ w sees h op. n.operable w sees (sound_of it.refusal _ none h) op;
+      sources = n.sources;
     }
 
 pub returns-in-Err : goal.returns-in-Err
@@ -64,4 +73,7 @@ returns-in-Err g c =
       no_larger = kept_no_larger c.in-Err.error c.refuse.new.self.refusal _ _ r.keeps;
       order = ap g.I.RowEntryIterator.order r.iterator ∙ n.order;
       reads = n.reads;
+      own = λ w sees going h op. rw r.same (n.own w sees (sound_of it.refusal _ c.in_default.is h) op);
+      operable = λ w sees h op. tt;
+      sources = tt;
     }
