@@ -1,6 +1,6 @@
 -- How contracts see what a transaction owns.
---     IsOwn level ts b rs n      the batch is that of the own operations of the transcript, and took no merge; the reading is that of the transcript, at the level; and it opened n scans
-use Rattle.std.specs.Prelude.{◌≡◌, ℕ, false, count_by, List}
+--     IsOwn level ts b rs n      the batch is that of the own operations of the transcript; the reading is that of the transcript, at the level; and it opened n scans
+use Rattle.std.specs.Prelude.{◌≡◌, ℕ, count_by, List}
 use Rattle.slate_types.specs.declared.config.IsolationLevel.{IsolationLevel}
 use Rattle.slate_mem.specs.BatchModel.{BatchModel, IsBatchOf}
 use Rattle.slate_txn.specs.declared.db_transaction.DbTransactionInner.TheInside.{Inside}
@@ -16,7 +16,6 @@ own_view s = record { level = s.level; begin = s.begin; ops = own_of s.transcrip
 
 pub record IsOwn (level : IsolationLevel) (ts : List TranscriptStep) (b : BatchModel) (rs : Reading) (n : ℕ) : Type 0 where
   pub batch : IsBatchOf (own_of ts) b
-  pub plain : b.held_merge ≡ false
   pub reading : rs ≡ reads_at level ts
   pub scans : n ≡ count_by is_scan ts
 

@@ -1,9 +1,8 @@
-use Rattle.std.proofs.Common.{◌≡◌, List, ℕ, [], if◌then◌else◌, map, reverse, false, subst}
+use Rattle.std.proofs.Common.{◌≡◌, List, ℕ, [], if◌then◌else◌, map, reverse, subst}
 use Rattle.std.specs.Prelude.{IfOk}
 use Rattle.slate_types.specs.Keys.{in_range}
 use Rattle.slate_types.specs.Rows.{of_key}
 use Rattle.slate_mem.specs.Batch.{kept}
-use Rattle.slate_mem.specs.BatchModel.{holds_merge}
 use Rattle.slate_mem.specs.RowOf.{own_row}
 use Rattle.slate_txn.specs.Alone.{own_of}
 use Rattle.slate_txn.specs.State.{Tx}
@@ -17,7 +16,6 @@ returns-in-Some c = record {
   turn = c.own_range.ensures.turn;
   in_order = c.own_range.ensures.in_order;
   order = c.own_range.ensures.order;
-  plain = λ t is. subst (λ (u : Tx). holds_merge u.ops ≡ false) (found_there c.args.id.now c.args.items.now.entries c.in-Some.«open».now t c.in-Some.ensures.value is) c.own_range.ensures.plain;
   own = λ t is. subst (λ (u : Tx). u.ops ≡ own_of u.transcript) (found_there c.args.id.now c.args.items.now.entries c.in-Some.«open».now t c.in-Some.ensures.value is) c.own_range.ensures.own;
   cause = c.own_range.ensures.cause;
 }
@@ -29,7 +27,6 @@ returns-in-None c = record {
   turn = c.no_rows.ensures.turn;
   in_order = c.no_rows.ensures.in_order;
   order = c.no_rows.ensures.order;
-  plain = λ t is. absurd (none_found c.args.id.now c.args.items.now.entries t c.in-None.ensures.value is);
   own = λ t is. absurd (none_found c.args.id.now c.args.items.now.entries t c.in-None.ensures.value is);
   cause = c.no_rows.ensures.cause;
 }
