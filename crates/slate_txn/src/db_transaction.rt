@@ -1,5 +1,6 @@
 //! What a transaction owns: nothing of it is shared.
 ghost use Rattle.std.specs.Prelude.{◌≡◌, ◌⊎◌, ◌<◌, ◌+◌, ◌++◌, ◌∷◌, ℕ, List, [], map, reverse, if◌then◌else◌, count_by, true, false, not, vec_len, vec_capacity, None, Some, Err, IfOk, IfErr, OnOk, OnErr, IsOkUnless};
+ghost use Rattle.std.specs.List.{AllByRecursion};
 ghost use Rattle.slate_types.specs.declared.error.SlateDBError.{SlateDBError};
 ghost use Rattle.slate_types.specs.Iteration.{IsInOrder};
 ghost use Rattle.slate_types.specs.Keys.{among, in_range};
@@ -264,6 +265,7 @@ impl DbTransactionInner {
     pub fn own_rows(&self, alloc: Global, key: &Bytes) -> Result<Vec<RowEntry>, SlateDBError>
         ensures rows { IfOk result (λ rows. rows.items ≡ map (own_row key.now) (reverse (kept self.now.ops key.now))) }
         ensures own { self.now.ops ≡ own_of self.now.transcript }
+        ensures fine { AllByRecursion (λ o. op_refusal o.0 o.1 ≡ None) self.now.ops }
         ensures cause { IsOkUnless result SlateDBError.OutOfMemory }
     {
         own_rows(alloc, &self.batch, key)
@@ -282,6 +284,7 @@ impl DbTransactionInner {
         ensures in_order { IfOk result (λ it. IsInOrder order it.rows) }
         ensures order { IfOk result (λ it. it.order ≡ order) }
         ensures own { self.now.ops ≡ own_of self.now.transcript }
+        ensures fine { AllByRecursion (λ o. op_refusal o.0 o.1 ≡ None) self.now.ops }
         ensures cause { IsOkUnless result SlateDBError.OutOfMemory }
     {
         own_range(alloc, &self.batch, range, order)

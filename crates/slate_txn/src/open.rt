@@ -123,6 +123,7 @@ impl OpenTransactions {
         ensures rows { (t : Tx) → find_named id.now self.now ≡ Some t → IfOk result (λ rows. rows.items ≡ map (own_row key.now) (reverse (kept t.ops key.now))) }
         ensures none { find_named id.now self.now ≡ None → IfOk result (λ rows. rows.items ≡ []) }
         ensures own { (t : Tx) → find_named id.now self.now ≡ Some t → t.ops ≡ own_of t.transcript }
+        ensures fine { (t : Tx) → find_named id.now self.now ≡ Some t → AllByRecursion (λ o. op_refusal o.0 o.1 ≡ None) t.ops }
         ensures cause { IsOkUnless result SlateDBError.OutOfMemory }
     {
         own_rows(alloc, &self.by_id, id, key)
@@ -143,6 +144,7 @@ impl OpenTransactions {
         ensures in_order { IfOk result (λ it. IsInOrder order it.rows) }
         ensures order { IfOk result (λ it. it.order ≡ order) }
         ensures own { (t : Tx) → find_named id.now self.now ≡ Some t → t.ops ≡ own_of t.transcript }
+        ensures fine { (t : Tx) → find_named id.now self.now ≡ Some t → AllByRecursion (λ o. op_refusal o.0 o.1 ≡ None) t.ops }
         ensures cause { IsOkUnless result SlateDBError.OutOfMemory }
     {
         own_range(alloc, &self.by_id, id, range, order)
@@ -365,6 +367,7 @@ fn own_rows(
     ensures rows { (t : Tx) → find_named id.now items.now.entries ≡ Some t → IfOk result (λ rows. rows.items ≡ map (own_row key.now) (reverse (kept t.ops key.now))) }
     ensures none { find_named id.now items.now.entries ≡ None → IfOk result (λ rows. rows.items ≡ []) }
     ensures own { (t : Tx) → find_named id.now items.now.entries ≡ Some t → t.ops ≡ own_of t.transcript }
+    ensures fine { (t : Tx) → find_named id.now items.now.entries ≡ Some t → AllByRecursion (λ o. op_refusal o.0 o.1 ≡ None) t.ops }
     ensures cause { IsOkUnless result SlateDBError.OutOfMemory }
 {
     match items.get(id) {
@@ -387,6 +390,7 @@ fn own_range(
     ensures in_order { IfOk result (λ it. IsInOrder order it.rows) }
     ensures order { IfOk result (λ it. it.order ≡ order) }
     ensures own { (t : Tx) → find_named id.now items.now.entries ≡ Some t → t.ops ≡ own_of t.transcript }
+    ensures fine { (t : Tx) → find_named id.now items.now.entries ≡ Some t → AllByRecursion (λ o. op_refusal o.0 o.1 ≡ None) t.ops }
     ensures cause { IsOkUnless result SlateDBError.OutOfMemory }
 {
     match items.get(id) {
