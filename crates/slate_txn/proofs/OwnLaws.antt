@@ -1,7 +1,7 @@
 -- What a transaction owns stays so, and the rows of its own operations.
 use Rattle.std.proofs.Common.{◌≡◌, ℕ, ◌+◌, ◌-◌, ◌^◌, count_by, add-zero, Bool, true, false, cond, ◌&&◌, ◌||◌, List, [], ◌∷◌, ◌++◌, map, reverse, filter, bytes_eq, nat_le, None, refl, sym, ap, subst, ◌∙◌, append-nil, Ordering, Less, Equal, Greater}
 use Rattle.std.specs.Prelude.{Result, Ok, Err, OnOk, OnErr}
-use Rattle.std.specs.List.{list_any}
+use Rattle.std.specs.List.{AllByRecursion, list_any}
 use Rattle.std.specs.Ordering.{is_le, is_lt, ordering_reverse}
 use Rattle.std.proofs.lemmas.List.{reverse-reverse, map-append}
 use Rattle.std.proofs.lemmas.List.Sums.{sum_by-append}
@@ -15,12 +15,14 @@ use Rattle.slate_types.specs.Fold.{from_last}
 use Rattle.slate_types.specs.Iteration.{NoneBefore}
 use Rattle.slate_types.specs.Keys.{key_cmp, key_le, key_lt, in_range}
 use Rattle.slate_types.specs.Rows.{is_base, of_key}
+use Rattle.slate_types.proofs.Lists.{AllByRecursion-append}
 use Rattle.slate_types.proofs.KeyOrder.{bytes_eq-same, turned-key}
 use Rattle.slate_mem.specs.declared.WriteOp.{WriteOp}
 use Rattle.slate_mem.specs.declared.WriteOp.TheVariants.{Put, Delete, Merge}
 use Rattle.slate_mem.specs.Batch.{Ops, kept, ops_of, replaces}
-use Rattle.slate_mem.specs.BatchModel.{BatchModel, IsBatchOf, no_ops, with_op}
+use Rattle.slate_mem.specs.BatchModel.{BatchModel, IsBatchOf, no_ops}
 use Rattle.slate_mem.specs.BatchRows.{batch_rows}
+use Rattle.slate_mem.specs.Refusals.{op_refusal}
 use Rattle.slate_mem.specs.RowOf.{own_row}
 use Rattle.slate_mem.specs.Table.{newest, to_base, up_to}
 use Rattle.slate_mem.proofs.BatchLaws.{from_last-again}
@@ -62,32 +64,30 @@ count_more ts t = sum_by-append (λ x. cond (is_scan x) 1 0) ts (t ∷ []) ∙ a
 pub count_same : (ts : List TranscriptStep) (t : TranscriptStep) → is_scan t ≡ false → count_by is_scan (ts ++ (t ∷ [])) ≡ count_by is_scan ts
 count_same ts t h = count_more ts t ∙ ap (λ b. count_by is_scan ts + cond b 1 0) h ∙ add-zero (count_by is_scan ts)
 
+abbrev AreFine : Ops → Type 0
+AreFine ops = AllByRecursion (λ o. op_refusal o.0 o.1 ≡ None) ops
+
 pub own_new : (level : IsolationLevel) → IsOwn level [] no_ops nothing_read 0
-own_new Snapshot = record { batch = (refl, refl); plain = refl; reading = refl; scans = refl }
-own_new SerializableSnapshot = record { batch = (refl, refl); plain = refl; reading = refl; scans = refl }
+own_new Snapshot = record { batch = (refl, refl); fine = tt; reading = refl; scans = refl }
+own_new SerializableSnapshot = record { batch = (refl, refl); fine = tt; reading = refl; scans = refl }
 
 -- the same parts
 pub own_same : (level : IsolationLevel) (ts us : List TranscriptStep) (b c : BatchModel) (rs ss : Reading) (n m : ℕ) → us ≡ ts → c ≡ b → ss ≡ rs → m ≡ n → IsOwn level ts b rs n → IsOwn level us c ss m
 own_same level ts us b c rs ss n m same batches readings count w = record {
   batch = subst (λ (x : BatchModel). IsBatchOf (own_of us) x) (sym batches) (subst (λ (x : List TranscriptStep). IsBatchOf (own_of x) b) (sym same) w.batch);
-  plain = ap (λ (x : BatchModel). x.held_merge) batches ∙ w.plain;
+  fine = subst (λ (x : List TranscriptStep). AreFine (own_of x)) (sym same) w.fine;
   reading = readings ∙ w.reading ∙ ap (reads_at level) (sym same);
   scans = count ∙ w.scans ∙ ap (λ (x : List TranscriptStep). count_by is_scan x) (sym same);
 }
 
-plain_more : (b : BatchModel) (k : List ℕ) (op : WriteOp) → replaces op ≡ true → b.held_merge ≡ false → (with_op b k op).held_merge ≡ false
-plain_more b k (Put v o) r h = rw h refl
-plain_more b k Delete r h = rw h refl
-plain_more b k (Merge v o) r h = cc
-
 pub own_more : (ts : List TranscriptStep) (k : List ℕ) (op : WriteOp) → own_of (ts ++ (steps.Own k op ∷ [])) ≡ own_of ts ++ ((k, op) ∷ [])
 own_more ts k op = own-append ts (steps.Own k op ∷ [])
 
-pub own_operated : (level : IsolationLevel) (ts us : List TranscriptStep) (b c : BatchModel) (rs : Reading) (n : ℕ) (k : List ℕ) (op : WriteOp) → replaces op ≡ true →
-    us ≡ ts ++ (steps.Own k op ∷ []) → c ≡ with_op b k op → ((ops : Ops) → IsBatchOf ops b → IsBatchOf (ops ++ ((k, op) ∷ [])) c) → IsOwn level ts b rs n → IsOwn level us c rs n
-own_operated level ts us b c rs n k op r added batch means w = record {
+pub own_operated : (level : IsolationLevel) (ts us : List TranscriptStep) (b c : BatchModel) (rs : Reading) (n : ℕ) (k : List ℕ) (op : WriteOp) → op_refusal k op ≡ None →
+    us ≡ ts ++ (steps.Own k op ∷ []) → ((ops : Ops) → IsBatchOf ops b → IsBatchOf (ops ++ ((k, op) ∷ [])) c) → IsOwn level ts b rs n → IsOwn level us c rs n
+own_operated level ts us b c rs n k op fine added means w = record {
   batch = subst (λ (os : Ops). IsBatchOf os c) (sym (own_more ts k op) ∙ ap own_of (sym added)) (means (own_of ts) w.batch);
-  plain = ap (λ (x : BatchModel). x.held_merge) batch ∙ plain_more b k op r w.plain;
+  fine = subst AreFine (sym (own_more ts k op) ∙ ap own_of (sym added)) (AllByRecursion-append (λ (o : List ℕ × WriteOp). op_refusal o.0 o.1 ≡ None) (own_of ts) ((k, op) ∷ []) w.fine (fine, tt));
   reading = w.reading ∙ sym (reads_more level ts (steps.Own k op) ∙ read_own level (reads_at level ts) k op) ∙ ap (reads_at level) (sym added);
   scans = w.scans ∙ sym (count_same ts (steps.Own k op) refl) ∙ ap (λ (x : List TranscriptStep). count_by is_scan x) (sym added);
 }
@@ -103,7 +103,7 @@ pub own_noted : (level : IsolationLevel) (ts us : List TranscriptStep) (b : Batc
     us ≡ ts ++ (t ∷ []) → ss ≡ read_on level rs t → m ≡ n + cond (is_scan t) 1 0 → IsOwn level ts b rs n → IsOwn level us b ss m
 own_noted level ts us b rs ss n m t none noted read count w = record {
   batch = subst (λ (os : Ops). IsBatchOf os b) (sym (noted_own ts t none) ∙ ap own_of (sym noted)) w.batch;
-  plain = w.plain;
+  fine = subst AreFine (sym (noted_own ts t none) ∙ ap own_of (sym noted)) w.fine;
   reading = read ∙ ap (λ (x : Reading). read_on level x t) w.reading ∙ sym (reads_more level ts t) ∙ ap (reads_at level) (sym noted);
   scans = count ∙ ap (λ x. x + cond (is_scan t) 1 0) w.scans ∙ sym (count_more ts t) ∙ ap (λ (x : List TranscriptStep). count_by is_scan x) (sym noted);
 }
@@ -211,10 +211,10 @@ newest_own k ops rows h =
 
 -- ---- after a call, from what is said of its parts
 
-pub own_operated_by : {X E : Type 0} (r : Result X E) (level : IsolationLevel) (ts us : List TranscriptStep) (b c : BatchModel) (rs : Reading) (n : ℕ) (k : List ℕ) (op : WriteOp) → replaces op ≡ true →
-    OnOk r (c ≡ with_op b k op) → ((ops : Ops) → IsBatchOf ops b → OnOk r (IsBatchOf (ops ++ ((k, op) ∷ [])) c)) → OnOk r (us ≡ ts ++ (steps.Own k op ∷ [])) → OnErr r (c ≡ b) → OnErr r (us ≡ ts) → IsOwn level ts b rs n → IsOwn level us c rs n
-own_operated_by (Ok _) level ts us b c rs n k op r batch means added same_batch same_steps w = own_operated level ts us b c rs n k op r added batch means w
-own_operated_by (Err _) level ts us b c rs n k op r batch means steps same_batch same_steps w = own_same level ts us b c rs rs n n same_steps same_batch refl refl w
+pub own_operated_by : {X E : Type 0} (r : Result X E) (level : IsolationLevel) (ts us : List TranscriptStep) (b c : BatchModel) (rs : Reading) (n : ℕ) (k : List ℕ) (op : WriteOp) → op_refusal k op ≡ None →
+    ((ops : Ops) → IsBatchOf ops b → OnOk r (IsBatchOf (ops ++ ((k, op) ∷ [])) c)) → OnOk r (us ≡ ts ++ (steps.Own k op ∷ [])) → OnErr r (c ≡ b) → OnErr r (us ≡ ts) → IsOwn level ts b rs n → IsOwn level us c rs n
+own_operated_by (Ok _) level ts us b c rs n k op fine means added same_batch same_steps w = own_operated level ts us b c rs n k op fine added means w
+own_operated_by (Err _) level ts us b c rs n k op fine means steps same_batch same_steps w = own_same level ts us b c rs rs n n same_steps same_batch refl refl w
 
 pub own_noted_by : {X E : Type 0} (r : Result X E) (level : IsolationLevel) (ts us : List TranscriptStep) (b : BatchModel) (rs ss : Reading) (n m : ℕ) (t : TranscriptStep) → IsRead t →
     OnOk r (ss ≡ read_on level rs t) → OnOk r (us ≡ ts ++ (t ∷ [])) → OnOk r (m ≡ n + cond (is_scan t) 1 0) → OnErr r (ss ≡ rs) → OnErr r (us ≡ ts) → OnErr r (m ≡ n) → IsOwn level ts b rs n → IsOwn level us b ss m

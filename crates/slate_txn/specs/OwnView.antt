@@ -1,8 +1,10 @@
 -- How contracts see what a transaction owns.
---     IsOwn level ts b rs n      the batch is that of the own operations of the transcript, and took no merge; the reading is that of the transcript, at the level; and it opened n scans
-use Rattle.std.specs.Prelude.{◌≡◌, ℕ, false, count_by, List}
+--     IsOwn level ts b rs n      the batch is that of the own operations of the transcript, of which none is to be refused; the reading is that of the transcript, at the level; and it opened n scans
+use Rattle.std.specs.Prelude.{◌≡◌, ℕ, count_by, List, None}
+use Rattle.std.specs.List.{AllByRecursion}
 use Rattle.slate_types.specs.declared.config.IsolationLevel.{IsolationLevel}
 use Rattle.slate_mem.specs.BatchModel.{BatchModel, IsBatchOf}
+use Rattle.slate_mem.specs.Refusals.{op_refusal}
 use Rattle.slate_txn.specs.declared.db_transaction.DbTransactionInner.TheInside.{Inside}
 use Rattle.slate_txn.specs.declared.event.TranscriptStep.{TranscriptStep}
 use Rattle.slate_txn.specs.Alone.{own_of}
@@ -16,7 +18,7 @@ own_view s = record { level = s.level; begin = s.begin; ops = own_of s.transcrip
 
 pub record IsOwn (level : IsolationLevel) (ts : List TranscriptStep) (b : BatchModel) (rs : Reading) (n : ℕ) : Type 0 where
   pub batch : IsBatchOf (own_of ts) b
-  pub plain : b.held_merge ≡ false
+  pub fine : AllByRecursion (λ o. op_refusal o.0 o.1 ≡ None) (own_of ts)
   pub reading : rs ≡ reads_at level ts
   pub scans : n ≡ count_by is_scan ts
 

@@ -1,8 +1,8 @@
 -- What a transaction commits that conflicts with nothing.
 --     tracked_of ops unmarked      the keys of operations, less the unmarked ones
---     CommitsAs t b tracked ts      the batch of its operations, which took no merge, its tracked writes and its transcript
+--     CommitsAs t b tracked ts      the batch of its operations, its tracked writes and its transcript
 --     IsUntracked m id t, IsTracked m id t      a manager has the transaction open, and tracks nothing of it yet; it tracks the tracked writes
-use Rattle.std.specs.Prelude.{◌≡◌, ℕ, false, not, filter, List, Some}
+use Rattle.std.specs.Prelude.{◌≡◌, ℕ, not, filter, List, Some}
 use Rattle.slate_types.specs.Keys.{among}
 use Rattle.slate_mem.specs.Batch.{Ops, batch_keys}
 use Rattle.slate_mem.specs.BatchModel.{BatchModel, IsBatchOf}
@@ -17,7 +17,6 @@ tracked_of ops unmarked = filter (λ k. not (among k unmarked)) (batch_keys ops)
 
 pub record CommitsAs (t : Tx) (b : BatchModel) (tracked : List (List ℕ)) (ts : List TranscriptStep) : Type 0 where
   pub batch : IsBatchOf t.ops b
-  pub plain : b.held_merge ≡ false
   pub keys : tracked ≡ tracked_writes t
   pub steps : ts ≡ t.transcript
 

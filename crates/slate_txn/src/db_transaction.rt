@@ -1,13 +1,14 @@
 //! What a transaction owns: nothing of it is shared.
 ghost use Rattle.std.specs.Prelude.{◌≡◌, ◌⊎◌, ◌<◌, ◌+◌, ◌++◌, ◌∷◌, ℕ, List, [], map, reverse, if◌then◌else◌, count_by, true, false, not, vec_len, vec_capacity, None, Some, Err, IfOk, IfErr, OnOk, OnErr, IsOkUnless};
+ghost use Rattle.std.specs.List.{AllByRecursion};
 ghost use Rattle.slate_types.specs.declared.error.SlateDBError.{SlateDBError};
 ghost use Rattle.slate_types.specs.Iteration.{IsInOrder};
 ghost use Rattle.slate_types.specs.Keys.{among, in_range};
 ghost use Rattle.slate_types.specs.RowTurns.{AreInTurn, row_before};
 ghost use Rattle.slate_types.specs.Rows.{of_key};
 ghost use Rattle.slate_mem.specs.declared.WriteOp.{WriteOp};
-ghost use Rattle.slate_mem.specs.Batch.{Ops, kept, replaces};
-ghost use Rattle.slate_mem.specs.BatchModel.{IsBatchOf, holds_merge, with_op as batched};
+ghost use Rattle.slate_mem.specs.Batch.{Ops, kept};
+ghost use Rattle.slate_mem.specs.BatchModel.{IsBatchOf};
 ghost use Rattle.slate_mem.specs.Refusals.{op_refusal};
 ghost use Rattle.slate_mem.specs.RowOf.{own_row};
 ghost use Rattle.slate_txn.specs.declared.event.TranscriptStep.TheVariants as steps;
@@ -30,7 +31,8 @@ use slate_mem::batch::{test_key, test_put};
 use slate_mem::lookup::newest_of_walk;
 use slate_mem::{WriteBatch, WriteBatchIterator, WriteOp};
 use slate_types::{
-    BytesRange, IsolationLevel, IterationOrder, KeyValue, PutOptions, RowEntry, SlateDBError,
+    BytesRange, IsolationLevel, IterationOrder, KeyValue, MergeOptions, PutOptions, RowEntry,
+    SlateDBError,
 };
 use std::alloc::{AllocError, Global};
 use std::marker::Model;
@@ -124,10 +126,30 @@ impl DbTransactionInner {
         self.operate(alloc, key, WriteOp::Delete)
     }
 
-    /// Takes a put or a delete that no test refuses. Where memory is wanting nothing is taken.
+    /// Merges an operand behind its own operations of the key. Whether there is an operator is tested above. Refuses by
+    /// `EmptyKey`, by `KeyTooLong` above 65535 bytes, by `ValueTooLong` above 2^32 - 1 bytes, in this order, and by
+    /// `OutOfMemory`, and then nothing is merged.
+    pub fn merge(
+        &mut self,
+        alloc: Global,
+        key: &[u8],
+        value: &[u8],
+        options: &MergeOptions,
+    ) -> Result<(), SlateDBError>
+        ensures refused { (e : SlateDBError) → op_refusal key.now (WriteOp.Merge value.now options.now) ≡ Some e → result ≡ Err e }
+        ensures cause { IfErr result (λ e. (e ≡ SlateDBError.OutOfMemory) ⊎ (op_refusal key.now (WriteOp.Merge value.now options.now) ≡ Some e)) }
+        ensures fine { OnOk result (op_refusal key.now (WriteOp.Merge value.now options.now) ≡ None) }
+        ensures taken { OnOk result (self.new ≡ with_op key.now (WriteOp.Merge value.now options.now) self.old) }
+        ensures same { OnErr result (self.new ≡ self.old) }
+    {
+        test_put(key, value)?;
+        let value = Bytes::copy_from_slice(alloc, value)?;
+        self.operate(alloc, key, WriteOp::Merge(value, *options))
+    }
+
+    /// Takes an operation that no test refuses. Where memory is wanting nothing is taken.
     fn operate(&mut self, alloc: Global, key: &[u8], op: WriteOp) -> Result<(), SlateDBError>
-        requires fine { op_refusal key.now op ≡ None }
-        requires replaces { replaces op ≡ true }
+        requires { op_refusal key.now op ≡ None }
         ensures taken { OnOk result (self.new ≡ with_op key.now op self.old) }
         ensures same { OnErr result (self.new ≡ self.old) }
         ensures cause { IsOkUnless result SlateDBError.OutOfMemory }
@@ -239,19 +261,18 @@ impl DbTransactionInner {
     }
 
     /// The rows of its own operations of the key, newest first, to the first that is no merge. They stand above all sequences, and
-    /// have no stamps. No merge was taken so far. The one error is `OutOfMemory`.
+    /// have no stamps. The one error is `OutOfMemory`.
     pub fn own_rows(&self, alloc: Global, key: &Bytes) -> Result<Vec<RowEntry>, SlateDBError>
         ensures rows { IfOk result (λ rows. rows.items ≡ map (own_row key.now) (reverse (kept self.now.ops key.now))) }
-        ensures plain { holds_merge self.now.ops ≡ false }
         ensures own { self.now.ops ≡ own_of self.now.transcript }
+        ensures fine { AllByRecursion (λ o. op_refusal o.0 o.1 ≡ None) self.now.ops }
         ensures cause { IsOkUnless result SlateDBError.OutOfMemory }
     {
         own_rows(alloc, &self.batch, key)
     }
 
     /// The rows of its own operations of the keys in the range: keys in the order, and newest first within a key, to the first
-    /// that is no merge. They stand above all sequences, and have no stamps. No merge was taken so far. The one error is
-    /// `OutOfMemory`.
+    /// that is no merge. They stand above all sequences, and have no stamps. The one error is `OutOfMemory`.
     pub fn own_range(
         &self,
         alloc: Global,
@@ -262,8 +283,8 @@ impl DbTransactionInner {
         ensures turn { IfOk result (λ it. AreInTurn (row_before order) it.rows) }
         ensures in_order { IfOk result (λ it. IsInOrder order it.rows) }
         ensures order { IfOk result (λ it. it.order ≡ order) }
-        ensures plain { holds_merge self.now.ops ≡ false }
         ensures own { self.now.ops ≡ own_of self.now.transcript }
+        ensures fine { AllByRecursion (λ o. op_refusal o.0 o.1 ≡ None) self.now.ops }
         ensures cause { IsOkUnless result SlateDBError.OutOfMemory }
     {
         own_range(alloc, &self.batch, range, order)
@@ -326,7 +347,7 @@ pub struct Tested {
     pub transcript: Transcript,
 }
 
-/// Takes a put or a delete that no test refuses, in the batch and in the transcript. Where memory is wanting nothing is taken.
+/// Takes an operation that no test refuses, in the batch and in the transcript. Where memory is wanting nothing is taken.
 fn operate(
     alloc: Global,
     batch: &mut WriteBatch,
@@ -334,9 +355,7 @@ fn operate(
     key: &[u8],
     op: WriteOp,
 ) -> Result<(), SlateDBError>
-    requires fine { op_refusal key.now op ≡ None }
-    requires replaces { replaces op ≡ true }
-    ensures taken { OnOk result (batch.new ≡ batched batch.old key.now op) }
+    requires { op_refusal key.now op ≡ None }
     ensures means { (ops : Ops) → IsBatchOf ops batch.old → OnOk result (IsBatchOf (ops ++ (key.now, op) ∷ []) batch.new) }
     ensures noted { OnOk result (transcript.new.items ≡ transcript.old.items ++ steps.Own key.now op ∷ []) }
     ensures same_batch { OnErr result (batch.new ≡ batch.old) }
@@ -350,12 +369,26 @@ fn operate(
             return Err(SlateDBError::from(error));
         }
     };
-    if let Err(error) = batch.replace(key, op) {
+    if let Err(error) = take_op(batch, key, op) {
         drop(step);
         return Err(error);
     }
     transcript.push_reserved(step);
     Ok(())
+}
+
+/// Takes an operation that no test refuses: a put or a delete in place of all operations of its key, a merge behind them.
+fn take_op(batch: &mut WriteBatch, key: Bytes, op: WriteOp) -> Result<(), SlateDBError>
+    requires { op_refusal key op ≡ None }
+    ensures means { (ops : Ops) → IsBatchOf ops batch.old → OnOk result (IsBatchOf (ops ++ (key, op) ∷ []) batch.new) }
+    ensures same { OnErr result (batch.new ≡ batch.old) }
+    ensures cause { IsOkUnless result SlateDBError.OutOfMemory }
+{
+    match op {
+        WriteOp::Merge(value, options) => batch.merge_bytes_with_options(key, value, &options),
+        WriteOp::Put(value, options) => batch.replace(key, WriteOp::Put(value, options)),
+        WriteOp::Delete => batch.replace(key, WriteOp::Delete),
+    }
 }
 
 /// The key, and the step of the operation, for which the transcript then has room.

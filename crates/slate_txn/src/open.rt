@@ -1,5 +1,5 @@
 //! The open transactions.
-ghost use Rattle.std.specs.Prelude.{◌≡◌, ◌⊎◌, ◌<◌, ◌≤◌, ◌++◌, ◌∷◌, ℕ, List, [], if◌then◌else◌, count_by, None, Some, Ok, Err, IfErr, IfOk, IsSome, is_some, map, false, option_map, reverse, OnOk, OnErr, IsOkUnless};
+ghost use Rattle.std.specs.Prelude.{◌≡◌, ◌⊎◌, ◌<◌, ◌≤◌, ◌++◌, ◌∷◌, ℕ, List, [], if◌then◌else◌, count_by, None, Some, Ok, Err, IfErr, IfOk, IsSome, is_some, map, option_map, reverse, OnOk, OnErr, IsOkUnless};
 ghost use Rattle.std.specs.BTreeMap.{insert_entry};
 ghost use Rattle.std.specs.declared.cmp.Ordering.TheVariants.{Greater};
 ghost use Rattle.std.specs.List.{AllByRecursion};
@@ -10,7 +10,6 @@ ghost use Rattle.slate_types.specs.RowTurns.{AreInTurn, row_before};
 ghost use Rattle.slate_types.specs.Rows.{of_key};
 ghost use Rattle.slate_mem.specs.declared.WriteOp.{WriteOp};
 ghost use Rattle.slate_mem.specs.Batch.{kept};
-ghost use Rattle.slate_mem.specs.BatchModel.{holds_merge};
 ghost use Rattle.slate_mem.specs.Refusals.{op_refusal};
 ghost use Rattle.slate_mem.specs.RowOf.{own_row};
 ghost use Rattle.slate_txn.specs.declared.event.TranscriptStep.TheVariants as steps;
@@ -24,7 +23,8 @@ use crate::DbTransactionInner;
 use bytes::Bytes;
 use slate_mem::{WriteBatch, WriteBatchIterator};
 use slate_types::{
-    BytesRange, IsolationLevel, IterationOrder, KeyValue, PutOptions, RowEntry, SlateDBError,
+    BytesRange, IsolationLevel, IterationOrder, KeyValue, MergeOptions, PutOptions, RowEntry,
+    SlateDBError,
 };
 use std::alloc::{AllocError, Global};
 use std::collections::BTreeMap;
@@ -112,8 +112,8 @@ impl OpenTransactions {
         begin_of(&self.by_id, id)
     }
 
-    /// The rows of the open transaction's own operations of the key, newest first, to the first that is no merge. No merge was
-    /// taken so far. There are none for an unknown id. The one error is `OutOfMemory`.
+    /// The rows of the open transaction's own operations of the key, newest first, to the first that is no merge. There are none
+    /// for an unknown id. The one error is `OutOfMemory`.
     pub fn own_rows(
         &self,
         alloc: Global,
@@ -122,16 +122,15 @@ impl OpenTransactions {
     ) -> Result<Vec<RowEntry>, SlateDBError>
         ensures rows { (t : Tx) → find_named id.now self.now ≡ Some t → IfOk result (λ rows. rows.items ≡ map (own_row key.now) (reverse (kept t.ops key.now))) }
         ensures none { find_named id.now self.now ≡ None → IfOk result (λ rows. rows.items ≡ []) }
-        ensures plain { (t : Tx) → find_named id.now self.now ≡ Some t → holds_merge t.ops ≡ false }
         ensures own { (t : Tx) → find_named id.now self.now ≡ Some t → t.ops ≡ own_of t.transcript }
+        ensures fine { (t : Tx) → find_named id.now self.now ≡ Some t → AllByRecursion (λ o. op_refusal o.0 o.1 ≡ None) t.ops }
         ensures cause { IsOkUnless result SlateDBError.OutOfMemory }
     {
         own_rows(alloc, &self.by_id, id, key)
     }
 
     /// The rows of the open transaction's own operations of the keys in the range: keys in the order, and newest first within a
-    /// key, to the first that is no merge. No merge was taken so far. There are none for an unknown id. The one error is
-    /// `OutOfMemory`.
+    /// key, to the first that is no merge. There are none for an unknown id. The one error is `OutOfMemory`.
     pub fn own_range(
         &self,
         alloc: Global,
@@ -144,8 +143,8 @@ impl OpenTransactions {
         ensures turn { IfOk result (λ it. AreInTurn (row_before order) it.rows) }
         ensures in_order { IfOk result (λ it. IsInOrder order it.rows) }
         ensures order { IfOk result (λ it. it.order ≡ order) }
-        ensures plain { (t : Tx) → find_named id.now self.now ≡ Some t → holds_merge t.ops ≡ false }
         ensures own { (t : Tx) → find_named id.now self.now ≡ Some t → t.ops ≡ own_of t.transcript }
+        ensures fine { (t : Tx) → find_named id.now self.now ≡ Some t → AllByRecursion (λ o. op_refusal o.0 o.1 ≡ None) t.ops }
         ensures cause { IsOkUnless result SlateDBError.OutOfMemory }
     {
         own_range(alloc, &self.by_id, id, range, order)
@@ -182,6 +181,27 @@ impl OpenTransactions {
         ensures same { OnErr result (self.new ≡ self.old) }
     {
         delete(alloc, &mut self.by_id, id, key)
+    }
+
+    /// Merges an operand behind the open transaction's own operations of the key. Whether there is an operator is tested above.
+    /// Refuses by `EmptyKey`, by `KeyTooLong` above 65535 bytes, by `ValueTooLong` above 2^32 - 1 bytes, in this order, and by
+    /// `OutOfMemory`, and then nothing is merged.
+    pub fn merge(
+        &mut self,
+        alloc: Global,
+        id: &Uuid,
+        key: &[u8],
+        value: &[u8],
+        options: &MergeOptions,
+    ) -> Result<(), SlateDBError>
+        requires { IsSome (find_named id.now self.old) }
+        ensures refused { (e : SlateDBError) → op_refusal key.now (WriteOp.Merge value.now options.now) ≡ Some e → result ≡ Err e }
+        ensures cause { IfErr result (λ e. (e ≡ SlateDBError.OutOfMemory) ⊎ (op_refusal key.now (WriteOp.Merge value.now options.now) ≡ Some e)) }
+        ensures fine { OnOk result (op_refusal key.now (WriteOp.Merge value.now options.now) ≡ None) }
+        ensures taken { OnOk result (self.new ≡ update_named id.now (with_op key.now (WriteOp.Merge value.now options.now)) self.old) }
+        ensures same { OnErr result (self.new ≡ self.old) }
+    {
+        merge(alloc, &mut self.by_id, id, key, value, options)
     }
 
     /// Marks keys as read by the open transaction with this id. Nothing happens for an unknown id. Where memory is wanting none is
@@ -346,8 +366,8 @@ fn own_rows(
 ) -> Result<Vec<RowEntry>, SlateDBError>
     ensures rows { (t : Tx) → find_named id.now items.now.entries ≡ Some t → IfOk result (λ rows. rows.items ≡ map (own_row key.now) (reverse (kept t.ops key.now))) }
     ensures none { find_named id.now items.now.entries ≡ None → IfOk result (λ rows. rows.items ≡ []) }
-    ensures plain { (t : Tx) → find_named id.now items.now.entries ≡ Some t → holds_merge t.ops ≡ false }
     ensures own { (t : Tx) → find_named id.now items.now.entries ≡ Some t → t.ops ≡ own_of t.transcript }
+    ensures fine { (t : Tx) → find_named id.now items.now.entries ≡ Some t → AllByRecursion (λ o. op_refusal o.0 o.1 ≡ None) t.ops }
     ensures cause { IsOkUnless result SlateDBError.OutOfMemory }
 {
     match items.get(id) {
@@ -369,8 +389,8 @@ fn own_range(
     ensures turn { IfOk result (λ it. AreInTurn (row_before order) it.rows) }
     ensures in_order { IfOk result (λ it. IsInOrder order it.rows) }
     ensures order { IfOk result (λ it. it.order ≡ order) }
-    ensures plain { (t : Tx) → find_named id.now items.now.entries ≡ Some t → holds_merge t.ops ≡ false }
     ensures own { (t : Tx) → find_named id.now items.now.entries ≡ Some t → t.ops ≡ own_of t.transcript }
+    ensures fine { (t : Tx) → find_named id.now items.now.entries ≡ Some t → AllByRecursion (λ o. op_refusal o.0 o.1 ≡ None) t.ops }
     ensures cause { IsOkUnless result SlateDBError.OutOfMemory }
 {
     match items.get(id) {
@@ -435,6 +455,28 @@ fn delete(
 {
     match items.get_mut(id) {
         Some(open) => open.delete(alloc, key),
+        None => unreachable!(),
+    }
+}
+
+/// Merges an operand in the open transaction with this id.
+fn merge(
+    alloc: Global,
+    items: &mut BTreeMap<Uuid, DbTransactionInner>,
+    id: &Uuid,
+    key: &[u8],
+    value: &[u8],
+    options: &MergeOptions,
+) -> Result<(), SlateDBError>
+    requires { IsSome (find_named id.now items.old.entries) }
+    ensures refused { (e : SlateDBError) → op_refusal key.now (WriteOp.Merge value.now options.now) ≡ Some e → result ≡ Err e }
+    ensures cause { IfErr result (λ e. (e ≡ SlateDBError.OutOfMemory) ⊎ (op_refusal key.now (WriteOp.Merge value.now options.now) ≡ Some e)) }
+    ensures fine { OnOk result (op_refusal key.now (WriteOp.Merge value.now options.now) ≡ None) }
+    ensures taken { OnOk result (items.new.entries ≡ update_named id.now (with_op key.now (WriteOp.Merge value.now options.now)) items.old.entries) }
+    ensures same { OnErr result (items.new.entries ≡ items.old.entries) }
+{
+    match items.get_mut(id) {
+        Some(open) => open.merge(alloc, key, value, options),
         None => unreachable!(),
     }
 }

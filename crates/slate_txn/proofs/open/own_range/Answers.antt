@@ -1,9 +1,10 @@
-use Rattle.std.proofs.Common.{◌≡◌, List, ℕ, [], if◌then◌else◌, map, reverse, false, subst}
+use Rattle.std.proofs.Common.{◌≡◌, List, ℕ, [], if◌then◌else◌, map, reverse, None, subst}
 use Rattle.std.specs.Prelude.{IfOk}
+use Rattle.std.specs.List.{AllByRecursion}
 use Rattle.slate_types.specs.Keys.{in_range}
 use Rattle.slate_types.specs.Rows.{of_key}
 use Rattle.slate_mem.specs.Batch.{kept}
-use Rattle.slate_mem.specs.BatchModel.{holds_merge}
+use Rattle.slate_mem.specs.Refusals.{op_refusal}
 use Rattle.slate_mem.specs.RowOf.{own_row}
 use Rattle.slate_txn.specs.Alone.{own_of}
 use Rattle.slate_txn.specs.State.{Tx}
@@ -17,8 +18,8 @@ returns-in-Some c = record {
   turn = c.own_range.ensures.turn;
   in_order = c.own_range.ensures.in_order;
   order = c.own_range.ensures.order;
-  plain = λ t is. subst (λ (u : Tx). holds_merge u.ops ≡ false) (found_there c.args.id.now c.args.items.now.entries c.in-Some.«open».now t c.in-Some.ensures.value is) c.own_range.ensures.plain;
   own = λ t is. subst (λ (u : Tx). u.ops ≡ own_of u.transcript) (found_there c.args.id.now c.args.items.now.entries c.in-Some.«open».now t c.in-Some.ensures.value is) c.own_range.ensures.own;
+  fine = λ t is. subst (λ (u : Tx). AllByRecursion (λ o. op_refusal o.0 o.1 ≡ None) u.ops) (found_there c.args.id.now c.args.items.now.entries c.in-Some.«open».now t c.in-Some.ensures.value is) c.own_range.ensures.fine;
   cause = c.own_range.ensures.cause;
 }
 
@@ -29,7 +30,7 @@ returns-in-None c = record {
   turn = c.no_rows.ensures.turn;
   in_order = c.no_rows.ensures.in_order;
   order = c.no_rows.ensures.order;
-  plain = λ t is. absurd (none_found c.args.id.now c.args.items.now.entries t c.in-None.ensures.value is);
   own = λ t is. absurd (none_found c.args.id.now c.args.items.now.entries t c.in-None.ensures.value is);
+  fine = λ t is. absurd (none_found c.args.id.now c.args.items.now.entries t c.in-None.ensures.value is);
   cause = c.no_rows.ensures.cause;
 }

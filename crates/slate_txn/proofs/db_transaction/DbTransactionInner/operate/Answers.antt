@@ -7,7 +7,7 @@ use Rattle.slate_txn.proofs.db_transaction.DbTransactionInner.operate.Goals as g
 pub invariant_of-self : goal.invariant_of-self
 invariant_of-self c =
     let said = c.operate.ensures in
-    own_operated_by c.operate.result c.self.inside.level c.self.inside.transcript.items _ c.self.inside.batch _ c.self.inside.reading c.self.inside.scans c.args.key.now c.args.op c.requires.replaces said.taken said.means said.noted said.same_batch said.same_steps c.self.invariant
+    own_operated_by c.operate.result c.self.inside.level c.self.inside.transcript.items _ c.self.inside.batch _ c.self.inside.reading c.self.inside.scans c.args.key.now c.args.op c.requires said.means said.noted said.same_batch said.same_steps c.self.invariant
 
 pub returns : goal.returns
 returns c = record {

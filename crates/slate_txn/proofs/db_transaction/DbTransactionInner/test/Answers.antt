@@ -19,7 +19,6 @@ returns-in-Ok c = record {
   met = λ cs s h. tt;
   commits = record {
     batch = subst (λ (t : Tx). IsBatchOf t.ops c.self.inside.batch) c.self.view_is c.self.invariant.batch;
-    plain = c.self.invariant.plain;
     keys = c.in-Ok.ensures.tracked ∙ writes_are (own_view c.self.inside) c.args.self c.self.inside.batch c.as_slice.result.now c.self.view_is c.self.invariant.batch c.as_slice.ensures.value;
     steps = c.from_vec.ensures ∙ ap (λ (t : Tx). t.transcript) c.self.view_is;
   };
