@@ -5,7 +5,9 @@ use Rattle.slate_types.specs.Fold.{IsShort, IsLawful, KeepsShort}
 use Rattle.slate_types.specs.Keys.{key_lt}
 use Rattle.slate_types.proofs.KeyOrder.{lt-trans, not-lt-trans}
 use Rattle.std.specs.Int.Bits.{bit_xor, xor_assoc, xor_self, xor_zero_r}
-use Rattle.slate_language.specs.Parts.{concat, greater, xored}
+use Rattle.slate_language.specs.declared.operators.NamedOperator.{NamedOperator}
+use Rattle.slate_language.specs.declared.operators.NamedOperator.TheVariants as operators
+use Rattle.slate_language.specs.Parts.{concat, greater, named, xored}
 
 take-all : (n : ℕ) (v : List ℕ) → length v ≤ n → take n v ≡ v
 take-all zero [] h = refl
@@ -37,9 +39,9 @@ take-back (suc n) m (x ∷ xs) zs h = ap (λ ys. x ∷ ys) (take-back n m xs zs 
 concat-assoc : (n : ℕ) (u v w : List ℕ) → take n (take n (u ++ v) ++ w) ≡ take n (u ++ take n (v ++ w))
 concat-assoc n u v w = take-front n (u ++ v) w ∙ ap (take n) (append_assoc u v w) ∙ sym (take-back n n u (v ++ w) (omega arith))
 
-concat-short : (k : List ℕ) (u : Option (List ℕ)) (v : List ℕ) → IsShort (concat k u v)
-concat-short k None v = take-short (2 ^ 32 - 1) v
-concat-short k (Some u) v = take-short (2 ^ 32 - 1) (u ++ v)
+pub concat-short : (k : List ℕ) → KeepsShort (concat k)
+concat-short k None v hu hv = take-short (2 ^ 32 - 1) v
+concat-short k (Some u) v hu hv = take-short (2 ^ 32 - 1) (u ++ v)
 
 concat-law : (k : List ℕ) → IsLawful (concat k)
 concat-law k = record {
@@ -48,7 +50,7 @@ concat-law k = record {
 }
 
 pub concat-lawful : (k : List ℕ) → IsLawful (concat k) × KeepsShort (concat k)
-concat-lawful k = (concat-law k, λ u v hu hv. concat-short k u v)
+concat-lawful k = (concat-law k, concat-short k)
 
 greater-assoc : (k u v w : List ℕ) → greater k (Some (greater k (Some u) v)) w ≡ greater k (Some u) (greater k (Some v) w)
 greater-assoc k u v w = by (key_lt u v) refl (key_lt v w) refl
@@ -59,7 +61,7 @@ greater-assoc k u v w = by (key_lt u v) refl (key_lt v w) refl
     by false e true f = refl
     by false e false f = ap (λ b. cond b w u) (not-lt-trans u v w e f) ∙ sym (ap (λ b. cond b v u) e)
 
-greater-short : (k : List ℕ) (u : Option (List ℕ)) (v : List ℕ) → IfSome u IsShort → IsShort v → IsShort (greater k u v)
+pub greater-short : (k : List ℕ) → KeepsShort (greater k)
 greater-short k None v h hv = hv
 greater-short k (Some u) v h hv = by (key_lt u v)
   where
@@ -75,6 +77,14 @@ greater-law k = record {
 
 pub greater-lawful : (k : List ℕ) → IsLawful (greater k) × KeepsShort (greater k)
 greater-lawful k = (greater-law k, greater-short k)
+
+pub named-short : (o : NamedOperator) (k : List ℕ) → KeepsShort (named o k)
+named-short operators.Concat k = concat-short k
+named-short operators.Max k = greater-short k
+
+pub named-lawful : (o : NamedOperator) (k : List ℕ) → IsLawful (named o k) × KeepsShort (named o k)
+named-lawful operators.Concat k = concat-lawful k
+named-lawful operators.Max k = greater-lawful k
 
 -- ---- bytes that are changed by one number
 
