@@ -2,7 +2,7 @@
 ghost use Rattle.std.specs.Prelude.{◌≡◌};
 ghost use Rattle.slate_types.specs.Keys.{key_lt};
 ghost use Rattle.slate_language.specs.Parts as parts;
-ghost use Rattle.slate_language.proofs.PartsLaws.{concat-short, greater-short, named-short};
+ghost use Rattle.slate_language.specs.ShortParts.{concat_short, greater_short, named_short};
 
 use bytes::Bytes;
 use slate_types::{MergeOperator, MergeOperatorError};
@@ -18,7 +18,7 @@ pub struct Concat;
 impl MergeOperator for Concat {
     ghost combine = { λ _. parts.concat };
 
-    ghost short = { λ _. concat-short };
+    ghost short = { λ _. concat_short };
 
     ghost faults = { λ _. 0 };
 
@@ -46,7 +46,7 @@ pub struct Max;
 impl MergeOperator for Max {
     ghost combine = { λ _. parts.greater };
 
-    ghost short = { λ _. greater-short };
+    ghost short = { λ _. greater_short };
 
     ghost faults = { λ _. 0 };
 
@@ -77,7 +77,7 @@ pub enum NamedOperator {
 impl MergeOperator for NamedOperator {
     ghost combine = { parts.named };
 
-    ghost short = { named-short };
+    ghost short = { named_short };
 
     ghost faults = { λ _. 0 };
 
@@ -95,9 +95,9 @@ impl MergeOperator for NamedOperator {
     }
 }
 
-// Whether the first comes before the second.
+/// Whether the first stands before the second, byte by byte.
 fn is_below(first: &[u8], second: &[u8]) -> bool
     ensures { result ≡ key_lt first.now second.now }
 {
-    first < second
+    first.cmp(second).is_lt()
 }
