@@ -2,15 +2,14 @@
 use Rattle.std.proofs.Common.{◌≡◌, ℕ, ◌<◌, Bool, true, false, cond, ◌==◌, ◌⊎◌, inl, inr, List, [], ◌∷◌, length, Option, Some, None, option_map, codes, bytes_eq, refl, sym, ap, subst, ◌∙◌, arith}
 use Rattle.std.specs.Prelude.{◌↔◌}
 use Rattle.std.specs.List.{slice_split, onto_first, AllByRecursion}
-use Rattle.slate_mem.specs.Batch.{Ops}
 use Rattle.slate_txn.specs.declared.line.Line.{Line}
 use Rattle.slate_txn.specs.declared.line.Line.TheVariants as lines
 use Rattle.slate_language.specs.declared.parse.Keyword.{Keyword}
-use Rattle.slate_language.specs.declared.parse.Keyword.TheVariants.{Begin, Snapshot, Get, Scan, Put, Delete, Mark, Unmark, Commit, Rollback, Now, Write, Freeze, Flush, Journal}
+use Rattle.slate_language.specs.declared.parse.Keyword.TheVariants.{Begin, Snapshot, Get, Scan, Put, Merge, Delete, Mark, Unmark, Commit, Rollback, Now, Write, Freeze, Flush, Journal}
 use Rattle.slate_language.specs.Grammar.{Spells}
-use Rattle.slate_language.specs.Parse.{both, only_if, ◌>>=◌, split_by, tokens_of, read_level, read_moment, read_name, read_order, read_pair, read_way, grouped, ops_of_groups, parse_tokens}
-use Rattle.slate_language.specs.Stage.{is_built, is_built_batch, if_built, IsBuiltLine, meaning}
-use Rattle.slate_language.specs.Built.{keyword_among, keywords, keyword, if_batch_built, built_ops, built_as, built_tokens}
+use Rattle.slate_language.specs.Parse.{both, only_if, ◌>>=◌, split_by, tokens_of, read_level, read_moment, read_name, read_order, read_pair, read_way, ops_of_groups, parse_tokens}
+use Rattle.slate_language.specs.Stage.{is_built, if_built, IsBuiltLine, meaning}
+use Rattle.slate_language.specs.Built.{keyword_among, keywords, keyword, built_ops, built_as, built_tokens}
 use Rattle.slate_language.proofs.ParseLaws.{moment-read, name-read, level-read, order-read, pair-read, way-read, named-read, keyed-read, many-read, behind-name, ops-read, line-read, parse-is}
 use Rattle.slate_language.proofs.ParseOnly.{None-is-Some, Some-is, only_if-some, map-some, bind-some, both-some, cond-either, same-bytes, moment-only, name-only, level-only, order-only, way-only, name-line, keyed-line, many-line, put-line, ops-only, tokens-only, parse-only}
 
@@ -49,6 +48,7 @@ keyword_text Snapshot = codes "snapshot"
 keyword_text Get = codes "get"
 keyword_text Scan = codes "scan"
 keyword_text Put = codes "put"
+keyword_text Merge = codes "merge"
 keyword_text Delete = codes "delete"
 keyword_text Mark = codes "mark"
 keyword_text Unmark = codes "unmark"
@@ -69,13 +69,7 @@ among-only t (p ∷ ps) w h e = by (cond-either (bytes_eq t p.0) (Some p.1) (key
     by (inr k) later = later k.1
 
 keyword-only : (t : List ℕ) (w : Keyword) → keyword t ≡ Some w → t ≡ keyword_text w
-keyword-only t w e = among-only t keywords w (refl, (refl, (refl, (refl, (refl, (refl, (refl, (refl, (refl, (refl, (refl, (refl, (refl, (refl, (refl, tt))))))))))))))) e
-
-ops-built-only : (ts : List (List ℕ)) (batch : Ops) → built_ops ts ≡ Some batch → (ops_of_groups (grouped ts) ≡ Some batch) × (is_built_batch batch ≡ true)
-ops-built-only ts batch e =
-    let outer = bind-some (ops_of_groups (grouped ts)) if_batch_built batch e in
-    let some = only_if-some (is_built_batch outer.0) outer.0 batch outer.2 in
-    (outer.1 ∙ ap Some some.1, ap is_built_batch (sym some.1) ∙ some.0)
+keyword-only t w e = among-only t keywords w (refl, (refl, (refl, (refl, (refl, (refl, (refl, (refl, (refl, (refl, (refl, (refl, (refl, (refl, (refl, (refl, tt)))))))))))))))) e
 
 as-only : (w : Keyword) (ts : List (List ℕ)) (line : Line) → built_as w ts ≡ Some line → Meets (keyword_text w ∷ ts) line
 as-only Now [] line e = None-is-Some line e
@@ -109,6 +103,10 @@ as-only Put [] line e = None-is-Some line e
 as-only Put (n ∷ us) line e =
     let p = put-line lines.Put n us line e in
     subst (Meets (codes "put" ∷ n ∷ us)) p.7 ((us, p.4, p.5, ap (λ m. codes "put" ∷ m ∷ us) p.6), refl)
+as-only Merge [] line e = None-is-Some line e
+as-only Merge (n ∷ us) line e =
+    let p = put-line lines.Merge n us line e in
+    subst (Meets (codes "merge" ∷ n ∷ us)) p.7 ((us, p.4, p.5, ap (λ m. codes "merge" ∷ m ∷ us) p.6), refl)
 as-only Delete us line e =
     let p = keyed-line lines.Delete us line e in
     subst (Meets (codes "delete" ∷ us)) p.6 ((p.2, p.3, p.4, ap (λ ts. codes "delete" ∷ ts) p.5), refl)
@@ -126,8 +124,7 @@ as-only Rollback us line e =
     subst (Meets (codes "rollback" ∷ us)) p.3 ((p.1, ap (λ ts. codes "rollback" ∷ ts) p.2), refl)
 as-only Write ts line e =
     let inner = map-some lines.Write (built_ops ts) line e in
-    let read = ops-built-only ts inner.0 inner.1 in
-    subst (Meets (codes "write" ∷ ts)) inner.2 ((ts, ops-only ts inner.0 read.0, refl), read.1)
+    subst (Meets (codes "write" ∷ ts)) inner.2 ((ts, ops-only ts inner.0 inner.1, refl), refl)
 as-only Freeze [] line e = subst (Meets (codes "freeze" ∷ [])) (Some-is lines.Freeze line e) (refl, refl)
 as-only Freeze (u ∷ us) line e = None-is-Some line e
 as-only Flush [] line e = subst (Meets (codes "flush" ∷ [])) (Some-is lines.Flush line e) (refl, refl)
@@ -164,6 +161,9 @@ built-is ts (lines.Scan name order start end sts) h =
 built-is ts (lines.Put name k v ttl) h =
     ap built_tokens h.0.3
     ∙ (behind-name (λ n us. read_pair (lines.Put n) us) name h.0.0 (lines.Put name k v ttl) h.0.1 (pair-read (lines.Put name) h.0.0 k v ttl h.0.2)).0
+built-is ts (lines.Merge name k v ttl) h =
+    ap built_tokens h.0.3
+    ∙ (behind-name (λ n us. read_pair (lines.Merge n) us) name h.0.0 (lines.Merge name k v ttl) h.0.1 (pair-read (lines.Merge name) h.0.0 k v ttl h.0.2)).0
 built-is ts (lines.Delete name k) h = ap built_tokens h.0.3 ∙ (keyed-read lines.Delete name h.0.0 k h.0.1 h.0.2).0
 built-is ts (lines.Mark name ks) h = ap built_tokens h.0.4 ∙ (many-read lines.Mark name h.0.0 ks h.0.1 h.0.2 h.0.3).0
 built-is ts (lines.Unmark name ks) h = ap built_tokens h.0.4 ∙ (many-read lines.Unmark name h.0.0 ks h.0.1 h.0.2 h.0.3).0
@@ -172,14 +172,12 @@ built-is ts (lines.Rollback name) h = ap built_tokens h.0.1 ∙ (named-read line
 built-is ts (lines.Write batch) h =
     let read = ops-read h.0.0 batch h.0.1 in
     ap built_tokens h.0.2
-    ∙ ap (λ g. option_map lines.Write (ops_of_groups g >>= if_batch_built)) read.1
-    ∙ ap (λ o. option_map lines.Write (o >>= if_batch_built)) read.2
-    ∙ ap (λ b. option_map lines.Write (only_if b batch)) h.1
+    ∙ ap (λ g. option_map lines.Write (ops_of_groups g)) read.1
+    ∙ ap (λ o. option_map lines.Write o) read.2
 built-is ts lines.Freeze h = ap built_tokens h.0
 built-is ts lines.Flush h = ap built_tokens h.0
 built-is ts lines.Journal h = ap built_tokens h.0
 built-is ts (lines.Prefix name order p start end sts) h = not-built h.1
-built-is ts (lines.Merge name k v ttl) h = not-built h.1
 
 -- ---- the meaning
 

@@ -1,5 +1,5 @@
 -- The operations of a write, read one after the other.
-use Rattle.std.proofs.Common.{◌≡◌, ℕ, zero, suc, ◌+◌, ◌-◌, ◌<◌, ◌≤◌, Bool, true, false, cond, ◌&&◌, List, [], ◌∷◌, ◌++◌, length, take, drop, get_or, Option, Some, None, option_map, is_some, codes, bytes_eq, refl, sym, ap, ◌∙◌, arith, add-one, append_assoc}
+use Rattle.std.proofs.Common.{◌≡◌, ℕ, zero, suc, ◌+◌, ◌-◌, ◌<◌, ◌≤◌, Bool, true, false, cond, List, [], ◌∷◌, ◌++◌, length, take, drop, get_or, Option, Some, None, option_map, is_some, codes, bytes_eq, refl, sym, ap, ◌∙◌, arith, add-one, append_assoc}
 use Rattle.std.specs.Borrow.{Bor}
 use Rattle.std.specs.declared.ops.Bound.{Bound}
 use Rattle.std.proofs.lemmas.List.{take-map, drop-map, length-drop}
@@ -11,9 +11,7 @@ use Rattle.slate_mem.specs.Batch.{Ops}
 use Rattle.slate_txn.specs.declared.line.ScanStep.{ScanStep}
 use Rattle.slate_txn.specs.declared.line.Line.TheVariants as lines
 use Rattle.slate_language.specs.Parse.{both, three, only_if, ◌>>=◌, read_bound, read_bytes, read_level, read_name, read_pair, read_step, read_ttl, read_all, read_way, named, keyed, many_keyed, OpWord, PutWord, MergeWord, DeleteWord, op_word, op_as, Groups, group_token, grouped, ops_of_groups}
-use Rattle.slate_language.specs.Stage.{is_built_op, is_built_batch}
-use Rattle.slate_language.specs.Built.{texts, is_op_word, Op, built_begin, built_put_op, built_delete_op, built_op, built_ops, if_batch_built}
-use Rattle.slate_language.proofs.ParseOnly.{same-bytes}
+use Rattle.slate_language.specs.Built.{texts, is_op_word, Op, built_begin, built_put_op, built_merge_op, built_delete_op, built_op, built_ops}
 
 -- ---- the tokens of the first operation
 
@@ -45,76 +43,22 @@ front-within (t ∷ ts) = by (op_word t) (front-within ts)
 
 -- ---- one operation, and those behind it
 
-abbrev if_op_built : Op → Option Op
-if_op_built o = only_if (is_built_op o.1) o
-
-batch-step : (a : Option Op) (b : Option Ops) → (both ◌∷◌ a b >>= if_batch_built) ≡ both ◌∷◌ (a >>= if_op_built) (b >>= if_batch_built)
-batch-step None b = refl
-batch-step (Some o) None = by (is_built_op o.1)
-  where
-    by : (p : Bool) → let none : Option Ops = None in none ≡ both ◌∷◌ (only_if p o) None
-    by true = refl
-    by false = refl
-batch-step (Some o) (Some os) = by (is_built_op o.1) (is_built_batch os)
-  where
-    by : (p q : Bool) → only_if (p && q) (o ∷ os) ≡ both ◌∷◌ (only_if p o) (only_if q os)
-    by true true = refl
-    by true false = refl
-    by false true = refl
-    by false false = refl
-
-abbrev put_op : List ℕ → List ℕ → Ttl → Op
-put_op k v ttl = (k, ops.Put v (record { ttl = ttl }))
-
-abbrev merge_op : List ℕ → List ℕ → Ttl → Op
-merge_op k v ttl = (k, ops.Merge v (record { ttl = ttl }))
-
-put-three : (a b : Option (List ℕ)) (c : Option Ttl) → (three put_op a b c >>= if_op_built) ≡ three put_op a b c
-put-three None b c = refl
-put-three (Some k) None c = refl
-put-three (Some k) (Some v) None = refl
-put-three (Some k) (Some v) (Some ttl) = refl
-
-merge-three : (a b : Option (List ℕ)) (c : Option Ttl) → (three merge_op a b c >>= if_op_built) ≡ None
-merge-three None b c = refl
-merge-three (Some k) None c = refl
-merge-three (Some k) (Some v) None = refl
-merge-three (Some k) (Some v) (Some ttl) = refl
-
-put-as : (ts : List (List ℕ)) → (op_as PutWord ts >>= if_op_built) ≡ built_put_op ts
-put-as [] = refl
-put-as (k ∷ []) = refl
-put-as (k ∷ v ∷ ts) = put-three (read_bytes k) (read_bytes v) (read_ttl ts)
-
-merge-as : (ts : List (List ℕ)) → (op_as MergeWord ts >>= if_op_built) ≡ None
-merge-as [] = refl
-merge-as (k ∷ []) = refl
-merge-as (k ∷ v ∷ ts) = merge-three (read_bytes k) (read_bytes v) (read_ttl ts)
-
-delete-as : (ts : List (List ℕ)) → (op_as DeleteWord ts >>= if_op_built) ≡ built_delete_op ts
+delete-as : (ts : List (List ℕ)) → op_as DeleteWord ts ≡ built_delete_op ts
 delete-as [] = refl
-delete-as (k ∷ []) = by (read_bytes k)
-  where
-    by : (o : Option (List ℕ)) → let make : List ℕ → Op = λ key. (key, ops.Delete) in (option_map make o >>= if_op_built) ≡ option_map make o
-    by None = refl
-    by (Some key) = refl
+delete-as (k ∷ []) = refl
 delete-as (k ∷ t ∷ ts) = refl
 
 abbrev word_by : Bool → Bool → Bool → Option OpWord
 word_by p m d = cond p (Some PutWord) (cond m (Some MergeWord) (only_if d DeleteWord))
 
-op-is : (w : List ℕ) (ts : List (List ℕ)) → (op_word w >>= λ x. op_as x ts >>= if_op_built) ≡ built_op w ts
-op-is w ts = by (bytes_eq w (codes "put")) (bytes_eq w (codes "merge")) refl (bytes_eq w (codes "delete")) refl
+op-is : (w : List ℕ) (ts : List (List ℕ)) → (op_word w >>= λ x. op_as x ts) ≡ built_op w ts
+op-is w ts = by (bytes_eq w (codes "put")) (bytes_eq w (codes "merge")) (bytes_eq w (codes "delete"))
   where
-    by : (p m : Bool) → bytes_eq w (codes "merge") ≡ m → (d : Bool) → bytes_eq w (codes "delete") ≡ d →
-        (word_by p m d >>= λ x. op_as x ts >>= if_op_built) ≡ cond p (built_put_op ts) (cond d (built_delete_op ts) None)
-    by true m e d f = put-as ts
-    by false true e true f =
-        let bad : false ≡ true = sym (ap (λ u. bytes_eq u (codes "delete")) (same-bytes w (codes "merge") e)) ∙ f in
-        cc
-    by false true e false f = merge-as ts
-    by false false e true f = delete-as ts
-    by false false e false f = refl
+    by : (p m d : Bool) → (word_by p m d >>= λ x. op_as x ts) ≡ cond p (built_put_op ts) (cond m (built_merge_op ts) (cond d (built_delete_op ts) None))
+    by true m d = refl
+    by false true d = refl
+    by false false true = delete-as ts
+    by false false false = refl
 
 ops-step : (w : List ℕ) (ts : List (List ℕ)) → built_ops (w ∷ ts) ≡ both ◌∷◌ (built_op w (grouped ts).0) (built_ops (drop (length (grouped ts).0) ts))
 ops-step w ts = by (op_word w) ∙ (λ i. both ◌∷◌ (op-is w (grouped ts).0 i) (behind i))
@@ -122,12 +66,12 @@ ops-step w ts = by (op_word w) ∙ (λ i. both ◌∷◌ (op-is w (grouped ts).0
     found : Option Ops
     found = read_all (λ p. op_as p.0 p.1) (grouped ts).1
 
-    behind : (found >>= if_batch_built) ≡ built_ops (drop (length (grouped ts).0) ts)
-    behind = sym (ap (λ g. ops_of_groups g >>= if_batch_built) (rest-grouped ts))
+    behind : found ≡ built_ops (drop (length (grouped ts).0) ts)
+    behind = sym (ap ops_of_groups (rest-grouped ts))
 
-    by : (o : Option OpWord) → (ops_of_groups (group_token o w (grouped ts)) >>= if_batch_built) ≡ both ◌∷◌ (o >>= λ x. op_as x (grouped ts).0 >>= if_op_built) (found >>= if_batch_built)
+    by : (o : Option OpWord) → ops_of_groups (group_token o w (grouped ts)) ≡ both ◌∷◌ (o >>= λ x. op_as x (grouped ts).0) found
     by None = refl
-    by (Some x) = batch-step (op_as x (grouped ts).0) found
+    by (Some x) = refl
 
 -- ---- tokens from a place on
 

@@ -1,22 +1,20 @@
 -- The operators and the transformer are lawful.
-use Rattle.std.proofs.Common.{◌≡◌, ℕ, zero, suc, ◌-◌, ◌^◌, ◌≤◌, Bool, true, false, cond, List, [], ◌∷◌, ◌++◌, length, take, Option, Some, None, IfSome, Result, Ok, Err, IfOk, refl, sym, ap, subst, ◌∙◌, arith, append_assoc}
+use Rattle.std.proofs.Common.{◌≡◌, ℕ, zero, suc, ◌-◌, ◌^◌, ◌≤◌, Bool, true, false, cond, List, [], ◌∷◌, ◌++◌, length, take, Some, Result, Ok, Err, IfOk, refl, sym, ap, subst, ◌∙◌, arith, append_assoc}
 use Rattle.std.specs.Prelude.{IfErr, IsErrAnd, MatchResult}
-use Rattle.slate_types.specs.Fold.{IsShort, IsLawful, KeepsShort}
+use Rattle.slate_types.specs.Fold.{IsLawful, KeepsShort}
 use Rattle.slate_types.specs.Keys.{key_lt}
 use Rattle.slate_types.proofs.KeyOrder.{lt-trans, not-lt-trans}
 use Rattle.std.specs.Int.Bits.{bit_xor, xor_assoc, xor_self, xor_zero_r}
-use Rattle.slate_language.specs.Parts.{concat, greater, xored}
+use Rattle.slate_language.specs.declared.operators.NamedOperator.{NamedOperator}
+use Rattle.slate_language.specs.declared.operators.NamedOperator.TheVariants as operators
+use Rattle.slate_language.specs.Parts.{concat, greater, named, xored}
+use Rattle.slate_language.specs.ShortParts.{concat_short, greater_short}
 
 take-all : (n : ℕ) (v : List ℕ) → length v ≤ n → take n v ≡ v
 take-all zero [] h = refl
 take-all zero (x ∷ xs) h = absurd (omega (arith, h))
 take-all (suc n) [] h = refl
 take-all (suc n) (x ∷ xs) h = ap (λ ys. x ∷ ys) (take-all n xs (omega (arith, h)))
-
-take-short : (n : ℕ) (v : List ℕ) → length (take n v) ≤ n
-take-short zero v = omega arith
-take-short (suc n) [] = omega arith
-take-short (suc n) (x ∷ xs) = omega (arith, take-short n xs)
 
 take-front : (n : ℕ) (xs ws : List ℕ) → take n (take n xs ++ ws) ≡ take n (xs ++ ws)
 take-front zero xs ws = refl
@@ -37,10 +35,6 @@ take-back (suc n) m (x ∷ xs) zs h = ap (λ ys. x ∷ ys) (take-back n m xs zs 
 concat-assoc : (n : ℕ) (u v w : List ℕ) → take n (take n (u ++ v) ++ w) ≡ take n (u ++ take n (v ++ w))
 concat-assoc n u v w = take-front n (u ++ v) w ∙ ap (take n) (append_assoc u v w) ∙ sym (take-back n n u (v ++ w) (omega arith))
 
-concat-short : (k : List ℕ) (u : Option (List ℕ)) (v : List ℕ) → IsShort (concat k u v)
-concat-short k None v = take-short (2 ^ 32 - 1) v
-concat-short k (Some u) v = take-short (2 ^ 32 - 1) (u ++ v)
-
 concat-law : (k : List ℕ) → IsLawful (concat k)
 concat-law k = record {
   first = λ v h. take-all (2 ^ 32 - 1) v h;
@@ -48,7 +42,7 @@ concat-law k = record {
 }
 
 pub concat-lawful : (k : List ℕ) → IsLawful (concat k) × KeepsShort (concat k)
-concat-lawful k = (concat-law k, λ u v hu hv. concat-short k u v)
+concat-lawful k = (concat-law k, concat_short k)
 
 greater-assoc : (k u v w : List ℕ) → greater k (Some (greater k (Some u) v)) w ≡ greater k (Some u) (greater k (Some v) w)
 greater-assoc k u v w = by (key_lt u v) refl (key_lt v w) refl
@@ -59,14 +53,6 @@ greater-assoc k u v w = by (key_lt u v) refl (key_lt v w) refl
     by false e true f = refl
     by false e false f = ap (λ b. cond b w u) (not-lt-trans u v w e f) ∙ sym (ap (λ b. cond b v u) e)
 
-greater-short : (k : List ℕ) (u : Option (List ℕ)) (v : List ℕ) → IfSome u IsShort → IsShort v → IsShort (greater k u v)
-greater-short k None v h hv = hv
-greater-short k (Some u) v h hv = by (key_lt u v)
-  where
-    by : (b : Bool) → IsShort (cond b v u)
-    by true = hv
-    by false = h
-
 greater-law : (k : List ℕ) → IsLawful (greater k)
 greater-law k = record {
   first = λ v h. refl;
@@ -74,7 +60,11 @@ greater-law k = record {
 }
 
 pub greater-lawful : (k : List ℕ) → IsLawful (greater k) × KeepsShort (greater k)
-greater-lawful k = (greater-law k, greater-short k)
+greater-lawful k = (greater-law k, greater_short k)
+
+pub named-lawful : (o : NamedOperator) (k : List ℕ) → IsLawful (named o k) × KeepsShort (named o k)
+named-lawful operators.Concat k = concat-lawful k
+named-lawful operators.Max k = greater-lawful k
 
 -- ---- bytes that are changed by one number
 

@@ -10,8 +10,9 @@ use Rattle.slate_types.specs.declared.config.CompressionCodec.{CompressionCodec}
 use Rattle.slate_types.specs.declared.config.Options.{Options}
 use Rattle.slate_types.specs.Config.{IsValid}
 use Rattle.slate_language.specs.Parse.{only_if, ◌>>=◌, read_number}
+use Rattle.slate_language.specs.declared.operators.NamedOperator.{NamedOperator}
 use Rattle.slate_language.specs.declared.words.Generated.{Generated}
-use Rattle.slate_language.specs.Words.{are_valid, at_most_one, behind, if_valid, is_known, only_value, options, read_below, read_format, read_generated, read_given, read_settings, read_words, value_of, values, with_value}
+use Rattle.slate_language.specs.Words.{are_valid, at_most_one, behind, if_valid, is_known, only_value, operator_of, operator_or_none, options, read_below, read_format, read_generated, read_given, read_settings, read_words, value_of, values, with_value}
 
 no-codec : (c : Option CompressionCodec) → not (is_some c) ≡ true → c ≡ None
 no-codec None h = refl
@@ -98,7 +99,8 @@ settings-swap before after v w = λ i. do
   ttl ← swapped (codes "ttl=") i >>= read_given read_number
   seq ← swapped (codes "seq=") i >>= read_given read_number
   mask ← swapped (codes "xor=") i >>= read_given (read_below (2 ^ 8))
-  if_valid (record { options = options block table format ttl seq; mask = mask })
+  operator ← swapped (codes "op=") i >>= operator_or_none
+  if_valid (record { options = options block table format ttl seq; mask = mask; operator = operator })
   where
     swapped : (name : List ℕ) → only_value name (before ++ (v ∷ w ∷ after)) ≡ only_value name (before ++ (w ∷ v ∷ after))
     swapped name = only-swap name before after v w
@@ -109,12 +111,13 @@ words-any_order before after v w = λ i. cond (known-swap before after v w i) (s
 
 -- ---- the settings of words whose values are known
 
-pub words-read : (ws : List (List ℕ)) {block table : Option (Option ℕ)} {format : Option (Option BlockFormat)} {ttl seq mask : Option (Option ℕ)} → list_all is_known ws ≡ true →
+pub words-read : (ws : List (List ℕ)) {block table : Option (Option ℕ)} {format : Option (Option BlockFormat)} {ttl seq mask : Option (Option ℕ)} {operator : Option (Option NamedOperator)} → list_all is_known ws ≡ true →
     block ≡ value_of (read_below (2 ^ 32)) (codes "block=") ws → table ≡ value_of read_number (codes "table=") ws → format ≡ value_of read_format (codes "format=") ws → ttl ≡ value_of read_number (codes "ttl=") ws →
-    seq ≡ value_of read_number (codes "seq=") ws → mask ≡ value_of (read_below (2 ^ 8)) (codes "xor=") ws →
-    (block >>= λ b. table >>= λ n. format >>= λ f. ttl >>= λ t. seq >>= λ s. mask >>= λ m. if_valid (record { options = options b n f t s; mask = m })) ≡ read_words ws
-words-read ws known block table format ttl seq mask =
-    λ i. cond (sym known i) (block i >>= λ b. table i >>= λ n. format i >>= λ f. ttl i >>= λ t. seq i >>= λ s. mask i >>= λ m. if_valid (record { options = options b n f t s; mask = m })) None
+    seq ≡ value_of read_number (codes "seq=") ws → mask ≡ value_of (read_below (2 ^ 8)) (codes "xor=") ws → operator ≡ operator_of ws →
+    (block >>= λ b. table >>= λ n. format >>= λ f. ttl >>= λ t. seq >>= λ s. mask >>= λ m. operator >>= λ o. if_valid (record { options = options b n f t s; mask = m; operator = o })) ≡ read_words ws
+words-read ws known block table format ttl seq mask operator =
+    λ i. cond (sym known i)
+    (block i >>= λ b. table i >>= λ n. format i >>= λ f. ttl i >>= λ t. seq i >>= λ s. mask i >>= λ m. operator i >>= λ o. if_valid (record { options = options b n f t s; mask = m; operator = o })) None
 
 -- ---- words read one by one
 

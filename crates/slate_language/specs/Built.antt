@@ -14,10 +14,9 @@ use Rattle.slate_mem.specs.Batch.{Ops}
 use Rattle.slate_txn.specs.declared.line.Line.{Line}
 use Rattle.slate_txn.specs.declared.line.Line.TheVariants as lines
 use Rattle.slate_language.specs.declared.parse.Keyword.{Keyword}
-use Rattle.slate_language.specs.declared.parse.Keyword.TheVariants.{Begin, Snapshot, Get, Scan, Put, Delete, Mark, Unmark, Commit, Rollback, Now, Write, Freeze, Flush, Journal}
+use Rattle.slate_language.specs.declared.parse.Keyword.TheVariants.{Begin, Snapshot, Get, Scan, Put, Merge, Delete, Mark, Unmark, Commit, Rollback, Now, Write, Freeze, Flush, Journal}
 use Rattle.slate_language.specs.Grammar.{is_name_byte}
-use Rattle.slate_language.specs.Parse.{only_if, ◌>>=◌, both, read_bytes, read_moment, read_name, read_level, read_order, read_pair, read_way, named, keyed, many_keyed, op_word, grouped, ops_of_groups}
-use Rattle.slate_language.specs.Stage.{is_built_batch}
+use Rattle.slate_language.specs.Parse.{◌>>=◌, both, read_bytes, read_moment, read_name, read_level, read_order, read_pair, read_way, named, keyed, many_keyed, op_word, grouped, ops_of_groups}
 
 abbrev pub texts : List (Bor (List ℕ)) → List (List ℕ)
 texts ts = map (λ t. t.now) ts
@@ -56,7 +55,7 @@ abbrev pub marking : List (List ℕ × Keyword)
 marking = (codes "mark", Mark) ∷ (codes "unmark", Unmark) ∷ (codes "commit", Commit) ∷ (codes "rollback", Rollback) ∷ unnamed
 
 abbrev pub keywords : List (List ℕ × Keyword)
-keywords = (codes "begin", Begin) ∷ (codes "snapshot", Snapshot) ∷ (codes "get", Get) ∷ (codes "scan", Scan) ∷ (codes "put", Put) ∷ (codes "delete", Delete) ∷ marking
+keywords = (codes "begin", Begin) ∷ (codes "snapshot", Snapshot) ∷ (codes "get", Get) ∷ (codes "scan", Scan) ∷ (codes "put", Put) ∷ (codes "merge", Merge) ∷ (codes "delete", Delete) ∷ marking
 
 abbrev pub keyword : List ℕ → Option Keyword
 keyword t = keyword_among keywords t
@@ -72,6 +71,9 @@ Op = List ℕ × WriteOp
 abbrev pub built_put_op : List (List ℕ) → Option Op
 built_put_op ts = read_pair (λ k v ttl. (k, ops.Put v (record { ttl = ttl }))) ts
 
+abbrev pub built_merge_op : List (List ℕ) → Option Op
+built_merge_op ts = read_pair (λ k v ttl. (k, ops.Merge v (record { ttl = ttl }))) ts
+
 abbrev pub built_delete_op : List (List ℕ) → Option Op
 built_delete_op (k ∷ []) = option_map (λ key. (key, ops.Delete)) (read_bytes k)
 built_delete_op _ = None
@@ -79,14 +81,12 @@ built_delete_op _ = None
 -- from its word and the tokens behind it
 abbrev pub built_op : List ℕ → List (List ℕ) → Option Op
 built_op w ts = if bytes_eq w (codes "put") then built_put_op ts
+    else if bytes_eq w (codes "merge") then built_merge_op ts
     else if bytes_eq w (codes "delete") then built_delete_op ts
     else None
 
-abbrev pub if_batch_built : Ops → Option Ops
-if_batch_built batch = only_if (is_built_batch batch) batch
-
 abbrev pub built_ops : List (List ℕ) → Option Ops
-built_ops ts = ops_of_groups (grouped ts) >>= if_batch_built
+built_ops ts = ops_of_groups (grouped ts)
 
 -- ---- lines
 
@@ -111,6 +111,10 @@ built_scan _ = None
 abbrev pub built_put : List (List ℕ) → Option Line
 built_put (n ∷ us) = read_name n >>= λ name. read_pair (lines.Put name) us
 built_put _ = None
+
+abbrev pub built_merge : List (List ℕ) → Option Line
+built_merge (n ∷ us) = read_name n >>= λ name. read_pair (lines.Merge name) us
+built_merge _ = None
 
 abbrev pub built_delete : List (List ℕ) → Option Line
 built_delete ts = keyed lines.Delete ts
@@ -140,6 +144,7 @@ built_as Snapshot ts = built_snapshot ts
 built_as Get ts = built_get ts
 built_as Scan ts = built_scan ts
 built_as Put ts = built_put ts
+built_as Merge ts = built_merge ts
 built_as Delete ts = built_delete ts
 built_as Mark ts = built_mark ts
 built_as Unmark ts = built_unmark ts

@@ -6,6 +6,7 @@ pub mod Built
 pub mod Replies
 pub mod Answers
 pub mod Parts
+pub mod ShortParts
 pub mod Generate
 pub mod Tally
 pub mod WorkedRows

@@ -8,7 +8,8 @@ use Rattle.slate_txn.specs.declared.line.Line.{Line}
 use Rattle.slate_txn.specs.State.{Rules, opening}
 use Rattle.slate_txn.specs.Step.{answers}
 use Rattle.slate_txn.specs.Laws.{is_storage, other_answers}
-use Rattle.slate_language.specs.Parts.{concat, greater, xored}
+use Rattle.slate_language.specs.declared.operators.NamedOperator.{NamedOperator}
+use Rattle.slate_language.specs.Parts.{concat, greater, named, xored}
 use Rattle.slate_types.specs.Keys.{AreBytes}
 use Rattle.slate_language.specs.Text.{shown_bytes}
 use Rattle.slate_language.specs.Grammar.{IsBytes, IsLine}
@@ -55,6 +56,10 @@ ConcatIsLawful = (k : List ℕ) → IsLawful (concat k) × KeepsShort (concat k)
 -- The operator that keeps the greater value is lawful.
 abbrev pub GreaterIsLawful : Type 0
 GreaterIsLawful = (k : List ℕ) → IsLawful (greater k) × KeepsShort (greater k)
+
+-- Each operator that a word can name is lawful.
+abbrev pub NamedIsLawful : Type 0
+NamedIsLawful = (o : NamedOperator) (k : List ℕ) → IsLawful (named o k) × KeepsShort (named o k)
 
 -- The transformer that changes each byte by one number is lawful.
 abbrev pub XorIsLawful : Type 0

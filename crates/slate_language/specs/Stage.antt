@@ -2,23 +2,11 @@
 --     is_built line      its meaning can be answered
 --     IsBuiltLine bytes line      the bytes are a line that is built, with this meaning
 --     meaning bytes      the same, computed
-use Rattle.std.specs.Prelude.{ℕ, Bool, true, false, ◌&&◌, List, [], ◌∷◌, Option, IsTrue}
-use Rattle.slate_mem.specs.declared.WriteOp.{WriteOp}
-use Rattle.slate_mem.specs.declared.WriteOp.TheVariants as ops
-use Rattle.slate_mem.specs.Batch.{Ops}
+use Rattle.std.specs.Prelude.{ℕ, Bool, true, false, List, Option, IsTrue}
 use Rattle.slate_txn.specs.declared.line.Line.{Line}
 use Rattle.slate_txn.specs.declared.line.Line.TheVariants as lines
 use Rattle.slate_language.specs.Grammar.{IsLine}
 use Rattle.slate_language.specs.Parse.{parse, only_if, ◌>>=◌}
-
-abbrev pub is_built_op : WriteOp → Bool
-is_built_op (ops.Put v o) = true
-is_built_op ops.Delete = true
-is_built_op (ops.Merge v o) = false
-
-abbrev pub is_built_batch : Ops → Bool
-is_built_batch [] = true
-is_built_batch (o ∷ os) = is_built_op o.1 && is_built_batch os
 
 abbrev pub is_built : Line → Bool
 is_built (lines.Now m) = true
@@ -27,16 +15,17 @@ is_built (lines.Snapshot name) = true
 is_built (lines.Get name k) = true
 is_built (lines.Scan name order start end sts) = true
 is_built (lines.Put name k v ttl) = true
+is_built (lines.Merge name k v ttl) = true
 is_built (lines.Delete name k) = true
 is_built (lines.Mark name ks) = true
 is_built (lines.Unmark name ks) = true
 is_built (lines.Commit name) = true
 is_built (lines.Rollback name) = true
-is_built (lines.Write batch) = is_built_batch batch
+is_built (lines.Write batch) = true
 is_built lines.Freeze = true
 is_built lines.Flush = true
 is_built lines.Journal = true
-is_built _ = false
+is_built (lines.Prefix name order p start end sts) = false
 
 abbrev pub IsBuiltLine : List ℕ → Line → Type 0
 IsBuiltLine bytes line = IsLine bytes line × IsTrue (is_built line)

@@ -1,6 +1,7 @@
--- What the words of a run say: the options, and the number that stored bytes are changed by.
+-- What the words of a run say: the options, the number that stored bytes are changed by, and the operator.
 --     behind name w      the text behind the name in a word that begins with it
 --     only_value name ws      that text in the one word that has it; none where no word has; and nothing where more have
+--     read_operator t      the operator that a text names, where `none` names that there is none
 --     read_words ws      the settings of all words
 --     read_generated ws      the same behind `gen` and its two numbers
 -- Each word begins with one of the names, no two with the same one, the texts behind the names are the values, and what isn't set is as by default.
@@ -10,6 +11,8 @@ use Rattle.slate_types.specs.declared.config.BlockFormat.{BlockFormat}
 use Rattle.slate_types.specs.declared.config.BlockFormat.TheVariants.{V1, V2, Latest}
 use Rattle.slate_types.specs.declared.config.Options.{Options}
 use Rattle.slate_types.specs.Config.{defaults}
+use Rattle.slate_language.specs.declared.operators.NamedOperator.{NamedOperator}
+use Rattle.slate_language.specs.declared.operators.NamedOperator.TheVariants as operators
 use Rattle.slate_language.specs.declared.words.Generated.{Generated}
 use Rattle.slate_language.specs.declared.words.Settings.{Settings}
 use Rattle.slate_language.specs.Parse.{only_if, ◌>>=◌, read_number}
@@ -25,6 +28,11 @@ abbrev pub read_format : List ℕ → Option BlockFormat
 read_format t = if bytes_eq t (codes "v1") then Some V1
     else if bytes_eq t (codes "v2") then Some V2
     else only_if (bytes_eq t (codes "latest")) Latest
+
+abbrev pub read_operator : List ℕ → Option (Option NamedOperator)
+read_operator t = if bytes_eq t (codes "none") then Some None
+    else if bytes_eq t (codes "concat") then Some (Some operators.Concat)
+    else only_if (bytes_eq t (codes "max")) (Some operators.Max)
 
 -- ---- words
 
@@ -55,8 +63,15 @@ read_given read (Some v) = option_map Some (read v)
 abbrev pub value_of : {A : Type 0} → (List ℕ → Option A) → List ℕ → List (List ℕ) → Option (Option A)
 value_of read name ws = only_value name ws >>= read_given read
 
+abbrev pub operator_or_none : Option (List ℕ) → Option (Option NamedOperator)
+operator_or_none None = Some None
+operator_or_none (Some v) = read_operator v
+
+abbrev pub operator_of : List (List ℕ) → Option (Option NamedOperator)
+operator_of ws = only_value (codes "op=") ws >>= operator_or_none
+
 abbrev pub names : List (List ℕ)
-names = codes "block=" ∷ codes "table=" ∷ codes "format=" ∷ codes "ttl=" ∷ codes "seq=" ∷ codes "xor=" ∷ []
+names = codes "block=" ∷ codes "table=" ∷ codes "format=" ∷ codes "op=" ∷ codes "ttl=" ∷ codes "seq=" ∷ codes "xor=" ∷ []
 
 abbrev pub is_known : List ℕ → Bool
 is_known w = list_any (λ name. is_some (behind name w)) names
@@ -88,7 +103,8 @@ read_settings ws = do
   ttl ← value_of read_number (codes "ttl=") ws
   seq ← value_of read_number (codes "seq=") ws
   mask ← value_of (read_below (2 ^ 8)) (codes "xor=") ws
-  if_valid (record { options = options block table format ttl seq; mask = mask })
+  operator ← operator_of ws
+  if_valid (record { options = options block table format ttl seq; mask = mask; operator = operator })
 
 abbrev pub read_words : List (List ℕ) → Option Settings
 read_words ws = if list_all is_known ws then read_settings ws else None

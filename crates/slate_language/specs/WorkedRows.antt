@@ -4,7 +4,7 @@ use Prim.Native.String.{String}
 use Rattle.slate_types.specs.declared.filter_policy.PrefixTarget.TheVariants.{Point}
 use Rattle.slate_filter.specs.Extractors.{last_colon}
 use Rattle.slate_txn.specs.State.{Rules}
-use Rattle.slate_language.specs.Parts.{concat}
+use Rattle.slate_language.specs.Parts.{concat, greater}
 use Rattle.slate_language.specs.Generate.{generate, summary}
 use Rattle.slate_language.specs.Replies.{whole_replies, replies}
 
@@ -13,6 +13,9 @@ plain = record { default_millis = None; start_seq = 0; combine = None; segment =
 
 abbrev pub concatenating : Rules
 concatenating = record { default_millis = None; start_seq = 0; combine = Some concat; segment = None }
+
+abbrev pub keeping_the_greatest : Rules
+keeping_the_greatest = record { default_millis = None; start_seq = 0; combine = Some greater; segment = None }
 
 abbrev pub near_the_end : Rules
 near_the_end = record { default_millis = None; start_seq = 2 ^ 64 - 3; combine = None; segment = None }
@@ -104,21 +107,27 @@ marked_key =
 abbrev pub MarkedKey : Type 0
 MarkedKey = Answers plain marked_key
 
-abbrev pub OneTtlAKey : Type 0
-OneTtlAKey = Answers concatenating (
+abbrev pub one_ttl_a_key : List (String × String)
+one_ttl_a_key =
     ("write delete 'a merge 'a '1 t5" ▹ "refused IncompatibleMergeTtls 'a 5 -") ∷
     ("journal" ▹ "journal 0") ∷
-    [])
+    []
 
-abbrev pub NoOperator : Type 0
-NoOperator = Answers plain (
+abbrev pub OneTtlAKey : Type 0
+OneTtlAKey = Answers concatenating one_ttl_a_key
+
+abbrev pub no_operator : List (String × String)
+no_operator =
     ("write merge 'a '1 put 'a '2" ▹ "refused MergeOperatorMissing") ∷
     ("begin t si" ▹ "begun t 0") ∷
     ("merge t ' '1" ▹ "refused MergeOperatorMissing") ∷
-    [])
+    []
 
-abbrev pub BetweenOperands : Type 0
-BetweenOperands = Answers concatenating (
+abbrev pub NoOperator : Type 0
+NoOperator = Answers plain no_operator
+
+abbrev pub between_operands : List (String × String)
+between_operands =
     ("write merge 'k 'a" ▹ "written 1") ∷
     ("write merge 'k 'b" ▹ "written 2") ∷
     ("begin t si" ▹ "begun t 2") ∷
@@ -127,16 +136,35 @@ BetweenOperands = Answers concatenating (
     ("get t 'k" ▹ "row 'k 'ab 2 0 -") ∷
     ("begin u si" ▹ "begun u 3") ∷
     ("get u 'k" ▹ "row 'k 'abc 3 0 -") ∷
-    [])
+    []
 
-abbrev pub OwnAboveAll : Type 0
-OwnAboveAll = Answers concatenating (
+abbrev pub BetweenOperands : Type 0
+BetweenOperands = Answers concatenating between_operands
+
+abbrev pub own_above_all : List (String × String)
+own_above_all =
     ("now 100" ▹ "now 100") ∷
     ("write put 'k 'a t50" ▹ "written 1") ∷
     ("begin t si" ▹ "begun t 1") ∷
     ("merge t 'k 'b" ▹ "ok") ∷
     ("get t 'k" ▹ "row 'k 'ab 18446744073709551615 100 150") ∷
-    [])
+    []
+
+abbrev pub OwnAboveAll : Type 0
+OwnAboveAll = Answers concatenating own_above_all
+
+abbrev pub greatest_operand : List (String × String)
+greatest_operand =
+    ("write merge 'k 'b" ▹ "written 1") ∷
+    ("flush" ▹ "flushed 1") ∷
+    ("write merge 'k 'a" ▹ "written 2") ∷
+    ("flush" ▹ "flushed 2") ∷
+    ("begin t si" ▹ "begun t 2") ∷
+    ("get t 'k" ▹ "row 'k 'b 2 0 -") ∷
+    []
+
+abbrev pub GreatestOperand : Type 0
+GreatestOperand = Answers keeping_the_greatest greatest_operand
 
 abbrev pub back_with_a_seek : List (String × String)
 back_with_a_seek =
@@ -373,11 +401,23 @@ OwnToday = AnswersToday ten_millis (
     ("journal" ▹ "journal 1 1 5 2 'a 'b") ∷
     [])
 
+-- Operands: what they are refused for, between them a reader, under a transaction's own, and the greatest.
+abbrev pub MergesToday : Type 0
+MergesToday = AnswersToday concatenating one_ttl_a_key × AnswersToday plain no_operator × AnswersToday concatenating between_operands
+    × AnswersToday concatenating own_above_all × AnswersToday keeping_the_greatest greatest_operand
+    × AnswersToday concatenating (
+    ("now 100" ▹ "now 100") ∷
+    ("write put 'a '1 t50" ▹ "written 1") ∷
+    ("write merge 'a '2 t50" ▹ "written 2") ∷
+    ("write delete 'a merge 'a '1 t5" ▹ "refused IncompatibleMergeTtls 'a 105 -") ∷
+    ("write merge 'a '1 t5 put 'a '2" ▹ "written 3") ∷
+    [])
+
 -- A line that isn't built ends a script, as does one that is none.
 abbrev pub NotBuiltToday : Type 0
 NotBuiltToday = (replies plain (text ("begin t si" ∷ "prefix t asc 'a * *" ∷ "begin u si" ∷ [])) ≡ text ("begun t 0" ∷ []))
     × (replies plain (text ("mark t" ∷ [])) ≡ [])
-    × (replies plain (text ("write put 'a '1 merge 'a '2" ∷ [])) ≡ [])
+    × (replies plain (text ("write put 'a '1 merge 'a" ∷ [])) ≡ [])
     × (replies plain (text ("write put 0x6A '1" ∷ [])) ≡ [])
     × (replies plain (text ("write put 'a '1 t05" ∷ [])) ≡ [])
     × (replies plain (text ("# a comment" ∷ "" ∷ "now -0" ∷ [])) ≡ [])

@@ -6,6 +6,7 @@
 #![tactic(auto)]
 
 pub mod generator;
+pub mod operators;
 pub mod parse;
 pub mod parts;
 pub mod reply;
@@ -17,6 +18,7 @@ pub mod token;
 pub mod words;
 
 pub use generator::generate;
+pub use operators::{Concat, Max, NamedOperator};
 pub use parse::parse_line;
 pub use parts::Xor;
 pub use reply::{Answer, JournalEntry, reply_text};
@@ -29,5 +31,6 @@ fn crosses<T: Send + Sync>() {}
 
 /// The types of this crate go to other threads, and are shared between them.
 pub fn types_cross_threads() {
-    crosses::<(Answer, Generated, JournalEntry, Settings, Tally, Xor)>();
+    crosses::<(Answer, Generated, JournalEntry, Settings, Tally)>();
+    crosses::<(Concat, Max, NamedOperator, Xor)>();
 }

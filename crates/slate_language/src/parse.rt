@@ -2,8 +2,8 @@
 ghost use Rattle.std.specs.Prelude.{◌≡◌, ◌⊎◌, ◌≤◌, ◌∷◌, [], Ok, Some, None, IfOk, IfSome, IfErr, codes, length, option_map, true, false};
 ghost use Rattle.slate_language.specs.Parse.{tokens_of, grouped, both, many_keyed, read_all, read_bytes, read_bound, read_level, read_name, read_order, read_pair, read_step, read_ttl, read_way};
 ghost use Rattle.slate_language.specs.Stage.{meaning};
-ghost use Rattle.slate_language.specs.Built.{texts, keyword, keyword_among, marking, unnamed, built_begin, built_snapshot, built_get, built_scan, built_put, built_delete, built_mark, built_unmark, built_commit, built_rollback, built_now, built_write, built_alone, built_as, built_tokens};
-ghost use Rattle.slate_language.specs.Built.{is_op_word, built_put_op, built_delete_op, built_op, built_ops};
+ghost use Rattle.slate_language.specs.Built.{texts, keyword, keyword_among, marking, unnamed, built_begin, built_snapshot, built_get, built_scan, built_put, built_merge, built_delete, built_mark, built_unmark, built_commit, built_rollback, built_now, built_write, built_alone, built_as, built_tokens};
+ghost use Rattle.slate_language.specs.Built.{is_op_word, built_put_op, built_merge_op, built_delete_op, built_op, built_ops};
 ghost use Rattle.slate_language.specs.Replies.{is_silent};
 
 use crate::token::{
@@ -12,7 +12,7 @@ use crate::token::{
 use bytes::Bytes;
 use slate_mem::WriteOp;
 use slate_txn::{KeyList, Line, OpList, StepList};
-use slate_types::{IsolationLevel, IterationOrder, PutOptions, SlateDBError, Ttl};
+use slate_types::{IsolationLevel, IterationOrder, MergeOptions, PutOptions, SlateDBError, Ttl};
 use std::alloc::{AllocError, Global};
 use std::ops::Bound;
 
@@ -24,6 +24,7 @@ enum Keyword {
     Get,
     Scan,
     Put,
+    Merge,
     Delete,
     Mark,
     Unmark,
@@ -96,6 +97,8 @@ fn read_keyword(token: &[u8]) -> Option<Keyword>
         Some(Keyword::Scan)
     } else if is_word(token, b"put") {
         Some(Keyword::Put)
+    } else if is_word(token, b"merge") {
+        Some(Keyword::Merge)
     } else if is_word(token, b"delete") {
         Some(Keyword::Delete)
     } else {
@@ -149,6 +152,7 @@ fn read_as(alloc: Global, keyword: Keyword, tokens: &[&[u8]]) -> Result<Option<L
         Keyword::Get => read_get(alloc, tokens),
         Keyword::Scan => read_scan(alloc, tokens),
         Keyword::Put => read_put(alloc, tokens),
+        Keyword::Merge => read_merge(alloc, tokens),
         Keyword::Delete => read_delete(alloc, tokens),
         Keyword::Mark => read_mark(alloc, tokens),
         Keyword::Unmark => read_unmark(alloc, tokens),
@@ -393,6 +397,34 @@ fn read_put(alloc: Global, tokens: &[&[u8]]) -> Result<Option<Line>, AllocError>
     }
 }
 
+/// `merge N K V`, and maybe a time to live
+fn read_merge(alloc: Global, tokens: &[&[u8]]) -> Result<Option<Line>, AllocError>
+    ensures line { IfOk result (λ o. o ≡ built_merge (texts tokens.now)) }
+{
+    let Some((name, rest)) = tokens.split_first() else {
+        return Ok(None);
+    };
+    let Some(name) = copy_name(alloc, name)? else {
+        return Ok(None);
+    };
+    match read_pair(alloc, rest) {
+        Ok(Some((key, value, ttl))) => Ok(Some(Line::Merge {
+            name,
+            key,
+            value,
+            ttl,
+        })),
+        Ok(None) => {
+            drop(name);
+            Ok(None)
+        }
+        Err(error) => {
+            drop(name);
+            Err(error)
+        }
+    }
+}
+
 /// `delete N K`
 fn read_delete(alloc: Global, tokens: &[&[u8]]) -> Result<Option<Line>, AllocError>
     ensures line { IfOk result (λ o. o ≡ built_delete (texts tokens.now)) }
@@ -580,6 +612,8 @@ fn read_op(
 {
     if is_word(word, b"put") {
         read_put_op(alloc, tokens)
+    } else if is_word(word, b"merge") {
+        read_merge_op(alloc, tokens)
     } else if is_word(word, b"delete") {
         read_delete_op(alloc, tokens)
     } else {
@@ -593,6 +627,16 @@ fn read_put_op(alloc: Global, tokens: &[&[u8]]) -> Result<Option<(Bytes, WriteOp
 {
     match read_pair(alloc, tokens)? {
         Some((key, value, ttl)) => Ok(Some((key, WriteOp::Put(value, PutOptions { ttl })))),
+        None => Ok(None),
+    }
+}
+
+/// `K V`, and maybe a time to live
+fn read_merge_op(alloc: Global, tokens: &[&[u8]]) -> Result<Option<(Bytes, WriteOp)>, AllocError>
+    ensures op { IfOk result (λ o. o ≡ built_merge_op (texts tokens.now)) }
+{
+    match read_pair(alloc, tokens)? {
+        Some((key, value, ttl)) => Ok(Some((key, WriteOp::Merge(value, MergeOptions { ttl })))),
         None => Ok(None),
     }
 }

@@ -19,6 +19,7 @@ ghost use Rattle.slate_language.specs.WorkedRows.{
   NoOperator,
   BetweenOperands,
   OwnAboveAll,
+  GreatestOperand,
   OrdinaryDay,
   DeletedKey,
   OlderReaderToday,
@@ -30,6 +31,7 @@ ghost use Rattle.slate_language.specs.WorkedRows.{
   ScansToday,
   SnapshotsToday,
   OwnToday,
+  MergesToday,
   NotBuiltToday,
 };
 
@@ -55,6 +57,8 @@ pub fn worked_rows()
     ensures between_operands { BetweenOperands }
     // Own operations are above all, without stamps.
     ensures own_above_all { OwnAboveAll }
+    // The greatest of operands that were stored one by one.
+    ensures greatest_operand { GreatestOperand }
     // A scan back, with a seek between.
     ensures back_with_a_seek { BackWithASeek }
     // A prefix without a successor, and a range that is refused before it is tracked.
@@ -95,6 +99,8 @@ pub fn worked_rows()
     ensures snapshots_today { SnapshotsToday }
     // Own operations before and after their commit, by what is built today.
     ensures own_today { OwnToday }
+    // Operands, by what is built today.
+    ensures merges_today { MergesToday }
     // What is not built ends a script.
     ensures not_built_today { NotBuiltToday }
 {}

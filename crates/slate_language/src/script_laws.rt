@@ -1,5 +1,5 @@
 //! The laws of lines, of replies, of the words of a run, and of the parts that words can name. Each is proved of all values, and no call does anything.
-ghost use Rattle.slate_language.specs.ScriptLaws.{ConcatIsLawful, CutsALine, EmptyIsSilent, GeneratedIsWellFormed, GreaterIsLawful, HasOneMeaning, ReadsNothingElse, ReadsTheGrammar, ReadsWhatIsBuilt, ReadsWhatIsShown, StoringIsSilent, TallyIsSummary, WordsInAnyOrder, WordsNameOneScript, XorIsLawful};
+ghost use Rattle.slate_language.specs.ScriptLaws.{ConcatIsLawful, CutsALine, EmptyIsSilent, GeneratedIsWellFormed, GreaterIsLawful, HasOneMeaning, NamedIsLawful, ReadsNothingElse, ReadsTheGrammar, ReadsWhatIsBuilt, ReadsWhatIsShown, StoringIsSilent, TallyIsSummary, WordsInAnyOrder, WordsNameOneScript, XorIsLawful};
 
 /// What the grammar has is read, with its meaning.
 pub fn reads_the_grammar()
@@ -44,6 +44,11 @@ pub fn concat_is_lawful()
 /// The operator that keeps the greater value is lawful.
 pub fn greater_is_lawful()
     ensures { GreaterIsLawful }
+{}
+
+/// Each operator that a word can name is lawful.
+pub fn named_is_lawful()
+    ensures { NamedIsLawful }
 {}
 
 /// The transformer that changes each byte by one number is lawful.

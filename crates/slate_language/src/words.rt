@@ -5,17 +5,19 @@ ghost use Rattle.std.specs.Option.{option_copied};
 ghost use Rattle.std.specs.String.{string_bytes};
 ghost use Rattle.slate_types.specs.Config.{IsValid};
 ghost use Rattle.slate_language.specs.Parse.{read_number};
-ghost use Rattle.slate_language.specs.Words.{behind, if_valid, is_known, max_rounds, only_value, options, read_below, read_format, read_generated, read_words, value_of};
+ghost use Rattle.slate_language.specs.Words.{behind, if_valid, is_known, max_rounds, only_value, operator_of, options, read_below, read_format, read_generated, read_operator, read_words, value_of};
 
+use crate::operators::NamedOperator;
 use crate::token::{is_word, read_number};
 use slate_types::{BlockFormat, Options};
 
-/// What the words of a run set: its options, and the number by which stored bytes are changed, where there
-/// is one.
+/// What the words of a run set: its options, and, where there are such, the number by which stored bytes are changed and the
+/// merge operator.
 #[derive(Clone, Copy)]
 pub struct Settings {
     pub options: Options,
     pub mask: Option<u8>,
+    pub operator: Option<NamedOperator>,
 }
 
 /// A run over a script that it makes for itself.
@@ -31,7 +33,7 @@ pub struct Generated {
 /// The most rounds of a script that a run makes for itself.
 pub const MAX_ROUNDS: u32 = 100_000;
 
-/// The settings of the words `block=`, `table=`, `format=`, `ttl=`, `seq=` and `xor=`, each at most once and in any
+/// The settings of the words `block=`, `table=`, `format=`, `op=`, `ttl=`, `seq=` and `xor=`, each at most once and in any
 /// order. What no word sets is as by default. None exactly where a word is none of these, two have one name,
 /// a value isn't read, or the options aren't valid.
 pub fn parse_words(words: &[String]) -> Option<Settings>
@@ -47,6 +49,7 @@ pub fn parse_words(words: &[String]) -> Option<Settings>
     let default_ttl_millis = number(words, b"ttl=")?;
     let start_seq = number(words, b"seq=")?;
     let mask = mask(words)?;
+    let operator = operator(words)?;
     if_valid(Settings {
         options: options(
             block_size,
@@ -56,6 +59,7 @@ pub fn parse_words(words: &[String]) -> Option<Settings>
             start_seq,
         ),
         mask,
+        operator,
     })
 }
 
@@ -135,6 +139,7 @@ fn is_known(word: &[u8]) -> bool
     has_name(b"block=", word)
         || has_name(b"table=", word)
         || has_name(b"format=", word)
+        || has_name(b"op=", word)
         || has_name(b"ttl=", word)
         || has_name(b"seq=", word)
         || has_name(b"xor=", word)
@@ -198,6 +203,30 @@ fn read_format(text: &[u8]) -> Option<BlockFormat>
         Some(BlockFormat::V2)
     } else if is_word(text, b"latest") {
         Some(BlockFormat::Latest)
+    } else {
+        None
+    }
+}
+
+fn operator(words: &[String]) -> Option<Option<NamedOperator>>
+    ensures { result ≡ operator_of (map string_bytes words.now) }
+{
+    match only_value(words, b"op=")? {
+        Some(value) => read_operator(value),
+        None => Some(None),
+    }
+}
+
+/// The operator that the text names, if it is one of the names; `none` is that of no operator.
+fn read_operator(text: &[u8]) -> Option<Option<NamedOperator>>
+    ensures { result ≡ read_operator text.now }
+{
+    if is_word(text, b"none") {
+        Some(None)
+    } else if is_word(text, b"concat") {
+        Some(Some(NamedOperator::Concat))
+    } else if is_word(text, b"max") {
+        Some(Some(NamedOperator::Max))
     } else {
         None
     }

@@ -124,3 +124,11 @@ returns-clause-snapshots_today c = (refl, refl)
 pub returns-clause-own_today : goal.returns-clause-own_today
 unfolding digits
 returns-clause-own_today c = refl
+
+pub returns-clause-greatest_operand : goal.returns-clause-greatest_operand
+unfolding digits
+returns-clause-greatest_operand c = refl
+
+pub returns-clause-merges_today : goal.returns-clause-merges_today
+unfolding digits
+returns-clause-merges_today c = (refl, refl, refl, refl, refl, refl)
