@@ -1,18 +1,17 @@
 -- What a fold makes of rows of which none is a merge.
-use Rattle.std.proofs.Common.{◌≡◌, ℕ, Bool, true, false, not, ◌||◌, List, [], ◌∷◌, reverse, option_to_list, refl, sym, subst}
+use Rattle.std.proofs.Common.{◌≡◌, ℕ, Bool, true, false, not, ◌||◌, List, [], ◌∷◌, option_to_list, refl, sym, subst}
 use Rattle.std.specs.List.{AllByRecursion, list_any}
 use Rattle.slate_types.specs.declared.types.RowEntry.{RowEntry}
 use Rattle.slate_types.specs.declared.types.ValueDeletable.{ValueDeletable}
 use Rattle.slate_types.specs.declared.types.ValueDeletable.TheVariants.{Value, Merge, Tombstone}
 use Rattle.slate_types.specs.Fold.{Combine, fold_rows, fold_taken, taken, value_of_taken}
 use Rattle.slate_types.specs.Rows.{is_base, is_merge, is_operand}
-use Rattle.slate_mem.specs.Lookup.{is_merge_among}
 use Rattle.slate_db.specs.Meaning.{Meaning, combine_of}
 use Rattle.slate_db.specs.Flushed.{IsFolded}
 use Rattle.slate_db.specs.Model.{Rows, versions_in}
 use Rattle.slate_db.specs.Sound.{AreBases}
 use Rattle.slate_db.proofs.Short.{all_append, all_filter, all_from_last}
-use Rattle.slate_db.proofs.Versions.{all_by_versions, all_versions_in, twice}
+use Rattle.slate_db.proofs.Versions.{all_by_versions, all_versions_in}
 
 value_base : (c : Combine) (v : ValueDeletable) (rs : List RowEntry) → not (is_merge v) ≡ true → not (is_merge (value_of_taken c v rs)) ≡ true
 value_base c v [] h = h
@@ -40,7 +39,3 @@ no_merge_among (r ∷ rs) h = by (is_operand r) h.0 (no_merge_among rs h.1)
     by : (b : Bool) → not b ≡ true → list_any is_operand rs ≡ false → (b || list_any is_operand rs) ≡ false
     by true e rest = cc
     by false e rest = rest
-
--- rows that were found among these
-pub none_found : (found all : Rows) → reverse found ≡ taken all → AreBases all → is_merge_among found ≡ false
-none_found found all turned h = no_merge_among found (twice (λ r. is_base r ≡ true) found (subst AreBases (sym turned) (all_from_last (λ r. is_base r ≡ true) is_base all h)))

@@ -3,9 +3,7 @@ use Rattle.std.proofs.Common.{◌≡◌, ℕ, Bool, true, false, cond, ◌&&◌,
 use Rattle.std.proofs.lemmas.List.{reverse-append}
 use Rattle.std.proofs.lemmas.List.Elements.{filter-append}
 use Rattle.slate_types.specs.declared.types.RowEntry.{RowEntry}
-use Rattle.slate_types.specs.Fold.{Combine, fold_rows}
 use Rattle.slate_mem.specs.Table.{to_base, up_to, newest}
-use Rattle.slate_mem.proofs.MemLaws.{newest-folds}
 use Rattle.slate_mem.specs.Lookup.{newest_first}
 use Rattle.slate_mem.proofs.LayerLaws.{both, first_more}
 use Rattle.slate_db.specs.Model.{Rows, versions, versions_in}
@@ -48,9 +46,6 @@ all_versions_are k (x ∷ layers) =
     ∙ ap reverse (filter-append (λ r. bytes_eq r.key k) (newest_first layers) x)
     ∙ reverse-append (of_key k (newest_first layers)) (of_key k x)
     ∙ ap (λ xs. versions k x ++ xs) (all_versions_are k layers)
-
-pub folds_as_all : (c : Combine) (k : List ℕ) (n : ℕ) (layers : List Rows) → fold_rows c (reverse (newest k n (newest_first layers))) ≡ fold_rows c (at_most n (versions_in k layers))
-folds_as_all c k n layers = newest-folds c k n [] (newest_first layers) ∙ ap (fold_rows c) (versions_are k n layers)
 
 -- rows with the same ones of a key
 pub newest_same : (k : List ℕ) (n : ℕ) (xs ys : Rows) → of_key k xs ≡ of_key k ys → newest k n xs ≡ newest k n ys

@@ -1,6 +1,5 @@
 -- Where there is no operator no merge was taken, and no row is an operand.
 use Rattle.std.proofs.Common.{◌≡◌, ℕ, true, false, List, [], ◌∷◌, map, Option, Some, None, option_to_list, ℤ, refl, sym, subst, nat_lt}
-use Rattle.std.specs.Prelude.{Contains}
 use Rattle.std.specs.List.{AllByRecursion, cons_option}
 use Rattle.std.proofs.lemmas.List.Elements.{All-contains, All-from_recursion}
 use Rattle.slate_types.specs.declared.types.RowEntry.{RowEntry}

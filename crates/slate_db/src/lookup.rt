@@ -180,8 +180,8 @@ pub(crate) fn newest_behind(
     Ok(all)
 }
 
-/// Adds the rows of the key in stored tables, of which the newest stands last, behind those that were found in newer layers.
-/// Where the store holds the tables, or its acts tell that each read of this call was answered by them, damage isn't answered.
+/// Adds the rows of the key in stored tables, of which the newest stands last, behind those that were found in newer layers, and
+/// these behind own operands. Where the store holds the tables, or its acts tell that each read of this call was answered by them, damage isn't answered.
 /// Else it is answered only where the last reads of this call show it, of the index of a table, or of its blocks.
 fn newest_of_tables<S: Store, M: MergeOperator, T: BlockTransformer>(
     alloc: Global,

@@ -1,4 +1,4 @@
-use Rattle.std.proofs.Common.{inl, ◌≡◌, ℕ, List, [], ◌∷◌, ◌++◌, map, reverse, true, false, None, Option, Some, refl, sym, ap, subst, ◌∙◌, arith}
+use Rattle.std.proofs.Common.{inl, ◌≡◌, ℕ, List, [], ◌++◌, map, reverse, true, false, Option, Some, refl, sym, ap, subst, ◌∙◌, arith}
 use Rattle.std.specs.Prelude.{IfOk, IsOkUnless, Ok, Result}
 use Rattle.std.specs.List.{AllByRecursion}
 use Rattle.std.proofs.lemmas.List.Elements.{All-contains, All-from_recursion}
@@ -8,7 +8,7 @@ use Rattle.slate_types.specs.declared.types.RowEntry.{RowEntry}
 use Rattle.slate_types.specs.Fold.{fold_rows}
 use Rattle.slate_types.specs.Outside.{Reach}
 use Rattle.slate_types.proofs.Calls.{call_none}
-use Rattle.slate_types.proofs.Reaching.{adds_none, later_none, reads_none, reads_of}
+use Rattle.slate_types.proofs.Reaching.{adds_none, later_none, reads_of}
 use Rattle.slate_mem.specs.declared.WriteOp.{WriteOp}
 use Rattle.slate_mem.specs.Batch.{kept}
 use Rattle.slate_mem.specs.Lookup.{is_decided, is_merge_among}
