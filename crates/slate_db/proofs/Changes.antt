@@ -1,10 +1,10 @@
 -- A change of one open transaction: what becomes of the core, and the model's step.
-use Rattle.std.proofs.Common.{◌≡◌, ℕ, false, ◌⊎◌, inl, inr, List, [], Option, Some, None, refl, sym, ap, subst, ◌∙◌}
+use Rattle.std.proofs.Common.{◌≡◌, ℕ, false, ◌||◌, ◌⊎◌, inl, inr, List, [], ◌∷◌, Option, Some, None, refl, sym, ap, subst, ◌∙◌}
 use Rattle.std.specs.Prelude.{Result, Ok, Err, OnOk, OnErr, IfErr, IsSome}
 use Rattle.slate_types.specs.declared.error.SlateDBError.{SlateDBError}
 use Rattle.slate_types.specs.declared.error.SlateDBError.TheVariants.{OutOfMemory}
 use Rattle.slate_mem.specs.declared.WriteOp.{WriteOp}
-use Rattle.slate_mem.specs.BatchModel.{holds_merge}
+use Rattle.slate_mem.specs.BatchModel.{holds_merge, is_merge_op}
 use Rattle.slate_mem.specs.Refusals.{op_refusal}
 use Rattle.slate_txn.specs.Named.{find_named, update_named}
 use Rattle.slate_txn.specs.Open.{Transactions}
@@ -18,7 +18,7 @@ use Rattle.slate_db.specs.Operated.{operated}
 use Rattle.slate_db.specs.Sound.{IsKept}
 use Rattle.slate_db.specs.View.{view_of, unseen_of, IsWholeInside}
 use Rattle.slate_db.proofs.Keeps.{kept_event}
-use Rattle.slate_db.proofs.Operands.{OwnNone, own_updated}
+use Rattle.slate_db.proofs.Operands.{OwnNone, none_append, own_updated}
 use Rattle.slate_db.proofs.Wholes.{KeepsOwn, whole_changed}
 use Rattle.slate_txn.proofs.NamedLaws.{IsNamed, open_is}
 
@@ -32,6 +32,15 @@ own_either : {X E : Type 0} (r : Result X E) (s : Inside) (ts : Transactions) (i
     ((t : Tx) → holds_merge t.ops ≡ false → OnOk r (holds_merge (f t).ops ≡ false)) → OwnNone s.transactions → OwnNone ts
 own_either (Ok x) s ts id f changed err plain own = subst OwnNone (sym changed) (own_updated id f s.transactions plain own)
 own_either (Err e) s ts id f changed err plain own = subst OwnNone (sym err) own
+
+-- an operation that is no merge, and none
+pub own_none : {X E : Type 0} (r : Result X E) (k : List ℕ) (op : WriteOp) → is_merge_op (k, op) ≡ false → (t : Tx) → holds_merge t.ops ≡ false → OnOk r (holds_merge (with_op k op t).ops ≡ false)
+own_none (Ok x) k op plain t h = none_append t.ops ((k, op) ∷ []) h (ap (λ b. b || false) plain)
+own_none (Err e) k op plain t h = tt
+
+pub own_kept : {X E : Type 0} (r : Result X E) (t : Tx) → holds_merge t.ops ≡ false → OnOk r (holds_merge t.ops ≡ false)
+own_kept (Ok x) t h = h
+own_kept (Err e) t h = tt
 
 pub kept_either : {X E : Type 0} (r : Result X E) (m : Meaning) (s : Inside) (c : CoreModel) (ts : Transactions) (id : List ℕ) (f : Tx → Tx) → view_of s ≡ c → OnOk r (ts ≡ update_named id f s.transactions) → OnErr r (ts ≡ s.transactions) →
     (m.combine ≡ None → (t : Tx) → holds_merge t.ops ≡ false → OnOk r (holds_merge (f t).ops ≡ false)) → IsKept m c → IsKept m (view_of (record s { transactions = ts }))

@@ -1,5 +1,5 @@
 -- What is kept where nothing that counts is changed.
-use Rattle.std.proofs.Common.{◌≡◌, ℕ, ◌≤◌, List, [], ◌∷◌, ◌++◌, refl, sym, ap, subst, ◌∙◌}
+use Rattle.std.proofs.Common.{◌≡◌, ℕ, ◌≤◌, false, None, List, [], ◌∷◌, ◌++◌, refl, sym, ap, subst, ◌∙◌}
 use Rattle.std.specs.List.{AllByRecursion}
 use Rattle.slate_types.specs.Fold.{fold_rows}
 use Rattle.slate_types.specs.declared.types.Ulid.{Ulid}

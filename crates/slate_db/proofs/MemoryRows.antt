@@ -66,20 +66,20 @@ unfolding AreRead
 all_read k n d now [] = tt
 all_read k n d now (op ∷ ops) = (op_read k n d now op, all_read k n d now ops)
 
+-- the row that several rows fold to, by the first one's value
+abbrev folded : Combine → RowEntry → RowEntry → Rows → ValueDeletable → RowEntry
+folded c x y ys v = record { key = x.key; value = value_of_taken c v (y ∷ ys); seq = greatest_seq x.seq (y ∷ ys); create_ts = latest_creation x.create_ts (y ∷ ys); expire_ts = earliest_expiry x.expire_ts (y ∷ ys) }
+
+read_folded : (c : Combine) (x y : RowEntry) (ys : Rows) (v : ValueDeletable) → as_read 1 (folded c x y ys v) ≡ folded c x y ys v
+read_folded c x y ys (Value v) = refl
+read_folded c x y ys Tombstone = refl
+read_folded c x y ys (Merge v) = refl
+
 fold_read : (c : Combine) (rows : Rows) (r : RowEntry) → AreRead rows → fold_taken c rows ≡ Some r → as_read 1 r ≡ r
 unfolding AreRead
 fold_read c [] r h e = cc
 fold_read c (x ∷ []) r h e = subst (λ (y : RowEntry). as_read 1 y ≡ y) (ap (λ o. unwrap_or o r) e) h.0
-fold_read c (x ∷ y ∷ ys) r h e = subst (λ (z : RowEntry). as_read 1 z ≡ z) (ap (λ o. unwrap_or o r) e) (by x.value)
-  where
-    folded : ValueDeletable → RowEntry
-    folded v = record { key = x.key; value = value_of_taken c v (y ∷ ys); seq = greatest_seq x.seq (y ∷ ys); create_ts = latest_creation x.create_ts (y ∷ ys); expire_ts = earliest_expiry x.expire_ts (y ∷ ys) }
-
-    by : (v : ValueDeletable) → as_read 1 (folded v) ≡ folded v
-    unfolding folded
-    by (Value v) = refl
-    by Tombstone = refl
-    by (Merge v) = refl
+fold_read c (x ∷ y ∷ ys) r h e = subst (λ (z : RowEntry). as_read 1 z ≡ z) (ap (λ o. unwrap_or o r) e) (read_folded c x y ys x.value)
 
 -- ---- the rows of a commit
 
@@ -101,10 +101,10 @@ is_short None r e h = cc
 is_short (Some x) r e h = subst (λ (y : RowEntry). IsShort (operand y)) (ap (λ o. unwrap_or o r) e) h.0
 
 row_fits : (c : Combine) (d : Option ℕ) (n : ℕ) (now : ℤ) (ops : Ops) (k : List ℕ) (r : RowEntry) → KeepsShort c → AreFine ops → row_of c d n now ops k ≡ Some r → FitsMemory r
+unfolding AreRead
 row_fits c d n now ops k r keeps fine is = by (kept ops k) (all_from_last (λ op. op_refusal k op ≡ None) replaces (ops_of ops k) (fine_ops k ops fine)) is
   where
     by : (xs : List WriteOp) → AllByRecursion (λ op. op_refusal k op ≡ None) xs → fold_rows c (map (op_row k n d now) xs) ≡ Some r → FitsMemory r
-    unfolding AreRead
     by [] all e = cc
     by (x ∷ xs) all e = record {
       key = subst IsKey (sym (row-has c d n now ops k r is).0) (op_key k x all.0);

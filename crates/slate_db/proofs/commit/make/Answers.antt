@@ -1,10 +1,10 @@
-use Rattle.std.proofs.Common.{◌≡◌, true, false, inr, arith, ◌+◌, List, ◌++◌, unwrap_or, refl, ap, sym, subst, ◌∙◌, append-nil}
+use Rattle.std.proofs.Common.{◌≡◌, true, false, None, inl, inr, arith, ◌+◌, List, ◌++◌, unwrap_or, refl, ap, sym, subst, ◌∙◌, append-nil}
 use Rattle.slate_mem.specs.Batch.{Ops, kept_ops}
-use Rattle.slate_mem.specs.BatchModel.{holds_merge}
 use Rattle.slate_txn.specs.Named.{without}
 use Rattle.slate_txn.specs.Replay.{commit_made}
 use Rattle.slate_txn.specs.State.{Commit}
 use Rattle.slate_db.specs.declared.commit.Made.{Made}
+use Rattle.slate_db.specs.BatchTests.{test_refusal}
 use Rattle.slate_db.specs.Committed.{IsNextOf}
 use Rattle.slate_db.specs.Log.{AreFine}
 use Rattle.slate_db.specs.Managed.{IsManaged}
@@ -13,38 +13,41 @@ use Rattle.slate_db.proofs.Plain.{empty_kept}
 use Rattle.slate_db.proofs.commit.make.Goals as goal
 
 pub returns-then-is_empty-clause-next : goal.returns-then-is_empty-clause-next
-returns-then-is_empty-clause-next c = subst (λ (made : Made). IsNextOf c.args.last c.args.owned.ops made.seq) (sym c.idle.ensures)
+returns-then-is_empty-clause-next g c = subst (λ (made : Made). IsNextOf c.args.last c.args.owned.ops made.seq) (sym c.idle.ensures)
     (empty_kept c.args.owned.ops (sym c.in_ok-tested.ensures.commits.batch.0 ∙ c.is_empty.ensures.0 c.if-is_empty.true))
 
 pub returns-then-is_empty-clause-committed : goal.returns-then-is_empty-clause-committed
-returns-then-is_empty-clause-committed c ids cs ps w =
+returns-then-is_empty-clause-committed g c ids cs ps w =
     subst (λ (made : Made). IsManaged c.drop_txn.new.self ids (unwrap_or made.seq c.args.last) (cs ++ commit_made made.seq c.args.now made.ops made.tracked) (without c.args.id.now ps)) (sym c.idle.ensures)
     (subst (λ (ks : List Commit). IsManaged c.drop_txn.new.self ids c.args.last ks (without c.args.id.now ps)) (sym (append-nil cs))
     (managed_dropped c.args.manager.now c.test.new.manager c.drop_txn.new.self ids c.args.last cs ps c.args.id.now c.in_ok-tested.ensures.grown c.drop_txn.ensures.dropped (c.drop_txn.ensures.stands cs) w))
 
 pub returns-then-last-ge18446744073709551614-clause-cause : goal.returns-then-last-ge18446744073709551614-clause-cause
-returns-then-last-ge18446744073709551614-clause-cause c = λ cs stands.
-    inr (inr (refl, omega (arith, c.requires.fits), c.in_ok-tested.ensures.free cs stands c.requires.held, λ none. let t : true ≡ false = sym (c.is_empty.ensures.1 (c.in_ok-tested.ensures.commits.batch.0 ∙ ap kept_ops none)) ∙ c.if-is_empty.false in cc))
+returns-then-last-ge18446744073709551614-clause-cause g c = λ cs stands.
+    inr (inl (inr (refl, omega (arith, c.requires.fits), c.in_ok-tested.ensures.free cs stands c.requires.held, λ none. let t : true ≡ false = sym (c.is_empty.ensures.1 (c.in_ok-tested.ensures.commits.batch.0 ∙ ap kept_ops none)) ∙ c.if-is_empty.false in cc)))
 
 pub returns-in-Ok-clause-committed : goal.returns-in-Ok-clause-committed
-returns-in-Ok-clause-committed c ids cs ps w =
+returns-in-Ok-clause-committed g c ids cs ps w =
     managed_committed c.args.manager.now c.test.new.manager c.put_commit-put.new.manager ids c.args.last (c.args.last + 1) cs ps c.args.id.now c.args.owned _ c.in_ok-tested.ensures.grown (c.in_ok-tested.ensures.handed c.requires.held) refl c.in_ok-tested.ensures.commits.keys
     c.in-Ok.ensures.committed (c.in-Ok.ensures.stands cs _) w
 
 pub returns-then-is_empty-clause-fine : goal.returns-then-is_empty-clause-fine
-returns-then-is_empty-clause-fine c = subst (λ (made : Made). AreFine made.ops) (sym c.idle.ensures) tt
+returns-then-is_empty-clause-fine g c = subst (λ (made : Made). AreFine made.ops) (sym c.idle.ensures) tt
 
-pub returns-then-is_empty-clause-plain : goal.returns-then-is_empty-clause-plain
-returns-then-is_empty-clause-plain c = sym c.in_ok-tested.ensures.commits.batch.1 ∙ c.in_ok-tested.ensures.commits.plain
-
-pub returns-then-is_empty-clause-plain_ops : goal.returns-then-is_empty-clause-plain_ops
-returns-then-is_empty-clause-plain_ops c = subst (λ (made : Made). holds_merge made.ops ≡ false) (sym c.idle.ensures) refl
+pub returns-then-is_empty-clause-tested : goal.returns-then-is_empty-clause-tested
+returns-then-is_empty-clause-tested g c = subst (λ (ops : Ops). test_refusal _ c.args.default_millis c.args.now ops ≡ None) (sym (empty_kept c.args.owned.ops (sym c.in_ok-tested.ensures.commits.batch.0 ∙ c.is_empty.ensures.0 c.if-is_empty.true))) refl
 
 pub returns-in-Ok-clause-fine : goal.returns-in-Ok-clause-fine
-returns-in-Ok-clause-fine c = subst AreFine (sym c.in-Ok.ensures.ops) c.in-Ok.ensures.fine
+returns-in-Ok-clause-fine g c = subst AreFine (sym c.in-Ok.ensures.ops) c.in-Ok.ensures.fine
 
-pub returns-in-Ok-clause-plain : goal.returns-in-Ok-clause-plain
-returns-in-Ok-clause-plain c = sym c.in_ok-tested.ensures.commits.batch.1 ∙ c.in_ok-tested.ensures.commits.plain
+pub returns-in-Ok-clause-tested : goal.returns-in-Ok-clause-tested
+returns-in-Ok-clause-tested g c = ?
 
-pub returns-in-Ok-clause-plain_ops : goal.returns-in-Ok-clause-plain_ops
-returns-in-Ok-clause-plain_ops c = subst (λ (ops : Ops). holds_merge ops ≡ false) (sym c.in-Ok.ensures.ops) c.in-Ok.ensures.plain
+pub returns-in-Ok-clause-first : goal.returns-in-Ok-clause-first
+returns-in-Ok-clause-first g c = ?
+
+pub returns-in-Err-clause-first : goal.returns-in-Err-clause-first
+returns-in-Err-clause-first g c = ?
+
+pub returns-in-Err-clause-cause : goal.returns-in-Err-clause-cause
+returns-in-Err-clause-cause g c = ?

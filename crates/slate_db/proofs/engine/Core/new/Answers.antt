@@ -17,4 +17,4 @@ invariant_of-result c = whole_first _ _ c.new.ensures.whole c.new-5.ensures.whol
 })
 
 pub returns-clause-kept : goal.returns-clause-kept
-returns-clause-kept c m = kept_first m _ c.new.ensures.nothing.1 c.new.ensures.nothing.0 c.new-5.ensures.memory.1 c.new-5.ensures.memory.0
+returns-clause-kept c m = kept_first m _ c.new.ensures.nothing.1 c.new.ensures.nothing.0 c.new-3.ensures c.new-5.ensures.memory.1 c.new-5.ensures.memory.0
