@@ -127,22 +127,23 @@ fold_shown (Some r) = one_shown r.value r
 -- rows: the newest first
 upto_folds : (c : Combine) (rows newer : Rows) → fold_rows c (reverse (upto_base rows) ++ newer) ≡ fold_rows c (reverse rows ++ newer)
 upto_folds c [] newer = refl
-upto_folds c (r ∷ rs) newer = by (is_operand r) refl
+upto_folds c (r ∷ rs) newer = by (is_operand r) refl (upto_folds c rs (r ∷ newer))
   where
     behind : (xs : Rows) → fold_rows c (reverse (r ∷ xs) ++ newer) ≡ fold_rows c (reverse xs ++ (r ∷ newer))
     behind xs = ap (λ (ys : Rows). fold_rows c (ys ++ newer)) (reverse-append (r ∷ []) xs) ∙ ap (fold_rows c) (append_assoc (reverse xs) (r ∷ []) newer)
 
-    by : (b : Bool) → is_operand r ≡ b → fold_rows c (reverse (cond b (r ∷ upto_base rs) (r ∷ [])) ++ newer) ≡ fold_rows c (reverse (r ∷ rs) ++ newer)
-    by true e = behind (upto_base rs) ∙ upto_folds c rs (r ∷ newer) ∙ sym (behind rs)
-    by false e = sym (behind rs ∙ hides-older c (reverse rs) newer r (ap not e))
+    by : (b : Bool) → is_operand r ≡ b → fold_rows c (reverse (upto_base rs) ++ (r ∷ newer)) ≡ fold_rows c (reverse rs ++ (r ∷ newer)) →
+        fold_rows c (reverse (cond b (r ∷ upto_base rs) (r ∷ [])) ++ newer) ≡ fold_rows c (reverse (r ∷ rs) ++ newer)
+    by true e later = behind (upto_base rs) ∙ later ∙ sym (behind rs)
+    by false e later = sym (behind rs ∙ hides-older c (reverse rs) newer r (ap not e))
 
 all_upto : (P : RowEntry → Type 0) (rows : Rows) → AllByRecursion P rows → AllByRecursion P (upto_base rows)
 all_upto P [] h = tt
-all_upto P (r ∷ rs) h = by (is_operand r)
+all_upto P (r ∷ rs) h = by (is_operand r) (all_upto P rs h.1)
   where
-    by : (b : Bool) → AllByRecursion P (cond b (r ∷ upto_base rs) (r ∷ []))
-    by true = (h.0, all_upto P rs h.1)
-    by false = (h.0, tt)
+    by : (b : Bool) → AllByRecursion P (upto_base rs) → AllByRecursion P (cond b (r ∷ upto_base rs) (r ∷ []))
+    by true later = (h.0, later)
+    by false later = (h.0, tt)
 
 group_is : (c : List ℕ → Combine) (k : List ℕ) (rows : Rows) → AllByRecursion (λ r. r.key ≡ k) rows → fold_group c rows ≡ fold_rows (c k) (reverse rows)
 group_is c k [] h = refl

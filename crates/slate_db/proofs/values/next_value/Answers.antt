@@ -25,10 +25,11 @@ pub loop-row-preserved : goal.loop-row-preserved
 loop-row-preserved g c =
     let i = c.loop-row.invariant in
     let n = rw c.in-Some.is at c.in_ok-row.ensures in
+    let it = g.I.RowEntryIterator in
     let none = no_value (has_value c.in-Some.row) (key_value c.in-Some.row) (sym c.in_default-2.is ∙ c.value_of.ensures) in
     let t = n.taken.2.0 in
     record {
-      passed = passed_on _ _ _ _ (λ x m reads answer y. Takes x m reads answer y) _ _ _ _ _ _ i.passed c.in-Some.row (record { rows = n.rows; still = n.still; checked = n.checked; taken = n.taken }) n.operable none;
+      passed = passed_on _ _ _ _ (λ x m reads answer y. Takes it.takes x m reads answer y) _ _ _ _ _ _ i.passed c.in-Some.row (record { rows = n.rows; still = n.still; checked = n.checked; taken = n.taken }) n.operable none;
       sources = passed_on _ _ _ _ (λ x m reads answer y. Unit {0}) _ _ _ _ _ _ i.sources c.in-Some.row (record { rows = n.rows; still = n.still; checked = n.checked; taken = (n.sources.0, n.sources.1, (tt, n.sources.2)) }) n.operable none;
       goes = λ h. t.1;
       went = λ h. i.went t.0;
@@ -67,18 +68,18 @@ returns-in-Some-2 g c =
     let n = rw c.in-Some.is at c.in_ok-row.ensures in
     let row = c.in-Some.row in
     let it = g.I.RowEntryIterator in
-    let s : Step (rest_folding it.rest) (sound_folding it.rest it.sound it.order) (refuses_folding it.refuses) (λ x m reads answer y. Takes x m reads answer y) _ _ c.loop-row.rows (Some row) c.next_row.new.self = record { rows = n.rows; still = n.still; checked = n.checked; taken = n.taken } in
+    let s : Step (rest_folding it.rest) (sound_folding it.rest it.sound it.order) (refuses_folding it.refuses) (λ x m reads answer y. Takes it.takes x m reads answer y) _ _ c.loop-row.rows (Some row) c.next_row.new.self = record { rows = n.rows; still = n.still; checked = n.checked; taken = n.taken } in
     let u : Step (rest_folding it.rest) (sound_folding it.rest it.sound it.order) (λ x. it.refuses x.iterator) (λ x m reads answer y. Unit {0}) _ _ c.loop-row.rows (Some row) c.next_row.new.self = record { rows = n.rows; still = n.still; checked = n.checked; taken = (n.sources.0, n.sources.1, (tt, n.sources.2)) } in
     let v = some_value (has_value row) (key_value row) c.in-Some-2.value (sym c.in-Some-2.is ∙ c.value_of.ensures) in
     let t = n.taken.2.0 in
     record {
       rows = λ w range values sees h k.
-          let r = step_some _ _ _ _ (λ x m reads answer y. Takes x m reads answer y) _ _ _ _ _ _ i.passed row s v.0 w range values sees h k in
+          let r = step_some _ _ _ _ (λ x m reads answer y. Takes it.takes x m reads answer y) _ _ _ _ _ _ i.passed row s v.0 w range values sees h k in
           (ap (λ (x : KeyValue). Some x) v.1 ∙ r.0, r.1);
-      still = step_still _ _ _ _ (λ x m reads answer y. Takes x m reads answer y) _ _ _ _ _ _ i.passed (Some row) s;
-      operable = step_keeps _ _ _ _ (λ x m reads answer y. Takes x m reads answer y) _ _ _ _ _ _ i.passed (Some row) s n.operable;
+      still = step_still _ _ _ _ (λ x m reads answer y. Takes it.takes x m reads answer y) _ _ _ _ _ _ i.passed (Some row) s;
+      operable = step_keeps _ _ _ _ (λ x m reads answer y. Takes it.takes x m reads answer y) _ _ _ _ _ _ i.passed (Some row) s n.operable;
       going = (i.went t.0, t.1, t.2 ∙ i.folding);
-      checked = step_checked _ _ _ _ (λ x m reads answer y. Takes x m reads answer y) _ _ _ _ _ _ i.passed (Some row) s;
+      checked = step_checked _ _ _ _ (λ x m reads answer y. Takes it.takes x m reads answer y) _ _ _ _ _ _ i.passed (Some row) s;
       sources = step_later _ _ _ _ (λ x m reads answer y. Unit {0}) _ _ _ _ _ _ i.sources (Some row) u;
       undamaged = λ w sees going h k. tt;
       cause = tt;
@@ -91,15 +92,15 @@ returns g c =
     let i = c.loop-row.invariant in
     let n = rw c.in_default.is at c.in_ok-row.ensures in
     let it = g.I.RowEntryIterator in
-    let s : Step (rest_folding it.rest) (sound_folding it.rest it.sound it.order) (refuses_folding it.refuses) (λ x m reads answer y. Takes x m reads answer y) _ _ c.loop-row.rows None c.next_row.new.self = record { rows = n.rows; still = n.still; checked = n.checked; taken = n.taken } in
+    let s : Step (rest_folding it.rest) (sound_folding it.rest it.sound it.order) (refuses_folding it.refuses) (λ x m reads answer y. Takes it.takes x m reads answer y) _ _ c.loop-row.rows None c.next_row.new.self = record { rows = n.rows; still = n.still; checked = n.checked; taken = n.taken } in
     let u : Step (rest_folding it.rest) (sound_folding it.rest it.sound it.order) (λ x. it.refuses x.iterator) (λ x m reads answer y. Unit {0}) _ _ c.loop-row.rows None c.next_row.new.self = record { rows = n.rows; still = n.still; checked = n.checked; taken = (n.sources.0, n.sources.1, (tt, n.sources.2)) } in
     let t = n.taken.2.0 in
     record {
-      rows = λ w range values sees h k. step_none _ _ _ _ (λ x m reads answer y. Takes x m reads answer y) _ _ _ _ _ _ i.passed s w range values sees h k;
-      still = step_still _ _ _ _ (λ x m reads answer y. Takes x m reads answer y) _ _ _ _ _ _ i.passed None s;
-      operable = step_keeps _ _ _ _ (λ x m reads answer y. Takes x m reads answer y) _ _ _ _ _ _ i.passed None s n.operable;
+      rows = λ w range values sees h k. step_none _ _ _ _ (λ x m reads answer y. Takes it.takes x m reads answer y) _ _ _ _ _ _ i.passed s w range values sees h k;
+      still = step_still _ _ _ _ (λ x m reads answer y. Takes it.takes x m reads answer y) _ _ _ _ _ _ i.passed None s;
+      operable = step_keeps _ _ _ _ (λ x m reads answer y. Takes it.takes x m reads answer y) _ _ _ _ _ _ i.passed None s n.operable;
       going = (i.went t.0, t.1, t.2 ∙ i.folding);
-      checked = step_checked _ _ _ _ (λ x m reads answer y. Takes x m reads answer y) _ _ _ _ _ _ i.passed None s;
+      checked = step_checked _ _ _ _ (λ x m reads answer y. Takes it.takes x m reads answer y) _ _ _ _ _ _ i.passed None s;
       sources = step_later _ _ _ _ (λ x m reads answer y. Unit {0}) _ _ _ _ _ _ i.sources None u;
       undamaged = λ w sees going h k. tt;
       cause = tt;
