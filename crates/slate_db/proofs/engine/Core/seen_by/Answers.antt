@@ -81,7 +81,7 @@ returns-then-is_decided g c =
           record {
             answer = subst (λ (r : Result (Option RowEntry) SlateDBError). IfOk r (λ row. row ≡ Some (own_row k op))) (sym is) refl;
             cause = subst (λ (r : Result (Option RowEntry) SlateDBError). IsOkUnless r OutOfMemory) (sym is) tt;
-            reached = ap (λ (o : Option g.M.Type). reach_of g.S.Store g.M.MergeOperator g.T.BlockTransformer (record c.args.env.now { operator = o })) plain.0;
+            reached = ap (λ o. reach_of g.S.Store g.M.MergeOperator g.T.BlockTransformer (record c.args.env.now { operator = o })) plain.0;
           };
       decided = λ t found some. call_quiet before after refl (λ i. record before.meaning { combine = c.fold_found.ensures.same i }) refl;
     }
