@@ -60,8 +60,8 @@ use crate::log::Log;
 use crate::lookup::{newest_behind, newest_of_runs};
 use crate::open_scan::{merged, scan_sources, table_options};
 use crate::put::{enter, put_batch};
-use crate::tested::tested_rows;
 use crate::scan::{DbIterator, TxnIterator};
+use crate::tested::tested_rows;
 use bytes::Bytes;
 use slate_filter::FilterPolicy;
 use slate_mem::WriteBatch;
@@ -283,9 +283,9 @@ impl Core {
         ensures cause { let reach = ⟦<EnvOf<S, M, T> as Outside>⟧.reach in
             let m = (reach env.old).meaning in
             IfErr result (λ e. IsFault (reach env.old) (reach env.new) e
-                ⊎ ((e ≡ SlateDBError.SequenceExhausted) × (last_of self.old.settings.start_seq self.old.state.commits ≡ 2 ^ 64 - 2))
-                ⊎ ((e ≡ SlateDBError.LimitReached LIMIT) × NoPlace 1 self.old)
-                ⊎ (batch_refusal m.combine self.old.settings.default_millis now batch ≡ Some e)) }
+            ⊎ ((e ≡ SlateDBError.SequenceExhausted) × (last_of self.old.settings.start_seq self.old.state.commits ≡ 2 ^ 64 - 2))
+            ⊎ ((e ≡ SlateDBError.LimitReached LIMIT) × NoPlace 1 self.old)
+            ⊎ (batch_refusal m.combine self.old.settings.default_millis now batch ≡ Some e)) }
         ensures call { let reach = ⟦<EnvOf<S, M, T> as Outside>⟧.reach in IsCall (reach env.old) (reach env.new) [] }
         ensures reads { let reach = ⟦<EnvOf<S, M, T> as Outside>⟧.reach in OnlyReads (reach env.old) (reach env.new) }
     {
@@ -836,9 +836,9 @@ impl Core {
         ensures cause { let reach = ⟦<EnvOf<S, M, T> as Outside>⟧.reach in
             let m = (reach env.old).meaning in
             (t : Tx) → find_named id.now self.old.state.txns ≡ Some t → IfErr result (λ e. IsFault (reach env.old) (reach env.new) e
-                ⊎ IsConflict (conflict self.old.state.commits t) e
-                ⊎ ((e ≡ SlateDBError.SequenceExhausted) × (last_of self.old.settings.start_seq self.old.state.commits ≡ 2 ^ 64 - 2))
-                ⊎ IsTestRefusal m.combine self.old.settings.default_millis now (last_of self.old.settings.start_seq self.old.state.commits) (conflict self.old.state.commits t) t.ops e) }
+            ⊎ IsConflict (conflict self.old.state.commits t) e
+            ⊎ ((e ≡ SlateDBError.SequenceExhausted) × (last_of self.old.settings.start_seq self.old.state.commits ≡ 2 ^ 64 - 2))
+            ⊎ IsTestRefusal m.combine self.old.settings.default_millis now (last_of self.old.settings.start_seq self.old.state.commits) (conflict self.old.state.commits t) t.ops e) }
         ensures call { let reach = ⟦<EnvOf<S, M, T> as Outside>⟧.reach in IsCall (reach env.old) (reach env.new) [] }
         ensures reads { let reach = ⟦<EnvOf<S, M, T> as Outside>⟧.reach in OnlyReads (reach env.old) (reach env.new) }
     {
