@@ -15,26 +15,31 @@ stored_run-requires g c = record { valid = c.requires.valid; each = can_build c.
 
 pub returns : goal.returns
 returns g c =
-    let m = (reach_of g.S.Store g.M.MergeOperator g.T.BlockTransformer c.args.env.now).meaning in
+    let before = reach_of g.S.Store g.M.MergeOperator g.T.BlockTransformer c.args.env.now in
+    let now = reach_of g.S.Store g.M.MergeOperator g.T.BlockTransformer (record c.args.env.now { operator = c.rows_of_flush.new.operator }) in
+    let m = before.meaning in
     let operator = combine_is g.M.MergeOperator.combine c.args.env.now.operator in
     let layout = layout_of c.args.options.now in
     let parts = map (λ t. t.items) c.in_ok-parts.parts.items in
     let rows = c.in_ok-rows.ensures in
     let same = combine_is g.M.MergeOperator.combine c.rows_of_flush.new.operator ∙ rows.same ∙ sym operator in
-    let later : IsLater _ _ = record { store = omega arith; operator = rows.later; transformer = omega arith } in
+    let after = reach_of g.S.Store g.M.MergeOperator g.T.BlockTransformer c.stored_run.new.env in
+    let later : IsLater before.faults now.faults = record { store = omega arith; operator = rows.later; transformer = omega arith } in
     record {
       stored = both_ok c.stored_run.result _ _ _
           (λ a put prefix. run_is_put m layout c.args.number c.args.barrier _ c.in_ok-rows.rows.items parts a.0 a.1 _ _ rows.some (rows.folded m operator) rows.order c.in_ok-parts.ensures.cut prefix put)
           c.stored_run.ensures.stored c.stored_run.ensures.prefix;
       acts = c.stored_run.ensures.acts;
       refused = refused_as c.stored_run.result (some_of_flush m layout c.args.number c.args.barrier _ c.in_ok-rows.rows.items parts _ _ rows.some (rows.folded m operator) rows.order c.in_ok-parts.ensures.cut) c.stored_run.ensures.refused;
-      cause = if_err c.stored_run.result _ _ (λ e h. run_cause _ _ _ e later (λ large. (c.in_ok-rows.rows.items, rows.folded m operator, rows.order, has_too_large layout c.in_ok-rows.rows.items parts e c.in_ok-parts.ensures.cut large)) h) c.stored_run.ensures.cause;
-      puts = puts_then _ _ _ (puts_of _ _ same refl refl later refl) c.stored_run.ensures.puts;
+      cause = if_err c.stored_run.result _ _ (λ e h. run_cause before now after e later (λ large. (c.in_ok-rows.rows.items, rows.folded m operator, rows.order, has_too_large layout c.in_ok-rows.rows.items parts e c.in_ok-parts.ensures.cut large)) h) c.stored_run.ensures.cause;
+      puts = puts_then before now after (puts_of before now same refl refl later refl) c.stored_run.ensures.puts;
     }
 
 pub returns-in_err-rows : goal.returns-in_err-rows
 returns-in_err-rows g c =
-    let m = (reach_of g.S.Store g.M.MergeOperator g.T.BlockTransformer c.args.env.now).meaning in
+    let before = reach_of g.S.Store g.M.MergeOperator g.T.BlockTransformer c.args.env.now in
+    let now = reach_of g.S.Store g.M.MergeOperator g.T.BlockTransformer (record c.args.env.now { operator = c.rows_of_flush.new.operator }) in
+    let m = before.meaning in
     let operator = combine_is g.M.MergeOperator.combine c.args.env.now.operator in
     let same = combine_is g.M.MergeOperator.combine c.rows_of_flush.new.operator ∙ c.in_err-rows.ensures.same ∙ sym operator in
     let p = err_from_is_err_and c.from_residual.result c.from_residual.ensures.1 in
@@ -42,19 +47,21 @@ returns-in_err-rows g c =
       stored = IfOk-from_err c.from_residual.result _ c.from_residual.ensures.0;
       acts = IfOk-from_err c.from_residual.result _ c.from_residual.ensures.0;
       refused = rw p.1 (may_keep _ _ _ (λ i. g.S.Store.objects c.args.env.now.store.now));
-      cause = rw (p.1, p.2) (rows_cause _ _ m _ _ (c.in_err-rows.ensures.missing m operator) c.in_err-rows.ensures.cause);
-      puts = puts_of _ _ same refl refl (record { store = omega arith; operator = c.in_err-rows.ensures.later; transformer = omega arith }) refl;
+      cause = rw (p.1, p.2) (rows_cause before.faults now.faults m (map (λ t. t.rows) c.args.frozen.now) c.in_err-rows.field-0.0 (c.in_err-rows.ensures.missing m operator) c.in_err-rows.ensures.cause);
+      puts = puts_of before now same refl refl (record { store = omega arith; operator = c.in_err-rows.ensures.later; transformer = omega arith }) refl;
     }
 
 pub returns-in_err-parts : goal.returns-in_err-parts
 returns-in_err-parts g c =
     let operator = combine_is g.M.MergeOperator.combine c.args.env.now.operator in
     let same = combine_is g.M.MergeOperator.combine c.rows_of_flush.new.operator ∙ c.in_ok-rows.ensures.same ∙ sym operator in
+    let before = reach_of g.S.Store g.M.MergeOperator g.T.BlockTransformer c.args.env.now in
+    let now = reach_of g.S.Store g.M.MergeOperator g.T.BlockTransformer (record c.args.env.now { operator = c.rows_of_flush.new.operator }) in
     let p = err_from_is_err_and c.from_residual-in_err-parts.result c.from_residual-in_err-parts.ensures.1 in
     record {
       stored = IfOk-from_err c.from_residual-in_err-parts.result _ c.from_residual-in_err-parts.ensures.0;
       acts = IfOk-from_err c.from_residual-in_err-parts.result _ c.from_residual-in_err-parts.ensures.0;
       refused = rw p.1 (may_keep _ _ _ (λ i. g.S.Store.objects c.args.env.now.store.now));
-      cause = rw (p.1, p.2) (inl (subst (IsCounted _ _) (sym c.in_err-parts.ensures.cause) tt));
-      puts = puts_of _ _ same refl refl (record { store = omega arith; operator = c.in_ok-rows.ensures.later; transformer = omega arith }) refl;
+      cause = rw (p.1, p.2) (inl (subst (IsCounted before.faults now.faults) (sym c.in_err-parts.ensures.cause) tt));
+      puts = puts_of before now same refl refl (record { store = omega arith; operator = c.in_ok-rows.ensures.later; transformer = omega arith }) refl;
     }

@@ -31,7 +31,7 @@ none_wanted f None b m test wanted = (refl, sym test ∙ wanted)
 none_wanted f (Some x) b m test wanted = let clash : false ≡ true = sym test ∙ wanted in cc
 
 -- an operator alone, for what is said of every meaning
-alone : Option (List ℕ → Combine) → Meaning
+abbrev alone : Option (List ℕ → Combine) → Meaning
 alone combine = record { combine = combine; encode = λ bytes. bytes; decode = λ bytes. bytes }
 
 -- of the causes of a fold none is that there is no operator
@@ -61,7 +61,7 @@ returns g c =
       order = both_ok c.fold_for_flush.result _ _ _
           (λ out h o. flush_order own c.args.barrier layers out.items (flush_folds own c.args.barrier layers rows out.items same h) o c.requires.rise) made (c.fold_for_flush.ensures.order gathered.order);
       fit = if_ok c.fold_for_flush.result _ _
-          (λ out h. flush_fits own c.args.barrier layers out.items (operator_short g.M.MergeOperator.combine c.args.operator.now g.M.MergeOperator.short) (flush_folds own c.args.barrier layers rows out.items same h) c.requires.fit) made;
+          (λ out h. flush_fits own c.args.barrier layers out.items (operator_short g.M.MergeOperator.combine c.args.operator.now g.met.M.MergeOperator.short) (flush_folds own c.args.barrier layers rows out.items same h) c.requires.fit) made;
       some = if_ok c.fold_for_flush.result _ _
           (λ out h. flush_some (operator_at (option_map g.M.MergeOperator.combine c.args.operator.now)) c.args.barrier layers rows out.items same h c.requires.some c.requires.each) made;
       missing = λ m is. if_err c.fold_for_flush.result _ _ (λ e h missing. absurd (not_missing e _ _ missing h)) c.fold_for_flush.ensures.cause;
