@@ -1,11 +1,12 @@
 -- A change of one open transaction: what becomes of the core, and the model's step.
-use Rattle.std.proofs.Common.{◌≡◌, ℕ, false, ◌||◌, ◌⊎◌, inl, inr, List, [], ◌∷◌, Option, Some, None, refl, sym, ap, subst, ◌∙◌}
-use Rattle.std.specs.Prelude.{Result, Ok, Err, OnOk, OnErr, IfErr, IsSome}
+use Rattle.std.proofs.Common.{◌≡◌, ℕ, true, false, ◌||◌, ◌⊎◌, inl, inr, List, [], ◌∷◌, Option, Some, None, refl, sym, ap, subst, ◌∙◌}
+use Rattle.std.specs.Prelude.{is_none, is_some, Result, Ok, Err, OnOk, OnErr, IfErr, IsSome}
+use Rattle.slate_store.specs.Env.{combine_of}
 use Rattle.slate_types.specs.declared.error.SlateDBError.{SlateDBError}
-use Rattle.slate_types.specs.declared.error.SlateDBError.TheVariants.{OutOfMemory}
+use Rattle.slate_types.specs.declared.error.SlateDBError.TheVariants.{MergeOperatorMissing, OutOfMemory}
 use Rattle.slate_mem.specs.declared.WriteOp.{WriteOp}
 use Rattle.slate_mem.specs.BatchModel.{holds_merge, is_merge_op}
-use Rattle.slate_mem.specs.Refusals.{op_refusal}
+use Rattle.slate_mem.specs.Refusals.{first_refusal, op_refusal, when}
 use Rattle.slate_txn.specs.Named.{find_named, update_named}
 use Rattle.slate_txn.specs.Open.{Transactions}
 use Rattle.slate_txn.specs.Reply.{Reply, Done, Refused}
@@ -58,6 +59,24 @@ ok_both (Ok x) f p q = f p q
 ok_both (Err e) f p q = tt
 
 -- ---- the model
+
+-- with an operator a merge is refused as any operation is
+merge_refusal : {C : Type 0} (combine : Option C) (o : Option SlateDBError) → is_some combine ≡ true → first_refusal (when (is_none combine) MergeOperatorMissing ∷ o ∷ []) ≡ o
+merge_refusal None o h = cc
+merge_refusal (Some f) None h = refl
+merge_refusal (Some f) (Some e) h = refl
+
+pub some_combine : {M C : Type 0} (f : M → C) (o : Option M) → is_some o ≡ true → is_some (combine_of f o) ≡ true
+some_combine f None h = cc
+some_combine f (Some operator) h = refl
+
+pub step_merged : {C : Type 0} (combine : Option C) (s : State) (id k : List ℕ) (op : WriteOp) → IsSome (find_named id s.txns) → is_some combine ≡ true → op_refusal k op ≡ None →
+    operate s id k op (first_refusal (when (is_none combine) MergeOperatorMissing ∷ op_refusal k op ∷ [])) (find_named id s.txns) ≡ (record s { txns = update_named id (with_op k op) s.txns }, Done)
+step_merged combine s id k op held there fine = (let free = merge_refusal combine (op_refusal k op) there ∙ fine in let t = open_is (find_named id s.txns) held in λ i. operate s id k op (free i) (t.is i))
+
+pub step_refused_merge : {C : Type 0} (combine : Option C) (s : State) (id k : List ℕ) (op : WriteOp) (e : SlateDBError) → IsSome (find_named id s.txns) → is_some combine ≡ true → op_refusal k op ≡ Some e →
+    operate s id k op (first_refusal (when (is_none combine) MergeOperatorMissing ∷ op_refusal k op ∷ [])) (find_named id s.txns) ≡ (s, Refused e)
+step_refused_merge combine s id k op e held there is = (let refused = merge_refusal combine (op_refusal k op) there ∙ is in let t = open_is (find_named id s.txns) held in λ i. operate s id k op (refused i) (t.is i))
 
 pub step_operated : (s : State) (id k : List ℕ) (op : WriteOp) → IsSome (find_named id s.txns) → op_refusal k op ≡ None → operate s id k op (op_refusal k op) (find_named id s.txns) ≡ (record s { txns = update_named id (with_op k op) s.txns }, Done)
 step_operated s id k op held fine = let t = open_is (find_named id s.txns) held in (λ i. operate s id k op (fine i) (t.is i))

@@ -7,7 +7,7 @@ use Rattle.std.specs.Prelude.{IsNone}
 use Rattle.std.specs.List.{AllByRecursion}
 use Rattle.slate_types.specs.declared.error.SlateDBError.{SlateDBError}
 use Rattle.slate_types.specs.declared.error.SlateDBError.TheVariants as errors
-use Rattle.slate_types.specs.Fold.{Combine}
+use Rattle.slate_types.specs.Fold.{Combine, operator_at}
 use Rattle.slate_mem.specs.Batch.{Ops, kept_ops}
 use Rattle.slate_mem.specs.BatchModel.{holds_merge}
 use Rattle.slate_mem.specs.CommitRows.{commit_rows}
@@ -222,6 +222,19 @@ cause_is combine fault c x now t e w (inr (inr (inl full))) = inr (inr (inl (ful
 cause_is combine fault c x now t e w (inr (inr (inr test))) =
     inr (inr (inr (subst (λ (n : ℕ). IsTestRefusal combine c.settings.default_millis now n (conflict c.state.commits t) t.ops e) w.log.last test)))
 
+-- the causes of a part, in the words of the whole
+pub has_cause : {C Called : Type 0} (a b : Option C) (fault : SlateDBError → Type 0) (c : CoreModel) (n last : ℕ) (z now : ℤ) (t : Tx) (e : SlateDBError) → a ≡ b → n ≡ last → z ≡ now → (e ≡ errors.OutOfMemory → fault e) → (Called → fault e) →
+    (e ≡ errors.OutOfMemory) ⊎ (IsConflict (conflict c.state.commits t) e ⊎ IsFull n (conflict c.state.commits t) t.ops e) ⊎ IsTestRefusal a c.settings.default_millis z n (conflict c.state.commits t) t.ops e ⊎ Called → HasCause b fault c last now t e
+has_cause a b fault c n last z now t e operators seqs moments short called (inl h) = inl (short h)
+has_cause a b fault c n last z now t e operators seqs moments short called (inr (inl (inl met))) = inr (inl met)
+has_cause a b fault c n last z now t e operators seqs moments short called (inr (inl (inr full))) = inr (inr (inl (subst (λ k. IsFull k (conflict c.state.commits t) t.ops e) seqs full)))
+has_cause a b fault c n last z now t e operators seqs moments short called (inr (inr (inl test))) =
+    inr (inr (inr (
+    subst (λ o. IsTestRefusal o c.settings.default_millis now last (conflict c.state.commits t) t.ops e) operators
+    (subst (λ k. IsTestRefusal a c.settings.default_millis now k (conflict c.state.commits t) t.ops e) seqs
+    (subst (λ (y : ℤ). IsTestRefusal a c.settings.default_millis y n (conflict c.state.commits t) t.ops e) moments test)))))
+has_cause a b fault c n last z now t e operators seqs moments short called (inr (inr (inr h))) = inl (called h)
+
 pub load_ended : (c : CoreModel) (id : List ℕ) (spare n : ℕ) → load (after_end c id spare) ≤ load c + n
 load_ended c id spare n = omega arith
 
@@ -233,3 +246,14 @@ refused_parts_are s l y xs g id log layers txns = let a = sym log in let b = sym
 
 pub same_txn : (c d : CoreModel) (id : List ℕ) (t u : Tx) → c ≡ d → find_named id c.state.txns ≡ Some t → find_named id d.state.txns ≡ Some u → t ≡ u
 same_txn c d id t u same a b = let h : Some t ≡ Some u = sym a ∙ ap (λ (v : CoreModel). find_named id v.state.txns) same ∙ b in cc
+
+-- what a test says of it, in the words of the parts
+pub test_of : {C : Type 0} (o : Option C) (c d : CoreModel) (x : Unseen) (id : List ℕ) (now : ℤ) (t u : Tx) (e : SlateDBError) → c ≡ d → IsWhole c x → find_named id c.state.txns ≡ Some t → find_named id d.state.txns ≡ Some u →
+    IsTestRefusal o d.settings.default_millis now (last_of d.settings.start_seq d.state.commits) (conflict d.state.commits u) u.ops e → IsTestRefusal o c.settings.default_millis now x.last (conflict c.state.commits t) t.ops e
+test_of o c d x id now t u e same w a b test =
+    subst (λ (n : ℕ). IsTestRefusal o c.settings.default_millis now n (conflict c.state.commits t) t.ops e) (sym w.log.last)
+    (subst (λ (v : Tx). IsTestRefusal o c.settings.default_millis now (last_of c.settings.start_seq c.state.commits) (conflict c.state.commits v) v.ops e) (sym (same_txn c d id t u same a b))
+    (subst (λ (v : CoreModel). IsTestRefusal o v.settings.default_millis now (last_of v.settings.start_seq v.state.commits) (conflict v.state.commits u) u.ops e) (sym same) test))
+
+pub put_as : (a b : Option (List ℕ → Combine)) (d n : Option ℕ) (z now : ℤ) (ops : Ops) (l y : LayersModel) → y ≡ put_at (operator_at a) d n z ops l → a ≡ b → z ≡ now → y ≡ put_at (operator_at b) d n now ops l
+put_as a b d n z now ops l y is operators moments = is ∙ (λ i. put_at (operator_at (operators i)) d n (moments i) ops l)

@@ -45,7 +45,7 @@ few_made : (f : List ℕ → Option RowEntry) (ks : List (List ℕ)) → length 
 few_made f [] = omega arith
 few_made f (k ∷ ks) = by (f k) (few_made f ks)
   where
-    by : (o : Option RowEntry) → length (filter_map f ks) ≤ length ks → length (cons_option o (filter_map f ks)) ≤ 1 + length ks
+    by : (o : Option RowEntry) → length (filter_map f ks) ≤ length ks → length (cons_option o (filter_map f ks)) ≤ length (k ∷ ks)
     by None rest = omega arith
     by (Some r) rest = omega arith
 

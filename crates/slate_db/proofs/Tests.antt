@@ -1,6 +1,6 @@
 -- The tests of a batch that is to become a commit, and what the model says of them.
-use Rattle.std.proofs.Common.{◌≡◌, ℕ, ◌+◌, ◌-◌, ◌<◌, ◌^◌, Bool, true, false, ◌&&◌, List, [], ◌∷◌, ◌++◌, map, reverse, Option, Some, None, ℤ, refl, sym, ap, subst, ◌∙◌, append-nil}
-use Rattle.std.specs.Prelude.{is_some, not, option_map, IsSome}
+use Rattle.std.proofs.Common.{◌≡◌, ℕ, ◌+◌, ◌-◌, ◌<◌, ◌^◌, Bool, true, false, ◌&&◌, List, [], ◌∷◌, ◌++◌, map, reverse, Option, Some, None, ℤ, ◌⊎◌, inl, inr, refl, sym, ap, ◌∙◌, append-nil}
+use Rattle.std.specs.Prelude.{is_some, not, option_map, IsSome, Result, Ok, Err}
 use Rattle.slate_types.specs.declared.error.SlateDBError.{SlateDBError}
 use Rattle.slate_types.specs.declared.error.SlateDBError.TheVariants as errors
 use Rattle.slate_types.specs.Fold.{Combine, KeepsShort, operator_at}
@@ -59,8 +59,8 @@ held_none true false h e = cc
 held_none false b h e = refl
 
 -- a batch that ever took a merge has an operator
-pub tested_some : {M : Type 0} (o : Option M) (held : Bool) (d : Option ℕ) (now : ℤ) (ops : Ops) → first_refusal (test_refusals (is_some o) held None d now ops) ≡ None → held ≡ true → IsSome o
-tested_some o held d now ops h e = some_is o (has_operator held (is_some o) (first_none (merges_refusal (is_some o) held) (map (key_refusal None d now ops) (batch_keys ops)) h) e)
+pub tested_some : {M : Type 0} (o : Option M) (held there : Bool) (d : Option ℕ) (z now : ℤ) (ops : Ops) → there ≡ is_some o → z ≡ now → first_refusal (test_refusals there held None d z ops) ≡ None → held ≡ true → IsSome o
+tested_some o held there d z now ops is moments h e = some_is o (sym is ∙ has_operator held there (first_none (merges_refusal there held) (map (key_refusal None d z ops) (batch_keys ops)) h) e)
 
 -- without an operator there is no merge
 pub tested_plain : {C : Type 0} (o : Option C) (held : Bool) (d : Option ℕ) (now : ℤ) (ops : Ops) → o ≡ None → first_refusal (test_refusals (is_some o) held None d now ops) ≡ None → held ≡ false
@@ -121,3 +121,21 @@ merges_tested o d now ops h = first_none (merges_refusal (is_some o) (holds_merg
 -- of an equal operator and an equal moment
 pub batch_refusal_as : {C : Type 0} (a b : Option C) (d : Option ℕ) (x y : ℤ) (batch : BatchModel) → a ≡ b → x ≡ y → batch_refusal a d x batch ≡ batch_refusal b d y batch
 batch_refusal_as a b d x y batch operators moments = λ i. batch_refusal (operators i) d (moments i) batch
+
+pub test_as : {C : Type 0} (o : Option C) (d : Option ℕ) (z now : ℤ) (ops : Ops) (b : BatchModel) → z ≡ now → IsBatchOf ops b → batch_refusal o d z b ≡ test_refusal o d now ops
+test_as o d z now ops b moments of = batch_refusal_as o o d z now b refl moments ∙ refusal_kept o d now ops b of
+
+pub test_refusal_as : {C : Type 0} (a b : Option C) (d : Option ℕ) (x y : ℤ) (ops : Ops) → a ≡ b → x ≡ y → test_refusal a d x ops ≡ test_refusal b d y ops
+test_refusal_as a b d x y ops operators moments = λ i. test_refusal (operators i) d (moments i) ops
+
+err_is : {A : Type 0} (x y : SlateDBError) (r : Result A SlateDBError) → r ≡ Err x → r ≡ Err y → x ≡ y
+err_is x y r a h = cc
+
+-- an error of one result is one of another
+pub first_moved : {A B : Type 0} (x e f : SlateDBError) (r : Result A SlateDBError) (s : Result B SlateDBError) → r ≡ Err x → s ≡ Err x → (r ≡ Err e) ⊎ (r ≡ Err f) → (s ≡ Err e) ⊎ (s ≡ Err f)
+first_moved x e f r s a b (inl h) = inl (b ∙ ap Err (err_is x e r a h))
+first_moved x e f r s a b (inr h) = inr (b ∙ ap Err (err_is x f r a h))
+
+-- one refusal and none
+pub none_some : {P : Type 0} (e : SlateDBError) → None ≡ Some e → P
+none_some e h = cc

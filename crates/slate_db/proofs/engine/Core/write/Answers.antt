@@ -37,7 +37,7 @@ use Rattle.slate_db.proofs.Plain.{step_nothing, step_exhausted, some_ops}
 use Rattle.slate_db.proofs.Puts.{some_more, versions_more, active_within}
 use Rattle.slate_db.proofs.Logs.{has_place}
 use Rattle.slate_db.proofs.TakenBack.{commit_seqs, older_rows}
-use Rattle.slate_db.proofs.Tests.{batch_refusal_as, step_test_refused, step_tested, tested_plain}
+use Rattle.slate_db.proofs.Tests.{batch_refusal_as, first_moved, step_test_refused, step_tested, tested_plain}
 use Rattle.slate_db.proofs.Vouches.{below_next, vouched_write}
 use Rattle.slate_db.proofs.Wholes.{whole_write}
 use Rattle.slate_db.proofs.Writes.{kept_write}
@@ -100,8 +100,8 @@ cause_rows f m k (inr (inl test)) = inr (inr (inr (m test)))
 cause_rows f m k (inr (inr called)) = inl (k called)
 
 -- the commit's rows, of the operations at the next sequence
-made : (f : List ℕ → Combine) (d : Option ℕ) (n seq : ℕ) (at now : ℤ) (ops : Ops) (rows : Rows) → rows ≡ commit_rows f d seq at ops → seq ≡ n → at ≡ now → rows ≡ commit_rows f d n now ops
-made f d n seq at now ops rows is seqs ats = is ∙ (λ i. commit_rows f d (seqs i) (ats i) ops)
+made : (a b : Option (List ℕ → Combine)) (d : Option ℕ) (n seq : ℕ) (at now : ℤ) (ops : Ops) (rows : Rows) → rows ≡ commit_rows (operator_at a) d seq at ops → a ≡ b → seq ≡ n → at ≡ now → rows ≡ commit_rows (operator_at b) d n now ops
+made a b d n seq at now ops rows is operators seqs ats = is ∙ (λ i. commit_rows (operator_at (operators i)) d (seqs i) (ats i) ops)
 
 higher : (n m : ℕ) → m ≤ n → m ≤ n + 1
 higher n m h = omega arith
@@ -112,7 +112,7 @@ put_batch-requires g c =
     let n : ℕ = c.self.inside.log.last in
     let seq : c.last-seq.result + 1 ≡ n + 1 = ap (λ n. n + 1) (c.last-seq.ensures ∙ ap (λ (l : LogModel). l.last) c.reserve.ensures.value) in
     let rows : c.in_ok-rows.rows.items ≡ commit_rows f c.self.inside.default_millis (n + 1) c.args.now c.args.batch.ops =
-    made f c.self.inside.default_millis (n + 1) (c.last-seq.result + 1) _ c.args.now c.args.batch.ops c.in_ok-rows.rows.items (c.in_ok-rows.ensures.rows ∙ ap (λ o. commit_rows (operator_at o) c.self.inside.default_millis (c.last-seq.result + 1) _ c.args.batch.ops) (sym (combine_is g.M.MergeOperator.combine c.args.env.now.operator))) seq (to_z-of_z w64 c.args.now c.ranges.now) in
+    made (option_map g.M.MergeOperator.combine c.args.env.now.operator) (reach_of g.S.Store g.M.MergeOperator g.T.BlockTransformer c.args.env.now).meaning.combine c.self.inside.default_millis (n + 1) (c.last-seq.result + 1) _ c.args.now c.args.batch.ops c.in_ok-rows.rows.items c.in_ok-rows.ensures.rows (sym (combine_is g.M.MergeOperator.combine c.args.env.now.operator)) seq (to_z-of_z w64 c.args.now c.ranges.now) in
     record {
       whole = c.self.invariant.layers;
       fit = c.in_ok-rows.ensures.fit c.ops.ensures.fine;
@@ -136,7 +136,7 @@ invariant_of-self-2 g c =
     let n : ℕ = c.self.inside.log.last in
     let seq : c.last-seq.result + 1 ≡ n + 1 = ap (λ n. n + 1) (c.last-seq.ensures ∙ ap (λ (l : LogModel). l.last) c.reserve.ensures.value) in
     let rows : c.in_ok-rows.rows.items ≡ commit_rows f c.self.inside.default_millis (n + 1) c.args.now c.args.batch.ops =
-    made f c.self.inside.default_millis (n + 1) (c.last-seq.result + 1) _ c.args.now c.args.batch.ops c.in_ok-rows.rows.items (c.in_ok-rows.ensures.rows ∙ ap (λ o. commit_rows (operator_at o) c.self.inside.default_millis (c.last-seq.result + 1) _ c.args.batch.ops) (sym (combine_is g.M.MergeOperator.combine c.args.env.now.operator))) (ap (λ n. n + 1) (c.last-seq.ensures ∙ ap (λ (l : LogModel). l.last) c.reserve.ensures.value)) (to_z-of_z w64 c.args.now c.ranges.now) in
+    made (option_map g.M.MergeOperator.combine c.args.env.now.operator) (reach_of g.S.Store g.M.MergeOperator g.T.BlockTransformer c.args.env.now).meaning.combine c.self.inside.default_millis (n + 1) (c.last-seq.result + 1) _ c.args.now c.args.batch.ops c.in_ok-rows.rows.items c.in_ok-rows.ensures.rows (sym (combine_is g.M.MergeOperator.combine c.args.env.now.operator)) (ap (λ n. n + 1) (c.last-seq.ensures ∙ ap (λ (l : LogModel). l.last) c.reserve.ensures.value)) (to_z-of_z w64 c.args.now c.ranges.now) in
     let layers : c.put_batch.new.layers ≡ record c.self.inside.layers { active = put_rows c.self.inside.layers.active (commit_rows f c.self.inside.default_millis (n + 1) c.args.now c.args.batch.ops) } =
     c.in_ok-put_batch.ensures.put ∙ ap (λ rs. record c.self.inside.layers { active = put_rows c.self.inside.layers.active rs }) rows in
     let log : c.push_write.new.self ≡ with_write c.self.inside.log c.args.now c.args.batch.ops c.push_write.new.self.spare =
@@ -158,7 +158,7 @@ returns g c =
     let n : ℕ = c.self.inside.log.last in
     let seq : c.last-seq.result + 1 ≡ n + 1 = ap (λ n. n + 1) (c.last-seq.ensures ∙ ap (λ (l : LogModel). l.last) c.reserve.ensures.value) in
     let rows : c.in_ok-rows.rows.items ≡ commit_rows f c.self.inside.default_millis (n + 1) c.args.now c.args.batch.ops =
-    made f c.self.inside.default_millis (n + 1) (c.last-seq.result + 1) _ c.args.now c.args.batch.ops c.in_ok-rows.rows.items (c.in_ok-rows.ensures.rows ∙ ap (λ o. commit_rows (operator_at o) c.self.inside.default_millis (c.last-seq.result + 1) _ c.args.batch.ops) (sym (combine_is g.M.MergeOperator.combine c.args.env.now.operator))) seq (to_z-of_z w64 c.args.now c.ranges.now) in
+    made (option_map g.M.MergeOperator.combine c.args.env.now.operator) (reach_of g.S.Store g.M.MergeOperator g.T.BlockTransformer c.args.env.now).meaning.combine c.self.inside.default_millis (n + 1) (c.last-seq.result + 1) _ c.args.now c.args.batch.ops c.in_ok-rows.rows.items c.in_ok-rows.ensures.rows (sym (combine_is g.M.MergeOperator.combine c.args.env.now.operator)) seq (to_z-of_z w64 c.args.now c.ranges.now) in
     let written : Rows = put_rows c.self.inside.layers.active (commit_rows f c.self.inside.default_millis (n + 1) c.args.now c.args.batch.ops) in
     let layers : c.put_batch.new.layers ≡ record c.self.inside.layers { active = put_rows c.self.inside.layers.active (commit_rows f c.self.inside.default_millis (n + 1) c.args.now c.args.batch.ops) } =
     c.in_ok-put_batch.ensures.put ∙ ap (λ rs. record c.self.inside.layers { active = put_rows c.self.inside.layers.active rs }) rows in
@@ -195,8 +195,8 @@ returns g c =
       limit = λ some below. placed (view_of c.self.inside) c.args.self.now (unseen_of c.self.inside) 1 c.self.view_is c.self.invariant c.in_ok-place.ensures.place;
       first = λ some below free e is. let none : None ≡ Some e = sym tested ∙ ap (λ (v : CoreModel). batch_refusal (reach_of g.S.Store g.M.MergeOperator g.T.BlockTransformer c.args.env.now).meaning.combine v.settings.default_millis c.args.now c.args.batch) c.self.view_is ∙ is in cc;
       cause = tt;
-      call = asked_call g.S.Store g.M.MergeOperator g.T.BlockTransformer c.args.env.now c.tested_rows-rows.new.operator c.tested_rows-rows.ensures.same;
-      reads = asked_reads g.S.Store g.M.MergeOperator g.T.BlockTransformer c.args.env.now c.tested_rows-rows.new.operator c.tested_rows-rows.ensures.same c.tested_rows-rows.ensures.later;
+      call = asked_call g.S.Store g.M.MergeOperator g.T.BlockTransformer c.args.env.now c.tested_rows.new.operator c.tested_rows.ensures.same;
+      reads = asked_reads g.S.Store g.M.MergeOperator g.T.BlockTransformer c.args.env.now c.tested_rows.new.operator c.tested_rows.ensures.same c.tested_rows.ensures.later;
     }
 
 -- ---- refusals: at most room was made
@@ -263,10 +263,15 @@ returns-in_err-reserve g c =
 pub returns-in_err-rows : goal.returns-in_err-rows
 returns-in_err-rows g c =
     let p = err_from_is_err_and c.from_residual-in_err-rows.result c.from_residual-in_err-rows.ensures.1 in
+    let m : Meaning = (reach_of g.S.Store g.M.MergeOperator g.T.BlockTransformer c.args.env.now).meaning in
+    let tests : batch_refusal (option_map g.M.MergeOperator.combine c.args.env.now.operator) c.self.inside.default_millis _ c.args.batch ≡ batch_refusal m.combine c.self.inside.default_millis c.args.now c.args.batch = (batch_refusal_as (option_map g.M.MergeOperator.combine c.args.env.now.operator) (reach_of g.S.Store g.M.MergeOperator g.T.BlockTransformer c.args.env.now).meaning.combine c.self.inside.default_millis _ c.args.now c.args.batch (sym (combine_is g.M.MergeOperator.combine c.args.env.now.operator)) (to_z-of_z w64 c.args.now c.ranges.now)) in
     let below : c.self.inside.log.last < 2 ^ 64 - 2 = omega (arith, c.last.ensures) in
     record {
       step = IfOk-from_err c.from_residual-in_err-rows.result _ c.from_residual-in_err-rows.ensures.0;
-      refused = ?;
+      refused = rw (p.1, p.2) (refused_rows (short_fault _ _ _) (λ test ops of fine.
+          sym (ap (λ (v : CoreModel). step (rules_of v.settings m) (at c.args.now v.state) (lines.Write ops)) c.self.view_is)
+          ∙ step_test_refused (rules_of (view_of c.self.inside).settings m) (at c.args.now (view_of c.self.inside).state) ops c.args.batch c.self.inside.log.last c.in_err-rows.field-0.0 of (λ none. let t : true ≡ false = sym (c.is_empty.ensures.1 none) ∙ c.if-is_empty.false in cc) (sym tests ∙ test) fine refl c.self.invariant.log.last below
+          ∙ ap (λ (v : CoreModel). (at c.args.now v.state, Refused c.in_err-rows.field-0.0)) c.self.view_is) (callback_fault (reach_of g.S.Store g.M.MergeOperator g.T.BlockTransformer c.args.env.now) (reach_of g.S.Store g.M.MergeOperator g.T.BlockTransformer (record c.args.env.now { operator = c.tested_rows.new.operator })) _) c.in_err-rows.ensures.cause);
       event = IfOk-from_err c.from_residual-in_err-rows.result _ c.from_residual-in_err-rows.ensures.0;
       vouched = IfOk-from_err c.from_residual-in_err-rows.result _ c.from_residual-in_err-rows.ensures.0;
       kept = IfOk-from_err c.from_residual-in_err-rows.result _ c.from_residual-in_err-rows.ensures.0;
@@ -275,10 +280,10 @@ returns-in_err-rows g c =
       idle = λ none. absurd (true≢false (sym (c.is_empty.ensures.1 none) ∙ c.if-is_empty.false));
       exhausted = λ some. none_left (view_of c.self.inside) c.args.self.now (unseen_of c.self.inside) (2 ^ 64 - 2) c.self.view_is c.self.invariant below;
       limit = λ some below. placed (view_of c.self.inside) c.args.self.now (unseen_of c.self.inside) 1 c.self.view_is c.self.invariant c.in_ok-place.ensures.place;
-      first = ?;
-      cause = ?;
-      call = asked_call g.S.Store g.M.MergeOperator g.T.BlockTransformer c.args.env.now c.tested_rows-rows.new.operator c.tested_rows-rows.ensures.same;
-      reads = asked_reads g.S.Store g.M.MergeOperator g.T.BlockTransformer c.args.env.now c.tested_rows-rows.new.operator c.tested_rows-rows.ensures.same c.tested_rows-rows.ensures.later;
+      first = λ some lower free e is. first_moved c.in_err-rows.field-0.0 e errors.OutOfMemory _ c.from_residual-in_err-rows.result refl (p.1 ∙ ap Err p.2) (c.in_err-rows.ensures.first e (tests ∙ ap (λ (v : CoreModel). batch_refusal m.combine v.settings.default_millis c.args.now c.args.batch) c.self.view_is ∙ is));
+      cause = rw (p.1, p.2) (cause_rows (short_fault _ _ _) (λ test. sym (tests ∙ ap (λ (v : CoreModel). batch_refusal m.combine v.settings.default_millis c.args.now c.args.batch) c.self.view_is) ∙ test) (callback_fault (reach_of g.S.Store g.M.MergeOperator g.T.BlockTransformer c.args.env.now) (reach_of g.S.Store g.M.MergeOperator g.T.BlockTransformer (record c.args.env.now { operator = c.tested_rows.new.operator })) _) c.in_err-rows.ensures.cause);
+      call = asked_call g.S.Store g.M.MergeOperator g.T.BlockTransformer c.args.env.now c.tested_rows.new.operator c.tested_rows.ensures.same;
+      reads = asked_reads g.S.Store g.M.MergeOperator g.T.BlockTransformer c.args.env.now c.tested_rows.new.operator c.tested_rows.ensures.same c.tested_rows.ensures.later;
     }
 
 pub returns-in_err-ops : goal.returns-in_err-ops
@@ -298,8 +303,8 @@ returns-in_err-ops g c =
       limit = λ some below. placed (view_of c.self.inside) c.args.self.now (unseen_of c.self.inside) 1 c.self.view_is c.self.invariant c.in_ok-place.ensures.place;
       first = λ some lower free e is. inr (p.1 ∙ ap Err (p.2 ∙ c.in_err-ops.ensures.cause));
       cause = rw (p.1, p.2) (inl (short_fault _ _ _ c.in_err-ops.ensures.cause));
-      call = asked_call g.S.Store g.M.MergeOperator g.T.BlockTransformer c.args.env.now c.tested_rows-rows.new.operator c.tested_rows-rows.ensures.same;
-      reads = asked_reads g.S.Store g.M.MergeOperator g.T.BlockTransformer c.args.env.now c.tested_rows-rows.new.operator c.tested_rows-rows.ensures.same c.tested_rows-rows.ensures.later;
+      call = asked_call g.S.Store g.M.MergeOperator g.T.BlockTransformer c.args.env.now c.tested_rows.new.operator c.tested_rows.ensures.same;
+      reads = asked_reads g.S.Store g.M.MergeOperator g.T.BlockTransformer c.args.env.now c.tested_rows.new.operator c.tested_rows.ensures.same c.tested_rows.ensures.later;
     }
 
 pub returns-in_err-keys : goal.returns-in_err-keys
@@ -319,8 +324,8 @@ returns-in_err-keys g c =
       limit = λ some below. placed (view_of c.self.inside) c.args.self.now (unseen_of c.self.inside) 1 c.self.view_is c.self.invariant c.in_ok-place.ensures.place;
       first = λ some lower free e is. inr (p.1 ∙ ap Err (p.2 ∙ c.in_err-keys.ensures.cause));
       cause = rw (p.1, p.2) (inl (short_fault _ _ _ c.in_err-keys.ensures.cause));
-      call = asked_call g.S.Store g.M.MergeOperator g.T.BlockTransformer c.args.env.now c.tested_rows-rows.new.operator c.tested_rows-rows.ensures.same;
-      reads = asked_reads g.S.Store g.M.MergeOperator g.T.BlockTransformer c.args.env.now c.tested_rows-rows.new.operator c.tested_rows-rows.ensures.same c.tested_rows-rows.ensures.later;
+      call = asked_call g.S.Store g.M.MergeOperator g.T.BlockTransformer c.args.env.now c.tested_rows.new.operator c.tested_rows.ensures.same;
+      reads = asked_reads g.S.Store g.M.MergeOperator g.T.BlockTransformer c.args.env.now c.tested_rows.new.operator c.tested_rows.ensures.same c.tested_rows.ensures.later;
     }
 
 pub returns-in_err-put_batch : goal.returns-in_err-put_batch
@@ -340,6 +345,6 @@ returns-in_err-put_batch g c =
       limit = λ some below. placed (view_of c.self.inside) c.args.self.now (unseen_of c.self.inside) 1 c.self.view_is c.self.invariant c.in_ok-place.ensures.place;
       first = λ some lower free e is. inr (p.1 ∙ ap Err (p.2 ∙ c.in_err-put_batch.ensures.cause));
       cause = rw (p.1, p.2) (inl (short_fault _ _ _ c.in_err-put_batch.ensures.cause));
-      call = asked_call g.S.Store g.M.MergeOperator g.T.BlockTransformer c.args.env.now c.tested_rows-rows.new.operator c.tested_rows-rows.ensures.same;
-      reads = asked_reads g.S.Store g.M.MergeOperator g.T.BlockTransformer c.args.env.now c.tested_rows-rows.new.operator c.tested_rows-rows.ensures.same c.tested_rows-rows.ensures.later;
+      call = asked_call g.S.Store g.M.MergeOperator g.T.BlockTransformer c.args.env.now c.tested_rows.new.operator c.tested_rows.ensures.same;
+      reads = asked_reads g.S.Store g.M.MergeOperator g.T.BlockTransformer c.args.env.now c.tested_rows.new.operator c.tested_rows.ensures.same c.tested_rows.ensures.later;
     }
