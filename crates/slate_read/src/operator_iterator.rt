@@ -26,7 +26,7 @@ use std::mem;
 ///
 /// Without an operator nothing is folded: each row that it hands out is the source's, or the one that was read ahead, unchanged, and
 /// is no operand that isn't above the barrier. `MergeOperatorMissing` comes only there: it is the source's own refusal, or such an
-/// operand comes next. `next_row` and `IsOperable` say where it never comes.
+/// operand comes next. `next_row` says where it never comes of itself.
 ///
 /// Each refusal is kept and answered again, or want of memory in its place, but for the `IteratorNotInitialized` that it answers of
 /// itself, only before `init`, and which leaves it as it is. A seek before `init` answers nothing else.
@@ -67,9 +67,9 @@ impl<I: Drop> MergeOperatorIterator<I> {
     }
 
     /// The first row of the rest, which is taken off, or `None` at its end, as `RowEntryIterator::next` answers it, which calls
-    /// this. Beside what that says: where no operand is left that would be folded, or there is an operator (`IsOperable`), it
-    /// refuses for a fault or for the source's own refusal alone (`own`), and that stays so (`operable`). An answer adds no cause to
-    /// refuse to what its source has (`sources`).
+    /// this. Beside what that says: where it has begun and wasn't refused, and no operand is left that would be folded, or there is
+    /// an operator (`IsOperable`), it refuses for a fault or for the source's own refusal alone (`own`), and that stays so
+    /// (`operable`). An answer adds nothing to what the source may refuse (`sources`).
     #[tactic(auto, using(slate_types::proofs::Reaching::reads_none))]
     pub fn next_row<E: Operates>(
         &mut self,
