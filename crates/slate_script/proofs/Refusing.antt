@@ -1,6 +1,6 @@
 -- Why a write or a commit is refused, and that its refusals are answered.
-use Rattle.std.proofs.Common.{◌≡◌, ℕ, Bool, true, false, not, ◌&&◌, ◌<◌, ◌+◌, ◌⊎◌, inl, inr, List, [], ◌∷◌, map, Option, Some, None, is_some, option_map, Result, Ok, Err, ℤ, sym, ◌∙◌, subst, arith}
-use Rattle.std.specs.Prelude.{IfErr}
+use Rattle.std.proofs.Common.{◌≡◌, ℕ, Bool, true, false, ◌<◌, ◌+◌, ◌⊎◌, inl, inr, List, [], ◌∷◌, map, Option, Some, None, is_some, option_map, Result, Ok, Err, ℤ, sym, ◌∙◌, subst, arith}
+use Rattle.std.specs.Prelude.{IfErr, not, ◌&&◌}
 use Rattle.slate_types.specs.declared.error.SlateDBError.{SlateDBError}
 use Rattle.slate_types.specs.declared.error.SlateDBError.TheVariants as errors
 use Rattle.slate_types.specs.Outside.{Counts, IsCounted}
