@@ -23,6 +23,7 @@ fn make_rows() -> Vec<Row> {
         .map(|i| Row {
             key: format!("account/{i:08}/balance").into_bytes(),
             value: vec![(i % 251) as u8; VALUE_LEN],
+            is_operand: false,
             seq: i + 1,
             create_ts: i as i64,
         })
@@ -186,10 +187,17 @@ mod block {
     const BLOCK_SIZE: usize = 4096;
     const RESTART_INTERVAL: usize = 16;
 
-    /// A put, as it is given to a builder.
+    /// The flag of a row that has its creation.
+    const CREATED: u8 = 4;
+
+    /// The flag of an operand.
+    const OPERAND: u8 = 8;
+
+    /// A put or an operand, as it is given to a builder.
     pub struct Row {
         pub key: Vec<u8>,
         pub value: Vec<u8>,
+        pub is_operand: bool,
         pub seq: u64,
         pub create_ts: i64,
     }
@@ -202,6 +210,12 @@ mod block {
         pub create_ts: Option<i64>,
         pub expire_ts: Option<i64>,
         pub flags: u8,
+    }
+
+    impl ReadRow<'_> {
+        pub fn is_operand(&self) -> bool {
+            self.flags & OPERAND != 0
+        }
     }
 
     #[derive(Clone, Copy, PartialEq)]
@@ -330,7 +344,11 @@ mod block {
 
         fn add_meta(&mut self, row: &Row) {
             self.body.extend_from_slice(&row.seq.to_be_bytes());
-            self.body.push(4);
+            self.body.push(if row.is_operand {
+                CREATED | OPERAND
+            } else {
+                CREATED
+            });
             self.body.extend_from_slice(&row.create_ts.to_be_bytes());
         }
 
@@ -565,13 +583,15 @@ mod block {
         Some(rows)
     }
 
-    /// The newest row of a key at or below a sequence, of a block of version 2. The outer `None` is a damaged block.
-    pub fn newest_of_block<'a>(
+    /// Adds a key's rows at or below a sequence, newest first, to the first that is no operand, of a block of version 2. Gives whether
+    /// that one was met, and `None` where the block is damaged.
+    pub fn add_rows_of_key<'a>(
         body: &'a [u8],
         offsets: &[u16],
         key: &[u8],
         max_seq: u64,
-    ) -> Option<Option<ReadRow<'a>>> {
+        rows: &mut Vec<ReadRow<'a>>,
+    ) -> Option<bool> {
         let begins_before = |at: &u16| {
             let mut input = Input {
                 bytes: body,
@@ -589,11 +609,18 @@ mod block {
             let row = read_v2(&mut input, &previous)?;
             match row.key.as_slice().cmp(key) {
                 Ordering::Greater => break,
-                Ordering::Equal if row.seq <= max_seq => return Some(Some(row)),
+                Ordering::Equal if row.seq <= max_seq => {
+                    previous.clone_from(&row.key);
+                    let is_last = !row.is_operand();
+                    rows.push(row);
+                    if is_last {
+                        return Some(true);
+                    }
+                }
                 _ => previous = row.key,
             }
         }
-        Some(None)
+        Some(false)
     }
 }
 
@@ -652,11 +679,13 @@ mod table {
         bytes: Vec<u8>,
         block: Builder,
         puts: u16,
+        operands: u16,
         last_key: Vec<u8>,
         separator: Vec<u8>,
         index: Vec<u8>,
         block_counts: Vec<[u16; 3]>,
-        rows: u64,
+        all_puts: u64,
+        all_operands: u64,
         key_bytes: u64,
         value_bytes: u64,
     }
@@ -669,11 +698,13 @@ mod table {
                 bytes: Vec::new(),
                 block: Builder::new(version),
                 puts: 0,
+                operands: 0,
                 last_key: Vec::new(),
                 separator: Vec::new(),
                 index: Vec::new(),
                 block_counts: Vec::new(),
-                rows: 0,
+                all_puts: 0,
+                all_operands: 0,
                 key_bytes: 0,
                 value_bytes: 0,
             }
@@ -695,8 +726,10 @@ mod table {
             self.index
                 .extend_from_slice(&(self.separator.len() as u16).to_be_bytes());
             self.index.extend_from_slice(&self.separator);
-            self.block_counts.push([self.puts, 0, 0]);
-            self.puts = 0;
+            self.block_counts.push([self.puts, 0, self.operands]);
+            self.all_puts += u64::from(self.puts);
+            self.all_operands += u64::from(self.operands);
+            (self.puts, self.operands) = (0, 0);
         }
 
         fn add(&mut self, row: &Row) {
@@ -705,11 +738,14 @@ mod table {
                 let shared = compute_prefix(&self.last_key, &row.key);
                 self.separator = row.key[..row.key.len().min(shared + 1)].to_vec();
                 self.block.add(row);
-            } else if self.rows == 0 {
+            } else if self.key_bytes == 0 {
                 self.separator = row.key.clone();
             }
-            self.puts += 1;
-            self.rows += 1;
+            if row.is_operand {
+                self.operands += 1;
+            } else {
+                self.puts += 1;
+            }
             self.key_bytes += row.key.len() as u64;
             self.value_bytes += row.value.len() as u64;
             self.last_key.clear();
@@ -722,7 +758,8 @@ mod table {
             index.append(&mut self.index);
             let index_at = self.seal(&index);
             let mut stats = Vec::new();
-            for number in [self.rows, 0, 0, self.key_bytes, self.value_bytes] {
+            let counts = [self.all_puts, 0, self.all_operands];
+            for number in counts.into_iter().chain([self.key_bytes, self.value_bytes]) {
                 stats.extend_from_slice(&number.to_be_bytes());
             }
             stats.extend_from_slice(&(self.block_counts.len() as u32).to_be_bytes());
@@ -795,10 +832,10 @@ mod table {
     }
 }
 
-/// A store in plain Rust that answers the lines of the scripts of `scripts` as `slate` does: writes of one put, begins, gets, scans
-/// without steps, puts, commits and flushes. Any other line ends it.
+/// A store in plain Rust that answers the lines of the scripts of `scripts` as `slate` does with the word `op=max`: writes of one put
+/// or one operand, begins, gets, scans without steps, puts, commits and flushes. Any other line ends it. No script scans operands.
 mod script {
-    use crate::block::{decode_block, newest_of_block, rows_of_block, Row, Version};
+    use crate::block::{add_rows_of_key, decode_block, rows_of_block, Row, Version};
     use crate::scripts;
     use crate::table::{build_table, open_section, places_of, read_index, CrcTables};
     use std::borrow::Cow;
@@ -919,6 +956,12 @@ mod script {
         value: Vec<u8>,
         seq: u64,
         create_ts: i64,
+    }
+
+    /// What was written of a key: a value, or an operand.
+    struct Written {
+        value: Vec<u8>,
+        is_operand: bool,
     }
 
     /// By which rows in memory are ordered: by key upwards, and the newest of a key first.
@@ -1118,7 +1161,7 @@ mod script {
         /// Of each key that was written while a transaction was open the sequence of its last write.
         writes: BTreeMap<Vec<u8>, u64>,
         journal: Journal,
-        rows: BTreeMap<RowKey, Vec<u8>>,
+        rows: BTreeMap<RowKey, Written>,
         /// The newest last.
         tables: Vec<StoredTable>,
     }
@@ -1201,7 +1244,12 @@ mod script {
         fn answer(&mut self, line: &[u8]) -> Result<Vec<u8>, Failure> {
             let tokens: Vec<&[u8]> = line.split(|byte| *byte == b' ').collect();
             match tokens.as_slice() {
-                [b"write", b"put", key, value] => self.write(read_key(key)?, read_text(value)?),
+                [b"write", b"put", key, value] => {
+                    self.write(read_key(key)?, read_text(value)?, false)
+                }
+                [b"write", b"merge", key, value] => {
+                    self.write(read_key(key)?, read_text(value)?, true)
+                }
                 [b"begin", name, b"si"] => self.begin(read_name(name)?, false),
                 [b"begin", name, b"ssi"] => self.begin(read_name(name)?, true),
                 [b"get", name, key] => self.get(read_name(name)?, read_text(key)?),
@@ -1218,10 +1266,19 @@ mod script {
             }
         }
 
-        fn write(&mut self, key: &[u8], value: &[u8]) -> Result<Vec<u8>, Failure> {
+        fn write(
+            &mut self,
+            key: &[u8],
+            value: &[u8],
+            is_operand: bool,
+        ) -> Result<Vec<u8>, Failure> {
             self.last += 1;
+            let written = Written {
+                value: value.to_vec(),
+                is_operand,
+            };
             self.rows
-                .insert((key.to_vec(), Reverse(self.last)), value.to_vec());
+                .insert((key.to_vec(), Reverse(self.last)), written);
             if !self.names.is_empty() {
                 self.writes.insert(key.to_vec(), self.last);
             }
@@ -1263,7 +1320,7 @@ mod script {
                     seq: OWN,
                     create_ts: 0,
                 }),
-                None => self.newest(key, open.begin)?,
+                None => self.find(key, open.begin)?,
             };
             let reply = match &row {
                 Some(row) => row_line(key, row),
@@ -1350,8 +1407,11 @@ mod script {
             let seq = (!open.own.is_empty()).then_some(self.last + 1);
             self.last = seq.unwrap_or(self.last);
             for (key, value) in &open.own {
-                self.rows
-                    .insert((key.clone(), Reverse(self.last)), value.clone());
+                let written = Written {
+                    value: value.clone(),
+                    is_operand: false,
+                };
+                self.rows.insert((key.clone(), Reverse(self.last)), written);
                 if !self.names.is_empty() {
                     self.writes.insert(key.clone(), self.last);
                 }
@@ -1414,9 +1474,9 @@ mod script {
             let memory =
                 self.rows
                     .range(bounds_of_rows(range))
-                    .map(|((key, Reverse(seq)), value)| ScanRow {
+                    .map(|((key, Reverse(seq)), written)| ScanRow {
                         key: key.clone(),
-                        value: value.clone(),
+                        value: written.value.clone(),
                         seq: *seq,
                         create_ts: 0,
                     });
@@ -1503,33 +1563,39 @@ mod script {
             Ok(())
         }
 
-        /// The newest row of a key at or below a sequence.
-        fn newest(&self, key: &[u8], at: u64) -> Result<Option<Found>, Failure> {
-            let mut behind = self.rows.range((key.to_vec(), Reverse(at))..);
-            if let Some(((_, Reverse(seq)), value)) = behind.next().filter(|row| row.0 .0 == key) {
-                return Ok(Some(Found {
-                    value: value.clone(),
+        /// What the rows of a key at or below a sequence fold to.
+        fn find(&self, key: &[u8], at: u64) -> Result<Option<Found>, Failure> {
+            let mut rows = Vec::new();
+            let behind = self.rows.range((key.to_vec(), Reverse(at))..);
+            for ((_, Reverse(seq)), written) in behind.take_while(|row| row.0 .0 == key) {
+                rows.push(Found {
+                    value: written.value.clone(),
                     seq: *seq,
                     create_ts: 0,
-                }));
-            }
-            for table in self.tables.iter().rev() {
-                if let Some(row) = self.newest_of_table(table, key, at)? {
-                    return Ok(Some(row));
+                });
+                if !written.is_operand {
+                    return Ok(folded(rows));
                 }
             }
-            Ok(None)
+            for table in self.tables.iter().rev() {
+                if self.add_rows_of_table(table, key, at, &mut rows)? {
+                    break;
+                }
+            }
+            Ok(folded(rows))
         }
 
-        /// The same, of a table: where its keys enclose the key, its index is read, and the blocks that can hold the key.
-        fn newest_of_table(
+        /// Adds a key's rows at or below a sequence, newest first, to the first that is no operand, of a table: where its keys enclose
+        /// the key, its index is read, and the blocks that can hold the key. Gives whether that one was met.
+        fn add_rows_of_table(
             &self,
             table: &StoredTable,
             key: &[u8],
             at: u64,
-        ) -> Result<Option<Found>, Failure> {
+            rows: &mut Vec<Found>,
+        ) -> Result<bool, Failure> {
             if key < table.first_key.as_slice() || table.last_key.as_slice() < key {
-                return Ok(None);
+                return Ok(false);
             }
             let index = self.read(&table.path, table.index_at, table.stats_at)?;
             let (offsets, separators) = open_section(&self.crc, &index)
@@ -1546,11 +1612,11 @@ mod script {
             let sections = self.read(&table.path, start, start_of(end))?;
             for block in first..end {
                 let section = &sections[start_of(block) - start..start_of(block + 1) - start];
-                if let Some(row) = newest_of_section(&self.crc, section, key, at).ok_or(Damage)? {
-                    return Ok(Some(row));
+                if add_rows_of_section(&self.crc, section, key, at, rows).ok_or(Damage)? {
+                    return Ok(true);
                 }
             }
-            Ok(None)
+            Ok(false)
         }
 
         fn read(&self, path: &str, start: usize, end: usize) -> Result<Cow<'_, [u8]>, Failure> {
@@ -1560,39 +1626,61 @@ mod script {
         }
     }
 
-    /// Of each key the rows above the barrier, and the newest of the others.
-    fn rows_of_flush(rows: BTreeMap<RowKey, Vec<u8>>, barrier: u64) -> Vec<Row> {
+    /// What rows of a key fold to, of which all but the last are operands: the greatest value, and the sequence of the first.
+    fn folded(rows: Vec<Found>) -> Option<Found> {
+        let seq = rows.first()?.seq;
+        let create_ts = rows.iter().map(|row| row.create_ts).max()?;
+        let value = rows.into_iter().map(|row| row.value).max()?;
+        Some(Found {
+            value,
+            seq,
+            create_ts,
+        })
+    }
+
+    /// Of each key the rows above the barrier, and the fold of the others.
+    fn rows_of_flush(rows: BTreeMap<RowKey, Written>, barrier: u64) -> Vec<Row> {
         let mut kept: Vec<Row> = Vec::new();
-        for ((key, Reverse(seq)), value) in rows {
-            let is_older = kept
-                .last()
-                .is_some_and(|newer| newer.seq <= barrier && newer.key == key);
-            if !is_older {
-                kept.push(Row {
+        for ((key, Reverse(seq)), written) in rows {
+            let newer = kept
+                .last_mut()
+                .filter(|newer| newer.seq <= barrier && newer.key == key);
+            match newer {
+                Some(newer) if newer.is_operand => {
+                    newer.value = mem::take(&mut newer.value).max(written.value);
+                    newer.is_operand = written.is_operand;
+                }
+                Some(_) => {}
+                None => kept.push(Row {
                     key,
-                    value,
+                    value: written.value,
+                    is_operand: written.is_operand,
                     seq,
                     create_ts: 0,
-                });
+                }),
             }
         }
         kept
     }
 
-    /// The newest row of a key at or below a sequence, of a block's section. The outer `None` is damage.
-    fn newest_of_section(
+    /// Adds a key's rows at or below a sequence, newest first, to the first that is no operand, of a block's section. Gives whether that
+    /// one was met, and `None` where the section is damaged.
+    fn add_rows_of_section(
         crc: &CrcTables,
         section: &[u8],
         key: &[u8],
         at: u64,
-    ) -> Option<Option<Found>> {
+        rows: &mut Vec<Found>,
+    ) -> Option<bool> {
         let (body, offsets) = decode_block(open_section(crc, section)?)?;
-        let row = newest_of_block(body, &offsets, key, at)?;
-        Some(row.map(|row| Found {
+        let mut read = Vec::new();
+        let is_whole = add_rows_of_key(body, &offsets, key, at, &mut read)?;
+        rows.extend(read.into_iter().map(|row| Found {
             value: row.value.to_vec(),
             seq: row.seq,
             create_ts: row.create_ts.unwrap_or(0),
-        }))
+        }));
+        Some(is_whole)
     }
 
     fn read_name(token: &[u8]) -> Result<&str, Failure> {
@@ -1659,6 +1747,12 @@ mod scripts {
     /// How many keys are in the range that one of them scans.
     const WIDTH: u64 = 10_000;
 
+    /// How many merges stand between two flushes.
+    const MERGES: u64 = 1_000;
+
+    /// How many keys are drawn from.
+    const DRAWN_KEYS: u64 = 1_000;
+
     /// How many rounds lie between two flushes of a script that is made from a seed.
     const ROUNDS_PER_FLUSH: u32 = 64;
 
@@ -1675,6 +1769,7 @@ mod scripts {
             "scan_runs_up" => write_and_scan(&mut text, RUN, "asc"),
             "scan_runs_down" => write_and_scan(&mut text, RUN, "desc"),
             "write_past_scans" => write_past_scans(&mut text),
+            "merge" => merge_many(&mut text),
             _ => return None,
         };
         made.ok().map(|()| text)
@@ -1731,6 +1826,25 @@ mod scripts {
         Ok(())
     }
 
+    /// Many operands of counters that are drawn, with a flush behind each so many, and a get of each counter.
+    fn merge_many(text: &mut String) -> Result {
+        let mut x = 0;
+        for i in 0..MANY {
+            x = drawn(x);
+            let counter = key_number(x);
+            writeln!(
+                text,
+                "write merge 'counter/{counter:03} '{:08}",
+                scattered(i, MANY)
+            )?;
+            if (i + 1) % MERGES == 0 {
+                writeln!(text, "flush")?;
+            }
+        }
+        writeln!(text, "begin t si")?;
+        (0..DRAWN_KEYS).try_for_each(|counter| writeln!(text, "get t 'counter/{counter:03}"))
+    }
+
     /// The script of so many rounds that `slate` makes from a seed, and nothing where there is no room. A round reads one of 1,000
     /// keys and writes one.
     pub fn generate(rounds: u32, seed: u64) -> Option<String> {
@@ -1759,7 +1873,7 @@ mod scripts {
     }
 
     fn key_number(x: u64) -> u64 {
-        (x >> 33) % 1000
+        (x >> 33) % DRAWN_KEYS
     }
 
     /// Writes with flushes in between, and gets behind them, each of the key of another write.

@@ -17,9 +17,9 @@ Usage: slate - [WORDS] < SCRIPT
        slate FOLDER gen N S [WORDS]
 
 Each line of the script is answered by a line on standard output; an empty line and a comment, which begins
-with #, are not. A word is block=, table=, format=, ttl=, seq= or xor= and its value. With gen the script is made: N rounds of
-a read and a write, at most 100000, of keys drawn from the number S; the replies are counted, and one line is written. The status is 0
-where every line was answered, 2 for words that are not known, 3 at the first line that is not in the language, 4 for a
+with #, are not. A word is block=, table=, format=, op=, ttl=, seq= or xor= and its value. With gen the script is made: N rounds
+of a read and a write, at most 100000, of keys drawn from the number S; the replies are counted, and one line is written. The status is
+0 where every line was answered, 2 for words that are not known, 3 at the first line that is not in the language, 4 for a
 script of 4294967295 bytes or more, 5 and 6 where standard input or output failed, 7 where the folder failed,
 12, 14, 16, 18 and 19 where a table is damaged, and 20 for want of memory.";
 

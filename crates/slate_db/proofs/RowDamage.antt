@@ -138,8 +138,8 @@ shown_unreadable decode h acts e known s = elim s.why as (λ _. IsUnreadable e) 
 pub scan_kind : (m : Meaning) (c : CoreModel) (acts : List Act) (e : SlateDBError) → IsRefusedByScan m c acts e → IsTableError e
 scan_kind m c acts e r = by r.refused
   where
-    by : (e ≡ MergeOperatorMissing) ⊎ ShowsAmong m.decode r.handles acts e → IsTableError e
-    by (inl is) = subst IsTableError (sym is) tt
+    by : ((e ≡ MergeOperatorMissing) × (m.combine ≡ None)) ⊎ ShowsAmong m.decode r.handles acts e → IsTableError e
+    by (inl is) = subst IsTableError (sym is.0) tt
     by (inr (h, among, shows)) = unreadable_kind e (shown_unreadable m.decode h acts e (known_version (tables_of c.events) r.handles h r.are among) shows)
 
 -- and an opening's is one of a scan

@@ -250,12 +250,16 @@ leaves_of before it w a b rows range order same sound has op made meant = record
 pub next_leaves : (r : Result (Option KeyValue) SlateDBError) (before it : DbIterator) (w : World) (a b : Reach) (rows : List RowEntry) → it.range ≡ before.range → it.order ≡ before.order → w.meaning ≡ a.meaning →
     IfOk r (λ x. (x ≡ first_left rows) × IsSoundIn before.order it.state w × HasValues before.range (left_in it.state w) (drop 1 rows)) → OnOk r (IsOperableIn it.state w) → OnOk r (Made a b (λ reads. NoMore (SourcesRefuse before.range before.state a.meaning) reads (SourcesRefuse before.range it.state a.meaning))) →
     AreForIn before.range w.meaning before.state → IfOk r (λ x. (x ≡ first_left rows) × Leaves it w (drop 1 rows))
-next_leaves r before it w a b rows range order same h op made meant = ok_both _ _ r h (on_both r op made (λ o m. (o, m))) (λ x k m. (k.0, leaves_of before it w a b (drop 1 rows) range order same k.1 k.2 m.0 m.1 meant))
+next_leaves r before it w a b rows range order same h op made meant =
+    let both : OnOk r (IsOperableIn it.state w × Made a b (λ reads. NoMore (SourcesRefuse before.range before.state a.meaning) reads (SourcesRefuse before.range it.state a.meaning))) = on_both r op made (λ o m. (o, m)) in
+    ok_both _ _ r h both (λ x k m. (k.0, leaves_of before it w a b (drop 1 rows) range order same k.1 k.2 m.0 m.1 meant))
 
 pub seek_leaves : (r : Result (Unit {0}) SlateDBError) (before it : DbIterator) (w : World) (a b : Reach) (rows : List RowEntry) → it.range ≡ before.range → it.order ≡ before.order → w.meaning ≡ a.meaning →
     OnOk r (IsSoundIn before.order it.state w × HasValues before.range (left_in it.state w) rows) → OnOk r (IsOperableIn it.state w) → OnOk r (Made a b (λ reads. NoMore (SourcesRefuse before.range before.state a.meaning) reads (SourcesRefuse before.range it.state a.meaning))) →
     AreForIn before.range w.meaning before.state → OnOk r (Leaves it w rows)
-seek_leaves r before it w a b rows range order same h op made meant = on_both r h (on_both r op made (λ o m. (o, m))) (λ k m. leaves_of before it w a b rows range order same k.0 k.1 m.0 m.1 meant)
+seek_leaves r before it w a b rows range order same h op made meant =
+    let both : OnOk r (IsOperableIn it.state w × Made a b (λ reads. NoMore (SourcesRefuse before.range before.state a.meaning) reads (SourcesRefuse before.range it.state a.meaning))) = on_both r op made (λ o m. (o, m)) in
+    on_both r h both (λ k m. leaves_of before it w a b rows range order same k.0 k.1 m.0 m.1 meant)
 
 -- a seek to a key below the start of the range
 pub start_leaves : (it after : DbIterator) (key : List ℕ) (w : World) (rows : List RowEntry) → is_past_start it.range.start key ≡ false → (it.order ≡ Ascending → after ≡ it) → (it.order ≡ Descending → after ≡ record it { state = Done }) → Leaves it w rows →

@@ -8,7 +8,6 @@ use Rattle.slate_types.specs.declared.error.SlateDBError.TheVariants.{OutOfMemor
 use Rattle.slate_types.specs.Outside.{Objects}
 use Rattle.slate_mem.specs.declared.WriteOp.{WriteOp}
 use Rattle.slate_mem.specs.Batch.{Ops}
-use Rattle.slate_table.specs.Parts.{Encode}
 use Rattle.slate_txn.specs.declared.event.Event.{Event}
 use Rattle.slate_txn.specs.declared.event.Event.TheVariants as events
 use Rattle.slate_txn.specs.declared.line.Line.{Line}
@@ -19,8 +18,9 @@ use Rattle.slate_txn.specs.declared.event.TranscriptStep.{TranscriptStep}
 use Rattle.slate_txn.specs.Step.{noted, with_op}
 use Rattle.slate_db.specs.Flushed.{IsFlushed, Layout, idle, stored}
 use Rattle.slate_db.specs.Frozen.{IsFrozen}
-use Rattle.slate_db.specs.Load.{load, op_load, ops_load, rows_load, weight}
-use Rattle.slate_db.specs.Model.{CoreModel, IsSame}
+use Rattle.slate_db.specs.Load.{load, weight}
+use Rattle.slate_db.specs.Meaning.{Meaning}
+use Rattle.slate_db.specs.Model.{CoreModel, IsSame, Rows}
 use Rattle.slate_db.specs.Operated.{operated}
 use Rattle.slate_db.specs.Log.{LIMIT, ends_of}
 use Rattle.slate_db.specs.Written.{IsWritten}
@@ -68,7 +68,7 @@ frozen-snapshots old new (inr is) = ap (λ (c : CoreModel). c.state.snapshots) i
 
 frozen-load : (old new : CoreModel) → IsFrozen old new → load new ≡ load old
 frozen-load old new (inl same) = ap load same.1
-frozen-load old new (inr is) = ap load is.1 ∙ (let e : sum_by rows_load ((old.frozen ++ (old.active ∷ [])) ++ ([] ∷ [])) ≡ load old + 0 = sum_by_push rows_load (old.frozen ++ (old.active ∷ [])) [] in omega (arith, e))
+frozen-load old new (inr is) = ap load is.1 ∙ (let e : sum_by (λ (rows : Rows). length rows) ((old.frozen ++ (old.active ∷ [])) ++ ([] ∷ [])) ≡ load old + 0 = sum_by_push (λ (rows : Rows). length rows) (old.frozen ++ (old.active ∷ [])) [] in omega (arith, e))
 
 pub takes-frozen : (old new : CoreModel) → IsFrozen old new → Takes old new 0
 takes-frozen old new h =
@@ -95,11 +95,11 @@ takes-written old new (Some seq) now ops k is more =
     record { weighs = omega (arith, n, t, u); holds = omega (arith, more, o) }
 
 -- a flush, which leaves no row in memory
-pub takes-flushed : (encode : Encode) (layout : Layout) (old mid new : CoreModel) (n : ℕ) (before after : Option Objects) → IsFrozen old mid → IsFlushed encode layout mid new n before after → new.active ≡ [] → new.frozen ≡ [] → Takes old new 0
-takes-flushed encode layout old mid new n before after frozen flushed active none = record {
+pub takes-flushed : (m : Meaning) (layout : Layout) (old mid new : CoreModel) (n : ℕ) (before after : Option Objects) → IsFrozen old mid → IsFlushed m layout mid new n before after → new.active ≡ [] → new.frozen ≡ [] → Takes old new 0
+takes-flushed m layout old mid new n before after frozen flushed active none = record {
   weighs = heavier flushed;
   holds =
-      let e : load new ≡ 0 = (λ i. sum_by rows_load (none i ++ (active i ∷ []))) in
+      let e : load new ≡ 0 = (λ i. sum_by (λ (rows : Rows). length rows) (none i ++ (active i ∷ []))) in
       let o : own_load new.state.txns ≡ own_load mid.state.txns = ap own_load (same-txns flushed) in
       let f : own_load mid.state.txns ≡ own_load old.state.txns = ap own_load (frozen-txns old mid frozen) in
       omega (arith, e, o, f);
@@ -114,11 +114,11 @@ takes-flushed encode layout old mid new n before after frozen flushed active non
     shown : length mid.state.snapshots ≡ length old.state.snapshots
     shown = ap length (frozen-snapshots old mid frozen)
 
-    same-txns : IsFlushed encode layout mid new n before after → new.state.txns ≡ mid.state.txns
+    same-txns : IsFlushed m layout mid new n before after → new.state.txns ≡ mid.state.txns
     same-txns (idle empty is untouched) = ap (λ (c : CoreModel). c.state.txns) is
     same-txns (stored t is table takes) = ap (λ (c : CoreModel). c.state.txns) is
 
-    heavier : IsFlushed encode layout mid new n before after → weight new ≤ weight old + 2
+    heavier : IsFlushed m layout mid new n before after → weight new ≤ weight old + 2
     heavier (idle empty is untouched) =
         let e : length new.events ≡ length mid.events = ap (λ (c : CoreModel). length c.events) is in
         let t : length new.state.txns ≡ length mid.state.txns = ap (λ (c : CoreModel). length c.state.txns) is in
@@ -172,41 +172,41 @@ as-many k f (p ∷ ps) = by (bytes_eq p.0 k) (as-many k f ps)
 
 -- ---- own operations
 
-own-cons : (p : List ℕ × Tx) (ps : List (List ℕ × Tx)) → own_load (p ∷ ps) ≡ ops_load p.1.ops + own_load ps
-own-cons p ps = sum_by-cons (λ q. ops_load q.1.ops) p ps
+own-cons : (p : List ℕ × Tx) (ps : List (List ℕ × Tx)) → own_load (p ∷ ps) ≡ length p.1.ops + own_load ps
+own-cons p ps = sum_by-cons (λ q. length q.1.ops) p ps
 
 pub own-fewer : (k : List ℕ) (ps : List (List ℕ × Tx)) → own_load (without k ps) ≤ own_load ps
 own-fewer k [] = omega arith
 own-fewer k (p ∷ ps) = by (bytes_eq p.0 k) (own-fewer k ps)
   where
-    all : own_load (p ∷ ps) ≡ ops_load p.1.ops + own_load ps
+    all : own_load (p ∷ ps) ≡ length p.1.ops + own_load ps
     all = own-cons p ps
 
     by : (b : Bool) → own_load (without k ps) ≤ own_load ps → own_load (cond b ps (p ∷ without k ps)) ≤ own_load (p ∷ ps)
     by true rest = omega (arith, all)
-    by false rest = let left : own_load (p ∷ without k ps) ≡ ops_load p.1.ops + own_load (without k ps) = own-cons p (without k ps) in omega (arith, all, left, rest)
+    by false rest = let left : own_load (p ∷ without k ps) ≡ length p.1.ops + own_load (without k ps) = own-cons p (without k ps) in omega (arith, all, left, rest)
 
 -- what a commit takes out
-own-taken : (k : List ℕ) (t : Tx) (ps : List (List ℕ × Tx)) → find_named k ps ≡ Some t → own_load (without k ps) + ops_load t.ops ≡ own_load ps
+own-taken : (k : List ℕ) (t : Tx) (ps : List (List ℕ × Tx)) → find_named k ps ≡ Some t → own_load (without k ps) + length t.ops ≡ own_load ps
 own-taken k t [] is = cc
 own-taken k t (p ∷ ps) is = by (bytes_eq p.0 k) (own-taken k t ps) is
   where
-    all : own_load (p ∷ ps) ≡ ops_load p.1.ops + own_load ps
+    all : own_load (p ∷ ps) ≡ length p.1.ops + own_load ps
     all = own-cons p ps
 
     same : (u v : Tx) → Some u ≡ Some v → u ≡ v
     same u v h = cc
 
-    by : (b : Bool) → (find_named k ps ≡ Some t → own_load (without k ps) + ops_load t.ops ≡ own_load ps) → cond b (Some p.1) (find_named k ps) ≡ Some t →
-        own_load (cond b ps (p ∷ without k ps)) + ops_load t.ops ≡ own_load (p ∷ ps)
-    by true rest it = let o : ops_load p.1.ops ≡ ops_load t.ops = ap (λ (u : Tx). ops_load u.ops) (same p.1 t it) in omega (arith, all, o)
+    by : (b : Bool) → (find_named k ps ≡ Some t → own_load (without k ps) + length t.ops ≡ own_load ps) → cond b (Some p.1) (find_named k ps) ≡ Some t →
+        own_load (cond b ps (p ∷ without k ps)) + length t.ops ≡ own_load (p ∷ ps)
+    by true rest it = let o : length p.1.ops ≡ length t.ops = ap (λ (u : Tx). length u.ops) (same p.1 t it) in omega (arith, all, o)
     by false rest it =
-        let left : own_load (p ∷ without k ps) ≡ ops_load p.1.ops + own_load (without k ps) = own-cons p (without k ps) in
-        let later : own_load (without k ps) + ops_load t.ops ≡ own_load ps = rest it in
+        let left : own_load (p ∷ without k ps) ≡ length p.1.ops + own_load (without k ps) = own-cons p (without k ps) in
+        let later : own_load (without k ps) + length t.ops ≡ own_load ps = rest it in
         omega (arith, all, left, later)
 
 own-opened : (k : List ℕ) (level : IsolationLevel) (n : ℕ) (ps : List (List ℕ × Tx)) → own_load (set_named k (begun level n) ps) ≡ own_load ps
-own-opened k level n ps = let e : own_load (ps ++ ((k, begun level n) ∷ [])) ≡ own_load ps + 0 = sum_by_push (λ p. ops_load p.1.ops) ps (k, begun level n) in omega (arith, e)
+own-opened k level n ps = let e : own_load (ps ++ ((k, begun level n) ∷ [])) ≡ own_load ps + 0 = sum_by_push (λ p. length p.1.ops) ps (k, begun level n) in omega (arith, e)
 
 pub closed-own : (c t : State) (id : List ℕ) → t ≡ record c { txns = without id c.txns } → own_load t.txns ≤ own_load c.txns
 closed-own c t id is = subst (λ (s : State). own_load s.txns ≤ own_load c.txns) (sym is) (own-fewer id c.txns)
@@ -214,31 +214,31 @@ closed-own c t id is = subst (λ (s : State). own_load s.txns ≤ own_load c.txn
 pub opened-own : (r : Rules) (c t : State) (id : List ℕ) (level : IsolationLevel) (n : ℕ) → Fresh r c t id level n → own_load t.txns ≤ own_load c.txns
 opened-own r c t id level n fresh = subst (λ (s : State). own_load s.txns ≤ own_load c.txns) (sym fresh.is) (let e : own_load (set_named id (begun level (last r c)) c.txns) ≡ own_load c.txns = own-opened id level (last r c) c.txns in omega (arith, e))
 
-pub own-op : (k : List ℕ) (op : WriteOp) (t : Tx) → ops_load (with_op k op t).ops ≡ ops_load t.ops + op_load (k, op)
-own-op k op t = sum_by_push op_load t.ops (k, op)
+pub own-op : (k : List ℕ) (op : WriteOp) (t : Tx) → length (with_op k op t).ops ≡ length t.ops + 1
+own-op k op t = length-append t.ops ((k, op) ∷ [])
 
 -- f adds n
-own-updated : (k : List ℕ) (f : Tx → Tx) (n : ℕ) (ps : List (List ℕ × Tx)) → ((t : Tx) → ops_load (f t).ops ≡ ops_load t.ops + n) → own_load (update_named k f ps) ≤ own_load ps + n
+own-updated : (k : List ℕ) (f : Tx → Tx) (n : ℕ) (ps : List (List ℕ × Tx)) → ((t : Tx) → length (f t).ops ≡ length t.ops + n) → own_load (update_named k f ps) ≤ own_load ps + n
 own-updated k f n [] adds = omega arith
 own-updated k f n (p ∷ ps) adds = by (bytes_eq p.0 k) (own-updated k f n ps adds)
   where
-    all : own_load (p ∷ ps) ≡ ops_load p.1.ops + own_load ps
+    all : own_load (p ∷ ps) ≡ length p.1.ops + own_load ps
     all = own-cons p ps
 
     by : (b : Bool) → own_load (update_named k f ps) ≤ own_load ps + n → own_load (cond b ((p.0, f p.1) ∷ ps) (p ∷ update_named k f ps)) ≤ own_load (p ∷ ps) + n
     by true rest =
-        let more : ops_load (f p.1).ops ≡ ops_load p.1.ops + n = adds p.1 in
-        let made : own_load ((p.0, f p.1) ∷ ps) ≡ ops_load (f p.1).ops + own_load ps = own-cons (p.0, f p.1) ps in
+        let more : length (f p.1).ops ≡ length p.1.ops + n = adds p.1 in
+        let made : own_load ((p.0, f p.1) ∷ ps) ≡ length (f p.1).ops + own_load ps = own-cons (p.0, f p.1) ps in
         omega (arith, all, made, more)
-    by false rest = let made : own_load (p ∷ update_named k f ps) ≡ ops_load p.1.ops + own_load (update_named k f ps) = own-cons p (update_named k f ps) in omega (arith, all, made, rest)
+    by false rest = let made : own_load (p ∷ update_named k f ps) ≡ length p.1.ops + own_load (update_named k f ps) = own-cons p (update_named k f ps) in omega (arith, all, made, rest)
 
 pub own-kept : (k : List ℕ) (f : Tx → Tx) (ps : List (List ℕ × Tx)) → ((t : Tx) → (f t).ops ≡ t.ops) → own_load (update_named k f ps) ≡ own_load ps
 own-kept k f [] keeps = refl
 own-kept k f (p ∷ ps) keeps = by (bytes_eq p.0 k) (own-kept k f ps keeps)
   where
     by : (b : Bool) → own_load (update_named k f ps) ≡ own_load ps → own_load (cond b ((p.0, f p.1) ∷ ps) (p ∷ update_named k f ps)) ≡ own_load (p ∷ ps)
-    by true rest = own-cons (p.0, f p.1) ps ∙ ap (λ os. ops_load os + own_load ps) (keeps p.1) ∙ sym (own-cons p ps)
-    by false rest = own-cons p (update_named k f ps) ∙ ap (λ n. ops_load p.1.ops + n) rest ∙ sym (own-cons p ps)
+    by true rest = own-cons (p.0, f p.1) ps ∙ ap (λ (os : Ops). length os + own_load ps) (keeps p.1) ∙ sym (own-cons p ps)
+    by false rest = own-cons p (update_named k f ps) ∙ ap (λ n. length p.1.ops + n) rest ∙ sym (own-cons p ps)
 
 -- ---- an operation, and a commit
 
@@ -257,7 +257,7 @@ takes-noted old new id ts is =
 
 -- an operation that ran, which adds n to what the transaction holds
 pub takes-ran : {T : Type 0} (ran : Result T SlateDBError) (old new : CoreModel) (id : List ℕ) (f : Tx → Tx) (n : ℕ) → OnOk ran (new ≡ operated old id f) → OnErr ran (new ≡ old) →
-    ((t : Tx) → ops_load (f t).ops ≡ ops_load t.ops + n) → Takes old new n
+    ((t : Tx) → length (f t).ops ≡ length t.ops + n) → Takes old new n
 takes-ran (Ok t) old new id f n is same adds =
     let e : length new.events ≡ length old.events = ap (λ (c : CoreModel). length c.events) is in
     let k : length new.state.txns ≡ length old.state.txns = ap (λ (c : CoreModel). length c.state.txns) is ∙ as-many id f old.state.txns in
@@ -275,14 +275,14 @@ takes-ran (Err x) old new id f n is same adds =
     record { weighs = omega (arith, e, k, u); holds = omega (arith, o, l) }
 
 -- a commit brings what the transaction held
-pub takes-closed : (old new : CoreModel) (id : List ℕ) (t : Tx) → Closes old new id → find_named id old.state.txns ≡ Some t → load new ≤ load old + ops_load t.ops → Takes old new 0
+pub takes-closed : (old new : CoreModel) (id : List ℕ) (t : Tx) → Closes old new id → find_named id old.state.txns ≡ Some t → load new ≤ load old + length t.ops → Takes old new 0
 takes-closed old new id t closed is more =
     let e : length new.events ≡ length old.events + 1 = ap length closed.events ∙ length-append old.events (closed.event ∷ []) in
     let k : length new.state.txns ≡ length (without id old.state.txns) = ap length closed.txns in
     let u : length new.state.snapshots ≡ length old.state.snapshots = ap length closed.snapshots in
     let few : length (without id old.state.txns) ≤ length old.state.txns = fewer id old.state.txns in
     let o : own_load new.state.txns ≡ own_load (without id old.state.txns) = ap own_load closed.txns in
-    let taken : own_load (without id old.state.txns) + ops_load t.ops ≡ own_load old.state.txns = own-taken id t old.state.txns is in
+    let taken : own_load (without id old.state.txns) + length t.ops ≡ own_load old.state.txns = own-taken id t old.state.txns is in
     record { weighs = omega (arith, e, k, u, few); holds = omega (arith, o, taken, more) }
 
 -- ---- a session

@@ -2,11 +2,12 @@
 use Rattle.std.proofs.Common.{◌≡◌, ℕ, ◌⊎◌, inl, inr, List, Bool, false, true, ◌||◌, is_some, IsTrue, Option, Some, None, Result, Ok, Err, OnOk, refl, sym, subst}
 use Rattle.std.specs.Prelude.{IfErr}
 use Rattle.slate_types.specs.declared.error.SlateDBError.{SlateDBError}
-use Rattle.slate_types.specs.declared.error.SlateDBError.TheVariants.{OutOfMemory, StoreFault, Callback, BlockTransformError, WriteFault, ScriptSyntax, LimitReached}
+use Rattle.slate_types.specs.declared.error.SlateDBError.TheVariants.{OutOfMemory, StoreFault, Callback, BlockTransformError, WriteFault, ScriptSyntax, LimitReached, MergeOperatorMissing}
 use Rattle.slate_types.specs.Outside.{Objects, Counts, IsCounted, IsFault, Reach}
 use Rattle.slate_types.specs.World.{Made}
 use Rattle.slate_txn.specs.declared.line.Line.{Line}
 use Rattle.slate_db.specs.Meaning.{Meaning}
+use Rattle.slate_db.specs.Sound.{IsKept}
 use Rattle.slate_db.specs.Parts.{IsTableError}
 use Rattle.slate_db.specs.Readable.{IsReadError, IsRefusedBy}
 use Rattle.slate_language.specs.Replies.{is_silent}
@@ -19,11 +20,20 @@ use Rattle.slate_script.proofs.SessionStores.{stays-settled}
 
 -- ---- what a line keeps
 
-pub keeps-settings : {V E : Type 0} (result : Result V E) (e new : SessionModel) → OnOk result (StoresNothing e new) → OnOk result (new.core.settings ≡ e.core.settings)
+-- what holds for parts of each meaning holds for these
+pub stores-at : {V E : Type 0} (result : Result V E) (m : Meaning) (e new : SessionModel) → OnOk result ((n : Meaning) → StoresNothing n e new) → OnOk result (StoresNothing m e new)
+stores-at (Ok v) m e new stores = stores m
+stores-at (Err x) m e new stores = tt
+
+pub keeps-core : {V E : Type 0} (result : Result V E) (m : Meaning) (e new : SessionModel) → OnOk result (StoresNothing m e new) → IsKept m e.core → OnOk result (IsKept m new.core)
+keeps-core (Ok v) m e new stores kept = stores.kept kept
+keeps-core (Err x) m e new stores kept = tt
+
+pub keeps-settings : {V E : Type 0} {m : Meaning} (result : Result V E) (e new : SessionModel) → OnOk result (StoresNothing m e new) → OnOk result (new.core.settings ≡ e.core.settings)
 keeps-settings (Ok v) e new stores = stores.settings
 keeps-settings (Err x) e new stores = tt
 
-pub keeps-settled : {V E : Type 0} (result : Result V E) (m : Meaning) (objects after : Option Objects) (e new : SessionModel) → after ≡ objects → OnOk result (StoresNothing e new) → IsSettled m objects e → OnOk result (IsSettled m after new)
+pub keeps-settled : {V E : Type 0} (result : Result V E) (m : Meaning) (objects after : Option Objects) (e new : SessionModel) → after ≡ objects → OnOk result (StoresNothing m e new) → IsSettled m objects e → OnOk result (IsSettled m after new)
 keeps-settled (Ok v) m objects after e new same stores settled = subst (λ o. IsSettled m o new) (sym same) (stays-settled m objects e new stores settled)
 keeps-settled (Err x) m objects after e new same stores settled = tt
 
@@ -42,6 +52,13 @@ pub or-damage : {V : Type 0} (result : Result V SlateDBError) (before after : Co
 or-damage (Ok v) before after e cause = tt
 or-damage (Err x) before after e (inl outer) = inl outer
 or-damage (Err x) before after e (inr limit) = inr (inl limit)
+
+-- a flush that wants an operator ends the run as damage does
+pub or-operator : {V : Type 0} (result : Result V SlateDBError) (before after : Counts) (e : SessionModel) → IfErr result (λ x. IsCounted before after x ⊎ IsLimit e x ⊎ (x ≡ MergeOperatorMissing)) → IfErr result (λ x. IsCounted before after x ⊎ IsLimit e x ⊎ IsTableError x)
+or-operator (Ok v) before after e cause = tt
+or-operator (Err x) before after e (inl outer) = inl outer
+or-operator (Err x) before after e (inr (inl limit)) = inr (inl limit)
+or-operator (Err x) before after e (inr (inr wants)) = inr (inr (subst IsTableError (sym wants) tt))
 
 pub limit-between : {V : Type 0} (result : Result V SlateDBError) (before after : Reach) (e : SessionModel) → IfErr result (IsReadError before after e.core) → IfErr result (λ x. IsFault before after x ⊎ IsLimit e x ⊎ IsTableError x)
 limit-between (Ok v) before after e cause = tt

@@ -1,19 +1,15 @@
--- What a line adds to memory is no more than its bytes.
-use Rattle.std.proofs.Common.{◌≡◌, ℕ, suc, ◌+◌, ◌≤◌, inl, inr, List, [], ◌∷◌, ◌++◌, length, Some, ap, ◌∙◌, arith, codes}
+-- A line has no more operations than bytes.
+use Rattle.std.proofs.Common.{◌≡◌, ℕ, suc, ◌+◌, ◌≤◌, List, [], ◌∷◌, ◌++◌, length, Some, refl, ap, ◌∙◌, arith, codes}
 use Rattle.std.specs.List.{join_with_byte}
 use Rattle.std.proofs.lemmas.List.{length-append}
-use Rattle.std.proofs.lemmas.List.Sums.{sum_by-cons}
-use Rattle.slate_types.specs.declared.config.Ttl.{Ttl}
 use Rattle.slate_mem.specs.Batch.{Ops}
 use Rattle.slate_mem.specs.declared.WriteOp.{WriteOp}
 use Rattle.slate_mem.specs.declared.WriteOp.TheVariants as ops
 use Rattle.slate_txn.specs.declared.line.Line.{Line}
 use Rattle.slate_txn.specs.declared.line.Line.TheVariants as lines
-use Rattle.slate_db.specs.Load.{op_load, ops_load}
-use Rattle.slate_language.specs.Grammar.{AreOps, IsBytes, IsLine, IsOp, IsPair, Spells}
+use Rattle.slate_language.specs.Grammar.{AreOps, IsLine, IsOp, Spells}
 use Rattle.slate_script.specs.Session.{line_load}
 use Rattle.slate_language.specs.Stage.{meaning}
-use Rattle.slate_language.specs.Text.{hex}
 use Rattle.slate_script.proofs.Answered.{built-line}
 
 -- the bytes of the tokens
@@ -33,50 +29,31 @@ joined (t ∷ u ∷ us) =
     let all : length (t ++ (32 ∷ join_with_byte 32 (u ∷ us))) ≡ length t + suc (length (join_with_byte 32 (u ∷ us))) = length-append t (32 ∷ join_with_byte 32 (u ∷ us)) in
     omega (arith, rest, all)
 
-digits : (v : List ℕ) → length v ≤ length (hex v)
-digits [] = omega arith
-digits (b ∷ bs) = let rest : length bs ≤ length (hex bs) = digits bs in omega (arith, rest)
-
-token : (t v : List ℕ) → IsBytes t v → length v + 1 ≤ length t
-token t v (inl (visible, is)) = let n : length t ≡ suc (length v) = ap length is in omega (arith, n)
-token t v (inr (bytes, is)) =
-    let n : length t ≡ 2 + length (hex v) = ap length is ∙ length-append (codes "0x") (hex v) in
-    let d : length v ≤ length (hex v) = digits v in
-    omega (arith, n, d)
-
-pair : (ts : List (List ℕ)) (k v : List ℕ) (ttl : Ttl) → IsPair ts k v ttl → 1 + (length k + length v) ≤ letters ts
-pair ts k v ttl (t, u, us, key, value, ttls, is) =
-    let a : length k + 1 ≤ length t = token t k key in
-    let b : length v + 1 ≤ length u = token u v value in
-    let n : letters ts ≡ length t + (length u + letters us) = ap letters is in
-    omega (arith, a, b, n)
-
-one-op : (ts : List (List ℕ)) (k : List ℕ) (op : WriteOp) → IsOp ts k op → op_load (k, op) ≤ letters ts
+one-op : (ts : List (List ℕ)) (k : List ℕ) (op : WriteOp) → IsOp ts k op → 1 ≤ letters ts
 one-op ts k (ops.Put v o) (us, is-pair, is) =
-    let p : 1 + (length k + length v) ≤ letters us = pair us k v o.ttl is-pair in
+    let w : length (codes "put") ≡ 3 = refl in
     let n : letters ts ≡ length (codes "put") + letters us = ap letters is in
-    omega (arith, p, n)
+    omega (arith, w, n)
 one-op ts k ops.Delete (t, key, is) =
-    let a : length k + 1 ≤ length t = token t k key in
+    let w : length (codes "delete") ≡ 6 = refl in
     let n : letters ts ≡ length (codes "delete") + (length t + 0) = ap letters is in
-    omega (arith, a, n)
+    omega (arith, w, n)
 one-op ts k (ops.Merge v o) (us, is-pair, is) =
-    let p : 1 + (length k + length v) ≤ letters us = pair us k v o.ttl is-pair in
+    let w : length (codes "merge") ≡ 5 = refl in
     let n : letters ts ≡ length (codes "merge") + letters us = ap letters is in
-    omega (arith, p, n)
+    omega (arith, w, n)
 
-all-ops : (ts : List (List ℕ)) (os : Ops) → AreOps ts os → ops_load os ≤ letters ts
+all-ops : (ts : List (List ℕ)) (os : Ops) → AreOps ts os → length os ≤ letters ts
 all-ops ts [] h = omega arith
 all-ops ts (o ∷ os) (us, vs, first, rest, is) =
-    let a : op_load o ≤ letters us = one-op us o.0 o.1 first in
-    let b : ops_load os ≤ letters vs = all-ops vs os rest in
+    let a : 1 ≤ letters us = one-op us o.0 o.1 first in
+    let b : length os ≤ letters vs = all-ops vs os rest in
     let n : letters ts ≡ letters us + letters vs = ap letters is ∙ letters-both us vs in
-    let s : ops_load (o ∷ os) ≡ op_load o + ops_load os = sum_by-cons op_load o os in
-    omega (arith, a, b, n, s)
+    omega (arith, a, b, n)
 
 of-line : (ts : List (List ℕ)) (line : Line) → Spells ts line → line_load line ≤ letters ts
 of-line ts (lines.Write batch) (us, are, is) =
-    let a : ops_load batch ≤ letters us = all-ops us batch are in
+    let a : length batch ≤ letters us = all-ops us batch are in
     let n : letters ts ≡ length (codes "write") + letters us = ap letters is in
     omega (arith, a, n)
 of-line ts (lines.Now m) is = omega arith
@@ -86,14 +63,17 @@ of-line ts (lines.Get name k) is = omega arith
 of-line ts (lines.Scan name order start end sts) is = omega arith
 of-line ts (lines.Prefix name order p start end sts) is = omega arith
 of-line ts (lines.Put name k v ttl) (us, is-name, is-pair, is) =
-    let p : 1 + (length k + length v) ≤ letters us = pair us k v ttl is-pair in
+    let w : length (codes "put") ≡ 3 = refl in
     let n : letters ts ≡ length (codes "put") + (length name + letters us) = ap letters is in
-    omega (arith, p, n)
-of-line ts (lines.Merge name k v ttl) is = omega arith
+    omega (arith, w, n)
+of-line ts (lines.Merge name k v ttl) (us, is-name, is-pair, is) =
+    let w : length (codes "merge") ≡ 5 = refl in
+    let n : letters ts ≡ length (codes "merge") + (length name + letters us) = ap letters is in
+    omega (arith, w, n)
 of-line ts (lines.Delete name k) (t, is-name, key, is) =
-    let a : length k + 1 ≤ length t = token t k key in
+    let w : length (codes "delete") ≡ 6 = refl in
     let n : letters ts ≡ length (codes "delete") + (length name + (length t + 0)) = ap letters is in
-    omega (arith, a, n)
+    omega (arith, w, n)
 of-line ts (lines.Mark name ks) is = omega arith
 of-line ts (lines.Unmark name ks) is = omega arith
 of-line ts (lines.Commit name) is = omega arith

@@ -1,34 +1,41 @@
 -- The parts that the words of a run name.
 use Rattle.std.proofs.Common.{◌≡◌, ℕ, List, Option, Some, None, option_map, ◌⊎◌, inl, inr, refl, sym, ap, ◌∙◌, arith}
 use Rattle.slate_types.specs.Faults.{Rose, faults_of}
-use Rattle.slate_types.specs.Fold.{Combine}
+use Rattle.slate_types.specs.Fold.{IsLawful, KeepsShort}
+use Rattle.slate_types.specs.Lawful.{IsLawfulTransform}
 use Rattle.slate_types.specs.Outside.{Objects}
 use Rattle.slate_store.specs.Store.{IsEmpty}
-use Rattle.slate_db.specs.Meaning.{Meaning, IsLawfulMeaning}
+use Rattle.slate_txn.specs.State.{Rules}
+use Rattle.slate_db.specs.Meaning.{Meaning, IsLawfulMeaning, combine_of}
 use Rattle.slate_db.specs.Parts.{meaning_of}
+use Rattle.slate_language.specs.declared.operators.NamedOperator.{NamedOperator}
 use Rattle.slate_language.specs.declared.parts.Xor.{Xor}
 use Rattle.slate_language.specs.declared.words.Generated.{Generated}
 use Rattle.slate_language.specs.declared.words.Settings.{Settings}
 use Rattle.slate_language.specs.Words.{read_generated, read_words}
 use Rattle.slate_language.proofs.WordLaws.{generated-alone}
-use Rattle.slate_language.specs.Parts.{xored}
-use Rattle.slate_script.specs.Program.{parts_of}
-use Rattle.slate_script.specs.Run.{Premises}
-use Rattle.slate_language.proofs.PartsLaws.{xor-back}
+use Rattle.slate_language.specs.Parts.{named, xored}
+use Rattle.slate_script.specs.Program.{changed, main_rules, parts_of}
+use Rattle.slate_script.specs.Run.{Premises, run_rules}
+use Rattle.slate_language.proofs.PartsLaws.{named-lawful, xor-back}
 
-abbrev pub words-mean : {M : Type 0} → (M → List ℕ → Combine) → Option Xor → Meaning
-words-mean combine transformer = meaning_of combine (λ (x : Xor). xored x.mask) (λ (x : Xor). xored x.mask) None transformer
+-- operator, transformer: those of the words, where they name some
+abbrev pub words-mean : Option NamedOperator → Option Xor → Meaning
+words-mean operator transformer = meaning_of named (λ (x : Xor). xored x.mask) (λ (x : Xor). xored x.mask) operator transformer
 
-pub lawful : {M : Type 0} (combine : M → List ℕ → Combine) (transformer : Option Xor) → IsLawfulMeaning (words-mean combine transformer)
-lawful combine None = record { operator = λ k. record { first = λ v h. refl; assoc = λ u v w h i j. refl }; short = λ k u v h i. i; transformer = λ d. refl }
-lawful combine (Some x) = record { operator = λ k. record { first = λ v h. refl; assoc = λ u v w h i j. refl }; short = λ k u v h i. i; transformer = xor-back x.mask }
+pub lawful : (operator : Option NamedOperator) (transformer : Option Xor) → IsLawfulMeaning (words-mean operator transformer)
+lawful operator transformer = record { operator = λ k. (combined operator k).0; short = λ k. (combined operator k).1; transformer = back transformer }
+  where
+    combined : (o : Option NamedOperator) (k : List ℕ) → IsLawful (combine_of (words-mean o transformer) k) × KeepsShort (combine_of (words-mean o transformer) k)
+    combined None k = (record { first = λ v h. refl; assoc = λ u v w h i j. refl }, λ u v h i. i)
+    combined (Some o) k = named-lawful o k
 
-pub premises : {M : Type 0} (combine : M → List ℕ → Combine) (transformer : Option Xor) (objects : Option Objects) → IsEmpty objects → Premises (words-mean combine transformer) objects
-premises combine transformer objects empty = record { lawful = lawful combine transformer; empty = empty }
+    back : (t : Option Xor) → IsLawfulTransform (words-mean operator t).encode (words-mean operator t).decode
+    back None d = refl
+    back (Some x) d = xor-back x.mask d
 
-pub none-rose-before : {P : Type 0} (after : Option P) → Rose 0 (faults_of (λ _. 0) after) → ⊥
-none-rose-before None h = omega arith
-none-rose-before (Some p) h = omega arith
+pub premises : (operator : Option NamedOperator) (transformer : Option Xor) (objects : Option Objects) → IsEmpty objects → Premises (words-mean operator transformer) objects
+premises operator transformer objects empty = record { lawful = lawful operator transformer; empty = empty }
 
 -- a part without faults has none
 pub none-rose : {P : Type 0} (before after : Option P) → Rose (faults_of (λ _. 0) before) (faults_of (λ _. 0) after) → ⊥
@@ -51,13 +58,21 @@ pub status-or-either : {n k a b : ℕ} → n ≡ k → (n ≡ a) ⊎ (n ≡ b) �
 status-or-either is (inl h) = inl (sym is ∙ h)
 status-or-either is (inr h) = inr (sym is ∙ h)
 
--- the words' number is all that its transformer has
-pub words-are : {M : Type 0} (combine : M → List ℕ → Combine) (transformer : Option Xor) (mask : Option ℕ) → option_map (λ x. x.mask) transformer ≡ mask → words-mean combine transformer ≡ parts_of mask
-words-are combine transformer mask is = by transformer ∙ ap parts_of is
+-- what the words name is all that the parts mean
+pub words-are : (s : Settings) (transformer : Option Xor) → option_map (λ x. x.mask) transformer ≡ s.mask → words-mean s.operator transformer ≡ parts_of s
+words-are s transformer is = by s.operator transformer ∙ ap (parts s.operator) is
   where
-    by : (t : Option Xor) → words-mean combine t ≡ parts_of (option_map (λ x. x.mask) t)
-    by None = refl
-    by (Some x) = refl
+    parts : Option NamedOperator → Option ℕ → Meaning
+    parts operator mask = record { combine = option_map named operator; encode = changed mask; decode = changed mask }
+
+    by : (o : Option NamedOperator) (t : Option Xor) → words-mean o t ≡ parts o (option_map (λ x. x.mask) t)
+    by None None = refl
+    by None (Some x) = refl
+    by (Some o) None = refl
+    by (Some o) (Some x) = refl
+
+pub rules-are : (s : Settings) (transformer : Option Xor) → option_map (λ x. x.mask) transformer ≡ s.mask → run_rules s.options (words-mean s.operator transformer) ≡ main_rules s
+rules-are s transformer is = ap (run_rules s.options) (words-are s transformer is)
 
 -- ---- words that name a script of the run's own
 

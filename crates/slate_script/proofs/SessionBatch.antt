@@ -1,15 +1,12 @@
 -- The batch of a line's operations.
-use Rattle.std.proofs.Common.{◌≡◌, ℕ, true, false, ◌⊎◌, inl, inr, ◌||◌, List, [], ◌∷◌, ◌++◌, map, Some, None, refl, sym, ap, ◌∙◌, subst, append_assoc}
-use Rattle.std.proofs.lemmas.Bool.{and_parts}
+use Rattle.std.proofs.Common.{◌≡◌, ℕ, ◌⊎◌, inl, inr, List, [], ◌∷◌, ◌++◌, map, Some, None, refl, sym, ap, ◌∙◌, subst, append_assoc}
 use Rattle.std.proofs.lemmas.List.{append-nil}
 use Rattle.slate_types.specs.declared.error.SlateDBError.{SlateDBError}
 use Rattle.slate_mem.specs.declared.WriteOp.{WriteOp}
-use Rattle.slate_mem.specs.declared.WriteOp.TheVariants.{Put, Delete, Merge}
 use Rattle.slate_mem.specs.Batch.{Ops}
-use Rattle.slate_mem.specs.BatchModel.{BatchModel, IsBatchOf, no_ops, is_merge_op, holds_merge}
+use Rattle.slate_mem.specs.BatchModel.{BatchModel, IsBatchOf, no_ops}
 use Rattle.slate_mem.specs.Refusals.{first_refusal, op_refusal}
 use Rattle.slate_db.specs.Log.{AreFine}
-use Rattle.slate_language.specs.Stage.{is_built_op, is_built_batch}
 
 -- rest: the operations that aren't added yet
 pub record Batched (ops rest : Ops) (b : BatchModel) : Type 0 where
@@ -17,10 +14,9 @@ pub record Batched (ops rest : Ops) (b : BatchModel) : Type 0 where
   pub split : done ++ rest ≡ ops
   pub batch : IsBatchOf done b
   pub fine : AreFine done
-  pub plain : is_built_batch rest ≡ true
 
-pub batched-none : (ops : Ops) (b : BatchModel) → b ≡ no_ops → is_built_batch ops ≡ true → Batched ops ops b
-batched-none ops b is plain = record { done = []; split = refl; batch = subst (IsBatchOf []) (sym is) (refl, refl); fine = tt; plain = plain }
+pub batched-none : (ops : Ops) (b : BatchModel) → b ≡ no_ops → Batched ops ops b
+batched-none ops b is = record { done = []; split = refl; batch = subst (IsBatchOf []) (sym is) (refl, refl); fine = tt }
 
 fine-more : (ops : Ops) (k : List ℕ) (op : WriteOp) → AreFine ops → op_refusal k op ≡ None → AreFine (ops ++ ((k, op) ∷ []))
 fine-more [] k op h is = (is, tt)
@@ -32,11 +28,7 @@ batched-more ops rest k op b new old fine batch = record {
   split = append_assoc old.done ((k, op) ∷ []) rest ∙ old.split;
   batch = batch;
   fine = fine-more old.done k op old.fine fine;
-  plain = (and_parts (is_built_op op) (is_built_batch rest) old.plain).1;
 }
-
-pub next-plain : (ops rest : Ops) (k : List ℕ) (op : WriteOp) (b : BatchModel) → Batched ops ((k, op) ∷ rest) b → is_built_op op ≡ true
-next-plain ops rest k op b old = (and_parts (is_built_op op) (is_built_batch rest) old.plain).0
 
 refused-behind : (done rest : Ops) (k : List ℕ) (op : WriteOp) (e : SlateDBError) → AreFine done → op_refusal k op ≡ Some e → first_refusal (map (λ o. op_refusal o.0 o.1) (done ++ ((k, op) ∷ rest))) ≡ Some e
 refused-behind [] rest k op e h is = ap (λ x. first_refusal (x ∷ map (λ o. op_refusal o.0 o.1) rest)) is
@@ -50,18 +42,6 @@ batched-all ops b h = subst (λ os. IsBatchOf os b) (sym (append-nil h.done) ∙
 
 pub fine-all : (ops : Ops) (b : BatchModel) → Batched ops [] b → AreFine ops
 fine-all ops b h = subst AreFine (sym (append-nil h.done) ∙ h.split) h.fine
-
-no-merge : (o : List ℕ × WriteOp) → is_built_op o.1 ≡ true → is_merge_op o ≡ false
-no-merge (k, Put v p) h = refl
-no-merge (k, Delete) h = refl
-no-merge (k, Merge v p) h = cc
-
-none-merges : (ops : Ops) → is_built_batch ops ≡ true → holds_merge ops ≡ false
-none-merges [] h = refl
-none-merges (o ∷ os) h = let parts = and_parts (is_built_op o.1) (is_built_batch os) h in (λ i. no-merge o parts.0 i || none-merges os parts.1 i)
-
-pub plain-all : (ops : Ops) (b : BatchModel) → is_built_batch ops ≡ true → IsBatchOf ops b → b.held_merge ≡ false
-plain-all ops b built is = is.1 ∙ none-merges ops built
 
 pub or-refused : {A B C : Type 0} → A ⊎ B → (B → C) → A ⊎ C
 or-refused (inl a) f = inl a

@@ -117,14 +117,24 @@ written-flushed old new None now ops same = ap (λ (c : CoreModel). c.state.flus
 written-flushed old new (Some n) now ops is = ap (λ (c : CoreModel). c.state.flushed) is
 
 kept-spare : (m : Meaning) (c : CoreModel) (n : ℕ) → IsKept m c → IsKept m (record c { spare = n })
-kept-spare m c n k = (k.0, λ lawful. let s = k.1 lawful in record { layers = s.layers; tables = s.tables; short = s.short; bases = s.bases; within = s.within; rise = s.rise; folds = s.folds })
+kept-spare m c n k = (
+  k.0,
+  (λ lawful. let s = k.1 lawful in record { layers = s.layers; tables = s.tables; short = s.short; bases = s.bases; within = s.within; rise = s.rise; folds = s.folds }),
+  λ none. let free = k.2 none in record { own = free.own; commits = free.commits },
+)
 
 pub kept-same : (m : Meaning) (old new : CoreModel) → IsSame old new → IsKept m old → IsKept m new
 kept-same m old new is k = subst (λ (c : CoreModel). IsKept m c) (sym is) (kept-spare m old new.spare k)
 
-pub stores : (e : SessionModel) (core : CoreModel) (names snapshot_names : List (List ℕ × List ℕ)) (now : ℤ) → Leaves e.core core → ((m : Meaning) → IsKept m e.core → IsKept m core) → StoresNothing e (record { core = core; names = names; snapshot_names = snapshot_names; now = now })
-stores e core names snapshot_names now leaves kept = record { settings = leaves.settings; runs = leaves.runs; later = leaves.later; kept = kept }
+pub stores-by : (m : Meaning) (e : SessionModel) (core : CoreModel) (names snapshot_names : List (List ℕ × List ℕ)) (now : ℤ) → Leaves e.core core → (IsKept m e.core → IsKept m core) →
+    StoresNothing m e (record { core = core; names = names; snapshot_names = snapshot_names; now = now })
+stores-by m e core names snapshot_names now leaves kept = record { settings = leaves.settings; runs = leaves.runs; later = leaves.later; kept = kept }
 
-pub stores-where : (result : Result Answer SlateDBError) (e : SessionModel) (core : CoreModel) → StoresNothing e (record e { core = core }) → OnOk result (StoresNothing e (record e { core = core }))
-stores-where (Ok a) e core h = h
-stores-where (Err x) e core h = tt
+-- for parts of each meaning
+pub stores : (e : SessionModel) (core : CoreModel) (names snapshot_names : List (List ℕ × List ℕ)) (now : ℤ) → Leaves e.core core → ((m : Meaning) → IsKept m e.core → IsKept m core) →
+    (m : Meaning) → StoresNothing m e (record { core = core; names = names; snapshot_names = snapshot_names; now = now })
+stores e core names snapshot_names now leaves kept m = stores-by m e core names snapshot_names now leaves (kept m)
+
+pub stores-where : {F : Meaning → Type 0} (result : Result Answer SlateDBError) → ((m : Meaning) → F m) → OnOk result ((m : Meaning) → F m)
+stores-where (Ok a) h = h
+stores-where (Err x) h = tt

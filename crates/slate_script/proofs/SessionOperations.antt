@@ -6,15 +6,15 @@ use Rattle.slate_types.specs.declared.config.Ttl.{Ttl}
 use Rattle.slate_types.specs.declared.error.SlateDBError.{SlateDBError}
 use Rattle.slate_types.specs.declared.error.SlateDBError.TheVariants as errors
 use Rattle.slate_mem.specs.Batch.{Ops}
-use Rattle.slate_mem.specs.Refusals.{op_refusal}
+use Rattle.slate_types.specs.Outside.{Counts, IsCounted}
+use Rattle.slate_mem.specs.Refusals.{first_refusal, op_refusal}
 use Rattle.slate_mem.specs.declared.WriteOp.{WriteOp}
 use Rattle.slate_mem.specs.declared.WriteOp.TheVariants as ops
 use Rattle.slate_txn.specs.declared.line.Line.{Line}
 use Rattle.slate_txn.specs.declared.line.Line.TheVariants as lines
 use Rattle.slate_txn.specs.Conflict.{tracked_writes}
-use Rattle.slate_txn.specs.HandedOver.{IsConflict}
 use Rattle.slate_txn.specs.Named.{find_named, without, update_named}
-use Rattle.slate_txn.specs.Refusals.{commit_refusal}
+use Rattle.slate_txn.specs.Refusals.{commit_refusal, operator_refusal}
 use Rattle.slate_txn.specs.Reply as replies
 use Rattle.slate_txn.specs.Reply.{Reply}
 use Rattle.slate_txn.specs.State.{Rules, Tx, State}
@@ -28,7 +28,7 @@ use Rattle.slate_language.proofs.ShownLaws.{shown-of}
 use Rattle.slate_script.specs.Session.{SessionModel, AreNames, AreUnder, NamesStand, StandsFor, IsStep, AnswersAs, IsRefusal, IsDone, under}
 use Rattle.slate_script.proofs.NamesLaws.{once-without, without-none}
 use Rattle.slate_script.proofs.OpenNames.{apart_first, under_none, under_same, under_taken}
-use Rattle.slate_script.proofs.SessionSteps.{IsNamed, named-of, op-refusals, stands-is, stands-same, stands-updated}
+use Rattle.slate_script.proofs.SessionSteps.{IsNamed, fault-unanswered, named-of, op-refusals, stands-is, stands-same, stands-updated}
 
 -- ---- a transaction is changed
 
@@ -72,6 +72,10 @@ changed-as e core name id refusal f a names known stepped s h =
 pub put-unknown : (m : Meaning) (e : SessionModel) (name k v : List ℕ) (ttl : Ttl) → find_named name e.names ≡ None → AnswersAs m e e (lines.Put name k v ttl) (Ok (answers.Refused (errors.UnknownTransaction name)))
 put-unknown m e name k v ttl none = changed-unknown e name (op_refusal k (ops.Put v (record { ttl = ttl }))) (with_op k (ops.Put v (record { ttl = ttl }))) none
 
+pub merge-unknown : (m : Meaning) (e : SessionModel) (name k v : List ℕ) (ttl : Ttl) → find_named name e.names ≡ None → AnswersAs m e e (lines.Merge name k v ttl) (Ok (answers.Refused (errors.UnknownTransaction name)))
+merge-unknown m e name k v ttl none =
+    changed-unknown e name (first_refusal (operator_refusal (rules_of e.core.settings m) ∷ op_refusal k (ops.Merge v (record { ttl = ttl })) ∷ [])) (with_op k (ops.Merge v (record { ttl = ttl }))) none
+
 pub delete-unknown : (m : Meaning) (e : SessionModel) (name k : List ℕ) → find_named name e.names ≡ None → AnswersAs m e e (lines.Delete name k) (Ok (answers.Refused (errors.UnknownTransaction name)))
 delete-unknown m e name k none = changed-unknown e name (op_refusal k ops.Delete) (with_op k ops.Delete) none
 
@@ -88,6 +92,10 @@ AnswersBy m e core line named = (a : Answer) → ◌≡◌ {A = State × Reply} 
 pub put-as : (m : Meaning) (e : SessionModel) (core : CoreModel) (name id k v : List ℕ) (ttl : Ttl) → AreNames e.names e.core.state.txns → find_named name e.names ≡ Some id → AnswersBy m e core (lines.Put id k v ttl) (lines.Put name k v ttl)
 put-as m e core name id k v ttl names known a stepped = changed-as e core name id (op_refusal k (ops.Put v (record { ttl = ttl }))) (with_op k (ops.Put v (record { ttl = ttl }))) a names known stepped
 
+pub merge-as : (m : Meaning) (e : SessionModel) (core : CoreModel) (name id k v : List ℕ) (ttl : Ttl) → AreNames e.names e.core.state.txns → find_named name e.names ≡ Some id → AnswersBy m e core (lines.Merge id k v ttl) (lines.Merge name k v ttl)
+merge-as m e core name id k v ttl names known a stepped =
+    changed-as e core name id (first_refusal (operator_refusal (rules_of e.core.settings m) ∷ op_refusal k (ops.Merge v (record { ttl = ttl })) ∷ [])) (with_op k (ops.Merge v (record { ttl = ttl }))) a names known stepped
+
 pub delete-as : (m : Meaning) (e : SessionModel) (core : CoreModel) (name id k : List ℕ) → AreNames e.names e.core.state.txns → find_named name e.names ≡ Some id → AnswersBy m e core (lines.Delete id k) (lines.Delete name k)
 delete-as m e core name id k names known a stepped = changed-as e core name id (op_refusal k ops.Delete) (with_op k ops.Delete) a names known stepped
 
@@ -102,16 +110,27 @@ unmark-as m e core name id ks names known a stepped = changed-as e core name id 
 abbrev Stepped : Meaning → SessionModel → Line → CoreModel → Reply → Type 0
 Stepped m e line core reply = ◌≡◌ {A = State × Reply} (step (rules_of e.core.settings m) e.core.state line) (core.state, reply)
 
+pub ran-by : {T : Type 0} (m : Meaning) (e : SessionModel) (core : CoreModel) (line named : Line) (ran : Result T SlateDBError) (result : Result Answer SlateDBError) → AnswersBy m e core line named →
+    OnOk ran (Stepped m e line core replies.Done) → IfErr ran (λ x. (x ≡ errors.OutOfMemory) ⊎ Stepped m e line e.core (replies.Refused x)) → OnErr ran (core ≡ e.core) → IsDone ran result →
+    AnswersAs m e (record e { core = core }) named result
+ran-by m e core line named (Ok t) result model ok err same is = subst (λ r. AnswersAs m e (record e { core = core }) named r) (sym is.done) (model answers.Done ok)
+ran-by m e core line named (Err x) (Err y) model ok err same is = λ s h. tt
+ran-by m e core line named (Err x) (Ok a) model ok err same is = by err
+  where
+    by : (x ≡ errors.OutOfMemory) ⊎ Stepped m e line e.core (replies.Refused x) → AnswersAs m e (record e { core = core }) named (Ok a)
+    by (inl memory) = absurd (subst IsRefusal memory is.refusal)
+    by (inr stepped) = model a (subst (λ (c : CoreModel). Stepped m e line c (reply_of a)) (sym same) (subst (λ reply. Stepped m e line e.core reply) (sym is.reply) stepped))
+
+-- where the core's steps are had for each meaning
 pub ran-as : {T : Type 0} (m : Meaning) (e : SessionModel) (core : CoreModel) (line named : Line) (ran : Result T SlateDBError) (result : Result Answer SlateDBError) → AnswersBy m e core line named →
     OnOk ran ((n : Meaning) → Stepped n e line core replies.Done) → IfErr ran (λ x. (x ≡ errors.OutOfMemory) ⊎ ((n : Meaning) → Stepped n e line e.core (replies.Refused x))) → OnErr ran (core ≡ e.core) → IsDone ran result →
     AnswersAs m e (record e { core = core }) named result
-ran-as m e core line named (Ok t) result model ok err same is = subst (λ r. AnswersAs m e (record e { core = core }) named r) (sym is.done) (model answers.Done (ok m))
-ran-as m e core line named (Err x) (Err y) model ok err same is = λ s h. tt
-ran-as m e core line named (Err x) (Ok a) model ok err same is = by err
+ran-as m e core line named (Ok t) result model ok err same is = ran-by m e core line named (Ok t) result model (ok m) tt tt is
+ran-as m e core line named (Err x) result model ok err same is = ran-by m e core line named (Err x) result model tt (by err) same is
   where
-    by : (x ≡ errors.OutOfMemory) ⊎ ((n : Meaning) → Stepped n e line e.core (replies.Refused x)) → AnswersAs m e (record e { core = core }) named (Ok a)
-    by (inl memory) = absurd (subst IsRefusal memory is.refusal)
-    by (inr stepped) = model a (subst (λ (c : CoreModel). Stepped m e line c (reply_of a)) (sym same) (subst (λ reply. Stepped m e line e.core reply) (sym is.reply) (stepped m)))
+    by : (x ≡ errors.OutOfMemory) ⊎ ((n : Meaning) → Stepped n e line e.core (replies.Refused x)) → (x ≡ errors.OutOfMemory) ⊎ Stepped m e line e.core (replies.Refused x)
+    by (inl memory) = inl memory
+    by (inr stepped) = inr (stepped m)
 
 pub ran-cause : {T : Type 0} (L : SlateDBError → Type 0) (ran : Result T SlateDBError) (result : Result Answer SlateDBError) → IsDone ran result → IfErr ran (λ x. (x ≡ errors.OutOfMemory) ⊎ IsRefusal x) →
     IfErr result (λ x. (x ≡ errors.OutOfMemory) ⊎ L x)
@@ -137,6 +156,12 @@ pub op-cause : {T : Type 0} (ran : Result T SlateDBError) (k : List ℕ) (op : W
 op-cause (Ok t) k op cause = tt
 op-cause (Err x) k op (inl memory) = inl memory
 op-cause (Err x) k op (inr refused) = inr (op-refusals k op x refused)
+
+pub merge-cause : {T A : Type 0} (ran : Result T SlateDBError) (k : List ℕ) (op : WriteOp) → IfErr ran (λ x. (x ≡ errors.OutOfMemory) ⊎ ((x ≡ errors.MergeOperatorMissing) × A) ⊎ (op_refusal k op ≡ Some x)) → IfErr ran (λ x. (x ≡ errors.OutOfMemory) ⊎ IsRefusal x)
+merge-cause (Ok t) k op cause = tt
+merge-cause (Err x) k op (inl memory) = inl memory
+merge-cause (Err x) k op (inr (inl missing)) = inr (subst IsRefusal (sym missing.0) tt)
+merge-cause (Err x) k op (inr (inr refused)) = inr (op-refusals k op x refused)
 
 -- ---- commit
 
@@ -208,27 +233,14 @@ commit-as m e core fewer name id a stand known txns snapshots flushed updates st
     }
 
 -- a refused commit
-pub refused-as : (m : Meaning) (e : SessionModel) (core : CoreModel) (fewer : List (List ℕ × List ℕ)) (name id : List ℕ) (error : SlateDBError) (result : Result Answer SlateDBError) →
+pub refused-as : (m : Meaning) (before after : Counts) (e : SessionModel) (core : CoreModel) (fewer : List (List ℕ × List ℕ)) (name id : List ℕ) (error : SlateDBError) (result : Result Answer SlateDBError) →
     ((a : Answer) → ◌≡◌ {A = State × Reply} (step (rules_of e.core.settings m) (at e.now e.core.state) (lines.Commit id)) (at e.now core.state, reply_of a) → AnswersAs m e (record e { core = core; names = fewer }) (lines.Commit name) (Ok a)) →
     IfOk result (λ a. reply_of a ≡ replies.Refused error) → OnOk result (IsRefusal error) →
-    (error ≡ errors.OutOfMemory) ⊎ (◌≡◌ {A = State × Reply} (step (rules_of e.core.settings m) (at e.now e.core.state) (lines.Commit id)) (at e.now core.state, replies.Refused error)) →
+    IsCounted before after error ⊎ (◌≡◌ {A = State × Reply} (step (rules_of e.core.settings m) (at e.now e.core.state) (lines.Commit id)) (at e.now core.state, replies.Refused error)) →
     AnswersAs m e (record e { core = core; names = fewer }) (lines.Commit name) result
-refused-as m e core fewer name id error (Err x) model is refusal cause = λ s h. tt
-refused-as m e core fewer name id error (Ok a) model is refusal (inl memory) = absurd (subst IsRefusal memory refusal)
-refused-as m e core fewer name id error (Ok a) model is refusal (inr stepped) = model a (stepped ∙ ap (λ reply. (at e.now core.state, reply)) (sym is))
-
--- ---- the errors of a commit
-
-conflict-refuses : (o : Option ℕ) (e : SlateDBError) → IsConflict o e → IsRefusal e
-conflict-refuses None e h = absurd h
-conflict-refuses (Some n) e h = subst IsRefusal (sym h) tt
-
-pub commit-cause : {B : Type 0} (L : SlateDBError → Type 0) (o : Option ℕ) (error : SlateDBError) (result : Result Answer SlateDBError) → IfErr result (λ e. (e ≡ error) × (IsRefusal error → ⊥)) →
-    (error ≡ errors.OutOfMemory) ⊎ (IsConflict o error ⊎ ((error ≡ errors.SequenceExhausted) × B)) → IfErr result (λ e. (e ≡ errors.OutOfMemory) ⊎ L e)
-commit-cause L o error (Ok a) other cause = tt
-commit-cause L o error (Err x) other (inl memory) = inl (other.0 ∙ memory)
-commit-cause L o error (Err x) other (inr (inl conflict)) = absurd (other.1 (conflict-refuses o error conflict))
-commit-cause L o error (Err x) other (inr (inr exhausted)) = absurd (other.1 (subst IsRefusal (sym exhausted.0) tt))
+refused-as m before after e core fewer name id error (Err x) model is refusal cause = λ s h. tt
+refused-as m before after e core fewer name id error (Ok a) model is refusal (inl fault) = absurd (fault-unanswered before after error fault refusal)
+refused-as m before after e core fewer name id error (Ok a) model is refusal (inr stepped) = model a (stepped ∙ ap (λ reply. (at e.now core.state, reply)) (sym is))
 
 -- ---- a moment, as a commit is given it
 
@@ -237,7 +249,7 @@ pub commit-moment : (r : Rules) (old new : CoreModel) (id : List ℕ) (reply : R
 commit-moment r old new id reply is h = subst (λ t. ◌≡◌ {A = State × Reply} (step r (at t old.state) (lines.Commit id)) (at t new.state, reply)) is h
 
 pub refused-moment : {A : Type 0} (m : Meaning) (old new : CoreModel) (id : List ℕ) (e : SlateDBError) {given now : ℤ} → given ≡ now →
-    A ⊎ ((n : Meaning) → ◌≡◌ {A = State × Reply} (step (rules_of old.settings n) (at given old.state) (lines.Commit id)) (at given new.state, replies.Refused e)) →
+    A ⊎ (◌≡◌ {A = State × Reply} (step (rules_of old.settings m) (at given old.state) (lines.Commit id)) (at given new.state, replies.Refused e)) →
     A ⊎ (◌≡◌ {A = State × Reply} (step (rules_of old.settings m) (at now old.state) (lines.Commit id)) (at now new.state, replies.Refused e))
 refused-moment m old new id e is (inl a) = inl a
-refused-moment m old new id e is (inr h) = inr (commit-moment (rules_of old.settings m) old new id (replies.Refused e) is (h m))
+refused-moment m old new id e is (inr h) = inr (commit-moment (rules_of old.settings m) old new id (replies.Refused e) is h)

@@ -1,7 +1,9 @@
 -- What a call of the core says of the parts, in the words of a run.
 use Rattle.std.proofs.Common.{◌≡◌, ℕ, List, [], ◌∷◌, suc, ◌≤◌, ◌<◌, ◌+◌, ◌-◌, ◌^◌, ◌⊎◌, inl, inr, Option, Some, None, Result, Ok, Err, refl, sym, ◌∙◌, arith}
+use Rattle.std.specs.Prelude.{◌≢◌}
 use Rattle.std.proofs.Math.Nat.{lt_of_not-le}
 use Rattle.slate_types.specs.declared.error.SlateDBError.{SlateDBError}
+use Rattle.slate_types.specs.declared.error.SlateDBError.TheVariants.{MergeOperatorMissing}
 use Rattle.slate_types.specs.Outside.{Objects, IsFault, Reach}
 use Rattle.slate_table.specs.TableBuilding.{max_blocks}
 use Rattle.slate_db.specs.Answered.{AnswersFrom}
@@ -21,10 +23,17 @@ two-at-most [] [] = omega arith
 two-at-most [] (rows ∷ layers) = omega arith
 two-at-most (r ∷ rs) layers = omega arith
 
-pub flush-cause : (before after : Reach) (layout : Layout) (session : SessionModel) (e : SlateDBError) → IsFlushError layout before after session.core e → IsFault before after e ⊎ IsLimit session e
+pub flush-cause : (before after : Reach) (layout : Layout) (session : SessionModel) (e : SlateDBError) → IsFlushError layout before after session.core e → IsFault before after e ⊎ IsLimit session e ⊎ (e ≡ MergeOperatorMissing)
 flush-cause before after layout session e (inl fault) = inl fault
-flush-cause before after layout session e (inr (inl (is, more))) = inr (LIMIT, is, inl (omega (arith, more, two-at-most session.core.active session.core.frozen)))
-flush-cause before after layout session e (inr (inr (rows, folded, order, large, much))) = let full : 2 ^ 32 - 1 < held_load session = omega (arith, much) in inr (max_blocks, large.large.is, inr full)
+flush-cause before after layout session e (inr (inl (is, more))) = inr (inl (LIMIT, is, inl (omega (arith, more, two-at-most session.core.active session.core.frozen))))
+flush-cause before after layout session e (inr (inr (inl (rows, folded, order, large, much)))) = let full : 2 ^ 32 - 1 < held_load session = omega (arith, much) in inr (inl (max_blocks, large.large.is, inr full))
+flush-cause before after layout session e (inr (inr (inr wants))) = inr (inr wants.0)
+
+-- where an operator isn't wanted
+pub operable-cause : (before after : Reach) (session : SessionModel) (e : SlateDBError) → e ≢ MergeOperatorMissing → IsFault before after e ⊎ IsLimit session e ⊎ (e ≡ MergeOperatorMissing) → IsFault before after e ⊎ IsLimit session e
+operable-cause before after session e operable (inl fault) = inl fault
+operable-cause before after session e operable (inr (inl limit)) = inr limit
+operable-cause before after session e operable (inr (inr wants)) = absurd (operable wants)
 
 -- what isn't refused has room
 pub has-room : (n events txns more : ℕ) (r : Result ℕ SlateDBError) (seq : ℕ) (e : SlateDBError) → r ≡ Ok seq → (n < events + txns + more → r ≡ Err e) → events ≤ n

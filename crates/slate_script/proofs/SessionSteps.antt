@@ -12,6 +12,7 @@ use Rattle.std.proofs.lemmas.Bool.Decides.{nat_tests}
 use Rattle.slate_types.specs.declared.config.IsolationLevel.{IsolationLevel}
 use Rattle.slate_types.specs.declared.error.SlateDBError.{SlateDBError}
 use Rattle.slate_types.specs.declared.error.SlateDBError.TheVariants as errors
+use Rattle.slate_types.specs.Outside.{Counts, IsCounted}
 use Rattle.slate_types.specs.declared.types.KeyValue.{KeyValue}
 use Rattle.slate_types.specs.Rows.{key_value}
 use Rattle.slate_mem.specs.Batch.{Ops, batch_keys}
@@ -503,24 +504,32 @@ flush-as m e core n stepped s h = (
 
 -- ---- a batch that is refused
 
-some-error : (a b : SlateDBError) → Some a ≡ Some b → a ≡ b
+pub some-error : (a b : SlateDBError) → Some a ≡ Some b → a ≡ b
 some-error a b h = cc
 
-refused-commit : (m : Meaning) (e : SessionModel) (core : CoreModel) (ops : Ops) (error : SlateDBError) (a : Answer) → IsSame e.core core → reply_of a ≡ replies.Refused error → IsRefusal error →
-    (error ≡ errors.OutOfMemory) ⊎ ((error ≡ errors.LimitReached LIMIT) ⊎ (step (rules_of e.core.settings m) (at e.now e.core.state) (lines.Write ops) ≡ (at e.now e.core.state, replies.Refused error))) →
+-- a fault isn't answered
+pub fault-unanswered : (before after : Counts) (e : SlateDBError) → IsCounted before after e → IsRefusal e → ⊥
+fault-unanswered before after errors.OutOfMemory fault refusal = refusal
+fault-unanswered before after errors.StoreFault fault refusal = refusal
+fault-unanswered before after (errors.Callback message) fault refusal = refusal
+fault-unanswered before after errors.BlockTransformError fault refusal = refusal
+fault-unanswered before after e fault refusal = fault
+
+refused-commit : (m : Meaning) (before after : Counts) (e : SessionModel) (core : CoreModel) (ops : Ops) (error : SlateDBError) (a : Answer) → IsSame e.core core → reply_of a ≡ replies.Refused error → IsRefusal error →
+    IsCounted before after error ⊎ ((error ≡ errors.LimitReached LIMIT) ⊎ (step (rules_of e.core.settings m) (at e.now e.core.state) (lines.Write ops) ≡ (at e.now e.core.state, replies.Refused error))) →
     AnswersAs m e (record e { core = core }) (lines.Write ops) (Ok a)
-refused-commit m e core ops error a same is refusal (inl memory) = absurd (subst IsRefusal memory refusal)
-refused-commit m e core ops error a same is refusal (inr (inl limit)) = absurd (subst IsRefusal limit refusal)
-refused-commit m e core ops error a same is refusal (inr (inr stepped)) =
+refused-commit m before after e core ops error a same is refusal (inl fault) = absurd (fault-unanswered before after error fault refusal)
+refused-commit m before after e core ops error a same is refusal (inr (inl limit)) = absurd (subst IsRefusal limit refusal)
+refused-commit m before after e core ops error a same is refusal (inr (inr stepped)) =
     write-as m e core ops a (ap (λ (c : CoreModel). c.state.txns) same) (ap (λ (c : CoreModel). c.state.snapshots) same) (ap (λ (c : CoreModel). c.state.flushed) same)
     (stepped ∙ (let s = sym same in let r = sym is in λ i. (at e.now ((s i).state), r i)))
 
-pub commit-refused : (m : Meaning) (e : SessionModel) (core : CoreModel) (ops : Ops) (error : SlateDBError) (result : Result Answer SlateDBError) → IsSame e.core core →
+pub commit-refused : (m : Meaning) (before after : Counts) (e : SessionModel) (core : CoreModel) (ops : Ops) (error : SlateDBError) (result : Result Answer SlateDBError) → IsSame e.core core →
     IfOk result (λ a. reply_of a ≡ replies.Refused error) → OnOk result (IsRefusal error) →
-    (error ≡ errors.OutOfMemory) ⊎ ((error ≡ errors.LimitReached LIMIT) ⊎ (step (rules_of e.core.settings m) (at e.now e.core.state) (lines.Write ops) ≡ (at e.now e.core.state, replies.Refused error))) →
+    IsCounted before after error ⊎ ((error ≡ errors.LimitReached LIMIT) ⊎ (step (rules_of e.core.settings m) (at e.now e.core.state) (lines.Write ops) ≡ (at e.now e.core.state, replies.Refused error))) →
     AnswersAs m e (record e { core = core }) (lines.Write ops) result
-commit-refused m e core ops error (Ok a) same is refusal cause = refused-commit m e core ops error a same is refusal cause
-commit-refused m e core ops error (Err x) same is refusal cause = λ s h. tt
+commit-refused m before after e core ops error (Ok a) same is refusal cause = refused-commit m before after e core ops error a same is refusal cause
+commit-refused m before after e core ops error (Err x) same is refusal cause = λ s h. tt
 
 pub batch-refused : (m : Meaning) (e : SessionModel) (ops : Ops) (error : SlateDBError) (result : Result Answer SlateDBError) →
     IfOk result (λ a. reply_of a ≡ replies.Refused error) → OnOk result (IsRefusal error) →
@@ -529,11 +538,11 @@ batch-refused m e ops error (Ok a) is refusal (inl memory) = absurd (subst IsRef
 batch-refused m e ops error (Ok a) is refusal (inr refused) = write-refused m e ops error a refused is
 batch-refused m e ops error (Err x) is refusal cause = λ s h. tt
 
--- a cause that is had for each meaning and all operations
-pub at-meaning : {A B : Type 0} {F : Meaning → Ops → Type 0} (m : Meaning) (ops : Ops) {O P : Ops → Type 0} → O ops → P ops → A ⊎ (B ⊎ ((n : Meaning) (os : Ops) → O os → P os → F n os)) → A ⊎ (B ⊎ F m ops)
-at-meaning m ops of fine (inl a) = inl a
-at-meaning m ops of fine (inr (inl b)) = inr (inl b)
-at-meaning m ops of fine (inr (inr f)) = inr (inr (f m ops of fine))
+-- a cause that is had for all operations
+pub at-ops : {A B : Type 0} {F : Ops → Type 0} (ops : Ops) {O P : Ops → Type 0} → O ops → P ops → A ⊎ (B ⊎ ((os : Ops) → O os → P os → F os)) → A ⊎ (B ⊎ F ops)
+at-ops ops of fine (inl a) = inl a
+at-ops ops of fine (inr (inl b)) = inr (inl b)
+at-ops ops of fine (inr (inr f)) = inr (inr (f ops of fine))
 
 -- ---- an operation's refusals are answered
 

@@ -5,7 +5,6 @@ use Rattle.std.proofs.lemmas.List.{append-nil, length-append}
 use Rattle.std.proofs.lemmas.List.Concat.{flat_map-append}
 use Rattle.slate_types.specs.declared.types.Ulid.{Ulid}
 use Rattle.slate_types.specs.Outside.{Objects}
-use Rattle.slate_table.specs.Parts.{Encode}
 use Rattle.slate_txn.specs.declared.event.Event.{Event}
 use Rattle.slate_txn.specs.declared.event.Event.TheVariants as events
 use Rattle.slate_db.specs.Flushed.{IsFlushed, idle, stored, Layout, with_tables}
@@ -52,8 +51,8 @@ frozen-length old mid (inl same) = subst (λ (c : CoreModel). length c.events �
 frozen-length old mid (inr frozen) = subst (λ (c : CoreModel). length c.events ≤ length old.events + 1) (sym frozen.1) (let n : length (old.events ++ (events.Freeze ∷ [])) ≡ length old.events + 1 = length-append old.events (events.Freeze ∷ []) in omega (arith, n))
 
 -- a flush puts what it installs
-pub flushed-tables : (encode : Encode) (layout : Layout) (old mid new : CoreModel) (n : ℕ) (before after : Option Objects) → IsFrozen old mid → IsFlushed encode layout mid new n before after → length old.events ≤ LIMIT → HasTables before old.events → HasTables after new.events
-flushed-tables encode layout old mid new n before after frozen flushed room h = by flushed (frozen-tables old mid before frozen h)
+pub flushed-tables : (m : Meaning) (layout : Layout) (old mid new : CoreModel) (n : ℕ) (before after : Option Objects) → IsFrozen old mid → IsFlushed m layout mid new n before after → length old.events ≤ LIMIT → HasTables before old.events → HasTables after new.events
+flushed-tables m layout old mid new n before after frozen flushed room h = by flushed (frozen-tables old mid before frozen h)
   where
     size : length mid.events ≤ 9223372036854775808
     size = let a : length mid.events ≤ length old.events + 1 = frozen-length old mid frozen in let b : length old.events ≤ 9223372036854775807 = room in omega arith
@@ -76,29 +75,29 @@ flushed-tables encode layout old mid new n before after frozen flushed room h = 
         more : runs_of (mid.events ++ (events.Install n ts ∷ [])) ≡ runs_of mid.events ++ (ts ∷ [])
         more = runs_more mid.events (events.Install n ts)
 
-    by : IsFlushed encode layout mid new n before after → HasTables before mid.events → HasTables after new.events
+    by : IsFlushed m layout mid new n before after → HasTables before mid.events → HasTables after new.events
     by (idle none is same) k = subst (λ (c : CoreModel). HasTables after c.events) (sym is) (subst (λ o. HasTables o mid.events) (sym same) k)
-    by (stored ts is made takes) k = subst (λ (c : CoreModel). HasTables after c.events) (sym is) (put before ts k (are_placed encode layout _ 0 made.parts ts made.built) takes)
+    by (stored ts is made takes) k = subst (λ (c : CoreModel). HasTables after c.events) (sym is) (put before ts k (are_placed m.encode layout _ 0 made.parts ts made.built) takes)
 
-pub flush-settled : (m : Meaning) (encode : Encode) (layout : Layout) (objects after : Option Objects) (e : SessionModel) (mid core : CoreModel) (n : ℕ) → IsFrozen e.core mid → IsFlushed encode layout mid core n objects after → length e.core.events ≤ LIMIT →
+pub flush-settled : (m : Meaning) (layout : Layout) (objects after : Option Objects) (e : SessionModel) (mid core : CoreModel) (n : ℕ) → IsFrozen e.core mid → IsFlushed m layout mid core n objects after → length e.core.events ≤ LIMIT →
     (IsKept m e.core → IsKept m core) → IsSettled m objects e → IsSettled m after (record e { core = core })
-flush-settled m encode layout objects after e mid core n frozen flushed room kept h = record {
+flush-settled m layout objects after e mid core n frozen flushed room kept h = record {
   lawful = h.lawful;
   kept = kept h.kept;
-  tables = flushed-tables encode layout e.core mid core n objects after frozen flushed room h.tables;
+  tables = flushed-tables m layout e.core mid core n objects after frozen flushed room h.tables;
 }
 
 -- what a line leaves that stores nothing
 pub same-tables : (es fs : List Event) → runs_of es ≡ runs_of fs → tables_of es ≡ tables_of fs
 same-tables es fs same = tables_are es ∙ ap (flat_map (λ (ts : List (Ulid × List ℕ)). ts)) same ∙ sym (tables_are fs)
 
-pub tables-still : (e new : SessionModel) → StoresNothing e new → tables_of new.core.events ≡ tables_of e.core.events
+pub tables-still : {m : Meaning} (e new : SessionModel) → StoresNothing m e new → tables_of new.core.events ≡ tables_of e.core.events
 tables-still e new s = same-tables new.core.events e.core.events s.runs
 
-pub stays-settled : (m : Meaning) (objects : Option Objects) (e new : SessionModel) → StoresNothing e new → IsSettled m objects e → IsSettled m objects new
+pub stays-settled : (m : Meaning) (objects : Option Objects) (e new : SessionModel) → StoresNothing m e new → IsSettled m objects e → IsSettled m objects new
 stays-settled m objects e new s h = record {
   lawful = h.lawful;
-  kept = s.kept m h.kept;
+  kept = s.kept h.kept;
   tables = record {
     holds = by objects h.tables.holds;
     numbered = subst (NumberedFrom 1) (sym s.runs) h.tables.numbered;

@@ -177,7 +177,7 @@ run-alone m layout runs us parts before after few made takes h =
     within i p q (inl below) = let size : length (runs ++ (us ∷ [])) ≡ length runs + 1 = length-append runs (us ∷ []) in omega arith
     within i p q (inr (same, below)) = let size : length (runs ++ (us ∷ [])) ≡ length runs + 1 = length-append runs (us ∷ []) in omega arith
 
-pub flush-alone : (m : Meaning) (layout : Layout) (old mid new : CoreModel) (n : ℕ) (before after : Option Objects) → IsFrozen old mid → IsFlushed m.encode layout mid new n before after →
+pub flush-alone : (m : Meaning) (layout : Layout) (old mid new : CoreModel) (n : ℕ) (before after : Option Objects) → IsFrozen old mid → IsFlushed m layout mid new n before after →
     length (runs_of old.events) ≤ length old.events → length old.events ≤ LIMIT → HasTablesAlone m layout before (runs_of old.events) → HasTablesAlone m layout after (runs_of new.events)
 flush-alone m layout old mid new n before after frozen flushed few room h = by flushed
   where
@@ -190,7 +190,7 @@ flush-alone m layout old mid new n before after frozen flushed few room h = by f
     small : length (runs_of mid.events) + 1 < 2 ^ 64
     small = let size : length (runs_of mid.events) ≡ length (runs_of old.events) = ap length same in let bound : length old.events ≤ 9223372036854775807 = room in omega (arith, size, few, bound)
 
-    by : IsFlushed m.encode layout mid new n before after → HasTablesAlone m layout after (runs_of new.events)
+    by : IsFlushed m layout mid new n before after → HasTablesAlone m layout after (runs_of new.events)
     by (idle none is untouched) = subst (λ (c : CoreModel). HasTablesAlone m layout after (runs_of c.events)) (sym is) (subst (λ o. HasTablesAlone m layout o (runs_of mid.events)) (sym untouched) alone)
     by (stored ts is made takes) =
         subst (HasTablesAlone m layout after) (sym (ap (λ (c : CoreModel). runs_of c.events) is ∙ runs_more mid.events (events.Install n ts)))
@@ -198,11 +198,11 @@ flush-alone m layout old mid new n before after frozen flushed few room h = by f
 
 -- ---- lines that store nothing, and the beginning
 
-pub stays-alone : (m : Meaning) (layout : Layout) (objects after : Option Objects) (e new : SessionModel) → after ≡ objects → StoresNothing e new → HasTablesAlone m layout objects (runs_of e.core.events) → HasTablesAlone m layout after (runs_of new.core.events)
+pub stays-alone : {n : Meaning} (m : Meaning) (layout : Layout) (objects after : Option Objects) (e new : SessionModel) → after ≡ objects → StoresNothing n e new → HasTablesAlone m layout objects (runs_of e.core.events) → HasTablesAlone m layout after (runs_of new.core.events)
 stays-alone m layout objects after e new same stores h =
     subst (HasTablesAlone m layout after) (sym stores.runs) (subst (λ o. HasTablesAlone m layout o (runs_of e.core.events)) (sym same) h)
 
-pub stays-where : {V E : Type 0} (result : Result V E) (m : Meaning) (layout : Layout) (objects after : Option Objects) (e new : SessionModel) → after ≡ objects → OnOk result (StoresNothing e new) →
+pub stays-where : {V E : Type 0} {n : Meaning} (result : Result V E) (m : Meaning) (layout : Layout) (objects after : Option Objects) (e new : SessionModel) → after ≡ objects → OnOk result (StoresNothing n e new) →
     HasTablesAlone m layout objects (runs_of e.core.events) → OnOk result (HasTablesAlone m layout after (runs_of new.core.events))
 stays-where (Ok v) m layout objects after e new same stores h = stays-alone m layout objects after e new same stores h
 stays-where (Err x) m layout objects after e new same stores h = tt

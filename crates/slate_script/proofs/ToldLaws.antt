@@ -9,7 +9,6 @@ use Rattle.slate_types.specs.declared.types.Ulid.{Ulid}
 use Rattle.slate_types.specs.Outside.{Objects, Counts, IsCounted, Reach}
 use Rattle.slate_types.specs.World.{Made}
 use Rattle.slate_store.specs.Store.{Act, with_object}
-use Rattle.slate_table.specs.Parts.{Encode}
 use Rattle.slate_table.specs.Paths.{path_of}
 use Rattle.slate_txn.specs.declared.event.Event.TheVariants as events
 use Rattle.slate_txn.specs.declared.line.Line.{Line}
@@ -56,11 +55,11 @@ true-behind os (a ∷ acts) more h = true-behind (after_act os a) acts more h.1
 pub follows-itself : (m : Meaning) (os : Objects) (e : SessionModel) (acts : Option (List Act)) → IsSettled m (Some os) e → Follows m os e acts acts
 follows-itself m os e acts settled known is = ([], is ∙ ap (λ (l : List Act). Some l) (sym (append-nil known)), settled)
 
-pub follows-still : {V E : Type 0} (result : Result V E) (m : Meaning) (os : Objects) (e new : SessionModel) (acts : Option (List Act)) → OnOk result (StoresNothing e new) → IsSettled m (Some os) e → OnOk result (Follows m os new acts acts)
+pub follows-still : {V E : Type 0} (result : Result V E) (m : Meaning) (os : Objects) (e new : SessionModel) (acts : Option (List Act)) → OnOk result (StoresNothing m e new) → IsSettled m (Some os) e → OnOk result (Follows m os new acts acts)
 follows-still (Ok v) m os e new acts stores settled = follows-itself m os new acts (stays-settled m (Some os) e new stores settled)
 follows-still (Err x) m os e new acts stores settled = tt
 
-pub follows-reads : {V E : Type 0} (result : Result V E) (m : Meaning) (os : Objects) (e new : SessionModel) (before after : Option (List Act)) → AddsReads before after → OnOk result (StoresNothing e new) → IsSettled m (Some os) e →
+pub follows-reads : {V E : Type 0} (result : Result V E) (m : Meaning) (os : Objects) (e new : SessionModel) (before after : Option (List Act)) → AddsReads before after → OnOk result (StoresNothing m e new) → IsSettled m (Some os) e →
     OnOk result (Follows m os new before after)
 follows-reads (Ok v) m os e new before after adds stores settled = λ known is.
     let r = adds known is in
@@ -91,9 +90,9 @@ puts-are (t ∷ ts) before = (
     more [] t = refl
     more (u ∷ us) t = ap (λ (acts : List Act). Act.put (path_of root u.0.0) u.1 ∷ acts) (more us t)
 
-pub follows-flush : (m : Meaning) (encode : Encode) (layout : Layout) (os : Objects) (objects left : Option Objects) (e : SessionModel) (mid core : CoreModel) (n : ℕ) (before after : Option (List Act)) → IsFrozen e.core mid → IsFlushed encode layout mid core n objects left →
+pub follows-flush : (m : Meaning) (layout : Layout) (os : Objects) (objects left : Option Objects) (e : SessionModel) (mid core : CoreModel) (n : ℕ) (before after : Option (List Act)) → IsFrozen e.core mid → IsFlushed m layout mid core n objects left →
     AddsTables (tables_of e.core.events) (tables_of core.events) before after → length e.core.events ≤ LIMIT → (IsKept m e.core → IsKept m core) → IsSettled m (Some os) e → Follows m os (record e { core = core }) before after
-follows-flush m encode layout os objects left e mid core n before after frozen flushed (us, grown, acts) room kept settled known told = by flushed
+follows-flush m layout os objects left e mid core n before after frozen flushed (us, grown, acts) room kept settled known told = by flushed
   where
     new : SessionModel
     new = record e { core = core }
@@ -108,13 +107,13 @@ follows-flush m encode layout os objects left e mid core n before after frozen f
       subst (λ (x : Objects). IsSettled m (Some x) new) (sym (puts-objects os us ∙ ap (with_tables os) it)) s,
     )
 
-    by : IsFlushed encode layout mid core n objects left → (more : List Act) × (after ≡ Some (known ++ more)) × IsSettled m (Some (after_acts os more)) new
+    by : IsFlushed m layout mid core n objects left → (more : List Act) × (after ≡ Some (known ++ more)) × IsSettled m (Some (after_acts os more)) new
     by (idle none is untouched) =
         settles [] (append_cancel_left (tables_of e.core.events) us [] (sym grown ∙ ap (λ (c : CoreModel). tables_of c.events) is ∙ same ∙ sym (append-nil (tables_of e.core.events))))
-        (flush-settled m encode layout (Some os) (Some os) e mid core n frozen (idle none is refl) room kept settled)
+        (flush-settled m layout (Some os) (Some os) e mid core n frozen (idle none is refl) room kept settled)
     by (stored ts is made takes) =
         settles ts (append_cancel_left (tables_of e.core.events) us ts (sym grown ∙ ap (λ (c : CoreModel). tables_of c.events) is ∙ tables-more mid.events (events.Install n ts) ∙ ap (λ xs. xs ++ ts) same))
-        (flush-settled m encode layout (Some os) (Some (with_tables os ts)) e mid core n frozen (stored ts is made refl) room kept settled)
+        (flush-settled m layout (Some os) (Some (with_tables os ts)) e mid core n frozen (stored ts is made refl) room kept settled)
 
 -- ---- damage
 
@@ -153,7 +152,7 @@ puts-both acts [] us h k = k
 puts-both acts (t ∷ ts) us h k = (h.0, puts-both acts ts us h.1 k)
 
 -- where nothing was put
-pub stores-none : {V : Type 0} (result : Result V SlateDBError) (e new : SessionModel) (before after : Option (List Act)) → AddsReads before after → OnOk result (StoresNothing e new) → OnOk result (PutsTables (tables_of e.core.events) (tables_of new.core.events) before after)
+pub stores-none : {V : Type 0} {m : Meaning} (result : Result V SlateDBError) (e new : SessionModel) (before after : Option (List Act)) → AddsReads before after → OnOk result (StoresNothing m e new) → OnOk result (PutsTables (tables_of e.core.events) (tables_of new.core.events) before after)
 stores-none (Ok v) e new before after adds stores = λ known is. let r = adds known is in (r.0, [], r.1, tables-still e new stores ∙ sym (append-nil (tables_of e.core.events)), tt)
 stores-none (Err x) e new before after adds stores = tt
 

@@ -15,22 +15,21 @@
 --     IsSettled m objects e      the parts are lawful, what is kept of the rows holds, and so does this
 --     IsSettledIn reach e      the same of what a call reaches
 --     IsRunning m r parts objects e      the same for rules of a run, whose parts mean what they did
---     own_load txns, held_load e      what the own operations of open transactions hold; the same with the rows in memory
---     line_load line, Grows line old new      what a line adds to memory at most; so do its events, its rows and its own operations
+--     own_load txns, held_load e      how many own operations open transactions have; the same with the rows in memory
+--     line_load line, Grows line old new      how many operations a line has; no more than so do its events, its rows and its own operations grow
 --     IsFull e, IsLimit e error      the journal or memory has passed what no script fills; a limit was reached, so one of them has
---     IsRefusal error      a line that writes is answered so
+--     IsRefusal error      a line that writes is answered so; a read or a flush that wants an operator ends the run
 --     IsDone ran result      an operation that ran is answered by its end, and a refused one by its refusal
 --     has_moment line      a line that sets the moment sets one
---     StoresNothing old new      what a line keeps that stores nothing
+--     StoresNothing m old new      what a line keeps that stores nothing
 use Rattle.std.specs.Prelude.{◌≡◌, ℕ, ◌+◌, ◌-◌, ◌^◌, ◌<◌, ◌⊎◌, Bool, true, ◌≤◌, List, flat_map, length, sum_by, Option, Some, None, Result, Ok, IfOk, IfErr, OnOk, IsSome, ℤ}
 use Rattle.std.specs.List.{AllByRecursion}
 use Rattle.std.specs.Option.{option_or}
 use Rattle.slate_types.specs.declared.error.SlateDBError.{SlateDBError}
-use Rattle.slate_types.specs.declared.error.SlateDBError.TheVariants.{TransactionConflict, EmptyKey, KeyTooLong, ValueTooLong, SequenceExhausted, LimitReached}
+use Rattle.slate_types.specs.declared.error.SlateDBError.TheVariants.{TransactionConflict, EmptyKey, KeyTooLong, ValueTooLong, SequenceExhausted, MergeOperatorMissing, IncompatibleMergeTtls, LimitReached}
 use Rattle.slate_types.specs.declared.types.Ulid.{Ulid}
 use Rattle.slate_types.specs.Outside.{Objects, Reach}
 use Rattle.slate_table.specs.Stored.{HoldRows, by_seq}
-use Rattle.slate_mem.specs.declared.WriteOp.TheVariants as ops
 use Rattle.slate_txn.specs.declared.event.Event.{Event}
 use Rattle.slate_txn.specs.declared.line.Line.{Line}
 use Rattle.slate_txn.specs.declared.line.Line.TheVariants as lines
@@ -39,7 +38,7 @@ use Rattle.slate_txn.specs.Reply.{Reply, Refused}
 use Rattle.slate_txn.specs.State.{Rules, Tx, State}
 use Rattle.slate_txn.specs.Step.{Reader, reader, step}
 use Rattle.slate_db.specs.Flushed.{Layout}
-use Rattle.slate_db.specs.Load.{load, op_load, ops_load, weight}
+use Rattle.slate_db.specs.Load.{load, weight}
 use Rattle.slate_db.specs.Installs.{HoldsTables, NumberedFrom, runs_of}
 use Rattle.slate_db.specs.Meaning.{Meaning, IsLawfulMeaning, rules_of}
 use Rattle.slate_db.specs.Model.{CoreModel, Rows, versions_in}
@@ -136,16 +135,17 @@ IsSettledIn reach e = IsSettled reach.meaning reach.objects e
 -- ---- how much a session holds
 
 abbrev pub own_load : List (List ℕ × Tx) → ℕ
-own_load txns = sum_by (λ p. ops_load p.1.ops) txns
+own_load txns = sum_by (λ p. length p.1.ops) txns
 
 abbrev pub held_load : SessionModel → ℕ
 held_load e = load e.core + own_load e.core.state.txns
 
--- a row that a write or a commit adds is an operation of its
+-- a write or a commit adds no more rows than it has operations
 abbrev pub line_load : Line → ℕ
-line_load (lines.Write batch) = ops_load batch
-line_load (lines.Put name k v ttl) = op_load (k, ops.Put v (record { ttl = ttl }))
-line_load (lines.Delete name k) = op_load (k, ops.Delete)
+line_load (lines.Write batch) = length batch
+line_load (lines.Put name k v ttl) = 1
+line_load (lines.Merge name k v ttl) = 1
+line_load (lines.Delete name k) = 1
 line_load _ = 0
 
 abbrev pub Grows : Line → SessionModel → SessionModel → Type 0
@@ -167,6 +167,8 @@ IsRefusal EmptyKey = Unit {0}
 IsRefusal (KeyTooLong n) = Unit {0}
 IsRefusal (ValueTooLong n) = Unit {0}
 IsRefusal SequenceExhausted = Unit {0}
+IsRefusal MergeOperatorMissing = Unit {0}
+IsRefusal (IncompatibleMergeTtls k a b) = Unit {0}
 IsRefusal _ = ⊥
 
 pub record IsDone {T : Type 0} (ran : Result T SlateDBError) (result : Result Answer SlateDBError) : Type 0 where
@@ -175,12 +177,12 @@ pub record IsDone {T : Type 0} (ran : Result T SlateDBError) (result : Result An
   pub refusal : IfErr ran (λ e. OnOk result (IsRefusal e))
   pub other : IfErr ran (λ e. IfErr result (λ x. (x ≡ e) × (IsRefusal e → ⊥)))
 
--- what a line that stores nothing keeps
-pub record StoresNothing (old new : SessionModel) : Type 0 where
+-- what a line that stores nothing keeps, for parts of this meaning
+pub record StoresNothing (m : Meaning) (old new : SessionModel) : Type 0 where
   pub settings : new.core.settings ≡ old.core.settings
   pub runs : runs_of new.core.events ≡ runs_of old.core.events
   pub later : length old.core.events ≤ length new.core.events
-  pub kept : (m : Meaning) → IsKept m old.core → IsKept m new.core
+  pub kept : IsKept m old.core → IsKept m new.core
 
 -- parts: what the parts mean that are handed in
 pub record IsRunning (m : Meaning) (r : Rules) (parts : Meaning) (objects : Option Objects) (e : SessionModel) : Type 0 where

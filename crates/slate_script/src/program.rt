@@ -24,11 +24,11 @@ use crate::run::run_script;
 use slate_db::laws::Laws;
 use slate_language::{Generated, Xor, parse_generated, parse_words};
 use slate_store::{Env, Sink, Source, Store};
-use slate_types::{NoExtractor, NoOperator, SlateDBError};
+use slate_types::{NoExtractor, SlateDBError};
 use std::alloc::Global;
 
-/// Runs a script over the store, as the words say, and answers the status to end with: 0
-/// where the run answers Ok, 2 exactly where the words are none of a run, 3 for `ScriptSyntax`, 4 for
+/// Runs a script over the store, as the words say, with the operator and the transformer that they name, and answers the status to
+/// end with: 0 where the run answers Ok, 2 exactly where the words are none of a run, 3 for `ScriptSyntax`, 4 for
 /// `ScriptTooLong`, 5 for `ReadFault`, 6 for `WriteFault`, 7 for `StoreFault`, 12, 14, 16, 18 and 19 where a table
 /// isn't what was stored, and 20 for want of memory.
 ///
@@ -60,9 +60,9 @@ pub fn run_main<R: Source, W: Sink, S: Store>(
 
     // 0: each line was answered as the model answers it, to the end of a script of lines
     ensures answered { (s : Settings) (script before : List ℕ) → read_words (map string_bytes words.now) ≡ Some s → R.left source.old ≡ Some script → W.content sink.old ≡ Some before → IsEmpty (S.objects store.old) →
-        result ≡ 0 → W.content sink.new ≡ Some (before ++ replies (main_rules s.options) script) }
+        result ≡ 0 → W.content sink.new ≡ Some (before ++ replies (main_rules s) script) }
     ensures stored { (s : Settings) (script : List ℕ) → read_words (map string_bytes words.now) ≡ Some s → R.left source.old ≡ Some script → IsEmpty (S.objects store.old) →
-        result ≡ 0 → IsStoredState (parts_of s.mask) (main_rules s.options) (layout_of s.options) (S.objects store.new) (after_lines meaning (main_rules s.options) opening (lines_of script)) }
+        result ≡ 0 → IsStoredState (parts_of s) (main_rules s) (layout_of s.options) (S.objects store.new) (after_lines meaning (main_rules s) opening (lines_of script)) }
     ensures read { (script : List ℕ) → read_generated (map string_bytes words.now) ≡ None → R.left source.old ≡ Some script → result ≡ 0 → IsWellFormed script × (R.left source.new ≡ Some []) }
 
     // the others, each with its cause
@@ -83,13 +83,13 @@ pub fn run_main<R: Source, W: Sink, S: Store>(
 
     // what the sink took then
     ensures by_script { (s : Settings) (script before : List ℕ) → read_words (map string_bytes words.now) ≡ Some s → R.left source.old ≡ Some script → W.content sink.old ≡ Some before → IsEmpty (S.objects store.old) →
-        (result ≡ 3) ⊎ (result ≡ 4) → W.content sink.new ≡ Some (before ++ replies_to meaning (main_rules s.options) (lines_taken script)) }
+        (result ≡ 3) ⊎ (result ≡ 4) → W.content sink.new ≡ Some (before ++ replies_to meaning (main_rules s) (lines_taken script)) }
     ensures by_source { (s : Settings) (script before : List ℕ) → read_words (map string_bytes words.now) ≡ Some s → R.left source.old ≡ Some script → W.content sink.old ≡ Some before → IsEmpty (S.objects store.old) → result ≡ 5 →
-        (left said : List ℕ) × (R.left source.new ≡ Some left) × (W.content sink.new ≡ Some (before ++ said)) × HasAnsweredAll (main_rules s.options) script left said }
+        (left said : List ℕ) × (R.left source.new ≡ Some left) × (W.content sink.new ≡ Some (before ++ said)) × HasAnsweredAll (main_rules s) script left said }
     ensures by_sink { (s : Settings) (script before : List ℕ) → read_words (map string_bytes words.now) ≡ Some s → R.left source.old ≡ Some script → W.content sink.old ≡ Some before → IsEmpty (S.objects store.old) → result ≡ 6 →
-        (said : List ℕ) × (W.content sink.new ≡ Some (before ++ said)) × HasBegun (main_rules s.options) script said }
+        (said : List ℕ) × (W.content sink.new ≡ Some (before ++ said)) × HasBegun (main_rules s) script said }
     ensures by_part { (s : Settings) (script before : List ℕ) → read_words (map string_bytes words.now) ≡ Some s → R.left source.old ≡ Some script → W.content sink.old ≡ Some before → IsEmpty (S.objects store.old) →
-        (result ≡ 7) ⊎ (result ≡ 20) → (said : List ℕ) × (W.content sink.new ≡ Some (before ++ said)) × HasAnswered (main_rules s.options) script said }
+        (result ≡ 7) ⊎ (result ≡ 20) → (said : List ℕ) × (W.content sink.new ≡ Some (before ++ said)) × HasAnswered (main_rules s) script said }
 
     // what was read: all that a run can take of a script that is too long, and never more
     ensures all { (script : List ℕ) → R.left source.old ≡ Some script → result ≡ 4 → R.left source.new ≡ Some (drop script_limit script) }
@@ -98,16 +98,16 @@ pub fn run_main<R: Source, W: Sink, S: Store>(
 
     // a script that the run makes for itself: its summary is written, and no reply
     ensures summed { (g : Generated) (before : List ℕ) → read_generated (map string_bytes words.now) ≡ Some g → W.content sink.old ≡ Some before → IsEmpty (S.objects store.old) →
-        result ≡ 0 → W.content sink.new ≡ Some (before ++ summary (main_rules g.settings.options) (generate g.rounds g.seed)) }
+        result ≡ 0 → W.content sink.new ≡ Some (before ++ summary (main_rules g.settings) (generate g.rounds g.seed)) }
     ensures summed_stored { (g : Generated) → read_generated (map string_bytes words.now) ≡ Some g → IsEmpty (S.objects store.old) →
-        result ≡ 0 → IsStoredState (parts_of g.settings.mask) (main_rules g.settings.options) (layout_of g.settings.options) (S.objects store.new) (after_lines meaning (main_rules g.settings.options) opening (lines_of (generate g.rounds g.seed))) }
+        result ≡ 0 → IsStoredState (parts_of g.settings) (main_rules g.settings) (layout_of g.settings.options) (S.objects store.new) (after_lines meaning (main_rules g.settings) opening (lines_of (generate g.rounds g.seed))) }
     ensures summed_kinds { (g : Generated) → read_generated (map string_bytes words.now) ≡ Some g → IsGeneratedStatus result }
     ensures summed_alone { (g : Generated) → read_generated (map string_bytes words.now) ≡ Some g → source.new ≡ source.old }
     ensures summed_undamaged { (g : Generated) → read_generated (map string_bytes words.now) ≡ Some g → IsEmpty (S.objects store.old) → (result ≡ 12) ⊎ (result ≡ 14) ⊎ (result ≡ 16) ⊎ (result ≡ 18) ⊎ (result ≡ 19) → ⊥ }
     ensures summed_complete { (g : Generated) → read_generated (map string_bytes words.now) ≡ Some g → IsEmpty (S.objects store.old) →
         (Rose (W.faults sink.old) (W.faults sink.new) → ⊥) → (Rose (S.faults store.old) (S.faults store.new) → ⊥) → (result ≡ 0) ⊎ (result ≡ 20) }
     ensures summed_begun { (g : Generated) (before : List ℕ) → read_generated (map string_bytes words.now) ≡ Some g → W.content sink.old ≡ Some before → IsEmpty (S.objects store.old) → result ≡ 6 →
-        (n : ℕ) × (n < length (summary (main_rules g.settings.options) (generate g.rounds g.seed))) × (W.content sink.new ≡ Some (before ++ take n (summary (main_rules g.settings.options) (generate g.rounds g.seed)))) }
+        (n : ℕ) × (n < length (summary (main_rules g.settings) (generate g.rounds g.seed))) × (W.content sink.new ≡ Some (before ++ take n (summary (main_rules g.settings) (generate g.rounds g.seed)))) }
     ensures summed_unwritten { (g : Generated) → read_generated (map string_bytes words.now) ≡ Some g → (result ≡ 0) ⊎ (result ≡ 6) ⊎ (W.content sink.new ≡ W.content sink.old) }
 {
     if let Some(generated) = parse_generated(words) {
@@ -116,10 +116,9 @@ pub fn run_main<R: Source, W: Sink, S: Store>(
     let Some(settings) = parse_words(words) else {
         return 2;
     };
-    let operator: Option<NoOperator> = None;
     let mut env = Env {
         store: &mut *store,
-        operator,
+        operator: settings.operator,
         transformer: transformer_of(settings.mask),
     };
     let laws: Laws<NoExtractor> = Laws {
@@ -150,9 +149,9 @@ fn main_generated<W: Sink, S: Store>(
     requires few { generated.now.rounds ≤ max_rounds }
     ensures kinds { IsGeneratedStatus result }
     ensures summed { (before : List ℕ) → W.content sink.old ≡ Some before → IsEmpty (S.objects store.old) →
-        result ≡ 0 → W.content sink.new ≡ Some (before ++ summary (main_rules generated.now.settings.options) (generate generated.now.rounds generated.now.seed)) }
+        result ≡ 0 → W.content sink.new ≡ Some (before ++ summary (main_rules generated.now.settings) (generate generated.now.rounds generated.now.seed)) }
     ensures stored { IsEmpty (S.objects store.old) →
-        result ≡ 0 → IsStoredState (parts_of generated.now.settings.mask) (main_rules generated.now.settings.options) (layout_of generated.now.settings.options) (S.objects store.new) (after_lines meaning (main_rules generated.now.settings.options) opening (lines_of (generate generated.now.rounds generated.now.seed))) }
+        result ≡ 0 → IsStoredState (parts_of generated.now.settings) (main_rules generated.now.settings) (layout_of generated.now.settings.options) (S.objects store.new) (after_lines meaning (main_rules generated.now.settings) opening (lines_of (generate generated.now.rounds generated.now.seed))) }
     ensures write_fault { result ≡ 6 → Rose (W.faults sink.old) (W.faults sink.new) }
     ensures store_fault { result ≡ 7 → Rose (S.faults store.old) (S.faults store.new) }
     ensures undamaged { IsEmpty (S.objects store.old) → (result ≡ 12) ⊎ (result ≡ 14) ⊎ (result ≡ 16) ⊎ (result ≡ 18) ⊎ (result ≡ 19) → ⊥ }
@@ -160,15 +159,14 @@ fn main_generated<W: Sink, S: Store>(
     ensures complete { IsEmpty (S.objects store.old) →
         (Rose (W.faults sink.old) (W.faults sink.new) → ⊥) → (Rose (S.faults store.old) (S.faults store.new) → ⊥) → (result ≡ 0) ⊎ (result ≡ 20) }
     ensures begun { (before : List ℕ) → W.content sink.old ≡ Some before → IsEmpty (S.objects store.old) → result ≡ 6 →
-        (n : ℕ) × (n < length (summary (main_rules generated.now.settings.options) (generate generated.now.rounds generated.now.seed))) × (W.content sink.new ≡ Some (before ++ take n (summary (main_rules generated.now.settings.options) (generate generated.now.rounds generated.now.seed)))) }
+        (n : ℕ) × (n < length (summary (main_rules generated.now.settings) (generate generated.now.rounds generated.now.seed))) × (W.content sink.new ≡ Some (before ++ take n (summary (main_rules generated.now.settings) (generate generated.now.rounds generated.now.seed)))) }
     ensures unwritten { (result ≡ 0) ⊎ (result ≡ 6) ⊎ (W.content sink.new ≡ W.content sink.old) }
     ensures sink_still { (result ≡ 6) ⊎ (W.faults sink.new ≡ W.faults sink.old) }
     ensures later { W.faults sink.old ≤ W.faults sink.new }
 {
-    let operator: Option<NoOperator> = None;
     let mut env = Env {
         store: &mut *store,
-        operator,
+        operator: generated.settings.operator,
         transformer: transformer_of(generated.settings.mask),
     };
     let laws: Laws<NoExtractor> = Laws {

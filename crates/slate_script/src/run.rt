@@ -11,6 +11,7 @@ ghost use Rattle.slate_db.specs.Installs.{runs_of, tables_of};
 ghost use Rattle.slate_db.specs.Load.{weight};
 ghost use Rattle.slate_db.specs.Meaning.{Meaning, IsLawfulMeaning};
 ghost use Rattle.slate_db.specs.Parts.{IsTableError};
+ghost use Rattle.slate_db.specs.Sound.{IsKept};
 ghost use Rattle.slate_language.specs.Replies.{meanings, replies, replies_to, after_lines, replies_from, reply_line, IsWellFormed};
 ghost use Rattle.slate_language.specs.Answers.{reply_of};
 ghost use Rattle.slate_language.specs.Stage as stage;
@@ -188,7 +189,8 @@ fn answer_line<W: Sink, S: Store, M: MergeOperator, T: BlockTransformer, X: Pref
     ensures follows { let reach = ⟦<EnvOf<S, M, T> as Outside>⟧.reach in (os : Objects) → IsSettled (reach env.old).meaning (Some os) session.old → OnOk result (Follows (reach env.old).meaning os session.new (reach env.old).acts (reach env.new).acts) }
     ensures untrue { let reach = ⟦<EnvOf<S, M, T> as Outside>⟧.reach in (os : Objects) → IsSettled (reach env.old).meaning (Some os) session.old → IfErr result (λ e. IsTableError e → IsUntrue os (reach env.old).acts (reach env.new).acts) }
     ensures tables { let reach = ⟦<EnvOf<S, M, T> as Outside>⟧.reach in OnOk result (PutsTables (tables_of session.old.core.events) (tables_of session.new.core.events) (reach env.old).acts (reach env.new).acts) }
-    ensures shown { let reach = ⟦<EnvOf<S, M, T> as Outside>⟧.reach in IfErr result (λ e. IsTableError e → Made (reach env.old) (reach env.new) (λ reads. IsShownBy (reach env.old).meaning session.old.core reads e)) }
+    ensures core_kept { let reach = ⟦<EnvOf<S, M, T> as Outside>⟧.reach in IsKept (reach env.old).meaning session.old.core → OnOk result (IsKept (reach env.old).meaning session.new.core) }
+    ensures shown { let reach = ⟦<EnvOf<S, M, T> as Outside>⟧.reach in IsKept (reach env.old).meaning session.old.core → IfErr result (λ e. IsTableError e → Made (reach env.old) (reach env.new) (λ reads. IsShownBy (reach env.old).meaning session.old.core reads e)) }
     ensures write_fault { result ≡ Err SlateDBError.WriteFault → Rose (W.faults sink.old) (W.faults sink.new) × IsTrue (is_line line.now) }
     ensures begun { let reach = ⟦<EnvOf<S, M, T> as Outside>⟧.reach in (m : Meaning) (r : Rules) → IsRunning m r (reach env.old).meaning (reach env.old).objects session.old → (s : State) (before : List ℕ) → StandsFor session.old s → W.content sink.old ≡ Some before → result ≡ Err SlateDBError.WriteFault →
         (n : ℕ) × (n < length (replies_from stage.meaning r s (line.now ∷ []))) × (W.content sink.new ≡ Some (before ++ take n (replies_from stage.meaning r s (line.now ∷ [])))) }

@@ -1,10 +1,11 @@
 //! The core, the open names with their ids, and the moment.
-ghost use Rattle.std.specs.Prelude.{◌≡◌, ◌≢◌, ◌⊎◌, ◌∷◌, ℕ, List, ◌++◌, [], map, Some, None, Ok, IfOk, IfErr, IfSome, IsSome, OnOk, IsTrue, IsOkUnless, length, drop, false};
+ghost use Rattle.std.specs.Prelude.{◌≡◌, ◌≢◌, ◌⊎◌, ◌∷◌, ℕ, List, ◌++◌, [], map, Some, None, Ok, IfOk, IfErr, IfSome, IsSome, OnOk, IsTrue, IsOkUnless, length, drop};
 ghost use Rattle.slate_types.specs.Config.{IsValid};
 ghost use Rattle.slate_types.specs.Outside.{Objects, IsFault, OnlyReads, Puts};
 ghost use Rattle.slate_types.specs.World.{Made};
 ghost use Rattle.std.specs.declared.ops.Bound.{Bound};
 ghost use Rattle.slate_types.specs.declared.iter.IterationOrder.{IterationOrder};
+ghost use Rattle.slate_types.specs.declared.config.Ttl.{Ttl};
 ghost use Rattle.slate_mem.specs.Batch.{Ops};
 ghost use Rattle.slate_mem.specs.BatchModel.{IsBatchOf};
 ghost use Rattle.slate_mem.specs.Refusals.{first_refusal, op_refusal};
@@ -21,12 +22,12 @@ ghost use Rattle.slate_db.specs.Meaning.{Meaning, IsLawfulMeaning};
 ghost use Rattle.slate_db.specs.Parts.{IsTableError};
 ghost use Rattle.slate_db.specs.Readable.{IsAnswered, IsReadError};
 ghost use Rattle.slate_db.specs.Scans.{IsScanError};
-ghost use Rattle.slate_db.specs.Sound.{IsKept};
+ghost use Rattle.slate_db.specs.Sound.{IsKept, IsOperable};
 ghost use Rattle.slate_db.specs.StoredState.{StoresState};
 ghost use Rattle.slate_db.specs.Log.{AreFine};
 ghost use Rattle.slate_language.specs.Answers.{reply_of};
 ghost use Rattle.slate_script.specs.Session.{StandsFor, AnswersAs, HasTablesAlone, Grows, IsDone, IsSettled, IsSettledIn, IsLimit, IsRefusal, StoresNothing, has_moment, held_load, reader_id, reader_under};
-ghost use Rattle.slate_language.specs.Stage.{is_built, is_built_op, is_built_batch};
+ghost use Rattle.slate_language.specs.Stage.{is_built};
 ghost use Rattle.slate_script.specs.Told.{Follows, IsRefusedAt, IsUntrue, PutsTables};
 
 use crate::journal::entries;
@@ -40,8 +41,8 @@ use slate_store::{Env, EnvOf, Store};
 use slate_txn::line::{Line, StepList};
 use slate_txn::list::{KeyList, OpList};
 use slate_types::{
-    BlockTransformer, BytesRange, IsolationLevel, IterationOrder, MergeOperator, Options, Outside,
-    PrefixExtractor, PutOptions, ReadOptions, SlateDBError, Ttl,
+    BlockTransformer, BytesRange, IsolationLevel, IterationOrder, MergeOperator, MergeOptions,
+    Options, Outside, PrefixExtractor, PutOptions, ReadOptions, SlateDBError, Ttl,
 };
 use std::alloc::Global;
 use std::collections::BTreeMap;
@@ -115,10 +116,11 @@ impl Session {
         ensures grows { OnOk result (Grows line self.old self.new) }
         ensures kept { let reach = ⟦<EnvOf<S, M, T> as Outside>⟧.reach in IsSettledIn (reach env.old) self.old →
             OnOk result (IsSettled (reach env.old).meaning (reach env.new).objects self.new) }
+        ensures core_kept { let reach = ⟦<EnvOf<S, M, T> as Outside>⟧.reach in IsKept (reach env.old).meaning self.old.core → OnOk result (IsKept (reach env.old).meaning self.new.core) }
         ensures alone { let reach = ⟦<EnvOf<S, M, T> as Outside>⟧.reach in IsSettledIn (reach env.old) self.old → HasTablesAlone (reach env.old).meaning (layout_of laws.now.options) (reach env.old).objects (runs_of self.old.core.events) →
             OnOk result (HasTablesAlone (reach env.old).meaning (layout_of laws.now.options) (reach env.new).objects (runs_of self.new.core.events)) }
         ensures cause { let reach = ⟦<EnvOf<S, M, T> as Outside>⟧.reach in IfErr result (λ e. IsFault (reach env.old) (reach env.new) e ⊎ IsLimit self.old e ⊎ IsTableError e) }
-        ensures shown { let reach = ⟦<EnvOf<S, M, T> as Outside>⟧.reach in IfErr result (λ e. IsTableError e → Made (reach env.old) (reach env.new) (λ reads. IsRefusedAt line (reach env.old).meaning self.old.core reads e)) }
+        ensures shown { let reach = ⟦<EnvOf<S, M, T> as Outside>⟧.reach in IsKept (reach env.old).meaning self.old.core → IfErr result (λ e. IsTableError e → Made (reach env.old) (reach env.new) (λ reads. IsRefusedAt line (reach env.old).meaning self.old.core reads e)) }
         ensures undamaged { let reach = ⟦<EnvOf<S, M, T> as Outside>⟧.reach in IsSettledIn (reach env.old) self.old →
             IfErr result (λ e. IsFault (reach env.old) (reach env.new) e ⊎ IsLimit self.old e) }
         ensures follows { let reach = ⟦<EnvOf<S, M, T> as Outside>⟧.reach in (os : Objects) → IsSettled (reach env.old).meaning (Some os) self.old → OnOk result (Follows (reach env.old).meaning os self.new (reach env.old).acts (reach env.new).acts) }
@@ -136,23 +138,30 @@ impl Session {
                 steps,
             } => self.scan(name, order, start, end, steps, env, laws),
             Line::Flush => self.flush(env, laws),
-            other => self.answer_within(other, laws),
+            Line::Write { ops } => self.write(ops, env, laws),
+            Line::Merge {
+                name,
+                key,
+                value,
+                ttl,
+            } => self.merge(name, key, value, ttl, env),
+            Line::Commit { name } => self.commit(name, env, laws),
+            other => self.answer_within(other),
         }
     }
 
-    /// The answer to a line that asks no store.
-    fn answer_within<X: PrefixExtractor>(
-        &mut self,
-        line: Line,
-        laws: &Laws<X>,
-    ) -> Result<Answer, SlateDBError>
+    /// The answer to a line that asks neither the store nor the operator.
+    fn answer_within(&mut self, line: Line) -> Result<Answer, SlateDBError>
         requires built { IsTrue (is_built line) }
         requires moment { IsTrue (has_moment line) }
         requires no_get { (name key : List ℕ) → line ≢ Line.Get name key }
         requires no_scan { (name : List ℕ) (order : IterationOrder) (start end : Bound (List ℕ)) (sts : List ScanStep) → line ≢ Line.Scan name order start end sts }
         requires no_flush { line ≢ Line.Flush }
+        requires no_write { (ops : Ops) → line ≢ Line.Write ops }
+        requires no_merge { (name key value : List ℕ) (ttl : Ttl) → line ≢ Line.Merge name key value ttl }
+        requires no_commit { (name : List ℕ) → line ≢ Line.Commit name }
         ensures step { (m : Meaning) → AnswersAs m self.old self.new line result }
-        ensures stores { OnOk result (StoresNothing self.old self.new) }
+        ensures stores { OnOk result ((m : Meaning) → StoresNothing m self.old self.new) }
         ensures grows { OnOk result (Grows line self.old self.new) }
         ensures cause { IfErr result (λ e. (e ≡ SlateDBError.OutOfMemory) ⊎ IsLimit self.old e) }
     {
@@ -164,7 +173,6 @@ impl Session {
             Line::Begin { name, level } => self.begin(name, level),
             Line::Snapshot { name } => self.snapshot(name),
             Line::Rollback { name } => Ok(self.rollback(name)),
-            Line::Write { ops } => self.write(ops, laws),
             Line::Freeze => self.freeze(),
             Line::Journal => self.journal(),
             Line::Put {
@@ -176,7 +184,6 @@ impl Session {
             Line::Delete { name, key } => self.delete(name, key),
             Line::Mark { name, keys } => self.mark(name, keys),
             Line::Unmark { name, keys } => self.unmark(name, keys),
-            Line::Commit { name } => self.commit(name, laws),
             _ => unreachable!(),
         }
     }
@@ -204,7 +211,7 @@ impl Session {
     /// Opens the name at the last commit, as a transaction.
     fn begin(&mut self, name: Bytes, level: IsolationLevel) -> Result<Answer, SlateDBError>
         ensures step { (m : Meaning) → AnswersAs m self.old self.new (Line.Begin name level) result }
-        ensures stores { OnOk result (StoresNothing self.old self.new) }
+        ensures stores { OnOk result ((m : Meaning) → StoresNothing m self.old self.new) }
         ensures grows { OnOk result (Grows (Line.Begin name level) self.old self.new) }
         ensures cause { IfErr result (λ e. (e ≡ SlateDBError.OutOfMemory) ⊎ IsLimit self.old e) }
     {
@@ -220,7 +227,7 @@ impl Session {
     /// Opens the name at the last commit, as a snapshot.
     fn snapshot(&mut self, name: Bytes) -> Result<Answer, SlateDBError>
         ensures step { (m : Meaning) → AnswersAs m self.old self.new (Line.Snapshot name) result }
-        ensures stores { OnOk result (StoresNothing self.old self.new) }
+        ensures stores { OnOk result ((m : Meaning) → StoresNothing m self.old self.new) }
         ensures grows { OnOk result (Grows (Line.Snapshot name) self.old self.new) }
         ensures cause { IfErr result (λ e. (e ≡ SlateDBError.OutOfMemory) ⊎ IsLimit self.old e) }
     {
@@ -243,7 +250,7 @@ impl Session {
     ) -> Result<Answer, SlateDBError>
         ensures step { let reach = ⟦<EnvOf<S, M, T> as Outside>⟧.reach in IsAnswered (reach env.old) (reach env.new) self.old.core →
             AnswersAs (reach env.old).meaning self.old self.new (Line.Get name key) result }
-        ensures stores { OnOk result (StoresNothing self.old self.new) }
+        ensures stores { OnOk result ((m : Meaning) → StoresNothing m self.old self.new) }
         ensures grows { OnOk result (Grows (Line.Get name key) self.old self.new) }
         ensures cause { let reach = ⟦<EnvOf<S, M, T> as Outside>⟧.reach in IfErr result (IsReadError (reach env.old) (reach env.new) self.old.core) }
         ensures undamaged { let reach = ⟦<EnvOf<S, M, T> as Outside>⟧.reach in IsAnswered (reach env.old) (reach env.new) self.old.core → IfErr result (IsFault (reach env.old) (reach env.new)) }
@@ -274,7 +281,7 @@ impl Session {
         requires valid { IsValid laws.now.options }
         ensures step { let reach = ⟦<EnvOf<S, M, T> as Outside>⟧.reach in IsAnswered (reach env.old) (reach env.new) self.old.core →
             AnswersAs (reach env.old).meaning self.old self.new (Line.Scan name order start end steps) result }
-        ensures stores { OnOk result (StoresNothing self.old self.new) }
+        ensures stores { OnOk result ((m : Meaning) → StoresNothing m self.old self.new) }
         ensures grows { OnOk result (Grows (Line.Scan name order start end steps) self.old self.new) }
         ensures cause { let reach = ⟦<EnvOf<S, M, T> as Outside>⟧.reach in IfErr result (IsScanError (reach env.old) (reach env.new) self.old.core) }
         ensures undamaged { let reach = ⟦<EnvOf<S, M, T> as Outside>⟧.reach in IsAnswered (reach env.old) (reach env.new) self.old.core → IfErr result (IsFault (reach env.old) (reach env.new)) }
@@ -309,7 +316,7 @@ impl Session {
     /// Closes the name: its transaction ends, or its snapshot is released.
     fn rollback(&mut self, name: Bytes) -> Answer
         ensures step { (m : Meaning) → AnswersAs m self.old self.new (Line.Rollback name) (Ok result) }
-        ensures stores { StoresNothing self.old self.new }
+        ensures stores { (m : Meaning) → StoresNothing m self.old self.new }
         ensures grows { Grows (Line.Rollback name) self.old self.new }
     {
         let Some(id) = self.names.remove(&name) else {
@@ -323,7 +330,7 @@ impl Session {
     fn release(&mut self, name: Bytes) -> Answer
         requires { find_named name self.old.names ≡ None }
         ensures step { (m : Meaning) → AnswersAs m self.old self.new (Line.Rollback name) (Ok result) }
-        ensures stores { StoresNothing self.old self.new }
+        ensures stores { (m : Meaning) → StoresNothing m self.old self.new }
         ensures grows { Grows (Line.Rollback name) self.old self.new }
     {
         let Some(id) = self.snapshot_names.remove(&name) else {
@@ -342,7 +349,7 @@ impl Session {
         ttl: Ttl,
     ) -> Result<Answer, SlateDBError>
         ensures step { (m : Meaning) → AnswersAs m self.old self.new (Line.Put name key value ttl) result }
-        ensures stores { OnOk result (StoresNothing self.old self.new) }
+        ensures stores { OnOk result ((m : Meaning) → StoresNothing m self.old self.new) }
         ensures grows { OnOk result (Grows (Line.Put name key value ttl) self.old self.new) }
         ensures cause { IfErr result (λ e. (e ≡ SlateDBError.OutOfMemory) ⊎ IsLimit self.old e) }
     {
@@ -359,10 +366,42 @@ impl Session {
         done(put)
     }
 
+    /// Puts the operand among the own operations of the name's transaction.
+    fn merge<S: Store, M: MergeOperator, T: BlockTransformer>(
+        &mut self,
+        name: Bytes,
+        key: Bytes,
+        value: Bytes,
+        ttl: Ttl,
+        env: &mut Env<'_, S, M, T>,
+    ) -> Result<Answer, SlateDBError>
+        ensures step { let reach = ⟦<EnvOf<S, M, T> as Outside>⟧.reach in AnswersAs (reach env.old).meaning self.old self.new (Line.Merge name key value ttl) result }
+        ensures stores { let reach = ⟦<EnvOf<S, M, T> as Outside>⟧.reach in OnOk result (StoresNothing (reach env.old).meaning self.old self.new) }
+        ensures grows { OnOk result (Grows (Line.Merge name key value ttl) self.old self.new) }
+        ensures cause { let reach = ⟦<EnvOf<S, M, T> as Outside>⟧.reach in IfErr result (λ e. IsFault (reach env.old) (reach env.new) e ⊎ IsLimit self.old e) }
+        ensures reads { let reach = ⟦<EnvOf<S, M, T> as Outside>⟧.reach in OnlyReads (reach env.old) (reach env.new) }
+    {
+        let Some(id) = self.names.get(&name) else {
+            drop((key, value));
+            return Ok(Answer::Refused(SlateDBError::UnknownTransaction { name }));
+        };
+        let id = *id;
+        drop(name);
+        let merge = self.core.merge(
+            &id,
+            key.as_slice(),
+            value.as_slice(),
+            &MergeOptions { ttl },
+            env,
+        );
+        drop((key, value));
+        done(merge)
+    }
+
     /// Puts a delete of the key among the own operations of the name's transaction.
     fn delete(&mut self, name: Bytes, key: Bytes) -> Result<Answer, SlateDBError>
         ensures step { (m : Meaning) → AnswersAs m self.old self.new (Line.Delete name key) result }
-        ensures stores { OnOk result (StoresNothing self.old self.new) }
+        ensures stores { OnOk result ((m : Meaning) → StoresNothing m self.old self.new) }
         ensures grows { OnOk result (Grows (Line.Delete name key) self.old self.new) }
         ensures cause { IfErr result (λ e. (e ≡ SlateDBError.OutOfMemory) ⊎ IsLimit self.old e) }
     {
@@ -380,7 +419,7 @@ impl Session {
     /// Makes the keys part of what the commit of the name's transaction conflicts by.
     fn mark(&mut self, name: Bytes, keys: KeyList) -> Result<Answer, SlateDBError>
         ensures step { (m : Meaning) → AnswersAs m self.old self.new (Line.Mark name keys) result }
-        ensures stores { OnOk result (StoresNothing self.old self.new) }
+        ensures stores { OnOk result ((m : Meaning) → StoresNothing m self.old self.new) }
         ensures grows { OnOk result (Grows (Line.Mark name keys) self.old self.new) }
         ensures cause { IfErr result (λ e. (e ≡ SlateDBError.OutOfMemory) ⊎ IsLimit self.old e) }
     {
@@ -398,7 +437,7 @@ impl Session {
     /// Takes the keys out of what the commit of the name's transaction tracks.
     fn unmark(&mut self, name: Bytes, keys: KeyList) -> Result<Answer, SlateDBError>
         ensures step { (m : Meaning) → AnswersAs m self.old self.new (Line.Unmark name keys) result }
-        ensures stores { OnOk result (StoresNothing self.old self.new) }
+        ensures stores { OnOk result ((m : Meaning) → StoresNothing m self.old self.new) }
         ensures grows { OnOk result (Grows (Line.Unmark name keys) self.old self.new) }
         ensures cause { IfErr result (λ e. (e ≡ SlateDBError.OutOfMemory) ⊎ IsLimit self.old e) }
     {
@@ -414,21 +453,24 @@ impl Session {
     }
 
     /// Commits the name's transaction at the moment, and closes the name, whether the commit is refused or not.
-    fn commit<X: PrefixExtractor>(
+    fn commit<S: Store, M: MergeOperator, T: BlockTransformer, X: PrefixExtractor>(
         &mut self,
         name: Bytes,
+        env: &mut Env<'_, S, M, T>,
         laws: &Laws<X>,
     ) -> Result<Answer, SlateDBError>
-        ensures step { (m : Meaning) → AnswersAs m self.old self.new (Line.Commit name) result }
-        ensures stores { OnOk result (StoresNothing self.old self.new) }
+        ensures step { let reach = ⟦<EnvOf<S, M, T> as Outside>⟧.reach in IsOperable (reach env.old).meaning self.old.core →
+            AnswersAs (reach env.old).meaning self.old self.new (Line.Commit name) result }
+        ensures stores { let reach = ⟦<EnvOf<S, M, T> as Outside>⟧.reach in OnOk result (StoresNothing (reach env.old).meaning self.old self.new) }
         ensures grows { OnOk result (Grows (Line.Commit name) self.old self.new) }
-        ensures cause { IfErr result (λ e. (e ≡ SlateDBError.OutOfMemory) ⊎ IsLimit self.old e) }
+        ensures cause { let reach = ⟦<EnvOf<S, M, T> as Outside>⟧.reach in IfErr result (λ e. IsFault (reach env.old) (reach env.new) e ⊎ IsLimit self.old e) }
+        ensures reads { let reach = ⟦<EnvOf<S, M, T> as Outside>⟧.reach in OnlyReads (reach env.old) (reach env.new) }
     {
         let Some(id) = self.names.remove(&name) else {
             return Ok(Answer::Refused(SlateDBError::UnknownTransaction { name }));
         };
         drop(name);
-        match self.core.commit(&id, self.now, laws) {
+        match self.core.commit(&id, self.now, env, laws) {
             Ok(seq) => Ok(Answer::Committed(seq)),
             Err(error) => refused(error),
         }
@@ -444,22 +486,23 @@ impl Session {
     }
 
     /// Commits the operations as one batch, at the moment.
-    fn write<X: PrefixExtractor>(
+    fn write<S: Store, M: MergeOperator, T: BlockTransformer, X: PrefixExtractor>(
         &mut self,
         ops: OpList,
+        env: &mut Env<'_, S, M, T>,
         laws: &Laws<X>,
     ) -> Result<Answer, SlateDBError>
-        requires { IsTrue (is_built_batch ops) }
-        ensures step { (m : Meaning) → AnswersAs m self.old self.new (Line.Write ops) result }
-        ensures stores { OnOk result (StoresNothing self.old self.new) }
+        ensures step { let reach = ⟦<EnvOf<S, M, T> as Outside>⟧.reach in AnswersAs (reach env.old).meaning self.old self.new (Line.Write ops) result }
+        ensures stores { let reach = ⟦<EnvOf<S, M, T> as Outside>⟧.reach in OnOk result (StoresNothing (reach env.old).meaning self.old self.new) }
         ensures grows { OnOk result (Grows (Line.Write ops) self.old self.new) }
-        ensures cause { IfErr result (λ e. (e ≡ SlateDBError.OutOfMemory) ⊎ IsLimit self.old e) }
+        ensures cause { let reach = ⟦<EnvOf<S, M, T> as Outside>⟧.reach in IfErr result (λ e. IsFault (reach env.old) (reach env.new) e ⊎ IsLimit self.old e) }
+        ensures reads { let reach = ⟦<EnvOf<S, M, T> as Outside>⟧.reach in OnlyReads (reach env.old) (reach env.new) }
     {
         let batch = match batch_of(self.alloc, ops) {
             Ok(batch) => batch,
             Err(error) => return refused(error),
         };
-        match self.core.write(batch, self.now, laws) {
+        match self.core.write(batch, self.now, env, laws) {
             Ok(seq) => Ok(Answer::Written(seq)),
             Err(error) => refused(error),
         }
@@ -468,7 +511,7 @@ impl Session {
     /// Moves the rows in memory aside for a flush.
     fn freeze(&mut self) -> Result<Answer, SlateDBError>
         ensures step { (m : Meaning) → AnswersAs m self.old self.new Line.Freeze result }
-        ensures stores { OnOk result (StoresNothing self.old self.new) }
+        ensures stores { OnOk result ((m : Meaning) → StoresNothing m self.old self.new) }
         ensures grows { OnOk result (Grows Line.Freeze self.old self.new) }
         ensures cause { IfErr result (λ e. (e ≡ SlateDBError.OutOfMemory) ⊎ IsLimit self.old e) }
     {
@@ -488,11 +531,13 @@ impl Session {
         ensures grows { OnOk result (Grows Line.Flush self.old self.new) }
         ensures kept { let reach = ⟦<EnvOf<S, M, T> as Outside>⟧.reach in IsSettledIn (reach env.old) self.old →
             OnOk result (IsSettled (reach env.old).meaning (reach env.new).objects self.new) }
+        ensures core_kept { let reach = ⟦<EnvOf<S, M, T> as Outside>⟧.reach in IsKept (reach env.old).meaning self.old.core → OnOk result (IsKept (reach env.old).meaning self.new.core) }
         ensures alone { let reach = ⟦<EnvOf<S, M, T> as Outside>⟧.reach in IsSettledIn (reach env.old) self.old → HasTablesAlone (reach env.old).meaning (layout_of laws.now.options) (reach env.old).objects (runs_of self.old.core.events) →
             OnOk result (HasTablesAlone (reach env.old).meaning (layout_of laws.now.options) (reach env.new).objects (runs_of self.new.core.events)) }
         ensures follows { let reach = ⟦<EnvOf<S, M, T> as Outside>⟧.reach in (os : Objects) → IsSettled (reach env.old).meaning (Some os) self.old → OnOk result (Follows (reach env.old).meaning os self.new (reach env.old).acts (reach env.new).acts) }
         ensures tables { let reach = ⟦<EnvOf<S, M, T> as Outside>⟧.reach in OnOk result (PutsTables (tables_of self.old.core.events) (tables_of self.new.core.events) (reach env.old).acts (reach env.new).acts) }
-        ensures cause { let reach = ⟦<EnvOf<S, M, T> as Outside>⟧.reach in IfErr result (λ e. IsFault (reach env.old) (reach env.new) e ⊎ IsLimit self.old e) }
+        ensures cause { let reach = ⟦<EnvOf<S, M, T> as Outside>⟧.reach in IfErr result (λ e. IsFault (reach env.old) (reach env.new) e ⊎ IsLimit self.old e ⊎ (e ≡ SlateDBError.MergeOperatorMissing)) }
+        ensures operable { let reach = ⟦<EnvOf<S, M, T> as Outside>⟧.reach in IsKept (reach env.old).meaning self.old.core → IfErr result (λ e. IsFault (reach env.old) (reach env.new) e ⊎ IsLimit self.old e) }
         ensures puts { let reach = ⟦<EnvOf<S, M, T> as Outside>⟧.reach in Puts (reach env.old) (reach env.new) }
     {
         let seq = self.core.flush(env, laws)?;
@@ -500,12 +545,9 @@ impl Session {
     }
 }
 
-/// The batch of the operations, none of which is a merge. Refuses as the first operation does that is refused, and by
-/// `OutOfMemory`.
+/// The batch of the operations. Refuses as the first operation does that is refused, and by `OutOfMemory`.
 fn batch_of(alloc: Global, ops: OpList) -> Result<WriteBatch, SlateDBError>
-    requires { IsTrue (is_built_batch ops) }
     ensures batch { IfOk result (λ batch. IsBatchOf ops batch) }
-    ensures plain { IfOk result (λ batch. batch.held_merge ≡ false) }
     ensures fine { OnOk result (AreFine ops) }
     ensures refused { IfErr result (λ e. (e ≡ SlateDBError.OutOfMemory) ⊎ (first_refusal (map (λ o. op_refusal o.0 o.1) ops) ≡ Some e)) }
 {
@@ -516,9 +558,8 @@ fn batch_of(alloc: Global, ops: OpList) -> Result<WriteBatch, SlateDBError>
     Ok(batch)
 }
 
-/// Adds an operation, which is no merge, to a batch.
+/// Adds an operation to a batch.
 fn add(batch: &mut WriteBatch, key: Bytes, op: WriteOp) -> Result<(), SlateDBError>
-    requires { IsTrue (is_built_op op) }
     ensures refused { IfErr result (λ e. (e ≡ SlateDBError.OutOfMemory) ⊎ (op_refusal key op ≡ Some e)) }
     ensures fine { OnOk result (op_refusal key op ≡ None) }
     ensures means { (ops : Ops) → IsBatchOf ops batch.old → OnOk result (IsBatchOf (ops ++ ((key, op) ∷ [])) batch.new) }
@@ -526,7 +567,7 @@ fn add(batch: &mut WriteBatch, key: Bytes, op: WriteOp) -> Result<(), SlateDBErr
     match op {
         WriteOp::Put(value, options) => batch.put_bytes_with_options(key, value, &options),
         WriteOp::Delete => batch.delete(key.as_slice()),
-        WriteOp::Merge(..) => unreachable!(),
+        WriteOp::Merge(value, options) => batch.merge_bytes_with_options(key, value, &options),
     }
 }
 
@@ -551,7 +592,9 @@ fn refused(error: SlateDBError) -> Result<Answer, SlateDBError>
         | SlateDBError::EmptyKey
         | SlateDBError::KeyTooLong { .. }
         | SlateDBError::ValueTooLong { .. }
-        | SlateDBError::SequenceExhausted => Ok(Answer::Refused(error)),
+        | SlateDBError::SequenceExhausted
+        | SlateDBError::MergeOperatorMissing
+        | SlateDBError::IncompatibleMergeTtls { .. } => Ok(Answer::Refused(error)),
         other => Err(other),
     }
 }

@@ -18,10 +18,15 @@ const SECOND: &str = "db/compacted/00000000000000010000000000000001.sst";
 type Parts<'a> = Env<'a, MemoryStore, NoOperator, Xor>;
 
 // The transaction that begins behind a core's one commit, and its start.
-fn one_put(alloc: Global, core: &mut Core, laws: &Laws<NoExtractor>) -> Option<(Uuid, u64)> {
+fn one_put(
+    alloc: Global,
+    core: &mut Core,
+    env: &mut Parts<'_>,
+    laws: &Laws<NoExtractor>,
+) -> Option<(Uuid, u64)> {
     let mut batch = WriteBatch::new(alloc);
     let put = batch.put(b"a", b"1").ok();
-    let written = core.write(batch, 0, laws).ok();
+    let written = core.write(batch, 0, env, laws).ok();
     let begun = core.begin(IsolationLevel::Snapshot).ok();
     put.and(written).and(begun)
 }
@@ -46,7 +51,7 @@ fn is_flushed_again(
 ) -> bool
     requires { IsValid laws.now.options }
 {
-    let Some((id, _start)) = one_put(alloc, core, laws) else {
+    let Some((id, _start)) = one_put(alloc, core, env, laws) else {
         return false;
     };
     let flushed = core.flush(env, laws);
@@ -95,11 +100,16 @@ fn a_flush_that_failed_is_tried_again(rt: HostRuntime) {
 }
 
 // The transaction that begins behind a core's one commit, of two keys.
-fn two_puts(alloc: Global, core: &mut Core, laws: &Laws<NoExtractor>) -> Option<Uuid> {
+fn two_puts(
+    alloc: Global,
+    core: &mut Core,
+    env: &mut Parts<'_>,
+    laws: &Laws<NoExtractor>,
+) -> Option<Uuid> {
     let mut batch = WriteBatch::new(alloc);
     let first = batch.put(b"a", b"1").ok();
     let second = batch.put(b"b", b"2").ok();
-    let written = core.write(batch, 0, laws).ok();
+    let written = core.write(batch, 0, env, laws).ok();
     let begun = core.begin(IsolationLevel::Snapshot).ok();
     let (id, _start) = first.and(second).and(written).and(begun)?;
     Some(id)
@@ -122,7 +132,7 @@ fn are_flushed(
 ) -> bool
     requires { IsValid laws.now.options }
 {
-    let Some(id) = two_puts(alloc, core, laws) else {
+    let Some(id) = two_puts(alloc, core, env, laws) else {
         return false;
     };
     matches!(core.flush(env, laws).ok(), Some(1)) && finds_both(core, env, laws, &id)

@@ -35,6 +35,20 @@ fn replaced_merges_are_remembered(rt: HostRuntime) {
     assert!(rt; remembers(rt.alloc()));
 }
 
+// The rows of such a commit at 3.
+fn replaced_rows(alloc: Global) -> Option<Vec<RowEntry>> {
+    let batch = replaced(alloc)?;
+    let entries = batch.extract_entries(alloc, 3, 40, None, &mut Some(Concat));
+    drop(batch);
+    let (rows, _bytes) = entries.ok()?;
+    Some(rows)
+}
+
+#[test]
+fn replaced_merges_make_no_row(rt: HostRuntime) {
+    assert!(rt; are_rows(rt.alloc(), replaced_rows(rt.alloc()), &[(b"k", 'v', b"3", 3, Some(40), None)]));
+}
+
 // A put and two merges of one key, a delete and a merge of another, and a lone merge.
 fn fill(batch: &mut WriteBatch) -> Option<()> {
     let hour = MergeOptions {

@@ -17,6 +17,7 @@ type Parts<'a> = Env<'a, MemoryStore, NoOperator, Xor>;
 fn commit(
     alloc: Global,
     core: &mut Core,
+    env: &mut Parts<'_>,
     laws: &Laws<NoExtractor>,
     value: &[u8],
     other: Option<&[u8]>,
@@ -27,13 +28,18 @@ fn commit(
         Some(value) => batch.put(b"b", value).ok(),
         None => batch.delete(b"b").ok(),
     };
-    let seq = core.write(batch, 0, laws).ok().flatten();
+    let seq = core.write(batch, 0, env, laws).ok().flatten();
     first.and(second).and(seq)
 }
 
 // A snapshot behind a commit of two keys, and its sequence.
-fn taken(alloc: Global, core: &mut Core, laws: &Laws<NoExtractor>) -> Option<(Uuid, u64)> {
-    let seq = commit(alloc, core, laws, b"1", Some(b"2"));
+fn taken(
+    alloc: Global,
+    core: &mut Core,
+    env: &mut Parts<'_>,
+    laws: &Laws<NoExtractor>,
+) -> Option<(Uuid, u64)> {
+    let seq = commit(alloc, core, env, laws, b"1", Some(b"2"));
     let opened = core.snapshot().ok();
     seq.and(opened)
 }
@@ -42,7 +48,7 @@ fn taken(alloc: Global, core: &mut Core, laws: &Laws<NoExtractor>) -> Option<(Uu
 fn is_changed(alloc: Global, core: &mut Core, env: &mut Parts<'_>, laws: &Laws<NoExtractor>) -> bool
     requires { IsValid laws.now.options }
 {
-    commit(alloc, core, laws, b"3", None) == Some(2)
+    commit(alloc, core, env, laws, b"3", None) == Some(2)
         && matches!(core.flush(env, laws).ok(), Some(2))
 }
 
@@ -76,7 +82,7 @@ fn reads_on(alloc: Global, store: &mut MemoryStore) -> bool {
         operator: None,
         transformer: None,
     };
-    let read = match taken(alloc, &mut core, &laws) {
+    let read = match taken(alloc, &mut core, &mut env, &laws) {
         Some((id, 1)) => {
             is_changed(alloc, &mut core, &mut env, &laws) && gets(&mut core, &mut env, &laws, &id)
         }

@@ -43,11 +43,11 @@ pub record IsPut (k v : List ℕ) (c : CoreModel) : Type 0 where
   pub state : c.state ≡ written-state ops tracked
   pub runs : runs_of c.events ≡ []
 
-pub put-first : (k v : List ℕ) (before after : CoreModel) (b : BatchModel) (n : Option ℕ) → before.settings ≡ plain-settings → before.state ≡ opening → before.events ≡ [] →
+pub put-first : (m : Meaning) (k v : List ℕ) (before after : CoreModel) (b : BatchModel) (n : Option ℕ) → m.combine ≡ None → before.settings ≡ plain-settings → before.state ≡ opening → before.events ≡ [] →
     b ≡ with_op no_ops k (plain_put v) → op_refusal k (plain_put v) ≡ None →
-    ((m : Meaning) (ops : Ops) → IsBatchOf ops b → AreFine ops → step (rules_of before.settings m) (at (pos 0) before.state) (lines.Write ops) ≡ (at (pos 0) after.state, replies.Written n)) →
+    ((ops : Ops) → IsBatchOf ops b → AreFine ops → step (rules_of before.settings m) (at (pos 0) before.state) (lines.Write ops) ≡ (at (pos 0) after.state, replies.Written n)) →
     IsWritten before after n (pos 0) b.ops → IsPut k v after
-put-first k v before after b n settings state events-are batch fine steps event = record {
+put-first m k v before after b n none settings state events-are batch fine steps event = record {
   ops = b.ops;
   tracked = batch_keys b.ops;
   kept = ap (λ (x : BatchModel). x.ops) batch;
@@ -58,9 +58,9 @@ put-first k v before after b n settings state events-are batch fine steps event 
   where
     stepped : step plain opening (lines.Write (put-op k v)) ≡ (at (pos 0) after.state, replies.Written n)
     stepped =
-        sym (ap (λ (r : Rules). step r (at (pos 0) before.state) (lines.Write (put-op k v))) (rules-are before.settings plain-meaning settings refl)
+        sym (ap (λ (r : Rules). step r (at (pos 0) before.state) (lines.Write (put-op k v))) (rules-are before.settings m settings none)
         ∙ ap (λ (s : State). step plain (at (pos 0) s) (lines.Write (put-op k v))) state)
-        ∙ steps plain-meaning (put-op k v) (subst (IsBatchOf (put-op k v)) (sym batch) (refl, refl)) (fine, tt)
+        ∙ steps (put-op k v) (subst (IsBatchOf (put-op k v)) (sym batch) (refl, refl)) (fine, tt)
 
     is : after ≡ after_write before 1 (pos 0) b.ops after.active after.spare
     is = subst (λ o. IsWritten before after o (pos 0) b.ops) (is-first k v (at (pos 0) after.state) n stepped) event
@@ -87,6 +87,8 @@ none-refused (Some e) result a refused is = absurd (neither result (refused e re
     neither : (r : Result (Unit {0}) SlateDBError) → r ≡ Err e → r ≡ Ok a → ⊥
     neither r h k = cc
 
-pub kept-first : (m before : Meaning) (new put flushed begun : CoreModel) → m ≡ before → ((x : Meaning) → IsKept x new) → ((x : Meaning) → IsKept x new → IsKept x put) →
-    ((x : Meaning) → x.encode ≡ before.encode → IsKept x put → IsKept x flushed) → ((x : Meaning) → IsKept x flushed → IsKept x begun) → IsKept m begun
-kept-first m before new put flushed begun meant made writes flushes begins = begins m (flushes m (ap (λ (x : Meaning). x.encode) meant) (writes m (made m)))
+-- made, written, stored and opened: what is kept of the core; m, between, before: what the parts mean at the get, the flush and the write
+pub kept-first : (m between before : Meaning) (new put flushed begun : CoreModel) → m ≡ between → between ≡ before → ((x : Meaning) → IsKept x new) → (IsKept before new → IsKept before put) →
+    (IsKept between put → IsKept between flushed) → ((x : Meaning) → IsKept x flushed → IsKept x begun) → IsKept m begun
+kept-first m between before new put flushed begun meant same made writes flushes begins =
+    begins m (subst (λ (x : Meaning). IsKept x flushed) (sym meant) (flushes (subst (λ (x : Meaning). IsKept x put) (sym same) (writes (made before)))))

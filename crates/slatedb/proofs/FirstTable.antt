@@ -4,12 +4,12 @@ use Rattle.std.proofs.lemmas.List.{append-nil}
 use Rattle.std.proofs.lemmas.List.Concat.{flat_map-append}
 use Rattle.slate_types.specs.declared.types.Ulid.{Ulid}
 use Rattle.slate_types.specs.Outside.{Objects}
-use Rattle.slate_table.specs.Parts.{Encode}
 use Rattle.slate_txn.specs.declared.event.Event.{Event}
 use Rattle.slate_txn.specs.declared.event.Event.TheVariants as events
 use Rattle.slate_db.specs.Flushed.{IsFlushed, idle, stored, Layout, with_tables}
 use Rattle.slate_db.specs.Frozen.{IsFrozen}
 use Rattle.slate_db.specs.Installs.{ArePlaced, Holds, runs_of, tables_in, tables_of}
+use Rattle.slate_db.specs.Meaning.{Meaning}
 use Rattle.slate_db.specs.Model.{CoreModel}
 use Rattle.slate_db.proofs.PathsApart.{holds_puts}
 use Rattle.slate_db.proofs.Runs.{are_placed}
@@ -31,17 +31,17 @@ still-none old mid none (inr frozen) = ap (λ (c : CoreModel). runs_of c.events)
 no-tables : (es : List Event) → runs_of es ≡ [] → tables_of es ≡ []
 no-tables es none = tables_are es ∙ ap (flat_map (λ (ts : List (Ulid × List ℕ)). ts)) none
 
-pub flushed-first : (encode : Encode) (layout : Layout) (os : Objects) (old mid new : CoreModel) (n : ℕ) (before after : Option Objects) → before ≡ Some os → runs_of old.events ≡ [] →
-    IsFrozen old mid → IsFlushed encode layout mid new n before after → HoldsAfter after new.events
-flushed-first encode layout os old mid new n before after told none frozen (idle empty is same) = record {
+pub flushed-first : (m : Meaning) (layout : Layout) (os : Objects) (old mid new : CoreModel) (n : ℕ) (before after : Option Objects) → before ≡ Some os → runs_of old.events ≡ [] →
+    IsFrozen old mid → IsFlushed m layout mid new n before after → HoldsAfter after new.events
+flushed-first m layout os old mid new n before after told none frozen (idle empty is same) = record {
   os = os;
   is = same ∙ told;
   holds = subst (Holds os) (sym (no-tables new.events (ap (λ (c : CoreModel). runs_of c.events) is ∙ still-none old mid none frozen))) tt;
 }
-flushed-first encode layout os old mid new n before after told none frozen (stored ts is made takes) = record {
+flushed-first m layout os old mid new n before after told none frozen (stored ts is made takes) = record {
   os = with_tables os ts;
   is = subst (λ (o : Option Objects). IfSome o (λ objects. after ≡ Some (with_tables objects ts))) told takes;
-  holds = subst (Holds (with_tables os ts)) (sym tables) (holds_puts os 1 0 [] ts (omega arith) tt (subst (λ (i : ℕ). ArePlaced i 0 ts) first (are_placed encode layout _ 0 made.parts ts made.built)) tt);
+  holds = subst (Holds (with_tables os ts)) (sym tables) (holds_puts os 1 0 [] ts (omega arith) tt (subst (λ (i : ℕ). ArePlaced i 0 ts) first (are_placed m.encode layout _ 0 made.parts ts made.built)) tt);
 }
   where
     before-none : runs_of mid.events ≡ []

@@ -39,7 +39,7 @@ pub fn put_and_get<S: Store>(
     // A batch is one commit, at a moment in milliseconds.
     let mut batch = WriteBatch::new(alloc);
     batch.put(key, value)?;
-    core.write(batch, 0, &laws)?;
+    core.write(batch, 0, &mut env, &laws)?;
     // The rows of all commits so far become a table.
     core.flush(&mut env, &laws)?;
 

@@ -1,7 +1,7 @@
 use Rattle.std.proofs.Common.{[], ◌≡◌, ◌≤◌, ◌++◌, ℕ, List, Option, inl, inr, Err, Some, sym, ap, subst, refl, ◌∙◌, arith}
 use Rattle.slate_types.specs.declared.error.SlateDBError.TheVariants.{ReadFault, WriteFault}
 use Rattle.slate_script.specs.Program.{status}
-use Rattle.slate_script.specs.Run.{script_error}
+use Rattle.slate_script.specs.Run.{run_rules, script_error}
 use Rattle.slate_script.proofs.Statuses.{is-status, is-ended, is-read, is-write, is-store, is-too_long, is-syntax, is-damage, is-part, damage-between, its-own, status-or}
 use Rattle.slate_language.specs.declared.words.Settings.{Settings}
 use Rattle.slate_script.specs.Program.{main_rules, parts_of}
@@ -11,7 +11,7 @@ use Rattle.slate_language.specs.Stage.{meaning}
 use Rattle.slate_script.specs.StoredState.{IsStoredState}
 use Rattle.slate_script.specs.Told.{IsUntrue}
 use Rattle.slate_store.specs.Lines.{lines_of}
-use Rattle.slate_txn.specs.State.{opening}
+use Rattle.slate_txn.specs.State.{Rules, opening}
 use Rattle.slate_types.specs.Faults.{Rose}
 use Rattle.slate_types.specs.Outside.{Objects}
 use Rattle.slate_db.specs.Flushed.{layout_of}
@@ -23,7 +23,7 @@ use Rattle.slate_language.specs.Words.{read_generated}
 use Rattle.slate_language.specs.declared.words.Generated.{Generated}
 use Rattle.slate_script.proofs.Mains.{generated-not-none, one-script, same-generated}
 use Rattle.slate_script.proofs.Statuses.{generated-not, generated-status}
-use Rattle.slate_script.proofs.Mains.{lawful, premises, none-rose, none-rose-before, same-settings, status-or-either, words-are, some-not-none, neither}
+use Rattle.slate_script.proofs.Mains.{lawful, premises, none-rose, rules-are, same-settings, status-or-either, words-are, some-not-none, neither}
 use Rattle.slate_script.proofs.RunEnds.{unless-error}
 use Rattle.slate_script.proofs.program.run_main.Goals as goal
 
@@ -39,16 +39,17 @@ returns-in-Ok g c =
       unstored = λ two. absurd (omega (arith, two));
       answered = (λ s script before named is told empty zero.
           let same : c.in-Some-parse_words.settings ≡ s = same-settings c.parse_words.result c.in-Some-parse_words.settings s c.in-Some-parse_words.is (c.parse_words.ensures.settings ∙ named) in
-          subst (λ (t : Settings). g.W.Sink.content c.run_script-ran.new.sink ≡ Some (before ++ replies (main_rules t.options) script)) same
-          (c.in-Ok.ensures.said script before is told (premises {M = ℕ} (λ _ k e v. v) _ _ empty)).whole);
+          subst (λ (t : Settings). g.W.Sink.content c.run_script-ran.new.sink ≡ Some (before ++ replies (main_rules t) script)) same
+          (subst (λ (r : Rules). g.W.Sink.content c.run_script-ran.new.sink ≡ Some (before ++ replies r script)) (rules-are c.in-Some-parse_words.settings c.transformer_of.result c.transformer_of.ensures)
+          (c.in-Ok.ensures.said script before is told (premises c.in-Some-parse_words.settings.operator c.transformer_of.result _ empty)).whole));
       stored = (λ s script named is empty zero.
           let same : c.in-Some-parse_words.settings ≡ s = same-settings c.parse_words.result c.in-Some-parse_words.settings s c.in-Some-parse_words.is (c.parse_words.ensures.settings ∙ named) in
-          let ends = λ (x : Meaning) (t : Settings) (objects : Option Objects). IsStoredState x (main_rules t.options) (layout_of t.options) objects (after_lines meaning (main_rules t.options) opening (lines_of script)) in
+          let ends = λ (x : Meaning) (t : Settings) (objects : Option Objects). IsStoredState x (main_rules t) (layout_of t.options) objects (after_lines meaning (main_rules t) opening (lines_of script)) in
           let objects = g.S.Store.objects c.run_script-ran.new.env.store.now in
-          subst (λ t. ends (parts_of s.mask) s (g.S.Store.objects t)) (sym (c.store-1.given.1 (sym c.in-Ok.ensures.puts.store)))
-          (subst (λ (t : Settings). ends (parts_of t.mask) t objects) same
-          (subst (λ (x : Meaning). ends x c.in-Some-parse_words.settings objects) (words-are {M = ℕ} (λ _ k e v. v) c.transformer_of.result c.in-Some-parse_words.settings.mask c.transformer_of.ensures)
-          (c.in-Ok.ensures.stored script is (premises {M = ℕ} (λ _ k e v. v) _ _ empty)))));
+          subst (λ t. ends (parts_of s) s (g.S.Store.objects t)) (sym (c.store-1.given.1 (sym c.in-Ok.ensures.puts.store)))
+          (subst (λ (t : Settings). ends (parts_of t) t objects) same
+          (subst (λ (x : Meaning). IsStoredState x (run_rules c.in-Some-parse_words.settings.options x) (layout_of c.in-Some-parse_words.settings.options) objects (after_lines meaning (run_rules c.in-Some-parse_words.settings.options x) opening (lines_of script))) (words-are c.in-Some-parse_words.settings c.transformer_of.result c.transformer_of.ensures)
+          (c.in-Ok.ensures.stored script is (premises c.in-Some-parse_words.settings.operator c.transformer_of.result _ empty)))));
       read = λ script other is zero. (c.in-Ok.ensures.read script is).whole;
       no_error = λ script other is zero. (c.in-Ok.ensures.read script is).no_error;
       syntax = λ script is three. absurd (omega (arith, three));
@@ -84,7 +85,7 @@ pub returns-in-Err : goal.returns-in-Err
 returns-in-Err g c =
     let no-generated : (x : Generated) → read_generated (map string_bytes c.args.words.now) ≡ Some x → ⊥ = λ x named. generated-not-none c.parse_generated.result x (c.parse_generated.ensures.generated ∙ named) c.in_default.is in
     record {
-      statuses = rw c.status_of-status.ensures (is-status c.in-Err.error c.in-Err.ensures.cause.kinds (λ message h. none-rose-before c.run_script-ran.new.env.operator (c.in-Err.ensures.cause.operator_fault message (ap Err h))) (λ h. none-rose c.transformer_of.result c.run_script-ran.new.env.transformer (c.in-Err.ensures.cause.transform_fault (ap Err h))));
+      statuses = rw c.status_of-status.ensures (is-status c.in-Err.error c.in-Err.ensures.cause.kinds (λ message h. none-rose c.in-Some-parse_words.settings.operator c.run_script-ran.new.env.operator (c.in-Err.ensures.cause.operator_fault message (ap Err h))) (λ h. none-rose c.transformer_of.result c.run_script-ran.new.env.transformer (c.in-Err.ensures.cause.transform_fault (ap Err h))));
       unknown = λ none other. absurd (some-not-none c.parse_words.result c.in-Some-parse_words.settings c.in-Some-parse_words.is (c.parse_words.ensures.settings ∙ none));
       known = λ s is two. is-ended c.in-Err.error c.in-Err.ensures.cause.kinds (inr (sym c.status_of-status.ensures ∙ two));
       unread = λ two. absurd (is-ended c.in-Err.error c.in-Err.ensures.cause.kinds (inr (sym c.status_of-status.ensures ∙ two)));
@@ -108,31 +109,35 @@ returns-in-Err g c =
           subst (λ t. Rose (g.S.Store.faults c.args.store.now) (g.S.Store.faults t)) (sym (c.store-1.given.1 (sym c.in-Err.ensures.puts.store))) rose);
       undamaged = (λ s named empty which.
           let within = subst (λ (n : ℕ). (12 ≤ n) × (n ≤ 19)) c.status_of-status.ensures (damage-between c.status_of-status.result which) in
-          c.in-Err.ensures.undamaged (premises {M = ℕ} (λ _ k e v. v) _ _ empty) (is-damage c.in-Err.error c.in-Err.ensures.cause.kinds within.0 within.1));
+          c.in-Err.ensures.undamaged (premises c.in-Some-parse_words.settings.operator c.transformer_of.result _ empty) (is-damage c.in-Err.error c.in-Err.ensures.cause.kinds within.0 within.1));
       untrue = (λ which.
           let within = subst (λ (n : ℕ). (12 ≤ n) × (n ≤ 19)) c.status_of-status.ensures (damage-between c.status_of-status.result which) in
           subst (λ t. IsUntrue [] (g.S.Store.acts c.args.store.now) (g.S.Store.acts t)) (sym (c.store-1.given.1 (sym c.in-Err.ensures.puts.store)))
-          (c.in-Err.ensures.untrue (lawful {M = ℕ} (λ _ k e v. v) _) (is-damage c.in-Err.error c.in-Err.ensures.cause.kinds within.0 within.1)));
+          (c.in-Err.ensures.untrue (lawful c.in-Some-parse_words.settings.operator c.transformer_of.result) (is-damage c.in-Err.error c.in-Err.ensures.cause.kinds within.0 within.1)));
       complete = (λ s script named is formed empty no-read no-write no-store.
-          inr (c.status_of-status.ensures ∙ ap status (c.in-Err.ensures.complete script is formed (premises {M = ℕ} (λ _ k e v. v) _ _ empty) (record { source_still = no-read; sink_still = no-write; store = λ h. no-store (subst (λ t. Rose (g.S.Store.faults c.args.store.now) (g.S.Store.faults t)) (sym (c.store-1.given.1 (sym c.in-Err.ensures.puts.store))) h); operator = none-rose-before c.run_script-ran.new.env.operator; transformer = none-rose c.transformer_of.result c.run_script-ran.new.env.transformer }))));
+          inr (c.status_of-status.ensures ∙ ap status (c.in-Err.ensures.complete script is formed (premises c.in-Some-parse_words.settings.operator c.transformer_of.result _ empty) (record { source_still = no-read; sink_still = no-write; store = λ h. no-store (subst (λ t. Rose (g.S.Store.faults c.args.store.now) (g.S.Store.faults t)) (sym (c.store-1.given.1 (sym c.in-Err.ensures.puts.store))) h); operator = none-rose c.in-Some-parse_words.settings.operator c.run_script-ran.new.env.operator; transformer = none-rose c.transformer_of.result c.run_script-ran.new.env.transformer }))));
       source_still = status-or c.in-Err.error ReadFault c.status_of-status.result _ c.status_of-status.ensures refl c.in-Err.ensures.source_still;
       sink_still = status-or c.in-Err.error WriteFault c.status_of-status.result _ c.status_of-status.ensures refl c.in-Err.ensures.sink_still;
       by_script = (λ s script before named is told empty which.
           let same : c.in-Some-parse_words.settings ≡ s = same-settings c.parse_words.result c.in-Some-parse_words.settings s c.in-Some-parse_words.is (c.parse_words.ensures.settings ∙ named) in
-          subst (λ (t : Settings). g.W.Sink.content c.run_script-ran.new.sink ≡ Some (before ++ replies_to meaning (main_rules t.options) (lines_taken script))) same
-          ((c.in-Err.ensures.said script before is told (premises {M = ℕ} (λ _ k e v. v) _ _ empty)).by_script (its-own (script_error script) c.in-Err.error (c.in-Err.ensures.read script is).error (status-or-either c.status_of-status.ensures which))));
+          subst (λ (t : Settings). g.W.Sink.content c.run_script-ran.new.sink ≡ Some (before ++ replies_to meaning (main_rules t) (lines_taken script))) same
+          (subst (λ (r : Rules). g.W.Sink.content c.run_script-ran.new.sink ≡ Some (before ++ replies_to meaning r (lines_taken script))) (rules-are c.in-Some-parse_words.settings c.transformer_of.result c.transformer_of.ensures)
+          ((c.in-Err.ensures.said script before is told (premises c.in-Some-parse_words.settings.operator c.transformer_of.result _ empty)).by_script (its-own (script_error script) c.in-Err.error (c.in-Err.ensures.read script is).error (status-or-either c.status_of-status.ensures which)))));
       by_source = (λ s script before named is told empty five.
           let same : c.in-Some-parse_words.settings ≡ s = same-settings c.parse_words.result c.in-Some-parse_words.settings s c.in-Some-parse_words.is (c.parse_words.ensures.settings ∙ named) in
-          subst (λ (t : Settings). (left : List ℕ) × (said : List ℕ) × (g.R.Source.left c.run_script-ran.new.source ≡ Some left) × (g.W.Sink.content c.run_script-ran.new.sink ≡ Some (before ++ said)) × HasAnsweredAll (main_rules t.options) script left said) same
-          ((c.in-Err.ensures.said script before is told (premises {M = ℕ} (λ _ k e v. v) _ _ empty)).by_source (ap Err (is-read c.in-Err.error c.in-Err.ensures.cause.kinds (sym c.status_of-status.ensures ∙ five)))));
+          subst (λ (t : Settings). (left : List ℕ) × (said : List ℕ) × (g.R.Source.left c.run_script-ran.new.source ≡ Some left) × (g.W.Sink.content c.run_script-ran.new.sink ≡ Some (before ++ said)) × HasAnsweredAll (main_rules t) script left said) same
+          (subst (λ (r : Rules). (left : List ℕ) × (said : List ℕ) × (g.R.Source.left c.run_script-ran.new.source ≡ Some left) × (g.W.Sink.content c.run_script-ran.new.sink ≡ Some (before ++ said)) × HasAnsweredAll r script left said) (rules-are c.in-Some-parse_words.settings c.transformer_of.result c.transformer_of.ensures)
+          ((c.in-Err.ensures.said script before is told (premises c.in-Some-parse_words.settings.operator c.transformer_of.result _ empty)).by_source (ap Err (is-read c.in-Err.error c.in-Err.ensures.cause.kinds (sym c.status_of-status.ensures ∙ five))))));
       by_sink = (λ s script before named is told empty six.
           let same : c.in-Some-parse_words.settings ≡ s = same-settings c.parse_words.result c.in-Some-parse_words.settings s c.in-Some-parse_words.is (c.parse_words.ensures.settings ∙ named) in
-          subst (λ (t : Settings). (said : List ℕ) × (g.W.Sink.content c.run_script-ran.new.sink ≡ Some (before ++ said)) × HasBegun (main_rules t.options) script said) same
-          ((c.in-Err.ensures.said script before is told (premises {M = ℕ} (λ _ k e v. v) _ _ empty)).by_sink (ap Err (is-write c.in-Err.error c.in-Err.ensures.cause.kinds (sym c.status_of-status.ensures ∙ six)))));
+          subst (λ (t : Settings). (said : List ℕ) × (g.W.Sink.content c.run_script-ran.new.sink ≡ Some (before ++ said)) × HasBegun (main_rules t) script said) same
+          (subst (λ (r : Rules). (said : List ℕ) × (g.W.Sink.content c.run_script-ran.new.sink ≡ Some (before ++ said)) × HasBegun r script said) (rules-are c.in-Some-parse_words.settings c.transformer_of.result c.transformer_of.ensures)
+          ((c.in-Err.ensures.said script before is told (premises c.in-Some-parse_words.settings.operator c.transformer_of.result _ empty)).by_sink (ap Err (is-write c.in-Err.error c.in-Err.ensures.cause.kinds (sym c.status_of-status.ensures ∙ six))))));
       by_part = (λ s script before named is told empty which.
           let same : c.in-Some-parse_words.settings ≡ s = same-settings c.parse_words.result c.in-Some-parse_words.settings s c.in-Some-parse_words.is (c.parse_words.ensures.settings ∙ named) in
-          subst (λ (t : Settings). (said : List ℕ) × (g.W.Sink.content c.run_script-ran.new.sink ≡ Some (before ++ said)) × HasAnswered (main_rules t.options) script said) same
-          ((c.in-Err.ensures.said script before is told (premises {M = ℕ} (λ _ k e v. v) _ _ empty)).by_part (is-part c.in-Err.error c.in-Err.ensures.cause.kinds (status-or-either c.status_of-status.ensures which))));
+          subst (λ (t : Settings). (said : List ℕ) × (g.W.Sink.content c.run_script-ran.new.sink ≡ Some (before ++ said)) × HasAnswered (main_rules t) script said) same
+          (subst (λ (r : Rules). (said : List ℕ) × (g.W.Sink.content c.run_script-ran.new.sink ≡ Some (before ++ said)) × HasAnswered r script said) (rules-are c.in-Some-parse_words.settings c.transformer_of.result c.transformer_of.ensures)
+          ((c.in-Err.ensures.said script before is told (premises c.in-Some-parse_words.settings.operator c.transformer_of.result _ empty)).by_part (is-part c.in-Err.error c.in-Err.ensures.cause.kinds (status-or-either c.status_of-status.ensures which)))));
       all = λ script is four. (c.in-Err.ensures.read script is).too_long (ap Err (is-too_long c.in-Err.error c.in-Err.ensures.cause.kinds (sym c.status_of-status.ensures ∙ four)));
       taken = λ script is. (c.run_script-ran.ensures.read script is).taken;
       later = c.run_script-ran.ensures.later;
@@ -223,16 +228,16 @@ returns-in-Some g c =
       taken = λ script is. (0, omega arith, is);
       later = (omega arith, c.main_generated.ensures.later);
       summed = (λ x before named told empty zero.
-          subst (λ (y : Generated). g.W.Sink.content c.main_generated.new.sink ≡ Some (before ++ summary (main_rules y.settings.options) (generate y.rounds y.seed))) (same x named) (c.main_generated.ensures.summed before told empty zero));
+          subst (λ (y : Generated). g.W.Sink.content c.main_generated.new.sink ≡ Some (before ++ summary (main_rules y.settings) (generate y.rounds y.seed))) (same x named) (c.main_generated.ensures.summed before told empty zero));
       summed_stored = (λ x named empty zero.
-          subst (λ (y : Generated). IsStoredState (parts_of y.settings.mask) (main_rules y.settings.options) (layout_of y.settings.options) (g.S.Store.objects c.main_generated.new.store) (after_lines meaning (main_rules y.settings.options) opening (lines_of (generate y.rounds y.seed)))) (same x named)
+          subst (λ (y : Generated). IsStoredState (parts_of y.settings) (main_rules y.settings) (layout_of y.settings.options) (g.S.Store.objects c.main_generated.new.store) (after_lines meaning (main_rules y.settings) opening (lines_of (generate y.rounds y.seed)))) (same x named)
           (c.main_generated.ensures.stored empty zero));
       summed_kinds = λ x named. own;
       summed_alone = λ x named. refl;
       summed_undamaged = λ x named. c.main_generated.ensures.undamaged;
       summed_complete = λ x named. c.main_generated.ensures.complete;
       summed_begun = (λ x before named told empty six.
-          subst (λ (y : Generated). (n : ℕ) × (n < length (summary (main_rules y.settings.options) (generate y.rounds y.seed))) × (g.W.Sink.content c.main_generated.new.sink ≡ Some (before ++ take n (summary (main_rules y.settings.options) (generate y.rounds y.seed))))) (same x named)
+          subst (λ (y : Generated). (n : ℕ) × (n < length (summary (main_rules y.settings) (generate y.rounds y.seed))) × (g.W.Sink.content c.main_generated.new.sink ≡ Some (before ++ take n (summary (main_rules y.settings) (generate y.rounds y.seed))))) (same x named)
           (c.main_generated.ensures.begun before told empty six));
       summed_unwritten = λ x named. c.main_generated.ensures.unwritten;
     }

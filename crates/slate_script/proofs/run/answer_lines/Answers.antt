@@ -20,6 +20,7 @@ use Rattle.slate_script.proofs.TablesAlone.{begins-alone, stored-state}
 use Rattle.slate_script.proofs.RunEnds.{LineError, unless-error, is-no-error, rose-from, line-cause, no-part, only-memory, store-rose, operator-rose, transformer-rose, reader-no-part, reader-not-write, reader-undamaged, reader-error, reader-complete, reader-kinds, reader-read, reader-full, line-not-long, line-not-read, line-kinds, line-read, line-complete, untouched, reader-script, reader-source, reader-memory, line-error, line-script, line-sink, line-memory, end-there, end-read, end-answered, end-formed, end-no_error}
 use Rattle.slate_types.specs.Outside.{Objects}
 use Rattle.slate_db.specs.Meaning.{Meaning}
+use Rattle.slate_db.specs.Sound.{IsKept}
 use Rattle.slate_script.specs.Session.{IsSettled}
 use Rattle.slate_script.specs.Told.{Follows, IsUntrue, PutsTables}
 use Rattle.slate_script.proofs.ToldLaws.{follows-itself, follows-on, shown-at-end, stores-itself, stores-on, untrue-on}
@@ -49,6 +50,7 @@ loop-line-init g c = record {
   weighs = omega (arith, c.new-session.ensures.holds.0);
   loads = omega (arith, c.new-session.ensures.holds.1);
   running = λ premises. begins (meaning_of g.M.MergeOperator.combine g.T.BlockTransformer.encoded g.T.BlockTransformer.decoded c.args.env.now.operator c.args.env.now.transformer) c.args.laws.now.options (g.S.Store.objects c.args.env.now.store.now) c.new-session.result premises c.new-session.ensures.settings c.new-session.ensures.events c.new-session.ensures.kept;
+  kept = c.new-session.ensures.kept (meaning_of g.M.MergeOperator.combine g.T.BlockTransformer.encoded g.T.BlockTransformer.decoded c.args.env.now.operator c.args.env.now.transformer);
   alone = λ premises. begins-alone (meaning_of g.M.MergeOperator.combine g.T.BlockTransformer.encoded g.T.BlockTransformer.decoded c.args.env.now.operator c.args.env.now.transformer) (layout_of c.args.laws.now.options) (g.S.Store.objects c.args.env.now.store.now) c.new-session.result premises.empty c.new-session.ensures.events;
   followed = λ lawful. follows-itself (meaning_of g.M.MergeOperator.combine g.T.BlockTransformer.encoded g.T.BlockTransformer.decoded c.args.env.now.operator c.args.env.now.transformer) [] c.new-session.result (g.S.Store.acts c.args.env.now.store.now)
       (begins (meaning_of g.M.MergeOperator.combine g.T.BlockTransformer.encoded g.T.BlockTransformer.decoded c.args.env.now.operator c.args.env.now.transformer) c.args.laws.now.options (Some []) c.new-session.result (record { lawful = lawful; empty = refl }) c.new-session.ensures.settings c.new-session.ensures.events c.new-session.ensures.kept).settled;
@@ -191,7 +193,8 @@ returns-in-Err-answer_line g c =
       untrue = (λ lawful.
           (λ damage. untrue-on (meaning_of g.M.MergeOperator.combine g.T.BlockTransformer.encoded g.T.BlockTransformer.decoded c.args.env.now.operator c.args.env.now.transformer) c.loop-line.session (g.S.Store.acts c.args.env.now.store.now) (g.S.Store.acts c.loop-line.env.store.now) (g.S.Store.acts c.answer_line.new.env.store.now) (c.loop-line.invariant.followed lawful)
           (subst (λ (m : Meaning). (os : Objects) → IsSettled m (Some os) c.loop-line.session → IsUntrue os (g.S.Store.acts c.loop-line.env.store.now) (g.S.Store.acts c.answer_line.new.env.store.now)) c.loop-line.invariant.puts.meaning (λ os settled. c.in-Err-answer_line.ensures.untrue os settled damage))));
-      shown = λ damage. shown-at-end _ _ _ c.loop-line.session.core c.in-Err-answer_line.error c.loop-line.invariant.puts.meaning c.loop-line.invariant.stored (c.in-Err-answer_line.ensures.shown damage);
+      shown = λ damage. shown-at-end _ _ _ c.loop-line.session.core c.in-Err-answer_line.error c.loop-line.invariant.puts.meaning c.loop-line.invariant.stored 
+          (c.in-Err-answer_line.ensures.shown (subst (λ (x : Meaning). IsKept x c.loop-line.session.core) (sym c.loop-line.invariant.puts.meaning) c.loop-line.invariant.kept) damage);
       complete = (λ script is formed premises none.
           let took = took-told (λ v. v.items) c.in-Ok-Some.field-0 c.in-Ok-Some.line c.as_slice.result.now (g.R.Source.left c.next.new.source) c.next.new.self c.in-Ok-Some.ensures.told c.in-Ok-Some.ensures.within c.in-Ok-Some.field-0-is c.as_slice.ensures.value (c.loop-line.invariant.told script is) in
           let by = line-error c.in-Err-answer_line.error took (its-cause g c) in
@@ -226,6 +229,8 @@ loop-line-preserved g c = record {
       let line : length c.as_slice.result.now ≡ length c.in-Ok-Some.line.items = ap length c.as_slice.ensures.value in
       omega (arith, c.in-Ok.ensures.grows.1, c.loop-line.invariant.loads, taken, line);
   running = λ premises. c.in-Ok.ensures.running (meaning_of g.M.MergeOperator.combine g.T.BlockTransformer.encoded g.T.BlockTransformer.decoded c.args.env.now.operator c.args.env.now.transformer) (run_rules c.args.laws.now.options (meaning_of g.M.MergeOperator.combine g.T.BlockTransformer.encoded g.T.BlockTransformer.decoded c.args.env.now.operator c.args.env.now.transformer)) (c.loop-line.invariant.running premises);
+  kept = subst (λ (x : Meaning). IsKept x c.answer_line.new.session.core) c.loop-line.invariant.puts.meaning
+      (c.in-Ok.ensures.core_kept (subst (λ (x : Meaning). IsKept x c.loop-line.session.core) (sym c.loop-line.invariant.puts.meaning) c.loop-line.invariant.kept));
   alone = λ premises. c.in-Ok.ensures.alone (meaning_of g.M.MergeOperator.combine g.T.BlockTransformer.encoded g.T.BlockTransformer.decoded c.args.env.now.operator c.args.env.now.transformer) (run_rules c.args.laws.now.options (meaning_of g.M.MergeOperator.combine g.T.BlockTransformer.encoded g.T.BlockTransformer.decoded c.args.env.now.operator c.args.env.now.transformer)) (c.loop-line.invariant.running premises) (c.loop-line.invariant.alone premises);
   followed = λ lawful. follows-on (meaning_of g.M.MergeOperator.combine g.T.BlockTransformer.encoded g.T.BlockTransformer.decoded c.args.env.now.operator c.args.env.now.transformer) c.loop-line.session c.answer_line.new.session (g.S.Store.acts c.args.env.now.store.now) (g.S.Store.acts c.loop-line.env.store.now) (g.S.Store.acts c.answer_line.new.env.store.now) (c.loop-line.invariant.followed lawful)
       (subst (λ (m : Meaning). (os : Objects) → IsSettled m (Some os) c.loop-line.session → Follows m os c.answer_line.new.session (g.S.Store.acts c.loop-line.env.store.now) (g.S.Store.acts c.answer_line.new.env.store.now)) c.loop-line.invariant.puts.meaning c.in-Ok.ensures.follows);

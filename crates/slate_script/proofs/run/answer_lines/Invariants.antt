@@ -6,6 +6,7 @@ use Rattle.slate_db.specs.Flushed.{layout_of}
 use Rattle.slate_db.specs.Installs.{runs_of, tables_of}
 use Rattle.slate_db.specs.Load.{weight}
 use Rattle.slate_db.specs.Meaning.{IsLawfulMeaning}
+use Rattle.slate_db.specs.Sound.{IsKept}
 use Rattle.slate_script.specs.Run.{run_rules, Premises}
 use Rattle.slate_script.specs.Session.{HasTablesAlone, IsRunning, held_load}
 use Rattle.slate_script.specs.Told.{Follows, PutsTables}
@@ -29,6 +30,7 @@ invariant-loop-line g l =
           → IsRunning before.meaning
           (run_rules l.laws.options before.meaning)
           now.meaning now.objects l.session;
+      kept : IsKept before.meaning l.session.core;
       alone : Premises before.meaning before.objects
           → HasTablesAlone before.meaning
           (layout_of l.laws.options) now.objects (runs_of l.session.core.events);

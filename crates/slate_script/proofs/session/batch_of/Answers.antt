@@ -1,9 +1,8 @@
-use Rattle.std.proofs.Common.{◌≡◌, true, ◌∷◌, [], List, length, refl, sym, subst, ◌∙◌, arith, rules}
+use Rattle.std.proofs.Common.{◌≡◌, ◌∷◌, [], List, length, refl, sym, subst, ◌∙◌, arith, rules}
 use Rattle.std.specs.Vec.Iter.{into_iter_items}
 use Rattle.std.proofs.lemmas.Result.{err_from_is_err_and, IfOk-from_err}
 use Rattle.slate_mem.specs.Batch.{Ops}
-use Rattle.slate_language.specs.Stage.{is_built_batch}
-use Rattle.slate_script.proofs.SessionBatch.{Batched, batched-none, batched-more, batched-refused, batched-all, fine-all, next-plain, plain-all, or-refused}
+use Rattle.slate_script.proofs.SessionBatch.{Batched, batched-none, batched-more, batched-refused, batched-all, fine-all, or-refused}
 use Rattle.slate_script.proofs.session.batch_of.Goals as goal
 
 nothing_left : {X : Type 0} (l : List X) → length l ≡ 0 → l ≡ []
@@ -15,7 +14,6 @@ returns-in_err-add c =
     let p = err_from_is_err_and c.from_residual.result c.from_residual.ensures.1 in
     record {
       batch = IfOk-from_err c.from_residual.result _ c.from_residual.ensures.0;
-      plain = IfOk-from_err c.from_residual.result _ c.from_residual.ensures.0;
       fine = IfOk-from_err c.from_residual.result _ c.from_residual.ensures.0;
       refused = (let all : into_iter_items c.into_iter-key-iterator.result ≡ c.args.ops = c.into_iter-key-iterator.ensures.into_iter_gives.0 ∙ c.into_vec-key-items.ensures in
           let steps : into_iter_items c.loop-key.key-iterator ≡ (c.in-Some.key, c.in-Some.op) ∷ into_iter_items c.next.new.self = c.in-Some.ensures.steps.0 in
@@ -31,10 +29,6 @@ returns c =
           let empty : into_iter_items c.loop-key.key-iterator ≡ [] = nothing_left _ (sym c.loop-key.invariant.1 ∙ c.in-None.ensures.steps.0) in
           let at : Batched c.args.ops [] c.loop-key.batch = subst (λ (r : Ops). Batched c.args.ops r c.loop-key.batch) empty (subst (λ (os : Ops). Batched os (into_iter_items c.loop-key.key-iterator) c.loop-key.batch) all c.loop-key.invariant.0) in
           batched-all c.args.ops c.loop-key.batch at);
-      plain = (let all : into_iter_items c.into_iter-key-iterator.result ≡ c.args.ops = c.into_iter-key-iterator.ensures.into_iter_gives.0 ∙ c.into_vec-key-items.ensures in
-          let empty : into_iter_items c.loop-key.key-iterator ≡ [] = nothing_left _ (sym c.loop-key.invariant.1 ∙ c.in-None.ensures.steps.0) in
-          let at : Batched c.args.ops [] c.loop-key.batch = subst (λ (r : Ops). Batched c.args.ops r c.loop-key.batch) empty (subst (λ (os : Ops). Batched os (into_iter_items c.loop-key.key-iterator) c.loop-key.batch) all c.loop-key.invariant.0) in
-          plain-all c.args.ops c.loop-key.batch c.requires (batched-all c.args.ops c.loop-key.batch at));
       fine = (let all : into_iter_items c.into_iter-key-iterator.result ≡ c.args.ops = c.into_iter-key-iterator.ensures.into_iter_gives.0 ∙ c.into_vec-key-items.ensures in
           let empty : into_iter_items c.loop-key.key-iterator ≡ [] = nothing_left _ (sym c.loop-key.invariant.1 ∙ c.in-None.ensures.steps.0) in
           let at : Batched c.args.ops [] c.loop-key.batch = subst (λ (r : Ops). Batched c.args.ops r c.loop-key.batch) empty (subst (λ (os : Ops). Batched os (into_iter_items c.loop-key.key-iterator) c.loop-key.batch) all c.loop-key.invariant.0) in
@@ -43,15 +37,7 @@ returns c =
     }
 
 pub loop-key-init : goal.loop-key-init
-loop-key-init c =
-    let all : into_iter_items c.into_iter-key-iterator.result ≡ c.args.ops = c.into_iter-key-iterator.ensures.into_iter_gives.0 ∙ c.into_vec-key-items.ensures in
-    (batched-none (into_iter_items c.into_iter-key-iterator.result) c.new-batch.result c.new-batch.ensures (subst (λ (os : Ops). is_built_batch os ≡ true) (sym all) c.requires), search rules)
-
-pub add-requires : goal.add-requires
-add-requires c =
-    let steps : into_iter_items c.loop-key.key-iterator ≡ (c.in-Some.key, c.in-Some.op) ∷ into_iter_items c.next.new.self = c.in-Some.ensures.steps.0 in
-    next-plain (into_iter_items c.into_iter-key-iterator.result) (into_iter_items c.next.new.self) c.in-Some.key c.in-Some.op c.loop-key.batch
-    (subst (λ (r : Ops). Batched (into_iter_items c.into_iter-key-iterator.result) r c.loop-key.batch) steps c.loop-key.invariant.0)
+loop-key-init c = (batched-none (into_iter_items c.into_iter-key-iterator.result) c.new-batch.result c.new-batch.ensures, search rules)
 
 pub loop-key-preserved : goal.loop-key-preserved
 loop-key-preserved c =

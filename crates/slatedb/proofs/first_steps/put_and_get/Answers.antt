@@ -13,7 +13,7 @@ use Rattle.slatedb.proofs.first_steps.put_and_get.Goals as goal
 
 pub get-requires-after_bounds : goal.get-requires-after_bounds
 get-requires-after_bounds g c κs within =
-    let p = put-first c.args.key.now c.args.value.now c.new-core.result c.write.new.self c.put.new.self c.in_ok-write.field-0
+    let p = put-first _ c.args.key.now c.args.value.now c.new-core.result c.write.new.self c.put.new.self c.in_ok-write.field-0 refl
     (c.new-core.ensures.settings ∙ ap settings_of c.new.ensures) c.new-core.ensures.state c.new-core.ensures.journal
     (c.in_ok-put.ensures.taken ∙ ap (λ (b : BatchModel). with_op b c.args.key.now (plain_put c.args.value.now)) c.new-batch.ensures)
     (none-refused (op_refusal c.args.key.now (plain_put c.args.value.now)) c.put.result c.in_ok-put.field-0 c.put.ensures.refused c.in_ok-put.was)
@@ -24,7 +24,7 @@ get-requires-after_bounds g c κs within =
 
 pub rollback-requires : goal.rollback-requires
 rollback-requires g c =
-    let p = put-first c.args.key.now c.args.value.now c.new-core.result c.write.new.self c.put.new.self c.in_ok-write.field-0
+    let p = put-first _ c.args.key.now c.args.value.now c.new-core.result c.write.new.self c.put.new.self c.in_ok-write.field-0 refl
     (c.new-core.ensures.settings ∙ ap settings_of c.new.ensures) c.new-core.ensures.state c.new-core.ensures.journal
     (c.in_ok-put.ensures.taken ∙ ap (λ (b : BatchModel). with_op b c.args.key.now (plain_put c.args.value.now)) c.new-batch.ensures)
     (none-refused (op_refusal c.args.key.now (plain_put c.args.value.now)) c.put.result c.in_ok-put.field-0 c.put.ensures.refused c.in_ok-put.was)
@@ -36,7 +36,7 @@ rollback-requires g c =
 
 pub returns : goal.returns
 returns g c =
-    let p = put-first c.args.key.now c.args.value.now c.new-core.result c.write.new.self c.put.new.self c.in_ok-write.field-0
+    let p = put-first _ c.args.key.now c.args.value.now c.new-core.result c.write.new.self c.put.new.self c.in_ok-write.field-0 refl
     (c.new-core.ensures.settings ∙ ap settings_of c.new.ensures) c.new-core.ensures.state c.new-core.ensures.journal
     (c.in_ok-put.ensures.taken ∙ ap (λ (b : BatchModel). with_op b c.args.key.now (plain_put c.args.value.now)) c.new-batch.ensures)
     (none-refused (op_refusal c.args.key.now (plain_put c.args.value.now)) c.put.result c.in_ok-put.field-0 c.put.ensures.refused c.in_ok-put.was)
@@ -44,17 +44,18 @@ returns g c =
     let opened = opened-first c.args.key.now c.args.value.now c.in_ok-reader.reader Snapshot c.write.new.self c.flush.new.self c.begin.new.self c.in_ok-flush.field-0 c.in_ok-reader._start p
     c.flush.ensures.settings c.in_ok-flush.ensures.step c.in_ok-reader.ensures.step in
     let meant = c.flush.ensures.puts.meaning in
+    let same = c.write.ensures.reads.meaning in
     record {
       found = (λ os told.
           let table = flushed-first _ _ os c.write.new.self c.in_ok-flush.ensures.installed.0 c.flush.new.self c.in_ok-flush.field-0 _ _ told p.runs c.in_ok-flush.ensures.installed.1 c.in_ok-flush.ensures.installed.2 in
           finds-first c.args.key.now c.args.value.now c.in_ok-reader.reader Snapshot c.write.new.self c.begin.new.self c.get.new.self.state c.in_ok-found.found _ _ p
           (ap (λ (x : CoreModel). x.settings) c.in_ok-reader.ensures.event ∙ c.flush.ensures.settings)
-          meant refl opened
+          (meant ∙ same) refl opened
           (c.in_ok-found.ensures.read.answer (record {
             os = table.os;
             readable = record {
-              lawful = lawful-without _ _ _ meant (λ d. refl);
-              kept = kept-first _ _ c.new-core.result c.write.new.self c.flush.new.self c.begin.new.self meant c.new-core.ensures.kept c.in_ok-write.ensures.kept c.flush.ensures.kept c.in_ok-reader.ensures.kept;
+              lawful = lawful-without _ _ _ (meant ∙ same) (λ d. refl);
+              kept = kept-first _ _ _ c.new-core.result c.write.new.self c.flush.new.self c.begin.new.self meant same c.new-core.ensures.kept c.in_ok-write.ensures.kept c.flush.ensures.kept c.in_ok-reader.ensures.kept;
               holds = subst (Holds table.os) (sym (ap (λ (x : CoreModel). tables_of x.events) c.in_ok-reader.ensures.event ∙ none-more c.flush.new.self.events _ refl)) table.holds;
             };
             answers = inl table.is;

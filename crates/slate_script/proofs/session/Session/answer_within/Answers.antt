@@ -10,7 +10,7 @@ use Rattle.slate_script.proofs.SessionSteps.{now-set, given-moment}
 use Rattle.slate_script.proofs.session.Session.answer_within.Goals as goal
 
 pub returns-in-Now : goal.returns-in-Now
-returns-in-Now g c =
+returns-in-Now c =
     record {
       step = (λ m.
           let before : SessionModel = record { core = c.self.inside.core; names = c.self.inside.names.entries; snapshot_names = c.self.inside.snapshot_names.entries; now = c.self.inside.now } in
@@ -19,11 +19,11 @@ returns-in-Now g c =
           (subst (λ (line : Line). AnswersAs m c.args.self.now (record before { now = c.in-Now.moment }) line (Ok (answers.NowIs c.in-Now.moment))) (sym c.in-Now.is)
           (subst (λ (v : SessionModel). AnswersAs m v (record before { now = c.in-Now.moment }) (lines.Now c.in-Now.moment) (Ok (answers.NowIs c.in-Now.moment))) c.self.view_is (now-set m before c.in-Now.moment))));
       stores = (let same : length c.self.inside.core.events ≡ length c.args.self.now.core.events = ap (λ (v : SessionModel). length v.core.events) c.self.view_is in
-          record {
+          λ m. record {
             settings = ap (λ (v : SessionModel). v.core.settings) c.self.view_is;
             runs = ap (λ (v : SessionModel). runs_of v.core.events) c.self.view_is;
             later = omega (arith, same);
-            kept = λ m k. subst (λ (v : SessionModel). IsKept m v.core) (sym c.self.view_is) k;
+            kept = λ k. subst (λ (v : SessionModel). IsKept m v.core) (sym c.self.view_is) k;
           });
       grows = (let before : SessionModel = record { core = c.self.inside.core; names = c.self.inside.names.entries; snapshot_names = c.self.inside.snapshot_names.entries; now = c.self.inside.now } in
           subst (λ (v : SessionModel). Grows c.args.line v before) c.self.view_is (omega arith, omega arith));
@@ -31,7 +31,7 @@ returns-in-Now g c =
     }
 
 pub returns-in-Begin : goal.returns-in-Begin
-returns-in-Begin g c =
+returns-in-Begin c =
     record {
       step = λ m. subst (λ (line : Line). AnswersAs m c.args.self.now c.begin.new.self line c.begin.result) (sym c.in-Begin.is) (c.begin.ensures.step m);
       stores = c.begin.ensures.stores;
@@ -40,7 +40,7 @@ returns-in-Begin g c =
     }
 
 pub returns-in-Snapshot : goal.returns-in-Snapshot
-returns-in-Snapshot g c =
+returns-in-Snapshot c =
     record {
       step = λ m. subst (λ (line : Line). AnswersAs m c.args.self.now c.snapshot.new.self line c.snapshot.result) (sym c.in-Snapshot.is) (c.snapshot.ensures.step m);
       stores = c.snapshot.ensures.stores;
@@ -48,17 +48,8 @@ returns-in-Snapshot g c =
       cause = c.snapshot.ensures.cause;
     }
 
-pub returns-in-Write : goal.returns-in-Write
-returns-in-Write g c =
-    record {
-      step = λ m. subst (λ (line : Line). AnswersAs m c.args.self.now c.write.new.self line c.write.result) (sym c.in-Write.is) (c.write.ensures.step m);
-      stores = c.write.ensures.stores;
-      grows = subst (λ (line : Line). OnOk c.write.result (Grows line c.args.self.now c.write.new.self)) (sym c.in-Write.is) c.write.ensures.grows;
-      cause = c.write.ensures.cause;
-    }
-
 pub returns-in-Freeze : goal.returns-in-Freeze
-returns-in-Freeze g c =
+returns-in-Freeze c =
     record {
       step = λ m. subst (λ (line : Line). AnswersAs m c.args.self.now c.freeze.new.self line c.freeze.result) (sym c.in-Freeze.is) (c.freeze.ensures.step m);
       stores = c.freeze.ensures.stores;
@@ -67,7 +58,7 @@ returns-in-Freeze g c =
     }
 
 pub returns-in-Rollback : goal.returns-in-Rollback
-returns-in-Rollback g c =
+returns-in-Rollback c =
     record {
       step = λ m. subst (λ (line : Line). AnswersAs m c.args.self.now c.rollback.new.self line (Ok c.rollback.result)) (sym c.in-Rollback.is) (c.rollback.ensures.step m);
       stores = c.rollback.ensures.stores;
@@ -76,7 +67,7 @@ returns-in-Rollback g c =
     }
 
 pub returns-in-Put : goal.returns-in-Put
-returns-in-Put g c =
+returns-in-Put c =
     record {
       step = λ m. subst (λ (line : Line). AnswersAs m c.args.self.now c.put.new.self line c.put.result) (sym c.in-Put.is) (c.put.ensures.step m);
       stores = c.put.ensures.stores;
@@ -85,7 +76,7 @@ returns-in-Put g c =
     }
 
 pub returns-in-Delete : goal.returns-in-Delete
-returns-in-Delete g c =
+returns-in-Delete c =
     record {
       step = λ m. subst (λ (line : Line). AnswersAs m c.args.self.now c.delete.new.self line c.delete.result) (sym c.in-Delete.is) (c.delete.ensures.step m);
       stores = c.delete.ensures.stores;
@@ -94,7 +85,7 @@ returns-in-Delete g c =
     }
 
 pub returns-in-Mark : goal.returns-in-Mark
-returns-in-Mark g c =
+returns-in-Mark c =
     record {
       step = λ m. subst (λ (line : Line). AnswersAs m c.args.self.now c.mark.new.self line c.mark.result) (sym c.in-Mark.is) (c.mark.ensures.step m);
       stores = c.mark.ensures.stores;
@@ -103,7 +94,7 @@ returns-in-Mark g c =
     }
 
 pub returns-in-Unmark : goal.returns-in-Unmark
-returns-in-Unmark g c =
+returns-in-Unmark c =
     record {
       step = λ m. subst (λ (line : Line). AnswersAs m c.args.self.now c.unmark.new.self line c.unmark.result) (sym c.in-Unmark.is) (c.unmark.ensures.step m);
       stores = c.unmark.ensures.stores;
@@ -111,14 +102,5 @@ returns-in-Unmark g c =
       cause = c.unmark.ensures.cause;
     }
 
-pub returns-in-Commit : goal.returns-in-Commit
-returns-in-Commit g c =
-    record {
-      step = λ m. subst (λ (line : Line). AnswersAs m c.args.self.now c.commit.new.self line c.commit.result) (sym c.in-Commit.is) (c.commit.ensures.step m);
-      stores = c.commit.ensures.stores;
-      grows = subst (λ (line : Line). OnOk c.commit.result (Grows line c.args.self.now c.commit.new.self)) (sym c.in-Commit.is) c.commit.ensures.grows;
-      cause = c.commit.ensures.cause;
-    }
-
 pub returns-in-Journal-clause-step : goal.returns-in-Journal-clause-step
-returns-in-Journal-clause-step g c m = subst (λ (line : Line). AnswersAs m c.args.self.now c.args.self.now line c.journal.result) (sym c.in-Journal.is) (c.journal.ensures.step m)
+returns-in-Journal-clause-step c m = subst (λ (line : Line). AnswersAs m c.args.self.now c.args.self.now line c.journal.result) (sym c.in-Journal.is) (c.journal.ensures.step m)

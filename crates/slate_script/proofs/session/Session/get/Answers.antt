@@ -26,7 +26,7 @@ returns-in_default g c =
       step = (λ is.
           let m = meaning_of g.M.MergeOperator.combine g.T.BlockTransformer.encoded g.T.BlockTransformer.decoded c.args.env.now.operator c.args.env.now.transformer in
           get-refused m c.args.self.now c.args.name c.args.key c.reader_id.result c.reader_id.ensures.reads c.in_default.is);
-      stores = record { settings = refl; runs = refl; later = omega arith; kept = λ m k. k };
+      stores = λ m. record { settings = refl; runs = refl; later = omega arith; kept = λ k. k };
       grows = (omega arith, omega arith);
       cause = tt;
       undamaged = λ is. tt;
@@ -59,8 +59,8 @@ returns g c =
           (subst (λ (k : List ℕ). ◌≡◌ {A = State × Reply} (step (rules_of c.self.inside.core.settings m) c.self.inside.core.state (lines.Get c.in-Some.id k)) (c.get-read.new.self.state, replies.Found c.in_ok-row.row)) c.as_slice.ensures stepped)));
       stores = (let before : SessionModel = record { core = c.self.inside.core; names = c.self.inside.names.entries; snapshot_names = c.self.inside.snapshot_names.entries; now = c.self.inside.now } in
           let same : length c.get-read.new.self.events ≡ length c.self.inside.core.events = ap (λ (v : CoreModel). length v.events) c.in_ok-row.ensures.noted in
-          subst (λ (v : SessionModel). StoresNothing v (record before { core = c.get-read.new.self })) c.self.view_is
-          (record { settings = c.get-read.ensures.settings; runs = ap (λ (v : CoreModel). runs_of v.events) c.in_ok-row.ensures.noted; later = omega (arith, same); kept = c.get-read.ensures.kept }));
+          subst (λ (v : SessionModel). (m : Meaning) → StoresNothing m v (record before { core = c.get-read.new.self })) c.self.view_is
+          (λ m. record { settings = c.get-read.ensures.settings; runs = ap (λ (v : CoreModel). runs_of v.events) c.in_ok-row.ensures.noted; later = omega (arith, same); kept = c.get-read.ensures.kept m }));
       grows = (let before : SessionModel = record { core = c.self.inside.core; names = c.self.inside.names.entries; snapshot_names = c.self.inside.snapshot_names.entries; now = c.self.inside.now } in
           subst (λ (v : SessionModel). Grows (lines.Get c.args.name c.args.key) v (record before { core = c.get-read.new.self })) c.self.view_is
           (grows before c.get-read.new.self before.names before.snapshot_names before.now (lines.Get c.args.name c.args.key) 0 (omega arith)

@@ -27,11 +27,11 @@ returns-in_default c =
           (subst (λ (ns : List (List ℕ × List ℕ)). AnswersAs m before (record before { snapshot_names = ns }) (lines.Rollback c.args.name) (Ok (answers.Refused (errors.UnknownTransaction c.args.name)))) (sym c.in_default.ensures.unchanged)
           (rollback-refused m before c.args.name none unshown)));
       stores = (let same : length c.self.inside.core.events ≡ length c.args.self.now.core.events = ap (λ (v : SessionModel). length v.core.events) c.self.view_is in
-          record {
+          λ m. record {
             settings = ap (λ (v : SessionModel). v.core.settings) c.self.view_is;
             runs = ap (λ (v : SessionModel). runs_of v.core.events) c.self.view_is;
             later = omega (arith, same);
-            kept = λ m k. subst (λ (v : SessionModel). IsKept m v.core) (sym c.self.view_is) k;
+            kept = λ k. subst (λ (v : SessionModel). IsKept m v.core) (sym c.self.view_is) k;
           });
       grows = (let before : SessionModel = record { core = c.self.inside.core; names = c.self.inside.names.entries; snapshot_names = c.self.inside.snapshot_names.entries; now = c.self.inside.now } in
           subst (λ (v : SessionModel). Grows (lines.Rollback c.args.name) v (record before { snapshot_names = c.remove.new.self.entries })) c.self.view_is (omega arith, omega arith));
@@ -62,7 +62,7 @@ returns c =
           (closes-snapshot (rules_of before.core.settings m) before.core.state c.release.new.self.state c.args.name c.in-Some.id (c.release.ensures.step m) c.self.invariant.0 known)
           (λ q. named-after c.args.name q None before.snapshot_names c.remove.new.self.entries (c.remove.ensures.updates.0 q))));
       stores = (let before : SessionModel = record { core = c.self.inside.core; names = c.self.inside.names.entries; snapshot_names = c.self.inside.snapshot_names.entries; now = c.self.inside.now } in
-          subst (λ (v : SessionModel). StoresNothing v (record before { core = c.release.new.self; snapshot_names = c.remove.new.self.entries })) c.self.view_is
+          subst (λ (v : SessionModel). (m : Meaning) → StoresNothing m v (record before { core = c.release.new.self; snapshot_names = c.remove.new.self.entries })) c.self.view_is
           (stores before c.release.new.self before.names c.remove.new.self.entries before.now (leaves-event c.self.inside.core c.release.new.self (events.Release c.in-Some.id) c.release.ensures.event refl) c.release.ensures.kept));
       grows = (let before : SessionModel = record { core = c.self.inside.core; names = c.self.inside.names.entries; snapshot_names = c.self.inside.snapshot_names.entries; now = c.self.inside.now } in
           let known : find_named c.args.name before.snapshot_names ≡ Some c.in-Some.id = find_named-lookup c.args.name before.snapshot_names ∙ sym c.in-Some.ensures.value in

@@ -47,7 +47,7 @@ returns c =
           (closes-txn (rules_of before.core.settings m) before.core.state c.rollback.new.self.state c.args.name c.in-Some.id (c.rollback.ensures.step m) c.self.invariant.0 known)
           (λ q. named-after c.args.name q None before.names c.remove.new.self.entries (c.remove.ensures.updates.0 q))));
       stores = (let before : SessionModel = record { core = c.self.inside.core; names = c.self.inside.names.entries; snapshot_names = c.self.inside.snapshot_names.entries; now = c.self.inside.now } in
-          subst (λ (v : SessionModel). StoresNothing v (record before { core = c.rollback.new.self; names = c.remove.new.self.entries })) c.self.view_is
+          subst (λ (v : SessionModel). (m : Meaning) → StoresNothing m v (record before { core = c.rollback.new.self; names = c.remove.new.self.entries })) c.self.view_is
           (stores before c.rollback.new.self c.remove.new.self.entries before.snapshot_names before.now (leaves-event c.self.inside.core c.rollback.new.self (events.End c.in-Some.id) c.rollback.ensures.event refl) c.rollback.ensures.kept));
       grows = (let before : SessionModel = record { core = c.self.inside.core; names = c.self.inside.names.entries; snapshot_names = c.self.inside.snapshot_names.entries; now = c.self.inside.now } in
           let known : find_named c.args.name before.names ≡ Some c.in-Some.id = find_named-lookup c.args.name before.names ∙ sym c.in-Some.ensures.value in

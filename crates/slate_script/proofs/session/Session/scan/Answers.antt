@@ -1,4 +1,4 @@
-use Rattle.std.proofs.Common.{◌≡◌, ℕ, List, None, Ok, refl, sym, ap, subst, ◌∙◌, arith}
+use Rattle.std.proofs.Common.{◌≡◌, ℕ, List, length, None, Ok, refl, sym, ap, subst, ◌∙◌, arith}
 use Rattle.std.specs.Prelude.{IfSome, IsSome, Option}
 use Rattle.slate_store.specs.Reach.{reach_of}
 use Rattle.slate_types.specs.Keys.{range_of}
@@ -8,12 +8,13 @@ use Rattle.slate_txn.specs.Reply as replies
 use Rattle.slate_txn.specs.Reply.{Reply}
 use Rattle.slate_txn.specs.State.{State}
 use Rattle.slate_txn.specs.Step.{reader, step}
-use Rattle.slate_db.specs.Meaning.{rules_of}
+use Rattle.slate_db.specs.Installs.{runs_of}
+use Rattle.slate_db.specs.Meaning.{Meaning, rules_of}
 use Rattle.slate_db.specs.Model.{CoreModel}
 use Rattle.slate_db.specs.Parts.{meaning_of}
 use Rattle.slate_db.specs.Readable.{IsAnswered}
 use Rattle.slate_language.specs.declared.reply.Answer.TheVariants as answers
-use Rattle.slate_script.specs.Session.{SessionModel, AnswersAs, Grows, NamesStand, reader_id}
+use Rattle.slate_script.specs.Session.{SessionModel, AnswersAs, Grows, NamesStand, StoresNothing, reader_id}
 use Rattle.slate_script.proofs.SessionNames.{names-updated}
 use Rattle.slate_script.proofs.SessionScans.{bounds_fit, range-refused, scan-found, scan-refused}
 use Rattle.slate_script.proofs.Growth.{grows, takes-noted}
@@ -72,3 +73,17 @@ returns-clause-grows g c =
     subst (λ (v : SessionModel). Grows (lines.Scan c.args.name c.args.order c.args.start c.args.end c.args.steps) v (record before { core = c.scan_rows-scanned.new.core })) c.self.view_is
     (grows before c.scan_rows-scanned.new.core before.names before.snapshot_names before.now (lines.Scan c.args.name c.args.order c.args.start c.args.end c.args.steps) 0 (omega arith)
     (takes-noted c.self.inside.core c.scan_rows-scanned.new.core c.in-Some.id _ c.in_ok-rows.ensures.scanned.notes))
+
+pub returns-in_default-clause-stores : goal.returns-in_default-clause-stores
+returns-in_default-clause-stores g c m = record { settings = refl; runs = refl; later = omega arith; kept = λ k. k }
+
+pub returns-in_default-try_new-clause-stores : goal.returns-in_default-try_new-clause-stores
+returns-in_default-try_new-clause-stores g c m = record { settings = refl; runs = refl; later = omega arith; kept = λ k. k }
+
+pub returns-clause-stores : goal.returns-clause-stores
+returns-clause-stores g c =
+    let before : SessionModel = record { core = c.self.inside.core; names = c.self.inside.names.entries; snapshot_names = c.self.inside.snapshot_names.entries; now = c.self.inside.now } in
+    let is = c.in_ok-rows.ensures.scanned.notes in
+    let same : length c.scan_rows-scanned.new.core.events ≡ length c.self.inside.core.events = ap (λ (v : CoreModel). length v.events) is in
+    subst (λ (v : SessionModel). (m : Meaning) → StoresNothing m v (record before { core = c.scan_rows-scanned.new.core })) c.self.view_is
+    (λ m. record { settings = ap (λ (v : CoreModel). v.settings) is; runs = ap (λ (v : CoreModel). runs_of v.events) is; later = omega (arith, same); kept = c.in_ok-rows.ensures.scanned.kept m })

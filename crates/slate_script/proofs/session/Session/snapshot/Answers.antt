@@ -19,7 +19,7 @@ pub returns-then-is_some : goal.returns-then-is_some
 returns-then-is_some c =
     record {
       step = λ m. snapshot-refused m c.args.self.now c.args.name c.reader_id.result c.reader_id.ensures.reads c.reader_id.ensures.known (sym c.if-is_some.ensures);
-      stores = record { settings = refl; runs = refl; later = omega arith; kept = λ m k. k };
+      stores = λ m. record { settings = refl; runs = refl; later = omega arith; kept = λ k. k };
       grows = (omega arith, omega arith);
       cause = tt;
     }
@@ -52,7 +52,7 @@ returns c =
           (λ q. named-after c.args.name q (Some c.in_ok-id.id) before.snapshot_names c.insert.new.self.entries
           (c.in_ok-insert.ensures.updates.0 q ∙ ap (λ k. cond (is_at (key_cmp k) q) (Some c.in_ok-id.id) (lookup (is_at (key_cmp q)) before.snapshot_names)) c.in_ok-key.ensures.cases))));
       stores = (let before : SessionModel = record { core = c.self.inside.core; names = c.self.inside.names.entries; snapshot_names = c.self.inside.snapshot_names.entries; now = c.self.inside.now } in
-          subst (λ (v : SessionModel). StoresNothing v (record before { core = c.snapshot.new.self; snapshot_names = c.insert.new.self.entries })) c.self.view_is
+          subst (λ (v : SessionModel). (m : Meaning) → StoresNothing m v (record before { core = c.snapshot.new.self; snapshot_names = c.insert.new.self.entries })) c.self.view_is
           (stores before c.snapshot.new.self before.names c.insert.new.self.entries before.now
           (leaves-event c.self.inside.core c.snapshot.new.self (events.Snapshot c.in_ok-id.id c.in_ok-id.seq) c.in_ok-id.ensures.event refl) c.in_ok-id.ensures.kept));
       grows = (let before : SessionModel = record { core = c.self.inside.core; names = c.self.inside.names.entries; snapshot_names = c.self.inside.snapshot_names.entries; now = c.self.inside.now } in

@@ -4,6 +4,7 @@ use Rattle.slate_txn.specs.declared.line.Line.TheVariants as lines
 use Rattle.slate_txn.specs.Step.{with_unmarks}
 use Rattle.slate_language.specs.declared.reply.Answer.TheVariants as answers
 use Rattle.slate_types.specs.declared.error.SlateDBError.TheVariants as errors
+use Rattle.slate_db.specs.Meaning.{Meaning}
 use Rattle.slate_script.specs.Session.{SessionModel, AnswersAs, Grows, IsLimit, StoresNothing}
 use Rattle.slate_script.proofs.NamesLaws.{find_named-lookup}
 use Rattle.slate_script.proofs.SessionNames.{names-ran}
@@ -20,7 +21,7 @@ returns-in_default c =
           let none : find_named c.args.name before.names ≡ None = find_named-lookup c.args.name before.names ∙ sym c.in_default.ensures.value in
           subst (λ (v : SessionModel). AnswersAs m v v (lines.Unmark c.args.name c.args.keys) (Ok (answers.Refused (errors.UnknownTransaction c.args.name)))) c.self.view_is
           (unmark-unknown m before c.args.name c.args.keys none));
-      stores = record { settings = refl; runs = refl; later = omega arith; kept = λ m k. k };
+      stores = λ m. record { settings = refl; runs = refl; later = omega arith; kept = λ k. k };
       grows = (omega arith, omega arith);
       cause = tt;
     }
@@ -46,8 +47,8 @@ returns c =
           (unmark-as m before c.unmark_write-unmark.new.self c.args.name c.in-Some.id.now c.as_slice.result.now c.self.invariant.0.transactions known)
           c.unmark_write-unmark.ensures.step (memory-refuses _ c.unmark_write-unmark.result c.unmark_write-unmark.ensures.cause) c.unmark_write-unmark.ensures.same c.done.ensures)));
       stores = (let before : SessionModel = record { core = c.self.inside.core; names = c.self.inside.names.entries; snapshot_names = c.self.inside.snapshot_names.entries; now = c.self.inside.now } in
-          subst (λ (v : SessionModel). OnOk c.done.result (StoresNothing v (record before { core = c.unmark_write-unmark.new.self }))) c.self.view_is
-          (stores-where c.done.result before c.unmark_write-unmark.new.self (stores before c.unmark_write-unmark.new.self before.names before.snapshot_names before.now
+          subst (λ (v : SessionModel). OnOk c.done.result ((m : Meaning) → StoresNothing m v (record before { core = c.unmark_write-unmark.new.self }))) c.self.view_is
+          (stores-where c.done.result (stores before c.unmark_write-unmark.new.self before.names before.snapshot_names before.now
           (leaves-ran c.unmark_write-unmark.result c.self.inside.core c.unmark_write-unmark.new.self c.in-Some.id.now (with_unmarks c.as_slice.result.now) c.unmark_write-unmark.ensures.taken c.unmark_write-unmark.ensures.same) c.unmark_write-unmark.ensures.kept)));
       grows = (let before : SessionModel = record { core = c.self.inside.core; names = c.self.inside.names.entries; snapshot_names = c.self.inside.snapshot_names.entries; now = c.self.inside.now } in
           subst (λ (v : SessionModel). OnOk c.done.result (Grows (lines.Unmark c.args.name c.args.keys) v (record before { core = c.unmark_write-unmark.new.self }))) c.self.view_is
