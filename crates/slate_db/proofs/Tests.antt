@@ -17,6 +17,7 @@ use Rattle.slate_txn.specs.State.{Rules, State, last_of}
 use Rattle.slate_txn.specs.Step.{step}
 use Rattle.slate_db.specs.BatchTests.{batch_refusal, test_refusal}
 use Rattle.slate_db.specs.Log.{AreFine}
+use Rattle.slate_db.specs.Model.{CoreModel}
 use Rattle.slate_db.proofs.Plain.{has_some, written_as}
 use Rattle.slate_db.proofs.Refused.{no_nests, refusal_is, not_exhausted, step_refused}
 
@@ -139,3 +140,10 @@ first_moved x e f r s a b (inr h) = inr (b ∙ ap Err (err_is x f r a h))
 -- one refusal and none
 pub none_some : {P : Type 0} (e : SlateDBError) → None ≡ Some e → P
 none_some e h = cc
+
+-- of an equal operator, equal settings and an equal moment
+pub refusal_known : {C : Type 0} (a b : Option C) (c d : CoreModel) (z now : ℤ) (batch : BatchModel) (o : Option SlateDBError) → a ≡ b → c ≡ d → z ≡ now → batch_refusal a c.settings.default_millis z batch ≡ o → batch_refusal b d.settings.default_millis now batch ≡ o
+refusal_known a b c d z now batch o operators same moments h = sym (λ i. batch_refusal (operators i) (same i).settings.default_millis (moments i) batch) ∙ h
+
+pub refusal_asked : {C : Type 0} (a b : Option C) (c d : CoreModel) (z now : ℤ) (batch : BatchModel) (o : Option SlateDBError) → a ≡ b → c ≡ d → z ≡ now → batch_refusal b d.settings.default_millis now batch ≡ o → batch_refusal a c.settings.default_millis z batch ≡ o
+refusal_asked a b c d z now batch o operators same moments h = (λ i. batch_refusal (operators i) (same i).settings.default_millis (moments i) batch) ∙ h

@@ -23,7 +23,7 @@ ghost use Rattle.slate_db.specs.Log.{AreFine};
 
 use crate::layers::Layers;
 use crate::put::put_own;
-use crate::tested::tested_rows;
+use crate::tested::{rows_of_batch, test_batch};
 use slate_mem::WriteBatch;
 use slate_txn::{DbTransactionInner, KeyList, OpList, Tested, TransactionManager, Transcript};
 use slate_types::{MergeOperator, SlateDBError};
@@ -168,7 +168,8 @@ pub(crate) fn put_commit<M: MergeOperator>(
     ensures cause { IfErr result (λ e. (e ≡ SlateDBError.OutOfMemory) ⊎ (batch_refusal (option_map M.combine operator.old) default_millis now batch.now ≡ Some e) ⊎ IsCallback (faults_of M.faults operator.old) (faults_of M.faults operator.new) e) }
 {
     let seq = last + 1;
-    let rows = tested_rows(alloc, batch, seq, now, default_millis, operator)?;
+    test_batch(alloc, batch, now, default_millis, operator)?;
+    let rows = rows_of_batch(alloc, batch, seq, now, default_millis, operator)?;
     let ops = batch.ops(alloc)?;
     put_own(alloc, layers, manager, rows, id, seq)?;
     Ok(OpList::from_vec(ops))

@@ -61,7 +61,7 @@ use crate::lookup::{newest_behind, newest_of_runs};
 use crate::open_scan::{merged, scan_sources, table_options};
 use crate::put::{enter, put_batch};
 use crate::scan::{DbIterator, TxnIterator};
-use crate::tested::tested_rows;
+use crate::tested::{rows_of_batch, test_batch};
 use bytes::Bytes;
 use slate_filter::FilterPolicy;
 use slate_mem::WriteBatch;
@@ -249,9 +249,9 @@ impl Core {
     }
 
     /// Commits a batch by itself, at the next sequence, which it gives. An empty batch commits nothing, and is never
-    /// refused. Refuses by `SequenceExhausted` where no sequence is left; by `LimitReached` where the journal has no place for the
-    /// event; by `MergeOperatorMissing` where the batch ever took a merge and there is no operator; by `IncompatibleMergeTtls`,
-    /// upwards by key, where operations of a key that it keeps differ in expiry; then by `Callback`, only where the operator's
+    /// refused. Refuses by `SequenceExhausted` where no sequence is left; by `MergeOperatorMissing` where the batch ever took a
+    /// merge and there is no operator; by `IncompatibleMergeTtls`, upwards by key, where operations of a key that it keeps differ
+    /// in expiry; by `LimitReached` where the journal has no place for the event; then by `Callback`, only where the operator's
     /// count of faults rose; and by `OutOfMemory`. Then nothing is committed.
     pub fn write<S: Store, M: MergeOperator, T: BlockTransformer, X: PrefixExtractor>(
         &mut self,
@@ -271,14 +271,18 @@ impl Core {
         ensures kept { let reach = ⟦<EnvOf<S, M, T> as Outside>⟧.reach in
             let m = (reach env.old).meaning in
             OnOk result (IsKept m self.old → IsKept m self.new) }
+        ensures kept_refused { OnErr result ((m : Meaning) → IsKept m self.old → IsKept m self.new) }
         ensures load { (ops : Ops) → IsBatchOf ops batch → OnOk result (load self.new ≤ load self.old + length ops) }
         ensures same { OnErr result (IsSame self.old self.new) }
         ensures idle { batch.ops ≡ [] → IsOk result }
         ensures exhausted { batch.ops ≢ [] → last_of self.old.settings.start_seq self.old.state.commits ≡ 2 ^ 64 - 2 → result ≡ Err SlateDBError.SequenceExhausted }
-        ensures limit { batch.ops ≢ [] → last_of self.old.settings.start_seq self.old.state.commits < 2 ^ 64 - 2 → NoPlace 1 self.old → result ≡ Err (SlateDBError.LimitReached LIMIT) }
+        ensures limit { let reach = ⟦<EnvOf<S, M, T> as Outside>⟧.reach in
+            let m = (reach env.old).meaning in
+            batch.ops ≢ [] → last_of self.old.settings.start_seq self.old.state.commits < 2 ^ 64 - 2 → batch_refusal m.combine self.old.settings.default_millis now batch ≡ None →
+            NoPlace 1 self.old → (result ≡ Err (SlateDBError.LimitReached LIMIT)) ⊎ (result ≡ Err SlateDBError.OutOfMemory) }
         ensures first { let reach = ⟦<EnvOf<S, M, T> as Outside>⟧.reach in
             let m = (reach env.old).meaning in
-            batch.ops ≢ [] → last_of self.old.settings.start_seq self.old.state.commits < 2 ^ 64 - 2 → ¬ NoPlace 1 self.old →
+            batch.ops ≢ [] → last_of self.old.settings.start_seq self.old.state.commits < 2 ^ 64 - 2 →
             (e : SlateDBError) → batch_refusal m.combine self.old.settings.default_millis now batch ≡ Some e → (result ≡ Err e) ⊎ (result ≡ Err SlateDBError.OutOfMemory) }
         ensures cause { let reach = ⟦<EnvOf<S, M, T> as Outside>⟧.reach in
             let m = (reach env.old).meaning in
@@ -286,6 +290,7 @@ impl Core {
             ⊎ ((e ≡ SlateDBError.SequenceExhausted) × (last_of self.old.settings.start_seq self.old.state.commits ≡ 2 ^ 64 - 2))
             ⊎ ((e ≡ SlateDBError.LimitReached LIMIT) × NoPlace 1 self.old)
             ⊎ (batch_refusal m.combine self.old.settings.default_millis now batch ≡ Some e)) }
+        ensures outside { env.new ≡ record env.old { operator = env.new.operator } }
         ensures call { let reach = ⟦<EnvOf<S, M, T> as Outside>⟧.reach in IsCall (reach env.old) (reach env.new) [] }
         ensures reads { let reach = ⟦<EnvOf<S, M, T> as Outside>⟧.reach in OnlyReads (reach env.old) (reach env.new) }
     {
@@ -296,10 +301,17 @@ impl Core {
         if self.log.last() >= 18446744073709551614 {
             return Err(SlateDBError::SequenceExhausted);
         }
+        test_batch(
+            self.alloc,
+            &batch,
+            now,
+            self.default_millis,
+            &env.operator,
+        )?;
         self.log.place(1)?;
         self.log.reserve()?;
         let seq = self.log.last() + 1;
-        let rows = tested_rows(
+        let rows = rows_of_batch(
             self.alloc,
             &batch,
             seq,
@@ -827,6 +839,7 @@ impl Core {
         ensures kept { let reach = ⟦<EnvOf<S, M, T> as Outside>⟧.reach in
             let m = (reach env.old).meaning in
             IsKept m self.old → IsKept m self.new }
+        ensures kept_refused { OnErr result ((m : Meaning) → IsKept m self.old → IsKept m self.new) }
         ensures load { (t : Tx) → find_named id.now self.old.state.txns ≡ Some t → load self.new ≤ load self.old + length t.ops }
         ensures first { let reach = ⟦<EnvOf<S, M, T> as Outside>⟧.reach in
             let m = (reach env.old).meaning in
@@ -839,6 +852,7 @@ impl Core {
             ⊎ IsConflict (conflict self.old.state.commits t) e
             ⊎ ((e ≡ SlateDBError.SequenceExhausted) × (last_of self.old.settings.start_seq self.old.state.commits ≡ 2 ^ 64 - 2))
             ⊎ IsTestRefusal m.combine self.old.settings.default_millis now (last_of self.old.settings.start_seq self.old.state.commits) (conflict self.old.state.commits t) t.ops e) }
+        ensures outside { env.new ≡ record env.old { operator = env.new.operator } }
         ensures call { let reach = ⟦<EnvOf<S, M, T> as Outside>⟧.reach in IsCall (reach env.old) (reach env.new) [] }
         ensures reads { let reach = ⟦<EnvOf<S, M, T> as Outside>⟧.reach in OnlyReads (reach env.old) (reach env.new) }
     {

@@ -14,23 +14,18 @@ use slate_mem::WriteBatch;
 use slate_types::{MergeOperator, NoExtractor, RowEntry, SlateDBError};
 use std::alloc::Global;
 
-/// Tests a batch that is to become the commit `seq` of the moment `now`, and then gives its rows. Refuses as
-/// `WriteBatch::test_entries` does, then by `Callback`, only where the operator's count of faults rose, and by `OutOfMemory`.
-pub(crate) fn tested_rows<M: MergeOperator>(
+/// Tests a batch that is to become a commit of the moment `now`. Refuses as `WriteBatch::test_entries` does, and by `OutOfMemory`.
+/// Calls no operator.
+pub(crate) fn test_batch<M: MergeOperator>(
     alloc: Global,
     batch: &WriteBatch,
-    seq: u64,
     now: i64,
     default_millis: Option<u64>,
-    operator: &mut Option<M>,
-) -> Result<Vec<RowEntry>, SlateDBError>
-    ensures rows { IfOk result (λ rows. rows.items ≡ commit_rows (operator_at (option_map M.combine operator.old)) default_millis seq now batch.now.ops) }
-    ensures tested { OnOk result (batch_refusal (option_map M.combine operator.old) default_millis now batch.now ≡ None) }
-    ensures first { (e : SlateDBError) → batch_refusal (option_map M.combine operator.old) default_millis now batch.now ≡ Some e → (result ≡ Err e) ⊎ (result ≡ Err SlateDBError.OutOfMemory) }
-    ensures fit { AreFine batch.now.ops → IfOk result (λ rows. AllByRecursion FitsMemory rows.items) }
-    ensures same { option_map M.combine operator.new ≡ option_map M.combine operator.old }
-    ensures later { faults_of M.faults operator.old ≤ faults_of M.faults operator.new }
-    ensures cause { IfErr result (λ e. (e ≡ SlateDBError.OutOfMemory) ⊎ (batch_refusal (option_map M.combine operator.old) default_millis now batch.now ≡ Some e) ⊎ IsCallback (faults_of M.faults operator.old) (faults_of M.faults operator.new) e) }
+    operator: &Option<M>,
+) -> Result<(), SlateDBError>
+    ensures tested { OnOk result (batch_refusal (option_map M.combine operator.now) default_millis now batch.now ≡ None) }
+    ensures first { (e : SlateDBError) → batch_refusal (option_map M.combine operator.now) default_millis now batch.now ≡ Some e → (result ≡ Err e) ⊎ (result ≡ Err SlateDBError.OutOfMemory) }
+    ensures cause { IfErr result (λ e. (e ≡ SlateDBError.OutOfMemory) ⊎ (batch_refusal (option_map M.combine operator.now) default_millis now batch.now ≡ Some e)) }
 {
     let prefixes = batch.test_entries(
         alloc,
@@ -40,6 +35,26 @@ pub(crate) fn tested_rows<M: MergeOperator>(
         None::<&NoExtractor>,
     )?;
     drop(prefixes);
+    Ok(())
+}
+
+/// The rows of a batch that no test refuses, as the commit `seq` of the moment `now`. Refuses by `Callback`, only where the
+/// operator's count of faults rose, and by `OutOfMemory`.
+pub(crate) fn rows_of_batch<M: MergeOperator>(
+    alloc: Global,
+    batch: &WriteBatch,
+    seq: u64,
+    now: i64,
+    default_millis: Option<u64>,
+    operator: &mut Option<M>,
+) -> Result<Vec<RowEntry>, SlateDBError>
+    requires { batch_refusal (option_map M.combine operator.old) default_millis now batch.now ≡ None }
+    ensures rows { IfOk result (λ rows. rows.items ≡ commit_rows (operator_at (option_map M.combine operator.old)) default_millis seq now batch.now.ops) }
+    ensures fit { AreFine batch.now.ops → IfOk result (λ rows. AllByRecursion FitsMemory rows.items) }
+    ensures same { option_map M.combine operator.new ≡ option_map M.combine operator.old }
+    ensures later { faults_of M.faults operator.old ≤ faults_of M.faults operator.new }
+    ensures cause { IfErr result (λ e. (e ≡ SlateDBError.OutOfMemory) ⊎ IsCallback (faults_of M.faults operator.old) (faults_of M.faults operator.new) e) }
+{
     let (rows, _bytes) = batch.extract_entries(alloc, seq, now, default_millis, operator)?;
     Ok(rows)
 }

@@ -230,3 +230,17 @@ returns-in-Err-clause-call g c = asked_call g.S.Store g.M.MergeOperator g.T.Bloc
 
 pub returns-in-Err-clause-reads : goal.returns-in-Err-clause-reads
 returns-in-Err-clause-reads g c = asked_reads g.S.Store g.M.MergeOperator g.T.BlockTransformer c.args.env.now c.make-made.new.operator c.make-made.ensures.same c.make-made.ensures.later
+
+pub returns-in-Ok-clause-outside : goal.returns-in-Ok-clause-outside
+returns-in-Ok-clause-outside g c = refl
+
+pub returns-in-Ok-clause-kept_refused : goal.returns-in-Ok-clause-kept_refused
+returns-in-Ok-clause-kept_refused g c = tt
+
+pub returns-in-Err-clause-outside : goal.returns-in-Err-clause-outside
+returns-in-Err-clause-outside g c = refl
+
+pub returns-in-Err-clause-kept_refused : goal.returns-in-Err-clause-kept_refused
+returns-in-Err-clause-kept_refused g c = λ m k.
+    subst (λ (s : Inside). IsKept m (view_of s)) (ends g c)
+    (kept_end m (view_of c.self.inside) c.args.id.now c.push_end.new.self.spare (subst (λ (v : CoreModel). IsKept m v) (sym c.self.view_is) k))

@@ -26,7 +26,7 @@ use Rattle.slate_types.specs.Outside.{Meaning}
 use Rattle.slate_types.proofs.Reaching.{reads_none}
 use Rattle.slate_store.specs.Reach.{reach_of}
 use Rattle.slate_db.proofs.Asks.{asked_call, asked_reads, call_none, callback_fault, short_fault}
-use Rattle.slate_db.proofs.Keeps.{room_made}
+use Rattle.slate_db.proofs.Keeps.{kept_same, room_made}
 use Rattle.slate_db.proofs.Calls.{none_left, past_place, placed, room_in_log, written_is}
 use Rattle.slate_db.proofs.Lists.{all_map, all_behind}
 use Rattle.slate_db.proofs.Loads.{write_load}
@@ -37,7 +37,7 @@ use Rattle.slate_db.proofs.Plain.{step_nothing, step_exhausted, some_ops}
 use Rattle.slate_db.proofs.Puts.{some_more, versions_more, active_within}
 use Rattle.slate_db.proofs.Logs.{has_place}
 use Rattle.slate_db.proofs.TakenBack.{commit_seqs, older_rows}
-use Rattle.slate_db.proofs.Tests.{batch_refusal_as, first_moved, step_test_refused, step_tested, tested_plain}
+use Rattle.slate_db.proofs.Tests.{batch_refusal_as, first_moved, none_some, refusal_asked, refusal_known, step_test_refused, step_tested, tested_plain}
 use Rattle.slate_db.proofs.Vouches.{below_next, vouched_write}
 use Rattle.slate_db.proofs.Wholes.{whole_write}
 use Rattle.slate_db.proofs.Writes.{kept_write}
@@ -53,13 +53,15 @@ returns-then-is_empty g c =
       vouched = λ m k h. h;
       kept = λ k. k;
       load = λ ops of. omega arith;
+      kept_refused = tt;
       same = tt;
       idle = λ none. refl;
-      first = λ some below free e is. absurd (some (c.is_empty.ensures.0 c.if-is_empty.true));
+      first = λ some below e is. absurd (some (c.is_empty.ensures.0 c.if-is_empty.true));
+      outside = refl;
       call = call_none _;
       reads = reads_none _;
       exhausted = λ some full. absurd (some (c.is_empty.ensures.0 c.if-is_empty.true));
-      limit = λ some below past. absurd (some (c.is_empty.ensures.0 c.if-is_empty.true));
+      limit = λ some below fine past. absurd (some (c.is_empty.ensures.0 c.if-is_empty.true));
       cause = tt;
     }
 
@@ -78,26 +80,35 @@ returns-then-last-ge18446744073709551614 g c =
       vouched = tt;
       kept = tt;
       load = λ ops of. tt;
+      kept_refused = λ m k. k;
       same = refl;
       idle = λ none. absurd (true≢false (sym (c.is_empty.ensures.1 none) ∙ c.if-is_empty.false));
       exhausted = λ some full. refl;
-      limit = λ some below past. let last = subst (λ n. n < 2 ^ 64 - 2) (sym (c.self.invariant.log.last ∙ ap (λ (v : CoreModel). last_of v.settings.start_seq v.state.commits) c.self.view_is)) below in absurd (omega (arith, last, c.last.ensures));
-      first = λ some below free e is. let last = subst (λ n. n < 2 ^ 64 - 2) (sym (c.self.invariant.log.last ∙ ap (λ (v : CoreModel). last_of v.settings.start_seq v.state.commits) c.self.view_is)) below in absurd (omega (arith, last, c.last.ensures));
+      limit = λ some below fine past. let last = subst (λ n. n < 2 ^ 64 - 2) (sym (c.self.invariant.log.last ∙ ap (λ (v : CoreModel). last_of v.settings.start_seq v.state.commits) c.self.view_is)) below in absurd (omega (arith, last, c.last.ensures));
+      first = λ some below e is. let last = subst (λ n. n < 2 ^ 64 - 2) (sym (c.self.invariant.log.last ∙ ap (λ (v : CoreModel). last_of v.settings.start_seq v.state.commits) c.self.view_is)) below in absurd (omega (arith, last, c.last.ensures));
+      outside = refl;
       call = call_none _;
       reads = reads_none _;
       cause = (let fits : c.self.inside.log.last ≤ 2 ^ 64 - 2 = c.self.invariant.log.last_fits in let last : c.self.inside.log.last ≡ 2 ^ 64 - 2 = omega (arith, fits, c.last.ensures) in inr (inl (refl, sym (c.self.invariant.log.last ∙ ap (λ (v : CoreModel). last_of v.settings.start_seq v.state.commits) c.self.view_is) ∙ last)));
     }
 
--- why the rows weren't made
-refused_rows : {Short Test Called Fault Limit Model : Type 0} → (Short → Fault) → (Test → Model) → (Called → Fault) → Short ⊎ Test ⊎ Called → Fault ⊎ Limit ⊎ Model
-refused_rows f m k (inl short) = inl (f short)
-refused_rows f m k (inr (inl test)) = inr (inr (m test))
-refused_rows f m k (inr (inr called)) = inl (k called)
+-- why the tests refused it
+refused_test : {Short Test Fault Limit Model : Type 0} → (Short → Fault) → (Test → Model) → Short ⊎ Test → Fault ⊎ Limit ⊎ Model
+refused_test f m (inl short) = inl (f short)
+refused_test f m (inr test) = inr (inr (m test))
 
-cause_rows : {Short Test Called Fault Full Limit Known : Type 0} → (Short → Fault) → (Test → Known) → (Called → Fault) → Short ⊎ Test ⊎ Called → Fault ⊎ Full ⊎ Limit ⊎ Known
-cause_rows f m k (inl short) = inl (f short)
-cause_rows f m k (inr (inl test)) = inr (inr (inr (m test)))
-cause_rows f m k (inr (inr called)) = inl (k called)
+cause_test : {Short Test Fault Full Limit Known : Type 0} → (Short → Fault) → (Test → Known) → Short ⊎ Test → Fault ⊎ Full ⊎ Limit ⊎ Known
+cause_test f m (inl short) = inl (f short)
+cause_test f m (inr test) = inr (inr (inr (m test)))
+
+or_short : {Short Test P Q : Type 0} → (Short → Q) → (Test → P ⊎ Q) → Short ⊎ Test → P ⊎ Q
+or_short f m (inl short) = inr (f short)
+or_short f m (inr test) = m test
+
+-- why the rows weren't made
+either : {A B P : Type 0} → (A → P) → (B → P) → A ⊎ B → P
+either f m (inl a) = f a
+either f m (inr b) = m b
 
 -- the commit's rows, of the operations at the next sequence
 made : (a b : Option (List ℕ → Combine)) (d : Option ℕ) (n seq : ℕ) (at now : ℤ) (ops : Ops) (rows : Rows) → rows ≡ commit_rows (operator_at a) d seq at ops → a ≡ b → seq ≡ n → at ≡ now → rows ≡ commit_rows (operator_at b) d n now ops
@@ -165,7 +176,7 @@ returns g c =
     let becomes = written_is c.self.inside c.reserve.new.self c.push_write.new.self c.put_batch.new.layers c.put_batch.new.manager c.args.now _ c.args.batch.ops _ _ c.reserve.ensures.value (to_z-of_z w64 c.args.now c.ranges.now) (c.from_vec.ensures ∙ c.in_ok-ops.ensures.ops) c.push_write.ensures.value layers in
     let below : n < 2 ^ 64 - 2 = omega (arith, c.last.ensures) in
     let tested : batch_refusal m.combine c.self.inside.default_millis c.args.now c.args.batch ≡ None =
-    sym (batch_refusal_as (option_map g.M.MergeOperator.combine c.args.env.now.operator) m.combine c.self.inside.default_millis _ c.args.now c.args.batch (sym (combine_is g.M.MergeOperator.combine c.args.env.now.operator)) (to_z-of_z w64 c.args.now c.ranges.now)) ∙ c.in_ok-rows.ensures.tested in
+    sym (batch_refusal_as (option_map g.M.MergeOperator.combine c.args.env.now.operator) m.combine c.self.inside.default_millis _ c.args.now c.args.batch (sym (combine_is g.M.MergeOperator.combine c.args.env.now.operator)) (to_z-of_z w64 c.args.now c.ranges.now)) ∙ c.in_ok-test_batch.ensures.tested in
     record {
       step = (λ ops of fine.
           sym (ap (λ (v : CoreModel). step (rules_of v.settings m) (at c.args.now v.state) (lines.Write ops)) c.self.view_is)
@@ -189,14 +200,16 @@ returns g c =
           subst (λ (v : CoreModel). load (view_of (record c.self.inside { log = c.push_write.new.self; layers = c.put_batch.new.layers; manager = c.put_batch.new.manager })) ≤ load v + length ops) c.self.view_is
           (subst (λ (s : Inside). load (view_of s) ≤ load (view_of c.self.inside) + length ops) becomes
           (write_load (view_of c.self.inside) f c.self.inside.default_millis (n + 1) c.args.now c.args.batch.ops ops of.0)));
+      kept_refused = tt;
       same = tt;
       idle = λ none. absurd (true≢false (sym (c.is_empty.ensures.1 none) ∙ c.if-is_empty.false));
       exhausted = λ some. none_left (view_of c.self.inside) c.args.self.now (unseen_of c.self.inside) (2 ^ 64 - 2) c.self.view_is c.self.invariant below;
-      limit = λ some below. placed (view_of c.self.inside) c.args.self.now (unseen_of c.self.inside) 1 c.self.view_is c.self.invariant c.in_ok-place.ensures.place;
-      first = λ some below free e is. let none : None ≡ Some e = sym tested ∙ ap (λ (v : CoreModel). batch_refusal (reach_of g.S.Store g.M.MergeOperator g.T.BlockTransformer c.args.env.now).meaning.combine v.settings.default_millis c.args.now c.args.batch) c.self.view_is ∙ is in cc;
+      limit = λ some below fine. placed (view_of c.self.inside) c.args.self.now (unseen_of c.self.inside) 1 c.self.view_is c.self.invariant c.in_ok-place.ensures.place;
+      first = λ some below e is. none_some e (sym (refusal_known (option_map g.M.MergeOperator.combine c.args.env.now.operator) (reach_of g.S.Store g.M.MergeOperator g.T.BlockTransformer c.args.env.now).meaning.combine (view_of c.self.inside) c.args.self.now _ c.args.now c.args.batch _ (sym (combine_is g.M.MergeOperator.combine c.args.env.now.operator)) c.self.view_is (to_z-of_z w64 c.args.now c.ranges.now) c.in_ok-test_batch.ensures.tested) ∙ is);
       cause = tt;
-      call = asked_call g.S.Store g.M.MergeOperator g.T.BlockTransformer c.args.env.now c.tested_rows.new.operator c.tested_rows.ensures.same;
-      reads = asked_reads g.S.Store g.M.MergeOperator g.T.BlockTransformer c.args.env.now c.tested_rows.new.operator c.tested_rows.ensures.same c.tested_rows.ensures.later;
+      outside = refl;
+      call = asked_call g.S.Store g.M.MergeOperator g.T.BlockTransformer c.args.env.now c.rows_of_batch-rows.new.operator c.rows_of_batch-rows.ensures.same;
+      reads = asked_reads g.S.Store g.M.MergeOperator g.T.BlockTransformer c.args.env.now c.rows_of_batch-rows.new.operator c.rows_of_batch-rows.ensures.same c.rows_of_batch-rows.ensures.later;
     }
 
 -- ---- refusals: at most room was made
@@ -217,24 +230,55 @@ pub invariant_of-self-in_err-put_batch : goal.invariant_of-self-in_err-put_batch
 invariant_of-self-in_err-put_batch g c = subst IsWholeInside (let y = sym c.in_err-put_batch.ensures.same_layers in let m = sym c.in_err-put_batch.ensures.same in λ i. record c.self.inside { log = c.reserve.new.self; layers = y i; manager = m i })
     (room_in_log c.self.inside c.reserve.new.self c.reserve.ensures.value c.reserve.ensures.whole c.self.invariant)
 
-pub returns-in_err-place : goal.returns-in_err-place
-returns-in_err-place g c =
+pub returns-in_err-test_batch : goal.returns-in_err-test_batch
+returns-in_err-test_batch g c =
     let p = err_from_is_err_and c.from_residual.result c.from_residual.ensures.1 in
-    let limit = c.in_err-place.ensures.limit in
+    let m : Meaning = (reach_of g.S.Store g.M.MergeOperator g.T.BlockTransformer c.args.env.now).meaning in
     let below : c.self.inside.log.last < 2 ^ 64 - 2 = omega (arith, c.last.ensures) in
     record {
       step = IfOk-from_err c.from_residual.result _ c.from_residual.ensures.0;
-      refused = rw (p.1, p.2) (inr (inl limit.0));
+      refused = rw (p.1, p.2) (refused_test (short_fault _ _ _)
+          (λ test ops of fine.
+          sym (ap (λ (v : CoreModel). step (rules_of v.settings m) (at c.args.now v.state) (lines.Write ops)) c.self.view_is)
+          ∙ step_test_refused (rules_of (view_of c.self.inside).settings m) (at c.args.now (view_of c.self.inside).state) ops c.args.batch c.self.inside.log.last c.in_err-test_batch.field-0.0 of (λ none. let t : true ≡ false = sym (c.is_empty.ensures.1 none) ∙ c.if-is_empty.false in cc)
+          (ap (λ (v : CoreModel). batch_refusal m.combine v.settings.default_millis c.args.now c.args.batch) c.self.view_is ∙ refusal_known (option_map g.M.MergeOperator.combine c.args.env.now.operator) (reach_of g.S.Store g.M.MergeOperator g.T.BlockTransformer c.args.env.now).meaning.combine (view_of c.self.inside) c.args.self.now _ c.args.now c.args.batch _ (sym (combine_is g.M.MergeOperator.combine c.args.env.now.operator)) c.self.view_is (to_z-of_z w64 c.args.now c.ranges.now) test) fine refl c.self.invariant.log.last below
+          ∙ ap (λ (v : CoreModel). (at c.args.now v.state, Refused c.in_err-test_batch.field-0.0)) c.self.view_is) c.in_err-test_batch.ensures.cause);
       event = IfOk-from_err c.from_residual.result _ c.from_residual.ensures.0;
       vouched = IfOk-from_err c.from_residual.result _ c.from_residual.ensures.0;
       kept = IfOk-from_err c.from_residual.result _ c.from_residual.ensures.0;
+      kept_refused = rw p.1 (λ m k. k);
       load = λ ops of. IfOk-from_err c.from_residual.result _ c.from_residual.ensures.0;
       same = rw p.1 refl;
       idle = λ none. absurd (true≢false (sym (c.is_empty.ensures.1 none) ∙ c.if-is_empty.false));
       exhausted = λ some. none_left (view_of c.self.inside) c.args.self.now (unseen_of c.self.inside) (2 ^ 64 - 2) c.self.view_is c.self.invariant below;
-      limit = λ some below past. p.1 ∙ ap Err (p.2 ∙ limit.0);
-      first = λ some lower free e is. absurd (free (past_place (view_of c.self.inside) c.args.self.now (unseen_of c.self.inside) 1 c.self.view_is c.self.invariant limit.1));
+      limit = λ some below fine past. or_short (λ short. p.1 ∙ ap Err (p.2 ∙ short)) (λ test. none_some c.in_err-test_batch.field-0.0 (sym fine ∙ refusal_known (option_map g.M.MergeOperator.combine c.args.env.now.operator) (reach_of g.S.Store g.M.MergeOperator g.T.BlockTransformer c.args.env.now).meaning.combine (view_of c.self.inside) c.args.self.now _ c.args.now c.args.batch _ (sym (combine_is g.M.MergeOperator.combine c.args.env.now.operator)) c.self.view_is (to_z-of_z w64 c.args.now c.ranges.now) test)) c.in_err-test_batch.ensures.cause;
+      first = λ some lower e is. first_moved c.in_err-test_batch.field-0.0 e errors.OutOfMemory _ c.from_residual.result refl (p.1 ∙ ap Err p.2) (c.in_err-test_batch.ensures.first e (refusal_asked (option_map g.M.MergeOperator.combine c.args.env.now.operator) (reach_of g.S.Store g.M.MergeOperator g.T.BlockTransformer c.args.env.now).meaning.combine (view_of c.self.inside) c.args.self.now _ c.args.now c.args.batch _ (sym (combine_is g.M.MergeOperator.combine c.args.env.now.operator)) c.self.view_is (to_z-of_z w64 c.args.now c.ranges.now) is));
+      cause = rw (p.1, p.2) (cause_test (short_fault _ _ _) (λ test. refusal_known (option_map g.M.MergeOperator.combine c.args.env.now.operator) (reach_of g.S.Store g.M.MergeOperator g.T.BlockTransformer c.args.env.now).meaning.combine (view_of c.self.inside) c.args.self.now _ c.args.now c.args.batch _ (sym (combine_is g.M.MergeOperator.combine c.args.env.now.operator)) c.self.view_is (to_z-of_z w64 c.args.now c.ranges.now) test) c.in_err-test_batch.ensures.cause);
+      outside = refl;
+      call = call_none _;
+      reads = reads_none _;
+    }
+
+pub returns-in_err-place : goal.returns-in_err-place
+returns-in_err-place g c =
+    let p = err_from_is_err_and c.from_residual-in_err-place.result c.from_residual-in_err-place.ensures.1 in
+    let limit = c.in_err-place.ensures.limit in
+    let below : c.self.inside.log.last < 2 ^ 64 - 2 = omega (arith, c.last.ensures) in
+    record {
+      step = IfOk-from_err c.from_residual-in_err-place.result _ c.from_residual-in_err-place.ensures.0;
+      refused = rw (p.1, p.2) (inr (inl limit.0));
+      event = IfOk-from_err c.from_residual-in_err-place.result _ c.from_residual-in_err-place.ensures.0;
+      vouched = IfOk-from_err c.from_residual-in_err-place.result _ c.from_residual-in_err-place.ensures.0;
+      kept = IfOk-from_err c.from_residual-in_err-place.result _ c.from_residual-in_err-place.ensures.0;
+      load = λ ops of. IfOk-from_err c.from_residual-in_err-place.result _ c.from_residual-in_err-place.ensures.0;
+      kept_refused = rw p.1 (λ m k. k);
+      same = rw p.1 refl;
+      idle = λ none. absurd (true≢false (sym (c.is_empty.ensures.1 none) ∙ c.if-is_empty.false));
+      exhausted = λ some. none_left (view_of c.self.inside) c.args.self.now (unseen_of c.self.inside) (2 ^ 64 - 2) c.self.view_is c.self.invariant below;
+      limit = λ some below fine past. inl (p.1 ∙ ap Err (p.2 ∙ limit.0));
+      first = λ some lower e is. none_some e (sym (refusal_known (option_map g.M.MergeOperator.combine c.args.env.now.operator) (reach_of g.S.Store g.M.MergeOperator g.T.BlockTransformer c.args.env.now).meaning.combine (view_of c.self.inside) c.args.self.now _ c.args.now c.args.batch _ (sym (combine_is g.M.MergeOperator.combine c.args.env.now.operator)) c.self.view_is (to_z-of_z w64 c.args.now c.ranges.now) c.in_ok-test_batch.ensures.tested) ∙ is);
       cause = rw (p.1, p.2) (inr (inr (inl (limit.0, past_place (view_of c.self.inside) c.args.self.now (unseen_of c.self.inside) 1 c.self.view_is c.self.invariant limit.1))));
+      outside = refl;
       call = call_none _;
       reads = reads_none _;
     }
@@ -250,12 +294,14 @@ returns-in_err-reserve g c =
       vouched = IfOk-from_err c.from_residual-in_err-reserve.result _ c.from_residual-in_err-reserve.ensures.0;
       kept = IfOk-from_err c.from_residual-in_err-reserve.result _ c.from_residual-in_err-reserve.ensures.0;
       load = λ ops of. IfOk-from_err c.from_residual-in_err-reserve.result _ c.from_residual-in_err-reserve.ensures.0;
+      kept_refused = rw p.1 (λ m k. kept_same m c.args.self.now _ (subst (λ (v : CoreModel). IsSame v (view_of (record c.self.inside { log = c.reserve.new.self }))) c.self.view_is (room_made c.self.inside c.reserve.new.self c.reserve.ensures.value)) k);
       same = rw p.1 (subst (λ (v : CoreModel). IsSame v (view_of (record c.self.inside { log = c.reserve.new.self }))) c.self.view_is (room_made c.self.inside c.reserve.new.self c.reserve.ensures.value));
       idle = λ none. absurd (true≢false (sym (c.is_empty.ensures.1 none) ∙ c.if-is_empty.false));
       exhausted = λ some. none_left (view_of c.self.inside) c.args.self.now (unseen_of c.self.inside) (2 ^ 64 - 2) c.self.view_is c.self.invariant below;
-      limit = λ some below. placed (view_of c.self.inside) c.args.self.now (unseen_of c.self.inside) 1 c.self.view_is c.self.invariant c.in_ok-place.ensures.place;
-      first = λ some lower free e is. inr (p.1 ∙ ap Err p.2);
+      limit = λ some below fine. placed (view_of c.self.inside) c.args.self.now (unseen_of c.self.inside) 1 c.self.view_is c.self.invariant c.in_ok-place.ensures.place;
+      first = λ some lower e is. none_some e (sym (refusal_known (option_map g.M.MergeOperator.combine c.args.env.now.operator) (reach_of g.S.Store g.M.MergeOperator g.T.BlockTransformer c.args.env.now).meaning.combine (view_of c.self.inside) c.args.self.now _ c.args.now c.args.batch _ (sym (combine_is g.M.MergeOperator.combine c.args.env.now.operator)) c.self.view_is (to_z-of_z w64 c.args.now c.ranges.now) c.in_ok-test_batch.ensures.tested) ∙ is);
       cause = rw (p.1, p.2) (inl tt);
+      outside = refl;
       call = call_none _;
       reads = reads_none _;
     }
@@ -263,27 +309,24 @@ returns-in_err-reserve g c =
 pub returns-in_err-rows : goal.returns-in_err-rows
 returns-in_err-rows g c =
     let p = err_from_is_err_and c.from_residual-in_err-rows.result c.from_residual-in_err-rows.ensures.1 in
-    let m : Meaning = (reach_of g.S.Store g.M.MergeOperator g.T.BlockTransformer c.args.env.now).meaning in
-    let tests : batch_refusal (option_map g.M.MergeOperator.combine c.args.env.now.operator) c.self.inside.default_millis _ c.args.batch ≡ batch_refusal m.combine c.self.inside.default_millis c.args.now c.args.batch = (batch_refusal_as (option_map g.M.MergeOperator.combine c.args.env.now.operator) (reach_of g.S.Store g.M.MergeOperator g.T.BlockTransformer c.args.env.now).meaning.combine c.self.inside.default_millis _ c.args.now c.args.batch (sym (combine_is g.M.MergeOperator.combine c.args.env.now.operator)) (to_z-of_z w64 c.args.now c.ranges.now)) in
     let below : c.self.inside.log.last < 2 ^ 64 - 2 = omega (arith, c.last.ensures) in
     record {
       step = IfOk-from_err c.from_residual-in_err-rows.result _ c.from_residual-in_err-rows.ensures.0;
-      refused = rw (p.1, p.2) (refused_rows (short_fault _ _ _) (λ test ops of fine.
-          sym (ap (λ (v : CoreModel). step (rules_of v.settings m) (at c.args.now v.state) (lines.Write ops)) c.self.view_is)
-          ∙ step_test_refused (rules_of (view_of c.self.inside).settings m) (at c.args.now (view_of c.self.inside).state) ops c.args.batch c.self.inside.log.last c.in_err-rows.field-0.0 of (λ none. let t : true ≡ false = sym (c.is_empty.ensures.1 none) ∙ c.if-is_empty.false in cc) (sym tests ∙ test) fine refl c.self.invariant.log.last below
-          ∙ ap (λ (v : CoreModel). (at c.args.now v.state, Refused c.in_err-rows.field-0.0)) c.self.view_is) (callback_fault (reach_of g.S.Store g.M.MergeOperator g.T.BlockTransformer c.args.env.now) (reach_of g.S.Store g.M.MergeOperator g.T.BlockTransformer (record c.args.env.now { operator = c.tested_rows.new.operator })) _) c.in_err-rows.ensures.cause);
+      refused = rw (p.1, p.2) (inl (either (short_fault (reach_of g.S.Store g.M.MergeOperator g.T.BlockTransformer c.args.env.now) (reach_of g.S.Store g.M.MergeOperator g.T.BlockTransformer (record c.args.env.now { operator = c.rows_of_batch-rows.new.operator })) _) (callback_fault (reach_of g.S.Store g.M.MergeOperator g.T.BlockTransformer c.args.env.now) (reach_of g.S.Store g.M.MergeOperator g.T.BlockTransformer (record c.args.env.now { operator = c.rows_of_batch-rows.new.operator })) _) c.in_err-rows.ensures.cause));
       event = IfOk-from_err c.from_residual-in_err-rows.result _ c.from_residual-in_err-rows.ensures.0;
       vouched = IfOk-from_err c.from_residual-in_err-rows.result _ c.from_residual-in_err-rows.ensures.0;
       kept = IfOk-from_err c.from_residual-in_err-rows.result _ c.from_residual-in_err-rows.ensures.0;
       load = λ ops of. IfOk-from_err c.from_residual-in_err-rows.result _ c.from_residual-in_err-rows.ensures.0;
+      kept_refused = rw p.1 (λ m k. kept_same m c.args.self.now _ (subst (λ (v : CoreModel). IsSame v (view_of (record c.self.inside { log = c.reserve.new.self }))) c.self.view_is (room_made c.self.inside c.reserve.new.self c.reserve.ensures.value)) k);
       same = rw p.1 (subst (λ (v : CoreModel). IsSame v (view_of (record c.self.inside { log = c.reserve.new.self }))) c.self.view_is (room_made c.self.inside c.reserve.new.self c.reserve.ensures.value));
       idle = λ none. absurd (true≢false (sym (c.is_empty.ensures.1 none) ∙ c.if-is_empty.false));
       exhausted = λ some. none_left (view_of c.self.inside) c.args.self.now (unseen_of c.self.inside) (2 ^ 64 - 2) c.self.view_is c.self.invariant below;
-      limit = λ some below. placed (view_of c.self.inside) c.args.self.now (unseen_of c.self.inside) 1 c.self.view_is c.self.invariant c.in_ok-place.ensures.place;
-      first = λ some lower free e is. first_moved c.in_err-rows.field-0.0 e errors.OutOfMemory _ c.from_residual-in_err-rows.result refl (p.1 ∙ ap Err p.2) (c.in_err-rows.ensures.first e (tests ∙ ap (λ (v : CoreModel). batch_refusal m.combine v.settings.default_millis c.args.now c.args.batch) c.self.view_is ∙ is));
-      cause = rw (p.1, p.2) (cause_rows (short_fault _ _ _) (λ test. sym (tests ∙ ap (λ (v : CoreModel). batch_refusal m.combine v.settings.default_millis c.args.now c.args.batch) c.self.view_is) ∙ test) (callback_fault (reach_of g.S.Store g.M.MergeOperator g.T.BlockTransformer c.args.env.now) (reach_of g.S.Store g.M.MergeOperator g.T.BlockTransformer (record c.args.env.now { operator = c.tested_rows.new.operator })) _) c.in_err-rows.ensures.cause);
-      call = asked_call g.S.Store g.M.MergeOperator g.T.BlockTransformer c.args.env.now c.tested_rows.new.operator c.tested_rows.ensures.same;
-      reads = asked_reads g.S.Store g.M.MergeOperator g.T.BlockTransformer c.args.env.now c.tested_rows.new.operator c.tested_rows.ensures.same c.tested_rows.ensures.later;
+      limit = λ some below fine. placed (view_of c.self.inside) c.args.self.now (unseen_of c.self.inside) 1 c.self.view_is c.self.invariant c.in_ok-place.ensures.place;
+      first = λ some lower e is. none_some e (sym (refusal_known (option_map g.M.MergeOperator.combine c.args.env.now.operator) (reach_of g.S.Store g.M.MergeOperator g.T.BlockTransformer c.args.env.now).meaning.combine (view_of c.self.inside) c.args.self.now _ c.args.now c.args.batch _ (sym (combine_is g.M.MergeOperator.combine c.args.env.now.operator)) c.self.view_is (to_z-of_z w64 c.args.now c.ranges.now) c.in_ok-test_batch.ensures.tested) ∙ is);
+      cause = rw (p.1, p.2) (inl (either (short_fault (reach_of g.S.Store g.M.MergeOperator g.T.BlockTransformer c.args.env.now) (reach_of g.S.Store g.M.MergeOperator g.T.BlockTransformer (record c.args.env.now { operator = c.rows_of_batch-rows.new.operator })) _) (callback_fault (reach_of g.S.Store g.M.MergeOperator g.T.BlockTransformer c.args.env.now) (reach_of g.S.Store g.M.MergeOperator g.T.BlockTransformer (record c.args.env.now { operator = c.rows_of_batch-rows.new.operator })) _) c.in_err-rows.ensures.cause));
+      outside = refl;
+      call = asked_call g.S.Store g.M.MergeOperator g.T.BlockTransformer c.args.env.now c.rows_of_batch-rows.new.operator c.rows_of_batch-rows.ensures.same;
+      reads = asked_reads g.S.Store g.M.MergeOperator g.T.BlockTransformer c.args.env.now c.rows_of_batch-rows.new.operator c.rows_of_batch-rows.ensures.same c.rows_of_batch-rows.ensures.later;
     }
 
 pub returns-in_err-ops : goal.returns-in_err-ops
@@ -297,14 +340,16 @@ returns-in_err-ops g c =
       vouched = IfOk-from_err c.from_residual-in_err-ops.result _ c.from_residual-in_err-ops.ensures.0;
       kept = IfOk-from_err c.from_residual-in_err-ops.result _ c.from_residual-in_err-ops.ensures.0;
       load = λ ops of. IfOk-from_err c.from_residual-in_err-ops.result _ c.from_residual-in_err-ops.ensures.0;
+      kept_refused = rw p.1 (λ m k. kept_same m c.args.self.now _ (subst (λ (v : CoreModel). IsSame v (view_of (record c.self.inside { log = c.reserve.new.self }))) c.self.view_is (room_made c.self.inside c.reserve.new.self c.reserve.ensures.value)) k);
       same = rw p.1 (subst (λ (v : CoreModel). IsSame v (view_of (record c.self.inside { log = c.reserve.new.self }))) c.self.view_is (room_made c.self.inside c.reserve.new.self c.reserve.ensures.value));
       idle = λ none. absurd (true≢false (sym (c.is_empty.ensures.1 none) ∙ c.if-is_empty.false));
       exhausted = λ some. none_left (view_of c.self.inside) c.args.self.now (unseen_of c.self.inside) (2 ^ 64 - 2) c.self.view_is c.self.invariant below;
-      limit = λ some below. placed (view_of c.self.inside) c.args.self.now (unseen_of c.self.inside) 1 c.self.view_is c.self.invariant c.in_ok-place.ensures.place;
-      first = λ some lower free e is. inr (p.1 ∙ ap Err (p.2 ∙ c.in_err-ops.ensures.cause));
+      limit = λ some below fine. placed (view_of c.self.inside) c.args.self.now (unseen_of c.self.inside) 1 c.self.view_is c.self.invariant c.in_ok-place.ensures.place;
+      first = λ some lower e is. none_some e (sym (refusal_known (option_map g.M.MergeOperator.combine c.args.env.now.operator) (reach_of g.S.Store g.M.MergeOperator g.T.BlockTransformer c.args.env.now).meaning.combine (view_of c.self.inside) c.args.self.now _ c.args.now c.args.batch _ (sym (combine_is g.M.MergeOperator.combine c.args.env.now.operator)) c.self.view_is (to_z-of_z w64 c.args.now c.ranges.now) c.in_ok-test_batch.ensures.tested) ∙ is);
       cause = rw (p.1, p.2) (inl (short_fault _ _ _ c.in_err-ops.ensures.cause));
-      call = asked_call g.S.Store g.M.MergeOperator g.T.BlockTransformer c.args.env.now c.tested_rows.new.operator c.tested_rows.ensures.same;
-      reads = asked_reads g.S.Store g.M.MergeOperator g.T.BlockTransformer c.args.env.now c.tested_rows.new.operator c.tested_rows.ensures.same c.tested_rows.ensures.later;
+      outside = refl;
+      call = asked_call g.S.Store g.M.MergeOperator g.T.BlockTransformer c.args.env.now c.rows_of_batch-rows.new.operator c.rows_of_batch-rows.ensures.same;
+      reads = asked_reads g.S.Store g.M.MergeOperator g.T.BlockTransformer c.args.env.now c.rows_of_batch-rows.new.operator c.rows_of_batch-rows.ensures.same c.rows_of_batch-rows.ensures.later;
     }
 
 pub returns-in_err-keys : goal.returns-in_err-keys
@@ -318,14 +363,16 @@ returns-in_err-keys g c =
       vouched = IfOk-from_err c.from_residual-in_err-keys.result _ c.from_residual-in_err-keys.ensures.0;
       kept = IfOk-from_err c.from_residual-in_err-keys.result _ c.from_residual-in_err-keys.ensures.0;
       load = λ ops of. IfOk-from_err c.from_residual-in_err-keys.result _ c.from_residual-in_err-keys.ensures.0;
+      kept_refused = rw p.1 (λ m k. kept_same m c.args.self.now _ (subst (λ (v : CoreModel). IsSame v (view_of (record c.self.inside { log = c.reserve.new.self }))) c.self.view_is (room_made c.self.inside c.reserve.new.self c.reserve.ensures.value)) k);
       same = rw p.1 (subst (λ (v : CoreModel). IsSame v (view_of (record c.self.inside { log = c.reserve.new.self }))) c.self.view_is (room_made c.self.inside c.reserve.new.self c.reserve.ensures.value));
       idle = λ none. absurd (true≢false (sym (c.is_empty.ensures.1 none) ∙ c.if-is_empty.false));
       exhausted = λ some. none_left (view_of c.self.inside) c.args.self.now (unseen_of c.self.inside) (2 ^ 64 - 2) c.self.view_is c.self.invariant below;
-      limit = λ some below. placed (view_of c.self.inside) c.args.self.now (unseen_of c.self.inside) 1 c.self.view_is c.self.invariant c.in_ok-place.ensures.place;
-      first = λ some lower free e is. inr (p.1 ∙ ap Err (p.2 ∙ c.in_err-keys.ensures.cause));
+      limit = λ some below fine. placed (view_of c.self.inside) c.args.self.now (unseen_of c.self.inside) 1 c.self.view_is c.self.invariant c.in_ok-place.ensures.place;
+      first = λ some lower e is. none_some e (sym (refusal_known (option_map g.M.MergeOperator.combine c.args.env.now.operator) (reach_of g.S.Store g.M.MergeOperator g.T.BlockTransformer c.args.env.now).meaning.combine (view_of c.self.inside) c.args.self.now _ c.args.now c.args.batch _ (sym (combine_is g.M.MergeOperator.combine c.args.env.now.operator)) c.self.view_is (to_z-of_z w64 c.args.now c.ranges.now) c.in_ok-test_batch.ensures.tested) ∙ is);
       cause = rw (p.1, p.2) (inl (short_fault _ _ _ c.in_err-keys.ensures.cause));
-      call = asked_call g.S.Store g.M.MergeOperator g.T.BlockTransformer c.args.env.now c.tested_rows.new.operator c.tested_rows.ensures.same;
-      reads = asked_reads g.S.Store g.M.MergeOperator g.T.BlockTransformer c.args.env.now c.tested_rows.new.operator c.tested_rows.ensures.same c.tested_rows.ensures.later;
+      outside = refl;
+      call = asked_call g.S.Store g.M.MergeOperator g.T.BlockTransformer c.args.env.now c.rows_of_batch-rows.new.operator c.rows_of_batch-rows.ensures.same;
+      reads = asked_reads g.S.Store g.M.MergeOperator g.T.BlockTransformer c.args.env.now c.rows_of_batch-rows.new.operator c.rows_of_batch-rows.ensures.same c.rows_of_batch-rows.ensures.later;
     }
 
 pub returns-in_err-put_batch : goal.returns-in_err-put_batch
@@ -339,12 +386,14 @@ returns-in_err-put_batch g c =
       vouched = IfOk-from_err c.from_residual-in_err-put_batch.result _ c.from_residual-in_err-put_batch.ensures.0;
       kept = IfOk-from_err c.from_residual-in_err-put_batch.result _ c.from_residual-in_err-put_batch.ensures.0;
       load = λ ops of. IfOk-from_err c.from_residual-in_err-put_batch.result _ c.from_residual-in_err-put_batch.ensures.0;
+      kept_refused = rw p.1 (λ m k. kept_same m c.args.self.now _ (ap (λ (y : LayersModel). view_of (record c.self.inside { log = c.reserve.new.self; layers = y })) c.in_err-put_batch.ensures.same_layers ∙ subst (λ (v : CoreModel). IsSame v (view_of (record c.self.inside { log = c.reserve.new.self }))) c.self.view_is (room_made c.self.inside c.reserve.new.self c.reserve.ensures.value)) k);
       same = rw p.1 (ap (λ (y : LayersModel). view_of (record c.self.inside { log = c.reserve.new.self; layers = y })) c.in_err-put_batch.ensures.same_layers ∙ subst (λ (v : CoreModel). IsSame v (view_of (record c.self.inside { log = c.reserve.new.self }))) c.self.view_is (room_made c.self.inside c.reserve.new.self c.reserve.ensures.value));
       idle = λ none. absurd (true≢false (sym (c.is_empty.ensures.1 none) ∙ c.if-is_empty.false));
       exhausted = λ some. none_left (view_of c.self.inside) c.args.self.now (unseen_of c.self.inside) (2 ^ 64 - 2) c.self.view_is c.self.invariant below;
-      limit = λ some below. placed (view_of c.self.inside) c.args.self.now (unseen_of c.self.inside) 1 c.self.view_is c.self.invariant c.in_ok-place.ensures.place;
-      first = λ some lower free e is. inr (p.1 ∙ ap Err (p.2 ∙ c.in_err-put_batch.ensures.cause));
+      limit = λ some below fine. placed (view_of c.self.inside) c.args.self.now (unseen_of c.self.inside) 1 c.self.view_is c.self.invariant c.in_ok-place.ensures.place;
+      first = λ some lower e is. none_some e (sym (refusal_known (option_map g.M.MergeOperator.combine c.args.env.now.operator) (reach_of g.S.Store g.M.MergeOperator g.T.BlockTransformer c.args.env.now).meaning.combine (view_of c.self.inside) c.args.self.now _ c.args.now c.args.batch _ (sym (combine_is g.M.MergeOperator.combine c.args.env.now.operator)) c.self.view_is (to_z-of_z w64 c.args.now c.ranges.now) c.in_ok-test_batch.ensures.tested) ∙ is);
       cause = rw (p.1, p.2) (inl (short_fault _ _ _ c.in_err-put_batch.ensures.cause));
-      call = asked_call g.S.Store g.M.MergeOperator g.T.BlockTransformer c.args.env.now c.tested_rows.new.operator c.tested_rows.ensures.same;
-      reads = asked_reads g.S.Store g.M.MergeOperator g.T.BlockTransformer c.args.env.now c.tested_rows.new.operator c.tested_rows.ensures.same c.tested_rows.ensures.later;
+      outside = refl;
+      call = asked_call g.S.Store g.M.MergeOperator g.T.BlockTransformer c.args.env.now c.rows_of_batch-rows.new.operator c.rows_of_batch-rows.ensures.same;
+      reads = asked_reads g.S.Store g.M.MergeOperator g.T.BlockTransformer c.args.env.now c.rows_of_batch-rows.new.operator c.rows_of_batch-rows.ensures.same c.rows_of_batch-rows.ensures.later;
     }
