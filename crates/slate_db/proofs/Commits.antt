@@ -257,3 +257,11 @@ test_of o c d x id now t u e same w a b test =
 
 pub put_as : (a b : Option (List ℕ → Combine)) (d n : Option ℕ) (z now : ℤ) (ops : Ops) (l y : LayersModel) → y ≡ put_at (operator_at a) d n z ops l → a ≡ b → z ≡ now → y ≡ put_at (operator_at b) d n now ops l
 put_as a b d n z now ops l y is operators moments = is ∙ (λ i. put_at (operator_at (operators i)) d n (moments i) ops l)
+
+pub conflict_of_parts : (c d : CoreModel) (id : List ℕ) (t u : Tx) (o : Option ℕ) → c ≡ d → find_named id c.state.txns ≡ Some t → find_named id d.state.txns ≡ Some u → conflict d.state.commits u ≡ o → conflict c.state.commits t ≡ o
+conflict_of_parts c d id t u o same a b h = ap (λ (v : CoreModel). conflict v.state.commits t) same ∙ ap (λ (v : Tx). conflict d.state.commits v) (same_txn c d id t u same a b) ∙ h
+
+-- a commit has a sequence
+pub not_full : {P : Type 0} (last : ℕ) (ops : Ops) (n : Option ℕ) → IsNextOf last ops n → (ops ≡ [] → ⊥) → last ≡ 2 ^ 64 - 2 → P
+not_full last ops None next some full = absurd (some next)
+not_full last ops (Some n) next some full = let below : last < 2 ^ 64 - 2 = next.1 in absurd (omega arith)

@@ -1,5 +1,5 @@
 -- The tests of a batch that is to become a commit, and what the model says of them.
-use Rattle.std.proofs.Common.{◌≡◌, ℕ, ◌+◌, ◌-◌, ◌<◌, ◌^◌, Bool, true, false, ◌&&◌, List, [], ◌∷◌, ◌++◌, map, reverse, Option, Some, None, ℤ, ◌⊎◌, inl, inr, refl, sym, ap, ◌∙◌, append-nil}
+use Rattle.std.proofs.Common.{◌≡◌, ℕ, ◌+◌, ◌-◌, ◌<◌, ◌^◌, Bool, true, false, ◌&&◌, List, [], ◌∷◌, ◌++◌, map, reverse, Option, Some, None, ℤ, ◌⊎◌, inl, inr, refl, sym, ap, subst, ◌∙◌, append-nil}
 use Rattle.std.specs.Prelude.{is_some, not, option_map, IsSome, Result, Ok, Err}
 use Rattle.slate_types.specs.declared.error.SlateDBError.{SlateDBError}
 use Rattle.slate_types.specs.declared.error.SlateDBError.TheVariants as errors
@@ -10,6 +10,7 @@ use Rattle.slate_mem.specs.KeyTests.{key_refusal, merges_refusal, segment_refusa
 use Rattle.slate_mem.specs.Refusals.{first_refusal, when}
 use Rattle.slate_mem.specs.RowOf.{op_expiry}
 use Rattle.slate_mem.proofs.BatchLaws.{keeps-keys, keeps-kept}
+use Rattle.slate_txn.specs.HandedOver.{IsConflict}
 use Rattle.slate_txn.specs.declared.line.Line.TheVariants as lines
 use Rattle.slate_txn.specs.Refusals.{batch_refusals, write_refusal}
 use Rattle.slate_txn.specs.Reply.{Written, Refused}
@@ -44,10 +45,6 @@ no_some o h = ap is_some h
 first_none : (o : Option SlateDBError) (es : List (Option SlateDBError)) → first_refusal (o ∷ es) ≡ None → o ≡ None
 first_none None es h = refl
 first_none (Some e) es h = cc
-
-rest_none : (o : Option SlateDBError) (es : List (Option SlateDBError)) → first_refusal (o ∷ es) ≡ None → first_refusal es ≡ None
-rest_none None es h = h
-rest_none (Some e) es h = cc
 
 has_operator : (a b : Bool) → when (a && not b) errors.MergeOperatorMissing ≡ None → a ≡ true → b ≡ true
 has_operator true true h e = refl
@@ -147,3 +144,17 @@ refusal_known a b c d z now batch o operators same moments h = sym (λ i. batch_
 
 pub refusal_asked : {C : Type 0} (a b : Option C) (c d : CoreModel) (z now : ℤ) (batch : BatchModel) (o : Option SlateDBError) → a ≡ b → c ≡ d → z ≡ now → batch_refusal b d.settings.default_millis now batch ≡ o → batch_refusal a c.settings.default_millis z batch ≡ o
 refusal_asked a b c d z now batch o operators same moments h = (λ i. batch_refusal (operators i) (same i).settings.default_millis (moments i) batch) ∙ h
+
+-- ---- a conflict
+
+pub met_or_short : {A : Type 0} (o : Option ℕ) (n : ℕ) (x e : SlateDBError) (r : Result A SlateDBError) → r ≡ Err x → x ≡ e → o ≡ Some n → (e ≡ errors.OutOfMemory) ⊎ IsConflict o e → (r ≡ Err (errors.TransactionConflict n)) ⊎ (r ≡ Err errors.OutOfMemory)
+met_or_short o n x e r a b is (inl short) = inr (a ∙ ap Err (b ∙ short))
+met_or_short o n x e r a b is (inr met) = inl (a ∙ ap Err (b ∙ subst (λ (p : Option ℕ). IsConflict p e) is met))
+
+pub free_or_short : {A P : Type 0} (o : Option ℕ) (x e : SlateDBError) (r : Result A SlateDBError) → r ≡ Err x → x ≡ e → o ≡ None → (e ≡ errors.OutOfMemory) ⊎ IsConflict o e → P ⊎ (r ≡ Err errors.OutOfMemory)
+free_or_short o x e r a b free (inl short) = inr (a ∙ ap Err (b ∙ short))
+free_or_short o x e r a b free (inr met) = absurd (subst (λ (p : Option ℕ). IsConflict p e) free met)
+
+-- a number and none
+pub none_number : {P : Type 0} (n : ℕ) → None ≡ Some n → P
+none_number n h = cc

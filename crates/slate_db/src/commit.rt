@@ -1,5 +1,5 @@
 //! A commit of a transaction, up to its event.
-ghost use Rattle.std.specs.Prelude.{◌≡◌, ◌⊎◌, ◌+◌, ◌<◌, ◌≤◌, ◌++◌, [], ℕ, List, None, Some, Err, option_map, unwrap_or, IfErr, IfOk, OnOk, OnErr};
+ghost use Rattle.std.specs.Prelude.{◌≡◌, ◌≢◌, ◌⊎◌, ◌+◌, ◌<◌, ◌≤◌, ◌++◌, [], ℕ, List, None, Some, Err, option_map, unwrap_or, IfErr, IfOk, OnOk, OnErr};
 ghost use Rattle.std.specs.List.{AllByRecursion};
 ghost use Rattle.slate_types.specs.declared.error.SlateDBError.{SlateDBError};
 ghost use Rattle.slate_types.specs.Faults.{faults_of};
@@ -71,6 +71,8 @@ pub(crate) fn make<M: MergeOperator>(
     ensures same_layers { OnErr result (layers.new ≡ layers.old) }
     ensures grown { OnErr result (Grown id.now manager.old manager.new) }
     ensures first { (cs : List Commit) → StandsFor manager.old cs → conflict cs owned ≡ None → IsNextOf last owned.ops (Some (last + 1)) → (e : SlateDBError) → test_refusal (option_map M.combine operator.old) default_millis now owned.ops ≡ Some e → (result ≡ Err e) ⊎ (result ≡ Err SlateDBError.OutOfMemory) }
+    ensures met { (cs : List Commit) → StandsFor manager.old cs → (n : ℕ) → conflict cs owned ≡ Some n → (result ≡ Err (SlateDBError.TransactionConflict n)) ⊎ (result ≡ Err SlateDBError.OutOfMemory) }
+    ensures full { (cs : List Commit) → StandsFor manager.old cs → conflict cs owned ≡ None → owned.ops ≢ [] → last ≡ 18446744073709551614 → (result ≡ Err SlateDBError.SequenceExhausted) ⊎ (result ≡ Err SlateDBError.OutOfMemory) }
     ensures same { option_map M.combine operator.new ≡ option_map M.combine operator.old }
     ensures later { faults_of M.faults operator.old ≤ faults_of M.faults operator.new }
     ensures cause { (cs : List Commit) → StandsFor manager.old cs → IfErr result (λ e. (e ≡ SlateDBError.OutOfMemory) ⊎ (IsConflict (conflict cs owned) e ⊎ IsFull last (conflict cs owned) owned.ops e)

@@ -841,6 +841,10 @@ impl Core {
             IsKept m self.old → IsKept m self.new }
         ensures kept_refused { OnErr result ((m : Meaning) → IsKept m self.old → IsKept m self.new) }
         ensures load { (t : Tx) → find_named id.now self.old.state.txns ≡ Some t → load self.new ≤ load self.old + length t.ops }
+        ensures met { (t : Tx) (n : ℕ) → find_named id.now self.old.state.txns ≡ Some t → conflict self.old.state.commits t ≡ Some n →
+            (result ≡ Err (SlateDBError.TransactionConflict n)) ⊎ (result ≡ Err SlateDBError.OutOfMemory) }
+        ensures exhausted { (t : Tx) → find_named id.now self.old.state.txns ≡ Some t → conflict self.old.state.commits t ≡ None → t.ops ≢ [] →
+            last_of self.old.settings.start_seq self.old.state.commits ≡ 2 ^ 64 - 2 → (result ≡ Err SlateDBError.SequenceExhausted) ⊎ (result ≡ Err SlateDBError.OutOfMemory) }
         ensures first { let reach = ⟦<EnvOf<S, M, T> as Outside>⟧.reach in
             let m = (reach env.old).meaning in
             (t : Tx) (e : SlateDBError) → find_named id.now self.old.state.txns ≡ Some t →

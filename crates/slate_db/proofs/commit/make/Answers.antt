@@ -1,5 +1,7 @@
 use Rattle.std.proofs.Common.{◌≡◌, true, false, None, option_map, w64, ◌⊎◌, inl, inr, arith, ◌+◌, List, ◌++◌, unwrap_or, refl, ap, sym, subst, ◌∙◌, append-nil}
 use Rattle.std.proofs.lemmas.Int.{to_z-of_z}
+use Rattle.std.proofs.lemmas.Result.{err_from_is_err_and}
+use Rattle.slate_txn.specs.Conflict.{conflict}
 use Rattle.slate_mem.specs.Batch.{Ops, kept_ops}
 use Rattle.slate_txn.specs.Named.{without}
 use Rattle.slate_txn.specs.Replay.{commit_made}
@@ -12,7 +14,7 @@ use Rattle.slate_db.specs.Managed.{IsManaged}
 use Rattle.slate_db.proofs.Managing.{managed_dropped, managed_committed}
 use Rattle.slate_db.proofs.Plain.{empty_kept}
 use Rattle.slate_types.specs.declared.error.SlateDBError.TheVariants.{OutOfMemory}
-use Rattle.slate_db.proofs.Tests.{first_moved, none_some, test_as}
+use Rattle.slate_db.proofs.Tests.{first_moved, free_or_short, met_or_short, none_number, none_some, test_as}
 use Rattle.slate_db.proofs.commit.make.Goals as goal
 
 pub returns-then-is_empty-clause-next : goal.returns-then-is_empty-clause-next
@@ -76,3 +78,39 @@ returns-in-Err-clause-cause g c cs stands =
       is = sym (test_as (option_map g.M.MergeOperator.combine c.args.operator.now) c.args.default_millis _ c.args.now c.args.owned.ops c.in_ok-tested.tested.batch (to_z-of_z w64 c.args.now c.ranges.now) c.in_ok-tested.ensures.commits.batch) ∙ is;
     })
     c.in-Err.ensures.cause
+
+-- ---- a conflict, and no sequence left
+
+pub returns-in_err-tested-clause-met : goal.returns-in_err-tested-clause-met
+returns-in_err-tested-clause-met g c cs stands n is =
+    let p = err_from_is_err_and c.from_residual.result c.from_residual.ensures.1 in
+    met_or_short (conflict cs c.args.owned) n _ c.in_err-tested.field-0.0 c.from_residual.result p.1 p.2 is (c.in_err-tested.ensures.met cs stands c.requires.held)
+
+pub returns-in_err-tested-clause-full : goal.returns-in_err-tested-clause-full
+returns-in_err-tested-clause-full g c cs stands free some last =
+    let p = err_from_is_err_and c.from_residual.result c.from_residual.ensures.1 in
+    free_or_short (conflict cs c.args.owned) _ c.in_err-tested.field-0.0 c.from_residual.result p.1 p.2 free (c.in_err-tested.ensures.met cs stands c.requires.held)
+
+pub returns-then-is_empty-clause-met : goal.returns-then-is_empty-clause-met
+returns-then-is_empty-clause-met g c cs stands n is = none_number n (sym (c.in_ok-tested.ensures.free cs stands c.requires.held) ∙ is)
+
+pub returns-then-is_empty-clause-full : goal.returns-then-is_empty-clause-full
+returns-then-is_empty-clause-full g c cs stands free some last = absurd (some (empty_kept c.args.owned.ops (sym c.in_ok-tested.ensures.commits.batch.0 ∙ c.is_empty.ensures.0 c.if-is_empty.true)))
+
+pub returns-then-last-ge18446744073709551614-clause-met : goal.returns-then-last-ge18446744073709551614-clause-met
+returns-then-last-ge18446744073709551614-clause-met g c cs stands n is = none_number n (sym (c.in_ok-tested.ensures.free cs stands c.requires.held) ∙ is)
+
+pub returns-then-last-ge18446744073709551614-clause-full : goal.returns-then-last-ge18446744073709551614-clause-full
+returns-then-last-ge18446744073709551614-clause-full g c cs stands free some last = inl refl
+
+pub returns-in-Ok-clause-met : goal.returns-in-Ok-clause-met
+returns-in-Ok-clause-met g c cs stands n is = none_number n (sym (c.in_ok-tested.ensures.free cs stands c.requires.held) ∙ is)
+
+pub returns-in-Ok-clause-full : goal.returns-in-Ok-clause-full
+returns-in-Ok-clause-full g c cs stands free some last = absurd (omega (arith, last, c.if-last-ge18446744073709551614.false))
+
+pub returns-in-Err-clause-met : goal.returns-in-Err-clause-met
+returns-in-Err-clause-met g c cs stands n is = none_number n (sym (c.in_ok-tested.ensures.free cs stands c.requires.held) ∙ is)
+
+pub returns-in-Err-clause-full : goal.returns-in-Err-clause-full
+returns-in-Err-clause-full g c cs stands free some last = absurd (omega (arith, last, c.if-last-ge18446744073709551614.false))

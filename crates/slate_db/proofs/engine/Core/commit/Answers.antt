@@ -4,12 +4,13 @@ use Rattle.std.specs.List.{AllByRecursion}
 use Rattle.std.proofs.lemmas.Int.{to_z-of_z}
 use Rattle.slate_store.specs.Reach.{reach_of}
 use Rattle.slate_types.specs.declared.error.SlateDBError.{SlateDBError}
-use Rattle.slate_types.specs.declared.error.SlateDBError.TheVariants.{OutOfMemory}
+use Rattle.slate_types.specs.declared.error.SlateDBError.TheVariants.{OutOfMemory, SequenceExhausted, TransactionConflict}
 use Rattle.slate_types.specs.Fold.{Combine}
 use Rattle.slate_types.specs.Outside.{IsFault, Meaning, Reach}
 use Rattle.slate_txn.specs.declared.event.Event.TheVariants as events
 use Rattle.slate_txn.specs.declared.line.Line.TheVariants as lines
 use Rattle.slate_txn.specs.Named.{find_named, without}
+use Rattle.slate_txn.specs.State.{last_of}
 use Rattle.slate_txn.specs.Reply.{Committed}
 use Rattle.slate_txn.specs.State.{Tx}
 use Rattle.slate_txn.specs.Step.{step}
@@ -26,10 +27,10 @@ use Rattle.slate_db.specs.Sound.{IsKept, IsOperable}
 use Rattle.slate_db.specs.Vouched.{IsVouchedFor}
 use Rattle.slate_db.specs.View.{view_of, unseen_of, IsWholeInside}
 use Rattle.slate_db.proofs.Asks.{asked_call, asked_reads, callback_fault, short_fault}
-use Rattle.slate_db.proofs.Commits.{Commits, IsRefused, HasCause, HasKnownCause, RowsAfter, core_after, has_cause, may_commit, committed_is, managed_made, put_as, whole_made, kept_made, load_made, event_made, step_made, refused_is, cause_is, load_ended, refused_parts_are, same_txn, test_of}
+use Rattle.slate_db.proofs.Commits.{Commits, conflict_of_parts, not_full, IsRefused, HasCause, HasKnownCause, RowsAfter, core_after, has_cause, may_commit, committed_is, managed_made, put_as, whole_made, kept_made, load_made, event_made, step_made, refused_is, cause_is, load_ended, refused_parts_are, same_txn, test_of}
 use Rattle.slate_db.proofs.Operands.{combine_is}
 use Rattle.slate_db.proofs.Managing.{find_as, managed_dropped}
-use Rattle.slate_db.proofs.Tests.{first_moved, none_some, test_refusal_as}
+use Rattle.slate_db.proofs.Tests.{first_moved, none_number, none_some, test_refusal_as}
 use Rattle.slate_db.proofs.Vouches.{below_next, others_commit, others_end}
 use Rattle.slate_db.proofs.Wholes.{named_in_journal, whole_end, kept_end}
 use Rattle.slate_db.proofs.engine.Core.commit.Goals as goal
@@ -244,3 +245,24 @@ pub returns-in-Err-clause-kept_refused : goal.returns-in-Err-clause-kept_refused
 returns-in-Err-clause-kept_refused g c = λ m k.
     subst (λ (s : Inside). IsKept m (view_of s)) (ends g c)
     (kept_end m (view_of c.self.inside) c.args.id.now c.push_end.new.self.spare (subst (λ (v : CoreModel). IsKept m v) (sym c.self.view_is) k))
+
+-- ---- a conflict, and no sequence left
+
+pub returns-in-Ok-clause-met : goal.returns-in-Ok-clause-met
+returns-in-Ok-clause-met g c t n named is = none_number n (sym (c.in-Ok.ensures.free c.self.inside.log.commits c.self.invariant.tied.manager.stands) ∙ conflict_of_parts (view_of c.self.inside) c.args.self.now c.args.id.now c.in-Some.owned t _ c.self.view_is (sym c.in-Some.ensures.taken) named is)
+
+pub returns-in-Ok-clause-exhausted : goal.returns-in-Ok-clause-exhausted
+returns-in-Ok-clause-exhausted g c t named free some full =
+    not_full c.self.inside.log.last c.in-Some.owned.ops c.in-Ok.made.seq (made g c).next (λ none. some (ap (λ (u : Tx). u.ops) (sym (same_txn (view_of c.self.inside) c.args.self.now c.args.id.now c.in-Some.owned t c.self.view_is (sym c.in-Some.ensures.taken) named)) ∙ none))
+    (c.self.invariant.log.last ∙ ap (λ (v : CoreModel). last_of v.settings.start_seq v.state.commits) c.self.view_is ∙ full)
+
+pub returns-in-Err-clause-met : goal.returns-in-Err-clause-met
+returns-in-Err-clause-met g c t n named is =
+    first_moved c.in-Err.error (TransactionConflict n) OutOfMemory _ _ refl refl
+    (c.in-Err.ensures.met c.self.inside.log.commits c.self.invariant.tied.manager.stands n (conflict_of_parts (view_of c.self.inside) c.args.self.now c.args.id.now c.in-Some.owned t _ c.self.view_is (sym c.in-Some.ensures.taken) named is))
+
+pub returns-in-Err-clause-exhausted : goal.returns-in-Err-clause-exhausted
+returns-in-Err-clause-exhausted g c t named free some full =
+    first_moved c.in-Err.error SequenceExhausted OutOfMemory _ _ refl refl
+    (c.in-Err.ensures.full c.self.inside.log.commits c.self.invariant.tied.manager.stands (conflict_of_parts (view_of c.self.inside) c.args.self.now c.args.id.now c.in-Some.owned t _ c.self.view_is (sym c.in-Some.ensures.taken) named free) (λ none. some (ap (λ (u : Tx). u.ops) (sym (same_txn (view_of c.self.inside) c.args.self.now c.args.id.now c.in-Some.owned t c.self.view_is (sym c.in-Some.ensures.taken) named)) ∙ none))
+    (c.last-last.ensures ∙ c.self.invariant.log.last ∙ ap (λ (v : CoreModel). last_of v.settings.start_seq v.state.commits) c.self.view_is ∙ full))

@@ -208,8 +208,8 @@ returns g c =
       first = λ some below e is. none_some e (sym (refusal_known (option_map g.M.MergeOperator.combine c.args.env.now.operator) (reach_of g.S.Store g.M.MergeOperator g.T.BlockTransformer c.args.env.now).meaning.combine (view_of c.self.inside) c.args.self.now _ c.args.now c.args.batch _ (sym (combine_is g.M.MergeOperator.combine c.args.env.now.operator)) c.self.view_is (to_z-of_z w64 c.args.now c.ranges.now) c.in_ok-test_batch.ensures.tested) ∙ is);
       cause = tt;
       outside = refl;
-      call = asked_call g.S.Store g.M.MergeOperator g.T.BlockTransformer c.args.env.now c.rows_of_batch-rows.new.operator c.rows_of_batch-rows.ensures.same;
-      reads = asked_reads g.S.Store g.M.MergeOperator g.T.BlockTransformer c.args.env.now c.rows_of_batch-rows.new.operator c.rows_of_batch-rows.ensures.same c.rows_of_batch-rows.ensures.later;
+      call = asked_call g.S.Store g.M.MergeOperator g.T.BlockTransformer c.args.env.now c.rows_of_batch.new.operator c.rows_of_batch.ensures.same;
+      reads = asked_reads g.S.Store g.M.MergeOperator g.T.BlockTransformer c.args.env.now c.rows_of_batch.new.operator c.rows_of_batch.ensures.same c.rows_of_batch.ensures.later;
     }
 
 -- ---- refusals: at most room was made
@@ -237,7 +237,7 @@ returns-in_err-test_batch g c =
     let below : c.self.inside.log.last < 2 ^ 64 - 2 = omega (arith, c.last.ensures) in
     record {
       step = IfOk-from_err c.from_residual.result _ c.from_residual.ensures.0;
-      refused = rw (p.1, p.2) (refused_test (short_fault _ _ _)
+      refused = rw (p.1, p.2) (refused_test (short_fault (reach_of g.S.Store g.M.MergeOperator g.T.BlockTransformer c.args.env.now) (reach_of g.S.Store g.M.MergeOperator g.T.BlockTransformer c.args.env.now) c.in_err-test_batch.field-0.0)
           (λ test ops of fine.
           sym (ap (λ (v : CoreModel). step (rules_of v.settings m) (at c.args.now v.state) (lines.Write ops)) c.self.view_is)
           ∙ step_test_refused (rules_of (view_of c.self.inside).settings m) (at c.args.now (view_of c.self.inside).state) ops c.args.batch c.self.inside.log.last c.in_err-test_batch.field-0.0 of (λ none. let t : true ≡ false = sym (c.is_empty.ensures.1 none) ∙ c.if-is_empty.false in cc)
@@ -253,7 +253,7 @@ returns-in_err-test_batch g c =
       exhausted = λ some. none_left (view_of c.self.inside) c.args.self.now (unseen_of c.self.inside) (2 ^ 64 - 2) c.self.view_is c.self.invariant below;
       limit = λ some below fine past. or_short (λ short. p.1 ∙ ap Err (p.2 ∙ short)) (λ test. none_some c.in_err-test_batch.field-0.0 (sym fine ∙ refusal_known (option_map g.M.MergeOperator.combine c.args.env.now.operator) (reach_of g.S.Store g.M.MergeOperator g.T.BlockTransformer c.args.env.now).meaning.combine (view_of c.self.inside) c.args.self.now _ c.args.now c.args.batch _ (sym (combine_is g.M.MergeOperator.combine c.args.env.now.operator)) c.self.view_is (to_z-of_z w64 c.args.now c.ranges.now) test)) c.in_err-test_batch.ensures.cause;
       first = λ some lower e is. first_moved c.in_err-test_batch.field-0.0 e errors.OutOfMemory _ c.from_residual.result refl (p.1 ∙ ap Err p.2) (c.in_err-test_batch.ensures.first e (refusal_asked (option_map g.M.MergeOperator.combine c.args.env.now.operator) (reach_of g.S.Store g.M.MergeOperator g.T.BlockTransformer c.args.env.now).meaning.combine (view_of c.self.inside) c.args.self.now _ c.args.now c.args.batch _ (sym (combine_is g.M.MergeOperator.combine c.args.env.now.operator)) c.self.view_is (to_z-of_z w64 c.args.now c.ranges.now) is));
-      cause = rw (p.1, p.2) (cause_test (short_fault _ _ _) (λ test. refusal_known (option_map g.M.MergeOperator.combine c.args.env.now.operator) (reach_of g.S.Store g.M.MergeOperator g.T.BlockTransformer c.args.env.now).meaning.combine (view_of c.self.inside) c.args.self.now _ c.args.now c.args.batch _ (sym (combine_is g.M.MergeOperator.combine c.args.env.now.operator)) c.self.view_is (to_z-of_z w64 c.args.now c.ranges.now) test) c.in_err-test_batch.ensures.cause);
+      cause = rw (p.1, p.2) (cause_test (short_fault (reach_of g.S.Store g.M.MergeOperator g.T.BlockTransformer c.args.env.now) (reach_of g.S.Store g.M.MergeOperator g.T.BlockTransformer c.args.env.now) c.in_err-test_batch.field-0.0) (λ test. refusal_known (option_map g.M.MergeOperator.combine c.args.env.now.operator) (reach_of g.S.Store g.M.MergeOperator g.T.BlockTransformer c.args.env.now).meaning.combine (view_of c.self.inside) c.args.self.now _ c.args.now c.args.batch _ (sym (combine_is g.M.MergeOperator.combine c.args.env.now.operator)) c.self.view_is (to_z-of_z w64 c.args.now c.ranges.now) test) c.in_err-test_batch.ensures.cause);
       outside = refl;
       call = call_none _;
       reads = reads_none _;
@@ -312,7 +312,7 @@ returns-in_err-rows g c =
     let below : c.self.inside.log.last < 2 ^ 64 - 2 = omega (arith, c.last.ensures) in
     record {
       step = IfOk-from_err c.from_residual-in_err-rows.result _ c.from_residual-in_err-rows.ensures.0;
-      refused = rw (p.1, p.2) (inl (either (short_fault (reach_of g.S.Store g.M.MergeOperator g.T.BlockTransformer c.args.env.now) (reach_of g.S.Store g.M.MergeOperator g.T.BlockTransformer (record c.args.env.now { operator = c.rows_of_batch-rows.new.operator })) _) (callback_fault (reach_of g.S.Store g.M.MergeOperator g.T.BlockTransformer c.args.env.now) (reach_of g.S.Store g.M.MergeOperator g.T.BlockTransformer (record c.args.env.now { operator = c.rows_of_batch-rows.new.operator })) _) c.in_err-rows.ensures.cause));
+      refused = rw (p.1, p.2) (inl (either (short_fault (reach_of g.S.Store g.M.MergeOperator g.T.BlockTransformer c.args.env.now) (reach_of g.S.Store g.M.MergeOperator g.T.BlockTransformer (record c.args.env.now { operator = c.rows_of_batch.new.operator })) c.in_err-rows.field-0.0) (callback_fault (reach_of g.S.Store g.M.MergeOperator g.T.BlockTransformer c.args.env.now) (reach_of g.S.Store g.M.MergeOperator g.T.BlockTransformer (record c.args.env.now { operator = c.rows_of_batch.new.operator })) c.in_err-rows.field-0.0) c.in_err-rows.ensures.cause));
       event = IfOk-from_err c.from_residual-in_err-rows.result _ c.from_residual-in_err-rows.ensures.0;
       vouched = IfOk-from_err c.from_residual-in_err-rows.result _ c.from_residual-in_err-rows.ensures.0;
       kept = IfOk-from_err c.from_residual-in_err-rows.result _ c.from_residual-in_err-rows.ensures.0;
@@ -323,10 +323,10 @@ returns-in_err-rows g c =
       exhausted = λ some. none_left (view_of c.self.inside) c.args.self.now (unseen_of c.self.inside) (2 ^ 64 - 2) c.self.view_is c.self.invariant below;
       limit = λ some below fine. placed (view_of c.self.inside) c.args.self.now (unseen_of c.self.inside) 1 c.self.view_is c.self.invariant c.in_ok-place.ensures.place;
       first = λ some lower e is. none_some e (sym (refusal_known (option_map g.M.MergeOperator.combine c.args.env.now.operator) (reach_of g.S.Store g.M.MergeOperator g.T.BlockTransformer c.args.env.now).meaning.combine (view_of c.self.inside) c.args.self.now _ c.args.now c.args.batch _ (sym (combine_is g.M.MergeOperator.combine c.args.env.now.operator)) c.self.view_is (to_z-of_z w64 c.args.now c.ranges.now) c.in_ok-test_batch.ensures.tested) ∙ is);
-      cause = rw (p.1, p.2) (inl (either (short_fault (reach_of g.S.Store g.M.MergeOperator g.T.BlockTransformer c.args.env.now) (reach_of g.S.Store g.M.MergeOperator g.T.BlockTransformer (record c.args.env.now { operator = c.rows_of_batch-rows.new.operator })) _) (callback_fault (reach_of g.S.Store g.M.MergeOperator g.T.BlockTransformer c.args.env.now) (reach_of g.S.Store g.M.MergeOperator g.T.BlockTransformer (record c.args.env.now { operator = c.rows_of_batch-rows.new.operator })) _) c.in_err-rows.ensures.cause));
+      cause = rw (p.1, p.2) (inl (either (short_fault (reach_of g.S.Store g.M.MergeOperator g.T.BlockTransformer c.args.env.now) (reach_of g.S.Store g.M.MergeOperator g.T.BlockTransformer (record c.args.env.now { operator = c.rows_of_batch.new.operator })) c.in_err-rows.field-0.0) (callback_fault (reach_of g.S.Store g.M.MergeOperator g.T.BlockTransformer c.args.env.now) (reach_of g.S.Store g.M.MergeOperator g.T.BlockTransformer (record c.args.env.now { operator = c.rows_of_batch.new.operator })) c.in_err-rows.field-0.0) c.in_err-rows.ensures.cause));
       outside = refl;
-      call = asked_call g.S.Store g.M.MergeOperator g.T.BlockTransformer c.args.env.now c.rows_of_batch-rows.new.operator c.rows_of_batch-rows.ensures.same;
-      reads = asked_reads g.S.Store g.M.MergeOperator g.T.BlockTransformer c.args.env.now c.rows_of_batch-rows.new.operator c.rows_of_batch-rows.ensures.same c.rows_of_batch-rows.ensures.later;
+      call = asked_call g.S.Store g.M.MergeOperator g.T.BlockTransformer c.args.env.now c.rows_of_batch.new.operator c.rows_of_batch.ensures.same;
+      reads = asked_reads g.S.Store g.M.MergeOperator g.T.BlockTransformer c.args.env.now c.rows_of_batch.new.operator c.rows_of_batch.ensures.same c.rows_of_batch.ensures.later;
     }
 
 pub returns-in_err-ops : goal.returns-in_err-ops
@@ -335,7 +335,7 @@ returns-in_err-ops g c =
     let below : c.self.inside.log.last < 2 ^ 64 - 2 = omega (arith, c.last.ensures) in
     record {
       step = IfOk-from_err c.from_residual-in_err-ops.result _ c.from_residual-in_err-ops.ensures.0;
-      refused = rw (p.1, p.2) (inl (short_fault _ _ _ c.in_err-ops.ensures.cause));
+      refused = rw (p.1, p.2) (inl (short_fault (reach_of g.S.Store g.M.MergeOperator g.T.BlockTransformer c.args.env.now) (reach_of g.S.Store g.M.MergeOperator g.T.BlockTransformer (record c.args.env.now { operator = c.rows_of_batch.new.operator })) c.in_err-ops.field-0.0 c.in_err-ops.ensures.cause));
       event = IfOk-from_err c.from_residual-in_err-ops.result _ c.from_residual-in_err-ops.ensures.0;
       vouched = IfOk-from_err c.from_residual-in_err-ops.result _ c.from_residual-in_err-ops.ensures.0;
       kept = IfOk-from_err c.from_residual-in_err-ops.result _ c.from_residual-in_err-ops.ensures.0;
@@ -346,10 +346,10 @@ returns-in_err-ops g c =
       exhausted = λ some. none_left (view_of c.self.inside) c.args.self.now (unseen_of c.self.inside) (2 ^ 64 - 2) c.self.view_is c.self.invariant below;
       limit = λ some below fine. placed (view_of c.self.inside) c.args.self.now (unseen_of c.self.inside) 1 c.self.view_is c.self.invariant c.in_ok-place.ensures.place;
       first = λ some lower e is. none_some e (sym (refusal_known (option_map g.M.MergeOperator.combine c.args.env.now.operator) (reach_of g.S.Store g.M.MergeOperator g.T.BlockTransformer c.args.env.now).meaning.combine (view_of c.self.inside) c.args.self.now _ c.args.now c.args.batch _ (sym (combine_is g.M.MergeOperator.combine c.args.env.now.operator)) c.self.view_is (to_z-of_z w64 c.args.now c.ranges.now) c.in_ok-test_batch.ensures.tested) ∙ is);
-      cause = rw (p.1, p.2) (inl (short_fault _ _ _ c.in_err-ops.ensures.cause));
+      cause = rw (p.1, p.2) (inl (short_fault (reach_of g.S.Store g.M.MergeOperator g.T.BlockTransformer c.args.env.now) (reach_of g.S.Store g.M.MergeOperator g.T.BlockTransformer (record c.args.env.now { operator = c.rows_of_batch.new.operator })) c.in_err-ops.field-0.0 c.in_err-ops.ensures.cause));
       outside = refl;
-      call = asked_call g.S.Store g.M.MergeOperator g.T.BlockTransformer c.args.env.now c.rows_of_batch-rows.new.operator c.rows_of_batch-rows.ensures.same;
-      reads = asked_reads g.S.Store g.M.MergeOperator g.T.BlockTransformer c.args.env.now c.rows_of_batch-rows.new.operator c.rows_of_batch-rows.ensures.same c.rows_of_batch-rows.ensures.later;
+      call = asked_call g.S.Store g.M.MergeOperator g.T.BlockTransformer c.args.env.now c.rows_of_batch.new.operator c.rows_of_batch.ensures.same;
+      reads = asked_reads g.S.Store g.M.MergeOperator g.T.BlockTransformer c.args.env.now c.rows_of_batch.new.operator c.rows_of_batch.ensures.same c.rows_of_batch.ensures.later;
     }
 
 pub returns-in_err-keys : goal.returns-in_err-keys
@@ -358,7 +358,7 @@ returns-in_err-keys g c =
     let below : c.self.inside.log.last < 2 ^ 64 - 2 = omega (arith, c.last.ensures) in
     record {
       step = IfOk-from_err c.from_residual-in_err-keys.result _ c.from_residual-in_err-keys.ensures.0;
-      refused = rw (p.1, p.2) (inl (short_fault _ _ _ c.in_err-keys.ensures.cause));
+      refused = rw (p.1, p.2) (inl (short_fault (reach_of g.S.Store g.M.MergeOperator g.T.BlockTransformer c.args.env.now) (reach_of g.S.Store g.M.MergeOperator g.T.BlockTransformer (record c.args.env.now { operator = c.rows_of_batch.new.operator })) c.in_err-keys.field-0.0 c.in_err-keys.ensures.cause));
       event = IfOk-from_err c.from_residual-in_err-keys.result _ c.from_residual-in_err-keys.ensures.0;
       vouched = IfOk-from_err c.from_residual-in_err-keys.result _ c.from_residual-in_err-keys.ensures.0;
       kept = IfOk-from_err c.from_residual-in_err-keys.result _ c.from_residual-in_err-keys.ensures.0;
@@ -369,10 +369,10 @@ returns-in_err-keys g c =
       exhausted = λ some. none_left (view_of c.self.inside) c.args.self.now (unseen_of c.self.inside) (2 ^ 64 - 2) c.self.view_is c.self.invariant below;
       limit = λ some below fine. placed (view_of c.self.inside) c.args.self.now (unseen_of c.self.inside) 1 c.self.view_is c.self.invariant c.in_ok-place.ensures.place;
       first = λ some lower e is. none_some e (sym (refusal_known (option_map g.M.MergeOperator.combine c.args.env.now.operator) (reach_of g.S.Store g.M.MergeOperator g.T.BlockTransformer c.args.env.now).meaning.combine (view_of c.self.inside) c.args.self.now _ c.args.now c.args.batch _ (sym (combine_is g.M.MergeOperator.combine c.args.env.now.operator)) c.self.view_is (to_z-of_z w64 c.args.now c.ranges.now) c.in_ok-test_batch.ensures.tested) ∙ is);
-      cause = rw (p.1, p.2) (inl (short_fault _ _ _ c.in_err-keys.ensures.cause));
+      cause = rw (p.1, p.2) (inl (short_fault (reach_of g.S.Store g.M.MergeOperator g.T.BlockTransformer c.args.env.now) (reach_of g.S.Store g.M.MergeOperator g.T.BlockTransformer (record c.args.env.now { operator = c.rows_of_batch.new.operator })) c.in_err-keys.field-0.0 c.in_err-keys.ensures.cause));
       outside = refl;
-      call = asked_call g.S.Store g.M.MergeOperator g.T.BlockTransformer c.args.env.now c.rows_of_batch-rows.new.operator c.rows_of_batch-rows.ensures.same;
-      reads = asked_reads g.S.Store g.M.MergeOperator g.T.BlockTransformer c.args.env.now c.rows_of_batch-rows.new.operator c.rows_of_batch-rows.ensures.same c.rows_of_batch-rows.ensures.later;
+      call = asked_call g.S.Store g.M.MergeOperator g.T.BlockTransformer c.args.env.now c.rows_of_batch.new.operator c.rows_of_batch.ensures.same;
+      reads = asked_reads g.S.Store g.M.MergeOperator g.T.BlockTransformer c.args.env.now c.rows_of_batch.new.operator c.rows_of_batch.ensures.same c.rows_of_batch.ensures.later;
     }
 
 pub returns-in_err-put_batch : goal.returns-in_err-put_batch
@@ -381,7 +381,7 @@ returns-in_err-put_batch g c =
     let below : c.self.inside.log.last < 2 ^ 64 - 2 = omega (arith, c.last.ensures) in
     record {
       step = IfOk-from_err c.from_residual-in_err-put_batch.result _ c.from_residual-in_err-put_batch.ensures.0;
-      refused = rw (p.1, p.2) (inl (short_fault _ _ _ c.in_err-put_batch.ensures.cause));
+      refused = rw (p.1, p.2) (inl (short_fault (reach_of g.S.Store g.M.MergeOperator g.T.BlockTransformer c.args.env.now) (reach_of g.S.Store g.M.MergeOperator g.T.BlockTransformer (record c.args.env.now { operator = c.rows_of_batch.new.operator })) c.in_err-put_batch.field-0.0 c.in_err-put_batch.ensures.cause));
       event = IfOk-from_err c.from_residual-in_err-put_batch.result _ c.from_residual-in_err-put_batch.ensures.0;
       vouched = IfOk-from_err c.from_residual-in_err-put_batch.result _ c.from_residual-in_err-put_batch.ensures.0;
       kept = IfOk-from_err c.from_residual-in_err-put_batch.result _ c.from_residual-in_err-put_batch.ensures.0;
@@ -392,8 +392,8 @@ returns-in_err-put_batch g c =
       exhausted = λ some. none_left (view_of c.self.inside) c.args.self.now (unseen_of c.self.inside) (2 ^ 64 - 2) c.self.view_is c.self.invariant below;
       limit = λ some below fine. placed (view_of c.self.inside) c.args.self.now (unseen_of c.self.inside) 1 c.self.view_is c.self.invariant c.in_ok-place.ensures.place;
       first = λ some lower e is. none_some e (sym (refusal_known (option_map g.M.MergeOperator.combine c.args.env.now.operator) (reach_of g.S.Store g.M.MergeOperator g.T.BlockTransformer c.args.env.now).meaning.combine (view_of c.self.inside) c.args.self.now _ c.args.now c.args.batch _ (sym (combine_is g.M.MergeOperator.combine c.args.env.now.operator)) c.self.view_is (to_z-of_z w64 c.args.now c.ranges.now) c.in_ok-test_batch.ensures.tested) ∙ is);
-      cause = rw (p.1, p.2) (inl (short_fault _ _ _ c.in_err-put_batch.ensures.cause));
+      cause = rw (p.1, p.2) (inl (short_fault (reach_of g.S.Store g.M.MergeOperator g.T.BlockTransformer c.args.env.now) (reach_of g.S.Store g.M.MergeOperator g.T.BlockTransformer (record c.args.env.now { operator = c.rows_of_batch.new.operator })) c.in_err-put_batch.field-0.0 c.in_err-put_batch.ensures.cause));
       outside = refl;
-      call = asked_call g.S.Store g.M.MergeOperator g.T.BlockTransformer c.args.env.now c.rows_of_batch-rows.new.operator c.rows_of_batch-rows.ensures.same;
-      reads = asked_reads g.S.Store g.M.MergeOperator g.T.BlockTransformer c.args.env.now c.rows_of_batch-rows.new.operator c.rows_of_batch-rows.ensures.same c.rows_of_batch-rows.ensures.later;
+      call = asked_call g.S.Store g.M.MergeOperator g.T.BlockTransformer c.args.env.now c.rows_of_batch.new.operator c.rows_of_batch.ensures.same;
+      reads = asked_reads g.S.Store g.M.MergeOperator g.T.BlockTransformer c.args.env.now c.rows_of_batch.new.operator c.rows_of_batch.ensures.same c.rows_of_batch.ensures.later;
     }
