@@ -301,13 +301,7 @@ impl Core {
         if self.log.last() >= 18446744073709551614 {
             return Err(SlateDBError::SequenceExhausted);
         }
-        test_batch(
-            self.alloc,
-            &batch,
-            now,
-            self.default_millis,
-            &env.operator,
-        )?;
+        test_batch(self.alloc, &batch, now, self.default_millis, &env.operator)?;
         self.log.place(1)?;
         self.log.reserve()?;
         let seq = self.log.last() + 1;
