@@ -153,8 +153,8 @@ pub group_shown : (c : List ℕ → Combine) (k : List ℕ) (rows : Rows) → Al
 group_shown c k rows keys =
     fold_shown (fold_group c (upto_base (reverse rows)))
     ∙ ap (λ (o : Option RowEntry). option_to_list (option_and_then (λ r. hide_tombstone r.value r) o)) (
-      group_is c k (upto_base (reverse rows)) (all_upto (λ r. r.key ≡ k) (reverse rows) (all_reverse (λ r. r.key ≡ k) rows keys))
-      ∙ ap (fold_rows (c k)) (sym (append-nil (reverse (upto_base (reverse rows)))))
-      ∙ upto_folds (c k) (reverse rows) []
-      ∙ ap (fold_rows (c k)) (append-nil (reverse (reverse rows)) ∙ reverse-reverse rows)
+    group_is c k (upto_base (reverse rows)) (all_upto (λ r. r.key ≡ k) (reverse rows) (all_reverse (λ r. r.key ≡ k) rows keys))
+    ∙ ap (fold_rows (c k)) (sym (append-nil (reverse (upto_base (reverse rows)))))
+    ∙ upto_folds (c k) (reverse rows) []
+    ∙ ap (fold_rows (c k)) (append-nil (reverse (reverse rows)) ∙ reverse-reverse rows)
     )

@@ -185,7 +185,7 @@ pub folded_of_key : (c : List ℕ → Combine) (order : IterationOrder) (lists :
 folded_of_key c order lists k =
     folds_of_key c k (cut (links true None) (merged order true lists)) (cut_of_key true None (merged order true lists))
     ∙ ap (λ (gs : List Rows). filter_map (fold_group c) (filter (is_headed k) gs))
-      (folds_in_turn order true None (merged order true lists) (turn_decided (row_before order) None (merged order false lists) (merged_in_turn order lists)) ∙ cut_same (merged order true lists) (decided_apart None (merged order false lists)))
+    (folds_in_turn order true None (merged order true lists) (turn_decided (row_before order) None (merged order false lists) (merged_in_turn order lists)) ∙ cut_same (merged order true lists) (decided_apart None (merged order false lists)))
     ∙ ap (filter_map (fold_group c)) (group_of k (merged order true lists) (order_together order (merged order true lists) (merged_in_order order true lists)))
     ∙ one_fold c (of_key k (merged order true lists))
 

@@ -235,8 +235,8 @@ module _ (r : Rules) (cs : List Commit) (n : ℕ) (ops : Ops) (range : BytesRang
   scanned_of_key k =
       filter_swap (λ x. bytes_eq x.key k) (λ x. not (is_tombstone x)) (folded (combine_at r) true None (decided all))
       ∙ ap (filter (λ x. not (is_tombstone x))) (
-        folded_of_key (combine_at r) order (left_of n own lists) k
-        ∙ ap (λ (l : Rows). option_to_list (fold_group (combine_at r) l)) (sym (of_key_is k (decided all)) ∙ decided_key order k all (merged_in_order order false (left_of n own lists)) ∙ ap upto_base (of_key_is k all ∙ merged_of_key k))
+      folded_of_key (combine_at r) order (left_of n own lists) k
+      ∙ ap (λ (l : Rows). option_to_list (fold_group (combine_at r) l)) (sym (of_key_is k (decided all)) ∙ decided_key order k all (merged_in_order order false (left_of n own lists)) ∙ ap upto_base (of_key_is k all ∙ merged_of_key k))
       )
       ∙ by (in_range range k) refl
     where
