@@ -26,7 +26,7 @@ loop-row-preserved g c =
     let i = c.loop-row.invariant in
     let n = rw c.in-Some.is at c.in_ok-row.ensures in
     let it = g.I.RowEntryIterator in
-    let none = no_value (has_value c.in-Some.row) (key_value c.in-Some.row) (sym c.in_default-2.is ∙ c.value_of.ensures) in
+    let none = no_value (has_value c.in-Some.row) (key_value c.in-Some.row) (sym c.in_default-value_of.is ∙ c.value_of.ensures) in
     let t = n.taken.2.0 in
     record {
       passed = passed_on _ _ _ _ (λ x m reads answer y. Takes it.takes x m reads answer y) _ _ _ _ _ _ i.passed c.in-Some.row (record { rows = n.rows; still = n.still; checked = n.checked; taken = n.taken }) n.operable none;
@@ -56,21 +56,21 @@ returns-in_err-row g c =
           let now = last _ _ _ _ _ _ _ _ _ c.next_row.new.self i.sources n.cause.0 n.cause.1 w sees in
           let then = first _ _ _ _ _ _ _ _ _ c.next_row.new.self i.sources n.cause.0 n.cause.1 w sees in
           rw (p.1, p.2) (passed_undamaged _ _ (λ x. it.refuses x.iterator) _ _ _ _ _ _ c.next_row.new.self i.sources None e i.reads.later w sees
-          (whole_going it.rest it.sound it.order c.loop-row.initial.rows w it.refuses g.met.I.RowEntryIterator.whole going h None e) (n.own w now (i.goes going) (i.passed.still w then h) (i.passed.keeps w then h k))));
+          (whole_going it.rest it.sound it.order c.args.rows.now w it.refuses g.met.I.RowEntryIterator.whole going h None e) (n.own w now (i.goes going) (i.passed.still w then h) (i.passed.keeps w then h k))));
       cause = rw (p.1, p.2) (passed_fails _ _ (refuses_folding it.refuses) _ _ _ _ _ _ c.next_row.new.self i.passed None e i.reads.later (n.cause.0, n.cause.1, n.cause.2.0));
       order = n.order ∙ i.order;
       reads = reads_then _ _ _ i.reads n.reads;
     }
 
-pub returns-in-Some-2 : goal.returns-in-Some-2
-returns-in-Some-2 g c =
+pub returns-in-Some-value_of : goal.returns-in-Some-value_of
+returns-in-Some-value_of g c =
     let i = c.loop-row.invariant in
     let n = rw c.in-Some.is at c.in_ok-row.ensures in
     let row = c.in-Some.row in
     let it = g.I.RowEntryIterator in
     let s : Step (rest_folding it.rest) (sound_folding it.rest it.sound it.order) (refuses_folding it.refuses) (λ x m reads answer y. Takes it.takes x m reads answer y) _ _ c.loop-row.rows (Some row) c.next_row.new.self = record { rows = n.rows; still = n.still; checked = n.checked; taken = n.taken } in
     let u : Step (rest_folding it.rest) (sound_folding it.rest it.sound it.order) (λ x. it.refuses x.iterator) (λ x m reads answer y. Unit {0}) _ _ c.loop-row.rows (Some row) c.next_row.new.self = record { rows = n.rows; still = n.still; checked = n.checked; taken = (n.sources.0, n.sources.1, (tt, n.sources.2)) } in
-    let v = some_value (has_value row) (key_value row) c.in-Some-2.value (sym c.in-Some-2.is ∙ c.value_of.ensures) in
+    let v = some_value (has_value row) (key_value row) c.in-Some-value_of.value (sym c.in-Some-value_of.is ∙ c.value_of.ensures) in
     let t = n.taken.2.0 in
     record {
       rows = λ w range values sees h k.
