@@ -212,6 +212,16 @@ merge_gathered layers rows same h = by (is_merge_among (newest_first layers)) re
         let clash : true ≡ false = sym h ∙ no_merge_among rows bases in
         cc
 
+pub merge_still : (layers : List Rows) (rows : Rows) → ((k : List ℕ) → versions k rows ≡ versions_in k layers) → is_merge_among (newest_first layers) ≡ true → is_merge_among rows ≡ true
+merge_still layers rows same h = by (is_merge_among rows) refl
+  where
+    by : (t : Bool) → is_merge_among rows ≡ t → t ≡ true
+    by true e = refl
+    by false e =
+        let bases : AreBases (newest_first layers) = all_by_versions (λ r. is_base r ≡ true) (newest_first layers) (λ k. subst AreBases (same k ∙ sym (all_versions_are k layers)) (all_versions (λ r. is_base r ≡ true) k rows (bases_of rows e))) in
+        let clash : true ≡ false = sym h ∙ no_merge_among (newest_first layers) bases in
+        cc
+
 -- ---- one row more in a builder
 
 pub order_front : (xs ys : Rows) → AreInOrder (xs ++ ys) → AreInOrder xs

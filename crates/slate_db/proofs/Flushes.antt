@@ -103,16 +103,24 @@ too_large_before m layout old between e (inr (some, is)) h = moved (subst (λ (v
 newest_behind : (layers : List Rows) → newest_first (layers ++ ([] ∷ [])) ≡ newest_first layers
 newest_behind layers = ap (flat_map (λ (rows : Rows). rows)) (reverse-append layers ([] ∷ []))
 
-wants_behind : (m : Meaning) (layers : List Rows) (e : SlateDBError) → WantsOperator m (layers ++ ([] ∷ [])) e → WantsOperator m layers e
-wants_behind m layers e h = (h.0, h.1, ap is_merge_among (sym (newest_behind layers)) ∙ h.2)
+-- so the freeze makes no difference
+pub among_frozen : (old between : CoreModel) → IsFrozen old between → is_merge_among (newest_first (memory between)) ≡ is_merge_among (newest_first (memory old))
+among_frozen old between (inl (none, is)) = ap (λ (v : CoreModel). is_merge_among (newest_first (memory v))) is
+among_frozen old between (inr (some, is)) = ap (λ (v : CoreModel). is_merge_among (newest_first (memory v))) is ∙ ap is_merge_among (newest_behind (memory old))
 
 pub wants_before : (m : Meaning) (old between : CoreModel) (e : SlateDBError) → IsFrozen old between → WantsOperator m (memory between) e → WantsOperator m (memory old) e
-wants_before m old between e (inl (none, is)) h = subst (λ (v : CoreModel). WantsOperator m (memory v) e) is h
-wants_before m old between e (inr (some, is)) h = wants_behind m (memory old) e (subst (λ (v : CoreModel). WantsOperator m (memory v) e) is h)
+wants_before m old between e frozen h = (h.0, h.1, sym (among_frozen old between frozen) ∙ h.2)
 
 -- layers: those of the call that stores them
+pub among_idle : (c : CoreModel) (layers : List Rows) → c.active ≡ [] → layers ≡ c.frozen → is_merge_among (newest_first (memory c)) ≡ is_merge_among (newest_first layers)
+among_idle c layers empty frozen = ap (λ (rows : Rows). is_merge_among (newest_first (c.frozen ++ (rows ∷ [])))) empty ∙ ap is_merge_among (newest_behind c.frozen ∙ ap newest_first (sym frozen))
+
 pub wants_idle : (m : Meaning) (c : CoreModel) (layers : List Rows) (e : SlateDBError) → c.active ≡ [] → layers ≡ c.frozen → WantsOperator m layers e → WantsOperator m (memory c) e
-wants_idle m c layers e idle frozen h = (h.0, h.1, ap (λ (rows : Rows). is_merge_among (newest_first (c.frozen ++ (rows ∷ [])))) idle ∙ ap is_merge_among (newest_behind c.frozen ∙ ap newest_first (sym frozen)) ∙ h.2)
+wants_idle m c layers e empty frozen h = (h.0, h.1, among_idle c layers empty frozen ∙ h.2)
+
+-- and where no rows are there is none
+pub none_idle : (c : CoreModel) → c.active ≡ [] → c.frozen ≡ [] → is_merge_among (newest_first (memory c)) ≡ false
+none_idle c empty frozen = among_idle c [] empty (sym frozen)
 
 -- what is kept of merges leaves none without an operator
 pub never_missing : (layout : Layout) (before after : Reach) (c : CoreModel) (e : SlateDBError) → IsKept before.meaning c → IsFlushError layout before after c e → e ≡ MergeOperatorMissing → ⊥
@@ -184,6 +192,11 @@ no_fault limit r e at limited (inr x) inner = by inner (limited x)
     by (inr (inl is)) m = cc
     by (inr (inr (inl is))) m = cc
     by (inr (inr (inr (message, is)))) m = cc
+
+-- a refusal of the install keeps what the freeze kept
+pub kept_behind : {X E : Type 0} (r : Result X E) {K L N : Meaning → Type 0} → ((m : Meaning) → K m → L m) → OnErr r ((m : Meaning) → L m → N m) → OnErr r ((m : Meaning) → K m → N m)
+kept_behind (Ok x) first second = tt
+kept_behind (Err e) first second = λ m k. second m (first m k)
 
 -- ---- what is said of a refusal before the install
 

@@ -13,7 +13,8 @@
 --     HasTooLarge layout rows e      so would one of the tables into which the rows are cut
 --     after_install c n ts spare      the core after the tables were installed through n
 --     MayFlush m layout c before after      what a refused flush leaves of the objects
---     TooLarge layout c e      a table of the rows in memory would have too many blocks; so there is much in memory
+--     TooLarge m layout c e      a table of the rows in memory would have too many blocks; so there is much in memory
+--     WantsOperator m layers e      one of the rows is an operand, and there is no operator
 --     IsFlushed m layout old new n before after      a flush behind its freeze, with the store's objects before and after
 --     NoPlace n c, NoPlaceToFlush c      the journal has no place for so many events more, and for those of a flush
 --     of what a call reaches before and after it:

@@ -11,6 +11,7 @@ ghost use Rattle.slate_types.specs.Keys.{in_range, is_refused};
 ghost use Rattle.slate_types.specs.Outside.{Act, IsFault, OnlyReads, Puts};
 ghost use Rattle.slate_types.specs.Refusing.{NoMore};
 ghost use Rattle.slate_types.specs.World.{World, Checks, IsCall, Made, Sees};
+ghost use Rattle.slate_mem.specs.Lookup.{is_merge_among, newest_first};
 ghost use Rattle.slate_mem.specs.Table.{newest};
 ghost use Rattle.slate_txn.specs.declared.event.TranscriptStep.TheVariants as steps;
 ghost use Rattle.slate_txn.specs.Alone.{first_left, own_of};
@@ -353,6 +354,9 @@ impl Core {
         ensures kept { let reach = ⟦<EnvOf<S, M, T> as Outside>⟧.reach in
             let m = (reach env.old).meaning in
             IsKept m self.old → IsKept m self.new }
+        ensures kept_refused { OnErr result ((m : Meaning) → IsKept m self.old → IsKept m self.new) }
+        ensures wanted { let reach = ⟦<EnvOf<S, M, T> as Outside>⟧.reach in
+            (reach env.old).meaning.combine ≡ None → is_merge_among (newest_first (memory self.old)) ≡ true → IfOk result (λ _. ⊥) }
         ensures operable { let reach = ⟦<EnvOf<S, M, T> as Outside>⟧.reach in
             let m = (reach env.old).meaning in
             IsKept m self.old → IfErr result (λ e. e ≢ SlateDBError.MergeOperatorMissing) }
@@ -396,6 +400,9 @@ impl Core {
         ensures kept { let reach = ⟦<EnvOf<S, M, T> as Outside>⟧.reach in
             let m = (reach env.old).meaning in
             IsKept m self.old → IsKept m self.new }
+        ensures kept_refused { OnErr result ((m : Meaning) → IsKept m self.old → IsKept m self.new) }
+        ensures wanted { let reach = ⟦<EnvOf<S, M, T> as Outside>⟧.reach in
+            (reach env.old).meaning.combine ≡ None → is_merge_among (newest_first (memory self.old)) ≡ true → IfOk result (λ _. ⊥) }
         ensures cause { let reach = ⟦<EnvOf<S, M, T> as Outside>⟧.reach in
             let m = (reach env.old).meaning in
             IfErr result (λ e. IsFault (reach env.old) (reach env.new) e ⊎ TooLarge m (layout_of options.now) self.old e ⊎ WantsOperator m (memory self.old) e) }

@@ -1,5 +1,5 @@
 //! The tables of a flush.
-ghost use Rattle.std.specs.Prelude.{◌≡◌, ◌≤◌, ◌<◌, ◌⊎◌, ◌∷◌, ℕ, List, [], map, length, OnOk, OnErr, IfOk, IfErr, IsOkUnless};
+ghost use Rattle.std.specs.Prelude.{◌≡◌, ◌≤◌, ◌<◌, ◌⊎◌, ◌∷◌, ℕ, List, [], map, length, OnOk, OnErr, IfOk, IfErr, IsOkUnless, None, true};
 ghost use Rattle.std.specs.List.{AllByRecursion};
 ghost use Rattle.slate_types.specs.Config.{IsValid};
 ghost use Rattle.slate_types.specs.Faults.{faults_of};
@@ -7,6 +7,7 @@ ghost use Rattle.slate_types.specs.Outside.{IsFault, Puts};
 ghost use Rattle.slate_block.specs.ReadingLaws.{EachIsAByte};
 ghost use Rattle.slate_table.specs.InfoReading.{seen_info};
 ghost use Rattle.slate_table.specs.SectionReading.{changed_by, IsTransformFault};
+ghost use Rattle.slate_mem.specs.Lookup.{is_merge_among, newest_first};
 ghost use Rattle.slate_table.specs.Table.{AreInOrder, IsBuilt};
 ghost use Rattle.slate_table.specs.TableEnd.{HasInfo};
 ghost use Rattle.slate_table.specs.TableParts.{version_of};
@@ -58,6 +59,7 @@ pub fn stored<S: Store, M: MergeOperator, T: BlockTransformer>(
     ensures cause { let reach = ⟦<EnvOf<S, M, T> as Outside>⟧.reach in IfErr result (λ e. IsFault (reach env.old) (reach env.new) e
         ⊎ ((rows : Rows) × IsFolded (reach env.old).meaning barrier (map (λ t. t.rows) frozen.now) rows × AreInOrder rows × HasTooLarge (layout_of options.now) rows e)
         ⊎ WantsOperator (reach env.old).meaning (map (λ t. t.rows) frozen.now) e) }
+    ensures wanted { let reach = ⟦<EnvOf<S, M, T> as Outside>⟧.reach in (reach env.old).meaning.combine ≡ None → is_merge_among (newest_first (map (λ t. t.rows) frozen.now)) ≡ true → IfOk result (λ _. ⊥) }
     ensures puts { let reach = ⟦<EnvOf<S, M, T> as Outside>⟧.reach in Puts (reach env.old) (reach env.new) }
 {
     let rows = rows_of_flush(alloc, frozen, barrier, &mut env.operator)?;

@@ -1,10 +1,10 @@
 //! The rows that a flush stores.
-ghost use Rattle.std.specs.Prelude.{◌≡◌, ◌⊎◌, ◌≤◌, ◌<◌, ◌&&◌, not, is_some, map, length, option_map, IfErr, IfOk};
+ghost use Rattle.std.specs.Prelude.{◌≡◌, ◌⊎◌, ◌≤◌, ◌<◌, ◌&&◌, not, is_some, None, true, map, length, option_map, IfErr, IfOk};
 ghost use Rattle.std.specs.List.{AllByRecursion};
 ghost use Rattle.slate_types.specs.declared.error.SlateDBError.{SlateDBError};
 ghost use Rattle.slate_table.specs.Table.{AreInOrder};
 ghost use Rattle.slate_types.specs.Faults.{faults_of};
-ghost use Rattle.slate_mem.specs.Lookup.{is_merge_among, IsCallback};
+ghost use Rattle.slate_mem.specs.Lookup.{is_merge_among, newest_first, IsCallback};
 ghost use Rattle.slate_db.specs.Flushed.{IsFolded, CanFlush, WantsOperator};
 ghost use Rattle.slate_db.specs.Meaning.{Meaning};
 ghost use Rattle.slate_db.specs.Layers.{FitsMemory};
@@ -31,6 +31,7 @@ pub fn rows_of_flush<M: MergeOperator>(
     ensures fit { IfOk result (λ rows. AllByRecursion FitsMemory rows.items) }
     ensures some { IfOk result (λ rows. 0 < length rows.items) }
     ensures missing { (m : Meaning) → m.combine ≡ option_map M.combine operator.old → IfErr result (λ e. e ≡ SlateDBError.MergeOperatorMissing → WantsOperator m (map (λ t. t.rows) frozen.now) e) }
+    ensures wanted { option_map M.combine operator.old ≡ None → is_merge_among (newest_first (map (λ t. t.rows) frozen.now)) ≡ true → IfOk result (λ _. ⊥) }
     ensures same { option_map M.combine operator.new ≡ option_map M.combine operator.old }
     ensures later { faults_of M.faults operator.old ≤ faults_of M.faults operator.new }
     ensures cause { IfErr result (λ e. (e ≡ SlateDBError.OutOfMemory) ⊎ (e ≡ SlateDBError.MergeOperatorMissing) ⊎ IsCallback (faults_of M.faults operator.old) (faults_of M.faults operator.new) e) }

@@ -32,6 +32,7 @@ returns g c =
       acts = c.stored_run.ensures.acts;
       refused = refused_as c.stored_run.result (some_of_flush m layout c.args.number c.args.barrier _ c.in_ok-rows.rows.items parts _ _ rows.some (rows.folded m operator) rows.order c.in_ok-parts.ensures.cut) c.stored_run.ensures.refused;
       cause = if_err c.stored_run.result _ _ (λ e h. run_cause before now after e later (λ large. (c.in_ok-rows.rows.items, rows.folded m operator, rows.order, has_too_large layout c.in_ok-rows.rows.items parts e c.in_ok-parts.ensures.cut large)) h) c.stored_run.ensures.cause;
+      wanted = λ none among. absurd (rows.wanted (sym operator ∙ none) among);
       puts = puts_then before now after (puts_of before now same refl refl later refl) c.stored_run.ensures.puts;
     }
 
@@ -48,6 +49,7 @@ returns-in_err-rows g c =
       acts = IfOk-from_err c.from_residual.result _ c.from_residual.ensures.0;
       refused = rw p.1 (may_keep _ _ _ (λ i. g.S.Store.objects c.args.env.now.store.now));
       cause = rw (p.1, p.2) (rows_cause before.faults now.faults m (map (λ t. t.rows) c.args.frozen.now) c.in_err-rows.field-0.0 (c.in_err-rows.ensures.missing m operator) c.in_err-rows.ensures.cause);
+      wanted = λ none among. IfOk-from_err c.from_residual.result _ c.from_residual.ensures.0;
       puts = puts_of before now same refl refl (record { store = omega arith; operator = c.in_err-rows.ensures.later; transformer = omega arith }) refl;
     }
 
@@ -63,5 +65,6 @@ returns-in_err-parts g c =
       acts = IfOk-from_err c.from_residual-in_err-parts.result _ c.from_residual-in_err-parts.ensures.0;
       refused = rw p.1 (may_keep _ _ _ (λ i. g.S.Store.objects c.args.env.now.store.now));
       cause = rw (p.1, p.2) (inl (subst (IsCounted before.faults now.faults) (sym c.in_err-parts.ensures.cause) tt));
+      wanted = λ none among. IfOk-from_err c.from_residual-in_err-parts.result _ c.from_residual-in_err-parts.ensures.0;
       puts = puts_of before now same refl refl (record { store = omega arith; operator = c.in_ok-rows.ensures.later; transformer = omega arith }) refl;
     }

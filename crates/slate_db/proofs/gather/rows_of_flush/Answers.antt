@@ -12,7 +12,7 @@ use Rattle.slate_db.specs.Meaning.{Meaning}
 use Rattle.slate_db.specs.Model.{Rows, versions, versions_in}
 use Rattle.slate_db.proofs.Blocks.{if_err, if_ok}
 use Rattle.slate_db.proofs.FoldFits.{operator_short}
-use Rattle.slate_db.proofs.FlushRows.{flush_folds, flush_order, flush_fits, flush_some, merge_gathered}
+use Rattle.slate_db.proofs.FlushRows.{flush_folds, flush_order, flush_fits, flush_some, merge_gathered, merge_still}
 use Rattle.slate_db.proofs.Newest.{all_versions_are}
 use Rattle.slate_db.proofs.RunSoFar.{both_ok}
 use Rattle.slate_db.proofs.gather.rows_of_flush.Goals as goal
@@ -29,6 +29,10 @@ some_operator (Some x) b m test absent e = refl
 none_wanted : {M C : Type 0} (f : M → C) (o : Option M) (b m : Bool) → b ≡ (not (is_some o) && m) → b ≡ true → (option_map f o ≡ None) × (m ≡ true)
 none_wanted f None b m test wanted = (refl, sym test ∙ wanted)
 none_wanted f (Some x) b m test wanted = let clash : false ≡ true = sym test ∙ wanted in cc
+
+unwanted : {M C : Type 0} (f : M → C) (o : Option M) (b m : Bool) → b ≡ (not (is_some o) && m) → b ≡ false → option_map f o ≡ None → m ≡ true → ⊥
+unwanted f None b m test absent none e = let clash : false ≡ true = sym absent ∙ test ∙ e in cc
+unwanted f (Some x) b m test absent none e = cc
 
 -- an operator alone, for what is said of every meaning
 abbrev alone : Option (List ℕ → Combine) → Meaning
@@ -65,6 +69,8 @@ returns g c =
       some = if_ok c.fold_for_flush.result _ _
           (λ out h. flush_some (operator_at (option_map g.M.MergeOperator.combine c.args.operator.now)) c.args.barrier layers rows out.items same h c.requires.some c.requires.each) made;
       missing = λ m is. if_err c.fold_for_flush.result _ _ (λ e h missing. absurd (not_missing e _ _ missing h)) c.fold_for_flush.ensures.cause;
+      wanted = λ none among. absurd (unwanted g.M.MergeOperator.combine c.args.operator.now c.wants_operator.result (is_merge_among c.in_ok-rows.rows.items) (c.wants_operator.ensures ∙ ap (λ (xs : Rows). not (is_some c.args.operator.now) && is_merge_among xs) c.deref.ensures.value) c.if-wants_operator.false none
+          (merge_still layers rows same among));
       same = c.fold_for_flush.ensures.same;
       later = c.fold_for_flush.ensures.later;
       cause = if_err c.fold_for_flush.result _ _ (λ e h. or_missing h) c.fold_for_flush.ensures.cause;
@@ -79,6 +85,7 @@ returns-then-wants_operator g c =
       fit = tt;
       some = tt;
       missing = λ m is e. (refl, is ∙ none.0, merge_gathered (map (λ t. t.rows) c.args.frozen.now) c.in_ok-rows.rows.items (keys (map (λ t. t.rows) c.args.frozen.now) c.in_ok-rows.rows.items c.in_ok-rows.ensures.rows) none.1);
+      wanted = λ none among. tt;
       same = refl;
       later = omega arith;
       cause = inr (inl refl);
@@ -93,6 +100,7 @@ returns-in_err-rows g c =
       fit = IfOk-from_err c.from_residual.result _ c.from_residual.ensures.0;
       some = IfOk-from_err c.from_residual.result _ c.from_residual.ensures.0;
       missing = λ m is. rw (p.1, p.2) (λ missing. let clash : OutOfMemory ≡ MergeOperatorMissing = sym c.in_err-rows.ensures.cause ∙ missing in cc);
+      wanted = λ none among. IfOk-from_err c.from_residual.result _ c.from_residual.ensures.0;
       same = refl;
       later = omega arith;
       cause = rw (p.1, p.2) (inl c.in_err-rows.ensures.cause);

@@ -18,7 +18,7 @@ use Rattle.slate_db.specs.Sound.{IsKept}
 use Rattle.slate_db.specs.Log.{LIMIT, LogModel, IsLog, with_flush}
 use Rattle.slate_db.specs.View.{view_of, unseen_of, IsWholeInside}
 use Rattle.slate_db.specs.Vouched.{IsVouchedFor}
-use Rattle.slate_db.proofs.Flushes.{kept_flushed, step_flush, frozen_settings, steps_after, place_cause, freeze_cause, frozen_idle, none_frozen, installed_after, cause_after, too_large_before, wants_before, never_missing, place_left, some_frozen, frozen_at_fault, no_fault, settled, all_taken, quiet_after}
+use Rattle.slate_db.proofs.Flushes.{kept_flushed, step_flush, frozen_settings, steps_after, place_cause, freeze_cause, frozen_idle, none_frozen, installed_after, cause_after, too_large_before, wants_before, among_frozen, kept_behind, none_idle, never_missing, place_left, some_frozen, frozen_at_fault, no_fault, settled, all_taken, quiet_after}
 use Rattle.slate_db.proofs.Built.{may_keep}
 use Rattle.slate_db.proofs.Vouches.{vouched_flushed}
 use Rattle.slate_db.proofs.Wholes.{whole_flushed}
@@ -67,6 +67,8 @@ returns-in_err-place_for_flush g c =
       kept = λ k. k;
       settings = refl;
       limit = λ h. let p = err_from_is_err_and c.from_residual.result c.from_residual.ensures.1 in p.1 ∙ ap Err (p.2 ∙ c.in_err-place_for_flush.ensures.limit.0);
+      kept_refused = rw p.1 (λ m k. k);
+      wanted = λ none among. IfOk-from_err c.from_residual.result _ c.from_residual.ensures.0;
       operable = (λ k.
           let here = reach_of g.S.Store g.M.MergeOperator g.T.BlockTransformer c.args.env.now in
           rw (p.1, p.2) (never_missing (layout_of c.args.laws.now.options) here here c.args.self.now c.in_err-place_for_flush.field-0.0 k (place_cause LIMIT c.args.self.now c.in_err-place_for_flush.field-0.0 c.in_err-place_for_flush.ensures.limit)));
@@ -92,9 +94,11 @@ returns-in_err-freeze g c =
       full = λ h. c.in_err-freeze.ensures.same;
       full_objects = λ h. refl;
       vouched = IfOk-from_err c.from_residual-in_err-freeze.result _ c.from_residual-in_err-freeze.ensures.0;
-      kept = λ k. subst (λ (v : CoreModel). IsKept m v) (sym c.in_err-freeze.ensures.same) k;
+      kept = λ k. subst (λ (v : CoreModel). IsKept (reach_of g.S.Store g.M.MergeOperator g.T.BlockTransformer c.args.env.now).meaning v) (sym c.in_err-freeze.ensures.same) k;
       settings = ap (λ (v : CoreModel). v.settings) c.in_err-freeze.ensures.same;
       limit = λ h. absurd (omega (arith, c.in_ok-place_for_flush.ensures.place, h));
+      kept_refused = rw p.1 (λ m k. subst (λ (v : CoreModel). IsKept m v) (sym c.in_err-freeze.ensures.same) k);
+      wanted = λ none among. IfOk-from_err c.from_residual-in_err-freeze.result _ c.from_residual-in_err-freeze.ensures.0;
       operable = (λ k.
           let here = reach_of g.S.Store g.M.MergeOperator g.T.BlockTransformer c.args.env.now in
           rw (p.1, p.2) (never_missing (layout_of c.args.laws.now.options) here here c.args.self.now c.in_err-freeze.field-0.0 k (freeze_cause LIMIT _ _ c.args.self.now c.in_err-freeze.field-0.0 (λ e. let t : false ≡ true = c.in_err-freeze.ensures.idle e in cc) c.in_err-freeze.ensures.cause)));
@@ -162,6 +166,15 @@ returns-then-is_empty-clause-puts g c = puts_none _
 pub returns-then-is_empty-clause-refused : goal.returns-then-is_empty-clause-refused
 returns-then-is_empty-clause-refused g c = tt
 
+pub returns-then-is_empty-clause-kept_refused : goal.returns-then-is_empty-clause-kept_refused
+returns-then-is_empty-clause-kept_refused g c = tt
+
+pub returns-then-is_empty-clause-wanted : goal.returns-then-is_empty-clause-wanted
+returns-then-is_empty-clause-wanted g c none among =
+    let clash : true ≡ false = sym among ∙ sym (among_frozen c.args.self.now c.freeze.new.self c.in_ok-freeze.ensures.event)
+    ∙ none_idle c.freeze.new.self (frozen_idle c.args.self.now c.freeze.new.self c.in_ok-freeze.ensures.event) (sym (ap (λ (v : CoreModel). v.frozen) c.self.view_is) ∙ sym c.frozen.ensures ∙ none_frozen c.frozen.result.now c.frozen.result.now c.is_empty.result c.is_empty.ensures c.if-is_empty.true refl) in
+    absurd cc
+
 pub returns-then-is_empty-clause-operable : goal.returns-then-is_empty-clause-operable
 returns-then-is_empty-clause-operable g c k = tt
 
@@ -200,6 +213,8 @@ returns g c =
       kept = λ k. c.install.ensures.kept (c.in_ok-freeze.ensures.kept _ k);
       settings = same;
       limit = λ h. absurd (omega (arith, c.in_ok-place_for_flush.ensures.place, h));
+      kept_refused = kept_behind c.install.result (c.in_ok-freeze.ensures.kept) c.install.ensures.kept_refused;
+      wanted = λ none among. c.install.ensures.wanted none (among_frozen c.args.self.now c.freeze.new.self c.in_ok-freeze.ensures.event ∙ among);
       operable = λ k. cause_after c.install.result (IsFlushError layout before after c.args.self.now) (λ e. e ≡ errors.MergeOperatorMissing → ⊥) (λ e h. never_missing layout before after c.args.self.now e k h) cause;
       cause = cause;
       puts = c.install.ensures.puts;

@@ -2,6 +2,7 @@ use Rattle.std.proofs.Common.{◌≡◌, ℕ, ◌+◌, ◌<◌, map, length, ref
 use Rattle.std.proofs.lemmas.Result.{err_from_is_err_and, IfOk-from_err}
 use Rattle.std.specs.Prelude.{Ok}
 use Rattle.slate_types.proofs.Reaching.{puts_none}
+use Rattle.slate_mem.specs.Lookup.{is_merge_among, newest_first}
 use Rattle.slate_store.specs.Reach.{reach_of}
 use Rattle.slate_txn.specs.State.{last_of}
 use Rattle.slate_txn.specs.Open.{least_start}
@@ -20,7 +21,7 @@ use Rattle.slate_db.proofs.Built.{may_keep}
 use Rattle.slate_db.proofs.Keeps.{kept_same}
 use Rattle.slate_db.proofs.Lists.{first_ok, second_ok}
 use Rattle.slate_db.proofs.FlushLoads.{too_large_is}
-use Rattle.slate_db.proofs.Flushes.{other_causes, wants_idle}
+use Rattle.slate_db.proofs.Flushes.{among_idle, other_causes, wants_idle}
 use Rattle.slate_db.proofs.Logs.{has_place}
 use Rattle.slate_db.proofs.Puttings.{adds_installed}
 use Rattle.slate_db.proofs.Runs.{are_placed}
@@ -90,6 +91,8 @@ returns g c =
           (subst (AreCut (layout_of c.args.options.now).table_bytes made.rows) (append-nil made.parts) made.cut)
           made.folded
           (subst (λ (v : CoreModel). IsKept m v) (sym c.self.view_is) k)));
+      kept_refused = tt;
+      wanted = λ none among. absurd (c.in_ok-put.ensures.wanted none (sym (among_idle (view_of c.self.inside) (map (λ t. t.rows) c.frozen.result.now) (ap (λ (v : CoreModel). v.active) c.self.view_is ∙ c.requires.idle) (c.frozen.ensures ∙ ap (λ (y : LayersModel). y.frozen) c.reserve_run.ensures.value)) ∙ ap (λ (v : CoreModel). is_merge_among (newest_first (memory v))) c.self.view_is ∙ among));
       cause = tt;
       puts = c.stored.ensures.puts;
     }
@@ -123,6 +126,8 @@ returns-in_err-put g c =
           (c.next_install-number.ensures ∙ ap (λ (l : LogModel). l.installs + 1) c.reserve.ensures.value ∙ ap (λ n. n + 1) c.self.invariant.log.installs) barrier (c.frozen.ensures ∙ ap (λ (y : LayersModel). y.frozen) c.reserve_run.ensures.value) c.in_err-put.ensures.refused)));
       kept = (λ k.
           kept_same m (view_of c.self.inside) (view_of (record c.self.inside { log = c.reserve.new.self; layers = c.reserve_run.new.self })) (same_room c.self.inside c.reserve.new.self c.reserve_run.new.self c.reserve.ensures.value c.reserve_run.ensures.value) (subst (λ (v : CoreModel). IsKept m v) (sym c.self.view_is) k));
+      kept_refused = rw p.1 (λ m k. kept_same m (view_of c.self.inside) (view_of (record c.self.inside { log = c.reserve.new.self; layers = c.reserve_run.new.self })) (same_room c.self.inside c.reserve.new.self c.reserve_run.new.self c.reserve.ensures.value c.reserve_run.ensures.value) (subst (λ (v : CoreModel). IsKept m v) (sym c.self.view_is) k));
+      wanted = λ none among. IfOk-from_err c.from_residual-in_err-put.result _ c.from_residual-in_err-put.ensures.0;
       cause = (let layout = layout_of c.args.options.now in
           let barrier = c.barrier-barrier.ensures ∙ sym (ap start c.self.view_is) in
           let idle = ap (λ (v : CoreModel). v.active) c.self.view_is ∙ c.requires.idle in
@@ -149,6 +154,8 @@ returns-in_err-and g c =
       refused = rw p.1 (may_keep _ _ _ refl);
       kept = (λ k.
           kept_same m (view_of c.self.inside) (view_of (record c.self.inside { log = c.reserve.new.self; layers = c.reserve_run.new.self })) (same_room c.self.inside c.reserve.new.self c.reserve_run.new.self c.reserve.ensures.value c.reserve_run.ensures.value) (subst (λ (v : CoreModel). IsKept m v) (sym c.self.view_is) k));
+      kept_refused = rw p.1 (λ m k. kept_same m (view_of c.self.inside) (view_of (record c.self.inside { log = c.reserve.new.self; layers = c.reserve_run.new.self })) (same_room c.self.inside c.reserve.new.self c.reserve_run.new.self c.reserve.ensures.value c.reserve_run.ensures.value) (subst (λ (v : CoreModel). IsKept m v) (sym c.self.view_is) k));
+      wanted = λ none among. IfOk-from_err c.from_residual.result _ c.from_residual.ensures.0;
       cause = rw (p.1, p.2) (inl tt);
       puts = puts_none _;
     }
