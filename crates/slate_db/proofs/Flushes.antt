@@ -194,9 +194,10 @@ no_fault limit r e at limited (inr x) inner = by inner (limited x)
     by (inr (inr (inr (message, is)))) m = cc
 
 -- a refusal of the install keeps what the freeze kept
-pub kept_behind : {X E : Type 0} (r : Result X E) {K L N : Meaning → Type 0} → ((m : Meaning) → K m → L m) → OnErr r ((m : Meaning) → L m → N m) → OnErr r ((m : Meaning) → K m → N m)
-kept_behind (Ok x) first second = tt
-kept_behind (Err e) first second = λ m k. second m (first m k)
+pub kept_behind : {X E : Type 0} (r : Result X E) (old between new : CoreModel) → ((m : Meaning) → IsKept m old → IsKept m between) → OnErr r ((m : Meaning) → IsKept m between → IsKept m new) →
+    OnErr r ((m : Meaning) → IsKept m old → IsKept m new)
+kept_behind (Ok x) old between new first second = tt
+kept_behind (Err e) old between new first second = λ m k. second m (first m k)
 
 -- ---- what is said of a refusal before the install
 
