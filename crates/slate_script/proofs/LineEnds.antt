@@ -29,9 +29,9 @@ pub keeps-core : {V E : Type 0} (result : Result V E) (m : Meaning) (e new : Ses
 keeps-core (Ok v) m e new stores kept = stores.kept kept
 keeps-core (Err x) m e new stores kept = tt
 
-pub keeps-settings : {V E : Type 0} {m : Meaning} (result : Result V E) (e new : SessionModel) → OnOk result (StoresNothing m e new) → OnOk result (new.core.settings ≡ e.core.settings)
-keeps-settings (Ok v) e new stores = stores.settings
-keeps-settings (Err x) e new stores = tt
+pub keeps-settings : {V E : Type 0} (m : Meaning) (result : Result V E) (e new : SessionModel) → OnOk result (StoresNothing m e new) → OnOk result (new.core.settings ≡ e.core.settings)
+keeps-settings m (Ok v) e new stores = stores.settings
+keeps-settings m (Err x) e new stores = tt
 
 pub keeps-settled : {V E : Type 0} (result : Result V E) (m : Meaning) (objects after : Option Objects) (e new : SessionModel) → after ≡ objects → OnOk result (StoresNothing m e new) → IsSettled m objects e → OnOk result (IsSettled m after new)
 keeps-settled (Ok v) m objects after e new same stores settled = subst (λ o. IsSettled m o new) (sym same) (stays-settled m objects e new stores settled)

@@ -1,13 +1,14 @@
 -- Why a write or a commit is refused, and that its refusals are answered.
-use Rattle.std.proofs.Common.{◌≡◌, ℕ, Bool, true, false, ◌<◌, ◌+◌, ◌⊎◌, inl, inr, List, [], ◌∷◌, map, Option, Some, None, is_some, option_map, Result, Ok, Err, ℤ, sym, ◌∙◌, subst, arith}
+use Rattle.std.proofs.Common.{◌≡◌, ℕ, Bool, true, false, ◌<◌, ◌+◌, ◌⊎◌, inl, inr, List, [], ◌∷◌, map, reverse, Option, Some, None, is_some, option_map, Result, Ok, Err, ℤ, sym, ◌∙◌, subst, arith}
 use Rattle.std.specs.Prelude.{IfErr, not, ◌&&◌}
 use Rattle.slate_types.specs.declared.error.SlateDBError.{SlateDBError}
 use Rattle.slate_types.specs.declared.error.SlateDBError.TheVariants as errors
 use Rattle.slate_types.specs.Outside.{Counts, IsCounted}
-use Rattle.slate_mem.specs.Batch.{Ops, batch_keys}
+use Rattle.slate_mem.specs.Batch.{Ops, batch_keys, kept}
 use Rattle.slate_mem.specs.BatchModel.{BatchModel, holds_merge}
 use Rattle.slate_mem.specs.KeyTests.{first_other, key_refusal, test_refusals, ttl_refusal}
 use Rattle.slate_mem.specs.Refusals.{first_refusal, when}
+use Rattle.slate_mem.specs.RowOf.{op_expiry}
 use Rattle.slate_txn.specs.HandedOver.{IsConflict}
 use Rattle.slate_db.specs.BatchTests.{IsTestRefusal, batch_refusal}
 use Rattle.slate_db.specs.Load.{weight}
@@ -25,7 +26,7 @@ ttl-refuses k (x ∷ xs) e h = by (first_other x xs) h
     by (Some y) is = subst IsRefusal (some-error (errors.IncompatibleMergeTtls k x y) e is) tt
 
 key-refuses : (default_millis : Option ℕ) (now : ℤ) (ops : Ops) (k : List ℕ) (e : SlateDBError) → key_refusal None default_millis now ops k ≡ Some e → IsRefusal e
-key-refuses default_millis now ops k e h = ttl-refuses k _ e h
+key-refuses default_millis now ops k e h = ttl-refuses k (reverse (map (op_expiry default_millis now) (kept ops k))) e h
 
 keys-refuse : (default_millis : Option ℕ) (now : ℤ) (ops : Ops) (ks : List (List ℕ)) (e : SlateDBError) → first_refusal (map (key_refusal None default_millis now ops) ks) ≡ Some e → IsRefusal e
 keys-refuse default_millis now ops [] e h = cc

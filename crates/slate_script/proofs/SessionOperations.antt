@@ -157,11 +157,11 @@ op-cause (Ok t) k op cause = tt
 op-cause (Err x) k op (inl memory) = inl memory
 op-cause (Err x) k op (inr refused) = inr (op-refusals k op x refused)
 
-pub merge-cause : {T A : Type 0} (ran : Result T SlateDBError) (k : List ℕ) (op : WriteOp) → IfErr ran (λ x. (x ≡ errors.OutOfMemory) ⊎ ((x ≡ errors.MergeOperatorMissing) × A) ⊎ (op_refusal k op ≡ Some x)) → IfErr ran (λ x. (x ≡ errors.OutOfMemory) ⊎ IsRefusal x)
-merge-cause (Ok t) k op cause = tt
-merge-cause (Err x) k op (inl memory) = inl memory
-merge-cause (Err x) k op (inr (inl missing)) = inr (subst IsRefusal (sym missing.0) tt)
-merge-cause (Err x) k op (inr (inr refused)) = inr (op-refusals k op x refused)
+pub merge-cause : {T : Type 0} (A : Type 0) (ran : Result T SlateDBError) (k : List ℕ) (op : WriteOp) → IfErr ran (λ x. (x ≡ errors.OutOfMemory) ⊎ ((x ≡ errors.MergeOperatorMissing) × A) ⊎ (op_refusal k op ≡ Some x)) → IfErr ran (λ x. (x ≡ errors.OutOfMemory) ⊎ IsRefusal x)
+merge-cause A (Ok t) k op cause = tt
+merge-cause A (Err x) k op (inl memory) = inl memory
+merge-cause A (Err x) k op (inr (inl missing)) = inr (subst IsRefusal (sym missing.0) tt)
+merge-cause A (Err x) k op (inr (inr refused)) = inr (op-refusals k op x refused)
 
 -- ---- commit
 

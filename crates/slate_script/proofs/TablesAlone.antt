@@ -202,10 +202,10 @@ pub stays-alone : {n : Meaning} (m : Meaning) (layout : Layout) (objects after :
 stays-alone m layout objects after e new same stores h =
     subst (HasTablesAlone m layout after) (sym stores.runs) (subst (λ o. HasTablesAlone m layout o (runs_of e.core.events)) (sym same) h)
 
-pub stays-where : {V E : Type 0} {n : Meaning} (result : Result V E) (m : Meaning) (layout : Layout) (objects after : Option Objects) (e new : SessionModel) → after ≡ objects → OnOk result (StoresNothing n e new) →
+pub stays-where : {V E : Type 0} (n : Meaning) (result : Result V E) (m : Meaning) (layout : Layout) (objects after : Option Objects) (e new : SessionModel) → after ≡ objects → OnOk result (StoresNothing n e new) →
     HasTablesAlone m layout objects (runs_of e.core.events) → OnOk result (HasTablesAlone m layout after (runs_of new.core.events))
-stays-where (Ok v) m layout objects after e new same stores h = stays-alone m layout objects after e new same stores h
-stays-where (Err x) m layout objects after e new same stores h = tt
+stays-where n (Ok v) m layout objects after e new same stores h = stays-alone m layout objects after e new same stores h
+stays-where n (Err x) m layout objects after e new same stores h = tt
 
 pub begins-alone : (m : Meaning) (layout : Layout) (objects : Option Objects) (e : SessionModel) → IsEmpty objects → e.core.events ≡ [] → HasTablesAlone m layout objects (runs_of e.core.events)
 begins-alone m layout objects e empty none = subst (λ es. HasTablesAlone m layout objects (runs_of es)) (sym none)

@@ -152,9 +152,9 @@ puts-both acts [] us h k = k
 puts-both acts (t ∷ ts) us h k = (h.0, puts-both acts ts us h.1 k)
 
 -- where nothing was put
-pub stores-none : {V : Type 0} {m : Meaning} (result : Result V SlateDBError) (e new : SessionModel) (before after : Option (List Act)) → AddsReads before after → OnOk result (StoresNothing m e new) → OnOk result (PutsTables (tables_of e.core.events) (tables_of new.core.events) before after)
-stores-none (Ok v) e new before after adds stores = λ known is. let r = adds known is in (r.0, [], r.1, tables-still e new stores ∙ sym (append-nil (tables_of e.core.events)), tt)
-stores-none (Err x) e new before after adds stores = tt
+pub stores-none : {V : Type 0} (m : Meaning) (result : Result V SlateDBError) (e new : SessionModel) (before after : Option (List Act)) → AddsReads before after → OnOk result (StoresNothing m e new) → OnOk result (PutsTables (tables_of e.core.events) (tables_of new.core.events) before after)
+stores-none m (Ok v) e new before after adds stores = λ known is. let r = adds known is in (r.0, [], r.1, tables-still e new stores ∙ sym (append-nil (tables_of e.core.events)), tt)
+stores-none m (Err x) e new before after adds stores = tt
 
 pub stores-added : (old new : List (Ulid × List ℕ)) (before after : Option (List Act)) → AddsTables old new before after → PutsTables old new before after
 stores-added old new before after (ts, grown, acts) known is = (put-acts ts, ts, puts-told ts before after known acts is, grown, puts-are ts [])

@@ -18,11 +18,11 @@ pub returns-in_default : goal.returns-in_default
 returns-in_default g c =
     record {
       step = λ settled. c.answer_within.ensures.step (meaning_of g.M.MergeOperator.combine g.T.BlockTransformer.encoded g.T.BlockTransformer.decoded c.args.env.now.operator c.args.env.now.transformer);
-      settings = keeps-settings c.answer_within.result c.args.self.now c.answer_within.new.self (stores-at c.answer_within.result (meaning_of g.M.MergeOperator.combine g.T.BlockTransformer.encoded g.T.BlockTransformer.decoded c.args.env.now.operator c.args.env.now.transformer) c.args.self.now c.answer_within.new.self c.answer_within.ensures.stores);
+      settings = keeps-settings (meaning_of g.M.MergeOperator.combine g.T.BlockTransformer.encoded g.T.BlockTransformer.decoded c.args.env.now.operator c.args.env.now.transformer) c.answer_within.result c.args.self.now c.answer_within.new.self (stores-at c.answer_within.result (meaning_of g.M.MergeOperator.combine g.T.BlockTransformer.encoded g.T.BlockTransformer.decoded c.args.env.now.operator c.args.env.now.transformer) c.args.self.now c.answer_within.new.self c.answer_within.ensures.stores);
       grows = c.answer_within.ensures.grows;
       kept = λ settled. keeps-settled c.answer_within.result _ _ _ c.args.self.now c.answer_within.new.self refl (stores-at c.answer_within.result (meaning_of g.M.MergeOperator.combine g.T.BlockTransformer.encoded g.T.BlockTransformer.decoded c.args.env.now.operator c.args.env.now.transformer) c.args.self.now c.answer_within.new.self c.answer_within.ensures.stores) settled;
       core_kept = λ kept. keeps-core c.answer_within.result (meaning_of g.M.MergeOperator.combine g.T.BlockTransformer.encoded g.T.BlockTransformer.decoded c.args.env.now.operator c.args.env.now.transformer) c.args.self.now c.answer_within.new.self (stores-at c.answer_within.result (meaning_of g.M.MergeOperator.combine g.T.BlockTransformer.encoded g.T.BlockTransformer.decoded c.args.env.now.operator c.args.env.now.transformer) c.args.self.now c.answer_within.new.self c.answer_within.ensures.stores) kept;
-      alone = λ settled alone. stays-where c.answer_within.result _ _ _ _ c.args.self.now c.answer_within.new.self refl (stores-at c.answer_within.result (meaning_of g.M.MergeOperator.combine g.T.BlockTransformer.encoded g.T.BlockTransformer.decoded c.args.env.now.operator c.args.env.now.transformer) c.args.self.now c.answer_within.new.self c.answer_within.ensures.stores) alone;
+      alone = λ settled alone. stays-where (meaning_of g.M.MergeOperator.combine g.T.BlockTransformer.encoded g.T.BlockTransformer.decoded c.args.env.now.operator c.args.env.now.transformer) c.answer_within.result _ _ _ _ c.args.self.now c.answer_within.new.self refl (stores-at c.answer_within.result (meaning_of g.M.MergeOperator.combine g.T.BlockTransformer.encoded g.T.BlockTransformer.decoded c.args.env.now.operator c.args.env.now.transformer) c.args.self.now c.answer_within.new.self c.answer_within.ensures.stores) alone;
       cause = (let counts = counts_of (g.S.Store.faults c.args.env.now.store.now) g.M.MergeOperator.faults g.T.BlockTransformer.faults c.args.env.now.operator c.args.env.now.transformer in
           or-damage c.answer_within.result counts counts c.args.self.now (memory-or-limit c.answer_within.result counts counts c.args.self.now c.answer_within.ensures.cause));
       shown = (λ kept.
@@ -32,7 +32,7 @@ returns-in_default g c =
           let counts = counts_of (g.S.Store.faults c.args.env.now.store.now) g.M.MergeOperator.faults g.T.BlockTransformer.faults c.args.env.now.operator c.args.env.now.transformer in
           memory-or-limit c.answer_within.result counts counts c.args.self.now c.answer_within.ensures.cause);
       follows = λ os settled. follows-still c.answer_within.result (meaning_of g.M.MergeOperator.combine g.T.BlockTransformer.encoded g.T.BlockTransformer.decoded c.args.env.now.operator c.args.env.now.transformer) os c.args.self.now c.answer_within.new.self (g.S.Store.acts c.args.env.now.store.now) (stores-at c.answer_within.result (meaning_of g.M.MergeOperator.combine g.T.BlockTransformer.encoded g.T.BlockTransformer.decoded c.args.env.now.operator c.args.env.now.transformer) c.args.self.now c.answer_within.new.self c.answer_within.ensures.stores) settled;
-      tables = stores-none c.answer_within.result c.args.self.now c.answer_within.new.self _ _ (adds_none _) (stores-at c.answer_within.result (meaning_of g.M.MergeOperator.combine g.T.BlockTransformer.encoded g.T.BlockTransformer.decoded c.args.env.now.operator c.args.env.now.transformer) c.args.self.now c.answer_within.new.self c.answer_within.ensures.stores);
+      tables = stores-none (meaning_of g.M.MergeOperator.combine g.T.BlockTransformer.encoded g.T.BlockTransformer.decoded c.args.env.now.operator c.args.env.now.transformer) c.answer_within.result c.args.self.now c.answer_within.new.self _ _ (adds_none _) (stores-at c.answer_within.result (meaning_of g.M.MergeOperator.combine g.T.BlockTransformer.encoded g.T.BlockTransformer.decoded c.args.env.now.operator c.args.env.now.transformer) c.args.self.now c.answer_within.new.self c.answer_within.ensures.stores);
       untrue = (λ os settled.
           let counts = counts_of (g.S.Store.faults c.args.env.now.store.now) g.M.MergeOperator.faults g.T.BlockTransformer.faults c.args.env.now.operator c.args.env.now.transformer in
           no-damage _ c.answer_within.result counts counts c.args.self.now (memory-or-limit c.answer_within.result counts counts c.args.self.now c.answer_within.ensures.cause));
@@ -65,17 +65,17 @@ returns-in-Get g c =
       step = (λ settled.
           let m = meaning_of g.M.MergeOperator.combine g.T.BlockTransformer.encoded g.T.BlockTransformer.decoded c.args.env.now.operator c.args.env.now.transformer in
           subst (λ (line : Line). AnswersAs m c.args.self.now c.get.new.self line c.get.result) (sym c.in-Get.is) (c.get.ensures.step (settled-answered (reach_of g.S.Store g.M.MergeOperator g.T.BlockTransformer c.args.env.now) (reach_of g.S.Store g.M.MergeOperator g.T.BlockTransformer c.get.new.env) c.args.self.now settled)));
-      settings = keeps-settings c.get.result c.args.self.now c.get.new.self (stores-at c.get.result (meaning_of g.M.MergeOperator.combine g.T.BlockTransformer.encoded g.T.BlockTransformer.decoded c.args.env.now.operator c.args.env.now.transformer) c.args.self.now c.get.new.self c.get.ensures.stores);
+      settings = keeps-settings (meaning_of g.M.MergeOperator.combine g.T.BlockTransformer.encoded g.T.BlockTransformer.decoded c.args.env.now.operator c.args.env.now.transformer) c.get.result c.args.self.now c.get.new.self (stores-at c.get.result (meaning_of g.M.MergeOperator.combine g.T.BlockTransformer.encoded g.T.BlockTransformer.decoded c.args.env.now.operator c.args.env.now.transformer) c.args.self.now c.get.new.self c.get.ensures.stores);
       grows = subst (λ (line : Line). OnOk c.get.result (Grows line c.args.self.now c.get.new.self)) (sym c.in-Get.is) c.get.ensures.grows;
       kept = λ settled. keeps-settled c.get.result _ _ _ c.args.self.now c.get.new.self c.get.ensures.reads.objects (stores-at c.get.result (meaning_of g.M.MergeOperator.combine g.T.BlockTransformer.encoded g.T.BlockTransformer.decoded c.args.env.now.operator c.args.env.now.transformer) c.args.self.now c.get.new.self c.get.ensures.stores) settled;
       core_kept = λ kept. keeps-core c.get.result (meaning_of g.M.MergeOperator.combine g.T.BlockTransformer.encoded g.T.BlockTransformer.decoded c.args.env.now.operator c.args.env.now.transformer) c.args.self.now c.get.new.self (stores-at c.get.result (meaning_of g.M.MergeOperator.combine g.T.BlockTransformer.encoded g.T.BlockTransformer.decoded c.args.env.now.operator c.args.env.now.transformer) c.args.self.now c.get.new.self c.get.ensures.stores) kept;
-      alone = λ settled alone. stays-where c.get.result _ _ _ _ c.args.self.now c.get.new.self c.get.ensures.reads.objects (stores-at c.get.result (meaning_of g.M.MergeOperator.combine g.T.BlockTransformer.encoded g.T.BlockTransformer.decoded c.args.env.now.operator c.args.env.now.transformer) c.args.self.now c.get.new.self c.get.ensures.stores) alone;
+      alone = λ settled alone. stays-where (meaning_of g.M.MergeOperator.combine g.T.BlockTransformer.encoded g.T.BlockTransformer.decoded c.args.env.now.operator c.args.env.now.transformer) c.get.result _ _ _ _ c.args.self.now c.get.new.self c.get.ensures.reads.objects (stores-at c.get.result (meaning_of g.M.MergeOperator.combine g.T.BlockTransformer.encoded g.T.BlockTransformer.decoded c.args.env.now.operator c.args.env.now.transformer) c.args.self.now c.get.new.self c.get.ensures.stores) alone;
       cause = limit-between c.get.result (reach_of g.S.Store g.M.MergeOperator g.T.BlockTransformer c.args.env.now) (reach_of g.S.Store g.M.MergeOperator g.T.BlockTransformer c.get.new.env) c.args.self.now c.get.ensures.cause;
       shown = λ kept. subst (λ (line : Line). IfErr c.get.result (λ x. IsTableError x → Made (reach_of g.S.Store g.M.MergeOperator g.T.BlockTransformer c.args.env.now) (reach_of g.S.Store g.M.MergeOperator g.T.BlockTransformer c.get.new.env) (λ reads. IsRefusedAt line (reach_of g.S.Store g.M.MergeOperator g.T.BlockTransformer c.args.env.now).meaning c.args.self.now.core reads x))) (sym c.in-Get.is)
           (shown-of c.get.result (reach_of g.S.Store g.M.MergeOperator g.T.BlockTransformer c.args.env.now) (reach_of g.S.Store g.M.MergeOperator g.T.BlockTransformer c.get.new.env) c.args.self.now c.get.ensures.cause);
       undamaged = λ settled. or-limit c.get.result (counts_of (g.S.Store.faults c.args.env.now.store.now) g.M.MergeOperator.faults g.T.BlockTransformer.faults c.args.env.now.operator c.args.env.now.transformer) (counts_of (g.S.Store.faults c.get.new.env.store.now) g.M.MergeOperator.faults g.T.BlockTransformer.faults c.get.new.env.operator c.get.new.env.transformer) c.args.self.now (c.get.ensures.undamaged (settled-answered (reach_of g.S.Store g.M.MergeOperator g.T.BlockTransformer c.args.env.now) (reach_of g.S.Store g.M.MergeOperator g.T.BlockTransformer c.get.new.env) c.args.self.now settled));
       follows = λ os settled. follows-reads c.get.result (meaning_of g.M.MergeOperator.combine g.T.BlockTransformer.encoded g.T.BlockTransformer.decoded c.args.env.now.operator c.args.env.now.transformer) os c.args.self.now c.get.new.self (g.S.Store.acts c.args.env.now.store.now) (g.S.Store.acts c.get.new.env.store.now) c.get.ensures.reads.acts (stores-at c.get.result (meaning_of g.M.MergeOperator.combine g.T.BlockTransformer.encoded g.T.BlockTransformer.decoded c.args.env.now.operator c.args.env.now.transformer) c.args.self.now c.get.new.self c.get.ensures.stores) settled;
-      tables = stores-none c.get.result c.args.self.now c.get.new.self _ _ c.get.ensures.reads.acts (stores-at c.get.result (meaning_of g.M.MergeOperator.combine g.T.BlockTransformer.encoded g.T.BlockTransformer.decoded c.args.env.now.operator c.args.env.now.transformer) c.args.self.now c.get.new.self c.get.ensures.stores);
+      tables = stores-none (meaning_of g.M.MergeOperator.combine g.T.BlockTransformer.encoded g.T.BlockTransformer.decoded c.args.env.now.operator c.args.env.now.transformer) c.get.result c.args.self.now c.get.new.self _ _ c.get.ensures.reads.acts (stores-at c.get.result (meaning_of g.M.MergeOperator.combine g.T.BlockTransformer.encoded g.T.BlockTransformer.decoded c.args.env.now.operator c.args.env.now.transformer) c.args.self.now c.get.new.self c.get.ensures.stores);
       untrue = λ os settled. untrue-get c.get.result os (g.S.Store.acts c.args.env.now.store.now) (g.S.Store.acts c.get.new.env.store.now) _ _ c.get.ensures.reads.acts (λ answers. c.get.ensures.undamaged (true-answered (reach_of g.S.Store g.M.MergeOperator g.T.BlockTransformer c.args.env.now) (reach_of g.S.Store g.M.MergeOperator g.T.BlockTransformer c.get.new.env) os c.args.self.now settled (inr answers)));
       puts = reads_put_nothing _ _ c.get.ensures.reads;
     }
@@ -86,17 +86,17 @@ returns-in-Scan g c =
       step = (λ settled.
           let m = meaning_of g.M.MergeOperator.combine g.T.BlockTransformer.encoded g.T.BlockTransformer.decoded c.args.env.now.operator c.args.env.now.transformer in
           subst (λ (line : Line). AnswersAs m c.args.self.now c.scan.new.self line c.scan.result) (sym c.in-Scan.is) (c.scan.ensures.step (settled-answered (reach_of g.S.Store g.M.MergeOperator g.T.BlockTransformer c.args.env.now) (reach_of g.S.Store g.M.MergeOperator g.T.BlockTransformer c.scan.new.env) c.args.self.now settled)));
-      settings = keeps-settings c.scan.result c.args.self.now c.scan.new.self (stores-at c.scan.result (meaning_of g.M.MergeOperator.combine g.T.BlockTransformer.encoded g.T.BlockTransformer.decoded c.args.env.now.operator c.args.env.now.transformer) c.args.self.now c.scan.new.self c.scan.ensures.stores);
+      settings = keeps-settings (meaning_of g.M.MergeOperator.combine g.T.BlockTransformer.encoded g.T.BlockTransformer.decoded c.args.env.now.operator c.args.env.now.transformer) c.scan.result c.args.self.now c.scan.new.self (stores-at c.scan.result (meaning_of g.M.MergeOperator.combine g.T.BlockTransformer.encoded g.T.BlockTransformer.decoded c.args.env.now.operator c.args.env.now.transformer) c.args.self.now c.scan.new.self c.scan.ensures.stores);
       grows = subst (λ (line : Line). OnOk c.scan.result (Grows line c.args.self.now c.scan.new.self)) (sym c.in-Scan.is) c.scan.ensures.grows;
       kept = λ settled. keeps-settled c.scan.result _ _ _ c.args.self.now c.scan.new.self c.scan.ensures.reads.objects (stores-at c.scan.result (meaning_of g.M.MergeOperator.combine g.T.BlockTransformer.encoded g.T.BlockTransformer.decoded c.args.env.now.operator c.args.env.now.transformer) c.args.self.now c.scan.new.self c.scan.ensures.stores) settled;
       core_kept = λ kept. keeps-core c.scan.result (meaning_of g.M.MergeOperator.combine g.T.BlockTransformer.encoded g.T.BlockTransformer.decoded c.args.env.now.operator c.args.env.now.transformer) c.args.self.now c.scan.new.self (stores-at c.scan.result (meaning_of g.M.MergeOperator.combine g.T.BlockTransformer.encoded g.T.BlockTransformer.decoded c.args.env.now.operator c.args.env.now.transformer) c.args.self.now c.scan.new.self c.scan.ensures.stores) kept;
-      alone = λ settled alone. stays-where c.scan.result _ _ _ _ c.args.self.now c.scan.new.self c.scan.ensures.reads.objects (stores-at c.scan.result (meaning_of g.M.MergeOperator.combine g.T.BlockTransformer.encoded g.T.BlockTransformer.decoded c.args.env.now.operator c.args.env.now.transformer) c.args.self.now c.scan.new.self c.scan.ensures.stores) alone;
+      alone = λ settled alone. stays-where (meaning_of g.M.MergeOperator.combine g.T.BlockTransformer.encoded g.T.BlockTransformer.decoded c.args.env.now.operator c.args.env.now.transformer) c.scan.result _ _ _ _ c.args.self.now c.scan.new.self c.scan.ensures.reads.objects (stores-at c.scan.result (meaning_of g.M.MergeOperator.combine g.T.BlockTransformer.encoded g.T.BlockTransformer.decoded c.args.env.now.operator c.args.env.now.transformer) c.args.self.now c.scan.new.self c.scan.ensures.stores) alone;
       cause = scan-limit c.scan.result (reach_of g.S.Store g.M.MergeOperator g.T.BlockTransformer c.args.env.now) (reach_of g.S.Store g.M.MergeOperator g.T.BlockTransformer c.scan.new.env) c.args.self.now c.scan.ensures.cause;
       shown = λ kept. subst (λ (line : Line). IfErr c.scan.result (λ x. IsTableError x → Made (reach_of g.S.Store g.M.MergeOperator g.T.BlockTransformer c.args.env.now) (reach_of g.S.Store g.M.MergeOperator g.T.BlockTransformer c.scan.new.env) (λ reads. IsRefusedAt line (reach_of g.S.Store g.M.MergeOperator g.T.BlockTransformer c.args.env.now).meaning c.args.self.now.core reads x))) (sym c.in-Scan.is)
           (scan-shown c.scan.result (reach_of g.S.Store g.M.MergeOperator g.T.BlockTransformer c.args.env.now) (reach_of g.S.Store g.M.MergeOperator g.T.BlockTransformer c.scan.new.env) c.args.self.now c.scan.ensures.cause);
       undamaged = λ settled. or-limit c.scan.result (counts_of (g.S.Store.faults c.args.env.now.store.now) g.M.MergeOperator.faults g.T.BlockTransformer.faults c.args.env.now.operator c.args.env.now.transformer) (counts_of (g.S.Store.faults c.scan.new.env.store.now) g.M.MergeOperator.faults g.T.BlockTransformer.faults c.scan.new.env.operator c.scan.new.env.transformer) c.args.self.now (c.scan.ensures.undamaged (settled-answered (reach_of g.S.Store g.M.MergeOperator g.T.BlockTransformer c.args.env.now) (reach_of g.S.Store g.M.MergeOperator g.T.BlockTransformer c.scan.new.env) c.args.self.now settled));
       follows = λ os settled. follows-reads c.scan.result (meaning_of g.M.MergeOperator.combine g.T.BlockTransformer.encoded g.T.BlockTransformer.decoded c.args.env.now.operator c.args.env.now.transformer) os c.args.self.now c.scan.new.self (g.S.Store.acts c.args.env.now.store.now) (g.S.Store.acts c.scan.new.env.store.now) c.scan.ensures.reads.acts (stores-at c.scan.result (meaning_of g.M.MergeOperator.combine g.T.BlockTransformer.encoded g.T.BlockTransformer.decoded c.args.env.now.operator c.args.env.now.transformer) c.args.self.now c.scan.new.self c.scan.ensures.stores) settled;
-      tables = stores-none c.scan.result c.args.self.now c.scan.new.self _ _ c.scan.ensures.reads.acts (stores-at c.scan.result (meaning_of g.M.MergeOperator.combine g.T.BlockTransformer.encoded g.T.BlockTransformer.decoded c.args.env.now.operator c.args.env.now.transformer) c.args.self.now c.scan.new.self c.scan.ensures.stores);
+      tables = stores-none (meaning_of g.M.MergeOperator.combine g.T.BlockTransformer.encoded g.T.BlockTransformer.decoded c.args.env.now.operator c.args.env.now.transformer) c.scan.result c.args.self.now c.scan.new.self _ _ c.scan.ensures.reads.acts (stores-at c.scan.result (meaning_of g.M.MergeOperator.combine g.T.BlockTransformer.encoded g.T.BlockTransformer.decoded c.args.env.now.operator c.args.env.now.transformer) c.args.self.now c.scan.new.self c.scan.ensures.stores);
       untrue = λ os settled. untrue-get c.scan.result os (g.S.Store.acts c.args.env.now.store.now) (g.S.Store.acts c.scan.new.env.store.now) _ _ c.scan.ensures.reads.acts (λ answers. c.scan.ensures.undamaged (true-answered (reach_of g.S.Store g.M.MergeOperator g.T.BlockTransformer c.args.env.now) (reach_of g.S.Store g.M.MergeOperator g.T.BlockTransformer c.scan.new.env) os c.args.self.now settled (inr answers)));
       puts = reads_put_nothing _ _ c.scan.ensures.reads;
     }
@@ -108,16 +108,16 @@ returns-in-Write g c =
     let new = counts_of (g.S.Store.faults c.write.new.env.store.now) g.M.MergeOperator.faults g.T.BlockTransformer.faults c.write.new.env.operator c.write.new.env.transformer in
     record {
       step = λ settled. subst (λ (line : Line). AnswersAs m c.args.self.now c.write.new.self line c.write.result) (sym c.in-Write.is) c.write.ensures.step;
-      settings = keeps-settings c.write.result c.args.self.now c.write.new.self c.write.ensures.stores;
+      settings = keeps-settings (meaning_of g.M.MergeOperator.combine g.T.BlockTransformer.encoded g.T.BlockTransformer.decoded c.args.env.now.operator c.args.env.now.transformer) c.write.result c.args.self.now c.write.new.self c.write.ensures.stores;
       grows = subst (λ (line : Line). OnOk c.write.result (Grows line c.args.self.now c.write.new.self)) (sym c.in-Write.is) c.write.ensures.grows;
       kept = λ settled. keeps-settled c.write.result _ _ _ c.args.self.now c.write.new.self c.write.ensures.reads.objects c.write.ensures.stores settled;
       core_kept = λ kept. keeps-core c.write.result m c.args.self.now c.write.new.self c.write.ensures.stores kept;
-      alone = λ settled alone. stays-where c.write.result _ _ _ _ c.args.self.now c.write.new.self c.write.ensures.reads.objects c.write.ensures.stores alone;
+      alone = λ settled alone. stays-where (meaning_of g.M.MergeOperator.combine g.T.BlockTransformer.encoded g.T.BlockTransformer.decoded c.args.env.now.operator c.args.env.now.transformer) c.write.result _ _ _ _ c.args.self.now c.write.new.self c.write.ensures.reads.objects c.write.ensures.stores alone;
       cause = or-damage c.write.result old new c.args.self.now c.write.ensures.cause;
       shown = λ kept. no-error _ c.write.result old new c.args.self.now c.write.ensures.cause;
       undamaged = λ settled. c.write.ensures.cause;
       follows = λ os settled. follows-reads c.write.result m os c.args.self.now c.write.new.self (g.S.Store.acts c.args.env.now.store.now) (g.S.Store.acts c.write.new.env.store.now) c.write.ensures.reads.acts c.write.ensures.stores settled;
-      tables = stores-none c.write.result c.args.self.now c.write.new.self _ _ c.write.ensures.reads.acts c.write.ensures.stores;
+      tables = stores-none (meaning_of g.M.MergeOperator.combine g.T.BlockTransformer.encoded g.T.BlockTransformer.decoded c.args.env.now.operator c.args.env.now.transformer) c.write.result c.args.self.now c.write.new.self _ _ c.write.ensures.reads.acts c.write.ensures.stores;
       untrue = λ os settled. no-damage _ c.write.result old new c.args.self.now c.write.ensures.cause;
       puts = reads_put_nothing _ _ c.write.ensures.reads;
     }
@@ -129,16 +129,16 @@ returns-in-Merge g c =
     let new = counts_of (g.S.Store.faults c.merge.new.env.store.now) g.M.MergeOperator.faults g.T.BlockTransformer.faults c.merge.new.env.operator c.merge.new.env.transformer in
     record {
       step = λ settled. subst (λ (line : Line). AnswersAs m c.args.self.now c.merge.new.self line c.merge.result) (sym c.in-Merge.is) c.merge.ensures.step;
-      settings = keeps-settings c.merge.result c.args.self.now c.merge.new.self c.merge.ensures.stores;
+      settings = keeps-settings (meaning_of g.M.MergeOperator.combine g.T.BlockTransformer.encoded g.T.BlockTransformer.decoded c.args.env.now.operator c.args.env.now.transformer) c.merge.result c.args.self.now c.merge.new.self c.merge.ensures.stores;
       grows = subst (λ (line : Line). OnOk c.merge.result (Grows line c.args.self.now c.merge.new.self)) (sym c.in-Merge.is) c.merge.ensures.grows;
       kept = λ settled. keeps-settled c.merge.result _ _ _ c.args.self.now c.merge.new.self c.merge.ensures.reads.objects c.merge.ensures.stores settled;
       core_kept = λ kept. keeps-core c.merge.result m c.args.self.now c.merge.new.self c.merge.ensures.stores kept;
-      alone = λ settled alone. stays-where c.merge.result _ _ _ _ c.args.self.now c.merge.new.self c.merge.ensures.reads.objects c.merge.ensures.stores alone;
+      alone = λ settled alone. stays-where (meaning_of g.M.MergeOperator.combine g.T.BlockTransformer.encoded g.T.BlockTransformer.decoded c.args.env.now.operator c.args.env.now.transformer) c.merge.result _ _ _ _ c.args.self.now c.merge.new.self c.merge.ensures.reads.objects c.merge.ensures.stores alone;
       cause = or-damage c.merge.result old new c.args.self.now c.merge.ensures.cause;
       shown = λ kept. no-error _ c.merge.result old new c.args.self.now c.merge.ensures.cause;
       undamaged = λ settled. c.merge.ensures.cause;
       follows = λ os settled. follows-reads c.merge.result m os c.args.self.now c.merge.new.self (g.S.Store.acts c.args.env.now.store.now) (g.S.Store.acts c.merge.new.env.store.now) c.merge.ensures.reads.acts c.merge.ensures.stores settled;
-      tables = stores-none c.merge.result c.args.self.now c.merge.new.self _ _ c.merge.ensures.reads.acts c.merge.ensures.stores;
+      tables = stores-none (meaning_of g.M.MergeOperator.combine g.T.BlockTransformer.encoded g.T.BlockTransformer.decoded c.args.env.now.operator c.args.env.now.transformer) c.merge.result c.args.self.now c.merge.new.self _ _ c.merge.ensures.reads.acts c.merge.ensures.stores;
       untrue = λ os settled. no-damage _ c.merge.result old new c.args.self.now c.merge.ensures.cause;
       puts = reads_put_nothing _ _ c.merge.ensures.reads;
     }
@@ -150,40 +150,40 @@ returns-in-Commit g c =
     let new = counts_of (g.S.Store.faults c.commit.new.env.store.now) g.M.MergeOperator.faults g.T.BlockTransformer.faults c.commit.new.env.operator c.commit.new.env.transformer in
     record {
       step = λ settled. subst (λ (line : Line). AnswersAs m c.args.self.now c.commit.new.self line c.commit.result) (sym c.in-Commit.is) (c.commit.ensures.step settled.kept.2);
-      settings = keeps-settings c.commit.result c.args.self.now c.commit.new.self c.commit.ensures.stores;
+      settings = keeps-settings (meaning_of g.M.MergeOperator.combine g.T.BlockTransformer.encoded g.T.BlockTransformer.decoded c.args.env.now.operator c.args.env.now.transformer) c.commit.result c.args.self.now c.commit.new.self c.commit.ensures.stores;
       grows = subst (λ (line : Line). OnOk c.commit.result (Grows line c.args.self.now c.commit.new.self)) (sym c.in-Commit.is) c.commit.ensures.grows;
       kept = λ settled. keeps-settled c.commit.result _ _ _ c.args.self.now c.commit.new.self c.commit.ensures.reads.objects c.commit.ensures.stores settled;
       core_kept = λ kept. keeps-core c.commit.result m c.args.self.now c.commit.new.self c.commit.ensures.stores kept;
-      alone = λ settled alone. stays-where c.commit.result _ _ _ _ c.args.self.now c.commit.new.self c.commit.ensures.reads.objects c.commit.ensures.stores alone;
+      alone = λ settled alone. stays-where (meaning_of g.M.MergeOperator.combine g.T.BlockTransformer.encoded g.T.BlockTransformer.decoded c.args.env.now.operator c.args.env.now.transformer) c.commit.result _ _ _ _ c.args.self.now c.commit.new.self c.commit.ensures.reads.objects c.commit.ensures.stores alone;
       cause = or-damage c.commit.result old new c.args.self.now c.commit.ensures.cause;
       shown = λ kept. no-error _ c.commit.result old new c.args.self.now c.commit.ensures.cause;
       undamaged = λ settled. c.commit.ensures.cause;
       follows = λ os settled. follows-reads c.commit.result m os c.args.self.now c.commit.new.self (g.S.Store.acts c.args.env.now.store.now) (g.S.Store.acts c.commit.new.env.store.now) c.commit.ensures.reads.acts c.commit.ensures.stores settled;
-      tables = stores-none c.commit.result c.args.self.now c.commit.new.self _ _ c.commit.ensures.reads.acts c.commit.ensures.stores;
+      tables = stores-none (meaning_of g.M.MergeOperator.combine g.T.BlockTransformer.encoded g.T.BlockTransformer.decoded c.args.env.now.operator c.args.env.now.transformer) c.commit.result c.args.self.now c.commit.new.self _ _ c.commit.ensures.reads.acts c.commit.ensures.stores;
       untrue = λ os settled. no-damage _ c.commit.result old new c.args.self.now c.commit.ensures.cause;
       puts = reads_put_nothing _ _ c.commit.ensures.reads;
     }
 
 pub answer_within-requires-clause-built : goal.answer_within-requires-clause-built
-answer_within-requires-clause-built g c = λ κs lives. c.requires.built
+answer_within-requires-clause-built g c = λ lives. c.requires.built
 
 pub answer_within-requires-clause-moment : goal.answer_within-requires-clause-moment
-answer_within-requires-clause-moment g c = λ κs lives. c.requires.moment
+answer_within-requires-clause-moment g c = λ lives. c.requires.moment
 
 pub answer_within-requires-clause-no_get : goal.answer_within-requires-clause-no_get
-answer_within-requires-clause-no_get g c = λ κs lives name key is. c.in_default.not-Get name key is
+answer_within-requires-clause-no_get g c = λ lives name key is. c.in_default.not-Get name key is
 
 pub answer_within-requires-clause-no_scan : goal.answer_within-requires-clause-no_scan
-answer_within-requires-clause-no_scan g c = λ κs lives name order start end sts is. c.in_default.not-Scan name order start end sts is
+answer_within-requires-clause-no_scan g c = λ lives name order start end sts is. c.in_default.not-Scan name order start end sts is
 
 pub answer_within-requires-clause-no_flush : goal.answer_within-requires-clause-no_flush
-answer_within-requires-clause-no_flush g c = λ κs lives. c.in_default.not-Flush
+answer_within-requires-clause-no_flush g c = λ lives. c.in_default.not-Flush
 
 pub answer_within-requires-clause-no_write : goal.answer_within-requires-clause-no_write
-answer_within-requires-clause-no_write g c = λ κs lives ops is. c.in_default.not-Write ops is
+answer_within-requires-clause-no_write g c = λ lives ops is. c.in_default.not-Write ops is
 
 pub answer_within-requires-clause-no_merge : goal.answer_within-requires-clause-no_merge
-answer_within-requires-clause-no_merge g c = λ κs lives name key value ttl is. c.in_default.not-Merge name key value ttl is
+answer_within-requires-clause-no_merge g c = λ lives name key value ttl is. c.in_default.not-Merge name key value ttl is
 
 pub answer_within-requires-clause-no_commit : goal.answer_within-requires-clause-no_commit
-answer_within-requires-clause-no_commit g c = λ κs lives name is. c.in_default.not-Commit name is
+answer_within-requires-clause-no_commit g c = λ lives name is. c.in_default.not-Commit name is

@@ -9,7 +9,7 @@ use Rattle.slate_txn.specs.State.{State}
 use Rattle.slate_txn.specs.Step.{reader, step}
 use Rattle.slate_txn.specs.declared.line.Line.TheVariants as lines
 use Rattle.slate_db.specs.Installs.{runs_of}
-use Rattle.slate_db.specs.Meaning.{rules_of}
+use Rattle.slate_db.specs.Meaning.{Meaning, rules_of}
 use Rattle.slate_db.specs.Model.{CoreModel}
 use Rattle.slate_db.specs.Parts.{meaning_of}
 use Rattle.slate_db.specs.Readable.{IsAnswered, IsReadError}

@@ -69,6 +69,6 @@ returns g c =
       cause = (let old = counts_of (g.S.Store.faults c.args.env.now.store.now) g.M.MergeOperator.faults g.T.BlockTransformer.faults c.args.env.now.operator c.args.env.now.transformer in
           let new = counts_of (g.S.Store.faults c.merge-merge.new.env.store.now) g.M.MergeOperator.faults g.T.BlockTransformer.faults c.merge-merge.new.env.operator c.merge-merge.new.env.transformer in
           memory-or-limit c.done.result old new c.args.self.now (ran-cause (λ e. IsLimit c.args.self.now e) c.merge-merge.result c.done.result c.done.ensures
-          (merge-cause c.merge-merge.result c.as_slice.result.now (ops.Merge c.as_slice-2.result.now (record { ttl = c.args.ttl })) c.merge-merge.ensures.cause)));
+          (merge-cause ((meaning_of g.M.MergeOperator.combine g.T.BlockTransformer.encoded g.T.BlockTransformer.decoded c.args.env.now.operator c.args.env.now.transformer).combine ≡ None) c.merge-merge.result c.as_slice.result.now (ops.Merge c.as_slice-2.result.now (record { ttl = c.args.ttl })) c.merge-merge.ensures.cause)));
       reads = subst (λ v. OnlyReads (reach_of g.S.Store g.M.MergeOperator g.T.BlockTransformer c.args.env.now) (reach_of g.S.Store g.M.MergeOperator g.T.BlockTransformer v)) (sym c.merge-merge.ensures.outside) (reads_none _);
     }

@@ -5,7 +5,7 @@ use Rattle.slate_txn.specs.Named.{find_named}
 use Rattle.slate_txn.specs.State.{State}
 use Rattle.slate_txn.specs.declared.event.Event.TheVariants as events
 use Rattle.slate_txn.specs.declared.line.Line.TheVariants as lines
-use Rattle.slate_db.specs.Meaning.{rules_of}
+use Rattle.slate_db.specs.Meaning.{Meaning, rules_of}
 use Rattle.slate_language.specs.declared.reply.Answer.TheVariants as answers
 use Rattle.slate_types.specs.declared.error.SlateDBError.TheVariants as errors
 use Rattle.slate_script.specs.Session.{SessionModel, AnswersAs, Grows, NamesStand, StoresNothing}

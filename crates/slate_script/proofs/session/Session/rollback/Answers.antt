@@ -3,7 +3,7 @@ use Rattle.slate_txn.specs.Named.{find_named}
 use Rattle.slate_txn.specs.State.{State}
 use Rattle.slate_txn.specs.declared.event.Event.TheVariants as events
 use Rattle.slate_txn.specs.declared.line.Line.TheVariants as lines
-use Rattle.slate_db.specs.Meaning.{rules_of}
+use Rattle.slate_db.specs.Meaning.{Meaning, rules_of}
 use Rattle.slate_language.specs.declared.reply.Answer.TheVariants as answers
 use Rattle.slate_script.specs.Session.{SessionModel, AnswersAs, Grows, NamesStand, StoresNothing}
 use Rattle.slate_script.proofs.NamesLaws.{find_named-lookup, named-after}
@@ -21,6 +21,12 @@ returns-in_default-clause-step c m =
     let before : SessionModel = record { core = c.self.inside.core; names = c.self.inside.names.entries; snapshot_names = c.self.inside.snapshot_names.entries; now = c.self.inside.now } in
     subst (λ (v : SessionModel). AnswersAs m v c.release.new.self (lines.Rollback c.args.name) (Ok c.release.result)) c.self.view_is
     (subst (λ (ns : List (List ℕ × List ℕ)). AnswersAs m (record before { names = ns }) c.release.new.self (lines.Rollback c.args.name) (Ok c.release.result)) c.in_default.ensures.unchanged (c.release.ensures.step m))
+
+pub returns-in_default-clause-stores : goal.returns-in_default-clause-stores
+returns-in_default-clause-stores c m =
+    let before : SessionModel = record { core = c.self.inside.core; names = c.self.inside.names.entries; snapshot_names = c.self.inside.snapshot_names.entries; now = c.self.inside.now } in
+    subst (λ (v : SessionModel). StoresNothing m v c.release.new.self) c.self.view_is
+    (subst (λ (ns : List (List ℕ × List ℕ)). StoresNothing m (record before { names = ns }) c.release.new.self) c.in_default.ensures.unchanged (c.release.ensures.stores m))
 
 pub rollback-requires : goal.rollback-requires
 rollback-requires c = c.self.invariant.0.transactions.opened c.args.name c.in-Some.id (find_named-lookup c.args.name c.self.inside.names.entries ∙ sym c.in-Some.ensures.value)

@@ -5,7 +5,7 @@ use Rattle.std.specs.BTreeMap.{is_at}
 use Rattle.slate_types.specs.Keys.{key_cmp}
 use Rattle.slate_txn.specs.declared.event.Event.TheVariants as events
 use Rattle.slate_txn.specs.declared.line.Line.TheVariants as lines
-use Rattle.slate_db.specs.Meaning.{rules_of}
+use Rattle.slate_db.specs.Meaning.{Meaning, rules_of}
 use Rattle.slate_language.specs.declared.reply.Answer.TheVariants as answers
 use Rattle.slate_script.specs.Session.{SessionModel, AnswersAs, Grows, NamesStand, StoresNothing, reader_id}
 use Rattle.slate_script.proofs.NamesLaws.{named-after}
