@@ -1,8 +1,9 @@
 -- What a transaction sees of its own operations.
-use Rattle.std.proofs.Common.{◌≡◌, ℕ, Bool, true, false, cond, ◌||◌, List, [], ◌∷◌, ◌++◌, map, reverse, drop, refl, sym, ap, subst, ◌∙◌, append_assoc, Some}
+use Rattle.std.proofs.Common.{◌≡◌, ◌≢◌, not, ℕ, Bool, true, false, cond, ◌||◌, List, [], ◌∷◌, ◌++◌, map, reverse, drop, refl, sym, ap, subst, ◌∙◌, append_assoc, Some}
 use Rattle.std.specs.Prelude.{Contains}
 use Rattle.std.specs.List.{AllByRecursion, list_any}
 use Rattle.std.proofs.lemmas.List.{map-append, reverse-append}
+use Rattle.std.proofs.lemmas.List.Folds.{list_any-append}
 use Rattle.slate_types.specs.declared.types.RowEntry.{RowEntry}
 use Rattle.slate_types.specs.Fold.{AreShort, Combine, IsShort, fold_rows, from_last}
 use Rattle.slate_types.specs.Rows.{is_base, is_operand, operand}
@@ -16,7 +17,7 @@ use Rattle.slate_txn.specs.Named.{find_named}
 use Rattle.slate_txn.specs.State.{Tx}
 use Rattle.slate_db.specs.Log.{AreFine}
 use Rattle.slate_db.specs.Model.{CoreModel, Rows}
-use Rattle.slate_db.specs.Readable.{IsOwnOperand, decides_own}
+use Rattle.slate_db.specs.Readable.{IsOwnOperand, decides_own, keeps_merge}
 use Rattle.slate_db.proofs.Lists.{all_map}
 use Rattle.slate_db.proofs.Shown.{contains_here}
 use Rattle.slate_db.proofs.Short.{kept_fine}
@@ -109,6 +110,25 @@ plain_alone k (Put v o) h = refl
 plain_alone k Delete h = refl
 plain_alone k (Merge v o) h = cc
 
+-- ---- which of them is a merge
+
+merges_turned : (k : List ℕ) (xs : List WriteOp) → is_merge_among (map (own_row k) (reverse xs)) ≡ list_any (λ op. not (replaces op)) xs
+merges_turned k [] = refl
+merges_turned k (x ∷ xs) =
+    ap is_merge_among (turned k x xs) ∙ list_any-append is_operand (map (own_row k) (reverse xs)) (own_row k x ∷ [])
+    ∙ (λ i. merges_turned k xs i || (operand_is k x i || false)) ∙ swapped (list_any (λ op. not (replaces op)) xs) (not (replaces x))
+  where
+    operand_is : (k : List ℕ) (op : WriteOp) → is_operand (own_row k op) ≡ not (replaces op)
+    operand_is k (Put v o) = refl
+    operand_is k Delete = refl
+    operand_is k (Merge v o) = refl
+
+    swapped : (a b : Bool) → (a || (b || false)) ≡ (b || a)
+    swapped true true = refl
+    swapped true false = refl
+    swapped false true = refl
+    swapped false false = refl
+
 module _ (k : List ℕ) (ops : Ops) (own : Rows) (is : own ≡ map (own_row k) (reverse (kept ops k))) where
   of_kept : (P : RowEntry → Type 0) → AllByRecursion (λ op. P (own_row k op)) (kept ops k) → AllByRecursion P own
   of_kept P h = subst (AllByRecursion P) (sym is) (mapped P k (reverse (kept ops k)) (all_reverse (λ op. P (own_row k op)) (kept ops k) h))
@@ -138,3 +158,9 @@ module _ (k : List ℕ) (ops : Ops) (own : Rows) (is : own ≡ map (own_row k) (
   own_of_open c id t found same =
       of_kept (IsOwnOperand c) (subst (λ (os : Ops). AllByRecursion (λ op. IsOwnOperand c (own_row k op)) (kept os k)) (sym same)
       (all_map (Contains (kept t.ops k)) (λ op. IsOwnOperand c (own_row k op)) (λ op among. record { id = id; tx = t; open_there = found; key = k; op = op; among = among; is = refl }) (kept t.ops k) (each_among [] (kept t.ops k))))
+
+  pub own_merges : keeps_merge k ops ≡ true → is_merge_among own ≡ true
+  own_merges some = ap is_merge_among is ∙ merges_turned k (kept ops k) ∙ some
+
+  pub own_some : keeps_merge k ops ≡ true → own ≢ []
+  own_some some none = let clash : false ≡ true = sym (ap is_merge_among none) ∙ own_merges some in cc

@@ -1,12 +1,13 @@
 -- Rows that are found behind own operands.
-use Rattle.std.proofs.Common.{◌≡◌, ℕ, suc, ◌+◌, ◌-◌, ◌≤◌, Bool, true, false, not, List, [], ◌∷◌, ◌++◌, length, drop, refl, sym, ap, ◌∙◌, arith, append_assoc}
+use Rattle.std.proofs.Common.{◌≡◌, ◌≢◌, ◌||◌, append-nil, ℕ, suc, ◌+◌, ◌-◌, ◌≤◌, Bool, true, false, not, List, [], ◌∷◌, ◌++◌, length, drop, refl, sym, ap, ◌∙◌, arith, append_assoc}
 use Rattle.std.specs.Prelude.{slice_get}
 use Rattle.std.specs.List.{AllByRecursion}
 use Rattle.slate_types.specs.declared.types.RowEntry.{RowEntry}
 use Rattle.slate_types.specs.Rows.{is_base, is_operand}
 use Rattle.slate_mem.specs.Table.{newest}
-use Rattle.slate_mem.specs.Lookup.{is_last_base, is_decided, newest_first}
+use Rattle.slate_mem.specs.Lookup.{is_last_base, is_decided, is_merge_among, newest_first}
 use Rattle.slate_mem.proofs.LayerLaws.{layer_step, layers_begin, layers_decide, layers_end, stays}
+use Rattle.slate_db.specs.Lookup.{Extends}
 use Rattle.slate_db.specs.Model.{Rows}
 
 -- ---- what decides
@@ -28,6 +29,22 @@ decided_behind (o ∷ os) xs h = by (os ++ xs) (decided_behind os xs h.1)
     by : (zs : Rows) → is_decided zs ≡ is_decided xs → is_decided (o ∷ zs) ≡ is_decided xs
     by [] e = ap not h.0 ∙ e
     by (z ∷ zs) e = decided_more o z zs ∙ e
+
+-- ---- what is behind newer rows
+
+pub extends_none : (newer : Rows) → Extends newer newer
+extends_none newer = ([], sym (append-nil newer))
+
+pub extends_more : (newer found more all : Rows) → Extends newer found → all ≡ found ++ more → Extends newer all
+extends_more newer found more all h is = (h.0 ++ more, is ∙ ap (λ xs. xs ++ more) h.1 ∙ append_assoc newer h.0 more)
+
+pub extends_both : (newer found all : Rows) → Extends newer found → Extends found all → Extends newer all
+extends_both newer found all h k = extends_more newer found k.0 all h k.1
+
+-- an operand that was found first is still there
+pub operand_found : (own near found : Rows) → AllByRecursion (λ r. is_operand r ≡ true) own → own ≢ [] → Extends (own ++ near) found → is_merge_among found ≡ true
+operand_found [] near found operands some h = absurd (some refl)
+operand_found (o ∷ os) near found operands some h = ap is_merge_among h.1 ∙ ap (λ b. b || is_merge_among ((os ++ near) ++ h.0)) operands.0
 
 module _ (k : List ℕ) (n : ℕ) (own : Rows) (operands : AllByRecursion (λ r. is_operand r ≡ true) own) where
   rest_decided : (xs found : Rows) (b : Bool) → found ≡ own ++ xs → is_decided found ≡ b → is_decided xs ≡ b

@@ -3,6 +3,7 @@
 --     AreStored encode decode objects hs layers      of several, the oldest first
 --     IsStoredAs m os h rows, AreStoredAs m os hs layers      the same of objects, for what the parts mean
 --     FindsBehind k n layers newer all      what was found in newer layers, with the key's rows of these behind it, to the first that decides; before it may stand operands of no layer
+--     Extends newer all      all begins with what was found in newer layers
 --     IsUnknown version e      a refusal of a version that is neither 1 nor 2
 use Rattle.std.specs.Prelude.{◌≡◌, ◌≢◌, ℕ, true, List, [], ◌∷◌, ◌++◌, Option, Some}
 use Rattle.std.specs.List.{AllByRecursion}
@@ -46,6 +47,9 @@ AreStoredAs m os hs layers = AreStored m.encode m.decode (Some os) hs layers
 
 abbrev pub FindsBehind : List ℕ → ℕ → List Rows → Rows → Rows → Type 0
 FindsBehind k n layers newer all = (own above : Rows) → AllByRecursion (λ r. is_operand r ≡ true) own → newer ≡ own ++ newest k n above → all ≡ own ++ newest k n (above ++ newest_first layers)
+
+abbrev pub Extends : Rows → Rows → Type 0
+Extends newer all = (more : Rows) × (all ≡ newer ++ more)
 
 abbrev pub IsUnknown : ℕ → SlateDBError → Type 0
 IsUnknown version e = (version ≢ 1) × (version ≢ 2) × (e ≡ InvalidVersion version)

@@ -8,7 +8,8 @@
 --     IsRead before after c means result      what a call answers that reads: what it means, when it is refused, and what it leaves
 --     IsOwnRead before after means result      the same of one that reads no more than an own operation: nothing is reached, and only memory refuses
 --     decides_own k ops      own operations of the key decide what is read there, so that no store is asked
-use Rattle.std.specs.Prelude.{◌≡◌, ◌⊎◌, ℕ, Bool, true, List, Contains, IfErr, IfOk, IsOkUnless, None, Some, Result}
+--     keeps_merge k ops      one of the operations that are kept of the key is a merge
+use Rattle.std.specs.Prelude.{◌≡◌, ◌⊎◌, ℕ, Bool, true, not, List, Contains, IfErr, IfOk, IsOkUnless, None, Some, Result}
 use Rattle.std.specs.List.{list_any}
 use Rattle.slate_types.specs.declared.error.SlateDBError.{SlateDBError}
 use Rattle.slate_types.specs.declared.error.SlateDBError.TheVariants.{MergeOperatorMissing, OutOfMemory}
@@ -79,3 +80,6 @@ pub record IsOwnRead {A : Type 0} (before after : Reach) (means : A → Type 0) 
 
 abbrev pub decides_own : List ℕ → Ops → Bool
 decides_own k ops = list_any replaces (kept ops k)
+
+abbrev pub keeps_merge : List ℕ → Ops → Bool
+keeps_merge k ops = list_any (λ op. not (replaces op)) (kept ops k)

@@ -3,7 +3,7 @@ ghost use Rattle.std.specs.Prelude.{◌≡◌, ℕ, ◌≢◌, ◌⊎◌, ◌+�
 ghost use Rattle.std.specs.List.{AllByRecursion, starts_with};
 ghost use Rattle.slate_types.specs.Config.{IsValid};
 ghost use Rattle.slate_types.specs.declared.error.SlateDBError.{SlateDBError};
-ghost use Rattle.slate_types.specs.Fold.{AreShort, Combine, fold_rows, shown};
+ghost use Rattle.slate_types.specs.Fold.{AreShort, Combine, IsLawful, KeepsShort, fold_rows, shown};
 ghost use Rattle.slate_types.specs.Rows.{is_operand, key_value};
 ghost use Rattle.slate_types.specs.declared.types.RowEntry.{RowEntry};
 ghost use Rattle.slate_types.specs.Iteration.{drop_before};
@@ -39,7 +39,7 @@ ghost use Rattle.slate_db.specs.Flushed.{Flushes, IsFlushError, MayPut, NoPlace,
 ghost use Rattle.slate_db.specs.Load.{load, weight};
 ghost use Rattle.slate_db.specs.Installs.{Replays, installed, tables_of};
 ghost use Rattle.slate_db.specs.BatchTests.{IsTestRefusal, batch_refusal};
-ghost use Rattle.slate_db.specs.Readable.{IsAnswered, IsOwnOperand, IsOwnRead, IsRead, decides_own};
+ghost use Rattle.slate_db.specs.Readable.{IsAnswered, IsOwnOperand, IsOwnRead, IsRead, decides_own, keeps_merge};
 ghost use Rattle.slate_db.specs.Model.{CoreModel, IsSame, Rows, at, memory};
 ghost use Rattle.slate_db.specs.Sound.{AreTables, IsKept, IsOperable, FoldsToState};
 ghost use Rattle.slate_db.specs.StoredState.{StoresState};
@@ -439,6 +439,9 @@ impl Core {
         ensures read { let reach = ⟦<EnvOf<S, M, T> as Outside>⟧.reach in
             let m = (reach env.old).meaning in
             IsRead (reach env.old) (reach env.new) self.now (λ row. self.now.floor ≤ at → row ≡ fold_rows (combine_of m key.now) (key_rows (rules_of self.now.settings m) key.now (up_to at self.now.state.commits) ++ reverse own.items)) result }
+        ensures missing { let reach = ⟦<EnvOf<S, M, T> as Outside>⟧.reach in
+            let m = (reach env.old).meaning in
+            m.combine ≡ None → own.items ≢ [] → IfOk result (λ row. ⊥) }
     {
         let near = newest_behind(
             self.alloc,
@@ -475,7 +478,15 @@ impl Core {
         ensures own { let reach = ⟦<EnvOf<S, M, T> as Outside>⟧.reach in
             (t : Tx) (op : WriteOp) → find_named id.now self.now.state.txns ≡ Some t → kept t.ops key.now ≡ op ∷ [] → replaces op ≡ true → IsOwnRead (reach env.old) (reach env.new) (λ row. row ≡ Some (own_row key.now op)) result }
         ensures decided { let reach = ⟦<EnvOf<S, M, T> as Outside>⟧.reach in
-            (t : Tx) → find_named id.now self.now.state.txns ≡ Some t → decides_own key.now t.ops ≡ true → IsCall (reach env.old) (reach env.new) [] }
+            (t : Tx) → find_named id.now self.now.state.txns ≡ Some t → decides_own key.now t.ops ≡ true →
+            IsCall (reach env.old) (reach env.new) [] × (env.new ≡ record env.old { operator = env.new.operator }) }
+        ensures folded { let reach = ⟦<EnvOf<S, M, T> as Outside>⟧.reach in
+            let c = combine_of (reach env.old).meaning key.now in
+            (t : Tx) → find_named id.now self.now.state.txns ≡ Some t → decides_own key.now t.ops ≡ true → IsLawful c → KeepsShort c →
+            IfOk result (λ row. row ≡ fold_rows c (map (own_row key.now) (kept t.ops key.now))) }
+        ensures missing { let reach = ⟦<EnvOf<S, M, T> as Outside>⟧.reach in
+            let m = (reach env.old).meaning in
+            (t : Tx) → find_named id.now self.now.state.txns ≡ Some t → m.combine ≡ None → keeps_merge key.now t.ops ≡ true → IfOk result (λ row. ⊥) }
     {
         let own = self.transactions.own_rows(self.alloc, id, key)?;
         if is_decided(&own) {
@@ -508,7 +519,15 @@ impl Core {
             (t : Tx) (op : WriteOp) → find_named id.now self.old.state.txns ≡ Some t → kept t.ops key.now ≡ op ∷ [] → replaces op ≡ true →
             IsOwnRead (reach env.old) (reach env.new) (λ a. (c : Combine) → a ≡ option_map key_value (shown c (own_row key.now op ∷ []))) result }
         ensures decided { let reach = ⟦<EnvOf<S, M, T> as Outside>⟧.reach in
-            (t : Tx) → find_named id.now self.old.state.txns ≡ Some t → decides_own key.now t.ops ≡ true → IsCall (reach env.old) (reach env.new) [] }
+            (t : Tx) → find_named id.now self.old.state.txns ≡ Some t → decides_own key.now t.ops ≡ true →
+            IsCall (reach env.old) (reach env.new) [] × (env.new ≡ record env.old { operator = env.new.operator }) }
+        ensures folded { let reach = ⟦<EnvOf<S, M, T> as Outside>⟧.reach in
+            let c = combine_of (reach env.old).meaning key.now in
+            (t : Tx) → find_named id.now self.old.state.txns ≡ Some t → decides_own key.now t.ops ≡ true → IsLawful c → KeepsShort c →
+            IfOk result (λ a. a ≡ option_map key_value (shown c (map (own_row key.now) (kept t.ops key.now)))) }
+        ensures missing { let reach = ⟦<EnvOf<S, M, T> as Outside>⟧.reach in
+            let m = (reach env.old).meaning in
+            (t : Tx) → find_named id.now self.old.state.txns ≡ Some t → m.combine ≡ None → keeps_merge key.now t.ops ≡ true → IfOk result (λ a. ⊥) }
         ensures vouched { let reach = ⟦<EnvOf<S, M, T> as Outside>⟧.reach in
             let m = (reach env.old).meaning in
             IsAnswered (reach env.old) (reach env.new) self.old → (other : List ℕ) → IsVouchedFor m self.old other → IsVouchedFor m self.new other }

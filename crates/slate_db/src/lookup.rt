@@ -22,7 +22,7 @@ ghost use Rattle.slate_table.specs.InfoReading.{seen_info};
 ghost use Rattle.slate_db.specs.Answered.{AnswersFrom};
 ghost use Rattle.slate_db.specs.Installs.{handles_of};
 ghost use Rattle.slate_mem.specs.Lookup.{newest_first};
-ghost use Rattle.slate_db.specs.Lookup.{AreStoredAs, FindsBehind, IsStoredAs, IsUnknown};
+ghost use Rattle.slate_db.specs.Lookup.{AreStoredAs, Extends, FindsBehind, IsStoredAs, IsUnknown};
 ghost use Rattle.slate_db.specs.Model.{Rows};
 ghost use Rattle.slate_db.specs.Shown.{IsRowOf, IsUnreadable, RefusesRow, HasRow, Shows, BringsRow, ShowsDamage};
 
@@ -194,6 +194,7 @@ fn newest_of_tables<S: Store, M: MergeOperator, T: BlockTransformer>(
     ensures found { let reach = ⟦<EnvOf<S, M, T> as Outside>⟧.reach in (layers : List Rows) (os : Objects) → AreStoredAs (reach env.old).meaning os tables.now layers → AnswersFrom os (reach env.old) (reach env.new)
         → IfOk result (λ all. FindsBehind key.now max_seq layers newer.items all.items) }
     ensures whole { let reach = ⟦<EnvOf<S, M, T> as Outside>⟧.reach in (layers : List Rows) (os : Objects) → AreStoredAs (reach env.old).meaning os tables.now layers → AnswersFrom os (reach env.old) (reach env.new) → IfErr result (IsFault (reach env.old) (reach env.new)) }
+    ensures extends { IfOk result (λ all. Extends newer.items all.items) }
     ensures rows { let reach = ⟦<EnvOf<S, M, T> as Outside>⟧.reach in IfOk result (λ all. Made (reach env.old) (reach env.new) (λ reads. AllByRecursion (λ r. Contains newer.items r ⊎ BringsRow (reach env.old).meaning.decode tables.now reads r) all.items)) }
     ensures cause { let reach = ⟦<EnvOf<S, M, T> as Outside>⟧.reach in IfErr result (λ e. IsFault (reach env.old) (reach env.new) e ⊎ Made (reach env.old) (reach env.new) (λ reads. ShowsDamage (reach env.old).meaning.decode tables.now reads e)
         ⊎ ((h : SsTableHandle) × Contains tables.now h × IsUnknown h.format_version e)) }
@@ -222,6 +223,7 @@ pub fn newest_of_runs<S: Store, M: MergeOperator, T: BlockTransformer>(
     ensures found { let reach = ⟦<EnvOf<S, M, T> as Outside>⟧.reach in (layers : List Rows) (os : Objects) → AreStoredAs (reach env.old).meaning os (handles_of runs.now) layers → AnswersFrom os (reach env.old) (reach env.new)
         → IfOk result (λ all. FindsBehind key.now max_seq layers newer.items all.items) }
     ensures whole { let reach = ⟦<EnvOf<S, M, T> as Outside>⟧.reach in (layers : List Rows) (os : Objects) → AreStoredAs (reach env.old).meaning os (handles_of runs.now) layers → AnswersFrom os (reach env.old) (reach env.new) → IfErr result (IsFault (reach env.old) (reach env.new)) }
+    ensures extends { IfOk result (λ all. Extends newer.items all.items) }
     ensures rows { let reach = ⟦<EnvOf<S, M, T> as Outside>⟧.reach in IfOk result (λ all. Made (reach env.old) (reach env.new) (λ reads. AllByRecursion (λ r. Contains newer.items r ⊎ BringsRow (reach env.old).meaning.decode (handles_of runs.now) reads r) all.items)) }
     ensures cause { let reach = ⟦<EnvOf<S, M, T> as Outside>⟧.reach in IfErr result (λ e. IsFault (reach env.old) (reach env.new) e ⊎ Made (reach env.old) (reach env.new) (λ reads. ShowsDamage (reach env.old).meaning.decode (handles_of runs.now) reads e)
         ⊎ ((h : SsTableHandle) × Contains (handles_of runs.now) h × IsUnknown h.format_version e)) }

@@ -13,6 +13,7 @@ use Rattle.slate_db.specs.Lookup.{AreStoredAs}
 use Rattle.slate_db.proofs.Answered.{from_first, from_last}
 use Rattle.slate_db.proofs.RunReads.{FoundSoFar, damage_of_run, handle_among, none_found, rows_of_run, run_found, run_stored, runs_decide, runs_end}
 use Rattle.slate_db.proofs.Shown.{newer_found}
+use Rattle.slate_db.proofs.UnderOwn.{extends_both, extends_none}
 use Rattle.slate_db.proofs.lookup.newest_of_runs.Goals as goal
 use Rattle.slate_db.proofs.lookup.newest_of_runs.Goals.{then-loop-at-test+else-not-is_decided, else-loop-at-test}
 
@@ -24,6 +25,7 @@ pub loop-at-init : goal.loop-at-init
 loop-at-init g c = record {
   within = omega arith;
   reads = reads_none _;
+  extends = extends_none c.args.newer.items;
   rows = ([], call_none _, newer_found _ (handles_of c.args.runs.now) c.args.newer.items []);
   found = λ os answers. none_found (reach_of g.S.Store g.M.MergeOperator g.T.BlockTransformer c.args.env.now).meaning os c.args.runs.now (length c.args.runs.now) c.args.key.now c.args.max_seq c.args.newer.items refl;
 }
@@ -41,6 +43,7 @@ loop-at-preserved g c =
     record {
       within = omega (arith, c.loop-at.invariant.within);
       reads = reads_then _ _ _ first last;
+      extends = extends_both c.args.newer.items c.loop-at.found.items c.in_ok-found.found.items c.loop-at.invariant.extends c.in_ok-found.ensures.extends;
       rows = rows_of_run _ _ _ (handles_of c.args.runs.now) _ c.args.newer.items c.loop-at.found.items c.in_ok-found.found.items (among c.args.runs.now i run c.as_slice.result.now below c.index-runs-at.is slice) c.loop-at.invariant.rows c.in_ok-found.ensures.rows;
       found = λ os answers. run_found m os c.args.runs.now i run c.args.key.now c.args.max_seq c.args.newer.items c.loop-at.found.items c.in_ok-found.found.items below c.index-runs-at.is
           (subst (λ (j : ℕ). FoundSoFar m os (drop j c.args.runs.now) c.args.key.now c.args.max_seq c.args.newer.items c.loop-at.found.items) next (c.loop-at.invariant.found os (from_first os _ _ _ first last answers)))
@@ -58,6 +61,7 @@ returns g c =
             | else-loop-at-test w ↦ runs_end (reach_of g.S.Store g.M.MergeOperator g.T.BlockTransformer c.args.env.now).meaning os c.args.runs.now c.loop-at.at c.args.key.now c.args.max_seq c.args.newer.items c.loop-at.found.items (c.loop-at.invariant.found os answers) (omega (arith, w.loop-at-test.false)) layers are own above operands h
           ]);
       whole = λ layers os are answers. tt;
+      extends = c.loop-at.invariant.extends;
       rows = c.loop-at.invariant.rows;
       cause = tt;
       reads = c.loop-at.invariant.reads;
@@ -80,6 +84,7 @@ returns-in_err-found g c =
           rw (p.1, p.2) (counted_earlier _ _ _ _ first.later (c.in_err-found.ensures.whole own.0 os
           (subst (λ (x : Meaning). AreStoredAs x os c.as_slice.result.now own.0) (sym first.meaning) (subst (λ (hs : List SsTableHandle). AreStoredAs m os hs own.0) (sym slice) own.1))
           (from_last os _ _ _ first last answers))));
+      extends = IfOk-from_err c.from_residual.result _ c.from_residual.ensures.0;
       rows = IfOk-from_err c.from_residual.result _ c.from_residual.ensures.0;
       cause = rw (p.1, p.2) (damage_of_run _ _ _ (handles_of c.args.runs.now) _ _ (among c.args.runs.now (c.loop-at.at - 1) run c.as_slice.result.now below c.index-runs-at.is slice) first.later c.loop-at.invariant.rows c.in_err-found.ensures.cause);
       reads = reads_then _ _ _ first last;

@@ -6,6 +6,7 @@ use Rattle.slate_types.specs.World.{Made}
 use Rattle.slate_store.specs.Reach.{reach_of}
 use Rattle.slate_db.specs.Answered.{AnswersFrom}
 use Rattle.slate_db.specs.Installs.{handles_of}
+use Rattle.slate_db.specs.Lookup.{Extends}
 use Rattle.slate_db.specs.Shown.{BringsRow}
 use Rattle.slate_db.proofs.RunReads.{FoundSoFar}
 use Rattle.slate_db.proofs.lookup.newest_of_runs.Given as goal
@@ -17,6 +18,7 @@ invariant-loop-at g l =
     record {
       within : l.at ≤ length l.runs;
       reads : OnlyReads before now;
+      extends : Extends l.initial.found.items l.found.items;
       rows : Made before now (λ reads. AllByRecursion (λ r. Contains l.initial.found.items r ⊎ BringsRow before.meaning.decode (handles_of l.runs) reads r) l.found.items);
       found : (os : Objects) → AnswersFrom os before now → FoundSoFar before.meaning os (drop l.at l.runs) l.key l.max_seq l.initial.found.items l.found.items;
     }

@@ -5,7 +5,7 @@ use Rattle.slate_types.specs.Outside.{Objects, OnlyReads}
 use Rattle.slate_types.specs.World.{Made}
 use Rattle.slate_store.specs.Reach.{reach_of}
 use Rattle.slate_db.specs.Answered.{AnswersFrom}
-use Rattle.slate_db.specs.Lookup.{AreStoredAs, FindsBehind}
+use Rattle.slate_db.specs.Lookup.{AreStoredAs, Extends, FindsBehind}
 use Rattle.slate_db.specs.Model.{Rows}
 use Rattle.slate_db.specs.Shown.{BringsRow}
 use Rattle.slate_db.proofs.lookup.newest_of_tables.Given as goal
@@ -17,6 +17,7 @@ invariant-loop-i g l =
     record {
       within : l.i ≤ length l.tables;
       reads : OnlyReads before now;
+      extends : Extends l.initial.found.items l.found.items;
       rows : Made before now (λ reads. AllByRecursion (λ r. Contains l.initial.found.items r ⊎ BringsRow before.meaning.decode l.tables reads r) l.found.items);
       found : (layers : List Rows) (os : Objects) → AreStoredAs before.meaning os l.tables layers → AnswersFrom os before now →
           FindsBehind l.key l.max_seq (drop l.i layers) l.initial.found.items l.found.items;

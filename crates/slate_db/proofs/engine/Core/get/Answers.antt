@@ -2,7 +2,7 @@ use Rattle.std.proofs.Common.{inl, ◌≡◌, ℕ, ◌≤◌, List, [], ◌∷�
 use Rattle.std.proofs.lemmas.Result.{IfOk-from_err, err_from_is_err_and}
 use Rattle.std.specs.Prelude.{option_and_then}
 use Rattle.slate_types.specs.declared.types.RowEntry.{RowEntry}
-use Rattle.slate_types.specs.Fold.{fold_rows}
+use Rattle.slate_types.specs.Fold.{IsLawful, KeepsShort, fold_rows}
 use Rattle.slate_types.specs.Outside.{IsCounted}
 use Rattle.slate_types.specs.Rows.{key_value, hide_tombstone}
 use Rattle.slate_store.specs.Reach.{reach_of}
@@ -21,7 +21,7 @@ use Rattle.slate_db.specs.declared.engine.Core.TheInside.{Inside}
 use Rattle.slate_db.specs.Meaning.{combine_of, rules_of}
 use Rattle.slate_db.specs.Model.{CoreModel}
 use Rattle.slate_db.specs.View.{view_of, unseen_of, IsWholeInside}
-use Rattle.slate_db.specs.Readable.{IsAnswered, decides_own}
+use Rattle.slate_db.specs.Readable.{IsAnswered, decides_own, keeps_merge}
 use Rattle.slate_db.specs.Sound.{IsKept}
 use Rattle.slate_db.specs.Vouched.{IsVouchedFor}
 use Rattle.slate_txn.proofs.NamedLaws.{IsNamed, open_is}
@@ -52,7 +52,9 @@ returns-in_err-key g c =
         reads = reads_none _;
       };
       own = λ t op found one replaces. record { answer = IfOk-from_err c.from_residual.result _ c.from_residual.ensures.0; cause = rw (p.1, p.2) refl; reached = refl };
-      decided = λ t found some. call_none _;
+      decided = λ t found some. (call_none _, refl);
+      folded = λ t found some lawful short. IfOk-from_err c.from_residual.result _ c.from_residual.ensures.0;
+      missing = λ t found lacks some. IfOk-from_err c.from_residual.result _ c.from_residual.ensures.0;
       same = rw p.1 refl;
       vouched = λ is k h. h;
       kept = λ m k. k;
@@ -68,6 +70,8 @@ returns-in-Err g c =
           let own = c.in-Err.ensures.own t op found (ap (kept t.ops) c.in_ok-key.ensures ∙ one) replaces in
           record { answer = tt; cause = own.cause; reached = own.reached };
       decided = λ t found some. c.seen_by.ensures.decided t found (ap (λ (k : List ℕ). decides_own k t.ops) c.in_ok-key.ensures ∙ some);
+      folded = λ t found some lawful short. tt;
+      missing = λ t found lacks some. tt;
       same = refl;
       vouched = λ is k h. h;
       kept = λ m k. k;
@@ -86,6 +90,8 @@ returns-in-Err-note_get g c =
       };
       own = λ t op found one replaces. record { answer = tt; cause = c.from.ensures; reached = (c.seen_by.ensures.own t op found (ap (kept t.ops) c.in_ok-key.ensures ∙ one) replaces).reached };
       decided = λ t found some. c.seen_by.ensures.decided t found (ap (λ (k : List ℕ). decides_own k t.ops) c.in_ok-key.ensures ∙ some);
+      folded = λ t found some lawful short. tt;
+      missing = λ t found lacks some. tt;
       same = ap view_of (unnoted c.self.inside c.note_get.new.self c.in-Err-note_get.ensures.err) ∙ c.self.view_is;
       vouched = λ is k h. let m = (reach_of g.S.Store g.M.MergeOperator g.T.BlockTransformer c.args.env.now).meaning in subst (λ (v : CoreModel). IsVouchedFor m v k) (sym (ap view_of (unnoted c.self.inside c.note_get.new.self c.in-Err-note_get.ensures.err) ∙ c.self.view_is)) h;
       kept = (λ m kept_m.
@@ -164,6 +170,13 @@ returns g c =
             reached = own.reached;
           };
       decided = λ t found some. c.seen_by.ensures.decided t found (ap (λ (k : List ℕ). decides_own k t.ops) c.in_ok-key.ensures ∙ some);
+      folded = λ t found some lawful short.
+          let m = (reach_of g.S.Store g.M.MergeOperator g.T.BlockTransformer c.args.env.now).meaning in
+          let key : c.in_ok-key.key.now ≡ c.args.key.now = c.in_ok-key.ensures in
+          c.answer-found.ensures ∙ ap (λ (row : Option RowEntry). option_map key_value (option_and_then (λ r. hide_tombstone r.value r) row))
+          (c.in-Ok.ensures.folded t found (ap (λ (k : List ℕ). decides_own k t.ops) key ∙ some) (subst (λ (k : List ℕ). IsLawful (combine_of m k)) (sym key) lawful) (subst (λ (k : List ℕ). KeepsShort (combine_of m k)) (sym key) short)
+          ∙ ap (λ (k : List ℕ). fold_rows (combine_of m k) (map (own_row k) (kept t.ops k))) key);
+      missing = λ t found lacks some. c.in-Ok.ensures.missing t found lacks (ap (λ (k : List ℕ). keeps_merge k t.ops) c.in_ok-key.ensures ∙ some);
       same = tt;
       vouched = (λ is k h.
           let m = (reach_of g.S.Store g.M.MergeOperator g.T.BlockTransformer c.args.env.now).meaning in

@@ -1,7 +1,8 @@
 use Rattle.std.proofs.Common.{inl, inr, ◌≡◌, ◌⊎◌, ℕ, ◌++◌, List, None, map, false, refl, reverse, sym, ap, subst, ◌∙◌, arith}
-use Rattle.std.specs.Prelude.{Contains}
+use Rattle.std.specs.Prelude.{Contains, IfOk, Option, Result}
 use Rattle.std.proofs.lemmas.List.Elements.{All-contains, All-from_recursion, Contains-append_cases}
-use Rattle.std.proofs.lemmas.Result.{err_from_is_err_and}
+use Rattle.std.proofs.lemmas.Result.{IfOk-from_err, err_from_is_err_and}
+use Rattle.slate_types.specs.declared.error.SlateDBError.{SlateDBError}
 use Rattle.slate_types.specs.declared.types.RowEntry.{RowEntry}
 use Rattle.slate_types.specs.Fold.{IsLawful, KeepsShort, fold_rows, operator_at}
 use Rattle.slate_types.specs.Outside.{IsCounted, Reach}
@@ -11,6 +12,7 @@ use Rattle.slate_mem.specs.Table.{newest}
 use Rattle.slate_read.specs.declared.sorted_run.SortedRun.{SortedRun}
 use Rattle.slate_db.specs.Installs.{AreHandles, handles_of, tables_of}
 use Rattle.slate_mem.specs.Lookup.{is_merge_among, newest_first}
+use Rattle.slate_db.specs.Lookup.{Extends}
 use Rattle.slate_db.specs.Model.{CoreModel, memory}
 use Rattle.slate_db.specs.Readable.{IsAnswered, IsOwnOperand}
 use Rattle.slate_db.specs.Sound.{IsSound}
@@ -21,6 +23,7 @@ use Rattle.slate_db.proofs.Causes.{fold_fault}
 use Rattle.slate_db.proofs.Shown.{fold_refused, from_memory, journal_damage}
 use Rattle.slate_db.proofs.Gets.{found_bases, found_folds, stored_as, Folds}
 use Rattle.slate_db.proofs.Runs.{all_handles}
+use Rattle.slate_db.proofs.UnderOwn.{operand_found}
 use Rattle.slate_db.proofs.engine.Core.seen.Goals as goal
 use Rattle.slate_db.proofs.engine.Core.seen.Given as given
 
@@ -78,6 +81,7 @@ returns-in_err-near g c =
         cause = rw (p.1, p.2) (inl (subst (IsCounted _ _) (sym c.in_err-near.ensures.cause) tt));
         reads = reads_none _;
       };
+      missing = λ lacks some. IfOk-from_err c.from_residual.result _ c.from_residual.ensures.0;
     }
 
 pub returns-in_err-found : goal.returns-in_err-found
@@ -94,6 +98,7 @@ returns-in_err-found g c =
         cause = rw (p.1, p.2) (journal_damage _ _ c.args.self.now (handles_of c.runs.result.now) _ (subst (λ (runs : List SortedRun). AreHandles (tables_of c.args.self.now.events) (handles_of runs)) (sym c.runs.ensures) (subst (λ (v : CoreModel). AreHandles (tables_of v.events) (handles_of c.self.inside.layers.runs)) c.self.view_is (all_handles (view_of c.self.inside).events c.self.inside.layers.runs c.self.invariant.tied.runs))) c.in_err-found.ensures.cause);
         reads = c.newest_of_runs.ensures.reads;
       };
+      missing = λ lacks some. IfOk-from_err c.from_residual-in_err-found.result _ c.from_residual-in_err-found.ensures.0;
     }
 
 pub returns : goal.returns
@@ -115,4 +120,7 @@ returns g c =
             (λ i. record (between g c).meaning { combine = c.fold_found.ensures.same i }) refl c.in_ok-found.ensures.rows h) c.fold_found.ensures.cause;
         reads = reads_then _ _ _ tables (reads_of _ _ refl c.fold_found.ensures.same refl refl (adds_none _) (record { store = omega arith; operator = c.fold_found.ensures.later; transformer = omega arith }) refl);
       };
+      missing = λ lacks some. subst (λ (r : Result (Option RowEntry) SlateDBError). IfOk r (λ row. ⊥))
+          (sym (c.fold_found.ensures.missing (sym same ∙ lacks)
+          (operand_found c.args.own.items (newest c.as_slice.result.now c.args.at (c.args.self.now.active ++ newest_first c.args.self.now.frozen)) c.in_ok-found.found.items c.requires.operands some (subst (λ xs. Extends xs c.in_ok-found.found.items) (near g c) c.in_ok-found.ensures.extends)))) tt;
     }

@@ -29,7 +29,7 @@ use Rattle.slate_db.proofs.Blocks.{if_err, if_ok}
 use Rattle.slate_db.proofs.Causes.{fold_fault}
 use Rattle.slate_db.proofs.Gets.{own_pairs}
 use Rattle.slate_db.proofs.NoMerges.{own_bases_of}
-use Rattle.slate_db.proofs.OwnRows.{oldest_first, one_decides, own_decide, own_decided, own_keys, own_operands, own_short, plain_alone}
+use Rattle.slate_db.proofs.OwnRows.{oldest_first, one_decides, own_decide, own_decided, own_keys, own_merges, own_operands, own_short, own_some, plain_alone}
 use Rattle.slate_db.proofs.Readers.{own_fine_of, own_of_reader, own_rows_of}
 use Rattle.slate_db.proofs.Runs.{all_handles}
 use Rattle.slate_db.proofs.Shown.{fold_refused, newer_found}
@@ -83,7 +83,15 @@ returns-then-is_decided g c =
             cause = subst (λ (r : Result (Option RowEntry) SlateDBError). IsOkUnless r OutOfMemory) (sym is) tt;
             reached = ap (λ o. reach_of g.S.Store g.M.MergeOperator g.T.BlockTransformer (record c.args.env.now { operator = o })) plain.0;
           };
-      decided = λ t found some. call_quiet before after refl (λ i. record before.meaning { combine = c.fold_found.ensures.same i }) refl;
+      decided = λ t found some. (call_quiet before after refl (λ i. record before.meaning { combine = c.fold_found.ensures.same i }) refl, refl);
+      folded = λ t found some lawful short.
+          let there : find_named c.args.id.now c.self.inside.transactions ≡ Some t = ap (λ (v : CoreModel). find_named c.args.id.now v.state.txns) c.self.view_is ∙ found in
+          let rows : own ≡ map (own_row k) (reverse (kept t.ops k)) = c.in_ok-own.ensures.rows t there in
+          if_ok c.fold_found.result _ _ (λ row h. h ∙ ap (fold_rows (combine_of before.meaning k)) (oldest_first k t.ops own rows))
+          (c.fold_found.ensures.row k lawful short (own_pairs k own (own_keys k t.ops own rows) (own_short k t.ops own rows (c.own_rows.ensures.fine t there))));
+      missing = λ t found lacks some.
+          let there : find_named c.args.id.now c.self.inside.transactions ≡ Some t = ap (λ (v : CoreModel). find_named c.args.id.now v.state.txns) c.self.view_is ∙ found in
+          subst (λ (r : Result (Option RowEntry) SlateDBError). IfOk r (λ row. ⊥)) (sym (c.fold_found.ensures.missing lacks (own_merges k t.ops own (c.in_ok-own.ensures.rows t there) some))) tt;
     }
 
 pub returns : goal.returns
@@ -109,4 +117,10 @@ returns g c =
       decided = λ t found some.
           let there : find_named c.args.id.now c.self.inside.transactions ≡ Some t = ap (λ (v : CoreModel). find_named c.args.id.now v.state.txns) c.self.view_is ∙ found in
           let clash : true ≡ false = sym (own_decide k t.ops own (c.in_ok-own.ensures.rows t there) some) ∙ undecided in cc;
+      folded = λ t found some lawful short.
+          let there : find_named c.args.id.now c.self.inside.transactions ≡ Some t = ap (λ (v : CoreModel). find_named c.args.id.now v.state.txns) c.self.view_is ∙ found in
+          let clash : true ≡ false = sym (own_decide k t.ops own (c.in_ok-own.ensures.rows t there) some) ∙ undecided in cc;
+      missing = λ t found lacks some.
+          let there : find_named c.args.id.now c.self.inside.transactions ≡ Some t = ap (λ (v : CoreModel). find_named c.args.id.now v.state.txns) c.self.view_is ∙ found in
+          c.seen.ensures.missing lacks (own_some k t.ops own (c.in_ok-own.ensures.rows t there) some);
     }
