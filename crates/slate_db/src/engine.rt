@@ -496,11 +496,13 @@ impl Core {
     }
 
     /// What an open transaction or an open snapshot sees at a key, and `None` where that is nothing, as at a key that no row can
-    /// have. The answer is recorded in the transaction's transcript; a snapshot has none.
+    /// have. Own operations lie above the rows at its start, and where one of them decides, no store is asked. The answer is recorded
+    /// in the transaction's transcript; a snapshot has none.
     ///
     /// Refuses by `StoreFault`, `BlockTransformError` and `Callback`, each only where its count of faults rose; by
-    /// `MergeOperatorMissing`, only where there is no operator and an operand was found; by `ChecksumMismatch`, `CorruptTable` or
-    /// `InvalidRowFlags`, only where the last reads of this call show it, of a table that the journal names; and by `OutOfMemory`.
+    /// `MergeOperatorMissing`, only where there is no operator and an operand was found, which each own one is that is kept of the
+    /// key; by `ChecksumMismatch`, `CorruptTable` or `InvalidRowFlags`, only where the last reads of this call show it, of a table
+    /// that the journal names; and by `OutOfMemory`.
     /// Then nothing is recorded. Neither damage nor a missing operator is answered where the store holds the tables that the journal
     /// names, nor where its acts tell that each read of this call was answered by them.
     pub fn get<S: Store, M: MergeOperator, T: BlockTransformer, X: PrefixExtractor>(

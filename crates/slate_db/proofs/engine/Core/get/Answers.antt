@@ -172,7 +172,7 @@ returns g c =
       decided = λ t found some. c.seen_by.ensures.decided t found (ap (λ (k : List ℕ). decides_own k t.ops) c.in_ok-key.ensures ∙ some);
       folded = λ t found some lawful short.
           let m = (reach_of g.S.Store g.M.MergeOperator g.T.BlockTransformer c.args.env.now).meaning in
-          let key : c.in_ok-key.key.now ≡ c.args.key.now = c.in_ok-key.ensures in
+          let key = c.in_ok-key.ensures in
           c.answer-found.ensures ∙ ap (λ (row : Option RowEntry). option_map key_value (option_and_then (λ r. hide_tombstone r.value r) row))
           (c.in-Ok.ensures.folded t found (ap (λ (k : List ℕ). decides_own k t.ops) key ∙ some) (subst (λ (k : List ℕ). IsLawful (combine_of m k)) (sym key) lawful) (subst (λ (k : List ℕ). KeepsShort (combine_of m k)) (sym key) short)
           ∙ ap (λ (k : List ℕ). fold_rows (combine_of m k) (map (own_row k) (kept t.ops k))) key);
