@@ -46,7 +46,13 @@ fn replaced_rows(alloc: Global) -> Option<Vec<RowEntry>> {
 
 #[test]
 fn replaced_merges_make_no_row(rt: HostRuntime) {
-    assert!(rt; are_rows(rt.alloc(), replaced_rows(rt.alloc()), &[(b"k", 'v', b"3", 3, Some(40), None)]));
+    assert!(rt;
+        are_rows(
+            rt.alloc(),
+            replaced_rows(rt.alloc()),
+            &[(b"k", 'v', b"3", 3, Some(40), None)]
+        )
+    );
 }
 
 // A put and two merges of one key, a delete and a merge of another, and a lone merge.
