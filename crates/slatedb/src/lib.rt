@@ -16,6 +16,7 @@ pub use slate_mem::WriteBatch;
 pub use slate_store::{Env, FileStore, MemoryStore, Store, StoreError};
 pub use slate_types::{
     BlockFormat, BlockTransformer, BytesRange, IsolationLevel, IterationOrder, KeyValue,
-    MergeOperator, MergeOperatorError, NoExtractor, NoOperator, NoTransformer, Options,
-    PrefixExtractor, PutOptions, ReadOptions, ScanOptions, SlateDBError, TransformError, Ttl,
+    MergeOperator, MergeOperatorError, MergeOptions, NoExtractor, NoOperator, NoTransformer,
+    Options, PrefixExtractor, PutOptions, ReadOptions, ScanOptions, SlateDBError, TransformError,
+    Ttl,
 };
