@@ -165,25 +165,25 @@ returns-in-Commit g c =
     }
 
 pub answer_within-requires-clause-built : goal.answer_within-requires-clause-built
-answer_within-requires-clause-built g c = λ lives. c.requires.built
+answer_within-requires-clause-built g c = c.requires.built
 
 pub answer_within-requires-clause-moment : goal.answer_within-requires-clause-moment
-answer_within-requires-clause-moment g c = λ lives. c.requires.moment
+answer_within-requires-clause-moment g c = c.requires.moment
 
 pub answer_within-requires-clause-no_get : goal.answer_within-requires-clause-no_get
-answer_within-requires-clause-no_get g c = λ lives name key is. c.in_default.not-Get name key is
+answer_within-requires-clause-no_get g c = λ name key is. c.in_default.not-Get name key is
 
 pub answer_within-requires-clause-no_scan : goal.answer_within-requires-clause-no_scan
-answer_within-requires-clause-no_scan g c = λ lives name order start end sts is. c.in_default.not-Scan name order start end sts is
+answer_within-requires-clause-no_scan g c = λ name order start end sts is. c.in_default.not-Scan name order start end sts is
 
 pub answer_within-requires-clause-no_flush : goal.answer_within-requires-clause-no_flush
-answer_within-requires-clause-no_flush g c = λ lives. c.in_default.not-Flush
+answer_within-requires-clause-no_flush g c = c.in_default.not-Flush
 
 pub answer_within-requires-clause-no_write : goal.answer_within-requires-clause-no_write
-answer_within-requires-clause-no_write g c = λ lives ops is. c.in_default.not-Write ops is
+answer_within-requires-clause-no_write g c = λ ops is. c.in_default.not-Write ops is
 
 pub answer_within-requires-clause-no_merge : goal.answer_within-requires-clause-no_merge
-answer_within-requires-clause-no_merge g c = λ lives name key value ttl is. c.in_default.not-Merge name key value ttl is
+answer_within-requires-clause-no_merge g c = λ name key value ttl is. c.in_default.not-Merge name key value ttl is
 
 pub answer_within-requires-clause-no_commit : goal.answer_within-requires-clause-no_commit
-answer_within-requires-clause-no_commit g c = λ lives name is. c.in_default.not-Commit name is
+answer_within-requires-clause-no_commit g c = λ name is. c.in_default.not-Commit name is
