@@ -5,7 +5,6 @@ use Rattle.slate_types.specs.Fold.{IsLawful, KeepsShort}
 use Rattle.slate_types.specs.Lawful.{IsLawfulTransform}
 use Rattle.slate_types.specs.Outside.{Objects}
 use Rattle.slate_store.specs.Store.{IsEmpty}
-use Rattle.slate_txn.specs.State.{Rules}
 use Rattle.slate_db.specs.Meaning.{Meaning, IsLawfulMeaning, combine_of}
 use Rattle.slate_db.specs.Parts.{meaning_of}
 use Rattle.slate_language.specs.declared.operators.NamedOperator.{NamedOperator}
