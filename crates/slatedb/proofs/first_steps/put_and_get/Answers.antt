@@ -6,14 +6,14 @@ use Rattle.slate_txn.specs.Named.{find_named}
 use Rattle.slate_txn.specs.Settings.{settings_of}
 use Rattle.slate_db.specs.Installs.{tables_of, Holds}
 use Rattle.slate_db.specs.Model.{CoreModel}
-use Rattle.slatedb.proofs.FirstCalls.{put-first, opened-first, finds-first, kept-first, none-refused, lawful-without}
+use Rattle.slatedb.proofs.FirstCalls.{plain-meaning, put-first, opened-first, finds-first, kept-first, none-refused, lawful-without}
 use Rattle.slatedb.proofs.FirstRead.{is-open-still, is-reader}
 use Rattle.slatedb.proofs.FirstTable.{flushed-first, none-more}
 use Rattle.slatedb.proofs.first_steps.put_and_get.Goals as goal
 
 pub get-requires-after_bounds : goal.get-requires-after_bounds
 get-requires-after_bounds g c κs within =
-    let p = put-first _ c.args.key.now c.args.value.now c.new-core.result c.write.new.self c.put.new.self c.in_ok-write.field-0 refl
+    let p = put-first plain-meaning c.args.key.now c.args.value.now c.new-core.result c.write.new.self c.put.new.self c.in_ok-write.field-0 refl
     (c.new-core.ensures.settings ∙ ap settings_of c.new.ensures) c.new-core.ensures.state c.new-core.ensures.journal
     (c.in_ok-put.ensures.taken ∙ ap (λ (b : BatchModel). with_op b c.args.key.now (plain_put c.args.value.now)) c.new-batch.ensures)
     (none-refused (op_refusal c.args.key.now (plain_put c.args.value.now)) c.put.result c.in_ok-put.field-0 c.put.ensures.refused c.in_ok-put.was)
@@ -24,7 +24,7 @@ get-requires-after_bounds g c κs within =
 
 pub rollback-requires : goal.rollback-requires
 rollback-requires g c =
-    let p = put-first _ c.args.key.now c.args.value.now c.new-core.result c.write.new.self c.put.new.self c.in_ok-write.field-0 refl
+    let p = put-first plain-meaning c.args.key.now c.args.value.now c.new-core.result c.write.new.self c.put.new.self c.in_ok-write.field-0 refl
     (c.new-core.ensures.settings ∙ ap settings_of c.new.ensures) c.new-core.ensures.state c.new-core.ensures.journal
     (c.in_ok-put.ensures.taken ∙ ap (λ (b : BatchModel). with_op b c.args.key.now (plain_put c.args.value.now)) c.new-batch.ensures)
     (none-refused (op_refusal c.args.key.now (plain_put c.args.value.now)) c.put.result c.in_ok-put.field-0 c.put.ensures.refused c.in_ok-put.was)
@@ -36,7 +36,7 @@ rollback-requires g c =
 
 pub returns : goal.returns
 returns g c =
-    let p = put-first _ c.args.key.now c.args.value.now c.new-core.result c.write.new.self c.put.new.self c.in_ok-write.field-0 refl
+    let p = put-first plain-meaning c.args.key.now c.args.value.now c.new-core.result c.write.new.self c.put.new.self c.in_ok-write.field-0 refl
     (c.new-core.ensures.settings ∙ ap settings_of c.new.ensures) c.new-core.ensures.state c.new-core.ensures.journal
     (c.in_ok-put.ensures.taken ∙ ap (λ (b : BatchModel). with_op b c.args.key.now (plain_put c.args.value.now)) c.new-batch.ensures)
     (none-refused (op_refusal c.args.key.now (plain_put c.args.value.now)) c.put.result c.in_ok-put.field-0 c.put.ensures.refused c.in_ok-put.was)
@@ -47,7 +47,7 @@ returns g c =
     let same = c.write.ensures.reads.meaning in
     record {
       found = (λ os told.
-          let table = flushed-first _ _ os c.write.new.self c.in_ok-flush.ensures.installed.0 c.flush.new.self c.in_ok-flush.field-0 _ _ told p.runs c.in_ok-flush.ensures.installed.1 c.in_ok-flush.ensures.installed.2 in
+          let table = flushed-first _ _ os c.write.new.self c.in_ok-flush.ensures.installed.0 c.flush.new.self c.in_ok-flush.field-0 _ _ (c.write.ensures.reads.objects ∙ told) p.runs c.in_ok-flush.ensures.installed.1 c.in_ok-flush.ensures.installed.2 in
           finds-first c.args.key.now c.args.value.now c.in_ok-reader.reader Snapshot c.write.new.self c.begin.new.self c.get.new.self.state c.in_ok-found.found _ _ p
           (ap (λ (x : CoreModel). x.settings) c.in_ok-reader.ensures.event ∙ c.flush.ensures.settings)
           (meant ∙ same) refl opened
