@@ -1,12 +1,12 @@
 -- What iterators may refuse for, by the reads that they make.
 --     Refusals      by the reads from now on: in a seek to a key, and, where there is no key, in the other calls
---     IsDamage e      a refusal of what a source gave: bytes that are none of a table, or rows that are out of order
+--     IsDamage e      a refusal of bytes that are none of a table
 --     NoMore before reads after      behind these reads nothing is refused that wasn't before
 --     NoMoreBut refusal before reads after      the same, but for this very error
 --     IsReady refuses      nothing is refused for want of an `init`
 use Rattle.std.specs.Prelude.{◌≡◌, ◌⊎◌, ℕ, List, ◌++◌, Option}
 use Rattle.slate_types.specs.declared.error.SlateDBError.{SlateDBError}
-use Rattle.slate_types.specs.declared.error.SlateDBError.TheVariants.{CorruptTable, ChecksumMismatch, InvalidRowFlags, InvalidVersion, InvalidFilterBlock, InvalidSequenceOrder, IteratorNotInitialized}
+use Rattle.slate_types.specs.declared.error.SlateDBError.TheVariants.{CorruptTable, ChecksumMismatch, InvalidRowFlags, InvalidVersion, InvalidFilterBlock, IteratorNotInitialized}
 use Rattle.slate_types.specs.Outside.{Act}
 
 abbrev pub Refusals : Type 1
@@ -18,7 +18,6 @@ IsDamage (ChecksumMismatch stored computed) = Unit {0}
 IsDamage (InvalidRowFlags bits) = Unit {0}
 IsDamage (InvalidVersion version) = Unit {0}
 IsDamage (InvalidFilterBlock len) = Unit {0}
-IsDamage (InvalidSequenceOrder current next) = Unit {0}
 IsDamage e = ⊥
 
 abbrev pub NoMore : Refusals → List Act → Refusals → Type 0
