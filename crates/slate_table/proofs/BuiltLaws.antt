@@ -1,13 +1,13 @@
 -- The table of what a builder kept, once its last block was ended.
-use Rattle.std.proofs.Common.{◌≡◌, ℕ, ◌+◌, ◌^◌, ◌<◌, Bool, true, false, cond, List, [], ◌∷◌, ◌++◌, length, map, flat_map, refl, sym, ap, subst, ◌∙◌, ◌⊎◌, inl, inr, arith}
-use Rattle.std.specs.Prelude.{sum_by, nat_lt}
+use Rattle.std.proofs.Common.{◌≡◌, ℕ, ◌+◌, ◌^◌, ◌<◌, List, [], ◌∷◌, ◌++◌, length, map, flat_map, refl, sym, ap, subst, ◌∙◌, ◌⊎◌, inl, inr, arith}
+use Rattle.std.specs.Prelude.{sum_by}
 use Rattle.std.specs.List.{AllByRecursion}
 use Rattle.std.proofs.lemmas.List.{length-append, length-map, map-append}
 use Rattle.slate_types.specs.declared.types.RowEntry.{RowEntry}
 use Rattle.slate_types.specs.declared.config.BlockFormat.{BlockFormat}
 use Rattle.slate_types.specs.declared.config.BlockFormat.TheVariants.{V1, V2, Latest}
 use Rattle.slate_types.specs.Rows.{operand}
-use Rattle.slate_filter.specs.Policy.{filters_of}
+use Rattle.slate_filter.specs.Policy.{Policy, filters_of}
 use Rattle.slate_block.specs.RowSpelling.{be16, be32, be64}
 use Rattle.slate_block.specs.BlockSpelling.{block_bytes, places, FitsBlock, FitsRow}
 use Rattle.slate_block.specs.Building.{Building}
@@ -16,7 +16,7 @@ use Rattle.slate_table.specs.declared.table_parts.TableParts.{TableParts}
 use Rattle.slate_table.specs.Parts.{Encode, section, counts, separators, index_bytes, stats_bytes}
 use Rattle.slate_table.specs.Decoded.{FitsShort, counts_bytes}
 use Rattle.slate_table.specs.StatsReading.{counts_of}
-use Rattle.slate_table.specs.Table.{AreInOrder, IsTableOf, IsBuilt, block_sections, cut, some_first, some_last, table_bytes, sections_then_info}
+use Rattle.slate_table.specs.Table.{AreInOrder, IsTableOf, IsBuilt, block_sections, filter_section, cut, some_first, some_last, table_bytes, sections_then_info}
 use Rattle.slate_table.specs.declared.info.SsTableInfo.{SsTableInfo}
 use Rattle.slate_table.specs.InfoReading.{seen_info}
 use Rattle.slate_table.specs.TableBuilding.{all_blocks, TableBuilding, AreEncoded}
@@ -154,20 +154,21 @@ are_sealed encode p q s e a =
     }
 
 -- every part, in the place that it has in a table
-whole_bytes : Encode → ℕ → List RowEntry → List ℕ → List ℕ → List ℕ → List ℕ
-whole_bytes encode version rows blocks index stats = sections_then_info version rows blocks [] (section encode index) (section encode stats)
+whole_bytes : Encode → List (List ℕ × List ℕ) → ℕ → List RowEntry → List ℕ → List ℕ → List ℕ → List ℕ
+whole_bytes encode filters version rows blocks index stats = sections_then_info version rows blocks (filter_section encode filters) (section encode index) (section encode stats)
 
-whole_is : (encode : Encode) (version : ℕ) (bs : List (List RowEntry)) →
-    whole_bytes encode version (flat_map (λ b. b) bs) (flat_map (λ b. b) (block_sections encode version bs)) (index_bytes (places 0 (block_sections encode version bs)) (separators bs)) (stats_bytes bs) ≡ table_bytes encode version bs []
+whole_is : (encode : Encode) (filters : List (List ℕ × List ℕ)) (version : ℕ) (bs : List (List RowEntry)) →
+    whole_bytes encode filters version (flat_map (λ b. b) bs) (flat_map (λ b. b) (block_sections encode version bs)) (index_bytes (places 0 (block_sections encode version bs)) (separators bs)) (stats_bytes bs) ≡ table_bytes encode version bs filters
 unfolding whole_bytes
-whole_is encode version bs = refl
+whole_is encode filters version bs = refl
 
-parts_are : (encode : Encode) (q : TableParts) → parts_bytes encode q ≡ whole_bytes encode (version_of q.format) q.rows.items q.bytes.items (parts_index q) (parts_stats q)
+parts_are : (encode : Encode) (filters : List (List ℕ × List ℕ)) (q : TableParts) → parts_bytes encode filters q ≡ whole_bytes encode filters (version_of q.format) q.rows.items q.bytes.items (parts_index q) (parts_stats q)
 unfolding whole_bytes
-parts_are encode q = refl
+parts_are encode filters q = refl
 
-table_is : (encode : Encode) (p q : TableParts) → Stands p → 0 < length p.rows.items → IsEnded encode p q → Sections encode p → parts_bytes encode q ≡ table_bytes encode (version_of p.format) (every p) []
-table_is encode p q s h e a =
+table_is : (encode : Encode) (filters : List (List ℕ × List ℕ)) (p q : TableParts) → Stands p → 0 < length p.rows.items → IsEnded encode p q → Sections encode p →
+    parts_bytes encode filters q ≡ table_bytes encode (version_of p.format) (every p) filters
+table_is encode filters p q s h e a =
     let ended = are_ended encode p q s h e in
     let sealed = are_sealed encode p q s e a in
     let rows : p.rows.items ≡ flat_map (λ b. b) (every p) = sym (ap (λ (l : List (List RowEntry)). flat_map (λ b. b) l) (every_cut p h) ∙ cut_keeps p.block_size (version_of p.format) p.rows.items) in
@@ -177,50 +178,42 @@ table_is encode p q s h e a =
     let values = e.values ∙ s.values ∙ ap (λ (l : List RowEntry). sum_by (λ r. length (operand r)) l) rows in
     let index : parts_index q ≡ index_bytes (places 0 (block_sections encode (version_of p.format) (every p))) (separators (every p)) = λ i. index_bytes (sealed.offsets i) (ended.seps i) in
     let stats : parts_stats q ≡ stats_bytes (every p) = (λ i. counted_bytes (all i) (keys i) (values i) (ended.stats i)) ∙ stats_spelled (every p) in
-    parts_are encode q ∙ (λ i. whole_bytes encode (format i) (all i) (sealed.bytes i) (index i) (stats i)) ∙ whole_is encode (version_of p.format) (every p)
+    parts_are encode filters q ∙ (λ i. whole_bytes encode filters (format i) (all i) (sealed.bytes i) (index i) (stats i)) ∙ whole_is encode filters (version_of p.format) (every p)
 
-pub no_filters : (min : ℕ) (rows : List RowEntry) → [] ≡ filters_of [] min rows
-no_filters min rows = by (nat_lt (length rows) min)
-  where
-    by : (t : Bool) → ◌≡◌ {A = List (List ℕ × List ℕ)} [] (cond t [] [])
-    by true = refl
-    by false = refl
-
-pub finished_table : (encode : Encode) (p q : TableParts) (bytes : List ℕ) → Stands p → 0 < length p.rows.items → IsEnded encode p q → Sections encode p →
-    bytes ≡ parts_bytes encode q → length bytes < 2 ^ 64 → p.raw_key_size < 2 ^ 64 → p.raw_val_size < 2 ^ 64 →
-    IsTableOf encode bytes (version_of p.format) (cut p.block_size (version_of p.format) p.rows.items) []
-finished_table encode p q bytes s h e a is short keys values =
+pub finished_table : (encode : Encode) (filters : List (List ℕ × List ℕ)) (p : TableParts) (bytes : List ℕ) (i : SsTableInfo) → Stands p → 0 < length p.rows.items → Sections encode p →
+    IsFinished encode filters p bytes i → IsTableOf encode bytes (version_of p.format) (cut p.block_size (version_of p.format) p.rows.items) filters
+finished_table encode filters p bytes i s h a f =
+    let q = f.ended in
+    let e : IsEnded encode p q = f.end in
+    let keys = f.keys in
+    let values = f.values in
     let ended = are_ended encode p q s h e in
     let rows = sym (ap (λ (l : List (List RowEntry)). flat_map (λ b. b) l) (every_cut p h) ∙ cut_keeps p.block_size (version_of p.format) p.rows.items) in
     let count = every_count p in
-    subst (λ (bs : List (List RowEntry)). IsTableOf encode bytes (version_of p.format) bs []) (every_cut p h) (record {
+    subst (λ (bs : List (List RowEntry)). IsTableOf encode bytes (version_of p.format) bs filters) (every_cut p h) (record {
       known = known p.format;
       each = ended.each;
       some = omega (arith, count);
       few = ended.few;
       order = subst (λ (l : List RowEntry). AreInOrder l) rows s.order;
-      each_filter = tt;
-      few_filters = omega arith;
+      each_filter = f.each;
+      few_filters = f.few;
       key_sum = subst (λ (l : List RowEntry). sum_by (λ r. length r.key) l < 2 ^ 64) rows (omega (arith, s.keys, keys));
       value_sum = subst (λ (l : List RowEntry). sum_by (λ r. length (operand r)) l < 2 ^ 64) rows (omega (arith, s.values, values));
-      short = short;
-      is = is ∙ table_is encode p q s h e a;
+      short = f.short;
+      is = f.is ∙ table_is encode filters p q s h e a;
     })
 
 -- ---- as a builder is seen
 
-pub built_of : (encode : Encode) (p : TableParts) (v : TableBuilding) (bytes out : List ℕ) (i : SsTableInfo) → seen p ≡ v → Stands p → 0 < length v.rows →
-    IsFinished encode p bytes i → out ≡ bytes → AreEncoded encode v → (min : ℕ) → IsBuilt encode [] min v.size v.version out v.rows
-built_of encode p v bytes out i is s h f same a min =
+pub built_of : (encode : Encode) (policies : List Policy) (min : ℕ) (p : TableParts) (v : TableBuilding) (bytes : List ℕ) (i : SsTableInfo) → seen min p ≡ v → Stands p → 0 < length v.rows →
+    IsFinished encode (filters_of policies min p.rows.items) p bytes i → AreEncoded encode v → IsBuilt encode policies v.min v.size v.version bytes v.rows
+built_of encode policies min p v bytes i is s h f a =
     let row = subst (λ (b : TableBuilding). 0 < length b.rows) (sym is) h in
     let sections = subst (λ (b : TableBuilding). AreEncoded encode b) (sym is) a in
-    let table = finished_table encode p f.ended bytes s row f.end sections f.is f.short f.keys f.values in
-    let there = subst (λ (l : List ℕ). IsTableOf encode l (version_of p.format) (cut p.block_size (version_of p.format) p.rows.items) []) (sym same) table in
-    let shown : IsTableOf encode out v.version (cut v.size v.version v.rows) [] = subst (λ (b : TableBuilding). IsTableOf encode out b.version (cut b.size b.version b.rows) []) is there in
-    subst (λ (fs : List (List ℕ × List ℕ)). IsTableOf encode out v.version (cut v.size v.version v.rows) fs) (no_filters min v.rows) shown
+    let table = finished_table encode (filters_of policies min p.rows.items) p bytes i s row sections f in
+    subst (λ (b : TableBuilding). IsBuilt encode policies b.min b.size b.version bytes b.rows) is table
 
-pub info_of_built : (encode : Encode) (p : TableParts) (v : TableBuilding) (bytes out : List ℕ) (i j : SsTableInfo) → seen p ≡ v → IsFinished encode p bytes i → out ≡ bytes → j ≡ i → HasInfo out v.version (seen_info j)
-info_of_built encode p v bytes out i j is f same info =
-    let there = subst (λ (l : List ℕ). HasInfo l (version_of p.format) (seen_info i)) (sym same) f.info in
-    let shown = subst (λ (b : TableBuilding). HasInfo out b.version (seen_info i)) is there in
-    subst (λ (k : SsTableInfo). HasInfo out v.version (seen_info k)) (sym info) shown
+pub info_of_built : {encode : Encode} {filters : List (List ℕ × List ℕ)} (min : ℕ) (p : TableParts) (v : TableBuilding) (bytes : List ℕ) (i : SsTableInfo) → seen min p ≡ v →
+    IsFinished encode filters p bytes i → HasInfo bytes v.version (seen_info i)
+info_of_built min p v bytes i is f = subst (λ (b : TableBuilding). HasInfo bytes b.version (seen_info i)) is f.info

@@ -1,13 +1,13 @@
 -- The checksum's step is linear, so bytes can be taken by tables.
-use Rattle.std.proofs.Common.{◌≡◌, ℕ, zero, suc, ◌+◌, ◌*◌, ◌/◌, ◌%◌, ◌^◌, ◌<◌, Bool, true, false, cond, eqb, ◌&&◌, List, [], ◌∷◌, length, get_or, refl, sym, ap, ◌∙◌, arith}
+use Rattle.std.proofs.Common.{◌≡◌, ℕ, zero, suc, ◌+◌, ◌-◌, ◌*◌, ◌/◌, ◌%◌, ◌^◌, ◌<◌, Bool, true, false, cond, eqb, ◌&&◌, List, [], ◌∷◌, ◌++◌, length, get_or, refl, sym, ap, ◌∙◌, arith}
 use Rattle.std.specs.Prelude.{bit_xor}
-use Rattle.std.specs.Int.{w32, to_le_bytes}
+use Rattle.std.specs.Int.{w64, to_le_bytes, from_le_bytes}
 use Rattle.std.specs.Int.Bits.{xor_assoc, xor_self, xor_zero_l}
 use Rattle.std.proofs.lemmas.Bool.{and_parts, eqb-true}
 use Rattle.std.proofs.lemmas.Nat.{xor_comm, xor_shr, xor_mod, xor_block}
 use Rattle.slate_table.specs.Checksum.{crc_bit, crc_bits, crc_from}
 
-xor_zero_r : (a : ℕ) → bit_xor a 0 ≡ a
+pub xor_zero_r : (a : ℕ) → bit_xor a 0 ≡ a
 xor_zero_r a = xor_comm a 0 ∙ xor_zero_l a
 
 swap : (a b c : ℕ) → bit_xor (bit_xor a b) c ≡ bit_xor (bit_xor a c) b
@@ -88,7 +88,7 @@ byte_of x =
 
 -- ---- bytes
 
-from_linear : (u v : ℕ) (bs : List ℕ) → crc_from (bit_xor u v) bs ≡ bit_xor (crc_bits (8 * length bs) u) (crc_from v bs)
+pub from_linear : (u v : ℕ) (bs : List ℕ) → crc_from (bit_xor u v) bs ≡ bit_xor (crc_bits (8 * length bs) u) (crc_from v bs)
 from_linear u v [] = refl
 from_linear u v (b ∷ bs) =
     let size : 8 + 8 * length bs ≡ 8 * length (b ∷ bs) = omega arith in
@@ -109,94 +109,188 @@ peel c b bs lt =
     ∙ from_linear (crc_bits 8 (bit_xor (c % 256) b)) (c / 256) bs
     ∙ ap (λ (x : ℕ). bit_xor x (crc_from (c / 256) bs)) (bits_more (8 * length bs) 8 (bit_xor (c % 256) b) ∙ ap (λ (k : ℕ). crc_bits k (bit_xor (c % 256) b)) size)
 
-peel_at : (n c b : ℕ) (bs : List ℕ) → b < 256 → 8 * length (b ∷ bs) ≡ n → crc_from c (b ∷ bs) ≡ bit_xor (crc_bits n (bit_xor (c % 256) b)) (crc_from (c / 256) bs)
-peel_at n c b bs lt size = peel c b bs lt ∙ ap (λ (k : ℕ). bit_xor (crc_bits k (bit_xor (c % 256) b)) (crc_from (c / 256) bs)) size
+-- ---- words
 
--- ---- eight bytes
+-- what is left of a word, by its bytes
+abbrev slices : ℕ → List ℕ → ℕ
+slices k [] = 0
+slices k (b ∷ bs) = bit_xor (crc_bits (8 * (k + length bs + 1)) b) (slices k bs)
 
-eight_items : (xs : List ℕ) → length xs ≡ 8 →
-    xs ≡ get_or xs 0 0 ∷ get_or xs 1 0 ∷ get_or xs 2 0 ∷ get_or xs 3 0 ∷ get_or xs 4 0 ∷ get_or xs 5 0 ∷ get_or xs 6 0 ∷ get_or xs 7 0 ∷ []
-eight_items [] n = absurd (omega (arith, n))
-eight_items (a ∷ []) n = absurd (omega (arith, n))
-eight_items (a ∷ b ∷ []) n = absurd (omega (arith, n))
-eight_items (a ∷ b ∷ c ∷ []) n = absurd (omega (arith, n))
-eight_items (a ∷ b ∷ c ∷ d ∷ []) n = absurd (omega (arith, n))
-eight_items (a ∷ b ∷ c ∷ d ∷ e ∷ []) n = absurd (omega (arith, n))
-eight_items (a ∷ b ∷ c ∷ d ∷ e ∷ f ∷ []) n = absurd (omega (arith, n))
-eight_items (a ∷ b ∷ c ∷ d ∷ e ∷ f ∷ g ∷ []) n = absurd (omega (arith, n))
-eight_items (a ∷ b ∷ c ∷ d ∷ e ∷ f ∷ g ∷ h ∷ []) n = refl
-eight_items (a ∷ b ∷ c ∷ d ∷ e ∷ f ∷ g ∷ h ∷ i ∷ xs) n = absurd (omega (arith, n))
+pub bits_of_none : (n : ℕ) → crc_bits n 0 ≡ 0
+bits_of_none zero = refl
+bits_of_none (suc n) = bits_of_none n
 
-grouped : (a b c d e f g h : ℕ) → bit_xor a (bit_xor b (bit_xor c (bit_xor d (bit_xor e (bit_xor f (bit_xor g h))))))
+abbrev digits : ℕ → ℕ → List ℕ
+digits zero x = []
+digits (suc n) x = x % 256 ∷ digits n (x / 256)
+
+length_digits : (n x : ℕ) → length (digits n x) ≡ n
+length_digits zero x = refl
+length_digits (suc n) x = ap suc (length_digits n (x / 256))
+
+abbrev over : ℕ → ℕ → ℕ
+over zero x = x
+over (suc n) x = over n (x / 256)
+
+slices_are : (k n x : ℕ) → over n x ≡ 0 → slices k (digits n x) ≡ crc_bits (8 * (k + n)) x
+slices_are k zero x none = sym (ap (crc_bits (8 * (k + 0))) none ∙ bits_of_none (8 * (k + 0)))
+slices_are k (suc n) x none =
+    let size : 8 + 8 * (k + n) ≡ 8 * (k + suc n) = omega arith in
+    let long : 8 * (k + length (digits n (x / 256)) + 1) ≡ 8 * (k + suc n) = omega (arith, length_digits n (x / 256)) in
+    let split = bits_more (8 * (k + n)) 8 (x % 256) ∙ ap (λ (m : ℕ). crc_bits m (x % 256)) size in
+    ap (λ (m : ℕ). bit_xor (crc_bits m (x % 256)) (slices k (digits n (x / 256)))) long
+    ∙ ap (bit_xor (crc_bits (8 * (k + suc n)) (x % 256))) (slices_are k n (x / 256) none)
+    ∙ ap (λ (y : ℕ). bit_xor y (crc_bits (8 * (k + n)) (x / 256))) (sym split)
+    ∙ sym (bits_linear (8 * (k + n)) (crc_bits 8 (x % 256)) (x / 256))
+    ∙ ap (crc_bits (8 * (k + n))) (sym (byte_of x))
+    ∙ bits_more (8 * (k + n)) 8 x ∙ ap (λ (m : ℕ). crc_bits m x) size
+
+grouped : (a b c d e f g h : ℕ) → bit_xor a (bit_xor b (bit_xor c (bit_xor d (bit_xor e (bit_xor f (bit_xor g (bit_xor h 0)))))))
     ≡ bit_xor (bit_xor (bit_xor (bit_xor a b) c) d) (bit_xor (bit_xor (bit_xor e f) g) h)
-grouped a b c d e f g h = sym (simp xor_assoc)
+grouped a b c d e f g h =
+    ap (λ (x : ℕ). bit_xor a (bit_xor b (bit_xor c (bit_xor d (bit_xor e (bit_xor f (bit_xor g x))))))) (xor_zero_r h) ∙ sym (simp xor_assoc)
 
-last_four : (e f g h : ℕ) → e < 256 → f < 256 → g < 256 → h < 256 →
-    crc_from 0 (e ∷ f ∷ g ∷ h ∷ []) ≡ bit_xor (crc_bits 32 e) (bit_xor (crc_bits 24 f) (bit_xor (crc_bits 16 g) (crc_bits 8 h)))
-last_four e f g h p q r s =
-    peel 0 e (f ∷ g ∷ h ∷ []) p
-    ∙ ap (bit_xor (crc_bits 32 e)) (peel 0 f (g ∷ h ∷ []) q
-    ∙ ap (bit_xor (crc_bits 24 f)) (peel 0 g (h ∷ []) r
-    ∙ ap (bit_xor (crc_bits 16 g)) (peel 0 h [] s ∙ xor_zero_r (crc_bits 8 h))))
+record IsOver (x : ℕ) : Type 0 where
+  at2 : x / 65536 ≡ over 2 x
+  at3 : x / 16777216 ≡ over 3 x
+  at4 : x / 4294967296 ≡ over 4 x
+  at5 : x / 1099511627776 ≡ over 5 x
+  at6 : x / 281474976710656 ≡ over 6 x
+  at7 : x / 72057594037927936 ≡ over 7 x
 
-first_four : (x a b c d : ℕ) (bs : List ℕ) → length bs ≡ 4 → x < 2 ^ 32 → a < 256 → b < 256 → c < 256 → d < 256 →
-    crc_from x (a ∷ b ∷ c ∷ d ∷ bs) ≡ bit_xor (crc_bits 64 (bit_xor (x % 256) a)) (bit_xor (crc_bits 56 (bit_xor (x / 256 % 256) b))
-    (bit_xor (crc_bits 48 (bit_xor (x / 65536 % 256) c)) (bit_xor (crc_bits 40 (bit_xor (x / 16777216 % 256) d)) (crc_from 0 bs))))
-first_four x a b c d bs n lt p q r s =
-    let second : x / 256 / 256 ≡ x / 65536 = omega arith in
-    let third : x / 65536 / 256 ≡ x / 16777216 = omega arith in
-    let fourth : x / 16777216 / 256 ≡ 0 = omega arith in
-    let s4 : 8 * length (a ∷ b ∷ c ∷ d ∷ bs) ≡ 64 = omega (arith, n) in
-    let s3 : 8 * length (b ∷ c ∷ d ∷ bs) ≡ 56 = omega (arith, n) in
-    let s2 : 8 * length (c ∷ d ∷ bs) ≡ 48 = omega (arith, n) in
-    let s1 : 8 * length (d ∷ bs) ≡ 40 = omega (arith, n) in
-    peel_at 64 x a (b ∷ c ∷ d ∷ bs) p s4
-    ∙ ap (bit_xor (crc_bits 64 (bit_xor (x % 256) a))) (peel_at 56 (x / 256) b (c ∷ d ∷ bs) q s3
-    ∙ ap (bit_xor (crc_bits 56 (bit_xor (x / 256 % 256) b))) (ap (λ (y : ℕ). crc_from y (c ∷ d ∷ bs)) second ∙ peel_at 48 (x / 65536) c (d ∷ bs) r s2
-    ∙ ap (bit_xor (crc_bits 48 (bit_xor (x / 65536 % 256) c))) (ap (λ (y : ℕ). crc_from y (d ∷ bs)) third ∙ peel_at 40 (x / 16777216) d bs s s1
-    ∙ ap (bit_xor (crc_bits 40 (bit_xor (x / 16777216 % 256) d))) (ap (λ (y : ℕ). crc_from y bs) fourth))))
+is_over : (x : ℕ) → IsOver x
+is_over x =
+    let by2 : x / 65536 ≡ x / 256 / 256 = omega arith in
+    let by3 : x / 16777216 ≡ x / 65536 / 256 = omega arith in
+    let by4 : x / 4294967296 ≡ x / 16777216 / 256 = omega arith in
+    let by5 : x / 1099511627776 ≡ x / 4294967296 / 256 = omega arith in
+    let by6 : x / 281474976710656 ≡ x / 1099511627776 / 256 = omega arith in
+    let by7 : x / 72057594037927936 ≡ x / 281474976710656 / 256 = omega arith in
+    let step = λ (y : ℕ). y / 256 in
+    let is3 = by3 ∙ ap step by2 in
+    let is4 = by4 ∙ ap step is3 in
+    let is5 = by5 ∙ ap step is4 in
+    let is6 = by6 ∙ ap step is5 in
+    record { at2 = by2; at3 = is3; at4 = is4; at5 = is5; at6 = is6; at7 = by7 ∙ ap step is6 }
 
-pub record FirstFit (bs : List ℕ) : Type 0 where
-  pub at0 : get_or bs 0 0 < 256
-  pub at1 : get_or bs 1 0 < 256
-  pub at2 : get_or bs 2 0 < 256
-  pub at3 : get_or bs 3 0 < 256
-  pub at4 : get_or bs 4 0 < 256
-  pub at5 : get_or bs 5 0 < 256
-  pub at6 : get_or bs 6 0 < 256
-  pub at7 : get_or bs 7 0 < 256
+same_digits : (x : ℕ) → to_le_bytes w64 x ≡ digits 8 x
+same_digits x =
+    let h = is_over x in
+    (λ i. x % 256 ∷ x / 256 % 256 ∷ h.at2 i % 256 ∷ h.at3 i % 256 ∷ h.at4 i % 256 ∷ h.at5 i % 256 ∷ h.at6 i % 256 ∷ h.at7 i % 256 ∷ [])
 
--- what is left of eight bytes, each by its table
-pub record AreLeft (c : ℕ) (low bs : List ℕ) (r0 r1 r2 r3 r4 r5 r6 r7 : ℕ) : Type 0 where
-  pub is0 : r0 ≡ crc_bits 64 (bit_xor (get_or low 0 0) (get_or bs 0 0))
-  pub is1 : r1 ≡ crc_bits 56 (bit_xor (get_or low 1 0) (get_or bs 1 0))
-  pub is2 : r2 ≡ crc_bits 48 (bit_xor (get_or low 2 0) (get_or bs 2 0))
-  pub is3 : r3 ≡ crc_bits 40 (bit_xor (get_or low 3 0) (get_or bs 3 0))
-  pub is4 : r4 ≡ crc_bits 32 (get_or bs 4 0)
-  pub is5 : r5 ≡ crc_bits 24 (get_or bs 5 0)
-  pub is6 : r6 ≡ crc_bits 16 (get_or bs 6 0)
-  pub is7 : r7 ≡ crc_bits 8 (get_or bs 7 0)
+none_over : (x : ℕ) → x < 2 ^ 64 → over 8 x ≡ 0
+none_over x lt =
+    let none : x / 72057594037927936 / 256 ≡ 0 = omega (arith, lt) in
+    ap (λ (y : ℕ). y / 256) (sym (is_over x).at7) ∙ none
 
-pub eight_are : (c : ℕ) (low bs : List ℕ) (r0 r1 r2 r3 r4 r5 r6 r7 : ℕ) → c < 2 ^ 32 → low ≡ to_le_bytes w32 c → length bs ≡ 8 → FirstFit bs →
-    AreLeft c low bs r0 r1 r2 r3 r4 r5 r6 r7 → bit_xor (bit_xor (bit_xor (bit_xor r0 r1) r2) r3) (bit_xor (bit_xor (bit_xor r4 r5) r6) r7) ≡ crc_from c bs
-eight_are c low bs r0 r1 r2 r3 r4 r5 r6 r7 lt is n fits h =
-    let at = λ (i : ℕ). get_or bs i 0 in
-    let rest = at 4 ∷ at 5 ∷ at 6 ∷ at 7 ∷ [] in
-    let by_four = first_four c (at 0) (at 1) (at 2) (at 3) rest refl lt fits.at0 fits.at1 fits.at2 fits.at3 in
-    let by_last = last_four (at 4) (at 5) (at 6) (at 7) fits.at4 fits.at5 fits.at6 fits.at7 in
-    let low0 : get_or low 0 0 ≡ c % 256 = ap (λ (l : List ℕ). get_or l 0 0) is in
-    let low1 : get_or low 1 0 ≡ c / 256 % 256 = ap (λ (l : List ℕ). get_or l 1 0) is in
-    let low2 : get_or low 2 0 ≡ c / 65536 % 256 = ap (λ (l : List ℕ). get_or l 2 0) is in
-    let low3 : get_or low 3 0 ≡ c / 16777216 % 256 = ap (λ (l : List ℕ). get_or l 3 0) is in
-    let e0 : r0 ≡ crc_bits 64 (bit_xor (c % 256) (at 0)) = h.is0 ∙ ap (λ (x : ℕ). crc_bits 64 (bit_xor x (at 0))) low0 in
-    let e1 : r1 ≡ crc_bits 56 (bit_xor (c / 256 % 256) (at 1)) = h.is1 ∙ ap (λ (x : ℕ). crc_bits 56 (bit_xor x (at 1))) low1 in
-    let e2 : r2 ≡ crc_bits 48 (bit_xor (c / 65536 % 256) (at 2)) = h.is2 ∙ ap (λ (x : ℕ). crc_bits 48 (bit_xor x (at 2))) low2 in
-    let e3 : r3 ≡ crc_bits 40 (bit_xor (c / 16777216 % 256) (at 3)) = h.is3 ∙ ap (λ (x : ℕ). crc_bits 40 (bit_xor x (at 3))) low3 in
+-- what is left of a word's bytes, each by its table
+pub record AreLeft (k : ℕ) (w : List ℕ) (r0 r1 r2 r3 r4 r5 r6 r7 : ℕ) : Type 0 where
+  pub is0 : r0 ≡ crc_bits (8 * (k + 7 + 1)) (get_or w 0 0)
+  pub is1 : r1 ≡ crc_bits (8 * (k + 6 + 1)) (get_or w 1 0)
+  pub is2 : r2 ≡ crc_bits (8 * (k + 5 + 1)) (get_or w 2 0)
+  pub is3 : r3 ≡ crc_bits (8 * (k + 4 + 1)) (get_or w 3 0)
+  pub is4 : r4 ≡ crc_bits (8 * (k + 3 + 1)) (get_or w 4 0)
+  pub is5 : r5 ≡ crc_bits (8 * (k + 2 + 1)) (get_or w 5 0)
+  pub is6 : r6 ≡ crc_bits (8 * (k + 1 + 1)) (get_or w 6 0)
+  pub is7 : r7 ≡ crc_bits (8 * (k + 1)) (get_or w 7 0)
+
+pub word_is : (k x : ℕ) (w : List ℕ) (r0 r1 r2 r3 r4 r5 r6 r7 : ℕ) → x < 2 ^ 64 → w ≡ to_le_bytes w64 x → AreLeft k w r0 r1 r2 r3 r4 r5 r6 r7 →
+    bit_xor (bit_xor (bit_xor (bit_xor r0 r1) r2) r3) (bit_xor (bit_xor (bit_xor r4 r5) r6) r7) ≡ crc_bits (8 * (k + 8)) x
+word_is k x w r0 r1 r2 r3 r4 r5 r6 r7 lt is h =
+    let same : 8 * (k + 1) ≡ 8 * (k + 0 + 1) = omega arith in
+    let e7 = h.is7 ∙ ap (λ (m : ℕ). crc_bits m (get_or w 7 0)) same in
+    let left = λ (j : ℕ) (l : List ℕ). crc_bits (8 * (k + j + 1)) (get_or l (7 - j) 0) in
     sym (grouped r0 r1 r2 r3 r4 r5 r6 r7)
-    ∙ (λ i. bit_xor (e0 i) (bit_xor (e1 i) (bit_xor (e2 i) (bit_xor (e3 i) (bit_xor (h.is4 i) (bit_xor (h.is5 i) (bit_xor (h.is6 i) (h.is7 i))))))))
-    ∙ ap (λ (y : ℕ). bit_xor (crc_bits 64 (bit_xor (c % 256) (at 0))) (bit_xor (crc_bits 56 (bit_xor (c / 256 % 256) (at 1)))
-    (bit_xor (crc_bits 48 (bit_xor (c / 65536 % 256) (at 2))) (bit_xor (crc_bits 40 (bit_xor (c / 16777216 % 256) (at 3))) y)))) (sym by_last)
-    ∙ sym by_four ∙ ap (crc_from c) (sym (eight_items bs n))
+    ∙ (λ i. bit_xor (h.is0 i) (bit_xor (h.is1 i) (bit_xor (h.is2 i) (bit_xor (h.is3 i) (bit_xor (h.is4 i) (bit_xor (h.is5 i) (bit_xor (h.is6 i) (bit_xor (e7 i) 0))))))))
+    ∙ ap (λ (l : List ℕ). bit_xor (left 7 l) (bit_xor (left 6 l) (bit_xor (left 5 l) (bit_xor (left 4 l) (bit_xor (left 3 l) (bit_xor (left 2 l) (bit_xor (left 1 l) (bit_xor (left 0 l) 0)))))))) (is ∙ same_digits x)
+    ∙ slices_are k 8 x (none_over x lt)
+
+-- ---- bytes as a word
+
+abbrev pub number : List ℕ → ℕ
+number [] = 0
+number (b ∷ bs) = b + 256 * number bs
+
+abbrev pub are_bytes : List ℕ → Type 0
+are_bytes [] = true ≡ true
+are_bytes (b ∷ bs) = (b < 256) × are_bytes bs
+
+number_first : (b v : ℕ) → b < 256 → b + 256 * v ≡ bit_xor b (v * 256)
+number_first b v lt =
+    let x = b + 256 * v in
+    let low : x % 256 ≡ b = omega (arith, lt) in
+    let high : x / 256 * 256 ≡ v * 256 = omega (arith, lt) in
+    sym (low_and_high x) ∙ (λ i. bit_xor (low i) (high i))
+
+pub from_number : (c : ℕ) (bs : List ℕ) → are_bytes bs → crc_from c bs ≡ crc_bits (8 * length bs) (bit_xor c (number bs))
+from_number c [] fit = sym (xor_zero_r c)
+from_number c (b ∷ bs) fit =
+    let size : 8 + 8 * length bs ≡ 8 * length (b ∷ bs) = omega arith in
+    let whole : crc_bits 8 (bit_xor c (number (b ∷ bs))) ≡ bit_xor (crc_bits 8 (bit_xor c b)) (number bs) =
+    ap (λ (y : ℕ). crc_bits 8 (bit_xor c y)) (number_first b (number bs) fit.0)
+    ∙ ap (crc_bits 8) (sym (xor_assoc c b (number bs * 256)))
+    ∙ bits_linear 8 (bit_xor c b) (number bs * 256)
+    ∙ ap (bit_xor (crc_bits 8 (bit_xor c b))) (byte_of_high (number bs)) in
+    from_number (crc_bits 8 (bit_xor c b)) bs fit.1
+    ∙ ap (crc_bits (8 * length bs)) (sym whole)
+    ∙ bits_more (8 * length bs) 8 (bit_xor c (number (b ∷ bs)))
+    ∙ ap (λ (m : ℕ). crc_bits m (bit_xor c (number (b ∷ bs)))) size
+
+from_joined : (c : ℕ) (bs later : List ℕ) → crc_from c (bs ++ later) ≡ crc_from (crc_from c bs) later
+from_joined c [] later = refl
+from_joined c (b ∷ bs) later = from_joined (crc_bits 8 (bit_xor c b)) bs later
+
+number_word : (a b c d e f g h : ℕ) → from_le_bytes w64 (a ∷ b ∷ c ∷ d ∷ e ∷ f ∷ g ∷ h ∷ []) ≡ number (a ∷ b ∷ c ∷ d ∷ e ∷ f ∷ g ∷ h ∷ [])
+number_word a b c d e f g h = omega arith
+
+listed : ℕ → (ℕ → ℕ) → List ℕ
+listed zero at = []
+listed (suc n) at = at 0 ∷ listed n (λ i. at (suc i))
+
+listed_is : (n : ℕ) (bs : List ℕ) → length bs ≡ n → bs ≡ listed n (λ i. get_or bs i 0)
+unfolding listed
+listed_is zero [] len = refl
+listed_is zero (b ∷ bs) len = absurd (omega (arith, len))
+listed_is (suc n) [] len = absurd (omega (arith, len))
+listed_is (suc n) (b ∷ bs) len = ap (λ (l : List ℕ). b ∷ l) (listed_is n bs (omega (arith, len)))
+
+abbrev pub first_word : List ℕ → List ℕ
+first_word bs = get_or bs 0 0 ∷ get_or bs 1 0 ∷ get_or bs 2 0 ∷ get_or bs 3 0 ∷ get_or bs 4 0 ∷ get_or bs 5 0 ∷ get_or bs 6 0 ∷ get_or bs 7 0 ∷ []
+
+abbrev pub second_word : List ℕ → List ℕ
+second_word bs = get_or bs 8 0 ∷ get_or bs 9 0 ∷ get_or bs 10 0 ∷ get_or bs 11 0 ∷ get_or bs 12 0 ∷ get_or bs 13 0 ∷ get_or bs 14 0 ∷ get_or bs 15 0 ∷ []
+
+two_words : (bs : List ℕ) → length bs ≡ 16 → bs ≡ first_word bs ++ second_word bs
+unfolding listed
+two_words bs len = listed_is 16 bs len
+
+-- the word's 64 bits, taken at once, do what the bytes do one by one
+abbrev pub IsWord : List ℕ → ℕ → Type 0
+IsWord bytes word = (start : ℕ) → crc_from start bytes ≡ crc_bits 64 (bit_xor start word)
+
+-- the words of sixteen bytes, and what is left of each
+pub record AreWords (c : ℕ) (bs : List ℕ) (w u v r s : ℕ) : Type 0 where
+  pub start : w ≡ c
+  pub first : IsWord (first_word bs) u
+  pub second : IsWord (second_word bs) v
+  pub left : r ≡ crc_bits (8 * (8 + 8)) (bit_xor w u)
+  pub later : s ≡ crc_bits (8 * (0 + 8)) v
+
+pub sixteen_are : (c : ℕ) (bs : List ℕ) (w u v r s : ℕ) → length bs ≡ 16 → AreWords c bs w u v r s → bit_xor r s ≡ crc_from c bs
+sixteen_are c bs w u v r s len h =
+    let a = first_word bs in
+    let b = second_word bs in
+    let by_first : crc_bits 64 (crc_from c a) ≡ crc_bits (64 + 64) (bit_xor c u) = ap (crc_bits 64) (h.first c) ∙ bits_more 64 64 (bit_xor c u) in
+    let whole : crc_from c bs ≡ bit_xor (crc_bits (64 + 64) (bit_xor c u)) (crc_bits 64 v) =
+    ap (crc_from c) (two_words bs len) ∙ from_joined c a b ∙ h.second (crc_from c a) ∙ bits_linear 64 (crc_from c a) v
+    ∙ ap (λ (y : ℕ). bit_xor y (crc_bits 64 v)) by_first in
+    (λ i. bit_xor (h.left i) (h.later i)) ∙ ap (λ (y : ℕ). bit_xor (crc_bits (8 * (8 + 8)) (bit_xor y u)) (crc_bits (8 * (0 + 8)) v)) h.start ∙ sym whole
+
+pub word_is_bytes : (a b c d e f g h : ℕ) → are_bytes (a ∷ b ∷ c ∷ d ∷ e ∷ f ∷ g ∷ h ∷ []) → (w : ℕ) → w ≡ from_le_bytes w64 (a ∷ b ∷ c ∷ d ∷ e ∷ f ∷ g ∷ h ∷ []) →
+    IsWord (a ∷ b ∷ c ∷ d ∷ e ∷ f ∷ g ∷ h ∷ []) w
+word_is_bytes a b c d e f g h fit w is start =
+    from_number start (a ∷ b ∷ c ∷ d ∷ e ∷ f ∷ g ∷ h ∷ []) fit
+    ∙ ap (λ (y : ℕ). crc_bits 64 (bit_xor start y)) (sym (is ∙ number_word a b c d e f g h))
 
 -- ---- tables
 

@@ -1,17 +1,22 @@
 -- What stands behind the blocks of a table.
 use Rattle.std.proofs.Common.{◌≡◌, ℕ, ◌+◌, ◌-◌, ◌^◌, ◌<◌, List, [], ◌∷◌, ◌++◌, length, Option, refl, sym, ap, subst, ◌∙◌, append_assoc, arith}
 use Rattle.std.specs.Prelude.{slice_get, option_map}
-use Rattle.std.proofs.lemmas.List.{append-nil, length-append}
+use Rattle.std.specs.List.{AllByRecursion}
+use Rattle.std.proofs.lemmas.List.{length-append}
 use Rattle.slate_types.specs.declared.types.RowEntry.{RowEntry}
 use Rattle.slate_block.specs.RowSpelling.{be16, be64}
 use Rattle.slate_table.specs.declared.info.SsTableInfo.{SsTableInfo}
 use Rattle.slate_types.specs.declared.config.BlockFormat.{BlockFormat}
+use Rattle.slate_filter.specs.Policy.{Policy, filters_of}
+use Rattle.slate_block.specs.declared.block.BlockStats.{BlockStats}
 use Rattle.slate_table.specs.declared.table_parts.TableParts.{TableParts}
-use Rattle.slate_table.specs.Parts.{Encode, section, summed}
-use Rattle.slate_table.specs.Table.{some_first, some_last, info_of, sections_then_info}
+use Rattle.slate_table.specs.declared.table_end.SectionOffsets.{SectionOffsets}
+use Rattle.slate_table.specs.Parts.{Encode, section, summed, index_bytes}
+use Rattle.slate_table.specs.Decoded.{FitsShort}
+use Rattle.slate_table.specs.Table.{filter_section, some_first, some_last, info_of, sections_then_info}
 use Rattle.slate_table.specs.SectionReading.{footer_bytes}
 use Rattle.slate_table.specs.InfoReading.{seen_info}
-use Rattle.slate_table.specs.TableEnd.{placed_info, part_of_info, HasInfo, EndsAt, parts_index, parts_stats, IsSealed, IsFinished}
+use Rattle.slate_table.specs.TableEnd.{counted_bytes, placed_info, part_of_info, HasInfo, EndsAt, parts_index, parts_stats, IsFiltered, IsSealed, IsReady, IsFinished}
 use Rattle.slate_table.specs.TableParts.{version_of, IsEnded}
 
 -- ---- the first and the last key
@@ -31,48 +36,52 @@ last_key_is (r ∷ rows) o is =
     ap (option_map (λ (r : RowEntry). r.key)) (is ∙ ap (slice_get (r ∷ rows)) place) ∙ key_at_end r rows
 
 -- the place of each section is that of the bytes before it
-same_info : (version : ℕ) (rows : List RowEntry) (a i s : List ℕ) →
-    part_of_info version (placed_info rows (length a) (length (a ++ i)) (length ((a ++ i) ++ s))) ≡ info_of version rows (length a) [] i s
-same_info version rows a i s =
-    let second = length-append a i in
-    let third = length-append (a ++ i) s in
-    let none : length a ≡ length a + 0 = omega arith in
-    let index_len : length (a ++ i) - length a ≡ length i = omega (arith, second) in
-    let stats_at : length (a ++ i) ≡ length a + 0 + length i = omega (arith, second) in
-    let stats_len : length ((a ++ i) ++ s) - length (a ++ i) ≡ length s = omega (arith, second, third) in
+abbrev offsets_of : List ℕ → List ℕ → List ℕ → SectionOffsets
+offsets_of a f i = record { filters = length a; index = length (a ++ f); stats = length ((a ++ f) ++ i) }
+
+same_info : (version : ℕ) (rows : List RowEntry) (a f i s : List ℕ) →
+    part_of_info version (placed_info rows (offsets_of a f i) (length (((a ++ f) ++ i) ++ s))) ≡ info_of version rows (length a) f i s
+same_info version rows a f i s =
+    let first = length-append a f in
+    let second = length-append (a ++ f) i in
+    let third = length-append ((a ++ f) ++ i) s in
+    let filters_len : length (a ++ f) - length a ≡ length f = omega (arith, first) in
+    let index_len : length ((a ++ f) ++ i) - length (a ++ f) ≡ length i = omega (arith, second) in
+    let stats_at : length ((a ++ f) ++ i) ≡ length a + length f + length i = omega (arith, first, second) in
+    let stats_len : length (((a ++ f) ++ i) ++ s) - length ((a ++ f) ++ i) ≡ length s = omega (arith, third) in
     λ j. part_of_info version (record {
       first = some_first rows;
       last = some_last rows;
-      index = record { at = none j; len = index_len j };
-      filters = record { at = length a; len = 0 };
+      index = record { at = first j; len = index_len j };
+      filters = record { at = length a; len = filters_len j };
       stats = record { at = stats_at j; len = stats_len j };
     })
 
-framed : ℕ → List ℕ → List ℕ → List ℕ → List ℕ → ℕ → List ℕ
-framed version a i s sealed n = a ++ [] ++ i ++ s ++ sealed ++ be64 n ++ be16 version
+framed : ℕ → List ℕ → List ℕ → List ℕ → List ℕ → List ℕ → ℕ → List ℕ
+framed version a f i s sealed n = a ++ f ++ i ++ s ++ sealed ++ be64 n ++ be16 version
 
-frame_end : (version : ℕ) (a i s sealed : List ℕ) (n : ℕ) → ((a ++ i) ++ s) ++ (sealed ++ footer_bytes n version) ≡ framed version a i s sealed n
+frame_end : (version : ℕ) (a f i s sealed : List ℕ) (n : ℕ) → (((a ++ f) ++ i) ++ s) ++ (sealed ++ footer_bytes n version) ≡ framed version a f i s sealed n
 unfolding framed
-frame_end version a i s sealed n =
-    sym (append_assoc ((a ++ i) ++ s) sealed (be64 n ++ be16 version))
-    ∙ sym (append_assoc (((a ++ i) ++ s) ++ sealed) (be64 n) (be16 version))
-    ∙ ap (λ (l : List ℕ). ((((l ++ i) ++ s) ++ sealed) ++ be64 n) ++ be16 version) (sym (append-nil a))
+frame_end version a f i s sealed n =
+    sym (append_assoc (((a ++ f) ++ i) ++ s) sealed (be64 n ++ be16 version))
+    ∙ sym (append_assoc ((((a ++ f) ++ i) ++ s) ++ sealed) (be64 n) (be16 version))
 
-frame_is : (version : ℕ) (rows : List RowEntry) (a i s : List ℕ) → framed version a i s (summed (info_of version rows (length a) [] i s)) (length a + 0 + length i + length s) ≡ sections_then_info version rows a [] i s
+frame_is : (version : ℕ) (rows : List RowEntry) (a f i s : List ℕ) → framed version a f i s (summed (info_of version rows (length a) f i s)) (length a + length f + length i + length s) ≡ sections_then_info version rows a f i s
 unfolding framed
-frame_is version rows a i s = refl
+frame_is version rows a f i s = refl
 
-pub table_end : (version : ℕ) (rows : List RowEntry) (a i s : List ℕ) →
-    ((a ++ i) ++ s) ++ (summed (part_of_info version (placed_info rows (length a) (length (a ++ i)) (length ((a ++ i) ++ s)))) ++ footer_bytes (length ((a ++ i) ++ s)) version)
-    ≡ sections_then_info version rows a [] i s
-table_end version rows a i s =
-    let second = length-append a i in
-    let third = length-append (a ++ i) s in
-    let whole : length ((a ++ i) ++ s) ≡ length a + 0 + length i + length s = omega (arith, second, third) in
-    let info = same_info version rows a i s in
-    frame_end version a i s (summed (part_of_info version (placed_info rows (length a) (length (a ++ i)) (length ((a ++ i) ++ s))))) (length ((a ++ i) ++ s))
-    ∙ (λ j. framed version a i s (summed (info j)) (whole j))
-    ∙ frame_is version rows a i s
+pub table_end : (version : ℕ) (rows : List RowEntry) (a f i s : List ℕ) →
+    (((a ++ f) ++ i) ++ s) ++ (summed (part_of_info version (placed_info rows (offsets_of a f i) (length (((a ++ f) ++ i) ++ s)))) ++ footer_bytes (length (((a ++ f) ++ i) ++ s)) version)
+    ≡ sections_then_info version rows a f i s
+table_end version rows a f i s =
+    let first = length-append a f in
+    let second = length-append (a ++ f) i in
+    let third = length-append ((a ++ f) ++ i) s in
+    let whole : length (((a ++ f) ++ i) ++ s) ≡ length a + length f + length i + length s = omega (arith, first, second, third) in
+    let info = same_info version rows a f i s in
+    frame_end version a f i s (summed (part_of_info version (placed_info rows (offsets_of a f i) (length (((a ++ f) ++ i) ++ s))))) (length (((a ++ f) ++ i) ++ s))
+    ∙ (λ j. framed version a f i s (summed (info j)) (whole j))
+    ∙ frame_is version rows a f i s
 
 pub info_moved : (a b : List ℕ) (v w : ℕ) (i j : SsTableInfo) → a ≡ b → v ≡ w → i ≡ j → HasInfo b v (seen_info j) → HasInfo a w (seen_info i)
 info_moved a b v w i j same version info h =
@@ -80,24 +89,56 @@ info_moved a b v w i j same version info h =
     let numbered = subst (λ (n : ℕ). HasInfo a n (seen_info j)) version placed in
     subst (λ (x : SsTableInfo). HasInfo a w (seen_info x)) (sym info) numbered
 
-pub ends_moved : {v w : ℕ} {xs ys : List RowEntry} {index stats : ℕ} {a b new made : List ℕ} {i j : SsTableInfo} → v ≡ w → xs ≡ ys → a ≡ b → made ≡ new → i ≡ j →
-    EndsAt v xs index stats a new (seen_info j) → EndsAt w ys index stats b made (seen_info i)
-ends_moved {v} {w} {xs} {ys} {index} {stats} {a} {b} {new} {made} {i} {j} version rows old same info e = record {
-  is = same ∙ e.is ∙ (λ k. old k ++ (summed (part_of_info (version k) (placed_info (rows k) index stats (length (old k)))) ++ footer_bytes (length (old k)) (version k)));
+pub ends_moved : {v w : ℕ} {xs ys : List RowEntry} {at : SectionOffsets} {a b new made : List ℕ} {i j : SsTableInfo} → v ≡ w → xs ≡ ys → a ≡ b → made ≡ new → i ≡ j →
+    EndsAt v xs at a new (seen_info j) → EndsAt w ys at b made (seen_info i)
+ends_moved {v} {w} {xs} {ys} {at} {a} {b} {new} {made} {i} {j} version rows old same info e = record {
+  is = same ∙ e.is ∙ (λ k. old k ++ (summed (part_of_info (version k) (placed_info (rows k) at (length (old k)))) ++ footer_bytes (length (old k)) (version k)));
   info = info_moved made new v w i j same version info e.info;
 }
 
--- the three steps of a table that is finished
-pub closed : (encode : Encode) (p q r : TableParts) (first at : ℕ) (bytes : List ℕ) (i : SsTableInfo) → IsEnded encode p q → IsSealed encode q at r → first ≡ length q.bytes.items →
-    EndsAt (version_of r.format) r.rows.items first at r.bytes.items bytes (seen_info i) → length bytes < 2 ^ 64 → IsFinished encode p bytes i
-closed encode p q r first at bytes i e s begin d short = record {
-  ended = q;
-  end = e;
-  is = d.is
-      ∙ (λ k. s.bytes k ++ (summed (part_of_info (version_of (s.format k)) (placed_info (s.rows k) (begin k) (s.place k) (length (s.bytes k)))) ++ footer_bytes (length (s.bytes k)) (version_of (s.format k))))
-      ∙ table_end (version_of q.format) q.rows.items q.bytes.items (section encode (parts_index q)) (section encode (parts_stats q));
-  short = short;
-  keys = omega (arith, e.keys, s.keys);
-  values = omega (arith, e.values, s.values);
-  info = subst (λ (f : BlockFormat). HasInfo bytes (version_of f) (seen_info i)) (s.format ∙ e.format) d.info;
-}
+pub filtered_ready : {encode : Encode} {filters : List (List ℕ × List ℕ)} {p q : TableParts} → IsFiltered encode filters p q → IsReady p → IsReady q
+filtered_ready {encode} {filters} {p} {q} f r =
+    let offsets = ap (λ (l : List ℕ). length l) f.offsets in
+    let seps = ap (λ (l : List (List ℕ)). length l) f.separators in
+    let stats = ap (λ (l : List BlockStats). length l) f.stats in
+    let few = r.few in
+    let paired = r.paired in
+    let counted = r.counted in
+    record {
+      few = omega (arith, offsets, few);
+      paired = omega (arith, offsets, seps, paired);
+      counted = omega (arith, offsets, stats, counted);
+      short = subst (λ (l : List (List ℕ)). AllByRecursion (λ k. length k < 2 ^ 16) l) (sym f.separators) r.short;
+      first = subst (λ (l : List RowEntry). FitsShort (some_first l)) (sym f.rows) r.first;
+      last = subst (λ (l : List RowEntry). FitsShort (some_last l)) (sym f.rows) r.last;
+    }
+
+-- the steps of a table that is finished
+pub closed : (encode : Encode) (policies : List Policy) (min : ℕ) (p q m r : TableParts) (at : SectionOffsets) (bytes : List ℕ) (i : SsTableInfo) →
+    IsEnded encode p q → IsFiltered encode (filters_of policies min q.rows.items) q m → IsSealed encode m at.stats r → at.filters ≡ length q.bytes.items → at.index ≡ length m.bytes.items →
+    EndsAt (version_of r.format) r.rows.items at r.bytes.items bytes (seen_info i) → length bytes < 2 ^ 64 → IsFinished encode (filters_of policies min p.rows.items) p bytes i
+closed encode policies min p q m r at bytes i e f s first second d short =
+    let fs = filter_section encode (filters_of policies min q.rows.items) in
+    let format = s.format ∙ f.format in
+    let rows = s.rows ∙ f.rows in
+    let index : parts_index m ≡ parts_index q = λ k. index_bytes (f.offsets k) (f.separators k) in
+    let stats : parts_stats m ≡ parts_stats q = λ k. counted_bytes (f.rows k) (f.keys k) (f.values k) (f.stats k) in
+    let middle : m.bytes.items ++ section encode (parts_index m) ≡ (q.bytes.items ++ fs) ++ section encode (parts_index q) = λ k. f.bytes k ++ section encode (index k) in
+    let whole : r.bytes.items ≡ ((q.bytes.items ++ fs) ++ section encode (parts_index q)) ++ section encode (parts_stats q) = s.bytes ∙ (λ k. middle k ++ section encode (stats k)) in
+    let index_at : at.index ≡ length (q.bytes.items ++ fs) = second ∙ ap (λ (l : List ℕ). length l) f.bytes in
+    let stats_at : at.stats ≡ length ((q.bytes.items ++ fs) ++ section encode (parts_index q)) = s.place ∙ ap (λ (l : List ℕ). length l) middle in
+    let places : at ≡ offsets_of q.bytes.items fs (section encode (parts_index q)) = λ k. record { filters = first k; index = index_at k; stats = stats_at k } in
+    let made : IsFinished encode (filters_of policies min q.rows.items) p bytes i = record {
+      ended = q;
+      end = e;
+      is = d.is
+          ∙ (λ k. whole k ++ (summed (part_of_info (version_of (format k)) (placed_info (rows k) (places k) (length (whole k)))) ++ footer_bytes (length (whole k)) (version_of (format k))))
+          ∙ table_end (version_of q.format) q.rows.items q.bytes.items fs (section encode (parts_index q)) (section encode (parts_stats q));
+      each = f.each;
+      few = f.few;
+      short = short;
+      keys = omega (arith, e.keys, f.keys, s.keys);
+      values = omega (arith, e.values, f.values, s.values);
+      info = subst (λ (b : BlockFormat). HasInfo bytes (version_of b) (seen_info i)) (format ∙ e.format) d.info;
+    } in
+    subst (λ (l : List RowEntry). IsFinished encode (filters_of policies min l) p bytes i) e.rows made

@@ -33,7 +33,7 @@ no_section encode part h =
     let m = length-append (encode part) (be32 (crc32 (encode part))) in
     absurd (omega (arith, n, m))
 
-same_filter_part : (fs gs : List (List ℕ × List ℕ)) → length fs < 2 ^ 16 → length gs < 2 ^ 16 → AllByRecursion FitsFilter fs → AllByRecursion FitsFilter gs → filters_bytes fs ≡ filters_bytes gs → fs ≡ gs
+pub same_filter_part : (fs gs : List (List ℕ × List ℕ)) → length fs < 2 ^ 16 → length gs < 2 ^ 16 → AllByRecursion FitsFilter fs → AllByRecursion FitsFilter gs → filters_bytes fs ≡ filters_bytes gs → fs ≡ gs
 same_filter_part fs gs p q f g h =
     let count = same_be16 (length fs) (length gs) (flat_map filter_bytes fs) (flat_map filter_bytes gs) p q h in
     same_filters fs gs count.0 f g count.1

@@ -14,7 +14,9 @@ pub mod TableLaws
 pub mod StoredLaws
 pub mod CutLaws
 mod CrcLaws
+mod FoldLaws
 mod Grown
+mod FilterWrites
 mod Results
 mod StatsReads
 mod InfoReads
@@ -34,3 +36,7 @@ pub mod HeldParts
 pub mod Covering
 pub mod TableFinds
 pub mod Damaged
+pub mod PolicyReads
+pub mod FilteredLaws
+mod FiltersReads
+mod FiltersCalls

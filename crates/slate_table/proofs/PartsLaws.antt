@@ -228,8 +228,8 @@ same_stands p q e s =
       values = e.values ∙ s.values ∙ ap (λ (l : List RowEntry). sum_by (λ x. length (operand x)) l) (sym e.rows);
     })
 
-pub same_seen : (p q : TableParts) → IsSame p q → seen q ≡ seen p
-same_seen p q e = λ i. record { version = version_of (e.format i); size = e.size i; rows = e.rows i; bytes = e.bytes i; offsets = e.offsets i }
+pub same_seen : (min : ℕ) (p q : TableParts) → IsSame p q → seen min q ≡ seen min p
+same_seen min p q e = λ i. record { version = version_of (e.format i); size = e.size i; min = min; rows = e.rows i; bytes = e.bytes i; offsets = e.offsets i }
 
 pub same_again : (p : TableParts) → IsSame p p
 same_again p = record { size = refl; format = refl; rows = refl; block = refl; bytes = refl; offsets = refl; separators = refl; stats = refl; keys = refl; values = refl }
@@ -381,14 +381,14 @@ fresh_stands p some few rows builder counts seps stats offsets keys values =
       values = values ∙ ap (λ (l : List RowEntry). sum_by (λ x. length (operand x)) l) (sym rows);
     })
 
-pub old_size : (encode : Encode) (p : TableParts) (r : RowEntry) → Stands p → ended_size encode p r ≡ section_size encode (seen p) r
-old_size encode p r s = ap (λ (b : Building). cond (fits_in b.size b.version b.rows r) None (Some (length (section encode (block_bytes b.version b.rows))))) s.builder
+pub old_size : (encode : Encode) (min : ℕ) (p : TableParts) (r : RowEntry) → Stands p → ended_size encode p r ≡ section_size encode (seen min p) r
+old_size encode min p r s = ap (λ (b : Building). cond (fits_in b.size b.version b.rows r) None (Some (length (section encode (block_bytes b.version b.rows))))) s.builder
 
-pub ends_a_block : (encode : Encode) (p : TableParts) (r : RowEntry) → Stands p → fits_parts p r ≡ false → IsSome (section_size encode (seen p) r)
-ends_a_block encode p r s past =
+pub ends_a_block : (encode : Encode) (min : ℕ) (p : TableParts) (r : RowEntry) → Stands p → fits_parts p r ≡ false → IsSome (section_size encode (seen min p) r)
+ends_a_block encode min p r s past =
     let size = length (section encode (block_bytes p.block.builder.version p.block.builder.rows)) in
     let ended : ended_size encode p r ≡ Some size = ap (λ (t : Bool). cond t None (Some size)) past in
-    subst (λ (o : Option ℕ). IsSome o) (sym ended ∙ old_size encode p r s) refl
+    subst (λ (o : Option ℕ). IsSome o) (sym ended ∙ old_size encode min p r s) refl
 
 with_begun_count : (ended : List (List RowEntry)) (filling : List RowEntry) → Begun filling → length (with_last ended filling) ≡ length ended + 1
 with_begun_count ended [] h = absurd h
@@ -405,8 +405,8 @@ full_count p r s fit =
     let before = ap length s.separators ∙ separators_count (all_blocks c) ∙ with_begun_count c.ended c.filling begun in
     omega (arith, now, more, before)
 
-pub full_passes : (p : TableParts) (r : RowEntry) → Stands p → IsFull p r → HasTooManyBlocks (seen p) r
-full_passes p r s h = let count = full_count p r s h.0 in omega (arith, h.1, count)
+pub full_passes : (min : ℕ) (p : TableParts) (r : RowEntry) → Stands p → IsFull p r → HasTooManyBlocks (seen min p) r
+full_passes min p r s h = let count = full_count p r s h.0 in omega (arith, h.1, count)
 
 -- ---- a row for which there is a place makes none too many
 
@@ -433,8 +433,8 @@ few_ended p (x ∷ xs) is s =
     let blocks = s.blocks in
     omega (arith, count, blocks)
 
-pub room_passes_none : (p : TableParts) (r : RowEntry) → Stands p → (fits_parts p r ≡ false → length p.separators.items + 1 < 2 ^ 32) → HasTooManyBlocks (seen p) r → ⊥
-room_passes_none p r s room past = by (fits_parts p r) refl
+pub room_passes_none : (min : ℕ) (p : TableParts) (r : RowEntry) → Stands p → (fits_parts p r ≡ false → length p.separators.items + 1 < 2 ^ 32) → HasTooManyBlocks (seen min p) r → ⊥
+room_passes_none min p r s room past = by (fits_parts p r) refl
   where
     by : (t : Bool) → fits_parts p r ≡ t → ⊥
     by true fit =

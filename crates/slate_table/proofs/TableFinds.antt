@@ -165,7 +165,7 @@ as_read_key version r = by (version == 1)
     by true = refl
     by false = refl
 
-of_key_read : (version : ℕ) (k : List ℕ) (rows : List RowEntry) → of_key k (map (as_read version) rows) ≡ map (as_read version) (of_key k rows)
+pub of_key_read : (version : ℕ) (k : List ℕ) (rows : List RowEntry) → of_key k (map (as_read version) rows) ≡ map (as_read version) (of_key k rows)
 of_key_read version k [] = refl
 of_key_read version k (r ∷ rs) =
     ap (λ x. cond (bytes_eq x k) (as_read version r ∷ of_key k (map (as_read version) rs)) (of_key k (map (as_read version) rs))) (as_read_key version r)
@@ -319,7 +319,7 @@ entries_are end (e ∷ es) (a ∷ ats) (x ∷ ks) n p f g k h =
     let rest = entries_are end es ats ks (omega (arith, n)) (omega (arith, p)) f.1 g.1 k.1 key.1 in
     ((λ i. at.0 i ∷ rest.0 i), (λ i. key.0 i ∷ rest.1 i))
 
-part_is : (encode decode : Encode) → IsLawfulTransform encode decode → (part found : List ℕ) (answer : Option (List ℕ)) → answer ≡ Some (section encode part) → IsPart decode answer found → found ≡ part
+pub part_is : (encode decode : Encode) → IsLawfulTransform encode decode → (part found : List ℕ) (answer : Option (List ℕ)) → answer ≡ Some (section encode part) → IsPart decode answer found → found ≡ part
 part_is encode decode lawful part found answer is p =
     let same : summed p.0 ≡ summed (encode part) = same_Some (summed p.0) (summed (encode part)) (sym p.1 ∙ is) in
     let stored = same_ends p.0 (encode part) (be32 (crc32 p.0)) (be32 (crc32 (encode part))) refl same in
@@ -634,3 +634,30 @@ unfolding rows_in made_info
 info_keys encode bytes v info version bs fs t h =
     let is = table_info encode bytes v info version bs fs t h in
     (ap (λ (x : Info). x.first) is.1, ap (λ (x : Info). x.last) is.1)
+
+-- ---- the filters
+
+pub record FiltersFound (encode : Encode) (bytes : List ℕ) (info : Info) (fs : List (List ℕ × List ℕ)) : Type 0 where
+  pub answer : part_of (Some bytes) info.filters.at info.filters.len ≡ Some (filter_section encode fs)
+  pub len : info.filters.len ≡ length (filter_section encode fs)
+  pub bytes_are : EachIsAByte bytes → EachIsAByte (filter_section encode fs)
+
+pub filters_found : (encode : Encode) (bytes : List ℕ) (v : ℕ) (info : Info) (version : ℕ) (bs : List (List RowEntry)) (fs : List (List ℕ × List ℕ)) → IsTableOf encode bytes version bs fs → HasInfo bytes v info → FiltersFound encode bytes info fs
+unfolding made_info body_of index_part rows_in
+filters_found encode bytes v info version bs fs t h =
+    let is = table_info encode bytes v info version bs fs t h in
+    let b = flat_map (λ s. s) (block_sections encode version bs) in
+    let f = filter_section encode fs in
+    let i = section encode (index_bytes (places 0 (block_sections encode version bs)) (separators bs)) in
+    let s = section encode (stats_bytes bs) in
+    let n = summed (info_of version (flat_map (λ x. x) bs) (length b) f i s) in
+    let end = be64 (length b + length f + length i + length s) in
+    let rest = i ++ (s ++ (n ++ (end ++ be16 version))) in
+    let whole : bytes ≡ b ++ (f ++ rest) =
+    t.is ∙ append_assoc (b ++ f ++ i ++ s ++ n) end (be16 version) ∙ append_assoc (b ++ f ++ i ++ s) n (end ++ be16 version) ∙ append_assoc (b ++ f ++ i) s (n ++ (end ++ be16 version))
+    ∙ append_assoc (b ++ f) i (s ++ (n ++ (end ++ be16 version))) ∙ append_assoc b f rest in
+    record {
+      answer = (λ j. part_of (Some (whole j)) (is.1 j).filters.at (is.1 j).filters.len) ∙ part_at b f rest (length b) (length f) refl refl;
+      len = ap (λ (x : Info). x.filters.len) is.1;
+      bytes_are = λ fits. mid_bytes b f rest (subst EachIsAByte whole fits);
+    }

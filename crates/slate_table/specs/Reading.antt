@@ -9,6 +9,7 @@
 --     IsRefused decode refused answer e      the section is refused, or its part is
 --     IsIndexRead, RefusesIndex      an index of blocks that end at a place is read, or refused
 --     IsStatsRead, RefusesStats      statistics are read, or refused
+--     AreFiltersRead, RefusesFilters      filters are read, or refused, with the length of the part that is none
 --     IsBlockRead, RefusesBlock      a block is read, or refused
 --     block_start end entries block      where a block's section begins, and the blocks' end behind the last
 --     blocks_size end entries first stop      how many bytes a row of neighbouring blocks has
@@ -18,7 +19,7 @@
 --     FailsBlocks decode answers first stop before after e      the transformer failed at the section of a block of the row, and those before it are read
 use Rattle.std.specs.Prelude.{◌≡◌, ◌≤◌, ◌<◌, ◌⊎◌, ◌==◌, ℕ, ◌+◌, ◌-◌, if◌then◌else◌, List, length, slice_get, Option, Some, None, Result, Err}
 use Rattle.slate_types.specs.declared.error.SlateDBError.{SlateDBError}
-use Rattle.slate_types.specs.declared.error.SlateDBError.TheVariants.{CorruptTable, BlockTransformError, OutOfMemory, StoreFault}
+use Rattle.slate_types.specs.declared.error.SlateDBError.TheVariants.{CorruptTable, BlockTransformError, InvalidFilterBlock, OutOfMemory, StoreFault}
 use Rattle.slate_types.specs.Faults.{Rose}
 use Rattle.slate_types.specs.Outside.{Objects}
 use Rattle.slate_store.specs.Store.{Act, AddsAct, AnswersRead, part_of}
@@ -26,7 +27,7 @@ use Rattle.slate_block.specs.declared.block.Block.{Block}
 use Rattle.slate_block.specs.RowReading.{refusal}
 use Rattle.slate_block.specs.BlockReading.{IsApart, offsets_of_block}
 use Rattle.slate_table.specs.Parts.{Encode, summed}
-use Rattle.slate_table.specs.Decoded.{IsIndex, Stats, IsStats}
+use Rattle.slate_table.specs.Decoded.{IsFilters, IsIndex, Stats, IsStats}
 use Rattle.slate_table.specs.SectionReading.{part_in}
 use Rattle.slate_table.specs.IndexReading.{index_of}
 use Rattle.slate_table.specs.StatsReading.{stats_in}
@@ -79,6 +80,18 @@ IsStatsRead decode answer stats = (part : List ℕ) × IsPart decode answer part
 
 unfoldable pub RefusesStats : Encode → Option (List ℕ) → SlateDBError → Type 0
 RefusesStats decode answer e = IsRefused decode (λ part. refusal (stats_in part)) answer e
+
+-- ---- filters
+
+abbrev pub AreFiltersRead : Encode → Option (List ℕ) → List (List ℕ × List ℕ) → Type 0
+AreFiltersRead decode answer filters = (part : List ℕ) × IsPart decode answer part × IsFilters part filters
+
+-- a filter part that is cut, whose names aren't UTF-8, or that has more behind its filters is refused with its length
+abbrev pub AreNoFilters : List ℕ → SlateDBError → Type 0
+AreNoFilters part e = (e ≡ InvalidFilterBlock (length part)) × ((filters : List (List ℕ × List ℕ)) → IsFilters part filters → ⊥)
+
+abbrev pub RefusesFilters : Encode → Option (List ℕ) → SlateDBError → Type 0
+RefusesFilters decode answer e = (refusal (stored_in answer) ≡ Some e) ⊎ ((part : List ℕ) × IsPart decode answer part × AreNoFilters part e)
 
 -- ---- blocks
 

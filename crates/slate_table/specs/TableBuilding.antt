@@ -3,10 +3,10 @@
 --     cut_more size version c r      the same with a row more, which ends a block where it doesn't fit
 --     cutting size version rows      the rows, cut one after the other
 --     all_blocks c      the blocks of a cutting, the last one not ended
---     TableBuilding      what a builder is seen as: its version, its block size, the rows that were added, the sections of the
---                        blocks that were ended and where they begin
+--     TableBuilding      what a builder is seen as: its version, its block size, from how many rows on a table has filters, the rows
+--                        that were added, the sections of the blocks that were ended and where they begin
 --     AreSections encode version blocks bytes offsets      the bytes are the sections of the blocks, which begin at the offsets
---     begun version size      a builder with no row
+--     begun version size min      a builder with no row
 --     section_size encode b r      the size of the section of the block that a row ends
 --     max_blocks, HasTooManyBlocks b r      how many blocks a table has at most; with this row it would have more
 --     AreEncoded encode b      the sections of the blocks that were ended were made by this transformer
@@ -38,6 +38,7 @@ all_blocks c = with_last c.ended c.filling
 pub record TableBuilding : Type 0 where
   pub version : ℕ
   pub size : ℕ
+  pub min : ℕ
   pub rows : List RowEntry
   pub bytes : List ℕ
   pub offsets : List ℕ
@@ -52,8 +53,8 @@ pub record AreSections (encode : Encode) (version : ℕ) (blocks : List (List Ro
 abbrev pub AreEncoded : Encode → TableBuilding → Type 0
 AreEncoded encode b = AreSections encode b.version (cut_rows b).ended b.bytes b.offsets
 
-abbrev pub begun : ℕ → ℕ → TableBuilding
-begun version size = record { version = version; size = size; rows = []; bytes = []; offsets = [] }
+abbrev pub begun : ℕ → ℕ → ℕ → TableBuilding
+begun version size min = record { version = version; size = size; min = min; rows = []; bytes = []; offsets = [] }
 
 -- of the block that the row ends, where it doesn't fit
 abbrev pub section_size : Encode → TableBuilding → RowEntry → Option ℕ

@@ -1,23 +1,27 @@
 -- What stands behind the blocks of a table that is built.
 --     counted_bytes rows keys values blocks      the bytes of the statistics, from the rows, the sums of lengths, and the blocks' counts
---     placed_info rows index stats end      the info of a table whose index and statistics begin there and end there
+--     placed_info rows at end      the info of a table whose sections behind the blocks begin there, and whose last one ends there
 --     part_of_info version i      the bytes of an info
 --     HasInfo bytes version i      the last bytes of the table lead to that info, whose sections lie before it
---     EndsAt version rows index stats old new i      that info and the last bytes were appended, where the index and the statistics begin there
---     parts_bytes encode p      the table, from what is kept once the last block was ended
+--     EndsAt version rows at old new i      that info and the last bytes were appended, where the sections behind the blocks begin there
+--     HasShortNames filters      filters are few, and the fields of their names have room
+--     parts_bytes encode filters p      the table with these filters, from what is kept once the last block was ended
+--     IsFiltered encode filters old new      the section of the filters was appended, where there are any
 --     IsSealed encode old at new      the sections of the index and of the statistics were appended, of which the second begins there
 --     IsReady p      what is kept fits the fields of an index, of statistics and of an info
---     IsFinished encode p bytes i      the bytes are the table of what was kept, once the last block was ended, with that info
+--     IsFinished encode filters p bytes i      the bytes are the table of what was kept, once the last block was ended, with these filters and that info
 --     EncodedTable      what a built table is seen as: its bytes, its info and its version
-use Rattle.std.specs.Prelude.{◌≡◌, ℕ, ◌-◌, ◌^◌, ◌<◌, List, [], ◌++◌, length, map, flat_map}
+use Rattle.std.specs.Prelude.{◌≡◌, ℕ, ◌-◌, ◌^◌, ◌<◌, List, ◌++◌, length, map, flat_map, string_bytes}
 use Rattle.std.specs.List.{AllByRecursion}
 use Rattle.slate_types.specs.declared.types.RowEntry.{RowEntry}
 use Rattle.slate_block.specs.declared.block.BlockStats.{BlockStats}
 use Rattle.slate_block.specs.RowSpelling.{be16, be32, be64}
+use Rattle.slate_filter.specs.declared.named_filter.NamedFilter.{NamedFilter}
 use Rattle.slate_table.specs.declared.table_parts.TableParts.{TableParts}
+use Rattle.slate_table.specs.declared.table_end.SectionOffsets.{SectionOffsets}
 use Rattle.slate_table.specs.declared.info.SsTableInfo.{SsTableInfo}
 use Rattle.slate_table.specs.Parts.{Encode, section, summed, counts, index_bytes, info_bytes}
-use Rattle.slate_table.specs.Table.{some_first, some_last, sections_then_info}
+use Rattle.slate_table.specs.Table.{FitsFilter, filter_section, some_first, some_last, sections_then_info}
 use Rattle.slate_table.specs.Decoded.{Info, IsInfo, FitsShort, SectionsLieBefore, counts_bytes}
 use Rattle.slate_table.specs.InfoReading.{section_place, seen_info}
 use Rattle.slate_table.specs.SectionReading.{footer_bytes}
@@ -27,14 +31,13 @@ use Rattle.slate_table.specs.TableParts.{version_of, IsEnded}
 abbrev pub counted_bytes : List RowEntry → ℕ → ℕ → List BlockStats → List ℕ
 counted_bytes rows keys values blocks = counts be64 rows ++ be64 keys ++ be64 values ++ be32 (length (map counts_of blocks)) ++ flat_map (counts_bytes be16) (map counts_of blocks)
 
--- with no filters
-abbrev pub placed_info : List RowEntry → ℕ → ℕ → ℕ → Info
-placed_info rows index stats end = record {
+abbrev pub placed_info : List RowEntry → SectionOffsets → ℕ → Info
+placed_info rows at end = record {
   first = some_first rows;
   last = some_last rows;
-  index = section_place index (stats - index);
-  filters = section_place index 0;
-  stats = section_place stats (end - stats);
+  index = section_place at.index (at.stats - at.index);
+  filters = section_place at.filters (at.index - at.filters);
+  stats = section_place at.stats (end - at.stats);
 }
 
 abbrev pub part_of_info : ℕ → Info → List ℕ
@@ -47,8 +50,8 @@ pub record HasInfo (bytes : List ℕ) (version : ℕ) (i : Info) : Type 0 where
   pub spelled : IsInfo version part i
   pub lies : SectionsLieBefore (length before) i
 
-pub record EndsAt (version : ℕ) (rows : List RowEntry) (index stats : ℕ) (old new : List ℕ) (i : Info) : Type 0 where
-  pub is : new ≡ old ++ (summed (part_of_info version (placed_info rows index stats (length old))) ++ footer_bytes (length old) version)
+pub record EndsAt (version : ℕ) (rows : List RowEntry) (at : SectionOffsets) (old new : List ℕ) (i : Info) : Type 0 where
+  pub is : new ≡ old ++ (summed (part_of_info version (placed_info rows at (length old))) ++ footer_bytes (length old) version)
   pub info : HasInfo new version i
 
 abbrev pub parts_index : TableParts → List ℕ
@@ -57,8 +60,27 @@ parts_index p = index_bytes p.offsets.items p.separators.items
 abbrev pub parts_stats : TableParts → List ℕ
 parts_stats p = counted_bytes p.rows.items p.raw_key_size p.raw_val_size p.block_stats.items
 
-abbrev pub parts_bytes : Encode → TableParts → List ℕ
-parts_bytes encode p = sections_then_info (version_of p.format) p.rows.items p.bytes.items [] (section encode (parts_index p)) (section encode (parts_stats p))
+pub record HasShortNames (filters : List NamedFilter) : Type 0 where
+  pub few : length filters < 2 ^ 16
+  pub each : AllByRecursion (λ f. length (string_bytes f.name) < 2 ^ 16) filters
+
+abbrev pub parts_bytes : Encode → List (List ℕ × List ℕ) → TableParts → List ℕ
+parts_bytes encode filters p = sections_then_info (version_of p.format) p.rows.items p.bytes.items
+    (filter_section encode filters)
+    (section encode (parts_index p))
+    (section encode (parts_stats p))
+
+pub record IsFiltered (encode : Encode) (filters : List (List ℕ × List ℕ)) (old new : TableParts) : Type 0 where
+  pub bytes : new.bytes.items ≡ old.bytes.items ++ filter_section encode filters
+  pub rows : new.rows.items ≡ old.rows.items
+  pub format : new.format ≡ old.format
+  pub offsets : new.offsets.items ≡ old.offsets.items
+  pub separators : new.separators.items ≡ old.separators.items
+  pub stats : new.block_stats.items ≡ old.block_stats.items
+  pub keys : new.raw_key_size ≡ old.raw_key_size
+  pub values : new.raw_val_size ≡ old.raw_val_size
+  pub each : AllByRecursion FitsFilter filters
+  pub few : length filters < 2 ^ 16
 
 pub record IsSealed (encode : Encode) (old : TableParts) (at : ℕ) (new : TableParts) : Type 0 where
   pub place : at ≡ length (old.bytes.items ++ section encode (parts_index old))
@@ -76,10 +98,12 @@ pub record IsReady (p : TableParts) : Type 0 where
   pub first : FitsShort (some_first p.rows.items)
   pub last : FitsShort (some_last p.rows.items)
 
-pub record IsFinished (encode : Encode) (p : TableParts) (bytes : List ℕ) (i : SsTableInfo) : Type 0 where
+pub record IsFinished (encode : Encode) (filters : List (List ℕ × List ℕ)) (p : TableParts) (bytes : List ℕ) (i : SsTableInfo) : Type 0 where
   pub ended : TableParts
   pub end : IsEnded encode p ended
-  pub is : bytes ≡ parts_bytes encode ended
+  pub is : bytes ≡ parts_bytes encode filters ended
+  pub each : AllByRecursion FitsFilter filters
+  pub few : length filters < 2 ^ 16
   pub short : length bytes < 2 ^ 64
   pub keys : p.raw_key_size < 2 ^ 64
   pub values : p.raw_val_size < 2 ^ 64

@@ -2,7 +2,7 @@
 --     version_of format      the number of a block format
 --     separator_behind rows key      the separator of a block that begins with a key behind these rows
 --     cut_parts p      the rows, cut one after the other
---     seen p      the builder that keeps it
+--     seen min p      the builder that keeps it, where tables have filters from so many rows on
 --     StandsOn c p, Stands p      what is kept is that of the rows, so cut
 --     IsSame old new      nothing of it changed but room
 --     HasSectionRoom len p      there is room for the section of a block that is stored in so many bytes
@@ -43,8 +43,8 @@ separator_behind (r ∷ rs) key = separator (last_key [] (r ∷ rs)) key
 abbrev pub cut_parts : TableParts → Cutting
 cut_parts p = cutting p.block_size (version_of p.format) p.rows.items
 
-abbrev pub seen : TableParts → TableBuilding
-seen p = record { version = version_of p.format; size = p.block_size; rows = p.rows.items; bytes = p.bytes.items; offsets = p.offsets.items }
+abbrev pub seen : ℕ → TableParts → TableBuilding
+seen min p = record { version = version_of p.format; size = p.block_size; min = min; rows = p.rows.items; bytes = p.bytes.items; offsets = p.offsets.items }
 
 abbrev pub filled : TableParts → List RowEntry → Building
 filled p rows = record { version = version_of p.format; size = p.block_size; rows = rows }

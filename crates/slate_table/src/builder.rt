@@ -1,8 +1,9 @@
 //! Tables, built row by row.
-ghost use Rattle.std.specs.Prelude.{◌≡◌, ◌≤◌, ◌<◌, ◌++◌, ◌∷◌, ◌⊎◌, ◌↔◌, ℕ, List, [], Ok, Err, None, true, length, OnOk, OnErr, IfOk, IfErr, IfSome, IsSome, IsTrue};
+ghost use Rattle.std.specs.Prelude.{◌≡◌, ◌≤◌, ◌<◌, ◌++◌, ◌∷◌, ◌⊎◌, ◌↔◌, ℕ, List, [], Ok, Err, None, true, length, map, OnOk, OnErr, IfOk, IfErr, IfSome, IsSome, IsTrue};
 ghost use Rattle.slate_types.specs.Faults.{faults_of};
 ghost use Rattle.slate_types.specs.Rows.{row_lt};
 ghost use Rattle.slate_block.specs.Building.{CanTake};
+ghost use Rattle.slate_filter.specs.Laws.{AreValidNames};
 ghost use Rattle.slate_table.specs.Table.{AreInOrder, IsBuilt};
 ghost use Rattle.slate_table.specs.InfoReading.{seen_info};
 ghost use Rattle.slate_table.specs.TableFormat.{codec_byte};
@@ -15,16 +16,20 @@ ghost use Rattle.slate_table.specs.TableBuilding.{begun, max_blocks, section_siz
 use crate::encoded_table::EncodedSsTable;
 use crate::info::SsTableFormat;
 use crate::table_parts::{TableParts, new_block};
+use slate_filter::FilterPolicy;
 use slate_types::{BlockTransformer, RowEntry, SlateDBError};
 use std::alloc::Global;
 use std::marker::Model;
 
 /// Takes rows in their order, key upwards and sequence downwards, and gives their table. A block ends just before a row that
-/// doesn't fit. Contracts see the version and the block size, the rows that were added, and the sections of the blocks that were
-/// ended and where they begin.
+/// doesn't fit. A table of enough rows
+/// has the filters of the policies. Contracts see the version, the block size and that number, the rows that were added, and the
+/// sections of the blocks that were ended and where they begin.
 #[derive(Drop)]
 pub struct EncodedSsTableBuilder {
     parts: TableParts,
+    /// From how many rows on a table has filters.
+    min_filter_keys: u32,
 }
 
 impl Model for EncodedSsTableBuilder {
@@ -34,7 +39,7 @@ impl Model for EncodedSsTableBuilder {
 
     ghost use Rattle.slate_table.specs.TableParts.{seen, Stands};
 
-    ghost view = { λ b. seen b.parts };
+    ghost view = { λ b. seen b.min_filter_keys b.parts };
 
     ghost invariant = { λ b. Stands b.parts };
 }
@@ -45,7 +50,7 @@ impl EncodedSsTableBuilder {
     pub fn new(alloc: Global, format: &SsTableFormat) -> Result<EncodedSsTableBuilder, SlateDBError>
         requires some { 0 < format.now.block_size }
         requires few { format.now.block_size ≤ 65535 }
-        ensures begun { IfOk result (λ builder. builder ≡ begun (version_of format.now.block_format) format.now.block_size) }
+        ensures begun { IfOk result (λ builder. builder ≡ begun (version_of format.now.block_format) format.now.block_size format.now.min_filter_keys) }
         ensures cause { IfErr result (λ e. (e ≡ SlateDBError.OutOfMemory) ⊎ IsSome format.now.compression_codec) }
         ensures refused { IfSome format.now.compression_codec (λ codec. result ≡ Err (SlateDBError.UnsupportedCompression (codec_byte codec))) }
         ensures no_codec { OnOk result (format.now.compression_codec ≡ None) }
@@ -66,7 +71,10 @@ impl EncodedSsTableBuilder {
             raw_key_size: 0,
             raw_val_size: 0,
         };
-        Ok(EncodedSsTableBuilder { parts })
+        Ok(EncodedSsTableBuilder {
+            parts,
+            min_filter_keys: format.min_filter_keys,
+        })
     }
 
     /// Whether a row may be added behind the others: its key is greater than that of the last one, or the same with a lower
@@ -96,6 +104,7 @@ impl EncodedSsTableBuilder {
         ensures unspoilt { OnErr result (self.new ≡ self.old) }
         ensures version { self.new.version ≡ self.old.version }
         ensures size { self.new.size ≡ self.old.size }
+        ensures min { self.new.min ≡ self.old.min }
         ensures encoded { AreEncoded (changed_by T.encoded transformer.old) self.old → AreEncoded (changed_by T.encoded transformer.old) self.new }
         ensures ended { IfOk result (λ size. size ≡ section_size (changed_by T.encoded transformer.old) self.old entry) }
         ensures limit { (result ≡ Err (SlateDBError.LimitReached max_blocks)) ↔ (HasTooManyBlocks self.old entry × (0 < length entry.key)) }
@@ -116,15 +125,18 @@ impl EncodedSsTableBuilder {
         }
     }
 
-    /// The table of the rows, of which there is one at least. It has no filters. `BlockTransformError`, which comes only where
-    /// the transformer's count of faults rose, or `OutOfMemory`.
+    /// The table of the rows, of which there is one at least. Where the rows are enough it has the filters of the policies, in their
+    /// order, but for those that build none. `BlockTransformError`, which comes only where the transformer's count of faults rose,
+    /// or `OutOfMemory`.
     pub fn build<T: BlockTransformer>(
         self,
         alloc: Global,
         transformer: &mut Option<T>,
+        policies: &[Box<dyn FilterPolicy>],
     ) -> Result<EncodedSsTable, SlateDBError>
         requires rows { 0 < length self.rows }
-        ensures built { IfOk result (λ table. AreEncoded (changed_by T.encoded transformer.old) self → (min : ℕ) → IsBuilt (changed_by T.encoded transformer.old) [] min self.size self.version table.bytes self.rows) }
+        requires names { AreValidNames (map (λ p. (meaning p).name) policies.now) }
+        ensures built { IfOk result (λ table. AreEncoded (changed_by T.encoded transformer.old) self → IsBuilt (changed_by T.encoded transformer.old) (map (λ p. meaning p) policies.now) self.min self.size self.version table.bytes self.rows) }
         ensures info { IfOk result (λ table. HasInfo table.bytes self.version (seen_info table.info)) }
         ensures version { IfOk result (λ table. table.version ≡ self.version) }
         ensures cause { IfErr result (λ e. IsTransformFault (faults_of T.faults transformer.old) (faults_of T.faults transformer.new) e) }
@@ -133,8 +145,11 @@ impl EncodedSsTableBuilder {
         ensures later { faults_of T.faults transformer.old ≤ faults_of T.faults transformer.new }
         ensures still { (result ≡ Err SlateDBError.BlockTransformError) ⊎ (result ≡ Err SlateDBError.OutOfMemory) ⊎ (faults_of T.faults transformer.new ≡ faults_of T.faults transformer.old) }
     {
-        let EncodedSsTableBuilder { mut parts, .. } = self;
-        let table = parts.finish(alloc, transformer);
+        let EncodedSsTableBuilder {
+            mut parts,
+            min_filter_keys,
+        } = self;
+        let table = parts.finish(alloc, transformer, policies, min_filter_keys);
         drop(parts);
         table
     }

@@ -14,24 +14,32 @@ use bytes::Bytes;
 use slate_types::{RowEntry, SlateDBError};
 use std::alloc::Global;
 
-/// Appends the info and the last bytes of a table of these rows, whose index begins there, and whose statistics begin there and
-/// end where `out` does.
+/// Where the sections behind the blocks begin. Where there are no filters, the index begins where they would.
+#[derive(Clone, Copy)]
+pub struct SectionOffsets {
+    pub filters: u64,
+    pub index: u64,
+    pub stats: u64,
+}
+
+/// Appends the info and the last bytes of a table of these rows, whose sections behind the blocks begin there, the last of which
+/// ends where `out` does.
 pub fn append_end(
     alloc: Global,
     out: &mut Vec<u8>,
     version: u16,
     rows: &[RowEntry],
-    index_offset: u64,
-    stats_offset: u64,
+    offsets: SectionOffsets,
 ) -> Result<SsTableInfo, SlateDBError>
     requires first { FitsShort (some_first rows.now) }
     requires last { FitsShort (some_last rows.now) }
-    requires index { index_offset ≤ stats_offset }
-    requires stats { stats_offset ≤ length out.old.items }
-    ensures ended { IfOk result (λ info. EndsAt version rows.now index_offset stats_offset out.old.items out.new.items (seen_info info)) }
+    requires filters { offsets.filters ≤ offsets.index }
+    requires index { offsets.index ≤ offsets.stats }
+    requires stats { offsets.stats ≤ length out.old.items }
+    ensures ended { IfOk result (λ info. EndsAt version rows.now offsets out.old.items out.new.items (seen_info info)) }
     ensures cause { IsOkUnless result SlateDBError.OutOfMemory }
 {
-    let info = placed_info(rows, index_offset, stats_offset, out.len() as u64)?;
+    let info = placed_info(rows, offsets, out.len() as u64)?;
     match append_info(alloc, out, version, &info) {
         Ok(()) => Ok(info),
         Err(error) => {
@@ -41,16 +49,16 @@ pub fn append_end(
     }
 }
 
-/// The info of a table of these rows, whose index and statistics begin there and end at `end`.
+/// The info of a table of these rows, whose sections behind the blocks begin there, the last of which ends at `end`.
 fn placed_info(
     rows: &[RowEntry],
-    index_offset: u64,
-    stats_offset: u64,
+    offsets: SectionOffsets,
     end: u64,
 ) -> Result<SsTableInfo, SlateDBError>
-    requires index { index_offset ≤ stats_offset }
-    requires stats { stats_offset ≤ end }
-    ensures value { IfOk result (λ info. seen_info info ≡ placed_info rows.now index_offset stats_offset end) }
+    requires filters { offsets.filters ≤ offsets.index }
+    requires index { offsets.index ≤ offsets.stats }
+    requires stats { offsets.stats ≤ end }
+    ensures value { IfOk result (λ info. seen_info info ≡ placed_info rows.now offsets end) }
     ensures cause { IsOkUnless result SlateDBError.OutOfMemory }
 {
     let first_entry = key_of(rows.first())?;
@@ -58,12 +66,12 @@ fn placed_info(
         Ok(last_entry) => Ok(SsTableInfo {
             first_entry,
             last_entry,
-            index_offset,
-            index_len: stats_offset - index_offset,
-            filter_offset: index_offset,
-            filter_len: 0,
-            stats_offset,
-            stats_len: end - stats_offset,
+            index_offset: offsets.index,
+            index_len: offsets.stats - offsets.index,
+            filter_offset: offsets.filters,
+            filter_len: offsets.index - offsets.filters,
+            stats_offset: offsets.stats,
+            stats_len: end - offsets.stats,
         }),
         Err(error) => {
             drop(first_entry);

@@ -1,8 +1,10 @@
 //! What a table builder keeps.
-ghost use Rattle.std.specs.Prelude.{◌≡◌, ◌≤◌, ◌<◌, ◌+◌, ◌^◌, ◌⊎◌, ◌==◌, ◌++◌, ◌∷◌, ◌↔◌, if◌then◌else◌, List, [], Ok, Err, true, false, length, vec_len, vec_capacity, OnOk, OnErr, IfOk, IfErr, IsOkUnless};
+ghost use Rattle.std.specs.Prelude.{◌≡◌, ◌≤◌, ◌<◌, ◌+◌, ◌^◌, ◌⊎◌, ◌==◌, ◌++◌, ◌∷◌, ◌↔◌, if◌then◌else◌, List, [], Ok, Err, true, false, length, map, vec_len, vec_capacity, OnOk, OnErr, IfOk, IfErr, IsOkUnless};
 ghost use Rattle.slate_block.specs.Building.{CanTake, with_row};
 ghost use Rattle.slate_block.specs.Fitting.{fits_in};
 ghost use Rattle.slate_types.specs.declared.types.RowEntry.{RowEntry};
+ghost use Rattle.slate_filter.specs.Laws.{AreValidNames};
+ghost use Rattle.slate_filter.specs.Policy.{filters_of};
 ghost use Rattle.slate_block.specs.BlockSpelling.{FitsBlock, block_bytes};
 ghost use Rattle.slate_block.specs.Counting.{stats_of};
 ghost use Rattle.slate_table.specs.Parts.{summed};
@@ -13,17 +15,19 @@ ghost use Rattle.slate_table.specs.Table.{some_first, some_last};
 ghost use Rattle.slate_table.specs.Decoded.{FitsShort};
 ghost use Rattle.slate_table.specs.TableParts.{version_of, separator_behind, fits_parts, ended_size, HasSectionRoom, HasSums, IsAdded, IsBegun, IsEnded, IsEndedBy, IsFull, IsKept, IsSame, IsWritten, Stands};
 ghost use Rattle.slate_table.specs.InfoReading.{seen_info};
-ghost use Rattle.slate_table.specs.TableEnd.{EndsAt, IsReady, IsSealed, IsFinished};
+ghost use Rattle.slate_table.specs.TableEnd.{EndsAt, IsFiltered, IsReady, IsSealed, IsFinished};
 
 use crate::encoded_table::EncodedSsTable;
+use crate::filters_writing::{append_filter_section, filters_of_rows};
 use crate::index_writing::encode_index;
 use crate::info::SsTableInfo;
 use crate::section::{CHECKSUM_SIZE, encoded, put_summed, seal_section};
 use crate::separator::separator;
 use crate::stats_writing::encode_stats;
-use crate::table_end::append_end;
+use crate::table_end::{SectionOffsets, append_end};
 use bytes::Bytes;
 use slate_block::{BlockBuilder, BlockBuilderWithStats, BlockStats};
+use slate_filter::FilterPolicy;
 use slate_types::{BlockFormat, BlockTransformer, RowEntry, SlateDBError};
 use std::alloc::Global;
 use std::mem;
@@ -240,25 +244,52 @@ impl TableParts {
         Ok(())
     }
 
-    /// Ends the last block, and gives the table.
+    /// Ends the last block, and gives the table, which has the filters of the policies where its rows are `min` or more.
     pub fn finish<T: BlockTransformer>(
         &mut self,
         alloc: Global,
         transformer: &mut Option<T>,
+        policies: &[Box<dyn FilterPolicy>],
+        min: u32,
     ) -> Result<EncodedSsTable, SlateDBError>
         requires stands { Stands self.old }
         requires row { 0 < length self.old.rows.items }
-        ensures finished { IfOk result (λ table. IsFinished (changed_by T.encoded transformer.old) self.old table.bytes table.info) }
+        requires names { AreValidNames (map (λ p. (meaning p).name) policies.now) }
+        ensures finished { IfOk result (λ table. IsFinished (changed_by T.encoded transformer.old) (filters_of (map (λ p. meaning p) policies.now) min self.old.rows.items) self.old table.bytes table.info) }
         ensures version { IfOk result (λ table. table.version ≡ version_of self.old.format) }
         ensures asks { Asks T.encoded T.decoded T.faults transformer.old transformer.new result }
     {
         self.end_block(alloc, transformer)?;
-        let index_offset = self.bytes.len() as u64;
-        let stats_offset = self.append_sections(alloc, transformer)?;
-        self.close(alloc, index_offset, stats_offset)
+        let filters = self.bytes.len() as u64;
+        self.append_filters(alloc, transformer, policies, min)?;
+        let index = self.bytes.len() as u64;
+        let stats = self.append_sections(alloc, transformer)?;
+        let offsets = SectionOffsets {
+            filters,
+            index,
+            stats,
+        };
+        self.close(alloc, offsets)
     }
 
-    /// Appends the sections of the index and of the statistics, once the last block was ended, and answers where the second begins.
+    /// Appends the section of the filters of the rows, where there are any, once the last block was ended.
+    fn append_filters<T: BlockTransformer>(
+        &mut self,
+        alloc: Global,
+        transformer: &mut Option<T>,
+        policies: &[Box<dyn FilterPolicy>],
+        min: u32,
+    ) -> Result<(), SlateDBError>
+        requires names { AreValidNames (map (λ p. (meaning p).name) policies.now) }
+        ensures filtered { OnOk result (IsFiltered (changed_by T.encoded transformer.old) (filters_of (map (λ p. meaning p) policies.now) min self.old.rows.items) self.old self.new) }
+        ensures asks { Asks T.encoded T.decoded T.faults transformer.old transformer.new result }
+    {
+        let filters = filters_of_rows(alloc, policies, min, &self.rows)?;
+        append_filter_section(alloc, &mut self.bytes, &filters, transformer)
+    }
+
+    /// Appends the sections of the index and of the statistics behind those of the blocks and of the filters, and answers where the
+    /// second begins.
     fn append_sections<T: BlockTransformer>(
         &mut self,
         alloc: Global,
@@ -283,32 +314,25 @@ impl TableParts {
         Ok(stats_offset)
     }
 
-    /// The table, whose index and statistics begin there, and whose info doesn't stand there yet.
+    /// The table, whose sections behind the blocks begin there, and whose info doesn't stand there yet.
     fn close(
         &mut self,
         alloc: Global,
-        index_offset: u64,
-        stats_offset: u64,
+        offsets: SectionOffsets,
     ) -> Result<EncodedSsTable, SlateDBError>
         requires first { FitsShort (some_first self.old.rows.items) }
         requires last { FitsShort (some_last self.old.rows.items) }
-        requires index { index_offset ≤ stats_offset }
-        requires stats { stats_offset ≤ length self.old.bytes.items }
-        ensures ended { IfOk result (λ table. EndsAt (version_of self.old.format) self.old.rows.items index_offset stats_offset self.old.bytes.items table.bytes (seen_info table.info)) }
+        requires filters { offsets.filters ≤ offsets.index }
+        requires index { offsets.index ≤ offsets.stats }
+        requires stats { offsets.stats ≤ length self.old.bytes.items }
+        ensures ended { IfOk result (λ table. EndsAt (version_of self.old.format) self.old.rows.items offsets self.old.bytes.items table.bytes (seen_info table.info)) }
         ensures short { IfOk result (λ table. length table.bytes < 2 ^ 64) }
         ensures version { IfOk result (λ table. table.version ≡ version_of self.old.format) }
         ensures cause { IsOkUnless result SlateDBError.OutOfMemory }
     {
         let version = version_number(self.format);
         let mut bytes = mem::replace(&mut self.bytes, Vec::new(alloc));
-        let info = append_end(
-            alloc,
-            &mut bytes,
-            version,
-            &self.rows,
-            index_offset,
-            stats_offset,
-        )?;
+        let info = append_end(alloc, &mut bytes, version, &self.rows, offsets)?;
         frozen(bytes, info, version)
     }
 }

@@ -1,9 +1,12 @@
 //! The tables of a store, read part by part.
-ghost use Rattle.std.specs.Prelude.{◌≡◌, ◌≤◌, ◌<◌, ◌+◌, ◌-◌, ◌⊎◌, ℕ, List, Some, Err, Ok, length, OnOk, OnErr, IfOk, IfErr, IfSome, IsOkUnless};
+ghost use Rattle.std.specs.Prelude.{◌≡◌, ◌≤◌, ◌<◌, ◌+◌, ◌-◌, ◌⊎◌, ℕ, List, [], Some, Err, Ok, true, false, length, map, OnOk, OnErr, IfOk, IfErr, IfSome, IsOkUnless};
 ghost use Rattle.slate_types.specs.Faults.{faults_of};
 ghost use Rattle.slate_types.specs.Outside.{Objects};
 ghost use Rattle.slate_store.specs.Store.{Act, AddsAct, RefusesPut, TakesPut, part_of};
 ghost use Rattle.slate_block.specs.RowReading.{refusal};
+ghost use Rattle.slate_filter.specs.Named.{named_pair};
+ghost use Rattle.slate_table.specs.Filtered.{asks_filters, IsAsked, RefusesQuery};
+ghost use Rattle.slate_table.specs.FiltersReading.{AreFiltersIn};
 ghost use Rattle.slate_table.specs.Paths.{path_of};
 ghost use Rattle.slate_table.specs.SectionReading.{changed_by};
 ghost use Rattle.slate_table.specs.Asking.{Reaches, Stays};
@@ -18,6 +21,8 @@ ghost use Rattle.slate_table.specs.Reading.{
   FailsDecoding,
   IsIndexRead,
   RefusesIndex,
+  AreFiltersRead,
+  RefusesFilters,
   IsBlockRead,
   RefusesBlock,
   block_start,
@@ -29,6 +34,7 @@ ghost use Rattle.slate_table.specs.Reading.{
 };
 
 use crate::encoded_table::EncodedSsTable;
+use crate::filters_reading::decode_filters;
 use crate::info::SsTableHandle;
 use crate::paths::table_path;
 use crate::section::open_section;
@@ -36,8 +42,9 @@ use crate::sst_index::SstIndex;
 use bytes::Bytes;
 use slate_block::Block;
 use slate_block::fields::corrupt;
+use slate_filter::{FilterPolicy, NamedFilter, let_through};
 use slate_store::Store;
-use slate_types::{BlockTransformer, SlateDBError, Ulid};
+use slate_types::{BlockTransformer, FilterQuery, SlateDBError, Ulid};
 use std::alloc::Global;
 use std::ops::Range;
 
@@ -104,6 +111,69 @@ impl TableStore {
         let place = (table.info.index_offset, table.info.index_len);
         let part = read_part(alloc, store, root, table.id, place, transformer)?;
         SstIndex::decode(alloc, part, table.info.filter_offset)
+    }
+
+    /// The filters of a table, by one read of their section, and none, without a read, where it has no such section. `StoreFault`,
+    /// only where the store's count of faults rose; `CorruptTable` at 0 where the section isn't there in full or is shorter than a
+    /// checksum, then `ChecksumMismatch`, then `BlockTransformError`, only where the transformer's count rose, then
+    /// `InvalidFilterBlock` with the length of the part where that is no list of filters; or `OutOfMemory`.
+    pub fn read_filters<S: Store, T: BlockTransformer>(
+        alloc: Global,
+        store: &mut S,
+        root: &str,
+        table: &SsTableHandle,
+        transformer: &mut Option<T>,
+    ) -> Result<Vec<NamedFilter>, SlateDBError>
+        ensures none { table.now.info.filter_len ≡ 0 → (store.new ≡ store.old) × (transformer.new ≡ transformer.old) × IfOk result (λ filters. filters.items ≡ []) × OnErr result ⊥ }
+        ensures found { 0 < table.now.info.filter_len → IfOk result (λ filters. Reads (S.objects store.old) (S.acts store.old) (S.acts store.new) (path_of root.now table.now.id.0) table.now.info.filter_offset table.now.info.filter_len (λ answer. AreFiltersRead (changed_by T.decoded transformer.old) answer (map named_pair filters.items))) }
+        ensures cause { IfErr result (λ e. IsStoreFault (S.faults store.old) (S.faults store.new) e ⊎ Reads (S.objects store.old) (S.acts store.old) (S.acts store.new) (path_of root.now table.now.id.0) table.now.info.filter_offset table.now.info.filter_len (λ answer. FailsDecoding (faults_of T.faults transformer.old) (faults_of T.faults transformer.new) answer e) ⊎ Reads (S.objects store.old) (S.acts store.old) (S.acts store.new) (path_of root.now table.now.id.0) table.now.info.filter_offset table.now.info.filter_len (λ answer. RefusesFilters (changed_by T.decoded transformer.old) answer e)) }
+        ensures once { OnErr result ((S.acts store.new ≡ S.acts store.old) ⊎ Reads (S.objects store.old) (S.acts store.old) (S.acts store.new) (path_of root.now table.now.id.0) table.now.info.filter_offset table.now.info.filter_len (λ _. Unit {0})) }
+        ensures objects { S.objects store.new ≡ S.objects store.old }
+        ensures same_encoded { changed_by T.encoded transformer.new ≡ changed_by T.encoded transformer.old }
+        ensures same_decoded { changed_by T.decoded transformer.new ≡ changed_by T.decoded transformer.old }
+        ensures later { S.faults store.old ≤ S.faults store.new }
+        ensures still { (result ≡ Err SlateDBError.StoreFault) ⊎ (S.faults store.new ≡ S.faults store.old) }
+        ensures later_transformer { faults_of T.faults transformer.old ≤ faults_of T.faults transformer.new }
+        ensures still_transformer { (result ≡ Err SlateDBError.BlockTransformError) ⊎ (result ≡ Err SlateDBError.OutOfMemory) ⊎ (faults_of T.faults transformer.new ≡ faults_of T.faults transformer.old) }
+    {
+        if table.info.filter_len == 0 {
+            return Ok(Vec::new(alloc));
+        }
+        let (filters, _) = filters_of(alloc, store, root, table, transformer)?;
+        Ok(filters)
+    }
+
+    /// Whether no filter of a table denies the query. Where there are policies and the table has a filter section, that is read,
+    /// by one read; else nothing is read, and the answer is yes. Refuses as `read_filters` does, and by `InvalidFilterBlock`, with
+    /// the length of the part, where a policy refuses the bytes of a filter.
+    pub fn might_match<S: Store, T: BlockTransformer>(
+        alloc: Global,
+        store: &mut S,
+        root: &str,
+        table: &SsTableHandle,
+        policies: &[Box<dyn FilterPolicy>],
+        query: &FilterQuery,
+        transformer: &mut Option<T>,
+    ) -> Result<bool, SlateDBError>
+        ensures none { asks_filters (map (λ p. meaning p) policies.now) table.now.info.filter_len ≡ false → (result ≡ Ok true) × (store.new ≡ store.old) × (transformer.new ≡ transformer.old) }
+        ensures asked { asks_filters (map (λ p. meaning p) policies.now) table.now.info.filter_len ≡ true → IfOk result (λ passes. Reads (S.objects store.old) (S.acts store.old) (S.acts store.new) (path_of root.now table.now.id.0) table.now.info.filter_offset table.now.info.filter_len (λ answer. IsAsked (changed_by T.decoded transformer.old) (map (λ p. meaning p) policies.now) query.now answer passes)) }
+        ensures cause { IfErr result (λ e. IsStoreFault (S.faults store.old) (S.faults store.new) e ⊎ Reads (S.objects store.old) (S.acts store.old) (S.acts store.new) (path_of root.now table.now.id.0) table.now.info.filter_offset table.now.info.filter_len (λ answer. FailsDecoding (faults_of T.faults transformer.old) (faults_of T.faults transformer.new) answer e) ⊎ Reads (S.objects store.old) (S.acts store.old) (S.acts store.new) (path_of root.now table.now.id.0) table.now.info.filter_offset table.now.info.filter_len (λ answer. RefusesQuery (changed_by T.decoded transformer.old) (map (λ p. meaning p) policies.now) query.now answer e)) }
+        ensures once { OnErr result ((S.acts store.new ≡ S.acts store.old) ⊎ Reads (S.objects store.old) (S.acts store.old) (S.acts store.new) (path_of root.now table.now.id.0) table.now.info.filter_offset table.now.info.filter_len (λ _. Unit {0})) }
+        ensures objects { S.objects store.new ≡ S.objects store.old }
+        ensures same_encoded { changed_by T.encoded transformer.new ≡ changed_by T.encoded transformer.old }
+        ensures same_decoded { changed_by T.decoded transformer.new ≡ changed_by T.decoded transformer.old }
+        ensures later { S.faults store.old ≤ S.faults store.new }
+        ensures still { (result ≡ Err SlateDBError.StoreFault) ⊎ (S.faults store.new ≡ S.faults store.old) }
+        ensures later_transformer { faults_of T.faults transformer.old ≤ faults_of T.faults transformer.new }
+        ensures still_transformer { (result ≡ Err SlateDBError.BlockTransformError) ⊎ (result ≡ Err SlateDBError.OutOfMemory) ⊎ (faults_of T.faults transformer.new ≡ faults_of T.faults transformer.old) }
+    {
+        if !asks_filters(policies, table.info.filter_len) {
+            return Ok(true);
+        }
+        let (filters, part_len) = filters_of(alloc, store, root, table, transformer)?;
+        let passes = let_through(policies, &filters, part_len, query);
+        drop(filters);
+        passes
     }
 
     /// Some neighbouring blocks of a table, by one read of their sections, which the index names. `StoreFault`, only where the
@@ -216,6 +286,32 @@ pub(crate) fn read_part<S: Store, T: BlockTransformer>(
 {
     let answer = read(alloc, store, root, id, place)?;
     opened(alloc, answer, transformer)
+}
+
+/// The filters of a table, by one read of their section, and the length of the part that they were read from.
+fn filters_of<S: Store, T: BlockTransformer>(
+    alloc: Global,
+    store: &mut S,
+    root: &str,
+    table: &SsTableHandle,
+    transformer: &mut Option<T>,
+) -> Result<(Vec<NamedFilter>, u64), SlateDBError>
+    ensures found { IfOk result (λ found. Reads (S.objects store.old) (S.acts store.old) (S.acts store.new) (path_of root.now table.now.id.0) table.now.info.filter_offset table.now.info.filter_len (λ answer. AreFiltersIn (changed_by T.decoded transformer.old) answer (map named_pair found.0.items) found.1)) }
+    ensures cause { IfErr result (λ e. IsStoreFault (S.faults store.old) (S.faults store.new) e ⊎ Reads (S.objects store.old) (S.acts store.old) (S.acts store.new) (path_of root.now table.now.id.0) table.now.info.filter_offset table.now.info.filter_len (λ answer. FailsDecoding (faults_of T.faults transformer.old) (faults_of T.faults transformer.new) answer e) ⊎ Reads (S.objects store.old) (S.acts store.old) (S.acts store.new) (path_of root.now table.now.id.0) table.now.info.filter_offset table.now.info.filter_len (λ answer. RefusesFilters (changed_by T.decoded transformer.old) answer e)) }
+    ensures once { OnErr result ((S.acts store.new ≡ S.acts store.old) ⊎ Reads (S.objects store.old) (S.acts store.old) (S.acts store.new) (path_of root.now table.now.id.0) table.now.info.filter_offset table.now.info.filter_len (λ _. Unit {0})) }
+    ensures reaches { Reaches S.objects S.faults store.old store.new result }
+    ensures stays { Stays T.encoded T.decoded T.faults transformer.old transformer.new result }
+{
+    let place = (table.info.filter_offset, table.info.filter_len);
+    let part = read_part(alloc, store, root, table.id, place, transformer)?;
+    decode_filters(alloc, part)
+}
+
+/// Whether a reader with these policies reads a filter section of this length.
+fn asks_filters(policies: &[Box<dyn FilterPolicy>], len: u64) -> bool
+    ensures { result ≡ asks_filters (map (λ p. meaning p) policies.now) len }
+{
+    !policies.is_empty() && len > 0
 }
 
 /// A block of a table, by one read of its section.

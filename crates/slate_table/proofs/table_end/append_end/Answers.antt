@@ -11,13 +11,13 @@ returns-in-Ok c =
     record {
       ended = (let rows = c.args.rows.now in
           let out = c.args.out.now.items in
-          let index = c.args.index_offset in
-          let stats = c.args.stats_offset in
+          let at = c.args.offsets in
           let size : c.len.result ≡ length out = search rules in
-          let info : seen_info c.in_ok-info.info ≡ placed_info rows index stats (length out) = c.in_ok-info.ensures.value ∙ (λ j. placed_info rows index stats (size j)) in
+          let info : seen_info c.in_ok-info.info ≡ placed_info rows at (length out) = c.in_ok-info.ensures.value ∙ (λ j. placed_info rows at (size j)) in
+          let first = c.requires.filters in
           let low = c.requires.index in
           let high = c.requires.stats in
-          let lies : SectionsLieBefore (length out) (placed_info rows index stats (length out)) = (omega arith, omega arith, omega arith) in
+          let lies : SectionsLieBefore (length out) (placed_info rows at (length out)) = (omega arith, omega arith, omega arith) in
           record {
             is = c.in-Ok.ensures.appended ∙ (λ j. out ++ (summed (part_of_info c.args.version (info j)) ++ footer_bytes (length out) c.args.version));
             info = c.in-Ok.ensures.info (subst (λ (made : Info). SectionsLieBefore (length out) made) (sym info) lies);

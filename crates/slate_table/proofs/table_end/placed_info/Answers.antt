@@ -8,16 +8,15 @@ pub returns-in-Ok : goal.returns-in-Ok
 returns-in-Ok c =
     record {
       value = (let rows = c.args.rows.now in
-          let begin = c.args.index_offset in
-          let middle = c.args.stats_offset in
+          let at = c.args.offsets in
           let first : c.in_ok-first_entry.first_entry ≡ some_first rows = c.in_ok-first_entry.ensures.value ∙ first_key_is rows _ c.first.ensures.value in
           let last : c.in-Ok.last_entry ≡ some_last rows = c.in-Ok.ensures.value ∙ last_key_is rows _ c.last.ensures.value in
           λ i. record {
             first = first i;
             last = last i;
-            index = section_place begin (middle - begin);
-            filters = section_place begin 0;
-            stats = section_place middle (c.args.end - middle);
+            index = section_place at.index (at.stats - at.index);
+            filters = section_place at.filters (at.index - at.filters);
+            stats = section_place at.stats (c.args.end - at.stats);
           });
       cause = tt;
     }

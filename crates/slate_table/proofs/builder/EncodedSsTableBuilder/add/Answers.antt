@@ -45,13 +45,14 @@ returns-in-Err g c =
       unspoilt = refl;
       version = refl;
       size = refl;
+      min = refl;
       encoded = λ h. h;
       ended = tt;
       limit = ((
         λ is.
             let limit : c.in-Err.error ≡ LimitReached max_blocks = err_is c.in-Err.error (LimitReached max_blocks) is in
             let full : IsFull inside.parts c.args.entry = empty_or_full c.in-Err.error (IsFull inside.parts c.args.entry) c.in-Err.ensures.past limit in (
-              subst (λ (b : TableBuilding). HasTooManyBlocks b c.args.entry) c.self.view_is (full_passes inside.parts c.args.entry stands full),
+              subst (λ (b : TableBuilding). HasTooManyBlocks b c.args.entry) c.self.view_is (full_passes inside.min_filter_keys inside.parts c.args.entry stands full),
               some_key (length c.args.entry.key) (λ none. let empty = err_is c.in-Err.error EmptyKey (c.in-Err.ensures.empty.1 none) in cc (limit, empty)),
             ),
         λ h. elim c.in-Err.ensures.past [
@@ -107,7 +108,7 @@ returns-in-Ok g c =
     let encode = changed_by g.T.BlockTransformer.encoded c.args.transformer.now in
     let stands : Stands p = c.self.invariant in
     let result = c.add.result in
-    let unspoilt = on_err_weaker result (λ (same : IsSame p q). same_seen p q same ∙ c.self.view_is) c.add.ensures.same in
+    let unspoilt = on_err_weaker result (λ (same : IsSame p q). same_seen inside.min_filter_keys p q same ∙ c.self.view_is) c.add.ensures.same in
     record {
       added = on_ok_weaker result (λ h. added_rows encode p q c.args.entry h ∙ ap (λ (b : TableBuilding). b.rows ++ c.args.entry ∷ []) c.self.view_is) c.add.ensures.added;
       unspoilt = unspoilt;
@@ -117,15 +118,16 @@ returns-in-Ok g c =
       size = either_way result
           (on_ok_weaker result (λ h. added_size encode p q c.args.entry h ∙ ap (λ (b : TableBuilding). b.size) c.self.view_is) c.add.ensures.added)
           (on_err_weaker result (λ same. ap (λ (b : TableBuilding). b.size) same) unspoilt);
+      min = ap (λ (b : TableBuilding). b.min) c.self.view_is;
       encoded = λ old. either_way result
           (on_ok_weaker result (λ h. added_sections encode p q c.args.entry stands h (subst (λ (b : TableBuilding). AreEncoded encode b) (sym c.self.view_is) old)) c.add.ensures.added)
           (on_err_weaker result (λ same. subst (λ (b : TableBuilding). AreEncoded encode b) (sym same) old) unspoilt);
       ended = (IfOk-weaker result _ _
-          (λ size h. h ∙ old_size encode p c.args.entry stands ∙ ap (λ (b : TableBuilding). section_size encode b c.args.entry) c.self.view_is)
+          (λ size h. h ∙ old_size encode inside.min_filter_keys p c.args.entry stands ∙ ap (λ (b : TableBuilding). section_size encode b c.args.entry) c.self.view_is)
           c.add.ensures.size);
       limit = ((
         λ is. absurd (not_limit result _ _ (cause_of _ _ result c.add.ensures.asks.counts) is),
-        λ h. absurd (room_passes_none p c.args.entry stands c.in-Ok.ensures.room (subst (λ (b : TableBuilding). HasTooManyBlocks b c.args.entry) (sym c.self.view_is) h.0)),
+        λ h. absurd (room_passes_none inside.min_filter_keys p c.args.entry stands c.in-Ok.ensures.room (subst (λ (b : TableBuilding). HasTooManyBlocks b c.args.entry) (sym c.self.view_is) h.0)),
       ));
       empty = ((
         λ h. absurd (not_empty result _ _ (cause_of _ _ result c.add.ensures.asks.counts) h),
@@ -133,7 +135,7 @@ returns-in-Ok g c =
       ));
       cause = IfErr-weaker result _ _ (λ e h. inl h) (cause_of _ _ result c.add.ensures.asks.counts);
       fault = (λ failed.
-          let some = ends_a_block encode p c.args.entry stands (c.add.ensures.fault failed) in
+          let some = ends_a_block encode inside.min_filter_keys p c.args.entry stands (c.add.ensures.fault failed) in
           subst (λ (b : TableBuilding). IsSome (section_size encode b c.args.entry)) c.self.view_is some);
       same_encoded = c.add.ensures.asks.same_encoded;
       same_decoded = c.add.ensures.asks.same_decoded;

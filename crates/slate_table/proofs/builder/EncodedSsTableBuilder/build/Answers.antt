@@ -1,4 +1,4 @@
-use Rattle.std.proofs.Common.{◌∙◌, ◌<◌, List, length, ap, subst, sym, refl}
+use Rattle.std.proofs.Common.{◌∙◌, ◌<◌, List, length, map, ap, subst, sym}
 use Rattle.std.proofs.lemmas.Result.{IfOk-weaker}
 use Rattle.slate_types.specs.declared.types.RowEntry.{RowEntry}
 use Rattle.slate_table.specs.SectionReading.{changed_by}
@@ -18,13 +18,14 @@ pub returns : goal.returns
 returns g c =
     let inside = c.self.inside in
     let encode = changed_by g.T.BlockTransformer.encoded c.args.transformer.now in
+    let policies = map (λ p. (goal.FilterPolicy-dyn g (p.vtable, p.value)).meaning p.value) c.args.policies.now in
     record {
       built = (let stands : Stands inside.parts = c.self.invariant in
           IfOk-weaker c.finish-table.result _ _
-          (λ table made. built_of encode inside.parts c.args.self table.bytes table.bytes table.info c.self.view_is stands c.requires.rows made refl)
+          (λ table made. built_of encode policies inside.min_filter_keys inside.parts c.args.self table.bytes table.info c.self.view_is stands c.requires.rows made)
           c.finish-table.ensures.finished);
       info = (IfOk-weaker c.finish-table.result _ _
-          (λ table made. info_of_built encode inside.parts c.args.self table.bytes table.bytes table.info table.info c.self.view_is made refl refl)
+          (λ table made. info_of_built inside.min_filter_keys inside.parts c.args.self table.bytes table.info c.self.view_is made)
           c.finish-table.ensures.finished);
       version = IfOk-weaker c.finish-table.result _ _ (λ table is. is ∙ ap (λ (b : TableBuilding). b.version) c.self.view_is) c.finish-table.ensures.version;
       cause = cause_of _ _ c.finish-table.result c.finish-table.ensures.asks.counts;

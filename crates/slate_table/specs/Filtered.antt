@@ -1,0 +1,73 @@
+-- What the filters of a stored table say to a query. The statement is proved in src/filtered_laws.rt.
+--     asks_filters policies len      a reader with these policies reads a filter section of this length
+--     IsAsked decode policies query answer passes      filters are read, and let the query through or deny it
+--     RefusesQuery decode policies query answer e      the filters are refused, or the bytes of one that was asked
+--     AreLawful policies      their names are distinct, and each is lawful
+--     HasFiltersOf encode policies bytes      the bytes are a table with the filters of these policies
+--     filters_answer bytes info      what a store answers that holds the bytes, where a reader asks for the filters
+--     point_query k context      the query of a get
+--     DeniedTablesLackTheKey      by lawful policies no table is denied that has a row of the key, and none is refused
+use Rattle.std.specs.Prelude.{◌≡◌, ℕ, ◌<◌, ◌⊎◌, Bool, false, nat_lt, List, [], ◌∷◌, flat_map, length, map, Option, Some, None}
+use Rattle.std.specs.List.{AllByRecursion}
+use Rattle.slate_types.specs.declared.error.SlateDBError.{SlateDBError}
+use Rattle.slate_types.specs.declared.error.SlateDBError.TheVariants.{InvalidFilterBlock}
+use Rattle.slate_types.specs.declared.types.RowEntry.{RowEntry}
+use Rattle.slate_types.specs.declared.filter_policy.FilterContext.{FilterContext}
+use Rattle.slate_types.specs.declared.filter_policy.FilterQuery.{FilterQuery}
+use Rattle.slate_types.specs.declared.filter_policy.PrefixTarget.TheVariants.{Point}
+use Rattle.slate_types.specs.Lawful.{IsLawfulTransform}
+use Rattle.slate_types.specs.Rows.{of_key}
+use Rattle.slate_store.specs.Store.{part_of}
+use Rattle.slate_block.specs.ReadingLaws.{EachIsAByte}
+use Rattle.slate_filter.specs.Asking.{asked}
+use Rattle.slate_filter.specs.Laws.{AreDistinct}
+use Rattle.slate_filter.specs.Policy.{Policy, IsLawfulPolicy, filters_of}
+use Rattle.slate_table.specs.Decoded.{Info, IsFilters}
+use Rattle.slate_table.specs.Finding.{IsTableWith}
+use Rattle.slate_table.specs.Parts.{Encode}
+use Rattle.slate_table.specs.Reading.{AreFiltersRead, IsPart, RefusesFilters}
+use Rattle.slate_table.specs.Table.{IsTableOf}
+
+-- ---- filters, asked
+
+abbrev pub asks_filters : List Policy → ℕ → Bool
+asks_filters [] len = false
+asks_filters (p ∷ ps) len = nat_lt 0 len
+
+abbrev pub IsAsked : Encode → List Policy → FilterQuery → Option (List ℕ) → Bool → Type 0
+IsAsked decode policies query answer passes =
+    (filters : List (List ℕ × List ℕ)) × AreFiltersRead decode answer filters × (asked policies filters query ≡ Some passes)
+
+-- a filter part whose bytes a policy refuses is `InvalidFilterBlock` with the length of the part
+abbrev pub RefusesAnswer : Encode → List Policy → FilterQuery → Option (List ℕ) → SlateDBError → Type 0
+RefusesAnswer decode policies query answer e =
+    (part : List ℕ) × (filters : List (List ℕ × List ℕ)) × IsPart decode answer part × IsFilters part filters
+    × (asked policies filters query ≡ None) × (e ≡ InvalidFilterBlock (length part))
+
+abbrev pub RefusesQuery : Encode → List Policy → FilterQuery → Option (List ℕ) → SlateDBError → Type 0
+RefusesQuery decode policies query answer e = RefusesFilters decode answer e ⊎ RefusesAnswer decode policies query answer e
+
+-- ---- the filters of a table
+
+pub record AreLawful (policies : List Policy) : Type 0 where
+  pub distinct : AreDistinct (map (λ (p : Policy). p.name) policies)
+  pub each : AllByRecursion (λ (p : Policy). IsLawfulPolicy p.builds p.answers) policies
+
+pub record HasFiltersOf (encode : Encode) (policies : List Policy) (bytes : List ℕ) : Type 0 where
+  pub version : ℕ
+  pub min : ℕ
+  pub blocks : List (List RowEntry)
+  pub is : IsTableOf encode bytes version blocks (filters_of policies min (flat_map (λ b. b) blocks))
+
+abbrev pub filters_answer : List ℕ → Info → Option (List ℕ)
+filters_answer bytes info = part_of (Some bytes) info.filters.at info.filters.len
+
+abbrev pub point_query : List ℕ → Option FilterContext → FilterQuery
+point_query k context = record { target = Point k; context = context }
+
+abbrev pub DeniedTablesLackTheKey : Type 0
+DeniedTablesLackTheKey = (encode decode : Encode) → IsLawfulTransform encode decode → (policies : List Policy) → AreLawful policies →
+    (bytes : List ℕ) (version : ℕ) (info : Info) (rows : List RowEntry) → EachIsAByte bytes → IsTableWith encode bytes version info rows → HasFiltersOf encode policies bytes →
+    (k : List ℕ) (context : Option FilterContext) → 0 < info.filters.len →
+    (IsAsked decode policies (point_query k context) (filters_answer bytes info) false → of_key k rows ≡ [])
+    × ((e : SlateDBError) → RefusesQuery decode policies (point_query k context) (filters_answer bytes info) e → ⊥)

@@ -1,3 +1,0 @@
-pub mod SortedRowsLaws
-pub mod CommitListLaws
-pub mod OpenIds

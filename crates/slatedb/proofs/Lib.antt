@@ -1,3 +1,0 @@
-pub mod FirstRead
-pub mod FirstTable
-pub mod FirstCalls
