@@ -1,0 +1,201 @@
+-- Rows that rise above the operand before them.
+use Rattle.std.proofs.Common.{◌≡◌, ◌⊎◌, inl, inr, ℕ, ◌<◌, ◌&&◌, Bool, true, false, List, [], ◌∷◌, ◌++◌, Option, Some, None, refl, sym, ap, subst, ◌∙◌, append_assoc, arith}
+use Rattle.std.specs.Prelude.{is_some, nat_lt}
+use Rattle.std.proofs.lemmas.Bool.Decides.{nat_tests}
+use Rattle.slate_types.specs.declared.error.SlateDBError.{SlateDBError}
+use Rattle.slate_types.specs.declared.error.SlateDBError.TheVariants.{InvalidSequenceOrder, MergeOperatorMissing}
+use Rattle.slate_types.specs.declared.iter.IterationOrder.{IterationOrder}
+use Rattle.slate_types.specs.declared.types.RowEntry.{RowEntry}
+use Rattle.slate_types.specs.Iteration.{comes_before, drop_before}
+use Rattle.slate_types.specs.Outside.{Act, Counts, IsCounted, IsFault, IsLater, Meaning, OnlyReads, Reach}
+use Rattle.slate_types.specs.Refusing.{NoMore}
+use Rattle.slate_types.specs.Steps.{Step, Takes}
+use Rattle.slate_types.specs.World.{World, Made, Sees}
+use Rattle.slate_types.proofs.Calls.{call_both, sees_first, sees_last}
+use Rattle.slate_types.proofs.Moves.{Moves}
+use Rattle.slate_types.proofs.Reaching.{fault_earlier}
+use Rattle.slate_types.proofs.Walked.{Walked, walked_none, walked_on}
+use Rattle.slate_read.specs.Folding.{AreLinked, FoldFalls, NoneRises, begins_linked, is_open, links, outranks, rises}
+use Rattle.slate_read.specs.FoldedLaws.{and_right, unlinked}
+use Rattle.slate_read.specs.Folds.{Blames, BlamesNext, EndsByRise, IsRise, MeetsRise, RefusesFold, RefusesRise, Taken, refuses_taken, rest_taken, sound_taken, takes_ahead}
+use Rattle.slate_read.specs.OperatorIterators.{IsOwn}
+use Rattle.slate_read.specs.Peeking.{TakesAhead, with_ahead}
+use Rattle.slate_read.specs.Turns.{both}
+
+pub not_risen : (barrier : Option ℕ) (r s : RowEntry) → outranks r s ≡ false → rises barrier r s ≡ false
+not_risen barrier r s e = by (is_open barrier r) (outranks r s) e
+  where
+    by : (a b : Bool) → b ≡ false → (a && b) ≡ false
+    by true b h = h
+    by false b h = refl
+
+-- a row that isn't folded is risen above by none
+pub unrisen : (barrier : Option ℕ) (r : RowEntry) (rows : List RowEntry) → is_open barrier r ≡ false → begins_linked (rises barrier) r rows ≡ false
+unrisen barrier r [] e = refl
+unrisen barrier r (s ∷ rows) e = ap (λ b. b && outranks r s) e
+
+pub is_risen : (barrier : Option ℕ) (r s : RowEntry) → is_open barrier r ≡ true → outranks r s ≡ true → rises barrier r s ≡ true
+is_risen barrier r s opened above = (λ i. opened i && outranks r s) ∙ above
+
+risen_less : (barrier : Option ℕ) (r s : RowEntry) → rises barrier r s ≡ true → r.seq < s.seq
+risen_less barrier r s e = less r.seq s.seq (and_right _ (nat_lt r.seq s.seq) (and_right (is_open barrier r) _ e))
+  where
+    less : (m n : ℕ) → nat_lt m n ≡ true → m < n
+    less m n h = grind (arith, nat_tests, h)
+
+-- ---- lists of rows
+
+pub none_rises_behind : (barrier : Option ℕ) (front rows : List RowEntry) → NoneRises barrier (front ++ rows) → NoneRises barrier rows
+none_rises_behind barrier [] rows h = h
+none_rises_behind barrier (r ∷ front) rows h = none_rises_behind barrier front rows h.1
+
+-- a seek takes rows off
+pub none_rises_dropped : (barrier : Option ℕ) (order : IterationOrder) (key : List ℕ) (rows : List RowEntry) → NoneRises barrier rows → NoneRises barrier (drop_before order key rows)
+none_rises_dropped barrier order key [] h = tt
+none_rises_dropped barrier order key (r ∷ rows) h = elim (both (comes_before order r.key key)) as (λ _. NoneRises barrier (drop_before order key (r ∷ rows))) [
+  | inl e ↦ rw e (none_rises_dropped barrier order key rows h.1)
+  | inr e ↦ rw e h
+]
+
+pub none_rises_more : (barrier : Option ℕ) (rows : List RowEntry) (r s : RowEntry) → NoneRises barrier (rows ++ (r ∷ [])) → rises barrier r s ≡ false → NoneRises barrier ((rows ++ (r ∷ [])) ++ (s ∷ []))
+none_rises_more barrier [] r s h e = (e, (refl, tt))
+none_rises_more barrier (x ∷ []) r s h e = (h.0, none_rises_more barrier [] r s h.1 e)
+none_rises_more barrier (x ∷ y ∷ rows) r s h e = (h.0, none_rises_more barrier (y ∷ rows) r s h.1 e)
+
+-- rows that are folded, and the one behind them
+pub gathered_falls : (different : Bool) (barrier : Option ℕ) (newer : List RowEntry) (oldest : RowEntry) (more : List RowEntry) → NoneRises barrier (newer ++ (oldest ∷ [])) →
+    begins_linked (rises barrier) oldest more ≡ false → begins_linked (links different barrier) oldest more ≡ false → FoldFalls different barrier (newer ++ (oldest ∷ more))
+gathered_falls different barrier [] oldest more h e apart = (e, λ is. (let never : true ≡ false = sym is ∙ apart in cc))
+gathered_falls different barrier (r ∷ []) oldest more h e apart = (h.0, λ is. gathered_falls different barrier [] oldest more h.1 e apart)
+gathered_falls different barrier (r ∷ s ∷ rows) oldest more h e apart = (h.0, λ is. gathered_falls different barrier (s ∷ rows) oldest more h.1 e apart)
+
+-- a row that isn't folded
+pub through_falls : (different : Bool) (barrier : Option ℕ) (r : RowEntry) (rows : List RowEntry) → is_open barrier r ≡ false → FoldFalls different barrier (r ∷ rows)
+through_falls different barrier r rows e = (unrisen barrier r rows e, λ is. (let never : true ≡ false = sym is ∙ unlinked different barrier r rows e in cc))
+
+-- ---- rows that were gathered behind the first one
+
+pub record Gathering {S : Type 0} (rest : S → World → List RowEntry) (sound : S → World → Type 0) (refuses : S → Meaning → List Act → Option (List ℕ) → SlateDBError → Type 0) (takes : S → Meaning → List Act → Option RowEntry → S → Type 0)
+    (a b : Reach) (x y : S) (first : RowEntry) (rows : List RowEntry) : Type 0 where
+  pub given : List RowEntry
+  pub are : rows ≡ first ∷ given
+  pub walked : Walked rest sound refuses takes a b x y given
+
+module _ {S : Type 0} (rest : S → World → List RowEntry) (sound : S → World → Type 0) (refuses : S → Meaning → List Act → Option (List ℕ) → SlateDBError → Type 0) (takes : S → Meaning → List Act → Option RowEntry → S → Type 0) where
+  pub gathering_none : (a : Reach) (x : S) (first : RowEntry) → Gathering rest sound refuses takes a a x x first (first ∷ [])
+  gathering_none a x first = record { given = []; are = refl; walked = walked_none rest sound refuses takes a x }
+
+  pub gathering_on : (a b c : Reach) (x y z : S) (first row : RowEntry) (rows : List RowEntry) → Gathering rest sound refuses takes a b x y first rows → Step rest sound refuses takes b c y (Some row) z → OnlyReads b c →
+      Gathering rest sound refuses takes a c x z first (rows ++ (row ∷ []))
+  gathering_on a b c x y z first row rows g s reads = record {
+    given = g.given ++ (row ∷ []);
+    are = ap (λ (l : List RowEntry). l ++ (row ∷ [])) g.are;
+    walked = walked_on rest sound refuses takes a b c x y z g.given row g.walked s reads;
+  }
+
+  -- the next row rises
+  pub gathering_rises : (different : Bool) (barrier : Option ℕ) (a b c : Reach) (x y z : S) (first oldest row : RowEntry) (newer : List RowEntry) → Gathering rest sound refuses takes a b x y first (newer ++ (oldest ∷ [])) → AreLinked (links different barrier) newer oldest →
+      Step rest sound refuses takes b c y (Some row) z → OnlyReads b c → is_open barrier oldest ≡ true → outranks oldest row ≡ true →
+      Made a c (λ reads. MeetsRise (λ u rs o v. takes u a.meaning rs o v) different barrier (Some first) reads x z (InvalidSequenceOrder oldest.seq row.seq))
+  gathering_rises different barrier a b c x y z first oldest row newer g linked s reads opened above =
+      let on = gathering_on a b c x y z first row (newer ++ (oldest ∷ [])) g s reads in (
+        on.walked.made.0,
+        on.walked.made.1,
+        (
+          on.given,
+          on.walked.made.2.1,
+          record {
+            newer = newer;
+            oldest = oldest;
+            row = row;
+            are = sym on.are ∙ append_assoc newer (oldest ∷ []) (row ∷ []);
+            linked = linked;
+            rises = is_risen barrier oldest row opened above;
+            refusal = refl;
+          },
+        ),
+      )
+
+module _ {S : Type 0} (rest : S → World → List RowEntry) (sound : S → World → Type 0) (refuses : S → Meaning → List Act → Option (List ℕ) → SlateDBError → Type 0) (order_of : S → IterationOrder) where
+  -- no row rises in a world in which none does
+  pub never_rises : {A : Type 0} (takes : S → Meaning → List Act → Option RowEntry → S → Type 0) (barrier : Option ℕ) (oldest row : RowEntry) (newer : List RowEntry) (a b c : Reach) (z : Taken S) (x y : S) →
+      Moves (rest_taken rest) (sound_taken rest sound order_of) (refuses_taken refuses) a b z (x, None, newer ++ (oldest ∷ [])) → Step rest sound refuses takes b c x (Some row) y → is_open barrier oldest ≡ true → outranks oldest row ≡ true →
+      (w : World) → Sees w a c → sound_taken rest sound order_of z w → NoneRises barrier (rest_taken rest z w) → A
+  never_rises takes barrier oldest row newer a b c z x y m s opened above w sees h falls =
+      let first : Sees w a b = sees_first w a b c m.made.0 s.taken.0 m.made.1 s.taken.1 sees in
+      let last : Sees w b c = sees_last w a b c m.made.0 s.taken.0 m.made.1 s.taken.1 sees in
+      let came : (newer ++ (oldest ∷ [])) ++ (row ∷ rest y w) ≡ rest_taken rest z w = ap (λ (l : List RowEntry). (newer ++ (oldest ∷ [])) ++ l) (sym (s.rows w last (m.still w first h).0)) ∙ m.rows w first h in
+      let here : NoneRises barrier (newer ++ (oldest ∷ row ∷ rest y w)) = subst (NoneRises barrier) (append_assoc newer (oldest ∷ []) (row ∷ rest y w)) (subst (NoneRises barrier) (sym came) falls) in
+      let no : rises barrier oldest row ≡ false = (none_rises_behind barrier newer (oldest ∷ row ∷ rest y w) here).0 in
+      let never : true ≡ false = sym (is_risen barrier oldest row opened above) ∙ no in cc
+
+  -- the source is spent
+  pub spent_rest : (takes : S → Meaning → List Act → Option RowEntry → S → Type 0) (a b c : Reach) (z : Taken S) (x y : S) (taken : List RowEntry) → Moves (rest_taken rest) (sound_taken rest sound order_of) (refuses_taken refuses) a b z (x, None, taken) →
+      Step rest sound refuses takes b c x None y → (w : World) → Sees w a c → sound_taken rest sound order_of z w → rest y w ≡ []
+  spent_rest takes a b c z x y taken m s w sees h =
+      (s.rows w (sees_last w a b c m.made.0 s.taken.0 m.made.1 s.taken.1 sees) (m.still w (sees_first w a b c m.made.0 s.taken.0 m.made.1 s.taken.1 sees) h).0).1
+
+  -- the refusal of the source behind the first row is that of the source
+  pub own_behind : (a b c : Reach) (x : Taken S) (y : S) (ahead : Option RowEntry) (taken : List RowEntry) (e : SlateDBError) → Moves (rest_taken rest) (sound_taken rest sound order_of) (refuses_taken refuses) a b x (y, ahead, taken) → IsLater a.faults b.faults →
+      IsOwn refuses b c y e → IsOwn refuses a c x.0 e
+  own_behind a b c x y ahead taken e m later (inl k) = inl (fault_earlier a b c e later k)
+  own_behind a b c x y ahead taken e m later (inr k) = inr (
+    m.made.0 ++ k.0,
+    call_both a b c m.made.0 k.0 m.made.1 k.1,
+    m.made.2 k.0 None e (subst (λ (p : Meaning). refuses y p k.0 None e) m.made.1.meaning k.2),
+  )
+
+-- ---- refusals
+
+not_order : {A : Type 0} (i j : Counts) (e : SlateDBError) (current next : ℕ) → e ≡ InvalidSequenceOrder current next → IsCounted i j e → A
+not_order i j e current next is k = let no : ⊥ = subst (IsCounted i j) is k in absurd no
+
+not_missing : {A : Type 0} (i j : Counts) (e : SlateDBError) → e ≡ MergeOperatorMissing → IsCounted i j e → A
+not_missing i j e m k = let no : ⊥ = subst (IsCounted i j) m k in absurd no
+
+pub fault_blames : {own opens rising : Type 0} (a b : Reach) (e : SlateDBError) → IsFault a b e → Blames e own opens rising
+fault_blames a b e k = (λ m. not_missing a.faults b.faults e m k, λ current next is. not_order a.faults b.faults e current next is k)
+
+pub own_blames : {own opens rising : Type 0} (e : SlateDBError) → own → Blames e own opens rising
+own_blames e k = (λ m. inl k, λ current next is. inl k)
+
+module _ {S : Type 0} (takes : S → List Act → Option RowEntry → S → Type 0) (different : Bool) (barrier : Option ℕ) where
+  pub rise_refused : (m : Meaning) (ahead : Option RowEntry) (reads : List Act) (x y : S) (e : SlateDBError) → (m.combine ≡ None → ⊥) → MeetsRise takes different barrier ahead reads x y e → RefusesRise m None e
+  rise_refused m ahead reads x y e some (given, came, ends) = (refl, some, subst IsRise (sym ends.refusal) (risen_less barrier ends.oldest ends.row ends.rises))
+
+  pub rise_blames : {own opens : Type 0} (ahead : Option RowEntry) (reads : List Act) (x y : S) (e : SlateDBError) → MeetsRise takes different barrier ahead reads x y e → Blames e own opens (MeetsRise takes different barrier ahead reads x y e)
+  rise_blames ahead reads x y e met = (λ m. (let never = sym m ∙ met.2.refusal in cc), λ current next is. inr met)
+
+  -- the first row was read ahead, or the source gave it
+  pub rise_behind : (ahead : Option RowEntry) (first : RowEntry) (reads more : List Act) (x y z : S) (e : SlateDBError) → TakesAhead takes ahead reads (Some first) x y → MeetsRise takes different barrier (Some first) more y z e →
+      MeetsRise takes different barrier ahead (reads ++ more) x z e
+  rise_behind None first reads more x y z e t (given, came, ends) = (first ∷ given, (y, reads, more, refl, t, came), ends)
+  rise_behind (Some row) first reads more x y z e (is, none, same) (given, came, ends) = (
+    given,
+    subst (λ (l : List Act). Takes takes x l given z) (ap (λ (l : List Act). l ++ more) (sym none)) (subst (λ (u : S). Takes takes u more given z) same came),
+    subst (λ (o : Option RowEntry). EndsByRise different barrier (with_ahead o given) e) is ends,
+  )
+
+-- the source refuses
+pub or_rising : {A B C : Type 0} → A ⊎ B → A ⊎ (B ⊎ C)
+or_rising (inl h) = inl h
+or_rising (inr h) = inr (inl h)
+
+-- what comes behind the first row is refused
+pub gathered_blames : {S : Type 0} (rest : S → World → List RowEntry) (sound : S → World → Type 0) (refuses : S → Meaning → List Act → Option (List ℕ) → SlateDBError → Type 0) (order_of : S → IterationOrder) (takes : S → Meaning → List Act → Option RowEntry → S → Type 0)
+    (different : Bool) (barrier : Option ℕ) (a b c : Reach) (x y z : S) (ahead : Option RowEntry) (first : RowEntry) (e : SlateDBError) →
+    Step (rest_taken rest) (sound_taken rest sound order_of) (refuses_taken refuses) (takes_ahead takes) a b (x, ahead, []) (Some first) (y, None, []) → IsLater a.faults b.faults → (a.meaning.combine ≡ None → ⊥) →
+    Made b c (λ reads. IsFault b c e ⊎ (refuses y b.meaning reads None e ⊎ MeetsRise (λ u rs o v. takes u b.meaning rs o v) different barrier (Some first) reads y z e)) →
+    Made a c (λ reads. (IsFault a c e ⊎ (refuses x a.meaning reads None e ⊎ RefusesFold a.meaning None e))
+    × BlamesNext refuses takes different barrier ahead a.meaning reads None e x z)
+gathered_blames {S} rest sound refuses order_of takes different barrier a b c x y z ahead first e s later some made = (s.taken.0 ++ made.0, call_both a b c s.taken.0 made.0 s.taken.1 made.1, by made.2)
+  where
+    by : IsFault b c e ⊎ (refuses y b.meaning made.0 None e ⊎ MeetsRise (λ u rs o v. takes u b.meaning rs o v) different barrier (Some first) made.0 y z e) →
+        (IsFault a c e ⊎ (refuses x a.meaning (s.taken.0 ++ made.0) None e ⊎ RefusesFold a.meaning None e))
+        × BlamesNext refuses takes different barrier ahead a.meaning (s.taken.0 ++ made.0) None e x z
+    by (inl k) = let here = fault_earlier a b c e later k in (inl here, fault_blames a c e here)
+    by (inr (inl k)) = let here = s.taken.2.1 made.0 None e (subst (λ (p : Meaning). refuses y p made.0 None e) s.taken.1.meaning k) in (inr (inl here), own_blames e here)
+    by (inr (inr k)) =
+        let takes_now : S → List Act → Option RowEntry → S → Type 0 = λ u rs o v. takes u a.meaning rs o v in
+        let met = rise_behind takes_now different barrier ahead first s.taken.0 made.0 x y z e s.taken.2.0 (subst (λ (p : Meaning). MeetsRise (λ u rs o v. takes u p rs o v) different barrier (Some first) made.0 y z e) s.taken.1.meaning k) in
+        (inr (inr (inr (rise_refused takes_now different barrier a.meaning ahead (s.taken.0 ++ made.0) x z e some met))), rise_blames takes_now different barrier ahead (s.taken.0 ++ made.0) x z e met)

@@ -1,0 +1,47 @@
+use Rattle.std.proofs.lemmas.Result.{IfErr-weaker, on_ok_weaker}
+use Rattle.slate_read.proofs.read_source.ReadSourceRowEntryIteratorEnv.init.Goals as goal
+
+pub returns-in-Internal : goal.returns-in-Internal
+returns-in-Internal g c = record {
+  rows = rw c.in-Internal.is c.init-in-Internal.ensures.rows;
+  still = rw c.in-Internal.is c.init-in-Internal.ensures.still;
+  checked = rw c.in-Internal.is c.init-in-Internal.ensures.checked;
+  ready = c.init-in-Internal.ensures.ready;
+  begun = rw c.in-Internal.is (on_ok_weaker c.init-in-Internal.result (λ k. (k.0, k.1, (tt, k.2.1))) c.init-in-Internal.ensures.begun);
+  cause = rw c.in-Internal.is (IfErr-weaker c.init-in-Internal.result _ _ (λ e k. (k.0, k.1, (k.2.0, tt, k.2.2))) c.init-in-Internal.ensures.cause);
+  no_larger = rw c.in-Internal.is c.init-in-Internal.ensures.no_larger;
+  order = rw c.in-Internal.is c.init-in-Internal.ensures.order;
+  reads = c.init-in-Internal.ensures.reads;
+}
+
+pub returns-in-Table : goal.returns-in-Table
+returns-in-Table g c = record {
+  rows = rw c.in-Table.is c.init-in-Table.ensures.rows;
+  still = rw c.in-Table.is c.init-in-Table.ensures.still;
+  checked = rw c.in-Table.is c.init-in-Table.ensures.checked;
+  ready = c.init-in-Table.ensures.ready;
+  begun = rw c.in-Table.is (on_ok_weaker c.init-in-Table.result (λ k. (k.0, k.1, (tt, k.2.1))) c.init-in-Table.ensures.begun);
+  cause = rw c.in-Table.is (IfErr-weaker c.init-in-Table.result _ _ (λ e k. (k.0, k.1, (k.2.0, tt, k.2.2))) c.init-in-Table.ensures.cause);
+  no_larger = rw c.in-Table.is c.init-in-Table.ensures.no_larger;
+  order = rw c.in-Table.is c.init-in-Table.ensures.order;
+  reads = c.init-in-Table.ensures.reads;
+}
+
+pub returns-in-Run : goal.returns-in-Run
+returns-in-Run g c = record {
+  rows = rw c.in-Run.is c.init-in-Run.ensures.rows;
+  still = rw c.in-Run.is c.init-in-Run.ensures.still;
+  checked = rw c.in-Run.is c.init-in-Run.ensures.checked;
+  ready = c.init-in-Run.ensures.ready;
+  begun = rw c.in-Run.is (on_ok_weaker c.init-in-Run.result (λ k. (k.0, k.1, (tt, k.2.1))) c.init-in-Run.ensures.begun);
+  cause = rw c.in-Run.is (IfErr-weaker c.init-in-Run.result _ _ (λ e k. (k.0, k.1, (k.2.0, tt, k.2.2))) c.init-in-Run.ensures.cause);
+  no_larger = rw c.in-Run.is c.init-in-Run.ensures.no_larger;
+  order = rw c.in-Run.is c.init-in-Run.ensures.order;
+  reads = c.init-in-Run.ensures.reads;
+}
+
+pub returns-in-Batch-clause-checked : goal.returns-in-Batch-clause-checked
+returns-in-Batch-clause-checked g c = rw c.in-Batch.is c.init-in-Batch.ensures.checked
+
+pub returns-in-Memory-clause-checked : goal.returns-in-Memory-clause-checked
+returns-in-Memory-clause-checked g c = rw c.in-Memory.is c.init-in-Memory.ensures.checked

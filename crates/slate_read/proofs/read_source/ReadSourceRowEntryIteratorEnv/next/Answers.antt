@@ -1,0 +1,47 @@
+use Rattle.std.proofs.lemmas.Result.{IfErr-weaker, IfOk-weaker}
+use Rattle.slate_read.proofs.read_source.ReadSourceRowEntryIteratorEnv.next.Goals as goal
+
+pub returns-in-Internal : goal.returns-in-Internal
+returns-in-Internal g c = record {
+  rows = rw c.in-Internal.is c.next-in-Internal.ensures.rows;
+  still = rw c.in-Internal.is c.next-in-Internal.ensures.still;
+  checked = rw c.in-Internal.is c.next-in-Internal.ensures.checked;
+  taken = rw c.in-Internal.is (IfOk-weaker c.next-in-Internal.result _ _ (λ answer k. (k.0, k.1, (tt, k.2.1))) c.next-in-Internal.ensures.taken);
+  cause = rw c.in-Internal.is (IfErr-weaker c.next-in-Internal.result _ _ (λ e k. (k.0, k.1, (k.2.0, tt, k.2.2))) c.next-in-Internal.ensures.cause);
+  smaller = rw c.in-Internal.is c.next-in-Internal.ensures.smaller;
+  no_larger = rw c.in-Internal.is c.next-in-Internal.ensures.no_larger;
+  order = rw c.in-Internal.is c.next-in-Internal.ensures.order;
+  reads = c.next-in-Internal.ensures.reads;
+}
+
+pub returns-in-Table : goal.returns-in-Table
+returns-in-Table g c = record {
+  rows = rw c.in-Table.is c.next-in-Table.ensures.rows;
+  still = rw c.in-Table.is c.next-in-Table.ensures.still;
+  checked = rw c.in-Table.is c.next-in-Table.ensures.checked;
+  taken = rw c.in-Table.is (IfOk-weaker c.next-in-Table.result _ _ (λ answer k. (k.0, k.1, (tt, k.2.1))) c.next-in-Table.ensures.taken);
+  cause = rw c.in-Table.is (IfErr-weaker c.next-in-Table.result _ _ (λ e k. (k.0, k.1, (k.2.0, tt, k.2.2))) c.next-in-Table.ensures.cause);
+  smaller = rw c.in-Table.is c.next-in-Table.ensures.smaller;
+  no_larger = rw c.in-Table.is c.next-in-Table.ensures.no_larger;
+  order = rw c.in-Table.is c.next-in-Table.ensures.order;
+  reads = c.next-in-Table.ensures.reads;
+}
+
+pub returns-in-Run : goal.returns-in-Run
+returns-in-Run g c = record {
+  rows = rw c.in-Run.is c.next-in-Run.ensures.rows;
+  still = rw c.in-Run.is c.next-in-Run.ensures.still;
+  checked = rw c.in-Run.is c.next-in-Run.ensures.checked;
+  taken = rw c.in-Run.is (IfOk-weaker c.next-in-Run.result _ _ (λ answer k. (k.0, k.1, (tt, k.2.1))) c.next-in-Run.ensures.taken);
+  cause = rw c.in-Run.is (IfErr-weaker c.next-in-Run.result _ _ (λ e k. (k.0, k.1, (k.2.0, tt, k.2.2))) c.next-in-Run.ensures.cause);
+  smaller = rw c.in-Run.is c.next-in-Run.ensures.smaller;
+  no_larger = rw c.in-Run.is c.next-in-Run.ensures.no_larger;
+  order = rw c.in-Run.is c.next-in-Run.ensures.order;
+  reads = c.next-in-Run.ensures.reads;
+}
+
+pub returns-in-Batch-clause-checked : goal.returns-in-Batch-clause-checked
+returns-in-Batch-clause-checked g c = rw c.in-Batch.is c.next-in-Batch.ensures.checked
+
+pub returns-in-Memory-clause-checked : goal.returns-in-Memory-clause-checked
+returns-in-Memory-clause-checked g c = rw c.in-Memory.is c.next-in-Memory.ensures.checked

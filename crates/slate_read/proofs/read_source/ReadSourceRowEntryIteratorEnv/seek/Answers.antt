@@ -1,0 +1,50 @@
+use Rattle.std.proofs.lemmas.Result.{IfErr-weaker, on_ok_weaker}
+use Rattle.slate_read.proofs.read_source.ReadSourceRowEntryIteratorEnv.seek.Goals as goal
+
+pub returns-in-Internal : goal.returns-in-Internal
+returns-in-Internal g c = record {
+  rows = rw c.in-Internal.is c.seek-in-Internal.ensures.rows;
+  still = rw c.in-Internal.is c.seek-in-Internal.ensures.still;
+  checked = rw c.in-Internal.is c.seek-in-Internal.ensures.checked;
+  sought = rw c.in-Internal.is (on_ok_weaker c.seek-in-Internal.result (λ k. (k.0, k.1, (tt, k.2.1))) c.seek-in-Internal.ensures.sought);
+  cause = rw c.in-Internal.is (IfErr-weaker c.seek-in-Internal.result _ _ (λ e k. (k.0, k.1, (k.2.0, tt, k.2.2))) c.seek-in-Internal.ensures.cause);
+  no_larger = rw c.in-Internal.is c.seek-in-Internal.ensures.no_larger;
+  order = rw c.in-Internal.is c.seek-in-Internal.ensures.order;
+  reads = c.seek-in-Internal.ensures.reads;
+}
+
+pub returns-in-Table : goal.returns-in-Table
+returns-in-Table g c = record {
+  rows = rw c.in-Table.is c.seek-in-Table.ensures.rows;
+  still = rw c.in-Table.is c.seek-in-Table.ensures.still;
+  checked = rw c.in-Table.is c.seek-in-Table.ensures.checked;
+  sought = rw c.in-Table.is (on_ok_weaker c.seek-in-Table.result (λ k. (k.0, k.1, (tt, k.2.1))) c.seek-in-Table.ensures.sought);
+  cause = rw c.in-Table.is (IfErr-weaker c.seek-in-Table.result _ _ (λ e k. (k.0, k.1, (k.2.0, tt, k.2.2))) c.seek-in-Table.ensures.cause);
+  no_larger = rw c.in-Table.is c.seek-in-Table.ensures.no_larger;
+  order = rw c.in-Table.is c.seek-in-Table.ensures.order;
+  reads = c.seek-in-Table.ensures.reads;
+}
+
+pub returns-in-Run : goal.returns-in-Run
+returns-in-Run g c = record {
+  rows = rw c.in-Run.is c.seek-in-Run.ensures.rows;
+  still = rw c.in-Run.is c.seek-in-Run.ensures.still;
+  checked = rw c.in-Run.is c.seek-in-Run.ensures.checked;
+  sought = rw c.in-Run.is (on_ok_weaker c.seek-in-Run.result (λ k. (k.0, k.1, (tt, k.2.1))) c.seek-in-Run.ensures.sought);
+  cause = rw c.in-Run.is (IfErr-weaker c.seek-in-Run.result _ _ (λ e k. (k.0, k.1, (k.2.0, tt, k.2.2))) c.seek-in-Run.ensures.cause);
+  no_larger = rw c.in-Run.is c.seek-in-Run.ensures.no_larger;
+  order = rw c.in-Run.is c.seek-in-Run.ensures.order;
+  reads = c.seek-in-Run.ensures.reads;
+}
+
+pub returns-in-Batch-clause-still : goal.returns-in-Batch-clause-still
+returns-in-Batch-clause-still g c = rw c.in-Batch.is c.seek-in-Batch.ensures.still
+
+pub returns-in-Batch-clause-checked : goal.returns-in-Batch-clause-checked
+returns-in-Batch-clause-checked g c = rw c.in-Batch.is c.seek-in-Batch.ensures.checked
+
+pub returns-in-Memory-clause-still : goal.returns-in-Memory-clause-still
+returns-in-Memory-clause-still g c = rw c.in-Memory.is c.seek-in-Memory.ensures.still
+
+pub returns-in-Memory-clause-checked : goal.returns-in-Memory-clause-checked
+returns-in-Memory-clause-checked g c = rw c.in-Memory.is c.seek-in-Memory.ensures.checked

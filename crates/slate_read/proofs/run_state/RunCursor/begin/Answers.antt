@@ -1,0 +1,21 @@
+use Rattle.std.proofs.Common.{◌∙◌, sym, arith}
+use Rattle.slate_types.proofs.Moves.{moves_none}
+use Rattle.slate_types.proofs.Reaching.{reads_none}
+use Rattle.slate_read.proofs.Runs.{begun_run, not_open}
+use Rattle.slate_read.proofs.run_state.RunCursor.begin.Goals as goal
+
+pub returns-then-is_some : goal.returns-then-is_some
+returns-then-is_some g c = record { moved = moves_none _ _ _ _ _; cause = tt; no_larger = omega arith; reads = reads_none _ }
+
+pub returns-in-Ok : goal.returns-in-Ok
+returns-in-Ok g c =
+    let closed = not_open c.args.self.now.current (sym c.is_some.ensures ∙ c.if-is_some.false) in
+    record {
+      moved = begun_run c.args.range.now c.args.order _ _ c.args.self.now c.open_next.new.self c.in-Ok.field-0 closed c.in-Ok.ensures.opened;
+      cause = tt;
+      no_larger = c.in-Ok.ensures.no_larger closed;
+      reads = c.in-Ok.ensures.reads;
+    }
+
+pub returns-in-Err : goal.returns-in-Err
+returns-in-Err g c = record { moved = tt; cause = c.in-Err.ensures.cause c.args.order; no_larger = tt; reads = c.in-Err.ensures.reads }

@@ -1,0 +1,11 @@
+use Rattle.std.proofs.Common.{refl}
+use Rattle.std.proofs.lemmas.Result.{on_ok_weaker}
+use Rattle.slate_read.proofs.RunOpen.{open_sought}
+use Rattle.slate_read.proofs.run_walk.skip_rows.Goals as goal
+
+pub returns-in-Some-clause-sought : goal.returns-in-Some-clause-sought
+returns-in-Some-clause-sought g c =
+    on_ok_weaker c.seek.result (λ k. open_sought c.args.order c.args.key.now _ _ c.args.current.now _ c.in-Some.table c.seek.new.self c.in-Some.is refl c.seek.ensures.table k) c.seek.ensures.sought
+
+pub returns-in-Some-clause-cause : goal.returns-in-Some-clause-cause
+returns-in-Some-clause-cause g c = rw c.in-Some.is c.seek.ensures.cause

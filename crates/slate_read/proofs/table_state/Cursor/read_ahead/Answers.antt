@@ -1,0 +1,42 @@
+use Rattle.std.proofs.Common.{refl, arith}
+use Rattle.std.proofs.lemmas.Result.{err_from_is_err_and, on_ok_weaker, IfErr-weaker}
+use Rattle.slate_types.proofs.Calls.{only_reads}
+use Rattle.slate_table.specs.IndexValue.{entries_of}
+use Rattle.slate_read.specs.TableWalk.{path_in}
+use Rattle.slate_read.proofs.Fetches.{blocks_fetched, blocks_refused, blocks_unkept}
+use Rattle.slate_read.proofs.Openings.{call_once, meaning_of}
+use Rattle.slate_read.proofs.ReadAhead.{next_within}
+use Rattle.slate_read.proofs.table_state.Cursor.read_ahead.Goals as goal
+
+pub returns-in_err-found : goal.returns-in_err-found
+unfolding path_in
+returns-in_err-found g c =
+    let p = err_from_is_err_and c.from_residual.result c.from_residual.ensures.1 in
+    let e = c.in_err-found.ensures in
+    let from = c.next_fetch-blocks.result.start in
+    let upto = c.next_fetch-blocks.result.end in
+    record {
+      fetched = rw p.1 tt;
+      cause = rw (p.1, p.2) (blocks_refused _ _ c.args.table.now (entries_of c.args.self.now.index) from upto c.args.order c.in_err-found.field-0.0 e.objects (meaning_of _ _ refl e.same_encoded e.same_decoded)
+          (next_within c.args.order c.args.self.now from upto c.next_fetch-blocks.ensures.next) e.once e.cause);
+      reads = only_reads _ _ _ (call_once _ _ _ _ _ e.objects (meaning_of _ _ refl e.same_encoded e.same_decoded) e.once).1 (record { store = e.later; operator = omega arith; transformer = e.later_transformer }) refl;
+    }
+
+pub returns : goal.returns
+unfolding path_in
+returns g c =
+    let e = c.in_ok-found.ensures in
+    let k = c.put_ready.ensures in
+    let from = c.next_fetch-blocks.result.start in
+    let upto = c.next_fetch-blocks.result.end in
+    let blocks = c.in_ok-found.found.items in
+    let made = blocks_fetched _ _ c.args.table.now (entries_of c.args.self.now.index) from upto blocks e.objects (meaning_of _ _ refl e.same_encoded e.same_decoded) e.count e.found in
+    record {
+      fetched = on_ok_weaker c.put_ready.result (λ ready. (
+        made.0,
+        made.1,
+        record { index = k.index; first = k.first; stop = k.stop; rows = k.rows; from = from; upto = upto; next = c.next_fetch-blocks.ensures; blocks = blocks; ready = ready; fetched = made.2 },
+      )) k.ready;
+      cause = IfErr-weaker c.put_ready.result _ _ (λ x m. blocks_unkept _ _ c.args.table.now (entries_of c.args.self.now.index) from upto blocks c.args.order x made m) k.cause;
+      reads = only_reads _ _ _ made.1 (record { store = e.later; operator = omega arith; transformer = e.later_transformer }) refl;
+    }

@@ -1,0 +1,59 @@
+-- The laws of an iterator that folds operands.
+use Rattle.std.proofs.Common.{inl, inr, ℕ, List, [], ◌++◌, Option, Some, None, Bool, subst}
+use Rattle.std.specs.List.{AllByRecursion}
+use Rattle.slate_types.specs.declared.error.SlateDBError.{SlateDBError}
+use Rattle.slate_types.specs.declared.error.SlateDBError.TheVariants.{InvalidSequenceOrder}
+use Rattle.slate_types.specs.declared.iter.IterationOrder.{IterationOrder}
+use Rattle.slate_types.specs.declared.types.RowEntry.{RowEntry}
+use Rattle.slate_types.specs.Fold.{operator_at}
+use Rattle.slate_types.specs.Iteration.{IsInOrder}
+use Rattle.slate_types.specs.Outside.{Act, Meaning}
+use Rattle.slate_types.specs.Refusing.{IsDamage}
+use Rattle.slate_types.specs.World.{World, AnswersWorld}
+use Rattle.slate_read.specs.declared.operator_iterator.MergeOperatorIterator.{MergeOperatorIterator}
+use Rattle.slate_read.specs.FoldedLaws.{folded_in_order}
+use Rattle.slate_read.specs.Folds.{IsRise, refuses_folds}
+use Rattle.slate_read.specs.OperatorIterators.{RefusesBy, SoundUnless, refuses_folding, rest_folding, rows_unless, sound_folding}
+use Rattle.slate_read.specs.Peeking.{with_ahead}
+
+rises_unless : (refusal : Option SlateDBError) (P : Type 0) (order : IterationOrder) (rows : List RowEntry) → (P → IsInOrder order rows) → SoundUnless refusal P → IsInOrder order (rows_unless refusal rows)
+rises_unless None P order rows f h = f h
+rises_unless (Some kept) P order rows f h = tt
+
+pub folding_rises : {S : Type 0} (rest : S → World → List RowEntry) (sound : S → World → Type 0) (order : S → IterationOrder) (it : MergeOperatorIterator S) (w : World) → sound_folding rest sound order it w → IsInOrder (order it.iterator) (rest_folding rest it w)
+folding_rises rest sound order it w h =
+    rises_unless it.refusal _ (order it.iterator) _ (λ k. folded_in_order (order it.iterator) (operator_at w.meaning.combine) it.folding.merge_different_expire_ts it.folding.snapshot_barrier_seq (with_ahead it.ahead (rest it.iterator w)) k.1) h
+
+more_by : (refusal : Option SlateDBError) (begun : Bool) (own more : SlateDBError → Type 0) (e : SlateDBError) → (own e → more e) → RefusesBy refusal begun own e → RefusesBy refusal begun more e
+more_by None begun own more e f (inl h) = inl h
+more_by None begun own more e f (inr h) = inr (f h)
+more_by (Some kept) begun own more e f h = h
+
+pub folding_more : {S : Type 0} (refuses : S → Meaning → List Act → Option (List ℕ) → SlateDBError → Type 0) → ((x : S) (m : Meaning) (done reads : List Act) (at : Option (List ℕ)) (e : SlateDBError) → refuses x m reads at e → refuses x m (done ++ reads) at e) →
+    (it : MergeOperatorIterator S) (m : Meaning) (done reads : List Act) (at : Option (List ℕ)) (e : SlateDBError) → refuses_folding refuses it m reads at e → refuses_folding refuses it m (done ++ reads) at e
+folding_more {S} refuses more it m done reads at e h =
+    more_by it.refusal it.begun (λ d. refuses_folds refuses (it.iterator, it.ahead, []) m reads at d) (λ d. refuses_folds refuses (it.iterator, it.ahead, []) m (done ++ reads) at d) e by h
+  where
+    by : refuses_folds {S = S} refuses (it.iterator, it.ahead, []) m reads at e → refuses_folds {S = S} refuses (it.iterator, it.ahead, []) m (done ++ reads) at e
+    by (inl k) = inl (more it.iterator m done reads at e k)
+    by (inr k) = inr k
+
+whole_by : (refusal : Option SlateDBError) (begun : Bool) (P : Type 0) (own : SlateDBError → Type 0) (e : SlateDBError) → (P → own e → ¬ IsDamage e) → SoundUnless refusal P → RefusesBy refusal begun own e → ¬ IsDamage e
+whole_by None begun P own e f s (inl h) = λ damage. subst IsDamage h.1 damage
+whole_by None begun P own e f s (inr h) = f s h
+whole_by (Some kept) begun P own e f s h = λ damage. s (subst IsDamage h.1 damage)
+
+pub rise_undamaged : (e : SlateDBError) → IsRise e → ¬ IsDamage e
+rise_undamaged (InvalidSequenceOrder current next) h = λ damage. damage
+rise_undamaged e h = absurd h
+
+pub folding_whole : {S : Type 0} (rest : S → World → List RowEntry) (sound : S → World → Type 0) (order : S → IterationOrder) (refuses : S → Meaning → List Act → Option (List ℕ) → SlateDBError → Type 0) →
+    ((x : S) (w : World) (reads : List Act) (at : Option (List ℕ)) (e : SlateDBError) → sound x w → AllByRecursion (AnswersWorld w) reads → refuses x w.meaning reads at e → ¬ IsDamage e) →
+    (it : MergeOperatorIterator S) (w : World) (reads : List Act) (at : Option (List ℕ)) (e : SlateDBError) → sound_folding rest sound order it w → AllByRecursion (AnswersWorld w) reads → refuses_folding refuses it w.meaning reads at e → ¬ IsDamage e
+folding_whole {S} rest sound order refuses whole it w reads at e s answered h =
+    whole_by it.refusal it.begun _ (λ d. refuses_folds refuses (it.iterator, it.ahead, []) w.meaning reads at d) e (λ k r. by k.0 r) s h
+  where
+    by : sound it.iterator w → refuses_folds {S = S} refuses (it.iterator, it.ahead, []) w.meaning reads at e → ¬ IsDamage e
+    by k (inl r) = whole it.iterator w reads at e k answered r
+    by k (inr (inl r)) = λ damage. subst IsDamage r.1 damage
+    by k (inr (inr r)) = rise_undamaged e r.2

@@ -1,0 +1,103 @@
+//! The rows of a stored table in a range, with the policies of its filters.
+ghost use Rattle.std.specs.Prelude.{◌≡◌, IfOk, IfErr, false};
+ghost use Rattle.slate_types.specs.declared.error.SlateDBError.{SlateDBError};
+ghost use Rattle.slate_types.specs.Keys.{is_refused};
+ghost use Rattle.slate_read.specs.SstIterators.{IsTableIterator, sst_bound, sst_refuses, sst_rest, sst_sound};
+ghost use Rattle.slate_read.specs.SstLaws.{sst_more, sst_rising, sst_whole};
+ghost use Rattle.slate_read.specs.NewestFirst.{Begins, IsGoing, IsUnrefused, Stays, is_below};
+ghost use Rattle.slate_read.specs.SstOptions.{CanFetch};
+
+use crate::internal_sst_iterator::InternalSstIterator;
+use crate::sst_iterator_options::SstIteratorOptions;
+use slate_filter::FilterPolicy;
+use slate_store::{Env, Store};
+use slate_table::SsTableHandle;
+use slate_types::{
+    BlockTransformer, BytesRange, IterationOrder, MergeOperator, RowEntry, RowEntryIterator,
+    SlateDBError,
+};
+use std::alloc::Global;
+use std::marker::PhantomData;
+
+/// The rows of a stored table in a range, in an order, the newest of each key first. Its filters aren't asked yet.
+#[derive(Drop)]
+pub struct SstIterator<'a> {
+    pub(crate) rows: InternalSstIterator,
+    /// The policies of filters are borrowed for as long as it is used. None is asked yet.
+    policies: PhantomData<&'a ()>,
+}
+
+impl<'a> SstIterator<'a> {
+    /// The rows of a table in a range. Nothing is read yet. `OutOfMemory` alone is refused.
+    pub fn new(
+        alloc: Global,
+        range: BytesRange,
+        table: SsTableHandle,
+        options: SstIteratorOptions,
+        policies: &'a [Box<dyn FilterPolicy>],
+    ) -> Result<SstIterator<'a>, SlateDBError>
+        requires range { is_refused range.start range.end ≡ false }
+        requires fetches { CanFetch options }
+        ensures rows { IfOk result (λ it. IsTableIterator range table options.order it.rows) }
+        ensures cause { IfErr result (λ e. e ≡ SlateDBError.OutOfMemory) }
+    {
+        let _policies = policies;
+        let rows = InternalSstIterator::new(alloc, range, table, options)?;
+        Ok(SstIterator {
+            rows,
+            policies: PhantomData,
+        })
+    }
+}
+
+impl<S: Store, M: MergeOperator, T: BlockTransformer> RowEntryIterator<Env<'_, S, M, T>>
+    for SstIterator<'_> {
+    ghost rest = { λ it w. sst_rest it.rows w };
+
+    ghost sound = { λ it w. sst_sound it.rows w };
+
+    ghost order = { λ it. it.rows.iterator.iterator.order };
+
+    ghost bound = { λ it. sst_bound it.rows };
+
+    ghost refuses = { λ it m reads at e. sst_refuses it.rows m reads at e };
+
+    ghost begins = { λ before _ _ after. IsUnrefused before.rows.progress × Begins before.rows.progress after.rows.progress × (after.rows.range ≡ before.rows.range) };
+
+    ghost takes = { λ before _ _ _ after. IsGoing before.rows.progress × IsGoing after.rows.progress × (after.rows.range ≡ before.rows.range) };
+
+    ghost seeks = { λ before _ _ key after. (is_below before.rows.range key ≡ false) × IsGoing before.rows.progress × IsGoing after.rows.progress × (after.rows.range ≡ before.rows.range) };
+
+    ghost stays = { λ before _ _ at e after. Stays before.rows at e after.rows };
+
+    ghost rising = { λ it w h. sst_rising it.rows w h };
+
+    ghost more = { λ it m done reads at e h. sst_more it.rows m done reads at e h };
+
+    ghost whole = { λ it w reads at e h k r. sst_whole it.rows w reads at e h k r };
+
+    fn iteration_order(&self) -> IterationOrder {
+        <InternalSstIterator as RowEntryIterator<Env<'_, S, M, T>>>::iteration_order(&self.rows)
+    }
+
+    fn init(&mut self, alloc: Global, env: &mut Env<'_, S, M, T>) -> Result<(), SlateDBError> {
+        self.rows.init(alloc, env)
+    }
+
+    fn next(
+        &mut self,
+        alloc: Global,
+        env: &mut Env<'_, S, M, T>,
+    ) -> Result<Option<RowEntry>, SlateDBError> {
+        self.rows.next(alloc, env)
+    }
+
+    fn seek(
+        &mut self,
+        alloc: Global,
+        key: &[u8],
+        env: &mut Env<'_, S, M, T>,
+    ) -> Result<(), SlateDBError> {
+        self.rows.seek(alloc, key, env)
+    }
+}
