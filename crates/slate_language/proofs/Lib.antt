@@ -1,0 +1,16 @@
+pub mod ParseLaws
+pub mod ParseOnly
+pub mod TokenLaws
+pub mod SpelledLaws
+pub mod OpLaws
+pub mod BuiltLaws
+pub mod TextLaws
+pub mod ShownLaws
+pub mod PartsLaws
+pub mod JoinLaws
+pub mod FilterLaws
+pub mod WordLaws
+pub mod LongRows
+pub mod GenerateLaws
+pub mod RoundLaws
+pub mod TallyLaws

@@ -1,0 +1,14 @@
+pub mod Text
+pub mod Grammar
+pub mod Parse
+pub mod Stage
+pub mod Built
+pub mod Replies
+pub mod Answers
+pub mod Parts
+pub mod ShortParts
+pub mod Generate
+pub mod Tally
+pub mod WorkedRows
+pub mod Words
+pub mod ScriptLaws
