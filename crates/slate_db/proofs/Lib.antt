@@ -1,0 +1,87 @@
+mod Lists
+mod ApartIds
+mod Journals
+mod Split
+mod Short
+mod Folds
+mod AllRows
+mod Kept
+mod Operands
+mod Asks
+pub mod Keeps
+mod Quiet
+pub mod RunsOf
+pub mod Logs
+mod LogViews
+mod MemoryLayers
+mod Wholes
+mod Calls
+mod Writes
+mod Puts
+mod Versions
+mod MemoryRows
+mod FoldFits
+mod FlushRows
+mod Cuts
+pub mod Runs
+mod Built
+mod Flushes
+mod Installs
+mod Seen
+mod Newest
+mod Walks
+mod Bases
+mod NoMerges
+mod Rises
+mod Gets
+mod Answered
+pub mod PathsApart
+mod Puttings
+mod RunSoFar
+pub mod Filtered
+mod Tables
+mod UnderOwn
+mod RunReads
+mod Blocks
+mod Damaged
+mod Causes
+pub mod Shown
+mod Sums
+mod Filters
+mod FlushLoads
+mod Loads
+mod Steps
+mod Notes
+mod Passing
+mod Foldings
+mod ScanStates
+mod ScanNotes
+mod Refused
+mod Plain
+mod Tests
+pub mod Managing
+pub mod TakenBack
+pub mod CommitSteps
+pub mod OwnRows
+pub mod Changes
+pub mod CommitWholes
+mod Commits
+pub mod Vouches
+mod ByKeys
+mod KeyRows
+mod ScanFolds
+mod Scans
+mod ScanSources
+mod ScanLists
+mod ScanRows
+mod ScanWorlds
+mod ScanTables
+mod SourceLists
+mod ScanReaders
+mod ScanOpenings
+mod ScanRefusals
+mod OpenNotes
+mod Readers
+mod ScanMerges
+pub mod RowDamage
+mod Serial

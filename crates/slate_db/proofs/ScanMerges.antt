@@ -1,0 +1,273 @@
+-- A scan that was opened: what it leaves, and what it may refuse for.
+use Rattle.std.proofs.Common.{◌≡◌, ◌≢◌, ◌⊎◌, inl, inr, ℕ, ◌≤◌, true, false, List, [], ◌∷◌, ◌++◌, map, filter, reverse, Option, Some, None, refl, sym, ap, subst, ◌∙◌}
+use Rattle.std.specs.Prelude.{IfErr, IfOk, Result, Ok, Err}
+use Rattle.std.specs.List.{AllByRecursion}
+use Rattle.slate_types.specs.declared.bytes_range.BytesRange.{BytesRange}
+use Rattle.slate_types.specs.declared.error.SlateDBError.{SlateDBError}
+use Rattle.slate_types.specs.declared.error.SlateDBError.TheVariants.{InvalidSequenceOrder, IteratorNotInitialized, OutOfMemory}
+use Rattle.slate_types.specs.declared.iter.IterationOrder.{IterationOrder}
+use Rattle.slate_types.specs.declared.types.RowEntry.{RowEntry}
+use Rattle.slate_types.specs.Fold.{operator_at}
+use Rattle.slate_types.specs.Iteration.{IsInOrder}
+use Rattle.slate_types.specs.Keys.{in_range}
+use Rattle.slate_types.specs.Outside.{Act, IsFault, Meaning, Objects, Reach}
+use Rattle.slate_types.specs.Refusing.{IsDamage, IsReady, NoMore}
+use Rattle.slate_types.specs.Steps.{Takes}
+use Rattle.slate_types.specs.World.{AnswersWorld, IsCall, Made, Sees, World}
+use Rattle.slate_types.proofs.Calls.{seen}
+use Rattle.slate_mem.specs.Batch.{Ops}
+use Rattle.slate_mem.specs.BatchModel.{holds_merge}
+use Rattle.slate_read.specs.declared.folding.Folding.{Folding}
+use Rattle.slate_read.specs.declared.merge_iterator.MergeState.{MergeState}
+use Rattle.slate_read.specs.declared.merge_iterator.MergeState.TheVariants.{Begun, New, Refused}
+use Rattle.slate_read.specs.Folding.{NoneRises, folded}
+use Rattle.slate_read.specs.Folds.{Blames, BlamesNext, IsRise, MeetsOpen, MeetsRise, RefusesFold}
+use Rattle.slate_read.specs.MergeLaws.{merged_in_order}
+use Rattle.slate_read.specs.Merging.{AnyByRecursion, blames, waiting_sources}
+use Rattle.slate_read.specs.MergeStateLaws.{any_weaker, merges}
+use Rattle.slate_read.specs.MergeStates.{IsFrontIn, IsMergeOf, WaitingAre, refuses_in}
+use Rattle.slate_read.specs.OperatorIterators.{IsFolding, IsGoing, IsOperable, Keeps, RefusesBy, Stays, StaysIn, refuses_folding, rest_folding}
+use Rattle.slate_read.specs.Peeking.{TakesAhead, with_ahead}
+use Rattle.slate_read.specs.declared.sorted_run.SortedRun.{SortedRun}
+use Rattle.slate_read.specs.ReadSources as read
+use Rattle.slate_txn.specs.Reads.{rows_seen}
+use Rattle.slate_db.specs.declared.scan.DbIterator.{DbIterator}
+use Rattle.slate_db.specs.declared.scan.ScanState.{ScanState}
+use Rattle.slate_db.specs.declared.scan.ScanState.TheVariants.{Walking}
+use Rattle.slate_db.specs.Installs.{handles_of}
+use Rattle.slate_db.specs.Log.{AreFine}
+use Rattle.slate_db.specs.Meaning.{rules_of}
+use Rattle.slate_db.specs.Model.{CoreModel, Rows}
+use Rattle.slate_db.specs.OpenScans.{AreScanSources, CanOpen, IsBlamedFor, folded_rows, merged_rows}
+use Rattle.slate_filter.specs.Policy.{Policy}
+use Rattle.slate_db.specs.Readable.{IsAnswered}
+use Rattle.slate_db.specs.Scans.{AreForIn, FoldsAll, IsFor, IsOpeningError, IsOperableIn, IsReached, IsRefusedByScan, IsScanRefusal, IsShownByScan, IsSoundIn, IsSoundSource, IsWorldOf, Leaves, MergedSources, RefusesIn, ScanRefuses, ScanSource, has_value, left_in, merge_refuses, merge_rows, order_of, source_refuses, source_rows}
+use Rattle.slate_db.specs.Sound.{AreBases}
+use Rattle.slate_db.specs.Whole.{IsWhole, Unseen}
+use Rattle.slate_db.proofs.Foldings.{bases_closed, closed_bases, going_refuses, refuses_going}
+use Rattle.slate_db.proofs.Runs.{all_handles}
+use Rattle.slate_db.proofs.ScanOpenings.{ScanOpens, scan_opens}
+use Rattle.slate_db.proofs.ScanRefusals.{IsShown, blamed_shows}
+use Rattle.slate_db.proofs.ScanFolds.{merged_falls}
+use Rattle.slate_db.proofs.ScanStates.{IsSound, Merged, OwnRefusal, operable_folds}
+use Rattle.slate_db.proofs.ScanWorlds.{sees_world}
+
+-- ---- a merge that was begun
+
+pub waiting_blamed : {S : Type 0} (refuses : S → Meaning → List Act → Option (List ℕ) → SlateDBError → Type 0) (sources : List S) (s : MergeState S) → WaitingAre sources s → (m : Meaning) (reads : List Act) (at : Option (List ℕ)) (e : SlateDBError) →
+    e ≢ IteratorNotInitialized → refuses_in refuses s m reads at e → (e ≢ IteratorNotInitialized) × blames refuses (waiting_sources sources) m reads at e
+waiting_blamed refuses sources (New waiting) is m reads at e begun (inl bad) = absurd (begun bad)
+waiting_blamed {S = S} refuses sources (New waiting) is m reads at e begun (inr b) = (begun, subst (λ (l : List S). blames refuses (waiting_sources l) m reads at e) is b)
+waiting_blamed refuses sources (Begun heads) is m reads at e begun h = absurd is
+waiting_blamed refuses sources (Refused k) is m reads at e begun h = absurd is
+
+-- what the refusal of an opening is blamed on
+pub refusal_blamed : {S : Type 0} (refuses : S → Meaning → List Act → Option (List ℕ) → SlateDBError → Type 0) (sources : List S) (s : MergeState S) → WaitingAre sources s → (a b : Reach) (error refusal : SlateDBError) →
+    ((refusal ≡ error) × (error ≢ IteratorNotInitialized)) ⊎ (refusal ≡ OutOfMemory) → (reads : List Act) → IsCall a b reads → IsFault a b error ⊎ refuses_in refuses s a.meaning reads None error →
+    Made a b (λ reads. IsFault a b refusal ⊎ ((refusal ≢ IteratorNotInitialized) × blames refuses (waiting_sources sources) a.meaning reads None refusal))
+refusal_blamed refuses sources s waits a b error refusal (inr memory) reads call cause = (reads, call, inl (subst (IsFault a b) (sym memory) tt))
+refusal_blamed refuses sources s waits a b error refusal (inl (same, begun)) reads call (inl fault) = (reads, call, inl (subst (IsFault a b) (sym same) fault))
+refusal_blamed refuses sources s waits a b error refusal (inl (same, begun)) reads call (inr r) =
+    (reads, call, inr (subst (λ (e : SlateDBError). (e ≢ IteratorNotInitialized) × blames refuses (waiting_sources sources) a.meaning reads None e) (sym same) (waiting_blamed refuses sources s waits a.meaning reads None error begun r)))
+
+no_rows : {A : Type 0} (newer : List RowEntry) (oldest : RowEntry) (rows : List RowEntry) → [] ≡ newer ++ (oldest ∷ rows) → A
+no_rows [] oldest rows is = cc
+no_rows (r ∷ newer) oldest rows is = cc
+
+blames_rise : {own opens rising : Type 0} (e : SlateDBError) → IsRise e → Blames e own opens rising → own ⊎ rising
+blames_rise (InvalidSequenceOrder current next) h blames = blames.1 current next refl
+blames_rise e h blames = absurd h
+
+-- ---- a new iterator over it
+
+module _ (sources : List ScanSource) (order : IterationOrder) (merge : MergedSources) (made : IsMergeOf sources order true merge) (it : Merged) (new : IsFolding merge (record { merge_different_expire_ts = true; snapshot_barrier_seq = None }) it) where
+  abbrev fresh : Merged
+  fresh = record { iterator = merge; folding = record { merge_different_expire_ts = true; snapshot_barrier_seq = None }; ahead = None; begun = false; refusal = None }
+
+  is_fresh : fresh ≡ it
+  is_fresh = sym (λ i. record { iterator = new.rows i; folding = new.folds i; ahead = new.none i; begun = new.unbegun i; refusal = new.unrefused i })
+
+  pub fresh_waits : WaitingAre sources it.iterator.state
+  fresh_waits = subst (λ (u : Merged). WaitingAre sources u.iterator.state) is_fresh made.waits
+
+  module _ (w : World) (can : AllByRecursion (CanOpen w order) sources) where
+    merge_is : merge_rows merge w ≡ merged_rows order w sources
+    merge_is = (merges source_rows IsSoundSource order_of w sources order _ merge made can).1
+
+    pub fresh_sound : IsSound it w
+    fresh_sound = subst (λ (u : Merged). IsSound u w) is_fresh (
+      (merges source_rows IsSoundSource order_of w sources order _ merge made can).0,
+      subst (λ (o : IterationOrder). IsInOrder o (merge_rows merge w)) (sym made.ordered) (subst (IsInOrder order) (sym merge_is) (merged_in_order order true (map (λ s. source_rows s w) sources))),
+    )
+
+    pub fresh_rows : rest_folding merge_rows it w ≡ folded_rows w.meaning order w sources
+    fresh_rows = ap (λ (u : Merged). rest_folding merge_rows u w) (sym is_fresh) ∙ ap (folded (operator_at w.meaning.combine) true None) merge_is
+
+    pub fresh_operable : (w.meaning.combine ≡ None → AreBases (merged_rows order w sources)) → IsOperable merge_rows it w
+    fresh_operable bases = subst (λ (u : Merged). IsOperable merge_rows u w) is_fresh (
+      λ none. bases_closed None (merge_rows merge w) (subst AreBases (sym merge_is) (bases none)),
+      subst (NoneRises None) (sym merge_is) (merged_falls order (map (λ s. source_rows s w) sources)),
+    )
+
+  pub opened_folds : (v : Merged) → v.folding ≡ it.folding → FoldsAll v
+  opened_folds v same = (ap (λ (f : Folding). f.merge_different_expire_ts) (same ∙ new.folds), ap (λ (f : Folding). f.snapshot_barrier_seq) (same ∙ new.folds))
+
+  pub opened_operable : (v : Merged) (w : World) → v.folding ≡ it.folding → IsOperable merge_rows v w → IsOperableIn (Walking v) w
+  opened_operable v w same h = operable_folds v w (opened_folds v same) h
+
+  pub opened_later : (v : Merged) (m : Meaning) (reads : List Act) → IsGoing v → IsReady (refuses_folding merge_refuses v m) → NoMore (merge_refuses it.iterator m) reads (merge_refuses v.iterator m) →
+      (later : List Act) (at : Option (List ℕ)) (e : SlateDBError) → merge_refuses v.iterator m later at e → IsBlamedFor sources m (reads ++ later) at e
+  opened_later v m reads going ready less later at e h =
+      waiting_blamed source_refuses sources it.iterator.state fresh_waits m (reads ++ later) at e
+      (λ is. ready later at (going_refuses (λ d. merge_refuses v.iterator m later at d ⊎ RefusesFold m at d) v IteratorNotInitialized going (inl (subst (merge_refuses v.iterator m later at) is h))))
+      (less later at e h)
+
+  not_waiting : {Q : Type 0} (answer : Option RowEntry) (s : MergeState ScanSource) → WaitingAre sources s → IsFrontIn answer s → Q
+  not_waiting answer (New waiting) is front = absurd front
+  not_waiting answer (Begun heads) is front = absurd is
+  not_waiting answer (Refused k) is front = absurd is
+
+  unbegun : (s : MergeState ScanSource) → WaitingAre sources s → (m : Meaning) (reads : List Act) (at : Option (List ℕ)) (e : SlateDBError) → e ≡ IteratorNotInitialized → refuses_in source_refuses s m reads at e
+  unbegun (New waiting) is m reads at e h = inl h
+  unbegun (Begun heads) is m reads at e h = absurd is
+  unbegun (Refused k) is m reads at e h = absurd is
+
+  abbrev BlamedOn : (MergedSources → Meaning → List Act → Option RowEntry → MergedSources → Type 0) → Meaning → List Act → SlateDBError → Merged → Type 0
+  BlamedOn takes m reads e v = BlamesNext merge_refuses takes it.folding.merge_different_expire_ts it.folding.snapshot_barrier_seq it.ahead m reads None e it.iterator v.iterator
+
+  -- an opening meets no operand
+  pub opening_own : (takes : MergedSources → Meaning → List Act → Option RowEntry → MergedSources → Type 0) → ((u v : MergedSources) (m : Meaning) (reads : List Act) (answer : Option RowEntry) → takes u m reads answer v → IsFrontIn answer u.state) →
+      (v : Merged) (a b : Reach) (reads : List Act) (e : SlateDBError) → Stays merge_refuses takes it a.meaning reads None e v → IsFault a b e ⊎ refuses_folding merge_refuses it a.meaning reads None e → IsFault a b e ⊎ refuses_in source_refuses it.iterator.state a.meaning reads None e
+  opening_own takes front v a b reads e stays (inl fault) = inl fault
+  opening_own takes front v a b reads e stays (inr r) = inr (by_fresh (subst (λ (u : Merged). RefusesBy u.refusal u.begun (λ d. refuses_in source_refuses it.iterator.state a.meaning reads None d ⊎ RefusesFold a.meaning None d) e) (sym is_fresh) r))
+    where
+      met : MeetsOpen (λ u rs answer x. takes u a.meaning rs answer x) it.folding.snapshot_barrier_seq it.ahead reads it.iterator v.iterator → refuses_in source_refuses it.iterator.state a.meaning reads None e
+      met (row, is_open_row, taken) = not_waiting (Some row) it.iterator.state fresh_waits (front it.iterator v.iterator a.meaning reads (Some row)
+          (subst (λ (ahead : Option RowEntry). TakesAhead (λ u rs answer x. takes u a.meaning rs answer x) ahead reads (Some row) it.iterator v.iterator) new.none taken))
+
+      risen : MeetsRise (λ u rs answer x. takes u a.meaning rs answer x) it.folding.merge_different_expire_ts it.folding.snapshot_barrier_seq it.ahead reads it.iterator v.iterator e → refuses_in source_refuses it.iterator.state a.meaning reads None e
+      risen (given, came, ends) = first given came (subst (λ (ahead : Option RowEntry). with_ahead ahead given ≡ ends.newer ++ (ends.oldest ∷ ends.row ∷ [])) new.none ends.are)
+        where
+          first : (rows : List RowEntry) → Takes (λ u rs answer x. takes u a.meaning rs answer x) it.iterator reads rows v.iterator → rows ≡ ends.newer ++ (ends.oldest ∷ ends.row ∷ []) → refuses_in source_refuses it.iterator.state a.meaning reads None e
+          first [] t is = no_rows ends.newer ends.oldest (ends.row ∷ []) is
+          first (row ∷ rows) t is = not_waiting (Some row) it.iterator.state fresh_waits (front it.iterator t.0 a.meaning t.1 (Some row) t.4)
+
+      stayed : StaysIn None false None e ((reads ≡ []) × (v ≡ it)) (Keeps e v × BlamedOn takes a.meaning reads e v) → RefusesFold a.meaning None e → refuses_in source_refuses it.iterator.state a.meaning reads None e
+      stayed (inl s) refused = unbegun it.iterator.state fresh_waits a.meaning reads None e s.1
+      stayed (inr s) (inl missing) = elim (s.1.1.0 missing.1) [ inl own ↦ own | inr meets ↦ met meets ]
+      stayed (inr s) (inr rising) = elim (blames_rise e rising.2 s.1.1) [ inl own ↦ own | inr meets ↦ risen meets ]
+
+      by_fresh : ((false ≡ false) × (e ≡ IteratorNotInitialized)) ⊎ (refuses_in source_refuses it.iterator.state a.meaning reads None e ⊎ RefusesFold a.meaning None e) → refuses_in source_refuses it.iterator.state a.meaning reads None e
+      by_fresh (inl h) = unbegun it.iterator.state fresh_waits a.meaning reads None e h.1
+      by_fresh (inr (inl h)) = h
+      by_fresh (inr (inr h)) = stayed (subst (λ (u : Merged). StaysIn u.refusal u.begun None e ((reads ≡ []) × (v ≡ it)) (Keeps e v × BlamedOn takes a.meaning reads e v)) (sym is_fresh) stays) h
+
+-- ---- what is left
+
+module _ (os : Objects) (m : Meaning) (c : CoreModel) (n : ℕ) (ops : Ops) (range : BytesRange) (order : IterationOrder) (sources : List ScanSource) where
+  pub opened_leaves : (o : ScanOpens os m c n ops range order sources) (rows : Merged) (it : DbIterator) → it.state ≡ Walking rows → it.range ≡ range → it.order ≡ order → IsGoing rows × FoldsAll rows × (rows.iterator.order ≡ order) →
+      IsSound rows o.world → rest_folding merge_rows rows o.world ≡ folded_rows o.world.meaning order o.world sources → IsOperableIn (Walking rows) o.world → AreForIn range m (Walking rows) →
+      (w : World) × IsWorldOf os m w × Leaves it w (rows_seen (rules_of c.settings m) c.state.commits n ops order range)
+  opened_leaves o rows it state_is range_is order_is going sound rest op meant = (
+    o.world,
+    o.is,
+    record {
+      sound = subst (λ (s : ScanState). IsSoundIn it.order s o.world) (sym state_is) (going.0, going.1, sound, going.2 ∙ sym order_is);
+      operable = subst (λ (s : ScanState). IsOperableIn s o.world) (sym state_is) op;
+      within = subst (λ (b : BytesRange). AllByRecursion (λ r. in_range b r.key ≡ true) (left_in it.state o.world)) (sym range_is) (subst (AllByRecursion (λ r. in_range range r.key ≡ true)) (sym left_is) o.within);
+      left = ap (filter has_value) left_is ∙ o.left;
+      meant = subst (λ (b : BytesRange). AreForIn b o.world.meaning it.state) (sym range_is) (subst (λ (s : ScanState). AreForIn range o.world.meaning s) (sym state_is) (subst (λ (k : Meaning). AreForIn range k (Walking rows)) (sym o.is.meaning) meant));
+    },
+  )
+    where
+      left_is : left_in it.state o.world ≡ folded_rows m order o.world sources
+      left_is = ap (λ (s : ScanState). left_in s o.world) state_is ∙ rest ∙ ap (λ (k : Meaning). folded_rows k order o.world sources) o.is.meaning
+
+-- ---- what is refused
+
+module _ (m : Meaning) (c : CoreModel) (x : Unseen) (w : IsWhole c x) (range : BytesRange) (order : IterationOrder) (n : ℕ) (ops : Ops) (layers : List Rows) (sources : List ScanSource)
+    (are : AreScanSources range order n ops layers (reverse x.runs) sources) where
+  shown : (reads : List Act) (at : Option (List ℕ)) (e : SlateDBError) → IsReached range at → IsBlamedFor sources m reads at e → IsShown m (handles_of x.runs) reads e
+  shown reads at e reached blamed = blamed_shows m range order n ops layers x.runs sources are reads at e reached blamed
+
+  shown_by : (reads : List Act) (e : SlateDBError) → IsShown m (handles_of x.runs) reads e → IsShownByScan m c reads e
+  shown_by reads e s = record { handles = handles_of x.runs; are = all_handles c.events x.runs w.tied.runs; shown = s.1 }
+
+  refused_by : (reads : List Act) (e : SlateDBError) → IsShown m (handles_of x.runs) reads e → IsRefusedByScan m c reads e
+  refused_by reads e s = record { handles = handles_of x.runs; are = all_handles c.events x.runs w.tied.runs; refused = inr s.1 }
+
+  abbrev pub LaterBlamed : Merged → List Act → Type 0
+  LaterBlamed rows reads = (later : List Act) (at : Option (List ℕ)) (e : SlateDBError) → merge_refuses rows.iterator m later at e → IsBlamedFor sources m (reads ++ later) at e
+
+  pub sources_for : (rows : Merged) (reads : List Act) → LaterBlamed rows reads → AreForIn range m (Walking rows)
+  sources_for rows reads blamed later at e h = (shown (reads ++ later) at e h.0 (blamed later at e h.1)).0
+
+  own_refusal : (rows : Merged) (it : DbIterator) → it.state ≡ Walking rows → it.range ≡ range → IsGoing rows → (later : List Act) (at : Option (List ℕ)) (e : SlateDBError) → ScanRefuses it m later at e → OwnRefusal range rows m later at e
+  own_refusal rows it state_is range_is going later at e h =
+      refuses_going (OwnRefusal range rows m later at) rows e going (subst (λ (b : BytesRange). RefusesIn b (Walking rows) m later at e) range_is (subst (λ (s : ScanState). RefusesIn it.range s m later at e) state_is h))
+
+  pub scan_is_for : (rows : Merged) (it : DbIterator) (reads : List Act) → it.state ≡ Walking rows → it.range ≡ range → IsGoing rows → LaterBlamed rows reads → IsFor m it
+  scan_is_for rows it reads state_is range_is going blamed later at e h = by (own_refusal rows it state_is range_is going later at e h)
+    where
+      by : OwnRefusal range rows m later at e → IsScanRefusal e
+      by (inl (inl missing)) = inl missing.1
+      by (inl (inr rising)) = inr (inl rising.2)
+      by (inr r) = inr (inr (sources_for rows reads blamed later at e r))
+
+  pub scan_refused : (rows : Merged) (it : DbIterator) (reads : List Act) → it.state ≡ Walking rows → it.range ≡ range → IsGoing rows → LaterBlamed rows reads →
+      (later : List Act) (at : Option (List ℕ)) (e : SlateDBError) → ScanRefuses it m later at e → IsRefusedByScan m c (reads ++ later) e
+  scan_refused rows it reads state_is range_is going blamed later at e h = by (own_refusal rows it state_is range_is going later at e h)
+    where
+      anywhere : RefusesFold m at e → RefusesFold m None e
+      anywhere (inl missing) = inl (refl, missing.1, missing.2)
+      anywhere (inr rising) = inr (refl, rising.1, rising.2)
+
+      by : OwnRefusal range rows m later at e → IsRefusedByScan m c (reads ++ later) e
+      by (inl folding) = record { handles = handles_of x.runs; are = all_handles c.events x.runs w.tied.runs; refused = inl (anywhere folding) }
+      by (inr r) = refused_by (reads ++ later) e (shown (reads ++ later) at e r.0 (blamed later at e r.1))
+
+  pub opening_refused : (before after : Reach) (e : SlateDBError) → before.meaning ≡ m → Made before after (λ reads. IsFault before after e ⊎ IsBlamedFor sources m reads None e) → IsOpeningError before after c e
+  opening_refused before after e same (reads, call, inl fault) = inl fault
+  opening_refused before after e same (reads, call, inr blamed) = inr (reads, call, subst (λ (k : Meaning). IsShownByScan k c reads e) (sym same) (shown_by reads e (shown reads None e tt blamed)))
+
+  pub opening_undamaged : (os : Objects) (before after : Reach) (e : SlateDBError) (o : ScanOpens os m c n ops range order sources) → Sees o.world before after → Made before after (λ reads. IsFault before after e ⊎ IsBlamedFor sources m reads None e) → IsFault before after e
+  opening_undamaged os before after e o sees (reads, call, inl fault) = fault
+  opening_undamaged os before after e o sees (reads, call, inr blamed) = absurd (undamaged sources o.can (either blamed.1) (shown reads None e tt blamed).0)
+    where
+      each : AllByRecursion (AnswersWorld o.world) reads
+      each = seen o.world before after reads sees call
+
+      either : blames source_refuses (waiting_sources sources) m reads None e → AnyByRecursion (λ s. source_refuses s m reads None e) sources
+      either (inl some) = any_weaker _ _ (λ s h. elim h [ inl r ↦ r | inr r ↦ r ]) sources some
+      either (inr none) = absurd none
+
+      undamaged : (ss : List ScanSource) → AllByRecursion (CanOpen o.world order) ss → AnyByRecursion (λ s. source_refuses s m reads None e) ss → IsDamage e → ⊥
+      undamaged [] can some = absurd some
+      undamaged (s ∷ ss) can (inl r) = read.source_whole s.iterator o.world reads None e can.0.0.0 each (subst (λ (k : Meaning). source_refuses s k reads None e) (sym o.is.meaning) r)
+      undamaged (s ∷ ss) can (inr r) = undamaged ss can.1 r
+
+-- ---- a scan of a core
+
+module _ (policies : List Policy) (before after : Reach) (c : CoreModel) (x : Unseen) (w : IsWhole c x) (range : BytesRange) (order : IterationOrder) (n : ℕ) (ops : Ops) (fine : AreFine ops) (from : c.floor ≤ n) (sources : List ScanSource)
+    (are : AreScanSources range order n ops (c.active ∷ reverse c.frozen) (reverse x.runs) sources) (a : IsAnswered policies before after c) (plain : before.meaning.combine ≡ None → holds_merge ops ≡ false) where
+  opens : ScanOpens a.os before.meaning c n ops range order sources
+  opens = scan_opens before.meaning c x w a.readable.lawful a.readable.kept a.os a.readable.holds n from ops fine plain range order sources are
+
+  sees : Sees opens.world before after
+  sees = sees_world a.os opens.world before after opens.is.meaning opens.is.holds a.answers
+
+  world_operable : opens.world.meaning.combine ≡ None → AreBases (merged_rows order opens.world sources)
+  world_operable none = opens.operable (ap (λ (m : Meaning). m.combine) (sym opens.is.meaning) ∙ none)
+
+  pub scan_leaves : (rows : Merged) (it : DbIterator) → it.state ≡ Walking rows → it.range ≡ range → it.order ≡ order → IsGoing rows × FoldsAll rows × (rows.iterator.order ≡ order) →
+      ((v : World) → AllByRecursion (CanOpen v order) sources → Sees v before after → IsSound rows v) →
+      ((v : World) → AllByRecursion (CanOpen v order) sources → Sees v before after → rest_folding merge_rows rows v ≡ folded_rows v.meaning order v sources) →
+      ((v : World) → AllByRecursion (CanOpen v order) sources → Sees v before after → (v.meaning.combine ≡ None → AreBases (merged_rows order v sources)) → IsOperableIn (Walking rows) v) →
+      (reads : List Act) → LaterBlamed before.meaning c x w range order n ops (c.active ∷ reverse c.frozen) sources are rows reads →
+      (v : World) × IsWorldOf a.os before.meaning v × Leaves it v (rows_seen (rules_of c.settings before.meaning) c.state.commits n ops order range)
+  scan_leaves rows it state_is range_is order_is going sound rest op reads blamed =
+      opened_leaves a.os before.meaning c n ops range order sources opens rows it state_is range_is order_is going (sound opens.world opens.can sees) (rest opens.world opens.can sees) (op opens.world opens.can sees world_operable)
+      (sources_for before.meaning c x w range order n ops (c.active ∷ reverse c.frozen) sources are rows reads blamed)
+
+  pub scan_undamaged : (e : SlateDBError) → Made before after (λ reads. IsFault before after e ⊎ IsBlamedFor sources before.meaning reads None e) → IsFault before after e
+  scan_undamaged e made = opening_undamaged before.meaning c x w range order n ops (c.active ∷ reverse c.frozen) sources are a.os before after e opens sees made

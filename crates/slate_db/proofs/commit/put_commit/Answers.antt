@@ -1,0 +1,33 @@
+use Rattle.std.proofs.Common.{◌≡◌, ℕ, ℤ, ◌+◌, ◌∷◌, ◌++◌, [], List, None, option_map, ap, sym, subst, ◌∙◌, arith, w64}
+use Rattle.std.specs.List.{AllByRecursion}
+use Rattle.std.proofs.lemmas.Int.{to_z-of_z}
+use Rattle.slate_types.specs.Fold.{Combine, operator_at}
+use Rattle.slate_mem.specs.CommitRows.{commit_rows}
+use Rattle.slate_mem.specs.Table.{put_rows}
+use Rattle.slate_txn.specs.State.{opening}
+use Rattle.slate_db.specs.Layers.{LayersModel, AreRising}
+use Rattle.slate_db.specs.Model.{CoreModel, Rows, versions_in}
+use Rattle.slate_db.proofs.MemoryRows.{rise_more}
+use Rattle.slate_db.proofs.TakenBack.{commit_seqs, older_rows}
+use Rattle.slate_db.proofs.commit.put_commit.Goals as goal
+
+-- a core of these layers
+core_of : LayersModel → CoreModel
+core_of y = record { settings = record { default_millis = None; start_seq = 0 }; state = opening; events = []; spare = 0; active = y.active; frozen = y.frozen; floor = y.floor }
+
+pub put_own-requires : goal.put_own-requires
+unfolding core_of
+put_own-requires g c =
+    let y : LayersModel = c.args.layers.now in
+    let f : List ℕ → Combine = operator_at (option_map g.M.MergeOperator.combine c.args.operator.now) in
+    let rows : c.in_ok-rows.rows.items ≡ commit_rows f c.args.default_millis (c.args.last + 1) c.args.now c.args.batch.now.ops =
+    c.in_ok-rows.ensures.rows ∙ ap (λ (z : ℤ). commit_rows f c.args.default_millis (c.args.last + 1) z c.args.batch.now.ops) (to_z-of_z w64 c.args.now c.ranges.now) in
+    record {
+      whole = c.requires.whole;
+      fit = c.in_ok-rows.ensures.fit c.ops.ensures.fine;
+      rise = λ k. subst (λ (rows : Rows). AreRising (versions_in k (y.frozen ++ (put_rows y.active rows ∷ [])))) (sym rows)
+          (rise_more (core_of y) f c.args.default_millis c.args.last c.args.now c.args.batch.now.ops c.requires.within c.requires.whole.rise k);
+      seqs = subst (AllByRecursion (λ r. r.seq ≡ c.args.last + 1)) (sym rows) (commit_seqs f c.args.default_millis (c.args.last + 1) c.args.now c.args.batch.now.ops);
+      older = older_rows (core_of y) c.args.last c.requires.within;
+      later = omega (arith, c.requires.newest);
+    }

@@ -1,0 +1,102 @@
+use Rattle.std.proofs.Common.{◌≡◌, ℕ, List, None, ◌+◌, ◌++◌, ◌∷◌, [], ◌≤◌, ap, sym, subst, ◌∙◌, Greater}
+use Rattle.std.specs.List.{AllByRecursion}
+use Rattle.slate_types.specs.Keys.{key_cmp}
+use Rattle.slate_txn.specs.declared.line.Line.TheVariants as lines
+use Rattle.slate_txn.specs.Ids.{id_of}
+use Rattle.slate_txn.specs.Managers.{untracked}
+use Rattle.slate_txn.specs.Named.{find_named}
+use Rattle.slate_txn.specs.Reply.{Begun}
+use Rattle.slate_txn.specs.Step.{step}
+use Rattle.slate_db.specs.declared.engine.Core.TheInside.{Inside}
+use Rattle.slate_db.specs.Log.{IsLog}
+use Rattle.slate_db.specs.Meaning.{rules_of}
+use Rattle.slate_db.specs.Model.{CoreModel}
+use Rattle.slate_db.specs.View.{view_of, unseen_of, IsWholeInside}
+use Rattle.slate_db.specs.Sound.{IsKept}
+use Rattle.slate_db.specs.Vouched.{IsVouchedFor}
+use Rattle.slate_db.proofs.Calls.{begun_is}
+use Rattle.slate_db.proofs.Managing.{back_named, managed_back}
+use Rattle.slate_db.proofs.Steps.{step_begin}
+use Rattle.slate_db.proofs.Vouches.{others_begin, vouched_begin}
+use Rattle.slate_db.proofs.Wholes.{after_begin, whole_begin, whole_manager, kept_begin, past_begun, fresh_begun, within_newest}
+use Rattle.slate_db.proofs.engine.Core.begin.Goals as goal
+
+pub enter-requires-clause-past : goal.enter-requires-clause-past
+enter-requires-clause-past c =
+    let id = c.in_ok-id.ensures.id ∙ ap (λ n. id_of (n + 1)) c.self.invariant.tied.manager.counted in
+    subst (λ (id : List ℕ). AllByRecursion (λ p. key_cmp id p.0 ≡ Greater) c.self.inside.transactions) (sym id) (past_begun (view_of c.self.inside) (unseen_of c.self.inside) c.self.invariant)
+
+pub enter-requires-clause-newest : goal.enter-requires-clause-newest
+enter-requires-clause-newest c =
+    let start = c.in_ok-id.ensures.opened.0 ∙ c.self.invariant.tied.manager.newest in
+    subst (λ (n : ℕ). AllByRecursion (λ p. p.1.begin ≤ n) c.self.inside.transactions) (sym start) (within_newest c.self.inside.layers.floor c.self.inside.log.last c.self.inside.transactions c.self.invariant.tied.begins)
+
+pub enter-requires-clause-fresh : goal.enter-requires-clause-fresh
+enter-requires-clause-fresh c =
+    let id = c.in_ok-id.ensures.id ∙ ap (λ n. id_of (n + 1)) c.self.invariant.tied.manager.counted in
+    subst (λ (id : List ℕ). find_named id c.self.inside.transactions ≡ None) (sym id) (fresh_begun (view_of c.self.inside) (unseen_of c.self.inside) c.self.invariant)
+
+pub take_back-requires-clause-newest : goal.take_back-requires-clause-newest
+take_back-requires-clause-newest c = back_named c.self.inside.manager c.new_transaction.new.self c.in_ok-id.id (untracked c.in_ok-id.start) c.self.inside.log.ids c.self.inside.transactions c.in_ok-id.ensures.opened.1 c.in_ok-id.ensures.fresh
+    c.self.invariant.tied.manager.counted c.self.invariant.tied.manager.opened c.self.invariant.tied.named
+
+pub invariant_of-self-in-Err : goal.invariant_of-self-in-Err
+invariant_of-self-in-Err c =
+    let log = sym c.in-Err.ensures.same_log in
+    let txns = sym c.in-Err.ensures.same in
+    let s = c.self.inside in
+    subst IsWholeInside (λ i. record c.self.inside { log = log i; transactions = txns i; manager = c.take_back.new.self })
+    (whole_manager (view_of s) (unseen_of s) c.take_back.new.self
+    (managed_back s.manager c.new_transaction.new.self c.take_back.new.self c.in_ok-id.id (untracked c.in_ok-id.start) s.log.ids s.log.last s.log.commits s.transactions c.in_ok-id.ensures.opened.1 c.in_ok-id.ensures.fresh c.take_back.ensures.value
+    (λ h. c.take_back.ensures.stands _ (c.in_ok-id.ensures.stands _ h)) c.self.invariant.tied.manager) c.self.invariant)
+
+pub invariant_of-self-in_default : goal.invariant_of-self-in_default
+invariant_of-self-in_default c =
+    let s = c.self.inside in
+    let n = c.new_transaction.new.self in
+    let id = c.in_ok-id.ensures.id ∙ ap (λ n. id_of (n + 1)) c.self.invariant.tied.manager.counted in
+    let start = c.in_ok-id.ensures.opened.0 ∙ c.self.invariant.tied.manager.newest in
+    let managed : n ≡ record s.manager { ids = s.manager.ids + 1; active = s.manager.active ++ ((id_of (s.log.ids + 1), untracked s.log.last) ∷ []) } =
+    c.in_ok-id.ensures.opened.1 ∙ (λ i. record s.manager { ids = s.manager.ids + 1; active = s.manager.active ++ ((id i, untracked (start i)) ∷ []) }) in
+    subst IsWholeInside (begun_is s c.enter.new.log c.enter.new.transactions n c.args.level c.in_ok-id.id c.in_ok-id.start id start c.in_default.ensures.log c.in_default.ensures.opened)
+    (whole_begin (view_of s) (unseen_of s) c.args.level c.enter.new.log.spare n managed (c.in_ok-id.ensures.stands _) (subst IsLog c.in_default.ensures.log c.in_default.ensures.whole) c.self.invariant)
+
+pub returns-clause-step : goal.returns-clause-step
+returns-clause-step c m =
+    let s = c.self.inside in
+    let id = c.in_ok-id.ensures.id ∙ ap (λ n. id_of (n + 1)) c.self.invariant.tied.manager.counted in
+    let start = c.in_ok-id.ensures.opened.0 ∙ c.self.invariant.tied.manager.newest in
+    let becomes = begun_is s c.enter.new.log c.enter.new.transactions c.new_transaction.new.self c.args.level c.in_ok-id.id c.in_ok-id.start id start c.in_default.ensures.log c.in_default.ensures.opened in
+    sym (ap (λ (v : CoreModel). step (rules_of v.settings m) v.state (lines.Begin c.in_ok-id.id c.args.level)) c.self.view_is)
+    ∙ (λ i. step (rules_of (view_of c.self.inside).settings m) (view_of c.self.inside).state (lines.Begin (id i) c.args.level))
+    ∙ step_begin m (view_of c.self.inside) (unseen_of c.self.inside) c.args.level c.enter.new.log.spare c.self.invariant
+    ∙ (let ids = sym id in let at = sym start in λ i. ((view_of (becomes i)).state, Begun (ids i) (at i)))
+
+pub returns-clause-kept : goal.returns-clause-kept
+returns-clause-kept c m k =
+    let s = c.self.inside in
+    let id = c.in_ok-id.ensures.id ∙ ap (λ n. id_of (n + 1)) c.self.invariant.tied.manager.counted in
+    let start = c.in_ok-id.ensures.opened.0 ∙ c.self.invariant.tied.manager.newest in
+    let becomes = begun_is s c.enter.new.log c.enter.new.transactions c.new_transaction.new.self c.args.level c.in_ok-id.id c.in_ok-id.start id start c.in_default.ensures.log c.in_default.ensures.opened in
+    subst (λ (s : Inside). IsKept m (view_of s)) becomes
+    (kept_begin m (view_of c.self.inside) c.args.level c.self.inside.log.last (id_of (c.self.inside.log.ids + 1)) c.enter.new.log.spare
+    (subst (λ (v : CoreModel). IsKept m v) (sym c.self.view_is) k))
+
+pub returns-clause-vouched : goal.returns-clause-vouched
+returns-clause-vouched c m =
+    let s = c.self.inside in
+    let id = c.in_ok-id.ensures.id ∙ ap (λ n. id_of (n + 1)) c.self.invariant.tied.manager.counted in
+    let start = c.in_ok-id.ensures.opened.0 ∙ c.self.invariant.tied.manager.newest in
+    let becomes = begun_is s c.enter.new.log c.enter.new.transactions c.new_transaction.new.self c.args.level c.in_ok-id.id c.in_ok-id.start id start c.in_default.ensures.log c.in_default.ensures.opened in
+    subst (λ (s : Inside). IsVouchedFor m (view_of s) c.in_ok-id.id) becomes
+    (subst (λ (i : List ℕ). IsVouchedFor m (after_begin (view_of s) c.args.level s.log.last (id_of (s.log.ids + 1)) c.enter.new.log.spare) i) (sym id)
+    (vouched_begin m (view_of s) (id_of (s.log.ids + 1)) c.args.level s.log.last (fresh_begun (view_of s) (unseen_of s) c.self.invariant)))
+
+pub returns-clause-others : goal.returns-clause-others
+returns-clause-others c m k h =
+    let s = c.self.inside in
+    let id = c.in_ok-id.ensures.id ∙ ap (λ n. id_of (n + 1)) c.self.invariant.tied.manager.counted in
+    let start = c.in_ok-id.ensures.opened.0 ∙ c.self.invariant.tied.manager.newest in
+    let becomes = begun_is s c.enter.new.log c.enter.new.transactions c.new_transaction.new.self c.args.level c.in_ok-id.id c.in_ok-id.start id start c.in_default.ensures.log c.in_default.ensures.opened in
+    subst (λ (s : Inside). IsVouchedFor m (view_of s) k) becomes
+    (others_begin m (view_of s) (id_of (s.log.ids + 1)) k c.args.level s.log.last c.enter.new.log.spare (subst (λ (v : CoreModel). IsVouchedFor m v k) (sym c.self.view_is) h))

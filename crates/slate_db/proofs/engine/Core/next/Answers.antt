@@ -1,0 +1,118 @@
+use Rattle.std.proofs.Common.{inl, ◌≡◌, [], ◌∷◌, ◌++◌, drop, refl, ap, sym, subst, ◌∙◌}
+use Rattle.slate_types.specs.Outside.{IsCounted}
+use Rattle.slate_store.specs.Reach.{reach_of}
+use Rattle.slate_txn.specs.declared.event.TranscriptStep.{TranscriptStep}
+use Rattle.slate_txn.specs.declared.event.TranscriptStep.TheVariants as steps
+use Rattle.slate_txn.specs.Named.{find_named, update_named}
+use Rattle.slate_txn.specs.Open.{Transactions}
+use Rattle.slate_txn.specs.State.{Tx}
+use Rattle.slate_txn.specs.Step.{noted}
+use Rattle.slate_db.specs.declared.engine.Core.TheInside.{Inside}
+use Rattle.slate_db.specs.declared.scan.DbIterator.{DbIterator}
+use Rattle.slate_db.specs.Model.{CoreModel}
+use Rattle.slate_db.specs.Scans.{HasLeft}
+use Rattle.slate_db.specs.View.{view_of, unseen_of, IsWholeInside}
+use Rattle.slate_db.specs.Sound.{IsKept}
+use Rattle.slate_db.specs.Vouched.{IsVouchedFor}
+use Rattle.slate_db.proofs.Keeps.{kept_event}
+use Rattle.slate_db.proofs.Operands.{own_updated}
+use Rattle.slate_db.proofs.ScanNotes.{next_left, vouched_next}
+use Rattle.slate_db.proofs.ScanStates.{answered_once}
+use Rattle.slate_db.proofs.Wholes.{after_note, whole_note}
+use Rattle.slate_db.proofs.engine.Core.next.Goals as goal
+use Rattle.slate_db.proofs.engine.Core.next.Given as given
+
+-- nothing is noted
+unnoted : (s : Inside) (ts : Transactions) → ts ≡ s.transactions → record s { transactions = ts } ≡ s
+unnoted s ts same = ap (λ (us : Transactions). record s { transactions = us }) same
+
+pub note_next-requires : goal.note_next-requires
+note_next-requires g c = λ t found. c.requires.1 t (ap (λ (v : CoreModel). find_named c.args.it.now.id v.state.txns) (sym c.self.view_is) ∙ found)
+
+pub invariant_of-self : goal.invariant_of-self
+invariant_of-self g c = subst IsWholeInside (sym (unnoted c.self.inside c.note_next.new.self c.in-Err-note_next.ensures.err)) c.self.invariant
+
+pub returns-in-Err : goal.returns-in-Err
+returns-in-Err g c =
+    let n = c.in-Err.ensures in
+    record {
+      noted = tt;
+      rows = λ w rows h sees. tt;
+      undamaged = n.undamaged;
+      checked = λ w rows h. tt;
+      later = tt;
+      cause = n.cause;
+      again = n.again;
+      refused = λ kept was. let r = n.refused kept was in (r.0, ap (λ (d : DbIterator). record c.args.it.now { rows = d }) r.1, r.2);
+      names = record { named = refl; number = refl; ordered = n.order; ranged = n.range };
+      left = λ m rows h. tt;
+      vouched = λ w rows h sees left. tt;
+      same = refl;
+      kept = λ m k. k;
+      settings = refl;
+      reads = n.reads;
+    }
+
+pub returns-in-Err-note_next : goal.returns-in-Err-note_next
+returns-in-Err-note_next g c =
+    let n = c.in-Ok.ensures in
+    let r = c.refuse.ensures in
+    let unmoved = unnoted c.self.inside c.note_next.new.self c.in-Err-note_next.ensures.err in
+    record {
+      noted = tt;
+      rows = λ w rows h sees. tt;
+      undamaged = λ w rows h sees. subst (IsCounted _ _) (sym (r.same ∙ c.from.ensures)) tt;
+      checked = λ w rows h. tt;
+      later = tt;
+      cause = (n.later.0, n.later.1, inl (subst (IsCounted _ _) (sym (r.same ∙ c.from.ensures)) tt));
+      again = λ unrefused. rw r.same r.again;
+      refused = λ kept was. answered_once c.in-Ok.answer kept (n.refused kept was).0;
+      names = record { named = refl; number = refl; ordered = r.order ∙ n.order; ranged = r.range ∙ n.range };
+      left = λ m rows h. tt;
+      vouched = λ w rows h sees left. tt;
+      same = ap view_of unmoved ∙ c.self.view_is;
+      kept = λ m k. subst (λ (s : Inside). IsKept m (view_of s)) (sym unmoved) (subst (λ (v : CoreModel). IsKept m v) (sym c.self.view_is) k);
+      settings = ap (λ (v : CoreModel). v.settings) c.self.view_is;
+      reads = n.reads;
+    }
+
+-- the step that is noted
+abbrev noted_step : (g : given.Over) → goal.In_default g → TranscriptStep
+noted_step g c = steps.Next c.args.it.now.scan c.in-Ok.answer
+
+becomes : (g : given.Over) (c : goal.In_default g) → record c.self.inside { transactions = update_named c.args.it.now.id (λ t. record t { transcript = t.transcript ++ (noted_step g c ∷ []) }) c.self.inside.transactions } ≡ record c.self.inside { transactions = c.note_next.new.self }
+becomes g c = ap (λ (ts : Transactions). record c.self.inside { transactions = ts }) (sym c.in_default.ensures.ok)
+
+pub invariant_of-self-2 : goal.invariant_of-self-2
+invariant_of-self-2 g c = subst IsWholeInside (becomes g c) (whole_note (view_of c.self.inside) (unseen_of c.self.inside) c.args.it.now.id (noted_step g c ∷ []) refl c.self.invariant)
+
+noted_is : (g : given.Over) (c : goal.In_default g) → view_of (record c.self.inside { transactions = c.note_next.new.self }) ≡ after_note c.args.self.now c.args.it.now.id (noted_step g c ∷ [])
+noted_is g c = sym (ap view_of (becomes g c)) ∙ ap (λ v. after_note v c.args.it.now.id (noted_step g c ∷ [])) c.self.view_is
+
+pub returns : goal.returns
+returns g c =
+    let n = c.in-Ok.ensures in
+    let it = c.args.it.now in
+    let m = (reach_of g.S.Store g.M.MergeOperator g.T.BlockTransformer c.args.env.now).meaning in
+    record {
+      noted = noted_is g c;
+      rows = n.rows;
+      undamaged = λ w rows h sees. tt;
+      checked = n.checked;
+      later = n.later;
+      cause = tt;
+      again = λ unrefused. tt;
+      refused = λ kept was. answered_once c.in-Ok.answer kept (n.refused kept was).0;
+      names = record { named = refl; number = refl; ordered = n.order; ranged = n.range };
+      left = λ p rows h. subst (λ (v : CoreModel). HasLeft p v (record it { rows = c.next.new.self }) (drop 1 rows)) (sym (noted_is g c))
+          (next_left p c.args.self.now it (record it { rows = c.next.new.self }) c.in-Ok.answer rows refl refl n.order h);
+      vouched = λ w rows h sees left other k. subst (λ (v : CoreModel). IsVouchedFor m v other) (sym (noted_is g c)) (vouched_next m c.args.self.now it other c.in-Ok.answer rows left (n.rows w rows h sees).0 k);
+      same = tt;
+      kept = λ p k.
+          subst (λ (s : Inside). IsKept p (view_of s)) (becomes g c)
+          (kept_event p (view_of c.self.inside) (noted (view_of c.self.inside).state it.id (noted_step g c ∷ [])) c.self.inside.log.events c.self.inside.log.spare refl refl refl
+          (λ none own. own_updated it.id (λ (t : Tx). record t { transcript = t.transcript ++ (noted_step g c ∷ []) }) (view_of c.self.inside).state.txns (λ t h. h) own)
+          (subst (λ (v : CoreModel). IsKept p v) (sym c.self.view_is) k));
+      settings = ap (λ (v : CoreModel). v.settings) c.self.view_is;
+      reads = n.reads;
+    }

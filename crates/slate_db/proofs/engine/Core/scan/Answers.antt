@@ -1,0 +1,166 @@
+use Rattle.std.proofs.Common.{inl, inr, ◌≡◌, ◌≤◌, ℕ, [], ◌∷◌, ◌++◌, List, Some, refl, ap, sym, subst, ◌∙◌}
+use Rattle.std.specs.Prelude.{Ok, slice_get}
+use Rattle.std.proofs.lemmas.Result.{IfOk-from_err, err_from_is_err_and}
+use Rattle.slate_types.specs.declared.bytes_range.BytesRange.{BytesRange}
+use Rattle.slate_types.specs.declared.error.SlateDBError.{SlateDBError}
+use Rattle.slate_types.specs.declared.iter.IterationOrder.{IterationOrder}
+use Rattle.slate_types.specs.declared.types.RowEntry.{RowEntry}
+use Rattle.slate_types.specs.Outside.{IsCounted, IsFault}
+use Rattle.slate_types.specs.World.{World}
+use Rattle.slate_types.proofs.Exits.{err_exit}
+use Rattle.slate_types.proofs.Reaching.{reads_none}
+use Rattle.slate_store.specs.Reach.{reach_of}
+use Rattle.slate_txn.specs.declared.event.TranscriptStep.{TranscriptStep}
+use Rattle.slate_txn.specs.declared.event.TranscriptStep.TheVariants as steps
+use Rattle.slate_txn.specs.Alone.{scans_left}
+use Rattle.slate_txn.specs.Named.{find_named, update_named}
+use Rattle.slate_txn.specs.Open.{Transactions}
+use Rattle.slate_txn.specs.Reads.{rows_seen}
+use Rattle.slate_txn.specs.Reply.{RowsAre}
+use Rattle.slate_txn.specs.State.{Tx}
+use Rattle.slate_txn.specs.Step.{Reader, noted, reader}
+use Rattle.slate_txn.proofs.NamedLaws.{open_is}
+use Rattle.slate_db.specs.declared.engine.Core.TheInside.{Inside}
+use Rattle.slate_db.specs.Meaning.{Meaning, rules_of}
+use Rattle.slate_db.specs.Model.{CoreModel}
+use Rattle.slate_db.specs.Readable.{IsAnswered}
+use Rattle.slate_db.specs.Scans.{IsWorldOf, Leaves}
+use Rattle.slate_db.specs.Sound.{IsKept}
+use Rattle.slate_db.specs.View.{view_of, unseen_of, IsWholeInside}
+use Rattle.slate_db.specs.Vouched.{IsVouchedFor}
+use Rattle.slate_db.proofs.Keeps.{kept_event}
+use Rattle.slate_db.proofs.OpenNotes.{step_scan, vouched_scan}
+use Rattle.slate_db.proofs.Operands.{own_updated}
+use Rattle.slate_db.proofs.Readers.{floor_at, own_at, scan_left, scans_of, start_at}
+use Rattle.slate_db.proofs.Wholes.{after_note, whole_note}
+use Rattle.slate_db.proofs.engine.Core.scan.Goals as goal
+use Rattle.slate_db.proofs.engine.Core.scan.Given as given
+
+-- nothing is noted
+unnoted : (s : Inside) (ts : Transactions) → ts ≡ s.transactions → record s { transactions = ts } ≡ s
+unnoted s ts same = ap (λ (us : Transactions). record s { transactions = us }) same
+
+pub returns-in_err-how : goal.returns-in_err-how
+returns-in_err-how g c =
+    let p = err_from_is_err_and c.from_residual.result c.from_residual.ensures.1 in
+    record {
+      noted = rw p.1 tt;
+      step = rw p.1 tt;
+      names = λ from found. IfOk-from_err c.from_residual.result _ c.from_residual.ensures.0;
+      opened = λ from found a. IfOk-from_err c.from_residual.result _ c.from_residual.ensures.0;
+      left = λ from found. IfOk-from_err c.from_residual.result _ c.from_residual.ensures.0;
+      later = IfOk-from_err c.from_residual.result _ c.from_residual.ensures.0;
+      undamaged = λ a. err_exit c.from_residual.result _ c.from_residual.ensures.1 _ (subst (IsFault (reach_of g.S.Store g.M.MergeOperator g.T.BlockTransformer c.args.env.now) (reach_of g.S.Store g.M.MergeOperator g.T.BlockTransformer c.args.env.now)) (sym c.in_err-how.ensures.cause) tt);
+      cause = err_exit c.from_residual.result _ c.from_residual.ensures.1 _ (inl (subst (IsFault (reach_of g.S.Store g.M.MergeOperator g.T.BlockTransformer c.args.env.now) (reach_of g.S.Store g.M.MergeOperator g.T.BlockTransformer c.args.env.now)) (sym c.in_err-how.ensures.cause) tt));
+      vouched = rw p.1 tt;
+      same = rw p.1 refl;
+      kept = λ m k. k;
+      settings = refl;
+      reads = reads_none _;
+    }
+
+pub returns-in_err-rows : goal.returns-in_err-rows
+returns-in_err-rows g c =
+    let p = err_from_is_err_and c.from_residual-in_err-rows.result c.from_residual-in_err-rows.ensures.1 in
+    let from : Reader = (open_is (reader c.args.self.now.state c.args.id.now) c.requires.open).value in
+    let found : reader c.args.self.now.state c.args.id.now ≡ Some from = (open_is (reader c.args.self.now.state c.args.id.now) c.requires.open).is in
+    let begins : c.in-Some.begin ≡ from.at = start_at c.self.inside c.args.self.now c.self.view_is c.args.id.now from found c.in-Some.begin c.in-Some.ensures in
+    let above : c.args.self.now.floor ≤ c.in-Some.begin = subst (λ (n : ℕ). c.args.self.now.floor ≤ n) (sym begins) (floor_at c.self.inside c.args.self.now c.self.view_is c.args.id.now from found c.self.invariant) in
+    record {
+      noted = rw p.1 tt;
+      step = rw p.1 tt;
+      names = λ from found. IfOk-from_err c.from_residual-in_err-rows.result _ c.from_residual-in_err-rows.ensures.0;
+      opened = λ from found a. IfOk-from_err c.from_residual-in_err-rows.result _ c.from_residual-in_err-rows.ensures.0;
+      left = λ from found. IfOk-from_err c.from_residual-in_err-rows.result _ c.from_residual-in_err-rows.ensures.0;
+      later = IfOk-from_err c.from_residual-in_err-rows.result _ c.from_residual-in_err-rows.ensures.0;
+      undamaged = λ a. err_exit c.from_residual-in_err-rows.result _ c.from_residual-in_err-rows.ensures.1 _ (c.in_err-rows.ensures.undamaged above _ a);
+      cause = err_exit c.from_residual-in_err-rows.result _ c.from_residual-in_err-rows.ensures.1 _ c.in_err-rows.ensures.cause;
+      vouched = rw p.1 tt;
+      same = rw p.1 refl;
+      kept = λ m k. k;
+      settings = refl;
+      reads = c.opened.ensures.reads;
+    }
+
+pub invariant_of-self : goal.invariant_of-self
+invariant_of-self g c = subst IsWholeInside (sym (unnoted c.self.inside c.note_scan.new.self c.in-Err.ensures.err)) c.self.invariant
+
+pub returns-in-Err : goal.returns-in-Err
+returns-in-Err g c = record {
+  noted = tt;
+  step = tt;
+  names = λ from found. tt;
+  opened = λ from found a. tt;
+  left = λ from found. tt;
+  later = tt;
+  undamaged = λ a. subst (IsCounted _ _) (sym c.from.ensures) tt;
+  cause = inl (subst (IsCounted _ _) (sym c.from.ensures) tt);
+  vouched = tt;
+  same = ap view_of (unnoted c.self.inside c.note_scan.new.self c.in-Err.ensures.err) ∙ c.self.view_is;
+  kept = (λ m kept_m.
+      subst (λ (s : Inside). IsKept m (view_of s)) (sym (unnoted c.self.inside c.note_scan.new.self c.in-Err.ensures.err))
+      (subst (λ (v : CoreModel). IsKept m v) (sym c.self.view_is) kept_m));
+  settings = ap (λ (v : CoreModel). v.settings) c.self.view_is;
+  reads = c.opened.ensures.reads;
+}
+
+-- ---- the opening is noted
+
+abbrev opening : (g : given.Over) → goal.After-id-1 g → TranscriptStep
+opening g c = steps.Scan c.args.options.now.order c.args.range
+
+becomes : (g : given.Over) (c : goal.After-id-1 g) → record c.self.inside { transactions = update_named c.args.id.now (λ t. record t { transcript = t.transcript ++ (opening g c ∷ []) }) c.self.inside.transactions } ≡ record c.self.inside { transactions = c.note_scan.new.self }
+becomes g c = ap (λ (ts : Transactions). record c.self.inside { transactions = ts })
+    ((let range = sym c.in_ok-rows.ensures.range in λ j. update_named c.args.id.now (λ t. record t { transcript = t.transcript ++ (steps.Scan c.args.options.now.order (range j) ∷ []) }) c.self.inside.transactions)
+    ∙ sym c.in-Ok.ensures.ok)
+
+noted_is : (g : given.Over) (c : goal.After-id-1 g) → view_of (record c.self.inside { transactions = c.note_scan.new.self }) ≡ after_note c.args.self.now c.args.id.now (opening g c ∷ [])
+noted_is g c = sym (ap view_of (becomes g c)) ∙ ap (λ v. after_note v c.args.id.now (opening g c ∷ [])) c.self.view_is
+
+pub invariant_of-self-2 : goal.invariant_of-self-2
+invariant_of-self-2 g c = subst IsWholeInside (becomes g c) (whole_note (view_of c.self.inside) (unseen_of c.self.inside) c.args.id.now (opening g c ∷ []) refl c.self.invariant)
+
+number_is : (g : given.Over) (c : goal.After-id-1 g) → (from : Reader) → reader c.args.self.now.state c.args.id.now ≡ Some from → c.in-Ok.scan ≡ from.scans
+number_is g c from found =
+    scans_of (view_of c.self.inside).state c.args.id.now from (ap (λ (v : CoreModel). reader v.state c.args.id.now) c.self.view_is ∙ found) c.in-Ok.scan
+    c.in-Ok.ensures.number (λ none. let e : Ok c.in-Ok.scan ≡ Ok 0 = c.in-Ok.ensures.none none in cc)
+
+pub returns : goal.returns
+returns g c =
+    let before = reach_of g.S.Store g.M.MergeOperator g.T.BlockTransformer c.args.env.now in
+    let after = reach_of g.S.Store g.M.MergeOperator g.T.BlockTransformer c.opened.new.env in
+    let m = before.meaning in
+    let id = c.args.id.now in
+    let old = c.args.self.now in
+    let s = c.self.inside in
+    let order = c.args.options.now.order in
+    let range = c.args.range in
+    let rows = c.in_ok-rows.rows in
+    let e = c.in_ok-rows.ensures in
+    let how = c.in_ok-how.ensures.order in
+    record {
+      noted = noted_is g c;
+      step = λ k. step_scan (rules_of old.settings k) old.state id order range (open_is (reader old.state id) c.requires.open).value (open_is (reader old.state id) c.requires.open).is c.requires.range
+          ∙ ap (λ (v : CoreModel). (v.state, RowsAre [])) (sym (noted_is g c));
+      names = λ from found. record { named = refl; number = number_is g c from found; ordered = e.order ∙ how; ranged = e.range };
+      opened = (λ from found a.
+          let begins : c.in-Some.begin ≡ from.at = start_at s old c.self.view_is id from found c.in-Some.begin c.in-Some.ensures in
+          let above : old.floor ≤ c.in-Some.begin = subst (λ (n : ℕ). old.floor ≤ n) (sym begins) (floor_at s old c.self.view_is id from found c.self.invariant) in
+          subst (λ (o : IterationOrder). (w : World) × IsWorldOf a.os m w × Leaves rows w (rows_seen (rules_of old.settings m) old.state.commits from.at from.ops o range)) how
+          (subst (λ (n : ℕ). (w : World) × IsWorldOf a.os m w × Leaves rows w (rows_seen (rules_of old.settings m) old.state.commits n from.ops c.in_ok-how.how.order range)) begins (e.opened from found above _ a)));
+      left = λ from found. subst (λ (k : CoreModel). (u : Tx) → find_named id k.state.txns ≡ Some u → slice_get (scans_left (rules_of k.settings m) k.state.commits u.begin u.transcript) c.in-Ok.scan ≡ Some (rows.order, rows_seen (rules_of old.settings m) old.state.commits from.at from.ops order range)) (sym (noted_is g c))
+          (λ u at. scan_left m old id order range from c.in-Ok.scan found (number_is g c from found) (own_at s old c.self.view_is id c.self.invariant) u at
+          ∙ ap (λ (o : IterationOrder). Some (o, rows_seen (rules_of old.settings m) old.state.commits from.at from.ops order range)) (sym (e.order ∙ how)));
+      later = e.later;
+      undamaged = λ a. tt;
+      cause = tt;
+      vouched = λ k other h. subst (λ (v : CoreModel). IsVouchedFor k v other) (sym (noted_is g c)) (vouched_scan k old id other order range h);
+      same = tt;
+      kept = (λ k kept_k.
+          subst (λ (i : Inside). IsKept k (view_of i)) (becomes g c)
+          (kept_event k (view_of s) (noted (view_of s).state id (opening g c ∷ [])) s.log.events s.log.spare refl refl refl
+          (λ none own. own_updated c.args.id.now (λ (t : Tx). record t { transcript = t.transcript ++ (opening g c ∷ []) }) (view_of s).state.txns (λ t h. h) own)
+          (subst (λ (v : CoreModel). IsKept k v) (sym c.self.view_is) kept_k)));
+      settings = ap (λ (v : CoreModel). v.settings) c.self.view_is;
+      reads = c.opened.ensures.reads;
+    }

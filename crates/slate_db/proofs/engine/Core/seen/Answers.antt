@@ -1,0 +1,140 @@
+use Rattle.std.proofs.Common.{inl, inr, ◌≡◌, ◌⊎◌, ℕ, ◌++◌, List, None, map, false, refl, reverse, sym, ap, subst, ◌∙◌, arith}
+use Rattle.std.specs.Prelude.{Contains, IfOk, Option, Result}
+use Rattle.std.proofs.lemmas.List.Elements.{All-contains, All-from_recursion, Contains-append_cases}
+use Rattle.std.proofs.lemmas.Result.{IfOk-from_err, err_from_is_err_and}
+use Rattle.slate_types.specs.declared.error.SlateDBError.{SlateDBError}
+use Rattle.slate_types.specs.declared.filter_policy.PrefixTarget.TheVariants.{Point}
+use Rattle.slate_types.specs.declared.types.RowEntry.{RowEntry}
+use Rattle.slate_types.specs.Fold.{IsLawful, KeepsShort, fold_rows, operator_at}
+use Rattle.slate_types.specs.Outside.{IsCounted, Reach}
+use Rattle.slate_store.specs.Reach.{reach_of}
+use Rattle.slate_types.proofs.Reaching.{adds_none, reads_none, reads_of, reads_then}
+use Rattle.slate_mem.specs.Table.{newest}
+use Rattle.slate_filter.specs.Policy.{Policy}
+use Rattle.slate_read.specs.declared.sorted_run.SortedRun.{SortedRun}
+use Rattle.slate_db.specs.Installs.{AreHandles, handles_of, tables_of}
+use Rattle.slate_mem.specs.Lookup.{is_merge_among, newest_first}
+use Rattle.slate_db.specs.Lookup.{Extends}
+use Rattle.slate_db.specs.Model.{CoreModel, memory}
+use Rattle.slate_db.specs.Readable.{IsAnswered, IsOwnOperand}
+use Rattle.slate_db.specs.Sound.{IsSound}
+use Rattle.slate_db.specs.View.{view_of, unseen_of}
+use Rattle.slate_db.specs.Whole.{IsWhole}
+use Rattle.slate_db.proofs.Blocks.{if_ok, if_ok_where, if_err}
+use Rattle.slate_db.proofs.Causes.{fold_fault}
+use Rattle.slate_db.proofs.Shown.{fold_refused, from_memory, journal_damage}
+use Rattle.slate_db.proofs.Filters.{filtered_known}
+use Rattle.slate_db.proofs.Gets.{found_bases, found_folds, stored_as, Folds}
+use Rattle.slate_db.proofs.Runs.{all_handles}
+use Rattle.slate_db.proofs.UnderOwn.{operand_found}
+use Rattle.slate_db.proofs.engine.Core.seen.Goals as goal
+use Rattle.slate_db.proofs.engine.Core.seen.Given as given
+
+-- what is reached before the tables are read, and then
+abbrev before : (g : given.Over) → goal.After-fold_found g → Reach
+before g c = reach_of g.S.Store g.M.MergeOperator g.T.BlockTransformer c.args.env.now
+
+abbrev between : (g : given.Over) → goal.After-fold_found g → Reach
+between g c = reach_of g.S.Store g.M.MergeOperator g.T.BlockTransformer c.newest_of_runs.new.env
+
+abbrev after : (g : given.Over) → goal.After-fold_found g → Reach
+after g c = reach_of g.S.Store g.M.MergeOperator g.T.BlockTransformer (record c.newest_of_runs.new.env { operator = c.fold_found.new.operator })
+
+-- what is asked of the filters
+abbrev policies : (g : given.Over) → goal.After-fold_found g → List Policy
+policies g c = map (λ p. (goal.FilterPolicy-dyn g (p.vtable, p.value)).meaning p.value) c.args.policies.now
+
+-- memory's rows behind own ones
+near_rows : (g : given.Over) (c : goal.After-fold_found g) → newest c.args.key.now c.args.at (c.active.result.now.rows ++ newest_first (map (λ t. t.rows) c.frozen.result.now)) ≡ newest c.as_slice.result.now c.args.at (c.args.self.now.active ++ newest_first c.args.self.now.frozen)
+near_rows g c =
+    (λ i. newest c.args.key.now c.args.at (c.active.ensures i ++ newest_first (c.frozen.ensures i)))
+    ∙ ap (λ (v : CoreModel). newest c.args.key.now c.args.at (v.active ++ newest_first v.frozen)) c.self.view_is
+    ∙ ap (λ (k : List ℕ). newest k c.args.at (c.args.self.now.active ++ newest_first c.args.self.now.frozen)) (sym c.as_slice.ensures)
+
+near : (g : given.Over) (c : goal.After-fold_found g) → c.in_ok-near.near.items ≡ c.args.own.items ++ newest c.as_slice.result.now c.args.at (c.args.self.now.active ++ newest_first c.args.self.now.frozen)
+near g c = c.in_ok-near.ensures.found ∙ ap (λ rows. c.args.own.items ++ rows) (near_rows g c)
+
+near_among : (g : given.Over) (c : goal.After-fold_found g) (r : RowEntry) → Contains c.in_ok-near.near.items r → IsOwnOperand c.args.self.now r ⊎ Contains (newest_first (memory c.args.self.now)) r
+near_among g c r among =
+    by (Contains-append_cases c.args.own.items (newest c.as_slice.result.now c.args.at (c.args.self.now.active ++ newest_first c.args.self.now.frozen)) r (subst (λ (xs : List RowEntry). Contains xs r) (near g c) among))
+  where
+    by : Contains c.args.own.items r ⊎ Contains (newest c.as_slice.result.now c.args.at (c.args.self.now.active ++ newest_first c.args.self.now.frozen)) r → IsOwnOperand c.args.self.now r ⊎ Contains (newest_first (memory c.args.self.now)) r
+    by (inl own) = inl (All-contains (IsOwnOperand c.args.self.now) c.args.own.items r (All-from_recursion _ c.args.own.items c.requires.own) own)
+    by (inr found) = inr (from_memory c.args.self.now c.as_slice.result.now c.args.at _ r refl found)
+
+whole : (g : given.Over) (c : goal.After-fold_found g) → IsWhole c.args.self.now (unseen_of c.self.inside)
+whole g c = subst (λ (v : CoreModel). IsWhole v (unseen_of c.self.inside)) c.self.view_is c.self.invariant
+
+handles : (g : given.Over) (c : goal.After-fold_found g) → AreHandles (tables_of c.args.self.now.events) (handles_of c.runs.result.now)
+handles g c = subst (λ (runs : List SortedRun). AreHandles (tables_of c.args.self.now.events) (handles_of runs)) (sym c.runs.ensures) (all_handles c.args.self.now.events c.self.inside.layers.runs (whole g c).tied.runs)
+
+-- all rows
+abbrev sound : (g : given.Over) (c : goal.After-fold_found g) → IsAnswered (policies g c) (before g c) (after g c) c.args.self.now → IsSound (before g c).meaning c.args.self.now
+sound g c is = is.readable.kept.1 is.readable.lawful
+
+found_is : (g : given.Over) (c : goal.After-fold_found g) (is : IsAnswered (policies g c) (before g c) (after g c) c.args.self.now) →
+    c.in_ok-found.found.items ≡ c.args.own.items ++ newest c.args.key.now c.args.at ((c.args.self.now.active ++ newest_first c.args.self.now.frozen) ++ newest_first (sound g c is).layers)
+found_is g c is =
+    c.in_ok-found.ensures.found (sound g c is).layers is.os (stored_as (before g c).meaning c.args.self.now (view_of c.self.inside) (unseen_of c.self.inside) (handles_of c.runs.result.now) is.os (sound g c is).layers c.self.view_is (ap handles_of c.runs.ensures) c.self.invariant is.readable.lawful (sound g c is).tables is.readable.holds)
+    (filtered_known (policies g c) (before g c).meaning is.os (tables_of c.args.self.now.events) (handles_of c.runs.result.now) is.readable.lawful_policies is.readable.filtered (handles g c) is.readable.holds) is.answers c.args.own.items (c.args.self.now.active ++ newest_first c.args.self.now.frozen) c.requires.operands (near g c)
+    ∙ ap (λ (k : List ℕ). c.args.own.items ++ newest k c.args.at ((c.args.self.now.active ++ newest_first c.args.self.now.frozen) ++ newest_first (sound g c is).layers)) c.as_slice.ensures
+
+pub returns-in_err-near : goal.returns-in_err-near
+returns-in_err-near g c =
+    let p = err_from_is_err_and c.from_residual.result c.from_residual.ensures.1 in
+    record {
+      read = record {
+        answer = λ is. let p = err_from_is_err_and c.from_residual.result c.from_residual.ensures.1 in rw p.1 tt;
+        undamaged = λ is. let p = err_from_is_err_and c.from_residual.result c.from_residual.ensures.1 in rw (p.1, p.2) (subst (IsCounted _ _) (sym c.in_err-near.ensures.cause) tt);
+        cause = rw (p.1, p.2) (inl (subst (IsCounted _ _) (sym c.in_err-near.ensures.cause) tt));
+        reads = reads_none _;
+      };
+      missing = λ lacks some. IfOk-from_err c.from_residual.result _ c.from_residual.ensures.0;
+    }
+
+pub returns-in_err-found : goal.returns-in_err-found
+returns-in_err-found g c =
+    let p = err_from_is_err_and c.from_residual-in_err-found.result c.from_residual-in_err-found.ensures.1 in
+    let handles : AreHandles (tables_of c.args.self.now.events) (handles_of c.runs.result.now) = subst (λ (runs : List SortedRun). AreHandles (tables_of c.args.self.now.events) (handles_of runs)) (sym c.runs.ensures)
+    (subst (λ (v : CoreModel). AreHandles (tables_of v.events) (handles_of c.self.inside.layers.runs)) c.self.view_is (all_handles (view_of c.self.inside).events c.self.inside.layers.runs c.self.invariant.tied.runs)) in
+    record {
+      read = record {
+        answer = λ is. let p = err_from_is_err_and c.from_residual-in_err-found.result c.from_residual-in_err-found.ensures.1 in rw p.1 tt;
+        undamaged = (λ is.
+            let m = (reach_of g.S.Store g.M.MergeOperator g.T.BlockTransformer c.args.env.now).meaning in
+            let sound : IsSound m c.args.self.now = is.readable.kept.1 is.readable.lawful in
+            let p = err_from_is_err_and c.from_residual-in_err-found.result c.from_residual-in_err-found.ensures.1 in
+            rw (p.1, p.2) (c.in_err-found.ensures.whole sound.layers is.os (stored_as m c.args.self.now (view_of c.self.inside) (unseen_of c.self.inside) (handles_of c.runs.result.now) is.os sound.layers c.self.view_is (ap handles_of c.runs.ensures) c.self.invariant is.readable.lawful sound.tables is.readable.holds)
+            (filtered_known (map (λ p. (goal.FilterPolicy-dyn g (p.vtable, p.value)).meaning p.value) c.args.policies.now) m is.os (tables_of c.args.self.now.events) (handles_of c.runs.result.now) is.readable.lawful_policies is.readable.filtered handles is.readable.holds) is.answers));
+        cause = rw (p.1, p.2) (journal_damage _ _ _ c.args.self.now (handles_of c.runs.result.now) _ handles c.in_err-found.ensures.cause);
+        reads = c.newest_of_runs.ensures.reads;
+      };
+      missing = λ lacks some. IfOk-from_err c.from_residual-in_err-found.result _ c.from_residual-in_err-found.ensures.0;
+    }
+
+pub returns : goal.returns
+returns g c =
+    let tables = c.newest_of_runs.ensures.reads in
+    let same : (before g c).meaning.combine ≡ (between g c).meaning.combine = sym (ap (λ m. m.combine) tables.meaning) in
+    record {
+      read = record {
+        answer = (λ is. if_ok_where c.fold_found.result _ (λ above.
+            let m = (before g c).meaning in
+            let k = c.args.key.now in
+            let folds : Folds m c.args.self.now k c.args.at c.args.own.items c.in_ok-found.found.items = found_folds m c.args.self.now _ k c.args.at c.args.own.items c.in_ok-found.found.items (sound g c is).layers (whole g c) is.readable.lawful is.readable.kept (sound g c is).tables (sound g c is).short above c.requires.keys c.requires.short (found_is g c is) in
+            if_ok c.fold_found.result _ _ (λ row h. h ∙ ap (λ x. fold_rows (operator_at x k) (reverse c.in_ok-found.found.items)) (sym same) ∙ folds.fold)
+            (c.fold_found.ensures.row k (subst (λ x. IsLawful (operator_at x k)) same (is.readable.lawful.operator k)) (subst (λ x. KeepsShort (operator_at x k)) same (is.readable.lawful.short k)) folds.are)));
+        undamaged = (λ is.
+            let none : (between g c).meaning.combine ≡ None → is_merge_among c.in_ok-found.found.items ≡ false = λ lacks. found_bases (before g c).meaning c.args.self.now c.args.key.now c.args.at c.args.own.items c.in_ok-found.found.items (sound g c is).layers (same ∙ lacks) is.readable.kept.0 is.readable.kept.2 ((sound g c is).bases (same ∙ lacks)) c.requires.own (found_is g c is) in
+            if_err c.fold_found.result _ _ (λ e h. fold_fault _ _ _ (is_merge_among c.in_ok-found.found.items) e tables.later none h) c.fold_found.ensures.cause);
+        cause = if_err c.fold_found.result _ _ (λ e h. fold_refused _ (before g c) (between g c) (after g c) c.args.self.now (handles_of c.runs.result.now) c.in_ok-near.near.items c.in_ok-found.found.items e (handles g c) (near_among g c) tables.later refl
+            (λ i. record (between g c).meaning { combine = c.fold_found.ensures.same i }) refl c.in_ok-found.ensures.rows h) c.fold_found.ensures.cause;
+        reads = reads_then _ _ _ tables (reads_of _ _ refl c.fold_found.ensures.same refl refl (adds_none _) (record { store = omega arith; operator = c.fold_found.ensures.later; transformer = omega arith }) refl);
+      };
+      missing = λ lacks some. subst (λ (r : Result (Option RowEntry) SlateDBError). IfOk r (λ row. ⊥))
+          (sym (c.fold_found.ensures.missing (sym same ∙ lacks)
+          (operand_found c.args.own.items (newest c.as_slice.result.now c.args.at (c.args.self.now.active ++ newest_first c.args.self.now.frozen)) c.in_ok-found.found.items c.requires.operands some (subst (λ xs. Extends xs c.in_ok-found.found.items) (near g c) c.in_ok-found.ensures.extends)))) tt;
+    }
+
+pub newest_of_runs-requires : goal.newest_of_runs-requires
+newest_of_runs-requires g c = c.requires.query ∙ ap (λ (k : List ℕ). Point k) (sym c.as_slice.ensures)

@@ -1,0 +1,127 @@
+use Rattle.std.proofs.Common.{inl, ◌≡◌, ℕ, List, [], ◌++◌, map, reverse, true, false, Option, Some, refl, sym, ap, subst, ◌∙◌, arith}
+use Rattle.std.specs.Prelude.{IfOk, IsOkUnless, Ok, Result}
+use Rattle.std.specs.List.{AllByRecursion}
+use Rattle.std.proofs.lemmas.List.Elements.{All-contains, All-from_recursion}
+use Rattle.slate_types.specs.declared.error.SlateDBError.{SlateDBError}
+use Rattle.slate_types.specs.declared.error.SlateDBError.TheVariants.{OutOfMemory}
+use Rattle.slate_types.specs.declared.types.RowEntry.{RowEntry}
+use Rattle.slate_types.specs.Fold.{fold_rows}
+use Rattle.slate_types.specs.Outside.{Reach}
+use Rattle.slate_types.proofs.Calls.{call_none}
+use Rattle.slate_types.proofs.Reaching.{adds_none, later_none, reads_of}
+use Rattle.slate_mem.specs.declared.WriteOp.{WriteOp}
+use Rattle.slate_mem.specs.Batch.{kept}
+use Rattle.slate_mem.specs.Lookup.{is_decided, is_merge_among}
+use Rattle.slate_mem.specs.RowOf.{own_row}
+use Rattle.slate_store.specs.Reach.{reach_of}
+use Rattle.slate_table.proofs.ReadCalls.{call_quiet}
+use Rattle.slate_txn.specs.Named.{find_named}
+use Rattle.slate_txn.specs.Reads.{key_rows, up_to}
+use Rattle.slate_txn.specs.Step.{reader}
+use Rattle.slate_txn.proofs.NamedLaws.{open_is}
+use Rattle.slate_db.specs.Installs.{AreHandles, handles_of, tables_of}
+use Rattle.slate_db.specs.Meaning.{combine_of, rules_of}
+use Rattle.slate_db.specs.Model.{CoreModel, Rows}
+use Rattle.slate_db.specs.Readable.{IsOwnOperand}
+use Rattle.slate_db.specs.View.{view_of}
+use Rattle.slate_db.proofs.Bases.{no_merge_among}
+use Rattle.slate_db.proofs.Blocks.{if_err, if_ok}
+use Rattle.slate_db.proofs.Causes.{fold_fault}
+use Rattle.slate_db.proofs.Gets.{own_pairs}
+use Rattle.slate_db.proofs.NoMerges.{own_bases_of}
+use Rattle.slate_db.proofs.OwnRows.{oldest_first, one_decides, own_decide, own_decided, own_keys, own_merges, own_operands, own_short, own_some, plain_alone}
+use Rattle.slate_db.proofs.Readers.{own_fine_of, own_of_reader, own_rows_of}
+use Rattle.slate_db.proofs.Runs.{all_handles}
+use Rattle.slate_db.proofs.Shown.{fold_refused, newer_found}
+use Rattle.slate_db.proofs.engine.Core.seen_by.Goals as goal
+
+pub seen-requires : goal.seen-requires
+seen-requires g c =
+    let k : List ℕ = c.args.key.now in
+    let own : Rows = c.in_ok-own.own.items in
+    let who = open_is (reader c.args.self.now.state c.args.id.now) c.requires.open in
+    let there : reader (view_of c.self.inside).state c.args.id.now ≡ Some who.value = ap (λ (v : CoreModel). reader v.state c.args.id.now) c.self.view_is ∙ who.is in
+    let rows : own ≡ map (own_row k) (reverse (kept who.value.ops k)) = own_rows_of (view_of c.self.inside).state c.args.id.now who.value there k own c.in_ok-own.ensures.rows c.in_ok-own.ensures.none in
+    let undecided : is_decided own ≡ false = ap is_decided (sym c.deref.ensures.value) ∙ sym c.is_decided.ensures ∙ c.if-is_decided.false in
+    record {
+      query = c.requires.query;
+      operands = own_operands k who.value.ops own rows undecided;
+      own = own_of_reader c.args.self.now c.args.id.now who.value k own who.is rows;
+      keys = own_keys k who.value.ops own rows;
+      short = own_short k who.value.ops own rows (own_fine_of (view_of c.self.inside).state c.args.id.now who.value there c.own_rows.ensures.fine);
+    }
+
+pub returns-then-is_decided : goal.returns-then-is_decided
+returns-then-is_decided g c =
+    let before : Reach = reach_of g.S.Store g.M.MergeOperator g.T.BlockTransformer c.args.env.now in
+    let after : Reach = reach_of g.S.Store g.M.MergeOperator g.T.BlockTransformer (record c.args.env.now { operator = c.fold_found.new.operator }) in
+    let k : List ℕ = c.args.key.now in
+    let own : Rows = c.in_ok-own.own.items in
+    record {
+      read = λ from found.
+          let there : reader (view_of c.self.inside).state c.args.id.now ≡ Some from = ap (λ (v : CoreModel). reader v.state c.args.id.now) c.self.view_is ∙ found in
+          let rows : own ≡ map (own_row k) (reverse (kept from.ops k)) = own_rows_of (view_of c.self.inside).state c.args.id.now from there k own c.in_ok-own.ensures.rows c.in_ok-own.ensures.none in
+          let decided : is_decided own ≡ true = ap is_decided (sym c.deref.ensures.value) ∙ sym c.is_decided.ensures ∙ c.if-is_decided.true in
+          let owns : AllByRecursion (IsOwnOperand c.args.self.now) own = own_of_reader c.args.self.now c.args.id.now from k own found rows in
+          let older : Rows = key_rows (rules_of c.args.self.now.settings before.meaning) k (up_to c.args.at c.args.self.now.state.commits) in
+          let handles : AreHandles (tables_of c.args.self.now.events) (handles_of c.self.inside.layers.runs) = subst (λ (v : CoreModel). AreHandles (tables_of v.events) (handles_of c.self.inside.layers.runs)) c.self.view_is (all_handles (view_of c.self.inside).events c.self.inside.layers.runs c.self.invariant.tied.runs) in
+          record {
+            answer = λ is. if_ok c.fold_found.result _ _ (λ row h above. h ∙ own_decided k from.ops own rows (combine_of before.meaning k) older decided)
+                (c.fold_found.ensures.row k (is.readable.lawful.operator k) (is.readable.lawful.short k) (own_pairs k own (own_keys k from.ops own rows) (own_short k from.ops own rows (own_fine_of (view_of c.self.inside).state c.args.id.now from there c.own_rows.ensures.fine))));
+            undamaged = λ is. if_err c.fold_found.result _ _ (λ e h. fold_fault before.faults before.faults after.faults (is_merge_among own) e (later_none before.faults) (λ lacks. no_merge_among own (own_bases_of c.args.self.now own (is.readable.kept.2 lacks) owns)) h) c.fold_found.ensures.cause;
+            cause = if_err c.fold_found.result _ _ (λ e h. fold_refused _ before before after c.args.self.now (handles_of c.self.inside.layers.runs) own own e handles
+                (λ r among. inl (All-contains (IsOwnOperand c.args.self.now) own r (All-from_recursion _ own owns) among)) (later_none before.faults) refl
+                (λ i. record before.meaning { combine = c.fold_found.ensures.same i }) refl ([], call_none before, newer_found before.meaning.decode _ (handles_of c.self.inside.layers.runs) own []) h) c.fold_found.ensures.cause;
+            reads = reads_of before after refl c.fold_found.ensures.same refl refl (adds_none before.acts) (record { store = omega arith; operator = c.fold_found.ensures.later; transformer = omega arith }) refl;
+          };
+      own = λ t op found one replaces.
+          let there : find_named c.args.id.now c.self.inside.transactions ≡ Some t = ap (λ (v : CoreModel). find_named c.args.id.now v.state.txns) c.self.view_is ∙ found in
+          let rows : own ≡ map (own_row k) (reverse (kept t.ops k)) = c.in_ok-own.ensures.rows t there in
+          let plain = c.fold_found.ensures.plain (ap is_merge_among (rows ∙ ap (λ (xs : List WriteOp). map (own_row k) (reverse xs)) one) ∙ plain_alone k op replaces) in
+          let is : c.fold_found.result ≡ Ok (Some (own_row k op)) = plain.1 (λ e v. v) ∙ ap (λ (xs : Rows). Ok (fold_rows (λ e v. v) xs)) (oldest_first k t.ops own rows ∙ ap (map (own_row k)) one) in
+          record {
+            answer = subst (λ (r : Result (Option RowEntry) SlateDBError). IfOk r (λ row. row ≡ Some (own_row k op))) (sym is) refl;
+            cause = subst (λ (r : Result (Option RowEntry) SlateDBError). IsOkUnless r OutOfMemory) (sym is) tt;
+            reached = ap (λ o. reach_of g.S.Store g.M.MergeOperator g.T.BlockTransformer (record c.args.env.now { operator = o })) plain.0;
+          };
+      decided = λ t found some. (call_quiet before after refl (λ i. record before.meaning { combine = c.fold_found.ensures.same i }) refl, refl);
+      folded = λ t found some lawful short.
+          let there : find_named c.args.id.now c.self.inside.transactions ≡ Some t = ap (λ (v : CoreModel). find_named c.args.id.now v.state.txns) c.self.view_is ∙ found in
+          let rows : own ≡ map (own_row k) (reverse (kept t.ops k)) = c.in_ok-own.ensures.rows t there in
+          if_ok c.fold_found.result _ _ (λ row h. h ∙ ap (fold_rows (combine_of before.meaning k)) (oldest_first k t.ops own rows))
+          (c.fold_found.ensures.row k lawful short (own_pairs k own (own_keys k t.ops own rows) (own_short k t.ops own rows (c.own_rows.ensures.fine t there))));
+      missing = λ t found lacks some.
+          let there : find_named c.args.id.now c.self.inside.transactions ≡ Some t = ap (λ (v : CoreModel). find_named c.args.id.now v.state.txns) c.self.view_is ∙ found in
+          subst (λ (r : Result (Option RowEntry) SlateDBError). IfOk r (λ row. ⊥)) (sym (c.fold_found.ensures.missing lacks (own_merges k t.ops own (c.in_ok-own.ensures.rows t there) some))) tt;
+    }
+
+pub returns : goal.returns
+returns g c =
+    let before : Reach = reach_of g.S.Store g.M.MergeOperator g.T.BlockTransformer c.args.env.now in
+    let k : List ℕ = c.args.key.now in
+    let own : Rows = c.in_ok-own.own.items in
+    let undecided : is_decided own ≡ false = ap is_decided (sym c.deref.ensures.value) ∙ sym c.is_decided.ensures ∙ c.if-is_decided.false in
+    record {
+      read = λ from found.
+          let there : reader (view_of c.self.inside).state c.args.id.now ≡ Some from = ap (λ (v : CoreModel). reader v.state c.args.id.now) c.self.view_is ∙ found in
+          let rows : own ≡ map (own_row k) (reverse (kept from.ops k)) = own_rows_of (view_of c.self.inside).state c.args.id.now from there k own c.in_ok-own.ensures.rows c.in_ok-own.ensures.none in
+          let older : Rows = key_rows (rules_of c.args.self.now.settings before.meaning) k (up_to c.args.at c.args.self.now.state.commits) in
+          record {
+            answer = λ is. if_ok c.seen.result _ _ (λ row h above. h above ∙ ap (λ (xs : Rows). fold_rows (combine_of before.meaning k) (older ++ xs)) (oldest_first k from.ops own rows)) (c.seen.ensures.read.answer is);
+            undamaged = c.seen.ensures.read.undamaged;
+            cause = c.seen.ensures.read.cause;
+            reads = c.seen.ensures.read.reads;
+          };
+      own = λ t op found one replaces.
+          let there : find_named c.args.id.now c.self.inside.transactions ≡ Some t = ap (λ (v : CoreModel). find_named c.args.id.now v.state.txns) c.self.view_is ∙ found in
+          let clash : true ≡ false = sym (own_decide k t.ops own (c.in_ok-own.ensures.rows t there) (one_decides k t.ops op one replaces)) ∙ undecided in cc;
+      decided = λ t found some.
+          let there : find_named c.args.id.now c.self.inside.transactions ≡ Some t = ap (λ (v : CoreModel). find_named c.args.id.now v.state.txns) c.self.view_is ∙ found in
+          let clash : true ≡ false = sym (own_decide k t.ops own (c.in_ok-own.ensures.rows t there) some) ∙ undecided in cc;
+      folded = λ t found some lawful short.
+          let there : find_named c.args.id.now c.self.inside.transactions ≡ Some t = ap (λ (v : CoreModel). find_named c.args.id.now v.state.txns) c.self.view_is ∙ found in
+          let clash : true ≡ false = sym (own_decide k t.ops own (c.in_ok-own.ensures.rows t there) some) ∙ undecided in cc;
+      missing = λ t found lacks some.
+          let there : find_named c.args.id.now c.self.inside.transactions ≡ Some t = ap (λ (v : CoreModel). find_named c.args.id.now v.state.txns) c.self.view_is ∙ found in
+          c.seen.ensures.missing lacks (own_some k t.ops own (c.in_ok-own.ensures.rows t there) some);
+    }

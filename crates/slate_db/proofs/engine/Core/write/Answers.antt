@@ -1,0 +1,399 @@
+use Rattle.std.proofs.Common.{◌≡◌, ◌⊎◌, length, option_map, None, ℕ, ◌+◌, ◌-◌, ◌^◌, ◌<◌, ◌≤◌, ◌++◌, ◌∷◌, [], List, Option, Some, ℤ, refl, ap, sym, subst, ◌∙◌, arith, inr, true, false, w64, inl, true≢false, Err}
+use Rattle.std.proofs.lemmas.Result.{IfOk-from_err, err_from_is_err_and}
+use Rattle.std.specs.List.{AllByRecursion}
+use Rattle.std.proofs.lemmas.Int.{to_z-of_z}
+use Rattle.slate_txn.specs.State.{last_of}
+use Rattle.slate_types.specs.declared.error.SlateDBError.TheVariants as errors
+use Rattle.slate_types.specs.Fold.{Combine, operator_at}
+use Rattle.slate_mem.specs.Batch.{Ops, batch_keys}
+use Rattle.slate_mem.specs.CommitRows.{commit_rows}
+use Rattle.slate_mem.specs.Table.{put_rows}
+use Rattle.slate_txn.specs.declared.line.Line.TheVariants as lines
+use Rattle.slate_txn.specs.Reply.{Written, Refused}
+use Rattle.slate_txn.specs.Step.{step}
+use Rattle.slate_db.specs.declared.engine.Core.TheInside.{Inside}
+use Rattle.slate_db.specs.BatchTests.{batch_refusal}
+use Rattle.slate_db.specs.Load.{load}
+use Rattle.slate_db.specs.Meaning.{rules_of, combine_of}
+use Rattle.slate_db.specs.Model.{CoreModel, Rows, at, versions, versions_in, IsSame}
+use Rattle.slate_db.specs.View.{view_of, unseen_of, IsWholeInside}
+use Rattle.slate_db.specs.Sound.{IsKept}
+use Rattle.slate_db.specs.Vouched.{IsVouchedFor}
+use Rattle.slate_db.specs.Layers.{AreLayers, LayersModel, FitsMemory, AreRising}
+use Rattle.slate_db.specs.Log.{IsLog, LogModel, IsWhollyKept, with_write}
+use Rattle.slate_db.specs.Written.{after_write}
+use Rattle.slate_types.specs.Outside.{Meaning}
+use Rattle.slate_types.proofs.Reaching.{reads_none}
+use Rattle.slate_store.specs.Reach.{reach_of}
+use Rattle.slate_db.proofs.Asks.{asked_call, asked_reads, call_none, callback_fault, short_fault}
+use Rattle.slate_db.proofs.Keeps.{kept_same, room_made}
+use Rattle.slate_db.proofs.Calls.{none_left, past_place, placed, room_in_log, written_is}
+use Rattle.slate_db.proofs.Lists.{all_map, all_behind}
+use Rattle.slate_db.proofs.Loads.{write_load}
+use Rattle.slate_db.proofs.Managing.{managed_written}
+use Rattle.slate_db.proofs.MemoryRows.{commit_within, puts_all, rise_more}
+use Rattle.slate_db.proofs.Operands.{combine_is}
+use Rattle.slate_db.proofs.Plain.{step_nothing, step_exhausted, some_ops}
+use Rattle.slate_db.proofs.Puts.{some_more, versions_more, active_within}
+use Rattle.slate_db.proofs.Logs.{has_place}
+use Rattle.slate_db.proofs.TakenBack.{commit_seqs, older_rows}
+use Rattle.slate_db.proofs.Tests.{batch_refusal_as, first_moved, none_some, refusal_asked, refusal_known, step_test_refused, step_tested, tested_plain}
+use Rattle.slate_db.proofs.Vouches.{below_next, vouched_write}
+use Rattle.slate_db.proofs.Wholes.{whole_write}
+use Rattle.slate_db.proofs.Writes.{kept_write}
+use Rattle.slate_db.proofs.engine.Core.write.Goals as goal
+
+pub returns-then-is_empty : goal.returns-then-is_empty
+returns-then-is_empty g c =
+    record {
+      step = (λ ops of fine.
+          step_nothing (rules_of c.args.self.now.settings (reach_of g.S.Store g.M.MergeOperator g.T.BlockTransformer c.args.env.now).meaning) (at c.args.now c.args.self.now.state) ops c.args.batch of (c.is_empty.ensures.0 c.if-is_empty.true));
+      refused = tt;
+      event = (c.is_empty.ensures.0 c.if-is_empty.true, refl);
+      vouched = λ m k h. h;
+      kept = λ k. k;
+      load = λ ops of. omega arith;
+      kept_refused = tt;
+      same = tt;
+      idle = λ none. refl;
+      first = λ some below e is. absurd (some (c.is_empty.ensures.0 c.if-is_empty.true));
+      outside = refl;
+      call = call_none _;
+      reads = reads_none _;
+      exhausted = λ some full. absurd (some (c.is_empty.ensures.0 c.if-is_empty.true));
+      limit = λ some below fine past. absurd (some (c.is_empty.ensures.0 c.if-is_empty.true));
+      cause = tt;
+    }
+
+pub returns-then-last-ge18446744073709551614 : goal.returns-then-last-ge18446744073709551614
+returns-then-last-ge18446744073709551614 g c =
+    record {
+      step = tt;
+      refused = (inr (inr (λ ops of fine.
+          let m : Meaning = (reach_of g.S.Store g.M.MergeOperator g.T.BlockTransformer c.args.env.now).meaning in
+          sym (ap (λ (v : CoreModel). step (rules_of v.settings m) (at c.args.now v.state) (lines.Write ops)) c.self.view_is)
+          ∙ step_exhausted (rules_of (view_of c.self.inside).settings m) (at c.args.now (view_of c.self.inside).state) ops c.args.batch c.self.inside.log.last of
+          (λ e. let t : true ≡ false = sym (c.is_empty.ensures.1 e) ∙ c.if-is_empty.false in cc) fine refl c.self.invariant.log.last
+          (let h : c.self.inside.log.last ≤ 2 ^ 64 - 2 = c.self.invariant.log.last_fits in omega (arith, c.last.ensures))
+          ∙ ap (λ (v : CoreModel). (at c.args.now v.state, Refused errors.SequenceExhausted)) c.self.view_is)));
+      event = tt;
+      vouched = tt;
+      kept = tt;
+      load = λ ops of. tt;
+      kept_refused = λ m k. k;
+      same = refl;
+      idle = λ none. absurd (true≢false (sym (c.is_empty.ensures.1 none) ∙ c.if-is_empty.false));
+      exhausted = λ some full. refl;
+      limit = λ some below fine past. let last = subst (λ n. n < 2 ^ 64 - 2) (sym (c.self.invariant.log.last ∙ ap (λ (v : CoreModel). last_of v.settings.start_seq v.state.commits) c.self.view_is)) below in absurd (omega (arith, last, c.last.ensures));
+      first = λ some below e is. let last = subst (λ n. n < 2 ^ 64 - 2) (sym (c.self.invariant.log.last ∙ ap (λ (v : CoreModel). last_of v.settings.start_seq v.state.commits) c.self.view_is)) below in absurd (omega (arith, last, c.last.ensures));
+      outside = refl;
+      call = call_none _;
+      reads = reads_none _;
+      cause = (let fits : c.self.inside.log.last ≤ 2 ^ 64 - 2 = c.self.invariant.log.last_fits in let last : c.self.inside.log.last ≡ 2 ^ 64 - 2 = omega (arith, fits, c.last.ensures) in inr (inl (refl, sym (c.self.invariant.log.last ∙ ap (λ (v : CoreModel). last_of v.settings.start_seq v.state.commits) c.self.view_is) ∙ last)));
+    }
+
+-- why the tests refused it
+refused_test : {Short Test Fault Limit Model : Type 0} → (Short → Fault) → (Test → Model) → Short ⊎ Test → Fault ⊎ Limit ⊎ Model
+refused_test f m (inl short) = inl (f short)
+refused_test f m (inr test) = inr (inr (m test))
+
+cause_test : {Short Test Fault Full Limit Known : Type 0} → (Short → Fault) → (Test → Known) → Short ⊎ Test → Fault ⊎ Full ⊎ Limit ⊎ Known
+cause_test f m (inl short) = inl (f short)
+cause_test f m (inr test) = inr (inr (inr (m test)))
+
+or_short : {Short Test P Q : Type 0} → (Short → Q) → (Test → P ⊎ Q) → Short ⊎ Test → P ⊎ Q
+or_short f m (inl short) = inr (f short)
+or_short f m (inr test) = m test
+
+-- why the rows weren't made
+either : {A B P : Type 0} → (A → P) → (B → P) → A ⊎ B → P
+either f m (inl a) = f a
+either f m (inr b) = m b
+
+-- the commit's rows, of the operations at the next sequence
+made : (a b : Option (List ℕ → Combine)) (d : Option ℕ) (n seq : ℕ) (at now : ℤ) (ops : Ops) (rows : Rows) → rows ≡ commit_rows (operator_at a) d seq at ops → a ≡ b → seq ≡ n → at ≡ now → rows ≡ commit_rows (operator_at b) d n now ops
+made a b d n seq at now ops rows is operators seqs ats = is ∙ (λ i. commit_rows (operator_at (operators i)) d (seqs i) (ats i) ops)
+
+higher : (n m : ℕ) → m ≤ n → m ≤ n + 1
+higher n m h = omega arith
+
+pub put_batch-requires : goal.put_batch-requires
+put_batch-requires g c =
+    let f : List ℕ → Combine = combine_of (reach_of g.S.Store g.M.MergeOperator g.T.BlockTransformer c.args.env.now).meaning in
+    let n : ℕ = c.self.inside.log.last in
+    let seq : c.last-seq.result + 1 ≡ n + 1 = ap (λ n. n + 1) (c.last-seq.ensures ∙ ap (λ (l : LogModel). l.last) c.reserve.ensures.value) in
+    let rows : c.in_ok-rows.rows.items ≡ commit_rows f c.self.inside.default_millis (n + 1) c.args.now c.args.batch.ops =
+    made (option_map g.M.MergeOperator.combine c.args.env.now.operator) (reach_of g.S.Store g.M.MergeOperator g.T.BlockTransformer c.args.env.now).meaning.combine c.self.inside.default_millis (n + 1) (c.last-seq.result + 1) _ c.args.now c.args.batch.ops c.in_ok-rows.rows.items c.in_ok-rows.ensures.rows (sym (combine_is g.M.MergeOperator.combine c.args.env.now.operator)) seq (to_z-of_z w64 c.args.now c.ranges.now) in
+    record {
+      whole = c.self.invariant.layers;
+      fit = c.in_ok-rows.ensures.fit c.ops.ensures.fine;
+      rise = λ k. subst (λ (rows : Rows). AreRising (versions_in k (c.self.inside.layers.frozen ++ (put_rows c.self.inside.layers.active rows ∷ [])))) (sym rows)
+          (rise_more (view_of c.self.inside) f c.self.inside.default_millis n c.args.now c.args.batch.ops c.self.invariant.tied.rows_within c.self.invariant.layers.rise k);
+      seqs = subst (λ (k : ℕ). AllByRecursion (λ r. r.seq ≡ k) c.in_ok-rows.rows.items) (sym seq) (subst (AllByRecursion (λ r. r.seq ≡ n + 1)) (sym rows) (commit_seqs f c.self.inside.default_millis (n + 1) c.args.now c.args.batch.ops));
+      older = subst (λ (k : ℕ). AllByRecursion (λ r. r.seq < k) c.self.inside.layers.active) (sym seq) (older_rows (view_of c.self.inside) n c.self.invariant.tied.rows_within);
+      later = let newest : c.self.inside.manager.last ≡ n = c.self.invariant.tied.manager.newest in omega (arith, seq);
+    }
+
+pub push_write-requires : goal.push_write-requires
+push_write-requires g c = record {
+  place = has_place c.self.inside.log c.reserve.new.self c.reserve.ensures.value c.in_ok-reserve.ensures.room c.in_ok-place.ensures.place;
+  next = subst (λ (l : LogModel). l.last < 2 ^ 64 - 2) (sym c.reserve.ensures.value) (let h : c.self.inside.log.last < 2 ^ 64 - 2 = omega (arith, c.last.ensures) in h);
+  kept = subst IsWhollyKept (sym (c.from_vec.ensures ∙ c.in_ok-ops.ensures.ops)) (record { some = some_ops c.args.batch.ops (λ e. let t : true ≡ false = sym (c.is_empty.ensures.1 e) ∙ c.if-is_empty.false in cc); kept = c.ops.ensures.kept; fine = c.ops.ensures.fine });
+}
+
+pub invariant_of-self-2 : goal.invariant_of-self-2
+invariant_of-self-2 g c =
+    let f : List ℕ → Combine = combine_of (reach_of g.S.Store g.M.MergeOperator g.T.BlockTransformer c.args.env.now).meaning in
+    let n : ℕ = c.self.inside.log.last in
+    let seq : c.last-seq.result + 1 ≡ n + 1 = ap (λ n. n + 1) (c.last-seq.ensures ∙ ap (λ (l : LogModel). l.last) c.reserve.ensures.value) in
+    let rows : c.in_ok-rows.rows.items ≡ commit_rows f c.self.inside.default_millis (n + 1) c.args.now c.args.batch.ops =
+    made (option_map g.M.MergeOperator.combine c.args.env.now.operator) (reach_of g.S.Store g.M.MergeOperator g.T.BlockTransformer c.args.env.now).meaning.combine c.self.inside.default_millis (n + 1) (c.last-seq.result + 1) _ c.args.now c.args.batch.ops c.in_ok-rows.rows.items c.in_ok-rows.ensures.rows (sym (combine_is g.M.MergeOperator.combine c.args.env.now.operator)) (ap (λ n. n + 1) (c.last-seq.ensures ∙ ap (λ (l : LogModel). l.last) c.reserve.ensures.value)) (to_z-of_z w64 c.args.now c.ranges.now) in
+    let layers : c.put_batch.new.layers ≡ record c.self.inside.layers { active = put_rows c.self.inside.layers.active (commit_rows f c.self.inside.default_millis (n + 1) c.args.now c.args.batch.ops) } =
+    c.in_ok-put_batch.ensures.put ∙ ap (λ rs. record c.self.inside.layers { active = put_rows c.self.inside.layers.active rs }) rows in
+    let log : c.push_write.new.self ≡ with_write c.self.inside.log c.args.now c.args.batch.ops c.push_write.new.self.spare =
+    c.push_write.ensures.value ∙ (λ i. with_write (c.reserve.ensures.value i) (to_z-of_z w64 c.args.now c.ranges.now i) ((c.from_vec.ensures ∙ c.in_ok-ops.ensures.ops) i) c.push_write.new.self.spare) in
+    subst IsWholeInside (written_is c.self.inside c.reserve.new.self c.push_write.new.self c.put_batch.new.layers c.put_batch.new.manager c.args.now _ c.args.batch.ops _ _ c.reserve.ensures.value (to_z-of_z w64 c.args.now c.ranges.now) (c.from_vec.ensures ∙ c.in_ok-ops.ensures.ops) c.push_write.ensures.value layers)
+    (whole_write (view_of c.self.inside) (unseen_of c.self.inside) c.args.now c.args.batch.ops (put_rows c.self.inside.layers.active (commit_rows f c.self.inside.default_millis (n + 1) c.args.now c.args.batch.ops)) c.push_write.new.self.spare
+    (some_more f c.self.inside.default_millis (n + 1) c.args.now c.args.batch.ops c.self.inside.layers.active (λ e. let t : true ≡ false = sym (c.is_empty.ensures.1 e) ∙ c.if-is_empty.false in cc))
+    (puts_all _ c.self.inside.layers.active _ (all_map _ _ (λ r h. higher n r.seq h) _ (all_behind (λ rows. AllByRecursion (λ r. r.seq ≤ n) rows) c.self.inside.layers.frozen (c.self.inside.layers.active ∷ []) c.self.invariant.tied.rows_within).0) (commit_within f c.self.inside.default_millis (n + 1) c.args.now c.args.batch.ops))
+    c.put_batch.new.manager
+    (managed_written c.self.inside.manager c.put_batch.new.manager c.self.inside.log.ids n (n + 1) c.self.inside.log.commits c.self.inside.transactions (record { seq = n + 1; now = c.args.now; ops = c.args.batch.ops; tracked = batch_keys c.args.batch.ops })
+    (subst (λ (k : ℕ). c.put_batch.new.manager ≡ record c.self.inside.manager { last = k; kept = c.put_batch.new.manager.kept }) seq c.in_ok-put_batch.ensures.committed)
+    (c.in_ok-put_batch.ensures.stands _ _ (sym seq, sym c.in_ok-keys.ensures.keys)) c.self.invariant.tied.manager)
+    (subst IsLog log c.push_write.ensures.whole) (subst AreLayers layers c.put_batch.ensures.whole) c.self.invariant)
+
+pub returns : goal.returns
+returns g c =
+    let m : Meaning = (reach_of g.S.Store g.M.MergeOperator g.T.BlockTransformer c.args.env.now).meaning in
+    let f : List ℕ → Combine = combine_of (reach_of g.S.Store g.M.MergeOperator g.T.BlockTransformer c.args.env.now).meaning in
+    let n : ℕ = c.self.inside.log.last in
+    let seq : c.last-seq.result + 1 ≡ n + 1 = ap (λ n. n + 1) (c.last-seq.ensures ∙ ap (λ (l : LogModel). l.last) c.reserve.ensures.value) in
+    let rows : c.in_ok-rows.rows.items ≡ commit_rows f c.self.inside.default_millis (n + 1) c.args.now c.args.batch.ops =
+    made (option_map g.M.MergeOperator.combine c.args.env.now.operator) (reach_of g.S.Store g.M.MergeOperator g.T.BlockTransformer c.args.env.now).meaning.combine c.self.inside.default_millis (n + 1) (c.last-seq.result + 1) _ c.args.now c.args.batch.ops c.in_ok-rows.rows.items c.in_ok-rows.ensures.rows (sym (combine_is g.M.MergeOperator.combine c.args.env.now.operator)) seq (to_z-of_z w64 c.args.now c.ranges.now) in
+    let written : Rows = put_rows c.self.inside.layers.active (commit_rows f c.self.inside.default_millis (n + 1) c.args.now c.args.batch.ops) in
+    let layers : c.put_batch.new.layers ≡ record c.self.inside.layers { active = put_rows c.self.inside.layers.active (commit_rows f c.self.inside.default_millis (n + 1) c.args.now c.args.batch.ops) } =
+    c.in_ok-put_batch.ensures.put ∙ ap (λ rs. record c.self.inside.layers { active = put_rows c.self.inside.layers.active rs }) rows in
+    let becomes = written_is c.self.inside c.reserve.new.self c.push_write.new.self c.put_batch.new.layers c.put_batch.new.manager c.args.now _ c.args.batch.ops _ _ c.reserve.ensures.value (to_z-of_z w64 c.args.now c.ranges.now) (c.from_vec.ensures ∙ c.in_ok-ops.ensures.ops) c.push_write.ensures.value layers in
+    let below : n < 2 ^ 64 - 2 = omega (arith, c.last.ensures) in
+    let tested : batch_refusal m.combine c.self.inside.default_millis c.args.now c.args.batch ≡ None =
+    sym (batch_refusal_as (option_map g.M.MergeOperator.combine c.args.env.now.operator) m.combine c.self.inside.default_millis _ c.args.now c.args.batch (sym (combine_is g.M.MergeOperator.combine c.args.env.now.operator)) (to_z-of_z w64 c.args.now c.ranges.now)) ∙ c.in_ok-test_batch.ensures.tested in
+    record {
+      step = (λ ops of fine.
+          sym (ap (λ (v : CoreModel). step (rules_of v.settings m) (at c.args.now v.state) (lines.Write ops)) c.self.view_is)
+          ∙ step_tested (rules_of (view_of c.self.inside).settings m) (at c.args.now (view_of c.self.inside).state) ops c.args.batch n of (λ e. let t : true ≡ false = sym (c.is_empty.ensures.1 e) ∙ c.if-is_empty.false in cc) tested fine refl c.self.invariant.log.last below
+          ∙ (let s = sym seq in λ i. (at c.args.now (view_of (becomes i)).state, Written (Some (s i)))));
+      refused = tt;
+      event = sym (ap view_of becomes) ∙ ap (λ (v : CoreModel). after_write v (n + 1) c.args.now c.args.batch.ops (put_rows c.self.inside.layers.active (commit_rows f c.self.inside.default_millis (n + 1) c.args.now c.args.batch.ops)) c.push_write.new.self.spare) c.self.view_is
+          ∙ (let s = sym seq in let rows = sym (ap (λ (y : LayersModel). y.active) layers) in λ i. after_write c.args.self.now (s i) c.args.now c.args.batch.ops (rows i) c.push_write.new.self.spare);
+      vouched = (λ m k h.
+          subst (λ (s : Inside). IsVouchedFor m (view_of s) k) becomes
+          (vouched_write m (view_of c.self.inside) k (n + 1) c.args.now c.args.batch.ops written c.push_write.new.self.spare (below_next (view_of c.self.inside) (unseen_of c.self.inside) c.self.invariant)
+          (subst (λ (v : CoreModel). IsVouchedFor m v k) (sym c.self.view_is) h)));
+      kept = (λ k.
+          let old : IsKept m (view_of c.self.inside) = subst (λ (v : CoreModel). IsKept m v) (sym c.self.view_is) k in
+          subst (λ (s : Inside). IsKept m (view_of s)) becomes
+          (kept_write m (view_of c.self.inside) (unseen_of c.self.inside) c.args.now c.args.batch.ops _ c.push_write.new.self.spare
+          (λ j. versions_more f c.self.inside.default_millis (n + 1) c.args.now c.args.batch.ops c.self.inside.layers.active j (active_within m (view_of c.self.inside) (unseen_of c.self.inside) c.self.invariant old j))
+          (λ none. c.ops.ensures.plain (tested_plain m.combine c.args.batch.held_merge c.self.inside.default_millis c.args.now c.args.batch.ops none tested))
+          c.self.invariant old));
+      load = (λ ops of.
+          subst (λ (v : CoreModel). load (view_of (record c.self.inside { log = c.push_write.new.self; layers = c.put_batch.new.layers; manager = c.put_batch.new.manager })) ≤ load v + length ops) c.self.view_is
+          (subst (λ (s : Inside). load (view_of s) ≤ load (view_of c.self.inside) + length ops) becomes
+          (write_load (view_of c.self.inside) f c.self.inside.default_millis (n + 1) c.args.now c.args.batch.ops ops of.0)));
+      kept_refused = tt;
+      same = tt;
+      idle = λ none. absurd (true≢false (sym (c.is_empty.ensures.1 none) ∙ c.if-is_empty.false));
+      exhausted = λ some. none_left (view_of c.self.inside) c.args.self.now (unseen_of c.self.inside) (2 ^ 64 - 2) c.self.view_is c.self.invariant below;
+      limit = λ some below fine. placed (view_of c.self.inside) c.args.self.now (unseen_of c.self.inside) 1 c.self.view_is c.self.invariant c.in_ok-place.ensures.place;
+      first = λ some below e is. none_some e (sym (refusal_known (option_map g.M.MergeOperator.combine c.args.env.now.operator) (reach_of g.S.Store g.M.MergeOperator g.T.BlockTransformer c.args.env.now).meaning.combine (view_of c.self.inside) c.args.self.now _ c.args.now c.args.batch _ (sym (combine_is g.M.MergeOperator.combine c.args.env.now.operator)) c.self.view_is (to_z-of_z w64 c.args.now c.ranges.now) c.in_ok-test_batch.ensures.tested) ∙ is);
+      cause = tt;
+      outside = refl;
+      call = asked_call g.S.Store g.M.MergeOperator g.T.BlockTransformer c.args.env.now c.rows_of_batch.new.operator c.rows_of_batch.ensures.same;
+      reads = asked_reads g.S.Store g.M.MergeOperator g.T.BlockTransformer c.args.env.now c.rows_of_batch.new.operator c.rows_of_batch.ensures.same c.rows_of_batch.ensures.later;
+    }
+
+-- ---- refusals: at most room was made
+
+pub invariant_of-self : goal.invariant_of-self
+invariant_of-self g c = room_in_log c.self.inside c.reserve.new.self c.reserve.ensures.value c.reserve.ensures.whole c.self.invariant
+
+pub invariant_of-self-in_err-rows : goal.invariant_of-self-in_err-rows
+invariant_of-self-in_err-rows g c = room_in_log c.self.inside c.reserve.new.self c.reserve.ensures.value c.reserve.ensures.whole c.self.invariant
+
+pub invariant_of-self-in_err-ops : goal.invariant_of-self-in_err-ops
+invariant_of-self-in_err-ops g c = room_in_log c.self.inside c.reserve.new.self c.reserve.ensures.value c.reserve.ensures.whole c.self.invariant
+
+pub invariant_of-self-in_err-keys : goal.invariant_of-self-in_err-keys
+invariant_of-self-in_err-keys g c = room_in_log c.self.inside c.reserve.new.self c.reserve.ensures.value c.reserve.ensures.whole c.self.invariant
+
+pub invariant_of-self-in_err-put_batch : goal.invariant_of-self-in_err-put_batch
+invariant_of-self-in_err-put_batch g c = subst IsWholeInside (let y = sym c.in_err-put_batch.ensures.same_layers in let m = sym c.in_err-put_batch.ensures.same in λ i. record c.self.inside { log = c.reserve.new.self; layers = y i; manager = m i })
+    (room_in_log c.self.inside c.reserve.new.self c.reserve.ensures.value c.reserve.ensures.whole c.self.invariant)
+
+pub returns-in_err-test_batch : goal.returns-in_err-test_batch
+returns-in_err-test_batch g c =
+    let p = err_from_is_err_and c.from_residual.result c.from_residual.ensures.1 in
+    let m : Meaning = (reach_of g.S.Store g.M.MergeOperator g.T.BlockTransformer c.args.env.now).meaning in
+    let below : c.self.inside.log.last < 2 ^ 64 - 2 = omega (arith, c.last.ensures) in
+    record {
+      step = IfOk-from_err c.from_residual.result _ c.from_residual.ensures.0;
+      refused = rw (p.1, p.2) (refused_test (short_fault (reach_of g.S.Store g.M.MergeOperator g.T.BlockTransformer c.args.env.now) (reach_of g.S.Store g.M.MergeOperator g.T.BlockTransformer c.args.env.now) c.in_err-test_batch.field-0.0)
+          (λ test ops of fine.
+          sym (ap (λ (v : CoreModel). step (rules_of v.settings m) (at c.args.now v.state) (lines.Write ops)) c.self.view_is)
+          ∙ step_test_refused (rules_of (view_of c.self.inside).settings m) (at c.args.now (view_of c.self.inside).state) ops c.args.batch c.self.inside.log.last c.in_err-test_batch.field-0.0 of (λ none. let t : true ≡ false = sym (c.is_empty.ensures.1 none) ∙ c.if-is_empty.false in cc)
+          (ap (λ (v : CoreModel). batch_refusal m.combine v.settings.default_millis c.args.now c.args.batch) c.self.view_is ∙ refusal_known (option_map g.M.MergeOperator.combine c.args.env.now.operator) (reach_of g.S.Store g.M.MergeOperator g.T.BlockTransformer c.args.env.now).meaning.combine (view_of c.self.inside) c.args.self.now _ c.args.now c.args.batch _ (sym (combine_is g.M.MergeOperator.combine c.args.env.now.operator)) c.self.view_is (to_z-of_z w64 c.args.now c.ranges.now) test) fine refl c.self.invariant.log.last below
+          ∙ ap (λ (v : CoreModel). (at c.args.now v.state, Refused c.in_err-test_batch.field-0.0)) c.self.view_is) c.in_err-test_batch.ensures.cause);
+      event = IfOk-from_err c.from_residual.result _ c.from_residual.ensures.0;
+      vouched = IfOk-from_err c.from_residual.result _ c.from_residual.ensures.0;
+      kept = IfOk-from_err c.from_residual.result _ c.from_residual.ensures.0;
+      kept_refused = rw p.1 (λ m k. k);
+      load = λ ops of. IfOk-from_err c.from_residual.result _ c.from_residual.ensures.0;
+      same = rw p.1 refl;
+      idle = λ none. absurd (true≢false (sym (c.is_empty.ensures.1 none) ∙ c.if-is_empty.false));
+      exhausted = λ some. none_left (view_of c.self.inside) c.args.self.now (unseen_of c.self.inside) (2 ^ 64 - 2) c.self.view_is c.self.invariant below;
+      limit = λ some below fine past. or_short (λ short. p.1 ∙ ap Err (p.2 ∙ short)) (λ test. none_some c.in_err-test_batch.field-0.0 (sym fine ∙ refusal_known (option_map g.M.MergeOperator.combine c.args.env.now.operator) (reach_of g.S.Store g.M.MergeOperator g.T.BlockTransformer c.args.env.now).meaning.combine (view_of c.self.inside) c.args.self.now _ c.args.now c.args.batch _ (sym (combine_is g.M.MergeOperator.combine c.args.env.now.operator)) c.self.view_is (to_z-of_z w64 c.args.now c.ranges.now) test)) c.in_err-test_batch.ensures.cause;
+      first = λ some lower e is. first_moved c.in_err-test_batch.field-0.0 e errors.OutOfMemory _ c.from_residual.result refl (p.1 ∙ ap Err p.2) (c.in_err-test_batch.ensures.first e (refusal_asked (option_map g.M.MergeOperator.combine c.args.env.now.operator) (reach_of g.S.Store g.M.MergeOperator g.T.BlockTransformer c.args.env.now).meaning.combine (view_of c.self.inside) c.args.self.now _ c.args.now c.args.batch _ (sym (combine_is g.M.MergeOperator.combine c.args.env.now.operator)) c.self.view_is (to_z-of_z w64 c.args.now c.ranges.now) is));
+      cause = rw (p.1, p.2) (cause_test (short_fault (reach_of g.S.Store g.M.MergeOperator g.T.BlockTransformer c.args.env.now) (reach_of g.S.Store g.M.MergeOperator g.T.BlockTransformer c.args.env.now) c.in_err-test_batch.field-0.0) (λ test. refusal_known (option_map g.M.MergeOperator.combine c.args.env.now.operator) (reach_of g.S.Store g.M.MergeOperator g.T.BlockTransformer c.args.env.now).meaning.combine (view_of c.self.inside) c.args.self.now _ c.args.now c.args.batch _ (sym (combine_is g.M.MergeOperator.combine c.args.env.now.operator)) c.self.view_is (to_z-of_z w64 c.args.now c.ranges.now) test) c.in_err-test_batch.ensures.cause);
+      outside = refl;
+      call = call_none _;
+      reads = reads_none _;
+    }
+
+pub returns-in_err-place : goal.returns-in_err-place
+returns-in_err-place g c =
+    let p = err_from_is_err_and c.from_residual-in_err-place.result c.from_residual-in_err-place.ensures.1 in
+    let limit = c.in_err-place.ensures.limit in
+    let below : c.self.inside.log.last < 2 ^ 64 - 2 = omega (arith, c.last.ensures) in
+    record {
+      step = IfOk-from_err c.from_residual-in_err-place.result _ c.from_residual-in_err-place.ensures.0;
+      refused = rw (p.1, p.2) (inr (inl limit.0));
+      event = IfOk-from_err c.from_residual-in_err-place.result _ c.from_residual-in_err-place.ensures.0;
+      vouched = IfOk-from_err c.from_residual-in_err-place.result _ c.from_residual-in_err-place.ensures.0;
+      kept = IfOk-from_err c.from_residual-in_err-place.result _ c.from_residual-in_err-place.ensures.0;
+      load = λ ops of. IfOk-from_err c.from_residual-in_err-place.result _ c.from_residual-in_err-place.ensures.0;
+      kept_refused = rw p.1 (λ m k. k);
+      same = rw p.1 refl;
+      idle = λ none. absurd (true≢false (sym (c.is_empty.ensures.1 none) ∙ c.if-is_empty.false));
+      exhausted = λ some. none_left (view_of c.self.inside) c.args.self.now (unseen_of c.self.inside) (2 ^ 64 - 2) c.self.view_is c.self.invariant below;
+      limit = λ some below fine past. inl (p.1 ∙ ap Err (p.2 ∙ limit.0));
+      first = λ some lower e is. none_some e (sym (refusal_known (option_map g.M.MergeOperator.combine c.args.env.now.operator) (reach_of g.S.Store g.M.MergeOperator g.T.BlockTransformer c.args.env.now).meaning.combine (view_of c.self.inside) c.args.self.now _ c.args.now c.args.batch _ (sym (combine_is g.M.MergeOperator.combine c.args.env.now.operator)) c.self.view_is (to_z-of_z w64 c.args.now c.ranges.now) c.in_ok-test_batch.ensures.tested) ∙ is);
+      cause = rw (p.1, p.2) (inr (inr (inl (limit.0, past_place (view_of c.self.inside) c.args.self.now (unseen_of c.self.inside) 1 c.self.view_is c.self.invariant limit.1))));
+      outside = refl;
+      call = call_none _;
+      reads = reads_none _;
+    }
+
+pub returns-in_err-reserve : goal.returns-in_err-reserve
+returns-in_err-reserve g c =
+    let p = err_from_is_err_and c.from_residual-in_err-reserve.result c.from_residual-in_err-reserve.ensures.1 in
+    let below : c.self.inside.log.last < 2 ^ 64 - 2 = omega (arith, c.last.ensures) in
+    record {
+      step = IfOk-from_err c.from_residual-in_err-reserve.result _ c.from_residual-in_err-reserve.ensures.0;
+      refused = rw (p.1, p.2) (inl tt);
+      event = IfOk-from_err c.from_residual-in_err-reserve.result _ c.from_residual-in_err-reserve.ensures.0;
+      vouched = IfOk-from_err c.from_residual-in_err-reserve.result _ c.from_residual-in_err-reserve.ensures.0;
+      kept = IfOk-from_err c.from_residual-in_err-reserve.result _ c.from_residual-in_err-reserve.ensures.0;
+      load = λ ops of. IfOk-from_err c.from_residual-in_err-reserve.result _ c.from_residual-in_err-reserve.ensures.0;
+      kept_refused = rw p.1 (λ m k. kept_same m c.args.self.now _ (subst (λ (v : CoreModel). IsSame v (view_of (record c.self.inside { log = c.reserve.new.self }))) c.self.view_is (room_made c.self.inside c.reserve.new.self c.reserve.ensures.value)) k);
+      same = rw p.1 (subst (λ (v : CoreModel). IsSame v (view_of (record c.self.inside { log = c.reserve.new.self }))) c.self.view_is (room_made c.self.inside c.reserve.new.self c.reserve.ensures.value));
+      idle = λ none. absurd (true≢false (sym (c.is_empty.ensures.1 none) ∙ c.if-is_empty.false));
+      exhausted = λ some. none_left (view_of c.self.inside) c.args.self.now (unseen_of c.self.inside) (2 ^ 64 - 2) c.self.view_is c.self.invariant below;
+      limit = λ some below fine. placed (view_of c.self.inside) c.args.self.now (unseen_of c.self.inside) 1 c.self.view_is c.self.invariant c.in_ok-place.ensures.place;
+      first = λ some lower e is. none_some e (sym (refusal_known (option_map g.M.MergeOperator.combine c.args.env.now.operator) (reach_of g.S.Store g.M.MergeOperator g.T.BlockTransformer c.args.env.now).meaning.combine (view_of c.self.inside) c.args.self.now _ c.args.now c.args.batch _ (sym (combine_is g.M.MergeOperator.combine c.args.env.now.operator)) c.self.view_is (to_z-of_z w64 c.args.now c.ranges.now) c.in_ok-test_batch.ensures.tested) ∙ is);
+      cause = rw (p.1, p.2) (inl tt);
+      outside = refl;
+      call = call_none _;
+      reads = reads_none _;
+    }
+
+pub returns-in_err-rows : goal.returns-in_err-rows
+returns-in_err-rows g c =
+    let p = err_from_is_err_and c.from_residual-in_err-rows.result c.from_residual-in_err-rows.ensures.1 in
+    let below : c.self.inside.log.last < 2 ^ 64 - 2 = omega (arith, c.last.ensures) in
+    record {
+      step = IfOk-from_err c.from_residual-in_err-rows.result _ c.from_residual-in_err-rows.ensures.0;
+      refused = rw (p.1, p.2) (inl (either (short_fault (reach_of g.S.Store g.M.MergeOperator g.T.BlockTransformer c.args.env.now) (reach_of g.S.Store g.M.MergeOperator g.T.BlockTransformer (record c.args.env.now { operator = c.rows_of_batch.new.operator })) c.in_err-rows.field-0.0) (callback_fault (reach_of g.S.Store g.M.MergeOperator g.T.BlockTransformer c.args.env.now) (reach_of g.S.Store g.M.MergeOperator g.T.BlockTransformer (record c.args.env.now { operator = c.rows_of_batch.new.operator })) c.in_err-rows.field-0.0) c.in_err-rows.ensures.cause));
+      event = IfOk-from_err c.from_residual-in_err-rows.result _ c.from_residual-in_err-rows.ensures.0;
+      vouched = IfOk-from_err c.from_residual-in_err-rows.result _ c.from_residual-in_err-rows.ensures.0;
+      kept = IfOk-from_err c.from_residual-in_err-rows.result _ c.from_residual-in_err-rows.ensures.0;
+      load = λ ops of. IfOk-from_err c.from_residual-in_err-rows.result _ c.from_residual-in_err-rows.ensures.0;
+      kept_refused = rw p.1 (λ m k. kept_same m c.args.self.now _ (subst (λ (v : CoreModel). IsSame v (view_of (record c.self.inside { log = c.reserve.new.self }))) c.self.view_is (room_made c.self.inside c.reserve.new.self c.reserve.ensures.value)) k);
+      same = rw p.1 (subst (λ (v : CoreModel). IsSame v (view_of (record c.self.inside { log = c.reserve.new.self }))) c.self.view_is (room_made c.self.inside c.reserve.new.self c.reserve.ensures.value));
+      idle = λ none. absurd (true≢false (sym (c.is_empty.ensures.1 none) ∙ c.if-is_empty.false));
+      exhausted = λ some. none_left (view_of c.self.inside) c.args.self.now (unseen_of c.self.inside) (2 ^ 64 - 2) c.self.view_is c.self.invariant below;
+      limit = λ some below fine. placed (view_of c.self.inside) c.args.self.now (unseen_of c.self.inside) 1 c.self.view_is c.self.invariant c.in_ok-place.ensures.place;
+      first = λ some lower e is. none_some e (sym (refusal_known (option_map g.M.MergeOperator.combine c.args.env.now.operator) (reach_of g.S.Store g.M.MergeOperator g.T.BlockTransformer c.args.env.now).meaning.combine (view_of c.self.inside) c.args.self.now _ c.args.now c.args.batch _ (sym (combine_is g.M.MergeOperator.combine c.args.env.now.operator)) c.self.view_is (to_z-of_z w64 c.args.now c.ranges.now) c.in_ok-test_batch.ensures.tested) ∙ is);
+      cause = rw (p.1, p.2) (inl (either (short_fault (reach_of g.S.Store g.M.MergeOperator g.T.BlockTransformer c.args.env.now) (reach_of g.S.Store g.M.MergeOperator g.T.BlockTransformer (record c.args.env.now { operator = c.rows_of_batch.new.operator })) c.in_err-rows.field-0.0) (callback_fault (reach_of g.S.Store g.M.MergeOperator g.T.BlockTransformer c.args.env.now) (reach_of g.S.Store g.M.MergeOperator g.T.BlockTransformer (record c.args.env.now { operator = c.rows_of_batch.new.operator })) c.in_err-rows.field-0.0) c.in_err-rows.ensures.cause));
+      outside = refl;
+      call = asked_call g.S.Store g.M.MergeOperator g.T.BlockTransformer c.args.env.now c.rows_of_batch.new.operator c.rows_of_batch.ensures.same;
+      reads = asked_reads g.S.Store g.M.MergeOperator g.T.BlockTransformer c.args.env.now c.rows_of_batch.new.operator c.rows_of_batch.ensures.same c.rows_of_batch.ensures.later;
+    }
+
+pub returns-in_err-ops : goal.returns-in_err-ops
+returns-in_err-ops g c =
+    let p = err_from_is_err_and c.from_residual-in_err-ops.result c.from_residual-in_err-ops.ensures.1 in
+    let below : c.self.inside.log.last < 2 ^ 64 - 2 = omega (arith, c.last.ensures) in
+    record {
+      step = IfOk-from_err c.from_residual-in_err-ops.result _ c.from_residual-in_err-ops.ensures.0;
+      refused = rw (p.1, p.2) (inl (short_fault (reach_of g.S.Store g.M.MergeOperator g.T.BlockTransformer c.args.env.now) (reach_of g.S.Store g.M.MergeOperator g.T.BlockTransformer (record c.args.env.now { operator = c.rows_of_batch.new.operator })) c.in_err-ops.field-0.0 c.in_err-ops.ensures.cause));
+      event = IfOk-from_err c.from_residual-in_err-ops.result _ c.from_residual-in_err-ops.ensures.0;
+      vouched = IfOk-from_err c.from_residual-in_err-ops.result _ c.from_residual-in_err-ops.ensures.0;
+      kept = IfOk-from_err c.from_residual-in_err-ops.result _ c.from_residual-in_err-ops.ensures.0;
+      load = λ ops of. IfOk-from_err c.from_residual-in_err-ops.result _ c.from_residual-in_err-ops.ensures.0;
+      kept_refused = rw p.1 (λ m k. kept_same m c.args.self.now _ (subst (λ (v : CoreModel). IsSame v (view_of (record c.self.inside { log = c.reserve.new.self }))) c.self.view_is (room_made c.self.inside c.reserve.new.self c.reserve.ensures.value)) k);
+      same = rw p.1 (subst (λ (v : CoreModel). IsSame v (view_of (record c.self.inside { log = c.reserve.new.self }))) c.self.view_is (room_made c.self.inside c.reserve.new.self c.reserve.ensures.value));
+      idle = λ none. absurd (true≢false (sym (c.is_empty.ensures.1 none) ∙ c.if-is_empty.false));
+      exhausted = λ some. none_left (view_of c.self.inside) c.args.self.now (unseen_of c.self.inside) (2 ^ 64 - 2) c.self.view_is c.self.invariant below;
+      limit = λ some below fine. placed (view_of c.self.inside) c.args.self.now (unseen_of c.self.inside) 1 c.self.view_is c.self.invariant c.in_ok-place.ensures.place;
+      first = λ some lower e is. none_some e (sym (refusal_known (option_map g.M.MergeOperator.combine c.args.env.now.operator) (reach_of g.S.Store g.M.MergeOperator g.T.BlockTransformer c.args.env.now).meaning.combine (view_of c.self.inside) c.args.self.now _ c.args.now c.args.batch _ (sym (combine_is g.M.MergeOperator.combine c.args.env.now.operator)) c.self.view_is (to_z-of_z w64 c.args.now c.ranges.now) c.in_ok-test_batch.ensures.tested) ∙ is);
+      cause = rw (p.1, p.2) (inl (short_fault (reach_of g.S.Store g.M.MergeOperator g.T.BlockTransformer c.args.env.now) (reach_of g.S.Store g.M.MergeOperator g.T.BlockTransformer (record c.args.env.now { operator = c.rows_of_batch.new.operator })) c.in_err-ops.field-0.0 c.in_err-ops.ensures.cause));
+      outside = refl;
+      call = asked_call g.S.Store g.M.MergeOperator g.T.BlockTransformer c.args.env.now c.rows_of_batch.new.operator c.rows_of_batch.ensures.same;
+      reads = asked_reads g.S.Store g.M.MergeOperator g.T.BlockTransformer c.args.env.now c.rows_of_batch.new.operator c.rows_of_batch.ensures.same c.rows_of_batch.ensures.later;
+    }
+
+pub returns-in_err-keys : goal.returns-in_err-keys
+returns-in_err-keys g c =
+    let p = err_from_is_err_and c.from_residual-in_err-keys.result c.from_residual-in_err-keys.ensures.1 in
+    let below : c.self.inside.log.last < 2 ^ 64 - 2 = omega (arith, c.last.ensures) in
+    record {
+      step = IfOk-from_err c.from_residual-in_err-keys.result _ c.from_residual-in_err-keys.ensures.0;
+      refused = rw (p.1, p.2) (inl (short_fault (reach_of g.S.Store g.M.MergeOperator g.T.BlockTransformer c.args.env.now) (reach_of g.S.Store g.M.MergeOperator g.T.BlockTransformer (record c.args.env.now { operator = c.rows_of_batch.new.operator })) c.in_err-keys.field-0.0 c.in_err-keys.ensures.cause));
+      event = IfOk-from_err c.from_residual-in_err-keys.result _ c.from_residual-in_err-keys.ensures.0;
+      vouched = IfOk-from_err c.from_residual-in_err-keys.result _ c.from_residual-in_err-keys.ensures.0;
+      kept = IfOk-from_err c.from_residual-in_err-keys.result _ c.from_residual-in_err-keys.ensures.0;
+      load = λ ops of. IfOk-from_err c.from_residual-in_err-keys.result _ c.from_residual-in_err-keys.ensures.0;
+      kept_refused = rw p.1 (λ m k. kept_same m c.args.self.now _ (subst (λ (v : CoreModel). IsSame v (view_of (record c.self.inside { log = c.reserve.new.self }))) c.self.view_is (room_made c.self.inside c.reserve.new.self c.reserve.ensures.value)) k);
+      same = rw p.1 (subst (λ (v : CoreModel). IsSame v (view_of (record c.self.inside { log = c.reserve.new.self }))) c.self.view_is (room_made c.self.inside c.reserve.new.self c.reserve.ensures.value));
+      idle = λ none. absurd (true≢false (sym (c.is_empty.ensures.1 none) ∙ c.if-is_empty.false));
+      exhausted = λ some. none_left (view_of c.self.inside) c.args.self.now (unseen_of c.self.inside) (2 ^ 64 - 2) c.self.view_is c.self.invariant below;
+      limit = λ some below fine. placed (view_of c.self.inside) c.args.self.now (unseen_of c.self.inside) 1 c.self.view_is c.self.invariant c.in_ok-place.ensures.place;
+      first = λ some lower e is. none_some e (sym (refusal_known (option_map g.M.MergeOperator.combine c.args.env.now.operator) (reach_of g.S.Store g.M.MergeOperator g.T.BlockTransformer c.args.env.now).meaning.combine (view_of c.self.inside) c.args.self.now _ c.args.now c.args.batch _ (sym (combine_is g.M.MergeOperator.combine c.args.env.now.operator)) c.self.view_is (to_z-of_z w64 c.args.now c.ranges.now) c.in_ok-test_batch.ensures.tested) ∙ is);
+      cause = rw (p.1, p.2) (inl (short_fault (reach_of g.S.Store g.M.MergeOperator g.T.BlockTransformer c.args.env.now) (reach_of g.S.Store g.M.MergeOperator g.T.BlockTransformer (record c.args.env.now { operator = c.rows_of_batch.new.operator })) c.in_err-keys.field-0.0 c.in_err-keys.ensures.cause));
+      outside = refl;
+      call = asked_call g.S.Store g.M.MergeOperator g.T.BlockTransformer c.args.env.now c.rows_of_batch.new.operator c.rows_of_batch.ensures.same;
+      reads = asked_reads g.S.Store g.M.MergeOperator g.T.BlockTransformer c.args.env.now c.rows_of_batch.new.operator c.rows_of_batch.ensures.same c.rows_of_batch.ensures.later;
+    }
+
+pub returns-in_err-put_batch : goal.returns-in_err-put_batch
+returns-in_err-put_batch g c =
+    let p = err_from_is_err_and c.from_residual-in_err-put_batch.result c.from_residual-in_err-put_batch.ensures.1 in
+    let below : c.self.inside.log.last < 2 ^ 64 - 2 = omega (arith, c.last.ensures) in
+    record {
+      step = IfOk-from_err c.from_residual-in_err-put_batch.result _ c.from_residual-in_err-put_batch.ensures.0;
+      refused = rw (p.1, p.2) (inl (short_fault (reach_of g.S.Store g.M.MergeOperator g.T.BlockTransformer c.args.env.now) (reach_of g.S.Store g.M.MergeOperator g.T.BlockTransformer (record c.args.env.now { operator = c.rows_of_batch.new.operator })) c.in_err-put_batch.field-0.0 c.in_err-put_batch.ensures.cause));
+      event = IfOk-from_err c.from_residual-in_err-put_batch.result _ c.from_residual-in_err-put_batch.ensures.0;
+      vouched = IfOk-from_err c.from_residual-in_err-put_batch.result _ c.from_residual-in_err-put_batch.ensures.0;
+      kept = IfOk-from_err c.from_residual-in_err-put_batch.result _ c.from_residual-in_err-put_batch.ensures.0;
+      load = λ ops of. IfOk-from_err c.from_residual-in_err-put_batch.result _ c.from_residual-in_err-put_batch.ensures.0;
+      kept_refused = rw p.1 (λ m k. kept_same m c.args.self.now _ (ap (λ (y : LayersModel). view_of (record c.self.inside { log = c.reserve.new.self; layers = y })) c.in_err-put_batch.ensures.same_layers ∙ subst (λ (v : CoreModel). IsSame v (view_of (record c.self.inside { log = c.reserve.new.self }))) c.self.view_is (room_made c.self.inside c.reserve.new.self c.reserve.ensures.value)) k);
+      same = rw p.1 (ap (λ (y : LayersModel). view_of (record c.self.inside { log = c.reserve.new.self; layers = y })) c.in_err-put_batch.ensures.same_layers ∙ subst (λ (v : CoreModel). IsSame v (view_of (record c.self.inside { log = c.reserve.new.self }))) c.self.view_is (room_made c.self.inside c.reserve.new.self c.reserve.ensures.value));
+      idle = λ none. absurd (true≢false (sym (c.is_empty.ensures.1 none) ∙ c.if-is_empty.false));
+      exhausted = λ some. none_left (view_of c.self.inside) c.args.self.now (unseen_of c.self.inside) (2 ^ 64 - 2) c.self.view_is c.self.invariant below;
+      limit = λ some below fine. placed (view_of c.self.inside) c.args.self.now (unseen_of c.self.inside) 1 c.self.view_is c.self.invariant c.in_ok-place.ensures.place;
+      first = λ some lower e is. none_some e (sym (refusal_known (option_map g.M.MergeOperator.combine c.args.env.now.operator) (reach_of g.S.Store g.M.MergeOperator g.T.BlockTransformer c.args.env.now).meaning.combine (view_of c.self.inside) c.args.self.now _ c.args.now c.args.batch _ (sym (combine_is g.M.MergeOperator.combine c.args.env.now.operator)) c.self.view_is (to_z-of_z w64 c.args.now c.ranges.now) c.in_ok-test_batch.ensures.tested) ∙ is);
+      cause = rw (p.1, p.2) (inl (short_fault (reach_of g.S.Store g.M.MergeOperator g.T.BlockTransformer c.args.env.now) (reach_of g.S.Store g.M.MergeOperator g.T.BlockTransformer (record c.args.env.now { operator = c.rows_of_batch.new.operator })) c.in_err-put_batch.field-0.0 c.in_err-put_batch.ensures.cause));
+      outside = refl;
+      call = asked_call g.S.Store g.M.MergeOperator g.T.BlockTransformer c.args.env.now c.rows_of_batch.new.operator c.rows_of_batch.ensures.same;
+      reads = asked_reads g.S.Store g.M.MergeOperator g.T.BlockTransformer c.args.env.now c.rows_of_batch.new.operator c.rows_of_batch.ensures.same c.rows_of_batch.ensures.later;
+    }

@@ -1,0 +1,77 @@
+use Rattle.std.proofs.Common.{map, inl, subst, sym, refl, arith, ◌∙◌}
+use Rattle.std.proofs.lemmas.Result.{IfOk-from_err, err_from_is_err_and}
+use Rattle.slate_types.specs.Outside.{IsCounted, IsLater}
+use Rattle.slate_types.proofs.Reaching.{puts_none, puts_of, puts_then}
+use Rattle.slate_store.specs.Reach.{reach_of}
+use Rattle.slate_db.specs.Flushed.{layout_of}
+use Rattle.slate_db.proofs.Blocks.{if_err}
+use Rattle.slate_db.proofs.Built.{may_keep}
+use Rattle.slate_db.proofs.Operands.{combine_is}
+use Rattle.slate_db.proofs.RunSoFar.{both_ok, can_build, has_too_large, refused_as, rows_cause, run_cause, run_is_put, some_of_flush}
+use Rattle.slate_db.proofs.flush.stored.Goals as goal
+
+pub stored_run-requires-clause-valid : goal.stored_run-requires-clause-valid
+stored_run-requires-clause-valid g c = λ κs lives. c.requires.valid
+
+pub stored_run-requires-clause-names : goal.stored_run-requires-clause-names
+stored_run-requires-clause-names g c = λ κs lives. c.requires.names
+
+pub stored_run-requires-clause-each : goal.stored_run-requires-clause-each
+stored_run-requires-clause-each g c = λ κs lives.
+    can_build c.args.laws.now.options.table_bytes c.in_ok-rows.rows.items (map (λ t. t.items) c.in_ok-parts.parts.items) c.in_ok-parts.ensures.cut c.in_ok-rows.ensures.order c.in_ok-rows.ensures.fit
+
+pub returns : goal.returns
+returns g c =
+    let before = reach_of g.S.Store g.M.MergeOperator g.T.BlockTransformer c.args.env.now in
+    let now = reach_of g.S.Store g.M.MergeOperator g.T.BlockTransformer (record c.args.env.now { operator = c.rows_of_flush.new.operator }) in
+    let m = before.meaning in
+    let operator = combine_is g.M.MergeOperator.combine c.args.env.now.operator in
+    let layout = layout_of c.args.laws.now.options (map (λ p. (goal.FilterPolicy-dyn g (p.vtable, p.value)).meaning p.value) c.args.laws.now.policies.items) in
+    let parts = map (λ t. t.items) c.in_ok-parts.parts.items in
+    let rows = c.in_ok-rows.ensures in
+    let same = combine_is g.M.MergeOperator.combine c.rows_of_flush.new.operator ∙ rows.same ∙ sym operator in
+    let after = reach_of g.S.Store g.M.MergeOperator g.T.BlockTransformer c.stored_run.new.env in
+    let later : IsLater before.faults now.faults = record { store = omega arith; operator = rows.later; transformer = omega arith } in
+    record {
+      stored = both_ok c.stored_run.result _ _ _
+          (λ a put prefix. run_is_put m layout c.args.number c.args.barrier _ c.in_ok-rows.rows.items parts a.0 a.1 _ _ rows.some (rows.folded m operator) rows.order c.in_ok-parts.ensures.cut prefix put)
+          c.stored_run.ensures.stored c.stored_run.ensures.prefix;
+      acts = c.stored_run.ensures.acts;
+      refused = refused_as c.stored_run.result (some_of_flush m layout c.args.number c.args.barrier _ c.in_ok-rows.rows.items parts _ _ rows.some (rows.folded m operator) rows.order c.in_ok-parts.ensures.cut) c.stored_run.ensures.refused;
+      cause = if_err c.stored_run.result _ _ (λ e h. run_cause before now after e later (λ large. (c.in_ok-rows.rows.items, rows.folded m operator, rows.order, has_too_large layout c.in_ok-rows.rows.items parts e c.in_ok-parts.ensures.cut large)) h) c.stored_run.ensures.cause;
+      wanted = λ none among. absurd (rows.wanted (sym operator ∙ none) among);
+      puts = puts_then before now after (puts_of before now same refl refl later refl) c.stored_run.ensures.puts;
+    }
+
+pub returns-in_err-rows : goal.returns-in_err-rows
+returns-in_err-rows g c =
+    let before = reach_of g.S.Store g.M.MergeOperator g.T.BlockTransformer c.args.env.now in
+    let now = reach_of g.S.Store g.M.MergeOperator g.T.BlockTransformer (record c.args.env.now { operator = c.rows_of_flush.new.operator }) in
+    let m = before.meaning in
+    let operator = combine_is g.M.MergeOperator.combine c.args.env.now.operator in
+    let same = combine_is g.M.MergeOperator.combine c.rows_of_flush.new.operator ∙ c.in_err-rows.ensures.same ∙ sym operator in
+    let p = err_from_is_err_and c.from_residual.result c.from_residual.ensures.1 in
+    record {
+      stored = IfOk-from_err c.from_residual.result _ c.from_residual.ensures.0;
+      acts = IfOk-from_err c.from_residual.result _ c.from_residual.ensures.0;
+      refused = rw p.1 (may_keep _ _ _ (λ i. g.S.Store.objects c.args.env.now.store.now));
+      cause = rw (p.1, p.2) (rows_cause before.faults now.faults m (map (λ t. t.rows) c.args.frozen.now) c.in_err-rows.field-0.0 (c.in_err-rows.ensures.missing m operator) c.in_err-rows.ensures.cause);
+      wanted = λ none among. IfOk-from_err c.from_residual.result _ c.from_residual.ensures.0;
+      puts = puts_of before now same refl refl (record { store = omega arith; operator = c.in_err-rows.ensures.later; transformer = omega arith }) refl;
+    }
+
+pub returns-in_err-parts : goal.returns-in_err-parts
+returns-in_err-parts g c =
+    let operator = combine_is g.M.MergeOperator.combine c.args.env.now.operator in
+    let same = combine_is g.M.MergeOperator.combine c.rows_of_flush.new.operator ∙ c.in_ok-rows.ensures.same ∙ sym operator in
+    let before = reach_of g.S.Store g.M.MergeOperator g.T.BlockTransformer c.args.env.now in
+    let now = reach_of g.S.Store g.M.MergeOperator g.T.BlockTransformer (record c.args.env.now { operator = c.rows_of_flush.new.operator }) in
+    let p = err_from_is_err_and c.from_residual-in_err-parts.result c.from_residual-in_err-parts.ensures.1 in
+    record {
+      stored = IfOk-from_err c.from_residual-in_err-parts.result _ c.from_residual-in_err-parts.ensures.0;
+      acts = IfOk-from_err c.from_residual-in_err-parts.result _ c.from_residual-in_err-parts.ensures.0;
+      refused = rw p.1 (may_keep _ _ _ (λ i. g.S.Store.objects c.args.env.now.store.now));
+      cause = rw (p.1, p.2) (inl (subst (IsCounted before.faults now.faults) (sym c.in_err-parts.ensures.cause) tt));
+      wanted = λ none among. IfOk-from_err c.from_residual-in_err-parts.result _ c.from_residual-in_err-parts.ensures.0;
+      puts = puts_of before now same refl refl (record { store = omega arith; operator = c.in_ok-rows.ensures.later; transformer = omega arith }) refl;
+    }

@@ -1,0 +1,25 @@
+use Rattle.std.proofs.Common.{◌≡◌, ◌+◌, ◌++◌, ◌∷◌, [], refl, sym, ap, subst, ◌∙◌, arith}
+use Rattle.slate_txn.specs.declared.event.Event.TheVariants as events
+use Rattle.slate_db.specs.Log.{LogModel, IsLog, HasPlace, with_freeze}
+use Rattle.slate_db.specs.LogView.{log_view}
+use Rattle.slate_db.proofs.LogViews.{journal_more}
+use Rattle.slate_db.proofs.Logs.{log_frozen}
+use Rattle.slate_db.proofs.log.Log.push_freeze.Goals as goal
+
+pub push_reserved-requires : goal.push_reserved-requires
+push_reserved-requires c = let place : HasPlace 1 (log_view c.self.inside) = subst (HasPlace 1) (sym c.self.view_is) c.requires in omega (arith, place.room)
+
+becomes : (c : goal.After-push_reserved) → with_freeze (log_view c.self.inside) c.push_reserved.new.self.spare ≡ log_view (record c.self.inside { journal = c.push_reserved.new.self })
+becomes c = journal_more c.self.inside c.push_reserved.new.self events.Freeze _ c.push_reserved.ensures.events refl
+
+stays : (c : goal.After-push_reserved) → IsLog (log_view (record c.self.inside { journal = c.push_reserved.new.self }))
+stays c = subst IsLog (becomes c) (log_frozen (log_view c.self.inside) c.push_reserved.new.self.spare (subst (HasPlace 1) (sym c.self.view_is) c.requires) c.push_reserved.ensures.spare c.self.invariant)
+
+pub invariant_of-self : goal.invariant_of-self
+invariant_of-self c = stays c
+
+pub returns : goal.returns
+returns c = record {
+  value = sym (becomes c) ∙ ap (λ (l : LogModel). with_freeze l c.push_reserved.new.self.spare) c.self.view_is;
+  whole = stays c;
+}

@@ -1,0 +1,28 @@
+use Rattle.std.proofs.Common.{◌≤◌, ◌⊎◌, drop, length, map}
+use Rattle.std.specs.Prelude.{Contains}
+use Rattle.std.specs.List.{AllByRecursion}
+use Rattle.slate_types.specs.Outside.{Objects, OnlyReads}
+use Rattle.slate_types.specs.World.{Made}
+use Rattle.slate_store.specs.Reach.{reach_of}
+use Rattle.slate_db.specs.Answered.{AnswersFrom}
+use Rattle.slate_db.specs.Installs.{handles_of}
+use Rattle.slate_db.specs.Lookup.{AreFilteredAs, Extends}
+use Rattle.slate_db.specs.Shown.{Asking, BringsRow}
+use Rattle.slate_db.proofs.RunReads.{FoundSoFar}
+use Rattle.slate_db.proofs.lookup.newest_of_runs.Given as goal
+
+abbrev pub invariant-loop-at : goal.invariant-loop-at
+invariant-loop-at g l =
+    let before = reach_of g.S.Store g.M.MergeOperator g.T.BlockTransformer l.initial.env in
+    let asking : Asking = record { policies = map (λ p. (goal.FilterPolicy-dyn g (p.vtable, p.value)).meaning p.value) l.policies; query = l.query } in
+    let now = reach_of g.S.Store g.M.MergeOperator g.T.BlockTransformer l.env in
+    record {
+      within : l.at ≤ length l.runs;
+      reads : OnlyReads before now;
+      extends : Extends l.initial.found.items l.found.items;
+      rows : Made before now (λ reads. AllByRecursion (λ r. Contains l.initial.found.items r ⊎ BringsRow before.meaning.decode asking (handles_of l.runs) reads r) l.found.items);
+      found : (os : Objects) → AreFilteredAs asking.policies before.meaning os (handles_of l.runs) → AnswersFrom os before now → FoundSoFar before.meaning os (drop l.at l.runs) l.key l.max_seq l.initial.found.items l.found.items;
+    }
+
+abbrev pub decreases-loop-at : goal.decreases-loop-at
+decreases-loop-at g l = l.at

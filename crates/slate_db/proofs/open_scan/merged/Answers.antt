@@ -1,0 +1,45 @@
+use Rattle.std.proofs.Common.{◌≡◌, ◌∙◌, ap}
+use Rattle.slate_store.specs.Reach.{reach_of}
+use Rattle.slate_read.specs.MergeStates.{Takes}
+use Rattle.slate_db.specs.Scans.{MergedSources, source_refuses}
+use Rattle.slate_db.proofs.ScanMerges.{fresh_operable, fresh_rows, fresh_sound, fresh_waits, opened_folds, opened_later, opened_operable, opening_own, refusal_blamed}
+use Rattle.slate_db.proofs.open_scan.merged.Goals as goal
+
+pub unreachable-requires : goal.unreachable-requires
+unreachable-requires g c = let never = c.in_default.ensures.fine in cc
+
+pub returns-in-Ok-init : goal.returns-in-Ok-init
+returns-in-Ok-init g c =
+    let m = (reach_of g.S.Store g.M.MergeOperator g.T.BlockTransformer c.args.env.now).meaning in
+    let sources = c.args.sources.items in
+    let order = c.args.order in
+    let merge = c.new_with_order-merge.result in
+    let made = c.new_with_order-merge.ensures.merge in
+    let it = c.in-Ok.rows in
+    let new = c.in-Ok.ensures.folding in
+    let v = c.init.new.self in
+    let e = c.in-Ok-init.ensures in
+    let begun = e.begun.2.0 in
+    record {
+      going = (begun.1, opened_folds sources order merge made it new v begun.2, e.order ∙ ap (λ (u : MergedSources). u.order) new.rows ∙ made.ordered);
+      sound = λ w can sees. e.still w sees (fresh_sound sources order merge made it new w can);
+      rows = λ w can sees. e.rows w sees (fresh_sound sources order merge made it new w can) ∙ fresh_rows sources order merge made it new w can;
+      operable = λ w can sees bases. opened_operable sources order merge made it new v w begun.2 (e.operable w sees (fresh_sound sources order merge made it new w can) (fresh_operable sources order merge made it new w can bases));
+      later = (e.sources.0, e.sources.1, opened_later sources order merge made it new v m e.sources.0 begun.1 e.ready e.sources.2);
+      cause = tt;
+      reads = e.reads;
+    }
+
+pub returns-clause-cause : goal.returns-clause-cause
+returns-clause-cause g c =
+    let a = reach_of g.S.Store g.M.MergeOperator g.T.BlockTransformer c.args.env.now in
+    let b = reach_of g.S.Store g.M.MergeOperator g.T.BlockTransformer c.init.new.env in
+    let sources = c.args.sources.items in
+    let order = c.args.order in
+    let merge = c.new_with_order-merge.result in
+    let made = c.new_with_order-merge.ensures.merge in
+    let it = c.in-Ok.rows in
+    let new = c.in-Ok.ensures.folding in
+    let cause = c.in-Err.ensures.cause in
+    refusal_blamed source_refuses sources it.iterator.state (fresh_waits sources order merge made it new) a b c.in-Err.error c.refusal_of_opening.result c.refusal_of_opening.ensures cause.0 cause.1
+    (opening_own sources order merge made it new (λ u k reads answer x. Takes u answer x) (λ u x k reads answer t. t.0) c.init.new.self a b cause.0 c.in-Err.error cause.2.1 cause.2.0)

@@ -1,0 +1,230 @@
+-- Scans: what is left of one, what it may refuse for, and how a core opens it.
+--     ScanSource      a source of a scan: rows of which those above the transaction's begin are passed over
+--     source_rows, IsSoundSource, order_of, source_refuses      what it is as an iterator
+--     left_of it w      the rows that are left, tombstones among them
+--     brought_in state w      the rows that the sources still bring, whose operands aren't folded yet
+--     IsOperableIn state w      without an operator none of these is an operand; and none rises above the operand before it
+--     Leaves it w rows      in the world exactly these rows are left to be handed out
+--     ScanRefuses it m reads at e      what it may refuse for by the reads from now on, in a seek to a key, or in the other calls
+--     IsReached range at      a seek is to no key before the range
+--     AreForIn range m state      by this meaning the sources that are left refuse for damage alone
+--     IsScanRefusal e      damage, want of an operator, or a row of a greater sequence than the operand before it
+--     IsFor m it      it was opened for parts of this meaning: by these it refuses so alone
+--     IsRefusedScan e it, IsUnrefused it, Keeps e it      it was refused so; not yet; it keeps this refusal, or want of memory in its place
+--     AnswersAgain e result      so it answers from then on, or want of memory where no copy can be made
+--     id_of it, number_of it, scan_of it      a transaction's scan: whose it is, which of its scans, and what it has left
+--     IsScanOf id n order range it      it is that of the transaction with this id, the n-th that it opened
+--     IsWorldOf os m w      the objects hold the world, for what the parts mean
+--     LeavesIn os m it rows      in some world that the objects hold
+--     IsOpenScan c it      its transaction is open, and opened it; or its snapshot is open
+--     HasLeft m c it rows      of the list that the scan's opening fixed these rows are left, by the transcript
+--     ShowsAmong decode hs reads e      of some tables one shows the error, by reads among these
+--     IsShownByScan m c reads e, IsRefusedByScan m c reads e      the reads show it of the tables that the journal names; or there is no
+--                                                                 operator; or there is one, and it names two sequences that rise
+--     IsOpeningError before after c e, IsScanError before after c e      a fault that came in the call, or want of memory, or such a refusal by its reads: an opening meets no operand
+use Rattle.std.specs.Prelude.{◌≡◌, ◌≢◌, ◌⊎◌, ℕ, ◌<◌, true, List, [], filter, count_by, Contains, Option, Some, None, Result, Err, IsSome, slice_get}
+use Rattle.std.specs.List.{AllByRecursion}
+use Rattle.slate_types.specs.declared.bytes_range.BytesRange.{BytesRange}
+use Rattle.slate_types.specs.declared.error.SlateDBError.{SlateDBError}
+use Rattle.slate_types.specs.declared.error.SlateDBError.TheVariants.{MergeOperatorMissing, OutOfMemory}
+use Rattle.slate_types.specs.declared.iter.IterationOrder.{IterationOrder}
+use Rattle.slate_types.specs.declared.types.RowEntry.{RowEntry}
+use Rattle.slate_types.specs.Keys.{in_range, is_past_start}
+use Rattle.slate_types.specs.Outside.{Act, Objects, IsFault, Meaning, Reach}
+use Rattle.slate_types.specs.Refusing.{IsDamage}
+use Rattle.slate_types.specs.Rows.{is_base}
+use Rattle.slate_types.specs.World.{World, HoldsWorld, Made}
+use Rattle.slate_read.specs.declared.filter_iterator.FilterIterator.{FilterIterator}
+use Rattle.slate_read.specs.declared.filter_iterator.MaxSeq.{MaxSeq}
+use Rattle.slate_read.specs.declared.read_source.ReadSource.{ReadSource}
+use Rattle.slate_read.specs.declared.merge_iterator.MergeIterator.{MergeIterator}
+use Rattle.slate_read.specs.declared.operator_iterator.MergeOperatorIterator.{MergeOperatorIterator}
+use Rattle.slate_read.specs.Filtering.{upto_seq}
+use Rattle.slate_read.specs.Folding.{NoneRises}
+use Rattle.slate_read.specs.Folds.{IsRise, RefusesFold}
+use Rattle.slate_read.specs.MergeStates.{IsSoundMerge, refuses_in, rest_of_merge}
+use Rattle.slate_read.specs.OperatorIterators.{IsGoing, RefusesBy, rest_folding, sound_folding}
+use Rattle.slate_read.specs.Peeking.{with_ahead}
+use Rattle.slate_read.specs.ReadSources as read
+use Rattle.slate_read.specs.Showing.{ShowsByReads}
+use Rattle.slate_table.specs.declared.info.SsTableHandle.{SsTableHandle}
+use Rattle.slate_table.specs.Parts.{Encode}
+use Rattle.slate_txn.specs.Alone.{scans_left}
+use Rattle.slate_txn.specs.Named.{find_named}
+use Rattle.slate_txn.specs.State.{Tx}
+use Rattle.slate_txn.specs.Step.{is_scan, reader}
+use Rattle.slate_db.specs.declared.scan.DbIterator.{DbIterator}
+use Rattle.slate_db.specs.declared.scan.ScanState.{ScanState}
+use Rattle.slate_db.specs.declared.scan.TxnIterator.{TxnIterator}
+use Rattle.slate_db.specs.declared.scan.ScanState.TheVariants.{Walking, Done, Refused}
+use Rattle.slate_db.specs.Installs.{AreHandles, tables_of}
+use Rattle.slate_db.specs.Meaning.{rules_of}
+use Rattle.slate_db.specs.Model.{CoreModel}
+pub use Rattle.slate_db.specs.Values.{has_value}
+
+pub record IsWorldOf (os : Objects) (m : Meaning) (w : World) : Type 0 where
+  pub meaning : w.meaning ≡ m
+  pub holds : HoldsWorld os w
+
+abbrev pub IsReached : BytesRange → Option (List ℕ) → Type 0
+IsReached range None = Unit {0}
+IsReached range (Some key) = is_past_start range.start key ≡ true
+
+-- an operand is refused where there is no operator, and a row that rises above one
+abbrev pub IsScanRefusal : SlateDBError → Type 0
+IsScanRefusal e = (e ≡ MergeOperatorMissing) ⊎ IsRise e ⊎ IsDamage e
+
+abbrev pub ScanSource : Type 0
+ScanSource = FilterIterator ReadSource MaxSeq
+
+-- ---- the sources
+
+abbrev pub source_rows : ScanSource → World → List RowEntry
+source_rows s w = filter (upto_seq s.predicate.max_seq) (read.rest_of s.iterator w)
+
+abbrev pub IsSoundSource : ScanSource → World → Type 0
+IsSoundSource s w = read.IsSoundSource s.iterator w
+
+abbrev pub order_of : ScanSource → IterationOrder
+order_of s = read.order_of s.iterator
+
+abbrev pub source_refuses : ScanSource → Meaning → List Act → Option (List ℕ) → SlateDBError → Type 0
+source_refuses s m reads at e = read.source_refuses s.iterator m reads at e
+
+-- ---- their rows merged
+
+abbrev pub MergedSources : Type 0
+MergedSources = MergeIterator ScanSource
+
+abbrev pub merge_rows : MergedSources → World → List RowEntry
+merge_rows rows w = rest_of_merge source_rows rows w
+
+abbrev pub IsSoundMerged : MergedSources → World → Type 0
+IsSoundMerged rows w = IsSoundMerge source_rows IsSoundSource order_of rows w
+
+abbrev pub order_of_merge : MergedSources → IterationOrder
+order_of_merge rows = rows.order
+
+abbrev pub merge_refuses : MergedSources → Meaning → List Act → Option (List ℕ) → SlateDBError → Type 0
+merge_refuses rows m reads at e = refuses_in source_refuses rows.state m reads at e
+
+-- ---- and folded
+
+-- expiries may differ, and there is no barrier
+abbrev pub FoldsAll : MergeOperatorIterator MergedSources → Type 0
+FoldsAll it = (it.folding.merge_different_expire_ts ≡ true) × (it.folding.snapshot_barrier_seq ≡ None)
+
+abbrev pub left_in : ScanState → World → List RowEntry
+left_in (Walking rows) w = rest_folding merge_rows rows w
+left_in Done w = []
+left_in (Refused e) w = []
+
+abbrev pub brought_in : ScanState → World → List RowEntry
+brought_in (Walking rows) w = with_ahead rows.ahead (merge_rows rows.iterator w)
+brought_in Done w = []
+brought_in (Refused e) w = []
+
+abbrev pub IsOperableIn : ScanState → World → Type 0
+IsOperableIn state w =
+    (w.meaning.combine ≡ None → AllByRecursion (λ r. is_base r ≡ true) (brought_in state w))
+    × NoneRises None (brought_in state w)
+
+-- order: that of the scan
+abbrev pub IsSoundIn : IterationOrder → ScanState → World → Type 0
+IsSoundIn order (Walking rows) w = IsGoing rows × FoldsAll rows × sound_folding merge_rows IsSoundMerged order_of_merge rows w × (rows.iterator.order ≡ order)
+IsSoundIn order Done w = Unit {0}
+IsSoundIn order (Refused e) w = ⊥
+
+abbrev pub left_of : DbIterator → World → List RowEntry
+left_of it w = left_in it.state w
+
+-- what the sources that are left refuse for
+abbrev pub SourcesRefuse : BytesRange → ScanState → Meaning → List Act → Option (List ℕ) → SlateDBError → Type 0
+SourcesRefuse range (Walking rows) m reads at e = IsReached range at × merge_refuses rows.iterator m reads at e
+SourcesRefuse range _ m reads at e = ⊥
+
+-- an operand without an operator, and a row that rises above one: no seek meets them
+abbrev pub RefusesIn : BytesRange → ScanState → Meaning → List Act → Option (List ℕ) → SlateDBError → Type 0
+RefusesIn range (Walking rows) m reads at e = RefusesBy rows.refusal rows.begun (λ d. RefusesFold m at d ⊎ (IsReached range at × merge_refuses rows.iterator m reads at d)) e
+RefusesIn range Done m reads at e = ⊥
+RefusesIn range (Refused kept) m reads at e = (kept ≢ OutOfMemory) × (e ≡ kept)
+
+abbrev pub ScanRefuses : DbIterator → Meaning → List Act → Option (List ℕ) → SlateDBError → Type 0
+ScanRefuses it m reads at e = RefusesIn it.range it.state m reads at e
+
+abbrev pub IsFor : Meaning → DbIterator → Type 0
+IsFor m it = (reads : List Act) (at : Option (List ℕ)) (e : SlateDBError) → ScanRefuses it m reads at e → IsScanRefusal e
+
+-- the sources that are left refuse for damage alone
+abbrev pub AreForIn : BytesRange → Meaning → ScanState → Type 0
+AreForIn range m state = (reads : List Act) (at : Option (List ℕ)) (e : SlateDBError) → SourcesRefuse range state m reads at e → IsDamage e
+
+pub record Leaves (it : DbIterator) (w : World) (rows : List RowEntry) : Type 0 where
+  pub sound : IsSoundIn it.order it.state w
+  pub operable : IsOperableIn it.state w
+  pub within : AllByRecursion (λ r. in_range it.range r.key ≡ true) (left_of it w)
+  pub left : filter has_value (left_of it w) ≡ rows
+  pub meant : AreForIn it.range w.meaning it.state
+
+abbrev pub IsRefusedScan : SlateDBError → DbIterator → Type 0
+IsRefusedScan e it = it.state ≡ Refused e
+
+abbrev pub IsUnrefused : DbIterator → Type 0
+IsUnrefused it = (e : SlateDBError) → it.state ≢ Refused e
+
+abbrev pub Keeps : SlateDBError → DbIterator → Type 0
+Keeps e it = IsRefusedScan e it ⊎ IsRefusedScan OutOfMemory it
+
+-- a refusal that is kept, or want of memory for a copy of it
+abbrev pub AnswersAgain : {A : Type 0} → SlateDBError → Result A SlateDBError → Type 0
+AnswersAgain e result = (result ≡ Err e) ⊎ (result ≡ Err OutOfMemory)
+
+-- ---- a transaction's scan
+
+abbrev pub id_of : TxnIterator → List ℕ
+id_of it = it.id
+
+-- its place among the scans of its transaction
+abbrev pub number_of : TxnIterator → ℕ
+number_of it = it.scan
+
+abbrev pub scan_of : TxnIterator → DbIterator
+scan_of it = it.rows
+
+pub record IsScanOf (id : List ℕ) (n : ℕ) (order : IterationOrder) (range : BytesRange) (it : TxnIterator) : Type 0 where
+  pub named : id_of it ≡ id
+  pub number : number_of it ≡ n
+  pub ordered : (scan_of it).order ≡ order
+  pub ranged : (scan_of it).range ≡ range
+
+abbrev pub LeavesIn : Objects → Meaning → TxnIterator → List RowEntry → Type 0
+LeavesIn os m it rows = (w : World) × IsWorldOf os m w × Leaves (scan_of it) w rows
+
+abbrev pub IsOpenScan : CoreModel → TxnIterator → Type 0
+IsOpenScan c it = IsSome (reader c.state (id_of it)) × ((t : Tx) → find_named (id_of it) c.state.txns ≡ Some t → number_of it < count_by is_scan t.transcript)
+
+abbrev pub HasLeft : Meaning → CoreModel → TxnIterator → List RowEntry → Type 0
+HasLeft m c it rows = (t : Tx) → find_named (id_of it) c.state.txns ≡ Some t →
+    slice_get (scans_left (rules_of c.settings m) c.state.commits t.begin t.transcript) (number_of it) ≡ Some ((scan_of it).order, rows)
+
+-- ---- what is refused
+
+abbrev pub ShowsAmong : Encode → List SsTableHandle → List Act → SlateDBError → Type 0
+ShowsAmong decode hs reads e = (table : SsTableHandle) × Contains hs table × ShowsByReads decode table reads e
+
+-- handles: what is kept of the tables that the journal names
+pub record IsShownByScan (m : Meaning) (c : CoreModel) (reads : List Act) (e : SlateDBError) : Type 0 where
+  pub handles : List SsTableHandle
+  pub are : AreHandles (tables_of c.events) handles
+  pub shown : ShowsAmong m.decode handles reads e
+
+pub record IsRefusedByScan (m : Meaning) (c : CoreModel) (reads : List Act) (e : SlateDBError) : Type 0 where
+  pub handles : List SsTableHandle
+  pub are : AreHandles (tables_of c.events) handles
+  pub refused : RefusesFold m None e ⊎ ShowsAmong m.decode handles reads e
+
+abbrev pub IsOpeningError : Reach → Reach → CoreModel → SlateDBError → Type 0
+IsOpeningError before after c e = IsFault before after e ⊎ Made before after (λ reads. IsShownByScan before.meaning c reads e)
+
+abbrev pub IsScanError : Reach → Reach → CoreModel → SlateDBError → Type 0
+IsScanError before after c e = IsFault before after e ⊎ Made before after (λ reads. IsRefusedByScan before.meaning c reads e)

@@ -1,0 +1,178 @@
+//! A commit of a transaction, up to its event.
+ghost use Rattle.std.specs.Prelude.{◌≡◌, ◌≢◌, ◌⊎◌, ◌+◌, ◌<◌, ◌≤◌, ◌++◌, [], ℕ, List, None, Some, Err, option_map, unwrap_or, IfErr, IfOk, OnOk, OnErr};
+ghost use Rattle.std.specs.List.{AllByRecursion};
+ghost use Rattle.slate_types.specs.declared.error.SlateDBError.{SlateDBError};
+ghost use Rattle.slate_types.specs.Faults.{faults_of};
+ghost use Rattle.slate_types.specs.Fold.{operator_at};
+ghost use Rattle.slate_mem.specs.CommitRows.{commit_rows};
+ghost use Rattle.slate_mem.specs.Lookup.{IsCallback};
+ghost use Rattle.slate_mem.specs.Table.{put_rows};
+ghost use Rattle.slate_txn.specs.Managers.{StandsFor, IsCommitOf, with_commit, writes_at};
+ghost use Rattle.slate_txn.specs.Named.{find_named, without};
+ghost use Rattle.slate_mem.specs.Batch.{kept_ops};
+ghost use Rattle.slate_txn.specs.Conflict.{conflict, tracked_writes};
+ghost use Rattle.slate_txn.specs.HandedOver.{Grown, IsConflict};
+ghost use Rattle.slate_txn.specs.Replay.{commit_made};
+ghost use Rattle.slate_txn.specs.State.{Commit, Tx};
+ghost use Rattle.slate_txn.specs.Tested.{IsUntracked};
+ghost use Rattle.slate_db.specs.BatchTests.{IsTestRefusal, batch_refusal, test_refusal};
+ghost use Rattle.slate_db.specs.Committed.{IsNextOf, IsFull, put_at};
+ghost use Rattle.slate_db.specs.Managed.{IsManaged};
+ghost use Rattle.slate_db.specs.Layers.{AreLayers, in_memory};
+ghost use Rattle.slate_db.specs.Log.{AreFine};
+
+use crate::layers::Layers;
+use crate::put::put_own;
+use crate::tested::{rows_of_batch, test_batch};
+use slate_mem::WriteBatch;
+use slate_txn::{DbTransactionInner, KeyList, OpList, Tested, TransactionManager, Transcript};
+use slate_types::{MergeOperator, SlateDBError};
+use std::alloc::Global;
+use uuid::Uuid;
+
+/// What a commit adds to its event.
+#[derive(Drop)]
+pub(crate) struct Made {
+    pub(crate) seq: Option<u64>,
+    pub(crate) ops: OpList,
+    pub(crate) tracked: KeyList,
+    pub(crate) transcript: Transcript,
+}
+
+/// Tests an open transaction, and puts its rows where it has operations. Refuses by `TransactionConflict` before all other tests,
+/// by `SequenceExhausted`, as `WriteBatch::test_entries` does, then by `Callback`, only where the operator's count of faults rose,
+/// and by `OutOfMemory`. The manager has then tracked what the transaction handed over.
+pub(crate) fn make<M: MergeOperator>(
+    alloc: Global,
+    default_millis: Option<u64>,
+    layers: &mut Layers,
+    manager: &mut TransactionManager,
+    id: &Uuid,
+    owned: DbTransactionInner,
+    last: u64,
+    now: i64,
+    operator: &mut Option<M>,
+) -> Result<Made, SlateDBError>
+    requires fits { last ≤ 18446744073709551614 }
+    requires whole { AreLayers layers.old }
+    requires within { AllByRecursion (λ rows. AllByRecursion (λ r. r.seq ≤ last) rows) (in_memory layers.old) }
+    requires newest { manager.old.last ≡ last }
+    requires held { IsUntracked manager.old id.now owned }
+    ensures tracked { IfOk result (λ made. made.tracked ≡ tracked_writes owned) }
+    ensures steps { IfOk result (λ made. made.transcript ≡ owned.transcript) }
+    ensures ops { IfOk result (λ made. made.ops ≡ kept_ops owned.ops) }
+    ensures fine { IfOk result (λ made. AreFine made.ops) }
+    ensures tested { OnOk result (test_refusal (option_map M.combine operator.old) default_millis now owned.ops ≡ None) }
+    ensures next { IfOk result (λ made. IsNextOf last owned.ops made.seq) }
+    ensures free { (cs : List Commit) → StandsFor manager.old cs → OnOk result (conflict cs owned ≡ None) }
+    ensures put { IfOk result (λ made. layers.new ≡ put_at (operator_at (option_map M.combine operator.old)) default_millis made.seq now owned.ops layers.old) }
+    ensures whole { AreLayers layers.new }
+    ensures committed { (ids : ℕ) (cs : List Commit) (ps : List (List ℕ × Tx)) → IsManaged manager.old ids last cs ps → IfOk result (λ made. IsManaged manager.new ids (unwrap_or made.seq last) (cs ++ commit_made made.seq now made.ops made.tracked) (without id.now ps)) }
+    ensures same_layers { OnErr result (layers.new ≡ layers.old) }
+    ensures grown { OnErr result (Grown id.now manager.old manager.new) }
+    ensures first { (cs : List Commit) → StandsFor manager.old cs → conflict cs owned ≡ None → IsNextOf last owned.ops (Some (last + 1)) → (e : SlateDBError) → test_refusal (option_map M.combine operator.old) default_millis now owned.ops ≡ Some e → (result ≡ Err e) ⊎ (result ≡ Err SlateDBError.OutOfMemory) }
+    ensures met { (cs : List Commit) → StandsFor manager.old cs → (n : ℕ) → conflict cs owned ≡ Some n → (result ≡ Err (SlateDBError.TransactionConflict n)) ⊎ (result ≡ Err SlateDBError.OutOfMemory) }
+    ensures full { (cs : List Commit) → StandsFor manager.old cs → conflict cs owned ≡ None → owned.ops ≢ [] → last ≡ 18446744073709551614 → (result ≡ Err SlateDBError.SequenceExhausted) ⊎ (result ≡ Err SlateDBError.OutOfMemory) }
+    ensures same { option_map M.combine operator.new ≡ option_map M.combine operator.old }
+    ensures later { faults_of M.faults operator.old ≤ faults_of M.faults operator.new }
+    ensures cause { (cs : List Commit) → StandsFor manager.old cs → IfErr result (λ e. (e ≡ SlateDBError.OutOfMemory) ⊎ (IsConflict (conflict cs owned) e ⊎ IsFull last (conflict cs owned) owned.ops e)
+        ⊎ IsTestRefusal (option_map M.combine operator.old) default_millis now last (conflict cs owned) owned.ops e ⊎ IsCallback (faults_of M.faults operator.old) (faults_of M.faults operator.new) e) }
+{
+    let tested = owned.test(alloc, manager, id)?;
+    if tested.batch.is_empty() {
+        manager.drop_txn(id);
+        return Ok(idle(alloc, tested));
+    }
+    if last >= 18446744073709551614 {
+        drop(tested);
+        return Err(SlateDBError::SequenceExhausted);
+    }
+    let Tested {
+        batch,
+        tracked,
+        transcript,
+    } = tested;
+    let put = put_commit(
+        alloc,
+        default_millis,
+        layers,
+        manager,
+        id,
+        &batch,
+        last,
+        now,
+        operator,
+    );
+    drop(batch);
+    match put {
+        Ok(ops) => Ok(Made {
+            seq: Some(last + 1),
+            ops,
+            tracked,
+            transcript,
+        }),
+        Err(error) => {
+            drop(tracked);
+            drop(transcript);
+            Err(error)
+        }
+    }
+}
+
+/// What a commit without operations adds. Takes no memory.
+fn idle(alloc: Global, tested: Tested) -> Made
+    ensures { result ≡ record { seq = None; ops = []; tracked = tested.tracked; transcript = tested.transcript } }
+{
+    let Tested {
+        batch,
+        tracked,
+        transcript,
+    } = tested;
+    drop(batch);
+    Made {
+        seq: None,
+        ops: OpList::from_vec(Vec::new(alloc)),
+        tracked,
+        transcript,
+    }
+}
+
+/// Puts the rows of a transaction's batch that has operations, at the sequence behind the last, and gives the operations. The
+/// manager has then ended the transaction. Refuses as `WriteBatch::test_entries` does, then by `Callback`, only where the
+/// operator's count of faults rose, and by `OutOfMemory`, and then nothing is done.
+pub(crate) fn put_commit<M: MergeOperator>(
+    alloc: Global,
+    default_millis: Option<u64>,
+    layers: &mut Layers,
+    manager: &mut TransactionManager,
+    id: &Uuid,
+    batch: &WriteBatch,
+    last: u64,
+    now: i64,
+    operator: &mut Option<M>,
+) -> Result<OpList, SlateDBError>
+    requires fits { last < 18446744073709551614 }
+    requires whole { AreLayers layers.old }
+    requires within { AllByRecursion (λ rows. AllByRecursion (λ r. r.seq ≤ last) rows) (in_memory layers.old) }
+    requires newest { manager.old.last ≡ last }
+    ensures put { OnOk result (layers.new ≡ record layers.old { active = put_rows layers.old.active (commit_rows (operator_at (option_map M.combine operator.old)) default_millis (last + 1) now batch.now.ops) }) }
+    ensures whole { AreLayers layers.new }
+    ensures ops { IfOk result (λ ops. ops ≡ batch.now.ops) }
+    ensures fine { OnOk result (AreFine batch.now.ops) }
+    ensures tested { OnOk result (batch_refusal (option_map M.combine operator.old) default_millis now batch.now ≡ None) }
+    ensures first { (e : SlateDBError) → batch_refusal (option_map M.combine operator.old) default_millis now batch.now ≡ Some e → (result ≡ Err e) ⊎ (result ≡ Err SlateDBError.OutOfMemory) }
+    ensures committed { OnOk result (manager.new ≡ record manager.old { last = last + 1; active = without id.now manager.old.active; kept = manager.new.kept }) }
+    ensures stands { OnOk result ((cs : List Commit) (c : Commit) → IsCommitOf (last + 1) (writes_at (find_named id.now manager.old.active)) c → StandsFor manager.old cs → StandsFor manager.new (with_commit cs c (find_named id.now manager.old.active))) }
+    ensures same_layers { OnErr result (layers.new ≡ layers.old) }
+    ensures same { OnErr result (manager.new ≡ manager.old) }
+    ensures same_operator { option_map M.combine operator.new ≡ option_map M.combine operator.old }
+    ensures later { faults_of M.faults operator.old ≤ faults_of M.faults operator.new }
+    ensures cause { IfErr result (λ e. (e ≡ SlateDBError.OutOfMemory) ⊎ (batch_refusal (option_map M.combine operator.old) default_millis now batch.now ≡ Some e) ⊎ IsCallback (faults_of M.faults operator.old) (faults_of M.faults operator.new) e) }
+{
+    let seq = last + 1;
+    test_batch(alloc, batch, now, default_millis, operator)?;
+    let rows = rows_of_batch(alloc, batch, seq, now, default_millis, operator)?;
+    let ops = batch.ops(alloc)?;
+    put_own(alloc, layers, manager, rows, id, seq)?;
+    Ok(OpList::from_vec(ops))
+}

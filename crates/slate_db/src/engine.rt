@@ -1,0 +1,999 @@
+//! The core: the journal of a store, what is open in it, and the rows in memory.
+ghost use Rattle.std.specs.Prelude.{◌≡◌, ℕ, ◌≢◌, ◌⊎◌, ◌+◌, ◌-◌, ◌^◌, ◌≤◌, ◌<◌, ◌∷◌, List, [], ◌++◌, length, IfOk, IfErr, OnOk, OnErr, IsOk, Err, IsOkUnless, IsSome, Option, None, Some, true, false, is_some, map, reverse, option_map, count_by, drop, nat_eq};
+ghost use Rattle.std.specs.List.{AllByRecursion, starts_with};
+ghost use Rattle.slate_types.specs.Config.{IsValid};
+ghost use Rattle.slate_types.specs.declared.error.SlateDBError.{SlateDBError};
+ghost use Rattle.slate_types.specs.declared.filter_policy.PrefixTarget.{PrefixTarget};
+ghost use Rattle.slate_filter.specs.Laws.{AreValidNames};
+ghost use Rattle.slate_filter.specs.Policy.{Policy};
+ghost use Rattle.slate_table.specs.Filtered.{point_query};
+ghost use Rattle.slate_types.specs.Fold.{AreShort, Combine, IsLawful, KeepsShort, fold_rows, shown};
+ghost use Rattle.slate_types.specs.Rows.{is_operand, key_value};
+ghost use Rattle.slate_types.specs.declared.types.RowEntry.{RowEntry};
+ghost use Rattle.slate_types.specs.Iteration.{drop_before};
+ghost use Rattle.slate_types.specs.Keys.{in_range, is_refused};
+ghost use Rattle.slate_types.specs.Outside.{Act, IsFault, OnlyReads, Puts};
+ghost use Rattle.slate_types.specs.Refusing.{NoMore};
+ghost use Rattle.slate_types.specs.World.{World, Checks, IsCall, Made, Sees};
+ghost use Rattle.slate_mem.specs.Lookup.{is_merge_among, newest_first};
+ghost use Rattle.slate_mem.specs.Table.{newest};
+ghost use Rattle.slate_txn.specs.declared.event.TranscriptStep.TheVariants as steps;
+ghost use Rattle.slate_txn.specs.Alone.{first_left, own_of};
+ghost use Rattle.slate_txn.specs.Reads.{key_rows, rows_seen, up_to};
+ghost use Rattle.slate_txn.specs.declared.line.ScanStep.{ScanStep};
+ghost use Rattle.slate_txn.specs.declared.event.Event.TheVariants as events;
+ghost use Rattle.slate_txn.specs.declared.line.Line.TheVariants as lines;
+ghost use Rattle.slate_txn.specs.Named.{find_named};
+ghost use Rattle.slate_txn.specs.Replay.{IsLegal};
+ghost use Rattle.slate_mem.specs.declared.WriteOp.{WriteOp};
+ghost use Rattle.slate_mem.specs.Batch.{Ops, kept, replaces};
+ghost use Rattle.slate_mem.specs.Refusals.{op_refusal};
+ghost use Rattle.slate_mem.specs.RowOf.{own_row};
+ghost use Rattle.slate_mem.specs.BatchModel.{IsBatchOf};
+ghost use Rattle.slate_txn.specs.Places.{IsQuiet};
+ghost use Rattle.slate_txn.specs.Reply.{Done, Refused, RowsAre, Begun, SnapshotAt, Committed, Found, Written, Frozen, Flushed};
+ghost use Rattle.slate_txn.specs.Settings.{settings_of};
+ghost use Rattle.slate_txn.specs.Open.{least_start};
+ghost use Rattle.slate_txn.specs.State.{Tx, is_open, opening, last_of};
+ghost use Rattle.slate_txn.specs.Step.{Reader, noted, reader, step, with_op, with_marks, with_unmarks};
+ghost use Rattle.slate_db.specs.Answered.{AddsTables};
+ghost use Rattle.slate_db.specs.Meaning.{Meaning, IsLawfulMeaning, combine_of, rules_of};
+ghost use Rattle.slate_db.specs.Frozen.{IsFrozen};
+ghost use Rattle.slate_db.specs.Flushed.{Flushes, IsFlushError, MayPut, NoPlace, NoPlaceToFlush, TooLarge, WantsOperator, events_of_flush, layout_of};
+ghost use Rattle.slate_db.specs.Load.{load, weight};
+ghost use Rattle.slate_db.specs.Installs.{Replays, installed, tables_of};
+ghost use Rattle.slate_db.specs.BatchTests.{IsTestRefusal, batch_refusal};
+ghost use Rattle.slate_db.specs.Shown.{Asking};
+ghost use Rattle.slate_db.specs.Readable.{IsAnswered, IsOwnOperand, IsOwnRead, IsRead, decides_own, keeps_merge};
+ghost use Rattle.slate_db.specs.Model.{CoreModel, IsSame, Rows, at, memory};
+ghost use Rattle.slate_db.specs.Sound.{AreTables, IsKept, IsOperable, FoldsToState};
+ghost use Rattle.slate_db.specs.StoredState.{StoresState};
+ghost use Rattle.slate_db.specs.Log.{LIMIT, AreFine, ends_of};
+ghost use Rattle.slate_txn.specs.Conflict.{conflict};
+ghost use Rattle.slate_txn.specs.HandedOver.{IsConflict};
+ghost use Rattle.slate_db.specs.Committed.{IsCommitted, IsEnded};
+ghost use Rattle.slate_db.specs.Operated.{operated};
+ghost use Rattle.slate_db.specs.Scans.{AnswersAgain, HasLeft, IsFor, IsOpenScan, IsOpeningError, IsRefusedByScan, IsRefusedScan, IsScanOf, IsUnrefused, IsWorldOf, Keeps, Leaves, LeavesIn, ScanRefuses, id_of, number_of, scan_of};
+ghost use Rattle.slate_read.specs.SstOptions.{CanFetch};
+ghost use Rattle.slate_db.specs.Vouched.{IsVouchedFor};
+ghost use Rattle.slate_db.specs.Written.{IsWritten};
+
+use crate::commit::{self, make};
+use crate::flush::stored;
+use crate::laws::Laws;
+use crate::layers::Layers;
+use crate::log::Log;
+use crate::lookup::{newest_behind, newest_of_runs, query_of};
+use crate::open_scan::{merged, scan_sources, table_options};
+use crate::put::{enter, put_batch};
+use crate::scan::{DbIterator, TxnIterator};
+use crate::tested::{rows_of_batch, test_batch};
+use bytes::Bytes;
+use slate_filter::FilterPolicy;
+use slate_mem::WriteBatch;
+use slate_mem::fold::answer;
+use slate_mem::lookup::is_decided;
+use slate_read::SstIteratorOptions;
+use slate_store::{Env, EnvOf, Store};
+use slate_txn::fold::fold_found;
+use slate_txn::{Journal, OpList, OpenTransactions, SnapshotManager, TransactionManager};
+use slate_types::{
+    BlockTransformer, BytesRange, FilterContext, FilterQuery, IsolationLevel, KeyValue,
+    MergeOperator, MergeOptions, Options, Outside, PrefixExtractor, PutOptions, ReadOptions,
+    RowEntry, ScanOptions, SlateDBError,
+};
+use std::alloc::Global;
+use std::marker::Model;
+use uuid::Uuid;
+
+/// A store on one thread: its log, the transactions that are open, and the layers of its rows. What it is given
+/// of the outside it is given call by call.
+#[derive(Drop)]
+pub struct Core {
+    alloc: Global,
+    default_millis: Option<u64>,
+    log: Log,
+    manager: TransactionManager,
+    transactions: OpenTransactions,
+    snapshots: SnapshotManager,
+    layers: Layers,
+}
+
+impl Model for Core {
+    ghost use Rattle.slate_db.specs.Model.{CoreModel};
+
+    ghost Value = { CoreModel };
+
+    ghost use Rattle.slate_db.specs.View.{view_of, IsWholeInside};
+
+    ghost view = { view_of };
+
+    ghost invariant = { IsWholeInside };
+}
+
+impl Core {
+    /// A core with an empty journal. Takes no memory.
+    pub fn new(alloc: Global, options: &Options) -> Core
+        requires { options.now.start_seq ≤ 18446744073709551614 }
+        ensures settings { result.settings ≡ settings_of options.now }
+        ensures state { result.state ≡ opening }
+        ensures journal { result.events ≡ [] }
+        ensures kept { (m : Meaning) → IsKept m result }
+        ensures memory { (result.active ≡ []) × (result.frozen ≡ []) }
+        ensures floor { result.floor ≡ 0 }
+    {
+        Core {
+            alloc,
+            default_millis: options.default_ttl_millis,
+            log: Log::new(alloc, options.start_seq),
+            manager: TransactionManager::new(alloc, options.start_seq),
+            transactions: OpenTransactions::new(alloc),
+            snapshots: SnapshotManager::new(alloc, options.start_seq),
+            layers: Layers::new(alloc),
+        }
+    }
+
+    /// Whether the id is that of an open transaction or of an open snapshot.
+    pub fn is_open(&self, id: &Uuid) -> bool
+        ensures { result ≡ is_open self.now.state id.now }
+    {
+        self.transactions.is_open(id) || self.snapshots.is_live(id)
+    }
+
+    /// The sequence that a reader with this id sees up to: that at which an open transaction began, or that of an open snapshot.
+    fn start_of(&self, id: &Uuid) -> Option<u64>
+        ensures { result ≡ option_map (λ from. from.at) (reader self.now.state id.now) }
+    {
+        match self.transactions.begin_of(id) {
+            Some(begin) => Some(begin),
+            None => self.snapshots.seq_of(id),
+        }
+    }
+
+    /// The least sequence that an open transaction or an open snapshot still reads at, or the newest one.
+    fn barrier(&self) -> u64
+        ensures { result ≡ least_start (last_of self.now.settings.start_seq self.now.state.commits) self.now.state }
+    {
+        let begin = self.transactions.barrier(self.log.last());
+        match self.snapshots.min_active_seq() {
+            Some(seq) => seq.min(begin),
+            None => begin,
+        }
+    }
+
+    /// Opens a transaction at the newest sequence, and gives its id and that sequence. Room for the event of its end
+    /// is made now. Refuses by `LimitReached` where the journal has no place for both events, and by `OutOfMemory`,
+    /// and then nothing is opened.
+    pub fn begin(&mut self, level: IsolationLevel) -> Result<(Uuid, u64), SlateDBError>
+        ensures step { IfOk result (λ a. (m : Meaning) → step (rules_of self.old.settings m) self.old.state (lines.Begin a.0 level) ≡ (self.new.state, Begun a.0 a.1)) }
+        ensures event { IfOk result (λ a. self.new ≡ record self.old { state = self.new.state; events = self.old.events ++ events.Begin a.0 level a.1 ∷ []; spare = self.new.spare }) }
+        ensures vouched { IfOk result (λ a. (m : Meaning) → IsVouchedFor m self.new a.0) }
+        ensures others { OnOk result ((m : Meaning) (other : List ℕ) → IsVouchedFor m self.old other → IsVouchedFor m self.new other) }
+        ensures kept { OnOk result ((m : Meaning) → IsKept m self.old → IsKept m self.new) }
+        ensures same { OnErr result (self.new ≡ self.old) }
+        ensures limit { NoPlace 2 self.old → result ≡ Err (SlateDBError.LimitReached LIMIT) }
+        ensures cause { IfErr result (λ e. (e ≡ SlateDBError.OutOfMemory) ⊎ ((e ≡ SlateDBError.LimitReached LIMIT) × (NoPlace 2 self.old))) }
+    {
+        self.log.place(2)?;
+        let (id, start) = self.manager.new_transaction()?;
+        let transactions = &mut self.transactions;
+        if let Err(error) = enter(self.alloc, transactions, &mut self.log, id, level, start) {
+            self.manager.take_back(&id);
+            return Err(error);
+        }
+        Ok((id, start))
+    }
+
+    /// Opens a snapshot of the rows at the newest sequence, and gives its id and that sequence. Room for the event of its release
+    /// is made now. Refuses by `LimitReached` where the journal has no place for both events, and by `OutOfMemory`, and then
+    /// nothing is opened.
+    pub fn snapshot(&mut self) -> Result<(Uuid, u64), SlateDBError>
+        ensures step { IfOk result (λ a. (m : Meaning) → step (rules_of self.old.settings m) self.old.state (lines.Snapshot a.0) ≡ (self.new.state, SnapshotAt a.0 a.1)) }
+        ensures event { IfOk result (λ a. self.new ≡ record self.old { state = self.new.state; events = self.old.events ++ events.Snapshot a.0 a.1 ∷ []; spare = self.new.spare }) }
+        ensures vouched { OnOk result ((m : Meaning) (other : List ℕ) → IsVouchedFor m self.old other → IsVouchedFor m self.new other) }
+        ensures kept { OnOk result ((m : Meaning) → IsKept m self.old → IsKept m self.new) }
+        ensures same { OnErr result (self.new ≡ self.old) }
+        ensures limit { NoPlace 2 self.old → result ≡ Err (SlateDBError.LimitReached LIMIT) }
+        ensures cause { IfErr result (λ e. (e ≡ SlateDBError.OutOfMemory) ⊎ ((e ≡ SlateDBError.LimitReached LIMIT) × NoPlace 2 self.old)) }
+    {
+        self.log.place(2)?;
+        let (id, seq) = self.snapshots.new_snapshot(Some(self.log.last()))?;
+        if let Err(error) = self.log.push_snapshot(id) {
+            self.snapshots.take_back(&id);
+            return Err(SlateDBError::from(error));
+        }
+        Ok((id, seq))
+    }
+
+    /// Releases an open snapshot, in the room that its opening made.
+    pub fn release(&mut self, id: &Uuid)
+        requires { IsSome (find_named id.now self.old.state.snapshots) }
+        ensures step { (m : Meaning) → step (rules_of self.old.settings m) self.old.state (lines.Rollback id.now) ≡ (self.new.state, Done) }
+        ensures event { self.new ≡ record self.old { state = self.new.state; events = self.old.events ++ events.Release id.now ∷ []; spare = self.new.spare } }
+        ensures vouched { (m : Meaning) (other : List ℕ) → IsVouchedFor m self.old other → IsVouchedFor m self.new other }
+        ensures kept { (m : Meaning) → IsKept m self.old → IsKept m self.new }
+    {
+        self.snapshots.drop_snapshot(id);
+        self.log.push_release(*id);
+    }
+
+    /// Ends an open transaction without a commit, in the room that its begin made.
+    pub fn rollback(&mut self, id: &Uuid)
+        requires { IsSome (find_named id.now self.old.state.txns) }
+        ensures step { (m : Meaning) → step (rules_of self.old.settings m) self.old.state (lines.Rollback id.now) ≡ (self.new.state, Done) }
+        ensures event { self.new ≡ record self.old { state = self.new.state; events = self.old.events ++ events.End id.now ∷ []; spare = self.new.spare } }
+        ensures others { (m : Meaning) (other : List ℕ) → other ≢ id.now → IsVouchedFor m self.old other → IsVouchedFor m self.new other }
+        ensures kept { (m : Meaning) → IsKept m self.old → IsKept m self.new }
+    {
+        self.transactions.end(id);
+        self.manager.drop_txn(id);
+        self.log.push_end(*id);
+    }
+
+    /// Moves the active rows behind those that wait for a flush, and gives the newest sequence. Where there are none
+    /// it changes nothing. Refuses by `LimitReached` where the journal has no place for the event, and by
+    /// `OutOfMemory`, and then nothing is moved.
+    pub fn freeze(&mut self) -> Result<u64, SlateDBError>
+        ensures step { IfOk result (λ n. (m : Meaning) → step (rules_of self.old.settings m) self.old.state lines.Freeze ≡ (self.new.state, Frozen n)) }
+        ensures event { OnOk result (IsFrozen self.old self.new) }
+        ensures quiet { OnOk result (IsQuiet self.new.events) }
+        ensures idle { self.old.active ≡ [] → IsOk result }
+        ensures vouched { OnOk result ((m : Meaning) (other : List ℕ) → IsVouchedFor m self.old other → IsVouchedFor m self.new other) }
+        ensures kept { OnOk result ((m : Meaning) → IsKept m self.old → IsKept m self.new) }
+        ensures same { OnErr result (self.new ≡ self.old) }
+        ensures limit { self.old.active ≢ [] → NoPlace 1 self.old → result ≡ Err (SlateDBError.LimitReached LIMIT) }
+        ensures cause { IfErr result (λ e. (e ≡ SlateDBError.OutOfMemory) ⊎ ((e ≡ SlateDBError.LimitReached LIMIT) × (NoPlace 1 self.old))) }
+    {
+        if self.layers.active().is_empty() {
+            return Ok(self.log.last());
+        }
+        self.log.place(1)?;
+        self.layers.reserve_freeze()?;
+        self.log.reserve()?;
+        self.layers.freeze();
+        self.log.push_freeze();
+        Ok(self.log.last())
+    }
+
+    /// Commits a batch by itself, at the next sequence, which it gives. An empty batch commits nothing, and is never
+    /// refused. Refuses by `SequenceExhausted` where no sequence is left; by `MergeOperatorMissing` where the batch ever took a
+    /// merge and there is no operator; by `IncompatibleMergeTtls`, upwards by key, where operations of a key that it keeps differ
+    /// in expiry; by `LimitReached` where the journal has no place for the event; then by `Callback`, only where the operator's
+    /// count of faults rose; and by `OutOfMemory`. Then nothing is committed.
+    pub fn write<S: Store, M: MergeOperator, T: BlockTransformer, X: PrefixExtractor>(
+        &mut self,
+        batch: WriteBatch,
+        now: i64,
+        env: &mut Env<'_, S, M, T>,
+        laws: &Laws<X>,
+    ) -> Result<Option<u64>, SlateDBError>
+        ensures step { let reach = ⟦<EnvOf<S, M, T> as Outside>⟧.reach in
+            let m = (reach env.old).meaning in
+            IfOk result (λ n. (ops : Ops) → IsBatchOf ops batch → AreFine ops → step (rules_of self.old.settings m) (at now self.old.state) (lines.Write ops) ≡ (at now self.new.state, Written n)) }
+        ensures refused { let reach = ⟦<EnvOf<S, M, T> as Outside>⟧.reach in
+            let m = (reach env.old).meaning in
+            IfErr result (λ e. IsFault (reach env.old) (reach env.new) e ⊎ (e ≡ SlateDBError.LimitReached LIMIT) ⊎ ((ops : Ops) → IsBatchOf ops batch → AreFine ops → step (rules_of self.old.settings m) (at now self.old.state) (lines.Write ops) ≡ (at now self.old.state, Refused e))) }
+        ensures event { IfOk result (λ n. IsWritten self.old self.new n now batch.ops) }
+        ensures vouched { OnOk result ((m : Meaning) (other : List ℕ) → IsVouchedFor m self.old other → IsVouchedFor m self.new other) }
+        ensures kept { let reach = ⟦<EnvOf<S, M, T> as Outside>⟧.reach in
+            let m = (reach env.old).meaning in
+            OnOk result (IsKept m self.old → IsKept m self.new) }
+        ensures kept_refused { OnErr result ((m : Meaning) → IsKept m self.old → IsKept m self.new) }
+        ensures load { (ops : Ops) → IsBatchOf ops batch → OnOk result (load self.new ≤ load self.old + length ops) }
+        ensures same { OnErr result (IsSame self.old self.new) }
+        ensures idle { batch.ops ≡ [] → IsOk result }
+        ensures exhausted { batch.ops ≢ [] → last_of self.old.settings.start_seq self.old.state.commits ≡ 2 ^ 64 - 2 → result ≡ Err SlateDBError.SequenceExhausted }
+        ensures limit { let reach = ⟦<EnvOf<S, M, T> as Outside>⟧.reach in
+            let m = (reach env.old).meaning in
+            batch.ops ≢ [] → last_of self.old.settings.start_seq self.old.state.commits < 2 ^ 64 - 2 → batch_refusal m.combine self.old.settings.default_millis now batch ≡ None →
+            NoPlace 1 self.old → (result ≡ Err (SlateDBError.LimitReached LIMIT)) ⊎ (result ≡ Err SlateDBError.OutOfMemory) }
+        ensures first { let reach = ⟦<EnvOf<S, M, T> as Outside>⟧.reach in
+            let m = (reach env.old).meaning in
+            batch.ops ≢ [] → last_of self.old.settings.start_seq self.old.state.commits < 2 ^ 64 - 2 →
+            (e : SlateDBError) → batch_refusal m.combine self.old.settings.default_millis now batch ≡ Some e → (result ≡ Err e) ⊎ (result ≡ Err SlateDBError.OutOfMemory) }
+        ensures cause { let reach = ⟦<EnvOf<S, M, T> as Outside>⟧.reach in
+            let m = (reach env.old).meaning in
+            IfErr result (λ e. IsFault (reach env.old) (reach env.new) e
+            ⊎ ((e ≡ SlateDBError.SequenceExhausted) × (last_of self.old.settings.start_seq self.old.state.commits ≡ 2 ^ 64 - 2))
+            ⊎ ((e ≡ SlateDBError.LimitReached LIMIT) × NoPlace 1 self.old)
+            ⊎ (batch_refusal m.combine self.old.settings.default_millis now batch ≡ Some e)) }
+        ensures outside { env.new ≡ record env.old { operator = env.new.operator } }
+        ensures call { let reach = ⟦<EnvOf<S, M, T> as Outside>⟧.reach in IsCall (reach env.old) (reach env.new) [] }
+        ensures reads { let reach = ⟦<EnvOf<S, M, T> as Outside>⟧.reach in OnlyReads (reach env.old) (reach env.new) }
+    {
+        let _laws = laws;
+        if batch.is_empty() {
+            return Ok(None);
+        }
+        if self.log.last() >= 18446744073709551614 {
+            return Err(SlateDBError::SequenceExhausted);
+        }
+        test_batch(self.alloc, &batch, now, self.default_millis, &env.operator)?;
+        self.log.place(1)?;
+        self.log.reserve()?;
+        let seq = self.log.last() + 1;
+        let rows = rows_of_batch(
+            self.alloc,
+            &batch,
+            seq,
+            now,
+            self.default_millis,
+            &mut env.operator,
+        )?;
+        let ops = batch.ops(self.alloc)?;
+        let keys = batch.keys()?;
+        put_batch(
+            self.alloc,
+            &mut self.layers,
+            &mut self.manager,
+            rows,
+            keys,
+            seq,
+        )?;
+        self.log.push_write(now, OpList::from_vec(ops));
+        Ok(Some(seq))
+    }
+
+    /// Freezes, stores the rows that wait as tables, with the filters of the policies, and gives the newest sequence. Of each key the rows at or below the
+    /// barrier, which is the least begin of an open transaction or sequence of an open snapshot, or else the newest sequence,
+    /// become their fold. Where no rows are in memory nothing is stored. Refuses by `LimitReached` where the journal has no place
+    /// for the events, and then nothing is changed, or where a table would pass a limit; by `StoreFault`, `BlockTransformError` and
+    /// `Callback`, each only where its count of faults rose, and then the rows are frozen; by `MergeOperatorMissing`, only where a
+    /// row in memory is an operand and there is no operator; and by `OutOfMemory`. Else the rows are in memory as before, or frozen,
+    /// and the store's objects are as they were, or have some first of the tables, which no event names.
+    pub fn flush<S: Store, M: MergeOperator, T: BlockTransformer, X: PrefixExtractor>(
+        &mut self,
+        env: &mut Env<'_, S, M, T>,
+        laws: &Laws<X>,
+    ) -> Result<u64, SlateDBError>
+        requires valid { IsValid laws.now.options }
+        requires names { AreValidNames (map (λ p. (meaning p).name) laws.now.policies.items) }
+        ensures step { IfOk result (λ n. (m : Meaning) → step (rules_of self.old.settings m) self.old.state lines.Flush ≡ (self.new.state, Flushed n)) }
+        ensures installed { let reach = ⟦<EnvOf<S, M, T> as Outside>⟧.reach in IfOk result (λ n. (between : CoreModel) × IsFrozen self.old between × Flushes (layout_of laws.now.options (map (λ p. meaning p) laws.now.policies.items)) (reach env.old) (reach env.new) between self.new n) }
+        ensures acts { let reach = ⟦<EnvOf<S, M, T> as Outside>⟧.reach in OnOk result (AddsTables (tables_of self.old.events) (tables_of self.new.events) (reach env.old).acts (reach env.new).acts) }
+        ensures taken { OnOk result ((self.new.active ≡ []) × (self.new.frozen ≡ [])) }
+        ensures quiet { OnOk result (IsQuiet self.new.events) }
+        ensures refused { let reach = ⟦<EnvOf<S, M, T> as Outside>⟧.reach in OnErr result ((between : CoreModel) × (IsSame self.old between ⊎ IsFrozen self.old between) × IsSame between self.new × MayPut (layout_of laws.now.options (map (λ p. meaning p) laws.now.policies.items)) (reach env.old) (reach env.new) between) }
+        ensures frozen { (result ≡ Err SlateDBError.StoreFault) ⊎ (result ≡ Err SlateDBError.BlockTransformError) ⊎ (result ≡ Err SlateDBError.MergeOperatorMissing) ⊎ ((message : List ℕ) × (result ≡ Err (SlateDBError.Callback message))) → (between : CoreModel) × IsFrozen self.old between × IsSame between self.new }
+        ensures full { NoPlaceToFlush self.old → self.new ≡ self.old }
+        ensures full_objects { let reach = ⟦<EnvOf<S, M, T> as Outside>⟧.reach in NoPlaceToFlush self.old → (reach env.new).objects ≡ (reach env.old).objects }
+        ensures vouched { OnOk result ((m : Meaning) (other : List ℕ) → IsVouchedFor m self.old other → IsVouchedFor m self.new other) }
+        ensures kept { let reach = ⟦<EnvOf<S, M, T> as Outside>⟧.reach in
+            let m = (reach env.old).meaning in
+            IsKept m self.old → IsKept m self.new }
+        ensures kept_refused { OnErr result ((m : Meaning) → IsKept m self.old → IsKept m self.new) }
+        ensures wanted { let reach = ⟦<EnvOf<S, M, T> as Outside>⟧.reach in
+            (reach env.old).meaning.combine ≡ None → is_merge_among (newest_first (memory self.old)) ≡ true → IfOk result (λ _. ⊥) }
+        ensures operable { let reach = ⟦<EnvOf<S, M, T> as Outside>⟧.reach in
+            let m = (reach env.old).meaning in
+            IsKept m self.old → IfErr result (λ e. e ≢ SlateDBError.MergeOperatorMissing) }
+        ensures settings { self.new.settings ≡ self.old.settings }
+        ensures limit { NoPlaceToFlush self.old → result ≡ Err (SlateDBError.LimitReached LIMIT) }
+        ensures cause { let reach = ⟦<EnvOf<S, M, T> as Outside>⟧.reach in IfErr result (IsFlushError (layout_of laws.now.options (map (λ p. meaning p) laws.now.policies.items)) (reach env.old) (reach env.new) self.old) }
+        ensures puts { let reach = ⟦<EnvOf<S, M, T> as Outside>⟧.reach in Puts (reach env.old) (reach env.new) }
+    {
+        self.place_for_flush()?;
+        self.freeze()?;
+        if self.layers.frozen().is_empty() {
+            self.log.note_flush();
+            return Ok(self.log.last());
+        }
+        self.install(env, laws)
+    }
+
+    /// `LimitReached` where the journal has no place for the events of a flush.
+    fn place_for_flush(&self) -> Result<(), SlateDBError>
+        ensures place { OnOk result (weight self.now + events_of_flush self.now.active self.now.frozen ≤ LIMIT) }
+        ensures limit { IfErr result (λ e. (e ≡ SlateDBError.LimitReached LIMIT) × NoPlaceToFlush self.now) }
+    {
+        self.log.place(self.layers.events_of_flush())
+    }
+
+    /// Stores the frozen rows as a run of tables.
+    fn install<S: Store, M: MergeOperator, T: BlockTransformer, X: PrefixExtractor>(
+        &mut self,
+        env: &mut Env<'_, S, M, T>,
+        laws: &Laws<X>,
+    ) -> Result<u64, SlateDBError>
+        requires valid { IsValid laws.now.options }
+        requires names { AreValidNames (map (λ p. (meaning p).name) laws.now.policies.items) }
+        requires idle { self.old.active ≡ [] }
+        requires some { 0 < length self.old.frozen }
+        requires place { weight self.old + 1 ≤ LIMIT }
+        ensures newest { IfOk result (λ n. n ≡ last_of self.old.settings.start_seq self.old.state.commits) }
+        ensures installed { let reach = ⟦<EnvOf<S, M, T> as Outside>⟧.reach in IfOk result (Flushes (layout_of laws.now.options (map (λ p. meaning p) laws.now.policies.items)) (reach env.old) (reach env.new) self.old self.new) }
+        ensures acts { let reach = ⟦<EnvOf<S, M, T> as Outside>⟧.reach in OnOk result (AddsTables (tables_of self.old.events) (tables_of self.new.events) (reach env.old).acts (reach env.new).acts) }
+        ensures same { OnErr result (IsSame self.old self.new) }
+        ensures refused { let reach = ⟦<EnvOf<S, M, T> as Outside>⟧.reach in OnErr result (MayPut (layout_of laws.now.options (map (λ p. meaning p) laws.now.policies.items)) (reach env.old) (reach env.new) self.old) }
+        ensures kept { let reach = ⟦<EnvOf<S, M, T> as Outside>⟧.reach in
+            let m = (reach env.old).meaning in
+            IsKept m self.old → IsKept m self.new }
+        ensures kept_refused { OnErr result ((m : Meaning) → IsKept m self.old → IsKept m self.new) }
+        ensures wanted { let reach = ⟦<EnvOf<S, M, T> as Outside>⟧.reach in
+            (reach env.old).meaning.combine ≡ None → is_merge_among (newest_first (memory self.old)) ≡ true → IfOk result (λ _. ⊥) }
+        ensures cause { let reach = ⟦<EnvOf<S, M, T> as Outside>⟧.reach in
+            let m = (reach env.old).meaning in
+            IfErr result (λ e. IsFault (reach env.old) (reach env.new) e ⊎ TooLarge m (layout_of laws.now.options (map (λ p. meaning p) laws.now.policies.items)) self.old e ⊎ WantsOperator m (memory self.old) e) }
+        ensures puts { let reach = ⟦<EnvOf<S, M, T> as Outside>⟧.reach in Puts (reach env.old) (reach env.new) }
+    {
+        let barrier = self.barrier();
+        self.log.reserve().and(self.layers.reserve_run())?;
+        let number = self.log.next_install();
+        let put = stored(self.alloc, self.layers.frozen(), barrier, number, laws, env)?;
+        self.log.push_install(put.0);
+        self.layers.install(put.1, barrier);
+        Ok(self.log.last())
+    }
+
+    /// The row that a reader at a sequence sees at a key, under the rows of its own operations, newest first, of which none decides.
+    fn seen<S: Store, M: MergeOperator, T: BlockTransformer>(
+        &self,
+        own: Vec<RowEntry>,
+        key: &Bytes,
+        at: u64,
+        policies: &[Box<dyn FilterPolicy>],
+        query: &FilterQuery,
+        env: &mut Env<'_, S, M, T>,
+    ) -> Result<Option<RowEntry>, SlateDBError>
+        requires query { query.now.target ≡ PrefixTarget.Point key.now }
+        requires operands { AllByRecursion (λ r. is_operand r ≡ true) own.items }
+        requires own { AllByRecursion (IsOwnOperand self.now) own.items }
+        requires keys { AllByRecursion (λ r. r.key ≡ key.now) own.items }
+        requires short { AreShort own.items }
+        ensures read { let reach = ⟦<EnvOf<S, M, T> as Outside>⟧.reach in
+            let m = (reach env.old).meaning in
+            let by : Asking = record { policies = map (λ p. meaning p) policies.now; query = query.now } in
+            IsRead by (reach env.old) (reach env.new) self.now (λ row. self.now.floor ≤ at → row ≡ fold_rows (combine_of m key.now) (key_rows (rules_of self.now.settings m) key.now (up_to at self.now.state.commits) ++ reverse own.items)) result }
+        ensures missing { let reach = ⟦<EnvOf<S, M, T> as Outside>⟧.reach in
+            let m = (reach env.old).meaning in
+            m.combine ≡ None → own.items ≢ [] → IfOk result (λ row. ⊥) }
+    {
+        let near = newest_behind(
+            self.alloc,
+            own,
+            self.layers.active(),
+            self.layers.frozen(),
+            key,
+            at,
+        )?;
+        let found = newest_of_runs(
+            self.alloc,
+            near,
+            self.layers.runs(),
+            key.as_slice(),
+            at,
+            policies,
+            query,
+            env,
+        )?;
+        fold_found(self.alloc, found, &mut env.operator)
+    }
+
+    /// The row that an open transaction or an open snapshot sees at a key: own operations, which a snapshot has none of, lie above
+    /// the rows at its start. Where one of these decides, nothing is read.
+    fn seen_by<S: Store, M: MergeOperator, T: BlockTransformer>(
+        &self,
+        id: &Uuid,
+        key: &Bytes,
+        at: u64,
+        policies: &[Box<dyn FilterPolicy>],
+        query: &FilterQuery,
+        env: &mut Env<'_, S, M, T>,
+    ) -> Result<Option<RowEntry>, SlateDBError>
+        requires open { IsSome (reader self.now.state id.now) }
+        requires query { query.now.target ≡ PrefixTarget.Point key.now }
+        ensures read { let reach = ⟦<EnvOf<S, M, T> as Outside>⟧.reach in
+            let m = (reach env.old).meaning in
+            let by : Asking = record { policies = map (λ p. meaning p) policies.now; query = query.now } in
+            (from : Reader) → reader self.now.state id.now ≡ Some from → IsRead by (reach env.old) (reach env.new) self.now (λ row. self.now.floor ≤ at → row ≡ fold_rows (combine_of m key.now) (key_rows (rules_of self.now.settings m) key.now (up_to at self.now.state.commits) ++ map (own_row key.now) (kept from.ops key.now))) result }
+        ensures own { let reach = ⟦<EnvOf<S, M, T> as Outside>⟧.reach in
+            (t : Tx) (op : WriteOp) → find_named id.now self.now.state.txns ≡ Some t → kept t.ops key.now ≡ op ∷ [] → replaces op ≡ true → IsOwnRead (reach env.old) (reach env.new) (λ row. row ≡ Some (own_row key.now op)) result }
+        ensures decided { let reach = ⟦<EnvOf<S, M, T> as Outside>⟧.reach in
+            (t : Tx) → find_named id.now self.now.state.txns ≡ Some t → decides_own key.now t.ops ≡ true →
+            IsCall (reach env.old) (reach env.new) [] × (env.new ≡ record env.old { operator = env.new.operator }) }
+        ensures folded { let reach = ⟦<EnvOf<S, M, T> as Outside>⟧.reach in
+            let c = combine_of (reach env.old).meaning key.now in
+            (t : Tx) → find_named id.now self.now.state.txns ≡ Some t → decides_own key.now t.ops ≡ true → IsLawful c → KeepsShort c →
+            IfOk result (λ row. row ≡ fold_rows c (map (own_row key.now) (kept t.ops key.now))) }
+        ensures missing { let reach = ⟦<EnvOf<S, M, T> as Outside>⟧.reach in
+            let m = (reach env.old).meaning in
+            (t : Tx) → find_named id.now self.now.state.txns ≡ Some t → m.combine ≡ None → keeps_merge key.now t.ops ≡ true → IfOk result (λ row. ⊥) }
+    {
+        let own = self.transactions.own_rows(self.alloc, id, key)?;
+        if is_decided(&own) {
+            return fold_found(self.alloc, own, &mut env.operator);
+        }
+        self.seen(own, key, at, policies, query, env)
+    }
+
+    /// The row that an open transaction or an open snapshot sees at a key, where the filters of tables are asked with this context.
+    fn asked<S: Store, M: MergeOperator, T: BlockTransformer, X: PrefixExtractor>(
+        &self,
+        id: &Uuid,
+        key: &Bytes,
+        at: u64,
+        context: &Option<FilterContext>,
+        laws: &Laws<X>,
+        env: &mut Env<'_, S, M, T>,
+    ) -> Result<Option<RowEntry>, SlateDBError>
+        requires { IsSome (reader self.now.state id.now) }
+        ensures read { let reach = ⟦<EnvOf<S, M, T> as Outside>⟧.reach in
+            let m = (reach env.old).meaning in
+            let policies = map (λ p. meaning p) laws.now.policies.items in
+            let by : Asking = record { policies = policies; query = point_query key.now context.now } in
+            (from : Reader) → reader self.now.state id.now ≡ Some from → IsRead by (reach env.old) (reach env.new) self.now (λ row. self.now.floor ≤ at → row ≡ fold_rows (combine_of m key.now) (key_rows (rules_of self.now.settings m) key.now (up_to at self.now.state.commits) ++ map (own_row key.now) (kept from.ops key.now))) result }
+        ensures own { let reach = ⟦<EnvOf<S, M, T> as Outside>⟧.reach in
+            (t : Tx) (op : WriteOp) → find_named id.now self.now.state.txns ≡ Some t → kept t.ops key.now ≡ op ∷ [] → replaces op ≡ true → IsOwnRead (reach env.old) (reach env.new) (λ row. row ≡ Some (own_row key.now op)) result }
+        ensures decided { let reach = ⟦<EnvOf<S, M, T> as Outside>⟧.reach in
+            (t : Tx) → find_named id.now self.now.state.txns ≡ Some t → decides_own key.now t.ops ≡ true →
+            IsCall (reach env.old) (reach env.new) [] × (env.new ≡ record env.old { operator = env.new.operator }) }
+        ensures folded { let reach = ⟦<EnvOf<S, M, T> as Outside>⟧.reach in
+            let c = combine_of (reach env.old).meaning key.now in
+            (t : Tx) → find_named id.now self.now.state.txns ≡ Some t → decides_own key.now t.ops ≡ true → IsLawful c → KeepsShort c →
+            IfOk result (λ row. row ≡ fold_rows c (map (own_row key.now) (kept t.ops key.now))) }
+        ensures missing { let reach = ⟦<EnvOf<S, M, T> as Outside>⟧.reach in
+            let m = (reach env.old).meaning in
+            (t : Tx) → find_named id.now self.now.state.txns ≡ Some t → m.combine ≡ None → keeps_merge key.now t.ops ≡ true → IfOk result (λ row. ⊥) }
+    {
+        let query = query_of(key, context)?;
+        self.seen_by(id, key, at, laws.policies.as_slice(), &query, env)
+    }
+
+    /// What an open transaction or an open snapshot sees at a key, and `None` where that is nothing, as at a key that no row can
+    /// have. Own operations lie above the rows at its start, and where one of them decides, no store is asked. A row that is found
+    /// and damage that is shown stand in a table whose filters deny nothing. The answer is recorded in the transaction's transcript;
+    /// a snapshot has none.
+    ///
+    /// Refuses by `StoreFault`, `BlockTransformError` and `Callback`, each only where its count of faults rose; by
+    /// `MergeOperatorMissing`, only where there is no operator and an operand was found, which each own one is that is kept of the
+    /// key; by `ChecksumMismatch`, `CorruptTable`, `InvalidFilterBlock` or `InvalidRowFlags`, only where the last reads of this call
+    /// show it, of a table that the journal names; and by `OutOfMemory`. Then nothing is recorded. Neither damage nor a missing
+    /// operator is answered where the store holds the tables that the journal names, nor where its acts tell that each read of this
+    /// call was answered by them.
+    pub fn get<S: Store, M: MergeOperator, T: BlockTransformer, X: PrefixExtractor>(
+        &mut self,
+        id: &Uuid,
+        key: &[u8],
+        options: &ReadOptions,
+        env: &mut Env<'_, S, M, T>,
+        laws: &Laws<X>,
+    ) -> Result<Option<KeyValue>, SlateDBError>
+        requires { IsSome (reader self.old.state id.now) }
+        ensures noted { IfOk result (λ a. self.new ≡ record self.old { state = noted self.old.state id.now (steps.Get key.now a ∷ []) }) }
+        ensures read { let reach = ⟦<EnvOf<S, M, T> as Outside>⟧.reach in
+            let policies = map (λ p. meaning p) laws.now.policies.items in
+            let by : Asking = record { policies = policies; query = point_query key.now options.now.filter_context } in
+            IsRead by (reach env.old) (reach env.new) self.old (λ a. step (rules_of self.old.settings (reach env.old).meaning) self.old.state (lines.Get id.now key.now) ≡ (self.new.state, Found a)) result }
+        ensures own { let reach = ⟦<EnvOf<S, M, T> as Outside>⟧.reach in
+            (t : Tx) (op : WriteOp) → find_named id.now self.old.state.txns ≡ Some t → kept t.ops key.now ≡ op ∷ [] → replaces op ≡ true →
+            IsOwnRead (reach env.old) (reach env.new) (λ a. (c : Combine) → a ≡ option_map key_value (shown c (own_row key.now op ∷ []))) result }
+        ensures decided { let reach = ⟦<EnvOf<S, M, T> as Outside>⟧.reach in
+            (t : Tx) → find_named id.now self.old.state.txns ≡ Some t → decides_own key.now t.ops ≡ true →
+            IsCall (reach env.old) (reach env.new) [] × (env.new ≡ record env.old { operator = env.new.operator }) }
+        ensures folded { let reach = ⟦<EnvOf<S, M, T> as Outside>⟧.reach in
+            let c = combine_of (reach env.old).meaning key.now in
+            (t : Tx) → find_named id.now self.old.state.txns ≡ Some t → decides_own key.now t.ops ≡ true → IsLawful c → KeepsShort c →
+            IfOk result (λ a. a ≡ option_map key_value (shown c (map (own_row key.now) (kept t.ops key.now)))) }
+        ensures missing { let reach = ⟦<EnvOf<S, M, T> as Outside>⟧.reach in
+            let m = (reach env.old).meaning in
+            (t : Tx) → find_named id.now self.old.state.txns ≡ Some t → m.combine ≡ None → keeps_merge key.now t.ops ≡ true → IfOk result (λ a. ⊥) }
+        ensures vouched { let reach = ⟦<EnvOf<S, M, T> as Outside>⟧.reach in
+            let m = (reach env.old).meaning in
+            IsAnswered (map (λ p. meaning p) laws.now.policies.items) (reach env.old) (reach env.new) self.old → (other : List ℕ) → IsVouchedFor m self.old other → IsVouchedFor m self.new other }
+        ensures same { OnErr result (self.new ≡ self.old) }
+        ensures kept { (m : Meaning) → IsKept m self.old → IsKept m self.new }
+        ensures settings { self.new.settings ≡ self.old.settings }
+    {
+        let Some(at) = self.start_of(id) else {
+            unreachable!()
+        };
+        let key = Bytes::copy_from_slice(self.alloc, key)?;
+        let row = match self.asked(id, &key, at, &options.filter_context, laws, env) {
+            Ok(row) => row,
+            Err(error) => {
+                drop(key);
+                return Err(error);
+            }
+        };
+        let found = answer(row);
+        if let Err(error) = self.transactions.note_get(self.alloc, id, key, &found) {
+            drop(found);
+            return Err(SlateDBError::from(error));
+        }
+        Ok(found)
+    }
+
+    /// The rows of a scan of an open transaction or an open snapshot: its own lie above those at its start. Nothing is noted yet.
+    fn opened<'a, S: Store, M: MergeOperator, T: BlockTransformer>(
+        &self,
+        id: &Uuid,
+        begin: u64,
+        range: BytesRange,
+        how: SstIteratorOptions,
+        policies: &'a [Box<dyn FilterPolicy>],
+        env: &mut Env<'_, S, M, T>,
+    ) -> Result<DbIterator<'a>, SlateDBError>
+        requires open { IsSome (reader self.now.state id.now) }
+        requires range { is_refused range.start range.end ≡ false }
+        requires fetches { CanFetch how }
+        ensures opened { let reach = ⟦<EnvOf<S, M, T> as Outside>⟧.reach in
+            let m = (reach env.old).meaning in
+            (from : Reader) → reader self.now.state id.now ≡ Some from → self.now.floor ≤ begin → (asked : List Policy) (a : IsAnswered asked (reach env.old) (reach env.new) self.now) →
+            IfOk result (λ it. (w : World) × IsWorldOf a.os m w × Leaves it w (rows_seen (rules_of self.now.settings m) self.now.state.commits begin from.ops how.order range)) }
+        ensures later { let reach = ⟦<EnvOf<S, M, T> as Outside>⟧.reach in
+            let m = (reach env.old).meaning in
+            IfOk result (λ it. IsFor m it × Made (reach env.old) (reach env.new) (λ reads. (later : List Act) (at : Option (List ℕ)) (e : SlateDBError) → ScanRefuses it m later at e → IsRefusedByScan m self.now (reads ++ later) e)) }
+        ensures undamaged { let reach = ⟦<EnvOf<S, M, T> as Outside>⟧.reach in self.now.floor ≤ begin → (asked : List Policy) → IsAnswered asked (reach env.old) (reach env.new) self.now → IfErr result (IsFault (reach env.old) (reach env.new)) }
+        ensures cause { let reach = ⟦<EnvOf<S, M, T> as Outside>⟧.reach in IfErr result (IsOpeningError (reach env.old) (reach env.new) self.now) }
+        ensures range { IfOk result (λ it. it.range ≡ range) }
+        ensures order { IfOk result (λ it. it.order ≡ how.order) }
+        ensures reads { let reach = ⟦<EnvOf<S, M, T> as Outside>⟧.reach in OnlyReads (reach env.old) (reach env.new) }
+    {
+        let order = how.order;
+        let alloc = self.alloc;
+        let own = self.transactions.own_range(alloc, id, &range, order)?;
+        let sources = scan_sources(alloc, own, &self.layers, &range, begin, &how, policies)?;
+        let rows = merged(alloc, sources, order, env)?;
+        Ok(DbIterator::new(alloc, rows, range, order))
+    }
+
+    /// Opens a scan of an open transaction or an open snapshot over the rows in a range, in an order. The rows are fixed now: later
+    /// calls change nothing of them. The opening is noted in the transaction's transcript; a snapshot has none. Where a prefix is
+    /// given each key of the range must begin with it.
+    ///
+    /// Refuses by `StoreFault` and `BlockTransformError`, each only where its count of faults rose; by `ChecksumMismatch`,
+    /// `CorruptTable` and `InvalidRowFlags`, only where reads of this call show it, of a table that the journal names; and by
+    /// `OutOfMemory`. Then nothing is noted.
+    pub fn scan<'a, S: Store, M: MergeOperator, T: BlockTransformer, X: PrefixExtractor>(
+        &mut self,
+        id: &Uuid,
+        range: BytesRange,
+        prefix: Option<Bytes>,
+        options: &ScanOptions,
+        env: &mut Env<'_, S, M, T>,
+        laws: &'a Laws<X>,
+    ) -> Result<TxnIterator<'a>, SlateDBError>
+        requires open { IsSome (reader self.old.state id.now) }
+        requires range { is_refused range.start range.end ≡ false }
+        requires prefix { (p k : List ℕ) → prefix ≡ Some p → in_range range k ≡ true → starts_with nat_eq k p ≡ true }
+        requires valid { IsValid laws.now.options }
+        ensures noted { OnOk result (self.new ≡ record self.old { state = noted self.old.state id.now (steps.Scan options.now.order range ∷ []) }) }
+        ensures step { OnOk result ((m : Meaning) → step (rules_of self.old.settings m) self.old.state (lines.Scan id.now options.now.order range.start range.end (ScanStep.Rows 0 ∷ [])) ≡ (self.new.state, RowsAre [])) }
+        ensures names { (from : Reader) → reader self.old.state id.now ≡ Some from → IfOk result (IsScanOf id.now from.scans options.now.order range) }
+        ensures opened { let reach = ⟦<EnvOf<S, M, T> as Outside>⟧.reach in
+            let m = (reach env.old).meaning in
+            (from : Reader) → reader self.old.state id.now ≡ Some from → (a : IsAnswered (map (λ p. meaning p) laws.now.policies.items) (reach env.old) (reach env.new) self.old) →
+            IfOk result (λ it. LeavesIn a.os m it (rows_seen (rules_of self.old.settings m) self.old.state.commits from.at from.ops options.now.order range)) }
+        ensures left { let reach = ⟦<EnvOf<S, M, T> as Outside>⟧.reach in
+            let m = (reach env.old).meaning in
+            (from : Reader) → reader self.old.state id.now ≡ Some from → IfOk result (λ it. HasLeft m self.new it (rows_seen (rules_of self.old.settings m) self.old.state.commits from.at from.ops options.now.order range)) }
+        ensures later { let reach = ⟦<EnvOf<S, M, T> as Outside>⟧.reach in
+            let m = (reach env.old).meaning in
+            IfOk result (λ it. IsFor m (scan_of it) × Made (reach env.old) (reach env.new) (λ reads. (later : List Act) (at : Option (List ℕ)) (e : SlateDBError) → ScanRefuses (scan_of it) m later at e → IsRefusedByScan m self.old (reads ++ later) e)) }
+        ensures undamaged { let reach = ⟦<EnvOf<S, M, T> as Outside>⟧.reach in IsAnswered (map (λ p. meaning p) laws.now.policies.items) (reach env.old) (reach env.new) self.old → IfErr result (IsFault (reach env.old) (reach env.new)) }
+        ensures cause { let reach = ⟦<EnvOf<S, M, T> as Outside>⟧.reach in IfErr result (IsOpeningError (reach env.old) (reach env.new) self.old) }
+        ensures vouched { OnOk result ((m : Meaning) (other : List ℕ) → IsVouchedFor m self.old other → IsVouchedFor m self.new other) }
+        ensures same { OnErr result (self.new ≡ self.old) }
+        ensures kept { (m : Meaning) → IsKept m self.old → IsKept m self.new }
+        ensures settings { self.new.settings ≡ self.old.settings }
+        ensures reads { let reach = ⟦<EnvOf<S, M, T> as Outside>⟧.reach in OnlyReads (reach env.old) (reach env.new) }
+    {
+        let Some(begin) = self.start_of(id) else {
+            unreachable!()
+        };
+        let how = table_options(prefix, options, &laws.options)?;
+        let policies = laws.policies.as_slice();
+        let rows = self.opened(id, begin, range, how, policies, env)?;
+        let scan = match self.transactions.note_scan(id, options.order, &rows.range) {
+            Ok(scan) => scan,
+            Err(error) => {
+                drop(rows);
+                return Err(SlateDBError::from(error));
+            }
+        };
+        let id = *id;
+        Ok(TxnIterator { id, scan, rows })
+    }
+
+    /// The next row of a scan, or `None` at its end, which is noted in the transcript of the scan's transaction. It is the first of
+    /// those that are left of the list that was fixed at the opening. Refuses as `DbIterator::next` does, and then nothing is
+    /// noted, and the iterator answers the refusal again.
+    pub fn next<S: Store, M: MergeOperator, T: BlockTransformer>(
+        &mut self,
+        it: &mut TxnIterator<'_>,
+        env: &mut Env<'_, S, M, T>,
+    ) -> Result<Option<KeyValue>, SlateDBError>
+        requires { IsOpenScan self.old it.old }
+        ensures noted { IfOk result (λ a. self.new ≡ record self.old { state = noted self.old.state (id_of it.old) (steps.Next (number_of it.old) a ∷ []) }) }
+        ensures rows { let reach = ⟦<EnvOf<S, M, T> as Outside>⟧.reach in (w : World) (rows : List RowEntry) → Leaves (scan_of it.old) w rows → Sees w (reach env.old) (reach env.new) →
+            IfOk result (λ a. (a ≡ first_left rows) × Leaves (scan_of it.new) w (drop 1 rows)) }
+        ensures undamaged { let reach = ⟦<EnvOf<S, M, T> as Outside>⟧.reach in (w : World) (rows : List RowEntry) → Leaves (scan_of it.old) w rows → Sees w (reach env.old) (reach env.new) → IfErr result (IsFault (reach env.old) (reach env.new)) }
+        ensures checked { let reach = ⟦<EnvOf<S, M, T> as Outside>⟧.reach in (w : World) (rows : List RowEntry) → Leaves (scan_of it.old) w rows → OnOk result (Checks w (reach env.old) (reach env.new)) }
+        ensures later { let reach = ⟦<EnvOf<S, M, T> as Outside>⟧.reach in OnOk result (Made (reach env.old) (reach env.new) (λ reads. NoMore (ScanRefuses (scan_of it.old) (reach env.old).meaning) reads (ScanRefuses (scan_of it.new) (reach env.old).meaning))) }
+        ensures cause { let reach = ⟦<EnvOf<S, M, T> as Outside>⟧.reach in IfErr result (λ e. Made (reach env.old) (reach env.new) (λ reads. IsFault (reach env.old) (reach env.new) e ⊎ ScanRefuses (scan_of it.old) (reach env.old).meaning reads None e)) }
+        ensures again { IsUnrefused (scan_of it.old) → IfErr result (λ e. Keeps e (scan_of it.new)) }
+        ensures refused { (kept : SlateDBError) → IsRefusedScan kept (scan_of it.old) → AnswersAgain kept result × (it.new ≡ it.old) × (env.new ≡ env.old) }
+        ensures names { IsScanOf (id_of it.old) (number_of it.old) (scan_of it.old).order (scan_of it.old).range it.new }
+        ensures left { (m : Meaning) (rows : List RowEntry) → HasLeft m self.old it.old rows → OnOk result (HasLeft m self.new it.new (drop 1 rows)) }
+        ensures vouched { let reach = ⟦<EnvOf<S, M, T> as Outside>⟧.reach in
+            let m = (reach env.old).meaning in
+            (w : World) (rows : List RowEntry) → Leaves (scan_of it.old) w rows → Sees w (reach env.old) (reach env.new) → HasLeft m self.old it.old rows →
+            OnOk result ((other : List ℕ) → IsVouchedFor m self.old other → IsVouchedFor m self.new other) }
+        ensures same { OnErr result (self.new ≡ self.old) }
+        ensures kept { (m : Meaning) → IsKept m self.old → IsKept m self.new }
+        ensures settings { self.new.settings ≡ self.old.settings }
+        ensures reads { let reach = ⟦<EnvOf<S, M, T> as Outside>⟧.reach in OnlyReads (reach env.old) (reach env.new) }
+    {
+        let answer = match it.rows.next(env) {
+            Ok(answer) => answer,
+            Err(error) => return Err(error),
+        };
+        if let Err(error) = self
+            .transactions
+            .note_next(self.alloc, &it.id, it.scan, &answer)
+        {
+            drop(answer);
+            return Err(it.rows.refuse(SlateDBError::from(error)));
+        }
+        Ok(answer)
+    }
+
+    /// Drops the leading rows of a scan that its order puts before the key, which is noted in the transcript of the scan's
+    /// transaction. Refuses as `DbIterator::seek` does, and then nothing is noted, and the iterator answers the refusal again.
+    pub fn seek<S: Store, M: MergeOperator, T: BlockTransformer>(
+        &mut self,
+        it: &mut TxnIterator<'_>,
+        key: &[u8],
+        env: &mut Env<'_, S, M, T>,
+    ) -> Result<(), SlateDBError>
+        requires { IsOpenScan self.old it.old }
+        ensures noted { OnOk result (self.new ≡ record self.old { state = noted self.old.state (id_of it.old) (steps.Seek (number_of it.old) key.now ∷ []) }) }
+        ensures rows { let reach = ⟦<EnvOf<S, M, T> as Outside>⟧.reach in (w : World) (rows : List RowEntry) → Leaves (scan_of it.old) w rows → Sees w (reach env.old) (reach env.new) →
+            OnOk result (Leaves (scan_of it.new) w (drop_before (scan_of it.old).order key.now rows)) }
+        ensures undamaged { let reach = ⟦<EnvOf<S, M, T> as Outside>⟧.reach in (w : World) (rows : List RowEntry) → Leaves (scan_of it.old) w rows → Sees w (reach env.old) (reach env.new) → IfErr result (IsFault (reach env.old) (reach env.new)) }
+        ensures checked { let reach = ⟦<EnvOf<S, M, T> as Outside>⟧.reach in (w : World) (rows : List RowEntry) → Leaves (scan_of it.old) w rows → OnOk result (Checks w (reach env.old) (reach env.new)) }
+        ensures later { let reach = ⟦<EnvOf<S, M, T> as Outside>⟧.reach in OnOk result (Made (reach env.old) (reach env.new) (λ reads. NoMore (ScanRefuses (scan_of it.old) (reach env.old).meaning) reads (ScanRefuses (scan_of it.new) (reach env.old).meaning))) }
+        ensures cause { let reach = ⟦<EnvOf<S, M, T> as Outside>⟧.reach in IfErr result (λ e. Made (reach env.old) (reach env.new) (λ reads. IsFault (reach env.old) (reach env.new) e ⊎ ScanRefuses (scan_of it.old) (reach env.old).meaning reads (Some key.now) e)) }
+        ensures again { IsUnrefused (scan_of it.old) → IfErr result (λ e. Keeps e (scan_of it.new)) }
+        ensures refused { (kept : SlateDBError) → IsRefusedScan kept (scan_of it.old) → AnswersAgain kept result × (it.new ≡ it.old) × (env.new ≡ env.old) }
+        ensures names { IsScanOf (id_of it.old) (number_of it.old) (scan_of it.old).order (scan_of it.old).range it.new }
+        ensures left { (m : Meaning) (rows : List RowEntry) → HasLeft m self.old it.old rows → OnOk result (HasLeft m self.new it.new (drop_before (scan_of it.old).order key.now rows)) }
+        ensures vouched { OnOk result ((m : Meaning) (other : List ℕ) → IsVouchedFor m self.old other → IsVouchedFor m self.new other) }
+        ensures same { OnErr result (self.new ≡ self.old) }
+        ensures kept { (m : Meaning) → IsKept m self.old → IsKept m self.new }
+        ensures settings { self.new.settings ≡ self.old.settings }
+        ensures reads { let reach = ⟦<EnvOf<S, M, T> as Outside>⟧.reach in OnlyReads (reach env.old) (reach env.new) }
+    {
+        if let Err(error) = it.rows.seek(key, env) {
+            return Err(error);
+        }
+        if let Err(error) = self
+            .transactions
+            .note_seek(self.alloc, &it.id, it.scan, key)
+        {
+            return Err(it.rows.refuse(SlateDBError::from(error)));
+        }
+        Ok(())
+    }
+
+    /// Puts a value in an open transaction. Refuses by `EmptyKey`, by `KeyTooLong` above 65535 bytes, by `ValueTooLong` above
+    /// 2^32 - 1 bytes, in this order, and by `OutOfMemory`, and then nothing is put.
+    pub fn put(
+        &mut self,
+        id: &Uuid,
+        key: &[u8],
+        value: &[u8],
+        options: &PutOptions,
+    ) -> Result<(), SlateDBError>
+        requires { IsSome (find_named id.now self.old.state.txns) }
+        ensures step { OnOk result ((m : Meaning) → step (rules_of self.old.settings m) self.old.state (lines.Put id.now key.now value.now options.now.ttl) ≡ (self.new.state, Done)) }
+        ensures refused { IfErr result (λ e. (e ≡ SlateDBError.OutOfMemory) ⊎ ((m : Meaning) → step (rules_of self.old.settings m) self.old.state (lines.Put id.now key.now value.now options.now.ttl) ≡ (self.old.state, Refused e))) }
+        ensures taken { OnOk result (self.new ≡ operated self.old id.now (with_op key.now (WriteOp.Put value.now options.now))) }
+        ensures test { (e : SlateDBError) → op_refusal key.now (WriteOp.Put value.now options.now) ≡ Some e → result ≡ Err e }
+        ensures cause { IfErr result (λ e. (e ≡ SlateDBError.OutOfMemory) ⊎ (op_refusal key.now (WriteOp.Put value.now options.now) ≡ Some e)) }
+        ensures kept { (m : Meaning) → IsKept m self.old → IsKept m self.new }
+        ensures vouched { (m : Meaning) (other : List ℕ) → IsVouchedFor m self.old other → IsVouchedFor m self.new other }
+        ensures same { OnErr result (self.new ≡ self.old) }
+    {
+        self.transactions.put(self.alloc, id, key, value, options)
+    }
+
+    /// Deletes a key in an open transaction. Refuses by `EmptyKey`, then by `KeyTooLong` above 65535 bytes, and by `OutOfMemory`,
+    /// and then nothing is deleted.
+    pub fn delete(&mut self, id: &Uuid, key: &[u8]) -> Result<(), SlateDBError>
+        requires { IsSome (find_named id.now self.old.state.txns) }
+        ensures step { OnOk result ((m : Meaning) → step (rules_of self.old.settings m) self.old.state (lines.Delete id.now key.now) ≡ (self.new.state, Done)) }
+        ensures refused { IfErr result (λ e. (e ≡ SlateDBError.OutOfMemory) ⊎ ((m : Meaning) → step (rules_of self.old.settings m) self.old.state (lines.Delete id.now key.now) ≡ (self.old.state, Refused e))) }
+        ensures taken { OnOk result (self.new ≡ operated self.old id.now (with_op key.now WriteOp.Delete)) }
+        ensures test { (e : SlateDBError) → op_refusal key.now WriteOp.Delete ≡ Some e → result ≡ Err e }
+        ensures cause { IfErr result (λ e. (e ≡ SlateDBError.OutOfMemory) ⊎ (op_refusal key.now WriteOp.Delete ≡ Some e)) }
+        ensures kept { (m : Meaning) → IsKept m self.old → IsKept m self.new }
+        ensures vouched { (m : Meaning) (other : List ℕ) → IsVouchedFor m self.old other → IsVouchedFor m self.new other }
+        ensures same { OnErr result (self.new ≡ self.old) }
+    {
+        self.transactions.delete(self.alloc, id, key)
+    }
+
+    /// Puts an operand in an open transaction, behind its operations of the key. Refuses by `MergeOperatorMissing` exactly where
+    /// there is no operator; then by `EmptyKey`, by `KeyTooLong` above 65535 bytes, by `ValueTooLong` above 2^32 - 1 bytes, in this
+    /// order, and by `OutOfMemory`, and then nothing is put. Calls no operator.
+    pub fn merge<S: Store, M: MergeOperator, T: BlockTransformer>(
+        &mut self,
+        id: &Uuid,
+        key: &[u8],
+        value: &[u8],
+        options: &MergeOptions,
+        env: &mut Env<'_, S, M, T>,
+    ) -> Result<(), SlateDBError>
+        requires { IsSome (find_named id.now self.old.state.txns) }
+        ensures step { let reach = ⟦<EnvOf<S, M, T> as Outside>⟧.reach in
+            let m = (reach env.old).meaning in
+            OnOk result (step (rules_of self.old.settings m) self.old.state (lines.Merge id.now key.now value.now options.now.ttl) ≡ (self.new.state, Done)) }
+        ensures refused { let reach = ⟦<EnvOf<S, M, T> as Outside>⟧.reach in
+            let m = (reach env.old).meaning in
+            IfErr result (λ e. (e ≡ SlateDBError.OutOfMemory) ⊎ (step (rules_of self.old.settings m) self.old.state (lines.Merge id.now key.now value.now options.now.ttl) ≡ (self.old.state, Refused e))) }
+        ensures taken { OnOk result (self.new ≡ operated self.old id.now (with_op key.now (WriteOp.Merge value.now options.now))) }
+        ensures missing { let reach = ⟦<EnvOf<S, M, T> as Outside>⟧.reach in
+            let m = (reach env.old).meaning in
+            m.combine ≡ None → result ≡ Err SlateDBError.MergeOperatorMissing }
+        ensures test { let reach = ⟦<EnvOf<S, M, T> as Outside>⟧.reach in
+            let m = (reach env.old).meaning in
+            (e : SlateDBError) → IsSome m.combine → op_refusal key.now (WriteOp.Merge value.now options.now) ≡ Some e → result ≡ Err e }
+        ensures cause { let reach = ⟦<EnvOf<S, M, T> as Outside>⟧.reach in
+            let m = (reach env.old).meaning in
+            IfErr result (λ e. (e ≡ SlateDBError.OutOfMemory) ⊎ ((e ≡ SlateDBError.MergeOperatorMissing) × (m.combine ≡ None)) ⊎ (op_refusal key.now (WriteOp.Merge value.now options.now) ≡ Some e)) }
+        ensures kept { let reach = ⟦<EnvOf<S, M, T> as Outside>⟧.reach in
+            let m = (reach env.old).meaning in
+            IsKept m self.old → IsKept m self.new }
+        ensures vouched { (m : Meaning) (other : List ℕ) → IsVouchedFor m self.old other → IsVouchedFor m self.new other }
+        ensures same { OnErr result (self.new ≡ self.old) }
+        ensures outside { env.new ≡ env.old }
+    {
+        if env.operator.is_none() {
+            return Err(SlateDBError::MergeOperatorMissing);
+        }
+        self.transactions.merge(self.alloc, id, key, value, options)
+    }
+
+    /// Marks keys as read by an open transaction, at either level. Where memory is wanting none is marked.
+    pub fn mark_read(&mut self, id: &Uuid, keys: &[Bytes]) -> Result<(), SlateDBError>
+        requires { IsSome (find_named id.now self.old.state.txns) }
+        ensures step { OnOk result ((m : Meaning) → step (rules_of self.old.settings m) self.old.state (lines.Mark id.now keys.now) ≡ (self.new.state, Done)) }
+        ensures taken { OnOk result (self.new ≡ operated self.old id.now (with_marks keys.now)) }
+        ensures cause { IsOkUnless result SlateDBError.OutOfMemory }
+        ensures vouched { (m : Meaning) (other : List ℕ) → IsVouchedFor m self.old other → IsVouchedFor m self.new other }
+        ensures kept { (m : Meaning) → IsKept m self.old → IsKept m self.new }
+        ensures same { OnErr result (self.new ≡ self.old) }
+    {
+        self.transactions.mark_read(self.alloc, id, keys)
+    }
+
+    /// Takes keys out of what an open transaction tracks where it writes them. Where memory is wanting none is taken out.
+    pub fn unmark_write(&mut self, id: &Uuid, keys: &[Bytes]) -> Result<(), SlateDBError>
+        requires { IsSome (find_named id.now self.old.state.txns) }
+        ensures step { OnOk result ((m : Meaning) → step (rules_of self.old.settings m) self.old.state (lines.Unmark id.now keys.now) ≡ (self.new.state, Done)) }
+        ensures taken { OnOk result (self.new ≡ operated self.old id.now (with_unmarks keys.now)) }
+        ensures cause { IsOkUnless result SlateDBError.OutOfMemory }
+        ensures vouched { (m : Meaning) (other : List ℕ) → IsVouchedFor m self.old other → IsVouchedFor m self.new other }
+        ensures kept { (m : Meaning) → IsKept m self.old → IsKept m self.new }
+        ensures same { OnErr result (self.new ≡ self.old) }
+    {
+        self.transactions.unmark_write(self.alloc, id, keys)
+    }
+
+    /// Commits an open transaction at a moment, and gives its sequence, or None where it has no operations. It ends either way.
+    /// Refuses by `TransactionConflict`, with the greatest sequence that conflicts, before all other tests; by
+    /// `SequenceExhausted` where no sequence is left; by `MergeOperatorMissing` where it took a merge and there is no operator any
+    /// more; by `IncompatibleMergeTtls`, upwards by key, where operations of a key that it keeps differ in expiry; then by
+    /// `Callback`, only where the operator's count of faults rose; and by `OutOfMemory`. Then nothing is committed.
+    pub fn commit<S: Store, M: MergeOperator, T: BlockTransformer, X: PrefixExtractor>(
+        &mut self,
+        id: &Uuid,
+        now: i64,
+        env: &mut Env<'_, S, M, T>,
+        laws: &Laws<X>,
+    ) -> Result<Option<u64>, SlateDBError>
+        requires { IsSome (find_named id.now self.old.state.txns) }
+        ensures step { let reach = ⟦<EnvOf<S, M, T> as Outside>⟧.reach in
+            let m = (reach env.old).meaning in
+            IfOk result (λ n. step (rules_of self.old.settings m) (at now self.old.state) (lines.Commit id.now) ≡ (at now self.new.state, Committed n)) }
+        ensures refused { let reach = ⟦<EnvOf<S, M, T> as Outside>⟧.reach in
+            let m = (reach env.old).meaning in
+            IsOperable m self.old → IfErr result (λ e. IsFault (reach env.old) (reach env.new) e ⊎ (step (rules_of self.old.settings m) (at now self.old.state) (lines.Commit id.now) ≡ (at now self.new.state, Refused e))) }
+        ensures event { (t : Tx) → find_named id.now self.old.state.txns ≡ Some t → IfOk result (λ n. IsCommitted self.old self.new id.now n now t) }
+        ensures ended { OnErr result (IsEnded self.old self.new id.now) }
+        ensures others { (m : Meaning) (other : List ℕ) → other ≢ id.now → IsVouchedFor m self.old other → IsVouchedFor m self.new other }
+        ensures kept { let reach = ⟦<EnvOf<S, M, T> as Outside>⟧.reach in
+            let m = (reach env.old).meaning in
+            IsKept m self.old → IsKept m self.new }
+        ensures kept_refused { OnErr result ((m : Meaning) → IsKept m self.old → IsKept m self.new) }
+        ensures load { (t : Tx) → find_named id.now self.old.state.txns ≡ Some t → load self.new ≤ load self.old + length t.ops }
+        ensures met { (t : Tx) (n : ℕ) → find_named id.now self.old.state.txns ≡ Some t → conflict self.old.state.commits t ≡ Some n →
+            (result ≡ Err (SlateDBError.TransactionConflict n)) ⊎ (result ≡ Err SlateDBError.OutOfMemory) }
+        ensures exhausted { (t : Tx) → find_named id.now self.old.state.txns ≡ Some t → conflict self.old.state.commits t ≡ None → t.ops ≢ [] →
+            last_of self.old.settings.start_seq self.old.state.commits ≡ 2 ^ 64 - 2 → (result ≡ Err SlateDBError.SequenceExhausted) ⊎ (result ≡ Err SlateDBError.OutOfMemory) }
+        ensures first { let reach = ⟦<EnvOf<S, M, T> as Outside>⟧.reach in
+            let m = (reach env.old).meaning in
+            (t : Tx) (e : SlateDBError) → find_named id.now self.old.state.txns ≡ Some t →
+            IsTestRefusal m.combine self.old.settings.default_millis now (last_of self.old.settings.start_seq self.old.state.commits) (conflict self.old.state.commits t) t.ops e →
+            (result ≡ Err e) ⊎ (result ≡ Err SlateDBError.OutOfMemory) }
+        ensures cause { let reach = ⟦<EnvOf<S, M, T> as Outside>⟧.reach in
+            let m = (reach env.old).meaning in
+            (t : Tx) → find_named id.now self.old.state.txns ≡ Some t → IfErr result (λ e. IsFault (reach env.old) (reach env.new) e
+            ⊎ IsConflict (conflict self.old.state.commits t) e
+            ⊎ ((e ≡ SlateDBError.SequenceExhausted) × (last_of self.old.settings.start_seq self.old.state.commits ≡ 2 ^ 64 - 2))
+            ⊎ IsTestRefusal m.combine self.old.settings.default_millis now (last_of self.old.settings.start_seq self.old.state.commits) (conflict self.old.state.commits t) t.ops e) }
+        ensures outside { env.new ≡ record env.old { operator = env.new.operator } }
+        ensures call { let reach = ⟦<EnvOf<S, M, T> as Outside>⟧.reach in IsCall (reach env.old) (reach env.new) [] }
+        ensures reads { let reach = ⟦<EnvOf<S, M, T> as Outside>⟧.reach in OnlyReads (reach env.old) (reach env.new) }
+    {
+        let _laws = laws;
+        let Some(owned) = self.transactions.take(id) else {
+            unreachable!()
+        };
+        let last = self.log.last();
+        let made = make(
+            self.alloc,
+            self.default_millis,
+            &mut self.layers,
+            &mut self.manager,
+            id,
+            owned,
+            last,
+            now,
+            &mut env.operator,
+        );
+        match made {
+            Ok(made) => {
+                let commit::Made {
+                    seq,
+                    ops,
+                    tracked,
+                    transcript,
+                } = made;
+                self.log
+                    .push_commit(*id, seq, now, ops, tracked, transcript);
+                Ok(seq)
+            }
+            Err(error) => {
+                self.manager.drop_txn(id);
+                self.log.push_end(*id);
+                Err(error)
+            }
+        }
+    }
+
+    /// All events so far, with room for the end of each open transaction. The tables that they name hold the state at the
+    /// last flush. No commit lies between that flush and the last install, and each open transaction began, and each open snapshot
+    /// stands, at or above the floor.
+    pub fn journal(&self) -> &Journal
+        ensures events { result.now.events ≡ self.now.events }
+        ensures legal { IsLegal self.now.settings.start_seq self.now.events }
+        ensures replays { Replays self.now.events self.now.state }
+        ensures room { ends_of self.now.state ≤ self.now.spare }
+        ensures flushed { up_to self.now.state.flushed self.now.state.commits ≡ up_to (installed self.now.events) self.now.state.commits }
+        ensures floor { self.now.floor ≤ last_of self.now.settings.start_seq self.now.state.commits }
+        ensures begins { AllByRecursion (λ p. self.now.floor ≤ p.1.begin) self.now.state.txns }
+        ensures shows { AllByRecursion (λ p. self.now.floor ≤ p.1) self.now.state.snapshots }
+        ensures own { AllByRecursion (λ p. p.1.ops ≡ own_of p.1.transcript) self.now.state.txns }
+        ensures folds { (m : Meaning) → IsLawfulMeaning m → IsKept m self.now → FoldsToState m self.now }
+        ensures stored { (m : Meaning) → IsLawfulMeaning m → IsKept m self.now → StoresState m self.now }
+    {
+        self.log.journal()
+    }
+
+    /// Lets go of the core. For lawful parts for which what is kept of the rows holds, the rows of the tables that the
+    /// journal names are the state at the last flush.
+    pub fn close(self)
+        ensures stores { (m : Meaning) → IsLawfulMeaning m → IsKept m self → StoresState m self }
+    {
+        self.journal();
+        let Core {
+            log,
+            transactions,
+            ..
+        } = self;
+        log.close();
+        transactions.close();
+    }
+}

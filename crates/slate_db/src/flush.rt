@@ -1,0 +1,192 @@
+//! The tables of a flush.
+ghost use Rattle.std.specs.Prelude.{◌≡◌, ◌≤◌, ◌<◌, ◌⊎◌, ◌∷◌, ℕ, List, [], map, length, OnOk, OnErr, IfOk, IfErr, IsOkUnless, None, true};
+ghost use Rattle.std.specs.List.{AllByRecursion};
+ghost use Rattle.slate_types.specs.Config.{IsValid};
+ghost use Rattle.slate_types.specs.Faults.{faults_of};
+ghost use Rattle.slate_types.specs.Outside.{IsFault, Puts};
+ghost use Rattle.slate_block.specs.ReadingLaws.{EachIsAByte};
+ghost use Rattle.slate_filter.specs.Laws.{AreValidNames};
+ghost use Rattle.slate_table.specs.InfoReading.{seen_info};
+ghost use Rattle.slate_table.specs.SectionReading.{changed_by, IsTransformFault};
+ghost use Rattle.slate_mem.specs.Lookup.{is_merge_among, newest_first};
+ghost use Rattle.slate_table.specs.Table.{AreInOrder, IsBuilt};
+ghost use Rattle.slate_table.specs.TableEnd.{HasInfo};
+ghost use Rattle.slate_table.specs.TableParts.{version_of};
+ghost use Rattle.slate_table.specs.Parts.{Encode};
+ghost use Rattle.slate_table.specs.Reading.{IsStoreFault};
+ghost use Rattle.slate_db.specs.Answered.{AddsPuts};
+ghost use Rattle.slate_db.specs.Flushed.{layout_of, AreSomeOfFlush, CanFlush, HasTooLarge, IsFolded, IsPut, IsTableAt, IsTooLarge, Layout, MayTakeTables, WantsOperator};
+ghost use Rattle.slate_db.specs.StoredParts.{AreFirstParts, ArePartsPut, CanBuild, IsOneTable, IsPartTooLarge, IsPlace, IsTablePut};
+ghost use Rattle.slate_db.specs.Meaning.{Meaning};
+ghost use Rattle.slate_db.specs.Model.{Rows};
+ghost use Rattle.slate_db.specs.Layers.{FitsMemory};
+
+use crate::cut::cut_tables;
+use crate::gather::rows_of_flush;
+use crate::laws::Laws;
+use crate::lookup::are_bytes;
+use bytes::Bytes;
+use slate_filter::FilterPolicy;
+use slate_mem::ImmutableMemtable;
+use slate_read::SortedRun;
+use slate_store::{Env, EnvOf, Store};
+use slate_table::{
+    EncodedSsTable, EncodedSsTableBuilder, SsTableFormat, SsTableHandle, TableStore,
+};
+use slate_txn::TableList;
+use slate_types::{
+    BlockTransformer, MergeOperator, Outside, PrefixExtractor, RowEntry, SlateDBError, Ulid,
+};
+use std::alloc::Global;
+
+/// The folder of the store's objects.
+pub const ROOT: &str = "db";
+
+/// Stores the rows of memtables, of which the newest stands last, as the tables of the flush with this number, and gives what an
+/// install names and what is kept of them. `StoreFault`, `BlockTransformError` and `Callback`, each only where its count of
+/// faults rose; `MergeOperatorMissing` where one of the rows is an operand and there is no operator; `LimitReached` where a
+/// table would have too many blocks; or `OutOfMemory`. Then the store is as it was, or has some first of the tables.
+pub fn stored<S: Store, M: MergeOperator, T: BlockTransformer, X: PrefixExtractor>(
+    alloc: Global,
+    frozen: &[ImmutableMemtable],
+    barrier: u64,
+    number: u64,
+    laws: &Laws<X>,
+    env: &mut Env<'_, S, M, T>,
+) -> Result<(TableList, SortedRun), SlateDBError>
+    requires valid { IsValid laws.now.options }
+    requires names { AreValidNames (map (λ p. (meaning p).name) laws.now.policies.items) }
+    requires ready { CanFlush (map (λ t. t.rows) frozen.now) }
+    ensures stored { let reach = ⟦<EnvOf<S, M, T> as Outside>⟧.reach in IfOk result (λ a. IsPut (reach env.old).meaning (layout_of laws.now.options (map (λ p. meaning p) laws.now.policies.items)) number barrier (map (λ t. t.rows) frozen.now) a.0 a.1 (reach env.old).objects (reach env.new).objects) }
+    ensures acts { let reach = ⟦<EnvOf<S, M, T> as Outside>⟧.reach in IfOk result (λ a. AddsPuts a.0 (reach env.old).acts (reach env.new).acts) }
+    ensures refused { let reach = ⟦<EnvOf<S, M, T> as Outside>⟧.reach in OnErr result (MayTakeTables (AreSomeOfFlush (reach env.old).meaning (layout_of laws.now.options (map (λ p. meaning p) laws.now.policies.items)) number barrier (map (λ t. t.rows) frozen.now)) (reach env.old).objects (reach env.new).objects) }
+    ensures cause { let reach = ⟦<EnvOf<S, M, T> as Outside>⟧.reach in IfErr result (λ e. IsFault (reach env.old) (reach env.new) e
+        ⊎ ((rows : Rows) × IsFolded (reach env.old).meaning barrier (map (λ t. t.rows) frozen.now) rows × AreInOrder rows × HasTooLarge (layout_of laws.now.options (map (λ p. meaning p) laws.now.policies.items)) rows e)
+        ⊎ WantsOperator (reach env.old).meaning (map (λ t. t.rows) frozen.now) e) }
+    ensures wanted { let reach = ⟦<EnvOf<S, M, T> as Outside>⟧.reach in (reach env.old).meaning.combine ≡ None → is_merge_among (newest_first (map (λ t. t.rows) frozen.now)) ≡ true → IfOk result (λ _. ⊥) }
+    ensures puts { let reach = ⟦<EnvOf<S, M, T> as Outside>⟧.reach in Puts (reach env.old) (reach env.new) }
+{
+    let rows = rows_of_flush(alloc, frozen, barrier, &mut env.operator)?;
+    let parts = cut_tables(alloc, rows, laws.options.table_bytes)?;
+    stored_run(alloc, number, parts, laws, env)
+}
+
+/// Stores a table of each of these lists of rows.
+fn stored_run<S: Store, M: MergeOperator, T: BlockTransformer, X: PrefixExtractor>(
+    alloc: Global,
+    number: u64,
+    parts: Vec<Vec<RowEntry>>,
+    laws: &Laws<X>,
+    env: &mut Env<'_, S, M, T>,
+) -> Result<(TableList, SortedRun), SlateDBError>
+    requires valid { IsValid laws.now.options }
+    requires names { AreValidNames (map (λ p. (meaning p).name) laws.now.policies.items) }
+    requires each { AllByRecursion CanBuild (map (λ t. t.items) parts.items) }
+    ensures stored { let reach = ⟦<EnvOf<S, M, T> as Outside>⟧.reach in IfOk result (λ a. ArePartsPut (reach env.old).meaning.encode (layout_of laws.now.options (map (λ p. meaning p) laws.now.policies.items)) number (map (λ t. t.items) parts.items) a.0 a.1.tables.items (reach env.old).objects (reach env.new).objects) }
+    ensures acts { let reach = ⟦<EnvOf<S, M, T> as Outside>⟧.reach in IfOk result (λ a. AddsPuts a.0 (reach env.old).acts (reach env.new).acts) }
+    ensures prefix { IfOk result (λ a. a.1.prefix ≡ []) }
+    ensures refused { let reach = ⟦<EnvOf<S, M, T> as Outside>⟧.reach in OnErr result (MayTakeTables (AreFirstParts (reach env.old).meaning.encode (layout_of laws.now.options (map (λ p. meaning p) laws.now.policies.items)) number (map (λ t. t.items) parts.items)) (reach env.old).objects (reach env.new).objects) }
+    ensures cause { let reach = ⟦<EnvOf<S, M, T> as Outside>⟧.reach in IfErr result (λ e. IsFault (reach env.old) (reach env.new) e ⊎ IsPartTooLarge (layout_of laws.now.options (map (λ p. meaning p) laws.now.policies.items)) (map (λ t. t.items) parts.items) e) }
+    ensures operator { env.new.operator ≡ env.old.operator }
+    ensures puts { let reach = ⟦<EnvOf<S, M, T> as Outside>⟧.reach in Puts (reach env.old) (reach env.new) }
+{
+    let mut tables = Vec::with_capacity(alloc, parts.len())?;
+    let mut kept = Vec::with_capacity(alloc, parts.len())?;
+    for rows in parts {
+        let id = Ulid(number as u128 * 18446744073709551616 + tables.len() as u128);
+        let (table, handle) = stored_table(alloc, id, rows, laws, env)?;
+        tables.push_reserved(table);
+        kept.push_reserved(handle);
+    }
+    let run = SortedRun {
+        prefix: Bytes::new(),
+        tables: kept,
+    };
+    Ok((TableList::from_vec(tables), run))
+}
+
+/// Stores a table of these rows under this id, and gives what an install names and what is kept of it.
+fn stored_table<S: Store, M: MergeOperator, T: BlockTransformer, X: PrefixExtractor>(
+    alloc: Global,
+    id: Ulid,
+    rows: Vec<RowEntry>,
+    laws: &Laws<X>,
+    env: &mut Env<'_, S, M, T>,
+) -> Result<((Ulid, Bytes), SsTableHandle), SlateDBError>
+    requires valid { IsValid laws.now.options }
+    requires names { AreValidNames (map (λ p. (meaning p).name) laws.now.policies.items) }
+    requires ready { CanBuild rows.items }
+    ensures stored { let reach = ⟦<EnvOf<S, M, T> as Outside>⟧.reach in (number place : ℕ) → IsPlace id number place → IfOk result (λ a. IsTablePut (reach env.old).meaning.encode (layout_of laws.now.options (map (λ p. meaning p) laws.now.policies.items)) number place rows.items a.0 a.1 (reach env.old).objects (reach env.new).objects) }
+    ensures acts { let reach = ⟦<EnvOf<S, M, T> as Outside>⟧.reach in IfOk result (λ a. AddsPuts (a.0 ∷ []) (reach env.old).acts (reach env.new).acts) }
+    ensures refused { let reach = ⟦<EnvOf<S, M, T> as Outside>⟧.reach in (number place : ℕ) → IsPlace id number place → OnErr result (MayTakeTables (IsOneTable (reach env.old).meaning.encode (layout_of laws.now.options (map (λ p. meaning p) laws.now.policies.items)) number place rows.items) (reach env.old).objects (reach env.new).objects) }
+    ensures cause { let reach = ⟦<EnvOf<S, M, T> as Outside>⟧.reach in IfErr result (λ e. IsFault (reach env.old) (reach env.new) e ⊎ IsTooLarge (layout_of laws.now.options (map (λ p. meaning p) laws.now.policies.items)) rows.items e) }
+    ensures operator { env.new.operator ≡ env.old.operator }
+    ensures puts { let reach = ⟦<EnvOf<S, M, T> as Outside>⟧.reach in Puts (reach env.old) (reach env.new) }
+{
+    let table = built(alloc, rows, laws, &mut env.transformer)?;
+    let kept = put(alloc, id, &table, env.store);
+    drop(table);
+    kept
+}
+
+/// Puts a table, and gives what an install names and what is kept of it.
+fn put<S: Store>(
+    alloc: Global,
+    id: Ulid,
+    table: &EncodedSsTable,
+    store: &mut S,
+) -> Result<((Ulid, Bytes), SsTableHandle), SlateDBError>
+    ensures stored { (encode : Encode) (layout : Layout) (number place : ℕ) (rows : Rows) → IsTableAt encode layout number place rows (id, table.now.bytes) → (layout.version ≡ 1) ⊎ (layout.version ≡ 2) → table.now.version ≡ layout.version → HasInfo table.now.bytes layout.version (seen_info table.now.info)
+        → IfOk result (λ a. IsTablePut encode layout number place rows a.0 a.1 (S.objects store.old) (S.objects store.new)) }
+    ensures acts { IfOk result (λ a. AddsPuts (a.0 ∷ []) (S.acts store.old) (S.acts store.new)) }
+    ensures refused { (encode : Encode) (layout : Layout) (number place : ℕ) (rows : Rows) → IsTableAt encode layout number place rows (id, table.now.bytes) → OnErr result (MayTakeTables (IsOneTable encode layout number place rows) (S.objects store.old) (S.objects store.new)) }
+    ensures cause { IfErr result (λ e. IsStoreFault (S.faults store.old) (S.faults store.new) e) }
+    ensures later { S.faults store.old ≤ S.faults store.new }
+{
+    let bytes = bytes_of(table)?;
+    let handle = TableStore::put_table(alloc, store, ROOT, id, table)?;
+    Ok(((id, bytes), handle))
+}
+
+/// The bytes of a table.
+fn bytes_of(table: &EncodedSsTable) -> Result<Bytes, SlateDBError>
+    ensures bytes { IfOk result (λ bytes. (bytes ≡ table.now.bytes) × EachIsAByte bytes) }
+    ensures cause { IsOkUnless result SlateDBError.OutOfMemory }
+{
+    let bytes = table.remaining_as_bytes()?;
+    are_bytes(bytes.as_slice());
+    Ok(bytes)
+}
+
+/// The table of these rows, with the filters of the policies. `BlockTransformError`, only where the transformer's count of faults
+/// rose; `LimitReached` where the table would have too many blocks; or `OutOfMemory`.
+pub fn built<T: BlockTransformer, X: PrefixExtractor>(
+    alloc: Global,
+    rows: Vec<RowEntry>,
+    laws: &Laws<X>,
+    transformer: &mut Option<T>,
+) -> Result<EncodedSsTable, SlateDBError>
+    requires valid { IsValid laws.now.options }
+    requires names { AreValidNames (map (λ p. (meaning p).name) laws.now.policies.items) }
+    requires ready { CanBuild rows.items }
+    ensures built { IfOk result (λ table. IsBuilt (changed_by T.encoded transformer.old) (map (λ p. meaning p) laws.now.policies.items) laws.now.options.min_filter_keys laws.now.options.block_size (version_of laws.now.options.block_format) table.bytes rows.items) }
+    ensures version { IfOk result (λ table. table.version ≡ version_of laws.now.options.block_format) }
+    ensures info { IfOk result (λ table. HasInfo table.bytes (version_of laws.now.options.block_format) (seen_info table.info)) }
+    ensures cause { IfErr result (λ e. IsTransformFault (faults_of T.faults transformer.old) (faults_of T.faults transformer.new) e ⊎ IsTooLarge (layout_of laws.now.options (map (λ p. meaning p) laws.now.policies.items)) rows.items e) }
+    ensures same_encoded { changed_by T.encoded transformer.new ≡ changed_by T.encoded transformer.old }
+    ensures same_decoded { changed_by T.decoded transformer.new ≡ changed_by T.decoded transformer.old }
+    ensures later { faults_of T.faults transformer.old ≤ faults_of T.faults transformer.new }
+{
+    let options = &laws.options;
+    let format = SsTableFormat {
+        block_size: options.block_size,
+        min_filter_keys: options.min_filter_keys,
+        block_format: options.block_format,
+        compression_codec: options.compression_codec,
+    };
+    let mut builder = EncodedSsTableBuilder::new(alloc, &format)?;
+    for row in rows {
+        builder.add(alloc, row, transformer)?;
+    }
+    builder.build(alloc, transformer, laws.policies.as_slice())
+}

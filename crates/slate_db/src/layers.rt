@@ -1,0 +1,152 @@
+//! The layers of rows: the memtables, and what is kept of runs of tables.
+ghost use Rattle.std.specs.Prelude.{◌≡◌, ◌≢◌, ◌≤◌, ◌<◌, ◌∷◌, ◌++◌, [], ℕ, List, map, length, IsTrue, ◌↔◌, OnOk, OnErr, IsOkUnless};
+ghost use Rattle.std.specs.List.{AllByRecursion};
+ghost use Rattle.slate_types.specs.declared.error.SlateDBError.{SlateDBError};
+ghost use Rattle.slate_mem.specs.Table.{put_rows};
+ghost use Rattle.slate_db.specs.Flushed.{events_of_flush};
+ghost use Rattle.slate_db.specs.Layers.{AreLayers, AreRising, FitsMemory, without_seq};
+ghost use Rattle.slate_db.specs.Model.{versions_in};
+
+use slate_mem::{ImmutableMemtable, MemTable};
+use slate_read::SortedRun;
+use slate_types::{RowEntry, SlateDBError};
+use std::alloc::{AllocError, Global};
+use std::collections::BTreeSet;
+use std::marker::Model;
+
+/// The rows in memory, and what is kept of the runs that were installed.
+#[derive(Drop)]
+pub struct Layers {
+    active: MemTable,
+    /// The rows that wait for a flush, the newest last.
+    frozen: Vec<ImmutableMemtable>,
+    /// What is kept of the tables of each install, the newest last.
+    runs: Vec<SortedRun>,
+    /// The greatest barrier of a flush so far.
+    floor: u64,
+}
+
+impl Model for Layers {
+    ghost use Rattle.slate_db.specs.Layers.{LayersModel, AreLayers};
+    ghost use Rattle.slate_db.specs.LayersView.{layers_view};
+
+    ghost Value = { LayersModel };
+
+    ghost view = { layers_view };
+
+    ghost invariant = { λ s. AreLayers (layers_view s) };
+}
+
+impl Layers {
+    /// No rows and no runs. Takes no memory.
+    pub fn new(alloc: Global) -> Layers
+        ensures memory { (result.active ≡ []) × (result.frozen ≡ []) }
+        ensures runs { (result.runs ≡ []) × (result.floor ≡ 0) }
+        ensures whole { AreLayers result }
+    {
+        Layers {
+            active: MemTable::new(alloc),
+            frozen: Vec::new(alloc),
+            runs: Vec::new(alloc),
+            floor: 0,
+        }
+    }
+
+    /// The rows that aren't frozen.
+    pub fn active(&self) -> &MemTable
+        ensures { result.now.rows ≡ self.now.active }
+    {
+        &self.active
+    }
+
+    /// The rows that wait for a flush, the newest last.
+    pub fn frozen(&self) -> &[ImmutableMemtable]
+        ensures { map (λ t. t.rows) result.now ≡ self.now.frozen }
+    {
+        self.frozen.as_slice()
+    }
+
+    /// What is kept of the tables of each install, the newest last.
+    pub fn runs(&self) -> &[SortedRun]
+        ensures { result.now ≡ self.now.runs }
+    {
+        self.runs.as_slice()
+    }
+
+    /// How many events a flush adds.
+    pub fn events_of_flush(&self) -> usize
+        ensures count { result ≡ events_of_flush self.now.active self.now.frozen }
+        ensures few { result ≤ 2 }
+    {
+        if !self.active.is_empty() {
+            2
+        } else if !self.frozen.as_slice().is_empty() {
+            1
+        } else {
+            0
+        }
+    }
+
+    /// Puts the rows of a commit. Where memory is wanting none is put.
+    pub fn put(&mut self, alloc: Global, rows: Vec<RowEntry>) -> Result<(), SlateDBError>
+        requires fit { AllByRecursion FitsMemory rows.items }
+        requires rise { (k : List ℕ) → AreRising (versions_in k (self.old.frozen ++ put_rows self.old.active rows.items ∷ [])) }
+        ensures value { OnOk result (self.new ≡ record self.old { active = put_rows self.old.active rows.items }) }
+        ensures same { OnErr result (self.new ≡ self.old) }
+        ensures whole { AreLayers self.new }
+        ensures cause { IsOkUnless result SlateDBError.OutOfMemory }
+    {
+        self.active.put_all(rows, BTreeSet::new(alloc))
+    }
+
+    /// Takes the rows of a sequence out of those that aren't frozen. Takes no memory.
+    pub fn take_back(&mut self, alloc: Global, seq: u64)
+        requires { AreLayers (record self.old { active = without_seq seq self.old.active }) }
+        ensures value { self.new ≡ record self.old { active = without_seq seq self.old.active } }
+        ensures whole { AreLayers self.new }
+    {
+        self.active.take_back(seq, &BTreeSet::new(alloc));
+    }
+
+    /// Makes room for one freeze.
+    pub fn reserve_freeze(&mut self) -> Result<(), AllocError>
+        ensures value { self.new ≡ record self.old { for_freeze = self.new.for_freeze } }
+        ensures room { OnOk result (0 < self.new.for_freeze) }
+        ensures whole { AreLayers self.new }
+    {
+        self.frozen.reserve(1)
+    }
+
+    /// Moves the active rows behind those that wait for a flush, in the room that was made.
+    pub fn freeze(&mut self)
+        requires room { 0 < self.old.for_freeze }
+        requires some { self.old.active ≢ [] }
+        ensures value { self.new ≡ record self.old { active = []; frozen = self.old.frozen ++ self.old.active ∷ []; for_freeze = self.new.for_freeze } }
+        ensures whole { AreLayers self.new }
+    {
+        let Ok(table) = self.active.freeze() else {
+            unreachable!()
+        };
+        self.frozen.push_reserved(table);
+    }
+
+    /// Makes room for one run.
+    pub fn reserve_run(&mut self) -> Result<(), AllocError>
+        ensures value { self.new ≡ record self.old { for_run = self.new.for_run } }
+        ensures room { OnOk result (0 < self.new.for_run) }
+        ensures whole { AreLayers self.new }
+    {
+        self.runs.reserve(1)
+    }
+
+    /// Keeps a run in place of the rows that waited, in the room that was made.
+    pub fn install(&mut self, run: SortedRun, floor: u64)
+        requires { 0 < self.old.for_run }
+        ensures value { self.new ≡ record self.old { frozen = []; runs = self.old.runs ++ run ∷ []; floor = floor; for_freeze = self.new.for_freeze; for_run = self.new.for_run } }
+        ensures whole { AreLayers self.new }
+    {
+        self.floor = floor;
+        self.runs.push_reserved(run);
+        self.frozen.clear();
+    }
+}

@@ -1,0 +1,22 @@
+//! The store: flushes, and what reads of stored tables are asked for.
+//!
+//! A flush that has rows writes tables, at the paths that its number gives: `specs/Paths.antt` of `slate_table` says which,
+//! `specs/Cut.antt` how many, and `specs/Flushed.antt` what a flush leaves. `specs/StoredTable.antt` and `specs/Asked.antt` are for later parts: no
+//! contract cites them yet.
+#![tactic(auto)]
+
+mod commit;
+pub mod cut;
+pub mod engine;
+pub mod flush;
+pub mod gather;
+pub mod laws;
+pub mod layers;
+pub mod log;
+pub mod lookup;
+pub mod open_scan;
+mod put;
+pub mod scan;
+mod tested;
+mod values;
+pub mod vectors;

@@ -1,0 +1,3 @@
+pub mod FirstRead
+pub mod FirstTable
+pub mod FirstCalls
