@@ -1,0 +1,4 @@
+use Rattle.slate.proofs.run_lawful.Goals as goal
+
+pub returns-clause-untrue : goal.returns-clause-untrue
+returns-clause-untrue g c = c.run_main.ensures.untrue c.requires.lawful

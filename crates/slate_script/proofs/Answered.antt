@@ -1,0 +1,155 @@
+-- Lists of lines that are answered in turn.
+use Rattle.std.proofs.Common.{◌≡◌, ℕ, suc, ◌+◌, Bool, true, false, cond, ◌||◌, ◌⊎◌, inl, inr, List, [], ◌∷◌, ◌++◌, length, Option, Some, None, option_map, is_some, IsTrue, refl, sym, ap, ◌∙◌, arith}
+use Rattle.std.specs.List.{AllByRecursion, flat_map}
+use Rattle.std.proofs.lemmas.List.{append-nil}
+use Rattle.std.proofs.lemmas.List.Concat.{flat_map-append}
+use Rattle.slate_txn.specs.declared.line.Line.{Line}
+use Rattle.slate_txn.specs.State.{Rules, State, opening}
+use Rattle.slate_txn.specs.Step.{step, answers, after}
+use Rattle.slate_language.specs.Parse.{parse, only_if, ◌>>=◌}
+use Rattle.slate_language.specs.Stage.{is_built, if_built, IsBuiltLine, meaning}
+use Rattle.slate_language.specs.Tally.{tallied}
+use Rattle.slate_language.specs.declared.tally.Tally.{Tally}
+use Rattle.slate_language.proofs.TallyLaws.{tallied-append}
+use Rattle.slate_language.specs.Replies.{is_silent, onto_meanings, meanings, reply_line, after_lines, replies_from, replies_to}
+use Rattle.slate_script.specs.Run.{is_line, first_other, AreLines}
+use Rattle.slate_language.proofs.ParseLaws.{parse-is}
+use Rattle.slate_language.proofs.ParseOnly.{parse-only}
+
+-- ---- more lines
+
+pub lines-more : (ls more : List (List ℕ)) → AreLines ls → AreLines more → AreLines (ls ++ more)
+lines-more [] more h k = k
+lines-more (l ∷ ls) more h k = (h.0, lines-more ls more h.1 k)
+
+onto-more : (silent : Bool) (read : Option Line) (ls more : List Line) → (silent || is_some read) ≡ true → onto_meanings silent read (ls ++ more) ≡ onto_meanings silent read ls ++ more
+onto-more true read ls more h = refl
+onto-more false None ls more h = cc
+onto-more false (Some line) ls more h = refl
+
+pub meanings-append : (ls more : List (List ℕ)) → AreLines ls → meanings meaning (ls ++ more) ≡ meanings meaning ls ++ meanings meaning more
+meanings-append [] more h = refl
+meanings-append (l ∷ ls) more h =
+    ap (onto_meanings (is_silent l) (meaning l)) (meanings-append ls more h.1) ∙ onto-more (is_silent l) (meaning l) (meanings meaning ls) (meanings meaning more) h.0
+
+answers-append : (r : Rules) (s : State) (ls more : List Line) → answers r s (ls ++ more) ≡ answers r s ls ++ answers r (after r s ls) more
+answers-append r s [] more = refl
+answers-append r s (l ∷ ls) more = ap (λ rest. (step r s l).1 ∷ rest) (answers-append r (step r s l).0 ls more)
+
+after-append : (r : Rules) (s : State) (ls more : List Line) → after r s (ls ++ more) ≡ after r (after r s ls) more
+after-append r s [] more = refl
+after-append r s (l ∷ ls) more = after-append r (step r s l).0 ls more
+
+pub replies-append : (r : Rules) (s : State) (ls more : List (List ℕ)) → AreLines ls → replies_from meaning r s (ls ++ more) ≡ replies_from meaning r s ls ++ replies_from meaning r (after_lines meaning r s ls) more
+replies-append r s ls more h =
+    ap (λ ms. flat_map reply_line (answers r s ms)) (meanings-append ls more h)
+    ∙ ap (flat_map reply_line) (answers-append r s (meanings meaning ls) (meanings meaning more))
+    ∙ flat_map-append reply_line (answers r s (meanings meaning ls)) (answers r (after r s (meanings meaning ls)) (meanings meaning more))
+
+pub state-append : (r : Rules) (s : State) (ls more : List (List ℕ)) → AreLines ls → after_lines meaning r s (ls ++ more) ≡ after_lines meaning r (after_lines meaning r s ls) more
+state-append r s ls more h = ap (after r s) (meanings-append ls more h) ∙ after-append r s (meanings meaning ls) (meanings meaning more)
+
+pub tally-append : (t : Tally) (r : Rules) (s : State) (ls more : List (List ℕ)) → AreLines ls →
+    tallied t (answers r s (meanings meaning (ls ++ more))) ≡ tallied (tallied t (answers r s (meanings meaning ls))) (answers r (after_lines meaning r s ls) (meanings meaning more))
+tally-append t r s ls more h =
+    ap (λ ms. tallied t (answers r s ms)) (meanings-append ls more h)
+    ∙ ap (tallied t) (answers-append r s (meanings meaning ls) (meanings meaning more))
+    ∙ tallied-append t (answers r s (meanings meaning ls)) (answers r (after r s (meanings meaning ls)) (meanings meaning more))
+
+-- ---- a line that is none
+
+or-neither : (a b : Bool) → (a || b) ≡ false → (a ≡ false) × (b ≡ false)
+or-neither true b h = cc
+or-neither false b h = (refl, h)
+
+none-of : (read : Option Line) → is_some read ≡ false → read ≡ None
+none-of None h = refl
+none-of (Some line) h = cc
+
+stops : (l : List ℕ) (more : List (List ℕ)) → is_line l ≡ false → meanings meaning (l ∷ more) ≡ []
+stops l more h =
+    let parts = or-neither (is_silent l) (is_some (meaning l)) h in
+    (λ i. onto_meanings (parts.0 i) (none-of (meaning l) parts.1 i) (meanings meaning more))
+
+-- it has no reply, and none stands behind it
+pub replies-stop : (r : Rules) (ls : List (List ℕ)) (l : List ℕ) (more : List (List ℕ)) → AreLines ls → is_line l ≡ false → replies_to meaning r (ls ++ (l ∷ more)) ≡ replies_to meaning r ls
+replies-stop r ls l more h other =
+    ap (λ ms. flat_map reply_line (answers r opening ms)) (meanings-append ls (l ∷ more) h ∙ ap (λ ms. meanings meaning ls ++ ms) (stops l more other) ∙ append-nil (meanings meaning ls))
+
+pub other-none : (ls : List (List ℕ)) → AreLines ls → first_other ls ≡ None
+other-none [] h = refl
+other-none (l ∷ ls) h = (λ i. cond (h.0 i) (option_map suc (first_other ls)) (Some 1)) ∙ ap (option_map suc) (other-none ls h.1)
+
+pub other-first : (ls : List (List ℕ)) (l : List ℕ) (more : List (List ℕ)) → AreLines ls → is_line l ≡ false → first_other (ls ++ (l ∷ more)) ≡ Some (length ls + 1)
+other-first [] l more h other = ap (λ t. cond t (option_map suc (first_other more)) (Some 1)) other
+other-first (x ∷ ls) l more h other =
+    (λ i. cond (h.0 i) (option_map suc (first_other (ls ++ (l ∷ more)))) (Some 1))
+    ∙ ap (option_map suc) (other-first ls l more h.1 other) ∙ ap Some (one-more (length ls))
+  where
+    one-more : (n : ℕ) → suc (n + 1) ≡ suc n + 1
+    one-more n = omega arith
+
+none-under : (o : Option ℕ) → option_map suc o ≡ None → o ≡ None
+none-under None h = refl
+none-under (Some n) h = cc
+
+pub none-other : (ls : List (List ℕ)) → first_other ls ≡ None → AreLines ls
+none-other [] h = tt
+none-other (l ∷ ls) h = by (is_line l) refl (none-other ls) h
+  where
+    by : (t : Bool) → is_line l ≡ t → (first_other ls ≡ None → AreLines ls) → cond t (option_map suc (first_other ls)) (Some 1) ≡ None → AreLines (l ∷ ls)
+    by true is rest h = (is, rest (none-under (first_other ls) h))
+    by false is rest h = cc
+
+-- ---- what is built means something, and what means something is built
+
+only-parts : (t : Bool) (made line : Line) → only_if t made ≡ Some line → (t ≡ true) × (made ≡ line)
+only-parts true made line h = (refl, cc)
+only-parts false made line h = cc
+
+pub built-line : (l : List ℕ) (line : Line) → meaning l ≡ Some line → IsBuiltLine l line
+built-line l line h = by (parse l) refl h
+  where
+    by : (o : Option Line) → parse l ≡ o → (o >>= if_built) ≡ Some line → IsBuiltLine l line
+    by None is h = cc
+    by (Some m) is h =
+        let parts = only-parts (is_built m) m line h in
+        (parse-only l line (is ∙ ap Some parts.1), ap is_built (sym parts.1) ∙ parts.0)
+
+pub meaning-built : (l : List ℕ) (line : Line) → IsBuiltLine l line → meaning l ≡ Some line
+meaning-built l line h = ap (λ o. o >>= if_built) (parse-is l line h.0) ∙ (λ i. only_if (h.1 i) line)
+
+abbrev pub AreBuilt : List (List ℕ) → Type 0
+AreBuilt ls = AllByRecursion (λ l. IsTrue (is_silent l) ⊎ ((line : Line) × IsBuiltLine l line)) ls
+
+line-built : (l : List ℕ) → IsTrue (is_line l) → IsTrue (is_silent l) ⊎ ((line : Line) × IsBuiltLine l line)
+line-built l h = by (is_silent l) (meaning l) refl refl h
+  where
+    by : (s : Bool) (o : Option Line) → is_silent l ≡ s → meaning l ≡ o → (s || is_some o) ≡ true → IsTrue (is_silent l) ⊎ ((line : Line) × IsBuiltLine l line)
+    by true o silent is h = inl silent
+    by false None silent is h = cc
+    by false (Some line) silent is h = inr (line, built-line l line is)
+
+built-is_line : (l : List ℕ) → IsTrue (is_silent l) ⊎ ((line : Line) × IsBuiltLine l line) → IsTrue (is_line l)
+built-is_line l (inl silent) = ap (λ t. t || is_some (meaning l)) silent
+built-is_line l (inr h) = ap (λ o. is_silent l || is_some o) (meaning-built l h.0 h.1) ∙ or-true (is_silent l)
+  where
+    or-true : (a : Bool) → (a || true) ≡ true
+    or-true true = refl
+    or-true false = refl
+
+pub lines-built : (ls : List (List ℕ)) → AreLines ls → AreBuilt ls
+lines-built [] h = tt
+lines-built (l ∷ ls) h = (line-built l h.0, lines-built ls h.1)
+
+pub built-lines : (ls : List (List ℕ)) → AreBuilt ls → AreLines ls
+built-lines [] h = tt
+built-lines (l ∷ ls) h = (built-is_line l h.0, built-lines ls h.1)
+
+-- ---- one line
+
+pub one-built : (l : List ℕ) (line : Line) → meaning l ≡ Some line → IsTrue (is_built line)
+one-built l line h = (built-line l line h).1
+
+pub one-reply : (r : Rules) (s : State) (l : List ℕ) (line : Line) → is_silent l ≡ false → meaning l ≡ Some line → replies_from meaning r s (l ∷ []) ≡ reply_line (step r s line).1
+one-reply r s l line loud is = (λ i. flat_map reply_line (answers r s (onto_meanings (loud i) (is i) []))) ∙ append-nil (reply_line (step r s line).1)

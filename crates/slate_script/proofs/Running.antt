@@ -1,0 +1,138 @@
+-- What is kept from line to line.
+use Rattle.std.proofs.Common.{◌≡◌, ℕ, true, false, ◌||◌, is_some, List, [], ◌∷◌, Option, Some, Result, Ok, Err, OnOk, IsTrue, ◌⊎◌, inl, inr, refl, sym, ap, ◌∙◌, subst, arith}
+use Rattle.std.specs.List.{flat_map}
+use Rattle.slate_types.specs.declared.config.Options.{Options}
+use Rattle.slate_types.specs.declared.error.SlateDBError.{SlateDBError}
+use Rattle.slate_types.specs.declared.error.SlateDBError.TheVariants.{ChecksumMismatch, InvalidRowFlags, CorruptTable, InvalidFilterBlock, InvalidSequenceOrder, MergeOperatorMissing, LimitReached}
+use Rattle.slate_types.specs.Outside.{Objects, Counts, IsCounted}
+use Rattle.slate_filter.specs.Policy.{Policy}
+use Rattle.slate_txn.specs.declared.line.Line.{Line}
+use Rattle.slate_txn.specs.declared.line.Line.TheVariants as lines
+use Rattle.slate_txn.specs.Settings.{settings_of}
+use Rattle.slate_txn.specs.State.{Rules, State}
+use Rattle.slate_txn.specs.Step.{step, after, answers}
+use Rattle.slate_db.specs.Installs.{HoldsTables, tables_of}
+use Rattle.slate_db.specs.Meaning.{Meaning, rules_of}
+use Rattle.slate_db.specs.Parts.{IsTableError}
+use Rattle.slate_db.specs.Readable.{AreFiltered}
+use Rattle.slate_db.specs.Sound.{IsKept}
+use Rattle.slate_language.specs.declared.reply.Answer.{Answer}
+use Rattle.slate_language.specs.Answers.{as_shown, reply_of}
+use Rattle.slate_language.proofs.ShownLaws.{shown-line}
+use Rattle.slate_language.specs.Tally.{counted, tallied}
+use Rattle.slate_language.specs.declared.tally.Tally.{Tally}
+use Rattle.slate_language.proofs.TallyLaws.{counted-shown}
+use Rattle.slate_language.specs.Replies.{is_silent, meanings, onto_meanings, reply_line, after_lines, replies_from}
+use Rattle.slate_script.specs.Run.{run_rules, Premises, is_line}
+use Rattle.slate_script.specs.Session.{SessionModel, StandsFor, AnswersAs, HasTables, IsSettled, IsRunning, has_moment}
+use Rattle.slate_language.specs.Grammar.{IsLine}
+use Rattle.slate_language.specs.Stage.{meaning}
+use Rattle.slate_script.proofs.Answered.{one-reply, built-line}
+
+pub is-settled : {policies : List Policy} {m : Meaning} {r : Rules} {parts : Meaning} {objects : Option Objects} {e : SessionModel} → IsRunning policies m r parts objects e → IsSettled policies parts objects e
+is-settled {policies = policies} {objects = objects} {e = e} h = subst (λ (x : Meaning). IsSettled policies x objects e) (sym h.meaning) h.settled
+
+pub its-rules : {policies : List Policy} {m : Meaning} {r : Rules} {parts : Meaning} {objects : Option Objects} {e : SessionModel} → IsRunning policies m r parts objects e → rules_of e.core.settings parts ≡ r
+its-rules {e = e} h = ap (rules_of e.core.settings) h.meaning ∙ h.rules
+
+-- a line later
+pub runs-on : {policies : List Policy} {m : Meaning} {r : Rules} {parts now : Meaning} {objects after : Option Objects} {e new : SessionModel} → IsRunning policies m r parts objects e → now ≡ parts → new.core.settings ≡ e.core.settings →
+    IsSettled policies parts after new → IsRunning policies m r now after new
+runs-on {policies = policies} {m = m} {after = after} {new = new} h same settings settled = record {
+  meaning = same ∙ h.meaning;
+  rules = ap (λ x. rules_of x m) settings ∙ h.rules;
+  settled = subst (λ (x : Meaning). IsSettled policies x after new) h.meaning settled;
+}
+
+-- ---- one line
+
+pub silent-line : (l : List ℕ) → is_silent l ≡ true → IsTrue (is_line l)
+silent-line l silent = ap (λ b. b || is_some (meaning l)) silent
+
+pub silent-after : (r : Rules) (s : State) (l : List ℕ) → is_silent l ≡ true → s ≡ after_lines meaning r s (l ∷ [])
+silent-after r s l silent = let none = sym silent in λ i. after r s (onto_meanings (none i) (meaning l) [])
+
+pub silent-says : (r : Rules) (s : State) (l : List ℕ) → is_silent l ≡ true → [] ≡ replies_from meaning r s (l ∷ [])
+silent-says r s l silent = let none = sym silent in λ i. flat_map reply_line (answers r s (onto_meanings (none i) (meaning l) []))
+
+one-after : (r : Rules) (s : State) (l : List ℕ) (line : Line) → is_silent l ≡ false → meaning l ≡ Some line → after_lines meaning r s (l ∷ []) ≡ (step r s line).0
+one-after r s l line loud is = λ i. after r s (onto_meanings (loud i) (is i) [])
+
+pub line-stands : {policies : List Policy} {m : Meaning} {r : Rules} {parts : Meaning} {objects : Option Objects} {e new : SessionModel} (l : List ℕ) (line : Line) (a : Answer) → IsRunning policies m r parts objects e → is_silent l ≡ false → meaning l ≡ Some line →
+    (IsSettled policies parts objects e → AnswersAs parts e new line (Ok a)) → (s : State) → StandsFor e s → StandsFor new (after_lines meaning r s (l ∷ []))
+line-stands {r = r} {new = new} l line a h loud is steps s stands =
+    subst (StandsFor new) (sym (one-after r s l line loud is)) (subst (λ x. StandsFor new (step x s line).0) (its-rules h) (steps (is-settled h) s stands).0)
+
+pub line-reply : {policies : List Policy} {m : Meaning} {r : Rules} {parts : Meaning} {objects : Option Objects} {e new : SessionModel} (l : List ℕ) (line : Line) (a : Answer) → IsRunning policies m r parts objects e → is_silent l ≡ false → meaning l ≡ Some line →
+    (IsSettled policies parts objects e → AnswersAs parts e new line (Ok a)) → (s : State) → StandsFor e s → reply_line (reply_of a) ≡ replies_from meaning r s (l ∷ [])
+line-reply {r = r} l line a h loud is steps s stands =
+    ap reply_line ((steps (is-settled h) s stands).1 ∙ ap (λ x. as_shown (step x s line).1) (its-rules h)) ∙ shown-line (step r s line).1 ∙ sym (one-reply r s l line loud is)
+
+pub silent-counts : (t : Tally) (r : Rules) (s : State) (l : List ℕ) → is_silent l ≡ true → t ≡ tallied t (answers r s (meanings meaning (l ∷ [])))
+silent-counts t r s l silent = let none = sym silent in λ i. tallied t (answers r s (onto_meanings (none i) (meaning l) []))
+
+pub line-counts : {policies : List Policy} {m : Meaning} {r : Rules} {parts : Meaning} {objects : Option Objects} {e new : SessionModel} (t : Tally) (l : List ℕ) (line : Line) (a : Answer) → IsRunning policies m r parts objects e → is_silent l ≡ false → meaning l ≡ Some line →
+    (IsSettled policies parts objects e → AnswersAs parts e new line (Ok a)) → (s : State) → StandsFor e s → counted t (reply_of a) ≡ tallied t (answers r s (meanings meaning (l ∷ [])))
+line-counts {r = r} t l line a h loud is steps s stands =
+    ap (counted t) ((steps (is-settled h) s stands).1 ∙ ap (λ x. as_shown (step x s line).1) (its-rules h)) ∙ counted-shown t (step r s line).1
+    ∙ sym (λ i. tallied t (answers r s (onto_meanings (loud i) (is i) [])))
+
+-- ---- the beginning
+
+pub begins : (policies : List Policy) (m : Meaning) (o : Options) (objects : Option Objects) (e : SessionModel) → Premises policies m objects → e.core.settings ≡ settings_of o → e.core.events ≡ [] → ((n : Meaning) → IsKept n e.core) → IsRunning policies m (run_rules o m) m objects e
+begins policies m o objects e p settings none kept = record {
+  meaning = refl;
+  rules = ap (λ x. rules_of x m) settings;
+  settled = record {
+    lawful_policies = p.lawful_policies;
+    lawful = p.lawful;
+    kept = kept m;
+    tables = subst (HasTables objects) (sym none) (record { holds = subst (λ os. HoldsTables os []) (sym p.empty) tt; numbered = tt; few = omega arith });
+    filtered = subst (λ es. AreFiltered m.encode policies (tables_of es)) (sym none) tt;
+  };
+}
+
+-- ---- of a line that means something, and of results
+
+pub one-moment : (l : List ℕ) (line : Line) → meaning l ≡ Some line → IsTrue (has_moment line)
+one-moment l line h = by line (built-line l line h).0
+  where
+    by : (x : Line) → IsLine l x → IsTrue (has_moment x)
+    by (lines.Now m) is = is.1.1.0
+    by (lines.Begin name level) is = refl
+    by (lines.Snapshot name) is = refl
+    by (lines.Get name k) is = refl
+    by (lines.Scan name order start end sts) is = refl
+    by (lines.Prefix name order p start end sts) is = refl
+    by (lines.Put name k v ttl) is = refl
+    by (lines.Merge name k v ttl) is = refl
+    by (lines.Delete name k) is = refl
+    by (lines.Mark name ks) is = refl
+    by (lines.Unmark name ks) is = refl
+    by (lines.Commit name) is = refl
+    by (lines.Rollback name) is = refl
+    by (lines.Write ops) is = refl
+    by lines.Freeze is = refl
+    by lines.Flush is = refl
+    by lines.Journal is = refl
+
+pub always : {V E P : Type 0} (result : Result V E) → P → OnOk result P
+always (Ok v) p = p
+always (Err e) p = tt
+
+pub at-ok : {V E P Q : Type 0} (result : Result V E) → (P → Q) → OnOk result P → OnOk result Q
+at-ok (Ok v) f p = f p
+at-ok (Err e) f p = tt
+
+damage-outer : (before after : Counts) (e : SlateDBError) → IsCounted before after e → IsTableError e → ⊥
+damage-outer before after (ChecksumMismatch stored computed) h d = h
+damage-outer before after (InvalidRowFlags flags) h d = h
+damage-outer before after (CorruptTable place) h d = h
+damage-outer before after (InvalidFilterBlock len) h d = h
+damage-outer before after (InvalidSequenceOrder a b) h d = h
+damage-outer before after MergeOperatorMissing h d = h
+damage-outer before after e h d = d
+
+pub not-damage : {X : Type 0} (before after : Counts) (e : SlateDBError) → IsCounted before after e ⊎ ((n : ℕ) × (e ≡ LimitReached n) × X) → IsTableError e → ⊥
+not-damage before after e (inl h) d = damage-outer before after e h d
+not-damage before after e (inr h) d = subst IsTableError h.1 d

@@ -1,0 +1,66 @@
+-- What a call of the core says of the parts, in the words of a run.
+use Rattle.std.proofs.Common.{◌≡◌, ℕ, List, [], ◌∷◌, suc, ◌≤◌, ◌<◌, ◌+◌, ◌-◌, ◌^◌, ◌⊎◌, inl, inr, Option, Some, None, Result, Ok, Err, refl, sym, ◌∙◌, arith}
+use Rattle.std.specs.Prelude.{◌≢◌}
+use Rattle.std.proofs.Math.Nat.{lt_of_not-le}
+use Rattle.slate_types.specs.declared.error.SlateDBError.{SlateDBError}
+use Rattle.slate_types.specs.declared.error.SlateDBError.TheVariants.{MergeOperatorMissing}
+use Rattle.slate_types.specs.Outside.{Objects, IsFault, Reach}
+use Rattle.slate_filter.specs.Policy.{Policy}
+use Rattle.slate_table.specs.TableBuilding.{max_blocks}
+use Rattle.slate_db.specs.Answered.{AnswersFrom}
+use Rattle.slate_db.specs.Flushed.{IsFlushError, Layout, events_of_flush}
+use Rattle.slate_db.specs.Installs.{HoldsTables}
+use Rattle.slate_types.specs.World.{Made}
+use Rattle.slate_db.specs.Readable.{IsAnswered, IsReadError, IsRefusedBy}
+use Rattle.slate_db.specs.Model.{CoreModel, Rows}
+use Rattle.slate_db.specs.Shown.{Asking}
+use Rattle.slate_db.proofs.Shown.{refused_kind}
+use Rattle.slate_script.proofs.Running.{not-damage}
+use Rattle.slate_db.specs.Parts.{IsTableError}
+use Rattle.slate_db.specs.Log.{LIMIT}
+use Rattle.slate_script.specs.Session.{SessionModel, IsLimit, IsSettled, IsSettledIn, held_load}
+
+two-at-most : (active : Rows) (layers : List Rows) → events_of_flush active layers ≤ 2
+two-at-most [] [] = omega arith
+two-at-most [] (rows ∷ layers) = omega arith
+two-at-most (r ∷ rs) layers = omega arith
+
+pub flush-cause : (before after : Reach) (layout : Layout) (session : SessionModel) (e : SlateDBError) → IsFlushError layout before after session.core e → IsFault before after e ⊎ IsLimit session e ⊎ (e ≡ MergeOperatorMissing)
+flush-cause before after layout session e (inl fault) = inl fault
+flush-cause before after layout session e (inr (inl (is, more))) = inr (inl (LIMIT, is, inl (omega (arith, more, two-at-most session.core.active session.core.frozen))))
+flush-cause before after layout session e (inr (inr (inl (rows, folded, order, large, much)))) = let full : 2 ^ 32 - 1 < held_load session = omega (arith, much) in inr (inl (max_blocks, large.large.is, inr full))
+flush-cause before after layout session e (inr (inr (inr wants))) = inr (inr wants.0)
+
+-- where an operator isn't wanted
+pub operable-cause : (before after : Reach) (session : SessionModel) (e : SlateDBError) → e ≢ MergeOperatorMissing → IsFault before after e ⊎ IsLimit session e ⊎ (e ≡ MergeOperatorMissing) → IsFault before after e ⊎ IsLimit session e
+operable-cause before after session e operable (inl fault) = inl fault
+operable-cause before after session e operable (inr (inl limit)) = inr limit
+operable-cause before after session e operable (inr (inr wants)) = absurd (operable wants)
+
+-- what isn't refused has room
+pub has-room : (n events txns more : ℕ) (r : Result ℕ SlateDBError) (seq : ℕ) (e : SlateDBError) → r ≡ Ok seq → (n < events + txns + more → r ≡ Err e) → events ≤ n
+has-room n events txns more r seq e ok limit = let below : events < suc n = lt_of_not-le passed in omega (arith, below)
+  where
+    passed : suc n ≤ events → ⊥
+    passed over = let clash : Ok seq ≡ Err e = sym ok ∙ limit (omega (arith, over)) in cc
+
+pub get-cause : (by : Asking) (before after : Reach) (c : CoreModel) (e : SlateDBError) → IsReadError by before after c e → IsFault before after e ⊎ IsTableError e
+get-cause by before after c e (inl fault) = inl fault
+get-cause by before after c e (inr made) = inr (refused_kind by before.meaning c made.0 e made.2)
+
+-- what isn't a fault is shown
+pub get-shown : (by : Asking) (before after : Reach) (c : CoreModel) (e : SlateDBError) → IsReadError by before after c e → IsTableError e → Made before after (λ reads. IsRefusedBy by before.meaning c reads e)
+get-shown by before after c e (inl fault) error = absurd (not-damage {X = Unit {0}} before.faults after.faults e (inl fault) error)
+get-shown by before after c e (inr made) error = made
+
+-- ---- what a settled session reads
+
+pub true-answered : (policies : List Policy) (before after : Reach) (os : Objects) (e : SessionModel) → IsSettled policies before.meaning (Some os) e → AnswersFrom os before after → IsAnswered policies before after e.core
+true-answered policies before after os e settled answers = record { os = os; readable = record { lawful = settled.lawful; lawful_policies = settled.lawful_policies; filtered = settled.filtered; kept = settled.kept; holds = settled.tables.holds }; answers = answers }
+
+pub settled-answered : (policies : List Policy) (before after : Reach) (e : SessionModel) → IsSettledIn policies before e → IsAnswered policies before after e.core
+settled-answered policies before after e settled = by before.objects refl settled.tables.holds
+  where
+    by : (objects : Option Objects) → before.objects ≡ objects → HoldsTables objects e.core.events → IsAnswered policies before after e.core
+    by None is held = absurd held
+    by (Some os) is held = record { os = os; readable = record { lawful = settled.lawful; lawful_policies = settled.lawful_policies; filtered = settled.filtered; kept = settled.kept; holds = held }; answers = inl is }

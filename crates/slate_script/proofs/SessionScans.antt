@@ -1,0 +1,119 @@
+-- A scan line's step, under what a session stands for.
+use Rattle.std.proofs.Common.{◌≡◌, ℕ, ◌⊎◌, inl, inr, List, ◌∷◌, Option, Some, None, Result, Ok, Err, IfErr, refl, sym, ap, ◌∙◌, subst}
+use Rattle.std.specs.Prelude.{Bool, true, false, cond, IfSome, IsSome}
+use Rattle.std.proofs.lemmas.Option.{same_Some}
+use Rattle.std.specs.declared.ops.Bound.{Bound}
+use Rattle.slate_types.specs.declared.bytes_range.BytesRange.{BytesRange}
+use Rattle.slate_types.specs.declared.error.SlateDBError.{SlateDBError}
+use Rattle.slate_types.specs.declared.error.SlateDBError.TheVariants as errors
+use Rattle.slate_types.specs.declared.iter.IterationOrder.{IterationOrder}
+use Rattle.slate_types.specs.declared.types.KeyValue.{KeyValue}
+use Rattle.slate_types.specs.Keys.{is_refused, range_of}
+use Rattle.slate_types.specs.Outside.{IsFault, Reach}
+use Rattle.slate_types.specs.World.{Made}
+use Rattle.slate_txn.specs.declared.event.TranscriptStep.{TranscriptStep}
+use Rattle.slate_txn.specs.declared.event.TranscriptStep.TheVariants as steps
+use Rattle.slate_txn.specs.declared.line.ScanStep.{ScanStep}
+use Rattle.slate_txn.specs.declared.line.Line.TheVariants as lines
+use Rattle.slate_txn.specs.Reads.{handed, rows_seen, walk}
+use Rattle.slate_txn.specs.Reply as replies
+use Rattle.slate_txn.specs.Reply.{Reply}
+use Rattle.slate_txn.specs.State.{Commit, Rules, State}
+use Rattle.slate_txn.specs.Step.{Reader, noted, reader, scan, scan_walked, step}
+use Rattle.slate_db.proofs.RowDamage.{scan_kind}
+use Rattle.slate_db.specs.Meaning.{Meaning, rules_of}
+use Rattle.slate_db.specs.Model.{CoreModel}
+use Rattle.slate_db.specs.Parts.{IsTableError}
+use Rattle.slate_db.specs.Scans.{IsRefusedByScan, IsScanError}
+use Rattle.slate_language.specs.declared.reply.Answer.{Answer}
+use Rattle.slate_language.specs.declared.reply.Answer.TheVariants as answers
+use Rattle.slate_language.specs.Answers.{reply_of}
+use Rattle.slate_script.specs.Session.{SessionModel, AnswersAs, IsLimit, IsStep, NamesStand, reader_id, reader_under}
+use Rattle.slate_script.proofs.Running.{not-damage}
+use Rattle.slate_script.proofs.SessionSteps.{ReadsAs, ReadsUnder, reads-as}
+
+-- bounds that make a range are its bounds
+pub range_same : (start end : Bound (List ℕ)) (range : BytesRange) → range_of start end ≡ Some range → range_of range.start range.end ≡ Some range
+range_same start end range is = by (is_refused start end) refl is
+  where
+    clash : None ≡ Some range → range_of range.start range.end ≡ Some range
+    clash e = cc
+
+    by : (b : Bool) → is_refused start end ≡ b → cond b None (Some (record { start = start; end = end })) ≡ Some range → range_of range.start range.end ≡ Some range
+    by true e same = clash same
+    by false e same = subst (λ (q : BytesRange). range_of q.start q.end ≡ Some q) (same_Some _ _ same) (ap (λ b. cond b None (Some (record { start = start; end = end }))) e)
+
+pub bounds_fit : (start end : Bound (List ℕ)) (range : BytesRange) → range_of start end ≡ Some range → is_refused range.start range.end ≡ false
+bounds_fit start end range is = by (is_refused start end) refl is
+  where
+    clash : None ≡ Some range → is_refused range.start range.end ≡ false
+    clash e = cc
+
+    by : (b : Bool) → is_refused start end ≡ b → cond b None (Some (record { start = start; end = end })) ≡ Some range → is_refused range.start range.end ≡ false
+    by true e same = clash same
+    by false e same = subst (λ (q : BytesRange). is_refused q.start q.end ≡ false) (same_Some _ _ same) e
+
+pub scan-refused : (m : Meaning) (e : SessionModel) (name : List ℕ) (order : IterationOrder) (start end : Bound (List ℕ)) (sts : List ScanStep) (o : Option (List ℕ)) → ReadsUnder e name o → o ≡ None →
+    AnswersAs m e e (lines.Scan name order start end sts) (Ok (answers.Refused (errors.UnknownTransaction name)))
+scan-refused m e name order start end sts o reads none s h =
+    subst (λ p. IsStep e (scan (rules_of e.core.settings m) s name order (range_of start end) sts p) (answers.Refused (errors.UnknownTransaction name)))
+    (sym (reads s h ∙ ap (reader_under e.core.state) none)) (h, refl)
+
+-- a range that is none
+pub range-refused : (m : Meaning) (e : SessionModel) (name id : List ℕ) (order : IterationOrder) (start end : Bound (List ℕ)) (sts : List ScanStep) (o : Option (List ℕ)) → ReadsUnder e name o → IfSome o (λ i. IsSome (reader e.core.state i)) → o ≡ Some id → range_of start end ≡ None →
+    AnswersAs m e e (lines.Scan name order start end sts) (Ok (answers.Refused errors.InvalidRange))
+range-refused m e name id order start end sts o reads live is none s h = by (reader e.core.state id) refl (subst (λ p. IfSome p (λ i. IsSome (reader e.core.state i))) is live)
+  where
+    by : (p : Option Reader) → reader e.core.state id ≡ p → IsSome p → IsStep e (scan (rules_of e.core.settings m) s name order (range_of start end) sts (reader s name)) (answers.Refused errors.InvalidRange)
+    by None there some = cc
+    by (Some from) there some =
+        subst (λ q. IsStep e (scan (rules_of e.core.settings m) s name order (range_of start end) sts q) (answers.Refused errors.InvalidRange)) (sym (reads s h ∙ ap (reader_under e.core.state) is ∙ there))
+        (subst (λ range. IsStep e (scan (rules_of e.core.settings m) s name order range sts (Some from)) (answers.Refused errors.InvalidRange)) (sym none) (h, refl))
+
+-- the core's answer is the model's
+pub scan-found : (m : Meaning) (e : SessionModel) (core : CoreModel) (name id : List ℕ) (order : IterationOrder) (start end : Bound (List ℕ)) (range : BytesRange) (sts : List ScanStep) (rows : List KeyValue) (a : Answer) →
+    NamesStand e.names e.snapshot_names e.core.state.txns e.core.state.snapshots → reader_id e name ≡ Some id → range_of start end ≡ Some range →
+    step (rules_of e.core.settings m) e.core.state (lines.Scan id order range.start range.end sts) ≡ (core.state, replies.RowsAre rows) → reply_of a ≡ replies.RowsAre rows →
+    AnswersAs m e (record e { core = core }) (lines.Scan name order start end sts) (Ok a)
+scan-found m e core name id order start end range sts rows a stand known some stepped is s h =
+    subst (λ o. IsStep after (scan r s name order (range_of start end) sts o) a) (sym reads.here)
+    (subst (λ q. IsStep after (scan r s name order q sts (Some reads.from)) a) (sym some) (
+      reads.notes (steps.Scan order range ∷ taken s.commits) core (sym (ap (λ p. p.0) core-step) ∙ noted-same),
+      is ∙ sym (ap (λ p. p.1) core-step) ∙ ap (λ cs. replies.RowsAre (handed (taken cs))) (sym h.commits),
+    ))
+  where
+    r : Rules
+    r = rules_of e.core.settings m
+
+    c : State
+    c = e.core.state
+
+    after : SessionModel
+    after = record e { core = core }
+
+    reads : ReadsAs e s name id
+    reads = reads-as e s name id h stand known
+
+    taken : List Commit → List TranscriptStep
+    taken cs = walk order reads.from.scans (rows_seen r cs reads.from.at reads.from.ops order range) sts
+
+    core-step : scan_walked c id order range (taken c.commits) ≡ (core.state, replies.RowsAre rows)
+    core-step =
+        sym (ap (λ q. scan r c id order q sts (reader c id)) (range_same start end range some)
+        ∙ ap (scan r c id order (Some range) sts) reads.there)
+        ∙ stepped
+
+    noted-same : noted c id (steps.Scan order range ∷ taken c.commits) ≡ noted c id (steps.Scan order range ∷ taken s.commits)
+    noted-same = ap (λ cs. noted c id (steps.Scan order range ∷ taken cs)) (sym h.commits)
+
+-- ---- why it is refused
+
+pub scan-limit : {V : Type 0} (result : Result V SlateDBError) (before after : Reach) (e : SessionModel) → IfErr result (IsScanError before after e.core) → IfErr result (λ x. IsFault before after x ⊎ IsLimit e x ⊎ IsTableError x)
+scan-limit (Ok v) before after e cause = tt
+scan-limit (Err x) before after e (inl fault) = inl fault
+scan-limit (Err x) before after e (inr made) = inr (inr (scan_kind before.meaning e.core made.0 x made.2))
+
+pub scan-shown : {V : Type 0} (result : Result V SlateDBError) (before after : Reach) (e : SessionModel) → IfErr result (IsScanError before after e.core) → IfErr result (λ x. IsTableError x → Made before after (λ reads. IsRefusedByScan before.meaning e.core reads x))
+scan-shown (Ok v) before after e cause = tt
+scan-shown (Err x) before after e (inl fault) = λ error. absurd (not-damage {X = Unit {0}} before.faults after.faults x (inl fault) error)
+scan-shown (Err x) before after e (inr made) = λ error. made

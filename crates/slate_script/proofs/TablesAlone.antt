@@ -1,0 +1,228 @@
+-- What a flush and other lines leave of what a store holds, and what that is at the end of a run.
+use Rattle.std.proofs.Common.{◌≡◌, ℕ, ◌+◌, ◌≤◌, ◌<◌, ◌^◌, ◌⊎◌, inl, inr, List, [], ◌∷◌, ◌++◌, append-nil, flat_map, length, Option, Some, IfSome, Result, Ok, Err, OnOk, refl, sym, ap, subst, ◌∙◌, arith, append_assoc, Ordering, Less, Equal, Greater}
+use Rattle.std.specs.BTreeMap.{insert_entry}
+use Rattle.std.specs.List.{AllByRecursion}
+use Rattle.std.specs.Ordering.{match_ordering}
+use Rattle.std.proofs.lemmas.Grind.{flat_map-append}
+use Rattle.std.proofs.lemmas.List.{length-append}
+use Rattle.slate_types.specs.declared.types.Ulid.{Ulid}
+use Rattle.slate_types.specs.Fold.{shown}
+use Rattle.slate_types.specs.Keys.{key_cmp}
+use Rattle.slate_types.specs.Outside.{Objects}
+use Rattle.slate_types.specs.Rows.{of_key}
+use Rattle.slate_types.proofs.KeyOrder.{same-key}
+use Rattle.slate_store.specs.Store.{IsEmpty, with_object}
+use Rattle.slate_table.specs.Parts.{Encode}
+use Rattle.slate_table.specs.Paths.{path_of, table_id}
+use Rattle.slate_table.specs.Stored.{HoldRows, by_seq}
+use Rattle.slate_table.specs.Table.{IsTable}
+use Rattle.slate_table.proofs.CutLaws.{built_has}
+use Rattle.slate_txn.specs.declared.event.Event.TheVariants as events
+use Rattle.slate_txn.specs.Reads.{state_at}
+use Rattle.slate_txn.specs.State.{Rules, State}
+use Rattle.slate_db.specs.Flushed.{AreTablesAt, IsFlushed, IsTableAt, Layout, TakesTables, idle, stored, with_tables}
+use Rattle.slate_db.specs.Frozen.{IsFrozen}
+use Rattle.slate_db.specs.Installs.{root, runs_of}
+use Rattle.slate_db.specs.Meaning.{Meaning, combine_of, rules_of}
+use Rattle.slate_db.specs.Model.{CoreModel, Rows, versions_in}
+use Rattle.slate_db.specs.Sound.{AreTables}
+use Rattle.slate_db.specs.StoredState.{StoresState}
+use Rattle.slate_db.specs.Layers.{AreRising}
+use Rattle.slate_db.specs.Log.{LIMIT}
+use Rattle.slate_script.specs.Session.{SessionModel, StandsFor, StoresNothing, IsTableUpTo, HasTablesAlone}
+use Rattle.slate_script.specs.StoredState.{IsStoredState, IsTableObject}
+use Rattle.slate_script.proofs.BySequence.{all-front, all-behind, all-both, one-table-more}
+use Rattle.slate_db.proofs.RunsOf.{runs_more, tables_are}
+use Rattle.slate_db.proofs.PathsApart.{ids_same}
+use Rattle.slate_script.proofs.SessionLeaves.{leaves-frozen}
+
+each-as : {X : Type 0} (P Q : X → Type 0) → ((x : X) → P x → Q x) → (xs : List X) → AllByRecursion P xs → AllByRecursion Q xs
+each-as P Q f [] h = tt
+each-as P Q f (x ∷ xs) h = (f x h.0, each-as P Q f xs h.1)
+
+-- the objects on both sides of a path that none of them has
+record IsPutAmong (os : Objects) (path bytes : List ℕ) : Type 0 where
+  pub a : Objects
+  pub b : Objects
+  pub before : os ≡ a ++ b
+  pub after : with_object os path bytes ≡ a ++ ((path, bytes) ∷ b)
+
+put-among : (os : Objects) (path bytes : List ℕ) → AllByRecursion (λ o. path ≡ o.0 → ⊥) os → IsPutAmong os path bytes
+put-among [] path bytes apart = record { a = []; b = []; before = refl; after = refl }
+put-among (o ∷ os) path bytes apart =
+    let p = place (key_cmp path o.0) refl (put-among os path bytes apart.1) in
+    record { a = p.0; b = p.1; before = p.2; after = p.3 }
+  where
+    place : (r : Ordering) → key_cmp path o.0 ≡ r → IsPutAmong os path bytes → (a : Objects) × (b : Objects) × (o ∷ os ≡ a ++ b) × (match_ordering r ((path, bytes) ∷ o ∷ os) ((o.0, bytes) ∷ os) (o ∷ insert_entry key_cmp os path bytes) ≡ a ++ ((path, bytes) ∷ b))
+    place Less e rest = ([], o ∷ os, refl, refl)
+    place Equal e rest = absurd (apart.0 (same-key path o.0 e))
+    place Greater e rest = (o ∷ rest.a, rest.b, ap (λ xs. o ∷ xs) rest.before, ap (λ xs. o ∷ xs) rest.after)
+
+record AreHeldApart (encode : Encode) (a b : Objects) (rows : Rows) : Type 0 where
+  pub first : Rows
+  pub last : Rows
+  pub here : HoldRows encode a first
+  pub there : HoldRows encode b last
+  pub are : rows ≡ first ++ last
+
+held-apart : (encode : Encode) (a b : Objects) (rows : Rows) → HoldRows encode (a ++ b) rows → AreHeldApart encode a b rows
+held-apart encode [] b rows h = record { first = []; last = rows; here = refl; there = h; are = refl }
+held-apart encode (o ∷ a) b rows (inl (version, here, rest, is, others, same)) =
+    let p = held-apart encode a b rest others in
+    record { first = here ++ p.first; last = p.last; here = inl (version, here, p.first, is, p.here, refl); there = p.there; are = same ∙ ap (λ xs. here ++ xs) p.are ∙ sym (append_assoc here p.first p.last) }
+held-apart encode (o ∷ a) b rows (inr (none, others)) =
+    let p = held-apart encode a b rows others in
+    record { first = p.first; last = p.last; here = inr (none, p.here); there = p.there; are = p.are }
+
+held-together : (encode : Encode) (a b : Objects) (first last : Rows) → HoldRows encode a first → HoldRows encode b last → HoldRows encode (a ++ b) (first ++ last)
+held-together encode [] b first last h k = subst (λ (xs : Rows). HoldRows encode b (xs ++ last)) (sym h) k
+held-together encode (o ∷ a) b first last (inl (version, here, rest, is, others, same)) k =
+    inl (version, here, rest ++ last, is, held-together encode a b rest last others k, ap (λ xs. xs ++ last) same ∙ append_assoc here rest last)
+held-together encode (o ∷ a) b first last (inr (none, others)) k = inr (none, held-together encode a b first last others k)
+
+tables-more : (m : Meaning) (ts : List (Ulid × List ℕ)) (t : Ulid × List ℕ) (version : ℕ) (layers : List Rows) (rows : Rows) → AreTables m ts layers → IsTable m.encode t.1 version rows → AreTables m (ts ++ (t ∷ [])) (layers ++ (rows ∷ []))
+tables-more m [] t version layers rows h is = (version, rows, [], is, refl, ap (λ ls. ls ++ (rows ∷ [])) h)
+tables-more m (x ∷ ts) t version layers rows (v, first, rest, table, others, same) is =
+    (v, first, rest ++ (rows ∷ []), table, tables-more m ts t version rest rows others is, ap (λ ls. ls ++ (rows ∷ [])) same)
+
+-- ---- one table more
+
+-- an object is a table of an earlier flush than this one, or of an earlier place in it
+abbrev IsTableBefore : Meaning → Layout → ℕ → ℕ → List ℕ × List ℕ → Type 0
+IsTableBefore m layout n p o = (t : IsTableObject m layout o) × ((t.number < n) ⊎ ((t.number ≡ n) × (t.place < p)))
+
+-- what a store holds while the tables of a flush are put
+record HoldsAlone (m : Meaning) (layout : Layout) (n p : ℕ) (objects : Objects) (ts : List (Ulid × List ℕ)) : Type 0 where
+  pub each : AllByRecursion (IsTableBefore m layout n p) objects
+  pub layers : List Rows
+  pub tables : AreTables m ts layers
+  pub rows : Rows
+  pub held : HoldRows m.encode objects rows
+  pub sorted : (k : List ℕ) → AreRising (versions_in k layers) → by_seq (of_key k rows) ≡ versions_in k layers
+
+later-place : (m : Meaning) (layout : Layout) (n p : ℕ) (o : List ℕ × List ℕ) → IsTableBefore m layout n p o → IsTableBefore m layout n (p + 1) o
+later-place m layout n p o (t, h) = (t, by h)
+  where
+    by : (t.number < n) ⊎ ((t.number ≡ n) × (t.place < p)) → (t.number < n) ⊎ ((t.number ≡ n) × (t.place < p + 1))
+    by (inl below) = inl below
+    by (inr (same, below)) = inr (same, omega arith)
+
+path-apart : (m : Meaning) (layout : Layout) (n p : ℕ) (o : List ℕ × List ℕ) → n < 2 ^ 64 → p < 2 ^ 64 → IsTableBefore m layout n p o → path_of root (table_id n p) ≡ o.0 → ⊥
+path-apart m layout n p o fits place (t, h) same = by h
+  where
+    is : (n ≡ t.number) × (p ≡ t.place)
+    is = ids_same n t.number p t.place fits t.fits place t.place_fits (same ∙ t.path)
+
+    by : (t.number < n) ⊎ ((t.number ≡ n) × (t.place < p)) → ⊥
+    by (inl below) = let e : n ≡ t.number = is.0 in omega arith
+    by (inr (number, below)) = let e : p ≡ t.place = is.1 in omega arith
+
+table-alone : (m : Meaning) (layout : Layout) (n p : ℕ) (os : Objects) (ts : List (Ulid × List ℕ)) (t : Ulid × List ℕ) (here : Rows) → 1 ≤ n → n < 2 ^ 64 → IsTableAt m.encode layout n p here t → HoldsAlone m layout n p os ts →
+    HoldsAlone m layout n (p + 1) (with_object os (path_of root t.0.0) t.1) (ts ++ (t ∷ []))
+table-alone m layout n p os ts t here first fits made h =
+    let is : IsTable m.encode t.1 layout.version here = subst (IsTable m.encode t.1 layout.version) made.read (built_has m.encode layout.policies layout.min_filter_keys layout.block_size layout.version t.1 here made.built) in
+    let place : IsPutAmong os (path_of root t.0.0) t.1 = put-among os (path_of root t.0.0) t.1 (each-as _ _ (λ o b same. path-apart m layout n p o fits made.fits b (sym (ap (path_of root) made.id) ∙ same)) os h.each) in
+    let parts : AreHeldApart m.encode place.a place.b h.rows = held-apart m.encode place.a place.b h.rows (subst (λ (x : Objects). HoldRows m.encode x h.rows) place.before h.held) in
+    let each : AllByRecursion (IsTableBefore m layout n (p + 1)) (place.a ++ place.b) = subst (AllByRecursion (IsTableBefore m layout n (p + 1))) place.before (each-as (IsTableBefore m layout n p) _ (later-place m layout n p) os h.each) in
+    let new : IsTableBefore m layout n (p + 1) (path_of root t.0.0, t.1) =
+    (record { number = n; first = first; fits = fits; place = p; place_fits = made.fits; rows = here; path = ap (path_of root) made.id; built = made.built }, inr (refl, omega arith)) in
+    record {
+      each = subst (AllByRecursion (IsTableBefore m layout n (p + 1))) (sym place.after) (all-both _ place.a ((path_of root t.0.0, t.1) ∷ place.b) (all-front _ place.a place.b each) (new, all-behind _ place.a place.b each));
+      layers = h.layers ++ (here ∷ []);
+      tables = tables-more m ts t layout.version h.layers here h.tables is;
+      rows = parts.first ++ (here ++ parts.last);
+      held = subst (λ (x : Objects). HoldRows m.encode x (parts.first ++ (here ++ parts.last))) (sym place.after)
+          (held-together m.encode place.a ((path_of root t.0.0, t.1) ∷ place.b) parts.first (here ++ parts.last) parts.here (inl (layout.version, here, parts.last, is, parts.there, refl)));
+      sorted = λ k. one-table-more k h.layers parts.first here parts.last h.rows parts.are (h.sorted k);
+    }
+
+tables-alone : (m : Meaning) (layout : Layout) (n p : ℕ) (os : Objects) (ts us : List (Ulid × List ℕ)) (parts : List Rows) → 1 ≤ n → n < 2 ^ 64 → AreTablesAt m.encode layout n p parts us → HoldsAlone m layout n p os ts →
+    (q : ℕ) × HoldsAlone m layout n q (with_tables os us) (ts ++ us)
+tables-alone m layout n p os ts [] [] first fits made h = (p, subst (HoldsAlone m layout n p os) (sym (append-nil ts)) h)
+tables-alone m layout n p os ts (t ∷ us) (rows ∷ parts) first fits made h =
+    subst (λ (xs : List (Ulid × List ℕ)). (q : ℕ) × HoldsAlone m layout n q (with_tables (with_object os (path_of root t.0.0) t.1) us) xs) (append_assoc ts (t ∷ []) us)
+    (tables-alone m layout n (p + 1) (with_object os (path_of root t.0.0) t.1) (ts ++ (t ∷ [])) us parts first fits made.1 (table-alone m layout n p os ts t rows first fits made.0 h))
+tables-alone m layout n p os ts (t ∷ us) [] first fits made h = absurd made
+tables-alone m layout n p os ts [] (rows ∷ parts) first fits made h = absurd made
+
+-- a flush more
+run-alone : (m : Meaning) (layout : Layout) (runs : List (List (Ulid × List ℕ))) (us : List (Ulid × List ℕ)) (parts : List Rows) (before after : Option Objects) → length runs + 1 < 2 ^ 64 → AreTablesAt m.encode layout (length runs + 1) 0 parts us →
+    TakesTables us before after → HasTablesAlone m layout before runs → HasTablesAlone m layout after (runs ++ (us ∷ []))
+run-alone m layout runs us parts before after few made takes h =
+    let n : ℕ = length runs + 1 in
+    let size : length (runs ++ (us ∷ [])) ≡ length runs + 1 = length-append runs (us ∷ []) in
+    let start : HoldsAlone m layout (length runs + 1) 0 h.os (flat_map (λ ts. ts) runs) = record {
+      each = each-as (IsTableUpTo m layout (length runs)) _ (λ o b. (b.0, inl (omega (arith, b.1)))) h.os h.each;
+      layers = h.layers;
+      tables = h.tables;
+      rows = h.rows;
+      held = h.held;
+      sorted = h.sorted;
+    } in
+    let end = (tables-alone m layout (length runs + 1) 0 h.os (flat_map (λ ts. ts) runs) us parts (omega arith) few made start).1 in
+    let flat : flat_map (λ (ts : List (Ulid × List ℕ)). ts) (runs ++ (us ∷ [])) ≡ flat_map (λ ts. ts) runs ++ us =
+    flat_map-append (λ (ts : List (Ulid × List ℕ)). ts) runs (us ∷ []) ∙ ap (λ ts. flat_map (λ xs. xs) runs ++ ts) (append-nil us) in
+    record {
+      os = with_tables h.os us;
+      told = subst (λ o. IfSome o (λ os. after ≡ Some (with_tables os us))) h.told takes;
+      each = each-as _ (IsTableUpTo m layout (length (runs ++ (us ∷ [])))) (λ o b. (b.0, within b.0.number b.0.place (tables-alone m layout (length runs + 1) 0 h.os (flat_map (λ ts. ts) runs) us parts (omega arith) few made start).0 b.1)) (with_tables h.os us) end.each;
+      layers = end.layers;
+      tables = subst (λ (ts : List (Ulid × List ℕ)). AreTables m ts end.layers) (sym flat) end.tables;
+      rows = end.rows;
+      held = end.held;
+      sorted = end.sorted;
+    }
+  where
+    within : (i p q : ℕ) → (i < length runs + 1) ⊎ ((i ≡ length runs + 1) × (p < q)) → i ≤ length (runs ++ (us ∷ []))
+    within i p q (inl below) = let size : length (runs ++ (us ∷ [])) ≡ length runs + 1 = length-append runs (us ∷ []) in omega arith
+    within i p q (inr (same, below)) = let size : length (runs ++ (us ∷ [])) ≡ length runs + 1 = length-append runs (us ∷ []) in omega arith
+
+pub flush-alone : (m : Meaning) (layout : Layout) (old mid new : CoreModel) (n : ℕ) (before after : Option Objects) → IsFrozen old mid → IsFlushed m layout mid new n before after →
+    length (runs_of old.events) ≤ length old.events → length old.events ≤ LIMIT → HasTablesAlone m layout before (runs_of old.events) → HasTablesAlone m layout after (runs_of new.events)
+flush-alone m layout old mid new n before after frozen flushed few room h = by flushed
+  where
+    same : runs_of mid.events ≡ runs_of old.events
+    same = (leaves-frozen old mid frozen).runs
+
+    alone : HasTablesAlone m layout before (runs_of mid.events)
+    alone = subst (HasTablesAlone m layout before) (sym same) h
+
+    small : length (runs_of mid.events) + 1 < 2 ^ 64
+    small = let size : length (runs_of mid.events) ≡ length (runs_of old.events) = ap length same in let bound : length old.events ≤ 9223372036854775807 = room in omega (arith, size, few, bound)
+
+    by : IsFlushed m layout mid new n before after → HasTablesAlone m layout after (runs_of new.events)
+    by (idle none is untouched) = subst (λ (c : CoreModel). HasTablesAlone m layout after (runs_of c.events)) (sym is) (subst (λ o. HasTablesAlone m layout o (runs_of mid.events)) (sym untouched) alone)
+    by (stored ts is made takes) =
+        subst (HasTablesAlone m layout after) (sym (ap (λ (c : CoreModel). runs_of c.events) is ∙ runs_more mid.events (events.Install n ts)))
+        (run-alone m layout (runs_of mid.events) ts made.parts before after small made.built takes alone)
+
+-- ---- lines that store nothing, and the beginning
+
+pub stays-alone : {n : Meaning} (m : Meaning) (layout : Layout) (objects after : Option Objects) (e new : SessionModel) → after ≡ objects → StoresNothing n e new → HasTablesAlone m layout objects (runs_of e.core.events) → HasTablesAlone m layout after (runs_of new.core.events)
+stays-alone m layout objects after e new same stores h =
+    subst (HasTablesAlone m layout after) (sym stores.runs) (subst (λ o. HasTablesAlone m layout o (runs_of e.core.events)) (sym same) h)
+
+pub stays-where : {V E : Type 0} (n : Meaning) (result : Result V E) (m : Meaning) (layout : Layout) (objects after : Option Objects) (e new : SessionModel) → after ≡ objects → OnOk result (StoresNothing n e new) →
+    HasTablesAlone m layout objects (runs_of e.core.events) → OnOk result (HasTablesAlone m layout after (runs_of new.core.events))
+stays-where n (Ok v) m layout objects after e new same stores h = stays-alone m layout objects after e new same stores h
+stays-where n (Err x) m layout objects after e new same stores h = tt
+
+pub begins-alone : (m : Meaning) (layout : Layout) (objects : Option Objects) (e : SessionModel) → IsEmpty objects → e.core.events ≡ [] → HasTablesAlone m layout objects (runs_of e.core.events)
+begins-alone m layout objects e empty none = subst (λ es. HasTablesAlone m layout objects (runs_of es)) (sym none)
+    (record { os = []; told = empty; each = tt; layers = []; tables = refl; rows = []; held = refl; sorted = λ k rise. refl })
+
+-- ---- the end
+
+pub stored-state : (m : Meaning) (r : Rules) (layout : Layout) (objects : Option Objects) (e : SessionModel) (s : State) → rules_of e.core.settings m ≡ r → StoresState m e.core → StandsFor e s →
+    HasTablesAlone m layout objects (runs_of e.core.events) → IsStoredState m r layout objects s
+stored-state m r layout objects e s rules stores stands h = record {
+  os = h.os;
+  told = h.told;
+  each = each-as _ (IsTableObject m layout) (λ o p. p.0) h.os h.each;
+  rows = h.rows;
+  held = h.held;
+  folds = λ k.
+      let state = stores h.layers (subst (λ (ts : List (Ulid × List ℕ)). AreTables m ts h.layers) (sym (tables_are e.core.events)) h.tables) k in
+      ap (shown (combine_of m k)) (h.sorted k state.0) ∙ state.1
+      ∙ (let commits = sym stands.commits in let flushed = sym stands.flushed in λ i. state_at (rules i) (commits i) (flushed i) k);
+}

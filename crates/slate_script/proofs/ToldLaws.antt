@@ -1,0 +1,191 @@
+-- What acts that a store tells leave of its objects, line by line.
+use Rattle.std.proofs.Common.{◌≡◌, ℕ, ◌≤◌, inl, inr, List, [], ◌∷◌, ◌++◌, length, map, Option, Some, Result, Ok, Err, OnOk, refl, sym, ap, ◌∙◌, subst, arith, append_assoc}
+use Rattle.std.specs.Prelude.{IfErr}
+use Rattle.std.specs.List.{AllByRecursion}
+use Rattle.std.proofs.lemmas.List.{append-nil, append_cancel_left}
+use Rattle.std.proofs.lemmas.List.Elements.{Contains-append_left, Contains-append_right}
+use Rattle.slate_types.specs.declared.error.SlateDBError.{SlateDBError}
+use Rattle.slate_types.specs.declared.types.Ulid.{Ulid}
+use Rattle.slate_types.specs.Outside.{Objects, Counts, IsCounted, Reach}
+use Rattle.slate_types.specs.World.{Made}
+use Rattle.slate_store.specs.Store.{Act, with_object}
+use Rattle.slate_filter.specs.Policy.{Policy}
+use Rattle.slate_table.specs.Paths.{path_of}
+use Rattle.slate_txn.specs.declared.event.Event.TheVariants as events
+use Rattle.slate_txn.specs.declared.line.Line.{Line}
+use Rattle.slate_txn.specs.declared.line.Line.TheVariants as lines
+use Rattle.slate_db.specs.Answered.{AddsPuts, AddsReads, AddsTables, AnswersAct, AnswersAs, PutsNothing}
+use Rattle.slate_db.specs.Flushed.{IsFlushed, Layout, idle, stored, with_tables}
+use Rattle.slate_db.specs.Frozen.{IsFrozen}
+use Rattle.slate_db.specs.Installs.{root, tables_of}
+use Rattle.slate_db.specs.Meaning.{Meaning}
+use Rattle.slate_db.specs.Model.{CoreModel}
+use Rattle.slate_db.specs.Parts.{IsTableError}
+use Rattle.slate_db.specs.Sound.{IsKept}
+use Rattle.slate_db.specs.Log.{LIMIT}
+use Rattle.slate_script.specs.Session.{SessionModel, IsSettled, StoresNothing}
+use Rattle.slate_script.specs.Told.{ArePut, AreTrue, Follows, IsRefusedAt, IsShownAtEnd, IsShownBy, IsUntrue, PutsTables, after_act, after_acts}
+use Rattle.slate_script.proofs.Running.{not-damage}
+use Rattle.slate_script.proofs.SessionLeaves.{leaves-frozen}
+use Rattle.slate_script.proofs.SessionStores.{flush-settled, same-tables, stays-settled, tables-more, tables-still}
+
+-- ---- acts
+
+reads-keep : (os : Objects) (acts : List Act) → AllByRecursion PutsNothing acts → after_acts os acts ≡ os
+reads-keep os [] h = refl
+reads-keep os (Act.put path bytes ∷ acts) h = absurd h.0
+reads-keep os (Act.read path start size answer ∷ acts) h = reads-keep os acts h.1
+reads-keep os (Act.len path answer ∷ acts) h = reads-keep os acts h.1
+
+reads-true : (os : Objects) (acts : List Act) → AllByRecursion PutsNothing acts → AreTrue os acts → AllByRecursion (AnswersAct os) acts
+reads-true os [] h true = tt
+reads-true os (Act.put path bytes ∷ acts) h true = absurd h.0
+reads-true os (Act.read path start size answer ∷ acts) h true = (true.0, reads-true os acts h.1 true.1)
+reads-true os (Act.len path answer ∷ acts) h true = (tt, reads-true os acts h.1 true.1)
+
+after-both : (os : Objects) (acts more : List Act) → after_acts os (acts ++ more) ≡ after_acts (after_acts os acts) more
+after-both os [] more = refl
+after-both os (a ∷ acts) more = after-both (after_act os a) acts more
+
+true-behind : (os : Objects) (acts more : List Act) → AreTrue os (acts ++ more) → AreTrue (after_acts os acts) more
+true-behind os [] more h = h
+true-behind os (a ∷ acts) more h = true-behind (after_act os a) acts more h.1
+
+-- ---- one line
+
+pub follows-itself : (policies : List Policy) (m : Meaning) (os : Objects) (e : SessionModel) (acts : Option (List Act)) → IsSettled policies m (Some os) e → Follows policies m os e acts acts
+follows-itself policies m os e acts settled known is = ([], is ∙ ap (λ (l : List Act). Some l) (sym (append-nil known)), settled)
+
+pub follows-still : {V E : Type 0} (result : Result V E) (policies : List Policy) (m : Meaning) (os : Objects) (e new : SessionModel) (acts : Option (List Act)) → OnOk result (StoresNothing m e new) → IsSettled policies m (Some os) e → OnOk result (Follows policies m os new acts acts)
+follows-still (Ok v) policies m os e new acts stores settled = follows-itself policies m os new acts (stays-settled policies m (Some os) e new stores settled)
+follows-still (Err x) policies m os e new acts stores settled = tt
+
+pub follows-reads : {V E : Type 0} (result : Result V E) (policies : List Policy) (m : Meaning) (os : Objects) (e new : SessionModel) (before after : Option (List Act)) → AddsReads before after → OnOk result (StoresNothing m e new) → IsSettled policies m (Some os) e →
+    OnOk result (Follows policies m os new before after)
+follows-reads (Ok v) policies m os e new before after adds stores settled = λ known is.
+    let r = adds known is in
+    (r.0, r.1, subst (λ (x : Objects). IsSettled policies m (Some x) new) (sym (reads-keep os r.0 r.2)) (stays-settled policies m (Some os) e new stores settled))
+follows-reads (Err x) policies m os e new before after adds stores settled = tt
+
+-- the puts of tables, as acts
+abbrev put-acts : List (Ulid × List ℕ) → List Act
+put-acts ts = map (λ (t : Ulid × List ℕ). Act.put (path_of root t.0.0) t.1) ts
+
+puts-told : (ts : List (Ulid × List ℕ)) (before after : Option (List Act)) (known : List Act) → AddsPuts ts before after → before ≡ Some known → after ≡ Some (known ++ put-acts ts)
+puts-told [] before after known same is = same ∙ is ∙ ap (λ (l : List Act). Some l) (sym (append-nil known))
+puts-told (t ∷ ts) before after known (middle, act, rest) is =
+    puts-told ts middle after (known ++ (Act.put (path_of root t.0.0) t.1 ∷ [])) rest (act known is) ∙ ap (λ (l : List Act). Some l) (append_assoc known (Act.put (path_of root t.0.0) t.1 ∷ []) (put-acts ts))
+
+puts-objects : (os : Objects) (ts : List (Ulid × List ℕ)) → after_acts os (put-acts ts) ≡ with_tables os ts
+puts-objects os [] = refl
+puts-objects os (t ∷ ts) = puts-objects (with_object os (path_of root t.0.0) t.1) ts
+
+puts-are : (ts before : List (Ulid × List ℕ)) → ArePut (put-acts before ++ put-acts ts) ts
+puts-are [] before = tt
+puts-are (t ∷ ts) before = (
+  Contains-append_right (put-acts before) (put-acts (t ∷ ts)) _ (0, omega arith, refl),
+  subst (λ (acts : List Act). ArePut acts ts) (ap (λ (acts : List Act). acts ++ put-acts ts) (more before t) ∙ append_assoc (put-acts before) (Act.put (path_of root t.0.0) t.1 ∷ []) (put-acts ts)) (puts-are ts (before ++ (t ∷ []))),
+)
+  where
+    more : (us : List (Ulid × List ℕ)) (t : Ulid × List ℕ) → put-acts (us ++ (t ∷ [])) ≡ put-acts us ++ (Act.put (path_of root t.0.0) t.1 ∷ [])
+    more [] t = refl
+    more (u ∷ us) t = ap (λ (acts : List Act). Act.put (path_of root u.0.0) u.1 ∷ acts) (more us t)
+
+pub follows-flush : (m : Meaning) (layout : Layout) (os : Objects) (objects left : Option Objects) (e : SessionModel) (mid core : CoreModel) (n : ℕ) (before after : Option (List Act)) → IsFrozen e.core mid → IsFlushed m layout mid core n objects left →
+    AddsTables (tables_of e.core.events) (tables_of core.events) before after → length e.core.events ≤ LIMIT → (IsKept m e.core → IsKept m core) → IsSettled layout.policies m (Some os) e → Follows layout.policies m os (record e { core = core }) before after
+follows-flush m layout os objects left e mid core n before after frozen flushed (us, grown, acts) room kept settled known told = by flushed
+  where
+    new : SessionModel
+    new = record e { core = core }
+
+    same : tables_of mid.events ≡ tables_of e.core.events
+    same = same-tables mid.events e.core.events (leaves-frozen e.core mid frozen).runs
+
+    settles : (ts : List (Ulid × List ℕ)) → us ≡ ts → IsSettled layout.policies m (Some (with_tables os ts)) new → (more : List Act) × (after ≡ Some (known ++ more)) × IsSettled layout.policies m (Some (after_acts os more)) new
+    settles ts it s = (
+      put-acts us,
+      puts-told us before after known acts told,
+      subst (λ (x : Objects). IsSettled layout.policies m (Some x) new) (sym (puts-objects os us ∙ ap (with_tables os) it)) s,
+    )
+
+    by : IsFlushed m layout mid core n objects left → (more : List Act) × (after ≡ Some (known ++ more)) × IsSettled layout.policies m (Some (after_acts os more)) new
+    by (idle none is untouched) =
+        settles [] (append_cancel_left (tables_of e.core.events) us [] (sym grown ∙ ap (λ (c : CoreModel). tables_of c.events) is ∙ same ∙ sym (append-nil (tables_of e.core.events))))
+        (flush-settled m layout (Some os) (Some os) e mid core n frozen (idle none is refl) room kept settled)
+    by (stored ts is made takes) =
+        settles ts (append_cancel_left (tables_of e.core.events) us ts (sym grown ∙ ap (λ (c : CoreModel). tables_of c.events) is ∙ tables-more mid.events (events.Install n ts) ∙ ap (λ xs. xs ++ ts) same))
+        (flush-settled m layout (Some os) (Some (with_tables os ts)) e mid core n frozen (stored ts is made refl) room kept settled)
+
+-- ---- damage
+
+pub untrue-get : {X : Type 0} (r : Result X SlateDBError) (os : Objects) (before after : Option (List Act)) (a b : Counts) → AddsReads before after → (AnswersAs os before after → IfErr r (λ e. IsCounted a b e)) → IfErr r (λ e. IsTableError e → IsUntrue os before after)
+untrue-get (Ok x) os before after a b adds truthful = tt
+untrue-get (Err e) os before after a b adds truthful = λ damage known is.
+    let r = adds known is in
+    (r.0, r.1, λ true. not-damage {X = Unit {0}} a b e (inl (truthful (record { known = known; more = r.0; began = is; ended = r.1; each = reads-true os r.0 r.2 true }))) damage)
+
+-- ---- one line after others
+
+pub follows-on : (policies : List Policy) (m : Meaning) (e new : SessionModel) (first middle last : Option (List Act)) → Follows policies m [] e first middle → ((os : Objects) → IsSettled policies m (Some os) e → Follows policies m os new middle last) → Follows policies m [] new first last
+follows-on policies m e new first middle last f g known is =
+    let a = f known is in
+    let b = g (after_acts [] a.0) a.2 (known ++ a.0) a.1 in
+    (a.0 ++ b.0, b.1 ∙ ap (λ (l : List Act). Some l) (append_assoc known a.0 b.0), subst (λ (os : Objects). IsSettled policies m (Some os) new) (sym (after-both [] a.0 b.0)) b.2)
+
+pub untrue-on : (policies : List Policy) (m : Meaning) (e : SessionModel) (first middle last : Option (List Act)) → Follows policies m [] e first middle → ((os : Objects) → IsSettled policies m (Some os) e → IsUntrue os middle last) → IsUntrue [] first last
+untrue-on policies m e first middle last f g known is =
+    let a = f known is in
+    let b = g (after_acts [] a.0) a.2 (known ++ a.0) a.1 in
+    (a.0 ++ b.0, b.1 ∙ ap (λ (l : List Act). Some l) (append_assoc known a.0 b.0), λ true. b.2 (true-behind [] a.0 b.0 true))
+
+-- ---- tables that were put
+
+puts-more : (acts more : List Act) (ts : List (Ulid × List ℕ)) → ArePut acts ts → ArePut (acts ++ more) ts
+puts-more acts more [] h = tt
+puts-more acts more (t ∷ ts) h = (Contains-append_left acts more _ h.0, puts-more acts more ts h.1)
+
+puts-behind : (acts more : List Act) (ts : List (Ulid × List ℕ)) → ArePut more ts → ArePut (acts ++ more) ts
+puts-behind acts more [] h = tt
+puts-behind acts more (t ∷ ts) h = (Contains-append_right acts more _ h.0, puts-behind acts more ts h.1)
+
+puts-both : (acts : List Act) (ts us : List (Ulid × List ℕ)) → ArePut acts ts → ArePut acts us → ArePut acts (ts ++ us)
+puts-both acts [] us h k = k
+puts-both acts (t ∷ ts) us h k = (h.0, puts-both acts ts us h.1 k)
+
+-- where nothing was put
+pub stores-none : {V : Type 0} (m : Meaning) (result : Result V SlateDBError) (e new : SessionModel) (before after : Option (List Act)) → AddsReads before after → OnOk result (StoresNothing m e new) → OnOk result (PutsTables (tables_of e.core.events) (tables_of new.core.events) before after)
+stores-none m (Ok v) e new before after adds stores = λ known is. let r = adds known is in (r.0, [], r.1, tables-still e new stores ∙ sym (append-nil (tables_of e.core.events)), tt)
+stores-none m (Err x) e new before after adds stores = tt
+
+pub stores-added : (old new : List (Ulid × List ℕ)) (before after : Option (List Act)) → AddsTables old new before after → PutsTables old new before after
+stores-added old new before after (ts, grown, acts) known is = (put-acts ts, ts, puts-told ts before after known acts is, grown, puts-are ts [])
+
+pub stores-itself : (ts : List (Ulid × List ℕ)) (acts : Option (List Act)) → PutsTables ts ts acts acts
+stores-itself ts acts known is = ([], [], is ∙ ap (λ (l : List Act). Some l) (sym (append-nil known)), sym (append-nil ts), tt)
+
+-- one line after others
+pub stores-on : (ts us : List (Ulid × List ℕ)) (first middle last : Option (List Act)) → PutsTables [] ts first middle → PutsTables ts us middle last → PutsTables [] us first last
+stores-on ts us first middle last f g known is =
+    let a = f known is in
+    let b = g (known ++ a.0) a.2 in
+    (a.0 ++ b.0, us, b.2 ∙ ap (λ (l : List Act). Some l) (append_assoc known a.0 b.0), refl, subst (ArePut (a.0 ++ b.0)) (sym (b.3 ∙ ap (λ (l : List (Ulid × List ℕ)). l ++ b.1) a.3)) (puts-both (a.0 ++ b.0) a.1 b.1 (puts-more a.0 b.0 a.1 a.4) (puts-behind a.0 b.0 b.1 b.4)))
+
+-- what is refused by the reads of the last line
+pub shown-at-end : (policies : List Policy) (before now after : Reach) (core : CoreModel) (e : SlateDBError) → now.meaning ≡ before.meaning → PutsTables [] (tables_of core.events) before.acts now.acts → Made now after (λ reads. IsShownBy policies now.meaning core reads e) → IsShownAtEnd policies before after e
+shown-at-end policies before now after core e same stores made = record {
+  core = core;
+  reads = made.0;
+  each = made.1.each;
+  refused = subst (λ (m : Meaning). IsShownBy policies m core made.0 e) same made.2;
+  last = λ known is. let a = stores known is in (a.0, made.1.adds (known ++ a.0) a.2, subst (ArePut a.0) (sym a.3) a.4);
+}
+
+-- what a line is refused for its reads show
+at-shown : (policies : List Policy) (line : Line) (m : Meaning) (core : CoreModel) (reads : List Act) (e : SlateDBError) → IsRefusedAt policies line m core reads e → IsShownBy policies m core reads e
+at-shown policies (lines.Get name k) m core reads e h = inl (k, h)
+at-shown policies (lines.Scan name order start end sts) m core reads e h = inr h
+at-shown policies line m core reads e h = absurd h
+
+pub line-shown : (policies : List Policy) (line : Line) (before after : Reach) (core : CoreModel) (x : SlateDBError) → (IsTableError x → Made before after (λ reads. IsRefusedAt policies line before.meaning core reads x)) → IsTableError x →
+    Made before after (λ reads. IsShownBy policies before.meaning core reads x)
+line-shown policies line before after core x shown error = let made = shown error in (made.0, made.1, at-shown policies line before.meaning core made.0 x made.2)

@@ -1,0 +1,69 @@
+use Rattle.std.proofs.Common.{[], ◌≡◌, ◌≤◌, ◌<◌, ◌++◌, ℕ, Some, inl, inr, Err, length, take, sym, ap, subst, refl, ◌∙◌, arith, map}
+use Rattle.slate_types.specs.declared.error.SlateDBError.TheVariants.{WriteFault}
+use Rattle.slate_types.specs.Faults.{Rose}
+use Rattle.slate_store.specs.Lines.{lines_of}
+use Rattle.slate_txn.specs.State.{Rules, opening}
+use Rattle.slate_db.specs.Flushed.{layout_of}
+use Rattle.slate_db.specs.Meaning.{Meaning}
+use Rattle.slate_language.specs.Generate.{generate, summary}
+use Rattle.slate_language.specs.Replies.{after_lines}
+use Rattle.slate_language.specs.Stage.{meaning}
+use Rattle.slate_script.specs.Program.{main_rules, parts_of, status}
+use Rattle.slate_script.specs.Run.{run_rules}
+use Rattle.slate_script.specs.StoredState.{IsStoredState}
+use Rattle.slate_script.specs.Told.{IsUntrue}
+use Rattle.slate_script.proofs.Mains.{lawful, premises, none-rose, rules-are, words-are}
+use Rattle.slate_script.proofs.RunEnds.{unless-error}
+use Rattle.slate_script.proofs.Statuses.{damage-between, is-damage, is-ended, is-generated, is-store, is-write, status-or, written-or}
+use Rattle.slate_script.proofs.program.main_generated.Goals as goal
+
+pub returns-in-Ok : goal.returns-in-Ok
+returns-in-Ok g c =
+    record {
+      kinds = inl refl;
+      summed = λ before told lawful_policies empty zero. subst (λ (r : Rules). g.W.Sink.content c.run_generated-ran.new.sink ≡ Some (before ++ summary r (generate c.args.generated.now.rounds c.args.generated.now.seed))) (rules-are c.args.generated.now.settings c.transformer_of.result c.transformer_of.ensures)
+          (c.in-Ok.ensures.told before told (premises _ c.args.generated.now.settings.operator c.transformer_of.result _ lawful_policies empty)).whole;
+      stored = (λ lawful_policies empty zero.
+          let o = c.args.generated.now.settings.options in
+          let given = map (λ p. (goal.FilterPolicy-dyn g (p.vtable, p.value)).meaning p.value) c.args.policies.items in
+          let objects = g.S.Store.objects c.run_generated-ran.new.env.store.now in
+          subst (λ t. IsStoredState (parts_of c.args.generated.now.settings) (main_rules c.args.generated.now.settings) (layout_of o given) (g.S.Store.objects t) (after_lines meaning (main_rules c.args.generated.now.settings) opening (lines_of (generate c.args.generated.now.rounds c.args.generated.now.seed)))) (sym (c.store-1.given.1 (sym c.in-Ok.ensures.puts.store)))
+          (subst (λ (x : Meaning). IsStoredState x (run_rules o x) (layout_of o given) objects (after_lines meaning (run_rules o x) opening (lines_of (generate c.args.generated.now.rounds c.args.generated.now.seed)))) (words-are c.args.generated.now.settings c.transformer_of.result c.transformer_of.ensures)
+          (c.in-Ok.ensures.stored (premises _ c.args.generated.now.settings.operator c.transformer_of.result _ lawful_policies empty))));
+      write_fault = λ six. absurd (omega (arith, six));
+      store_fault = λ seven. absurd (omega (arith, seven));
+      undamaged = λ lawful_policies empty which. absurd (omega (arith, (damage-between 0 which).0));
+      untrue = λ lawful_policies which. absurd (omega (arith, (damage-between 0 which).0));
+      complete = λ lawful_policies empty no-write no-store. inl refl;
+      begun = λ before told lawful_policies empty six. absurd (omega (arith, six));
+      unwritten = inl refl;
+      sink_still = inr (unless-error _ WriteFault c.in-Ok.ensures.sink_still);
+      later = c.run_generated-ran.ensures.later;
+    }
+
+pub returns-in-Err : goal.returns-in-Err
+returns-in-Err g c =
+    record {
+      kinds = rw c.status_of-status.ensures (is-generated c.in-Err.error c.in-Err.ensures.outside (λ h. c.in-Err.ensures.cause.read_fault (ap Err h)) (λ message h. none-rose c.args.generated.now.settings.operator c.run_generated-ran.new.env.operator (c.in-Err.ensures.cause.operator_fault message (ap Err h))) (λ h. none-rose c.transformer_of.result c.run_generated-ran.new.env.transformer (c.in-Err.ensures.cause.transform_fault (ap Err h))));
+      summed = λ before told lawful_policies empty zero. absurd (is-ended c.in-Err.error c.in-Err.ensures.cause.kinds (inl (sym c.status_of-status.ensures ∙ zero)));
+      stored = λ lawful_policies empty zero. absurd (is-ended c.in-Err.error c.in-Err.ensures.cause.kinds (inl (sym c.status_of-status.ensures ∙ zero)));
+      write_fault = λ six. c.in-Err.ensures.cause.write_fault (ap Err (is-write c.in-Err.error c.in-Err.ensures.cause.kinds (sym c.status_of-status.ensures ∙ six)));
+      store_fault = (λ seven.
+          let rose = c.in-Err.ensures.cause.store_fault (ap Err (is-store c.in-Err.error c.in-Err.ensures.cause.kinds (sym c.status_of-status.ensures ∙ seven))) in
+          subst (λ t. Rose (g.S.Store.faults c.args.store.now) (g.S.Store.faults t)) (sym (c.store-1.given.1 (sym c.in-Err.ensures.puts.store))) rose);
+      undamaged = (λ lawful_policies empty which.
+          let within = subst (λ (n : ℕ). (12 ≤ n) × (n ≤ 19)) c.status_of-status.ensures (damage-between c.status_of-status.result which) in
+          c.in-Err.ensures.undamaged (premises _ c.args.generated.now.settings.operator c.transformer_of.result _ lawful_policies empty) (is-damage c.in-Err.error c.in-Err.ensures.cause.kinds within.0 within.1));
+      untrue = (λ lawful_policies which.
+          let within = subst (λ (n : ℕ). (12 ≤ n) × (n ≤ 19)) c.status_of-status.ensures (damage-between c.status_of-status.result which) in
+          subst (λ t. IsUntrue [] (g.S.Store.acts c.args.store.now) (g.S.Store.acts t)) (sym (c.store-1.given.1 (sym c.in-Err.ensures.puts.store)))
+          (c.in-Err.ensures.untrue lawful_policies (lawful c.args.generated.now.settings.operator c.transformer_of.result) (is-damage c.in-Err.error c.in-Err.ensures.cause.kinds within.0 within.1)));
+      complete = (λ lawful_policies empty no-write no-store.
+          inr (c.status_of-status.ensures ∙ ap status (c.in-Err.ensures.complete (premises _ c.args.generated.now.settings.operator c.transformer_of.result _ lawful_policies empty) (record { source_still = λ h. h; sink_still = no-write; store = λ h. no-store (subst (λ t. Rose (g.S.Store.faults c.args.store.now) (g.S.Store.faults t)) (sym (c.store-1.given.1 (sym c.in-Err.ensures.puts.store))) h); operator = none-rose c.args.generated.now.settings.operator c.run_generated-ran.new.env.operator; transformer = none-rose c.transformer_of.result c.run_generated-ran.new.env.transformer }))));
+      begun = λ before told lawful_policies empty six.
+          subst (λ (r : Rules). (n : ℕ) × (n < length (summary r (generate c.args.generated.now.rounds c.args.generated.now.seed))) × (g.W.Sink.content c.run_generated-ran.new.sink ≡ Some (before ++ take n (summary r (generate c.args.generated.now.rounds c.args.generated.now.seed))))) (rules-are c.args.generated.now.settings c.transformer_of.result c.transformer_of.ensures)
+          ((c.in-Err.ensures.told before told (premises _ c.args.generated.now.settings.operator c.transformer_of.result _ lawful_policies empty)).begun (ap Err (is-write c.in-Err.error c.in-Err.ensures.cause.kinds (sym c.status_of-status.ensures ∙ six))));
+      unwritten = written-or c.status_of-status.result c.in-Err.error c.status_of-status.ensures c.in-Err.ensures.unwritten;
+      sink_still = status-or c.in-Err.error WriteFault c.status_of-status.result _ c.status_of-status.ensures refl c.in-Err.ensures.sink_still;
+      later = c.run_generated-ran.ensures.later;
+    }

@@ -1,0 +1,34 @@
+use Rattle.std.proofs.Common.{map}
+use Rattle.std.proofs.lemmas.Result.{err_from_is_err_and}
+use Rattle.slate_types.proofs.Reaching.{reads_then}
+use Rattle.slate_db.proofs.RowDamage.{opening_scan}
+use Rattle.slate_db.specs.Scans.{id_of}
+use Rattle.slate_script.proofs.Scanned.{noted_then, opened_by, opens_scan, same_noted, walked, walk_cause, walk_fault}
+use Rattle.slate_script.proofs.scan.scan_rows.Goals as goal
+
+pub walk-rows-requires : goal.walk-rows-requires
+walk-rows-requires g c =
+    let policies = map (λ p. (goal.FilterPolicy-dyn g (p.vtable, p.value)).meaning p.value) c.args.laws.now.policies.items in
+    let o = c.in_ok-scan.ensures in
+    opens_scan policies _ _ c.args.core.now c.scan-opened.new.self c.args.id.now c.args.order c.args.range c.in_ok-scan.scan (opened_by policies _ _ c.args.core.now c.scan-opened.new.self c.args.id.now c.args.order c.args.range c.in_ok-scan.scan c.requires.open o.noted o.names o.opened o.later.1 o.kept)
+
+pub returns : goal.returns
+returns g c =
+    let policies = map (λ p. (goal.FilterPolicy-dyn g (p.vtable, p.value)).meaning p.value) c.args.laws.now.policies.items in
+    let o = c.in_ok-scan.ensures in
+    let h = opened_by policies _ _ c.args.core.now c.scan-opened.new.self c.args.id.now c.args.order c.args.range c.in_ok-scan.scan c.requires.open o.noted o.names o.opened o.later.1 o.kept in
+    record {
+      noted = noted_then c.args.core.now c.scan-opened.new.self c.walk-rows.new.core c.args.id.now (id_of c.in_ok-scan.scan) h.names.named (_, h.notes) c.walk-rows.ensures.noted;
+      scanned = walked policies (λ v. v.items) c.walk-rows.result _ _ _ c.args.core.now c.scan-opened.new.self c.walk-rows.new.core c.args.id.now c.args.order c.args.range c.args.steps.now c.in_ok-scan.scan c.walk-rows.new.scan c.requires.range h c.walk-rows.ensures.took;
+      undamaged = walk_fault policies c.walk-rows.result _ _ _ c.args.core.now c.scan-opened.new.self c.args.id.now c.args.order c.args.range c.in_ok-scan.scan h c.scan-opened.ensures.reads c.walk-rows.ensures.refused;
+      cause = walk_cause policies c.walk-rows.result _ _ _ c.args.core.now c.scan-opened.new.self c.args.id.now c.args.order c.args.range c.in_ok-scan.scan h c.scan-opened.ensures.reads c.walk-rows.ensures.refused;
+      reads = reads_then _ _ _ c.scan-opened.ensures.reads c.walk-rows.ensures.reads;
+    }
+
+pub returns-in_err-scan-clause-noted : goal.returns-in_err-scan-clause-noted
+returns-in_err-scan-clause-noted g c = same_noted c.args.core.now c.scan-opened.new.self c.args.id.now c.in_err-scan.ensures.same
+
+pub returns-in_err-scan-clause-cause : goal.returns-in_err-scan-clause-cause
+returns-in_err-scan-clause-cause g c =
+    let p = err_from_is_err_and c.from_residual.result c.from_residual.ensures.1 in
+    rw (p.1, p.2) (opening_scan _ _ c.args.core.now c.in_err-scan.field-0.0 c.in_err-scan.ensures.cause)

@@ -1,0 +1,195 @@
+use Rattle.std.proofs.Common.{OnOk, inr, map, refl, sym, subst}
+use Rattle.std.specs.Prelude.{IfErr}
+use Rattle.slate_types.specs.World.{Made}
+use Rattle.slate_store.specs.Reach.{reach_of}
+use Rattle.slate_types.proofs.Reaching.{adds_none, puts_none, reads_put_nothing}
+use Rattle.slate_txn.specs.declared.line.Line.{Line}
+use Rattle.slate_db.specs.Parts.{IsTableError, meaning_of, counts_of}
+use Rattle.slate_script.specs.Session.{AnswersAs, Grows}
+use Rattle.slate_script.proofs.LineEnds.{keeps-core, keeps-settings, keeps-settled, memory-or-limit, or-limit, or-damage, or-operator, stores-at, limit-between, no-damage, no-error, shown-of}
+use Rattle.slate_script.specs.Told.{IsRefusedAt, asking_for}
+use Rattle.slate_script.proofs.SessionScans.{scan-limit, scan-shown}
+use Rattle.slate_script.proofs.SessionParts.{settled-answered, true-answered}
+use Rattle.slate_script.proofs.TablesAlone.{stays-where}
+use Rattle.slate_script.proofs.ToldLaws.{follows-reads, follows-still, stores-none, untrue-get}
+use Rattle.slate_script.proofs.session.Session.answer.Goals as goal
+
+pub returns-in_default : goal.returns-in_default
+returns-in_default g c =
+    let policies = map (λ p. (goal.FilterPolicy-dyn g (p.vtable, p.value)).meaning p.value) c.args.laws.now.policies.items in
+    record {
+      step = λ settled. c.answer_within.ensures.step (meaning_of g.M.MergeOperator.combine g.T.BlockTransformer.encoded g.T.BlockTransformer.decoded c.args.env.now.operator c.args.env.now.transformer);
+      settings = keeps-settings (meaning_of g.M.MergeOperator.combine g.T.BlockTransformer.encoded g.T.BlockTransformer.decoded c.args.env.now.operator c.args.env.now.transformer) c.answer_within.result c.args.self.now c.answer_within.new.self (stores-at c.answer_within.result (meaning_of g.M.MergeOperator.combine g.T.BlockTransformer.encoded g.T.BlockTransformer.decoded c.args.env.now.operator c.args.env.now.transformer) c.args.self.now c.answer_within.new.self c.answer_within.ensures.stores);
+      grows = c.answer_within.ensures.grows;
+      kept = λ settled. keeps-settled c.answer_within.result policies _ _ _ c.args.self.now c.answer_within.new.self refl (stores-at c.answer_within.result (meaning_of g.M.MergeOperator.combine g.T.BlockTransformer.encoded g.T.BlockTransformer.decoded c.args.env.now.operator c.args.env.now.transformer) c.args.self.now c.answer_within.new.self c.answer_within.ensures.stores) settled;
+      core_kept = λ kept. keeps-core c.answer_within.result (meaning_of g.M.MergeOperator.combine g.T.BlockTransformer.encoded g.T.BlockTransformer.decoded c.args.env.now.operator c.args.env.now.transformer) c.args.self.now c.answer_within.new.self (stores-at c.answer_within.result (meaning_of g.M.MergeOperator.combine g.T.BlockTransformer.encoded g.T.BlockTransformer.decoded c.args.env.now.operator c.args.env.now.transformer) c.args.self.now c.answer_within.new.self c.answer_within.ensures.stores) kept;
+      alone = λ settled alone. stays-where (meaning_of g.M.MergeOperator.combine g.T.BlockTransformer.encoded g.T.BlockTransformer.decoded c.args.env.now.operator c.args.env.now.transformer) c.answer_within.result _ _ _ _ c.args.self.now c.answer_within.new.self refl (stores-at c.answer_within.result (meaning_of g.M.MergeOperator.combine g.T.BlockTransformer.encoded g.T.BlockTransformer.decoded c.args.env.now.operator c.args.env.now.transformer) c.args.self.now c.answer_within.new.self c.answer_within.ensures.stores) alone;
+      cause = (let counts = counts_of (g.S.Store.faults c.args.env.now.store.now) g.M.MergeOperator.faults g.T.BlockTransformer.faults c.args.env.now.operator c.args.env.now.transformer in
+          or-damage c.answer_within.result counts counts c.args.self.now (memory-or-limit c.answer_within.result counts counts c.args.self.now c.answer_within.ensures.cause));
+      shown = (λ kept.
+          let counts = counts_of (g.S.Store.faults c.args.env.now.store.now) g.M.MergeOperator.faults g.T.BlockTransformer.faults c.args.env.now.operator c.args.env.now.transformer in
+          no-error _ c.answer_within.result counts counts c.args.self.now (memory-or-limit c.answer_within.result counts counts c.args.self.now c.answer_within.ensures.cause));
+      undamaged = (λ settled.
+          let counts = counts_of (g.S.Store.faults c.args.env.now.store.now) g.M.MergeOperator.faults g.T.BlockTransformer.faults c.args.env.now.operator c.args.env.now.transformer in
+          memory-or-limit c.answer_within.result counts counts c.args.self.now c.answer_within.ensures.cause);
+      follows = λ os settled. follows-still c.answer_within.result policies (meaning_of g.M.MergeOperator.combine g.T.BlockTransformer.encoded g.T.BlockTransformer.decoded c.args.env.now.operator c.args.env.now.transformer) os c.args.self.now c.answer_within.new.self (g.S.Store.acts c.args.env.now.store.now) (stores-at c.answer_within.result (meaning_of g.M.MergeOperator.combine g.T.BlockTransformer.encoded g.T.BlockTransformer.decoded c.args.env.now.operator c.args.env.now.transformer) c.args.self.now c.answer_within.new.self c.answer_within.ensures.stores) settled;
+      tables = stores-none (meaning_of g.M.MergeOperator.combine g.T.BlockTransformer.encoded g.T.BlockTransformer.decoded c.args.env.now.operator c.args.env.now.transformer) c.answer_within.result c.args.self.now c.answer_within.new.self _ _ (adds_none _) (stores-at c.answer_within.result (meaning_of g.M.MergeOperator.combine g.T.BlockTransformer.encoded g.T.BlockTransformer.decoded c.args.env.now.operator c.args.env.now.transformer) c.args.self.now c.answer_within.new.self c.answer_within.ensures.stores);
+      untrue = (λ os settled.
+          let counts = counts_of (g.S.Store.faults c.args.env.now.store.now) g.M.MergeOperator.faults g.T.BlockTransformer.faults c.args.env.now.operator c.args.env.now.transformer in
+          no-damage _ c.answer_within.result counts counts c.args.self.now (memory-or-limit c.answer_within.result counts counts c.args.self.now c.answer_within.ensures.cause));
+      puts = puts_none _;
+    }
+
+pub returns-in-Flush : goal.returns-in-Flush
+returns-in-Flush g c =
+    record {
+      step = (λ settled.
+          let m = meaning_of g.M.MergeOperator.combine g.T.BlockTransformer.encoded g.T.BlockTransformer.decoded c.args.env.now.operator c.args.env.now.transformer in
+          subst (λ (line : Line). AnswersAs m c.args.self.now c.flush.new.self line c.flush.result) (sym c.in-Flush.is) (c.flush.ensures.step m));
+      settings = c.flush.ensures.settings;
+      grows = subst (λ (line : Line). OnOk c.flush.result (Grows line c.args.self.now c.flush.new.self)) (sym c.in-Flush.is) c.flush.ensures.grows;
+      kept = c.flush.ensures.kept;
+      core_kept = c.flush.ensures.core_kept;
+      alone = c.flush.ensures.alone;
+      cause = or-operator c.flush.result (counts_of (g.S.Store.faults c.args.env.now.store.now) g.M.MergeOperator.faults g.T.BlockTransformer.faults c.args.env.now.operator c.args.env.now.transformer) (counts_of (g.S.Store.faults c.flush.new.env.store.now) g.M.MergeOperator.faults g.T.BlockTransformer.faults c.flush.new.env.operator c.flush.new.env.transformer) c.args.self.now c.flush.ensures.cause;
+      shown = λ kept. no-error _ c.flush.result (counts_of (g.S.Store.faults c.args.env.now.store.now) g.M.MergeOperator.faults g.T.BlockTransformer.faults c.args.env.now.operator c.args.env.now.transformer) (counts_of (g.S.Store.faults c.flush.new.env.store.now) g.M.MergeOperator.faults g.T.BlockTransformer.faults c.flush.new.env.operator c.flush.new.env.transformer) c.args.self.now (c.flush.ensures.operable kept);
+      undamaged = λ settled. c.flush.ensures.operable settled.kept;
+      follows = c.flush.ensures.follows;
+      tables = c.flush.ensures.tables;
+      untrue = λ os settled. no-damage _ c.flush.result (counts_of (g.S.Store.faults c.args.env.now.store.now) g.M.MergeOperator.faults g.T.BlockTransformer.faults c.args.env.now.operator c.args.env.now.transformer) (counts_of (g.S.Store.faults c.flush.new.env.store.now) g.M.MergeOperator.faults g.T.BlockTransformer.faults c.flush.new.env.operator c.flush.new.env.transformer) c.args.self.now (c.flush.ensures.operable settled.kept);
+      puts = c.flush.ensures.puts;
+    }
+
+pub returns-in-Get : goal.returns-in-Get
+returns-in-Get g c =
+    let policies = map (λ p. (goal.FilterPolicy-dyn g (p.vtable, p.value)).meaning p.value) c.args.laws.now.policies.items in
+    record {
+      step = (λ settled.
+          let m = meaning_of g.M.MergeOperator.combine g.T.BlockTransformer.encoded g.T.BlockTransformer.decoded c.args.env.now.operator c.args.env.now.transformer in
+          subst (λ (line : Line). AnswersAs m c.args.self.now c.get.new.self line c.get.result) (sym c.in-Get.is) (c.get.ensures.step (settled-answered policies (reach_of g.S.Store g.M.MergeOperator g.T.BlockTransformer c.args.env.now) (reach_of g.S.Store g.M.MergeOperator g.T.BlockTransformer c.get.new.env) c.args.self.now settled)));
+      settings = keeps-settings (meaning_of g.M.MergeOperator.combine g.T.BlockTransformer.encoded g.T.BlockTransformer.decoded c.args.env.now.operator c.args.env.now.transformer) c.get.result c.args.self.now c.get.new.self (stores-at c.get.result (meaning_of g.M.MergeOperator.combine g.T.BlockTransformer.encoded g.T.BlockTransformer.decoded c.args.env.now.operator c.args.env.now.transformer) c.args.self.now c.get.new.self c.get.ensures.stores);
+      grows = subst (λ (line : Line). OnOk c.get.result (Grows line c.args.self.now c.get.new.self)) (sym c.in-Get.is) c.get.ensures.grows;
+      kept = λ settled. keeps-settled c.get.result policies _ _ _ c.args.self.now c.get.new.self c.get.ensures.reads.objects (stores-at c.get.result (meaning_of g.M.MergeOperator.combine g.T.BlockTransformer.encoded g.T.BlockTransformer.decoded c.args.env.now.operator c.args.env.now.transformer) c.args.self.now c.get.new.self c.get.ensures.stores) settled;
+      core_kept = λ kept. keeps-core c.get.result (meaning_of g.M.MergeOperator.combine g.T.BlockTransformer.encoded g.T.BlockTransformer.decoded c.args.env.now.operator c.args.env.now.transformer) c.args.self.now c.get.new.self (stores-at c.get.result (meaning_of g.M.MergeOperator.combine g.T.BlockTransformer.encoded g.T.BlockTransformer.decoded c.args.env.now.operator c.args.env.now.transformer) c.args.self.now c.get.new.self c.get.ensures.stores) kept;
+      alone = λ settled alone. stays-where (meaning_of g.M.MergeOperator.combine g.T.BlockTransformer.encoded g.T.BlockTransformer.decoded c.args.env.now.operator c.args.env.now.transformer) c.get.result _ _ _ _ c.args.self.now c.get.new.self c.get.ensures.reads.objects (stores-at c.get.result (meaning_of g.M.MergeOperator.combine g.T.BlockTransformer.encoded g.T.BlockTransformer.decoded c.args.env.now.operator c.args.env.now.transformer) c.args.self.now c.get.new.self c.get.ensures.stores) alone;
+      cause = limit-between c.get.result (asking_for policies c.in-Get.key) (reach_of g.S.Store g.M.MergeOperator g.T.BlockTransformer c.args.env.now) (reach_of g.S.Store g.M.MergeOperator g.T.BlockTransformer c.get.new.env) c.args.self.now c.get.ensures.cause;
+      shown = λ kept. subst (λ (line : Line). IfErr c.get.result (λ x. IsTableError x → Made (reach_of g.S.Store g.M.MergeOperator g.T.BlockTransformer c.args.env.now) (reach_of g.S.Store g.M.MergeOperator g.T.BlockTransformer c.get.new.env) (λ reads. IsRefusedAt policies line (reach_of g.S.Store g.M.MergeOperator g.T.BlockTransformer c.args.env.now).meaning c.args.self.now.core reads x))) (sym c.in-Get.is)
+          (shown-of c.get.result (asking_for policies c.in-Get.key) (reach_of g.S.Store g.M.MergeOperator g.T.BlockTransformer c.args.env.now) (reach_of g.S.Store g.M.MergeOperator g.T.BlockTransformer c.get.new.env) c.args.self.now c.get.ensures.cause);
+      undamaged = λ settled. or-limit c.get.result (counts_of (g.S.Store.faults c.args.env.now.store.now) g.M.MergeOperator.faults g.T.BlockTransformer.faults c.args.env.now.operator c.args.env.now.transformer) (counts_of (g.S.Store.faults c.get.new.env.store.now) g.M.MergeOperator.faults g.T.BlockTransformer.faults c.get.new.env.operator c.get.new.env.transformer) c.args.self.now (c.get.ensures.undamaged (settled-answered policies (reach_of g.S.Store g.M.MergeOperator g.T.BlockTransformer c.args.env.now) (reach_of g.S.Store g.M.MergeOperator g.T.BlockTransformer c.get.new.env) c.args.self.now settled));
+      follows = λ os settled. follows-reads c.get.result policies (meaning_of g.M.MergeOperator.combine g.T.BlockTransformer.encoded g.T.BlockTransformer.decoded c.args.env.now.operator c.args.env.now.transformer) os c.args.self.now c.get.new.self (g.S.Store.acts c.args.env.now.store.now) (g.S.Store.acts c.get.new.env.store.now) c.get.ensures.reads.acts (stores-at c.get.result (meaning_of g.M.MergeOperator.combine g.T.BlockTransformer.encoded g.T.BlockTransformer.decoded c.args.env.now.operator c.args.env.now.transformer) c.args.self.now c.get.new.self c.get.ensures.stores) settled;
+      tables = stores-none (meaning_of g.M.MergeOperator.combine g.T.BlockTransformer.encoded g.T.BlockTransformer.decoded c.args.env.now.operator c.args.env.now.transformer) c.get.result c.args.self.now c.get.new.self _ _ c.get.ensures.reads.acts (stores-at c.get.result (meaning_of g.M.MergeOperator.combine g.T.BlockTransformer.encoded g.T.BlockTransformer.decoded c.args.env.now.operator c.args.env.now.transformer) c.args.self.now c.get.new.self c.get.ensures.stores);
+      untrue = λ os settled. untrue-get c.get.result os (g.S.Store.acts c.args.env.now.store.now) (g.S.Store.acts c.get.new.env.store.now) _ _ c.get.ensures.reads.acts (λ answers. c.get.ensures.undamaged (true-answered policies (reach_of g.S.Store g.M.MergeOperator g.T.BlockTransformer c.args.env.now) (reach_of g.S.Store g.M.MergeOperator g.T.BlockTransformer c.get.new.env) os c.args.self.now settled (inr answers)));
+      puts = reads_put_nothing _ _ c.get.ensures.reads;
+    }
+
+pub returns-in-Scan : goal.returns-in-Scan
+returns-in-Scan g c =
+    let policies = map (λ p. (goal.FilterPolicy-dyn g (p.vtable, p.value)).meaning p.value) c.args.laws.now.policies.items in
+    record {
+      step = (λ settled.
+          let m = meaning_of g.M.MergeOperator.combine g.T.BlockTransformer.encoded g.T.BlockTransformer.decoded c.args.env.now.operator c.args.env.now.transformer in
+          subst (λ (line : Line). AnswersAs m c.args.self.now c.scan.new.self line c.scan.result) (sym c.in-Scan.is) (c.scan.ensures.step (settled-answered policies (reach_of g.S.Store g.M.MergeOperator g.T.BlockTransformer c.args.env.now) (reach_of g.S.Store g.M.MergeOperator g.T.BlockTransformer c.scan.new.env) c.args.self.now settled)));
+      settings = keeps-settings (meaning_of g.M.MergeOperator.combine g.T.BlockTransformer.encoded g.T.BlockTransformer.decoded c.args.env.now.operator c.args.env.now.transformer) c.scan.result c.args.self.now c.scan.new.self (stores-at c.scan.result (meaning_of g.M.MergeOperator.combine g.T.BlockTransformer.encoded g.T.BlockTransformer.decoded c.args.env.now.operator c.args.env.now.transformer) c.args.self.now c.scan.new.self c.scan.ensures.stores);
+      grows = subst (λ (line : Line). OnOk c.scan.result (Grows line c.args.self.now c.scan.new.self)) (sym c.in-Scan.is) c.scan.ensures.grows;
+      kept = λ settled. keeps-settled c.scan.result policies _ _ _ c.args.self.now c.scan.new.self c.scan.ensures.reads.objects (stores-at c.scan.result (meaning_of g.M.MergeOperator.combine g.T.BlockTransformer.encoded g.T.BlockTransformer.decoded c.args.env.now.operator c.args.env.now.transformer) c.args.self.now c.scan.new.self c.scan.ensures.stores) settled;
+      core_kept = λ kept. keeps-core c.scan.result (meaning_of g.M.MergeOperator.combine g.T.BlockTransformer.encoded g.T.BlockTransformer.decoded c.args.env.now.operator c.args.env.now.transformer) c.args.self.now c.scan.new.self (stores-at c.scan.result (meaning_of g.M.MergeOperator.combine g.T.BlockTransformer.encoded g.T.BlockTransformer.decoded c.args.env.now.operator c.args.env.now.transformer) c.args.self.now c.scan.new.self c.scan.ensures.stores) kept;
+      alone = λ settled alone. stays-where (meaning_of g.M.MergeOperator.combine g.T.BlockTransformer.encoded g.T.BlockTransformer.decoded c.args.env.now.operator c.args.env.now.transformer) c.scan.result _ _ _ _ c.args.self.now c.scan.new.self c.scan.ensures.reads.objects (stores-at c.scan.result (meaning_of g.M.MergeOperator.combine g.T.BlockTransformer.encoded g.T.BlockTransformer.decoded c.args.env.now.operator c.args.env.now.transformer) c.args.self.now c.scan.new.self c.scan.ensures.stores) alone;
+      cause = scan-limit c.scan.result (reach_of g.S.Store g.M.MergeOperator g.T.BlockTransformer c.args.env.now) (reach_of g.S.Store g.M.MergeOperator g.T.BlockTransformer c.scan.new.env) c.args.self.now c.scan.ensures.cause;
+      shown = λ kept. subst (λ (line : Line). IfErr c.scan.result (λ x. IsTableError x → Made (reach_of g.S.Store g.M.MergeOperator g.T.BlockTransformer c.args.env.now) (reach_of g.S.Store g.M.MergeOperator g.T.BlockTransformer c.scan.new.env) (λ reads. IsRefusedAt policies line (reach_of g.S.Store g.M.MergeOperator g.T.BlockTransformer c.args.env.now).meaning c.args.self.now.core reads x))) (sym c.in-Scan.is)
+          (scan-shown c.scan.result (reach_of g.S.Store g.M.MergeOperator g.T.BlockTransformer c.args.env.now) (reach_of g.S.Store g.M.MergeOperator g.T.BlockTransformer c.scan.new.env) c.args.self.now c.scan.ensures.cause);
+      undamaged = λ settled. or-limit c.scan.result (counts_of (g.S.Store.faults c.args.env.now.store.now) g.M.MergeOperator.faults g.T.BlockTransformer.faults c.args.env.now.operator c.args.env.now.transformer) (counts_of (g.S.Store.faults c.scan.new.env.store.now) g.M.MergeOperator.faults g.T.BlockTransformer.faults c.scan.new.env.operator c.scan.new.env.transformer) c.args.self.now (c.scan.ensures.undamaged (settled-answered policies (reach_of g.S.Store g.M.MergeOperator g.T.BlockTransformer c.args.env.now) (reach_of g.S.Store g.M.MergeOperator g.T.BlockTransformer c.scan.new.env) c.args.self.now settled));
+      follows = λ os settled. follows-reads c.scan.result policies (meaning_of g.M.MergeOperator.combine g.T.BlockTransformer.encoded g.T.BlockTransformer.decoded c.args.env.now.operator c.args.env.now.transformer) os c.args.self.now c.scan.new.self (g.S.Store.acts c.args.env.now.store.now) (g.S.Store.acts c.scan.new.env.store.now) c.scan.ensures.reads.acts (stores-at c.scan.result (meaning_of g.M.MergeOperator.combine g.T.BlockTransformer.encoded g.T.BlockTransformer.decoded c.args.env.now.operator c.args.env.now.transformer) c.args.self.now c.scan.new.self c.scan.ensures.stores) settled;
+      tables = stores-none (meaning_of g.M.MergeOperator.combine g.T.BlockTransformer.encoded g.T.BlockTransformer.decoded c.args.env.now.operator c.args.env.now.transformer) c.scan.result c.args.self.now c.scan.new.self _ _ c.scan.ensures.reads.acts (stores-at c.scan.result (meaning_of g.M.MergeOperator.combine g.T.BlockTransformer.encoded g.T.BlockTransformer.decoded c.args.env.now.operator c.args.env.now.transformer) c.args.self.now c.scan.new.self c.scan.ensures.stores);
+      untrue = λ os settled. untrue-get c.scan.result os (g.S.Store.acts c.args.env.now.store.now) (g.S.Store.acts c.scan.new.env.store.now) _ _ c.scan.ensures.reads.acts (λ answers. c.scan.ensures.undamaged (true-answered policies (reach_of g.S.Store g.M.MergeOperator g.T.BlockTransformer c.args.env.now) (reach_of g.S.Store g.M.MergeOperator g.T.BlockTransformer c.scan.new.env) os c.args.self.now settled (inr answers)));
+      puts = reads_put_nothing _ _ c.scan.ensures.reads;
+    }
+
+pub returns-in-Write : goal.returns-in-Write
+returns-in-Write g c =
+    let policies = map (λ p. (goal.FilterPolicy-dyn g (p.vtable, p.value)).meaning p.value) c.args.laws.now.policies.items in
+    let m = meaning_of g.M.MergeOperator.combine g.T.BlockTransformer.encoded g.T.BlockTransformer.decoded c.args.env.now.operator c.args.env.now.transformer in
+    let old = counts_of (g.S.Store.faults c.args.env.now.store.now) g.M.MergeOperator.faults g.T.BlockTransformer.faults c.args.env.now.operator c.args.env.now.transformer in
+    let new = counts_of (g.S.Store.faults c.write.new.env.store.now) g.M.MergeOperator.faults g.T.BlockTransformer.faults c.write.new.env.operator c.write.new.env.transformer in
+    record {
+      step = λ settled. subst (λ (line : Line). AnswersAs m c.args.self.now c.write.new.self line c.write.result) (sym c.in-Write.is) c.write.ensures.step;
+      settings = keeps-settings (meaning_of g.M.MergeOperator.combine g.T.BlockTransformer.encoded g.T.BlockTransformer.decoded c.args.env.now.operator c.args.env.now.transformer) c.write.result c.args.self.now c.write.new.self c.write.ensures.stores;
+      grows = subst (λ (line : Line). OnOk c.write.result (Grows line c.args.self.now c.write.new.self)) (sym c.in-Write.is) c.write.ensures.grows;
+      kept = λ settled. keeps-settled c.write.result policies _ _ _ c.args.self.now c.write.new.self c.write.ensures.reads.objects c.write.ensures.stores settled;
+      core_kept = λ kept. keeps-core c.write.result m c.args.self.now c.write.new.self c.write.ensures.stores kept;
+      alone = λ settled alone. stays-where (meaning_of g.M.MergeOperator.combine g.T.BlockTransformer.encoded g.T.BlockTransformer.decoded c.args.env.now.operator c.args.env.now.transformer) c.write.result _ _ _ _ c.args.self.now c.write.new.self c.write.ensures.reads.objects c.write.ensures.stores alone;
+      cause = or-damage c.write.result old new c.args.self.now c.write.ensures.cause;
+      shown = λ kept. no-error _ c.write.result old new c.args.self.now c.write.ensures.cause;
+      undamaged = λ settled. c.write.ensures.cause;
+      follows = λ os settled. follows-reads c.write.result policies m os c.args.self.now c.write.new.self (g.S.Store.acts c.args.env.now.store.now) (g.S.Store.acts c.write.new.env.store.now) c.write.ensures.reads.acts c.write.ensures.stores settled;
+      tables = stores-none (meaning_of g.M.MergeOperator.combine g.T.BlockTransformer.encoded g.T.BlockTransformer.decoded c.args.env.now.operator c.args.env.now.transformer) c.write.result c.args.self.now c.write.new.self _ _ c.write.ensures.reads.acts c.write.ensures.stores;
+      untrue = λ os settled. no-damage _ c.write.result old new c.args.self.now c.write.ensures.cause;
+      puts = reads_put_nothing _ _ c.write.ensures.reads;
+    }
+
+pub returns-in-Merge : goal.returns-in-Merge
+returns-in-Merge g c =
+    let policies = map (λ p. (goal.FilterPolicy-dyn g (p.vtable, p.value)).meaning p.value) c.args.laws.now.policies.items in
+    let m = meaning_of g.M.MergeOperator.combine g.T.BlockTransformer.encoded g.T.BlockTransformer.decoded c.args.env.now.operator c.args.env.now.transformer in
+    let old = counts_of (g.S.Store.faults c.args.env.now.store.now) g.M.MergeOperator.faults g.T.BlockTransformer.faults c.args.env.now.operator c.args.env.now.transformer in
+    let new = counts_of (g.S.Store.faults c.merge.new.env.store.now) g.M.MergeOperator.faults g.T.BlockTransformer.faults c.merge.new.env.operator c.merge.new.env.transformer in
+    record {
+      step = λ settled. subst (λ (line : Line). AnswersAs m c.args.self.now c.merge.new.self line c.merge.result) (sym c.in-Merge.is) c.merge.ensures.step;
+      settings = keeps-settings (meaning_of g.M.MergeOperator.combine g.T.BlockTransformer.encoded g.T.BlockTransformer.decoded c.args.env.now.operator c.args.env.now.transformer) c.merge.result c.args.self.now c.merge.new.self c.merge.ensures.stores;
+      grows = subst (λ (line : Line). OnOk c.merge.result (Grows line c.args.self.now c.merge.new.self)) (sym c.in-Merge.is) c.merge.ensures.grows;
+      kept = λ settled. keeps-settled c.merge.result policies _ _ _ c.args.self.now c.merge.new.self c.merge.ensures.reads.objects c.merge.ensures.stores settled;
+      core_kept = λ kept. keeps-core c.merge.result m c.args.self.now c.merge.new.self c.merge.ensures.stores kept;
+      alone = λ settled alone. stays-where (meaning_of g.M.MergeOperator.combine g.T.BlockTransformer.encoded g.T.BlockTransformer.decoded c.args.env.now.operator c.args.env.now.transformer) c.merge.result _ _ _ _ c.args.self.now c.merge.new.self c.merge.ensures.reads.objects c.merge.ensures.stores alone;
+      cause = or-damage c.merge.result old new c.args.self.now c.merge.ensures.cause;
+      shown = λ kept. no-error _ c.merge.result old new c.args.self.now c.merge.ensures.cause;
+      undamaged = λ settled. c.merge.ensures.cause;
+      follows = λ os settled. follows-reads c.merge.result policies m os c.args.self.now c.merge.new.self (g.S.Store.acts c.args.env.now.store.now) (g.S.Store.acts c.merge.new.env.store.now) c.merge.ensures.reads.acts c.merge.ensures.stores settled;
+      tables = stores-none (meaning_of g.M.MergeOperator.combine g.T.BlockTransformer.encoded g.T.BlockTransformer.decoded c.args.env.now.operator c.args.env.now.transformer) c.merge.result c.args.self.now c.merge.new.self _ _ c.merge.ensures.reads.acts c.merge.ensures.stores;
+      untrue = λ os settled. no-damage _ c.merge.result old new c.args.self.now c.merge.ensures.cause;
+      puts = reads_put_nothing _ _ c.merge.ensures.reads;
+    }
+
+pub returns-in-Commit : goal.returns-in-Commit
+returns-in-Commit g c =
+    let policies = map (λ p. (goal.FilterPolicy-dyn g (p.vtable, p.value)).meaning p.value) c.args.laws.now.policies.items in
+    let m = meaning_of g.M.MergeOperator.combine g.T.BlockTransformer.encoded g.T.BlockTransformer.decoded c.args.env.now.operator c.args.env.now.transformer in
+    let old = counts_of (g.S.Store.faults c.args.env.now.store.now) g.M.MergeOperator.faults g.T.BlockTransformer.faults c.args.env.now.operator c.args.env.now.transformer in
+    let new = counts_of (g.S.Store.faults c.commit.new.env.store.now) g.M.MergeOperator.faults g.T.BlockTransformer.faults c.commit.new.env.operator c.commit.new.env.transformer in
+    record {
+      step = λ settled. subst (λ (line : Line). AnswersAs m c.args.self.now c.commit.new.self line c.commit.result) (sym c.in-Commit.is) (c.commit.ensures.step settled.kept.2);
+      settings = keeps-settings (meaning_of g.M.MergeOperator.combine g.T.BlockTransformer.encoded g.T.BlockTransformer.decoded c.args.env.now.operator c.args.env.now.transformer) c.commit.result c.args.self.now c.commit.new.self c.commit.ensures.stores;
+      grows = subst (λ (line : Line). OnOk c.commit.result (Grows line c.args.self.now c.commit.new.self)) (sym c.in-Commit.is) c.commit.ensures.grows;
+      kept = λ settled. keeps-settled c.commit.result policies _ _ _ c.args.self.now c.commit.new.self c.commit.ensures.reads.objects c.commit.ensures.stores settled;
+      core_kept = λ kept. keeps-core c.commit.result m c.args.self.now c.commit.new.self c.commit.ensures.stores kept;
+      alone = λ settled alone. stays-where (meaning_of g.M.MergeOperator.combine g.T.BlockTransformer.encoded g.T.BlockTransformer.decoded c.args.env.now.operator c.args.env.now.transformer) c.commit.result _ _ _ _ c.args.self.now c.commit.new.self c.commit.ensures.reads.objects c.commit.ensures.stores alone;
+      cause = or-damage c.commit.result old new c.args.self.now c.commit.ensures.cause;
+      shown = λ kept. no-error _ c.commit.result old new c.args.self.now c.commit.ensures.cause;
+      undamaged = λ settled. c.commit.ensures.cause;
+      follows = λ os settled. follows-reads c.commit.result policies m os c.args.self.now c.commit.new.self (g.S.Store.acts c.args.env.now.store.now) (g.S.Store.acts c.commit.new.env.store.now) c.commit.ensures.reads.acts c.commit.ensures.stores settled;
+      tables = stores-none (meaning_of g.M.MergeOperator.combine g.T.BlockTransformer.encoded g.T.BlockTransformer.decoded c.args.env.now.operator c.args.env.now.transformer) c.commit.result c.args.self.now c.commit.new.self _ _ c.commit.ensures.reads.acts c.commit.ensures.stores;
+      untrue = λ os settled. no-damage _ c.commit.result old new c.args.self.now c.commit.ensures.cause;
+      puts = reads_put_nothing _ _ c.commit.ensures.reads;
+    }
+
+pub answer_within-requires-clause-built : goal.answer_within-requires-clause-built
+answer_within-requires-clause-built g c = c.requires.built
+
+pub answer_within-requires-clause-moment : goal.answer_within-requires-clause-moment
+answer_within-requires-clause-moment g c = c.requires.moment
+
+pub answer_within-requires-clause-no_get : goal.answer_within-requires-clause-no_get
+answer_within-requires-clause-no_get g c = λ name key is. c.in_default.not-Get name key is
+
+pub answer_within-requires-clause-no_scan : goal.answer_within-requires-clause-no_scan
+answer_within-requires-clause-no_scan g c = λ name order start end sts is. c.in_default.not-Scan name order start end sts is
+
+pub answer_within-requires-clause-no_flush : goal.answer_within-requires-clause-no_flush
+answer_within-requires-clause-no_flush g c = c.in_default.not-Flush
+
+pub answer_within-requires-clause-no_write : goal.answer_within-requires-clause-no_write
+answer_within-requires-clause-no_write g c = λ ops is. c.in_default.not-Write ops is
+
+pub answer_within-requires-clause-no_merge : goal.answer_within-requires-clause-no_merge
+answer_within-requires-clause-no_merge g c = λ name key value ttl is. c.in_default.not-Merge name key value ttl is
+
+pub answer_within-requires-clause-no_commit : goal.answer_within-requires-clause-no_commit
+answer_within-requires-clause-no_commit g c = λ name is. c.in_default.not-Commit name is

@@ -1,0 +1,147 @@
+use Rattle.std.proofs.Common.{◌≡◌, ℕ, ◌⊎◌, List, length, None, Some, Ok, OnOk, Result, cond, sym, ap, subst, ◌∙◌, arith}
+use Rattle.std.specs.Prelude.{IfErr}
+use Rattle.std.specs.Str.{bytes_eq}
+use Rattle.slate_types.specs.Outside.{IsCounted}
+use Rattle.slate_types.proofs.Reaching.{reads_none}
+use Rattle.slate_txn.specs.Named.{find_named, without}
+use Rattle.slate_txn.specs.Conflict.{conflict}
+use Rattle.slate_txn.specs.State.{Tx}
+use Rattle.slate_txn.specs.Reply.{Committed}
+use Rattle.slate_txn.specs.declared.line.Line.TheVariants as lines
+use Rattle.slate_db.specs.Installs.{runs_of}
+use Rattle.slate_db.specs.Meaning.{rules_of}
+use Rattle.slate_db.specs.Parts.{counts_of, meaning_of}
+use Rattle.slate_db.specs.Sound.{IsKept, IsOperable}
+use Rattle.slate_language.specs.declared.reply.Answer.{Answer}
+use Rattle.slate_language.specs.declared.reply.Answer.TheVariants as answers
+use Rattle.slate_types.specs.declared.error.SlateDBError.{SlateDBError}
+use Rattle.slate_types.specs.declared.error.SlateDBError.TheVariants as errors
+use Rattle.slate_script.specs.Session.{SessionModel, AnswersAs, Grows, IsLimit, NamesStand, StoresNothing}
+use Rattle.slate_script.proofs.NamesLaws.{find_named-lookup, named-after}
+use Rattle.slate_script.proofs.SessionNames.{names-closed}
+use Rattle.slate_script.proofs.SessionSteps.{IsNamed, given-moment, named-of}
+use Rattle.slate_script.proofs.SessionOperations.{commit-unknown, commit-as, commit-moment, refused-as, refused-moment}
+use Rattle.slate_script.proofs.SessionLeaves.{Closes, closes-committed, closes-ended, leaves-closed, stores-by}
+use Rattle.slate_script.proofs.Refusing.{commit-cause}
+use Rattle.slate_script.proofs.Growth.{grows, takes-closed}
+use Rattle.slate_script.proofs.Running.{always}
+use Rattle.slate_script.proofs.session.Session.commit.Goals as goal
+use Rattle.slate_script.proofs.session.Session.commit.Goals.{in-Ok, in-Err}
+
+pub returns-in_default : goal.returns-in_default
+returns-in_default g c =
+    record {
+      step = (λ operable.
+          let m = meaning_of g.M.MergeOperator.combine g.T.BlockTransformer.encoded g.T.BlockTransformer.decoded c.args.env.now.operator c.args.env.now.transformer in
+          let before : SessionModel = record { core = c.self.inside.core; names = c.self.inside.names.entries; snapshot_names = c.self.inside.snapshot_names.entries; now = c.self.inside.now } in
+          let none : find_named c.args.name before.names ≡ None = find_named-lookup c.args.name before.names ∙ sym c.in_default.ensures.value in
+          subst (λ (v : SessionModel). AnswersAs m v (record before { names = c.remove.new.self.entries }) (lines.Commit c.args.name) (Ok (answers.Refused (errors.UnknownTransaction c.args.name)))) c.self.view_is
+          (subst (λ (ns : List (List ℕ × List ℕ)). AnswersAs m before (record before { names = ns }) (lines.Commit c.args.name) (Ok (answers.Refused (errors.UnknownTransaction c.args.name)))) (sym c.in_default.ensures.unchanged)
+          (commit-unknown m before c.args.name none)));
+      stores = (let same : length c.self.inside.core.events ≡ length c.args.self.now.core.events = ap (λ (v : SessionModel). length v.core.events) c.self.view_is in
+          record {
+            settings = ap (λ (v : SessionModel). v.core.settings) c.self.view_is;
+            runs = ap (λ (v : SessionModel). runs_of v.core.events) c.self.view_is;
+            later = omega (arith, same);
+            kept = λ k. subst (λ (v : SessionModel). IsKept (meaning_of g.M.MergeOperator.combine g.T.BlockTransformer.encoded g.T.BlockTransformer.decoded c.args.env.now.operator c.args.env.now.transformer) v.core) (sym c.self.view_is) k;
+          });
+      grows = (let before : SessionModel = record { core = c.self.inside.core; names = c.self.inside.names.entries; snapshot_names = c.self.inside.snapshot_names.entries; now = c.self.inside.now } in
+          subst (λ (v : SessionModel). Grows (lines.Commit c.args.name) v (record before { names = c.remove.new.self.entries })) c.self.view_is (omega arith, omega arith));
+      cause = tt;
+      reads = reads_none _;
+    }
+
+pub commit-requires : goal.commit-requires
+commit-requires g c = (search, (search, c.self.invariant.0.transactions.opened c.args.name c.in-Some.id (find_named-lookup c.args.name c.self.inside.names.entries ∙ sym c.in-Some.ensures.value)))
+
+pub invariant_of-self-2 : goal.invariant_of-self-2
+invariant_of-self-2 g c =
+    let before : SessionModel = record { core = c.self.inside.core; names = c.self.inside.names.entries; snapshot_names = c.self.inside.snapshot_names.entries; now = c.self.inside.now } in
+    let id = c.in-Some.id in
+    let known : find_named c.args.name before.names ≡ Some id = find_named-lookup c.args.name before.names ∙ sym c.in-Some.ensures.value in
+    let t : IsNamed (find_named id before.core.state.txns) = named-of (find_named id before.core.state.txns) (c.self.invariant.0.transactions.opened c.args.name id known) in
+    let closed : Closes before.core c.commit.new.self id = elim c.match-commit.branch [
+      | in-Ok w ↦ closes-committed before.core c.commit.new.self id w.in-Ok.seq _ t.value (w.in-Ok.ensures.event t.value t.is)
+      | in-Err w ↦ closes-ended before.core c.commit.new.self id w.in-Err.ensures.ended
+    ] in
+    let updates : (q : List ℕ) → find_named q c.remove.new.self.entries ≡ cond (bytes_eq c.args.name q) None (find_named q before.names) = λ q. named-after c.args.name q None before.names c.remove.new.self.entries (c.remove.ensures.updates.0 q) in (
+      subst (λ (ts : List (List ℕ × Tx)). NamesStand c.remove.new.self.entries before.snapshot_names ts c.commit.new.self.state.snapshots) (sym closed.txns)
+          (subst (λ (ss : List (List ℕ × ℕ)). NamesStand c.remove.new.self.entries before.snapshot_names (without id before.core.state.txns) ss) (sym closed.snapshots)
+          (names-closed c.args.name id before.names c.remove.new.self.entries before.snapshot_names before.core.state.txns before.core.state.snapshots c.self.invariant.0 known updates)),
+      c.self.invariant.1,
+    )
+
+pub returns-clause-step : goal.returns-clause-step
+returns-clause-step g c = λ operable.
+    let m = meaning_of g.M.MergeOperator.combine g.T.BlockTransformer.encoded g.T.BlockTransformer.decoded c.args.env.now.operator c.args.env.now.transformer in
+    let old-counts = counts_of (g.S.Store.faults c.args.env.now.store.now) g.M.MergeOperator.faults g.T.BlockTransformer.faults c.args.env.now.operator c.args.env.now.transformer in
+    let new-counts = counts_of (g.S.Store.faults c.commit.new.env.store.now) g.M.MergeOperator.faults g.T.BlockTransformer.faults c.commit.new.env.operator c.commit.new.env.transformer in
+    let before : SessionModel = record { core = c.self.inside.core; names = c.self.inside.names.entries; snapshot_names = c.self.inside.snapshot_names.entries; now = c.self.inside.now } in
+    let id = c.in-Some.id in
+    let known : find_named c.args.name before.names ≡ Some id = find_named-lookup c.args.name before.names ∙ sym c.in-Some.ensures.value in
+    let t : IsNamed (find_named id before.core.state.txns) = named-of (find_named id before.core.state.txns) (c.self.invariant.0.transactions.opened c.args.name id known) in
+    let closed : Closes before.core c.commit.new.self id = elim c.match-commit.branch [
+      | in-Ok w ↦ closes-committed before.core c.commit.new.self id w.in-Ok.seq _ t.value (w.in-Ok.ensures.event t.value t.is)
+      | in-Err w ↦ closes-ended before.core c.commit.new.self id w.in-Err.ensures.ended
+    ] in
+    let updates : (q : List ℕ) → find_named q c.remove.new.self.entries ≡ cond (bytes_eq c.args.name q) None (find_named q before.names) = λ q. named-after c.args.name q None before.names c.remove.new.self.entries (c.remove.ensures.updates.0 q) in
+    let after : SessionModel = record before { core = c.commit.new.self; names = c.remove.new.self.entries } in
+    subst (λ (v : SessionModel). AnswersAs m v after (lines.Commit c.args.name) c.match-commit.result) c.self.view_is
+    (elim c.match-commit.branch [
+      | in-Ok w ↦ subst (λ (r : Result Answer SlateDBError). AnswersAs m before after (lines.Commit c.args.name) r) (sym w.result-is)
+          (commit-as m before c.commit.new.self c.remove.new.self.entries c.args.name id (answers.Committed w.in-Ok.seq) c.self.invariant.0 known closed.txns closed.snapshots closed.flushed updates
+          (commit-moment (rules_of before.core.settings m) before.core c.commit.new.self id (Committed w.in-Ok.seq) (given-moment c.self.inside.now c.self.invariant.1) w.in-Ok.ensures.step))
+      | in-Err w ↦ subst (λ (r : Result Answer SlateDBError). AnswersAs m before after (lines.Commit c.args.name) r) (sym w.result-is)
+          (refused-as m old-counts new-counts before c.commit.new.self c.remove.new.self.entries c.args.name id w.in-Err.error w.refused.result
+          (λ a. commit-as m before c.commit.new.self c.remove.new.self.entries c.args.name id a c.self.invariant.0 known closed.txns closed.snapshots closed.flushed updates)
+          w.refused.ensures.reply w.refused.ensures.answered
+          (refused-moment m before.core c.commit.new.self id w.in-Err.error (given-moment c.self.inside.now c.self.invariant.1)
+          (w.in-Err.ensures.refused (subst (λ (v : SessionModel). IsOperable m v.core) (sym c.self.view_is) operable))))
+    ])
+
+pub returns-clause-stores : goal.returns-clause-stores
+returns-clause-stores g c =
+    let before : SessionModel = record { core = c.self.inside.core; names = c.self.inside.names.entries; snapshot_names = c.self.inside.snapshot_names.entries; now = c.self.inside.now } in
+    let id = c.in-Some.id in
+    let known : find_named c.args.name before.names ≡ Some id = find_named-lookup c.args.name before.names ∙ sym c.in-Some.ensures.value in
+    let t : IsNamed (find_named id before.core.state.txns) = named-of (find_named id before.core.state.txns) (c.self.invariant.0.transactions.opened c.args.name id known) in
+    let closed : Closes before.core c.commit.new.self id = elim c.match-commit.branch [
+      | in-Ok w ↦ closes-committed before.core c.commit.new.self id w.in-Ok.seq _ t.value (w.in-Ok.ensures.event t.value t.is)
+      | in-Err w ↦ closes-ended before.core c.commit.new.self id w.in-Err.ensures.ended
+    ] in
+    let m = meaning_of g.M.MergeOperator.combine g.T.BlockTransformer.encoded g.T.BlockTransformer.decoded c.args.env.now.operator c.args.env.now.transformer in
+    subst (λ (v : SessionModel). OnOk c.match-commit.result (StoresNothing m v (record before { core = c.commit.new.self; names = c.remove.new.self.entries }))) c.self.view_is
+    (always c.match-commit.result (stores-by m before c.commit.new.self c.remove.new.self.entries before.snapshot_names before.now (leaves-closed before.core c.commit.new.self id closed) c.commit.ensures.kept))
+
+pub returns-clause-grows : goal.returns-clause-grows
+returns-clause-grows g c =
+    let before : SessionModel = record { core = c.self.inside.core; names = c.self.inside.names.entries; snapshot_names = c.self.inside.snapshot_names.entries; now = c.self.inside.now } in
+    let id = c.in-Some.id in
+    let known : find_named c.args.name before.names ≡ Some id = find_named-lookup c.args.name before.names ∙ sym c.in-Some.ensures.value in
+    let t : IsNamed (find_named id before.core.state.txns) = named-of (find_named id before.core.state.txns) (c.self.invariant.0.transactions.opened c.args.name id known) in
+    let closed : Closes before.core c.commit.new.self id = elim c.match-commit.branch [
+      | in-Ok w ↦ closes-committed before.core c.commit.new.self id w.in-Ok.seq _ t.value (w.in-Ok.ensures.event t.value t.is)
+      | in-Err w ↦ closes-ended before.core c.commit.new.self id w.in-Err.ensures.ended
+    ] in
+    subst (λ (v : SessionModel). OnOk c.match-commit.result (Grows (lines.Commit c.args.name) v (record before { core = c.commit.new.self; names = c.remove.new.self.entries }))) c.self.view_is
+    (always c.match-commit.result (grows before c.commit.new.self c.remove.new.self.entries before.snapshot_names before.now (lines.Commit c.args.name) 0 (omega arith)
+    (takes-closed before.core c.commit.new.self id t.value closed t.is (c.commit.ensures.load t.value t.is))))
+
+pub returns-clause-cause : goal.returns-clause-cause
+returns-clause-cause g c =
+    let before : SessionModel = record { core = c.self.inside.core; names = c.self.inside.names.entries; snapshot_names = c.self.inside.snapshot_names.entries; now = c.self.inside.now } in
+    let id = c.in-Some.id in
+    let known : find_named c.args.name before.names ≡ Some id = find_named-lookup c.args.name before.names ∙ sym c.in-Some.ensures.value in
+    let t : IsNamed (find_named id before.core.state.txns) = named-of (find_named id before.core.state.txns) (c.self.invariant.0.transactions.opened c.args.name id known) in
+    let m = meaning_of g.M.MergeOperator.combine g.T.BlockTransformer.encoded g.T.BlockTransformer.decoded c.args.env.now.operator c.args.env.now.transformer in
+    let old = counts_of (g.S.Store.faults c.args.env.now.store.now) g.M.MergeOperator.faults g.T.BlockTransformer.faults c.args.env.now.operator c.args.env.now.transformer in
+    let new = counts_of (g.S.Store.faults c.commit.new.env.store.now) g.M.MergeOperator.faults g.T.BlockTransformer.faults c.commit.new.env.operator c.commit.new.env.transformer in
+    subst (λ (v : SessionModel). IfErr c.match-commit.result (λ e. IsCounted old new e ⊎ IsLimit v e)) c.self.view_is
+    (elim c.match-commit.branch [
+      | in-Ok w ↦ subst (λ (r : Result Answer SlateDBError). IfErr r (λ e. IsCounted old new e ⊎ IsLimit before e)) (sym w.result-is) tt
+      | in-Err w ↦ subst (λ (r : Result Answer SlateDBError). IfErr r (λ e. IsCounted old new e ⊎ IsLimit before e)) (sym w.result-is)
+          (commit-cause old new before (conflict before.core.state.commits t.value) m.combine _ _ _ t.value.ops w.in-Err.error w.refused.result w.refused.ensures.other (w.in-Err.ensures.cause t.value t.is))
+    ])
+
+pub returns-clause-reads : goal.returns-clause-reads
+returns-clause-reads g c = c.commit.ensures.reads

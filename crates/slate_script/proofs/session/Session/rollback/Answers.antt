@@ -1,0 +1,65 @@
+use Rattle.std.proofs.Common.{arith, ◌≡◌, None, Some, Ok, List, ℕ, refl, sym, subst, ◌∙◌, ap}
+use Rattle.slate_txn.specs.Named.{find_named}
+use Rattle.slate_txn.specs.State.{State}
+use Rattle.slate_txn.specs.declared.event.Event.TheVariants as events
+use Rattle.slate_txn.specs.declared.line.Line.TheVariants as lines
+use Rattle.slate_db.specs.Meaning.{Meaning, rules_of}
+use Rattle.slate_language.specs.declared.reply.Answer.TheVariants as answers
+use Rattle.slate_script.specs.Session.{SessionModel, AnswersAs, Grows, NamesStand, StoresNothing}
+use Rattle.slate_script.proofs.NamesLaws.{find_named-lookup, named-after}
+use Rattle.slate_script.proofs.SessionNames.{closes-txn, names-closed}
+use Rattle.slate_script.proofs.SessionSteps.{rollback-closes, plain-meaning}
+use Rattle.slate_script.proofs.SessionLeaves.{leaves-event, stores}
+use Rattle.slate_script.proofs.Growth.{closed-fewer, closed-own, grows, takes-event}
+use Rattle.slate_script.proofs.session.Session.rollback.Goals as goal
+
+pub release-requires : goal.release-requires
+release-requires c = ap (find_named c.args.name) c.in_default.ensures.unchanged ∙ find_named-lookup c.args.name c.self.inside.names.entries ∙ sym c.in_default.ensures.value
+
+pub returns-in_default-clause-step : goal.returns-in_default-clause-step
+returns-in_default-clause-step c m =
+    let before : SessionModel = record { core = c.self.inside.core; names = c.self.inside.names.entries; snapshot_names = c.self.inside.snapshot_names.entries; now = c.self.inside.now } in
+    subst (λ (v : SessionModel). AnswersAs m v c.release.new.self (lines.Rollback c.args.name) (Ok c.release.result)) c.self.view_is
+    (subst (λ (ns : List (List ℕ × List ℕ)). AnswersAs m (record before { names = ns }) c.release.new.self (lines.Rollback c.args.name) (Ok c.release.result)) c.in_default.ensures.unchanged (c.release.ensures.step m))
+
+pub returns-in_default-clause-stores : goal.returns-in_default-clause-stores
+returns-in_default-clause-stores c m =
+    let before : SessionModel = record { core = c.self.inside.core; names = c.self.inside.names.entries; snapshot_names = c.self.inside.snapshot_names.entries; now = c.self.inside.now } in
+    subst (λ (v : SessionModel). StoresNothing m v c.release.new.self) c.self.view_is
+    (subst (λ (ns : List (List ℕ × List ℕ)). StoresNothing m (record before { names = ns }) c.release.new.self) c.in_default.ensures.unchanged (c.release.ensures.stores m))
+
+pub rollback-requires : goal.rollback-requires
+rollback-requires c = c.self.invariant.0.transactions.opened c.args.name c.in-Some.id (find_named-lookup c.args.name c.self.inside.names.entries ∙ sym c.in-Some.ensures.value)
+
+pub invariant_of-self-2 : goal.invariant_of-self-2
+invariant_of-self-2 c =
+    let before : SessionModel = record { core = c.self.inside.core; names = c.self.inside.names.entries; snapshot_names = c.self.inside.snapshot_names.entries; now = c.self.inside.now } in
+    let known : find_named c.args.name before.names ≡ Some c.in-Some.id = find_named-lookup c.args.name before.names ∙ sym c.in-Some.ensures.value in (
+      subst (λ (s : State). NamesStand c.remove.new.self.entries before.snapshot_names s.txns s.snapshots)
+          (sym (closes-txn (rules_of before.core.settings plain-meaning) before.core.state c.rollback.new.self.state c.args.name c.in-Some.id (c.rollback.ensures.step plain-meaning) c.self.invariant.0 known))
+          (names-closed c.args.name c.in-Some.id before.names c.remove.new.self.entries before.snapshot_names before.core.state.txns before.core.state.snapshots c.self.invariant.0 known
+          (λ q. named-after c.args.name q None before.names c.remove.new.self.entries (c.remove.ensures.updates.0 q))),
+      c.self.invariant.1,
+    )
+
+pub returns : goal.returns
+returns c =
+    record {
+      step = (λ m.
+          let before : SessionModel = record { core = c.self.inside.core; names = c.self.inside.names.entries; snapshot_names = c.self.inside.snapshot_names.entries; now = c.self.inside.now } in
+          let known : find_named c.args.name before.names ≡ Some c.in-Some.id = find_named-lookup c.args.name before.names ∙ sym c.in-Some.ensures.value in
+          subst (λ (v : SessionModel). AnswersAs m v (record before { core = c.rollback.new.self; names = c.remove.new.self.entries }) (lines.Rollback c.args.name) (Ok answers.Done)) c.self.view_is
+          (rollback-closes m before c.rollback.new.self c.remove.new.self.entries c.args.name c.in-Some.id c.self.invariant.0 known
+          (closes-txn (rules_of before.core.settings m) before.core.state c.rollback.new.self.state c.args.name c.in-Some.id (c.rollback.ensures.step m) c.self.invariant.0 known)
+          (λ q. named-after c.args.name q None before.names c.remove.new.self.entries (c.remove.ensures.updates.0 q))));
+      stores = (let before : SessionModel = record { core = c.self.inside.core; names = c.self.inside.names.entries; snapshot_names = c.self.inside.snapshot_names.entries; now = c.self.inside.now } in
+          subst (λ (v : SessionModel). (m : Meaning) → StoresNothing m v (record before { core = c.rollback.new.self; names = c.remove.new.self.entries })) c.self.view_is
+          (stores before c.rollback.new.self c.remove.new.self.entries before.snapshot_names before.now (leaves-event c.self.inside.core c.rollback.new.self (events.End c.in-Some.id) c.rollback.ensures.event refl) c.rollback.ensures.kept));
+      grows = (let before : SessionModel = record { core = c.self.inside.core; names = c.self.inside.names.entries; snapshot_names = c.self.inside.snapshot_names.entries; now = c.self.inside.now } in
+          let known : find_named c.args.name before.names ≡ Some c.in-Some.id = find_named-lookup c.args.name before.names ∙ sym c.in-Some.ensures.value in
+          let is = closes-txn (rules_of before.core.settings plain-meaning) before.core.state c.rollback.new.self.state c.args.name c.in-Some.id (c.rollback.ensures.step plain-meaning) c.self.invariant.0 known in
+          subst (λ (v : SessionModel). Grows (lines.Rollback c.args.name) v (record before { core = c.rollback.new.self; names = c.remove.new.self.entries })) c.self.view_is
+          (grows before c.rollback.new.self c.remove.new.self.entries before.snapshot_names before.now (lines.Rollback c.args.name) 0 (omega arith)
+          (takes-event c.self.inside.core c.rollback.new.self (events.End c.in-Some.id) c.rollback.ensures.event
+          (closed-fewer before.core.state c.rollback.new.self.state c.in-Some.id is) (closed-own before.core.state c.rollback.new.self.state c.in-Some.id is))));
+    }

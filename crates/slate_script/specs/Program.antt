@@ -1,0 +1,39 @@
+-- What a program that runs a script ends with.
+--     main_rules s      what the model knows of what the words set: the options, and the operator where one is named
+--     changed mask      what the transformer of a word makes of bytes, where one is named
+--     parts_of s      what the parts mean that the words name
+--     status e      the exit status of a run that an error ended
+--     IsStatus n      the statuses that there are: 0, 2 for words that aren't known, and those of errors
+--     IsDamageStatus n      those of a table that isn't what was stored
+--     IsGeneratedStatus n      those of a run over a script that it makes for itself
+use Rattle.std.specs.Prelude.{◌≡◌, ℕ, ◌⊎◌, List, Option, Some, None, option_map, unwrap_or}
+use Rattle.slate_types.specs.declared.error.SlateDBError.{SlateDBError}
+use Rattle.slate_types.specs.ExitStatus as exit
+use Rattle.slate_txn.specs.Settings.{settings_of, rules}
+use Rattle.slate_txn.specs.State.{Rules}
+use Rattle.slate_db.specs.Meaning.{Meaning}
+use Rattle.slate_language.specs.Parts.{named, xored}
+use Rattle.slate_language.specs.declared.words.Settings.{Settings}
+
+abbrev pub main_rules : Settings → Rules
+main_rules s = rules (settings_of s.options) (option_map named s.operator) None
+
+abbrev pub changed : Option ℕ → List ℕ → List ℕ
+changed None bytes = bytes
+changed (Some mask) bytes = xored mask bytes
+
+abbrev pub parts_of : Settings → Meaning
+parts_of s = record { combine = option_map named s.operator; encode = changed s.mask; decode = changed s.mask }
+
+-- a run is ended by no error that has no status
+abbrev pub status : SlateDBError → ℕ
+status e = unwrap_or (exit.status e) 20
+
+abbrev pub IsDamageStatus : ℕ → Type 0
+IsDamageStatus n = (n ≡ 12) ⊎ (n ≡ 14) ⊎ (n ≡ 15) ⊎ (n ≡ 16) ⊎ (n ≡ 18) ⊎ (n ≡ 19)
+
+abbrev pub IsStatus : ℕ → Type 0
+IsStatus n = (n ≡ 0) ⊎ (n ≡ 2) ⊎ (n ≡ 3) ⊎ (n ≡ 4) ⊎ (n ≡ 5) ⊎ (n ≡ 6) ⊎ (n ≡ 7) ⊎ IsDamageStatus n ⊎ (n ≡ 20)
+
+abbrev pub IsGeneratedStatus : ℕ → Type 0
+IsGeneratedStatus n = (n ≡ 0) ⊎ (n ≡ 6) ⊎ (n ≡ 7) ⊎ IsDamageStatus n ⊎ (n ≡ 20)

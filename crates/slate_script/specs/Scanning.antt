@@ -1,0 +1,53 @@
+-- What calls on a scan that was opened did and met. before, after: what they reach; c, d: the core; x, y: the scan
+--     IsNoted c d id      they noted steps in the transcript under the id, and changed nothing else
+--     Took means before after c d x y old new      they noted steps, and what these handed out came behind the rows that were there;
+--                 where it is known which rows are left, it is behind the calls, and these and the steps are as meant
+--     Fails before after x e      one of them was refused, by a fault or by what the reads of all of them show
+--     HasScanned policies before after c d id order range sts rows      a line's scan was opened and walked over
+use Rattle.std.specs.Prelude.{◌≡◌, ◌⊎◌, ℕ, List, ◌∷◌, ◌++◌, Option}
+use Rattle.slate_types.specs.declared.bytes_range.BytesRange.{BytesRange}
+use Rattle.slate_types.specs.declared.error.SlateDBError.{SlateDBError}
+use Rattle.slate_types.specs.declared.iter.IterationOrder.{IterationOrder}
+use Rattle.slate_types.specs.declared.types.KeyValue.{KeyValue}
+use Rattle.slate_types.specs.declared.types.RowEntry.{RowEntry}
+use Rattle.slate_types.specs.Outside.{IsFault, Reach}
+use Rattle.slate_types.specs.Refusing.{NoMore}
+use Rattle.slate_types.specs.World.{World, Made, Sees}
+use Rattle.slate_filter.specs.Policy.{Policy}
+use Rattle.slate_txn.specs.declared.event.TranscriptStep.{TranscriptStep}
+use Rattle.slate_txn.specs.declared.event.TranscriptStep.TheVariants as steps
+use Rattle.slate_txn.specs.declared.line.ScanStep.{ScanStep}
+use Rattle.slate_txn.specs.declared.line.Line.TheVariants as lines
+use Rattle.slate_txn.specs.Reads.{handed}
+use Rattle.slate_txn.specs.Reply.{RowsAre}
+use Rattle.slate_txn.specs.Step.{noted, step}
+use Rattle.slate_db.specs.declared.scan.TxnIterator.{TxnIterator}
+use Rattle.slate_db.specs.Meaning.{Meaning, rules_of}
+use Rattle.slate_db.specs.Model.{CoreModel}
+use Rattle.slate_db.specs.Readable.{IsAnswered}
+use Rattle.slate_db.specs.Scans.{IsScanOf, Leaves, ScanRefuses, id_of, number_of, scan_of}
+use Rattle.slate_db.specs.Sound.{IsKept}
+use Rattle.slate_script.specs.Walking.{Means}
+
+-- whatever the calls answered
+abbrev pub IsNoted : CoreModel → CoreModel → List ℕ → Type 0
+IsNoted c d id = (ts : List TranscriptStep) × (d ≡ record c { state = noted c.state id ts })
+
+pub record Took (means : Means) (before after : Reach) (c d : CoreModel) (x y : TxnIterator) (old new : List KeyValue) : Type 0 where
+  pub ts : List TranscriptStep
+  pub notes : d ≡ record c { state = noted c.state (id_of x) ts }
+  pub hands : new ≡ old ++ handed ts
+  pub names : IsScanOf (id_of x) (number_of x) (scan_of x).order (scan_of x).range y
+  pub rows : (w : World) (rows : List RowEntry) → Leaves (scan_of x) w rows → Sees w before after → (left : List RowEntry) × Leaves (scan_of y) w left × means rows left ts
+  pub later : Made before after (λ reads. NoMore (ScanRefuses (scan_of x) before.meaning) reads (ScanRefuses (scan_of y) before.meaning))
+  pub kept : (m : Meaning) → IsKept m c → IsKept m d
+
+pub record Fails (before after : Reach) (x : TxnIterator) (e : SlateDBError) : Type 0 where
+  pub undamaged : (w : World) (rows : List RowEntry) → Leaves (scan_of x) w rows → Sees w before after → IsFault before after e
+  pub cause : Made before after (λ reads. IsFault before after e ⊎ ((at : Option (List ℕ)) × ScanRefuses (scan_of x) before.meaning reads at e))
+
+pub record HasScanned (policies : List Policy) (before after : Reach) (c d : CoreModel) (id : List ℕ) (order : IterationOrder) (range : BytesRange) (sts : List ScanStep) (rows : List KeyValue) : Type 0 where
+  pub ts : List TranscriptStep
+  pub notes : d ≡ record c { state = noted c.state id (steps.Scan order range ∷ ts) }
+  pub kept : (m : Meaning) → IsKept m c → IsKept m d
+  pub answers : IsAnswered policies before after c → step (rules_of c.settings before.meaning) c.state (lines.Scan id order range.start range.end sts) ≡ (d.state, RowsAre rows)

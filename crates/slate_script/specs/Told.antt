@@ -1,0 +1,77 @@
+-- What a store that tells its acts told of a run.
+--     after_act os act, after_acts os acts      the objects once a put stands at its path; the same of several acts
+--     AreTrue os acts      each read was answered by the objects as they were by then
+--     IsUntrue os before after      behind the acts from before a store that tells its acts told of some that aren't so
+--     Follows policies m os e before after      behind those a session is settled over the objects as the acts left them
+--     ArePut acts ts      each of the tables was put by one of the acts
+--     PutsTables old new before after      of two lists of tables the second has those of the first and more, which were put by the acts in between
+--     asking_for policies k      what the get of a line asks filters
+--     IsShownBy policies m c reads e      reads show the error, as those of a get do or as those of a scan
+--     IsRefusedAt policies line m c reads e      what a line is refused for by its reads: a get and a scan; others are for none
+--     IsShownAtEnd policies before after e      the last acts are reads that show the error, by tables that were put before them
+use Rattle.std.specs.Prelude.{◌≡◌, ◌⊎◌, ℕ, List, [], ◌∷◌, ◌++◌, Contains, Option, None, Some}
+use Rattle.std.specs.List.{AllByRecursion}
+use Rattle.slate_types.specs.declared.error.SlateDBError.{SlateDBError}
+use Rattle.slate_types.specs.declared.types.Ulid.{Ulid}
+use Rattle.slate_types.specs.Outside.{Objects, Reach}
+use Rattle.slate_types.specs.World.{IsReadAct}
+use Rattle.slate_store.specs.Store.{Act, with_object}
+use Rattle.slate_txn.specs.declared.line.Line.{Line}
+use Rattle.slate_txn.specs.declared.line.Line.TheVariants as lines
+use Rattle.slate_filter.specs.Policy.{Policy}
+use Rattle.slate_table.specs.Filtered.{point_query}
+use Rattle.slate_table.specs.Paths.{path_of}
+use Rattle.slate_db.specs.Answered.{AnswersAct}
+use Rattle.slate_db.specs.Installs.{root, tables_of}
+use Rattle.slate_db.specs.Meaning.{Meaning}
+use Rattle.slate_db.specs.Model.{CoreModel}
+use Rattle.slate_db.specs.Readable.{IsRefusedBy}
+use Rattle.slate_db.specs.Scans.{IsRefusedByScan}
+use Rattle.slate_db.specs.Shown.{Asking}
+use Rattle.slate_script.specs.Session.{SessionModel, IsSettled}
+
+abbrev pub after_act : Objects → Act → Objects
+after_act os (Act.put path bytes) = with_object os path bytes
+after_act os _ = os
+
+abbrev pub after_acts : Objects → List Act → Objects
+after_acts os [] = os
+after_acts os (a ∷ acts) = after_acts (after_act os a) acts
+
+abbrev pub AreTrue : Objects → List Act → Type 0
+AreTrue os [] = Unit {0}
+AreTrue os (a ∷ acts) = AnswersAct os a × AreTrue (after_act os a) acts
+
+-- before, after: the acts that a store tells
+abbrev pub IsUntrue : Objects → Option (List Act) → Option (List Act) → Type 0
+IsUntrue os before after = (known : List Act) → before ≡ Some known → (more : List Act) × (after ≡ Some (known ++ more)) × (AreTrue os more → ⊥)
+
+abbrev pub Follows : List Policy → Meaning → Objects → SessionModel → Option (List Act) → Option (List Act) → Type 0
+Follows policies m os e before after = (known : List Act) → before ≡ Some known → (more : List Act) × (after ≡ Some (known ++ more)) × IsSettled policies m (Some (after_acts os more)) e
+
+abbrev pub ArePut : List Act → List (Ulid × List ℕ) → Type 0
+ArePut acts ts = AllByRecursion (λ t. Contains acts (Act.put (path_of root t.0.0) t.1)) ts
+
+abbrev pub PutsTables : List (Ulid × List ℕ) → List (Ulid × List ℕ) → Option (List Act) → Option (List Act) → Type 0
+PutsTables old new before after = (known : List Act) → before ≡ Some known →
+    (more : List Act) × (added : List (Ulid × List ℕ)) × (after ≡ Some (known ++ more)) × (new ≡ old ++ added) × ArePut more added
+
+-- the query of a get of a line
+abbrev pub asking_for : List Policy → List ℕ → Asking
+asking_for policies k = record { policies = policies; query = point_query k None }
+
+abbrev pub IsShownBy : List Policy → Meaning → CoreModel → List Act → SlateDBError → Type 0
+IsShownBy policies m c reads e = ((k : List ℕ) × IsRefusedBy (asking_for policies k) m c reads e) ⊎ IsRefusedByScan m c reads e
+
+abbrev pub IsRefusedAt : List Policy → Line → Meaning → CoreModel → List Act → SlateDBError → Type 0
+IsRefusedAt policies (lines.Get name k) m c reads e = IsRefusedBy (asking_for policies k) m c reads e
+IsRefusedAt policies (lines.Scan name order start end sts) m c reads e = IsRefusedByScan m c reads e
+IsRefusedAt policies line m c reads e = ⊥
+
+-- core: as it was before the reads
+pub record IsShownAtEnd (policies : List Policy) (before after : Reach) (e : SlateDBError) : Type 0 where
+  pub core : CoreModel
+  pub reads : List Act
+  pub each : AllByRecursion IsReadAct reads
+  pub refused : IsShownBy policies before.meaning core reads e
+  pub last : (known : List Act) → before.acts ≡ Some known → (earlier : List Act) × (after.acts ≡ Some ((known ++ earlier) ++ reads)) × ArePut earlier (tables_of core.events)

@@ -1,0 +1,633 @@
+//! The core, the open names with their ids, and the moment.
+ghost use Rattle.std.specs.Prelude.{◌≡◌, ◌≢◌, ◌⊎◌, ◌∷◌, ℕ, List, ◌++◌, [], map, Some, None, Ok, IfOk, IfErr, IfSome, IsSome, OnOk, IsTrue, IsOkUnless, length, drop};
+ghost use Rattle.slate_types.specs.Config.{IsValid};
+ghost use Rattle.slate_types.specs.Outside.{Objects, IsFault, OnlyReads, Puts};
+ghost use Rattle.slate_types.specs.World.{Made};
+ghost use Rattle.std.specs.declared.ops.Bound.{Bound};
+ghost use Rattle.slate_types.specs.declared.iter.IterationOrder.{IterationOrder};
+ghost use Rattle.slate_types.specs.declared.config.Ttl.{Ttl};
+ghost use Rattle.slate_filter.specs.Laws.{AreValidNames};
+ghost use Rattle.slate_mem.specs.Batch.{Ops};
+ghost use Rattle.slate_mem.specs.BatchModel.{IsBatchOf};
+ghost use Rattle.slate_mem.specs.Refusals.{first_refusal, op_refusal};
+ghost use Rattle.slate_txn.specs.declared.line.ScanStep.{ScanStep};
+ghost use Rattle.slate_txn.specs.Named.{find_named};
+ghost use Rattle.slate_txn.specs.Reply.{Refused};
+ghost use Rattle.slate_txn.specs.Settings.{settings_of};
+ghost use Rattle.slate_txn.specs.State.{State, opening};
+ghost use Rattle.slate_txn.specs.Step.{reader};
+ghost use Rattle.slate_db.specs.Flushed.{layout_of};
+ghost use Rattle.slate_db.specs.Installs.{runs_of, tables_of};
+ghost use Rattle.slate_db.specs.Load.{weight};
+ghost use Rattle.slate_db.specs.Meaning.{Meaning, IsLawfulMeaning};
+ghost use Rattle.slate_db.specs.Parts.{IsTableError};
+ghost use Rattle.slate_db.specs.Readable.{IsAnswered, IsReadError};
+ghost use Rattle.slate_db.specs.Scans.{IsScanError};
+ghost use Rattle.slate_db.specs.Sound.{IsKept, IsOperable};
+ghost use Rattle.slate_db.specs.StoredState.{StoresState};
+ghost use Rattle.slate_db.specs.Log.{AreFine};
+ghost use Rattle.slate_language.specs.Answers.{reply_of};
+ghost use Rattle.slate_script.specs.Session.{StandsFor, AnswersAs, HasTablesAlone, Grows, IsDone, IsSettled, IsSettledIn, IsLimit, IsRefusal, StoresNothing, has_moment, held_load, reader_id, reader_under};
+ghost use Rattle.slate_language.specs.Stage.{is_built};
+ghost use Rattle.slate_script.specs.Told.{Follows, IsRefusedAt, IsUntrue, PutsTables, asking_for};
+
+use crate::journal::entries;
+use crate::scan::scan_rows;
+use bytes::Bytes;
+use slate_db::engine::Core;
+use slate_db::laws::Laws;
+use slate_language::Answer;
+use slate_mem::{WriteBatch, WriteOp};
+use slate_store::{Env, EnvOf, Store};
+use slate_txn::line::{Line, StepList};
+use slate_txn::list::{KeyList, OpList};
+use slate_types::{
+    BlockTransformer, BytesRange, IsolationLevel, IterationOrder, MergeOperator, MergeOptions,
+    Options, Outside, PrefixExtractor, PutOptions, ReadOptions, SlateDBError, Ttl,
+};
+use std::alloc::Global;
+use std::collections::BTreeMap;
+use std::marker::Model;
+use std::ops::Bound;
+use uuid::Uuid;
+
+/// The options of a get.
+const NO_CONTEXT: ReadOptions = ReadOptions {
+    filter_context: None,
+};
+
+/// Answers lines over a core. It keeps the names that are open, and the moment, which is 0 at first.
+#[derive(Drop)]
+pub struct Session {
+    alloc: Global,
+    core: Core,
+    /// Those of transactions.
+    names: BTreeMap<Bytes, Uuid>,
+    snapshot_names: BTreeMap<Bytes, Uuid>,
+    now: i64,
+}
+
+impl Model for Session {
+    ghost use Rattle.std.specs.Prelude.{IsTrue};
+    ghost use Rattle.slate_language.specs.Grammar.{is_moment};
+    ghost use Rattle.slate_script.specs.Session.{SessionModel, NamesStand};
+
+    ghost Value = { SessionModel };
+
+    ghost view = { λ s. record { core = s.core; names = s.names.entries; snapshot_names = s.snapshot_names.entries; now = s.now } };
+
+    ghost invariant = { λ s. NamesStand s.names.entries s.snapshot_names.entries s.core.state.txns s.core.state.snapshots × IsTrue (is_moment s.now) };
+}
+
+impl Session {
+    /// Nothing is committed, and no name is open. Takes no memory.
+    pub fn new(alloc: Global, options: &Options) -> Session
+        requires { IsValid options.now }
+        ensures opens { StandsFor result opening }
+        ensures settings { result.core.settings ≡ settings_of options.now }
+        ensures events { result.core.events ≡ [] }
+        ensures kept { (m : Meaning) → IsKept m result.core }
+        ensures holds { (weight result.core ≡ 0) × (held_load result ≡ 0) }
+    {
+        Session {
+            alloc,
+            core: Core::new(alloc, options),
+            names: BTreeMap::new(alloc),
+            snapshot_names: BTreeMap::new(alloc),
+            now: 0,
+        }
+    }
+
+    /// The answer to a line. Where the parts and the policies of filters are lawful, what is kept of the rows holds and the
+    /// store has the journal's tables with the filters of these policies, it is that of the model's step, and no damage is
+    /// answered; nor is it where the store's acts tell that each read of this call was answered by those tables. A part's fault
+    /// is answered only where its count rose in this call, and `LimitReached` only where the journal or memory holds more than a script can bring.
+    pub fn answer<S: Store, M: MergeOperator, T: BlockTransformer, X: PrefixExtractor>(
+        &mut self,
+        line: Line,
+        env: &mut Env<'_, S, M, T>,
+        laws: &Laws<X>,
+    ) -> Result<Answer, SlateDBError>
+        requires built { IsTrue (is_built line) }
+        requires moment { IsTrue (has_moment line) }
+        requires valid { IsValid laws.now.options }
+        requires names { AreValidNames (map (λ p. (meaning (p.vtable, p.value)).name) laws.now.policies.items) }
+        ensures step { let reach = ⟦<EnvOf<S, M, T> as Outside>⟧.reach in
+            let policies = map (λ p. meaning (p.vtable, p.value)) laws.now.policies.items in
+            IsSettledIn policies (reach env.old) self.old →
+            AnswersAs (reach env.old).meaning self.old self.new line result }
+        ensures settings { OnOk result (self.new.core.settings ≡ self.old.core.settings) }
+        ensures grows { OnOk result (Grows line self.old self.new) }
+        ensures kept { let reach = ⟦<EnvOf<S, M, T> as Outside>⟧.reach in
+            let policies = map (λ p. meaning (p.vtable, p.value)) laws.now.policies.items in
+            IsSettledIn policies (reach env.old) self.old →
+            OnOk result (IsSettled policies (reach env.old).meaning (reach env.new).objects self.new) }
+        ensures core_kept { let reach = ⟦<EnvOf<S, M, T> as Outside>⟧.reach in IsKept (reach env.old).meaning self.old.core → OnOk result (IsKept (reach env.old).meaning self.new.core) }
+        ensures alone { let reach = ⟦<EnvOf<S, M, T> as Outside>⟧.reach in
+            let policies = map (λ p. meaning (p.vtable, p.value)) laws.now.policies.items in
+            IsSettledIn policies (reach env.old) self.old → HasTablesAlone (reach env.old).meaning (layout_of laws.now.options policies) (reach env.old).objects (runs_of self.old.core.events) →
+            OnOk result (HasTablesAlone (reach env.old).meaning (layout_of laws.now.options policies) (reach env.new).objects (runs_of self.new.core.events)) }
+        ensures cause { let reach = ⟦<EnvOf<S, M, T> as Outside>⟧.reach in IfErr result (λ e. IsFault (reach env.old) (reach env.new) e ⊎ IsLimit self.old e ⊎ IsTableError e) }
+        ensures shown { let reach = ⟦<EnvOf<S, M, T> as Outside>⟧.reach in
+            let policies = map (λ p. meaning (p.vtable, p.value)) laws.now.policies.items in
+            IsKept (reach env.old).meaning self.old.core → IfErr result (λ e. IsTableError e → Made (reach env.old) (reach env.new) (λ reads. IsRefusedAt policies line (reach env.old).meaning self.old.core reads e)) }
+        ensures undamaged { let reach = ⟦<EnvOf<S, M, T> as Outside>⟧.reach in
+            let policies = map (λ p. meaning (p.vtable, p.value)) laws.now.policies.items in
+            IsSettledIn policies (reach env.old) self.old →
+            IfErr result (λ e. IsFault (reach env.old) (reach env.new) e ⊎ IsLimit self.old e) }
+        ensures follows { let reach = ⟦<EnvOf<S, M, T> as Outside>⟧.reach in
+            let policies = map (λ p. meaning (p.vtable, p.value)) laws.now.policies.items in
+            (os : Objects) → IsSettled policies (reach env.old).meaning (Some os) self.old → OnOk result (Follows policies (reach env.old).meaning os self.new (reach env.old).acts (reach env.new).acts) }
+        ensures tables { let reach = ⟦<EnvOf<S, M, T> as Outside>⟧.reach in OnOk result (PutsTables (tables_of self.old.core.events) (tables_of self.new.core.events) (reach env.old).acts (reach env.new).acts) }
+        ensures untrue { let reach = ⟦<EnvOf<S, M, T> as Outside>⟧.reach in
+            let policies = map (λ p. meaning (p.vtable, p.value)) laws.now.policies.items in
+            (os : Objects) → IsSettled policies (reach env.old).meaning (Some os) self.old → IfErr result (λ e. IsTableError e → IsUntrue os (reach env.old).acts (reach env.new).acts) }
+        ensures puts { let reach = ⟦<EnvOf<S, M, T> as Outside>⟧.reach in Puts (reach env.old) (reach env.new) }
+    {
+        match line {
+            Line::Get { name, key } => self.get(name, key, env, laws),
+            Line::Scan {
+                name,
+                order,
+                start,
+                end,
+                steps,
+            } => self.scan(name, order, start, end, steps, env, laws),
+            Line::Flush => self.flush(env, laws),
+            Line::Write { ops } => self.write(ops, env, laws),
+            Line::Merge {
+                name,
+                key,
+                value,
+                ttl,
+            } => self.merge(name, key, value, ttl, env),
+            Line::Commit { name } => self.commit(name, env, laws),
+            other => self.answer_within(other),
+        }
+    }
+
+    /// The answer to a line that asks neither the store nor the operator.
+    fn answer_within(&mut self, line: Line) -> Result<Answer, SlateDBError>
+        requires built { IsTrue (is_built line) }
+        requires moment { IsTrue (has_moment line) }
+        requires no_get { (name key : List ℕ) → line ≢ Line.Get name key }
+        requires no_scan { (name : List ℕ) (order : IterationOrder) (start end : Bound (List ℕ)) (sts : List ScanStep) → line ≢ Line.Scan name order start end sts }
+        requires no_flush { line ≢ Line.Flush }
+        requires no_write { (ops : Ops) → line ≢ Line.Write ops }
+        requires no_merge { (name key value : List ℕ) (ttl : Ttl) → line ≢ Line.Merge name key value ttl }
+        requires no_commit { (name : List ℕ) → line ≢ Line.Commit name }
+        ensures step { (m : Meaning) → AnswersAs m self.old self.new line result }
+        ensures stores { OnOk result ((m : Meaning) → StoresNothing m self.old self.new) }
+        ensures grows { OnOk result (Grows line self.old self.new) }
+        ensures cause { IfErr result (λ e. (e ≡ SlateDBError.OutOfMemory) ⊎ IsLimit self.old e) }
+    {
+        match line {
+            Line::Now { moment } => {
+                self.now = moment;
+                Ok(Answer::NowIs(moment))
+            }
+            Line::Begin { name, level } => self.begin(name, level),
+            Line::Snapshot { name } => self.snapshot(name),
+            Line::Rollback { name } => Ok(self.rollback(name)),
+            Line::Freeze => self.freeze(),
+            Line::Journal => self.journal(),
+            Line::Put {
+                name,
+                key,
+                value,
+                ttl,
+            } => self.put(name, key, value, ttl),
+            Line::Delete { name, key } => self.delete(name, key),
+            Line::Mark { name, keys } => self.mark(name, keys),
+            Line::Unmark { name, keys } => self.unmark(name, keys),
+            _ => unreachable!(),
+        }
+    }
+
+    /// Ends the session. For lawful parts for which what is kept of the rows holds, the rows of the tables that the
+    /// journal names are the state at the last flush.
+    pub fn close(self)
+        ensures stores { (m : Meaning) → IsLawfulMeaning m → IsKept m self.core → StoresState m self.core }
+    {
+        let Session { core, .. } = self;
+        core.close();
+    }
+
+    /// The id that the name is read under: that of its transaction, or else that of its snapshot; `None` where it isn't open.
+    fn reader_id(&self, name: &Bytes) -> Option<Uuid>
+        ensures id { result ≡ reader_id self.entry.now name.now }
+        ensures known { IfSome result (λ id. IsSome (reader self.entry.now.core.state id)) }
+        ensures reads { (s : State) → StandsFor self.entry.now s → reader s name.now ≡ reader_under self.entry.now.core.state result }
+    {
+        let transaction = self.names.get(name).copied();
+        let snapshot = self.snapshot_names.get(name).copied();
+        transaction.or(snapshot)
+    }
+
+    /// Opens the name at the last commit, as a transaction.
+    fn begin(&mut self, name: Bytes, level: IsolationLevel) -> Result<Answer, SlateDBError>
+        ensures step { (m : Meaning) → AnswersAs m self.old self.new (Line.Begin name level) result }
+        ensures stores { OnOk result ((m : Meaning) → StoresNothing m self.old self.new) }
+        ensures grows { OnOk result (Grows (Line.Begin name level) self.old self.new) }
+        ensures cause { IfErr result (λ e. (e ≡ SlateDBError.OutOfMemory) ⊎ IsLimit self.old e) }
+    {
+        if self.reader_id(&name).is_some() {
+            return Ok(Answer::Refused(SlateDBError::DuplicateTransaction { name }));
+        }
+        let key = name.clone()?;
+        let (id, start) = self.core.begin(level)?;
+        self.names.insert(key, id)?;
+        Ok(Answer::Begun { name, start })
+    }
+
+    /// Opens the name at the last commit, as a snapshot.
+    fn snapshot(&mut self, name: Bytes) -> Result<Answer, SlateDBError>
+        ensures step { (m : Meaning) → AnswersAs m self.old self.new (Line.Snapshot name) result }
+        ensures stores { OnOk result ((m : Meaning) → StoresNothing m self.old self.new) }
+        ensures grows { OnOk result (Grows (Line.Snapshot name) self.old self.new) }
+        ensures cause { IfErr result (λ e. (e ≡ SlateDBError.OutOfMemory) ⊎ IsLimit self.old e) }
+    {
+        if self.reader_id(&name).is_some() {
+            return Ok(Answer::Refused(SlateDBError::DuplicateTransaction { name }));
+        }
+        let key = name.clone()?;
+        let (id, seq) = self.core.snapshot()?;
+        self.snapshot_names.insert(key, id)?;
+        Ok(Answer::SnapshotAt { name, seq })
+    }
+
+    /// The row of the key in the state at the name's start.
+    fn get<S: Store, M: MergeOperator, T: BlockTransformer, X: PrefixExtractor>(
+        &mut self,
+        name: Bytes,
+        key: Bytes,
+        env: &mut Env<'_, S, M, T>,
+        laws: &Laws<X>,
+    ) -> Result<Answer, SlateDBError>
+        ensures step { let reach = ⟦<EnvOf<S, M, T> as Outside>⟧.reach in
+            let policies = map (λ p. meaning (p.vtable, p.value)) laws.now.policies.items in
+            IsAnswered policies (reach env.old) (reach env.new) self.old.core →
+            AnswersAs (reach env.old).meaning self.old self.new (Line.Get name key) result }
+        ensures stores { OnOk result ((m : Meaning) → StoresNothing m self.old self.new) }
+        ensures grows { OnOk result (Grows (Line.Get name key) self.old self.new) }
+        ensures cause { let reach = ⟦<EnvOf<S, M, T> as Outside>⟧.reach in
+            let policies = map (λ p. meaning (p.vtable, p.value)) laws.now.policies.items in
+            IfErr result (IsReadError (asking_for policies key) (reach env.old) (reach env.new) self.old.core) }
+        ensures undamaged { let reach = ⟦<EnvOf<S, M, T> as Outside>⟧.reach in
+            let policies = map (λ p. meaning (p.vtable, p.value)) laws.now.policies.items in
+            IsAnswered policies (reach env.old) (reach env.new) self.old.core → IfErr result (IsFault (reach env.old) (reach env.new)) }
+        ensures reads { let reach = ⟦<EnvOf<S, M, T> as Outside>⟧.reach in OnlyReads (reach env.old) (reach env.new) }
+    {
+        let Some(id) = self.reader_id(&name) else {
+            drop(key);
+            return Ok(Answer::Refused(SlateDBError::UnknownTransaction { name }));
+        };
+        drop(name);
+        let read = self.core.get(&id, key.as_slice(), &NO_CONTEXT, env, laws);
+        drop(key);
+        let row = read?;
+        Ok(Answer::Found(row))
+    }
+
+    /// The rows that the steps hand out of a scan of the range in the state at the name's start, under its own operations.
+    fn scan<S: Store, M: MergeOperator, T: BlockTransformer, X: PrefixExtractor>(
+        &mut self,
+        name: Bytes,
+        order: IterationOrder,
+        start: Bound<Bytes>,
+        end: Bound<Bytes>,
+        steps: StepList,
+        env: &mut Env<'_, S, M, T>,
+        laws: &Laws<X>,
+    ) -> Result<Answer, SlateDBError>
+        requires valid { IsValid laws.now.options }
+        ensures step { let reach = ⟦<EnvOf<S, M, T> as Outside>⟧.reach in
+            let policies = map (λ p. meaning (p.vtable, p.value)) laws.now.policies.items in
+            IsAnswered policies (reach env.old) (reach env.new) self.old.core →
+            AnswersAs (reach env.old).meaning self.old self.new (Line.Scan name order start end steps) result }
+        ensures stores { OnOk result ((m : Meaning) → StoresNothing m self.old self.new) }
+        ensures grows { OnOk result (Grows (Line.Scan name order start end steps) self.old self.new) }
+        ensures cause { let reach = ⟦<EnvOf<S, M, T> as Outside>⟧.reach in IfErr result (IsScanError (reach env.old) (reach env.new) self.old.core) }
+        ensures undamaged { let reach = ⟦<EnvOf<S, M, T> as Outside>⟧.reach in
+            let policies = map (λ p. meaning (p.vtable, p.value)) laws.now.policies.items in
+            IsAnswered policies (reach env.old) (reach env.new) self.old.core → IfErr result (IsFault (reach env.old) (reach env.new)) }
+        ensures reads { let reach = ⟦<EnvOf<S, M, T> as Outside>⟧.reach in OnlyReads (reach env.old) (reach env.new) }
+    {
+        let Some(id) = self.reader_id(&name) else {
+            drop((start, end));
+            drop(steps);
+            return Ok(Answer::Refused(SlateDBError::UnknownTransaction { name }));
+        };
+        drop(name);
+        let Some(range) = BytesRange::try_new(start, end) else {
+            drop(steps);
+            return Ok(Answer::Refused(SlateDBError::InvalidRange));
+        };
+        let core = &mut self.core;
+        let scanned = scan_rows(
+            self.alloc,
+            core,
+            &id,
+            order,
+            range,
+            steps.as_slice(),
+            env,
+            laws,
+        );
+        drop(steps);
+        let rows = scanned?;
+        Ok(Answer::Rows(rows))
+    }
+
+    /// Closes the name: its transaction ends, or its snapshot is released.
+    fn rollback(&mut self, name: Bytes) -> Answer
+        ensures step { (m : Meaning) → AnswersAs m self.old self.new (Line.Rollback name) (Ok result) }
+        ensures stores { (m : Meaning) → StoresNothing m self.old self.new }
+        ensures grows { Grows (Line.Rollback name) self.old self.new }
+    {
+        let Some(id) = self.names.remove(&name) else {
+            return self.release(name);
+        };
+        self.core.rollback(&id);
+        Answer::Done
+    }
+
+    /// Closes the name, which is no transaction's.
+    fn release(&mut self, name: Bytes) -> Answer
+        requires { find_named name self.old.names ≡ None }
+        ensures step { (m : Meaning) → AnswersAs m self.old self.new (Line.Rollback name) (Ok result) }
+        ensures stores { (m : Meaning) → StoresNothing m self.old self.new }
+        ensures grows { Grows (Line.Rollback name) self.old self.new }
+    {
+        let Some(id) = self.snapshot_names.remove(&name) else {
+            return Answer::Refused(SlateDBError::UnknownTransaction { name });
+        };
+        self.core.release(&id);
+        Answer::Done
+    }
+
+    /// Puts the value among the own operations of the name's transaction.
+    fn put(
+        &mut self,
+        name: Bytes,
+        key: Bytes,
+        value: Bytes,
+        ttl: Ttl,
+    ) -> Result<Answer, SlateDBError>
+        ensures step { (m : Meaning) → AnswersAs m self.old self.new (Line.Put name key value ttl) result }
+        ensures stores { OnOk result ((m : Meaning) → StoresNothing m self.old self.new) }
+        ensures grows { OnOk result (Grows (Line.Put name key value ttl) self.old self.new) }
+        ensures cause { IfErr result (λ e. (e ≡ SlateDBError.OutOfMemory) ⊎ IsLimit self.old e) }
+    {
+        let Some(id) = self.names.get(&name) else {
+            drop((key, value));
+            return Ok(Answer::Refused(SlateDBError::UnknownTransaction { name }));
+        };
+        let id = *id;
+        drop(name);
+        let put = self
+            .core
+            .put(&id, key.as_slice(), value.as_slice(), &PutOptions { ttl });
+        drop((key, value));
+        done(put)
+    }
+
+    /// Puts the operand among the own operations of the name's transaction.
+    fn merge<S: Store, M: MergeOperator, T: BlockTransformer>(
+        &mut self,
+        name: Bytes,
+        key: Bytes,
+        value: Bytes,
+        ttl: Ttl,
+        env: &mut Env<'_, S, M, T>,
+    ) -> Result<Answer, SlateDBError>
+        ensures step { let reach = ⟦<EnvOf<S, M, T> as Outside>⟧.reach in AnswersAs (reach env.old).meaning self.old self.new (Line.Merge name key value ttl) result }
+        ensures stores { let reach = ⟦<EnvOf<S, M, T> as Outside>⟧.reach in OnOk result (StoresNothing (reach env.old).meaning self.old self.new) }
+        ensures grows { OnOk result (Grows (Line.Merge name key value ttl) self.old self.new) }
+        ensures cause { let reach = ⟦<EnvOf<S, M, T> as Outside>⟧.reach in IfErr result (λ e. IsFault (reach env.old) (reach env.new) e ⊎ IsLimit self.old e) }
+        ensures reads { let reach = ⟦<EnvOf<S, M, T> as Outside>⟧.reach in OnlyReads (reach env.old) (reach env.new) }
+    {
+        let Some(id) = self.names.get(&name) else {
+            drop((key, value));
+            return Ok(Answer::Refused(SlateDBError::UnknownTransaction { name }));
+        };
+        let id = *id;
+        drop(name);
+        let merge = self.core.merge(
+            &id,
+            key.as_slice(),
+            value.as_slice(),
+            &MergeOptions { ttl },
+            env,
+        );
+        drop((key, value));
+        done(merge)
+    }
+
+    /// Puts a delete of the key among the own operations of the name's transaction.
+    fn delete(&mut self, name: Bytes, key: Bytes) -> Result<Answer, SlateDBError>
+        ensures step { (m : Meaning) → AnswersAs m self.old self.new (Line.Delete name key) result }
+        ensures stores { OnOk result ((m : Meaning) → StoresNothing m self.old self.new) }
+        ensures grows { OnOk result (Grows (Line.Delete name key) self.old self.new) }
+        ensures cause { IfErr result (λ e. (e ≡ SlateDBError.OutOfMemory) ⊎ IsLimit self.old e) }
+    {
+        let Some(id) = self.names.get(&name) else {
+            drop(key);
+            return Ok(Answer::Refused(SlateDBError::UnknownTransaction { name }));
+        };
+        let id = *id;
+        drop(name);
+        let delete = self.core.delete(&id, key.as_slice());
+        drop(key);
+        done(delete)
+    }
+
+    /// Makes the keys part of what the commit of the name's transaction conflicts by.
+    fn mark(&mut self, name: Bytes, keys: KeyList) -> Result<Answer, SlateDBError>
+        ensures step { (m : Meaning) → AnswersAs m self.old self.new (Line.Mark name keys) result }
+        ensures stores { OnOk result ((m : Meaning) → StoresNothing m self.old self.new) }
+        ensures grows { OnOk result (Grows (Line.Mark name keys) self.old self.new) }
+        ensures cause { IfErr result (λ e. (e ≡ SlateDBError.OutOfMemory) ⊎ IsLimit self.old e) }
+    {
+        let Some(id) = self.names.get(&name) else {
+            drop(keys);
+            return Ok(Answer::Refused(SlateDBError::UnknownTransaction { name }));
+        };
+        let id = *id;
+        drop(name);
+        let mark = self.core.mark_read(&id, keys.as_slice());
+        drop(keys);
+        done(mark)
+    }
+
+    /// Takes the keys out of what the commit of the name's transaction tracks.
+    fn unmark(&mut self, name: Bytes, keys: KeyList) -> Result<Answer, SlateDBError>
+        ensures step { (m : Meaning) → AnswersAs m self.old self.new (Line.Unmark name keys) result }
+        ensures stores { OnOk result ((m : Meaning) → StoresNothing m self.old self.new) }
+        ensures grows { OnOk result (Grows (Line.Unmark name keys) self.old self.new) }
+        ensures cause { IfErr result (λ e. (e ≡ SlateDBError.OutOfMemory) ⊎ IsLimit self.old e) }
+    {
+        let Some(id) = self.names.get(&name) else {
+            drop(keys);
+            return Ok(Answer::Refused(SlateDBError::UnknownTransaction { name }));
+        };
+        let id = *id;
+        drop(name);
+        let unmark = self.core.unmark_write(&id, keys.as_slice());
+        drop(keys);
+        done(unmark)
+    }
+
+    /// Commits the name's transaction at the moment, and closes the name, whether the commit is refused or not.
+    fn commit<S: Store, M: MergeOperator, T: BlockTransformer, X: PrefixExtractor>(
+        &mut self,
+        name: Bytes,
+        env: &mut Env<'_, S, M, T>,
+        laws: &Laws<X>,
+    ) -> Result<Answer, SlateDBError>
+        ensures step { let reach = ⟦<EnvOf<S, M, T> as Outside>⟧.reach in IsOperable (reach env.old).meaning self.old.core →
+            AnswersAs (reach env.old).meaning self.old self.new (Line.Commit name) result }
+        ensures stores { let reach = ⟦<EnvOf<S, M, T> as Outside>⟧.reach in OnOk result (StoresNothing (reach env.old).meaning self.old self.new) }
+        ensures grows { OnOk result (Grows (Line.Commit name) self.old self.new) }
+        ensures cause { let reach = ⟦<EnvOf<S, M, T> as Outside>⟧.reach in IfErr result (λ e. IsFault (reach env.old) (reach env.new) e ⊎ IsLimit self.old e) }
+        ensures reads { let reach = ⟦<EnvOf<S, M, T> as Outside>⟧.reach in OnlyReads (reach env.old) (reach env.new) }
+    {
+        let Some(id) = self.names.remove(&name) else {
+            return Ok(Answer::Refused(SlateDBError::UnknownTransaction { name }));
+        };
+        drop(name);
+        match self.core.commit(&id, self.now, env, laws) {
+            Ok(seq) => Ok(Answer::Committed(seq)),
+            Err(error) => refused(error),
+        }
+    }
+
+    /// The commits so far.
+    fn journal(&self) -> Result<Answer, SlateDBError>
+        ensures step { (m : Meaning) → AnswersAs m self.entry.now self.entry.now Line.Journal result }
+        ensures cause { IsOkUnless result SlateDBError.OutOfMemory }
+    {
+        let entries = entries(self.alloc, self.core.journal().as_slice())?;
+        Ok(Answer::Journal(entries))
+    }
+
+    /// Commits the operations as one batch, at the moment.
+    fn write<S: Store, M: MergeOperator, T: BlockTransformer, X: PrefixExtractor>(
+        &mut self,
+        ops: OpList,
+        env: &mut Env<'_, S, M, T>,
+        laws: &Laws<X>,
+    ) -> Result<Answer, SlateDBError>
+        ensures step { let reach = ⟦<EnvOf<S, M, T> as Outside>⟧.reach in AnswersAs (reach env.old).meaning self.old self.new (Line.Write ops) result }
+        ensures stores { let reach = ⟦<EnvOf<S, M, T> as Outside>⟧.reach in OnOk result (StoresNothing (reach env.old).meaning self.old self.new) }
+        ensures grows { OnOk result (Grows (Line.Write ops) self.old self.new) }
+        ensures cause { let reach = ⟦<EnvOf<S, M, T> as Outside>⟧.reach in IfErr result (λ e. IsFault (reach env.old) (reach env.new) e ⊎ IsLimit self.old e) }
+        ensures reads { let reach = ⟦<EnvOf<S, M, T> as Outside>⟧.reach in OnlyReads (reach env.old) (reach env.new) }
+    {
+        let batch = match batch_of(self.alloc, ops) {
+            Ok(batch) => batch,
+            Err(error) => return refused(error),
+        };
+        match self.core.write(batch, self.now, env, laws) {
+            Ok(seq) => Ok(Answer::Written(seq)),
+            Err(error) => refused(error),
+        }
+    }
+
+    /// Moves the rows in memory aside for a flush.
+    fn freeze(&mut self) -> Result<Answer, SlateDBError>
+        ensures step { (m : Meaning) → AnswersAs m self.old self.new Line.Freeze result }
+        ensures stores { OnOk result ((m : Meaning) → StoresNothing m self.old self.new) }
+        ensures grows { OnOk result (Grows Line.Freeze self.old self.new) }
+        ensures cause { IfErr result (λ e. (e ≡ SlateDBError.OutOfMemory) ⊎ IsLimit self.old e) }
+    {
+        let seq = self.core.freeze()?;
+        Ok(Answer::Frozen(seq))
+    }
+
+    /// Stores the rows in memory as tables.
+    fn flush<S: Store, M: MergeOperator, T: BlockTransformer, X: PrefixExtractor>(
+        &mut self,
+        env: &mut Env<'_, S, M, T>,
+        laws: &Laws<X>,
+    ) -> Result<Answer, SlateDBError>
+        requires valid { IsValid laws.now.options }
+        requires names { AreValidNames (map (λ p. (meaning (p.vtable, p.value)).name) laws.now.policies.items) }
+        ensures step { (m : Meaning) → AnswersAs m self.old self.new Line.Flush result }
+        ensures settings { OnOk result (self.new.core.settings ≡ self.old.core.settings) }
+        ensures grows { OnOk result (Grows Line.Flush self.old self.new) }
+        ensures kept { let reach = ⟦<EnvOf<S, M, T> as Outside>⟧.reach in
+            let policies = map (λ p. meaning (p.vtable, p.value)) laws.now.policies.items in
+            IsSettledIn policies (reach env.old) self.old →
+            OnOk result (IsSettled policies (reach env.old).meaning (reach env.new).objects self.new) }
+        ensures core_kept { let reach = ⟦<EnvOf<S, M, T> as Outside>⟧.reach in IsKept (reach env.old).meaning self.old.core → OnOk result (IsKept (reach env.old).meaning self.new.core) }
+        ensures alone { let reach = ⟦<EnvOf<S, M, T> as Outside>⟧.reach in
+            let policies = map (λ p. meaning (p.vtable, p.value)) laws.now.policies.items in
+            IsSettledIn policies (reach env.old) self.old → HasTablesAlone (reach env.old).meaning (layout_of laws.now.options policies) (reach env.old).objects (runs_of self.old.core.events) →
+            OnOk result (HasTablesAlone (reach env.old).meaning (layout_of laws.now.options policies) (reach env.new).objects (runs_of self.new.core.events)) }
+        ensures follows { let reach = ⟦<EnvOf<S, M, T> as Outside>⟧.reach in
+            let policies = map (λ p. meaning (p.vtable, p.value)) laws.now.policies.items in
+            (os : Objects) → IsSettled policies (reach env.old).meaning (Some os) self.old → OnOk result (Follows policies (reach env.old).meaning os self.new (reach env.old).acts (reach env.new).acts) }
+        ensures tables { let reach = ⟦<EnvOf<S, M, T> as Outside>⟧.reach in OnOk result (PutsTables (tables_of self.old.core.events) (tables_of self.new.core.events) (reach env.old).acts (reach env.new).acts) }
+        ensures cause { let reach = ⟦<EnvOf<S, M, T> as Outside>⟧.reach in IfErr result (λ e. IsFault (reach env.old) (reach env.new) e ⊎ IsLimit self.old e ⊎ (e ≡ SlateDBError.MergeOperatorMissing)) }
+        ensures operable { let reach = ⟦<EnvOf<S, M, T> as Outside>⟧.reach in IsKept (reach env.old).meaning self.old.core → IfErr result (λ e. IsFault (reach env.old) (reach env.new) e ⊎ IsLimit self.old e) }
+        ensures puts { let reach = ⟦<EnvOf<S, M, T> as Outside>⟧.reach in Puts (reach env.old) (reach env.new) }
+    {
+        let seq = self.core.flush(env, laws)?;
+        Ok(Answer::Flushed(seq))
+    }
+}
+
+/// The batch of the operations. Refuses as the first operation does that is refused, and by `OutOfMemory`.
+fn batch_of(alloc: Global, ops: OpList) -> Result<WriteBatch, SlateDBError>
+    ensures batch { IfOk result (λ batch. IsBatchOf ops batch) }
+    ensures fine { OnOk result (AreFine ops) }
+    ensures refused { IfErr result (λ e. (e ≡ SlateDBError.OutOfMemory) ⊎ (first_refusal (map (λ o. op_refusal o.0 o.1) ops) ≡ Some e)) }
+{
+    let mut batch = WriteBatch::new(alloc);
+    for (key, op) in ops.into_vec() {
+        add(&mut batch, key, op)?;
+    }
+    Ok(batch)
+}
+
+/// Adds an operation to a batch.
+fn add(batch: &mut WriteBatch, key: Bytes, op: WriteOp) -> Result<(), SlateDBError>
+    ensures refused { IfErr result (λ e. (e ≡ SlateDBError.OutOfMemory) ⊎ (op_refusal key op ≡ Some e)) }
+    ensures fine { OnOk result (op_refusal key op ≡ None) }
+    ensures means { (ops : Ops) → IsBatchOf ops batch.old → OnOk result (IsBatchOf (ops ++ ((key, op) ∷ [])) batch.new) }
+{
+    match op {
+        WriteOp::Put(value, options) => batch.put_bytes_with_options(key, value, &options),
+        WriteOp::Delete => batch.delete(key.as_slice()),
+        WriteOp::Merge(value, options) => batch.merge_bytes_with_options(key, value, &options),
+    }
+}
+
+/// The answer to an operation in a transaction that ran to this end.
+fn done(ran: Result<(), SlateDBError>) -> Result<Answer, SlateDBError>
+    ensures { IsDone ran result }
+{
+    match ran {
+        Ok(()) => Ok(Answer::Done),
+        Err(error) => refused(error),
+    }
+}
+
+/// The answer to a line that is refused by the error, and the error itself where no line is refused by it.
+fn refused(error: SlateDBError) -> Result<Answer, SlateDBError>
+    ensures reply { IfOk result (λ a. reply_of a ≡ Refused error) }
+    ensures answered { OnOk result (IsRefusal error) }
+    ensures other { IfErr result (λ e. (e ≡ error) × (IsRefusal error → ⊥)) }
+{
+    match error {
+        SlateDBError::TransactionConflict { .. }
+        | SlateDBError::EmptyKey
+        | SlateDBError::KeyTooLong { .. }
+        | SlateDBError::ValueTooLong { .. }
+        | SlateDBError::SequenceExhausted
+        | SlateDBError::MergeOperatorMissing
+        | SlateDBError::IncompatibleMergeTtls { .. } => Ok(Answer::Refused(error)),
+        other => Err(other),
+    }
+}
