@@ -1,0 +1,35 @@
+pub mod Pieces
+pub mod VarintLaws
+pub mod Groups
+pub mod GroupRows
+pub mod GroupSteps
+mod EitherLaws
+pub mod SeekSteps
+pub mod BackSteps
+pub mod BackLaws
+pub mod FlagLaws
+pub mod RowLaws
+pub mod Failing
+pub mod FieldLaws
+pub mod ReadRows
+pub mod ReadingLaws
+pub mod ReadingLawsV1
+pub mod Prefixes
+pub mod OffsetLaws
+pub mod LongestFronts
+pub mod BlockLaws
+pub mod WrittenLaws
+pub mod HeldOnce
+pub mod RowMore
+pub mod RowSizes
+pub mod HeldLaws
+pub mod ApartLaws
+pub mod PlacedLaws
+pub mod WalkLaws
+pub mod SeekLaws
+mod StepLaws
+pub mod WalkedBlocks
+pub mod PartLaws
+pub mod WalkedBlocksV2
+pub mod BlocksReadAgainV2
+pub mod GoodRows

@@ -1,0 +1,66 @@
+-- What is left of a walk over a block of version 2.
+--     group_end body offsets n, restart_at body offsets n      where the group that begins at a restart ends, and what its rows are read as
+--     group_left body group      what is left of a group; is_over group      nothing is
+--     left_v2 body offsets place      what is left of a block of version 2
+--     BeginsBefore order body offsets n key      the order puts a group's first key, where its row is read, before the key
+--     IsBeforeIfRead order key read      the order puts a row, where it is read, before the key
+--     IsStart order key before start      rows from which a seek can go on row by row: some first ones may be taken off where the order puts the next one, where it is read, before the key
+--     reads_back n body offsets      what the rows of so many groups are read as, the last first: a group is read as a whole, and one that fails is refused as a whole
+--     left_back body offsets groups rows      what is left before a group's rows and behind so many groups
+--     walk_in order body offsets      what the rows of a block of version 2 are read as in an order
+use Rattle.std.specs.Prelude.{◌≡◌, ◌⊎◌, ℕ, zero, suc, reverse, map, ◌+◌, Bool, true, ◌&&◌, ◌||◌, ◌==◌, List, [], ◌∷◌, ◌++◌, length, drop, slice_index, Result, Ok, Err}
+use Rattle.slate_types.specs.declared.error.SlateDBError.{SlateDBError}
+use Rattle.slate_types.specs.declared.types.RowEntry.{RowEntry}
+use Rattle.slate_types.specs.declared.iter.IterationOrder.{IterationOrder}
+use Rattle.slate_types.specs.declared.iter.IterationOrder.TheVariants.{Ascending, Descending}
+use Rattle.slate_types.specs.Iteration.{comes_before}
+use Rattle.slate_block.specs.declared.row_groups.RowGroup.{RowGroup}
+use Rattle.slate_block.specs.declared.walk_v2.BlockPlace.{BlockPlace}
+use Rattle.slate_block.specs.Walks.{RowRead, all_ok, next_place, group_reads, restart_reads, is_none_left, reads_v2}
+
+abbrev pub group_end : List ℕ → List ℕ → ℕ → ℕ
+group_end body offsets n = next_place (length body) (drop (n + 1) offsets)
+
+unfoldable pub restart_at : List ℕ → List ℕ → ℕ → List RowRead
+restart_at body offsets n = restart_reads body (slice_index offsets n) (group_end body offsets n) (is_none_left (drop (n + 1) offsets))
+
+abbrev pub is_over : RowGroup → Bool
+is_over group = group.at == group.end && (group.room == 0 || group.is_last)
+
+unfoldable pub group_left : List ℕ → RowGroup → List RowRead
+group_left body group = group_reads group.room body group.previous group.at group.end group.is_last
+
+unfoldable pub left_v2 : List ℕ → List ℕ → BlockPlace → List RowRead
+left_v2 body offsets place = group_left body place.group ++ reads_v2 body (drop place.next offsets) (length body)
+
+abbrev pub BeginsBefore : IterationOrder → List ℕ → List ℕ → ℕ → List ℕ → Type 0
+BeginsBefore order body offsets n key = (row : RowEntry) (reads : List RowRead) → restart_at body offsets n ≡ Ok row ∷ reads → comes_before order row.key key ≡ true
+
+abbrev pub IsBeforeIfRead : IterationOrder → List ℕ → RowRead → Type 0
+IsBeforeIfRead order key (Ok row) = comes_before order row.key key ≡ true
+IsBeforeIfRead order key (Err e) = Unit {0}
+
+pub record IsStart (order : IterationOrder) (key : List ℕ) (before start : List RowRead) : Type 0 where
+  pub front : List RowRead
+  pub parts : before ≡ front ++ start
+  pub begins : (front ≡ []) ⊎ ((read : RowRead) × (reads : List RowRead) × (start ≡ read ∷ reads) × IsBeforeIfRead order key read)
+
+-- ---- from the end
+
+-- what is read together, turned round
+abbrev pub turned : Result (List RowEntry) SlateDBError → List RowRead
+turned (Ok rows) = map (λ row. Ok row) (reverse rows)
+turned (Err e) = Err e ∷ []
+
+unfoldable pub reads_back : ℕ → List ℕ → List ℕ → List RowRead
+reads_back zero body offsets = []
+reads_back (suc n) body offsets = turned (all_ok (restart_at body offsets n)) ++ reads_back n body offsets
+
+unfoldable pub left_back : List ℕ → List ℕ → ℕ → List RowEntry → List RowRead
+left_back body offsets groups rows = turned (Ok rows) ++ reads_back groups body offsets
+
+-- ---- in either order
+
+abbrev pub walk_in : IterationOrder → List ℕ → List ℕ → List RowRead
+walk_in Ascending body offsets = reads_v2 body offsets (length body)
+walk_in Descending body offsets = reads_back (length offsets) body offsets

@@ -1,0 +1,9 @@
+pub mod BloomLaws
+pub mod ExtractorLaws
+pub mod PolicyLaws
+pub mod AskingLaws
+pub mod HashLaws
+pub mod ProbeLaws
+pub mod ColonLaws
+pub mod ByteLaws
+pub mod BuildLaws

@@ -1,0 +1,5 @@
+use Rattle.std.proofs.Common.{refl}
+use Rattle.slate_filter.proofs.vectors.probes.Goals as goal
+
+pub returns : goal.returns
+returns c = refl

@@ -1,0 +1,13 @@
+pub mod Hash
+pub mod Extractors
+pub mod Bloom
+pub mod Policy
+pub mod Laws
+pub mod Vectors
+pub mod Asking
+pub mod Named
+pub mod ExtractorsWithin
+pub mod Building
+pub mod BloomFilters
+pub mod Builders
+pub mod BloomPolicies

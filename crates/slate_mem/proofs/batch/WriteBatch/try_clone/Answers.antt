@@ -1,0 +1,25 @@
+use Rattle.std.proofs.Common.{◌∙◌, ap, rules, refl}
+use Rattle.std.proofs.lemmas.Result.{IfOk-from_err}
+use Rattle.slate_mem.specs.contracts.WriteOpClone.TheImpl.{ghosts}
+use Rattle.slate_mem.specs.BatchModel.{BatchModel}
+use Rattle.slate_mem.proofs.KeptLaws.{AreSame, copied-listed, copied-whole}
+use Rattle.slate_types.proofs.Exits.{err_exit}
+use Rattle.slate_mem.proofs.batch.WriteBatch.try_clone.Goals as goal
+
+same-op : AreSame ghosts.is_clone
+same-op a b h = search rules
+
+pub invariant_of-result : goal.invariant_of-result
+invariant_of-result c = copied-whole ghosts.is_clone same-op _ _ _ c.in_ok-clone.ensures.cases c.self.invariant
+
+pub returns-clause-copy : goal.returns-clause-copy
+returns-clause-copy c =
+    let ops = copied-listed ghosts.is_clone same-op _ _ c.in_ok-clone.ensures.cases in
+    ap (λ o. let b : BatchModel = record { ops = o; held_merge = c.self.inside.has_merge_ops } in b) ops ∙ c.self.view_is
+
+pub returns-in_err-clone : goal.returns-in_err-clone
+returns-in_err-clone c =
+    record {
+      copy = IfOk-from_err c.from_residual.result _ c.from_residual.ensures.0;
+      cause = err_exit c.from_residual.result _ c.from_residual.ensures.1 _ refl;
+    }

@@ -1,0 +1,12 @@
+use Rattle.std.proofs.Common.{refl}
+use Rattle.std.proofs.lemmas.Result.{IfOk-from_err}
+use Rattle.slate_types.proofs.Exits.{err_exit}
+use Rattle.slate_mem.proofs.key_range.KVTableInternalKeyRange.from_range.Goals as goal
+
+pub returns-in_err-start : goal.returns-in_err-start
+returns-in_err-start c =
+    record {
+      start = IfOk-from_err c.from_residual.result _ c.from_residual.ensures.0;
+      end = IfOk-from_err c.from_residual.result _ c.from_residual.ensures.0;
+      cause = err_exit c.from_residual.result _ c.from_residual.ensures.1 _ refl;
+    }

@@ -1,0 +1,469 @@
+//! Rows in memory, until a flush.
+ghost use Rattle.std.specs.Prelude.{◌≡◌, ◌<◌, ◌^◌, ◌++◌, ◌↔◌, ◌&&◌, filter, List, [], length, IsTrue, OnOk, OnErr, IfOk, IsOkUnless, Ok, ℕ, ◌-◌, ◌==◌, min, not};
+ghost use Rattle.std.specs.BTreeMap.{IsUnchanged};
+ghost use Rattle.std.specs.BTreeMap.Range.{IsLeBy, IsLtBy, entries_between};
+ghost use Rattle.std.specs.Range.Bound.{IsForward};
+ghost use Rattle.std.specs.BTreeMap.{is_at};
+ghost use Rattle.std.specs.BTreeMap as map;
+ghost use Rattle.std.specs.BTreeSet as set;
+ghost use Rattle.std.specs.List.{sum_by};
+ghost use Rattle.std.specs.Map.{set_value, values_of};
+ghost use Rattle.slate_types.specs.declared.error.SlateDBError.{SlateDBError};
+ghost use Rattle.slate_types.specs.Rows.{sequenced_cmp, estimated_size, of_key};
+ghost use Rattle.slate_types.specs.Keys.{key_cmp, keys_set, among};
+ghost use Rattle.slate_types.specs.Fold.{greatest_seq};
+ghost use Rattle.slate_types.specs.Iteration.{IsInOrder};
+ghost use Rattle.slate_types.specs.RowTurns.{AreInTurn, row_before};
+ghost use Rattle.slate_mem.specs.Table.{no_rows, put_rows, ranged, newest, last_tick, first_seq};
+ghost use Rattle.slate_mem.specs.Tied.{IsRows, insert_row, insert_rows, undone, all_undone, taken};
+
+use crate::key_range::KVTableInternalKeyRange;
+use crate::lookup::is_merge;
+use crate::metadata::{KVTableMetadata, count_rows};
+use bytes::Bytes;
+use slate_types::{BytesRange, IterationOrder, RowEntry, RowsIterator, SequencedKey, SlateDBError};
+use std::alloc::{AllocError, Global};
+use std::cmp::Ordering;
+use std::collections::btree_map::Range;
+use std::collections::{BTreeMap, BTreeSet};
+use std::marker::Model;
+use std::mem;
+use std::ops::Bound;
+
+/// Rows by key, the newest first within a key, with the segment prefixes that were recorded beside them. After a
+/// refusal it is as it was.
+#[derive(Drop)]
+pub struct MemTable {
+    alloc: Global,
+    rows: BTreeMap<SequencedKey, RowEntry>,
+    segments: BTreeSet<Bytes>,
+}
+
+impl Model for MemTable {
+    ghost use Rattle.std.specs.Map.{values_of};
+    ghost use Rattle.slate_mem.specs.Table.{MemTableModel};
+    ghost use Rattle.slate_mem.specs.Tied.{IsTable};
+
+    ghost Value = { MemTableModel };
+
+    ghost view = { λ t. record { rows = values_of t.rows.entries; segments = t.segments.keys } };
+
+    ghost invariant = { λ t. IsTable t.rows.entries t.segments.keys };
+}
+
+impl MemTable {
+    /// A table without rows. Takes no memory.
+    pub fn new(alloc: Global) -> MemTable
+        ensures { result ≡ no_rows }
+    {
+        MemTable {
+            alloc,
+            rows: BTreeMap::new(alloc),
+            segments: BTreeSet::new(alloc),
+        }
+    }
+
+    /// Whether it has no rows.
+    pub fn is_empty(&self) -> bool
+        ensures { IsTrue result ↔ (self.now.rows ≡ []) }
+    {
+        self.rows.is_empty()
+    }
+
+    /// Puts all rows, each in place of one of the same key and sequence, and records the prefixes beside those that
+    /// are recorded already. The one error is `OutOfMemory`, and then none is put.
+    pub fn put_all(
+        &mut self,
+        rows: Vec<RowEntry>,
+        segments: BTreeSet<Bytes>,
+    ) -> Result<(), SlateDBError>
+        ensures rows { OnOk result (self.new.rows ≡ put_rows self.old.rows rows.items) }
+        ensures segments { OnOk result (self.new.segments ≡ keys_set (self.old.segments ++ segments.keys)) }
+        ensures same { OnErr result (self.new ≡ self.old) }
+        ensures cause { IsOkUnless result SlateDBError.OutOfMemory }
+    {
+        let segments = join(&self.segments, segments)?;
+        put_each(self.alloc, &mut self.rows, rows)?;
+        self.segments = segments;
+        Ok(())
+    }
+
+    /// The rows of the key with sequences of at most `max_seq`, newest first, to the first that is no merge: what a
+    /// reader at that sequence sees is their fold. The one error is `OutOfMemory`.
+    pub fn rows_of_key(
+        &self,
+        alloc: Global,
+        key: &Bytes,
+        max_seq: u64,
+    ) -> Result<Vec<RowEntry>, SlateDBError>
+        ensures rows { IfOk result (λ rows. rows.items ≡ newest key.now max_seq self.now.rows) }
+        ensures cause { IsOkUnless result SlateDBError.OutOfMemory }
+    {
+        let (first, last) = places(key, max_seq, 0)?;
+        let (first, last) = (Bound::Included(first), Bound::Included(last));
+        rows_between(alloc, &self.rows, first, last, true)
+    }
+
+    /// The rows whose keys are in the range, keys in the order, and newest first within a key in both orders. They
+    /// share keys and values. The one error is `OutOfMemory`.
+    pub fn range(
+        &self,
+        alloc: Global,
+        range: &BytesRange,
+        order: IterationOrder,
+    ) -> Result<MemTableIterator, SlateDBError>
+        ensures rows { IfOk result (λ it. (k : List ℕ) → of_key k it.rows ≡ of_key k (ranged range.now self.now.rows)) }
+        ensures in_order { IfOk result (λ it. IsInOrder order it.rows) }
+        ensures turn { IfOk result (λ it. AreInTurn (row_before order) it.rows) }
+        ensures order { IfOk result (λ it. it.order ≡ order) }
+        ensures cause { IsOkUnless result SlateDBError.OutOfMemory }
+    {
+        let rows = rows_in(alloc, &self.rows, range)?;
+        let rows = ordered(rows, order)?;
+        Ok(RowsIterator::new(rows, order))
+    }
+
+    /// All rows, by key upwards and within a key by sequence downwards. They share keys and values. The one error is
+    /// `OutOfMemory`.
+    fn rows(&self, alloc: Global) -> Result<Vec<RowEntry>, SlateDBError>
+        ensures rows { IfOk result (λ rows. rows.items ≡ self.now.rows) }
+        ensures cause { IsOkUnless result SlateDBError.OutOfMemory }
+    {
+        rows_between(alloc, &self.rows, Bound::Unbounded, Bound::Unbounded, false)
+    }
+
+    /// Moves the rows and the recorded prefixes into a table that stays as it is, and leaves none. It takes no memory.
+    pub fn freeze(&mut self) -> Result<ImmutableMemtable, SlateDBError>
+        ensures frozen { result ≡ Ok self.old }
+        ensures left { self.new ≡ no_rows }
+    {
+        let empty = MemTable::new(self.alloc);
+        Ok(ImmutableMemtable {
+            table: mem::replace(self, empty),
+        })
+    }
+
+    /// The recorded prefixes.
+    pub fn touched_segments(&self) -> &BTreeSet<Bytes>
+        ensures { result.now.keys ≡ self.now.segments }
+    {
+        &self.segments
+    }
+
+    /// The number of rows, the sum of their estimated sizes or the greatest number where it is more, their greatest
+    /// creation or the least moment where there is none, and their last and first sequence, each 0 where there is
+    /// none. It goes over all rows.
+    pub fn metadata(&self) -> KVTableMetadata
+        ensures entries { result.entry_num ≡ length self.now.rows }
+        ensures bytes { result.entries_size_in_bytes ≡ min (sum_by estimated_size self.now.rows) (2 ^ 64 - 1) }
+        ensures tick { result.last_tick ≡ last_tick self.now.rows }
+        ensures last { result.last_seq ≡ greatest_seq 0 self.now.rows }
+        ensures first { result.first_seq ≡ first_seq self.now.rows }
+    {
+        count_rows(&self.rows)
+    }
+
+    /// Drops the rows of a sequence, and drops the prefixes from the recorded ones: so a commit that is refused after
+    /// its `put_all` is undone. It takes no memory.
+    pub fn take_back(&mut self, seq: u64, segments: &BTreeSet<Bytes>)
+        ensures rows { self.new.rows ≡ filter (λ r. not (r.seq == seq)) self.old.rows }
+        ensures segments { self.new.segments ≡ filter (λ p. not (among p segments.now.keys)) self.old.segments }
+    {
+        drop_rows(&mut self.rows, seq);
+        drop_prefixes(&mut self.segments, segments);
+    }
+}
+
+/// A table that is not written any more, and waits for its flush.
+#[derive(Drop)]
+pub struct ImmutableMemtable {
+    table: MemTable,
+}
+
+impl Model for ImmutableMemtable {
+    ghost use Rattle.slate_mem.specs.Table.{MemTableModel};
+
+    ghost Value = { MemTableModel };
+
+    ghost view = { λ t. t.table };
+}
+
+impl ImmutableMemtable {
+    /// As `MemTable::rows_of_key`.
+    pub fn rows_of_key(
+        &self,
+        alloc: Global,
+        key: &Bytes,
+        max_seq: u64,
+    ) -> Result<Vec<RowEntry>, SlateDBError>
+        ensures rows { IfOk result (λ rows. rows.items ≡ newest key.now max_seq self.now.rows) }
+        ensures cause { IsOkUnless result SlateDBError.OutOfMemory }
+    {
+        self.table.rows_of_key(alloc, key, max_seq)
+    }
+
+    /// As `MemTable::range`.
+    pub fn range(
+        &self,
+        alloc: Global,
+        range: &BytesRange,
+        order: IterationOrder,
+    ) -> Result<MemTableIterator, SlateDBError>
+        ensures rows { IfOk result (λ it. (k : List ℕ) → of_key k it.rows ≡ of_key k (ranged range.now self.now.rows)) }
+        ensures in_order { IfOk result (λ it. IsInOrder order it.rows) }
+        ensures turn { IfOk result (λ it. AreInTurn (row_before order) it.rows) }
+        ensures order { IfOk result (λ it. it.order ≡ order) }
+        ensures cause { IsOkUnless result SlateDBError.OutOfMemory }
+    {
+        self.table.range(alloc, range, order)
+    }
+
+    /// All rows, by key upwards and within a key by sequence downwards. They share keys and values. The one error is
+    /// `OutOfMemory`.
+    pub fn rows(&self, alloc: Global) -> Result<Vec<RowEntry>, SlateDBError>
+        ensures rows { IfOk result (λ rows. rows.items ≡ self.now.rows) }
+        ensures cause { IsOkUnless result SlateDBError.OutOfMemory }
+    {
+        self.table.rows(alloc)
+    }
+
+    /// The recorded prefixes.
+    pub fn touched_segments(&self) -> &BTreeSet<Bytes>
+        ensures { result.now.keys ≡ self.now.segments }
+    {
+        self.table.touched_segments()
+    }
+
+    /// As `MemTable::metadata`.
+    pub fn metadata(&self) -> KVTableMetadata
+        ensures entries { result.entry_num ≡ length self.now.rows }
+        ensures bytes { result.entries_size_in_bytes ≡ min (sum_by estimated_size self.now.rows) (2 ^ 64 - 1) }
+        ensures tick { result.last_tick ≡ last_tick self.now.rows }
+        ensures last { result.last_seq ≡ greatest_seq 0 self.now.rows }
+        ensures first { result.first_seq ≡ first_seq self.now.rows }
+    {
+        self.table.metadata()
+    }
+}
+
+/// An iterator over rows of a table, which it owns.
+pub type MemTableIterator = RowsIterator;
+
+/// What one put did: what stood at its place before.
+#[derive(Drop)]
+struct Step {
+    key: SequencedKey,
+    before: Option<RowEntry>,
+}
+
+/// The keys of both sets.
+fn join(
+    recorded: &BTreeSet<Bytes>,
+    mut more: BTreeSet<Bytes>,
+) -> Result<BTreeSet<Bytes>, AllocError>
+    ensures rising { IfOk result (set.IsOrdered key_cmp) }
+    ensures both { IfOk result (λ all. all.keys ≡ keys_set (recorded.now.keys ++ more.keys)) }
+{
+    let _count = more.len();
+    for prefix in recorded {
+        more.insert(prefix.clone()?)?;
+    }
+    Ok(more)
+}
+
+/// Puts a row under its own key.
+fn put_one(rows: &mut BTreeMap<SequencedKey, RowEntry>, row: RowEntry) -> Result<Step, AllocError>
+    ensures put { OnOk result (rows.new.entries ≡ insert_row rows.old.entries row) }
+    ensures undo { IfOk result (λ step. undone rows.new.entries step ≡ rows.old.entries) }
+    ensures kept { OnOk result (IsRows rows.old.entries → IsRows rows.new.entries) }
+    ensures same { OnErr result (IsUnchanged rows.old rows.new) }
+{
+    let (key, place) = match places(&row.key, row.seq, row.seq) {
+        Ok(places) => places,
+        Err(error) => {
+            drop(row);
+            return Err(error);
+        }
+    };
+    let before = rows.insert(place, row)?;
+    Ok(Step { key, before })
+}
+
+/// The key with each of two sequences.
+fn places(key: &Bytes, first: u64, second: u64) -> Result<(SequencedKey, SequencedKey), AllocError>
+    ensures first { IfOk result (λ places. places.0 ≡ record { user_key = key.now; seq = first }) }
+    ensures second { IfOk result (λ places. places.1 ≡ record { user_key = key.now; seq = second }) }
+{
+    let copy = key.clone()?;
+    match key.clone() {
+        Ok(key) => Ok((
+            SequencedKey::new(key, first),
+            SequencedKey::new(copy, second),
+        )),
+        Err(error) => {
+            drop(copy);
+            Err(error)
+        }
+    }
+}
+
+/// Takes back what one put did.
+fn undo(rows: &mut BTreeMap<SequencedKey, RowEntry>, step: Step)
+    ensures { rows.new.entries ≡ undone rows.old.entries step }
+{
+    let Step { key, before } = step;
+    match before {
+        None => drop(rows.remove(&key)),
+        Some(row) => write_back(rows, &key, row),
+    }
+}
+
+/// Writes a row over the one under the key.
+fn write_back(rows: &mut BTreeMap<SequencedKey, RowEntry>, key: &SequencedKey, row: RowEntry)
+    ensures { rows.new.entries ≡ set_value (is_at (sequenced_cmp key.now)) rows.old.entries row }
+{
+    match rows.get_mut(key) {
+        Some(place) => drop(mem::replace(place, row)),
+        None => drop(row),
+    }
+}
+
+/// Takes back what puts did, the last first.
+#[tactic(auto, using(crate::proofs::TableLaws::undone_last))]
+fn undo_all(rows: &mut BTreeMap<SequencedKey, RowEntry>, mut steps: Vec<Step>)
+    ensures { rows.new.entries ≡ all_undone rows.old.entries steps.items }
+{
+    while let Some(step) = steps.pop() {
+        undo(rows, step);
+    }
+}
+
+/// Puts all rows, or none.
+#[tactic(auto, using(crate::proofs::TableLaws::undone_last))]
+fn put_each(
+    alloc: Global,
+    table: &mut BTreeMap<SequencedKey, RowEntry>,
+    rows: Vec<RowEntry>,
+) -> Result<(), AllocError>
+    ensures put { OnOk result (table.new.entries ≡ insert_rows table.old.entries rows.items) }
+    ensures kept { OnOk result (IsRows table.old.entries → IsRows table.new.entries) }
+    ensures same { OnErr result (IsUnchanged table.old table.new) }
+{
+    let mut steps = Vec::with_capacity(alloc, rows.len())?;
+    for row in rows {
+        match put_one(table, row) {
+            Ok(step) => steps.push_reserved(step),
+            Err(error) => {
+                undo_all(table, steps);
+                return Err(error);
+            }
+        }
+    }
+    Ok(())
+}
+
+/// Copies of the rows whose keys are in the range.
+fn rows_in(
+    alloc: Global,
+    rows: &BTreeMap<SequencedKey, RowEntry>,
+    range: &BytesRange,
+) -> Result<Vec<RowEntry>, SlateDBError>
+    requires { IsRows rows.now.entries }
+    ensures rows { IfOk result (λ found. found.items ≡ ranged range.now (values_of rows.now.entries)) }
+    ensures cause { IsOkUnless result SlateDBError.OutOfMemory }
+{
+    if range.leaves_none() {
+        return Ok(Vec::new(alloc));
+    }
+    let KVTableInternalKeyRange { start, end } = KVTableInternalKeyRange::from_range(range)?;
+    rows_between(alloc, rows, start, end, false)
+}
+
+/// Copies of the rows between two bounds, and of no more than those to the first that is no merge where that is asked for.
+fn rows_between(
+    alloc: Global,
+    rows: &BTreeMap<SequencedKey, RowEntry>,
+    start: Bound<SequencedKey>,
+    end: Bound<SequencedKey>,
+    is_to_base: bool,
+) -> Result<Vec<RowEntry>, SlateDBError>
+    requires { IsForward (IsLeBy sequenced_cmp) (IsLtBy sequenced_cmp) start end }
+    ensures rows { IfOk result (λ found. found.items ≡ taken is_to_base (values_of (entries_between sequenced_cmp start end rows.now.entries))) }
+    ensures cause { IsOkUnless result SlateDBError.OutOfMemory }
+{
+    Ok(copies(alloc, rows.range((start, end)), is_to_base)?)
+}
+
+/// Copies of the rows of entries, and of no more than those to the first that is no merge where that is asked for.
+fn copies(
+    alloc: Global,
+    entries: Range<'_, SequencedKey, RowEntry>,
+    is_to_base: bool,
+) -> Result<Vec<RowEntry>, AllocError>
+    ensures rows { IfOk result (λ found. found.items ≡ taken is_to_base (values_of entries.entry)) }
+{
+    let mut found = Vec::new(alloc);
+    for (_, row) in entries {
+        found.push(row.clone()?)?;
+        if is_to_base && !is_merge(row) {
+            return Ok(found);
+        }
+    }
+    Ok(found)
+}
+
+/// Rows whose keys ascend, in the order.
+pub(crate) fn ordered(
+    mut rows: Vec<RowEntry>,
+    order: IterationOrder,
+) -> Result<Vec<RowEntry>, AllocError>
+    requires { IsInOrder IterationOrder.Ascending rows.items }
+    ensures keys { IfOk result (λ all. (k : List ℕ) → of_key k all.items ≡ of_key k rows.items) }
+    ensures in_order { IfOk result (λ all. IsInOrder order all.items) }
+{
+    match order {
+        IterationOrder::Ascending => Ok(rows),
+        IterationOrder::Descending => {
+            fall(&mut rows)?;
+            Ok(rows)
+        }
+    }
+}
+
+/// Sorts rows by key downwards. Those of a key stay in their order.
+fn fall(rows: &mut Vec<RowEntry>) -> Result<(), AllocError>
+    ensures keys { OnOk result ((k : List ℕ) → of_key k rows.new.items ≡ of_key k rows.old.items) }
+    ensures in_order { OnOk result (IsInOrder IterationOrder.Descending rows.new.items) }
+{
+    rows.sort_by(
+        |a, b| -> Ordering
+            ensures { result ≡ key_cmp b.now.key a.now.key }
+        { b.key.cmp(&a.key) },
+    )?;
+    Ok(())
+}
+
+/// Drops the rows of a sequence.
+fn drop_rows(rows: &mut BTreeMap<SequencedKey, RowEntry>, seq: u64)
+    ensures rows { rows.new.entries ≡ filter (λ e. not (e.1.seq == seq)) rows.old.entries }
+    ensures rising { map.IsOrdered sequenced_cmp rows.new }
+{
+    rows.retain(
+        move |_key, row| -> bool
+            ensures same { row.new ≡ row.old }
+            ensures test { result ≡ not (row.old.seq == seq) }
+        { row.seq != seq },
+    );
+}
+
+/// Drops the prefixes of the other set.
+fn drop_prefixes(prefixes: &mut BTreeSet<Bytes>, others: &BTreeSet<Bytes>)
+    ensures prefixes { prefixes.new.keys ≡ filter (λ p. not (among p others.now.keys)) prefixes.old.keys }
+    ensures rising { set.IsOrdered key_cmp prefixes.new }
+{
+    prefixes.retain(
+        |prefix| -> bool
+            ensures { result ≡ not (set.contains key_cmp others.entry.now prefix.now) }
+        { !others.contains(prefix) },
+    );
+}

@@ -1,0 +1,17 @@
+use Rattle.std.proofs.Common.{◌∙◌, ◌≤◌, ap, subst, refl, Some, Err, inl}
+use Rattle.std.proofs.lemmas.Result.{err_from_is_err_and, IfOk-from_err}
+use Rattle.slate_types.specs.Faults.{Rose}
+use Rattle.slate_store.proofs.memory_store.MemoryStoreStore.list.Goals as goal
+
+pub returns-in_err-step : goal.returns-in_err-step
+returns-in_err-step c =
+    let p = err_from_is_err_and c.from_residual.result c.from_residual.ensures.1 in
+    record {
+      answer = λ os is. IfOk-from_err c.from_residual.result _ c.from_residual.ensures.0;
+      order = λ os is. IfOk-from_err c.from_residual.result _ c.from_residual.ensures.0;
+      objects = ap (λ s. Some s.objects) c.self.view_is;
+      acts = refl;
+      later = subst (λ s. s.faults ≤ c.step.new.self.faults.count) c.self.view_is c.in_err-step.ensures.later;
+      still = inl (p.1 ∙ ap Err p.2);
+      cause = λ e. subst (λ s. Rose s.faults c.step.new.self.faults.count) c.self.view_is c.in_err-step.ensures.cause;
+    }

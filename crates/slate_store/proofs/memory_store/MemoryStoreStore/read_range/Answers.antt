@@ -1,0 +1,30 @@
+use Rattle.std.proofs.Common.{◌∙◌, ◌≤◌, ap, subst, refl, Some, Err, inl, inr}
+use Rattle.std.proofs.lemmas.Result.{err_from_is_err_and, IfOk-from_err}
+use Rattle.slate_types.specs.Faults.{Rose}
+use Rattle.slate_store.proofs.Steps.{on_err, no_fault}
+use Rattle.slate_store.proofs.memory_store.MemoryStoreStore.read_range.Goals as goal
+
+pub returns-in_err-step : goal.returns-in_err-step
+returns-in_err-step c =
+    let p = err_from_is_err_and c.from_residual.result c.from_residual.ensures.1 in
+    record {
+      answer = λ os is. IfOk-from_err c.from_residual.result _ c.from_residual.ensures.0;
+      objects = ap (λ s. Some s.objects) c.self.view_is;
+      act = IfOk-from_err c.from_residual.result _ c.from_residual.ensures.0;
+      refused_act = on_err c.from_residual.result refl;
+      later = subst (λ s. s.faults ≤ c.step.new.self.faults.count) c.self.view_is c.in_err-step.ensures.later;
+      still = inl (p.1 ∙ ap Err p.2);
+      cause = λ e. subst (λ s. Rose s.faults c.step.new.self.faults.count) c.self.view_is c.in_err-step.ensures.cause;
+    }
+
+pub returns-in_err-read_object : goal.returns-in_err-read_object
+returns-in_err-read_object c =
+    record {
+      answer = λ os is. IfOk-from_err c.from_residual-in_err-read_object.result _ c.from_residual-in_err-read_object.ensures.0;
+      objects = ap (λ s. Some s.objects) c.self.view_is;
+      act = IfOk-from_err c.from_residual-in_err-read_object.result _ c.from_residual-in_err-read_object.ensures.0;
+      refused_act = on_err c.from_residual-in_err-read_object.result refl;
+      later = subst (λ s. s.faults ≤ c.step.new.self.faults.count) c.self.view_is c.in_ok-step.ensures.later;
+      still = inr (c.in_ok-step.ensures.still ∙ ap (λ s. s.faults) c.self.view_is);
+      cause = λ e. absurd (no_fault c.from_residual-in_err-read_object.result c.from_residual-in_err-read_object.ensures.1 e);
+    }

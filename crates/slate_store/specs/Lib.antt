@@ -1,0 +1,9 @@
+pub mod Held
+pub mod Laws
+pub mod Lines
+pub mod Lying
+pub mod Memory
+pub mod Noted
+pub mod Store
+pub mod Env
+pub mod Reach

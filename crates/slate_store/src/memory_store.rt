@@ -1,0 +1,172 @@
+//! A store in memory, whose calls fail where they are told to.
+ghost use Rattle.std.specs.Prelude.{◌≡◌, [], Some, None, IfOk, OnOk, OnErr, IsOkUnless};
+ghost use Rattle.std.specs.BTreeMap.{keys};
+ghost use Rattle.std.specs.Option.{option_copied};
+ghost use Rattle.slate_store.specs.Store.{len_of, object_at, part_of, with_object, IsRising};
+
+use crate::faults::FaultPlan;
+use crate::{PathText, Store, StoreError};
+use bytes::{ByteStr, Bytes};
+use std::alloc::{AllocError, Global};
+use std::collections::BTreeMap;
+use std::marker::Model;
+
+/// Keeps objects in memory. A call that fails changes nothing.
+#[derive(Drop)]
+pub struct MemoryStore {
+    objects: BTreeMap<ByteStr, Bytes>,
+    plan: FaultPlan,
+}
+
+impl Model for MemoryStore {
+    ghost use Rattle.slate_store.specs.Memory.{MemoryStoreModel};
+
+    ghost Value = { MemoryStoreModel };
+
+    ghost view = { λ s. record { objects = s.objects.entries; faults = s.plan.faults.count } };
+}
+
+impl MemoryStore {
+    /// A store with no object. `failing` numbers the calls that fail, from 1.
+    pub fn new(alloc: Global, failing: Vec<u64>) -> MemoryStore
+        ensures objects { result.objects ≡ [] }
+        ensures told { ⟦<MemoryStore as Store>⟧.objects result ≡ Some [] }
+        ensures faults { result.faults ≡ 0 }
+        ensures counted { ⟦<MemoryStore as Store>⟧.faults result ≡ 0 }
+    {
+        MemoryStore {
+            objects: BTreeMap::new(alloc),
+            plan: FaultPlan::new(failing),
+        }
+    }
+}
+
+impl Store for MemoryStore {
+    ghost objects = { λ s. Some s.objects };
+
+    ghost acts = { λ _. None };
+
+    ghost faults = { λ s. s.faults };
+
+    fn put(&mut self, alloc: Global, path: &str, bytes: &[u8]) -> Result<(), StoreError> {
+        self.plan.step()?;
+        put_object(alloc, &mut self.objects, path, bytes)
+    }
+
+    /// Copies no byte of the object: the answer shares its memory.
+    fn read_range(
+        &mut self,
+        alloc: Global,
+        path: &str,
+        start: u64,
+        len: u64,
+    ) -> Result<Option<Bytes>, StoreError> {
+        self.plan.step()?;
+        Ok(read_object(alloc, &self.objects, path, start, len)?)
+    }
+
+    fn len(&mut self, alloc: Global, path: &str) -> Result<Option<u64>, StoreError> {
+        self.plan.step()?;
+        Ok(object_len(alloc, &self.objects, path)?)
+    }
+
+    fn list(&mut self, alloc: Global) -> Result<Vec<PathText>, StoreError> {
+        self.plan.step()?;
+        paths_of(alloc, &self.objects)
+    }
+}
+
+/// Puts an object in place of one that was there. Where memory is wanting, nothing is done.
+pub(crate) fn put_object(
+    alloc: Global,
+    objects: &mut BTreeMap<ByteStr, Bytes>,
+    path: &str,
+    bytes: &[u8],
+) -> Result<(), StoreError>
+    ensures taken { OnOk result (objects.new.entries ≡ with_object objects.old.entries path.now bytes.now) }
+    ensures refused { OnErr result (objects.new.entries ≡ objects.old.entries) }
+    ensures memory { IsOkUnless result StoreError.OutOfMemory }
+{
+    let path = ByteStr::copy_from_str(alloc, path)?;
+    match Bytes::copy_from_slice(alloc, bytes) {
+        Ok(bytes) => {
+            drop(objects.insert(path, bytes)?);
+            Ok(())
+        }
+        Err(error) => {
+            drop(path);
+            Err(error.into())
+        }
+    }
+}
+
+/// The object at a path.
+fn find<'a>(
+    alloc: Global,
+    objects: &'a BTreeMap<ByteStr, Bytes>,
+    path: &str,
+) -> Result<Option<&'a Bytes>, AllocError>
+    ensures { IfOk result (λ object. option_copied object ≡ object_at objects.now.entries path.now) }
+{
+    let path = ByteStr::copy_from_str(alloc, path)?;
+    Ok(objects.get(&path))
+}
+
+/// The length of the object at a path, and none of a missing one.
+pub(crate) fn object_len(
+    alloc: Global,
+    objects: &BTreeMap<ByteStr, Bytes>,
+    path: &str,
+) -> Result<Option<u64>, AllocError>
+    ensures { IfOk result (λ len. len ≡ len_of (object_at objects.now.entries path.now)) }
+{
+    match find(alloc, objects, path)? {
+        Some(object) => Ok(Some(object.len() as u64)),
+        None => Ok(None),
+    }
+}
+
+/// A range of the object at a path, and none of a missing one.
+pub(crate) fn read_object(
+    alloc: Global,
+    objects: &BTreeMap<ByteStr, Bytes>,
+    path: &str,
+    start: u64,
+    len: u64,
+) -> Result<Option<Bytes>, AllocError>
+    ensures { IfOk result (λ range. range ≡ part_of (object_at objects.now.entries path.now) start len) }
+{
+    match find(alloc, objects, path)? {
+        Some(object) => range_of(object, start, len),
+        None => Ok(None),
+    }
+}
+
+/// A range of an object, and none past its end.
+fn range_of(object: &Bytes, start: u64, len: u64) -> Result<Option<Bytes>, AllocError>
+    ensures { IfOk result (λ range. range ≡ part_of (Some object.now) start len) }
+{
+    let whole = object.len() as u64;
+    if start > whole || len > whole - start {
+        return Ok(None);
+    }
+    let (start, end) = (start as usize, (start + len) as usize);
+    object.slice(start..end).map(Some)
+}
+
+/// The paths of all objects, rising.
+pub(crate) fn paths_of(
+    alloc: Global,
+    objects: &BTreeMap<ByteStr, Bytes>,
+) -> Result<Vec<PathText>, StoreError>
+    ensures paths { IfOk result (λ paths. paths.items ≡ keys objects.now) }
+    ensures order { IfOk result (λ paths. IsRising paths.items) }
+    ensures memory { IsOkUnless result StoreError.OutOfMemory }
+{
+    let mut paths = Vec::new(alloc);
+    for path in objects.keys() {
+        let text = String::from_str(alloc, path.as_str())?;
+        paths.push(PathText::from_string(text))?;
+    }
+    Ok(paths)
+}

@@ -1,0 +1,4 @@
+pub mod SortedRowsLaws
+pub mod CommitListLaws
+pub mod OpenIds
+pub mod PolicyNames

@@ -1,0 +1,14 @@
+-- What the parts that tests hand in compute.
+--     appended u v      v behind u, cut to a short value
+use Rattle.std.specs.Prelude.{ℕ, ◌-◌, ◌^◌, ◌≤◌, List, [], ◌++◌, length, take, Option, unwrap_or}
+use Rattle.std.proofs.Common.{sym, subst}
+use Rattle.std.proofs.Math.Nat.{min-le_left}
+use Rattle.std.proofs.lemmas.List.{length-take}
+use Rattle.slate_types.specs.Fold.{KeepsShort}
+
+abbrev pub appended : Option (List ℕ) → List ℕ → List ℕ
+appended u v = take (2 ^ 32 - 1) (unwrap_or u [] ++ v)
+
+pub appended-short : KeepsShort appended
+appended-short u v h k =
+    subst (λ n. n ≤ 2 ^ 32 - 1) (sym (length-take (2 ^ 32 - 1) (unwrap_or u [] ++ v))) (min-le_left (2 ^ 32 - 1) (length (unwrap_or u [] ++ v)))

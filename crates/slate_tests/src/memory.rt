@@ -1,0 +1,106 @@
+// Batches and frozen rows in memory: calls that no run makes, and what they give.
+use crate::listing::{Row, are_rows, walked};
+use crate::memory_lists::put_in_table;
+use bytes::Bytes;
+use slate_mem::{ImmutableMemtable, MemTable, WriteBatch, WriteBatchIterator};
+use slate_types::{BytesRange, IterationOrder, PutOptions, RowEntry, Ttl};
+use std::alloc::Global;
+use std::collections::BTreeSet;
+use std::ops::Bound;
+
+// The rows at keys that begin with k, from k on, keys falling.
+fn walked_range(alloc: Global, table: ImmutableMemtable) -> Option<Vec<RowEntry>> {
+    let Some(range) = BytesRange::from_prefix(alloc, b"k").ok() else {
+        drop(table);
+        return None;
+    };
+    let rows = table.range(alloc, &range, IterationOrder::Descending);
+    drop((range, table));
+    walked(alloc, rows, Some(b"k"))
+}
+
+// Those of the table of the puts once what was put at 5 is taken back, and it is frozen.
+fn frozen_rows(alloc: Global) -> Option<Vec<RowEntry>> {
+    let mut table = MemTable::new(alloc);
+    put_in_table(alloc, &mut table);
+    table.take_back(5, &BTreeSet::new(alloc));
+    let frozen = table.freeze().ok();
+    drop(table);
+    match frozen {
+        Some(frozen) => walked_range(alloc, frozen),
+        None => None,
+    }
+}
+
+const FROZEN: &[Row] = &[
+    (b"k", 'v', b"again", 4, Some(40), None),
+    (b"k", 'm', b"3", 3, Some(40), None),
+    (b"k", 'v', b"2", 2, Some(40), None),
+];
+
+#[test]
+fn frozen_tables_stay(rt: HostRuntime) {
+    assert!(rt; are_rows(rt.alloc(), frozen_rows(rt.alloc()), FROZEN));
+}
+
+// Four writes to a batch.
+fn fill(batch: &mut WriteBatch) -> Option<()> {
+    let hour = PutOptions {
+        ttl: Ttl::ExpireAfter(3600000),
+    };
+    let first = batch
+        .put_bytes(Bytes::from_static(b"k"), Bytes::from_static(b"1"))
+        .ok();
+    let second = batch
+        .put_bytes_with_options(Bytes::from_static(b"l"), Bytes::from_static(b"1"), &hour)
+        .ok();
+    let third = batch.put_with_options(b"k", b"2", &hour).ok();
+    let fourth = batch.delete(b"c").ok();
+    first.and(second).and(third).and(fourth)
+}
+
+fn copied(alloc: Global) -> Option<WriteBatch> {
+    let mut batch = WriteBatch::new(alloc);
+    let filled = fill(&mut batch);
+    let copy = batch.try_clone().ok();
+    drop(batch);
+    filled.and(copy)
+}
+
+// What a batch gives from c on, keys falling.
+fn walked_batch(alloc: Global, batch: &WriteBatch) -> Option<Vec<RowEntry>> {
+    let range = BytesRange::from_slice(alloc, Bound::Included(b"c"), Bound::Excluded(b"l"));
+    let Some(range) = range.ok() else { return None };
+    let order = IterationOrder::Descending;
+    let rows = WriteBatchIterator::new(alloc, batch, &range, order, 7, Some(40), None);
+    drop(range);
+    walked(alloc, rows, Some(b"k"))
+}
+
+fn has_three_keys(batch: &WriteBatch) -> bool {
+    match batch.keys().ok() {
+        Some(keys) => keys.len() == 3,
+        None => false,
+    }
+}
+
+const WRITTEN: &[Row] = &[
+    (b"k", 'v', b"2", 7, Some(40), Some(3600040)),
+    (b"c", 'd', b"", 7, Some(40), None),
+];
+
+// Whether a batch of three keys has these rows there.
+fn is_batch_of(alloc: Global, rows: &[Row]) -> bool {
+    let Some(batch) = copied(alloc) else {
+        return false;
+    };
+    let walked = walked_batch(alloc, &batch);
+    let has_keys = has_three_keys(&batch);
+    drop(batch);
+    are_rows(alloc, walked, rows) && has_keys
+}
+
+#[test]
+fn batches_are_walked(rt: HostRuntime) {
+    assert!(rt; is_batch_of(rt.alloc(), WRITTEN));
+}

@@ -1,0 +1,105 @@
+//! Lists that stand in events and lines. Contracts see each as the list of its items.
+ghost use Rattle.std.specs.Prelude.{◌≡◌};
+
+use bytes::Bytes;
+use slate_mem::WriteOp;
+use slate_types::Ulid;
+use std::marker::Model;
+
+/// Keys, as a mark, an unmark and a commit hold them.
+#[derive(Clone, Drop)]
+pub struct KeyList {
+    items: Vec<Bytes>,
+}
+
+impl Model for KeyList {
+    ghost use Rattle.std.specs.Prelude.{ℕ, List};
+
+    ghost Value = { List (List ℕ) };
+
+    ghost view = { λ l. l.items.items };
+}
+
+impl KeyList {
+    /// The list of these keys. Takes no memory.
+    pub fn from_vec(items: Vec<Bytes>) -> KeyList
+        ensures { result ≡ items.items }
+    {
+        KeyList { items }
+    }
+
+    /// The keys, in their order.
+    pub fn as_slice(&self) -> &[Bytes]
+        ensures { result.now ≡ self.now }
+    {
+        self.items.as_slice()
+    }
+}
+
+/// Operations, each with its key, oldest first.
+#[derive(Drop)]
+pub struct OpList {
+    items: Vec<(Bytes, WriteOp)>,
+}
+
+impl Model for OpList {
+    ghost use Rattle.slate_mem.specs.Batch.{Ops};
+
+    ghost Value = { Ops };
+
+    ghost view = { λ l. l.items.items };
+}
+
+impl OpList {
+    /// The list of these operations. Takes no memory.
+    pub fn from_vec(items: Vec<(Bytes, WriteOp)>) -> OpList
+        ensures { result ≡ items.items }
+    {
+        OpList { items }
+    }
+
+    /// The operations, oldest first.
+    pub fn as_slice(&self) -> &[(Bytes, WriteOp)]
+        ensures { result.now ≡ self.now }
+    {
+        self.items.as_slice()
+    }
+
+    /// The operations, oldest first. Takes no memory.
+    pub fn into_vec(self) -> Vec<(Bytes, WriteOp)>
+        ensures { result.items ≡ self }
+    {
+        self.items
+    }
+}
+
+/// Tables, each with its id and its bytes as they were put.
+#[derive(Clone, Drop)]
+pub struct TableList {
+    items: Vec<(Ulid, Bytes)>,
+}
+
+impl Model for TableList {
+    ghost use Rattle.std.specs.Prelude.{ℕ, List};
+    ghost use Rattle.slate_types.specs.declared.types.Ulid.{Ulid};
+
+    ghost Value = { List (Ulid × List ℕ) };
+
+    ghost view = { λ l. l.items.items };
+}
+
+impl TableList {
+    /// The list of these tables. Takes no memory.
+    pub fn from_vec(items: Vec<(Ulid, Bytes)>) -> TableList
+        ensures { result ≡ items.items }
+    {
+        TableList { items }
+    }
+
+    /// The tables, in the order in which they were put.
+    pub fn as_slice(&self) -> &[(Ulid, Bytes)]
+        ensures { result.now ≡ self.now }
+    {
+        self.items.as_slice()
+    }
+}

@@ -1,0 +1,8 @@
+use Rattle.slate_types.proofs.PartitionLaws.{first-is-first, last-is-last}
+use Rattle.slate_types.proofs.laws.partitions.Goals as goal
+
+pub returns-clause-first_including_is_first : goal.returns-clause-first_including_is_first
+returns-clause-first_including_is_first c = first-is-first
+
+pub returns-clause-last_including_is_last : goal.returns-clause-last_including_is_last
+returns-clause-last_including_is_last c = last-is-last
