@@ -1,0 +1,167 @@
+# shellcheck shell=bash disable=SC2154
+# Functions of ./slate, bench/run and ./test: which program is the proved one, how it is proved and built, and how one is run
+# unproved. Source this file with `top` set to the repository's folder, and name the program by `choose_program`.
+#
+# crates/NAME/out/proved-source has one line: a sum over the source that the program was proved and built from,
+# and a sum over the program. Where both fit, the program is used as it is and nothing is proved again.
+
+choose_program() {
+    program_name=$1
+    out="$top/crates/$program_name/out"
+    program="$out/$program_name"
+    stamp_file="$out/proved-source"
+}
+
+# The crates that the program stands on, and its own, as crates.txt says.
+crates_of_program() {
+    local -A needs=() seen=()
+    local line crate word left=("$program_name")
+    while IFS= read -r line || [[ -n $line ]]; do
+        line=${line%%#*}
+        [[ $line == *:* ]] || continue
+        read -r crate _ <<<"${line%%:*}"
+        needs[$crate]=${line#*:}
+    done <"$top/crates.txt"
+    while ((${#left[@]})); do
+        crate=${left[0]}
+        left=("${left[@]:1}")
+        [[ -z ${seen[$crate]-} ]] || continue
+        seen[$crate]=1
+        for word in ${needs[$crate]-}; do
+            [[ ! -v needs[$word] ]] || left+=("$word")
+        done
+    done
+    printf '%s\n' "${!seen[@]}" | LC_ALL=C sort
+}
+
+# A sum over the toolchain's name, crates.txt, HANDLES and the source of these crates. Fails where a part is missing.
+source_sum() (
+    cd "$top" || exit 1
+    shopt -s globstar nullglob dotglob
+    LC_ALL=C
+    files=(crates.txt HANDLES)
+    for crate in $(crates_of_program); do
+        for file in crates/"$crate"/{src,specs,proofs}/**; do
+            [[ ! -f $file ]] || files+=("$file")
+        done
+    done
+    kit=$(rt version 2>/dev/null </dev/null) || exit 1
+    sums=$(sha256sum -- "${files[@]}") || exit 1
+    sum=$(printf '%s\n' "$kit" "$sums" | sha256sum) || exit 1
+    printf '%s\n' "${sum%% *}"
+)
+
+# What the stamp's line must be for a source sum and the program that stands there.
+stamp_line() {
+    local sum
+    sum=$(sha256sum <"$program" 2>/dev/null) || return 1
+    printf '%s %s\n' "$1" "${sum%% *}"
+}
+
+# is_proved SUM: the program that stands there was proved and built from the source with this sum.
+is_proved() {
+    local kept
+    [[ -x $program && -r $stamp_file ]] || return 1
+    kept=$(<"$stamp_file")
+    [[ $kept == "$(stamp_line "$1")" ]]
+}
+
+# stamp SUM: says so of the program that stands there.
+stamp() {
+    local line
+    line=$(stamp_line "$1") || return 1
+    printf '%s\n' "$line" >"$stamp_file.$$" && mv -f "$stamp_file.$$" "$stamp_file"
+}
+
+say() { printf '%s: %s\n' "$program_name" "$*" >&2; }
+
+give_up() {
+    say "$*"
+    exit 1
+}
+
+# Proves the crates of the program, lowest first, each on as many processors as rt chooses, with a line for each.
+prove_crates() {
+    local line crate crates=() done_so_far=0 wanted
+    wanted=$(crates_of_program)
+    while IFS= read -r line || [[ -n $line ]]; do
+        line=${line%%#*}
+        read -r crate _ <<<"${line%%:*}"
+        [[ $line != *:* ]] || ! grep -qx "$crate" <<<"$wanted" || crates+=("$crate")
+    done <"$top/crates.txt"
+    for crate in "${crates[@]}"; do
+        (cd "$top/crates/$crate" && rt check) </dev/null >&4 2>&1
+        done_so_far=$((done_so_far + 1))
+        say "checked $crate ($done_so_far of ${#crates[@]}, ${SECONDS} s)"
+    done
+}
+
+# The lines of the log that say what isn't proved.
+show_failures() {
+    local line
+    while IFS= read -r line; do
+        case $line in
+        *": error: "* | *": not proved" | *"NOT PROVED"* | *"isn't proved"* | "rt: "*"did not build"*) printf '%s\n' "$line" ;;
+        esac
+    done <"$1" | tail -n 12 >&2
+}
+
+build() {
+    local log="$out/build.log"
+    mkdir -p "$out" || give_up "cannot make crates/$program_name/out"
+    exec 4>"$log" || give_up "cannot write crates/$program_name/out/build.log"
+    say "the proved program isn't built for this source yet; proving and building it takes about half an hour on four processors, once"
+    prove_crates
+    # The last word is here: rt builds the program only over proved crates, and --version alone ends with status 0.
+    if ! (cd "$top/crates/$program_name" && rt run -- --version) </dev/null >&4 2>&1; then
+        show_failures "$log"
+        give_up "the program isn't proved, so nothing is run; all that was said is in crates/$program_name/out/build.log"
+    fi
+    exec 4>&-
+    [[ $(source_sum) == "$1" ]] || give_up "the source was changed while it was proved; call this again"
+    stamp "$1" || give_up "cannot write crates/$program_name/out"
+    say "proved and built in ${SECONDS} s"
+}
+
+# Sets `sum` to that of the source.
+read_source() {
+    command -v rt >/dev/null || give_up "rt, the command of the Rattle toolchain, isn't there: the program can't be built"
+    sum=$(source_sum) || give_up "the source of the program can't be read"
+}
+
+# Proves and builds the program where it isn't built for this source.
+prepare() {
+    read_source
+    is_proved "$sum" || build "$sum"
+}
+
+# rt gives a program that it runs unproved less standard input than this.
+most_input=$((64 * 1024 * 1024))
+
+# run_unproved WORDS..: runs the program with these words by `rt try`, which proves nothing, builds the program anew for each call and
+# keeps nothing of it. Ends with the program's status, or with 1 where rt gives no answer of it. The program begins where standard
+# input has ended, and what it writes comes when it has ended.
+run_unproved() {
+    local words=("$@") status
+    try_folder=$(mktemp -d) || give_up "no folder for a run"
+    trap 'rm -rf "$try_folder"' EXIT
+    : >"$try_folder/input"
+    case $#:${1-} in
+    0: | 1:--help | 1:--version) ;;
+    *)
+        cat >"$try_folder/input" || exit 5
+        # rt runs the program in a folder of its own, and the folder of a word is the caller's.
+        [[ -z $1 || $1 == - || $1 == /* ]] || words[0]=$PWD/$1
+        ;;
+    esac
+    (($(wc -c <"$try_folder/input") < most_input)) || give_up "a script of 64 MiB or more needs the proved program"
+    (cd "$top/crates/$program_name" && exec rt try -- "${words[@]}") \
+        <"$try_folder/input" >"$try_folder/output" 2>"$try_folder/said"
+    status=$?
+    if [[ $(tail -n 1 "$try_folder/said") != "run=ended status=$status "* ]]; then
+        tail -n 12 "$try_folder/said" >&2
+        give_up "the unproved run gave no answer"
+    fi
+    cat "$try_folder/output" || exit 6
+    exit "$status"
+}

@@ -1,0 +1,1980 @@
+//! The work of `slate_bench` and of `slate` in plain Rust, for comparison: the same bytes, by the standard library alone.
+//!
+//! With no word it prints what was done, and with the word `time` how long it took too. Lines and figures are those of
+//! `slate_bench`. Five more words are there for scripts: `make NAME` prints one of them, `run -` and `run FOLDER` answer one
+//! as `slate` does, `keep -` and `keep FOLDER` do so and keep a journal, `gen ROUNDS SEED` answers as `slate - gen ROUNDS SEED`, with
+//! a journal too, and `measure FILE PROGRAM WORDS..` runs a program and appends to the file what it took.
+
+use block::{decode_block, walk_v1, walk_v2, Builder, Row, Sums, Version};
+use script::{Journal, Store};
+use std::collections::BTreeMap;
+use std::env;
+use std::io;
+use std::process::exit;
+use std::time::Instant;
+use table::{build_table, open_section, places_of, read_index, CrcTables};
+
+const ROWS: u64 = 200_000;
+const TABLE_ROWS: usize = 100_000;
+const VALUE_LEN: usize = 100;
+
+fn make_rows() -> Vec<Row> {
+    (0..ROWS)
+        .map(|i| Row {
+            key: format!("account/{i:08}/balance").into_bytes(),
+            value: vec![(i % 251) as u8; VALUE_LEN],
+            is_operand: false,
+            seq: i + 1,
+            create_ts: i as i64,
+        })
+        .collect()
+}
+
+fn encode_blocks(rows: &[Row], version: Version) -> Vec<Vec<u8>> {
+    let mut blocks = Vec::new();
+    let mut builder = Builder::new(version);
+    for row in rows {
+        if !builder.add(row) {
+            blocks.push(builder.encode());
+            builder = Builder::new(version);
+            builder.add(row);
+        }
+    }
+    blocks.push(builder.encode());
+    blocks
+}
+
+fn decode_blocks(blocks: &[Vec<u8>], version: Version) -> Option<Sums> {
+    let mut sums = Sums::default();
+    for bytes in blocks {
+        let (body, offsets) = decode_block(bytes)?;
+        match version {
+            Version::V1 => walk_v1(body, &offsets, &mut sums)?,
+            Version::V2 => walk_v2(body, &offsets, &mut sums)?,
+        }
+    }
+    Some(sums)
+}
+
+fn run_checksums(is_timed: bool) {
+    let crc = CrcTables::new();
+    let mut bytes: Vec<u8> = (0..4_194_304u32)
+        .map(|number| (number % 251) as u8)
+        .collect();
+    let start = Instant::now();
+    let (mut sums, mut len) = (0u64, 0u64);
+    for turn in 0..64u32 {
+        bytes.push((turn % 251) as u8);
+        sums += u64::from(crc.checksum(&bytes));
+        len += bytes.len() as u64;
+    }
+    report(
+        is_timed,
+        "checksum",
+        &format!("{len} bytes, sums {sums}"),
+        start,
+    );
+}
+
+/// Reads all rows of a table whose index lies between `index_at` and `stats_at`.
+fn read_table(
+    crc: &CrcTables,
+    bytes: &[u8],
+    places: (usize, usize),
+    version: Version,
+) -> Option<Sums> {
+    let (index_at, stats_at) = places;
+    let (offsets, _separators) = read_index(open_section(crc, bytes.get(index_at..stats_at)?)?)?;
+    let mut sums = Sums::default();
+    for (i, at) in offsets.iter().enumerate() {
+        let end = offsets.get(i + 1).copied().unwrap_or(index_at);
+        let (body, block_offsets) = decode_block(open_section(crc, bytes.get(*at..end)?)?)?;
+        match version {
+            Version::V1 => walk_v1(body, &block_offsets, &mut sums)?,
+            Version::V2 => walk_v2(body, &block_offsets, &mut sums)?,
+        }
+    }
+    Some(sums)
+}
+
+fn run_tables(is_timed: bool, rows: &[Row], version: Version, name: &str) -> Option<()> {
+    let crc = CrcTables::new();
+    let mut store = BTreeMap::new();
+    let start = Instant::now();
+    let table = build_table(&crc, rows, version);
+    let done = format!("{} rows, {} bytes", rows.len(), table.len());
+    store.insert("db/compacted/1.sst", table.as_slice().to_vec());
+    report(is_timed, &format!("build table {name}"), &done, start);
+    let stored = store.get("db/compacted/1.sst")?;
+    let places = places_of(stored)?;
+    let start = Instant::now();
+    let sums = read_table(&crc, stored, places, version)?;
+    report(is_timed, &format!("read table {name}"), &sums.text(), start);
+    Some(())
+}
+
+/// Prints what was done, and with `time` how long it took.
+fn report(is_timed: bool, name: &str, done: &str, start: Instant) {
+    let nanos = start.elapsed().as_nanos();
+    println!("{name}: {done}");
+    if is_timed {
+        println!("{name} took {nanos} ns");
+    }
+}
+
+fn run_blocks(is_timed: bool, rows: &[Row], version: Version, name: &str) -> Option<()> {
+    let start = Instant::now();
+    let blocks = encode_blocks(rows, version);
+    let bytes: usize = blocks.iter().map(Vec::len).sum();
+    report(
+        is_timed,
+        &format!("encode {name}"),
+        &format!(
+            "{} rows, {} blocks, {bytes} bytes",
+            rows.len(),
+            blocks.len()
+        ),
+        start,
+    );
+    let start = Instant::now();
+    let sums = decode_blocks(&blocks, version)?;
+    report(is_timed, &format!("decode {name}"), &sums.text(), start);
+    Some(())
+}
+
+/// The work of `slate_bench`. `None` where a block or a table can't be read.
+fn run_parts(is_timed: bool) -> Option<()> {
+    let rows = make_rows();
+    let versions = [(Version::V1, "v1"), (Version::V2, "v2")];
+    for (version, name) in versions {
+        run_blocks(is_timed, &rows, version, name)?;
+    }
+    run_checksums(is_timed);
+    for (version, name) in versions {
+        run_tables(is_timed, &rows[..TABLE_ROWS], version, name)?;
+    }
+    Some(())
+}
+
+fn status_of(done: Option<()>) -> i32 {
+    if done.is_some() {
+        0
+    } else {
+        1
+    }
+}
+
+fn main() {
+    let words: Vec<String> = env::args().skip(1).collect();
+    let words: Vec<&str> = words.iter().map(String::as_str).collect();
+    let status = match words.as_slice() {
+        [] => status_of(run_parts(false)),
+        ["time"] => status_of(run_parts(true)),
+        ["make", name] => status_of(scripts::make(name).map(|script| print!("{script}"))),
+        ["run", store] => script::run(Store::at(store), Journal::None, io::stdin(), io::stdout()),
+        ["keep", store] => script::run(Store::at(store), Journal::new(), io::stdin(), io::stdout()),
+        ["gen", rounds, seed] => script::run_generated(rounds, seed, io::stdout()),
+        ["measure", file, program, words @ ..] => measure::measure(file, program, words),
+        _ => 2,
+    };
+    exit(status);
+}
+
+/// Rows and blocks: how they are written, and how they are read.
+mod block {
+    use std::cmp::Ordering;
+
+    const BLOCK_SIZE: usize = 4096;
+    const RESTART_INTERVAL: usize = 16;
+
+    /// The flag of a row that has its creation.
+    const CREATED: u8 = 4;
+
+    /// The flag of an operand.
+    const OPERAND: u8 = 8;
+
+    /// A put or an operand, as it is given to a builder.
+    pub struct Row {
+        pub key: Vec<u8>,
+        pub value: Vec<u8>,
+        pub is_operand: bool,
+        pub seq: u64,
+        pub create_ts: i64,
+    }
+
+    /// A row as it is read: the key put together, the value where it stands.
+    pub struct ReadRow<'a> {
+        pub key: Vec<u8>,
+        pub value: &'a [u8],
+        pub seq: u64,
+        pub create_ts: Option<i64>,
+        pub expire_ts: Option<i64>,
+        pub flags: u8,
+    }
+
+    impl ReadRow<'_> {
+        pub fn is_operand(&self) -> bool {
+            self.flags & OPERAND != 0
+        }
+    }
+
+    #[derive(Clone, Copy, PartialEq)]
+    pub enum Version {
+        V1,
+        V2,
+    }
+
+    pub fn compute_prefix(a: &[u8], b: &[u8]) -> usize {
+        a.iter().zip(b).take_while(|(x, y)| x == y).count()
+    }
+
+    fn varint_len(value: u32) -> usize {
+        ((32 - value.leading_zeros()).max(1) as usize).div_ceil(7)
+    }
+
+    fn append_varint(out: &mut Vec<u8>, mut value: u32) {
+        while value >= 128 {
+            out.push(value as u8 | 128);
+            value >>= 7;
+        }
+        out.push(value as u8);
+    }
+
+    pub struct Builder {
+        version: Version,
+        body: Vec<u8>,
+        offsets: Vec<u16>,
+        rows: usize,
+        other: Vec<u8>,
+    }
+
+    impl Builder {
+        pub fn new(version: Version) -> Builder {
+            Builder {
+                version,
+                body: Vec::new(),
+                offsets: Vec::new(),
+                rows: 0,
+                other: Vec::new(),
+            }
+        }
+
+        fn is_restart(&self) -> bool {
+            self.rows % RESTART_INTERVAL == 0
+        }
+
+        fn shared(&self, key: &[u8]) -> usize {
+            match self.version {
+                Version::V1 => compute_prefix(&self.other, key),
+                Version::V2 if self.is_restart() => 0,
+                Version::V2 => compute_prefix(&self.other, key),
+            }
+        }
+
+        fn row_len(&self, row: &Row, shared: usize) -> usize {
+            let suffix = row.key.len() - shared;
+            match self.version {
+                Version::V1 => 2 + 2 + suffix + 8 + 1 + 8 + 4 + row.value.len(),
+                Version::V2 => {
+                    let lengths = varint_len(shared as u32)
+                        + varint_len(suffix as u32)
+                        + varint_len(row.value.len() as u32);
+                    lengths + suffix + row.value.len() + 8 + 1 + 8
+                }
+            }
+        }
+
+        fn fits(&self, row: &Row, shared: usize) -> bool {
+            let own_offset = if self.version == Version::V2 && self.is_restart() {
+                2
+            } else {
+                0
+            };
+            let len = 2
+                + 2 * self.offsets.len()
+                + self.body.len()
+                + self.row_len(row, shared)
+                + own_offset;
+            self.rows == 0 || len <= BLOCK_SIZE
+        }
+
+        pub fn add(&mut self, row: &Row) -> bool {
+            let shared = self.shared(&row.key);
+            if !self.fits(row, shared) {
+                return false;
+            }
+            match self.version {
+                Version::V1 => self.add_v1(row, shared),
+                Version::V2 => self.add_v2(row, shared),
+            }
+            self.rows += 1;
+            true
+        }
+
+        fn add_v1(&mut self, row: &Row, shared: usize) {
+            self.offsets.push(self.body.len() as u16);
+            let suffix = &row.key[shared..];
+            self.body.extend_from_slice(&(shared as u16).to_be_bytes());
+            self.body
+                .extend_from_slice(&(suffix.len() as u16).to_be_bytes());
+            self.body.extend_from_slice(suffix);
+            self.add_meta(row);
+            self.body
+                .extend_from_slice(&(row.value.len() as u32).to_be_bytes());
+            self.body.extend_from_slice(&row.value);
+            if self.rows == 0 {
+                self.other = row.key.clone();
+            }
+        }
+
+        fn add_v2(&mut self, row: &Row, shared: usize) {
+            if self.is_restart() {
+                self.offsets.push(self.body.len() as u16);
+            }
+            let suffix = &row.key[shared..];
+            append_varint(&mut self.body, shared as u32);
+            append_varint(&mut self.body, suffix.len() as u32);
+            append_varint(&mut self.body, row.value.len() as u32);
+            self.body.extend_from_slice(suffix);
+            self.body.extend_from_slice(&row.value);
+            self.add_meta(row);
+            self.other.clear();
+            self.other.extend_from_slice(&row.key);
+        }
+
+        fn add_meta(&mut self, row: &Row) {
+            self.body.extend_from_slice(&row.seq.to_be_bytes());
+            self.body.push(if row.is_operand {
+                CREATED | OPERAND
+            } else {
+                CREATED
+            });
+            self.body.extend_from_slice(&row.create_ts.to_be_bytes());
+        }
+
+        pub fn encode(self) -> Vec<u8> {
+            let mut bytes = self.body;
+            for offset in &self.offsets {
+                bytes.extend_from_slice(&offset.to_be_bytes());
+            }
+            bytes.extend_from_slice(&(self.offsets.len() as u16).to_be_bytes());
+            bytes
+        }
+    }
+
+    /// Bytes that are taken off the front; `None` where they end too early.
+    pub struct Input<'a> {
+        pub bytes: &'a [u8],
+        pub at: usize,
+    }
+
+    impl<'a> Input<'a> {
+        pub fn take(&mut self, len: usize) -> Option<&'a [u8]> {
+            let end = self.at.checked_add(len)?;
+            let taken = self.bytes.get(self.at..end)?;
+            self.at = end;
+            Some(taken)
+        }
+
+        fn u8(&mut self) -> Option<u8> {
+            Some(self.take(1)?[0])
+        }
+
+        pub fn u16(&mut self) -> Option<u16> {
+            Some(u16::from_be_bytes(self.take(2)?.try_into().ok()?))
+        }
+
+        pub fn u32(&mut self) -> Option<u32> {
+            Some(u32::from_be_bytes(self.take(4)?.try_into().ok()?))
+        }
+
+        pub fn u64(&mut self) -> Option<u64> {
+            Some(u64::from_be_bytes(self.take(8)?.try_into().ok()?))
+        }
+
+        fn varint(&mut self) -> Option<u32> {
+            let mut value = 0u64;
+            for group in 0..5 {
+                let byte = self.u8()?;
+                value |= u64::from(byte & 127) << (7 * group);
+                if byte < 128 {
+                    let shortest = byte != 0 || group == 0;
+                    return u32::try_from(value).ok().filter(|_| shortest);
+                }
+            }
+            None
+        }
+
+        fn stamp(&mut self, is_there: bool) -> Option<Option<i64>> {
+            if is_there {
+                Some(Some(self.u64()? as i64))
+            } else {
+                Some(None)
+            }
+        }
+    }
+
+    /// The front of another key, and the suffix.
+    fn whole_key(other: &[u8], shared: usize, suffix: &[u8]) -> Option<Vec<u8>> {
+        let front = other.get(..shared)?;
+        let len = front.len() + suffix.len();
+        if len == 0 || len > 65535 {
+            return None;
+        }
+        let mut key = Vec::with_capacity(len);
+        key.extend_from_slice(front);
+        key.extend_from_slice(suffix);
+        Some(key)
+    }
+
+    fn are_flags(flags: u8) -> bool {
+        flags < 16 && flags & 9 != 9
+    }
+
+    fn read_v1<'a>(input: &mut Input<'a>, first: &[u8]) -> Option<ReadRow<'a>> {
+        let shared = input.u16()? as usize;
+        let suffix_len = input.u16()? as usize;
+        let suffix = input.take(suffix_len)?;
+        let seq = input.u64()?;
+        let flags = input.u8().filter(|flags| are_flags(*flags))?;
+        let expire_ts = input.stamp(flags & 2 != 0)?;
+        let create_ts = input.stamp(flags & 4 != 0)?;
+        let value = if flags & 1 == 0 {
+            let len = input.u32()? as usize;
+            input.take(len)?
+        } else {
+            &[]
+        };
+        let key = whole_key(first, shared, suffix)?;
+        Some(ReadRow {
+            key,
+            value,
+            seq,
+            create_ts,
+            expire_ts,
+            flags,
+        })
+    }
+
+    pub fn read_v2<'a>(input: &mut Input<'a>, previous: &[u8]) -> Option<ReadRow<'a>> {
+        let shared = input.varint()? as usize;
+        let suffix_len = input.varint()? as usize;
+        let value_len = input.varint()? as usize;
+        let suffix = input.take(suffix_len)?;
+        let value = input.take(value_len)?;
+        let seq = input.u64()?;
+        let flags = input.u8().filter(|flags| are_flags(*flags))?;
+        if flags & 1 != 0 && value_len > 0 {
+            return None;
+        }
+        let expire_ts = input.stamp(flags & 2 != 0)?;
+        let create_ts = input.stamp(flags & 4 != 0)?;
+        let key = whole_key(previous, shared, suffix)?;
+        Some(ReadRow {
+            key,
+            value,
+            seq,
+            create_ts,
+            expire_ts,
+            flags,
+        })
+    }
+
+    /// The rows' part and the offsets, which begin at 0, rise, and stand in the rows' part.
+    pub fn decode_block(bytes: &[u8]) -> Option<(&[u8], Vec<u16>)> {
+        let count_at = bytes.len().checked_sub(2)?;
+        let count = u16::from_be_bytes(bytes[count_at..].try_into().ok()?) as usize;
+        let end = count_at.checked_sub(2 * count)?;
+        let offsets: Vec<u16> = bytes[end..count_at]
+            .chunks(2)
+            .map(|pair| u16::from_be_bytes([pair[0], pair[1]]))
+            .collect();
+        let rise = offsets.windows(2).all(|pair| pair[0] < pair[1]);
+        let within = offsets.last().is_some_and(|last| (*last as usize) < end);
+        (rise && within && offsets[0] == 0).then_some((&bytes[..end], offsets))
+    }
+
+    /// Sums of what was read, so that nothing is left out as unused.
+    #[derive(Default)]
+    pub struct Sums {
+        rows: u64,
+        key_bytes: u64,
+        value_bytes: u64,
+        seqs: u64,
+    }
+
+    impl Sums {
+        fn take(&mut self, row: &ReadRow) {
+            self.rows += 1;
+            self.key_bytes += row.key.len() as u64;
+            self.value_bytes += row.value.len() as u64;
+            self.seqs += row.seq;
+            std::hint::black_box((row.create_ts, row.expire_ts, row.flags));
+        }
+
+        pub fn text(&self) -> String {
+            format!(
+                "{} rows, {} key bytes, {} value bytes, sequences {}",
+                self.rows, self.key_bytes, self.value_bytes, self.seqs
+            )
+        }
+    }
+
+    pub fn walk_v1(body: &[u8], offsets: &[u16], sums: &mut Sums) -> Option<()> {
+        let mut first: Vec<u8> = Vec::new();
+        for (i, at) in offsets.iter().enumerate() {
+            let end = offsets.get(i + 1).map_or(body.len(), |next| *next as usize);
+            let mut input = Input {
+                bytes: &body[..end],
+                at: *at as usize,
+            };
+            let row = read_v1(&mut input, &first)?;
+            if input.at != end {
+                return None;
+            }
+            sums.take(&row);
+            if i == 0 {
+                first = row.key;
+            }
+        }
+        Some(())
+    }
+
+    pub fn walk_v2(body: &[u8], offsets: &[u16], sums: &mut Sums) -> Option<()> {
+        for (i, at) in offsets.iter().enumerate() {
+            let is_last = i + 1 == offsets.len();
+            let end = offsets.get(i + 1).map_or(body.len(), |next| *next as usize);
+            let mut input = Input {
+                bytes: &body[..end],
+                at: *at as usize,
+            };
+            let mut previous: Vec<u8> = Vec::new();
+            for n in 0..RESTART_INTERVAL {
+                if is_last && n > 0 && input.at == end {
+                    break;
+                }
+                let row = read_v2(&mut input, &previous)?;
+                sums.take(&row);
+                previous = row.key;
+            }
+            if input.at != end {
+                return None;
+            }
+        }
+        Some(())
+    }
+
+    /// All rows of a block of version 2, and `None` where it is damaged.
+    pub fn rows_of_block<'a>(body: &'a [u8], offsets: &[u16]) -> Option<Vec<ReadRow<'a>>> {
+        let mut rows: Vec<ReadRow> = Vec::new();
+        for (i, at) in offsets.iter().enumerate() {
+            let end = offsets.get(i + 1).map_or(body.len(), |next| *next as usize);
+            let mut input = Input {
+                bytes: &body[..end],
+                at: *at as usize,
+            };
+            let mut previous: Vec<u8> = Vec::new();
+            while input.at < end {
+                let row = read_v2(&mut input, &previous)?;
+                previous.clone_from(&row.key);
+                rows.push(row);
+            }
+        }
+        Some(rows)
+    }
+
+    /// Adds a key's rows at or below a sequence, newest first, to the first that is no operand, of a block of version 2. Gives whether
+    /// that one was met, and `None` where the block is damaged.
+    pub fn add_rows_of_key<'a>(
+        body: &'a [u8],
+        offsets: &[u16],
+        key: &[u8],
+        max_seq: u64,
+        rows: &mut Vec<ReadRow<'a>>,
+    ) -> Option<bool> {
+        let begins_before = |at: &u16| {
+            let mut input = Input {
+                bytes: body,
+                at: *at as usize,
+            };
+            read_v2(&mut input, &[]).is_some_and(|row| row.key.as_slice() < key)
+        };
+        let start = offsets.partition_point(begins_before).saturating_sub(1);
+        let mut input = Input {
+            bytes: body,
+            at: offsets[start] as usize,
+        };
+        let mut previous: Vec<u8> = Vec::new();
+        while input.at < body.len() {
+            let row = read_v2(&mut input, &previous)?;
+            match row.key.as_slice().cmp(key) {
+                Ordering::Greater => break,
+                Ordering::Equal if row.seq <= max_seq => {
+                    previous.clone_from(&row.key);
+                    let is_last = !row.is_operand();
+                    rows.push(row);
+                    if is_last {
+                        return Some(true);
+                    }
+                }
+                _ => previous = row.key,
+            }
+        }
+        Some(false)
+    }
+}
+
+/// Checksums and tables: how they are written, and how their parts are read.
+mod table {
+    use crate::block::{compute_prefix, Builder, Input, Row, Version};
+
+    /// For each byte what is left of it after 8 bits, and after 8 bits for each byte that stands behind it.
+    pub struct CrcTables([[u32; 256]; 16]);
+
+    impl CrcTables {
+        pub fn new() -> CrcTables {
+            let mut tables = [[0u32; 256]; 16];
+            for byte in 0..256 {
+                let mut crc = byte as u32;
+                for _ in 0..8 {
+                    crc = if crc & 1 == 1 {
+                        crc >> 1 ^ 0xedb8_8320
+                    } else {
+                        crc >> 1
+                    };
+                }
+                tables[0][byte] = crc;
+            }
+            for byte in 0..256 {
+                for k in 1..16 {
+                    let crc = tables[k - 1][byte];
+                    tables[k][byte] = crc >> 8 ^ tables[0][(crc & 255) as usize];
+                }
+            }
+            CrcTables(tables)
+        }
+
+        /// The CRC-32 of the bytes: they are folded into later ones, and what that leaves is taken sixteen bytes a step.
+        pub fn checksum(&self, bytes: &[u8]) -> u32 {
+            let mut crc = u32::MAX;
+            let mut rest = bytes;
+            while rest.len() >= 512 {
+                let groups = ((rest.len() - 304) / 16).min(256);
+                let (now, later) = rest.split_at(16 * groups + 304);
+                crc = self.round(crc, now, 16 * groups);
+                rest = later;
+            }
+            let mut groups = rest.chunks_exact(16);
+            for group in &mut groups {
+                crc = self.sixteen_more(crc, group.try_into().unwrap());
+            }
+            for byte in groups.remainder() {
+                crc = self.0[0][((crc ^ u32::from(*byte)) & 255) as usize] ^ crc >> 8;
+            }
+            !crc
+        }
+
+        fn round(&self, crc: u32, bytes: &[u8], folded: usize) -> u32 {
+            let mut history = [0u8; 4608];
+            history[..4].copy_from_slice(&crc.to_le_bytes());
+            for at in (0..folded).step_by(16) {
+                let group = folded_at(&history, bytes, at);
+                history[at + 300..at + 316].copy_from_slice(&group);
+            }
+            (folded..bytes.len()).step_by(16).fold(0, |crc, at| {
+                self.sixteen_more(crc, folded_at(&history, bytes, at))
+            })
+        }
+
+        #[inline(always)]
+        fn sixteen_more(&self, crc: u32, bytes: [u8; 16]) -> u32 {
+            let [first, second] =
+                [0, 8].map(|at| u64::from_le_bytes(bytes[at..at + 8].try_into().unwrap()));
+            self.after_word(8, first ^ u64::from(crc)) ^ self.after_word(0, second)
+        }
+
+        #[inline(always)]
+        fn after_word(&self, k: usize, word: u64) -> u32 {
+            (0..8).fold(0, |sum, i| {
+                sum ^ self.0[k + 7 - i][(word >> (8 * i) & 255) as usize]
+            })
+        }
+    }
+
+    #[inline(always)]
+    fn folded_at(history: &[u8; 4608], bytes: &[u8], at: usize) -> [u8; 16] {
+        let sixteen = |bytes: &[u8], at: usize| -> u128 {
+            u128::from_le_bytes(bytes[at..at + 16].try_into().unwrap())
+        };
+        let past = [0, 89, 117, 155]
+            .iter()
+            .fold(0, |sum, distance| sum ^ sixteen(history, at + distance));
+        (sixteen(bytes, at) ^ past).to_le_bytes()
+    }
+
+    /// A table as it grows.
+    struct Table<'a> {
+        crc: &'a CrcTables,
+        version: Version,
+        bytes: Vec<u8>,
+        block: Builder,
+        puts: u16,
+        operands: u16,
+        last_key: Vec<u8>,
+        separator: Vec<u8>,
+        index: Vec<u8>,
+        block_counts: Vec<[u16; 3]>,
+        all_puts: u64,
+        all_operands: u64,
+        key_bytes: u64,
+        value_bytes: u64,
+    }
+
+    impl<'a> Table<'a> {
+        fn new(crc: &'a CrcTables, version: Version) -> Table<'a> {
+            Table {
+                crc,
+                version,
+                bytes: Vec::new(),
+                block: Builder::new(version),
+                puts: 0,
+                operands: 0,
+                last_key: Vec::new(),
+                separator: Vec::new(),
+                index: Vec::new(),
+                block_counts: Vec::new(),
+                all_puts: 0,
+                all_operands: 0,
+                key_bytes: 0,
+                value_bytes: 0,
+            }
+        }
+
+        /// Appends a part and its checksum, and gives the section's place.
+        fn seal(&mut self, part: &[u8]) -> (u64, u64) {
+            let at = self.bytes.len() as u64;
+            self.bytes.extend_from_slice(part);
+            self.bytes
+                .extend_from_slice(&self.crc.checksum(part).to_be_bytes());
+            (at, part.len() as u64 + 4)
+        }
+
+        fn end_block(&mut self) {
+            let block = std::mem::replace(&mut self.block, Builder::new(self.version)).encode();
+            let (at, _) = self.seal(&block);
+            self.index.extend_from_slice(&at.to_be_bytes());
+            self.index
+                .extend_from_slice(&(self.separator.len() as u16).to_be_bytes());
+            self.index.extend_from_slice(&self.separator);
+            self.block_counts.push([self.puts, 0, self.operands]);
+            self.all_puts += u64::from(self.puts);
+            self.all_operands += u64::from(self.operands);
+            (self.puts, self.operands) = (0, 0);
+        }
+
+        fn add(&mut self, row: &Row) {
+            if !self.block.add(row) {
+                self.end_block();
+                let shared = compute_prefix(&self.last_key, &row.key);
+                self.separator = row.key[..row.key.len().min(shared + 1)].to_vec();
+                self.block.add(row);
+            } else if self.key_bytes == 0 {
+                self.separator = row.key.clone();
+            }
+            if row.is_operand {
+                self.operands += 1;
+            } else {
+                self.puts += 1;
+            }
+            self.key_bytes += row.key.len() as u64;
+            self.value_bytes += row.value.len() as u64;
+            self.last_key.clear();
+            self.last_key.extend_from_slice(&row.key);
+        }
+
+        fn build(mut self, first_key: &[u8]) -> Vec<u8> {
+            self.end_block();
+            let mut index = (self.block_counts.len() as u32).to_be_bytes().to_vec();
+            index.append(&mut self.index);
+            let index_at = self.seal(&index);
+            let mut stats = Vec::new();
+            let counts = [self.all_puts, 0, self.all_operands];
+            for number in counts.into_iter().chain([self.key_bytes, self.value_bytes]) {
+                stats.extend_from_slice(&number.to_be_bytes());
+            }
+            stats.extend_from_slice(&(self.block_counts.len() as u32).to_be_bytes());
+            for count in self.block_counts.iter().flatten() {
+                stats.extend_from_slice(&count.to_be_bytes());
+            }
+            let stats_at = self.seal(&stats);
+            let number = if self.version == Version::V1 { 1u16 } else { 2 };
+            let mut info = number.to_be_bytes().to_vec();
+            for key in [first_key, &self.last_key.clone()] {
+                info.push(1);
+                info.extend_from_slice(&(key.len() as u16).to_be_bytes());
+                info.extend_from_slice(key);
+            }
+            for place in [
+                index_at.0, index_at.1, index_at.0, 0, stats_at.0, stats_at.1,
+            ] {
+                info.extend_from_slice(&place.to_be_bytes());
+            }
+            info.extend_from_slice(&[0, 1]);
+            let (info_at, _) = self.seal(&info);
+            self.bytes.extend_from_slice(&info_at.to_be_bytes());
+            self.bytes.extend_from_slice(&number.to_be_bytes());
+            self.bytes
+        }
+    }
+
+    pub fn build_table(crc: &CrcTables, rows: &[Row], version: Version) -> Vec<u8> {
+        let mut table = Table::new(crc, version);
+        for row in rows {
+            table.add(row);
+        }
+        table.build(&rows[0].key)
+    }
+
+    /// The part of a section whose checksum fits.
+    pub fn open_section<'a>(crc: &CrcTables, section: &'a [u8]) -> Option<&'a [u8]> {
+        let (part, sum) = section.split_at_checked(section.len().checked_sub(4)?)?;
+        (crc.checksum(part).to_be_bytes() == sum).then_some(part)
+    }
+
+    /// Where the blocks begin, and the separators, which rise.
+    pub fn read_index(part: &[u8]) -> Option<(Vec<usize>, Vec<&[u8]>)> {
+        let mut input = Input { bytes: part, at: 0 };
+        let (mut offsets, mut separators) = (Vec::new(), Vec::<&[u8]>::new());
+        for _ in 0..input.u32()? {
+            offsets.push(input.u64()? as usize);
+            let len = input.u16()? as usize;
+            let separator = input.take(len)?;
+            if separators.last().is_some_and(|last| *last > separator) {
+                return None;
+            }
+            separators.push(separator);
+        }
+        let rise = offsets.windows(2).all(|pair| pair[0] < pair[1]);
+        (input.at == part.len() && rise).then_some((offsets, separators))
+    }
+
+    /// Where the index and the statistics begin, which the writer keeps.
+    pub fn places_of(bytes: &[u8]) -> Option<(usize, usize)> {
+        let footer = bytes.len().checked_sub(10)?;
+        let places = footer.checked_sub(4 + 2 + 48)?;
+        let mut input = Input {
+            bytes: &bytes[places..],
+            at: 0,
+        };
+        let index_at = input.u64()? as usize;
+        input.take(24)?;
+        Some((index_at, input.u64()? as usize))
+    }
+}
+
+/// A store in plain Rust that answers the lines of the scripts of `scripts` as `slate` does with the word `op=max`: writes of one put
+/// or one operand, begins, gets, scans without steps, puts, commits and flushes. Any other line ends it. No script scans operands.
+mod script {
+    use crate::block::{add_rows_of_key, decode_block, rows_of_block, Row, Version};
+    use crate::scripts;
+    use crate::table::{build_table, open_section, places_of, read_index, CrcTables};
+    use std::borrow::Cow;
+    use std::cmp::{Ordering, Reverse};
+    use std::collections::{BTreeMap, BinaryHeap, VecDeque};
+    use std::fs::{self, File};
+    use std::io::{self, BufRead, BufReader, Read, Write};
+    use std::mem;
+    use std::ops::{Bound, RangeBounds};
+    use std::os::unix::fs::FileExt;
+    use std::path::{Path, PathBuf};
+
+    /// How many bytes of a script are read at once.
+    const PIECE: usize = 65536;
+
+    /// Why a run ends early. The statuses are those of `slate`.
+    #[derive(Clone, Copy)]
+    pub enum Failure {
+        Syntax = 3,
+        Read = 5,
+        Write = 6,
+        Store = 7,
+        Damage = 16,
+    }
+
+    use Failure::{Damage, Syntax};
+
+    /// Objects in memory, or the files of a folder.
+    pub enum Store {
+        Memory(BTreeMap<String, Vec<u8>>),
+        Folder(PathBuf),
+    }
+
+    impl Store {
+        /// The store that a word names, `-` or a folder.
+        pub fn at(word: &str) -> Store {
+            if word == "-" {
+                Store::Memory(BTreeMap::new())
+            } else {
+                Store::Folder(word.into())
+            }
+        }
+
+        fn put(&mut self, path: &str, bytes: Vec<u8>) -> io::Result<()> {
+            match self {
+                Store::Memory(objects) => {
+                    objects.insert(path.to_string(), bytes);
+                    Ok(())
+                }
+                Store::Folder(folder) => put_file(&folder.join(path), &bytes),
+            }
+        }
+
+        fn read_range(&self, path: &str, start: usize, end: usize) -> io::Result<Cow<'_, [u8]>> {
+            match self {
+                Store::Memory(objects) => {
+                    let range = objects.get(path).and_then(|object| object.get(start..end));
+                    range
+                        .map(Cow::Borrowed)
+                        .ok_or(io::ErrorKind::NotFound.into())
+                }
+                Store::Folder(folder) => {
+                    let mut bytes = vec![0; end - start];
+                    File::open(folder.join(path))?.read_exact_at(&mut bytes, start as u64)?;
+                    Ok(Cow::Owned(bytes))
+                }
+            }
+        }
+    }
+
+    /// Writes beside the file and renames, so that a reader meets the whole file or none.
+    fn put_file(target: &Path, bytes: &[u8]) -> io::Result<()> {
+        if let Some(parent) = target.parent() {
+            fs::create_dir_all(parent)?;
+        }
+        let beside = target.with_extension("sst.tmp");
+        let mut file = File::create(&beside)?;
+        file.write_all(bytes)?;
+        file.sync_all()?;
+        fs::rename(&beside, target)
+    }
+
+    /// What is kept of a table that was stored.
+    struct StoredTable {
+        path: String,
+        first_key: Vec<u8>,
+        last_key: Vec<u8>,
+        index_at: usize,
+        stats_at: usize,
+    }
+
+    impl StoredTable {
+        /// Whether keys of the range can be in the table.
+        fn meets(&self, (start, end): Range) -> bool {
+            let (first, last) = (self.first_key.as_slice(), self.last_key.as_slice());
+            (start, Bound::Unbounded).contains(last) && (Bound::Unbounded, end).contains(first)
+        }
+    }
+
+    /// A row that a reader gets.
+    #[derive(Clone)]
+    struct Found {
+        value: Vec<u8>,
+        seq: u64,
+        create_ts: i64,
+    }
+
+    #[derive(Clone, Copy)]
+    enum Order {
+        Up,
+        Down,
+    }
+
+    /// A row that a scan meets.
+    #[derive(Clone)]
+    struct ScanRow {
+        key: Vec<u8>,
+        value: Vec<u8>,
+        seq: u64,
+        create_ts: i64,
+    }
+
+    /// What was written of a key: a value, or an operand.
+    struct Written {
+        value: Vec<u8>,
+        is_operand: bool,
+    }
+
+    /// By which rows in memory are ordered: by key upwards, and the newest of a key first.
+    type RowKey = (Vec<u8>, Reverse<u64>);
+
+    /// The keys between two bounds.
+    type Range<'a> = (Bound<&'a [u8]>, Bound<&'a [u8]>);
+
+    /// The same, with keys of its own.
+    type OwnRange = (Bound<Vec<u8>>, Bound<Vec<u8>>);
+
+    /// The sequence that a transaction's own rows have before its commit.
+    const OWN: u64 = u64::MAX;
+
+    /// A transaction that is open.
+    struct Open {
+        begin: u64,
+        is_serializable: bool,
+        /// What it put.
+        own: BTreeMap<Vec<u8>, Vec<u8>>,
+        read_keys: Vec<Vec<u8>>,
+        read_ranges: Vec<OwnRange>,
+        /// What it did and saw, where a journal is kept.
+        transcript: Vec<Step>,
+    }
+
+    /// One thing that a transaction did or saw. It is kept, and nothing asks for it.
+    #[allow(dead_code)]
+    enum Step {
+        Get(Vec<u8>, Option<Found>),
+        Scan(OwnRange),
+        Next(Option<ScanRow>),
+        Put(Vec<u8>, Vec<u8>),
+    }
+
+    /// A commit. It is kept, and nothing asks for it.
+    #[allow(dead_code)]
+    pub struct Commit {
+        seq: Option<u64>,
+        ops: Vec<(Vec<u8>, Vec<u8>)>,
+        tracked: Vec<Vec<u8>>,
+        transcript: Vec<Step>,
+    }
+
+    /// The commits, where they are kept.
+    pub enum Journal {
+        None,
+        Kept(Vec<Commit>),
+    }
+
+    impl Journal {
+        pub fn new() -> Journal {
+            Journal::Kept(Vec::new())
+        }
+
+        fn is_kept(&self) -> bool {
+            matches!(self, Journal::Kept(_))
+        }
+
+        /// Adds a commit, which is made only where it is kept.
+        fn add(&mut self, commit: impl FnOnce() -> Commit) {
+            if let Journal::Kept(commits) = self {
+                commits.push(commit());
+            }
+        }
+    }
+
+    /// Rows in memory, or those of a table: what is left of a block, and where the blocks behind it begin and end.
+    struct Source<'a> {
+        rows: VecDeque<ScanRow>,
+        table: Option<&'a StoredTable>,
+        offsets: VecDeque<(usize, usize)>,
+    }
+
+    impl Source<'_> {
+        /// The source of these rows, which rise.
+        fn of_rows(mut rows: VecDeque<ScanRow>, order: Order) -> Self {
+            turn(&mut rows, order);
+            Source {
+                rows,
+                table: None,
+                offsets: VecDeque::new(),
+            }
+        }
+    }
+
+    /// The next row of a source. The greatest comes first: by key in the order, and the newest of a key.
+    struct Head {
+        row: ScanRow,
+        source: usize,
+        order: Order,
+    }
+
+    impl Ord for Head {
+        fn cmp(&self, other: &Head) -> Ordering {
+            let keys = match self.order {
+                Order::Up => other.row.key.cmp(&self.row.key),
+                Order::Down => self.row.key.cmp(&other.row.key),
+            };
+            keys.then(self.row.seq.cmp(&other.row.seq))
+        }
+    }
+
+    impl PartialOrd for Head {
+        fn partial_cmp(&self, other: &Head) -> Option<Ordering> {
+            Some(self.cmp(other))
+        }
+    }
+
+    impl PartialEq for Head {
+        fn eq(&self, other: &Head) -> bool {
+            self.cmp(other) == Ordering::Equal
+        }
+    }
+
+    impl Eq for Head {}
+
+    /// Turns rows that rise by key into the order, the newest of a key first.
+    fn turn(rows: &mut VecDeque<ScanRow>, order: Order) {
+        if let Order::Down = order {
+            rows.make_contiguous()
+                .sort_by(|a, b| b.key.cmp(&a.key).then(b.seq.cmp(&a.seq)));
+        }
+    }
+
+    fn append_row(text: &mut Vec<u8>, row: &ScanRow) {
+        text.extend_from_slice(b" '");
+        text.extend_from_slice(&row.key);
+        text.extend_from_slice(b" '");
+        text.extend_from_slice(&row.value);
+        text.extend_from_slice(format!(" {} {} -", row.seq, row.create_ts).as_bytes());
+    }
+
+    /// All rows of a block's section, and `None` where it is damaged.
+    fn rows_of_section(crc: &CrcTables, section: &[u8]) -> Option<VecDeque<ScanRow>> {
+        let (body, offsets) = decode_block(open_section(crc, section)?)?;
+        let rows = rows_of_block(body, &offsets)?;
+        let rows = rows.into_iter().map(|row| ScanRow {
+            value: row.value.to_vec(),
+            seq: row.seq,
+            create_ts: row.create_ts.unwrap_or(0),
+            key: row.key,
+        });
+        Some(rows.collect())
+    }
+
+    fn read_order(token: &[u8]) -> Result<Order, Failure> {
+        match token {
+            b"asc" => Ok(Order::Up),
+            b"desc" => Ok(Order::Down),
+            _ => Err(Syntax),
+        }
+    }
+
+    fn read_bound(token: &[u8]) -> Result<Bound<&[u8]>, Failure> {
+        match token {
+            b"*" => Ok(Bound::Unbounded),
+            [b'i', key @ ..] => read_text(key).map(Bound::Included),
+            [b'e', key @ ..] => read_text(key).map(Bound::Excluded),
+            _ => Err(Syntax),
+        }
+    }
+
+    fn own_range((start, end): Range) -> OwnRange {
+        (start.map(<[u8]>::to_vec), end.map(<[u8]>::to_vec))
+    }
+
+    fn slices_of((start, end): &OwnRange) -> Range<'_> {
+        (
+            start.as_ref().map(Vec::as_slice),
+            end.as_ref().map(Vec::as_slice),
+        )
+    }
+
+    /// Where the rows in memory of a range begin and end.
+    fn bounds_of_rows((start, end): Range) -> (Bound<RowKey>, Bound<RowKey>) {
+        let before = |key: &[u8]| (key.to_vec(), Reverse(u64::MAX));
+        let behind = |key: &[u8]| (key.to_vec(), Reverse(0));
+        let start = match start {
+            Bound::Included(key) => Bound::Included(before(key)),
+            Bound::Excluded(key) => Bound::Excluded(behind(key)),
+            Bound::Unbounded => Bound::Unbounded,
+        };
+        let end = match end {
+            Bound::Included(key) => Bound::Included(behind(key)),
+            Bound::Excluded(key) => Bound::Excluded(before(key)),
+            Bound::Unbounded => Bound::Unbounded,
+        };
+        (start, end)
+    }
+
+    struct Session {
+        crc: CrcTables,
+        store: Store,
+        last: u64,
+        names: BTreeMap<Vec<u8>, Open>,
+        /// Of each key that was written while a transaction was open the sequence of its last write.
+        writes: BTreeMap<Vec<u8>, u64>,
+        journal: Journal,
+        rows: BTreeMap<RowKey, Written>,
+        /// The newest last.
+        tables: Vec<StoredTable>,
+    }
+
+    /// How many replies there were, and how many of them are a row that a get found.
+    #[derive(Default)]
+    struct Tally {
+        replies: u64,
+        hits: u64,
+    }
+
+    /// Answers each line of the source, and gives the status.
+    pub fn run(store: Store, journal: Journal, source: impl Read, sink: impl Write) -> i32 {
+        let mut session = Session::new(store, journal);
+        let source = BufReader::with_capacity(PIECE, source);
+        status_of(answer_lines(&mut session, source, sink).map(|_| ()))
+    }
+
+    /// Makes a script of so many rounds from the seed, answers it in memory, and writes one line that says how many replies there
+    /// were, the last sequence, and how many gets found a row.
+    pub fn run_generated(rounds: &str, seed: &str, sink: impl Write) -> i32 {
+        match (rounds.parse(), seed.parse()) {
+            (Ok(rounds), Ok(seed)) => status_of(answer_generated(rounds, seed, sink)),
+            _ => 2,
+        }
+    }
+
+    fn status_of(ended: Result<(), Failure>) -> i32 {
+        match ended {
+            Ok(()) => 0,
+            Err(failure) => failure as i32,
+        }
+    }
+
+    fn answer_generated(rounds: u32, seed: u64, mut sink: impl Write) -> Result<(), Failure> {
+        let script = scripts::generate(rounds, seed).ok_or(Failure::Write)?;
+        let mut session = Session::new(Store::at("-"), Journal::new());
+        let Tally { replies, hits } = answer_lines(&mut session, script.as_bytes(), io::sink())?;
+        let committed = session.last;
+        writeln!(sink, "replies {replies} committed {committed} hits {hits}")
+            .map_err(|_| Failure::Write)
+    }
+
+    fn answer_lines(
+        session: &mut Session,
+        mut source: impl BufRead,
+        mut sink: impl Write,
+    ) -> Result<Tally, Failure> {
+        let mut tally = Tally::default();
+        let mut line = Vec::new();
+        while source
+            .read_until(b'\n', &mut line)
+            .map_err(|_| Failure::Read)?
+            > 0
+        {
+            let reply = session.answer(line.strip_suffix(b"\n").unwrap_or(&line))?;
+            tally.replies += 1;
+            tally.hits += u64::from(reply.starts_with(b"row "));
+            sink.write_all(&reply).map_err(|_| Failure::Write)?;
+            line.clear();
+        }
+        Ok(tally)
+    }
+
+    impl Session {
+        fn new(store: Store, journal: Journal) -> Session {
+            let crc = CrcTables::new();
+            Session {
+                crc,
+                store,
+                last: 0,
+                names: BTreeMap::new(),
+                writes: BTreeMap::new(),
+                journal,
+                rows: BTreeMap::new(),
+                tables: Vec::new(),
+            }
+        }
+
+        fn answer(&mut self, line: &[u8]) -> Result<Vec<u8>, Failure> {
+            let tokens: Vec<&[u8]> = line.split(|byte| *byte == b' ').collect();
+            match tokens.as_slice() {
+                [b"write", b"put", key, value] => {
+                    self.write(read_key(key)?, read_text(value)?, false)
+                }
+                [b"write", b"merge", key, value] => {
+                    self.write(read_key(key)?, read_text(value)?, true)
+                }
+                [b"begin", name, b"si"] => self.begin(read_name(name)?, false),
+                [b"begin", name, b"ssi"] => self.begin(read_name(name)?, true),
+                [b"get", name, key] => self.get(read_name(name)?, read_text(key)?),
+                [b"scan", name, order, start, end] => {
+                    let range = (read_bound(start)?, read_bound(end)?);
+                    self.scan(read_name(name)?, read_order(order)?, range)
+                }
+                [b"put", name, key, value] => {
+                    self.put(read_name(name)?, read_key(key)?, read_text(value)?)
+                }
+                [b"commit", name] => self.commit(read_name(name)?),
+                [b"flush"] => self.flush(),
+                _ => Err(Syntax),
+            }
+        }
+
+        fn write(
+            &mut self,
+            key: &[u8],
+            value: &[u8],
+            is_operand: bool,
+        ) -> Result<Vec<u8>, Failure> {
+            self.last += 1;
+            let written = Written {
+                value: value.to_vec(),
+                is_operand,
+            };
+            self.rows
+                .insert((key.to_vec(), Reverse(self.last)), written);
+            if !self.names.is_empty() {
+                self.writes.insert(key.to_vec(), self.last);
+            }
+            self.journal.add(|| Commit {
+                seq: Some(self.last),
+                ops: vec![(key.to_vec(), value.to_vec())],
+                tracked: vec![key.to_vec()],
+                transcript: Vec::new(),
+            });
+            Ok(format!("written {}\n", self.last).into_bytes())
+        }
+
+        fn begin(&mut self, name: &str, is_serializable: bool) -> Result<Vec<u8>, Failure> {
+            let open = Open {
+                begin: self.last,
+                is_serializable,
+                own: BTreeMap::new(),
+                read_keys: Vec::new(),
+                read_ranges: Vec::new(),
+                transcript: Vec::new(),
+            };
+            self.names.insert(name.into(), open);
+            Ok(format!("begun {name} {}\n", self.last).into_bytes())
+        }
+
+        fn open(&self, name: &str) -> Result<&Open, Failure> {
+            self.names.get(name.as_bytes()).ok_or(Syntax)
+        }
+
+        fn open_mut(&mut self, name: &str) -> Result<&mut Open, Failure> {
+            self.names.get_mut(name.as_bytes()).ok_or(Syntax)
+        }
+
+        fn get(&mut self, name: &str, key: &[u8]) -> Result<Vec<u8>, Failure> {
+            let open = self.open(name)?;
+            let row = match open.own.get(key) {
+                Some(value) => Some(Found {
+                    value: value.clone(),
+                    seq: OWN,
+                    create_ts: 0,
+                }),
+                None => self.find(key, open.begin)?,
+            };
+            let reply = match &row {
+                Some(row) => row_line(key, row),
+                None => b"none\n".to_vec(),
+            };
+            let is_kept = self.journal.is_kept();
+            let open = self.open_mut(name)?;
+            if open.is_serializable {
+                open.read_keys.push(key.to_vec());
+            }
+            if is_kept {
+                open.transcript.push(Step::Get(key.to_vec(), row));
+            }
+            Ok(reply)
+        }
+
+        /// The rows of the range that are seen from where a name began, and its own above them: of each key the newest of the rows
+        /// in memory and in tables, which are merged.
+        fn scan(&mut self, name: &str, order: Order, range: Range) -> Result<Vec<u8>, Failure> {
+            let open = self.open(name)?;
+            let is_kept = self.journal.is_kept();
+            let mut sources = self.sources(open, order, range)?;
+            let mut heads = BinaryHeap::new();
+            for source in 0..sources.len() {
+                heads.extend(self.next_head(&mut sources, source, order)?);
+            }
+            let (mut count, mut text, mut last) = (0u64, Vec::new(), Vec::new());
+            let mut steps = Vec::new();
+            while let Some(Head { row, source, .. }) = heads.pop() {
+                heads.extend(self.next_head(&mut sources, source, order)?);
+                let is_seen = row.seq <= open.begin || row.seq == OWN;
+                if is_seen && range.contains(row.key.as_slice()) && (count == 0 || row.key != last)
+                {
+                    count += 1;
+                    append_row(&mut text, &row);
+                    if is_kept {
+                        steps.push(Step::Next(Some(row.clone())));
+                    }
+                    last = row.key;
+                }
+            }
+            let open = self.open_mut(name)?;
+            if open.is_serializable {
+                open.read_ranges.push(own_range(range));
+            }
+            if is_kept {
+                open.transcript.push(Step::Scan(own_range(range)));
+                open.transcript.append(&mut steps);
+                open.transcript.push(Step::Next(None));
+            }
+            let mut reply = format!("rows {count}").into_bytes();
+            reply.append(&mut text);
+            reply.push(b'\n');
+            Ok(reply)
+        }
+
+        fn put(&mut self, name: &str, key: &[u8], value: &[u8]) -> Result<Vec<u8>, Failure> {
+            let is_kept = self.journal.is_kept();
+            let open = self.open_mut(name)?;
+            open.own.insert(key.to_vec(), value.to_vec());
+            if is_kept {
+                open.transcript
+                    .push(Step::Put(key.to_vec(), value.to_vec()));
+            }
+            Ok(b"ok\n".to_vec())
+        }
+
+        fn commit(&mut self, name: &str) -> Result<Vec<u8>, Failure> {
+            let before = self.least_begin();
+            let open = self.names.remove(name.as_bytes()).ok_or(Syntax)?;
+            let reply = match self.newest_conflict(&open) {
+                Some(seq) => format!("refused TransactionConflict {seq}\n"),
+                None => match self.commit_own(open) {
+                    Some(seq) => format!("committed {seq}\n"),
+                    None => "committed -\n".into(),
+                },
+            };
+            self.prune(before);
+            Ok(reply.into_bytes())
+        }
+
+        /// Commits what a transaction put, which has ended, and gives the sequence, where it put something.
+        fn commit_own(&mut self, open: Open) -> Option<u64> {
+            let seq = (!open.own.is_empty()).then_some(self.last + 1);
+            self.last = seq.unwrap_or(self.last);
+            for (key, value) in &open.own {
+                let written = Written {
+                    value: value.clone(),
+                    is_operand: false,
+                };
+                self.rows.insert((key.clone(), Reverse(self.last)), written);
+                if !self.names.is_empty() {
+                    self.writes.insert(key.clone(), self.last);
+                }
+            }
+            self.journal.add(|| Commit {
+                seq,
+                tracked: open.own.keys().cloned().collect(),
+                ops: open.own.into_iter().collect(),
+                transcript: open.transcript,
+            });
+            seq
+        }
+
+        /// The greatest sequence since a transaction's begin of a write of a key that it wrote or read.
+        fn newest_conflict(&self, open: &Open) -> Option<u64> {
+            let of_keys = open
+                .own
+                .keys()
+                .chain(&open.read_keys)
+                .filter_map(|key| self.writes.get(key));
+            let of_ranges = open
+                .read_ranges
+                .iter()
+                .flat_map(|range| self.writes.range::<[u8], _>(slices_of(range)))
+                .map(|(_, seq)| seq);
+            let later = of_keys.chain(of_ranges).filter(|seq| **seq > open.begin);
+            later.max().copied()
+        }
+
+        fn least_begin(&self) -> Option<u64> {
+            self.names.values().map(|open| open.begin).min()
+        }
+
+        /// Forgets the writes that no open transaction can conflict with, where the least begin was another one before.
+        fn prune(&mut self, before: Option<u64>) {
+            match self.least_begin() {
+                None => self.writes.clear(),
+                least if least == before => {}
+                Some(least) => self.writes.retain(|_, seq| *seq > least),
+            }
+        }
+
+        /// A transaction's own rows of a range, those in memory, and each table that has some, with its index read. Rows of a table
+        /// may stand outside the range.
+        fn sources(
+            &self,
+            open: &Open,
+            order: Order,
+            range: Range,
+        ) -> Result<Vec<Source<'_>>, Failure> {
+            let own = open
+                .own
+                .range::<[u8], _>(range)
+                .map(|(key, value)| ScanRow {
+                    key: key.clone(),
+                    value: value.clone(),
+                    seq: OWN,
+                    create_ts: 0,
+                });
+            let memory =
+                self.rows
+                    .range(bounds_of_rows(range))
+                    .map(|((key, Reverse(seq)), written)| ScanRow {
+                        key: key.clone(),
+                        value: written.value.clone(),
+                        seq: *seq,
+                        create_ts: 0,
+                    });
+            let mut sources = vec![
+                Source::of_rows(own.collect(), order),
+                Source::of_rows(memory.collect(), order),
+            ];
+            for table in self.tables.iter().rev().filter(|table| table.meets(range)) {
+                let index = self.read(&table.path, table.index_at, table.stats_at)?;
+                let (offsets, separators) = open_section(&self.crc, &index)
+                    .and_then(read_index)
+                    .ok_or(Damage)?;
+                let first = match range.0 {
+                    Bound::Unbounded => 0,
+                    Bound::Included(key) | Bound::Excluded(key) => separators
+                        .partition_point(|separator| *separator < key)
+                        .saturating_sub(1),
+                };
+                let end = match range.1 {
+                    Bound::Unbounded => offsets.len(),
+                    Bound::Included(key) | Bound::Excluded(key) => {
+                        separators.partition_point(|separator| *separator <= key)
+                    }
+                };
+                let ends = offsets.iter().skip(1).copied().chain([table.index_at]);
+                let places = offsets.iter().copied().zip(ends);
+                sources.push(Source {
+                    rows: VecDeque::new(),
+                    table: Some(table),
+                    offsets: places.take(end).skip(first).collect(),
+                });
+            }
+            Ok(sources)
+        }
+
+        /// The next row of a source, for which it reads its next block where it has none left. Downwards a key whose rows lie in two
+        /// blocks would come by its older rows first: no script scans such a table.
+        fn next_head(
+            &self,
+            sources: &mut [Source],
+            source: usize,
+            order: Order,
+        ) -> Result<Option<Head>, Failure> {
+            let from = &mut sources[source];
+            if let (true, Some(table)) = (from.rows.is_empty(), from.table) {
+                let block = match order {
+                    Order::Up => from.offsets.pop_front(),
+                    Order::Down => from.offsets.pop_back(),
+                };
+                if let Some((start, end)) = block {
+                    let section = self.read(&table.path, start, end)?;
+                    from.rows = rows_of_section(&self.crc, &section).ok_or(Damage)?;
+                    turn(&mut from.rows, order);
+                }
+            }
+            let row = from.rows.pop_front();
+            Ok(row.map(|row| Head { row, source, order }))
+        }
+
+        fn flush(&mut self) -> Result<Vec<u8>, Failure> {
+            if !self.rows.is_empty() {
+                let barrier = self.least_begin().unwrap_or(self.last);
+                let rows = rows_of_flush(mem::take(&mut self.rows), barrier);
+                self.store_table(&rows)?;
+            }
+            Ok(format!("flushed {}\n", self.last).into_bytes())
+        }
+
+        fn store_table(&mut self, rows: &[Row]) -> Result<(), Failure> {
+            let bytes = build_table(&self.crc, rows, Version::V2);
+            let (index_at, stats_at) = places_of(&bytes).ok_or(Damage)?;
+            let id = (self.tables.len() as u128 + 1) << 64;
+            let path = format!("db/compacted/{id:032x}.sst");
+            self.store.put(&path, bytes).map_err(|_| Failure::Store)?;
+            let first_key = rows[0].key.clone();
+            let last_key = rows[rows.len() - 1].key.clone();
+            self.tables.push(StoredTable {
+                path,
+                first_key,
+                last_key,
+                index_at,
+                stats_at,
+            });
+            Ok(())
+        }
+
+        /// What the rows of a key at or below a sequence fold to.
+        fn find(&self, key: &[u8], at: u64) -> Result<Option<Found>, Failure> {
+            let mut rows = Vec::new();
+            let behind = self.rows.range((key.to_vec(), Reverse(at))..);
+            for ((_, Reverse(seq)), written) in behind.take_while(|row| row.0 .0 == key) {
+                rows.push(Found {
+                    value: written.value.clone(),
+                    seq: *seq,
+                    create_ts: 0,
+                });
+                if !written.is_operand {
+                    return Ok(folded(rows));
+                }
+            }
+            for table in self.tables.iter().rev() {
+                if self.add_rows_of_table(table, key, at, &mut rows)? {
+                    break;
+                }
+            }
+            Ok(folded(rows))
+        }
+
+        /// Adds a key's rows at or below a sequence, newest first, to the first that is no operand, of a table: where its keys enclose
+        /// the key, its index is read, and the blocks that can hold the key. Gives whether that one was met.
+        fn add_rows_of_table(
+            &self,
+            table: &StoredTable,
+            key: &[u8],
+            at: u64,
+            rows: &mut Vec<Found>,
+        ) -> Result<bool, Failure> {
+            if key < table.first_key.as_slice() || table.last_key.as_slice() < key {
+                return Ok(false);
+            }
+            let index = self.read(&table.path, table.index_at, table.stats_at)?;
+            let (offsets, separators) = open_section(&self.crc, &index)
+                .and_then(read_index)
+                .ok_or(Damage)?;
+            let start_of = |block: usize| offsets.get(block).copied().unwrap_or(table.index_at);
+            let first = separators
+                .partition_point(|separator| *separator < key)
+                .saturating_sub(1);
+            let end = separators
+                .partition_point(|separator| *separator <= key)
+                .max(first);
+            let start = start_of(first);
+            let sections = self.read(&table.path, start, start_of(end))?;
+            for block in first..end {
+                let section = &sections[start_of(block) - start..start_of(block + 1) - start];
+                if add_rows_of_section(&self.crc, section, key, at, rows).ok_or(Damage)? {
+                    return Ok(true);
+                }
+            }
+            Ok(false)
+        }
+
+        fn read(&self, path: &str, start: usize, end: usize) -> Result<Cow<'_, [u8]>, Failure> {
+            self.store
+                .read_range(path, start, end)
+                .map_err(|_| Failure::Store)
+        }
+    }
+
+    /// What rows of a key fold to, of which all but the last are operands: the greatest value, and the sequence of the first.
+    fn folded(rows: Vec<Found>) -> Option<Found> {
+        let seq = rows.first()?.seq;
+        let create_ts = rows.iter().map(|row| row.create_ts).max()?;
+        let value = rows.into_iter().map(|row| row.value).max()?;
+        Some(Found {
+            value,
+            seq,
+            create_ts,
+        })
+    }
+
+    /// Of each key the rows above the barrier, and the fold of the others.
+    fn rows_of_flush(rows: BTreeMap<RowKey, Written>, barrier: u64) -> Vec<Row> {
+        let mut kept: Vec<Row> = Vec::new();
+        for ((key, Reverse(seq)), written) in rows {
+            let newer = kept
+                .last_mut()
+                .filter(|newer| newer.seq <= barrier && newer.key == key);
+            match newer {
+                Some(newer) if newer.is_operand => {
+                    newer.value = mem::take(&mut newer.value).max(written.value);
+                    newer.is_operand = written.is_operand;
+                }
+                Some(_) => {}
+                None => kept.push(Row {
+                    key,
+                    value: written.value,
+                    is_operand: written.is_operand,
+                    seq,
+                    create_ts: 0,
+                }),
+            }
+        }
+        kept
+    }
+
+    /// Adds a key's rows at or below a sequence, newest first, to the first that is no operand, of a block's section. Gives whether that
+    /// one was met, and `None` where the section is damaged.
+    fn add_rows_of_section(
+        crc: &CrcTables,
+        section: &[u8],
+        key: &[u8],
+        at: u64,
+        rows: &mut Vec<Found>,
+    ) -> Option<bool> {
+        let (body, offsets) = decode_block(open_section(crc, section)?)?;
+        let mut read = Vec::new();
+        let is_whole = add_rows_of_key(body, &offsets, key, at, &mut read)?;
+        rows.extend(read.into_iter().map(|row| Found {
+            value: row.value.to_vec(),
+            seq: row.seq,
+            create_ts: row.create_ts.unwrap_or(0),
+        }));
+        Some(is_whole)
+    }
+
+    fn read_name(token: &[u8]) -> Result<&str, Failure> {
+        let is_name =
+            (1..=64).contains(&token.len()) && token.iter().all(u8::is_ascii_alphanumeric);
+        std::str::from_utf8(token)
+            .ok()
+            .filter(|_| is_name)
+            .ok_or(Syntax)
+    }
+
+    fn read_text(token: &[u8]) -> Result<&[u8], Failure> {
+        token
+            .strip_prefix(b"'")
+            .filter(|text| text.iter().all(u8::is_ascii_graphic))
+            .ok_or(Syntax)
+    }
+
+    fn read_key(token: &[u8]) -> Result<&[u8], Failure> {
+        read_text(token).and_then(|key| {
+            if (1..=65535).contains(&key.len()) {
+                Ok(key)
+            } else {
+                Err(Syntax)
+            }
+        })
+    }
+
+    fn row_line(key: &[u8], row: &Found) -> Vec<u8> {
+        let mut line = b"row '".to_vec();
+        line.extend_from_slice(key);
+        line.extend_from_slice(b" '");
+        line.extend_from_slice(&row.value);
+        line.extend_from_slice(format!(" {} {} -\n", row.seq, row.create_ts).as_bytes());
+        line
+    }
+}
+
+/// The scripts that `slate` and plain Rust answer. `docs/SCRIPT.md` has their language.
+mod scripts {
+    use std::fmt::{Result, Write};
+
+    /// How many writes a script has that flushes at its end or not at all.
+    const MANY: u64 = 100_000;
+
+    /// How many writes a script has that flushes in between.
+    const SOME: u64 = 10_000;
+
+    /// How many writes stand between two flushes.
+    const FLUSH_INTERVAL: u64 = 64;
+
+    /// How many gets follow where a get can meet each table.
+    const FEW: u64 = 1_000;
+
+    /// How many writes stand between two flushes where 156 runs are scanned.
+    const RUN: u64 = 640;
+
+    /// How often all rows are scanned.
+    const SCANS: u64 = 4;
+
+    /// How far apart the keys of a table are that two transactions scan.
+    const STEP: u64 = 100;
+
+    /// How many keys are in the range that one of them scans.
+    const WIDTH: u64 = 10_000;
+
+    /// How many merges stand between two flushes.
+    const MERGES: u64 = 1_000;
+
+    /// How many keys are drawn from.
+    const DRAWN_KEYS: u64 = 1_000;
+
+    /// How many rounds lie between two flushes of a script that is made from a seed.
+    const ROUNDS_PER_FLUSH: u32 = 64;
+
+    /// The script of this name, and nothing where there is none.
+    pub fn make(name: &str) -> Option<String> {
+        let mut text = String::new();
+        let made = match name {
+            "write" => write_many(&mut text),
+            "write_and_flush" => write_many(&mut text).and_then(|()| writeln!(text, "flush")),
+            "read_rising" => write_and_read(&mut text, |i| i, SOME),
+            "read_scattered" => write_and_read(&mut text, |i| scattered(i, SOME), FEW),
+            "scan_up" => write_and_scan(&mut text, MANY, "asc"),
+            "scan_down" => write_and_scan(&mut text, MANY, "desc"),
+            "scan_runs_up" => write_and_scan(&mut text, RUN, "asc"),
+            "scan_runs_down" => write_and_scan(&mut text, RUN, "desc"),
+            "write_past_scans" => write_past_scans(&mut text),
+            "merge" => merge_many(&mut text),
+            _ => return None,
+        };
+        made.ok().map(|()| text)
+    }
+
+    /// The numbers below the count, each once, neighbours far apart.
+    fn scattered(i: u64, count: u64) -> u64 {
+        i * 7919 % count
+    }
+
+    fn put(text: &mut String, key: u64, value: u64) -> Result {
+        writeln!(text, "write put 'account/{key:08}/balance '{value:0100}")
+    }
+
+    fn write_many(text: &mut String) -> Result {
+        (0..MANY).try_for_each(|i| put(text, scattered(i, MANY), i))
+    }
+
+    /// Many writes with a flush behind each so many, and scans of all rows.
+    fn write_and_scan(text: &mut String, interval: u64, order: &str) -> Result {
+        for i in 0..MANY {
+            put(text, scattered(i, MANY), i)?;
+            if (i + 1) % interval == 0 {
+                writeln!(text, "flush")?;
+            }
+        }
+        writeln!(text, "begin t si")?;
+        (0..SCANS).try_for_each(|_| writeln!(text, "scan t {order} * *"))
+    }
+
+    /// Two serializable transactions that each scan a range of a table, many writes of keys that leave out the range of the first
+    /// alone, and the commits of both.
+    fn write_past_scans(text: &mut String) -> Result {
+        let middle = MANY / 2;
+        let scans = [("free", middle), ("met", middle + WIDTH)];
+        (0..FEW).try_for_each(|i| put(text, i * STEP, i))?;
+        writeln!(text, "flush")?;
+        for (name, start) in scans {
+            let end = start + WIDTH;
+            writeln!(text, "begin {name} ssi")?;
+            writeln!(
+                text,
+                "scan {name} asc i'account/{start:08} e'account/{end:08}"
+            )?;
+        }
+        for i in 0..MANY {
+            let key = scattered(i, MANY);
+            put(text, if key < middle { key } else { key + WIDTH }, i)?;
+        }
+        for (name, start) in scans {
+            writeln!(text, "put {name} 'account/{start:08} '{name}")?;
+            writeln!(text, "commit {name}")?;
+        }
+        Ok(())
+    }
+
+    /// Many operands of counters that are drawn, with a flush behind each so many, and a get of each counter.
+    fn merge_many(text: &mut String) -> Result {
+        let mut x = 0;
+        for i in 0..MANY {
+            x = drawn(x);
+            let counter = key_number(x);
+            writeln!(
+                text,
+                "write merge 'counter/{counter:03} '{:08}",
+                scattered(i, MANY)
+            )?;
+            if (i + 1) % MERGES == 0 {
+                writeln!(text, "flush")?;
+            }
+        }
+        writeln!(text, "begin t si")?;
+        (0..DRAWN_KEYS).try_for_each(|counter| writeln!(text, "get t 'counter/{counter:03}"))
+    }
+
+    /// The script of so many rounds that `slate` makes from a seed, and nothing where there is no room. A round reads one of 1,000
+    /// keys and writes one.
+    pub fn generate(rounds: u32, seed: u64) -> Option<String> {
+        let mut text = String::new();
+        push_rounds(&mut text, rounds, seed).ok().map(|()| text)
+    }
+
+    fn push_rounds(text: &mut String, rounds: u32, seed: u64) -> Result {
+        let mut x = seed;
+        for number in 1..=rounds {
+            let first = drawn(x);
+            let second = drawn(first);
+            writeln!(text, "begin t ssi\nget t 'k{}", key_number(first))?;
+            writeln!(text, "put t 'k{} 'v{number}\ncommit t", key_number(second))?;
+            if number % ROUNDS_PER_FLUSH == 0 {
+                writeln!(text, "flush")?;
+            }
+            x = second;
+        }
+        writeln!(text, "flush")
+    }
+
+    fn drawn(x: u64) -> u64 {
+        x.wrapping_mul(6364136223846793005)
+            .wrapping_add(1442695040888963407)
+    }
+
+    fn key_number(x: u64) -> u64 {
+        (x >> 33) % DRAWN_KEYS
+    }
+
+    /// Writes with flushes in between, and gets behind them, each of the key of another write.
+    fn write_and_read(text: &mut String, key: impl Fn(u64) -> u64, gets: u64) -> Result {
+        for i in 0..SOME {
+            put(text, key(i), i)?;
+            if (i + 1) % FLUSH_INTERVAL == 0 {
+                writeln!(text, "flush")?;
+            }
+        }
+        writeln!(text, "begin t si")?;
+        let stride = SOME / gets;
+        (0..gets).try_for_each(|i| {
+            writeln!(
+                text,
+                "get t 'account/{:08}/balance",
+                key(scattered(i * stride, SOME))
+            )
+        })
+    }
+}
+
+/// How long a program takes, and how much memory.
+mod measure {
+    use std::fs::OpenOptions;
+    use std::io::{self, Write};
+    use std::process::Command;
+    use std::time::Instant;
+
+    /// What the system tells of a process that ended.
+    #[repr(C)]
+    #[derive(Default)]
+    struct Usage {
+        times: [i64; 4],
+        peak_kib: i64,
+        others: [i64; 13],
+    }
+
+    extern "C" {
+        fn wait4(process: i32, status: *mut i32, options: i32, usage: *mut Usage) -> i32;
+    }
+
+    /// Runs a program over this one's standard input and output, and appends its nanoseconds and its peak memory in KiB to a file. Gives
+    /// the program's status, and 1 where it has none or a call of the system fails.
+    pub fn measure(file: &str, program: &str, words: &[&str]) -> i32 {
+        run(file, program, words).unwrap_or(1)
+    }
+
+    fn run(file: &str, program: &str, words: &[&str]) -> io::Result<i32> {
+        let mut figures = OpenOptions::new().create(true).append(true).open(file)?;
+        let (mut status, mut usage) = (0, Usage::default());
+        let start = Instant::now();
+        let child = Command::new(program).args(words).spawn()?;
+        // The standard library waits without asking for the memory.
+        let ended = unsafe { wait4(child.id() as i32, &mut status, 0, &mut usage) };
+        let nanos = start.elapsed().as_nanos();
+        if ended < 0 {
+            return Err(io::Error::last_os_error());
+        }
+        writeln!(figures, "{nanos} {}", usage.peak_kib)?;
+        let was_killed = status & 127 != 0;
+        Ok(if was_killed { 1 } else { status >> 8 & 255 })
+    }
+}
