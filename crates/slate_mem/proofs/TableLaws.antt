@@ -122,7 +122,7 @@ rows-put-all (row ∷ rows) es t = rows-put-all rows (insert_row es row) (keyed-
 pub set-of-set : (ks : List (List ℕ)) → IsStrictlySortedBy key_cmp ks → keys_set ks ≡ ks
 set-of-set ks h = same-set (keys_set ks) ks (set-rises ks) h (set-keeps ks)
 
-any-append : (k : List ℕ) (xs ys : List (List ℕ)) → among k (xs ++ ys) ≡ (among k xs || among k ys)
+pub any-append : (k : List ℕ) (xs ys : List (List ℕ)) → among k (xs ++ ys) ≡ (among k xs || among k ys)
 any-append k [] ys = refl
 any-append k (x ∷ xs) ys = by (bytes_eq x k) (any-append k xs ys)
   where
