@@ -179,8 +179,8 @@ cut_same (r ∷ s ∷ rows) h =
     ∙ ap (put_front same_keys r) (sym first)
 
 -- lists that are merged stand in turn
-pub merged_falls : (order : IterationOrder) (lists : List Rows) → NoneRises None (merged order true lists)
-merged_falls order lists = none_rises_in_turn order None (merged order true lists) (turn_decided (row_before order) None (merged order false lists) (merged_in_turn order lists))
+pub merged_falls : (order : IterationOrder) (lists : List Rows) → NoneRises true None (merged order true lists)
+merged_falls order lists = none_rises_in_turn order true None (merged order true lists) (turn_decided (row_before order) None (merged order false lists) (merged_in_turn order lists))
 
 -- of each key that is merged one row is left, the fold of its rows
 pub folded_of_key : (c : List ℕ → Combine) (order : IterationOrder) (lists : List Rows) (k : List ℕ) →

@@ -106,7 +106,7 @@ module _ (sources : List ScanSource) (order : IterationOrder) (merge : MergedSou
     pub fresh_operable : (w.meaning.combine ≡ None → AreBases (merged_rows order w sources)) → IsOperable merge_rows it w
     fresh_operable bases = subst (λ (u : Merged). IsOperable merge_rows u w) is_fresh (
       λ none. bases_closed None (merge_rows merge w) (subst AreBases (sym merge_is) (bases none)),
-      subst (NoneRises None) (sym merge_is) (merged_falls order (map (λ s. source_rows s w) sources)),
+      subst (NoneRises true None) (sym merge_is) (merged_falls order (map (λ s. source_rows s w) sources)),
     )
 
   pub opened_folds : (v : Merged) → v.folding ≡ it.folding → FoldsAll v

@@ -135,13 +135,15 @@ seek_walk r range order key rows w x u v is values still goes same sound has =
 pub operable_in : (u : Merged) (w : World) → FoldsAll u → IsOperableIn (Walking u) w → IsOperable merge_rows u w
 operable_in u w folds h = (
   λ none. bases_closed u.folding.snapshot_barrier_seq (with_ahead u.ahead (merge_rows u.iterator w)) (h.0 none),
-  subst (λ (b : Option ℕ). NoneRises b (with_ahead u.ahead (merge_rows u.iterator w))) (sym folds.1) h.1,
+  subst (λ (d : Bool). NoneRises d u.folding.snapshot_barrier_seq (with_ahead u.ahead (merge_rows u.iterator w))) (sym folds.0)
+      (subst (λ (b : Option ℕ). NoneRises true b (with_ahead u.ahead (merge_rows u.iterator w))) (sym folds.1) h.1),
 )
 
 pub operable_folds : (u : Merged) (w : World) → FoldsAll u → IsOperable merge_rows u w → IsOperableIn (Walking u) w
 operable_folds u w folds h = (
   λ none. closed_bases u.folding.snapshot_barrier_seq (with_ahead u.ahead (merge_rows u.iterator w)) folds.1 (h.0 none),
-  subst (λ (b : Option ℕ). NoneRises b (with_ahead u.ahead (merge_rows u.iterator w))) folds.1 h.1,
+  subst (λ (d : Bool). NoneRises d None (with_ahead u.ahead (merge_rows u.iterator w))) folds.0
+      (subst (λ (b : Option ℕ). NoneRises u.folding.merge_different_expire_ts b (with_ahead u.ahead (merge_rows u.iterator w))) folds.1 h.1),
 )
 
 pub operable_walk : {V : Type 0} (r : Result V SlateDBError) (order : IterationOrder) (w : World) (x : ScanState) (u v : Merged) → x ≡ Walking u → (IsSound u w → IsOperable merge_rows u w → OnOk r (IsOperable merge_rows v w)) → OnOk r (Goes u v) →

@@ -127,7 +127,7 @@ brought_in (Refused e) w = []
 abbrev pub IsOperableIn : ScanState → World → Type 0
 IsOperableIn state w =
     (w.meaning.combine ≡ None → AllByRecursion (λ r. is_base r ≡ true) (brought_in state w))
-    × NoneRises None (brought_in state w)
+    × NoneRises true None (brought_in state w)
 
 -- order: that of the scan
 abbrev pub IsSoundIn : IterationOrder → ScanState → World → Type 0

@@ -32,29 +32,29 @@ none_open_dropped barrier order key (r ∷ rows) h = elim (both (comes_before or
 ]
 
 module _ {S : Type 0} (rest : S → World → List RowEntry) (sound : S → World → Type 0) (refuses : S → Meaning → List Act → Option (List ℕ) → SlateDBError → Type 0) (order_of : S → IterationOrder) where
-  pub moved_operable : (barrier : Option ℕ) (a b : Reach) (x : Taken S) (y : S) (ahead : Option RowEntry) (taken : List RowEntry) → Moves (rest_taken rest) (sound_taken rest sound order_of) (refuses_taken refuses) a b x (y, ahead, taken) →
-      (w : World) → Sees w a b → sound_taken rest sound order_of x w → operable_taken barrier rest x w → operable_taken barrier rest (y, ahead, []) w
-  moved_operable barrier a b x y ahead taken m w sees h op = (
+  pub moved_operable : (different : Bool) (barrier : Option ℕ) (a b : Reach) (x : Taken S) (y : S) (ahead : Option RowEntry) (taken : List RowEntry) → Moves (rest_taken rest) (sound_taken rest sound order_of) (refuses_taken refuses) a b x (y, ahead, taken) →
+      (w : World) → Sees w a b → sound_taken rest sound order_of x w → operable_taken different barrier rest x w → operable_taken different barrier rest (y, ahead, []) w
+  moved_operable different barrier a b x y ahead taken m w sees h op = (
     λ none. none_open_behind barrier taken (with_ahead ahead (rest y w)) (subst (NoneOpen barrier) (sym (m.rows w sees h)) (op.0 none)),
-    none_rises_behind barrier taken (with_ahead ahead (rest y w)) (subst (NoneRises barrier) (sym (m.rows w sees h)) op.1),
+    none_rises_behind different barrier taken (with_ahead ahead (rest y w)) (subst (NoneRises different barrier) (sym (m.rows w sees h)) op.1),
   )
 
-  pub step_operable : (takes : Taken S → Meaning → List Act → Option RowEntry → Taken S → Type 0) (barrier : Option ℕ) (a b : Reach) (x y : Taken S) (answer : Option RowEntry) → Step (rest_taken rest) (sound_taken rest sound order_of) (refuses_taken refuses) takes a b x answer y →
-      (w : World) → Sees w a b → sound_taken rest sound order_of x w → operable_taken barrier rest x w → operable_taken barrier rest y w
-  step_operable takes barrier a b x y answer s w sees h op = (λ none. opens answer (s.rows w sees h) (op.0 none), falls answer (s.rows w sees h))
+  pub step_operable : (takes : Taken S → Meaning → List Act → Option RowEntry → Taken S → Type 0) (different : Bool) (barrier : Option ℕ) (a b : Reach) (x y : Taken S) (answer : Option RowEntry) → Step (rest_taken rest) (sound_taken rest sound order_of) (refuses_taken refuses) takes a b x answer y →
+      (w : World) → Sees w a b → sound_taken rest sound order_of x w → operable_taken different barrier rest x w → operable_taken different barrier rest y w
+  step_operable takes different barrier a b x y answer s w sees h op = (λ none. opens answer (s.rows w sees h) (op.0 none), falls answer (s.rows w sees h))
     where
       opens : (o : Option RowEntry) → TakesRow (rest_taken rest x w) o (rest_taken rest y w) → NoneOpen barrier (rest_taken rest x w) → NoneOpen barrier (rest_taken rest y w)
       opens None t k = subst (NoneOpen barrier) (sym t.1) tt
       opens (Some row) t k = (subst (NoneOpen barrier) t k).1
 
-      falls : (o : Option RowEntry) → TakesRow (rest_taken rest x w) o (rest_taken rest y w) → NoneRises barrier (rest_taken rest y w)
-      falls None t = subst (NoneRises barrier) (sym t.1) tt
-      falls (Some row) t = (subst (NoneRises barrier) t op.1).1
+      falls : (o : Option RowEntry) → TakesRow (rest_taken rest x w) o (rest_taken rest y w) → NoneRises different barrier (rest_taken rest y w)
+      falls None t = subst (NoneRises different barrier) (sym t.1) tt
+      falls (Some row) t = (subst (NoneRises different barrier) t op.1).1
 
   -- an operand came that would be folded, and there is no operator
-  pub not_operable : {A : Type 0} (takes : Taken S → Meaning → List Act → Option RowEntry → Taken S → Type 0) (barrier : Option ℕ) (a b : Reach) (x y : Taken S) (row : RowEntry) (has : Bool) → Step (rest_taken rest) (sound_taken rest sound order_of) (refuses_taken refuses) takes a b x (Some row) y →
-      is_open barrier row ≡ true → b.meaning ≡ a.meaning → has ≡ is_some b.meaning.combine → has ≡ false → (w : World) → Sees w a b → sound_taken rest sound order_of x w → operable_taken barrier rest x w → A
-  not_operable takes barrier a b x y row has s opened same is false_is w sees h op =
+  pub not_operable : {A : Type 0} (takes : Taken S → Meaning → List Act → Option RowEntry → Taken S → Type 0) (different : Bool) (barrier : Option ℕ) (a b : Reach) (x y : Taken S) (row : RowEntry) (has : Bool) → Step (rest_taken rest) (sound_taken rest sound order_of) (refuses_taken refuses) takes a b x (Some row) y →
+      is_open barrier row ≡ true → b.meaning ≡ a.meaning → has ≡ is_some b.meaning.combine → has ≡ false → (w : World) → Sees w a b → sound_taken rest sound order_of x w → operable_taken different barrier rest x w → A
+  not_operable takes different barrier a b x y row has s opened same is false_is w sees h op =
       let none : w.meaning.combine ≡ None = ap (λ (p : Meaning). p.combine) sees.meaning ∙ no_operator a b has same is false_is in
       let closed : is_open barrier row ≡ false = (subst (NoneOpen barrier) (s.rows w sees h) (op.0 none)).0 in
       let never : true ≡ false = sym opened ∙ closed in cc

@@ -1,6 +1,6 @@
 -- Rows that rise above the operand before them.
 use Rattle.std.proofs.Common.{◌≡◌, ◌⊎◌, inl, inr, ℕ, ◌<◌, ◌&&◌, Bool, true, false, List, [], ◌∷◌, ◌++◌, Option, Some, None, refl, sym, ap, subst, ◌∙◌, append_assoc, arith}
-use Rattle.std.specs.Prelude.{is_some, nat_lt}
+use Rattle.std.specs.Prelude.{nat_lt}
 use Rattle.std.proofs.lemmas.Bool.Decides.{nat_tests}
 use Rattle.slate_types.specs.declared.error.SlateDBError.{SlateDBError}
 use Rattle.slate_types.specs.declared.error.SlateDBError.TheVariants.{InvalidSequenceOrder, MergeOperatorMissing}
@@ -8,70 +8,69 @@ use Rattle.slate_types.specs.declared.iter.IterationOrder.{IterationOrder}
 use Rattle.slate_types.specs.declared.types.RowEntry.{RowEntry}
 use Rattle.slate_types.specs.Iteration.{comes_before, drop_before}
 use Rattle.slate_types.specs.Outside.{Act, Counts, IsCounted, IsFault, IsLater, Meaning, OnlyReads, Reach}
-use Rattle.slate_types.specs.Refusing.{NoMore}
 use Rattle.slate_types.specs.Steps.{Step, Takes}
 use Rattle.slate_types.specs.World.{World, Made, Sees}
 use Rattle.slate_types.proofs.Calls.{call_both, sees_first, sees_last}
 use Rattle.slate_types.proofs.Moves.{Moves}
 use Rattle.slate_types.proofs.Reaching.{fault_earlier}
 use Rattle.slate_types.proofs.Walked.{Walked, walked_none, walked_on}
-use Rattle.slate_read.specs.Folding.{AreLinked, FoldFalls, NoneRises, begins_linked, is_open, links, outranks, rises}
+use Rattle.slate_read.specs.Folding.{AreLinked, FoldFalls, NoneRises, begins_linked, is_open, links, rises}
 use Rattle.slate_read.specs.FoldedLaws.{and_right, unlinked}
 use Rattle.slate_read.specs.Folds.{Blames, BlamesNext, EndsByRise, IsRise, MeetsRise, RefusesFold, RefusesRise, Taken, refuses_taken, rest_taken, sound_taken, takes_ahead}
 use Rattle.slate_read.specs.OperatorIterators.{IsOwn}
 use Rattle.slate_read.specs.Peeking.{TakesAhead, with_ahead}
 use Rattle.slate_read.specs.Turns.{both}
 
-pub not_risen : (barrier : Option ℕ) (r s : RowEntry) → outranks r s ≡ false → rises barrier r s ≡ false
-not_risen barrier r s e = by (is_open barrier r) (outranks r s) e
+pub not_risen : (different : Bool) (barrier : Option ℕ) (r s : RowEntry) → nat_lt r.seq s.seq ≡ false → rises different barrier r s ≡ false
+not_risen different barrier r s e = by (links different barrier r s) (nat_lt r.seq s.seq) e
   where
     by : (a b : Bool) → b ≡ false → (a && b) ≡ false
     by true b h = h
     by false b h = refl
 
--- a row that isn't folded is risen above by none
-pub unrisen : (barrier : Option ℕ) (r : RowEntry) (rows : List RowEntry) → is_open barrier r ≡ false → begins_linked (rises barrier) r rows ≡ false
-unrisen barrier r [] e = refl
-unrisen barrier r (s ∷ rows) e = ap (λ b. b && outranks r s) e
+-- a row that isn't folded doesn't rise, whatever its sequence
+pub apart_falls : (different : Bool) (barrier : Option ℕ) (r : RowEntry) (rows : List RowEntry) → begins_linked (links different barrier) r rows ≡ false → begins_linked (rises different barrier) r rows ≡ false
+apart_falls different barrier r [] e = refl
+apart_falls different barrier r (s ∷ rows) e = ap (λ b. b && nat_lt r.seq s.seq) e
 
-pub is_risen : (barrier : Option ℕ) (r s : RowEntry) → is_open barrier r ≡ true → outranks r s ≡ true → rises barrier r s ≡ true
-is_risen barrier r s opened above = (λ i. opened i && outranks r s) ∙ above
+pub is_risen : (different : Bool) (barrier : Option ℕ) (r s : RowEntry) → links different barrier r s ≡ true → nat_lt r.seq s.seq ≡ true → rises different barrier r s ≡ true
+is_risen different barrier r s linked above = (λ i. linked i && nat_lt r.seq s.seq) ∙ above
 
-risen_less : (barrier : Option ℕ) (r s : RowEntry) → rises barrier r s ≡ true → r.seq < s.seq
-risen_less barrier r s e = less r.seq s.seq (and_right _ (nat_lt r.seq s.seq) (and_right (is_open barrier r) _ e))
+risen_less : (different : Bool) (barrier : Option ℕ) (r s : RowEntry) → rises different barrier r s ≡ true → r.seq < s.seq
+risen_less different barrier r s e = less r.seq s.seq (and_right (links different barrier r s) (nat_lt r.seq s.seq) e)
   where
     less : (m n : ℕ) → nat_lt m n ≡ true → m < n
     less m n h = grind (arith, nat_tests, h)
 
 -- ---- lists of rows
 
-pub none_rises_behind : (barrier : Option ℕ) (front rows : List RowEntry) → NoneRises barrier (front ++ rows) → NoneRises barrier rows
-none_rises_behind barrier [] rows h = h
-none_rises_behind barrier (r ∷ front) rows h = none_rises_behind barrier front rows h.1
+pub none_rises_behind : (different : Bool) (barrier : Option ℕ) (front rows : List RowEntry) → NoneRises different barrier (front ++ rows) → NoneRises different barrier rows
+none_rises_behind different barrier [] rows h = h
+none_rises_behind different barrier (r ∷ front) rows h = none_rises_behind different barrier front rows h.1
 
 -- a seek takes rows off
-pub none_rises_dropped : (barrier : Option ℕ) (order : IterationOrder) (key : List ℕ) (rows : List RowEntry) → NoneRises barrier rows → NoneRises barrier (drop_before order key rows)
-none_rises_dropped barrier order key [] h = tt
-none_rises_dropped barrier order key (r ∷ rows) h = elim (both (comes_before order r.key key)) as (λ _. NoneRises barrier (drop_before order key (r ∷ rows))) [
-  | inl e ↦ rw e (none_rises_dropped barrier order key rows h.1)
+pub none_rises_dropped : (different : Bool) (barrier : Option ℕ) (order : IterationOrder) (key : List ℕ) (rows : List RowEntry) → NoneRises different barrier rows → NoneRises different barrier (drop_before order key rows)
+none_rises_dropped different barrier order key [] h = tt
+none_rises_dropped different barrier order key (r ∷ rows) h = elim (both (comes_before order r.key key)) as (λ _. NoneRises different barrier (drop_before order key (r ∷ rows))) [
+  | inl e ↦ rw e (none_rises_dropped different barrier order key rows h.1)
   | inr e ↦ rw e h
 ]
 
-pub none_rises_more : (barrier : Option ℕ) (rows : List RowEntry) (r s : RowEntry) → NoneRises barrier (rows ++ (r ∷ [])) → rises barrier r s ≡ false → NoneRises barrier ((rows ++ (r ∷ [])) ++ (s ∷ []))
-none_rises_more barrier [] r s h e = (e, (refl, tt))
-none_rises_more barrier (x ∷ []) r s h e = (h.0, none_rises_more barrier [] r s h.1 e)
-none_rises_more barrier (x ∷ y ∷ rows) r s h e = (h.0, none_rises_more barrier (y ∷ rows) r s h.1 e)
+pub none_rises_more : (different : Bool) (barrier : Option ℕ) (rows : List RowEntry) (r s : RowEntry) → NoneRises different barrier (rows ++ (r ∷ [])) → rises different barrier r s ≡ false → NoneRises different barrier ((rows ++ (r ∷ [])) ++ (s ∷ []))
+none_rises_more different barrier [] r s h e = (e, (refl, tt))
+none_rises_more different barrier (x ∷ []) r s h e = (h.0, none_rises_more different barrier [] r s h.1 e)
+none_rises_more different barrier (x ∷ y ∷ rows) r s h e = (h.0, none_rises_more different barrier (y ∷ rows) r s h.1 e)
 
--- rows that are folded, and the one behind them
-pub gathered_falls : (different : Bool) (barrier : Option ℕ) (newer : List RowEntry) (oldest : RowEntry) (more : List RowEntry) → NoneRises barrier (newer ++ (oldest ∷ [])) →
-    begins_linked (rises barrier) oldest more ≡ false → begins_linked (links different barrier) oldest more ≡ false → FoldFalls different barrier (newer ++ (oldest ∷ more))
-gathered_falls different barrier [] oldest more h e apart = (e, λ is. (let never : true ≡ false = sym is ∙ apart in cc))
-gathered_falls different barrier (r ∷ []) oldest more h e apart = (h.0, λ is. gathered_falls different barrier [] oldest more h.1 e apart)
-gathered_falls different barrier (r ∷ s ∷ rows) oldest more h e apart = (h.0, λ is. gathered_falls different barrier (s ∷ rows) oldest more h.1 e apart)
+-- rows that are folded
+pub gathered_falls : (different : Bool) (barrier : Option ℕ) (newer : List RowEntry) (oldest : RowEntry) (more : List RowEntry) → NoneRises different barrier (newer ++ (oldest ∷ [])) →
+    begins_linked (links different barrier) oldest more ≡ false → FoldFalls different barrier (newer ++ (oldest ∷ more))
+gathered_falls different barrier [] oldest more h apart = (apart_falls different barrier oldest more apart, λ is. (let never : true ≡ false = sym is ∙ apart in cc))
+gathered_falls different barrier (r ∷ []) oldest more h apart = (h.0, λ is. gathered_falls different barrier [] oldest more h.1 apart)
+gathered_falls different barrier (r ∷ s ∷ rows) oldest more h apart = (h.0, λ is. gathered_falls different barrier (s ∷ rows) oldest more h.1 apart)
 
 -- a row that isn't folded
 pub through_falls : (different : Bool) (barrier : Option ℕ) (r : RowEntry) (rows : List RowEntry) → is_open barrier r ≡ false → FoldFalls different barrier (r ∷ rows)
-through_falls different barrier r rows e = (unrisen barrier r rows e, λ is. (let never : true ≡ false = sym is ∙ unlinked different barrier r rows e in cc))
+through_falls different barrier r rows e = gathered_falls different barrier [] r rows (refl, tt) (unlinked different barrier r rows e)
 
 -- ---- rows that were gathered behind the first one
 
@@ -95,9 +94,9 @@ module _ {S : Type 0} (rest : S → World → List RowEntry) (sound : S → Worl
 
   -- the next row rises
   pub gathering_rises : (different : Bool) (barrier : Option ℕ) (a b c : Reach) (x y z : S) (first oldest row : RowEntry) (newer : List RowEntry) → Gathering rest sound refuses takes a b x y first (newer ++ (oldest ∷ [])) → AreLinked (links different barrier) newer oldest →
-      Step rest sound refuses takes b c y (Some row) z → OnlyReads b c → is_open barrier oldest ≡ true → outranks oldest row ≡ true →
+      Step rest sound refuses takes b c y (Some row) z → OnlyReads b c → links different barrier oldest row ≡ true → nat_lt oldest.seq row.seq ≡ true →
       Made a c (λ reads. MeetsRise (λ u rs o v. takes u a.meaning rs o v) different barrier (Some first) reads x z (InvalidSequenceOrder oldest.seq row.seq))
-  gathering_rises different barrier a b c x y z first oldest row newer g linked s reads opened above =
+  gathering_rises different barrier a b c x y z first oldest row newer g linked s reads last above =
       let on = gathering_on a b c x y z first row (newer ++ (oldest ∷ [])) g s reads in (
         on.walked.made.0,
         on.walked.made.1,
@@ -110,7 +109,7 @@ module _ {S : Type 0} (rest : S → World → List RowEntry) (sound : S → Worl
             row = row;
             are = sym on.are ∙ append_assoc newer (oldest ∷ []) (row ∷ []);
             linked = linked;
-            rises = is_risen barrier oldest row opened above;
+            rises = is_risen different barrier oldest row last above;
             refusal = refl;
           },
         ),
@@ -118,16 +117,16 @@ module _ {S : Type 0} (rest : S → World → List RowEntry) (sound : S → Worl
 
 module _ {S : Type 0} (rest : S → World → List RowEntry) (sound : S → World → Type 0) (refuses : S → Meaning → List Act → Option (List ℕ) → SlateDBError → Type 0) (order_of : S → IterationOrder) where
   -- no row rises in a world in which none does
-  pub never_rises : {A : Type 0} (takes : S → Meaning → List Act → Option RowEntry → S → Type 0) (barrier : Option ℕ) (oldest row : RowEntry) (newer : List RowEntry) (a b c : Reach) (z : Taken S) (x y : S) →
-      Moves (rest_taken rest) (sound_taken rest sound order_of) (refuses_taken refuses) a b z (x, None, newer ++ (oldest ∷ [])) → Step rest sound refuses takes b c x (Some row) y → is_open barrier oldest ≡ true → outranks oldest row ≡ true →
-      (w : World) → Sees w a c → sound_taken rest sound order_of z w → NoneRises barrier (rest_taken rest z w) → A
-  never_rises takes barrier oldest row newer a b c z x y m s opened above w sees h falls =
+  pub never_rises : {A : Type 0} (takes : S → Meaning → List Act → Option RowEntry → S → Type 0) (different : Bool) (barrier : Option ℕ) (oldest row : RowEntry) (newer : List RowEntry) (a b c : Reach) (z : Taken S) (x y : S) →
+      Moves (rest_taken rest) (sound_taken rest sound order_of) (refuses_taken refuses) a b z (x, None, newer ++ (oldest ∷ [])) → Step rest sound refuses takes b c x (Some row) y → links different barrier oldest row ≡ true → nat_lt oldest.seq row.seq ≡ true →
+      (w : World) → Sees w a c → sound_taken rest sound order_of z w → NoneRises different barrier (rest_taken rest z w) → A
+  never_rises takes different barrier oldest row newer a b c z x y m s linked above w sees h falls =
       let first : Sees w a b = sees_first w a b c m.made.0 s.taken.0 m.made.1 s.taken.1 sees in
       let last : Sees w b c = sees_last w a b c m.made.0 s.taken.0 m.made.1 s.taken.1 sees in
       let came : (newer ++ (oldest ∷ [])) ++ (row ∷ rest y w) ≡ rest_taken rest z w = ap (λ (l : List RowEntry). (newer ++ (oldest ∷ [])) ++ l) (sym (s.rows w last (m.still w first h).0)) ∙ m.rows w first h in
-      let here : NoneRises barrier (newer ++ (oldest ∷ row ∷ rest y w)) = subst (NoneRises barrier) (append_assoc newer (oldest ∷ []) (row ∷ rest y w)) (subst (NoneRises barrier) (sym came) falls) in
-      let no : rises barrier oldest row ≡ false = (none_rises_behind barrier newer (oldest ∷ row ∷ rest y w) here).0 in
-      let never : true ≡ false = sym (is_risen barrier oldest row opened above) ∙ no in cc
+      let here : NoneRises different barrier (newer ++ (oldest ∷ row ∷ rest y w)) = subst (NoneRises different barrier) (append_assoc newer (oldest ∷ []) (row ∷ rest y w)) (subst (NoneRises different barrier) (sym came) falls) in
+      let no : rises different barrier oldest row ≡ false = (none_rises_behind different barrier newer (oldest ∷ row ∷ rest y w) here).0 in
+      let never : true ≡ false = sym (is_risen different barrier oldest row linked above) ∙ no in cc
 
   -- the source is spent
   pub spent_rest : (takes : S → Meaning → List Act → Option RowEntry → S → Type 0) (a b c : Reach) (z : Taken S) (x y : S) (taken : List RowEntry) → Moves (rest_taken rest) (sound_taken rest sound order_of) (refuses_taken refuses) a b z (x, None, taken) →
@@ -161,7 +160,7 @@ own_blames e k = (λ m. inl k, λ current next is. inl k)
 
 module _ {S : Type 0} (takes : S → List Act → Option RowEntry → S → Type 0) (different : Bool) (barrier : Option ℕ) where
   pub rise_refused : (m : Meaning) (ahead : Option RowEntry) (reads : List Act) (x y : S) (e : SlateDBError) → (m.combine ≡ None → ⊥) → MeetsRise takes different barrier ahead reads x y e → RefusesRise m None e
-  rise_refused m ahead reads x y e some (given, came, ends) = (refl, some, subst IsRise (sym ends.refusal) (risen_less barrier ends.oldest ends.row ends.rises))
+  rise_refused m ahead reads x y e some (given, came, ends) = (refl, some, subst IsRise (sym ends.refusal) (risen_less different barrier ends.oldest ends.row ends.rises))
 
   pub rise_blames : {own opens : Type 0} (ahead : Option RowEntry) (reads : List Act) (x y : S) (e : SlateDBError) → MeetsRise takes different barrier ahead reads x y e → Blames e own opens (MeetsRise takes different barrier ahead reads x y e)
   rise_blames ahead reads x y e met = (λ m. (let never = sym m ∙ met.2.refusal in cc), λ current next is. inr met)

@@ -32,4 +32,4 @@ abbrev pub CutsWhole : Type 0
 CutsWhole = (different : Bool) (barrier : Option ℕ) (rows : List RowEntry) → flat_map (λ group. group) (cut (links different barrier) rows) ≡ rows
 
 abbrev pub NoneRisesInTurn : Type 0
-NoneRisesInTurn = (order : IterationOrder) (barrier : Option ℕ) (rows : List RowEntry) → AreInTurn (row_before order) rows → NoneRises barrier rows
+NoneRisesInTurn = (order : IterationOrder) (different : Bool) (barrier : Option ℕ) (rows : List RowEntry) → AreInTurn (row_before order) rows → NoneRises different barrier rows

@@ -3,10 +3,9 @@
 --     is_open barrier r      the row is an operand that isn't above the barrier
 --     follows different r s      the row s may be folded into r: it has its key, and its expiry where these may not differ
 --     links different barrier r s      it is folded into r where it stands next behind it
---     outranks r s      the row s has the key of r, and a greater sequence
---     rises barrier r s      the same where r is folded: no source in turn brings s next behind it
---     NoneRises barrier rows      of no rows one behind the other the second rises so
---     FoldFalls different barrier rows      nor of those that are folded at first, and the one behind them
+--     rises different barrier r s      the same, and s has a greater sequence: no source in turn brings it next behind r
+--     NoneRises different barrier rows      of no rows one behind the other the second rises so
+--     FoldFalls different barrier rows      nor of those that are folded at first
 --     cut links xs      the list in groups: a cut stands wherever neighbours aren't linked
 --     fold_group c rows      the fold of a group, newest row first
 --     folded c different barrier rows      the folds of the groups
@@ -33,11 +32,8 @@ follows different r s = bytes_eq r.key s.key && (different || same_stamp r.expir
 abbrev pub links : Bool → Option ℕ → RowEntry → RowEntry → Bool
 links different barrier r s = is_open barrier r && follows different r s
 
-abbrev pub outranks : RowEntry → RowEntry → Bool
-outranks r s = bytes_eq r.key s.key && nat_lt r.seq s.seq
-
-abbrev pub rises : Option ℕ → RowEntry → RowEntry → Bool
-rises barrier r s = is_open barrier r && outranks r s
+abbrev pub rises : Bool → Option ℕ → RowEntry → RowEntry → Bool
+rises different barrier r s = links different barrier r s && nat_lt r.seq s.seq
 
 module _ {X : Type 0} (links : X → X → Bool) where
   -- an element in front of groups: in the first group where it is linked with its first element, else by itself
@@ -59,14 +55,14 @@ module _ {X : Type 0} (links : X → X → Bool) where
   AreLinked (y ∷ []) x = links y x ≡ true
   AreLinked (y ∷ z ∷ zs) x = (links y z ≡ true) × AreLinked (z ∷ zs) x
 
-abbrev pub NoneRises : Option ℕ → List RowEntry → Type 0
-NoneRises barrier [] = Unit {0}
-NoneRises barrier (r ∷ rows) = (begins_linked (rises barrier) r rows ≡ false) × NoneRises barrier rows
+abbrev pub NoneRises : Bool → Option ℕ → List RowEntry → Type 0
+NoneRises different barrier [] = Unit {0}
+NoneRises different barrier (r ∷ rows) = (begins_linked (rises different barrier) r rows ≡ false) × NoneRises different barrier rows
 
 abbrev pub FoldFalls : Bool → Option ℕ → List RowEntry → Type 0
 FoldFalls different barrier [] = Unit {0}
 FoldFalls different barrier (r ∷ rows) =
-    (begins_linked (rises barrier) r rows ≡ false)
+    (begins_linked (rises different barrier) r rows ≡ false)
     × (begins_linked (links different barrier) r rows ≡ true → FoldFalls different barrier rows)
 
 abbrev pub fold_group : (List ℕ → Combine) → List RowEntry → Option RowEntry

@@ -8,7 +8,7 @@
 --     RefusesFold m at e      one of the two
 --     refuses_folds      what the source refuses, and these
 --     NoneOpen barrier rows      none of the rows is such an operand
---     operable_taken barrier rest      without an operator none of the rows of such a state is; and no row rises above the operand before it
+--     operable_taken different barrier rest      without an operator none of the rows of such a state is; and no row rises above the operand before it
 --     hands_out takes barrier      without an operator nothing is folded: the answer is the row that was read ahead, or the source
 --                                  gave it, and it's no such operand
 --     MeetsOpen takes barrier ahead reads before after      such an operand comes next: it was read ahead, or the source gave it
@@ -59,7 +59,7 @@ pub record EndsByRise (different : Bool) (barrier : Option ℕ) (rows : List Row
   pub row : RowEntry
   pub are : rows ≡ newer ++ (oldest ∷ row ∷ [])
   pub linked : AreLinked (links different barrier) newer oldest
-  pub rises : rises barrier oldest row ≡ true
+  pub rises : rises different barrier oldest row ≡ true
   pub refusal : e ≡ InvalidSequenceOrder oldest.seq row.seq
 
 abbrev pub NoneOpen : Option ℕ → List RowEntry → Type 0
@@ -84,10 +84,10 @@ module _ {S : Type 0} where
   abbrev pub refuses_folds : (S → Meaning → List Act → Option (List ℕ) → SlateDBError → Type 0) → Taken S → Meaning → List Act → Option (List ℕ) → SlateDBError → Type 0
   refuses_folds refuses x m reads at e = refuses x.0 m reads at e ⊎ RefusesFold m at e
 
-  abbrev pub operable_taken : Option ℕ → (S → World → List RowEntry) → Taken S → World → Type 0
-  operable_taken barrier rest x w =
+  abbrev pub operable_taken : Bool → Option ℕ → (S → World → List RowEntry) → Taken S → World → Type 0
+  operable_taken different barrier rest x w =
       (w.meaning.combine ≡ None → NoneOpen barrier (rest_taken rest x w))
-      × NoneRises barrier (rest_taken rest x w)
+      × NoneRises different barrier (rest_taken rest x w)
 
   abbrev pub hands_out : (S → Meaning → List Act → Option RowEntry → S → Type 0) → Option ℕ → Taken S → Meaning → List Act → Option RowEntry → Taken S → Type 0
   hands_out takes barrier x m reads answer y = m.combine ≡ None → IfSome answer (λ row. is_open barrier row ≡ false) × takes_ahead takes x m reads answer y

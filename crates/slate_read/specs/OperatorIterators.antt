@@ -6,7 +6,7 @@
 --     IsGoing it      it has begun, and wasn't refused
 --     IsOperable rest it w      without an operator no row that the source has left, and no row that was read ahead, is an operand
 --                               that isn't above the barrier; and of these rows none rises above the operand before it
---     FallsAtFirst rest it w      nor of those that are folded at first, and the one behind them
+--     FallsAtFirst rest it w      nor of those that are folded at first
 --     IsOwn refuses before after source e      the refusal is a fault, or the source's own
 --     Begins, Takes, Seeks      it began, took a row, and sought a key; without an operator the row is one of its source, and isn't folded
 --     Keeps e it      it keeps the refusal e, or want of memory for a copy
@@ -76,7 +76,7 @@ module _ {S : Type 0} where
   IsGoing it = (it.begun ≡ true) × (it.refusal ≡ None)
 
   abbrev pub IsOperable : (S → World → List RowEntry) → MergeOperatorIterator S → World → Type 0
-  IsOperable rest it w = operable_taken it.folding.snapshot_barrier_seq rest (it.iterator, it.ahead, []) w
+  IsOperable rest it w = operable_taken it.folding.merge_different_expire_ts it.folding.snapshot_barrier_seq rest (it.iterator, it.ahead, []) w
 
   abbrev pub FallsAtFirst : (S → World → List RowEntry) → MergeOperatorIterator S → World → Type 0
   FallsAtFirst rest it w = FoldFalls it.folding.merge_different_expire_ts it.folding.snapshot_barrier_seq (rest_taken rest (it.iterator, it.ahead, []) w)

@@ -7,7 +7,7 @@ ghost use Rattle.slate_types.specs.Refusing.{NoMore};
 ghost use Rattle.slate_types.specs.Steps.{Step};
 ghost use Rattle.slate_types.specs.World.{World, Made, Sees};
 ghost use Rattle.slate_types.proofs.Moves.{Moves};
-ghost use Rattle.slate_read.specs.Folding.{AreLinked, FoldFalls, NoneRises, begins_linked, follows, is_open, links, outranks, rises};
+ghost use Rattle.slate_read.specs.Folding.{AreLinked, FoldFalls, NoneRises, begins_linked, follows, is_open, links};
 ghost use Rattle.slate_read.specs.Folds.{BlamesNext, MeetsRise, RefusesFold, hands_out, operable_taken, refuses_folds, refuses_taken, rest_folds, rest_taken, sound_taken, takes_ahead};
 ghost use Rattle.slate_read.specs.OperatorIterators.{IsOwn};
 ghost use Rattle.slate_read.specs.Peeking.{ahead_bound, with_ahead};
@@ -32,13 +32,6 @@ fn same_stamp(a: Option<i64>, b: Option<i64>) -> bool
     ensures { result ≡ equality.same_stamp a b }
 {
     a == b
-}
-
-/// Whether the second row has the key of the first, and a greater sequence.
-fn is_above(row: &RowEntry, next: &RowEntry) -> bool
-    ensures { result ≡ outranks row.now next.now }
-{
-    row.key == next.key && row.seq < next.seq
 }
 
 /// Takes the row that was read ahead, or the source's next one.
@@ -87,8 +80,8 @@ impl Folding {
             && (self.merge_different_expire_ts || same_stamp(row.expire_ts, next.expire_ts))
     }
 
-    /// Takes the rows that are folded into the first one. A row of a greater sequence than the operand before it is refused, where
-    /// it has its key.
+    /// Takes the rows that are folded into the first one. A row that doesn't follow is kept ahead; one that does, with a greater
+    /// sequence than the operand before it, is refused.
     #[tactic(auto, using(slate_types::proofs::Moves::moves_none, slate_types::proofs::Reaching::reads_none, crate::proofs::Risings::gathering_none))]
     fn gather<E: Outside, I: RowEntryIterator<E>>(
         self,
@@ -102,10 +95,9 @@ impl Folding {
         ensures moved { IfOk result (λ group. Moves (rest_taken I.rest) (sound_taken I.rest I.sound I.order) (refuses_taken I.refuses) (E.reach env.old) (E.reach env.new) (iterator.old, None, first ∷ []) (iterator.new, ahead.new, group.newer.items ++ (group.oldest ∷ []))) }
         ensures linked { IfOk result (λ group. AreLinked (links self.merge_different_expire_ts self.snapshot_barrier_seq) group.newer.items group.oldest) }
         ensures ends { (w : World) → Sees w (E.reach env.old) (E.reach env.new) → sound_taken I.rest I.sound I.order (iterator.old, None, first ∷ []) w → IfOk result (λ group. begins_linked (links self.merge_different_expire_ts self.snapshot_barrier_seq) group.oldest (with_ahead ahead.new (I.rest iterator.new w)) ≡ false) }
-        ensures no_rise { (w : World) → Sees w (E.reach env.old) (E.reach env.new) → sound_taken I.rest I.sound I.order (iterator.old, None, first ∷ []) w → IfOk result (λ group. begins_linked (rises self.snapshot_barrier_seq) group.oldest (with_ahead ahead.new (I.rest iterator.new w)) ≡ false) }
-        ensures falls { IfOk result (λ group. NoneRises self.snapshot_barrier_seq (group.newer.items ++ (group.oldest ∷ []))) }
+        ensures falls { IfOk result (λ group. NoneRises self.merge_different_expire_ts self.snapshot_barrier_seq (group.newer.items ++ (group.oldest ∷ []))) }
         ensures cause { IfErr result (λ e. Made (E.reach env.old) (E.reach env.new) (λ reads. IsFault (E.reach env.old) (E.reach env.new) e ⊎ (I.refuses iterator.old (E.reach env.old).meaning reads None e ⊎ MeetsRise (λ u rs a v. I.takes u (E.reach env.old).meaning rs a v) self.merge_different_expire_ts self.snapshot_barrier_seq (Some first) reads iterator.old iterator.new e))) }
-        ensures own { (w : World) → Sees w (E.reach env.old) (E.reach env.new) → sound_taken I.rest I.sound I.order (iterator.old, None, first ∷ []) w → NoneRises self.snapshot_barrier_seq (rest_taken I.rest (iterator.old, None, first ∷ []) w) → IfErr result (λ e. IsOwn I.refuses (E.reach env.old) (E.reach env.new) iterator.old e) }
+        ensures own { (w : World) → Sees w (E.reach env.old) (E.reach env.new) → sound_taken I.rest I.sound I.order (iterator.old, None, first ∷ []) w → NoneRises self.merge_different_expire_ts self.snapshot_barrier_seq (rest_taken I.rest (iterator.old, None, first ∷ []) w) → IfErr result (λ e. IsOwn I.refuses (E.reach env.old) (E.reach env.new) iterator.old e) }
         ensures no_larger { OnOk result (ahead_bound ahead.new + I.bound iterator.new ≤ I.bound iterator.old) }
         ensures order { I.order iterator.new ≡ I.order iterator.old }
         ensures reads { OnlyReads (E.reach env.old) (E.reach env.new) }
@@ -116,15 +108,15 @@ impl Folding {
             newer.reserve(1)?;
             match iterator.next(alloc, env) {
                 Ok(Some(row)) => {
-                    if is_above(&oldest, &row) {
+                    if !self.follows(&oldest, &row) {
+                        *ahead = Some(row);
+                        return Ok(Group { newer, oldest });
+                    }
+                    if oldest.seq < row.seq {
                         return Err(SlateDBError::InvalidSequenceOrder {
                             current_seq: oldest.seq,
                             next_seq: row.seq,
                         });
-                    }
-                    if !self.follows(&oldest, &row) {
-                        *ahead = Some(row);
-                        return Ok(Group { newer, oldest });
                     }
                     newer.push_reserved(oldest);
                     oldest = row;
@@ -147,8 +139,8 @@ impl Folding {
         ensures step { IfOk result (λ answer. Step (rest_folds self.merge_different_expire_ts self.snapshot_barrier_seq I.rest) (sound_taken I.rest I.sound I.order) (refuses_folds I.refuses) (hands_out I.takes self.snapshot_barrier_seq) (E.reach env.old) (E.reach env.new) (iterator.old, ahead.old, []) answer (iterator.new, ahead.new, [])) }
         ensures cause { IfErr result (λ e. Made (E.reach env.old) (E.reach env.new) (λ reads. (IsFault (E.reach env.old) (E.reach env.new) e ⊎ (I.refuses iterator.old (E.reach env.old).meaning reads None e ⊎ RefusesFold (E.reach env.old).meaning None e)) × BlamesNext I.refuses I.takes self.merge_different_expire_ts self.snapshot_barrier_seq ahead.old (E.reach env.old).meaning reads None e iterator.old iterator.new)) }
         ensures falls { (w : World) → Sees w (E.reach env.old) (E.reach env.new) → sound_taken I.rest I.sound I.order (iterator.old, ahead.old, []) w → OnOk result (FoldFalls self.merge_different_expire_ts self.snapshot_barrier_seq (rest_taken I.rest (iterator.old, ahead.old, []) w)) }
-        ensures own { (w : World) → Sees w (E.reach env.old) (E.reach env.new) → sound_taken I.rest I.sound I.order (iterator.old, ahead.old, []) w → operable_taken self.snapshot_barrier_seq I.rest (iterator.old, ahead.old, []) w → IfErr result (λ e. IsOwn I.refuses (E.reach env.old) (E.reach env.new) iterator.old e) }
-        ensures operable { (w : World) → Sees w (E.reach env.old) (E.reach env.new) → sound_taken I.rest I.sound I.order (iterator.old, ahead.old, []) w → operable_taken self.snapshot_barrier_seq I.rest (iterator.old, ahead.old, []) w → OnOk result (operable_taken self.snapshot_barrier_seq I.rest (iterator.new, ahead.new, []) w) }
+        ensures own { (w : World) → Sees w (E.reach env.old) (E.reach env.new) → sound_taken I.rest I.sound I.order (iterator.old, ahead.old, []) w → operable_taken self.merge_different_expire_ts self.snapshot_barrier_seq I.rest (iterator.old, ahead.old, []) w → IfErr result (λ e. IsOwn I.refuses (E.reach env.old) (E.reach env.new) iterator.old e) }
+        ensures operable { (w : World) → Sees w (E.reach env.old) (E.reach env.new) → sound_taken I.rest I.sound I.order (iterator.old, ahead.old, []) w → operable_taken self.merge_different_expire_ts self.snapshot_barrier_seq I.rest (iterator.old, ahead.old, []) w → OnOk result (operable_taken self.merge_different_expire_ts self.snapshot_barrier_seq I.rest (iterator.new, ahead.new, []) w) }
         ensures sources { OnOk result (Made (E.reach env.old) (E.reach env.new) (λ reads. NoMore (I.refuses iterator.old (E.reach env.old).meaning) reads (I.refuses iterator.new (E.reach env.old).meaning))) }
         ensures smaller { IfOk result (λ answer. IsSome answer → ahead_bound ahead.new + I.bound iterator.new < ahead_bound ahead.old + I.bound iterator.old) }
         ensures no_larger { OnOk result (ahead_bound ahead.new + I.bound iterator.new ≤ ahead_bound ahead.old + I.bound iterator.old) }

@@ -23,8 +23,9 @@ use std::mem;
 /// Rows that are no operand, and operands above the barrier, are handed through. Any other operand is folded with the following
 /// rows of its key, up to and including the first that is no operand.
 ///
-/// A row of the operand's key that comes next behind it with a greater sequence is refused by `InvalidSequenceOrder`, which names both
-/// sequences. No source in turn brings one, and `next_row` says that none is passed over.
+/// A row that is to be folded, and has a greater sequence than the operand before it, is refused by `InvalidSequenceOrder`, which
+/// names both sequences. No source in turn brings one, and `next_row` says that none is folded. A row that isn't folded, since its
+/// expiry differs, ends the fold whatever its sequence.
 ///
 /// Without an operator nothing is folded: each row that it hands out is the source's, or the one that was read ahead, unchanged, and
 /// is no operand that isn't above the barrier. `MergeOperatorMissing` comes only there: it is the source's own refusal, or such an
@@ -72,7 +73,7 @@ impl<I: Drop> MergeOperatorIterator<I> {
     /// this. Beside what that says: where it has begun and wasn't refused, and no operand is left that would be folded, or there is
     /// an operator, and no row that is left rises above the operand before it (`IsOperable`), it refuses for a fault or for the
     /// source's own refusal alone (`own`), and that stays so (`operable`). Where it answers, no such row stood among those that
-    /// it folded, nor next behind them (`falls`). An answer adds nothing to what the source may refuse (`sources`).
+    /// it folded (`falls`). An answer adds nothing to what the source may refuse (`sources`).
     #[tactic(auto, using(slate_types::proofs::Reaching::reads_none))]
     pub fn next_row<E: Operates>(
         &mut self,

@@ -28,6 +28,10 @@ const C_Y: Row = (b"c", 'm', b"y", 6, None, None);
 
 const C_Z: Row = (b"c", 'm', b"z", 7, None, None);
 
+const C_ENDING: Row = (b"c", 'm', b"z", 7, None, Some(30));
+
+const C_VALUE: Row = (b"c", 'v', b"x", 2, None, Some(30));
+
 // The rows of the sources, whether rows are folded whose expiries differ, the barrier, a key to seek, and the rows that come.
 type Case = (
     &'static [&'static [Row]],
@@ -61,6 +65,14 @@ const CASES: &[Case] = &[
         None,
         None,
         &[A_Z, (b"a", 'v', b"xy", 4, Some(7), Some(20))],
+    ),
+    // So it does before a greater sequence too: no row is folded that rises.
+    (
+        &[&[C_Y, C_ENDING, C_VALUE]],
+        false,
+        None,
+        None,
+        &[C_Y, (b"c", 'v', b"xz", 7, None, Some(30))],
     ),
     // Over a deletion operands are a value, and over nothing an operand.
     (
@@ -156,15 +168,16 @@ fn operands_are_refused(rt: HostRuntime) {
     assert!(rt; refuses_operands(rt.alloc()).unwrap_or(false));
 }
 
-// The rows before an operand come, and then a row of its key and a greater sequence is refused, again and again.
-fn refuses_rises(alloc: Global) -> Result<bool, SlateDBError> {
+// The rows before an operand come, and then a row of a greater sequence that would be folded into it is refused, again and again.
+fn refuses_rises(alloc: Global, different: bool, rise: &Row) -> Result<bool, SlateDBError> {
     let mut store = MemoryStore::new(alloc, Vec::new(alloc));
     let mut env: Parts<'_> = Env {
         store: &mut store,
         operator: Some(Concat),
         transformer: None,
     };
-    let mut rows = MergeOperatorIterator::new(source(alloc, &[A_VALUE, C_Y, C_Z]), true, None)?;
+    let given = source(alloc, &[A_VALUE, C_Y, *rise]);
+    let mut rows = MergeOperatorIterator::new(given, different, None)?;
     rows.init(alloc, &mut env)?;
     let first = rows.next(alloc, &mut env)?.is_some();
     let rise = rows.next(alloc, &mut env);
@@ -190,5 +203,6 @@ fn refuses_rises(alloc: Global) -> Result<bool, SlateDBError> {
 
 #[test]
 fn rises_are_refused(rt: HostRuntime) {
-    assert!(rt; refuses_rises(rt.alloc()).unwrap_or(false));
+    assert!(rt; refuses_rises(rt.alloc(), true, &C_ENDING).unwrap_or(false));
+    assert!(rt; refuses_rises(rt.alloc(), false, &C_Z).unwrap_or(false));
 }

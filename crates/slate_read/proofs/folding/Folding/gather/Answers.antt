@@ -1,8 +1,10 @@
-use Rattle.std.proofs.Common.{◌∙◌, ◌++◌, ◌∷◌, [], None, Some, Option, List, inl, inr, sym, ap, subst, arith}
+use Rattle.std.proofs.Common.{◌≡◌, ◌∙◌, true, false, ◌++◌, ◌∷◌, [], None, Some, Option, List, inr, sym, ap, subst, arith}
+use Rattle.std.specs.Prelude.{nat_lt}
+use Rattle.std.proofs.lemmas.Bool.Decides.{nat_tests}
 use Rattle.slate_types.specs.declared.types.RowEntry.{RowEntry}
 use Rattle.slate_types.proofs.Moves.{Moves, moves_both, moves_fails}
 use Rattle.slate_types.proofs.Reaching.{reads_then}
-use Rattle.slate_read.specs.Folding.{AreLinked, NoneRises, begins_linked, links, rises}
+use Rattle.slate_read.specs.Folding.{AreLinked, NoneRises, begins_linked, links}
 use Rattle.slate_read.specs.FoldedLaws.{linked_more}
 use Rattle.slate_read.specs.Folds.{refuses_taken, rest_taken, sound_taken}
 use Rattle.slate_read.specs.Peeking.{with_ahead}
@@ -25,7 +27,7 @@ linked-preserved g c =
     let n = rw c.in-Ok-Some.field-0-is at c.in-Ok-Some.ensures in
     let opened = sym c.is_open.ensures ∙ c.linked-test.true in
     let followed = sym c.follows.ensures ∙ c.if-not-follows.false in
-    let level = sym c.is_above.ensures ∙ c.if-is_above.false in
+    let level : nat_lt c.linked.oldest.seq c.in-Ok-Some.row.seq ≡ false = grind (arith, nat_tests, c.if-oldest-row.false) in
     let has = c.push_reserved.ensures.items ∙ ap (λ l. l ++ (c.linked.oldest ∷ [])) c.reserve.ensures.items in
     record {
       moves = subst (λ l. Moves (rest_taken g.I.RowEntryIterator.rest) (sound_taken g.I.RowEntryIterator.rest g.I.RowEntryIterator.sound g.I.RowEntryIterator.order) (refuses_taken g.I.RowEntryIterator.refuses) (g.E.Outside.reach c.args.env.now) (g.E.Outside.reach c.next.new.env) (c.args.iterator.now, None, c.args.first ∷ []) (c.next.new.self, None, l ++ (c.in-Ok-Some.row ∷ []))) (sym has)
@@ -33,8 +35,8 @@ linked-preserved g c =
           (row_moves g.I.RowEntryIterator.rest g.I.RowEntryIterator.sound g.I.RowEntryIterator.refuses g.I.RowEntryIterator.order g.I.RowEntryIterator.takes _ _ c.linked.iterator' c.next.new.self (c.linked.newer.items ++ (c.linked.oldest ∷ [])) c.in-Ok-Some.row n.order (record { rows = n.rows; still = n.still; checked = n.checked; taken = n.taken })));
       linked = subst (λ l. AreLinked (links c.args.self.merge_different_expire_ts c.args.self.snapshot_barrier_seq) l c.in-Ok-Some.row) (sym has)
           (linked_more (links c.args.self.merge_different_expire_ts c.args.self.snapshot_barrier_seq) c.linked.newer.items c.linked.oldest c.in-Ok-Some.row i.linked (is_linked c.args.self.merge_different_expire_ts c.args.self.snapshot_barrier_seq c.linked.oldest c.in-Ok-Some.row opened followed));
-      falls = subst (λ (l : List RowEntry). NoneRises c.args.self.snapshot_barrier_seq (l ++ (c.in-Ok-Some.row ∷ []))) (sym has)
-          (none_rises_more c.args.self.snapshot_barrier_seq c.linked.newer.items c.linked.oldest c.in-Ok-Some.row i.falls (not_risen c.args.self.snapshot_barrier_seq c.linked.oldest c.in-Ok-Some.row level));
+      falls = subst (λ (l : List RowEntry). NoneRises c.args.self.merge_different_expire_ts c.args.self.snapshot_barrier_seq (l ++ (c.in-Ok-Some.row ∷ []))) (sym has)
+          (none_rises_more c.args.self.merge_different_expire_ts c.args.self.snapshot_barrier_seq c.linked.newer.items c.linked.oldest c.in-Ok-Some.row i.falls (not_risen c.args.self.merge_different_expire_ts c.args.self.snapshot_barrier_seq c.linked.oldest c.in-Ok-Some.row level));
       gathered = subst (λ (l : List RowEntry). Gathering g.I.RowEntryIterator.rest g.I.RowEntryIterator.sound g.I.RowEntryIterator.refuses g.I.RowEntryIterator.takes (g.E.Outside.reach c.args.env.now) (g.E.Outside.reach c.next.new.env) c.args.iterator.now c.next.new.self c.args.first (l ++ (c.in-Ok-Some.row ∷ []))) (sym has)
           (gathering_on g.I.RowEntryIterator.rest g.I.RowEntryIterator.sound g.I.RowEntryIterator.refuses g.I.RowEntryIterator.takes _ _ _ _ c.linked.iterator' _ _ c.in-Ok-Some.row (c.linked.newer.items ++ (c.linked.oldest ∷ [])) i.gathered (record { rows = n.rows; still = n.still; checked = n.checked; taken = n.taken }) n.reads);
       empty = i.empty;
@@ -60,31 +62,27 @@ returns-in-Ok-None-clause-ends g c = λ w sees h.
     ∙ ap linked (spent_rest g.I.RowEntryIterator.rest g.I.RowEntryIterator.sound g.I.RowEntryIterator.refuses g.I.RowEntryIterator.order g.I.RowEntryIterator.takes _ _ _ _ c.linked.iterator' c.next.new.self _ c.linked.invariant.moves
     (record { rows = n.rows; still = n.still; checked = n.checked; taken = n.taken }) w sees h)
 
-pub returns-in-Ok-None-clause-no_rise : goal.returns-in-Ok-None-clause-no_rise
-returns-in-Ok-None-clause-no_rise g c = λ w sees h.
-    let n = rw c.in-Ok-None.field-0-is at c.in-Ok-None.ensures in
-    let linked = begins_linked (rises c.args.self.snapshot_barrier_seq) c.linked.oldest in
-    ap (λ (o : Option RowEntry). linked (with_ahead o (g.I.RowEntryIterator.rest c.next.new.self w))) c.linked.invariant.empty
-    ∙ ap linked (spent_rest g.I.RowEntryIterator.rest g.I.RowEntryIterator.sound g.I.RowEntryIterator.refuses g.I.RowEntryIterator.order g.I.RowEntryIterator.takes _ _ _ _ c.linked.iterator' c.next.new.self _ c.linked.invariant.moves
-    (record { rows = n.rows; still = n.still; checked = n.checked; taken = n.taken }) w sees h)
-
-pub returns-then-is_above-clause-cause : goal.returns-then-is_above-clause-cause
-returns-then-is_above-clause-cause g c =
+pub returns-then-oldest-row-clause-cause : goal.returns-then-oldest-row-clause-cause
+returns-then-oldest-row-clause-cause g c =
     let i = c.linked.invariant in
     let n = rw c.in-Ok-Some.field-0-is at c.in-Ok-Some.ensures in
+    let last = is_linked c.args.self.merge_different_expire_ts c.args.self.snapshot_barrier_seq c.linked.oldest c.in-Ok-Some.row (sym c.is_open.ensures ∙ c.linked-test.true) (sym c.follows.ensures ∙ c.if-not-follows.false) in
+    let above : nat_lt c.linked.oldest.seq c.in-Ok-Some.row.seq ≡ true = grind (arith, nat_tests, c.if-oldest-row.true) in
     let met = gathering_rises g.I.RowEntryIterator.rest g.I.RowEntryIterator.sound g.I.RowEntryIterator.refuses g.I.RowEntryIterator.takes c.args.self.merge_different_expire_ts c.args.self.snapshot_barrier_seq _ _ _ _ c.linked.iterator' _ _ c.linked.oldest c.in-Ok-Some.row c.linked.newer.items i.gathered i.linked
-    (record { rows = n.rows; still = n.still; checked = n.checked; taken = n.taken }) n.reads (sym c.is_open.ensures ∙ c.linked-test.true) (sym c.is_above.ensures ∙ c.if-is_above.true) in
+    (record { rows = n.rows; still = n.still; checked = n.checked; taken = n.taken }) n.reads last above in
     (met.0, met.1, inr (inr met.2))
 
-pub returns-then-is_above-clause-own : goal.returns-then-is_above-clause-own
-returns-then-is_above-clause-own g c = λ w sees h falls.
+pub returns-then-oldest-row-clause-own : goal.returns-then-oldest-row-clause-own
+returns-then-oldest-row-clause-own g c = λ w sees h falls.
     let i = c.linked.invariant in
     let n = rw c.in-Ok-Some.field-0-is at c.in-Ok-Some.ensures in
-    never_rises g.I.RowEntryIterator.rest g.I.RowEntryIterator.sound g.I.RowEntryIterator.refuses g.I.RowEntryIterator.order g.I.RowEntryIterator.takes c.args.self.snapshot_barrier_seq c.linked.oldest c.in-Ok-Some.row c.linked.newer.items _ _ _ _ c.linked.iterator' _ i.moves
-    (record { rows = n.rows; still = n.still; checked = n.checked; taken = n.taken }) (sym c.is_open.ensures ∙ c.linked-test.true) (sym c.is_above.ensures ∙ c.if-is_above.true) w sees h falls
+    let last = is_linked c.args.self.merge_different_expire_ts c.args.self.snapshot_barrier_seq c.linked.oldest c.in-Ok-Some.row (sym c.is_open.ensures ∙ c.linked-test.true) (sym c.follows.ensures ∙ c.if-not-follows.false) in
+    let above : nat_lt c.linked.oldest.seq c.in-Ok-Some.row.seq ≡ true = grind (arith, nat_tests, c.if-oldest-row.true) in
+    never_rises g.I.RowEntryIterator.rest g.I.RowEntryIterator.sound g.I.RowEntryIterator.refuses g.I.RowEntryIterator.order g.I.RowEntryIterator.takes c.args.self.merge_different_expire_ts c.args.self.snapshot_barrier_seq c.linked.oldest c.in-Ok-Some.row c.linked.newer.items _ _ _ _ c.linked.iterator' _ i.moves
+    (record { rows = n.rows; still = n.still; checked = n.checked; taken = n.taken }) last above w sees h falls
 
-pub returns-then-is_above-clause-reads : goal.returns-then-is_above-clause-reads
-returns-then-is_above-clause-reads g c =
+pub returns-then-oldest-row-clause-reads : goal.returns-then-oldest-row-clause-reads
+returns-then-oldest-row-clause-reads g c =
     let n = rw c.in-Ok-Some.field-0-is at c.in-Ok-Some.ensures in
     reads_then _ _ _ c.linked.invariant.reads n.reads
 

@@ -11,7 +11,7 @@ invariant-linked g l = record {
   moves : Moves (rest_taken g.I.RowEntryIterator.rest) (sound_taken g.I.RowEntryIterator.rest g.I.RowEntryIterator.sound g.I.RowEntryIterator.order) (refuses_taken g.I.RowEntryIterator.refuses)
       (g.E.Outside.reach l.fn.env) (g.E.Outside.reach l.env) (l.fn.iterator, None, l.fn.first ∷ []) (l.iterator', None, l.newer.items ++ (l.oldest ∷ []));
   linked : AreLinked (links l.self.merge_different_expire_ts l.self.snapshot_barrier_seq) l.newer.items l.oldest;
-  falls : NoneRises l.self.snapshot_barrier_seq (l.newer.items ++ (l.oldest ∷ []));
+  falls : NoneRises l.self.merge_different_expire_ts l.self.snapshot_barrier_seq (l.newer.items ++ (l.oldest ∷ []));
   gathered : Gathering g.I.RowEntryIterator.rest g.I.RowEntryIterator.sound g.I.RowEntryIterator.refuses g.I.RowEntryIterator.takes (g.E.Outside.reach l.fn.env) (g.E.Outside.reach l.env) l.fn.iterator l.iterator' l.fn.first (l.newer.items ++ (l.oldest ∷ []));
   empty : l.ahead ≡ None;
   bound : g.I.RowEntryIterator.bound l.iterator' ≤ g.I.RowEntryIterator.bound l.fn.iterator;

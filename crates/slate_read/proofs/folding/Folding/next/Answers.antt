@@ -8,9 +8,9 @@ use Rattle.slate_types.proofs.Moves.{moves_both}
 use Rattle.slate_types.proofs.Reaching.{reads_then}
 use Rattle.slate_read.specs.FoldedLaws.{linked_operands}
 use Rattle.slate_read.specs.Folding.{FoldFalls, NoneRises, begins_linked, links}
-use Rattle.slate_read.specs.Folds.{operable_taken, rest_taken, sound_taken, takes_ahead}
+use Rattle.slate_read.specs.Folds.{operable_taken, sound_taken, takes_ahead}
 use Rattle.slate_read.specs.Peeking.{with_ahead}
-use Rattle.slate_read.proofs.FoldSteps.{call_moves, first_moves, folded_step, gathered_ends, operator_blames, some_operator, source_blames}
+use Rattle.slate_read.proofs.FoldSteps.{call_moves, first_moves, folded_step, gathered_ends, operator_blames, some_operator}
 use Rattle.slate_read.proofs.Operables.{moved_operable, not_operable, operator_own, own_of, step_operable}
 use Rattle.slate_read.proofs.Risings.{gathered_blames, gathered_falls, own_behind, through_falls}
 use Rattle.slate_read.proofs.folding.Folding.next.Goals as goal
@@ -75,27 +75,27 @@ returns-in-Ok-fold_group-clause-operable g c =
     let group = c.in-Ok.group in
     let reach = g.E.Outside.reach in
     let first = first_moves rest sound refuses order _ _ _ c.args.iterator.now c.take_ahead.new.iterator c.args.ahead.now c.in-Ok-Some.first t.order t.step in
-    moved_operable rest sound refuses order c.args.self.snapshot_barrier_seq (reach c.args.env.now) (reach c.fold_group.new.env) (c.args.iterator.now, c.args.ahead.now, []) c.gather.new.iterator c.gather.new.ahead (group.newer.items ++ (group.oldest ∷ []))
+    moved_operable rest sound refuses order c.args.self.merge_different_expire_ts c.args.self.snapshot_barrier_seq (reach c.args.env.now) (reach c.fold_group.new.env) (c.args.iterator.now, c.args.ahead.now, []) c.gather.new.iterator c.gather.new.ahead (group.newer.items ++ (group.oldest ∷ []))
     (moves_both _ _ _ _ _ _ _ _ _ (moves_both _ _ _ _ _ _ _ _ _ first c.in-Ok.ensures.moved) (call_moves _ _ _ (reach c.gather.new.env) (reach c.fold_group.new.env) _ c.in-Ok-fold_group.ensures.call))
 
 pub returns-in-Ok-None-clause-operable : goal.returns-in-Ok-None-clause-operable
 returns-in-Ok-None-clause-operable g c = λ w sees h op.
     let rest = g.I.RowEntryIterator.rest in
     let t = rw c.in-Ok-None.field-0-is at c.in-Ok-None.ensures in
-    subst (λ (o : Option RowEntry). operable_taken c.args.self.snapshot_barrier_seq rest (c.take_ahead.new.iterator, o, []) w) (sym t.empty)
-    (step_operable rest g.I.RowEntryIterator.sound g.I.RowEntryIterator.refuses g.I.RowEntryIterator.order (takes_ahead g.I.RowEntryIterator.takes) c.args.self.snapshot_barrier_seq (g.E.Outside.reach c.args.env.now) (g.E.Outside.reach c.take_ahead.new.env) (c.args.iterator.now, c.args.ahead.now, []) (c.take_ahead.new.iterator, None, []) None t.step w sees h op)
+    subst (λ (o : Option RowEntry). operable_taken c.args.self.merge_different_expire_ts c.args.self.snapshot_barrier_seq rest (c.take_ahead.new.iterator, o, []) w) (sym t.empty)
+    (step_operable rest g.I.RowEntryIterator.sound g.I.RowEntryIterator.refuses g.I.RowEntryIterator.order (takes_ahead g.I.RowEntryIterator.takes) c.args.self.merge_different_expire_ts c.args.self.snapshot_barrier_seq (g.E.Outside.reach c.args.env.now) (g.E.Outside.reach c.take_ahead.new.env) (c.args.iterator.now, c.args.ahead.now, []) (c.take_ahead.new.iterator, None, []) None t.step w sees h op)
 
 pub returns-then-not-is_open-clause-operable : goal.returns-then-not-is_open-clause-operable
 returns-then-not-is_open-clause-operable g c = λ w sees h op.
     let rest = g.I.RowEntryIterator.rest in
     let t = rw c.in-Ok-Some.field-0-is at c.in-Ok-Some.ensures in
-    subst (λ (o : Option RowEntry). operable_taken c.args.self.snapshot_barrier_seq rest (c.take_ahead.new.iterator, o, []) w) (sym t.empty)
-    (step_operable rest g.I.RowEntryIterator.sound g.I.RowEntryIterator.refuses g.I.RowEntryIterator.order (takes_ahead g.I.RowEntryIterator.takes) c.args.self.snapshot_barrier_seq (g.E.Outside.reach c.args.env.now) (g.E.Outside.reach c.take_ahead.new.env) (c.args.iterator.now, c.args.ahead.now, []) (c.take_ahead.new.iterator, None, []) (Some c.in-Ok-Some.first) t.step w sees h op)
+    subst (λ (o : Option RowEntry). operable_taken c.args.self.merge_different_expire_ts c.args.self.snapshot_barrier_seq rest (c.take_ahead.new.iterator, o, []) w) (sym t.empty)
+    (step_operable rest g.I.RowEntryIterator.sound g.I.RowEntryIterator.refuses g.I.RowEntryIterator.order (takes_ahead g.I.RowEntryIterator.takes) c.args.self.merge_different_expire_ts c.args.self.snapshot_barrier_seq (g.E.Outside.reach c.args.env.now) (g.E.Outside.reach c.take_ahead.new.env) (c.args.iterator.now, c.args.ahead.now, []) (c.take_ahead.new.iterator, None, []) (Some c.in-Ok-Some.first) t.step w sees h op)
 
 pub returns-then-not-has_operator-clause-own : goal.returns-then-not-has_operator-clause-own
 returns-then-not-has_operator-clause-own g c = λ w sees h op.
     let t = rw c.in-Ok-Some.field-0-is at c.in-Ok-Some.ensures in
-    not_operable g.I.RowEntryIterator.rest g.I.RowEntryIterator.sound g.I.RowEntryIterator.refuses g.I.RowEntryIterator.order (takes_ahead g.I.RowEntryIterator.takes) c.args.self.snapshot_barrier_seq (g.E.Outside.reach c.args.env.now) (g.E.Outside.reach c.take_ahead.new.env) (c.args.iterator.now, c.args.ahead.now, []) (c.take_ahead.new.iterator, None, []) c.in-Ok-Some.first c.has_operator.result t.step
+    not_operable g.I.RowEntryIterator.rest g.I.RowEntryIterator.sound g.I.RowEntryIterator.refuses g.I.RowEntryIterator.order (takes_ahead g.I.RowEntryIterator.takes) c.args.self.merge_different_expire_ts c.args.self.snapshot_barrier_seq (g.E.Outside.reach c.args.env.now) (g.E.Outside.reach c.take_ahead.new.env) (c.args.iterator.now, c.args.ahead.now, []) (c.take_ahead.new.iterator, None, []) c.in-Ok-Some.first c.has_operator.result t.step
     (sym c.is_open.ensures ∙ c.if-not-is_open.false) t.reads.meaning c.has_operator.ensures c.if-not-has_operator.true w sees h op
 
 pub returns-in-Err-clause-own : goal.returns-in-Err-clause-own
@@ -121,7 +121,7 @@ returns-in-Err-gather-clause-own g c = λ w sees h op.
     let seen = sees_first w (reach c.args.env.now) (reach c.take_ahead.new.env) (reach c.gather.new.env) first.made.0 n.cause.0 first.made.1 n.cause.1 sees in
     let last = sees_last w (reach c.args.env.now) (reach c.take_ahead.new.env) (reach c.gather.new.env) first.made.0 n.cause.0 first.made.1 n.cause.1 sees in
     own_behind rest g.I.RowEntryIterator.sound g.I.RowEntryIterator.refuses g.I.RowEntryIterator.order (reach c.args.env.now) (reach c.take_ahead.new.env) (reach c.gather.new.env) (c.args.iterator.now, c.args.ahead.now, []) c.take_ahead.new.iterator None (c.in-Ok-Some.first ∷ []) c.in-Err-gather.error first t.reads.later
-    (n.own w last (first.still w seen h) (subst (NoneRises c.args.self.snapshot_barrier_seq) (sym (first.rows w seen h)) op.1))
+    (n.own w last (first.still w seen h) (subst (NoneRises c.args.self.merge_different_expire_ts c.args.self.snapshot_barrier_seq) (sym (first.rows w seen h)) op.1))
 
 pub returns-in-Ok-None-clause-falls : goal.returns-in-Ok-None-clause-falls
 returns-in-Ok-None-clause-falls g c = λ w sees h.
@@ -153,7 +153,7 @@ returns-in-Ok-fold_group-clause-falls g c = λ w sees h.
     let begun = first.still w (sees_first w (reach c.args.env.now) (reach c.take_ahead.new.env) (reach c.gather.new.env) first.made.0 n.moved.made.0 first.made.1 n.moved.made.1 seen) h in
     let more = with_ahead c.gather.new.ahead (rest c.gather.new.iterator w) in
     subst (FoldFalls different barrier) (sym (append_assoc group.newer.items (group.oldest ∷ []) more) ∙ gathered.rows w seen h)
-    (gathered_falls different barrier group.newer.items group.oldest more n.falls (n.no_rise w last begun) (n.ends w last begun))
+    (gathered_falls different barrier group.newer.items group.oldest more n.falls (n.ends w last begun))
 
 pub returns-in-Ok-None-clause-sources : goal.returns-in-Ok-None-clause-sources
 returns-in-Ok-None-clause-sources g c =

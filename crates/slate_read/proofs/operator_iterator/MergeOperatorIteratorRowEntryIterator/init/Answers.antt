@@ -41,7 +41,7 @@ returns-in-Ok g c =
       no_larger = unless_no_larger it.refusal _ _ none (omega (arith, n.no_larger));
       order = n.order;
       reads = n.reads;
-      operable = λ w sees h op. subst (λ (l : List RowEntry). (w.meaning.combine ≡ None → NoneOpen it.folding.snapshot_barrier_seq (with_ahead it.ahead l)) × NoneRises it.folding.snapshot_barrier_seq (with_ahead it.ahead l)) (sym (n.rows w sees (sound_of it.refusal _ none h).0)) op;
+      operable = λ w sees h op. subst (λ (l : List RowEntry). (w.meaning.combine ≡ None → NoneOpen it.folding.snapshot_barrier_seq (with_ahead it.ahead l)) × NoneRises it.folding.merge_different_expire_ts it.folding.snapshot_barrier_seq (with_ahead it.ahead l)) (sym (n.rows w sees (sound_of it.refusal _ none h).0)) op;
       sources = (n.begun.0, n.begun.1, n.begun.2.1);
     }
 

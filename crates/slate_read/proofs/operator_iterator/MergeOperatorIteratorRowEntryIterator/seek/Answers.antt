@@ -84,10 +84,10 @@ returns-in-Ok g c =
       no_larger = unless_no_larger it.refusal _ _ none (rw after (omega (arith, n.no_larger)));
       order = n.order;
       reads = n.reads;
-      operable = λ w sees h op. (let barrier = it.folding.snapshot_barrier_seq in
-          subst (λ (o : Option RowEntry). (w.meaning.combine ≡ None → NoneOpen barrier (with_ahead o (g.I.RowEntryIterator.rest c.seek.new.self w))) × NoneRises barrier (with_ahead o (g.I.RowEntryIterator.rest c.seek.new.self w))) (sym after)
-          (subst (λ (l : List RowEntry). (w.meaning.combine ≡ None → NoneOpen barrier l) × NoneRises barrier l) (sym (n.rows w sees (sound_of it.refusal _ none h).0 ∙ sought_rows order c.args.key.now it.ahead (g.I.RowEntryIterator.rest it.iterator w) gone))
-          (λ plain. none_open_dropped barrier order c.args.key.now (with_ahead it.ahead (g.I.RowEntryIterator.rest it.iterator w)) (op.0 plain), none_rises_dropped barrier order c.args.key.now (with_ahead it.ahead (g.I.RowEntryIterator.rest it.iterator w)) op.1)));
+      operable = λ w sees h op. (let different = it.folding.merge_different_expire_ts in let barrier = it.folding.snapshot_barrier_seq in
+          subst (λ (o : Option RowEntry). (w.meaning.combine ≡ None → NoneOpen barrier (with_ahead o (g.I.RowEntryIterator.rest c.seek.new.self w))) × NoneRises different barrier (with_ahead o (g.I.RowEntryIterator.rest c.seek.new.self w))) (sym after)
+          (subst (λ (l : List RowEntry). (w.meaning.combine ≡ None → NoneOpen barrier l) × NoneRises different barrier l) (sym (n.rows w sees (sound_of it.refusal _ none h).0 ∙ sought_rows order c.args.key.now it.ahead (g.I.RowEntryIterator.rest it.iterator w) gone))
+          (λ plain. none_open_dropped barrier order c.args.key.now (with_ahead it.ahead (g.I.RowEntryIterator.rest it.iterator w)) (op.0 plain), none_rises_dropped different barrier order c.args.key.now (with_ahead it.ahead (g.I.RowEntryIterator.rest it.iterator w)) op.1)));
       sources = (n.sought.0, n.sought.1, n.sought.2.1);
     }
 
