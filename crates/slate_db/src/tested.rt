@@ -55,6 +55,6 @@ pub(crate) fn rows_of_batch<M: MergeOperator>(
     ensures later { faults_of M.faults operator.old ≤ faults_of M.faults operator.new }
     ensures cause { IfErr result (λ e. (e ≡ SlateDBError.OutOfMemory) ⊎ IsCallback (faults_of M.faults operator.old) (faults_of M.faults operator.new) e) }
 {
-    let (rows, _bytes) = batch.extract_entries(alloc, seq, now, default_millis, operator)?;
+    let (rows, _bytes) = batch.fold_entries(alloc, seq, now, default_millis, operator)?;
     Ok(rows)
 }

@@ -1,11 +1,20 @@
--- Segment prefixes that nest, among prefixes that rise.
+-- Segment prefixes of rows, and prefixes that nest.
+--     row_prefixes segments rows, row_refusals segments rows      the segment prefixes of their keys, rising; where one of them has none
 --     NeverNest ps      no two of them nest
 --     IsLeast passes is_there o      the least key that is there and passes, where there is one
 --     IsFirstFront p ps o      the shortest proper front of p that is among them, where there is one
 --     lesser a b      the lesser of two keys, each where there is one
-use Rattle.std.specs.Prelude.{◌≡◌, ℕ, ◌<◌, Bool, true, false, if◌then◌else◌, List, length, take, Option, Some, None}
-use Rattle.slate_types.specs.Keys.{key_lt, among}
-use Rattle.slate_mem.specs.KeyTests.{nest}
+use Rattle.std.specs.Prelude.{◌≡◌, ℕ, ◌<◌, Bool, true, false, if◌then◌else◌, List, length, map, filter_map, take, Option, Some, None}
+use Rattle.slate_types.specs.declared.error.SlateDBError.{SlateDBError}
+use Rattle.slate_types.specs.declared.types.RowEntry.{RowEntry}
+use Rattle.slate_types.specs.Keys.{key_lt, keys_set, among}
+use Rattle.slate_mem.specs.KeyTests.{Segments, prefix_by, segment_refusal, nest}
+
+abbrev pub row_prefixes : Segments → List RowEntry → List (List ℕ)
+row_prefixes segments rows = keys_set (filter_map (λ r. prefix_by segments r.key) rows)
+
+abbrev pub row_refusals : Segments → List RowEntry → List (Option SlateDBError)
+row_refusals segments rows = map (λ r. segment_refusal segments r.key) rows
 
 abbrev pub NeverNest : List (List ℕ) → Type 0
 NeverNest ps = (p q : List ℕ) → among p ps ≡ true → among q ps ≡ true → nest p q ≡ false

@@ -5,9 +5,10 @@
 --     put_rows rows more      the same of several, one after another
 --     last_tick rows, first_seq rows      the greatest creation, and the least moment where there is none; the least sequence, and 0 where there is none
 --     ranged range rows      the rows whose keys are in the range
+--     after_seq n rows      the rows with sequences above n
 --     up_to k n rows      those with sequences of at most n
 --     newest k n rows      of these the first ones, to the first that is no operand: what a reader at n sees is their fold
-use Rattle.std.specs.Prelude.{ℕ, ◌-◌, ◌^◌, min, ℤ, negsuc, Option, Some, None, unwrap_or, nat_le, ◌&&◌, if◌then◌else◌, List, [], ◌∷◌, filter, bytes_eq}
+use Rattle.std.specs.Prelude.{ℕ, ◌-◌, ◌^◌, min, ℤ, negsuc, Option, Some, None, unwrap_or, nat_le, nat_lt, ◌&&◌, if◌then◌else◌, List, [], ◌∷◌, filter, bytes_eq}
 use Rattle.std.specs.Ordering.{match_ordering}
 use Rattle.slate_types.specs.declared.types.RowEntry.{RowEntry}
 use Rattle.slate_types.specs.declared.bytes_range.BytesRange.{BytesRange}
@@ -32,6 +33,9 @@ put_rows rows (m ∷ more) = put_rows (put_row rows m) more
 
 abbrev pub ranged : BytesRange → List RowEntry → List RowEntry
 ranged range rows = filter (λ r. in_range range r.key) rows
+
+abbrev pub after_seq : ℕ → List RowEntry → List RowEntry
+after_seq n rows = filter (λ r. nat_lt n r.seq) rows
 
 -- to the first that is no operand
 abbrev pub to_base : List RowEntry → List RowEntry

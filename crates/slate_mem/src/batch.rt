@@ -1,5 +1,5 @@
 //! A batch of operations, which are to become one commit.
-ghost use Rattle.std.specs.Prelude.{◌≡◌, ◌⊎◌, ◌≤◌, ◌-◌, ◌^◌, ◌↔◌, ◌++◌, ◌∷◌, ℕ, List, [], true, false, min, length, filter_map, option_map, option_copied, Some, None, IsSome, IsTrue, OnOk, OnErr, IfOk, IfErr, IsOkUnless};
+ghost use Rattle.std.specs.Prelude.{◌≡◌, ◌⊎◌, ◌≤◌, ◌-◌, ◌^◌, ◌↔◌, ◌++◌, ◌∷◌, ℕ, List, [], true, false, min, length, filter_map, option_map, option_copied, Some, None, is_some, IsSome, IsTrue, OnOk, OnErr, IfOk, IfErr, IsOkUnless};
 ghost use Rattle.std.specs.BTreeMap as map;
 ghost use Rattle.std.specs.BTreeMap.{insert_entry, IsUnchanged};
 ghost use Rattle.slate_types.specs.declared.error.SlateDBError.{SlateDBError};
@@ -259,12 +259,39 @@ impl WriteBatch {
         &self.ops
     }
 
-    /// The rows of the batch as the commit `seq` of the moment `now`, by key, and how many bytes their keys and
-    /// values have, or the greatest number where they are more. The operator combines the operands of a key onto its
-    /// value, or onto none; an operand that stands alone is taken as it is. `default_ttl_millis` is the database's time
-    /// to live. There is an operator where a merge was ever taken. `Callback` only where its count of faults rose, or
+    /// The rows of the batch as the commit `seq` of the moment `now`, by key, the segment prefixes of its keys, where there is an
+    /// extractor, and how many bytes their keys and values have, or the greatest number where they are more. Refuses first as
+    /// `test_entries` does, and has then called no operator; then as `fold_entries` does.
+    pub fn extract_entries<M: MergeOperator, X: PrefixExtractor>(
+        &self,
+        alloc: Global,
+        seq: u64,
+        now: i64,
+        default_ttl_millis: Option<u64>,
+        operator: &mut Option<M>,
+        extractor: Option<&X>,
+    ) -> Result<(Vec<RowEntry>, BTreeSet<Bytes>, u64), SlateDBError>
+        ensures fine { OnOk result (first_refusal (test_refusals (is_some operator.old) self.now.held_merge (point_lengths (option_map X.lengths (option_copied extractor.entry))) default_ttl_millis now self.now.ops) ≡ None) }
+        ensures rows { IfOk result (λ e. e.0.items ≡ commit_rows (operator_at (option_map M.combine operator.old)) default_ttl_millis seq now self.now.ops) }
+        ensures prefixes { IfOk result (λ e. e.1.keys ≡ keys_set (prefixes (point_lengths (option_map X.lengths (option_copied extractor.entry))) self.now.ops)) }
+        ensures bytes { IfOk result (λ e. e.2 ≡ min (row_bytes e.0.items) (2 ^ 64 - 1)) }
+        ensures uncalled { (e : SlateDBError) → first_refusal (test_refusals (is_some operator.old) self.now.held_merge (point_lengths (option_map X.lengths (option_copied extractor.entry))) default_ttl_millis now self.now.ops) ≡ Some e → operator.new ≡ operator.old }
+        ensures same { option_map M.combine operator.new ≡ option_map M.combine operator.old }
+        ensures later { faults_of M.faults operator.old ≤ faults_of M.faults operator.new }
+        ensures cause { IfErr result (λ e. (e ≡ SlateDBError.OutOfMemory) ⊎ ((first_refusal (test_refusals (is_some operator.old) self.now.held_merge (point_lengths (option_map X.lengths (option_copied extractor.entry))) default_ttl_millis now self.now.ops) ≡ Some e) ⊎ IsCallback (faults_of M.faults operator.old) (faults_of M.faults operator.new) e)) }
+    {
+        let has_operator = operator.is_some();
+        let prefixes = self.test_entries(alloc, now, default_ttl_millis, has_operator, extractor)?;
+        let (rows, bytes) = self.fold_entries(alloc, seq, now, default_ttl_millis, operator)?;
+        Ok((rows, prefixes, bytes))
+    }
+
+    /// The rows of the batch as the commit `seq` of the moment `now`, by key, and how many bytes their keys and values have, or the
+    /// greatest number where they are more. It tests nothing: `test_entries` does, and there is an operator where a merge was ever
+    /// taken. The operator combines the operands of a key onto its value, or onto none; an operand that stands alone is
+    /// taken as it is. `default_ttl_millis` is the database's time to live. `Callback` only where its count of faults rose, or
     /// `OutOfMemory`.
-    pub fn extract_entries<M: MergeOperator>(
+    pub fn fold_entries<M: MergeOperator>(
         &self,
         alloc: Global,
         seq: u64,
@@ -536,7 +563,10 @@ fn test_keys<X: PrefixExtractor>(
 }
 
 /// Adds a prefix, where there is one.
-fn add_prefix(prefixes: &mut BTreeSet<Bytes>, prefix: Option<Bytes>) -> Result<(), AllocError>
+pub(crate) fn add_prefix(
+    prefixes: &mut BTreeSet<Bytes>,
+    prefix: Option<Bytes>,
+) -> Result<(), AllocError>
     ensures keys { OnOk result ((ps : List (List ℕ)) → IsStrictlySortedBy key_cmp prefixes.old.keys → keys_set (ps ++ prefixes.new.keys) ≡ keys_set (cons_option prefix (ps ++ prefixes.old.keys))) }
     ensures rising { IsStrictlySortedBy key_cmp prefixes.old.keys → OnOk result (IsStrictlySortedBy key_cmp prefixes.new.keys) }
 {

@@ -6,11 +6,14 @@ ghost use Rattle.slate_types.specs.declared.filter_policy.PrefixTarget.TheVarian
 ghost use Rattle.slate_mem.specs.KeyTests.{first_other, point_lengths, prefix_by, prefix_of_len, segment_refusal, ttl_refusal};
 ghost use Rattle.slate_mem.specs.Refusals.{first_refusal};
 ghost use Rattle.slate_mem.specs.RowOf.{op_expiry};
+ghost use Rattle.slate_mem.specs.Segments.{row_prefixes, row_refusals};
 
 use crate::WriteOp;
+use crate::batch::add_prefix;
 use bytes::Bytes;
-use slate_types::{PrefixExtractor, PrefixTarget, SlateDBError};
-use std::alloc::AllocError;
+use slate_types::{PrefixExtractor, PrefixTarget, RowEntry, SlateDBError};
+use std::alloc::{AllocError, Global};
+use std::collections::BTreeSet;
 
 /// The key's segment prefix, where there is an extractor. `EmptySegmentPrefix` where it gives none, or an empty one; then
 /// `IncompatibleMergeTtls` where the key's operations, oldest first, differ in expiry; and `OutOfMemory`.
@@ -52,6 +55,25 @@ fn segment_prefix<X: PrefixExtractor>(
         Some(prefix) => Ok(Some(prefix)),
         None => Err(SlateDBError::EmptySegmentPrefix { key: key.clone()? }),
     }
+}
+
+/// The segment prefixes of the keys of rows, where there is an extractor. `EmptySegmentPrefix` where it gives one of them none, or
+/// an empty one, with the first such key; else `OutOfMemory`.
+pub(crate) fn prefixes_of<X: PrefixExtractor>(
+    alloc: Global,
+    rows: &[RowEntry],
+    extractor: Option<&X>,
+) -> Result<BTreeSet<Bytes>, SlateDBError>
+    ensures prefixes { IfOk result (λ all. all.keys ≡ row_prefixes (point_lengths (option_map X.lengths (option_copied extractor.entry))) rows.now) }
+    ensures fine { OnOk result (first_refusal (row_refusals (point_lengths (option_map X.lengths (option_copied extractor.entry))) rows.now) ≡ None) }
+    ensures cause { IfErr result (λ e. (e ≡ SlateDBError.OutOfMemory) ⊎ (first_refusal (row_refusals (point_lengths (option_map X.lengths (option_copied extractor.entry))) rows.now) ≡ Some e)) }
+{
+    let mut prefixes = BTreeSet::new(alloc);
+    for row in rows {
+        let prefix = segment_prefix(&row.key, extractor)?;
+        add_prefix(&mut prefixes, prefix)?;
+    }
+    Ok(prefixes)
 }
 
 /// The length of the prefix that an extractor gives the key.

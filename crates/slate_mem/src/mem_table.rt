@@ -1,5 +1,5 @@
 //! Rows in memory, until a flush.
-ghost use Rattle.std.specs.Prelude.{◌≡◌, ◌<◌, ◌^◌, ◌++◌, ◌↔◌, ◌&&◌, filter, List, [], length, IsTrue, OnOk, OnErr, IfOk, IsOkUnless, Ok, ℕ, ◌-◌, ◌==◌, min, not};
+ghost use Rattle.std.specs.Prelude.{◌≡◌, ◌<◌, ◌^◌, ◌++◌, ◌↔◌, ◌&&◌, ◌⊎◌, filter, List, [], length, None, Some, option_copied, option_map, IsTrue, OnOk, OnErr, IfOk, IfErr, IsOkUnless, Ok, ℕ, ◌-◌, ◌==◌, min, not};
 ghost use Rattle.std.specs.BTreeMap.{IsUnchanged};
 ghost use Rattle.std.specs.BTreeMap.Range.{IsLeBy, IsLtBy, entries_between};
 ghost use Rattle.std.specs.Range.Bound.{IsForward};
@@ -14,14 +14,21 @@ ghost use Rattle.slate_types.specs.Keys.{key_cmp, keys_set, among};
 ghost use Rattle.slate_types.specs.Fold.{greatest_seq};
 ghost use Rattle.slate_types.specs.Iteration.{IsInOrder};
 ghost use Rattle.slate_types.specs.RowTurns.{AreInTurn, row_before};
-ghost use Rattle.slate_mem.specs.Table.{no_rows, put_rows, ranged, newest, last_tick, first_seq};
+ghost use Rattle.slate_mem.specs.KeyTests.{nest_refusal, point_lengths};
+ghost use Rattle.slate_mem.specs.Refusals.{first_refusal};
+ghost use Rattle.slate_mem.specs.Segments.{row_prefixes, row_refusals};
+ghost use Rattle.slate_mem.specs.Table.{after_seq, no_rows, put_rows, ranged, newest, last_tick, first_seq};
 ghost use Rattle.slate_mem.specs.Tied.{IsRows, insert_row, insert_rows, undone, all_undone, taken};
 
 use crate::key_range::KVTableInternalKeyRange;
+use crate::key_tests::prefixes_of;
 use crate::lookup::is_merge;
 use crate::metadata::{KVTableMetadata, count_rows};
+use crate::segments::{least_nesting, test_other};
 use bytes::Bytes;
-use slate_types::{BytesRange, IterationOrder, RowEntry, RowsIterator, SequencedKey, SlateDBError};
+use slate_types::{
+    BytesRange, IterationOrder, PrefixExtractor, RowEntry, RowsIterator, SequencedKey, SlateDBError,
+};
 use std::alloc::{AllocError, Global};
 use std::cmp::Ordering;
 use std::collections::btree_map::Range;
@@ -163,6 +170,18 @@ impl MemTable {
         count_rows(&self.rows)
     }
 
+    /// Tests a prefix against the recorded ones, and says whether it is one of them. `InvalidSegmentPrefix` exactly where it nests
+    /// with another of them, with the least such, even where it is recorded itself. Else `OutOfMemory`.
+    pub fn ensure_valid_segment(&self, prefix: &Bytes) -> Result<bool, SlateDBError>
+        ensures recorded { IfOk result (λ is. is ≡ among prefix.now self.now.segments) }
+        ensures fine { OnOk result (nest_refusal self.now.segments prefix.now ≡ None) }
+        ensures cause { IfErr result (λ e. (e ≡ SlateDBError.OutOfMemory) ⊎ (nest_refusal self.now.segments prefix.now ≡ Some e)) }
+    {
+        let other = least_nesting(&self.segments, prefix)?;
+        test_other(prefix, other)?;
+        Ok(self.segments.contains(prefix))
+    }
+
     /// Drops the rows of a sequence, and drops the prefixes from the recorded ones: so a commit that is refused after
     /// its `put_all` is undone. It takes no memory.
     pub fn take_back(&mut self, seq: u64, segments: &BTreeSet<Bytes>)
@@ -232,6 +251,27 @@ impl ImmutableMemtable {
         ensures { result.now.keys ≡ self.now.segments }
     {
         self.table.touched_segments()
+    }
+
+    /// A table of its rows with greater sequences, which records the prefixes of these rows alone, and none where there is no
+    /// extractor. The rows share keys and values. `EmptySegmentPrefix` where the extractor gives the key of one of these rows no
+    /// prefix, or an empty one, with the first such key. Else `OutOfMemory`.
+    pub fn filter_after_seq<X: PrefixExtractor>(
+        &self,
+        seq: u64,
+        extractor: Option<&X>,
+    ) -> Result<ImmutableMemtable, SlateDBError>
+        ensures rows { IfOk result (λ t. t.rows ≡ after_seq seq self.now.rows) }
+        ensures segments { IfOk result (λ t. t.segments ≡ row_prefixes (point_lengths (option_map X.lengths (option_copied extractor.entry))) (after_seq seq self.now.rows)) }
+        ensures fine { OnOk result (first_refusal (row_refusals (point_lengths (option_map X.lengths (option_copied extractor.entry))) (after_seq seq self.now.rows)) ≡ None) }
+        ensures cause { IfErr result (λ e. (e ≡ SlateDBError.OutOfMemory) ⊎ (first_refusal (row_refusals (point_lengths (option_map X.lengths (option_copied extractor.entry))) (after_seq seq self.now.rows)) ≡ Some e)) }
+    {
+        let alloc = self.table.alloc;
+        let rows = rows_after(alloc, &self.table.rows, seq)?;
+        let segments = prefixes_of(alloc, &rows, extractor)?;
+        let mut table = MemTable::new(alloc);
+        table.put_all(rows, segments)?;
+        Ok(ImmutableMemtable { table })
     }
 
     /// As `MemTable::metadata`.
@@ -407,6 +447,23 @@ fn copies(
         found.push(row.clone()?)?;
         if is_to_base && !is_merge(row) {
             return Ok(found);
+        }
+    }
+    Ok(found)
+}
+
+/// Copies of the rows with greater sequences.
+fn rows_after(
+    alloc: Global,
+    rows: &BTreeMap<SequencedKey, RowEntry>,
+    seq: u64,
+) -> Result<Vec<RowEntry>, AllocError>
+    ensures rows { IfOk result (λ found. found.items ≡ after_seq seq (values_of rows.now.entries)) }
+{
+    let mut found = Vec::new(alloc);
+    for row in rows.values() {
+        if row.seq > seq {
+            found.push(row.clone()?)?;
         }
     }
     Ok(found)

@@ -1,9 +1,11 @@
 // Batches and frozen rows in memory: calls that no run makes, and what they give.
-use crate::listing::{Row, are_rows, walked};
+use crate::listing::{Row, are_rows, one, row, walked};
 use crate::memory_lists::put_in_table;
 use bytes::Bytes;
 use slate_mem::{ImmutableMemtable, MemTable, WriteBatch, WriteBatchIterator};
-use slate_types::{BytesRange, IterationOrder, PutOptions, RowEntry, Ttl};
+use slate_types::{
+    BytesRange, IterationOrder, NoExtractor, PutOptions, RowEntry, SlateDBError, Ttl,
+};
 use std::alloc::Global;
 use std::collections::BTreeSet;
 use std::ops::Bound;
@@ -41,6 +43,68 @@ const FROZEN: &[Row] = &[
 #[test]
 fn frozen_tables_stay(rt: HostRuntime) {
     assert!(rt; are_rows(rt.alloc(), frozen_rows(rt.alloc()), FROZEN));
+}
+
+// A table of k at 1 and at 2, which has recorded the prefixes a: and c:.
+fn recorded(alloc: Global) -> Option<MemTable> {
+    let mut segments = BTreeSet::new(alloc);
+    let first = segments.insert(Bytes::from_static(b"a:")).ok();
+    let second = segments.insert(Bytes::from_static(b"c:")).ok();
+    let mut table = MemTable::new(alloc);
+    let put = table.put_all(one(alloc, row(OLD)), segments).ok();
+    let rows = one(alloc, row(NEW));
+    let again = table.put_all(rows, BTreeSet::new(alloc)).ok();
+    first.and(second).and(put).and(again).and(Some(table))
+}
+
+const OLD: &Row = &(b"k", 'v', b"1", 1, Some(40), None);
+
+const NEW: &Row = &(b"k", 'v', b"2", 2, Some(40), None);
+
+// What such a table answers for a prefix.
+fn segment(alloc: Global, prefix: &'static [u8]) -> Result<bool, SlateDBError> {
+    let Some(table) = recorded(alloc) else {
+        return Err(SlateDBError::OutOfMemory);
+    };
+    let answer = table.ensure_valid_segment(&Bytes::from_static(prefix));
+    drop(table);
+    answer
+}
+
+fn tells_segments_apart(alloc: Global) -> bool {
+    let is_nested = match segment(alloc, b"a:b:") {
+        Err(SlateDBError::InvalidSegmentPrefix { prefix, conflict }) => {
+            prefix.as_slice() == b"a:b:" && conflict.as_slice() == b"a:"
+        }
+        _ => false,
+    };
+    let is_recorded = matches!(segment(alloc, b"a:"), Ok(true));
+    is_nested && is_recorded && matches!(segment(alloc, b"b:"), Ok(false))
+}
+
+#[test]
+fn prefixes_that_nest_are_refused(rt: HostRuntime) {
+    assert!(rt; tells_segments_apart(rt.alloc()));
+}
+
+// The rows above 1 of such a table.
+fn later_rows(alloc: Global) -> Option<Vec<RowEntry>> {
+    let mut table = recorded(alloc)?;
+    let frozen = table.freeze().ok();
+    drop(table);
+    let frozen = frozen?;
+    let later = frozen.filter_after_seq(1, None::<&NoExtractor>).ok();
+    drop(frozen);
+    let later = later?;
+    let order = IterationOrder::Ascending;
+    let rows = later.range(alloc, &BytesRange::unbounded(), order);
+    drop(later);
+    walked(alloc, rows, None)
+}
+
+#[test]
+fn later_rows_stay(rt: HostRuntime) {
+    assert!(rt; are_rows(rt.alloc(), later_rows(rt.alloc()), &[*NEW]));
 }
 
 // Four writes to a batch.

@@ -2,6 +2,7 @@
 use crate::listing::{Row, are_rows, row};
 use crate::parts::Concat;
 use bytes::Bytes;
+use slate_filter::ColonExtractor;
 use slate_mem::fold::has_merge;
 use slate_mem::{WriteBatch, fold_for_flush};
 use slate_types::{MergeOptions, NoOperator, RowEntry, SlateDBError, Ttl};
@@ -10,9 +11,9 @@ use std::alloc::Global;
 // A put, a merge and a put of one key.
 fn replaced(alloc: Global) -> Option<WriteBatch> {
     let mut batch = WriteBatch::new(alloc);
-    let first = batch.put(b"k", b"1").ok();
-    let second = batch.merge(b"k", b"2").ok();
-    let third = batch.put(b"k", b"3").ok();
+    let first = batch.put(b"k:", b"1").ok();
+    let second = batch.merge(b"k:", b"2").ok();
+    let third = batch.put(b"k:", b"3").ok();
     first.and(second).and(third).and(Some(batch))
 }
 
@@ -35,13 +36,21 @@ fn replaced_merges_are_remembered(rt: HostRuntime) {
     assert!(rt; remembers(rt.alloc()));
 }
 
-// The rows of such a commit at 3.
+// The rows of such a commit at 3, whose one prefix is the key.
 fn replaced_rows(alloc: Global) -> Option<Vec<RowEntry>> {
     let batch = replaced(alloc)?;
-    let entries = batch.extract_entries(alloc, 3, 40, None, &mut Some(Concat));
+    let operator = &mut Some(Concat);
+    let entries = batch.extract_entries(alloc, 3, 40, None, operator, Some(&ColonExtractor::new()));
     drop(batch);
-    let (rows, _bytes) = entries.ok()?;
-    Some(rows)
+    let (rows, prefixes, bytes) = entries.ok()?;
+    let is_whole = prefixes.contains(&Bytes::from_static(b"k:")) && bytes == 3;
+    drop(prefixes);
+    if is_whole {
+        Some(rows)
+    } else {
+        drop(rows);
+        None
+    }
 }
 
 #[test]
@@ -50,7 +59,7 @@ fn replaced_merges_make_no_row(rt: HostRuntime) {
         are_rows(
             rt.alloc(),
             replaced_rows(rt.alloc()),
-            &[(b"k", 'v', b"3", 3, Some(40), None)]
+            &[(b"k:", 'v', b"3", 3, Some(40), None)]
         )
     );
 }
@@ -79,7 +88,7 @@ fn filled(alloc: Global) -> Option<WriteBatch> {
 // The rows of such a commit at 7.
 fn extracted(alloc: Global) -> Option<Vec<RowEntry>> {
     let batch = filled(alloc)?;
-    let entries = batch.extract_entries(alloc, 7, 40, None, &mut Some(Concat));
+    let entries = batch.fold_entries(alloc, 7, 40, None, &mut Some(Concat));
     drop(batch);
     let (rows, bytes) = entries.ok()?;
     if bytes != 8 {

@@ -6,8 +6,8 @@ use Rattle.slate_db.proofs.MemoryRows.{commit_fits}
 use Rattle.slate_db.proofs.Tests.{is_some_map, operator_short, tested_some}
 use Rattle.slate_db.proofs.tested.rows_of_batch.Goals as goal
 
-pub extract_entries-requires : goal.extract_entries-requires
-extract_entries-requires g c = tested_some c.args.operator.now c.args.batch.now.held_merge _ c.args.default_millis c.args.now c.args.now c.args.batch.now.ops (is_some_map g.M.MergeOperator.combine c.args.operator.now) refl c.requires
+pub fold_entries-requires : goal.fold_entries-requires
+fold_entries-requires g c = tested_some c.args.operator.now c.args.batch.now.held_merge _ c.args.default_millis c.args.now c.args.now c.args.batch.now.ops (is_some_map g.M.MergeOperator.combine c.args.operator.now) refl c.requires
 
 pub returns-clause-fit : goal.returns-clause-fit
 returns-clause-fit g c fine = subst (AllByRecursion FitsMemory) (sym c.in_ok-rows.ensures.rows)

@@ -7,7 +7,7 @@ use Rattle.slate_mem.specs.BatchRows.{folded_entries}
 use Rattle.slate_mem.specs.CommitRows.{commit_rows}
 use Rattle.slate_mem.specs.Kept.{IsWhole}
 use Rattle.slate_mem.proofs.FoldedLaws.{rows_folded, any_operator}
-use Rattle.slate_mem.proofs.batch.WriteBatch.extract_entries.Goals as goal
+use Rattle.slate_mem.proofs.batch.WriteBatch.fold_entries.Goals as goal
 
 pub returns-clause-rows : goal.returns-clause-rows
 returns-clause-rows g c =
