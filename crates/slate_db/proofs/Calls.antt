@@ -1,6 +1,6 @@
 -- What a core's calls make of its parts.
 --     placed, past_place, only_short      whether the journal has a place for so many events more; that of ids there is always one
---     room_in_log, room_to_freeze, room_for_run      room was made
+--     room_in_log, room_to_freeze      room was made
 --     begun_is, ended_is, shown_is, released_is, frozen_is, written_is, installed_is      the parts after a call, from what is said of each
 use Rattle.std.proofs.Common.{◌≡◌, ℕ, ◌+◌, ◌≤◌, ◌<◌, List, [], ◌∷◌, ◌++◌, length, ◌⊎◌, inl, inr, ◌^◌, ◌-◌, ℤ, sym, ap, subst, ◌∙◌, arith}
 use Rattle.slate_types.specs.declared.config.IsolationLevel.{IsolationLevel}
@@ -52,15 +52,11 @@ none_left c d x n same w below full =
 
 pub room_in_log : (s : Inside) (l : LogModel) → l ≡ record s.log { spare = l.spare } → IsLog l → IsWholeInside s → IsWholeInside (record s { log = l })
 room_in_log s l is log w =
-    subst IsWholeInside (ap (λ (x : LogModel). record s { log = x }) (sym is)) (whole_room (view_of s) (unseen_of s) l.spare s.layers.for_freeze s.layers.for_run (subst IsLog is log) w)
+    subst IsWholeInside (ap (λ (x : LogModel). record s { log = x }) (sym is)) (whole_room (view_of s) (unseen_of s) l.spare s.layers.for_freeze (subst IsLog is log) w)
 
 pub room_to_freeze : (s : Inside) (y : LayersModel) → y ≡ record s.layers { for_freeze = y.for_freeze } → IsWholeInside s → IsWholeInside (record s { layers = y })
 room_to_freeze s y is w =
-    subst IsWholeInside (ap (λ (x : LayersModel). record s { layers = x }) (sym is)) (whole_room (view_of s) (unseen_of s) s.log.spare y.for_freeze s.layers.for_run w.log w)
-
-pub room_for_run : (s : Inside) (y : LayersModel) → y ≡ record s.layers { for_run = y.for_run } → IsWholeInside s → IsWholeInside (record s { layers = y })
-room_for_run s y is w =
-    subst IsWholeInside (ap (λ (x : LayersModel). record s { layers = x }) (sym is)) (whole_room (view_of s) (unseen_of s) s.log.spare s.layers.for_freeze y.for_run w.log w)
+    subst IsWholeInside (ap (λ (x : LayersModel). record s { layers = x }) (sym is)) (whole_room (view_of s) (unseen_of s) s.log.spare y.for_freeze w.log w)
 
 -- no contract sees it
 pub unseen_freeze : (s : Inside) (y : LayersModel) → y ≡ record s.layers { for_freeze = y.for_freeze } → view_of (record s { layers = y }) ≡ view_of s
@@ -145,13 +141,12 @@ written_is s l0 l y n now at ops made rows room ats ops_are log layers =
     let b = sym layers in
     λ i. record s { log = a i; layers = b i; manager = n }
 
-abbrev pub layers_installed_of : LayersModel → SortedRun → ℕ → ℕ → ℕ → LayersModel
-layers_installed_of y run floor freeze room = record y { frozen = []; runs = y.runs ++ (run ∷ []); floor = floor; for_freeze = freeze; for_run = room }
+abbrev pub layers_installed_of : LayersModel → List SortedRun → ℕ → ℕ → LayersModel
+layers_installed_of y runs floor freeze = record y { frozen = []; runs = y.runs ++ runs; floor = floor; for_freeze = freeze }
 
-pub installed_is : (s : Inside) (l0 l : LogModel) (y0 y : LayersModel) (ts : List (Ulid × List ℕ)) (run : SortedRun) (barrier floor : ℕ) → l0 ≡ record s.log { spare = l0.spare } → l ≡ with_install l0 ts l.spare → y0 ≡ record s.layers { for_run = y0.for_run } →
-    y ≡ layers_installed_of y0 run barrier y.for_freeze y.for_run → barrier ≡ floor →
-    record s { log = with_install s.log ts l.spare; layers = layers_installed_of s.layers run floor y.for_freeze y.for_run } ≡ record s { log = l; layers = y }
-installed_is s l0 l y0 y ts run barrier floor room log fit layers floors =
+pub installed_is : (s : Inside) (l0 l : LogModel) (y : LayersModel) (ts : List (Ulid × List ℕ)) (runs : List SortedRun) (barrier floor : ℕ) → l0 ≡ record s.log { spare = l0.spare } → l ≡ with_install l0 ts l.spare →
+    y ≡ layers_installed_of s.layers runs barrier y.for_freeze → barrier ≡ floor → record s { log = with_install s.log ts l.spare; layers = layers_installed_of s.layers runs floor y.for_freeze } ≡ record s { log = l; layers = y }
+installed_is s l0 l y ts runs barrier floor room log layers floors =
     let a = sym (log ∙ ap (λ (x : LogModel). with_install x ts l.spare) room) in
-    let b = sym (layers ∙ (λ i. layers_installed_of (fit i) run (floors i) y.for_freeze y.for_run)) in
+    let b = sym (layers ∙ ap (λ f. layers_installed_of s.layers runs f y.for_freeze) floors) in
     λ i. record s { log = a i; layers = b i }

@@ -20,7 +20,7 @@ use Rattle.slate_txn.specs.Replay.{replay, apply}
 use Rattle.slate_txn.specs.State.{Rules, Commit, Tx, opening}
 use Rattle.slate_txn.proofs.NamedLaws.{all_without, without_map}
 use Rattle.slate_db.specs.Committed.{after_commit}
-use Rattle.slate_db.specs.Installs.{as_begun, installed, AreRuns}
+use Rattle.slate_db.specs.Installs.{as_begun, installed, AreRunsOf}
 use Rattle.slate_db.specs.Layers.{AreLayers}
 use Rattle.slate_db.specs.Log.{IsLog}
 use Rattle.slate_db.specs.Managed.{IsManaged}
@@ -34,7 +34,6 @@ use Rattle.slate_db.proofs.Lists.{all_more, all_map, all_front}
 use Rattle.slate_db.proofs.Logs.{tables_same}
 use Rattle.slate_db.proofs.Operands.{operable_commit, own_without}
 use Rattle.slate_db.proofs.Quiet.{quiet_more}
-use Rattle.slate_db.proofs.RunsOf.{runs_same}
 use Rattle.slate_db.proofs.Split.{up_to_more}
 use Rattle.slate_db.proofs.Wholes.{less_one}
 
@@ -57,7 +56,7 @@ whole_committed c x id now t rows spare some within n managed log layers w = rec
     shows = all_map _ _ (λ p h. (h.0, let k : p.1 ≤ x.last = h.1 in omega arith)) _ w.tied.shows;
     own = all_without _ id _ w.tied.own;
     all_installed = λ active frozen. absurd (some active);
-    runs = subst (λ (rs : List (List (Ulid × List ℕ))). AreRuns rs x.runs) (sym (runs_same c.events e refl)) w.tied.runs;
+    runs = subst (λ (ts : List (Ulid × List ℕ)). AreRunsOf ts x.runs) (sym (tables_same c.events e refl)) w.tied.runs;
     quiet = λ idle. absurd (some idle);
     manager = managed;
     rows_within = all_more _ c.frozen rows (all_map _ _ (λ layer h. all_map _ _ higher layer h) c.frozen (all_front _ c.frozen (c.active ∷ []) w.tied.rows_within)) within;
@@ -90,7 +89,7 @@ whole_idle c x id now t spare n managed log w = record {
     shows = w.tied.shows;
     own = all_without _ id _ w.tied.own;
     all_installed = λ active frozen. subst (λ (cs : List Commit). up_to (installed (c.events ++ (e ∷ []))) cs ≡ cs) (sym (append-nil c.state.commits)) (ap (λ i. up_to i c.state.commits) (ap (λ s. s.flushed) more) ∙ w.tied.all_installed active frozen);
-    runs = subst (λ (rs : List (List (Ulid × List ℕ))). AreRuns rs x.runs) (sym (runs_same c.events e refl)) w.tied.runs;
+    runs = subst (λ (ts : List (Ulid × List ℕ)). AreRunsOf ts x.runs) (sym (tables_same c.events e refl)) w.tied.runs;
     quiet = λ idle. quiet_more c.events e refl refl (w.tied.quiet idle);
     manager = managed;
     rows_within = w.tied.rows_within;

@@ -6,6 +6,7 @@ use Rattle.std.proofs.lemmas.List.Elements.{filter-append}
 use Rattle.slate_types.specs.declared.types.RowEntry.{RowEntry}
 use Rattle.slate_types.specs.declared.types.Ulid.{Ulid}
 use Rattle.slate_types.specs.Fold.{fold_rows, AreShort}
+use Rattle.slate_mem.specs.KeyTests.{Segments}
 use Rattle.slate_table.specs.Parts.{Encode}
 use Rattle.slate_table.specs.Table.{AreInOrder, IsTable}
 use Rattle.slate_table.proofs.CutLaws.{built_has}
@@ -47,10 +48,10 @@ cut_layers : (k : List ℕ) (layers parts : List Rows) (rows : Rows) → version
 cut_layers k layers parts rows same =
     flat_map-append (versions k) layers parts ∙ ap (λ xs. versions_in k layers ++ xs) (same ∙ sym (append-nil (versions k rows))) ∙ sym (flat_map-append (versions k) layers (rows ∷ []))
 
-pub kept_install : (m : Meaning) (c : CoreModel) (u : Unseen) (ts : List (Ulid × List ℕ)) (spare limit : ℕ) (rows : Rows) (parts : List Rows) →
-    IsWhole c u → c.active ≡ [] → AreTables m ts parts → AreInOrder rows → AreCut limit rows parts → IsFolded m (least_start u.last c.state) c.frozen rows → IsKept m c →
+pub kept_install : (m : Meaning) (c : CoreModel) (u : Unseen) (ts : List (Ulid × List ℕ)) (spare : ℕ) (g : Segments) (limit : ℕ) (rows : Rows) (parts : List Rows) →
+    IsWhole c u → c.active ≡ [] → AreTables m ts parts → AreInOrder rows → AreCut g limit rows parts → IsFolded m (least_start u.last c.state) c.frozen rows → IsKept m c →
     IsKept m (after_install c u.last ts spare)
-kept_install m c u ts spare limit rows parts w idle tables order cut folded kept = (
+kept_install m c u ts spare g limit rows parts w idle tables order cut folded kept = (
   λ k. ap (λ a. versions_in k (a ∷ [])) idle ∙ sym (ap (λ i. key_rows r k (above i cs)) through ∙ ap (key_rows r k) (none_above start u.last cs w.log.rising last)),
   λ law. let z : IsSound m c = kept.1 law in record {
     layers = z.layers ++ parts;
@@ -88,7 +89,7 @@ kept_install m c u ts spare limit rows parts w idle tables order cut folded kept
     of_parts P h = parts_all P parts (subst (AllByRecursion P) (sym cut.all) h)
 
     same : (k : List ℕ) (layers : List Rows) → versions_in k (layers ++ parts) ≡ versions_in k (layers ++ (rows ∷ []))
-    same k layers = cut_layers k layers parts rows (versions_cut limit parts k (subst AreInOrder (sym cut.all) order) cut.ended ∙ ap (versions k) cut.all)
+    same k layers = cut_layers k layers parts rows (versions_cut g limit parts k (subst AreInOrder (sym cut.all) order) cut.ended ∙ ap (versions k) cut.all)
 
     through : installed (c.events ++ (events.Install u.last ts ∷ [])) ≡ u.last
     through = ap (λ s. s.flushed) (apply_more opening c.events (events.Install u.last ts))

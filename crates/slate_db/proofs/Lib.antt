@@ -22,8 +22,11 @@ mod Versions
 mod MemoryRows
 mod FoldFits
 mod FlushRows
+mod Prefixes
 mod Cuts
 pub mod Runs
+mod StandingRuns
+mod TouchedSegments
 mod Built
 mod Flushes
 mod Installs

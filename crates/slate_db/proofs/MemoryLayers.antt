@@ -18,8 +18,8 @@ pub versions_frozen : (k : List ℕ) (frozen : List Rows) (active : Rows) → ve
 versions_frozen k frozen active = flat_map-append (versions k) (frozen ++ (active ∷ [])) ([] ∷ []) ∙ append-nil (versions_in k (frozen ++ (active ∷ [])))
 
 -- room was made, or some was taken
-pub layers_room : (y : LayersModel) (freeze room : ℕ) → AreLayers y → AreLayers (record y { for_freeze = freeze; for_run = room })
-layers_room y freeze room w = record { active_order = w.active_order; frozen_order = w.frozen_order; frozen_some = w.frozen_some; fit = w.fit; rise = w.rise }
+pub layers_room : (y : LayersModel) (freeze : ℕ) → AreLayers y → AreLayers (record y { for_freeze = freeze })
+layers_room y freeze w = record { active_order = w.active_order; frozen_order = w.frozen_order; frozen_some = w.frozen_some; fit = w.fit; rise = w.rise }
 
 pub layers_put : (y : LayersModel) (rows : Rows) → AllByRecursion FitsMemory rows → ((k : List ℕ) → AreRising (versions_in k (y.frozen ++ (put_rows y.active rows ∷ [])))) → AreLayers y → AreLayers (record y { active = put_rows y.active rows })
 layers_put y rows fit rise w = record {
@@ -39,8 +39,8 @@ layers_frozen y freeze some w = record {
   rise = λ k. subst (λ (xs : Rows). AreRising xs) (sym (versions_frozen k y.frozen y.active)) (w.rise k);
 }
 
-pub layers_installed : (y : LayersModel) (runs : List SortedRun) (floor freeze room : ℕ) → AreLayers y → AreLayers (record y { frozen = []; runs = runs; floor = floor; for_freeze = freeze; for_run = room })
-layers_installed y runs floor freeze room w = record {
+pub layers_installed : (y : LayersModel) (runs : List SortedRun) (floor freeze : ℕ) → AreLayers y → AreLayers (record y { frozen = []; runs = runs; floor = floor; for_freeze = freeze })
+layers_installed y runs floor freeze w = record {
   active_order = w.active_order;
   frozen_order = tt;
   frozen_some = tt;

@@ -11,12 +11,13 @@ use Rattle.slate_types.proofs.Reaching.{fault_earlier}
 use Rattle.slate_table.specs.declared.info.SsTableHandle.{SsTableHandle}
 use Rattle.slate_table.specs.Parts.{Encode}
 use Rattle.slate_table.specs.Table.{AreInOrder}
+use Rattle.slate_mem.specs.KeyTests.{Segments}
 use Rattle.slate_mem.specs.Lookup.{IsCallback}
 use Rattle.slate_read.specs.declared.sorted_run.SortedRun.{SortedRun}
 use Rattle.slate_db.specs.Answered.{AddsPuts}
-use Rattle.slate_db.specs.Cut.{AreCut}
-use Rattle.slate_db.specs.Flushed.{AreSomeOfFlush, AreTablesAt, HasTooLarge, IsFolded, IsPut, IsTableAt, IsTooLarge, Layout, MayTakeTables, TakesTables, WantsOperator}
-use Rattle.slate_db.specs.Installs.{AreHandles}
+use Rattle.slate_db.specs.Cut.{AreCut, AreOfSegments}
+use Rattle.slate_db.specs.Flushed.{AreSomeOfFlush, AreTablesAt, HasTooLarge, IsFolded, IsPut, IsTableAt, IsTooLarge, Layout, MayTakeTables, StandInRuns, TakesTables, WantsOperator}
+use Rattle.slate_db.specs.Installs.{AreHandles, handles_of}
 use Rattle.slate_db.specs.Layers.{FitsMemory}
 use Rattle.slate_db.specs.Meaning.{Meaning}
 use Rattle.slate_db.specs.Model.{Rows}
@@ -25,7 +26,7 @@ use Rattle.slate_db.proofs.Causes.{callback_fault}
 use Rattle.slate_db.proofs.Cuts.{parts_all, parts_order}
 use Rattle.slate_db.proofs.Lists.{all_behind}
 use Rattle.slate_db.proofs.Puttings.{adds_more, may_as, may_more, takes_more}
-use Rattle.slate_db.proofs.Runs.{handles_more, kept_apart, made_more}
+use Rattle.slate_db.proofs.Runs.{handles_more, made_more, runs_kept}
 
 pub record IsSoFar (before now : Reach) (layout : Layout) (number : ℕ) (parts left : List Rows) (ts : List (Ulid × List ℕ)) (handles : List SsTableHandle) : Type 0 where
   pub done : List Rows
@@ -103,44 +104,77 @@ pub refused_run : (before now after : Reach) (layout : Layout) (number : ℕ) (p
 refused_run before now after layout number parts left rest rows ts handles e far next later (inl fault) = inl (fault_earlier before now after e later fault)
 refused_run before now after layout number parts left rest rows ts handles e far next later (inr large) = inr (part_too_large before now layout number parts left rest rows ts handles e far next large)
 
+-- all that were stored
+pub so_far_taken : (before now : Reach) (layout : Layout) (number : ℕ) (parts left : List Rows) (ts : List (Ulid × List ℕ)) (handles : List SsTableHandle) → IsSoFar before now layout number parts left ts handles →
+    MayTakeTables (AreFirstParts before.meaning.encode layout number parts) before.objects now.objects
+so_far_taken before now layout number parts left ts handles far = by before.objects far.taken
+  where
+    by : (objects : Option Objects) → TakesTables ts objects now.objects → MayTakeTables (AreFirstParts before.meaning.encode layout number parts) objects now.objects
+    by None taken = tt
+    by (Some os) taken = inr (ts, record { done = far.done; left = left; split = far.split; made = far.made }, taken)
+
+-- ---- their runs
+
+-- all: the prefixes of all tables; left: of those that aren't stored
+pub record StandSoFar (all left : List (List ℕ)) (runs : List SortedRun) : Type 0 where
+  pub done : List (List ℕ)
+  pub split : done ++ left ≡ all
+  pub stand : StandInRuns done runs
+
+pub none_stand : (all left : List (List ℕ)) (runs : List SortedRun) → left ≡ all → runs ≡ [] → StandSoFar all left runs
+none_stand all left runs is empty = record { done = []; split = is; stand = subst (StandInRuns []) (sym empty) (record { each = refl; some = tt; differ = tt }) }
+
+pub one_stands : (all left rest : List (List ℕ)) (prefix : List ℕ) (runs more : List SortedRun) → StandSoFar all left runs → left ≡ prefix ∷ rest → ((prefixes : List (List ℕ)) → StandInRuns prefixes runs → StandInRuns (prefixes ++ (prefix ∷ [])) more) → StandSoFar all rest more
+one_stands all left rest prefix runs more far next adds =
+    record { done = far.done ++ (prefix ∷ []); split = append_assoc far.done (prefix ∷ []) rest ∙ ap (λ ps. far.done ++ ps) (sym next) ∙ far.split; stand = adds far.done far.stand }
+
+pub all_stand : (all left : List (List ℕ)) (runs : List SortedRun) → StandSoFar all left runs → left ≡ [] → StandInRuns all runs
+all_stand all left runs far none = subst (λ (ps : List (List ℕ)). StandInRuns ps runs) (sym (append-nil far.done) ∙ ap (λ ps. far.done ++ ps) (sym none) ∙ far.split) far.stand
+
 -- ---- the whole run
 
 pub parts_build : (tables : List Rows) → AllByRecursion (λ rows. 0 < length rows) tables → AllByRecursion AreInOrder tables → AllByRecursion (λ rows. AllByRecursion FitsMemory rows) tables → AllByRecursion CanBuild tables
 parts_build [] some order fit = tt
 parts_build (t ∷ ts) some order fit = (record { some = some.0; order = order.0; fit = fit.0 }, parts_build ts some.1 order.1 fit.1)
 
-pub can_build : (limit : ℕ) (rows : Rows) (parts : List Rows) → AreCut limit rows parts → AreInOrder rows → AllByRecursion FitsMemory rows → AllByRecursion CanBuild parts
-can_build limit rows parts cut order fit =
+pub can_build : (g : Segments) (limit : ℕ) (rows : Rows) (parts : List Rows) → AreCut g limit rows parts → AreInOrder rows → AllByRecursion FitsMemory rows → AllByRecursion CanBuild parts
+can_build g limit rows parts cut order fit =
     parts_build parts cut.some (parts_order parts (subst AreInOrder (sym cut.all) order)) (parts_all FitsMemory parts (subst (AllByRecursion FitsMemory) (sym cut.all) fit))
 
-pub run_is_put : (m : Meaning) (layout : Layout) (number barrier : ℕ) (layers : List Rows) (rows : Rows) (parts : List Rows) (ts : List (Ulid × List ℕ)) (run : SortedRun) (before after : Option Objects) → 0 < length rows →
-    IsFolded m barrier layers rows → AreInOrder rows → AreCut layout.table_bytes rows parts → run.prefix ≡ [] → ArePartsPut m.encode layout number parts ts run.tables.items before after → IsPut m layout number barrier layers ts run before after
-run_is_put m layout number barrier layers rows parts ts run before after some folded order cut prefix put = record {
-  kept = record {
-    prefix = prefix;
-    handles = put.kept;
-    apart = kept_apart m.encode layout number 0 layout.table_bytes parts ts run.tables.items (subst AreInOrder (sym cut.all) order) cut.some cut.ended put.made put.kept;
-  };
+pub run_is_put : (m : Meaning) (layout : Layout) (number barrier : ℕ) (layers : List Rows) (rows : Rows) (parts : List Rows) (prefixes : List (List ℕ)) (ts : List (Ulid × List ℕ)) (runs : List SortedRun) (before after : Option Objects) → 0 < length rows →
+    IsFolded m barrier layers rows → AreInOrder rows → AreCut layout.segments layout.table_bytes rows parts → AreOfSegments layout.segments parts prefixes → StandInRuns prefixes runs →
+    ArePartsPut m.encode layout number parts ts (handles_of runs) before after → IsPut m layout number barrier layers ts runs before after
+run_is_put m layout number barrier layers rows parts prefixes ts runs before after some folded order cut segments stand put = record {
+  kept = runs_kept m.encode layout number rows parts prefixes ts runs order cut put.made put.kept segments stand.each;
   made = record {
     rows = rows;
     some = some;
     folded = folded;
     order = order;
     parts = parts;
-    cut = subst (AreCut layout.table_bytes rows) (sym (append-nil parts)) cut;
+    cut = subst (AreCut layout.segments layout.table_bytes rows) (sym (append-nil parts)) cut;
     built = put.made;
   };
+  prefixes = prefixes;
+  segments = segments;
+  stand = stand;
   taken = put.taken;
 }
 
+-- all tables are some first ones
+pub put_may : (m : Meaning) (layout : Layout) (number barrier : ℕ) (layers : List Rows) (ts : List (Ulid × List ℕ)) (runs : List SortedRun) (before after : Option Objects) → IsPut m layout number barrier layers ts runs before after →
+    MayTakeTables (AreSomeOfFlush m layout number barrier layers) before after
+put_may m layout number barrier layers ts runs None after put = tt
+put_may m layout number barrier layers ts runs (Some os) after put = inr (ts, ([], put.made), put.taken)
+
 pub some_of_flush : (m : Meaning) (layout : Layout) (number barrier : ℕ) (layers : List Rows) (rows : Rows) (parts : List Rows) (before after : Option Objects) → 0 < length rows → IsFolded m barrier layers rows → AreInOrder rows →
-    AreCut layout.table_bytes rows parts → MayTakeTables (AreFirstParts m.encode layout number parts) before after → MayTakeTables (AreSomeOfFlush m layout number barrier layers) before after
+    AreCut layout.segments layout.table_bytes rows parts → MayTakeTables (AreFirstParts m.encode layout number parts) before after → MayTakeTables (AreSomeOfFlush m layout number barrier layers) before after
 some_of_flush m layout number barrier layers rows parts before after some folded order cut may =
     may_as (AreFirstParts m.encode layout number parts) (AreSomeOfFlush m layout number barrier layers) before after
-    (λ ts p. (p.left, record { rows = rows; some = some; folded = folded; order = order; parts = p.done; cut = subst (AreCut layout.table_bytes rows) (sym p.split) cut; built = p.made })) may
+    (λ ts p. (p.left, record { rows = rows; some = some; folded = folded; order = order; parts = p.done; cut = subst (AreCut layout.segments layout.table_bytes rows) (sym p.split) cut; built = p.made })) may
 
-pub has_too_large : (layout : Layout) (rows : Rows) (parts : List Rows) (e : SlateDBError) → AreCut layout.table_bytes rows parts → IsPartTooLarge layout parts e → HasTooLarge layout rows e
-has_too_large layout rows parts e cut p = record { before = p.before; table = p.table; behind = p.behind; cut = subst (AreCut layout.table_bytes rows) (sym p.split) cut; large = p.large }
+pub has_too_large : (layout : Layout) (rows : Rows) (parts : List Rows) (e : SlateDBError) → AreCut layout.segments layout.table_bytes rows parts → IsPartTooLarge layout parts e → HasTooLarge layout rows e
+has_too_large layout rows parts e cut p = record { before = p.before; table = p.table; behind = p.behind; cut = subst (AreCut layout.segments layout.table_bytes rows) (sym p.split) cut; large = p.large }
 
 -- ---- of results
 

@@ -22,8 +22,7 @@ use Rattle.slate_table.specs.Parts.{Encode}
 use Rattle.slate_table.proofs.TableFinds.{outside_none}
 use Rattle.slate_read.specs.declared.sorted_run.SortedRun.{SortedRun}
 use Rattle.slate_read.specs.Merge.{all_rows}
-use Rattle.slate_txn.specs.declared.event.Event.{Event}
-use Rattle.slate_db.specs.Installs.{AreApart, AreHandles, AreRuns, EndsBelow, Holds, runs_of, tables_of}
+use Rattle.slate_db.specs.Installs.{AreApart, AreHandles, AreRuns, AreRunsOf, EndsBelow, Holds}
 use Rattle.slate_db.specs.Lookup.{AreStored}
 use Rattle.slate_db.specs.Meaning.{Meaning, IsLawfulMeaning}
 use Rattle.slate_db.specs.Model.{Rows, memory, versions, versions_in}
@@ -33,7 +32,6 @@ use Rattle.slate_db.specs.Sound.{AreTables}
 use Rattle.slate_db.proofs.Gets.{all_stored}
 use Rattle.slate_db.proofs.KeyRows.{filter_swap}
 use Rattle.slate_db.proofs.Lists.{all_behind, all_front}
-use Rattle.slate_db.proofs.RunsOf.{tables_are}
 
 -- ---- one list for each layer
 
@@ -236,8 +234,8 @@ group_all m (ts ∷ runs) layers tables =
     let g = group_all m runs c.back c.last in
     record { groups = c.front ∷ g.groups; is = c.is ∙ ap (λ ls. c.front ++ ls) g.is; tables = (c.first, g.tables) }
 
-pub grouped : (m : Meaning) (es : List Event) (layers : List Rows) → AreTables m (tables_of es) layers → Grouped m (runs_of es) layers
-grouped m es layers tables = group_all m (runs_of es) layers (subst (λ (ts : List (Ulid × List ℕ)). AreTables m ts layers) (tables_are es) tables)
+pub grouped : (m : Meaning) (ts : List (Ulid × List ℕ)) (kept : List SortedRun) (are : AreRunsOf ts kept) (layers : List Rows) → AreTables m ts layers → Grouped m are.groups layers
+grouped m ts kept are layers tables = group_all m are.groups layers (subst (λ (us : List (Ulid × List ℕ)). AreTables m us layers) (sym are.are) tables)
 
 pub have_runs : (m : Meaning) (range : BytesRange) (runs : List (List (Ulid × List ℕ))) (kept : List SortedRun) (groups : List (List Rows)) (lists : List Rows) → AreTablesOfRuns m runs groups → AreRuns runs kept →
     BringEach range (reverse (in_one groups)) lists → HaveRows range (flat_map (λ layers. layers) groups) lists
@@ -246,9 +244,9 @@ have_runs m range runs kept groups lists tables are h k =
 
 -- the lists of memtables, the newest first, and then those of runs have the rows of all layers of a core
 pub have_all : ListsHaveAllRows
-have_all m c x w layers groups is tables range in_memory in_runs h g =
+have_all m c x w runs are layers groups is tables range in_memory in_runs h g =
     have_both range layers (memory c) in_runs in_memory
-    (subst (λ (ls : List Rows). HaveRows range ls in_runs) (sym is) (have_runs m range (runs_of c.events) x.runs groups in_runs tables w.tied.runs g))
+    (subst (λ (ls : List Rows). HaveRows range ls in_runs) (sym is) (have_runs m range runs x.runs groups in_runs tables are g))
     (have_each range (memory c) in_memory h)
 
 -- the objects that hold the tables hold those of each run

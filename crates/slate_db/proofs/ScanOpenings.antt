@@ -186,11 +186,11 @@ module _ (m : Meaning) (c : CoreModel) (x : Unseen) (w : IsWhole c x) (law : IsL
   abbrev layers : List Rows
   layers = (kept_m.1 law).layers
 
-  runs_of_core : Grouped m (runs_of c.events) layers
-  runs_of_core = grouped m c.events layers (kept_m.1 law).tables
+  runs_of_core : Grouped m w.tied.runs.groups layers
+  runs_of_core = grouped m (tables_of c.events) x.runs w.tied.runs layers (kept_m.1 law).tables
 
   stored : (os : Objects) → Holds os (tables_of c.events) → AreStoredRuns m os x.runs runs_of_core.groups
-  stored os holds = stored_runs m law os (runs_of c.events) x.runs runs_of_core.groups runs_of_core.tables w.tied.runs (subst (Holds os) (tables_are c.events) holds)
+  stored os holds = stored_runs m law os w.tied.runs.groups x.runs runs_of_core.groups runs_of_core.tables w.tied.runs.each (subst (Holds os) (sym w.tied.runs.are) holds)
 
   runs_paths : (os : Objects) (runs : List (List (Ulid × List ℕ))) (kept : List SortedRun) (groups : List (List Rows)) (s : AreStoredRuns m os kept groups) → AreRuns runs kept → map (λ e. e.0) (held_runs m os kept groups s) ≡ paths_of (flat_map (λ ts. ts) runs)
   runs_paths os [] [] [] s are = refl
@@ -217,8 +217,10 @@ module _ (m : Meaning) (c : CoreModel) (x : Unseen) (w : IsWhole c x) (law : IsL
   here os holds =
       let s = stored os holds in
       let h = held_runs m os x.runs runs_of_core.groups s in
-      runs_here m os (world_at os holds) (runs_of c.events) x.runs runs_of_core.groups s w.tied.runs refl refl
-      (all_found [] h (subst (AreNew []) (sym (runs_paths os (runs_of c.events) x.runs runs_of_core.groups s w.tied.runs)) (runs_new 1 [] (runs_of c.events) tt w.log.numbered few)))
+      runs_here m os (world_at os holds) w.tied.runs.groups x.runs runs_of_core.groups s w.tied.runs.each refl refl
+      (all_found [] h
+      (subst (AreNew []) (sym (runs_paths os w.tied.runs.groups x.runs runs_of_core.groups s w.tied.runs.each))
+      (subst (λ (ts : List (Ulid × List ℕ)). AreNew [] (paths_of ts)) (sym (tables_are c.events) ∙ sym w.tied.runs.are) (runs_new 1 [] (runs_of c.events) tt w.log.numbered few))))
 
   memory_plain : m.combine ≡ None → AllByRecursion AreBases (memory c)
   memory_plain none = memory_bases m c none kept_m.0 kept_m.2
@@ -298,5 +300,5 @@ module _ (m : Meaning) (c : CoreModel) (x : Unseen) (w : IsWhole c x) (law : IsL
           (all_of_merged (λ r. in_range range r.key ≡ true) (own_within range ops own_list own_in.rows) (every_within (memory c)) (every_within (in_one runs_of_core.groups)));
       left = ap (λ (ls : List Rows). filter has_value (folded (operator_at m.combine) true None (merged order true ls))) rows_are
           ∙ core_scans m c x w law kept_m layers (kept_m.1 law).tables n from ops fine range own_list lists own_in.rows
-          (have_all m c x w layers runs_of_core.groups runs_of_core.is runs_of_core.tables range (rests v order are.in_memory) (rests v order are.in_runs) in_memory.bring in_runs.bring) order;
+          (have_all m c x w w.tied.runs.groups w.tied.runs.each layers runs_of_core.groups runs_of_core.is runs_of_core.tables range (rests v order are.in_memory) (rests v order are.in_runs) in_memory.bring in_runs.bring) order;
     }

@@ -25,7 +25,7 @@ use Rattle.slate_txn.specs.Replay.{replay, apply}
 use Rattle.slate_txn.specs.State.{Commit, Tx, begun, opening, last_of}
 use Rattle.slate_txn.specs.Step.{noted, with_op}
 use Rattle.slate_db.specs.Flushed.{after_install}
-use Rattle.slate_db.specs.Installs.{as_begun, runs_of, installed, IsRun, AreRuns, Replays}
+use Rattle.slate_db.specs.Installs.{as_begun, installed, tables_of, AreRunsOf, Replays}
 use Rattle.slate_db.specs.Layers.{AreLayers}
 use Rattle.slate_db.specs.Log.{IsLog, ends_of}
 use Rattle.slate_db.specs.Managed.{IsManaged, IsShown}
@@ -40,11 +40,10 @@ use Rattle.slate_db.proofs.Journals.{apply_more}
 use Rattle.slate_db.proofs.Keeps.{kept_event, kept_rows}
 use Rattle.slate_db.proofs.Operands.{own_without}
 use Rattle.slate_db.proofs.Lists.{all_more, all_map, all_both, all_front, all_behind, none_behind}
-use Rattle.slate_db.proofs.Logs.{tables_same}
+use Rattle.slate_db.proofs.Logs.{tables_more, tables_same}
 use Rattle.slate_db.proofs.Managing.{managed_begun, managed_changed}
 use Rattle.slate_db.proofs.MemoryLayers.{versions_frozen}
-use Rattle.slate_db.proofs.Runs.{run_more}
-use Rattle.slate_db.proofs.RunsOf.{runs_more, runs_same}
+use Rattle.slate_db.proofs.Runs.{runs_both}
 use Rattle.slate_db.proofs.Quiet.{quiet_more, quiet_frozen}
 use Rattle.slate_db.proofs.Split.{all_up_to}
 use Rattle.slate_txn.proofs.BarrierLaws.{start_begins, start_shows, start_within}
@@ -85,7 +84,7 @@ whole_first c x log layers e cs ts ss hs a f z m k = record {
     shows = subst (λ (ps : List (List ℕ × ℕ)). AllByRecursion (ShowsWithin c.floor x.last) ps) (sym ss) tt;
     own = subst (λ (ps : List (List ℕ × Tx)). AllByRecursion (λ p. p.1.ops ≡ own_of p.1.transcript) ps) (sym ts) tt;
     all_installed = λ active frozen. ap (up_to (installed c.events)) cs ∙ sym cs;
-    runs = subst (λ (ks : List SortedRun). AreRuns (runs_of c.events) ks) (sym hs) (subst (λ (es : List Event). AreRuns (runs_of es) []) (sym e) tt);
+    runs = subst (λ (ks : List SortedRun). AreRunsOf (tables_of c.events) ks) (sym hs) (subst (λ (es : List Event). AreRunsOf (tables_of es) []) (sym e) (record { groups = []; are = refl; each = tt }));
     quiet = λ idle. subst IsQuiet (sym e) refl;
     manager = subst (λ (ks : List Commit). IsManaged x.manager x.ids x.last ks c.state.txns) (sym cs) (subst (λ (ps : List (List ℕ × Tx)). IsManaged x.manager x.ids x.last [] ps) (sym ts) m);
     rows_within = subst (λ (rows : Rows). AllByRecursion (λ rows. AllByRecursion (λ r. r.seq ≤ x.last) rows) (c.frozen ++ (rows ∷ []))) (sym a)
@@ -121,7 +120,7 @@ whole_begin c x level spare n managed stands log w = record {
     shows = w.tied.shows;
     own = all_more (λ (p : List ℕ × Tx). p.1.ops ≡ own_of p.1.transcript) c.state.txns (id, begun level x.last) w.tied.own refl;
     all_installed = λ active frozen. rw (ap (λ s. s.flushed) more) (w.tied.all_installed active frozen);
-    runs = subst (λ (rs : List (List (Ulid × List ℕ))). AreRuns rs x.runs) (sym (runs_same c.events e refl)) w.tied.runs;
+    runs = subst (λ (ts : List (Ulid × List ℕ)). AreRunsOf ts x.runs) (sym (tables_same c.events e refl)) w.tied.runs;
     quiet = λ idle. quiet_more c.events e refl refl (w.tied.quiet idle);
     manager = managed_begun x.manager n x.ids x.last c.state.commits c.state.txns id level managed stands w.tied.manager;
     rows_within = w.tied.rows_within;
@@ -194,7 +193,7 @@ whole_snapshot c x spare n shown log w = record {
     shows = all_more _ _ _ w.tied.shows (w.tied.floor_within, omega arith);
     own = w.tied.own;
     all_installed = λ active frozen. rw (ap (λ s. s.flushed) more) (w.tied.all_installed active frozen);
-    runs = subst (λ (rs : List (List (Ulid × List ℕ))). AreRuns rs x.runs) (sym (runs_same c.events e refl)) w.tied.runs;
+    runs = subst (λ (ts : List (Ulid × List ℕ)). AreRunsOf ts x.runs) (sym (tables_same c.events e refl)) w.tied.runs;
     quiet = λ idle. quiet_more c.events e refl refl (w.tied.quiet idle);
     manager = w.tied.manager;
     rows_within = w.tied.rows_within;
@@ -254,7 +253,7 @@ whole_release c x id spare n shown log w = record {
     shows = all_without _ id _ w.tied.shows;
     own = w.tied.own;
     all_installed = λ active frozen. rw (ap (λ s. s.flushed) more) (w.tied.all_installed active frozen);
-    runs = subst (λ (rs : List (List (Ulid × List ℕ))). AreRuns rs x.runs) (sym (runs_same c.events e refl)) w.tied.runs;
+    runs = subst (λ (ts : List (Ulid × List ℕ)). AreRunsOf ts x.runs) (sym (tables_same c.events e refl)) w.tied.runs;
     quiet = λ idle. quiet_more c.events e refl refl (w.tied.quiet idle);
     manager = w.tied.manager;
     rows_within = w.tied.rows_within;
@@ -322,7 +321,7 @@ whole_end c x id spare n managed log w = record {
     shows = w.tied.shows;
     own = all_without _ id _ w.tied.own;
     all_installed = λ active frozen. rw (ap (λ s. s.flushed) more) (w.tied.all_installed active frozen);
-    runs = subst (λ (rs : List (List (Ulid × List ℕ))). AreRuns rs x.runs) (sym (runs_same c.events e refl)) w.tied.runs;
+    runs = subst (λ (ts : List (Ulid × List ℕ)). AreRunsOf ts x.runs) (sym (tables_same c.events e refl)) w.tied.runs;
     quiet = λ idle. quiet_more c.events e refl refl (w.tied.quiet idle);
     manager = managed;
     rows_within = w.tied.rows_within;
@@ -403,7 +402,7 @@ whole_freeze c x spare freeze log layers w = record {
     shows = w.tied.shows;
     own = w.tied.own;
     all_installed = λ active frozen. absurd (none_behind c.frozen c.active frozen);
-    runs = subst (λ (rs : List (List (Ulid × List ℕ))). AreRuns rs x.runs) (sym (runs_same c.events events.Freeze refl)) w.tied.runs;
+    runs = subst (λ (ts : List (Ulid × List ℕ)). AreRunsOf ts x.runs) (sym (tables_same c.events events.Freeze refl)) w.tied.runs;
     quiet = λ idle. quiet_frozen c.events;
     manager = w.tied.manager;
     rows_within = all_more _ (memory c) [] w.tied.rows_within tt;
@@ -440,7 +439,7 @@ whole_write c x now ops rows spare some within n managed log layers w = record {
     shows = all_map _ _ (λ p h. (h.0, let k : p.1 ≤ x.last = h.1 in omega arith)) _ w.tied.shows;
     own = w.tied.own;
     all_installed = λ active frozen. absurd (some active);
-    runs = subst (λ (rs : List (List (Ulid × List ℕ))). AreRuns rs x.runs) (sym (runs_same c.events e refl)) w.tied.runs;
+    runs = subst (λ (ts : List (Ulid × List ℕ)). AreRunsOf ts x.runs) (sym (tables_same c.events e refl)) w.tied.runs;
     quiet = λ idle. absurd (some idle);
     manager = managed;
     rows_within = all_more _ c.frozen rows (all_map _ _ (λ layer h. all_map _ _ higher layer h) c.frozen (all_front _ c.frozen (c.active ∷ []) w.tied.rows_within)) within;
@@ -458,13 +457,13 @@ whole_write c x now ops rows spare some within n managed log layers w = record {
 
 -- ---- an install
 
-abbrev pub with_run : Unseen → SortedRun → ℕ → ℕ → Unseen
-with_run x run freeze room = record x { installs = x.installs + 1; runs = x.runs ++ (run ∷ []); for_freeze = freeze; for_run = room }
+abbrev pub with_runs : Unseen → List SortedRun → ℕ → Unseen
+with_runs x runs freeze = record x { installs = x.installs + 1; runs = x.runs ++ runs; for_freeze = freeze }
 
-pub whole_install : (c : CoreModel) (x : Unseen) (ts : List (Ulid × List ℕ)) (run : SortedRun) (spare freeze room : ℕ) → IsRun ts run →
-    IsLog (log_of (after_install c x.last ts spare) (with_run x run freeze room)) → AreLayers (layers_of (after_install c x.last ts spare) (with_run x run freeze room)) → IsWhole c x →
-    IsWhole (after_install c x.last ts spare) (with_run x run freeze room)
-whole_install c x ts run spare freeze room kept log layers w = record {
+pub whole_install : (c : CoreModel) (x : Unseen) (ts : List (Ulid × List ℕ)) (runs : List SortedRun) (spare freeze : ℕ) → AreRunsOf ts runs →
+    IsLog (log_of (after_install c x.last ts spare) (with_runs x runs freeze)) → AreLayers (layers_of (after_install c x.last ts spare) (with_runs x runs freeze)) → IsWhole c x →
+    IsWhole (after_install c x.last ts spare) (with_runs x runs freeze)
+whole_install c x ts runs spare freeze kept log layers w = record {
   log = log;
   layers = layers;
   tied = record {
@@ -477,7 +476,7 @@ whole_install c x ts run spare freeze room kept log layers w = record {
     shows = all_both _ _ _ (λ p h k. (h, k.1)) c.state.snapshots (start_shows x.last c.state) w.tied.shows;
     own = w.tied.own;
     all_installed = λ active frozen. ap (λ i. up_to i c.state.commits) (ap (λ s. s.flushed) more) ∙ all_up_to c.settings.start_seq x.last c.state.commits w.log.rising (let l : x.last ≡ last_of c.settings.start_seq c.state.commits = w.log.last in omega arith);
-    runs = subst (λ (rs : List (List (Ulid × List ℕ))). AreRuns rs (x.runs ++ (run ∷ []))) (sym (runs_more c.events e)) (run_more (runs_of c.events) x.runs ts run w.tied.runs kept);
+    runs = subst (λ (us : List (Ulid × List ℕ)). AreRunsOf us (x.runs ++ runs)) (sym (tables_more c.events e)) (runs_both (tables_of c.events) ts x.runs runs w.tied.runs kept);
     quiet = λ idle. quiet_more c.events e refl refl (w.tied.quiet idle);
     manager = w.tied.manager;
     rows_within = all_behind _ c.frozen (c.active ∷ []) w.tied.rows_within;
@@ -513,8 +512,8 @@ whole_flushed c x log w = record {
 }
 
 -- room was made in the parts
-pub whole_room : (c : CoreModel) (x : Unseen) (spare freeze room : ℕ) → IsLog (log_of (record c { spare = spare }) x) → IsWhole c x → IsWhole (record c { spare = spare }) (record x { for_freeze = freeze; for_run = room })
-whole_room c x spare freeze room log w = record {
+pub whole_room : (c : CoreModel) (x : Unseen) (spare freeze : ℕ) → IsLog (log_of (record c { spare = spare }) x) → IsWhole c x → IsWhole (record c { spare = spare }) (record x { for_freeze = freeze })
+whole_room c x spare freeze log w = record {
   log = log;
   layers = record { active_order = w.layers.active_order; frozen_order = w.layers.frozen_order; frozen_some = w.layers.frozen_some; fit = w.layers.fit; rise = w.layers.rise };
   tied = record {

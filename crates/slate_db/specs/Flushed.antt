@@ -2,12 +2,13 @@
 --     IsFolded m b layers out      within each key, the rows up to the barrier became their fold, and the later ones stay
 --     CanFlush layers      there are memtables, each with rows, which fit a table and of each key rise from memtable to memtable
 --     events_of_flush active frozen      how many events a flush adds
---     Layout, layout_of options policies      how a flush cuts and spells rows, and which filters their tables get
+--     Layout, layout_of options policies segments      how a flush cuts and spells rows, and which filters their tables get
 --     IsTableAt .. place rows t, AreTablesAt      a table is built of these rows, under the id of its flush and its place; tables are, one of each list
 --     AreFirstTables .. left tables      the folded rows are cut into tables, of which these are the first, and the rows of the others are left
 --     AreTablesOfFlush, AreSomeOfFlush      these are all of them; or some first ones
 --     with_tables os ts, TakesTables ts before after      objects with these tables at their paths, in order; the store took them
 --     MayTakeTables P before after      the store is as it was, or took such tables
+--     StandInRuns prefixes runs      of the prefixes of tables, in their order: neighbouring tables stand in one run exactly where they have one prefix, which is the run's
 --     IsPut ..      the tables of a flush were put, and these are what an install names and what is kept of them
 --     IsTooLarge layout rows e      a table of some first of the rows would have too many blocks
 --     HasTooLarge layout rows e      so would one of the tables into which the rows are cut
@@ -21,7 +22,7 @@
 --     Flushes layout before after old new n      a flush behind its freeze
 --     MayPut layout before after c      what a refused flush leaves of the objects
 --     IsFlushError layout before after c e      a fault that came in the flush, or want of memory, of a place or of an operator, or too much in memory
-use Rattle.std.specs.Prelude.{◌≡◌, ℕ, ◌+◌, ◌-◌, ◌^◌, ◌<◌, ◌⊎◌, true, List, [], ◌∷◌, ◌++◌, map, length, option_to_list, Option, Some, None, IfSome}
+use Rattle.std.specs.Prelude.{◌≡◌, ◌≢◌, ℕ, ◌+◌, ◌-◌, ◌^◌, ◌<◌, ◌⊎◌, true, List, [], ◌∷◌, ◌++◌, map, length, option_to_list, Option, Some, None, IfSome}
 use Rattle.std.specs.List.{AllByRecursion}
 use Rattle.slate_types.specs.declared.error.SlateDBError.{SlateDBError}
 use Rattle.slate_types.specs.declared.error.SlateDBError.TheVariants.{LimitReached, MergeOperatorMissing}
@@ -30,6 +31,7 @@ use Rattle.slate_types.specs.declared.config.Options.{Options}
 use Rattle.slate_types.specs.Fold.{fold_rows}
 use Rattle.slate_types.specs.Outside.{Objects, IsFault, Reach}
 use Rattle.slate_block.specs.BlockSpelling.{as_read}
+use Rattle.slate_mem.specs.KeyTests.{Segments}
 use Rattle.slate_mem.specs.Lookup.{is_merge_among, newest_first}
 use Rattle.slate_store.specs.Store.{with_object}
 use Rattle.slate_filter.specs.Policy.{Policy}
@@ -41,12 +43,12 @@ use Rattle.slate_txn.specs.declared.event.Event.TheVariants as events
 use Rattle.slate_txn.specs.Open.{least_start}
 use Rattle.slate_txn.specs.State.{last_of}
 use Rattle.slate_read.specs.declared.sorted_run.SortedRun.{SortedRun}
-use Rattle.slate_db.specs.Cut.{AreCut}
+use Rattle.slate_db.specs.Cut.{AreCut, AreOfSegments}
 use Rattle.slate_db.specs.Load.{load, weight}
 use Rattle.slate_db.specs.Meaning.{Meaning, combine_of}
 use Rattle.slate_db.specs.Model.{CoreModel, Rows, memory, versions, versions_in}
 use Rattle.slate_db.specs.Sound.{at_most, later}
-use Rattle.slate_db.specs.Installs.{runs_of, root, IsRun}
+use Rattle.slate_db.specs.Installs.{runs_of, root, prefixes_of, AreRunsOf}
 use Rattle.slate_db.specs.Layers.{FitsMemory, AreRising}
 use Rattle.slate_db.specs.Log.{LIMIT}
 use Rattle.slate_table.specs.Paths.{path_of, table_id}
@@ -66,21 +68,24 @@ events_of_flush [] [] = 0
 events_of_flush [] (rows ∷ layers) = 1
 events_of_flush (r ∷ rs) layers = 2
 
--- the options of a flush: the blocks' size, the version, the size of a table, from how many rows on a table has filters, and those that make them
+-- the options of a flush: the blocks' size, the version, the size of a table, from how many rows on a table has filters, those that make them, and
+-- what gives keys their segments
 pub record Layout : Type 0 where
   pub block_size : ℕ
   pub version : ℕ
   pub table_bytes : ℕ
   pub min_filter_keys : ℕ
   pub policies : List Policy
+  pub segments : Segments
 
-abbrev pub layout_of : Options → List Policy → Layout
-layout_of o policies = record {
+abbrev pub layout_of : Options → List Policy → Segments → Layout
+layout_of o policies segments = record {
   block_size = o.block_size;
   version = version_of o.block_format;
   table_bytes = o.table_bytes;
   min_filter_keys = o.min_filter_keys;
   policies = policies;
+  segments = segments;
 }
 
 -- the version reads the rows as they were
@@ -104,7 +109,7 @@ pub record AreFirstTables (m : Meaning) (layout : Layout) (number barrier : ℕ)
   pub folded : IsFolded m barrier layers rows
   pub order : AreInOrder rows
   pub parts : List Rows
-  pub cut : AreCut layout.table_bytes rows (parts ++ left)
+  pub cut : AreCut layout.segments layout.table_bytes rows (parts ++ left)
   pub built : AreTablesAt m.encode layout number 0 parts tables
 
 abbrev pub AreTablesOfFlush : Meaning → Layout → ℕ → ℕ → List Rows → List (Ulid × List ℕ) → Type 0
@@ -120,9 +125,23 @@ with_tables os (t ∷ ts) = with_tables (with_object os (path_of root t.0.0) t.1
 abbrev pub TakesTables : List (Ulid × List ℕ) → Option Objects → Option Objects → Type 0
 TakesTables ts before after = IfSome before (λ os. after ≡ Some (with_tables os ts))
 
-pub record IsPut (m : Meaning) (layout : Layout) (number barrier : ℕ) (layers : List Rows) (tables : List (Ulid × List ℕ)) (run : SortedRun) (before after : Option Objects) : Type 0 where
-  pub kept : IsRun tables run
+abbrev pub Differ : List SortedRun → Type 0
+Differ [] = Unit {0}
+Differ (run ∷ []) = Unit {0}
+Differ (run ∷ (next ∷ runs)) = (run.prefix ≢ next.prefix) × Differ (next ∷ runs)
+
+-- prefixes: one for each table
+pub record StandInRuns (prefixes : List (List ℕ)) (runs : List SortedRun) : Type 0 where
+  pub each : prefixes_of runs ≡ prefixes
+  pub some : AllByRecursion (λ run. 0 < length run.tables.items) runs
+  pub differ : Differ runs
+
+pub record IsPut (m : Meaning) (layout : Layout) (number barrier : ℕ) (layers : List Rows) (tables : List (Ulid × List ℕ)) (runs : List SortedRun) (before after : Option Objects) : Type 0 where
+  pub kept : AreRunsOf tables runs
   pub made : AreTablesOfFlush m layout number barrier layers tables
+  pub prefixes : List (List ℕ)
+  pub segments : AreOfSegments layout.segments made.parts prefixes
+  pub stand : StandInRuns prefixes runs
   pub taken : TakesTables tables before after
 
 abbrev pub MayTakeTables : (List (Ulid × List ℕ) → Type 0) → Option Objects → Option Objects → Type 0
@@ -139,7 +158,7 @@ pub record HasTooLarge (layout : Layout) (rows : Rows) (e : SlateDBError) : Type
   pub before : List Rows
   pub table : Rows
   pub behind : List Rows
-  pub cut : AreCut layout.table_bytes rows (before ++ (table ∷ behind))
+  pub cut : AreCut layout.segments layout.table_bytes rows (before ++ (table ∷ behind))
   pub large : IsTooLarge layout table e
 
 abbrev pub after_install : CoreModel → ℕ → List (Ulid × List ℕ) → ℕ → CoreModel

@@ -7,12 +7,14 @@
 --     NumberedFrom i runs      each install names the tables of its flush from the place 0 on, and flushes are numbered from i
 --     IsHandle t h, AreHandles ts hs      what is kept of a table, and of tables: the id, and the version, which is 1 or 2, and the info that the bytes have; these are bytes
 --     AreApart hs      tables rise by key, and no key is in two of them
---     IsRun ts run, AreRuns runs kept      what is kept of the tables of an install, and of those of several: they are apart, and have no prefix
---     handles_of runs      what is kept of all their tables
+--     BeginsWith prefix h      the first and the last key of a table begin with the prefix, and so do those between
+--     IsRun ts run, AreRuns groups runs      what is kept of the tables of a run, and of those of several: they are apart, and their keys begin with its prefix
+--     AreRunsOf ts runs      what is kept of the tables, which stand in runs
+--     handles_of runs, prefixes_of runs      what is kept of all their tables, and for each the prefix of its run
 --     root      the folder of the store's objects
 --     HoldsTables objects es      each table that the journal's installs name lies in the store, with the bytes that they name
-use Rattle.std.specs.Prelude.{◌≡◌, ◌⊎◌, ℕ, ◌+◌, ◌<◌, ◌^◌, true, List, [], ◌∷◌, map, flat_map, Option, Some, None, codes}
-use Rattle.std.specs.List.{AllByRecursion}
+use Rattle.std.specs.Prelude.{◌≡◌, ◌⊎◌, ℕ, ◌+◌, ◌<◌, ◌^◌, true, nat_eq, List, [], ◌∷◌, map, flat_map, Option, Some, None, codes}
+use Rattle.std.specs.List.{AllByRecursion, starts_with}
 use Rattle.slate_types.specs.declared.types.Ulid.{Ulid}
 use Rattle.slate_types.specs.Keys.{key_lt}
 use Rattle.slate_types.specs.Outside.{Objects}
@@ -86,19 +88,36 @@ abbrev pub AreApart : List SsTableHandle → Type 0
 AreApart [] = Unit {0}
 AreApart (h ∷ hs) = AllByRecursion (EndsBelow h) hs × AreApart hs
 
+pub record BeginsWith (prefix : List ℕ) (h : SsTableHandle) : Type 0 where
+  pub first : List ℕ
+  pub last : List ℕ
+  pub begins : h.info.first_entry ≡ Some first
+  pub ends : h.info.last_entry ≡ Some last
+  pub first_begins : starts_with nat_eq first prefix ≡ true
+  pub last_begins : starts_with nat_eq last prefix ≡ true
+
 pub record IsRun (ts : List (Ulid × List ℕ)) (run : SortedRun) : Type 0 where
-  pub prefix : run.prefix ≡ []
+  pub begin : AllByRecursion (BeginsWith run.prefix) run.tables.items
   pub handles : AreHandles ts run.tables.items
   pub apart : AreApart run.tables.items
 
 abbrev pub AreRuns : List (List (Ulid × List ℕ)) → List SortedRun → Type 0
 AreRuns [] [] = Unit {0}
-AreRuns (ts ∷ runs) (run ∷ kept) = IsRun ts run × AreRuns runs kept
-AreRuns [] (run ∷ kept) = ⊥
-AreRuns (ts ∷ runs) [] = ⊥
+AreRuns (ts ∷ groups) (run ∷ runs) = IsRun ts run × AreRuns groups runs
+AreRuns [] (run ∷ runs) = ⊥
+AreRuns (ts ∷ groups) [] = ⊥
+
+-- groups: the tables of each run
+pub record AreRunsOf (ts : List (Ulid × List ℕ)) (runs : List SortedRun) : Type 0 where
+  pub groups : List (List (Ulid × List ℕ))
+  pub are : flat_map (λ group. group) groups ≡ ts
+  pub each : AreRuns groups runs
 
 abbrev pub handles_of : List SortedRun → List SsTableHandle
 handles_of runs = flat_map (λ run. run.tables.items) runs
+
+abbrev pub prefixes_of : List SortedRun → List (List ℕ)
+prefixes_of runs = flat_map (λ run. map (λ h. run.prefix) run.tables.items) runs
 
 abbrev pub root : List ℕ
 root = codes "db"

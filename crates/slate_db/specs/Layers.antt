@@ -25,15 +25,14 @@ abbrev pub AreRising : Rows → Type 0
 AreRising [] = Unit {0}
 AreRising (r ∷ rs) = AllByRecursion (λ s. r.seq < s.seq) rs × AreRising rs
 
--- frozen: the oldest memtable first; runs: what is kept of the tables of each install, the newest last; floor: the greatest barrier of a flush so far;
--- for_freeze, for_run: how many more of each are taken without memory
+-- frozen: the oldest memtable first; runs: what is kept of runs of tables, those of the newest install last; floor: the greatest barrier of a flush so far;
+-- for_freeze: how many more memtables are frozen without memory
 pub record LayersModel : Type 0 where
   pub active : Rows
   pub frozen : List Rows
   pub runs : List SortedRun
   pub floor : ℕ
   pub for_freeze : ℕ
-  pub for_run : ℕ
 
 abbrev pub in_memory : LayersModel → List Rows
 in_memory y = y.frozen ++ (y.active ∷ [])

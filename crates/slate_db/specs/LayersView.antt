@@ -10,5 +10,4 @@ layers_view s = record {
   runs = s.runs.items;
   floor = s.floor;
   for_freeze = vec_capacity s.frozen - vec_len s.frozen;
-  for_run = vec_capacity s.runs - vec_len s.runs;
 }

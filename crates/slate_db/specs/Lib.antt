@@ -14,6 +14,7 @@ pub mod Whole
 pub mod Frozen
 pub mod Load
 pub mod Flushed
+pub mod FlushLaws
 pub mod StoredParts
 pub mod Written
 pub mod Committed

@@ -2,10 +2,11 @@
 use Rattle.std.specs.Prelude.{◌≡◌, ℕ, ◌≤◌, List, ◌++◌, flat_map, reverse}
 use Rattle.slate_types.specs.declared.bytes_range.BytesRange.{BytesRange}
 use Rattle.slate_types.specs.declared.iter.IterationOrder.{IterationOrder}
+use Rattle.slate_types.specs.declared.types.Ulid.{Ulid}
 use Rattle.slate_mem.specs.Batch.{Ops}
 use Rattle.slate_txn.specs.Reads.{rows_seen}
 use Rattle.slate_txn.specs.State.{Rules, Commit}
-use Rattle.slate_db.specs.Installs.{runs_of, tables_of}
+use Rattle.slate_db.specs.Installs.{AreRuns, tables_of}
 use Rattle.slate_db.specs.Log.{AreFine}
 use Rattle.slate_db.specs.Meaning.{Meaning, IsLawfulMeaning, rules_of}
 use Rattle.slate_db.specs.Model.{CoreModel, Rows, memory}
@@ -26,5 +27,5 @@ ScansOfCoreShowWhatIsSeen = (m : Meaning) (c : CoreModel) (x : Unseen) → IsWho
 
 -- A list for each memtable and then one for each run, the newest first, have the rows of all layers: no key is in two tables of a run.
 abbrev pub ListsHaveAllRows : Type 0
-ListsHaveAllRows = (m : Meaning) (c : CoreModel) (x : Unseen) → IsWhole c x → (layers : List Rows) (groups : List (List Rows)) → layers ≡ flat_map (λ ls. ls) groups → AreTablesOfRuns m (runs_of c.events) groups →
+ListsHaveAllRows = (m : Meaning) (c : CoreModel) (x : Unseen) → IsWhole c x → (tables : List (List (Ulid × List ℕ))) → AreRuns tables x.runs → (layers : List Rows) (groups : List (List Rows)) → layers ≡ flat_map (λ ls. ls) groups → AreTablesOfRuns m tables groups →
     (range : BytesRange) (in_memory in_runs : List Rows) → BringEach range (reverse (memory c)) in_memory → BringEach range (reverse (in_one groups)) in_runs → HaveRows range (layers ++ memory c) (in_memory ++ in_runs)

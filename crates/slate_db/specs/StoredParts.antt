@@ -5,12 +5,14 @@
 --     IsOneTable ..      such a table alone
 --     ArePartsPut ..      a table of each of the lists of rows was put, and these are kept of them
 --     AreFirstParts ..      tables of some first ones of the lists
+--     IsLastRun prefix old new run      a run was the last one and was taken out, or is none of these and has no table
 --     IsPartTooLarge layout parts e      a table of one of the lists would have too many blocks
-use Rattle.std.specs.Prelude.{◌≡◌, ℕ, ◌<◌, ◌^◌, List, [], ◌∷◌, ◌++◌, length, Option}
+use Rattle.std.specs.Prelude.{◌≡◌, ◌≢◌, ℕ, ◌<◌, ◌^◌, List, [], ◌∷◌, ◌++◌, length, Option}
 use Rattle.std.specs.List.{AllByRecursion}
 use Rattle.slate_types.specs.declared.error.SlateDBError.{SlateDBError}
 use Rattle.slate_types.specs.declared.types.Ulid.{Ulid}
 use Rattle.slate_types.specs.Outside.{Objects}
+use Rattle.slate_read.specs.declared.sorted_run.SortedRun.{SortedRun}
 use Rattle.slate_table.specs.declared.info.SsTableHandle.{SsTableHandle}
 use Rattle.slate_table.specs.Parts.{Encode}
 use Rattle.slate_table.specs.Paths.{table_id}
@@ -54,3 +56,7 @@ pub record IsPartTooLarge (layout : Layout) (parts : List Rows) (e : SlateDBErro
   pub behind : List Rows
   pub split : before ++ (table ∷ behind) ≡ parts
   pub large : IsTooLarge layout table e
+
+pub data IsLastRun (prefix : List ℕ) (old new : List SortedRun) (run : SortedRun) : Type 0 where
+  taken : old ≡ new ++ (run ∷ []) → run.prefix ≡ prefix → IsLastRun prefix old new run
+  made : new ≡ old → run.prefix ≡ prefix → run.tables.items ≡ [] → ((before : List SortedRun) (last : SortedRun) → old ≡ before ++ (last ∷ []) → last.prefix ≢ prefix) → IsLastRun prefix old new run

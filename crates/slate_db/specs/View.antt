@@ -17,7 +17,7 @@ view_of s = record {
 
 -- what of the parts isn't in it
 abbrev pub unseen_of : Inside → Unseen
-unseen_of s = record { last = s.log.last; ids = s.log.ids; snapshot_ids = s.log.snapshot_ids; installs = s.log.installs; ends = s.log.ends; runs = s.layers.runs; for_freeze = s.layers.for_freeze; for_run = s.layers.for_run; manager = s.manager; snapshots = s.snapshots }
+unseen_of s = record { last = s.log.last; ids = s.log.ids; snapshot_ids = s.log.snapshot_ids; installs = s.log.installs; ends = s.log.ends; runs = s.layers.runs; for_freeze = s.layers.for_freeze; manager = s.manager; snapshots = s.snapshots }
 
 abbrev pub IsWholeInside : Inside → Type 0
 IsWholeInside s = IsWhole (view_of s) (unseen_of s)

@@ -14,7 +14,7 @@ use Rattle.slate_txn.specs.Places.{IsQuiet}
 use Rattle.slate_txn.specs.Reads.{up_to}
 use Rattle.slate_txn.specs.Replay.{replay}
 use Rattle.slate_txn.specs.State.{Tx}
-use Rattle.slate_db.specs.Installs.{runs_of, installed, as_begun, AreRuns}
+use Rattle.slate_db.specs.Installs.{tables_of, installed, as_begun, AreRunsOf}
 use Rattle.slate_db.specs.Layers.{LayersModel, AreLayers}
 use Rattle.slate_db.specs.Log.{LogModel, IsLog}
 use Rattle.slate_db.specs.Managed.{IsManaged, IsShown}
@@ -34,7 +34,6 @@ pub record Unseen : Type 0 where
   pub ends : ℕ
   pub runs : List SortedRun
   pub for_freeze : ℕ
-  pub for_run : ℕ
   pub manager : Manager
   pub snapshots : Snapshots
 
@@ -42,7 +41,7 @@ abbrev pub log_of : CoreModel → Unseen → LogModel
 log_of c x = record { start = c.settings.start_seq; last = x.last; flushed = c.state.flushed; ids = x.ids; snapshot_ids = x.snapshot_ids; installs = x.installs; ends = x.ends; commits = c.state.commits; events = c.events; spare = c.spare }
 
 abbrev pub layers_of : CoreModel → Unseen → LayersModel
-layers_of c x = record { active = c.active; frozen = c.frozen; runs = x.runs; floor = c.floor; for_freeze = x.for_freeze; for_run = x.for_run }
+layers_of c x = record { active = c.active; frozen = c.frozen; runs = x.runs; floor = c.floor; for_freeze = x.for_freeze }
 
 pub record AreTied (c : CoreModel) (x : Unseen) : Type 0 where
   pub txns : (replay c.events).txns ≡ map as_begun c.state.txns
@@ -54,7 +53,7 @@ pub record AreTied (c : CoreModel) (x : Unseen) : Type 0 where
   pub shows : AllByRecursion (ShowsWithin c.floor x.last) c.state.snapshots
   pub own : AllByRecursion (λ p. p.1.ops ≡ own_of p.1.transcript) c.state.txns
   pub all_installed : c.active ≡ [] → c.frozen ≡ [] → up_to (installed c.events) c.state.commits ≡ c.state.commits
-  pub runs : AreRuns (runs_of c.events) x.runs
+  pub runs : AreRunsOf (tables_of c.events) x.runs
   pub quiet : c.active ≡ [] → IsQuiet c.events
   pub manager : IsManaged x.manager x.ids x.last c.state.commits c.state.txns
   pub rows_within : AllByRecursion (λ rows. AllByRecursion (λ r. r.seq ≤ x.last) rows) (memory c)

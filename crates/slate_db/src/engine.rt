@@ -37,7 +37,7 @@ ghost use Rattle.slate_txn.specs.Open.{least_start};
 ghost use Rattle.slate_txn.specs.State.{Tx, is_open, opening, last_of};
 ghost use Rattle.slate_txn.specs.Step.{Reader, noted, reader, step, with_op, with_marks, with_unmarks};
 ghost use Rattle.slate_db.specs.Answered.{AddsTables};
-ghost use Rattle.slate_db.specs.Meaning.{Meaning, IsLawfulMeaning, combine_of, rules_of};
+ghost use Rattle.slate_db.specs.Meaning.{Meaning, IsLawfulMeaning, combine_of, rules_of, segments_by};
 ghost use Rattle.slate_db.specs.Frozen.{IsFrozen};
 ghost use Rattle.slate_db.specs.Flushed.{Flushes, IsFlushError, MayPut, NoPlace, NoPlaceToFlush, TooLarge, WantsOperator, events_of_flush, layout_of};
 ghost use Rattle.slate_db.specs.Load.{load, weight};
@@ -334,7 +334,8 @@ impl Core {
         Ok(Some(seq))
     }
 
-    /// Freezes, stores the rows that wait as tables, with the filters of the policies, and gives the newest sequence. Of each key the rows at or below the
+    /// Freezes, stores the rows that wait as tables, each of rows of one segment and with the filters of the policies, and gives the
+    /// newest sequence. Of each key the rows at or below the
     /// barrier, which is the least begin of an open transaction or sequence of an open snapshot, or else the newest sequence,
     /// become their fold. Where no rows are in memory nothing is stored. Refuses by `LimitReached` where the journal has no place
     /// for the events, and then nothing is changed, or where a table would pass a limit; by `StoreFault`, `BlockTransformError` and
@@ -349,11 +350,11 @@ impl Core {
         requires valid { IsValid laws.now.options }
         requires names { AreValidNames (map (λ p. (meaning p).name) laws.now.policies.items) }
         ensures step { IfOk result (λ n. (m : Meaning) → step (rules_of self.old.settings m) self.old.state lines.Flush ≡ (self.new.state, Flushed n)) }
-        ensures installed { let reach = ⟦<EnvOf<S, M, T> as Outside>⟧.reach in IfOk result (λ n. (between : CoreModel) × IsFrozen self.old between × Flushes (layout_of laws.now.options (map (λ p. meaning p) laws.now.policies.items)) (reach env.old) (reach env.new) between self.new n) }
+        ensures installed { let reach = ⟦<EnvOf<S, M, T> as Outside>⟧.reach in IfOk result (λ n. (between : CoreModel) × IsFrozen self.old between × Flushes (layout_of laws.now.options (map (λ p. meaning p) laws.now.policies.items) (segments_by X.lengths laws.now.segments)) (reach env.old) (reach env.new) between self.new n) }
         ensures acts { let reach = ⟦<EnvOf<S, M, T> as Outside>⟧.reach in OnOk result (AddsTables (tables_of self.old.events) (tables_of self.new.events) (reach env.old).acts (reach env.new).acts) }
         ensures taken { OnOk result ((self.new.active ≡ []) × (self.new.frozen ≡ [])) }
         ensures quiet { OnOk result (IsQuiet self.new.events) }
-        ensures refused { let reach = ⟦<EnvOf<S, M, T> as Outside>⟧.reach in OnErr result ((between : CoreModel) × (IsSame self.old between ⊎ IsFrozen self.old between) × IsSame between self.new × MayPut (layout_of laws.now.options (map (λ p. meaning p) laws.now.policies.items)) (reach env.old) (reach env.new) between) }
+        ensures refused { let reach = ⟦<EnvOf<S, M, T> as Outside>⟧.reach in OnErr result ((between : CoreModel) × (IsSame self.old between ⊎ IsFrozen self.old between) × IsSame between self.new × MayPut (layout_of laws.now.options (map (λ p. meaning p) laws.now.policies.items) (segments_by X.lengths laws.now.segments)) (reach env.old) (reach env.new) between) }
         ensures frozen { (result ≡ Err SlateDBError.StoreFault) ⊎ (result ≡ Err SlateDBError.BlockTransformError) ⊎ (result ≡ Err SlateDBError.MergeOperatorMissing) ⊎ ((message : List ℕ) × (result ≡ Err (SlateDBError.Callback message))) → (between : CoreModel) × IsFrozen self.old between × IsSame between self.new }
         ensures full { NoPlaceToFlush self.old → self.new ≡ self.old }
         ensures full_objects { let reach = ⟦<EnvOf<S, M, T> as Outside>⟧.reach in NoPlaceToFlush self.old → (reach env.new).objects ≡ (reach env.old).objects }
@@ -369,7 +370,7 @@ impl Core {
             IsKept m self.old → IfErr result (λ e. e ≢ SlateDBError.MergeOperatorMissing) }
         ensures settings { self.new.settings ≡ self.old.settings }
         ensures limit { NoPlaceToFlush self.old → result ≡ Err (SlateDBError.LimitReached LIMIT) }
-        ensures cause { let reach = ⟦<EnvOf<S, M, T> as Outside>⟧.reach in IfErr result (IsFlushError (layout_of laws.now.options (map (λ p. meaning p) laws.now.policies.items)) (reach env.old) (reach env.new) self.old) }
+        ensures cause { let reach = ⟦<EnvOf<S, M, T> as Outside>⟧.reach in IfErr result (IsFlushError (layout_of laws.now.options (map (λ p. meaning p) laws.now.policies.items) (segments_by X.lengths laws.now.segments)) (reach env.old) (reach env.new) self.old) }
         ensures puts { let reach = ⟦<EnvOf<S, M, T> as Outside>⟧.reach in Puts (reach env.old) (reach env.new) }
     {
         self.place_for_flush()?;
@@ -389,7 +390,7 @@ impl Core {
         self.log.place(self.layers.events_of_flush())
     }
 
-    /// Stores the frozen rows as a run of tables.
+    /// Stores the frozen rows as tables, in a run for each segment.
     fn install<S: Store, M: MergeOperator, T: BlockTransformer, X: PrefixExtractor>(
         &mut self,
         env: &mut Env<'_, S, M, T>,
@@ -401,10 +402,10 @@ impl Core {
         requires some { 0 < length self.old.frozen }
         requires place { weight self.old + 1 ≤ LIMIT }
         ensures newest { IfOk result (λ n. n ≡ last_of self.old.settings.start_seq self.old.state.commits) }
-        ensures installed { let reach = ⟦<EnvOf<S, M, T> as Outside>⟧.reach in IfOk result (Flushes (layout_of laws.now.options (map (λ p. meaning p) laws.now.policies.items)) (reach env.old) (reach env.new) self.old self.new) }
+        ensures installed { let reach = ⟦<EnvOf<S, M, T> as Outside>⟧.reach in IfOk result (Flushes (layout_of laws.now.options (map (λ p. meaning p) laws.now.policies.items) (segments_by X.lengths laws.now.segments)) (reach env.old) (reach env.new) self.old self.new) }
         ensures acts { let reach = ⟦<EnvOf<S, M, T> as Outside>⟧.reach in OnOk result (AddsTables (tables_of self.old.events) (tables_of self.new.events) (reach env.old).acts (reach env.new).acts) }
         ensures same { OnErr result (IsSame self.old self.new) }
-        ensures refused { let reach = ⟦<EnvOf<S, M, T> as Outside>⟧.reach in OnErr result (MayPut (layout_of laws.now.options (map (λ p. meaning p) laws.now.policies.items)) (reach env.old) (reach env.new) self.old) }
+        ensures refused { let reach = ⟦<EnvOf<S, M, T> as Outside>⟧.reach in OnErr result (MayPut (layout_of laws.now.options (map (λ p. meaning p) laws.now.policies.items) (segments_by X.lengths laws.now.segments)) (reach env.old) (reach env.new) self.old) }
         ensures kept { let reach = ⟦<EnvOf<S, M, T> as Outside>⟧.reach in
             let m = (reach env.old).meaning in
             IsKept m self.old → IsKept m self.new }
@@ -413,15 +414,15 @@ impl Core {
             (reach env.old).meaning.combine ≡ None → is_merge_among (newest_first (memory self.old)) ≡ true → IfOk result (λ _. ⊥) }
         ensures cause { let reach = ⟦<EnvOf<S, M, T> as Outside>⟧.reach in
             let m = (reach env.old).meaning in
-            IfErr result (λ e. IsFault (reach env.old) (reach env.new) e ⊎ TooLarge m (layout_of laws.now.options (map (λ p. meaning p) laws.now.policies.items)) self.old e ⊎ WantsOperator m (memory self.old) e) }
+            IfErr result (λ e. IsFault (reach env.old) (reach env.new) e ⊎ TooLarge m (layout_of laws.now.options (map (λ p. meaning p) laws.now.policies.items) (segments_by X.lengths laws.now.segments)) self.old e ⊎ WantsOperator m (memory self.old) e) }
         ensures puts { let reach = ⟦<EnvOf<S, M, T> as Outside>⟧.reach in Puts (reach env.old) (reach env.new) }
     {
         let barrier = self.barrier();
-        self.log.reserve().and(self.layers.reserve_run())?;
+        self.log.reserve()?;
         let number = self.log.next_install();
         let put = stored(self.alloc, self.layers.frozen(), barrier, number, laws, env)?;
+        self.layers.install(put.1, barrier)?;
         self.log.push_install(put.0);
-        self.layers.install(put.1, barrier);
         Ok(self.log.last())
     }
 

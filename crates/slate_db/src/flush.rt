@@ -1,5 +1,5 @@
-//! The tables of a flush.
-ghost use Rattle.std.specs.Prelude.{◌≡◌, ◌≤◌, ◌<◌, ◌⊎◌, ◌∷◌, ℕ, List, [], map, length, OnOk, OnErr, IfOk, IfErr, IsOkUnless, None, true};
+//! The tables of a flush, in a run for each segment.
+ghost use Rattle.std.specs.Prelude.{◌≡◌, ◌≤◌, ◌<◌, ◌⊎◌, ◌∷◌, ◌++◌, ℕ, List, [], map, length, OnOk, OnErr, IfOk, IfErr, IsOkUnless, None, true};
 ghost use Rattle.std.specs.List.{AllByRecursion};
 ghost use Rattle.slate_types.specs.Config.{IsValid};
 ghost use Rattle.slate_types.specs.Faults.{faults_of};
@@ -15,13 +15,14 @@ ghost use Rattle.slate_table.specs.TableParts.{version_of};
 ghost use Rattle.slate_table.specs.Parts.{Encode};
 ghost use Rattle.slate_table.specs.Reading.{IsStoreFault};
 ghost use Rattle.slate_db.specs.Answered.{AddsPuts};
-ghost use Rattle.slate_db.specs.Flushed.{layout_of, AreSomeOfFlush, CanFlush, HasTooLarge, IsFolded, IsPut, IsTableAt, IsTooLarge, Layout, MayTakeTables, WantsOperator};
-ghost use Rattle.slate_db.specs.StoredParts.{AreFirstParts, ArePartsPut, CanBuild, IsOneTable, IsPartTooLarge, IsPlace, IsTablePut};
-ghost use Rattle.slate_db.specs.Meaning.{Meaning};
+ghost use Rattle.slate_db.specs.Flushed.{layout_of, AreSomeOfFlush, CanFlush, HasTooLarge, IsFolded, IsPut, IsTableAt, IsTooLarge, Layout, MayTakeTables, StandInRuns, WantsOperator};
+ghost use Rattle.slate_db.specs.StoredParts.{AreFirstParts, ArePartsPut, CanBuild, IsLastRun, IsOneTable, IsPartTooLarge, IsPlace, IsTablePut};
+ghost use Rattle.slate_db.specs.Installs.{handles_of};
+ghost use Rattle.slate_db.specs.Meaning.{Meaning, segments_by};
 ghost use Rattle.slate_db.specs.Model.{Rows};
 ghost use Rattle.slate_db.specs.Layers.{FitsMemory};
 
-use crate::cut::cut_tables;
+use crate::cut::{TableRows, cut_tables};
 use crate::gather::rows_of_flush;
 use crate::laws::Laws;
 use crate::lookup::are_bytes;
@@ -43,7 +44,7 @@ use std::alloc::Global;
 pub const ROOT: &str = "db";
 
 /// Stores the rows of memtables, of which the newest stands last, as the tables of the flush with this number, and gives what an
-/// install names and what is kept of them. `StoreFault`, `BlockTransformError` and `Callback`, each only where its count of
+/// install names, and the runs in which they stand: neighbouring tables of one segment make a run. `StoreFault`, `BlockTransformError` and `Callback`, each only where its count of
 /// faults rose; `MergeOperatorMissing` where one of the rows is an operand and there is no operator; `LimitReached` where a
 /// table would have too many blocks; or `OutOfMemory`. Then the store is as it was, or has some first of the tables.
 pub fn stored<S: Store, M: MergeOperator, T: BlockTransformer, X: PrefixExtractor>(
@@ -53,56 +54,87 @@ pub fn stored<S: Store, M: MergeOperator, T: BlockTransformer, X: PrefixExtracto
     number: u64,
     laws: &Laws<X>,
     env: &mut Env<'_, S, M, T>,
-) -> Result<(TableList, SortedRun), SlateDBError>
+) -> Result<(TableList, Vec<SortedRun>), SlateDBError>
     requires valid { IsValid laws.now.options }
     requires names { AreValidNames (map (λ p. (meaning p).name) laws.now.policies.items) }
     requires ready { CanFlush (map (λ t. t.rows) frozen.now) }
-    ensures stored { let reach = ⟦<EnvOf<S, M, T> as Outside>⟧.reach in IfOk result (λ a. IsPut (reach env.old).meaning (layout_of laws.now.options (map (λ p. meaning p) laws.now.policies.items)) number barrier (map (λ t. t.rows) frozen.now) a.0 a.1 (reach env.old).objects (reach env.new).objects) }
+    ensures stored { let reach = ⟦<EnvOf<S, M, T> as Outside>⟧.reach in IfOk result (λ a. IsPut (reach env.old).meaning (layout_of laws.now.options (map (λ p. meaning p) laws.now.policies.items) (segments_by X.lengths laws.now.segments)) number barrier (map (λ t. t.rows) frozen.now) a.0 a.1.items (reach env.old).objects (reach env.new).objects) }
     ensures acts { let reach = ⟦<EnvOf<S, M, T> as Outside>⟧.reach in IfOk result (λ a. AddsPuts a.0 (reach env.old).acts (reach env.new).acts) }
-    ensures refused { let reach = ⟦<EnvOf<S, M, T> as Outside>⟧.reach in OnErr result (MayTakeTables (AreSomeOfFlush (reach env.old).meaning (layout_of laws.now.options (map (λ p. meaning p) laws.now.policies.items)) number barrier (map (λ t. t.rows) frozen.now)) (reach env.old).objects (reach env.new).objects) }
+    ensures refused { let reach = ⟦<EnvOf<S, M, T> as Outside>⟧.reach in OnErr result (MayTakeTables (AreSomeOfFlush (reach env.old).meaning (layout_of laws.now.options (map (λ p. meaning p) laws.now.policies.items) (segments_by X.lengths laws.now.segments)) number barrier (map (λ t. t.rows) frozen.now)) (reach env.old).objects (reach env.new).objects) }
     ensures cause { let reach = ⟦<EnvOf<S, M, T> as Outside>⟧.reach in IfErr result (λ e. IsFault (reach env.old) (reach env.new) e
-        ⊎ ((rows : Rows) × IsFolded (reach env.old).meaning barrier (map (λ t. t.rows) frozen.now) rows × AreInOrder rows × HasTooLarge (layout_of laws.now.options (map (λ p. meaning p) laws.now.policies.items)) rows e)
+        ⊎ ((rows : Rows) × IsFolded (reach env.old).meaning barrier (map (λ t. t.rows) frozen.now) rows × AreInOrder rows × HasTooLarge (layout_of laws.now.options (map (λ p. meaning p) laws.now.policies.items) (segments_by X.lengths laws.now.segments)) rows e)
         ⊎ WantsOperator (reach env.old).meaning (map (λ t. t.rows) frozen.now) e) }
     ensures wanted { let reach = ⟦<EnvOf<S, M, T> as Outside>⟧.reach in (reach env.old).meaning.combine ≡ None → is_merge_among (newest_first (map (λ t. t.rows) frozen.now)) ≡ true → IfOk result (λ _. ⊥) }
     ensures puts { let reach = ⟦<EnvOf<S, M, T> as Outside>⟧.reach in Puts (reach env.old) (reach env.new) }
 {
     let rows = rows_of_flush(alloc, frozen, barrier, &mut env.operator)?;
-    let parts = cut_tables(alloc, rows, laws.options.table_bytes)?;
-    stored_run(alloc, number, parts, laws, env)
+    let parts = cut_tables(alloc, rows, laws.options.table_bytes, &laws.segments)?;
+    stored_runs(alloc, number, parts, laws, env)
 }
 
-/// Stores a table of each of these lists of rows.
-fn stored_run<S: Store, M: MergeOperator, T: BlockTransformer, X: PrefixExtractor>(
+/// Stores a table of each of these lists of rows, in a run for each row of neighbouring lists of one prefix.
+fn stored_runs<S: Store, M: MergeOperator, T: BlockTransformer, X: PrefixExtractor>(
     alloc: Global,
     number: u64,
-    parts: Vec<Vec<RowEntry>>,
+    parts: Vec<TableRows>,
     laws: &Laws<X>,
     env: &mut Env<'_, S, M, T>,
-) -> Result<(TableList, SortedRun), SlateDBError>
+) -> Result<(TableList, Vec<SortedRun>), SlateDBError>
     requires valid { IsValid laws.now.options }
     requires names { AreValidNames (map (λ p. (meaning p).name) laws.now.policies.items) }
-    requires each { AllByRecursion CanBuild (map (λ t. t.items) parts.items) }
-    ensures stored { let reach = ⟦<EnvOf<S, M, T> as Outside>⟧.reach in IfOk result (λ a. ArePartsPut (reach env.old).meaning.encode (layout_of laws.now.options (map (λ p. meaning p) laws.now.policies.items)) number (map (λ t. t.items) parts.items) a.0 a.1.tables.items (reach env.old).objects (reach env.new).objects) }
+    requires each { AllByRecursion CanBuild (map (λ t. t.rows.items) parts.items) }
+    ensures stored { let reach = ⟦<EnvOf<S, M, T> as Outside>⟧.reach in IfOk result (λ a. ArePartsPut (reach env.old).meaning.encode (layout_of laws.now.options (map (λ p. meaning p) laws.now.policies.items) (segments_by X.lengths laws.now.segments)) number (map (λ t. t.rows.items) parts.items) a.0 (handles_of a.1.items) (reach env.old).objects (reach env.new).objects) }
     ensures acts { let reach = ⟦<EnvOf<S, M, T> as Outside>⟧.reach in IfOk result (λ a. AddsPuts a.0 (reach env.old).acts (reach env.new).acts) }
-    ensures prefix { IfOk result (λ a. a.1.prefix ≡ []) }
-    ensures refused { let reach = ⟦<EnvOf<S, M, T> as Outside>⟧.reach in OnErr result (MayTakeTables (AreFirstParts (reach env.old).meaning.encode (layout_of laws.now.options (map (λ p. meaning p) laws.now.policies.items)) number (map (λ t. t.items) parts.items)) (reach env.old).objects (reach env.new).objects) }
-    ensures cause { let reach = ⟦<EnvOf<S, M, T> as Outside>⟧.reach in IfErr result (λ e. IsFault (reach env.old) (reach env.new) e ⊎ IsPartTooLarge (layout_of laws.now.options (map (λ p. meaning p) laws.now.policies.items)) (map (λ t. t.items) parts.items) e) }
+    ensures stand { IfOk result (λ a. StandInRuns (map (λ t. t.prefix) parts.items) a.1.items) }
+    ensures refused { let reach = ⟦<EnvOf<S, M, T> as Outside>⟧.reach in OnErr result (MayTakeTables (AreFirstParts (reach env.old).meaning.encode (layout_of laws.now.options (map (λ p. meaning p) laws.now.policies.items) (segments_by X.lengths laws.now.segments)) number (map (λ t. t.rows.items) parts.items)) (reach env.old).objects (reach env.new).objects) }
+    ensures cause { let reach = ⟦<EnvOf<S, M, T> as Outside>⟧.reach in IfErr result (λ e. IsFault (reach env.old) (reach env.new) e ⊎ IsPartTooLarge (layout_of laws.now.options (map (λ p. meaning p) laws.now.policies.items) (segments_by X.lengths laws.now.segments)) (map (λ t. t.rows.items) parts.items) e) }
     ensures operator { env.new.operator ≡ env.old.operator }
     ensures puts { let reach = ⟦<EnvOf<S, M, T> as Outside>⟧.reach in Puts (reach env.old) (reach env.new) }
 {
     let mut tables = Vec::with_capacity(alloc, parts.len())?;
-    let mut kept = Vec::with_capacity(alloc, parts.len())?;
-    for rows in parts {
+    let mut runs = Vec::new(alloc);
+    for part in parts {
         let id = Ulid(number as u128 * 18446744073709551616 + tables.len() as u128);
-        let (table, handle) = stored_table(alloc, id, rows, laws, env)?;
+        let (table, handle) = stored_table(alloc, id, part.rows, laws, env)?;
         tables.push_reserved(table);
-        kept.push_reserved(handle);
+        add_table(alloc, &mut runs, part.prefix, handle)?;
     }
-    let run = SortedRun {
-        prefix: Bytes::new(),
-        tables: kept,
-    };
-    Ok((TableList::from_vec(tables), run))
+    Ok((TableList::from_vec(tables), runs))
+}
+
+/// Adds what is kept of a table, of a segment with this prefix, to the last run where that is of the segment, and else to a
+/// run of its own behind it. The one error is `OutOfMemory`.
+fn add_table(
+    alloc: Global,
+    runs: &mut Vec<SortedRun>,
+    prefix: Bytes,
+    table: SsTableHandle,
+) -> Result<(), SlateDBError>
+    ensures handles { OnOk result (handles_of runs.new.items ≡ handles_of runs.old.items ++ table ∷ []) }
+    ensures stand { (prefixes : List (List ℕ)) → StandInRuns prefixes runs.old.items → OnOk result (StandInRuns (prefixes ++ prefix ∷ []) runs.new.items) }
+    ensures cause { IsOkUnless result SlateDBError.OutOfMemory }
+{
+    let mut run = last_run(alloc, runs, prefix);
+    run.tables.push(table)?;
+    runs.push(run)?;
+    Ok(())
+}
+
+/// Takes the last run out where it has this prefix, and else makes one without tables.
+fn last_run(alloc: Global, runs: &mut Vec<SortedRun>, prefix: Bytes) -> SortedRun
+    ensures { IsLastRun prefix runs.old.items runs.new.items result }
+{
+    match runs.pop() {
+        Some(run) => {
+            if run.prefix == prefix {
+                return run;
+            }
+            runs.push_reserved(run);
+        }
+        None => {}
+    }
+    let tables = Vec::new(alloc);
+    SortedRun { prefix, tables }
 }
 
 /// Stores a table of these rows under this id, and gives what an install names and what is kept of it.
@@ -116,10 +148,10 @@ fn stored_table<S: Store, M: MergeOperator, T: BlockTransformer, X: PrefixExtrac
     requires valid { IsValid laws.now.options }
     requires names { AreValidNames (map (λ p. (meaning p).name) laws.now.policies.items) }
     requires ready { CanBuild rows.items }
-    ensures stored { let reach = ⟦<EnvOf<S, M, T> as Outside>⟧.reach in (number place : ℕ) → IsPlace id number place → IfOk result (λ a. IsTablePut (reach env.old).meaning.encode (layout_of laws.now.options (map (λ p. meaning p) laws.now.policies.items)) number place rows.items a.0 a.1 (reach env.old).objects (reach env.new).objects) }
+    ensures stored { let reach = ⟦<EnvOf<S, M, T> as Outside>⟧.reach in (number place : ℕ) → IsPlace id number place → IfOk result (λ a. IsTablePut (reach env.old).meaning.encode (layout_of laws.now.options (map (λ p. meaning p) laws.now.policies.items) (segments_by X.lengths laws.now.segments)) number place rows.items a.0 a.1 (reach env.old).objects (reach env.new).objects) }
     ensures acts { let reach = ⟦<EnvOf<S, M, T> as Outside>⟧.reach in IfOk result (λ a. AddsPuts (a.0 ∷ []) (reach env.old).acts (reach env.new).acts) }
-    ensures refused { let reach = ⟦<EnvOf<S, M, T> as Outside>⟧.reach in (number place : ℕ) → IsPlace id number place → OnErr result (MayTakeTables (IsOneTable (reach env.old).meaning.encode (layout_of laws.now.options (map (λ p. meaning p) laws.now.policies.items)) number place rows.items) (reach env.old).objects (reach env.new).objects) }
-    ensures cause { let reach = ⟦<EnvOf<S, M, T> as Outside>⟧.reach in IfErr result (λ e. IsFault (reach env.old) (reach env.new) e ⊎ IsTooLarge (layout_of laws.now.options (map (λ p. meaning p) laws.now.policies.items)) rows.items e) }
+    ensures refused { let reach = ⟦<EnvOf<S, M, T> as Outside>⟧.reach in (number place : ℕ) → IsPlace id number place → OnErr result (MayTakeTables (IsOneTable (reach env.old).meaning.encode (layout_of laws.now.options (map (λ p. meaning p) laws.now.policies.items) (segments_by X.lengths laws.now.segments)) number place rows.items) (reach env.old).objects (reach env.new).objects) }
+    ensures cause { let reach = ⟦<EnvOf<S, M, T> as Outside>⟧.reach in IfErr result (λ e. IsFault (reach env.old) (reach env.new) e ⊎ IsTooLarge (layout_of laws.now.options (map (λ p. meaning p) laws.now.policies.items) (segments_by X.lengths laws.now.segments)) rows.items e) }
     ensures operator { env.new.operator ≡ env.old.operator }
     ensures puts { let reach = ⟦<EnvOf<S, M, T> as Outside>⟧.reach in Puts (reach env.old) (reach env.new) }
 {
@@ -172,7 +204,7 @@ pub fn built<T: BlockTransformer, X: PrefixExtractor>(
     ensures built { IfOk result (λ table. IsBuilt (changed_by T.encoded transformer.old) (map (λ p. meaning p) laws.now.policies.items) laws.now.options.min_filter_keys laws.now.options.block_size (version_of laws.now.options.block_format) table.bytes rows.items) }
     ensures version { IfOk result (λ table. table.version ≡ version_of laws.now.options.block_format) }
     ensures info { IfOk result (λ table. HasInfo table.bytes (version_of laws.now.options.block_format) (seen_info table.info)) }
-    ensures cause { IfErr result (λ e. IsTransformFault (faults_of T.faults transformer.old) (faults_of T.faults transformer.new) e ⊎ IsTooLarge (layout_of laws.now.options (map (λ p. meaning p) laws.now.policies.items)) rows.items e) }
+    ensures cause { IfErr result (λ e. IsTransformFault (faults_of T.faults transformer.old) (faults_of T.faults transformer.new) e ⊎ IsTooLarge (layout_of laws.now.options (map (λ p. meaning p) laws.now.policies.items) (segments_by X.lengths laws.now.segments)) rows.items e) }
     ensures same_encoded { changed_by T.encoded transformer.new ≡ changed_by T.encoded transformer.old }
     ensures same_decoded { changed_by T.decoded transformer.new ≡ changed_by T.decoded transformer.old }
     ensures later { faults_of T.faults transformer.old ≤ faults_of T.faults transformer.new }

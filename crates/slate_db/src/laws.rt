@@ -1,5 +1,6 @@
 //! What all calls on one core are given alike, beside what is outside; and the laws of the definitions, each of which is
 //! proved of all values by a call that does nothing.
+ghost use Rattle.slate_db.specs.FlushLaws.{RunsAreOfSegments, TablesAreOfOneSegment};
 ghost use Rattle.slate_db.specs.ScanLaws.{ListsHaveAllRows, ScansOfCoreShowWhatIsSeen, ScansShowWhatIsSeen};
 ghost use Rattle.slate_db.specs.SerialLaws.{CallsKeepCoresVouched, CommitsKeepItVouched, CommitsStandAtTheirPlaces, NewCoreIsVouched, OtherEventsKeepItVouched, WritesKeepCoresVouched};
 
@@ -12,7 +13,7 @@ use slate_types::Options;
 pub struct Laws<X> {
     /// The options, which must be valid.
     pub options: Options,
-    /// What gives each key the prefix of its segment, where there are segments. Not asked yet.
+    /// What gives each key the prefix of its segment, where there are segments.
     pub segments: Option<X>,
     /// The policies of the filters that tables get, and by which gets pass tables by. A flush needs their names distinct, fewer than
     /// 65536 of them, and each of fewer bytes than that.
@@ -26,6 +27,13 @@ pub fn scans()
     ensures seen { ScansShowWhatIsSeen }
     ensures of_core { ScansOfCoreShowWhatIsSeen }
     ensures have_rows { ListsHaveAllRows }
+{}
+
+/// Of flushes. Where no prefixes of its rows nest, the tables of a flush stand in one run for each segment that the rows touch, in the
+/// order of the prefixes. Where each key has a prefix, all rows of a table have the same.
+pub fn flushes()
+    ensures runs { RunsAreOfSegments }
+    ensures tables { TablesAreOfOneSegment }
 {}
 
 /// Of transactions. A core is vouched for where each commit in its journal was answered as a reader at its begin is, and so was what

@@ -20,7 +20,7 @@ pub struct Layers {
     active: MemTable,
     /// The rows that wait for a flush, the newest last.
     frozen: Vec<ImmutableMemtable>,
-    /// What is kept of the tables of each install, the newest last.
+    /// What is kept of runs of tables, those of the newest install last.
     runs: Vec<SortedRun>,
     /// The greatest barrier of a flush so far.
     floor: u64,
@@ -66,7 +66,7 @@ impl Layers {
         self.frozen.as_slice()
     }
 
-    /// What is kept of the tables of each install, the newest last.
+    /// What is kept of runs of tables, those of the newest install last.
     pub fn runs(&self) -> &[SortedRun]
         ensures { result.now ≡ self.now.runs }
     {
@@ -130,23 +130,16 @@ impl Layers {
         self.frozen.push_reserved(table);
     }
 
-    /// Makes room for one run.
-    pub fn reserve_run(&mut self) -> Result<(), AllocError>
-        ensures value { self.new ≡ record self.old { for_run = self.new.for_run } }
-        ensures room { OnOk result (0 < self.new.for_run) }
+    /// Keeps runs in place of the rows that waited. Where memory is wanting nothing is changed.
+    pub fn install(&mut self, runs: Vec<SortedRun>, floor: u64) -> Result<(), AllocError>
+        ensures value { OnOk result (self.new ≡ record self.old { frozen = []; runs = self.old.runs ++ runs.items; floor = floor; for_freeze = self.new.for_freeze }) }
+        ensures same { OnErr result (self.new ≡ self.old) }
         ensures whole { AreLayers self.new }
     {
-        self.runs.reserve(1)
-    }
-
-    /// Keeps a run in place of the rows that waited, in the room that was made.
-    pub fn install(&mut self, run: SortedRun, floor: u64)
-        requires { 0 < self.old.for_run }
-        ensures value { self.new ≡ record self.old { frozen = []; runs = self.old.runs ++ run ∷ []; floor = floor; for_freeze = self.new.for_freeze; for_run = self.new.for_run } }
-        ensures whole { AreLayers self.new }
-    {
+        let mut runs = runs;
+        self.runs.append(&mut runs)?;
         self.floor = floor;
-        self.runs.push_reserved(run);
         self.frozen.clear();
+        Ok(())
     }
 }

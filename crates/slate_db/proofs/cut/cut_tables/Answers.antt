@@ -1,55 +1,75 @@
-use Rattle.std.proofs.Common.{◌≡◌, ◌-◌, ◌^◌, ◌++◌, ◌∷◌, [], List, map, min, true, arith, rules, sym, ap, subst, ◌∙◌}
+use Rattle.std.proofs.Common.{◌≡◌, ◌-◌, ◌^◌, ◌++◌, ◌∷◌, ◌&&◌, ◌||◌, [], Bool, List, ℕ, map, min, Option, None, arith, rules, refl, sym, ap, subst, ◌∙◌, nat_le}
 use Rattle.std.specs.Prelude.{sum_by}
 use Rattle.std.specs.Vec.Iter.{into_iter_items}
 use Rattle.std.proofs.lemmas.List.{map-append, nil_from_length}
 use Rattle.slate_types.specs.declared.types.RowEntry.{RowEntry}
 use Rattle.slate_types.specs.Rows.{estimated_size}
 use Rattle.slate_mem.specs.Gathered.{last_row}
-use Rattle.slate_db.specs.Cut.{AreCut, begins_key}
+use Rattle.slate_db.specs.declared.cut.TableRows.{TableRows}
+use Rattle.slate_db.specs.Cut.{AreCut, AreOfSegment, AreOfSegments, begins_key, begins_segment, ends_before, segment_of}
+use Rattle.slate_db.specs.Meaning.{segments_by}
 use Rattle.slate_db.specs.Model.{Rows}
-use Rattle.slate_db.proofs.Cuts.{cut_all, cut_ends, cut_goes_on, ends_full, ends_same, ends_small, more_size, no_size, tables_from}
+use Rattle.slate_db.proofs.Cuts.{IsNext, cut_all, ends_of_next, full_is, goes_of_next, more_size, next_ends, next_goes, segments_more, tables_from}
+use Rattle.slate_db.proofs.Lists.{all_more, none_behind}
 use Rattle.slate_db.proofs.cut.cut_tables.Goals as goal
-use Rattle.slate_db.proofs.cut.cut_tables.Goals.{then-size-table_bytes+then-begins_key+in_ok-push, else-size-table_bytes, else-size-table_bytes-via-then-size-table_bytes+else-begins_key, else-size-table_bytes-via-else-size-table_bytes}
+use Rattle.slate_db.proofs.cut.cut_tables.Goals.{in-Some-2+in_ok-push, in_default}
 
 pub loop-row-preserved : goal.loop-row-preserved
-loop-row-preserved c =
+loop-row-preserved g c =
+    let by = segments_by g.X.PrefixExtractor.lengths c.args.extractor.now in
     let was = c.loop-row.invariant in
     let limit = c.args.table_bytes in
-    let before : List Rows = map (λ t. t.items) c.loop-row.tables.items in
-    let table : Rows = c.loop-row.table.items in
+    let rows : List TableRows → List Rows = map (λ t. t.rows.items) in
+    let prefixes : List TableRows → List (List ℕ) = map (λ t. t.prefix) in
+    let table : Rows = c.loop-row.table.rows.items in
     let row : RowEntry = c.in-Some.row in
     let rest : Rows = into_iter_items c.next.new.self in
-    let more : (map (λ t. t.items) c.if-size-table_bytes.tables.items ++ tables_from c.args.table_bytes (c.if-size-table_bytes.table.items ++ (c.in-Some.row ∷ [])) (into_iter_items c.next.new.self)
-    ≡ map (λ t. t.items) c.loop-row.tables.items ++ tables_from c.args.table_bytes c.loop-row.table.items (c.in-Some.row ∷ into_iter_items c.next.new.self))
-    × (c.if-size-table_bytes.size ≡ min (sum_by estimated_size c.if-size-table_bytes.table.items) (2 ^ 64 - 1)) =
-    elim c.if-size-table_bytes.branch [
-      | then-size-table_bytes+then-begins_key+in_ok-push w ↦
-          (let tables2 = ap (λ ts. map (λ t. t.items) ts.items) w.tables-is ∙ ap (map (λ t. t.items)) w.in_ok-push.ensures.items ∙ map-append (λ t. t.items) c.loop-row.tables.items (c.loop-row.table ∷ []) in
-          let table2 = ap (λ t. t.items) w.table-is ∙ w.new-table-then-begins_key.ensures.items in
-          let other : begins_key (last_row table) row ≡ true = search rules in
-          (cut_ends limit before _ table _ rest row (ends_full limit c.loop-row.size table row was.size (omega (arith, w.if-size-table_bytes.true)) other) tables2 table2, no_size _ _ w.size-is table2))
-      | else-size-table_bytes w ↦
-          (let tables2 = ap (λ ts. map (λ t. t.items) ts.items) w.tables-is in
-          let table2 = ap (λ t. t.items) w.table-is in (
-            cut_goes_on limit before _ table _ rest row
-                (elim w.else-size-table_bytes.branch [
-                  | else-size-table_bytes-via-then-size-table_bytes+else-begins_key v ↦ ends_same limit table row (search rules)
-                  | else-size-table_bytes-via-else-size-table_bytes v ↦ ends_small limit c.loop-row.size table row was.size c.ranges.table_bytes.fits (omega (arith, v.if-size-table_bytes.false))
-                ]) tables2 table2,
-            w.size-is ∙ was.size ∙ sym (ap (λ (xs : Rows). min (sum_by estimated_size xs) (2 ^ 64 - 1)) table2),
-          ))
+    let after = c.match-branch-3 in
+    let cut = ap (λ (xs : Rows). map (λ t. t.rows.items) c.loop-row.tables.items ++ tables_from (segments_by g.X.PrefixExtractor.lengths c.args.extractor.now) c.args.table_bytes c.loop-row.table.rows.items xs) (sym c.in-Some.ensures.steps.0) ∙ was.cut in
+    let test = ap (λ (full : Bool). begins_key (last_row c.loop-row.table.rows.items) c.in-Some.row && (full || begins_segment (segments_by g.X.PrefixExtractor.lengths c.args.extractor.now) (last_row c.loop-row.table.rows.items) c.in-Some.row))
+    (full_is c.args.table_bytes c.loop-row.size c.loop-row.table.rows.items was.sum c.ranges.table_bytes.fits) in
+    let next : IsNext (segments_by g.X.PrefixExtractor.lengths c.args.extractor.now) c.args.table_bytes (map (λ t. t.rows.items) c.match-branch-3.tables.items) (map (λ t. t.prefix) c.match-branch-3.tables.items) c.match-branch-3.table.prefix c.match-branch-3.table.rows.items (into_iter_items c.next.new.self) c.match-branch-3.size c.in-Some.row
+    (tables_from (segments_by g.X.PrefixExtractor.lengths c.args.extractor.now) c.args.table_bytes [] c.args.rows.items) =
+    elim c.match-branch-3.branch [
+      | in-Some-2+in_ok-push w ↦
+          (let ends = ends_of_next _ _ _ c.in_ok-prefix-2.field-0 c.in_ok-prefix-2.ensures w.in-Some-2.is in
+          let all = ap (λ ts. ts.items) w.tables-is ∙ w.in_ok-push.ensures.items in
+          next_ends by limit (rows c.loop-row.tables.items) (rows after.tables.items) (prefixes c.loop-row.tables.items) (prefixes after.tables.items) c.loop-row.table.prefix after.table.prefix table after.table.rows.items rest after.size row _ cut was.segments was.segment
+          (sym test ∙ ends.0, ap (λ (t : TableRows). t.prefix) w.table-is ∙ ends.1)
+          (ap rows all ∙ map-append (λ t. t.rows.items) c.loop-row.tables.items (c.loop-row.table ∷ []))
+          (ap prefixes all ∙ map-append (λ t. t.prefix) c.loop-row.tables.items (c.loop-row.table ∷ []))
+          (ap (λ (t : TableRows). t.rows.items) w.table-is ∙ w.new-in-Some-2.ensures.items) w.size-is)
+      | in_default w ↦
+          (let none : c.in_ok-prefix-2.field-0 ≡ None = search rules in
+          next_goes by limit (rows c.loop-row.tables.items) (rows after.tables.items) (prefixes c.loop-row.tables.items) (prefixes after.tables.items) c.loop-row.table.prefix after.table.prefix table after.table.rows.items rest c.loop-row.size after.size row _ cut was.sum was.segments was.segment
+          (was.first row rest c.in-Some.ensures.steps.0) (sym test ∙ goes_of_next _ _ c.in_ok-prefix-2.field-0 c.in_ok-prefix-2.ensures none)
+          (ap (λ ts. rows ts.items) w.tables-is) (ap (λ ts. prefixes ts.items) w.tables-is) (ap (λ (t : TableRows). t.prefix) w.table-is) (ap (λ (t : TableRows). t.rows.items) w.table-is) w.size-is)
     ] in
     record {
-      cut = ap (λ (xs : Rows). map (λ t. t.items) c.if-size-table_bytes.tables.items ++ tables_from limit xs rest) c.in_ok-push-2.ensures.items
-          ∙ more.0 ∙ ap (λ (xs : Rows). before ++ tables_from limit table xs) (sym c.in-Some.ensures.steps.0) ∙ was.cut;
-      size = more_size c.if-size-table_bytes.size c.saturating_add-size.result c.estimated_size.result c.if-size-table_bytes.table.items _ row more.1 c.estimated_size.ensures c.saturating_add-size.ensures c.in_ok-push-2.ensures.items;
+      cut = ap (λ (xs : Rows). map (λ t. t.rows.items) c.match-branch-3.tables.items ++ tables_from (segments_by g.X.PrefixExtractor.lengths c.args.extractor.now) c.args.table_bytes xs (into_iter_items c.next.new.self)) c.in_ok-push-2.ensures.items ∙ next.cut;
+      sum = more_size c.match-branch-3.size c.saturating_add-size.result c.estimated_size.result c.match-branch-3.table.rows.items _ row next.sum c.estimated_size.ensures c.saturating_add-size.ensures c.in_ok-push-2.ensures.items;
+      segments = next.segments;
+      segment = subst (AreOfSegment by c.match-branch-3.table.prefix) (sym c.in_ok-push-2.ensures.items) (all_more _ c.match-branch-3.table.rows.items row next.segment next.joins);
+      first = λ r more is empty. absurd (none_behind c.match-branch-3.table.rows.items row (sym c.in_ok-push-2.ensures.items ∙ empty));
     }
 
 pub returns-clause-cut : goal.returns-clause-cut
-returns-clause-cut c =
+returns-clause-cut g c =
+    let by = segments_by g.X.PrefixExtractor.lengths c.args.extractor.now in
     let none : into_iter_items c.loop-row.row-iterator ≡ [] = nil_from_length _ (omega (arith, c.in-None.ensures.steps.0)) in
-    let before : List Rows = map (λ t. t.items) c.loop-row.tables.items in
-    subst (AreCut c.args.table_bytes c.args.rows.items)
-    (sym c.loop-row.invariant.cut ∙ ap (λ (xs : Rows). before ++ tables_from c.args.table_bytes c.loop-row.table.items xs) none
-    ∙ sym (ap (map (λ t. t.items)) c.in_ok-push-3.ensures.items ∙ map-append (λ t. t.items) c.loop-row.tables.items (c.loop-row.table ∷ [])))
-    (cut_all c.args.table_bytes c.args.rows.items c.requires)
+    let before : List Rows = map (λ t. t.rows.items) c.loop-row.tables.items in
+    subst (AreCut by c.args.table_bytes c.args.rows.items)
+    (sym c.loop-row.invariant.cut ∙ ap (λ (xs : Rows). before ++ tables_from by c.args.table_bytes c.loop-row.table.rows.items xs) none
+    ∙ sym (ap (map (λ t. t.rows.items)) c.in_ok-push-3.ensures.items ∙ map-append (λ t. t.rows.items) c.loop-row.tables.items (c.loop-row.table ∷ [])))
+    (cut_all by c.args.table_bytes c.args.rows.items c.requires)
+
+pub returns-clause-segments : goal.returns-clause-segments
+returns-clause-segments g c =
+    let by = segments_by g.X.PrefixExtractor.lengths c.args.extractor.now in
+    let was = c.loop-row.invariant in
+    let rows : List TableRows → List Rows = map (λ t. t.rows.items) in
+    let prefixes : List TableRows → List (List ℕ) = map (λ t. t.prefix) in
+    subst (λ (ts : List TableRows). AreOfSegments by (map (λ t. t.rows.items) ts) (map (λ t. t.prefix) ts)) (sym c.in_ok-push-3.ensures.items)
+    (subst (λ (ts : List Rows). AreOfSegments by ts (prefixes (c.loop-row.tables.items ++ (c.loop-row.table ∷ [])))) (sym (map-append (λ t. t.rows.items) c.loop-row.tables.items (c.loop-row.table ∷ [])))
+    (subst (λ (ps : List (List ℕ)). AreOfSegments by (rows c.loop-row.tables.items ++ (c.loop-row.table.rows.items ∷ [])) ps) (sym (map-append (λ t. t.prefix) c.loop-row.tables.items (c.loop-row.table ∷ [])))
+    (segments_more by (rows c.loop-row.tables.items) (prefixes c.loop-row.tables.items) c.loop-row.table.rows.items c.loop-row.table.prefix was.segments was.segment)))

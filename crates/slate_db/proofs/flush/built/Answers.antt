@@ -10,6 +10,7 @@ use Rattle.slate_table.specs.TableBuilding.{TableBuilding, AreEncoded}
 use Rattle.slate_table.specs.TableEnd.{HasInfo}
 use Rattle.slate_types.specs.Faults.{faults_of}
 use Rattle.slate_db.specs.Flushed.{layout_of, IsTooLarge}
+use Rattle.slate_db.specs.Meaning.{segments_by}
 use Rattle.slate_db.specs.Model.{Rows}
 use Rattle.slate_db.proofs.Built.{can_take, begun_encoded, one_more, row_fits, row_order, all_taken, add_refused, built_as, wider_fault}
 use Rattle.slate_db.proofs.Blocks.{if_ok, if_err}
@@ -72,9 +73,9 @@ returns-in_err-add g c =
           let row_ok = row_fits _ _ _ _ _ c.in-Some.ensures.steps.0 was.rows c.requires.ready.fit in
           let faults = faults_of g.T.BlockTransformer.faults in
           rw (p.1, p.2)
-          (subst (λ (rows : Rows). IsTransformFault (faults c.args.transformer.now) (faults c.add.new.transformer) c.in_err-add.field-0.0 ⊎ IsTooLarge (layout_of c.args.laws.now.options (map (λ p. (goal.FilterPolicy-dyn g (p.vtable, p.value)).meaning p.value) c.args.laws.now.policies.items)) rows c.in_err-add.field-0.0)
+          (subst (λ (rows : Rows). IsTransformFault (faults c.args.transformer.now) (faults c.add.new.transformer) c.in_err-add.field-0.0 ⊎ IsTooLarge (layout_of c.args.laws.now.options (map (λ p. (goal.FilterPolicy-dyn g (p.vtable, p.value)).meaning p.value) c.args.laws.now.policies.items) (segments_by g.X.PrefixExtractor.lengths c.args.laws.now.segments)) rows c.in_err-add.field-0.0)
           (one_more _ _ _ _ _ c.in-Some.ensures.steps.0 was.rows)
-          (add_refused (layout_of c.args.laws.now.options (map (λ p. (goal.FilterPolicy-dyn g (p.vtable, p.value)).meaning p.value) c.args.laws.now.policies.items)) c.loop-row.builder c.in-Some.row (into_iter_items c.next.new.self) (faults c.args.transformer.now) (faults c.loop-row.transformer) (faults c.add.new.transformer) c.in_err-add.field-0.0
+          (add_refused (layout_of c.args.laws.now.options (map (λ p. (goal.FilterPolicy-dyn g (p.vtable, p.value)).meaning p.value) c.args.laws.now.policies.items) (segments_by g.X.PrefixExtractor.lengths c.args.laws.now.segments)) c.loop-row.builder c.in-Some.row (into_iter_items c.next.new.self) (faults c.args.transformer.now) (faults c.loop-row.transformer) (faults c.add.new.transformer) c.in_err-add.field-0.0
           was.later was.version was.size row_ok.key.0 (λ is. c.add.ensures.empty.0 (c.in_err-add.was ∙ ap Err is)) (λ is. (c.add.ensures.limit.0 (c.in_err-add.was ∙ ap Err is)).0) c.in_err-add.ensures.cause)));
       same_encoded = c.add.ensures.same_encoded ∙ c.loop-row.invariant.same_encoded;
       same_decoded = c.add.ensures.same_decoded ∙ c.loop-row.invariant.same_decoded;

@@ -4,21 +4,22 @@ use Rattle.slate_types.specs.Outside.{IsCounted, IsLater}
 use Rattle.slate_types.proofs.Reaching.{puts_none, puts_of, puts_then}
 use Rattle.slate_store.specs.Reach.{reach_of}
 use Rattle.slate_db.specs.Flushed.{layout_of}
+use Rattle.slate_db.specs.Meaning.{segments_by}
 use Rattle.slate_db.proofs.Blocks.{if_err}
 use Rattle.slate_db.proofs.Built.{may_keep}
 use Rattle.slate_db.proofs.Operands.{combine_is}
 use Rattle.slate_db.proofs.RunSoFar.{both_ok, can_build, has_too_large, refused_as, rows_cause, run_cause, run_is_put, some_of_flush}
 use Rattle.slate_db.proofs.flush.stored.Goals as goal
 
-pub stored_run-requires-clause-valid : goal.stored_run-requires-clause-valid
-stored_run-requires-clause-valid g c = λ κs lives. c.requires.valid
+pub stored_runs-requires-clause-valid : goal.stored_runs-requires-clause-valid
+stored_runs-requires-clause-valid g c = λ κs lives. c.requires.valid
 
-pub stored_run-requires-clause-names : goal.stored_run-requires-clause-names
-stored_run-requires-clause-names g c = λ κs lives. c.requires.names
+pub stored_runs-requires-clause-names : goal.stored_runs-requires-clause-names
+stored_runs-requires-clause-names g c = λ κs lives. c.requires.names
 
-pub stored_run-requires-clause-each : goal.stored_run-requires-clause-each
-stored_run-requires-clause-each g c = λ κs lives.
-    can_build c.args.laws.now.options.table_bytes c.in_ok-rows.rows.items (map (λ t. t.items) c.in_ok-parts.parts.items) c.in_ok-parts.ensures.cut c.in_ok-rows.ensures.order c.in_ok-rows.ensures.fit
+pub stored_runs-requires-clause-each : goal.stored_runs-requires-clause-each
+stored_runs-requires-clause-each g c = λ κs lives.
+    can_build (segments_by g.X.PrefixExtractor.lengths c.args.laws.now.segments) c.args.laws.now.options.table_bytes c.in_ok-rows.rows.items (map (λ t. t.rows.items) c.in_ok-parts.parts.items) c.in_ok-parts.ensures.cut c.in_ok-rows.ensures.order c.in_ok-rows.ensures.fit
 
 pub returns : goal.returns
 returns g c =
@@ -26,21 +27,22 @@ returns g c =
     let now = reach_of g.S.Store g.M.MergeOperator g.T.BlockTransformer (record c.args.env.now { operator = c.rows_of_flush.new.operator }) in
     let m = before.meaning in
     let operator = combine_is g.M.MergeOperator.combine c.args.env.now.operator in
-    let layout = layout_of c.args.laws.now.options (map (λ p. (goal.FilterPolicy-dyn g (p.vtable, p.value)).meaning p.value) c.args.laws.now.policies.items) in
-    let parts = map (λ t. t.items) c.in_ok-parts.parts.items in
+    let layout = layout_of c.args.laws.now.options (map (λ p. (goal.FilterPolicy-dyn g (p.vtable, p.value)).meaning p.value) c.args.laws.now.policies.items) (segments_by g.X.PrefixExtractor.lengths c.args.laws.now.segments) in
+    let parts = map (λ t. t.rows.items) c.in_ok-parts.parts.items in
+    let prefixes = map (λ t. t.prefix) c.in_ok-parts.parts.items in
     let rows = c.in_ok-rows.ensures in
     let same = combine_is g.M.MergeOperator.combine c.rows_of_flush.new.operator ∙ rows.same ∙ sym operator in
-    let after = reach_of g.S.Store g.M.MergeOperator g.T.BlockTransformer c.stored_run.new.env in
+    let after = reach_of g.S.Store g.M.MergeOperator g.T.BlockTransformer c.stored_runs.new.env in
     let later : IsLater before.faults now.faults = record { store = omega arith; operator = rows.later; transformer = omega arith } in
     record {
-      stored = both_ok c.stored_run.result _ _ _
-          (λ a put prefix. run_is_put m layout c.args.number c.args.barrier _ c.in_ok-rows.rows.items parts a.0 a.1 _ _ rows.some (rows.folded m operator) rows.order c.in_ok-parts.ensures.cut prefix put)
-          c.stored_run.ensures.stored c.stored_run.ensures.prefix;
-      acts = c.stored_run.ensures.acts;
-      refused = refused_as c.stored_run.result (some_of_flush m layout c.args.number c.args.barrier _ c.in_ok-rows.rows.items parts _ _ rows.some (rows.folded m operator) rows.order c.in_ok-parts.ensures.cut) c.stored_run.ensures.refused;
-      cause = if_err c.stored_run.result _ _ (λ e h. run_cause before now after e later (λ large. (c.in_ok-rows.rows.items, rows.folded m operator, rows.order, has_too_large layout c.in_ok-rows.rows.items parts e c.in_ok-parts.ensures.cut large)) h) c.stored_run.ensures.cause;
+      stored = both_ok c.stored_runs.result _ _ _
+          (λ a put stand. run_is_put m layout c.args.number c.args.barrier _ c.in_ok-rows.rows.items parts prefixes a.0 a.1.items _ _ rows.some (rows.folded m operator) rows.order c.in_ok-parts.ensures.cut c.in_ok-parts.ensures.segments stand put)
+          c.stored_runs.ensures.stored c.stored_runs.ensures.stand;
+      acts = c.stored_runs.ensures.acts;
+      refused = refused_as c.stored_runs.result (some_of_flush m layout c.args.number c.args.barrier _ c.in_ok-rows.rows.items parts _ _ rows.some (rows.folded m operator) rows.order c.in_ok-parts.ensures.cut) c.stored_runs.ensures.refused;
+      cause = if_err c.stored_runs.result _ _ (λ e h. run_cause before now after e later (λ large. (c.in_ok-rows.rows.items, rows.folded m operator, rows.order, has_too_large layout c.in_ok-rows.rows.items parts e c.in_ok-parts.ensures.cut large)) h) c.stored_runs.ensures.cause;
       wanted = λ none among. absurd (rows.wanted (sym operator ∙ none) among);
-      puts = puts_then before now after (puts_of before now same refl refl later refl) c.stored_run.ensures.puts;
+      puts = puts_then before now after (puts_of before now same refl refl later refl) c.stored_runs.ensures.puts;
     }
 
 pub returns-in_err-rows : goal.returns-in_err-rows

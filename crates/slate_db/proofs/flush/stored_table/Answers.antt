@@ -5,6 +5,7 @@ use Rattle.slate_types.specs.Outside.{Counts, IsCounted}
 use Rattle.slate_types.proofs.Reaching.{puts_of}
 use Rattle.slate_table.specs.SectionReading.{changed_by, IsTransformFault}
 use Rattle.slate_db.specs.Flushed.{IsTableAt, layout_of}
+use Rattle.slate_db.specs.Meaning.{segments_by}
 use Rattle.slate_db.specs.StoredParts.{IsPlace}
 use Rattle.slate_db.proofs.Blocks.{if_err}
 use Rattle.slate_db.proofs.Causes.{store_fault, transform_fault}
@@ -16,7 +17,7 @@ or_large : {B : Type 0} (a b : Counts) (e : SlateDBError) → IsTransformFault a
 or_large a b e (inl h) = inl (transform_fault a b e h)
 or_large a b e (inr h) = inr h
 
-is_table : (g : given.Over) (c : goal.After-drop g) (number place : ℕ) → IsPlace c.args.id number place → IsTableAt (changed_by g.T.BlockTransformer.encoded c.args.env.now.transformer) (layout_of c.args.laws.now.options (map (λ p. (goal.FilterPolicy-dyn g (p.vtable, p.value)).meaning p.value) c.args.laws.now.policies.items)) number place c.args.rows.items (c.args.id, c.in_ok-table.table.bytes)
+is_table : (g : given.Over) (c : goal.After-drop g) (number place : ℕ) → IsPlace c.args.id number place → IsTableAt (changed_by g.T.BlockTransformer.encoded c.args.env.now.transformer) (layout_of c.args.laws.now.options (map (λ p. (goal.FilterPolicy-dyn g (p.vtable, p.value)).meaning p.value) c.args.laws.now.policies.items) (segments_by g.X.PrefixExtractor.lengths c.args.laws.now.segments)) number place c.args.rows.items (c.args.id, c.in_ok-table.table.bytes)
 is_table g c number place at = record {
   id = at.is;
   fits = at.fits;
@@ -27,10 +28,10 @@ is_table g c number place at = record {
 pub returns : goal.returns
 returns g c =
     record {
-      stored = (λ number place at. c.put-kept.ensures.stored (changed_by g.T.BlockTransformer.encoded c.args.env.now.transformer) (layout_of c.args.laws.now.options (map (λ p. (goal.FilterPolicy-dyn g (p.vtable, p.value)).meaning p.value) c.args.laws.now.policies.items)) number place c.args.rows.items (is_table g c number place at)
+      stored = (λ number place at. c.put-kept.ensures.stored (changed_by g.T.BlockTransformer.encoded c.args.env.now.transformer) (layout_of c.args.laws.now.options (map (λ p. (goal.FilterPolicy-dyn g (p.vtable, p.value)).meaning p.value) c.args.laws.now.policies.items) (segments_by g.X.PrefixExtractor.lengths c.args.laws.now.segments)) number place c.args.rows.items (is_table g c number place at)
           (version_known c.args.laws.now.options.block_format) c.in_ok-table.ensures.version c.in_ok-table.ensures.info);
       acts = c.put-kept.ensures.acts;
-      refused = λ number place at. c.put-kept.ensures.refused (changed_by g.T.BlockTransformer.encoded c.args.env.now.transformer) (layout_of c.args.laws.now.options (map (λ p. (goal.FilterPolicy-dyn g (p.vtable, p.value)).meaning p.value) c.args.laws.now.policies.items)) number place c.args.rows.items (is_table g c number place at);
+      refused = λ number place at. c.put-kept.ensures.refused (changed_by g.T.BlockTransformer.encoded c.args.env.now.transformer) (layout_of c.args.laws.now.options (map (λ p. (goal.FilterPolicy-dyn g (p.vtable, p.value)).meaning p.value) c.args.laws.now.policies.items) (segments_by g.X.PrefixExtractor.lengths c.args.laws.now.segments)) number place c.args.rows.items (is_table g c number place at);
       cause = if_err c.put-kept.result _ _ (λ e h. inl (store_fault _ _ e h)) c.put-kept.ensures.cause;
       operator = refl;
       puts = puts_of _ _ refl c.built.ensures.same_encoded c.built.ensures.same_decoded (record { store = c.put-kept.ensures.later; operator = omega arith; transformer = c.built.ensures.later }) refl;

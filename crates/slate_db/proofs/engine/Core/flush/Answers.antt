@@ -13,6 +13,7 @@ use Rattle.slate_db.specs.Answered.{AddsTables}
 use Rattle.slate_db.specs.Installs.{tables_of}
 use Rattle.slate_db.specs.Frozen.{IsFrozen}
 use Rattle.slate_db.specs.Flushed.{IsFlushError, Layout, TooLarge, WantsOperator, idle, layout_of}
+use Rattle.slate_db.specs.Meaning.{segments_by}
 use Rattle.slate_db.specs.Model.{CoreModel, memory}
 use Rattle.slate_db.specs.Sound.{IsKept}
 use Rattle.slate_db.specs.Log.{LIMIT, LogModel, IsLog, with_flush}
@@ -79,7 +80,7 @@ returns-in_err-place_for_flush g c =
       wanted = λ none among. IfOk-from_err c.from_residual.result _ c.from_residual.ensures.0;
       operable = (λ k.
           let here = reach_of g.S.Store g.M.MergeOperator g.T.BlockTransformer c.args.env.now in
-          rw (p.1, p.2) (never_missing (layout_of c.args.laws.now.options (map (λ p. (goal.FilterPolicy-dyn g (p.vtable, p.value)).meaning p.value) c.args.laws.now.policies.items)) here here c.args.self.now c.in_err-place_for_flush.field-0.0 k (place_cause LIMIT c.args.self.now c.in_err-place_for_flush.field-0.0 c.in_err-place_for_flush.ensures.limit)));
+          rw (p.1, p.2) (never_missing (layout_of c.args.laws.now.options (map (λ p. (goal.FilterPolicy-dyn g (p.vtable, p.value)).meaning p.value) c.args.laws.now.policies.items) (segments_by g.X.PrefixExtractor.lengths c.args.laws.now.segments)) here here c.args.self.now c.in_err-place_for_flush.field-0.0 k (place_cause LIMIT c.args.self.now c.in_err-place_for_flush.field-0.0 c.in_err-place_for_flush.ensures.limit)));
       cause = rw (p.1, p.2) (place_cause LIMIT c.args.self.now c.in_err-place_for_flush.field-0.0 c.in_err-place_for_flush.ensures.limit);
       puts = puts_none _;
     }
@@ -109,7 +110,7 @@ returns-in_err-freeze g c =
       wanted = λ none among. IfOk-from_err c.from_residual-in_err-freeze.result _ c.from_residual-in_err-freeze.ensures.0;
       operable = (λ k.
           let here = reach_of g.S.Store g.M.MergeOperator g.T.BlockTransformer c.args.env.now in
-          rw (p.1, p.2) (never_missing (layout_of c.args.laws.now.options (map (λ p. (goal.FilterPolicy-dyn g (p.vtable, p.value)).meaning p.value) c.args.laws.now.policies.items)) here here c.args.self.now c.in_err-freeze.field-0.0 k (freeze_cause LIMIT _ _ c.args.self.now c.in_err-freeze.field-0.0 (λ e. let t : false ≡ true = c.in_err-freeze.ensures.idle e in cc) c.in_err-freeze.ensures.cause)));
+          rw (p.1, p.2) (never_missing (layout_of c.args.laws.now.options (map (λ p. (goal.FilterPolicy-dyn g (p.vtable, p.value)).meaning p.value) c.args.laws.now.policies.items) (segments_by g.X.PrefixExtractor.lengths c.args.laws.now.segments)) here here c.args.self.now c.in_err-freeze.field-0.0 k (freeze_cause LIMIT _ _ c.args.self.now c.in_err-freeze.field-0.0 (λ e. let t : false ≡ true = c.in_err-freeze.ensures.idle e in cc) c.in_err-freeze.ensures.cause)));
       cause = rw (p.1, p.2) (freeze_cause LIMIT _ _ c.args.self.now c.in_err-freeze.field-0.0 (λ e. let t : false ≡ true = c.in_err-freeze.ensures.idle e in cc) c.in_err-freeze.ensures.cause);
       puts = puts_none _;
     }
@@ -202,17 +203,17 @@ pub returns : goal.returns
 returns g c =
     let before = reach_of g.S.Store g.M.MergeOperator g.T.BlockTransformer c.args.env.now in
     let after = reach_of g.S.Store g.M.MergeOperator g.T.BlockTransformer c.install.new.env in
-    let layout = layout_of c.args.laws.now.options (map (λ p. (goal.FilterPolicy-dyn g (p.vtable, p.value)).meaning p.value) c.args.laws.now.policies.items) in
+    let layout = layout_of c.args.laws.now.options (map (λ p. (goal.FilterPolicy-dyn g (p.vtable, p.value)).meaning p.value) c.args.laws.now.policies.items) (segments_by g.X.PrefixExtractor.lengths c.args.laws.now.segments) in
     let cause = cause_after c.install.result _ (IsFlushError layout before after c.args.self.now) (λ e h. behind layout before after c.args.self.now c.freeze.new.self e c.in_ok-freeze.ensures.event h) c.install.ensures.cause in
-    let steps = steps_after c.install.result before.meaning (layout_of c.args.laws.now.options (map (λ p. (goal.FilterPolicy-dyn g (p.vtable, p.value)).meaning p.value) c.args.laws.now.policies.items)) c.args.self.now c.freeze.new.self c.install.new.self (g.S.Store.objects c.args.env.now.store.now) (g.S.Store.objects c.install.new.env.store.now) c.in_ok-freeze.ensures.event c.install.ensures.newest c.install.ensures.installed in
-    let same = settled c.install.result before.meaning (layout_of c.args.laws.now.options (map (λ p. (goal.FilterPolicy-dyn g (p.vtable, p.value)).meaning p.value) c.args.laws.now.policies.items)) c.freeze.new.self c.install.new.self (g.S.Store.objects c.args.env.now.store.now) (g.S.Store.objects c.install.new.env.store.now) c.install.ensures.installed c.install.ensures.same ∙ frozen_settings c.args.self.now c.freeze.new.self c.in_ok-freeze.ensures.event in
+    let steps = steps_after c.install.result before.meaning (layout_of c.args.laws.now.options (map (λ p. (goal.FilterPolicy-dyn g (p.vtable, p.value)).meaning p.value) c.args.laws.now.policies.items) (segments_by g.X.PrefixExtractor.lengths c.args.laws.now.segments)) c.args.self.now c.freeze.new.self c.install.new.self (g.S.Store.objects c.args.env.now.store.now) (g.S.Store.objects c.install.new.env.store.now) c.in_ok-freeze.ensures.event c.install.ensures.newest c.install.ensures.installed in
+    let same = settled c.install.result before.meaning (layout_of c.args.laws.now.options (map (λ p. (goal.FilterPolicy-dyn g (p.vtable, p.value)).meaning p.value) c.args.laws.now.policies.items) (segments_by g.X.PrefixExtractor.lengths c.args.laws.now.segments)) c.freeze.new.self c.install.new.self (g.S.Store.objects c.args.env.now.store.now) (g.S.Store.objects c.install.new.env.store.now) c.install.ensures.installed c.install.ensures.same ∙ frozen_settings c.args.self.now c.freeze.new.self c.in_ok-freeze.ensures.event in
     record {
       step = steps;
-      installed = installed_after c.install.result before.meaning (layout_of c.args.laws.now.options (map (λ p. (goal.FilterPolicy-dyn g (p.vtable, p.value)).meaning p.value) c.args.laws.now.policies.items)) c.args.self.now c.freeze.new.self c.install.new.self (g.S.Store.objects c.args.env.now.store.now) (g.S.Store.objects c.install.new.env.store.now) c.in_ok-freeze.ensures.event c.install.ensures.installed;
+      installed = installed_after c.install.result before.meaning (layout_of c.args.laws.now.options (map (λ p. (goal.FilterPolicy-dyn g (p.vtable, p.value)).meaning p.value) c.args.laws.now.policies.items) (segments_by g.X.PrefixExtractor.lengths c.args.laws.now.segments)) c.args.self.now c.freeze.new.self c.install.new.self (g.S.Store.objects c.args.env.now.store.now) (g.S.Store.objects c.install.new.env.store.now) c.in_ok-freeze.ensures.event c.install.ensures.installed;
       acts = (subst (λ (ts : List (Ulid × List ℕ)). OnOk c.install.result (AddsTables ts (tables_of c.install.new.self.events) (g.S.Store.acts c.args.env.now.store.now) (g.S.Store.acts c.install.new.env.store.now)))
           (frozen_tables c.args.self.now c.freeze.new.self c.in_ok-freeze.ensures.event) c.install.ensures.acts);
-      taken = all_taken c.install.result before.meaning (layout_of c.args.laws.now.options (map (λ p. (goal.FilterPolicy-dyn g (p.vtable, p.value)).meaning p.value) c.args.laws.now.policies.items)) c.freeze.new.self c.install.new.self (g.S.Store.objects c.args.env.now.store.now) (g.S.Store.objects c.install.new.env.store.now) (frozen_idle c.args.self.now c.freeze.new.self c.in_ok-freeze.ensures.event) c.install.ensures.installed;
-      quiet = quiet_after c.install.result before.meaning (layout_of c.args.laws.now.options (map (λ p. (goal.FilterPolicy-dyn g (p.vtable, p.value)).meaning p.value) c.args.laws.now.policies.items)) c.freeze.new.self c.install.new.self (g.S.Store.objects c.args.env.now.store.now) (g.S.Store.objects c.install.new.env.store.now) c.in_ok-freeze.ensures.quiet c.install.ensures.installed;
+      taken = all_taken c.install.result before.meaning (layout_of c.args.laws.now.options (map (λ p. (goal.FilterPolicy-dyn g (p.vtable, p.value)).meaning p.value) c.args.laws.now.policies.items) (segments_by g.X.PrefixExtractor.lengths c.args.laws.now.segments)) c.freeze.new.self c.install.new.self (g.S.Store.objects c.args.env.now.store.now) (g.S.Store.objects c.install.new.env.store.now) (frozen_idle c.args.self.now c.freeze.new.self c.in_ok-freeze.ensures.event) c.install.ensures.installed;
+      quiet = quiet_after c.install.result before.meaning (layout_of c.args.laws.now.options (map (λ p. (goal.FilterPolicy-dyn g (p.vtable, p.value)).meaning p.value) c.args.laws.now.policies.items) (segments_by g.X.PrefixExtractor.lengths c.args.laws.now.segments)) c.freeze.new.self c.install.new.self (g.S.Store.objects c.args.env.now.store.now) (g.S.Store.objects c.install.new.env.store.now) c.in_ok-freeze.ensures.quiet c.install.ensures.installed;
       refused = both_err c.install.result (λ same may. (c.freeze.new.self, inr c.in_ok-freeze.ensures.event, same, may)) c.install.ensures.same c.install.ensures.refused;
       frozen = frozen_at_fault c.install.result c.args.self.now c.freeze.new.self c.install.new.self c.in_ok-freeze.ensures.event c.install.ensures.same;
       full = λ h. absurd (omega (arith, c.in_ok-place_for_flush.ensures.place, h));

@@ -10,7 +10,7 @@ becomes : (c : goal.After-reserve) → record (layers_view c.self.inside) { for_
 becomes c = ap (λ (ts : List MemTableModel). record (layers_view c.self.inside) { frozen = map (λ t. t.rows) ts; for_freeze = vec_capacity c.reserve.new.self - vec_len c.reserve.new.self }) (sym c.reserve.ensures.items)
 
 stays : (c : goal.After-reserve) → AreLayers (layers_view (record c.self.inside { frozen = c.reserve.new.self }))
-stays c = subst AreLayers (becomes c) (layers_room (layers_view c.self.inside) _ _ c.self.invariant)
+stays c = subst AreLayers (becomes c) (layers_room (layers_view c.self.inside) _ c.self.invariant)
 
 pub invariant_of-self : goal.invariant_of-self
 invariant_of-self c = stays c

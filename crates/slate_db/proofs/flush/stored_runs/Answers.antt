@@ -1,0 +1,71 @@
+use Rattle.std.proofs.Common.{◌∷◌, [], map, length, inl, refl, arith, ap, sym, subst, ◌∙◌, length-append}
+use Rattle.std.proofs.lemmas.Result.{IfOk-from_err, err_from_is_err_and}
+use Rattle.slate_types.specs.Outside.{IsCounted, Meaning}
+use Rattle.slate_types.proofs.Reaching.{puts_then}
+use Rattle.slate_store.specs.Reach.{reach_of}
+use Rattle.slate_db.proofs.RunSoFar.{next_builds, one_so_far, one_stands, refused_run, so_far_taken, some_taken}
+use Rattle.slate_db.proofs.flush.stored_runs.Goals as goal
+
+pub stored_table-requires-clause-ready : goal.stored_table-requires-clause-ready
+stored_table-requires-clause-ready g c = λ κs lives. next_builds _ _ _ _ _ _ _ _ _ _ c.loop-part.invariant.far (ap (map (λ t. t.rows.items)) c.in-Some.ensures.steps.0) c.requires.each
+
+pub returns-in_err-table : goal.returns-in_err-table
+returns-in_err-table g c =
+    let p = err_from_is_err_and c.from_residual-in_err-table.result c.from_residual-in_err-table.ensures.1 in
+    let was = c.loop-part.invariant in
+    let next = ap (map (λ t. t.rows.items)) c.in-Some.ensures.steps.0 in
+    let before = reach_of g.S.Store g.M.MergeOperator g.T.BlockTransformer c.args.env.now in
+    let now = reach_of g.S.Store g.M.MergeOperator g.T.BlockTransformer c.loop-part.env in
+    let after = reach_of g.S.Store g.M.MergeOperator g.T.BlockTransformer c.stored_table.new.env in
+    record {
+      stored = IfOk-from_err c.from_residual-in_err-table.result _ c.from_residual-in_err-table.ensures.0;
+      acts = IfOk-from_err c.from_residual-in_err-table.result _ c.from_residual-in_err-table.ensures.0;
+      stand = IfOk-from_err c.from_residual-in_err-table.result _ c.from_residual-in_err-table.ensures.0;
+      refused = (let p = err_from_is_err_and c.from_residual-in_err-table.result c.from_residual-in_err-table.ensures.1 in
+          rw p.1
+          (some_taken before now after _ _ _ _ _ _ _ _ was.far next (ap (λ (m : Meaning). m.encode) was.puts.meaning)
+          (c.in_err-table.ensures.refused c.args.number (length c.loop-part.tables.items) (record { is = omega (arith, c.len-in-loop-part.ensures); fits = omega (arith, c.len-in-loop-part.ensures, c.len-in-loop-part.type_inv) }))));
+      cause = rw (p.1, p.2) (refused_run before now after _ _ _ _ _ _ _ _ _ was.far next was.puts.later c.in_err-table.ensures.cause);
+      operator = c.stored_table.ensures.operator ∙ was.operator;
+      puts = puts_then _ _ _ was.puts c.stored_table.ensures.puts;
+    }
+
+pub returns-in_err-add_table : goal.returns-in_err-add_table
+returns-in_err-add_table g c =
+    let p = err_from_is_err_and c.from_residual-in_err-add_table.result c.from_residual-in_err-add_table.ensures.1 in
+    let was = c.loop-part.invariant in
+    let next = ap (map (λ t. t.rows.items)) c.in-Some.ensures.steps.0 in
+    let before = reach_of g.S.Store g.M.MergeOperator g.T.BlockTransformer c.args.env.now in
+    let now = reach_of g.S.Store g.M.MergeOperator g.T.BlockTransformer c.loop-part.env in
+    let after = reach_of g.S.Store g.M.MergeOperator g.T.BlockTransformer c.stored_table.new.env in
+    let far = one_so_far before now after _ _ _ _ _ _ _ c.push_reserved.new.self.items _ _ _ _ was.far next (ap (λ (m : Meaning). m.encode) was.puts.meaning)
+    (c.in_ok-table.ensures.stored c.args.number (length c.loop-part.tables.items) (record { is = omega (arith, c.len-in-loop-part.ensures); fits = omega (arith, c.len-in-loop-part.ensures, c.len-in-loop-part.type_inv) }))
+    c.in_ok-table.ensures.acts c.push_reserved.ensures.items refl in
+    record {
+      stored = IfOk-from_err c.from_residual-in_err-add_table.result _ c.from_residual-in_err-add_table.ensures.0;
+      acts = IfOk-from_err c.from_residual-in_err-add_table.result _ c.from_residual-in_err-add_table.ensures.0;
+      stand = IfOk-from_err c.from_residual-in_err-add_table.result _ c.from_residual-in_err-add_table.ensures.0;
+      refused = rw p.1 (so_far_taken before after _ _ _ _ _ _ far);
+      cause = rw (p.1, p.2) (inl (subst (IsCounted before.faults after.faults) (sym c.in_err-add_table.ensures.cause) tt));
+      operator = c.stored_table.ensures.operator ∙ was.operator;
+      puts = puts_then _ _ _ was.puts c.stored_table.ensures.puts;
+    }
+
+pub loop-part-preserved : goal.loop-part-preserved
+loop-part-preserved g c =
+    let was = c.loop-part.invariant in
+    let next = ap (map (λ t. t.rows.items)) c.in-Some.ensures.steps.0 in
+    let before = reach_of g.S.Store g.M.MergeOperator g.T.BlockTransformer c.args.env.now in
+    let now = reach_of g.S.Store g.M.MergeOperator g.T.BlockTransformer c.loop-part.env in
+    let after = reach_of g.S.Store g.M.MergeOperator g.T.BlockTransformer c.stored_table.new.env in
+    let left = ap length c.in-Some.ensures.steps.0 in
+    let tables = ap length c.push_reserved.ensures.items ∙ length-append c.loop-part.tables.items (c.in_ok-table.table ∷ []) in
+    record {
+      far = (one_so_far before now after _ _ _ _ _ _ _ _ _ _ _ _ was.far next (ap (λ (m : Meaning). m.encode) was.puts.meaning)
+          (c.in_ok-table.ensures.stored c.args.number (length c.loop-part.tables.items) (record { is = omega (arith, c.len-in-loop-part.ensures); fits = omega (arith, c.len-in-loop-part.ensures, c.len-in-loop-part.type_inv) }))
+          c.in_ok-table.ensures.acts c.push_reserved.ensures.items c.in_ok-add_table.ensures.handles);
+      stand = one_stands _ _ _ c.in-Some.part.prefix c.loop-part.runs.items c.add_table.new.runs.items was.stand (ap (map (λ t. t.prefix)) c.in-Some.ensures.steps.0) c.in_ok-add_table.ensures.stand;
+      room_tables = omega (arith, was.room_tables, left, tables, c.push_reserved.ensures.capacity);
+      operator = c.stored_table.ensures.operator ∙ was.operator;
+      puts = puts_then _ _ _ was.puts c.stored_table.ensures.puts;
+    }
