@@ -116,7 +116,7 @@ length-front (suc n) (b ∷ p) h = ap suc (length-front n p (omega arith))
 
 -- ---- what nests with a prefix
 
-le-trans : (a b c : List ℕ) → key_le a b ≡ true → key_le b c ≡ true → key_le a c ≡ true
+pub le-trans : (a b c : List ℕ) → key_le a b ≡ true → key_le b c ≡ true → key_le a c ≡ true
 le-trans a b c u v = by (key_cmp b c) refl v
   where
     by : (o : Ordering) → key_cmp b c ≡ o → is_le o ≡ true → key_le a c ≡ true

@@ -42,3 +42,4 @@ pub mod Operables
 pub mod FoldedKeys
 pub mod FoldedTurns
 pub mod Operators
+pub mod SegmentRuns

@@ -37,3 +37,5 @@ pub mod FoldedReads
 pub mod Folds
 pub mod OperatorIterators
 pub mod OperatorLaws
+pub mod SegmentIterators
+pub mod SegmentLaws
