@@ -27,6 +27,7 @@ mod Cuts
 pub mod Runs
 mod StandingRuns
 mod TouchedSegments
+mod FlushedKeys
 mod Built
 mod Flushes
 mod Installs

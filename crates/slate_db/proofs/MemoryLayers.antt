@@ -1,11 +1,10 @@
 -- What is true of all layers stays so.
-use Rattle.std.proofs.Common.{◌≡◌, ℕ, ◌<◌, List, [], ◌∷◌, ◌++◌, length, refl, sym, ap, subst, ◌∙◌, append-nil}
+use Rattle.std.proofs.Common.{◌≡◌, ℕ, ◌<◌, List, [], ◌∷◌, ◌++◌, length, sym, subst, ◌∙◌, append-nil}
 use Rattle.std.proofs.lemmas.Grind.{flat_map-append}
 use Rattle.std.specs.Prelude.{Result, Ok, Err, OnOk, OnErr}
 use Rattle.std.specs.List.{AllByRecursion}
 use Rattle.slate_mem.specs.Table.{put_rows}
 use Rattle.slate_read.specs.declared.sorted_run.SortedRun.{SortedRun}
-use Rattle.slate_table.specs.Table.{AreInOrder}
 use Rattle.slate_db.specs.Layers.{LayersModel, AreLayers, AreRising, FitsMemory, in_memory}
 use Rattle.slate_db.specs.Model.{Rows, versions, versions_in}
 use Rattle.slate_db.proofs.FlushRows.{rising_front}

@@ -1,12 +1,10 @@
-use Rattle.std.proofs.Common.{◌≡◌, ◌-◌, ◌^◌, ◌++◌, ◌∷◌, ◌&&◌, ◌||◌, [], Bool, List, ℕ, map, min, Option, None, arith, rules, refl, sym, ap, subst, ◌∙◌, nat_le}
-use Rattle.std.specs.Prelude.{sum_by}
+use Rattle.std.proofs.Common.{◌≡◌, ◌++◌, ◌∷◌, ◌&&◌, ◌||◌, [], Bool, List, ℕ, map, None, arith, rules, sym, ap, subst, ◌∙◌}
 use Rattle.std.specs.Vec.Iter.{into_iter_items}
 use Rattle.std.proofs.lemmas.List.{map-append, nil_from_length}
 use Rattle.slate_types.specs.declared.types.RowEntry.{RowEntry}
-use Rattle.slate_types.specs.Rows.{estimated_size}
 use Rattle.slate_mem.specs.Gathered.{last_row}
 use Rattle.slate_db.specs.declared.cut.TableRows.{TableRows}
-use Rattle.slate_db.specs.Cut.{AreCut, AreOfSegment, AreOfSegments, begins_key, begins_segment, ends_before, segment_of}
+use Rattle.slate_db.specs.Cut.{AreCut, AreOfSegment, AreOfSegments, begins_key, begins_segment}
 use Rattle.slate_db.specs.Meaning.{segments_by}
 use Rattle.slate_db.specs.Model.{Rows}
 use Rattle.slate_db.proofs.Cuts.{IsNext, cut_all, ends_of_next, full_is, goes_of_next, more_size, next_ends, next_goes, segments_more, tables_from}

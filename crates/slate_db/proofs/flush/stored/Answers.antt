@@ -1,7 +1,7 @@
 use Rattle.std.proofs.Common.{map, inl, subst, sym, refl, arith, ◌∙◌}
 use Rattle.std.proofs.lemmas.Result.{IfOk-from_err, err_from_is_err_and}
 use Rattle.slate_types.specs.Outside.{IsCounted, IsLater}
-use Rattle.slate_types.proofs.Reaching.{puts_none, puts_of, puts_then}
+use Rattle.slate_types.proofs.Reaching.{puts_of, puts_then}
 use Rattle.slate_store.specs.Reach.{reach_of}
 use Rattle.slate_db.specs.Flushed.{layout_of}
 use Rattle.slate_db.specs.Meaning.{segments_by}

@@ -1,7 +1,6 @@
-use Rattle.std.proofs.Common.{◌≡◌, ◌-◌, ◌++◌, [], List, map, refl, sym, ap, subst, ◌∙◌}
+use Rattle.std.proofs.Common.{◌≡◌, ◌-◌, ◌++◌, [], List, map, sym, ap, subst, ◌∙◌}
 use Rattle.std.specs.Prelude.{vec_len, vec_capacity}
 use Rattle.slate_mem.specs.Table.{MemTableModel}
-use Rattle.slate_read.specs.declared.sorted_run.SortedRun.{SortedRun}
 use Rattle.slate_db.specs.Layers.{LayersModel, AreLayers}
 use Rattle.slate_db.specs.LayersView.{layers_view}
 use Rattle.slate_db.proofs.MemoryLayers.{layers_installed}
