@@ -1,6 +1,6 @@
 -- The rounds of a script, one after another.
 use Rattle.std.proofs.Common.{◌≡◌, ℕ, suc, ◌+◌, ◌-◌, ◌<◌, List, ◌++◌, sym, ap, ◌∙◌, arith, append_assoc, append-nil}
-use Rattle.slate_language.specs.Generate.{drawn, ended, generate, round, rounds}
+use Rattle.slate_language.specs.Generate.{drawn, round, rounds}
 
 -- the rounds that are made, with one more, and those that will be
 pub one-round : (n done s x : ℕ) (script next : List ℕ) → done < n → script ++ rounds (done + 1) (n - done) x ≡ rounds 1 n s

@@ -15,17 +15,15 @@ use Rattle.slate_store.specs.Lines.{before_lines, lines_of}
 use Rattle.slate_txn.specs.declared.line.Line.TheVariants as lines
 use Rattle.slate_language.specs.Grammar.{IsLine}
 use Rattle.slate_language.specs.Parse.{parse}
-use Rattle.slate_language.specs.Stage.{meaning}
 use Rattle.slate_txn.specs.State.{opening}
 use Rattle.slate_txn.specs.Reply.{Written}
 use Rattle.slate_mem.specs.KeyTests.{merges_refusal, ttl_refusal}
 use Rattle.slate_txn.specs.Refusals.{exhausted_refusal}
 use Rattle.slate_txn.specs.Step.{answers, refused_or, with_reply, as_commit}
-use Rattle.slate_language.specs.Replies.{Read, onto_meanings, reply_line, replies_to, replies}
+use Rattle.slate_language.specs.Replies.{onto_meanings, reply_line, replies_to, replies}
 use Rattle.slate_language.specs.Text.{is_visible}
-use Rattle.slate_language.specs.WorkedRows.{LongKeys, LongKeysToday, plain, long_key, text}
+use Rattle.slate_language.specs.WorkedRows.{LongKeys, plain, long_key, text}
 use Rattle.slate_language.proofs.ParseLaws.{parse-is}
-use Rattle.slate_language.proofs.BuiltLaws.{reads-what-is-built}
 
 abbrev key : ℕ → List ℕ
 key n = replicate n 97
@@ -80,20 +78,12 @@ own n = ap (λ b. map (λ (o : List ℕ × WriteOp). o.1) (cond b (batch n) []))
 shown-is : (n : ℕ) → flat_map reply_line (answers plain opening (lines.Write (batch n) ∷ [])) ≡ shown n (plain_put (49 ∷ []) ∷ []) (refusal n)
 shown-is n = (λ i. shown n (own n i) (refusal (long n i)))
 
-replied : (read : Read) (n : ℕ) → read (long_key n) ≡ Some (lines.Write (batch n)) →
-    replies_to read plain (lines_of (long_key n)) ≡ shown n (plain_put (49 ∷ []) ∷ []) (refusal n)
-replied read n is =
-    ap (replies_to read plain) (one-line n) ∙ ap (λ line. flat_map reply_line (answers plain opening (onto_meanings false line []))) is ∙ shown-is n
-
 written : (n : ℕ) → parse (long_key n) ≡ Some (lines.Write (batch n))
 written n = parse-is (long_key n) (lines.Write (batch n)) (is-line n)
 
-written-today : (n : ℕ) → meaning (long_key n) ≡ Some (lines.Write (batch n))
-written-today n = (reads-what-is-built (long_key n) (lines.Write (batch n))).0 (is-line n, refl)
-
-pub long_keys : LongKeys
-unfolding digits
-long_keys = (replied parse 65535 (written 65535), replied parse 65536 (written 65536), refl)
+replied : (n : ℕ) → replies plain (long_key n) ≡ shown n (plain_put (49 ∷ []) ∷ []) (refusal n)
+replied n =
+    ap (replies_to plain) (one-line n) ∙ ap (λ line. flat_map reply_line (answers plain opening (onto_meanings false line []))) (written n) ∙ shown-is n
 
 -- ---- a get of a long key
 
@@ -105,8 +95,8 @@ is-get n =
     let t = 39 ∷ key n in
     (codes "get" ∷ codes "t" ∷ t ∷ [], (t, (omega arith, omega arith, refl), inl (visible n, refl), refl), refl)
 
-got : (n : ℕ) → meaning (get_line n) ≡ Some (lines.Get (codes "t") (key n))
-got n = (reads-what-is-built (get_line n) (lines.Get (codes "t") (key n))).0 (is-get n, refl)
+got : (n : ℕ) → parse (get_line n) ≡ Some (lines.Get (codes "t") (key n))
+got n = parse-is (get_line n) (lines.Get (codes "t") (key n)) (is-get n)
 
 alone : (n : ℕ) → lines_of (key (suc n)) ≡ key (suc n) ∷ []
 alone zero = refl
@@ -118,9 +108,9 @@ two-lines n = ap (ahead (text ("begin t si" ∷ []) ++ codes "get t '")) (alone 
 replied-none : (n : ℕ) → replies plain (text ("begin t si" ∷ []) ++ get_line (suc n)) ≡ text ("begun t 0" ∷ "none" ∷ [])
 unfolding digits
 replied-none n =
-    ap (replies_to meaning plain) (two-lines n)
-    ∙ ap (λ line. flat_map reply_line (answers plain opening (onto_meanings false (meaning (codes "begin t si")) (onto_meanings false line [])))) (got (suc n))
+    ap (replies_to plain) (two-lines n)
+    ∙ ap (λ line. flat_map reply_line (answers plain opening (onto_meanings false (parse (codes "begin t si")) (onto_meanings false line [])))) (got (suc n))
 
-pub long_keys_today : LongKeysToday
+pub long_keys : LongKeys
 unfolding digits
-long_keys_today = (replied meaning 65535 (written-today 65535), replied meaning 65536 (written-today 65536), replied-none 65535)
+long_keys = (replied 65535, replied 65536, refl, replied-none 65535)

@@ -1,5 +1,5 @@
 -- What a run makes for itself is a well-formed script.
---     IsFormed bytes      whole lines, each of which is silent or built
+--     IsFormed bytes      whole lines, each of which is silent or in the grammar
 use Rattle.std.proofs.Common.{◌≡◌, ℕ, zero, suc, ◌+◌, ◌*◌, ◌/◌, ◌%◌, ◌^◌, ◌<◌, ◌≤◌, Bool, true, false, not, ◌&&◌, ◌⊎◌, inl, inr, List, [], ◌∷◌, ◌++◌, length, codes, decimal, IsTrue, refl, sym, ap, subst, ◌∙◌, arith, append_assoc}
 use Rattle.std.specs.Prelude.{if◌then◌else◌, ◌==◌}
 use Rattle.std.specs.List.{list_all, join_with_byte, AllByRecursion}
@@ -10,12 +10,12 @@ use Rattle.std.proofs.lemmas.List.{length-append}
 use Rattle.std.proofs.lemmas.List.Folds.{list_all-append}
 use Rattle.slate_types.specs.declared.config.IsolationLevel.TheVariants as levels
 use Rattle.slate_types.specs.declared.config.Ttl.TheVariants.{Default}
-use Rattle.slate_store.specs.Lines.{is_end, lines_of, whole_part, script_limit, HasNoEnd}
+use Rattle.slate_store.specs.Lines.{is_end, lines_of, whole_part, HasNoEnd}
 use Rattle.slate_store.proofs.LineLaws.{taken_line_is_first, whole_lines_join, whole_parts_join, end_makes_whole}
 use Rattle.slate_txn.specs.declared.line.Line.{Line}
 use Rattle.slate_txn.specs.declared.line.Line.TheVariants as lines
 use Rattle.slate_language.specs.Text.{is_visible}
-use Rattle.slate_language.specs.Stage.{IsBuiltLine}
+use Rattle.slate_language.specs.Grammar.{IsLine}
 use Rattle.slate_language.specs.Replies.{is_silent, IsWellFormed}
 use Rattle.slate_language.specs.Generate.{drawn, ended, generate, key_number, round, rounds}
 use Rattle.slate_language.specs.Words.{max_rounds}
@@ -48,7 +48,7 @@ key-below x = let less : x / 2 ^ 33 % 1000 < 1000 = mod-lt (x / 2 ^ 33) (omega a
 -- ---- lines
 
 abbrev AreFormed : List (List ℕ) → Type 0
-AreFormed ls = AllByRecursion (λ l. IsTrue (is_silent l) ⊎ ((line : Line) × IsBuiltLine l line)) ls
+AreFormed ls = AllByRecursion (λ l. IsTrue (is_silent l) ⊎ ((line : Line) × IsLine l line)) ls
 
 record IsFormed (bytes : List ℕ) : Type 0 where
   pub whole : whole_part bytes ≡ bytes
@@ -67,7 +67,7 @@ formed-append a b h k = record {
 formed-none : IsFormed []
 formed-none = record { whole = refl; lines = tt }
 
-formed-line : (l : List ℕ) (line : Line) → HasNoEnd l → IsBuiltLine l line → IsFormed (ended l)
+formed-line : (l : List ℕ) (line : Line) → HasNoEnd l → IsLine l line → IsFormed (ended l)
 formed-line l line none is = record {
   whole = end_makes_whole l;
   lines = subst AreFormed (sym (taken_line_is_first l (ended l) [] (none, inl refl))) (inr (line, is), tt);
@@ -77,13 +77,13 @@ formed-line l line none is = record {
 
 formed-begin : IsFormed (ended (codes "begin t ssi"))
 formed-begin = formed-line (codes "begin t ssi") (lines.Begin (codes "t") levels.SerializableSnapshot) refl
-    ((codes "begin" ∷ codes "t" ∷ codes "ssi" ∷ [], ((omega arith, omega arith, refl), refl), refl), refl)
+    (codes "begin" ∷ codes "t" ∷ codes "ssi" ∷ [], ((omega arith, omega arith, refl), refl), refl)
 
 formed-get : (x : ℕ) → IsFormed (ended (codes "get t 'k" ++ key_number x))
 formed-get x =
     let key = digits-of (x / 2 ^ 33 % 1000) (key-below x) in
     formed-line (codes "get t 'k" ++ key_number x) (lines.Get (codes "t") (107 ∷ key_number x)) key.1
-    ((codes "get" ∷ codes "t" ∷ (39 ∷ 107 ∷ key_number x) ∷ [], (39 ∷ 107 ∷ key_number x, (omega arith, omega arith, refl), inl (key.0, refl), refl), refl), refl)
+    (codes "get" ∷ codes "t" ∷ (39 ∷ 107 ∷ key_number x) ∷ [], (39 ∷ 107 ∷ key_number x, (omega arith, omega arith, refl), inl (key.0, refl), refl), refl)
 
 put-ends : (k v : List ℕ) → HasNoEnd k → HasNoEnd v → HasNoEnd (codes "put t 'k" ++ k ++ codes " 'v" ++ v)
 put-ends k v h j =
@@ -99,19 +99,16 @@ formed-put x i h =
     let value = digits-of i h in
     formed-line (codes "put t 'k" ++ key_number x ++ codes " 'v" ++ decimal i) (lines.Put (codes "t") (107 ∷ key_number x) (118 ∷ decimal i) Default)
     (put-ends (key_number x) (decimal i) key.1 value.1) (
-      (
-        codes "put" ∷ codes "t" ∷ (39 ∷ 107 ∷ key_number x) ∷ (39 ∷ 118 ∷ decimal i) ∷ [],
-        ((39 ∷ 107 ∷ key_number x) ∷ (39 ∷ 118 ∷ decimal i) ∷ [], (omega arith, omega arith, refl), (39 ∷ 107 ∷ key_number x, 39 ∷ 118 ∷ decimal i, [], inl (key.0, refl), inl (value.0, refl), refl, refl), refl),
-        put-joined (key_number x) (decimal i),
-      ),
-      refl,
+      codes "put" ∷ codes "t" ∷ (39 ∷ 107 ∷ key_number x) ∷ (39 ∷ 118 ∷ decimal i) ∷ [],
+      ((39 ∷ 107 ∷ key_number x) ∷ (39 ∷ 118 ∷ decimal i) ∷ [], (omega arith, omega arith, refl), (39 ∷ 107 ∷ key_number x, 39 ∷ 118 ∷ decimal i, [], inl (key.0, refl), inl (value.0, refl), refl, refl), refl),
+      put-joined (key_number x) (decimal i),
     )
 
 formed-commit : IsFormed (ended (codes "commit t"))
-formed-commit = formed-line (codes "commit t") (lines.Commit (codes "t")) refl ((codes "commit" ∷ codes "t" ∷ [], ((omega arith, omega arith, refl), refl), refl), refl)
+formed-commit = formed-line (codes "commit t") (lines.Commit (codes "t")) refl (codes "commit" ∷ codes "t" ∷ [], ((omega arith, omega arith, refl), refl), refl)
 
 formed-flush : IsFormed (ended (codes "flush"))
-formed-flush = formed-line (codes "flush") lines.Flush refl ((codes "flush" ∷ [], refl, refl), refl)
+formed-flush = formed-line (codes "flush") lines.Flush refl (codes "flush" ∷ [], refl, refl)
 
 formed-if : (t : Bool) → IsFormed (if t then ended (codes "flush") else [])
 formed-if true = formed-flush

@@ -1,7 +1,6 @@
 -- What a run counts of its replies is the summary of its script.
-use Rattle.std.proofs.Common.{◌≡◌, ℕ, suc, ◌+◌, ◌^◌, ◌<◌, ◌≤◌, Bool, true, false, cond, ◌⊎◌, inl, inr, List, [], ◌∷◌, ◌++◌, length, Option, Some, None, codes, decimal, IsTrue, refl, sym, ap, ◌∙◌, arith}
+use Rattle.std.proofs.Common.{◌≡◌, ℕ, suc, ◌+◌, ◌^◌, ◌<◌, ◌≤◌, Bool, true, false, cond, List, [], ◌∷◌, ◌++◌, length, Option, Some, None, codes, decimal, refl, sym, ap, ◌∙◌, arith}
 use Rattle.std.specs.Prelude.{if◌then◌else◌, count_by}
-use Rattle.std.specs.List.{AllByRecursion}
 use Rattle.std.proofs.lemmas.List.Recursion.{is_count_by}
 use Rattle.slate_types.specs.declared.error.SlateDBError.{SlateDBError}
 use Rattle.slate_types.specs.declared.bytes_range.BytesRange.{BytesRange}
@@ -24,11 +23,8 @@ use Rattle.slate_language.specs.Answers.{as_shown}
 use Rattle.slate_language.specs.Generate.{ended, is_hit, summary}
 use Rattle.slate_language.specs.Parse.{parse}
 use Rattle.slate_language.specs.Replies.{is_silent, onto_meanings, meanings, IsWellFormed}
-use Rattle.slate_language.specs.Stage.{IsBuiltLine, meaning}
 use Rattle.slate_language.specs.Tally.{committed_by, counted, nothing_from, one_more, tallied, tally_text}
 use Rattle.slate_language.specs.declared.tally.Tally.{Tally}
-use Rattle.slate_language.proofs.BuiltLaws.{reads-what-is-built}
-use Rattle.slate_language.proofs.ParseLaws.{parse-is}
 
 -- what isn't shown of a reply isn't counted
 pub counted-shown : (t : Tally) (a : Reply) → counted t (as_shown a) ≡ counted t a
@@ -165,9 +161,9 @@ onto-length true line rest = omega arith
 onto-length false None rest = omega arith
 onto-length false (Some line) rest = omega arith
 
-meanings-length : (ls : List (List ℕ)) → length (meanings parse ls) ≤ length ls
+meanings-length : (ls : List (List ℕ)) → length (meanings ls) ≤ length ls
 meanings-length [] = omega arith
-meanings-length (l ∷ ls) = omega (arith, onto-length (is_silent l) (parse l) (meanings parse ls), meanings-length ls)
+meanings-length (l ∷ ls) = omega (arith, onto-length (is_silent l) (parse l) (meanings ls), meanings-length ls)
 
 before-length : (t : Bool) (b : ℕ) (ls : List (List ℕ)) → length (if t then [] ∷ ls else prepend_byte b ls) ≤ length ls + 1
 before-length true b ls = omega arith
@@ -178,31 +174,16 @@ lines-length : (bytes : List ℕ) → length (lines_of bytes) ≤ length bytes
 lines-length [] = omega arith
 lines-length (b ∷ bs) = omega (arith, before-length (is_end b) b (lines_of bs), lines-length bs)
 
-few : (r : Rules) (script : List ℕ) → length script < script_limit → length (answers r opening (meanings parse (lines_of script))) < 2 ^ 64
-few r script h = omega (arith, answers-length r opening (meanings parse (lines_of script)), meanings-length (lines_of script), lines-length script, h)
-
--- ---- a line that is built means what the grammar says
-
-abbrev IsFormedLine : List ℕ → Type 0
-IsFormedLine l = IsTrue (is_silent l) ⊎ ((line : Line) × IsBuiltLine l line)
-
-one-meaning : (l : List ℕ) (rest : List Line) → IsFormedLine l → onto_meanings (is_silent l) (meaning l) rest ≡ onto_meanings (is_silent l) (parse l) rest
-one-meaning l rest (inl silent) = let is : is_silent l ≡ true = silent in (λ i. onto_meanings (is i) (meaning l) rest) ∙ sym (λ i. onto_meanings (is i) (parse l) rest)
-one-meaning l rest (inr built) =
-    ap (λ o. onto_meanings (is_silent l) o rest) ((reads-what-is-built l built.0).0 built.1 ∙ sym (parse-is l built.0 built.1.0))
-
-pub same-meanings : (ls : List (List ℕ)) → AllByRecursion IsFormedLine ls → meanings meaning ls ≡ meanings parse ls
-same-meanings [] h = refl
-same-meanings (l ∷ ls) h = ap (λ rest. onto_meanings (is_silent l) (meaning l) rest) (same-meanings ls h.1) ∙ one-meaning l (meanings parse ls) h.0
+few : (r : Rules) (script : List ℕ) → length script < script_limit → length (answers r opening (meanings (lines_of script))) < 2 ^ 64
+few r script h = omega (arith, answers-length r opening (meanings (lines_of script)), meanings-length (lines_of script), lines-length script, h)
 
 -- What is counted of the replies to a well-formed script is its summary.
-pub tally-summary : (r : Rules) (script : List ℕ) → IsWellFormed script → tally_text (tallied (nothing_from r.start_seq) (answers r opening (meanings meaning (lines_of script)))) ≡ summary r script
+pub tally-summary : (r : Rules) (script : List ℕ) → IsWellFormed script → tally_text (tallied (nothing_from r.start_seq) (answers r opening (meanings (lines_of script)))) ≡ summary r script
 tally-summary r script formed =
-    ap (λ ls. tally_text (tallied (nothing_from r.start_seq) (answers r opening ls))) (same-meanings (lines_of script) formed.1)
-    ∙ (λ i. ended (codes "replies " ++ decimal (replies i) ++ codes " committed " ++ decimal (committed i) ++ codes " hits " ++ decimal (hits i)))
+    (λ i. ended (codes "replies " ++ decimal (replies i) ++ codes " committed " ++ decimal (committed i) ++ codes " hits " ++ decimal (hits i)))
   where
     ls : List Line
-    ls = meanings parse (lines_of script)
+    ls = meanings (lines_of script)
 
     told : List Reply
     told = answers r opening ls

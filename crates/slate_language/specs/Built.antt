@@ -1,10 +1,10 @@
--- The lines that are built, read from their tokens.
+-- Lines read from their tokens, in the order in which the code reads them.
 --     texts ts      the tokens' bytes
 --     is_name t, is_numeral t, is_moment_text t      what a name, a number and a moment look like
 --     keyword t      the word that begins a line
 --     built_ops ts      the operations that the tokens of a write mean
 --     built_tokens ts      the line that the tokens mean
--- `built_tokens` of a line's tokens is `meaning`, as proved in proofs/BuiltLaws.antt.
+-- `built_tokens` of a line's tokens is `parse`, as proved in proofs/BuiltLaws.antt.
 use Rattle.std.specs.Prelude.{ℕ, Bool, false, ◌&&◌, ◌||◌, not, if◌then◌else◌, ◌==◌, nat_lt, nat_le, List, [], ◌∷◌, length, map, Option, Some, None, option_map, codes, bytes_eq, is_some}
 use Rattle.std.specs.List.{list_all}
 use Rattle.std.specs.Borrow.{Bor}
@@ -14,7 +14,7 @@ use Rattle.slate_mem.specs.Batch.{Ops}
 use Rattle.slate_txn.specs.declared.line.Line.{Line}
 use Rattle.slate_txn.specs.declared.line.Line.TheVariants as lines
 use Rattle.slate_language.specs.declared.parse.Keyword.{Keyword}
-use Rattle.slate_language.specs.declared.parse.Keyword.TheVariants.{Begin, Snapshot, Get, Scan, Put, Merge, Delete, Mark, Unmark, Commit, Rollback, Now, Write, Freeze, Flush, Journal}
+use Rattle.slate_language.specs.declared.parse.Keyword.TheVariants.{Begin, Snapshot, Get, Scan, Prefix, Put, Merge, Delete, Mark, Unmark, Commit, Rollback, Now, Write, Freeze, Flush, Journal}
 use Rattle.slate_language.specs.Grammar.{is_name_byte}
 use Rattle.slate_language.specs.Parse.{◌>>=◌, both, read_bytes, read_moment, read_name, read_level, read_order, read_pair, read_way, named, keyed, many_keyed, op_word, grouped, ops_of_groups}
 
@@ -47,15 +47,18 @@ abbrev pub keyword_among : List (List ℕ × Keyword) → List ℕ → Option Ke
 keyword_among [] t = None
 keyword_among (p ∷ ps) t = if bytes_eq t p.0 then Some p.1 else keyword_among ps t
 
--- the words of lines that name no transaction, and those of the lines that end a transaction or change what its commit conflicts by
+-- the words of lines that name no transaction, those of the lines that end a transaction or change what its commit conflicts by, and those of its operations
 abbrev pub unnamed : List (List ℕ × Keyword)
 unnamed = (codes "now", Now) ∷ (codes "write", Write) ∷ (codes "freeze", Freeze) ∷ (codes "flush", Flush) ∷ (codes "journal", Journal) ∷ []
 
 abbrev pub marking : List (List ℕ × Keyword)
 marking = (codes "mark", Mark) ∷ (codes "unmark", Unmark) ∷ (codes "commit", Commit) ∷ (codes "rollback", Rollback) ∷ unnamed
 
+abbrev pub writing : List (List ℕ × Keyword)
+writing = (codes "put", Put) ∷ (codes "merge", Merge) ∷ (codes "delete", Delete) ∷ marking
+
 abbrev pub keywords : List (List ℕ × Keyword)
-keywords = (codes "begin", Begin) ∷ (codes "snapshot", Snapshot) ∷ (codes "get", Get) ∷ (codes "scan", Scan) ∷ (codes "put", Put) ∷ (codes "merge", Merge) ∷ (codes "delete", Delete) ∷ marking
+keywords = (codes "begin", Begin) ∷ (codes "snapshot", Snapshot) ∷ (codes "get", Get) ∷ (codes "scan", Scan) ∷ (codes "prefix", Prefix) ∷ writing
 
 abbrev pub keyword : List ℕ → Option Keyword
 keyword t = keyword_among keywords t
@@ -108,6 +111,10 @@ abbrev pub built_scan : List (List ℕ) → Option Line
 built_scan (n ∷ t ∷ us) = read_name n >>= λ name. read_order t >>= λ order. read_way (lines.Scan name order) us
 built_scan _ = None
 
+abbrev pub built_prefix : List (List ℕ) → Option Line
+built_prefix (n ∷ t ∷ k ∷ us) = read_name n >>= λ name. read_order t >>= λ order. read_bytes k >>= λ p. read_way (lines.Prefix name order p) us
+built_prefix _ = None
+
 abbrev pub built_put : List (List ℕ) → Option Line
 built_put (n ∷ us) = read_name n >>= λ name. read_pair (lines.Put name) us
 built_put _ = None
@@ -143,6 +150,7 @@ built_as Begin ts = built_begin ts
 built_as Snapshot ts = built_snapshot ts
 built_as Get ts = built_get ts
 built_as Scan ts = built_scan ts
+built_as Prefix ts = built_prefix ts
 built_as Put ts = built_put ts
 built_as Merge ts = built_merge ts
 built_as Delete ts = built_delete ts

@@ -6,7 +6,6 @@ use Rattle.slate_txn.specs.State.{Rules, opening, last}
 use Rattle.slate_txn.specs.Reply.{Reply, Found}
 use Rattle.slate_txn.specs.Step.{answers, after}
 use Rattle.slate_store.specs.Lines.{lines_of}
-use Rattle.slate_language.specs.Parse.{parse}
 use Rattle.slate_language.specs.Replies.{meanings}
 
 abbrev pub drawn : ℕ → ℕ
@@ -38,6 +37,6 @@ is_hit (Found (Some row)) = true
 is_hit _ = false
 
 abbrev pub summary : Rules → List ℕ → List ℕ
-summary r script = ended (codes "replies " ++ decimal (length (answers r opening (meanings parse (lines_of script))))
-    ++ codes " committed " ++ decimal (last r (after r opening (meanings parse (lines_of script))))
-    ++ codes " hits " ++ decimal (count_by is_hit (answers r opening (meanings parse (lines_of script)))))
+summary r script = ended (codes "replies " ++ decimal (length (answers r opening (meanings (lines_of script))))
+    ++ codes " committed " ++ decimal (last r (after r opening (meanings (lines_of script))))
+    ++ codes " hits " ++ decimal (count_by is_hit (answers r opening (meanings (lines_of script)))))

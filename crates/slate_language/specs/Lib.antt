@@ -1,11 +1,11 @@
 pub mod Text
 pub mod Grammar
 pub mod Parse
-pub mod Stage
 pub mod Built
 pub mod Replies
 pub mod Answers
 pub mod Parts
+pub mod Segments
 pub mod ShortParts
 pub mod Generate
 pub mod Tally

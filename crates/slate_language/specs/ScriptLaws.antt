@@ -1,26 +1,27 @@
 -- Laws of lines, of replies, of the words of a run, and of the parts that words can name.
-use Rattle.std.specs.Prelude.{◌≡◌, ◌↔◌, ◌≤◌, ℕ, not, ◌==◌, List, [], ◌∷◌, ◌++◌, Some, IsTrue, None, Bool, false, ◌&&◌, filter, flat_map, Option}
+use Rattle.std.specs.Prelude.{◌≡◌, ◌≤◌, ℕ, not, ◌==◌, List, [], ◌∷◌, ◌++◌, Some, IsTrue, None, Bool, false, ◌&&◌, filter, flat_map, Option}
 use Rattle.std.specs.List.{list_all}
 use Rattle.slate_types.specs.Fold.{IsLawful, KeepsShort}
-use Rattle.slate_types.specs.Lawful.{IsLawfulTransform}
+use Rattle.slate_types.specs.Lawful.{IsLawfulLengths, IsLawfulTransform, IsWithinTarget}
 use Rattle.slate_store.specs.Lines.{lines_of}
 use Rattle.slate_filter.specs.Policy.{Policy}
 use Rattle.slate_txn.specs.declared.line.Line.{Line}
 use Rattle.slate_txn.specs.State.{Rules, opening}
 use Rattle.slate_txn.specs.Step.{answers}
 use Rattle.slate_txn.specs.Laws.{is_storage, other_answers}
+use Rattle.slate_language.specs.declared.extractors.ExtractorName.{ExtractorName}
 use Rattle.slate_language.specs.declared.operators.NamedOperator.{NamedOperator}
+use Rattle.slate_language.specs.Segments.{named_lengths}
 use Rattle.slate_language.specs.Parts.{concat, greater, named, xored}
 use Rattle.slate_types.specs.Keys.{AreBytes}
 use Rattle.slate_language.specs.Text.{shown_bytes}
 use Rattle.slate_language.specs.Grammar.{IsBytes, IsLine}
 use Rattle.slate_language.specs.Parse.{parse}
-use Rattle.slate_language.specs.Stage.{IsBuiltLine, meaning}
 use Rattle.slate_language.specs.Generate.{generate, summary}
 use Rattle.slate_language.specs.Tally.{nothing_from, tallied, tally_text}
 use Rattle.slate_language.specs.Words.{max_rounds, read_generated, read_words, used}
 use Rattle.slate_language.specs.declared.words.Generated.{Generated}
-use Rattle.slate_language.specs.Replies.{replies, is_silent, meanings, reply_line, whole_replies, IsWellFormed}
+use Rattle.slate_language.specs.Replies.{replies, is_silent, meanings, reply_line, replies, IsWellFormed}
 
 -- What the grammar has is read, with its meaning.
 abbrev pub ReadsTheGrammar : Type 0
@@ -29,10 +30,6 @@ ReadsTheGrammar = (bytes : List ℕ) (line : Line) → IsLine bytes line → par
 -- What is read is in the grammar.
 abbrev pub ReadsNothingElse : Type 0
 ReadsNothingElse = (bytes : List ℕ) (line : Line) → parse bytes ≡ Some line → IsLine bytes line
-
--- A line that is built is read with its meaning, and nothing else is.
-abbrev pub ReadsWhatIsBuilt : Type 0
-ReadsWhatIsBuilt = (bytes : List ℕ) (line : Line) → IsBuiltLine bytes line ↔ (meaning bytes ≡ Some line)
 
 -- What bytes are shown as spells them.
 abbrev pub ReadsWhatIsShown : Type 0
@@ -62,6 +59,10 @@ GreaterIsLawful = (k : List ℕ) → IsLawful (greater k) × KeepsShort (greater
 abbrev pub NamedIsLawful : Type 0
 NamedIsLawful = (o : NamedOperator) (k : List ℕ) → IsLawful (named o k) × KeepsShort (named o k)
 
+-- Each extractor that a word can name is lawful.
+abbrev pub NamedExtractorIsLawful : Type 0
+NamedExtractorIsLawful = (name : ExtractorName) → IsWithinTarget (named_lengths name) × IsLawfulLengths (named_lengths name)
+
 -- The transformer that changes each byte by one number is lawful.
 abbrev pub XorIsLawful : Type 0
 XorIsLawful = (n : ℕ) → IsLawfulTransform (xored n) (xored n)
@@ -84,11 +85,11 @@ abbrev pub without_storing : List ℕ → List ℕ
 without_storing script = joined (filter (λ l. not (is_storing l)) (lines_of script))
 
 abbrev pub other_replies : Rules → List ℕ → List ℕ
-other_replies r script = flat_map reply_line (other_answers r opening (meanings parse (lines_of script)))
+other_replies r script = flat_map reply_line (other_answers r opening (meanings (lines_of script)))
 
 -- Taking the lines that freeze or flush out of a script takes out their replies, and changes no other.
 abbrev pub StoringIsSilent : Type 0
-StoringIsSilent = (r : Rules) (script : List ℕ) → whole_replies r (without_storing script) ≡ other_replies r script
+StoringIsSilent = (r : Rules) (script : List ℕ) → replies r (without_storing script) ≡ other_replies r script
 
 -- Two words side by side may change places.
 abbrev pub WordsInAnyOrder : Type 0
@@ -112,4 +113,4 @@ GeneratedIsWellFormed = (n s : ℕ) → n ≤ max_rounds → IsWellFormed (gener
 -- What is counted of the replies to a well-formed script is its summary.
 abbrev pub TallyIsSummary : Type 0
 TallyIsSummary = (r : Rules) (script : List ℕ) → IsWellFormed script →
-    tally_text (tallied (nothing_from r.start_seq) (answers r opening (meanings meaning (lines_of script)))) ≡ summary r script
+    tally_text (tallied (nothing_from r.start_seq) (answers r opening (meanings (lines_of script)))) ≡ summary r script

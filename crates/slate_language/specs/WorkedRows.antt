@@ -6,7 +6,7 @@ use Rattle.slate_filter.specs.Extractors.{last_colon}
 use Rattle.slate_txn.specs.State.{Rules}
 use Rattle.slate_language.specs.Parts.{concat, greater}
 use Rattle.slate_language.specs.Generate.{generate, summary}
-use Rattle.slate_language.specs.Replies.{whole_replies, replies}
+use Rattle.slate_language.specs.Replies.{replies, replies}
 
 abbrev pub plain : Rules
 plain = record { default_millis = None; start_seq = 0; combine = None; segment = None }
@@ -37,11 +37,11 @@ a ▹ b = (a, b)
 
 -- the script of these lines has these replies
 abbrev pub Answers : Rules → List (String × String) → Type 0
-Answers r ps = whole_replies r (text (map (λ p. p.0) ps)) ≡ text (map (λ p. p.1) ps)
+Answers r ps = replies r (text (map (λ p. p.0) ps)) ≡ text (map (λ p. p.1) ps)
 
 -- an empty script, a last line without its end, and a line that is none
 abbrev pub ShortScripts : Type 0
-ShortScripts = (whole_replies plain [] ≡ []) × (whole_replies plain (codes "flush") ≡ text ("flushed 0" ∷ [])) × (whole_replies plain (text ("begin t si" ∷ "get t" ∷ [])) ≡ text ("begun t 0" ∷ []))
+ShortScripts = (replies plain [] ≡ []) × (replies plain (codes "flush") ≡ text ("flushed 0" ∷ [])) × (replies plain (text ("begin t si" ∷ "get t" ∷ [])) ≡ text ("begun t 0" ∷ []))
 
 abbrev pub OlderReader : Type 0
 OlderReader = Answers plain (
@@ -289,14 +289,11 @@ DeletedKey = Answers plain (
     ("get t 'a" ▹ "none") ∷
     [])
 
--- ---- what is built today
+-- ---- more of each kind of line
 
--- these lines have these replies today
-abbrev pub AnswersToday : Rules → List (String × String) → Type 0
-AnswersToday r ps = replies r (text (map (λ p. p.0) ps)) ≡ text (map (λ p. p.1) ps)
-
-abbrev pub OlderReaderToday : Type 0
-OlderReaderToday = AnswersToday plain (
+-- A reader that begins behind a write sees it.
+abbrev pub NewerReader : Type 0
+NewerReader = Answers plain (
     ("begin t si" ▹ "begun t 0") ∷
     ("get t 'a" ▹ "none") ∷
     ("write put 'a '1" ▹ "written 1") ∷
@@ -306,8 +303,9 @@ OlderReaderToday = AnswersToday plain (
     ("get u 'a" ▹ "row 'a '1 1 0 -") ∷
     [])
 
-abbrev pub NamesToday : Type 0
-NamesToday = AnswersToday plain (
+-- A name is closed once.
+abbrev pub ClosedName : Type 0
+ClosedName = Answers plain (
     ("begin t si" ▹ "begun t 0") ∷
     ("begin t si" ▹ "refused DuplicateTransaction t") ∷
     ("rollback t" ▹ "ok") ∷
@@ -315,8 +313,8 @@ NamesToday = AnswersToday plain (
     [])
 
 -- A moment, several operations with times to live, bytes in hex, and lines that store.
-abbrev pub StoringToday : Type 0
-StoringToday = AnswersToday ten_millis (
+abbrev pub MomentsAndHex : Type 0
+MomentsAndHex = Answers ten_millis (
     ("now -5" ▹ "now -5") ∷
     ("write put 'a '1 put 0x00ff '2 t- put 0x6263 0x t5 delete 'd" ▹ "written 1") ∷
     ("freeze" ▹ "frozen 1") ∷
@@ -334,8 +332,8 @@ StoringToday = AnswersToday ten_millis (
     [])
 
 -- Keys that no batch takes, and that every get may ask for.
-abbrev pub RefusalsToday : Type 0
-RefusalsToday = AnswersToday plain (
+abbrev pub RefusedKeys : Type 0
+RefusedKeys = Answers plain (
     ("write put ' '1" ▹ "refused EmptyKey") ∷
     ("write put 'a '1 delete 0x" ▹ "refused EmptyKey") ∷
     ("write" ▹ "written -") ∷
@@ -344,13 +342,9 @@ RefusalsToday = AnswersToday plain (
     ("get t '" ▹ "none") ∷
     [])
 
--- Transactions that write.
-abbrev pub TransactionsToday : Type 0
-TransactionsToday = AnswersToday plain conflict_closes × AnswersToday plain unmarked_write × AnswersToday plain marked_key
-
--- Scans, one of them of a range that is refused, which is no read.
-abbrev pub ScansToday : Type 0
-ScansToday = AnswersToday plain empty_scan × AnswersToday plain back_with_a_seek × AnswersToday plain first_day × AnswersToday plain (
+-- A range that is refused is no read.
+abbrev pub RefusedRange : Type 0
+RefusedRange = Answers plain (
     ("begin t ssi" ▹ "begun t 0") ∷
     ("put t 'a '1" ▹ "ok") ∷
     ("scan t asc e'a e'a" ▹ "refused InvalidRange") ∷
@@ -361,8 +355,8 @@ ScansToday = AnswersToday plain empty_scan × AnswersToday plain back_with_a_see
     [])
 
 -- A snapshot's name is open to reads and to its rollback alone, and no transaction has it meanwhile.
-abbrev pub SnapshotsToday : Type 0
-SnapshotsToday = AnswersToday plain snapshot_reads × AnswersToday plain (
+abbrev pub SnapshotName : Type 0
+SnapshotName = Answers plain (
     ("write put 'a '1" ▹ "written 1") ∷
     ("snapshot s" ▹ "snapshot s 1") ∷
     ("begin s si" ▹ "refused DuplicateTransaction s") ∷
@@ -382,8 +376,8 @@ SnapshotsToday = AnswersToday plain snapshot_reads × AnswersToday plain (
     [])
 
 -- Own operations have no stamps before their commit, which tracks them; a commit of none has no sequence.
-abbrev pub OwnToday : Type 0
-OwnToday = AnswersToday ten_millis (
+abbrev pub OwnOperations : Type 0
+OwnOperations = Answers ten_millis (
     ("now 5" ▹ "now 5") ∷
     ("begin t ssi" ▹ "begun t 0") ∷
     ("put t 'a '1 t50" ▹ "ok") ∷
@@ -401,11 +395,9 @@ OwnToday = AnswersToday ten_millis (
     ("journal" ▹ "journal 1 1 5 2 'a 'b") ∷
     [])
 
--- Operands: what they are refused for, between them a reader, under a transaction's own, and the greatest.
-abbrev pub MergesToday : Type 0
-MergesToday = AnswersToday concatenating one_ttl_a_key × AnswersToday plain no_operator × AnswersToday concatenating between_operands
-    × AnswersToday concatenating own_above_all × AnswersToday keeping_the_greatest greatest_operand
-    × AnswersToday concatenating (
+-- Operands of one expiry, and of several behind a put.
+abbrev pub MergedExpiries : Type 0
+MergedExpiries = Answers concatenating (
     ("now 100" ▹ "now 100") ∷
     ("write put 'a '1 t50" ▹ "written 1") ∷
     ("write merge 'a '2 t50" ▹ "written 2") ∷
@@ -413,32 +405,41 @@ MergesToday = AnswersToday concatenating one_ttl_a_key × AnswersToday plain no_
     ("write merge 'a '1 t5 put 'a '2" ▹ "written 3") ∷
     [])
 
--- A line that isn't built ends a script, as does one that is none.
-abbrev pub NotBuiltToday : Type 0
-NotBuiltToday = (replies plain (text ("begin t si" ∷ "prefix t asc 'a * *" ∷ "begin u si" ∷ [])) ≡ text ("begun t 0" ∷ []))
+-- The keys behind a prefix, by a sub-range of what stands behind it; all of the composed range is read.
+abbrev pub PrefixOfARange : Type 0
+PrefixOfARange = Answers plain (
+    ("write put 'a '0 put 'a:b '1 put 'a:c '2 put 'b '3" ▹ "written 1") ∷
+    ("begin t ssi" ▹ "begun t 1") ∷
+    ("prefix t desc 'a: * *" ▹ "rows 2 'a:c '2 1 0 - 'a:b '1 1 0 -") ∷
+    ("prefix t asc 'a: e'b i'c" ▹ "rows 1 'a:c '2 1 0 -") ∷
+    ("prefix t asc 'a: e'b e'b" ▹ "refused InvalidRange") ∷
+    ("prefix t asc ' * e'a:" ▹ "rows 1 'a '0 1 0 -") ∷
+    ("prefix u asc 'a: e'b e'b" ▹ "refused UnknownTransaction u") ∷
+    ("put t 'z '1" ▹ "ok") ∷
+    ("write put 'a:d '4" ▹ "written 2") ∷
+    ("commit t" ▹ "refused TransactionConflict 2") ∷
+    [])
+
+-- A line that is none ends a script.
+abbrev pub NoLines : Type 0
+NoLines = (replies plain (text ("begin t si" ∷ "prefix t asc 'a *" ∷ "begin u si" ∷ [])) ≡ text ("begun t 0" ∷ []))
     × (replies plain (text ("mark t" ∷ [])) ≡ [])
     × (replies plain (text ("write put 'a '1 merge 'a" ∷ [])) ≡ [])
     × (replies plain (text ("write put 0x6A '1" ∷ [])) ≡ [])
     × (replies plain (text ("write put 'a '1 t05" ∷ [])) ≡ [])
     × (replies plain (text ("# a comment" ∷ "" ∷ "now -0" ∷ [])) ≡ [])
-    × (replies near_the_end (text ("write put 'a '1" ∷ "write put 'b '1" ∷ [])) ≡ text ("written 18446744073709551614" ∷ "refused SequenceExhausted" ∷ []))
 
 -- One round from 0, and its line.
 abbrev pub OneMadeRound : Type 0
 OneMadeRound = (generate 1 0 ≡ text ("begin t ssi" ∷ "get t 'k807" ∷ "put t 'k424 'v1" ∷ "commit t" ∷ "flush" ∷ []))
     × (summary plain (generate 1 0) ≡ text ("replies 5 committed 1 hits 0" ∷ []))
 
--- a key of 65535 bytes, one of 65536, and an empty one
+-- a key of 65535 bytes, one of 65536, an empty one, and a get of the key that is too long
 abbrev pub long_key : ℕ → List ℕ
 long_key n = codes "write put '" ++ replicate n 97 ++ codes " '1"
 
 abbrev pub LongKeys : Type 0
-LongKeys = (whole_replies plain (long_key 65535) ≡ text ("written 1" ∷ []))
-    × (whole_replies plain (long_key 65536) ≡ text ("refused KeyTooLong 65536" ∷ []))
-    × (whole_replies plain (text ("write put ' '1" ∷ [])) ≡ text ("refused EmptyKey" ∷ []))
-
--- The same, by what is built, and a get of the key that is too long.
-abbrev pub LongKeysToday : Type 0
-LongKeysToday = (replies plain (long_key 65535) ≡ text ("written 1" ∷ []))
+LongKeys = (replies plain (long_key 65535) ≡ text ("written 1" ∷ []))
     × (replies plain (long_key 65536) ≡ text ("refused KeyTooLong 65536" ∷ []))
+    × (replies plain (text ("write put ' '1" ∷ [])) ≡ text ("refused EmptyKey" ∷ []))
     × (replies plain (text ("begin t si" ∷ []) ++ codes "get t '" ++ replicate 65536 97) ≡ text ("begun t 0" ∷ "none" ∷ []))

@@ -1,10 +1,11 @@
 //! The language of a script: the bytes that spell its lines and its replies, the words of a run, and the parts that words name.
 //!
-//! The definitions stand in `specs/`: `Grammar` says what a line's bytes are, `Parse` reads them, `Stage` says which lines are
-//! built, `Text` what the bytes of a reply are, `Replies` what a script is answered, `Words` what the words of a run set, and `Generate`
+//! The definitions stand in `specs/`: `Grammar` says what a line's bytes are, `Parse` reads them, `Text` what
+//! the bytes of a reply are, `Replies` what a script is answered, `Words` what the words of a run set, and `Generate`
 //! which script a run can make for itself. What lines do stands in `slate_txn`. `script_laws` has the laws of these, and `rows` worked scripts with their replies.
 #![tactic(auto)]
 
+pub mod extractors;
 pub mod generator;
 pub mod operators;
 pub mod parse;
@@ -17,6 +18,7 @@ pub mod text;
 pub mod token;
 pub mod words;
 
+pub use extractors::{ExtractorName, NamedExtractor};
 pub use generator::generate;
 pub use operators::{Concat, Max, NamedOperator};
 pub use parse::parse_line;
@@ -33,4 +35,5 @@ fn crosses<T: Send + Sync>() {}
 pub fn types_cross_threads() {
     crosses::<(Answer, Generated, JournalEntry, Settings, Tally)>();
     crosses::<(Concat, Max, NamedOperator, Xor)>();
+    crosses::<(ExtractorName, NamedExtractor)>();
 }

@@ -1,8 +1,7 @@
 //! The meaning of a line.
 ghost use Rattle.std.specs.Prelude.{◌≡◌, ◌⊎◌, ◌≤◌, ◌∷◌, [], Ok, Some, None, IfOk, IfSome, IfErr, codes, length, option_map, true, false};
-ghost use Rattle.slate_language.specs.Parse.{tokens_of, grouped, both, many_keyed, read_all, read_bytes, read_bound, read_level, read_name, read_order, read_pair, read_step, read_ttl, read_way};
-ghost use Rattle.slate_language.specs.Stage.{meaning};
-ghost use Rattle.slate_language.specs.Built.{texts, keyword, keyword_among, marking, unnamed, built_begin, built_snapshot, built_get, built_scan, built_put, built_merge, built_delete, built_mark, built_unmark, built_commit, built_rollback, built_now, built_write, built_alone, built_as, built_tokens};
+ghost use Rattle.slate_language.specs.Parse.{parse, tokens_of, grouped, both, many_keyed, read_all, read_bytes, read_bound, read_level, read_name, read_order, read_pair, read_step, read_ttl, read_way};
+ghost use Rattle.slate_language.specs.Built.{texts, keyword, keyword_among, writing, marking, unnamed, built_begin, built_snapshot, built_get, built_scan, built_prefix, built_put, built_merge, built_delete, built_mark, built_unmark, built_commit, built_rollback, built_now, built_write, built_alone, built_as, built_tokens};
 ghost use Rattle.slate_language.specs.Built.{is_op_word, built_put_op, built_merge_op, built_delete_op, built_op, built_ops};
 ghost use Rattle.slate_language.specs.Replies.{is_silent};
 
@@ -23,6 +22,7 @@ enum Keyword {
     Snapshot,
     Get,
     Scan,
+    Prefix,
     Put,
     Merge,
     Delete,
@@ -39,11 +39,11 @@ enum Keyword {
 
 /// What the line means; None for an empty line and a comment. `ScriptSyntax`, with line number 0, comes
 /// exactly where the line is none of these.
-#[tactic(auto, using(crate::proofs::BuiltLaws::meaning_built))]
+#[tactic(auto, using(crate::proofs::BuiltLaws::parse_built))]
 pub fn parse_line(alloc: Global, line: &[u8]) -> Result<Option<Line>, SlateDBError>
-    ensures meant { IfOk result (λ o. IfSome o (λ l. (is_silent line.now ≡ false) × (meaning line.now ≡ Some l))) }
+    ensures meant { IfOk result (λ o. IfSome o (λ l. (is_silent line.now ≡ false) × (parse line.now ≡ Some l))) }
     ensures silent { result ≡ Ok None → is_silent line.now ≡ true }
-    ensures cause { IfErr result (λ e. (e ≡ SlateDBError.OutOfMemory) ⊎ ((e ≡ SlateDBError.ScriptSyntax 0) × (is_silent line.now ≡ false) × (meaning line.now ≡ None))) }
+    ensures cause { IfErr result (λ e. (e ≡ SlateDBError.OutOfMemory) ⊎ ((e ≡ SlateDBError.ScriptSyntax 0) × (is_silent line.now ≡ false) × (parse line.now ≡ None))) }
 {
     if is_silent(line) {
         return Ok(None);
@@ -95,7 +95,18 @@ fn read_keyword(token: &[u8]) -> Option<Keyword>
         Some(Keyword::Get)
     } else if is_word(token, b"scan") {
         Some(Keyword::Scan)
-    } else if is_word(token, b"put") {
+    } else if is_word(token, b"prefix") {
+        Some(Keyword::Prefix)
+    } else {
+        read_writing(token)
+    }
+}
+
+/// The words of operations of a transaction, of other lines that name one, and of those that name none.
+fn read_writing(token: &[u8]) -> Option<Keyword>
+    ensures { result ≡ keyword_among writing token.now }
+{
+    if is_word(token, b"put") {
         Some(Keyword::Put)
     } else if is_word(token, b"merge") {
         Some(Keyword::Merge)
@@ -151,6 +162,7 @@ fn read_as(alloc: Global, keyword: Keyword, tokens: &[&[u8]]) -> Result<Option<L
         Keyword::Snapshot => read_snapshot(alloc, tokens),
         Keyword::Get => read_get(alloc, tokens),
         Keyword::Scan => read_scan(alloc, tokens),
+        Keyword::Prefix => read_prefix(alloc, tokens),
         Keyword::Put => read_put(alloc, tokens),
         Keyword::Merge => read_merge(alloc, tokens),
         Keyword::Delete => read_delete(alloc, tokens),
@@ -288,6 +300,39 @@ fn read_scan(alloc: Global, tokens: &[&[u8]]) -> Result<Option<Line>, AllocError
         }
         Err(error) => {
             drop(name);
+            Err(error)
+        }
+    }
+}
+
+/// `prefix N <order> K B B`, and maybe steps
+fn read_prefix(alloc: Global, tokens: &[&[u8]]) -> Result<Option<Line>, AllocError>
+    ensures line { IfOk result (λ o. o ≡ built_prefix (texts tokens.now)) }
+{
+    let [name, order, prefix, rest @ ..] = tokens else {
+        return Ok(None);
+    };
+    let Some(order) = read_order(order) else {
+        return Ok(None);
+    };
+    let Some((name, prefix)) = read_named(alloc, name, prefix)? else {
+        return Ok(None);
+    };
+    match read_way(alloc, rest) {
+        Ok(Some((start, end, steps))) => Ok(Some(Line::Prefix {
+            name,
+            order,
+            prefix,
+            start,
+            end,
+            steps,
+        })),
+        Ok(None) => {
+            drop((name, prefix));
+            Ok(None)
+        }
+        Err(error) => {
+            drop((name, prefix));
             Err(error)
         }
     }

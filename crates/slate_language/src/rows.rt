@@ -22,17 +22,16 @@ ghost use Rattle.slate_language.specs.WorkedRows.{
   GreatestOperand,
   OrdinaryDay,
   DeletedKey,
-  OlderReaderToday,
-  NamesToday,
-  StoringToday,
-  RefusalsToday,
-  LongKeysToday,
-  TransactionsToday,
-  ScansToday,
-  SnapshotsToday,
-  OwnToday,
-  MergesToday,
-  NotBuiltToday,
+  NewerReader,
+  ClosedName,
+  MomentsAndHex,
+  RefusedKeys,
+  RefusedRange,
+  SnapshotName,
+  OwnOperations,
+  MergedExpiries,
+  PrefixOfARange,
+  NoLines,
 };
 
 /// Each row is proved by computing its replies.
@@ -75,32 +74,30 @@ pub fn worked_rows()
     ensures first_day { FirstDay }
     // One round of a script that is made, and its one line.
     ensures one_made_round { OneMadeRound }
-    // The longest key, one byte more, and none.
+    // The longest key, one byte more, none, and a get of a longer one.
     ensures long_keys { LongKeys }
     // An ordinary day.
     ensures ordinary_day { OrdinaryDay }
     // A deleted key is none, in memory and in a table.
     ensures deleted_key { DeletedKey }
-    // Stable reads, by what is built today.
-    ensures older_reader_today { OlderReaderToday }
-    // The refusals of names, by what is built today.
-    ensures names_today { NamesToday }
-    // Moments, deletes, times to live, bytes in hex and storing, by what is built today.
-    ensures storing_today { StoringToday }
-    // The refusals of keys, by what is built today.
-    ensures refusals_today { RefusalsToday }
-    // Long keys, by what is built today.
-    ensures long_keys_today { LongKeysToday }
-    // Transactions that write, by what is built today.
-    ensures transactions_today { TransactionsToday }
-    // Scans, by what is built today.
-    ensures scans_today { ScansToday }
-    // Snapshots, by what is built today.
-    ensures snapshots_today { SnapshotsToday }
-    // Own operations before and after their commit, by what is built today.
-    ensures own_today { OwnToday }
-    // Operands, by what is built today.
-    ensures merges_today { MergesToday }
-    // What is not built ends a script.
-    ensures not_built_today { NotBuiltToday }
+    // A reader that begins behind a write sees it.
+    ensures newer_reader { NewerReader }
+    // A name is closed once.
+    ensures closed_name { ClosedName }
+    // Moments, deletes, times to live, bytes in hex and storing.
+    ensures moments_and_hex { MomentsAndHex }
+    // The refusals of keys.
+    ensures refused_keys { RefusedKeys }
+    // A range that is refused is no read.
+    ensures refused_range { RefusedRange }
+    // A snapshot's name is open to reads and its rollback alone.
+    ensures snapshot_name { SnapshotName }
+    // Own operations before and after their commit.
+    ensures own_operations { OwnOperations }
+    // Operands of one expiry, and of several behind a put.
+    ensures merged_expiries { MergedExpiries }
+    // The keys behind a prefix, by a sub-range of what stands behind it.
+    ensures prefix_of_a_range { PrefixOfARange }
+    // A line that is none ends a script.
+    ensures no_lines { NoLines }
 {}

@@ -1,5 +1,5 @@
 //! The laws of lines, of replies, of the words of a run, and of the parts that words can name. Each is proved of all values, and no call does anything.
-ghost use Rattle.slate_language.specs.ScriptLaws.{ConcatIsLawful, CutsALine, EmptyIsSilent, FiltersInAnyOrder, GeneratedIsWellFormed, GreaterIsLawful, HasOneMeaning, NamedIsLawful, ReadsNothingElse, ReadsTheGrammar, ReadsWhatIsBuilt, ReadsWhatIsShown, StoringIsSilent, TallyIsSummary, WordsInAnyOrder, WordsNameOneScript, XorIsLawful};
+ghost use Rattle.slate_language.specs.ScriptLaws.{ConcatIsLawful, CutsALine, EmptyIsSilent, FiltersInAnyOrder, GeneratedIsWellFormed, GreaterIsLawful, HasOneMeaning, NamedExtractorIsLawful, NamedIsLawful, ReadsNothingElse, ReadsTheGrammar, ReadsWhatIsShown, StoringIsSilent, TallyIsSummary, WordsInAnyOrder, WordsNameOneScript, XorIsLawful};
 
 /// What the grammar has is read, with its meaning.
 pub fn reads_the_grammar()
@@ -9,11 +9,6 @@ pub fn reads_the_grammar()
 /// What is read is in the grammar.
 pub fn reads_nothing_else()
     ensures { ReadsNothingElse }
-{}
-
-/// A line that is built is read with its meaning, and nothing else is.
-pub fn reads_what_is_built()
-    ensures { ReadsWhatIsBuilt }
 {}
 
 /// What bytes are shown as spells them.
@@ -49,6 +44,11 @@ pub fn greater_is_lawful()
 /// Each operator that a word can name is lawful.
 pub fn named_is_lawful()
     ensures { NamedIsLawful }
+{}
+
+/// Each extractor that a word can name is lawful.
+pub fn named_extractor_is_lawful()
+    ensures { NamedExtractorIsLawful }
 {}
 
 /// The transformer that changes each byte by one number is lawful.

@@ -1,7 +1,7 @@
-use Rattle.std.proofs.Common.{◌+◌, ◌-◌, ◌++◌, refl, ap, ◌∙◌, arith}
+use Rattle.std.proofs.Common.{◌+◌, ◌-◌, ◌++◌, ap, ◌∙◌, arith}
 use Rattle.slate_language.specs.Generate.{ended, rounds}
 use Rattle.slate_language.proofs.GenerateLaws.{one-round, all-rounds}
-use Rattle.std.proofs.Common.{codes, ◌≡◌, sym}
+use Rattle.std.proofs.Common.{codes, ◌≡◌}
 use Rattle.slate_language.specs.Generate.{drawn, round}
 use Rattle.std.specs.String.{string_bytes}
 use Rattle.slate_language.proofs.generator.generated.Goals as goal

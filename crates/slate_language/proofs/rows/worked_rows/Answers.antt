@@ -1,6 +1,6 @@
 use Rattle.std.specs.Fmt.{digits}
 use Rattle.std.proofs.Common.{refl}
-use Rattle.slate_language.proofs.LongRows.{long_keys, long_keys_today}
+use Rattle.slate_language.proofs.LongRows.{long_keys}
 use Rattle.slate_language.proofs.rows.worked_rows.Goals as goal
 
 pub returns-clause-short_scripts : goal.returns-clause-short_scripts
@@ -86,49 +86,46 @@ pub returns-clause-deleted_key : goal.returns-clause-deleted_key
 unfolding digits
 returns-clause-deleted_key c = refl
 
-pub returns-clause-older_reader_today : goal.returns-clause-older_reader_today
-unfolding digits
-returns-clause-older_reader_today c = refl
-
-pub returns-clause-names_today : goal.returns-clause-names_today
-unfolding digits
-returns-clause-names_today c = refl
-
-pub returns-clause-storing_today : goal.returns-clause-storing_today
-unfolding digits
-returns-clause-storing_today c = refl
-
-pub returns-clause-refusals_today : goal.returns-clause-refusals_today
-unfolding digits
-returns-clause-refusals_today c = refl
-
-pub returns-clause-long_keys_today : goal.returns-clause-long_keys_today
-returns-clause-long_keys_today c = long_keys_today
-
-pub returns-clause-not_built_today : goal.returns-clause-not_built_today
-unfolding digits
-returns-clause-not_built_today c = (refl, refl, refl, refl, refl, refl, refl)
-
-pub returns-clause-transactions_today : goal.returns-clause-transactions_today
-unfolding digits
-returns-clause-transactions_today c = (refl, refl, refl)
-
-pub returns-clause-scans_today : goal.returns-clause-scans_today
-unfolding digits
-returns-clause-scans_today c = (refl, refl, refl, refl)
-
-pub returns-clause-snapshots_today : goal.returns-clause-snapshots_today
-unfolding digits
-returns-clause-snapshots_today c = (refl, refl)
-
-pub returns-clause-own_today : goal.returns-clause-own_today
-unfolding digits
-returns-clause-own_today c = refl
-
 pub returns-clause-greatest_operand : goal.returns-clause-greatest_operand
 unfolding digits
 returns-clause-greatest_operand c = refl
 
-pub returns-clause-merges_today : goal.returns-clause-merges_today
+pub returns-clause-newer_reader : goal.returns-clause-newer_reader
 unfolding digits
-returns-clause-merges_today c = (refl, refl, refl, refl, refl, refl)
+returns-clause-newer_reader c = refl
+
+pub returns-clause-closed_name : goal.returns-clause-closed_name
+unfolding digits
+returns-clause-closed_name c = refl
+
+pub returns-clause-moments_and_hex : goal.returns-clause-moments_and_hex
+unfolding digits
+returns-clause-moments_and_hex c = refl
+
+pub returns-clause-refused_keys : goal.returns-clause-refused_keys
+unfolding digits
+returns-clause-refused_keys c = refl
+
+pub returns-clause-refused_range : goal.returns-clause-refused_range
+unfolding digits
+returns-clause-refused_range c = refl
+
+pub returns-clause-snapshot_name : goal.returns-clause-snapshot_name
+unfolding digits
+returns-clause-snapshot_name c = refl
+
+pub returns-clause-own_operations : goal.returns-clause-own_operations
+unfolding digits
+returns-clause-own_operations c = refl
+
+pub returns-clause-merged_expiries : goal.returns-clause-merged_expiries
+unfolding digits
+returns-clause-merged_expiries c = refl
+
+pub returns-clause-prefix_of_a_range : goal.returns-clause-prefix_of_a_range
+unfolding digits
+returns-clause-prefix_of_a_range c = refl
+
+pub returns-clause-no_lines : goal.returns-clause-no_lines
+unfolding digits
+returns-clause-no_lines c = (refl, refl, refl, refl, refl, refl)

@@ -33,22 +33,22 @@ joined-lines (l ∷ ls) h = taken_line_is_first l (l ++ (10 ∷ joined ls)) (joi
 abbrev kept : List Line → List Line
 kept = filter (λ l. not (is_storage l))
 
-onto-others : (silent : Bool) (read : Option Line) (l : List ℕ) (ls : List (List ℕ)) → is_silent l ≡ silent → parse l ≡ read → meanings parse (others ls) ≡ kept (meanings parse ls)
-    → meanings parse (cond (not (not silent && stores read)) (l ∷ others ls) (others ls)) ≡ kept (onto_meanings silent read (meanings parse ls))
-onto-others true read l ls quiet is h = ap (λ s. onto_meanings s (parse l) (meanings parse (others ls))) quiet ∙ h
-onto-others false None l ls loud is h = (λ i. onto_meanings (loud i) (is i) (meanings parse (others ls)))
+onto-others : (silent : Bool) (read : Option Line) (l : List ℕ) (ls : List (List ℕ)) → is_silent l ≡ silent → parse l ≡ read → meanings (others ls) ≡ kept (meanings ls)
+    → meanings (cond (not (not silent && stores read)) (l ∷ others ls) (others ls)) ≡ kept (onto_meanings silent read (meanings ls))
+onto-others true read l ls quiet is h = ap (λ s. onto_meanings s (parse l) (meanings (others ls))) quiet ∙ h
+onto-others false None l ls loud is h = (λ i. onto_meanings (loud i) (is i) (meanings (others ls)))
 onto-others false (Some line) l ls loud is h = by (is_storage line)
   where
-    by : (t : Bool) → meanings parse (cond (not t) (l ∷ others ls) (others ls)) ≡ cond (not t) (line ∷ kept (meanings parse ls)) (kept (meanings parse ls))
+    by : (t : Bool) → meanings (cond (not t) (l ∷ others ls) (others ls)) ≡ cond (not t) (line ∷ kept (meanings ls)) (kept (meanings ls))
     by true = h
-    by false = (λ i. onto_meanings (loud i) (is i) (meanings parse (others ls))) ∙ ap (λ ms. line ∷ ms) h
+    by false = (λ i. onto_meanings (loud i) (is i) (meanings (others ls))) ∙ ap (λ ms. line ∷ ms) h
 
-meanings-others : (ls : List (List ℕ)) → meanings parse (others ls) ≡ kept (meanings parse ls)
+meanings-others : (ls : List (List ℕ)) → meanings (others ls) ≡ kept (meanings ls)
 meanings-others [] = refl
 meanings-others (l ∷ ls) = onto-others (is_silent l) (parse l) l ls refl refl (meanings-others ls)
 
 pub returns : goal.returns
 returns c r script =
-    ap (λ ls. flat_map reply_line (answers r opening (meanings parse ls))) (joined-lines (others (lines_of script)) (others-whole (lines_of script) (lines_have_no_end script)))
+    ap (λ ls. flat_map reply_line (answers r opening (meanings ls))) (joined-lines (others (lines_of script)) (others-whole (lines_of script) (lines_have_no_end script)))
     ∙ ap (λ ms. flat_map reply_line (answers r opening ms)) (meanings-others (lines_of script))
-    ∙ ap (flat_map reply_line) (storage-is-silent r opening (meanings parse (lines_of script)))
+    ∙ ap (flat_map reply_line) (storage-is-silent r opening (meanings (lines_of script)))
