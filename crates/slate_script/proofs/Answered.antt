@@ -6,8 +6,8 @@ use Rattle.std.proofs.lemmas.List.Concat.{flat_map-append}
 use Rattle.slate_txn.specs.declared.line.Line.{Line}
 use Rattle.slate_txn.specs.State.{Rules, State, opening}
 use Rattle.slate_txn.specs.Step.{step, answers, after}
-use Rattle.slate_language.specs.Parse.{parse, only_if, ◌>>=◌}
-use Rattle.slate_language.specs.Stage.{is_built, if_built, IsBuiltLine, meaning}
+use Rattle.slate_language.specs.Grammar.{IsLine}
+use Rattle.slate_language.specs.Parse.{parse}
 use Rattle.slate_language.specs.Tally.{tallied}
 use Rattle.slate_language.specs.declared.tally.Tally.{Tally}
 use Rattle.slate_language.proofs.TallyLaws.{tallied-append}
@@ -27,10 +27,10 @@ onto-more true read ls more h = refl
 onto-more false None ls more h = cc
 onto-more false (Some line) ls more h = refl
 
-pub meanings-append : (ls more : List (List ℕ)) → AreLines ls → meanings meaning (ls ++ more) ≡ meanings meaning ls ++ meanings meaning more
+pub meanings-append : (ls more : List (List ℕ)) → AreLines ls → meanings (ls ++ more) ≡ meanings ls ++ meanings more
 meanings-append [] more h = refl
 meanings-append (l ∷ ls) more h =
-    ap (onto_meanings (is_silent l) (meaning l)) (meanings-append ls more h.1) ∙ onto-more (is_silent l) (meaning l) (meanings meaning ls) (meanings meaning more) h.0
+    ap (onto_meanings (is_silent l) (parse l)) (meanings-append ls more h.1) ∙ onto-more (is_silent l) (parse l) (meanings ls) (meanings more) h.0
 
 answers-append : (r : Rules) (s : State) (ls more : List Line) → answers r s (ls ++ more) ≡ answers r s ls ++ answers r (after r s ls) more
 answers-append r s [] more = refl
@@ -40,21 +40,21 @@ after-append : (r : Rules) (s : State) (ls more : List Line) → after r s (ls +
 after-append r s [] more = refl
 after-append r s (l ∷ ls) more = after-append r (step r s l).0 ls more
 
-pub replies-append : (r : Rules) (s : State) (ls more : List (List ℕ)) → AreLines ls → replies_from meaning r s (ls ++ more) ≡ replies_from meaning r s ls ++ replies_from meaning r (after_lines meaning r s ls) more
+pub replies-append : (r : Rules) (s : State) (ls more : List (List ℕ)) → AreLines ls → replies_from r s (ls ++ more) ≡ replies_from r s ls ++ replies_from r (after_lines r s ls) more
 replies-append r s ls more h =
     ap (λ ms. flat_map reply_line (answers r s ms)) (meanings-append ls more h)
-    ∙ ap (flat_map reply_line) (answers-append r s (meanings meaning ls) (meanings meaning more))
-    ∙ flat_map-append reply_line (answers r s (meanings meaning ls)) (answers r (after r s (meanings meaning ls)) (meanings meaning more))
+    ∙ ap (flat_map reply_line) (answers-append r s (meanings ls) (meanings more))
+    ∙ flat_map-append reply_line (answers r s (meanings ls)) (answers r (after r s (meanings ls)) (meanings more))
 
-pub state-append : (r : Rules) (s : State) (ls more : List (List ℕ)) → AreLines ls → after_lines meaning r s (ls ++ more) ≡ after_lines meaning r (after_lines meaning r s ls) more
-state-append r s ls more h = ap (after r s) (meanings-append ls more h) ∙ after-append r s (meanings meaning ls) (meanings meaning more)
+pub state-append : (r : Rules) (s : State) (ls more : List (List ℕ)) → AreLines ls → after_lines r s (ls ++ more) ≡ after_lines r (after_lines r s ls) more
+state-append r s ls more h = ap (after r s) (meanings-append ls more h) ∙ after-append r s (meanings ls) (meanings more)
 
 pub tally-append : (t : Tally) (r : Rules) (s : State) (ls more : List (List ℕ)) → AreLines ls →
-    tallied t (answers r s (meanings meaning (ls ++ more))) ≡ tallied (tallied t (answers r s (meanings meaning ls))) (answers r (after_lines meaning r s ls) (meanings meaning more))
+    tallied t (answers r s (meanings (ls ++ more))) ≡ tallied (tallied t (answers r s (meanings ls))) (answers r (after_lines r s ls) (meanings more))
 tally-append t r s ls more h =
     ap (λ ms. tallied t (answers r s ms)) (meanings-append ls more h)
-    ∙ ap (tallied t) (answers-append r s (meanings meaning ls) (meanings meaning more))
-    ∙ tallied-append t (answers r s (meanings meaning ls)) (answers r (after r s (meanings meaning ls)) (meanings meaning more))
+    ∙ ap (tallied t) (answers-append r s (meanings ls) (meanings more))
+    ∙ tallied-append t (answers r s (meanings ls)) (answers r (after r s (meanings ls)) (meanings more))
 
 -- ---- a line that is none
 
@@ -66,15 +66,15 @@ none-of : (read : Option Line) → is_some read ≡ false → read ≡ None
 none-of None h = refl
 none-of (Some line) h = cc
 
-stops : (l : List ℕ) (more : List (List ℕ)) → is_line l ≡ false → meanings meaning (l ∷ more) ≡ []
+stops : (l : List ℕ) (more : List (List ℕ)) → is_line l ≡ false → meanings (l ∷ more) ≡ []
 stops l more h =
-    let parts = or-neither (is_silent l) (is_some (meaning l)) h in
-    (λ i. onto_meanings (parts.0 i) (none-of (meaning l) parts.1 i) (meanings meaning more))
+    let parts = or-neither (is_silent l) (is_some (parse l)) h in
+    (λ i. onto_meanings (parts.0 i) (none-of (parse l) parts.1 i) (meanings more))
 
 -- it has no reply, and none stands behind it
-pub replies-stop : (r : Rules) (ls : List (List ℕ)) (l : List ℕ) (more : List (List ℕ)) → AreLines ls → is_line l ≡ false → replies_to meaning r (ls ++ (l ∷ more)) ≡ replies_to meaning r ls
+pub replies-stop : (r : Rules) (ls : List (List ℕ)) (l : List ℕ) (more : List (List ℕ)) → AreLines ls → is_line l ≡ false → replies_to r (ls ++ (l ∷ more)) ≡ replies_to r ls
 replies-stop r ls l more h other =
-    ap (λ ms. flat_map reply_line (answers r opening ms)) (meanings-append ls (l ∷ more) h ∙ ap (λ ms. meanings meaning ls ++ ms) (stops l more other) ∙ append-nil (meanings meaning ls))
+    ap (λ ms. flat_map reply_line (answers r opening ms)) (meanings-append ls (l ∷ more) h ∙ ap (λ ms. meanings ls ++ ms) (stops l more other) ∙ append-nil (meanings ls))
 
 pub other-none : (ls : List (List ℕ)) → AreLines ls → first_other ls ≡ None
 other-none [] h = refl
@@ -101,55 +101,36 @@ none-other (l ∷ ls) h = by (is_line l) refl (none-other ls) h
     by true is rest h = (is, rest (none-under (first_other ls) h))
     by false is rest h = cc
 
--- ---- what is built means something, and what means something is built
+-- ---- what is in the grammar means something, and what means something is in it
 
-only-parts : (t : Bool) (made line : Line) → only_if t made ≡ Some line → (t ≡ true) × (made ≡ line)
-only-parts true made line h = (refl, cc)
-only-parts false made line h = cc
+abbrev pub AreFormed : List (List ℕ) → Type 0
+AreFormed ls = AllByRecursion (λ l. IsTrue (is_silent l) ⊎ ((line : Line) × IsLine l line)) ls
 
-pub built-line : (l : List ℕ) (line : Line) → meaning l ≡ Some line → IsBuiltLine l line
-built-line l line h = by (parse l) refl h
+line-formed : (l : List ℕ) → IsTrue (is_line l) → IsTrue (is_silent l) ⊎ ((line : Line) × IsLine l line)
+line-formed l h = by (is_silent l) (parse l) refl refl h
   where
-    by : (o : Option Line) → parse l ≡ o → (o >>= if_built) ≡ Some line → IsBuiltLine l line
-    by None is h = cc
-    by (Some m) is h =
-        let parts = only-parts (is_built m) m line h in
-        (parse-only l line (is ∙ ap Some parts.1), ap is_built (sym parts.1) ∙ parts.0)
-
-pub meaning-built : (l : List ℕ) (line : Line) → IsBuiltLine l line → meaning l ≡ Some line
-meaning-built l line h = ap (λ o. o >>= if_built) (parse-is l line h.0) ∙ (λ i. only_if (h.1 i) line)
-
-abbrev pub AreBuilt : List (List ℕ) → Type 0
-AreBuilt ls = AllByRecursion (λ l. IsTrue (is_silent l) ⊎ ((line : Line) × IsBuiltLine l line)) ls
-
-line-built : (l : List ℕ) → IsTrue (is_line l) → IsTrue (is_silent l) ⊎ ((line : Line) × IsBuiltLine l line)
-line-built l h = by (is_silent l) (meaning l) refl refl h
-  where
-    by : (s : Bool) (o : Option Line) → is_silent l ≡ s → meaning l ≡ o → (s || is_some o) ≡ true → IsTrue (is_silent l) ⊎ ((line : Line) × IsBuiltLine l line)
+    by : (s : Bool) (o : Option Line) → is_silent l ≡ s → parse l ≡ o → (s || is_some o) ≡ true → IsTrue (is_silent l) ⊎ ((line : Line) × IsLine l line)
     by true o silent is h = inl silent
     by false None silent is h = cc
-    by false (Some line) silent is h = inr (line, built-line l line is)
+    by false (Some line) silent is h = inr (line, parse-only l line is)
 
-built-is_line : (l : List ℕ) → IsTrue (is_silent l) ⊎ ((line : Line) × IsBuiltLine l line) → IsTrue (is_line l)
-built-is_line l (inl silent) = ap (λ t. t || is_some (meaning l)) silent
-built-is_line l (inr h) = ap (λ o. is_silent l || is_some o) (meaning-built l h.0 h.1) ∙ or-true (is_silent l)
+formed-is_line : (l : List ℕ) → IsTrue (is_silent l) ⊎ ((line : Line) × IsLine l line) → IsTrue (is_line l)
+formed-is_line l (inl silent) = ap (λ t. t || is_some (parse l)) silent
+formed-is_line l (inr h) = ap (λ o. is_silent l || is_some o) (parse-is l h.0 h.1) ∙ or-true (is_silent l)
   where
     or-true : (a : Bool) → (a || true) ≡ true
     or-true true = refl
     or-true false = refl
 
-pub lines-built : (ls : List (List ℕ)) → AreLines ls → AreBuilt ls
-lines-built [] h = tt
-lines-built (l ∷ ls) h = (line-built l h.0, lines-built ls h.1)
+pub lines-formed : (ls : List (List ℕ)) → AreLines ls → AreFormed ls
+lines-formed [] h = tt
+lines-formed (l ∷ ls) h = (line-formed l h.0, lines-formed ls h.1)
 
-pub built-lines : (ls : List (List ℕ)) → AreBuilt ls → AreLines ls
-built-lines [] h = tt
-built-lines (l ∷ ls) h = (built-is_line l h.0, built-lines ls h.1)
+pub formed-lines : (ls : List (List ℕ)) → AreFormed ls → AreLines ls
+formed-lines [] h = tt
+formed-lines (l ∷ ls) h = (formed-is_line l h.0, formed-lines ls h.1)
 
 -- ---- one line
 
-pub one-built : (l : List ℕ) (line : Line) → meaning l ≡ Some line → IsTrue (is_built line)
-one-built l line h = (built-line l line h).1
-
-pub one-reply : (r : Rules) (s : State) (l : List ℕ) (line : Line) → is_silent l ≡ false → meaning l ≡ Some line → replies_from meaning r s (l ∷ []) ≡ reply_line (step r s line).1
+pub one-reply : (r : Rules) (s : State) (l : List ℕ) (line : Line) → is_silent l ≡ false → parse l ≡ Some line → replies_from r s (l ∷ []) ≡ reply_line (step r s line).1
 one-reply r s l line loud is = (λ i. flat_map reply_line (answers r s (onto_meanings (loud i) (is i) []))) ∙ append-nil (reply_line (step r s line).1)

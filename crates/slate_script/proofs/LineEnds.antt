@@ -12,10 +12,10 @@ use Rattle.slate_db.specs.Sound.{IsKept}
 use Rattle.slate_db.specs.Parts.{IsTableError}
 use Rattle.slate_db.specs.Readable.{IsReadError, IsRefusedBy}
 use Rattle.slate_db.specs.Shown.{Asking}
+use Rattle.slate_language.specs.Parse.{parse}
 use Rattle.slate_language.specs.Replies.{is_silent}
 use Rattle.slate_script.specs.Run.{is_line, IsPartError, IsPartCause}
 use Rattle.slate_script.specs.Session.{SessionModel, IsLimit, IsSettled, StoresNothing}
-use Rattle.slate_language.specs.Stage.{meaning}
 use Rattle.slate_script.proofs.Running.{not-damage}
 use Rattle.slate_script.proofs.SessionParts.{get-cause, get-shown}
 use Rattle.slate_script.proofs.SessionStores.{stays-settled}
@@ -154,10 +154,10 @@ writing-no-damage P (Err x) (inr is) = λ damage. absurd (subst IsTableError is 
 abbrev pub ParseError : ℕ → List ℕ → SlateDBError → Type 0
 ParseError number line x = (x ≡ OutOfMemory) ⊎ ((x ≡ ScriptSyntax number) × (is_line line ≡ false))
 
-pub parse-error : (number : ℕ) (line : List ℕ) (x numbered : SlateDBError) → (x ≡ OutOfMemory) ⊎ ((x ≡ ScriptSyntax 0) × (is_silent line ≡ false) × (meaning line ≡ None)) → (x ≡ OutOfMemory → numbered ≡ OutOfMemory) → (x ≡ ScriptSyntax 0 → numbered ≡ ScriptSyntax number) →
+pub parse-error : (number : ℕ) (line : List ℕ) (x numbered : SlateDBError) → (x ≡ OutOfMemory) ⊎ ((x ≡ ScriptSyntax 0) × (is_silent line ≡ false) × (parse line ≡ None)) → (x ≡ OutOfMemory → numbered ≡ OutOfMemory) → (x ≡ ScriptSyntax 0 → numbered ≡ ScriptSyntax number) →
     ParseError number line numbered
 parse-error number line x numbered (inl is) memory syntax = inl (memory is)
-parse-error number line x numbered (inr is) memory syntax = inr (syntax is.0, other (is_silent line) (meaning line) is.1 is.2)
+parse-error number line x numbered (inr is) memory syntax = inr (syntax is.0, other (is_silent line) (parse line) is.1 is.2)
   where
     other : (silent : Bool) (meant : Option Line) → silent ≡ false → meant ≡ None → (silent || is_some meant) ≡ false
     other silent meant loud none = λ i. loud i || is_some (none i)
@@ -186,7 +186,7 @@ parse-wrote number line x (inr is) was = clash is.0 was
 pub error-of : {V : Type 0} {y : SlateDBError} (x : SlateDBError) → ◌≡◌ {A = Result V SlateDBError} (Err x) (Err y) → x ≡ y
 error-of x h = cc
 
-pub meant-line : (l : List ℕ) (line : Line) → meaning l ≡ Some line → IsTrue (is_line l)
+pub meant-line : (l : List ℕ) (line : Line) → parse l ≡ Some line → IsTrue (is_line l)
 meant-line l line h = subst (λ o. IsTrue (is_silent l || is_some o)) (sym h) (or-true (is_silent l))
   where
     or-true : (b : Bool) → IsTrue (b || true)

@@ -7,10 +7,10 @@ use Rattle.slate_mem.specs.declared.WriteOp.{WriteOp}
 use Rattle.slate_mem.specs.declared.WriteOp.TheVariants as ops
 use Rattle.slate_txn.specs.declared.line.Line.{Line}
 use Rattle.slate_txn.specs.declared.line.Line.TheVariants as lines
+use Rattle.slate_language.specs.Parse.{parse}
 use Rattle.slate_language.specs.Grammar.{AreOps, IsLine, IsOp, Spells}
 use Rattle.slate_script.specs.Session.{line_load}
-use Rattle.slate_language.specs.Stage.{meaning}
-use Rattle.slate_script.proofs.Answered.{built-line}
+use Rattle.slate_language.proofs.ParseOnly.{parse-only}
 
 -- the bytes of the tokens
 abbrev letters : List (List ℕ) → ℕ
@@ -82,8 +82,8 @@ of-line ts lines.Freeze is = omega arith
 of-line ts lines.Flush is = omega arith
 of-line ts lines.Journal is = omega arith
 
-pub line-load : (l : List ℕ) (line : Line) → meaning l ≡ Some line → line_load line ≤ length l
-line-load l line h = by (built-line l line h).0
+pub line-load : (l : List ℕ) (line : Line) → parse l ≡ Some line → line_load line ≤ length l
+line-load l line h = by (parse-only l line h)
   where
     by : IsLine l line → line_load line ≤ length l
     by (ts, spells, is) =

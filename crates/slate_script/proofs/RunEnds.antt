@@ -9,14 +9,13 @@ use Rattle.slate_types.specs.Faults.{Rose}
 use Rattle.slate_store.specs.Lines.{lines_of, whole_part, script_limit, HasNoEnd, LinesModel, IsEnd, KeepsAll}
 use Rattle.slate_store.proofs.LineLaws.{partial_line_is_not_whole}
 use Rattle.slate_txn.specs.State.{Rules, opening}
-use Rattle.slate_language.specs.Stage.{meaning}
 use Rattle.slate_language.specs.declared.tally.Tally.{Tally}
 use Rattle.slate_language.specs.Replies.{after_lines, replies_from, replies_to, replies, IsWellFormed}
 use Rattle.slate_db.specs.Parts.{IsTableError}
 use Rattle.slate_db.specs.Load.{weight}
 use Rattle.slate_script.specs.Session.{SessionModel, IsLimit, IsFull, held_load}
 use Rattle.slate_script.specs.Run.{is_line, first_other, is_too_long, lines_taken, error_of, script_error, IsPartError, IsPartCause, IsOutside, IsScriptError, AreLines, HasAnswered, HasBegun, HasAnsweredAll}
-use Rattle.slate_script.proofs.Answered.{lines-more, replies-append, replies-stop, other-none, other-first, lines-built}
+use Rattle.slate_script.proofs.Answered.{lines-more, replies-append, replies-stop, other-none, other-first, lines-formed}
 use Rattle.slate_script.proofs.Taken.{IsCut, IsAt, Took, taken-first, lines-begin, ends, first-empty, too-long, lines-no_error, formed-no_error}
 
 -- ---- which errors
@@ -127,16 +126,16 @@ reader-error {script = script} {old = old} new rest error at keeps full (inr (in
     inr ((λ i. error_of (first_other (long.1 i)) (long.0 i)) ∙ ap (λ o. error_of o true) (other-none (lines_of at.done) at.meant) ∙ ap Some (sym is))
 
 pub reader-script : {P : Type 0} {r : Rules} {script : List ℕ} {source told sink : Option (List ℕ)} {first tally : Tally} {old : LinesModel} {number : ℕ} {e : SessionModel} (new : LinesModel) (rest before : List ℕ) (error : SlateDBError) (at : IsAt P r script source told sink first tally old number e)
-    → KeepsAll old at.left new rest → (error ≡ ScriptTooLong → IsAtLimit new) → ReaderError error → P → told ≡ Some before → script_error script ≡ Some error → sink ≡ Some (before ++ replies_to meaning r (lines_taken script))
+    → KeepsAll old at.left new rest → (error ≡ ScriptTooLong → IsAtLimit new) → ReaderError error → P → told ≡ Some before → script_error script ≡ Some error → sink ≡ Some (before ++ replies_to r (lines_taken script))
 reader-script {script = script} new rest before error at keeps full (inl is) p told-is by = absurd (no-outside script error by (inl is))
 reader-script {script = script} new rest before error at keeps full (inr (inl is)) p told-is by = absurd (no-outside script error by (inr (inl is)))
 reader-script {r = r} {script = script} {old = old} new rest before error at keeps full (inr (inr is)) p told-is by =
     let end = full is in
     let long = too-long script at.done at.left rest old new at.stands at.given keeps end.0 end.1 in
-    at.said p before told-is ∙ ap (λ ls. Some (before ++ replies_to meaning r ls)) (sym long.1)
+    at.said p before told-is ∙ ap (λ ls. Some (before ++ replies_to r ls)) (sym long.1)
 
 pub reader-source : {P : Type 0} {r : Rules} {script : List ℕ} {source told sink : Option (List ℕ)} {first tally : Tally} {old : LinesModel} {number : ℕ} {e : SessionModel} (new : LinesModel) (rest : List ℕ) (at : IsAt P r script source told sink first tally old number e)
-    → KeepsAll old at.left new rest → HasNoEnd new.held → HasAnsweredAll r script rest (replies_to meaning r (lines_of at.done))
+    → KeepsAll old at.left new rest → HasNoEnd new.held → HasAnsweredAll r script rest (replies_to r (lines_of at.done))
 reader-source {r = r} {script = script} {old = old} new rest at keeps none = record {
   given = at.done ++ new.held;
   split = at.stands.split ∙ ap (λ bs. at.done ++ bs) (sym keeps.bytes) ∙ sym (append_assoc at.done new.held rest);
@@ -152,7 +151,7 @@ reader-source {r = r} {script = script} {old = old} new rest at keeps none = rec
         let nothing : new.held ≡ [] = first-empty new.held rest (keeps.bytes ∙ all.0) in
         inr (sym (append-nil at.done) ∙ ap (λ bs. at.done ++ bs) (sym nothing), ap (λ bs. bs ++ rest) (sym nothing) ∙ keeps.bytes ∙ all.0)
 
-pub reader-memory : {P : Type 0} {r : Rules} {script : List ℕ} {source told sink : Option (List ℕ)} {first tally : Tally} {m : LinesModel} {number : ℕ} {e : SessionModel} (at : IsAt P r script source told sink first tally m number e) → HasAnswered r script (replies_to meaning r (lines_of at.done))
+pub reader-memory : {P : Type 0} {r : Rules} {script : List ℕ} {source told sink : Option (List ℕ)} {first tally : Tally} {m : LinesModel} {number : ℕ} {e : SessionModel} (at : IsAt P r script source told sink first tally m number e) → HasAnswered r script (replies_to r (lines_of at.done))
 reader-memory {script = script} {m = m} at =
     let first = lines-begin script at.done (m.held ++ at.left) at.stands in
     record { done = lines_of at.done; later = first.0; first = first.1; meant = at.meant; all = refl }
@@ -244,7 +243,7 @@ line-error {script = script} {line = line} error took (inr (inr (inl is))) =
     ∙ ap (λ n. Some (ScriptSyntax n)) (sym took.count) ∙ ap Some (sym is.0))
 
 pub line-script : {P : Type 0} {r : Rules} {script line : List ℕ} {source told sink : Option (List ℕ)} {first tally : Tally} {m : LinesModel} {number : ℕ} {e : SessionModel} (after : Option (List ℕ)) (before : List ℕ) (error : SlateDBError) → Took P r script source told sink first tally m line number e
-    → LineError number line error → ((error ≡ WriteFault) ⊎ (after ≡ sink)) → P → told ≡ Some before → script_error script ≡ Some error → after ≡ Some (before ++ replies_to meaning r (lines_taken script))
+    → LineError number line error → ((error ≡ WriteFault) ⊎ (after ≡ sink)) → P → told ≡ Some before → script_error script ≡ Some error → after ≡ Some (before ++ replies_to r (lines_taken script))
 line-script {script = script} after before error took (inl is) same p told-is by = absurd (no-outside script error by (inl is))
 line-script {script = script} after before error took (inr (inl is)) same p told-is by = absurd (no-outside script error by (inr (inr (inl is))))
 line-script {script = script} after before error took (inr (inr (inr is))) same p told-is by = absurd (no-outside script error by (inr (inr (inr is))))
@@ -252,11 +251,11 @@ line-script {script = script} after before error took (inr (inr (inl is))) (inl 
 line-script {r = r} {script = script} {line = line} after before error took (inr (inr (inl is))) (inr same) p told-is by =
     let there = taken-there took in
     same ∙ took.said p before told-is
-    ∙ ap (λ bs. Some (before ++ bs)) (sym (ap (replies_to meaning r) there.1 ∙ replies-stop r (lines_of took.done) line there.0 took.meant is.1))
+    ∙ ap (λ bs. Some (before ++ bs)) (sym (ap (replies_to r) there.1 ∙ replies-stop r (lines_of took.done) line there.0 took.meant is.1))
 
 pub line-sink : {P : Type 0} {r : Rules} {script line : List ℕ} {source told sink : Option (List ℕ)} {first tally : Tally} {m : LinesModel} {number : ℕ} {e : SessionModel} (n : ℕ) (took : Took P r script source told sink first tally m line number e)
-    → IsTrue (is_line line) → n < length (replies_from meaning r (after_lines meaning r opening (lines_of took.done)) (line ∷ []))
-    → HasBegun r script (replies_to meaning r (lines_of took.done) ++ take n (replies_from meaning r (after_lines meaning r opening (lines_of took.done)) (line ∷ [])))
+    → IsTrue (is_line line) → n < length (replies_from r (after_lines r opening (lines_of took.done)) (line ∷ []))
+    → HasBegun r script (replies_to r (lines_of took.done) ++ take n (replies_from r (after_lines r opening (lines_of took.done)) (line ∷ [])))
 line-sink {r = r} {line = line} n took is short =
     let there = lines-there took in
     record {
@@ -268,14 +267,14 @@ line-sink {r = r} {line = line} n took is short =
       missing = drop n reply;
       some = λ none. let zero : length (drop n reply) ≡ 0 = ap length none in omega (arith, short, length-drop n reply, zero);
       part =
-          append_assoc (replies_to meaning r (lines_of took.done)) (take n reply) (drop n reply) ∙ ap (λ bs. replies_to meaning r (lines_of took.done) ++ bs) (take-append-drop n reply)
+          append_assoc (replies_to r (lines_of took.done)) (take n reply) (drop n reply) ∙ ap (λ bs. replies_to r (lines_of took.done) ++ bs) (take-append-drop n reply)
           ∙ sym (replies-append r opening (lines_of took.done) (line ∷ []) took.meant);
       begun = take n reply;
       before = refl;
     }
   where
     reply : List ℕ
-    reply = replies_from meaning r (after_lines meaning r opening (lines_of took.done)) (line ∷ [])
+    reply = replies_from r (after_lines r opening (lines_of took.done)) (line ∷ [])
 
 pub line-not-read : (number : ℕ) (line : List ℕ) (error : SlateDBError) → LineError number line error → error ≡ ReadFault → ⊥
 line-not-read number line e (inl is) was = cc
@@ -310,7 +309,7 @@ untouched error sink after (inl fault) (inl want) = cc
 untouched error sink after (inl fault) (inr part) = absurd (subst IsPartError fault part)
 untouched error sink after (inr same) which = same
 
-pub line-memory : {P : Type 0} {r : Rules} {script line : List ℕ} {source told sink : Option (List ℕ)} {first tally : Tally} {m : LinesModel} {number : ℕ} {e : SessionModel} (took : Took P r script source told sink first tally m line number e) → HasAnswered r script (replies_to meaning r (lines_of took.done))
+pub line-memory : {P : Type 0} {r : Rules} {script line : List ℕ} {source told sink : Option (List ℕ)} {first tally : Tally} {m : LinesModel} {number : ℕ} {e : SessionModel} (took : Took P r script source told sink first tally m line number e) → HasAnswered r script (replies_to r (lines_of took.done))
 line-memory {line = line} took =
     let there = lines-there took in
     record { done = lines_of took.done; later = line ∷ there.0; first = there.1; meant = took.meant; all = refl }
@@ -331,7 +330,7 @@ end-answered {r = r} new rest before at is p told-is = at.said p before told-is 
 
 pub end-formed : {P : Type 0} {r : Rules} {script : List ℕ} {source told sink : Option (List ℕ)} {first tally : Tally} {old : LinesModel} {number : ℕ} {e : SessionModel} (new : LinesModel) (rest : List ℕ) (at : IsAt P r script source told sink first tally old number e)
     → IsEnd old at.left new rest → IsWellFormed script
-end-formed {script = script} new rest at is = ((end-there new rest at is).1, lines-built (lines_of script) (end-lines new rest at is))
+end-formed {script = script} new rest at is = ((end-there new rest at is).1, lines-formed (lines_of script) (end-lines new rest at is))
 
 pub end-no_error : {P : Type 0} {r : Rules} {script : List ℕ} {source told sink : Option (List ℕ)} {first tally : Tally} {old : LinesModel} {number : ℕ} {e : SessionModel} (new : LinesModel) (rest : List ℕ) (at : IsAt P r script source told sink first tally old number e)
     → IsEnd old at.left new rest → script_error script ≡ None

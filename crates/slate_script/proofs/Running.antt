@@ -17,6 +17,7 @@ use Rattle.slate_db.specs.Parts.{IsTableError}
 use Rattle.slate_db.specs.Readable.{AreFiltered}
 use Rattle.slate_db.specs.Sound.{IsKept}
 use Rattle.slate_language.specs.declared.reply.Answer.{Answer}
+use Rattle.slate_language.specs.Parse.{parse}
 use Rattle.slate_language.specs.Answers.{as_shown, reply_of}
 use Rattle.slate_language.proofs.ShownLaws.{shown-line}
 use Rattle.slate_language.specs.Tally.{counted, tallied}
@@ -26,8 +27,8 @@ use Rattle.slate_language.specs.Replies.{is_silent, meanings, onto_meanings, rep
 use Rattle.slate_script.specs.Run.{run_rules, Premises, is_line}
 use Rattle.slate_script.specs.Session.{SessionModel, StandsFor, AnswersAs, HasTables, IsSettled, IsRunning, has_moment}
 use Rattle.slate_language.specs.Grammar.{IsLine}
-use Rattle.slate_language.specs.Stage.{meaning}
-use Rattle.slate_script.proofs.Answered.{one-reply, built-line}
+use Rattle.slate_script.proofs.Answered.{one-reply}
+use Rattle.slate_language.proofs.ParseOnly.{parse-only}
 
 pub is-settled : {policies : List Policy} {m : Meaning} {r : Rules} {parts : Meaning} {objects : Option Objects} {e : SessionModel} → IsRunning policies m r parts objects e → IsSettled policies parts objects e
 is-settled {policies = policies} {objects = objects} {e = e} h = subst (λ (x : Meaning). IsSettled policies x objects e) (sym h.meaning) h.settled
@@ -47,32 +48,32 @@ runs-on {policies = policies} {m = m} {after = after} {new = new} h same setting
 -- ---- one line
 
 pub silent-line : (l : List ℕ) → is_silent l ≡ true → IsTrue (is_line l)
-silent-line l silent = ap (λ b. b || is_some (meaning l)) silent
+silent-line l silent = ap (λ b. b || is_some (parse l)) silent
 
-pub silent-after : (r : Rules) (s : State) (l : List ℕ) → is_silent l ≡ true → s ≡ after_lines meaning r s (l ∷ [])
-silent-after r s l silent = let none = sym silent in λ i. after r s (onto_meanings (none i) (meaning l) [])
+pub silent-after : (r : Rules) (s : State) (l : List ℕ) → is_silent l ≡ true → s ≡ after_lines r s (l ∷ [])
+silent-after r s l silent = let none = sym silent in λ i. after r s (onto_meanings (none i) (parse l) [])
 
-pub silent-says : (r : Rules) (s : State) (l : List ℕ) → is_silent l ≡ true → [] ≡ replies_from meaning r s (l ∷ [])
-silent-says r s l silent = let none = sym silent in λ i. flat_map reply_line (answers r s (onto_meanings (none i) (meaning l) []))
+pub silent-says : (r : Rules) (s : State) (l : List ℕ) → is_silent l ≡ true → [] ≡ replies_from r s (l ∷ [])
+silent-says r s l silent = let none = sym silent in λ i. flat_map reply_line (answers r s (onto_meanings (none i) (parse l) []))
 
-one-after : (r : Rules) (s : State) (l : List ℕ) (line : Line) → is_silent l ≡ false → meaning l ≡ Some line → after_lines meaning r s (l ∷ []) ≡ (step r s line).0
+one-after : (r : Rules) (s : State) (l : List ℕ) (line : Line) → is_silent l ≡ false → parse l ≡ Some line → after_lines r s (l ∷ []) ≡ (step r s line).0
 one-after r s l line loud is = λ i. after r s (onto_meanings (loud i) (is i) [])
 
-pub line-stands : {policies : List Policy} {m : Meaning} {r : Rules} {parts : Meaning} {objects : Option Objects} {e new : SessionModel} (l : List ℕ) (line : Line) (a : Answer) → IsRunning policies m r parts objects e → is_silent l ≡ false → meaning l ≡ Some line →
-    (IsSettled policies parts objects e → AnswersAs parts e new line (Ok a)) → (s : State) → StandsFor e s → StandsFor new (after_lines meaning r s (l ∷ []))
+pub line-stands : {policies : List Policy} {m : Meaning} {r : Rules} {parts : Meaning} {objects : Option Objects} {e new : SessionModel} (l : List ℕ) (line : Line) (a : Answer) → IsRunning policies m r parts objects e → is_silent l ≡ false → parse l ≡ Some line →
+    (IsSettled policies parts objects e → AnswersAs parts e new line (Ok a)) → (s : State) → StandsFor e s → StandsFor new (after_lines r s (l ∷ []))
 line-stands {r = r} {new = new} l line a h loud is steps s stands =
     subst (StandsFor new) (sym (one-after r s l line loud is)) (subst (λ x. StandsFor new (step x s line).0) (its-rules h) (steps (is-settled h) s stands).0)
 
-pub line-reply : {policies : List Policy} {m : Meaning} {r : Rules} {parts : Meaning} {objects : Option Objects} {e new : SessionModel} (l : List ℕ) (line : Line) (a : Answer) → IsRunning policies m r parts objects e → is_silent l ≡ false → meaning l ≡ Some line →
-    (IsSettled policies parts objects e → AnswersAs parts e new line (Ok a)) → (s : State) → StandsFor e s → reply_line (reply_of a) ≡ replies_from meaning r s (l ∷ [])
+pub line-reply : {policies : List Policy} {m : Meaning} {r : Rules} {parts : Meaning} {objects : Option Objects} {e new : SessionModel} (l : List ℕ) (line : Line) (a : Answer) → IsRunning policies m r parts objects e → is_silent l ≡ false → parse l ≡ Some line →
+    (IsSettled policies parts objects e → AnswersAs parts e new line (Ok a)) → (s : State) → StandsFor e s → reply_line (reply_of a) ≡ replies_from r s (l ∷ [])
 line-reply {r = r} l line a h loud is steps s stands =
     ap reply_line ((steps (is-settled h) s stands).1 ∙ ap (λ x. as_shown (step x s line).1) (its-rules h)) ∙ shown-line (step r s line).1 ∙ sym (one-reply r s l line loud is)
 
-pub silent-counts : (t : Tally) (r : Rules) (s : State) (l : List ℕ) → is_silent l ≡ true → t ≡ tallied t (answers r s (meanings meaning (l ∷ [])))
-silent-counts t r s l silent = let none = sym silent in λ i. tallied t (answers r s (onto_meanings (none i) (meaning l) []))
+pub silent-counts : (t : Tally) (r : Rules) (s : State) (l : List ℕ) → is_silent l ≡ true → t ≡ tallied t (answers r s (meanings (l ∷ [])))
+silent-counts t r s l silent = let none = sym silent in λ i. tallied t (answers r s (onto_meanings (none i) (parse l) []))
 
-pub line-counts : {policies : List Policy} {m : Meaning} {r : Rules} {parts : Meaning} {objects : Option Objects} {e new : SessionModel} (t : Tally) (l : List ℕ) (line : Line) (a : Answer) → IsRunning policies m r parts objects e → is_silent l ≡ false → meaning l ≡ Some line →
-    (IsSettled policies parts objects e → AnswersAs parts e new line (Ok a)) → (s : State) → StandsFor e s → counted t (reply_of a) ≡ tallied t (answers r s (meanings meaning (l ∷ [])))
+pub line-counts : {policies : List Policy} {m : Meaning} {r : Rules} {parts : Meaning} {objects : Option Objects} {e new : SessionModel} (t : Tally) (l : List ℕ) (line : Line) (a : Answer) → IsRunning policies m r parts objects e → is_silent l ≡ false → parse l ≡ Some line →
+    (IsSettled policies parts objects e → AnswersAs parts e new line (Ok a)) → (s : State) → StandsFor e s → counted t (reply_of a) ≡ tallied t (answers r s (meanings (l ∷ [])))
 line-counts {r = r} t l line a h loud is steps s stands =
     ap (counted t) ((steps (is-settled h) s stands).1 ∙ ap (λ x. as_shown (step x s line).1) (its-rules h)) ∙ counted-shown t (step r s line).1
     ∙ sym (λ i. tallied t (answers r s (onto_meanings (loud i) (is i) [])))
@@ -94,8 +95,8 @@ begins policies m o objects e p settings none kept = record {
 
 -- ---- of a line that means something, and of results
 
-pub one-moment : (l : List ℕ) (line : Line) → meaning l ≡ Some line → IsTrue (has_moment line)
-one-moment l line h = by line (built-line l line h).0
+pub one-moment : (l : List ℕ) (line : Line) → parse l ≡ Some line → IsTrue (has_moment line)
+one-moment l line h = by line (parse-only l line h)
   where
     by : (x : Line) → IsLine l x → IsTrue (has_moment x)
     by (lines.Now m) is = is.1.1.0

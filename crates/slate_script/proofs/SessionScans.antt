@@ -1,4 +1,4 @@
--- A scan line's step, under what a session stands for.
+-- The steps of lines that scan, under what a session stands for.
 use Rattle.std.proofs.Common.{◌≡◌, ℕ, ◌⊎◌, inl, inr, List, ◌∷◌, Option, Some, None, Result, Ok, Err, IfErr, refl, sym, ap, ◌∙◌, subst}
 use Rattle.std.specs.Prelude.{Bool, true, false, cond, IfSome, IsSome}
 use Rattle.std.proofs.lemmas.Option.{same_Some}
@@ -8,7 +8,8 @@ use Rattle.slate_types.specs.declared.error.SlateDBError.{SlateDBError}
 use Rattle.slate_types.specs.declared.error.SlateDBError.TheVariants as errors
 use Rattle.slate_types.specs.declared.iter.IterationOrder.{IterationOrder}
 use Rattle.slate_types.specs.declared.types.KeyValue.{KeyValue}
-use Rattle.slate_types.specs.Keys.{is_refused, range_of}
+use Rattle.slate_types.specs.Keys.{behind, is_refused, prefix_end, prefix_start, prefix_subrange, range_of}
+use Rattle.slate_script.proofs.BeginsLaws.{begins-in}
 use Rattle.slate_types.specs.Outside.{IsFault, Reach}
 use Rattle.slate_types.specs.World.{Made}
 use Rattle.slate_txn.specs.declared.event.TranscriptStep.{TranscriptStep}
@@ -28,55 +29,64 @@ use Rattle.slate_db.specs.Scans.{IsRefusedByScan, IsScanError}
 use Rattle.slate_language.specs.declared.reply.Answer.{Answer}
 use Rattle.slate_language.specs.declared.reply.Answer.TheVariants as answers
 use Rattle.slate_language.specs.Answers.{reply_of}
-use Rattle.slate_script.specs.Session.{SessionModel, AnswersAs, IsLimit, IsStep, NamesStand, reader_id, reader_under}
+use Rattle.slate_script.specs.Scanning.{BeginsWith, EndsBelow, ScansAs}
+use Rattle.slate_script.specs.Session.{SessionModel, IsLimit, IsStep, NamesStand, reader_id, reader_under}
 use Rattle.slate_script.proofs.Running.{not-damage}
 use Rattle.slate_script.proofs.SessionSteps.{ReadsAs, ReadsUnder, reads-as}
 
--- bounds that make a range are its bounds
-pub range_same : (start end : Bound (List ℕ)) (range : BytesRange) → range_of start end ≡ Some range → range_of range.start range.end ≡ Some range
-range_same start end range is = by (is_refused start end) refl is
+-- ---- the ranges of lines
+
+pub range_same : (range : BytesRange) → is_refused range.start range.end ≡ false → range_of range.start range.end ≡ Some range
+range_same range fits = ap (λ b. cond b None (Some range)) fits
+
+pub bounds_fit : (start end : Bound (List ℕ)) (o : Option BytesRange) → o ≡ range_of start end → IfSome o (λ r. is_refused r.start r.end ≡ false)
+bounds_fit start end o is = subst (λ (q : Option BytesRange). IfSome q (λ r. is_refused r.start r.end ≡ false)) (sym is) (by (is_refused start end) refl)
   where
-    clash : None ≡ Some range → range_of range.start range.end ≡ Some range
-    clash e = cc
+    by : (b : Bool) → is_refused start end ≡ b → IfSome (cond b None (Some (record { start = start; end = end }))) (λ (r : BytesRange). is_refused r.start r.end ≡ false)
+    by true e = tt
+    by false e = e
 
-    by : (b : Bool) → is_refused start end ≡ b → cond b None (Some (record { start = start; end = end })) ≡ Some range → range_of range.start range.end ≡ Some range
-    by true e same = clash same
-    by false e same = subst (λ (q : BytesRange). range_of q.start q.end ≡ Some q) (same_Some _ _ same) (ap (λ b. cond b None (Some (record { start = start; end = end }))) e)
+pub composed_fits : (p : List ℕ) (start end : Bound (List ℕ)) (o : Option BytesRange) → o ≡ prefix_subrange p start end → IfSome o (λ r. is_refused r.start r.end ≡ false)
+composed_fits p start end o is = bounds_fit (behind p start (prefix_start p)) (behind p end (prefix_end p)) o is
 
-pub bounds_fit : (start end : Bound (List ℕ)) (range : BytesRange) → range_of start end ≡ Some range → is_refused range.start range.end ≡ false
-bounds_fit start end range is = by (is_refused start end) refl is
-  where
-    clash : None ≡ Some range → is_refused range.start range.end ≡ false
-    clash e = cc
+-- without a prefix there is nothing to begin with
+pub begins_none : (o : Option BytesRange) → IfSome o (λ r. BeginsWith None r)
+begins_none None = tt
+begins_none (Some r) = λ p k e within. cc
 
-    by : (b : Bool) → is_refused start end ≡ b → cond b None (Some (record { start = start; end = end })) ≡ Some range → is_refused range.start range.end ≡ false
-    by true e same = clash same
-    by false e same = subst (λ (q : BytesRange). is_refused q.start q.end ≡ false) (same_Some _ _ same) e
+-- each key of a composed range begins with what is asked for
+pub begins_behind : (p : List ℕ) (start end : Bound (List ℕ)) (given : Option (List ℕ)) (o : Option BytesRange) → IfSome given (λ q. (q ≡ p) × EndsBelow q) → o ≡ prefix_subrange p start end → IfSome o (λ r. BeginsWith given r)
+begins_behind p start end given None asked is = tt
+begins_behind p start end given (Some r) asked is = λ q k e within.
+    let here = subst (λ (x : Option (List ℕ)). IfSome x (λ q. (q ≡ p) × EndsBelow q)) e asked in
+    begins-in q start end r k here.1 (ap (λ x. prefix_subrange x start end) here.0 ∙ sym is) within
 
-pub scan-refused : (m : Meaning) (e : SessionModel) (name : List ℕ) (order : IterationOrder) (start end : Bound (List ℕ)) (sts : List ScanStep) (o : Option (List ℕ)) → ReadsUnder e name o → o ≡ None →
-    AnswersAs m e e (lines.Scan name order start end sts) (Ok (answers.Refused (errors.UnknownTransaction name)))
-scan-refused m e name order start end sts o reads none s h =
-    subst (λ p. IsStep e (scan (rules_of e.core.settings m) s name order (range_of start end) sts p) (answers.Refused (errors.UnknownTransaction name)))
+-- ---- scans
+
+pub scan-refused : (m : Meaning) (e : SessionModel) (name : List ℕ) (order : IterationOrder) (range : Option BytesRange) (sts : List ScanStep) (o : Option (List ℕ)) → ReadsUnder e name o → o ≡ None →
+    ScansAs m e e name order range sts (Ok (answers.Refused (errors.UnknownTransaction name)))
+scan-refused m e name order range sts o reads none s h =
+    subst (λ p. IsStep e (scan (rules_of e.core.settings m) s name order range sts p) (answers.Refused (errors.UnknownTransaction name)))
     (sym (reads s h ∙ ap (reader_under e.core.state) none)) (h, refl)
 
 -- a range that is none
-pub range-refused : (m : Meaning) (e : SessionModel) (name id : List ℕ) (order : IterationOrder) (start end : Bound (List ℕ)) (sts : List ScanStep) (o : Option (List ℕ)) → ReadsUnder e name o → IfSome o (λ i. IsSome (reader e.core.state i)) → o ≡ Some id → range_of start end ≡ None →
-    AnswersAs m e e (lines.Scan name order start end sts) (Ok (answers.Refused errors.InvalidRange))
-range-refused m e name id order start end sts o reads live is none s h = by (reader e.core.state id) refl (subst (λ p. IfSome p (λ i. IsSome (reader e.core.state i))) is live)
+pub range-refused : (m : Meaning) (e : SessionModel) (name id : List ℕ) (order : IterationOrder) (given : Option BytesRange) (sts : List ScanStep) (o : Option (List ℕ)) → ReadsUnder e name o → IfSome o (λ i. IsSome (reader e.core.state i)) → o ≡ Some id → given ≡ None →
+    ScansAs m e e name order given sts (Ok (answers.Refused errors.InvalidRange))
+range-refused m e name id order given sts o reads live is none s h = by (reader e.core.state id) refl (subst (λ p. IfSome p (λ i. IsSome (reader e.core.state i))) is live)
   where
-    by : (p : Option Reader) → reader e.core.state id ≡ p → IsSome p → IsStep e (scan (rules_of e.core.settings m) s name order (range_of start end) sts (reader s name)) (answers.Refused errors.InvalidRange)
+    by : (p : Option Reader) → reader e.core.state id ≡ p → IsSome p → IsStep e (scan (rules_of e.core.settings m) s name order given sts (reader s name)) (answers.Refused errors.InvalidRange)
     by None there some = cc
     by (Some from) there some =
-        subst (λ q. IsStep e (scan (rules_of e.core.settings m) s name order (range_of start end) sts q) (answers.Refused errors.InvalidRange)) (sym (reads s h ∙ ap (reader_under e.core.state) is ∙ there))
+        subst (λ q. IsStep e (scan (rules_of e.core.settings m) s name order given sts q) (answers.Refused errors.InvalidRange)) (sym (reads s h ∙ ap (reader_under e.core.state) is ∙ there))
         (subst (λ range. IsStep e (scan (rules_of e.core.settings m) s name order range sts (Some from)) (answers.Refused errors.InvalidRange)) (sym none) (h, refl))
 
 -- the core's answer is the model's
-pub scan-found : (m : Meaning) (e : SessionModel) (core : CoreModel) (name id : List ℕ) (order : IterationOrder) (start end : Bound (List ℕ)) (range : BytesRange) (sts : List ScanStep) (rows : List KeyValue) (a : Answer) →
-    NamesStand e.names e.snapshot_names e.core.state.txns e.core.state.snapshots → reader_id e name ≡ Some id → range_of start end ≡ Some range →
+pub scan-found : (m : Meaning) (e : SessionModel) (core : CoreModel) (name id : List ℕ) (order : IterationOrder) (given : Option BytesRange) (range : BytesRange) (sts : List ScanStep) (rows : List KeyValue) (a : Answer) →
+    NamesStand e.names e.snapshot_names e.core.state.txns e.core.state.snapshots → reader_id e name ≡ Some id → given ≡ Some range → is_refused range.start range.end ≡ false →
     step (rules_of e.core.settings m) e.core.state (lines.Scan id order range.start range.end sts) ≡ (core.state, replies.RowsAre rows) → reply_of a ≡ replies.RowsAre rows →
-    AnswersAs m e (record e { core = core }) (lines.Scan name order start end sts) (Ok a)
-scan-found m e core name id order start end range sts rows a stand known some stepped is s h =
-    subst (λ o. IsStep after (scan r s name order (range_of start end) sts o) a) (sym reads.here)
+    ScansAs m e (record e { core = core }) name order given sts (Ok a)
+scan-found m e core name id order given range sts rows a stand known some fits stepped is s h =
+    subst (λ o. IsStep after (scan r s name order given sts o) a) (sym reads.here)
     (subst (λ q. IsStep after (scan r s name order q sts (Some reads.from)) a) (sym some) (
       reads.notes (steps.Scan order range ∷ taken s.commits) core (sym (ap (λ p. p.0) core-step) ∙ noted-same),
       is ∙ sym (ap (λ p. p.1) core-step) ∙ ap (λ cs. replies.RowsAre (handed (taken cs))) (sym h.commits),
@@ -99,7 +109,7 @@ scan-found m e core name id order start end range sts rows a stand known some st
 
     core-step : scan_walked c id order range (taken c.commits) ≡ (core.state, replies.RowsAre rows)
     core-step =
-        sym (ap (λ q. scan r c id order q sts (reader c id)) (range_same start end range some)
+        sym (ap (λ q. scan r c id order q sts (reader c id)) (range_same range fits)
         ∙ ap (scan r c id order (Some range) sts) reads.there)
         ∙ stepped
 

@@ -10,14 +10,13 @@ use Rattle.std.proofs.Math.Seq.{take-append_seam, take-append-add}
 use Rattle.slate_store.specs.Lines.{lines_of, whole_part, script_limit, HasNoEnd, LinesModel, GivesLine, IsEnd, KeepsAll}
 use Rattle.slate_store.proofs.LineLaws.{taken_line_is_first, whole_lines_join, whole_parts_join, partial_line_is_not_whole, end_makes_whole}
 use Rattle.slate_txn.specs.State.{Rules, State, opening}
-use Rattle.slate_language.specs.Stage.{meaning}
 use Rattle.slate_language.specs.declared.tally.Tally.{Tally}
 use Rattle.slate_language.specs.Tally.{tallied}
 use Rattle.slate_language.specs.Replies.{meanings, after_lines, replies_from, replies_to, IsWellFormed}
 use Rattle.slate_txn.specs.Step.{answers}
 use Rattle.slate_script.specs.Session.{SessionModel, StandsFor}
 use Rattle.slate_script.specs.Run.{is_line, first_other, is_too_long, lines_taken, error_of, script_error, AreLines}
-use Rattle.slate_script.proofs.Answered.{lines-more, replies-append, state-append, tally-append, other-none, none-other, lines-built, built-lines}
+use Rattle.slate_script.proofs.Answered.{lines-more, replies-append, state-append, tally-append, other-none, none-other, lines-formed, formed-lines}
 
 -- whole lines: the last has its LF
 abbrev pub IsCut : List ℕ → Type 0
@@ -201,7 +200,7 @@ pub no_error-formed : (script : List ℕ) → script_error script ≡ None → I
 no_error-formed script h =
     let parts = none-error (first_other (lines_taken script)) (is_too_long script) h in
     let taken : lines_taken script ≡ lines_of script = ap (λ t. cond t (lines_of (whole_part (take script_limit script))) (lines_of script)) parts.1 in
-    (short-than script parts.1, lines-built (lines_of script) (none-other (lines_of script) (ap first_other (sym taken) ∙ parts.0)))
+    (short-than script parts.1, lines-formed (lines_of script) (none-other (lines_of script) (ap first_other (sym taken) ∙ parts.0)))
 
 pub lines-no_error : (script : List ℕ) → length script < script_limit → AreLines (lines_of script) → script_error script ≡ None
 lines-no_error script short h =
@@ -210,7 +209,7 @@ lines-no_error script short h =
     ∙ ap (λ o. error_of o false) (other-none (lines_of script) h)
 
 pub formed-no_error : (script : List ℕ) → IsWellFormed script → script_error script ≡ None
-formed-no_error script h = lines-no_error script h.0 (built-lines (lines_of script) h.1)
+formed-no_error script h = lines-no_error script h.0 (formed-lines (lines_of script) h.1)
 
 -- ---- a run
 
@@ -223,9 +222,9 @@ pub record IsAt (P : Type 0) (r : Rules) (script : List ℕ) (source told sink :
   pub given : m.given ≡ length done
   pub meant : AreLines (lines_of done)
   pub count : number ≡ length (lines_of done)
-  pub session : P → StandsFor e (after_lines meaning r opening (lines_of done))
-  pub said : P → (before : List ℕ) → told ≡ Some before → sink ≡ Some (before ++ replies_to meaning r (lines_of done))
-  pub counts : P → tally ≡ tallied first (answers r opening (meanings meaning (lines_of done)))
+  pub session : P → StandsFor e (after_lines r opening (lines_of done))
+  pub said : P → (before : List ℕ) → told ≡ Some before → sink ≡ Some (before ++ replies_to r (lines_of done))
+  pub counts : P → tally ≡ tallied first (answers r opening (meanings (lines_of done)))
 
 pub record Took (P : Type 0) (r : Rules) (script : List ℕ) (source told sink : Option (List ℕ)) (first tally : Tally) (m : LinesModel) (line : List ℕ) (number : ℕ) (e : SessionModel) : Type 0 where
   pub left : List ℕ
@@ -237,9 +236,9 @@ pub record Took (P : Type 0) (r : Rules) (script : List ℕ) (source told sink :
   pub given : m.given ≡ length more
   pub meant : AreLines (lines_of done)
   pub count : number ≡ length (lines_of done) + 1
-  pub session : P → StandsFor e (after_lines meaning r opening (lines_of done))
-  pub said : P → (before : List ℕ) → told ≡ Some before → sink ≡ Some (before ++ replies_to meaning r (lines_of done))
-  pub counts : P → tally ≡ tallied first (answers r opening (meanings meaning (lines_of done)))
+  pub session : P → StandsFor e (after_lines r opening (lines_of done))
+  pub said : P → (before : List ℕ) → told ≡ Some before → sink ≡ Some (before ++ replies_to r (lines_of done))
+  pub counts : P → tally ≡ tallied first (answers r opening (meanings (lines_of done)))
 
 pub begin : (P : Type 0) (r : Rules) (script : List ℕ) (source told : Option (List ℕ)) (first : Tally) (m : LinesModel) (e : SessionModel) → source ≡ Some script → m.held ≡ [] → m.given ≡ 0 → StandsFor e opening → IsAt P r script source told told first first m 0 e
 begin P r script source told first m e is held given opens = record {
@@ -278,9 +277,9 @@ one-more : (ls : List (List ℕ)) (l : List ℕ) → length ls + 1 ≡ length (l
 one-more ls l = sym (length-append ls (l ∷ []))
 
 pub answer-it : (P : Type 0) (r : Rules) (script line : List ℕ) (source told sink after : Option (List ℕ)) (first tally next : Tally) (m : LinesModel) (number : ℕ) (e new : SessionModel) → Took P r script source told sink first tally m line number e
-    → IsTrue (is_line line) → (P → (s : State) → StandsFor e s → StandsFor new (after_lines meaning r s (line ∷ [])))
-    → (P → (s : State) (before : List ℕ) → StandsFor e s → sink ≡ Some before → after ≡ Some (before ++ replies_from meaning r s (line ∷ [])))
-    → (P → (s : State) → StandsFor e s → next ≡ tallied tally (answers r s (meanings meaning (line ∷ []))))
+    → IsTrue (is_line line) → (P → (s : State) → StandsFor e s → StandsFor new (after_lines r s (line ∷ [])))
+    → (P → (s : State) (before : List ℕ) → StandsFor e s → sink ≡ Some before → after ≡ Some (before ++ replies_from r s (line ∷ [])))
+    → (P → (s : State) → StandsFor e s → next ≡ tallied tally (answers r s (meanings (line ∷ []))))
     → IsAt P r script source told after first next m number new
 answer-it P r script line source told sink after first tally next m number e new took is stands says counts = record {
   left = took.left;
@@ -290,14 +289,14 @@ answer-it P r script line source told sink after first tally next m number e new
   given = took.given;
   meant = rw took.lines (lines-more (lines_of took.done) (line ∷ []) took.meant (is, tt));
   count = took.count ∙ one-more (lines_of took.done) line ∙ ap length (sym took.lines);
-  session = λ p. subst (StandsFor new) (sym (ap (after_lines meaning r opening) took.lines ∙ state-append r opening (lines_of took.done) (line ∷ []) took.meant)) (stands p _ (took.session p));
+  session = λ p. subst (StandsFor new) (sym (ap (after_lines r opening) took.lines ∙ state-append r opening (lines_of took.done) (line ∷ []) took.meant)) (stands p _ (took.session p));
   said = λ p before is.
-      says p _ (before ++ replies_to meaning r (lines_of took.done)) (took.session p) (took.said p before is)
-      ∙ ap Some (append_assoc before (replies_to meaning r (lines_of took.done)) (replies_from meaning r (after_lines meaning r opening (lines_of took.done)) (line ∷ []))
-      ∙ ap (λ bs. before ++ bs) (sym (ap (replies_to meaning r) took.lines ∙ replies-append r opening (lines_of took.done) (line ∷ []) took.meant)));
+      says p _ (before ++ replies_to r (lines_of took.done)) (took.session p) (took.said p before is)
+      ∙ ap Some (append_assoc before (replies_to r (lines_of took.done)) (replies_from r (after_lines r opening (lines_of took.done)) (line ∷ []))
+      ∙ ap (λ bs. before ++ bs) (sym (ap (replies_to r) took.lines ∙ replies-append r opening (lines_of took.done) (line ∷ []) took.meant)));
   counts = λ p.
-      counts p _ (took.session p) ∙ ap (λ t. tallied t (answers r (after_lines meaning r opening (lines_of took.done)) (meanings meaning (line ∷ [])))) (took.counts p)
-      ∙ sym (ap (λ ls. tallied first (answers r opening (meanings meaning ls))) took.lines ∙ tally-append first r opening (lines_of took.done) (line ∷ []) took.meant);
+      counts p _ (took.session p) ∙ ap (λ t. tallied t (answers r (after_lines r opening (lines_of took.done)) (meanings (line ∷ [])))) (took.counts p)
+      ∙ sym (ap (λ ls. tallied first (answers r opening (meanings ls))) took.lines ∙ tally-append first r opening (lines_of took.done) (line ∷ []) took.meant);
 }
 
 -- ---- what the reader answered

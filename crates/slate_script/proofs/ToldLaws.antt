@@ -184,6 +184,7 @@ shown-at-end policies before now after core e same stores made = record {
 at-shown : (policies : List Policy) (line : Line) (m : Meaning) (core : CoreModel) (reads : List Act) (e : SlateDBError) → IsRefusedAt policies line m core reads e → IsShownBy policies m core reads e
 at-shown policies (lines.Get name k) m core reads e h = inl (k, h)
 at-shown policies (lines.Scan name order start end sts) m core reads e h = inr h
+at-shown policies (lines.Prefix name order p start end sts) m core reads e h = inr h
 at-shown policies line m core reads e h = absurd h
 
 pub line-shown : (policies : List Policy) (line : Line) (before after : Reach) (core : CoreModel) (x : SlateDBError) → (IsTableError x → Made before after (λ reads. IsRefusedAt policies line before.meaning core reads x)) → IsTableError x →

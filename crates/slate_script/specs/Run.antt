@@ -29,7 +29,7 @@ use Rattle.slate_txn.specs.Settings.{settings_of}
 use Rattle.slate_txn.specs.State.{Rules}
 use Rattle.slate_db.specs.Meaning.{Meaning, IsLawfulMeaning, rules_of}
 use Rattle.slate_db.specs.Parts.{IsTableError}
-use Rattle.slate_language.specs.Stage.{meaning}
+use Rattle.slate_language.specs.Parse.{parse}
 use Rattle.slate_language.specs.Replies.{is_silent, replies, replies_to, IsWellFormed}
 
 abbrev pub run_rules : Options → Meaning → Rules
@@ -41,7 +41,7 @@ pub record Premises (policies : List Policy) (m : Meaning) (objects : Option Obj
   pub empty : IsEmpty objects
 
 abbrev pub is_line : List ℕ → Bool
-is_line l = is_silent l || is_some (meaning l)
+is_line l = is_silent l || is_some (parse l)
 
 abbrev pub first_other : List (List ℕ) → Option ℕ
 first_other [] = None
@@ -88,7 +88,7 @@ pub record HasAnswered (r : Rules) (script said : List ℕ) : Type 0 where
   pub later : List (List ℕ)
   pub first : lines_of script ≡ done ++ later
   pub meant : AreLines done
-  pub all : said ≡ replies_to meaning r done
+  pub all : said ≡ replies_to r done
 
 -- line: the one whose reply was being written
 pub record HasBegun (r : Rules) (script said : List ℕ) : Type 0 where
@@ -99,9 +99,9 @@ pub record HasBegun (r : Rules) (script said : List ℕ) : Type 0 where
   pub meant : AreLines (done ++ (line ∷ []))
   pub missing : List ℕ
   pub some : missing ≢ []
-  pub part : said ++ missing ≡ replies_to meaning r (done ++ (line ∷ []))
+  pub part : said ++ missing ≡ replies_to r (done ++ (line ∷ []))
   pub begun : List ℕ
-  pub before : said ≡ replies_to meaning r done ++ begun
+  pub before : said ≡ replies_to r done ++ begun
 
 -- what a source that failed has given: all whole lines of it were answered, and a last one without LF only at its end
 pub record HasAnsweredAll (r : Rules) (script left said : List ℕ) : Type 0 where
@@ -110,14 +110,14 @@ pub record HasAnsweredAll (r : Rules) (script left said : List ℕ) : Type 0 whe
   pub done : List ℕ
   pub whole : (done ≡ whole_part given) ⊎ ((done ≡ given) × (left ≡ []))
   pub meant : AreLines (lines_of done)
-  pub all : said ≡ replies_to meaning r (lines_of done)
+  pub all : said ≡ replies_to r (lines_of done)
 
 -- ---- a run, by its result
 
 -- left: what the source still has; before, after: what the sink tells
 pub record HasSaid {T : Type 0} (r : Rules) (script : List ℕ) (left : Option (List ℕ)) (before : List ℕ) (after : Option (List ℕ)) (result : Result T SlateDBError) : Type 0 where
   pub whole : OnOk result (after ≡ Some (before ++ replies r script))
-  pub by_script : IfErr result (λ e. script_error script ≡ Some e → after ≡ Some (before ++ replies_to meaning r (lines_taken script)))
+  pub by_script : IfErr result (λ e. script_error script ≡ Some e → after ≡ Some (before ++ replies_to r (lines_taken script)))
   pub by_source : result ≡ Err ReadFault → (rest said : List ℕ) × (left ≡ Some rest) × (after ≡ Some (before ++ said)) × HasAnsweredAll r script rest said
   pub by_sink : result ≡ Err WriteFault → (said : List ℕ) × (after ≡ Some (before ++ said)) × HasBegun r script said
   pub by_part : IfErr result (λ e. (e ≡ OutOfMemory) ⊎ IsPartError e → (said : List ℕ) × (after ≡ Some (before ++ said)) × HasAnswered r script said)

@@ -4,12 +4,17 @@
 --                 where it is known which rows are left, it is behind the calls, and these and the steps are as meant
 --     Fails before after x e      one of them was refused, by a fault or by what the reads of all of them show
 --     HasScanned policies before after c d id order range sts rows      a line's scan was opened and walked over
-use Rattle.std.specs.Prelude.{◌≡◌, ◌⊎◌, ℕ, List, ◌∷◌, ◌++◌, Option}
+--     BeginsWith prefix range      where a prefix is given, each key of the range begins with it
+--     EndsBelow p      p doesn't end with byte 255
+--     ScansAs m e new name order range sts result      the answer is that of the model's scan of the range, where bounds leave one
+use Rattle.std.specs.Prelude.{◌≡◌, ◌≢◌, ◌⊎◌, ℕ, ◌-◌, nat_eq, true, List, ◌∷◌, ◌++◌, length, slice_get, Option, Some, Result, IfOk}
+use Rattle.std.specs.List.{starts_with}
 use Rattle.slate_types.specs.declared.bytes_range.BytesRange.{BytesRange}
 use Rattle.slate_types.specs.declared.error.SlateDBError.{SlateDBError}
 use Rattle.slate_types.specs.declared.iter.IterationOrder.{IterationOrder}
 use Rattle.slate_types.specs.declared.types.KeyValue.{KeyValue}
 use Rattle.slate_types.specs.declared.types.RowEntry.{RowEntry}
+use Rattle.slate_types.specs.Keys.{in_range}
 use Rattle.slate_types.specs.Outside.{IsFault, Reach}
 use Rattle.slate_types.specs.Refusing.{NoMore}
 use Rattle.slate_types.specs.World.{World, Made, Sees}
@@ -20,13 +25,16 @@ use Rattle.slate_txn.specs.declared.line.ScanStep.{ScanStep}
 use Rattle.slate_txn.specs.declared.line.Line.TheVariants as lines
 use Rattle.slate_txn.specs.Reads.{handed}
 use Rattle.slate_txn.specs.Reply.{RowsAre}
-use Rattle.slate_txn.specs.Step.{noted, step}
+use Rattle.slate_txn.specs.State.{State}
+use Rattle.slate_txn.specs.Step.{noted, reader, scan, step}
 use Rattle.slate_db.specs.declared.scan.TxnIterator.{TxnIterator}
 use Rattle.slate_db.specs.Meaning.{Meaning, rules_of}
 use Rattle.slate_db.specs.Model.{CoreModel}
 use Rattle.slate_db.specs.Readable.{IsAnswered}
 use Rattle.slate_db.specs.Scans.{IsScanOf, Leaves, ScanRefuses, id_of, number_of, scan_of}
 use Rattle.slate_db.specs.Sound.{IsKept}
+use Rattle.slate_language.specs.declared.reply.Answer.{Answer}
+use Rattle.slate_script.specs.Session.{SessionModel, IsStep, StandsFor}
 use Rattle.slate_script.specs.Walking.{Means}
 
 -- whatever the calls answered
@@ -51,3 +59,13 @@ pub record HasScanned (policies : List Policy) (before after : Reach) (c d : Cor
   pub notes : d ≡ record c { state = noted c.state id (steps.Scan order range ∷ ts) }
   pub kept : (m : Meaning) → IsKept m c → IsKept m d
   pub answers : IsAnswered policies before after c → step (rules_of c.settings before.meaning) c.state (lines.Scan id order range.start range.end sts) ≡ (d.state, RowsAre rows)
+
+abbrev pub BeginsWith : Option (List ℕ) → BytesRange → Type 0
+BeginsWith prefix range = (p k : List ℕ) → prefix ≡ Some p → in_range range k ≡ true → starts_with nat_eq k p ≡ true
+
+abbrev pub EndsBelow : List ℕ → Type 0
+EndsBelow p = slice_get p (length p - 1) ≢ Some 255
+
+abbrev pub ScansAs : Meaning → SessionModel → SessionModel → List ℕ → IterationOrder → Option BytesRange → List ScanStep → Result Answer SlateDBError → Type 0
+ScansAs m before after name order range sts result =
+    (s : State) → StandsFor before s → IfOk result (IsStep after (scan (rules_of before.core.settings m) s name order range sts (reader s name)))

@@ -7,7 +7,7 @@
 --     PutsTables old new before after      of two lists of tables the second has those of the first and more, which were put by the acts in between
 --     asking_for policies k      what the get of a line asks filters
 --     IsShownBy policies m c reads e      reads show the error, as those of a get do or as those of a scan
---     IsRefusedAt policies line m c reads e      what a line is refused for by its reads: a get and a scan; others are for none
+--     IsRefusedAt policies line m c reads e      what a line is refused for by its reads: a get, a scan and a prefix; others are for none
 --     IsShownAtEnd policies before after e      the last acts are reads that show the error, by tables that were put before them
 use Rattle.std.specs.Prelude.{◌≡◌, ◌⊎◌, ℕ, List, [], ◌∷◌, ◌++◌, Contains, Option, None, Some}
 use Rattle.std.specs.List.{AllByRecursion}
@@ -66,6 +66,7 @@ IsShownBy policies m c reads e = ((k : List ℕ) × IsRefusedBy (asking_for poli
 abbrev pub IsRefusedAt : List Policy → Line → Meaning → CoreModel → List Act → SlateDBError → Type 0
 IsRefusedAt policies (lines.Get name k) m c reads e = IsRefusedBy (asking_for policies k) m c reads e
 IsRefusedAt policies (lines.Scan name order start end sts) m c reads e = IsRefusedByScan m c reads e
+IsRefusedAt policies (lines.Prefix name order p start end sts) m c reads e = IsRefusedByScan m c reads e
 IsRefusedAt policies line m c reads e = ⊥
 
 -- core: as it was before the reads

@@ -8,11 +8,10 @@ ghost use Rattle.slate_filter.specs.Laws.{AreValidNames};
 ghost use Rattle.slate_table.specs.Filtered.{AreLawful};
 ghost use Rattle.slate_txn.specs.State.{opening};
 ghost use Rattle.slate_db.specs.Flushed.{layout_of};
-ghost use Rattle.slate_db.specs.Meaning.{IsLawfulMeaning};
+ghost use Rattle.slate_db.specs.Meaning.{IsLawfulMeaning, segments_by};
 ghost use Rattle.slate_db.specs.Parts.{IsTableError};
 ghost use Rattle.slate_language.specs.Generate.{generate, summary};
 ghost use Rattle.slate_language.specs.Replies.{after_lines};
-ghost use Rattle.slate_language.specs.Stage as stage;
 ghost use Rattle.slate_language.specs.Tally.{tally_text};
 ghost use Rattle.slate_language.specs.Words.{max_rounds};
 ghost use Rattle.slate_script.specs.Run.{run_rules, Premises, HasCause, HasTold, IsOutside, NoneRose};
@@ -105,7 +104,7 @@ pub fn run_generated<W: Sink, S: Store, M: MergeOperator, T: BlockTransformer, X
     ensures stored { let reach = ⟦<EnvOf<S, M, T> as Outside>⟧.reach in
         let policies = map (λ p. meaning (p.vtable, p.value)) laws.now.policies.items in
         Premises policies (reach env.old).meaning (reach env.old).objects →
-        OnOk result (IsStoredState (reach env.old).meaning (run_rules laws.now.options (reach env.old).meaning) (layout_of laws.now.options policies) (reach env.new).objects (after_lines stage.meaning (run_rules laws.now.options (reach env.old).meaning) opening (lines_of (generate rounds seed)))) }
+        OnOk result (IsStoredState (reach env.old).meaning (run_rules laws.now.options (reach env.old).meaning) (layout_of laws.now.options policies (segments_by X.lengths laws.now.segments)) (reach env.new).objects (after_lines (run_rules laws.now.options (reach env.old).meaning) opening (lines_of (generate rounds seed)))) }
 
     // errors: each has its cause, and no fault is passed over
     ensures outside { IfErr result (λ e. IsOutside e) }

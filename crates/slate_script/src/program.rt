@@ -15,7 +15,6 @@ ghost use Rattle.slate_language.specs.declared.words.Generated.{Generated};
 ghost use Rattle.slate_language.specs.declared.words.Settings.{Settings};
 ghost use Rattle.slate_script.specs.Program.{main_rules, parts_of, status, IsDamageStatus, IsGeneratedStatus, IsStatus};
 ghost use Rattle.slate_language.specs.Replies.{after_lines, replies, replies_to, IsWellFormed};
-ghost use Rattle.slate_language.specs.Stage as stage;
 ghost use Rattle.slate_language.specs.Words.{max_rounds, read_generated, read_words, used};
 ghost use Rattle.slate_script.specs.Run.{script_error, lines_taken, IsOutside, IsScriptError, HasAnswered, HasAnsweredAll, HasBegun};
 ghost use Rattle.slate_script.specs.StoredState.{IsStoredState};
@@ -79,7 +78,7 @@ pub fn run_main<R: Source, W: Sink, S: Store>(
         let handed = map (λ p. (meaning p).name) policies.items in
         let given = map (λ p. meaning p) policies.items in
         (s : Settings) (script : List ℕ) → read_words handed ws ≡ Some s → R.left source.old ≡ Some script → AreLawful given → IsEmpty (S.objects store.old) →
-        result ≡ 0 → IsStoredState (parts_of s) (main_rules s) (layout_of s.options (used ws given)) (S.objects store.new) (after_lines stage.meaning (main_rules s) opening (lines_of script)) }
+        result ≡ 0 → IsStoredState (parts_of s) (main_rules s) (layout_of s.options (used ws given) None) (S.objects store.new) (after_lines (main_rules s) opening (lines_of script)) }
     ensures read { let ws = map string_bytes words.now in
         let handed = map (λ p. (meaning p).name) policies.items in
         (script : List ℕ) → read_generated handed ws ≡ None → R.left source.old ≡ Some script → result ≡ 0 → IsWellFormed script × (R.left source.new ≡ Some []) }
@@ -110,7 +109,7 @@ pub fn run_main<R: Source, W: Sink, S: Store>(
         let handed = map (λ p. (meaning p).name) policies.items in
         let given = map (λ p. meaning p) policies.items in
         (s : Settings) (script before : List ℕ) → read_words handed ws ≡ Some s → R.left source.old ≡ Some script → W.content sink.old ≡ Some before → AreLawful given → IsEmpty (S.objects store.old) →
-        (result ≡ 3) ⊎ (result ≡ 4) → W.content sink.new ≡ Some (before ++ replies_to stage.meaning (main_rules s) (lines_taken script)) }
+        (result ≡ 3) ⊎ (result ≡ 4) → W.content sink.new ≡ Some (before ++ replies_to (main_rules s) (lines_taken script)) }
     ensures by_source { let ws = map string_bytes words.now in
         let handed = map (λ p. (meaning p).name) policies.items in
         let given = map (λ p. meaning p) policies.items in
@@ -142,7 +141,7 @@ pub fn run_main<R: Source, W: Sink, S: Store>(
         let handed = map (λ p. (meaning p).name) policies.items in
         let given = map (λ p. meaning p) policies.items in
         (g : Generated) → read_generated handed ws ≡ Some g → AreLawful given → IsEmpty (S.objects store.old) →
-        result ≡ 0 → IsStoredState (parts_of g.settings) (main_rules g.settings) (layout_of g.settings.options (used ws given)) (S.objects store.new) (after_lines stage.meaning (main_rules g.settings) opening (lines_of (generate g.rounds g.seed))) }
+        result ≡ 0 → IsStoredState (parts_of g.settings) (main_rules g.settings) (layout_of g.settings.options (used ws given) None) (S.objects store.new) (after_lines (main_rules g.settings) opening (lines_of (generate g.rounds g.seed))) }
     ensures summed_kinds { let ws = map string_bytes words.now in
         let handed = map (λ p. (meaning p).name) policies.items in
         (g : Generated) → read_generated handed ws ≡ Some g → IsGeneratedStatus result }
@@ -209,7 +208,7 @@ fn main_generated<W: Sink, S: Store>(
     ensures summed { (before : List ℕ) → W.content sink.old ≡ Some before → AreLawful (map (λ p. meaning p) policies.items) → IsEmpty (S.objects store.old) →
         result ≡ 0 → W.content sink.new ≡ Some (before ++ summary (main_rules generated.now.settings) (generate generated.now.rounds generated.now.seed)) }
     ensures stored { AreLawful (map (λ p. meaning p) policies.items) → IsEmpty (S.objects store.old) →
-        result ≡ 0 → IsStoredState (parts_of generated.now.settings) (main_rules generated.now.settings) (layout_of generated.now.settings.options (map (λ p. meaning p) policies.items)) (S.objects store.new) (after_lines stage.meaning (main_rules generated.now.settings) opening (lines_of (generate generated.now.rounds generated.now.seed))) }
+        result ≡ 0 → IsStoredState (parts_of generated.now.settings) (main_rules generated.now.settings) (layout_of generated.now.settings.options (map (λ p. meaning p) policies.items) None) (S.objects store.new) (after_lines (main_rules generated.now.settings) opening (lines_of (generate generated.now.rounds generated.now.seed))) }
     ensures write_fault { result ≡ 6 → Rose (W.faults sink.old) (W.faults sink.new) }
     ensures store_fault { result ≡ 7 → Rose (S.faults store.old) (S.faults store.new) }
     ensures undamaged { AreLawful (map (λ p. meaning p) policies.items) → IsEmpty (S.objects store.old) → IsDamageStatus result → ⊥ }

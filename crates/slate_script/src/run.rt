@@ -11,12 +11,11 @@ ghost use Rattle.slate_txn.specs.State.{Rules, State, opening};
 ghost use Rattle.slate_db.specs.Flushed.{layout_of};
 ghost use Rattle.slate_db.specs.Installs.{runs_of, tables_of};
 ghost use Rattle.slate_db.specs.Load.{weight};
-ghost use Rattle.slate_db.specs.Meaning.{Meaning, IsLawfulMeaning};
+ghost use Rattle.slate_db.specs.Meaning.{Meaning, IsLawfulMeaning, segments_by};
 ghost use Rattle.slate_db.specs.Parts.{IsTableError};
 ghost use Rattle.slate_db.specs.Sound.{IsKept};
 ghost use Rattle.slate_language.specs.Replies.{meanings, replies, replies_to, after_lines, replies_from, reply_line, IsWellFormed};
 ghost use Rattle.slate_language.specs.Answers.{reply_of};
-ghost use Rattle.slate_language.specs.Stage as stage;
 ghost use Rattle.slate_language.specs.Tally.{tallied};
 ghost use Rattle.slate_txn.specs.Step.{answers};
 ghost use Rattle.slate_script.specs.Session.{StandsFor, HasTablesAlone, IsRunning, IsSettled, IsLimit, held_load};
@@ -74,7 +73,7 @@ pub fn run_script<
     ensures stored { let reach = ⟦<EnvOf<S, M, T> as Outside>⟧.reach in
         let policies = map (λ p. meaning (p.vtable, p.value)) laws.now.policies.items in
         (script : List ℕ) → R.left source.old ≡ Some script → Premises policies (reach env.old).meaning (reach env.old).objects →
-        OnOk result (IsStoredState (reach env.old).meaning (run_rules laws.now.options (reach env.old).meaning) (layout_of laws.now.options policies) (reach env.new).objects (after_lines stage.meaning (run_rules laws.now.options (reach env.old).meaning) opening (lines_of script))) }
+        OnOk result (IsStoredState (reach env.old).meaning (run_rules laws.now.options (reach env.old).meaning) (layout_of laws.now.options policies (segments_by X.lengths laws.now.segments)) (reach env.new).objects (after_lines (run_rules laws.now.options (reach env.old).meaning) opening (lines_of script))) }
     ensures read { (script : List ℕ) → R.left source.old ≡ Some script → HasRead script (R.left source.new) result }
 
     // errors: each has its cause, and no fault is passed over
@@ -128,11 +127,11 @@ pub(crate) fn answer_lines<
     ensures counted { let reach = ⟦<EnvOf<S, M, T> as Outside>⟧.reach in
         let policies = map (λ p. meaning (p.vtable, p.value)) laws.now.policies.items in
         (script : List ℕ) → R.left source.old ≡ Some script → Premises policies (reach env.old).meaning (reach env.old).objects →
-        OnOk result (tally.new ≡ tallied tally.old (answers (run_rules laws.now.options (reach env.old).meaning) opening (meanings stage.meaning (lines_of script)))) }
+        OnOk result (tally.new ≡ tallied tally.old (answers (run_rules laws.now.options (reach env.old).meaning) opening (meanings (lines_of script)))) }
     ensures stored { let reach = ⟦<EnvOf<S, M, T> as Outside>⟧.reach in
         let policies = map (λ p. meaning (p.vtable, p.value)) laws.now.policies.items in
         (script : List ℕ) → R.left source.old ≡ Some script → Premises policies (reach env.old).meaning (reach env.old).objects →
-        OnOk result (IsStoredState (reach env.old).meaning (run_rules laws.now.options (reach env.old).meaning) (layout_of laws.now.options policies) (reach env.new).objects (after_lines stage.meaning (run_rules laws.now.options (reach env.old).meaning) opening (lines_of script))) }
+        OnOk result (IsStoredState (reach env.old).meaning (run_rules laws.now.options (reach env.old).meaning) (layout_of laws.now.options policies (segments_by X.lengths laws.now.segments)) (reach env.new).objects (after_lines (run_rules laws.now.options (reach env.old).meaning) opening (lines_of script))) }
     ensures read { (script : List ℕ) → R.left source.old ≡ Some script → HasRead script (R.left source.new) result }
 
     // errors: each has its cause, and no fault is passed over
@@ -211,20 +210,20 @@ fn answer_line<W: Sink, S: Store, M: MergeOperator, T: BlockTransformer, X: Pref
         (m : Meaning) (r : Rules) → IsRunning policies m r (reach env.old).meaning (reach env.old).objects session.old → OnOk result (IsRunning policies m r (reach env.new).meaning (reach env.new).objects session.new) }
     ensures stands { let reach = ⟦<EnvOf<S, M, T> as Outside>⟧.reach in
         let policies = map (λ p. meaning (p.vtable, p.value)) laws.now.policies.items in
-        (m : Meaning) (r : Rules) → IsRunning policies m r (reach env.old).meaning (reach env.old).objects session.old → (s : State) → StandsFor session.old s → OnOk result (StandsFor session.new (after_lines stage.meaning r s (line.now ∷ []))) }
+        (m : Meaning) (r : Rules) → IsRunning policies m r (reach env.old).meaning (reach env.old).objects session.old → (s : State) → StandsFor session.old s → OnOk result (StandsFor session.new (after_lines r s (line.now ∷ []))) }
     ensures answered { let reach = ⟦<EnvOf<S, M, T> as Outside>⟧.reach in
         let policies = map (λ p. meaning (p.vtable, p.value)) laws.now.policies.items in
         (m : Meaning) (r : Rules) → IsRunning policies m r (reach env.old).meaning (reach env.old).objects session.old → (s : State) (before : List ℕ) → StandsFor session.old s → W.content sink.old ≡ Some before →
-        OnOk result (W.content sink.new ≡ Some (before ++ replies_from stage.meaning r s (line.now ∷ []))) }
+        OnOk result (W.content sink.new ≡ Some (before ++ replies_from r s (line.now ∷ []))) }
     ensures counted { let reach = ⟦<EnvOf<S, M, T> as Outside>⟧.reach in
         let policies = map (λ p. meaning (p.vtable, p.value)) laws.now.policies.items in
         (m : Meaning) (r : Rules) → IsRunning policies m r (reach env.old).meaning (reach env.old).objects session.old → (s : State) → StandsFor session.old s →
-        OnOk result (tally.new ≡ tallied tally.old (answers r s (meanings stage.meaning (line.now ∷ [])))) }
+        OnOk result (tally.new ≡ tallied tally.old (answers r s (meanings (line.now ∷ [])))) }
     ensures grows { OnOk result ((weight session.new.core ≤ weight session.old.core + 2) × (held_load session.new ≤ held_load session.old + length line.now)) }
     ensures alone { let reach = ⟦<EnvOf<S, M, T> as Outside>⟧.reach in
         let policies = map (λ p. meaning (p.vtable, p.value)) laws.now.policies.items in
-        (m : Meaning) (r : Rules) → IsRunning policies m r (reach env.old).meaning (reach env.old).objects session.old → HasTablesAlone m (layout_of laws.now.options policies) (reach env.old).objects (runs_of session.old.core.events) →
-        OnOk result (HasTablesAlone m (layout_of laws.now.options policies) (reach env.new).objects (runs_of session.new.core.events)) }
+        (m : Meaning) (r : Rules) → IsRunning policies m r (reach env.old).meaning (reach env.old).objects session.old → HasTablesAlone m (layout_of laws.now.options policies (segments_by X.lengths laws.now.segments)) (reach env.old).objects (runs_of session.old.core.events) →
+        OnOk result (HasTablesAlone m (layout_of laws.now.options policies (segments_by X.lengths laws.now.segments)) (reach env.new).objects (runs_of session.new.core.events)) }
     ensures cause { IfErr result (λ e. (e ≡ SlateDBError.OutOfMemory) ⊎ (e ≡ SlateDBError.WriteFault) ⊎ ((e ≡ SlateDBError.ScriptSyntax number) × (is_line line.now ≡ false)) ⊎ IsPartError e ⊎ IsLimit session.old e) }
     ensures part { let reach = ⟦<EnvOf<S, M, T> as Outside>⟧.reach in IfErr result (λ e. IsPartError e → IsPartCause (reach env.old).faults (reach env.new).faults e) }
     ensures undamaged { let reach = ⟦<EnvOf<S, M, T> as Outside>⟧.reach in
@@ -245,7 +244,7 @@ fn answer_line<W: Sink, S: Store, M: MergeOperator, T: BlockTransformer, X: Pref
     ensures begun { let reach = ⟦<EnvOf<S, M, T> as Outside>⟧.reach in
         let policies = map (λ p. meaning (p.vtable, p.value)) laws.now.policies.items in
         (m : Meaning) (r : Rules) → IsRunning policies m r (reach env.old).meaning (reach env.old).objects session.old → (s : State) (before : List ℕ) → StandsFor session.old s → W.content sink.old ≡ Some before → result ≡ Err SlateDBError.WriteFault →
-        (n : ℕ) × (n < length (replies_from stage.meaning r s (line.now ∷ []))) × (W.content sink.new ≡ Some (before ++ take n (replies_from stage.meaning r s (line.now ∷ [])))) }
+        (n : ℕ) × (n < length (replies_from r s (line.now ∷ []))) × (W.content sink.new ≡ Some (before ++ take n (replies_from r s (line.now ∷ [])))) }
     ensures still { OnOk result (W.faults sink.new ≡ W.faults sink.old) }
     ensures puts { let reach = ⟦<EnvOf<S, M, T> as Outside>⟧.reach in Puts (reach env.old) (reach env.new) }
     ensures uncounted { IfErr result (λ e. (e ≡ SlateDBError.WriteFault) ⊎ (W.faults sink.new ≡ W.faults sink.old)) }

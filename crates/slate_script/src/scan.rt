@@ -7,9 +7,10 @@ ghost use Rattle.slate_txn.specs.declared.line.ScanStep.TheVariants.{Rows};
 ghost use Rattle.slate_txn.specs.Step.{reader};
 ghost use Rattle.slate_db.specs.Readable.{IsAnswered};
 ghost use Rattle.slate_db.specs.Scans.{IsOpenScan, IsScanError, id_of, number_of, scan_of};
-ghost use Rattle.slate_script.specs.Scanning.{Fails, HasScanned, IsNoted, Took};
+ghost use Rattle.slate_script.specs.Scanning.{BeginsWith, Fails, HasScanned, IsNoted, Took};
 ghost use Rattle.slate_script.specs.Walking.{TakesStep, TakesSteps, Walks};
 
+use bytes::Bytes;
 use slate_db::engine::Core;
 use slate_db::laws::Laws;
 use slate_db::scan::TxnIterator;
@@ -23,18 +24,21 @@ use std::alloc::Global;
 use uuid::Uuid;
 
 /// The rows that steps hand out of a scan of an open transaction or snapshot over a range, in an order; without steps all rows.
+/// The keys of the range begin with the prefix, where one is given.
 pub(crate) fn scan_rows<S: Store, M: MergeOperator, T: BlockTransformer, X: PrefixExtractor>(
     alloc: Global,
     core: &mut Core,
     id: &Uuid,
     order: IterationOrder,
     range: BytesRange,
+    prefix: Option<Bytes>,
     steps: &[ScanStep],
     env: &mut Env<'_, S, M, T>,
     laws: &Laws<X>,
 ) -> Result<Vec<KeyValue>, SlateDBError>
     requires open { IsSome (reader core.old.state id.now) }
     requires range { is_refused range.start range.end ≡ false }
+    requires prefix { BeginsWith prefix range }
     requires valid { IsValid laws.now.options }
     ensures noted { IsNoted core.old core.new id.now }
     ensures scanned { let reach = ⟦<EnvOf<S, M, T> as Outside>⟧.reach in
@@ -50,7 +54,7 @@ pub(crate) fn scan_rows<S: Store, M: MergeOperator, T: BlockTransformer, X: Pref
         order,
         filter_context: None,
     };
-    let opened = core.scan(id, range, None, &options, env, laws);
+    let opened = core.scan(id, range, prefix, &options, env, laws);
     drop(options);
     let mut scan = opened?;
     let rows = walk(alloc, core, &mut scan, steps, env);

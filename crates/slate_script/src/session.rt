@@ -1,6 +1,7 @@
 //! The core, the open names with their ids, and the moment.
-ghost use Rattle.std.specs.Prelude.{◌≡◌, ◌≢◌, ◌⊎◌, ◌∷◌, ℕ, List, ◌++◌, [], map, Some, None, Ok, IfOk, IfErr, IfSome, IsSome, OnOk, IsTrue, IsOkUnless, length, drop};
+ghost use Rattle.std.specs.Prelude.{◌≡◌, ◌≢◌, ◌⊎◌, ◌∷◌, ℕ, List, ◌++◌, [], map, Some, None, Ok, IfOk, IfErr, IfSome, IsSome, OnOk, IsTrue, IsOkUnless, false, length, drop};
 ghost use Rattle.slate_types.specs.Config.{IsValid};
+ghost use Rattle.slate_types.specs.Keys.{is_refused, prefix_subrange};
 ghost use Rattle.slate_types.specs.Outside.{Objects, IsFault, OnlyReads, Puts};
 ghost use Rattle.slate_types.specs.World.{Made};
 ghost use Rattle.std.specs.declared.ops.Bound.{Bound};
@@ -19,7 +20,7 @@ ghost use Rattle.slate_txn.specs.Step.{reader};
 ghost use Rattle.slate_db.specs.Flushed.{layout_of};
 ghost use Rattle.slate_db.specs.Installs.{runs_of, tables_of};
 ghost use Rattle.slate_db.specs.Load.{weight};
-ghost use Rattle.slate_db.specs.Meaning.{Meaning, IsLawfulMeaning};
+ghost use Rattle.slate_db.specs.Meaning.{Meaning, IsLawfulMeaning, segments_by};
 ghost use Rattle.slate_db.specs.Parts.{IsTableError};
 ghost use Rattle.slate_db.specs.Readable.{IsAnswered, IsReadError};
 ghost use Rattle.slate_db.specs.Scans.{IsScanError};
@@ -27,8 +28,8 @@ ghost use Rattle.slate_db.specs.Sound.{IsKept, IsOperable};
 ghost use Rattle.slate_db.specs.StoredState.{StoresState};
 ghost use Rattle.slate_db.specs.Log.{AreFine};
 ghost use Rattle.slate_language.specs.Answers.{reply_of};
-ghost use Rattle.slate_script.specs.Session.{StandsFor, AnswersAs, HasTablesAlone, Grows, IsDone, IsSettled, IsSettledIn, IsLimit, IsRefusal, StoresNothing, has_moment, held_load, reader_id, reader_under};
-ghost use Rattle.slate_language.specs.Stage.{is_built};
+ghost use Rattle.slate_script.specs.Session.{StandsFor, AnswersAs, HasTablesAlone, Grows, IsDone, IsSettled, IsSettledIn, IsLimit, IsRefusal, StoresNothing, has_moment, held_load, line_load, reader_id, reader_under};
+ghost use Rattle.slate_script.specs.Scanning.{BeginsWith, EndsBelow, ScansAs};
 ghost use Rattle.slate_script.specs.Told.{Follows, IsRefusedAt, IsUntrue, PutsTables, asking_for};
 
 use crate::journal::entries;
@@ -108,7 +109,6 @@ impl Session {
         env: &mut Env<'_, S, M, T>,
         laws: &Laws<X>,
     ) -> Result<Answer, SlateDBError>
-        requires built { IsTrue (is_built line) }
         requires moment { IsTrue (has_moment line) }
         requires valid { IsValid laws.now.options }
         requires names { AreValidNames (map (λ p. (meaning (p.vtable, p.value)).name) laws.now.policies.items) }
@@ -125,8 +125,8 @@ impl Session {
         ensures core_kept { let reach = ⟦<EnvOf<S, M, T> as Outside>⟧.reach in IsKept (reach env.old).meaning self.old.core → OnOk result (IsKept (reach env.old).meaning self.new.core) }
         ensures alone { let reach = ⟦<EnvOf<S, M, T> as Outside>⟧.reach in
             let policies = map (λ p. meaning (p.vtable, p.value)) laws.now.policies.items in
-            IsSettledIn policies (reach env.old) self.old → HasTablesAlone (reach env.old).meaning (layout_of laws.now.options policies) (reach env.old).objects (runs_of self.old.core.events) →
-            OnOk result (HasTablesAlone (reach env.old).meaning (layout_of laws.now.options policies) (reach env.new).objects (runs_of self.new.core.events)) }
+            IsSettledIn policies (reach env.old) self.old → HasTablesAlone (reach env.old).meaning (layout_of laws.now.options policies (segments_by X.lengths laws.now.segments)) (reach env.old).objects (runs_of self.old.core.events) →
+            OnOk result (HasTablesAlone (reach env.old).meaning (layout_of laws.now.options policies (segments_by X.lengths laws.now.segments)) (reach env.new).objects (runs_of self.new.core.events)) }
         ensures cause { let reach = ⟦<EnvOf<S, M, T> as Outside>⟧.reach in IfErr result (λ e. IsFault (reach env.old) (reach env.new) e ⊎ IsLimit self.old e ⊎ IsTableError e) }
         ensures shown { let reach = ⟦<EnvOf<S, M, T> as Outside>⟧.reach in
             let policies = map (λ p. meaning (p.vtable, p.value)) laws.now.policies.items in
@@ -153,6 +153,14 @@ impl Session {
                 end,
                 steps,
             } => self.scan(name, order, start, end, steps, env, laws),
+            Line::Prefix {
+                name,
+                order,
+                prefix,
+                start,
+                end,
+                steps,
+            } => self.prefix(name, order, prefix, start, end, steps, env, laws),
             Line::Flush => self.flush(env, laws),
             Line::Write { ops } => self.write(ops, env, laws),
             Line::Merge {
@@ -168,10 +176,10 @@ impl Session {
 
     /// The answer to a line that asks neither the store nor the operator.
     fn answer_within(&mut self, line: Line) -> Result<Answer, SlateDBError>
-        requires built { IsTrue (is_built line) }
         requires moment { IsTrue (has_moment line) }
         requires no_get { (name key : List ℕ) → line ≢ Line.Get name key }
         requires no_scan { (name : List ℕ) (order : IterationOrder) (start end : Bound (List ℕ)) (sts : List ScanStep) → line ≢ Line.Scan name order start end sts }
+        requires no_prefix { (name : List ℕ) (order : IterationOrder) (p : List ℕ) (start end : Bound (List ℕ)) (sts : List ScanStep) → line ≢ Line.Prefix name order p start end sts }
         requires no_flush { line ≢ Line.Flush }
         requires no_write { (ops : Ops) → line ≢ Line.Write ops }
         requires no_merge { (name key value : List ℕ) (ttl : Ttl) → line ≢ Line.Merge name key value ttl }
@@ -289,7 +297,7 @@ impl Session {
         Ok(Answer::Found(row))
     }
 
-    /// The rows that the steps hand out of a scan of the range in the state at the name's start, under its own operations.
+    /// The rows that the steps hand out of a scan of the bounds in the state at the name's start, under its own operations.
     fn scan<S: Store, M: MergeOperator, T: BlockTransformer, X: PrefixExtractor>(
         &mut self,
         name: Bytes,
@@ -313,13 +321,82 @@ impl Session {
             IsAnswered policies (reach env.old) (reach env.new) self.old.core → IfErr result (IsFault (reach env.old) (reach env.new)) }
         ensures reads { let reach = ⟦<EnvOf<S, M, T> as Outside>⟧.reach in OnlyReads (reach env.old) (reach env.new) }
     {
+        let range = BytesRange::try_new(start, end);
+        self.scan_range(name, order, range, None, steps, env, laws)
+    }
+
+    /// The rows that the steps hand out of a scan of the keys that are the prefix and then a key between the bounds.
+    fn prefix<S: Store, M: MergeOperator, T: BlockTransformer, X: PrefixExtractor>(
+        &mut self,
+        name: Bytes,
+        order: IterationOrder,
+        prefix: Bytes,
+        start: Bound<Bytes>,
+        end: Bound<Bytes>,
+        steps: StepList,
+        env: &mut Env<'_, S, M, T>,
+        laws: &Laws<X>,
+    ) -> Result<Answer, SlateDBError>
+        requires valid { IsValid laws.now.options }
+        ensures step { let reach = ⟦<EnvOf<S, M, T> as Outside>⟧.reach in
+            let policies = map (λ p. meaning (p.vtable, p.value)) laws.now.policies.items in
+            IsAnswered policies (reach env.old) (reach env.new) self.old.core →
+            AnswersAs (reach env.old).meaning self.old self.new (Line.Prefix name order prefix start end steps) result }
+        ensures stores { OnOk result ((m : Meaning) → StoresNothing m self.old self.new) }
+        ensures grows { OnOk result (Grows (Line.Prefix name order prefix start end steps) self.old self.new) }
+        ensures cause { let reach = ⟦<EnvOf<S, M, T> as Outside>⟧.reach in IfErr result (IsScanError (reach env.old) (reach env.new) self.old.core) }
+        ensures undamaged { let reach = ⟦<EnvOf<S, M, T> as Outside>⟧.reach in
+            let policies = map (λ p. meaning (p.vtable, p.value)) laws.now.policies.items in
+            IsAnswered policies (reach env.old) (reach env.new) self.old.core → IfErr result (IsFault (reach env.old) (reach env.new)) }
+        ensures reads { let reach = ⟦<EnvOf<S, M, T> as Outside>⟧.reach in OnlyReads (reach env.old) (reach env.new) }
+    {
+        let composed = composed_range(self.alloc, prefix.as_slice(), start, end);
+        let range = match composed {
+            Ok(range) => range,
+            Err(error) => {
+                drop((name, prefix));
+                drop(steps);
+                return Err(error);
+            }
+        };
+        self.scan_range(name, order, range, asked(prefix), steps, env, laws)
+    }
+
+    /// The rows that the steps hand out of a scan of a range of keys that begin with the prefix, where one is given. A name that
+    /// isn't open is refused first, and then bounds that leave no range.
+    fn scan_range<S: Store, M: MergeOperator, T: BlockTransformer, X: PrefixExtractor>(
+        &mut self,
+        name: Bytes,
+        order: IterationOrder,
+        range: Option<BytesRange>,
+        prefix: Option<Bytes>,
+        steps: StepList,
+        env: &mut Env<'_, S, M, T>,
+        laws: &Laws<X>,
+    ) -> Result<Answer, SlateDBError>
+        requires range { IfSome range (λ r. is_refused r.start r.end ≡ false) }
+        requires prefix { IfSome range (λ r. BeginsWith prefix r) }
+        requires valid { IsValid laws.now.options }
+        ensures step { let reach = ⟦<EnvOf<S, M, T> as Outside>⟧.reach in
+            let policies = map (λ p. meaning (p.vtable, p.value)) laws.now.policies.items in
+            IsAnswered policies (reach env.old) (reach env.new) self.old.core →
+            ScansAs (reach env.old).meaning self.old self.new name order range steps result }
+        ensures stores { OnOk result ((m : Meaning) → StoresNothing m self.old self.new) }
+        ensures grows { (line : Line) → line_load line ≡ 0 → OnOk result (Grows line self.old self.new) }
+        ensures cause { let reach = ⟦<EnvOf<S, M, T> as Outside>⟧.reach in IfErr result (IsScanError (reach env.old) (reach env.new) self.old.core) }
+        ensures undamaged { let reach = ⟦<EnvOf<S, M, T> as Outside>⟧.reach in
+            let policies = map (λ p. meaning (p.vtable, p.value)) laws.now.policies.items in
+            IsAnswered policies (reach env.old) (reach env.new) self.old.core → IfErr result (IsFault (reach env.old) (reach env.new)) }
+        ensures reads { let reach = ⟦<EnvOf<S, M, T> as Outside>⟧.reach in OnlyReads (reach env.old) (reach env.new) }
+    {
         let Some(id) = self.reader_id(&name) else {
-            drop((start, end));
+            drop((range, prefix));
             drop(steps);
             return Ok(Answer::Refused(SlateDBError::UnknownTransaction { name }));
         };
         drop(name);
-        let Some(range) = BytesRange::try_new(start, end) else {
+        let Some(range) = range else {
+            drop(prefix);
             drop(steps);
             return Ok(Answer::Refused(SlateDBError::InvalidRange));
         };
@@ -330,6 +407,7 @@ impl Session {
             &id,
             order,
             range,
+            prefix,
             steps.as_slice(),
             env,
             laws,
@@ -563,8 +641,8 @@ impl Session {
         ensures core_kept { let reach = ⟦<EnvOf<S, M, T> as Outside>⟧.reach in IsKept (reach env.old).meaning self.old.core → OnOk result (IsKept (reach env.old).meaning self.new.core) }
         ensures alone { let reach = ⟦<EnvOf<S, M, T> as Outside>⟧.reach in
             let policies = map (λ p. meaning (p.vtable, p.value)) laws.now.policies.items in
-            IsSettledIn policies (reach env.old) self.old → HasTablesAlone (reach env.old).meaning (layout_of laws.now.options policies) (reach env.old).objects (runs_of self.old.core.events) →
-            OnOk result (HasTablesAlone (reach env.old).meaning (layout_of laws.now.options policies) (reach env.new).objects (runs_of self.new.core.events)) }
+            IsSettledIn policies (reach env.old) self.old → HasTablesAlone (reach env.old).meaning (layout_of laws.now.options policies (segments_by X.lengths laws.now.segments)) (reach env.old).objects (runs_of self.old.core.events) →
+            OnOk result (HasTablesAlone (reach env.old).meaning (layout_of laws.now.options policies (segments_by X.lengths laws.now.segments)) (reach env.new).objects (runs_of self.new.core.events)) }
         ensures follows { let reach = ⟦<EnvOf<S, M, T> as Outside>⟧.reach in
             let policies = map (λ p. meaning (p.vtable, p.value)) laws.now.policies.items in
             (os : Objects) → IsSettled policies (reach env.old).meaning (Some os) self.old → OnOk result (Follows policies (reach env.old).meaning os self.new (reach env.old).acts (reach env.new).acts) }
@@ -575,6 +653,41 @@ impl Session {
     {
         let seq = self.core.flush(env, laws)?;
         Ok(Answer::Flushed(seq))
+    }
+}
+
+/// The range of the keys that are the prefix and then a key between the bounds; `None` where these leave none. Refuses by
+/// `OutOfMemory` alone.
+fn composed_range(
+    alloc: Global,
+    prefix: &[u8],
+    start: Bound<Bytes>,
+    end: Bound<Bytes>,
+) -> Result<Option<BytesRange>, SlateDBError>
+    ensures range { IfOk result (λ o. o ≡ prefix_subrange prefix.now start end) }
+    ensures cause { IfErr result (λ e. e ≡ SlateDBError.OutOfMemory) }
+{
+    let subrange = BytesRange { start, end };
+    let composed = BytesRange::from_prefix_and_subrange(alloc, prefix, &subrange);
+    drop(subrange);
+    match composed {
+        Ok(range) => Ok(Some(range)),
+        Err(SlateDBError::InvalidRange) => Ok(None),
+        Err(error) => Err(error),
+    }
+}
+
+/// The prefix that filters are asked for, by which each key of its ranges begins. One that ends with byte 255 isn't asked for:
+/// where its range ends tells that of lists of bytes alone.
+fn asked(prefix: Bytes) -> Option<Bytes>
+    ensures { IfSome result (λ p. (p ≡ prefix) × EndsBelow p) }
+{
+    match prefix.as_slice().last() {
+        Some(&u8::MAX) => {
+            drop(prefix);
+            None
+        }
+        _ => Some(prefix),
     }
 }
 

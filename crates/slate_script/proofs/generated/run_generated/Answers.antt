@@ -5,7 +5,6 @@ use Rattle.slate_txn.specs.Step.{answers}
 use Rattle.slate_db.specs.Parts.{meaning_of}
 use Rattle.slate_language.specs.Generate.{generate, summary}
 use Rattle.slate_language.specs.Replies.{meanings, IsWellFormed}
-use Rattle.slate_language.specs.Stage.{meaning}
 use Rattle.slate_language.specs.Tally.{tallied, tally_text}
 use Rattle.slate_language.proofs.RoundLaws.{generated-formed}
 use Rattle.slate_language.proofs.TallyLaws.{tally-summary}
@@ -25,7 +24,7 @@ returns-in-Ok g c =
     record {
       told = (λ before told premises.
           let line : tally_text c.answer_lines.new.tally ≡ summary r script =
-          ap tally_text (c.in-Ok.ensures.counted script left premises ∙ ap (λ t. tallied t (answers r opening (meanings meaning (lines_of script)))) c.new-tally.ensures) ∙ tally-summary r script formed in
+          ap tally_text (c.in-Ok.ensures.counted script left premises ∙ ap (λ t. tallied t (answers r opening (meanings (lines_of script)))) c.new-tally.ensures) ∙ tally-summary r script formed in
           subst (λ bs. HasTold bs before (g.W.Sink.content c.write_tally.new.sink) c.write_tally.result) line (c.write_tally.ensures.told before told));
       stored = λ premises. always c.write_tally.result (c.in-Ok.ensures.stored script left premises);
       outside = only-kinds c.write_tally.result c.write_tally.ensures.cause;

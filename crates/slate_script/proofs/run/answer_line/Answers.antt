@@ -2,25 +2,18 @@ use Rattle.std.proofs.Common.{◌≡◌, ◌<◌, ◌≤◌, arith, ◌++◌, �
 use Rattle.slate_types.proofs.Reaching.{puts_none}
 use Rattle.slate_db.specs.Flushed.{layout_of}
 use Rattle.slate_db.specs.Installs.{runs_of, tables_of}
-use Rattle.slate_db.specs.Meaning.{Meaning}
+use Rattle.slate_db.specs.Meaning.{Meaning, segments_by}
 use Rattle.slate_db.specs.Parts.{meaning_of, counts_of}
 use Rattle.slate_language.specs.Answers.{reply_of}
 use Rattle.slate_language.specs.Replies.{replies_from, reply_line}
 use Rattle.slate_script.specs.Run.{IsPartCause}
 use Rattle.slate_script.specs.Session.{HasTablesAlone, line_load, StandsFor}
-use Rattle.slate_language.specs.Stage.{meaning}
-use Rattle.slate_script.proofs.Answered.{one-built}
 use Rattle.slate_script.proofs.LineEnds.{parse-error, parse-cause, parse-no-part, parse-no-damage, parse-wrote, session-cause, session-part, session-wrote, writing-cause, writing-no-part, writing-no-damage, writing-no-error, error-of, meant-line}
 use Rattle.slate_script.proofs.LineLoads.{line-load}
 use Rattle.slate_script.proofs.RunEnds.{is-no-error}
 use Rattle.slate_script.proofs.ToldLaws.{follows-itself, line-shown, stores-itself}
 use Rattle.slate_script.proofs.Running.{line-stands, line-reply, runs-on, is-settled, one-moment, always, at-ok, not-damage, silent-line, silent-after, silent-says, silent-counts, line-counts}
 use Rattle.slate_script.proofs.run.answer_line.Goals as goal
-
-pub answer-requires-clause-built : goal.answer-requires-clause-built
-answer-requires-clause-built g c = λ κs lives.
-    let meant = rw c.in-Ok-Some.field-0-is at c.in-Ok-Some.ensures.meant in
-    one-built c.args.line.now c.in-Ok-Some.meaning meant.1
 
 pub answer-requires-clause-moment : goal.answer-requires-clause-moment
 answer-requires-clause-moment g c = λ κs lives.
@@ -67,7 +60,7 @@ returns-in-Ok g c =
           always c.write_reply.result (line-stands c.args.line.now c.in-Ok-Some.meaning c.in-Ok.answer running meant.0 meant.1 c.in-Ok.ensures.step s stands));
       answered = (λ m r running s before stands told.
           let meant = rw c.in-Ok-Some.field-0-is at c.in-Ok-Some.ensures.meant in
-          let text : reply_line (reply_of c.in-Ok.answer) ≡ replies_from meaning r s (c.args.line.now ∷ []) = line-reply c.args.line.now c.in-Ok-Some.meaning c.in-Ok.answer running meant.0 meant.1 c.in-Ok.ensures.step s stands in
+          let text : reply_line (reply_of c.in-Ok.answer) ≡ replies_from r s (c.args.line.now ∷ []) = line-reply c.args.line.now c.in-Ok-Some.meaning c.in-Ok.answer running meant.0 meant.1 c.in-Ok.ensures.step s stands in
           at-ok c.write_reply.result (λ is. is ∙ ap (λ bs. Some (before ++ bs)) text) (c.write_reply.ensures.ok before told));
       counted = (λ m r running s stands.
           let meant = rw c.in-Ok-Some.field-0-is at c.in-Ok-Some.ensures.meant in
@@ -75,7 +68,7 @@ returns-in-Ok g c =
       grows = (let meant = rw c.in-Ok-Some.field-0-is at c.in-Ok-Some.ensures.meant in
           always c.write_reply.result (c.in-Ok.ensures.grows.0, let few : line_load c.in-Ok-Some.meaning ≤ length c.args.line.now = line-load c.args.line.now c.in-Ok-Some.meaning meant.1 in omega (arith, c.in-Ok.ensures.grows.1, few)));
       alone = (λ m r running alone.
-          let layout = layout_of c.args.laws.now.options policies in
+          let layout = layout_of c.args.laws.now.options policies (segments_by g.X.PrefixExtractor.lengths c.args.laws.now.segments) in
           always c.write_reply.result (subst (λ (x : Meaning). HasTablesAlone x layout (g.S.Store.objects c.answer.new.env.store.now) (runs_of c.answer.new.self.core.events)) running.meaning
           (c.in-Ok.ensures.alone (is-settled running) (subst (λ (x : Meaning). HasTablesAlone x layout (g.S.Store.objects c.args.env.now.store.now) (runs_of c.args.session.now.core.events)) (sym running.meaning) alone))));
       cause = writing-cause c.write_reply.result c.args.number c.args.line.now c.args.session.now c.write_reply.ensures.cause;
@@ -91,7 +84,7 @@ returns-in-Ok g c =
           (c.write_reply.ensures.write_fault is, meant-line c.args.line.now c.in-Ok-Some.meaning meant.1));
       begun = (λ m r running s before stands told is.
           let meant = rw c.in-Ok-Some.field-0-is at c.in-Ok-Some.ensures.meant in
-          let text : reply_line (reply_of c.in-Ok.answer) ≡ replies_from meaning r s (c.args.line.now ∷ []) = line-reply c.args.line.now c.in-Ok-Some.meaning c.in-Ok.answer running meant.0 meant.1 c.in-Ok.ensures.step s stands in
+          let text : reply_line (reply_of c.in-Ok.answer) ≡ replies_from r s (c.args.line.now ∷ []) = line-reply c.args.line.now c.in-Ok-Some.meaning c.in-Ok.answer running meant.0 meant.1 c.in-Ok.ensures.step s stands in
           subst (λ bs. (n : ℕ) × (n < length bs) × (g.W.Sink.content c.write_reply.new.sink ≡ Some (before ++ take n bs))) text (c.write_reply.ensures.part before told is));
       still = c.write_reply.ensures.still;
       puts = c.answer.ensures.puts;

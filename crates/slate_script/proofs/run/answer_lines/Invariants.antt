@@ -6,7 +6,7 @@ use Rattle.slate_table.specs.Filtered.{AreLawful}
 use Rattle.slate_db.specs.Flushed.{layout_of}
 use Rattle.slate_db.specs.Installs.{runs_of, tables_of}
 use Rattle.slate_db.specs.Load.{weight}
-use Rattle.slate_db.specs.Meaning.{IsLawfulMeaning}
+use Rattle.slate_db.specs.Meaning.{IsLawfulMeaning, segments_by}
 use Rattle.slate_db.specs.Sound.{IsKept}
 use Rattle.slate_script.specs.Run.{run_rules, Premises}
 use Rattle.slate_script.specs.Session.{HasTablesAlone, IsRunning, held_load}
@@ -35,7 +35,7 @@ invariant-loop-line g l =
       kept : IsKept before.meaning l.session.core;
       alone : Premises policies before.meaning before.objects
           → HasTablesAlone before.meaning
-          (layout_of l.laws.options policies) now.objects (runs_of l.session.core.events);
+          (layout_of l.laws.options policies (segments_by g.X.PrefixExtractor.lengths l.laws.segments)) now.objects (runs_of l.session.core.events);
       followed : AreLawful policies → IsLawfulMeaning before.meaning → Follows policies before.meaning [] l.session before.acts now.acts;
       stored : PutsTables [] (tables_of l.session.core.events) before.acts now.acts;
       source_later : g.R.Source.faults l.initial.source ≤ g.R.Source.faults l.source;

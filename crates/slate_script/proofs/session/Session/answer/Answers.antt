@@ -104,6 +104,28 @@ returns-in-Scan g c =
       puts = reads_put_nothing _ _ c.scan.ensures.reads;
     }
 
+pub returns-in-Prefix : goal.returns-in-Prefix
+returns-in-Prefix g c =
+    let policies = map (λ p. (goal.FilterPolicy-dyn g (p.vtable, p.value)).meaning p.value) c.args.laws.now.policies.items in
+    record {
+      step = (λ settled.
+          let m = meaning_of g.M.MergeOperator.combine g.T.BlockTransformer.encoded g.T.BlockTransformer.decoded c.args.env.now.operator c.args.env.now.transformer in
+          subst (λ (line : Line). AnswersAs m c.args.self.now c.prefix.new.self line c.prefix.result) (sym c.in-Prefix.is) (c.prefix.ensures.step (settled-answered policies (reach_of g.S.Store g.M.MergeOperator g.T.BlockTransformer c.args.env.now) (reach_of g.S.Store g.M.MergeOperator g.T.BlockTransformer c.prefix.new.env) c.args.self.now settled)));
+      settings = keeps-settings (meaning_of g.M.MergeOperator.combine g.T.BlockTransformer.encoded g.T.BlockTransformer.decoded c.args.env.now.operator c.args.env.now.transformer) c.prefix.result c.args.self.now c.prefix.new.self (stores-at c.prefix.result (meaning_of g.M.MergeOperator.combine g.T.BlockTransformer.encoded g.T.BlockTransformer.decoded c.args.env.now.operator c.args.env.now.transformer) c.args.self.now c.prefix.new.self c.prefix.ensures.stores);
+      grows = subst (λ (line : Line). OnOk c.prefix.result (Grows line c.args.self.now c.prefix.new.self)) (sym c.in-Prefix.is) c.prefix.ensures.grows;
+      kept = λ settled. keeps-settled c.prefix.result policies _ _ _ c.args.self.now c.prefix.new.self c.prefix.ensures.reads.objects (stores-at c.prefix.result (meaning_of g.M.MergeOperator.combine g.T.BlockTransformer.encoded g.T.BlockTransformer.decoded c.args.env.now.operator c.args.env.now.transformer) c.args.self.now c.prefix.new.self c.prefix.ensures.stores) settled;
+      core_kept = λ kept. keeps-core c.prefix.result (meaning_of g.M.MergeOperator.combine g.T.BlockTransformer.encoded g.T.BlockTransformer.decoded c.args.env.now.operator c.args.env.now.transformer) c.args.self.now c.prefix.new.self (stores-at c.prefix.result (meaning_of g.M.MergeOperator.combine g.T.BlockTransformer.encoded g.T.BlockTransformer.decoded c.args.env.now.operator c.args.env.now.transformer) c.args.self.now c.prefix.new.self c.prefix.ensures.stores) kept;
+      alone = λ settled alone. stays-where (meaning_of g.M.MergeOperator.combine g.T.BlockTransformer.encoded g.T.BlockTransformer.decoded c.args.env.now.operator c.args.env.now.transformer) c.prefix.result _ _ _ _ c.args.self.now c.prefix.new.self c.prefix.ensures.reads.objects (stores-at c.prefix.result (meaning_of g.M.MergeOperator.combine g.T.BlockTransformer.encoded g.T.BlockTransformer.decoded c.args.env.now.operator c.args.env.now.transformer) c.args.self.now c.prefix.new.self c.prefix.ensures.stores) alone;
+      cause = scan-limit c.prefix.result (reach_of g.S.Store g.M.MergeOperator g.T.BlockTransformer c.args.env.now) (reach_of g.S.Store g.M.MergeOperator g.T.BlockTransformer c.prefix.new.env) c.args.self.now c.prefix.ensures.cause;
+      shown = λ kept. subst (λ (line : Line). IfErr c.prefix.result (λ x. IsTableError x → Made (reach_of g.S.Store g.M.MergeOperator g.T.BlockTransformer c.args.env.now) (reach_of g.S.Store g.M.MergeOperator g.T.BlockTransformer c.prefix.new.env) (λ reads. IsRefusedAt policies line (reach_of g.S.Store g.M.MergeOperator g.T.BlockTransformer c.args.env.now).meaning c.args.self.now.core reads x))) (sym c.in-Prefix.is)
+          (scan-shown c.prefix.result (reach_of g.S.Store g.M.MergeOperator g.T.BlockTransformer c.args.env.now) (reach_of g.S.Store g.M.MergeOperator g.T.BlockTransformer c.prefix.new.env) c.args.self.now c.prefix.ensures.cause);
+      undamaged = λ settled. or-limit c.prefix.result (counts_of (g.S.Store.faults c.args.env.now.store.now) g.M.MergeOperator.faults g.T.BlockTransformer.faults c.args.env.now.operator c.args.env.now.transformer) (counts_of (g.S.Store.faults c.prefix.new.env.store.now) g.M.MergeOperator.faults g.T.BlockTransformer.faults c.prefix.new.env.operator c.prefix.new.env.transformer) c.args.self.now (c.prefix.ensures.undamaged (settled-answered policies (reach_of g.S.Store g.M.MergeOperator g.T.BlockTransformer c.args.env.now) (reach_of g.S.Store g.M.MergeOperator g.T.BlockTransformer c.prefix.new.env) c.args.self.now settled));
+      follows = λ os settled. follows-reads c.prefix.result policies (meaning_of g.M.MergeOperator.combine g.T.BlockTransformer.encoded g.T.BlockTransformer.decoded c.args.env.now.operator c.args.env.now.transformer) os c.args.self.now c.prefix.new.self (g.S.Store.acts c.args.env.now.store.now) (g.S.Store.acts c.prefix.new.env.store.now) c.prefix.ensures.reads.acts (stores-at c.prefix.result (meaning_of g.M.MergeOperator.combine g.T.BlockTransformer.encoded g.T.BlockTransformer.decoded c.args.env.now.operator c.args.env.now.transformer) c.args.self.now c.prefix.new.self c.prefix.ensures.stores) settled;
+      tables = stores-none (meaning_of g.M.MergeOperator.combine g.T.BlockTransformer.encoded g.T.BlockTransformer.decoded c.args.env.now.operator c.args.env.now.transformer) c.prefix.result c.args.self.now c.prefix.new.self _ _ c.prefix.ensures.reads.acts (stores-at c.prefix.result (meaning_of g.M.MergeOperator.combine g.T.BlockTransformer.encoded g.T.BlockTransformer.decoded c.args.env.now.operator c.args.env.now.transformer) c.args.self.now c.prefix.new.self c.prefix.ensures.stores);
+      untrue = λ os settled. untrue-get c.prefix.result os (g.S.Store.acts c.args.env.now.store.now) (g.S.Store.acts c.prefix.new.env.store.now) _ _ c.prefix.ensures.reads.acts (λ answers. c.prefix.ensures.undamaged (true-answered policies (reach_of g.S.Store g.M.MergeOperator g.T.BlockTransformer c.args.env.now) (reach_of g.S.Store g.M.MergeOperator g.T.BlockTransformer c.prefix.new.env) os c.args.self.now settled (inr answers)));
+      puts = reads_put_nothing _ _ c.prefix.ensures.reads;
+    }
+
 pub returns-in-Write : goal.returns-in-Write
 returns-in-Write g c =
     let policies = map (λ p. (goal.FilterPolicy-dyn g (p.vtable, p.value)).meaning p.value) c.args.laws.now.policies.items in
@@ -170,9 +192,6 @@ returns-in-Commit g c =
       puts = reads_put_nothing _ _ c.commit.ensures.reads;
     }
 
-pub answer_within-requires-clause-built : goal.answer_within-requires-clause-built
-answer_within-requires-clause-built g c = c.requires.built
-
 pub answer_within-requires-clause-moment : goal.answer_within-requires-clause-moment
 answer_within-requires-clause-moment g c = c.requires.moment
 
@@ -181,6 +200,9 @@ answer_within-requires-clause-no_get g c = λ name key is. c.in_default.not-Get 
 
 pub answer_within-requires-clause-no_scan : goal.answer_within-requires-clause-no_scan
 answer_within-requires-clause-no_scan g c = λ name order start end sts is. c.in_default.not-Scan name order start end sts is
+
+pub answer_within-requires-clause-no_prefix : goal.answer_within-requires-clause-no_prefix
+answer_within-requires-clause-no_prefix g c = λ name order p start end sts is. c.in_default.not-Prefix name order p start end sts is
 
 pub answer_within-requires-clause-no_flush : goal.answer_within-requires-clause-no_flush
 answer_within-requires-clause-no_flush g c = c.in_default.not-Flush

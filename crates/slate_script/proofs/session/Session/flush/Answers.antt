@@ -4,6 +4,7 @@ use Rattle.slate_types.specs.declared.error.SlateDBError.TheVariants.{LimitReach
 use Rattle.slate_types.specs.Outside.{IsFault}
 use Rattle.slate_store.specs.Reach.{reach_of}
 use Rattle.slate_txn.specs.declared.line.Line.TheVariants as lines
+use Rattle.slate_db.specs.Meaning.{segments_by}
 use Rattle.slate_db.specs.Answered.{AddsTables}
 use Rattle.slate_db.specs.Flushed.{layout_of}
 use Rattle.slate_db.specs.Installs.{runs_of, tables_of}
@@ -38,7 +39,7 @@ returns g c =
           let m = meaning_of g.M.MergeOperator.combine g.T.BlockTransformer.encoded g.T.BlockTransformer.decoded c.args.env.now.operator c.args.env.now.transformer in
           let went : c.flush.result ≡ Ok c.in_ok-seq.seq = grind (arith, c.branch-seq.ensures, c.in_ok-seq.is) in
           let old = g.S.Store.objects c.args.env.now.store.now in
-          flush-settled m (layout_of c.args.laws.now.options policies) old (g.S.Store.objects c.flush.new.env.store.now) before c.in_ok-seq.ensures.installed.0 c.flush.new.self c.in_ok-seq.seq
+          flush-settled m (layout_of c.args.laws.now.options policies (segments_by g.X.PrefixExtractor.lengths c.args.laws.now.segments)) old (g.S.Store.objects c.flush.new.env.store.now) before c.in_ok-seq.ensures.installed.0 c.flush.new.self c.in_ok-seq.seq
           c.in_ok-seq.ensures.installed.1 c.in_ok-seq.ensures.installed.2
           (has-room LIMIT _ _ _ c.flush.result c.in_ok-seq.seq (LimitReached LIMIT) went c.flush.ensures.limit)
           c.flush.ensures.kept
@@ -46,7 +47,7 @@ returns g c =
       core_kept = λ kept. c.flush.ensures.kept (subst (λ (v : SessionModel). IsKept (meaning_of g.M.MergeOperator.combine g.T.BlockTransformer.encoded g.T.BlockTransformer.decoded c.args.env.now.operator c.args.env.now.transformer) v.core) (sym c.self.view_is) kept);
       alone = (λ settled alone.
           let m = meaning_of g.M.MergeOperator.combine g.T.BlockTransformer.encoded g.T.BlockTransformer.decoded c.args.env.now.operator c.args.env.now.transformer in
-          let layout = layout_of c.args.laws.now.options policies in
+          let layout = layout_of c.args.laws.now.options policies (segments_by g.X.PrefixExtractor.lengths c.args.laws.now.segments) in
           let went : c.flush.result ≡ Ok c.in_ok-seq.seq = grind (arith, c.branch-seq.ensures, c.in_ok-seq.is) in
           let old = g.S.Store.objects c.args.env.now.store.now in
           flush-alone m layout c.self.inside.core c.in_ok-seq.ensures.installed.0 c.flush.new.self c.in_ok-seq.seq old (g.S.Store.objects c.flush.new.env.store.now)
@@ -58,7 +59,7 @@ returns g c =
           let before : SessionModel = record { core = c.self.inside.core; names = c.self.inside.names.entries; snapshot_names = c.self.inside.snapshot_names.entries; now = c.self.inside.now } in
           let m = meaning_of g.M.MergeOperator.combine g.T.BlockTransformer.encoded g.T.BlockTransformer.decoded c.args.env.now.operator c.args.env.now.transformer in
           let went : c.flush.result ≡ Ok c.in_ok-seq.seq = grind (arith, c.branch-seq.ensures, c.in_ok-seq.is) in
-          follows-flush m (layout_of c.args.laws.now.options policies) os _ _ before c.in_ok-seq.ensures.installed.0 c.flush.new.self c.in_ok-seq.seq (g.S.Store.acts c.args.env.now.store.now) (g.S.Store.acts c.flush.new.env.store.now)
+          follows-flush m (layout_of c.args.laws.now.options policies (segments_by g.X.PrefixExtractor.lengths c.args.laws.now.segments)) os _ _ before c.in_ok-seq.ensures.installed.0 c.flush.new.self c.in_ok-seq.seq (g.S.Store.acts c.args.env.now.store.now) (g.S.Store.acts c.flush.new.env.store.now)
           c.in_ok-seq.ensures.installed.1 c.in_ok-seq.ensures.installed.2 c.in_ok-seq.ensures.acts
           (has-room LIMIT _ _ _ c.flush.result c.in_ok-seq.seq (LimitReached LIMIT) went c.flush.ensures.limit)
           c.flush.ensures.kept
@@ -85,13 +86,13 @@ returns-in_err-seq g c =
       cause = (let old = reach_of g.S.Store g.M.MergeOperator g.T.BlockTransformer c.args.env.now in
           let new = reach_of g.S.Store g.M.MergeOperator g.T.BlockTransformer c.flush.new.env in
           rw (p.1, p.2) (subst (λ (v : SessionModel). IsFault old new c.in_err-seq.field-0.0 ⊎ IsLimit v c.in_err-seq.field-0.0 ⊎ (c.in_err-seq.field-0.0 ≡ MergeOperatorMissing)) c.self.view_is
-          (flush-cause old new (layout_of c.args.laws.now.options policies) (record { core = c.self.inside.core; names = c.self.inside.names.entries; snapshot_names = c.self.inside.snapshot_names.entries; now = c.self.inside.now }) c.in_err-seq.field-0.0 c.in_err-seq.ensures.cause)));
+          (flush-cause old new (layout_of c.args.laws.now.options policies (segments_by g.X.PrefixExtractor.lengths c.args.laws.now.segments)) (record { core = c.self.inside.core; names = c.self.inside.names.entries; snapshot_names = c.self.inside.snapshot_names.entries; now = c.self.inside.now }) c.in_err-seq.field-0.0 c.in_err-seq.ensures.cause)));
       operable = (λ kept.
           let before : SessionModel = record { core = c.self.inside.core; names = c.self.inside.names.entries; snapshot_names = c.self.inside.snapshot_names.entries; now = c.self.inside.now } in
           let old = reach_of g.S.Store g.M.MergeOperator g.T.BlockTransformer c.args.env.now in
           let new = reach_of g.S.Store g.M.MergeOperator g.T.BlockTransformer c.flush.new.env in
           rw (p.1, p.2) (subst (λ (v : SessionModel). IsFault old new c.in_err-seq.field-0.0 ⊎ IsLimit v c.in_err-seq.field-0.0) c.self.view_is
           (operable-cause old new before c.in_err-seq.field-0.0 (c.in_err-seq.ensures.operable (subst (λ (v : SessionModel). IsKept (meaning_of g.M.MergeOperator.combine g.T.BlockTransformer.encoded g.T.BlockTransformer.decoded c.args.env.now.operator c.args.env.now.transformer) v.core) (sym c.self.view_is) kept))
-          (flush-cause old new (layout_of c.args.laws.now.options policies) before c.in_err-seq.field-0.0 c.in_err-seq.ensures.cause))));
+          (flush-cause old new (layout_of c.args.laws.now.options policies (segments_by g.X.PrefixExtractor.lengths c.args.laws.now.segments)) before c.in_err-seq.field-0.0 c.in_err-seq.ensures.cause))));
       puts = c.flush.ensures.puts;
     }

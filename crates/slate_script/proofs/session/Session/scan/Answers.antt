@@ -1,90 +1,21 @@
-use Rattle.std.proofs.Common.{◌≡◌, ℕ, List, length, None, Ok, refl, sym, ap, subst, ◌∙◌, arith, map}
-use Rattle.std.specs.Prelude.{IfSome, IsSome, Option}
-use Rattle.slate_store.specs.Reach.{reach_of}
-use Rattle.slate_types.specs.Keys.{range_of}
-use Rattle.slate_txn.specs.declared.line.ScanStep.{ScanStep}
+use Rattle.std.proofs.Common.{Option, refl, subst}
+use Rattle.slate_types.specs.declared.bytes_range.BytesRange.{BytesRange}
 use Rattle.slate_txn.specs.declared.line.Line.TheVariants as lines
-use Rattle.slate_txn.specs.Reply as replies
-use Rattle.slate_txn.specs.Reply.{Reply}
-use Rattle.slate_txn.specs.State.{State}
-use Rattle.slate_txn.specs.Step.{reader, step}
-use Rattle.slate_db.specs.Installs.{runs_of}
-use Rattle.slate_db.specs.Meaning.{Meaning, rules_of}
-use Rattle.slate_db.specs.Model.{CoreModel}
 use Rattle.slate_db.specs.Parts.{meaning_of}
-use Rattle.slate_db.specs.Readable.{IsAnswered}
-use Rattle.slate_language.specs.declared.reply.Answer.TheVariants as answers
-use Rattle.slate_script.specs.Session.{SessionModel, AnswersAs, Grows, NamesStand, StoresNothing, reader_id}
-use Rattle.slate_script.proofs.SessionNames.{names-updated}
-use Rattle.slate_script.proofs.SessionScans.{bounds_fit, range-refused, scan-found, scan-refused}
-use Rattle.slate_script.proofs.Growth.{grows, takes-noted}
+use Rattle.slate_script.specs.Scanning.{ScansAs}
+use Rattle.slate_script.proofs.SessionScans.{begins_none, bounds_fit}
 use Rattle.slate_script.proofs.session.Session.scan.Goals as goal
 
-pub returns-in_default-clause-step : goal.returns-in_default-clause-step
-returns-in_default-clause-step g c = λ is.
-    let m = meaning_of g.M.MergeOperator.combine g.T.BlockTransformer.encoded g.T.BlockTransformer.decoded c.args.env.now.operator c.args.env.now.transformer in
-    scan-refused m c.args.self.now c.args.name c.args.order c.args.start c.args.end c.args.steps c.reader_id.result c.reader_id.ensures.reads c.in_default.is
+pub scan_range-requires-clause-range : goal.scan_range-requires-clause-range
+scan_range-requires-clause-range g c = λ κs lives. bounds_fit c.args.start c.args.end c.try_new-range.result c.try_new-range.ensures
 
-pub returns-in_default-try_new-clause-step : goal.returns-in_default-try_new-clause-step
-returns-in_default-try_new-clause-step g c = λ is.
-    let m = meaning_of g.M.MergeOperator.combine g.T.BlockTransformer.encoded g.T.BlockTransformer.decoded c.args.env.now.operator c.args.env.now.transformer in
-    let none : range_of c.args.start c.args.end ≡ None = sym c.try_new.ensures ∙ c.in_default-try_new.is in
-    range-refused m c.args.self.now c.args.name c.in-Some.id c.args.order c.args.start c.args.end c.args.steps c.reader_id.result c.reader_id.ensures.reads c.reader_id.ensures.known c.in-Some.is none
-
-pub scan_rows-scanned-requires-clause-open : goal.scan_rows-scanned-requires-clause-open
-scan_rows-scanned-requires-clause-open g c = λ κs lives.
-    let live : IfSome c.reader_id.result (λ id. IsSome (reader c.self.inside.core.state id)) = subst (λ (v : SessionModel). IfSome c.reader_id.result (λ id. IsSome (reader v.core.state id))) (sym c.self.view_is) c.reader_id.ensures.known in
-    subst (λ (o : Option (List ℕ)). IfSome o (λ id. IsSome (reader c.self.inside.core.state id))) c.in-Some.is live
-
-pub scan_rows-scanned-requires-clause-range : goal.scan_rows-scanned-requires-clause-range
-scan_rows-scanned-requires-clause-range g c = λ κs lives. bounds_fit c.args.start c.args.end c.in-Some-try_new.range (sym c.try_new.ensures ∙ c.in-Some-try_new.is)
-
-pub invariant_of-self : goal.invariant_of-self
-invariant_of-self g c =
-    let noted = c.scan_rows-scanned.ensures.noted in (
-      subst (λ (v : CoreModel). NamesStand c.self.inside.names.entries c.self.inside.snapshot_names.entries v.state.txns v.state.snapshots) (sym noted.1)
-          (names-updated c.in-Some.id _ c.self.inside.names.entries c.self.inside.snapshot_names.entries c.self.inside.core.state.txns c.self.inside.core.state.snapshots c.self.invariant.0),
-      c.self.invariant.1,
-    )
-
-pub invariant_of-self-2 : goal.invariant_of-self-2
-invariant_of-self-2 g c =
-    let noted = c.scan_rows-scanned.ensures.noted in (
-      subst (λ (v : CoreModel). NamesStand c.self.inside.names.entries c.self.inside.snapshot_names.entries v.state.txns v.state.snapshots) (sym noted.1)
-          (names-updated c.in-Some.id _ c.self.inside.names.entries c.self.inside.snapshot_names.entries c.self.inside.core.state.txns c.self.inside.core.state.snapshots c.self.invariant.0),
-      c.self.invariant.1,
-    )
+pub scan_range-requires-clause-prefix : goal.scan_range-requires-clause-prefix
+scan_range-requires-clause-prefix g c = λ κs lives. begins_none c.try_new-range.result
 
 pub returns-clause-step : goal.returns-clause-step
 returns-clause-step g c = λ is.
-    let policies = map (λ p. (goal.FilterPolicy-dyn g (p.vtable, p.value)).meaning p.value) c.args.laws.now.policies.items in
-    let before : SessionModel = record { core = c.self.inside.core; names = c.self.inside.names.entries; snapshot_names = c.self.inside.snapshot_names.entries; now = c.self.inside.now } in
     let m = meaning_of g.M.MergeOperator.combine g.T.BlockTransformer.encoded g.T.BlockTransformer.decoded c.args.env.now.operator c.args.env.now.transformer in
-    let old = reach_of g.S.Store g.M.MergeOperator g.T.BlockTransformer c.args.env.now in
-    let new = reach_of g.S.Store g.M.MergeOperator g.T.BlockTransformer c.scan_rows-scanned.new.env in
-    let stepped = c.in_ok-rows.ensures.scanned.answers (subst (λ (v : SessionModel). IsAnswered policies old new v.core) (sym c.self.view_is) is) in
-    subst (λ (v : SessionModel). AnswersAs m v (record before { core = c.scan_rows-scanned.new.core }) (lines.Scan c.args.name c.args.order c.args.start c.args.end c.args.steps) (Ok (answers.Rows c.in_ok-rows.rows))) c.self.view_is
-    (scan-found m before c.scan_rows-scanned.new.core c.args.name c.in-Some.id c.args.order c.args.start c.args.end c.in-Some-try_new.range c.args.steps c.in_ok-rows.rows.items (answers.Rows c.in_ok-rows.rows) c.self.invariant.0
-    (ap (λ (v : SessionModel). reader_id v c.args.name) c.self.view_is ∙ sym c.reader_id.ensures.id ∙ c.in-Some.is) (sym c.try_new.ensures ∙ c.in-Some-try_new.is)
-    (subst (λ (sts : List ScanStep). ◌≡◌ {A = State × Reply} (step (rules_of c.self.inside.core.settings m) c.self.inside.core.state (lines.Scan c.in-Some.id c.args.order c.in-Some-try_new.range.start c.in-Some-try_new.range.end sts)) (c.scan_rows-scanned.new.core.state, replies.RowsAre c.in_ok-rows.rows.items)) c.as_slice.ensures stepped) refl)
+    subst (λ (o : Option BytesRange). ScansAs m c.args.self.now c.scan_range.new.self c.args.name c.args.order o c.args.steps c.scan_range.result) c.try_new-range.ensures (c.scan_range.ensures.step is)
 
 pub returns-clause-grows : goal.returns-clause-grows
-returns-clause-grows g c =
-    let before : SessionModel = record { core = c.self.inside.core; names = c.self.inside.names.entries; snapshot_names = c.self.inside.snapshot_names.entries; now = c.self.inside.now } in
-    subst (λ (v : SessionModel). Grows (lines.Scan c.args.name c.args.order c.args.start c.args.end c.args.steps) v (record before { core = c.scan_rows-scanned.new.core })) c.self.view_is
-    (grows before c.scan_rows-scanned.new.core before.names before.snapshot_names before.now (lines.Scan c.args.name c.args.order c.args.start c.args.end c.args.steps) 0 (omega arith)
-    (takes-noted c.self.inside.core c.scan_rows-scanned.new.core c.in-Some.id _ c.in_ok-rows.ensures.scanned.notes))
-
-pub returns-in_default-clause-stores : goal.returns-in_default-clause-stores
-returns-in_default-clause-stores g c m = record { settings = refl; runs = refl; later = omega arith; kept = λ k. k }
-
-pub returns-in_default-try_new-clause-stores : goal.returns-in_default-try_new-clause-stores
-returns-in_default-try_new-clause-stores g c m = record { settings = refl; runs = refl; later = omega arith; kept = λ k. k }
-
-pub returns-clause-stores : goal.returns-clause-stores
-returns-clause-stores g c =
-    let before : SessionModel = record { core = c.self.inside.core; names = c.self.inside.names.entries; snapshot_names = c.self.inside.snapshot_names.entries; now = c.self.inside.now } in
-    let is = c.in_ok-rows.ensures.scanned.notes in
-    let same : length c.scan_rows-scanned.new.core.events ≡ length c.self.inside.core.events = ap (λ (v : CoreModel). length v.events) is in
-    subst (λ (v : SessionModel). (m : Meaning) → StoresNothing m v (record before { core = c.scan_rows-scanned.new.core })) c.self.view_is
-    (λ m. record { settings = ap (λ (v : CoreModel). v.settings) is; runs = ap (λ (v : CoreModel). runs_of v.events) is; later = omega (arith, same); kept = c.in_ok-rows.ensures.scanned.kept m })
+returns-clause-grows g c = c.scan_range.ensures.grows (lines.Scan c.args.name c.args.order c.args.start c.args.end c.args.steps) refl
