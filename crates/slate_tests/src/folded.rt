@@ -169,15 +169,14 @@ fn operands_are_refused(rt: HostRuntime) {
 }
 
 // The rows before an operand come, and then a row of a greater sequence that would be folded into it is refused, again and again.
-fn refuses_rises(alloc: Global, different: bool, rise: &Row) -> Result<bool, SlateDBError> {
+fn refuses_rises(alloc: Global, given: &[Row], different: bool) -> Result<bool, SlateDBError> {
     let mut store = MemoryStore::new(alloc, Vec::new(alloc));
     let mut env: Parts<'_> = Env {
         store: &mut store,
         operator: Some(Concat),
         transformer: None,
     };
-    let given = source(alloc, &[A_VALUE, C_Y, *rise]);
-    let mut rows = MergeOperatorIterator::new(given, different, None)?;
+    let mut rows = MergeOperatorIterator::new(source(alloc, given), different, None)?;
     rows.init(alloc, &mut env)?;
     let first = rows.next(alloc, &mut env)?.is_some();
     let rise = rows.next(alloc, &mut env);
@@ -203,6 +202,6 @@ fn refuses_rises(alloc: Global, different: bool, rise: &Row) -> Result<bool, Sla
 
 #[test]
 fn rises_are_refused(rt: HostRuntime) {
-    assert!(rt; refuses_rises(rt.alloc(), true, &C_ENDING).unwrap_or(false));
-    assert!(rt; refuses_rises(rt.alloc(), false, &C_Z).unwrap_or(false));
+    assert!(rt; refuses_rises(rt.alloc(), &[A_VALUE, C_Y, C_ENDING], true).unwrap_or(false));
+    assert!(rt; refuses_rises(rt.alloc(), &[A_VALUE, C_Y, C_Z], false).unwrap_or(false));
 }
